@@ -1,0 +1,13 @@
+pub mod Naming
+pub mod Refusals
+pub mod Privs
+pub mod History
+pub mod Calls
+pub mod World
+pub mod Outcomes
+pub mod Rows
+pub mod Walks
+pub mod Table
+pub mod Step
+pub mod Opening
+pub mod Valid

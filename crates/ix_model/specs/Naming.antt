@@ -1,0 +1,53 @@
+-- Names and paths.
+use Rattle.std.specs.Prelude.{◌≡◌, ℕ, ◌+◌, ◌-◌, ◌<◌, ◌≤◌, Bool, true, false, ◌&&◌, not, List, [], ◌∷◌, ◌++◌, length, take, map, replicate, nat_eq, nat_lt, nat_le, ◌==◌, Option, Some, None}
+use Rattle.std.specs.List.{list_all}
+use Rattle.std.specs.Cmp.Lexicographic.{pointwise}
+
+-- whether two lists of bytes are one
+abbrev pub same_bytes : List ℕ → List ℕ → Bool
+same_bytes a b = pointwise nat_eq a b
+
+-- a byte of a name: neither a slash nor zero
+abbrev pub may_stand_in_name : ℕ → Bool
+may_stand_in_name b = not (b == 47) && not (b == 0)
+
+-- a name: 1 to 28 such bytes, and neither . nor ..
+unfoldable pub is_name : List ℕ → Bool
+is_name bytes =
+    nat_lt 0 (length bytes) && nat_le (length bytes) 28
+    && not (same_bytes bytes (46 ∷ [])) && not (same_bytes bytes (46 ∷ 46 ∷ []))
+    && list_all may_stand_in_name bytes
+
+-- a path: absolute or not, and its names
+pub record PathOf : Type 0 where
+  pub absolute : Bool
+  pub names : List (List ℕ)
+
+-- a path with one name more
+abbrev pub add_name : PathOf → List ℕ → PathOf
+add_name p name = record p { names = p.names ++ name ∷ [] }
+
+-- a text in n cells, with zeros after it
+abbrev pub padded : ℕ → List ℕ → List ℕ
+padded n text = text ++ replicate (n - length text) 0
+
+-- how a name lies in 28 cells
+pub record IsNameInside (bytes : List ℕ) (len : ℕ) : Type 0 where
+  pub fits : len ≤ 28
+  pub long : length (take len bytes) ≡ len
+  pub padding : padded 28 (take len bytes) ≡ bytes
+
+-- the names in the slots of a path, and the slots of its names
+abbrev pub names_in : List (Option (List ℕ)) → List (List ℕ)
+names_in [] = []
+names_in (None ∷ slots) = []
+names_in (Some name ∷ slots) = name ∷ names_in slots
+
+abbrev pub slots_of : List (List ℕ) → List (Option (List ℕ))
+slots_of names = map Some names ++ replicate (16 - length names) None
+
+-- how the names of a path lie in 16 slots
+pub record IsPathInside (slots : List (Option (List ℕ))) (count : ℕ) : Type 0 where
+  pub fits : count ≤ 16
+  pub long : length (names_in slots) ≡ count
+  pub filled : slots_of (names_in slots) ≡ slots

@@ -1,0 +1,89 @@
+-- The words that the rows of the call table are written in: tests, and changes, in order.
+use Rattle.std.specs.Prelude.{◌≡◌, ℕ, Bool, true, false, not, Option, Some, None, unwrap_or}
+use Rattle.std.proofs.Common.{option_map}
+use Rattle.ix_label.specs.Category.{Categories, join, leq, same}
+use Rattle.ix_model.specs.World.{Object, Process, Open, Frame, at, put, change, living, ceiling_of}
+use Rattle.ix_model.specs.Outcomes.{Outcome, Refuse, Pass, Row}
+use Rattle.ix_model.specs.declared.refusal.Refusal.{Refusal}
+use Rattle.ix_model.specs.declared.refusal.Refusal.TheVariants as refusal
+
+-- ---- one after another
+unfoldable pub on_pass : {A B : Type 0} → Outcome A → (A → Frame → Outcome B) → Outcome B
+on_pass (Refuse r f) k = Refuse r f
+on_pass (Pass a f) k = k a f
+
+unfoldable pub ◌>>=◌ : {A B : Type 0} → Row A → (A → Row B) → Row B
+◌>>=◌ m k = λ f. on_pass (m f) k
+
+unfoldable pub ◌>>◌ : {A B : Type 0} → Row A → Row B → Row B
+◌>>◌ m k = λ f. on_pass (m f) (λ a. k)
+
+-- ---- tests
+unfoldable pub pass : {A : Type 0} → A → Row A
+pass a = λ f. Pass a f
+
+unfoldable pub refuse : {A : Type 0} → Refusal → Row A
+refuse r = λ f. Refuse r f
+
+-- the test must hold, else it is refused
+unfoldable pub need : Bool → Refusal → Row (Unit {0})
+need true r = pass tt
+need false r = refuse r
+
+-- there must be one, else it is refused
+unfoldable pub some : {A : Type 0} → Option A → Refusal → Row A
+some None r = refuse r
+some (Some a) r = pass a
+
+-- the row, where the test holds
+unfoldable pub only_if : Bool → Row (Unit {0}) → Row (Unit {0})
+only_if true m = m
+only_if false m = pass tt
+
+-- ---- what stands
+unfoldable pub frame : Row Frame
+frame = λ f. Pass f f
+
+-- the calling process. That it lives was tested before the row.
+unfoldable pub caller : ℕ → Row Process
+caller pid = λ f. some (living (at f.processes pid)) refusal.NoProcess f
+
+-- the object of a number at which one stands. In a sound world no row asks for another.
+unfoldable pub object : ℕ → Row Object
+object o = λ f. some (at f.objects o) refusal.BadFd f
+
+-- ---- changes
+unfoldable pub change_caller : ℕ → (Process → Process) → Row (Unit {0})
+change_caller pid h = λ f. Pass tt (record f { processes = change f.processes pid h })
+
+unfoldable pub change_object : ℕ → (Object → Object) → Row (Unit {0})
+change_object o h = λ f. Pass tt (record f { objects = change f.objects o h })
+
+unfoldable pub put_open : ℕ → Option Open → Row (Unit {0})
+put_open e x = λ f. Pass tt (record f { opens = put f.opens e x })
+
+-- ---- the two rules of floating
+-- observe: the caller's label is joined with the label of what it looks at, unless it is frozen or has to stay below its ceiling
+unfoldable pub observe : ℕ → Categories → Row (Unit {0})
+observe pid seen = do
+  p ← caller pid
+  only_if (not (same (join p.label seen) p.label)) (do
+    need (not p.frozen) refusal.ProcFrozen
+    need (leq (join p.label seen) p.ceiling) refusal.ProcCeiling
+    change_caller pid (λ q. record q { label = join q.label seen }))
+
+-- affect: the object's label is joined with the caller's, unless it is frozen or has to stay below its file system's ceiling
+unfoldable pub affect : ℕ → ℕ → Row (Unit {0})
+affect pid o = do
+  p ← caller pid
+  x ← object o
+  f ← frame
+  only_if (not (same (join x.label p.label) x.label)) (do
+    need (not x.frozen) refusal.FileFrozen
+    need (leq (join x.label p.label) (ceiling_of f.fss x)) refusal.FsCeiling
+    change_object o (λ y. record y { label = join y.label p.label }))
+
+-- Opens the words that the code steps through; those for which it has a call of its own stay closed.
+unfoldable pub coding : ℕ
+unfolding ◌>>=◌ ◌>>◌ on_pass need some only_if pass refuse frame caller object change_caller change_object put_open
+coding = 0

@@ -1,0 +1,123 @@
+-- What makes a config valid.
+use Rattle.std.specs.Prelude.{◌≡◌, ℕ, suc, ◌+◌, ◌-◌, ◌/◌, ◌==◌, nat_le, Bool, true, false, not, ◌&&◌, ◌||◌, List, [], ◌∷◌, ◌++◌, length, map, sum, filter, take, drop, position, Option, Some, None, if◌then◌else◌}
+use Rattle.std.specs.Option.{option_map_or}
+use Rattle.std.specs.List.{list_all, list_any}
+use Rattle.std.specs.Cmp.Lexicographic.{pointwise}
+use Rattle.ix_label.specs.Category.{Categories, leq, top}
+use Rattle.ix_model.specs.Naming.{PathOf, same_bytes}
+use Rattle.ix_model.specs.Privs.{is_empty}
+use Rattle.ix_model.specs.Opening.{inodes_of}
+use Rattle.ix_model.specs.World.{at}
+use Rattle.ix_model.specs.declared.config.Config.{Config}
+use Rattle.ix_model.specs.declared.config.FsSpec.{FsSpec}
+use Rattle.ix_model.specs.declared.config.Limits.{Limits}
+use Rattle.ix_model.specs.declared.config.ProcSpec.{ProcSpec}
+use Rattle.ix_model.specs.declared.config.ObjSpec.{ObjSpec}
+
+abbrev pub is_within : ℕ → ℕ → ℕ → Bool
+is_within low high n = nat_le low n && nat_le n high
+
+-- the blocks that so many bytes use, 512 bytes each
+abbrev pub blocks_for : ℕ → ℕ
+blocks_for n = (n + 511) / 512
+
+-- whether two lists of names are one
+abbrev pub same_names : List (List ℕ) → List (List ℕ) → Bool
+same_names a b = pointwise same_bytes a b
+
+-- ---- file systems, limits and processes
+-- no name stands twice
+abbrev pub all_differ : List (List ℕ) → Bool
+all_differ [] = true
+all_differ (name ∷ names) = not (list_any (same_bytes name) names) && all_differ names
+
+abbrev pub fs_fits : FsSpec → Bool
+fs_fits s = is_within 1 65536 s.blocks && is_within 1 65536 s.inodes
+
+-- 1 to 16 file systems, with names that differ
+unfoldable pub fss_fit : List FsSpec → Bool
+fss_fit fss = is_within 1 16 (length fss) && list_all fs_fits fss && all_differ (map (λ s. s.name) fss)
+
+unfoldable pub limits_fit : Limits → Bool
+limits_fit l = is_within 1 1024 l.procs && is_within 1 4096 l.opens && nat_le l.pipes 1024 && is_within 16 65536 l.names && nat_le l.log 65536
+
+-- no more processes than the limit, each at or below its ceiling
+unfoldable pub procs_fit : Limits → List ProcSpec → Bool
+procs_fit l procs = nat_le (length procs) l.procs && list_all (λ p. leq p.label p.ceiling) procs
+
+-- ---- objects
+-- the further file system of that name, counted from 1
+abbrev pub mount_of : List FsSpec → List ℕ → Option ℕ
+mount_of fss name = position (λ s. same_bytes s.name name) (drop 1 fss)
+
+-- the file system on which a path lies: the further one that its first name names, else the first
+abbrev pub fs_of : List FsSpec → List (List ℕ) → ℕ
+fs_of fss [] = 0
+fs_of fss (name ∷ names) = option_map_or suc (mount_of fss name) 0
+
+-- the ceiling of a file system
+abbrev pub fs_ceiling : List FsSpec → ℕ → Categories
+fs_ceiling fss k = option_map_or (λ s. s.ceiling) (at (map Some fss) k) top
+
+abbrev pub blocks_of : List FsSpec → ℕ → ℕ
+blocks_of fss k = option_map_or (λ s. s.blocks) (at (map Some fss) k) 0
+
+-- a further file system's root
+abbrev pub is_mount : List FsSpec → List (List ℕ) → Bool
+is_mount fss names = list_any (λ s. same_names (s.name ∷ []) names) (drop 1 fss)
+
+-- an object line stands for an absolute path with a name, for at most 1,048,576 bytes, and a directory for no sets and no bytes
+abbrev pub is_well_formed : ObjSpec → Bool
+is_well_formed o =
+    o.path.absolute && nat_le 1 (length o.path.names) && nat_le (length o.bytes) 1048576
+    && (not o.dir || (is_empty o.cap && is_empty o.lic && length o.bytes == 0))
+
+-- something is there already under the names, with these lines before
+abbrev pub is_there : List FsSpec → List ObjSpec → List (List ℕ) → Bool
+is_there fss before names = is_mount fss names || list_any (λ b. same_names b.path.names names) before
+
+-- a directory is there under the names: the root, a further root, or one made before
+abbrev pub is_dir_there : List FsSpec → List ObjSpec → List (List ℕ) → Bool
+is_dir_there fss before names = same_names [] names || is_mount fss names || list_any (λ b. b.dir && same_names b.path.names names) before
+
+-- the lines before that lie on a file system
+abbrev pub lying_on : List FsSpec → ℕ → List ObjSpec → List ObjSpec
+lying_on fss k before = filter (λ b. fs_of fss b.path.names == k) before
+
+-- there is a name, an inode and blocks for one object more
+abbrev pub has_room : List FsSpec → Limits → List ObjSpec → ObjSpec → Bool
+has_room fss l before o =
+    let k = fs_of fss o.path.names in
+    nat_le (length fss + length before) l.names
+    && nat_le (length (lying_on fss k before) + 2) (inodes_of fss k)
+    && nat_le (sum (map (λ b. blocks_for (length b.bytes)) (lying_on fss k before)) + blocks_for (length o.bytes)) (blocks_of fss k)
+
+-- an object line fits after those before it
+unfoldable pub object_fits : List FsSpec → Limits → List ObjSpec → ObjSpec → Bool
+object_fits fss l before o =
+    is_well_formed o
+    && leq o.label (fs_ceiling fss (fs_of fss o.path.names))
+    && not (is_there fss before o.path.names)
+    && is_dir_there fss before (take (length o.path.names - 1) o.path.names)
+    && has_room fss l before o
+
+-- each object line fits after those before it
+abbrev pub objects_fit : List FsSpec → Limits → List ObjSpec → List ObjSpec → Bool
+objects_fit fss l before [] = true
+objects_fit fss l before (o ∷ os) = object_fits fss l before o && objects_fit fss l (before ++ o ∷ []) os
+
+-- ---- the whole
+-- a config is valid where each part of it fits, and its journal is within the limit
+unfoldable pub is_valid : Config → Bool
+is_valid c = fss_fit c.fss && limits_fit c.limits && procs_fit c.limits c.procs && objects_fit c.fss c.limits [] c.objects && nat_le c.journal 870400000
+
+-- Until directories, further file systems, frozen objects and privileges are built: one file system, and free files in its
+-- root, without privileges.
+abbrev pub is_flat_object : ObjSpec → Bool
+is_flat_object o = not o.dir && not o.frozen && is_empty o.cap && is_empty o.lic && length o.path.names == 1
+
+abbrev pub is_flat_process : ProcSpec → Bool
+is_flat_process p = is_empty p.cap && is_empty p.lic
+
+unfoldable pub is_flat : Config → Bool
+is_flat c = length c.fss == 1 && list_all is_flat_object c.objects && list_all is_flat_process c.procs

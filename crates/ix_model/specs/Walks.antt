@@ -1,0 +1,105 @@
+-- Walks along paths, and what stands behind a descriptor.
+use Rattle.std.specs.Prelude.{◌≡◌, ℕ, Bool, true, false, if◌then◌else◌, List, [], ◌∷◌, find, Option, Some, None, unwrap_or}
+use Rattle.std.specs.Option.{option_map_or}
+use Rattle.std.proofs.Common.{option_map}
+use Rattle.ix_label.specs.Category.{Categories, bottom, join}
+use Rattle.ix_model.specs.Naming.{PathOf, same_bytes}
+use Rattle.ix_model.specs.Privs.{no_privileges}
+use Rattle.ix_model.specs.World.{Object, Process, Open, Frame, at, living, is_dir}
+use Rattle.ix_model.specs.Outcomes.{Outcome, Refuse, Pass, Row}
+use Rattle.ix_model.specs.Rows.{◌>>=◌, ◌>>◌, pass, refuse, some, frame, caller, observe}
+use Rattle.ix_model.specs.declared.reply.Kind.TheVariants as kind
+use Rattle.ix_model.specs.declared.refusal.Refusal.TheVariants as refusal
+
+-- where a walk ends: at an object, with the last directory looked into; where the last name is missing, with the
+-- directory that lacks it; where another name is missing; or at an object that is no directory
+pub data Sought : Type 0 where
+  Found : ℕ → Option ℕ → Sought
+  Missing : ℕ → Sought
+  NotFound : Sought
+  NotDir : Sought
+
+-- a walk: where it ends, and the labels of the directories looked into
+pub record Walk : Type 0 where
+  pub outcome : Sought
+  pub looked : List Categories
+
+-- an empty file at bottom stands for what isn't there
+abbrev pub nothing : Object
+nothing = record { kind = kind.File; fs = None; label = bottom; frozen = false; cap = no_privileges; lic = no_privileges; claims = []; names = [] }
+
+abbrev pub node : List (Option Object) → ℕ → Object
+node objects n = unwrap_or (at objects n) nothing
+
+-- the object that a directory has under a name
+abbrev pub child : Object → List ℕ → Option ℕ
+child o name = option_map (λ e. e.1) (find (λ e. same_bytes e.0 name) o.names)
+
+abbrev pub looking_into : Object → Walk → Walk
+looking_into o w = record w { looked = o.label ∷ w.looked }
+
+-- a name that the directory lacks, with the names after it
+abbrev pub lacking : ℕ → List (List ℕ) → Walk
+lacking dir [] = record { outcome = Missing dir; looked = [] }
+lacking dir (name ∷ names) = record { outcome = NotFound; looked = [] }
+
+-- from an object along names, with the last directory looked into
+abbrev pub walk_from : List (Option Object) → ℕ → Option ℕ → List (List ℕ) → Walk
+walk_from objects n dir [] = record { outcome = Found n dir; looked = [] }
+walk_from objects n dir (name ∷ names) =
+    if is_dir (node objects n) then looking_into (node objects n) (option_map_or (λ o. walk_from objects o (Some n) names) (child (node objects n) name) (lacking n names))
+    else record { outcome = NotDir; looked = [] }
+
+-- from the root, or from the process's working directory
+abbrev pub walk : List (Option Object) → Process → PathOf → Walk
+walk objects p path = walk_from objects (if path.absolute then 0 else p.cwd) None path.names
+
+-- the join of labels
+abbrev pub join_all : List Categories → Categories
+join_all [] = bottom
+join_all (l ∷ ls) = join l (join_all ls)
+
+-- all directories looked into are observed before the walk's outcome is answered
+unfoldable pub walked_to : ℕ → PathOf → Row Sought
+walked_to pid path = do
+  p ← caller pid
+  f ← frame
+  observe pid (join_all (walk f.objects p path).looked)
+  pass (walk f.objects p path).outcome
+
+-- the object that was found
+unfoldable pub there : Sought → Row ℕ
+there (Found o dir) = pass o
+there (Missing dir) = refuse refusal.NotFound
+there NotFound = refuse refusal.NotFound
+there NotDir = refuse refusal.NotDir
+
+-- the object of the path, which must be there
+unfoldable pub found : ℕ → PathOf → Row ℕ
+found pid path = do
+  w ← walked_to pid path
+  there w
+
+-- ---- descriptors
+-- an open entry with its number
+pub record Behind : Type 0 where
+  pub id : ℕ
+  pub entry : Open
+
+abbrev pub entry_at : Frame → Option ℕ → Option Behind
+entry_at f None = None
+entry_at f (Some e) = option_map (λ x. record { id = e; entry = x }) (at f.opens e)
+
+abbrev pub behind_of : Option Process → Frame → ℕ → Option Behind
+behind_of None f fd = None
+behind_of (Some p) f fd = entry_at f (at p.fds fd)
+
+-- the open entry behind a descriptor of a living process
+unfoldable pub behind : Frame → ℕ → ℕ → Option Behind
+behind f pid fd = behind_of (living (at f.processes pid)) f fd
+
+-- the open entry behind a descriptor, which must be one of the caller's
+unfoldable pub opened : ℕ → ℕ → Row Behind
+opened pid fd = do
+  f ← frame
+  some (behind f pid fd) refusal.BadFd

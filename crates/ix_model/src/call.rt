@@ -1,0 +1,186 @@
+ghost use Rattle.std.specs.Prelude.{◌≡◌};
+ghost use Rattle.ix_model.specs.Calls.{is_built, op_of};
+
+use crate::ids::{Fd, Pid};
+use crate::path::Path;
+use crate::privs::PrivSet;
+use ix_label::Label;
+
+/// The bytes that a read puts out: the first so many as it answers, and the rest as they were.
+pub type Buf = [u8; 4096];
+
+/// What an open entry serves for.
+#[derive(Clone, Copy, Debug, PartialEq, Eq)]
+pub enum Mode {
+    Read,
+    Write,
+    Both,
+}
+
+/// Which descriptors a child gets.
+#[derive(Clone, Copy, Debug, PartialEq, Eq)]
+pub enum Keep {
+    All,
+    Nothing,
+    /// That one alone, under its number.
+    One(Fd),
+}
+
+/// A system call.
+#[derive(Clone, Copy)]
+pub enum Call<'a> {
+    /// Makes an empty file.
+    CreateAt {
+        path: Path,
+    },
+    /// Opens a file under the lowest free descriptor.
+    OpenAt {
+        path: Path,
+        mode: Mode,
+    },
+    /// Reads at most `count` bytes, at most 4,096.
+    ReadFd {
+        fd: Fd,
+        count: u32,
+    },
+    /// Writes all these bytes, at most 4,096.
+    WriteFd {
+        fd: Fd,
+        bytes: &'a [u8],
+    },
+    /// Sets a file's length, at most 1,048,576.
+    CutFd {
+        fd: Fd,
+        len: u32,
+    },
+    /// Sets a file's offset, at most 1,048,576.
+    SeekFd {
+        fd: Fd,
+        at: u32,
+    },
+    /// A second descriptor on the same open entry.
+    DupFd {
+        fd: Fd,
+    },
+    /// Frees a descriptor.
+    CloseFd {
+        fd: Fd,
+    },
+    /// Makes a pipe, and opens both ends.
+    MakePipe,
+    /// Makes an empty directory.
+    MakeDir {
+        path: Path,
+    },
+    /// Gives a file a second name.
+    LinkAt {
+        target: Path,
+        path: Path,
+    },
+    /// Takes a file's name away.
+    UnlinkAt {
+        path: Path,
+    },
+    /// Removes an empty directory.
+    RemoveDir {
+        path: Path,
+    },
+    /// Sets the working directory.
+    ChangeDir {
+        path: Path,
+    },
+    /// Tells what an object is.
+    StatAt {
+        path: Path,
+    },
+    /// Tells the name at an index of a directory, from 0.
+    ListAt {
+        path: Path,
+        index: u32,
+    },
+    /// Makes a child.
+    Fork {
+        keep: Keep,
+    },
+    /// Takes the capabilities and licences of a program file.
+    Exec {
+        path: Path,
+    },
+    /// Ends the caller.
+    Exit {
+        status: u8,
+    },
+    /// Collects an ended child.
+    WaitChild,
+    /// Tells an object's label.
+    LabelOf {
+        path: Path,
+    },
+    /// Tells the caller's label.
+    SelfLabel,
+    /// Sets an object's label.
+    SetLabel {
+        path: Path,
+        label: Label,
+    },
+    /// Sets the caller's label.
+    SetSelf {
+        label: Label,
+    },
+    /// Freezes an object's label.
+    Freeze {
+        path: Path,
+    },
+    /// Freezes the caller's label.
+    FreezeSelf,
+    /// Unfreezes an object's label.
+    Thaw {
+        path: Path,
+    },
+    /// Unfreezes the caller's label.
+    ThawSelf,
+    /// Sets the capabilities and licences of a program file.
+    SetPriv {
+        path: Path,
+        cap: PrivSet,
+        lic: PrivSet,
+    },
+    /// Drops privileges of the caller.
+    DropLic {
+        set: PrivSet,
+    },
+    /// Grants a process licences.
+    GrantLic {
+        pid: Pid,
+        set: PrivSet,
+    },
+    /// Sets a process's ceiling.
+    SetCeiling {
+        pid: Pid,
+        label: Label,
+    },
+    /// Claims the pipe's end behind a descriptor.
+    Pex {
+        fd: Fd,
+    },
+    /// Gives a claim up.
+    Unpex {
+        fd: Fd,
+    },
+    /// Tells the audit line at an index, from 0.
+    ReadLog {
+        index: u32,
+    },
+}
+
+impl Call<'_> {
+    /// Whether the core makes this call already. The others are named, and not built yet.
+    pub fn built(&self) -> bool
+        ensures { result ≡ is_built (op_of self.now) }
+    {
+        matches!(
+            self,
+            Call::OpenAt { .. } | Call::ReadFd { .. } | Call::SelfLabel
+        )
+    }
+}

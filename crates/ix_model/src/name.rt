@@ -1,0 +1,74 @@
+ghost use Rattle.std.specs.Prelude.{◌≡◌, ℕ, ◌≤◌, length, IsTrue, MatchOption};
+ghost use Rattle.std.specs.List.{list_all};
+ghost use Rattle.ix_model.specs.Naming.{is_name, may_stand_in_name};
+
+use std::marker::Model;
+
+const NAME_MAX: usize = 28;
+
+/// The name of a file or a directory: 1 to 28 bytes, none of them `/` or zero, and neither `.` nor `..`.
+#[derive(Clone, Copy)]
+pub struct Name {
+    bytes: [u8; 28],
+    len: u8,
+}
+
+impl Model for Name {
+    ghost use Rattle.std.specs.Prelude.{List, ℕ, take, length};
+    ghost use Rattle.ix_model.specs.Naming.{IsNameInside, padded};
+
+    ghost Value = { List ℕ };
+
+    ghost view = { λ n. take n.len n.bytes };
+
+    ghost invariant = { λ n. IsNameInside n.bytes n.len };
+
+    ghost inverse = { λ t. record { bytes = padded 28 t; len = length t } };
+
+    ghost inverse_ok = { λ n h i. record { bytes = h.padding i; len = h.long i } };
+}
+
+#[tactic(auto, unfolding(crate::specs::Naming::is_name))]
+fn is_name(bytes: &[u8]) -> bool
+    ensures is { result ≡ is_name bytes.now }
+    ensures fits { IsTrue result → length bytes.now ≤ 28 }
+{
+    if bytes.is_empty() || bytes.len() > NAME_MAX {
+        return false;
+    }
+    if bytes == b".".as_slice() || bytes == b"..".as_slice() {
+        return false;
+    }
+    all_plain(bytes)
+}
+
+fn all_plain(bytes: &[u8]) -> bool
+    ensures { result ≡ list_all may_stand_in_name bytes.now }
+{
+    bytes.iter().all(|b| *b != b'/' && *b != 0)
+}
+
+impl Name {
+    /// The name of these bytes; `None` exactly where they are no name.
+    pub fn read(bytes: &[u8]) -> Option<Name>
+        ensures { MatchOption result (IsTrue (is_name bytes.now) → ⊥) (λ n. (n ≡ bytes.now) × IsTrue (is_name bytes.now)) }
+    {
+        if !is_name(bytes) {
+            return None;
+        }
+        let mut kept = [0; 28];
+        kept[..bytes.len()].copy_from_slice(bytes);
+        Some(Name {
+            bytes: kept,
+            len: bytes.len() as u8,
+        })
+    }
+
+    /// Its bytes.
+    pub fn as_bytes(&self) -> &[u8]
+        ensures bytes { result.now ≡ self.now }
+        ensures few { length self.now ≤ 28 }
+    {
+        &self.bytes[..self.len as usize]
+    }
+}

@@ -1,0 +1,80 @@
+ghost use Rattle.std.specs.Prelude.{◌≡◌, ℕ, ◌≤◌, ◌<◌, length, IsTrue, ◌↔◌, slice_get, []};
+ghost use Rattle.std.specs.Bool.{OnTrue, OnFalse};
+ghost use Rattle.ix_model.specs.Naming.{PathOf, add_name};
+
+use crate::name::Name;
+use std::marker::Model;
+
+const NAMES_MAX: usize = 16;
+
+/// A path: absolute or not, and at most 16 names. An absolute path of no names is the root.
+#[derive(Clone, Copy)]
+pub struct Path {
+    absolute: bool,
+    slots: [Option<Name>; 16],
+    count: u8,
+}
+
+impl Model for Path {
+    ghost use Rattle.std.specs.Prelude.{length};
+    ghost use Rattle.ix_model.specs.Naming.{PathOf, names_in, slots_of, IsPathInside};
+
+    ghost Value = { PathOf };
+
+    ghost view = { λ p. record { absolute = p.absolute; names = names_in p.slots } };
+
+    ghost invariant = { λ p. IsPathInside p.slots p.count };
+
+    ghost inverse = { λ p. record { absolute = p.absolute; slots = slots_of p.names; count = length p.names } };
+
+    ghost inverse_ok = { λ p h i. record { absolute = p.absolute; slots = h.filled i; count = h.long i } };
+}
+
+impl Path {
+    /// A path of no names.
+    pub fn new(absolute: bool) -> Path
+        ensures { result ≡ record { absolute = absolute; names = [] } }
+    {
+        Path {
+            absolute,
+            slots: [None; 16],
+            count: 0,
+        }
+    }
+
+    /// One name more, at the end. It is false, and changes nothing, exactly where there are 16 names.
+    pub fn push(&mut self, name: Name) -> bool
+        ensures pushed { OnTrue result (self.new ≡ add_name self.old name) }
+        ensures full { OnFalse result (self.new ≡ self.old) }
+        ensures exactly { IsTrue result ↔ (length self.old.names < 16) }
+    {
+        if self.count as usize >= NAMES_MAX {
+            return false;
+        }
+        self.slots[self.count as usize] = Some(name);
+        self.count += 1;
+        true
+    }
+
+    /// The name at an index from 0; `None` exactly past the last.
+    pub fn name(&self, i: usize) -> Option<Name>
+        ensures { result ≡ slice_get self.now.names i }
+    {
+        if i < NAMES_MAX { self.slots[i] } else { None }
+    }
+
+    /// How many names it has, at most 16.
+    pub fn len(&self) -> usize
+        ensures len { result ≡ length self.now.names }
+        ensures few { result ≤ 16 }
+    {
+        self.count as usize
+    }
+
+    /// Whether it begins at the root, and not at a working directory.
+    pub fn absolute(&self) -> bool
+        ensures { result ≡ self.now.absolute }
+    {
+        self.absolute
+    }
+}
