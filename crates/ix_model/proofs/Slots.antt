@@ -1,11 +1,11 @@
 -- Names in their cells and slots.
-use Rattle.std.proofs.Common.{◌≡◌, ℕ, zero, suc, ◌+◌, ◌-◌, ◌<◌, ◌≤◌, List, [], ◌∷◌, ◌++◌, length, take, drop, map, replicate, Option, Some, None, Bool, true, false, refl, sym, ap, ◌∙◌, arith, length-append, append_assoc, sub-one}
+use Rattle.std.proofs.Common.{◌≡◌, ℕ, zero, suc, ◌+◌, ◌-◌, ◌<◌, ◌≤◌, List, [], ◌∷◌, ◌++◌, length, take, drop, map, replicate, Option, Some, None, false, refl, sym, ap, ◌∙◌, arith, length-append, append_assoc, sub-one}
 use Rattle.std.proofs.Math.ListN.{set}
 use Rattle.std.proofs.Math.Seq.{set-append_seam, take-append_seam}
 use Rattle.std.proofs.lemmas.List.{drop-replicate, map-append, length-map}
 use Rattle.std.specs.List.{list_all}
 use Rattle.std.proofs.lemmas.Bool.{lt-ltb, le-leb}
-use Rattle.ix_model.specs.Naming.{is_name, may_stand_in_name, same_bytes, IsNameInside, padded, PathOf, names_in, slots_of, IsPathInside, add_name}
+use Rattle.ix_model.specs.Naming.{is_name, may_stand_in_name, same_bytes, IsNameInside, names_in, slots_of, IsPathInside}
 
 pub cells : (bytes : List ℕ) → length bytes ≤ 28 → IsNameInside (bytes ++ drop (length bytes) (replicate 28 0)) (length bytes)
 cells bytes h =

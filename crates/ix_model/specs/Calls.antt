@@ -57,5 +57,6 @@ event_of e = record { seat = e.seat; line = e.line; pid = e.pid.0; op = op_of e.
 abbrev pub is_built : Op → Bool
 is_built (op.OpenAt path mode) = true
 is_built (op.ReadFd fd count) = true
+is_built (op.WriteFd fd bytes) = true
 is_built op.SelfLabel = true
 is_built _ = false

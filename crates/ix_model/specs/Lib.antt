@@ -11,3 +11,5 @@ pub mod Table
 pub mod Step
 pub mod Opening
 pub mod Valid
+pub mod Clean
+pub mod Sound

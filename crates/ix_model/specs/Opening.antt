@@ -1,10 +1,10 @@
 -- The opening world: what a config describes.
-use Rattle.std.specs.Prelude.{◌≡◌, ℕ, zero, suc, ◌+◌, ◌-◌, Bool, true, false, List, [], ◌∷◌, ◌++◌, length, map, sum, take, drop, replicate, Option, Some, None, if◌then◌else◌, slice_index_or, slice_set, unwrap_or}
+use Rattle.std.specs.Prelude.{ℕ, suc, ◌+◌, ◌-◌, false, List, [], ◌∷◌, ◌++◌, length, map, sum, take, drop, replicate, Option, Some, None, if◌then◌else◌, slice_index_or, slice_set, unwrap_or}
 use Rattle.std.specs.Option.{option_map_or}
 use Rattle.std.proofs.Common.{option_map}
-use Rattle.ix_label.specs.Category.{Categories, bottom}
+use Rattle.ix_label.specs.Category.{bottom}
 use Rattle.ix_model.specs.Privs.{no_privileges}
-use Rattle.ix_model.specs.World.{World, Frame, Content, Object, Process, Holding, at, put, change, lowest_free}
+use Rattle.ix_model.specs.World.{World, Frame, Object, Process, at, put, change, lowest_free}
 use Rattle.ix_model.specs.Walks.{node, child}
 use Rattle.ix_model.specs.Step.{holds_nothing}
 use Rattle.ix_model.specs.declared.reply.Kind.TheVariants as kind

@@ -1,5 +1,5 @@
 -- Sets of privileges.
-use Rattle.std.specs.Prelude.{ℕ, Bool, ◌==◌, bit_and, bit_or}
+use Rattle.std.specs.Prelude.{Bool, ◌==◌}
 use Rattle.ix_model.specs.declared.privs.PrivSet.{PrivSet}
 
 -- no privilege

@@ -1,7 +1,7 @@
 -- One step of the machine: a row's decision, and what it does to bytes, offsets and statuses. Runs of histories.
-use Rattle.std.specs.Prelude.{◌≡◌, ℕ, zero, suc, ◌+◌, ◌-◌, ◌==◌, nat_le, Bool, true, false, not, ◌&&◌, List, [], ◌∷◌, ◌++◌, length, take, drop, replicate, Option, Some, None, is_some, if◌then◌else◌, slice_index_or, slice_set}
-use Rattle.std.specs.Option.{option_map_or}
-use Rattle.ix_model.specs.World.{Frame, Content, World, Holding, Open, at, is_ended, is_pipe}
+use Rattle.std.specs.Prelude.{ℕ, suc, ◌+◌, ◌-◌, ◌/◌, ◌==◌, nat_le, nat_lt, max, Bool, false, not, ◌&&◌, ◌||◌, List, [], ◌∷◌, ◌++◌, length, map, take, drop, replicate, Option, Some, None, is_some, if◌then◌else◌, slice_index_or, slice_set}
+use Rattle.std.specs.Option.{option_map_or, option_and_then}
+use Rattle.ix_model.specs.World.{Frame, Content, World, Holding, at, is_ended, is_pipe}
 use Rattle.ix_model.specs.Walks.{Behind, behind}
 use Rattle.ix_model.specs.Table.{Told, Decision, decide}
 use Rattle.ix_model.specs.History.{Op, Event}
@@ -58,6 +58,46 @@ after_read f e k c =
     if on_pipe f e then record c { holdings = slice_set c.holdings e.entry.object (with_side e.entry.end (drop k (side e.entry.end (holding_of c e.entry.object))) (holding_of c e.entry.object)) }
     else record c { offsets = slice_set c.offsets e.id (offset_of c e.id + k) }
 
+-- bytes written at an offset; a gap before them reads as zeros, and no bytes leave the length
+abbrev pub spliced : ℕ → List ℕ → List ℕ → List ℕ
+spliced offset new old = if nat_le (length new) 0 then old else take offset old ++ (replicate (offset - length old) 0 ++ (new ++ drop (offset + length new) old))
+
+-- the bytes stand at a file's offset, which moves, or at the end of what a pipe's other end can read
+unfoldable pub after_write : Frame → Behind → List ℕ → Content → Content
+after_write f e new c =
+    if on_pipe f e then record c { holdings = slice_set c.holdings e.entry.object (with_side (1 - e.entry.end) (side (1 - e.entry.end) (holding_of c e.entry.object) ++ new) (holding_of c e.entry.object)) }
+    else record c {
+      holdings = slice_set c.holdings e.entry.object (with_side e.entry.end (spliced (offset_of c e.id) new (side e.entry.end (holding_of c e.entry.object))) (holding_of c e.entry.object));
+      offsets = slice_set c.offsets e.id (offset_of c e.id + length new);
+    }
+
+-- ---- blocks
+-- the blocks that so many bytes use, 512 bytes each
+abbrev pub blocks_for : ℕ → ℕ
+blocks_for n = (n + 511) / 512
+
+-- the blocks of the files at the numbers that pass, counted from n
+abbrev pub blocks_where : (ℕ → Bool) → ℕ → List Holding → ℕ
+blocks_where p n [] = 0
+blocks_where p n (h ∷ hs) = (if p n then blocks_for (length h.first) else 0) + blocks_where p (suc n) hs
+
+-- whether an object lies on a file system
+abbrev pub lies_on : Frame → Option ℕ → ℕ → Bool
+lies_on f None o = false
+lies_on f (Some k) o = option_map_or (λ x. option_map_or (λ j. j == k) x.fs false) (at f.objects o) false
+
+-- the file system of an object, and how many blocks it has
+abbrev pub fs_at : Frame → ℕ → Option ℕ
+fs_at f o = option_and_then (λ x. x.fs) (at f.objects o)
+
+abbrev pub blocks_on : Frame → Option ℕ → ℕ
+blocks_on f None = 0
+blocks_on f (Some k) = option_map_or (λ s. s.blocks) (at (map Some f.fss) k) 0
+
+-- the length of a file of so many bytes once n bytes stand at an offset
+abbrev pub length_then : ℕ → ℕ → ℕ → ℕ
+length_then offset n old = if n == 0 then old else max old (offset + n)
+
 -- ---- what lengths and offsets tell
 abbrev pub nothing_told : Told
 nothing_told = record { too_big = false; full = false; no_space = false; empty = false }
@@ -66,8 +106,28 @@ unfoldable pub told_of_read : Frame → Content → Option Behind → Told
 told_of_read f c None = nothing_told
 told_of_read f c (Some e) = record nothing_told { empty = nat_le (length (readable f c e)) 0 }
 
+-- a pipe takes at most 4,096 bytes in each direction
+abbrev pub told_of_pipe_write : ℕ → ℕ → Told
+told_of_pipe_write there n = record nothing_told { too_big = nat_lt 4096 n; full = nat_lt 4096 (there + n) }
+
+-- a file ends at 1,048,576 at the latest, and the other files of its file system leave it so many blocks
+abbrev pub told_of_file_write : Frame → Content → Behind → ℕ → Told
+told_of_file_write f c e n =
+    let o = e.entry.object in
+    let k = fs_at f o in
+    let big = nat_lt 4096 n || nat_lt 1048576 (offset_of c e.id + n) in
+    record nothing_told {
+      too_big = big;
+      no_space = not big && nat_lt (blocks_on f k) (blocks_where (λ m. not (m == o) && lies_on f k m) 0 c.holdings + blocks_for (length_then (offset_of c e.id) n (length (side e.entry.end (holding_of c o)))));
+    }
+
+unfoldable pub told_of_write : Frame → Content → ℕ → Option Behind → Told
+told_of_write f c n None = nothing_told
+told_of_write f c n (Some e) = if on_pipe f e then told_of_pipe_write (length (side (1 - e.entry.end) (holding_of c e.entry.object))) n else told_of_file_write f c e n
+
 unfoldable pub told : World → ℕ → Op → Told
 told w pid (op.ReadFd fd count) = told_of_read w.frame w.content (behind w.frame pid fd)
+told w pid (op.WriteFd fd bytes) = told_of_write w.frame w.content (length bytes) (behind w.frame pid fd)
 told w pid _ = nothing_told
 
 -- ---- the step
@@ -89,8 +149,17 @@ read_answer w count (Some e) (reply.Bytes k) g = record {
 }
 read_answer w count _ r g = plainly w (record { reply = r; frame = g })
 
+unfoldable pub write_answer : World → List ℕ → Option Behind → Reply → Frame → Given
+write_answer w new (Some e) (reply.Number k) g = record {
+  world = record { frame = g; content = after_write w.frame e new (carried w.frame g w.content) };
+  reply = reply.Number (length new);
+  bytes = [];
+}
+write_answer w new _ r g = plainly w (record { reply = r; frame = g })
+
 unfoldable pub answer : World → ℕ → Op → Decision → Given
 answer w pid (op.ReadFd fd count) d = read_answer w count (behind w.frame pid fd) d.reply d.frame
+answer w pid (op.WriteFd fd bytes) d = write_answer w bytes (behind w.frame pid fd) d.reply d.frame
 answer w pid _ d = plainly w d
 
 -- the step of a call by a process, which is the entry at this place

@@ -1,16 +1,15 @@
 -- The call table: of each call its tests in order, its effect and its reply.
-use Rattle.std.specs.Prelude.{◌≡◌, ℕ, ◌-◌, nat_le, Bool, true, false, not, ◌&&◌, ◌||◌, Option, Some, None, if◌then◌else◌}
+use Rattle.std.specs.Prelude.{ℕ, ◌-◌, nat_le, Bool, not, ◌&&◌, ◌||◌, Some, if◌then◌else◌}
 use Rattle.ix_model.specs.Naming.{PathOf}
 use Rattle.ix_model.specs.Privs.{is_empty}
 use Rattle.ix_model.specs.Refusals.{keeps_label}
-use Rattle.ix_model.specs.World.{Object, Process, Open, Frame, at, put, lowest_free, lives, is_dir, is_pipe, may_read, may_write, held, held_from}
+use Rattle.ix_model.specs.World.{Frame, put, lowest_free, lives, is_file, is_dir, is_pipe, may_read, may_write, held, held_from}
 use Rattle.ix_model.specs.Outcomes.{Outcome, Refuse, Pass, Row}
 use Rattle.ix_model.specs.Rows.{◌>>=◌, ◌>>◌, pass, need, some, frame, caller, object, change_caller, put_open, observe, affect, refuse}
-use Rattle.ix_model.specs.Walks.{Behind, found, opened}
+use Rattle.ix_model.specs.Walks.{found, opened}
 use Rattle.ix_model.specs.History.{Op}
 use Rattle.ix_model.specs.History as op
 use Rattle.ix_model.specs.declared.call.Mode.{Mode}
-use Rattle.ix_model.specs.declared.refusal.Refusal.{Refusal}
 use Rattle.ix_model.specs.declared.refusal.Refusal.TheVariants as refusal
 use Rattle.ix_model.specs.declared.reply.Reply.{Reply}
 use Rattle.ix_model.specs.declared.reply.Reply.TheVariants as reply
@@ -55,10 +54,27 @@ read_fd t pid fd count = do
   need (not (is_pipe x && t.empty && held f.opens e.entry.object (1 - e.entry.end))) refusal.Again
   pass (reply.Bytes 0)
 
--- The row of each call that is built.
+-- WriteFd: all bytes, or none; the number in the reply is filled in
+unfoldable pub write_fd : Told → ℕ → ℕ → Row Reply
+write_fd t pid fd = do
+  e ← opened pid fd
+  need (may_write e.entry.mode) refusal.NotWritable
+  x ← object e.entry.object
+  need (not (held_from x e.entry.end pid)) refusal.PexHeld
+  need (not t.too_big) refusal.TooBig
+  need (not (is_file x) || (is_empty x.cap && is_empty x.lic)) refusal.Trusted
+  f ← frame
+  need (not (is_pipe x) || held f.opens e.entry.object (1 - e.entry.end)) refusal.Broken
+  need (not t.full) refusal.PipeFull
+  need (not t.no_space) refusal.NoSpace
+  affect pid e.entry.object
+  pass (reply.Number 0)
+
+-- The row of each call that is built. The others have none yet, and the core isn't asked for them.
 unfoldable pub row : Told → ℕ → ℕ → Op → Row Reply
 row t place pid (op.OpenAt path mode) = open_at pid path mode
 row t place pid (op.ReadFd fd count) = read_fd t pid fd count
+row t place pid (op.WriteFd fd bytes) = write_fd t pid fd
 row t place pid op.SelfLabel = self_label pid
 row t place pid _ = refuse refusal.NoProcess
 

@@ -1,13 +1,14 @@
 -- What makes a config valid.
-use Rattle.std.specs.Prelude.{◌≡◌, ℕ, suc, ◌+◌, ◌-◌, ◌/◌, ◌==◌, nat_le, Bool, true, false, not, ◌&&◌, ◌||◌, List, [], ◌∷◌, ◌++◌, length, map, sum, filter, take, drop, position, Option, Some, None, if◌then◌else◌}
+use Rattle.std.specs.Prelude.{ℕ, suc, ◌+◌, ◌-◌, ◌==◌, nat_le, Bool, true, not, ◌&&◌, ◌||◌, List, [], ◌∷◌, ◌++◌, length, map, sum, filter, take, drop, position, Option, Some}
 use Rattle.std.specs.Option.{option_map_or}
 use Rattle.std.specs.List.{list_all, list_any}
 use Rattle.std.specs.Cmp.Lexicographic.{pointwise}
 use Rattle.ix_label.specs.Category.{Categories, leq, top}
-use Rattle.ix_model.specs.Naming.{PathOf, same_bytes}
+use Rattle.ix_model.specs.Naming.{same_bytes}
 use Rattle.ix_model.specs.Privs.{is_empty}
 use Rattle.ix_model.specs.Opening.{inodes_of}
 use Rattle.ix_model.specs.World.{at}
+use Rattle.ix_model.specs.Step.{blocks_for}
 use Rattle.ix_model.specs.declared.config.Config.{Config}
 use Rattle.ix_model.specs.declared.config.FsSpec.{FsSpec}
 use Rattle.ix_model.specs.declared.config.Limits.{Limits}
@@ -16,10 +17,6 @@ use Rattle.ix_model.specs.declared.config.ObjSpec.{ObjSpec}
 
 abbrev pub is_within : ℕ → ℕ → ℕ → Bool
 is_within low high n = nat_le low n && nat_le n high
-
--- the blocks that so many bytes use, 512 bytes each
-abbrev pub blocks_for : ℕ → ℕ
-blocks_for n = (n + 511) / 512
 
 -- whether two lists of names are one
 abbrev pub same_names : List (List ℕ) → List (List ℕ) → Bool

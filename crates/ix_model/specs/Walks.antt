@@ -1,12 +1,12 @@
 -- Walks along paths, and what stands behind a descriptor.
-use Rattle.std.specs.Prelude.{◌≡◌, ℕ, Bool, true, false, if◌then◌else◌, List, [], ◌∷◌, find, Option, Some, None, unwrap_or}
+use Rattle.std.specs.Prelude.{ℕ, false, if◌then◌else◌, List, [], ◌∷◌, find, Option, Some, None, unwrap_or}
 use Rattle.std.specs.Option.{option_map_or}
 use Rattle.std.proofs.Common.{option_map}
 use Rattle.ix_label.specs.Category.{Categories, bottom, join}
 use Rattle.ix_model.specs.Naming.{PathOf, same_bytes}
 use Rattle.ix_model.specs.Privs.{no_privileges}
 use Rattle.ix_model.specs.World.{Object, Process, Open, Frame, at, living, is_dir}
-use Rattle.ix_model.specs.Outcomes.{Outcome, Refuse, Pass, Row}
+use Rattle.ix_model.specs.Outcomes.{Row}
 use Rattle.ix_model.specs.Rows.{◌>>=◌, ◌>>◌, pass, refuse, some, frame, caller, observe}
 use Rattle.ix_model.specs.declared.reply.Kind.TheVariants as kind
 use Rattle.ix_model.specs.declared.refusal.Refusal.TheVariants as refusal

@@ -1,9 +1,9 @@
 -- The machine's world: the frame that calls decide on, and the content that it holds.
-use Rattle.std.specs.Prelude.{◌≡◌, ℕ, ◌+◌, Bool, true, false, not, ◌&&◌, ◌||◌, ◌==◌, if◌then◌else◌, List, [], ◌∷◌, map, sum, take, position, Option, Some, None, is_some, is_none, slice_set, slice_index_or, unwrap_or}
+use Rattle.std.specs.Prelude.{ℕ, Bool, true, false, not, ◌&&◌, ◌==◌, if◌then◌else◌, List, map, position, Option, Some, None, is_none, slice_set, slice_index_or}
 use Rattle.std.specs.Option.{option_map_or}
 use Rattle.std.proofs.Common.{option_map}
 use Rattle.std.specs.List.{list_any}
-use Rattle.ix_label.specs.Category.{Categories, bottom, top}
+use Rattle.ix_label.specs.Category.{Categories, top}
 use Rattle.ix_model.specs.declared.call.Mode.{Mode}
 use Rattle.ix_model.specs.declared.call.Mode.TheVariants as mode
 use Rattle.ix_model.specs.declared.reply.Kind.{Kind}

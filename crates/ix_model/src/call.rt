@@ -180,7 +180,7 @@ impl Call<'_> {
     {
         matches!(
             self,
-            Call::OpenAt { .. } | Call::ReadFd { .. } | Call::SelfLabel
+            Call::OpenAt { .. } | Call::ReadFd { .. } | Call::WriteFd { .. } | Call::SelfLabel
         )
     }
 }

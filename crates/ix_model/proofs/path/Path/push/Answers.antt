@@ -1,5 +1,4 @@
-use Rattle.std.proofs.Common.{ap, sym, ◌∙◌, List, ℕ}
-use Rattle.ix_model.specs.Naming.{PathOf}
+use Rattle.std.proofs.Common.{ap, List, ℕ}
 use Rattle.ix_model.proofs.Slots.{push_inside}
 use Rattle.ix_model.proofs.path.Path.push.Goals as goal
 

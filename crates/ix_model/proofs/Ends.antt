@@ -1,0 +1,95 @@
+-- What is known where a row ends: P of a refusal and its frame, Q of what it passes and its frame.
+use Rattle.std.proofs.Common.{ℕ, ◌≡◌, Bool, true, false, Option, Some, None, refl}
+use Rattle.ix_model.specs.World.{Frame, Object, Process, Open, at, put, change, living}
+use Rattle.ix_model.specs.Outcomes.{Row, Outcome, Refuse, Pass}
+use Rattle.ix_model.specs.Rows.{◌>>=◌, ◌>>◌, on_pass, pass, refuse, need, some, only_if, frame, caller, object, change_object, change_caller, put_open}
+use Rattle.ix_model.specs.Walks.{Sought, Behind, there, behind, opened}
+use Rattle.ix_model.specs.Walks as sought
+use Rattle.ix_model.specs.declared.refusal.Refusal.{Refusal}
+use Rattle.ix_model.specs.declared.refusal.Refusal.TheVariants as refusal
+
+unfoldable pub Ends : {A : Type 0} → Outcome A → (Refusal → Frame → Type 0) → (A → Frame → Type 0) → Type 0
+Ends (Refuse r g) P Q = P r g
+Ends (Pass a g) P Q = Q a g
+
+ends_on_pass : {A B : Type 0} (o : Outcome A) (k : A → Frame → Outcome B) (P : Refusal → Frame → Type 0) (Q : B → Frame → Type 0) → Ends o P (λ a g. Ends (k a g) P Q) → Ends (on_pass o k) P Q
+unfolding Ends on_pass
+ends_on_pass (Refuse r g) k P Q h = h
+ends_on_pass (Pass a g) k P Q h = h
+
+pub ends_more : {A : Type 0} (o : Outcome A) (P : Refusal → Frame → Type 0) (Q R : A → Frame → Type 0) → Ends o P Q → ((a : A) (g : Frame) → Q a g → R a g) → Ends o P R
+unfolding Ends
+ends_more (Refuse r g) P Q R h k = h
+ends_more (Pass a g) P Q R h k = k a g h
+
+-- whatever the outcome is
+pub ends_any : {A : Type 0} (o : Outcome A) (P : Refusal → Frame → Type 0) (Q : A → Frame → Type 0) → ((r : Refusal) (g : Frame) → P r g) → ((a : A) (g : Frame) → Q a g) → Ends o P Q
+unfolding Ends
+ends_any (Refuse r g) P Q h k = h r g
+ends_any (Pass a g) P Q h k = k a g
+
+module _ {A B : Type 0} where
+  pub ends_bind : (m : Row A) (k : A → Row B) (f : Frame) (P : Refusal → Frame → Type 0) (Q : B → Frame → Type 0) → Ends (m f) P (λ a g. Ends (k a g) P Q) → Ends (◌>>=◌ m k f) P Q
+  unfolding ◌>>=◌
+  ends_bind m k f P Q h = ends_on_pass (m f) k P Q h
+
+  pub ends_then : (m : Row A) (k : Row B) (f : Frame) (P : Refusal → Frame → Type 0) (Q : B → Frame → Type 0) → Ends (m f) P (λ a g. Ends (k g) P Q) → Ends (◌>>◌ m k f) P Q
+  unfolding ◌>>◌
+  ends_then m k f P Q h = ends_on_pass (m f) (λ a. k) P Q h
+
+pub ends_pass : {A : Type 0} (a : A) (f : Frame) (P : Refusal → Frame → Type 0) (Q : A → Frame → Type 0) → Q a f → Ends (pass a f) P Q
+unfolding Ends pass
+ends_pass a f P Q h = h
+
+pub ends_frame : (f : Frame) (P : Refusal → Frame → Type 0) (Q : Frame → Frame → Type 0) → Q f f → Ends (frame f) P Q
+unfolding Ends frame
+ends_frame f P Q h = h
+
+pub ends_need : (b : Bool) (r : Refusal) (f : Frame) (P : Refusal → Frame → Type 0) (Q : Unit {0} → Frame → Type 0) → (b ≡ true → Q tt f) → P r f → Ends (need b r f) P Q
+unfolding Ends need refuse pass
+ends_need true r f P Q h k = h refl
+ends_need false r f P Q h k = k
+
+pub ends_some : {A : Type 0} (o : Option A) (r : Refusal) (f : Frame) (P : Refusal → Frame → Type 0) (Q : A → Frame → Type 0) → ((a : A) → o ≡ Some a → Q a f) → P r f → Ends (some o r f) P Q
+unfolding Ends some refuse pass
+ends_some None r f P Q h k = k
+ends_some (Some a) r f P Q h k = h a refl
+
+pub ends_only_if : (b : Bool) (m : Row (Unit {0})) (f : Frame) (P : Refusal → Frame → Type 0) (Q : Unit {0} → Frame → Type 0) → (b ≡ true → Ends (m f) P Q) → (b ≡ false → Q tt f) → Ends (only_if b m f) P Q
+unfolding Ends only_if pass
+ends_only_if true m f P Q h k = h refl
+ends_only_if false m f P Q h k = k refl
+
+pub ends_caller : (pid : ℕ) (f : Frame) (P : Refusal → Frame → Type 0) (Q : Process → Frame → Type 0) → ((p : Process) → living (at f.processes pid) ≡ Some p → Q p f) → P refusal.NoProcess f → Ends (caller pid f) P Q
+unfolding caller
+ends_caller pid f P Q h k = ends_some _ _ _ _ _ h k
+
+pub ends_object : (o : ℕ) (f : Frame) (P : Refusal → Frame → Type 0) (Q : Object → Frame → Type 0) → ((x : Object) → at f.objects o ≡ Some x → Q x f) → P refusal.BadFd f → Ends (object o f) P Q
+unfolding object
+ends_object o f P Q h k = ends_some _ _ _ _ _ h k
+
+pub ends_change_object : (o : ℕ) (h : Object → Object) (f : Frame) (P : Refusal → Frame → Type 0) (Q : Unit {0} → Frame → Type 0) → Q tt (record f { objects = change f.objects o h }) → Ends (change_object o h f) P Q
+unfolding Ends change_object
+ends_change_object o h f P Q k = k
+
+pub ends_change_caller : (pid : ℕ) (h : Process → Process) (f : Frame) (P : Refusal → Frame → Type 0) (Q : Unit {0} → Frame → Type 0) → Q tt (record f { processes = change f.processes pid h }) → Ends (change_caller pid h f) P Q
+unfolding Ends change_caller
+ends_change_caller pid h f P Q k = k
+
+pub ends_put_open : (e : ℕ) (x : Option Open) (f : Frame) (P : Refusal → Frame → Type 0) (Q : Unit {0} → Frame → Type 0) → Q tt (record f { opens = put f.opens e x }) → Ends (put_open e x f) P Q
+unfolding Ends put_open
+ends_put_open e x f P Q k = k
+
+pub ends_there : (w : Sought) (f : Frame) (P : Refusal → Frame → Type 0) (Q : ℕ → Frame → Type 0) → ((o : ℕ) (dir : Option ℕ) → w ≡ sought.Found o dir → Q o f) → P refusal.NotDir f → P refusal.NotFound f → Ends (there w f) P Q
+unfolding there Ends pass refuse
+ends_there sought.NotDir f P Q h d n = d
+ends_there sought.NotFound f P Q h d n = n
+ends_there (sought.Missing a) f P Q h d n = n
+ends_there (sought.Found o dir) f P Q h d n = h o dir refl
+
+pub ends_opened : (pid fd : ℕ) (f : Frame) (P : Refusal → Frame → Type 0) (Q : Behind → Frame → Type 0) → ((e : Behind) → behind f pid fd ≡ Some e → Q e f) → P refusal.BadFd f → Ends (opened pid fd f) P Q
+unfolding opened
+ends_opened pid fd f P Q h k = ends_bind _ _ f P Q (ends_frame f P _ (ends_some _ _ _ _ _ h k))
+
+-- one lemma for each word
+pub ruleset ending = (ends_bind, ends_then, ends_pass, ends_frame, ends_need, ends_some, ends_only_if, ends_caller, ends_object, ends_change_object, ends_change_caller, ends_put_open, ends_there, ends_opened)

@@ -1,0 +1,104 @@
+-- What holds in every world that is reached.
+use Rattle.std.specs.Prelude.{◌≡◌, ℕ, ◌+◌, ◌<◌, ◌≤◌, ◌==◌, Bool, true, false, not, ◌&&◌, ◌||◌, List, [], length, map, sum, count_by, Option, Some, None, is_some, if◌then◌else◌}
+use Rattle.std.specs.Option.{option_map_or}
+use Rattle.std.specs.List.{list_any}
+use Rattle.ix_label.specs.Category.{leq}
+use Rattle.ix_model.specs.World.{World, Frame, Object, Process, Open, at, living, lives, is_file, is_dir, is_pipe, is_on, held, ceiling_of}
+use Rattle.ix_model.specs.Step.{holding_of, offset_of, blocks_where, blocks_on, lies_on}
+use Rattle.ix_model.specs.Opening.{first_inode, inodes_of}
+use Rattle.ix_model.specs.Valid.{all_differ}
+
+-- ---- words
+-- how often a directory's list names an object, and how often all of them do
+abbrev pub times_in : ℕ → Option Object → ℕ
+times_in o None = 0
+times_in o (Some x) = count_by (λ n. n.1 == o) x.names
+
+abbrev pub times_named : List (Option Object) → ℕ → ℕ
+times_named objects o = sum (map (times_in o) objects)
+
+-- how many names there are in all
+abbrev pub names_in_all : List (Option Object) → ℕ
+names_in_all objects = sum (map (λ x. option_map_or (λ y. length y.names) x 0) objects)
+
+-- whether a descriptor is on the open entry, and whether some living process has such a descriptor
+abbrev pub is_at : ℕ → Option ℕ → Bool
+is_at e d = option_map_or (λ x. x == e) d false
+
+abbrev pub owns : ℕ → Option Process → Bool
+owns e p = option_map_or (λ q. not q.ended && list_any (is_at e) q.fds) p false
+
+abbrev pub owned : List (Option Process) → ℕ → Bool
+owned processes e = list_any (owns e) processes
+
+-- whether a descriptor is on that end of that object, and whether the process has such a descriptor
+abbrev pub is_claimant : Frame → ℕ → ℕ → ℕ → Bool
+is_claimant f o end p = option_map_or (λ q. not q.ended && list_any (λ d. option_map_or (λ e. is_on o end (at f.opens e)) d false) q.fds) (at f.processes p) false
+
+-- ---- labels
+-- no label is above its ceiling
+pub record LabelsBelow (f : Frame) : Type 0 where
+  pub objects : (o : ℕ) (x : Object) → at f.objects o ≡ Some x → leq x.label (ceiling_of f.fss x) ≡ true
+  pub processes : (p : ℕ) (q : Process) → at f.processes p ≡ Some q → leq q.label q.ceiling ≡ true
+
+-- ---- names
+-- directories alone have names, which name living files and directories and differ in one directory; each directory
+-- but object 0 is named exactly once
+pub record NamesSound (f : Frame) : Type 0 where
+  pub in_directories : (d : ℕ) (x : Object) → at f.objects d ≡ Some x → is_dir x ≡ false → x.names ≡ []
+  pub living : (d o : ℕ) (x : Object) → at f.objects d ≡ Some x → 0 < count_by (λ n. n.1 == o) x.names → option_map_or (λ y. not (is_pipe y)) (at f.objects o) false ≡ true
+  pub differ : (d : ℕ) (x : Object) → at f.objects d ≡ Some x → all_differ (map (λ n. n.0) x.names) ≡ true
+  pub once : (o : ℕ) (x : Object) → at f.objects o ≡ Some x → is_dir x ≡ true → times_named f.objects o ≡ (if o == 0 then 0 else 1)
+
+-- ---- lives
+-- a file lives only where it is named or has an open entry, and a pipe only where it has one
+pub record LivesSound (f : Frame) : Type 0 where
+  pub file : (o : ℕ) (x : Object) → at f.objects o ≡ Some x → is_file x ≡ true → (not (times_named f.objects o == 0) || held f.opens o 0) ≡ true
+  pub pipe : (o : ℕ) (x : Object) → at f.objects o ≡ Some x → is_pipe x ≡ true → (held f.opens o 0 || held f.opens o 1) ≡ true
+
+-- ---- descriptors and open entries
+-- each descriptor of a living process that isn't free names an open entry; each open entry is named by such a
+-- descriptor, and its object lives and is a file or a pipe
+pub record OpensSound (f : Frame) : Type 0 where
+  pub descriptor : (p : ℕ) (q : Process) (fd e : ℕ) → living (at f.processes p) ≡ Some q → at q.fds fd ≡ Some e → is_some (at f.opens e) ≡ true
+  pub owned : (e : ℕ) → is_some (at f.opens e) ≡ true → owned f.processes e ≡ true
+  pub target : (e : ℕ) (x : Open) → at f.opens e ≡ Some x → option_map_or (λ y. not (is_dir y)) (at f.objects x.object) false ≡ true
+
+-- ---- processes
+-- nothing is at pid 0, a living process's working directory is a living directory, and a child's parent lives
+pub record ProcessesSound (f : Frame) : Type 0 where
+  pub none : at f.processes 0 ≡ None
+  pub home : (p : ℕ) (q : Process) → living (at f.processes p) ≡ Some q → option_map_or is_dir (at f.objects q.cwd) false ≡ true
+  pub parent : (p r : ℕ) (q : Process) → at f.processes p ≡ Some q → q.parent ≡ Some r → lives f r ≡ true
+  pub descriptors : (p : ℕ) (q : Process) → at f.processes p ≡ Some q → length q.fds ≡ 32
+
+-- a claimant lives and has a descriptor on the end that it claims
+pub record ClaimsSound (f : Frame) : Type 0 where
+  pub claimant : (o end p : ℕ) (x : Object) → at f.objects o ≡ Some x → at x.claims end ≡ Some p → is_claimant f o end p ≡ true
+
+-- ---- limits
+-- Each table is as long as its limit, an object that isn't a pipe lies on the file system of its number, and all counts
+-- and lengths are within the limits. The next pid, the length of the processes' table, is above every pid by what a table is.
+pub record WithinLimits (w : World) : Type 0 where
+  pub objects : length w.frame.objects ≡ first_inode w.frame.fss (length w.frame.fss) + w.frame.limits.pipes
+  pub numbers : (o k : ℕ) (x : Object) → at w.frame.objects o ≡ Some x → x.fs ≡ Some k → (first_inode w.frame.fss k ≤ o) × (o < first_inode w.frame.fss k + inodes_of w.frame.fss k)
+  pub opens : length w.frame.opens ≡ w.frame.limits.opens
+  pub processes : count_by is_some w.frame.processes ≤ w.frame.limits.procs
+  pub names : names_in_all w.frame.objects ≤ w.frame.limits.names
+  pub log : length w.frame.log ≤ w.frame.limits.log
+  pub holdings : length w.content.holdings ≡ length w.frame.objects
+  pub offsets : length w.content.offsets ≡ length w.frame.opens
+  pub offset : (e : ℕ) → offset_of w.content e ≤ 1048576
+  pub file : (o : ℕ) (x : Object) → at w.frame.objects o ≡ Some x → is_pipe x ≡ false → length (holding_of w.content o).first ≤ 1048576
+  pub pipe : (o : ℕ) (x : Object) → at w.frame.objects o ≡ Some x → is_pipe x ≡ true → (length (holding_of w.content o).first ≤ 4096) × (length (holding_of w.content o).second ≤ 4096)
+  pub blocks : (k : ℕ) → blocks_where (lies_on w.frame (Some k)) 0 w.content.holdings ≤ blocks_on w.frame (Some k)
+
+-- ---- the whole
+pub record Sound (w : World) : Type 0 where
+  pub labels : LabelsBelow w.frame
+  pub names : NamesSound w.frame
+  pub lives : LivesSound w.frame
+  pub opens : OpensSound w.frame
+  pub processes : ProcessesSound w.frame
+  pub claims : ClaimsSound w.frame
+  pub limits : WithinLimits w
