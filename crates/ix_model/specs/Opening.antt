@@ -4,7 +4,7 @@ use Rattle.std.specs.Option.{option_map_or}
 use Rattle.std.proofs.Common.{option_map}
 use Rattle.ix_label.specs.Category.{bottom}
 use Rattle.ix_model.specs.Privs.{no_privileges}
-use Rattle.ix_model.specs.World.{World, Frame, Object, Process, at, put, change, lowest_free}
+use Rattle.ix_model.specs.World.{World, Frame, Object, Process, at, put, change, lowest_free, no_claims}
 use Rattle.ix_model.specs.Walks.{node, child}
 use Rattle.ix_model.specs.Step.{holds_nothing}
 use Rattle.ix_model.specs.declared.reply.Kind.TheVariants as kind
@@ -28,7 +28,7 @@ free_inode f k = option_map (λ n. first_inode f.fss k + n) (lowest_free (take (
 
 -- ---- before any line
 abbrev pub root_of : ℕ → Object
-root_of k = record { kind = kind.Dir; fs = Some k; label = bottom; frozen = false; cap = no_privileges; lic = no_privileges; claims = []; names = [] }
+root_of k = record { kind = kind.Dir; fs = Some k; label = bottom; frozen = false; cap = no_privileges; lic = no_privileges; claims = no_claims; names = [] }
 
 -- the inodes of file systems from number k on: the root of each, and nothing else
 abbrev pub bare : ℕ → List FsSpec → List (Option Object)
@@ -59,7 +59,7 @@ abbrev pub last_name : List (List ℕ) → List ℕ
 last_name names = slice_index_or names (length names - 1) []
 
 abbrev pub object_of : ℕ → ObjSpec → Object
-object_of k spec = record { kind = if spec.dir then kind.Dir else kind.File; fs = Some k; label = spec.label; frozen = spec.frozen; cap = spec.cap; lic = spec.lic; claims = []; names = [] }
+object_of k spec = record { kind = if spec.dir then kind.Dir else kind.File; fs = Some k; label = spec.label; frozen = spec.frozen; cap = spec.cap; lic = spec.lic; claims = no_claims; names = [] }
 
 -- the object under its number and, in its directory, under its name
 abbrev pub placed : World → ObjSpec → ℕ → ℕ → ℕ → World

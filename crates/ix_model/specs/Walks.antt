@@ -5,7 +5,7 @@ use Rattle.std.proofs.Common.{option_map}
 use Rattle.ix_label.specs.Category.{Categories, bottom, join}
 use Rattle.ix_model.specs.Naming.{PathOf, same_bytes}
 use Rattle.ix_model.specs.Privs.{no_privileges}
-use Rattle.ix_model.specs.World.{Object, Process, Open, Frame, at, living, is_dir}
+use Rattle.ix_model.specs.World.{Object, Process, Open, Frame, at, living, is_dir, no_claims}
 use Rattle.ix_model.specs.Outcomes.{Row}
 use Rattle.ix_model.specs.Rows.{◌>>=◌, ◌>>◌, pass, refuse, some, frame, caller, observe}
 use Rattle.ix_model.specs.declared.reply.Kind.TheVariants as kind
@@ -26,7 +26,7 @@ pub record Walk : Type 0 where
 
 -- an empty file at bottom stands for what isn't there
 abbrev pub nothing : Object
-nothing = record { kind = kind.File; fs = None; label = bottom; frozen = false; cap = no_privileges; lic = no_privileges; claims = []; names = [] }
+nothing = record { kind = kind.File; fs = None; label = bottom; frozen = false; cap = no_privileges; lic = no_privileges; claims = no_claims; names = [] }
 
 abbrev pub node : List (Option Object) → ℕ → Object
 node objects n = unwrap_or (at objects n) nothing

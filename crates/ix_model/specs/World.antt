@@ -13,7 +13,7 @@ use Rattle.ix_model.specs.declared.audit.AuditLine.{AuditLine}
 use Rattle.ix_model.specs.declared.config.FsSpec.{FsSpec}
 use Rattle.ix_model.specs.declared.config.Limits.{Limits}
 
--- A file, a directory or a pipe, without what it holds. A pipe has no file system, and two claims, each a pid or none.
+-- A file, a directory or a pipe, without what it holds. A pipe has no file system, and a claim on each end: a pid or none.
 -- A directory has pairs of a name and an object's number, in order of making.
 pub record Object : Type 0 where
   pub kind : Kind
@@ -103,6 +103,10 @@ ceiling_of fss o = option_map_or (λ k. option_map_or (λ s. s.ceiling) (slice_i
 -- whether a process other than this one has claimed the end
 abbrev pub held_from : Object → ℕ → ℕ → Bool
 held_from o end pid = option_map_or (λ p. not (p == pid)) (at o.claims end) false
+
+-- what is no pipe has no claims, and a new pipe has none yet
+abbrev pub no_claims : List (Option ℕ)
+no_claims = None ∷ None ∷ []
 
 -- ---- processes and open entries
 -- a process, where it lives

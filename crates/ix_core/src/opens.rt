@@ -1,0 +1,52 @@
+ghost use Rattle.std.specs.Prelude.{◌≡◌};
+ghost use Rattle.ix_model.specs.World.{may_read, may_write, is_on};
+
+use ix_model::Mode;
+use std::marker::Model;
+
+/// An open entry: an object, or an end of a pipe. The end of a file's entry is 0.
+#[derive(Clone, Copy)]
+pub struct OpenRow {
+    pub object: usize,
+    pub end: usize,
+    pub mode: Mode,
+}
+
+impl Model for OpenRow {
+    ghost use Rattle.ix_model.specs.World.{Open};
+
+    ghost Value = { Open };
+
+    ghost view = { λ e. record { object = e.object; end = e.end; mode = e.mode } };
+
+    ghost inverse = { λ e. record { object = e.object; end = e.end; mode = e.mode } };
+}
+
+/// The open entry behind a descriptor, with its number.
+#[derive(Clone, Copy)]
+pub struct Behind {
+    pub id: usize,
+    pub entry: OpenRow,
+}
+
+pub fn may_read(mode: Mode) -> bool
+    ensures { result ≡ may_read mode }
+{
+    matches!(mode, Mode::Read | Mode::Both)
+}
+
+pub fn may_write(mode: Mode) -> bool
+    ensures { result ≡ may_write mode }
+{
+    matches!(mode, Mode::Write | Mode::Both)
+}
+
+/// Whether the open entry is on that end of that object.
+pub fn is_on(object: usize, end: usize, open: &Option<OpenRow>) -> bool
+    ensures { result ≡ is_on object end open.now }
+{
+    match open {
+        Some(entry) => entry.object == object && entry.end == end,
+        None => false,
+    }
+}
