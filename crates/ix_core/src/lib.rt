@@ -1,14 +1,15 @@
 //! The machine in plain lists, and the core that keeps the history that led to it.
 #![tactic(auto)]
 
-mod boot;
+
+
+
+
 mod contents;
-mod keeper;
-mod machine;
 mod objects;
 mod opens;
 mod processes;
-mod stored;
+
 mod tables;
 
-pub use keeper::Core;
+

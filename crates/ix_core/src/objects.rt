@@ -1,6 +1,7 @@
 ghost use Rattle.std.specs.Prelude.{◌≡◌};
-ghost use Rattle.ix_model.specs.World.{is_dir, is_file, is_pipe, held_from};
+ghost use Rattle.ix_model.specs.World.{is_dir, is_file, is_pipe, is_trusted, held_from};
 
+use bitflags::Flags;
 use ix_label::Label;
 use ix_model::{Kind, Name, PrivSet};
 use std::marker::Model;
@@ -50,6 +51,13 @@ impl ObjectRow {
         ensures { result ≡ is_pipe self.now }
     {
         matches!(self.kind, Kind::Pipe)
+    }
+
+    /// Whether it is a file that carries privileges.
+    pub fn is_trusted(&self) -> bool
+        ensures { result ≡ is_trusted self.now }
+    {
+        self.is_file() && !(self.cap.is_empty() && self.lic.is_empty())
     }
 
     /// Whether a process other than this one has claimed the end.

@@ -1,9 +1,8 @@
 -- The call table: of each call its tests in order, its effect and its reply.
 use Rattle.std.specs.Prelude.{ℕ, ◌-◌, nat_le, Bool, not, ◌&&◌, ◌||◌, Some, if◌then◌else◌}
 use Rattle.ix_model.specs.Naming.{PathOf}
-use Rattle.ix_model.specs.Privs.{is_empty}
 use Rattle.ix_model.specs.Refusals.{keeps_label}
-use Rattle.ix_model.specs.World.{Frame, put, lowest_free, lives, is_file, is_dir, is_pipe, may_read, may_write, held, held_from}
+use Rattle.ix_model.specs.World.{Frame, put, lowest_free, lives, is_file, is_dir, is_pipe, is_trusted, may_read, may_write, held, held_from}
 use Rattle.ix_model.specs.Outcomes.{Outcome, Refuse, Pass, Row}
 use Rattle.ix_model.specs.Rows.{◌>>=◌, ◌>>◌, pass, need, some, frame, caller, object, change_caller, put_open, observe, affect, refuse}
 use Rattle.ix_model.specs.Walks.{found, opened}
@@ -62,9 +61,9 @@ write_fd t pid fd = do
   x ← object e.entry.object
   need (not (held_from x e.entry.end pid)) refusal.PexHeld
   need (not t.too_big) refusal.TooBig
-  need (not (is_file x) || (is_empty x.cap && is_empty x.lic)) refusal.Trusted
+  need (not (is_trusted x)) refusal.Trusted
   f ← frame
-  need (not (is_pipe x) || held f.opens e.entry.object (1 - e.entry.end)) refusal.Broken
+  need (not (is_pipe x && not (held f.opens e.entry.object (1 - e.entry.end)))) refusal.Broken
   need (not t.full) refusal.PipeFull
   need (not t.no_space) refusal.NoSpace
   affect pid e.entry.object

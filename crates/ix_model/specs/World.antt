@@ -1,9 +1,10 @@
 -- The machine's world: the frame that calls decide on, and the content that it holds.
-use Rattle.std.specs.Prelude.{ℕ, Bool, true, false, not, ◌&&◌, ◌==◌, if◌then◌else◌, List, map, position, Option, Some, None, is_none, slice_set, slice_index_or}
+use Rattle.std.specs.Prelude.{ℕ, Bool, true, false, not, ◌&&◌, ◌==◌, if◌then◌else◌, List, [], ◌∷◌, map, position, Option, Some, None, is_none, slice_set, slice_index_or}
 use Rattle.std.specs.Option.{option_map_or}
 use Rattle.std.proofs.Common.{option_map}
 use Rattle.std.specs.List.{list_any}
 use Rattle.ix_label.specs.Category.{Categories, top}
+use Rattle.ix_model.specs.Privs.{is_empty}
 use Rattle.ix_model.specs.declared.call.Mode.{Mode}
 use Rattle.ix_model.specs.declared.call.Mode.TheVariants as mode
 use Rattle.ix_model.specs.declared.reply.Kind.{Kind}
@@ -95,6 +96,10 @@ is_dir o = elim o.kind [ kind.Dir ↦ true | _ ↦ false ]
 
 abbrev pub is_pipe : Object → Bool
 is_pipe o = elim o.kind [ kind.Pipe ↦ true | _ ↦ false ]
+
+-- a file that carries privileges
+abbrev pub is_trusted : Object → Bool
+is_trusted o = is_file o && not (is_empty o.cap && is_empty o.lic)
 
 -- the ceiling of a file system, and of an object: a pipe's is top
 abbrev pub ceiling_of : List FsSpec → Object → Categories

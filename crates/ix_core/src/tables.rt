@@ -1,0 +1,131 @@
+ghost use Rattle.std.specs.Prelude.{◌≡◌, ℕ, ◌<◌, length, IsTrue, IfSome, Some, false, is_some, [], map, slice_get};
+ghost use Rattle.std.specs.Option.{option_map, option_copied, option_map_or};
+ghost use Rattle.ix_model.specs.World.{at, put, change, lowest_free, lives, held, ceiling_of};
+ghost use Rattle.ix_model.specs.Walks.{node, behind};
+ghost use Rattle.ix_core.specs.Meanings.{behind_of, label_at};
+
+mod calls;
+mod floats;
+mod walks;
+
+pub use calls::Told;
+
+use crate::objects::ObjectRow;
+use crate::opens::{Behind, OpenRow, is_on};
+use crate::processes::ProcessRow;
+use ix_label::Label;
+use ix_model::{AuditLine, Fd, FsSpec, Limits};
+use std::marker::Model;
+
+/// The frame of a world: all but bytes, offsets and exit statuses.
+#[derive(Drop)]
+pub struct Tables {
+    limits: Limits,
+    fss: Vec<FsSpec>,
+    objects: Vec<Option<ObjectRow>>,
+    processes: Vec<Option<ProcessRow>>,
+    opens: Vec<Option<OpenRow>>,
+    log: Vec<AuditLine>,
+}
+
+impl Model for Tables {
+    ghost use Rattle.ix_model.specs.World.{Frame};
+    ghost use Rattle.std.specs.Coded.{codes};
+    ghost use Rattle.ix_label.specs.contracts.label.Label as label_type;
+
+    ghost Value = { Frame };
+
+    ghost coded = { Prim.hlevel (codes, label_type.the_row.coded) };
+
+    ghost view = { λ m. record { limits = m.limits; fss = m.fss.items; objects = m.objects.items; processes = m.processes.items; opens = m.opens.items; log = m.log.items } };
+}
+
+impl Tables {
+    /// Whether the process lives.
+    pub fn lives(&self, pid: usize) -> bool
+        ensures { result ≡ lives self.now pid }
+    {
+        match self.processes.get(pid) {
+            Some(Some(p)) => !p.ended,
+            _ => false,
+        }
+    }
+
+    /// The living process of a pid.
+    fn caller(&self, pid: usize) -> &ProcessRow
+        requires { IsTrue (lives self.now pid) }
+        ensures at { at self.now.processes pid ≡ Some result.now }
+        ensures living { result.now.ended ≡ false }
+    {
+        match self.processes.get(pid) {
+            Some(Some(p)) => p,
+            _ => unreachable!(),
+        }
+    }
+
+    /// The label of a living process.
+    fn process_label(&self, pid: usize) -> Label
+        requires { IsTrue (lives self.now pid) }
+        ensures { label_at self.now pid ≡ Some result }
+    {
+        self.caller(pid).label
+    }
+
+    /// The object of a number.
+    pub fn object(&self, n: usize) -> Option<&ObjectRow>
+        ensures { option_copied result ≡ at self.now.objects n }
+    {
+        match self.objects.get(n) {
+            Some(Some(o)) => Some(o),
+            _ => None,
+        }
+    }
+
+    /// The lowest free open entry.
+    fn free_open(&self) -> Option<usize>
+        ensures free { result ≡ lowest_free self.now.opens }
+        ensures within { IfSome result (λ e. e < length self.now.opens) }
+    {
+        self.opens.iter().position(|e| e.is_none())
+    }
+
+    /// Whether an open entry is on that end of that object.
+    fn held(&self, object: usize, end: usize) -> bool
+        ensures { result ≡ held self.now.opens object end }
+    {
+        self.opens.iter().any(|e| is_on(object, end, e))
+    }
+
+    /// The open entry behind a descriptor of a living process.
+    #[tactic(auto, unfolding(ix_model::specs::Walks::behind))]
+    pub fn behind(&self, pid: usize, fd: Fd) -> Option<Behind>
+        ensures fd { IfSome result (λ e. fd.0 < 32) }
+        ensures behind { option_map behind_of result ≡ behind self.now pid fd.0 }
+    {
+        if !self.lives(pid) {
+            return None;
+        }
+        match self.caller(pid).fds.get(fd.0 as usize) {
+            Some(Some(id)) => match self.opens.get(*id) {
+                Some(Some(entry)) => Some(Behind {
+                    id: *id,
+                    entry: *entry,
+                }),
+                _ => None,
+            },
+            _ => None,
+        }
+    }
+
+    /// Sets a living process's label.
+    fn set_process_label(&mut self, pid: usize, label: Label)
+        requires { IsTrue (lives self.old pid) }
+        ensures put { self.new ≡ record self.old { processes = change self.old.processes pid (λ q. record q { label = label }) } }
+    {
+        if let Some(slot) = self.processes.get_mut(pid) {
+            if let Some(p) = slot {
+                p.label = label;
+            }
+        }
+    }
+}
