@@ -1,12 +1,12 @@
 -- What the core's own values mean, and what its methods keep.
-use Rattle.std.specs.Prelude.{◌≡◌, ◌≤◌, ℕ, false, true, List, Option, Some, None, Result, Ok, Err}
+use Rattle.std.specs.Prelude.{◌≡◌, ◌≤◌, ◌+◌, ℕ, Bool, false, true, if◌then◌else◌, take, drop, List, Option, Some, None, Result, Ok, Err, slice_set}
 use Rattle.std.proofs.Common.{option_map}
 use Rattle.ix_label.specs.Category.{Categories}
-use Rattle.ix_model.specs.World.{World, Frame, Process, at, change, lives}
+use Rattle.ix_model.specs.World.{World, Frame, Content, Holding, Process, at, change, lives}
 use Rattle.ix_model.specs.Walks as walks
 use Rattle.ix_model.specs.Walks.{Walk, Sought, join_all}
 use Rattle.ix_model.specs.Table as table
-use Rattle.ix_model.specs.Step.{Given, put_front}
+use Rattle.ix_model.specs.Step.{Given, put_front, holding_of, offset_of, side, with_side}
 use Rattle.ix_model.specs.History.{Op}
 use Rattle.ix_model.specs.History as op
 use Rattle.ix_model.specs.declared.memory.NoMemory.{NoMemory}
@@ -21,7 +21,7 @@ use Rattle.ix_core.specs.declared.tables.calls.Told.{Told}
 
 -- ---- values
 abbrev pub behind_of : Behind → walks.Behind
-behind_of b = record { id = b.id; entry = b.entry }
+behind_of b = record { id = b.id; entry = record { object = b.object; end = b.end; mode = b.mode } }
 
 abbrev pub sought_of : Walked → Sought
 sought_of (walked.Found obj dir) = walks.Found obj dir
@@ -42,6 +42,26 @@ seen_in w = record { outcome = w.outcome; label = join_all w.looked }
 
 abbrev pub told_of : Told → table.Told
 told_of t = record { too_big = t.too_big; full = t.full; no_space = t.no_space; empty = t.empty }
+
+-- the content with another holding of an object
+abbrev pub with_holding : ℕ → Holding → Content → Content
+with_holding o h c = record c { holdings = slice_set c.holdings o h }
+
+-- what a read of so many bytes gives, from the front of a pipe's side or from a file's offset
+abbrev pub front : Bool → Content → walks.Behind → ℕ → List ℕ
+front is_pipe c e count = take count (drop (if is_pipe then 0 else offset_of c e.id) (side e.entry.end (holding_of c e.entry.object)))
+
+-- the content once so many bytes were read: a pipe's are taken, a file's offset moves
+abbrev pub fronted : Bool → walks.Behind → ℕ → Content → Content
+fronted is_pipe e k c =
+    if is_pipe then with_holding e.entry.object (with_side e.entry.end (drop k (side e.entry.end (holding_of c e.entry.object))) (holding_of c e.entry.object)) c
+    else record c { offsets = slice_set c.offsets e.id (offset_of c e.id + k) }
+
+-- the calls that edit no content
+abbrev pub IsPlain : Op → Type 0
+IsPlain (op.ReadFd fd count) = ⊥
+IsPlain (op.WriteFd fd bytes) = ⊥
+IsPlain _ = Unit {0}
 
 -- ---- what methods keep
 -- the label of the process at a pid

@@ -5,7 +5,10 @@
 
 
 
+mod blocks;
 mod contents;
+mod holdings;
+mod machine;
 mod objects;
 mod opens;
 mod processes;

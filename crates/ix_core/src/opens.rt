@@ -26,7 +26,9 @@ impl Model for OpenRow {
 #[derive(Clone, Copy)]
 pub struct Behind {
     pub id: usize,
-    pub entry: OpenRow,
+    pub object: usize,
+    pub end: usize,
+    pub mode: Mode,
 }
 
 pub fn may_read(mode: Mode) -> bool

@@ -1,7 +1,8 @@
-ghost use Rattle.std.specs.Prelude.{◌≡◌, ℕ, ◌<◌, length, IsTrue, IfSome, Some, false, is_some, [], map, slice_get};
+ghost use Rattle.std.specs.Prelude.{◌≡◌, ℕ, ◌<◌, length, IsTrue, IfSome, Some, false, ◌^◌};
 ghost use Rattle.std.specs.Option.{option_map, option_copied, option_map_or};
 ghost use Rattle.ix_model.specs.World.{at, put, change, lowest_free, lives, held, ceiling_of};
-ghost use Rattle.ix_model.specs.Walks.{node, behind};
+ghost use Rattle.ix_model.specs.Walks.{behind};
+ghost use Rattle.ix_model.specs.Step.{on_pipe, fs_at, lies_on, blocks_on};
 ghost use Rattle.ix_core.specs.Meanings.{behind_of, label_at};
 
 mod calls;
@@ -109,11 +110,57 @@ impl Tables {
             Some(Some(id)) => match self.opens.get(*id) {
                 Some(Some(entry)) => Some(Behind {
                     id: *id,
-                    entry: *entry,
+                    object: entry.object,
+                    end: entry.end,
+                    mode: entry.mode,
                 }),
                 _ => None,
             },
             _ => None,
+        }
+    }
+
+    /// Whether an open entry is on a pipe.
+    pub fn on_pipe(&self, e: &Behind) -> bool
+        ensures { result ≡ on_pipe self.now (behind_of e.now) }
+    {
+        match self.object(e.object) {
+            Some(x) => x.is_pipe(),
+            None => false,
+        }
+    }
+
+    /// The file system of an object.
+    pub fn fs_at(&self, object: usize) -> Option<usize>
+        ensures { result ≡ fs_at self.now object }
+    {
+        match self.object(object) {
+            Some(x) => x.fs,
+            None => None,
+        }
+    }
+
+    /// Whether an object lies on a file system.
+    pub fn lies_on(&self, fs: Option<usize>, object: usize) -> bool
+        ensures { result ≡ lies_on self.now fs object }
+    {
+        match (fs, self.fs_at(object)) {
+            (Some(k), Some(j)) => j == k,
+            _ => false,
+        }
+    }
+
+    /// How many blocks a file system has.
+    pub fn blocks_on(&self, fs: Option<usize>) -> usize
+        ensures blocks { result ≡ blocks_on self.now fs }
+        ensures few { result < 2 ^ 32 }
+    {
+        match fs {
+            Some(k) => match self.fss.get(k) {
+                Some(fs) => fs.blocks as usize,
+                None => 0,
+            },
+            None => 0,
         }
     }
 

@@ -104,7 +104,7 @@ nothing_told = record { too_big = false; full = false; no_space = false; empty =
 
 unfoldable pub told_of_read : Frame → Content → Option Behind → Told
 told_of_read f c None = nothing_told
-told_of_read f c (Some e) = record nothing_told { empty = nat_le (length (readable f c e)) 0 }
+told_of_read f c (Some e) = record nothing_told { empty = length (readable f c e) == 0 }
 
 -- a pipe takes at most 4,096 bytes in each direction
 abbrev pub told_of_pipe_write : ℕ → ℕ → Told

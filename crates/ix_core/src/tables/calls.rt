@@ -75,11 +75,11 @@ impl Tables {
         ensures back { OnErr result (Restores self.old self.new pid) }
     {
         let e = self.behind(pid, fd).ok_or(Refusal::BadFd)?;
-        if !may_read(e.entry.mode) {
+        if !may_read(e.mode) {
             return Err(Refusal::NotReadable);
         }
-        let x = self.object(e.entry.object).ok_or(Refusal::BadFd)?;
-        if x.held_from(e.entry.end, pid) {
+        let x = self.object(e.object).ok_or(Refusal::BadFd)?;
+        if x.held_from(e.end, pid) {
             return Err(Refusal::PexHeld);
         }
         if count > 4096 {
@@ -108,11 +108,11 @@ impl Tables {
         ensures back { OnErr result (Restores self.old self.new pid) }
     {
         let e = self.behind(pid, fd).ok_or(Refusal::BadFd)?;
-        if !may_write(e.entry.mode) {
+        if !may_write(e.mode) {
             return Err(Refusal::NotWritable);
         }
-        let x = self.object(e.entry.object).ok_or(Refusal::BadFd)?;
-        if x.held_from(e.entry.end, pid) {
+        let x = self.object(e.object).ok_or(Refusal::BadFd)?;
+        if x.held_from(e.end, pid) {
             return Err(Refusal::PexHeld);
         }
         if told.too_big {
@@ -130,7 +130,7 @@ impl Tables {
         if told.no_space {
             return Err(Refusal::NoSpace);
         }
-        self.affect(pid, e.entry.object, steps)?;
+        self.affect(pid, e.object, steps)?;
         Ok(Reply::Number(0))
     }
 
@@ -192,9 +192,9 @@ impl Tables {
 
     /// Whether some open entry is on the other end of the pipe.
     fn is_held_there(&self, e: &Behind) -> bool
-        ensures { result ≡ held self.now.opens e.now.entry.object (1 - e.now.entry.end) }
+        ensures { result ≡ held self.now.opens e.now.object (1 - e.now.end) }
     {
-        self.held(e.entry.object, 1usize.saturating_sub(e.entry.end))
+        self.held(e.object, 1usize.saturating_sub(e.end))
     }
 
     /// Lets a descriptor of a living process name an open entry.
