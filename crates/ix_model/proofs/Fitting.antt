@@ -25,12 +25,12 @@ list_any-map p h [] = refl
 list_any-map p h (x ∷ xs) = rw (list_any-map p h xs) refl
 
 -- names differ from a place on where the name there is none of the rest, and the rest differ
-pub all_differ_step : (fss : List FsSpec) (i : ℕ) (d : FsSpec) (named : Bool) → i < length fss → named ≡ list_any (λ s. same_bytes (get_or fss i d).name s.name) (take (length fss - (i + 1)) (drop (i + 1) fss)) → all_differ (map (λ s. s.name) (drop i fss)) ≡ (not named && all_differ (map (λ s. s.name) (drop (i + 1) fss)))
-all_differ_step fss i d named low is =
-    let name : List ℕ = (get_or fss i d).name in
+pub all_differ_step : (fss : List FsSpec) (i : ℕ) (s : FsSpec) (named : Bool) → i < length fss → s ≡ get_or fss i s → named ≡ list_any (λ t. same_bytes s.name t.name) (take (length fss - (i + 1)) (drop (i + 1) fss)) → all_differ (map (λ t. t.name) (drop i fss)) ≡ (not named && all_differ (map (λ t. t.name) (drop (i + 1) fss)))
+all_differ_step fss i s named low here is =
     let rest : List FsSpec = drop (i + 1) fss in
-    at_drop_more (λ (xs : List FsSpec). all_differ (map (λ s. s.name) xs)) fss i d low
-    ∙ ap (λ (b : Bool). not b && all_differ (map (λ s. s.name) rest)) (list_any-map (same_bytes name) (λ (s : FsSpec). s.name) rest ∙ sym (is ∙ ap (list_any (λ (s : FsSpec). same_bytes name s.name)) (take_rest fss (i + 1))))
+    at_drop_more (λ (xs : List FsSpec). all_differ (map (λ t. t.name) xs)) fss i s low
+    ∙ ap (λ (x : FsSpec). all_differ (map (λ t. t.name) (x ∷ rest))) (sym here)
+    ∙ ap (λ (b : Bool). not b && all_differ (map (λ t. t.name) rest)) (list_any-map (same_bytes s.name) (λ (t : FsSpec). t.name) rest ∙ sym (is ∙ ap (list_any (λ (t : FsSpec). same_bytes s.name t.name)) (take_rest fss (i + 1))))
 
 -- ---- blocks
 taken-cons : (fss : List FsSpec) (k : ℕ) (b : ObjSpec) (lines : List ObjSpec) → blocks_taken fss k (b ∷ lines) ≡ (if fs_of fss b.path.names == k then blocks_for (length b.bytes) else 0) + blocks_taken fss k lines

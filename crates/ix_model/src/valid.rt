@@ -11,24 +11,14 @@ use crate::name::Name;
 use crate::path::Path;
 use bitflags::Flags;
 use ix_label::Steps;
-use std::marker::Brand;
 use std::sync::ledger::{Blank, Ledger};
 
 /// The bytes of a block.
 const BLOCK: usize = 512;
 
-impl Config {
-    /// Whether each part of it fits, so that a machine can start from it. It takes no memory. Each object line is
-    /// compared with all lines before it, so the time grows with the square of their number.
-    pub fn valid(&self) -> bool
-        ensures { result ≡ is_valid self.now }
-    {
-        is_valid::<Brand>(self, Blank::new(1))
-    }
-}
-
+/// Whether a config is valid. The ledger of the steps is the caller's choice.
 #[tactic(auto, unfolding(crate::specs::Valid::is_valid))]
-fn is_valid<L: Ledger>(c: &Config, blank: Blank) -> bool
+pub(crate) fn is_valid<L: Ledger>(c: &Config, blank: Blank) -> bool
     requires name { blank.name ≡ L.name }
     requires parts { blank.parts ≡ L.parts }
     requires some { 0 < L.parts }
@@ -70,8 +60,8 @@ fn is_named(fss: &[FsSpec], name: &Name) -> bool
 fn all_differ(fss: &[FsSpec]) -> bool
     ensures { result ≡ all_differ (map (λ s. s.name) fss.now) }
 {
-    for i in 0..fss.len() {
-        if is_named(&fss[i + 1..], &fss[i].name) {
+    for (i, s) in fss.iter().enumerate() {
+        if is_named(&fss[i + 1..], &s.name) {
             return false;
         }
     }
@@ -143,10 +133,7 @@ fn fs_of(fss: &[FsSpec], path: &Path) -> usize
 fn is_just(path: &Path, name: &Name) -> bool
     ensures { result ≡ same_names (name.now ∷ []) path.now.names }
 {
-    match path.name(0) {
-        Some(first) => path.len() == 1 && name.same(&first),
-        None => false,
-    }
+    path.len() == 1 && path.name(0).is_some_and(|first| name.same(&first))
 }
 
 fn is_mount(fss: &[FsSpec], path: &Path) -> bool
@@ -248,7 +235,13 @@ fn has_room(fss: &[FsSpec], limits: &Limits, before: &[ObjSpec], o: &ObjSpec) ->
 }
 
 #[tactic(auto, unfolding(crate::specs::Valid::object_fits))]
-fn object_fits<L: Ledger>(fss: &[FsSpec], limits: &Limits, before: &[ObjSpec], o: &ObjSpec, steps: &mut Steps<L>) -> bool
+fn object_fits<L: Ledger>(
+    fss: &[FsSpec],
+    limits: &Limits,
+    before: &[ObjSpec],
+    o: &ObjSpec,
+    steps: &mut Steps<L>,
+) -> bool
     requires { 0 < length fss.now }
     ensures { result ≡ object_fits fss.now limits.now before.now o.now }
 {
@@ -260,12 +253,17 @@ fn object_fits<L: Ledger>(fss: &[FsSpec], limits: &Limits, before: &[ObjSpec], o
 }
 
 /// Whether each line fits after those before it.
-fn objects_fit<L: Ledger>(fss: &[FsSpec], limits: &Limits, objects: &[ObjSpec], steps: &mut Steps<L>) -> bool
+fn objects_fit<L: Ledger>(
+    fss: &[FsSpec],
+    limits: &Limits,
+    objects: &[ObjSpec],
+    steps: &mut Steps<L>,
+) -> bool
     requires { 0 < length fss.now }
     ensures { result ≡ objects_fit fss.now limits.now [] objects.now }
 {
-    for i in 0..objects.len() {
-        if !object_fits(fss, limits, &objects[..i], &objects[i], steps) {
+    for (i, o) in objects.iter().enumerate() {
+        if !object_fits(fss, limits, &objects[..i], o, steps) {
             return false;
         }
     }
