@@ -16,33 +16,39 @@ use std::sync::ledger::{Blank, Ledger};
 /// The bytes of a block.
 const BLOCK: usize = 512;
 
+/// The most bytes that a file has.
+const FILE_MAX: usize = 1_048_576;
+
+/// The most that a journal may cost.
+const JOURNAL_MAX: u64 = 870_400_000;
+
 /// Whether a config is valid. The ledger of the steps is the caller's choice.
 #[tactic(auto, unfolding(crate::specs::Valid::is_valid))]
-pub(crate) fn is_valid<L: Ledger>(c: &Config, blank: Blank) -> bool
+pub(crate) fn is_valid<L: Ledger>(config: &Config, blank: Blank) -> bool
     requires name { blank.name ≡ L.name }
     requires parts { blank.parts ≡ L.parts }
     requires some { 0 < L.parts }
-    ensures { result ≡ is_valid c.now }
+    ensures { result ≡ is_valid config.now }
 {
     let mut steps = Steps::<L>::new(blank);
-    fss_fit(c.fss.as_slice())
-        && limits_fit(&c.limits)
-        && procs_fit(&c.limits, c.procs.as_slice(), &mut steps)
+    fss_fit(config.fss.as_slice())
+        && limits_fit(&config.limits)
+        && procs_fit(&config.limits, config.procs.as_slice(), &mut steps)
         && objects_fit(
-            c.fss.as_slice(),
-            &c.limits,
-            c.objects.as_slice(),
+            config.fss.as_slice(),
+            &config.limits,
+            config.objects.as_slice(),
             &mut steps,
         )
-        && c.journal <= 870_400_000
+        && config.journal <= JOURNAL_MAX
 }
 
 // ---- file systems, limits and processes
 
-fn fs_fits(s: &FsSpec) -> bool
-    ensures { result ≡ fs_fits s.now }
+fn fs_fits(fs: &FsSpec) -> bool
+    ensures { result ≡ fs_fits fs.now }
 {
-    (1..=65_536).contains(&s.blocks) && (1..=65_536).contains(&s.inodes)
+    (1..=65_536).contains(&fs.blocks) && (1..=65_536).contains(&fs.inodes)
 }
 
 fn each_fits(fss: &[FsSpec]) -> bool
@@ -60,8 +66,8 @@ fn is_named(fss: &[FsSpec], name: &Name) -> bool
 fn all_differ(fss: &[FsSpec]) -> bool
     ensures { result ≡ all_differ (map (λ s. s.name) fss.now) }
 {
-    for (i, s) in fss.iter().enumerate() {
-        if is_named(&fss[i + 1..], &s.name) {
+    for (i, fs) in fss.iter().enumerate() {
+        if is_named(&fss[i + 1..], &fs.name) {
             return false;
         }
     }
@@ -77,14 +83,14 @@ fn fss_fit(fss: &[FsSpec]) -> bool
 }
 
 #[tactic(auto, unfolding(crate::specs::Valid::limits_fit))]
-fn limits_fit(l: &Limits) -> bool
-    ensures { result ≡ limits_fit l.now }
+fn limits_fit(limits: &Limits) -> bool
+    ensures { result ≡ limits_fit limits.now }
 {
-    (1..=1024).contains(&l.procs)
-        && (1..=4096).contains(&l.opens)
-        && l.pipes <= 1024
-        && (16..=65_536).contains(&l.names)
-        && l.log <= 65_536
+    (1..=1024).contains(&limits.procs)
+        && (1..=4096).contains(&limits.opens)
+        && limits.pipes <= 1024
+        && (16..=65_536).contains(&limits.names)
+        && limits.log <= 65_536
 }
 
 fn below_ceilings<L: Ledger>(procs: &[ProcSpec], steps: &mut Steps<L>) -> bool
@@ -168,21 +174,22 @@ fn is_dir_there(fss: &[FsSpec], before: &[ObjSpec], path: &Path) -> bool
 
 // ---- object lines
 
-fn is_well_formed(o: &ObjSpec) -> bool
-    ensures { result ≡ is_well_formed o.now }
+fn is_well_formed(object: &ObjSpec) -> bool
+    ensures { result ≡ is_well_formed object.now }
 {
-    o.path.absolute()
-        && o.path.len() >= 1
-        && o.bytes.len() <= 1_048_576
-        && (!o.dir || (o.cap.is_empty() && o.lic.is_empty() && o.bytes.len() == 0))
+    object.path.absolute()
+        && object.path.len() >= 1
+        && object.bytes.len() <= FILE_MAX
+        && (!object.dir
+            || (object.cap.is_empty() && object.lic.is_empty() && object.bytes.len() == 0))
 }
 
-fn is_below_ceiling<L: Ledger>(fss: &[FsSpec], o: &ObjSpec, steps: &mut Steps<L>) -> bool
+fn is_below_ceiling<L: Ledger>(fss: &[FsSpec], object: &ObjSpec, steps: &mut Steps<L>) -> bool
     requires { 0 < length fss.now }
-    ensures { result ≡ leq o.now.label (fs_ceiling fss.now (fs_of fss.now o.now.path.names)) }
+    ensures { result ≡ leq object.now.label (fs_ceiling fss.now (fs_of fss.now object.now.path.names)) }
 {
-    let k = fs_of(fss, &o.path);
-    o.label.leq(&fss[k].ceiling, steps)
+    let k = fs_of(fss, &object.path);
+    object.label.leq(&fss[k].ceiling, steps)
 }
 
 fn has_inode(fss: &[FsSpec], k: usize, before: &[ObjSpec]) -> bool
@@ -207,9 +214,9 @@ fn blocks_for(len: usize) -> usize
     len.div_ceil(BLOCK)
 }
 
-fn has_blocks(fss: &[FsSpec], k: usize, before: &[ObjSpec], o: &ObjSpec) -> bool
+fn has_blocks(fss: &[FsSpec], k: usize, before: &[ObjSpec], object: &ObjSpec) -> bool
     requires { k < length fss.now }
-    ensures { result ≡ nat_le (blocks_taken fss.now k before.now + blocks_for (length o.now.bytes)) (blocks_of fss.now k) }
+    ensures { result ≡ nat_le (blocks_taken fss.now k before.now + blocks_for (length object.now.bytes)) (blocks_of fss.now k) }
 {
     let mut left = fss[k].blocks as usize;
     for b in before {
@@ -221,17 +228,17 @@ fn has_blocks(fss: &[FsSpec], k: usize, before: &[ObjSpec], o: &ObjSpec) -> bool
             left -= needed;
         }
     }
-    blocks_for(o.bytes.len()) <= left
+    blocks_for(object.bytes.len()) <= left
 }
 
-fn has_room(fss: &[FsSpec], limits: &Limits, before: &[ObjSpec], o: &ObjSpec) -> bool
+fn has_room(fss: &[FsSpec], limits: &Limits, before: &[ObjSpec], object: &ObjSpec) -> bool
     requires { 0 < length fss.now }
-    ensures { result ≡ has_room fss.now limits.now before.now o.now }
+    ensures { result ≡ has_room fss.now limits.now before.now object.now }
 {
-    let k = fs_of(fss, &o.path);
+    let k = fs_of(fss, &object.path);
     fss.len() + before.len() <= limits.names as usize
         && has_inode(fss, k, before)
-        && has_blocks(fss, k, before, o)
+        && has_blocks(fss, k, before, object)
 }
 
 #[tactic(auto, unfolding(crate::specs::Valid::object_fits))]
@@ -239,17 +246,17 @@ fn object_fits<L: Ledger>(
     fss: &[FsSpec],
     limits: &Limits,
     before: &[ObjSpec],
-    o: &ObjSpec,
+    object: &ObjSpec,
     steps: &mut Steps<L>,
 ) -> bool
     requires { 0 < length fss.now }
-    ensures { result ≡ object_fits fss.now limits.now before.now o.now }
+    ensures { result ≡ object_fits fss.now limits.now before.now object.now }
 {
-    is_well_formed(o)
-        && is_below_ceiling(fss, o, steps)
-        && !is_there(fss, before, &o.path)
-        && is_dir_there(fss, before, &o.path.parent())
-        && has_room(fss, limits, before, o)
+    is_well_formed(object)
+        && is_below_ceiling(fss, object, steps)
+        && !is_there(fss, before, &object.path)
+        && is_dir_there(fss, before, &object.path.parent())
+        && has_room(fss, limits, before, object)
 }
 
 /// Whether each line fits after those before it.
@@ -262,10 +269,13 @@ fn objects_fit<L: Ledger>(
     requires { 0 < length fss.now }
     ensures { result ≡ objects_fit fss.now limits.now [] objects.now }
 {
-    for (i, o) in objects.iter().enumerate() {
-        if !object_fits(fss, limits, &objects[..i], o, steps) {
+    for (i, object) in objects.iter().enumerate() {
+        if !object_fits(fss, limits, &objects[..i], object, steps) {
             return false;
         }
     }
     true
 }
+
+#[cfg(test)]
+mod tests;
