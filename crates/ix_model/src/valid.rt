@@ -216,7 +216,8 @@ fn blocks_for(len: usize) -> usize
 
 fn has_blocks(fss: &[FsSpec], k: usize, before: &[ObjSpec], object: &ObjSpec) -> bool
     requires { k < length fss.now }
-    ensures { result ≡ nat_le (blocks_taken fss.now k before.now + blocks_for (length object.now.bytes)) (blocks_of fss.now k) }
+    ensures { result ≡ nat_le (blocks_taken fss.now k before.now + blocks_for (length object.now.bytes))
+        (blocks_of fss.now k) }
 {
     let mut left = fss[k].blocks as usize;
     for b in before {
