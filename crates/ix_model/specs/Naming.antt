@@ -7,6 +7,10 @@ use Rattle.std.specs.Cmp.Lexicographic.{pointwise}
 abbrev pub same_bytes : List ℕ → List ℕ → Bool
 same_bytes a b = pointwise nat_eq a b
 
+-- whether two lists of names are one
+abbrev pub same_names : List (List ℕ) → List (List ℕ) → Bool
+same_names a b = pointwise same_bytes a b
+
 -- a byte of a name: neither a slash nor zero
 abbrev pub may_stand_in_name : ℕ → Bool
 may_stand_in_name b = not (b == 47) && not (b == 0)

@@ -2,9 +2,8 @@
 use Rattle.std.specs.Prelude.{ℕ, suc, ◌+◌, ◌-◌, ◌==◌, nat_le, Bool, true, not, ◌&&◌, ◌||◌, List, [], ◌∷◌, ◌++◌, length, map, sum, filter, take, drop, position, Option, Some}
 use Rattle.std.specs.Option.{option_map_or}
 use Rattle.std.specs.List.{list_all, list_any}
-use Rattle.std.specs.Cmp.Lexicographic.{pointwise}
 use Rattle.ix_label.specs.Category.{Categories, leq, top}
-use Rattle.ix_model.specs.Naming.{same_bytes}
+use Rattle.ix_model.specs.Naming.{same_bytes, same_names}
 use Rattle.ix_model.specs.Privs.{is_empty}
 use Rattle.ix_model.specs.Opening.{inodes_of}
 use Rattle.ix_model.specs.World.{at}
@@ -17,10 +16,6 @@ use Rattle.ix_model.specs.declared.config.ObjSpec.{ObjSpec}
 
 abbrev pub is_within : ℕ → ℕ → ℕ → Bool
 is_within low high n = nat_le low n && nat_le n high
-
--- whether two lists of names are one
-abbrev pub same_names : List (List ℕ) → List (List ℕ) → Bool
-same_names a b = pointwise same_bytes a b
 
 -- ---- file systems, limits and processes
 -- no name stands twice
@@ -81,13 +76,17 @@ is_dir_there fss before names = same_names [] names || is_mount fss names || lis
 abbrev pub lying_on : List FsSpec → ℕ → List ObjSpec → List ObjSpec
 lying_on fss k before = filter (λ b. fs_of fss b.path.names == k) before
 
+-- the blocks that the lines on a file system take
+abbrev pub blocks_taken : List FsSpec → ℕ → List ObjSpec → ℕ
+blocks_taken fss k lines = sum (map (λ b. blocks_for (length b.bytes)) (lying_on fss k lines))
+
 -- there is a name, an inode and blocks for one object more
 abbrev pub has_room : List FsSpec → Limits → List ObjSpec → ObjSpec → Bool
 has_room fss l before o =
     let k = fs_of fss o.path.names in
     nat_le (length fss + length before) l.names
     && nat_le (length (lying_on fss k before) + 2) (inodes_of fss k)
-    && nat_le (sum (map (λ b. blocks_for (length b.bytes)) (lying_on fss k before)) + blocks_for (length o.bytes)) (blocks_of fss k)
+    && nat_le (blocks_taken fss k before + blocks_for (length o.bytes)) (blocks_of fss k)
 
 -- an object line fits after those before it
 unfoldable pub object_fits : List FsSpec → Limits → List ObjSpec → ObjSpec → Bool

@@ -3,7 +3,10 @@ use crate::list::List;
 use crate::name::Name;
 use crate::path::Path;
 use crate::privs::PrivSet;
+use crate::valid::is_valid;
 use ix_label::Label;
+use std::marker::Brand;
+use std::sync::ledger::Blank;
 
 /// A file system.
 #[derive(Clone, Copy)]
@@ -71,4 +74,20 @@ pub struct Config {
     pub objects: List<ObjSpec>,
     /// What the journal may cost, at most 870,400,000.
     pub journal: u64,
+}
+
+impl Config {
+    ghost use Rattle.std.specs.Prelude.{◌≡◌};
+    ghost use Rattle.ix_model.specs.Valid.{is_valid};
+
+    /// Whether a machine can start from it: whether its file systems, limits and processes are within their bounds,
+    /// each object line can be carried out after those before it, and the journal is within its limit.
+    ///
+    /// It takes no memory. Each object line is compared with all lines before it, so the time grows with the square of
+    /// their number.
+    pub fn valid(&self) -> bool
+        ensures { result ≡ is_valid self.now }
+    {
+        is_valid::<Brand>(self, Blank::new(1))
+    }
 }

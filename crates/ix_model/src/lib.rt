@@ -14,6 +14,7 @@ mod path;
 mod privs;
 mod refusal;
 mod reply;
+mod valid;
 mod views;
 
 pub use audit::{Act, AuditLine};

@@ -1,6 +1,6 @@
 ghost use Rattle.std.specs.Prelude.{◌≡◌, ℕ, ◌≤◌, length, IsTrue, MatchOption};
 ghost use Rattle.std.specs.List.{list_all};
-ghost use Rattle.ix_model.specs.Naming.{is_name, may_stand_in_name};
+ghost use Rattle.ix_model.specs.Naming.{is_name, may_stand_in_name, same_bytes};
 
 use std::marker::Model;
 
@@ -70,5 +70,11 @@ impl Name {
         ensures few { length self.now ≤ 28 }
     {
         &self.bytes[..self.len as usize]
+    }
+    /// Whether the two are one name, byte for byte.
+    pub fn same(&self, other: &Name) -> bool
+        ensures { result ≡ same_bytes self.now other.now }
+    {
+        self.as_bytes() == other.as_bytes()
     }
 }

@@ -1,6 +1,6 @@
-ghost use Rattle.std.specs.Prelude.{◌≡◌, ℕ, ◌≤◌, ◌<◌, length, IsTrue, ◌↔◌, slice_get, []};
+ghost use Rattle.std.specs.Prelude.{◌≡◌, ℕ, ◌≤◌, ◌<◌, ◌-◌, length, take, IsTrue, ◌↔◌, slice_get, []};
 ghost use Rattle.std.specs.Bool.{OnTrue, OnFalse};
-ghost use Rattle.ix_model.specs.Naming.{PathOf, add_name};
+ghost use Rattle.ix_model.specs.Naming.{PathOf, add_name, same_names};
 
 use crate::name::Name;
 use std::marker::Model;
@@ -76,5 +76,34 @@ impl Path {
         ensures { result ≡ self.now.absolute }
     {
         self.absolute
+    }
+    /// The path without its last name. One that has no names stays as it is.
+    pub fn parent(&self) -> Path
+        ensures { result ≡ record self.now { names = take (length self.now.names - 1) self.now.names } }
+    {
+        let mut parent = *self;
+        if parent.count > 0 {
+            parent.count -= 1;
+            parent.slots[parent.count as usize] = None;
+        }
+        parent
+    }
+
+    /// Whether the two have the same names in the same order, wherever they begin.
+    pub fn same_names(&self, other: &Path) -> bool
+        ensures { result ≡ same_names self.now.names other.now.names }
+    {
+        if self.len() != other.len() {
+            return false;
+        }
+        for i in 0..self.len() {
+            let (Some(ours), Some(theirs)) = (self.name(i), other.name(i)) else {
+                return false;
+            };
+            if !ours.same(&theirs) {
+                return false;
+            }
+        }
+        true
     }
 }
