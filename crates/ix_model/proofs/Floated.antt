@@ -14,7 +14,7 @@ use Rattle.ix_model.proofs.Floats.{Floats, object_but, process_but}
 use Rattle.ix_model.proofs.Labels.{is_living}
 
 -- ---- living processes
-not_ended : (o : Option Process) (p : Process) → living o ≡ Some p → p.ended ≡ false
+pub not_ended : (o : Option Process) (p : Process) → living o ≡ Some p → p.ended ≡ false
 not_ended None p h = cc
 not_ended (Some q) p h = go q.ended refl h
   where
@@ -30,9 +30,13 @@ pub blocks_same : (p q : ℕ → Bool) (n : ℕ) (hs : List Holding) → ((m : �
 blocks_same p q n [] same = refl
 blocks_same p q n (h ∷ hs) same = λ i. (if same n i then blocks_for (length h.first) else 0) + blocks_same p q (suc n) hs same i
 
-none_is : {A : Type 0} (o : Option A) → is_none o ≡ true → o ≡ None
+pub none_is : {A : Type 0} (o : Option A) → is_none o ≡ true → o ≡ None
 none_is None h = refl
 none_is (Some x) h = cc
+
+-- whether a process has a descriptor on that end, by a table of open entries
+abbrev pub has_on : List (Option Open) → ℕ → ℕ → Option Process → Bool
+has_on opens o end p = option_map_or (λ q. not q.ended && list_any (λ d. option_map_or (λ e. is_on o end (at opens e)) d false) q.fds) p false
 
 module _ (f g : Frame) (r : Floats f g) where
   -- ---- what was there
@@ -95,12 +99,7 @@ module _ (f g : Frame) (r : Floats f g) where
     descriptors = λ p q is. let w = was_process p q is in ap (λ y. length y.fds) w.same ∙ n.descriptors p w.was w.is_was;
   }
 
-  -- whether a process claims, by its descriptors and a table of open entries
-  has_on : List (Option Open) → ℕ → ℕ → Option Process → Bool
-  has_on opens o end p = option_map_or (λ q. not q.ended && list_any (λ d. option_map_or (λ e. is_on o end (at opens e)) d false) q.fds) p false
-
   pub claims_floated : ClaimsSound f → ClaimsSound g
-  unfolding has_on
   claims_floated n = record {
     claimant = λ o end p x is claim.
       let w = was o x is in

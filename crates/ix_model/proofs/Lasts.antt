@@ -39,7 +39,7 @@ some_changed (x ∷ t) zero h (suc m) = refl
 some_changed (x ∷ t) (suc n) h zero = refl
 some_changed (x ∷ t) (suc n) h (suc m) = some_changed t n h m
 
-some_put : {A : Type 0} (u : List (Option A)) (n : ℕ) (x : A) (m : ℕ) → is_some (at u m) ≡ true → is_some (at (put u n (Some x)) m) ≡ true
+pub some_put : {A : Type 0} (u : List (Option A)) (n : ℕ) (x : A) (m : ℕ) → is_some (at u m) ≡ true → is_some (at (put u n (Some x)) m) ≡ true
 some_put [] n x m h = h
 some_put (y ∷ t) zero x zero h = refl
 some_put (y ∷ t) zero x (suc m) h = h

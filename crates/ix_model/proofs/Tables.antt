@@ -60,6 +60,18 @@ any_put p (y ∷ t) (suc n) x more h = go (p y) (λ k. any_put p t n x more k) h
     go true next h = refl
     go false next h = next h
 
+pub any_more : {A : Type 0} (p q : A → Bool) (xs : List A) → ((x : A) → p x ≡ true → q x ≡ true) → list_any p xs ≡ true → list_any q xs ≡ true
+any_more p q [] more h = h
+any_more p q (x ∷ xs) more h = go (p x) (more x) (any_more p q xs more) h
+  where
+    go : (b : Bool) → (b ≡ true → q x ≡ true) → (list_any p xs ≡ true → list_any q xs ≡ true) → (b || list_any p xs) ≡ true → (q x || list_any q xs) ≡ true
+    go true m next h = let e : q x ≡ true = m refl in rw e refl
+    go false m next h = either (q x)
+      where
+        either : (b : Bool) → (b || list_any q xs) ≡ true
+        either true = refl
+        either false = next h
+
 -- ---- tables that are one but for what b takes away
 pub record SameBut {A : Type 0} (b : A → A) (t u : List (Option A)) : Type 0 where
   pub same : map (option_map b) u ≡ map (option_map b) t
