@@ -1,5 +1,5 @@
 -- A new open entry under a free descriptor keeps a world sound.
-use Rattle.std.proofs.Common.{◌≡◌, ◌<◌, ◌≤◌, ◌==◌, ℕ, Bool, true, false, true≢false, not, ◌&&◌, ◌||◌, List, length, sum, count_by, replicate, Option, Some, None, is_some, is_none, option_map, cond, refl, sym, ap, ◌∙◌, subst, arith, inl, inr, set, length-set}
+use Rattle.std.proofs.Common.{◌≡◌, ◌<◌, ◌≤◌, ◌==◌, ℕ, Bool, true, false, true≢false, not, ◌&&◌, ◌||◌, List, length, sum, count_by, map, replicate, Option, Some, None, is_some, is_none, option_map, cond, refl, sym, ap, ◌∙◌, subst, arith, inl, inr, set, length-set}
 use Rattle.std.specs.Option.{option_map_or}
 use Rattle.std.specs.List.{list_any}
 use Rattle.std.proofs.lemmas.Bool.Decides.{eqb_tells}
@@ -32,6 +32,10 @@ no_none p o none is h = true≢false (sym h ∙ ap p is ∙ none)
 or_more : (a b c : Bool) → (b ≡ true → c ≡ true) → (a || b) ≡ true → (a || c) ≡ true
 or_more true b c more h = refl
 or_more false b c more h = more h
+
+and_more : (a b c : Bool) → (b ≡ true → c ≡ true) → (a && b) ≡ true → (a && c) ≡ true
+and_more true b c more h = more h
+and_more false b c more h = h
 
 either_more : (a b c d : Bool) → (a ≡ true → c ≡ true) → (b ≡ true → d ≡ true) → (a || b) ≡ true → (c || d) ≡ true
 either_more true b c d one two h = let e : c ≡ true = one refl in rw e refl
@@ -172,3 +176,54 @@ module _ (f : Frame) (pid : ℕ) (p : Process) (fd e : ℕ) (x : Open) (lives : 
       let w = given_was n q is in
       sym (length-replicate {A = Option ℕ} (length q.fds) None) ∙ ap (λ y. length y.fds) w.same ∙ length-replicate {A = Option ℕ} (length w.was.fds) None ∙ r.descriptors n w.was w.is_was;
   }
+
+  -- ---- claims
+  on_more : (o end : ℕ) (d : Option ℕ) → option_map_or (λ k. is_on o end (at f.opens k)) d false ≡ true → option_map_or (λ k. is_on o end (at (put f.opens e (Some x)) k)) d false ≡ true
+  on_more o end None h = h
+  on_more o end (Some k) h = elim (eqb_tells k e) [
+    | inl same ↦ absurd (no_none (is_on o end) _ refl e_none (ap (λ m. is_on o end (at f.opens m)) (sym same.1) ∙ h))
+    | inr other ↦ ap (is_on o end) (get_or-set_other f.opens e k (Some x) None other.1) ∙ h
+  ]
+
+  has_more : (o end : ℕ) (q : Option Process) → has_on f.opens o end q ≡ true → has_on (put f.opens e (Some x)) o end q ≡ true
+  has_more o end None h = h
+  has_more o end (Some q) h = and_more (not q.ended) _ _ (any_more _ _ q.fds (on_more o end)) h
+
+  gives_more : (o end : ℕ) → has_on (put f.opens e (Some x)) o end (at f.processes pid) ≡ true → has_on (put f.opens e (Some x)) o end (option_map give (at f.processes pid)) ≡ true
+  unfolding give
+  gives_more o end h =
+      let t : List (Option Open) = put f.opens e (Some x) in
+      let before : has_on t o end (Some p) ≡ true = ap (has_on t o end) (sym (is_living _ p lives)) ∙ h in
+      ap (λ q. has_on t o end (option_map give q)) (is_living _ p lives)
+      ∙ and_more (not p.ended) _ _ (any_put (λ d. option_map_or (λ k. is_on o end (at t k)) d false) p.fds fd (Some e) (λ on. absurd (no_none (λ d. option_map_or (λ k. is_on o end (at t k)) d false) _ refl fd_none on))) before
+
+  claimant_given : (o end n : ℕ) → has_on f.opens o end (at f.processes n) ≡ true → has_on (put f.opens e (Some x)) o end (at (change f.processes pid give) n) ≡ true
+  claimant_given o end n h =
+      let t : List (Option Open) = put f.opens e (Some x) in
+      elim (eqb_tells n pid) [
+        | inl same ↦ ap (λ k. has_on t o end (at (change f.processes pid give) k)) same.1 ∙ ap (has_on t o end) (at_changed f.processes pid give) ∙ gives_more o end (has_more o end (at f.processes pid) (ap (λ k. has_on f.opens o end (at f.processes k)) (sym same.1) ∙ h))
+        | inr other ↦ ap (has_on t o end) (get_or-set_other f.processes pid n _ None other.1) ∙ has_more o end (at f.processes n) h
+      ]
+
+  pub claims_given : ClaimsSound f → ClaimsSound (given f pid fd e x)
+  unfolding give
+  claims_given c = record { claimant = λ o end n y is claim. claimant_given o end n (c.claimant o end n y is claim) }
+
+  -- ---- limits and lengths
+  pub limits_given : WithinLimits f → WithinLimits (given f pid fd e x)
+  unfolding give
+  limits_given l =
+      let count : (t : List (Option Process)) → count_by is_some t ≡ sum (map (λ q. cond (is_some q) 1 0) t) = λ t. sym (sum-map (λ q. cond (is_some q) 1 0) t) in
+      let same : count_by is_some (change f.processes pid give) ≡ count_by is_some f.processes = count (change f.processes pid give) ∙ ap sum (map_changed (λ q. cond (is_some q) 1 0) give (λ y. refl) f.processes pid) ∙ sym (count f.processes) in
+      record {
+        objects = l.objects;
+        pipes = l.pipes;
+        numbers = l.numbers;
+        opens = length-set f.opens e (Some x) ∙ l.opens;
+        processes = omega (arith, same, l.processes);
+        names = l.names;
+        log = l.log;
+      }
+
+  pub lengths_given : (c : Content) → LengthsSound (record { frame = f; content = c }) → LengthsSound (record { frame = given f pid fd e x; content = c })
+  lengths_given c l = record { holdings = l.holdings; offsets = l.offsets ∙ sym (length-set f.opens e (Some x)); offset = l.offset; file = l.file; pipe = l.pipe; blocks = l.blocks }
