@@ -10,7 +10,8 @@ use Rattle.ix_model.specs.declared.call.Mode.{Mode}
 use Rattle.ix_model.specs.declared.reply.Reply.{Reply}
 use Rattle.ix_model.specs.declared.refusal.Refusal.{Refusal}
 use Rattle.ix_model.proofs.Keeps.{Holds, Keeps}
-use Rattle.ix_model.proofs.Ends.{Ends, ending}
+use Rattle.ix_model.proofs.Ends.{Ends, ends_bind, ends_then, ends_object, ends_need, ends_caller, ends_some, ends_frame, ends_put_open, ends_change_caller, ends_pass}
+use Rattle.ix_model.specs.declared.reply.Reply.TheVariants as reply
 use Rattle.ix_model.proofs.Floats.{Floats, floats_itself, floats_found}
 use Rattle.ix_model.proofs.Given.{given}
 
@@ -49,4 +50,16 @@ ends_found pid path f P Q h k = ends_kept (Floats f) (found pid path f) P Q ((fl
 
 pub open_at_ends : (pid : ℕ) (path : PathOf) (mode : Mode) (f : Frame) → Ends (open_at pid path mode f) (λ r g. Floats f g) (λ a g. Opening pid f g)
 unfolding open_at
-open_at_ends pid path mode f = search (ending, ends_found, made) depth 40 fits 8000
+open_at_ends pid path mode f =
+    let P : Refusal → Frame → Type 0 = λ r g. Floats f g in
+    let Q : Reply → Frame → Type 0 = λ a g. Opening pid f g in
+    ends_bind _ _ f P Q (ends_found pid path f P _ (λ r g floated. floated) (λ o m floated.
+    ends_bind _ _ m P Q (ends_object o m P _ (λ x is.
+    ends_then _ _ m P Q (ends_need _ _ m P _ (λ no_dir.
+    ends_bind _ _ m P Q (ends_caller pid m P _ (λ p lives.
+    ends_bind _ _ m P Q (ends_some _ _ m P _ (λ fd free_fd.
+    ends_bind _ _ m P Q (ends_frame m P _ (
+    ends_bind _ _ m P Q (ends_some _ _ m P _ (λ e free.
+    ends_then _ _ m P Q (ends_put_open e _ m P _ (
+    ends_then _ _ _ P Q (ends_change_caller pid _ _ P _ (
+    ends_pass (reply.Number fd) _ P Q (made pid mode f m o x p fd e floated is no_dir lives free_fd free)))))) floated)))) floated)) floated)) floated)) floated)))
