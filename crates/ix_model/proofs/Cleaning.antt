@@ -1,5 +1,5 @@
 -- A step leaves a clean world.
-use Rattle.std.proofs.Common.{ℕ, ◌+◌, ◌-◌, ◌≡◌, ◌≢◌, ◌≤◌, ◌&&◌, Bool, true, false, List, length, Option, Some, None, is_some, option_map, refl, ap, subst, ◌∙◌, arith, get_or, set, if◌then◌else◌, length-append}
+use Rattle.std.proofs.Common.{ℕ, ◌+◌, ◌-◌, ◌≡◌, ◌≢◌, ◌≤◌, ◌&&◌, Bool, true, false, not, List, length, Option, Some, None, is_some, option_map, refl, ap, subst, ◌∙◌, arith, get_or, set, if◌then◌else◌, length-append}
 use Rattle.std.specs.Option.{option_map_or}
 use Rattle.std.proofs.lemmas.List.{get_or-set_other, length-replicate}
 use Rattle.ix_model.specs.World.{Frame, Content, World, Object, Process, Open, Holding, at, living, lives, is_ended, is_pipe}
@@ -89,11 +89,14 @@ behind_stands f pid fd e h = go (living (at f.processes pid)) h
     go (Some p) h = entry_stands f (at p.fds fd) e h
 
 -- ---- a write that passes has an object behind its descriptor
-pub record WriteFacts (pid fd : ℕ) (f : Frame) : Type 0 where
+pub record WriteFacts (t : Told) (pid fd : ℕ) (f : Frame) : Type 0 where
   pub entry : Behind
   pub is_entry : behind f pid fd ≡ Some entry
   pub object : Object
   pub is_object : at f.objects entry.entry.object ≡ Some object
+  pub small : not t.too_big ≡ true
+  pub room : not t.full ≡ true
+  pub space : not t.no_space ≡ true
 
 abbrev Anything : Refusal → Frame → Type 0
 Anything r g = Unit {0}
@@ -101,7 +104,7 @@ Anything r g = Unit {0}
 ends_affect : (pid o : ℕ) (f : Frame) (Q : Unit {0} → Frame → Type 0) → ((g : Frame) → Q tt g) → Ends (affect pid o f) Anything Q
 ends_affect pid o f Q h = ends_any (affect pid o f) Anything Q (λ r g. tt) (λ u g. h g)
 
-write_ends : (t : Told) (pid fd : ℕ) (f : Frame) → Ends (write_fd t pid fd f) Anything (λ r g. WriteFacts pid fd f)
+write_ends : (t : Told) (pid fd : ℕ) (f : Frame) → Ends (write_fd t pid fd f) Anything (λ r g. WriteFacts t pid fd f)
 unfolding write_fd
 write_ends t pid fd f = search (ending, ends_affect) depth 40 fits 8000
 
@@ -110,15 +113,15 @@ unfolding Ends
 settled_wrote f (Refuse r g) k X h l = cc
 settled_wrote f (Pass r g) k X h l = l
 
-wrote : (t : Told) (place pid fd : ℕ) (bytes : List ℕ) (f : Frame) (k : ℕ) → (decide t place pid (op.WriteFd fd bytes) f).reply ≡ reply.Number k → WriteFacts pid fd f
+pub wrote : (t : Told) (place pid fd : ℕ) (bytes : List ℕ) (f : Frame) (k : ℕ) → (decide t place pid (op.WriteFd fd bytes) f).reply ≡ reply.Number k → WriteFacts t pid fd f
 unfolding decide row
 wrote t place pid fd bytes f k h = go (lives f pid) h
   where
     unknown : Decision
     unknown = record { reply = reply.No refusal.NoProcess; frame = f }
 
-    go : (b : Bool) → (if b then settled f (write_fd t pid fd f) else unknown).reply ≡ reply.Number k → WriteFacts pid fd f
-    go true h = settled_wrote f (write_fd t pid fd f) k (WriteFacts pid fd f) h (write_ends t pid fd f)
+    go : (b : Bool) → (if b then settled f (write_fd t pid fd f) else unknown).reply ≡ reply.Number k → WriteFacts t pid fd f
+    go true h = settled_wrote f (write_fd t pid fd f) k (WriteFacts t pid fd f) h (write_ends t pid fd f)
     go false h = cc
 
 -- ---- the step
