@@ -51,7 +51,7 @@ blocks_skip p n (y ∷ hs) zero x h =
     λ i. (ap (λ b. if b then blocks_for (length x.first) else 0) e ∙ sym (ap (λ b. if b then blocks_for (length y.first) else 0) e)) i + blocks_where p (suc n) hs
 blocks_skip p n (y ∷ hs) (suc o) x h = ap (λ k. (if p n then blocks_for (length y.first) else 0) + k) (blocks_skip p (suc n) hs o x (ap p (omega arith) ∙ h))
 
-at_most : (b : Bool) (n : ℕ) → (if b then n else 0) ≤ n
+pub at_most : (b : Bool) (n : ℕ) → (if b then n else 0) ≤ n
 at_most true n = omega arith
 at_most false n = omega arith
 
