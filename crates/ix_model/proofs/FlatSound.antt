@@ -130,6 +130,12 @@ sum_flat F bs n none file = sum-map F (flat_objects bs n) ∙ sum_by-cons F (Som
 times_flat : (bs : List ObjSpec) (n o : ℕ) → times_named (flat_objects bs n) o ≡ count_by (λ m. m.1 == o) (named 1 bs)
 times_flat bs n o = sum_flat (times_in o) bs n refl (λ b. refl)
 
+-- a file's number has a file
+file_there : (bs : List ObjSpec) (n j : ℕ) → j < length bs → option_map_or (λ y. not (is_pipe y)) (at (map file_of bs ++ replicate n None) j) false ≡ true
+file_there [] n j h = absurd (omega arith)
+file_there (b ∷ bs) n zero h = not_from_false _ (file_no_pipe b)
+file_there (b ∷ bs) n (suc j) h = file_there bs n j (omega arith)
+
 -- ---- blocks
 blocks_all : (p : ℕ → Bool) (n : ℕ) (hs : List Holding) → blocks_where p n hs ≤ sum_by (λ h. blocks_for (length h.first)) hs
 blocks_all p n [] = omega arith
@@ -168,15 +174,125 @@ blocks_flat p bs n =
 
 -- ---- the parts
 module _ (l : Limits) (s : FsSpec) (procs : List ProcSpec) (bs : List ObjSpec) (n : ℕ) (r : FlatFits l s bs) (count : n + length bs + 1 ≡ s.inodes + l.pipes) (low : list_all (λ p. leq p.label p.ceiling) procs ≡ true) (few : length procs ≤ l.procs) where
-  flat : World
+  abbrev flat : World
   flat = flat_world l s procs bs n
 
   each : (P : ℕ → Object → Type 0) → P 0 (root_with (named 1 bs)) → ((j : ℕ) (b : ObjSpec) → FileAt s bs n j (object_of 0 b) → P (suc j) (object_of 0 b)) → (o : ℕ) (x : Object) → at (flat_objects bs n) o ≡ Some x → P o x
   each P root file = each_object s bs n P r.files root file
 
   flat_labels : LabelsBelow flat.frame
-  unfolding flat
   flat_labels = record {
     objects = each (λ o x. leq x.label (ceiling_of (s ∷ []) x) ≡ true) (bottom-leq s.ceiling) (λ j b f. ap (λ (x : Object). leq x.label (ceiling_of (s ∷ []) x)) (sym f.is) ∙ f.file.below);
     processes = λ p q is. let a = process_at procs p q low is in ap (λ (x : Process). leq x.label x.ceiling) (sym a.is) ∙ a.low;
   }
+
+  -- a name of the root is a file's
+  named_file : (o : ℕ) → 0 < count_by (λ m. m.1 == o) (named 1 bs) → option_map_or (λ y. not (is_pipe y)) (at (flat_objects bs n) o) false ≡ true
+  named_file zero h = absurd (omega (arith, (named_within 0 1 bs h).0))
+  named_file (suc j) h = file_there bs n j (omega (arith, (named_within (suc j) 1 bs h).1))
+
+  no_name : count_by (λ m. m.1 == 0) (named 1 bs) ≡ 0
+  no_name = elim (cases_lt 0 (count_by (λ m. m.1 == 0) (named 1 bs))) [
+    | inl some ↦ absurd (omega (arith, (named_within 0 1 bs some).0))
+    | inr none ↦ omega arith
+  ]
+
+  flat_names : NamesSound flat.frame
+  flat_names = record {
+    root = refl;
+    in_directories = each (λ o x. is_dir x ≡ false → x.names ≡ []) (λ h. absurd (true≢false h)) (λ j b f h. refl);
+    living = λ d o x is. each (λ d x. 0 < count_by (λ m. m.1 == o) x.names → option_map_or (λ y. not (is_pipe y)) (at (flat_objects bs n) o) false ≡ true) (named_file o) (λ j b f h. absurd (omega arith)) d x is;
+    differ = each (λ o x. all_differ (map (λ m. m.0) x.names) ≡ true) (ap all_differ (named_names 1 bs) ∙ r.differ) (λ j b f. refl);
+    once = each (λ o x. is_dir x ≡ true → times_named (flat_objects bs n) o ≡ (if o == 0 then 0 else 1)) (λ h. times_flat bs n 0 ∙ no_name) (λ j b f h. absurd (true≢false (sym (ap is_dir f.is ∙ h) ∙ file_no_dir s f.spec f.file)));
+  }
+
+  named_once : (j : ℕ) → j < length bs → not (times_named (flat_objects bs n) (suc j) == 0) ≡ true
+  named_once j h =
+      let has = named_has 1 j bs h in
+      let same : count_by (λ m. m.1 == 1 + j) (named 1 bs) ≡ count_by (λ m. m.1 == suc j) (named 1 bs) = ap (λ o. count_by (λ m. m.1 == o) (named 1 bs)) (omega arith) in
+      not_from_false _ (ap (λ k. k == 0) (times_flat bs n (suc j)) ∙ ne_eqb _ 0 (λ e. absurd (omega arith)))
+
+  flat_lives : LivesSound flat.frame
+  flat_lives = record {
+    file = each (λ o x. is_file x ≡ true → (not (times_named (flat_objects bs n) o == 0) || held flat.frame.opens o 0) ≡ true) (λ h. absurd (true≢false (sym h))) (λ j b f h. or_left _ _ (named_once j f.low));
+    pipe = each (λ o x. is_pipe x ≡ true → (held flat.frame.opens o 0 || held flat.frame.opens o 1) ≡ true) (λ h. absurd (true≢false (sym h))) (λ j b f h. absurd (true≢false (sym h ∙ file_no_pipe b)));
+  }
+
+  not_open : (e : ℕ) (x : Open) (X : Type 0) → at flat.frame.opens e ≡ Some x → X
+  not_open e x X is = none_some X _ x (all_one None l.opens e) is
+
+  flat_opens : OpensSound flat.frame
+  flat_opens = record {
+    descriptor = λ p q fd e lives is.
+      let a = process_at procs p q low (is_living _ q lives) in
+      none_some _ _ e (ap (λ (x : Process). at x.fds fd) (sym a.is) ∙ all_one None 32 fd) is;
+    owned = λ e some. absurd (true≢false (sym some ∙ ap is_some (all_one None l.opens e)));
+    target = λ e x is. not_open e x _ is;
+    end = λ e x is. not_open e x _ is;
+  }
+
+  flat_processes : ProcessesSound flat.frame
+  flat_processes = record {
+    none = refl;
+    home = λ p q lives.
+      let a = process_at procs p q low (is_living _ q lives) in
+      ap (λ (x : Process). option_map_or is_dir (at (flat_objects bs n) x.cwd) false) (sym a.is);
+    parent = λ p k q is parent.
+      let a = process_at procs p q low is in
+      none_some _ _ k (ap (λ (x : Process). x.parent) (sym a.is)) parent;
+    descriptors = λ p q is. let a = process_at procs p q low is in ap (λ (x : Process). length x.fds) (sym a.is) ∙ length-replicate {A = Option ℕ} 32 None;
+  }
+
+  flat_claims : ClaimsSound flat.frame
+  flat_claims = record { claimant = λ o end p x is claim. none_some _ (at x.claims end) p (each (λ o x. at x.claims end ≡ None) refl (λ j b f. refl) o x is) claim }
+
+  flat_long : length (flat_objects bs n) ≡ suc (length bs + n)
+  flat_long = ap suc (length-append (map file_of bs) (replicate n None) ∙ (λ i. length-map bs file_of i + length-replicate {A = Option Object} n None i))
+
+  holdings_long : length (flat_holdings bs n) ≡ suc (length bs + n)
+  holdings_long = ap suc (length-append (map bytes_of bs) (replicate n holds_nothing) ∙ (λ i. length-map bs bytes_of i + length-replicate {A = Holding} n holds_nothing i))
+
+  flat_limits : WithinLimits flat.frame
+  flat_limits = record {
+    objects = flat_long ∙ omega (arith, count);
+    pipes = each (λ o x. is_none x.fs ≡ is_pipe x) refl (λ j b f. sym (file_no_pipe b));
+    numbers = λ o k x is on. each (λ o x. x.fs ≡ Some k → (first_inode (s ∷ []) k ≤ o) × (o < first_inode (s ∷ []) k + inodes_of (s ∷ []) k))
+      (λ h. let e : 0 ≡ k = cc in subst (λ (k : ℕ). (first_inode (s ∷ []) k ≤ 0) × (0 < first_inode (s ∷ []) k + inodes_of (s ∷ []) k)) e (omega arith, omega (arith, r.inodes)))
+      (λ j b f h. let e : 0 ≡ k = cc in subst (λ (k : ℕ). (first_inode (s ∷ []) k ≤ suc j) × (suc j < first_inode (s ∷ []) k + inodes_of (s ∷ []) k)) e (omega arith, omega (arith, r.inodes, f.low)))
+      o x is on;
+    opens = length-replicate {A = Option Open} l.opens None;
+    processes = omega (arith, sum_by-cons (λ (q : Option Process). cond {A = ℕ} (is_some q) 1 0) None (processes_of procs), count_by-le-length is_some (processes_of procs), length-map procs (λ p. Some (process_of p)));
+    names = omega (arith, sum_flat (λ x. option_map_or (λ y. length y.names) x 0) bs n refl (λ b. refl), length-named 1 bs, r.names);
+    log = omega arith;
+  }
+
+  file_short : (j : ℕ) (b : ObjSpec) → FileAt s bs n j (object_of 0 b) → length (holding_of flat.content (suc j)).first ≤ 1048576
+  file_short j b f =
+      let same : length (holding_of flat.content (suc j)).first ≡ length f.spec.bytes = ap (λ (h : Holding). length h.first) f.holding in
+      let short = f.file.short in
+      omega arith
+
+  -- nothing lies on another file system
+  elsewhere : (k m : ℕ) → lies_on flat.frame (Some (suc k)) m ≡ false
+  elsewhere k m = go (at (flat_objects bs n) m) refl
+    where
+      go : (o : Option Object) → at (flat_objects bs n) m ≡ o → option_map_or (λ x. option_map_or (λ j. j == suc k) x.fs false) o false ≡ false
+      go None is = refl
+      go (Some x) is = each (λ o x. option_map_or (λ j. j == suc k) x.fs false ≡ false) (ne_eqb 0 (suc k) (λ e. absurd (omega arith))) (λ j b f. ne_eqb 0 (suc k) (λ e. absurd (omega arith))) m x is
+
+  flat_blocks : (k : ℕ) → blocks_where (lies_on flat.frame (Some k)) 0 (flat_holdings bs n) ≤ blocks_on flat.frame (Some k)
+  flat_blocks zero = omega (arith, blocks_flat (lies_on flat.frame (Some 0)) bs n, r.blocks)
+  flat_blocks (suc k) = omega (arith, blocks_none (lies_on flat.frame (Some (suc k))) 0 (flat_holdings bs n) (elsewhere k))
+
+  flat_lengths : LengthsSound flat
+  flat_lengths = record {
+    holdings = holdings_long ∙ sym flat_long;
+    offsets = length-replicate {A = ℕ} l.opens 0 ∙ sym (length-replicate {A = Option Open} l.opens None);
+    offset = λ e. subst (λ (k : ℕ). k ≤ 1048576) (sym (all_one 0 l.opens e)) (omega arith);
+    file = each (λ o x. is_pipe x ≡ false → length (holding_of flat.content o).first ≤ 1048576) (λ h. omega arith) (λ j b f h. file_short j b f);
+    pipe = each (λ o x. is_pipe x ≡ true → (length (holding_of flat.content o).first ≤ 4096) × (length (holding_of flat.content o).second ≤ 4096)) (λ h. absurd (true≢false (sym h))) (λ j b f h. absurd (true≢false (sym h ∙ file_no_pipe b)));
+    blocks = flat_blocks;
+  }
+
+  pub flat_sound : Sound flat
+  flat_sound = record { labels = flat_labels; names = flat_names; lives = flat_lives; opens = flat_opens; processes = flat_processes; claims = flat_claims; limits = flat_limits; lengths = flat_lengths }
