@@ -9,6 +9,7 @@ use Rattle.ix_model.specs.Outcomes.{Outcome, Refuse, Pass}
 use Rattle.ix_model.specs.Walks.{Behind, behind, Sought, node, child, lacking, looking_into, walk_from, walk, walked_to, found}
 use Rattle.ix_model.specs.Walks as sought
 use Rattle.ix_model.specs.Sound.{NamesSound, Sound}
+use Rattle.ix_model.specs.Laws.{ObjectsThere}
 use Rattle.ix_model.specs.declared.refusal.Refusal.{Refusal}
 use Rattle.ix_model.proofs.Ends.{Ends, ends_bind, ends_then, ends_caller, ends_frame, ends_pass, ends_there}
 use Rattle.ix_model.proofs.Looks.{ends_observe}
@@ -66,3 +67,39 @@ module _ (f : Frame) (s : NamesSound f) where
       branch false c is k next = cc
       branch true None is k next = lacks names k
       branch true (Some m) is k next = next m (child_there n m name there is) k
+
+start_there : (f : Frame) (p : Process) (absolute : Bool) → NamesSound f → option_map_or is_dir (at f.objects p.cwd) false ≡ true → is_some (at f.objects (if absolute then 0 else p.cwd)) ≡ true
+start_there f p true s home = dir_there _ s.root
+start_there f p false s home = dir_there _ home
+
+-- ---- the laws
+abbrev Anything : Refusal → Frame → Type 0
+Anything r g = Unit {0}
+
+found_ends : (w : World) (pid : ℕ) (path : PathOf) → Sound w → Ends (found pid path w.frame) Anything (λ o g. is_some (at g.objects o) ≡ true)
+unfolding found walked_to
+found_ends w pid path s =
+    let f : Frame = w.frame in
+    let Q : ℕ → Frame → Type 0 = λ o g. is_some (at g.objects o) ≡ true in
+    ends_bind _ _ f Anything Q (
+    ends_bind _ _ f Anything _ (ends_caller pid f Anything _ (λ p lives.
+    let here : (o : ℕ) (dir : Option ℕ) → (walk f.objects p path).outcome ≡ sought.Found o dir → is_some (at f.objects o) ≡ true =
+      λ o dir is. walk_there f s.names path.names (if path.absolute then 0 else p.cwd) None o dir (start_there f p path.absolute s.names (s.processes.home pid p lives)) is in
+    ends_bind _ _ f Anything _ (ends_frame f Anything _ (
+    ends_then _ _ f Anything _ (ends_observe pid _ f Anything _ (λ r. tt)
+      (ends_pass _ f Anything _ (ends_there _ f Anything Q here tt tt))
+      (λ q alive low. ends_pass _ _ Anything _ (ends_there _ _ Anything Q here tt tt)))))) tt))
+
+passed : (o : Outcome ℕ) (n : ℕ) (g : Frame) (Q : ℕ → Frame → Type 0) → o ≡ Pass n g → Ends o Anything Q → Q n g
+unfolding Ends
+passed (Refuse r h) n g Q is k = cc
+passed (Pass m h) n g Q is k =
+    let number : m ≡ n = cc in
+    let same : h ≡ g = cc in
+    subst (λ (x : ℕ). Q x g) number (subst (λ (x : Frame). Q m x) same k)
+
+pub objects_there : (w : World) → Sound w → ObjectsThere w
+objects_there w s = record {
+  behind = λ pid fd e is. ap is_some (stands w.frame e.id e.entry s.opens (behind_is w.frame pid fd e is)).is_object;
+  found = λ pid o path g is. passed (found pid path w.frame) o g _ is (found_ends w pid path s);
+}

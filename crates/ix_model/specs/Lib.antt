@@ -13,3 +13,4 @@ pub mod Opening
 pub mod Valid
 pub mod Clean
 pub mod Sound
+pub mod Laws
