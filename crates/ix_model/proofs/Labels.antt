@@ -18,7 +18,7 @@ use Rattle.ix_model.specs.declared.refusal.Refusal.{Refusal}
 use Rattle.ix_model.specs.declared.refusal.Refusal.TheVariants as refusal
 use Rattle.ix_model.proofs.Tables.{seen_changed, at_changed}
 use Rattle.ix_model.proofs.Keeps.{Holds, Keeps, keeping, keeps_refuse}
-use Rattle.ix_model.proofs.Ends.{Ends}
+use Rattle.ix_model.proofs.Ends.{Ends, kept_ends}
 use Rattle.ix_model.proofs.Looks.{ends_observe, ends_affect}
 use Rattle.ix_model.proofs.Lasts.{decided}
 
@@ -61,11 +61,6 @@ below_object g o l x is low r = record {
 abbrev Below : Refusal → Frame → Type 0
 Below r g = LabelsBelow g
 
-held_in : {A : Type 0} (o : Outcome A) → Ends o Below (λ a g. LabelsBelow g) → Holds o LabelsBelow
-unfolding Ends Holds
-held_in (Refuse r g) h = h
-held_in (Pass a g) h = h
-
 observe_ends : (pid : ℕ) (seen : Categories) (f : Frame) → LabelsBelow f → Ends (observe pid seen f) Below (λ u g. LabelsBelow g)
 observe_ends pid seen f r = ends_observe pid seen f Below (λ u g. LabelsBelow g) (λ why. r) r (λ p is low. below_caller f pid seen p is low r)
 
@@ -73,10 +68,10 @@ affect_ends : (pid o : ℕ) (f : Frame) → LabelsBelow f → Ends (affect pid o
 affect_ends pid o f r = ends_affect pid o f Below (λ u g. LabelsBelow g) (λ why. r) r (λ l x is low. below_object f o l x is low r)
 
 labels_observe : (pid : ℕ) (seen : Categories) → Keeps LabelsBelow (observe pid seen)
-labels_observe pid seen = record { led = λ g r. held_in _ (observe_ends pid seen g r) }
+labels_observe pid seen = record { led = λ g r. kept_ends LabelsBelow _ (observe_ends pid seen g r) }
 
 labels_affect : (pid o : ℕ) → Keeps LabelsBelow (affect pid o)
-labels_affect pid o = record { led = λ g r. held_in _ (affect_ends pid o g r) }
+labels_affect pid o = record { led = λ g r. kept_ends LabelsBelow _ (affect_ends pid o g r) }
 
 labels_put_open : (e : ℕ) (x : Option Open) → Keeps LabelsBelow (put_open e x)
 unfolding put_open Holds

@@ -9,17 +9,10 @@ use Rattle.ix_model.specs.Table.{open_at}
 use Rattle.ix_model.specs.declared.call.Mode.{Mode}
 use Rattle.ix_model.specs.declared.reply.Reply.{Reply}
 use Rattle.ix_model.specs.declared.refusal.Refusal.{Refusal}
-use Rattle.ix_model.proofs.Keeps.{Holds, Keeps}
-use Rattle.ix_model.proofs.Ends.{Ends, ends_bind, ends_then, ends_object, ends_need, ends_caller, ends_some, ends_frame, ends_put_open, ends_change_caller, ends_pass}
+use Rattle.ix_model.proofs.Ends.{Ends, ends_kept, ends_bind, ends_then, ends_object, ends_need, ends_caller, ends_some, ends_frame, ends_put_open, ends_change_caller, ends_pass}
 use Rattle.ix_model.specs.declared.reply.Reply.TheVariants as reply
 use Rattle.ix_model.proofs.Floats.{Floats, floats_itself, floats_found}
 use Rattle.ix_model.proofs.Given.{given}
-
--- what a row keeps is known where it ends
-pub ends_kept : {A : Type 0} (R : Frame → Type 0) (o : Outcome A) (P : Refusal → Frame → Type 0) (Q : A → Frame → Type 0) → Holds o R → ((r : Refusal) (g : Frame) → R g → P r g) → ((a : A) (g : Frame) → R g → Q a g) → Ends o P Q
-unfolding Ends Holds
-ends_kept R (Refuse r g) P Q h k l = k r g h
-ends_kept R (Pass a g) P Q h k l = l a g h
 
 -- the new entry's parts, in a frame where only labels have changed
 pub record Opening (pid : ℕ) (f g : Frame) : Type 0 where
