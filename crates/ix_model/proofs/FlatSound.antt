@@ -256,6 +256,7 @@ module _ (l : Limits) (s : FsSpec) (procs : List ProcSpec) (bs : List ObjSpec) (
   flat_limits = record {
     objects = flat_long ∙ omega (arith, count);
     pipes = each (λ o x. is_none x.fs ≡ is_pipe x) refl (λ j b f. sym (file_no_pipe b));
+    past = each (λ o x. is_pipe x ≡ true → first_inode (s ∷ []) 1 ≤ o) (λ h. absurd (true≢false (sym h))) (λ j b f h. absurd (true≢false (sym h ∙ file_no_pipe b)));
     numbers = λ o k x is on. each (λ o x. x.fs ≡ Some k → (first_inode (s ∷ []) k ≤ o) × (o < first_inode (s ∷ []) k + inodes_of (s ∷ []) k))
       (λ h. let e : 0 ≡ k = cc in subst (λ (k : ℕ). (first_inode (s ∷ []) k ≤ 0) × (0 < first_inode (s ∷ []) k + inodes_of (s ∷ []) k)) e (omega arith, omega (arith, r.inodes)))
       (λ j b f h. let e : 0 ≡ k = cc in subst (λ (k : ℕ). (first_inode (s ∷ []) k ≤ suc j) × (suc j < first_inode (s ∷ []) k + inodes_of (s ∷ []) k)) e (omega arith, omega (arith, r.inodes, f.low)))

@@ -110,6 +110,9 @@ module _ (f g : Frame) (r : Floats f g) where
   limits_floated l = record {
     objects = length_same object_but f.objects g.objects r.objects ∙ l.objects ∙ sym (λ i. first_inode (r.fss i) (length (r.fss i)) + (r.limits i).pipes);
     pipes = λ o x is. let w = was o x is in ap (λ y. is_none y.fs) w.same ∙ l.pipes o w.was w.is_was ∙ sym (ap is_pipe w.same);
+    past = λ o x is pipe.
+      let w = was o x is in
+      subst (λ (fss : List FsSpec). first_inode fss (length fss) ≤ o) (sym r.fss) (l.past o w.was w.is_was (sym (ap is_pipe w.same) ∙ pipe));
     numbers = λ o k x is on.
       let w = was o x is in
       subst (λ (fss : List FsSpec). (first_inode fss k ≤ o) × (o < first_inode fss k + inodes_of fss k)) (sym r.fss) (l.numbers o k w.was w.is_was (sym (ap (λ y. y.fs) w.same) ∙ on));

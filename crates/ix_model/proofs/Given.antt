@@ -218,6 +218,7 @@ module _ (f : Frame) (pid : ℕ) (p : Process) (fd e : ℕ) (x : Open) (lives : 
       record {
         objects = l.objects;
         pipes = l.pipes;
+        past = l.past;
         numbers = l.numbers;
         opens = length-set f.opens e (Some x) ∙ l.opens;
         processes = omega (arith, same, l.processes);

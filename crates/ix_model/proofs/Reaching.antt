@@ -35,21 +35,25 @@ some_inode s h =
     let inodes = and_parts (nat_le 1 s.inodes) (nat_le s.inodes 65536) parts.1 in
     leb-true 1 s.inodes inodes.0
 
+sound_flat : (c : Config) (s : FsSpec) → c.fss ≡ s ∷ [] → fss_fit c.fss ≡ true → procs_fit c.limits c.procs ≡ true → objects_fit c.fss c.limits [] c.objects ≡ true → list_all is_flat_object c.objects ≡ true → Sound (opening_world c)
+unfolding procs_fit
+sound_flat c s one fss procs objects flat =
+    let p = and_parts (nat_le (length c.procs) c.limits.procs) (list_all (λ p. leq p.label p.ceiling) c.procs) procs in
+    let inode = some_inode s (ap fss_fit (sym one) ∙ fss) in
+    let r = flat_opening c s one inode (ap (λ t. objects_fit t c.limits [] c.objects) (sym one) ∙ objects) flat in
+    subst (λ (w : World). Sound w) (sym r.is) (flat_sound c.limits s c.procs r.files r.free r.fits r.count p.1 (leb-true _ _ p.0))
+
 pub sound_opening_world : (c : Config) → is_valid c ≡ true → is_flat c ≡ true → Sound (opening_world c)
-unfolding is_valid is_flat procs_fit
+unfolding is_valid is_flat
 sound_opening_world c valid flat =
     let v1 = and_parts (fss_fit c.fss && limits_fit c.limits && procs_fit c.limits c.procs && objects_fit c.fss c.limits [] c.objects) (nat_le c.journal 870400000) valid in
     let v2 = and_parts (fss_fit c.fss && limits_fit c.limits && procs_fit c.limits c.procs) (objects_fit c.fss c.limits [] c.objects) v1.0 in
     let v3 = and_parts (fss_fit c.fss && limits_fit c.limits) (procs_fit c.limits c.procs) v2.0 in
     let v4 = and_parts (fss_fit c.fss) (limits_fit c.limits) v3.0 in
-    let p = and_parts (nat_le (length c.procs) c.limits.procs) (list_all (λ p. leq p.label p.ceiling) c.procs) v3.1 in
     let f1 = and_parts (length c.fss == 1 && list_all is_flat_object c.objects) (list_all is_flat_process c.procs) flat in
     let f2 = and_parts (length c.fss == 1) (list_all is_flat_object c.objects) f1.0 in
     let one = one_of c.fss f2.0 in
-    let inode = some_inode one.0 (ap fss_fit (sym one.1) ∙ v4.0) in
-    let fit : objects_fit (one.0 ∷ []) c.limits [] c.objects ≡ true = ap (λ fss. objects_fit fss c.limits [] c.objects) (sym one.1) ∙ v2.1 in
-    let r = flat_opening c one.0 one.1 inode fit f2.1 in
-    subst (λ (w : World). Sound w) (sym r.is) (flat_sound c.limits one.0 c.procs r.files r.free r.fits r.count p.1 (leb-true _ _ p.0))
+    sound_flat c one.0 one.1 v4.0 v3.1 v2.1 f2.1
 
 -- ---- runs
 pub clean_run : (w : World) (place : ℕ) (h : List Event) → IsClean w → IsClean (run w place h)

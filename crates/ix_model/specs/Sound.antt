@@ -67,7 +67,8 @@ pub record OpensSound (f : Frame) : Type 0 where
   pub end : (e : ℕ) (x : Open) → at f.opens e ≡ Some x → (x.end == 0 || x.end == 1 && option_map_or is_pipe (at f.objects x.object) false) ≡ true
 
 -- ---- processes
--- nothing is at pid 0, a living process's working directory is a living directory, and a child's parent lives
+-- nothing is at pid 0, a living process's working directory is a living directory, a child's parent lives, and each
+-- process has 32 descriptors
 pub record ProcessesSound (f : Frame) : Type 0 where
   pub none : at f.processes 0 ≡ None
   pub home : (p : ℕ) (q : Process) → living (at f.processes p) ≡ Some q → option_map_or is_dir (at f.objects q.cwd) false ≡ true
@@ -79,12 +80,13 @@ pub record ClaimsSound (f : Frame) : Type 0 where
   pub claimant : (o end p : ℕ) (x : Object) → at f.objects o ≡ Some x → at x.claims end ≡ Some p → is_claimant f o end p ≡ true
 
 -- ---- limits
--- Each table is as long as its limit, a pipe has no file system, an object that isn't one lies on the file system of its
--- number, and all counts are within the limits. The next pid, the length of the processes' table, is above every pid by
--- what a table is.
+-- Each table is as long as its limit. An object that isn't a pipe lies on the file system of its number; a pipe lies on
+-- none, and its number is past theirs. All counts are within the limits. The next pid, the length of the processes'
+-- table, is above every pid by what a table is.
 pub record WithinLimits (f : Frame) : Type 0 where
   pub objects : length f.objects ≡ first_inode f.fss (length f.fss) + f.limits.pipes
   pub pipes : (o : ℕ) (x : Object) → at f.objects o ≡ Some x → is_none x.fs ≡ is_pipe x
+  pub past : (o : ℕ) (x : Object) → at f.objects o ≡ Some x → is_pipe x ≡ true → first_inode f.fss (length f.fss) ≤ o
   pub numbers : (o k : ℕ) (x : Object) → at f.objects o ≡ Some x → x.fs ≡ Some k → (first_inode f.fss k ≤ o) × (o < first_inode f.fss k + inodes_of f.fss k)
   pub opens : length f.opens ≡ f.limits.opens
   pub processes : count_by is_some f.processes ≤ f.limits.procs
