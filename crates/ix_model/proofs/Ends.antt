@@ -13,6 +13,10 @@ unfoldable pub Ends : {A : Type 0} → Outcome A → (Refusal → Frame → Type
 Ends (Refuse r g) P Q = P r g
 Ends (Pass a g) P Q = Q a g
 
+-- nothing is said of a refusal
+abbrev pub Anything : Refusal → Frame → Type 0
+Anything r g = Unit {0}
+
 ends_on_pass : {A B : Type 0} (o : Outcome A) (k : A → Frame → Outcome B) (P : Refusal → Frame → Type 0) (Q : B → Frame → Type 0) → Ends o P (λ a g. Ends (k a g) P Q) → Ends (on_pass o k) P Q
 unfolding Ends on_pass
 ends_on_pass (Refuse r g) k P Q h = h
@@ -22,12 +26,6 @@ pub ends_more : {A : Type 0} (o : Outcome A) (P : Refusal → Frame → Type 0) 
 unfolding Ends
 ends_more (Refuse r g) P Q R h k = h
 ends_more (Pass a g) P Q R h k = k a g h
-
--- whatever the outcome is
-pub ends_any : {A : Type 0} (o : Outcome A) (P : Refusal → Frame → Type 0) (Q : A → Frame → Type 0) → ((r : Refusal) (g : Frame) → P r g) → ((a : A) (g : Frame) → Q a g) → Ends o P Q
-unfolding Ends
-ends_any (Refuse r g) P Q h k = h r g
-ends_any (Pass a g) P Q h k = k a g
 
 -- what a row keeps is known where it ends
 pub ends_kept : {A : Type 0} (R : Frame → Type 0) (o : Outcome A) (P : Refusal → Frame → Type 0) (Q : A → Frame → Type 0) → Holds o R → ((r : Refusal) (g : Frame) → R g → P r g) → ((a : A) (g : Frame) → R g → Q a g) → Ends o P Q

@@ -1,7 +1,7 @@
 -- What a valid flat config says of its files, and that its opening world is a flat one.
-use Rattle.std.proofs.Common.{◌≡◌, ◌<◌, ◌≤◌, ◌+◌, ◌-◌, ◌==◌, ℕ, zero, suc, Bool, true, false, not, ◌&&◌, ◌||◌, List, [], ◌∷◌, ◌++◌, length, map, filter, sum, take, Option, Some, None, cond, refl, sym, ap, ◌∙◌, subst, arith, nat_le, length-append}
+use Rattle.std.proofs.Common.{◌≡◌, ◌<◌, ◌≤◌, ◌+◌, ◌-◌, ◌==◌, ℕ, zero, suc, Bool, true, false, not, ◌&&◌, ◌||◌, List, [], ◌∷◌, ◌++◌, length, map, sum, take, cond, refl, sym, ap, ◌∙◌, subst, arith, nat_le, length-append}
 use Rattle.std.specs.List.{list_any, list_all, All}
-use Rattle.std.proofs.lemmas.Bool.{and_parts, or_parts, or_from, and_from, not-true, not_from_false, not_from_true, eqb-true, leb-true}
+use Rattle.std.proofs.lemmas.Bool.{and_parts, or_parts, or_from, and_from, not-true, not_from_false, eqb-true, leb-true}
 use Rattle.std.proofs.lemmas.List.Elements.{All-nil, All-head, All-tail, All-push}
 use Rattle.std.proofs.lemmas.List.Folds.{list_any-append}
 use Rattle.std.proofs.lemmas.List.Sums.{sum-map, sum_by_push}
@@ -11,7 +11,7 @@ use Rattle.ix_model.specs.Naming.{same_bytes}
 use Rattle.ix_model.specs.Privs.{is_empty}
 use Rattle.ix_model.specs.World.{World}
 use Rattle.ix_model.specs.Step.{blocks_for}
-use Rattle.ix_model.specs.Opening.{inodes_of, last_name, with_object, with_objects, opening_world}
+use Rattle.ix_model.specs.Opening.{inodes_of, last_name, with_objects, opening_world}
 use Rattle.ix_model.specs.Valid.{all_differ, fs_of, fs_ceiling, blocks_of, lying_on, is_there, is_dir_there, is_well_formed, has_room, same_names, object_fits, objects_fit, is_flat_object}
 use Rattle.ix_model.specs.declared.config.Config.{Config}
 use Rattle.ix_model.specs.declared.config.Limits.{Limits}

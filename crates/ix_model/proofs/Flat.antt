@@ -1,14 +1,14 @@
 -- The opening world of a flat config: a root with files, written out.
-use Rattle.std.proofs.Common.{◌≡◌, ◌<◌, ◌≤◌, ◌+◌, ◌-◌, ◌==◌, ℕ, zero, suc, Bool, true, false, List, [], ◌∷◌, ◌++◌, length, map, take, drop, replicate, Option, Some, None, is_none, option_map, cond, refl, sym, ap, ◌∙◌, arith, get_or, set, unwrap_or, append_assoc, append-nil, length-append, nat_lt}
+use Rattle.std.proofs.Common.{◌≡◌, ◌<◌, ◌+◌, ◌-◌, ℕ, zero, suc, false, List, [], ◌∷◌, ◌++◌, length, map, take, replicate, Option, Some, None, is_none, option_map, cond, refl, sym, ap, ◌∙◌, arith, set, unwrap_or, append_assoc, append-nil, length-append, nat_lt}
 use Rattle.std.specs.Option.{option_map_or}
 use Rattle.std.proofs.lemmas.Bool.{cond-true, lt-ltb}
 use Rattle.std.proofs.lemmas.List.{length-replicate, length-map, length-take, get_or-take, map-append, replicate-append-replicate}
 use Rattle.std.proofs.lemmas.List.Sums.{position_or_len_is}
 use Rattle.std.proofs.Math.Seq.{set-append_seam}
-use Rattle.ix_model.specs.World.{World, Frame, Object, Process, Open, Holding, at, put, change, lowest_free}
+use Rattle.ix_model.specs.World.{World, Object, Holding, at, lowest_free}
 use Rattle.ix_model.specs.Walks.{node}
 use Rattle.ix_model.specs.Step.{holds_nothing}
-use Rattle.ix_model.specs.Opening.{inodes_of, free_inode, root_of, bare_objects, bare_world, process_of, directory_of, last_name, object_of, placed, with_object, with_objects}
+use Rattle.ix_model.specs.Opening.{free_inode, root_of, bare_objects, bare_world, process_of, directory_of, last_name, object_of, placed, with_object}
 use Rattle.ix_model.specs.declared.config.Config.{Config}
 use Rattle.ix_model.specs.declared.config.Limits.{Limits}
 use Rattle.ix_model.specs.declared.config.FsSpec.{FsSpec}

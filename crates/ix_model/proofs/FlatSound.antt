@@ -1,5 +1,5 @@
 -- A flat world is sound.
-use Rattle.std.proofs.Common.{◌≡◌, ◌<◌, ◌≤◌, ◌+◌, ◌==◌, ℕ, zero, suc, Bool, true, false, true≢false, not, ◌&&◌, ◌||◌, List, [], ◌∷◌, ◌++◌, length, map, sum, count_by, replicate, Option, Some, None, is_some, is_none, cond, if◌then◌else◌, refl, sym, ap, ◌∙◌, subst, arith, get_or, length-append, ◌⊎◌, inl, inr}
+use Rattle.std.proofs.Common.{◌≡◌, ◌<◌, ◌≤◌, ◌+◌, ◌==◌, ℕ, zero, suc, Bool, true, false, true≢false, not, ◌||◌, List, [], ◌∷◌, ◌++◌, length, map, sum, count_by, replicate, Option, Some, None, is_some, is_none, cond, if◌then◌else◌, refl, sym, ap, ◌∙◌, subst, arith, get_or, length-append, inl, inr}
 use Rattle.std.specs.Option.{option_map_or}
 use Rattle.std.specs.List.{list_all, sum_by, All}
 use Rattle.std.proofs.lemmas.Bool.{ne_eqb, eq-eqb, cases_lt, or_left, not_from_false, and_parts}
@@ -9,11 +9,11 @@ use Rattle.std.proofs.lemmas.List.Elements.{All-head, All-tail}
 use Rattle.std.proofs.lemmas.List.Sums.{sum-map, sum_by-cons, count_by-le-length}
 use Rattle.ix_label.specs.Category.{leq}
 use Rattle.ix_label.specs.Lattice.{bottom-leq}
-use Rattle.ix_model.specs.World.{World, Frame, Object, Process, Open, Holding, at, living, is_file, is_dir, is_pipe, held, ceiling_of}
+use Rattle.ix_model.specs.World.{World, Object, Process, Open, Holding, at, is_file, is_dir, is_pipe, held, ceiling_of}
 use Rattle.ix_model.specs.Step.{holding_of, holds_nothing, blocks_for, blocks_where, blocks_on, lies_on}
 use Rattle.ix_model.specs.Opening.{first_inode, inodes_of, root_of, object_of, process_of}
 use Rattle.ix_model.specs.Valid.{all_differ}
-use Rattle.ix_model.specs.Sound.{times_in, times_named, names_in_all, owned, LabelsBelow, NamesSound, LivesSound, OpensSound, ProcessesSound, ClaimsSound, WithinLimits, LengthsSound, Sound}
+use Rattle.ix_model.specs.Sound.{times_in, times_named, LabelsBelow, NamesSound, LivesSound, OpensSound, ProcessesSound, ClaimsSound, WithinLimits, LengthsSound, Sound}
 use Rattle.ix_model.specs.declared.reply.Kind.TheVariants as kind
 use Rattle.ix_model.specs.declared.config.Limits.{Limits}
 use Rattle.ix_model.specs.declared.config.FsSpec.{FsSpec}
@@ -224,8 +224,8 @@ module _ (l : Limits) (s : FsSpec) (procs : List ProcSpec) (bs : List ObjSpec) (
   flat_opens : OpensSound flat.frame
   flat_opens = record {
     descriptor = λ p q fd e lives is.
-      let a = process_at procs p q low (is_living _ q lives) in
-      none_some _ _ e (ap (λ (x : Process). at x.fds fd) (sym a.is) ∙ all_one None 32 fd) is;
+        let a = process_at procs p q low (is_living _ q lives) in
+        none_some _ _ e (ap (λ (x : Process). at x.fds fd) (sym a.is) ∙ all_one None 32 fd) is;
     owned = λ e some. absurd (true≢false (sym some ∙ ap is_some (all_one None l.opens e)));
     target = λ e x is. not_open e x _ is;
     end = λ e x is. not_open e x _ is;
@@ -235,11 +235,11 @@ module _ (l : Limits) (s : FsSpec) (procs : List ProcSpec) (bs : List ObjSpec) (
   flat_processes = record {
     none = refl;
     home = λ p q lives.
-      let a = process_at procs p q low (is_living _ q lives) in
-      ap (λ (x : Process). option_map_or is_dir (at (flat_objects bs n) x.cwd) false) (sym a.is);
+        let a = process_at procs p q low (is_living _ q lives) in
+        ap (λ (x : Process). option_map_or is_dir (at (flat_objects bs n) x.cwd) false) (sym a.is);
     parent = λ p k q is parent.
-      let a = process_at procs p q low is in
-      none_some _ _ k (ap (λ (x : Process). x.parent) (sym a.is)) parent;
+        let a = process_at procs p q low is in
+        none_some _ _ k (ap (λ (x : Process). x.parent) (sym a.is)) parent;
     descriptors = λ p q is. let a = process_at procs p q low is in ap (λ (x : Process). length x.fds) (sym a.is) ∙ length-replicate {A = Option ℕ} 32 None;
   }
 
@@ -258,9 +258,9 @@ module _ (l : Limits) (s : FsSpec) (procs : List ProcSpec) (bs : List ObjSpec) (
     pipes = each (λ o x. is_none x.fs ≡ is_pipe x) refl (λ j b f. sym (file_no_pipe b));
     past = each (λ o x. is_pipe x ≡ true → first_inode (s ∷ []) 1 ≤ o) (λ h. absurd (true≢false (sym h))) (λ j b f h. absurd (true≢false (sym h ∙ file_no_pipe b)));
     numbers = λ o k x is on. each (λ o x. x.fs ≡ Some k → (first_inode (s ∷ []) k ≤ o) × (o < first_inode (s ∷ []) k + inodes_of (s ∷ []) k))
-      (λ h. let e : 0 ≡ k = cc in subst (λ (k : ℕ). (first_inode (s ∷ []) k ≤ 0) × (0 < first_inode (s ∷ []) k + inodes_of (s ∷ []) k)) e (omega arith, omega (arith, r.inodes)))
-      (λ j b f h. let e : 0 ≡ k = cc in subst (λ (k : ℕ). (first_inode (s ∷ []) k ≤ suc j) × (suc j < first_inode (s ∷ []) k + inodes_of (s ∷ []) k)) e (omega arith, omega (arith, r.inodes, f.low)))
-      o x is on;
+        (λ h. let e : 0 ≡ k = cc in subst (λ (k : ℕ). (first_inode (s ∷ []) k ≤ 0) × (0 < first_inode (s ∷ []) k + inodes_of (s ∷ []) k)) e (omega arith, omega (arith, r.inodes)))
+        (λ j b f h. let e : 0 ≡ k = cc in subst (λ (k : ℕ). (first_inode (s ∷ []) k ≤ suc j) × (suc j < first_inode (s ∷ []) k + inodes_of (s ∷ []) k)) e (omega arith, omega (arith, r.inodes, f.low)))
+        o x is on;
     opens = length-replicate {A = Option Open} l.opens None;
     processes = omega (arith, sum_by-cons (λ (q : Option Process). cond {A = ℕ} (is_some q) 1 0) None (processes_of procs), count_by-le-length is_some (processes_of procs), length-map procs (λ p. Some (process_of p)));
     names = omega (arith, sum_flat (λ x. option_map_or (λ y. length y.names) x 0) bs n refl (λ b. refl), length-named 1 bs, r.names);

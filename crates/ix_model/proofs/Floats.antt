@@ -1,8 +1,8 @@
 -- The calls that look, read and write change nothing in the frame but labels.
-use Rattle.std.proofs.Common.{◌≡◌, ℕ, Bool, true, false, Option, Some, None, refl, sym, ap, ◌∙◌}
-use Rattle.ix_label.specs.Category.{Categories, bottom, join}
+use Rattle.std.proofs.Common.{◌≡◌, ℕ, refl}
+use Rattle.ix_label.specs.Category.{Categories, bottom}
 use Rattle.ix_model.specs.Naming.{PathOf}
-use Rattle.ix_model.specs.World.{Frame, Object, Process, Open, at, put, change}
+use Rattle.ix_model.specs.World.{Frame, Object, Process}
 use Rattle.ix_model.specs.Rows.{change_object, change_caller, observe, affect}
 use Rattle.ix_model.specs.Walks.{found, walked_to, opened}
 use Rattle.ix_model.specs.Table.{Told, self_label, read_fd, write_fd}

@@ -1,5 +1,5 @@
 -- A new open entry under a free descriptor keeps a world sound.
-use Rattle.std.proofs.Common.{◌≡◌, ◌<◌, ◌≤◌, ◌==◌, ℕ, Bool, true, false, true≢false, not, ◌&&◌, ◌||◌, List, length, sum, count_by, map, replicate, Option, Some, None, is_some, is_none, option_map, cond, refl, sym, ap, ◌∙◌, subst, arith, inl, inr, set, length-set}
+use Rattle.std.proofs.Common.{◌≡◌, ◌<◌, ◌==◌, ℕ, Bool, true, false, true≢false, not, ◌&&◌, ◌||◌, List, length, sum, count_by, map, replicate, Option, Some, None, is_some, is_none, option_map, cond, refl, sym, ap, ◌∙◌, subst, arith, inl, inr, length-set}
 use Rattle.std.specs.Option.{option_map_or}
 use Rattle.std.specs.List.{list_any}
 use Rattle.std.proofs.lemmas.Bool.Decides.{eqb_tells}
@@ -8,9 +8,9 @@ use Rattle.std.proofs.lemmas.List.{get_or-set_same, get_or-set_other, get_or_pas
 use Rattle.std.proofs.lemmas.List.Folds.{list_any_at}
 use Rattle.std.proofs.lemmas.List.Sums.{sum-map}
 use Rattle.std.proofs.lemmas.List.Quantifiers.{position-Some}
-use Rattle.ix_model.specs.World.{Frame, Content, Object, Process, Open, at, put, change, lowest_free, living, lives, is_dir, is_pipe, is_on, held}
+use Rattle.ix_model.specs.World.{Frame, Content, Process, Open, at, put, change, lowest_free, living, is_dir, is_pipe, is_on, held}
 use Rattle.ix_model.specs.Sound.{is_at, times_named, owns, owned, NamesSound, LivesSound, OpensSound, ProcessesSound, ClaimsSound, WithinLimits, LengthsSound}
-use Rattle.ix_model.proofs.Tables.{SameBut, Back, back, same_itself, same_changed, seen_same, seen_changed, map_changed, at_changed, any_put, any_more}
+use Rattle.ix_model.proofs.Tables.{SameBut, Back, back, same_itself, same_changed, seen_changed, map_changed, at_changed, any_put, any_more}
 use Rattle.ix_model.proofs.Lasts.{some_put}
 use Rattle.ix_model.proofs.Labels.{is_living}
 use Rattle.ix_model.proofs.Floated.{not_ended, none_is, lives_as, has_on}
@@ -167,14 +167,14 @@ module _ (f : Frame) (pid : ℕ) (p : Process) (fd e : ℕ) (x : Open) (lives : 
   processes_given r = record {
     none = none_is _ (seen_changed is_none give (λ y. refl) f.processes pid 0 ∙ ap is_none r.none);
     home = λ n q alive.
-      let w = given_was n q (is_living _ q alive) in
-      ap (λ y. option_map_or is_dir (at f.objects y.cwd) false) w.same ∙ r.home n w.was (lives_as _ w.was w.is_was (sym (ap (λ y. y.ended) w.same) ∙ not_ended _ q alive));
+        let w = given_was n q (is_living _ q alive) in
+        ap (λ y. option_map_or is_dir (at f.objects y.cwd) false) w.same ∙ r.home n w.was (lives_as _ w.was w.is_was (sym (ap (λ y. y.ended) w.same) ∙ not_ended _ q alive));
     parent = λ n k q is parent.
-      let w = given_was n q is in
-      seen_changed (λ y. option_map_or (λ z. not z.ended) y false) give (λ y. refl) f.processes pid k ∙ r.parent n k w.was w.is_was (sym (ap (λ y. y.parent) w.same) ∙ parent);
+        let w = given_was n q is in
+        seen_changed (λ y. option_map_or (λ z. not z.ended) y false) give (λ y. refl) f.processes pid k ∙ r.parent n k w.was w.is_was (sym (ap (λ y. y.parent) w.same) ∙ parent);
     descriptors = λ n q is.
-      let w = given_was n q is in
-      sym (length-replicate {A = Option ℕ} (length q.fds) None) ∙ ap (λ y. length y.fds) w.same ∙ length-replicate {A = Option ℕ} (length w.was.fds) None ∙ r.descriptors n w.was w.is_was;
+        let w = given_was n q is in
+        sym (length-replicate {A = Option ℕ} (length q.fds) None) ∙ ap (λ y. length y.fds) w.same ∙ length-replicate {A = Option ℕ} (length w.was.fds) None ∙ r.descriptors n w.was w.is_was;
   }
 
   -- ---- claims

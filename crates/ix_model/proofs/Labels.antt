@@ -1,13 +1,12 @@
 -- No row lifts a label above its ceiling.
-use Rattle.std.proofs.Common.{◌≡◌, ◌≢◌, ℕ, Bool, true, false, Option, Some, None, option_map, refl, sym, ap, ◌∙◌, subst, inl, inr, if◌then◌else◌}
+use Rattle.std.proofs.Common.{◌≡◌, ℕ, Bool, true, false, Option, Some, None, option_map, refl, sym, ap, ◌∙◌, subst, inl, inr, if◌then◌else◌}
 use Rattle.std.specs.Option.{option_map_or}
 use Rattle.std.proofs.lemmas.Bool.Decides.{eqb_tells}
 use Rattle.std.proofs.lemmas.List.{get_or-set_other}
 use Rattle.ix_label.specs.Category.{Categories, join, leq}
 use Rattle.ix_model.specs.Naming.{PathOf}
-use Rattle.ix_model.specs.World.{Frame, Object, Process, Open, at, put, change, living, ceiling_of}
-use Rattle.ix_model.specs.Outcomes.{Outcome, Refuse, Pass}
-use Rattle.ix_model.specs.Rows.{put_open, change_object, change_caller, observe, affect}
+use Rattle.ix_model.specs.World.{Frame, Object, Process, Open, at, change, living, ceiling_of}
+use Rattle.ix_model.specs.Rows.{put_open, change_caller, observe, affect}
 use Rattle.ix_model.specs.Walks.{found, walked_to, opened}
 use Rattle.ix_model.specs.Table.{Told, self_label, open_at, read_fd, write_fd, row, decide}
 use Rattle.ix_model.specs.Sound.{LabelsBelow}

@@ -1,10 +1,9 @@
 -- Lengths and blocks after a read and after a write.
-use Rattle.std.proofs.Common.{◌≡◌, ◌≢◌, ◌<◌, ◌≤◌, ◌==◌, ◌+◌, ◌-◌, ◌*◌, ℕ, zero, suc, max, Bool, true, false, true≢false, not, ◌&&◌, ◌||◌, List, [], ◌∷◌, ◌++◌, length, take, drop, replicate, Option, Some, None, is_none, cond, if◌then◌else◌, nat_le, nat_lt, refl, sym, ap, ◌∙◌, subst, arith, inl, inr, get_or, set, length-set, length-append}
+use Rattle.std.proofs.Common.{◌≡◌, ◌≢◌, ◌<◌, ◌≤◌, ◌==◌, ◌+◌, ◌-◌, ℕ, zero, suc, max, Bool, true, false, true≢false, not, ◌&&◌, List, [], ◌∷◌, ◌++◌, length, take, drop, replicate, Option, Some, None, if◌then◌else◌, nat_le, nat_lt, refl, sym, ap, ◌∙◌, subst, arith, get_or, set, length-set, length-append}
 use Rattle.std.specs.Option.{option_map_or, option_and_then}
-use Rattle.std.proofs.lemmas.Bool.Decides.{eqb_tells}
 use Rattle.std.proofs.lemmas.Bool.{cond-false, lt-leb, ne_eqb, not-true, ltb-false, eqb-true, or_parts}
 use Rattle.std.proofs.lemmas.List.{length-replicate, length-take, length-drop}
-use Rattle.ix_model.specs.World.{World, Frame, Content, Object, Process, Open, Holding, at, is_pipe}
+use Rattle.ix_model.specs.World.{Frame, Content, Object, Holding, at, is_pipe}
 use Rattle.ix_model.specs.Walks.{Behind}
 use Rattle.ix_model.specs.Step.{holding_of, offset_of, holds_nothing, side, with_side, on_pipe, readable, after_read, after_write, spliced, blocks_for, blocks_where, blocks_on, lies_on, fs_at, length_then, told_of_pipe_write, told_of_file_write, told_of_write}
 use Rattle.ix_model.specs.Table.{Told}

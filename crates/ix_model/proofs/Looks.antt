@@ -1,6 +1,6 @@
 -- What the two rules of floating come to: a refusal that changes nothing, nothing to do, or a label joined that may be.
-use Rattle.std.proofs.Common.{◌≡◌, ℕ, Bool, true, false, Option, Some, None}
-use Rattle.ix_label.specs.Category.{Categories, join, leq, same}
+use Rattle.std.proofs.Common.{◌≡◌, ℕ, true, Some}
+use Rattle.ix_label.specs.Category.{Categories, join, leq}
 use Rattle.ix_model.specs.World.{Frame, Object, Process, at, change, living, ceiling_of}
 use Rattle.ix_model.specs.Rows.{observe, affect}
 use Rattle.ix_model.specs.declared.refusal.Refusal.{Refusal}
@@ -24,3 +24,7 @@ ends_affect pid o f P Q refused stays changes =
     (λ same. stays))))
     (refused _)))
     (refused _))
+
+-- whatever becomes of the object
+pub ends_touch : (pid o : ℕ) (f : Frame) (P : Refusal → Frame → Type 0) (Q : Unit {0} → Frame → Type 0) → ((r : Refusal) → P r f) → ((g : Frame) → Q tt g) → Ends (affect pid o f) P Q
+ends_touch pid o f P Q h k = ends_affect pid o f P Q h (k f) (λ l x is low. k _)

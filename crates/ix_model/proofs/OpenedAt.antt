@@ -1,9 +1,8 @@
 -- What OpenAt comes to: a refusal after which only labels differ, or an open entry for what was found.
-use Rattle.std.proofs.Common.{◌≡◌, ℕ, Bool, true, false, not, Option, Some, None, refl, sym, ap, ◌∙◌}
+use Rattle.std.proofs.Common.{◌≡◌, ℕ, true, false, not, Option, Some, refl, ap, ◌∙◌}
 use Rattle.std.specs.Option.{option_map_or}
 use Rattle.ix_model.specs.Naming.{PathOf}
-use Rattle.ix_model.specs.World.{Frame, Object, Process, Open, at, living, lowest_free, is_dir}
-use Rattle.ix_model.specs.Outcomes.{Row, Outcome, Refuse, Pass}
+use Rattle.ix_model.specs.World.{Frame, Object, Process, at, living, lowest_free, is_dir}
 use Rattle.ix_model.specs.Walks.{found}
 use Rattle.ix_model.specs.Table.{open_at}
 use Rattle.ix_model.specs.declared.call.Mode.{Mode}
@@ -34,8 +33,18 @@ is_no_dir o x is h = ap (λ y. option_map_or (λ z. not (is_dir z)) y false) is 
 
 made : (pid : ℕ) (mode : Mode) (f m : Frame) (o : ℕ) (x : Object) (p : Process) (fd e : ℕ) → Floats f m → at m.objects o ≡ Some x → not (is_dir x) ≡ true → living (at m.processes pid) ≡ Some p → lowest_free p.fds ≡ Some fd → lowest_free m.opens ≡ Some e → Opening pid f (given m pid fd e (record { object = o; end = 0; mode = mode }))
 made pid mode f m o x p fd e floated is no_dir lives free_fd free = record {
-  mid = m; floated = floated; object = o; mode = mode; caller = p; fd = fd; entry = e;
-  no_dir = is_no_dir _ x is no_dir; is_caller = lives; free_fd = free_fd; free = free; after = refl;
+  mid = m;
+  floated = floated;
+  object = o;
+  mode = mode;
+  caller = p;
+  fd = fd;
+  entry = e;
+  no_dir = is_no_dir _ x is no_dir;
+  is_caller = lives;
+  free_fd = free_fd;
+  free = free;
+  after = refl;
 }
 
 ends_found : (pid : ℕ) (path : PathOf) (f : Frame) (P : Refusal → Frame → Type 0) (Q : ℕ → Frame → Type 0) → ((r : Refusal) (g : Frame) → Floats f g → P r g) → ((o : ℕ) (g : Frame) → Floats f g → Q o g) → Ends (found pid path f) P Q

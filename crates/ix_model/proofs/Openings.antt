@@ -1,13 +1,13 @@
 -- The opening world is clean.
-use Rattle.std.proofs.Common.{◌≡◌, ◌≢◌, ◌<◌, ◌+◌, ℕ, zero, suc, Bool, true, false, List, [], ◌∷◌, length, map, take, drop, replicate, Option, Some, None, is_some, is_none, option_map, refl, sym, ap, ◌∙◌, arith, get_or, set, unwrap_or, true≢false, inl, inr}
+use Rattle.std.proofs.Common.{◌≡◌, ◌<◌, ◌+◌, ℕ, zero, suc, false, List, [], ◌∷◌, length, take, drop, replicate, Option, Some, None, is_some, is_none, option_map, refl, sym, ap, ◌∙◌, arith, get_or, unwrap_or, true≢false, inl, inr}
 use Rattle.std.specs.Option.{option_map_or}
 use Rattle.std.proofs.lemmas.Bool.Decides.{eqb_tells}
 use Rattle.std.proofs.lemmas.List.{get_or-set_other, get_or-set_same, length-replicate, length-map, length-take, length-drop}
 use Rattle.std.proofs.lemmas.List.Quantifiers.{position-Some}
-use Rattle.ix_model.specs.World.{World, Frame, Object, Process, at, put, change, lowest_free, is_ended}
+use Rattle.ix_model.specs.World.{World, Frame, at, put, lowest_free}
 use Rattle.ix_model.specs.Walks.{node}
 use Rattle.ix_model.specs.Clean.{IsClean}
-use Rattle.ix_model.specs.Step.{holding_of, offset_of, holds_nothing}
+use Rattle.ix_model.specs.Step.{holds_nothing}
 use Rattle.ix_model.specs.Opening.{first_inode, inodes_of, free_inode, bare_objects, bare_world, directory_of, process_of, object_of, placed, with_object, with_objects, opening_world}
 use Rattle.ix_model.specs.declared.config.Config.{Config}
 use Rattle.ix_model.specs.declared.config.ObjSpec.{ObjSpec}
@@ -42,11 +42,11 @@ free_inside f k o h = go (lowest_free (take (inodes_of f.fss k) (drop (first_ino
 clean_placed : (w : World) (spec : ObjSpec) (dir k o : ℕ) → o < length w.frame.objects → IsClean w → IsClean (placed w spec dir k o)
 clean_placed w spec dir k o low clean = record {
   holdings = λ m gone.
-    let put_gone : is_some (at (put w.frame.objects o (Some (object_of k spec))) m) ≡ false = sym (seen_changed is_some _ (λ x. refl) (put w.frame.objects o (Some (object_of k spec))) dir m) ∙ gone in
-    elim (eqb_tells m o) [
-      | inl here ↦ absurd (true≢false (sym (ap is_some (ap (λ n. at (put w.frame.objects o (Some (object_of k spec))) n) here.1 ∙ get_or-set_same w.frame.objects o (Some (object_of k spec)) None low)) ∙ put_gone))
-      | inr other ↦ get_or-set_other w.content.holdings o m _ holds_nothing other.1 ∙ clean.holdings m (sym (ap is_some (get_or-set_other w.frame.objects o m (Some (object_of k spec)) None other.1)) ∙ put_gone)
-    ];
+      let put_gone : is_some (at (put w.frame.objects o (Some (object_of k spec))) m) ≡ false = sym (seen_changed is_some _ (λ x. refl) (put w.frame.objects o (Some (object_of k spec))) dir m) ∙ gone in
+      elim (eqb_tells m o) [
+        | inl here ↦ absurd (true≢false (sym (ap is_some (ap (λ n. at (put w.frame.objects o (Some (object_of k spec))) n) here.1 ∙ get_or-set_same w.frame.objects o (Some (object_of k spec)) None low)) ∙ put_gone))
+        | inr other ↦ get_or-set_other w.content.holdings o m _ holds_nothing other.1 ∙ clean.holdings m (sym (ap is_some (get_or-set_other w.frame.objects o m (Some (object_of k spec)) None other.1)) ∙ put_gone)
+      ];
   offsets = clean.offsets;
   statuses = clean.statuses;
   count = clean.count;

@@ -1,5 +1,5 @@
 -- Every world that a valid flat config and built calls reach is sound and clean.
-use Rattle.std.proofs.Common.{◌≡◌, ◌≤◌, ◌==◌, ℕ, suc, Bool, true, false, ◌&&◌, List, [], ◌∷◌, length, map, refl, sym, ap, ◌∙◌, subst, arith, nat_le}
+use Rattle.std.proofs.Common.{◌≡◌, ◌≤◌, ◌==◌, ℕ, suc, true, ◌&&◌, List, [], ◌∷◌, length, map, refl, sym, ap, ◌∙◌, subst, arith, nat_le}
 use Rattle.std.specs.List.{list_all}
 use Rattle.std.proofs.lemmas.Bool.{and_parts, eqb-true, leb-true}
 use Rattle.ix_label.specs.Category.{leq}
@@ -16,7 +16,7 @@ use Rattle.ix_model.specs.declared.config.FsSpec.{FsSpec}
 use Rattle.ix_model.proofs.Openings.{clean_opening}
 use Rattle.ix_model.proofs.Cleaning.{clean_step}
 use Rattle.ix_model.proofs.Stepping.{sound_step}
-use Rattle.ix_model.proofs.Fitting.{IsFlatWorld, flat_opening}
+use Rattle.ix_model.proofs.Fitting.{flat_opening}
 use Rattle.ix_model.proofs.FlatSound.{flat_sound}
 
 one_of : {A : Type 0} (xs : List A) → (length xs == 1) ≡ true → (x : A) × (xs ≡ x ∷ [])

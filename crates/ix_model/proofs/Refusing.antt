@@ -1,14 +1,14 @@
 -- What a refusal leaves: the world but for the caller's label.
-use Rattle.std.proofs.Common.{◌≡◌, ℕ, Bool, true, false, true≢false, List, length, take, Option, Some, None, refl, sym, ap, ◌∙◌, subst, if◌then◌else◌}
+use Rattle.std.proofs.Common.{◌≡◌, ℕ, Bool, true, false, true≢false, List, Option, Some, None, refl, sym, ap, ◌∙◌, subst, if◌then◌else◌}
 use Rattle.ix_label.specs.Category.{Categories, bottom, join}
 use Rattle.ix_model.specs.Naming.{PathOf}
 use Rattle.ix_model.specs.Refusals.{keeps_label}
 use Rattle.ix_model.specs.World.{Frame, World, Process, at, change, lives}
-use Rattle.ix_model.specs.Outcomes.{Row, Outcome, Refuse, Pass}
-use Rattle.ix_model.specs.Rows.{observe, affect}
+use Rattle.ix_model.specs.Outcomes.{Outcome, Refuse, Pass}
+use Rattle.ix_model.specs.Rows.{observe}
 use Rattle.ix_model.specs.Walks.{Behind, behind, found, walked_to}
 use Rattle.ix_model.specs.Table.{Told, Decision, decide, settled, self_label, open_at, read_fd, write_fd, row}
-use Rattle.ix_model.specs.Step.{carried, plainly, readable, read_answer, write_answer, answer, step, told}
+use Rattle.ix_model.specs.Step.{carried, plainly, read_answer, write_answer, answer, step, told}
 use Rattle.ix_model.specs.Clean.{IsClean}
 use Rattle.ix_model.specs.Laws.{Refused}
 use Rattle.ix_model.specs.History.{Op}
@@ -19,9 +19,9 @@ use Rattle.ix_model.specs.declared.reply.Reply.TheVariants as reply
 use Rattle.ix_model.specs.declared.refusal.Refusal.{Refusal}
 use Rattle.ix_model.specs.declared.refusal.Refusal.TheVariants as refusal
 use Rattle.ix_model.proofs.Tables.{change_same, change_twice}
-use Rattle.ix_model.proofs.Keeps.{Holds, Keeps, keeping}
+use Rattle.ix_model.proofs.Keeps.{Keeps, keeping}
 use Rattle.ix_model.proofs.Ends.{Ends, ending, ends_kept, kept_ends, ends_refuse}
-use Rattle.ix_model.proofs.Looks.{ends_observe, ends_affect}
+use Rattle.ix_model.proofs.Looks.{ends_observe, ends_touch}
 use Rattle.ix_model.proofs.Carrying.{carried_decided}
 
 -- ---- a frame that differs in the caller's label alone
@@ -37,10 +37,13 @@ relabelled_itself pid f = go (at f.processes pid) refl
 
     go : (o : Option Process) → at f.processes pid ≡ o → Relabelled pid f f
     go None is = record { label = bottom; is = ap (λ t. record f { processes = t }) (sym (change_same f.processes pid (to bottom) (λ x here. let e : None ≡ Some x = sym is ∙ here in cc))) }
-    go (Some p) is = record { label = p.label; is = ap (λ t. record f { processes = t }) (sym (change_same f.processes pid (to p.label) (λ x here.
-      let e : Some p ≡ Some x = sym is ∙ here in
-      let same : p ≡ x = cc in
-      ap (λ y. record x { label = y.label }) same))) }
+    go (Some p) is = record {
+      label = p.label;
+      is = ap (λ t. record f { processes = t }) (sym (change_same f.processes pid (to p.label) (λ x here.
+          let e : Some p ≡ Some x = sym is ∙ here in
+          let same : p ≡ x = cc in
+          ap (λ y. record x { label = y.label }) same)));
+    }
 
 relabelled_more : (pid : ℕ) (seen : Categories) (f g : Frame) → Relabelled pid f g → Relabelled pid f (record g { processes = change g.processes pid (λ p. record p { label = join p.label seen }) })
 relabelled_more pid seen f g r =
@@ -73,9 +76,6 @@ ends_found pid path f P Q h k = ends_kept (Relabelled pid f) (found pid path f) 
 
 ends_look : (pid : ℕ) (seen : Categories) (f : Frame) (P : Refusal → Frame → Type 0) (Q : Unit {0} → Frame → Type 0) → ((r : Refusal) (g : Frame) → Relabelled pid f g → P r g) → ((u : Unit {0}) (g : Frame) → Relabelled pid f g → Q u g) → Ends (observe pid seen f) P Q
 ends_look pid seen f P Q h k = ends_kept (Relabelled pid f) (observe pid seen f) P Q ((relabelled_observe pid f seen).led f (relabelled_itself pid f)) h k
-
-ends_touch : (pid o : ℕ) (f : Frame) (P : Refusal → Frame → Type 0) (Q : Unit {0} → Frame → Type 0) → ((r : Refusal) → P r f) → ((g : Frame) → Q tt g) → Ends (affect pid o f) P Q
-ends_touch pid o f P Q h k = ends_affect pid o f P Q h (k f) (λ l x is low. k _)
 
 ruleset refusing = (ending, ends_found, ends_look, ends_touch, relabelled_itself)
 

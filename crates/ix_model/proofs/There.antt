@@ -4,14 +4,13 @@ use Rattle.std.specs.Option.{option_map_or}
 use Rattle.std.proofs.lemmas.Bool.{eq-eqb}
 use Rattle.std.proofs.lemmas.List.Sums.{sum_by-cons}
 use Rattle.ix_model.specs.Naming.{PathOf, same_bytes}
-use Rattle.ix_model.specs.World.{Frame, World, Object, Process, at, living, is_dir, is_pipe}
+use Rattle.ix_model.specs.World.{Frame, World, Object, Process, at, is_dir, is_pipe}
 use Rattle.ix_model.specs.Outcomes.{Outcome, Refuse, Pass}
 use Rattle.ix_model.specs.Walks.{Behind, behind, Sought, node, child, lacking, looking_into, walk_from, walk, walked_to, found}
 use Rattle.ix_model.specs.Walks as sought
 use Rattle.ix_model.specs.Sound.{NamesSound, Sound}
 use Rattle.ix_model.specs.Laws.{ObjectsThere}
-use Rattle.ix_model.specs.declared.refusal.Refusal.{Refusal}
-use Rattle.ix_model.proofs.Ends.{Ends, ends_bind, ends_then, ends_caller, ends_frame, ends_pass, ends_there}
+use Rattle.ix_model.proofs.Ends.{Ends, Anything, ends_bind, ends_then, ends_caller, ends_frame, ends_pass, ends_there}
 use Rattle.ix_model.proofs.Looks.{ends_observe}
 use Rattle.ix_model.proofs.Standing.{behind_is, stands}
 
@@ -73,9 +72,6 @@ start_there f p true s home = dir_there _ s.root
 start_there f p false s home = dir_there _ home
 
 -- ---- the laws
-abbrev Anything : Refusal → Frame → Type 0
-Anything r g = Unit {0}
-
 found_ends : (w : World) (pid : ℕ) (path : PathOf) → Sound w → Ends (found pid path w.frame) Anything (λ o g. is_some (at g.objects o) ≡ true)
 unfolding found walked_to
 found_ends w pid path s =
@@ -84,11 +80,11 @@ found_ends w pid path s =
     ends_bind _ _ f Anything Q (
     ends_bind _ _ f Anything _ (ends_caller pid f Anything _ (λ p lives.
     let here : (o : ℕ) (dir : Option ℕ) → (walk f.objects p path).outcome ≡ sought.Found o dir → is_some (at f.objects o) ≡ true =
-      λ o dir is. walk_there f s.names path.names (if path.absolute then 0 else p.cwd) None o dir (start_there f p path.absolute s.names (s.processes.home pid p lives)) is in
+    λ o dir is. walk_there f s.names path.names (if path.absolute then 0 else p.cwd) None o dir (start_there f p path.absolute s.names (s.processes.home pid p lives)) is in
     ends_bind _ _ f Anything _ (ends_frame f Anything _ (
     ends_then _ _ f Anything _ (ends_observe pid _ f Anything _ (λ r. tt)
-      (ends_pass _ f Anything _ (ends_there _ f Anything Q here tt tt))
-      (λ q alive low. ends_pass _ _ Anything _ (ends_there _ _ Anything Q here tt tt)))))) tt))
+    (ends_pass _ f Anything _ (ends_there _ f Anything Q here tt tt))
+    (λ q alive low. ends_pass _ _ Anything _ (ends_there _ _ Anything Q here tt tt)))))) tt))
 
 passed : (o : Outcome ℕ) (n : ℕ) (g : Frame) (Q : ℕ → Frame → Type 0) → o ≡ Pass n g → Ends o Anything Q → Q n g
 unfolding Ends

@@ -1,5 +1,5 @@
 -- The laws of the machine's worlds: which are sound and clean, and what a refusal leaves.
-use Rattle.std.specs.Prelude.{◌≡◌, ℕ, Bool, true, false, List, Some, is_some}
+use Rattle.std.specs.Prelude.{◌≡◌, ℕ, true, false, List, Some, is_some}
 use Rattle.std.specs.List.{list_all}
 use Rattle.ix_label.specs.Category.{Categories}
 use Rattle.ix_model.specs.Naming.{PathOf}
