@@ -243,8 +243,13 @@ module _ (l : Limits) (s : FsSpec) (procs : List ProcSpec) (bs : List ObjSpec) (
     descriptors = λ p q is. let a = process_at procs p q low is in ap (λ (x : Process). length x.fds) (sym a.is) ∙ length-replicate {A = Option ℕ} 32 None;
   }
 
+  unclaimed : (o end : ℕ) (x : Object) → at (flat_objects bs n) o ≡ Some x → at x.claims end ≡ None
+  unclaimed o zero x is = each (λ o x. at x.claims 0 ≡ None) refl (λ j b f. refl) o x is
+  unclaimed o (suc zero) x is = each (λ o x. at x.claims 1 ≡ None) refl (λ j b f. refl) o x is
+  unclaimed o (suc (suc k)) x is = each (λ o x. at x.claims (suc (suc k)) ≡ None) refl (λ j b f. refl) o x is
+
   flat_claims : ClaimsSound flat.frame
-  flat_claims = record { claimant = λ o end p x is claim. none_some _ (at x.claims end) p (each (λ o x. at x.claims end ≡ None) refl (λ j b f. refl) o x is) claim }
+  flat_claims = record { claimant = λ o end p x is claim. none_some _ (at x.claims end) p (unclaimed o end x is) claim }
 
   flat_long : length (flat_objects bs n) ≡ suc (length bs + n)
   flat_long = ap suc (length-append (map file_of bs) (replicate n None) ∙ (λ i. length-map bs file_of i + length-replicate {A = Option Object} n None i))
