@@ -53,10 +53,10 @@ lying_all s (b ∷ bs) =
     ap (λ k. cond (k == 0) (b ∷ lying_on (s ∷ []) 0 bs) (lying_on (s ∷ []) 0 bs)) (fs_of_flat s b.path.names) ∙ ap (λ t. b ∷ t) (lying_all s bs)
 
 -- ---- names
-one_name : (names : List (List ℕ)) → (length names == 1) ≡ true → (name : List ℕ) × (names ≡ name ∷ [])
-one_name [] h = cc
-one_name (x ∷ []) h = (x, refl)
-one_name (x ∷ y ∷ ys) h = absurd (omega (arith, eqb-true (length (x ∷ y ∷ ys)) 1 h))
+pub one_of : {A : Type 0} (xs : List A) → (length xs == 1) ≡ true → (x : A) × (xs ≡ x ∷ [])
+one_of [] h = cc
+one_of (x ∷ []) h = (x, refl)
+one_of (x ∷ y ∷ ys) h = absurd (omega (arith, eqb-true (length (x ∷ y ∷ ys)) 1 h))
 
 and_true : (a : Bool) → (a && true) ≡ false → a ≡ false
 and_true true h = h
@@ -101,7 +101,7 @@ flat_file s o flat formed low =
     let f4 = and_parts (not o.dir) (not o.frozen) f3.0 in
     let w1 = and_parts (o.path.absolute && nat_le 1 (length o.path.names) && nat_le (length o.bytes) 1048576) (not o.dir || (is_empty o.cap && is_empty o.lic && length o.bytes == 0)) formed in
     let w2 = and_parts (o.path.absolute && nat_le 1 (length o.path.names)) (nat_le (length o.bytes) 1048576) w1.0 in
-    let name = one_name o.path.names f1.1 in
+    let name = one_of o.path.names f1.1 in
     record {
       no_dir = not-true _ f4.0;
       below = ap (λ k. leq o.label (fs_ceiling (s ∷ []) k)) (sym (fs_of_flat s o.path.names)) ∙ low;

@@ -20,8 +20,9 @@ use Rattle.ix_model.specs.declared.config.FsSpec.{FsSpec}
 use Rattle.ix_model.specs.declared.config.ProcSpec.{ProcSpec}
 use Rattle.ix_model.specs.declared.config.ObjSpec.{ObjSpec}
 use Rattle.ix_model.proofs.Openings.{all_one}
-use Rattle.ix_model.proofs.Lengths.{at_most}
-use Rattle.ix_model.proofs.Labels.{is_living}
+use Rattle.ix_model.proofs.Blocks.{blocks_all, blocks_none}
+use Rattle.ix_model.proofs.Living.{is_living}
+use Rattle.ix_model.proofs.There.{counted}
 use Rattle.ix_model.proofs.Flat.{named, root_with, file_of, bytes_of, flat_objects, flat_holdings, flat_world}
 use Rattle.ix_model.proofs.Fitting.{IsFlatFile, FlatFits, name_of, blocks_in}
 
@@ -83,8 +84,8 @@ file_no_pipe b = go b.dir
     go false = refl
 
 -- ---- the root's names
-count-cons : (o k : ℕ) (b : ObjSpec) (bs : List ObjSpec) → count_by (λ m. m.1 == o) (named k (b ∷ bs)) ≡ cond (k == o) 1 0 + count_by (λ m. m.1 == o) (named (suc k) bs)
-count-cons o k b bs = let first : List ℕ × ℕ = (name_of b, k) in sum_by-cons (λ (m : List ℕ × ℕ). cond (m.1 == o) 1 0) first (named (suc k) bs)
+count-cons : (o k : ℕ) (b : ObjSpec) (bs : List ObjSpec) → count_by (λ m. m.1 == o) (named k (b ∷ bs)) ≡ cond {A = ℕ} (k == o) 1 0 + count_by (λ m. m.1 == o) (named (suc k) bs)
+count-cons o k b bs = counted o (name_of b, k) (named (suc k) bs)
 
 named_within : (o k : ℕ) (bs : List ObjSpec) → 0 < count_by (λ m. m.1 == o) (named k bs) → (k ≤ o) × (o < k + length bs)
 named_within o k [] h = absurd (omega arith)
@@ -137,21 +138,6 @@ file_there (b ∷ bs) n zero h = not_from_false _ (file_no_pipe b)
 file_there (b ∷ bs) n (suc j) h = file_there bs n j (omega arith)
 
 -- ---- blocks
-blocks_all : (p : ℕ → Bool) (n : ℕ) (hs : List Holding) → blocks_where p n hs ≤ sum_by (λ h. blocks_for (length h.first)) hs
-blocks_all p n [] = omega arith
-blocks_all p n (h ∷ hs) =
-    let rest = blocks_all p (suc n) hs in
-    let whole = sum_by-cons (λ (h : Holding). blocks_for (length h.first)) h hs in
-    let one : (if p n then blocks_for (length h.first) else 0) ≤ blocks_for (length h.first) = at_most (p n) _ in
-    omega arith
-
-blocks_none : (p : ℕ → Bool) (n : ℕ) (hs : List Holding) → ((m : ℕ) → p m ≡ false) → blocks_where p n hs ≡ 0
-blocks_none p n [] none = refl
-blocks_none p n (h ∷ hs) none =
-    let rest = blocks_none p (suc n) hs none in
-    let one : (if p n then blocks_for (length h.first) else 0) ≡ 0 = ap (λ b. if b then blocks_for (length h.first) else 0) (none n) in
-    omega arith
-
 blocks_of_none : (n : ℕ) → sum_by (λ h. blocks_for (length h.first)) (replicate n holds_nothing) ≡ 0
 blocks_of_none zero = refl
 blocks_of_none (suc n) = sum_by-cons (λ (h : Holding). blocks_for (length h.first)) holds_nothing (replicate n holds_nothing) ∙ omega (arith, blocks_of_none n)

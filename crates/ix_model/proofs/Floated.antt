@@ -1,38 +1,18 @@
 -- A frame that is a sound one but for labels is sound but for labels.
-use Rattle.std.proofs.Common.{◌≡◌, ◌<◌, ◌≤◌, ◌+◌, ◌==◌, ℕ, suc, Bool, true, false, not, ◌&&◌, ◌||◌, List, [], ◌∷◌, map, length, sum, count_by, Option, Some, None, is_some, is_none, cond, if◌then◌else◌, refl, sym, ap, ◌∙◌, subst, arith}
+use Rattle.std.proofs.Common.{◌≡◌, ◌<◌, ◌≤◌, ◌+◌, ◌==◌, ℕ, Bool, false, not, ◌&&◌, ◌||◌, List, map, length, sum, count_by, Option, Some, is_some, is_none, cond, refl, sym, ap, ◌∙◌, subst, arith}
 use Rattle.std.specs.Option.{option_map_or}
 use Rattle.std.specs.List.{list_any}
 use Rattle.std.proofs.lemmas.List.Sums.{sum-map}
-use Rattle.ix_model.specs.World.{Frame, Content, Object, Process, Open, Holding, at, living, lives, is_file, is_dir, is_pipe, is_on, held}
-use Rattle.ix_model.specs.Step.{blocks_where, blocks_for, blocks_on, lies_on}
+use Rattle.ix_model.specs.World.{Frame, Content, Object, Process, Open, at, living, lives, is_file, is_dir, is_pipe, is_on, held}
+use Rattle.ix_model.specs.Step.{blocks_where, blocks_on, lies_on}
 use Rattle.ix_model.specs.Opening.{first_inode, inodes_of}
 use Rattle.ix_model.specs.Valid.{all_differ}
 use Rattle.ix_model.specs.Sound.{times_in, times_named, names_in_all, owns, NamesSound, LivesSound, OpensSound, ProcessesSound, ClaimsSound, WithinLimits, LengthsSound}
 use Rattle.ix_model.specs.declared.config.FsSpec.{FsSpec}
-use Rattle.ix_model.proofs.Tables.{Back, back, seen_same, map_same, any_same, length_same}
+use Rattle.ix_model.proofs.Tables.{none_is, Back, back, seen_same, map_same, any_same, length_same}
 use Rattle.ix_model.proofs.Floats.{Floats, object_but, process_but}
-use Rattle.ix_model.proofs.Labels.{is_living}
-
--- ---- living processes
-pub not_ended : (o : Option Process) (p : Process) → living o ≡ Some p → p.ended ≡ false
-not_ended None p h = cc
-not_ended (Some q) p h = go q.ended refl h
-  where
-    go : (b : Bool) → q.ended ≡ b → (if b then None else Some q) ≡ Some p → p.ended ≡ false
-    go true e h = cc
-    go false e h = let same : q ≡ p = cc in subst (λ (x : Process). x.ended ≡ false) same e
-
-pub lives_as : (o : Option Process) (p : Process) → o ≡ Some p → p.ended ≡ false → living o ≡ Some p
-lives_as o p is e = ap living is ∙ ap (λ b. if b then None else Some p) e
-
--- the sum of blocks looks at a test's values alone
-pub blocks_same : (p q : ℕ → Bool) (n : ℕ) (hs : List Holding) → ((m : ℕ) → p m ≡ q m) → blocks_where p n hs ≡ blocks_where q n hs
-blocks_same p q n [] same = refl
-blocks_same p q n (h ∷ hs) same = λ i. (if same n i then blocks_for (length h.first) else 0) + blocks_same p q (suc n) hs same i
-
-pub none_is : {A : Type 0} (o : Option A) → is_none o ≡ true → o ≡ None
-none_is None h = refl
-none_is (Some x) h = cc
+use Rattle.ix_model.proofs.Living.{is_living, not_ended, lives_as}
+use Rattle.ix_model.proofs.Blocks.{blocks_from}
 
 -- whether a process has a descriptor on that end, by a table of open entries
 abbrev pub has_on : List (Option Open) → ℕ → ℕ → Option Process → Bool
@@ -139,7 +119,7 @@ module _ (f g : Frame) (r : Floats f g) where
     file = λ o x is file. let w = was o x is in l.file o w.was w.is_was (sym (ap is_pipe w.same) ∙ file);
     pipe = λ o x is pipe. let w = was o x is in l.pipe o w.was w.is_was (sym (ap is_pipe w.same) ∙ pipe);
     blocks = λ k.
-        let e : blocks_where (lies_on g (Some k)) 0 c.holdings ≡ blocks_where (lies_on f (Some k)) 0 c.holdings = blocks_same _ _ 0 c.holdings (λ m. seen_object (λ y. option_map_or (λ z. option_map_or (λ j. j == k) z.fs false) y false) (λ y. refl) m) in
+        let e : blocks_where (lies_on g (Some k)) 0 c.holdings ≡ blocks_where (lies_on f (Some k)) 0 c.holdings = blocks_from _ _ 0 c.holdings (λ m low. seen_object (λ y. option_map_or (λ z. option_map_or (λ j. j == k) z.fs false) y false) (λ y. refl) m) in
         let b : blocks_on g (Some k) ≡ blocks_on f (Some k) = ap (λ fss. option_map_or (λ s. s.blocks) (at (map Some fss) k) 0) r.fss in
         omega (arith, l.blocks k);
   }

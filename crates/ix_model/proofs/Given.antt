@@ -10,10 +10,10 @@ use Rattle.std.proofs.lemmas.List.Sums.{sum-map}
 use Rattle.std.proofs.lemmas.List.Quantifiers.{position-Some}
 use Rattle.ix_model.specs.World.{Frame, Content, Process, Open, at, put, change, lowest_free, living, is_dir, is_pipe, is_on, held}
 use Rattle.ix_model.specs.Sound.{is_at, times_named, owns, owned, NamesSound, LivesSound, OpensSound, ProcessesSound, ClaimsSound, WithinLimits, LengthsSound}
-use Rattle.ix_model.proofs.Tables.{SameBut, Back, back, same_itself, same_changed, seen_changed, map_changed, at_changed, any_put, any_more}
+use Rattle.ix_model.proofs.Tables.{none_is, SameBut, Back, back, same_itself, same_changed, seen_changed, map_changed, at_changed, any_put, any_more}
 use Rattle.ix_model.proofs.Lasts.{some_put}
-use Rattle.ix_model.proofs.Labels.{is_living}
-use Rattle.ix_model.proofs.Floated.{not_ended, none_is, lives_as, has_on}
+use Rattle.ix_model.proofs.Living.{is_living, not_ended, lives_as}
+use Rattle.ix_model.proofs.Floated.{has_on}
 
 -- the frame with an open entry, and with a descriptor of the process on it
 abbrev pub given : Frame → ℕ → ℕ → ℕ → Open → Frame

@@ -1,5 +1,5 @@
 -- No row lifts a label above its ceiling.
-use Rattle.std.proofs.Common.{◌≡◌, ℕ, Bool, true, false, Option, Some, None, option_map, refl, sym, ap, ◌∙◌, subst, inl, inr, if◌then◌else◌}
+use Rattle.std.proofs.Common.{◌≡◌, ℕ, Bool, true, Option, Some, None, option_map, refl, sym, ap, ◌∙◌, subst, inl, inr}
 use Rattle.std.specs.Option.{option_map_or}
 use Rattle.std.proofs.lemmas.Bool.Decides.{eqb_tells}
 use Rattle.std.proofs.lemmas.List.{get_or-set_other}
@@ -15,19 +15,12 @@ use Rattle.ix_model.specs.History as op
 use Rattle.ix_model.specs.declared.call.Mode.{Mode}
 use Rattle.ix_model.specs.declared.refusal.Refusal.{Refusal}
 use Rattle.ix_model.specs.declared.refusal.Refusal.TheVariants as refusal
+use Rattle.ix_model.proofs.Living.{is_living}
 use Rattle.ix_model.proofs.Tables.{seen_changed, at_changed}
 use Rattle.ix_model.proofs.Keeps.{Holds, Keeps, keeping, keeps_refuse}
 use Rattle.ix_model.proofs.Ends.{Ends, kept_ends}
 use Rattle.ix_model.proofs.Looks.{ends_observe, ends_affect}
 use Rattle.ix_model.proofs.Lasts.{decided}
-
-pub is_living : (o : Option Process) (p : Process) → living o ≡ Some p → o ≡ Some p
-is_living None p h = cc
-is_living (Some q) p h = go q.ended h
-  where
-    go : (b : Bool) → (if b then None else Some q) ≡ Some p → Some q ≡ Some p
-    go true h = cc
-    go false h = h
 
 -- ---- a label that is joined stays below the ceiling
 below_caller : (g : Frame) (pid : ℕ) (seen : Categories) (p : Process) → living (at g.processes pid) ≡ Some p → leq (join p.label seen) p.ceiling ≡ true → LabelsBelow g → LabelsBelow (record g { processes = change g.processes pid (λ q. record q { label = join q.label seen }) })

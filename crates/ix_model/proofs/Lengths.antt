@@ -1,14 +1,15 @@
 -- Lengths and blocks after a read and after a write.
-use Rattle.std.proofs.Common.{◌≡◌, ◌≢◌, ◌<◌, ◌≤◌, ◌==◌, ◌+◌, ◌-◌, ℕ, zero, suc, max, Bool, true, false, true≢false, not, ◌&&◌, List, [], ◌∷◌, ◌++◌, length, take, drop, replicate, Option, Some, None, if◌then◌else◌, nat_le, nat_lt, refl, sym, ap, ◌∙◌, subst, arith, get_or, set, length-set, length-append}
-use Rattle.std.specs.Option.{option_map_or, option_and_then}
-use Rattle.std.proofs.lemmas.Bool.{cond-false, lt-leb, ne_eqb, not-true, ltb-false, eqb-true, or_parts}
+use Rattle.std.proofs.Common.{◌≡◌, ◌<◌, ◌≤◌, ◌==◌, ◌+◌, ◌-◌, ℕ, zero, suc, max, Bool, true, false, true≢false, not, ◌&&◌, List, [], ◌∷◌, ◌++◌, length, take, drop, replicate, Option, Some, None, if◌then◌else◌, nat_le, nat_lt, refl, sym, ap, ◌∙◌, subst, arith, get_or, set, length-set, length-append}
+use Rattle.std.specs.Option.{option_map_or}
+use Rattle.std.proofs.lemmas.Bool.{cond-false, lt-leb, ne_eqb, not-true, ltb-false, or_parts}
 use Rattle.std.proofs.lemmas.List.{length-replicate, length-take, length-drop}
 use Rattle.ix_model.specs.World.{Frame, Content, Object, Holding, at, is_pipe}
 use Rattle.ix_model.specs.Walks.{Behind}
 use Rattle.ix_model.specs.Step.{holding_of, offset_of, holds_nothing, side, with_side, on_pipe, readable, after_read, after_write, spliced, blocks_for, blocks_where, blocks_on, lies_on, fs_at, length_then, told_of_pipe_write, told_of_file_write, told_of_write}
 use Rattle.ix_model.specs.Table.{Told}
 use Rattle.ix_model.specs.Sound.{WithinLimits, LengthsSound}
-use Rattle.ix_model.proofs.Floated.{none_is}
+use Rattle.ix_model.proofs.Tables.{none_is}
+use Rattle.ix_model.proofs.Blocks.{blocks_skip, blocks_edit, on_fs}
 use Rattle.ix_model.proofs.Standing.{Standing, on_pipe_is}
 
 -- ---- lists
@@ -37,35 +38,6 @@ then_within m offset n old h k = go (n == 0)
     go true = k
     go false = omega arith
 
--- ---- blocks
-blocks_from : (p q : ℕ → Bool) (n : ℕ) (hs : List Holding) → ((m : ℕ) → n ≤ m → p m ≡ q m) → blocks_where p n hs ≡ blocks_where q n hs
-blocks_from p q n [] same = refl
-blocks_from p q n (h ∷ hs) same = λ i. (if same n (omega arith) i then blocks_for (length h.first) else 0) + blocks_from p q (suc n) hs (λ m low. same m (omega arith)) i
-
--- a holding that isn't counted
-blocks_skip : (p : ℕ → Bool) (n : ℕ) (hs : List Holding) (o : ℕ) (x : Holding) → p (n + o) ≡ false → blocks_where p n (set hs o x) ≡ blocks_where p n hs
-blocks_skip p n [] o x h = refl
-blocks_skip p n (y ∷ hs) zero x h =
-    let e : p n ≡ false = ap p (omega arith) ∙ h in
-    λ i. (ap (λ b. if b then blocks_for (length x.first) else 0) e ∙ sym (ap (λ b. if b then blocks_for (length y.first) else 0) e)) i + blocks_where p (suc n) hs
-blocks_skip p n (y ∷ hs) (suc o) x h = ap (λ k. (if p n then blocks_for (length y.first) else 0) + k) (blocks_skip p (suc n) hs o x (ap p (omega arith) ∙ h))
-
-pub at_most : (b : Bool) (n : ℕ) → (if b then n else 0) ≤ n
-at_most true n = omega arith
-at_most false n = omega arith
-
--- the blocks of the others and of the new holding
-blocks_edit : (p q : ℕ → Bool) (n : ℕ) (hs : List Holding) (o : ℕ) (x : Holding) → ((m : ℕ) → m ≢ n + o → q m ≡ p m) → blocks_where p n (set hs o x) ≤ blocks_where q n hs + blocks_for (length x.first)
-blocks_edit p q n [] o x same = omega arith
-blocks_edit p q n (y ∷ hs) zero x same =
-    let rest : blocks_where p (suc n) hs ≡ blocks_where q (suc n) hs = blocks_from p q (suc n) hs (λ m low. sym (same m (λ e. absurd (omega arith)))) in
-    let first : (if p n then blocks_for (length x.first) else 0) ≤ blocks_for (length x.first) = at_most (p n) _ in
-    omega arith
-blocks_edit p q n (y ∷ hs) (suc o) x same =
-    let first : (if q n then blocks_for (length y.first) else 0) ≡ (if p n then blocks_for (length y.first) else 0) = ap (λ b. if b then blocks_for (length y.first) else 0) (same n (λ e. absurd (omega arith))) in
-    let rest = blocks_edit p q (suc n) hs o x (λ m other. same m (λ e. other (omega arith))) in
-    omega arith
-
 -- ---- sides
 side_within : (end n : ℕ) (h : Holding) → length h.first ≤ n → length h.second ≤ n → length (side end h) ≤ n
 side_within end n h one two = go (end == 0)
@@ -86,18 +58,6 @@ with_side_within end n bytes h one two new = go (end == 0)
     go : (b : Bool) → (length (if b then first else second).first ≤ n) × (length (if b then first else second).second ≤ n)
     go true = (new, two)
     go false = (one, new)
-
--- an object that lies on a file system
-on_fs : (f : Frame) (k o : ℕ) → lies_on f (Some k) o ≡ true → fs_at f o ≡ Some k
-on_fs f k o h = go (at f.objects o) h
-  where
-    in_fs : (fs : Option ℕ) → option_map_or (λ j. j == k) fs false ≡ true → fs ≡ Some k
-    in_fs None h = cc
-    in_fs (Some j) h = ap Some (eqb-true j k h)
-
-    go : (x : Option Object) → option_map_or (λ y. option_map_or (λ j. j == k) y.fs false) x false ≡ true → option_and_then (λ y. y.fs) x ≡ Some k
-    go None h = cc
-    go (Some x) h = in_fs x.fs h
 
 -- ---- one edit
 module _ (f : Frame) (c : Content) (l : LengthsSound (record { frame = f; content = c })) where

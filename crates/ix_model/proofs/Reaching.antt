@@ -1,7 +1,7 @@
 -- Every world that a valid flat config and built calls reach is sound and clean.
-use Rattle.std.proofs.Common.{◌≡◌, ◌≤◌, ◌==◌, ℕ, suc, true, ◌&&◌, List, [], ◌∷◌, length, map, refl, sym, ap, ◌∙◌, subst, arith, nat_le}
+use Rattle.std.proofs.Common.{◌≡◌, ◌≤◌, ◌==◌, ℕ, suc, true, ◌&&◌, List, [], ◌∷◌, length, map, sym, ap, ◌∙◌, subst, nat_le}
 use Rattle.std.specs.List.{list_all}
-use Rattle.std.proofs.lemmas.Bool.{and_parts, eqb-true, leb-true}
+use Rattle.std.proofs.lemmas.Bool.{and_parts, leb-true}
 use Rattle.ix_label.specs.Category.{leq}
 use Rattle.ix_model.specs.World.{World}
 use Rattle.ix_model.specs.Step.{step_of, run}
@@ -16,13 +16,8 @@ use Rattle.ix_model.specs.declared.config.FsSpec.{FsSpec}
 use Rattle.ix_model.proofs.Openings.{clean_opening}
 use Rattle.ix_model.proofs.Cleaning.{clean_step}
 use Rattle.ix_model.proofs.Stepping.{sound_step}
-use Rattle.ix_model.proofs.Fitting.{flat_opening}
+use Rattle.ix_model.proofs.Fitting.{one_of, flat_opening}
 use Rattle.ix_model.proofs.FlatSound.{flat_sound}
-
-one_of : {A : Type 0} (xs : List A) → (length xs == 1) ≡ true → (x : A) × (xs ≡ x ∷ [])
-one_of [] h = cc
-one_of (x ∷ []) h = (x, refl)
-one_of (x ∷ y ∷ ys) h = absurd (omega (arith, eqb-true (length (x ∷ y ∷ ys)) 1 h))
 
 -- a file system that fits has an inode
 some_inode : (s : FsSpec) → fss_fit (s ∷ []) ≡ true → 1 ≤ s.inodes
