@@ -7,6 +7,7 @@ use Rattle.std.proofs.lemmas.List.Sums.{sum_by-cons}
 use Rattle.ix_model.specs.World.{Frame, Object, Holding, at}
 use Rattle.ix_model.specs.Step.{blocks_for, blocks_where, lies_on, fs_at}
 
+-- the sum looks at the test from n on
 pub blocks_from : (p q : ℕ → Bool) (n : ℕ) (hs : List Holding) → ((m : ℕ) → n ≤ m → p m ≡ q m) → blocks_where p n hs ≡ blocks_where q n hs
 blocks_from p q n [] same = refl
 blocks_from p q n (h ∷ hs) same = λ i. (if same n (omega arith) i then blocks_for (length h.first) else 0) + blocks_from p q (suc n) hs (λ m low. same m (omega arith)) i
@@ -35,6 +36,7 @@ blocks_edit p q n (y ∷ hs) (suc o) x same =
     let rest = blocks_edit p q (suc n) hs o x (λ m other. same m (λ e. other (omega arith))) in
     omega arith
 
+-- no more than all blocks together
 pub blocks_all : (p : ℕ → Bool) (n : ℕ) (hs : List Holding) → blocks_where p n hs ≤ sum_by (λ h. blocks_for (length h.first)) hs
 blocks_all p n [] = omega arith
 blocks_all p n (h ∷ hs) =
@@ -43,6 +45,7 @@ blocks_all p n (h ∷ hs) =
     let one : (if p n then blocks_for (length h.first) else 0) ≤ blocks_for (length h.first) = at_most (p n) _ in
     omega arith
 
+-- where nothing is counted
 pub blocks_none : (p : ℕ → Bool) (n : ℕ) (hs : List Holding) → ((m : ℕ) → p m ≡ false) → blocks_where p n hs ≡ 0
 blocks_none p n [] none = refl
 blocks_none p n (h ∷ hs) none =

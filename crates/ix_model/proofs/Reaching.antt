@@ -55,6 +55,9 @@ pub clean_run : (w : World) (place : ℕ) (h : List Event) → IsClean w → IsC
 clean_run w place [] clean = clean
 clean_run w place (e ∷ h) clean = clean_run (step_of w place e).world (suc place) h (clean_step w place e.pid e.op clean)
 
+pub clean_reached : (c : Config) (h : List Event) → IsClean (run (opening_world c) 1 h)
+clean_reached c h = clean_run (opening_world c) 1 h (clean_opening c)
+
 pub sound_run : (w : World) (place : ℕ) (h : List Event) → list_all (λ e. is_built e.op) h ≡ true → IsClean w → Sound w → Sound (run w place h)
 sound_run w place [] built clean s = s
 sound_run w place (e ∷ h) built clean s =

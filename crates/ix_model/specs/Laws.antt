@@ -39,6 +39,10 @@ StepsKeepWorldsClean = (w : World) (place pid : ℕ) (o : Op) → IsClean w → 
 abbrev pub ReachedWorldsAreSound : Type 0
 ReachedWorldsAreSound = (c : Config) (h : List Event) → is_valid c ≡ true → is_flat c ≡ true → list_all (λ e. is_built e.op) h ≡ true → Sound (run (opening_world c) 1 h)
 
+-- whatever is called, clean worlds alone are reached
+abbrev pub ReachedWorldsAreClean : Type 0
+ReachedWorldsAreClean = (c : Config) (h : List Event) → IsClean (run (opening_world c) 1 h)
+
 -- ---- refusals
 -- after a refusal the world is as before but for the caller's label, which has changed only where the refusal keeps it
 pub record Refused (w : World) (pid : ℕ) (r : Refusal) (v : World) : Type 0 where

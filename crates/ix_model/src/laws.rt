@@ -5,12 +5,13 @@ ghost use Rattle.ix_model.specs.Laws.{
   StepsKeepWorldsSound,
   StepsKeepWorldsClean,
   ReachedWorldsAreSound,
+  ReachedWorldsAreClean,
   RefusalsLeaveWorlds,
   ObjectsAreThere,
 };
 
-/// The opening world of a valid config is sound, as long as the config has one file system, and in it only files in
-/// the root, without privileges.
+/// The opening world of a valid config is sound, where the config has one file system, with files alone in its root,
+/// none of them frozen, and no privileges.
 pub fn opening_worlds_are_sound()
     ensures sound { OpeningWorldsAreSound }
 {}
@@ -35,14 +36,19 @@ pub fn reached_worlds_are_sound()
     ensures sound { ReachedWorldsAreSound }
 {}
 
+/// Every world that is reached from the opening world of any config is clean, whatever is called.
+pub fn reached_worlds_are_clean()
+    ensures clean { ReachedWorldsAreClean }
+{}
+
 /// A refused call leaves a clean world as it was, but for the caller's label, and that too unless the refusal is one of
 /// those that keep a label that a look has raised.
 pub fn what_a_refusal_leaves()
     ensures refused { RefusalsLeaveWorlds }
 {}
 
-/// In a sound world no row is refused for want of an object: behind each descriptor of a living process there is one,
-/// and where a path is found to lead there is one.
+/// In a sound world an object stands behind each descriptor of a living process, and wherever a path is found to lead.
+/// These are the objects that the rows ask for.
 pub fn objects_are_there()
     ensures there { ObjectsAreThere }
 {}
