@@ -9,7 +9,6 @@ use Rattle.ix_model.specs.Rows.{observe}
 use Rattle.ix_model.specs.Walks.{Behind, behind, found, walked_to}
 use Rattle.ix_model.specs.Table.{Told, Decision, decide, settled, self_label, open_at, read_fd, write_fd, row}
 use Rattle.ix_model.specs.Step.{carried, plainly, read_answer, write_answer, answer, step, told}
-use Rattle.ix_model.specs.Clean.{IsClean}
 use Rattle.ix_model.specs.Laws.{Refused}
 use Rattle.ix_model.specs.History.{Op}
 use Rattle.ix_model.specs.History as op
@@ -156,9 +155,9 @@ plain_answer w pid (op.ReadFd fd count) d r is = plain_read w count (behind w.fr
 plain_answer w pid (op.WriteFd fd bytes) d r is = plain_write w bytes (behind w.frame pid fd) d.reply d.frame r is
 plain_answer w pid _ d r is = record { world = refl; reply = is }
 
-pub refused_step : (w : World) (place pid : ℕ) (c : Op) (r : Refusal) → IsClean w → (step w place pid c).reply ≡ reply.No r → Refused w pid r (step w place pid c).world
+pub refused_step : (w : World) (place pid : ℕ) (c : Op) (r : Refusal) → (step w place pid c).reply ≡ reply.No r → Refused w pid r (step w place pid c).world
 unfolding step
-refused_step w place pid c r clean is =
+refused_step w place pid c r is =
     let t : Told = told w pid c in
     let d : Decision = decide t place pid c w.frame in
     let plain = plain_answer w pid c d r is in
@@ -166,5 +165,5 @@ refused_step w place pid c r clean is =
     record {
       label = (frames.relabelled.label, ap (λ (v : World). v.frame) plain.world ∙ frames.relabelled.is);
       kept = λ keeps. ap (λ (v : World). v.frame) plain.world ∙ frames.kept keeps;
-      content = ap (λ (v : World). v.content) plain.world ∙ carried_decided w t place pid c clean;
+      content = λ clean. ap (λ (v : World). v.content) plain.world ∙ carried_decided w t place pid c clean;
     }

@@ -44,14 +44,15 @@ abbrev pub ReachedWorldsAreClean : Type 0
 ReachedWorldsAreClean = (c : Config) (h : List Event) → IsClean (run (opening_world c) 1 h)
 
 -- ---- refusals
--- after a refusal the world is as before but for the caller's label, which has changed only where the refusal keeps it
+-- after a refusal the frame is as before but for the caller's label, which has changed only where the refusal keeps it,
+-- and what a clean world holds stays
 pub record Refused (w : World) (pid : ℕ) (r : Refusal) (v : World) : Type 0 where
   pub label : (l : Categories) × (v.frame ≡ record w.frame { processes = change w.frame.processes pid (λ p. record p { label = l }) })
   pub kept : keeps_label r ≡ false → v.frame ≡ w.frame
-  pub content : v.content ≡ w.content
+  pub content : IsClean w → v.content ≡ w.content
 
 abbrev pub RefusalsLeaveWorlds : Type 0
-RefusalsLeaveWorlds = (w : World) (place pid : ℕ) (o : Op) (r : Refusal) → IsClean w → (step w place pid o).reply ≡ reply.No r → Refused w pid r (step w place pid o).world
+RefusalsLeaveWorlds = (w : World) (place pid : ℕ) (o : Op) (r : Refusal) → (step w place pid o).reply ≡ reply.No r → Refused w pid r (step w place pid o).world
 
 -- ---- objects
 -- an object stands behind each descriptor of a living process, and wherever a path is found to lead

@@ -41,8 +41,8 @@ pub fn reached_worlds_are_clean()
     ensures clean { ReachedWorldsAreClean }
 {}
 
-/// A refused call leaves a clean world as it was, but for the caller's label, and that too unless the refusal is one of
-/// those that keep a label that a look has raised.
+/// A refused call leaves the frame as it was but for the caller's label, and that too unless the refusal is one of those
+/// that keep a label that a look has raised. It leaves what a clean world holds.
 pub fn what_a_refusal_leaves()
     ensures refused { RefusalsLeaveWorlds }
 {}
