@@ -1,11 +1,10 @@
 -- A step leaves a clean world.
-use Rattle.std.proofs.Common.{ℕ, ◌+◌, ◌-◌, ◌≡◌, ◌≢◌, ◌≤◌, ◌&&◌, Bool, true, false, List, length, Option, Some, None, is_some, option_map, refl, ap, subst, ◌∙◌, arith, get_or, set, if◌then◌else◌, length-append}
+use Rattle.std.proofs.Common.{ℕ, ◌+◌, ◌-◌, ◌≡◌, ◌≢◌, ◌≤◌, ◌&&◌, Bool, true, false, not, List, length, Option, Some, None, is_some, refl, ap, subst, ◌∙◌, arith, get_or, set, if◌then◌else◌, length-append}
 use Rattle.std.specs.Option.{option_map_or}
 use Rattle.std.proofs.lemmas.List.{get_or-set_other, length-replicate}
-use Rattle.ix_model.specs.World.{Frame, Content, World, Object, Process, Open, Holding, at, living, lives, is_ended, is_pipe}
+use Rattle.ix_model.specs.World.{Frame, Content, World, Object, Holding, at, lives, is_ended, is_pipe}
 use Rattle.ix_model.specs.Outcomes.{Outcome, Refuse, Pass}
-use Rattle.ix_model.specs.Rows.{affect}
-use Rattle.ix_model.specs.Walks.{Behind, behind, behind_of, entry_at}
+use Rattle.ix_model.specs.Walks.{Behind, behind}
 use Rattle.ix_model.specs.Table.{Told, Decision, decide, settled, row, write_fd}
 use Rattle.ix_model.specs.Step.{grown, carried, holds_nothing, plainly, on_pipe, after_read, after_write, read_answer, write_answer, answer, step, told}
 use Rattle.ix_model.specs.Clean.{IsClean}
@@ -14,10 +13,11 @@ use Rattle.ix_model.specs.History as op
 use Rattle.ix_model.specs.declared.reply.Reply.{Reply}
 use Rattle.ix_model.specs.declared.reply.Reply.TheVariants as reply
 use Rattle.ix_model.specs.declared.refusal.Refusal.TheVariants as refusal
-use Rattle.ix_model.specs.declared.refusal.Refusal.{Refusal}
 use Rattle.ix_model.proofs.Lasts.{Lasts, lasts_decided}
 use Rattle.ix_model.proofs.Carrying.{get_or-keep, length-keep}
-use Rattle.ix_model.proofs.Ends.{Ends, ending, ends_any}
+use Rattle.ix_model.proofs.Ends.{Ends, Anything, ending}
+use Rattle.ix_model.proofs.Looks.{ends_touch}
+use Rattle.ix_model.proofs.Standing.{behind_is}
 
 -- ---- what is carried is clean
 dropped : {A : Type 0} (d : A) (a b : Bool) (x : A) → b ≡ false → (if a && b then x else d) ≡ d
@@ -72,53 +72,37 @@ clean_write f g c new e lasts stands object clean =
     (λ h. clean_holding g c e.entry.object _ there clean)
     (λ h. clean_offset g _ e.id _ (lasts.opens.stays e.id stands) (clean_holding g c e.entry.object _ there clean))
 
-entry_stands : (f : Frame) (d : Option ℕ) (e : Behind) → entry_at f d ≡ Some e → is_some (at f.opens e.id) ≡ true
-entry_stands f None e h = cc
-entry_stands f (Some n) e h = go (at f.opens n) refl h
-  where
-    go : (o : Option Open) → at f.opens n ≡ o → option_map (λ x. let b : Behind = record { id = n; entry = x } in b) o ≡ Some e → is_some (at f.opens e.id) ≡ true
-    go None is h = cc
-    go (Some x) is h = let i : n ≡ e.id = cc in rw (← i, is) refl
-
 behind_stands : (f : Frame) (pid fd : ℕ) (e : Behind) → behind f pid fd ≡ Some e → is_some (at f.opens e.id) ≡ true
-unfolding behind
-behind_stands f pid fd e h = go (living (at f.processes pid)) h
-  where
-    go : (p : Option Process) → behind_of p f fd ≡ Some e → is_some (at f.opens e.id) ≡ true
-    go None h = cc
-    go (Some p) h = entry_stands f (at p.fds fd) e h
+behind_stands f pid fd e is = ap is_some (behind_is f pid fd e is)
 
 -- ---- a write that passes has an object behind its descriptor
-pub record WriteFacts (pid fd : ℕ) (f : Frame) : Type 0 where
+pub record WriteFacts (t : Told) (pid fd : ℕ) (f : Frame) : Type 0 where
   pub entry : Behind
   pub is_entry : behind f pid fd ≡ Some entry
   pub object : Object
   pub is_object : at f.objects entry.entry.object ≡ Some object
+  pub small : not t.too_big ≡ true
+  pub room : not t.full ≡ true
+  pub space : not t.no_space ≡ true
 
-abbrev Anything : Refusal → Frame → Type 0
-Anything r g = Unit {0}
-
-ends_affect : (pid o : ℕ) (f : Frame) (Q : Unit {0} → Frame → Type 0) → ((g : Frame) → Q tt g) → Ends (affect pid o f) Anything Q
-ends_affect pid o f Q h = ends_any (affect pid o f) Anything Q (λ r g. tt) (λ u g. h g)
-
-write_ends : (t : Told) (pid fd : ℕ) (f : Frame) → Ends (write_fd t pid fd f) Anything (λ r g. WriteFacts pid fd f)
+write_ends : (t : Told) (pid fd : ℕ) (f : Frame) → Ends (write_fd t pid fd f) Anything (λ r g. WriteFacts t pid fd f)
 unfolding write_fd
-write_ends t pid fd f = search (ending, ends_affect) depth 40 fits 8000
+write_ends t pid fd f = search (ending, ends_touch) depth 40 fits 8000
 
 settled_wrote : (f : Frame) (o : Outcome Reply) (k : ℕ) (X : Type 0) → (settled f o).reply ≡ reply.Number k → Ends o Anything (λ r g. X) → X
 unfolding Ends
 settled_wrote f (Refuse r g) k X h l = cc
 settled_wrote f (Pass r g) k X h l = l
 
-wrote : (t : Told) (place pid fd : ℕ) (bytes : List ℕ) (f : Frame) (k : ℕ) → (decide t place pid (op.WriteFd fd bytes) f).reply ≡ reply.Number k → WriteFacts pid fd f
+pub wrote : (t : Told) (place pid fd : ℕ) (bytes : List ℕ) (f : Frame) (k : ℕ) → (decide t place pid (op.WriteFd fd bytes) f).reply ≡ reply.Number k → WriteFacts t pid fd f
 unfolding decide row
 wrote t place pid fd bytes f k h = go (lives f pid) h
   where
     unknown : Decision
     unknown = record { reply = reply.No refusal.NoProcess; frame = f }
 
-    go : (b : Bool) → (if b then settled f (write_fd t pid fd f) else unknown).reply ≡ reply.Number k → WriteFacts pid fd f
-    go true h = settled_wrote f (write_fd t pid fd f) k (WriteFacts pid fd f) h (write_ends t pid fd f)
+    go : (b : Bool) → (if b then settled f (write_fd t pid fd f) else unknown).reply ≡ reply.Number k → WriteFacts t pid fd f
+    go true h = settled_wrote f (write_fd t pid fd f) k (WriteFacts t pid fd f) h (write_ends t pid fd f)
     go false h = cc
 
 -- ---- the step

@@ -7,10 +7,15 @@ use Rattle.ix_model.specs.Walks.{Sought, Behind, there, behind, opened}
 use Rattle.ix_model.specs.Walks as sought
 use Rattle.ix_model.specs.declared.refusal.Refusal.{Refusal}
 use Rattle.ix_model.specs.declared.refusal.Refusal.TheVariants as refusal
+use Rattle.ix_model.proofs.Keeps.{Holds}
 
 unfoldable pub Ends : {A : Type 0} → Outcome A → (Refusal → Frame → Type 0) → (A → Frame → Type 0) → Type 0
 Ends (Refuse r g) P Q = P r g
 Ends (Pass a g) P Q = Q a g
+
+-- nothing is said of a refusal
+abbrev pub Anything : Refusal → Frame → Type 0
+Anything r g = Unit {0}
 
 ends_on_pass : {A B : Type 0} (o : Outcome A) (k : A → Frame → Outcome B) (P : Refusal → Frame → Type 0) (Q : B → Frame → Type 0) → Ends o P (λ a g. Ends (k a g) P Q) → Ends (on_pass o k) P Q
 unfolding Ends on_pass
@@ -22,11 +27,17 @@ unfolding Ends
 ends_more (Refuse r g) P Q R h k = h
 ends_more (Pass a g) P Q R h k = k a g h
 
--- whatever the outcome is
-pub ends_any : {A : Type 0} (o : Outcome A) (P : Refusal → Frame → Type 0) (Q : A → Frame → Type 0) → ((r : Refusal) (g : Frame) → P r g) → ((a : A) (g : Frame) → Q a g) → Ends o P Q
-unfolding Ends
-ends_any (Refuse r g) P Q h k = h r g
-ends_any (Pass a g) P Q h k = k a g
+-- what a row keeps is known where it ends
+pub ends_kept : {A : Type 0} (R : Frame → Type 0) (o : Outcome A) (P : Refusal → Frame → Type 0) (Q : A → Frame → Type 0) → Holds o R → ((r : Refusal) (g : Frame) → R g → P r g) → ((a : A) (g : Frame) → R g → Q a g) → Ends o P Q
+unfolding Ends Holds
+ends_kept R (Refuse r g) P Q h k l = k r g h
+ends_kept R (Pass a g) P Q h k l = l a g h
+
+-- and the other way round
+pub kept_ends : {A : Type 0} (R : Frame → Type 0) (o : Outcome A) → Ends o (λ r g. R g) (λ a g. R g) → Holds o R
+unfolding Ends Holds
+kept_ends R (Refuse r g) h = h
+kept_ends R (Pass a g) h = h
 
 module _ {A B : Type 0} where
   pub ends_bind : (m : Row A) (k : A → Row B) (f : Frame) (P : Refusal → Frame → Type 0) (Q : B → Frame → Type 0) → Ends (m f) P (λ a g. Ends (k a g) P Q) → Ends (◌>>=◌ m k f) P Q
@@ -44,6 +55,10 @@ ends_pass a f P Q h = h
 pub ends_frame : (f : Frame) (P : Refusal → Frame → Type 0) (Q : Frame → Frame → Type 0) → Q f f → Ends (frame f) P Q
 unfolding Ends frame
 ends_frame f P Q h = h
+
+pub ends_refuse : {A : Type 0} (r : Refusal) (f : Frame) (P : Refusal → Frame → Type 0) (Q : A → Frame → Type 0) → P r f → Ends (refuse {A = A} r f) P Q
+unfolding Ends refuse
+ends_refuse r f P Q h = h
 
 pub ends_need : (b : Bool) (r : Refusal) (f : Frame) (P : Refusal → Frame → Type 0) (Q : Unit {0} → Frame → Type 0) → (b ≡ true → Q tt f) → P r f → Ends (need b r f) P Q
 unfolding Ends need refuse pass
@@ -92,4 +107,4 @@ unfolding opened
 ends_opened pid fd f P Q h k = ends_bind _ _ f P Q (ends_frame f P _ (ends_some _ _ _ _ _ h k))
 
 -- one lemma for each word
-pub ruleset ending = (ends_bind, ends_then, ends_pass, ends_frame, ends_need, ends_some, ends_only_if, ends_caller, ends_object, ends_change_object, ends_change_caller, ends_put_open, ends_there, ends_opened)
+pub ruleset ending = (ends_bind, ends_then, ends_pass, ends_refuse, ends_frame, ends_need, ends_some, ends_only_if, ends_caller, ends_object, ends_change_object, ends_change_caller, ends_put_open, ends_there, ends_opened)

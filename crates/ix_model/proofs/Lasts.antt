@@ -1,5 +1,5 @@
 -- What stands stays.
-use Rattle.std.proofs.Common.{ℕ, zero, suc, ◌≡◌, Bool, true, false, List, [], ◌∷◌, Option, Some, None, is_some, refl, ◌∙◌, length, length-set, if◌then◌else◌}
+use Rattle.std.proofs.Common.{ℕ, zero, suc, ◌≡◌, Bool, true, false, List, [], ◌∷◌, Option, Some, is_some, refl, ◌∙◌, length, length-set, if◌then◌else◌}
 use Rattle.ix_label.specs.Category.{Categories}
 use Rattle.ix_model.specs.Naming.{PathOf}
 use Rattle.ix_model.specs.World.{Frame, Object, Process, Open, at, put, change, lives, is_ended}
@@ -14,6 +14,7 @@ use Rattle.ix_model.specs.declared.call.Mode.{Mode}
 use Rattle.ix_model.specs.declared.reply.Reply.{Reply}
 use Rattle.ix_model.specs.declared.reply.Reply.TheVariants as reply
 use Rattle.ix_model.specs.declared.refusal.Refusal.TheVariants as refusal
+use Rattle.ix_model.proofs.Tables.{seen_changed}
 use Rattle.ix_model.proofs.Keeps.{Holds, Keeps, keeping, keeps_refuse}
 
 -- what stands in the first table stands in the second
@@ -31,15 +32,7 @@ pub record Lasts (f g : Frame) : Type 0 where
   pub processes : Ended f.processes g.processes
 
 -- ---- tables
-some_changed : {A : Type 0} (u : List (Option A)) (n : ℕ) (h : A → A) (m : ℕ) → is_some (at (change u n h) m) ≡ is_some (at u m)
-some_changed [] n h m = refl
-some_changed (None ∷ t) zero h zero = refl
-some_changed (Some y ∷ t) zero h zero = refl
-some_changed (x ∷ t) zero h (suc m) = refl
-some_changed (x ∷ t) (suc n) h zero = refl
-some_changed (x ∷ t) (suc n) h (suc m) = some_changed t n h m
-
-some_put : {A : Type 0} (u : List (Option A)) (n : ℕ) (x : A) (m : ℕ) → is_some (at u m) ≡ true → is_some (at (put u n (Some x)) m) ≡ true
+pub some_put : {A : Type 0} (u : List (Option A)) (n : ℕ) (x : A) (m : ℕ) → is_some (at u m) ≡ true → is_some (at (put u n (Some x)) m) ≡ true
 some_put [] n x m h = h
 some_put (y ∷ t) zero x zero h = refl
 some_put (y ∷ t) zero x (suc m) h = h
@@ -50,21 +43,13 @@ lasting_itself : {A : Type 0} (t : List (Option A)) → Lasting t t
 lasting_itself t = record { stays = λ n is. is }
 
 lasting_change : {A : Type 0} (t u : List (Option A)) (n : ℕ) (h : A → A) → Lasting t u → Lasting t (change u n h)
-lasting_change t u n h r = record { stays = λ m is. some_changed u n h m ∙ r.stays m is }
+lasting_change t u n h r = record { stays = λ m is. seen_changed is_some h (λ x. refl) u n m ∙ r.stays m is }
 
 lasting_put : {A : Type 0} (t u : List (Option A)) (n : ℕ) (x : A) → Lasting t u → Lasting t (put u n (Some x))
 lasting_put t u n x r = record { stays = λ m is. some_put u n x m (r.stays m is) }
 
-ended_changed : (u : List (Option Process)) (n : ℕ) (h : Process → Process) → ((q : Process) → (h q).ended ≡ q.ended) → (m : ℕ) → is_ended (at (change u n h) m) ≡ is_ended (at u m)
-ended_changed [] n h same m = refl
-ended_changed (None ∷ t) zero h same zero = refl
-ended_changed (Some y ∷ t) zero h same zero = same y
-ended_changed (x ∷ t) zero h same (suc m) = refl
-ended_changed (x ∷ t) (suc n) h same zero = refl
-ended_changed (x ∷ t) (suc n) h same (suc m) = ended_changed t n h same m
-
 ended_change : (t u : List (Option Process)) (n : ℕ) (h : Process → Process) → ((q : Process) → (h q).ended ≡ q.ended) → Ended t u → Ended t (change u n h)
-ended_change t u n h same r = record { stays = λ m is. ended_changed u n h same m ∙ r.stays m is; count = length-set u n _ ∙ r.count }
+ended_change t u n h same r = record { stays = λ m is. seen_changed is_ended h same u n m ∙ r.stays m is; count = length-set u n _ ∙ r.count }
 
 -- ---- frames, and rows
 lasts_itself : (f : Frame) → Lasts f f

@@ -14,3 +14,4 @@ pub mod Valid
 pub mod Clean
 pub mod Sound
 pub mod Histories
+pub mod Laws

@@ -1,5 +1,5 @@
 -- What holds in every world that is reached.
-use Rattle.std.specs.Prelude.{◌≡◌, ℕ, ◌+◌, ◌<◌, ◌≤◌, ◌==◌, Bool, true, false, not, ◌&&◌, ◌||◌, List, [], length, map, sum, count_by, Option, Some, None, is_some, if◌then◌else◌}
+use Rattle.std.specs.Prelude.{◌≡◌, ℕ, ◌+◌, ◌<◌, ◌≤◌, ◌==◌, Bool, true, false, not, ◌&&◌, ◌||◌, List, [], length, map, sum, count_by, Option, Some, None, is_some, is_none, if◌then◌else◌}
 use Rattle.std.specs.Option.{option_map_or}
 use Rattle.std.specs.List.{list_any}
 use Rattle.ix_label.specs.Category.{leq}
@@ -42,9 +42,10 @@ pub record LabelsBelow (f : Frame) : Type 0 where
   pub processes : (p : ℕ) (q : Process) → at f.processes p ≡ Some q → leq q.label q.ceiling ≡ true
 
 -- ---- names
--- directories alone have names, which name living files and directories and differ in one directory; each directory
--- but object 0 is named exactly once
+-- object 0 is a directory; directories alone have names, which name living files and directories and differ in one
+-- directory; each directory but object 0 is named exactly once
 pub record NamesSound (f : Frame) : Type 0 where
+  pub root : option_map_or is_dir (at f.objects 0) false ≡ true
   pub in_directories : (d : ℕ) (x : Object) → at f.objects d ≡ Some x → is_dir x ≡ false → x.names ≡ []
   pub living : (d o : ℕ) (x : Object) → at f.objects d ≡ Some x → 0 < count_by (λ n. n.1 == o) x.names → option_map_or (λ y. not (is_pipe y)) (at f.objects o) false ≡ true
   pub differ : (d : ℕ) (x : Object) → at f.objects d ≡ Some x → all_differ (map (λ n. n.0) x.names) ≡ true
@@ -58,14 +59,16 @@ pub record LivesSound (f : Frame) : Type 0 where
 
 -- ---- descriptors and open entries
 -- each descriptor of a living process that isn't free names an open entry; each open entry is named by such a
--- descriptor, and its object lives and is a file or a pipe
+-- descriptor, its object lives and is a file or a pipe, and it is at end 0, or at end 1 of a pipe
 pub record OpensSound (f : Frame) : Type 0 where
   pub descriptor : (p : ℕ) (q : Process) (fd e : ℕ) → living (at f.processes p) ≡ Some q → at q.fds fd ≡ Some e → is_some (at f.opens e) ≡ true
   pub owned : (e : ℕ) → is_some (at f.opens e) ≡ true → owned f.processes e ≡ true
   pub target : (e : ℕ) (x : Open) → at f.opens e ≡ Some x → option_map_or (λ y. not (is_dir y)) (at f.objects x.object) false ≡ true
+  pub end : (e : ℕ) (x : Open) → at f.opens e ≡ Some x → (x.end == 0 || x.end == 1 && option_map_or is_pipe (at f.objects x.object) false) ≡ true
 
 -- ---- processes
--- nothing is at pid 0, a living process's working directory is a living directory, and a child's parent lives
+-- nothing is at pid 0, a living process's working directory is a living directory, a child's parent lives, and each
+-- process has 32 descriptors
 pub record ProcessesSound (f : Frame) : Type 0 where
   pub none : at f.processes 0 ≡ None
   pub home : (p : ℕ) (q : Process) → living (at f.processes p) ≡ Some q → option_map_or is_dir (at f.objects q.cwd) false ≡ true
@@ -77,15 +80,23 @@ pub record ClaimsSound (f : Frame) : Type 0 where
   pub claimant : (o end p : ℕ) (x : Object) → at f.objects o ≡ Some x → at x.claims end ≡ Some p → is_claimant f o end p ≡ true
 
 -- ---- limits
--- Each table is as long as its limit, an object that isn't a pipe lies on the file system of its number, and all counts
--- and lengths are within the limits. The next pid, the length of the processes' table, is above every pid by what a table is.
-pub record WithinLimits (w : World) : Type 0 where
-  pub objects : length w.frame.objects ≡ first_inode w.frame.fss (length w.frame.fss) + w.frame.limits.pipes
-  pub numbers : (o k : ℕ) (x : Object) → at w.frame.objects o ≡ Some x → x.fs ≡ Some k → (first_inode w.frame.fss k ≤ o) × (o < first_inode w.frame.fss k + inodes_of w.frame.fss k)
-  pub opens : length w.frame.opens ≡ w.frame.limits.opens
-  pub processes : count_by is_some w.frame.processes ≤ w.frame.limits.procs
-  pub names : names_in_all w.frame.objects ≤ w.frame.limits.names
-  pub log : length w.frame.log ≤ w.frame.limits.log
+-- Each table is as long as its limit. An object that isn't a pipe lies on the file system of its number; a pipe lies on
+-- none, and its number is past theirs. All counts are within the limits. The next pid, the length of the processes'
+-- table, is above every pid by what a table is.
+pub record WithinLimits (f : Frame) : Type 0 where
+  pub objects : length f.objects ≡ first_inode f.fss (length f.fss) + f.limits.pipes
+  pub pipes : (o : ℕ) (x : Object) → at f.objects o ≡ Some x → is_none x.fs ≡ is_pipe x
+  pub past : (o : ℕ) (x : Object) → at f.objects o ≡ Some x → is_pipe x ≡ true → first_inode f.fss (length f.fss) ≤ o
+  pub numbers : (o k : ℕ) (x : Object) → at f.objects o ≡ Some x → x.fs ≡ Some k → (first_inode f.fss k ≤ o) × (o < first_inode f.fss k + inodes_of f.fss k)
+  pub opens : length f.opens ≡ f.limits.opens
+  pub processes : count_by is_some f.processes ≤ f.limits.procs
+  pub names : names_in_all f.objects ≤ f.limits.names
+  pub log : length f.log ≤ f.limits.log
+
+-- ---- lengths
+-- there is room for what each object and open entry holds; offsets and files end at 1,048,576, a pipe holds at most 4,096
+-- bytes in each direction, and the files of a file system use no more blocks than it has
+pub record LengthsSound (w : World) : Type 0 where
   pub holdings : length w.content.holdings ≡ length w.frame.objects
   pub offsets : length w.content.offsets ≡ length w.frame.opens
   pub offset : (e : ℕ) → offset_of w.content e ≤ 1048576
@@ -101,4 +112,5 @@ pub record Sound (w : World) : Type 0 where
   pub opens : OpensSound w.frame
   pub processes : ProcessesSound w.frame
   pub claims : ClaimsSound w.frame
-  pub limits : WithinLimits w
+  pub limits : WithinLimits w.frame
+  pub lengths : LengthsSound w

@@ -7,6 +7,7 @@ mod call;
 mod config;
 mod entry;
 mod ids;
+pub mod laws;
 mod list;
 mod memory;
 mod name;

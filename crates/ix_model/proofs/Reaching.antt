@@ -1,0 +1,68 @@
+-- Every world that a valid flat config and built calls reach is sound and clean.
+use Rattle.std.proofs.Common.{◌≡◌, ◌≤◌, ◌==◌, ℕ, suc, true, ◌&&◌, List, [], ◌∷◌, length, map, sym, ap, ◌∙◌, subst, nat_le}
+use Rattle.std.specs.List.{list_all}
+use Rattle.std.proofs.lemmas.Bool.{and_parts, leb-true}
+use Rattle.ix_label.specs.Category.{leq}
+use Rattle.ix_model.specs.World.{World}
+use Rattle.ix_model.specs.Step.{step_of, run}
+use Rattle.ix_model.specs.Opening.{opening_world}
+use Rattle.ix_model.specs.Valid.{is_within, all_differ, fs_fits, fss_fit, limits_fit, procs_fit, objects_fit, is_valid, is_flat_object, is_flat_process, is_flat}
+use Rattle.ix_model.specs.Calls.{is_built}
+use Rattle.ix_model.specs.Clean.{IsClean}
+use Rattle.ix_model.specs.Sound.{Sound}
+use Rattle.ix_model.specs.History.{Event}
+use Rattle.ix_model.specs.declared.config.Config.{Config}
+use Rattle.ix_model.specs.declared.config.FsSpec.{FsSpec}
+use Rattle.ix_model.proofs.Openings.{clean_opening}
+use Rattle.ix_model.proofs.Cleaning.{clean_step}
+use Rattle.ix_model.proofs.Stepping.{sound_step}
+use Rattle.ix_model.proofs.Flatness.{one_of, flat_opening}
+use Rattle.ix_model.proofs.FlatSound.{flat_sound}
+
+-- a file system that fits has an inode
+some_inode : (s : FsSpec) → fss_fit (s ∷ []) ≡ true → 1 ≤ s.inodes
+unfolding fss_fit
+some_inode s h =
+    let p = and_parts (is_within 1 16 (length (s ∷ [])) && list_all fs_fits (s ∷ [])) (all_differ (map (λ (t : FsSpec). t.name) (s ∷ []))) h in
+    let q = and_parts (is_within 1 16 (length (s ∷ []))) (list_all fs_fits (s ∷ [])) p.0 in
+    let one = and_parts (fs_fits s) true q.1 in
+    let parts = and_parts (is_within 1 65536 s.blocks) (is_within 1 65536 s.inodes) one.0 in
+    let inodes = and_parts (nat_le 1 s.inodes) (nat_le s.inodes 65536) parts.1 in
+    leb-true 1 s.inodes inodes.0
+
+sound_flat : (c : Config) (s : FsSpec) → c.fss ≡ s ∷ [] → fss_fit c.fss ≡ true → procs_fit c.limits c.procs ≡ true → objects_fit c.fss c.limits [] c.objects ≡ true → list_all is_flat_object c.objects ≡ true → Sound (opening_world c)
+unfolding procs_fit
+sound_flat c s one fss procs objects flat =
+    let p = and_parts (nat_le (length c.procs) c.limits.procs) (list_all (λ p. leq p.label p.ceiling) c.procs) procs in
+    let inode = some_inode s (ap fss_fit (sym one) ∙ fss) in
+    let r = flat_opening c s one inode (ap (λ t. objects_fit t c.limits [] c.objects) (sym one) ∙ objects) flat in
+    subst (λ (w : World). Sound w) (sym r.is) (flat_sound c.limits s c.procs r.files r.free r.fits r.count p.1 (leb-true _ _ p.0))
+
+pub sound_opening_world : (c : Config) → is_valid c ≡ true → is_flat c ≡ true → Sound (opening_world c)
+unfolding is_valid is_flat
+sound_opening_world c valid flat =
+    let v1 = and_parts (fss_fit c.fss && limits_fit c.limits && procs_fit c.limits c.procs && objects_fit c.fss c.limits [] c.objects) (nat_le c.journal 870400000) valid in
+    let v2 = and_parts (fss_fit c.fss && limits_fit c.limits && procs_fit c.limits c.procs) (objects_fit c.fss c.limits [] c.objects) v1.0 in
+    let v3 = and_parts (fss_fit c.fss && limits_fit c.limits) (procs_fit c.limits c.procs) v2.0 in
+    let v4 = and_parts (fss_fit c.fss) (limits_fit c.limits) v3.0 in
+    let f1 = and_parts (length c.fss == 1 && list_all is_flat_object c.objects) (list_all is_flat_process c.procs) flat in
+    let f2 = and_parts (length c.fss == 1) (list_all is_flat_object c.objects) f1.0 in
+    let one = one_of c.fss f2.0 in
+    sound_flat c one.0 one.1 v4.0 v3.1 v2.1 f2.1
+
+-- ---- runs
+pub clean_run : (w : World) (place : ℕ) (h : List Event) → IsClean w → IsClean (run w place h)
+clean_run w place [] clean = clean
+clean_run w place (e ∷ h) clean = clean_run (step_of w place e).world (suc place) h (clean_step w place e.pid e.op clean)
+
+pub clean_reached : (c : Config) (h : List Event) → IsClean (run (opening_world c) 1 h)
+clean_reached c h = clean_run (opening_world c) 1 h (clean_opening c)
+
+pub sound_run : (w : World) (place : ℕ) (h : List Event) → list_all (λ e. is_built e.op) h ≡ true → IsClean w → Sound w → Sound (run w place h)
+sound_run w place [] built clean s = s
+sound_run w place (e ∷ h) built clean s =
+    let p = and_parts (is_built e.op) (list_all (λ e. is_built e.op) h) built in
+    sound_run (step_of w place e).world (suc place) h p.1 (clean_step w place e.pid e.op clean) (sound_step w place e.pid e.op p.0 clean s)
+
+pub sound_reached : (c : Config) (h : List Event) → is_valid c ≡ true → is_flat c ≡ true → list_all (λ e. is_built e.op) h ≡ true → Sound (run (opening_world c) 1 h)
+sound_reached c h valid flat built = sound_run (opening_world c) 1 h built (clean_opening c) (sound_opening_world c valid flat)

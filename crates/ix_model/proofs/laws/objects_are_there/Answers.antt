@@ -1,0 +1,5 @@
+use Rattle.ix_model.proofs.There.{objects_there}
+use Rattle.ix_model.proofs.laws.objects_are_there.Goals as goal
+
+pub returns : goal.returns
+returns c = record { there = objects_there }

@@ -1,0 +1,5 @@
+use Rattle.ix_model.proofs.Openings.{clean_opening}
+use Rattle.ix_model.proofs.laws.opening_worlds_are_clean.Goals as goal
+
+pub returns : goal.returns
+returns c = record { clean = clean_opening }

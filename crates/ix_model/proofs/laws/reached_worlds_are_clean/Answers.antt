@@ -1,0 +1,5 @@
+use Rattle.ix_model.proofs.Reaching.{clean_reached}
+use Rattle.ix_model.proofs.laws.reached_worlds_are_clean.Goals as goal
+
+pub returns : goal.returns
+returns c = record { clean = clean_reached }

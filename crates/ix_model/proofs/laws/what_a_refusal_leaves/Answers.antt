@@ -1,0 +1,5 @@
+use Rattle.ix_model.proofs.Refusing.{refused_step}
+use Rattle.ix_model.proofs.laws.what_a_refusal_leaves.Goals as goal
+
+pub returns : goal.returns
+returns c = record { refused = refused_step }
