@@ -1,7 +1,7 @@
 -- Faults that are planned: the calls of some numbers fail.
-use Rattle.std.specs.Prelude.{ℕ, ◌==◌, Bool, List, if◌then◌else◌}
+use Rattle.std.specs.Prelude.{ℕ, ◌==◌, Bool, List}
 use Rattle.std.specs.List.{list_any}
-use Rattle.ix_io.specs.Streams.{counted}
+use Rattle.ix_io.specs.Streams.{counted, noted}
 
 -- which calls are to fail, counted from 0; how many were made; how often it failed
 pub record Plan : Type 0 where
@@ -19,4 +19,4 @@ fails_next p = list_any (λ call. call == p.calls) p.fails
 
 -- after one call more, which failed or not
 abbrev pub after_call : Plan → Bool → Plan
-after_call p failed = record p { calls = counted p.calls 1; faults = if failed then counted p.faults 1 else p.faults }
+after_call p failed = record p { calls = counted p.calls 1; faults = noted p.faults failed }

@@ -1,9 +1,13 @@
 -- What one call of a source or a sink does.
-use Rattle.std.specs.Prelude.{◌≡◌, ℕ, ◌+◌, ◌-◌, ◌^◌, ◌≤◌, ◌<◌, min, List, [], ◌++◌, length, take, drop, Option, Some, None, Result, Ok, Err, OnErr}
+use Rattle.std.specs.Prelude.{◌≡◌, ℕ, Bool, if◌then◌else◌, ◌+◌, ◌-◌, ◌^◌, ◌≤◌, ◌<◌, min, List, [], ◌++◌, length, take, drop, Option, Some, None, Result, Ok, Err, OnErr}
 
 -- a sum of counts, which stands still at 2^64 - 1
 abbrev pub counted : ℕ → ℕ → ℕ
 counted count more = min (count + more) (2 ^ 64 - 1)
+
+-- the count of faults after a call that failed or not
+abbrev pub noted : ℕ → Bool → ℕ
+noted faults failed = if failed then counted faults 1 else faults
 
 -- A count rose. One that stands at its end is taken as one that rose.
 abbrev pub Rose : ℕ → ℕ → Type 0

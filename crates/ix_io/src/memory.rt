@@ -1,4 +1,4 @@
-ghost use Rattle.std.specs.Prelude.{◌≡◌, ◌≤◌, ◌<◌, ◌==◌, ◌||◌, length, is_ok, is_err, false, IfOk};
+ghost use Rattle.std.specs.Prelude.{◌≡◌, ◌≤◌, ◌<◌, ◌==◌, ◌||◌, ◌-◌, min, length, is_ok, is_err, false, IfOk};
 ghost use Rattle.ix_io.specs.Streams.{HasCause, Reads, Takes};
 ghost use Rattle.ix_io.specs.Planned.{start, fails_next, after_call};
 
@@ -47,6 +47,7 @@ impl Source for MemSource {
     fn read(&mut self, buf: &mut [u8]) -> Result<usize, Failed>
         ensures fails { is_err result ≡ fails_next self.old.plan }
         ensures plan { self.new.plan ≡ after_call self.old.plan (is_err result) }
+        ensures all { IfOk result (λ n. n ≡ min (length buf.old) (length self.old.left)) }
         ensures bound { IfOk result (λ n. n ≤ length buf.old) }
         ensures bytes { Reads (Some self.old.left) (Some self.new.left) result buf.new }
         ensures cause { HasCause self.old.plan.faults self.new.plan.faults result }
@@ -118,18 +119,23 @@ impl Sink for MemSink {
         ensures fails { is_err result ≡ (fails_next self.old.plan || length self.old.taken == self.old.room) }
         ensures plan { self.new.plan ≡ after_call self.old.plan (is_err result) }
         ensures room { self.new.room ≡ self.old.room }
+        ensures all { IfOk result (λ n. n ≡ min (length bytes.now) (self.old.room - length self.old.taken)) }
         ensures bound { IfOk result (λ n. n ≤ length bytes.now) }
         ensures some { 0 < length bytes.now → IfOk result (λ n. 0 < n) }
         ensures bytes { Takes (Some self.old.taken) (Some self.new.taken) result bytes.now }
         ensures unfinished { self.new.finished ≡ false }
         ensures cause { HasCause self.old.plan.faults self.new.plan.faults result }
     {
-        self.finished = false;
         let left = self.room - self.bytes.len();
-        let n = bytes.len().min(left);
-        let fails = self.plan.fails_next() || left == 0 || self.bytes.extend_from_slice(&bytes[..n]).is_err();
+        let fails = self.plan.fails_next() || left == 0;
         self.plan.note(fails);
-        if fails { Err(Failed) } else { Ok(n) }
+        self.finished = false;
+        if fails {
+            return Err(Failed);
+        }
+        let n = bytes.len().min(left);
+        self.bytes.extend_from_slice(&bytes[..n]).unwrap();
+        Ok(n)
     }
 
     fn finish(&mut self) -> Result<(), Failed>
@@ -144,5 +150,33 @@ impl Sink for MemSink {
         self.plan.note(fails);
         self.finished = !fails;
         if fails { Err(Failed) } else { Ok(()) }
+    }
+}
+
+#[cfg(test)]
+mod tests {
+    use super::*;
+    use std::test::Fail;
+
+    #[test]
+    fn source_gives_all_but_at_planned_faults(rt: HostRuntime) -> Result<(), Fail> {
+        let mut source = MemSource::new(rt.alloc(), b"abc", &[1])?;
+        let mut buf = [0; 2];
+        for want in [Ok(2), Err(Failed), Ok(1), Ok(0)] {
+            assert_eq!(rt; source.read(&mut buf), want);
+        }
+        assert_eq!(rt; buf, *b"cb");
+        Ok(())
+    }
+
+    #[test]
+    fn sink_takes_what_it_has_room_for(rt: HostRuntime) -> Result<(), Fail> {
+        let mut sink = MemSink::new(rt.alloc(), 3, &[1])?;
+        for want in [Ok(2), Err(Failed), Ok(1), Err(Failed)] {
+            assert_eq!(rt; sink.write(b"ab"), want);
+        }
+        assert_eq!(rt; sink.finish(), Ok(()));
+        assert_eq!(rt; sink.as_slice(), b"aba".as_slice());
+        Ok(())
     }
 }

@@ -1,4 +1,4 @@
-ghost use Rattle.std.specs.Prelude.{◌≡◌, ◌≤◌, ◌<◌, length, is_ok, false, IfOk, IsOk};
+ghost use Rattle.std.specs.Prelude.{◌≡◌, ◌≤◌, ◌<◌, min, length, is_ok, false, IfOk, IsOk};
 ghost use Rattle.ix_io.specs.Streams.{counted, HasCause, Reads, Takes};
 
 use crate::errors::{Failed, NoMemory};
@@ -45,6 +45,7 @@ impl Source for QuietSource {
 
     fn read(&mut self, buf: &mut [u8]) -> Result<usize, Failed>
         ensures never { IsOk result }
+        ensures all { IfOk result (λ n. n ≡ min (length buf.old) (length self.old)) }
         ensures bound { IfOk result (λ n. n ≤ length buf.old) }
         ensures bytes { Reads (Some self.old) (Some self.new) result buf.new }
         ensures cause { HasCause 0 0 result }
@@ -121,6 +122,25 @@ impl Sink for QuietSink {
         ensures cause { HasCause 0 0 result }
     {
         self.finished = true;
+        Ok(())
+    }
+}
+
+#[cfg(test)]
+mod tests {
+    use super::*;
+    use std::test::Fail;
+
+    #[test]
+    fn quiet_streams_hand_on_all(rt: HostRuntime) -> Result<(), Fail> {
+        let mut source = QuietSource::new(rt.alloc(), b"abc")?;
+        let mut sink = QuietSink::new();
+        let mut buf = [0; 2];
+        for want in [2, 1, 0] {
+            assert_eq!(rt; source.read(&mut buf), Ok(want));
+            assert_eq!(rt; sink.write(&buf[..want]), Ok(want));
+        }
+        assert_eq!(rt; sink.taken(), 3);
         Ok(())
     }
 }
