@@ -9,3 +9,6 @@ mod words;
 pub use ix_io as io;
 pub use run::{Status, run_serial};
 pub use words::Words;
+
+#[cfg(test)]
+mod tests;
