@@ -1,5 +1,5 @@
 -- What reading all of an input and writing all of a text give.
-use Rattle.std.specs.Prelude.{◌≡◌, ℕ, ◌+◌, ◌<◌, ◌≤◌, List, [], ◌++◌, length, take, drop, Option, Some, None, Result, Ok, Err}
+use Rattle.std.specs.Prelude.{◌≡◌, ℕ, ◌+◌, ◌<◌, ◌≤◌, List, [], ◌++◌, length, take, drop, Option, Some, Result, Ok, Err}
 use Rattle.ix_host.specs.declared.stream.Input.{Input}
 use Rattle.ix_host.specs.declared.stream.Input.TheVariants as input
 use Rattle.ix_host.specs.declared.stream.Piece.{Piece}

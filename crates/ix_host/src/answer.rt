@@ -9,18 +9,23 @@ use std::alloc::Global;
 pub enum Text {
     /// The whole report.
     Report(Vec<u8>),
-    /// A refusal by a rule at a line, from 1, with its one line of text.
-    Refused(u32, u8, Vec<u8>),
+    /// The line, from 1, and the rule of a refusal, with the one line of text.
+    Refused { line: u32, rule: u8, text: Vec<u8> },
     NoMemory,
 }
 
-/// Runs the script that these bytes are.
+/// What the script of these bytes comes to. It stands in for reading and running it: each script is
+/// refused as one that is not built yet.
 #[tactic(auto, unfolding(crate::specs::Outcome::outcome_of))]
-pub fn answer(alloc: Global, _bytes: &[u8]) -> Text
-    ensures { Gives result (outcome_of _bytes.now) }
+pub fn answer(alloc: Global, bytes: &[u8]) -> Text
+    ensures { Gives result (outcome_of bytes.now) }
 {
     match refusal(alloc, 1, 0) {
-        Ok(text) => Text::Refused(1, 0, text),
+        Ok(text) => Text::Refused {
+            line: 1,
+            rule: 0,
+            text,
+        },
         Err(NoMemory) => Text::NoMemory,
     }
 }

@@ -96,7 +96,7 @@ pub fn run_serial<S: Source, K: Sink>(
                 Ok(()) => Status::Done,
                 Err(Failed) => Status::WriteFault,
             },
-            Text::Refused(line, rule, text) => match write_all(sink, text.as_slice()) {
+            Text::Refused { line, rule, text } => match write_all(sink, text.as_slice()) {
                 Ok(()) => Status::Script { line, rule },
                 Err(Failed) => Status::WriteFault,
             },

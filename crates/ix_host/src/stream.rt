@@ -8,6 +8,7 @@ use std::alloc::Global;
 /// The most bytes that a script may have.
 const SCRIPT_MAX: usize = 16_777_216;
 
+/// The most bytes of one read.
 const PIECE: usize = 4096;
 
 /// What a source gave.

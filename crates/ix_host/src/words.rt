@@ -43,10 +43,7 @@ impl Words {
     pub fn get(&self, i: usize) -> Option<&str>
         ensures { option_copied result ≡ slice_get self.now i }
     {
-        match self.words.get(i) {
-            Some(word) => Some(word.as_str()),
-            None => None,
-        }
+        self.words.get(i).map(|word| word.as_str())
     }
 
     /// Whether the words are the one word `run`.

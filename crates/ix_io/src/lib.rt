@@ -1,4 +1,4 @@
-//! Streams of bytes that may fail: what a source and a sink promise, and such streams over memory, over std's and without faults.
+//! Streams of bytes that may fail: the traits, and streams over memory, over std's and without faults.
 #![tactic(auto)]
 
 mod errors;

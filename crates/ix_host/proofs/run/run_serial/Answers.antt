@@ -1,5 +1,4 @@
-use Rattle.std.proofs.Common.{◌≡◌, ◌++◌, ◌∙◌, ℕ, List, Some, sym, true}
-use Rattle.ix_host.specs.Command.{is_run}
+use Rattle.std.proofs.Common.{◌≡◌, ◌++◌, ◌∙◌, Some, sym}
 use Rattle.ix_host.specs.Whole.{WritesFront}
 use Rattle.ix_host.proofs.Verdicts.{not_too_long, read_out, writes_too_long}
 use Rattle.ix_host.proofs.run.run_serial.Goals as goal
