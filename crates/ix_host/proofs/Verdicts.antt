@@ -4,9 +4,10 @@ use Rattle.std.specs.Prelude.{IfSome, nat_lt}
 use Rattle.std.proofs.lemmas.List.{drop_all}
 use Rattle.std.proofs.lemmas.Bool.{lt-ltb}
 use Rattle.ix_host.specs.Command.{is_run}
-use Rattle.ix_host.specs.Outcome.{Outcome, outcome_of, outcome_of-rule, refusal_line}
+use Rattle.ix_host.specs.Outcome.{Outcome, outcome_of, refusal_line}
 use Rattle.ix_host.specs.Outcome as outcome
 use Rattle.ix_host.specs.Run.{wanted}
+use Rattle.ix_host.proofs.Outcomes.{outcome_of-rule}
 use Rattle.ix_host.specs.Whole.{script_max}
 
 -- the text that is wanted for an input that is too long

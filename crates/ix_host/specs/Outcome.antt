@@ -13,11 +13,6 @@ pub data Outcome : Type 0 where
 unfoldable pub outcome_of : List ℕ → Outcome
 outcome_of bytes = Refused 1 0
 
--- Such a script never breaks rule 1, that it is not too long.
-pub outcome_of-rule : (bytes : List ℕ) (line : ℕ) → outcome_of bytes ≡ Refused line 1 → ⊥
-unfolding outcome_of
-outcome_of-rule bytes line h = cc
-
 -- what is said to a script that breaks a rule
 abbrev pub rule_text : ℕ → List ℕ
 rule_text rule = if rule == 0 then codes "the form is not built yet" else codes "the script is too long"

@@ -22,20 +22,12 @@ status_of (outcome.Report text) = status.Done
 status_of (outcome.Refused line rule) = status.Script line rule
 
 -- the text that the words and the input call for
-abbrev pub wanted_by : Bool → List ℕ → List ℕ
-wanted_by true bytes = text_of (verdict bytes)
-wanted_by false bytes = usage_line
-
 abbrev pub wanted : List (List ℕ) → List ℕ → List ℕ
-wanted words bytes = wanted_by (is_run words) bytes
+wanted words bytes = if is_run words then text_of (verdict bytes) else usage_line
 
 -- the status that the words and the input call for
-abbrev pub called_by : Bool → List ℕ → Status
-called_by true bytes = status_of (verdict bytes)
-called_by false bytes = status.Usage
-
 abbrev pub called_for : List (List ℕ) → List ℕ → Status
-called_for words bytes = called_by (is_run words) bytes
+called_for words bytes = if is_run words then status_of (verdict bytes) else status.Usage
 
 -- the number that a program ends with
 abbrev pub code_of : Status → ℕ
