@@ -2,9 +2,8 @@
 use Rattle.std.proofs.Common.{◌≡◌, ℕ, ◌+◌, ◌-◌, ◌<◌, ◌≤◌, List, [], ◌++◌, length, take, drop, Option, Some, None, Result, Ok, refl, sym, ap, ◌∙◌, arith, append_assoc, subst, length-append, length-drop, length-take-le, drop-drop}
 use Rattle.std.specs.Prelude.{IfSome}
 use Rattle.std.proofs.Math.Seq.{take-add}
-use Rattle.std.proofs.lemmas.List.{take_all}
 use Rattle.ix_io.specs.Streams.{Reads, ReadsTold, ReadsFirst, Takes}
-use Rattle.ix_host.specs.Whole.{IsFront, TakesFew, script_max}
+use Rattle.ix_host.specs.Whole.{IsFront, script_max}
 
 -- where a fact about what is told gives another
 pub if_some_along : {A : Type 0} (o : Option A) (P Q : A → Type 0) → ((a : A) → P a → Q a) → IfSome o P → IfSome o Q
@@ -28,18 +27,6 @@ front_grows all read left after n buf h got within =
       front = rw (grown, take-add (length read) n all, h.front, got.read) refl;
       rest = got.rest ∙ ap Some (rw (grown, drop-drop) refl);
     }
-
--- the end of all
-pub front_ends : (all read : List ℕ) (left after : Option (List ℕ)) (buf : List ℕ)
-    → IsFront all read left → ReadsFirst (drop (length read) all) after 0 buf → 0 < length buf → (read ≡ all) × (after ≡ Some [])
-front_ends all read left after buf h got some =
-    let gone : drop (length read) all ≡ [] = got.end refl some in
-    (sym h.front ∙ take_all (length read) all (omega (arith, length-drop (length read) all, ap length gone)), got.rest ∙ ap Some gone)
-
--- a piece more of few
-pub takes_few : (all read : List ℕ) (after : Option (List ℕ)) (n : ℕ) (buf : List ℕ)
-    → ReadsFirst (drop (length read) all) after n buf → length read + n ≤ script_max + 1 → TakesFew all after
-takes_few all read after n buf got few = record { count = length read + n; few = few; rest = got.rest ∙ ap Some (rw drop-drop refl) }
 
 -- what is left where one byte more was read than a script may have
 pub too_long : (all read : List ℕ) (left : Option (List ℕ)) → IsFront all read left → length read ≡ script_max + 1
