@@ -1,0 +1,46 @@
+-- What reading all of an input and writing all of a text give.
+use Rattle.std.specs.Prelude.{◌≡◌, ℕ, ◌+◌, ◌<◌, ◌≤◌, List, [], ◌++◌, length, take, drop, Option, Some, Result, Ok, Err}
+use Rattle.ix_host.specs.declared.stream.Input.{Input}
+use Rattle.ix_host.specs.declared.stream.Input.TheVariants as input
+use Rattle.ix_host.specs.declared.stream.Piece.{Piece}
+use Rattle.ix_host.specs.declared.stream.Piece.TheVariants as piece
+
+-- the most bytes that a script may have
+abbrev pub script_max : ℕ
+script_max = 16777216
+
+-- Some first bytes were taken, at most one more than a script may have.
+pub record TakesFew (bytes : List ℕ) (after : Option (List ℕ)) : Type 0 where
+  pub count : ℕ
+  pub few : count ≤ script_max + 1
+  pub rest : after ≡ Some (drop count bytes)
+
+-- The whole input, or that it is too long, and what is left of it.
+abbrev pub Gathers : List ℕ → Option (List ℕ) → Input → Type 0
+Gathers bytes after (input.Whole read) = (read.items ≡ bytes) × (after ≡ Some []) × (length bytes ≤ script_max)
+Gathers bytes after input.TooLong = (script_max < length bytes) × (after ≡ Some (drop (script_max + 1) bytes))
+Gathers bytes after input.Fault = Unit {0}
+Gathers bytes after input.NoMemory = Unit {0}
+
+-- Of these bytes, some first ones were read, and the rest is left.
+pub record IsFront (all read : List ℕ) (left : Option (List ℕ)) : Type 0 where
+  pub within : length read ≤ length all
+  pub front : take (length read) all ≡ read
+  pub rest : left ≡ Some (drop (length read) all)
+
+-- One read more: a longer front, or the end of all.
+abbrev pub GoesOn : List ℕ → List ℕ → Option (List ℕ) → Piece → Type 0
+GoesOn all read after piece.More = IsFront all read after
+GoesOn all read after piece.End = (read ≡ all) × (after ≡ Some [])
+GoesOn all read after piece.Fault = Unit {0}
+GoesOn all read after piece.NoMemory = Unit {0}
+
+-- Some front of the text went out.
+pub record WritesFront (taken : List ℕ) (after : Option (List ℕ)) (text : List ℕ) : Type 0 where
+  pub count : ℕ
+  pub front : after ≡ Some (taken ++ take count text)
+
+-- The text went out, or after a fault some front of it.
+abbrev pub Writes : {E : Type 0} → List ℕ → Option (List ℕ) → List ℕ → Result (Unit {0}) E → Type 0
+Writes taken after text (Ok done) = after ≡ Some (taken ++ text)
+Writes taken after text (Err e) = WritesFront taken after text

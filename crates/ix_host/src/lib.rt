@@ -1,0 +1,14 @@
+//! The top call of the programs: command words and a script in, a report and a status out.
+#![tactic(auto)]
+
+mod answer;
+mod run;
+mod stream;
+mod words;
+
+pub use ix_io as io;
+pub use run::{Status, run_serial};
+pub use words::Words;
+
+#[cfg(test)]
+mod tests;

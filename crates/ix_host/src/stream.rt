@@ -1,0 +1,91 @@
+ghost use Rattle.std.specs.Prelude.{◌≡◌, ℕ, ◌+◌, ◌≤◌, ◌<◌, List, length, IfSome, OnOk, true, vec_len};
+ghost use Rattle.ix_io.specs.Streams.{HasCause, Rose};
+ghost use Rattle.ix_host.specs.Whole.{script_max, Gathers, GoesOn, IsFront, TakesFew, Writes};
+
+use ix_io::{Failed, Sink, Source};
+use std::alloc::Global;
+
+/// The most bytes that a script may have.
+const SCRIPT_MAX: usize = 16_777_216;
+
+/// The most bytes of one read.
+const PIECE: usize = 4096;
+
+/// What a source gave.
+#[derive(Drop)]
+pub enum Input {
+    /// All there was, read to its end.
+    Whole(Vec<u8>),
+    /// One byte more than a script may have.
+    TooLong,
+    Fault,
+    NoMemory,
+}
+
+/// Reads all there is, but at most one byte more than a script may have.
+pub fn read_all<S: Source>(alloc: Global, source: &mut S) -> Input
+    ensures told { IfSome (S.left source.old) (λ bytes. Gathers bytes (S.left source.new) result) }
+    ensures few { IfSome (S.left source.old) (λ bytes. TakesFew bytes (S.left source.new)) }
+    ensures later { S.faults source.old ≤ S.faults source.new }
+    ensures fault { result ≡ Input.Fault → Rose (S.faults source.old) (S.faults source.new) }
+{
+    let mut bytes = Vec::new(alloc);
+    'pieces: while bytes.len() <= SCRIPT_MAX {
+        match read_piece(source, &mut bytes) {
+            Piece::More => {}
+            Piece::End => return Input::Whole(bytes),
+            Piece::Fault => return Input::Fault,
+            Piece::NoMemory => return Input::NoMemory,
+        }
+    }
+    Input::TooLong
+}
+
+/// What one read gave.
+#[derive(Clone, Copy)]
+enum Piece {
+    More,
+    End,
+    Fault,
+    NoMemory,
+}
+
+/// Reads a piece, and puts it at the end of what was read.
+fn read_piece<S: Source>(source: &mut S, bytes: &mut Vec<u8>) -> Piece
+    requires { vec_len bytes.old ≤ script_max }
+    ensures told { (all : List ℕ) → IsFront all bytes.old.items (S.left source.old) → GoesOn all bytes.new.items (S.left source.new) result }
+    ensures few { (all : List ℕ) → IsFront all bytes.old.items (S.left source.old) → TakesFew all (S.left source.new) }
+    ensures more { result ≡ Piece.More → (vec_len bytes.old < vec_len bytes.new) × (vec_len bytes.new ≤ script_max + 1) }
+    ensures end { result ≡ Piece.End → vec_len bytes.new ≡ vec_len bytes.old }
+    ensures later { S.faults source.old ≤ S.faults source.new }
+    ensures fault { result ≡ Piece.Fault → Rose (S.faults source.old) (S.faults source.new) }
+{
+    let mut buf = [0; PIECE];
+    let most = PIECE.min(SCRIPT_MAX + 1 - bytes.len());
+    let piece = &mut buf[..most];
+    match source.read(piece) {
+        Err(Failed) => Piece::Fault,
+        Ok(0) => Piece::End,
+        Ok(n) => {
+            if bytes.extend_from_slice(&piece[..n]).is_err() {
+                return Piece::NoMemory;
+            }
+            Piece::More
+        }
+    }
+}
+
+/// Writes all of the text, and finishes.
+pub fn write_all<K: Sink>(sink: &mut K, text: &[u8]) -> Result<(), Failed>
+    ensures told { IfSome (K.taken sink.old) (λ taken. Writes taken (K.taken sink.new) text.now result) }
+    ensures finished { OnOk result (K.finished sink.new ≡ true) }
+    ensures cause { HasCause (K.faults sink.old) (K.faults sink.new) result }
+{
+    let mut at = 0;
+    'pieces: while at < text.len() {
+        let (_, rest) = text.split_at(at);
+        let n = sink.write(rest)?;
+        at += n;
+    }
+    sink.finish()
+}

@@ -1,0 +1,83 @@
+use crate::{Status, Words, run_serial};
+use ix_io::{MemSink, MemSource, NoMemory};
+use std::alloc::Global;
+use std::test::Fail;
+
+const USAGE: &[u8] = b"usage: ixone run\n";
+
+// The status of a run, and the sink that it wrote to.
+fn run(
+    alloc: Global,
+    words: &[&str],
+    mut source: MemSource,
+    mut sink: MemSink,
+) -> Result<(Status, MemSink), NoMemory> {
+    let mut command = Words::new(alloc);
+    for word in words {
+        command.push(word)?;
+    }
+    let status = run_serial(alloc, &command, &mut source, &mut sink);
+    Ok((status, sink))
+}
+
+#[test]
+fn other_words_than_run_are_answered_by_the_usage_line(rt: HostRuntime) -> Result<(), Fail> {
+    let alloc = rt.alloc();
+    for words in [[].as_slice(), &["help"], &["run", "run"], &["Run"]] {
+        let source = MemSource::new(alloc, b"ix 1\n", &[])?;
+        let (status, sink) = run(alloc, words, source, MemSink::new(alloc, 100, &[])?)?;
+        assert_eq!(rt; status, Status::Usage);
+        assert_eq!(rt; sink.as_slice(), USAGE);
+    }
+    Ok(())
+}
+
+#[test]
+fn a_script_is_refused_by_one_line(rt: HostRuntime) -> Result<(), Fail> {
+    let alloc = rt.alloc();
+    let source = MemSource::new(alloc, b"ix 1\n", &[])?;
+    let (status, sink) = run(alloc, &["run"], source, MemSink::new(alloc, 100, &[])?)?;
+    assert_eq!(rt; status, Status::Script { line: 1, rule: 0 });
+    assert_eq!(rt;
+        sink.as_slice(),
+        b"script:1: the form is not built yet\n".as_slice()
+    );
+    Ok(())
+}
+
+#[test]
+fn an_input_of_a_byte_too_many_is_too_long(rt: HostRuntime) -> Result<(), Fail> {
+    let alloc = rt.alloc();
+    let feeds = vec![in alloc; b'\n'; 16_777_217]?;
+    let source = MemSource::new(alloc, feeds.as_slice(), &[])?;
+    let (status, sink) = run(alloc, &["run"], source, MemSink::new(alloc, 100, &[])?)?;
+    assert_eq!(rt; status, Status::Script { line: 1, rule: 1 });
+    assert_eq!(rt;
+        sink.as_slice(),
+        b"script:1: the script is too long\n".as_slice()
+    );
+    Ok(())
+}
+
+#[test]
+fn a_read_that_fails_writes_nothing(rt: HostRuntime) -> Result<(), Fail> {
+    let alloc = rt.alloc();
+    let source = MemSource::new(alloc, b"ix 1\n", &[1])?;
+    let (status, sink) = run(alloc, &["run"], source, MemSink::new(alloc, 100, &[])?)?;
+    assert_eq!(rt; status, Status::ReadFault);
+    assert_eq!(rt; sink.as_slice().len(), 0);
+    Ok(())
+}
+
+#[test]
+fn a_write_that_fails_leaves_a_front(rt: HostRuntime) -> Result<(), Fail> {
+    let alloc = rt.alloc();
+    for (fails, room, took) in [([0], 100, 0), ([1], 100, 17), ([9], 3, 3)] {
+        let source = MemSource::new(alloc, b"", &[])?;
+        let (status, sink) = run(alloc, &["help"], source, MemSink::new(alloc, room, &fails)?)?;
+        assert_eq!(rt; status, Status::WriteFault);
+        assert_eq!(rt; sink.as_slice().len(), took);
+        assert!(rt; USAGE.starts_with(sink.as_slice()));
+    }
+    Ok(())
+}
