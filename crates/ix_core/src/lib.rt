@@ -6,13 +6,17 @@
 
 
 mod blocks;
+mod boot;
 mod contents;
 mod holdings;
+mod keeper;
 mod machine;
 mod objects;
 mod opens;
 mod processes;
 
+mod stored;
 mod tables;
 
 
+pub use keeper::Core;

@@ -21,12 +21,12 @@ use std::marker::Model;
 /// The frame of a world: all but bytes, offsets and exit statuses.
 #[derive(Drop)]
 pub struct Tables {
-    limits: Limits,
-    fss: Vec<FsSpec>,
-    objects: Vec<Option<ObjectRow>>,
-    processes: Vec<Option<ProcessRow>>,
-    opens: Vec<Option<OpenRow>>,
-    log: Vec<AuditLine>,
+    pub limits: Limits,
+    pub fss: Vec<FsSpec>,
+    pub objects: Vec<Option<ObjectRow>>,
+    pub processes: Vec<Option<ProcessRow>>,
+    pub opens: Vec<Option<OpenRow>>,
+    pub log: Vec<AuditLine>,
 }
 
 impl Model for Tables {

@@ -9,37 +9,12 @@ use Rattle.ix_model.specs.World.{World, Object, Holding, at, lowest_free}
 use Rattle.ix_model.specs.Walks.{node}
 use Rattle.ix_model.specs.Step.{holds_nothing}
 use Rattle.ix_model.specs.Opening.{free_inode, root_of, bare_objects, bare_world, process_of, directory_of, last_name, object_of, placed, with_object}
+use Rattle.ix_model.specs.Flat.{named, root_with, file_of, bytes_of, flat_objects, flat_holdings, flat_world}
 use Rattle.ix_model.specs.declared.config.Config.{Config}
 use Rattle.ix_model.specs.declared.config.Limits.{Limits}
 use Rattle.ix_model.specs.declared.config.FsSpec.{FsSpec}
 use Rattle.ix_model.specs.declared.config.ProcSpec.{ProcSpec}
 use Rattle.ix_model.specs.declared.config.ObjSpec.{ObjSpec}
-
--- ---- the world with these files and n objects that aren't there
-abbrev pub named : ℕ → List ObjSpec → List (List ℕ × ℕ)
-named k [] = []
-named k (b ∷ bs) = (last_name b.path.names, k) ∷ named (suc k) bs
-
-abbrev pub root_with : List (List ℕ × ℕ) → Object
-root_with names = record (root_of 0) { names = names }
-
-abbrev pub file_of : ObjSpec → Option Object
-file_of b = Some (object_of 0 b)
-
-abbrev pub bytes_of : ObjSpec → Holding
-bytes_of b = record { first = b.bytes; second = [] }
-
-abbrev pub flat_objects : List ObjSpec → ℕ → List (Option Object)
-flat_objects bs n = Some (root_with (named 1 bs)) ∷ (map file_of bs ++ replicate n None)
-
-abbrev pub flat_holdings : List ObjSpec → ℕ → List Holding
-flat_holdings bs n = holds_nothing ∷ (map bytes_of bs ++ replicate n holds_nothing)
-
-abbrev pub flat_world : Limits → FsSpec → List ProcSpec → List ObjSpec → ℕ → World
-flat_world l s procs bs n = record {
-  frame = record { limits = l; fss = s ∷ []; objects = flat_objects bs n; processes = None ∷ map (λ p. Some (process_of p)) procs; opens = replicate l.opens None; log = [] };
-  content = record { holdings = flat_holdings bs n; offsets = replicate l.opens 0; statuses = replicate (length procs + 1) 0 };
-}
 
 -- ---- before any file
 bare_flat : (s : FsSpec) (l : Limits) → (replicate {A = Option Object} (s.inodes - 1) None ++ []) ++ replicate l.pipes None ≡ replicate (s.inodes - 1 + l.pipes) None

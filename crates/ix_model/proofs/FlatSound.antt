@@ -23,7 +23,7 @@ use Rattle.ix_model.proofs.Openings.{all_one}
 use Rattle.ix_model.proofs.Blocks.{blocks_all, blocks_none}
 use Rattle.ix_model.proofs.Living.{is_living}
 use Rattle.ix_model.proofs.There.{counted}
-use Rattle.ix_model.proofs.Flat.{named, root_with, file_of, bytes_of, flat_objects, flat_holdings, flat_world}
+use Rattle.ix_model.specs.Flat.{named, root_with, file_of, bytes_of, flat_objects, flat_holdings, flat_world}
 use Rattle.ix_model.proofs.Flatness.{IsFlatFile, FlatFits, name_of, blocks_in}
 
 -- ---- what stands

@@ -1,5 +1,5 @@
 -- What a valid flat config says of its files, and that its opening world is a flat one.
-use Rattle.std.proofs.Common.{◌≡◌, ◌<◌, ◌≤◌, ◌+◌, ◌-◌, ◌==◌, ℕ, zero, suc, Bool, true, false, not, ◌&&◌, ◌||◌, List, [], ◌∷◌, ◌++◌, length, map, sum, take, cond, refl, sym, ap, ◌∙◌, subst, arith, nat_le, length-append}
+use Rattle.std.proofs.Common.{◌≡◌, ◌<◌, ◌≤◌, ◌+◌, ◌-◌, ◌==◌, ℕ, zero, suc, Bool, true, false, not, ◌&&◌, ◌||◌, List, [], ◌∷◌, ◌++◌, length, map, sum, take, cond, refl, sym, ap, ◌∙◌, subst, arith, nat_le, length-append, append_assoc, append-nil}
 use Rattle.std.specs.List.{list_any, list_all, All}
 use Rattle.std.proofs.lemmas.Bool.{and_parts, or_parts, or_from, and_from, not-true, not_from_false, eqb-true, leb-true}
 use Rattle.std.proofs.lemmas.List.Elements.{All-nil, All-head, All-tail, All-push}
@@ -18,7 +18,8 @@ use Rattle.ix_model.specs.declared.config.Limits.{Limits}
 use Rattle.ix_model.specs.declared.config.FsSpec.{FsSpec}
 use Rattle.ix_model.specs.declared.config.ProcSpec.{ProcSpec}
 use Rattle.ix_model.specs.declared.config.ObjSpec.{ObjSpec}
-use Rattle.ix_model.proofs.Flat.{flat_world, one_more, bare_flat_world}
+use Rattle.ix_model.specs.Flat.{flat_world}
+use Rattle.ix_model.proofs.Flat.{one_more, bare_flat_world}
 
 -- a file in the root, with one name, below the ceiling and not too long
 pub record IsFlatFile (s : FsSpec) (b : ObjSpec) : Type 0 where
@@ -153,28 +154,28 @@ fits_next l s bs o r fits flat =
 
 -- ---- all files
 -- a world that is flat, with files that have room
-pub record IsFlatWorld (l : Limits) (s : FsSpec) (procs : List ProcSpec) (w : World) : Type 0 where
-  pub files : List ObjSpec
+pub record IsFlatWorld (l : Limits) (s : FsSpec) (procs : List ProcSpec) (files : List ObjSpec) (w : World) : Type 0 where
   pub free : ℕ
   pub is : w ≡ flat_world l s procs files free
   pub fits : FlatFits l s files
   pub count : free + length files + 1 ≡ s.inodes + l.pipes
 
-flat_files : (l : Limits) (s : FsSpec) (procs : List ProcSpec) (bs os : List ObjSpec) (n : ℕ) → FlatFits l s bs → n + length bs + 1 ≡ s.inodes + l.pipes → objects_fit (s ∷ []) l bs os ≡ true → list_all is_flat_object os ≡ true → IsFlatWorld l s procs (with_objects (flat_world l s procs bs n) os)
-flat_files l s procs bs [] n r count fit flat = record { files = bs; free = n; is = refl; fits = r; count = count }
+flat_files : (l : Limits) (s : FsSpec) (procs : List ProcSpec) (bs os : List ObjSpec) (n : ℕ) → FlatFits l s bs → n + length bs + 1 ≡ s.inodes + l.pipes → objects_fit (s ∷ []) l bs os ≡ true → list_all is_flat_object os ≡ true → IsFlatWorld l s procs (bs ++ os) (with_objects (flat_world l s procs bs n) os)
+flat_files l s procs bs [] n r count fit flat = subst (λ (fs : List ObjSpec). IsFlatWorld l s procs fs (flat_world l s procs bs n)) (sym (append-nil bs)) (record { free = n; is = refl; fits = r; count = count })
 flat_files l s procs bs (o ∷ os) n r count fit flat =
     let p = and_parts (object_fits (s ∷ []) l bs o) (objects_fit (s ∷ []) l (bs ++ o ∷ []) os) fit in
     let q = and_parts (is_flat_object o) (list_all is_flat_object os) flat in
     let next = fits_next l s bs o r p.0 q.0 in
-    go n count (fits_next l s bs o r p.0 q.0) (λ k c. flat_files l s procs (bs ++ o ∷ []) os k next.all c p.1 q.1)
+    subst (λ (fs : List ObjSpec). IsFlatWorld l s procs fs (with_objects (flat_world l s procs bs n) (o ∷ os))) (append_assoc bs (o ∷ []) os)
+    (go n count (fits_next l s bs o r p.0 q.0) (λ k c. flat_files l s procs (bs ++ o ∷ []) os k next.all c p.1 q.1))
   where
-    go : (m : ℕ) → m + length bs + 1 ≡ s.inodes + l.pipes → FitsNext l s bs o → ((k : ℕ) → k + length (bs ++ o ∷ []) + 1 ≡ s.inodes + l.pipes → IsFlatWorld l s procs (with_objects (flat_world l s procs (bs ++ o ∷ []) k) os)) → IsFlatWorld l s procs (with_objects (flat_world l s procs bs m) (o ∷ os))
+    go : (m : ℕ) → m + length bs + 1 ≡ s.inodes + l.pipes → FitsNext l s bs o → ((k : ℕ) → k + length (bs ++ o ∷ []) + 1 ≡ s.inodes + l.pipes → IsFlatWorld l s procs ((bs ++ o ∷ []) ++ os) (with_objects (flat_world l s procs (bs ++ o ∷ []) k) os)) → IsFlatWorld l s procs ((bs ++ o ∷ []) ++ os) (with_objects (flat_world l s procs bs m) (o ∷ os))
     go zero c next rest = absurd (omega (arith, next.inode))
-    go (suc k) c next rest = subst (λ (w : World). IsFlatWorld l s procs (with_objects w os)) (sym (one_more l s procs bs k o next.file.name next.file.is_name next.inode)) (rest k (omega (arith, length-append bs (o ∷ []))))
+    go (suc k) c next rest = subst (λ (w : World). IsFlatWorld l s procs ((bs ++ o ∷ []) ++ os) (with_objects w os)) (sym (one_more l s procs bs k o next.file.name next.file.is_name next.inode)) (rest k (omega (arith, length-append bs (o ∷ []))))
 
-pub flat_opening : (c : Config) (s : FsSpec) → c.fss ≡ s ∷ [] → 1 ≤ s.inodes → objects_fit (s ∷ []) c.limits [] c.objects ≡ true → list_all is_flat_object c.objects ≡ true → IsFlatWorld c.limits s c.procs (opening_world c)
+pub flat_opening : (c : Config) (s : FsSpec) → c.fss ≡ s ∷ [] → 1 ≤ s.inodes → objects_fit (s ∷ []) c.limits [] c.objects ≡ true → list_all is_flat_object c.objects ≡ true → IsFlatWorld c.limits s c.procs c.objects (opening_world c)
 unfolding opening_world
 flat_opening c s e some fit flat =
     let none : FlatFits c.limits s [] = record { files = All-nil (IsFlatFile s); differ = refl; names = omega arith; inodes = omega arith; blocks = omega arith } in
-    subst (λ (w : World). IsFlatWorld c.limits s c.procs (with_objects w c.objects)) (sym (bare_flat_world c s e))
+    subst (λ (w : World). IsFlatWorld c.limits s c.procs c.objects (with_objects w c.objects)) (sym (bare_flat_world c s e))
     (flat_files c.limits s c.procs [] c.objects (s.inodes - 1 + c.limits.pipes) none (omega arith) fit flat)

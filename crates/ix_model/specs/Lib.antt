@@ -10,6 +10,7 @@ pub mod Walks
 pub mod Table
 pub mod Step
 pub mod Opening
+pub mod Flat
 pub mod Valid
 pub mod Clean
 pub mod Sound

@@ -1,0 +1,43 @@
+-- What a core stands for, what a step of it does, and what it shows.
+use Rattle.std.specs.Prelude.{◌≡◌, ◌≤◌, ℕ, true, Bool, List, [], ◌∷◌, ◌++◌, length, take}
+use Rattle.std.specs.List.{list_all}
+use Rattle.ix_model.specs.World.{World, Object, Process}
+use Rattle.ix_model.specs.Step.{put_front}
+use Rattle.ix_model.specs.Clean.{IsClean}
+use Rattle.ix_model.specs.Valid.{is_valid, is_flat}
+use Rattle.ix_model.specs.Calls.{is_built}
+use Rattle.ix_model.specs.History.{Event}
+use Rattle.ix_model.specs.Histories.{History, world_of, next, with_entry}
+use Rattle.ix_model.specs.declared.reply.Reply.{Reply}
+use Rattle.ix_model.specs.declared.reply.Reply.TheVariants as reply
+use Rattle.ix_model.specs.declared.reply.Answer.{Answer}
+use Rattle.ix_model.specs.declared.reply.Answer.TheVariants as answer
+use Rattle.ix_model.specs.declared.views.ObjView.{ObjView}
+use Rattle.ix_model.specs.declared.views.ProcView.{ProcView}
+
+-- The machine's world is the run of the history from the opening world of a valid config, with built calls alone.
+pub record StandsFor (world : World) (h : History) : Type 0 where
+  pub run : world ≡ world_of h
+  pub clean : IsClean world
+  pub valid : is_valid h.config ≡ true
+  pub flat : is_flat h.config ≡ true
+  pub built : list_all (λ e. is_built e.op) h.events ≡ true
+
+-- The answer is the machine's, with its bytes at the front of the buffer, and the history has one entry more. Where there
+-- is no memory for it nothing has changed; the journal is never full yet.
+abbrev pub StepsTo : Answer → History → History → List ℕ → List ℕ → Event → Type 0
+StepsTo (answer.Given r) old new before after e = (new ≡ with_entry old e) × (r ≡ (next old e).reply) × (after ≡ put_front (next old e).bytes before)
+StepsTo (answer.JournalFull used need cap) old new before after e = ⊥
+StepsTo answer.NoMemory old new before after e = (new ≡ old) × (after ≡ before)
+
+-- Where bytes were read, they are the first ones of the buffer, as many as the reply says.
+abbrev pub Shows : Answer → List ℕ → List ℕ → Type 0
+Shows (answer.Given (reply.Bytes k)) after bytes = (k ≤ 4096) × (take k after ≡ bytes)
+Shows _ after bytes = Unit {0}
+
+-- what a report says of an object, and of a process
+abbrev pub view_of : Object → ObjView
+view_of o = record { kind = o.kind; label = o.label; frozen = o.frozen }
+
+abbrev pub shown_of : Process → ProcView
+shown_of p = record { label = p.label; ended = p.ended }

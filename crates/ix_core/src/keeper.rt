@@ -1,0 +1,114 @@
+ghost use Rattle.std.specs.Prelude.{◌≡◌, [], length, ◌<◌, ◌+◌, ◌==◌, ◌-◌, IfOk, IsTrue, None, if◌then◌else◌, slice_get};
+ghost use Rattle.std.specs.Option.{option_map};
+ghost use Rattle.ix_model.specs.Calls.{op_of, event_of, is_built};
+ghost use Rattle.ix_model.specs.Valid.{is_valid, is_flat};
+ghost use Rattle.ix_model.specs.World.{at};
+ghost use Rattle.ix_model.specs.Sound.{Sound};
+ghost use Rattle.ix_model.specs.Histories.{world_of, next};
+ghost use Rattle.ix_core.specs.Stepping.{StepsTo, Shows, view_of, shown_of};
+
+use crate::boot::boot;
+use crate::machine::Machine;
+use crate::stored::Stored;
+use ix_label::Steps;
+use ix_model::{Answer, Buf, Call, Config, Entry, List, NoMemory, ObjView, Pid, ProcView};
+use std::alloc::Global;
+use std::marker::Model;
+use std::sync::ledger::Ledger;
+
+/// A machine with the config that it started from, and the history that led to it. Contracts see the config and the
+/// history: the core stands for the world to which they lead.
+#[derive(Drop)]
+pub struct Core {
+    alloc: Global,
+    config: Config,
+    machine: Machine,
+    entries: List<Stored>,
+}
+
+impl Model for Core {
+    ghost use Rattle.ix_model.specs.Histories.{History};
+    ghost use Rattle.ix_core.specs.Stepping.{StandsFor};
+    ghost use Rattle.std.specs.Coded.{codes};
+    ghost use Rattle.ix_label.specs.contracts.label.Label as label_type;
+
+    ghost Value = { History };
+
+    ghost coded = { Prim.hlevel (codes, label_type.the_row.coded) };
+
+    ghost view = { λ c. record { config = c.config; events = c.entries } };
+
+    ghost invariant = { λ c. StandsFor c.machine (record { config = c.config; events = c.entries }) };
+}
+
+impl Core {
+    /// A core without entries. It keeps the config; after `NoMemory` that is dropped. The config is valid and, until
+    /// directories, further file systems, frozen objects and privileges are built, flat.
+    pub fn boot(alloc: Global, config: Config) -> Result<Core, NoMemory>
+        requires valid { IsTrue (is_valid config) }
+        requires flat { IsTrue (is_flat config) }
+        ensures { IfOk result (λ c. c ≡ record { config = config; events = [] }) }
+    {
+        let machine = boot(alloc, &config)?;
+        Ok(Core {
+            alloc,
+            config,
+            machine,
+            entries: List::new(alloc),
+        })
+    }
+
+    /// Makes a call: `Given` is the machine's reply, and the call is the next entry of the history. A read's bytes are
+    /// then at the front of the buffer, and the rest of it stays. After `NoMemory` nothing has changed, and the history
+    /// has no entry more. There is no journal yet, so `JournalFull` never comes.
+    pub fn step<L: Ledger>(
+        &mut self,
+        seat: u32,
+        line: u32,
+        pid: Pid,
+        call: &Call<'_>,
+        buf: &mut Buf,
+        steps: &mut Steps<L>,
+    ) -> Answer
+        requires few { length self.old.events < 6800000 }
+        requires built { IsTrue (is_built (op_of call.now)) }
+        ensures step { StepsTo result self.old self.new buf.old buf.new (record { seat = seat; line = line; pid = pid.0; op = op_of call.now }) }
+        ensures shown { Shows result buf.new (next self.old (record { seat = seat; line = line; pid = pid.0; op = op_of call.now })).bytes }
+    {
+        let Ok(entry) = Stored::keep(self.alloc, seat, line, pid, call) else {
+            return Answer::NoMemory;
+        };
+        let place = self.entries.len() + 1;
+        if self.entries.reserve_one().is_err() {
+            return Answer::NoMemory;
+        }
+        match self.machine.call(self.alloc, place, pid, call, buf, steps) {
+            Ok(reply) => {
+                self.entries.push(entry);
+                Answer::Given(reply)
+            }
+            Err(NoMemory) => Answer::NoMemory,
+        }
+    }
+
+    /// The entry at a place of the history, from 1; `None` exactly where there is none.
+    pub fn entry(&self, place: u32) -> Option<Entry<'_>>
+        ensures { option_map event_of result ≡ (if place == 0 then None else slice_get self.now.events (place - 1)) }
+    {
+        if place == 0 {
+            return None;
+        }
+        match self.entries.get(place as usize - 1) {
+            Some(entry) => Some(entry.entry()),
+            None => None,
+        }
+    }
+
+    /// How many entries the history has.
+    pub fn len(&self) -> u32
+        ensures len { result ≡ length self.now.events }
+        ensures sound { Sound (world_of self.now) }
+    {
+        self.entries.len() as u32
+    }
+}
