@@ -15,13 +15,17 @@ use Rattle.ix_model.specs.declared.reply.Answer.TheVariants as answer
 use Rattle.ix_model.specs.declared.views.ObjView.{ObjView}
 use Rattle.ix_model.specs.declared.views.ProcView.{ProcView}
 
--- The machine's world is the run of the history from the opening world of a valid config, with built calls alone.
+-- The machine's world is the run of the history from the opening world of a valid config, with built calls alone. So many
+-- entries, objects and pids there are at most.
 pub record StandsFor (world : World) (h : History) : Type 0 where
   pub run : world ≡ world_of h
   pub clean : IsClean world
   pub valid : is_valid h.config ≡ true
   pub flat : is_flat h.config ≡ true
   pub built : list_all (λ e. is_built e.op) h.events ≡ true
+  pub few : length h.events ≤ 6800000
+  pub objects : length world.frame.objects ≤ 66560
+  pub processes : length world.frame.processes ≤ 1025
 
 -- The answer is the machine's, with its bytes at the front of the buffer, and the history has one entry more. Where there
 -- is no memory for it nothing has changed; the journal is never full yet.
@@ -32,7 +36,7 @@ StepsTo answer.NoMemory old new before after e = (new ≡ old) × (after ≡ bef
 
 -- Where bytes were read, they are the first ones of the buffer, as many as the reply says.
 abbrev pub Shows : Answer → List ℕ → List ℕ → Type 0
-Shows (answer.Given (reply.Bytes k)) after bytes = (k ≤ 4096) × (take k after ≡ bytes)
+Shows (answer.Given (reply.Bytes k)) after bytes = (k ≤ 4096) × (length bytes ≡ k) × (take k after ≡ bytes)
 Shows _ after bytes = Unit {0}
 
 -- what a report says of an object, and of a process

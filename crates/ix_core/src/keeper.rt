@@ -11,7 +11,7 @@ use crate::boot::boot;
 use crate::machine::Machine;
 use crate::stored::Stored;
 use ix_label::Steps;
-use ix_model::{Answer, Buf, Call, Config, Entry, List, NoMemory, ObjView, Pid, ProcView};
+use ix_model::{Answer, Buf, Call, Config, Entry, NoMemory, ObjView, Pid, ProcView};
 use std::alloc::Global;
 use std::marker::Model;
 use std::sync::ledger::Ledger;
@@ -23,7 +23,7 @@ pub struct Core {
     alloc: Global,
     config: Config,
     machine: Machine,
-    entries: List<Stored>,
+    entries: Vec<Stored>,
 }
 
 impl Model for Core {
@@ -36,9 +36,9 @@ impl Model for Core {
 
     ghost coded = { Prim.hlevel (codes, label_type.the_row.coded) };
 
-    ghost view = { λ c. record { config = c.config; events = c.entries } };
+    ghost view = { λ c. record { config = c.config; events = c.entries.items } };
 
-    ghost invariant = { λ c. StandsFor c.machine (record { config = c.config; events = c.entries }) };
+    ghost invariant = { λ c. StandsFor c.machine (record { config = c.config; events = c.entries.items }) };
 }
 
 impl Core {
@@ -54,7 +54,7 @@ impl Core {
             alloc,
             config,
             machine,
-            entries: List::new(alloc),
+            entries: Vec::new(alloc),
         })
     }
 
@@ -79,12 +79,12 @@ impl Core {
             return Answer::NoMemory;
         };
         let place = self.entries.len() + 1;
-        if self.entries.reserve_one().is_err() {
+        if self.entries.reserve(1).is_err() {
             return Answer::NoMemory;
         }
         match self.machine.call(self.alloc, place, pid, call, buf, steps) {
             Ok(reply) => {
-                self.entries.push(entry);
+                self.entries.push_reserved(entry);
                 Answer::Given(reply)
             }
             Err(NoMemory) => Answer::NoMemory,
@@ -110,5 +110,33 @@ impl Core {
         ensures sound { Sound (world_of self.now) }
     {
         self.entries.len() as u32
+    }
+
+    /// What a report says of the object of a number; `None` exactly where there is no such object.
+    pub fn object(&self, n: u32) -> Option<ObjView>
+        ensures { result ≡ option_map view_of (at (world_of self.now).frame.objects n) }
+    {
+        self.machine.tables.object_view(n as usize)
+    }
+
+    /// How many numbers of objects there are: all inodes and all pipes.
+    pub fn objects(&self) -> u32
+        ensures { result ≡ length (world_of self.now).frame.objects }
+    {
+        self.machine.tables.object_count() as u32
+    }
+
+    /// What a report says of a process, living or ended; `None` exactly where the pid has no record.
+    pub fn process(&self, pid: Pid) -> Option<ProcView>
+        ensures { result ≡ option_map shown_of (at (world_of self.now).frame.processes pid.0) }
+    {
+        self.machine.tables.process_view(pid.0 as usize)
+    }
+
+    /// The pid that the next process has. It is above every pid.
+    pub fn next_pid(&self) -> Pid
+        ensures { result.0 ≡ length (world_of self.now).frame.processes }
+    {
+        Pid(self.machine.tables.pid_count() as u32)
     }
 }

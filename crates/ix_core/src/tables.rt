@@ -4,6 +4,7 @@ ghost use Rattle.ix_model.specs.World.{at, put, change, lowest_free, lives, held
 ghost use Rattle.ix_model.specs.Walks.{behind};
 ghost use Rattle.ix_model.specs.Step.{on_pipe, fs_at, lies_on, blocks_on};
 ghost use Rattle.ix_core.specs.Meanings.{behind_of, label_at};
+ghost use Rattle.ix_core.specs.Stepping.{view_of, shown_of};
 
 mod calls;
 mod floats;
@@ -15,7 +16,7 @@ use crate::objects::ObjectRow;
 use crate::opens::{Behind, OpenRow, is_on};
 use crate::processes::ProcessRow;
 use ix_label::Label;
-use ix_model::{AuditLine, Fd, FsSpec, Limits};
+use ix_model::{AuditLine, Fd, FsSpec, Limits, ObjView, ProcView};
 use std::marker::Model;
 
 /// The frame of a world: all but bytes, offsets and exit statuses.
@@ -174,5 +175,46 @@ impl Tables {
                 p.label = label;
             }
         }
+    }
+
+    /// What a report says of an object.
+    pub fn object_view(&self, n: usize) -> Option<ObjView>
+        ensures { result ≡ option_map view_of (at self.now.objects n) }
+    {
+        match self.object(n) {
+            Some(x) => Some(ObjView {
+                kind: x.kind,
+                label: x.label,
+                frozen: x.frozen,
+            }),
+            None => None,
+        }
+    }
+
+    /// How many numbers of objects there are.
+    pub fn object_count(&self) -> usize
+        ensures { result ≡ length self.now.objects }
+    {
+        self.objects.len()
+    }
+
+    /// What a report says of a process, living or ended.
+    pub fn process_view(&self, pid: usize) -> Option<ProcView>
+        ensures { result ≡ option_map shown_of (at self.now.processes pid) }
+    {
+        match self.processes.get(pid) {
+            Some(Some(p)) => Some(ProcView {
+                label: p.label,
+                ended: p.ended,
+            }),
+            _ => None,
+        }
+    }
+
+    /// How many pids have been given, pid 0 with them.
+    pub fn pid_count(&self) -> usize
+        ensures { result ≡ length self.now.processes }
+    {
+        self.processes.len()
     }
 }

@@ -15,4 +15,5 @@ pub mod Valid
 pub mod Clean
 pub mod Sound
 pub mod Histories
+pub mod Shown
 pub mod Laws

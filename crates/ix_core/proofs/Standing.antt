@@ -1,0 +1,68 @@
+-- What a core's machine stands for, at first and one entry later.
+use Rattle.std.proofs.Common.{◌≡◌, ◌+◌, ◌<◌, ◌≤◌, ℕ, true, ◌&&◌, Bool, List, [], ◌∷◌, ◌++◌, length, take, drop, refl, sym, ap, ◌∙◌, subst, arith, length-append}
+use Rattle.std.specs.List.{list_all}
+use Rattle.std.proofs.Math.Seq.{take-append_seam}
+use Rattle.std.proofs.lemmas.Bool.{and_parts}
+use Rattle.ix_model.specs.World.{World}
+use Rattle.ix_model.specs.Opening.{opening_world}
+use Rattle.ix_model.specs.Step.{step, put_front}
+use Rattle.ix_model.specs.Clean.{IsClean}
+use Rattle.ix_model.specs.Sound.{Sound}
+use Rattle.ix_model.specs.Shown.{AreShown}
+use Rattle.ix_model.specs.Valid.{is_valid, is_flat}
+use Rattle.ix_model.specs.Calls.{is_built}
+use Rattle.ix_model.specs.History.{Event}
+use Rattle.ix_model.specs.Histories.{History, world_of, next, with_entry}
+use Rattle.ix_model.specs.declared.config.Config.{Config}
+use Rattle.ix_model.specs.declared.reply.Reply.{Reply}
+use Rattle.ix_model.specs.declared.reply.Reply.TheVariants as reply
+use Rattle.ix_model.specs.declared.reply.Answer.TheVariants as answer
+use Rattle.ix_model.proofs.Openings.{clean_opening}
+use Rattle.ix_model.proofs.Cleaning.{clean_step}
+use Rattle.ix_model.proofs.Reaching.{opening_counts, sound_reached}
+use Rattle.ix_model.proofs.Runs.{world_of-none, world_of-push}
+use Rattle.ix_model.proofs.Fixed.{fixed_step}
+use Rattle.ix_core.specs.Stepping.{StandsFor, Shows}
+
+pub stands_first : (c : Config) (w : World) → is_valid c ≡ true → is_flat c ≡ true → w ≡ opening_world c → StandsFor w (record { config = c; events = [] })
+stands_first c w valid flat e =
+    let counts = opening_counts c valid flat in
+    record {
+      run = e ∙ sym (world_of-none c);
+      clean = subst (λ (v : World). IsClean v) (sym e) (clean_opening c);
+      valid = valid;
+      flat = flat;
+      built = refl;
+      few = omega arith;
+      objects = subst (λ (v : World). length v.frame.objects ≤ 66560) (sym e) counts.0;
+      processes = subst (λ (v : World). length v.frame.processes ≤ 1025) (sym e) counts.1;
+    }
+
+built_more : (es : List Event) (e : Event) → list_all (λ x. is_built x.op) es ≡ true → is_built e.op ≡ true → list_all (λ x. is_built x.op) (es ++ e ∷ []) ≡ true
+built_more [] e h k = rw k refl
+built_more (x ∷ es) e h k =
+    let p = and_parts (is_built x.op) (list_all (λ x. is_built x.op) es) h in
+    rw p.0 (built_more es e p.1 k)
+
+pub stands_next : (w v : World) (h : History) (e : Event) → StandsFor w h → is_built e.op ≡ true → length h.events < 6800000 → v ≡ (step w (length h.events + 1) e.pid e.op).world → StandsFor v (with_entry h e)
+stands_next w v h e s built few is =
+    let fixed = fixed_step w (length h.events + 1) e.pid e.op in
+    record {
+      run = is ∙ ap (λ (u : World). (step u (length h.events + 1) e.pid e.op).world) s.run ∙ sym (world_of-push h e);
+      clean = subst (λ (u : World). IsClean u) (sym is) (clean_step w (length h.events + 1) e.pid e.op s.clean);
+      valid = s.valid;
+      flat = s.flat;
+      built = built_more h.events e s.built built;
+      few = omega (arith, length-append h.events (e ∷ []));
+      objects = subst (λ (u : World). length u.frame.objects ≤ 66560) (sym is) (omega (arith, fixed.objects, s.objects));
+      processes = subst (λ (u : World). length u.frame.processes ≤ 1025) (sym is) (omega (arith, fixed.processes, s.processes));
+    }
+
+pub sound_core : (w : World) (h : History) → StandsFor w h → Sound (world_of h)
+unfolding world_of
+sound_core w h s = sound_reached h.config h.events s.valid s.flat s.built
+
+-- the bytes that a reply tells of are the first ones of the buffer
+pub shows : (r : Reply) (bytes before after : List ℕ) → AreShown r bytes → after ≡ put_front bytes before → Shows (answer.Given r) after bytes
+shows (reply.Bytes k) bytes before after h e = (h.1, h.0, ap (take k) e ∙ ap (λ n. take n (put_front bytes before)) (sym h.0) ∙ take-append_seam bytes (drop (length bytes) before))
+shows _ bytes before after h e = tt
