@@ -1,6 +1,6 @@
 //! Laws of the text of labels, each a contract of its own.
 
-ghost use Rattle.std.specs.Prelude.{◌≡◌, ◌+◌, Ok};
+ghost use Rattle.std.specs.Prelude.{◌≡◌, ◌+◌};
 ghost use Rattle.ix_label.specs.Laws.{OneLabelEach, SpelledOrFaulty};
 
 use crate::fault::LabelFault;

@@ -1,4 +1,4 @@
-ghost use Rattle.std.specs.Prelude.{◌≡◌, ◌+◌, ◌<◌, ◌≤◌, ◌&&◌, ◌||◌, ◌↔◌, ℕ, true, IsTrue, slice_get, nat_le, length, drop, IfOk, MatchOption, codes, false};
+ghost use Rattle.std.specs.Prelude.{◌≡◌, ◌+◌, ◌<◌, ◌≤◌, ◌&&◌, ◌||◌, ◌↔◌, ℕ, true, IsTrue, slice_get, nat_le, length, IfOk, MatchOption, codes, false};
 ghost use Rattle.std.specs.List.{list_all, prefix_len};
 ghost use Rattle.std.specs.Result.{result_err};
 ghost use Rattle.std.specs.Char.{is_ascii_digit};

@@ -7,7 +7,6 @@ use crate::text::LabelText;
 use std::marker::Brand;
 use std::process::Abort;
 use std::sync::ledger::{Blank, Ledger};
-use std::test::Fail;
 
 /// Texts that spell a label.
 const SPELLINGS: [&[u8]; 11] = [
@@ -81,11 +80,11 @@ fn each_fault_is_the_first(rt: HostRuntime) {
 }
 
 #[test]
-fn the_lattice_counts_its_looks(rt: HostRuntime) {
-    look::<Brand, _>(&rt, Blank::new(1));
+fn labels_compare_as_sets(rt: HostRuntime) {
+    compare::<Brand, _>(&rt, Blank::new(1));
 }
 
-fn look<L: Ledger, R: Abort>(rt: &R, blank: Blank)
+fn compare<L: Ledger, R: Abort>(rt: &R, blank: Blank)
     requires name { blank.name ≡ L.name }
     requires parts { blank.parts ≡ L.parts }
     requires some { 0 < L.parts }
