@@ -2,3 +2,5 @@ pub mod Lines
 pub mod Readers
 pub mod Words
 pub mod Forms
+pub mod Order
+pub mod Faults
