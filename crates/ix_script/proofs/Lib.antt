@@ -3,6 +3,8 @@ mod Numbers
 mod Pairs
 mod Cutting
 mod Following
+mod Formed
+mod Room
 mod Sound
 mod Progress
 mod NoBytes

@@ -16,7 +16,7 @@ list_all_weaker p q weaker (x ∷ xs) h =
     let parts : (p x ≡ true) × (list_all p xs ≡ true) = both (p x) (list_all p xs) h in
     rw (weaker x parts.0) (list_all_weaker p q weaker xs parts.1)
 
-join_tests : (a b : Bool) → a ≡ true → b ≡ true → (a && b) ≡ true
+pub join_tests : (a b : Bool) → a ≡ true → b ≡ true → (a && b) ≡ true
 join_tests true b h k = k
 join_tests false b h k = cc
 

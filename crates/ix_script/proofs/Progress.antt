@@ -7,14 +7,14 @@ use Rattle.ix_script.specs.Order.{no_lines, with_text, with_texts, begins_script
 use Rattle.ix_script.specs.Faults.{IsFault}
 use Rattle.ix_script.specs.declared.draft.Draft.{Draft}
 use Rattle.ix_script.proofs.Following.{texts_push, front_begins, taken}
-use Rattle.ix_script.proofs.Sound.{Sound, sound_start, sound_next, next_lines}
+use Rattle.ix_script.proofs.Sound.{IsSound, sound_start, sound_next, next_lines}
 
 -- the draft says what the lines say that stand before the rest of the bytes
 pub record Reading (lines : List (List ℕ)) (total : ℕ) (rest : List ℕ) (d : Draft) : Type 0 where
   pub so_far : with_texts no_lines (take d.lines lines) ≡ Some d
   pub left : drop d.lines lines ≡ cut rest
   pub fewer : d.lines + length rest ≤ total
-  pub sound : Sound d
+  pub sound : IsSound d
 
 pub start : (bytes : List ℕ) → Reading (cut bytes) (length bytes) bytes no_lines
 unfolding with_texts no_lines

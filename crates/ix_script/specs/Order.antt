@@ -56,7 +56,7 @@ proc_may_follow d name p = in_header d && nat_lt (length d.names) 64 && not (is_
 
 -- whether the file's one name is this
 abbrev pub is_called : List ℕ → ObjSpec → Bool
-is_called name o = option_map_or (same_bytes name) (slice_get o.path.names 0) false
+is_called name o = option_map_or (λ own. same_bytes own name) (slice_get o.path.names 0) false
 
 -- whether one of the files has the file's name
 unfoldable pub is_taken : List ObjSpec → ObjSpec → Bool

@@ -77,7 +77,7 @@ fn is_called(name: &[u8], o: &ObjSpec) -> bool
     ensures { result ≡ is_called name.now o.now }
 {
     match o.path.name(0) {
-        Some(own) => is(name, own.as_bytes()),
+        Some(own) => is(own.as_bytes(), name),
         None => false,
     }
 }

@@ -1,4 +1,5 @@
-ghost use Rattle.std.specs.Prelude.{◌≡◌, ◌<◌, ◌≤◌, ◌∷◌, ◌+◌, ◌==◌, length, position, IfSome, IfOk, IfErr};
+ghost use Rattle.std.specs.Prelude.{◌≡◌, ◌<◌, ◌≤◌, ◌∷◌, ◌+◌, ◌==◌, length, position, IfSome, IfOk, IfErr, IsTrue};
+ghost use Rattle.ix_model.specs.Valid.{is_valid, is_flat};
 ghost use Rattle.ix_script.specs.Lines.{cut, lines_of};
 ghost use Rattle.ix_script.specs.Order.{no_lines, with_texts, default_limits, config_of, script_by, script_of};
 ghost use Rattle.ix_script.specs.Faults.{HasCause};
@@ -52,6 +53,8 @@ fn draft_of<L: Ledger>(
     requires some { 0 < length bytes.now }
     requires few { length bytes.now ≤ 16777216 }
     ensures whole { IfOk result (λ d. with_texts no_lines (lines_of bytes.now) ≡ Some d) }
+    ensures valid { IfOk result (λ d. IsTrue (is_valid (config_of d))) }
+    ensures flat { IfOk result (λ d. IsTrue (is_flat (config_of d))) }
     ensures fail { IfErr result (λ e. HasCause e bytes.now) }
 {
     let mut draft = Draft::new(alloc);
@@ -108,6 +111,8 @@ fn read_with<L: Ledger>(alloc: Global, bytes: &[u8], blank: Blank) -> Result<Scr
     requires some { 0 < L.parts }
     requires few { length bytes.now ≤ 16777216 }
     ensures script { IfOk result (λ s. script_of bytes.now ≡ Some s) }
+    ensures valid { IfOk result (λ s. IsTrue (is_valid s.config)) }
+    ensures flat { IfOk result (λ s. IsTrue (is_flat s.config)) }
     ensures fail { IfErr result (λ e. HasCause e bytes.now) }
 {
     if bytes.is_empty() {
@@ -125,6 +130,8 @@ fn read_with<L: Ledger>(alloc: Global, bytes: &[u8], blank: Blank) -> Result<Scr
 pub fn read(alloc: Global, bytes: &[u8]) -> Result<Script, ReadFail>
     requires { length bytes.now ≤ 16777216 }
     ensures script { IfOk result (λ s. script_of bytes.now ≡ Some s) }
+    ensures valid { IfOk result (λ s. IsTrue (is_valid s.config)) }
+    ensures flat { IfOk result (λ s. IsTrue (is_flat s.config)) }
     ensures fail { IfErr result (λ e. HasCause e bytes.now) }
 {
     read_with::<Brand>(alloc, bytes, Blank::new(1))

@@ -4,6 +4,7 @@ use Rattle.std.proofs.lemmas.List.{nil_from_length}
 use Rattle.ix_script.specs.Lines.{cut}
 use Rattle.ix_script.specs.Order.{no_lines, with_texts}
 use Rattle.ix_script.proofs.Progress.{Reading, start, goes_on, no_more, lines_cut, fault_at}
+use Rattle.ix_script.proofs.Sound.{valid, flat}
 use Rattle.ix_script.proofs.reading.draft_of.Goals as goal
 
 pub lines-init : goal.lines-init
@@ -23,3 +24,9 @@ returns-clause-whole g c =
     let none : c.lines.rest.now ≡ [] = nil_from_length c.lines.rest.now (eqb-true _ 0 (sym c.is_empty.ensures ∙ c.lines-test.false)) in
     ap (with_texts no_lines) (lines_cut bytes c.requires.some)
     ∙ no_more (cut bytes) (length bytes) c.lines.draft (subst (λ (rest : List ℕ). Reading (cut bytes) (length bytes) rest c.lines.draft) none c.lines.invariant)
+
+pub returns-clause-valid : goal.returns-clause-valid
+returns-clause-valid g c = valid c.lines.draft c.lines.invariant.sound
+
+pub returns-clause-flat : goal.returns-clause-flat
+returns-clause-flat g c = flat c.lines.draft c.lines.invariant.sound
