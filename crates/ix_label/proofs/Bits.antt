@@ -1,5 +1,5 @@
 -- What the code's work on words does to the label that they hold.
-use Rattle.std.proofs.Common.{◌≡◌, ℕ, zero, suc, ◌+◌, ◌-◌, ◌*◌, ◌^◌, ◌/◌, ◌%◌, ◌<◌, ◌≤◌, ◌==◌, Bool, true, false, true≢false, ◌&&◌, ◌||◌, List, [], ◌∷◌, length, get_or, refl, sym, ◌∙◌, ap, arith, min, max, inl, inr, ◌≢◌, w64, get_or-set_same, get_or-set_other, nat_eq}
+use Rattle.std.proofs.Common.{◌≡◌, ℕ, zero, suc, ◌-◌, ◌*◌, ◌^◌, ◌/◌, ◌%◌, ◌<◌, ◌==◌, true, false, true≢false, ◌&&◌, ◌||◌, List, [], ◌∷◌, length, get_or, refl, sym, ◌∙◌, ap, arith, min, max, inl, inr, ◌≢◌, w64, get_or-set_same, get_or-set_other, nat_eq}
 use Rattle.std.specs.Bool.{Decides}
 use Rattle.std.specs.Cmp.Lexicographic.{pointwise, bytes_decides}
 use Rattle.std.specs.Int.{bit_at}
@@ -10,7 +10,7 @@ use Rattle.std.proofs.lemmas.Bool.{cases_lt, ne_eqb}
 use Rattle.std.proofs.lemmas.Nat.{or_lt}
 use Rattle.std.proofs.lemmas.Bool.Decides.{eqb_tells, same_from_decides}
 use Rattle.std.proofs.Math.ListN.{set, length-set}
-use Rattle.ix_label.specs.Category.{Categories, IsLabel, has, bottom, top, all_below, with, join, meet, leq, same}
+use Rattle.ix_label.specs.Category.{IsLabel, has, bottom, top, with, join, meet, leq, same}
 use Rattle.ix_label.specs.Members.{same_members, has-bottom, has-top, has-top_past, has-with, has-join, has-meet}
 use Rattle.ix_label.specs.Lattice.{join-absorbs, leq-by_join, same-decides}
 use Rattle.ix_label.specs.Words.{has_bit, has_bit_past, members, has-members, AreWords, words_of, words_of-members}

@@ -8,7 +8,8 @@ use Rattle.ix_model.specs.Privs.{no_privileges}
 use Rattle.ix_model.specs.Valid.{is_within, fs_fits, is_flat_process}
 use Rattle.ix_model.specs.declared.config.ObjSpec.{ObjSpec}
 use Rattle.ix_script.specs.Readers.{◌>>=◌}
-use Rattle.ix_script.specs.Words.{number_of, number_within, path_of, begins_with, may_stand_in_path, spelled_bytes, payload_of, split, split_2, split_3, name_of, label_of, fd_of}
+use Rattle.ix_script.specs.Labels.{label_of}
+use Rattle.ix_script.specs.Words.{number_of, number_within, path_of, begins_with, may_stand_in_path, spelled_bytes, payload_of, split, split_2, split_3, name_of, fd_of}
 use Rattle.ix_script.specs.Forms.{only_if, fs_line, proc_line, file_line, lane_line, opening_of, open_line, read_line, write_line, self_line, line_by_word, is_text, line_of}
 use Rattle.ix_script.specs.declared.script.Deed.{Deed}
 use Rattle.ix_label.specs.Category.{Categories}

@@ -8,3 +8,4 @@ mod Room
 mod Sound
 mod Progress
 mod NoBytes
+mod AllLabels

@@ -6,7 +6,8 @@ use Rattle.ix_model.specs.Privs.{no_privileges}
 use Rattle.ix_model.specs.Valid.{is_within}
 use Rattle.ix_model.specs.declared.call.Mode.{Mode}
 use Rattle.ix_script.specs.Readers.{◌>>=◌}
-use Rattle.ix_script.specs.Words.{split, split_2, split_3, name_of, number_of, number_within, label_of, path_of, mode_of, fd_of, payload_of}
+use Rattle.ix_script.specs.Labels.{label_of}
+use Rattle.ix_script.specs.Words.{split, split_2, split_3, name_of, number_of, number_within, path_of, mode_of, fd_of, payload_of}
 use Rattle.ix_script.specs.declared.line.Line.{Line}
 use Rattle.ix_script.specs.declared.line.Line.TheVariants as line
 use Rattle.ix_script.specs.declared.script.Deed.TheVariants as deed

@@ -1,9 +1,8 @@
--- The words of a script: names, numbers, labels, paths, payloads.
+-- The words of a script: names, numbers, paths, payloads.
 use Rattle.std.specs.Prelude.{◌≡◌, ℕ, ◌+◌, ◌*◌, ◌-◌, ◌==◌, nat_le, nat_lt, Bool, true, false, not, ◌&&◌, ◌||◌, List, [], ◌∷◌, length, take, drop, position, find, fold, Option, Some, None, if◌then◌else◌, codes, slice_get}
 use Rattle.std.specs.Option.{option_map_or}
 use Rattle.std.specs.List.{list_all}
 use Rattle.std.proofs.Common.{option_map}
-use Rattle.ix_label.specs.Category.{Categories}
 use Rattle.ix_model.specs.Naming.{PathOf, is_name, same_bytes}
 use Rattle.ix_model.specs.Valid.{is_within}
 use Rattle.ix_model.specs.declared.call.Mode.{Mode}
@@ -163,7 +162,3 @@ unfoldable pub payload_of : ℕ → List ℕ → Option (List ℕ)
 payload_of most text = do
   bytes ← spelled_bytes text
   if nat_le (length bytes) most then Some bytes else None
-
--- ---- labels
-unfoldable pub label_of : List ℕ → Option Categories
-label_of word = None

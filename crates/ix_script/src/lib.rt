@@ -2,6 +2,7 @@
 #![tactic(auto)]
 
 mod draft;
+mod labels;
 mod line;
 mod payload;
 mod reading;

@@ -5,10 +5,11 @@ ghost use Rattle.ix_model.specs.Valid.{is_within};
 ghost use Rattle.ix_script.specs.Readers.{Gives};
 ghost use Rattle.ix_script.specs.Forms.{only_if, fs_line, proc_line, file_line, lane_line, plain_opening, named_opening, opening_of, open_line, read_line, write_line, self_line, line_by_word, is_text, line_of};
 
+use crate::labels::label;
 use crate::payload::payload;
 use crate::refused::Refused;
 use crate::script::Deed;
-use crate::words::{fd, is, label, mode, name, number, number_within, path, root_name, split, split_2, split_3};
+use crate::words::{fd, is, mode, name, number, number_within, path, root_name, split, split_2, split_3};
 use bitflags::Flags;
 use ix_model::{FsSpec, Mode, Name, ObjSpec, PrivSet, ProcSpec};
 use std::alloc::Global;

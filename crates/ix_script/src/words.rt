@@ -4,11 +4,10 @@ ghost use Rattle.std.specs.List.{list_all};
 ghost use Rattle.ix_model.specs.Naming.{same_bytes};
 ghost use Rattle.ix_model.specs.Valid.{is_within};
 ghost use Rattle.ix_script.specs.Readers.{Gives};
-ghost use Rattle.ix_script.specs.Words.{split, split_2, split_3, is_letter, is_digit, may_stand_in_script_name, begins_with, is_reserved, is_script_name, name_of, is_numeral, number_of, number_within, may_stand_in_path, path_of, mode_of, fd_of, label_of};
+ghost use Rattle.ix_script.specs.Words.{split, split_2, split_3, is_letter, is_digit, may_stand_in_script_name, begins_with, is_reserved, is_script_name, name_of, is_numeral, number_of, number_within, may_stand_in_path, path_of, mode_of, fd_of};
 
 use crate::refused::Refused;
 use crate::script::FdWord;
-use ix_label::Label;
 use ix_model::{Mode, Name, Path};
 
 /// Whether the two are the same bytes.
@@ -235,13 +234,4 @@ pub(crate) fn root_name() -> Name
         Some(name) => name,
         None => unreachable!(),
     }
-}
-
-/// The label of that spelling.
-#[tactic(auto, unfolding(crate::specs::Words::label_of))]
-pub(crate) fn label(word: &[u8]) -> Result<Label, Refused>
-    ensures { Gives (λ x. x) result (label_of word.now) }
-{
-    let _ = word;
-    Err(Refused::Form)
 }
