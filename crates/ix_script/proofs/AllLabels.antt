@@ -78,31 +78,62 @@ all_there (suc n) s low = elim (bool_cases (has s n)) [
     among_left s (labels_below n) (map (λ l. with l n) (labels_below n)) (all_there n s rest)
 ]
 
+-- ---- and nothing else
+among_split : (s : Categories) (xs ys : List Categories) → Among s (xs ++ ys) → Among s xs ⊎ Among s ys
+among_split s [] ys h = inr h
+among_split s (x ∷ xs) ys (inl e) = inl (inl e)
+among_split s (x ∷ xs) ys (inr h) = elim (among_split s xs ys h) [ inl k ↦ inl (inr k) | inr k ↦ inr k ]
+
+among_mapped : (n : ℕ) (s : Categories) (xs : List Categories) → Among s (map (λ l. with l n) xs) → (l : Categories) × Among l xs × (with l n ≡ s)
+among_mapped n s [] h = absurd h
+among_mapped n s (x ∷ xs) (inl e) = (x, inl refl, e)
+among_mapped n s (x ∷ xs) (inr h) = let p = among_mapped n s xs h in (p.0, inr p.1, p.2)
+
+one_higher : (l : Categories) (n q : ℕ) → ((r : ℕ) → has l r ≡ true → r < n) → has (with l n) q ≡ true → q < suc n
+one_higher l n q low h = elim (cases_eq q n) [
+  | inl e ↦ omega arith
+  | inr ne ↦
+    let old : has l q ≡ true = ap (λ b. b || has l q) (sym (ne_eqb q n ne)) ∙ sym (has-with l n q) ∙ h in
+    let k : q < n = low q old in
+    omega arith
+]
+
+below : (n : ℕ) (s : Categories) → Among s (labels_below n) → (q : ℕ) → has s q ≡ true → q < n
+unfolding labels_below
+below zero s (inl e) q h = let none : has s q ≡ false = ap (λ l. has l q) (sym e) ∙ has-bottom q in cc
+below zero s (inr k) q h = absurd k
+below (suc n) s k q h = elim (among_split s (labels_below n) (map (λ l. with l n) (labels_below n)) k) [
+  | inl a ↦ let low : q < n = below n s a q h in omega arith
+  | inr a ↦
+    let p = among_mapped n s (labels_below n) a in
+    one_higher p.0 n q (below n p.0 p.1) (ap (λ l. has l q) p.2 ∙ h)
+]
+
 -- ---- the one that is found
-find_one : (test : Categories → Bool) (s : Categories) (ls : List Categories) → Among s ls → test s ≡ true → ((l : Categories) → test l ≡ true → l ≡ s) → find test ls ≡ Some s
+find_one : (test : Categories → Bool) (s : Categories) (ls : List Categories) → Among s ls → test s ≡ true → ((l : Categories) → Among l ls → test l ≡ true → l ≡ s) → find test ls ≡ Some s
 find_one test s [] h is only = absurd h
 find_one test s (l ∷ ls) h is only = elim (bool_cases (test l)) [
-  | inl t ↦ rw t (ap (λ (x : Categories). Some x) (only l t))
+  | inl t ↦ rw t (ap (λ (x : Categories). Some x) (only l (inl refl) t))
   | inr f ↦ rw f (elim h [
     | inl e ↦ let t : test l ≡ test s = ap test e in cc
-    | inr k ↦ find_one test s ls k is only
+    | inr k ↦ find_one test s ls k is (λ m a. only m (inr a))
   ])
 ]
 
-find_none : (test : Categories → Bool) (ls : List Categories) → ((l : Categories) → test l ≡ true → ⊥) → find test ls ≡ None
+find_none : (test : Categories → Bool) (ls : List Categories) → ((l : Categories) → Among l ls → test l ≡ true → ⊥) → find test ls ≡ None
 find_none test [] none = refl
 find_none test (l ∷ ls) none = elim (bool_cases (test l)) [
-  | inl t ↦ absurd (none l t)
-  | inr f ↦ rw f (find_none test ls none)
+  | inl t ↦ absurd (none l (inl refl) t)
+  | inr f ↦ rw f (find_none test ls (λ m a. none m (inr a)))
 ]
 
 -- the label of a spelling that no other has
-pub label_found : (word : List ℕ) (s : Categories) → IsLabel s → spelling s ≡ word → ((l : Categories) → spelling l ≡ word → l ≡ s) → label_of word ≡ Some s
+pub label_found : (word : List ℕ) (s : Categories) → IsLabel s → spelling s ≡ word → ((l : Categories) → IsLabel l → spelling l ≡ word → l ≡ s) → label_of word ≡ Some s
 unfolding label_of
 label_found word s small is only =
-    find_one (is_spelled word) s (labels_below 256) (all_there 256 s small.below) (ap (λ t. same_bytes t word) is ∙ text_is_same word) (λ l t. only l (same_text (spelling l) word (sym t)))
+    find_one (is_spelled word) s (labels_below 256) (all_there 256 s small.below) (ap (λ t. same_bytes t word) is ∙ text_is_same word) (λ l a t. only l (record { below = below 256 l a }) (same_text (spelling l) word (sym t)))
 
 -- a word that spells no label
-pub label_missing : (word : List ℕ) → ((l : Categories) → spelling l ≡ word → ⊥) → label_of word ≡ None
+pub label_missing : (word : List ℕ) → ((l : Categories) → IsLabel l → spelling l ≡ word → ⊥) → label_of word ≡ None
 unfolding label_of
-label_missing word none = find_none (is_spelled word) (labels_below 256) (λ l t. none l (same_text (spelling l) word (sym t)))
+label_missing word none = find_none (is_spelled word) (labels_below 256) (λ l a t. none l (record { below = below 256 l a }) (same_text (spelling l) word (sym t)))

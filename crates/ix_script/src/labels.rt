@@ -6,9 +6,14 @@ use crate::refused::Refused;
 use ix_label::Label;
 
 /// The label of that spelling.
-#[tactic(auto, using(crate::proofs::AllLabels::label_missing))]
-pub(crate) fn label(_word: &[u8]) -> Result<Label, Refused>
-    ensures { Gives (λ x. x) result (label_of _word.now) }
+pub(crate) fn label(word: &[u8]) -> Result<Label, Refused>
+    ensures { Gives (λ x. x) result (label_of word.now) }
 {
-    Err(Refused::NoMemory)
+    match Label::read(word) {
+        Ok(label) => {
+            label.is_label();
+            Ok(label)
+        }
+        Err(_) => Err(Refused::Form),
+    }
 }
