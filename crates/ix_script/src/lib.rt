@@ -12,3 +12,6 @@ mod words;
 
 pub use reading::{ReadFail, read};
 pub use script::{Command, Deed, FdWord, Script};
+
+#[cfg(test)]
+mod tests;
