@@ -1,5 +1,5 @@
 -- The one label of a spelling is found among all labels.
-use Rattle.std.proofs.Common.{◌≡◌, ◌≢◌, ℕ, zero, suc, ◌+◌, ◌<◌, ◌≤◌, Bool, true, false, not, ◌&&◌, ◌||◌, ◌==◌, cond, nat_eq, List, [], ◌∷◌, ◌++◌, map, find, Option, Some, None, ◌⊎◌, inl, inr, refl, sym, ap, ◌∙◌, subst, arith}
+use Rattle.std.proofs.Common.{◌≡◌, ◌≢◌, ℕ, zero, suc, ◌<◌, Bool, true, false, not, ◌&&◌, ◌||◌, ◌==◌, List, [], ◌∷◌, ◌++◌, map, find, Some, None, ◌⊎◌, inl, inr, refl, sym, ap, ◌∙◌, subst, arith}
 use Rattle.std.specs.FinSet as set
 use Rattle.std.specs.FinSet.{contains-remove}
 use Rattle.std.specs.Cmp.{nat_cmp_total, unsigned_tied}
@@ -68,14 +68,14 @@ all_there zero s low = inl (same_members bottom s (λ q. has-bottom q ∙ elim (
 ]))
 all_there (suc n) s low = elim (bool_cases (has s n)) [
   | inl h ↦
-    let rest : (q : ℕ) → has (without s n) q ≡ true → q < n = λ q k.
-    let p : (not (q == n) ≡ true) × (has s q ≡ true) = both (not (q == n)) (has s q) (sym (has-without s n q) ∙ k) in
-    lower q n (low q p.1) (λ e. let t : (q == n) ≡ true = eq-eqb q n e in cc (ap not t, p.0)) in
-    subst (λ l. Among l (labels_below n ++ map (λ l. with l n) (labels_below n))) (with_again s n h)
-    (among_right (with (without s n) n) (labels_below n) (map (λ l. with l n) (labels_below n)) (among_map n (without s n) (labels_below n) (all_there n (without s n) rest)))
+      let rest : (q : ℕ) → has (without s n) q ≡ true → q < n = λ q k.
+      let p : (not (q == n) ≡ true) × (has s q ≡ true) = both (not (q == n)) (has s q) (sym (has-without s n q) ∙ k) in
+      lower q n (low q p.1) (λ e. let t : (q == n) ≡ true = eq-eqb q n e in cc (ap not t, p.0)) in
+      subst (λ l. Among l (labels_below n ++ map (λ l. with l n) (labels_below n))) (with_again s n h)
+      (among_right (with (without s n) n) (labels_below n) (map (λ l. with l n) (labels_below n)) (among_map n (without s n) (labels_below n) (all_there n (without s n) rest)))
   | inr h ↦
-    let rest : (q : ℕ) → has s q ≡ true → q < n = λ q k. lower q n (low q k) (λ e. let t : has s q ≡ has s n = ap (has s) e in cc) in
-    among_left s (labels_below n) (map (λ l. with l n) (labels_below n)) (all_there n s rest)
+      let rest : (q : ℕ) → has s q ≡ true → q < n = λ q k. lower q n (low q k) (λ e. let t : has s q ≡ has s n = ap (has s) e in cc) in
+      among_left s (labels_below n) (map (λ l. with l n) (labels_below n)) (all_there n s rest)
 ]
 
 -- ---- and nothing else
@@ -93,9 +93,9 @@ one_higher : (l : Categories) (n q : ℕ) → ((r : ℕ) → has l r ≡ true �
 one_higher l n q low h = elim (cases_eq q n) [
   | inl e ↦ omega arith
   | inr ne ↦
-    let old : has l q ≡ true = ap (λ b. b || has l q) (sym (ne_eqb q n ne)) ∙ sym (has-with l n q) ∙ h in
-    let k : q < n = low q old in
-    omega arith
+      let old : has l q ≡ true = ap (λ b. b || has l q) (sym (ne_eqb q n ne)) ∙ sym (has-with l n q) ∙ h in
+      let k : q < n = low q old in
+      omega arith
 ]
 
 below : (n : ℕ) (s : Categories) → Among s (labels_below n) → (q : ℕ) → has s q ≡ true → q < n
@@ -105,8 +105,8 @@ below zero s (inr k) q h = absurd k
 below (suc n) s k q h = elim (among_split s (labels_below n) (map (λ l. with l n) (labels_below n)) k) [
   | inl a ↦ let low : q < n = below n s a q h in omega arith
   | inr a ↦
-    let p = among_mapped n s (labels_below n) a in
-    one_higher p.0 n q (below n p.0 p.1) (ap (λ l. has l q) p.2 ∙ h)
+      let p = among_mapped n s (labels_below n) a in
+      one_higher p.0 n q (below n p.0 p.1) (ap (λ l. has l q) p.2 ∙ h)
 ]
 
 -- ---- the one that is found

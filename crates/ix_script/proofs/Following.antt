@@ -1,12 +1,9 @@
 -- Lines, one after the other.
-use Rattle.std.proofs.Common.{◌≡◌, ℕ, zero, suc, ◌+◌, ◌<◌, ◌≤◌, Bool, true, false, cond, List, [], ◌∷◌, ◌++◌, length, take, drop, Option, Some, None, is_some, refl, sym, ap, ◌∙◌, arith, add-one, take-append-drop}
+use Rattle.std.proofs.Common.{◌≡◌, ℕ, zero, suc, true, cond, List, [], ◌∷◌, ◌++◌, take, drop, Option, Some, None, is_some, refl, sym, ap, take-append-drop}
 use Rattle.std.proofs.lemmas.Option.{option_and_then_some, cond_some}
-use Rattle.std.proofs.lemmas.List.{take-take}
 use Rattle.ix_script.specs.Readers.{◌>>=◌}
-use Rattle.ix_script.specs.Lines.{cut, lines_of}
 use Rattle.ix_script.specs.Forms.{line_of}
-use Rattle.ix_script.specs.Order.{no_lines, may_follow, with_line, counted, with_text, with_texts, begins_script, script_of, script_by}
-use Rattle.ix_script.specs.Faults.{IsFault}
+use Rattle.ix_script.specs.Order.{no_lines, may_follow, with_line, counted, with_text, with_texts, begins_script}
 use Rattle.ix_script.specs.declared.draft.Draft.{Draft}
 use Rattle.ix_script.specs.declared.line.Line.{Line}
 
@@ -15,8 +12,8 @@ pub added : (d : Draft) (text : List ℕ) (e : Draft) → with_text d text ≡ S
 unfolding with_text
 added d text e h =
     option_and_then_some (λ l. cond (may_follow d l) (Some (counted (with_line d l))) None) (line_of text) e h (λ l is next.
-        let parts = cond_some (may_follow d l) (counted (with_line d l)) e next in
-        (l, is, parts.0, sym parts.1))
+    let parts = cond_some (may_follow d l) (counted (with_line d l)) e next in
+    (l, is, parts.0, sym parts.1))
 
 bind_some : (o : Option Draft) → (o >>= λ e. Some e) ≡ o
 bind_some None = refl

@@ -1,5 +1,5 @@
 -- What the form of a line alone says of it.
-use Rattle.std.proofs.Common.{◌≡◌, ℕ, ◌≤◌, Bool, true, false, cond, ◌&&◌, ◌==◌, nat_le, List, [], ◌∷◌, length, drop, Option, Some, None, refl, sym, ap, ◌∙◌, rules, arith, subst}
+use Rattle.std.proofs.Common.{◌≡◌, ℕ, ◌≤◌, Bool, true, false, cond, ◌&&◌, ◌==◌, nat_le, List, [], ◌∷◌, length, drop, Option, Some, None, refl, sym, ap, subst}
 use Rattle.std.specs.Option.{IfSome}
 use Rattle.std.proofs.lemmas.Option.{option_and_then_some, cond_some}
 use Rattle.std.proofs.lemmas.Bool.{leb-true}
@@ -8,9 +8,8 @@ use Rattle.ix_model.specs.Privs.{no_privileges}
 use Rattle.ix_model.specs.Valid.{is_within, fs_fits, is_flat_process}
 use Rattle.ix_model.specs.declared.config.ObjSpec.{ObjSpec}
 use Rattle.ix_script.specs.Readers.{◌>>=◌}
-use Rattle.ix_script.specs.Labels.{label_of}
-use Rattle.ix_script.specs.Words.{number_of, number_within, path_of, begins_with, may_stand_in_path, spelled_bytes, payload_of, split, split_2, split_3, name_of, fd_of}
-use Rattle.ix_script.specs.Forms.{only_if, fs_line, proc_line, file_line, lane_line, opening_of, open_line, read_line, write_line, self_line, line_by_word, is_text, line_of}
+use Rattle.ix_script.specs.Words.{number_of, number_within, path_of, begins_with, may_stand_in_path, spelled_bytes, payload_of}
+use Rattle.ix_script.specs.Forms.{fs_line, proc_line, file_line, lane_line, open_line, read_line, write_line, self_line, line_by_word, line_of}
 use Rattle.ix_script.specs.declared.script.Deed.{Deed}
 use Rattle.ix_label.specs.Category.{Categories}
 use Rattle.std.specs.List.{list_all}
@@ -60,8 +59,8 @@ within : (low high n : ℕ) (word : List ℕ) → number_within low high word �
 unfolding number_within
 within low high n word h =
     option_and_then_some (λ m. cond (is_within low high m) (Some m) None) (number_of word) n h (λ m is next.
-        let parts = cond_some (is_within low high m) m n next in
-        subst (λ k. is_within low high k ≡ true) parts.1 parts.0)
+    let parts = cond_some (is_within low high m) m n next in
+    subst (λ k. is_within low high k ≡ true) parts.1 parts.0)
 
 one_name : (word : List ℕ) (path : PathOf) → path_of word ≡ Some path → record { absolute = true; names = drop 1 word ∷ [] } ≡ path
 unfolding path_of
@@ -71,8 +70,8 @@ at_most : (most : ℕ) (text bytes : List ℕ) → payload_of most text ≡ Some
 unfolding payload_of
 at_most most text bytes h =
     option_and_then_some (λ x. cond (nat_le (length x) most) (Some x) None) (spelled_bytes text) bytes h (λ x is next.
-        let parts = cond_some (nat_le (length x) most) x bytes next in
-        subst (λ (y : List ℕ). length y ≤ most) parts.1 (leb-true (length x) most parts.0))
+    let parts = cond_some (nat_le (length x) most) x bytes next in
+    subst (λ (y : List ℕ). length y ≤ most) parts.1 (leb-true (length x) most parts.0))
 
 pub self_forms : (text : List ℕ) → Forms (self_line text)
 unfolding self_line

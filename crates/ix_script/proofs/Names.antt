@@ -1,10 +1,10 @@
 -- Script names are names of the kernel.
-use Rattle.std.proofs.Common.{◌≡◌, ℕ, ◌≤◌, Bool, true, false, ◌&&◌, ◌||◌, not, ◌==◌, nat_le, nat_lt, List, [], ◌∷◌, length, refl, arith}
+use Rattle.std.proofs.Common.{◌≡◌, ℕ, Bool, true, false, ◌&&◌, not, ◌==◌, nat_le, nat_lt, List, [], ◌∷◌, length, refl, arith}
 use Rattle.std.specs.List.{list_all}
 use Rattle.std.proofs.lemmas.Bool.Decides.{nat_tests}
-use Rattle.std.proofs.lemmas.Bool.{lt-ltb, le-leb}
+use Rattle.std.proofs.lemmas.Bool.{lt-ltb}
 use Rattle.ix_model.specs.Naming.{is_name, may_stand_in_name, same_bytes}
-use Rattle.ix_script.specs.Words.{is_letter, may_stand_in_script_name, begins_with, is_reserved, is_script_name}
+use Rattle.ix_script.specs.Words.{is_letter, may_stand_in_script_name, is_reserved, is_script_name}
 
 pub both : (a b : Bool) → (a && b) ≡ true → (a ≡ true) × (b ≡ true)
 both true b h = (refl, h)

@@ -1,5 +1,5 @@
 -- An input of no bytes is no script, and its one line has the fault.
-use Rattle.std.proofs.Common.{◌≡◌, ℕ, zero, suc, ◌<◌, true, false, List, [], ◌∷◌, take, Option, None, is_some, option_map, refl, sym, ap, subst, arith}
+use Rattle.std.proofs.Common.{◌≡◌, ℕ, zero, suc, ◌<◌, true, false, List, [], ◌∷◌, take, None, is_some, option_map, refl, sym, ap, subst, arith}
 use Rattle.ix_script.specs.Lines.{lines_of}
 use Rattle.ix_script.specs.Words.{split}
 use Rattle.ix_script.specs.Forms.{is_text, line_of}

@@ -1,7 +1,7 @@
 -- The value of digits.
-use Rattle.std.proofs.Common.{◌≡◌, ℕ, ◌+◌, ◌*◌, ◌-◌, ◌≤◌, ◌<◌, Bool, true, false, ◌&&◌, nat_le, List, [], ◌∷◌, length, refl, arith, Option, None}
+use Rattle.std.proofs.Common.{◌≡◌, ℕ, ◌+◌, ◌*◌, ◌-◌, ◌≤◌, ◌<◌, List, [], ◌∷◌, arith, None}
 use Rattle.std.proofs.lemmas.Bool.Decides.{nat_tests}
-use Rattle.ix_script.specs.Words.{value_from, number_of, is_numeral}
+use Rattle.ix_script.specs.Words.{value_from, number_of}
 
 -- digits behind a number make it no less
 pub value_no_less : (n : ℕ) (digits : List ℕ) → n ≤ value_from n digits

@@ -1,9 +1,8 @@
 -- The lines that are read, and those that are left.
-use Rattle.std.proofs.Common.{◌≡◌, ℕ, zero, suc, ◌+◌, ◌<◌, ◌≤◌, Bool, true, false, List, [], ◌∷◌, ◌++◌, length, take, drop, Option, Some, None, is_some, refl, sym, ap, ◌∙◌, arith, add-one, take-append-drop, subst}
+use Rattle.std.proofs.Common.{◌≡◌, ℕ, ◌+◌, ◌<◌, ◌≤◌, Bool, true, false, List, [], ◌∷◌, ◌++◌, length, take, drop, Some, None, is_some, refl, sym, ap, ◌∙◌, arith, add-one, take-append-drop, subst}
 use Rattle.std.proofs.lemmas.List.{take-take, append-nil}
-use Rattle.ix_script.specs.Readers.{◌>>=◌}
 use Rattle.ix_script.specs.Lines.{cut, lines_of}
-use Rattle.ix_script.specs.Order.{no_lines, with_text, with_texts, begins_script, script_of, script_by}
+use Rattle.ix_script.specs.Order.{no_lines, with_text, with_texts, begins_script, script_of}
 use Rattle.ix_script.specs.Faults.{IsFault}
 use Rattle.ix_script.specs.declared.draft.Draft.{Draft}
 use Rattle.ix_script.proofs.Following.{texts_push, front_begins, taken}

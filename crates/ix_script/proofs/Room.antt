@@ -1,12 +1,10 @@
 -- A file that may follow is an object line that fits.
-use Rattle.std.proofs.Common.{◌≡◌, ℕ, suc, ◌+◌, ◌<◌, ◌≤◌, Bool, true, false, not, ◌&&◌, ◌||◌, ◌==◌, nat_le, nat_lt, List, [], ◌∷◌, ◌++◌, length, map, sum, filter, drop, position, Option, Some, None, refl, sym, ap, ◌∙◌, subst, append_assoc, arith}
+use Rattle.std.proofs.Common.{◌≡◌, ℕ, ◌+◌, ◌<◌, ◌≤◌, Bool, true, false, not, ◌&&◌, nat_le, nat_lt, List, [], ◌∷◌, ◌++◌, length, refl, sym, ap, ◌∙◌, subst, append_assoc, arith}
 use Rattle.std.proofs.lemmas.List.{append-nil}
-use Rattle.std.specs.Option.{option_map_or}
-use Rattle.std.specs.List.{list_all, list_any}
-use Rattle.std.proofs.lemmas.Bool.{ltb-true, leb-true, le-leb}
+use Rattle.std.specs.List.{list_any}
+use Rattle.std.proofs.lemmas.Bool.{ltb-true, le-leb}
 use Rattle.ix_label.specs.Category.{Categories, leq}
-use Rattle.ix_model.specs.Naming.{PathOf, same_bytes}
-use Rattle.ix_model.specs.Valid.{blocks_for, same_names, mount_of, fs_of, fs_ceiling, blocks_of, is_mount, is_well_formed, is_there, is_dir_there, lying_on, has_room, object_fits, objects_fit}
+use Rattle.ix_model.specs.Valid.{blocks_for, same_names, fs_of, lying_on, has_room, object_fits, objects_fit}
 use Rattle.ix_model.specs.declared.config.FsSpec.{FsSpec}
 use Rattle.ix_model.specs.declared.config.Limits.{Limits}
 use Rattle.ix_model.specs.declared.config.ObjSpec.{ObjSpec}

@@ -1,5 +1,5 @@
 -- What holds of the draft after any lines, so that its config is valid.
-use Rattle.std.proofs.Common.{◌≡◌, ℕ, ◌+◌, ◌<◌, ◌≤◌, Bool, true, false, not, nat_lt, nat_le, ◌==◌, ◌&&◌, List, [], ◌∷◌, ◌++◌, length, Option, Some, None, refl, sym, ap, ◌∙◌, subst, arith, length-append}
+use Rattle.std.proofs.Common.{◌≡◌, ℕ, ◌+◌, ◌<◌, ◌≤◌, Bool, true, not, nat_lt, ◌==◌, ◌&&◌, List, [], ◌∷◌, ◌++◌, length, Some, refl, sym, ap, ◌∙◌, subst, arith, length-append}
 use Rattle.std.specs.List.{list_all}
 use Rattle.std.proofs.lemmas.Bool.{ltb-true, eqb-true, le-leb}
 use Rattle.std.proofs.lemmas.List.{nil_from_length}
@@ -9,8 +9,7 @@ use Rattle.ix_model.specs.Valid.{fs_fits, fss_fit, limits_fit, procs_fit, object
 use Rattle.ix_model.specs.declared.config.FsSpec.{FsSpec}
 use Rattle.ix_model.specs.declared.config.ProcSpec.{ProcSpec}
 use Rattle.ix_model.specs.declared.config.ObjSpec.{ObjSpec}
-use Rattle.ix_script.specs.Forms.{line_of}
-use Rattle.ix_script.specs.Order.{default_fs, default_limits, config_of, no_lines, may_follow, with_line, counted, with_text, fs_may_follow, proc_may_follow, in_header, is_known}
+use Rattle.ix_script.specs.Order.{default_fs, default_limits, config_of, no_lines, may_follow, with_line, with_text, fs_may_follow, proc_may_follow, in_header, is_known}
 use Rattle.ix_script.specs.declared.draft.Draft.{Draft}
 use Rattle.ix_script.specs.declared.line.Line.{Line}
 use Rattle.ix_script.specs.declared.line.Line.TheVariants as line

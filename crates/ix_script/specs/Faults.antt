@@ -1,5 +1,5 @@
 -- Where an input stops being a script.
-use Rattle.std.specs.Prelude.{◌≡◌, ℕ, ◌<◌, Bool, true, false, List, take, Option, None}
+use Rattle.std.specs.Prelude.{◌≡◌, ℕ, ◌<◌, true, false, List, take, None}
 use Rattle.ix_script.specs.Lines.{lines_of}
 use Rattle.ix_script.specs.Order.{begins_script, script_of}
 use Rattle.ix_script.specs.declared.reading.ReadFail.{ReadFail}

@@ -1,5 +1,5 @@
 -- The forms of the lines, and what each line says.
-use Rattle.std.specs.Prelude.{◌≡◌, ℕ, ◌==◌, ◌&&◌, nat_le, Bool, true, false, not, List, [], length, Option, Some, None, if◌then◌else◌, codes}
+use Rattle.std.specs.Prelude.{ℕ, ◌==◌, ◌&&◌, nat_le, Bool, false, not, List, length, Option, Some, None, if◌then◌else◌, codes}
 use Rattle.std.specs.List.{list_all, list_any}
 use Rattle.ix_model.specs.Naming.{same_bytes}
 use Rattle.ix_model.specs.Privs.{no_privileges}

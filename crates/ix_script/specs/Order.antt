@@ -1,5 +1,5 @@
 -- Which lines may follow which, and what they say together.
-use Rattle.std.specs.Prelude.{◌≡◌, ℕ, ◌+◌, ◌<◌, ◌==◌, nat_le, nat_lt, Bool, true, false, not, ◌&&◌, List, [], ◌∷◌, ◌++◌, length, map, sum, position, Option, Some, None, is_some, is_none, Result, Ok, Err, if◌then◌else◌, slice_get, unwrap_or, codes}
+use Rattle.std.specs.Prelude.{◌≡◌, ℕ, ◌+◌, ◌==◌, nat_le, nat_lt, Bool, true, false, not, ◌&&◌, List, [], ◌∷◌, ◌++◌, length, map, sum, position, Option, Some, None, is_some, is_none, Result, Ok, Err, if◌then◌else◌, slice_get, unwrap_or, codes}
 use Rattle.std.specs.Option.{option_map_or}
 use Rattle.std.specs.List.{list_any}
 use Rattle.std.proofs.Common.{option_map}
@@ -21,7 +21,6 @@ use Rattle.ix_script.specs.declared.draft.Draft.{Draft}
 use Rattle.ix_script.specs.declared.line.Line.{Line}
 use Rattle.ix_script.specs.declared.line.Line.TheVariants as line
 use Rattle.ix_script.specs.declared.script.Script.{Script}
-use Rattle.ix_script.specs.declared.script.Command.{Command}
 use Rattle.ix_script.specs.declared.script.Deed.{Deed}
 use Rattle.ix_script.specs.declared.script.Deed.TheVariants as deed
 use Rattle.ix_script.specs.declared.script.FdWord.{FdWord}

@@ -182,12 +182,7 @@ impl Draft {
     }
 
     #[tactic(auto, unfolding(crate::specs::Order::proc_may_follow))]
-    fn proc_may_follow<L: Ledger>(
-        &self,
-        name: &Name,
-        proc: &ProcSpec,
-        steps: &mut Steps<L>,
-    ) -> bool
+    fn proc_may_follow<L: Ledger>(&self, name: &Name, proc: &ProcSpec, steps: &mut Steps<L>) -> bool
         ensures { result ≡ proc_may_follow self.now name.now proc.now }
     {
         self.in_header()
@@ -295,7 +290,8 @@ impl Draft {
         ensures { OnOk result (self.new ≡ record self.old { given = self.old.given ++ given_by deed.now }) }
     {
         if let Deed::Open {
-            named: Some(name), ..
+            named: Some(name),
+            ..
         } = deed
         {
             self.given.push(*name)?;
@@ -321,11 +317,7 @@ impl Draft {
         Ok(())
     }
 
-    fn add<L: Ledger>(
-        &mut self,
-        line: Line,
-        steps: &mut Steps<L>,
-    ) -> Result<(), Refused>
+    fn add<L: Ledger>(&mut self, line: Line, steps: &mut Steps<L>) -> Result<(), Refused>
         requires few { length self.old.names ≤ 64 }
         requires lines { self.old.lines + 1 < 2 ^ 32 }
         ensures { Adds result self.old self.new line }

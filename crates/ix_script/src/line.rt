@@ -9,7 +9,9 @@ use crate::labels::label;
 use crate::payload::payload;
 use crate::refused::Refused;
 use crate::script::Deed;
-use crate::words::{fd, is, mode, name, number, number_within, path, root_name, split, split_2, split_3};
+use crate::words::{
+    fd, is, mode, name, number, number_within, path, root_name, split, split_2, split_3,
+};
 use bitflags::Flags;
 use ix_model::{FsSpec, Mode, Name, ObjSpec, PrivSet, ProcSpec};
 use std::alloc::Global;

@@ -17,9 +17,7 @@ use std::sync::ledger::{Blank, Ledger};
 #[derive(Clone, Copy, Debug, PartialEq, Eq)]
 pub enum ReadFail {
     /// They are no script. The line is the least n for which the first n lines begin none.
-    Fault {
-        line: u32,
-    },
+    Fault { line: u32 },
     NoMemory,
 }
 
@@ -45,11 +43,7 @@ fn first_line(bytes: &[u8]) -> (&[u8], &[u8])
     }
 }
 
-fn draft_of<L: Ledger>(
-    alloc: Global,
-    bytes: &[u8],
-    steps: &mut Steps<L>,
-) -> Result<Draft, ReadFail>
+fn draft_of<L: Ledger>(alloc: Global, bytes: &[u8], steps: &mut Steps<L>) -> Result<Draft, ReadFail>
     requires some { 0 < length bytes.now }
     requires few { length bytes.now ≤ 16777216 }
     ensures whole { IfOk result (λ d. with_texts no_lines (lines_of bytes.now) ≡ Some d) }

@@ -4,7 +4,8 @@ use super::*;
 use ix_model::{Mode, Pid};
 use std::test::*;
 
-const SCRIPT: &[u8] = b"ix 1\nfs root 0-3 64 16\nproc a - * - -\nfile /n 3 free - - \"hi x\"\nproc b 2 2,9 - -\nfile /m - free - - x4a4B\nphase\nlane main\nopen b /n rw as f\nread a f 10\nwrite b 7 \"\"\nself a\n";
+const SCRIPT: &[u8] =
+    b"ix 1\nfs root 0-3 64 16\nproc a - * - -\nfile /n 3 free - - \"hi x\"\nproc b 2 2,9 - -\nfile /m - free - - x4a4B\nphase\nlane main\nopen b /n rw as f\nread a f 10\nwrite b 7 \"\"\nself a\n";
 
 #[test]
 fn reads_each_form(rt: HostRuntime) -> Result<(), Fail> {
@@ -27,11 +28,36 @@ fn reads_commands(rt: HostRuntime) -> Result<(), Fail> {
     let script = read(rt.alloc(), SCRIPT).ok().ok_or("a script")?;
     let open = script.commands.get(0).ok_or("a command")?;
     assert_eq!(rt; (open.line, open.pid), (9, Pid(2)));
-    assert!(rt; matches!(open.deed, Deed::Open { mode: Mode::Both, named: Some(_), .. }));
+    assert!(rt;
+        matches!(
+            open.deed,
+            Deed::Open {
+                mode: Mode::Both,
+                named: Some(_),
+                ..
+            }
+        )
+    );
     let count = script.commands.get(1).ok_or("a command")?;
-    assert!(rt; matches!(count.deed, Deed::Read { fd: FdWord::Named(_), count: 10 }));
+    assert!(rt;
+        matches!(
+            count.deed,
+            Deed::Read {
+                fd: FdWord::Named(_),
+                count: 10
+            }
+        )
+    );
     let write = script.commands.get(2).ok_or("a command")?;
-    assert!(rt; matches!(write.deed, Deed::Write { fd: FdWord::Number(7), .. }));
+    assert!(rt;
+        matches!(
+            write.deed,
+            Deed::Write {
+                fd: FdWord::Number(7),
+                ..
+            }
+        )
+    );
     Ok(())
 }
 
@@ -51,6 +77,12 @@ fn tells_the_line(rt: HostRuntime) {
     assert_eq!(rt; fault(&rt, b"ix 1\nproc a 3 2 - -"), 2);
     assert_eq!(rt; fault(&rt, b"ix 1\nproc a - - - -\nproc a - - - -"), 3);
     assert_eq!(rt; fault(&rt, b"ix 1\nphase\nself a"), 3);
-    assert_eq!(rt; fault(&rt, b"ix 1\nproc a - - - -\nphase\nlane m\nread a 0 99999999999999999999999"), 5);
+    assert_eq!(rt;
+        fault(
+            &rt,
+            b"ix 1\nproc a - - - -\nphase\nlane m\nread a 0 99999999999999999999999"
+        ),
+        5
+    );
     assert_eq!(rt; fault(&rt, b"ix 1"), 0);
 }

@@ -1,4 +1,4 @@
-use Rattle.std.proofs.Common.{◌≡◌, Ok, Err, ◌∙◌, sym}
+use Rattle.std.proofs.Common.{sym}
 use Rattle.ix_script.proofs.AllLabels.{label_found, label_missing}
 use Rattle.ix_script.proofs.labels.label.Goals as goal
 

@@ -1,4 +1,4 @@
-use Rattle.std.proofs.Common.{◌≡◌, true, sym, ◌∙◌}
+use Rattle.std.proofs.Common.{sym, ◌∙◌}
 use Rattle.ix_script.proofs.Names.{script_name_is_name}
 use Rattle.ix_script.proofs.words.name.Goals as goal
 

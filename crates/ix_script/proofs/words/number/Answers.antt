@@ -1,4 +1,4 @@
-use Rattle.std.proofs.Common.{◌≡◌, ℕ, ◌+◌, ◌*◌, ◌-◌, drop, arith}
+use Rattle.std.proofs.Common.{◌≡◌, ℕ, ◌+◌, ◌*◌, drop, arith}
 use Rattle.std.proofs.lemmas.Grind.{common_steps}
 use Rattle.ix_script.specs.Words.{value_from}
 use Rattle.ix_script.proofs.Numbers.{too_great}
