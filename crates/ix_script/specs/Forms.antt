@@ -70,6 +70,7 @@ named_opening text = do
   name ← name_of w.2
   Some (mode, Some name)
 
+-- r|w|rw [as F]
 unfoldable pub opening_of : List ℕ → Option (Mode × Option (List ℕ))
 opening_of text = if list_any (λ b. b == 32) text then named_opening text else plain_opening text
 

@@ -9,9 +9,10 @@ unfoldable pub labels_below : ℕ → List Categories
 labels_below zero = bottom ∷ []
 labels_below (suc n) = labels_below n ++ map (λ l. with l n) (labels_below n)
 
+-- whether the label has that spelling
 abbrev pub is_spelled : List ℕ → Categories → Bool
 is_spelled word l = same_bytes (spelling l) word
 
--- among all labels, the one of that spelling
+-- among all labels, the one of that spelling; it is said so, and never searched
 unfoldable pub label_of : List ℕ → Option Categories
 label_of word = find (is_spelled word) (labels_below 256)

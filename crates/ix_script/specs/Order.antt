@@ -42,6 +42,7 @@ no_lines = record { lines = 0; fs_told = false; fs = default_fs; names = []; pro
 abbrev pub in_header : Draft → Bool
 in_header d = nat_lt 0 d.lines && not d.phased
 
+-- whether the name is one of these
 abbrev pub is_known : List ℕ → List (List ℕ) → Bool
 is_known name names = list_any (same_bytes name) names
 
@@ -82,6 +83,7 @@ abbrev pub knows_fd : List (List ℕ) → FdWord → Bool
 knows_fd given (word.Number n) = true
 knows_fd given (word.Named name) = is_known name given
 
+-- whether the name that a command uses for its descriptor was given before
 abbrev pub knows : List (List ℕ) → Deed → Bool
 knows given (deed.Open path mode named) = true
 knows given (deed.Read fd count) = knows_fd given fd
@@ -115,6 +117,7 @@ given_by (deed.Read fd count) = []
 given_by (deed.Write fd bytes) = []
 given_by deed.SelfLabel = []
 
+-- what the lines say with one more line
 abbrev pub with_line : Draft → Line → Draft
 with_line d line.Version = d
 with_line d (line.Fs fs) = record d { fs_told = true; fs = fs }
@@ -127,16 +130,17 @@ with_line d (line.Do proc what) = record d {
   given = d.given ++ given_by what;
 }
 
+-- one line more is counted
 abbrev pub counted : Draft → Draft
 counted d = record d { lines = d.lines + 1 }
 
--- what the lines say with one more, where that is of a form and may follow
+-- what the lines say with one more text, where that is of a form and may follow
 unfoldable pub with_text : Draft → List ℕ → Option Draft
 with_text d text = do
   l ← line_of text
   if may_follow d l then Some (counted (with_line d l)) else None
 
--- what the lines say with more of them
+-- what the lines say with more texts, each of which may follow those before it
 unfoldable pub with_texts : Draft → List (List ℕ) → Option Draft
 with_texts d [] = Some d
 with_texts d (text ∷ texts) = with_text d text >>= λ e. with_texts e texts
@@ -146,6 +150,7 @@ unfoldable pub begins_script : List (List ℕ) → Bool
 begins_script texts = is_some (with_texts no_lines texts)
 
 -- ---- scripts
+-- how many there can be at most
 unfoldable pub default_limits : Limits
 default_limits = record { procs = 64; opens = 256; pipes = 32; names = 4096; log = 1024 }
 
@@ -153,6 +158,7 @@ default_limits = record { procs = 64; opens = 256; pipes = 32; names = 4096; log
 unfoldable pub config_of : Draft → Config
 config_of d = record { fss = d.fs ∷ []; limits = default_limits; procs = d.procs; objects = d.files; journal = 870400000 }
 
+-- the script that the lines make
 abbrev pub script_by : Draft → Script
 script_by d = record { config = config_of d; lane = d.lane; commands = d.commands }
 

@@ -12,6 +12,8 @@ use Rattle.ix_script.specs.declared.script.FdWord.{FdWord}
 use Rattle.ix_script.specs.declared.script.FdWord.TheVariants as word
 
 -- ---- words
+-- Words stand between single spaces. Only a payload may have spaces in it, and it stands last: it is what follows the
+-- words before it.
 -- what stands before the first space, and what stands after it
 unfoldable pub split : List ℕ → Option (List ℕ × List ℕ)
 split text = option_map (λ k. (take k text, drop (k + 1) text)) (position (λ b. b == 32) text)
@@ -31,9 +33,11 @@ split_3 text = do
   Some (first.0, others.0, others.1, others.2)
 
 -- ---- names
+-- a small letter
 abbrev pub is_letter : ℕ → Bool
 is_letter b = is_within 97 122 b
 
+-- a decimal digit
 abbrev pub is_digit : ℕ → Bool
 is_digit b = is_within 48 57 b
 
@@ -53,6 +57,7 @@ is_reserved word = same_bytes word (codes "all") || same_bytes word (codes "none
 unfoldable pub is_script_name : List ℕ → Bool
 is_script_name word = begins_with is_letter word && nat_le (length word) 16 && list_all may_stand_in_script_name word && not (is_reserved word)
 
+-- the name of a process, a lane or a descriptor
 unfoldable pub name_of : List ℕ → Option (List ℕ)
 name_of word = if is_script_name word then Some word else None
 
@@ -89,6 +94,7 @@ path_of word =
     else None
 
 -- ---- modes and descriptors
+-- `r`, `w` or `rw`
 unfoldable pub mode_of : List ℕ → Option Mode
 mode_of word =
     if same_bytes word (codes "r") then Some mode.Read
@@ -96,6 +102,7 @@ mode_of word =
     else if same_bytes word (codes "rw") then Some mode.Both
     else None
 
+-- a descriptor by its number, and by its name
 abbrev pub numbered : List ℕ → Option FdWord
 numbered text = do
   n ← number_within 0 255 text
