@@ -1,7 +1,8 @@
 -- The longest runs of a label stand in ascending order, with a gap between each two.
 use Rattle.std.proofs.Common.{◌≡◌, ℕ, zero, suc, ◌+◌, ◌<◌, ◌≤◌, true, false, true≢false, List, [], ◌∷◌, refl, sym, ◌∙◌, arith, add-one, Option, None, Some, inl, inr}
 use Rattle.std.specs.List.{range_with_len, zip, filter}
-use Rattle.std.proofs.lemmas.Bool.{cases_Bool, cases_order, and_right, false_from_ne_true}
+use Rattle.std.proofs.lemmas.Bool.{cases_Bool, cases_order, false_from_ne_true}
+use Rattle.std.proofs.Math.Bool.{and-false}
 use Rattle.ix_label.specs.Category.{Categories, IsLabel, has}
 use Rattle.ix_label.specs.Spelling.{categories, has_before, begins, ends, runs}
 use Rattle.ix_label.specs.Reading.{IsAbove}
@@ -28,7 +29,7 @@ module _ (s : Categories) (k : ℕ) where
 
   begins_old : has_before s k ≡ true → begins s k ≡ false
   unfolding begins
-  begins_old old = rw old (and_right (has s k) false refl)
+  begins_old old = rw old (and-false (has s k))
 
   ends_last : has s k ≡ true → has s (k + 1) ≡ false → ends s k ≡ true
   unfolding ends
@@ -40,7 +41,7 @@ module _ (s : Categories) (k : ℕ) where
 
   ends_more : has s (k + 1) ≡ true → ends s k ≡ false
   unfolding ends
-  ends_more more = rw more (and_right (has s k) false refl)
+  ends_more more = rw more (and-false (has s k))
 
   before_next : has_before s (k + 1) ≡ has s k
   unfolding has_before

@@ -7,7 +7,8 @@ use Rattle.std.proofs.lemmas.Option.{slice_get_within, slice_get-get_or, slice_g
 use Rattle.ix_label.specs.declared.fault.LabelFault.TheVariants.{BadNumber}
 use Rattle.ix_label.specs.Category.{Categories, has, bottom}
 use Rattle.ix_label.specs.Members.{has-bottom}
-use Rattle.ix_label.specs.Spelling.{item, items, runs, comma, comma_after}
+use Rattle.ix_label.specs.Spelling.{item, items, runs, comma}
+use Rattle.ix_label.specs.Scanning.{comma_after}
 use Rattle.ix_label.specs.Faults.{at_comma, last_number}
 use Rattle.ix_label.specs.Reading.{back_from, fault_from, BeginsItem, IsAbove, IsItemAt, fault_after_item, IsRead}
 use Rattle.ix_label.proofs.Runs.{AddsRun, runs-AddsRun, runs-bottom}

@@ -5,13 +5,14 @@ use Rattle.std.specs.Char.{is_ascii_digit}
 use Rattle.std.specs.Fmt.{decimal}
 use Rattle.std.specs.Str.Parse.{digits_value}
 use Rattle.std.proofs.lemmas.Bool.{le-ltb, lt-ltb, eqb-false, ltb-false, ne_eqb, cases_lt, or_parts, or_from, and_cases, and_left, and_right}
-use Rattle.std.proofs.lemmas.Fmt.{decimal_digit, first_decimal, decimal_nonempty, digits_decimal, digits_value-decimal, decimal-digits_value}
+use Rattle.std.proofs.lemmas.Fmt.{decimal_digit, first_decimal, digits_decimal, digits_value-decimal, decimal-digits_value}
 use Rattle.std.proofs.lemmas.Str.Parse.{IsNumeralModel, numerals_by_value, digits_value-take-le, digit_at}
 use Rattle.std.proofs.lemmas.Int.Digits.{digits_value_more}
 use Rattle.std.specs.Char.{digit_value}
 use Rattle.std.specs.Int.{IsInRange}
 use Rattle.ix_label.specs.declared.fault.LabelFault.TheVariants.{NotAscending, NotLongest}
 use Rattle.ix_label.specs.Faults.{digits, number_ahead, at_digit, is_bad, is_not_ascending, is_not_longest, number_fault}
+use Rattle.ix_label.proofs.Texts.{decimal_some}
 use Rattle.ix_label.proofs.Places.{digits-append}
 
 own : IsNumeralModel (λ ds. list_all is_ascii_digit ds ≡ true) (digits_value 10)
@@ -22,9 +23,6 @@ decimal-digits n h = digits_decimal own n (omega arith)
 
 pub decimal-value : (n : ℕ) → n < 256 → digits_value 10 (decimal n) ≡ n
 decimal-value n h = digits_value-decimal own n (omega arith)
-
-pub decimal-some : (n : ℕ) → n < 256 → 0 < length (decimal n)
-decimal-some n h = decimal_nonempty n (omega arith)
 
 sound_from : (ds : List ℕ) → 0 < length ds → (get_or ds 0 0 ≡ 48 → length ds ≡ 1) → is_bad ds ≡ false
 unfolding is_bad
@@ -55,7 +53,7 @@ decimal-zero zero h e = rw (decimal_digit 0 (omega arith)) refl
 decimal-zero (suc n) h e = let lt : 48 < get_or (decimal (suc n)) 0 0 = first_decimal (suc n) (omega arith) (omega arith) in absurd (omega arith)
 
 pub decimal-sound : (n : ℕ) → n < 256 → is_bad (decimal n) ≡ false
-decimal-sound n h = sound_from (decimal n) (decimal-some n h) (decimal-zero n h)
+decimal-sound n h = sound_from (decimal n) (decimal_some n) (decimal-zero n h)
 
 -- digits that are no bad number are written so
 pub sound-decimal : (ds : List ℕ) → list_all is_ascii_digit ds ≡ true → is_bad ds ≡ false → digits_value 10 ds < 256 → decimal (digits_value 10 ds) ≡ ds

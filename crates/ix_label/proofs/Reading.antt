@@ -1,25 +1,23 @@
 -- What the numbers and items that stand at a place say of the text's first fault.
-use Rattle.std.proofs.Common.{◌≡◌, ℕ, ◌+◌, ◌-◌, ◌<◌, ◌≤◌, ◌==◌, nat_le, Bool, true, false, true≢false, not, ◌&&◌, ◌||◌, List, [], ◌∷◌, ◌++◌, length, get_or, take, drop, reverse, if◌then◌else◌, ◌⊎◌, refl, sym, ◌∙◌, ap, arith, append_assoc, length-append, length-drop, Option, None, Some, inl, inr, codes}
+use Rattle.std.proofs.Common.{◌≡◌, ℕ, ◌+◌, ◌-◌, ◌<◌, ◌≤◌, ◌==◌, nat_le, Bool, true, false, true≢false, not, ◌&&◌, List, [], ◌∷◌, ◌++◌, length, get_or, take, drop, reverse, if◌then◌else◌, ◌⊎◌, refl, sym, ◌∙◌, ap, arith, append_assoc, length-append, length-drop, Option, None, Some, inl, inr, codes}
 use Rattle.std.specs.List.{slice_get, list_all, prefix_len}
 use Rattle.std.specs.Char.{is_ascii_digit}
 use Rattle.std.specs.Fmt.{decimal}
-use Rattle.std.proofs.lemmas.Bool.{lt-ltb, cases_lt, cases_Bool, cases_order, eqb-true, eqb-false, eq-eqb, ne_eqb, le-leb, lt-leb, leb-false, and_left, and_right}
+use Rattle.std.proofs.lemmas.Bool.{lt-ltb, cases_lt, cases_Bool, cases_order, eqb-true, eqb-false, eq-eqb, ne_eqb, le-leb, lt-leb, leb-false, and_left}
 use Rattle.std.proofs.lemmas.List.{take-append-drop, take_at, drop_more, drop-drop, drop_all, length-take, length-reverse, reverse-append}
 use Rattle.std.proofs.lemmas.List.Folds.{length-prefix_len}
 use Rattle.std.proofs.lemmas.List.Sums.{prefix_len-le-length}
 use Rattle.std.proofs.lemmas.Option.{slice_get_within, get_or_from_slice_get, slice_get-get_or}
 use Rattle.std.specs.Str.Parse.{digits_value}
+use Rattle.std.proofs.Math.Bool.{and-false, or-false}
 use Rattle.ix_label.specs.declared.fault.LabelFault.{LabelFault}
 use Rattle.ix_label.specs.declared.fault.LabelFault.TheVariants.{BadNumber, OutOfRange, NotAscending, NotLongest}
 use Rattle.ix_label.specs.Spelling.{item, comma, dash}
 use Rattle.ix_label.specs.Faults.{digits, after_digits, number_ahead, is_bad, at_comma, at_dash, at_digit, is_due, is_not_ascending, is_not_longest, is_text, last_number, number_back, number_fault}
 use Rattle.ix_label.specs.Reading.{back_from, fault_from, IsByteOf, IsNumberAt, AfterLast, BeginsItem, IsAbove, order_fault, fault_after_item, IsItemAt}
 use Rattle.ix_label.proofs.Places.{are_digits, digits-and_after, no_digit_after, fault_due, first_fault-some, over_number, number_back-number, end_follows, comma_follows, dash_follows, other_follows}
-use Rattle.ix_label.proofs.Numbers.{sound-decimal, decimal-digits, decimal-value, decimal-some, number_ahead-decimal, in_order, not_ascending, not_longest}
-
-or_false : (a : Bool) → (a || false) ≡ a
-or_false true = refl
-or_false false = refl
+use Rattle.ix_label.proofs.Texts.{decimal_some}
+use Rattle.ix_label.proofs.Numbers.{sound-decimal, decimal-digits, decimal-value, number_ahead-decimal, in_order, not_ascending, not_longest}
 
 -- ---- places of a text
 
@@ -109,19 +107,19 @@ module _ (text : List ℕ) (at value end : ℕ) (low : at ≤ length text) (n : 
   back_end = back-written text (decimal value) at end low n.within n.written
 
   number_ends : is_due (back_from text at) ≡ true → number_back (back_from text end) ≡ value
-  number_ends due = rw back_end (number_back-number (back_from text at) (decimal value) due (decimal-some value n.small) (decimal-digits value n.small) ∙ decimal-value value n.small)
+  number_ends due = rw back_end (number_back-number (back_from text at) (decimal value) due (decimal_some value) (decimal-digits value n.small) ∙ decimal-value value n.small)
 
   passes : is_due (back_from text at) ≡ true → number_fault (back_from text at) (decimal value ++ drop end text) ≡ None → fault_from text at ≡ fault_from text end
   unfolding fault_from
-  passes due none = rw (n.written, back_end) (over_number (back_from text at) (decimal value) (drop end text) due (decimal-some value n.small) (decimal-digits value n.small) none)
+  passes due none = rw (n.written, back_end) (over_number (back_from text at) (decimal value) (drop end text) due (decimal_some value) (decimal-digits value n.small) none)
 
   dash_passes : is_due (back_from text at) ≡ true → at_dash (back_from text at) ≡ false → slice_get text end ≡ Some dash → fault_from text end ≡ fault_from text (end + 1)
   unfolding fault_from
-  dash_passes due first next = rw (drop-next text end dash next, back-next text end dash next, back_end) (dash_follows (back_from text at) (decimal value) due (decimal-some value n.small) (decimal-digits value n.small) (drop (end + 1) text) first)
+  dash_passes due first next = rw (drop-next text end dash next, back-next text end dash next, back_end) (dash_follows (back_from text at) (decimal value) due (decimal_some value) (decimal-digits value n.small) (drop (end + 1) text) first)
 
   no_dash : (b : ℕ) → slice_get text end ≡ Some b → (slice_get text end ≡ Some dash → at_dash (back_from text at) ≡ true) → (b == dash && not (at_dash (back_from text at))) ≡ false
   no_dash b next second = elim (cases_Bool (b == dash)) [
-    | inl is ↦ let found : slice_get text end ≡ Some dash = next ∙ ap Some (eqb-true b dash is) in rw (second found) (and_right (b == dash) false refl)
+    | inl is ↦ let found : slice_get text end ≡ Some dash = next ∙ ap Some (eqb-true b dash is) in rw (second found) (and-false (b == dash))
     | inr other ↦ and_left _ _ other
   ]
 
@@ -131,16 +129,16 @@ module _ (text : List ℕ) (at value end : ℕ) (low : at ≤ length text) (n : 
 
   stops_at : (o : Option ℕ) → slice_get text end ≡ o → is_due (back_from text at) ≡ true → (slice_get text end ≡ Some dash → at_dash (back_from text at) ≡ true) → fault_from text end ≡ fault_after_item text end o
   unfolding fault_from
-  stops_at None next due second = rw (drop-past text end next, back_end) (end_follows (back_from text at) (decimal value) due (decimal-some value n.small) (decimal-digits value n.small))
+  stops_at None next due second = rw (drop-past text end next, back_end) (end_follows (back_from text at) (decimal value) due (decimal_some value) (decimal-digits value n.small))
   stops_at (Some b) next due second = elim (cases_Bool (b == comma)) [
     | inl is ↦
         let e : b ≡ comma = eqb-true b comma is in
-        rw (is, drop-next text end b next, back-next text end b next, e, back_end) (comma_follows (back_from text at) (decimal value) due (decimal-some value n.small) (decimal-digits value n.small) (drop (end + 1) text))
+        rw (is, drop-next text end b next, back-next text end b next, e, back_end) (comma_follows (back_from text at) (decimal value) due (decimal_some value) (decimal-digits value n.small) (drop (end + 1) text))
     | inr other ↦
         let place : length (reverse (decimal value) ++ back_from text at) ≡ end = rw (← back_end) (length-back text end n.within) in
         rw (other, drop-next text end b next, back_end)
         (
-        other_follows (back_from text at) (decimal value) due (decimal-some value n.small) (decimal-digits value n.small) b (drop (end + 1) text) (no_digit b next) other (no_dash b next second)
+        other_follows (back_from text at) (decimal value) due (decimal_some value) (decimal-digits value n.small) b (drop (end + 1) text) (no_digit b next) other (no_dash b next second)
         ∙ (λ i. Some (BadNumber (place i)))
         )
   ]
@@ -209,7 +207,7 @@ module _ (value : ℕ) (rest back : List ℕ) (small : value < 256) (ended : at_
 
   comma_longest : at_comma back ≡ true → is_not_longest back (decimal value ++ rest) ≡ (value == last_number back + 1)
   unfolding is_not_longest
-  comma_longest h = rw (h, not_start back (comma_some back h).0, number_ahead-decimal value rest small ended) (or_false _)
+  comma_longest h = rw (h, not_start back (comma_some back h).0, number_ahead-decimal value rest small ended) (or-false _)
 
   dash_ascending : is_not_ascending (dash ∷ back) (decimal value ++ rest) ≡ nat_le value (number_back back)
   unfolding is_not_ascending at_dash at_comma last_number

@@ -1,7 +1,8 @@
 -- The longest runs of a label that gains one run above all that it has.
 use Rattle.std.proofs.Common.{◌≡◌, ℕ, zero, suc, ◌+◌, ◌<◌, ◌≤◌, nat_le, Bool, true, false, not, ◌&&◌, ◌||◌, cond, add-zero, zero-add, add-one, List, [], ◌∷◌, ◌++◌, length, refl, ◌∙◌, ap, arith, inl, inr}
 use Rattle.std.specs.List.{range_with_len, zip, filter}
-use Rattle.std.proofs.lemmas.Bool.{cases_lt, cases_Bool, false_from_ne_true, le-leb, lt-leb, and_left, and_right}
+use Rattle.std.proofs.lemmas.Bool.{cases_lt, cases_Bool, false_from_ne_true, le-leb, lt-leb}
+use Rattle.std.proofs.Math.Bool.{and-false, or-false}
 use Rattle.ix_label.specs.Category.{Categories, has, bottom}
 use Rattle.ix_label.specs.Members.{has-bottom}
 use Rattle.ix_label.specs.Spelling.{categories, has_before, begins, ends, runs}
@@ -73,7 +74,7 @@ stops s k = rw add-one (ended_or_open _ _)
 
 closed_first : (s : Categories) → count (open_at s 0) ≡ 0
 unfolding count open_at has_before
-closed_first s = rw (and_right (has s 0) false refl) refl
+closed_first s = rw (and-false (has s 0)) refl
 
 closed_at : (s : Categories) (n : ℕ) → has s n ≡ false → count (open_at s n) ≡ 0
 unfolding count open_at
@@ -116,18 +117,14 @@ module _ {s t : Categories} {a b : ℕ} (h : AddsRun s t a b) where
   absent : (q : ℕ) → a ≤ q + 1 → has s q ≡ false
   absent q le = false_from_ne_true _ (λ one. let lt : q + 1 < a = h.apart q one in absurd (omega arith))
 
-  or_nothing : (b c : Bool) → c ≡ false → (b || c) ≡ b
-  or_nothing true c e = refl
-  or_nothing false c e = e
-
   as_before : (q : ℕ) → q < a → has t q ≡ has s q
-  as_before q lt = h.members q ∙ or_nothing (has s q) _ (and_left (nat_le a q) (nat_le q b) (lt-leb a q lt))
+  as_before q lt = rw (h.members q, lt-leb a q lt) (or-false (has s q))
 
   in_run : (q : ℕ) → a ≤ q → q ≤ b → has t q ≡ true
   in_run q le ge = rw (h.members q, le-leb a q le, le-leb q b ge, absent q (omega arith)) refl
 
   past : (q : ℕ) → b < q → has t q ≡ false
-  past q lt = let le : a ≤ b = h.order in rw (h.members q, lt-leb q b lt, absent q (omega arith), and_right (nat_le a q) false refl) refl
+  past q lt = let le : a ≤ b = h.order in rw (h.members q, lt-leb q b lt, absent q (omega arith), and-false (nat_le a q)) refl
 
   before_as : (q : ℕ) → q < a → has_before t q ≡ has_before s q
   unfolding has_before
@@ -144,7 +141,7 @@ module _ {s t : Categories} {a b : ℕ} (h : AddsRun s t a b) where
   no_later_begin zero lt = absurd (omega arith)
   no_later_begin (suc q) lt = elim (cases_lt b (suc q)) [
     | inl beyond ↦ rw past refl
-    | inr inside ↦ let before : has t q ≡ true = in_run q (omega arith) (omega arith) in rw before (and_right (has t (suc q)) false refl)
+    | inr inside ↦ let before : has t q ≡ true = in_run q (omega arith) (omega arith) in rw before (and-false (has t (suc q)))
   ]
 
   same_end : (q : ℕ) → q < b → ends t q ≡ ends s q
@@ -154,7 +151,7 @@ module _ {s t : Categories} {a b : ℕ} (h : AddsRun s t a b) where
       | inl one ↦ let next : q + 1 < a = h.apart q one in rw (as_before q low, as_before (q + 1) next) refl
       | inr none ↦ rw (as_before q low, none) refl
     ]
-    | inr inside ↦ rw (in_run (q + 1) (omega arith) (omega arith), absent q (omega arith)) (and_right (has t q) false refl)
+    | inr inside ↦ rw (in_run (q + 1) (omega arith) (omega arith), absent q (omega arith)) (and-false (has t q))
   ]
 
   marks_begin : Marks (begins t) (begins s) a

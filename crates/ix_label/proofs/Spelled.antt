@@ -16,8 +16,8 @@ use Rattle.ix_label.specs.Reading.{back_from, fault_from, ItemsRead, BeginsItem}
 use Rattle.ix_label.proofs.Runs.{runs-AddsRun, runs-bottom}
 use Rattle.ix_label.proofs.Chains.{Chain, runs-Chain}
 use Rattle.ix_label.proofs.Places.{begins_with_digit}
-use Rattle.ix_label.proofs.Numbers.{decimal-digits, decimal-some}
-use Rattle.ix_label.proofs.Texts.{items_some}
+use Rattle.ix_label.proofs.Numbers.{decimal-digits}
+use Rattle.ix_label.proofs.Texts.{items_some, decimal_some}
 use Rattle.ix_label.proofs.Unique.{items_injective, runs_injective, items_are, after_item, after_first, item_parts}
 use Rattle.ix_label.proofs.Faultless.{chain_faultless}
 
@@ -137,7 +137,7 @@ items_at_digit [] some chain = absurd (some refl)
 items_at_digit ((a, b) ∷ rs) some chain =
     let order : a ≤ b = chain.0.order in
     let small : b < 256 = chain.0.small in
-    rw (items_are (a, b) rs, item_parts a b (after_item rs)) (begins_with_digit (decimal a) (after_first a b (after_item rs)) (decimal-some a (omega arith)) (decimal-digits a (omega arith))).0
+    rw (items_are (a, b) rs, item_parts a b (after_item rs)) (begins_with_digit (decimal a) (after_first a b (after_item rs)) (decimal_some a) (decimal-digits a (omega arith))).0
 
 -- each form has a first byte of its own
 no_digit_bottom : at_digit (spelling bottom) ≡ false

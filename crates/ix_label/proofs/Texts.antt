@@ -4,7 +4,8 @@ use Rattle.std.specs.List.{join_with_byte}
 use Rattle.std.specs.Fmt.{decimal, digits, digits_onto, digit_glyph}
 use Rattle.std.proofs.lemmas.Fmt.{length-decimal-le, decimal_digit, decimal_step}
 use Rattle.std.proofs.lemmas.Bool.Decides.{eqb_tells}
-use Rattle.ix_label.specs.Spelling.{item, items, comma_after, comma, dash}
+use Rattle.ix_label.specs.Spelling.{item, items, comma, dash}
+use Rattle.ix_label.specs.Scanning.{comma_after}
 
 either_some : (b : Bool) (xs ys : List ℕ) → 0 < length xs → 0 < length ys → 0 < length (cond b xs ys)
 either_some true xs ys h k = h
@@ -57,7 +58,7 @@ items_some r rs = joined_some (item r) (map item rs) (item_some r)
 after_comma : (x y z : List ℕ) → 0 < length y → x ++ comma ∷ (comma_after y ++ z) ≡ comma_after (x ++ comma ∷ y) ++ z
 after_comma x y z h =
     let some : 0 < length (x ++ comma ∷ y) = omega (arith, length-append x (comma ∷ y)) in
-    rw (comma_after_some y h, comma_after_some (x ++ comma ∷ y) some, append_assoc, append_assoc, append_assoc) refl
+    rw (comma_after_some y h, comma_after_some (x ++ comma ∷ y) some) (simp append_assoc)
 
 -- one item more
 pub items-push : (rs : List (ℕ × ℕ)) (r : ℕ × ℕ) → items (rs ++ r ∷ []) ≡ comma_after (items rs) ++ item r

@@ -4,6 +4,7 @@ use Rattle.std.specs.List.{range_with_len, zip, filter, list_any}
 use Rattle.std.specs.Fmt.{decimal}
 use Rattle.std.proofs.lemmas.Fmt.{decimal_injective}
 use Rattle.std.proofs.lemmas.Bool.{cases_Bool, cases_lt, eqb-true, eq-eqb, ne_eqb, false_from_ne_true}
+use Rattle.std.proofs.Math.Bool.{and-true}
 use Rattle.ix_label.specs.Category.{Categories, IsLabel, has}
 use Rattle.ix_label.specs.Members.{same_members}
 use Rattle.ix_label.specs.Spelling.{categories, has_before, begins, ends, runs, item, items, comma, dash}
@@ -165,11 +166,7 @@ goes_on false false = refl
 
 has-first : (s : Categories) → has s 0 ≡ begins s 0
 unfolding begins has_before
-has-first s = and_true (has s 0)
-  where
-    and_true : (b : Bool) → b ≡ (b && true)
-    and_true true = refl
-    and_true false = refl
+has-first s = sym (and-true (has s 0))
 
 has-next : (s : Categories) (q : ℕ) → has s (q + 1) ≡ (begins s (q + 1) || (has s q && not (ends s q)))
 unfolding begins ends has_before

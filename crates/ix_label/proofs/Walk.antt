@@ -1,47 +1,32 @@
 -- The walk over a label's runs: what it has written of the categories below a place.
-use Rattle.std.proofs.Common.{◌≡◌, ℕ, ◌+◌, ◌*◌, ◌<◌, ◌≤◌, ◌==◌, nat_le, nat_lt, Bool, true, false, true≢false, ◌&&◌, ◌||◌, List, [], ◌++◌, length, refl, sym, ◌∙◌, ap, subst, arith, inl, inr}
-use Rattle.std.specs.Ordering.{nat_cmp}
-use Rattle.std.specs.FinSet as set
-use Rattle.std.specs.FinSet.{nat_cmp-IsAntisymmetric, contains-retain}
-use Rattle.std.specs.declared.cmp.Ordering.TheVariants.{Equal}
-use Rattle.std.proofs.lemmas.Bool.{cases_lt, cases_order, ltb-true, and_parts, lt-ltb, le-ltb, le-leb, lt-leb, eq-eqb, ne_eqb, and_right, false_from_ne_true}
-use Rattle.ix_label.specs.Category.{Categories, IsLabel, has, bottom, with}
-use Rattle.ix_label.specs.Members.{same_members, has-bottom, has-with}
-use Rattle.ix_label.specs.Spelling.{item, items, runs, comma_after}
-use Rattle.ix_label.specs.Scanning.{IsFirstFrom, RunsTo}
+use Rattle.std.proofs.Common.{◌≡◌, ℕ, ◌+◌, ◌*◌, ◌<◌, ◌≤◌, ◌==◌, nat_le, nat_lt, Bool, true, false, true≢false, ◌&&◌, ◌||◌, List, [], ◌++◌, length, refl, sym, ◌∙◌, subst, arith, inl, inr}
+use Rattle.std.proofs.lemmas.Bool.{cases_lt, cases_order, ltb-true, and_parts, lt-ltb, le-ltb, le-leb, lt-leb, eq-eqb, ne_eqb, false_from_ne_true}
+use Rattle.std.proofs.Math.Bool.{or-false, or-true, and-true, and-false}
+use Rattle.ix_label.specs.Category.{Categories, IsLabel, has, bottom, with, meet, all_below}
+use Rattle.ix_label.specs.Members.{same_members, has-bottom, has-with, has-meet, has-all_below, has-all_below_past}
+use Rattle.ix_label.specs.Spelling.{item, items, runs}
+use Rattle.ix_label.specs.Scanning.{IsFirstFrom, RunsTo, comma_after}
 use Rattle.ix_label.proofs.Runs.{AddsRun, runs-AddsRun, runs-bottom}
 use Rattle.ix_label.proofs.Texts.{items-push, items_none, length-more}
 
 -- the categories of a label that are below a place
 pub below : Categories → ℕ → Categories
-below s n = set.retain s (λ q. nat_lt q n)
-
-tied : (f : ℕ → Bool) (q x : ℕ) → nat_cmp q x ≡ Equal → f x ≡ f q
-tied f q x e = ap f (sym (nat_cmp-IsAntisymmetric q x e))
+below s n = meet s (all_below n)
 
 has-below : (s : Categories) (n q : ℕ) → has (below s n) q ≡ (has s q && nat_lt q n)
-unfolding has below
-has-below s n q = contains-retain s (λ x. nat_lt x n) q (tied (λ x. nat_lt x n) q)
-
-and_true : (a : Bool) → (a && true) ≡ a
-and_true true = refl
-and_true false = refl
-
-or_true : (a : Bool) → (a || true) ≡ true
-or_true true = refl
-or_true false = refl
-
-or_false : (a : Bool) → (a || false) ≡ a
-or_false true = refl
-or_false false = refl
+unfolding below
+has-below s n q = has-meet s (all_below n) q ∙ elim (cases_lt q n) [
+  | inl low ↦ rw (has-all_below n q low, lt-ltb q n low) refl
+  | inr high ↦ rw (has-all_below_past n q high, le-ltb q n high) refl
+]
 
 -- below everything there is nothing, and below a label's end the label
 below-none : (s : Categories) → below s 0 ≡ bottom
-below-none s = same_members _ _ (λ q. has-below s 0 q ∙ rw (le-ltb q 0 (omega arith)) (and_right (has s q) false refl) ∙ sym (has-bottom q))
+below-none s = same_members _ _ (λ q. has-below s 0 q ∙ rw (le-ltb q 0 (omega arith)) (and-false (has s q)) ∙ sym (has-bottom q))
 
 below-all : (s : Categories) (n : ℕ) → ((q : ℕ) → n ≤ q → has s q ≡ false) → below s n ≡ s
 below-all s n none = same_members _ _ (λ q. has-below s n q ∙ elim (cases_lt q n) [
-  | inl low ↦ rw (lt-ltb q n low) (and_true (has s q))
+  | inl low ↦ rw (lt-ltb q n low) (and-true (has s q))
   | inr high ↦ rw (none q high) refl
 ])
 
@@ -79,11 +64,11 @@ run_members s from first last q next run =
     let start : from ≤ first = next.start in
     let order : first ≤ last = run.order in
     elim (cases_lt q from) [
-      | inl low ↦ rw (lt-ltb q (last + 1) (omega arith), lt-ltb q from low, lt-leb first q (omega arith), and_true (has s q), or_false) refl
+      | inl low ↦ rw (lt-ltb q (last + 1) (omega arith), lt-ltb q from low, lt-leb first q (omega arith), and-true (has s q), or-false) refl
       | inr high ↦ elim (cases_lt q first) [
         | inl between ↦ rw (next.skipped q high between, lt-leb first q between) refl
         | inr inside ↦ elim (cases_lt last q) [
-          | inl past ↦ rw (le-ltb q (last + 1) (omega arith), le-ltb q from high, le-leb first q inside, lt-leb q last past, and_right (has s q) false refl) refl
+          | inl past ↦ rw (le-ltb q (last + 1) (omega arith), le-ltb q from high, le-leb first q inside, lt-leb q last past, and-false (has s q)) refl
           | inr here ↦ rw (run.inside q inside here, lt-ltb q (last + 1) (omega arith), le-ltb q from high, le-leb first q inside, le-leb q last here) refl
         ]
       ]
@@ -119,7 +104,7 @@ IsSpelledBelow-all s from out small h none =
 
 test_more : (a c q : ℕ) (h : Bool) → a ≤ c → ((q == c) || (h || (nat_le a q && nat_lt q c))) ≡ (h || (nat_le a q && nat_lt q (c + 1)))
 test_more a c q h le = elim (cases_order q c) [
-  | inl e ↦ let up : a ≤ q = omega arith in rw (eq-eqb q c e, le-leb a q up, lt-ltb q (c + 1) (omega arith)) (sym (or_true h))
+  | inl e ↦ let up : a ≤ q = omega arith in rw (eq-eqb q c e, le-leb a q up, lt-ltb q (c + 1) (omega arith)) (sym (or-true h))
   | inr (inl lt) ↦ rw (ne_eqb q c (λ e. omega arith), lt-ltb q c lt, lt-ltb q (c + 1) (omega arith)) refl
   | inr (inr gt) ↦ rw (ne_eqb q c (λ e. omega arith), le-ltb q c (omega arith), le-ltb q (c + 1) (omega arith)) refl
 ]

@@ -1,5 +1,7 @@
--- The first fault of a text that is no label's. A place of the text is given by `back`, the bytes
--- that stand before it, the nearest first, and `ahead`, those that follow.
+-- The first fault of a text that spells no label. A place of the text is given by `back`, the bytes
+-- that stand before it, the nearest first, and `ahead`, those that follow; it is counted by the
+-- length of `back`. Where no earlier place has a fault, the bytes round a place tell what is due
+-- there, and so whether it has one.
 use Rattle.std.specs.Prelude.{ℕ, ◌+◌, ◌==◌, nat_eq, nat_lt, nat_le, Bool, true, false, not, ◌&&◌, ◌||◌, List, [], ◌∷◌, length, slice_index, reverse, drop, Option, None, Some, if◌then◌else◌, codes}
 use Rattle.std.specs.List.{prefix_len, take_while}
 use Rattle.std.specs.Char.{is_ascii_digit}
@@ -47,7 +49,7 @@ unfoldable pub is_due : List ℕ → Bool
 is_due [] = true
 is_due (b ∷ back) = b == comma || b == dash
 
--- the last number before a number that is due after a comma or a dash
+-- the last number before the place, where a comma or a dash stands between
 unfoldable pub last_number : List ℕ → ℕ
 last_number [] = 0
 last_number (b ∷ back) = number_back back
@@ -56,17 +58,17 @@ last_number (b ∷ back) = number_back back
 unfoldable pub is_bad : List ℕ → Bool
 is_bad ds = length ds == 0 || (nat_lt 1 (length ds) && slice_index ds 0 == 48)
 
--- the number is the second of a range, or the first of an item, and not above the last before it
+-- the number is the second of a range or the first of a later item, and not above the last before it
 unfoldable pub is_not_ascending : List ℕ → List ℕ → Bool
 is_not_ascending back ahead = (at_dash back || at_comma back) && nat_le (number_ahead ahead) (last_number back)
 
--- the number is the first of an item and the last before it plus one, or all is `0-255`
+-- the number is the first of a later item and the last before it plus one, or all is `0-255`
 unfoldable pub is_not_longest : List ℕ → List ℕ → Bool
 is_not_longest back ahead =
     (at_comma back && number_ahead ahead == last_number back + 1)
     || (length back == 0 && is_text ahead (codes "0-255"))
 
--- the fault of a number that is due here
+-- the fault of the number that is due here
 unfoldable pub number_fault : List ℕ → List ℕ → Option LabelFault
 number_fault back ahead =
     if is_bad (digits ahead) then Some (BadNumber (length back))
@@ -96,7 +98,7 @@ unfoldable pub first_fault : List ℕ → List ℕ → Option LabelFault
 first_fault back [] = fault_here back []
 first_fault back (b ∷ ahead) = option_or (fault_here back (b ∷ ahead)) (first_fault (b ∷ back) ahead)
 
--- the fault of a text that is neither `-` nor `*`
+-- the fault of a text; `-` and `*` have none
 unfoldable pub fault_of : List ℕ → Option LabelFault
 fault_of [] = Some Empty
 fault_of (b ∷ text) =

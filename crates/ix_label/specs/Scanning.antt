@@ -1,6 +1,7 @@
--- What the walk over a label's runs finds.
-use Rattle.std.specs.Prelude.{◌≡◌, ℕ, ◌+◌, ◌<◌, ◌≤◌, true, false, Option, None, Some}
+-- What the walk over a label's runs finds, and what it writes.
+use Rattle.std.specs.Prelude.{◌≡◌, ℕ, ◌+◌, ◌<◌, ◌≤◌, true, false, List, [], ◌∷◌, ◌++◌, Option, None, Some}
 use Rattle.ix_label.specs.Category.{Categories, has}
+use Rattle.ix_label.specs.Spelling.{comma}
 
 -- the category is the label's first from a place on
 pub record IsFirstFrom (s : Categories) (from cat : ℕ) : Type 0 where
@@ -19,3 +20,8 @@ pub record RunsTo (s : Categories) (first last : ℕ) : Type 0 where
   pub inside : (q : ℕ) → first ≤ q → q ≤ last → has s q ≡ true
   pub small : last < 256
   pub end : last + 1 < 256 → has s (last + 1) ≡ false
+
+-- what stands before one more item: the text and, where there is any, a comma
+unfoldable pub comma_after : List ℕ → List ℕ
+comma_after [] = []
+comma_after (x ∷ xs) = (x ∷ xs) ++ comma ∷ []

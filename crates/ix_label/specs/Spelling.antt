@@ -43,11 +43,6 @@ item (a, b) = if a == b then decimal a else decimal a ++ dash ∷ decimal b
 unfoldable pub items : List (ℕ × ℕ) → List ℕ
 items rs = join_with_byte comma (map item rs)
 
--- what stands before one more item: the text and, where there is any, a comma
-unfoldable pub comma_after : List ℕ → List ℕ
-comma_after [] = []
-comma_after (x ∷ xs) = (x ∷ xs) ++ comma ∷ []
-
 -- `-` for bottom, `*` for top, and else the items of the longest runs
 unfoldable pub spelling : Categories → List ℕ
 spelling s = if same s bottom then dash ∷ [] else if same s top then star ∷ [] else items (runs s)

@@ -1,5 +1,5 @@
 -- Four words of 64 bits, and the label whose categories are the bits that are 1.
-use Rattle.std.proofs.Common.{◌≡◌, ℕ, zero, suc, ◌+◌, ◌*◌, add-one, ◌^◌, ◌/◌, ◌%◌, ◌<◌, ◌≤◌, ◌==◌, Bool, true, false, ◌&&◌, List, length, map, slice_index, get_or, refl, sym, ◌∙◌, ap, arith, cond, inl, inr, if◌then◌else◌}
+use Rattle.std.proofs.Common.{◌≡◌, ℕ, zero, suc, ◌+◌, ◌*◌, add-one, ◌^◌, ◌/◌, ◌%◌, ◌<◌, ◌≤◌, ◌==◌, Bool, false, List, length, map, slice_index, get_or, refl, sym, ◌∙◌, ap, arith, cond, inl, inr, if◌then◌else◌}
 use Rattle.std.specs.List.{range_with_len}
 use Rattle.std.specs.Ordering.{nat_cmp}
 use Rattle.std.specs.declared.cmp.Ordering.TheVariants.{Equal}
@@ -11,6 +11,7 @@ use Rattle.std.proofs.lemmas.List.FromFn.{fill_by_all}
 use Rattle.std.proofs.lemmas.Nat.Bits.{bit_at-zero, bit_at-suc, bit_at_lowest}
 use Rattle.std.proofs.lemmas.Bool.{cases_lt}
 use Rattle.std.proofs.Math.Nat.{pow-suc}
+use Rattle.std.proofs.Math.Bool.{and-false}
 use Rattle.ix_label.specs.Category.{Categories, has, all_below}
 use Rattle.ix_label.specs.Members.{has-all_below}
 
@@ -43,14 +44,6 @@ pub has_bit_past : (words : List ℕ) (q : ℕ) → 64 * length words ≤ q → 
 unfolding has_bit
 has_bit_past words q h = rw (get_or_past words (q / 64) 0 (omega arith), bit_at-zero) refl
 
-and_true : (a b : Bool) → a ≡ true → (a && b) ≡ b
-and_true true b e = refl
-and_true false b e = cc
-
-and_false : (a b : Bool) → b ≡ false → (a && b) ≡ b
-and_false true b e = refl
-and_false false b e = sym e
-
 tied : (f : ℕ → Bool) (q x : ℕ) → nat_cmp q x ≡ Equal → f x ≡ f q
 tied f q x e = ap f (sym (nat_cmp-IsAntisymmetric q x e))
 
@@ -60,8 +53,8 @@ unfolding has members
 has-members words q =
     contains-retain (all_below (64 * length words)) (has_bit words) q (tied (has_bit words) q)
     ∙ elim (cases_lt q (64 * length words)) [
-      | inl h ↦ and_true _ _ (has-all_below _ q h)
-      | inr h ↦ and_false _ _ (has_bit_past words q h)
+      | inl h ↦ rw (has-all_below _ q h) refl
+      | inr h ↦ rw (has_bit_past words q h) (and-false _)
     ]
 
 -- the bits of a number give it back

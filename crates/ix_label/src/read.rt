@@ -1,4 +1,4 @@
-ghost use Rattle.std.specs.Prelude.{◌≡◌, ◌+◌, ◌<◌, ◌≤◌, ◌&&◌, ◌||◌, ◌↔◌, ℕ, true, IsTrue, slice_get, nat_le, length, drop, IfOk, MatchOption, codes, false};
+ghost use Rattle.std.specs.Prelude.{◌≡◌, ◌+◌, ◌<◌, ◌≤◌, ◌&&◌, ◌||◌, ◌↔◌, ℕ, true, IsTrue, slice_get, nat_le, length, IfOk, MatchOption, codes, false};
 ghost use Rattle.std.specs.List.{list_all, prefix_len};
 ghost use Rattle.std.specs.Result.{result_err};
 ghost use Rattle.std.specs.Char.{is_ascii_digit};
@@ -191,58 +191,4 @@ fn value_of(digits: &[u8]) -> Option<u8>
         }
     }
     Some(value as u8)
-}
-
-#[cfg(test)]
-mod tests {
-    use super::*;
-    use crate::steps::Steps;
-    use crate::text::LabelText;
-    use std::test::Fail;
-
-    #[test]
-    fn worked_texts(rt: HostRuntime) -> Result<(), Fail> {
-        assert_eq!(rt; Label::read(b"").err(), Some(LabelFault::Empty));
-        assert_eq!(rt;
-            Label::read(b"3,4").err(),
-            Some(LabelFault::NotLongest { at: 2 })
-        );
-        assert_eq!(rt;
-            Label::read(b"9,7").err(),
-            Some(LabelFault::NotAscending { at: 2 })
-        );
-        assert_eq!(rt;
-            Label::read(b"5-5").err(),
-            Some(LabelFault::NotAscending { at: 2 })
-        );
-        assert_eq!(rt;
-            Label::read(b"07").err(),
-            Some(LabelFault::BadNumber { at: 0 })
-        );
-        assert_eq!(rt;
-            Label::read(b"3,").err(),
-            Some(LabelFault::BadNumber { at: 2 })
-        );
-        assert_eq!(rt;
-            Label::read(b"1-2-3").err(),
-            Some(LabelFault::BadNumber { at: 3 })
-        );
-        assert_eq!(rt;
-            Label::read(b"256").err(),
-            Some(LabelFault::OutOfRange { at: 0 })
-        );
-        assert_eq!(rt;
-            Label::read(b"0-255").err(),
-            Some(LabelFault::NotLongest { at: 0 })
-        );
-        assert_eq!(rt;
-            Label::read(b"*,3").err(),
-            Some(LabelFault::BadNumber { at: 0 })
-        );
-        assert_eq!(rt;
-            Label::read(b"-3").err(),
-            Some(LabelFault::BadNumber { at: 0 })
-        );
-        Ok(())
-    }
 }

@@ -1,4 +1,4 @@
-ghost use Rattle.std.specs.Prelude.{◌≡◌, ◌+◌, ◌<◌, ◌≤◌, ℕ, [], length, false, true, MatchOption};
+ghost use Rattle.std.specs.Prelude.{◌≡◌, ◌+◌, ◌≤◌, [], length, true};
 ghost use Rattle.ix_label.specs.Category.{has};
 ghost use Rattle.ix_label.specs.Spelling.{spelling, items, runs};
 ghost use Rattle.ix_label.specs.Scanning.{FirstFrom, RunsTo};

@@ -1,6 +1,7 @@
-ghost use Rattle.std.specs.Prelude.{◌≡◌, ◌+◌, ◌<◌, ◌≤◌, [], ◌∷◌, ◌++◌, length, take};
+ghost use Rattle.std.specs.Prelude.{◌≡◌, ◌+◌, ◌<◌, ◌≤◌, [], ◌∷◌, ◌++◌, length};
 ghost use Rattle.std.specs.Fmt.{decimal};
-ghost use Rattle.ix_label.specs.Spelling.{item, comma_after};
+ghost use Rattle.ix_label.specs.Spelling.{item};
+ghost use Rattle.ix_label.specs.Scanning.{comma_after};
 
 use std::marker::Model;
 
@@ -40,12 +41,14 @@ impl LabelText {
         &self.bytes[..self.len]
     }
 
+    /// Empties the buffer.
     pub(crate) fn clear(&mut self)
         ensures { self.new ≡ [] }
     {
         self.len = 0;
     }
 
+    /// Writes one byte.
     pub(crate) fn push(&mut self, byte: u8)
         requires { length self.old < 1024 }
         ensures { self.new ≡ self.old ++ byte ∷ [] }
@@ -56,7 +59,7 @@ impl LabelText {
 
     /// Writes the number in decimal digits.
     #[tactic(auto, using(crate::proofs::Texts::decimals))]
-    pub(crate) fn push_number(&mut self, number: u8)
+    fn push_number(&mut self, number: u8)
         requires { length self.old + length (decimal number) ≤ 1024 }
         ensures { self.new ≡ self.old ++ decimal number }
     {
@@ -85,7 +88,7 @@ impl LabelText {
 
     /// Writes one more item: a comma where there is text, and the run of the categories from
     /// `first` to `last`.
-    #[tactic(auto, using(crate::proofs::Texts::decimals), unfolding(crate::specs::Spelling::comma_after))]
+    #[tactic(auto, using(crate::proofs::Texts::decimals), unfolding(crate::specs::Scanning::comma_after))]
     pub(crate) fn push_item(&mut self, first: u8, last: u8)
         requires { length (comma_after self.old ++ item (first, last)) ≤ 1024 }
         ensures { self.new ≡ comma_after self.old ++ item (first, last) }
