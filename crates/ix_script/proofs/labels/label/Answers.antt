@@ -1,0 +1,12 @@
+use Rattle.std.proofs.Common.{sym}
+use Rattle.ix_script.proofs.AllLabels.{label_found, label_missing}
+use Rattle.ix_script.proofs.labels.label.Goals as goal
+
+pub returns-in-Ok : goal.returns-in-Ok
+returns-in-Ok c =
+    let spelled = c.in-Ok.ensures.ok in
+    label_found c.args.word.now c.in-Ok.label c.is_label.ensures (sym spelled)
+    (λ s small e. let one = c.read.ensures.spelled s small (sym e) in let two = c.in-Ok.is in cc)
+
+pub returns-in-Err : goal.returns-in-Err
+returns-in-Err c = label_missing c.args.word.now (λ s small e. let one = c.read.ensures.spelled s small (sym e) in let two = c.in-Err.is in cc)

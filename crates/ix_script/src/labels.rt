@@ -1,0 +1,19 @@
+ghost use Rattle.std.specs.Prelude.{◌≡◌};
+ghost use Rattle.ix_script.specs.Readers.{Gives};
+ghost use Rattle.ix_script.specs.Labels.{label_of};
+
+use crate::refused::Refused;
+use ix_label::Label;
+
+/// The label of that spelling.
+pub(crate) fn label(word: &[u8]) -> Result<Label, Refused>
+    ensures { Gives (λ x. x) result (label_of word.now) }
+{
+    match Label::read(word) {
+        Ok(label) => {
+            label.is_label();
+            Ok(label)
+        }
+        Err(_) => Err(Refused::Form),
+    }
+}

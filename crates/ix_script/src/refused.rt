@@ -1,0 +1,20 @@
+ghost use Rattle.std.specs.Prelude.{◌≡◌};
+ghost use Rattle.ix_script.specs.declared.refused.Refused.TheVariants as refused;
+
+use ix_model::NoMemory;
+
+/// Why a text wasn't read.
+#[derive(Clone, Copy, Debug, PartialEq, Eq)]
+pub(crate) enum Refused {
+    /// It isn't of the form.
+    Form,
+    NoMemory,
+}
+
+impl From<NoMemory> for Refused {
+    ghost from_gives = { λ _ e. e ≡ refused.NoMemory };
+
+    fn from(_e: NoMemory) -> Refused {
+        Refused::NoMemory
+    }
+}
