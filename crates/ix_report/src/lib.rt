@@ -1,0 +1,9 @@
+//! The lines of a report: each call appends one to bytes, or leaves them as they were.
+#![tactic(auto)]
+
+mod calls;
+mod labels;
+mod line;
+mod pieces;
+mod refusals;
+mod words;
