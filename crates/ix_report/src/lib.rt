@@ -6,4 +6,8 @@ mod labels;
 mod line;
 mod pieces;
 mod refusals;
+mod replies;
+mod report;
 mod words;
+
+pub use report::{audit_line, entry_line, head, object_line, process_line, tail};
