@@ -1,0 +1,4 @@
+pub mod Bits
+pub mod Runs
+pub mod Texts
+pub mod Walk

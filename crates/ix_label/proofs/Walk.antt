@@ -1,0 +1,112 @@
+-- The walk over a label's runs: what it has written of the categories below a place.
+use Rattle.std.proofs.Common.{◌≡◌, ℕ, ◌+◌, ◌*◌, ◌<◌, ◌≤◌, nat_le, nat_lt, Bool, true, false, true≢false, ◌&&◌, ◌||◌, List, [], ◌++◌, length, refl, sym, ◌∙◌, ap, subst, arith, inl, inr}
+use Rattle.std.specs.Ordering.{nat_cmp}
+use Rattle.std.specs.FinSet as set
+use Rattle.std.specs.FinSet.{nat_cmp-IsAntisymmetric, contains-retain}
+use Rattle.std.specs.declared.cmp.Ordering.TheVariants.{Equal}
+use Rattle.std.proofs.lemmas.Bool.{cases_lt, cases_order, ltb-true, and_parts, lt-ltb, le-ltb, le-leb, lt-leb, and_right, false_from_ne_true}
+use Rattle.ix_label.specs.Category.{Categories, IsLabel, has, bottom}
+use Rattle.ix_label.specs.Members.{same_members, has-bottom}
+use Rattle.ix_label.specs.Spelling.{item, items, runs, comma_after}
+use Rattle.ix_label.specs.Scanning.{IsFirstFrom, RunsTo}
+use Rattle.ix_label.proofs.Runs.{AddsRun, runs-AddsRun, runs-bottom}
+use Rattle.ix_label.proofs.Texts.{items-push, items_none, length-more}
+
+-- the categories of a label that are below a place
+pub below : Categories → ℕ → Categories
+below s n = set.retain s (λ q. nat_lt q n)
+
+tied : (f : ℕ → Bool) (q x : ℕ) → nat_cmp q x ≡ Equal → f x ≡ f q
+tied f q x e = ap f (sym (nat_cmp-IsAntisymmetric q x e))
+
+has-below : (s : Categories) (n q : ℕ) → has (below s n) q ≡ (has s q && nat_lt q n)
+unfolding has below
+has-below s n q = contains-retain s (λ x. nat_lt x n) q (tied (λ x. nat_lt x n) q)
+
+and_true : (a : Bool) → (a && true) ≡ a
+and_true true = refl
+and_true false = refl
+
+or_false : (a : Bool) → (a || false) ≡ a
+or_false true = refl
+or_false false = refl
+
+-- below everything there is nothing, and below a label's end the label
+below-none : (s : Categories) → below s 0 ≡ bottom
+below-none s = same_members _ _ (λ q. has-below s 0 q ∙ rw (le-ltb q 0 (omega arith)) (and_right (has s q) false refl) ∙ sym (has-bottom q))
+
+below-all : (s : Categories) (n : ℕ) → ((q : ℕ) → n ≤ q → has s q ≡ false) → below s n ≡ s
+below-all s n none = same_members _ _ (λ q. has-below s n q ∙ elim (cases_lt q n) [
+  | inl low ↦ rw (lt-ltb q n low) (and_true (has s q))
+  | inr high ↦ rw (none q high) refl
+])
+
+-- the runs below a place are written, and none of them goes on at it
+pub record IsSpelledBelow (s : Categories) (from : ℕ) (out : List ℕ) : Type 0 where
+  pub text : out ≡ items (runs (below s from))
+  pub room : length out ≤ 4 * from
+  pub within : from ≤ 256
+  pub apart : 0 < from → from < 256 → has s from ≡ false
+
+pub IsSpelledBelow-none : (s : Categories) → IsSpelledBelow s 0 []
+IsSpelledBelow-none s = record {
+  text = rw (below-none s, runs-bottom, items_none) refl;
+  room = omega arith;
+  within = omega arith;
+  apart = λ h. absurd (omega arith);
+}
+
+run_apart : (s : Categories) (from first q : ℕ) → (0 < from → from < 256 → has s from ≡ false) → IsFirstFrom s from first → first < 256 → has (below s from) q ≡ true → q + 1 < first
+run_apart s from first q apart next small one =
+    let parts : (has s q ≡ true) × (nat_lt q from ≡ true) = and_parts _ _ (sym (has-below s from q) ∙ one) in
+    let low : q < from = ltb-true q from parts.1 in
+    let start : from ≤ first = next.start in
+    elim (cases_order (q + 1) first) [
+      | inl e ↦
+          let same : from ≡ first = omega arith in
+          let P : ℕ → Type 0 = λ k. has s k ≡ true in
+          absurd (true≢false (sym (subst P (sym same) next.found) ∙ apart (omega arith) (omega arith)))
+      | inr (inl lt) ↦ lt
+      | inr (inr gt) ↦ absurd (omega arith)
+    ]
+
+run_members : (s : Categories) (from first last q : ℕ) → IsFirstFrom s from first → RunsTo s first last → (has s q && nat_lt q (last + 1)) ≡ ((has s q && nat_lt q from) || (nat_le first q && nat_le q last))
+run_members s from first last q next run =
+    let start : from ≤ first = next.start in
+    let order : first ≤ last = run.order in
+    elim (cases_lt q from) [
+      | inl low ↦ rw (lt-ltb q (last + 1) (omega arith), lt-ltb q from low, lt-leb first q (omega arith), and_true (has s q), or_false) refl
+      | inr high ↦ elim (cases_lt q first) [
+        | inl between ↦ rw (next.skipped q high between, lt-leb first q between) refl
+        | inr inside ↦ elim (cases_lt last q) [
+          | inl past ↦ rw (le-ltb q (last + 1) (omega arith), le-ltb q from high, le-leb first q inside, lt-leb q last past, and_right (has s q) false refl) refl
+          | inr here ↦ rw (run.inside q inside here, lt-ltb q (last + 1) (omega arith), le-ltb q from high, le-leb first q inside, le-leb q last here) refl
+        ]
+      ]
+    ]
+
+adds_run : (s : Categories) (from first last : ℕ) → (0 < from → from < 256 → has s from ≡ false) → IsFirstFrom s from first → RunsTo s first last → AddsRun (below s from) (below s (last + 1)) first last
+adds_run s from first last apart next run =
+    let order : first ≤ last = run.order in
+    let small : last < 256 = run.small in
+    record {
+      order = order;
+      small = small;
+      apart = λ q one. run_apart s from first q apart next (omega arith) one;
+      members = λ q. has-below s (last + 1) q ∙ run_members s from first last q next run ∙ (λ i. sym (has-below s from q) i || (nat_le first q && nat_le q last));
+    }
+
+pub IsSpelledBelow-more : (s : Categories) (from first last : ℕ) (out : List ℕ) → IsSpelledBelow s from out → IsFirstFrom s from first → RunsTo s first last → IsSpelledBelow s (last + 1) (comma_after out ++ item (first, last))
+IsSpelledBelow-more s from first last out h next run = record {
+  text = rw (runs-AddsRun _ _ first last (adds_run s from first last h.apart next run), items-push, h.text) refl;
+  room = length-more out first last from h.room next.start run.order run.small;
+  within = let small : last < 256 = run.small in omega arith;
+  apart = λ some within. run.end within;
+}
+
+pub IsSpelledBelow-all : (s : Categories) (from : ℕ) (out : List ℕ) → IsLabel s → IsSpelledBelow s from out → ((q : ℕ) → from ≤ q → q < 256 → has s q ≡ false) → out ≡ items (runs s)
+IsSpelledBelow-all s from out small h none =
+    rw (below-all s from (λ q le. elim (cases_lt q 256) [
+      | inl low ↦ none q le low
+      | inr high ↦ false_from_ne_true _ (λ one. let low : q < 256 = small.below q one in absurd (omega arith))
+    ])) at h.text
