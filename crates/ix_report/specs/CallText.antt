@@ -3,7 +3,7 @@ use Rattle.std.specs.Prelude.{ℕ, List, ◌++◌, codes}
 use Rattle.std.specs.Fmt.{decimal}
 use Rattle.ix_model.specs.History.{Op}
 use Rattle.ix_model.specs.History as op
-use Rattle.ix_report.specs.Spelling.{spelling}
+use Rattle.ix_label.specs.Spelling.{spelling}
 use Rattle.ix_report.specs.Hex.{hex}
 use Rattle.ix_report.specs.Names.{path_text}
 use Rattle.ix_report.specs.Words.{mode_text, keep_text, privs_text}

@@ -1,5 +1,4 @@
 pub mod Drafted
-pub mod Spelling
 pub mod Hex
 pub mod Words
 pub mod Names

@@ -5,7 +5,7 @@ use Rattle.ix_model.specs.Refusals.{number_of}
 use Rattle.ix_model.specs.declared.reply.Reply.{Reply}
 use Rattle.ix_model.specs.declared.reply.Reply.TheVariants as reply
 use Rattle.ix_model.specs.declared.audit.AuditLine.{AuditLine}
-use Rattle.ix_report.specs.Spelling.{spelling}
+use Rattle.ix_label.specs.Spelling.{spelling}
 use Rattle.ix_report.specs.Hex.{hex}
 use Rattle.ix_report.specs.Names.{name_text}
 use Rattle.ix_report.specs.RefusalText.{refusal_text}

@@ -1,5 +1,5 @@
 -- The words of a report: modes, kinds, states, acts and privilege sets.
-use Rattle.std.specs.Prelude.{ℕ, Bool, true, false, List, [], ◌++◌, codes, ◌==◌, if◌then◌else◌, bit_and}
+use Rattle.std.specs.Prelude.{ℕ, Bool, List, [], ◌++◌, codes, ◌==◌, if◌then◌else◌, bit_and}
 use Rattle.std.specs.Fmt.{decimal}
 use Rattle.ix_model.specs.Privs.{is_empty}
 use Rattle.ix_model.specs.declared.call.Mode.{Mode}

@@ -1,7 +1,7 @@
 ghost use Rattle.std.specs.Prelude.{◌≡◌, ◌++◌, OnOk, codes};
 ghost use Rattle.std.specs.Fmt.{decimal};
 ghost use Rattle.ix_model.specs.Calls.{op_of};
-ghost use Rattle.ix_report.specs.Spelling.{spelling};
+ghost use Rattle.ix_label.specs.Spelling.{spelling};
 ghost use Rattle.ix_report.specs.Hex.{hex};
 ghost use Rattle.ix_report.specs.Names.{path_text};
 ghost use Rattle.ix_report.specs.Words.{keep_text, mode_text, privs_text};
@@ -42,7 +42,13 @@ fn push_with_fd(line: &mut Line, word: &[u8], pid: Pid, fd: Fd) -> Result<(), No
 }
 
 /// A command with a descriptor and a number.
-fn push_with_fd_number(line: &mut Line, word: &[u8], pid: Pid, fd: Fd, n: u32) -> Result<(), NoMemory>
+fn push_with_fd_number(
+    line: &mut Line,
+    word: &[u8],
+    pid: Pid,
+    fd: Fd,
+    n: u32,
+) -> Result<(), NoMemory>
     ensures stays { line.new.before ≡ line.old.before }
     ensures text { OnOk result (line.new.text ≡ line.old.text
         ++ (word.now ++ decimal pid.0 ++ codes " " ++ decimal fd.0 ++ codes " " ++ decimal n)) }
@@ -164,11 +170,17 @@ fn push_set_label(line: &mut Line, pid: Pid, path: &Path, label: &Label) -> Resu
 }
 
 /// The setting of a file's privileges.
-fn push_set_priv(line: &mut Line, pid: Pid, path: &Path, cap: PrivSet, lic: PrivSet) -> Result<(), NoMemory>
+fn push_set_priv(
+    line: &mut Line,
+    pid: Pid,
+    path: &Path,
+    cap: PrivSet,
+    lic: PrivSet,
+) -> Result<(), NoMemory>
     ensures stays { line.new.before ≡ line.old.before }
     ensures text { OnOk result (line.new.text ≡ line.old.text
         ++ (codes "setpriv p" ++ decimal pid.0 ++ codes " " ++ path_text path.now
-            ++ codes " " ++ privs_text cap ++ codes " " ++ privs_text lic)) }
+        ++ codes " " ++ privs_text cap ++ codes " " ++ privs_text lic)) }
 {
     push_with_path(line, b"setpriv p", pid, path)?;
     line.push(b" ")?;

@@ -6,8 +6,8 @@ ghost use Rattle.ix_report.specs.Words.{letter, privs_text};
 
 use crate::line::Line;
 use bitflags::Flags;
-use ix_model::{Name, NoMemory, Path, PrivSet};
 use itoa::Buffer;
+use ix_model::{Name, NoMemory, Path, PrivSet};
 
 /// A number in decimal.
 pub fn push_number(line: &mut Line, n: u64) -> Result<(), NoMemory>
@@ -106,7 +106,12 @@ pub fn push_path(line: &mut Line, path: &Path) -> Result<(), NoMemory>
 }
 
 /// A privilege's letter, where the set has the privilege.
-fn push_letter(line: &mut Line, set: PrivSet, privilege: PrivSet, text: &[u8]) -> Result<(), NoMemory>
+fn push_letter(
+    line: &mut Line,
+    set: PrivSet,
+    privilege: PrivSet,
+    text: &[u8],
+) -> Result<(), NoMemory>
     ensures stays { line.new.before ≡ line.old.before }
     ensures text { OnOk result (line.new.text ≡ line.old.text ++ letter set privilege.0 text.now) }
 {

@@ -1,7 +1,7 @@
 ghost use Rattle.std.specs.Prelude.{◌≡◌, ◌++◌, OnOk, codes};
 ghost use Rattle.std.specs.Fmt.{decimal};
 ghost use Rattle.ix_model.specs.Refusals.{number_of};
-ghost use Rattle.ix_report.specs.Spelling.{spelling};
+ghost use Rattle.ix_label.specs.Spelling.{spelling};
 ghost use Rattle.ix_report.specs.Hex.{hex};
 ghost use Rattle.ix_report.specs.Names.{name_text};
 ghost use Rattle.ix_report.specs.RefusalText.{refusal_text};
@@ -56,7 +56,13 @@ fn push_bytes(line: &mut Line, count: u32, bytes: &[u8]) -> Result<(), NoMemory>
 }
 
 /// What an object is: its number, kind, size and names.
-fn push_object_size(line: &mut Line, obj: Obj, kind: Kind, size: u64, links: u32) -> Result<(), NoMemory>
+fn push_object_size(
+    line: &mut Line,
+    obj: Obj,
+    kind: Kind,
+    size: u64,
+    links: u32,
+) -> Result<(), NoMemory>
     ensures stays { line.new.before ≡ line.old.before }
     ensures text { OnOk result (line.new.text ≡ line.old.text
         ++ (codes "stat " ++ decimal obj.0 ++ codes " " ++ kind_text kind ++ codes " " ++ decimal size ++ codes " " ++ decimal links)) }
@@ -126,7 +132,7 @@ fn push_act(line: &mut Line, audit: &AuditLine) -> Result<(), NoMemory>
     ensures stays { line.new.before ≡ line.old.before }
     ensures text { OnOk result (line.new.text ≡ line.old.text
         ++ (decimal audit.entry.now.place ++ codes " p" ++ decimal audit.entry.now.pid.0 ++ codes " " ++ act_text audit.entry.now.act
-            ++ codes " " ++ decimal audit.entry.now.target)) }
+        ++ codes " " ++ decimal audit.entry.now.target)) }
 {
     push_number(line, u64::from(audit.place))?;
     push_word_number(line, b" p", u64::from(audit.pid.0))?;
