@@ -4,9 +4,16 @@ use Rattle.std.specs.List.{flat_map}
 use Rattle.ix_model.specs.Naming.{PathOf}
 use Rattle.ix_report.specs.Hex.{hex_pair}
 
+-- the bytes '"' and '\'
+abbrev pub quote : ℕ
+quote = 34
+
+abbrev pub backslash : ℕ
+backslash = 92
+
 -- a byte that is printed as it is: a visible character, and neither a quote nor a backslash
 abbrev pub stands : ℕ → Bool
-stands b = nat_le 0x21 b && nat_le b 0x7e && not (b == 34) && not (b == 92)
+stands b = nat_le 0x21 b && nat_le b 0x7e && not (b == quote) && not (b == backslash)
 
 -- a byte of a name; one that doesn't stand is escaped
 abbrev pub name_byte : ℕ → List ℕ

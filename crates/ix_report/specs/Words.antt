@@ -53,7 +53,7 @@ act_text act.ReadLog = codes "readlog"
 abbrev pub letter : PrivSet → ℕ → List ℕ → List ℕ
 letter set privilege text = if bit_and set.0 privilege == privilege then text else []
 
--- a dash for the empty set, else the letters of DOWN, PRIV, CEIL, THAW and LOG in this order
+-- a dash for the empty set, else the letters of DOWN, PRIV, CEIL, THAW and LOG, whose bits are 1, 2, 4, 8 and 16
 unfoldable pub privs_text : PrivSet → List ℕ
 privs_text set =
     if is_empty set then codes "-"
