@@ -10,24 +10,19 @@ use ix_model::{
 };
 use std::test::Fail;
 
-/// A call of process 1, from line 7.
-fn entry_of(call: Call<'_>) -> Entry<'_> {
-    Entry {
-        seat: 0,
-        line: 7,
-        pid: Pid(1),
-        call,
-    }
-}
-
 #[test]
 fn prints_each_kind_of_line(rt: HostRuntime) -> Result<(), Fail> {
     let mut out = Vec::new(rt.alloc());
     let three = Label::bottom().with(3);
-    let read = entry_of(Call::ReadFd {
-        fd: Fd(0),
-        count: 8,
-    });
+    let read = Entry {
+        seat: 0,
+        line: 7,
+        pid: Pid(1),
+        call: Call::ReadFd {
+            fd: Fd(0),
+            count: 8,
+        },
+    };
     let audit = AuditLine {
         place: 3,
         pid: Pid(3),
@@ -101,7 +96,13 @@ fn prints_each_kind_of_line(rt: HostRuntime) -> Result<(), Fail> {
 fn answer(out: &mut Vec<u8>, reply: &Reply) -> Result<(), NoMemory>
     requires { AreBytesOf reply.now [] }
 {
-    entry_line(out, 1, b"m", &entry_of(Call::SelfLabel), reply, b"", None)
+    let entry = Entry {
+        seat: 0,
+        line: 7,
+        pid: Pid(1),
+        call: Call::SelfLabel,
+    };
+    entry_line(out, 1, b"m", &entry, reply, b"", None)
 }
 
 #[test]
@@ -169,11 +170,6 @@ fn prints_each_reply(rt: HostRuntime) -> Result<(), Fail> {
     Ok(())
 }
 
-/// The line of a call that is done.
-fn done(out: &mut Vec<u8>, call: Call<'_>) -> Result<(), NoMemory> {
-    entry_line(out, 1, b"m", &entry_of(call), &Reply::Done, b"", None)
-}
-
 #[test]
 fn prints_arguments(rt: HostRuntime) -> Result<(), Fail> {
     let mut out = Vec::new(rt.alloc());
@@ -185,61 +181,70 @@ fn prints_arguments(rt: HostRuntime) -> Result<(), Fail> {
     let mut path = Path::new(false);
     assert!(rt; path.push(two));
     assert!(rt; path.push(two));
-    done(
-        &mut out,
-        Call::OpenAt {
-            path: rooted,
-            mode: Mode::Both,
+    let (seat, line, pid) = (0, 7, Pid(1));
+    let entries = [
+        Entry {
+            seat,
+            line,
+            pid,
+            call: Call::OpenAt {
+                path: rooted,
+                mode: Mode::Both,
+            },
         },
-    )?;
-    done(
-        &mut out,
-        Call::WriteFd {
-            fd: Fd(1),
-            bytes: b"\x00\xfa",
+        Entry {
+            seat,
+            line,
+            pid,
+            call: Call::WriteFd {
+                fd: Fd(1),
+                bytes: b"\x00\xfa",
+            },
         },
-    )?;
-    done(
-        &mut out,
-        Call::LinkAt {
-            target: path,
-            path: Path::new(true),
+        Entry {
+            seat,
+            line,
+            pid,
+            call: Call::LinkAt {
+                target: path,
+                path: Path::new(true),
+            },
         },
-    )?;
-    done(
-        &mut out,
-        Call::ListAt {
-            path: Path::new(false),
-            index: 4,
+        Entry {
+            seat,
+            line,
+            pid,
+            call: Call::ListAt {
+                path: Path::new(false),
+                index: 4,
+            },
         },
-    )?;
-    done(
-        &mut out,
-        Call::Fork {
-            keep: Keep::One(Fd(3)),
+        Entry {
+            seat,
+            line,
+            pid,
+            call: Call::Fork {
+                keep: Keep::One(Fd(3)),
+            },
         },
-    )?;
-    done(
-        &mut out,
-        Call::SetPriv {
-            path,
-            cap: PrivSet::CEIL,
-            lic: PrivSet::empty(),
+        Entry {
+            seat,
+            line,
+            pid,
+            call: Call::SetCeiling {
+                pid: Pid(2),
+                label: Label::top(),
+            },
         },
-    )?;
-    done(
-        &mut out,
-        Call::SetCeiling {
-            pid: Pid(2),
-            label: Label::top(),
-        },
-    )?;
+    ];
+    for entry in &entries {
+        entry_line(&mut out, 1, b"m", entry, &Reply::Done, b"", None)?;
+    }
     let text = b"1 m 7 open p1 /a\\x5c\\x7f/!~ rw = done @ none\n\
         1 m 7 write p1 1 x00fa = done @ none\n\
         1 m 7 link p1 !~/!~ / = done @ none\n\
         1 m 7 list p1 . 4 = done @ none\n\
         1 m 7 fork p1 3 = done @ none\n\
-        1 m 7 setpriv p1 !~/!~ C - = done @ none\n\
         1 m 7 ceiling p1 p2 * = done @ none\n";
     assert_eq!(rt; out.as_slice(), text.as_slice());
     Ok(())
