@@ -2,3 +2,11 @@ pub mod Bits
 pub mod Runs
 pub mod Texts
 pub mod Walk
+pub mod Places
+pub mod Numbers
+pub mod Reading
+pub mod Items
+pub mod Chains
+pub mod Unique
+pub mod Faultless
+pub mod Spelled

@@ -96,7 +96,7 @@ balanced_below s n below e none =
     let all : length (filter (begins s) (range_with_len 0 n)) + count (open_at s 0) ≡ length (filter (ends s) (range_with_len 0 n)) + count (open_at s n) = rw zero-add at (balanced s 0 n) in
     rw e (omega (arith, all, closed_first s, closed_at s n none))
 
-are_below : categories ≡ range_with_len 0 256
+pub are_below : categories ≡ range_with_len 0 256
 unfolding categories
 are_below = refl
 

@@ -25,11 +25,11 @@ pub item_some : (r : ℕ × ℕ) → 0 < length (item r)
 unfolding item
 item_some (a, b) = either_some (a == b) (decimal a) (decimal a ++ dash ∷ decimal b) (decimal_some a) (omega (arith, length-append (decimal a) (dash ∷ decimal b), decimal_some a))
 
-comma_after_none : comma_after [] ≡ []
+pub comma_after_none : comma_after [] ≡ []
 unfolding comma_after
 comma_after_none = refl
 
-comma_after_some : (xs : List ℕ) → 0 < length xs → comma_after xs ≡ xs ++ comma ∷ []
+pub comma_after_some : (xs : List ℕ) → 0 < length xs → comma_after xs ≡ xs ++ comma ∷ []
 unfolding comma_after
 comma_after_some [] h = absurd (omega arith)
 comma_after_some (x ∷ xs) h = refl
@@ -38,7 +38,7 @@ joined_some : (x : List ℕ) (xs : List (List ℕ)) → 0 < length x → 0 < len
 joined_some x [] h = h
 joined_some x (y ∷ xs) h = omega (arith, length-append x (comma ∷ join_with_byte comma (y ∷ xs)))
 
-items_more : (r t : ℕ × ℕ) (rs : List (ℕ × ℕ)) → items (r ∷ t ∷ rs) ≡ item r ++ comma ∷ items (t ∷ rs)
+pub items_more : (r t : ℕ × ℕ) (rs : List (ℕ × ℕ)) → items (r ∷ t ∷ rs) ≡ item r ++ comma ∷ items (t ∷ rs)
 unfolding items
 items_more r t rs = refl
 
@@ -46,11 +46,11 @@ pub items_none : items [] ≡ []
 unfolding items
 items_none = refl
 
-items_one : (r : ℕ × ℕ) → items (r ∷ []) ≡ item r
+pub items_one : (r : ℕ × ℕ) → items (r ∷ []) ≡ item r
 unfolding items
 items_one r = refl
 
-items_some : (r : ℕ × ℕ) (rs : List (ℕ × ℕ)) → 0 < length (items (r ∷ rs))
+pub items_some : (r : ℕ × ℕ) (rs : List (ℕ × ℕ)) → 0 < length (items (r ∷ rs))
 unfolding items
 items_some r rs = joined_some (item r) (map item rs) (item_some r)
 

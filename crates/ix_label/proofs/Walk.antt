@@ -1,12 +1,12 @@
 -- The walk over a label's runs: what it has written of the categories below a place.
-use Rattle.std.proofs.Common.{◌≡◌, ℕ, ◌+◌, ◌*◌, ◌<◌, ◌≤◌, nat_le, nat_lt, Bool, true, false, true≢false, ◌&&◌, ◌||◌, List, [], ◌++◌, length, refl, sym, ◌∙◌, ap, subst, arith, inl, inr}
+use Rattle.std.proofs.Common.{◌≡◌, ℕ, ◌+◌, ◌*◌, ◌<◌, ◌≤◌, ◌==◌, nat_le, nat_lt, Bool, true, false, true≢false, ◌&&◌, ◌||◌, List, [], ◌++◌, length, refl, sym, ◌∙◌, ap, subst, arith, inl, inr}
 use Rattle.std.specs.Ordering.{nat_cmp}
 use Rattle.std.specs.FinSet as set
 use Rattle.std.specs.FinSet.{nat_cmp-IsAntisymmetric, contains-retain}
 use Rattle.std.specs.declared.cmp.Ordering.TheVariants.{Equal}
-use Rattle.std.proofs.lemmas.Bool.{cases_lt, cases_order, ltb-true, and_parts, lt-ltb, le-ltb, le-leb, lt-leb, and_right, false_from_ne_true}
-use Rattle.ix_label.specs.Category.{Categories, IsLabel, has, bottom}
-use Rattle.ix_label.specs.Members.{same_members, has-bottom}
+use Rattle.std.proofs.lemmas.Bool.{cases_lt, cases_order, ltb-true, and_parts, lt-ltb, le-ltb, le-leb, lt-leb, eq-eqb, ne_eqb, and_right, false_from_ne_true}
+use Rattle.ix_label.specs.Category.{Categories, IsLabel, has, bottom, with}
+use Rattle.ix_label.specs.Members.{same_members, has-bottom, has-with}
 use Rattle.ix_label.specs.Spelling.{item, items, runs, comma_after}
 use Rattle.ix_label.specs.Scanning.{IsFirstFrom, RunsTo}
 use Rattle.ix_label.proofs.Runs.{AddsRun, runs-AddsRun, runs-bottom}
@@ -26,6 +26,10 @@ has-below s n q = contains-retain s (λ x. nat_lt x n) q (tied (λ x. nat_lt x n
 and_true : (a : Bool) → (a && true) ≡ a
 and_true true = refl
 and_true false = refl
+
+or_true : (a : Bool) → (a || true) ≡ true
+or_true true = refl
+or_true false = refl
 
 or_false : (a : Bool) → (a || false) ≡ a
 or_false true = refl
@@ -110,3 +114,26 @@ IsSpelledBelow-all s from out small h none =
       | inl low ↦ none q le low
       | inr high ↦ false_from_ne_true _ (λ one. let low : q < 256 = small.below q one in absurd (omega arith))
     ])) at h.text
+
+-- ---- a run, category by category
+
+test_more : (a c q : ℕ) (h : Bool) → a ≤ c → ((q == c) || (h || (nat_le a q && nat_lt q c))) ≡ (h || (nat_le a q && nat_lt q (c + 1)))
+test_more a c q h le = elim (cases_order q c) [
+  | inl e ↦ let up : a ≤ q = omega arith in rw (eq-eqb q c e, le-leb a q up, lt-ltb q (c + 1) (omega arith)) (sym (or_true h))
+  | inr (inl lt) ↦ rw (ne_eqb q c (λ e. omega arith), lt-ltb q c lt, lt-ltb q (c + 1) (omega arith)) refl
+  | inr (inr gt) ↦ rw (ne_eqb q c (λ e. omega arith), le-ltb q c (omega arith), le-ltb q (c + 1) (omega arith)) refl
+]
+
+pub run_grows : (s l : Categories) (a c : ℕ) → a ≤ c → ((q : ℕ) → has l q ≡ (has s q || (nat_le a q && nat_lt q c))) → (q : ℕ) → has (with l c) q ≡ (has s q || (nat_le a q && nat_lt q (c + 1)))
+run_grows s l a c le h q = rw (has-with l c q, h q) (test_more a c q (has s q) le)
+
+lt_is_le : (q b : ℕ) → nat_lt q (b + 1) ≡ nat_le q b
+lt_is_le q b = elim (cases_lt b q) [
+  | inl past ↦ rw (le-ltb q (b + 1) (omega arith), lt-leb q b past) refl
+  | inr here ↦ rw (lt-ltb q (b + 1) (omega arith), le-leb q b here) refl
+]
+
+pub run_ends : (s l : Categories) (a b c : ℕ) → a ≤ c → c ≡ b → ((q : ℕ) → has l q ≡ (has s q || (nat_le a q && nat_lt q c))) → (q : ℕ) → has (with l b) q ≡ (has s q || (nat_le a q && nat_le q b))
+run_ends s l a b c le e h q =
+    let grown : has (with l b) q ≡ (has s q || (nat_le a q && nat_lt q (b + 1))) = run_grows s l a b (omega arith) (rw e at h) q in
+    grown ∙ (λ i. has s q || (nat_le a q && lt_is_le q b i))
