@@ -1,4 +1,4 @@
-ghost use Rattle.std.specs.Prelude.{◌≡◌, ◌++◌, ◌∷◌, [], OnOk, OnErr};
+ghost use Rattle.std.specs.Prelude.{◌≡◌, ◌++◌, [], OnOk, OnErr};
 
 use ix_model::NoMemory;
 use std::marker::Model;
@@ -34,7 +34,7 @@ impl Line {
         Line { bytes, start }
     }
 
-    /// Writes the bytes at the line's end.
+    /// Writes the bytes at the line's end. After `NoMemory` what stood before the line is still there.
     pub fn push(&mut self, bytes: &[u8]) -> Result<(), NoMemory>
         ensures stays { self.new.before ≡ self.old.before }
         ensures text { OnOk result (self.new.text ≡ self.old.text ++ bytes.now) }

@@ -1,7 +1,7 @@
 ghost use Rattle.std.specs.Prelude.{◌≡◌, ◌++◌, OnOk, codes};
 ghost use Rattle.std.specs.Fmt.{decimal};
 ghost use Rattle.ix_report.specs.Hex.{hex, hex_pair};
-ghost use Rattle.ix_report.specs.Names.{stands, name_byte, name_text, joined, path_text};
+ghost use Rattle.ix_report.specs.Names.{name_byte, name_text, joined, path_text};
 ghost use Rattle.ix_report.specs.Words.{letter, privs_text};
 
 use crate::line::Line;

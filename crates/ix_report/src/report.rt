@@ -1,4 +1,4 @@
-ghost use Rattle.std.specs.Prelude.{◌≡◌, ◌++◌, OnOk, OnErr, codes};
+ghost use Rattle.std.specs.Prelude.{◌≡◌, ◌++◌, OnOk, OnErr};
 ghost use Rattle.std.specs.Option.{option_copied};
 ghost use Rattle.ix_model.specs.Calls.{event_of};
 ghost use Rattle.ix_report.specs.ReplyText.{AreBytesOf};
@@ -98,6 +98,7 @@ fn push_seen(line: &mut Line, label: Option<&Label>) -> Result<(), NoMemory>
     }
 }
 
+/// The line of an entry.
 #[tactic(auto, unfolding(crate::specs::LineText::entry_line))]
 fn push_entry(
     line: &mut Line,
@@ -126,6 +127,7 @@ fn push_entry(
     line.push(b"\n")
 }
 
+/// The line of an object.
 #[tactic(auto, unfolding(crate::specs::LineText::object_line))]
 fn push_object(line: &mut Line, number: u32, view: &ObjView) -> Result<(), NoMemory>
     ensures stays { line.new.before ≡ line.old.before }
@@ -141,6 +143,7 @@ fn push_object(line: &mut Line, number: u32, view: &ObjView) -> Result<(), NoMem
     line.push(b"\n")
 }
 
+/// The line of a process.
 #[tactic(auto, unfolding(crate::specs::LineText::process_line))]
 fn push_process(line: &mut Line, pid: Pid, view: &ProcView) -> Result<(), NoMemory>
     ensures stays { line.new.before ≡ line.old.before }
@@ -155,6 +158,7 @@ fn push_process(line: &mut Line, pid: Pid, view: &ProcView) -> Result<(), NoMemo
     line.push(b"\n")
 }
 
+/// A line of the audit log.
 #[tactic(auto, unfolding(crate::specs::LineText::audit_line))]
 fn push_audit_line(line: &mut Line, audit: &AuditLine) -> Result<(), NoMemory>
     ensures stays { line.new.before ≡ line.old.before }
@@ -164,6 +168,7 @@ fn push_audit_line(line: &mut Line, audit: &AuditLine) -> Result<(), NoMemory>
     line.push(b"\n")
 }
 
+/// The last line.
 #[tactic(auto, unfolding(crate::specs::LineText::tail_line))]
 fn push_tail(line: &mut Line, entries: u32, lines: u32) -> Result<(), NoMemory>
     ensures stays { line.new.before ≡ line.old.before }
