@@ -1,0 +1,45 @@
+-- The lines of a report, each with its line feed.
+use Rattle.std.specs.Prelude.{ℕ, List, ◌++◌, codes, Option}
+use Rattle.std.specs.Option.{option_map_or}
+use Rattle.std.specs.Fmt.{decimal}
+use Rattle.ix_label.specs.Category.{Categories}
+use Rattle.ix_model.specs.History.{Event}
+use Rattle.ix_model.specs.declared.reply.Reply.{Reply}
+use Rattle.ix_model.specs.declared.audit.AuditLine.{AuditLine}
+use Rattle.ix_model.specs.declared.views.ObjView.{ObjView}
+use Rattle.ix_model.specs.declared.views.ProcView.{ProcView}
+use Rattle.ix_label.specs.Spelling.{spelling}
+use Rattle.ix_report.specs.Words.{kind_text, state_text, life_text}
+use Rattle.ix_report.specs.CallText.{call_text}
+use Rattle.ix_report.specs.ReplyText.{reply_text, audit_text}
+
+-- the first line
+unfoldable pub head_line : List ℕ
+head_line = codes "ix 1 report\n"
+
+-- the label of the caller's record, or that there is no such record
+abbrev pub seen_text : Option Categories → List ℕ
+seen_text label = option_map_or spelling label (codes "none")
+
+-- an entry: its place in the history, its lane, its line of the script, the call, the reply, and the caller's label after it
+unfoldable pub entry_line : ℕ → List ℕ → Event → Reply → List ℕ → Option Categories → List ℕ
+entry_line place lane e reply bytes label =
+    decimal place ++ codes " " ++ lane ++ codes " " ++ decimal e.line ++ codes " " ++ call_text e.pid e.op
+    ++ codes " = " ++ reply_text reply bytes ++ codes " @ " ++ seen_text label ++ codes "\n"
+
+-- an object
+unfoldable pub object_line : ℕ → ObjView → List ℕ
+object_line number view =
+    decimal number ++ codes " " ++ kind_text view.kind ++ codes " " ++ spelling view.label ++ codes " " ++ state_text view.frozen ++ codes "\n"
+
+-- a process
+unfoldable pub process_line : ℕ → ProcView → List ℕ
+process_line pid view = codes "p" ++ decimal pid ++ codes " " ++ spelling view.label ++ codes " " ++ life_text view.ended ++ codes "\n"
+
+-- a line of the audit log
+unfoldable pub audit_line : AuditLine → List ℕ
+audit_line line = audit_text line ++ codes "\n"
+
+-- the last line: how many entries and audit lines there are
+unfoldable pub tail_line : ℕ → ℕ → List ℕ
+tail_line entries lines = codes "end " ++ decimal entries ++ codes " " ++ decimal lines ++ codes "\n"

@@ -1,0 +1,16 @@
+//! The lines of a report: each call appends one to bytes, or leaves them as they were.
+#![tactic(auto)]
+
+mod calls;
+mod labels;
+mod line;
+mod pieces;
+mod refusals;
+mod replies;
+mod report;
+mod words;
+
+pub use report::{audit_line, entry_line, head, object_line, process_line, tail};
+
+#[cfg(test)]
+mod tests;

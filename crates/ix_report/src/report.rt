@@ -1,0 +1,182 @@
+ghost use Rattle.std.specs.Prelude.{◌≡◌, ◌++◌, OnOk, OnErr};
+ghost use Rattle.std.specs.Option.{option_copied};
+ghost use Rattle.ix_model.specs.Calls.{event_of};
+ghost use Rattle.ix_report.specs.ReplyText.{AreBytesOf};
+ghost use Rattle.ix_report.specs.LineText.{audit_line, entry_line, head_line, object_line, process_line, seen_text, tail_line};
+
+use crate::calls::push_call;
+use crate::labels::push_label;
+use crate::line::Line;
+use crate::pieces::push_number;
+use crate::replies::{push_audit, push_reply};
+use crate::words::{kind_word, life_word, state_word};
+use ix_label::Label;
+use ix_model::{AuditLine, Entry, NoMemory, ObjView, Pid, ProcView, Reply};
+
+/// Appends the first line. After `NoMemory` the bytes are as they were.
+#[tactic(auto, unfolding(crate::specs::LineText::head_line))]
+pub fn head(out: &mut Vec<u8>) -> Result<(), NoMemory>
+    ensures ok { OnOk result (out.new.items ≡ out.old.items ++ head_line) }
+    ensures err { OnErr result (out.new.items ≡ out.old.items) }
+{
+    let mut line = Line::begin(out);
+    let written = line.push(b"ix 1 report\n");
+    line.end(out, written)
+}
+
+/// Appends the line of an entry: its place in the history, the name of its lane, its line of the script, the
+/// call and the reply, and the label of the caller's record after the entry, where there is one. `bytes` are those
+/// that were read, where the reply says that some were; else they don't matter. After `NoMemory` the bytes of
+/// `out` are as they were.
+pub fn entry_line(
+    out: &mut Vec<u8>,
+    place: u32,
+    lane: &[u8],
+    entry: &Entry<'_>,
+    reply: &Reply,
+    bytes: &[u8],
+    label: Option<&Label>,
+) -> Result<(), NoMemory>
+    requires { AreBytesOf reply.now bytes.now }
+    ensures ok { OnOk result (out.new.items ≡ out.old.items
+        ++ entry_line place lane.now (event_of entry.now) reply.now bytes.now (option_copied label.entry)) }
+    ensures err { OnErr result (out.new.items ≡ out.old.items) }
+{
+    let mut line = Line::begin(out);
+    let written = push_entry(&mut line, place, lane, entry, reply, bytes, label);
+    line.end(out, written)
+}
+
+/// Appends the line of an object. After `NoMemory` the bytes are as they were.
+pub fn object_line(out: &mut Vec<u8>, number: u32, view: &ObjView) -> Result<(), NoMemory>
+    ensures ok { OnOk result (out.new.items ≡ out.old.items ++ object_line number view.now) }
+    ensures err { OnErr result (out.new.items ≡ out.old.items) }
+{
+    let mut line = Line::begin(out);
+    let written = push_object(&mut line, number, view);
+    line.end(out, written)
+}
+
+/// Appends the line of a process. After `NoMemory` the bytes are as they were.
+pub fn process_line(out: &mut Vec<u8>, pid: Pid, view: &ProcView) -> Result<(), NoMemory>
+    ensures ok { OnOk result (out.new.items ≡ out.old.items ++ process_line pid.0 view.now) }
+    ensures err { OnErr result (out.new.items ≡ out.old.items) }
+{
+    let mut line = Line::begin(out);
+    let written = push_process(&mut line, pid, view);
+    line.end(out, written)
+}
+
+/// Appends a line of the audit log. After `NoMemory` the bytes are as they were.
+pub fn audit_line(out: &mut Vec<u8>, line: &AuditLine) -> Result<(), NoMemory>
+    ensures ok { OnOk result (out.new.items ≡ out.old.items ++ audit_line line.entry.now) }
+    ensures err { OnErr result (out.new.items ≡ out.old.items) }
+{
+    let mut text = Line::begin(out);
+    let written = push_audit_line(&mut text, line);
+    text.end(out, written)
+}
+
+/// Appends the last line: how many entries and audit lines there are. After `NoMemory` the bytes are as they were.
+pub fn tail(out: &mut Vec<u8>, entries: u32, lines: u32) -> Result<(), NoMemory>
+    ensures ok { OnOk result (out.new.items ≡ out.old.items ++ tail_line entries lines) }
+    ensures err { OnErr result (out.new.items ≡ out.old.items) }
+{
+    let mut line = Line::begin(out);
+    let written = push_tail(&mut line, entries, lines);
+    line.end(out, written)
+}
+
+/// The label of the caller's record, or that there is none.
+fn push_seen(line: &mut Line, label: Option<&Label>) -> Result<(), NoMemory>
+    ensures stays { line.new.before ≡ line.old.before }
+    ensures text { OnOk result (line.new.text ≡ line.old.text ++ seen_text (option_copied label.entry)) }
+{
+    match label {
+        Some(label) => push_label(line, label),
+        None => line.push(b"none"),
+    }
+}
+
+/// The line of an entry.
+#[tactic(auto, unfolding(crate::specs::LineText::entry_line))]
+fn push_entry(
+    line: &mut Line,
+    place: u32,
+    lane: &[u8],
+    entry: &Entry<'_>,
+    reply: &Reply,
+    bytes: &[u8],
+    label: Option<&Label>,
+) -> Result<(), NoMemory>
+    ensures stays { line.new.before ≡ line.old.before }
+    ensures text { OnOk result (line.new.text ≡ line.old.text
+        ++ entry_line place lane.now (event_of entry.now) reply.now bytes.now (option_copied label.entry)) }
+{
+    push_number(line, u64::from(place))?;
+    line.push(b" ")?;
+    line.push(lane)?;
+    line.push(b" ")?;
+    push_number(line, u64::from(entry.line))?;
+    line.push(b" ")?;
+    push_call(line, entry.pid, &entry.call)?;
+    line.push(b" = ")?;
+    push_reply(line, reply, bytes)?;
+    line.push(b" @ ")?;
+    push_seen(line, label)?;
+    line.push(b"\n")
+}
+
+/// The line of an object.
+#[tactic(auto, unfolding(crate::specs::LineText::object_line))]
+fn push_object(line: &mut Line, number: u32, view: &ObjView) -> Result<(), NoMemory>
+    ensures stays { line.new.before ≡ line.old.before }
+    ensures text { OnOk result (line.new.text ≡ line.old.text ++ object_line number view.now) }
+{
+    push_number(line, u64::from(number))?;
+    line.push(b" ")?;
+    line.push(kind_word(view.kind))?;
+    line.push(b" ")?;
+    push_label(line, &view.label)?;
+    line.push(b" ")?;
+    line.push(state_word(view.frozen))?;
+    line.push(b"\n")
+}
+
+/// The line of a process.
+#[tactic(auto, unfolding(crate::specs::LineText::process_line))]
+fn push_process(line: &mut Line, pid: Pid, view: &ProcView) -> Result<(), NoMemory>
+    ensures stays { line.new.before ≡ line.old.before }
+    ensures text { OnOk result (line.new.text ≡ line.old.text ++ process_line pid.0 view.now) }
+{
+    line.push(b"p")?;
+    push_number(line, u64::from(pid.0))?;
+    line.push(b" ")?;
+    push_label(line, &view.label)?;
+    line.push(b" ")?;
+    line.push(life_word(view.ended))?;
+    line.push(b"\n")
+}
+
+/// A line of the audit log.
+#[tactic(auto, unfolding(crate::specs::LineText::audit_line))]
+fn push_audit_line(line: &mut Line, audit: &AuditLine) -> Result<(), NoMemory>
+    ensures stays { line.new.before ≡ line.old.before }
+    ensures text { OnOk result (line.new.text ≡ line.old.text ++ audit_line audit.entry.now) }
+{
+    push_audit(line, audit)?;
+    line.push(b"\n")
+}
+
+/// The last line.
+#[tactic(auto, unfolding(crate::specs::LineText::tail_line))]
+fn push_tail(line: &mut Line, entries: u32, lines: u32) -> Result<(), NoMemory>
+    ensures stays { line.new.before ≡ line.old.before }
+    ensures text { OnOk result (line.new.text ≡ line.old.text ++ tail_line entries lines) }
+{
+    line.push(b"end ")?;
+    push_number(line, u64::from(entries))?;
+    line.push(b" ")?;
+    push_number(line, u64::from(lines))?;
+    line.push(b"\n")
+}

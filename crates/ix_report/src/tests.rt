@@ -1,0 +1,251 @@
+ghost use Rattle.std.specs.Prelude.{[]};
+ghost use Rattle.ix_report.specs.ReplyText.{AreBytesOf};
+
+use crate::{audit_line, entry_line, head, object_line, process_line, tail};
+use bitflags::Flags;
+use ix_label::Label;
+use ix_model::{
+    Act, AuditLine, Call, Entry, Fd, Keep, Kind, Mode, Name, NoMemory, Obj, ObjView, Path, Pid,
+    PrivSet, ProcView, Refusal, Reply,
+};
+use std::test::Fail;
+
+#[test]
+fn prints_each_kind_of_line(rt: HostRuntime) -> Result<(), Fail> {
+    let mut out = Vec::new(rt.alloc());
+    let three = Label::bottom().with(3);
+    let read = Entry {
+        seat: 0,
+        line: 7,
+        pid: Pid(1),
+        call: Call::ReadFd {
+            fd: Fd(0),
+            count: 8,
+        },
+    };
+    let audit = AuditLine {
+        place: 3,
+        pid: Pid(3),
+        act: Act::DownFile,
+        target: 1,
+        was: three,
+        now: Label::bottom(),
+        cap: PrivSet::empty(),
+        lic: PrivSet::empty(),
+    };
+    head(&mut out)?;
+    entry_line(
+        &mut out,
+        2,
+        b"m",
+        &read,
+        &Reply::Bytes(2),
+        b"hi",
+        Some(&three),
+    )?;
+    entry_line(
+        &mut out,
+        2,
+        b"m",
+        &read,
+        &Reply::No(Refusal::ProcCeiling),
+        b"",
+        Some(&Label::bottom()),
+    )?;
+    entry_line(
+        &mut out,
+        3,
+        b"m",
+        &read,
+        &Reply::No(Refusal::NoProcess),
+        b"",
+        None,
+    )?;
+    object_line(
+        &mut out,
+        1,
+        &ObjView {
+            kind: Kind::File,
+            label: three,
+            frozen: false,
+        },
+    )?;
+    process_line(
+        &mut out,
+        Pid(1),
+        &ProcView {
+            label: three,
+            ended: false,
+        },
+    )?;
+    audit_line(&mut out, &audit)?;
+    tail(&mut out, 3, 0)?;
+    let text = b"ix 1 report\n\
+        2 m 7 read p1 0 8 = bytes 2 x6869 @ 3\n\
+        2 m 7 read p1 0 8 = no 12 ProcCeiling @ -\n\
+        3 m 7 read p1 0 8 = no 1 NoProcess @ none\n\
+        1 file 3 free\n\
+        p1 3 live\n\
+        3 p3 downfile 1 3 - - -\n\
+        end 3 0\n";
+    assert_eq!(rt; out.as_slice(), text.as_slice());
+    Ok(())
+}
+
+/// The line of a reply that no bytes go with.
+fn answer(out: &mut Vec<u8>, reply: &Reply) -> Result<(), NoMemory>
+    requires { AreBytesOf reply.now [] }
+{
+    let entry = Entry {
+        seat: 0,
+        line: 7,
+        pid: Pid(1),
+        call: Call::SelfLabel,
+    };
+    entry_line(out, 1, b"m", &entry, reply, b"", None)
+}
+
+#[test]
+fn prints_each_reply(rt: HostRuntime) -> Result<(), Fail> {
+    let mut out = Vec::new(rt.alloc());
+    let high = Label::bottom().with(2).with(5).with(6);
+    let name = Name::read(b"a\"b").ok_or("no name")?;
+    let audit = AuditLine {
+        place: 13,
+        pid: Pid(1),
+        act: Act::Grant,
+        target: 3,
+        was: Label::bottom(),
+        now: Label::top(),
+        cap: PrivSet::empty(),
+        lic: PrivSet::LOG,
+    };
+    let stat = Reply::Stat {
+        obj: Obj(4),
+        kind: Kind::Pipe,
+        size: 70000,
+        links: 2,
+        frozen: true,
+        cap: PrivSet::DOWN | PrivSet::THAW,
+        lic: PrivSet::empty(),
+    };
+    answer(&mut out, &Reply::Done)?;
+    answer(&mut out, &Reply::Number(18446744073709551615))?;
+    answer(&mut out, &Reply::Two(Fd(0), Fd(31)))?;
+    answer(&mut out, &Reply::Bytes(0))?;
+    answer(&mut out, &stat)?;
+    answer(&mut out, &Reply::Lab(high))?;
+    answer(&mut out, &Reply::Named { name, obj: Obj(9) })?;
+    answer(&mut out, &Reply::Half)?;
+    answer(
+        &mut out,
+        &Reply::Whole {
+            pid: Pid(3),
+            label: high,
+            lic: PrivSet::all(),
+        },
+    )?;
+    answer(&mut out, &Reply::LogLine(audit))?;
+    answer(
+        &mut out,
+        &Reply::Child {
+            pid: Pid(2),
+            status: 255,
+        },
+    )?;
+    answer(&mut out, &Reply::No(Refusal::InUse))?;
+    let text = b"1 m 7 self p1 = done @ none\n\
+        1 m 7 self p1 = number 18446744073709551615 @ none\n\
+        1 m 7 self p1 = two 0 31 @ none\n\
+        1 m 7 self p1 = bytes 0 x @ none\n\
+        1 m 7 self p1 = stat 4 pipe 70000 2 frozen DT - @ none\n\
+        1 m 7 self p1 = label 2,5-6 @ none\n\
+        1 m 7 self p1 = entry a\\x22b 9 @ none\n\
+        1 m 7 self p1 = half @ none\n\
+        1 m 7 self p1 = whole p3 2,5-6 DPCTL @ none\n\
+        1 m 7 self p1 = log 13 p1 grant 3 - * - L @ none\n\
+        1 m 7 self p1 = child p2 255 @ none\n\
+        1 m 7 self p1 = no 38 InUse @ none\n";
+    assert_eq!(rt; out.as_slice(), text.as_slice());
+    Ok(())
+}
+
+#[test]
+fn prints_arguments(rt: HostRuntime) -> Result<(), Fail> {
+    let mut out = Vec::new(rt.alloc());
+    let one = Name::read(b"a\\\x7f").ok_or("no name")?;
+    let two = Name::read(b"!~").ok_or("no name")?;
+    let mut rooted = Path::new(true);
+    assert!(rt; rooted.push(one));
+    assert!(rt; rooted.push(two));
+    let mut path = Path::new(false);
+    assert!(rt; path.push(two));
+    assert!(rt; path.push(two));
+    let (seat, line, pid) = (0, 7, Pid(1));
+    let entries = [
+        Entry {
+            seat,
+            line,
+            pid,
+            call: Call::OpenAt {
+                path: rooted,
+                mode: Mode::Both,
+            },
+        },
+        Entry {
+            seat,
+            line,
+            pid,
+            call: Call::WriteFd {
+                fd: Fd(1),
+                bytes: b"\x00\xfa",
+            },
+        },
+        Entry {
+            seat,
+            line,
+            pid,
+            call: Call::LinkAt {
+                target: path,
+                path: Path::new(true),
+            },
+        },
+        Entry {
+            seat,
+            line,
+            pid,
+            call: Call::ListAt {
+                path: Path::new(false),
+                index: 4,
+            },
+        },
+        Entry {
+            seat,
+            line,
+            pid,
+            call: Call::Fork {
+                keep: Keep::One(Fd(3)),
+            },
+        },
+        Entry {
+            seat,
+            line,
+            pid,
+            call: Call::SetCeiling {
+                pid: Pid(2),
+                label: Label::top(),
+            },
+        },
+    ];
+    for entry in &entries {
+        entry_line(&mut out, 1, b"m", entry, &Reply::Done, b"", None)?;
+    }
+    let text = b"1 m 7 open p1 /a\\x5c\\x7f/!~ rw = done @ none\n\
+        1 m 7 write p1 1 x00fa = done @ none\n\
+        1 m 7 link p1 !~/!~ / = done @ none\n\
+        1 m 7 list p1 . 4 = done @ none\n\
+        1 m 7 fork p1 3 = done @ none\n\
+        1 m 7 ceiling p1 p2 * = done @ none\n";
+    assert_eq!(rt; out.as_slice(), text.as_slice());
+    Ok(())
+}
