@@ -1,5 +1,5 @@
 -- What is left of a table where one seat has ended all others.
-use Rattle.std.proofs.Common.{◌≡◌, ℕ, ◌<◌, ◌⊎◌, List, [], ◌∷◌, ◌++◌, get_or, Option, None, Some, refl, ap, sym, ◌∙◌, subst, ⊎_elim, inl, inr, arith}
+use Rattle.std.proofs.Common.{◌≡◌, ℕ, ◌<◌, List, [], ◌++◌, get_or, Option, None, Some, refl, ap, sym, ◌∙◌, subst, ⊎_elim, inl, inr, arith}
 use Rattle.std.specs.Prelude.{All, Contains}
 use Rattle.std.proofs.lemmas.List.{append-nil}
 use Rattle.std.proofs.lemmas.List.Elements.{Contains-get_or}
@@ -16,7 +16,7 @@ use Rattle.ix_gate.specs.History.{entries_of}
 use Rattle.ix_gate.specs.View.{HasNumber}
 use Rattle.ix_gate.specs.Rule.{Book, Stands, IsKept}
 use Rattle.ix_gate.specs.Seat.{SeatState, StandsFor}
-use Rattle.ix_gate.specs.AtRest.{IsAtRest, state_of, taken_at}
+use Rattle.ix_gate.specs.AtRest.{IsAtRest, state_of}
 use Rattle.ix_gate.proofs.Entries.{entries_of-rest, entries_of-front, nil_from_entries, entries_of-has}
 use Rattle.ix_gate.proofs.Views.{same_at, Rule}
 use Rattle.ix_gate.proofs.Resting.{idle_of}
@@ -42,12 +42,12 @@ module _ {M B E : Type 0} (base_of : M → B) (history_of : M → List E) (seat 
       let few = r.few_seats in
       let seen = f.seen in
       let nothing : (n : ℕ) → entries_of seat n (seen.0) ≡ [] = λ n. entries_of-rest seat n m.0.seen g.published seen (dite (dec_lt n g.made)
-          (λ l. (its_owner g s r id m gate number turns n at known (all n (omega arith))).1)
-          (λ l. let none_there = r.unmade n (omega arith) in entries_of-front seat n m.0.seen g.published seen none_there ∙ sym none_there)) in
+      (λ l. (its_owner g s r id m gate number turns n at known (all n (omega arith))).1)
+      (λ l. let none_there = r.unmade n (omega arith) in entries_of-front seat n m.0.seen g.published seen none_there ∙ sym none_there)) in
       let whole : g.published ≡ m.0.seen = sym seen.1 ∙ (ap (λ z. m.0.seen ++ z) (nil_from_entries seat (seen.0) nothing) ∙ append-nil m.0.seen) in
       let stands : (e : E) → Contains (history_of y) e → StandsFor (state_of gate number turns m.0) (seat e) = λ e h. dite (dec_lt (seat e) g.made)
-          (λ l. all (seat e) (omega arith))
-          (λ l. absurd (entries_of-has seat e (history_of y) h (ap (entries_of seat (seat e)) has ∙ r.unmade (seat e) (omega arith)))) in (
+      (λ l. all (seat e) (omega arith))
+      (λ l. absurd (entries_of-has seat e (history_of y) h (ap (entries_of seat (seat e)) has ∙ r.unmade (seat e) (omega arith)))) in (
         y,
         some-injective x (Some y) (sym there ∙ home 0 (Some y) (ap (λ (hs : List (Home (Option M))). get_elem? hs 0) is)),
         ⊎_elim (λ (e : m.0.base ≡ None). absurd (cc (sym e ∙ known.based.1))) (λ (e : m.0.base ≡ Some base). e ∙ ap Some (sym based)) f.based,

@@ -1,5 +1,5 @@
 -- A look by a seat with a ticket keeps the rule, whether it finds its ticket or not.
-use Rattle.std.proofs.Common.{◌≡◌, ◌≢◌, ℕ, ◌≤◌, ◌<◌, ◌⊎◌, List, [], ◌∷◌, get_or, set, Option, None, Some, refl, ap, sym, ◌∙◌, subst, inl, inr, arith}
+use Rattle.std.proofs.Common.{◌≡◌, ◌≢◌, ℕ, ◌⊎◌, List, [], ◌∷◌, get_or, set, Option, None, Some, refl, ap, sym, ◌∙◌, subst, inl, inr, arith}
 use mathlib.Core.Logic.{dite}
 use mathlib.Core.Option.{Option as Home, none, some}
 use mathlib.Core.List.{IsPrefix}

@@ -1,5 +1,5 @@
 -- What a seat has seen goes to another: a note is cut off and taken in, a seat is joined into another, and a look shows what was told.
-use Rattle.std.proofs.Common.{◌≡◌, ◌≢◌, ℕ, ◌+◌, ◌<◌, ◌≤◌, ◌⊎◌, List, [], ◌∷◌, ◌++◌, length, get_or, set, Option, Some, refl, ap, sym, ◌∙◌, subst, ⊎_elim, inl, inr, arith, eqb, cond, ne_eqb, eq-eqb, le_refl}
+use Rattle.std.proofs.Common.{◌≡◌, ◌≢◌, ℕ, ◌<◌, List, ◌∷◌, length, get_or, set, Option, refl, ap, sym, ◌∙◌, subst, ⊎_elim, inl, inr, arith, eqb, cond, ne_eqb, eq-eqb, le_refl}
 use Rattle.std.specs.Prelude.{Contains}
 use Rattle.std.proofs.lemmas.List.Elements.{Contains-append_cases}
 use mathlib.Core.Logic.{dite}
@@ -14,9 +14,9 @@ use Rattle.ix_gate.specs.declared.view.Role.{Role}
 use Rattle.ix_gate.specs.declared.view.Role.TheVariants.{Numbered}
 use Rattle.ix_gate.specs.declared.view.Stage.{Stage}
 use Rattle.ix_gate.specs.declared.view.Stage.TheVariants.{Idle, Waits, Holds}
-use Rattle.ix_gate.specs.History.{entries_of, longer}
+use Rattle.ix_gate.specs.History.{entries_of}
 use Rattle.ix_gate.specs.View.{HasNumber, number_of, spent_view, with_free_look, note, with_note, with_seat}
-use Rattle.ix_gate.specs.Rule.{most_turns, total_turns, IsNumbered, Book, HasTicket, Stands, Fits}
+use Rattle.ix_gate.specs.Rule.{total_turns, IsNumbered, Book, HasTicket, Stands, Fits}
 use Rattle.ix_gate.specs.Steps.{FreeLooks}
 use Rattle.ix_gate.proofs.Prefixes.{prefix_shorter, by_length}
 use Rattle.ix_gate.proofs.Entries.{contains-nil, contains-cons, entries_of-longer}
@@ -137,18 +137,18 @@ module _ {M B E : Type 0} (base_of : M → B) (history_of : M → List E) (seat 
       let not_mine : (k : ℕ) → g.owner k ≡ other → ¬ HasNumber v.role k = λ k e o. apart (sym e ∙ (f.number k o).0) in
       let Ended : ℕ → List E → Type 0 = λ k es. (owner k ≡ id) × (k < g.made) × (entries_of seat k p ≡ es) × ¬ HasNumber v.role k × (entries_of seat k u.seen ≡ es) in
       let ended : (k : ℕ) (es : List E) → Contains u.ended (k, es) → Ended k es = λ k es o. ⊎_elim
-          (λ (a : Contains v.ended (k, es)). let t = f.ended k es a in
-              (takes_over-else g.owner id other id k t.0 away, t.1, t.2, t.3, entries_of-longer seat k es v.seen w.seen p f.seen q.seen t.2 (inl (f.agrees.1 k es a))))
-          (λ (a : Contains ((number_of w.role, w.own) ∷ w.ended) (k, es)). ⊎_elim
-              (λ (b : (number_of w.role, w.own) ≡ (k, es)).
-                  let kn : m ≡ k = sym (ap number_of named) ∙ ap (λ (x : ℕ × List E). x.0) b in
-                  let en : w.own ≡ es = ap (λ (x : ℕ × List E). x.1) b in
-                  subst (λ (x : ℕ × List E). Ended x.0 x.1) (λ i. (kn i, en i))
-                  (takes_over-other g.owner id other m theirs.0, theirs.1, theirs.3, not_mine m theirs.0, entries_of-longer seat m w.own v.seen w.seen p f.seen q.seen theirs.3 (inr (q.agrees.0 m its))))
-              (λ (b : Contains w.ended (k, es)). let t = q.ended k es b in
-                  (takes_over-other g.owner id other k t.0, t.1, t.2, not_mine k t.0, entries_of-longer seat k es v.seen w.seen p f.seen q.seen t.2 (inr (q.agrees.1 k es b))))
-              (contains-cons (number_of w.role, w.own) w.ended (k, es) a))
-          (Contains-append_cases v.ended ((number_of w.role, w.own) ∷ w.ended) (k, es) o) in
+      (λ (a : Contains v.ended (k, es)). let t = f.ended k es a in
+      (takes_over-else g.owner id other id k t.0 away, t.1, t.2, t.3, entries_of-longer seat k es v.seen w.seen p f.seen q.seen t.2 (inl (f.agrees.1 k es a))))
+      (λ (a : Contains ((number_of w.role, w.own) ∷ w.ended) (k, es)). ⊎_elim
+      (λ (b : (number_of w.role, w.own) ≡ (k, es)).
+      let kn : m ≡ k = sym (ap number_of named) ∙ ap (λ (x : ℕ × List E). x.0) b in
+      let en : w.own ≡ es = ap (λ (x : ℕ × List E). x.1) b in
+      subst (λ (x : ℕ × List E). Ended x.0 x.1) (λ i. (kn i, en i))
+      (takes_over-other g.owner id other m theirs.0, theirs.1, theirs.3, not_mine m theirs.0, entries_of-longer seat m w.own v.seen w.seen p f.seen q.seen theirs.3 (inr (q.agrees.0 m its))))
+      (λ (b : Contains w.ended (k, es)). let t = q.ended k es b in
+      (takes_over-other g.owner id other k t.0, t.1, t.2, not_mine k t.0, entries_of-longer seat k es v.seen w.seen p f.seen q.seen t.2 (inr (q.agrees.1 k es b))))
+      (contains-cons (number_of w.role, w.own) w.ended (k, es) a))
+      (Contains-append_cases v.ended ((number_of w.role, w.own) ∷ w.ended) (k, es) o) in
       joined s r owner id other v u w at there idle rests record {
         based = f.based;
         sized = f.sized;

@@ -1,5 +1,5 @@
 -- Passing the turn on keeps the rule.
-use Rattle.std.proofs.Common.{◌≡◌, ◌≢◌, ℕ, suc, ◌+◌, ◌%◌, ◌<◌, ◌≤◌, ◌⊎◌, List, [], ◌∷◌, get_or, set, Option, None, Some, refl, ap, sym, ◌∙◌, subst, inl, inr, arith}
+use Rattle.std.proofs.Common.{◌≡◌, ◌≢◌, ℕ, suc, ◌+◌, ◌%◌, ◌<◌, ◌⊎◌, List, [], ◌∷◌, get_or, set, Option, None, Some, refl, ap, sym, ◌∙◌, subst, inl, inr, arith}
 use mathlib.Core.Option.{Option as Home, none, some}
 use lib.ListN.{get_elem?}
 use base.Growing.{prefix_refl, prefix_trans}

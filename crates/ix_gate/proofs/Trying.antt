@@ -1,5 +1,5 @@
 -- A draw of the number that was found served keeps the rule, whether it succeeds or not.
-use Rattle.std.proofs.Common.{◌≡◌, ◌≢◌, ℕ, ◌+◌, ◌<◌, ◌≤◌, ◌⊎◌, List, [], ◌∷◌, get_or, set, Option, None, Some, refl, ap, sym, ◌∙◌, subst, inl, inr, arith, eqb}
+use Rattle.std.proofs.Common.{◌≡◌, ◌≢◌, ℕ, ◌+◌, ◌<◌, ◌≤◌, List, [], ◌∷◌, get_or, set, Option, Some, refl, ap, sym, ◌∙◌, subst, inl, inr, arith, eqb}
 use mathlib.Core.Option.{Option as Home, none, some}
 use prog.Atomic.{either}
 use lib.ListN.{get_elem?}
@@ -8,12 +8,11 @@ use Rattle.atomic_table.proofs.Lists.{set_here, exchanged}
 use Rattle.ix_gate.specs.declared.view.View.{View}
 use Rattle.ix_gate.specs.declared.view.Role.{Role}
 use Rattle.ix_gate.specs.declared.view.Role.TheVariants.{Numbered}
-use Rattle.ix_gate.specs.declared.view.Stage.{Stage}
 use Rattle.ix_gate.specs.declared.view.Stage.TheVariants.{Idle, Holds}
 use Rattle.ix_gate.specs.View.{HasNumber, with_ticket, with_look, with_miss}
 use Rattle.ix_gate.specs.Rule.{most_turns, Book, Stands, Fits, IsKept}
 use Rattle.ix_gate.specs.Steps.{TriesDraw}
-use Rattle.ix_gate.proofs.Counts.{put, put_here, total_turns_fit}
+use Rattle.ix_gate.proofs.Counts.{put, put_here}
 use Rattle.ix_gate.proofs.Views.{at_lt, each_set, seats_known, unmoved, MaySet, Rule}
 use Rattle.ix_gate.proofs.Drawing.{with_draw, draw_counted, draw_few, draw_queued, draw_stands, draw_fits, draw_fits_other}
 use Rattle.ix_gate.proofs.Looking.{away_stands, takes_from_home}

@@ -3,8 +3,7 @@ ghost use Rattle.std.specs.Prelude.{◌≡◌, ℕ, ◌+◌, ◌<◌, ◌≤◌,
 ghost use Rattle.ix_gate.specs.declared.view.Role.TheVariants.{Next};
 ghost use Rattle.ix_gate.specs.View.{fresh};
 ghost use Rattle.ix_gate.specs.Rule.{most_seats};
-ghost use Rattle.ix_gate.specs.Gate.{GateState};
-ghost use Rattle.ix_gate.specs.Seat.{SeatState, new_seat, StandsFor};
+ghost use Rattle.ix_gate.specs.Seat.{new_seat, StandsFor};
 
 use crate::machine::Machine;
 use crate::rule::{Opening, Turns};

@@ -4,8 +4,7 @@ ghost use mathlib.Core.List.{IsPrefix};
 ghost use Rattle.ix_gate.specs.declared.view.Stage.TheVariants.{Waits};
 ghost use Rattle.ix_gate.specs.History.{entries_of, Grows, KeepsEnded, IsInLine};
 ghost use Rattle.ix_gate.specs.Rule.{most_turns};
-ghost use Rattle.ix_gate.specs.Gate.{GateState};
-ghost use Rattle.ix_gate.specs.Seat.{SeatState, own_entries, after_take, after_give, after_meeting, after_busy};
+ghost use Rattle.ix_gate.specs.Seat.{own_entries, after_take, after_give, after_meeting, after_busy};
 ghost use Rattle.ix_gate.specs.AtRest.{TakesMachine};
 
 use crate::gate::Gate;
@@ -27,8 +26,10 @@ pub struct Busy {
 // The turns that a seat may make. With 64 seats no count of tickets then comes to 2^64.
 const MOST_TURNS: u64 = 1 << 57;
 
-pub(crate) type Token<M> =
-    atomic_table::Seat<Option<M>, View<<M as Machine>::Base, <M as Machine>::Entry>>;
+pub(crate) type Token<M> = atomic_table::Seat<
+    Option<M>,
+    View<<M as Machine>::Base, <M as Machine>::Entry>,
+>;
 
 /// A seat at a gate: the right to take turns there, and what was seen of the machine's history.
 ///
@@ -115,8 +116,12 @@ impl<M: Machine> Seat<M> {
     {
         let shared = &gate.table.shared;
         let serving = shared.load::<FreeLook<M>>(&mut self.token, 1);
-        let ticket =
-            shared.compare_exchange::<TryDraw<M>>(&mut self.token, 0, serving, serving + 1);
+        let ticket = shared.compare_exchange::<TryDraw<M>>(
+            &mut self.token,
+            0,
+            serving,
+            serving + 1,
+        );
         if ticket != serving {
             return Err(Busy { serving, ticket });
         }

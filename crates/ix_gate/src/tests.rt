@@ -1,11 +1,8 @@
-ghost use Rattle.std.specs.Prelude.{◌≡◌, ℕ, ◌+◌, ◌<◌, ◌≤◌, None, [], ◌∷◌, ◌++◌, ◌⊎◌, List, All, Contains, IfOk};
-ghost use mathlib.Core.List.{IsPrefix};
+ghost use Rattle.std.specs.Prelude.{◌≡◌, ◌<◌, None, [], All, IfOk};
 ghost use Rattle.ix_gate.specs.Rule.{most_turns};
-ghost use Rattle.ix_gate.specs.Seat.{SeatState, own_entries, StandsFor};
 
 use crate::{Busy, Gate, Machine, Seat};
 use std::alloc::AllocError;
-use std::process::Abort;
 use std::sync::Wait;
 use std::test::Fail;
 use std::thread;
@@ -187,7 +184,10 @@ fn a_turn_under_way_is_busy(rt: HostRuntime) -> Result<(), Fail> {
     let (Some(mut first), Some(mut second)) = (first, second) else {
         return Err(Fail::new("a seat is missing"));
     };
-    let busy = try_twice(&rt, &gate, &mut first, &mut second);
-    assert!(rt; matches!(busy, Some(Busy { serving: 0, ticket: 1 })));
+    let Some(busy) = try_twice(&rt, &gate, &mut first, &mut second) else {
+        return Err(Fail::new("a turn was not answered as it should be"));
+    };
+    assert_eq!(rt; busy.serving, 0);
+    assert_eq!(rt; busy.ticket, 1);
     Ok(())
 }

@@ -1,4 +1,4 @@
-use Rattle.std.proofs.Common.{◌≡◌, ℕ, ◌+◌, ◌<◌, List, [], ◌∷◌, ◌++◌, ap, sym, ◌∙◌, subst, inl, inr, arith}
+use Rattle.std.proofs.Common.{◌≡◌, ℕ, ◌<◌, List, [], ◌∷◌, ◌++◌, ap, sym, ◌∙◌, subst, inl, inr, arith}
 use Rattle.std.specs.Prelude.{Contains}
 use mathlib.Core.Logic.{dite}
 use native.Mathlib.Decide.{ℕ_discrete}
@@ -13,9 +13,9 @@ close-requires-clause-all c κs =
     let made : List ℕ = own_entries (λ (z : ℕ). z) c.meet.new.other in
     let none_before : c.meet.new.self.ended ≡ [] = ap (λ x. x.ended) met ∙ c.requires.numbers.2 in
     λ n below. dite (ℕ_discrete n 0)
-        (λ first. inl (first ∙ sym (ap (λ x. x.number) joined ∙ (ap (λ x. x.number) met ∙ c.requires.numbers.0))))
-        (λ other.
-            let two : n < 2 = subst (λ (z : ℕ). n < z) c.requires.gate.2 below in
-            let one : n ≡ 1 = omega arith in
-            let its : c.meet.new.other.number ≡ n = ap (λ x. x.number) kept ∙ (c.requires.numbers.1 ∙ sym one) in
-            inr (made, subst (λ (es : List (ℕ × List ℕ)). Contains es (n, made)) (sym (ap (λ x. x.ended) joined ∙ ap (λ es. es ++ (c.meet.new.other.number, made) ∷ c.meet.new.other.ended) none_before)) (0, omega arith, λ i. (its i, made))))
+    (λ first. inl (first ∙ sym (ap (λ x. x.number) joined ∙ (ap (λ x. x.number) met ∙ c.requires.numbers.0))))
+    (λ other.
+    let two : n < 2 = subst (λ (z : ℕ). n < z) c.requires.gate.2 below in
+    let one : n ≡ 1 = omega arith in
+    let its : c.meet.new.other.number ≡ n = ap (λ x. x.number) kept ∙ (c.requires.numbers.1 ∙ sym one) in
+    inr (made, subst (λ (es : List (ℕ × List ℕ)). Contains es (n, made)) (sym (ap (λ x. x.ended) joined ∙ ap (λ es. es ++ (c.meet.new.other.number, made) ∷ c.meet.new.other.ended) none_before)) (0, omega arith, λ i. (its i, made))))

@@ -1,4 +1,4 @@
-use Rattle.std.proofs.Common.{rules, ◌≡◌, ℕ, ◌∷◌, None, subst}
+use Rattle.std.proofs.Common.{rules, ◌≡◌, ℕ, None, subst}
 use Rattle.std.specs.Prelude.{All}
 use Rattle.std.proofs.lemmas.List.Elements.{All-tail}
 use Rattle.ix_gate.specs.Seat.{SeatState}

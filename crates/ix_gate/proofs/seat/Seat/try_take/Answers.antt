@@ -1,4 +1,4 @@
-use Rattle.std.proofs.Common.{rules, ◌≡◌, ◌+◌, ◌∷◌, Some, refl, ap, sym, ◌∙◌, subst, arith}
+use Rattle.std.proofs.Common.{rules, ◌∷◌, Some, refl, ap, sym, ◌∙◌, subst, arith}
 use Rattle.ix_gate.specs.History.{KeepsEnded}
 use Rattle.atomic_table.specs.Table.{rest}
 use Rattle.ix_gate.specs.View.{with_ticket}
