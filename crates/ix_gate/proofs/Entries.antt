@@ -19,7 +19,7 @@ module _ {A : Type 0} where
 
 module _ {E : Type 0} (seat : E → ℕ) where
   -- an entry's own number counts it, and no other does
-  entries_of-own : (n : ℕ) (e : E) (es : List E) → seat e ≡ n → entries_of seat n (e ∷ es) ≡ e ∷ entries_of seat n es
+  pub entries_of-own : (n : ℕ) (e : E) (es : List E) → seat e ≡ n → entries_of seat n (e ∷ es) ≡ e ∷ entries_of seat n es
   entries_of-own n e es is = ap (λ b. cond b (e ∷ entries_of seat n es) (entries_of seat n es)) (eq-eqb (seat e) n is)
 
   entries_of-other : (n : ℕ) (e : E) (es : List E) → seat e ≢ n → entries_of seat n (e ∷ es) ≡ entries_of seat n es

@@ -4,6 +4,7 @@ pub mod Counts
 pub mod Filled
 pub mod Views
 pub mod Drawing
+pub mod Alone
 pub mod Looking
 pub mod Passing
 pub mod Numbering

@@ -1,4 +1,4 @@
--- A look by a seat with a ticket keeps the rule, whether it finds its ticket or not.
+-- A look keeps the rule: by a seat with a ticket, whether it finds that or not, and by a seat without one.
 use Rattle.std.proofs.Common.{◌≡◌, ◌≢◌, ℕ, ◌⊎◌, List, [], ◌∷◌, get_or, set, Option, None, Some, refl, ap, sym, ◌∙◌, subst, inl, inr, arith}
 use mathlib.Core.Logic.{dite}
 use mathlib.Core.Option.{Option as Home, none, some}
@@ -12,10 +12,13 @@ use Rattle.ix_gate.specs.declared.view.View.{View}
 use Rattle.ix_gate.specs.declared.view.Role.{Role}
 use Rattle.ix_gate.specs.declared.view.Stage.{Stage}
 use Rattle.ix_gate.specs.declared.view.Stage.TheVariants.{Idle, Waits, Holds}
-use Rattle.ix_gate.specs.View.{Agrees, with_look}
+use Rattle.ix_gate.specs.View.{Agrees, with_look, with_free_look}
 use Rattle.ix_gate.specs.Rule.{Book, HasTicket, Stands, Fits, IsKept}
-use Rattle.ix_gate.specs.Steps.{Takes, Looks}
-use Rattle.ix_gate.proofs.Views.{at_lt, same_at, each_set, queued_set, agrees_published, unmoved, MaySet, Rule}
+use Rattle.ix_gate.specs.Steps.{Takes, Looks, FreeLooks}
+use Rattle.ix_gate.proofs.Prefixes.{prefix_shorter}
+use Rattle.ix_gate.proofs.Counts.{total_turns_fit}
+use Rattle.ix_gate.proofs.Alone.{alone_served}
+use Rattle.ix_gate.proofs.Views.{at_lt, same_at, each_set, queued_set, agrees_published, seats_known, unmoved, MaySet, Rule}
 
 -- what others know stays so where the slot leaves its home
 pub away_stands : {M E : Type 0} (queue : ℕ → ℕ) (served next : ℕ) (published : List E) (homes : List (Home (Option M))) (m : M) (i : ℕ) (r : Role) (st : Stage E) → homes ≡ some (Some m) ∷ []
@@ -130,3 +133,38 @@ module _ {M B E : Type 0} (base_of : M → B) (history_of : M → List E) (seat 
   look_allowed slots id me t waits s r len at small = dite (ℕ_discrete (get_or s.words 1 0) t)
       (λ hit. look_hit s r slots id me t waits at hit r.kept)
       (λ miss. look_miss s r slots id me t waits at miss)
+
+  pub free_look_allowed : (slots id : ℕ) (me : Me (Option M) (View B E)) → me.0.stage ≡ Idle → Allows (Rule base_of history_of seat base seats) slots id me 1 (λ x. x) (FreeLooks seat (step slots 1 0 0 none) me)
+  free_look_allowed slots id me idle s r len at small =
+      let g : Book E = r.book in
+      let v : View B E = me.0 in
+      let found : ℕ = get_or s.words 1 0 in
+      let e : found ≡ g.served = ap (λ (ws : List ℕ). get_or ws 1 0) r.words in
+      let f = r.each id v at in
+      let few = r.few_seats in
+      let fits = total_turns_fit g.turns g.made r.few_turns (omega arith) in
+      let ordered = r.ordered in
+      let counted = r.counted in (
+        with_free_look v found,
+        keeps,
+        tt,
+        unmoved base_of history_of seat base seats s r 1 id me.1 v (with_free_look v found) at (λ h x. cc (sym idle ∙ x)) (λ t o. o) record {
+          based = f.based;
+          sized = f.sized;
+          seen = f.seen;
+          told = (g.published, refl);
+          number = f.number;
+          ended = f.ended;
+          agrees = f.agrees;
+          makes = f.makes;
+          stands = f.stands;
+          look_found = omega arith;
+        },
+        record {
+          now = refl;
+          line = λ le. prefix_shorter v.told v.seen g.published f.told f.seen le;
+          agrees = f.agrees;
+          room = omega arith;
+          alone = λ one k b is based. let a = alone_served base_of history_of seat base seats s r id k v at idle is (seats_known v.base v.seats seats b f.sized based ∙ one) in e ∙ (a.0 ∙ a.1);
+        },
+      )

@@ -1,27 +1,22 @@
 -- What a seat has seen goes to another: a note is cut off and taken in, a seat is joined into another, and a look shows what was told.
-use Rattle.std.proofs.Common.{◌≡◌, ◌≢◌, ℕ, ◌<◌, List, ◌∷◌, length, get_or, set, Option, refl, ap, sym, ◌∙◌, subst, ⊎_elim, inl, inr, arith, eqb, cond, ne_eqb, eq-eqb, le_refl}
+use Rattle.std.proofs.Common.{◌≡◌, ◌≢◌, ℕ, ◌<◌, List, ◌∷◌, length, set, Option, refl, ap, sym, ◌∙◌, subst, ⊎_elim, inl, inr, arith, eqb, cond, ne_eqb, eq-eqb}
 use Rattle.std.specs.Prelude.{Contains}
 use Rattle.std.proofs.lemmas.List.Elements.{Contains-append_cases}
-use mathlib.Core.Logic.{dite}
-use mathlib.Core.Option.{Option as Home, none, some}
+use mathlib.Core.Option.{Option as Home, some}
 use mathlib.Core.List.{IsPrefix}
-use native.Mathlib.Decide.{ℕ_discrete}
 use lib.ListN.{get_elem?}
-use Rattle.atomic_table.specs.Table.{State, Me, step, keeps, Allows, Splits, Joins}
+use Rattle.atomic_table.specs.Table.{State, Splits, Joins}
 use Rattle.atomic_table.proofs.Lists.{set_else}
 use Rattle.ix_gate.specs.declared.view.View.{View}
 use Rattle.ix_gate.specs.declared.view.Role.{Role}
 use Rattle.ix_gate.specs.declared.view.Role.TheVariants.{Numbered}
-use Rattle.ix_gate.specs.declared.view.Stage.{Stage}
-use Rattle.ix_gate.specs.declared.view.Stage.TheVariants.{Idle, Waits, Holds}
+use Rattle.ix_gate.specs.declared.view.Stage.TheVariants.{Idle}
 use Rattle.ix_gate.specs.History.{entries_of}
-use Rattle.ix_gate.specs.View.{HasNumber, number_of, spent_view, with_free_look, note, with_note, with_seat}
-use Rattle.ix_gate.specs.Rule.{total_turns, IsNumbered, Book, HasTicket, Stands, Fits}
-use Rattle.ix_gate.specs.Steps.{FreeLooks}
-use Rattle.ix_gate.proofs.Prefixes.{prefix_shorter, by_length}
+use Rattle.ix_gate.specs.View.{HasNumber, number_of, spent_view, note, with_note, with_seat}
+use Rattle.ix_gate.specs.Rule.{Book, HasTicket, Fits}
+use Rattle.ix_gate.proofs.Prefixes.{by_length}
 use Rattle.ix_gate.proofs.Entries.{contains-nil, contains-cons, entries_of-longer}
-use Rattle.ix_gate.proofs.Counts.{total_turns_fit}
-use Rattle.ix_gate.proofs.Views.{at_end, same_at, each_set, queued_set, queued_more, kept_set, kept_more, seats_known, unmoved, Rule}
+use Rattle.ix_gate.proofs.Views.{at_end, each_set, queued_set, queued_more, kept_set, kept_more, Rule}
 
 module _ {M B E : Type 0} (base_of : M → B) (history_of : M → List E) (seat : E → ℕ) (base : B) (seats : ℕ) where
   pub note_allowed : (id : ℕ) (v : View B E) → v.stage ≡ Idle → Splits (Rule base_of history_of seat base seats) id v v (note v)
@@ -177,68 +172,3 @@ module _ {M B E : Type 0} (base_of : M → B) (history_of : M → List E) (seat 
         look_found = z.look_found;
       })
       apart
-
-  -- a seat with a ticket has a number
-  ticket_number : (queue : ℕ → ℕ) (served next : ℕ) (published : List E) (homes : List (Home (Option M))) (i : ℕ) (r : Role) (st : Stage E) → HasTicket served served st → Stands queue served next published homes i r st → IsNumbered r
-  ticket_number queue served next published homes i r Idle o k = absurd o
-  ticket_number queue served next published homes i r (Waits t) o k = k.3
-  ticket_number queue served next published homes i r (Holds h) o k = k.2
-
-  -- at a gate of one seat, where it has no ticket, all of its turns were served
-  pub alone_served : (s : State (Option M) (View B E)) (r : Rule base_of history_of seat base seats s) (id n : ℕ) (v : View B E) → get_elem? s.views id ≡ some v → v.stage ≡ Idle → v.role ≡ Numbered n → seats ≡ 1
-      → (r.book.served ≡ r.book.next) × (r.book.next ≡ v.turns)
-  alone_served s r id n v at idle is one =
-      let g : Book E = r.book in
-      let few = r.few_seats in
-      let ordered = r.ordered in
-      let f = r.each id v at in
-      let mine = f.number n (subst (λ (x : Role). HasNumber x n) (sym is) refl) in
-      let lt : n < g.made = mine.1 in
-      let first : n ≡ 0 = omega arith in
-      let made : g.made ≡ 1 = omega arith in
-      let turns : total_turns g.turns 1 ≡ v.turns = let a : g.turns 0 ≡ v.turns = subst (λ (z : ℕ). g.turns z ≡ v.turns) first mine.2 in omega arith in (
-        dite (ℕ_discrete g.served g.next) (λ e. e) (λ ne.
-            let q = r.queued g.served (le_refl g.served) (omega arith) in
-            let h = r.each (g.queue g.served) q.0 q.1 in
-            let k = ticket_number g.queue g.served g.next g.published s.homes (g.queue g.served) q.0.role q.0.stage q.2 h.stands in
-            let its = h.number k.0 (subst (λ (x : Role). HasNumber x k.0) (sym k.1) refl) in
-            let its_lt : k.0 < g.made = its.1 in
-            let same : g.queue g.served ≡ id = sym its.0 ∙ (ap g.owner (let z : k.0 ≡ n = omega arith in z) ∙ mine.0) in
-            absurd (subst (λ (z : Stage E). HasTicket g.served g.served z) (ap (λ (z : View B E). z.stage) (same_at s.views (g.queue g.served) id q.0 v q.1 at same) ∙ idle) q.2)),
-        r.counted ∙ (ap (total_turns g.turns) made ∙ turns),
-      )
-
-  pub free_look_allowed : (slots id : ℕ) (me : Me (Option M) (View B E)) → me.0.stage ≡ Idle → Allows (Rule base_of history_of seat base seats) slots id me 1 (λ x. x) (FreeLooks seat (step slots 1 0 0 none) me)
-  free_look_allowed slots id me idle s r len at small =
-      let g : Book E = r.book in
-      let v : View B E = me.0 in
-      let found : ℕ = get_or s.words 1 0 in
-      let e : found ≡ g.served = ap (λ (ws : List ℕ). get_or ws 1 0) r.words in
-      let f = r.each id v at in
-      let few = r.few_seats in
-      let fits = total_turns_fit g.turns g.made r.few_turns (omega arith) in
-      let ordered = r.ordered in
-      let counted = r.counted in (
-        with_free_look v found,
-        keeps,
-        tt,
-        unmoved base_of history_of seat base seats s r 1 id me.1 v (with_free_look v found) at (λ h x. cc (sym idle ∙ x)) (λ t o. o) record {
-          based = f.based;
-          sized = f.sized;
-          seen = f.seen;
-          told = (g.published, refl);
-          number = f.number;
-          ended = f.ended;
-          agrees = f.agrees;
-          makes = f.makes;
-          stands = f.stands;
-          look_found = omega arith;
-        },
-        record {
-          now = refl;
-          line = λ le. prefix_shorter v.told v.seen g.published f.told f.seen le;
-          agrees = f.agrees;
-          room = omega arith;
-          alone = λ one k b is based. let a = alone_served s r id k v at idle is (seats_known v.base v.seats seats b f.sized based ∙ one) in e ∙ (a.0 ∙ a.1);
-        },
-      )

@@ -14,6 +14,7 @@ use Rattle.ix_gate.proofs.Entries.{contains-nil}
 use Rattle.ix_gate.proofs.Counts.{put, put_here, put_else, put_holds, total_turns-same, mod_fits}
 use Rattle.ix_gate.proofs.Views.{at_end, each_set, queued_set, queued_more, kept_set, kept_more, Rule}
 
+-- the book of a new table
 abbrev first_book : {E : Type 0} → Book E
 first_book = record { next = 0; served = 0; made = 0; published = []; queue = λ _. 0; owner = λ _. 0; turns = λ _. 0; maker = 0 }
 

@@ -16,7 +16,7 @@ use Rattle.ix_gate.proofs.Counts.{put, put_here}
 use Rattle.ix_gate.proofs.Views.{at_lt, each_set, seats_known, unmoved, MaySet, Rule}
 use Rattle.ix_gate.proofs.Drawing.{with_draw, draw_counted, draw_few, draw_queued, draw_stands, draw_fits, draw_fits_other}
 use Rattle.ix_gate.proofs.Looking.{away_stands, takes_from_home}
-use Rattle.ix_gate.proofs.Meeting.{alone_served}
+use Rattle.ix_gate.proofs.Alone.{alone_served}
 
 module _ {M B E : Type 0} (base_of : M → B) (history_of : M → List E) (seat : E → ℕ) (base : B) (seats : ℕ) where
   try_hit : (s : State (Option M) (View B E)) (r : Rule base_of history_of seat base seats s) (slots id : ℕ) (me : Me (Option M) (View B E)) (n old : ℕ) → me.0.stage ≡ Idle → me.0.role ≡ Numbered n → me.0.turns < most_turns → me.0.look_found ≡ old

@@ -62,6 +62,7 @@ seats_known known mine seats b (inl e) is = absurd (cc (sym e ∙ is))
 seats_known known mine seats b (inr e) is = sym e
 
 module _ {M B E : Type 0} (base_of : M → B) (history_of : M → List E) (seat : E → ℕ) (base : B) (seats : ℕ) where
+  -- the rule of the table of this gate
   abbrev pub Rule : State (Option M) (View B E) → Type 0
   Rule = Obeys base_of history_of seat base seats
 

@@ -48,6 +48,7 @@ MayMake made maker i (Next k) = (i ≡ maker) × (k ≡ made)
 MayMake made maker i (Made k) = (i ≡ maker) × (k + 1 ≡ made)
 MayMake made maker i (Numbered k) = Unit {0}
 
+-- the role is that of a seat
 abbrev pub IsNumbered : Role → Type 0
 IsNumbered r = (n : ℕ) × (r ≡ Numbered n)
 

@@ -4,7 +4,7 @@ use Rattle.atomic_table.specs.Seated.{TableId}
 use Rattle.ix_gate.specs.History.{entries_of, longer}
 
 pub record SeatState (B E : Type 0) : Type 0 where
-  -- the gate that it was made with, how many seats that has, and the base of its machine
+  -- the gate that it was made with, how many seats that has, and the base of its machine, which each seat that a call gives has
   pub gate : TableId
   pub seats : ℕ
   pub base : Option B

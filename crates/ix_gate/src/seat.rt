@@ -15,8 +15,9 @@ use crossbeam_utils::Backoff;
 use std::marker::Model;
 use std::sync::Wait;
 
-/// Another turn was under way, or waited for: the number that `try_take` found served, and the
-/// next ticket, which its exchange then found. The two differ.
+/// The next ticket was not the number that is served: a turn was under way or waited for, or began
+/// just then. These are the number that `try_take` found served, and the ticket that its exchange
+/// found after that.
 #[derive(Debug, Drop)]
 pub struct Busy {
     pub serving: u64,
@@ -98,8 +99,9 @@ impl<M: Machine> Seat<M> {
     /// Takes the machine where nobody has a ticket, and waits for nobody. What `take` says of the
     /// machine and the seat holds of an `Ok`.
     ///
-    /// `Busy` comes where the next ticket was not the number that this call had found served. The
-    /// seat keeps both numbers, and else stays as it was. With one seat it never comes.
+    /// `Busy` comes just where the exchange finds another ticket next than the number that was
+    /// found served. The seat keeps both numbers, which differ, and else stays as it was. At a gate
+    /// of one seat it never comes.
     pub fn try_take(&mut self, gate: &Gate<M>) -> Result<M, Busy>
         requires gate { self.old.gate ≡ gate.now.id }
         requires free { self.old.taken ≡ None }

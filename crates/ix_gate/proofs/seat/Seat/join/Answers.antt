@@ -1,6 +1,7 @@
 use Rattle.std.proofs.Common.{rules, refl, ap, ◌∙◌}
 use Rattle.ix_gate.specs.View.{with_seat}
-use Rattle.ix_gate.proofs.Meeting.{end_allowed, free_look_allowed}
+use Rattle.ix_gate.proofs.Looking.{free_look_allowed}
+use Rattle.ix_gate.proofs.Meeting.{end_allowed}
 use Rattle.ix_gate.proofs.Resting.{idle_of, at_rest_after_look}
 use Rattle.ix_gate.proofs.seat.Seat.join.Goals as goal
 

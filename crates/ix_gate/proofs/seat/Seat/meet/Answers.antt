@@ -1,7 +1,8 @@
 use Rattle.std.proofs.Common.{rules, refl, ap, sym, ◌∙◌, subst}
 use Rattle.ix_gate.specs.AtRest.{IsAtRest}
 use Rattle.ix_gate.specs.View.{with_note}
-use Rattle.ix_gate.proofs.Meeting.{note_allowed, take_note_allowed, free_look_allowed}
+use Rattle.ix_gate.proofs.Looking.{free_look_allowed}
+use Rattle.ix_gate.proofs.Meeting.{note_allowed, take_note_allowed}
 use Rattle.ix_gate.proofs.Resting.{idle_of, at_rest_after_look}
 use Rattle.ix_gate.proofs.seat.Seat.meet.Goals as goal
 
