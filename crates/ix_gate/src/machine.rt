@@ -1,8 +1,8 @@
 // What a gate keeps.
 ghost use Rattle.std.specs.Prelude.{ℕ, List};
 
-/// What a gate keeps: a value with a base that stays, and a history that grows by one entry in a
-/// turn. Contracts read these, and of each entry the number of the seat that made it.
+/// What a gate keeps: a value with a base that stays, and a history that grows by at most one entry
+/// in a turn. Contracts read these two of it, and of each entry the number of the seat that made it.
 pub trait Machine: Send + Drop {
     /// What the machine was made from.
     type Base;

@@ -32,16 +32,15 @@ impl Tally {
     }
 }
 
-// One turn. It makes no entry where memory runs out.
-fn take_turn<R: Wait>(rt: &R, gate: &Gate<Tally>, seat: &mut Seat<Tally>) -> bool
+// One turn, which enters the seat's number. Where memory runs out it makes no entry.
+fn take_turn<R: Wait>(rt: &R, gate: &Gate<Tally>, seat: &mut Seat<Tally>)
     requires gate { seat.old.gate ≡ gate.now.id }
     requires free { seat.old.taken ≡ None }
     ensures seat { (seat.new.gate ≡ seat.old.gate) × (seat.new.taken ≡ None) × (seat.new.number ≡ seat.old.number) × (seat.new.ended ≡ seat.old.ended) }
 {
     let mut tally = seat.take(rt, gate);
-    let made = tally.turns.push(seat.number()).is_ok();
+    drop(tally.turns.push(seat.number()));
     seat.give(gate, tally);
-    made
 }
 
 fn take_turns<R: Wait>(rt: &R, gate: &Gate<Tally>, seat: &mut Seat<Tally>, times: u32)
