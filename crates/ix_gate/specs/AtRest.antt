@@ -20,7 +20,20 @@ taken_at (Holds h) = Some h
 module _ {B E : Type 0} where
   -- a seat with this number, these turns and this view
   abbrev pub state_of : TableId → ℕ → ℕ → View B E → SeatState B E
-  state_of gate number turns v = record { gate = gate; seats = v.seats; base = v.base; number = number; seen = v.seen; taken = taken_at v.stage; ended = v.ended; turns = turns; looks = v.looks; look_found = v.look_found; misses = v.misses; miss_found = v.miss_found }
+  state_of gate number turns v = record {
+    gate = gate;
+    seats = v.seats;
+    base = v.base;
+    number = number;
+    seen = v.seen;
+    taken = taken_at v.stage;
+    ended = v.ended;
+    turns = turns;
+    looks = v.looks;
+    look_found = v.look_found;
+    misses = v.misses;
+    miss_found = v.miss_found;
+  }
 
 module _ {M E : Type 0} where
   -- between its calls a seat has no ticket and no slot, or holds the turn and has the slot, empty

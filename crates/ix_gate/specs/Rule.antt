@@ -61,10 +61,12 @@ HasTicket served t (Holds h) = t ≡ served
 module _ {B E : Type 0} (queue : ℕ → ℕ) (served next : ℕ) where
   -- each ticket that was drawn and not yet passed on has its seat
   abbrev pub IsQueued : List (View B E) → Type 0
-  IsQueued views = (t : ℕ) → served ≤ t → t < next → (v : View B E) × (get_elem? views (queue t) ≡ some v) × HasTicket served t v.stage
+  IsQueued views = (t : ℕ) → served ≤ t → t < next
+      → (v : View B E) × (get_elem? views (queue t) ≡ some v) × HasTicket served t v.stage
 
 module _ {M E : Type 0} (queue : ℕ → ℕ) (served next : ℕ) (published : List E) (homes : List (Home (Option M))) where
-  -- a seat that waits has a ticket of its own in the queue, and one that holds the turn has the ticket that is served, took the published history, and has the slot
+  -- A seat that waits has a ticket of its own in the queue.
+  -- One that holds the turn has the ticket that is served, took the published history, and has the slot
   abbrev pub Stands : ℕ → Role → Stage E → Type 0
   Stands i r Idle = Unit {0}
   Stands i r (Waits t) = (queue t ≡ i) × (served ≤ t) × (t < next) × IsNumbered r
@@ -73,16 +75,23 @@ module _ {M E : Type 0} (queue : ℕ → ℕ) (served next : ℕ) (published : L
 module _ {M B E : Type 0} (seat : E → ℕ) (base : B) (seats : ℕ) (g : Book E) (homes : List (Home (Option M))) where
   -- what the rule says of the view at place i
   pub record Fits (i : ℕ) (v : View B E) : Type 0 where
+    -- it has the base and the size of the gate, unless it is spent
     pub based : (v.base ≡ None) ⊎ (v.base ≡ Some base)
     pub sized : (v.base ≡ None) ⊎ (v.seats ≡ seats)
+    -- what it has seen, and what it was told, begins the published history
     pub seen : IsPrefix v.seen g.published
     pub told : IsPrefix v.told g.published
-    -- its own number: who has it, its turns, and that its entries were all published and seen
-    pub number : (n : ℕ) → HasNumber v.role n → (g.owner n ≡ i) × (n < g.made) × (g.turns n ≡ v.turns) × (entries_of seat n g.published ≡ v.own)
-    pub ended : (n : ℕ) (es : List E) → Contains v.ended (n, es) → (g.owner n ≡ i) × (n < g.made) × (entries_of seat n g.published ≡ es) × ¬ HasNumber v.role n
+    -- its own number: that it has it, its turns, and its entries in the published history
+    pub number : (n : ℕ) → HasNumber v.role n
+        → (g.owner n ≡ i) × (n < g.made) × (g.turns n ≡ v.turns) × (entries_of seat n g.published ≡ v.own)
+    -- each number that it ended: that it has it, and its entries in the published history
+    pub ended : (n : ℕ) (es : List E) → Contains v.ended (n, es)
+        → (g.owner n ≡ i) × (n < g.made) × (entries_of seat n g.published ≡ es) × ¬ HasNumber v.role n
+    -- all of these entries were seen
     pub agrees : Agrees seat v v.seen
     pub makes : MayMake g.made g.maker i v.role
     pub stands : Stands g.queue g.served g.next g.published homes i v.role v.stage
+    -- the number that is served has not gone back
     pub look_found : v.look_found ≤ g.served
 
 module _ {M B E : Type 0} (base_of : M → B) (history_of : M → List E) (base : B) (published : List E) where
@@ -90,7 +99,8 @@ module _ {M B E : Type 0} (base_of : M → B) (history_of : M → List E) (base 
   abbrev pub IsKept : List (Home (Option M)) → List (View B E) → Type 0
   IsKept homes views =
       ((m : M) × (homes ≡ some (Some m) ∷ []) × (history_of m ≡ published) × (base_of m ≡ base))
-      ⊎ ((i : ℕ) × (v : View B E) × (h : List E) × (homes ≡ none ∷ []) × (get_elem? views i ≡ some v) × (v.stage ≡ Holds h))
+      ⊎ ((i : ℕ) × (v : View B E) × (h : List E)
+      × (homes ≡ none ∷ []) × (get_elem? views i ≡ some v) × (v.stage ≡ Holds h))
 
 module _ {M B E : Type 0} (base_of : M → B) (history_of : M → List E) (seat : E → ℕ) where
   -- the state of a table obeys the rule, for a gate with this base and so many seats

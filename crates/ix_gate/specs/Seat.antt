@@ -4,7 +4,7 @@ use Rattle.atomic_table.specs.Seated.{TableId}
 use Rattle.ix_gate.specs.History.{entries_of, longer}
 
 pub record SeatState (B E : Type 0) : Type 0 where
-  -- the gate that it was made with, how many seats that has, and the base of its machine, which each seat that a call gives has
+  -- the gate that it was made with, how many seats that has, and the base of its machine
   pub gate : TableId
   pub seats : ℕ
   pub base : Option B
@@ -25,7 +25,20 @@ pub record SeatState (B E : Type 0) : Type 0 where
 module _ {B E : Type 0} where
   -- a seat of a new gate
   abbrev pub new_seat : TableId → ℕ → Option B → ℕ → SeatState B E
-  new_seat gate seats base number = record { gate = gate; seats = seats; base = base; number = number; seen = []; taken = None; ended = []; turns = 0; looks = 0; look_found = 0; misses = 0; miss_found = 0 }
+  new_seat gate seats base number = record {
+    gate = gate;
+    seats = seats;
+    base = base;
+    number = number;
+    seen = [];
+    taken = None;
+    ended = [];
+    turns = 0;
+    looks = 0;
+    look_found = 0;
+    misses = 0;
+    miss_found = 0;
+  }
 
   -- one turn more, which the seat holds, with the history that it took
   abbrev pub after_take : SeatState B E → List E → ℕ → ℕ → SeatState B E

@@ -29,9 +29,11 @@ module _ {M B E : Type 0} (base : M → B) (history : M → List E) (seat : E �
 
   -- where the number found is the seat's ticket, it takes the machine; else it waits on
   abbrev pub Looks : Step (Option M) → Me (Option M) (View B E) → ℕ → Me (Option M) (View B E) → Type 0
-  Looks st m found n = (t : ℕ) → m.0.stage ≡ Waits t → (found ≡ t → Takes m n (with_look m.0 found)) × (found ≢ t → n ≡ (with_look m.0 found (Waits t), m.1))
+  Looks st m found n = (t : ℕ) → m.0.stage ≡ Waits t
+      → (found ≡ t → Takes m n (with_look m.0 found)) × (found ≢ t → n ≡ (with_look m.0 found (Waits t), m.1))
 
-  -- where the number found is the one that was asked for, this is a draw and the look that finds its ticket; else a miss, which does not come at a gate of one seat
+  -- Where the number found is the one that was asked for, this is a draw and the look that finds its ticket.
+  -- Else it is a miss; at a gate of one seat a miss too finds the number of the seat's turns
   abbrev pub TriesDraw : Step (Option M) → Me (Option M) (View B E) → ℕ → Me (Option M) (View B E) → Type 0
   TriesDraw st m found n = (found ≡ st.first → Takes m n (with_look (with_ticket m.0 found) found))
       × (found ≢ st.first → (n ≡ (with_miss m.0 found, m.1)) × (m.0.seats ≡ 1 → (b : B) → m.0.base ≡ Some b → found ≡ m.0.turns))
@@ -39,10 +41,12 @@ module _ {M B E : Type 0} (base : M → B) (history : M → List E) (seat : E �
 module _ {M B E : Type 0} (history : M → List E) (seat : E → ℕ) where
   -- the history of the machine that was put back is seen, and the slot is at home
   abbrev pub PassesOn : Step (Option M) → Me (Option M) (View B E) → ℕ → Me (Option M) (View B E) → Type 0
-  PassesOn st m found n = (x : M) → m.1 ≡ (0, Some x) ∷ [] → (n ≡ (with_turn seat m.0 (history x), [])) × KeepsEnded seat m.0.ended (history x)
+  PassesOn st m found n = (x : M) → m.1 ≡ (0, Some x) ∷ []
+      → (n ≡ (with_turn seat m.0 (history x), [])) × KeepsEnded seat m.0.ended (history x)
 
 module _ {M B E : Type 0} (seat : E → ℕ) where
-  -- what was told begins what was seen, and that has the known entries; at a gate of one seat all its turns were served
+  -- What was told begins what was seen, and that has the known entries. The next number fits a word.
+  -- At a gate of one seat all its turns were served, so that the number found is that of its turns
   pub record FreeLooks (st : Step (Option M)) (m : Me (Option M) (View B E)) (found : ℕ) (n : Me (Option M) (View B E)) : Type 0 where
     pub now : n ≡ (with_free_look m.0 found, m.1)
     pub line : length m.0.told ≤ length m.0.seen → IsPrefix m.0.told m.0.seen

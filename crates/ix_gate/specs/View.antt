@@ -24,7 +24,21 @@ number_of (Numbered k) = k
 module _ {B E : Type 0} where
   -- a view that has seen nothing
   abbrev pub fresh : ℕ → Option B → Role → View B E
-  fresh seats base role = record { base = base; seats = seats; role = role; stage = Idle; seen = []; told = []; own = []; ended = []; turns = 0; looks = 0; look_found = 0; misses = 0; miss_found = 0 }
+  fresh seats base role = record {
+    base = base;
+    seats = seats;
+    role = role;
+    stage = Idle;
+    seen = [];
+    told = [];
+    own = [];
+    ended = [];
+    turns = 0;
+    looks = 0;
+    look_found = 0;
+    misses = 0;
+    miss_found = 0;
+  }
 
   -- the table's first view, which may make the number 0
   abbrev pub first_view : ℕ → B → View B E

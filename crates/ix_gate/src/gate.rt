@@ -45,7 +45,10 @@ impl<M: Machine> Model for Gate<M> {
 
     ghost view = { λ g. record { id = g.table.shared.table_id; seats = g.seats } };
 
-    ghost invariant = { λ g. (g.table.shared.table_id.words ≡ 3) × (g.table.shared.table_id.slots ≡ 1) × (g.table.shared.key.seats ≡ g.seats) };
+    ghost invariant = { λ g.
+        (g.table.shared.table_id.words ≡ 3)
+        × (g.table.shared.table_id.slots ≡ 1)
+        × (g.table.shared.key.seats ≡ g.seats) };
 }
 
 impl<M: Machine> Gate<M> {
@@ -57,7 +60,8 @@ impl<M: Machine> Gate<M> {
         requires seats { (0 < seats) × (seats ≤ most_seats) }
         ensures gate { IfOk result (λ r. r.0.seats ≡ seats) }
         ensures count { IfOk result (λ r. vec_len r.1 ≡ seats) }
-        ensures seats { IfOk result (λ r. (k : ℕ) → k < seats → slice_get r.1.items k ≡ Some (new_seat r.0.id seats (Some (M.base machine)) k)) }
+        ensures seats { IfOk result (λ r. (k : ℕ) → k < seats
+            → slice_get r.1.items k ≡ Some (new_seat r.0.id seats (Some (M.base machine)) k)) }
     {
         let Ok(mut slots) = Vec::with_capacity(alloc, 1) else {
             return Err(NoMemory);
@@ -110,7 +114,8 @@ fn make_seat<M: Machine>(gate: &Gate<M>, maker: &mut Token<M>, number: u32) -> S
     requires maker { maker.old.me ≡ (fresh maker.old.me.0.seats maker.old.me.0.base (Next number), []) }
     requires base { (b : M.Base) × (maker.old.me.0.base ≡ Some b) }
     requires number { number < gate.now.seats }
-    ensures maker { (maker.new.table_id ≡ maker.old.table_id) × (maker.new.me ≡ (fresh maker.old.me.0.seats maker.old.me.0.base (Next (number + 1)), [])) }
+    ensures gate { maker.new.table_id ≡ maker.old.table_id }
+    ensures maker { maker.new.me ≡ (fresh maker.old.me.0.seats maker.old.me.0.base (Next (number + 1)), []) }
     ensures seat { result ≡ new_seat gate.now.id maker.old.me.0.seats maker.old.me.0.base number }
 {
     let shared = &gate.table.shared;

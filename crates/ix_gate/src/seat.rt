@@ -108,10 +108,12 @@ impl<M: Machine> Seat<M> {
         requires room { self.old.turns < most_turns }
         ensures base { IfOk result (λ m. self.old.base ≡ Some (M.base m)) }
         ensures seen { IfOk result (λ m. IsPrefix self.old.seen (M.history m)) }
-        ensures own { IfOk result (λ m. entries_of M.seat self.old.number (M.history m) ≡ own_entries M.seat self.old) }
+        ensures own { IfOk result (λ m.
+            entries_of M.seat self.old.number (M.history m) ≡ own_entries M.seat self.old) }
         ensures ended { IfOk result (λ m. KeepsEnded M.seat self.old.ended (M.history m)) }
         ensures looks { self.old.looks < self.new.looks }
-        ensures seat { IfOk result (λ m. self.new ≡ after_take self.old (M.history m) self.new.looks self.new.look_found) }
+        ensures seat { IfOk result (λ m.
+            self.new ≡ after_take self.old (M.history m) self.new.looks self.new.look_found) }
         ensures busy { IfErr result (λ b. self.new ≡ after_busy self.old b.serving b.ticket) }
         ensures differ { IfErr result (λ b. b.serving ≢ b.ticket) }
         ensures alone { self.old.seats ≡ 1 → IsOk result }
@@ -136,7 +138,8 @@ impl<M: Machine> Seat<M> {
     pub fn give(&mut self, gate: &Gate<M>, machine: M)
         requires gate { self.old.gate ≡ gate.now.id }
         requires base { self.old.base ≡ Some (M.base machine) }
-        requires history { (taken : List M.Entry) × (self.old.taken ≡ Some taken) × Grows M.seat self.old.number taken (M.history machine) }
+        requires history { (taken : List M.Entry) × (self.old.taken ≡ Some taken)
+            × Grows M.seat self.old.number taken (M.history machine) }
         ensures { self.new ≡ after_give self.old (M.history machine) }
     {
         let shared = &gate.table.shared;
@@ -169,7 +172,9 @@ impl<M: Machine> Seat<M> {
         ensures line { IsInLine self.old.seen other.seen }
         ensures seen { IsPrefix self.old.seen self.new.seen × IsPrefix other.seen self.new.seen }
         ensures own { own_entries M.seat self.new ≡ own_entries M.seat self.old }
-        ensures seat { self.new ≡ after_meeting self.old other.seen (self.old.ended ++ (other.number, own_entries M.seat other) ∷ other.ended) self.new.look_found }
+        ensures seat { self.new ≡ after_meeting self.old other.seen
+            (self.old.ended ++ (other.number, own_entries M.seat other) ∷ other.ended)
+            self.new.look_found }
     {
         let Seat {
             token,

@@ -36,7 +36,8 @@ impl Tally {
 fn take_turn<R: Wait>(rt: &R, gate: &Gate<Tally>, seat: &mut Seat<Tally>)
     requires gate { seat.old.gate ≡ gate.now.id }
     requires free { seat.old.taken ≡ None }
-    ensures seat { (seat.new.gate ≡ seat.old.gate) × (seat.new.taken ≡ None) × (seat.new.number ≡ seat.old.number) × (seat.new.ended ≡ seat.old.ended) }
+    ensures ready { (seat.new.gate ≡ seat.old.gate) × (seat.new.taken ≡ None) }
+    ensures same { (seat.new.number ≡ seat.old.number) × (seat.new.ended ≡ seat.old.ended) }
 {
     let mut tally = seat.take(rt, gate);
     drop(tally.turns.push(seat.number()));
@@ -46,7 +47,8 @@ fn take_turn<R: Wait>(rt: &R, gate: &Gate<Tally>, seat: &mut Seat<Tally>)
 fn take_turns<R: Wait>(rt: &R, gate: &Gate<Tally>, seat: &mut Seat<Tally>, times: u32)
     requires gate { seat.old.gate ≡ gate.now.id }
     requires free { seat.old.taken ≡ None }
-    ensures seat { (seat.new.gate ≡ seat.old.gate) × (seat.new.taken ≡ None) × (seat.new.number ≡ seat.old.number) × (seat.new.ended ≡ seat.old.ended) }
+    ensures ready { (seat.new.gate ≡ seat.old.gate) × (seat.new.taken ≡ None) }
+    ensures same { (seat.new.number ≡ seat.old.number) × (seat.new.ended ≡ seat.old.ended) }
 {
     for _ in 0..times {
         take_turn(rt, gate, seat);

@@ -18,7 +18,7 @@ new-requires g c =
 pub loop-number-preserved : goal.loop-number-preserved
 loop-number-preserved g c = (
   search rules,
-  c.make_seat.ensures.maker.1 ∙ ap (λ m. (fresh m.0.seats m.0.base (Next (c.loop-number.number + 1)), [])) c.loop-number.invariant.1,
+  c.make_seat.ensures.maker ∙ ap (λ m. (fresh m.0.seats m.0.base (Next (c.loop-number.number + 1)), [])) c.loop-number.invariant.1,
   search rules,
   search rules,
   filled _ _ (new_seat c.in-Ok-new.table.shared.table_id c.args.seats (Some (g.M.Machine.base c.args.machine))) _ _ c.push_reserved-in-loop-number.ensures.items (search rules) c.loop-number.invariant.4
