@@ -1,0 +1,14 @@
+pub mod Prefixes
+pub mod Entries
+pub mod Counts
+pub mod Filled
+pub mod Views
+pub mod Drawing
+pub mod Alone
+pub mod Looking
+pub mod Passing
+pub mod Numbering
+pub mod Meeting
+pub mod Trying
+pub mod Closing
+pub mod Resting

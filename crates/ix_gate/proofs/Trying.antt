@@ -1,0 +1,99 @@
+-- A draw of the number that was found served keeps the rule, whether it succeeds or not.
+use Rattle.std.proofs.Common.{◌≡◌, ◌≢◌, ℕ, ◌+◌, ◌<◌, ◌≤◌, List, [], ◌∷◌, get_or, set, Option, Some, refl, ap, sym, ◌∙◌, subst, inl, inr, arith, eqb}
+use mathlib.Core.Option.{Option as Home, none, some}
+use prog.Atomic.{either}
+use lib.ListN.{get_elem?}
+use Rattle.atomic_table.specs.Table.{State, Me, step, keeps, takes, Allows}
+use Rattle.atomic_table.proofs.Lists.{set_here, exchanged}
+use Rattle.ix_gate.specs.declared.view.View.{View}
+use Rattle.ix_gate.specs.declared.view.Role.{Role}
+use Rattle.ix_gate.specs.declared.view.Role.TheVariants.{Numbered}
+use Rattle.ix_gate.specs.declared.view.Stage.TheVariants.{Idle, Holds}
+use Rattle.ix_gate.specs.View.{HasNumber, with_ticket, with_look, with_miss}
+use Rattle.ix_gate.specs.Rule.{most_turns, Book, Stands, Fits, IsKept}
+use Rattle.ix_gate.specs.Steps.{TriesDraw}
+use Rattle.ix_gate.proofs.Counts.{put, put_here}
+use Rattle.ix_gate.proofs.Views.{at_lt, each_set, seats_known, unmoved, MaySet, Rule}
+use Rattle.ix_gate.proofs.Drawing.{with_draw, draw_counted, draw_few, draw_queued, draw_stands, draw_fits, draw_fits_other}
+use Rattle.ix_gate.proofs.Looking.{away_stands, takes_from_home}
+use Rattle.ix_gate.proofs.Alone.{alone_served}
+
+module _ {M B E : Type 0} (base_of : M → B) (history_of : M → List E) (seat : E → ℕ) (base : B) (seats : ℕ) where
+  try_hit : (s : State (Option M) (View B E)) (r : Rule base_of history_of seat base seats s) (slots id : ℕ) (me : Me (Option M) (View B E)) (n old : ℕ) → me.0.stage ≡ Idle → me.0.role ≡ Numbered n → me.0.turns < most_turns → me.0.look_found ≡ old
+      → get_elem? s.views id ≡ some me.0 → get_or s.words 0 0 ≡ old → IsKept base_of history_of base r.book.published s.homes s.views
+      → MaySet base_of history_of seat base seats s id me 0 (old + 1) (TriesDraw base_of history_of seat (step slots 0 old (old + 1) none) me)
+  try_hit s r slots id me n old idle is room known at hit (inr (i, u, h, away, there, holds)) =
+      let g : Book E = r.book in
+      let e : get_or s.words 0 0 ≡ g.next = ap (λ (ws : List ℕ). get_or ws 0 0) r.words in
+      let k = subst (Stands g.queue g.served g.next g.published s.homes i u.role) holds (r.each i u there).stands in
+      let below : g.served < g.next = k.1 in
+      let low : me.0.look_found ≤ g.served = (r.each id me.0 at).look_found in
+      absurd (omega arith)
+  try_hit s r slots id me n old idle is room known at hit (inl (m, home, has, based)) =
+      let g : Book E = r.book in
+      let v : View B E = me.0 in
+      let found : ℕ = get_or s.words 0 0 in
+      let e : found ≡ g.next = ap (λ (ws : List ℕ). get_or ws 0 0) r.words in
+      let f = r.each id v at in
+      let mine = f.number n (subst (λ (x : Role). HasNumber x n) (sym is) refl) in
+      let turns = mine.2 in
+      let low : v.look_found ≤ g.served = f.look_found in
+      let ordered = r.ordered in
+      let now : g.served ≡ g.next = omega arith in
+      let here : old + 1 ≡ g.next + 1 = omega arith in
+      let w : View B E = with_look (with_ticket v found) found (Holds (history_of m)) in
+      let homes : List (Home (Option M)) = set s.homes 0 none in
+      let bare : homes ≡ none ∷ [] = ap (λ (hs : List (Home (Option M))). set hs 0 none) home in (
+        w,
+        takes 0 (Some m),
+        ap (λ (hs : List (Home (Option M))). get_elem? hs 0) home,
+        record {
+          book = with_draw g id n;
+          words = ap (λ (ws : List ℕ). set ws 0 (old + 1)) r.words ∙ ap (λ (x : ℕ). x ∷ g.served ∷ g.made ∷ []) here;
+          ordered = omega arith;
+          counted = draw_counted g id n mine.1 r.counted;
+          few_turns = draw_few g id n (omega arith) r.few_turns;
+          few_seats = r.few_seats;
+          unmade = r.unmade;
+          kept = inr (id, w, history_of m, bare, set_here s.views id w (at_lt s.views id v at), refl);
+          queued = draw_queued g id n s.views v w at idle (sym now) r.queued;
+          each = each_set (Fits seat base seats (with_draw g id n) homes) s.views id w
+              (draw_fits seat base seats g s.homes homes id n v (Holds (history_of m)) (v.looks + 1) found is (omega arith) f
+              (ap (put g.queue g.next id) now ∙ put_here g.queue g.next id, omega arith, (n, is), has, bare))
+              (λ j d other there. let q = r.each j d there in draw_fits_other seat base seats g s.homes homes id n j d mine.0 other q
+              (draw_stands g id n homes j d.role d.stage (away_stands g.queue g.served g.next g.published s.homes m j d.role d.stage home q.stands)));
+        },
+        (λ _. takes_from_home base_of history_of seat base seats g s.homes id me m (with_look (with_ticket v found) found) f (sym has) based, λ miss. absurd (miss hit)),
+      )
+
+  try_miss : (s : State (Option M) (View B E)) (r : Rule base_of history_of seat base seats s) (slots id : ℕ) (me : Me (Option M) (View B E)) (n old new : ℕ) → me.0.stage ≡ Idle → me.0.role ≡ Numbered n
+      → get_elem? s.views id ≡ some me.0 → get_or s.words 0 0 ≢ old → MaySet base_of history_of seat base seats s id me 0 (get_or s.words 0 0) (TriesDraw base_of history_of seat (step slots 0 old new none) me)
+  try_miss s r slots id me n old new idle is at miss =
+      let g : Book E = r.book in
+      let v : View B E = me.0 in
+      let found : ℕ = get_or s.words 0 0 in
+      let e : found ≡ g.next = ap (λ (ws : List ℕ). get_or ws 0 0) r.words in
+      let f = r.each id v at in (
+        with_miss v found,
+        keeps,
+        tt,
+        unmoved base_of history_of seat base seats s r 0 id me.1 v (with_miss v found) at (λ h x. cc (sym idle ∙ x)) (λ t o. o) record {
+          based = f.based;
+          sized = f.sized;
+          seen = f.seen;
+          told = f.told;
+          number = f.number;
+          ended = f.ended;
+          agrees = f.agrees;
+          makes = f.makes;
+          stands = f.stands;
+          look_found = f.look_found;
+        },
+        (λ hit. absurd (miss hit), λ _. (refl, λ one b based. let a = alone_served base_of history_of seat base seats s r id n v at idle is (seats_known v.base v.seats seats b f.sized based ∙ one) in e ∙ a.1)),
+      )
+
+  pub try_draw_allowed : (slots id : ℕ) (me : Me (Option M) (View B E)) (n old : ℕ) → me.0.stage ≡ Idle → me.0.role ≡ Numbered n → me.0.turns < most_turns → me.0.look_found ≡ old
+      → Allows (Rule base_of history_of seat base seats) slots id me 0 (λ x. either (eqb x old) (old + 1) x) (TriesDraw base_of history_of seat (step slots 0 old (old + 1) none) me)
+  try_draw_allowed slots id me n old idle is room known s r len at small = exchanged (get_or s.words 0 0) old (old + 1) (λ x. MaySet base_of history_of seat base seats s id me 0 x (TriesDraw base_of history_of seat (step slots 0 old (old + 1) none) me))
+      (λ hit. try_hit s r slots id me n old idle is room known at hit r.kept)
+      (λ miss. try_miss s r slots id me n old (old + 1) idle is at miss)

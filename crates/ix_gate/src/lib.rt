@@ -1,0 +1,16 @@
+//! A ticket lock whose machine carries one history, and seats that know what they have seen of it.
+#![tactic(auto)]
+
+mod gate;
+mod machine;
+mod rule;
+mod seat;
+mod steps;
+mod view;
+
+pub use gate::{Gate, NoMemory};
+pub use machine::Machine;
+pub use seat::{Busy, Seat};
+
+#[cfg(test)]
+mod tests;
