@@ -36,6 +36,7 @@ stands_first c w valid flat e =
       few = omega arith;
       objects = subst (λ (v : World). length v.frame.objects ≤ 66560) (sym e) counts.0;
       processes = subst (λ (v : World). length v.frame.processes ≤ 1025) (sym e) counts.1;
+      log = subst (λ (v : World). v.frame.log ≡ []) (sym e) counts.2;
     }
 
 built_more : (es : List Event) (e : Event) → list_all (λ x. is_built x.op) es ≡ true → is_built e.op ≡ true → list_all (λ x. is_built x.op) (es ++ e ∷ []) ≡ true
@@ -56,11 +57,15 @@ stands_next w v h e s built few is =
       few = omega (arith, length-append h.events (e ∷ []));
       objects = subst (λ (u : World). length u.frame.objects ≤ 66560) (sym is) (omega (arith, fixed.objects, s.objects));
       processes = subst (λ (u : World). length u.frame.processes ≤ 1025) (sym is) (omega (arith, fixed.processes, s.processes));
+      log = subst (λ (u : World). u.frame.log ≡ []) (sym is) (fixed.log ∙ s.log);
     }
 
 pub sound_core : (w : World) (h : History) → StandsFor w h → Sound (world_of h)
 unfolding world_of
 sound_core w h s = sound_reached h.config h.events s.valid s.flat s.built
+
+pub unlogged : (w : World) (h : History) → StandsFor w h → (world_of h).frame.log ≡ []
+unlogged w h s = subst (λ (u : World). u.frame.log ≡ []) s.run s.log
 
 -- the bytes that a reply tells of are the first ones of the buffer
 pub shows : (r : Reply) (bytes before after : List ℕ) → AreShown r bytes → after ≡ put_front bytes before → Shows (answer.Given r) after bytes

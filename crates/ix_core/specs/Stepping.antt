@@ -16,7 +16,7 @@ use Rattle.ix_model.specs.declared.views.ObjView.{ObjView}
 use Rattle.ix_model.specs.declared.views.ProcView.{ProcView}
 
 -- The machine's world is the run of the history from the opening world of a valid config, with built calls alone. So many
--- entries, objects and pids there are at most.
+-- entries, objects and pids there are at most, and nothing is logged: no built call exercises a privilege.
 pub record StandsFor (world : World) (h : History) : Type 0 where
   pub run : world ≡ world_of h
   pub clean : IsClean world
@@ -26,6 +26,7 @@ pub record StandsFor (world : World) (h : History) : Type 0 where
   pub few : length h.events ≤ 6800000
   pub objects : length world.frame.objects ≤ 66560
   pub processes : length world.frame.processes ≤ 1025
+  pub log : world.frame.log ≡ []
 
 -- The answer is the machine's, with its bytes at the front of the buffer, and the history has one entry more. Where there
 -- is no memory for it nothing has changed; the journal is never full yet.

@@ -104,10 +104,12 @@ impl Core {
         }
     }
 
-    /// How many entries the history has.
+    /// How many entries the history has. The world to which they lead is sound, and its audit log is empty as long as no
+    /// call is built that exercises a privilege.
     pub fn len(&self) -> u32
         ensures len { result ≡ length self.now.events }
         ensures sound { Sound (world_of self.now) }
+        ensures unlogged { (world_of self.now).frame.log ≡ [] }
     {
         self.entries.len() as u32
     }

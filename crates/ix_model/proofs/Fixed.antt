@@ -1,4 +1,4 @@
--- The limits, the file systems and the lengths of the tables stay.
+-- The limits, the file systems and the lengths of the tables stay, and the log: no built call writes into it.
 use Rattle.std.proofs.Common.{ℕ, ◌≡◌, List, Option, Some, refl, sym, subst, ◌∙◌, length, length-set}
 use Rattle.ix_label.specs.Category.{Categories}
 use Rattle.ix_model.specs.Naming.{PathOf}
@@ -24,22 +24,23 @@ pub record Fixed (f g : Frame) : Type 0 where
   pub objects : length g.objects ≡ length f.objects
   pub processes : length g.processes ≡ length f.processes
   pub opens : length g.opens ≡ length f.opens
+  pub log : g.log ≡ f.log
 
 fixed_itself : (f : Frame) → Fixed f f
-fixed_itself f = record { limits = refl; fss = refl; objects = refl; processes = refl; opens = refl }
+fixed_itself f = record { limits = refl; fss = refl; objects = refl; processes = refl; opens = refl; log = refl }
 
 module _ (f : Frame) where
   fixed_change_object : (o : ℕ) (h : Object → Object) → Keeps (Fixed f) (change_object o h)
   unfolding change_object Holds
-  fixed_change_object o h = record { led = λ g r. record { limits = r.limits; fss = r.fss; objects = length-set g.objects o _ ∙ r.objects; processes = r.processes; opens = r.opens } }
+  fixed_change_object o h = record { led = λ g r. record { limits = r.limits; fss = r.fss; objects = length-set g.objects o _ ∙ r.objects; processes = r.processes; opens = r.opens; log = r.log } }
 
   fixed_change_caller : (p : ℕ) (h : Process → Process) → Keeps (Fixed f) (change_caller p h)
   unfolding change_caller Holds
-  fixed_change_caller p h = record { led = λ g r. record { limits = r.limits; fss = r.fss; objects = r.objects; processes = length-set g.processes p _ ∙ r.processes; opens = r.opens } }
+  fixed_change_caller p h = record { led = λ g r. record { limits = r.limits; fss = r.fss; objects = r.objects; processes = length-set g.processes p _ ∙ r.processes; opens = r.opens; log = r.log } }
 
   fixed_put_open : (e : ℕ) (x : Option Open) → Keeps (Fixed f) (put_open e x)
   unfolding put_open Holds
-  fixed_put_open e x = record { led = λ g r. record { limits = r.limits; fss = r.fss; objects = r.objects; processes = r.processes; opens = length-set g.opens e _ ∙ r.opens } }
+  fixed_put_open e x = record { led = λ g r. record { limits = r.limits; fss = r.fss; objects = r.objects; processes = r.processes; opens = length-set g.opens e _ ∙ r.opens; log = r.log } }
 
   ruleset fixing = (keeping, fixed_change_object, fixed_change_caller, fixed_put_open)
 

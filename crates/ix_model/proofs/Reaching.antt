@@ -1,5 +1,5 @@
 -- Every world that a valid flat config and built calls reach is sound and clean.
-use Rattle.std.proofs.Common.{◌≡◌, ◌≤◌, ◌==◌, ◌+◌, ◌-◌, arith, ℕ, suc, true, ◌&&◌, List, [], ◌∷◌, length, length-append, map, replicate, Option, Some, None, sym, ap, ◌∙◌, subst, nat_le}
+use Rattle.std.proofs.Common.{◌≡◌, ◌≤◌, ◌==◌, ◌+◌, ◌-◌, arith, ℕ, suc, true, ◌&&◌, List, [], ◌∷◌, length, length-append, map, replicate, Option, Some, None, refl, sym, ap, ◌∙◌, subst, nat_le}
 use Rattle.std.specs.List.{list_all}
 use Rattle.std.proofs.lemmas.Bool.{and_parts, leb-true}
 use Rattle.std.proofs.lemmas.List.{length-replicate, length-map}
@@ -68,8 +68,8 @@ opening_flat c s one valid flat =
     let r = flat_opening c s one (some_inode s (ap fss_fit (sym one) ∙ v4.0)) (ap (λ t. objects_fit t c.limits [] c.objects) (sym one) ∙ v2.1) f2.1 in
     r.is ∙ ap (flat_world c.limits s c.procs c.objects) (let n : r.free ≡ s.inodes + c.limits.pipes - (length c.objects + 1) = omega (arith, r.count) in n)
 
--- how many objects there are in it, and how many pids
-pub opening_counts : (c : Config) → is_valid c ≡ true → is_flat c ≡ true → (length (opening_world c).frame.objects ≤ 66560) × (length (opening_world c).frame.processes ≤ 1025)
+-- how many objects there are in it, how many pids, and that nothing is logged
+pub opening_counts : (c : Config) → is_valid c ≡ true → is_flat c ≡ true → (length (opening_world c).frame.objects ≤ 66560) × (length (opening_world c).frame.processes ≤ 1025) × ((opening_world c).frame.log ≡ [])
 unfolding is_valid is_flat fss_fit limits_fit procs_fit
 opening_counts c valid flat =
     let v1 = and_parts (fss_fit c.fss && limits_fit c.limits && procs_fit c.limits c.procs && objects_fit c.fss c.limits [] c.objects) (nat_le c.journal 870400000) valid in
@@ -94,7 +94,7 @@ opening_counts c valid flat =
     let objects : length (flat_objects c.objects r.free) ≡ suc (length c.objects + r.free) =
       ap suc (length-append (map file_of c.objects) (replicate r.free None) ∙ (λ i. length-map c.objects file_of i + length-replicate {A = Option Object} r.free None i)) in
     let processes : length (None ∷ map (λ p. Some (process_of p)) c.procs) ≡ suc (length c.procs) = ap suc (length-map c.procs (λ p. Some (process_of p))) in
-    subst (λ (w : World). (length w.frame.objects ≤ 66560) × (length w.frame.processes ≤ 1025)) (sym r.is) (omega (arith, objects, r.count, pipes, inodes.1), omega (arith, processes, few, procs))
+    subst (λ (w : World). (length w.frame.objects ≤ 66560) × (length w.frame.processes ≤ 1025) × (w.frame.log ≡ [])) (sym r.is) (omega (arith, objects, r.count, pipes, inodes.1), omega (arith, processes, few, procs), refl)
 
 -- ---- runs
 pub clean_run : (w : World) (place : ℕ) (h : List Event) → IsClean w → IsClean (run w place h)
