@@ -12,8 +12,6 @@ use Rattle.ix_model.specs.Table.{Told, self_label, open_at, read_fd, write_fd, r
 use Rattle.ix_model.specs.History.{Op}
 use Rattle.ix_model.specs.History as op
 use Rattle.ix_model.specs.declared.call.Mode.{Mode}
-use Rattle.ix_model.specs.declared.config.FsSpec.{FsSpec}
-use Rattle.ix_model.specs.declared.config.Limits.{Limits}
 use Rattle.ix_model.specs.declared.refusal.Refusal.TheVariants as refusal
 use Rattle.ix_model.proofs.Keeps.{Holds, Keeps, keeping, keeps_refuse}
 use Rattle.ix_model.proofs.Lasts.{decided}

@@ -92,7 +92,7 @@ opening_counts c valid flat =
     let procs = leb-true c.limits.procs 1024 l5.1 in
     let few = leb-true (length c.procs) c.limits.procs p1.0 in
     let objects : length (flat_objects c.objects r.free) ≡ suc (length c.objects + r.free) =
-      ap suc (length-append (map file_of c.objects) (replicate r.free None) ∙ (λ i. length-map c.objects file_of i + length-replicate {A = Option Object} r.free None i)) in
+    ap suc (length-append (map file_of c.objects) (replicate r.free None) ∙ (λ i. length-map c.objects file_of i + length-replicate {A = Option Object} r.free None i)) in
     let processes : length (None ∷ map (λ p. Some (process_of p)) c.procs) ≡ suc (length c.procs) = ap suc (length-map c.procs (λ p. Some (process_of p))) in
     subst (λ (w : World). (length w.frame.objects ≤ 66560) × (length w.frame.processes ≤ 1025) × (w.frame.log ≡ [])) (sym r.is) (omega (arith, objects, r.count, pipes, inodes.1), omega (arith, processes, few, procs), refl)
 

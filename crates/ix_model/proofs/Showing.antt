@@ -1,5 +1,5 @@
 -- A built call gives as many bytes as its reply says.
-use Rattle.std.proofs.Common.{◌≡◌, ◌≤◌, ℕ, Bool, true, false, List, [], length, take, Option, Some, None, refl, sym, ◌∙◌, subst, arith, nat_le, if◌then◌else◌}
+use Rattle.std.proofs.Common.{◌≡◌, ◌≤◌, ℕ, Bool, true, false, List, [], Option, Some, None, refl, sym, subst, arith, nat_le, if◌then◌else◌}
 use Rattle.std.proofs.lemmas.Bool.{leb-true}
 use Rattle.std.proofs.lemmas.List.{length-take}
 use Rattle.ix_label.specs.Category.{Categories}
@@ -9,7 +9,7 @@ use Rattle.ix_model.specs.Outcomes.{Outcome, Refuse, Pass}
 use Rattle.ix_model.specs.Rows.{observe, affect}
 use Rattle.ix_model.specs.Walks.{Behind, behind, found}
 use Rattle.ix_model.specs.Table.{Told, Decision, self_label, open_at, read_fd, write_fd, row, settled, decide}
-use Rattle.ix_model.specs.Step.{Given, readable, plainly, read_answer, write_answer, answer, told, step}
+use Rattle.ix_model.specs.Step.{readable, plainly, read_answer, write_answer, answer, told, step}
 use Rattle.ix_model.specs.Calls.{is_built}
 use Rattle.ix_model.specs.Shown.{AreShown}
 use Rattle.ix_model.specs.History.{Op}

@@ -1,5 +1,5 @@
 -- Histories: the world that one leads to, and what each of its entries gives.
-use Rattle.std.specs.Prelude.{◌≡◌, ℕ, suc, ◌+◌, ◌-◌, ◌≤◌, List, [], ◌∷◌, ◌++◌, length, take, slice_index_or}
+use Rattle.std.specs.Prelude.{ℕ, ◌+◌, ◌-◌, List, [], ◌∷◌, ◌++◌, length, take}
 use Rattle.ix_model.specs.World.{World}
 use Rattle.ix_model.specs.Opening.{opening_world}
 use Rattle.ix_model.specs.Step.{Given, step_of, run}

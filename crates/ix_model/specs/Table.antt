@@ -1,8 +1,8 @@
 -- The call table: of each call its tests in order, its effect and its reply.
-use Rattle.std.specs.Prelude.{ℕ, ◌-◌, nat_le, Bool, not, ◌&&◌, ◌||◌, Some, if◌then◌else◌}
+use Rattle.std.specs.Prelude.{ℕ, ◌-◌, nat_le, Bool, not, ◌&&◌, Some, if◌then◌else◌}
 use Rattle.ix_model.specs.Naming.{PathOf}
 use Rattle.ix_model.specs.Refusals.{keeps_label}
-use Rattle.ix_model.specs.World.{Frame, put, lowest_free, lives, is_file, is_dir, is_pipe, is_trusted, may_read, may_write, held, held_from}
+use Rattle.ix_model.specs.World.{Frame, put, lowest_free, lives, is_dir, is_pipe, is_trusted, may_read, may_write, held, held_from}
 use Rattle.ix_model.specs.Outcomes.{Outcome, Refuse, Pass, Row}
 use Rattle.ix_model.specs.Rows.{◌>>=◌, ◌>>◌, pass, need, some, frame, caller, object, change_caller, put_open, observe, affect, refuse}
 use Rattle.ix_model.specs.Walks.{found, opened}

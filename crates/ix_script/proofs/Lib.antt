@@ -9,3 +9,4 @@ mod Sound
 mod Progress
 mod NoBytes
 mod AllLabels
+pub mod FaultLine
