@@ -1,5 +1,5 @@
 -- What holds of the draft after any lines, so that its config is valid.
-use Rattle.std.proofs.Common.{◌≡◌, ℕ, ◌+◌, ◌<◌, ◌≤◌, Bool, true, not, nat_lt, ◌==◌, ◌&&◌, List, [], ◌∷◌, ◌++◌, length, Some, refl, sym, ap, ◌∙◌, subst, arith, length-append}
+use Rattle.std.proofs.Common.{◌≡◌, ℕ, ◌+◌, ◌<◌, ◌≤◌, Bool, true, not, nat_lt, ◌==◌, ◌&&◌, List, [], ◌∷◌, ◌++◌, length, Some, is_some, refl, sym, ap, ◌∙◌, subst, arith, length-append}
 use Rattle.std.specs.List.{list_all}
 use Rattle.std.proofs.lemmas.Bool.{ltb-true, eqb-true, le-leb}
 use Rattle.std.proofs.lemmas.List.{nil_from_length}
@@ -9,8 +9,10 @@ use Rattle.ix_model.specs.Valid.{fs_fits, fss_fit, limits_fit, procs_fit, object
 use Rattle.ix_model.specs.declared.config.FsSpec.{FsSpec}
 use Rattle.ix_model.specs.declared.config.ProcSpec.{ProcSpec}
 use Rattle.ix_model.specs.declared.config.ObjSpec.{ObjSpec}
-use Rattle.ix_script.specs.Order.{default_fs, default_limits, config_of, no_lines, may_follow, with_line, with_text, fs_may_follow, proc_may_follow, in_header, is_known}
+use Rattle.ix_script.specs.Order.{default_fs, default_limits, config_of, no_lines, may_follow, with_line, with_text, fs_may_follow, proc_may_follow, command_may_follow, in_header, is_known, knows, pid_of}
 use Rattle.ix_script.specs.declared.draft.Draft.{Draft}
+use Rattle.ix_script.specs.declared.script.Command.{Command}
+use Rattle.ix_script.specs.declared.script.Deed.{Deed}
 use Rattle.ix_script.specs.declared.line.Line.{Line}
 use Rattle.ix_script.specs.declared.line.Line.TheVariants as line
 use Rattle.ix_script.proofs.Names.{both, join_tests}
@@ -18,8 +20,8 @@ use Rattle.ix_script.proofs.Following.{added}
 use Rattle.ix_script.proofs.Formed.{formed, IsFormed, IsFlatFile}
 use Rattle.ix_script.proofs.Room.{fits, fit_push, HaveOneName, one_name_push}
 
--- at most 64 processes, each with a name; everything fits, and is flat
-pub record Sound (names : List (List ℕ)) (procs : List ProcSpec) (fs : FsSpec) (files : List ObjSpec) : Type 0 where
+-- at most 64 processes, each with a name; everything fits, and is flat; at most 200,000 commands
+pub record Sound (names : List (List ℕ)) (procs : List ProcSpec) (fs : FsSpec) (files : List ObjSpec) (commands : List Command) : Type 0 where
   pub few : length names ≤ 64
   pub named : length procs ≡ length names
   pub fs_fits : fs_fits fs ≡ true
@@ -28,13 +30,14 @@ pub record Sound (names : List (List ℕ)) (procs : List ProcSpec) (fs : FsSpec)
   pub fit : objects_fit (fs ∷ []) default_limits [] files ≡ true
   pub flat : list_all is_flat_object files ≡ true
   pub one_name : HaveOneName files
+  pub short : length commands ≤ 200000
 
 abbrev pub IsSound : Draft → Type 0
-IsSound d = Sound d.names d.procs d.fs d.files
+IsSound d = Sound d.names d.procs d.fs d.files d.commands
 
 pub sound_start : IsSound no_lines
 unfolding no_lines default_fs
-sound_start = record { few = omega arith; named = refl; fs_fits = refl; below = refl; plain = refl; fit = refl; flat = refl; one_name = tt }
+sound_start = record { few = omega arith; named = refl; fs_fits = refl; below = refl; plain = refl; fit = refl; flat = refl; one_name = tt; short = omega arith }
 
 lines_same : (d : Draft) (l : Line) → (with_line d l).lines ≡ d.lines
 lines_same d line.Version = refl
@@ -49,6 +52,14 @@ pub next_lines : (d : Draft) (text : List ℕ) (e : Draft) → with_text d text 
 next_lines d text e h =
     let p = added d text e h in
     ap (λ (x : Draft). x.lines) p.3 ∙ ap (λ n. n + 1) (lines_same d p.0)
+
+command_room : (d : Draft) (proc : List ℕ) (what : Deed) → command_may_follow d proc what ≡ true → length d.commands < 200000
+unfolding command_may_follow
+command_room d proc what h =
+    let one = both (is_some d.lane && nat_lt (length d.commands) 200000 && is_known proc d.names) (knows d.given what) h in
+    let two = both (is_some d.lane && nat_lt (length d.commands) 200000) (is_known proc d.names) one.0 in
+    let three = both (is_some d.lane) (nat_lt (length d.commands) 200000) two.0 in
+    ltb-true (length d.commands) 200000 three.1
 
 no_files : (d : Draft) → fs_may_follow d ≡ true → d.files ≡ []
 unfolding fs_may_follow
@@ -81,6 +92,7 @@ with_one d (line.Fs fs) h f s = record {
   fit = subst (λ (files : List ObjSpec). objects_fit (fs ∷ []) default_limits [] files ≡ true) (sym (no_files d h)) refl;
   flat = s.flat;
   one_name = s.one_name;
+  short = s.short;
 }
 with_one d (line.Proc name p) h f s =
     let parts = proc_parts d name p h in
@@ -93,6 +105,7 @@ with_one d (line.Proc name p) h f s =
       fit = s.fit;
       flat = s.flat;
       one_name = s.one_name;
+      short = s.short;
     }
 with_one d (line.File o) h f s = record {
   few = s.few;
@@ -103,10 +116,22 @@ with_one d (line.File o) h f s = record {
   fit = fit_push (d.fs ∷ []) default_limits [] d.files o s.fit (fits d o h f s.one_name);
   flat = all_push is_flat_object d.files o s.flat (is_flat_file o f);
   one_name = one_name_push d.files o f.name s.one_name (ap (λ (x : ObjSpec). x.path.names) f.is);
+  short = s.short;
 }
 with_one d line.Phase h f s = s
 with_one d (line.Lane name) h f s = s
-with_one d (line.Do proc what) h f s = s
+with_one d (line.Do proc what) h f s =
+    record {
+      few = s.few;
+      named = s.named;
+      fs_fits = s.fs_fits;
+      below = s.below;
+      plain = s.plain;
+      fit = s.fit;
+      flat = s.flat;
+      one_name = s.one_name;
+      short = omega (arith, command_room d proc what h, length-append d.commands ((record { line = d.lines + 1; pid = pid_of d.names proc; deed = what }) ∷ []));
+    }
 
 pub sound_next : (d : Draft) (text : List ℕ) (e : Draft) → with_text d text ≡ Some e → IsSound d → IsSound e
 sound_next d text e h s =

@@ -49,6 +49,7 @@ fn draft_of<L: Ledger>(alloc: Global, bytes: &[u8], steps: &mut Steps<L>) -> Res
     ensures whole { IfOk result (λ d. with_texts no_lines (lines_of bytes.now) ≡ Some d) }
     ensures valid { IfOk result (λ d. IsTrue (is_valid (config_of d))) }
     ensures flat { IfOk result (λ d. IsTrue (is_flat (config_of d))) }
+    ensures short { IfOk result (λ d. length d.commands ≤ 200000) }
     ensures fail { IfErr result (λ e. HasCause e bytes.now) }
 {
     let mut draft = Draft::new(alloc);
@@ -107,6 +108,7 @@ fn read_with<L: Ledger>(alloc: Global, bytes: &[u8], blank: Blank) -> Result<Scr
     ensures script { IfOk result (λ s. script_of bytes.now ≡ Some s) }
     ensures valid { IfOk result (λ s. IsTrue (is_valid s.config)) }
     ensures flat { IfOk result (λ s. IsTrue (is_flat s.config)) }
+    ensures short { IfOk result (λ s. length s.commands ≤ 200000) }
     ensures fail { IfErr result (λ e. HasCause e bytes.now) }
 {
     if bytes.is_empty() {
@@ -120,12 +122,14 @@ fn read_with<L: Ledger>(alloc: Global, bytes: &[u8], blank: Blank) -> Result<Scr
     }
 }
 
-/// The script that the bytes are. There are at most 16,777,216 of them.
+/// The script that the bytes are, whose config is valid and flat. There are at most 16,777,216 bytes, and at most 200,000
+/// commands.
 pub fn read(alloc: Global, bytes: &[u8]) -> Result<Script, ReadFail>
     requires { length bytes.now ≤ 16777216 }
     ensures script { IfOk result (λ s. script_of bytes.now ≡ Some s) }
     ensures valid { IfOk result (λ s. IsTrue (is_valid s.config)) }
     ensures flat { IfOk result (λ s. IsTrue (is_flat s.config)) }
+    ensures short { IfOk result (λ s. length s.commands ≤ 200000) }
     ensures fail { IfErr result (λ e. HasCause e bytes.now) }
 {
     read_with::<Brand>(alloc, bytes, Blank::new(1))

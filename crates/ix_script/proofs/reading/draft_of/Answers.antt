@@ -30,3 +30,6 @@ returns-clause-valid g c = valid c.lines.draft c.lines.invariant.sound
 
 pub returns-clause-flat : goal.returns-clause-flat
 returns-clause-flat g c = flat c.lines.draft c.lines.invariant.sound
+
+pub returns-clause-short : goal.returns-clause-short
+returns-clause-short g c = c.lines.invariant.sound.short
