@@ -1,6 +1,10 @@
 -- What a script comes to: a report, or a refusal.
 use Rattle.std.specs.Prelude.{◌≡◌, ℕ, ◌==◌, List, ◌++◌, codes, if◌then◌else◌}
+use Rattle.std.specs.Option.{option_map_or}
 use Rattle.std.specs.Fmt.{decimal}
+use Rattle.ix_script.specs.Order.{script_of}
+use Rattle.ix_script.specs.Faults.{fault_line}
+use Rattle.ix_host.specs.Report.{report_of}
 use Rattle.ix_host.specs.declared.answer.Text.{Text}
 use Rattle.ix_host.specs.declared.answer.Text.TheVariants as text
 
@@ -9,9 +13,10 @@ pub data Outcome : Type 0 where
   Report : List ℕ → Outcome
   Refused : ℕ → ℕ → Outcome
 
--- what a script comes to that is not too long; it stands in for the script and its report
+-- what an input comes to that is not too long: the report of the script that it is, or a refusal of the line from which
+-- on it is none
 unfoldable pub outcome_of : List ℕ → Outcome
-outcome_of bytes = Refused 1 0
+outcome_of bytes = option_map_or (λ s. Report (report_of s)) (script_of bytes) (Refused (fault_line bytes) 0)
 
 -- what is said to a script that breaks a rule
 abbrev pub rule_text : ℕ → List ℕ

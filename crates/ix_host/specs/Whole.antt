@@ -22,6 +22,13 @@ Gathers bytes after input.TooLong = (script_max < length bytes) × (after ≡ So
 Gathers bytes after input.Fault = Unit {0}
 Gathers bytes after input.NoMemory = Unit {0}
 
+-- Of what was read to its end there is no more than a script may have.
+abbrev pub IsShort : Input → Type 0
+IsShort (input.Whole read) = length read.items ≤ script_max
+IsShort input.TooLong = Unit {0}
+IsShort input.Fault = Unit {0}
+IsShort input.NoMemory = Unit {0}
+
 -- Of these bytes, some first ones were read, and the rest is left.
 pub record IsFront (all read : List ℕ) (left : Option (List ℕ)) : Type 0 where
   pub within : length read ≤ length all

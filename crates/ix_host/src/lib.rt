@@ -2,8 +2,13 @@
 #![tactic(auto)]
 
 mod answer;
+mod closing;
+mod names;
+mod report;
 mod run;
+mod serial;
 mod stream;
+mod text;
 mod words;
 
 pub use ix_io as io;

@@ -1,6 +1,6 @@
 ghost use Rattle.std.specs.Prelude.{◌≡◌, ℕ, ◌+◌, ◌≤◌, ◌<◌, List, length, IfSome, OnOk, true, vec_len};
 ghost use Rattle.ix_io.specs.Streams.{HasCause, Rose};
-ghost use Rattle.ix_host.specs.Whole.{script_max, Gathers, GoesOn, IsFront, TakesFew, Writes};
+ghost use Rattle.ix_host.specs.Whole.{script_max, Gathers, GoesOn, IsFront, IsShort, TakesFew, Writes};
 
 use ix_io::{Failed, Sink, Source};
 use std::alloc::Global;
@@ -26,6 +26,7 @@ pub enum Input {
 pub fn read_all<S: Source>(alloc: Global, source: &mut S) -> Input
     ensures told { IfSome (S.left source.old) (λ bytes. Gathers bytes (S.left source.new) result) }
     ensures few { IfSome (S.left source.old) (λ bytes. TakesFew bytes (S.left source.new)) }
+    ensures short { IsShort result }
     ensures later { S.faults source.old ≤ S.faults source.new }
     ensures fault { result ≡ Input.Fault → Rose (S.faults source.old) (S.faults source.new) }
 {

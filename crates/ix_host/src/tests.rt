@@ -1,5 +1,5 @@
 use crate::{Status, Words, run_serial};
-use ix_io::{MemSink, MemSource, NoMemory};
+use ix_io::{MemSink, MemSource};
 use std::alloc::Global;
 use std::test::Fail;
 
@@ -11,7 +11,7 @@ fn run(
     words: &[&str],
     mut source: MemSource,
     mut sink: MemSink,
-) -> Result<(Status, MemSink), NoMemory> {
+) -> Result<(Status, MemSink), Fail> {
     let mut command = Words::new(alloc);
     for word in words {
         command.push(word)?;
@@ -35,12 +35,12 @@ fn other_words_than_run_are_answered_by_the_usage_line(rt: HostRuntime) -> Resul
 #[test]
 fn a_script_is_refused_by_one_line(rt: HostRuntime) -> Result<(), Fail> {
     let alloc = rt.alloc();
-    let source = MemSource::new(alloc, b"ix 1\n", &[])?;
+    let source = MemSource::new(alloc, b"ix 1\nix 1\n", &[])?;
     let (status, sink) = run(alloc, &["run"], source, MemSink::new(alloc, 100, &[])?)?;
-    assert_eq!(rt; status, Status::Script { line: 1, rule: 0 });
+    assert_eq!(rt; status, Status::Script { line: 2, rule: 0 });
     assert_eq!(rt;
         sink.as_slice(),
-        b"script:1: the form is not built yet\n".as_slice()
+        b"script:2: the form is not built yet\n".as_slice()
     );
     Ok(())
 }

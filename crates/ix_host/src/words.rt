@@ -2,7 +2,7 @@ ghost use Rattle.std.specs.Prelude.{◌≡◌, ◌++◌, ◌∷◌, [], OnOk, On
 ghost use Rattle.std.specs.Option.{option_copied};
 ghost use Rattle.ix_host.specs.Command.{is_run};
 
-use ix_io::NoMemory;
+use ix_model::NoMemory;
 use std::alloc::Global;
 use std::marker::Model;
 
@@ -35,7 +35,9 @@ impl Words {
         ensures ok { OnOk result (self.new ≡ self.old ++ word.now ∷ []) }
         ensures err { OnErr result (self.new ≡ self.old) }
     {
-        let word = String::from_str(*self.words.allocator(), word)?;
+        let Ok(word) = String::from_str(*self.words.allocator(), word) else {
+            return Err(NoMemory);
+        };
         self.words.push(word).map_err(|_| NoMemory)
     }
 
