@@ -1,9 +1,8 @@
 -- One command more of a serial run.
-use Rattle.std.proofs.Common.{◌≡◌, ℕ, ◌+◌, ◌<◌, ◌≤◌, List, [], ◌∷◌, ◌++◌, length, drop, take, Option, Some, None, refl, sym, ap, ◌∙◌, arith, append_assoc, length-append, get_or, add-one}
+use Rattle.std.proofs.Common.{◌≡◌, ℕ, ◌+◌, ◌<◌, List, [], ◌∷◌, ◌++◌, length, drop, take, Option, Some, None, refl, sym, ap, ◌∙◌, append_assoc, length-append, get_or, add-one}
 use Rattle.std.specs.Option.{option_map}
 use Rattle.std.proofs.Math.Seq.{drop-cons}
-use Rattle.ix_label.specs.Category.{Categories}
-use Rattle.ix_model.specs.World.{World, Process}
+use Rattle.ix_model.specs.World.{Process}
 use Rattle.ix_model.specs.History.{Event}
 use Rattle.ix_model.specs.Histories.{History, world_of, next, with_entry}
 use Rattle.ix_model.specs.Shown.{AreShown}
@@ -28,8 +27,8 @@ one_longer h e = ap (λ n. n + 1) (length-append h.events (e ∷ []))
 -- the entries so far, and those of the commands that are left
 pub events_go_on : (h : History) (names : List Bound) (c : Command) (rest : List Command)
     → (with_entry h (event_of_command names c)).events
-        ++ serial (world_of (with_entry h (event_of_command names c))) (length (with_entry h (event_of_command names c)).events + 1) (after_command h names c) rest
-      ≡ h.events ++ serial (world_of h) (length h.events + 1) names (c ∷ rest)
+    ++ serial (world_of (with_entry h (event_of_command names c))) (length (with_entry h (event_of_command names c)).events + 1) (after_command h names c) rest
+    ≡ h.events ++ serial (world_of h) (length h.events + 1) names (c ∷ rest)
 events_go_on h names c rest =
     let e : Event = event_of_command names c in
     append_assoc h.events (e ∷ []) _
@@ -38,14 +37,14 @@ events_go_on h names c rest =
 -- the text so far, and that of the commands that are left
 pub text_goes_on : (h : History) (names : List Bound) (c : Command) (rest : List Command) (lane out : List ℕ)
     → (out ++ entry_text (length h.events + 1) lane (world_of h) (event_of_command names c))
-        ++ entries_text (length (with_entry h (event_of_command names c)).events + 1) lane (world_of (with_entry h (event_of_command names c)))
-          (serial (world_of (with_entry h (event_of_command names c))) (length (with_entry h (event_of_command names c)).events + 1) (after_command h names c) rest)
-      ≡ out ++ entries_text (length h.events + 1) lane (world_of h) (serial (world_of h) (length h.events + 1) names (c ∷ rest))
+    ++ entries_text (length (with_entry h (event_of_command names c)).events + 1) lane (world_of (with_entry h (event_of_command names c)))
+    (serial (world_of (with_entry h (event_of_command names c))) (length (with_entry h (event_of_command names c)).events + 1) (after_command h names c) rest)
+    ≡ out ++ entries_text (length h.events + 1) lane (world_of h) (serial (world_of h) (length h.events + 1) names (c ∷ rest))
 text_goes_on h names c rest lane out =
     let e : Event = event_of_command names c in
     append_assoc out _ _
     ∙ (λ i. out ++ (entry_text (length h.events + 1) lane (world_of h) e
-        ++ entries_text (one_longer h e i) lane (world_of-push h e i) (serial (world_of-push h e i) (one_longer h e i) (after_command h names c) rest)))
+    ++ entries_text (one_longer h e i) lane (world_of-push h e i) (serial (world_of-push h e i) (one_longer h e i) (after_command h names c) rest)))
 
 -- the command at an index, and those after it
 pub command_at : (cs : List Command) (i : ℕ) (c : Command) → i < length cs → c ≡ get_or cs i c → c ∷ drop (i + 1) cs ≡ drop i cs

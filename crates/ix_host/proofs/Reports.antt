@@ -1,7 +1,5 @@
 -- The report of a script, in the three parts in which it is written.
 use Rattle.std.proofs.Common.{◌≡◌, ℕ, ◌+◌, List, [], ◌++◌, length, refl}
-use Rattle.ix_model.specs.Opening.{opening_world}
-use Rattle.ix_model.specs.Step.{run}
 use Rattle.ix_model.specs.History.{Event}
 use Rattle.ix_model.specs.Histories.{History, world_of}
 use Rattle.ix_script.specs.declared.script.Script.{Script}

@@ -12,8 +12,11 @@ mod text;
 mod words;
 
 pub use ix_io as io;
+pub use ix_model::NoMemory;
 pub use run::{Status, run_serial};
 pub use words::Words;
 
+#[cfg(test)]
+mod sessions;
 #[cfg(test)]
 mod tests;

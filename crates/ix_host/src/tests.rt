@@ -6,7 +6,7 @@ use std::test::Fail;
 const USAGE: &[u8] = b"usage: ixone run\n";
 
 // The status of a run, and the sink that it wrote to.
-fn run(
+pub fn run(
     alloc: Global,
     words: &[&str],
     mut source: MemSource,
@@ -78,6 +78,20 @@ fn a_write_that_fails_leaves_a_front(rt: HostRuntime) -> Result<(), Fail> {
         assert_eq!(rt; status, Status::WriteFault);
         assert_eq!(rt; sink.as_slice().len(), took);
         assert!(rt; USAGE.starts_with(sink.as_slice()));
+    }
+    Ok(())
+}
+
+#[test]
+fn a_report_breaks_off_where_a_write_fails(rt: HostRuntime) -> Result<(), Fail> {
+    let alloc = rt.alloc();
+    for (fails, room, took) in [([0], 100, 0), ([1], 100, 55), ([9], 12, 12)] {
+        let source = MemSource::new(alloc, b"ix 1\n", &[])?;
+        let sink = MemSink::new(alloc, room, &fails)?;
+        let (status, sink) = run(alloc, &["run"], source, sink)?;
+        assert_eq!(rt; status, Status::WriteFault);
+        assert_eq!(rt; sink.as_slice().len(), took);
+        assert!(rt; sink.as_slice().len() < 12 || sink.as_slice().starts_with(b"ix 1 report\n"));
     }
     Ok(())
 }

@@ -1,5 +1,5 @@
 -- The line of a fault is the one that there is.
-use Rattle.std.proofs.Common.{◌≡◌, ℕ, ◌+◌, ◌<◌, ◌≤◌, true, false, not, List, length, take, Some, None, cond, refl, sym, ap, ◌∙◌, arith, inl, inr, get_or, nat_lt, unwrap_or, zero-add}
+use Rattle.std.proofs.Common.{◌≡◌, ℕ, ◌+◌, ◌<◌, ◌≤◌, not, List, length, take, Some, None, cond, sym, ap, ◌∙◌, arith, inl, inr, get_or, nat_lt, unwrap_or, zero-add}
 use Rattle.std.specs.List.{range_with_len}
 use Rattle.std.proofs.lemmas.Bool.{cases_lt, cond-true, lt-ltb}
 use Rattle.std.proofs.lemmas.List.{take_all}

@@ -1,8 +1,8 @@
 //! Reads a session script from standard input, runs it, and writes its report.
 #![tactic(auto)]
 
-use ix_host::io::{NoMemory, StdSink, StdSource};
-use ix_host::{Status, Words, run_serial};
+use ix_host::io::{StdSink, StdSource};
+use ix_host::{NoMemory, Status, Words, run_serial};
 use std::process::ExitCode;
 use std::rt::Env;
 use std::{env, io};

@@ -1,4 +1,4 @@
-use Rattle.std.proofs.Common.{◌≡◌, ◌++◌, ap, ◌∙◌}
+use Rattle.std.proofs.Common.{◌++◌, ap, ◌∙◌}
 use Rattle.ix_report.specs.LineText.{head_line}
 use Rattle.ix_host.proofs.Reports.{in_parts}
 use Rattle.ix_host.proofs.report.report.Goals as goal

@@ -1,6 +1,5 @@
-use Rattle.std.proofs.Common.{◌≡◌, ◌++◌, ◌∷◌, [], ◌+◌, List, ℕ, length, take, sym, ap, ◌∙◌, subst, length-append, OnOk, Option}
+use Rattle.std.proofs.Common.{◌≡◌, ◌++◌, ◌∷◌, [], ◌+◌, List, ℕ, length, take, sym, ap, ◌∙◌, subst, length-append, OnOk}
 use Rattle.std.specs.Option.{option_map}
-use Rattle.ix_label.specs.Category.{Categories}
 use Rattle.ix_model.specs.World.{World, Process, at}
 use Rattle.ix_model.specs.History.{Event}
 use Rattle.ix_model.specs.Calls.{op_of}
@@ -11,7 +10,7 @@ use Rattle.ix_model.specs.declared.views.ProcView.{ProcView}
 use Rattle.ix_model.proofs.Runs.{world_of-push}
 use Rattle.ix_model.proofs.Showing.{shown_step}
 use Rattle.ix_report.specs.LineText.{entry_line}
-use Rattle.ix_host.specs.Serial.{count_in, event_of_command, op_of_deed}
+use Rattle.ix_host.specs.Serial.{event_of_command, op_of_deed}
 use Rattle.ix_host.proofs.Commands.{shown_is, label_shown}
 use Rattle.ix_host.proofs.serial.run_command.Goals as goal
 
@@ -27,9 +26,9 @@ returns-clause-text g c =
     let are : AreShown c.in-Given.reply (next old e0).bytes = subst (λ (r : Reply). AreShown r (next old e0).bytes) (sym given.1) (shown_step (world_of old) (length old.events + 1) c.args.command.now.pid.0 (op_of c.call_of.result) c.call_of.ensures.built) in
     let reply : c.in-Given.reply ≡ (next old e1).reply = given.1 ∙ ap (λ e. (next old e).reply) same in
     let bytes : take c.count_in.result c.step.new.buf ≡ (next old e1).bytes =
-      ap (λ n. take n c.step.new.buf) c.count_in.ensures ∙ shown_is c.in-Given.reply c.step.new.buf (next old e0).bytes c.in-Given.ensures.shown are ∙ ap (λ e. (next old e).bytes) same in
+    ap (λ n. take n c.step.new.buf) c.count_in.ensures ∙ shown_is c.in-Given.reply c.step.new.buf (next old e0).bytes c.in-Given.ensures.shown are ∙ ap (λ e. (next old e).bytes) same in
     let world : world_of c.step.new.self ≡ (next old e1).world = ap world_of given.0 ∙ world_of-push old e0 ∙ ap (λ e. (next old e).world) same in
     let label : option_map (λ (v : ProcView). v.label) c.process.result ≡ option_map (λ (p : Process). p.label) (at (next old e1).world.frame.processes e1.pid) =
-      ap (λ o. option_map (λ (v : ProcView). v.label) o) c.process.ensures ∙ label_shown _ ∙ ap (λ (w : World). option_map (λ (p : Process). p.label) (at w.frame.processes e1.pid)) world in
+    ap (λ o. option_map (λ (v : ProcView). v.label) o) c.process.ensures ∙ label_shown _ ∙ ap (λ (w : World). option_map (λ (p : Process). p.label) (at w.frame.processes e1.pid)) world in
     let P : List ℕ → Type 0 = λ t. OnOk c.push_entry.result (c.push_entry.new.out.items ≡ c.args.out.now.items ++ t) in
     subst P (λ i. entry_line (place i) c.args.lane.now (same i) (reply i) (bytes i) (label i)) c.push_entry.ensures

@@ -1,4 +1,4 @@
-use Rattle.std.proofs.Common.{◌≡◌, ◌++◌, ◌∷◌, [], ◌+◌, List, length, drop, sym, ap, ◌∙◌, arith, length-append}
+use Rattle.std.proofs.Common.{◌≡◌, ◌++◌, ◌∷◌, [], ◌+◌, List, length, drop, ap, ◌∙◌, arith, length-append}
 use Rattle.ix_model.specs.Histories.{History, world_of}
 use Rattle.ix_script.specs.declared.script.Command.{Command}
 use Rattle.ix_host.specs.Serial.{serial, event_of_command}
@@ -16,9 +16,9 @@ loop-command-preserved g c =
     record {
       config = ap (λ (k : History). k.config) c.in_ok-run_command.ensures.core ∙ c.loop-command.invariant.config;
       events = rw (c.in_ok-run_command.ensures.core, c.in_ok-run_command.ensures.names)
-        (events_go_on h names command rest ∙ ap (λ cs. h.events ++ serial (world_of h) (length h.events + 1) names cs) here ∙ c.loop-command.invariant.events);
+          (events_go_on h names command rest ∙ ap (λ cs. h.events ++ serial (world_of h) (length h.events + 1) names cs) here ∙ c.loop-command.invariant.events);
       text = rw (c.in_ok-run_command.ensures.core, c.in_ok-run_command.ensures.names, c.in_ok-run_command.ensures.text)
-        (text_goes_on h names command rest c.args.lane.now c.loop-command.out.items
+          (text_goes_on h names command rest c.args.lane.now c.loop-command.out.items
           ∙ ap (λ cs. c.loop-command.out.items ++ entries_text (length h.events + 1) c.args.lane.now (world_of h) (serial (world_of h) (length h.events + 1) names cs)) here
           ∙ c.loop-command.invariant.text);
       count = let grown : length c.run_command.new.core.events ≡ length h.events + 1 = ap (λ (k : History). length k.events) c.in_ok-run_command.ensures.core ∙ length-append h.events (event_of_command names command ∷ []) in omega arith;
