@@ -8,8 +8,7 @@ use Rattle.ix_model.specs.History as op
 use Rattle.ix_model.specs.declared.call.Mode.TheVariants as mode
 use Rattle.ix_model.specs.declared.refusal.Refusal.TheVariants as refusal
 use Rattle.ix_worked.specs.Sessions.{shown}
-use Rattle.ix_worked.specs.Scripts.{in_root, proc, file, usual_fs}
-use Rattle.ix_worked.specs.TwoLevels.{seven}
+use Rattle.ix_worked.specs.Scripts.{seven, in_root, proc, file, usual_fs}
 use Rattle.ix_worked.specs.LooksAnew.{held_low, reading_twice, reading_twice_shows}
 use Rattle.ix_worked.proofs.Chains.{number, bytes, refused, shown_by, shown_given}
 use Rattle.ix_worked.proofs.Computing.{running}
@@ -20,7 +19,7 @@ use Rattle.ix_worked.proofs.Worlds.{Opened, world_with}
 abbrev world : List ℕ → List ℕ → Categories → List ℕ → List Opened → World
 world low high label held opens =
     world_with usual_fs (record { spec = proc bottom bottom; holds = low } ∷ record { spec = proc seven top; holds = high } ∷ [])
-      (file (codes "d") label held ∷ []) opens
+    (file (codes "d") label held ∷ []) opens
 
 abbrev reads : ℕ → Opened
 reads offset = record { file = 1; mode = mode.Read; offset = offset }

@@ -1,5 +1,5 @@
 -- What is shown where a high process writes any two bytes, entry by entry.
-use Rattle.std.proofs.Common.{◌≡◌, ℕ, List, [], ◌∷◌, length, refl, arith, codes}
+use Rattle.std.proofs.Common.{◌≡◌, ℕ, List, [], ◌∷◌, refl, arith, codes}
 use Rattle.ix_label.specs.Category.{Categories, bottom, top}
 use Rattle.ix_model.specs.World.{World}
 use Rattle.ix_model.specs.Step.{Given, step}
@@ -7,8 +7,8 @@ use Rattle.ix_model.specs.Opening.{opening_world}
 use Rattle.ix_model.specs.History as op
 use Rattle.ix_model.specs.declared.call.Mode.TheVariants as mode
 use Rattle.ix_worked.specs.Sessions.{shown}
-use Rattle.ix_worked.specs.Scripts.{in_root, proc, file, usual_fs}
-use Rattle.ix_worked.specs.TwoLevels.{seven, two_levels, writing, writing_shows}
+use Rattle.ix_worked.specs.Scripts.{seven, in_root, proc, file, usual_fs}
+use Rattle.ix_worked.specs.TwoLevels.{two_levels, writing, writing_shows}
 use Rattle.ix_worked.proofs.Chains.{number, bytes, shown_by, shown_given}
 use Rattle.ix_worked.proofs.Computing.{running}
 use Rattle.ix_worked.proofs.Labels.{labels, leq-one_top}
@@ -18,7 +18,7 @@ use Rattle.ix_worked.proofs.Worlds.{Opened, world_with}
 abbrev world : Categories → List ℕ → List ℕ → Categories → List ℕ → List Opened → World
 world label low high raised bytes opens =
     world_with usual_fs (record { spec = proc label top; holds = low } ∷ record { spec = proc seven top; holds = high } ∷ [])
-      (file (codes "d") raised bytes ∷ file (codes "e") bottom (codes "ok") ∷ []) opens
+    (file (codes "d") raised bytes ∷ file (codes "e") bottom (codes "ok") ∷ []) opens
 
 abbrev on_d : ℕ → Opened
 on_d offset = record { file = 1; mode = mode.Read; offset = offset }

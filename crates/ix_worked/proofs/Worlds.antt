@@ -1,6 +1,6 @@
 -- The worlds that the sessions go through, written out.
-use Rattle.std.proofs.Common.{◌≡◌, ℕ, ◌+◌, ◌-◌, List, [], ◌∷◌, ◌++◌, Option, Some, None, map, length, replicate}
-use Rattle.ix_model.specs.World.{World, Open}
+use Rattle.std.proofs.Common.{ℕ, ◌+◌, ◌-◌, List, ◌∷◌, ◌++◌, Some, None, map, length, replicate}
+use Rattle.ix_model.specs.World.{World}
 use Rattle.ix_model.specs.Opening.{process_of}
 use Rattle.ix_model.specs.Flat.{flat_world}
 use Rattle.ix_model.specs.declared.call.Mode.{Mode}
@@ -27,11 +27,11 @@ front n none xs = xs ++ replicate (n - length xs) none
 -- processes, files and open entries on one file system
 abbrev pub world_with : FsSpec → List Holder → List ObjSpec → List Opened → World
 world_with fs holders files opens =
-    let w : World = flat_world usual_limits fs (map (λ h. h.spec) holders) files (fs.inodes - 1 + 32 - length files) in
+    let w : World = flat_world usual_limits fs (map (λ h. h.spec) holders) files (fs.inodes - 1 + usual_limits.pipes - length files) in
     record {
       frame = record w.frame {
         processes = None ∷ map (λ h. Some (record (process_of h.spec) { fds = front 32 None (map Some h.holds) })) holders;
-        opens = front 256 None (map (λ e. Some (record { object = e.file; end = 0; mode = e.mode })) opens);
+        opens = front usual_limits.opens None (map (λ e. Some (record { object = e.file; end = 0; mode = e.mode })) opens);
       };
-      content = record w.content { offsets = front 256 0 (map (λ e. e.offset) opens) };
+      content = record w.content { offsets = front usual_limits.opens 0 (map (λ e. e.offset) opens) };
     }

@@ -1,6 +1,6 @@
 -- A file floats to the label of its writer, as far as its file system's ceiling.
 use Rattle.std.specs.Prelude.{List, [], ◌∷◌, codes}
-use Rattle.ix_label.specs.Category.{bottom, top, with}
+use Rattle.ix_label.specs.Category.{bottom, top}
 use Rattle.ix_model.specs.History.{Event}
 use Rattle.ix_model.specs.History as op
 use Rattle.ix_model.specs.declared.call.Mode.TheVariants as mode
@@ -9,12 +9,11 @@ use Rattle.ix_model.specs.declared.config.FsSpec.{FsSpec}
 use Rattle.ix_model.specs.declared.refusal.Refusal.TheVariants as refusal
 use Rattle.ix_model.specs.declared.reply.Reply.TheVariants as reply
 use Rattle.ix_worked.specs.Sessions.{Shown}
-use Rattle.ix_worked.specs.Scripts.{in_root, proc, file, machine, entry, gives}
-use Rattle.ix_worked.specs.Floating.{three}
+use Rattle.ix_worked.specs.Scripts.{three, five, in_root, proc, file, machine, entry, gives}
 
 -- fs root 5 64 16
 abbrev pub low_fs : FsSpec
-low_fs = record { name = codes "root"; ceiling = with bottom 5; blocks = 64; inodes = 16 }
+low_fs = record { name = codes "root"; ceiling = five; blocks = 64; inodes = 16 }
 
 -- proc a 3 * - -
 -- file /t - free - - "old"

@@ -1,6 +1,6 @@
 -- A reader floats to the label of what it reads, as far as its ceiling.
 use Rattle.std.specs.Prelude.{List, [], ◌∷◌, codes}
-use Rattle.ix_label.specs.Category.{Categories, bottom, with}
+use Rattle.ix_label.specs.Category.{Categories, bottom}
 use Rattle.ix_model.specs.History.{Event}
 use Rattle.ix_model.specs.History as op
 use Rattle.ix_model.specs.declared.call.Mode.TheVariants as mode
@@ -8,13 +8,7 @@ use Rattle.ix_model.specs.declared.config.Config.{Config}
 use Rattle.ix_model.specs.declared.refusal.Refusal.TheVariants as refusal
 use Rattle.ix_model.specs.declared.reply.Reply.TheVariants as reply
 use Rattle.ix_worked.specs.Sessions.{Shown}
-use Rattle.ix_worked.specs.Scripts.{in_root, proc, file, usual_fs, machine, entry, gives}
-
-abbrev pub three : Categories
-three = with bottom 3
-
-abbrev pub three_and_five : Categories
-three_and_five = with three 5
+use Rattle.ix_worked.specs.Scripts.{three, three_and_five, in_root, proc, file, usual_fs, machine, entry, gives}
 
 -- proc a - 3 - -
 -- file /s LABEL free - - "hi"

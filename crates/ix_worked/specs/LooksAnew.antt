@@ -8,8 +8,7 @@ use Rattle.ix_model.specs.declared.config.Config.{Config}
 use Rattle.ix_model.specs.declared.refusal.Refusal.TheVariants as refusal
 use Rattle.ix_model.specs.declared.reply.Reply.TheVariants as reply
 use Rattle.ix_worked.specs.Sessions.{Shown}
-use Rattle.ix_worked.specs.Scripts.{in_root, proc, file, usual_fs, machine, entry, gives}
-use Rattle.ix_worked.specs.TwoLevels.{seven}
+use Rattle.ix_worked.specs.Scripts.{seven, in_root, proc, file, usual_fs, machine, entry, gives}
 
 -- proc l - - - -
 -- proc h 7 * - -

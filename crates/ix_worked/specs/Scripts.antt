@@ -1,6 +1,6 @@
 -- The words that the sessions' configs and histories are written in.
 use Rattle.std.specs.Prelude.{ℕ, true, false, List, [], ◌∷◌, Some, codes}
-use Rattle.ix_label.specs.Category.{Categories, top}
+use Rattle.ix_label.specs.Category.{Categories, bottom, top, with}
 use Rattle.ix_model.specs.Naming.{PathOf}
 use Rattle.ix_model.specs.Privs.{no_privileges}
 use Rattle.ix_model.specs.History.{Op, Event}
@@ -11,6 +11,19 @@ use Rattle.ix_model.specs.declared.config.ProcSpec.{ProcSpec}
 use Rattle.ix_model.specs.declared.config.ObjSpec.{ObjSpec}
 use Rattle.ix_model.specs.declared.reply.Reply.{Reply}
 use Rattle.ix_worked.specs.Sessions.{Line}
+
+-- the labels 3, 5, 7 and 3,5
+abbrev pub three : Categories
+three = with bottom 3
+
+abbrev pub five : Categories
+five = with bottom 5
+
+abbrev pub seven : Categories
+seven = with bottom 7
+
+abbrev pub three_and_five : Categories
+three_and_five = with three 5
 
 -- an absolute path of one name
 abbrev pub in_root : List ℕ → PathOf

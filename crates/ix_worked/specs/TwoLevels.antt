@@ -1,16 +1,13 @@
 -- A high writer and a low reader on one machine.
-use Rattle.std.specs.Prelude.{ℕ, List, [], ◌∷◌, codes, length}
-use Rattle.ix_label.specs.Category.{Categories, bottom, top, with}
+use Rattle.std.specs.Prelude.{ℕ, List, [], ◌∷◌, codes}
+use Rattle.ix_label.specs.Category.{bottom, top}
 use Rattle.ix_model.specs.History.{Event}
 use Rattle.ix_model.specs.History as op
 use Rattle.ix_model.specs.declared.call.Mode.TheVariants as mode
 use Rattle.ix_model.specs.declared.config.Config.{Config}
 use Rattle.ix_model.specs.declared.reply.Reply.TheVariants as reply
 use Rattle.ix_worked.specs.Sessions.{Shown}
-use Rattle.ix_worked.specs.Scripts.{in_root, proc, file, usual_fs, machine, entry, gives}
-
-abbrev pub seven : Categories
-seven = with bottom 7
+use Rattle.ix_worked.specs.Scripts.{seven, in_root, proc, file, usual_fs, machine, entry, gives}
 
 -- proc l - * - -
 -- proc h 7 * - -

@@ -1,18 +1,13 @@
 //! Worked sessions: what each of them shows, by the machine's definitions alone. These functions do nothing: each states
 //! what a history from a config gives, entry by entry, and the labels at its end.
 #![tactic(auto)]
+
 ghost use Rattle.std.specs.Prelude.{◌≡◌, ℕ, true, [], ◌∷◌, codes, take};
 ghost use Rattle.ix_model.specs.Valid.{is_valid, is_flat};
 ghost use Rattle.ix_worked.specs.Sessions.{shown};
 ghost use Rattle.ix_worked.specs.Untouched.{untouched, no_entries, untouched_shows};
-ghost use Rattle.ix_worked.specs.Floating.{
-  three,
-  three_and_five,
-  reading_up,
-  reading,
-  floating_shows,
-  stopped_shows,
-};
+ghost use Rattle.ix_worked.specs.Scripts.{three, three_and_five};
+ghost use Rattle.ix_worked.specs.Floating.{reading_up, reading, floating_shows, stopped_shows};
 ghost use Rattle.ix_worked.specs.FileCeiling.{low_files, writing_down, writing_down_shows};
 ghost use Rattle.ix_worked.specs.TwoLevels.{two_levels, writing, writing_shows};
 ghost use Rattle.ix_worked.specs.LooksAnew.{held_low, reading_twice, reading_twice_shows};
@@ -56,9 +51,7 @@ pub fn a_reader_floats_to_a_raised_file()
 /// The same with other bytes: they show in the read that floats, and nowhere else. So it is for any two bytes.
 pub fn other_bytes_change_high_reads_alone()
     ensures shown { shown two_levels (writing (codes "BB")) ≡ writing_shows (codes "BB") }
-    ensures low {
-        take 5 (shown two_levels (writing (codes "BB"))).lines ≡ take 5 (shown two_levels (writing (codes "AA"))).lines
-    }
+    ensures low { take 5 (shown two_levels (writing (codes "BB"))).lines ≡ take 5 (shown two_levels (writing (codes "AA"))).lines }
     ensures any { (a b : ℕ) → shown two_levels (writing (a ∷ b ∷ [])) ≡ writing_shows (a ∷ b ∷ []) }
 {}
 

@@ -1,7 +1,7 @@
 use Rattle.std.proofs.Common.{refl, arith}
 use Rattle.ix_worked.proofs.Computing.{running, fitting}
 use Rattle.ix_worked.proofs.Labels.{labels, leq-two_top, leq-with_one}
-use Rattle.ix_worked.specs.Floating.{three}
+use Rattle.ix_worked.specs.Scripts.{three}
 use Rattle.ix_worked.proofs.is_stopped_by_its_ceiling.Goals as goal
 
 pub returns-clause-valid : goal.returns-clause-valid

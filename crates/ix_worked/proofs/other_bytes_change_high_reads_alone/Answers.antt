@@ -1,4 +1,4 @@
-use Rattle.std.proofs.Common.{refl, sym, ap, ◌∙◌, take, codes}
+use Rattle.std.proofs.Common.{sym, ap, ◌∙◌, take}
 use Rattle.ix_worked.proofs.TwoBytes.{two_bytes}
 use Rattle.ix_worked.proofs.other_bytes_change_high_reads_alone.Goals as goal
 
