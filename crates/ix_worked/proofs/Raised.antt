@@ -27,6 +27,7 @@ reads offset = record { file = 1; mode = mode.Read; offset = offset }
 abbrev writes : ℕ → Opened
 writes offset = record { file = 1; mode = mode.Write; offset = offset }
 
+-- ---- the worlds, in order
 at_first : World
 at_first = world [] [] bottom (codes "xy") []
 
@@ -42,6 +43,7 @@ read_once = world (1 ∷ []) (0 ∷ []) bottom (codes "xy") (writes 0 ∷ reads 
 raised : World
 raised = world (1 ∷ []) (0 ∷ []) seven (codes "Zy") (writes 1 ∷ reads 1 ∷ [])
 
+-- ---- the steps from one to the next
 opening : opening_world held_low ≡ at_first
 unfolding running at_first
 opening = refl
@@ -66,6 +68,7 @@ stops_low : step raised 5 1 (op.ReadFd 0 1) ≡ refused raised refusal.ProcCeili
 unfolding running raised
 stops_low = simp labels refl
 
+-- ---- all of them. The worlds stay closed until the last step is taken.
 abbrev given : List Given
 given = number one_open 0 ∷ number both_open 0 ∷ bytes read_once (codes "x") ∷ number raised 1 ∷ refused raised refusal.ProcCeiling ∷ []
 

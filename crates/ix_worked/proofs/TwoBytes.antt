@@ -29,6 +29,7 @@ on_e offset = record { file = 2; mode = mode.Read; offset = offset }
 abbrev writes_d : ℕ → Opened
 writes_d offset = record { file = 1; mode = mode.Write; offset = offset }
 
+-- ---- the worlds, in order
 at_first : World
 at_first = world bottom [] [] bottom (0 ∷ []) []
 
@@ -50,6 +51,7 @@ read_low a b = world bottom (1 ∷ 2 ∷ []) (0 ∷ []) seven (a ∷ b ∷ []) (
 read_high : ℕ → ℕ → World
 read_high a b = world seven (1 ∷ 2 ∷ []) (0 ∷ []) seven (a ∷ b ∷ []) (writes_d 2 ∷ on_d 2 ∷ on_e 2 ∷ [])
 
+-- ---- the steps from one to the next
 opening : opening_world two_levels ≡ at_first
 unfolding running at_first
 opening = refl
@@ -78,6 +80,7 @@ reads_d_low : (a b : ℕ) → step (read_low a b) 6 1 (op.ReadFd 0 2) ≡ bytes 
 unfolding running read_low read_high
 reads_d_low a b = simp (labels, leq-one_top 7 (omega arith)) refl
 
+-- ---- all of them. The worlds stay closed until the last step is taken.
 abbrev given : ℕ → ℕ → List Given
 given a b =
     number one_open 0

@@ -19,6 +19,7 @@ use Rattle.ix_worked.proofs.Worlds.{Opened, world_with}
 abbrev world : List ℕ → List Opened → World
 world holds opens = world_with low_fs (record { spec = proc three top; holds = holds } ∷ []) (file (codes "t") bottom (codes "old") ∷ []) opens
 
+-- ---- the worlds, in order
 at_first : World
 at_first = world [] []
 
@@ -28,6 +29,7 @@ one_open = world (0 ∷ []) (record { file = 1; mode = mode.Both; offset = 0 } �
 read_on : World
 read_on = world (0 ∷ []) (record { file = 1; mode = mode.Both; offset = 3 } ∷ [])
 
+-- ---- the steps from one to the next
 opening : opening_world low_files ≡ at_first
 unfolding running at_first
 opening = refl
@@ -44,6 +46,7 @@ reads : step one_open 3 1 (op.ReadFd 0 3) ≡ bytes read_on (codes "old")
 unfolding running one_open read_on
 reads = simp labels refl
 
+-- ---- all of them. The worlds stay closed until the last step is taken.
 abbrev given : List Given
 given = number one_open 0 ∷ refused one_open refusal.FsCeiling ∷ bytes read_on (codes "old") ∷ []
 
