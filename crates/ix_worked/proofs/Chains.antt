@@ -1,0 +1,61 @@
+-- A history shows what its steps give, one after another.
+use Rattle.std.proofs.Common.{◌≡◌, ℕ, suc, List, [], ◌∷◌, length, refl, ap, ◌∙◌}
+use Rattle.ix_model.specs.World.{World}
+use Rattle.ix_model.specs.Step.{Given, step_of, run}
+use Rattle.ix_model.specs.Opening.{opening_world}
+use Rattle.ix_model.specs.History.{Event}
+use Rattle.ix_model.specs.declared.config.Config.{Config}
+use Rattle.ix_model.specs.declared.refusal.Refusal.{Refusal}
+use Rattle.ix_model.specs.declared.reply.Reply.TheVariants as reply
+use Rattle.ix_worked.specs.Sessions.{Line, Shown, line_of, lines_of, labels_in, shown_from, shown}
+
+-- what an answer by a number, one by bytes and a refusal give
+abbrev pub number : World → ℕ → Given
+number w n = record { world = w; reply = reply.Number n; bytes = [] }
+
+abbrev pub bytes : World → List ℕ → Given
+bytes w text = record { world = w; reply = reply.Bytes (length text); bytes = text }
+
+abbrev pub refused : World → Refusal → Given
+refused w why = record { world = w; reply = reply.No why; bytes = [] }
+
+-- each entry gives the one that stands at its place, and the next is made from the world after it
+abbrev pub Gives : World → ℕ → List Event → List Given → Type 0
+Gives w place [] gs = Unit {0}
+Gives w place (e ∷ events) [] = ⊥
+Gives w place (e ∷ events) (g ∷ gs) = (step_of w place e ≡ g) × Gives g.world (suc place) events gs
+
+abbrev pub lines_by : List Event → List Given → List Line
+lines_by [] gs = []
+lines_by (e ∷ events) [] = []
+lines_by (e ∷ events) (g ∷ gs) = line_of e g ∷ lines_by events gs
+
+abbrev pub last_of : World → List Event → List Given → World
+last_of w [] gs = w
+last_of w (e ∷ events) [] = w
+last_of w (e ∷ events) (g ∷ gs) = last_of g.world events gs
+
+lines_given : (w : World) (place : ℕ) (events : List Event) (gs : List Given) → Gives w place events gs → lines_of w place events ≡ lines_by events gs
+lines_given w place [] gs h = refl
+lines_given w place (e ∷ events) [] h = absurd h
+lines_given w place (e ∷ events) (g ∷ gs) h = ap (λ x. line_of e x ∷ lines_of x.world (suc place) events) h.0 ∙ ap (λ ls. line_of e g ∷ ls) (lines_given g.world (suc place) events gs h.1)
+
+run_given : (w : World) (place : ℕ) (events : List Event) (gs : List Given) → Gives w place events gs → run w place events ≡ last_of w events gs
+run_given w place [] gs h = refl
+run_given w place (e ∷ events) [] h = absurd h
+run_given w place (e ∷ events) (g ∷ gs) h = ap (λ x. run x.world (suc place) events) h.0 ∙ run_given g.world (suc place) events gs h.1
+
+-- the lines that are given, and the labels of the last world
+abbrev pub shown_by : World → List Event → List Given → Shown
+shown_by w events gs = record {
+  lines = lines_by events gs;
+  objects = labels_in (λ o. o.label) 0 (last_of w events gs).frame.objects;
+  processes = labels_in (λ p. p.label) 0 (last_of w events gs).frame.processes;
+}
+
+pub shown_given : (c : Config) (w : World) (events : List Event) (gs : List Given) → opening_world c ≡ w → Gives w 1 events gs → shown c events ≡ shown_by w events gs
+shown_given c w events gs opening h = ap (λ v. shown_from v events) opening ∙ (λ i. record {
+  lines = lines_given w 1 events gs h i;
+  objects = labels_in (λ o. o.label) 0 (run_given w 1 events gs h i).frame.objects;
+  processes = labels_in (λ p. p.label) 0 (run_given w 1 events gs h i).frame.processes;
+})

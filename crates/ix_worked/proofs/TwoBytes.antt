@@ -1,0 +1,99 @@
+-- What is shown where a high process writes any two bytes, entry by entry.
+use Rattle.std.proofs.Common.{◌≡◌, ℕ, List, [], ◌∷◌, refl, arith, codes}
+use Rattle.ix_label.specs.Category.{Categories, bottom, top}
+use Rattle.ix_model.specs.World.{World}
+use Rattle.ix_model.specs.Step.{Given, step}
+use Rattle.ix_model.specs.Opening.{opening_world}
+use Rattle.ix_model.specs.History as op
+use Rattle.ix_model.specs.declared.call.Mode.TheVariants as mode
+use Rattle.ix_worked.specs.Sessions.{shown}
+use Rattle.ix_worked.specs.Scripts.{seven, in_root, proc, file, usual_fs}
+use Rattle.ix_worked.specs.TwoLevels.{two_levels, writing, writing_shows}
+use Rattle.ix_worked.proofs.Chains.{number, bytes, shown_by, shown_given}
+use Rattle.ix_worked.proofs.Computing.{running}
+use Rattle.ix_worked.proofs.Labels.{labels, leq-one_top}
+use Rattle.ix_worked.proofs.Worlds.{Opened, world_with}
+
+-- the low process at a label with these descriptors, the high one with these, the file that is written, and what is open
+abbrev world : Categories → List ℕ → List ℕ → Categories → List ℕ → List Opened → World
+world label low high raised bytes opens =
+    world_with usual_fs (record { spec = proc label top; holds = low } ∷ record { spec = proc seven top; holds = high } ∷ [])
+    (file (codes "d") raised bytes ∷ file (codes "e") bottom (codes "ok") ∷ []) opens
+
+abbrev on_d : ℕ → Opened
+on_d offset = record { file = 1; mode = mode.Read; offset = offset }
+
+abbrev on_e : ℕ → Opened
+on_e offset = record { file = 2; mode = mode.Read; offset = offset }
+
+abbrev writes_d : ℕ → Opened
+writes_d offset = record { file = 1; mode = mode.Write; offset = offset }
+
+-- ---- the worlds, in order
+at_first : World
+at_first = world bottom [] [] bottom (0 ∷ []) []
+
+one_open : World
+one_open = world bottom [] (0 ∷ []) bottom (0 ∷ []) (writes_d 0 ∷ [])
+
+two_open : World
+two_open = world bottom (1 ∷ []) (0 ∷ []) bottom (0 ∷ []) (writes_d 0 ∷ on_d 0 ∷ [])
+
+all_open : World
+all_open = world bottom (1 ∷ 2 ∷ []) (0 ∷ []) bottom (0 ∷ []) (writes_d 0 ∷ on_d 0 ∷ on_e 0 ∷ [])
+
+written : ℕ → ℕ → World
+written a b = world bottom (1 ∷ 2 ∷ []) (0 ∷ []) seven (a ∷ b ∷ []) (writes_d 2 ∷ on_d 0 ∷ on_e 0 ∷ [])
+
+read_low : ℕ → ℕ → World
+read_low a b = world bottom (1 ∷ 2 ∷ []) (0 ∷ []) seven (a ∷ b ∷ []) (writes_d 2 ∷ on_d 0 ∷ on_e 2 ∷ [])
+
+read_high : ℕ → ℕ → World
+read_high a b = world seven (1 ∷ 2 ∷ []) (0 ∷ []) seven (a ∷ b ∷ []) (writes_d 2 ∷ on_d 2 ∷ on_e 2 ∷ [])
+
+-- ---- the steps from one to the next
+opening : opening_world two_levels ≡ at_first
+unfolding running at_first
+opening = refl
+
+opens_d_high : step at_first 1 2 (op.OpenAt (in_root (codes "d")) mode.Write) ≡ number one_open 0
+unfolding running at_first one_open
+opens_d_high = simp labels refl
+
+opens_d_low : step one_open 2 1 (op.OpenAt (in_root (codes "d")) mode.Read) ≡ number two_open 0
+unfolding running one_open two_open
+opens_d_low = simp labels refl
+
+opens_e_low : step two_open 3 1 (op.OpenAt (in_root (codes "e")) mode.Read) ≡ number all_open 1
+unfolding running two_open all_open
+opens_e_low = simp labels refl
+
+writes_d_high : (a b : ℕ) → step all_open 4 2 (op.WriteFd 0 (a ∷ b ∷ [])) ≡ number (written a b) 2
+unfolding running all_open written
+writes_d_high a b = simp (labels, leq-one_top 7 (omega arith)) refl
+
+reads_e_low : (a b : ℕ) → step (written a b) 5 1 (op.ReadFd 1 2) ≡ bytes (read_low a b) (codes "ok")
+unfolding running written read_low
+reads_e_low a b = simp labels refl
+
+reads_d_low : (a b : ℕ) → step (read_low a b) 6 1 (op.ReadFd 0 2) ≡ bytes (read_high a b) (a ∷ b ∷ [])
+unfolding running read_low read_high
+reads_d_low a b = simp (labels, leq-one_top 7 (omega arith)) refl
+
+-- ---- all of them. The worlds stay closed until the last step is taken.
+abbrev given : ℕ → ℕ → List Given
+given a b =
+    number one_open 0
+    ∷ number two_open 0
+    ∷ number all_open 1
+    ∷ number (written a b) 2
+    ∷ bytes (read_low a b) (codes "ok")
+    ∷ bytes (read_high a b) (a ∷ b ∷ [])
+    ∷ []
+
+ran : (a b : ℕ) → shown two_levels (writing (a ∷ b ∷ [])) ≡ shown_by at_first (writing (a ∷ b ∷ [])) (given a b)
+ran a b = shown_given two_levels at_first (writing (a ∷ b ∷ [])) (given a b) opening (opens_d_high, (opens_d_low, (opens_e_low, (writes_d_high a b, (reads_e_low a b, (reads_d_low a b, tt))))))
+
+pub two_bytes : (a b : ℕ) → shown two_levels (writing (a ∷ b ∷ [])) ≡ writing_shows (a ∷ b ∷ [])
+unfolding at_first one_open two_open all_open written read_low read_high
+two_bytes a b = ran a b

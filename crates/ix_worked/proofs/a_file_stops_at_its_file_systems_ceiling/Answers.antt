@@ -1,0 +1,16 @@
+use Rattle.std.proofs.Common.{refl, arith}
+use Rattle.ix_worked.proofs.Computing.{fitting}
+use Rattle.ix_worked.proofs.Labels.{labels, leq-one_top}
+use Rattle.ix_worked.proofs.WrittenDown.{written_down}
+use Rattle.ix_worked.proofs.a_file_stops_at_its_file_systems_ceiling.Goals as goal
+
+pub returns-clause-valid : goal.returns-clause-valid
+unfolding fitting
+returns-clause-valid c = simp (labels, leq-one_top 3 (omega arith)) refl
+
+pub returns-clause-flat : goal.returns-clause-flat
+unfolding fitting
+returns-clause-flat c = refl
+
+pub returns-clause-shown : goal.returns-clause-shown
+returns-clause-shown c = written_down

@@ -1,0 +1,16 @@
+use Rattle.std.proofs.Common.{refl, arith}
+use Rattle.ix_worked.proofs.Computing.{running, fitting}
+use Rattle.ix_worked.proofs.Labels.{labels, leq-one_top}
+use Rattle.ix_worked.proofs.floats_to_its_ceiling.Goals as goal
+
+pub returns-clause-valid : goal.returns-clause-valid
+unfolding fitting
+returns-clause-valid c = simp (labels, leq-one_top 3 (omega arith)) refl
+
+pub returns-clause-flat : goal.returns-clause-flat
+unfolding fitting
+returns-clause-flat c = refl
+
+pub returns-clause-shown : goal.returns-clause-shown
+unfolding running
+returns-clause-shown c = simp labels refl

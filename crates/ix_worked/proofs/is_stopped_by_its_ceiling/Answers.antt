@@ -1,0 +1,17 @@
+use Rattle.std.proofs.Common.{refl, arith}
+use Rattle.ix_worked.proofs.Computing.{running, fitting}
+use Rattle.ix_worked.proofs.Labels.{labels, leq-two_top, leq-with_one}
+use Rattle.ix_worked.specs.Scripts.{three}
+use Rattle.ix_worked.proofs.is_stopped_by_its_ceiling.Goals as goal
+
+pub returns-clause-valid : goal.returns-clause-valid
+unfolding fitting
+returns-clause-valid c = simp (labels, leq-two_top 3 5 (omega arith) (omega arith)) refl
+
+pub returns-clause-flat : goal.returns-clause-flat
+unfolding fitting
+returns-clause-flat c = refl
+
+pub returns-clause-shown : goal.returns-clause-shown
+unfolding running
+returns-clause-shown c = simp (labels, leq-with_one three 5 3 refl) refl

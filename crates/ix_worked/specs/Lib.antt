@@ -1,0 +1,7 @@
+pub mod Sessions
+pub mod Scripts
+pub mod Untouched
+pub mod Floating
+pub mod FileCeiling
+pub mod TwoLevels
+pub mod LooksAnew
