@@ -36,15 +36,15 @@ lives_relabelled (x ∷ t) (suc n) l = lives_relabelled t n l
 
 pub restores_itself : (f : Frame) (pid : ℕ) → lives f pid ≡ true → Restores f f pid
 restores_itself f pid h = record {
-    living = h;
-    back = λ l is. ap (λ (t : List (Option Process)). record f { processes = t }) (same_label f.processes pid l is)
-  }
+  living = h;
+  back = λ l is. ap (λ (t : List (Option Process)). record f { processes = t }) (same_label f.processes pid l is);
+}
 
 relabelled : (f : Frame) (pid : ℕ) (l : Categories) → lives f pid ≡ true → Restores f (record f { processes = change f.processes pid (λ p. record p { label = l }) }) pid
 relabelled f pid l h = record {
-    living = lives_relabelled f.processes pid l ∙ h;
-    back = λ k is. ap (λ (t : List (Option Process)). record f { processes = t }) (change_twice f.processes pid (λ p. record p { label = l }) (λ p. record p { label = k }) ∙ same_label f.processes pid k is)
-  }
+  living = lives_relabelled f.processes pid l ∙ h;
+  back = λ k is. ap (λ (t : List (Option Process)). record f { processes = t }) (change_twice f.processes pid (λ p. record p { label = l }) (λ p. record p { label = k }) ∙ same_label f.processes pid k is);
+}
 
 pub restores_label : (f g : Frame) (pid : ℕ) (l : Categories) → lives f pid ≡ true → g ≡ record f { processes = change f.processes pid (λ p. record p { label = l }) } → Restores f g pid
 restores_label f g pid l h e = subst (λ (k : Frame). Restores f k pid) (sym e) (relabelled f pid l h)

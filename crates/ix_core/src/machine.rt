@@ -216,7 +216,11 @@ impl Machine {
         let (object, end) = (e.object, 1usize.saturating_sub(e.end));
         let mut whole = self.contents.lend(alloc, object, end);
         let told = told_of_pipe_write(whole.len(), bytes.len());
-        let len = if told.full { 0 } else { whole.len() + bytes.len() };
+        let len = if told.full {
+            0
+        } else {
+            whole.len() + bytes.len()
+        };
         if make_room(&mut whole, len).is_err() {
             self.contents.put(object, end, whole);
             return Err(NoMemory);
@@ -259,7 +263,11 @@ impl Machine {
         let told = self.told_of_file_write(e, bytes.len());
         let offset = self.contents.offset(e.id);
         let mut whole = self.contents.lend(alloc, object, end);
-        let len = if told.too_big { 0 } else { offset + bytes.len() };
+        let len = if told.too_big {
+            0
+        } else {
+            offset + bytes.len()
+        };
         if make_room(&mut whole, len).is_err() {
             self.contents.put(object, end, whole);
             return Err(NoMemory);
