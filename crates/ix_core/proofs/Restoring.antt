@@ -1,11 +1,10 @@
 -- A raised label is set back.
-use Rattle.std.proofs.Common.{◌≡◌, ℕ, zero, suc, ◌<◌, List, [], ◌∷◌, length, Option, Some, None, option_map, Bool, true, false, not, refl, sym, ap, subst, ◌∙◌, arith, get_or, get_or-set_same, inl, inr}
+use Rattle.std.proofs.Common.{◌≡◌, ℕ, zero, suc, List, [], ◌∷◌, Option, Some, None, option_map, true, false, not, refl, sym, ap, subst, ◌∙◌}
 use Rattle.std.proofs.Math.ListN.{set}
-use Rattle.std.proofs.lemmas.List.{set-get_or, set-set, get_or_past}
-use Rattle.std.proofs.lemmas.Bool.{cases_lt}
+use Rattle.std.proofs.lemmas.List.{set-get_or}
 use Rattle.std.specs.Option.{option_map_or}
 use Rattle.ix_label.specs.Category.{Categories}
-use Rattle.ix_model.specs.World.{Frame, Process, at, put, change, lives}
+use Rattle.ix_model.specs.World.{Frame, Process, at, change, lives}
 use Rattle.ix_model.specs.Outcomes.{Refuse}
 use Rattle.ix_model.specs.Refusals.{keeps_label}
 use Rattle.ix_model.specs.Table.{Told, row, decide}

@@ -1,8 +1,8 @@
 -- What a write comes to, by the kind of what stands behind its descriptor.
-use Rattle.std.proofs.Common.{◌≡◌, ℕ, ◌+◌, ◌-◌, ◌<◌, ◌==◌, List, [], ◌++◌, length, Option, Some, None, Bool, true, false, refl, sym, ap, subst, ◌∙◌, set, if◌then◌else◌}
-use Rattle.ix_model.specs.World.{World, Frame, Content, Holding}
+use Rattle.std.proofs.Common.{◌≡◌, ℕ, ◌+◌, ◌-◌, List, [], ◌++◌, length, Some, None, true, false, refl, sym, ap, ◌∙◌, set}
+use Rattle.ix_model.specs.World.{World, Frame, Content}
 use Rattle.ix_model.specs.Walks.{Behind, behind}
-use Rattle.ix_model.specs.Table.{Told, Decision, decide}
+use Rattle.ix_model.specs.Table.{Told, decide}
 use Rattle.ix_model.specs.Step.{Given, nothing_told, holding_of, offset_of, side, with_side, spliced, on_pipe, after_write, told_of_pipe_write, told_of_file_write, told_of_write, told, carried, plainly, write_answer, answer, step}
 use Rattle.ix_model.specs.Clean.{IsClean}
 use Rattle.ix_model.specs.History as op

@@ -106,6 +106,7 @@ fn standing_objects(alloc: Global, files: &[ObjSpec]) -> Result<Vec<Option<Objec
     Ok(objects)
 }
 
+/// The root directory of the first file system, with these names.
 fn root(names: Vec<(Name, usize)>) -> ObjectRow
     ensures { result ≡ root_with names.items }
 {
@@ -215,6 +216,7 @@ fn processes_of(alloc: Global, specs: &[ProcSpec]) -> Result<Vec<Option<ProcessR
     Ok(processes)
 }
 
+/// The process of a process line.
 fn process(spec: &ProcSpec) -> ProcessRow
     ensures { result ≡ process_of spec.now }
 {

@@ -1,4 +1,4 @@
-use Rattle.std.proofs.Common.{◌≡◌, ℕ, List, ap, sym, ◌∙◌, length}
+use Rattle.std.proofs.Common.{◌≡◌, ℕ, List, ap, ◌∙◌, length}
 use Rattle.ix_model.specs.World.{World, Content}
 use Rattle.ix_model.specs.Step.{offset_of, spliced}
 use Rattle.ix_core.specs.Meanings.{behind_of, told_of}
