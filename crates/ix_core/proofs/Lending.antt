@@ -1,5 +1,5 @@
 -- What an end reads from is lent out and put back.
-use Rattle.std.proofs.Common.{◌≡◌, ℕ, ◌<◌, ◌≤◌, ◌==◌, List, [], length, Bool, true, false, refl, sym, ap, subst, ◌∙◌, arith, get_or, set, get_or-set_same, inl, inr, if◌then◌else◌, length-set}
+use Rattle.std.proofs.Common.{◌≡◌, ℕ, ◌==◌, List, [], length, Bool, true, false, refl, sym, ap, ◌∙◌, arith, get_or, set, get_or-set_same, inl, inr, if◌then◌else◌, length-set}
 use Rattle.std.proofs.lemmas.List.{set-get_or, set-set, set_past}
 use Rattle.std.proofs.lemmas.Bool.{cases_lt}
 use Rattle.ix_model.specs.World.{Content, Holding}

@@ -1,11 +1,10 @@
 -- A raised label is set back.
-use Rattle.std.proofs.Common.{◌≡◌, ℕ, zero, suc, ◌<◌, List, [], ◌∷◌, length, Option, Some, None, option_map, Bool, true, false, not, refl, sym, ap, subst, ◌∙◌, arith, get_or, get_or-set_same, inl, inr}
+use Rattle.std.proofs.Common.{◌≡◌, ℕ, zero, suc, List, [], ◌∷◌, Option, Some, None, option_map, true, false, not, refl, sym, ap, subst, ◌∙◌}
 use Rattle.std.proofs.Math.ListN.{set}
-use Rattle.std.proofs.lemmas.List.{set-get_or, set-set, get_or_past}
-use Rattle.std.proofs.lemmas.Bool.{cases_lt}
+use Rattle.std.proofs.lemmas.List.{set-get_or}
 use Rattle.std.specs.Option.{option_map_or}
 use Rattle.ix_label.specs.Category.{Categories}
-use Rattle.ix_model.specs.World.{Frame, Process, at, put, change, lives}
+use Rattle.ix_model.specs.World.{Frame, Process, at, change, lives}
 use Rattle.ix_model.specs.Outcomes.{Refuse}
 use Rattle.ix_model.specs.Refusals.{keeps_label}
 use Rattle.ix_model.specs.Table.{Told, row, decide}
@@ -36,15 +35,15 @@ lives_relabelled (x ∷ t) (suc n) l = lives_relabelled t n l
 
 pub restores_itself : (f : Frame) (pid : ℕ) → lives f pid ≡ true → Restores f f pid
 restores_itself f pid h = record {
-    living = h;
-    back = λ l is. ap (λ (t : List (Option Process)). record f { processes = t }) (same_label f.processes pid l is)
-  }
+  living = h;
+  back = λ l is. ap (λ (t : List (Option Process)). record f { processes = t }) (same_label f.processes pid l is);
+}
 
 relabelled : (f : Frame) (pid : ℕ) (l : Categories) → lives f pid ≡ true → Restores f (record f { processes = change f.processes pid (λ p. record p { label = l }) }) pid
 relabelled f pid l h = record {
-    living = lives_relabelled f.processes pid l ∙ h;
-    back = λ k is. ap (λ (t : List (Option Process)). record f { processes = t }) (change_twice f.processes pid (λ p. record p { label = l }) (λ p. record p { label = k }) ∙ same_label f.processes pid k is)
-  }
+  living = lives_relabelled f.processes pid l ∙ h;
+  back = λ k is. ap (λ (t : List (Option Process)). record f { processes = t }) (change_twice f.processes pid (λ p. record p { label = l }) (λ p. record p { label = k }) ∙ same_label f.processes pid k is);
+}
 
 pub restores_label : (f g : Frame) (pid : ℕ) (l : Categories) → lives f pid ≡ true → g ≡ record f { processes = change f.processes pid (λ p. record p { label = l }) } → Restores f g pid
 restores_label f g pid l h e = subst (λ (k : Frame). Restores f k pid) (sym e) (relabelled f pid l h)

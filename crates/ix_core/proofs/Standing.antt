@@ -1,5 +1,5 @@
 -- What a core's machine stands for, at first and one entry later.
-use Rattle.std.proofs.Common.{◌≡◌, ◌+◌, ◌<◌, ◌≤◌, ℕ, true, ◌&&◌, Bool, List, [], ◌∷◌, ◌++◌, length, take, drop, refl, sym, ap, ◌∙◌, subst, arith, length-append}
+use Rattle.std.proofs.Common.{◌≡◌, ◌+◌, ◌<◌, ◌≤◌, ℕ, true, List, [], ◌∷◌, ◌++◌, length, take, drop, refl, sym, ap, ◌∙◌, subst, arith, length-append}
 use Rattle.std.specs.List.{list_all}
 use Rattle.std.proofs.Math.Seq.{take-append_seam}
 use Rattle.std.proofs.lemmas.Bool.{and_parts}
@@ -12,7 +12,7 @@ use Rattle.ix_model.specs.Shown.{AreShown}
 use Rattle.ix_model.specs.Valid.{is_valid, is_flat}
 use Rattle.ix_model.specs.Calls.{is_built}
 use Rattle.ix_model.specs.History.{Event}
-use Rattle.ix_model.specs.Histories.{History, world_of, next, with_entry}
+use Rattle.ix_model.specs.Histories.{History, world_of, with_entry}
 use Rattle.ix_model.specs.declared.config.Config.{Config}
 use Rattle.ix_model.specs.declared.reply.Reply.{Reply}
 use Rattle.ix_model.specs.declared.reply.Reply.TheVariants as reply

@@ -1,8 +1,8 @@
 -- What a write comes to, by the kind of what stands behind its descriptor.
-use Rattle.std.proofs.Common.{◌≡◌, ℕ, ◌+◌, ◌-◌, ◌<◌, ◌==◌, List, [], ◌++◌, length, Option, Some, None, Bool, true, false, refl, sym, ap, subst, ◌∙◌, set, if◌then◌else◌}
-use Rattle.ix_model.specs.World.{World, Frame, Content, Holding}
+use Rattle.std.proofs.Common.{◌≡◌, ℕ, ◌+◌, ◌-◌, List, [], ◌++◌, length, Some, None, true, false, refl, sym, ap, ◌∙◌, set}
+use Rattle.ix_model.specs.World.{World, Frame, Content}
 use Rattle.ix_model.specs.Walks.{Behind, behind}
-use Rattle.ix_model.specs.Table.{Told, Decision, decide}
+use Rattle.ix_model.specs.Table.{Told, decide}
 use Rattle.ix_model.specs.Step.{Given, nothing_told, holding_of, offset_of, side, with_side, spliced, on_pipe, after_write, told_of_pipe_write, told_of_file_write, told_of_write, told, carried, plainly, write_answer, answer, step}
 use Rattle.ix_model.specs.Clean.{IsClean}
 use Rattle.ix_model.specs.History as op
@@ -75,7 +75,7 @@ wrote_file w f g c c1 c2 c3 place pid fd new bytes e t r k view clean b p is sai
     let replies : r ≡ (decide t place pid (op.WriteFd fd new) w.frame).reply = said ∙ ap (λ (h : Frame). (decide t place pid (op.WriteFd fd new) h).reply) ef in
     let content : c3 ≡ after_write w.frame e new w.content = file_content w.frame c c1 c2 c3 e new bytes p lent spliced_is back moved ∙ ap (λ (d : Content). after_write w.frame e new d) ec in
     let whole = write_step w place pid fd new e t b (told_file w.frame w.content (length new) e t p is)
-      ∙ written w new e _ _ k (sym replies ∙ num) (carried_decided w t place pid (op.WriteFd fd new) clean) in
+    ∙ written w new e _ _ k (sym replies ∙ num) (carried_decided w t place pid (op.WriteFd fd new) clean) in
     (λ i. record { frame = frames i; content = content i }) ∙ sym (ap (λ (x : Given). x.world) whole)
 
 -- a write to a pipe that passed
@@ -94,7 +94,7 @@ wrote_pipe w f g c c1 c2 place pid fd new bytes e t r k view clean b p is said s
     let content : c2 ≡ after_write w.frame e new w.content = pipe_content w.frame c c1 c2 e new bytes p lent joined back ∙ ap (λ (d : Content). after_write w.frame e new d) ec in
     let told_is : t ≡ told_of_pipe_write (length (side (1 - e.entry.end) (holding_of w.content e.entry.object))) (length new) = is ∙ ap (λ (d : Content). told_of_pipe_write (length (side (1 - e.entry.end) (holding_of d e.entry.object))) (length new)) ec in
     let whole = write_step w place pid fd new e t b (told_pipe w.frame w.content (length new) e t p told_is)
-      ∙ written w new e _ _ k (sym replies ∙ num) (carried_decided w t place pid (op.WriteFd fd new) clean) in
+    ∙ written w new e _ _ k (sym replies ∙ num) (carried_decided w t place pid (op.WriteFd fd new) clean) in
     (λ i. record { frame = frames i; content = content i }) ∙ sym (ap (λ (x : Given). x.world) whole)
 
 -- a write that didn't pass, once what was lent is back
@@ -108,10 +108,11 @@ refused_write w f g c c2 place pid fd new e t r view clean b is said stands not 
     let frames : g ≡ (decide t place pid (op.WriteFd fd new) w.frame).frame = stands ∙ ap (λ (h : Frame). (decide t place pid (op.WriteFd fd new) h).frame) ef in
     let replies : r ≡ (decide t place pid (op.WriteFd fd new) w.frame).reply = said ∙ ap (λ (h : Frame). (decide t place pid (op.WriteFd fd new) h).reply) ef in
     let whole = write_step w place pid fd new e t b is
-      ∙ unwritten w new e _ _ (λ k h. not k (replies ∙ h)) (carried_decided w t place pid (op.WriteFd fd new) clean) in
-    ( (λ i. record { frame = frames i; content = (same ∙ ec) i }) ∙ sym (ap (λ (x : Given). x.world) whole),
+    ∙ unwritten w new e _ _ (λ k h. not k (replies ∙ h)) (carried_decided w t place pid (op.WriteFd fd new) clean) in (
+      (λ i. record { frame = frames i; content = (same ∙ ec) i }) ∙ sym (ap (λ (x : Given). x.world) whole),
       replies ∙ sym (ap (λ (x : Given). x.reply) whole),
-      sym (ap (λ (x : Given). x.bytes) whole) )
+      sym (ap (λ (x : Given). x.bytes) whole),
+    )
 
 -- a write by a descriptor with nothing behind it
 pub unbacked_write : (w : World) (f g : Frame) (c : Content) (place pid fd : ℕ) (new : List ℕ) (r : Reply)
@@ -126,4 +127,4 @@ unbacked_write w f g c place pid fd new r view clean b said stands =
     let frames : g ≡ (decide nothing_told place pid (op.WriteFd fd new) w.frame).frame = stands ∙ ap (λ (h : Frame). (decide nothing_told place pid (op.WriteFd fd new) h).frame) ef in
     let replies : r ≡ (decide nothing_told place pid (op.WriteFd fd new) w.frame).reply = said ∙ ap (λ (h : Frame). (decide nothing_told place pid (op.WriteFd fd new) h).reply) ef in
     let same : carried w.frame (decide nothing_told place pid (op.WriteFd fd new) w.frame).frame w.content ≡ w.content = carried_decided w nothing_told place pid (op.WriteFd fd new) clean in
-    ( rw none ((λ i. record { frame = frames i; content = (ec ∙ sym same) i })), rw none replies, rw none refl )
+    (rw none ((λ i. record { frame = frames i; content = (ec ∙ sym same) i })), rw none replies, rw none refl)

@@ -1,8 +1,8 @@
 -- What the core's own values mean, and what its methods keep.
-use Rattle.std.specs.Prelude.{◌≡◌, ◌≤◌, ◌+◌, ℕ, Bool, false, true, if◌then◌else◌, take, drop, List, Option, Some, None, Result, Ok, Err, slice_set}
+use Rattle.std.specs.Prelude.{◌≡◌, ◌≤◌, ◌+◌, ℕ, Bool, false, true, if◌then◌else◌, take, drop, List, Option, Some, Result, Ok, Err, slice_set}
 use Rattle.std.proofs.Common.{option_map}
 use Rattle.ix_label.specs.Category.{Categories}
-use Rattle.ix_model.specs.World.{World, Frame, Content, Holding, Process, at, change, lives}
+use Rattle.ix_model.specs.World.{World, Frame, Content, Holding, at, change, lives}
 use Rattle.ix_model.specs.Walks as walks
 use Rattle.ix_model.specs.Walks.{Walk, Sought, join_all}
 use Rattle.ix_model.specs.Table as table

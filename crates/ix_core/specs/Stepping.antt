@@ -1,5 +1,5 @@
 -- What a core stands for, what a step of it does, and what it shows.
-use Rattle.std.specs.Prelude.{◌≡◌, ◌≤◌, ℕ, true, Bool, List, [], ◌∷◌, ◌++◌, length, take}
+use Rattle.std.specs.Prelude.{◌≡◌, ◌≤◌, ℕ, true, List, [], length, take}
 use Rattle.std.specs.List.{list_all}
 use Rattle.ix_model.specs.World.{World, Object, Process}
 use Rattle.ix_model.specs.Step.{put_front}
@@ -8,7 +8,6 @@ use Rattle.ix_model.specs.Valid.{is_valid, is_flat}
 use Rattle.ix_model.specs.Calls.{is_built}
 use Rattle.ix_model.specs.History.{Event}
 use Rattle.ix_model.specs.Histories.{History, world_of, next, with_entry}
-use Rattle.ix_model.specs.declared.reply.Reply.{Reply}
 use Rattle.ix_model.specs.declared.reply.Reply.TheVariants as reply
 use Rattle.ix_model.specs.declared.reply.Answer.{Answer}
 use Rattle.ix_model.specs.declared.reply.Answer.TheVariants as answer

@@ -89,10 +89,7 @@ fn objects_of(
 }
 
 /// The root with the files' names, and the files.
-fn standing_objects(
-    alloc: Global,
-    files: &[ObjSpec],
-) -> Result<Vec<Option<ObjectRow>>, NoMemory>
+fn standing_objects(alloc: Global, files: &[ObjSpec]) -> Result<Vec<Option<ObjectRow>>, NoMemory>
     requires { IsTrue (list_all is_flat_object files.now) }
     ensures { IfOk result (λ v. v.items ≡ Some (root_with (named 1 files.now)) ∷ map file_of files.now) }
 {
@@ -109,6 +106,7 @@ fn standing_objects(
     Ok(objects)
 }
 
+/// The root directory of the first file system, with these names.
 fn root(names: Vec<(Name, usize)>) -> ObjectRow
     ensures { result ≡ root_with names.items }
 {
@@ -167,11 +165,7 @@ fn only_name(path: &Path) -> Name
 
 /// The files' bytes: nothing for the root, and for so many free numbers.
 #[tactic(auto, using(crate::proofs::Booting::filled_more))]
-fn holdings_of(
-    alloc: Global,
-    files: &[ObjSpec],
-    free: usize,
-) -> Result<Vec<HoldingRow>, NoMemory>
+fn holdings_of(alloc: Global, files: &[ObjSpec], free: usize) -> Result<Vec<HoldingRow>, NoMemory>
     ensures { IfOk result (λ v. v.items ≡ flat_holdings files.now free) }
 {
     let mut holdings = standing_holdings(alloc, files)?;
@@ -222,6 +216,7 @@ fn processes_of(alloc: Global, specs: &[ProcSpec]) -> Result<Vec<Option<ProcessR
     Ok(processes)
 }
 
+/// The process of a process line.
 fn process(spec: &ProcSpec) -> ProcessRow
     ensures { result ≡ process_of spec.now }
 {

@@ -115,7 +115,7 @@ impl Contents {
 }
 
 /// Copies what there is from an offset, up to the count, to the front of the buffer, and tells how much that is.
-pub fn copy_front(bytes: &[u8], offset: usize, count: usize, buf: &mut Buf) -> usize
+fn copy_front(bytes: &[u8], offset: usize, count: usize, buf: &mut Buf) -> usize
     requires { count ≤ 4096 }
     ensures count { result ≡ length (take count (drop offset bytes.now)) }
     ensures bytes { buf.new ≡ put_front (take count (drop offset bytes.now)) buf.old }

@@ -98,8 +98,7 @@ pub fn make_room(bytes: &mut Vec<u8>, len: usize) -> Result<(), NoMemory>
     }
 }
 
-/// Writes bytes at an offset, where there is room. A gap before them is filled with zeros.
-
+/// Writes bytes at an offset, where there is room. A gap before them is filled with zeros, and no bytes leave the length.
 pub fn write_at(bytes: &mut Vec<u8>, offset: usize, new: &[u8])
     requires { offset + length new.now ≤ vec_capacity bytes.old }
     ensures { bytes.new.items ≡ spliced offset new.now bytes.old.items }

@@ -1,10 +1,6 @@
 //! The machine in plain lists, and the core that keeps the history that led to it.
 #![tactic(auto)]
 
-
-
-
-
 mod blocks;
 mod boot;
 mod contents;
@@ -14,9 +10,9 @@ mod machine;
 mod objects;
 mod opens;
 mod processes;
-
 mod stored;
 mod tables;
-
+#[cfg(test)]
+mod tests;
 
 pub use keeper::Core;

@@ -36,6 +36,7 @@ impl Model for Machine {
     ghost view = { λ m. record { frame = m.tables; content = m.contents } };
 }
 
+/// What a call is told that asks for no lengths.
 const NOTHING_TOLD: Told = Told {
     too_big: false,
     full: false,
@@ -96,6 +97,7 @@ impl Machine {
         }
     }
 
+    /// What the lengths tell of a read: whether there is nothing left.
     #[tactic(auto, unfolding(ix_model::specs::Step::told_of_read, ix_model::specs::Step::readable))]
     fn told_of_read(&self, e: &Behind) -> Told
         ensures { told_of result ≡ told_of_read self.now.frame self.now.content (Some (behind_of e.now)) }
@@ -108,6 +110,7 @@ impl Machine {
         }
     }
 
+    /// A read: the decision, and then the bytes into the front of the buffer.
     #[tactic(auto, using(ix_model::proofs::Carrying::carried_decided), unfolding(ix_model::specs::Step::step, ix_model::specs::Step::answer, ix_model::specs::Step::told, ix_model::specs::Step::plainly, ix_model::specs::Step::told_of_read, ix_model::specs::Step::read_answer, ix_model::specs::Step::after_read, ix_model::specs::Step::readable))]
     fn read<L: Ledger>(
         &mut self,
@@ -166,6 +169,8 @@ impl Machine {
         }
     }
 
+    /// A write, to a pipe or to a file. It makes room for the bytes before the decision, so that after `NoMemory`
+    /// nothing has changed.
     #[tactic(auto, using(ix_model::proofs::Carrying::carried_decided), unfolding(ix_model::specs::Step::step, ix_model::specs::Step::answer, ix_model::specs::Step::told, ix_model::specs::Step::plainly, ix_model::specs::Step::told_of_write, ix_model::specs::Step::write_answer))]
     fn write<L: Ledger>(
         &mut self,
@@ -216,7 +221,11 @@ impl Machine {
         let (object, end) = (e.object, 1usize.saturating_sub(e.end));
         let mut whole = self.contents.lend(alloc, object, end);
         let told = told_of_pipe_write(whole.len(), bytes.len());
-        let len = if told.full { 0 } else { whole.len() + bytes.len() };
+        let len = if told.full {
+            0
+        } else {
+            whole.len() + bytes.len()
+        };
         if make_room(&mut whole, len).is_err() {
             self.contents.put(object, end, whole);
             return Err(NoMemory);
@@ -259,7 +268,11 @@ impl Machine {
         let told = self.told_of_file_write(e, bytes.len());
         let offset = self.contents.offset(e.id);
         let mut whole = self.contents.lend(alloc, object, end);
-        let len = if told.too_big { 0 } else { offset + bytes.len() };
+        let len = if told.too_big {
+            0
+        } else {
+            offset + bytes.len()
+        };
         if make_room(&mut whole, len).is_err() {
             self.contents.put(object, end, whole);
             return Err(NoMemory);

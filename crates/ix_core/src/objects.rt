@@ -35,18 +35,21 @@ impl Model for ObjectRow {
 }
 
 impl ObjectRow {
+    /// Whether it is a file.
     pub fn is_file(&self) -> bool
         ensures { result ≡ is_file self.now }
     {
         matches!(self.kind, Kind::File)
     }
 
+    /// Whether it is a directory.
     pub fn is_dir(&self) -> bool
         ensures { result ≡ is_dir self.now }
     {
         matches!(self.kind, Kind::Dir)
     }
 
+    /// Whether it is a pipe.
     pub fn is_pipe(&self) -> bool
         ensures { result ≡ is_pipe self.now }
     {

@@ -31,12 +31,14 @@ pub struct Behind {
     pub mode: Mode,
 }
 
+/// Whether an open entry of that mode serves for reading.
 pub fn may_read(mode: Mode) -> bool
     ensures { result ≡ may_read mode }
 {
     matches!(mode, Mode::Read | Mode::Both)
 }
 
+/// Whether an open entry of that mode serves for writing.
 pub fn may_write(mode: Mode) -> bool
     ensures { result ≡ may_write mode }
 {

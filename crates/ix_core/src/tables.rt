@@ -10,11 +10,10 @@ mod calls;
 mod floats;
 mod walks;
 
-pub use calls::Told;
-
 use crate::objects::ObjectRow;
 use crate::opens::{Behind, OpenRow, is_on};
 use crate::processes::ProcessRow;
+pub use calls::Told;
 use ix_label::Label;
 use ix_model::{AuditLine, Fd, FsSpec, Limits, ObjView, ProcView};
 use std::marker::Model;

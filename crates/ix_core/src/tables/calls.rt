@@ -25,6 +25,7 @@ pub struct Told {
 }
 
 impl Tables {
+    /// SelfLabel: the caller's label.
     #[tactic(auto, unfolding(ix_model::specs::Rows::coding, ix_model::specs::Table::self_label))]
     fn self_label(&self, pid: usize) -> Result<Reply, Refusal>
         requires { IsTrue (lives self.now pid) }
@@ -33,6 +34,8 @@ impl Tables {
         Ok(Reply::Lab(self.caller(pid).label))
     }
 
+    /// OpenAt: an open entry on the file of the path, under the caller's lowest free descriptor. A refusal may have
+    /// raised the caller's label.
     #[tactic(auto, unfolding(ix_model::specs::Rows::coding, ix_model::specs::Table::open_at))]
     fn open<L: Ledger>(
         &mut self,
@@ -60,6 +63,7 @@ impl Tables {
         Ok(Reply::Number(fd as u64))
     }
 
+    /// ReadFd: its tests and the floating of the caller's label. The bytes, and their number in the reply, come later.
     #[tactic(auto, using(crate::proofs::Restoring::restores_itself), unfolding(ix_model::specs::Rows::coding, ix_model::specs::Walks::opened, ix_model::specs::Table::read_fd))]
     fn read<L: Ledger>(
         &mut self,
@@ -94,6 +98,7 @@ impl Tables {
         Ok(Reply::Bytes(0))
     }
 
+    /// WriteFd: its tests and the floating of the object's label. The bytes, and their number in the reply, come later.
     #[tactic(auto, using(crate::proofs::Restoring::restores_itself), unfolding(ix_model::specs::Rows::coding, ix_model::specs::Walks::opened, ix_model::specs::Table::write_fd))]
     fn write<L: Ledger>(
         &mut self,

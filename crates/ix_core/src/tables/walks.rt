@@ -33,6 +33,7 @@ pub struct Sight {
 }
 
 impl Tables {
+    /// Whether a directory is there.
     fn is_dir(&self, n: usize) -> bool
         ensures { result ≡ is_dir (node self.now.objects n) }
     {
@@ -42,6 +43,7 @@ impl Tables {
         }
     }
 
+    /// The label of an object, bottom where there is none.
     fn label_of(&self, n: usize) -> Label
         ensures { result ≡ (node self.now.objects n).label }
     {
@@ -149,6 +151,7 @@ fn lacking(path: &Path, i: usize, at: usize) -> Walked
     }
 }
 
+/// The object of the first pair with that name.
 fn child_in(names: &[(Name, usize)], name: &[u8]) -> Option<usize>
     ensures { result ≡ option_map (λ e. e.1) (find (λ e. same_bytes e.0 name.now) names.now) }
 {

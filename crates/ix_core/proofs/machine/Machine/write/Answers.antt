@@ -1,4 +1,4 @@
-use Rattle.std.proofs.Common.{◌≡◌, sym}
+use Rattle.std.proofs.Common.{sym}
 use Rattle.ix_core.proofs.Writing.{unbacked_write}
 use Rattle.ix_core.proofs.machine.Machine.write.Goals as goal
 
