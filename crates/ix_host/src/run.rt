@@ -69,6 +69,7 @@ pub fn run_serial<S: Source, K: Sink>(
     // When each status comes.
     ensures command { FitsCommand result (is_run words.now) }
     ensures answer { IsAnswer result → IfSome (S.left source.old) (λ bytes. result ≡ called_for words.now bytes) }
+    ensures quiet { IsAnswer result → (S.faults source.new ≡ S.faults source.old) × (K.faults sink.new ≡ K.faults sink.old) }
     ensures too_long { result ≡ Status.Script 1 1 → IfSome (S.left source.old) (λ bytes. script_max < length bytes) }
     ensures read_fault { result ≡ Status.ReadFault → Rose (S.faults source.old) (S.faults source.new) }
     ensures write_fault { result ≡ Status.WriteFault → Rose (K.faults sink.old) (K.faults sink.new) }

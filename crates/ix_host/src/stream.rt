@@ -27,8 +27,8 @@ pub fn read_all<S: Source>(alloc: Global, source: &mut S) -> Input
     ensures told { IfSome (S.left source.old) (λ bytes. Gathers bytes (S.left source.new) result) }
     ensures few { IfSome (S.left source.old) (λ bytes. TakesFew bytes (S.left source.new)) }
     ensures short { IsShort result }
-    ensures later { S.faults source.old ≤ S.faults source.new }
     ensures fault { result ≡ Input.Fault → Rose (S.faults source.old) (S.faults source.new) }
+    ensures kept { ¬ (result ≡ Input.Fault) → S.faults source.new ≡ S.faults source.old }
 {
     let mut bytes = Vec::new(alloc);
     'pieces: while bytes.len() <= SCRIPT_MAX {
@@ -58,8 +58,8 @@ fn read_piece<S: Source>(source: &mut S, bytes: &mut Vec<u8>) -> Piece
     ensures few { (all : List ℕ) → IsFront all bytes.old.items (S.left source.old) → TakesFew all (S.left source.new) }
     ensures more { result ≡ Piece.More → (vec_len bytes.old < vec_len bytes.new) × (vec_len bytes.new ≤ script_max + 1) }
     ensures end { result ≡ Piece.End → vec_len bytes.new ≡ vec_len bytes.old }
-    ensures later { S.faults source.old ≤ S.faults source.new }
     ensures fault { result ≡ Piece.Fault → Rose (S.faults source.old) (S.faults source.new) }
+    ensures kept { ¬ (result ≡ Piece.Fault) → S.faults source.new ≡ S.faults source.old }
 {
     let mut buf = [0; PIECE];
     let most = PIECE.min(SCRIPT_MAX + 1 - bytes.len());

@@ -1,5 +1,5 @@
 -- What one call of a source or a sink does.
-use Rattle.std.specs.Prelude.{◌≡◌, ℕ, Bool, if◌then◌else◌, ◌+◌, ◌-◌, ◌^◌, ◌≤◌, ◌<◌, min, List, [], ◌++◌, length, take, drop, Option, Some, None, Result, Ok, Err, OnErr}
+use Rattle.std.specs.Prelude.{◌≡◌, ℕ, Bool, if◌then◌else◌, ◌+◌, ◌-◌, ◌^◌, ◌≤◌, ◌<◌, min, List, [], ◌++◌, length, take, drop, Option, Some, None, Result, Ok, Err, OnErr, OnOk}
 
 -- a sum of counts, which stands still at 2^64 - 1
 abbrev pub counted : ℕ → ℕ → ℕ
@@ -13,10 +13,11 @@ noted faults failed = if failed then counted faults 1 else faults
 abbrev pub Rose : ℕ → ℕ → Type 0
 Rose before now = counted before 1 ≤ now
 
--- The count of faults did not fall, and rose where the call failed.
+-- The count of faults did not fall, rose where the call failed, and else is as it was.
 pub record HasCause {T E : Type 0} (before now : ℕ) (result : Result T E) : Type 0 where
   pub later : before ≤ now
   pub failed : OnErr result (Rose before now)
+  pub kept : OnOk result (now ≡ before)
 
 -- The first n bytes came into the buffer, and the rest is left. None came only at the end, or into an empty buffer.
 pub record ReadsFirst (bytes : List ℕ) (after : Option (List ℕ)) (n : ℕ) (buf : List ℕ) : Type 0 where

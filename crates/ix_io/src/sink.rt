@@ -8,7 +8,7 @@ pub trait Sink {
     /// The bytes that were taken so far, where the sink tells them.
     ghost taken: { Self → Option (List ℕ) };
 
-    /// How often it has failed. The count never falls, and stands still at 2^64 - 1.
+    /// How often it has failed. The count rises by each call that fails and by no other, and stands still at 2^64 - 1.
     ghost faults: { Self → ℕ };
 
     /// Whether all that was taken is finished.
@@ -17,7 +17,7 @@ pub trait Sink {
     /// Takes bytes off the front of `bytes`, and answers how many: at least one, where there is one.
     /// The sink is not finished afterwards.
     ///
-    /// `Failed` comes only where the count of faults rose in this call, and takes no byte.
+    /// `Failed` comes exactly where the count of faults rose in this call, and takes no byte.
     fn write(&mut self, bytes: &[u8]) -> Result<usize, Failed>
         ensures bound { IfOk result (λ n. n ≤ length bytes.now) }
         ensures some { 0 < length bytes.now → IfOk result (λ n. 0 < n) }
@@ -28,7 +28,7 @@ pub trait Sink {
     /// Sees to it that all bytes that were taken are out. The sink is finished exactly where it
     /// answers `Ok`, and the bytes that were taken stay.
     ///
-    /// `Failed` comes only where the count of faults rose in this call.
+    /// `Failed` comes exactly where the count of faults rose in this call.
     fn finish(&mut self) -> Result<(), Failed>
         ensures bytes { taken self.new ≡ taken self.old }
         ensures finished { finished self.new ≡ is_ok result }

@@ -8,14 +8,14 @@ pub trait Source {
     /// The bytes that are still left, where the source tells them.
     ghost left: { Self → Option (List ℕ) };
 
-    /// How often it has failed. The count never falls, and stands still at 2^64 - 1.
+    /// How often it has failed. The count rises by each call that fails and by no other, and stands still at 2^64 - 1.
     ghost faults: { Self → ℕ };
 
     /// Puts bytes at the front of `buf`, and answers how many. From a source that tells its bytes
     /// these are the first that are left, and it answers 0 for a `buf` that is not empty only where
     /// none is left. What stands in `buf` behind them, and all of it after `Failed`, is not said.
     ///
-    /// `Failed` comes only where the count of faults rose in this call, and takes no byte.
+    /// `Failed` comes exactly where the count of faults rose in this call, and takes no byte.
     fn read(&mut self, buf: &mut [u8]) -> Result<usize, Failed>
         ensures bound { IfOk result (λ n. n ≤ length buf.old) }
         ensures bytes { Reads (left self.old) (left self.new) result buf.new }

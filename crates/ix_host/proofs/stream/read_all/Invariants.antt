@@ -1,4 +1,4 @@
-use Rattle.std.proofs.Common.{◌-◌, ◌+◌, ◌≤◌, vec_len}
+use Rattle.std.proofs.Common.{◌≡◌, ◌-◌, ◌+◌, ◌≤◌, vec_len}
 use Rattle.std.specs.Prelude.{IfSome}
 use Rattle.ix_host.specs.Whole.{IsFront, script_max}
 use Rattle.ix_host.proofs.stream.read_all.Given as goal
@@ -6,7 +6,7 @@ use Rattle.ix_host.proofs.stream.read_all.Given as goal
 abbrev pub invariant-pieces : goal.invariant-pieces
 invariant-pieces g l = record {
   told : IfSome (g.S.Source.left l.fn.source) (λ all. IsFront all l.bytes.items (g.S.Source.left l.source));
-  later : g.S.Source.faults l.fn.source ≤ g.S.Source.faults l.source;
+  kept : g.S.Source.faults l.source ≡ g.S.Source.faults l.fn.source;
   few : vec_len l.bytes ≤ script_max + 1;
 }
 

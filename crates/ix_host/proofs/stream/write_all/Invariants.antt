@@ -5,7 +5,7 @@ use Rattle.ix_host.proofs.stream.write_all.Given as goal
 abbrev pub invariant-pieces : goal.invariant-pieces
 invariant-pieces g l = record {
   told : IfSome (g.K.Sink.taken l.fn.sink) (λ taken. g.K.Sink.taken l.sink ≡ Some (taken ++ take l.at l.text));
-  later : g.K.Sink.faults l.fn.sink ≤ g.K.Sink.faults l.sink;
+  kept : g.K.Sink.faults l.sink ≡ g.K.Sink.faults l.fn.sink;
   within : l.at ≤ length l.text;
 }
 
