@@ -46,10 +46,10 @@ pub fn may_write(mode: Mode) -> bool
 }
 
 /// Whether the open entry is on that end of that object.
-pub fn is_on(object: usize, end: usize, open: &Option<OpenRow>) -> bool
-    ensures { result ≡ is_on object end open.now }
+pub fn is_on(object: usize, end: usize, row: &Option<OpenRow>) -> bool
+    ensures { result ≡ is_on object end row.now }
 {
-    match open {
+    match row {
         Some(entry) => entry.object == object && entry.end == end,
         None => false,
     }

@@ -17,7 +17,8 @@ pub trait Sink {
     /// Takes bytes off the front of `bytes`, and answers how many: at least one, where there is one.
     /// The sink is not finished afterwards.
     ///
-    /// `Failed` comes exactly where the count of faults rose in this call, and takes no byte.
+    /// `Failed` takes no byte. It comes only where the count of faults rose in this call, and the count
+    /// rises with nothing else; a count that stands at its end is taken as one that rose.
     fn write(&mut self, bytes: &[u8]) -> Result<usize, Failed>
         ensures bound { IfOk result (λ n. n ≤ length bytes.now) }
         ensures some { 0 < length bytes.now → IfOk result (λ n. 0 < n) }
@@ -28,7 +29,7 @@ pub trait Sink {
     /// Sees to it that all bytes that were taken are out. The sink is finished exactly where it
     /// answers `Ok`, and the bytes that were taken stay.
     ///
-    /// `Failed` comes exactly where the count of faults rose in this call.
+    /// `Failed` comes only where the count of faults rose in this call, as under `write`.
     fn finish(&mut self) -> Result<(), Failed>
         ensures bytes { taken self.new ≡ taken self.old }
         ensures finished { finished self.new ≡ is_ok result }

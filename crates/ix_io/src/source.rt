@@ -15,7 +15,8 @@ pub trait Source {
     /// these are the first that are left, and it answers 0 for a `buf` that is not empty only where
     /// none is left. What stands in `buf` behind them, and all of it after `Failed`, is not said.
     ///
-    /// `Failed` comes exactly where the count of faults rose in this call, and takes no byte.
+    /// `Failed` takes no byte. It comes only where the count of faults rose in this call, and the count
+    /// rises with nothing else; a count that stands at its end is taken as one that rose.
     fn read(&mut self, buf: &mut [u8]) -> Result<usize, Failed>
         ensures bound { IfOk result (λ n. n ≤ length buf.old) }
         ensures bytes { Reads (left self.old) (left self.new) result buf.new }

@@ -71,6 +71,7 @@ impl Name {
     {
         &self.bytes[..self.len as usize]
     }
+
     /// Whether the two are one name, byte for byte.
     pub fn same(&self, other: &Name) -> bool
         ensures { result ≡ same_bytes self.now other.now }

@@ -77,6 +77,7 @@ impl Path {
     {
         self.absolute
     }
+
     /// The path without its last name. One that has no names stays as it is.
     pub fn parent(&self) -> Path
         ensures { result ≡ record self.now { names = take (length self.now.names - 1) self.now.names } }
