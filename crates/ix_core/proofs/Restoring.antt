@@ -7,7 +7,8 @@ use Rattle.ix_label.specs.Category.{Categories}
 use Rattle.ix_model.specs.World.{Frame, Process, at, change, lives}
 use Rattle.ix_model.specs.Outcomes.{Refuse}
 use Rattle.ix_model.specs.Refusals.{keeps_label}
-use Rattle.ix_model.specs.Table.{Told, row, decide}
+use Rattle.ix_model.specs.OnDescriptors.{Told}
+use Rattle.ix_model.specs.Table.{row, decide}
 use Rattle.ix_model.specs.History.{Op}
 use Rattle.ix_model.specs.declared.refusal.Refusal.{Refusal}
 use Rattle.ix_core.specs.Meanings.{Restores, label_at}

@@ -2,8 +2,11 @@
 use Rattle.std.proofs.Common.{◌≡◌, ℕ, ◌+◌, ◌-◌, List, [], ◌++◌, length, Some, None, true, false, refl, sym, ap, ◌∙◌, set}
 use Rattle.ix_model.specs.World.{World, Frame, Content}
 use Rattle.ix_model.specs.Walks.{Behind, behind}
-use Rattle.ix_model.specs.Table.{Told, decide}
-use Rattle.ix_model.specs.Step.{Given, nothing_told, holding_of, offset_of, side, with_side, spliced, on_pipe, after_write, told_of_pipe_write, told_of_file_write, told_of_write, told, carried, plainly, write_answer, answer, step}
+use Rattle.ix_model.specs.OnDescriptors.{Told}
+use Rattle.ix_model.specs.Table.{decide}
+use Rattle.ix_model.specs.Step.{Given, plainly, write_answer, answer, step}
+use Rattle.ix_model.specs.Telling.{nothing_told, told_of_pipe_write, told_of_file_write, told_of_write, told}
+use Rattle.ix_model.specs.Contents.{holding_of, offset_of, side, with_side, spliced, on_pipe, after_write, carried}
 use Rattle.ix_model.specs.Clean.{IsClean}
 use Rattle.ix_model.specs.History as op
 use Rattle.ix_model.specs.declared.reply.Reply.{Reply}

@@ -6,7 +6,8 @@ use Rattle.ix_model.specs.World.{World, Frame, Content, Holding, at, change, liv
 use Rattle.ix_model.specs.Walks as walks
 use Rattle.ix_model.specs.Walks.{Walk, Sought, join_all}
 use Rattle.ix_model.specs.Table as table
-use Rattle.ix_model.specs.Step.{Given, put_front, holding_of, offset_of, side, with_side}
+use Rattle.ix_model.specs.Step.{Given, put_front}
+use Rattle.ix_model.specs.Contents.{holding_of, offset_of, side, with_side}
 use Rattle.ix_model.specs.History.{Op}
 use Rattle.ix_model.specs.History as op
 use Rattle.ix_model.specs.declared.memory.NoMemory.{NoMemory}

@@ -2,7 +2,8 @@ ghost use Rattle.std.specs.Prelude.{◌≡◌, ℕ, ◌<◌, length, IsTrue, IfS
 ghost use Rattle.std.specs.Option.{option_map, option_copied, option_map_or};
 ghost use Rattle.ix_model.specs.World.{at, put, change, lowest_free, lives, held, ceiling_of};
 ghost use Rattle.ix_model.specs.Walks.{behind};
-ghost use Rattle.ix_model.specs.Step.{on_pipe, fs_at, lies_on, blocks_on};
+ghost use Rattle.ix_model.specs.Contents.{on_pipe};
+ghost use Rattle.ix_model.specs.Telling.{fs_at, lies_on, blocks_on};
 ghost use Rattle.ix_core.specs.Meanings.{behind_of, label_at};
 ghost use Rattle.ix_core.specs.Stepping.{view_of, shown_of};
 

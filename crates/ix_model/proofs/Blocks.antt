@@ -5,7 +5,7 @@ use Rattle.std.specs.List.{sum_by}
 use Rattle.std.proofs.lemmas.Bool.{eqb-true}
 use Rattle.std.proofs.lemmas.List.Sums.{sum_by-cons}
 use Rattle.ix_model.specs.World.{Frame, Object, Holding, at}
-use Rattle.ix_model.specs.Step.{blocks_for, blocks_where, lies_on, fs_at}
+use Rattle.ix_model.specs.Telling.{blocks_for, blocks_where, lies_on, fs_at}
 
 -- the sum looks at the test from n on
 pub blocks_from : (p q : ℕ → Bool) (n : ℕ) (hs : List Holding) → ((m : ℕ) → n ≤ m → p m ≡ q m) → blocks_where p n hs ≡ blocks_where q n hs

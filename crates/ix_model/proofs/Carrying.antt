@@ -2,9 +2,10 @@
 use Rattle.std.proofs.Common.{ℕ, zero, suc, ◌+◌, ◌-◌, ◌<◌, ◌≡◌, ◌&&◌, Bool, true, false, List, [], ◌∷◌, length, Option, is_some, refl, ap, sym, ◌∙◌, arith, get_or, if◌then◌else◌, append-nil}
 use Rattle.std.proofs.lemmas.List.{same_lists, get_or_default}
 use Rattle.ix_model.specs.World.{Frame, Content, World, Process, Holding, at, is_ended}
-use Rattle.ix_model.specs.Step.{keep, grown, carried, holds_nothing}
+use Rattle.ix_model.specs.Contents.{keep, grown, carried, holds_nothing}
 use Rattle.ix_model.specs.Clean.{IsClean}
-use Rattle.ix_model.specs.Table.{Told, decide}
+use Rattle.ix_model.specs.OnDescriptors.{Told}
+use Rattle.ix_model.specs.Table.{decide}
 use Rattle.ix_model.specs.History.{Op}
 use Rattle.ix_model.proofs.Lasts.{Lasting, Ended, Lasts, lasts_decided}
 

@@ -5,8 +5,11 @@ use Rattle.std.proofs.lemmas.List.{get_or-set_other, length-replicate}
 use Rattle.ix_model.specs.World.{Frame, Content, World, Object, Holding, at, lives, is_ended, is_pipe}
 use Rattle.ix_model.specs.Outcomes.{Outcome, Refuse, Pass}
 use Rattle.ix_model.specs.Walks.{Behind, behind}
-use Rattle.ix_model.specs.Table.{Told, Decision, decide, settled, row, write_fd}
-use Rattle.ix_model.specs.Step.{grown, carried, holds_nothing, plainly, on_pipe, after_read, after_write, read_answer, write_answer, answer, step, told}
+use Rattle.ix_model.specs.OnDescriptors.{Told, write_fd}
+use Rattle.ix_model.specs.Table.{Decision, decide, settled, row}
+use Rattle.ix_model.specs.Contents.{grown, carried, holds_nothing, on_pipe, after_read, after_write}
+use Rattle.ix_model.specs.Step.{plainly, read_answer, write_answer, answer, step}
+use Rattle.ix_model.specs.Telling.{told}
 use Rattle.ix_model.specs.Clean.{IsClean}
 use Rattle.ix_model.specs.History.{Op}
 use Rattle.ix_model.specs.History as op

@@ -2,7 +2,7 @@
 use Rattle.std.proofs.Common.{ℕ, ◌≡◌, Bool, true, false, Option, Some, None, refl}
 use Rattle.ix_model.specs.World.{Frame, Object, Process, Open, at, put, change, living}
 use Rattle.ix_model.specs.Outcomes.{Row, Outcome, Refuse, Pass}
-use Rattle.ix_model.specs.Rows.{◌>>=◌, ◌>>◌, on_pass, pass, refuse, need, some, only_if, frame, caller, object, change_object, change_caller, put_open}
+use Rattle.ix_model.specs.Rows.{◌>>=◌, ◌>>◌, on_pass, pass, refuse, need, some, only_if, frame, caller, object, change_object, change_process, put_open}
 use Rattle.ix_model.specs.Walks.{Sought, Behind, there, behind, opened}
 use Rattle.ix_model.specs.Walks as sought
 use Rattle.ix_model.specs.declared.refusal.Refusal.{Refusal}
@@ -87,8 +87,8 @@ pub ends_change_object : (o : ℕ) (h : Object → Object) (f : Frame) (P : Refu
 unfolding Ends change_object
 ends_change_object o h f P Q k = k
 
-pub ends_change_caller : (pid : ℕ) (h : Process → Process) (f : Frame) (P : Refusal → Frame → Type 0) (Q : Unit {0} → Frame → Type 0) → Q tt (record f { processes = change f.processes pid h }) → Ends (change_caller pid h f) P Q
-unfolding Ends change_caller
+pub ends_change_caller : (pid : ℕ) (h : Process → Process) (f : Frame) (P : Refusal → Frame → Type 0) (Q : Unit {0} → Frame → Type 0) → Q tt (record f { processes = change f.processes pid h }) → Ends (change_process pid h f) P Q
+unfolding Ends change_process
 ends_change_caller pid h f P Q k = k
 
 pub ends_put_open : (e : ℕ) (x : Option Open) (f : Frame) (P : Refusal → Frame → Type 0) (Q : Unit {0} → Frame → Type 0) → Q tt (record f { opens = put f.opens e x }) → Ends (put_open e x f) P Q

@@ -4,7 +4,7 @@ use Rattle.std.proofs.lemmas.List.{at_drop_more, take_rest}
 use Rattle.std.proofs.lemmas.List.Sums.{sum_by-cons}
 use Rattle.std.specs.List.{list_any}
 use Rattle.ix_model.specs.Naming.{same_bytes, same_names}
-use Rattle.ix_model.specs.Step.{blocks_for}
+use Rattle.ix_model.specs.Telling.{blocks_for}
 use Rattle.ix_model.specs.Valid.{all_differ, fs_of, lying_on, blocks_taken}
 use Rattle.ix_model.specs.declared.config.FsSpec.{FsSpec}
 use Rattle.ix_model.specs.declared.config.ObjSpec.{ObjSpec}

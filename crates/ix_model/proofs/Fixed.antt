@@ -3,12 +3,16 @@ use Rattle.std.proofs.Common.{ℕ, ◌≡◌, List, Option, Some, refl, sym, sub
 use Rattle.ix_label.specs.Category.{Categories}
 use Rattle.ix_model.specs.Naming.{PathOf}
 use Rattle.ix_model.specs.World.{World, Frame, Object, Process, Open}
-use Rattle.ix_model.specs.Rows.{put_open, change_object, change_caller, observe, affect}
+use Rattle.ix_model.specs.Rows.{put_open, change_object, change_process, observe, affect}
 use Rattle.ix_model.specs.Walks.{Behind, behind, walked_to, found, opened}
-use Rattle.ix_model.specs.Step.{plainly, read_answer, write_answer, answer, told, step}
+use Rattle.ix_model.specs.Step.{plainly, read_answer, write_answer, answer, step}
+use Rattle.ix_model.specs.Telling.{told}
 use Rattle.ix_model.specs.declared.reply.Reply.{Reply}
 use Rattle.ix_model.specs.declared.reply.Reply.TheVariants as reply
-use Rattle.ix_model.specs.Table.{Told, self_label, open_at, read_fd, write_fd, row, decide}
+use Rattle.ix_model.specs.OnDescriptors.{Told, read_fd, write_fd}
+use Rattle.ix_model.specs.OnLabels.{self_label}
+use Rattle.ix_model.specs.OnPaths.{open_at}
+use Rattle.ix_model.specs.Table.{row, decide}
 use Rattle.ix_model.specs.History.{Op}
 use Rattle.ix_model.specs.History as op
 use Rattle.ix_model.specs.declared.call.Mode.{Mode}
@@ -32,8 +36,8 @@ module _ (f : Frame) where
   unfolding change_object Holds
   fixed_change_object o h = record { led = λ g r. record { limits = r.limits; fss = r.fss; objects = length-set g.objects o _ ∙ r.objects; processes = r.processes; opens = r.opens; log = r.log } }
 
-  fixed_change_caller : (p : ℕ) (h : Process → Process) → Keeps (Fixed f) (change_caller p h)
-  unfolding change_caller Holds
+  fixed_change_caller : (p : ℕ) (h : Process → Process) → Keeps (Fixed f) (change_process p h)
+  unfolding change_process Holds
   fixed_change_caller p h = record { led = λ g r. record { limits = r.limits; fss = r.fss; objects = r.objects; processes = length-set g.processes p _ ∙ r.processes; opens = r.opens; log = r.log } }
 
   fixed_put_open : (e : ℕ) (x : Option Open) → Keeps (Fixed f) (put_open e x)

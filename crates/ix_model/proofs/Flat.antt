@@ -7,8 +7,10 @@ use Rattle.std.proofs.lemmas.List.Sums.{position_or_len_is}
 use Rattle.std.proofs.Math.Seq.{set-append_seam}
 use Rattle.ix_model.specs.World.{World, Object, Holding, at, lowest_free}
 use Rattle.ix_model.specs.Walks.{node}
-use Rattle.ix_model.specs.Step.{holds_nothing}
-use Rattle.ix_model.specs.Opening.{free_inode, bare_objects, bare_world, process_of, directory_of, last_name, placed, with_object}
+use Rattle.ix_model.specs.Contents.{holds_nothing}
+use Rattle.ix_model.specs.Numbers.{free_inode}
+use Rattle.ix_model.specs.Opening.{bare_objects, bare_world, process_of, directory_of, placed, with_object}
+use Rattle.ix_model.specs.Naming.{last_name}
 use Rattle.ix_model.specs.Flat.{named, root_with, file_of, bytes_of, flat_objects, flat_world}
 use Rattle.ix_model.specs.declared.config.Config.{Config}
 use Rattle.ix_model.specs.declared.config.Limits.{Limits}

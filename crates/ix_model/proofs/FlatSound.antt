@@ -10,10 +10,13 @@ use Rattle.std.proofs.lemmas.List.Sums.{sum-map, sum_by-cons, count_by-le-length
 use Rattle.ix_label.specs.Category.{leq}
 use Rattle.ix_label.specs.Lattice.{bottom-leq}
 use Rattle.ix_model.specs.World.{World, Object, Process, Open, Holding, at, is_file, is_dir, is_pipe, held, ceiling_of}
-use Rattle.ix_model.specs.Step.{holding_of, holds_nothing, blocks_for, blocks_where, blocks_on, lies_on}
-use Rattle.ix_model.specs.Opening.{first_inode, inodes_of, root_of, object_of, process_of}
+use Rattle.ix_model.specs.Contents.{holding_of, holds_nothing}
+use Rattle.ix_model.specs.Telling.{blocks_for, blocks_where, blocks_on, lies_on}
+use Rattle.ix_model.specs.Numbers.{first_inode, inodes_of}
+use Rattle.ix_model.specs.Opening.{root_of, object_of, process_of}
 use Rattle.ix_model.specs.Valid.{all_differ}
-use Rattle.ix_model.specs.Sound.{times_in, times_named, LabelsBelow, NamesSound, LivesSound, OpensSound, ProcessesSound, ClaimsSound, WithinLimits, LengthsSound, Sound}
+use Rattle.ix_model.specs.Owners.{times_in, times_named}
+use Rattle.ix_model.specs.Sound.{LabelsBelow, NamesSound, LivesSound, OpensSound, ProcessesSound, ClaimsSound, WithinLimits, LengthsSound, Sound}
 use Rattle.ix_model.specs.declared.reply.Kind.TheVariants as kind
 use Rattle.ix_model.specs.declared.config.Limits.{Limits}
 use Rattle.ix_model.specs.declared.config.FsSpec.{FsSpec}

@@ -7,11 +7,12 @@ use Rattle.std.proofs.lemmas.List.Folds.{list_any-append}
 use Rattle.std.proofs.lemmas.List.Sums.{sum-map, sum_by_push}
 use Rattle.std.proofs.lemmas.List.{map-append}
 use Rattle.ix_label.specs.Category.{leq}
-use Rattle.ix_model.specs.Naming.{same_bytes, same_names}
+use Rattle.ix_model.specs.Naming.{same_bytes, same_names, last_name}
 use Rattle.ix_model.specs.Privs.{is_empty}
 use Rattle.ix_model.specs.World.{World}
-use Rattle.ix_model.specs.Step.{blocks_for}
-use Rattle.ix_model.specs.Opening.{inodes_of, last_name, with_objects, opening_world}
+use Rattle.ix_model.specs.Telling.{blocks_for}
+use Rattle.ix_model.specs.Numbers.{inodes_of}
+use Rattle.ix_model.specs.Opening.{with_objects, opening_world}
 use Rattle.ix_model.specs.Valid.{all_differ, fs_of, fs_ceiling, blocks_of, lying_on, is_there, is_dir_there, is_well_formed, has_room, object_fits, objects_fit, is_flat_object}
 use Rattle.ix_model.specs.declared.config.Config.{Config}
 use Rattle.ix_model.specs.declared.config.Limits.{Limits}

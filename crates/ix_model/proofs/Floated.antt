@@ -4,10 +4,11 @@ use Rattle.std.specs.Option.{option_map_or}
 use Rattle.std.specs.List.{list_any}
 use Rattle.std.proofs.lemmas.List.Sums.{sum-map}
 use Rattle.ix_model.specs.World.{Frame, Content, Object, Process, Open, at, living, lives, is_file, is_dir, is_pipe, is_on, held}
-use Rattle.ix_model.specs.Step.{blocks_where, blocks_on, lies_on}
-use Rattle.ix_model.specs.Opening.{first_inode, inodes_of}
+use Rattle.ix_model.specs.Telling.{blocks_where, blocks_on, lies_on}
+use Rattle.ix_model.specs.Numbers.{first_inode, inodes_of}
 use Rattle.ix_model.specs.Valid.{all_differ}
-use Rattle.ix_model.specs.Sound.{times_in, times_named, names_in_all, owns, NamesSound, LivesSound, OpensSound, ProcessesSound, ClaimsSound, WithinLimits, LengthsSound}
+use Rattle.ix_model.specs.Owners.{times_in, times_named, names_in_all, owns}
+use Rattle.ix_model.specs.Sound.{NamesSound, LivesSound, OpensSound, ProcessesSound, ClaimsSound, WithinLimits, LengthsSound}
 use Rattle.ix_model.specs.declared.config.FsSpec.{FsSpec}
 use Rattle.ix_model.proofs.Tables.{none_is, Back, back, seen_same, map_same, any_same, length_same}
 use Rattle.ix_model.proofs.Floats.{Floats, object_but, process_but}

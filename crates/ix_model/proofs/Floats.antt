@@ -3,9 +3,10 @@ use Rattle.std.proofs.Common.{◌≡◌, ℕ, refl}
 use Rattle.ix_label.specs.Category.{Categories, bottom}
 use Rattle.ix_model.specs.Naming.{PathOf}
 use Rattle.ix_model.specs.World.{Frame, Object, Process}
-use Rattle.ix_model.specs.Rows.{change_object, change_caller, observe, affect}
+use Rattle.ix_model.specs.Rows.{change_object, change_process, observe, affect}
 use Rattle.ix_model.specs.Walks.{found, walked_to, opened}
-use Rattle.ix_model.specs.Table.{Told, self_label, read_fd, write_fd}
+use Rattle.ix_model.specs.OnDescriptors.{Told, read_fd, write_fd}
+use Rattle.ix_model.specs.OnLabels.{self_label}
 use Rattle.ix_model.proofs.Tables.{SameBut, same_itself, same_changed}
 use Rattle.ix_model.proofs.Keeps.{Holds, Keeps, keeping}
 
@@ -33,8 +34,8 @@ module _ (f : Frame) where
   unfolding change_object Holds
   floats_change_object o h same = record { led = λ g r. record { limits = r.limits; fss = r.fss; objects = same_changed object_but _ _ o h same r.objects; processes = r.processes; opens = r.opens; log = r.log } }
 
-  floats_change_caller : (pid : ℕ) (h : Process → Process) → ((p : Process) → process_but (h p) ≡ process_but p) → Keeps (Floats f) (change_caller pid h)
-  unfolding change_caller Holds
+  floats_change_caller : (pid : ℕ) (h : Process → Process) → ((p : Process) → process_but (h p) ≡ process_but p) → Keeps (Floats f) (change_process pid h)
+  unfolding change_process Holds
   floats_change_caller pid h same = record { led = λ g r. record { limits = r.limits; fss = r.fss; objects = r.objects; processes = same_changed process_but _ _ pid h same r.processes; opens = r.opens; log = r.log } }
 
   ruleset floating = (keeping, floats_change_object, floats_change_caller)

@@ -6,9 +6,12 @@ use Rattle.std.proofs.lemmas.List.{get_or-set_other}
 use Rattle.ix_label.specs.Category.{Categories, join, leq}
 use Rattle.ix_model.specs.Naming.{PathOf}
 use Rattle.ix_model.specs.World.{Frame, Object, Process, Open, at, change, living, ceiling_of}
-use Rattle.ix_model.specs.Rows.{put_open, change_caller, observe, affect}
+use Rattle.ix_model.specs.Rows.{put_open, change_process, observe, affect}
 use Rattle.ix_model.specs.Walks.{found, walked_to, opened}
-use Rattle.ix_model.specs.Table.{Told, self_label, open_at, read_fd, write_fd, row, decide}
+use Rattle.ix_model.specs.OnDescriptors.{Told, read_fd, write_fd}
+use Rattle.ix_model.specs.OnLabels.{self_label}
+use Rattle.ix_model.specs.OnPaths.{open_at}
+use Rattle.ix_model.specs.Table.{row, decide}
 use Rattle.ix_model.specs.Sound.{LabelsBelow}
 use Rattle.ix_model.specs.History.{Op}
 use Rattle.ix_model.specs.History as op
@@ -72,8 +75,8 @@ labels_put_open e x = record { led = λ g r. record { objects = r.objects; proce
 at_ceiling : Option Process → Bool
 at_ceiling o = option_map_or (λ q. leq q.label q.ceiling) o true
 
-labels_change_caller : (pid : ℕ) (h : Process → Process) → ((q : Process) → leq (h q).label (h q).ceiling ≡ leq q.label q.ceiling) → Keeps LabelsBelow (change_caller pid h)
-unfolding change_caller Holds at_ceiling
+labels_change_caller : (pid : ℕ) (h : Process → Process) → ((q : Process) → leq (h q).label (h q).ceiling ≡ leq q.label q.ceiling) → Keeps LabelsBelow (change_process pid h)
+unfolding change_process Holds at_ceiling
 labels_change_caller pid h same = record { led = λ g r. record { objects = r.objects; processes = λ n q here. sym (ap at_ceiling here) ∙ seen_changed at_ceiling h same g.processes pid n ∙ go g r n (at g.processes n) refl } }
   where
     go : (g : Frame) → LabelsBelow g → (n : ℕ) (o : Option Process) → at g.processes n ≡ o → at_ceiling o ≡ true

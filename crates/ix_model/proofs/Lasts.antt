@@ -4,10 +4,13 @@ use Rattle.ix_label.specs.Category.{Categories}
 use Rattle.ix_model.specs.Naming.{PathOf}
 use Rattle.ix_model.specs.World.{Frame, Object, Process, Open, at, put, change, lives, is_ended}
 use Rattle.ix_model.specs.Outcomes.{Outcome, Refuse, Pass}
-use Rattle.ix_model.specs.Rows.{put_open, change_object, change_caller, observe, affect}
+use Rattle.ix_model.specs.Rows.{put_open, change_object, change_process, observe, affect}
 use Rattle.ix_model.specs.Walks.{walked_to, found, opened}
 use Rattle.ix_model.specs.Refusals.{keeps_label}
-use Rattle.ix_model.specs.Table.{Told, Decision, self_label, open_at, read_fd, write_fd, row, settled, decide}
+use Rattle.ix_model.specs.OnDescriptors.{Told, read_fd, write_fd}
+use Rattle.ix_model.specs.Table.{Decision, row, settled, decide}
+use Rattle.ix_model.specs.OnLabels.{self_label}
+use Rattle.ix_model.specs.OnPaths.{open_at}
 use Rattle.ix_model.specs.History.{Op}
 use Rattle.ix_model.specs.History as op
 use Rattle.ix_model.specs.declared.call.Mode.{Mode}
@@ -60,15 +63,15 @@ module _ (f : Frame) where
   unfolding change_object Holds
   lasts_change_object o h = record { led = λ g r. record { objects = lasting_change _ _ o h r.objects; opens = r.opens; processes = r.processes } }
 
-  lasts_change_caller : (o : ℕ) (h : Process → Process) → ((q : Process) → (h q).ended ≡ q.ended) → Keeps (Lasts f) (change_caller o h)
-  unfolding change_caller Holds
-  lasts_change_caller o h same = record { led = λ g r. record { objects = r.objects; opens = r.opens; processes = ended_change _ _ o h same r.processes } }
+  lasts_change_process : (o : ℕ) (h : Process → Process) → ((q : Process) → (h q).ended ≡ q.ended) → Keeps (Lasts f) (change_process o h)
+  unfolding change_process Holds
+  lasts_change_process o h same = record { led = λ g r. record { objects = r.objects; opens = r.opens; processes = ended_change _ _ o h same r.processes } }
 
   lasts_put_open : (e : ℕ) (x : Open) → Keeps (Lasts f) (put_open e (Some x))
   unfolding put_open Holds
   lasts_put_open e x = record { led = λ g r. record { objects = r.objects; opens = lasting_put _ _ e x r.opens; processes = r.processes } }
 
-  ruleset lasting = (keeping, lasts_change_object, lasts_change_caller, lasts_put_open)
+  ruleset lasting = (keeping, lasts_change_object, lasts_change_process, lasts_put_open)
 
   lasts_observe : (pid : ℕ) (seen : Categories) → Keeps (Lasts f) (observe pid seen)
   unfolding observe

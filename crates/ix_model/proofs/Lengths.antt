@@ -5,8 +5,9 @@ use Rattle.std.proofs.lemmas.Bool.{cond-false, lt-leb, ne_eqb, not-true, ltb-fal
 use Rattle.std.proofs.lemmas.List.{length-replicate, length-take, length-drop}
 use Rattle.ix_model.specs.World.{Frame, Content, Object, Holding, at, is_pipe}
 use Rattle.ix_model.specs.Walks.{Behind}
-use Rattle.ix_model.specs.Step.{holding_of, offset_of, holds_nothing, side, with_side, on_pipe, readable, after_read, after_write, spliced, blocks_for, blocks_where, blocks_on, lies_on, fs_at, length_then, told_of_pipe_write, told_of_file_write, told_of_write}
-use Rattle.ix_model.specs.Table.{Told}
+use Rattle.ix_model.specs.Contents.{holding_of, offset_of, holds_nothing, side, with_side, on_pipe, readable, after_read, after_write, spliced}
+use Rattle.ix_model.specs.Telling.{blocks_for, blocks_where, blocks_on, lies_on, fs_at, length_then, told_of_pipe_write, told_of_file_write, told_of_write}
+use Rattle.ix_model.specs.OnDescriptors.{Told}
 use Rattle.ix_model.specs.Sound.{WithinLimits, LengthsSound}
 use Rattle.ix_model.proofs.Tables.{none_is}
 use Rattle.ix_model.proofs.Blocks.{blocks_skip, blocks_edit, on_fs}

@@ -4,7 +4,7 @@ use Rattle.std.specs.Option.{option_map_or}
 use Rattle.ix_model.specs.Naming.{PathOf}
 use Rattle.ix_model.specs.World.{Frame, Object, Process, at, living, lowest_free, is_dir}
 use Rattle.ix_model.specs.Walks.{found}
-use Rattle.ix_model.specs.Table.{open_at}
+use Rattle.ix_model.specs.OnPaths.{open_at}
 use Rattle.ix_model.specs.declared.call.Mode.{Mode}
 use Rattle.ix_model.specs.declared.reply.Reply.{Reply}
 use Rattle.ix_model.specs.declared.refusal.Refusal.{Refusal}

@@ -7,8 +7,9 @@ use Rattle.std.proofs.lemmas.List.Quantifiers.{position-Some}
 use Rattle.ix_model.specs.World.{World, Frame, at, put, lowest_free}
 use Rattle.ix_model.specs.Walks.{node}
 use Rattle.ix_model.specs.Clean.{IsClean}
-use Rattle.ix_model.specs.Step.{holds_nothing}
-use Rattle.ix_model.specs.Opening.{first_inode, inodes_of, free_inode, bare_objects, bare_world, directory_of, process_of, object_of, placed, with_object, with_objects, opening_world}
+use Rattle.ix_model.specs.Contents.{holds_nothing}
+use Rattle.ix_model.specs.Numbers.{first_inode, inodes_of, free_inode}
+use Rattle.ix_model.specs.Opening.{bare_objects, bare_world, directory_of, process_of, object_of, placed, with_object, with_objects, opening_world}
 use Rattle.ix_model.specs.declared.config.Config.{Config}
 use Rattle.ix_model.specs.declared.config.ObjSpec.{ObjSpec}
 use Rattle.ix_model.proofs.Tables.{seen_changed}

@@ -7,8 +7,13 @@ use Rattle.ix_model.specs.World.{Frame, World, Process, at, change, lives}
 use Rattle.ix_model.specs.Outcomes.{Outcome, Refuse, Pass}
 use Rattle.ix_model.specs.Rows.{observe}
 use Rattle.ix_model.specs.Walks.{Behind, behind, found, walked_to}
-use Rattle.ix_model.specs.Table.{Told, Decision, decide, settled, self_label, open_at, read_fd, write_fd, row}
-use Rattle.ix_model.specs.Step.{carried, plainly, read_answer, write_answer, answer, step, told}
+use Rattle.ix_model.specs.OnDescriptors.{Told, read_fd, write_fd}
+use Rattle.ix_model.specs.Table.{Decision, decide, settled, row}
+use Rattle.ix_model.specs.OnLabels.{self_label}
+use Rattle.ix_model.specs.OnPaths.{open_at}
+use Rattle.ix_model.specs.Contents.{carried}
+use Rattle.ix_model.specs.Step.{plainly, read_answer, write_answer, answer, step}
+use Rattle.ix_model.specs.Telling.{told}
 use Rattle.ix_model.specs.Laws.{Refused}
 use Rattle.ix_model.specs.History.{Op}
 use Rattle.ix_model.specs.History as op

@@ -8,8 +8,13 @@ use Rattle.ix_model.specs.World.{World, Frame, lives}
 use Rattle.ix_model.specs.Outcomes.{Outcome, Refuse, Pass}
 use Rattle.ix_model.specs.Rows.{observe, affect}
 use Rattle.ix_model.specs.Walks.{Behind, behind, found}
-use Rattle.ix_model.specs.Table.{Told, Decision, self_label, open_at, read_fd, write_fd, row, settled, decide}
-use Rattle.ix_model.specs.Step.{readable, plainly, read_answer, write_answer, answer, told, step}
+use Rattle.ix_model.specs.OnDescriptors.{Told, read_fd, write_fd}
+use Rattle.ix_model.specs.Table.{Decision, row, settled, decide}
+use Rattle.ix_model.specs.OnLabels.{self_label}
+use Rattle.ix_model.specs.OnPaths.{open_at}
+use Rattle.ix_model.specs.Contents.{readable}
+use Rattle.ix_model.specs.Step.{plainly, read_answer, write_answer, answer, step}
+use Rattle.ix_model.specs.Telling.{told}
 use Rattle.ix_model.specs.Calls.{is_built}
 use Rattle.ix_model.specs.Shown.{AreShown}
 use Rattle.ix_model.specs.History.{Op}

@@ -4,7 +4,7 @@ use Rattle.std.specs.Option.{option_map_or}
 use Rattle.std.proofs.lemmas.Bool.{eqb-true}
 use Rattle.ix_model.specs.World.{Frame, Object, Process, Open, at, living, is_dir, is_pipe}
 use Rattle.ix_model.specs.Walks.{Behind, behind, behind_of, entry_at}
-use Rattle.ix_model.specs.Step.{on_pipe}
+use Rattle.ix_model.specs.Contents.{on_pipe}
 use Rattle.ix_model.specs.Sound.{OpensSound}
 
 entry_is : (f : Frame) (d : Option ℕ) (e : Behind) → entry_at f d ≡ Some e → at f.opens e.id ≡ Some e.entry

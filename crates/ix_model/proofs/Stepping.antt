@@ -4,8 +4,12 @@ use Rattle.ix_model.specs.World.{Frame, Content, World, Open, at, lives}
 use Rattle.ix_model.specs.Outcomes.{Outcome, Refuse, Pass}
 use Rattle.ix_model.specs.Refusals.{keeps_label}
 use Rattle.ix_model.specs.Walks.{Behind, behind}
-use Rattle.ix_model.specs.Table.{Told, Decision, decide, settled, row, open_at}
-use Rattle.ix_model.specs.Step.{carried, plainly, readable, after_read, after_write, read_answer, write_answer, answer, step, told, told_of_write}
+use Rattle.ix_model.specs.OnDescriptors.{Told}
+use Rattle.ix_model.specs.Table.{Decision, decide, settled, row}
+use Rattle.ix_model.specs.OnPaths.{open_at}
+use Rattle.ix_model.specs.Contents.{carried, readable, after_read, after_write}
+use Rattle.ix_model.specs.Step.{plainly, read_answer, write_answer, answer, step}
+use Rattle.ix_model.specs.Telling.{told, told_of_write}
 use Rattle.ix_model.specs.Naming.{PathOf}
 use Rattle.ix_model.specs.Calls.{is_built}
 use Rattle.ix_model.specs.Clean.{IsClean}

@@ -1,7 +1,7 @@
 -- What holds nothing: a number at which nothing stands.
 use Rattle.std.specs.Prelude.{◌≡◌, ℕ, false, length, is_some, slice_index_or}
 use Rattle.ix_model.specs.World.{World, at, is_ended}
-use Rattle.ix_model.specs.Step.{holding_of, offset_of, holds_nothing}
+use Rattle.ix_model.specs.Contents.{holding_of, offset_of, holds_nothing}
 
 -- no bytes at a number without an object, no offset without an open entry, no status without an ended process, and a
 -- status for each pid

@@ -1,8 +1,9 @@
 -- The opening world of a config with one file system and files alone in its root, written out.
 use Rattle.std.specs.Prelude.{ℕ, suc, ◌+◌, List, [], ◌∷◌, ◌++◌, length, map, replicate, Option, Some, None}
 use Rattle.ix_model.specs.World.{World, Object, Holding}
-use Rattle.ix_model.specs.Step.{holds_nothing}
-use Rattle.ix_model.specs.Opening.{root_of, process_of, last_name, object_of}
+use Rattle.ix_model.specs.Contents.{holds_nothing}
+use Rattle.ix_model.specs.Opening.{root_of, process_of, object_of}
+use Rattle.ix_model.specs.Naming.{last_name}
 use Rattle.ix_model.specs.declared.config.Limits.{Limits}
 use Rattle.ix_model.specs.declared.config.FsSpec.{FsSpec}
 use Rattle.ix_model.specs.declared.config.ProcSpec.{ProcSpec}

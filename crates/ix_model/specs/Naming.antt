@@ -1,5 +1,5 @@
 -- Names and paths.
-use Rattle.std.specs.Prelude.{◌≡◌, ℕ, ◌-◌, ◌≤◌, Bool, ◌&&◌, not, List, [], ◌∷◌, ◌++◌, length, take, map, replicate, nat_eq, nat_lt, nat_le, ◌==◌, Option, Some, None}
+use Rattle.std.specs.Prelude.{◌≡◌, ℕ, ◌-◌, ◌≤◌, Bool, ◌&&◌, not, List, [], ◌∷◌, ◌++◌, length, take, map, replicate, nat_eq, nat_lt, nat_le, ◌==◌, Option, Some, None, slice_index_or}
 use Rattle.std.specs.List.{list_all}
 use Rattle.std.specs.Cmp.Lexicographic.{pointwise}
 
@@ -30,6 +30,10 @@ pub record PathOf : Type 0 where
 -- a path with one name more
 abbrev pub add_name : PathOf → List ℕ → PathOf
 add_name p name = record p { names = p.names ++ name ∷ [] }
+
+-- the last name of a path
+abbrev pub last_name : List (List ℕ) → List ℕ
+last_name names = slice_index_or names (length names - 1) []
 
 -- a text in n cells, with zeros after it
 abbrev pub padded : ℕ → List ℕ → List ℕ

@@ -5,26 +5,15 @@ use Rattle.std.proofs.Common.{option_map}
 use Rattle.ix_label.specs.Category.{bottom}
 use Rattle.ix_model.specs.Privs.{no_privileges}
 use Rattle.ix_model.specs.World.{World, Frame, Object, Process, at, put, change, lowest_free, no_claims}
+use Rattle.ix_model.specs.Naming.{last_name}
+use Rattle.ix_model.specs.Numbers.{first_inode, free_inode}
 use Rattle.ix_model.specs.Walks.{node, child}
-use Rattle.ix_model.specs.Step.{holds_nothing}
+use Rattle.ix_model.specs.Contents.{holds_nothing}
 use Rattle.ix_model.specs.declared.reply.Kind.TheVariants as kind
 use Rattle.ix_model.specs.declared.config.Config.{Config}
 use Rattle.ix_model.specs.declared.config.FsSpec.{FsSpec}
 use Rattle.ix_model.specs.declared.config.ProcSpec.{ProcSpec}
 use Rattle.ix_model.specs.declared.config.ObjSpec.{ObjSpec}
-
--- ---- numbers of objects
--- the first inode of a file system, which is its root directory
-abbrev pub first_inode : List FsSpec → ℕ → ℕ
-first_inode fss k = sum (map (λ s. s.inodes) (take k fss))
-
--- how many inodes a file system has
-abbrev pub inodes_of : List FsSpec → ℕ → ℕ
-inodes_of fss k = option_map_or (λ s. s.inodes) (at (map Some fss) k) 0
-
--- the lowest free inode of a file system
-unfoldable pub free_inode : Frame → ℕ → Option ℕ
-free_inode f k = option_map (λ n. first_inode f.fss k + n) (lowest_free (take (inodes_of f.fss k) (drop (first_inode f.fss k) f.objects)))
 
 -- ---- before any line
 abbrev pub root_of : ℕ → Object
@@ -54,9 +43,6 @@ abbrev pub directory_of : List (Option Object) → ℕ → List (List ℕ) → �
 directory_of objects n [] = n
 directory_of objects n (name ∷ []) = n
 directory_of objects n (name ∷ next ∷ names) = directory_of objects (unwrap_or (child (node objects n) name) n) (next ∷ names)
-
-abbrev pub last_name : List (List ℕ) → List ℕ
-last_name names = slice_index_or names (length names - 1) []
 
 abbrev pub object_of : ℕ → ObjSpec → Object
 object_of k spec = record { kind = if spec.dir then kind.Dir else kind.File; fs = Some k; label = spec.label; frozen = spec.frozen; cap = spec.cap; lic = spec.lic; claims = no_claims; names = [] }

@@ -1,5 +1,5 @@
 -- The words that the rows of the call table are written in: tests, and changes, in order.
-use Rattle.std.specs.Prelude.{ℕ, Bool, true, false, not, Option, Some, None}
+use Rattle.std.specs.Prelude.{ℕ, Bool, true, false, not, List, [], ◌∷◌, ◌++◌, Option, Some, None}
 use Rattle.ix_label.specs.Category.{Categories, join, leq, same}
 use Rattle.ix_model.specs.World.{Object, Process, Open, Frame, at, put, change, living, ceiling_of}
 use Rattle.ix_model.specs.Outcomes.{Outcome, Refuse, Pass, Row}
@@ -51,12 +51,26 @@ caller pid = λ f. some (living (at f.processes pid)) refusal.NoProcess f
 unfoldable pub object : ℕ → Row Object
 object o = λ f. some (at f.objects o) refusal.BadFd f
 
+-- the record of a process, living or ended, at which one stands
+unfoldable pub record_of : ℕ → Row Process
+record_of p = λ f. some (at f.processes p) refusal.NoProcess f
+
 -- ---- changes
-unfoldable pub change_caller : ℕ → (Process → Process) → Row (Unit {0})
-change_caller pid h = λ f. Pass tt (record f { processes = change f.processes pid h })
+unfoldable pub change_process : ℕ → (Process → Process) → Row (Unit {0})
+change_process pid h = λ f. Pass tt (record f { processes = change f.processes pid h })
 
 unfoldable pub change_object : ℕ → (Object → Object) → Row (Unit {0})
 change_object o h = λ f. Pass tt (record f { objects = change f.objects o h })
+
+unfoldable pub put_object : ℕ → Option Object → Row (Unit {0})
+put_object o x = λ f. Pass tt (record f { objects = put f.objects o x })
+
+unfoldable pub put_process : ℕ → Option Process → Row (Unit {0})
+put_process p x = λ f. Pass tt (record f { processes = put f.processes p x })
+
+-- the next pid's
+unfoldable pub add_process : Process → Row (Unit {0})
+add_process p = λ f. Pass tt (record f { processes = f.processes ++ Some p ∷ [] })
 
 unfoldable pub put_open : ℕ → Option Open → Row (Unit {0})
 put_open e x = λ f. Pass tt (record f { opens = put f.opens e x })
@@ -69,7 +83,7 @@ observe pid seen = do
   only_if (not (same (join p.label seen) p.label)) (do
     need (not p.frozen) refusal.ProcFrozen
     need (leq (join p.label seen) p.ceiling) refusal.ProcCeiling
-    change_caller pid (λ q. record q { label = join q.label seen }))
+    change_process pid (λ q. record q { label = join q.label seen }))
 
 -- affect: the object's label is joined with the caller's, unless it is frozen or has to stay below its file system's ceiling
 unfoldable pub affect : ℕ → ℕ → Row (Unit {0})
@@ -84,5 +98,5 @@ affect pid o = do
 
 -- Opens the words that the code steps through; those for which it has a call of its own stay closed.
 unfoldable pub coding : ℕ
-unfolding ◌>>=◌ ◌>>◌ on_pass need some only_if pass refuse frame caller object change_caller change_object put_open
+unfolding ◌>>=◌ ◌>>◌ on_pass need some only_if pass refuse frame caller object change_process change_object put_open
 coding = 0

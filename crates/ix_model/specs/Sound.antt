@@ -4,36 +4,11 @@ use Rattle.std.specs.Option.{option_map_or}
 use Rattle.std.specs.List.{list_any}
 use Rattle.ix_label.specs.Category.{leq}
 use Rattle.ix_model.specs.World.{World, Frame, Object, Process, Open, at, living, lives, is_file, is_dir, is_pipe, is_on, held, ceiling_of}
-use Rattle.ix_model.specs.Step.{holding_of, offset_of, blocks_where, blocks_on, lies_on}
-use Rattle.ix_model.specs.Opening.{first_inode, inodes_of}
+use Rattle.ix_model.specs.Contents.{holding_of, offset_of}
+use Rattle.ix_model.specs.Telling.{blocks_where, blocks_on, lies_on}
+use Rattle.ix_model.specs.Numbers.{first_inode, inodes_of}
+use Rattle.ix_model.specs.Owners.{times_named, names_in_all, owned, is_claimant}
 use Rattle.ix_model.specs.Valid.{all_differ}
-
--- ---- words
--- how often a directory's list names an object, and how often all of them do
-abbrev pub times_in : ℕ → Option Object → ℕ
-times_in o None = 0
-times_in o (Some x) = count_by (λ n. n.1 == o) x.names
-
-abbrev pub times_named : List (Option Object) → ℕ → ℕ
-times_named objects o = sum (map (times_in o) objects)
-
--- how many names there are in all
-abbrev pub names_in_all : List (Option Object) → ℕ
-names_in_all objects = sum (map (λ x. option_map_or (λ y. length y.names) x 0) objects)
-
--- whether a descriptor is on the open entry, and whether some living process has such a descriptor
-abbrev pub is_at : ℕ → Option ℕ → Bool
-is_at e d = option_map_or (λ x. x == e) d false
-
-abbrev pub owns : ℕ → Option Process → Bool
-owns e p = option_map_or (λ q. not q.ended && list_any (is_at e) q.fds) p false
-
-abbrev pub owned : List (Option Process) → ℕ → Bool
-owned processes e = list_any (owns e) processes
-
--- whether a descriptor is on that end of that object, and whether the process has such a descriptor
-abbrev pub is_claimant : Frame → ℕ → ℕ → ℕ → Bool
-is_claimant f o end p = option_map_or (λ q. not q.ended && list_any (λ d. option_map_or (λ e. is_on o end (at f.opens e)) d false) q.fds) (at f.processes p) false
 
 -- ---- labels
 -- no label is above its ceiling

@@ -5,9 +5,9 @@ use Rattle.std.specs.List.{list_all, list_any}
 use Rattle.ix_label.specs.Category.{Categories, leq, top}
 use Rattle.ix_model.specs.Naming.{same_bytes, same_names}
 use Rattle.ix_model.specs.Privs.{is_empty}
-use Rattle.ix_model.specs.Opening.{inodes_of}
+use Rattle.ix_model.specs.Numbers.{inodes_of}
 use Rattle.ix_model.specs.World.{at}
-use Rattle.ix_model.specs.Step.{blocks_for}
+use Rattle.ix_model.specs.Telling.{blocks_for}
 use Rattle.ix_model.specs.declared.config.Config.{Config}
 use Rattle.ix_model.specs.declared.config.FsSpec.{FsSpec}
 use Rattle.ix_model.specs.declared.config.Limits.{Limits}

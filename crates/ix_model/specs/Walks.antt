@@ -80,6 +80,32 @@ found pid path = do
   w ← walked_to pid path
   there w
 
+-- the object that was found, with the last directory looked into
+unfoldable pub spot : Sought → Row (ℕ × Option ℕ)
+spot (Found o dir) = pass (o, dir)
+spot (Missing dir) = refuse refusal.NotFound
+spot NotFound = refuse refusal.NotFound
+spot NotDir = refuse refusal.NotDir
+
+-- the same of the path, with the directory in which its last name stands; a path of no names has none
+unfoldable pub found_in : ℕ → PathOf → Row (ℕ × Option ℕ)
+found_in pid path = do
+  w ← walked_to pid path
+  spot w
+
+-- the directory in which the last name is missing
+unfoldable pub vacant : Sought → Row ℕ
+vacant (Found o dir) = refuse refusal.Exists
+vacant (Missing dir) = pass dir
+vacant NotFound = refuse refusal.NotFound
+vacant NotDir = refuse refusal.NotDir
+
+-- the directory of the path, whose last name must be missing
+unfoldable pub missing : ℕ → PathOf → Row ℕ
+missing pid path = do
+  w ← walked_to pid path
+  vacant w
+
 -- ---- descriptors
 -- an open entry with its number
 pub record Behind : Type 0 where

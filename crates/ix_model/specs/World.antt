@@ -109,6 +109,10 @@ ceiling_of fss o = option_map_or (λ k. option_map_or (λ s. s.ceiling) (slice_i
 abbrev pub held_from : Object → ℕ → ℕ → Bool
 held_from o end pid = option_map_or (λ p. not (p == pid)) (at o.claims end) false
 
+-- whether a process has claimed the end
+abbrev pub has_claim : Object → ℕ → ℕ → Bool
+has_claim o end pid = option_map_or (λ p. p == pid) (at o.claims end) false
+
 -- what is no pipe has no claims, and a new pipe has none yet
 abbrev pub no_claims : List (Option ℕ)
 no_claims = None ∷ None ∷ []

@@ -2,8 +2,8 @@ ghost use Rattle.std.specs.Prelude.{◌≡◌, ℕ, ◌≤◌, ◌<◌, ◌+◌,
 ghost use Rattle.std.specs.List.{list_all, list_any};
 ghost use Rattle.ix_label.specs.Category.{leq};
 ghost use Rattle.ix_model.specs.Naming.{same_bytes, same_names};
-ghost use Rattle.ix_model.specs.Step.{blocks_for};
-ghost use Rattle.ix_model.specs.Opening.{inodes_of};
+ghost use Rattle.ix_model.specs.Telling.{blocks_for};
+ghost use Rattle.ix_model.specs.Numbers.{inodes_of};
 ghost use Rattle.ix_model.specs.Valid.{fs_fits, fss_fit, all_differ, limits_fit, procs_fit, mount_of, fs_of, fs_ceiling, blocks_of, is_mount, is_well_formed, is_there, is_dir_there, lying_on, blocks_taken, has_room, object_fits, objects_fit, is_valid};
 
 use crate::config::{Config, FsSpec, Limits, ObjSpec, ProcSpec};

@@ -4,7 +4,7 @@ use Rattle.std.proofs.lemmas.List.{append-nil}
 use Rattle.std.specs.List.{list_any}
 use Rattle.std.proofs.lemmas.Bool.{ltb-true, le-leb}
 use Rattle.ix_label.specs.Category.{Categories, leq}
-use Rattle.ix_model.specs.Step.{blocks_for}
+use Rattle.ix_model.specs.Telling.{blocks_for}
 use Rattle.ix_model.specs.Naming.{same_names}
 use Rattle.ix_model.specs.Valid.{fs_of, lying_on, has_room, object_fits, objects_fit}
 use Rattle.ix_model.specs.declared.config.FsSpec.{FsSpec}

@@ -5,7 +5,7 @@ use Rattle.std.specs.List.{list_any}
 use Rattle.std.proofs.Common.{option_map}
 use Rattle.ix_label.specs.Category.{leq, top}
 use Rattle.ix_model.specs.Naming.{same_bytes}
-use Rattle.ix_model.specs.Step.{blocks_for}
+use Rattle.ix_model.specs.Telling.{blocks_for}
 use Rattle.ix_model.specs.declared.config.Config.{Config}
 use Rattle.ix_model.specs.declared.config.FsSpec.{FsSpec}
 use Rattle.ix_model.specs.declared.config.Limits.{Limits}

@@ -3,7 +3,7 @@ ghost use Rattle.std.specs.Option.{option_map_or};
 ghost use Rattle.std.specs.List.{list_any};
 ghost use Rattle.ix_label.specs.Category.{leq};
 ghost use Rattle.ix_model.specs.Naming.{same_bytes};
-ghost use Rattle.ix_model.specs.Step.{blocks_for};
+ghost use Rattle.ix_model.specs.Telling.{blocks_for};
 ghost use Rattle.ix_script.specs.Readers.{Gives};
 ghost use Rattle.ix_script.specs.Order.{default_fs, no_lines, in_header, is_known, fs_may_follow, proc_may_follow, is_called, is_taken, blocks_used, has_room, file_may_follow, lane_may_follow, knows_fd, knows, command_may_follow, pid_of, given_by, Adds, with_text};
 ghost use Rattle.ix_script.specs.declared.line.Line.TheVariants as line;

@@ -2,7 +2,10 @@ ghost use Rattle.std.specs.Prelude.{◌≡◌, ◌≤◌, ◌<◌, ◌-◌, IsTr
 ghost use Rattle.ix_model.specs.Calls.{op_of, is_built};
 ghost use Rattle.ix_model.specs.World.{lives, change, put, held};
 ghost use Rattle.ix_model.specs.Outcomes.{RowIs};
-ghost use Rattle.ix_model.specs.Table.{self_label, open_at, read_fd, write_fd, row, decide};
+ghost use Rattle.ix_model.specs.OnLabels.{self_label};
+ghost use Rattle.ix_model.specs.OnPaths.{open_at};
+ghost use Rattle.ix_model.specs.OnDescriptors.{read_fd, write_fd};
+ghost use Rattle.ix_model.specs.Table.{row, decide};
 ghost use Rattle.ix_core.specs.Meanings.{Restores, Asked, RowAsked, told_of};
 
 use crate::opens::{Behind, OpenRow, may_read, may_write};
@@ -26,7 +29,7 @@ pub struct Told {
 
 impl Tables {
     /// SelfLabel: the caller's label.
-    #[tactic(auto, unfolding(ix_model::specs::Rows::coding, ix_model::specs::Table::self_label))]
+    #[tactic(auto, unfolding(ix_model::specs::Rows::coding, ix_model::specs::OnLabels::self_label))]
     fn self_label(&self, pid: usize) -> Result<Reply, Refusal>
         requires { IsTrue (lives self.now pid) }
         ensures row { RowIs result self.now (self_label pid self.now) }
@@ -36,7 +39,7 @@ impl Tables {
 
     /// OpenAt: an open entry on the file of the path, under the caller's lowest free descriptor. A refusal may have
     /// raised the caller's label.
-    #[tactic(auto, unfolding(ix_model::specs::Rows::coding, ix_model::specs::Table::open_at))]
+    #[tactic(auto, unfolding(ix_model::specs::Rows::coding, ix_model::specs::OnPaths::open_at))]
     fn open<L: Ledger>(
         &mut self,
         pid: usize,
@@ -64,7 +67,7 @@ impl Tables {
     }
 
     /// ReadFd: its tests and the floating of the caller's label. The bytes, and their number in the reply, come later.
-    #[tactic(auto, using(crate::proofs::Restoring::restores_itself), unfolding(ix_model::specs::Rows::coding, ix_model::specs::Walks::opened, ix_model::specs::Table::read_fd))]
+    #[tactic(auto, using(crate::proofs::Restoring::restores_itself), unfolding(ix_model::specs::Rows::coding, ix_model::specs::Walks::opened, ix_model::specs::OnDescriptors::read_fd))]
     fn read<L: Ledger>(
         &mut self,
         told: Told,
@@ -99,7 +102,7 @@ impl Tables {
     }
 
     /// WriteFd: its tests and the floating of the object's label. The bytes, and their number in the reply, come later.
-    #[tactic(auto, using(crate::proofs::Restoring::restores_itself), unfolding(ix_model::specs::Rows::coding, ix_model::specs::Walks::opened, ix_model::specs::Table::write_fd))]
+    #[tactic(auto, using(crate::proofs::Restoring::restores_itself), unfolding(ix_model::specs::Rows::coding, ix_model::specs::Walks::opened, ix_model::specs::OnDescriptors::write_fd))]
     fn write<L: Ledger>(
         &mut self,
         told: Told,

@@ -1,5 +1,5 @@
 use Rattle.std.proofs.Common.{◌≡◌, ◌-◌, ◌++◌, replicate}
-use Rattle.ix_model.specs.Step.{holds_nothing}
+use Rattle.ix_model.specs.Contents.{holds_nothing}
 use Rattle.ix_model.specs.Flat.{flat_holdings}
 use Rattle.ix_core.proofs.boot.holdings_of.Given as goal
 

@@ -1,5 +1,5 @@
 use Rattle.std.proofs.Common.{◌≡◌, ◌∷◌, ◌++◌, drop, map}
-use Rattle.ix_model.specs.Step.{holds_nothing}
+use Rattle.ix_model.specs.Contents.{holds_nothing}
 use Rattle.ix_model.specs.Flat.{bytes_of}
 use Rattle.ix_core.proofs.boot.standing_holdings.Given as goal
 

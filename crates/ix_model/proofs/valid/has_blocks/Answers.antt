@@ -1,6 +1,6 @@
 use Rattle.std.proofs.Common.{◌≡◌, ◌+◌, ◌≤◌, length, take, sym, ap, ◌∙◌, arith}
 use Rattle.std.proofs.lemmas.Bool.{eq-eqb, lt-leb}
-use Rattle.ix_model.specs.Step.{blocks_for}
+use Rattle.ix_model.specs.Telling.{blocks_for}
 use Rattle.ix_model.specs.Valid.{blocks_taken, blocks_of}
 use Rattle.ix_model.proofs.Fitting.{taken_more}
 use Rattle.ix_model.proofs.valid.has_blocks.Goals as goal
