@@ -1,9 +1,14 @@
 -- A row keeps what each of its words keeps.
 use Rattle.std.proofs.Common.{ℕ, Bool, true, false, Option, Some, None}
-use Rattle.ix_model.specs.World.{Frame, at, living}
+use Rattle.ix_label.specs.Category.{Categories}
+use Rattle.ix_model.specs.World.{Frame, Object, at, living}
 use Rattle.ix_model.specs.Outcomes.{Row, Outcome, Refuse, Pass}
-use Rattle.ix_model.specs.Rows.{◌>>=◌, ◌>>◌, on_pass, pass, refuse, need, some, only_if, frame, caller, object}
-use Rattle.ix_model.specs.Walks.{Sought, there}
+use Rattle.ix_model.specs.Rows.{◌>>=◌, ◌>>◌, on_pass, pass, refuse, need, some, only_if, frame, caller, object, record_of}
+use Rattle.ix_model.specs.Walks.{Sought, there, spot, vacant}
+use Rattle.ix_model.specs.Auditing.{entitled, log_has_room, exercise}
+use Rattle.ix_model.specs.OnLabels.{allowed, movable}
+use Rattle.ix_model.specs.OnDescriptors.{claimed}
+use Rattle.ix_model.specs.declared.privs.PrivSet.{PrivSet}
 use Rattle.ix_model.specs.Walks as sought
 use Rattle.ix_model.specs.declared.refusal.Refusal.{Refusal}
 
@@ -71,5 +76,52 @@ pub keeps_object : (R : Frame → Type 0) (o : ℕ) → Keeps R (object o)
 unfolding object
 keeps_object R o = record { led = λ g. (keeps_some R (at g.objects o) _).led g }
 
+pub keeps_spot : (R : Frame → Type 0) (w : Sought) → Keeps R (spot w)
+unfolding spot pass Holds refuse
+keeps_spot R sought.NotDir = record { led = λ g a. a }
+keeps_spot R sought.NotFound = record { led = λ g a. a }
+keeps_spot R (sought.Missing d) = record { led = λ g a. a }
+keeps_spot R (sought.Found o d) = record { led = λ g a. a }
+
+pub keeps_vacant : (R : Frame → Type 0) (w : Sought) → Keeps R (vacant w)
+unfolding vacant pass Holds refuse
+keeps_vacant R sought.NotDir = record { led = λ g a. a }
+keeps_vacant R sought.NotFound = record { led = λ g a. a }
+keeps_vacant R (sought.Missing d) = record { led = λ g a. a }
+keeps_vacant R (sought.Found o d) = record { led = λ g a. a }
+
+pub keeps_record_of : (R : Frame → Type 0) (p : ℕ) → Keeps R (record_of p)
+unfolding record_of
+keeps_record_of R p = record { led = λ g. (keeps_some R (at g.processes p) _).led g }
+
 -- the words that change nothing, and those that join words: what every row is made of, whatever is kept
-pub ruleset keeping = (keeps_bind, keeps_then, keeps_pass, keeps_frame, keeps_refuse, keeps_need, keeps_some, keeps_only_if, keeps_there, keeps_caller, keeps_object)
+pub ruleset keeping = (keeps_bind, keeps_then, keeps_pass, keeps_frame, keeps_refuse, keeps_need, keeps_some, keeps_only_if, keeps_there, keeps_spot, keeps_vacant, keeps_caller, keeps_object, keeps_record_of)
+
+-- privileges are looked at, and nothing changes
+pub keeps_entitled : (R : Frame → Type 0) (pid : ℕ) (x : PrivSet) → Keeps R (entitled pid x)
+unfolding entitled
+keeps_entitled R pid x = search keeping depth 20
+
+pub keeps_log_has_room : (R : Frame → Type 0) → Keeps R log_has_room
+unfolding log_has_room
+keeps_log_has_room R = search keeping depth 20
+
+pub keeps_exercise : (R : Frame → Type 0) (pid : ℕ) (x : PrivSet) → Keeps R (exercise pid x)
+unfolding exercise
+keeps_exercise R pid x = search (keeping, keeps_entitled, keeps_log_has_room) depth 20
+
+pub keeps_allowed : (R : Frame → Type 0) (pid : ℕ) (was now : Categories) → Keeps R (allowed pid was now)
+unfolding allowed
+keeps_allowed R pid was now = search (keeping, keeps_exercise) depth 20
+
+pub keeps_movable : (R : Frame → Type 0) (x : Object) (now : Categories) → Keeps R (movable x now)
+unfolding movable
+keeps_movable R x now = search keeping depth 20
+
+pub keeps_claimed : (R : Frame → Type 0) (other : Option ℕ) → Keeps R (claimed other)
+unfolding claimed
+keeps_claimed R None = search keeping depth 20
+keeps_claimed R (Some q) = search keeping depth 20
+
+-- the longer words that change nothing
+pub ruleset keeping_tests = (keeps_entitled, keeps_log_has_room, keeps_exercise, keeps_allowed, keeps_movable, keeps_claimed)

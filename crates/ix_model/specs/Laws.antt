@@ -1,16 +1,18 @@
 -- The laws of the machine's worlds: which are sound and clean, and what a refusal leaves.
-use Rattle.std.specs.Prelude.{◌≡◌, ℕ, true, false, List, Some, is_some}
-use Rattle.std.specs.List.{list_all}
+use Rattle.std.specs.Prelude.{◌≡◌, ◌≤◌, ◌<◌, ◌==◌, ℕ, true, false, List, ◌++◌, length, Some, None, is_some}
 use Rattle.ix_label.specs.Category.{Categories}
 use Rattle.ix_model.specs.Naming.{PathOf}
 use Rattle.ix_model.specs.Refusals.{keeps_label}
-use Rattle.ix_model.specs.World.{Frame, World, at, change}
+use Rattle.ix_model.specs.World.{Frame, World, Object, Process, at, change, lives}
+use Rattle.ix_model.specs.Numbers.{first_pipe}
+use Rattle.ix_model.specs.Contents.{holding_of, holds_nothing, side}
+use Rattle.ix_model.specs.AuditLog.{audit_log}
+use Rattle.ix_model.specs.WholePaths.{IsEndOf, written_to}
 use Rattle.ix_model.specs.Outcomes.{Pass}
 use Rattle.ix_model.specs.Walks.{Behind, behind, found}
-use Rattle.ix_model.specs.Step.{step, run}
+use Rattle.ix_model.specs.Step.{step, run, is_whole}
 use Rattle.ix_model.specs.Opening.{opening_world}
 use Rattle.ix_model.specs.Valid.{is_valid, is_flat}
-use Rattle.ix_model.specs.Calls.{is_built}
 use Rattle.ix_model.specs.Clean.{IsClean}
 use Rattle.ix_model.specs.Sound.{Sound}
 use Rattle.ix_model.specs.History.{Op, Event}
@@ -27,17 +29,17 @@ OpeningWorldsAreSound = (c : Config) → is_valid c ≡ true → is_flat c ≡ t
 abbrev pub OpeningWorldsAreClean : Type 0
 OpeningWorldsAreClean = (c : Config) → IsClean (opening_world c)
 
--- a built call leaves a sound and clean world sound
+-- every call leaves a sound and clean world sound
 abbrev pub StepsKeepWorldsSound : Type 0
-StepsKeepWorldsSound = (w : World) (place pid : ℕ) (o : Op) → is_built o ≡ true → IsClean w → Sound w → Sound (step w place pid o).world
+StepsKeepWorldsSound = (w : World) (place pid : ℕ) (o : Op) → IsClean w → Sound w → Sound (step w place pid o).world
 
 -- every call leaves a clean world clean
 abbrev pub StepsKeepWorldsClean : Type 0
 StepsKeepWorldsClean = (w : World) (place pid : ℕ) (o : Op) → IsClean w → IsClean (step w place pid o).world
 
--- built calls reach sound worlds alone
+-- whatever is called, sound worlds alone are reached
 abbrev pub ReachedWorldsAreSound : Type 0
-ReachedWorldsAreSound = (c : Config) (h : List Event) → is_valid c ≡ true → is_flat c ≡ true → list_all (λ e. is_built e.op) h ≡ true → Sound (run (opening_world c) 1 h)
+ReachedWorldsAreSound = (c : Config) (h : List Event) → is_valid c ≡ true → is_flat c ≡ true → Sound (run (opening_world c) 1 h)
 
 -- whatever is called, clean worlds alone are reached
 abbrev pub ReachedWorldsAreClean : Type 0
@@ -62,3 +64,38 @@ pub record ObjectsThere (w : World) : Type 0 where
 
 abbrev pub ObjectsAreThere : Type 0
 ObjectsAreThere = (w : World) → Sound w → ObjectsThere w
+
+-- ---- labels
+-- from one frame to the next the labels are as they were, but for the caller's and for one object's at most
+pub record LabelsStay (pid : ℕ) (f g : Frame) : Type 0 where
+  pub touched : ℕ
+  pub objects : (o : ℕ) (x y : Object) → (o == touched) ≡ false → at f.objects o ≡ Some x → at g.objects o ≡ Some y → y.label ≡ x.label
+  pub processes : (p : ℕ) (x y : Process) → (p == pid) ≡ false → at f.processes p ≡ Some x → at g.processes p ≡ Some y → y.label ≡ x.label
+
+-- a call changes the label of the caller and of one object that was there, and no other
+abbrev pub CallsTouchFewLabels : Type 0
+CallsTouchFewLabels = (w : World) (place pid : ℕ) (o : Op) → LabelsStay pid w.frame (step w place pid o).world.frame
+
+-- ---- the audit log
+-- the log after a history is the log before it and the lines of its licensed entries
+abbrev pub TheLogIsTheLicensedActs : Type 0
+TheLogIsTheLicensedActs = (w : World) (place : ℕ) (h : List Event) → (run w place h).frame.log ≡ w.frame.log ++ audit_log w place h
+
+-- ---- pids
+-- a pid at which nothing stands any more is never used again, and an ended process never lives again
+pub record PidsSpent (f g : Frame) : Type 0 where
+  pub grown : length f.processes ≤ length g.processes
+  pub gone : (p : ℕ) → p < length f.processes → at f.processes p ≡ None → at g.processes p ≡ None
+  pub ended : (p : ℕ) → lives f p ≡ false → p < length f.processes → lives g p ≡ false
+
+abbrev pub PidsAreNeverUsedAgain : Type 0
+PidsAreNeverUsedAgain = (w : World) (place : ℕ) (h : List Event) → PidsSpent w.frame (run w place h).frame
+
+-- ---- whole paths
+-- a call that makes a path whole leaves it empty
+abbrev pub WholePathsBeginEmpty : Type 0
+WholePathsBeginEmpty = (w : World) (place pid : ℕ) (c : Op) (o : ℕ) → IsClean w → Sound w → is_whole w.frame o ≡ false → is_whole (step w place pid c).world.frame o ≡ true → holding_of (step w place pid c).world.content o ≡ holds_nothing
+
+-- what a pipe that was empty holds after a history was written in it: the last bytes that were written to that end
+abbrev pub PipesHoldWhatWasWritten : Type 0
+PipesHoldWhatWasWritten = (w : World) (place : ℕ) (h : List Event) (o end : ℕ) → IsClean w → Sound w → first_pipe w.frame.fss ≤ o → end ≤ 1 → holding_of w.content o ≡ holds_nothing → IsEndOf (side end (holding_of (run w place h).content o)) (written_to w place h o end)

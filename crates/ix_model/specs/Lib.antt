@@ -31,5 +31,6 @@ pub mod Lowering
 pub mod TwoRuns
 pub mod Cost
 pub mod Freshness
+pub mod WholePaths
 pub mod Shown
 pub mod Laws

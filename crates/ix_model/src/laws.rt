@@ -8,6 +8,11 @@ ghost use Rattle.ix_model.specs.Laws.{
   ReachedWorldsAreClean,
   RefusalsLeaveWorlds,
   ObjectsAreThere,
+  CallsTouchFewLabels,
+  TheLogIsTheLicensedActs,
+  PidsAreNeverUsedAgain,
+  WholePathsBeginEmpty,
+  PipesHoldWhatWasWritten,
 };
 
 /// The opening world of a valid config is sound, where the config has one file system, with files alone in its root,
@@ -21,7 +26,7 @@ pub fn opening_worlds_are_clean()
     ensures clean { OpeningWorldsAreClean }
 {}
 
-/// A built call, answered or refused, leaves a sound world sound.
+/// A call, answered or refused, leaves a sound world sound.
 pub fn steps_keep_worlds_sound()
     ensures sound { StepsKeepWorldsSound }
 {}
@@ -31,7 +36,7 @@ pub fn steps_keep_worlds_clean()
     ensures clean { StepsKeepWorldsClean }
 {}
 
-/// Every world that built calls reach from a valid config's opening world is sound.
+/// Every world that is reached from a valid config's opening world is sound.
 pub fn reached_worlds_are_sound()
     ensures sound { ReachedWorldsAreSound }
 {}
@@ -51,4 +56,29 @@ pub fn what_a_refusal_leaves()
 /// These are the objects that the rows ask for.
 pub fn objects_are_there()
     ensures there { ObjectsAreThere }
+{}
+
+/// A call changes the label of the caller and of one object that was there at most.
+pub fn calls_touch_few_labels()
+    ensures few { CallsTouchFewLabels }
+{}
+
+/// The log after a history is the log before it, and then the lines of the history's licensed entries, in order.
+pub fn the_log_is_the_licensed_acts()
+    ensures log { TheLogIsTheLicensedActs }
+{}
+
+/// A pid that is free or whose process has ended never lives again, as long as the next pid is above it.
+pub fn pids_are_never_used_again()
+    ensures spent { PidsAreNeverUsedAgain }
+{}
+
+/// A call that makes a path whole leaves it empty.
+pub fn whole_paths_begin_empty()
+    ensures empty { WholePathsBeginEmpty }
+{}
+
+/// Whatever a pipe holds was written in it since it was last empty: the last bytes that were written to that end.
+pub fn pipes_hold_what_was_written()
+    ensures written { PipesHoldWhatWasWritten }
 {}
