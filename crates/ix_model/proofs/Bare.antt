@@ -1,12 +1,11 @@
 -- The table of objects before any line: a root for each file system, and nothing else.
-use Rattle.std.proofs.Common.{◌≡◌, ◌≢◌, ◌<◌, ◌≤◌, ◌+◌, ◌-◌, ◌==◌, ℕ, zero, suc, Bool, true, false, ◌&&◌, List, [], ◌∷◌, ◌++◌, length, map, drop, replicate, Option, Some, None, option_map, nat_le, refl, sym, ap, ◌∙◌, subst, arith, get_or, append_assoc, inl, inr, length-append}
-use Rattle.std.specs.Option.{option_map_or}
+use Rattle.std.proofs.Common.{◌≡◌, ◌≢◌, ◌<◌, ◌≤◌, ◌+◌, ◌-◌, ℕ, zero, suc, true, List, [], ◌∷◌, ◌++◌, length, drop, replicate, Option, Some, None, option_map, nat_le, refl, sym, ap, ◌∙◌, subst, arith, append_assoc, inl, inr, length-append}
 use Rattle.std.specs.List.{list_all}
 use Rattle.std.proofs.Math.ListN.{get_or-append}
 use Rattle.std.proofs.lemmas.Bool.{and_parts, leb-true, cases_lt}
 use Rattle.std.proofs.lemmas.Bool.Decides.{eqb_tells}
 use Rattle.std.proofs.lemmas.List.{get_or-append-add, get_or-set_other, length-replicate}
-use Rattle.ix_model.specs.World.{Object, at, put, change}
+use Rattle.ix_model.specs.World.{Object, at, change}
 use Rattle.ix_model.specs.Opening.{first_inode, inodes_of, root_of, bare, mounts}
 use Rattle.ix_model.specs.Valid.{is_within, fs_fits}
 use Rattle.ix_model.specs.declared.config.FsSpec.{FsSpec}
@@ -24,6 +23,13 @@ pub first_fits : (s : FsSpec) (fss : List FsSpec) → list_all fs_fits (s ∷ fs
 first_fits s fss fit =
     let p = and_parts (fs_fits s) (list_all fs_fits fss) fit in
     (has_inode s p.0, p.1)
+
+-- one file system has at most 65,536
+pub inodes_few : (s : FsSpec) → list_all fs_fits (s ∷ []) ≡ true → first_inode (s ∷ []) (length (s ∷ [])) ≤ 65536
+inodes_few s fit =
+    let parts = and_parts (is_within 1 65536 s.blocks) (is_within 1 65536 s.inodes) (and_parts (fs_fits s) true fit).0 in
+    let few = leb-true s.inodes 65536 (and_parts (nat_le 1 s.inodes) (nat_le s.inodes 65536) parts.1).1 in
+    omega (arith, first-cons s [] 0)
 
 pub some_inodes : (fss : List FsSpec) (k : ℕ) → list_all fs_fits fss ≡ true → k < length fss → 1 ≤ inodes_of fss k
 some_inodes [] k fit low = absurd (omega arith)

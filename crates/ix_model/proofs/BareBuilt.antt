@@ -1,12 +1,11 @@
 -- What holds of the objects before any line.
-use Rattle.std.proofs.Common.{◌≡◌, ◌≢◌, ◌<◌, ◌≤◌, ◌+◌, ◌==◌, ℕ, zero, suc, Bool, true, false, true≢false, not, ◌&&◌, ◌||◌, List, [], ◌∷◌, ◌++◌, length, length-set, map, sum, drop, count_by, find, replicate, if◌then◌else◌, cond, Option, Some, None, is_some, option_map, unwrap_or, refl, sym, ap, ◌∙◌, subst, arith, inl, inr}
+use Rattle.std.proofs.Common.{◌≡◌, ◌<◌, ◌≤◌, ◌+◌, ◌==◌, ℕ, zero, suc, Bool, true, false, true≢false, not, ◌||◌, List, [], ◌∷◌, ◌++◌, length, length-set, map, sum, drop, count_by, find, replicate, if◌then◌else◌, Option, Some, None, is_some, option_map, unwrap_or, refl, sym, ap, ◌∙◌, subst, arith, inl, inr}
 use Rattle.std.specs.Option.{option_map_or, option_and_then}
 use Rattle.std.specs.List.{list_any, list_all, sum_by}
-use Rattle.std.proofs.lemmas.Bool.{and_parts, or_cases, or_left, ne_eqb, not_from_false}
+use Rattle.std.proofs.lemmas.Bool.{and_parts, or_cases, or_left, ne_eqb}
 use Rattle.std.proofs.lemmas.List.{length-replicate}
 use Rattle.std.proofs.lemmas.List.Sums.{sum-map, sum_by-set}
 use Rattle.std.proofs.lemmas.Iterator.Adapters.{position_from-zero}
-use Rattle.ix_label.specs.Category.{leq}
 use Rattle.ix_label.specs.Lattice.{bottom-leq}
 use Rattle.ix_model.specs.Naming.{same_bytes, same_names}
 use Rattle.ix_model.specs.World.{Object, Holding, at, is_file, is_dir, is_pipe}
@@ -14,7 +13,7 @@ use Rattle.ix_model.specs.Walks.{nothing, node, child}
 use Rattle.ix_model.specs.Step.{holds_nothing, blocks_for, blocks_where}
 use Rattle.ix_model.specs.Opening.{first_inode, inodes_of, root_of, mounts}
 use Rattle.ix_model.specs.Valid.{all_differ, fs_fits, fs_of, is_mount, is_there, is_dir_there}
-use Rattle.ix_model.specs.Sound.{times_in, times_named, names_in_all}
+use Rattle.ix_model.specs.Sound.{times_in, times_named}
 use Rattle.ix_model.specs.declared.config.FsSpec.{FsSpec}
 use Rattle.ix_model.specs.declared.config.Limits.{Limits}
 use Rattle.ix_model.proofs.Alike.{names_are}

@@ -1,15 +1,14 @@
 -- One object more, which takes an inode, a name and blocks of those that are left.
-use Rattle.std.proofs.Common.{◌≡◌, ◌≢◌, ◌<◌, ◌≤◌, ◌+◌, ◌==◌, ℕ, zero, suc, Bool, true, false, List, [], ◌∷◌, ◌++◌, length, length-append, length-set, map, count_by, cond, Option, Some, None, is_some, set, refl, sym, ap, ◌∙◌, subst, arith, inl, inr}
+use Rattle.std.proofs.Common.{◌≡◌, ◌≢◌, ◌<◌, ◌≤◌, ◌+◌, ◌==◌, ℕ, suc, Bool, true, false, List, [], ◌∷◌, ◌++◌, length, length-append, length-set, map, cond, Option, Some, is_some, set, refl, sym, ap, ◌∙◌, subst, arith, inl, inr}
 use Rattle.std.specs.Option.{option_map_or}
 use Rattle.ix_label.specs.Category.{leq, top}
 use Rattle.std.proofs.lemmas.Bool.{cond-true, cond-false}
 use Rattle.std.proofs.lemmas.Bool.Decides.{eqb_tells}
 use Rattle.std.proofs.lemmas.List.Sums.{length-filter, sum_by_push}
-use Rattle.ix_model.specs.World.{Object, Holding, at, is_dir}
+use Rattle.ix_model.specs.World.{Object, Holding, at}
 use Rattle.ix_model.specs.Step.{holds_nothing, blocks_for, blocks_where}
-use Rattle.ix_model.specs.Opening.{first_inode, inodes_of, object_of}
+use Rattle.ix_model.specs.Opening.{first_inode, inodes_of}
 use Rattle.ix_model.specs.Valid.{fs_of, fs_ceiling, blocks_of, lying_on, blocks_taken}
-use Rattle.ix_model.specs.Sound.{names_in_all}
 use Rattle.ix_model.specs.declared.config.FsSpec.{FsSpec}
 use Rattle.ix_model.specs.declared.config.Limits.{Limits}
 use Rattle.ix_model.specs.declared.config.ObjSpec.{ObjSpec}

@@ -1,5 +1,5 @@
 -- What an object line that fits says, and where a path leads after it.
-use Rattle.std.proofs.Common.{◌≡◌, ◌⊎◌, ◌≤◌, ◌<◌, ◌+◌, ◌-◌, ◌==◌, ℕ, zero, suc, Bool, true, false, true≢false, not, ◌&&◌, ◌||◌, List, [], ◌∷◌, ◌++◌, length, map, sum, take, drop, position, cond, Option, Some, None, nat_le, refl, sym, ap, ◌∙◌, arith, get_or, append-nil, inl, inr}
+use Rattle.std.proofs.Common.{◌≡◌, ◌⊎◌, ◌≤◌, ◌+◌, ◌-◌, ◌==◌, ℕ, suc, Bool, true, false, not, ◌&&◌, ◌||◌, List, [], ◌∷◌, ◌++◌, length, take, drop, cond, Some, None, nat_le, refl, sym, ap, ◌∙◌, arith, get_or, inl, inr}
 use Rattle.std.specs.Option.{option_map_or}
 use Rattle.std.specs.List.{list_any, position_from}
 use Rattle.std.proofs.Math.Seq.{drop-cons}
@@ -12,7 +12,7 @@ use Rattle.ix_model.specs.Naming.{same_bytes, same_names}
 use Rattle.ix_model.specs.Privs.{is_empty}
 use Rattle.ix_model.specs.Step.{blocks_for}
 use Rattle.ix_model.specs.Opening.{inodes_of, last_name}
-use Rattle.ix_model.specs.Valid.{fs_of, fs_ceiling, blocks_of, mount_of, is_mount, is_well_formed, is_there, is_dir_there, lying_on, blocks_taken, has_room, object_fits}
+use Rattle.ix_model.specs.Valid.{fs_of, fs_ceiling, blocks_of, is_mount, is_well_formed, is_there, is_dir_there, lying_on, blocks_taken, has_room, object_fits}
 use Rattle.ix_model.specs.declared.config.FsSpec.{FsSpec}
 use Rattle.ix_model.specs.declared.config.Limits.{Limits}
 use Rattle.ix_model.specs.declared.config.ObjSpec.{ObjSpec}

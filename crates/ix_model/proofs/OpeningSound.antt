@@ -1,13 +1,12 @@
 -- A world that a valid config's lines have made is sound.
-use Rattle.std.proofs.Common.{◌≡◌, ◌<◌, ◌≤◌, ◌+◌, ◌==◌, ℕ, zero, suc, Bool, true, false, true≢false, not, ◌&&◌, ◌||◌, List, [], ◌∷◌, length, map, count_by, replicate, Option, Some, None, is_some, is_none, cond, refl, sym, ap, ◌∙◌, subst, arith}
+use Rattle.std.proofs.Common.{◌≡◌, ◌<◌, ◌≤◌, ◌+◌, ℕ, zero, suc, true, false, true≢false, List, [], ◌∷◌, length, map, Option, Some, None, is_some, is_none, cond, refl, sym, ap, ◌∙◌, subst, arith}
 use Rattle.std.specs.Option.{option_map_or}
 use Rattle.std.specs.List.{list_all}
 use Rattle.std.proofs.lemmas.Bool.{and_parts, or_left, not_from_false, ne_eqb}
 use Rattle.std.proofs.lemmas.List.{length-replicate, length-map}
 use Rattle.std.proofs.lemmas.List.Sums.{sum_by-cons, count_by-le-length}
 use Rattle.ix_label.specs.Category.{leq}
-use Rattle.ix_model.specs.World.{World, Object, Process, Open, Holding, at, is_file, is_dir, is_pipe, held, no_claims}
-use Rattle.ix_model.specs.Step.{holding_of}
+use Rattle.ix_model.specs.World.{World, Object, Process, Open, Holding, at, is_dir, no_claims}
 use Rattle.ix_model.specs.Opening.{first_inode, inodes_of, process_of}
 use Rattle.ix_model.specs.Sound.{times_named, LabelsBelow, NamesSound, LivesSound, OpensSound, ProcessesSound, ClaimsSound, WithinLimits, LengthsSound, Sound}
 use Rattle.ix_model.specs.declared.config.Config.{Config}
