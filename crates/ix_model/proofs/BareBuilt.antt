@@ -19,7 +19,7 @@ use Rattle.ix_model.specs.declared.config.Limits.{Limits}
 use Rattle.ix_model.proofs.Alike.{names_are}
 use Rattle.ix_model.proofs.Openings.{all_one}
 use Rattle.ix_model.proofs.Inodes.{first-cons, first_next, one_fs, filled_one}
-use Rattle.ix_model.proofs.Built.{Fits, Named, DirAt, Ways, on_fs, Counted, Built}
+use Rattle.ix_model.proofs.Built.{Fits, Named, DirAt, Ways, is_on_fs, Counted, Built}
 use Rattle.ix_model.proofs.Bare.{some_inodes, roots, length-roots, root_at, is_root, with_mounts, bare_table, at_first, at_others, each_root}
 use Rattle.ix_model.proofs.Mounts.{length-mounts, mounts_names, mounts_any, mounts_past, mounts_without, mounts_once, mount_at, mounted}
 use Rattle.ix_model.proofs.NamesPlaced.{sum_nothing}
@@ -198,7 +198,7 @@ module _ (fss : List FsSpec) (l : Limits) (fit : list_all fs_fits fss ≡ true) 
     names = omega (arith, sum_bare (λ x. option_map_or (λ y. length y.names) x 0) refl (λ k. refl), length-mounts (first_inode fss 1) (drop 1 fss), length-further fss some);
     few = omega (arith, few);
     taken = λ k. omega (arith, filled_one table (first_inode fss k) (inodes_of fss k) (gap k));
-    blocks = λ k. omega (arith, blocks_of_nothing (on_fs table k) 0 (length table));
+    blocks = λ k. omega (arith, blocks_of_nothing (is_on_fs table k) 0 (length table));
     within = λ k. omega arith;
   }
 

@@ -55,8 +55,8 @@ pub record Ways (fss : List FsSpec) (before : List ObjSpec) (t : List (Option Ob
 
 -- ---- counts
 -- whether the object at a number lies on a file system
-abbrev pub on_fs : List (Option Object) → ℕ → ℕ → Bool
-on_fs t k o = option_map_or (λ x. option_map_or (λ j. j == k) x.fs false) (at t o) false
+abbrev pub is_on_fs : List (Option Object) → ℕ → ℕ → Bool
+is_on_fs t k o = option_map_or (λ x. option_map_or (λ j. j == k) x.fs false) (at t o) false
 
 pub record Counted (fss : List FsSpec) (l : Limits) (before : List ObjSpec) (t : List (Option Object)) (hs : List Holding) : Type 0 where
   pub long : length t ≡ first_inode fss (length fss) + l.pipes
@@ -65,7 +65,7 @@ pub record Counted (fss : List FsSpec) (l : Limits) (before : List ObjSpec) (t :
   pub names : suc (names_in_all t) ≡ length fss + length before
   pub few : length fss + length before ≤ suc l.names
   pub taken : (k : ℕ) → filled t (first_inode fss k) (inodes_of fss k) ≤ suc (length (lying_on fss k before))
-  pub blocks : (k : ℕ) → blocks_where (on_fs t k) 0 hs ≤ blocks_taken fss k before
+  pub blocks : (k : ℕ) → blocks_where (is_on_fs t k) 0 hs ≤ blocks_taken fss k before
   pub within : (k : ℕ) → blocks_taken fss k before ≤ blocks_of fss k
 
 -- ---- the whole

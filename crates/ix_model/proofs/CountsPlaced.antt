@@ -17,7 +17,7 @@ use Rattle.ix_model.proofs.Fitting.{taken-cons}
 use Rattle.ix_model.proofs.Lengths.{set_either}
 use Rattle.ix_model.proofs.Inodes.{one_fs, filled, filled_same, filled_more}
 use Rattle.ix_model.proofs.Lines.{Line}
-use Rattle.ix_model.proofs.Built.{on_fs, Fits, Counted}
+use Rattle.ix_model.proofs.Built.{is_on_fs, Fits, Counted}
 use Rattle.ix_model.proofs.NamesPlaced.{new_no_pipe}
 use Rattle.ix_model.proofs.Placing.{Place, with_one, at_new, seen, each_after, length-after, names_after}
 
@@ -27,9 +27,9 @@ lying_more fss j before b =
     let on : ObjSpec → Bool = λ x. fs_of fss x.path.names == j in
     length-filter on (before ++ b ∷ []) ∙ sum_by_push (λ (x : ObjSpec). cond {A = ℕ} (on x) 1 0) before b ∙ ap (λ n. n + cond (on b) 1 0) (sym (length-filter on before))
 
-taken_more : (fss : List FsSpec) (j : ℕ) (before : List ObjSpec) (b : ObjSpec) → blocks_taken fss j (before ++ b ∷ []) ≡ blocks_taken fss j before + cond (fs_of fss b.path.names == j) (blocks_for (length b.bytes)) 0
-taken_more fss j [] b = taken-cons fss j b [] ∙ omega arith
-taken_more fss j (x ∷ before) b = omega (arith, taken-cons fss j x (before ++ b ∷ []), taken-cons fss j x before, taken_more fss j before b)
+blocks_more : (fss : List FsSpec) (j : ℕ) (before : List ObjSpec) (b : ObjSpec) → blocks_taken fss j (before ++ b ∷ []) ≡ blocks_taken fss j before + cond (fs_of fss b.path.names == j) (blocks_for (length b.bytes)) 0
+blocks_more fss j [] b = taken-cons fss j b [] ∙ omega arith
+blocks_more fss j (x ∷ before) b = omega (arith, taken-cons fss j x (before ++ b ∷ []), taken-cons fss j x before, blocks_more fss j before b)
 
 -- ---- what a file holds at the start
 abbrev pub holding_for : ObjSpec → Holding
@@ -67,31 +67,31 @@ module _ (fss : List FsSpec) (l : Limits) (before : List ObjSpec) (t : List (Opt
   ]
 
   -- ---- blocks
-  lies_as : (j m : ℕ) → m ≢ o → on_fs next j m ≡ on_fs t j m
+  lies_as : (j m : ℕ) → m ≢ o → is_on_fs next j m ≡ is_on_fs t j m
   lies_as j m other = seen t b o d k p (λ x. option_map_or (λ y. option_map_or (λ i. i == j) y.fs false) x false) (λ x. refl) m other
 
-  off_before : (j : ℕ) → on_fs t j o ≡ false
+  off_before : (j : ℕ) → is_on_fs t j o ≡ false
   off_before j = ap (λ x. option_map_or (λ y. option_map_or (λ i. i == j) y.fs false) x false) p.free
 
-  off_after : (j : ℕ) → (k == j) ≡ false → on_fs next j o ≡ false
+  off_after : (j : ℕ) → (k == j) ≡ false → is_on_fs next j o ≡ false
   off_after j other = ap (λ x. option_map_or (λ y. option_map_or (λ i. i == j) y.fs false) x false) (at_new t b o d k p) ∙ other
 
-  blocks_after : (j : ℕ) → blocks_where (on_fs t j) 0 hs ≤ blocks_taken fss j before → blocks_where (on_fs next j) 0 (set hs o (holding_for b)) ≤ blocks_taken fss j (before ++ b ∷ [])
+  blocks_after : (j : ℕ) → blocks_where (is_on_fs t j) 0 hs ≤ blocks_taken fss j before → blocks_where (is_on_fs next j) 0 (set hs o (holding_for b)) ≤ blocks_taken fss j (before ++ b ∷ [])
   blocks_after j blocks = elim (eqb_tells (fs_of fss b.path.names) j) [
     | inl here ↦
         let more : cond {A = ℕ} (fs_of fss b.path.names == j) (blocks_for (length b.bytes)) 0 ≡ blocks_for (length b.bytes) = cond-true _ _ _ here.0 in
-        let edit = blocks_edit (on_fs next j) (on_fs t j) 0 hs o (holding_for b) (λ m other. sym (lies_as j m (λ e. other (omega arith)))) in
-        omega (arith, taken_more fss j before b)
+        let edit = blocks_edit (is_on_fs next j) (is_on_fs t j) 0 hs o (holding_for b) (λ m other. sym (lies_as j m (λ e. other (omega arith)))) in
+        omega (arith, blocks_more fss j before b)
     | inr other ↦
         let off : (k == j) ≡ false = ap (λ i. i == j) is_k ∙ other.0 in
-        let skip : blocks_where (on_fs next j) 0 (set hs o (holding_for b)) ≡ blocks_where (on_fs next j) 0 hs = blocks_skip (on_fs next j) 0 hs o (holding_for b) (ap (on_fs next j) (omega arith) ∙ off_after j off) in
-        let same : blocks_where (on_fs next j) 0 hs ≡ blocks_where (on_fs t j) 0 hs = blocks_from (on_fs next j) (on_fs t j) 0 hs (λ m low. as_before m off) in
-        omega (arith, taken_more fss j before b)
+        let skip : blocks_where (is_on_fs next j) 0 (set hs o (holding_for b)) ≡ blocks_where (is_on_fs next j) 0 hs = blocks_skip (is_on_fs next j) 0 hs o (holding_for b) (ap (is_on_fs next j) (omega arith) ∙ off_after j off) in
+        let same : blocks_where (is_on_fs next j) 0 hs ≡ blocks_where (is_on_fs t j) 0 hs = blocks_from (is_on_fs next j) (is_on_fs t j) 0 hs (λ m low. as_before m off) in
+        omega (arith, blocks_more fss j before b)
   ]
     where
-      as_before : (m : ℕ) → (k == j) ≡ false → on_fs next j m ≡ on_fs t j m
+      as_before : (m : ℕ) → (k == j) ≡ false → is_on_fs next j m ≡ is_on_fs t j m
       as_before m off = elim (eqb_tells m o) [
-        | inl here ↦ ap (on_fs next j) here.1 ∙ off_after j off ∙ sym (ap (on_fs t j) here.1 ∙ off_before j)
+        | inl here ↦ ap (is_on_fs next j) here.1 ∙ off_after j off ∙ sym (ap (is_on_fs t j) here.1 ∙ off_before j)
         | inr apart ↦ lies_as j m apart.1
       ]
 
@@ -100,10 +100,10 @@ module _ (fss : List FsSpec) (l : Limits) (before : List ObjSpec) (t : List (Opt
     | inl here ↦
         let more : cond {A = ℕ} (fs_of fss b.path.names == j) (blocks_for (length b.bytes)) 0 ≡ blocks_for (length b.bytes) = cond-true _ _ _ here.0 in
         let room : blocks_taken fss j before + blocks_for (length b.bytes) ≤ blocks_of fss j = subst (λ (i : ℕ). blocks_taken fss i before + blocks_for (length b.bytes) ≤ blocks_of fss i) here.1 line.blocks in
-        omega (arith, taken_more fss j before b)
+        omega (arith, blocks_more fss j before b)
     | inr other ↦
         let none : cond {A = ℕ} (fs_of fss b.path.names == j) (blocks_for (length b.bytes)) 0 ≡ 0 = cond-false _ _ _ other.0 in
-        omega (arith, taken_more fss j before b)
+        omega (arith, blocks_more fss j before b)
   ]
 
   -- ---- the whole

@@ -2,6 +2,7 @@
 use Rattle.std.proofs.Common.{◌≡◌, ◌⊎◌, ◌≤◌, ◌+◌, ◌-◌, ◌==◌, ℕ, suc, Bool, true, false, not, ◌&&◌, ◌||◌, List, [], ◌∷◌, ◌++◌, length, take, drop, cond, Some, None, nat_le, refl, sym, ap, ◌∙◌, arith, get_or, inl, inr}
 use Rattle.std.specs.Option.{option_map_or}
 use Rattle.std.specs.List.{list_any, position_from}
+use Rattle.std.proofs.Math.Bool.{and-true, or-false}
 use Rattle.std.proofs.Math.Seq.{drop-cons}
 use Rattle.std.proofs.lemmas.Bool.{and_parts, or_parts, or_cases, or_left, or_right, not-true, leb-true}
 use Rattle.std.proofs.lemmas.List.{take-append-drop, drop_all}
@@ -70,15 +71,11 @@ line_is fss l before b fits =
     }
 
 -- ---- the file system of a path
-and_true : (a : Bool) → (a && true) ≡ false → a ≡ false
-and_true true h = h
-and_true false h = h
-
 no_mount : (ms : List FsSpec) (name : List ℕ) (i : ℕ) → list_any (λ s. same_names (s.name ∷ []) (name ∷ [])) ms ≡ false → position_from (λ s. same_bytes s.name name) i ms ≡ None
 no_mount [] name i h = refl
 no_mount (s ∷ ms) name i h =
     let p = or_parts (same_names (s.name ∷ []) (name ∷ [])) (list_any (λ t. same_names (t.name ∷ []) (name ∷ [])) ms) h in
-    ap (λ b. cond b (Some i) (position_from (λ t. same_bytes t.name name) (i + 1) ms)) (and_true (same_bytes s.name name) p.0) ∙ no_mount ms name (i + 1) p.1
+    ap (λ b. cond b (Some i) (position_from (λ t. same_bytes t.name name) (i + 1) ms)) (sym (and-true (same_bytes s.name name)) ∙ p.0) ∙ no_mount ms name (i + 1) p.1
 
 -- a path that isn't a root lies where its directory does
 pub fs_of_child : (fss : List FsSpec) (names : List (List ℕ)) (name : List ℕ) → is_mount fss (names ++ name ∷ []) ≡ false → fs_of fss (names ++ name ∷ []) ≡ fs_of fss names
@@ -86,12 +83,8 @@ fs_of_child fss [] name h = ap (λ o. option_map_or suc o 0) (position_from-zero
 fs_of_child fss (x ∷ names) name h = refl
 
 -- ---- with one line more
-any_one : (b : Bool) → (b || false) ≡ b
-any_one true = refl
-any_one false = refl
-
 there_more : (p : ObjSpec → Bool) (before : List ObjSpec) (b : ObjSpec) → list_any p (before ++ b ∷ []) ≡ (list_any p before || p b)
-there_more p before b = list_any-append p before (b ∷ []) ∙ ap (λ x. list_any p before || x) (any_one (p b))
+there_more p before b = list_any-append p before (b ∷ []) ∙ ap (λ x. list_any p before || x) (or-false (p b))
 
 -- what was there is there, and the new object is
 pub still_there : (fss : List FsSpec) (before : List ObjSpec) (b : ObjSpec) (names : List (List ℕ)) → is_there fss before names ≡ true → is_there fss (before ++ b ∷ []) names ≡ true

@@ -1,6 +1,7 @@
 -- The names of the further file systems' roots: how often each number stands among them, and what each leads to.
 use Rattle.std.proofs.Common.{◌≡◌, ◌<◌, ◌+◌, ◌==◌, ℕ, zero, suc, Bool, true, false, ◌&&◌, ◌||◌, List, [], ◌∷◌, length, map, count_by, find, cond, Some, None, option_map, refl, sym, ap, ◌∙◌, arith, inl, inr}
 use Rattle.std.specs.List.{list_any, list_all, position_from}
+use Rattle.std.proofs.Math.Bool.{and-true}
 use Rattle.std.proofs.lemmas.Bool.{cond-true, cond-false, eq-eqb, ne_eqb}
 use Rattle.std.proofs.lemmas.Bool.Decides.{eqb_tells}
 use Rattle.ix_model.specs.Naming.{same_bytes, same_names}
@@ -86,10 +87,6 @@ pub record Mounted (ms : List FsSpec) (names : List (List ℕ)) (n i : ℕ) : Ty
   pub child : option_map (λ e. e.1) (find (λ e. same_bytes e.0 name) (mounts n ms)) ≡ Some (n + first_inode ms place)
   pub back : option_map (λ e. e.0) (find (λ e. e.1 == n + first_inode ms place) (mounts n ms)) ≡ Some name
 
-and_true : (a : Bool) → (a && true) ≡ false → a ≡ false
-and_true true h = h
-and_true false h = h
-
 pub mounted : (ms : List FsSpec) (names : List (List ℕ)) (n i : ℕ) → list_all fs_fits ms ≡ true → list_any (λ s. same_names (s.name ∷ []) names) ms ≡ true → Mounted ms names n i
 mounted [] names n i fit h = cc
 mounted (s ∷ ms) names n i fit h = go (same_names (s.name ∷ []) names) refl h (λ k. mounted ms names (n + s.inodes) (i + 1) (first_fits s ms fit).1 k)
@@ -107,7 +104,7 @@ mounted (s ∷ ms) names n i fit h = go (same_names (s.name ∷ []) names) refl 
     go false here h next =
         let r = next h in
         let p = first_fits s ms fit in
-        let other : same_bytes s.name r.name ≡ false = and_true (same_bytes s.name r.name) (ap (same_names (s.name ∷ [])) (sym r.is) ∙ here) in
+        let other : same_bytes s.name r.name ≡ false = sym (and-true (same_bytes s.name r.name)) ∙ ap (same_names (s.name ∷ [])) (sym r.is) ∙ here in
         let further : (n + s.inodes) + first_inode ms r.place ≡ n + first_inode (s ∷ ms) (suc r.place) = omega (arith, first-cons s ms r.place) in
         let q : ℕ = n + first_inode (s ∷ ms) (suc r.place) in
         record {
