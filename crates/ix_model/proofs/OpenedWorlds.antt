@@ -47,7 +47,7 @@ unfolding free_inode
 free_at f k n is = ap (option_map (λ m. first_inode f.fss k + m)) is
 
 -- one line more
-line_built : (c : Config) (before : List ObjSpec) (t : List (Option Object)) (hs : List Holding) (b : ObjSpec) → Built c.fss c.limits before t hs → object_fits c.fss c.limits before b ≡ true → WorldBuilt c (before ++ b ∷ []) (with_object (world_with c t hs) b)
+pub line_built : (c : Config) (before : List ObjSpec) (t : List (Option Object)) (hs : List Holding) (b : ObjSpec) → Built c.fss c.limits before t hs → object_fits c.fss c.limits before b ≡ true → WorldBuilt c (before ++ b ∷ []) (with_object (world_with c t hs) b)
 line_built c before t hs b r fits =
     let line = line_is c.fss c.limits before b fits in
     let home = r.ways.dirs (parent_of b.path.names) line.dir in

@@ -34,7 +34,7 @@ bare_is_built c v = record {
 }
 
 -- the config's lines make its opening world
-opening_is_built : (c : Config) → Valid c → WorldBuilt c c.objects (opening_world c)
+pub opening_is_built : (c : Config) → Valid c → WorldBuilt c c.objects (opening_world c)
 unfolding opening_world
 opening_is_built c v = lines_built c [] c.objects (bare_world c) (bare_is_built c v) v.objects
 
