@@ -1,24 +1,16 @@
 -- What boot needs of a flat config, and one step of filling a table up.
-use Rattle.std.proofs.Common.{◌≡◌, ℕ, ◌+◌, ◌-◌, ◌<◌, ◌==◌, ◌&&◌, true, List, [], ◌∷◌, ◌++◌, length, replicate, Some, None, slice_get, sym, ap, ◌∙◌, arith, append_assoc, suc}
-use Rattle.std.specs.List.{list_all}
-use Rattle.std.proofs.lemmas.Bool.{and_parts}
-use Rattle.ix_model.specs.Valid.{is_flat, is_flat_object, is_flat_process}
+use Rattle.std.proofs.Common.{◌≡◌, ℕ, ◌+◌, ◌-◌, ◌<◌, true, List, [], ◌∷◌, ◌++◌, length, replicate, Some, None, slice_get, sym, ap, ◌∙◌, arith, append_assoc, suc}
+use Rattle.ix_model.specs.Valid.{is_flat}
 use Rattle.ix_model.specs.declared.config.Config.{Config}
 use Rattle.ix_model.specs.declared.config.FsSpec.{FsSpec}
-use Rattle.ix_model.proofs.Flatness.{one_of}
+use Rattle.ix_model.proofs.Flatness.{only_fs}
 
 pub filled_more : {A : Type 0} (xs whole : List A) (d : A) (n i : ℕ) → i < n → xs ++ replicate (n - i) d ≡ whole → (xs ++ d ∷ []) ++ replicate (n - (i + 1)) d ≡ whole
 filled_more xs whole d n i low h =
     let one : n - i ≡ suc (n - (i + 1)) = omega arith in
     append_assoc xs (d ∷ []) (replicate (n - (i + 1)) d) ∙ sym (ap (λ k. xs ++ replicate k d) one) ∙ h
 
--- a flat config has one file system, which is found first
-pub only_fs : (c : Config) → is_flat c ≡ true → (fs : FsSpec) × (c.fss ≡ fs ∷ [])
-unfolding is_flat
-only_fs c flat =
-    let f1 = and_parts (length c.fss == 1 && list_all is_flat_object c.objects) (list_all is_flat_process c.procs) flat in
-    one_of c.fss (and_parts (length c.fss == 1) (list_all is_flat_object c.objects) f1.0).0
-
+-- a flat config's one file system is found first
 pub first_fs : (c : Config) (fs : FsSpec) → is_flat c ≡ true → slice_get c.fss 0 ≡ Some fs → c.fss ≡ fs ∷ []
 first_fs c fs flat found =
     let one = only_fs c flat in
@@ -28,9 +20,3 @@ first_fs c fs flat found =
 
 pub some_fs : (c : Config) → is_flat c ≡ true → slice_get c.fss 0 ≡ None → ⊥
 some_fs c flat none = let one = only_fs c flat in let e : Some one.0 ≡ None = sym (ap (λ (fss : List FsSpec). slice_get fss 0) one.1) ∙ none in cc
-
-pub files_alone : (c : Config) → is_flat c ≡ true → list_all is_flat_object c.objects ≡ true
-unfolding is_flat
-files_alone c flat =
-    let f1 = and_parts (length c.fss == 1 && list_all is_flat_object c.objects) (list_all is_flat_process c.procs) flat in
-    (and_parts (length c.fss == 1) (list_all is_flat_object c.objects) f1.0).1

@@ -62,7 +62,7 @@ stands_next w v h e s built few is =
 
 pub sound_core : (w : World) (h : History) → StandsFor w h → Sound (world_of h)
 unfolding world_of
-sound_core w h s = sound_reached h.config h.events s.valid s.flat s.built
+sound_core w h s = sound_reached h.config h.events s.valid s.built
 
 pub unlogged : (w : World) (h : History) → StandsFor w h → (world_of h).frame.log ≡ []
 unlogged w h s = subst (λ (u : World). u.frame.log ≡ []) s.run s.log

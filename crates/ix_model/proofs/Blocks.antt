@@ -1,9 +1,7 @@
 -- The blocks of the holdings that a test picks out.
 use Rattle.std.proofs.Common.{◌≡◌, ◌≢◌, ◌≤◌, ◌+◌, ◌==◌, ℕ, zero, suc, Bool, true, false, List, [], ◌∷◌, length, Option, Some, None, if◌then◌else◌, sym, ap, ◌∙◌, arith, refl, set}
 use Rattle.std.specs.Option.{option_map_or, option_and_then}
-use Rattle.std.specs.List.{sum_by}
 use Rattle.std.proofs.lemmas.Bool.{eqb-true}
-use Rattle.std.proofs.lemmas.List.Sums.{sum_by-cons}
 use Rattle.ix_model.specs.World.{Frame, Object, Holding, at}
 use Rattle.ix_model.specs.Telling.{blocks_for, blocks_where, lies_on, fs_at}
 
@@ -34,23 +32,6 @@ blocks_edit p q n (y ∷ hs) zero x same =
 blocks_edit p q n (y ∷ hs) (suc o) x same =
     let first : (if q n then blocks_for (length y.first) else 0) ≡ (if p n then blocks_for (length y.first) else 0) = ap (λ b. if b then blocks_for (length y.first) else 0) (same n (λ e. absurd (omega arith))) in
     let rest = blocks_edit p q (suc n) hs o x (λ m other. same m (λ e. other (omega arith))) in
-    omega arith
-
--- no more than all blocks together
-pub blocks_all : (p : ℕ → Bool) (n : ℕ) (hs : List Holding) → blocks_where p n hs ≤ sum_by (λ h. blocks_for (length h.first)) hs
-blocks_all p n [] = omega arith
-blocks_all p n (h ∷ hs) =
-    let rest = blocks_all p (suc n) hs in
-    let whole = sum_by-cons (λ (h : Holding). blocks_for (length h.first)) h hs in
-    let one : (if p n then blocks_for (length h.first) else 0) ≤ blocks_for (length h.first) = at_most (p n) _ in
-    omega arith
-
--- where nothing is counted
-pub blocks_none : (p : ℕ → Bool) (n : ℕ) (hs : List Holding) → ((m : ℕ) → p m ≡ false) → blocks_where p n hs ≡ 0
-blocks_none p n [] none = refl
-blocks_none p n (h ∷ hs) none =
-    let rest = blocks_none p (suc n) hs none in
-    let one : (if p n then blocks_for (length h.first) else 0) ≡ 0 = ap (λ b. if b then blocks_for (length h.first) else 0) (none n) in
     omega arith
 
 -- an object that lies on a file system

@@ -32,7 +32,7 @@ all_differ_step fss i s named low here is =
     ∙ ap (λ (b : Bool). not b && all_differ (map (λ t. t.name) rest)) (list_any-map (same_bytes s.name) (λ (t : FsSpec). t.name) rest ∙ sym (is ∙ ap (list_any (λ (t : FsSpec). same_bytes s.name t.name)) (take_rest fss (i + 1))))
 
 -- ---- blocks
-taken-cons : (fss : List FsSpec) (k : ℕ) (b : ObjSpec) (lines : List ObjSpec) → blocks_taken fss k (b ∷ lines) ≡ (if fs_of fss b.path.names == k then blocks_for (length b.bytes) else 0) + blocks_taken fss k lines
+pub taken-cons : (fss : List FsSpec) (k : ℕ) (b : ObjSpec) (lines : List ObjSpec) → blocks_taken fss k (b ∷ lines) ≡ (if fs_of fss b.path.names == k then blocks_for (length b.bytes) else 0) + blocks_taken fss k lines
 taken-cons fss k b lines = go (fs_of fss b.path.names == k)
   where
     go : (on : Bool) → sum (map (λ x. blocks_for (length x.bytes)) (if on then b ∷ lying_on fss k lines else lying_on fss k lines)) ≡ (if on then blocks_for (length b.bytes) else 0) + blocks_taken fss k lines

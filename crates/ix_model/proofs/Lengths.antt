@@ -15,7 +15,7 @@ use Rattle.ix_model.proofs.Standing.{Standing, on_pipe_is}
 
 -- ---- lists
 -- what holds of each element and of a new one holds after the new one is set
-set_either : {A : Type 0} (P : A → Type 0) (d : A) (xs : List A) (o m : ℕ) (x : A) → (m ≡ o → P x) → P (get_or xs m d) → P (get_or (set xs o x) m d)
+pub set_either : {A : Type 0} (P : A → Type 0) (d : A) (xs : List A) (o m : ℕ) (x : A) → (m ≡ o → P x) → P (get_or xs m d) → P (get_or (set xs o x) m d)
 set_either P d [] o m x new old = old
 set_either P d (y ∷ xs) zero zero x new old = new refl
 set_either P d (y ∷ xs) zero (suc m) x new old = old

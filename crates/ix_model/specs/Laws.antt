@@ -12,7 +12,7 @@ use Rattle.ix_model.specs.Outcomes.{Pass}
 use Rattle.ix_model.specs.Walks.{Behind, behind, found}
 use Rattle.ix_model.specs.Step.{step, run, is_whole}
 use Rattle.ix_model.specs.Opening.{opening_world}
-use Rattle.ix_model.specs.Valid.{is_valid, is_flat}
+use Rattle.ix_model.specs.Valid.{is_valid}
 use Rattle.ix_model.specs.Clean.{IsClean}
 use Rattle.ix_model.specs.Sound.{Sound}
 use Rattle.ix_model.specs.History.{Op, Event}
@@ -21,9 +21,9 @@ use Rattle.ix_model.specs.declared.reply.Reply.TheVariants as reply
 use Rattle.ix_model.specs.declared.refusal.Refusal.{Refusal}
 
 -- ---- sound worlds
--- the opening world of a valid config that is built is sound
+-- the opening world of every valid config is sound
 abbrev pub OpeningWorldsAreSound : Type 0
-OpeningWorldsAreSound = (c : Config) → is_valid c ≡ true → is_flat c ≡ true → Sound (opening_world c)
+OpeningWorldsAreSound = (c : Config) → is_valid c ≡ true → Sound (opening_world c)
 
 -- the opening world of every config is clean
 abbrev pub OpeningWorldsAreClean : Type 0
@@ -37,9 +37,9 @@ StepsKeepWorldsSound = (w : World) (place pid : ℕ) (o : Op) → IsClean w → 
 abbrev pub StepsKeepWorldsClean : Type 0
 StepsKeepWorldsClean = (w : World) (place pid : ℕ) (o : Op) → IsClean w → IsClean (step w place pid o).world
 
--- whatever is called, sound worlds alone are reached
+-- whatever is called, from a valid config's opening world sound worlds alone are reached
 abbrev pub ReachedWorldsAreSound : Type 0
-ReachedWorldsAreSound = (c : Config) (h : List Event) → is_valid c ≡ true → is_flat c ≡ true → Sound (run (opening_world c) 1 h)
+ReachedWorldsAreSound = (c : Config) (h : List Event) → is_valid c ≡ true → Sound (run (opening_world c) 1 h)
 
 -- whatever is called, clean worlds alone are reached
 abbrev pub ReachedWorldsAreClean : Type 0

@@ -15,8 +15,7 @@ ghost use Rattle.ix_model.specs.Laws.{
   PipesHoldWhatWasWritten,
 };
 
-/// The opening world of a valid config is sound, where the config has one file system, with files alone in its root,
-/// none of them frozen, and no privileges.
+/// The opening world of every valid config is sound, with whatever file systems, directories and files it has.
 pub fn opening_worlds_are_sound()
     ensures sound { OpeningWorldsAreSound }
 {}

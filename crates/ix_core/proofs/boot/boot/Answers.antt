@@ -3,8 +3,8 @@ use Rattle.ix_model.specs.World.{World}
 use Rattle.ix_model.specs.Flat.{flat_world}
 use Rattle.ix_model.specs.Opening.{opening_world}
 use Rattle.ix_model.specs.declared.memory.NoMemory.{NoMemory}
-use Rattle.ix_model.proofs.Reaching.{opening_flat}
-use Rattle.ix_core.proofs.Booting.{first_fs, some_fs, files_alone}
+use Rattle.ix_model.proofs.Flatness.{files_alone, opening_flat}
+use Rattle.ix_core.proofs.Booting.{first_fs, some_fs}
 use Rattle.ix_core.proofs.boot.boot.Goals as goal
 
 pub boot_flat-requires-clause-one : goal.boot_flat-requires-clause-one

@@ -1,0 +1,109 @@
+-- What an object line that fits says, and where a path leads after it.
+use Rattle.std.proofs.Common.{◌≡◌, ◌⊎◌, ◌≤◌, ◌+◌, ◌-◌, ◌==◌, ℕ, suc, Bool, true, false, not, ◌&&◌, ◌||◌, List, [], ◌∷◌, ◌++◌, length, take, drop, cond, Some, None, nat_le, refl, sym, ap, ◌∙◌, arith, get_or, inl, inr}
+use Rattle.std.specs.Option.{option_map_or}
+use Rattle.std.specs.List.{list_any, position_from}
+use Rattle.std.proofs.Math.Bool.{and-true, or-false}
+use Rattle.std.proofs.Math.Seq.{drop-cons}
+use Rattle.std.proofs.lemmas.Bool.{and_parts, or_parts, or_cases, or_left, or_right, not-true, leb-true}
+use Rattle.std.proofs.lemmas.List.{take-append-drop, drop_all}
+use Rattle.std.proofs.lemmas.List.Folds.{list_any-append}
+use Rattle.std.proofs.lemmas.Iterator.Adapters.{position_from-zero}
+use Rattle.ix_label.specs.Category.{leq}
+use Rattle.ix_model.specs.Naming.{same_bytes, same_names, last_name}
+use Rattle.ix_model.specs.Privs.{is_empty}
+use Rattle.ix_model.specs.Telling.{blocks_for}
+use Rattle.ix_model.specs.Numbers.{inodes_of}
+use Rattle.ix_model.specs.Valid.{fs_of, fs_ceiling, blocks_of, is_mount, is_well_formed, is_there, is_dir_there, lying_on, blocks_taken, has_room, object_fits}
+use Rattle.ix_model.specs.declared.config.FsSpec.{FsSpec}
+use Rattle.ix_model.specs.declared.config.Limits.{Limits}
+use Rattle.ix_model.specs.declared.config.ObjSpec.{ObjSpec}
+use Rattle.ix_model.proofs.Alike.{names_are, names_itself}
+
+-- all names but the last
+abbrev pub parent_of : List (List ℕ) → List (List ℕ)
+parent_of names = take (length names - 1) names
+
+-- what it says, part by part
+pub record Line (fss : List FsSpec) (l : Limits) (before : List ObjSpec) (b : ObjSpec) : Type 0 where
+  pub is_path : b.path.names ≡ parent_of b.path.names ++ last_name b.path.names ∷ []
+  pub short : length b.bytes ≤ 1048576
+  pub low : leq b.label (fs_ceiling fss (fs_of fss b.path.names)) ≡ true
+  pub new : is_there fss before b.path.names ≡ false
+  pub dir : is_dir_there fss before (parent_of b.path.names) ≡ true
+  pub names : length fss + length before ≤ l.names
+  pub inodes : length (lying_on fss (fs_of fss b.path.names) before) + 2 ≤ inodes_of fss (fs_of fss b.path.names)
+  pub blocks : blocks_taken fss (fs_of fss b.path.names) before + blocks_for (length b.bytes) ≤ blocks_of fss (fs_of fss b.path.names)
+
+split_last : (names : List (List ℕ)) → 1 ≤ length names → names ≡ parent_of names ++ last_name names ∷ []
+split_last names some =
+    let i : ℕ = length names - 1 in
+    sym (take-append-drop i names)
+    ∙ ap (λ rest. take i names ++ rest) (drop-cons names i [] (omega arith) ∙ ap (λ rest. get_or names i [] ∷ rest) (drop_all (suc i) names (omega arith)))
+
+pub line_is : (fss : List FsSpec) (l : Limits) (before : List ObjSpec) (b : ObjSpec) → object_fits fss l before b ≡ true → Line fss l before b
+unfolding object_fits
+line_is fss l before b fits =
+    let names : List (List ℕ) = b.path.names in
+    let k : ℕ = fs_of fss names in
+    let low : Bool = leq b.label (fs_ceiling fss k) in
+    let new : Bool = not (is_there fss before names) in
+    let dir : Bool = is_dir_there fss before (parent_of names) in
+    let p1 = and_parts (is_well_formed b && low && new && dir) (has_room fss l before b) fits in
+    let p2 = and_parts (is_well_formed b && low && new) dir p1.0 in
+    let p3 = and_parts (is_well_formed b && low) new p2.0 in
+    let p4 = and_parts (is_well_formed b) low p3.0 in
+    let w1 = and_parts (b.path.absolute && nat_le 1 (length names) && nat_le (length b.bytes) 1048576) (not b.dir || (is_empty b.cap && is_empty b.lic && length b.bytes == 0)) p4.0 in
+    let w2 = and_parts (b.path.absolute && nat_le 1 (length names)) (nat_le (length b.bytes) 1048576) w1.0 in
+    let w3 = and_parts b.path.absolute (nat_le 1 (length names)) w2.0 in
+    let inodes : Bool = nat_le (length (lying_on fss k before) + 2) (inodes_of fss k) in
+    let blocks : Bool = nat_le (blocks_taken fss k before + blocks_for (length b.bytes)) (blocks_of fss k) in
+    let r1 = and_parts (nat_le (length fss + length before) l.names && inodes) blocks p1.1 in
+    let r2 = and_parts (nat_le (length fss + length before) l.names) inodes r1.0 in
+    record {
+      is_path = split_last names (leb-true _ _ w3.1);
+      short = leb-true _ _ w2.1;
+      low = p4.1;
+      new = not-true _ p3.1;
+      dir = p2.1;
+      names = leb-true _ _ r2.0;
+      inodes = leb-true _ _ r2.1;
+      blocks = leb-true _ _ r1.1;
+    }
+
+-- ---- the file system of a path
+no_mount : (ms : List FsSpec) (name : List ℕ) (i : ℕ) → list_any (λ s. same_names (s.name ∷ []) (name ∷ [])) ms ≡ false → position_from (λ s. same_bytes s.name name) i ms ≡ None
+no_mount [] name i h = refl
+no_mount (s ∷ ms) name i h =
+    let p = or_parts (same_names (s.name ∷ []) (name ∷ [])) (list_any (λ t. same_names (t.name ∷ []) (name ∷ [])) ms) h in
+    ap (λ b. cond b (Some i) (position_from (λ t. same_bytes t.name name) (i + 1) ms)) (sym (and-true (same_bytes s.name name)) ∙ p.0) ∙ no_mount ms name (i + 1) p.1
+
+-- a path that isn't a root lies where its directory does
+pub fs_of_child : (fss : List FsSpec) (names : List (List ℕ)) (name : List ℕ) → is_mount fss (names ++ name ∷ []) ≡ false → fs_of fss (names ++ name ∷ []) ≡ fs_of fss names
+fs_of_child fss [] name h = ap (λ o. option_map_or suc o 0) (position_from-zero (λ (s : FsSpec). same_bytes s.name name) (drop 1 fss) ∙ no_mount (drop 1 fss) name 0 h)
+fs_of_child fss (x ∷ names) name h = refl
+
+-- ---- with one line more
+there_more : (p : ObjSpec → Bool) (before : List ObjSpec) (b : ObjSpec) → list_any p (before ++ b ∷ []) ≡ (list_any p before || p b)
+there_more p before b = list_any-append p before (b ∷ []) ∙ ap (λ x. list_any p before || x) (or-false (p b))
+
+-- what was there is there, and the new object is
+pub still_there : (fss : List FsSpec) (before : List ObjSpec) (b : ObjSpec) (names : List (List ℕ)) → is_there fss before names ≡ true → is_there fss (before ++ b ∷ []) names ≡ true
+still_there fss before b names h = elim (or_cases (is_mount fss names) (list_any (λ c. same_names c.path.names names) before) h) [
+  | inl mount ↦ or_left _ _ mount
+  | inr made ↦ or_right (is_mount fss names) _ (there_more (λ c. same_names c.path.names names) before b ∙ or_left _ _ made)
+]
+
+pub now_there : (fss : List FsSpec) (before : List ObjSpec) (b : ObjSpec) → is_there fss (before ++ b ∷ []) b.path.names ≡ true
+now_there fss before b = or_right (is_mount fss b.path.names) _ (there_more (λ c. same_names c.path.names b.path.names) before b ∙ or_right (list_any (λ c. same_names c.path.names b.path.names) before) _ (names_itself b.path.names))
+
+-- a directory is one that was there, or the new object
+pub dir_there : (fss : List FsSpec) (before : List ObjSpec) (b : ObjSpec) (names : List (List ℕ)) → is_dir_there fss (before ++ b ∷ []) names ≡ true → (is_dir_there fss before names ≡ true) ⊎ ((b.dir ≡ true) × (b.path.names ≡ names))
+dir_there fss before b names h = elim (or_cases (same_names [] names || is_mount fss names) (list_any (λ c. c.dir && same_names c.path.names names) (before ++ b ∷ [])) h) [
+  | inl root ↦ inl (or_left _ _ root)
+  | inr made ↦ elim (or_cases (list_any (λ c. c.dir && same_names c.path.names names) before) (b.dir && same_names b.path.names names) (sym (there_more (λ c. c.dir && same_names c.path.names names) before b) ∙ made)) [
+    | inl old ↦ inl (or_right (same_names [] names || is_mount fss names) _ old)
+    | inr new ↦
+        let p = and_parts b.dir (same_names b.path.names names) new in
+        inr (p.0, names_are b.path.names names p.1)
+  ]
+]
