@@ -41,7 +41,7 @@ pub record Relabelled (pid : ℕ) (f g : Frame) : Type 0 where
   pub label : Categories
   pub is : g ≡ record f { processes = change f.processes pid (λ p. record p { label = label }) }
 
-relabelled_itself : (pid : ℕ) (f : Frame) → Relabelled pid f f
+pub relabelled_itself : (pid : ℕ) (f : Frame) → Relabelled pid f f
 relabelled_itself pid f = go (at f.processes pid) refl
   where
     to : Categories → (Process → Process)
@@ -66,7 +66,7 @@ relabelled_more pid seen f g r =
       is = ap (λ (h : Frame). let k : Frame = record h { processes = change h.processes pid joined } in k) r.is ∙ ap (λ t. let k : Frame = record f { processes = t } in k) (change_twice f.processes pid to joined);
     }
 
-abbrev Relabels : ℕ → Frame → Outcome Reply → Type 0
+abbrev pub Relabels : ℕ → Frame → Outcome Reply → Type 0
 Relabels pid f o = Ends o (λ r g. Relabelled pid f g) (λ a g. is_answer a ≡ true)
 
 -- what a claim is answered is an answer, and changes nothing
@@ -76,7 +76,7 @@ ends_claimed None f P Q h k = search (ending, h, k) depth 20
 ends_claimed (Some q) f P Q h k = search (ending, h, k) depth 20
 
 module _ (pid : ℕ) (f : Frame) where
-  relabelled_observe : (seen : Categories) → Keeps (Relabelled pid f) (observe pid seen)
+  pub relabelled_observe : (seen : Categories) → Keeps (Relabelled pid f) (observe pid seen)
   relabelled_observe seen = record { led = λ g r. kept_ends (Relabelled pid f) (observe pid seen g) (ends_observe pid seen g (λ why h. Relabelled pid f h) (λ u h. Relabelled pid f h) (λ why. r) r (λ p lives low. relabelled_more pid seen f g r)) }
 
   relabelled_walked_to : (path : PathOf) → Keeps (Relabelled pid f) (walked_to pid path)
@@ -233,7 +233,7 @@ module _ (pid : ℕ) (f : Frame) where
   unfolding read_log
   relabels_read_log place index = search refusing depth 80 fits 16000
 
-  relabels_row : (t : Told) (place : ℕ) (c : Op) → Relabels pid f (row t place pid c f)
+  pub relabels_row : (t : Told) (place : ℕ) (c : Op) → Relabels pid f (row t place pid c f)
   unfolding row create_at make_dir
   relabels_row t place (op.CreateAt path) = relabels_make path kind.File
   relabels_row t place (op.OpenAt path mode) = relabels_open_at path mode
