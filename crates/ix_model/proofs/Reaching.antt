@@ -57,13 +57,6 @@ opening_counts c valid flat =
     (omega (arith, r.built.counted.long, v.limits.pipes), omega (arith, length-map c.procs (λ p. Some (process_of p)), v.procs.few, v.limits.procs), refl)
 
 -- ---- runs
-pub clean_run : (w : World) (place : ℕ) (h : List Event) → IsClean w → IsClean (run w place h)
-clean_run w place [] clean = clean
-clean_run w place (e ∷ h) clean = clean_run (step_of w place e).world (suc place) h (clean_step w place e.pid e.op clean)
-
-pub clean_reached : (c : Config) (h : List Event) → IsClean (run (opening_world c) 1 h)
-clean_reached c h = clean_run (opening_world c) 1 h (clean_opening c)
-
 pub sound_run : (w : World) (place : ℕ) (h : List Event) → list_all (λ e. is_built e.op) h ≡ true → IsClean w → Sound w → Sound (run w place h)
 sound_run w place [] built clean s = s
 sound_run w place (e ∷ h) built clean s =
