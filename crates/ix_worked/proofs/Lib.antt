@@ -5,3 +5,5 @@ mod Chains
 mod TwoBytes
 mod Raised
 mod WrittenDown
+mod FileFrozen
+mod Lowered

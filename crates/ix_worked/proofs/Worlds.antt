@@ -1,8 +1,10 @@
 -- The worlds that the sessions go through, written out.
-use Rattle.std.proofs.Common.{ℕ, ◌+◌, ◌-◌, List, ◌∷◌, ◌++◌, Some, None, map, length, replicate}
-use Rattle.ix_model.specs.World.{World}
+use Rattle.std.proofs.Common.{ℕ, ◌+◌, ◌-◌, List, [], ◌∷◌, ◌++◌, Some, None, map, length, replicate, slice_set}
+use Rattle.ix_label.specs.Category.{Categories}
+use Rattle.ix_model.specs.World.{World, Process, Object, Open, change, put}
 use Rattle.ix_model.specs.Opening.{process_of}
 use Rattle.ix_model.specs.Flat.{flat_world}
+use Rattle.ix_model.specs.declared.audit.AuditLine.{AuditLine}
 use Rattle.ix_model.specs.declared.call.Mode.{Mode}
 use Rattle.ix_model.specs.declared.config.FsSpec.{FsSpec}
 use Rattle.ix_model.specs.declared.config.ProcSpec.{ProcSpec}
@@ -35,3 +37,34 @@ world_with fs holders files opens =
       };
       content = record w.content { offsets = front usual_limits.opens 0 (map (λ e. e.offset) opens) };
     }
+
+-- ---- a world with one thing changed
+abbrev pub with_process : ℕ → (Process → Process) → World → World
+with_process pid h w = record w { frame = record w.frame { processes = change w.frame.processes pid h } }
+
+abbrev pub with_object : ℕ → (Object → Object) → World → World
+with_object o h w = record w { frame = record w.frame { objects = change w.frame.objects o h } }
+
+abbrev pub with_line : AuditLine → World → World
+with_line l w = record w { frame = record w.frame { log = w.frame.log ++ l ∷ [] } }
+
+-- a process at a label, and an object
+abbrev pub floated : ℕ → Categories → World → World
+floated pid label w = with_process pid (λ p. record p { label = label }) w
+
+abbrev pub raised : ℕ → Categories → World → World
+raised o label w = with_object o (λ x. record x { label = label }) w
+
+-- an open entry under a descriptor of a process, and one of a file
+abbrev pub with_entry : ℕ → ℕ → ℕ → Open → World → World
+with_entry pid fd e entry w = with_process pid (λ p. record p { fds = put p.fds fd (Some e) }) (record w { frame = record w.frame { opens = put w.frame.opens e (Some entry) } })
+
+abbrev pub opened : ℕ → Mode → Open
+opened file mode = record { object = file; end = 0; mode = mode }
+
+-- an open entry at an offset, and a file with these bytes
+abbrev pub moved : ℕ → ℕ → World → World
+moved e offset w = record w { content = record w.content { offsets = slice_set w.content.offsets e offset } }
+
+abbrev pub holding : ℕ → List ℕ → World → World
+holding file bytes w = record w { content = record w.content { holdings = slice_set w.content.holdings file (record { first = bytes; second = [] }) } }

@@ -5,3 +5,5 @@ pub mod Floating
 pub mod FileCeiling
 pub mod TwoLevels
 pub mod LooksAnew
+pub mod Downgrading
+pub mod FrozenFile

@@ -4,13 +4,15 @@
 
 ghost use Rattle.std.specs.Prelude.{◌≡◌, ℕ, true, [], ◌∷◌, codes, take};
 ghost use Rattle.ix_model.specs.Valid.{is_valid, is_flat};
-ghost use Rattle.ix_worked.specs.Sessions.{shown};
+ghost use Rattle.ix_worked.specs.Sessions.{shown, log_of};
 ghost use Rattle.ix_worked.specs.Untouched.{untouched, no_entries, untouched_shows};
 ghost use Rattle.ix_worked.specs.Scripts.{three, three_and_five};
 ghost use Rattle.ix_worked.specs.Floating.{reading_up, reading, floating_shows, stopped_shows};
 ghost use Rattle.ix_worked.specs.FileCeiling.{low_files, writing_down, writing_down_shows};
 ghost use Rattle.ix_worked.specs.TwoLevels.{two_levels, writing, writing_shows};
 ghost use Rattle.ix_worked.specs.LooksAnew.{held_low, reading_twice, reading_twice_shows};
+ghost use Rattle.ix_worked.specs.FrozenFile.{a_frozen_file, writing_to_it, writing_to_it_shows};
+ghost use Rattle.ix_worked.specs.Downgrading.{one_line, lowering, lowering_shows};
 
 /// Where nothing is called there is the root, without categories, and nothing else.
 pub fn an_untouched_machine_is_its_root()
@@ -60,4 +62,17 @@ pub fn each_read_looks_anew()
     ensures valid { is_valid held_low ≡ true }
     ensures flat { is_flat held_low ≡ true }
     ensures shown { shown held_low reading_twice ≡ reading_twice_shows }
+{}
+
+/// A frozen file is written by a process at its label, and not by one above it, which would raise it.
+pub fn a_frozen_file_is_not_raised()
+    ensures valid { is_valid a_frozen_file ≡ true }
+    ensures shown { shown a_frozen_file writing_to_it ≡ writing_to_it_shows }
+{}
+
+/// A label is lowered by a process that has the capability and the licence, and only where the log has room for it.
+pub fn a_lowering_needs_both_and_a_line()
+    ensures valid { is_valid one_line ≡ true }
+    ensures shown { shown one_line lowering ≡ lowering_shows }
+    ensures logged { log_of one_line lowering ≡ lowering_shows.log }
 {}
