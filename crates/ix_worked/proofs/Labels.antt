@@ -69,4 +69,5 @@ pub same-three_and_five_three : same three_and_five three ≡ false
 same-three_and_five_three = same-with_one three 5 3 refl
 
 pub ruleset tops = (leq-three_top, leq-four_top, leq-five_top, leq-seven_top, leq-three_and_five_top, leq-two_and_five_top)
+
 pub ruleset labels = (join-bottom, join-bottom_right, join-idem, join-more, leq-refl, bottom-leq, leq-with_bottom, same-refl, same-with_bottom, tops, leq-seven_five, same-three_and_five_three)

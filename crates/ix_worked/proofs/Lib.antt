@@ -7,3 +7,17 @@ mod Raised
 mod WrittenDown
 mod FileFrozen
 mod Lowered
+mod LogRead
+mod Executed
+mod Trusting
+mod Shared
+mod Filled
+mod Inherited
+mod Waited
+mod HeldLow
+mod Named
+mod LookedInto
+mod Piped
+mod Claimed
+mod Copied
+mod LoggedIn

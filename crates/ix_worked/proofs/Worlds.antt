@@ -1,11 +1,14 @@
 -- The worlds that the sessions go through, written out.
-use Rattle.std.proofs.Common.{ℕ, ◌+◌, ◌-◌, List, [], ◌∷◌, ◌++◌, Some, None, map, length, replicate, slice_set}
+use Rattle.std.proofs.Common.{ℕ, ◌+◌, ◌-◌, true, List, [], ◌∷◌, ◌++◌, Option, Some, None, option_map, map, length, replicate, slice_set}
 use Rattle.ix_label.specs.Category.{Categories}
-use Rattle.ix_model.specs.World.{World, Process, Object, Open, change, put}
+use Rattle.ix_model.specs.World.{World, Process, Object, Open, at, change, put}
 use Rattle.ix_model.specs.Opening.{process_of}
+use Rattle.ix_model.specs.OnPaths.{new_object}
 use Rattle.ix_model.specs.Flat.{flat_world}
 use Rattle.ix_model.specs.declared.audit.AuditLine.{AuditLine}
 use Rattle.ix_model.specs.declared.call.Mode.{Mode}
+use Rattle.ix_model.specs.declared.call.Mode.TheVariants as mode
+use Rattle.ix_model.specs.declared.reply.Kind.TheVariants as kind
 use Rattle.ix_model.specs.declared.config.FsSpec.{FsSpec}
 use Rattle.ix_model.specs.declared.config.ProcSpec.{ProcSpec}
 use Rattle.ix_model.specs.declared.config.ObjSpec.{ObjSpec}
@@ -62,9 +65,46 @@ with_entry pid fd e entry w = with_process pid (λ p. record p { fds = put p.fds
 abbrev pub opened : ℕ → Mode → Open
 opened file mode = record { object = file; end = 0; mode = mode }
 
--- an open entry at an offset, and a file with these bytes
+-- what a descriptor of a process names
+abbrev pub with_fd : ℕ → ℕ → Option ℕ → World → World
+with_fd pid fd e w = with_process pid (λ p. record p { fds = put p.fds fd e }) w
+
+-- without an open entry
+abbrev pub without_entry : ℕ → World → World
+without_entry e w = record { frame = record w.frame { opens = put w.frame.opens e None }; content = record w.content { offsets = slice_set w.content.offsets e 0 } }
+
+-- an open entry at an offset
 abbrev pub moved : ℕ → ℕ → World → World
 moved e offset w = record w { content = record w.content { offsets = slice_set w.content.offsets e offset } }
 
-abbrev pub holding : ℕ → List ℕ → World → World
-holding file bytes w = record w { content = record w.content { holdings = slice_set w.content.holdings file (record { first = bytes; second = [] }) } }
+-- a file with these bytes, and a pipe of which end 0 can read the first, and end 1 the second
+abbrev pub holding : ℕ → List ℕ → List ℕ → World → World
+holding o first second w = record w { content = record w.content { holdings = slice_set w.content.holdings o (record { first = first; second = second }) } }
+
+-- an object that is there, or gone
+abbrev pub with_new : ℕ → Option Object → World → World
+with_new o x w = record w { frame = record w.frame { objects = put w.frame.objects o x } }
+
+-- a pipe, and its ends under two descriptors of a process, by these open entries
+abbrev pub with_pipe : ℕ → ℕ → ℕ → ℕ → ℕ → ℕ → World → World
+with_pipe pid o a b d e w = with_entry pid a d (record { object = o; end = 0; mode = mode.Both }) (with_entry pid b e (record { object = o; end = 1; mode = mode.Both }) (with_new o (Some (new_object kind.Pipe None)) w))
+
+abbrev pub claimed_by : ℕ → Option ℕ → Option ℕ → World → World
+claimed_by o first second w = with_object o (λ x. record x { claims = first ∷ second ∷ [] }) w
+
+-- a process more, like its parent
+abbrev pub with_child : ℕ → World → World
+with_child pid w = record {
+  frame = record w.frame { processes = w.frame.processes ++ option_map {T = Process} (λ p. record p { parent = Some pid }) (at w.frame.processes pid) ∷ [] };
+  content = record w.content { statuses = w.content.statuses ++ 0 ∷ [] };
+}
+
+-- a child that has ended, without descriptors
+abbrev pub with_ended : ℕ → ℕ → World → World
+with_ended pid status w =
+    let v : World = with_process pid (λ p. record p { fds = replicate 32 None; ended = true }) w in
+    record v { content = record v.content { statuses = slice_set v.content.statuses pid status } }
+
+-- a record that is gone, with its status
+abbrev pub without_process : ℕ → World → World
+without_process pid w = record { frame = record w.frame { processes = put w.frame.processes pid None }; content = record w.content { statuses = slice_set w.content.statuses pid 0 } }

@@ -19,10 +19,10 @@ use Rattle.ix_worked.specs.Sessions.{Shown}
 -- file /g 3 free - - x
 abbrev pub one_line : Config
 one_line = record
-  (machine usual_fs
-  (proc three top ∷ record (proc three top) { cap = to_lower } ∷ record (proc three top) { cap = to_lower; lic = to_lower } ∷ [])
-  (file (codes "f") three [] ∷ file (codes "g") three [] ∷ []))
-  { limits = record usual_limits { log = 1 } }
+    (machine usual_fs
+    (proc three top ∷ record (proc three top) { cap = to_lower } ∷ record (proc three top) { cap = to_lower; lic = to_lower } ∷ [])
+    (file (codes "f") three [] ∷ file (codes "g") three [] ∷ []))
+    { limits = record usual_limits { log = 1 } }
 
 -- setlabel a /f -
 -- setlabel b /f -

@@ -7,3 +7,17 @@ pub mod TwoLevels
 pub mod LooksAnew
 pub mod Downgrading
 pub mod FrozenFile
+pub mod ReadingTheLog
+pub mod Executing
+pub mod TrustedFile
+pub mod SharedEntry
+pub mod FewBlocks
+pub mod Inheriting
+pub mod Waiting
+pub mod WaitingLow
+pub mod Trees
+pub mod HighDirectory
+pub mod FullPipe
+pub mod Claims
+pub mod Copying
+pub mod Login
