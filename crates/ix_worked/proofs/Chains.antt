@@ -1,13 +1,17 @@
 -- A history shows what its steps give, one after another.
-use Rattle.std.proofs.Common.{◌≡◌, ℕ, suc, List, [], ◌∷◌, length, refl, ap, ◌∙◌}
+use Rattle.std.proofs.Common.{◌≡◌, ℕ, suc, ◌&&◌, List, [], ◌∷◌, ◌++◌, length, if◌then◌else◌, refl, ap, ◌∙◌}
+use Rattle.std.specs.Option.{option_map_or}
 use Rattle.ix_model.specs.World.{World}
 use Rattle.ix_model.specs.Step.{Given, step_of, run}
 use Rattle.ix_model.specs.Opening.{opening_world}
+use Rattle.ix_model.specs.AuditLog.{is_answer, is_licensed, exercises, line_of_act, lines_added, audit_log}
 use Rattle.ix_model.specs.History.{Event}
+use Rattle.ix_model.specs.declared.audit.AuditLine.{AuditLine}
 use Rattle.ix_model.specs.declared.config.Config.{Config}
 use Rattle.ix_model.specs.declared.refusal.Refusal.{Refusal}
+use Rattle.ix_model.specs.declared.reply.Reply.{Reply}
 use Rattle.ix_model.specs.declared.reply.Reply.TheVariants as reply
-use Rattle.ix_worked.specs.Sessions.{Line, Shown, line_of, lines_of, labels_in, shown_from, shown}
+use Rattle.ix_worked.specs.Sessions.{Line, Shown, line_of, lines_of, labels_in, shown_from, shown, log_of}
 
 -- what an answer by a number, one by bytes and a refusal give
 abbrev pub number : World → ℕ → Given
@@ -18,6 +22,13 @@ bytes w text = record { world = w; reply = reply.Bytes (length text); bytes = te
 
 abbrev pub refused : World → Refusal → Given
 refused w why = record { world = w; reply = reply.No why; bytes = [] }
+
+-- any other answer
+abbrev pub answered : World → Reply → Given
+answered w r = record { world = w; reply = r; bytes = [] }
+
+abbrev pub done : World → Given
+done w = answered w reply.Done
 
 -- each entry gives the one that stands at its place, and the next is made from the world after it
 abbrev pub Gives : World → ℕ → List Event → List Given → Type 0
@@ -51,6 +62,7 @@ shown_by w events gs = record {
   lines = lines_by events gs;
   objects = labels_in (λ o. o.label) 0 (last_of w events gs).frame.objects;
   processes = labels_in (λ p. p.label) 0 (last_of w events gs).frame.processes;
+  log = (last_of w events gs).frame.log;
 }
 
 pub shown_given : (c : Config) (w : World) (events : List Event) (gs : List Given) → opening_world c ≡ w → Gives w 1 events gs → shown c events ≡ shown_by w events gs
@@ -58,4 +70,25 @@ shown_given c w events gs opening h = ap (λ v. shown_from v events) opening ∙
   lines = lines_given w 1 events gs h i;
   objects = labels_in (λ o. o.label) 0 (run_given w 1 events gs h i).frame.objects;
   processes = labels_in (λ p. p.label) 0 (run_given w 1 events gs h i).frame.processes;
+  log = (run_given w 1 events gs h i).frame.log;
 })
+
+-- the lines of the licensed entries among those that give these
+abbrev lines_for : World → ℕ → Event → Given → List AuditLine
+lines_for w place e g = if is_answer g.reply && exercises w.frame e.pid e.op then option_map_or (λ l. l ∷ []) (line_of_act w.frame g.world.frame place e.pid e.op) [] else []
+
+abbrev pub log_by : World → ℕ → List Event → List Given → List AuditLine
+log_by w place [] gs = []
+log_by w place (e ∷ events) [] = []
+log_by w place (e ∷ events) (g ∷ gs) = lines_for w place e g ++ log_by g.world (suc place) events gs
+
+log_given_from : (w : World) (place : ℕ) (events : List Event) (gs : List Given) → Gives w place events gs → audit_log w place events ≡ log_by w place events gs
+unfolding audit_log lines_added is_licensed
+log_given_from w place [] gs h = refl
+log_given_from w place (e ∷ events) [] h = absurd h
+log_given_from w place (e ∷ events) (g ∷ gs) h =
+    ap (λ x. lines_for w place e x ++ audit_log x.world (suc place) events) h.0
+    ∙ ap (λ ls. lines_for w place e g ++ ls) (log_given_from g.world (suc place) events gs h.1)
+
+pub log_given : (c : Config) (w : World) (events : List Event) (gs : List Given) → opening_world c ≡ w → Gives w 1 events gs → log_of c events ≡ log_by w 1 events gs
+log_given c w events gs opening h = ap (λ v. audit_log v 1 events) opening ∙ log_given_from w 1 events gs h

@@ -1,24 +1,51 @@
 -- The words that the sessions are evaluated through. All words on labels stay closed.
 use Rattle.std.proofs.Common.{ℕ}
-use Rattle.ix_model.specs.Rows.{◌>>=◌, ◌>>◌, on_pass, need, some, only_if, pass, refuse, frame, caller, object, change_process, change_object, put_open, observe, affect}
-use Rattle.ix_model.specs.Walks.{walked_to, there, found, behind, opened}
-use Rattle.ix_model.specs.OnPaths.{open_at}
-use Rattle.ix_model.specs.OnDescriptors.{read_fd, write_fd}
-use Rattle.ix_model.specs.OnLabels.{self_label}
+use Rattle.ix_model.specs.Rows.{◌>>=◌, ◌>>◌, on_pass, need, some, only_if, pass, refuse, frame, caller, object, record_of, change_process, change_object, put_object, put_process, add_process, put_open, observe, affect}
+use Rattle.ix_model.specs.Walks.{walked_to, there, found, spot, found_in, vacant, missing, behind, opened}
+use Rattle.ix_model.specs.Lifetimes.{let_go_object, let_go_open, let_go_claim, let_go, let_go_if_held, let_go_each, let_go_all}
+use Rattle.ix_model.specs.Auditing.{entitled, log_has_room, exercise, logged}
+use Rattle.ix_model.specs.Numbers.{free_inode, free_pipe}
+use Rattle.ix_model.specs.Directories.{has_room_for_a_name}
+use Rattle.ix_model.specs.Privs.{has_all, either_of, without}
+use Rattle.ix_model.specs.OnPaths.{make, create_at, make_dir, link_at, unlink_at, remove_dir, open_at, change_dir, stat_at, list_at}
+use Rattle.ix_model.specs.OnDescriptors.{read_fd, write_fd, cut_fd, seek_fd, dup_fd, close_fd, make_pipe, claimed, pex, unpex}
+use Rattle.ix_model.specs.OnProcesses.{fork, exec, end_process, exit, wait_child}
+use Rattle.ix_model.specs.OnLabels.{label_of, self_label, allowed, movable, set_label, set_self, freeze, freeze_self, thaw, thaw_self, set_priv, drop_lic, grant_lic, set_ceiling, read_log}
 use Rattle.ix_model.specs.Table.{row, decide}
-use Rattle.ix_model.specs.Contents.{keep, carried, readable, after_read, after_write}
-use Rattle.ix_model.specs.Telling.{told_of_read, told_of_write, told}
-use Rattle.ix_model.specs.Step.{plainly, read_answer, write_answer, answer, step}
+use Rattle.ix_model.specs.Contents.{keep, carried, readable, after_read, after_write, after_cut, after_seek, after_exit, emptied}
+use Rattle.ix_model.specs.Telling.{told_of_read, told_of_write, told_of_cut, told}
+use Rattle.ix_model.specs.Step.{plainly, read_answer, write_answer, cut_answer, seek_answer, stat_answer, exit_answer, wait_answer, pex_answer, answer, step}
 use Rattle.ix_model.specs.Opening.{opening_world, bare_objects, with_object}
-use Rattle.ix_model.specs.Numbers.{free_inode}
+use Rattle.ix_model.specs.AuditLog.{object_of_path, label_at, of_process, exercises, line_of_act}
 use Rattle.ix_model.specs.Valid.{is_valid, is_flat, fss_fit, limits_fit, procs_fit, object_fits}
 
--- whoever unfolds it unfolds what an opening world and its histories are made of
+-- Whoever unfolds one of these unfolds what is named with it.
+-- the words of the rows
+unfoldable pub wording : ℕ
+unfolding ◌>>=◌ ◌>>◌ on_pass need some only_if pass refuse frame caller object record_of change_process change_object put_object put_process add_process put_open observe affect walked_to there found spot found_in vacant missing behind opened let_go_object let_go_open let_go_claim let_go let_go_if_held let_go_each let_go_all entitled log_has_room exercise logged free_inode free_pipe has_room_for_a_name has_all either_of without
+wording = 0
+
+-- the rows
+unfoldable pub deciding : ℕ
+unfolding make create_at make_dir link_at unlink_at remove_dir open_at change_dir stat_at list_at read_fd write_fd cut_fd seek_fd dup_fd close_fd make_pipe claimed pex unpex fork exec end_process exit wait_child label_of self_label allowed movable set_label set_self freeze freeze_self thaw thaw_self set_priv drop_lic grant_lic set_ceiling read_log row decide
+deciding = 0
+
+-- the steps
+unfoldable pub stepping : ℕ
+unfolding keep carried readable after_read after_write after_cut after_seek after_exit emptied told_of_read told_of_write told_of_cut told plainly read_answer write_answer cut_answer seek_answer stat_answer exit_answer wait_answer pex_answer answer step
+stepping = 0
+
+-- an opening world and its histories
 unfoldable pub running : ℕ
-unfolding ◌>>=◌ ◌>>◌ on_pass need some only_if pass refuse frame caller object change_process change_object put_open observe affect walked_to there found behind opened open_at read_fd write_fd self_label row decide keep carried readable after_read after_write told_of_read told_of_write told plainly read_answer write_answer answer step opening_world bare_objects with_object free_inode
+unfolding wording deciding stepping opening_world bare_objects with_object
 running = 0
 
--- whoever unfolds it unfolds what makes a config valid and flat
+-- the lines of the audit log
+unfoldable pub auditing : ℕ
+unfolding object_of_path label_at of_process exercises line_of_act
+auditing = 0
+
+-- what makes a config valid and flat
 unfoldable pub fitting : ℕ
 unfolding is_valid is_flat fss_fit limits_fit procs_fit object_fits
 fitting = 0

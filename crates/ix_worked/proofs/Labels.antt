@@ -1,9 +1,10 @@
 -- The facts on labels that the sessions come to.
-use Rattle.std.proofs.Common.{◌≡◌, ℕ, ◌<◌, true, false, true≢false, refl, sym, ◌∙◌, ap, ◌==◌, ◌||◌}
-use Rattle.std.proofs.lemmas.Bool.{eq-eqb, or_left, false_from_ne_true}
-use Rattle.ix_label.specs.Category.{Categories, bottom, top, with, leq, same, has}
-use Rattle.ix_label.specs.Lattice.{same-decides, join-bottom, join-bottom_right, leq-refl, bottom-leq, leq-top, IsLabel-bottom, IsLabel-with}
-use Rattle.ix_label.specs.Members.{has-bottom, has-with, leq-has}
+use Rattle.std.proofs.Common.{◌≡◌, ℕ, ◌<◌, true, false, true≢false, refl, sym, ◌∙◌, ap, ◌==◌, ◌||◌, ◌&&◌, arith}
+use Rattle.std.proofs.lemmas.Bool.{eq-eqb, or_left, or_right, false_from_ne_true}
+use Rattle.ix_label.specs.Category.{Categories, bottom, top, with, leq, same, join, has}
+use Rattle.ix_label.specs.Lattice.{same-decides, join-absorbs, join-comm, join-idem, join-bottom, join-bottom_right, leq-refl, bottom-leq, leq-top, IsLabel-bottom, IsLabel-with}
+use Rattle.ix_label.specs.Members.{has-bottom, has-with, leq-has, has-leq}
+use Rattle.ix_worked.specs.Scripts.{three, four, five, seven, three_and_five, two_and_five}
 
 -- a set has what was added to it
 has-added : (s : Categories) (q : ℕ) → has (with s q) q ≡ true
@@ -31,4 +32,42 @@ leq-one_top q low = leq-top _ (IsLabel-with bottom q IsLabel-bottom low)
 pub leq-two_top : (q p : ℕ) → q < 256 → p < 256 → leq (with (with bottom q) p) top ≡ true
 leq-two_top q p low lower = leq-top _ (IsLabel-with _ p (IsLabel-with bottom q IsLabel-bottom low) lower)
 
-pub ruleset labels = (join-bottom, join-bottom_right, leq-refl, bottom-leq, leq-with_bottom, same-refl, same-with_bottom)
+-- a set with one category more is above it, and another
+leq-more : (s : Categories) (q : ℕ) → leq s (with s q) ≡ true
+leq-more s q = has-leq s _ (λ p one. has-with s q p ∙ or_right (p == q) _ one)
+
+pub join-more : (s : Categories) (q : ℕ) → join s (with s q) ≡ with s q
+join-more s q = join-comm s _ ∙ join-absorbs s _ (leq-more s q)
+
+same-with_one : (s : Categories) (q p : ℕ) → (q == p) ≡ false → same (with s q) (with bottom p) ≡ false
+unfolding same
+same-with_one s q p differ = ap (λ b. b && leq (with bottom p) (with s q)) (leq-with_one s q p differ)
+
+-- ---- the labels of the scripts
+pub leq-three_top : leq three top ≡ true
+leq-three_top = leq-one_top 3 (omega arith)
+
+pub leq-four_top : leq four top ≡ true
+leq-four_top = leq-one_top 4 (omega arith)
+
+pub leq-five_top : leq five top ≡ true
+leq-five_top = leq-one_top 5 (omega arith)
+
+pub leq-seven_top : leq seven top ≡ true
+leq-seven_top = leq-one_top 7 (omega arith)
+
+pub leq-three_and_five_top : leq three_and_five top ≡ true
+leq-three_and_five_top = leq-two_top 3 5 (omega arith) (omega arith)
+
+pub leq-two_and_five_top : leq two_and_five top ≡ true
+leq-two_and_five_top = leq-two_top 2 5 (omega arith) (omega arith)
+
+pub leq-seven_five : leq seven five ≡ false
+leq-seven_five = leq-with_one bottom 7 5 refl
+
+pub same-three_and_five_three : same three_and_five three ≡ false
+same-three_and_five_three = same-with_one three 5 3 refl
+
+pub ruleset tops = (leq-three_top, leq-four_top, leq-five_top, leq-seven_top, leq-three_and_five_top, leq-two_and_five_top)
+
+pub ruleset labels = (join-bottom, join-bottom_right, join-idem, join-more, leq-refl, bottom-leq, leq-with_bottom, same-refl, same-with_bottom, tops, leq-seven_five, same-three_and_five_three)

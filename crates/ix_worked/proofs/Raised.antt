@@ -62,7 +62,7 @@ reads_low = simp labels refl
 
 writes_high : step read_once 4 2 (op.WriteFd 0 (codes "Z")) ≡ number raised 1
 unfolding running read_once raised
-writes_high = simp (labels, leq-one_top 7 (omega arith)) refl
+writes_high = simp labels refl
 
 stops_low : step raised 5 1 (op.ReadFd 0 1) ≡ refused raised refusal.ProcCeiling
 unfolding running raised

@@ -70,7 +70,7 @@ opens_e_low = simp labels refl
 
 writes_d_high : (a b : ℕ) → step all_open 4 2 (op.WriteFd 0 (a ∷ b ∷ [])) ≡ number (written a b) 2
 unfolding running all_open written
-writes_d_high a b = simp (labels, leq-one_top 7 (omega arith)) refl
+writes_d_high a b = simp labels refl
 
 reads_e_low : (a b : ℕ) → step (written a b) 5 1 (op.ReadFd 1 2) ≡ bytes (read_low a b) (codes "ok")
 unfolding running written read_low
@@ -78,7 +78,7 @@ reads_e_low a b = simp labels refl
 
 reads_d_low : (a b : ℕ) → step (read_low a b) 6 1 (op.ReadFd 0 2) ≡ bytes (read_high a b) (a ∷ b ∷ [])
 unfolding running read_low read_high
-reads_d_low a b = simp (labels, leq-one_top 7 (omega arith)) refl
+reads_d_low a b = simp labels refl
 
 -- ---- all of them. The worlds stay closed until the last step is taken.
 abbrev given : ℕ → ℕ → List Given

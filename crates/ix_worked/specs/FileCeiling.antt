@@ -36,4 +36,5 @@ writing_down_shows = record {
   lines = gives (reply.Number 0) [] three ∷ gives (reply.No refusal.FsCeiling) [] three ∷ gives (reply.Bytes 3) (codes "old") three ∷ [];
   objects = (0, bottom) ∷ (1, bottom) ∷ [];
   processes = (1, three) ∷ [];
+  log = [];
 }

@@ -31,6 +31,7 @@ floating_shows = record {
   lines = gives (reply.Number 0) [] bottom ∷ gives (reply.Bytes 2) (codes "hi") three ∷ gives (reply.Lab three) [] three ∷ [];
   objects = (0, bottom) ∷ (1, three) ∷ [];
   processes = (1, three) ∷ [];
+  log = [];
 }
 
 -- past its ceiling, it is refused, and stays where it was
@@ -39,4 +40,5 @@ stopped_shows = record {
   lines = gives (reply.Number 0) [] bottom ∷ gives (reply.No refusal.ProcCeiling) [] bottom ∷ gives (reply.Lab bottom) [] bottom ∷ [];
   objects = (0, bottom) ∷ (1, three_and_five) ∷ [];
   processes = (1, bottom) ∷ [];
+  log = [];
 }

@@ -42,4 +42,5 @@ reading_twice_shows = record {
       ∷ [];
   objects = (0, bottom) ∷ (1, seven) ∷ [];
   processes = (1, bottom) ∷ (2, seven) ∷ [];
+  log = [];
 }

@@ -1,20 +1,26 @@
 -- The words that the sessions' configs and histories are written in.
-use Rattle.std.specs.Prelude.{ℕ, true, false, List, [], ◌∷◌, Some, codes}
+use Rattle.std.specs.Prelude.{ℕ, true, false, List, [], ◌∷◌, Some, None, codes}
 use Rattle.ix_label.specs.Category.{Categories, bottom, top, with}
 use Rattle.ix_model.specs.Naming.{PathOf}
 use Rattle.ix_model.specs.Privs.{no_privileges}
 use Rattle.ix_model.specs.History.{Op, Event}
+use Rattle.ix_model.specs.declared.audit.Act.{Act}
+use Rattle.ix_model.specs.declared.audit.AuditLine.{AuditLine}
 use Rattle.ix_model.specs.declared.config.Config.{Config}
 use Rattle.ix_model.specs.declared.config.Limits.{Limits}
 use Rattle.ix_model.specs.declared.config.FsSpec.{FsSpec}
 use Rattle.ix_model.specs.declared.config.ProcSpec.{ProcSpec}
 use Rattle.ix_model.specs.declared.config.ObjSpec.{ObjSpec}
 use Rattle.ix_model.specs.declared.reply.Reply.{Reply}
+use Rattle.ix_model.specs.declared.reply.Reply.TheVariants as reply
 use Rattle.ix_worked.specs.Sessions.{Line}
 
--- the labels 3, 5, 7 and 3,5
+-- the labels 3, 4, 5, 7, and 3,5 and 2,5
 abbrev pub three : Categories
 three = with bottom 3
+
+abbrev pub four : Categories
+four = with bottom 4
 
 abbrev pub five : Categories
 five = with bottom 5
@@ -25,9 +31,19 @@ seven = with bottom 7
 abbrev pub three_and_five : Categories
 three_and_five = with three 5
 
+abbrev pub two_and_five : Categories
+two_and_five = with (with bottom 2) 5
+
 -- an absolute path of one name
 abbrev pub in_root : List ℕ → PathOf
 in_root name = record { absolute = true; names = name ∷ [] }
+
+-- the path /, and an absolute path of two names
+abbrev pub at_root : PathOf
+at_root = record { absolute = true; names = [] }
+
+abbrev pub under : List ℕ → List ℕ → PathOf
+under directory name = record { absolute = true; names = directory ∷ name ∷ [] }
 
 -- proc NAME LABEL CEILING - -
 abbrev pub proc : Categories → Categories → ProcSpec
@@ -36,6 +52,10 @@ proc label ceiling = record { label = label; ceiling = ceiling; cap = no_privile
 -- file NAME LABEL free - - BYTES
 abbrev pub file : List ℕ → Categories → List ℕ → ObjSpec
 file name label bytes = record { path = in_root name; dir = false; label = label; frozen = false; cap = no_privileges; lic = no_privileges; bytes = bytes }
+
+-- dir NAME LABEL free
+abbrev pub dir : List ℕ → Categories → ObjSpec
+dir name label = record { path = in_root name; dir = true; label = label; frozen = false; cap = no_privileges; lic = no_privileges; bytes = [] }
 
 -- the file system of a script that says nothing of it
 abbrev pub usual_fs : FsSpec
@@ -52,6 +72,13 @@ machine fs procs files = record { fss = fs ∷ []; limits = usual_limits; procs 
 abbrev pub entry : ℕ → ℕ → Op → Event
 entry line pid op = record { seat = 0; line = line; pid = pid; op = op }
 
--- a line of a report
+-- a line of a report; the caller's record may be gone after it
 abbrev pub gives : Reply → List ℕ → Categories → Line
 gives reply bytes label = record { reply = reply; bytes = bytes; label = Some label }
+
+abbrev pub ends : Line
+ends = record { reply = reply.Done; bytes = []; label = None }
+
+-- a line of the audit log without sets: the entry's place, the caller, the act, its target, and the label or ceiling before and after
+abbrev pub log_line : ℕ → ℕ → Act → ℕ → Categories → Categories → AuditLine
+log_line place pid act target was now = record { place = place; pid = record { 0 = pid }; act = act; target = target; was = was; now = now; cap = no_privileges; lic = no_privileges }

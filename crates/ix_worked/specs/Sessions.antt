@@ -1,11 +1,13 @@
--- What a session shows: what each of its entries gives, and the labels at its end.
+-- What a session shows: what each of its entries gives, and the labels and the audit log at its end.
 use Rattle.std.specs.Prelude.{ℕ, suc, List, [], ◌∷◌, Option, Some, None}
 use Rattle.std.proofs.Common.{option_map}
 use Rattle.ix_label.specs.Category.{Categories}
 use Rattle.ix_model.specs.World.{World, at}
 use Rattle.ix_model.specs.Opening.{opening_world}
 use Rattle.ix_model.specs.Step.{Given, step_of, run}
+use Rattle.ix_model.specs.AuditLog.{audit_log}
 use Rattle.ix_model.specs.History.{Event}
+use Rattle.ix_model.specs.declared.audit.AuditLine.{AuditLine}
 use Rattle.ix_model.specs.declared.config.Config.{Config}
 use Rattle.ix_model.specs.declared.reply.Reply.{Reply}
 
@@ -37,14 +39,20 @@ pub record Shown : Type 0 where
   pub lines : List Line
   pub objects : List (ℕ × Categories)
   pub processes : List (ℕ × Categories)
+  pub log : List AuditLine
 
 abbrev pub shown_from : World → List Event → Shown
 shown_from w events = record {
   lines = lines_of w 1 events;
   objects = labels_in (λ o. o.label) 0 (run w 1 events).frame.objects;
   processes = labels_in (λ p. p.label) 0 (run w 1 events).frame.processes;
+  log = (run w 1 events).frame.log;
 }
 
 -- all that a history from a config's opening world shows
 abbrev pub shown : Config → List Event → Shown
 shown c events = shown_from (opening_world c) events
+
+-- the audit log that such a history has, by the rule of which entries are logged
+abbrev pub log_of : Config → List Event → List AuditLine
+log_of c events = audit_log (opening_world c) 1 events

@@ -45,4 +45,5 @@ writing_shows bytes = record {
       ∷ [];
   objects = (0, bottom) ∷ (1, seven) ∷ (2, bottom) ∷ [];
   processes = (1, seven) ∷ (2, seven) ∷ [];
+  log = [];
 }

@@ -14,4 +14,4 @@ abbrev pub no_entries : List Event
 no_entries = []
 
 abbrev pub untouched_shows : Shown
-untouched_shows = record { lines = []; objects = (0, bottom) ∷ []; processes = [] }
+untouched_shows = record { lines = []; objects = (0, bottom) ∷ []; processes = []; log = [] }

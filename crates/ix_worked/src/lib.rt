@@ -4,13 +4,29 @@
 
 ghost use Rattle.std.specs.Prelude.{◌≡◌, ℕ, true, [], ◌∷◌, codes, take};
 ghost use Rattle.ix_model.specs.Valid.{is_valid, is_flat};
-ghost use Rattle.ix_worked.specs.Sessions.{shown};
+ghost use Rattle.ix_worked.specs.Sessions.{shown, log_of};
 ghost use Rattle.ix_worked.specs.Untouched.{untouched, no_entries, untouched_shows};
 ghost use Rattle.ix_worked.specs.Scripts.{three, three_and_five};
 ghost use Rattle.ix_worked.specs.Floating.{reading_up, reading, floating_shows, stopped_shows};
 ghost use Rattle.ix_worked.specs.FileCeiling.{low_files, writing_down, writing_down_shows};
 ghost use Rattle.ix_worked.specs.TwoLevels.{two_levels, writing, writing_shows};
 ghost use Rattle.ix_worked.specs.LooksAnew.{held_low, reading_twice, reading_twice_shows};
+ghost use Rattle.ix_worked.specs.FrozenFile.{a_frozen_file, writing_to_it, writing_to_it_shows};
+ghost use Rattle.ix_worked.specs.Downgrading.{one_line, lowering, lowering_shows};
+ghost use Rattle.ix_worked.specs.ReadingTheLog.{two_lines, reading_the_log, reading_the_log_shows};
+ghost use Rattle.ix_worked.specs.Executing.{programs, executing, executing_shows};
+ghost use Rattle.ix_worked.specs.TrustedFile.{writing_a_program, writing_a_program_shows};
+ghost use Rattle.ix_worked.specs.SharedEntry.{one_file, sharing, sharing_shows};
+ghost use Rattle.ix_worked.specs.FewBlocks.{two_blocks, filling, filling_shows};
+ghost use Rattle.ix_worked.specs.Inheriting.{letters, inheriting, inheriting_shows};
+ghost use Rattle.ix_worked.specs.Waiting.{a_secret, waiting, waiting_shows};
+ghost use Rattle.ix_worked.specs.WaitingLow.{waiting_low, waiting_low_shows};
+ghost use Rattle.ix_worked.specs.Trees.{two_file_systems, naming, naming_shows};
+ghost use Rattle.ix_worked.specs.HighDirectory.{a_high_directory, looking_into_it, looking_into_it_shows};
+ghost use Rattle.ix_worked.specs.FullPipe.{one_process, piping, piping_shows};
+ghost use Rattle.ix_worked.specs.Claims.{claiming, claiming_shows};
+ghost use Rattle.ix_worked.specs.Copying.{copying, copying_shows};
+ghost use Rattle.ix_worked.specs.Login.{office, asking, asking_shows};
 
 /// Where nothing is called there is the root, without categories, and nothing else.
 pub fn an_untouched_machine_is_its_root()
@@ -60,4 +76,120 @@ pub fn each_read_looks_anew()
     ensures valid { is_valid held_low ≡ true }
     ensures flat { is_flat held_low ≡ true }
     ensures shown { shown held_low reading_twice ≡ reading_twice_shows }
+{}
+
+/// A frozen file is written by a process at its label, and not by one above it, which would raise it.
+pub fn a_frozen_file_is_not_raised()
+    ensures valid { is_valid a_frozen_file ≡ true }
+    ensures shown { shown a_frozen_file writing_to_it ≡ writing_to_it_shows }
+{}
+
+/// A label is lowered by a process that has the capability and the licence, and only where the log has room for it.
+pub fn a_lowering_needs_both_and_a_line()
+    ensures valid { is_valid one_line ≡ true }
+    ensures shown { shown one_line lowering ≡ lowering_shows }
+    ensures logged { log_of one_line lowering ≡ lowering_shows.log }
+{}
+
+/// The audit log is read with the privilege for it. Each reading is a line of the log itself, and where that has no
+/// room it is refused.
+pub fn reading_the_log_is_logged()
+    ensures valid { is_valid two_lines ≡ true }
+    ensures shown { shown two_lines reading_the_log ≡ reading_the_log_shows }
+    ensures logged { log_of two_lines reading_the_log ≡ reading_the_log_shows.log }
+{}
+
+/// A program that is executed brings its capabilities and licences, and the next one takes them away.
+pub fn a_program_brings_its_privileges()
+    ensures valid { is_valid programs ≡ true }
+    ensures shown { shown programs executing ≡ executing_shows }
+    ensures logged { log_of programs executing ≡ executing_shows.log }
+{}
+
+/// A file that carries privileges is opened for writing, and not written.
+pub fn a_trusted_file_is_not_written()
+    ensures valid { is_valid programs ≡ true }
+    ensures shown { shown programs writing_a_program ≡ writing_a_program_shows }
+{}
+
+/// A copy of a descriptor shares its open entry, which lasts as long as one of them, and so the offset.
+pub fn a_copy_of_a_descriptor_shares_its_offset()
+    ensures valid { is_valid one_file ≡ true }
+    ensures flat { is_flat one_file ≡ true }
+    ensures shown { shown one_file sharing ≡ sharing_shows }
+{}
+
+/// A write that needs more blocks than there are is refused. What is cut is gone, and what is skipped reads as zeros.
+pub fn blocks_run_out_and_gaps_are_zeros()
+    ensures valid { is_valid two_blocks ≡ true }
+    ensures flat { is_flat two_blocks ≡ true }
+    ensures shown { shown two_blocks filling ≡ filling_shows }
+{}
+
+/// A child shares its parent's open entries: it reads on where the parent stopped, and keeps them when the parent
+/// closes.
+pub fn a_child_shares_the_offset()
+    ensures valid { is_valid letters ≡ true }
+    ensures flat { is_flat letters ≡ true }
+    ensures shown { shown letters inheriting ≡ inheriting_shows }
+{}
+
+/// A parent that waits floats to the label of its ended child, and gets the status.
+pub fn a_parent_floats_to_its_child()
+    ensures valid { is_valid a_secret ≡ true }
+    ensures flat { is_flat a_secret ≡ true }
+    ensures shown { shown a_secret waiting ≡ waiting_shows }
+{}
+
+/// A parent whose ceiling is below its ended child doesn't get the status, and the child's record stays. To lower the
+/// own ceiling needs no privilege, and is not logged.
+pub fn a_parent_below_its_child_is_refused()
+    ensures valid { is_valid a_secret ≡ true }
+    ensures flat { is_flat a_secret ≡ true }
+    ensures shown { shown a_secret waiting_low ≡ waiting_low_shows }
+    ensures logged { log_of a_secret waiting_low ≡ waiting_low_shows.log }
+{}
+
+/// Directories and files are made and removed. No name leads to another file system, no directory goes that has
+/// names, and each name that is made or removed affects its directory.
+pub fn names_come_and_go()
+    ensures valid { is_valid two_file_systems ≡ true }
+    ensures shown { shown two_file_systems naming ≡ naming_shows }
+{}
+
+/// One who asks for a name that isn't there floats to the label of the directory that lacks it.
+pub fn a_missing_name_is_told_at_its_directorys_label()
+    ensures valid { is_valid a_high_directory ≡ true }
+    ensures shown { shown a_high_directory looking_into_it ≡ looking_into_it_shows }
+{}
+
+/// A pipe takes a write whole or refuses it, answers that there may be more as long as its other end is held, and
+/// breaks once it is let go.
+pub fn a_pipe_fills_and_breaks()
+    ensures valid { is_valid one_process ≡ true }
+    ensures flat { is_flat one_process ≡ true }
+    ensures shown { shown one_process piping ≡ piping_shows }
+{}
+
+/// A pipe of which two processes have claimed the ends is a whole path: a third is refused, and it is whole no more
+/// once one of the two ends.
+pub fn a_path_is_whole_between_two()
+    ensures valid { is_valid one_process ≡ true }
+    ensures flat { is_flat one_process ≡ true }
+    ensures shown { shown one_process claiming ≡ claiming_shows }
+{}
+
+/// What is read of a file is written into a pipe, and read at its other end.
+pub fn a_copy_goes_through_a_pipe()
+    ensures valid { is_valid one_file ≡ true }
+    ensures flat { is_flat one_file ≡ true }
+    ensures shown { shown one_file copying ≡ copying_shows }
+{}
+
+/// A server of sessions forks a process for the user who asked over a whole path, gives it a ceiling and a licence,
+/// and tells so. The grant is logged, and the rest is not.
+pub fn a_session_is_granted_over_a_whole_path()
+    ensures valid { is_valid office ≡ true }
+    ensures shown { shown office asking ≡ asking_shows }
+    ensures logged { log_of office asking ≡ asking_shows.log }
 {}

@@ -6,7 +6,7 @@ use Rattle.ix_worked.proofs.a_file_stops_at_its_file_systems_ceiling.Goals as go
 
 pub returns-clause-valid : goal.returns-clause-valid
 unfolding fitting
-returns-clause-valid c = simp (labels, leq-one_top 3 (omega arith)) refl
+returns-clause-valid c = simp labels refl
 
 pub returns-clause-flat : goal.returns-clause-flat
 unfolding fitting

@@ -6,7 +6,7 @@ use Rattle.ix_worked.proofs.a_reader_floats_to_a_raised_file.Goals as goal
 
 pub returns-clause-valid : goal.returns-clause-valid
 unfolding fitting
-returns-clause-valid c = simp (labels, leq-one_top 7 (omega arith)) refl
+returns-clause-valid c = simp labels refl
 
 pub returns-clause-flat : goal.returns-clause-flat
 unfolding fitting

@@ -6,7 +6,7 @@ use Rattle.ix_worked.proofs.each_read_looks_anew.Goals as goal
 
 pub returns-clause-valid : goal.returns-clause-valid
 unfolding fitting
-returns-clause-valid c = simp (labels, leq-one_top 7 (omega arith)) refl
+returns-clause-valid c = simp labels refl
 
 pub returns-clause-flat : goal.returns-clause-flat
 unfolding fitting

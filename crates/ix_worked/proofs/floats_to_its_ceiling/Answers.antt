@@ -5,7 +5,7 @@ use Rattle.ix_worked.proofs.floats_to_its_ceiling.Goals as goal
 
 pub returns-clause-valid : goal.returns-clause-valid
 unfolding fitting
-returns-clause-valid c = simp (labels, leq-one_top 3 (omega arith)) refl
+returns-clause-valid c = simp labels refl
 
 pub returns-clause-flat : goal.returns-clause-flat
 unfolding fitting

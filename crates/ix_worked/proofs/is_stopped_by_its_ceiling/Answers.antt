@@ -6,7 +6,7 @@ use Rattle.ix_worked.proofs.is_stopped_by_its_ceiling.Goals as goal
 
 pub returns-clause-valid : goal.returns-clause-valid
 unfolding fitting
-returns-clause-valid c = simp (labels, leq-two_top 3 5 (omega arith) (omega arith)) refl
+returns-clause-valid c = simp labels refl
 
 pub returns-clause-flat : goal.returns-clause-flat
 unfolding fitting

@@ -1,0 +1,12 @@
+use Rattle.std.proofs.Common.{refl}
+use Rattle.ix_worked.proofs.Computing.{fitting}
+use Rattle.ix_worked.proofs.Labels.{labels}
+use Rattle.ix_worked.proofs.Trusting.{trusted_stays}
+use Rattle.ix_worked.proofs.a_trusted_file_is_not_written.Goals as goal
+
+pub returns-clause-valid : goal.returns-clause-valid
+unfolding fitting
+returns-clause-valid c = simp labels refl
+
+pub returns-clause-shown : goal.returns-clause-shown
+returns-clause-shown c = trusted_stays
