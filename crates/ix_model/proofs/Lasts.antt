@@ -40,13 +40,13 @@ some_put (y ∷ t) zero x (suc m) h = h
 some_put (y ∷ t) (suc n) x zero h = h
 some_put (y ∷ t) (suc n) x (suc m) h = some_put t n x m h
 
-lasting_itself : {A : Type 0} (t : List (Option A)) → Lasting t t
+pub lasting_itself : {A : Type 0} (t : List (Option A)) → Lasting t t
 lasting_itself t = record { stays = λ n is. is }
 
-lasting_change : {A : Type 0} (t u : List (Option A)) (n : ℕ) (h : A → A) → Lasting t u → Lasting t (change u n h)
+pub lasting_change : {A : Type 0} (t u : List (Option A)) (n : ℕ) (h : A → A) → Lasting t u → Lasting t (change u n h)
 lasting_change t u n h r = record { stays = λ m is. seen_changed is_some h (λ x. refl) u n m ∙ r.stays m is }
 
-lasting_put : {A : Type 0} (t u : List (Option A)) (n : ℕ) (x : A) → Lasting t u → Lasting t (put u n (Some x))
+pub lasting_put : {A : Type 0} (t u : List (Option A)) (n : ℕ) (x : A) → Lasting t u → Lasting t (put u n (Some x))
 lasting_put t u n x r = record { stays = λ m is. some_put u n x m (r.stays m is) }
 
 ended_change : (t u : List (Option Process)) (n : ℕ) (h : Process → Process) → ((q : Process) → (h q).ended ≡ q.ended) → Ended t u → Ended t (change u n h)

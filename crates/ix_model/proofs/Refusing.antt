@@ -291,7 +291,7 @@ settled_frames pid f (Refuse why g) r h is =
     subst (λ (x : Refusal). Frames pid f x (if keeps_label why then g else f)) same (frames_of pid f g why h)
 settled_frames pid f (Pass a g) r h is = absurd (true≢false (sym h ∙ ap is_answer is))
 
-decided_frames : (t : Told) (place pid : ℕ) (c : Op) (f : Frame) (r : Refusal) → (decide t place pid c f).reply ≡ reply.No r → Frames pid f r (decide t place pid c f).frame
+pub decided_frames : (t : Told) (place pid : ℕ) (c : Op) (f : Frame) (r : Refusal) → (decide t place pid c f).reply ≡ reply.No r → Frames pid f r (decide t place pid c f).frame
 unfolding decide
 decided_frames t place pid c f r is = go (lives f pid) is
   where

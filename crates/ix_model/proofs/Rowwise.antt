@@ -151,7 +151,7 @@ module _ (can : Change → Bool) (pid : ℕ) (R : Frame → Type 0) (w : Words c
   ruleset wording = (keeps_bind_frame, keeps_bind_some, keeping, keeping_tests, w_object, w_process, w_float, w_entry, w_unclaim, w_relabel, w_claim, w_log, w_inode, w_pipe, w_fork, w_end, w_collect, w_gone_object, w_gone_open)
 
   -- ---- parts of rows
-  kept_observe : (seen : Categories) → Keeps R (observe pid seen)
+  pub kept_observe : (seen : Categories) → Keeps R (observe pid seen)
   unfolding observe
   kept_observe seen = search wording depth 30
 
@@ -159,23 +159,23 @@ module _ (can : Change → Bool) (pid : ℕ) (R : Frame → Type 0) (w : Words c
   unfolding affect
   kept_affect moves o = search wording depth 30
 
-  kept_walked_to : (path : PathOf) → Keeps R (walked_to pid path)
+  pub kept_walked_to : (path : PathOf) → Keeps R (walked_to pid path)
   unfolding walked_to
   kept_walked_to path = search (wording, kept_observe) depth 30
 
-  kept_found : (path : PathOf) → Keeps R (found pid path)
+  pub kept_found : (path : PathOf) → Keeps R (found pid path)
   unfolding found
   kept_found path = search (wording, kept_walked_to) depth 30
 
-  kept_found_in : (path : PathOf) → Keeps R (found_in pid path)
+  pub kept_found_in : (path : PathOf) → Keeps R (found_in pid path)
   unfolding found_in
   kept_found_in path = search (wording, kept_walked_to) depth 30
 
-  kept_missing : (path : PathOf) → Keeps R (missing pid path)
+  pub kept_missing : (path : PathOf) → Keeps R (missing pid path)
   unfolding missing
   kept_missing path = search (wording, kept_walked_to) depth 30
 
-  kept_opened : (fd : ℕ) → Keeps R (opened pid fd)
+  pub kept_opened : (fd : ℕ) → Keeps R (opened pid fd)
   unfolding opened
   kept_opened fd = search wording depth 30
 

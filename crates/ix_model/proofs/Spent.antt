@@ -12,25 +12,17 @@ use Rattle.ix_model.specs.Telling.{told}
 use Rattle.ix_model.specs.Step.{step, step_of, run}
 use Rattle.ix_model.specs.History.{Op, Event}
 use Rattle.ix_model.specs.Laws.{PidsSpent}
-use Rattle.ix_model.proofs.Tables.{none_is, seen_changed}
+use Rattle.ix_model.proofs.Tables.{none_is, seen_changed, seen_put}
 use Rattle.ix_model.proofs.Keeps.{Holds, Keeps}
 use Rattle.ix_model.proofs.Rowwise.{Words, all, bears_all, changes_of, kept_row}
 use Rattle.ix_model.proofs.Lasts.{decided}
 use Rattle.ix_model.proofs.Answered.{step_frame}
 
--- ---- tables
--- what is seen at a number stays so, where it stays so of what is put
-seen_put : {A : Type 0} (F : Option A → Bool) (b : Bool) (t : List (Option A)) (n : ℕ) (x : Option A) (m : ℕ) → (F (at t n) ≡ b → F x ≡ b) → F (at t m) ≡ b → F (at (put t n x) m) ≡ b
-seen_put F b [] n x m h is = is
-seen_put F b (y ∷ t) zero x zero h is = h is
-seen_put F b (y ∷ t) zero x (suc m) h is = is
-seen_put F b (y ∷ t) (suc n) x zero h is = is
-seen_put F b (y ∷ t) (suc n) x (suc m) h is = seen_put F b t n x m h is
-
+-- ---- the words
+-- whether a record is of a living process
 abbrev lives_as : Option Process → Bool
 lives_as p = option_map_or (λ q. not q.ended) p false
 
--- ---- the words
 same_processes : (f g h : Frame) → h.processes ≡ g.processes → PidsSpent f g → PidsSpent f h
 same_processes f g h e r = record {
   grown = rw e r.grown;
