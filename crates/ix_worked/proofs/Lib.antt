@@ -21,3 +21,6 @@ mod Piped
 mod Claimed
 mod Copied
 mod LoggedIn
+mod AtDescriptors
+mod AtPaths
+mod AtProcesses
