@@ -24,3 +24,4 @@ mod LoggedIn
 mod AtDescriptors
 mod AtPaths
 mod AtProcesses
+mod AtLabels

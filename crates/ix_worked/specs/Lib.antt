@@ -24,3 +24,4 @@ pub mod Login
 pub mod OnDescriptors
 pub mod OnPaths
 pub mod OnProcesses
+pub mod OnLabels

@@ -3,7 +3,7 @@
 
 ghost use Rattle.std.specs.Prelude.{◌≡◌, true};
 ghost use Rattle.ix_model.specs.Valid.{is_valid};
-ghost use Rattle.ix_worked.specs.Sessions.{answers};
+ghost use Rattle.ix_worked.specs.Sessions.{answers, log_of};
 ghost use Rattle.ix_worked.specs.OnDescriptors.{
   desk,
   reading_nothing,
@@ -26,6 +26,21 @@ ghost use Rattle.ix_worked.specs.OnProcesses.{
   calling_after_the_end_gives,
   ending_out_of_order,
   ending_out_of_order_gives,
+};
+ghost use Rattle.ix_worked.specs.OnLabels.{
+  levels,
+  freezing,
+  freezing_gives,
+  no_lines,
+  acting_without_a_line,
+  acting_without_a_line_gives,
+  officers,
+  acting,
+  acting_gives,
+  acting_log,
+  heights,
+  finding_what_is_high,
+  finding_what_is_high_gives,
 };
 
 /// A read of no bytes is answered as any other: there may be more while the other end is held.
@@ -77,4 +92,36 @@ pub fn an_ended_child_has_its_label_until_it_is_collected()
 pub fn the_ended_child_with_the_lowest_pid_comes_first()
     ensures valid { is_valid family ≡ true }
     ensures answers { answers family ending_out_of_order ≡ ending_out_of_order_gives }
+{}
+
+/// To freeze a file affects it: one that is frozen already is frozen again only by who is at or below its label.
+#[tactic(auto, using(crate::proofs::AtLabels::levels_fits, crate::proofs::AtLabels::freezing_ran))]
+pub fn what_is_frozen_already_is_frozen_again()
+    ensures valid { is_valid levels ≡ true }
+    ensures answers { answers levels freezing ≡ freezing_gives }
+{}
+
+/// That the log is full is looked at before that something is frozen. Where the log has no line of that number, that
+/// is told first.
+#[tactic(auto, using(crate::proofs::AtLabels::no_lines_fits, crate::proofs::AtLabels::acting_without_a_line_ran))]
+pub fn a_full_log_is_told_before_a_frozen_mark()
+    ensures valid { is_valid no_lines ≡ true }
+    ensures answers { answers no_lines acting_without_a_line ≡ acting_without_a_line_gives }
+{}
+
+/// Each act by a privilege is a line of the log, with its labels before and after. What is refused is none, and
+/// neither is what needs no privilege.
+#[tactic(auto, using(crate::proofs::AtLabels::officers_fits, crate::proofs::AtLabels::acting_ran, crate::proofs::AtLabels::acting_logged))]
+pub fn each_act_is_a_line_of_the_log()
+    ensures valid { is_valid officers ≡ true }
+    ensures answers { answers officers acting ≡ acting_gives }
+    ensures logged { log_of officers acting ≡ acting_log }
+{}
+
+/// To be told what an object is, what a directory holds, and to execute a file is to look at it. Opening it, its
+/// label, going to it and setting it are not.
+#[tactic(auto, using(crate::proofs::AtLabels::heights_fits, crate::proofs::AtLabels::finding_what_is_high_ran))]
+pub fn some_calls_look_at_what_they_find()
+    ensures valid { is_valid heights ≡ true }
+    ensures answers { answers heights finding_what_is_high ≡ finding_what_is_high_gives }
 {}

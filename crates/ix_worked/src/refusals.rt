@@ -59,6 +59,15 @@ ghost use Rattle.ix_worked.specs.OnProcesses.{
   ending_first,
   ending_first_gives,
 };
+ghost use Rattle.ix_worked.specs.OnLabels.{
+  levels,
+  holding_down,
+  holding_down_gives,
+  setting_labels,
+  setting_labels_gives,
+  setting_ceilings,
+  setting_ceilings_gives,
+};
 
 /// BadFd: a call on a descriptor that names no open entry is refused, and so is a fork that asks for one.
 #[tactic(auto, using(crate::proofs::AtDescriptors::desk_fits, crate::proofs::AtDescriptors::using_none_ran))]
@@ -213,4 +222,27 @@ pub fn who_has_no_child_waits_for_none()
 pub fn who_has_a_child_does_not_end()
     ensures valid { is_valid family ≡ true }
     ensures answers { answers family ending_first ≡ ending_first_gives }
+{}
+
+/// ProcFrozen: a frozen process is neither raised by what it reads nor set to another label. To its own it may be
+/// set.
+#[tactic(auto, using(crate::proofs::AtLabels::levels_fits, crate::proofs::AtLabels::holding_down_ran))]
+pub fn a_frozen_process_is_not_raised()
+    ensures valid { is_valid levels ≡ true }
+    ensures answers { answers levels holding_down ≡ holding_down_gives }
+{}
+
+/// NotAbove: a label that isn't lowered takes in the caller's, also where it stays as it is.
+#[tactic(auto, using(crate::proofs::AtLabels::levels_fits, crate::proofs::AtLabels::setting_labels_ran))]
+pub fn a_label_takes_in_who_sets_it()
+    ensures valid { is_valid levels ≡ true }
+    ensures answers { answers levels setting_labels ≡ setting_labels_gives }
+{}
+
+/// BelowLabel: a ceiling isn't set below the label of its process. Lowering the own or a child's needs no privilege;
+/// raising one does, and so does another's, a grandchild's too.
+#[tactic(auto, using(crate::proofs::AtLabels::levels_fits, crate::proofs::AtLabels::setting_ceilings_ran))]
+pub fn no_ceiling_is_below_its_label()
+    ensures valid { is_valid levels ≡ true }
+    ensures answers { answers levels setting_ceilings ≡ setting_ceilings_gives }
 {}
