@@ -1,5 +1,5 @@
 -- A history shows what its steps give, one after another.
-use Rattle.std.proofs.Common.{◌≡◌, ℕ, suc, ◌&&◌, List, [], ◌∷◌, ◌++◌, length, if◌then◌else◌, refl, ap, ◌∙◌}
+use Rattle.std.proofs.Common.{◌≡◌, ℕ, suc, ◌+◌, ◌&&◌, List, [], ◌∷◌, ◌++◌, length, if◌then◌else◌, refl, ap, ◌∙◌, arith}
 use Rattle.std.specs.Option.{option_map_or}
 use Rattle.ix_model.specs.World.{World}
 use Rattle.ix_model.specs.Step.{Given, step_of, run}
@@ -11,7 +11,7 @@ use Rattle.ix_model.specs.declared.config.Config.{Config}
 use Rattle.ix_model.specs.declared.refusal.Refusal.{Refusal}
 use Rattle.ix_model.specs.declared.reply.Reply.{Reply}
 use Rattle.ix_model.specs.declared.reply.Reply.TheVariants as reply
-use Rattle.ix_worked.specs.Sessions.{Line, Shown, line_of, lines_of, labels_in, shown_from, shown, log_of}
+use Rattle.ix_worked.specs.Sessions.{Line, Shown, line_of, lines_of, labels_in, shown_from, shown, log_of, answers}
 
 -- what an answer by a number, one by bytes and a refusal give
 abbrev pub number : World → ℕ → Given
@@ -92,3 +92,14 @@ log_given_from w place (e ∷ events) (g ∷ gs) h =
 
 pub log_given : (c : Config) (w : World) (events : List Event) (gs : List Given) → opening_world c ≡ w → Gives w 1 events gs → log_of c events ≡ log_by w 1 events gs
 log_given c w events gs opening h = ap (λ v. audit_log v 1 events) opening ∙ log_given_from w 1 events gs h
+
+-- what each entry gives, where these are given
+pub answers_given : (c : Config) (events : List Event) (gs : List Given) → Gives (opening_world c) 1 events gs → answers c events ≡ lines_by events gs
+answers_given c events gs h = lines_given (opening_world c) 1 events gs h
+
+-- a history in two parts
+pub lines_more : (w : World) (place : ℕ) (es fs : List Event) → lines_of w place (es ++ fs) ≡ lines_of w place es ++ lines_of (run w place es) (length es + place) fs
+lines_more w place [] fs = ap (λ p. lines_of w p fs) (let e : place ≡ 0 + place = omega arith in e)
+lines_more w place (e ∷ es) fs =
+    ap (λ ls. line_of e (step_of w place e) ∷ ls) (lines_more (step_of w place e).world (suc place) es fs
+    ∙ ap (λ p. lines_of (step_of w place e).world (suc place) es ++ lines_of (run (step_of w place e).world (suc place) es) p fs) (let e : length es + suc place ≡ suc (length es) + place = omega arith in e))

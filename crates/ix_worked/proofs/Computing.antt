@@ -16,7 +16,7 @@ use Rattle.ix_model.specs.Contents.{keep, carried, readable, after_read, after_w
 use Rattle.ix_model.specs.Telling.{told_of_read, told_of_write, told_of_cut, told}
 use Rattle.ix_model.specs.Step.{plainly, read_answer, write_answer, cut_answer, seek_answer, stat_answer, exit_answer, wait_answer, pex_answer, answer, step}
 use Rattle.ix_model.specs.Opening.{opening_world, bare_objects, with_object}
-use Rattle.ix_model.specs.AuditLog.{object_of_path, label_at, of_process, exercises, line_of_act}
+use Rattle.ix_model.specs.AuditLog.{object_of_path, label_at, of_process, exercises, line_of_act, is_licensed, lines_added, audit_log}
 use Rattle.ix_model.specs.Valid.{is_valid, is_flat, fss_fit, limits_fit, procs_fit, object_fits}
 
 -- Whoever unfolds one of these unfolds what is named with it.
@@ -44,6 +44,11 @@ running = 0
 unfoldable pub auditing : ℕ
 unfolding object_of_path label_at of_process exercises line_of_act
 auditing = 0
+
+-- a whole audit log
+unfoldable pub licensing : ℕ
+unfolding auditing is_licensed lines_added audit_log
+licensing = 0
 
 -- what makes a config valid and flat
 unfoldable pub fitting : ℕ

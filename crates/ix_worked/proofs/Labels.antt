@@ -3,7 +3,7 @@ use Rattle.std.proofs.Common.{◌≡◌, ℕ, ◌<◌, true, false, true≢false
 use Rattle.std.proofs.lemmas.Bool.{eq-eqb, or_left, or_right, false_from_ne_true}
 use Rattle.ix_label.specs.Category.{Categories, bottom, top, with, leq, same, join, has}
 use Rattle.ix_label.specs.Lattice.{same-decides, join-absorbs, join-comm, join-idem, join-bottom, join-bottom_right, leq-refl, bottom-leq, leq-top, IsLabel-bottom, IsLabel-with}
-use Rattle.ix_label.specs.Members.{has-bottom, has-with, leq-has, has-leq}
+use Rattle.ix_label.specs.Members.{has-bottom, has-with, has-top, leq-has, has-leq}
 use Rattle.ix_worked.specs.Scripts.{three, four, five, seven, three_and_five, two_and_five}
 
 -- a set has what was added to it
@@ -33,7 +33,7 @@ pub leq-two_top : (q p : ℕ) → q < 256 → p < 256 → leq (with (with bottom
 leq-two_top q p low lower = leq-top _ (IsLabel-with _ p (IsLabel-with bottom q IsLabel-bottom low) lower)
 
 -- a set with one category more is above it, and another
-leq-more : (s : Categories) (q : ℕ) → leq s (with s q) ≡ true
+pub leq-more : (s : Categories) (q : ℕ) → leq s (with s q) ≡ true
 leq-more s q = has-leq s _ (λ p one. has-with s q p ∙ or_right (p == q) _ one)
 
 pub join-more : (s : Categories) (q : ℕ) → join s (with s q) ≡ with s q
@@ -42,6 +42,10 @@ join-more s q = join-comm s _ ∙ join-absorbs s _ (leq-more s q)
 same-with_one : (s : Categories) (q p : ℕ) → (q == p) ≡ false → same (with s q) (with bottom p) ≡ false
 unfolding same
 same-with_one s q p differ = ap (λ b. b && leq (with bottom p) (with s q)) (leq-with_one s q p differ)
+
+pub same-bottom_with : (s : Categories) (q : ℕ) → same bottom (with s q) ≡ false
+unfolding same
+same-bottom_with s q = ap (λ b. b && leq (with s q) bottom) (bottom-leq (with s q)) ∙ leq-with_bottom s q
 
 -- ---- the labels of the scripts
 pub leq-three_top : leq three top ≡ true
@@ -68,6 +72,16 @@ leq-seven_five = leq-with_one bottom 7 5 refl
 pub same-three_and_five_three : same three_and_five three ≡ false
 same-three_and_five_three = same-with_one three 5 3 refl
 
+pub leq-three_five : leq three five ≡ false
+leq-three_five = leq-with_one bottom 3 5 refl
+
+pub leq-top_three : leq top three ≡ false
+leq-top_three = false_from_ne_true _ (λ h. true≢false (sym (leq-has top three h 5 (has-top 5 (omega arith))) ∙ has-with bottom 3 5 ∙ has-bottom 5))
+
+pub same-three_three_and_five : same three three_and_five ≡ false
+unfolding same
+same-three_three_and_five = ap (λ b. b && leq three_and_five three) (leq-more three 5) ∙ leq-with_one three 5 3 refl
+
 pub ruleset tops = (leq-three_top, leq-four_top, leq-five_top, leq-seven_top, leq-three_and_five_top, leq-two_and_five_top)
 
-pub ruleset labels = (join-bottom, join-bottom_right, join-idem, join-more, leq-refl, bottom-leq, leq-with_bottom, same-refl, same-with_bottom, tops, leq-seven_five, same-three_and_five_three)
+pub ruleset labels = (join-bottom, join-bottom_right, join-idem, join-more, leq-refl, bottom-leq, leq-with_bottom, same-refl, same-with_bottom, same-bottom_with, tops, leq-seven_five, leq-three_five, leq-top_three, leq-more, same-three_and_five_three, same-three_three_and_five)

@@ -21,3 +21,7 @@ mod Piped
 mod Claimed
 mod Copied
 mod LoggedIn
+mod AtDescriptors
+mod AtPaths
+mod AtProcesses
+mod AtLabels

@@ -9,8 +9,8 @@ use Rattle.ix_model.specs.World.{World, put}
 use Rattle.ix_model.specs.declared.audit.Act.TheVariants as act
 use Rattle.ix_model.specs.declared.call.Keep.TheVariants as keep
 use Rattle.ix_model.specs.declared.reply.Reply.TheVariants as reply
-use Rattle.ix_worked.specs.Login.{office, asking, asking_shows, all_five}
-use Rattle.ix_worked.specs.Scripts.{two_and_five, log_line}
+use Rattle.ix_worked.specs.Login.{office, asking, asking_shows}
+use Rattle.ix_worked.specs.Scripts.{all_five, two_and_five, log_line}
 use Rattle.ix_worked.specs.Sessions.{shown, log_of}
 use Rattle.ix_worked.proofs.Chains.{Gives, number, bytes, answered, done, shown_by, shown_given, log_given}
 use Rattle.ix_worked.proofs.Computing.{running, auditing}

@@ -12,7 +12,7 @@ use Rattle.ix_worked.specs.Scripts.{three, in_root, proc, file}
 use Rattle.ix_worked.specs.FileCeiling.{low_fs, low_files, writing_down, writing_down_shows}
 use Rattle.ix_worked.proofs.Chains.{number, bytes, refused, shown_by, shown_given}
 use Rattle.ix_worked.proofs.Computing.{running}
-use Rattle.ix_worked.proofs.Labels.{labels, leq-with_one}
+use Rattle.ix_worked.proofs.Labels.{labels}
 use Rattle.ix_worked.proofs.Worlds.{Opened, world_with}
 
 -- the process with these descriptors, and what is open
@@ -40,7 +40,7 @@ opens = simp labels refl
 
 stops : step one_open 2 1 (op.WriteFd 0 (codes "new")) ≡ refused one_open refusal.FsCeiling
 unfolding running one_open
-stops = simp (labels, leq-with_one bottom 3 5 refl) refl
+stops = simp labels refl
 
 reads : step one_open 3 1 (op.ReadFd 0 3) ≡ bytes read_on (codes "old")
 unfolding running one_open read_on

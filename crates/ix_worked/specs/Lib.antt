@@ -21,3 +21,7 @@ pub mod FullPipe
 pub mod Claims
 pub mod Copying
 pub mod Login
+pub mod OnDescriptors
+pub mod OnPaths
+pub mod OnProcesses
+pub mod OnLabels

@@ -7,14 +7,9 @@ use Rattle.ix_model.specs.Privs.{to_lower, to_grant, to_read_the_log, no_privile
 use Rattle.ix_model.specs.declared.audit.Act.TheVariants as act
 use Rattle.ix_model.specs.declared.call.Keep.TheVariants as keep
 use Rattle.ix_model.specs.declared.config.Config.{Config}
-use Rattle.ix_model.specs.declared.privs.PrivSet.{PrivSet}
 use Rattle.ix_model.specs.declared.reply.Reply.TheVariants as reply
-use Rattle.ix_worked.specs.Scripts.{two_and_five, proc, file, dir, usual_fs, machine, entry, gives, log_line}
+use Rattle.ix_worked.specs.Scripts.{all_five, two_and_five, proc, file, dir, usual_fs, machine, entry, gives, log_line}
 use Rattle.ix_worked.specs.Sessions.{Shown}
-
--- DPCTL
-abbrev pub all_five : PrivSet
-all_five = record { 0 = 31 }
 
 -- proc srv - * P P
 -- dir /mail - frozen

@@ -11,6 +11,9 @@ use Rattle.ix_model.specs.declared.config.Limits.{Limits}
 use Rattle.ix_model.specs.declared.config.FsSpec.{FsSpec}
 use Rattle.ix_model.specs.declared.config.ProcSpec.{ProcSpec}
 use Rattle.ix_model.specs.declared.config.ObjSpec.{ObjSpec}
+use Rattle.ix_model.specs.declared.privs.PrivSet.{PrivSet}
+use Rattle.ix_model.specs.declared.refusal.Refusal.{Refusal}
+use Rattle.ix_model.specs.declared.refusal.Refusal.TheVariants as refusal
 use Rattle.ix_model.specs.declared.reply.Reply.{Reply}
 use Rattle.ix_model.specs.declared.reply.Reply.TheVariants as reply
 use Rattle.ix_worked.specs.Sessions.{Line}
@@ -38,12 +41,19 @@ two_and_five = with (with bottom 2) 5
 abbrev pub in_root : List ℕ → PathOf
 in_root name = record { absolute = true; names = name ∷ [] }
 
--- the path /, and an absolute path of two names
+-- the path /, the relative path of no names, and an absolute path of two names
 abbrev pub at_root : PathOf
 at_root = record { absolute = true; names = [] }
 
+abbrev pub here : PathOf
+here = record { absolute = false; names = [] }
+
 abbrev pub under : List ℕ → List ℕ → PathOf
 under directory name = record { absolute = true; names = directory ∷ name ∷ [] }
+
+-- DPCTL
+abbrev pub all_five : PrivSet
+all_five = record { 0 = 31 }
 
 -- proc NAME LABEL CEILING - -
 abbrev pub proc : Categories → Categories → ProcSpec
@@ -68,9 +78,23 @@ usual_limits = record { procs = 64; opens = 256; pipes = 32; names = 4096; log =
 abbrev pub machine : FsSpec → List ProcSpec → List ObjSpec → Config
 machine fs procs files = record { fss = fs ∷ []; limits = usual_limits; procs = procs; objects = files; journal = 870400000 }
 
+-- a machine with little of everything
+abbrev pub small_fs : FsSpec
+small_fs = record { name = codes "root"; ceiling = top; blocks = 4; inodes = 4 }
+
+abbrev pub small_limits : Limits
+small_limits = record { procs = 3; opens = 4; pipes = 1; names = 16; log = 2 }
+
+abbrev pub small : List ProcSpec → List ObjSpec → Config
+small procs files = record (machine small_fs procs files) { limits = small_limits }
+
 -- an entry of the first lane
 abbrev pub entry : ℕ → ℕ → Op → Event
 entry line pid op = record { seat = 0; line = line; pid = pid; op = op }
+
+-- a call of a process, from no line
+abbrev pub by : ℕ → Op → Event
+by pid op = entry 0 pid op
 
 -- a line of a report; the caller's record may be gone after it
 abbrev pub gives : Reply → List ℕ → Categories → Line
@@ -78,6 +102,13 @@ gives reply bytes label = record { reply = reply; bytes = bytes; label = Some la
 
 abbrev pub ends : Line
 ends = record { reply = reply.Done; bytes = []; label = None }
+
+-- lines of refusals: the caller's record is there after one, or it isn't
+abbrev pub refuses : Refusal → Categories → Line
+refuses why label = gives (reply.No why) [] label
+
+abbrev pub unknown : Line
+unknown = record { reply = reply.No refusal.NoProcess; bytes = []; label = None }
 
 -- a line of the audit log without sets: the entry's place, the caller, the act, its target, and the label or ceiling before and after
 abbrev pub log_line : ℕ → ℕ → Act → ℕ → Categories → Categories → AuditLine

@@ -56,3 +56,7 @@ shown c events = shown_from (opening_world c) events
 -- the audit log that such a history has, by the rule of which entries are logged
 abbrev pub log_of : Config → List Event → List AuditLine
 log_of c events = audit_log (opening_world c) 1 events
+
+-- what each entry of such a history gives
+abbrev pub answers : Config → List Event → List Line
+answers c events = lines_of (opening_world c) 1 events

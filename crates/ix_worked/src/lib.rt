@@ -2,6 +2,9 @@
 //! what a history from a config gives, entry by entry, and the labels at its end.
 #![tactic(auto)]
 
+pub mod edges;
+pub mod refusals;
+
 ghost use Rattle.std.specs.Prelude.{◌≡◌, ℕ, true, [], ◌∷◌, codes, take};
 ghost use Rattle.ix_model.specs.Valid.{is_valid, is_flat};
 ghost use Rattle.ix_worked.specs.Sessions.{shown, log_of};

@@ -1,0 +1,237 @@
+-- The short histories of the calls on descriptors, entry by entry.
+use Rattle.std.proofs.Common.{◌≡◌, ℕ, true, [], ◌∷◌, ◌++◌, ◌∙◌, Some, None, replicate, refl, ap, codes}
+use Rattle.ix_label.specs.Category.{bottom}
+use Rattle.ix_model.specs.History.{Event}
+use Rattle.ix_model.specs.History as op
+use Rattle.ix_model.specs.Opening.{opening_world}
+use Rattle.ix_model.specs.Privs.{no_privileges}
+use Rattle.ix_model.specs.Step.{step, run}
+use Rattle.ix_model.specs.Valid.{is_valid}
+use Rattle.ix_model.specs.World.{World}
+use Rattle.ix_model.specs.declared.call.Mode.TheVariants as mode
+use Rattle.ix_model.specs.declared.refusal.Refusal.TheVariants as refusal
+use Rattle.ix_model.specs.declared.reply.Reply.TheVariants as reply
+use Rattle.ix_worked.specs.OnDescriptors.{desk, copying, long_desk, using_none, using_none_gives, reading_a_writer, reading_a_writer_gives, writing_a_reader, writing_a_reader_gives, going_too_far, going_too_far_gives, claiming_a_file, claiming_a_file_gives, cutting_a_pipe, cutting_a_pipe_gives, letting_go, letting_go_gives, using_all, using_all_gives, opening_all, opening_all_gives, making_pipes, making_pipes_gives, reading_nothing, reading_nothing_gives, writing_into_a_broken_pipe, writing_into_a_broken_pipe_gives, claiming_both, claiming_both_gives}
+use Rattle.ix_worked.specs.Scripts.{in_root, by}
+use Rattle.ix_worked.specs.Sessions.{line_of, lines_of, answers}
+use Rattle.ix_worked.proofs.Chains.{number, bytes, refused, answered, done, lines_more, answers_given}
+use Rattle.ix_worked.proofs.Computing.{running, fitting}
+use Rattle.ix_worked.proofs.Labels.{labels}
+use Rattle.ix_worked.proofs.Worlds.{with_process, opened, with_entry, with_fd, without_entry, moved, holding, with_pipe, claimed_by, with_child}
+
+-- ---- the configs are valid
+pub desk_fits : is_valid desk ≡ true
+unfolding fitting
+desk_fits = simp labels refl
+
+pub long_desk_fits : is_valid long_desk ≡ true
+unfolding fitting
+long_desk_fits = simp labels refl
+
+-- ---- the worlds that they come to
+at_desk : World
+at_desk = opening_world desk
+
+reading : World
+reading = with_entry 1 0 0 (opened 1 mode.Read) at_desk
+
+writing : World
+writing = with_entry 1 0 0 (opened 1 mode.Write) at_desk
+
+both : World
+both = with_entry 1 0 0 (opened 1 mode.Both) at_desk
+
+far : World
+far = moved 0 1048576 both
+
+piped : World
+piped = with_pipe 1 4 0 1 0 1 at_desk
+
+half : World
+half = claimed_by 4 (Some 1) None piped
+
+shared : World
+shared = with_child 1 half
+
+three_open : World
+three_open = with_entry 1 2 2 (opened 1 mode.Read) (with_entry 1 1 1 (opened 1 mode.Read) reading)
+
+all_open : World
+all_open = with_entry 1 3 3 (opened 1 mode.Read) three_open
+
+one_end : World
+one_end = without_entry 0 (with_fd 1 0 None piped)
+
+other_end : World
+other_end = without_entry 1 (with_fd 1 1 None piped)
+
+whole : World
+whole = claimed_by 4 (Some 1) (Some 1) piped
+
+at_long_desk : World
+at_long_desk = opening_world long_desk
+
+long_reading : World
+long_reading = with_entry 1 0 0 (opened 1 mode.Read) at_long_desk
+
+all_used : World
+all_used = with_process 1 (λ p. record p { fds = replicate 32 (Some 0) }) long_reading
+
+-- opens all of them
+worlds : ℕ
+unfolding at_desk reading writing both far piped half shared three_open all_open one_end other_end whole at_long_desk long_reading all_used
+worlds = 0
+
+-- ---- the histories
+pub using_none_ran : answers desk using_none ≡ using_none_gives
+unfolding running worlds
+using_none_ran = answers_given desk using_none
+    (replicate 9 (refused at_desk refusal.BadFd))
+    (refl, (refl, (refl, (refl, (refl, (refl, (refl, (refl, (refl, tt)))))))))
+
+pub reading_a_writer_ran : answers desk reading_a_writer ≡ reading_a_writer_gives
+unfolding running worlds
+reading_a_writer_ran = answers_given desk reading_a_writer
+    (number writing 0 ∷ refused writing refusal.NotReadable ∷ [])
+    (simp labels refl, (refl, tt))
+
+pub writing_a_reader_ran : answers desk writing_a_reader ≡ writing_a_reader_gives
+unfolding running worlds
+writing_a_reader_ran = answers_given desk writing_a_reader
+    (number reading 0
+    ∷ refused reading refusal.NotWritable
+    ∷ refused reading refusal.NotWritable
+    ∷ [])
+    (simp labels refl, (refl, (refl, tt)))
+
+pub going_too_far_ran : answers desk going_too_far ≡ going_too_far_gives
+unfolding running worlds
+going_too_far_ran = answers_given desk going_too_far
+    (number both 0
+    ∷ refused both refusal.TooBig
+    ∷ refused both refusal.TooBig
+    ∷ refused both refusal.TooBig
+    ∷ refused both refusal.NoSpace
+    ∷ refused both refusal.TooBig
+    ∷ done far
+    ∷ refused far refusal.TooBig
+    ∷ [])
+    (simp labels refl, (refl, (refl, (refl, (refl, (refl, (refl, (refl, tt))))))))
+
+pub claiming_a_file_ran : answers desk claiming_a_file ≡ claiming_a_file_gives
+unfolding running worlds
+claiming_a_file_ran = answers_given desk claiming_a_file
+    (number both 0
+    ∷ refused both refusal.NotPipe
+    ∷ refused both refusal.NotPipe
+    ∷ [])
+    (simp labels refl, (refl, (refl, tt)))
+
+pub cutting_a_pipe_ran : answers desk cutting_a_pipe ≡ cutting_a_pipe_gives
+unfolding running worlds
+cutting_a_pipe_ran = answers_given desk cutting_a_pipe
+    (answered piped (reply.Two (record { 0 = 0 }) (record { 0 = 1 }))
+    ∷ refused piped refusal.IsPipe
+    ∷ refused piped refusal.IsPipe
+    ∷ [])
+    (refl, (refl, (refl, tt)))
+
+pub letting_go_ran : answers desk letting_go ≡ letting_go_gives
+unfolding running worlds
+letting_go_ran = answers_given desk letting_go
+    (answered piped (reply.Two (record { 0 = 0 }) (record { 0 = 1 }))
+    ∷ refused piped refusal.NotClaimed
+    ∷ answered half reply.Half
+    ∷ number shared 2
+    ∷ refused shared refusal.NotClaimed
+    ∷ refused shared refusal.PexHeld
+    ∷ done (claimed_by 4 None None shared)
+    ∷ [])
+    (refl, (refl, (refl, (refl, (refl, (refl, (refl, tt)))))))
+
+-- The first entry and the last are taken by themselves, and those between them at once.
+opens_the_first : step at_long_desk 1 1 (op.OpenAt (in_root (codes "n")) mode.Read) ≡ number long_reading 0
+unfolding running worlds
+opens_the_first = simp labels refl
+
+copies : run long_reading 2 copying ≡ all_used
+unfolding running worlds
+copies = refl
+
+has_none_left : step all_used 35 1 (op.OpenAt (in_root (codes "n")) mode.Read) ≡ refused all_used refusal.NoFd
+unfolding running worlds
+has_none_left = simp labels refl
+
+pub using_all_ran : answers long_desk using_all ≡ using_all_gives
+unfolding running worlds
+using_all_ran =
+    let e : Event = by 1 (op.OpenAt (in_root (codes "n")) mode.Read) in
+    ap (λ g. line_of e g ∷ lines_of g.world 2 (copying ++ e ∷ [])) opens_the_first
+    ∙ ap (λ ls. line_of e (number long_reading 0) ∷ ls) (lines_more long_reading 2 copying (e ∷ [])
+    ∙ ap (λ w. lines_of long_reading 2 copying ++ lines_of w 35 (e ∷ [])) copies
+    ∙ ap (λ g. lines_of long_reading 2 copying ++ line_of e g ∷ []) has_none_left)
+
+pub opening_all_ran : answers desk opening_all ≡ opening_all_gives
+unfolding running worlds
+opening_all_ran = answers_given desk opening_all
+    (number reading 0
+    ∷ number (with_entry 1 1 1 (opened 1 mode.Read) reading) 1
+    ∷ number three_open 2
+    ∷ refused three_open refusal.NoOpen
+    ∷ number all_open 3
+    ∷ refused all_open refusal.NoOpen
+    ∷ number (with_fd 1 4 (Some 0) all_open) 4
+    ∷ number (with_child 1 (with_fd 1 4 (Some 0) all_open)) 2
+    ∷ [])
+    (simp labels refl, (simp labels refl, (simp labels refl, (refl, (simp labels refl, (simp labels refl, (refl, (refl, tt))))))))
+
+pub making_pipes_ran : answers desk making_pipes ≡ making_pipes_gives
+unfolding running worlds
+making_pipes_ran = answers_given desk making_pipes
+    (answered piped (reply.Two (record { 0 = 0 }) (record { 0 = 1 }))
+    ∷ refused piped refusal.NoInode
+    ∷ done one_end
+    ∷ refused one_end refusal.NoInode
+    ∷ done at_desk
+    ∷ answered piped (reply.Two (record { 0 = 0 }) (record { 0 = 1 }))
+    ∷ [])
+    (refl, (refl, (refl, (refl, (refl, (refl, tt))))))
+
+pub reading_nothing_ran : answers desk reading_nothing ≡ reading_nothing_gives
+unfolding running worlds
+reading_nothing_ran = answers_given desk reading_nothing
+    (answered piped (reply.Two (record { 0 = 0 }) (record { 0 = 1 }))
+    ∷ refused piped refusal.Again
+    ∷ number (holding 4 (codes "x") [] piped) 1
+    ∷ bytes (holding 4 (codes "x") [] piped) []
+    ∷ bytes piped (codes "x")
+    ∷ refused piped refusal.Again
+    ∷ done other_end
+    ∷ bytes other_end []
+    ∷ [])
+    (refl, (simp labels refl, (simp labels refl, (simp labels refl, (simp labels refl, (simp labels refl, (refl, (simp labels refl, tt))))))))
+
+pub writing_into_a_broken_pipe_ran : answers desk writing_into_a_broken_pipe ≡ writing_into_a_broken_pipe_gives
+unfolding running worlds
+writing_into_a_broken_pipe_ran = answers_given desk writing_into_a_broken_pipe
+    (answered piped (reply.Two (record { 0 = 0 }) (record { 0 = 1 }))
+    ∷ number (holding 4 [] (replicate 4096 65) piped) 4096
+    ∷ refused (holding 4 [] (replicate 4096 65) piped) refusal.PipeFull
+    ∷ done (holding 4 [] (replicate 4096 65) other_end)
+    ∷ refused (holding 4 [] (replicate 4096 65) other_end) refusal.Broken
+    ∷ [])
+    (refl, (simp labels refl, (refl, (refl, (refl, tt)))))
+
+pub claiming_both_ran : answers desk claiming_both ≡ claiming_both_gives
+unfolding running worlds
+claiming_both_ran = answers_given desk claiming_both
+    (answered piped (reply.Two (record { 0 = 0 }) (record { 0 = 1 }))
+    ∷ answered half reply.Half
+    ∷ number (holding 4 [] (codes "x") half) 1
+    ∷ answered whole (reply.Whole (record { 0 = 1 }) bottom no_privileges)
+    ∷ refused whole refusal.Again
+    ∷ number (holding 4 [] (codes "y") whole) 1
+    ∷ answered (holding 4 [] (codes "y") whole) (reply.Whole (record { 0 = 1 }) bottom no_privileges)
+    ∷ bytes whole (codes "y")
+    ∷ [])
+    (refl, (refl, (simp labels refl, (refl, (simp labels refl, (simp labels refl, (refl, (simp labels refl, tt))))))))

@@ -1,0 +1,233 @@
+-- The short histories of the calls on labels, privileges, ceilings and the log, entry by entry.
+use Rattle.std.proofs.Common.{◌≡◌, ℕ, true, false, List, [], ◌∷◌, ◌++◌, ◌∙◌, replicate, refl}
+use Rattle.ix_label.specs.Category.{bottom}
+use Rattle.ix_model.specs.Opening.{opening_world}
+use Rattle.ix_model.specs.Privs.{to_lower, to_thaw, to_read_the_log, no_privileges}
+use Rattle.ix_model.specs.Step.{Given}
+use Rattle.ix_model.specs.Valid.{is_valid}
+use Rattle.ix_model.specs.World.{World}
+use Rattle.ix_model.specs.declared.audit.Act.TheVariants as act
+use Rattle.ix_model.specs.declared.call.Mode.TheVariants as mode
+use Rattle.ix_model.specs.declared.refusal.Refusal.TheVariants as refusal
+use Rattle.ix_model.specs.declared.reply.Kind.TheVariants as kind
+use Rattle.ix_model.specs.declared.reply.Reply.TheVariants as reply
+use Rattle.ix_worked.specs.OnLabels.{levels, no_lines, officers, heights, holding_down, holding_down_gives, setting_labels, setting_labels_gives, setting_ceilings, setting_ceilings_gives, freezing, freezing_gives, acting_without_a_line, acting_without_a_line_gives, acting, acting_gives, acting_log, finding_what_is_high, finding_what_is_high_gives}
+use Rattle.ix_worked.specs.Scripts.{three, five, log_line}
+use Rattle.ix_worked.specs.Sessions.{log_of, answers}
+use Rattle.ix_worked.proofs.Chains.{Gives, number, refused, answered, done, log_given, answers_given}
+use Rattle.ix_worked.proofs.Computing.{running, auditing, fitting}
+use Rattle.ix_worked.proofs.Labels.{labels}
+use Rattle.ix_worked.proofs.Worlds.{with_process, with_object, with_line, floated, raised, opened, with_entry, with_child}
+
+-- ---- the configs are valid
+pub levels_fits : is_valid levels ≡ true
+unfolding fitting
+levels_fits = simp labels refl
+
+pub no_lines_fits : is_valid no_lines ≡ true
+unfolding fitting
+no_lines_fits = simp labels refl
+
+pub officers_fits : is_valid officers ≡ true
+unfolding fitting
+officers_fits = simp labels refl
+
+pub heights_fits : is_valid heights ≡ true
+unfolding fitting
+heights_fits = simp labels refl
+
+-- ---- the worlds that they come to
+at_levels : World
+at_levels = opening_world levels
+
+opened_high : World
+opened_high = with_entry 2 0 0 (opened 2 mode.Read) at_levels
+
+held_down : World
+held_down = with_process 2 (λ p. record p { frozen = true }) opened_high
+
+raised_file : World
+raised_file = raised 1 three at_levels
+
+frozen_file : World
+frozen_file = with_object 1 (λ x. record x { label = three; frozen = true }) at_levels
+
+lower : World
+lower = with_process 1 (λ p. record p { ceiling = three }) at_levels
+
+forked : World
+forked = with_child 2 lower
+
+child_low : World
+child_low = with_process 4 (λ p. record p { ceiling = bottom }) forked
+
+grandchild : World
+grandchild = with_child 4 child_low
+
+at_no_lines : World
+at_no_lines = opening_world no_lines
+
+stiff : World
+stiff = with_process 1 (λ p. record p { frozen = true }) at_no_lines
+
+at_officers : World
+at_officers = opening_world officers
+
+stopped : World
+stopped = with_process 1 (λ p. record p { frozen = true }) at_officers
+
+thawed : World
+thawed = with_line (log_line 5 1 act.ThawSelf 1 three three) at_officers
+
+given : World
+given = with_line (record (log_line 6 1 act.SetPriv 1 bottom three) { cap = to_lower; lic = to_thaw }) (with_object 1 (λ x. record x { label = three; cap = to_lower; lic = to_thaw }) thawed)
+
+granted : World
+granted = with_line (record (log_line 8 1 act.Grant 2 bottom bottom) { lic = to_read_the_log }) (with_process 2 (λ p. record p { lic = to_read_the_log }) given)
+
+read_it : World
+read_it = with_line (log_line 9 2 act.ReadLog 0 bottom bottom) granted
+
+executed : World
+executed = with_process 1 (λ p. record p { cap = to_lower; own = to_thaw }) read_it
+
+lowered : World
+lowered = with_line (log_line 12 1 act.DownSelf 1 three bottom) (floated 1 bottom executed)
+
+dropped : World
+dropped = with_process 1 (λ p. record p { cap = no_privileges; lic = record { 0 = 30 } }) lowered
+
+at_heights : World
+at_heights = opening_world heights
+
+high_open : World
+high_open = with_entry 1 0 0 (opened 1 mode.Read) at_heights
+
+gone_there : World
+gone_there = with_process 1 (λ p. record p { cwd = 2 }) high_open
+
+frozen_high : World
+frozen_high = with_object 1 (λ x. record x { frozen = true }) gone_there
+
+a_high : World
+a_high = floated 1 five frozen_high
+
+b_high : World
+b_high = floated 2 five a_high
+
+c_high : World
+c_high = floated 3 five b_high
+
+d_high : World
+d_high = with_process 4 (λ p. record p { label = five }) c_high
+
+-- opens all of them
+worlds : ℕ
+unfolding at_levels opened_high held_down raised_file frozen_file lower forked child_low grandchild at_no_lines stiff at_officers stopped thawed given granted read_it executed lowered dropped at_heights high_open gone_there frozen_high a_high b_high c_high d_high
+worlds = 0
+
+-- ---- the histories
+pub holding_down_ran : answers levels holding_down ≡ holding_down_gives
+unfolding running worlds
+holding_down_ran = answers_given levels holding_down
+    (number opened_high 0
+    ∷ done held_down
+    ∷ refused held_down refusal.ProcFrozen
+    ∷ refused held_down refusal.ProcFrozen
+    ∷ done held_down
+    ∷ answered held_down (reply.Lab bottom)
+    ∷ [])
+    (simp labels refl, (refl, (simp labels refl, (simp labels refl, (simp labels refl, (refl, tt))))))
+
+pub setting_labels_ran : answers levels setting_labels ≡ setting_labels_gives
+unfolding running worlds
+setting_labels_ran = answers_given levels setting_labels
+    (refused at_levels refusal.NotAbove
+    ∷ refused at_levels refusal.NotAbove
+    ∷ done at_levels
+    ∷ refused at_levels refusal.FileFrozen
+    ∷ done raised_file
+    ∷ answered raised_file (reply.Lab three)
+    ∷ [])
+    (simp labels refl, (simp labels refl, (simp labels refl, (simp labels refl, (simp labels refl, (simp labels refl, tt))))))
+
+pub setting_ceilings_ran : answers levels setting_ceilings ≡ setting_ceilings_gives
+unfolding running worlds
+setting_ceilings_ran = answers_given levels setting_ceilings
+    (refused at_levels refusal.BelowLabel
+    ∷ refused at_levels refusal.BelowLabel
+    ∷ refused at_levels refusal.NoCapability
+    ∷ done lower
+    ∷ refused lower refusal.NoCapability
+    ∷ number forked 4
+    ∷ done child_low
+    ∷ number grandchild 5
+    ∷ refused grandchild refusal.NoCapability
+    ∷ [])
+    (simp labels refl, (simp labels refl, (simp labels refl, (simp labels refl, (simp labels refl, (refl, (simp labels refl, (refl, (simp labels refl, tt)))))))))
+
+pub freezing_ran : answers levels freezing ≡ freezing_gives
+unfolding running worlds
+freezing_ran = answers_given levels freezing
+    (done frozen_file
+    ∷ done frozen_file
+    ∷ done frozen_file
+    ∷ refused frozen_file refusal.FileFrozen
+    ∷ answered frozen_file (reply.Lab three)
+    ∷ [])
+    (simp labels refl, (simp labels refl, (simp labels refl, (simp labels refl, (simp labels refl, tt)))))
+
+pub acting_without_a_line_ran : answers no_lines acting_without_a_line ≡ acting_without_a_line_gives
+unfolding running worlds
+acting_without_a_line_ran = answers_given no_lines acting_without_a_line
+    (done stiff ∷ (replicate 7 (refused stiff refusal.LogFull) ++ refused stiff refusal.EndOfList ∷ []))
+    (refl, (simp labels refl, (simp labels refl, (simp labels refl, (simp labels refl, (refl, (refl, (simp labels refl, (refl, tt)))))))))
+
+abbrev acting_given : List Given
+acting_given =
+    refused at_officers refusal.NoLicence
+    ∷ done stopped
+    ∷ refused stopped refusal.ProcFrozen
+    ∷ refused stopped refusal.FileFrozen
+    ∷ done thawed
+    ∷ done given
+    ∷ answered given (reply.Stat (record { 0 = 1 }) kind.File 3 1 false to_lower to_thaw)
+    ∷ done granted
+    ∷ answered read_it (reply.LogLine (log_line 5 1 act.ThawSelf 1 three three))
+    ∷ done executed
+    ∷ refused executed refusal.NoCapability
+    ∷ done lowered
+    ∷ done dropped
+    ∷ refused dropped refusal.NoCapability
+    ∷ []
+
+acting_steps : Gives (opening_world officers) 1 acting acting_given
+unfolding running worlds
+acting_steps = (refl, (refl, (simp labels refl, (simp labels refl, (refl, (simp labels refl, (simp labels refl, (refl, (refl, (simp labels refl, (simp labels refl, (simp labels refl, (refl, (simp labels refl, tt))))))))))))))
+
+pub acting_ran : answers officers acting ≡ acting_gives
+unfolding running worlds
+acting_ran = answers_given officers acting acting_given acting_steps
+
+pub acting_logged : log_of officers acting ≡ acting_log
+unfolding running auditing worlds
+acting_logged = log_given officers (opening_world officers) acting acting_given refl acting_steps ∙ simp labels refl
+
+pub finding_what_is_high_ran : answers heights finding_what_is_high ≡ finding_what_is_high_gives
+unfolding running worlds
+finding_what_is_high_ran = answers_given heights finding_what_is_high
+    (answered at_heights (reply.Lab five)
+    ∷ number high_open 0
+    ∷ done gone_there
+    ∷ done gone_there
+    ∷ done frozen_high
+    ∷ refused frozen_high refusal.IsDir
+    ∷ refused frozen_high refusal.NotDir
+    ∷ refused frozen_high refusal.NotDir
+    ∷ answered a_high (reply.Stat (record { 0 = 1 }) kind.File 0 1 true no_privileges no_privileges)
+    ∷ refused b_high refusal.EndOfList
+    ∷ answered c_high (reply.Stat (record { 0 = 2 }) kind.Dir 0 1 false no_privileges no_privileges)
+    ∷ done d_high
+    ∷ refused d_high refusal.InUse
+    ∷ [])
+    (simp labels refl, (simp labels refl, (simp labels refl, (simp labels refl, (simp labels refl, (simp labels refl, (simp labels refl, (simp labels refl, (simp labels refl, (simp labels refl, (simp labels refl, (simp labels refl, (simp labels refl, tt)))))))))))))

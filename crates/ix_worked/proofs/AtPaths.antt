@@ -1,0 +1,163 @@
+-- The short histories of the calls on paths, entry by entry.
+use Rattle.std.proofs.Common.{◌≡◌, ℕ, true, false, [], ◌∷◌, Some, None, replicate, refl, codes}
+use Rattle.ix_model.specs.Directories.{with_name, without_name}
+use Rattle.ix_model.specs.OnPaths.{new_object}
+use Rattle.ix_model.specs.Opening.{opening_world}
+use Rattle.ix_model.specs.Privs.{no_privileges}
+use Rattle.ix_model.specs.Valid.{is_valid}
+use Rattle.ix_model.specs.World.{World}
+use Rattle.ix_model.specs.declared.call.Mode.TheVariants as mode
+use Rattle.ix_model.specs.declared.refusal.Refusal.TheVariants as refusal
+use Rattle.ix_model.specs.declared.reply.Kind.TheVariants as kind
+use Rattle.ix_model.specs.declared.reply.Reply.TheVariants as reply
+use Rattle.ix_worked.specs.OnPaths.{shelves, full, seeking, seeking_gives, looking_into_a_file, looking_into_a_file_gives, using_a_directory, using_a_directory_gives, making_again, making_again_gives, crossing, crossing_gives, removing_a_home, removing_a_home_gives, making_files, making_files_gives, making_names, making_names_gives, asking_for_objects, asking_for_objects_gives, unlinking_an_open_file, unlinking_an_open_file_gives}
+use Rattle.ix_worked.specs.Sessions.{answers}
+use Rattle.ix_worked.proofs.Chains.{number, bytes, refused, answered, done, answers_given}
+use Rattle.ix_worked.proofs.Computing.{running, fitting}
+use Rattle.ix_worked.proofs.Labels.{labels}
+use Rattle.ix_worked.proofs.Worlds.{with_process, with_object, opened, with_entry, with_fd, without_entry, moved, holding, with_new}
+
+-- ---- the configs are valid
+pub shelves_fits : is_valid shelves ≡ true
+unfolding fitting
+shelves_fits = simp labels refl
+
+pub full_fits : is_valid full ≡ true
+unfolding fitting
+full_fits = simp labels refl
+
+-- ---- the worlds that they come to
+at_shelves : World
+at_shelves = opening_world shelves
+
+in_d : World
+in_d = with_process 1 (λ p. record p { cwd = 2 }) at_shelves
+
+without_d : World
+without_d = with_object 0 (without_name (codes "d")) (with_new 2 None at_shelves)
+
+with_a : World
+with_a = with_object 0 (with_name (codes "a") 3) (with_new 3 (Some (new_object kind.File (Some 0))) at_shelves)
+
+with_b : World
+with_b = with_object 4 (with_name (codes "b") 5) (with_new 5 (Some (new_object kind.File (Some 1))) with_a)
+
+at_full : World
+at_full = opening_world full
+
+one_less : World
+one_less = with_object 0 (without_name (codes "a")) (with_new 1 None at_full)
+
+linked : World
+linked = with_object 2 (with_name (codes "k") 1) at_shelves
+
+reading : World
+reading = with_entry 1 0 0 (opened 1 mode.Read) at_shelves
+
+nameless : World
+nameless = with_object 0 (without_name (codes "n")) reading
+
+beside : World
+beside = with_object 0 (with_name (codes "m") 3) (with_new 3 (Some (new_object kind.File (Some 0))) nameless)
+
+read_all : World
+read_all = moved 0 3 beside
+
+gone : World
+gone = without_entry 0 (with_fd 1 0 None (holding 1 [] [] (with_new 1 None read_all)))
+
+-- opens all of them
+worlds : ℕ
+unfolding at_shelves in_d without_d with_a with_b at_full one_less linked reading nameless beside read_all gone
+worlds = 0
+
+-- ---- the histories
+pub seeking_ran : answers shelves seeking ≡ seeking_gives
+unfolding running worlds
+seeking_ran = answers_given shelves seeking
+    (replicate 7 (refused at_shelves refusal.NotFound))
+    (simp labels refl, (simp labels refl, (simp labels refl, (simp labels refl, (simp labels refl, (simp labels refl, (simp labels refl, tt)))))))
+
+pub looking_into_a_file_ran : answers shelves looking_into_a_file ≡ looking_into_a_file_gives
+unfolding running worlds
+looking_into_a_file_ran = answers_given shelves looking_into_a_file
+    (replicate 6 (refused at_shelves refusal.NotDir))
+    (simp labels refl, (simp labels refl, (simp labels refl, (simp labels refl, (simp labels refl, (simp labels refl, tt))))))
+
+pub using_a_directory_ran : answers shelves using_a_directory ≡ using_a_directory_gives
+unfolding running worlds
+using_a_directory_ran = answers_given shelves using_a_directory
+    (replicate 6 (refused at_shelves refusal.IsDir))
+    (simp labels refl, (simp labels refl, (simp labels refl, (simp labels refl, (simp labels refl, (simp labels refl, tt))))))
+
+pub making_again_ran : answers shelves making_again ≡ making_again_gives
+unfolding running worlds
+making_again_ran = answers_given shelves making_again
+    (replicate 6 (refused at_shelves refusal.Exists))
+    (simp labels refl, (simp labels refl, (simp labels refl, (simp labels refl, (simp labels refl, (simp labels refl, tt))))))
+
+pub crossing_ran : answers shelves crossing ≡ crossing_gives
+unfolding running worlds
+crossing_ran = answers_given shelves crossing
+    (replicate 3 (refused at_shelves refusal.CrossFs))
+    (simp labels refl, (simp labels refl, (simp labels refl, tt)))
+
+pub removing_a_home_ran : answers shelves removing_a_home ≡ removing_a_home_gives
+unfolding running worlds
+removing_a_home_ran = answers_given shelves removing_a_home
+    (done in_d
+    ∷ refused in_d refusal.InUse
+    ∷ refused in_d refusal.InUse
+    ∷ done at_shelves
+    ∷ done without_d
+    ∷ [])
+    (simp labels refl, (simp labels refl, (simp labels refl, (simp labels refl, (simp labels refl, tt)))))
+
+pub making_files_ran : answers shelves making_files ≡ making_files_gives
+unfolding running worlds
+making_files_ran = answers_given shelves making_files
+    (number with_a 3
+    ∷ refused with_a refusal.NoInode
+    ∷ refused with_a refusal.NoInode
+    ∷ number with_b 5
+    ∷ refused with_b refusal.NoInode
+    ∷ [])
+    (simp labels refl, (simp labels refl, (simp labels refl, (simp labels refl, (simp labels refl, tt)))))
+
+pub making_names_ran : answers full making_names ≡ making_names_gives
+unfolding running worlds
+making_names_ran = answers_given full making_names
+    (refused at_full refusal.NoEntry
+    ∷ refused at_full refusal.NoEntry
+    ∷ refused at_full refusal.NoEntry
+    ∷ done one_less
+    ∷ done (with_object 0 (with_name (codes "a") 2) one_less)
+    ∷ [])
+    (simp labels refl, (simp labels refl, (simp labels refl, (simp labels refl, (simp labels refl, tt)))))
+
+pub asking_for_objects_ran : answers shelves asking_for_objects ≡ asking_for_objects_gives
+unfolding running worlds
+asking_for_objects_ran = answers_given shelves asking_for_objects
+    (answered at_shelves (reply.Stat (record { 0 = 1 }) kind.File 3 1 false no_privileges no_privileges)
+    ∷ done linked
+    ∷ answered linked (reply.Stat (record { 0 = 1 }) kind.File 3 2 false no_privileges no_privileges)
+    ∷ answered linked (reply.Stat (record { 0 = 2 }) kind.Dir 0 1 false no_privileges no_privileges)
+    ∷ answered linked (reply.Named (codes "vol") (record { 0 = 4 }))
+    ∷ answered linked (reply.Named (codes "n") (record { 0 = 1 }))
+    ∷ answered linked (reply.Named (codes "k") (record { 0 = 1 }))
+    ∷ refused linked refusal.EndOfList
+    ∷ [])
+    (simp labels refl, (simp labels refl, (simp labels refl, (simp labels refl, (simp labels refl, (simp labels refl, (simp labels refl, (simp labels refl, tt))))))))
+
+pub unlinking_an_open_file_ran : answers shelves unlinking_an_open_file ≡ unlinking_an_open_file_gives
+unfolding running worlds
+unlinking_an_open_file_ran = answers_given shelves unlinking_an_open_file
+    (number reading 0
+    ∷ done nameless
+    ∷ refused nameless refusal.NotFound
+    ∷ number beside 3
+    ∷ bytes read_all (codes "abc")
+    ∷ done gone
+    ∷ number (with_object 0 (with_name (codes "k") 1) (with_new 1 (Some (new_object kind.File (Some 0))) gone)) 1
+    ∷ [])
+    (simp labels refl, (simp labels refl, (simp labels refl, (simp labels refl, (simp labels refl, (refl, (simp labels refl, tt)))))))
