@@ -1,5 +1,5 @@
 -- What boot needs of a flat config, and one step of filling a table up.
-use Rattle.std.proofs.Common.{◌≡◌, ℕ, ◌+◌, ◌-◌, ◌<◌, true, List, [], ◌∷◌, ◌++◌, length, replicate, Some, None, slice_get, sym, ap, ◌∙◌, arith, append_assoc, suc}
+use Rattle.std.proofs.Common.{◌≡◌, ℕ, ◌+◌, ◌-◌, ◌<◌, true, List, [], ◌∷◌, ◌++◌, replicate, Some, None, slice_get, sym, ap, ◌∙◌, arith, append_assoc, suc}
 use Rattle.ix_model.specs.Valid.{is_flat}
 use Rattle.ix_model.specs.declared.config.Config.{Config}
 use Rattle.ix_model.specs.declared.config.FsSpec.{FsSpec}

@@ -10,15 +10,12 @@ use Rattle.ix_label.specs.Members.{same_members, has-bottom, has-with}
 use Rattle.ix_label.specs.Spelling.{spelling}
 use Rattle.ix_model.specs.Naming.{same_bytes}
 use Rattle.ix_script.specs.Labels.{labels_below, is_spelled, label_of}
+use Rattle.ix_model.proofs.Alike.{bytes_itself}
 use Rattle.ix_script.proofs.Names.{both}
 
 bool_cases : (b : Bool) → (b ≡ true) ⊎ (b ≡ false)
 bool_cases true = inl refl
 bool_cases false = inr refl
-
-text_is_same : (a : List ℕ) → same_bytes a a ≡ true
-text_is_same [] = refl
-text_is_same (x ∷ a) = rw (eq-eqb x x refl) (text_is_same a)
 
 -- ---- every label is there
 abbrev Among : Categories → List Categories → Type 0
@@ -131,7 +128,7 @@ find_none test (l ∷ ls) none = elim (bool_cases (test l)) [
 pub label_found : (word : List ℕ) (s : Categories) → IsLabel s → spelling s ≡ word → ((l : Categories) → IsLabel l → spelling l ≡ word → l ≡ s) → label_of word ≡ Some s
 unfolding label_of
 label_found word s small is only =
-    find_one (is_spelled word) s (labels_below 256) (all_there 256 s small.below) (ap (λ t. same_bytes t word) is ∙ text_is_same word) (λ l a t. only l (record { below = below 256 l a }) (same_text (spelling l) word (sym t)))
+    find_one (is_spelled word) s (labels_below 256) (all_there 256 s small.below) (ap (λ t. same_bytes t word) is ∙ bytes_itself word) (λ l a t. only l (record { below = below 256 l a }) (same_text (spelling l) word (sym t)))
 
 -- a word that spells no label
 pub label_missing : (word : List ℕ) → ((l : Categories) → IsLabel l → spelling l ≡ word → ⊥) → label_of word ≡ None
