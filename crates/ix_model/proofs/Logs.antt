@@ -33,7 +33,7 @@ use Rattle.ix_model.specs.declared.reply.Reply.TheVariants as reply
 use Rattle.ix_model.proofs.Tables.{at_changed}
 use Rattle.ix_model.proofs.Keeps.{Holds, Keeps, keeping}
 use Rattle.ix_model.proofs.Ends.{Ends, Anything, ending, ends_bind, ends_then, ends_pass, ends_frame, ends_caller, ends_there, ends_kept, ends_more}
-use Rattle.ix_model.proofs.Endings.{endings}
+use Rattle.ix_model.proofs.RowEnds.{endings}
 use Rattle.ix_model.proofs.Looks.{ends_affect}
 use Rattle.ix_model.proofs.Living.{is_living}
 use Rattle.ix_model.proofs.Rowwise.{Change, Logging, Words, changes_of, kept_row}

@@ -31,7 +31,7 @@ use Rattle.ix_model.specs.declared.refusal.Refusal.TheVariants as refusal
 use Rattle.ix_model.proofs.Tables.{change_same, change_twice}
 use Rattle.ix_model.proofs.Keeps.{Keeps, keeping}
 use Rattle.ix_model.proofs.Ends.{Ends, ending, ends_kept, kept_ends}
-use Rattle.ix_model.proofs.Endings.{endings, ends_let_go_object, ends_let_go, ends_let_go_all}
+use Rattle.ix_model.proofs.RowEnds.{endings, ends_let_go_object, ends_let_go, ends_let_go_all}
 use Rattle.ix_model.proofs.Looks.{ends_observe, ends_touch}
 use Rattle.ix_model.proofs.Lasts.{Lasts, lasts_relabelled}
 use Rattle.ix_model.proofs.Carrying.{carried_same}
