@@ -37,7 +37,7 @@ use Rattle.ix_model.proofs.RowEnds.{endings}
 use Rattle.ix_model.proofs.Looks.{ends_affect}
 use Rattle.ix_model.proofs.Living.{is_living}
 use Rattle.ix_model.proofs.Rowwise.{Change, Logging, Words, changes_of, kept_row}
-use Rattle.ix_model.proofs.Refusing.{Relabelled, Relabels, relabelled_itself, relabelled_observe, relabels_row}
+use Rattle.ix_model.proofs.Refusing.{Relabelled, Relabels, relabelled_itself, relabelled_observe, refusing_row}
 use Rattle.ix_model.proofs.Answered.{step_frame}
 
 -- ---- what an entry adds
@@ -313,7 +313,7 @@ log_kept : (b : Bool) (pid : ℕ) (f g : Frame) → Relabelled pid f g → (if b
 log_kept true pid f g r = ap (λ (h : Frame). h.log) r.is ∙ sym (append-nil f.log)
 log_kept false pid f g r = sym (append-nil f.log)
 
-settled_log : (place pid : ℕ) (c : Op) (f : Frame) (o : Outcome Reply) → Relabels pid f o → Ends o Anything (λ a g. LogAfter f place pid c g) → (settled f o).frame.log ≡ f.log ++ adds f (settled f o).frame place pid c (settled f o).reply
+settled_log : (place pid : ℕ) (c : Op) (f : Frame) (o : Outcome Reply) → Relabels is_answer pid f o → Ends o Anything (λ a g. LogAfter f place pid c g) → (settled f o).frame.log ≡ f.log ++ adds f (settled f o).frame place pid c (settled f o).reply
 unfolding Ends adds
 settled_log place pid c f (Refuse r g) relabels ends = log_kept (keeps_label r) pid f g relabels
 settled_log place pid c f (Pass a g) relabels ends = adds_answered f g place pid c a relabels ends
@@ -326,7 +326,7 @@ decided_log t place pid c f = go (lives f pid)
     decision b = if b then settled f (row t place pid c f) else record { reply = reply.No refusal.NoProcess; frame = f }
 
     go : (b : Bool) → (decision b).frame.log ≡ f.log ++ adds f (decision b).frame place pid c (decision b).reply
-    go true = settled_log place pid c f (row t place pid c f) (relabels_row pid f t place c) (row_logs t place pid c f)
+    go true = settled_log place pid c f (row t place pid c f) (refusing_row t place pid c f) (row_logs t place pid c f)
     go false = sym (append-nil f.log)
 
 -- ---- steps and runs
