@@ -33,11 +33,12 @@ use Rattle.ix_model.specs.declared.reply.Reply.TheVariants as reply
 use Rattle.ix_model.proofs.Tables.{at_changed}
 use Rattle.ix_model.proofs.Keeps.{Holds, Keeps, keeping}
 use Rattle.ix_model.proofs.Ends.{Ends, Anything, ending, ends_bind, ends_then, ends_pass, ends_frame, ends_caller, ends_there, ends_kept, ends_more}
-use Rattle.ix_model.proofs.Endings.{endings}
+use Rattle.ix_model.proofs.RowEnds.{endings}
 use Rattle.ix_model.proofs.Looks.{ends_affect}
 use Rattle.ix_model.proofs.Living.{is_living}
 use Rattle.ix_model.proofs.Rowwise.{Change, Logging, Words, changes_of, kept_row}
-use Rattle.ix_model.proofs.Refusing.{Relabelled, Relabels, relabelled_itself, relabelled_observe, relabels_row}
+use Rattle.ix_model.proofs.Refusing.{Relabelled, Relabels, relabelled_itself, relabelled_observe, refusing_row}
+use Rattle.ix_model.proofs.Lasts.{decided}
 use Rattle.ix_model.proofs.Answered.{step_frame}
 
 -- ---- what an entry adds
@@ -252,12 +253,12 @@ module _ (f : Frame) (place pid : ℕ) where
   priv_logs path cap lic = search (endings, ends_sight, ends_affected, priv_done) depth 80 fits 16000
 
 -- ---- the other calls
-log_stays : Change → Bool
+abbrev pub log_stays : Change → Bool
 log_stays Logging = false
 log_stays _ = true
 
 quiet_words : (pid : ℕ) (f : Frame) → Words log_stays pid (λ g. g.log ≡ f.log)
-unfolding log_stays change_object change_process put_object put_open put_process add_process end_process Holds
+unfolding change_object change_process put_object put_open put_process add_process end_process Holds
 quiet_words pid f = record {
   object = λ o h same. record { led = λ g r. r };
   process = λ p h same. record { led = λ g r. r };
@@ -276,12 +277,19 @@ quiet_words pid f = record {
   collect = λ can p. record { led = λ g r. r };
 }
 
-quiet_logs : (t : Told) (place pid : ℕ) (c : Op) (f : Frame) → list_all log_stays (changes_of c) ≡ true → exercises f pid c ≡ false → Ends (row t place pid c f) Anything (λ a g. LogAfter f place pid c g)
+-- whether a call writes nothing into the log
+abbrev pub logs_nothing : Op → Bool
+logs_nothing c = list_all log_stays (changes_of c)
+
+quiet_row : (t : Told) (place pid : ℕ) (c : Op) (f : Frame) → logs_nothing c ≡ true → Holds (row t place pid c f) (λ g. g.log ≡ f.log)
+quiet_row t place pid c f quiet = (kept_row log_stays pid (λ g. g.log ≡ f.log) (quiet_words pid f) t place c quiet).led f refl
+
+quiet_logs : (t : Told) (place pid : ℕ) (c : Op) (f : Frame) → logs_nothing c ≡ true → exercises f pid c ≡ false → Ends (row t place pid c f) Anything (λ a g. LogAfter f place pid c g)
 quiet_logs t place pid c f quiet free =
-    ends_kept (λ g. g.log ≡ f.log) (row t place pid c f) Anything (λ a g. LogAfter f place pid c g) ((kept_row log_stays pid (λ g. g.log ≡ f.log) (quiet_words pid f) t place c quiet).led f refl) (λ r g same. tt) (λ a g same. no_line f g place pid c free same)
+    ends_kept (λ g. g.log ≡ f.log) (row t place pid c f) Anything (λ a g. LogAfter f place pid c g) (quiet_row t place pid c f quiet) (λ r g same. tt) (λ a g same. no_line f g place pid c free same)
 
 row_logs : (t : Told) (place pid : ℕ) (c : Op) (f : Frame) → Ends (row t place pid c f) Anything (λ a g. LogAfter f place pid c g)
-unfolding row exercises log_stays
+unfolding row exercises
 row_logs t place pid (op.SetLabel path now) f = label_logs f place pid path now
 row_logs t place pid (op.SetSelf now) f = self_logs f place pid now
 row_logs t place pid (op.Thaw path) f = thaw_logs f place pid path
@@ -313,7 +321,7 @@ log_kept : (b : Bool) (pid : ℕ) (f g : Frame) → Relabelled pid f g → (if b
 log_kept true pid f g r = ap (λ (h : Frame). h.log) r.is ∙ sym (append-nil f.log)
 log_kept false pid f g r = sym (append-nil f.log)
 
-settled_log : (place pid : ℕ) (c : Op) (f : Frame) (o : Outcome Reply) → Relabels pid f o → Ends o Anything (λ a g. LogAfter f place pid c g) → (settled f o).frame.log ≡ f.log ++ adds f (settled f o).frame place pid c (settled f o).reply
+settled_log : (place pid : ℕ) (c : Op) (f : Frame) (o : Outcome Reply) → Relabels is_answer pid f o → Ends o Anything (λ a g. LogAfter f place pid c g) → (settled f o).frame.log ≡ f.log ++ adds f (settled f o).frame place pid c (settled f o).reply
 unfolding Ends adds
 settled_log place pid c f (Refuse r g) relabels ends = log_kept (keeps_label r) pid f g relabels
 settled_log place pid c f (Pass a g) relabels ends = adds_answered f g place pid c a relabels ends
@@ -326,10 +334,13 @@ decided_log t place pid c f = go (lives f pid)
     decision b = if b then settled f (row t place pid c f) else record { reply = reply.No refusal.NoProcess; frame = f }
 
     go : (b : Bool) → (decision b).frame.log ≡ f.log ++ adds f (decision b).frame place pid c (decision b).reply
-    go true = settled_log place pid c f (row t place pid c f) (relabels_row pid f t place c) (row_logs t place pid c f)
+    go true = settled_log place pid c f (row t place pid c f) (refusing_row t place pid c f) (row_logs t place pid c f)
     go false = sym (append-nil f.log)
 
 -- ---- steps and runs
+pub log_stays_step : (w : World) (place pid : ℕ) (c : Op) → logs_nothing c ≡ true → (step w place pid c).world.frame.log ≡ w.frame.log
+log_stays_step w place pid c quiet = ap (λ (g : Frame). g.log) (step_frame w place pid c) ∙ decided (λ g. g.log ≡ w.frame.log) (told w pid c) place pid c w.frame refl (quiet_row (told w pid c) place pid c w.frame quiet)
+
 -- what the step of a call adds
 step_adds : World → ℕ → ℕ → Op → List AuditLine
 step_adds w place pid c = adds w.frame (step w place pid c).world.frame place pid c (step w place pid c).reply

@@ -59,7 +59,7 @@ module _ (f : Frame) where
   past_inode : (m g : Frame) (o k : ℕ) (x : Object) → PipesPast f m → free_inode m k ≡ Some o → PipesPast f g → PipesPast f (record g { objects = put g.objects o (Some x) })
   past_inode m g o k x is free r = past_objects g _ (λ n past here.
       let low : first_pipe m.fss ≤ n = rw is.fss past in
-      let apart : n ≢ o = (let b = (free_inode_is m k o free).below in let c = inodes_before m.fss k in omega (arith, low, b, c)) in
+      let apart : n ≢ o = (let b = (free_inode_is m k o free).last in let c = inodes_before m.fss k in omega (arith, low, b, c)) in
       ap is_other (get_or-set_other g.objects o n (Some x) None apart) ∙ here) r
 
   past_words : (pid : ℕ) → Words all pid (PipesPast f)

@@ -30,8 +30,8 @@ use Rattle.ix_model.specs.declared.refusal.Refusal.{Refusal}
 use Rattle.ix_model.specs.declared.refusal.Refusal.TheVariants as refusal
 use Rattle.ix_model.proofs.Tables.{change_same, change_twice}
 use Rattle.ix_model.proofs.Keeps.{Keeps, keeping}
-use Rattle.ix_model.proofs.Ends.{Ends, ending, ends_kept, kept_ends}
-use Rattle.ix_model.proofs.Endings.{endings, ends_let_go_object, ends_let_go, ends_let_go_all}
+use Rattle.ix_model.proofs.Ends.{Ends, ending, ends_more, ends_kept, kept_ends}
+use Rattle.ix_model.proofs.RowEnds.{endings, ends_let_go_object, ends_let_go, ends_let_go_all}
 use Rattle.ix_model.proofs.Looks.{ends_observe, ends_touch}
 use Rattle.ix_model.proofs.Lasts.{Lasts, lasts_relabelled}
 use Rattle.ix_model.proofs.Carrying.{carried_same}
@@ -66,13 +66,29 @@ relabelled_more pid seen f g r =
       is = ap (λ (h : Frame). let k : Frame = record h { processes = change h.processes pid joined } in k) r.is ∙ ap (λ t. let k : Frame = record f { processes = t } in k) (change_twice f.processes pid to joined);
     }
 
-abbrev pub Relabels : ℕ → Frame → Outcome Reply → Type 0
-Relabels pid f o = Ends o (λ r g. Relabelled pid f g) (λ a g. is_answer a ≡ true)
+-- an answer without bytes
+abbrev pub is_bare : Reply → Bool
+is_bare (reply.No r) = false
+is_bare (reply.Bytes k) = false
+is_bare _ = true
+
+bare_answers : (a : Reply) → is_bare a ≡ true → is_answer a ≡ true
+bare_answers (reply.No r) h = cc
+bare_answers _ h = refl
+
+-- where a row refuses the caller's label alone may have changed, and where it passes its answer has that
+abbrev pub Relabels : (Reply → Bool) → ℕ → Frame → Outcome Reply → Type 0
+Relabels has pid f o = Ends o (λ r g. Relabelled pid f g) (λ a g. has a ≡ true)
+
+-- a read alone answers bytes
+abbrev pub answer_of : Op → Reply → Bool
+answer_of (op.ReadFd fd count) = is_answer
+answer_of _ = is_bare
 
 -- what a claim is answered is an answer, and changes nothing
-ends_claimed : (other : Option ℕ) (f : Frame) (P : Refusal → Frame → Type 0) (Q : Reply → Frame → Type 0) → ((r : Refusal) → P r f) → ((a : Reply) → is_answer a ≡ true → Q a f) → Ends (claimed other f) P Q
+ends_claimed : (other : Option ℕ) (f : Frame) (P : Refusal → Frame → Type 0) (Q : Reply → Frame → Type 0) → P refusal.NoProcess f → ((a : Reply) → is_bare a ≡ true → Q a f) → Ends (claimed other f) P Q
 unfolding claimed
-ends_claimed None f P Q h k = search (ending, h, k) depth 20
+ends_claimed None f P Q h k = search (ending, k) depth 20
 ends_claimed (Some q) f P Q h k = search (ending, h, k) depth 20
 
 module _ (pid : ℕ) (f : Frame) where
@@ -97,143 +113,143 @@ module _ (pid : ℕ) (f : Frame) where
   -- ---- the rows
   ruleset refusing = (endings, ends_look, ends_walked_to, ends_touch, ends_claimed, ends_let_go_object, ends_let_go, ends_let_go_all, relabelled_itself)
 
-  relabels_make : (path : PathOf) (kind : Kind) → Relabels pid f (make pid path kind f)
+  relabels_make : (path : PathOf) (kind : Kind) → Relabels is_bare pid f (make pid path kind f)
   unfolding make missing
   relabels_make path kind = search refusing depth 80 fits 16000
 
-  relabels_link_at : (target path : PathOf) → Relabels pid f (link_at pid target path f)
+  relabels_link_at : (target path : PathOf) → Relabels is_bare pid f (link_at pid target path f)
   unfolding link_at
   relabels_link_at target path = search refusing depth 80 fits 16000
 
-  relabels_unlink_at : (path : PathOf) → Relabels pid f (unlink_at pid path f)
+  relabels_unlink_at : (path : PathOf) → Relabels is_bare pid f (unlink_at pid path f)
   unfolding unlink_at found_in
   relabels_unlink_at path = search refusing depth 80 fits 16000
 
-  relabels_remove_dir : (path : PathOf) → Relabels pid f (remove_dir pid path f)
+  relabels_remove_dir : (path : PathOf) → Relabels is_bare pid f (remove_dir pid path f)
   unfolding remove_dir found_in
   relabels_remove_dir path = search refusing depth 80 fits 16000
 
-  relabels_open_at : (path : PathOf) (mode : Mode) → Relabels pid f (open_at pid path mode f)
+  relabels_open_at : (path : PathOf) (mode : Mode) → Relabels is_bare pid f (open_at pid path mode f)
   unfolding open_at found
   relabels_open_at path mode = search refusing depth 80 fits 16000
 
-  relabels_change_dir : (path : PathOf) → Relabels pid f (change_dir pid path f)
+  relabels_change_dir : (path : PathOf) → Relabels is_bare pid f (change_dir pid path f)
   unfolding change_dir found
   relabels_change_dir path = search refusing depth 80 fits 16000
 
-  relabels_stat_at : (path : PathOf) → Relabels pid f (stat_at pid path f)
+  relabels_stat_at : (path : PathOf) → Relabels is_bare pid f (stat_at pid path f)
   unfolding stat_at found
   relabels_stat_at path = search refusing depth 80 fits 16000
 
-  relabels_list_at : (path : PathOf) (index : ℕ) → Relabels pid f (list_at pid path index f)
+  relabels_list_at : (path : PathOf) (index : ℕ) → Relabels is_bare pid f (list_at pid path index f)
   unfolding list_at found
   relabels_list_at path index = search refusing depth 80 fits 16000
 
-  relabels_read_fd : (t : Told) (fd count : ℕ) → Relabels pid f (read_fd t pid fd count f)
+  relabels_read_fd : (t : Told) (fd count : ℕ) → Relabels is_answer pid f (read_fd t pid fd count f)
   unfolding read_fd
   relabels_read_fd t fd count = search refusing depth 80 fits 16000
 
-  relabels_write_fd : (t : Told) (fd : ℕ) → Relabels pid f (write_fd t pid fd f)
+  relabels_write_fd : (t : Told) (fd : ℕ) → Relabels is_bare pid f (write_fd t pid fd f)
   unfolding write_fd
   relabels_write_fd t fd = search refusing depth 80 fits 16000
 
-  relabels_cut_fd : (t : Told) (fd len : ℕ) → Relabels pid f (cut_fd t pid fd len f)
+  relabels_cut_fd : (t : Told) (fd len : ℕ) → Relabels is_bare pid f (cut_fd t pid fd len f)
   unfolding cut_fd
   relabels_cut_fd t fd len = search refusing depth 80 fits 16000
 
-  relabels_seek_fd : (fd offset : ℕ) → Relabels pid f (seek_fd pid fd offset f)
+  relabels_seek_fd : (fd offset : ℕ) → Relabels is_bare pid f (seek_fd pid fd offset f)
   unfolding seek_fd
   relabels_seek_fd fd offset = search refusing depth 80 fits 16000
 
-  relabels_dup_fd : (fd : ℕ) → Relabels pid f (dup_fd pid fd f)
+  relabels_dup_fd : (fd : ℕ) → Relabels is_bare pid f (dup_fd pid fd f)
   unfolding dup_fd
   relabels_dup_fd fd = search refusing depth 80 fits 16000
 
-  relabels_close_fd : (fd : ℕ) → Relabels pid f (close_fd pid fd f)
+  relabels_close_fd : (fd : ℕ) → Relabels is_bare pid f (close_fd pid fd f)
   unfolding close_fd
   relabels_close_fd fd = search refusing depth 80 fits 16000
 
-  relabels_make_pipe : Relabels pid f (make_pipe pid f)
+  relabels_make_pipe : Relabels is_bare pid f (make_pipe pid f)
   unfolding make_pipe
   relabels_make_pipe = search refusing depth 80 fits 16000
 
-  relabels_pex : (fd : ℕ) → Relabels pid f (pex pid fd f)
+  relabels_pex : (fd : ℕ) → Relabels is_bare pid f (pex pid fd f)
   unfolding pex
   relabels_pex fd = search refusing depth 80 fits 16000
 
-  relabels_unpex : (fd : ℕ) → Relabels pid f (unpex pid fd f)
+  relabels_unpex : (fd : ℕ) → Relabels is_bare pid f (unpex pid fd f)
   unfolding unpex
   relabels_unpex fd = search refusing depth 80 fits 16000
 
-  relabels_fork : (keep : Keep) → Relabels pid f (fork pid keep f)
+  relabels_fork : (keep : Keep) → Relabels is_bare pid f (fork pid keep f)
   unfolding fork
   relabels_fork keep = search refusing depth 80 fits 16000
 
-  relabels_exec : (path : PathOf) → Relabels pid f (exec pid path f)
+  relabels_exec : (path : PathOf) → Relabels is_bare pid f (exec pid path f)
   unfolding exec found
   relabels_exec path = search refusing depth 80 fits 16000
 
-  relabels_exit : Relabels pid f (exit pid f)
+  relabels_exit : Relabels is_bare pid f (exit pid f)
   unfolding exit
   relabels_exit = search refusing depth 80 fits 16000
 
-  relabels_wait_child : Relabels pid f (wait_child pid f)
+  relabels_wait_child : Relabels is_bare pid f (wait_child pid f)
   unfolding wait_child
   relabels_wait_child = search refusing depth 80 fits 16000
 
-  relabels_label_of : (path : PathOf) → Relabels pid f (label_of pid path f)
+  relabels_label_of : (path : PathOf) → Relabels is_bare pid f (label_of pid path f)
   unfolding label_of found
   relabels_label_of path = search refusing depth 80 fits 16000
 
-  relabels_self_label : Relabels pid f (self_label pid f)
+  relabels_self_label : Relabels is_bare pid f (self_label pid f)
   unfolding self_label
   relabels_self_label = search refusing depth 80 fits 16000
 
-  relabels_set_label : (place : ℕ) (path : PathOf) (now : Categories) → Relabels pid f (set_label place pid path now f)
+  relabels_set_label : (place : ℕ) (path : PathOf) (now : Categories) → Relabels is_bare pid f (set_label place pid path now f)
   unfolding set_label found
   relabels_set_label place path now = search refusing depth 80 fits 16000
 
-  relabels_set_self : (place : ℕ) (now : Categories) → Relabels pid f (set_self place pid now f)
+  relabels_set_self : (place : ℕ) (now : Categories) → Relabels is_bare pid f (set_self place pid now f)
   unfolding set_self
   relabels_set_self place now = search refusing depth 80 fits 16000
 
-  relabels_freeze : (path : PathOf) → Relabels pid f (freeze pid path f)
+  relabels_freeze : (path : PathOf) → Relabels is_bare pid f (freeze pid path f)
   unfolding freeze found
   relabels_freeze path = search refusing depth 80 fits 16000
 
-  relabels_freeze_self : Relabels pid f (freeze_self pid f)
+  relabels_freeze_self : Relabels is_bare pid f (freeze_self pid f)
   unfolding freeze_self
   relabels_freeze_self = search refusing depth 80 fits 16000
 
-  relabels_thaw : (place : ℕ) (path : PathOf) → Relabels pid f (thaw place pid path f)
+  relabels_thaw : (place : ℕ) (path : PathOf) → Relabels is_bare pid f (thaw place pid path f)
   unfolding thaw found
   relabels_thaw place path = search refusing depth 80 fits 16000
 
-  relabels_thaw_self : (place : ℕ) → Relabels pid f (thaw_self place pid f)
+  relabels_thaw_self : (place : ℕ) → Relabels is_bare pid f (thaw_self place pid f)
   unfolding thaw_self
   relabels_thaw_self place = search refusing depth 80 fits 16000
 
-  relabels_set_priv : (place : ℕ) (path : PathOf) (cap lic : PrivSet) → Relabels pid f (set_priv place pid path cap lic f)
+  relabels_set_priv : (place : ℕ) (path : PathOf) (cap lic : PrivSet) → Relabels is_bare pid f (set_priv place pid path cap lic f)
   unfolding set_priv found
   relabels_set_priv place path cap lic = search refusing depth 80 fits 16000
 
-  relabels_drop_lic : (set : PrivSet) → Relabels pid f (drop_lic pid set f)
+  relabels_drop_lic : (set : PrivSet) → Relabels is_bare pid f (drop_lic pid set f)
   unfolding drop_lic
   relabels_drop_lic set = search refusing depth 80 fits 16000
 
-  relabels_grant_lic : (place target : ℕ) (set : PrivSet) → Relabels pid f (grant_lic place pid target set f)
+  relabels_grant_lic : (place target : ℕ) (set : PrivSet) → Relabels is_bare pid f (grant_lic place pid target set f)
   unfolding grant_lic
   relabels_grant_lic place target set = search refusing depth 80 fits 16000
 
-  relabels_set_ceiling : (place target : ℕ) (now : Categories) → Relabels pid f (set_ceiling place pid target now f)
+  relabels_set_ceiling : (place target : ℕ) (now : Categories) → Relabels is_bare pid f (set_ceiling place pid target now f)
   unfolding set_ceiling
   relabels_set_ceiling place target now = search refusing depth 80 fits 16000
 
-  relabels_read_log : (place index : ℕ) → Relabels pid f (read_log place pid index f)
+  relabels_read_log : (place index : ℕ) → Relabels is_bare pid f (read_log place pid index f)
   unfolding read_log
   relabels_read_log place index = search refusing depth 80 fits 16000
 
-  pub relabels_row : (t : Told) (place : ℕ) (c : Op) → Relabels pid f (row t place pid c f)
+  pub relabels_row : (t : Told) (place : ℕ) (c : Op) → Relabels (answer_of c) pid f (row t place pid c f)
   unfolding row create_at make_dir
   relabels_row t place (op.CreateAt path) = relabels_make path kind.File
   relabels_row t place (op.OpenAt path mode) = relabels_open_at path mode
@@ -271,6 +287,14 @@ module _ (pid : ℕ) (f : Frame) where
   relabels_row t place (op.Unpex fd) = relabels_unpex fd
   relabels_row t place (op.ReadLog index) = relabels_read_log place index
 
+answers_of : (c : Op) (a : Reply) → answer_of c a ≡ true → is_answer a ≡ true
+answers_of (op.ReadFd fd count) a h = h
+answers_of c a h = bare_answers a h
+
+-- no row passes a refusal
+pub refusing_row : (t : Told) (place pid : ℕ) (c : Op) (f : Frame) → Relabels is_answer pid f (row t place pid c f)
+refusing_row t place pid c f = ends_more (row t place pid c f) (λ r g. Relabelled pid f g) (λ a g. answer_of c a ≡ true) (λ a g. is_answer a ≡ true) (relabels_row pid f t place c) (λ a g h. answers_of c a h)
+
 -- ---- the decision
 -- what a refusing decision leaves of the frame
 pub record Frames (pid : ℕ) (f : Frame) (r : Refusal) (g : Frame) : Type 0 where
@@ -284,7 +308,7 @@ frames_of pid f g r h = go (keeps_label r) refl
     go true keeps = record { relabelled = h; kept = λ k. absurd (true≢false (sym keeps ∙ k)) }
     go false keeps = record { relabelled = relabelled_itself pid f; kept = λ k. refl }
 
-settled_frames : (pid : ℕ) (f : Frame) (o : Outcome Reply) (r : Refusal) → Relabels pid f o → (settled f o).reply ≡ reply.No r → Frames pid f r (settled f o).frame
+settled_frames : (pid : ℕ) (f : Frame) (o : Outcome Reply) (r : Refusal) → Relabels is_answer pid f o → (settled f o).reply ≡ reply.No r → Frames pid f r (settled f o).frame
 unfolding Ends
 settled_frames pid f (Refuse why g) r h is =
     let same : why ≡ r = cc in
@@ -299,7 +323,7 @@ decided_frames t place pid c f r is = go (lives f pid) is
     unknown = record { reply = reply.No refusal.NoProcess; frame = f }
 
     go : (b : Bool) → (if b then settled f (row t place pid c f) else unknown).reply ≡ reply.No r → Frames pid f r (if b then settled f (row t place pid c f) else unknown).frame
-    go true h = settled_frames pid f (row t place pid c f) r (relabels_row pid f t place c) h
+    go true h = settled_frames pid f (row t place pid c f) r (refusing_row t place pid c f) h
     go false h = record { relabelled = relabelled_itself pid f; kept = λ k. refl }
 
 -- ---- the step

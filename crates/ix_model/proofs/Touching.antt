@@ -165,7 +165,7 @@ module _ (pid : ℕ) (f : Frame) where
       go (Some x) is = absurd (true≢false (sym (lasting.stays o (ap is_some is)) ∙ ap is_some free))
 
   fresh_inode : (g : Frame) (k o : ℕ) → Staying g → free_inode g k ≡ Some o → at f.objects o ≡ None
-  fresh_inode g k o r free = fresh g o r.lasting (free_inode_is g k o free).free.none
+  fresh_inode g k o r free = fresh g o r.lasting (free_inode_is g k o free).free
 
   loses_none : Change → Bool
   loses_none Relabelling = false
@@ -190,7 +190,7 @@ module _ (pid : ℕ) (f : Frame) where
     claim = λ can o h same. record { led = λ g. staying_object g o h (λ x. ap (λ y. y.label) (same x)) };
     log = λ can l. record { led = λ g r. record { steady = record { objects = r.steady.objects; processes = r.steady.processes; grown = r.steady.grown }; lasting = r.lasting } };
     inode = λ can m o k kind is free. record { led = λ g. staying_new g o _ (fresh_inode m k o is free) };
-    pipe = λ can m o is free. record { led = λ g. staying_new g o _ (fresh m o is.lasting (free_pipe_is m o free).none) };
+    pipe = λ can m o is free. record { led = λ g. staying_new g o _ (fresh m o is.lasting (free_pipe_is m o free).free) };
     gone_object = λ can. cc;
     gone_open = λ can. cc;
     fork = λ can p. record { led = λ g r. record { steady = steady_fork g p r.steady; lasting = r.lasting } };

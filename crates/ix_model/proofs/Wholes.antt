@@ -25,7 +25,7 @@ use Rattle.ix_model.specs.declared.reply.Reply.TheVariants as reply
 use Rattle.ix_model.specs.declared.refusal.Refusal.{Refusal}
 use Rattle.ix_model.proofs.Keeps.{Holds, Keeps}
 use Rattle.ix_model.proofs.Ends.{Ends, Anything}
-use Rattle.ix_model.proofs.Endings.{endings}
+use Rattle.ix_model.proofs.RowEnds.{endings}
 use Rattle.ix_model.proofs.Lasts.{decided}
 use Rattle.ix_model.proofs.Rowwise.{Change, Claiming, Words, changes_of, kept_row}
 use Rattle.ix_model.proofs.Refusing.{decided_frames}
