@@ -11,7 +11,7 @@ use Rattle.ix_model.specs.World.{World}
 use Rattle.ix_model.specs.declared.call.Mode.TheVariants as mode
 use Rattle.ix_model.specs.declared.refusal.Refusal.TheVariants as refusal
 use Rattle.ix_model.specs.declared.reply.Reply.TheVariants as reply
-use Rattle.ix_worked.specs.OnDescriptors.{desk, copying, long_desk, using_none, using_none_gives, reading_a_writer, reading_a_writer_gives, writing_a_reader, writing_a_reader_gives, going_too_far, going_too_far_gives, claiming_a_file, claiming_a_file_gives, cutting_a_pipe, cutting_a_pipe_gives, letting_go, letting_go_gives, using_all, using_all_gives, opening_all, opening_all_gives, making_pipes, making_pipes_gives, reading_nothing, reading_nothing_gives, writing_into_a_broken_pipe, writing_into_a_broken_pipe_gives, claiming_both, claiming_both_gives}
+use Rattle.ix_worked.specs.OnDescriptors.{desk, copying, long_desk, using_none, using_none_gives, reading_a_writer, reading_a_writer_gives, writing_a_reader, writing_a_reader_gives, going_too_far, going_too_far_gives, claiming_a_file, claiming_a_file_gives, cutting_a_pipe, cutting_a_pipe_gives, letting_go, letting_go_gives, using_all, using_all_gives, opening_all, opening_all_gives, making_pipes, making_pipes_gives, reading_nothing, reading_nothing_gives, writing_into_a_broken_pipe, writing_into_a_broken_pipe_gives, claiming_both, claiming_both_gives, closing_a_claimed_end, closing_a_claimed_end_gives, writing_in_the_middle, writing_in_the_middle_gives, using_numbers_again, using_numbers_again_gives}
 use Rattle.ix_worked.specs.Scripts.{in_root, by}
 use Rattle.ix_worked.specs.Sessions.{line_of, lines_of, answers}
 use Rattle.ix_worked.proofs.Chains.{number, bytes, refused, answered, done, lines_more, answers_given}
@@ -68,6 +68,30 @@ other_end = without_entry 1 (with_fd 1 1 None piped)
 whole : World
 whole = claimed_by 4 (Some 1) (Some 1) piped
 
+handed : World
+handed = with_child 1 piped
+
+handed_half : World
+handed_half = claimed_by 4 (Some 1) None handed
+
+handed_copy : World
+handed_copy = with_fd 1 2 (Some 0) handed_half
+
+one_left : World
+one_left = with_fd 1 0 None handed_copy
+
+none_left : World
+none_left = with_fd 1 0 None handed
+
+spliced : World
+spliced = moved 0 2 (holding 1 (codes "aXc") [] both)
+
+shorter : World
+shorter = moved 0 2 (holding 1 (codes "aX") [] both)
+
+longer : World
+longer = moved 0 2 (holding 1 (97 ∷ 88 ∷ 0 ∷ 0 ∷ []) [] both)
+
 at_long_desk : World
 at_long_desk = opening_world long_desk
 
@@ -79,7 +103,7 @@ all_used = with_process 1 (λ p. record p { fds = replicate 32 (Some 0) }) long_
 
 -- opens all of them
 worlds : ℕ
-unfolding at_desk reading writing both far piped half shared three_open all_open one_end other_end whole at_long_desk long_reading all_used
+unfolding at_desk reading writing both far piped half shared three_open all_open one_end other_end whole handed handed_half handed_copy one_left none_left spliced shorter longer at_long_desk long_reading all_used
 worlds = 0
 
 -- ---- the histories
@@ -235,3 +259,51 @@ claiming_both_ran = answers_given desk claiming_both
     ∷ bytes whole (codes "y")
     ∷ [])
     (refl, (refl, (simp labels refl, (refl, (simp labels refl, (simp labels refl, (refl, (simp labels refl, tt))))))))
+
+pub closing_a_claimed_end_ran : answers desk closing_a_claimed_end ≡ closing_a_claimed_end_gives
+unfolding running worlds
+closing_a_claimed_end_ran = answers_given desk closing_a_claimed_end
+    (answered piped (reply.Two (record { 0 = 0 }) (record { 0 = 1 }))
+    ∷ number handed 2
+    ∷ answered handed_half reply.Half
+    ∷ number handed_copy 2
+    ∷ done one_left
+    ∷ refused one_left refusal.PexHeld
+    ∷ done none_left
+    ∷ number (holding 4 [] (codes "x") none_left) 1
+    ∷ [])
+    (refl, (refl, (refl, (refl, (refl, (refl, (refl, (simp labels refl, tt))))))))
+
+pub writing_in_the_middle_ran : answers desk writing_in_the_middle ≡ writing_in_the_middle_gives
+unfolding running worlds
+writing_in_the_middle_ran = answers_given desk writing_in_the_middle
+    (number both 0
+    ∷ done (moved 0 1 both)
+    ∷ number spliced 1
+    ∷ done shorter
+    ∷ done longer
+    ∷ bytes (moved 0 4 longer) (0 ∷ 0 ∷ [])
+    ∷ done (moved 0 9 longer)
+    ∷ number (moved 0 9 longer) 0
+    ∷ done (moved 0 0 longer)
+    ∷ bytes (moved 0 4 longer) (97 ∷ 88 ∷ 0 ∷ 0 ∷ [])
+    ∷ [])
+    (simp labels refl, (refl, (simp labels refl, (simp labels refl, (simp labels refl, (simp labels refl, (refl, (simp labels refl, (refl, (simp labels refl, tt))))))))))
+
+pub using_numbers_again_ran : answers desk using_numbers_again ≡ using_numbers_again_gives
+unfolding running worlds
+using_numbers_again_ran = answers_given desk using_numbers_again
+    (number reading 0
+    ∷ bytes (moved 0 2 reading) (codes "ab")
+    ∷ done at_desk
+    ∷ number reading 0
+    ∷ bytes (moved 0 3 reading) (codes "abc")
+    ∷ done at_desk
+    ∷ answered piped (reply.Two (record { 0 = 0 }) (record { 0 = 1 }))
+    ∷ number (holding 4 [] (codes "x") piped) 1
+    ∷ done (holding 4 [] (codes "x") one_end)
+    ∷ done at_desk
+    ∷ answered piped (reply.Two (record { 0 = 0 }) (record { 0 = 1 }))
+    ∷ refused piped refusal.Again
+    ∷ [])
+    (simp labels refl, (simp labels refl, (refl, (simp labels refl, (simp labels refl, (refl, (refl, (simp labels refl, (refl, (refl, (refl, (simp labels refl, tt))))))))))))

@@ -1,6 +1,8 @@
 -- The short histories of the calls on labels, privileges, ceilings and the log, entry by entry.
-use Rattle.std.proofs.Common.{◌≡◌, ℕ, true, false, List, [], ◌∷◌, ◌++◌, ◌∙◌, replicate, refl}
-use Rattle.ix_label.specs.Category.{bottom}
+use Rattle.std.proofs.Common.{◌≡◌, ℕ, true, false, List, [], ◌∷◌, ◌++◌, ◌∙◌, Some, replicate, refl, codes}
+use Rattle.ix_label.specs.Category.{bottom, top}
+use Rattle.ix_model.specs.Directories.{with_name}
+use Rattle.ix_model.specs.OnPaths.{new_object}
 use Rattle.ix_model.specs.Opening.{opening_world}
 use Rattle.ix_model.specs.Privs.{to_lower, to_thaw, to_read_the_log, no_privileges}
 use Rattle.ix_model.specs.Step.{Given}
@@ -11,13 +13,13 @@ use Rattle.ix_model.specs.declared.call.Mode.TheVariants as mode
 use Rattle.ix_model.specs.declared.refusal.Refusal.TheVariants as refusal
 use Rattle.ix_model.specs.declared.reply.Kind.TheVariants as kind
 use Rattle.ix_model.specs.declared.reply.Reply.TheVariants as reply
-use Rattle.ix_worked.specs.OnLabels.{levels, no_lines, officers, heights, holding_down, holding_down_gives, setting_labels, setting_labels_gives, setting_ceilings, setting_ceilings_gives, freezing, freezing_gives, acting_without_a_line, acting_without_a_line_gives, acting, acting_gives, acting_log, finding_what_is_high, finding_what_is_high_gives}
+use Rattle.ix_worked.specs.OnLabels.{levels, no_lines, officers, heights, pair, chest, holding_down, holding_down_gives, setting_labels, setting_labels_gives, setting_ceilings, setting_ceilings_gives, freezing, freezing_gives, acting_without_a_line, acting_without_a_line_gives, acting, acting_gives, acting_log, finding_what_is_high, finding_what_is_high_gives, looking_into_an_empty_pipe, looking_into_an_empty_pipe_gives, making_names_high, making_names_high_gives, raising_ceilings, raising_ceilings_gives, raising_ceilings_log}
 use Rattle.ix_worked.specs.Scripts.{three, five, log_line}
 use Rattle.ix_worked.specs.Sessions.{log_of, answers}
-use Rattle.ix_worked.proofs.Chains.{Gives, number, refused, answered, done, log_given, answers_given}
+use Rattle.ix_worked.proofs.Chains.{Gives, number, bytes, refused, answered, done, log_given, answers_given}
 use Rattle.ix_worked.proofs.Computing.{running, auditing, fitting}
 use Rattle.ix_worked.proofs.Labels.{labels}
-use Rattle.ix_worked.proofs.Worlds.{with_process, with_object, with_line, floated, raised, opened, with_entry, with_child}
+use Rattle.ix_worked.proofs.Worlds.{with_process, with_object, with_line, floated, raised, opened, with_entry, with_new, with_pipe, with_child}
 
 -- ---- the configs are valid
 pub levels_fits : is_valid levels ≡ true
@@ -35,6 +37,14 @@ officers_fits = simp labels refl
 pub heights_fits : is_valid heights ≡ true
 unfolding fitting
 heights_fits = simp labels refl
+
+pub pair_fits : is_valid pair ≡ true
+unfolding fitting
+pair_fits = simp labels refl
+
+pub chest_fits : is_valid chest ≡ true
+unfolding fitting
+chest_fits = simp labels refl
 
 -- ---- the worlds that they come to
 at_levels : World
@@ -97,6 +107,39 @@ lowered = with_line (log_line 12 1 act.DownSelf 1 three bottom) (floated 1 botto
 dropped : World
 dropped = with_process 1 (λ p. record p { cap = no_privileges; lic = record { 0 = 30 } }) lowered
 
+at_pair : World
+at_pair = opening_world pair
+
+pair_piped : World
+pair_piped = with_pipe 1 4 0 1 0 1 at_pair
+
+two_there : World
+two_there = with_child 1 pair_piped
+
+secret_open : World
+secret_open = with_entry 2 2 2 (opened 1 mode.Read) two_there
+
+child_high : World
+child_high = floated 2 five secret_open
+
+pipe_high : World
+pipe_high = raised 4 five child_high
+
+at_chest : World
+at_chest = opening_world chest
+
+chest_filed : World
+chest_filed = raised 1 three (with_object 1 (with_name (codes "x") 2) (with_new 2 (Some (new_object kind.File (Some 0))) at_chest))
+
+chest_closed : World
+chest_closed = with_object 1 (λ x. record x { frozen = true }) chest_filed
+
+ceiling_low : World
+ceiling_low = with_line (log_line 1 1 act.Ceiling 2 top three) (with_process 2 (λ p. record p { ceiling = three }) at_officers)
+
+ceiling_high : World
+ceiling_high = with_line (log_line 2 1 act.Ceiling 2 three top) (with_process 2 (λ p. record p { ceiling = top }) ceiling_low)
+
 at_heights : World
 at_heights = opening_world heights
 
@@ -123,7 +166,7 @@ d_high = with_process 4 (λ p. record p { label = five }) c_high
 
 -- opens all of them
 worlds : ℕ
-unfolding at_levels opened_high held_down raised_file frozen_file lower forked child_low grandchild at_no_lines stiff at_officers stopped thawed given granted read_it executed lowered dropped at_heights high_open gone_there frozen_high a_high b_high c_high d_high
+unfolding at_levels opened_high held_down raised_file frozen_file lower forked child_low grandchild at_no_lines stiff at_officers stopped thawed given granted read_it executed lowered dropped at_pair pair_piped two_there secret_open child_high pipe_high at_chest chest_filed chest_closed ceiling_low ceiling_high at_heights high_open gone_there frozen_high a_high b_high c_high d_high
 worlds = 0
 
 -- ---- the histories
@@ -231,3 +274,47 @@ finding_what_is_high_ran = answers_given heights finding_what_is_high
     ∷ refused d_high refusal.InUse
     ∷ [])
     (simp labels refl, (simp labels refl, (simp labels refl, (simp labels refl, (simp labels refl, (simp labels refl, (simp labels refl, (simp labels refl, (simp labels refl, (simp labels refl, (simp labels refl, (simp labels refl, (simp labels refl, tt)))))))))))))
+
+pub looking_into_an_empty_pipe_ran : answers pair looking_into_an_empty_pipe ≡ looking_into_an_empty_pipe_gives
+unfolding running worlds
+looking_into_an_empty_pipe_ran = answers_given pair looking_into_an_empty_pipe
+    (answered pair_piped (reply.Two (record { 0 = 0 }) (record { 0 = 1 }))
+    ∷ number two_there 2
+    ∷ number secret_open 2
+    ∷ bytes child_high []
+    ∷ number pipe_high 0
+    ∷ refused (floated 1 five pipe_high) refusal.Again
+    ∷ [])
+    (refl, (refl, (simp labels refl, (simp labels refl, (simp labels refl, (simp labels refl, tt))))))
+
+pub making_names_high_ran : answers chest making_names_high ≡ making_names_high_gives
+unfolding running worlds
+making_names_high_ran = answers_given chest making_names_high
+    (number chest_filed 2
+    ∷ answered chest_filed (reply.Lab three)
+    ∷ answered chest_filed (reply.Lab bottom)
+    ∷ done chest_closed
+    ∷ refused chest_closed refusal.FileFrozen
+    ∷ refused chest_closed refusal.FileFrozen
+    ∷ number (with_object 1 (with_name (codes "y") 3) (with_new 3 (Some (new_object kind.File (Some 0))) chest_closed)) 3
+    ∷ [])
+    (simp labels refl, (simp labels refl, (simp labels refl, (simp labels refl, (simp labels refl, (simp labels refl, (simp labels refl, tt)))))))
+
+abbrev raising_ceilings_given : List Given
+raising_ceilings_given =
+    done ceiling_low
+    ∷ done ceiling_high
+    ∷ done (with_process 1 (λ p. record p { ceiling = three }) ceiling_high)
+    ∷ []
+
+raising_ceilings_steps : Gives (opening_world officers) 1 raising_ceilings raising_ceilings_given
+unfolding running worlds
+raising_ceilings_steps = (simp labels refl, (simp labels refl, (simp labels refl, tt)))
+
+pub raising_ceilings_ran : answers officers raising_ceilings ≡ raising_ceilings_gives
+unfolding running worlds
+raising_ceilings_ran = answers_given officers raising_ceilings raising_ceilings_given raising_ceilings_steps
+
+pub raising_ceilings_logged : log_of officers raising_ceilings ≡ raising_ceilings_log
+unfolding running auditing worlds
+raising_ceilings_logged = log_given officers (opening_world officers) raising_ceilings raising_ceilings_given refl raising_ceilings_steps ∙ simp labels refl

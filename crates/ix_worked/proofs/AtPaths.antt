@@ -10,7 +10,7 @@ use Rattle.ix_model.specs.declared.call.Mode.TheVariants as mode
 use Rattle.ix_model.specs.declared.refusal.Refusal.TheVariants as refusal
 use Rattle.ix_model.specs.declared.reply.Kind.TheVariants as kind
 use Rattle.ix_model.specs.declared.reply.Reply.TheVariants as reply
-use Rattle.ix_worked.specs.OnPaths.{shelves, full, seeking, seeking_gives, looking_into_a_file, looking_into_a_file_gives, using_a_directory, using_a_directory_gives, making_again, making_again_gives, crossing, crossing_gives, removing_a_home, removing_a_home_gives, making_files, making_files_gives, making_names, making_names_gives, asking_for_objects, asking_for_objects_gives, unlinking_an_open_file, unlinking_an_open_file_gives}
+use Rattle.ix_worked.specs.OnPaths.{shelves, full, tight, seeking, seeking_gives, looking_into_a_file, looking_into_a_file_gives, using_a_directory, using_a_directory_gives, making_again, making_again_gives, crossing, crossing_gives, removing_a_home, removing_a_home_gives, making_files, making_files_gives, making_names, making_names_gives, asking_for_objects, asking_for_objects_gives, unlinking_an_open_file, unlinking_an_open_file_gives, working_in_a_directory, working_in_a_directory_gives, sharing_blocks, sharing_blocks_gives}
 use Rattle.ix_worked.specs.Sessions.{answers}
 use Rattle.ix_worked.proofs.Chains.{number, bytes, refused, answered, done, answers_given}
 use Rattle.ix_worked.proofs.Computing.{running, fitting}
@@ -25,6 +25,10 @@ shelves_fits = simp labels refl
 pub full_fits : is_valid full ≡ true
 unfolding fitting
 full_fits = simp labels refl
+
+pub tight_fits : is_valid tight ≡ true
+unfolding fitting
+tight_fits = simp labels refl
 
 -- ---- the worlds that they come to
 at_shelves : World
@@ -66,9 +70,30 @@ read_all = moved 0 3 beside
 gone : World
 gone = without_entry 0 (with_fd 1 0 None (holding 1 [] [] (with_new 1 None read_all)))
 
+reused : World
+reused = with_object 0 (with_name (codes "k") 1) (with_new 1 (Some (new_object kind.File (Some 0))) gone)
+
+kept : World
+kept = with_object 2 (with_name (codes "x") 3) (with_new 3 (Some (new_object kind.File (Some 0))) in_d)
+
+at_tight : World
+at_tight = opening_world tight
+
+tight_open : World
+tight_open = with_entry 1 0 0 (opened 2 mode.Write) at_tight
+
+tight_full : World
+tight_full = moved 0 512 (holding 2 (replicate 512 65) [] tight_open)
+
+tight_new : World
+tight_new = with_object 4 (with_name (codes "k") 5) (with_new 5 (Some (new_object kind.File (Some 1))) tight_full)
+
+tight_both : World
+tight_both = with_entry 1 1 1 (opened 5 mode.Write) tight_new
+
 -- opens all of them
 worlds : ℕ
-unfolding at_shelves in_d without_d with_a with_b at_full one_less linked reading nameless beside read_all gone
+unfolding at_shelves in_d without_d with_a with_b at_full one_less linked reading nameless beside read_all gone reused kept at_tight tight_open tight_full tight_new tight_both
 worlds = 0
 
 -- ---- the histories
@@ -158,6 +183,33 @@ unlinking_an_open_file_ran = answers_given shelves unlinking_an_open_file
     ∷ number beside 3
     ∷ bytes read_all (codes "abc")
     ∷ done gone
-    ∷ number (with_object 0 (with_name (codes "k") 1) (with_new 1 (Some (new_object kind.File (Some 0))) gone)) 1
+    ∷ number reused 1
+    ∷ number (with_entry 1 0 0 (opened 1 mode.Read) reused) 0
+    ∷ bytes (with_entry 1 0 0 (opened 1 mode.Read) reused) []
     ∷ [])
-    (simp labels refl, (simp labels refl, (simp labels refl, (simp labels refl, (simp labels refl, (refl, (simp labels refl, tt)))))))
+    (simp labels refl, (simp labels refl, (simp labels refl, (simp labels refl, (simp labels refl, (refl, (simp labels refl, (simp labels refl, (simp labels refl, tt)))))))))
+
+pub working_in_a_directory_ran : answers shelves working_in_a_directory ≡ working_in_a_directory_gives
+unfolding running worlds
+working_in_a_directory_ran = answers_given shelves working_in_a_directory
+    (done in_d
+    ∷ number kept 3
+    ∷ answered kept (reply.Stat (record { 0 = 3 }) kind.File 0 1 false no_privileges no_privileges)
+    ∷ refused kept refusal.NotFound
+    ∷ refused kept refusal.NotEmpty
+    ∷ done in_d
+    ∷ [])
+    (simp labels refl, (simp labels refl, (simp labels refl, (simp labels refl, (simp labels refl, (simp labels refl, tt))))))
+
+pub sharing_blocks_ran : answers tight sharing_blocks ≡ sharing_blocks_gives
+unfolding running worlds
+sharing_blocks_ran = answers_given tight sharing_blocks
+    (number tight_open 0
+    ∷ refused tight_open refusal.NoSpace
+    ∷ number tight_full 512
+    ∷ number tight_new 5
+    ∷ number tight_both 1
+    ∷ refused tight_both refusal.NoSpace
+    ∷ number (moved 1 512 (holding 5 (replicate 512 65) [] tight_both)) 512
+    ∷ [])
+    (simp labels refl, (refl, (simp labels refl, (simp labels refl, (simp labels refl, (refl, (simp labels refl, tt)))))))

@@ -39,6 +39,9 @@ leq-more s q = has-leq s _ (λ p one. has-with s q p ∙ or_right (p == q) _ one
 pub join-more : (s : Categories) (q : ℕ) → join s (with s q) ≡ with s q
 join-more s q = join-comm s _ ∙ join-absorbs s _ (leq-more s q)
 
+pub join-less : (s : Categories) (q : ℕ) → join (with s q) s ≡ with s q
+join-less s q = join-absorbs s _ (leq-more s q)
+
 same-with_one : (s : Categories) (q p : ℕ) → (q == p) ≡ false → same (with s q) (with bottom p) ≡ false
 unfolding same
 same-with_one s q p differ = ap (λ b. b && leq (with bottom p) (with s q)) (leq-with_one s q p differ)
@@ -84,4 +87,4 @@ same-three_three_and_five = ap (λ b. b && leq three_and_five three) (leq-more t
 
 pub ruleset tops = (leq-three_top, leq-four_top, leq-five_top, leq-seven_top, leq-three_and_five_top, leq-two_and_five_top)
 
-pub ruleset labels = (join-bottom, join-bottom_right, join-idem, join-more, leq-refl, bottom-leq, leq-with_bottom, same-refl, same-with_bottom, same-bottom_with, tops, leq-seven_five, leq-three_five, leq-top_three, leq-more, same-three_and_five_three, same-three_three_and_five)
+pub ruleset labels = (join-bottom, join-bottom_right, join-idem, join-more, join-less, leq-refl, bottom-leq, leq-with_bottom, same-refl, same-with_bottom, same-bottom_with, tops, leq-seven_five, leq-three_five, leq-top_three, leq-more, same-three_and_five_three, same-three_three_and_five)

@@ -269,3 +269,90 @@ claiming_both_gives =
     ∷ gives (reply.Whole (record { 0 = 1 }) bottom no_privileges) [] bottom
     ∷ gives (reply.Bytes 1) (codes "y") bottom
     ∷ []
+
+-- the child is let in once the last is closed
+abbrev pub closing_a_claimed_end : List Event
+closing_a_claimed_end =
+    by 1 op.MakePipe
+    ∷ by 1 (op.Fork keep.All)
+    ∷ by 1 (op.Pex 0)
+    ∷ by 1 (op.DupFd 0)
+    ∷ by 1 (op.CloseFd 0)
+    ∷ by 2 (op.WriteFd 0 (codes "x"))
+    ∷ by 1 (op.CloseFd 2)
+    ∷ by 2 (op.WriteFd 0 (codes "x"))
+    ∷ []
+
+abbrev pub closing_a_claimed_end_gives : List Line
+closing_a_claimed_end_gives =
+    gives (reply.Two (record { 0 = 0 }) (record { 0 = 1 })) [] bottom
+    ∷ gives (reply.Number 2) [] bottom
+    ∷ gives reply.Half [] bottom
+    ∷ gives (reply.Number 2) [] bottom
+    ∷ gives reply.Done [] bottom
+    ∷ refuses refusal.PexHeld bottom
+    ∷ gives reply.Done [] bottom
+    ∷ gives (reply.Number 1) [] bottom
+    ∷ []
+
+-- the file has three bytes, then two, then four
+abbrev pub writing_in_the_middle : List Event
+writing_in_the_middle =
+    by 1 (op.OpenAt (in_root (codes "n")) mode.Both)
+    ∷ by 1 (op.SeekFd 0 1)
+    ∷ by 1 (op.WriteFd 0 (codes "X"))
+    ∷ by 1 (op.CutFd 0 2)
+    ∷ by 1 (op.CutFd 0 4)
+    ∷ by 1 (op.ReadFd 0 8)
+    ∷ by 1 (op.SeekFd 0 9)
+    ∷ by 1 (op.WriteFd 0 [])
+    ∷ by 1 (op.SeekFd 0 0)
+    ∷ by 1 (op.ReadFd 0 8)
+    ∷ []
+
+abbrev pub writing_in_the_middle_gives : List Line
+writing_in_the_middle_gives =
+    gives (reply.Number 0) [] bottom
+    ∷ gives reply.Done [] bottom
+    ∷ gives (reply.Number 1) [] bottom
+    ∷ gives reply.Done [] bottom
+    ∷ gives reply.Done [] bottom
+    ∷ gives (reply.Bytes 2) (0 ∷ 0 ∷ []) bottom
+    ∷ gives reply.Done [] bottom
+    ∷ gives (reply.Number 0) [] bottom
+    ∷ gives reply.Done [] bottom
+    ∷ gives (reply.Bytes 4) (97 ∷ 88 ∷ 0 ∷ 0 ∷ []) bottom
+    ∷ []
+
+-- a file is read and closed, and a pipe written and closed
+abbrev pub using_numbers_again : List Event
+using_numbers_again =
+    by 1 (op.OpenAt (in_root (codes "n")) mode.Read)
+    ∷ by 1 (op.ReadFd 0 2)
+    ∷ by 1 (op.CloseFd 0)
+    ∷ by 1 (op.OpenAt (in_root (codes "n")) mode.Read)
+    ∷ by 1 (op.ReadFd 0 8)
+    ∷ by 1 (op.CloseFd 0)
+    ∷ by 1 op.MakePipe
+    ∷ by 1 (op.WriteFd 0 (codes "x"))
+    ∷ by 1 (op.CloseFd 0)
+    ∷ by 1 (op.CloseFd 1)
+    ∷ by 1 op.MakePipe
+    ∷ by 1 (op.ReadFd 1 8)
+    ∷ []
+
+abbrev pub using_numbers_again_gives : List Line
+using_numbers_again_gives =
+    gives (reply.Number 0) [] bottom
+    ∷ gives (reply.Bytes 2) (codes "ab") bottom
+    ∷ gives reply.Done [] bottom
+    ∷ gives (reply.Number 0) [] bottom
+    ∷ gives (reply.Bytes 3) (codes "abc") bottom
+    ∷ gives reply.Done [] bottom
+    ∷ gives (reply.Two (record { 0 = 0 }) (record { 0 = 1 })) [] bottom
+    ∷ gives (reply.Number 1) [] bottom
+    ∷ gives reply.Done [] bottom
+    ∷ gives reply.Done [] bottom
+    ∷ gives (reply.Two (record { 0 = 0 }) (record { 0 = 1 })) [] bottom
+    ∷ refuses refusal.Again bottom
+    ∷ []

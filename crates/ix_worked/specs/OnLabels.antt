@@ -12,7 +12,7 @@ use Rattle.ix_model.specs.declared.config.Config.{Config}
 use Rattle.ix_model.specs.declared.refusal.Refusal.TheVariants as refusal
 use Rattle.ix_model.specs.declared.reply.Kind.TheVariants as kind
 use Rattle.ix_model.specs.declared.reply.Reply.TheVariants as reply
-use Rattle.ix_worked.specs.Scripts.{all_five, three, five, three_and_five, in_root, proc, file, dir, gives, log_line, by, refuses, small_limits, small}
+use Rattle.ix_worked.specs.Scripts.{all_five, three, five, three_and_five, in_root, under, proc, file, dir, gives, log_line, by, refuses, small_limits, small}
 use Rattle.ix_worked.specs.Sessions.{Line}
 
 -- proc a 3 * - -
@@ -51,6 +51,17 @@ officers = record
 -- dir /h 5 free
 abbrev pub heights : Config
 heights = record (small (replicate 5 (proc bottom top)) (file (codes "s") five [] ∷ dir (codes "h") five ∷ [])) { limits = record small_limits { procs = 8 } }
+
+-- proc a - * - -
+-- file /s 5 free - - x
+abbrev pub pair : Config
+pair = small (proc bottom top ∷ []) (file (codes "s") five [] ∷ [])
+
+-- proc a 3 * - -
+-- proc b 3,5 * - -
+-- dir /d - free
+abbrev pub chest : Config
+chest = small (proc three top ∷ proc three_and_five top ∷ []) (dir (codes "d") bottom ∷ [])
 
 -- it has opened a file above it
 abbrev pub holding_down : List Event
@@ -238,3 +249,65 @@ finding_what_is_high_gives =
     ∷ gives reply.Done [] five
     ∷ refuses refusal.InUse bottom
     ∷ []
+
+-- the child has read what is at 5
+abbrev pub looking_into_an_empty_pipe : List Event
+looking_into_an_empty_pipe =
+    by 1 op.MakePipe
+    ∷ by 1 (op.Fork keep.All)
+    ∷ by 2 (op.OpenAt (in_root (codes "s")) mode.Read)
+    ∷ by 2 (op.ReadFd 2 1)
+    ∷ by 2 (op.WriteFd 0 [])
+    ∷ by 1 (op.ReadFd 1 8)
+    ∷ []
+
+abbrev pub looking_into_an_empty_pipe_gives : List Line
+looking_into_an_empty_pipe_gives =
+    gives (reply.Two (record { 0 = 0 }) (record { 0 = 1 })) [] bottom
+    ∷ gives (reply.Number 2) [] bottom
+    ∷ gives (reply.Number 2) [] bottom
+    ∷ gives (reply.Bytes 0) [] five
+    ∷ gives (reply.Number 0) [] five
+    ∷ refuses refusal.Again five
+    ∷ []
+
+-- the directory is frozen after the first
+abbrev pub making_names_high : List Event
+making_names_high =
+    by 1 (op.CreateAt (under (codes "d") (codes "x")))
+    ∷ by 1 (op.LabelOf (in_root (codes "d")))
+    ∷ by 1 (op.LabelOf (under (codes "d") (codes "x")))
+    ∷ by 1 (op.Freeze (in_root (codes "d")))
+    ∷ by 2 (op.CreateAt (under (codes "d") (codes "y")))
+    ∷ by 2 (op.UnlinkAt (under (codes "d") (codes "x")))
+    ∷ by 1 (op.CreateAt (under (codes "d") (codes "y")))
+    ∷ []
+
+abbrev pub making_names_high_gives : List Line
+making_names_high_gives =
+    gives (reply.Number 2) [] three
+    ∷ gives (reply.Lab three) [] three
+    ∷ gives (reply.Lab bottom) [] three
+    ∷ gives reply.Done [] three
+    ∷ refuses refusal.FileFrozen three_and_five
+    ∷ refuses refusal.FileFrozen three_and_five
+    ∷ gives (reply.Number 3) [] three
+    ∷ []
+
+-- another's is lowered and raised, and the own is lowered
+abbrev pub raising_ceilings : List Event
+raising_ceilings =
+    by 1 (op.SetCeiling 2 three)
+    ∷ by 1 (op.SetCeiling 2 top)
+    ∷ by 1 (op.SetCeiling 1 three)
+    ∷ []
+
+abbrev pub raising_ceilings_gives : List Line
+raising_ceilings_gives =
+    gives reply.Done [] three
+    ∷ gives reply.Done [] three
+    ∷ gives reply.Done [] three
+    ∷ []
+
+abbrev pub raising_ceilings_log : List AuditLine
+raising_ceilings_log = log_line 1 1 act.Ceiling 2 top three ∷ log_line 2 1 act.Ceiling 2 three top ∷ []

@@ -9,7 +9,7 @@ use Rattle.ix_model.specs.declared.config.Config.{Config}
 use Rattle.ix_model.specs.declared.refusal.Refusal.TheVariants as refusal
 use Rattle.ix_model.specs.declared.reply.Kind.TheVariants as kind
 use Rattle.ix_model.specs.declared.reply.Reply.TheVariants as reply
-use Rattle.ix_worked.specs.Scripts.{in_root, at_root, under, proc, file, dir, gives, by, refuses, here, small_fs, small}
+use Rattle.ix_worked.specs.Scripts.{in_root, from_here, at_root, under, proc, file, dir, gives, by, refuses, here, small_fs, small}
 use Rattle.ix_worked.specs.Sessions.{Line}
 
 -- fs root * 4 4
@@ -25,6 +25,15 @@ shelves = record (small (proc bottom top ∷ []) (file (codes "n") bottom (codes
 -- file /a - free - - x, and so on to /p
 abbrev pub full : Config
 full = record (small (proc bottom top ∷ []) (map (λ letter. file (letter ∷ []) bottom []) (codes "abcdefghijklmnop"))) { fss = record small_fs { inodes = 32 } ∷ [] }
+
+-- fs root * 2 4
+-- fs vol * 1 2
+-- proc a - * - -
+-- file /n - free - - "abc"
+-- file /m - free - - x
+abbrev pub tight : Config
+tight = record (small (proc bottom top ∷ []) (file (codes "n") bottom (codes "abc") ∷ file (codes "m") bottom [] ∷ []))
+    { fss = record small_fs { blocks = 2 } ∷ record small_fs { name = codes "vol"; blocks = 1; inodes = 2 } ∷ [] }
 
 -- only the last name of what is made may be missing
 abbrev pub seeking : List Event
@@ -186,6 +195,8 @@ unlinking_an_open_file =
     ∷ by 1 (op.ReadFd 0 8)
     ∷ by 1 (op.CloseFd 0)
     ∷ by 1 (op.CreateAt (in_root (codes "k")))
+    ∷ by 1 (op.OpenAt (in_root (codes "k")) mode.Read)
+    ∷ by 1 (op.ReadFd 0 8)
     ∷ []
 
 abbrev pub unlinking_an_open_file_gives : List Line
@@ -197,4 +208,50 @@ unlinking_an_open_file_gives =
     ∷ gives (reply.Bytes 3) (codes "abc") bottom
     ∷ gives reply.Done [] bottom
     ∷ gives (reply.Number 1) [] bottom
+    ∷ gives (reply.Number 0) [] bottom
+    ∷ gives (reply.Bytes 0) [] bottom
+    ∷ []
+
+-- a file is made in /d, and removed
+abbrev pub working_in_a_directory : List Event
+working_in_a_directory =
+    by 1 (op.ChangeDir (in_root (codes "d")))
+    ∷ by 1 (op.CreateAt (from_here (codes "x")))
+    ∷ by 1 (op.StatAt (under (codes "d") (codes "x")))
+    ∷ by 1 (op.StatAt (from_here (codes "n")))
+    ∷ by 1 (op.RemoveDir (in_root (codes "d")))
+    ∷ by 1 (op.UnlinkAt (from_here (codes "x")))
+    ∷ []
+
+abbrev pub working_in_a_directory_gives : List Line
+working_in_a_directory_gives =
+    gives reply.Done [] bottom
+    ∷ gives (reply.Number 3) [] bottom
+    ∷ gives (reply.Stat (record { 0 = 3 }) kind.File 0 1 false no_privileges no_privileges) [] bottom
+    ∷ refuses refusal.NotFound bottom
+    ∷ refuses refusal.NotEmpty bottom
+    ∷ gives reply.Done [] bottom
+    ∷ []
+
+-- /n takes one of two blocks, and /vol has one
+abbrev pub sharing_blocks : List Event
+sharing_blocks =
+    by 1 (op.OpenAt (in_root (codes "m")) mode.Write)
+    ∷ by 1 (op.WriteFd 0 (replicate 513 65))
+    ∷ by 1 (op.WriteFd 0 (replicate 512 65))
+    ∷ by 1 (op.CreateAt (under (codes "vol") (codes "k")))
+    ∷ by 1 (op.OpenAt (under (codes "vol") (codes "k")) mode.Write)
+    ∷ by 1 (op.WriteFd 1 (replicate 513 65))
+    ∷ by 1 (op.WriteFd 1 (replicate 512 65))
+    ∷ []
+
+abbrev pub sharing_blocks_gives : List Line
+sharing_blocks_gives =
+    gives (reply.Number 0) [] bottom
+    ∷ refuses refusal.NoSpace bottom
+    ∷ gives (reply.Number 512) [] bottom
+    ∷ gives (reply.Number 5) [] bottom
+    ∷ gives (reply.Number 1) [] bottom
+    ∷ refuses refusal.NoSpace bottom
+    ∷ gives (reply.Number 512) [] bottom
     ∷ []

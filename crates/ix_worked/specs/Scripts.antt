@@ -41,6 +41,10 @@ two_and_five = with (with bottom 2) 5
 abbrev pub in_root : List ℕ → PathOf
 in_root name = record { absolute = true; names = name ∷ [] }
 
+-- a relative path of one name
+abbrev pub from_here : List ℕ → PathOf
+from_here name = record { absolute = false; names = name ∷ [] }
+
 -- the path /, the relative path of no names, and an absolute path of two names
 abbrev pub at_root : PathOf
 at_root = record { absolute = true; names = [] }
