@@ -111,13 +111,13 @@ pub using_none_ran : answers desk using_none ≡ using_none_gives
 unfolding running worlds
 using_none_ran = answers_given desk using_none
     (replicate 9 (refused at_desk refusal.BadFd))
-    (refl, (refl, (refl, (refl, (refl, (refl, (refl, (refl, (refl, tt)))))))))
+    ((refl, refl), ((refl, refl), ((refl, refl), ((refl, refl), ((refl, refl), ((refl, refl), ((refl, refl), ((refl, refl), ((refl, refl), tt)))))))))
 
 pub reading_a_writer_ran : answers desk reading_a_writer ≡ reading_a_writer_gives
 unfolding running worlds
 reading_a_writer_ran = answers_given desk reading_a_writer
     (number writing 0 ∷ refused writing refusal.NotReadable ∷ [])
-    (simp labels refl, (refl, tt))
+    ((simp labels refl, refl), ((refl, refl), tt))
 
 pub writing_a_reader_ran : answers desk writing_a_reader ≡ writing_a_reader_gives
 unfolding running worlds
@@ -126,7 +126,7 @@ writing_a_reader_ran = answers_given desk writing_a_reader
     ∷ refused reading refusal.NotWritable
     ∷ refused reading refusal.NotWritable
     ∷ [])
-    (simp labels refl, (refl, (refl, tt)))
+    ((simp labels refl, refl), ((refl, refl), ((refl, refl), tt)))
 
 pub going_too_far_ran : answers desk going_too_far ≡ going_too_far_gives
 unfolding running worlds
@@ -140,7 +140,7 @@ going_too_far_ran = answers_given desk going_too_far
     ∷ done far
     ∷ refused far refusal.TooBig
     ∷ [])
-    (simp labels refl, (refl, (refl, (refl, (refl, (refl, (refl, (refl, tt))))))))
+    ((simp labels refl, refl), ((refl, refl), ((refl, refl), ((refl, refl), ((refl, refl), ((refl, refl), ((refl, refl), ((refl, refl), tt))))))))
 
 pub claiming_a_file_ran : answers desk claiming_a_file ≡ claiming_a_file_gives
 unfolding running worlds
@@ -149,7 +149,7 @@ claiming_a_file_ran = answers_given desk claiming_a_file
     ∷ refused both refusal.NotPipe
     ∷ refused both refusal.NotPipe
     ∷ [])
-    (simp labels refl, (refl, (refl, tt)))
+    ((simp labels refl, refl), ((refl, refl), ((refl, refl), tt)))
 
 pub cutting_a_pipe_ran : answers desk cutting_a_pipe ≡ cutting_a_pipe_gives
 unfolding running worlds
@@ -158,7 +158,7 @@ cutting_a_pipe_ran = answers_given desk cutting_a_pipe
     ∷ refused piped refusal.IsPipe
     ∷ refused piped refusal.IsPipe
     ∷ [])
-    (refl, (refl, (refl, tt)))
+    ((refl, refl), ((refl, refl), ((refl, refl), tt)))
 
 pub letting_go_ran : answers desk letting_go ≡ letting_go_gives
 unfolding running worlds
@@ -171,7 +171,7 @@ letting_go_ran = answers_given desk letting_go
     ∷ refused shared refusal.PexHeld
     ∷ done (claimed_by 4 None None shared)
     ∷ [])
-    (refl, (refl, (refl, (refl, (refl, (refl, (refl, tt)))))))
+    ((refl, refl), ((refl, refl), ((refl, refl), ((refl, refl), ((refl, refl), ((refl, refl), ((refl, refl), tt)))))))
 
 -- The first entry and the last are taken by themselves, and those between them at once.
 opens_the_first : step at_long_desk 1 1 (op.OpenAt (in_root (codes "n")) mode.Read) ≡ number long_reading 0
@@ -207,7 +207,7 @@ opening_all_ran = answers_given desk opening_all
     ∷ number (with_fd 1 4 (Some 0) all_open) 4
     ∷ number (with_child 1 (with_fd 1 4 (Some 0) all_open)) 2
     ∷ [])
-    (simp labels refl, (simp labels refl, (simp labels refl, (refl, (simp labels refl, (simp labels refl, (refl, (refl, tt))))))))
+    ((simp labels refl, refl), ((simp labels refl, refl), ((simp labels refl, refl), ((refl, refl), ((simp labels refl, refl), ((simp labels refl, refl), ((refl, refl), ((refl, refl), tt))))))))
 
 pub making_pipes_ran : answers desk making_pipes ≡ making_pipes_gives
 unfolding running worlds
@@ -219,7 +219,7 @@ making_pipes_ran = answers_given desk making_pipes
     ∷ done at_desk
     ∷ answered piped (reply.Two (record { 0 = 0 }) (record { 0 = 1 }))
     ∷ [])
-    (refl, (refl, (refl, (refl, (refl, (refl, tt))))))
+    ((refl, refl), ((refl, refl), ((refl, refl), ((refl, refl), ((refl, refl), ((refl, refl), tt))))))
 
 pub reading_nothing_ran : answers desk reading_nothing ≡ reading_nothing_gives
 unfolding running worlds
@@ -233,7 +233,7 @@ reading_nothing_ran = answers_given desk reading_nothing
     ∷ done other_end
     ∷ bytes other_end []
     ∷ [])
-    (refl, (simp labels refl, (simp labels refl, (simp labels refl, (simp labels refl, (simp labels refl, (refl, (simp labels refl, tt))))))))
+    ((refl, refl), ((simp labels refl, refl), ((simp labels refl, refl), ((simp labels refl, refl), ((simp labels refl, refl), ((simp labels refl, refl), ((refl, refl), ((simp labels refl, refl), tt))))))))
 
 pub writing_into_a_broken_pipe_ran : answers desk writing_into_a_broken_pipe ≡ writing_into_a_broken_pipe_gives
 unfolding running worlds
@@ -244,7 +244,7 @@ writing_into_a_broken_pipe_ran = answers_given desk writing_into_a_broken_pipe
     ∷ done (holding 4 [] (replicate 4096 65) other_end)
     ∷ refused (holding 4 [] (replicate 4096 65) other_end) refusal.Broken
     ∷ [])
-    (refl, (simp labels refl, (refl, (refl, (refl, tt)))))
+    ((refl, refl), ((simp labels refl, refl), ((refl, refl), ((refl, refl), ((refl, refl), tt)))))
 
 pub claiming_both_ran : answers desk claiming_both ≡ claiming_both_gives
 unfolding running worlds
@@ -258,7 +258,7 @@ claiming_both_ran = answers_given desk claiming_both
     ∷ answered (holding 4 [] (codes "y") whole) (reply.Whole (record { 0 = 1 }) bottom no_privileges)
     ∷ bytes whole (codes "y")
     ∷ [])
-    (refl, (refl, (simp labels refl, (refl, (simp labels refl, (simp labels refl, (refl, (simp labels refl, tt))))))))
+    ((refl, refl), ((refl, refl), ((simp labels refl, refl), ((refl, refl), ((simp labels refl, refl), ((simp labels refl, refl), ((refl, refl), ((simp labels refl, refl), tt))))))))
 
 pub closing_a_claimed_end_ran : answers desk closing_a_claimed_end ≡ closing_a_claimed_end_gives
 unfolding running worlds
@@ -272,7 +272,7 @@ closing_a_claimed_end_ran = answers_given desk closing_a_claimed_end
     ∷ done none_left
     ∷ number (holding 4 [] (codes "x") none_left) 1
     ∷ [])
-    (refl, (refl, (refl, (refl, (refl, (refl, (refl, (simp labels refl, tt))))))))
+    ((refl, refl), ((refl, refl), ((refl, refl), ((refl, refl), ((refl, refl), ((refl, refl), ((refl, refl), ((simp labels refl, refl), tt))))))))
 
 pub writing_in_the_middle_ran : answers desk writing_in_the_middle ≡ writing_in_the_middle_gives
 unfolding running worlds
@@ -288,7 +288,7 @@ writing_in_the_middle_ran = answers_given desk writing_in_the_middle
     ∷ done (moved 0 0 longer)
     ∷ bytes (moved 0 4 longer) (97 ∷ 88 ∷ 0 ∷ 0 ∷ [])
     ∷ [])
-    (simp labels refl, (refl, (simp labels refl, (simp labels refl, (simp labels refl, (simp labels refl, (refl, (simp labels refl, (refl, (simp labels refl, tt))))))))))
+    ((simp labels refl, refl), ((refl, refl), ((simp labels refl, refl), ((simp labels refl, refl), ((simp labels refl, refl), ((simp labels refl, refl), ((refl, refl), ((simp labels refl, refl), ((refl, refl), ((simp labels refl, refl), tt))))))))))
 
 pub using_numbers_again_ran : answers desk using_numbers_again ≡ using_numbers_again_gives
 unfolding running worlds
@@ -306,4 +306,4 @@ using_numbers_again_ran = answers_given desk using_numbers_again
     ∷ answered piped (reply.Two (record { 0 = 0 }) (record { 0 = 1 }))
     ∷ refused piped refusal.Again
     ∷ [])
-    (simp labels refl, (simp labels refl, (refl, (simp labels refl, (simp labels refl, (refl, (refl, (simp labels refl, (refl, (refl, (refl, (simp labels refl, tt))))))))))))
+    ((simp labels refl, refl), ((simp labels refl, refl), ((refl, refl), ((simp labels refl, refl), ((simp labels refl, refl), ((refl, refl), ((refl, refl), ((simp labels refl, refl), ((refl, refl), ((refl, refl), ((refl, refl), ((simp labels refl, refl), tt))))))))))))

@@ -180,7 +180,7 @@ holding_down_ran = answers_given levels holding_down
     ∷ done held_down
     ∷ answered held_down (reply.Lab bottom)
     ∷ [])
-    (simp labels refl, (refl, (simp labels refl, (simp labels refl, (simp labels refl, (refl, tt))))))
+    ((simp labels refl, refl), ((refl, refl), ((simp labels refl, refl), ((simp labels refl, refl), ((simp labels refl, refl), ((refl, refl), tt))))))
 
 pub setting_labels_ran : answers levels setting_labels ≡ setting_labels_gives
 unfolding running worlds
@@ -192,7 +192,7 @@ setting_labels_ran = answers_given levels setting_labels
     ∷ done raised_file
     ∷ answered raised_file (reply.Lab three)
     ∷ [])
-    (simp labels refl, (simp labels refl, (simp labels refl, (simp labels refl, (simp labels refl, (simp labels refl, tt))))))
+    ((simp labels refl, refl), ((simp labels refl, refl), ((simp labels refl, refl), ((simp labels refl, refl), ((simp labels refl, refl), ((simp labels refl, refl), tt))))))
 
 pub setting_ceilings_ran : answers levels setting_ceilings ≡ setting_ceilings_gives
 unfolding running worlds
@@ -207,7 +207,7 @@ setting_ceilings_ran = answers_given levels setting_ceilings
     ∷ number grandchild 5
     ∷ refused grandchild refusal.NoCapability
     ∷ [])
-    (simp labels refl, (simp labels refl, (simp labels refl, (simp labels refl, (simp labels refl, (refl, (simp labels refl, (refl, (simp labels refl, tt)))))))))
+    ((simp labels refl, refl), ((simp labels refl, refl), ((simp labels refl, refl), ((simp labels refl, refl), ((simp labels refl, refl), ((refl, refl), ((simp labels refl, refl), ((refl, refl), ((simp labels refl, refl), tt)))))))))
 
 pub freezing_ran : answers levels freezing ≡ freezing_gives
 unfolding running worlds
@@ -218,13 +218,13 @@ freezing_ran = answers_given levels freezing
     ∷ refused frozen_file refusal.FileFrozen
     ∷ answered frozen_file (reply.Lab three)
     ∷ [])
-    (simp labels refl, (simp labels refl, (simp labels refl, (simp labels refl, (simp labels refl, tt)))))
+    ((simp labels refl, refl), ((simp labels refl, refl), ((simp labels refl, refl), ((simp labels refl, refl), ((simp labels refl, refl), tt)))))
 
 pub acting_without_a_line_ran : answers no_lines acting_without_a_line ≡ acting_without_a_line_gives
 unfolding running worlds
 acting_without_a_line_ran = answers_given no_lines acting_without_a_line
     (done stiff ∷ (replicate 7 (refused stiff refusal.LogFull) ++ refused stiff refusal.EndOfList ∷ []))
-    (refl, (simp labels refl, (simp labels refl, (simp labels refl, (simp labels refl, (refl, (refl, (simp labels refl, (refl, tt)))))))))
+    ((refl, refl), ((simp labels refl, refl), ((simp labels refl, refl), ((simp labels refl, refl), ((simp labels refl, refl), ((refl, refl), ((refl, refl), ((simp labels refl, refl), ((refl, refl), tt)))))))))
 
 abbrev acting_given : List Given
 acting_given =
@@ -246,7 +246,7 @@ acting_given =
 
 acting_steps : Gives (opening_world officers) 1 acting acting_given
 unfolding running worlds
-acting_steps = (refl, (refl, (simp labels refl, (simp labels refl, (refl, (simp labels refl, (simp labels refl, (refl, (refl, (simp labels refl, (simp labels refl, (simp labels refl, (refl, (simp labels refl, tt))))))))))))))
+acting_steps = ((refl, refl), ((refl, refl), ((simp labels refl, refl), ((simp labels refl, refl), ((refl, refl), ((simp labels refl, refl), ((simp labels refl, refl), ((refl, refl), ((refl, refl), ((simp labels refl, refl), ((simp labels refl, refl), ((simp labels refl, refl), ((refl, refl), ((simp labels refl, refl), tt))))))))))))))
 
 pub acting_ran : answers officers acting ≡ acting_gives
 unfolding running worlds
@@ -273,7 +273,7 @@ finding_what_is_high_ran = answers_given heights finding_what_is_high
     ∷ done d_high
     ∷ refused d_high refusal.InUse
     ∷ [])
-    (simp labels refl, (simp labels refl, (simp labels refl, (simp labels refl, (simp labels refl, (simp labels refl, (simp labels refl, (simp labels refl, (simp labels refl, (simp labels refl, (simp labels refl, (simp labels refl, (simp labels refl, tt)))))))))))))
+    ((simp labels refl, refl), ((simp labels refl, refl), ((simp labels refl, refl), ((simp labels refl, refl), ((simp labels refl, refl), ((simp labels refl, refl), ((simp labels refl, refl), ((simp labels refl, refl), ((simp labels refl, refl), ((simp labels refl, refl), ((simp labels refl, refl), ((simp labels refl, refl), ((simp labels refl, refl), tt)))))))))))))
 
 pub looking_into_an_empty_pipe_ran : answers pair looking_into_an_empty_pipe ≡ looking_into_an_empty_pipe_gives
 unfolding running worlds
@@ -285,7 +285,7 @@ looking_into_an_empty_pipe_ran = answers_given pair looking_into_an_empty_pipe
     ∷ number pipe_high 0
     ∷ refused (floated 1 five pipe_high) refusal.Again
     ∷ [])
-    (refl, (refl, (simp labels refl, (simp labels refl, (simp labels refl, (simp labels refl, tt))))))
+    ((refl, refl), ((refl, refl), ((simp labels refl, refl), ((simp labels refl, refl), ((simp labels refl, refl), ((simp labels refl, refl), tt))))))
 
 pub making_names_high_ran : answers chest making_names_high ≡ making_names_high_gives
 unfolding running worlds
@@ -298,7 +298,7 @@ making_names_high_ran = answers_given chest making_names_high
     ∷ refused chest_closed refusal.FileFrozen
     ∷ number (with_object 1 (with_name (codes "y") 3) (with_new 3 (Some (new_object kind.File (Some 0))) chest_closed)) 3
     ∷ [])
-    (simp labels refl, (simp labels refl, (simp labels refl, (simp labels refl, (simp labels refl, (simp labels refl, (simp labels refl, tt)))))))
+    ((simp labels refl, refl), ((simp labels refl, refl), ((simp labels refl, refl), ((simp labels refl, refl), ((simp labels refl, refl), ((simp labels refl, refl), ((simp labels refl, refl), tt)))))))
 
 abbrev raising_ceilings_given : List Given
 raising_ceilings_given =
@@ -309,7 +309,7 @@ raising_ceilings_given =
 
 raising_ceilings_steps : Gives (opening_world officers) 1 raising_ceilings raising_ceilings_given
 unfolding running worlds
-raising_ceilings_steps = (simp labels refl, (simp labels refl, (simp labels refl, tt)))
+raising_ceilings_steps = ((simp labels refl, refl), ((simp labels refl, refl), ((simp labels refl, refl), tt)))
 
 pub raising_ceilings_ran : answers officers raising_ceilings ≡ raising_ceilings_gives
 unfolding running worlds

@@ -101,31 +101,31 @@ pub seeking_ran : answers shelves seeking ≡ seeking_gives
 unfolding running worlds
 seeking_ran = answers_given shelves seeking
     (replicate 7 (refused at_shelves refusal.NotFound))
-    (simp labels refl, (simp labels refl, (simp labels refl, (simp labels refl, (simp labels refl, (simp labels refl, (simp labels refl, tt)))))))
+    ((simp labels refl, refl), ((simp labels refl, refl), ((simp labels refl, refl), ((simp labels refl, refl), ((simp labels refl, refl), ((simp labels refl, refl), ((simp labels refl, refl), tt)))))))
 
 pub looking_into_a_file_ran : answers shelves looking_into_a_file ≡ looking_into_a_file_gives
 unfolding running worlds
 looking_into_a_file_ran = answers_given shelves looking_into_a_file
     (replicate 6 (refused at_shelves refusal.NotDir))
-    (simp labels refl, (simp labels refl, (simp labels refl, (simp labels refl, (simp labels refl, (simp labels refl, tt))))))
+    ((simp labels refl, refl), ((simp labels refl, refl), ((simp labels refl, refl), ((simp labels refl, refl), ((simp labels refl, refl), ((simp labels refl, refl), tt))))))
 
 pub using_a_directory_ran : answers shelves using_a_directory ≡ using_a_directory_gives
 unfolding running worlds
 using_a_directory_ran = answers_given shelves using_a_directory
     (replicate 6 (refused at_shelves refusal.IsDir))
-    (simp labels refl, (simp labels refl, (simp labels refl, (simp labels refl, (simp labels refl, (simp labels refl, tt))))))
+    ((simp labels refl, refl), ((simp labels refl, refl), ((simp labels refl, refl), ((simp labels refl, refl), ((simp labels refl, refl), ((simp labels refl, refl), tt))))))
 
 pub making_again_ran : answers shelves making_again ≡ making_again_gives
 unfolding running worlds
 making_again_ran = answers_given shelves making_again
     (replicate 6 (refused at_shelves refusal.Exists))
-    (simp labels refl, (simp labels refl, (simp labels refl, (simp labels refl, (simp labels refl, (simp labels refl, tt))))))
+    ((simp labels refl, refl), ((simp labels refl, refl), ((simp labels refl, refl), ((simp labels refl, refl), ((simp labels refl, refl), ((simp labels refl, refl), tt))))))
 
 pub crossing_ran : answers shelves crossing ≡ crossing_gives
 unfolding running worlds
 crossing_ran = answers_given shelves crossing
     (replicate 3 (refused at_shelves refusal.CrossFs))
-    (simp labels refl, (simp labels refl, (simp labels refl, tt)))
+    ((simp labels refl, refl), ((simp labels refl, refl), ((simp labels refl, refl), tt)))
 
 pub removing_a_home_ran : answers shelves removing_a_home ≡ removing_a_home_gives
 unfolding running worlds
@@ -136,7 +136,7 @@ removing_a_home_ran = answers_given shelves removing_a_home
     ∷ done at_shelves
     ∷ done without_d
     ∷ [])
-    (simp labels refl, (simp labels refl, (simp labels refl, (simp labels refl, (simp labels refl, tt)))))
+    ((simp labels refl, refl), ((simp labels refl, refl), ((simp labels refl, refl), ((simp labels refl, refl), ((simp labels refl, refl), tt)))))
 
 pub making_files_ran : answers shelves making_files ≡ making_files_gives
 unfolding running worlds
@@ -147,7 +147,7 @@ making_files_ran = answers_given shelves making_files
     ∷ number with_b 5
     ∷ refused with_b refusal.NoInode
     ∷ [])
-    (simp labels refl, (simp labels refl, (simp labels refl, (simp labels refl, (simp labels refl, tt)))))
+    ((simp labels refl, refl), ((simp labels refl, refl), ((simp labels refl, refl), ((simp labels refl, refl), ((simp labels refl, refl), tt)))))
 
 pub making_names_ran : answers full making_names ≡ making_names_gives
 unfolding running worlds
@@ -158,7 +158,7 @@ making_names_ran = answers_given full making_names
     ∷ done one_less
     ∷ done (with_object 0 (with_name (codes "a") 2) one_less)
     ∷ [])
-    (simp labels refl, (simp labels refl, (simp labels refl, (simp labels refl, (simp labels refl, tt)))))
+    ((simp labels refl, refl), ((simp labels refl, refl), ((simp labels refl, refl), ((simp labels refl, refl), ((simp labels refl, refl), tt)))))
 
 pub asking_for_objects_ran : answers shelves asking_for_objects ≡ asking_for_objects_gives
 unfolding running worlds
@@ -172,7 +172,7 @@ asking_for_objects_ran = answers_given shelves asking_for_objects
     ∷ answered linked (reply.Named (codes "k") (record { 0 = 1 }))
     ∷ refused linked refusal.EndOfList
     ∷ [])
-    (simp labels refl, (simp labels refl, (simp labels refl, (simp labels refl, (simp labels refl, (simp labels refl, (simp labels refl, (simp labels refl, tt))))))))
+    ((simp labels refl, refl), ((simp labels refl, refl), ((simp labels refl, refl), ((simp labels refl, refl), ((simp labels refl, refl), ((simp labels refl, refl), ((simp labels refl, refl), ((simp labels refl, refl), tt))))))))
 
 pub unlinking_an_open_file_ran : answers shelves unlinking_an_open_file ≡ unlinking_an_open_file_gives
 unfolding running worlds
@@ -187,7 +187,7 @@ unlinking_an_open_file_ran = answers_given shelves unlinking_an_open_file
     ∷ number (with_entry 1 0 0 (opened 1 mode.Read) reused) 0
     ∷ bytes (with_entry 1 0 0 (opened 1 mode.Read) reused) []
     ∷ [])
-    (simp labels refl, (simp labels refl, (simp labels refl, (simp labels refl, (simp labels refl, (refl, (simp labels refl, (simp labels refl, (simp labels refl, tt)))))))))
+    ((simp labels refl, refl), ((simp labels refl, refl), ((simp labels refl, refl), ((simp labels refl, refl), ((simp labels refl, refl), ((refl, refl), ((simp labels refl, refl), ((simp labels refl, refl), ((simp labels refl, refl), tt)))))))))
 
 pub working_in_a_directory_ran : answers shelves working_in_a_directory ≡ working_in_a_directory_gives
 unfolding running worlds
@@ -199,7 +199,7 @@ working_in_a_directory_ran = answers_given shelves working_in_a_directory
     ∷ refused kept refusal.NotEmpty
     ∷ done in_d
     ∷ [])
-    (simp labels refl, (simp labels refl, (simp labels refl, (simp labels refl, (simp labels refl, (simp labels refl, tt))))))
+    ((simp labels refl, refl), ((simp labels refl, refl), ((simp labels refl, refl), ((simp labels refl, refl), ((simp labels refl, refl), ((simp labels refl, refl), tt))))))
 
 pub sharing_blocks_ran : answers tight sharing_blocks ≡ sharing_blocks_gives
 unfolding running worlds
@@ -212,4 +212,4 @@ sharing_blocks_ran = answers_given tight sharing_blocks
     ∷ refused tight_both refusal.NoSpace
     ∷ number (moved 1 512 (holding 5 (replicate 512 65) [] tight_both)) 512
     ∷ [])
-    (simp labels refl, (refl, (simp labels refl, (simp labels refl, (simp labels refl, (refl, (simp labels refl, tt)))))))
+    ((simp labels refl, refl), ((refl, refl), ((simp labels refl, refl), ((simp labels refl, refl), ((simp labels refl, refl), ((refl, refl), ((simp labels refl, refl), tt)))))))

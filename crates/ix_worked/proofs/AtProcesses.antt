@@ -76,7 +76,7 @@ calling_as_nobody_ran = answers_given family calling_as_nobody
     ∷ done (without_process 1 alone)
     ∷ refused (without_process 1 alone) refusal.NoProcess
     ∷ [])
-    (refl, (refl, (refl, (refl, (refl, (refl, tt))))))
+    ((refl, refl), ((refl, refl), ((refl, refl), ((refl, refl), ((refl, refl), ((refl, refl), tt))))))
 
 pub calling_after_the_end_ran : answers family calling_after_the_end ≡ calling_after_the_end_gives
 unfolding running worlds
@@ -88,7 +88,7 @@ calling_after_the_end_ran = answers_given family calling_after_the_end
     ∷ answered collected (reply.Child (record { 0 = 2 }) 3)
     ∷ refused collected refusal.NoProcess
     ∷ [])
-    (refl, (refl, (refl, (refl, (simp labels refl, (refl, tt))))))
+    ((refl, refl), ((refl, refl), ((refl, refl), ((refl, refl), ((simp labels refl, refl), ((refl, refl), tt))))))
 
 pub forking_often_ran : answers family forking_often ≡ forking_often_gives
 unfolding running worlds
@@ -101,7 +101,7 @@ forking_often_ran = answers_given family forking_often
     ∷ answered first_collected (reply.Child (record { 0 = 2 }) 3)
     ∷ number (with_child 1 first_collected) 4
     ∷ [])
-    (refl, (refl, (refl, (refl, (refl, (simp labels refl, (refl, tt)))))))
+    ((refl, refl), ((refl, refl), ((refl, refl), ((refl, refl), ((refl, refl), ((simp labels refl, refl), ((refl, refl), tt)))))))
 
 pub waiting_for_a_child_ran : answers family waiting_for_a_child ≡ waiting_for_a_child_gives
 unfolding running worlds
@@ -116,7 +116,7 @@ waiting_for_a_child_ran = answers_given family waiting_for_a_child
     ∷ answered all_collected (reply.Child (record { 0 = 2 }) 4)
     ∷ refused all_collected refusal.NoChild
     ∷ [])
-    (refl, (refl, (refl, (refl, (refl, (simp labels refl, (refl, (simp labels refl, (refl, tt)))))))))
+    ((refl, refl), ((refl, refl), ((refl, refl), ((refl, refl), ((refl, refl), ((simp labels refl, refl), ((refl, refl), ((simp labels refl, refl), ((refl, refl), tt)))))))))
 
 pub ending_first_ran : answers family ending_first ≡ ending_first_gives
 unfolding running worlds
@@ -128,7 +128,7 @@ ending_first_ran = answers_given family ending_first
     ∷ answered collected (reply.Child (record { 0 = 2 }) 3)
     ∷ done (without_process 1 collected)
     ∷ [])
-    (refl, (refl, (refl, (refl, (simp labels refl, (refl, tt))))))
+    ((refl, refl), ((refl, refl), ((refl, refl), ((refl, refl), ((simp labels refl, refl), ((refl, refl), tt))))))
 
 pub ending_out_of_order_ran : answers family ending_out_of_order ≡ ending_out_of_order_gives
 unfolding running worlds
@@ -140,4 +140,4 @@ ending_out_of_order_ran = answers_given family ending_out_of_order
     ∷ answered (without_process 2 both_ended) (reply.Child (record { 0 = 2 }) 3)
     ∷ answered (without_process 3 (without_process 2 both_ended)) (reply.Child (record { 0 = 3 }) 5)
     ∷ [])
-    (refl, (refl, (refl, (refl, (simp labels refl, (simp labels refl, tt))))))
+    ((refl, refl), ((refl, refl), ((refl, refl), ((refl, refl), ((simp labels refl, refl), ((simp labels refl, refl), tt))))))

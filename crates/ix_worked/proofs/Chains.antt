@@ -2,10 +2,13 @@
 use Rattle.std.proofs.Common.{◌≡◌, ℕ, suc, ◌+◌, ◌&&◌, List, [], ◌∷◌, ◌++◌, length, if◌then◌else◌, refl, ap, ◌∙◌, arith}
 use Rattle.std.specs.Option.{option_map_or}
 use Rattle.ix_model.specs.World.{World}
-use Rattle.ix_model.specs.Step.{Given, step_of, run}
+use Rattle.ix_model.specs.Step.{Given, answer, step, step_of, run}
+use Rattle.ix_model.specs.Table.{Decision, decide}
+use Rattle.ix_model.specs.Telling.{told}
 use Rattle.ix_model.specs.Opening.{opening_world}
 use Rattle.ix_model.specs.AuditLog.{is_answer, is_licensed, exercises, line_of_act, lines_added, audit_log}
-use Rattle.ix_model.specs.History.{Event}
+use Rattle.ix_model.specs.History.{Op, Event}
+use Rattle.ix_model.specs.History as op
 use Rattle.ix_model.specs.declared.audit.AuditLine.{AuditLine}
 use Rattle.ix_model.specs.declared.config.Config.{Config}
 use Rattle.ix_model.specs.declared.refusal.Refusal.{Refusal}
@@ -30,11 +33,31 @@ answered w r = record { world = w; reply = r; bytes = [] }
 abbrev pub done : World → Given
 done w = answered w reply.Done
 
+-- what is decided before that is given: what is filled in from the content is 0 in it
+abbrev reply_before : Op → Reply → Reply
+reply_before (op.ReadFd fd count) (reply.Bytes k) = reply.Bytes 0
+reply_before (op.WriteFd fd new) (reply.Number k) = reply.Number 0
+reply_before (op.StatAt path) (reply.Stat o kind size links frozen cap lic) = reply.Stat o kind 0 links frozen cap lic
+reply_before op.WaitChild (reply.Child p status) = reply.Child p 0
+reply_before _ r = r
+
+abbrev decision_before : Op → Given → Decision
+decision_before o g = record { reply = reply_before o g.reply; frame = g.world.frame }
+
+-- A call gives that: it is decided on the frame, and then answered from the content. The two are computed one after the
+-- other, since what waits on a label is written out for each number that the content has.
+abbrev pub Steps : World → ℕ → ℕ → Op → Given → Type 0
+Steps w place pid o g = (decide (told w pid o) place pid o w.frame ≡ decision_before o g) × (answer w pid o (decision_before o g) ≡ g)
+
+stepped : (w : World) (place pid : ℕ) (o : Op) (g : Given) → Steps w place pid o g → step w place pid o ≡ g
+unfolding step
+stepped w place pid o g h = ap (answer w pid o) h.0 ∙ h.1
+
 -- each entry gives the one that stands at its place, and the next is made from the world after it
 abbrev pub Gives : World → ℕ → List Event → List Given → Type 0
 Gives w place [] gs = Unit {0}
 Gives w place (e ∷ events) [] = ⊥
-Gives w place (e ∷ events) (g ∷ gs) = (step_of w place e ≡ g) × Gives g.world (suc place) events gs
+Gives w place (e ∷ events) (g ∷ gs) = Steps w place e.pid e.op g × Gives g.world (suc place) events gs
 
 abbrev pub lines_by : List Event → List Given → List Line
 lines_by [] gs = []
@@ -49,12 +72,12 @@ last_of w (e ∷ events) (g ∷ gs) = last_of g.world events gs
 lines_given : (w : World) (place : ℕ) (events : List Event) (gs : List Given) → Gives w place events gs → lines_of w place events ≡ lines_by events gs
 lines_given w place [] gs h = refl
 lines_given w place (e ∷ events) [] h = absurd h
-lines_given w place (e ∷ events) (g ∷ gs) h = ap (λ x. line_of e x ∷ lines_of x.world (suc place) events) h.0 ∙ ap (λ ls. line_of e g ∷ ls) (lines_given g.world (suc place) events gs h.1)
+lines_given w place (e ∷ events) (g ∷ gs) h = ap (λ x. line_of e x ∷ lines_of x.world (suc place) events) (stepped w place e.pid e.op g h.0) ∙ ap (λ ls. line_of e g ∷ ls) (lines_given g.world (suc place) events gs h.1)
 
 run_given : (w : World) (place : ℕ) (events : List Event) (gs : List Given) → Gives w place events gs → run w place events ≡ last_of w events gs
 run_given w place [] gs h = refl
 run_given w place (e ∷ events) [] h = absurd h
-run_given w place (e ∷ events) (g ∷ gs) h = ap (λ x. run x.world (suc place) events) h.0 ∙ run_given g.world (suc place) events gs h.1
+run_given w place (e ∷ events) (g ∷ gs) h = ap (λ x. run x.world (suc place) events) (stepped w place e.pid e.op g h.0) ∙ run_given g.world (suc place) events gs h.1
 
 -- the lines that are given, and the labels of the last world
 abbrev pub shown_by : World → List Event → List Given → Shown
@@ -87,7 +110,7 @@ unfolding audit_log lines_added is_licensed
 log_given_from w place [] gs h = refl
 log_given_from w place (e ∷ events) [] h = absurd h
 log_given_from w place (e ∷ events) (g ∷ gs) h =
-    ap (λ x. lines_for w place e x ++ audit_log x.world (suc place) events) h.0
+    ap (λ x. lines_for w place e x ++ audit_log x.world (suc place) events) (stepped w place e.pid e.op g h.0)
     ∙ ap (λ ls. lines_for w place e g ++ ls) (log_given_from g.world (suc place) events gs h.1)
 
 pub log_given : (c : Config) (w : World) (events : List Event) (gs : List Given) → opening_world c ≡ w → Gives w 1 events gs → log_of c events ≡ log_by w 1 events gs

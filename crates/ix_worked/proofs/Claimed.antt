@@ -4,7 +4,7 @@ use Rattle.ix_label.specs.Category.{bottom}
 use Rattle.ix_model.specs.History as op
 use Rattle.ix_model.specs.Opening.{opening_world}
 use Rattle.ix_model.specs.Privs.{no_privileges}
-use Rattle.ix_model.specs.Step.{Given, step}
+use Rattle.ix_model.specs.Step.{Given}
 use Rattle.ix_model.specs.World.{World}
 use Rattle.ix_model.specs.declared.call.Keep.TheVariants as keep
 use Rattle.ix_model.specs.declared.refusal.Refusal.TheVariants as refusal
@@ -12,7 +12,7 @@ use Rattle.ix_model.specs.declared.reply.Reply.TheVariants as reply
 use Rattle.ix_worked.specs.Claims.{claiming, claiming_shows}
 use Rattle.ix_worked.specs.FullPipe.{one_process}
 use Rattle.ix_worked.specs.Sessions.{shown}
-use Rattle.ix_worked.proofs.Chains.{Gives, number, refused, answered, done, shown_by, shown_given}
+use Rattle.ix_worked.proofs.Chains.{Steps, Gives, number, refused, answered, done, shown_by, shown_given}
 use Rattle.ix_worked.proofs.Computing.{running}
 use Rattle.ix_worked.proofs.Worlds.{with_pipe, claimed_by, with_child, with_ended}
 
@@ -44,41 +44,41 @@ unfolding at_first piped forked all_there half whole ended
 worlds = 0
 
 -- ---- the steps from one to the next
-makes : step at_first 1 1 op.MakePipe ≡ answered piped (reply.Two (record { 0 = 0 }) (record { 0 = 1 }))
+makes : Steps at_first 1 1 op.MakePipe (answered piped (reply.Two (record { 0 = 0 }) (record { 0 = 1 })))
 unfolding running worlds
-makes = refl
+makes = (refl, refl)
 
-forks : step piped 2 1 (op.Fork keep.All) ≡ number forked 2
+forks : Steps piped 2 1 (op.Fork keep.All) (number forked 2)
 unfolding running worlds
-forks = refl
+forks = (refl, refl)
 
-forks_again : step forked 3 1 (op.Fork keep.All) ≡ number all_there 3
+forks_again : Steps forked 3 1 (op.Fork keep.All) (number all_there 3)
 unfolding running worlds
-forks_again = refl
+forks_again = (refl, refl)
 
-claims : step all_there 4 1 (op.Pex 0) ≡ answered half reply.Half
+claims : Steps all_there 4 1 (op.Pex 0) (answered half reply.Half)
 unfolding running worlds
-claims = refl
+claims = (refl, refl)
 
-claims_the_other : step half 5 2 (op.Pex 1) ≡ answered whole (reply.Whole (record { 0 = 1 }) bottom no_privileges)
+claims_the_other : Steps half 5 2 (op.Pex 1) (answered whole (reply.Whole (record { 0 = 1 }) bottom no_privileges))
 unfolding running worlds
-claims_the_other = refl
+claims_the_other = (refl, refl)
 
-is_kept_out : step whole 6 3 (op.ReadFd 0 1) ≡ refused whole refusal.PexHeld
+is_kept_out : Steps whole 6 3 (op.ReadFd 0 1) (refused whole refusal.PexHeld)
 unfolding running worlds
-is_kept_out = refl
+is_kept_out = (refl, refl)
 
-claims_again : step whole 7 1 (op.Pex 0) ≡ answered whole (reply.Whole (record { 0 = 2 }) bottom no_privileges)
+claims_again : Steps whole 7 1 (op.Pex 0) (answered whole (reply.Whole (record { 0 = 2 }) bottom no_privileges))
 unfolding running worlds
-claims_again = refl
+claims_again = (refl, refl)
 
-exits : step whole 8 2 (op.Exit 0) ≡ done ended
+exits : Steps whole 8 2 (op.Exit 0) (done ended)
 unfolding running worlds
-exits = refl
+exits = (refl, refl)
 
-is_half : step ended 9 1 (op.Pex 0) ≡ answered ended reply.Half
+is_half : Steps ended 9 1 (op.Pex 0) (answered ended reply.Half)
 unfolding running worlds
-is_half = refl
+is_half = (refl, refl)
 
 -- ---- all of them. The worlds stay closed until the last step is taken.
 abbrev given : List Given

@@ -2,7 +2,7 @@
 use Rattle.std.proofs.Common.{◌≡◌, ℕ, List, [], ◌∷◌, refl, codes}
 use Rattle.ix_model.specs.History as op
 use Rattle.ix_model.specs.Opening.{opening_world}
-use Rattle.ix_model.specs.Step.{Given, step}
+use Rattle.ix_model.specs.Step.{Given}
 use Rattle.ix_model.specs.World.{World}
 use Rattle.ix_model.specs.declared.call.Mode.TheVariants as mode
 use Rattle.ix_model.specs.declared.reply.Reply.TheVariants as reply
@@ -10,7 +10,7 @@ use Rattle.ix_worked.specs.Copying.{copying, copying_shows}
 use Rattle.ix_worked.specs.Scripts.{in_root}
 use Rattle.ix_worked.specs.Sessions.{shown}
 use Rattle.ix_worked.specs.SharedEntry.{one_file}
-use Rattle.ix_worked.proofs.Chains.{Gives, number, bytes, answered, shown_by, shown_given}
+use Rattle.ix_worked.proofs.Chains.{Steps, Gives, number, bytes, answered, shown_by, shown_given}
 use Rattle.ix_worked.proofs.Computing.{running}
 use Rattle.ix_worked.proofs.Labels.{labels}
 use Rattle.ix_worked.proofs.Worlds.{opened, with_entry, moved, holding, with_pipe}
@@ -40,29 +40,29 @@ unfolding at_first one_open piped read_all sent received
 worlds = 0
 
 -- ---- the steps from one to the next
-opens_it : step at_first 1 1 (op.OpenAt (in_root (codes "n")) mode.Read) ≡ number one_open 0
+opens_it : Steps at_first 1 1 (op.OpenAt (in_root (codes "n")) mode.Read) (number one_open 0)
 unfolding running worlds
-opens_it = simp labels refl
+opens_it = (simp labels refl, refl)
 
-makes : step one_open 2 1 op.MakePipe ≡ answered piped (reply.Two (record { 0 = 1 }) (record { 0 = 2 }))
+makes : Steps one_open 2 1 op.MakePipe (answered piped (reply.Two (record { 0 = 1 }) (record { 0 = 2 })))
 unfolding running worlds
-makes = refl
+makes = (refl, refl)
 
-reads : step piped 3 1 (op.ReadFd 0 8) ≡ bytes read_all (codes "abc")
+reads : Steps piped 3 1 (op.ReadFd 0 8) (bytes read_all (codes "abc"))
 unfolding running worlds
-reads = simp labels refl
+reads = (simp labels refl, refl)
 
-writes : step read_all 4 1 (op.WriteFd 1 (codes "abc")) ≡ number sent 3
+writes : Steps read_all 4 1 (op.WriteFd 1 (codes "abc")) (number sent 3)
 unfolding running worlds
-writes = simp labels refl
+writes = (simp labels refl, refl)
 
-is_at_the_end : step sent 5 1 (op.ReadFd 0 8) ≡ bytes sent []
+is_at_the_end : Steps sent 5 1 (op.ReadFd 0 8) (bytes sent [])
 unfolding running worlds
-is_at_the_end = simp labels refl
+is_at_the_end = (simp labels refl, refl)
 
-receives : step sent 6 1 (op.ReadFd 2 8) ≡ bytes received (codes "abc")
+receives : Steps sent 6 1 (op.ReadFd 2 8) (bytes received (codes "abc"))
 unfolding running worlds
-receives = simp labels refl
+receives = (simp labels refl, refl)
 
 -- ---- all of them. The worlds stay closed until the last step is taken.
 abbrev given : List Given

@@ -4,14 +4,14 @@ use Rattle.ix_label.specs.Category.{bottom}
 use Rattle.ix_model.specs.History as op
 use Rattle.ix_model.specs.Opening.{opening_world}
 use Rattle.ix_model.specs.Privs.{to_thaw, no_privileges}
-use Rattle.ix_model.specs.Step.{Given, step}
+use Rattle.ix_model.specs.Step.{Given}
 use Rattle.ix_model.specs.World.{World}
 use Rattle.ix_model.specs.declared.audit.Act.TheVariants as act
 use Rattle.ix_model.specs.declared.refusal.Refusal.TheVariants as refusal
 use Rattle.ix_worked.specs.Executing.{programs, executing, executing_shows}
 use Rattle.ix_worked.specs.Scripts.{in_root, log_line}
 use Rattle.ix_worked.specs.Sessions.{shown, log_of}
-use Rattle.ix_worked.proofs.Chains.{Gives, refused, done, shown_by, shown_given, log_given}
+use Rattle.ix_worked.proofs.Chains.{Steps, Gives, refused, done, shown_by, shown_given, log_given}
 use Rattle.ix_worked.proofs.Computing.{running, auditing}
 use Rattle.ix_worked.proofs.Labels.{labels}
 use Rattle.ix_worked.proofs.Worlds.{with_process, with_object, with_line}
@@ -35,21 +35,21 @@ unfolding at_first armed thawed plain
 worlds = 0
 
 -- ---- the steps from one to the next
-gets_both : step at_first 1 1 (op.Exec (in_root (codes "prog"))) ≡ done armed
+gets_both : Steps at_first 1 1 (op.Exec (in_root (codes "prog"))) (done armed)
 unfolding running worlds
-gets_both = simp labels refl
+gets_both = (simp labels refl, refl)
 
-thaws : step armed 2 1 (op.Thaw (in_root (codes "q"))) ≡ done thawed
+thaws : Steps armed 2 1 (op.Thaw (in_root (codes "q"))) (done thawed)
 unfolding running worlds
-thaws = simp labels refl
+thaws = (simp labels refl, refl)
 
-loses_both : step thawed 3 1 (op.Exec (in_root (codes "plain"))) ≡ done plain
+loses_both : Steps thawed 3 1 (op.Exec (in_root (codes "plain"))) (done plain)
 unfolding running worlds
-loses_both = simp labels refl
+loses_both = (simp labels refl, refl)
 
-lacks_capability : step plain 4 1 (op.Thaw (in_root (codes "q"))) ≡ refused plain refusal.NoCapability
+lacks_capability : Steps plain 4 1 (op.Thaw (in_root (codes "q"))) (refused plain refusal.NoCapability)
 unfolding running worlds
-lacks_capability = simp labels refl
+lacks_capability = (simp labels refl, refl)
 
 -- ---- all of them. The worlds stay closed until the last step is taken.
 abbrev given : List Given

@@ -2,14 +2,14 @@
 use Rattle.std.proofs.Common.{◌≡◌, ℕ, List, [], ◌∷◌, refl, codes}
 use Rattle.ix_model.specs.History as op
 use Rattle.ix_model.specs.Opening.{opening_world}
-use Rattle.ix_model.specs.Step.{Given, step}
+use Rattle.ix_model.specs.Step.{Given}
 use Rattle.ix_model.specs.World.{World}
 use Rattle.ix_model.specs.declared.call.Mode.TheVariants as mode
 use Rattle.ix_model.specs.declared.refusal.Refusal.TheVariants as refusal
 use Rattle.ix_worked.specs.FrozenFile.{a_frozen_file, writing_to_it, writing_to_it_shows}
 use Rattle.ix_worked.specs.Scripts.{in_root}
 use Rattle.ix_worked.specs.Sessions.{shown}
-use Rattle.ix_worked.proofs.Chains.{Gives, number, refused, shown_by, shown_given}
+use Rattle.ix_worked.proofs.Chains.{Steps, Gives, number, refused, shown_by, shown_given}
 use Rattle.ix_worked.proofs.Computing.{running}
 use Rattle.ix_worked.proofs.Labels.{labels}
 use Rattle.ix_worked.proofs.Worlds.{opened, with_entry, moved, holding}
@@ -33,21 +33,21 @@ unfolding at_first one_open written both_open
 worlds = 0
 
 -- ---- the steps from one to the next
-opens_low : step at_first 1 1 (op.OpenAt (in_root (codes "t")) mode.Write) ≡ number one_open 0
+opens_low : Steps at_first 1 1 (op.OpenAt (in_root (codes "t")) mode.Write) (number one_open 0)
 unfolding running worlds
-opens_low = simp labels refl
+opens_low = (simp labels refl, refl)
 
-writes_low : step one_open 2 1 (op.WriteFd 0 (codes "A")) ≡ number written 1
+writes_low : Steps one_open 2 1 (op.WriteFd 0 (codes "A")) (number written 1)
 unfolding running worlds
-writes_low = simp labels refl
+writes_low = (simp labels refl, refl)
 
-opens_high : step written 3 2 (op.OpenAt (in_root (codes "t")) mode.Write) ≡ number both_open 0
+opens_high : Steps written 3 2 (op.OpenAt (in_root (codes "t")) mode.Write) (number both_open 0)
 unfolding running worlds
-opens_high = simp labels refl
+opens_high = (simp labels refl, refl)
 
-stops_high : step both_open 4 2 (op.WriteFd 0 (codes "A")) ≡ refused both_open refusal.FileFrozen
+stops_high : Steps both_open 4 2 (op.WriteFd 0 (codes "A")) (refused both_open refusal.FileFrozen)
 unfolding running worlds
-stops_high = simp labels refl
+stops_high = (simp labels refl, refl)
 
 -- ---- all of them. The worlds stay closed until the last step is taken.
 abbrev given : List Given

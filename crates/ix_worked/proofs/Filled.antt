@@ -2,14 +2,14 @@
 use Rattle.std.proofs.Common.{◌≡◌, ℕ, List, [], ◌∷◌, replicate, refl, codes}
 use Rattle.ix_model.specs.History as op
 use Rattle.ix_model.specs.Opening.{opening_world}
-use Rattle.ix_model.specs.Step.{Given, step}
+use Rattle.ix_model.specs.Step.{Given}
 use Rattle.ix_model.specs.World.{World}
 use Rattle.ix_model.specs.declared.call.Mode.TheVariants as mode
 use Rattle.ix_model.specs.declared.refusal.Refusal.TheVariants as refusal
 use Rattle.ix_worked.specs.FewBlocks.{two_blocks, filling, filling_shows}
 use Rattle.ix_worked.specs.Scripts.{in_root}
 use Rattle.ix_worked.specs.Sessions.{shown}
-use Rattle.ix_worked.proofs.Chains.{Gives, number, bytes, refused, done, shown_by, shown_given}
+use Rattle.ix_worked.proofs.Chains.{Steps, Gives, number, bytes, refused, done, shown_by, shown_given}
 use Rattle.ix_worked.proofs.Computing.{running}
 use Rattle.ix_worked.proofs.Labels.{labels}
 use Rattle.ix_worked.proofs.Worlds.{opened, with_entry, moved, holding}
@@ -45,37 +45,37 @@ unfolding at_first one_open filled cut at_five written at_start read_all
 worlds = 0
 
 -- ---- the steps from one to the next
-opens_it : step at_first 1 1 (op.OpenAt (in_root (codes "e")) mode.Both) ≡ number one_open 0
+opens_it : Steps at_first 1 1 (op.OpenAt (in_root (codes "e")) mode.Both) (number one_open 0)
 unfolding running worlds
-opens_it = simp labels refl
+opens_it = (simp labels refl, refl)
 
-is_too_long : step one_open 2 1 (op.WriteFd 0 (replicate 1025 65)) ≡ refused one_open refusal.NoSpace
+is_too_long : Steps one_open 2 1 (op.WriteFd 0 (replicate 1025 65)) (refused one_open refusal.NoSpace)
 unfolding running worlds
-is_too_long = refl
+is_too_long = (refl, refl)
 
-fills : step one_open 3 1 (op.WriteFd 0 (replicate 1024 65)) ≡ number filled 1024
+fills : Steps one_open 3 1 (op.WriteFd 0 (replicate 1024 65)) (number filled 1024)
 unfolding running worlds
-fills = simp labels refl
+fills = (simp labels refl, refl)
 
-cuts : step filled 4 1 (op.CutFd 0 0) ≡ done cut
+cuts : Steps filled 4 1 (op.CutFd 0 0) (done cut)
 unfolding running worlds
-cuts = simp labels refl
+cuts = (simp labels refl, refl)
 
-seeks : step cut 5 1 (op.SeekFd 0 5) ≡ done at_five
+seeks : Steps cut 5 1 (op.SeekFd 0 5) (done at_five)
 unfolding running worlds
-seeks = refl
+seeks = (refl, refl)
 
-writes : step at_five 6 1 (op.WriteFd 0 (codes "B")) ≡ number written 1
+writes : Steps at_five 6 1 (op.WriteFd 0 (codes "B")) (number written 1)
 unfolding running worlds
-writes = simp labels refl
+writes = (simp labels refl, refl)
 
-goes_back : step written 7 1 (op.SeekFd 0 0) ≡ done at_start
+goes_back : Steps written 7 1 (op.SeekFd 0 0) (done at_start)
 unfolding running worlds
-goes_back = refl
+goes_back = (refl, refl)
 
-reads : step at_start 8 1 (op.ReadFd 0 8) ≡ bytes read_all (0 ∷ 0 ∷ 0 ∷ 0 ∷ 0 ∷ 66 ∷ [])
+reads : Steps at_start 8 1 (op.ReadFd 0 8) (bytes read_all (0 ∷ 0 ∷ 0 ∷ 0 ∷ 0 ∷ 66 ∷ []))
 unfolding running worlds
-reads = simp labels refl
+reads = (simp labels refl, refl)
 
 -- ---- all of them. The worlds stay closed until the last step is taken.
 abbrev given : List Given

@@ -3,7 +3,7 @@ use Rattle.std.proofs.Common.{◌≡◌, ℕ, List, [], ◌∷◌, refl, codes}
 use Rattle.ix_label.specs.Category.{bottom}
 use Rattle.ix_model.specs.History as op
 use Rattle.ix_model.specs.Opening.{opening_world}
-use Rattle.ix_model.specs.Step.{Given, step}
+use Rattle.ix_model.specs.Step.{Given}
 use Rattle.ix_model.specs.World.{World}
 use Rattle.ix_model.specs.declared.call.Keep.TheVariants as keep
 use Rattle.ix_model.specs.declared.call.Mode.TheVariants as mode
@@ -12,7 +12,7 @@ use Rattle.ix_worked.specs.Scripts.{four, in_root}
 use Rattle.ix_worked.specs.Sessions.{shown, log_of}
 use Rattle.ix_worked.specs.Waiting.{a_secret}
 use Rattle.ix_worked.specs.WaitingLow.{waiting_low, waiting_low_shows}
-use Rattle.ix_worked.proofs.Chains.{Gives, number, bytes, refused, done, shown_by, shown_given, log_given}
+use Rattle.ix_worked.proofs.Chains.{Steps, Gives, number, bytes, refused, done, shown_by, shown_given, log_given}
 use Rattle.ix_worked.proofs.Computing.{running, auditing}
 use Rattle.ix_worked.proofs.Labels.{labels}
 use Rattle.ix_worked.proofs.Worlds.{with_process, floated, opened, with_entry, without_entry, moved, with_child, with_ended}
@@ -42,29 +42,29 @@ unfolding at_first forked one_open read_once ended low
 worlds = 0
 
 -- ---- the steps from one to the next
-forks : step at_first 1 1 (op.Fork keep.All) ≡ number forked 2
+forks : Steps at_first 1 1 (op.Fork keep.All) (number forked 2)
 unfolding running worlds
-forks = refl
+forks = (refl, refl)
 
-opens_it : step forked 2 2 (op.OpenAt (in_root (codes "s")) mode.Read) ≡ number one_open 0
+opens_it : Steps forked 2 2 (op.OpenAt (in_root (codes "s")) mode.Read) (number one_open 0)
 unfolding running worlds
-opens_it = simp labels refl
+opens_it = (simp labels refl, refl)
 
-reads : step one_open 3 2 (op.ReadFd 0 1) ≡ bytes read_once (codes "k")
+reads : Steps one_open 3 2 (op.ReadFd 0 1) (bytes read_once (codes "k"))
 unfolding running worlds
-reads = simp labels refl
+reads = (simp labels refl, refl)
 
-exits : step read_once 4 2 (op.Exit 9) ≡ done ended
+exits : Steps read_once 4 2 (op.Exit 9) (done ended)
 unfolding running worlds
-exits = refl
+exits = (refl, refl)
 
-lowers : step ended 5 1 (op.SetCeiling 1 bottom) ≡ done low
+lowers : Steps ended 5 1 (op.SetCeiling 1 bottom) (done low)
 unfolding running worlds
-lowers = simp labels refl
+lowers = (simp labels refl, refl)
 
-is_refused : step low 6 1 op.WaitChild ≡ refused low refusal.ProcCeiling
+is_refused : Steps low 6 1 op.WaitChild (refused low refusal.ProcCeiling)
 unfolding running worlds
-is_refused = simp labels refl
+is_refused = (simp labels refl, refl)
 
 -- ---- all of them. The worlds stay closed until the last step is taken.
 abbrev given : List Given

@@ -2,14 +2,14 @@
 use Rattle.std.proofs.Common.{◌≡◌, ℕ, List, [], ◌∷◌, None, refl, codes}
 use Rattle.ix_model.specs.History as op
 use Rattle.ix_model.specs.Opening.{opening_world}
-use Rattle.ix_model.specs.Step.{Given, step}
+use Rattle.ix_model.specs.Step.{Given}
 use Rattle.ix_model.specs.World.{World}
 use Rattle.ix_model.specs.declared.call.Keep.TheVariants as keep
 use Rattle.ix_model.specs.declared.call.Mode.TheVariants as mode
 use Rattle.ix_worked.specs.Inheriting.{letters, inheriting, inheriting_shows}
 use Rattle.ix_worked.specs.Scripts.{in_root}
 use Rattle.ix_worked.specs.Sessions.{shown}
-use Rattle.ix_worked.proofs.Chains.{Gives, number, bytes, done, shown_by, shown_given}
+use Rattle.ix_worked.proofs.Chains.{Steps, Gives, number, bytes, done, shown_by, shown_given}
 use Rattle.ix_worked.proofs.Computing.{running}
 use Rattle.ix_worked.proofs.Labels.{labels}
 use Rattle.ix_worked.proofs.Worlds.{opened, with_entry, with_fd, moved, with_child}
@@ -39,29 +39,29 @@ unfolding at_first one_open forked read_half read_all closed
 worlds = 0
 
 -- ---- the steps from one to the next
-opens_it : step at_first 1 1 (op.OpenAt (in_root (codes "n")) mode.Read) ≡ number one_open 0
+opens_it : Steps at_first 1 1 (op.OpenAt (in_root (codes "n")) mode.Read) (number one_open 0)
 unfolding running worlds
-opens_it = simp labels refl
+opens_it = (simp labels refl, refl)
 
-forks : step one_open 2 1 (op.Fork keep.All) ≡ number forked 2
+forks : Steps one_open 2 1 (op.Fork keep.All) (number forked 2)
 unfolding running worlds
-forks = refl
+forks = (refl, refl)
 
-reads_four : step forked 3 1 (op.ReadFd 0 4) ≡ bytes read_half (codes "abcd")
+reads_four : Steps forked 3 1 (op.ReadFd 0 4) (bytes read_half (codes "abcd"))
 unfolding running worlds
-reads_four = simp labels refl
+reads_four = (simp labels refl, refl)
 
-reads_on : step read_half 4 2 (op.ReadFd 0 4) ≡ bytes read_all (codes "efgh")
+reads_on : Steps read_half 4 2 (op.ReadFd 0 4) (bytes read_all (codes "efgh"))
 unfolding running worlds
-reads_on = simp labels refl
+reads_on = (simp labels refl, refl)
 
-closes : step read_all 5 1 (op.CloseFd 0) ≡ done closed
+closes : Steps read_all 5 1 (op.CloseFd 0) (done closed)
 unfolding running worlds
-closes = refl
+closes = (refl, refl)
 
-is_at_the_end : step closed 6 2 (op.ReadFd 0 1) ≡ bytes closed []
+is_at_the_end : Steps closed 6 2 (op.ReadFd 0 1) (bytes closed [])
 unfolding running worlds
-is_at_the_end = simp labels refl
+is_at_the_end = (simp labels refl, refl)
 
 -- ---- all of them. The worlds stay closed until the last step is taken.
 abbrev given : List Given

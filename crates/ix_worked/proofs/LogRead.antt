@@ -3,7 +3,7 @@ use Rattle.std.proofs.Common.{◌≡◌, ℕ, List, [], ◌∷◌, refl}
 use Rattle.ix_label.specs.Category.{bottom}
 use Rattle.ix_model.specs.History as op
 use Rattle.ix_model.specs.Opening.{opening_world}
-use Rattle.ix_model.specs.Step.{Given, step}
+use Rattle.ix_model.specs.Step.{Given}
 use Rattle.ix_model.specs.World.{World}
 use Rattle.ix_model.specs.declared.audit.Act.TheVariants as act
 use Rattle.ix_model.specs.declared.refusal.Refusal.TheVariants as refusal
@@ -11,7 +11,7 @@ use Rattle.ix_model.specs.declared.reply.Reply.TheVariants as reply
 use Rattle.ix_worked.specs.ReadingTheLog.{two_lines, reading_the_log, reading_the_log_shows}
 use Rattle.ix_worked.specs.Scripts.{three, log_line}
 use Rattle.ix_worked.specs.Sessions.{shown, log_of}
-use Rattle.ix_worked.proofs.Chains.{Gives, refused, answered, done, shown_by, shown_given, log_given}
+use Rattle.ix_worked.proofs.Chains.{Steps, Gives, refused, answered, done, shown_by, shown_given, log_given}
 use Rattle.ix_worked.proofs.Computing.{running, auditing}
 use Rattle.ix_worked.proofs.Labels.{labels}
 use Rattle.ix_worked.proofs.Worlds.{with_line, floated}
@@ -32,25 +32,25 @@ unfolding at_first lowered read_once
 worlds = 0
 
 -- ---- the steps from one to the next
-has_no_line : step at_first 1 1 (op.ReadLog 0) ≡ refused at_first refusal.EndOfList
+has_no_line : Steps at_first 1 1 (op.ReadLog 0) (refused at_first refusal.EndOfList)
 unfolding running worlds
-has_no_line = refl
+has_no_line = (refl, refl)
 
-lowers : step at_first 2 1 (op.SetSelf bottom) ≡ done lowered
+lowers : Steps at_first 2 1 (op.SetSelf bottom) (done lowered)
 unfolding running worlds
-lowers = simp labels refl
+lowers = (simp labels refl, refl)
 
-reads : step lowered 3 1 (op.ReadLog 0) ≡ answered read_once (reply.LogLine (log_line 2 1 act.DownSelf 1 three bottom))
+reads : Steps lowered 3 1 (op.ReadLog 0) (answered read_once (reply.LogLine (log_line 2 1 act.DownSelf 1 three bottom)))
 unfolding running worlds
-reads = refl
+reads = (refl, refl)
 
-has_no_third : step read_once 4 1 (op.ReadLog 2) ≡ refused read_once refusal.EndOfList
+has_no_third : Steps read_once 4 1 (op.ReadLog 2) (refused read_once refusal.EndOfList)
 unfolding running worlds
-has_no_third = refl
+has_no_third = (refl, refl)
 
-has_no_room : step read_once 5 1 (op.ReadLog 1) ≡ refused read_once refusal.LogFull
+has_no_room : Steps read_once 5 1 (op.ReadLog 1) (refused read_once refusal.LogFull)
 unfolding running worlds
-has_no_room = refl
+has_no_room = (refl, refl)
 
 -- ---- all of them. The worlds stay closed until the last step is taken.
 abbrev given : List Given

@@ -1,21 +1,26 @@
--- What is shown where a session is asked for, entry by entry.
+-- What is shown where servers act for their users, entry by entry.
 use Rattle.std.proofs.Common.{◌≡◌, ℕ, List, [], ◌∷◌, Some, None, replicate, refl, codes}
 use Rattle.ix_label.specs.Category.{bottom}
+use Rattle.ix_model.specs.Directories.{with_name}
 use Rattle.ix_model.specs.History as op
+use Rattle.ix_model.specs.OnPaths.{new_object}
 use Rattle.ix_model.specs.Opening.{opening_world}
-use Rattle.ix_model.specs.Privs.{to_grant, to_read_the_log, no_privileges}
-use Rattle.ix_model.specs.Step.{Given, step}
+use Rattle.ix_model.specs.Privs.{to_lower, to_grant, to_read_the_log, no_privileges}
+use Rattle.ix_model.specs.Step.{Given}
 use Rattle.ix_model.specs.World.{World, put}
 use Rattle.ix_model.specs.declared.audit.Act.TheVariants as act
 use Rattle.ix_model.specs.declared.call.Keep.TheVariants as keep
+use Rattle.ix_model.specs.declared.call.Mode.TheVariants as mode
+use Rattle.ix_model.specs.declared.refusal.Refusal.TheVariants as refusal
+use Rattle.ix_model.specs.declared.reply.Kind.TheVariants as kind
 use Rattle.ix_model.specs.declared.reply.Reply.TheVariants as reply
 use Rattle.ix_worked.specs.Login.{office, asking, asking_shows}
-use Rattle.ix_worked.specs.Scripts.{all_five, two_and_five, log_line}
+use Rattle.ix_worked.specs.Scripts.{all_five, two_and_five, in_root, under, log_line}
 use Rattle.ix_worked.specs.Sessions.{shown, log_of}
-use Rattle.ix_worked.proofs.Chains.{Gives, number, bytes, answered, done, shown_by, shown_given, log_given}
+use Rattle.ix_worked.proofs.Chains.{Steps, Gives, number, bytes, refused, answered, done, shown_by, shown_given, log_given}
 use Rattle.ix_worked.proofs.Computing.{running, auditing}
 use Rattle.ix_worked.proofs.Labels.{labels}
-use Rattle.ix_worked.proofs.Worlds.{with_process, with_line, holding, with_pipe, claimed_by, with_child}
+use Rattle.ix_worked.proofs.Worlds.{with_process, with_object, with_line, floated, raised, opened, with_entry, moved, holding, with_new, with_pipe, claimed_by, with_child}
 
 -- ---- the worlds, in order
 at_first : World
@@ -45,29 +50,29 @@ asked = holding 256 (codes "login ann") [] whole
 heard : World
 heard = whole
 
-session_forked : World
-session_forked = with_process 3 (λ p. record p { fds = put (replicate 32 None) 3 (Some 3) }) (with_child 1 heard)
+ann_forked : World
+ann_forked = with_process 3 (λ p. record p { fds = put (replicate 32 None) 3 (Some 3) }) (with_child 1 heard)
 
-session_bare : World
-session_bare = with_process 3 (λ p. record p { cap = no_privileges; lic = no_privileges }) session_forked
+ann_bare : World
+ann_bare = with_process 3 (λ p. record p { cap = no_privileges; lic = no_privileges }) ann_forked
 
-session_low : World
-session_low = with_process 3 (λ p. record p { ceiling = two_and_five }) session_bare
+ann_held : World
+ann_held = with_process 3 (λ p. record p { ceiling = two_and_five }) ann_bare
 
-granted : World
-granted = with_line (record (log_line 13 1 act.Grant 3 bottom bottom) { lic = to_read_the_log }) (with_process 3 (λ p. record p { lic = to_read_the_log }) session_low)
+ann_granted : World
+ann_granted = with_line (record (log_line 13 1 act.Grant 3 bottom bottom) { lic = to_read_the_log }) (with_process 3 (λ p. record p { lic = to_read_the_log }) ann_held)
 
-told : World
-told = holding 256 [] (codes "granted 1") granted
+ann_told : World
+ann_told = holding 256 [] (codes "granted 1") ann_granted
 
-let_go : World
-let_go = claimed_by 256 None (Some 2) told
+ann_let_go : World
+ann_let_go = claimed_by 256 None (Some 2) ann_told
 
-read_by_user : World
-read_by_user = claimed_by 256 None (Some 2) granted
+answer_read : World
+answer_read = claimed_by 256 None (Some 2) ann_granted
 
 whole_again : World
-whole_again = granted
+whole_again = ann_granted
 
 asked_again : World
 asked_again = holding 256 (codes "login bob") [] whole_again
@@ -75,91 +80,243 @@ asked_again = holding 256 (codes "login bob") [] whole_again
 heard_again : World
 heard_again = whole_again
 
+bob_forked : World
+bob_forked = with_process 4 (λ p. record p { fds = put (replicate 32 None) 3 (Some 3) }) (with_child 1 heard_again)
+
+bob_bare : World
+bob_bare = with_process 4 (λ p. record p { cap = no_privileges; lic = no_privileges }) bob_forked
+
+bob_held : World
+bob_held = with_process 4 (λ p. record p { ceiling = two_and_five }) bob_bare
+
+bob_told : World
+bob_told = holding 256 [] (codes "granted 2") bob_held
+
+bob_let_go : World
+bob_let_go = claimed_by 256 None (Some 2) bob_told
+
+mailed : World
+mailed = with_object 1 (with_name (codes "m1") 5) (with_new 5 (Some (new_object kind.File (Some 0))) bob_let_go)
+
+plan_open : World
+plan_open = with_entry 3 0 4 (opened 4 mode.Read) mailed
+
+plan_read : World
+plan_read = moved 4 2 (floated 3 two_and_five plan_open)
+
+reported : World
+reported = with_object 2 (with_name (codes "rep") 6) (with_new 6 (Some (new_object kind.File (Some 0))) plan_read)
+
+report_open : World
+report_open = with_entry 3 1 5 (opened 6 mode.Write) reported
+
+report_written : World
+report_written = raised 6 two_and_five (moved 5 8 (holding 6 (codes "q3 is up") [] report_open))
+
+released : World
+released = with_process 3 (λ p. record p { cap = to_lower; own = no_privileges }) report_written
+
+want_half : World
+want_half = claimed_by 257 (Some 1) None released
+
+want_whole : World
+want_whole = claimed_by 257 (Some 1) (Some 3) released
+
+wanted : World
+wanted = raised 257 two_and_five (holding 257 (codes "want D") [] want_whole)
+
+want_heard : World
+want_heard = floated 1 two_and_five (raised 257 two_and_five want_whole)
+
+want_granted : World
+want_granted = with_line (record (log_line 40 1 act.Grant 3 two_and_five two_and_five) { lic = to_lower }) (with_process 3 (λ p. record p { lic = record { 0 = 17 } }) want_heard)
+
+want_told : World
+want_told = holding 257 [] (codes "granted 3") want_granted
+
+want_let_go : World
+want_let_go = claimed_by 257 None (Some 3) want_told
+
+published : World
+published = with_line (log_line 43 3 act.DownFile 6 two_and_five bottom) (raised 6 bottom want_let_go)
+
 -- opens all of them
 worlds : ℕ
-unfolding at_first piped both_piped forked bare half whole asked heard session_forked session_bare session_low granted told let_go read_by_user whole_again asked_again heard_again
+unfolding at_first piped both_piped forked bare half whole asked heard ann_forked ann_bare ann_held ann_granted ann_told ann_let_go answer_read whole_again asked_again heard_again bob_forked bob_bare bob_held bob_told bob_let_go mailed plan_open plan_read reported report_open report_written released want_half want_whole wanted want_heard want_granted want_told want_let_go published
 worlds = 0
 
 -- ---- the steps from one to the next
-makes : step at_first 1 1 op.MakePipe ≡ answered piped (reply.Two (record { 0 = 0 }) (record { 0 = 1 }))
+makes : Steps at_first 1 1 op.MakePipe (answered piped (reply.Two (record { 0 = 0 }) (record { 0 = 1 })))
 unfolding running worlds
-makes = refl
+makes = (refl, refl)
 
-makes_again : step piped 2 1 op.MakePipe ≡ answered both_piped (reply.Two (record { 0 = 2 }) (record { 0 = 3 }))
+makes_again : Steps piped 2 1 op.MakePipe (answered both_piped (reply.Two (record { 0 = 2 }) (record { 0 = 3 })))
 unfolding running worlds
-makes_again = refl
+makes_again = (refl, refl)
 
-forks : step both_piped 3 1 (op.Fork (keep.One (record { 0 = 1 }))) ≡ number forked 2
+forks : Steps both_piped 3 1 (op.Fork (keep.One (record { 0 = 1 }))) (number forked 2)
 unfolding running worlds
-forks = refl
+forks = (refl, refl)
 
-drops : step forked 4 2 (op.DropLic all_five) ≡ done bare
+drops : Steps forked 4 2 (op.DropLic all_five) (done bare)
 unfolding running worlds
-drops = refl
+drops = (refl, refl)
 
-claims : step bare 5 1 (op.Pex 0) ≡ answered half reply.Half
+claims : Steps bare 5 1 (op.Pex 0) (answered half reply.Half)
 unfolding running worlds
-claims = refl
+claims = (refl, refl)
 
-user_claims : step half 6 2 (op.Pex 1) ≡ answered whole (reply.Whole (record { 0 = 1 }) bottom to_grant)
+user_claims : Steps half 6 2 (op.Pex 1) (answered whole (reply.Whole (record { 0 = 1 }) bottom to_grant))
 unfolding running worlds
-user_claims = refl
+user_claims = (refl, refl)
 
-asks : step whole 7 2 (op.WriteFd 1 (codes "login ann")) ≡ number asked 9
+asks : Steps whole 7 2 (op.WriteFd 1 (codes "login ann")) (number asked 9)
 unfolding running worlds
-asks = simp labels refl
+asks = (simp labels refl, refl)
 
-finds_it_whole : step asked 8 1 (op.Pex 0) ≡ answered asked (reply.Whole (record { 0 = 2 }) bottom no_privileges)
+finds_it_whole : Steps asked 8 1 (op.Pex 0) (answered asked (reply.Whole (record { 0 = 2 }) bottom no_privileges))
 unfolding running worlds
-finds_it_whole = refl
+finds_it_whole = (refl, refl)
 
-hears : step asked 9 1 (op.ReadFd 0 64) ≡ bytes heard (codes "login ann")
+hears : Steps asked 9 1 (op.ReadFd 0 64) (bytes heard (codes "login ann"))
 unfolding running worlds
-hears = simp labels refl
+hears = (simp labels refl, refl)
 
-forks_session : step heard 10 1 (op.Fork (keep.One (record { 0 = 3 }))) ≡ number session_forked 3
+forks_ann : Steps heard 10 1 (op.Fork (keep.One (record { 0 = 3 }))) (number ann_forked 3)
 unfolding running worlds
-forks_session = refl
+forks_ann = (refl, refl)
 
-session_drops : step session_forked 11 3 (op.DropLic all_five) ≡ done session_bare
+ann_drops : Steps ann_forked 11 3 (op.DropLic all_five) (done ann_bare)
 unfolding running worlds
-session_drops = refl
+ann_drops = (refl, refl)
 
-sets_ceiling : step session_bare 12 1 (op.SetCeiling 3 two_and_five) ≡ done session_low
+holds_ann : Steps ann_bare 12 1 (op.SetCeiling 3 two_and_five) (done ann_held)
 unfolding running worlds
-sets_ceiling = simp labels refl
+holds_ann = (simp labels refl, refl)
 
-grants : step session_low 13 1 (op.GrantLic 3 to_read_the_log) ≡ done granted
+grants_ann : Steps ann_held 13 1 (op.GrantLic 3 to_read_the_log) (done ann_granted)
 unfolding running worlds
-grants = refl
+grants_ann = (refl, refl)
 
-tells : step granted 14 1 (op.WriteFd 0 (codes "granted 1")) ≡ number told 9
+tells_ann : Steps ann_granted 14 1 (op.WriteFd 0 (codes "granted 1")) (number ann_told 9)
 unfolding running worlds
-tells = simp labels refl
+tells_ann = (simp labels refl, refl)
 
-lets_go : step told 15 1 (op.Unpex 0) ≡ done let_go
+lets_ann_go : Steps ann_told 15 1 (op.Unpex 0) (done ann_let_go)
 unfolding running worlds
-lets_go = refl
+lets_ann_go = (refl, refl)
 
-user_reads : step let_go 16 2 (op.ReadFd 1 64) ≡ bytes read_by_user (codes "granted 1")
+user_reads : Steps ann_let_go 16 2 (op.ReadFd 1 64) (bytes answer_read (codes "granted 1"))
 unfolding running worlds
-user_reads = simp labels refl
+user_reads = (simp labels refl, refl)
 
-claims_again : step read_by_user 17 1 (op.Pex 0) ≡ answered whole_again (reply.Whole (record { 0 = 2 }) bottom no_privileges)
+claims_again : Steps answer_read 17 1 (op.Pex 0) (answered whole_again (reply.Whole (record { 0 = 2 }) bottom no_privileges))
 unfolding running worlds
-claims_again = refl
+claims_again = (refl, refl)
 
-asks_again : step whole_again 18 2 (op.WriteFd 1 (codes "login bob")) ≡ number asked_again 9
+asks_again : Steps whole_again 18 2 (op.WriteFd 1 (codes "login bob")) (number asked_again 9)
 unfolding running worlds
-asks_again = simp labels refl
+asks_again = (simp labels refl, refl)
 
-finds_it_whole_again : step asked_again 19 1 (op.Pex 0) ≡ answered asked_again (reply.Whole (record { 0 = 2 }) bottom no_privileges)
+finds_it_whole_again : Steps asked_again 19 1 (op.Pex 0) (answered asked_again (reply.Whole (record { 0 = 2 }) bottom no_privileges))
 unfolding running worlds
-finds_it_whole_again = refl
+finds_it_whole_again = (refl, refl)
 
-hears_again : step asked_again 20 1 (op.ReadFd 0 64) ≡ bytes heard_again (codes "login bob")
+hears_again : Steps asked_again 20 1 (op.ReadFd 0 64) (bytes heard_again (codes "login bob"))
 unfolding running worlds
-hears_again = simp labels refl
+hears_again = (simp labels refl, refl)
+
+forks_bob : Steps heard_again 21 1 (op.Fork (keep.One (record { 0 = 3 }))) (number bob_forked 4)
+unfolding running worlds
+forks_bob = (refl, refl)
+
+bob_drops : Steps bob_forked 22 4 (op.DropLic all_five) (done bob_bare)
+unfolding running worlds
+bob_drops = (refl, refl)
+
+holds_bob : Steps bob_bare 23 1 (op.SetCeiling 4 two_and_five) (done bob_held)
+unfolding running worlds
+holds_bob = (simp labels refl, refl)
+
+tells_bob : Steps bob_held 24 1 (op.WriteFd 0 (codes "granted 2")) (number bob_told 9)
+unfolding running worlds
+tells_bob = (simp labels refl, refl)
+
+lets_bob_go : Steps bob_told 25 1 (op.Unpex 0) (done bob_let_go)
+unfolding running worlds
+lets_bob_go = (refl, refl)
+
+mails : Steps bob_let_go 26 4 (op.CreateAt (under (codes "mail") (codes "m1"))) (number mailed 5)
+unfolding running worlds
+mails = (simp labels refl, refl)
+
+opens_plan : Steps mailed 27 3 (op.OpenAt (in_root (codes "plan")) mode.Read) (number plan_open 0)
+unfolding running worlds
+opens_plan = (simp labels refl, refl)
+
+reads_plan : Steps plan_open 28 3 (op.ReadFd 0 2) (bytes plan_read (codes "q3"))
+unfolding running worlds
+reads_plan = (simp labels refl, refl)
+
+is_above_the_mail : Steps plan_read 29 3 (op.CreateAt (under (codes "mail") (codes "m2"))) (refused plan_read refusal.FileFrozen)
+unfolding running worlds
+is_above_the_mail = (simp labels refl, refl)
+
+makes_report : Steps plan_read 30 3 (op.CreateAt (under (codes "work") (codes "rep"))) (number reported 6)
+unfolding running worlds
+makes_report = (simp labels refl, refl)
+
+opens_report : Steps reported 31 3 (op.OpenAt (under (codes "work") (codes "rep")) mode.Write) (number report_open 1)
+unfolding running worlds
+opens_report = (simp labels refl, refl)
+
+writes_report : Steps report_open 32 3 (op.WriteFd 1 (codes "q3 is up")) (number report_written 8)
+unfolding running worlds
+writes_report = (simp labels refl, refl)
+
+executes : Steps report_written 33 3 (op.Exec (in_root (codes "release"))) (done released)
+unfolding running worlds
+executes = (simp labels refl, refl)
+
+has_no_licence : Steps released 34 3 (op.SetLabel (under (codes "work") (codes "rep")) bottom) (refused released refusal.NoLicence)
+unfolding running worlds
+has_no_licence = (simp labels refl, refl)
+
+claims_for_wants : Steps released 35 1 (op.Pex 2) (answered want_half reply.Half)
+unfolding running worlds
+claims_for_wants = (refl, refl)
+
+ann_claims : Steps want_half 36 3 (op.Pex 3) (answered want_whole (reply.Whole (record { 0 = 1 }) bottom to_grant))
+unfolding running worlds
+ann_claims = (refl, refl)
+
+wants : Steps want_whole 37 3 (op.WriteFd 3 (codes "want D")) (number wanted 6)
+unfolding running worlds
+wants = (simp labels refl, refl)
+
+finds_ann : Steps wanted 38 1 (op.Pex 2) (answered wanted (reply.Whole (record { 0 = 3 }) two_and_five to_read_the_log))
+unfolding running worlds
+finds_ann = (refl, refl)
+
+hears_ann : Steps wanted 39 1 (op.ReadFd 2 64) (bytes want_heard (codes "want D"))
+unfolding running worlds
+hears_ann = (simp labels refl, refl)
+
+grants_want : Steps want_heard 40 1 (op.GrantLic 3 to_lower) (done want_granted)
+unfolding running worlds
+grants_want = (refl, refl)
+
+tells_want : Steps want_granted 41 1 (op.WriteFd 2 (codes "granted 3")) (number want_told 9)
+unfolding running worlds
+tells_want = (simp labels refl, refl)
+
+lets_want_go : Steps want_told 42 1 (op.Unpex 2) (done want_let_go)
+unfolding running worlds
+lets_want_go = (refl, refl)
+
+lowers : Steps want_let_go 43 3 (op.SetLabel (under (codes "work") (codes "rep")) bottom) (done published)
+unfolding running worlds
+lowers = (simp labels refl, refl)
 
 -- ---- all of them. The worlds stay closed until the last step is taken.
 abbrev given : List Given
@@ -173,17 +330,40 @@ given =
     ∷ number asked 9
     ∷ answered asked (reply.Whole (record { 0 = 2 }) bottom no_privileges)
     ∷ bytes heard (codes "login ann")
-    ∷ number session_forked 3
-    ∷ done session_bare
-    ∷ done session_low
-    ∷ done granted
-    ∷ number told 9
-    ∷ done let_go
-    ∷ bytes read_by_user (codes "granted 1")
+    ∷ number ann_forked 3
+    ∷ done ann_bare
+    ∷ done ann_held
+    ∷ done ann_granted
+    ∷ number ann_told 9
+    ∷ done ann_let_go
+    ∷ bytes answer_read (codes "granted 1")
     ∷ answered whole_again (reply.Whole (record { 0 = 2 }) bottom no_privileges)
     ∷ number asked_again 9
     ∷ answered asked_again (reply.Whole (record { 0 = 2 }) bottom no_privileges)
     ∷ bytes heard_again (codes "login bob")
+    ∷ number bob_forked 4
+    ∷ done bob_bare
+    ∷ done bob_held
+    ∷ number bob_told 9
+    ∷ done bob_let_go
+    ∷ number mailed 5
+    ∷ number plan_open 0
+    ∷ bytes plan_read (codes "q3")
+    ∷ refused plan_read refusal.FileFrozen
+    ∷ number reported 6
+    ∷ number report_open 1
+    ∷ number report_written 8
+    ∷ done released
+    ∷ refused released refusal.NoLicence
+    ∷ answered want_half reply.Half
+    ∷ answered want_whole (reply.Whole (record { 0 = 1 }) bottom to_grant)
+    ∷ number wanted 6
+    ∷ answered wanted (reply.Whole (record { 0 = 3 }) two_and_five to_read_the_log)
+    ∷ bytes want_heard (codes "want D")
+    ∷ done want_granted
+    ∷ number want_told 9
+    ∷ done want_let_go
+    ∷ done published
     ∷ []
 
 gives : Gives at_first 1 asking given
@@ -206,17 +386,17 @@ gives = (
                 (
                   hears,
                   (
-                    forks_session,
+                    forks_ann,
                     (
-                      session_drops,
+                      ann_drops,
                       (
-                        sets_ceiling,
+                        holds_ann,
                         (
-                          grants,
+                          grants_ann,
                           (
-                            tells,
+                            tells_ann,
                             (
-                              lets_go,
+                              lets_ann_go,
                               (
                                 user_reads,
                                 (
@@ -227,7 +407,67 @@ gives = (
                                       finds_it_whole_again,
                                       (
                                         hears_again,
-                                        tt,
+                                        (
+                                          forks_bob,
+                                          (
+                                            bob_drops,
+                                            (
+                                              holds_bob,
+                                              (
+                                                tells_bob,
+                                                (
+                                                  lets_bob_go,
+                                                  (
+                                                    mails,
+                                                    (
+                                                      opens_plan,
+                                                      (
+                                                        reads_plan,
+                                                        (
+                                                          is_above_the_mail,
+                                                          (
+                                                            makes_report,
+                                                            (
+                                                              opens_report,
+                                                              (
+                                                                writes_report,
+                                                                (
+                                                                  executes,
+                                                                  (
+                                                                    has_no_licence,
+                                                                    (
+                                                                      claims_for_wants,
+                                                                      (
+                                                                        ann_claims,
+                                                                        (
+                                                                          wants,
+                                                                          (
+                                                                            finds_ann,
+                                                                            (
+                                                                              hears_ann,
+                                                                              (
+                                                                                grants_want,
+                                                                                (tells_want, (lets_want_go, (lowers, tt))),
+                                                                              ),
+                                                                            ),
+                                                                          ),
+                                                                        ),
+                                                                      ),
+                                                                    ),
+                                                                  ),
+                                                                ),
+                                                              ),
+                                                            ),
+                                                          ),
+                                                        ),
+                                                      ),
+                                                    ),
+                                                  ),
+                                                ),
+                                              ),
+                                            ),
+                                          ),
+                                        ),
                                       ),
                                     ),
                                   ),
@@ -260,6 +500,6 @@ pub logged_in : shown office asking ≡ asking_shows
 unfolding running worlds
 logged_in = ran
 
-pub grant_logged : log_of office asking ≡ asking_shows.log
+pub grants_logged : log_of office asking ≡ asking_shows.log
 unfolding running auditing worlds
-grant_logged = simp (log_given office at_first asking given opens gives, labels) refl
+grants_logged = simp (log_given office at_first asking given opens gives, labels) refl

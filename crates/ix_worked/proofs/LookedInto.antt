@@ -2,13 +2,13 @@
 use Rattle.std.proofs.Common.{◌≡◌, ℕ, List, [], ◌∷◌, refl, codes}
 use Rattle.ix_model.specs.History as op
 use Rattle.ix_model.specs.Opening.{opening_world}
-use Rattle.ix_model.specs.Step.{Given, step}
+use Rattle.ix_model.specs.Step.{Given}
 use Rattle.ix_model.specs.World.{World}
 use Rattle.ix_model.specs.declared.refusal.Refusal.TheVariants as refusal
 use Rattle.ix_worked.specs.HighDirectory.{a_high_directory, looking_into_it, looking_into_it_shows}
 use Rattle.ix_worked.specs.Scripts.{seven, under}
 use Rattle.ix_worked.specs.Sessions.{shown}
-use Rattle.ix_worked.proofs.Chains.{Gives, refused, shown_by, shown_given}
+use Rattle.ix_worked.proofs.Chains.{Steps, Gives, refused, shown_by, shown_given}
 use Rattle.ix_worked.proofs.Computing.{running}
 use Rattle.ix_worked.proofs.Labels.{labels}
 use Rattle.ix_worked.proofs.Worlds.{floated}
@@ -26,9 +26,9 @@ unfolding at_first floating
 worlds = 0
 
 -- ---- the steps from one to the next
-is_missing : step at_first 1 1 (op.StatAt (under (codes "v") (codes "no"))) ≡ refused floating refusal.NotFound
+is_missing : Steps at_first 1 1 (op.StatAt (under (codes "v") (codes "no"))) (refused floating refusal.NotFound)
 unfolding running worlds
-is_missing = simp labels refl
+is_missing = (simp labels refl, refl)
 
 -- ---- all of them. The worlds stay closed until the last step is taken.
 abbrev given : List Given

@@ -3,14 +3,14 @@ use Rattle.std.proofs.Common.{◌≡◌, ℕ, List, [], ◌∷◌, refl, codes}
 use Rattle.ix_label.specs.Category.{bottom}
 use Rattle.ix_model.specs.History as op
 use Rattle.ix_model.specs.Opening.{opening_world}
-use Rattle.ix_model.specs.Step.{Given, step}
+use Rattle.ix_model.specs.Step.{Given}
 use Rattle.ix_model.specs.World.{World}
 use Rattle.ix_model.specs.declared.audit.Act.TheVariants as act
 use Rattle.ix_model.specs.declared.refusal.Refusal.TheVariants as refusal
 use Rattle.ix_worked.specs.Downgrading.{one_line, lowering, lowering_shows}
 use Rattle.ix_worked.specs.Scripts.{three, in_root, log_line}
 use Rattle.ix_worked.specs.Sessions.{shown, log_of}
-use Rattle.ix_worked.proofs.Chains.{Gives, refused, done, shown_by, shown_given, log_given}
+use Rattle.ix_worked.proofs.Chains.{Steps, Gives, refused, done, shown_by, shown_given, log_given}
 use Rattle.ix_worked.proofs.Computing.{running, auditing}
 use Rattle.ix_worked.proofs.Labels.{labels}
 use Rattle.ix_worked.proofs.Worlds.{with_line, raised}
@@ -28,21 +28,21 @@ unfolding at_first lowered
 worlds = 0
 
 -- ---- the steps from one to the next
-lacks_capability : step at_first 1 1 (op.SetLabel (in_root (codes "f")) bottom) ≡ refused at_first refusal.NoCapability
+lacks_capability : Steps at_first 1 1 (op.SetLabel (in_root (codes "f")) bottom) (refused at_first refusal.NoCapability)
 unfolding running worlds
-lacks_capability = simp labels refl
+lacks_capability = (simp labels refl, refl)
 
-lacks_licence : step at_first 2 2 (op.SetLabel (in_root (codes "f")) bottom) ≡ refused at_first refusal.NoLicence
+lacks_licence : Steps at_first 2 2 (op.SetLabel (in_root (codes "f")) bottom) (refused at_first refusal.NoLicence)
 unfolding running worlds
-lacks_licence = simp labels refl
+lacks_licence = (simp labels refl, refl)
 
-lowers : step at_first 3 3 (op.SetLabel (in_root (codes "f")) bottom) ≡ done lowered
+lowers : Steps at_first 3 3 (op.SetLabel (in_root (codes "f")) bottom) (done lowered)
 unfolding running worlds
-lowers = simp labels refl
+lowers = (simp labels refl, refl)
 
-has_no_room : step lowered 4 3 (op.SetLabel (in_root (codes "g")) bottom) ≡ refused lowered refusal.LogFull
+has_no_room : Steps lowered 4 3 (op.SetLabel (in_root (codes "g")) bottom) (refused lowered refusal.LogFull)
 unfolding running worlds
-has_no_room = simp labels refl
+has_no_room = (simp labels refl, refl)
 
 -- ---- all of them. The worlds stay closed until the last step is taken.
 abbrev given : List Given

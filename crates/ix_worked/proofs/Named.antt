@@ -4,7 +4,7 @@ use Rattle.ix_model.specs.Directories.{with_name}
 use Rattle.ix_model.specs.History as op
 use Rattle.ix_model.specs.OnPaths.{new_object}
 use Rattle.ix_model.specs.Opening.{opening_world}
-use Rattle.ix_model.specs.Step.{Given, step}
+use Rattle.ix_model.specs.Step.{Given}
 use Rattle.ix_model.specs.World.{World}
 use Rattle.ix_model.specs.declared.refusal.Refusal.TheVariants as refusal
 use Rattle.ix_model.specs.declared.reply.Kind.TheVariants as kind
@@ -12,7 +12,7 @@ use Rattle.ix_model.specs.declared.reply.Reply.TheVariants as reply
 use Rattle.ix_worked.specs.Scripts.{seven, in_root, at_root, under}
 use Rattle.ix_worked.specs.Sessions.{shown}
 use Rattle.ix_worked.specs.Trees.{two_file_systems, naming, naming_shows}
-use Rattle.ix_worked.proofs.Chains.{Gives, number, refused, answered, done, shown_by, shown_given}
+use Rattle.ix_worked.proofs.Chains.{Steps, Gives, number, refused, answered, done, shown_by, shown_given}
 use Rattle.ix_worked.proofs.Computing.{running}
 use Rattle.ix_worked.proofs.Labels.{labels}
 use Rattle.ix_worked.proofs.Worlds.{with_object, floated, with_new}
@@ -45,41 +45,41 @@ unfolding at_first made filed emptied removed floating filed_high
 worlds = 0
 
 -- ---- the steps from one to the next
-makes : step at_first 1 1 (op.MakeDir (in_root (codes "d"))) ≡ number made 2
+makes : Steps at_first 1 1 (op.MakeDir (in_root (codes "d"))) (number made 2)
 unfolding running worlds
-makes = simp labels refl
+makes = (simp labels refl, refl)
 
-makes_in_it : step made 2 1 (op.CreateAt (under (codes "d") (codes "n"))) ≡ number filed 3
+makes_in_it : Steps made 2 1 (op.CreateAt (under (codes "d") (codes "n"))) (number filed 3)
 unfolding running worlds
-makes_in_it = simp labels refl
+makes_in_it = (simp labels refl, refl)
 
-is_across : step filed 3 1 (op.LinkAt (under (codes "d") (codes "n")) (under (codes "vol") (codes "n"))) ≡ refused filed refusal.CrossFs
+is_across : Steps filed 3 1 (op.LinkAt (under (codes "d") (codes "n")) (under (codes "vol") (codes "n"))) (refused filed refusal.CrossFs)
 unfolding running worlds
-is_across = simp labels refl
+is_across = (simp labels refl, refl)
 
-is_not_empty : step filed 4 1 (op.RemoveDir (in_root (codes "d"))) ≡ refused filed refusal.NotEmpty
+is_not_empty : Steps filed 4 1 (op.RemoveDir (in_root (codes "d"))) (refused filed refusal.NotEmpty)
 unfolding running worlds
-is_not_empty = simp labels refl
+is_not_empty = (simp labels refl, refl)
 
-unlinks : step filed 5 1 (op.UnlinkAt (under (codes "d") (codes "n"))) ≡ done emptied
+unlinks : Steps filed 5 1 (op.UnlinkAt (under (codes "d") (codes "n"))) (done emptied)
 unfolding running worlds
-unlinks = simp labels refl
+unlinks = (simp labels refl, refl)
 
-removes : step emptied 6 1 (op.RemoveDir (in_root (codes "d"))) ≡ done removed
+removes : Steps emptied 6 1 (op.RemoveDir (in_root (codes "d"))) (done removed)
 unfolding running worlds
-removes = simp labels refl
+removes = (simp labels refl, refl)
 
-lists : step removed 7 1 (op.ListAt at_root 0) ≡ answered removed (reply.Named (codes "vol") (record { 0 = 8 }))
+lists : Steps removed 7 1 (op.ListAt at_root 0) (answered removed (reply.Named (codes "vol") (record { 0 = 8 })))
 unfolding running worlds
-lists = simp labels refl
+lists = (simp labels refl, refl)
 
-makes_high : step removed 8 1 (op.CreateAt (under (codes "v") (codes "q"))) ≡ number filed_high 2
+makes_high : Steps removed 8 1 (op.CreateAt (under (codes "v") (codes "q"))) (number filed_high 2)
 unfolding running worlds
-makes_high = simp labels refl
+makes_high = (simp labels refl, refl)
 
-is_too_high : step filed_high 9 1 (op.CreateAt (under (codes "vol") (codes "m"))) ≡ refused filed_high refusal.FsCeiling
+is_too_high : Steps filed_high 9 1 (op.CreateAt (under (codes "vol") (codes "m"))) (refused filed_high refusal.FsCeiling)
 unfolding running worlds
-is_too_high = simp labels refl
+is_too_high = (simp labels refl, refl)
 
 -- ---- all of them. The worlds stay closed until the last step is taken.
 abbrev given : List Given

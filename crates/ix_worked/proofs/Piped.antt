@@ -2,13 +2,13 @@
 use Rattle.std.proofs.Common.{◌≡◌, ℕ, List, [], ◌∷◌, None, replicate, refl, codes}
 use Rattle.ix_model.specs.History as op
 use Rattle.ix_model.specs.Opening.{opening_world}
-use Rattle.ix_model.specs.Step.{Given, step}
+use Rattle.ix_model.specs.Step.{Given}
 use Rattle.ix_model.specs.World.{World}
 use Rattle.ix_model.specs.declared.refusal.Refusal.TheVariants as refusal
 use Rattle.ix_model.specs.declared.reply.Reply.TheVariants as reply
 use Rattle.ix_worked.specs.FullPipe.{one_process, piping, piping_shows}
 use Rattle.ix_worked.specs.Sessions.{shown}
-use Rattle.ix_worked.proofs.Chains.{Gives, number, bytes, refused, answered, done, shown_by, shown_given}
+use Rattle.ix_worked.proofs.Chains.{Steps, Gives, number, bytes, refused, answered, done, shown_by, shown_given}
 use Rattle.ix_worked.proofs.Computing.{running}
 use Rattle.ix_worked.proofs.Labels.{labels}
 use Rattle.ix_worked.proofs.Worlds.{with_fd, without_entry, holding, with_pipe}
@@ -35,37 +35,37 @@ unfolding at_first piped full empty broken
 worlds = 0
 
 -- ---- the steps from one to the next
-makes : step at_first 1 1 op.MakePipe ≡ answered piped (reply.Two (record { 0 = 0 }) (record { 0 = 1 }))
+makes : Steps at_first 1 1 op.MakePipe (answered piped (reply.Two (record { 0 = 0 }) (record { 0 = 1 })))
 unfolding running worlds
-makes = refl
+makes = (refl, refl)
 
-fills : step piped 2 1 (op.WriteFd 0 (replicate 4096 65)) ≡ number full 4096
+fills : Steps piped 2 1 (op.WriteFd 0 (replicate 4096 65)) (number full 4096)
 unfolding running worlds
-fills = simp labels refl
+fills = (simp labels refl, refl)
 
-is_full : step full 3 1 (op.WriteFd 0 (codes "B")) ≡ refused full refusal.PipeFull
+is_full : Steps full 3 1 (op.WriteFd 0 (codes "B")) (refused full refusal.PipeFull)
 unfolding running worlds
-is_full = refl
+is_full = (refl, refl)
 
-empties : step full 4 1 (op.ReadFd 1 4096) ≡ bytes empty (replicate 4096 65)
+empties : Steps full 4 1 (op.ReadFd 1 4096) (bytes empty (replicate 4096 65))
 unfolding running worlds
-empties = simp labels refl
+empties = (simp labels refl, refl)
 
-is_empty : step empty 5 1 (op.ReadFd 1 1) ≡ refused empty refusal.Again
+is_empty : Steps empty 5 1 (op.ReadFd 1 1) (refused empty refusal.Again)
 unfolding running worlds
-is_empty = simp labels refl
+is_empty = (simp labels refl, refl)
 
-closes : step empty 6 1 (op.CloseFd 0) ≡ done broken
+closes : Steps empty 6 1 (op.CloseFd 0) (done broken)
 unfolding running worlds
-closes = refl
+closes = (refl, refl)
 
-is_at_the_end : step broken 7 1 (op.ReadFd 1 1) ≡ bytes broken []
+is_at_the_end : Steps broken 7 1 (op.ReadFd 1 1) (bytes broken [])
 unfolding running worlds
-is_at_the_end = simp labels refl
+is_at_the_end = (simp labels refl, refl)
 
-is_broken : step broken 8 1 (op.WriteFd 1 (codes "C")) ≡ refused broken refusal.Broken
+is_broken : Steps broken 8 1 (op.WriteFd 1 (codes "C")) (refused broken refusal.Broken)
 unfolding running worlds
-is_broken = refl
+is_broken = (refl, refl)
 
 -- ---- all of them. The worlds stay closed until the last step is taken.
 abbrev given : List Given

@@ -2,7 +2,7 @@
 use Rattle.std.proofs.Common.{◌≡◌, ℕ, List, [], ◌∷◌, refl, arith, codes}
 use Rattle.ix_label.specs.Category.{Categories, bottom, top}
 use Rattle.ix_model.specs.World.{World}
-use Rattle.ix_model.specs.Step.{Given, step}
+use Rattle.ix_model.specs.Step.{Given}
 use Rattle.ix_model.specs.Opening.{opening_world}
 use Rattle.ix_model.specs.History as op
 use Rattle.ix_model.specs.declared.call.Mode.TheVariants as mode
@@ -10,7 +10,7 @@ use Rattle.ix_model.specs.declared.refusal.Refusal.TheVariants as refusal
 use Rattle.ix_worked.specs.Sessions.{shown}
 use Rattle.ix_worked.specs.Scripts.{seven, in_root, proc, file, usual_fs}
 use Rattle.ix_worked.specs.LooksAnew.{held_low, reading_twice, reading_twice_shows}
-use Rattle.ix_worked.proofs.Chains.{number, bytes, refused, shown_by, shown_given}
+use Rattle.ix_worked.proofs.Chains.{Steps, number, bytes, refused, shown_by, shown_given}
 use Rattle.ix_worked.proofs.Computing.{running}
 use Rattle.ix_worked.proofs.Labels.{labels, leq-one_top}
 use Rattle.ix_worked.proofs.Worlds.{Opened, world_with}
@@ -48,25 +48,25 @@ opening : opening_world held_low ≡ at_first
 unfolding running at_first
 opening = refl
 
-opens_high : step at_first 1 2 (op.OpenAt (in_root (codes "d")) mode.Write) ≡ number one_open 0
+opens_high : Steps at_first 1 2 (op.OpenAt (in_root (codes "d")) mode.Write) (number one_open 0)
 unfolding running at_first one_open
-opens_high = simp labels refl
+opens_high = (simp labels refl, refl)
 
-opens_low : step one_open 2 1 (op.OpenAt (in_root (codes "d")) mode.Read) ≡ number both_open 0
+opens_low : Steps one_open 2 1 (op.OpenAt (in_root (codes "d")) mode.Read) (number both_open 0)
 unfolding running one_open both_open
-opens_low = simp labels refl
+opens_low = (simp labels refl, refl)
 
-reads_low : step both_open 3 1 (op.ReadFd 0 1) ≡ bytes read_once (codes "x")
+reads_low : Steps both_open 3 1 (op.ReadFd 0 1) (bytes read_once (codes "x"))
 unfolding running both_open read_once
-reads_low = simp labels refl
+reads_low = (simp labels refl, refl)
 
-writes_high : step read_once 4 2 (op.WriteFd 0 (codes "Z")) ≡ number raised 1
+writes_high : Steps read_once 4 2 (op.WriteFd 0 (codes "Z")) (number raised 1)
 unfolding running read_once raised
-writes_high = simp labels refl
+writes_high = (simp labels refl, refl)
 
-stops_low : step raised 5 1 (op.ReadFd 0 1) ≡ refused raised refusal.ProcCeiling
+stops_low : Steps raised 5 1 (op.ReadFd 0 1) (refused raised refusal.ProcCeiling)
 unfolding running raised
-stops_low = simp labels refl
+stops_low = (simp labels refl, refl)
 
 -- ---- all of them. The worlds stay closed until the last step is taken.
 abbrev given : List Given

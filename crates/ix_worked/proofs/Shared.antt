@@ -2,14 +2,14 @@
 use Rattle.std.proofs.Common.{◌≡◌, ℕ, List, [], ◌∷◌, Some, None, refl, codes}
 use Rattle.ix_model.specs.History as op
 use Rattle.ix_model.specs.Opening.{opening_world}
-use Rattle.ix_model.specs.Step.{Given, step}
+use Rattle.ix_model.specs.Step.{Given}
 use Rattle.ix_model.specs.World.{World}
 use Rattle.ix_model.specs.declared.call.Mode.TheVariants as mode
 use Rattle.ix_model.specs.declared.refusal.Refusal.TheVariants as refusal
 use Rattle.ix_worked.specs.Scripts.{in_root}
 use Rattle.ix_worked.specs.Sessions.{shown}
 use Rattle.ix_worked.specs.SharedEntry.{one_file, sharing, sharing_shows}
-use Rattle.ix_worked.proofs.Chains.{Gives, number, bytes, refused, done, shown_by, shown_given}
+use Rattle.ix_worked.proofs.Chains.{Steps, Gives, number, bytes, refused, done, shown_by, shown_given}
 use Rattle.ix_worked.proofs.Computing.{running}
 use Rattle.ix_worked.proofs.Labels.{labels}
 use Rattle.ix_worked.proofs.Worlds.{opened, with_entry, with_fd, moved}
@@ -42,33 +42,33 @@ unfolding at_first one_open both read_one read_two closed read_all
 worlds = 0
 
 -- ---- the steps from one to the next
-opens_it : step at_first 1 1 (op.OpenAt (in_root (codes "n")) mode.Read) ≡ number one_open 0
+opens_it : Steps at_first 1 1 (op.OpenAt (in_root (codes "n")) mode.Read) (number one_open 0)
 unfolding running worlds
-opens_it = simp labels refl
+opens_it = (simp labels refl, refl)
 
-copies : step one_open 2 1 (op.DupFd 0) ≡ number both 1
+copies : Steps one_open 2 1 (op.DupFd 0) (number both 1)
 unfolding running worlds
-copies = refl
+copies = (refl, refl)
 
-reads_a : step both 3 1 (op.ReadFd 0 1) ≡ bytes read_one (codes "a")
+reads_a : Steps both 3 1 (op.ReadFd 0 1) (bytes read_one (codes "a"))
 unfolding running worlds
-reads_a = simp labels refl
+reads_a = (simp labels refl, refl)
 
-reads_b : step read_one 4 1 (op.ReadFd 1 1) ≡ bytes read_two (codes "b")
+reads_b : Steps read_one 4 1 (op.ReadFd 1 1) (bytes read_two (codes "b"))
 unfolding running worlds
-reads_b = simp labels refl
+reads_b = (simp labels refl, refl)
 
-closes : step read_two 5 1 (op.CloseFd 0) ≡ done closed
+closes : Steps read_two 5 1 (op.CloseFd 0) (done closed)
 unfolding running worlds
-closes = refl
+closes = (refl, refl)
 
-is_refused : step closed 6 1 (op.SeekFd 1 1048577) ≡ refused closed refusal.TooBig
+is_refused : Steps closed 6 1 (op.SeekFd 1 1048577) (refused closed refusal.TooBig)
 unfolding running worlds
-is_refused = refl
+is_refused = (refl, refl)
 
-reads_c : step closed 7 1 (op.ReadFd 1 8) ≡ bytes read_all (codes "c")
+reads_c : Steps closed 7 1 (op.ReadFd 1 8) (bytes read_all (codes "c"))
 unfolding running worlds
-reads_c = simp labels refl
+reads_c = (simp labels refl, refl)
 
 -- ---- all of them. The worlds stay closed until the last step is taken.
 abbrev given : List Given

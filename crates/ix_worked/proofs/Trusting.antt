@@ -2,7 +2,7 @@
 use Rattle.std.proofs.Common.{◌≡◌, ℕ, List, [], ◌∷◌, refl, codes}
 use Rattle.ix_model.specs.History as op
 use Rattle.ix_model.specs.Opening.{opening_world}
-use Rattle.ix_model.specs.Step.{Given, step}
+use Rattle.ix_model.specs.Step.{Given}
 use Rattle.ix_model.specs.World.{World}
 use Rattle.ix_model.specs.declared.call.Mode.TheVariants as mode
 use Rattle.ix_model.specs.declared.refusal.Refusal.TheVariants as refusal
@@ -10,7 +10,7 @@ use Rattle.ix_worked.specs.Executing.{programs}
 use Rattle.ix_worked.specs.Scripts.{in_root}
 use Rattle.ix_worked.specs.Sessions.{shown}
 use Rattle.ix_worked.specs.TrustedFile.{writing_a_program, writing_a_program_shows}
-use Rattle.ix_worked.proofs.Chains.{Gives, number, refused, shown_by, shown_given}
+use Rattle.ix_worked.proofs.Chains.{Steps, Gives, number, refused, shown_by, shown_given}
 use Rattle.ix_worked.proofs.Computing.{running}
 use Rattle.ix_worked.proofs.Labels.{labels}
 use Rattle.ix_worked.proofs.Worlds.{opened, with_entry}
@@ -28,13 +28,13 @@ unfolding at_first one_open
 worlds = 0
 
 -- ---- the steps from one to the next
-opens_it : step at_first 1 1 (op.OpenAt (in_root (codes "prog")) mode.Write) ≡ number one_open 0
+opens_it : Steps at_first 1 1 (op.OpenAt (in_root (codes "prog")) mode.Write) (number one_open 0)
 unfolding running worlds
-opens_it = simp labels refl
+opens_it = (simp labels refl, refl)
 
-is_refused : step one_open 2 1 (op.WriteFd 0 (codes "x")) ≡ refused one_open refusal.Trusted
+is_refused : Steps one_open 2 1 (op.WriteFd 0 (codes "x")) (refused one_open refusal.Trusted)
 unfolding running worlds
-is_refused = refl
+is_refused = (refl, refl)
 
 -- ---- all of them. The worlds stay closed until the last step is taken.
 abbrev given : List Given

@@ -2,14 +2,14 @@
 use Rattle.std.proofs.Common.{◌≡◌, ℕ, List, [], ◌∷◌, refl, arith, codes}
 use Rattle.ix_label.specs.Category.{Categories, bottom, top}
 use Rattle.ix_model.specs.World.{World}
-use Rattle.ix_model.specs.Step.{Given, step}
+use Rattle.ix_model.specs.Step.{Given}
 use Rattle.ix_model.specs.Opening.{opening_world}
 use Rattle.ix_model.specs.History as op
 use Rattle.ix_model.specs.declared.call.Mode.TheVariants as mode
 use Rattle.ix_worked.specs.Sessions.{shown}
 use Rattle.ix_worked.specs.Scripts.{seven, in_root, proc, file, usual_fs}
 use Rattle.ix_worked.specs.TwoLevels.{two_levels, writing, writing_shows}
-use Rattle.ix_worked.proofs.Chains.{number, bytes, shown_by, shown_given}
+use Rattle.ix_worked.proofs.Chains.{Steps, number, bytes, shown_by, shown_given}
 use Rattle.ix_worked.proofs.Computing.{running}
 use Rattle.ix_worked.proofs.Labels.{labels, leq-one_top}
 use Rattle.ix_worked.proofs.Worlds.{Opened, world_with}
@@ -56,29 +56,29 @@ opening : opening_world two_levels ≡ at_first
 unfolding running at_first
 opening = refl
 
-opens_d_high : step at_first 1 2 (op.OpenAt (in_root (codes "d")) mode.Write) ≡ number one_open 0
+opens_d_high : Steps at_first 1 2 (op.OpenAt (in_root (codes "d")) mode.Write) (number one_open 0)
 unfolding running at_first one_open
-opens_d_high = simp labels refl
+opens_d_high = (simp labels refl, refl)
 
-opens_d_low : step one_open 2 1 (op.OpenAt (in_root (codes "d")) mode.Read) ≡ number two_open 0
+opens_d_low : Steps one_open 2 1 (op.OpenAt (in_root (codes "d")) mode.Read) (number two_open 0)
 unfolding running one_open two_open
-opens_d_low = simp labels refl
+opens_d_low = (simp labels refl, refl)
 
-opens_e_low : step two_open 3 1 (op.OpenAt (in_root (codes "e")) mode.Read) ≡ number all_open 1
+opens_e_low : Steps two_open 3 1 (op.OpenAt (in_root (codes "e")) mode.Read) (number all_open 1)
 unfolding running two_open all_open
-opens_e_low = simp labels refl
+opens_e_low = (simp labels refl, refl)
 
-writes_d_high : (a b : ℕ) → step all_open 4 2 (op.WriteFd 0 (a ∷ b ∷ [])) ≡ number (written a b) 2
+writes_d_high : (a b : ℕ) → Steps all_open 4 2 (op.WriteFd 0 (a ∷ b ∷ [])) (number (written a b) 2)
 unfolding running all_open written
-writes_d_high a b = simp labels refl
+writes_d_high a b = (simp labels refl, refl)
 
-reads_e_low : (a b : ℕ) → step (written a b) 5 1 (op.ReadFd 1 2) ≡ bytes (read_low a b) (codes "ok")
+reads_e_low : (a b : ℕ) → Steps (written a b) 5 1 (op.ReadFd 1 2) (bytes (read_low a b) (codes "ok"))
 unfolding running written read_low
-reads_e_low a b = simp labels refl
+reads_e_low a b = (simp labels refl, refl)
 
-reads_d_low : (a b : ℕ) → step (read_low a b) 6 1 (op.ReadFd 0 2) ≡ bytes (read_high a b) (a ∷ b ∷ [])
+reads_d_low : (a b : ℕ) → Steps (read_low a b) 6 1 (op.ReadFd 0 2) (bytes (read_high a b) (a ∷ b ∷ []))
 unfolding running read_low read_high
-reads_d_low a b = simp labels refl
+reads_d_low a b = (simp labels refl, refl)
 
 -- ---- all of them. The worlds stay closed until the last step is taken.
 abbrev given : ℕ → ℕ → List Given

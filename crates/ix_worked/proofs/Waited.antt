@@ -2,7 +2,7 @@
 use Rattle.std.proofs.Common.{◌≡◌, ℕ, List, [], ◌∷◌, refl, codes}
 use Rattle.ix_model.specs.History as op
 use Rattle.ix_model.specs.Opening.{opening_world}
-use Rattle.ix_model.specs.Step.{Given, step}
+use Rattle.ix_model.specs.Step.{Given}
 use Rattle.ix_model.specs.World.{World}
 use Rattle.ix_model.specs.declared.call.Keep.TheVariants as keep
 use Rattle.ix_model.specs.declared.call.Mode.TheVariants as mode
@@ -10,7 +10,7 @@ use Rattle.ix_model.specs.declared.reply.Reply.TheVariants as reply
 use Rattle.ix_worked.specs.Scripts.{four, in_root}
 use Rattle.ix_worked.specs.Sessions.{shown}
 use Rattle.ix_worked.specs.Waiting.{a_secret, waiting, waiting_shows}
-use Rattle.ix_worked.proofs.Chains.{Gives, number, bytes, answered, done, shown_by, shown_given}
+use Rattle.ix_worked.proofs.Chains.{Steps, Gives, number, bytes, answered, done, shown_by, shown_given}
 use Rattle.ix_worked.proofs.Computing.{running}
 use Rattle.ix_worked.proofs.Labels.{labels}
 use Rattle.ix_worked.proofs.Worlds.{floated, opened, with_entry, without_entry, moved, with_child, with_ended, without_process}
@@ -40,25 +40,25 @@ unfolding at_first forked one_open read_once ended waited
 worlds = 0
 
 -- ---- the steps from one to the next
-forks : step at_first 1 1 (op.Fork keep.All) ≡ number forked 2
+forks : Steps at_first 1 1 (op.Fork keep.All) (number forked 2)
 unfolding running worlds
-forks = refl
+forks = (refl, refl)
 
-opens_it : step forked 2 2 (op.OpenAt (in_root (codes "s")) mode.Read) ≡ number one_open 0
+opens_it : Steps forked 2 2 (op.OpenAt (in_root (codes "s")) mode.Read) (number one_open 0)
 unfolding running worlds
-opens_it = simp labels refl
+opens_it = (simp labels refl, refl)
 
-reads : step one_open 3 2 (op.ReadFd 0 1) ≡ bytes read_once (codes "k")
+reads : Steps one_open 3 2 (op.ReadFd 0 1) (bytes read_once (codes "k"))
 unfolding running worlds
-reads = simp labels refl
+reads = (simp labels refl, refl)
 
-exits : step read_once 4 2 (op.Exit 9) ≡ done ended
+exits : Steps read_once 4 2 (op.Exit 9) (done ended)
 unfolding running worlds
-exits = refl
+exits = (refl, refl)
 
-waits : step ended 5 1 op.WaitChild ≡ answered waited (reply.Child (record { 0 = 2 }) 9)
+waits : Steps ended 5 1 op.WaitChild (answered waited (reply.Child (record { 0 = 2 }) 9))
 unfolding running worlds
-waits = simp labels refl
+waits = (simp labels refl, refl)
 
 -- ---- all of them. The worlds stay closed until the last step is taken.
 abbrev given : List Given

@@ -2,7 +2,7 @@
 use Rattle.std.proofs.Common.{◌≡◌, ℕ, List, [], ◌∷◌, refl, codes}
 use Rattle.ix_label.specs.Category.{bottom, top}
 use Rattle.ix_model.specs.World.{World}
-use Rattle.ix_model.specs.Step.{Given, step}
+use Rattle.ix_model.specs.Step.{Given}
 use Rattle.ix_model.specs.Opening.{opening_world}
 use Rattle.ix_model.specs.History as op
 use Rattle.ix_model.specs.declared.call.Mode.TheVariants as mode
@@ -10,7 +10,7 @@ use Rattle.ix_model.specs.declared.refusal.Refusal.TheVariants as refusal
 use Rattle.ix_worked.specs.Sessions.{shown}
 use Rattle.ix_worked.specs.Scripts.{three, in_root, proc, file}
 use Rattle.ix_worked.specs.FileCeiling.{low_fs, low_files, writing_down, writing_down_shows}
-use Rattle.ix_worked.proofs.Chains.{number, bytes, refused, shown_by, shown_given}
+use Rattle.ix_worked.proofs.Chains.{Steps, number, bytes, refused, shown_by, shown_given}
 use Rattle.ix_worked.proofs.Computing.{running}
 use Rattle.ix_worked.proofs.Labels.{labels}
 use Rattle.ix_worked.proofs.Worlds.{Opened, world_with}
@@ -34,17 +34,17 @@ opening : opening_world low_files ≡ at_first
 unfolding running at_first
 opening = refl
 
-opens : step at_first 1 1 (op.OpenAt (in_root (codes "t")) mode.Both) ≡ number one_open 0
+opens : Steps at_first 1 1 (op.OpenAt (in_root (codes "t")) mode.Both) (number one_open 0)
 unfolding running at_first one_open
-opens = simp labels refl
+opens = (simp labels refl, refl)
 
-stops : step one_open 2 1 (op.WriteFd 0 (codes "new")) ≡ refused one_open refusal.FsCeiling
+stops : Steps one_open 2 1 (op.WriteFd 0 (codes "new")) (refused one_open refusal.FsCeiling)
 unfolding running one_open
-stops = simp labels refl
+stops = (simp labels refl, refl)
 
-reads : step one_open 3 1 (op.ReadFd 0 3) ≡ bytes read_on (codes "old")
+reads : Steps one_open 3 1 (op.ReadFd 0 3) (bytes read_on (codes "old"))
 unfolding running one_open read_on
-reads = simp labels refl
+reads = (simp labels refl, refl)
 
 -- ---- all of them. The worlds stay closed until the last step is taken.
 abbrev given : List Given

@@ -189,9 +189,10 @@ pub fn a_copy_goes_through_a_pipe()
     ensures shown { shown one_file copying ≡ copying_shows }
 {}
 
-/// A server of sessions forks a process for the user who asked over a whole path, gives it a ceiling and a licence,
-/// and tells so. The grant is logged, and the rest is not.
-pub fn a_session_is_granted_over_a_whole_path()
+/// A server forks a process for a user who asked over a whole path, gives it a ceiling and licences, and tells so;
+/// another server grants a licence to who has floated, and floats too. The grants and the lowering are logged, and
+/// nothing else is.
+pub fn servers_act_for_users_over_whole_paths()
     ensures valid { is_valid office ≡ true }
     ensures shown { shown office asking ≡ asking_shows }
     ensures logged { log_of office asking ≡ asking_shows.log }

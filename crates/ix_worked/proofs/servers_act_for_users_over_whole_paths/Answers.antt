@@ -1,8 +1,8 @@
 use Rattle.std.proofs.Common.{refl}
 use Rattle.ix_worked.proofs.Computing.{fitting}
 use Rattle.ix_worked.proofs.Labels.{labels}
-use Rattle.ix_worked.proofs.LoggedIn.{logged_in, grant_logged}
-use Rattle.ix_worked.proofs.a_session_is_granted_over_a_whole_path.Goals as goal
+use Rattle.ix_worked.proofs.LoggedIn.{logged_in, grants_logged}
+use Rattle.ix_worked.proofs.servers_act_for_users_over_whole_paths.Goals as goal
 
 pub returns-clause-valid : goal.returns-clause-valid
 unfolding fitting
@@ -12,4 +12,4 @@ pub returns-clause-shown : goal.returns-clause-shown
 returns-clause-shown c = logged_in
 
 pub returns-clause-logged : goal.returns-clause-logged
-returns-clause-logged c = grant_logged
+returns-clause-logged c = grants_logged
