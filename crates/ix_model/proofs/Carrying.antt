@@ -50,7 +50,7 @@ keep_ended t u xs ended clean long = ap (keep 0 (λ n. is_ended (at t n) && is_e
 contents : {h1 h2 : List Holding} {p1 p2 s1 s2 : List ℕ} → h1 ≡ h2 → p1 ≡ p2 → s1 ≡ s2 → ◌≡◌ {A = Content} (record { holdings = h1; offsets = p1; statuses = s1 }) (record { holdings = h2; offsets = p2; statuses = s2 })
 contents h p s = λ i. record { holdings = h i; offsets = p i; statuses = s i }
 
-carried_same : (w : World) (g : Frame) → Lasts w.frame g → IsClean w → carried w.frame g w.content ≡ w.content
+pub carried_same : (w : World) (g : Frame) → Lasts w.frame g → IsClean w → carried w.frame g w.content ≡ w.content
 unfolding carried
 carried_same w g lasts clean =
     let f = w.frame in let c = w.content in
