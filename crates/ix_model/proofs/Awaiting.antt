@@ -191,3 +191,16 @@ module _ (f : Frame) (o : ℕ) (x : Object) (new : IsNew f o x) where
     claims = claims_new s.claims;
     limits = limits_new s.limits;
   }
+
+-- ---- the whole
+pub awaiting : (o : ℕ) (f : Frame) → FrameSound f → Awaiting o f
+awaiting o f s = record { labels = s.labels; names = names_but o f s.names; lives = lives_but o f s.lives; opens = s.opens; processes = s.processes; claims = s.claims; limits = s.limits }
+
+-- the one object is as it has to be
+pub record Arrived (o : ℕ) (f : Frame) : Type 0 where
+  pub once : (x : Object) → at f.objects o ≡ Some x → is_dir x ≡ true → times_named f.objects o ≡ (if o == 0 then 0 else 1)
+  pub file : (x : Object) → at f.objects o ≡ Some x → is_file x ≡ true → (not (times_named f.objects o == 0) || held f.opens o 0) ≡ true
+  pub pipe : (x : Object) → at f.objects o ≡ Some x → is_pipe x ≡ true → (held f.opens o 0 || held f.opens o 1) ≡ true
+
+pub arrived : (o : ℕ) (f : Frame) → Awaiting o f → Arrived o f → FrameSound f
+arrived o f s a = record { labels = s.labels; names = names_all o f s.names a.once; lives = lives_all o f s.lives a.file a.pipe; opens = s.opens; processes = s.processes; claims = s.claims; limits = s.limits }
