@@ -65,7 +65,7 @@ ends_movable x now f P Q fits h k =
     (λ other. ends_then _ _ f P Q (ends_need _ _ f P _ (λ free. ends_need _ _ f P Q h (k _)) (k _)))
     (λ no. h (subst (λ (l : Categories). leq l (ceiling_of f.fss x) ≡ true) ((same-decides x.label now).0 (not-false _ no)) fits))))
 
-holds_both : {A : Type 0} (R S : Frame → Type 0) (o : Outcome A) → Holds o R → Holds o S → Holds o (λ g. R g × S g)
+pub holds_both : {A : Type 0} (R S : Frame → Type 0) (o : Outcome A) → Holds o R → Holds o S → Holds o (λ g. R g × S g)
 unfolding Holds
 holds_both R S (Refuse r g) h k = (h, k)
 holds_both R S (Pass a g) h k = (h, k)
