@@ -84,9 +84,6 @@ pub record IsNew (f : Frame) (o : ℕ) (x : Object) : Type 0 where
   pub number : (k : ℕ) → x.fs ≡ Some k → (first_inode f.fss k ≤ o) × (o < first_inode f.fss k + inodes_of f.fss k)
 
 module _ (f : Frame) (o : ℕ) (x : Object) (new : IsNew f o x) where
-  made : Frame
-  made = record f { objects = put f.objects o (Some x) }
-
   -- what passes a test stood at another number, and passes it still
   stands_apart : (test : Option Object → Bool) → test None ≡ false → (m : ℕ) → test (at f.objects m) ≡ true → m ≢ o
   stands_apart test none m h same = true≢false (sym h ∙ ap (λ n. test (at f.objects n)) same ∙ ap test new.free ∙ none)
@@ -99,8 +96,11 @@ module _ (f : Frame) (o : ℕ) (x : Object) (new : IsNew f o x) where
       let before : F (at f.objects o) ≡ 0 = ap F new.free ∙ none in
       omega (arith, sum_put F f.objects o (Some x) new.inside, before, here)
 
-  times_new : (m : ℕ) → times_named (put f.objects o (Some x)) m ≡ times_named f.objects m
+  pub times_new : (m : ℕ) → times_named (put f.objects o (Some x)) m ≡ times_named f.objects m
   times_new m = sum_new (times_in m) refl (ap (count_by (λ n. n.1 == m)) new.nameless)
+
+  pub names_in_new : names_in_all (put f.objects o (Some x)) ≡ names_in_all f.objects
+  names_in_new = sum_new (λ y. option_map_or (λ z. length z.names) y 0) refl (ap length new.nameless)
 
   pub names_new : NamesSound f → NamesBut o (record f { objects = put f.objects o (Some x) })
   names_new n = record {
@@ -175,9 +175,7 @@ module _ (f : Frame) (o : ℕ) (x : Object) (new : IsNew f o x) where
     ];
     opens = l.opens;
     processes = l.processes;
-    names =
-        let same : names_in_all (put f.objects o (Some x)) ≡ names_in_all f.objects = sum_new (λ y. option_map_or (λ z. length z.names) y 0) refl (ap length new.nameless) in
-        omega (arith, l.names);
+    names = omega (arith, names_in_new, l.names);
     log = l.log;
   }
 

@@ -4,7 +4,7 @@ use Rattle.std.specs.List.{list_any}
 use Rattle.std.proofs.lemmas.Bool.{or_cases, or_left, or_right, cases_lt}
 use Rattle.std.proofs.lemmas.Bool.Decides.{eqb_tells}
 use Rattle.std.proofs.lemmas.List.{get_or-set_same, get_or-set_other, get_or_past, set_past}
-use Rattle.std.proofs.lemmas.List.Sums.{sum-map, sum_by-set, get_or-le-sum_by, sum_by_push}
+use Rattle.std.proofs.lemmas.List.Sums.{sum-map, sum_by-set, sum_by-cons, get_or-le-sum_by, sum_by_push}
 use Rattle.ix_model.specs.World.{at, put, change}
 
 -- ---- one put
@@ -105,3 +105,11 @@ module _ {A : Type 0} (F : Option A → ℕ) where
       let one = sum-map F (t ++ x ∷ []) in
       let two = sum-map F t in
       omega (arith, one, two, sum_by_push F t x)
+
+-- a sum of nothings
+pub sum_zero : {A : Type 0} (F : Option A → ℕ) (t : List (Option A)) → ((n : ℕ) → F (at t n) ≡ 0) → sum (map F t) ≡ 0
+sum_zero F [] none = refl
+sum_zero F (x ∷ t) none =
+    let first : F x ≡ 0 = none 0 in
+    let rest : sum (map F t) ≡ 0 = sum_zero F t (λ n. none (suc n)) in
+    omega (arith, sum_by-cons (λ (n : ℕ). n) (F x) (map F t), first, rest)

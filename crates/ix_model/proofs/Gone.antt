@@ -5,7 +5,6 @@ use Rattle.std.specs.List.{list_any}
 use Rattle.std.proofs.lemmas.Bool.{and_from, or_parts, or_left, or_right, or_cases, and_parts, not-true, not-false, eqb-true, eq-eqb, ne_eqb, cases_Bool, cases_lt}
 use Rattle.std.proofs.lemmas.Bool.Decides.{eqb_tells}
 use Rattle.std.proofs.lemmas.List.{get_or-set_other}
-use Rattle.std.proofs.lemmas.List.Sums.{sum_by-cons}
 use Rattle.ix_model.specs.World.{Frame, Object, Process, Open, at, put, is_file, is_dir, is_pipe, is_on, held, living}
 use Rattle.ix_model.specs.Owners.{times_in, times_named, names_in_all}
 use Rattle.ix_model.specs.Rows.{put_object, only_if}
@@ -14,7 +13,7 @@ use Rattle.ix_model.specs.Sound.{LabelsBelow, NamesSound, LivesSound, OpensSound
 use Rattle.ix_model.specs.declared.refusal.Refusal.{Refusal}
 use Rattle.ix_model.specs.declared.reply.Kind.{Kind}
 use Rattle.ix_model.specs.declared.reply.Kind.TheVariants as kind
-use Rattle.ix_model.proofs.Finds.{at_put, any_by, in_table, put_none, passes_some, sum_put, sum_at}
+use Rattle.ix_model.proofs.Finds.{at_put, any_by, in_table, passes_some, sum_put, sum_at, sum_zero}
 use Rattle.ix_model.proofs.Labels.{labels_put_object}
 use Rattle.ix_model.proofs.Frames.{FrameSound}
 use Rattle.ix_model.proofs.Awaiting.{Awaiting, Arrived, arrived}
@@ -102,13 +101,6 @@ module _ (f : Frame) (o : ℕ) (x : Object) (u : IsUnneeded f o x) where
   }
 
 -- ---- an object that goes where it doesn't stay
-sum_zero : {A : Type 0} (F : Option A → ℕ) (t : List (Option A)) → ((n : ℕ) → F (at t n) ≡ 0) → sum (map F t) ≡ 0
-sum_zero F [] none = refl
-sum_zero F (x ∷ t) none =
-    let first : F x ≡ 0 = none 0 in
-    let rest : sum (map F t) ≡ 0 = sum_zero F t (λ n. none (suc n)) in
-    omega (arith, sum_by-cons (λ (n : ℕ). n) (F x) (map F t), first, rest)
-
 -- what is no directory is a file or a pipe
 pub kinds_left : (x : Object) → is_dir x ≡ false → ((is_file x ≡ true) × (is_pipe x ≡ false)) ⊎ ((is_file x ≡ false) × (is_pipe x ≡ true))
 kinds_left x h = go x.kind h

@@ -5,7 +5,7 @@ use Rattle.ix_label.specs.Category.{Categories}
 use Rattle.ix_model.specs.Naming.{PathOf, last_name}
 use Rattle.ix_model.specs.World.{Frame, Object, Process, at, living, is_dir}
 use Rattle.ix_model.specs.Outcomes.{Row}
-use Rattle.ix_model.specs.Rows.{observe, affect}
+use Rattle.ix_model.specs.Rows.{pass, refuse, observe}
 use Rattle.ix_model.specs.Walks.{Sought, node, child, lacking, looking_into, walk_from, walk, join_all, walked_to, there, spot, vacant, found, found_in, missing}
 use Rattle.ix_model.specs.Walks as sought
 use Rattle.ix_model.specs.declared.refusal.Refusal.{Refusal}
@@ -13,8 +13,8 @@ use Rattle.ix_model.specs.declared.refusal.Refusal.TheVariants as refusal
 use Rattle.ix_model.proofs.Tables.{SameBut, back, seen_same}
 use Rattle.ix_model.proofs.Keeps.{Holds, Keeps}
 use Rattle.ix_model.proofs.Ends.{Ends, ends_kept, ends_bind, ends_then, ends_pass, ends_frame, ends_caller, ends_there}
-use Rattle.ix_model.proofs.Floats.{Floats, object_but, floats_itself, floats_observe, floats_affect}
-use Rattle.ix_model.proofs.Frames.{FrameSound, Follows, follows_observe, follows_affect}
+use Rattle.ix_model.proofs.Floats.{Floats, object_but, floats_itself, floats_observe}
+use Rattle.ix_model.proofs.Frames.{FrameSound, Follows, follows_observe}
 use Rattle.ix_model.proofs.Logging.{holds_both}
 
 -- ---- a name in a directory
@@ -110,3 +110,35 @@ ends_walked_to f g pid path P Q s refused passed =
     ends_then _ _ g P Q (ends_along f g (observe pid (join_all (walk g.objects p path).looked)) (follows_observe f pid _) (floats_observe f pid _) P _ s refused (λ u h k.
     ends_pass _ h P Q (passed _ h k (leads_back f g s.floats (last_name path.names) _ (walks g p path t.names.root (t.processes.home pid p lives)))))))))
     (refused _ g s.follows))
+
+-- ---- what was found
+ends_vacant : (w : Sought) (f : Frame) (P : Refusal → Frame → Type 0) (Q : ℕ → Frame → Type 0) → ((d : ℕ) → w ≡ sought.Missing d → Q d f) → ((r : Refusal) → P r f) → Ends (vacant w f) P Q
+unfolding vacant Ends pass refuse
+ends_vacant (sought.Found o dir) f P Q h k = k _
+ends_vacant (sought.Missing d) f P Q h k = h d refl
+ends_vacant sought.NotFound f P Q h k = k _
+ends_vacant sought.NotDir f P Q h k = k _
+
+ends_spot : (w : Sought) (f : Frame) (P : Refusal → Frame → Type 0) (Q : (ℕ × Option ℕ) → Frame → Type 0) → ((o : ℕ) (dir : Option ℕ) → w ≡ sought.Found o dir → Q (o, dir) f) → ((r : Refusal) → P r f) → Ends (spot w f) P Q
+unfolding spot Ends pass refuse
+ends_spot (sought.Found o dir) f P Q h k = h o dir refl
+ends_spot (sought.Missing d) f P Q h k = k _
+ends_spot sought.NotFound f P Q h k = k _
+ends_spot sought.NotDir f P Q h k = k _
+
+-- what a walk told, and where it led
+pub leads_vacant : (f : Frame) (name : List ℕ) (w : Sought) (h : Frame) (P : Refusal → Frame → Type 0) (Q : ℕ → Frame → Type 0) → Leads f name w → ((d : ℕ) → Within f d name None → Q d h) → ((r : Refusal) → P r h) → Ends (vacant w h) P Q
+leads_vacant f name w h P Q leads next k = ends_vacant w h P Q (λ d is. next d (subst (λ (v : Sought). Leads f name v) is leads)) k
+
+pub leads_there : (f : Frame) (name : List ℕ) (w : Sought) (h : Frame) (P : Refusal → Frame → Type 0) (Q : ℕ → Frame → Type 0) → Leads f name w → ((o : ℕ) (dir : Option ℕ) → Leads f name (sought.Found o dir) → Q o h) → ((r : Refusal) → P r h) → Ends (there w h) P Q
+leads_there f name w h P Q leads next k = ends_there w h P Q (λ o dir is. next o dir (subst (λ (v : Sought). Leads f name v) is leads)) (k _) (k _)
+
+pub ends_missing : (f : Frame) (pid : ℕ) (path : PathOf) (P : Refusal → Frame → Type 0) (Q : ℕ → Frame → Type 0) → Follows f f → ((r : Refusal) (h : Frame) → Follows f h → P r h) → ((d : ℕ) (h : Frame) → Along f h → Within f d (last_name path.names) None → Q d h) → Ends (missing pid path f) P Q
+unfolding missing
+ends_missing f pid path P Q s refused passed = ends_bind _ _ f P Q (ends_walked_to f f pid path P _ (along_itself f s) refused (λ w h k leads.
+    leads_vacant f (last_name path.names) w h P Q leads (λ d within. passed d h k within) (λ r. refused r h k.follows)))
+
+pub ends_found_in : (f : Frame) (pid : ℕ) (path : PathOf) (P : Refusal → Frame → Type 0) (Q : (ℕ × Option ℕ) → Frame → Type 0) → Follows f f → ((r : Refusal) (h : Frame) → Follows f h → P r h) → ((o : ℕ) (dir : Option ℕ) (h : Frame) → Along f h → Leads f (last_name path.names) (sought.Found o dir) → Q (o, dir) h) → Ends (found_in pid path f) P Q
+unfolding found_in
+ends_found_in f pid path P Q s refused passed = ends_bind _ _ f P Q (ends_walked_to f f pid path P _ (along_itself f s) refused (λ w h k leads.
+    ends_spot w h P Q (λ o dir is. passed o dir h k (subst (λ (v : Sought). Leads f (last_name path.names) v) is leads)) (λ r. refused r h k.follows)))
