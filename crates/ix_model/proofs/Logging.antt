@@ -71,10 +71,10 @@ holds_both R S (Refuse r g) h k = (h, k)
 holds_both R S (Pass a g) h k = (h, k)
 
 module _ (f : Frame) where
-  abbrev Refused : Refusal → Frame → Type 0
+  abbrev pub Refused : Refusal → Frame → Type 0
   Refused r g = Follows f g
 
-  abbrev Passed : {A : Type 0} → A → Frame → Type 0
+  abbrev pub Passed : {A : Type 0} → A → Frame → Type 0
   Passed a g = Follows f g
 
   follows_logged : (g : Frame) (l : AuditLine) → HasRoom g → Follows f g → Follows f (record g { log = g.log ++ l ∷ [] })
