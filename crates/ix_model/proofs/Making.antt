@@ -21,7 +21,8 @@ use Rattle.ix_model.specs.declared.reply.Reply.{Reply}
 use Rattle.ix_model.proofs.Tables.{none_is, back, length_same, map_same, seen_same}
 use Rattle.ix_model.proofs.Finds.{sum_zero}
 use Rattle.ix_model.proofs.There.{child_named}
-use Rattle.ix_model.proofs.Ends.{Ends, ends_kept, ends_bind, ends_then, ends_pass, ends_frame, ends_need, ends_some, ends_object, ends_change_object}
+use Rattle.ix_model.proofs.Ends.{Ends, ends_kept, kept_ends, ends_bind, ends_then, ends_pass, ends_frame, ends_need, ends_some, ends_object, ends_change_object}
+use Rattle.ix_model.proofs.Looks.{ends_affect}
 use Rattle.ix_model.proofs.Endings.{ends_put_object}
 use Rattle.ix_model.proofs.FreeNumbers.{free_inode_is}
 use Rattle.ix_model.proofs.Floats.{Floats, object_but, floats_itself, floats_affect}
@@ -81,11 +82,14 @@ created f m h a b r d o j name kind no_pipe within free room =
       fixed = fixed_change_object f g (fixed_new_object f h b.fixed o (Some x) free_f) d (with_name name o) (λ y. record { pipe = refl; fs = refl });
     }
 
-module _ (f : Frame) (s : FrameSound f) where
+module _ (f : Frame) where
   -- affect, from a frame on the way
-  affect_on : (m : Frame) → Follows f m → (pid d : ℕ) (Q : Unit {0} → Frame → Type 0) → ((h : Frame) → Follows f h → Floats m h → Q tt h) → Ends (affect pid d m) (Refused f) Q
-  affect_on m k pid d Q next = ends_kept (λ h. Follows f h × Floats m h) (affect pid d m) (Refused f) Q (holds_both _ _ _ ((follows_affect f pid d).led m k) ((floats_affect m pid d).led m (floats_itself m))) (λ r h j. j.0) (λ u h j. next h j.0 j.1)
+  pub affect_on : (m : Frame) → Follows f m → (pid d : ℕ) (Q : Unit {0} → Frame → Type 0) → ((h : Frame) → Follows f h → Floats m h → h.processes ≡ m.processes → Q tt h) → Ends (affect pid d m) (Refused f) Q
+  affect_on m k pid d Q next = ends_kept (λ h. (Follows f h × Floats m h) × (h.processes ≡ m.processes)) (affect pid d m) (Refused f) Q
+      (holds_both _ _ _ (holds_both _ _ _ ((follows_affect f pid d).led m k) ((floats_affect m pid d).led m (floats_itself m))) (kept_ends (λ h. h.processes ≡ m.processes) _ (ends_affect pid d m _ _ (λ r. refl) refl (λ l x is low. refl))))
+      (λ r h j. j.0.0) (λ u h j. next h j.0.0 j.0.1 j.1)
 
+module _ (f : Frame) (s : FrameSound f) where
   make_ends : (pid : ℕ) (path : PathOf) (kind : Kind) → ((j : ℕ) → is_pipe (new_object kind (Some j)) ≡ false) → Ends (make pid path kind f) (Refused f) (Passed f)
   unfolding make
   make_ends pid path kind no_pipe =
@@ -94,7 +98,7 @@ module _ (f : Frame) (s : FrameSound f) where
       ends_bind _ _ m (Refused f) (Passed f) (ends_frame m (Refused f) _ (
       ends_bind _ _ m (Refused f) (Passed f) (ends_some _ _ m (Refused f) _ (λ o free.
       ends_then _ _ m (Refused f) (Passed f) (ends_need _ _ m (Refused f) _ (λ room.
-      ends_then _ _ m (Refused f) (Passed f) (affect_on m k.follows pid d _ (λ h b r.
+      ends_then _ _ m (Refused f) (Passed f) (affect_on f m k.follows pid d _ (λ h b r same.
       ends_then _ _ h (Refused f) (Passed f) (ends_put_object o _ h (Refused f) _ (
       ends_then _ _ _ (Refused f) (Passed f) (ends_change_object d _ _ (Refused f) _ (
       ends_pass _ _ (Refused f) (Passed f) (created f m h k b r d o (fs_number x) (last_name path.names) kind (no_pipe (fs_number x)) within free room)))))))
@@ -143,6 +147,6 @@ module _ (f : Frame) (s : FrameSound f) where
       ends_then _ _ m (Refused f) (Passed f) (ends_need _ _ m (Refused f) _ (λ one_fs.
       ends_bind _ _ m (Refused f) (Passed f) (ends_frame m (Refused f) _ (
       ends_then _ _ m (Refused f) (Passed f) (ends_need _ _ m (Refused f) _ (λ room.
-      ends_then _ _ m (Refused f) (Passed f) (affect_on f s m k.follows pid d _ (λ h j r.
+      ends_then _ _ m (Refused f) (Passed f) (affect_on f m k.follows pid d _ (λ h j r same.
       ends_then _ _ h (Refused f) (Passed f) (ends_change_object d _ h (Refused f) _ (
       ends_pass _ _ (Refused f) (Passed f) (linked f m h s k j r d o dir (last_name target.names) (last_name path.names) x is no_dir leads within room)))))) k.follows)))) k.follows)) k.follows)) (λ r. k.follows))) k.follows)) k.follows)) (λ r. k.follows))))))
