@@ -19,15 +19,15 @@ use Rattle.ix_model.proofs.Floated.{has_on}
 no_none : {A : Type 0} (p : Option A → Bool) (o : Option A) → p None ≡ false → o ≡ None → p o ≡ true → ⊥
 no_none p o none is h = true≢false (sym h ∙ ap p is ∙ none)
 
-or_more : (a b c : Bool) → (b ≡ true → c ≡ true) → (a || b) ≡ true → (a || c) ≡ true
+pub or_more : (a b c : Bool) → (b ≡ true → c ≡ true) → (a || b) ≡ true → (a || c) ≡ true
 or_more true b c more h = refl
 or_more false b c more h = more h
 
-and_more : (a b c : Bool) → (b ≡ true → c ≡ true) → (a && b) ≡ true → (a && c) ≡ true
+pub and_more : (a b c : Bool) → (b ≡ true → c ≡ true) → (a && b) ≡ true → (a && c) ≡ true
 and_more true b c more h = more h
 and_more false b c more h = h
 
-either_more : (a b c d : Bool) → (a ≡ true → c ≡ true) → (b ≡ true → d ≡ true) → (a || b) ≡ true → (c || d) ≡ true
+pub either_more : (a b c d : Bool) → (a ≡ true → c ≡ true) → (b ≡ true → d ≡ true) → (a || b) ≡ true → (c || d) ≡ true
 either_more true b c d one two h = let e : c ≡ true = one refl in rw e refl
 either_more false b c d one two h = go c
   where

@@ -104,7 +104,7 @@ module _ (f : Frame) where
   ends_logged_last l g room s a = ends_then _ _ g Refused Passed (ends_logged l g Refused _ (ends_pass a _ Refused Passed (follows_logged g l room s)))
 
   -- what a row keeps, and what is done next
-  ends_next : {A : Type 0} (m : Row A) (g : Frame) (Q : A → Frame → Type 0) → Keeps (Follows f) m → Follows f g → ((a : A) (h : Frame) → Follows f h → Q a h) → Ends (m g) Refused Q
+  pub ends_next : {A : Type 0} (m : Row A) (g : Frame) (Q : A → Frame → Type 0) → Keeps (Follows f) m → Follows f g → ((a : A) (h : Frame) → Follows f h → Q a h) → Ends (m g) Refused Q
   ends_next m g Q keeps s next = ends_kept (Follows f) (m g) Refused Q (keeps.led g s) (λ r h k. k) next
 
   -- the object's label is that
