@@ -96,7 +96,7 @@ module _ (f : Frame) (s : FrameSound f) (pid fd : ℕ) (e : Behind) (b : IsBehin
   lives_taken : LivesSound taken
   lives_taken = record { file = s.lives.file; pipe = s.lives.pipe }
 
-  loose_taken : ClaimsSound taken → Loose e.id taken
+  pub loose_taken : ClaimsSound taken → Loose e.id taken
   loose_taken claims = record {
     labels = labels_process f s.labels pid (λ q. record q { fds = put q.fds fd None }) (λ q here. s.labels.processes pid q here);
     names = names_taken;
@@ -126,7 +126,7 @@ module _ (f : Frame) (s : FrameSound f) (pid fd : ℕ) (e : Behind) (b : IsBehin
   }
 
   -- it is the process's own where it isn't lost
-  claims_kept : has_lost taken pid e.entry.object e.entry.end ≡ false → ClaimsSound taken
+  pub claims_kept : has_lost taken pid e.entry.object e.entry.end ≡ false → ClaimsSound taken
   claims_kept kept = record {
     claimant = λ m k p x is claim. elim (eqb_tells p pid) [
       | inr apart ↦ claims_taken.claimant m k p x is claim (λ one. apart.1 one.2)
@@ -146,7 +146,7 @@ module _ (f : Frame) (s : FrameSound f) (pid fd : ℕ) (e : Behind) (b : IsBehin
     ];
   }
 
-  loose_unclaimed : Loose e.id unclaimed
+  pub loose_unclaimed : Loose e.id unclaimed
   loose_unclaimed =
       let r = floats_object taken taken e.entry.object (λ x. record x { claims = put x.claims e.entry.end None }) (λ y. refl) (floats_itself taken) in
       let below : LabelsBelow taken = labels_process f s.labels pid (λ q. record q { fds = put q.fds fd None }) (λ q here. s.labels.processes pid q here) in
