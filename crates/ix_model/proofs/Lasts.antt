@@ -1,24 +1,22 @@
 -- What stands stays.
-use Rattle.std.proofs.Common.{ℕ, zero, suc, ◌≡◌, Bool, true, false, List, [], ◌∷◌, Option, Some, is_some, refl, ◌∙◌, length, length-set, if◌then◌else◌}
+use Rattle.std.proofs.Common.{ℕ, zero, suc, ◌≡◌, Bool, true, false, List, [], ◌∷◌, Option, Some, is_some, refl, ap, ◌∙◌, length, length-set, if◌then◌else◌}
+use Rattle.std.specs.List.{list_all}
 use Rattle.ix_label.specs.Category.{Categories}
-use Rattle.ix_model.specs.Naming.{PathOf}
 use Rattle.ix_model.specs.World.{Frame, Object, Process, Open, at, put, change, lives, is_ended}
 use Rattle.ix_model.specs.Outcomes.{Outcome, Refuse, Pass}
-use Rattle.ix_model.specs.Rows.{put_open, change_object, change_process, observe, affect}
-use Rattle.ix_model.specs.Walks.{walked_to, found, opened}
+use Rattle.ix_model.specs.Rows.{put_open, put_object, change_object, change_process}
+use Rattle.ix_model.specs.Auditing.{logged}
 use Rattle.ix_model.specs.Refusals.{keeps_label}
-use Rattle.ix_model.specs.OnDescriptors.{Told, read_fd, write_fd}
+use Rattle.ix_model.specs.OnDescriptors.{Told}
 use Rattle.ix_model.specs.Table.{Decision, row, settled, decide}
-use Rattle.ix_model.specs.OnLabels.{self_label}
-use Rattle.ix_model.specs.OnPaths.{open_at}
 use Rattle.ix_model.specs.History.{Op}
-use Rattle.ix_model.specs.History as op
-use Rattle.ix_model.specs.declared.call.Mode.{Mode}
+use Rattle.ix_model.specs.declared.audit.AuditLine.{AuditLine}
 use Rattle.ix_model.specs.declared.reply.Reply.{Reply}
 use Rattle.ix_model.specs.declared.reply.Reply.TheVariants as reply
 use Rattle.ix_model.specs.declared.refusal.Refusal.TheVariants as refusal
 use Rattle.ix_model.proofs.Tables.{seen_changed}
-use Rattle.ix_model.proofs.Keeps.{Holds, Keeps, keeping, keeps_refuse}
+use Rattle.ix_model.proofs.Keeps.{Holds, Keeps}
+use Rattle.ix_model.proofs.Rowwise.{Change, LettingGo, Forking, Ending, Words, changes_of, kept_row}
 
 -- what stands in the first table stands in the second
 pub record Lasting {A : Type 0} (t u : List (Option A)) : Type 0 where
@@ -42,13 +40,13 @@ some_put (y ∷ t) zero x (suc m) h = h
 some_put (y ∷ t) (suc n) x zero h = h
 some_put (y ∷ t) (suc n) x (suc m) h = some_put t n x m h
 
-lasting_itself : {A : Type 0} (t : List (Option A)) → Lasting t t
+pub lasting_itself : {A : Type 0} (t : List (Option A)) → Lasting t t
 lasting_itself t = record { stays = λ n is. is }
 
-lasting_change : {A : Type 0} (t u : List (Option A)) (n : ℕ) (h : A → A) → Lasting t u → Lasting t (change u n h)
+pub lasting_change : {A : Type 0} (t u : List (Option A)) (n : ℕ) (h : A → A) → Lasting t u → Lasting t (change u n h)
 lasting_change t u n h r = record { stays = λ m is. seen_changed is_some h (λ x. refl) u n m ∙ r.stays m is }
 
-lasting_put : {A : Type 0} (t u : List (Option A)) (n : ℕ) (x : A) → Lasting t u → Lasting t (put u n (Some x))
+pub lasting_put : {A : Type 0} (t u : List (Option A)) (n : ℕ) (x : A) → Lasting t u → Lasting t (put u n (Some x))
 lasting_put t u n x r = record { stays = λ m is. some_put u n x m (r.stays m is) }
 
 ended_change : (t u : List (Option Process)) (n : ℕ) (h : Process → Process) → ((q : Process) → (h q).ended ≡ q.ended) → Ended t u → Ended t (change u n h)
@@ -59,61 +57,55 @@ lasts_itself : (f : Frame) → Lasts f f
 lasts_itself f = record { objects = lasting_itself f.objects; opens = lasting_itself f.opens; processes = record { stays = λ n is. is; count = refl } }
 
 module _ (f : Frame) where
-  lasts_change_object : (o : ℕ) (h : Object → Object) → Keeps (Lasts f) (change_object o h)
+  lasts_objects : (o : ℕ) (h : Object → Object) → Keeps (Lasts f) (change_object o h)
   unfolding change_object Holds
-  lasts_change_object o h = record { led = λ g r. record { objects = lasting_change _ _ o h r.objects; opens = r.opens; processes = r.processes } }
+  lasts_objects o h = record { led = λ g r. record { objects = lasting_change _ _ o h r.objects; opens = r.opens; processes = r.processes } }
 
-  lasts_change_process : (o : ℕ) (h : Process → Process) → ((q : Process) → (h q).ended ≡ q.ended) → Keeps (Lasts f) (change_process o h)
+  lasts_processes : (p : ℕ) (h : Process → Process) → ((q : Process) → (h q).ended ≡ q.ended) → Keeps (Lasts f) (change_process p h)
   unfolding change_process Holds
-  lasts_change_process o h same = record { led = λ g r. record { objects = r.objects; opens = r.opens; processes = ended_change _ _ o h same r.processes } }
+  lasts_processes p h same = record { led = λ g r. record { objects = r.objects; opens = r.opens; processes = ended_change _ _ p h same r.processes } }
+
+  lasts_put_object : (o : ℕ) (x : Object) → Keeps (Lasts f) (put_object o (Some x))
+  unfolding put_object Holds
+  lasts_put_object o x = record { led = λ g r. record { objects = lasting_put _ _ o x r.objects; opens = r.opens; processes = r.processes } }
 
   lasts_put_open : (e : ℕ) (x : Open) → Keeps (Lasts f) (put_open e (Some x))
   unfolding put_open Holds
   lasts_put_open e x = record { led = λ g r. record { objects = r.objects; opens = lasting_put _ _ e x r.opens; processes = r.processes } }
 
-  ruleset lasting = (keeping, lasts_change_object, lasts_change_process, lasts_put_open)
+  lasts_logged : (l : AuditLine) → Keeps (Lasts f) (logged l)
+  unfolding logged Holds
+  lasts_logged l = record { led = λ g r. record { objects = r.objects; opens = r.opens; processes = r.processes } }
 
-  lasts_observe : (pid : ℕ) (seen : Categories) → Keeps (Lasts f) (observe pid seen)
-  unfolding observe
-  lasts_observe pid seen = search lasting depth 30
+-- what lets nothing go, and makes no process
+abbrev pub lets_stay : Change → Bool
+lets_stay LettingGo = false
+lets_stay Forking = false
+lets_stay Ending = false
+lets_stay _ = true
 
-  lasts_affect : (pid o : ℕ) → Keeps (Lasts f) (affect pid o)
-  unfolding affect
-  lasts_affect pid o = search lasting depth 30
+-- whether a call lets nothing go, and makes no process
+abbrev pub lets_nothing_go : Op → Bool
+lets_nothing_go c = list_all lets_stay (changes_of c)
 
-  lasts_found : (pid : ℕ) (path : PathOf) → Keeps (Lasts f) (found pid path)
-  unfolding found walked_to
-  lasts_found pid path = search (lasting, lasts_observe) depth 30
-
-  lasts_opened : (pid fd : ℕ) → Keeps (Lasts f) (opened pid fd)
-  unfolding opened
-  lasts_opened pid fd = search lasting depth 30
-
-  ruleset lasting_rows = (lasting, lasts_observe, lasts_affect, lasts_found, lasts_opened)
-
-  lasts_self_label : (pid : ℕ) → Keeps (Lasts f) (self_label pid)
-  unfolding self_label
-  lasts_self_label pid = search lasting_rows depth 40
-
-  lasts_open_at : (pid : ℕ) (path : PathOf) (mode : Mode) → Keeps (Lasts f) (open_at pid path mode)
-  unfolding open_at
-  lasts_open_at pid path mode = search lasting_rows depth 40
-
-  lasts_read_fd : (t : Told) (pid fd count : ℕ) → Keeps (Lasts f) (read_fd t pid fd count)
-  unfolding read_fd
-  lasts_read_fd t pid fd count = search lasting_rows depth 40
-
-  lasts_write_fd : (t : Told) (pid fd : ℕ) → Keeps (Lasts f) (write_fd t pid fd)
-  unfolding write_fd
-  lasts_write_fd t pid fd = search lasting_rows depth 40
-
-  lasts_row : (t : Told) (place pid : ℕ) (c : Op) → Keeps (Lasts f) (row t place pid c)
-  unfolding row
-  lasts_row t place pid (op.OpenAt path mode) = lasts_open_at pid path mode
-  lasts_row t place pid (op.ReadFd fd count) = lasts_read_fd t pid fd count
-  lasts_row t place pid (op.WriteFd fd bytes) = lasts_write_fd t pid fd
-  lasts_row t place pid op.SelfLabel = lasts_self_label pid
-  lasts_row t place pid _ = keeps_refuse (Lasts f) refusal.NoProcess
+lasting_words : (pid : ℕ) (f : Frame) → Words lets_stay pid (Lasts f)
+lasting_words pid f = record {
+  object = λ o h same. lasts_objects f o h;
+  process = λ p h same. lasts_processes f p h (λ q. ap (λ r. r.ended) (same q));
+  float = λ h same. lasts_processes f pid h (λ q. ap (λ r. r.ended) (same q));
+  entry = lasts_put_open f;
+  unclaim = λ o end. lasts_objects f o _;
+  relabel = λ can o h same. lasts_objects f o h;
+  claim = λ can o h same. lasts_objects f o h;
+  log = λ can. lasts_logged f;
+  inode = λ can g o k kind r free. lasts_put_object f o _;
+  pipe = λ can g o r free. lasts_put_object f o _;
+  gone_object = λ can. cc;
+  gone_open = λ can. cc;
+  fork = λ can. cc;
+  end = λ can. cc;
+  collect = λ can. cc;
+}
 
 -- ---- decisions
 kept_or_not : (R : Frame → Type 0) (b : Bool) (f g : Frame) → R f → R g → R (if b then g else f)
@@ -137,5 +129,9 @@ decided R t place pid c f rf h = go (lives f pid)
     go true = settled_keeps R f (row t place pid c f) rf h
     go false = rf
 
-pub lasts_decided : (t : Told) (place pid : ℕ) (c : Op) (f : Frame) → Lasts f (decide t place pid c f).frame
-lasts_decided t place pid c f = decided (Lasts f) t place pid c f (lasts_itself f) ((lasts_row f t place pid c).led f (lasts_itself f))
+pub lasts_decided : (t : Told) (place pid : ℕ) (c : Op) (f : Frame) → lets_nothing_go c ≡ true → Lasts f (decide t place pid c f).frame
+lasts_decided t place pid c f stays = decided (Lasts f) t place pid c f (lasts_itself f) ((kept_row lets_stay pid (Lasts f) (lasting_words pid f) t place c stays).led f (lasts_itself f))
+
+-- a frame in which the caller's label alone has changed
+pub lasts_relabelled : (pid : ℕ) (l : Categories) (f : Frame) → Lasts f (record f { processes = change f.processes pid (λ p. record p { label = l }) })
+lasts_relabelled pid l f = record { objects = lasting_itself f.objects; opens = lasting_itself f.opens; processes = ended_change _ _ pid _ (λ q. refl) (record { stays = λ n is. is; count = refl }) }

@@ -97,13 +97,6 @@ opening_counts c valid flat =
     subst (λ (w : World). (length w.frame.objects ≤ 66560) × (length w.frame.processes ≤ 1025) × (w.frame.log ≡ [])) (sym r.is) (omega (arith, objects, r.count, pipes, inodes.1), omega (arith, processes, few, procs), refl)
 
 -- ---- runs
-pub clean_run : (w : World) (place : ℕ) (h : List Event) → IsClean w → IsClean (run w place h)
-clean_run w place [] clean = clean
-clean_run w place (e ∷ h) clean = clean_run (step_of w place e).world (suc place) h (clean_step w place e.pid e.op clean)
-
-pub clean_reached : (c : Config) (h : List Event) → IsClean (run (opening_world c) 1 h)
-clean_reached c h = clean_run (opening_world c) 1 h (clean_opening c)
-
 pub sound_run : (w : World) (place : ℕ) (h : List Event) → list_all (λ e. is_built e.op) h ≡ true → IsClean w → Sound w → Sound (run w place h)
 sound_run w place [] built clean s = s
 sound_run w place (e ∷ h) built clean s =

@@ -1,68 +1,42 @@
--- A built call gives as many bytes as its reply says.
+-- A call gives as many bytes as its reply says.
 use Rattle.std.proofs.Common.{◌≡◌, ◌≤◌, ℕ, Bool, true, false, List, [], Option, Some, None, refl, sym, subst, arith, nat_le, if◌then◌else◌}
 use Rattle.std.proofs.lemmas.Bool.{leb-true}
 use Rattle.std.proofs.lemmas.List.{length-take}
 use Rattle.ix_label.specs.Category.{Categories}
-use Rattle.ix_model.specs.Naming.{PathOf}
 use Rattle.ix_model.specs.World.{World, Frame, lives}
 use Rattle.ix_model.specs.Outcomes.{Outcome, Refuse, Pass}
-use Rattle.ix_model.specs.Rows.{observe, affect}
-use Rattle.ix_model.specs.Walks.{Behind, behind, found}
-use Rattle.ix_model.specs.OnDescriptors.{Told, read_fd, write_fd}
+use Rattle.ix_model.specs.Rows.{observe}
+use Rattle.ix_model.specs.Walks.{Behind, behind}
+use Rattle.ix_model.specs.OnDescriptors.{Told, read_fd}
 use Rattle.ix_model.specs.Table.{Decision, row, settled, decide}
-use Rattle.ix_model.specs.OnLabels.{self_label}
-use Rattle.ix_model.specs.OnPaths.{open_at}
 use Rattle.ix_model.specs.Contents.{readable}
-use Rattle.ix_model.specs.Step.{plainly, read_answer, write_answer, answer, step}
+use Rattle.ix_model.specs.Step.{plainly, read_answer, write_answer, cut_answer, seek_answer, stat_answer, exit_answer, wait_answer, pex_answer, answer, step}
 use Rattle.ix_model.specs.Telling.{told}
-use Rattle.ix_model.specs.Calls.{is_built}
 use Rattle.ix_model.specs.Shown.{AreShown}
 use Rattle.ix_model.specs.History.{Op}
 use Rattle.ix_model.specs.History as op
-use Rattle.ix_model.specs.declared.call.Mode.{Mode}
 use Rattle.ix_model.specs.declared.refusal.Refusal.{Refusal}
 use Rattle.ix_model.specs.declared.refusal.Refusal.TheVariants as refusal
+use Rattle.ix_model.specs.declared.reply.Kind.TheVariants as kind
 use Rattle.ix_model.specs.declared.reply.Reply.{Reply}
 use Rattle.ix_model.specs.declared.reply.Reply.TheVariants as reply
 use Rattle.ix_model.proofs.Ends.{Ends, Anything, ending}
-
--- whatever a row comes to
-whatever : {A : Type 0} (o : Outcome A) (Q : A → Frame → Type 0) → ((a : A) (g : Frame) → Q a g) → Ends o Anything Q
-unfolding Ends
-whatever (Refuse r g) Q h = tt
-whatever (Pass a g) Q h = h a g
-
-any_found : (pid : ℕ) (path : PathOf) (f : Frame) (Q : ℕ → Frame → Type 0) → ((o : ℕ) (g : Frame) → Q o g) → Ends (found pid path f) Anything Q
-any_found pid path f Q h = whatever (found pid path f) Q h
-
-any_observe : (pid : ℕ) (seen : Categories) (f : Frame) (Q : Unit {0} → Frame → Type 0) → ((g : Frame) → Q tt g) → Ends (observe pid seen f) Anything Q
-any_observe pid seen f Q h = whatever (observe pid seen f) Q (λ u g. h g)
-
-any_affect : (pid o : ℕ) (f : Frame) (Q : Unit {0} → Frame → Type 0) → ((g : Frame) → Q tt g) → Ends (affect pid o f) Anything Q
-any_affect pid o f Q h = whatever (affect pid o f) Q (λ u g. h g)
+use Rattle.ix_model.proofs.Refusing.{is_bare, Relabels, relabels_row}
 
 -- ---- replies without bytes
 abbrev Without : Reply → Type 0
 Without r = AreShown r []
 
-without : (f : Frame) (o : Outcome Reply) → Ends o Anything (λ r g. Without r) → Without (settled f o).reply
+bare_without : (r : Reply) → is_bare r ≡ true → Without r
+bare_without (reply.Bytes k) h = cc
+bare_without _ h = refl
+
+without : (pid : ℕ) (f : Frame) (o : Outcome Reply) → Relabels is_bare pid f o → Without (settled f o).reply
 unfolding Ends
-without f (Refuse r g) h = refl
-without f (Pass r g) h = h
+without pid f (Refuse r g) h = refl
+without pid f (Pass r g) h = bare_without r h
 
-open_without : (pid : ℕ) (path : PathOf) (m : Mode) (f : Frame) → Ends (open_at pid path m f) Anything (λ r g. Without r)
-unfolding open_at
-open_without pid path m f = search (ending, any_found) depth 40 fits 8000
-
-write_without : (t : Told) (pid fd : ℕ) (f : Frame) → Ends (write_fd t pid fd f) Anything (λ r g. Without r)
-unfolding write_fd
-write_without t pid fd f = search (ending, any_affect) depth 40 fits 8000
-
-self_without : (pid : ℕ) (f : Frame) → Ends (self_label pid f) Anything (λ r g. Without r)
-unfolding self_label
-self_without pid f = search ending depth 20
-
-decided_without : (t : Told) (place pid : ℕ) (o : Op) (f : Frame) → Ends (row t place pid o f) Anything (λ r g. Without r) → Without (decide t place pid o f).reply
+decided_without : (t : Told) (place pid : ℕ) (o : Op) (f : Frame) → Relabels is_bare pid f (row t place pid o f) → Without (decide t place pid o f).reply
 unfolding decide
 decided_without t place pid o f h = go (lives f pid)
   where
@@ -70,10 +44,19 @@ decided_without t place pid o f h = go (lives f pid)
     unknown = record { reply = reply.No refusal.NoProcess; frame = f }
 
     go : (b : Bool) → Without (if b then settled f (row t place pid o f) else unknown).reply
-    go true = without f (row t place pid o f) h
+    go true = without pid f (row t place pid o f) h
     go false = refl
 
 -- ---- a read
+-- whatever a look comes to
+any_observe : (pid : ℕ) (seen : Categories) (f : Frame) (Q : Unit {0} → Frame → Type 0) → ((g : Frame) → Q tt g) → Ends (observe pid seen f) Anything Q
+unfolding Ends
+any_observe pid seen f Q h = go (observe pid seen f)
+  where
+    go : (o : Outcome (Unit {0})) → Ends o Anything Q
+    go (Refuse r g) = tt
+    go (Pass u g) = h g
+
 -- a read that passes asks for at most 4,096 bytes, and has an open entry behind its descriptor
 pub record ReadFacts (pid fd count : ℕ) (f : Frame) (r : Reply) : Type 0 where
   pub entry : Behind
@@ -120,10 +103,44 @@ unfolding write_answer plainly
 write_shown w new (Some e) (reply.Number k) g h = refl
 write_shown w new _ r g h = h
 
-pub shown_step : (w : World) (place pid : ℕ) (o : Op) → is_built o ≡ true → AreShown (step w place pid o).reply (step w place pid o).bytes
-unfolding step answer told plainly row
-shown_step w place pid (op.OpenAt path mode) built = decided_without _ place pid (op.OpenAt path mode) w.frame (open_without pid path mode w.frame)
-shown_step w place pid (op.ReadFd fd count) built = read_shown w pid fd count (behind w.frame pid fd) _ _ refl (read_said _ place pid fd count w.frame)
-shown_step w place pid (op.WriteFd fd bytes) built = write_shown w bytes (behind w.frame pid fd) _ _ (decided_without _ place pid (op.WriteFd fd bytes) w.frame (write_without _ pid fd w.frame))
-shown_step w place pid op.SelfLabel built = decided_without _ place pid op.SelfLabel w.frame (self_without pid w.frame)
-shown_step w place pid _ built = absurd (cc)
+cut_shown : (w : World) (len : ℕ) (b : Option Behind) (r : Reply) (g : Frame) → Without r → AreShown (cut_answer w len b r g).reply (cut_answer w len b r g).bytes
+unfolding cut_answer plainly
+cut_shown w len (Some e) reply.Done g h = refl
+cut_shown w len _ r g h = h
+
+seek_shown : (w : World) (offset : ℕ) (b : Option Behind) (r : Reply) (g : Frame) → Without r → AreShown (seek_answer w offset b r g).reply (seek_answer w offset b r g).bytes
+unfolding seek_answer plainly
+seek_shown w offset (Some e) reply.Done g h = refl
+seek_shown w offset _ r g h = h
+
+stat_shown : (w : World) (r : Reply) (g : Frame) → Without r → AreShown (stat_answer w r g).reply (stat_answer w r g).bytes
+unfolding stat_answer plainly
+stat_shown w (reply.Stat o kind.File size links frozen cap lic) g h = refl
+stat_shown w r g h = h
+
+exit_shown : (w : World) (pid status : ℕ) (r : Reply) (g : Frame) → Without r → AreShown (exit_answer w pid status r g).reply (exit_answer w pid status r g).bytes
+unfolding exit_answer plainly
+exit_shown w pid status reply.Done g h = refl
+exit_shown w pid status r g h = h
+
+wait_shown : (w : World) (r : Reply) (g : Frame) → Without r → AreShown (wait_answer w r g).reply (wait_answer w r g).bytes
+unfolding wait_answer plainly
+wait_shown w (reply.Child p status) g h = refl
+wait_shown w r g h = h
+
+pex_shown : (w : World) (b : Option Behind) (r : Reply) (g : Frame) → Without r → AreShown (pex_answer w b r g).reply (pex_answer w b r g).bytes
+unfolding pex_answer plainly
+pex_shown w (Some e) r g h = h
+pex_shown w None r g h = h
+
+pub shown_step : (w : World) (place pid : ℕ) (o : Op) → AreShown (step w place pid o).reply (step w place pid o).bytes
+unfolding step answer told plainly
+shown_step w place pid (op.ReadFd fd count) = read_shown w pid fd count (behind w.frame pid fd) _ _ refl (read_said _ place pid fd count w.frame)
+shown_step w place pid (op.WriteFd fd bytes) = write_shown w bytes (behind w.frame pid fd) _ _ (decided_without _ place pid (op.WriteFd fd bytes) w.frame (relabels_row pid w.frame _ place (op.WriteFd fd bytes)))
+shown_step w place pid (op.CutFd fd len) = cut_shown w len (behind w.frame pid fd) _ _ (decided_without _ place pid (op.CutFd fd len) w.frame (relabels_row pid w.frame _ place (op.CutFd fd len)))
+shown_step w place pid (op.SeekFd fd offset) = seek_shown w offset (behind w.frame pid fd) _ _ (decided_without _ place pid (op.SeekFd fd offset) w.frame (relabels_row pid w.frame _ place (op.SeekFd fd offset)))
+shown_step w place pid (op.StatAt path) = stat_shown w _ _ (decided_without _ place pid (op.StatAt path) w.frame (relabels_row pid w.frame _ place (op.StatAt path)))
+shown_step w place pid (op.Exit status) = exit_shown w pid status _ _ (decided_without _ place pid (op.Exit status) w.frame (relabels_row pid w.frame _ place (op.Exit status)))
+shown_step w place pid op.WaitChild = wait_shown w _ _ (decided_without _ place pid op.WaitChild w.frame (relabels_row pid w.frame _ place op.WaitChild))
+shown_step w place pid (op.Pex fd) = pex_shown w (behind w.frame pid fd) _ _ (decided_without _ place pid (op.Pex fd) w.frame (relabels_row pid w.frame _ place (op.Pex fd)))
+shown_step w place pid o = decided_without _ place pid o w.frame (relabels_row pid w.frame _ place o)

@@ -20,6 +20,14 @@ seen_changed F h same (x ∷ t) zero (suc m) = refl
 seen_changed F h same (x ∷ t) (suc n) zero = refl
 seen_changed F h same (x ∷ t) (suc n) (suc m) = seen_changed F h same t n m
 
+-- what is seen at a number stays so, where it stays so of what is put
+pub seen_put : {A : Type 0} (F : Option A → Bool) (b : Bool) (t : List (Option A)) (n : ℕ) (x : Option A) (m : ℕ) → (F (at t n) ≡ b → F x ≡ b) → F (at t m) ≡ b → F (at (put t n x) m) ≡ b
+seen_put F b [] n x m h is = is
+seen_put F b (y ∷ t) zero x zero h is = h is
+seen_put F b (y ∷ t) zero x (suc m) h is = is
+seen_put F b (y ∷ t) (suc n) x zero h is = is
+seen_put F b (y ∷ t) (suc n) x (suc m) h is = seen_put F b t n x m h is
+
 pub map_changed : {A B : Type 0} (F : Option A → B) (h : A → A) → ((x : A) → F (Some (h x)) ≡ F (Some x)) → (t : List (Option A)) (n : ℕ) → map F (change t n h) ≡ map F t
 map_changed F h same [] n = refl
 map_changed F h same (None ∷ t) zero = refl

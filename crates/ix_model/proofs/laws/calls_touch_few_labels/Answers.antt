@@ -1,0 +1,5 @@
+use Rattle.ix_model.proofs.Touching.{few_labels}
+use Rattle.ix_model.proofs.laws.calls_touch_few_labels.Goals as goal
+
+pub returns : goal.returns
+returns c = record { few = few_labels }

@@ -1,0 +1,5 @@
+use Rattle.ix_model.proofs.Written.{holds_written}
+use Rattle.ix_model.proofs.laws.pipes_hold_what_was_written.Goals as goal
+
+pub returns : goal.returns
+returns c = record { written = holds_written }
