@@ -114,7 +114,7 @@ module _ (f : Frame) where
       let one : x ≡ y = cc in
       subst (λ (z : Object). leq now (ceiling_of g.fss z) ≡ true) one low) s
 
-  set_label_ends : (place pid : ℕ) (path : PathOf) (now : Categories) (g : Frame) → Follows f g → Ends (set_label place pid path now g) Refused Passed
+  pub set_label_ends : (place pid : ℕ) (path : PathOf) (now : Categories) (g : Frame) → Follows f g → Ends (set_label place pid path now g) Refused Passed
   unfolding set_label
   set_label_ends place pid path now g s =
       ends_bind _ _ g Refused Passed (ends_next _ g _ (follows_found f pid path) s (λ o m r.
@@ -132,7 +132,7 @@ module _ (f : Frame) where
       let one : p ≡ q = cc in
       subst (λ (y : Process). leq now y.ceiling ≡ true) one low) s
 
-  set_self_ends : (place pid : ℕ) (now : Categories) (g : Frame) → Follows f g → Ends (set_self place pid now g) Refused Passed
+  pub set_self_ends : (place pid : ℕ) (now : Categories) (g : Frame) → Follows f g → Ends (set_self place pid now g) Refused Passed
   unfolding set_self
   set_self_ends place pid now g s =
       ends_bind _ _ g Refused Passed (ends_caller pid g Refused _ (λ p lives.
@@ -147,7 +147,7 @@ module _ (f : Frame) where
       (λ yes. ends_exercise pid _ g Refused _ (λ room. second (λ again. room)) (λ why. s))
       (λ no. second (λ yes. absurd (true≢false (sym yes ∙ no)))))) s)
 
-  thaw_ends : (place pid : ℕ) (path : PathOf) (g : Frame) → Follows f g → Ends (thaw place pid path g) Refused Passed
+  pub thaw_ends : (place pid : ℕ) (path : PathOf) (g : Frame) → Follows f g → Ends (thaw place pid path g) Refused Passed
   unfolding thaw
   thaw_ends place pid path g s =
       ends_bind _ _ g Refused Passed (ends_next _ g _ (follows_found f pid path) s (λ o m r.
@@ -157,7 +157,7 @@ module _ (f : Frame) where
       ends_logged_last _ _ room (followed_object f m o _ (λ y. refl) (λ y. refl) (λ y here. r.sound.labels.objects o y here) r) _)))
       (λ why. r))) r)))
 
-  thaw_self_ends : (place pid : ℕ) (g : Frame) → Follows f g → Ends (thaw_self place pid g) Refused Passed
+  pub thaw_self_ends : (place pid : ℕ) (g : Frame) → Follows f g → Ends (thaw_self place pid g) Refused Passed
   unfolding thaw_self
   thaw_self_ends place pid g s =
       ends_bind _ _ g Refused Passed (ends_caller pid g Refused _ (λ p lives.
@@ -166,7 +166,7 @@ module _ (f : Frame) where
       ends_logged_last _ _ room (followed_process f g pid _ (λ q. refl) (λ q. refl) (λ q here. s.sound.labels.processes pid q here) s) _)))
       (λ why. s))) s)
 
-  grant_lic_ends : (place pid target : ℕ) (set : PrivSet) (g : Frame) → Follows f g → Ends (grant_lic place pid target set g) Refused Passed
+  pub grant_lic_ends : (place pid target : ℕ) (set : PrivSet) (g : Frame) → Follows f g → Ends (grant_lic place pid target set g) Refused Passed
   unfolding grant_lic
   grant_lic_ends place pid target set g s =
       ends_bind _ _ g Refused Passed (ends_caller target g Refused _ (λ p lives.
@@ -182,7 +182,7 @@ module _ (f : Frame) where
       let one : p ≡ q = cc in
       subst (λ (y : Process). leq y.label now ≡ true) one low) s
 
-  set_ceiling_ends : (place pid target : ℕ) (now : Categories) (g : Frame) → Follows f g → Ends (set_ceiling place pid target now g) Refused Passed
+  pub set_ceiling_ends : (place pid target : ℕ) (now : Categories) (g : Frame) → Follows f g → Ends (set_ceiling place pid target now g) Refused Passed
   unfolding set_ceiling
   set_ceiling_ends place pid target now g s =
       ends_bind _ _ g Refused Passed (ends_caller target g Refused _ (λ p lives.
@@ -193,7 +193,7 @@ module _ (f : Frame) where
       (λ yes. ends_exercise pid _ g Refused _ (λ room. last (λ again. room)) (λ why. s))
       (λ no. last (λ yes. absurd (true≢false (sym yes ∙ no)))))) s)) s)
 
-  read_log_ends : (place pid index : ℕ) (g : Frame) → Follows f g → Ends (read_log place pid index g) Refused Passed
+  pub read_log_ends : (place pid index : ℕ) (g : Frame) → Follows f g → Ends (read_log place pid index g) Refused Passed
   unfolding read_log
   read_log_ends place pid index g s =
       ends_then _ _ g Refused Passed (ends_entitled pid _ g Refused _ (
@@ -207,7 +207,7 @@ module _ (f : Frame) where
   room_affect : (pid o : ℕ) → Keeps HasRoom (affect pid o)
   room_affect pid o = record { led = λ g room. kept_ends HasRoom _ (ends_affect pid o g (λ r h. HasRoom h) (λ u h. HasRoom h) (λ why. room) room (λ l x is low. room)) }
 
-  set_priv_ends : (place pid : ℕ) (path : PathOf) (cap lic : PrivSet) (g : Frame) → Follows f g → Ends (set_priv place pid path cap lic g) Refused Passed
+  pub set_priv_ends : (place pid : ℕ) (path : PathOf) (cap lic : PrivSet) (g : Frame) → Follows f g → Ends (set_priv place pid path cap lic g) Refused Passed
   unfolding set_priv
   set_priv_ends place pid path cap lic g s =
       ends_bind _ _ g Refused Passed (ends_next _ g _ (follows_found f pid path) s (λ o m r.
@@ -244,7 +244,7 @@ module _ (f : Frame) where
         fixed = fixed_floats f g s.fixed k r;
       }
 
-  change_dir_ends : (pid : ℕ) (path : PathOf) (g : Frame) → Follows f g → Ends (change_dir pid path g) Refused Passed
+  pub change_dir_ends : (pid : ℕ) (path : PathOf) (g : Frame) → Follows f g → Ends (change_dir pid path g) Refused Passed
   unfolding change_dir
   change_dir_ends pid path g s =
       ends_bind _ _ g Refused Passed (ends_next _ g _ (follows_found f pid path) s (λ o m r.
