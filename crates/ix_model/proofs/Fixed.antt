@@ -1,112 +1,84 @@
--- The limits, the file systems and the lengths of the tables stay, and the log: no built call writes into it.
-use Rattle.std.proofs.Common.{ℕ, ◌≡◌, List, Option, Some, refl, sym, subst, ◌∙◌, length, length-set}
-use Rattle.ix_label.specs.Category.{Categories}
-use Rattle.ix_model.specs.Naming.{PathOf}
-use Rattle.ix_model.specs.World.{World, Frame, Object, Process, Open}
-use Rattle.ix_model.specs.Rows.{put_open, change_object, change_process, observe, affect}
-use Rattle.ix_model.specs.Walks.{Behind, behind, walked_to, found, opened}
-use Rattle.ix_model.specs.Step.{plainly, read_answer, write_answer, answer, step}
-use Rattle.ix_model.specs.Telling.{told}
-use Rattle.ix_model.specs.declared.reply.Reply.{Reply}
-use Rattle.ix_model.specs.declared.reply.Reply.TheVariants as reply
-use Rattle.ix_model.specs.OnDescriptors.{Told, read_fd, write_fd}
-use Rattle.ix_model.specs.OnLabels.{self_label}
-use Rattle.ix_model.specs.OnPaths.{open_at}
-use Rattle.ix_model.specs.Table.{row, decide}
-use Rattle.ix_model.specs.History.{Op}
-use Rattle.ix_model.specs.History as op
-use Rattle.ix_model.specs.declared.call.Mode.{Mode}
-use Rattle.ix_model.specs.declared.refusal.Refusal.TheVariants as refusal
-use Rattle.ix_model.proofs.Keeps.{Holds, Keeps, keeping, keeps_refuse}
-use Rattle.ix_model.proofs.Lasts.{decided}
+-- What no call changes: the limits, the file systems, the lengths of the objects' and the open entries' tables, and of an
+-- object that stays its file system and whether it is a pipe.
+use Rattle.std.proofs.Common.{◌≡◌, ℕ, List, Option, Some, None, refl, sym, ap, ◌∙◌, subst, length, length-set, inl, inr}
+use Rattle.ix_model.specs.World.{Frame, Object, Process, Open, at, put, change, is_pipe}
+use Rattle.ix_model.proofs.Tables.{SameBut, back, length_same}
+use Rattle.ix_model.proofs.Finds.{at_put, at_change}
+use Rattle.ix_model.proofs.Floats.{Floats, object_but}
+
+-- an object is of the same kind, pipe or not, and on the same file system
+pub record SameKind (x y : Object) : Type 0 where
+  pub pipe : is_pipe y ≡ is_pipe x
+  pub fs : y.fs ≡ x.fs
+
+same_kind_again : (x y z : Object) → SameKind x y → SameKind y z → SameKind x z
+same_kind_again x y z a b = record { pipe = b.pipe ∙ a.pipe; fs = b.fs ∙ a.fs }
+
+-- what stands in both tables
+abbrev pub Kinds : List (Option Object) → List (Option Object) → Type 0
+Kinds t u = (o : ℕ) (x y : Object) → at t o ≡ Some x → at u o ≡ Some y → SameKind x y
 
 pub record Fixed (f g : Frame) : Type 0 where
   pub limits : g.limits ≡ f.limits
   pub fss : g.fss ≡ f.fss
   pub objects : length g.objects ≡ length f.objects
-  pub processes : length g.processes ≡ length f.processes
   pub opens : length g.opens ≡ length f.opens
-  pub log : g.log ≡ f.log
+  pub kinds : Kinds f.objects g.objects
 
-fixed_itself : (f : Frame) → Fixed f f
-fixed_itself f = record { limits = refl; fss = refl; objects = refl; processes = refl; opens = refl; log = refl }
+pub fixed_itself : (f : Frame) → Fixed f f
+fixed_itself f = record { limits = refl; fss = refl; objects = refl; opens = refl; kinds = λ o x y is here. let e : Some x ≡ Some y = sym is ∙ here in let same : x ≡ y = cc in subst (λ (z : Object). SameKind x z) same (record { pipe = refl; fs = refl }) }
 
-module _ (f : Frame) where
-  fixed_change_object : (o : ℕ) (h : Object → Object) → Keeps (Fixed f) (change_object o h)
-  unfolding change_object Holds
-  fixed_change_object o h = record { led = λ g r. record { limits = r.limits; fss = r.fss; objects = length-set g.objects o _ ∙ r.objects; processes = r.processes; opens = r.opens; log = r.log } }
+module _ (f g : Frame) (r : Fixed f g) where
+  pub fixed_floats : (h : Frame) → Floats g h → Fixed f h
+  fixed_floats h s = record {
+    limits = s.limits ∙ r.limits;
+    fss = s.fss ∙ r.fss;
+    objects = length_same object_but g.objects h.objects s.objects ∙ r.objects;
+    opens = ap length s.opens ∙ r.opens;
+    kinds = λ o x y is here.
+        let b = back object_but (λ z. refl) g.objects h.objects s.objects o y here in
+        same_kind_again x b.was y (r.kinds o x b.was is b.is_was) (record { pipe = ap is_pipe b.same; fs = ap (λ z. z.fs) b.same });
+  }
 
-  fixed_change_caller : (p : ℕ) (h : Process → Process) → Keeps (Fixed f) (change_process p h)
-  unfolding change_process Holds
-  fixed_change_caller p h = record { led = λ g r. record { limits = r.limits; fss = r.fss; objects = r.objects; processes = length-set g.processes p _ ∙ r.processes; opens = r.opens; log = r.log } }
+  pub fixed_change_object : (o : ℕ) (h : Object → Object) → ((x : Object) → SameKind x (h x)) → Fixed f (record g { objects = change g.objects o h })
+  fixed_change_object o h same = record {
+    limits = r.limits;
+    fss = r.fss;
+    objects = length-set g.objects o _ ∙ r.objects;
+    opens = r.opens;
+    kinds = λ n x y is here. elim (at_change g.objects o h n y here) [
+      | inl c ↦ subst (λ (z : Object). SameKind x z) (sym c.same) (same_kind_again x c.was (h c.was) (r.kinds n x c.was is (ap (at g.objects) c.here ∙ c.is_was)) (same c.was))
+      | inr other ↦ r.kinds n x y is other.1
+    ];
+  }
 
-  fixed_put_open : (e : ℕ) (x : Option Open) → Keeps (Fixed f) (put_open e x)
-  unfolding put_open Holds
-  fixed_put_open e x = record { led = λ g r. record { limits = r.limits; fss = r.fss; objects = r.objects; processes = r.processes; opens = length-set g.opens e _ ∙ r.opens; log = r.log } }
+  pub fixed_gone_object : (o : ℕ) → Fixed f (record g { objects = put g.objects o None })
+  fixed_gone_object o = record {
+    limits = r.limits;
+    fss = r.fss;
+    objects = length-set g.objects o None ∙ r.objects;
+    opens = r.opens;
+    kinds = λ n x y is here. elim (at_put g.objects o n None y here) [
+      | inl new ↦ let e : None ≡ Some y = new.1 in cc
+      | inr other ↦ r.kinds n x y is other.1
+    ];
+  }
 
-  ruleset fixing = (keeping, fixed_change_object, fixed_change_caller, fixed_put_open)
+  -- at a number that was free
+  pub fixed_new_object : (o : ℕ) (x : Option Object) → at f.objects o ≡ None → Fixed f (record g { objects = put g.objects o x })
+  fixed_new_object o x free = record {
+    limits = r.limits;
+    fss = r.fss;
+    objects = length-set g.objects o x ∙ r.objects;
+    opens = r.opens;
+    kinds = λ n y z is here. elim (at_put g.objects o n x z here) [
+      | inl new ↦ let e : None ≡ Some y = sym free ∙ ap (at f.objects) (sym new.0) ∙ is in cc
+      | inr other ↦ r.kinds n y z is other.1
+    ];
+  }
 
-  fixed_observe : (pid : ℕ) (seen : Categories) → Keeps (Fixed f) (observe pid seen)
-  unfolding observe
-  fixed_observe pid seen = search fixing depth 30
+  pub fixed_put_open : (e : ℕ) (x : Option Open) → Fixed f (record g { opens = put g.opens e x })
+  fixed_put_open e x = record { limits = r.limits; fss = r.fss; objects = r.objects; opens = length-set g.opens e x ∙ r.opens; kinds = r.kinds }
 
-  fixed_affect : (pid o : ℕ) → Keeps (Fixed f) (affect pid o)
-  unfolding affect
-  fixed_affect pid o = search fixing depth 30
-
-  fixed_found : (pid : ℕ) (path : PathOf) → Keeps (Fixed f) (found pid path)
-  unfolding found walked_to
-  fixed_found pid path = search (fixing, fixed_observe) depth 30
-
-  fixed_opened : (pid fd : ℕ) → Keeps (Fixed f) (opened pid fd)
-  unfolding opened
-  fixed_opened pid fd = search fixing depth 30
-
-  ruleset fixing_rows = (fixing, fixed_observe, fixed_affect, fixed_found, fixed_opened)
-
-  fixed_self_label : (pid : ℕ) → Keeps (Fixed f) (self_label pid)
-  unfolding self_label
-  fixed_self_label pid = search fixing_rows depth 40
-
-  fixed_open_at : (pid : ℕ) (path : PathOf) (mode : Mode) → Keeps (Fixed f) (open_at pid path mode)
-  unfolding open_at
-  fixed_open_at pid path mode = search fixing_rows depth 40
-
-  fixed_read_fd : (t : Told) (pid fd count : ℕ) → Keeps (Fixed f) (read_fd t pid fd count)
-  unfolding read_fd
-  fixed_read_fd t pid fd count = search fixing_rows depth 40
-
-  fixed_write_fd : (t : Told) (pid fd : ℕ) → Keeps (Fixed f) (write_fd t pid fd)
-  unfolding write_fd
-  fixed_write_fd t pid fd = search fixing_rows depth 40
-
-  fixed_row : (t : Told) (place pid : ℕ) (c : Op) → Keeps (Fixed f) (row t place pid c)
-  unfolding row
-  fixed_row t place pid (op.OpenAt path mode) = fixed_open_at pid path mode
-  fixed_row t place pid (op.ReadFd fd count) = fixed_read_fd t pid fd count
-  fixed_row t place pid (op.WriteFd fd bytes) = fixed_write_fd t pid fd
-  fixed_row t place pid op.SelfLabel = fixed_self_label pid
-  fixed_row t place pid _ = keeps_refuse (Fixed f) refusal.NoProcess
-
-fixed_decided : (t : Told) (place pid : ℕ) (c : Op) (f : Frame) → Fixed f (decide t place pid c f).frame
-fixed_decided t place pid c f = decided (Fixed f) t place pid c f (fixed_itself f) ((fixed_row f t place pid c).led f (fixed_itself f))
-
--- ---- the step
-fixed_read : (w : World) (count : ℕ) (b : Option Behind) (r : Reply) (g : Frame) → (read_answer w count b r g).world.frame ≡ g
-unfolding read_answer plainly
-fixed_read w count (Some e) (reply.Bytes k) g = refl
-fixed_read w count _ r g = refl
-
-fixed_write : (w : World) (new : List ℕ) (b : Option Behind) (r : Reply) (g : Frame) → (write_answer w new b r g).world.frame ≡ g
-unfolding write_answer plainly
-fixed_write w new (Some e) (reply.Number k) g = refl
-fixed_write w new _ r g = refl
-
-step_frame : (w : World) (place pid : ℕ) (o : Op) → (step w place pid o).world.frame ≡ (decide (told w pid o) place pid o w.frame).frame
-unfolding step answer plainly
-step_frame w place pid (op.ReadFd fd count) = fixed_read w count (behind w.frame pid fd) _ _
-step_frame w place pid (op.WriteFd fd bytes) = fixed_write w bytes (behind w.frame pid fd) _ _
-step_frame w place pid o = refl
-
-pub fixed_step : (w : World) (place pid : ℕ) (o : Op) → Fixed w.frame (step w place pid o).world.frame
-fixed_step w place pid o = subst (λ (g : Frame). Fixed w.frame g) (sym (step_frame w place pid o)) (fixed_decided (told w pid o) place pid o w.frame)
+  pub fixed_processes : (t : List (Option Process)) → Fixed f (record g { processes = t })
+  fixed_processes t = record { limits = r.limits; fss = r.fss; objects = r.objects; opens = r.opens; kinds = r.kinds }

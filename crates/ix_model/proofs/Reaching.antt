@@ -1,4 +1,4 @@
--- Every world that a valid config and built calls reach is sound and clean.
+-- Every world that a valid config reaches is sound, and every world that is reached is clean.
 use Rattle.std.proofs.Common.{◌≡◌, ◌≤◌, ℕ, suc, true, List, [], ◌∷◌, length, replicate, Some, refl, sym, ap, ◌∙◌, subst, arith}
 use Rattle.std.specs.List.{list_all}
 use Rattle.std.proofs.lemmas.Bool.{and_parts}
@@ -57,11 +57,9 @@ opening_counts c valid flat =
     (omega (arith, r.built.counted.long, v.limits.pipes), omega (arith, length-map c.procs (λ p. Some (process_of p)), v.procs.few, v.limits.procs), refl)
 
 -- ---- runs
-pub sound_run : (w : World) (place : ℕ) (h : List Event) → list_all (λ e. is_built e.op) h ≡ true → IsClean w → Sound w → Sound (run w place h)
-sound_run w place [] built clean s = s
-sound_run w place (e ∷ h) built clean s =
-    let p = and_parts (is_built e.op) (list_all (λ e. is_built e.op) h) built in
-    sound_run (step_of w place e).world (suc place) h p.1 (clean_step w place e.pid e.op clean) (sound_step w place e.pid e.op p.0 clean s)
+pub sound_run : (w : World) (place : ℕ) (h : List Event) → IsClean w → Sound w → Sound (run w place h)
+sound_run w place [] clean s = s
+sound_run w place (e ∷ h) clean s = sound_run (step_of w place e).world (suc place) h (clean_step w place e.pid e.op clean) (sound_step w place e.pid e.op clean s)
 
-pub sound_reached : (c : Config) (h : List Event) → is_valid c ≡ true → list_all (λ e. is_built e.op) h ≡ true → Sound (run (opening_world c) 1 h)
-sound_reached c h valid built = sound_run (opening_world c) 1 h built (clean_opening c) (sound_opening_world c valid)
+pub sound_reached : (c : Config) (h : List Event) → is_valid c ≡ true → Sound (run (opening_world c) 1 h)
+sound_reached c h valid = sound_run (opening_world c) 1 h (clean_opening c) (sound_opening_world c valid)
