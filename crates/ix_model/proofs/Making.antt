@@ -76,9 +76,9 @@ created f m h a b r d o j name kind no_pipe within free room =
     let no_root : o ≢ 0 = λ e. true≢false (sym b.sound.names.root ∙ ap (λ k. option_map_or is_dir (at h.objects k) false) (sym e) ∙ ap (λ y. option_map_or is_dir y false) free_h) in
     record {
       sound = named_sound g d o w.dir x name (get_or-set_other h.objects o d (Some x) None apart ∙ w.is) w.is_directory born no_pipe w.leads
-      (room_same m g (names_in_new h o x new ∙ names_floated_in m h r) r.limits room)
-      (awaiting_new h o x new b.sound)
-      (λ dir. (times_new h o x new o ∙ unborn h o b.sound free_h, no_root));
+          (room_same m g (names_in_new h o x new ∙ names_floated_in m h r) r.limits room)
+          (awaiting_new h o x new b.sound)
+          (λ dir. (times_new h o x new o ∙ unborn h o b.sound free_h, no_root));
       fixed = fixed_change_object f g (fixed_new_object f h b.fixed o (Some x) free_f) d (with_name name o) (λ y. record { pipe = refl; fs = refl });
     }
 
@@ -128,8 +128,8 @@ linked f m h s a b r d o dir target name x is no_dir leads within room =
     let no_pipe : is_pipe there.was ≡ false = sym (ap is_pipe there.same) ∙ not-true _ (sym (ap (λ y. option_map_or (λ z. not (is_pipe z)) y false) is) ∙ open_pipe) in
     record {
       sound = named_sound h d o w.dir there.was name w.is w.is_directory there.is_was no_pipe w.leads
-      (room_same m h (names_floated_in m h r) r.limits room) (awaiting o h b.sound)
-      (λ yes. absurd (true≢false (sym yes ∙ other)));
+          (room_same m h (names_floated_in m h r) r.limits room) (awaiting o h b.sound)
+          (λ yes. absurd (true≢false (sym yes ∙ other)));
       fixed = fixed_change_object f h b.fixed d (with_name name o) (λ y. record { pipe = refl; fs = refl });
     }
 
