@@ -21,7 +21,6 @@ use Rattle.ix_model.proofs.Living.{is_living, not_ended, lives_as}
 use Rattle.ix_model.proofs.Ends.{Ends, ends_bind, ends_then, ends_pass, ends_frame, ends_need, ends_opened}
 use Rattle.ix_model.proofs.Endings.{ends_put_process}
 use Rattle.ix_model.proofs.Floated.{has_on}
-use Rattle.ix_model.proofs.Fixed.{fixed_processes}
 use Rattle.ix_model.proofs.Frames.{FrameSound, Follows, follows_itself}
 use Rattle.ix_model.proofs.Logging.{Refused, Passed}
 use Rattle.ix_model.proofs.Releasing.{ends_let_go}
@@ -165,4 +164,4 @@ module _ (f : Frame) (s : FrameSound f) where
       ends_then _ _ f (Refused f) (Passed f) (ends_need _ _ f (Refused f) _ (λ none.
       ends_then _ _ f (Refused f) (Passed f) (ends_each f pid (Refused f) (range_with_len 0 32) f _ (starts pid q.0 living_q none) (λ h l.
       ends_then _ _ h (Refused f) (Passed f) (ends_put_process pid _ h (Refused f) _ (
-      ends_pass _ _ (Refused f) (Passed f) (record { sound = retired h pid _ (leaves f pid h l) l.follows.sound; fixed = fixed_processes f h l.follows.fixed _ })))))) (follows_itself f s))))
+      ends_pass _ _ (Refused f) (Passed f) (record { sound = retired h pid _ (leaves f pid h l) l.follows.sound; kinds = l.follows.kinds })))))) (follows_itself f s))))

@@ -27,7 +27,6 @@ use Rattle.ix_model.proofs.Looks.{ends_affect}
 use Rattle.ix_model.proofs.Floats.{Floats, floats_itself, floats_process}
 use Rattle.ix_model.proofs.Floated.{names_floated, lives_floated, opens_floated, processes_moved, claims_floated, limits_floated}
 use Rattle.ix_model.proofs.Labels.{labels_process}
-use Rattle.ix_model.proofs.Fixed.{Fixed, fixed_floats}
 use Rattle.ix_model.proofs.Frames.{FrameSound, Follows, follows_affect, followed_object, followed_process}
 use Rattle.ix_model.proofs.Steadily.{follows_found}
 
@@ -91,7 +90,7 @@ module _ (f : Frame) where
           claims = record { claimant = s.sound.claims.claimant };
           limits = record { objects = w.objects; pipes = w.pipes; past = w.past; numbers = w.numbers; opens = w.opens; processes = w.processes; names = w.names; log = omega (arith, length-append g.log (l ∷ []), low) };
         };
-        fixed = record { limits = s.fixed.limits; fss = s.fixed.fss; objects = s.fixed.objects; opens = s.fixed.opens; kinds = s.fixed.kinds };
+        kinds = s.kinds;
       }
 
   ends_logged_if : (b : Bool) (l : AuditLine) (g : Frame) → (b ≡ true → HasRoom g) → Follows f g → (a : Reply) → Ends (◌>>◌ (only_if b (logged l)) (pass a) g) Refused Passed
@@ -241,7 +240,7 @@ module _ (f : Frame) where
           claims = claims_floated g k r (λ n. refl) s.sound.claims;
           limits = limits_floated g k r s.sound.limits.log s.sound.limits;
         };
-        fixed = fixed_floats f g s.fixed k r;
+        kinds = s.kinds;
       }
 
   pub change_dir_ends : (pid : ℕ) (path : PathOf) (g : Frame) → Follows f g → Ends (change_dir pid path g) Refused Passed

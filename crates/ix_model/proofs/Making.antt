@@ -26,7 +26,7 @@ use Rattle.ix_model.proofs.Looks.{ends_affect}
 use Rattle.ix_model.proofs.Endings.{ends_put_object}
 use Rattle.ix_model.proofs.FreeNumbers.{free_inode_is}
 use Rattle.ix_model.proofs.Floats.{Floats, object_but, floats_itself, floats_affect}
-use Rattle.ix_model.proofs.Fixed.{Fixed, SameKind, fixed_new_object, fixed_change_object}
+use Rattle.ix_model.proofs.SameKinds.{kinds_new, kinds_change}
 use Rattle.ix_model.proofs.Frames.{FrameSound, Follows, follows_itself, follows_affect}
 use Rattle.ix_model.proofs.Logging.{Refused, Passed, holds_both}
 use Rattle.ix_model.proofs.Walked.{Within, Leads, Along, along_itself, within_on, ends_walked_to, leads_there, leads_vacant, ends_missing}
@@ -79,7 +79,7 @@ created f m h a b r d o j name kind no_pipe within free room =
           (room_same m g (names_in_new h o x new ∙ names_floated_in m h r) r.limits room)
           (awaiting_new h o x new b.sound)
           (λ dir. (times_new h o x new o ∙ unborn h o b.sound free_h, no_root));
-      fixed = fixed_change_object f g (fixed_new_object f h b.fixed o (Some x) free_f) d (with_name name o) (λ y. record { pipe = refl; fs = refl });
+      kinds = kinds_change f.objects g.objects (kinds_new f.objects h.objects b.kinds o (Some x) free_f) d (with_name name o) (λ y. record { pipe = refl; fs = refl });
     }
 
 module _ (f : Frame) where
@@ -130,7 +130,7 @@ linked f m h s a b r d o dir target name x is no_dir leads within room =
       sound = named_sound h d o w.dir there.was name w.is w.is_directory there.is_was no_pipe w.leads
           (room_same m h (names_floated_in m h r) r.limits room) (awaiting o h b.sound)
           (λ yes. absurd (true≢false (sym yes ∙ other)));
-      fixed = fixed_change_object f h b.fixed d (with_name name o) (λ y. record { pipe = refl; fs = refl });
+      kinds = kinds_change f.objects h.objects b.kinds d (with_name name o) (λ y. record { pipe = refl; fs = refl });
     }
 
 module _ (f : Frame) (s : FrameSound f) where
