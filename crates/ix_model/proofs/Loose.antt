@@ -22,7 +22,6 @@ use Rattle.ix_model.proofs.Floated.{has_on, names_floated, lives_floated, proces
 use Rattle.ix_model.proofs.Frames.{FrameSound, Follows}
 use Rattle.ix_model.proofs.Given.{OpensBut, and_more, either_more, or_more, processes_put_fd, limits_put_fd}
 use Rattle.ix_model.proofs.Awaiting.{LivesBut, Awaiting, awaiting, names_but}
-use Rattle.ix_model.proofs.Gone.{ends_let_go_object}
 use Rattle.ix_model.proofs.Claimants.{IsBehind, is_behind}
 
 -- all claims but one are claimants'

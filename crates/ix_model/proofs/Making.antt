@@ -29,7 +29,7 @@ use Rattle.ix_model.proofs.Floats.{Floats, object_but, floats_itself, floats_aff
 use Rattle.ix_model.proofs.SameKinds.{kinds_new, kinds_change}
 use Rattle.ix_model.proofs.Frames.{FrameSound, Follows, follows_itself, follows_affect}
 use Rattle.ix_model.proofs.Logging.{Refused, Passed, holds_both}
-use Rattle.ix_model.proofs.Walked.{Within, Leads, Along, along_itself, within_on, ends_walked_to, leads_there, leads_vacant, ends_missing}
+use Rattle.ix_model.proofs.Walked.{Within, Leads, Along, along_itself, within_on, leads_walked_to, leads_there, leads_vacant, leads_missing}
 use Rattle.ix_model.proofs.Awaiting.{IsNew, Awaiting, awaiting, awaiting_new, times_new, names_in_new}
 use Rattle.ix_model.proofs.Named.{named_sound}
 
@@ -93,7 +93,7 @@ module _ (f : Frame) (s : FrameSound f) where
   make_ends : (pid : ℕ) (path : PathOf) (kind : Kind) → ((j : ℕ) → is_pipe (new_object kind (Some j)) ≡ false) → Ends (make pid path kind f) (Refused f) (Passed f)
   unfolding make
   make_ends pid path kind no_pipe =
-      ends_bind _ _ f (Refused f) (Passed f) (ends_missing f pid path (Refused f) _ (follows_itself f s) (λ r h k. k) (λ d m k within.
+      ends_bind _ _ f (Refused f) (Passed f) (leads_missing f pid path (Refused f) _ (follows_itself f s) (λ r h k. k) (λ d m k within.
       ends_bind _ _ m (Refused f) (Passed f) (ends_object d m (Refused f) _ (λ x is.
       ends_bind _ _ m (Refused f) (Passed f) (ends_frame m (Refused f) _ (
       ends_bind _ _ m (Refused f) (Passed f) (ends_some _ _ m (Refused f) _ (λ o free.
@@ -137,8 +137,8 @@ module _ (f : Frame) (s : FrameSound f) where
   pub link_at_ends : (pid : ℕ) (target path : PathOf) → Ends (link_at pid target path f) (Refused f) (Passed f)
   unfolding link_at
   link_at_ends pid target path =
-      ends_bind _ _ f (Refused f) (Passed f) (ends_walked_to f f pid target (Refused f) _ (along_itself f (follows_itself f s)) (λ r h k. k) (λ a l k1 leads_a.
-      ends_bind _ _ l (Refused f) (Passed f) (ends_walked_to f l pid path (Refused f) _ k1 (λ r h k. k) (λ b m k leads_b.
+      ends_bind _ _ f (Refused f) (Passed f) (leads_walked_to f f pid target (Refused f) _ (along_itself f (follows_itself f s)) (λ r h k. k) (λ a l k1 leads_a.
+      ends_bind _ _ l (Refused f) (Passed f) (leads_walked_to f l pid path (Refused f) _ k1 (λ r h k. k) (λ b m k leads_b.
       ends_bind _ _ m (Refused f) (Passed f) (leads_there f (last_name target.names) a m (Refused f) _ leads_a (λ o dir leads.
       ends_bind _ _ m (Refused f) (Passed f) (ends_object o m (Refused f) _ (λ x is.
       ends_then _ _ m (Refused f) (Passed f) (ends_need _ _ m (Refused f) _ (λ no_dir.

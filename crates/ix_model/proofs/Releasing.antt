@@ -21,7 +21,7 @@ use Rattle.ix_model.proofs.SameKinds.{Kinds, kinds_floats, kinds_gone}
 use Rattle.ix_model.proofs.Frames.{FrameSound, Follows}
 use Rattle.ix_model.proofs.Given.{and_more, or_more, either_more}
 use Rattle.ix_model.proofs.Awaiting.{Awaiting, awaiting, names_but}
-use Rattle.ix_model.proofs.Gone.{ends_let_go_object}
+use Rattle.ix_model.proofs.Gone.{object_released}
 use Rattle.ix_model.proofs.Claimants.{IsBehind, is_behind}
 use Rattle.ix_model.proofs.Loose.{Loose, loose_taken, loose_unclaimed, claims_kept}
 
@@ -120,19 +120,19 @@ module _ (base : Frame) (P : Refusal → Frame → Type 0) (Q : Unit {0} → Fra
   released e f l y there no_dir kinds next = ends_then _ _ f P Q (ends_only_if (not (owned f.processes e)) (put_open e None) f P _
       (λ lost.
       let g : Frame = record f { opens = put f.opens e None } in
-      ends_put_open e None f P _ (ends_let_go_object g y.object P Q (awaiting_left e f l y there (not-true _ lost)) no_dir
+      ends_put_open e None f P _ (object_released g y.object P Q (awaiting_left e f l y there (not-true _ lost)) no_dir
       (λ sound. next _ (record { sound = sound; kinds = kinds }) refl)
       (λ sound. next _ (record { sound = sound; kinds = kinds_gone base.objects f.objects kinds y.object }) refl)))
       (λ own.
       let s = owned_sound e f l (not-false _ own) in
-      ends_let_go_object f y.object P Q (awaiting y.object f s) no_dir
+      object_released f y.object P Q (awaiting y.object f s) no_dir
       (λ sound. next f (record { sound = sound; kinds = kinds }) refl)
       (λ sound. next _ (record { sound = sound; kinds = kinds_gone base.objects f.objects kinds y.object }) refl)))
 
   -- a descriptor, its claim, its open entry and the object
-  pub ends_let_go : (f : Frame) (pid fd : ℕ) (e : Behind) → behind f pid fd ≡ Some e → Follows base f → ((h : Frame) → Follows base h → h.processes ≡ change f.processes pid (λ q. record q { fds = put q.fds fd None }) → Q tt h) → Ends (let_go pid fd e f) P Q
+  pub descriptor_released : (f : Frame) (pid fd : ℕ) (e : Behind) → behind f pid fd ≡ Some e → Follows base f → ((h : Frame) → Follows base h → h.processes ≡ change f.processes pid (λ q. record q { fds = put q.fds fd None }) → Q tt h) → Ends (let_go pid fd e f) P Q
   unfolding let_go let_go_claim
-  ends_let_go f pid fd e is k next =
+  descriptor_released f pid fd e is k next =
       let b = is_behind f pid fd e is in
       let s = k.sound in
       let no_dir : option_map_or is_dir (at f.objects e.entry.object) false ≡ false = no_directory (at f.objects e.entry.object) (s.opens.target e.id e.entry b.stands) in

@@ -23,10 +23,10 @@ use Rattle.ix_model.proofs.Floats.{Floats, object_but, floats_itself, floats_obs
 use Rattle.ix_model.proofs.SameKinds.{Kinds, kinds_change, kinds_gone}
 use Rattle.ix_model.proofs.Frames.{FrameSound, Follows, follows_itself, follows_observe}
 use Rattle.ix_model.proofs.Logging.{Refused, Passed, holds_both}
-use Rattle.ix_model.proofs.Walked.{Within, Leads, Along, within_on, ends_found_in}
+use Rattle.ix_model.proofs.Walked.{Within, Leads, Along, within_on, leads_found_in}
 use Rattle.ix_model.proofs.Awaiting.{Awaiting, awaiting}
 use Rattle.ix_model.proofs.Named.{unnamed, times_fewer}
-use Rattle.ix_model.proofs.Gone.{IsUnneeded, gone_sound, ends_let_go_object}
+use Rattle.ix_model.proofs.Gone.{IsUnneeded, gone_sound, object_released}
 use Rattle.ix_model.proofs.Making.{affect_on}
 
 -- what was found stands in the directory that was looked into last
@@ -38,7 +38,7 @@ module _ (f : Frame) (s : FrameSound f) where
   pub unlink_at_ends : (pid : ℕ) (path : PathOf) → Ends (unlink_at pid path f) (Refused f) (Passed f)
   unfolding unlink_at
   unlink_at_ends pid path =
-      ends_bind _ _ f (Refused f) (Passed f) (ends_found_in f pid path (Refused f) _ (follows_itself f s) (λ r h k. k) (λ o dir m k leads.
+      ends_bind _ _ f (Refused f) (Passed f) (leads_found_in f pid path (Refused f) _ (follows_itself f s) (λ r h k. k) (λ o dir m k leads.
       ends_bind _ _ m (Refused f) (Passed f) (ends_object o m (Refused f) _ (λ x is.
       ends_then _ _ m (Refused f) (Passed f) (ends_need _ _ m (Refused f) _ (λ no_dir.
       ends_bind _ _ m (Refused f) (Passed f) (ends_some _ _ m (Refused f) _ (λ d in_dir.
@@ -51,7 +51,7 @@ module _ (f : Frame) (s : FrameSound f) where
       let other : option_map_or is_dir (at g.objects o) false ≡ false =
       seen_changed (λ y. option_map_or is_dir y false) (without_name (last_name path.names)) (λ y. refl) h.objects d o
       ∙ seen_same object_but (λ y. option_map_or is_dir y false) (λ y. refl) m.objects h.objects r.objects o ∙ ap (λ y. option_map_or is_dir y false) is ∙ not-true _ no_dir in
-      ends_then _ _ g (Refused f) (Passed f) (ends_let_go_object g o (Refused f) _ (unnamed h d o w.dir name w.is w.is_directory w.leads (awaiting o h b.sound)) other
+      ends_then _ _ g (Refused f) (Passed f) (object_released g o (Refused f) _ (unnamed h d o w.dir name w.is w.is_directory w.leads (awaiting o h b.sound)) other
       (λ sound. ends_pass _ _ (Refused f) (Passed f) (record { sound = sound; kinds = kinds }))
       (λ sound. ends_pass _ _ (Refused f) (Passed f) (record { sound = sound; kinds = kinds_gone f.objects g.objects kinds o })))))))) k.follows)) k.follows)) k.follows)))
 
@@ -104,7 +104,7 @@ module _ (f : Frame) (s : FrameSound f) where
   pub remove_dir_ends : (pid : ℕ) (path : PathOf) → Ends (remove_dir pid path f) (Refused f) (Passed f)
   unfolding remove_dir
   remove_dir_ends pid path =
-      ends_bind _ _ f (Refused f) (Passed f) (ends_found_in f pid path (Refused f) _ (follows_itself f s) (λ r h k. k) (λ o dir m k leads.
+      ends_bind _ _ f (Refused f) (Passed f) (leads_found_in f pid path (Refused f) _ (follows_itself f s) (λ r h k. k) (λ o dir m k leads.
       ends_bind _ _ m (Refused f) (Passed f) (ends_object o m (Refused f) _ (λ x is.
       ends_then _ _ m (Refused f) (Passed f) (ends_need _ _ m (Refused f) _ (λ is_d.
       ends_then _ _ m (Refused f) (Passed f) (ends_kept (λ l. Follows f l × Floats m l) (observe pid x.label m) (Refused f) _ (holds_both _ _ _ ((follows_observe f pid x.label).led m k.follows) ((floats_observe m pid x.label).led m (floats_itself m))) (λ r l j. j.0) (λ u l j.
