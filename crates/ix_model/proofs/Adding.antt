@@ -23,7 +23,7 @@ use Rattle.ix_model.proofs.Ends.{Ends, ends_bind, ends_then, ends_pass, ends_fra
 use Rattle.ix_model.proofs.Endings.{ends_put_object}
 use Rattle.ix_model.proofs.FreeNumbers.{lowest_free_is, free_pipe_is}
 use Rattle.ix_model.proofs.Labels.{labels_process}
-use Rattle.ix_model.proofs.Fixed.{Fixed, fixed_itself, fixed_new_object, fixed_put_open, fixed_processes}
+use Rattle.ix_model.proofs.SameKinds.{kinds_itself, kinds_new}
 use Rattle.ix_model.proofs.Frames.{FrameSound, Follows, follows_itself}
 use Rattle.ix_model.proofs.Steadily.{follows_found}
 use Rattle.ix_model.proofs.Logging.{Refused, Passed, ends_next}
@@ -87,7 +87,7 @@ module _ (f : Frame) (s : FrameSound f) where
       let no_d : option_map_or (λ z. not (is_dir z)) (at m.objects o) false ≡ true = ap (λ z. option_map_or (λ v. not (is_dir v)) z false) is ∙ no_dir in
       ends_pass _ _ (Refused f) (Passed f) (record {
         sound = added_sound m pid p fd e lives a.0 a.1 y b.0 b.1 no_d refl k.sound;
-        fixed = fixed_processes f (entered m e y) (fixed_put_open f m k.fixed e (Some y)) _;
+        kinds = k.kinds;
       })))))) k)))) k)) k)) k)) k)))
 
   pub dup_fd_ends : (pid fd : ℕ) → Ends (dup_fd pid fd f) (Refused f) (Passed f)
@@ -101,7 +101,7 @@ module _ (f : Frame) (s : FrameSound f) where
       let a = lowest_free_is p.fds n free in
       ends_pass _ _ (Refused f) (Passed f) (record {
         sound = shared f pid p n e.id lives a.0 a.1 (ap is_some (behind_is f pid fd e is)) s;
-        fixed = fixed_processes f f k.fixed _;
+        kinds = k.kinds;
       })))) k)) k)) k)
 
   -- ---- a pipe and its two ends
@@ -173,7 +173,7 @@ module _ (f : Frame) (s : FrameSound f) where
         let same = change_twice f.processes pid (λ q. record q { fds = put q.fds a (Some d) }) (λ q. record q { fds = put q.fds b (Some e) }) in
         record {
           sound = subst (λ (t : List (Option Process)). FrameSound (record f { objects = put f.objects o (Some (new_object kind.Pipe None)); opens = put (put f.opens d (pipe_end o 0)) e (pipe_end o 1); processes = t })) same second;
-          fixed = fixed_processes f _ (fixed_put_open f _ (fixed_put_open f _ (fixed_new_object f f (fixed_itself f) o (Some pipe) is_new.free) d (pipe_end o 0)) e (pipe_end o 1)) _;
+          kinds = kinds_new f.objects f.objects (kinds_itself f.objects) o (Some pipe) is_new.free;
         }
 
   pub make_pipe_ends : (pid : ℕ) → Ends (make_pipe pid f) (Refused f) (Passed f)

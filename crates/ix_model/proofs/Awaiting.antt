@@ -153,10 +153,12 @@ module _ (f : Frame) (o : ℕ) (x : Object) (new : IsNew f o x) where
   processes_new r = record { none = r.none; home = λ p q lives. still (λ z. option_map_or is_dir z false) refl q.cwd (r.home p q lives); parent = r.parent; descriptors = r.descriptors }
 
   pub claims_new : ClaimsSound f → ClaimsSound (record f { objects = put f.objects o (Some x) })
-  claims_new c = record { claimant = λ m end p y is claim. elim (at_put f.objects o m (Some x) y is) [
-    | inl here ↦ let e : Some x ≡ Some y = here.1 in let same : x ≡ y = cc in absurd (no_claim end p (ap (λ t. at t end) (sym new.unclaimed) ∙ ap (λ z. at z.claims end) same ∙ claim))
-    | inr apart ↦ c.claimant m end p y apart.1 claim
-  ] }
+  claims_new c = record {
+    claimant = λ m end p y is claim. elim (at_put f.objects o m (Some x) y is) [
+      | inl here ↦ let e : Some x ≡ Some y = here.1 in let same : x ≡ y = cc in absurd (no_claim end p (ap (λ t. at t end) (sym new.unclaimed) ∙ ap (λ z. at z.claims end) same ∙ claim))
+      | inr apart ↦ c.claimant m end p y apart.1 claim
+    ];
+  }
 
   pub limits_new : WithinLimits f → WithinLimits (record f { objects = put f.objects o (Some x) })
   limits_new l = record {

@@ -9,7 +9,8 @@ use Rattle.ix_model.specs.Clean.{IsClean}
 use Rattle.ix_model.specs.Sound.{LengthsSound}
 use Rattle.ix_model.proofs.Tables.{length_same, seen_same}
 use Rattle.ix_model.proofs.Floats.{Floats, object_but, process_but}
-use Rattle.ix_model.proofs.Fixed.{Fixed, Kinds}
+use Rattle.ix_model.proofs.Fixed.{Fixed}
+use Rattle.ix_model.proofs.SameKinds.{Kinds}
 use Rattle.ix_model.proofs.Lasts.{Lasts}
 use Rattle.ix_model.proofs.Carrying.{length-keep, get_or-keep, carried_same}
 
@@ -48,9 +49,9 @@ there_is : {A : Type 0} (o : Option A) → is_some o ≡ true → (x : A) × (o 
 there_is None h = absurd (true≢false (sym h))
 there_is (Some x) h = (x, refl)
 
-pub lengths_carried : (w : World) (g : Frame) → Fixed w.frame g → LengthsSound w → LengthsSound (record { frame = g; content = carried w.frame g w.content })
+pub lengths_carried : (w : World) (g : Frame) → Fixed w.frame g → Kinds w.frame.objects g.objects → LengthsSound w → LengthsSound (record { frame = g; content = carried w.frame g w.content })
 unfolding carried
-lengths_carried w g r l =
+lengths_carried w g r kinds l =
     let f = w.frame in let c = w.content in
     let stay : ℕ → Bool = λ o. is_some (at f.objects o) && is_some (at g.objects o) in
     record {
@@ -59,12 +60,12 @@ lengths_carried w g r l =
       offset = λ e. kept_at (λ n. n ≤ 1048576) 0 (λ e. is_some (at f.opens e) && is_some (at g.opens e)) c.offsets e (λ stays. l.offset e) (omega arith);
       file = λ o y is other. kept_at (λ (h : Holding). length h.first ≤ 1048576) holds_nothing stay c.holdings o (λ stays.
           let x = there_is (at f.objects o) (and_parts _ _ stays).0 in
-          l.file o x.0 x.1 (sym (r.kinds o x.0 y x.1 is).pipe ∙ other)) (omega arith);
+          l.file o x.0 x.1 (sym (kinds.same o x.0 y x.1 is).pipe ∙ other)) (omega arith);
       pipe = λ o y is pipe. kept_at (λ (h : Holding). (length h.first ≤ 4096) × (length h.second ≤ 4096)) holds_nothing stay c.holdings o (λ stays.
           let x = there_is (at f.objects o) (and_parts _ _ stays).0 in
-          l.pipe o x.0 x.1 (sym (r.kinds o x.0 y x.1 is).pipe ∙ pipe)) (omega arith, omega arith);
+          l.pipe o x.0 x.1 (sym (kinds.same o x.0 y x.1 is).pipe ∙ pipe)) (omega arith, omega arith);
       blocks = λ k.
-          let few : blocks_where (lies_on g (Some k)) 0 (keep holds_nothing stay 0 c.holdings) ≤ blocks_where (lies_on f (Some k)) 0 c.holdings = blocks_kept (lies_on g (Some k)) stay (lies_on f (Some k)) 0 c.holdings (λ m lies stays. lies_still (at f.objects m) (at g.objects m) k (λ a b is here. (r.kinds m a b is here).fs) (and_parts _ _ stays).0 lies) in
+          let few : blocks_where (lies_on g (Some k)) 0 (keep holds_nothing stay 0 c.holdings) ≤ blocks_where (lies_on f (Some k)) 0 c.holdings = blocks_kept (lies_on g (Some k)) stay (lies_on f (Some k)) 0 c.holdings (λ m lies stays. lies_still (at f.objects m) (at g.objects m) k (λ a b is here. (kinds.same m a b is here).fs) (and_parts _ _ stays).0 lies) in
           let same : blocks_on g (Some k) ≡ blocks_on f (Some k) = ap (λ fss. option_map_or (λ s. s.blocks) (at (map Some fss) k) 0) r.fss in
           omega (arith, l.blocks k);
     }

@@ -18,7 +18,7 @@ use Rattle.ix_model.proofs.Ends.{Ends, ends_kept, ends_bind, ends_then, ends_pas
 use Rattle.ix_model.proofs.Labels.{labels_object}
 use Rattle.ix_model.proofs.Floats.{object_but, floats_itself, floats_object}
 use Rattle.ix_model.proofs.Floated.{names_floated, lives_floated, opens_floated, processes_floated, claims_moved, limits_floated}
-use Rattle.ix_model.proofs.Fixed.{fixed_floats}
+use Rattle.ix_model.proofs.SameKinds.{kinds_itself, kinds_floats}
 use Rattle.ix_model.proofs.Frames.{FrameSound, Follows, follows_itself}
 use Rattle.ix_model.proofs.Logging.{Refused, Passed}
 use Rattle.ix_model.proofs.Standing.{behind_is}
@@ -86,7 +86,7 @@ module _ (f : Frame) (s : FrameSound f) where
   claim_put : (o end : ℕ) (c : Option ℕ) → ((p : ℕ) → c ≡ Some p → is_claimant f o end p ≡ true) → Follows f (record f { objects = change f.objects o (λ y. record y { claims = put y.claims end c }) })
   claim_put o end c new = record {
     sound = reclaimed f o (λ y. record y { claims = put y.claims end c }) (λ y. refl) (λ y. refl) (λ y. refl) (with_claim f o end c new s) s;
-    fixed = fixed_floats f f (follows_itself f s).fixed _ (floats_object f f o (λ y. record y { claims = put y.claims end c }) (λ y. refl) (floats_itself f));
+    kinds = kinds_floats f.objects f.objects (kinds_itself f.objects) _ (floats_object f f o (λ y. record y { claims = put y.claims end c }) (λ y. refl) (floats_itself f)).objects;
   }
 
   -- a claim is answered from the frame as it stands

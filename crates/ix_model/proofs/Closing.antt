@@ -21,10 +21,9 @@ use Rattle.ix_model.proofs.Living.{is_living, not_ended, lives_as}
 use Rattle.ix_model.proofs.Ends.{Ends, ends_bind, ends_then, ends_pass, ends_frame, ends_need, ends_opened}
 use Rattle.ix_model.proofs.Endings.{ends_put_process}
 use Rattle.ix_model.proofs.Floated.{has_on}
-use Rattle.ix_model.proofs.Fixed.{fixed_processes}
 use Rattle.ix_model.proofs.Frames.{FrameSound, Follows, follows_itself}
 use Rattle.ix_model.proofs.Logging.{Refused, Passed}
-use Rattle.ix_model.proofs.Releasing.{ends_let_go}
+use Rattle.ix_model.proofs.Releasing.{descriptor_released}
 use Rattle.ix_model.proofs.Retired.{Retires, retired}
 
 module _ (f : Frame) (s : FrameSound f) where
@@ -33,7 +32,7 @@ module _ (f : Frame) (s : FrameSound f) where
   close_fd_ends pid fd =
       let k = follows_itself f s in
       ends_bind _ _ f (Refused f) (Passed f) (ends_opened pid fd f (Refused f) _ (λ e is.
-      ends_then _ _ f (Refused f) (Passed f) (ends_let_go f (Refused f) _ f pid fd e is k (λ h b same.
+      ends_then _ _ f (Refused f) (Passed f) (descriptor_released f (Refused f) _ f pid fd e is k (λ h b same.
       ends_pass _ h (Refused f) (Passed f) b))) k)
 
 -- ---- giving up all descriptors
@@ -53,9 +52,9 @@ left_of n fd rest other h = elim (or_cases (n == fd) (list_any (λ m. m == fd) r
 ]
 
 -- under a descriptor of a sound frame's living process stands an open entry
-behind_stands : (g : Frame) (s : FrameSound g) (pid fd e : ℕ) (q : Process) → living (at g.processes pid) ≡ Some q → at q.fds fd ≡ Some e → is_some (behind g pid fd) ≡ true
+descriptor_stands : (g : Frame) (s : FrameSound g) (pid fd e : ℕ) (q : Process) → living (at g.processes pid) ≡ Some q → at q.fds fd ≡ Some e → is_some (behind g pid fd) ≡ true
 unfolding behind
-behind_stands g s pid fd e q lives is =
+descriptor_stands g s pid fd e q lives is =
     let x = passes_some is_some refl (at g.opens e) (s.opens.descriptor pid q fd e lives is) in
     ap (λ p. is_some (behind_of p g fd)) lives ∙ ap (λ d. is_some (entry_at g d)) is ∙ ap (λ o. is_some (option_map (λ y. let b : Behind = record { id = e; entry = y } in b) o)) x.1
 
@@ -85,7 +84,7 @@ module _ (base : Frame) (pid : ℕ) where
     lives = l.lives;
     childless = l.childless;
     descriptors = λ n e is. left_of fd n rest (λ one.
-        true≢false (sym (behind_stands g l.follows.sound pid n e l.process l.lives is) ∙ ap (λ m. is_some (behind g pid m)) (sym one) ∙ ap is_some none)) (l.descriptors n e is);
+        true≢false (sym (descriptor_stands g l.follows.sound pid n e l.process l.lives is) ∙ ap (λ m. is_some (behind g pid m)) (sym one) ∙ ap is_some none)) (l.descriptors n e is);
   }
 
   module _ (P : Refusal → Frame → Type 0) where
@@ -95,7 +94,7 @@ module _ (base : Frame) (pid : ℕ) where
       where
         go : (b : Option Behind) → behind g pid fd ≡ b → Ends (option_map_or (let_go pid fd) b (pass tt) g) P Q
         go None is = ends_pass tt g P Q (next g (had_none fd rest g l is))
-        go (Some e) is = ends_let_go base P Q g pid fd e is l.follows (λ h k same. next h (gave_up fd rest g h l k same))
+        go (Some e) is = descriptor_released base P Q g pid fd e is l.follows (λ h k same. next h (gave_up fd rest g h l k same))
 
     ends_each : (rest : List ℕ) (g : Frame) (Q : Unit {0} → Frame → Type 0) → Leaving base pid rest g → ((h : Frame) → Leaving base pid [] h → Q tt h) → Ends (let_go_each pid rest g) P Q
     unfolding let_go_each
@@ -165,4 +164,4 @@ module _ (f : Frame) (s : FrameSound f) where
       ends_then _ _ f (Refused f) (Passed f) (ends_need _ _ f (Refused f) _ (λ none.
       ends_then _ _ f (Refused f) (Passed f) (ends_each f pid (Refused f) (range_with_len 0 32) f _ (starts pid q.0 living_q none) (λ h l.
       ends_then _ _ h (Refused f) (Passed f) (ends_put_process pid _ h (Refused f) _ (
-      ends_pass _ _ (Refused f) (Passed f) (record { sound = retired h pid _ (leaves f pid h l) l.follows.sound; fixed = fixed_processes f h l.follows.fixed _ })))))) (follows_itself f s))))
+      ends_pass _ _ (Refused f) (Passed f) (record { sound = retired h pid _ (leaves f pid h l) l.follows.sound; kinds = l.follows.kinds })))))) (follows_itself f s))))

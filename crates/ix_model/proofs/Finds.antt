@@ -100,11 +100,6 @@ module _ {A : Type 0} (F : Option A → ℕ) where
     | inr high ↦ let e : F (at t n) ≡ 0 = ap F (get_or_past t n None high) ∙ none in omega (arith, e)
   ]
 
-  pub sum_more : (t : List (Option A)) (x : Option A) → sum (map F (t ++ x ∷ [])) ≡ sum (map F t) + F x
-  sum_more t x =
-      let one = sum-map F (t ++ x ∷ []) in
-      let two = sum-map F t in
-      omega (arith, one, two, sum_by_push F t x)
 
 -- a sum of nothings
 pub sum_zero : {A : Type 0} (F : Option A → ℕ) (t : List (Option A)) → ((n : ℕ) → F (at t n) ≡ 0) → sum (map F t) ≡ 0

@@ -1,84 +1,83 @@
--- What no call changes: the limits, the file systems, the lengths of the objects' and the open entries' tables, and of an
--- object that stays its file system and whether it is a pipe.
-use Rattle.std.proofs.Common.{◌≡◌, ℕ, List, Option, Some, None, refl, sym, ap, ◌∙◌, subst, length, length-set, inl, inr}
-use Rattle.ix_model.specs.World.{Frame, Object, Process, Open, at, put, change, is_pipe}
-use Rattle.ix_model.proofs.Tables.{SameBut, back, length_same}
-use Rattle.ix_model.proofs.Finds.{at_put, at_change}
-use Rattle.ix_model.proofs.Floats.{Floats, object_but}
-
--- an object is of the same kind, pipe or not, and on the same file system
-pub record SameKind (x y : Object) : Type 0 where
-  pub pipe : is_pipe y ≡ is_pipe x
-  pub fs : y.fs ≡ x.fs
-
-same_kind_again : (x y z : Object) → SameKind x y → SameKind y z → SameKind x z
-same_kind_again x y z a b = record { pipe = b.pipe ∙ a.pipe; fs = b.fs ∙ a.fs }
-
--- what stands in both tables
-abbrev pub Kinds : List (Option Object) → List (Option Object) → Type 0
-Kinds t u = (o : ℕ) (x y : Object) → at t o ≡ Some x → at u o ≡ Some y → SameKind x y
+-- What no call changes: the limits, the file systems, and the lengths of the objects' and the open entries' tables.
+use Rattle.std.proofs.Common.{◌≡◌, ℕ, Option, Some, None, refl, sym, subst, ◌∙◌, length, length-set}
+use Rattle.ix_model.specs.World.{World, Frame, Object, Process, Open}
+use Rattle.ix_model.specs.Rows.{change_object, change_process, put_object, put_open, put_process, add_process}
+use Rattle.ix_model.specs.Auditing.{logged}
+use Rattle.ix_model.specs.OnProcesses.{end_process}
+use Rattle.ix_model.specs.OnDescriptors.{Told}
+use Rattle.ix_model.specs.Table.{decide}
+use Rattle.ix_model.specs.Telling.{told}
+use Rattle.ix_model.specs.Step.{step}
+use Rattle.ix_model.specs.History.{Op}
+use Rattle.ix_model.specs.declared.audit.AuditLine.{AuditLine}
+use Rattle.ix_model.proofs.Keeps.{Holds, Keeps}
+use Rattle.ix_model.proofs.Rowwise.{Words, changes_of, kept_row, all, bears_all}
+use Rattle.ix_model.proofs.Lasts.{decided}
+use Rattle.ix_model.proofs.Answered.{step_frame}
 
 pub record Fixed (f g : Frame) : Type 0 where
   pub limits : g.limits ≡ f.limits
   pub fss : g.fss ≡ f.fss
   pub objects : length g.objects ≡ length f.objects
   pub opens : length g.opens ≡ length f.opens
-  pub kinds : Kinds f.objects g.objects
 
-pub fixed_itself : (f : Frame) → Fixed f f
-fixed_itself f = record { limits = refl; fss = refl; objects = refl; opens = refl; kinds = λ o x y is here. let e : Some x ≡ Some y = sym is ∙ here in let same : x ≡ y = cc in subst (λ (z : Object). SameKind x z) same (record { pipe = refl; fs = refl }) }
+fixed_itself : (f : Frame) → Fixed f f
+fixed_itself f = record { limits = refl; fss = refl; objects = refl; opens = refl }
 
-module _ (f g : Frame) (r : Fixed f g) where
-  pub fixed_floats : (h : Frame) → Floats g h → Fixed f h
-  fixed_floats h s = record {
-    limits = s.limits ∙ r.limits;
-    fss = s.fss ∙ r.fss;
-    objects = length_same object_but g.objects h.objects s.objects ∙ r.objects;
-    opens = ap length s.opens ∙ r.opens;
-    kinds = λ o x y is here.
-        let b = back object_but (λ z. refl) g.objects h.objects s.objects o y here in
-        same_kind_again x b.was y (r.kinds o x b.was is b.is_was) (record { pipe = ap is_pipe b.same; fs = ap (λ z. z.fs) b.same });
-  }
+module _ (f : Frame) where
+  fixed_change_object : (o : ℕ) (h : Object → Object) → Keeps (Fixed f) (change_object o h)
+  unfolding change_object Holds
+  fixed_change_object o h = record { led = λ g r. record { limits = r.limits; fss = r.fss; objects = length-set g.objects o _ ∙ r.objects; opens = r.opens } }
 
-  pub fixed_change_object : (o : ℕ) (h : Object → Object) → ((x : Object) → SameKind x (h x)) → Fixed f (record g { objects = change g.objects o h })
-  fixed_change_object o h same = record {
-    limits = r.limits;
-    fss = r.fss;
-    objects = length-set g.objects o _ ∙ r.objects;
-    opens = r.opens;
-    kinds = λ n x y is here. elim (at_change g.objects o h n y here) [
-      | inl c ↦ subst (λ (z : Object). SameKind x z) (sym c.same) (same_kind_again x c.was (h c.was) (r.kinds n x c.was is (ap (at g.objects) c.here ∙ c.is_was)) (same c.was))
-      | inr other ↦ r.kinds n x y is other.1
-    ];
-  }
+  fixed_put_object : (o : ℕ) (x : Option Object) → Keeps (Fixed f) (put_object o x)
+  unfolding put_object Holds
+  fixed_put_object o x = record { led = λ g r. record { limits = r.limits; fss = r.fss; objects = length-set g.objects o x ∙ r.objects; opens = r.opens } }
 
-  pub fixed_gone_object : (o : ℕ) → Fixed f (record g { objects = put g.objects o None })
-  fixed_gone_object o = record {
-    limits = r.limits;
-    fss = r.fss;
-    objects = length-set g.objects o None ∙ r.objects;
-    opens = r.opens;
-    kinds = λ n x y is here. elim (at_put g.objects o n None y here) [
-      | inl new ↦ let e : None ≡ Some y = new.1 in cc
-      | inr other ↦ r.kinds n x y is other.1
-    ];
-  }
+  fixed_put_open : (e : ℕ) (x : Option Open) → Keeps (Fixed f) (put_open e x)
+  unfolding put_open Holds
+  fixed_put_open e x = record { led = λ g r. record { limits = r.limits; fss = r.fss; objects = r.objects; opens = length-set g.opens e x ∙ r.opens } }
 
-  -- at a number that was free
-  pub fixed_new_object : (o : ℕ) (x : Option Object) → at f.objects o ≡ None → Fixed f (record g { objects = put g.objects o x })
-  fixed_new_object o x free = record {
-    limits = r.limits;
-    fss = r.fss;
-    objects = length-set g.objects o x ∙ r.objects;
-    opens = r.opens;
-    kinds = λ n y z is here. elim (at_put g.objects o n x z here) [
-      | inl new ↦ let e : None ≡ Some y = sym free ∙ ap (at f.objects) (sym new.0) ∙ is in cc
-      | inr other ↦ r.kinds n y z is other.1
-    ];
-  }
+  fixed_change_process : (p : ℕ) (h : Process → Process) → Keeps (Fixed f) (change_process p h)
+  unfolding change_process Holds
+  fixed_change_process p h = record { led = λ g r. record { limits = r.limits; fss = r.fss; objects = r.objects; opens = r.opens } }
 
-  pub fixed_put_open : (e : ℕ) (x : Option Open) → Fixed f (record g { opens = put g.opens e x })
-  fixed_put_open e x = record { limits = r.limits; fss = r.fss; objects = r.objects; opens = length-set g.opens e x ∙ r.opens; kinds = r.kinds }
+  fixed_put_process : (p : ℕ) (x : Option Process) → Keeps (Fixed f) (put_process p x)
+  unfolding put_process Holds
+  fixed_put_process p x = record { led = λ g r. record { limits = r.limits; fss = r.fss; objects = r.objects; opens = r.opens } }
 
-  pub fixed_processes : (t : List (Option Process)) → Fixed f (record g { processes = t })
-  fixed_processes t = record { limits = r.limits; fss = r.fss; objects = r.objects; opens = r.opens; kinds = r.kinds }
+  fixed_add_process : (q : Process) → Keeps (Fixed f) (add_process q)
+  unfolding add_process Holds
+  fixed_add_process q = record { led = λ g r. record { limits = r.limits; fss = r.fss; objects = r.objects; opens = r.opens } }
+
+  fixed_end_process : (p : ℕ) → Keeps (Fixed f) (end_process p)
+  unfolding end_process
+  fixed_end_process p = record { led = λ g r. (fixed_put_process p _).led g r }
+
+  fixed_logged : (l : AuditLine) → Keeps (Fixed f) (logged l)
+  unfolding logged Holds
+  fixed_logged l = record { led = λ g r. record { limits = r.limits; fss = r.fss; objects = r.objects; opens = r.opens } }
+
+fixed_words : (pid : ℕ) (f : Frame) → Words all pid (Fixed f)
+fixed_words pid f = record {
+  object = λ o h same. fixed_change_object f o h;
+  process = λ p h same. fixed_change_process f p h;
+  float = λ h same. fixed_change_process f pid h;
+  entry = λ e x. fixed_put_open f e (Some x);
+  unclaim = λ o end. fixed_change_object f o _;
+  relabel = λ can o h same. fixed_change_object f o h;
+  claim = λ can o h same. fixed_change_object f o h;
+  log = λ can. fixed_logged f;
+  inode = λ can g o k kind r free. fixed_put_object f o _;
+  pipe = λ can g o r free. fixed_put_object f o _;
+  gone_object = λ can o. fixed_put_object f o None;
+  gone_open = λ can e. fixed_put_open f e None;
+  fork = λ can q. fixed_add_process f q;
+  end = λ can. fixed_end_process f pid;
+  collect = λ can p. fixed_put_process f p None;
+}
+
+pub fixed_decided : (t : Told) (place pid : ℕ) (c : Op) (f : Frame) → Fixed f (decide t place pid c f).frame
+fixed_decided t place pid c f = decided (Fixed f) t place pid c f (fixed_itself f) ((kept_row all pid (Fixed f) (fixed_words pid f) t place c (bears_all (changes_of c))).led f (fixed_itself f))
+
+pub fixed_step : (w : World) (place pid : ℕ) (c : Op) → Fixed w.frame (step w place pid c).world.frame
+fixed_step w place pid c = subst (λ (g : Frame). Fixed w.frame g) (sym (step_frame w place pid c)) (fixed_decided (told w pid c) place pid c w.frame)

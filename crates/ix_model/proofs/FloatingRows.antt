@@ -2,7 +2,7 @@
 use Rattle.std.proofs.Common.{ℕ}
 use Rattle.ix_model.specs.World.{Frame}
 use Rattle.ix_model.specs.Walks.{opened}
-use Rattle.ix_model.specs.OnDescriptors.{Told, read_fd, write_fd, cut_fd, seek_fd}
+use Rattle.ix_model.specs.OnDescriptors.{Told, read_fd, write_fd, cut_fd}
 use Rattle.ix_model.proofs.Keeps.{Keeps, keeping}
 use Rattle.ix_model.proofs.Floats.{Floats, floats_observe, floats_affect}
 
@@ -24,7 +24,3 @@ module _ (f : Frame) where
   pub floats_cut_fd : (t : Told) (pid fd len : ℕ) → Keeps (Floats f) (cut_fd t pid fd len)
   unfolding cut_fd
   floats_cut_fd t pid fd len = search floating_rows depth 40
-
-  pub floats_seek_fd : (pid fd offset : ℕ) → Keeps (Floats f) (seek_fd pid fd offset)
-  unfolding seek_fd
-  floats_seek_fd pid fd offset = search floating_rows depth 40

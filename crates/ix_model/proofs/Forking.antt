@@ -16,7 +16,6 @@ use Rattle.ix_model.proofs.Openings.{all_one}
 use Rattle.ix_model.proofs.Ends.{Ends, ends_bind, ends_then, ends_pass, ends_frame, ends_need, ends_caller}
 use Rattle.ix_model.proofs.Endings.{ends_add_process}
 use Rattle.ix_model.proofs.Labels.{labels_add_process}
-use Rattle.ix_model.proofs.Fixed.{fixed_itself, fixed_processes}
 use Rattle.ix_model.proofs.Floated.{has_on}
 use Rattle.ix_model.proofs.Frames.{FrameSound, Follows, follows_itself}
 use Rattle.ix_model.proofs.Logging.{Refused, Passed}
@@ -119,4 +118,4 @@ module _ (f : Frame) (s : FrameSound f) where
       ends_bind _ _ f (Refused f) (Passed f) (ends_frame f (Refused f) _ (
       ends_then _ _ f (Refused f) (Passed f) (ends_need _ _ f (Refused f) _ (λ room.
       ends_then _ _ f (Refused f) (Passed f) (ends_add_process _ f (Refused f) _ (
-      ends_pass _ _ (Refused f) (Passed f) (record { sound = forked f s pid p alive k room; fixed = fixed_processes f f t.fixed _ })))) t)))) t)) t)
+      ends_pass _ _ (Refused f) (Passed f) (record { sound = forked f s pid p alive k room; kinds = t.kinds })))) t)))) t)) t)

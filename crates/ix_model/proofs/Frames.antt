@@ -14,7 +14,7 @@ use Rattle.ix_model.proofs.Looks.{ends_observe, ends_affect}
 use Rattle.ix_model.proofs.Floats.{Floats, object_but, process_but, floats_itself, floats_object, floats_process}
 use Rattle.ix_model.proofs.Floated.{names_floated, lives_floated, opens_floated, processes_floated, claims_floated, limits_floated}
 use Rattle.ix_model.proofs.Labels.{labels_object, labels_process, labels_observed, labels_affected}
-use Rattle.ix_model.proofs.Fixed.{Fixed, fixed_itself, fixed_floats}
+use Rattle.ix_model.proofs.SameKinds.{Kinds, kinds_itself, kinds_floats}
 
 pub record FrameSound (f : Frame) : Type 0 where
   pub labels : LabelsBelow f
@@ -31,13 +31,13 @@ frame_of w s = record { labels = s.labels; names = s.names; lives = s.lives; ope
 pub whole_of : (g : Frame) (c : Content) → FrameSound g → LengthsSound (record { frame = g; content = c }) → Sound (record { frame = g; content = c })
 whole_of g c s lengths = record { labels = s.labels; names = s.names; lives = s.lives; opens = s.opens; processes = s.processes; claims = s.claims; limits = s.limits; lengths = lengths }
 
--- a frame that may follow a frame: a sound one, with what no call changes
+-- a frame that may follow a frame: a sound one, in which what stays is of the same kind
 pub record Follows (f g : Frame) : Type 0 where
   pub sound : FrameSound g
-  pub fixed : Fixed f g
+  pub kinds : Kinds f.objects g.objects
 
 pub follows_itself : (f : Frame) → FrameSound f → Follows f f
-follows_itself f s = record { sound = s; fixed = fixed_itself f }
+follows_itself f s = record { sound = s; kinds = kinds_itself f.objects }
 
 -- ---- one but for labels and the like
 -- the working directories and the claims are as they were
@@ -73,7 +73,7 @@ steady_process g p h same homes = record {
 
 module _ (f : Frame) where
   follows_steady : (g h : Frame) → Steady g h → LabelsBelow h → length h.log ≤ h.limits.log → Follows f g → Follows f h
-  follows_steady g h r below log s = record { sound = sound_steady g h r below log s.sound; fixed = fixed_floats f g s.fixed h r.floats }
+  follows_steady g h r below log s = record { sound = sound_steady g h r below log s.sound; kinds = kinds_floats f.objects g.objects s.kinds h.objects r.floats.objects }
 
   -- ---- changes of what stands
   pub followed_object : (g : Frame) (o : ℕ) (h : Object → Object) → ((x : Object) → object_but (h x) ≡ object_but x) → ((x : Object) → (h x).claims ≡ x.claims) → ((x : Object) → at g.objects o ≡ Some x → leq (h x).label (ceiling_of g.fss (h x)) ≡ true) → Follows f g → Follows f (record g { objects = change g.objects o h })

@@ -227,7 +227,9 @@ module _ (f : Frame) (pid : ℕ) (p : Process) (fd e : ℕ) (lives : living (at 
 
   pub claims_given : ClaimsSound f → ClaimsSound (given f pid fd e)
   unfolding give
-  claims_given c = record { claimant = λ o end n y is claim. elim (eqb_tells n pid) [
-    | inl same ↦ ap (λ k. has_on f.opens o end (at (change f.processes pid give) k)) same.1 ∙ ap (has_on f.opens o end) (at_changed f.processes pid give) ∙ gives_more o end (ap (λ k. has_on f.opens o end (at f.processes k)) (sym same.1) ∙ c.claimant o end n y is claim)
-    | inr other ↦ ap (has_on f.opens o end) (get_or-set_other f.processes pid n _ None other.1) ∙ c.claimant o end n y is claim
-  ] }
+  claims_given c = record {
+    claimant = λ o end n y is claim. elim (eqb_tells n pid) [
+      | inl same ↦ ap (λ k. has_on f.opens o end (at (change f.processes pid give) k)) same.1 ∙ ap (has_on f.opens o end) (at_changed f.processes pid give) ∙ gives_more o end (ap (λ k. has_on f.opens o end (at f.processes k)) (sym same.1) ∙ c.claimant o end n y is claim)
+      | inr other ↦ ap (has_on f.opens o end) (get_or-set_other f.processes pid n _ None other.1) ∙ c.claimant o end n y is claim
+    ];
+  }

@@ -192,9 +192,9 @@ module _ (f : Frame) (o : ℕ) (s : Awaiting o f) where
     }
 
 -- a file or a pipe stays where it has to, and else is gone
-pub ends_let_go_object : (f : Frame) (o : ℕ) (P : Refusal → Frame → Type 0) (Q : Unit {0} → Frame → Type 0) → Awaiting o f → option_map_or is_dir (at f.objects o) false ≡ false → (FrameSound f → Q tt f) → (FrameSound (record f { objects = put f.objects o None }) → Q tt (record f { objects = put f.objects o None })) → Ends (let_go_object o f) P Q
+pub object_released : (f : Frame) (o : ℕ) (P : Refusal → Frame → Type 0) (Q : Unit {0} → Frame → Type 0) → Awaiting o f → option_map_or is_dir (at f.objects o) false ≡ false → (FrameSound f → Q tt f) → (FrameSound (record f { objects = put f.objects o None }) → Q tt (record f { objects = put f.objects o None })) → Ends (let_go_object o f) P Q
 unfolding let_go_object put_object Ends
-ends_let_go_object f o P Q s no_dir kept gone = ends_only_if (option_map_or (λ x. not (stays f o x)) (at f.objects o) false) (put_object o None) f P Q
+object_released f o P Q s no_dir kept gone = ends_only_if (option_map_or (λ x. not (stays f o x)) (at f.objects o) false) (put_object o None) f P Q
     (λ goes.
     let x = passes_some (λ y. option_map_or (λ z. not (stays f o z)) y false) refl (at f.objects o) goes in
     let other : is_dir x.0 ≡ false = sym (ap (λ y. option_map_or is_dir y false) x.1) ∙ no_dir in

@@ -7,6 +7,7 @@ use Rattle.std.proofs.lemmas.List.Folds.{list_any-append}
 use Rattle.std.proofs.lemmas.List.Sums.{sum_by_push, sum_by-cons, length-filter, count_by-le-length}
 use Rattle.ix_model.specs.Naming.{same_bytes}
 use Rattle.ix_model.specs.Valid.{all_differ}
+use Rattle.ix_model.proofs.There.{counted}
 
 abbrev pub Names : Type 0
 Names = List (List ℕ × ℕ)
@@ -62,9 +63,6 @@ none_out name (e ∷ es) h =
 
 -- what the name leads to is counted once less, and all else as before
 module _ (name : List ℕ) (o : ℕ) where
-  counted_out : (m : ℕ) (e : List ℕ × ℕ) (es : Names) → count_by (λ n. n.1 == m) (e ∷ es) ≡ cond {A = ℕ} (e.1 == m) 1 0 + count_by (λ n. n.1 == m) es
-  counted_out m e es = sum_by-cons (λ (n : List ℕ × ℕ). cond {A = ℕ} (n.1 == m) 1 0) e es
-
   pub count_out : (m : ℕ) (es : Names) → all_differ (map (λ n. n.0) es) ≡ true → option_map (λ e. e.1) (find (λ e. same_bytes e.0 name) es) ≡ Some o → count_by (λ n. n.1 == m) (others name es) + cond {A = ℕ} (o == m) 1 0 ≡ count_by (λ n. n.1 == m) es
   count_out m [] h is = cc
   count_out m (e ∷ es) h is = go (same_bytes e.0 name) refl is (λ d k. count_out m es d k)
@@ -77,10 +75,10 @@ module _ (name : List ℕ) (o : ℕ) where
           let rest : others name es ≡ es = none_out name es (ap (λ a. list_any (same_bytes a) (map (λ (n : List ℕ × ℕ). n.0) es)) (sym here) ∙ not-true _ p.0) in
           let left : count_by (λ n. n.1 == m) (others name es) ≡ count_by (λ n. n.1 == m) es = ap (count_by (λ n. n.1 == m)) rest in
           let head : cond {A = ℕ} (e.1 == m) 1 0 ≡ cond {A = ℕ} (o == m) 1 0 = ap (λ k. cond {A = ℕ} (k == m) 1 0) one in
-          omega (arith, left, head, counted_out m e es)
+          omega (arith, left, head, counted m e es)
       go false same k next =
           let p = and_parts (not (list_any (same_bytes e.0) (map (λ (n : List ℕ × ℕ). n.0) es))) (all_differ (map (λ (n : List ℕ × ℕ). n.0) es)) h in
-          omega (arith, next p.1 k, counted_out m e (others name es), counted_out m e es)
+          omega (arith, next p.1 k, counted m e (others name es), counted m e es)
 
 any_fewer : (a name : List ℕ) (es : Names) → list_any (same_bytes a) (map (λ n. n.0) es) ≡ false → list_any (same_bytes a) (map (λ n. n.0) (others name es)) ≡ false
 any_fewer a name [] h = refl

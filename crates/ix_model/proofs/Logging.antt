@@ -23,11 +23,11 @@ use Rattle.ix_model.proofs.Finds.{at_change}
 use Rattle.ix_model.proofs.Living.{is_living, not_ended, lives_as}
 use Rattle.ix_model.proofs.Keeps.{Holds, Keeps, keeping}
 use Rattle.ix_model.proofs.Ends.{Ends, ending, ends_kept, kept_ends, ends_bind, ends_then, ends_pass, ends_frame, ends_need, ends_some, ends_only_if, ends_caller, ends_object, ends_change_object, ends_change_caller}
+use Rattle.ix_model.proofs.RowEnds.{ends_entitled, ends_logged}
 use Rattle.ix_model.proofs.Looks.{ends_affect}
 use Rattle.ix_model.proofs.Floats.{Floats, floats_itself, floats_process}
 use Rattle.ix_model.proofs.Floated.{names_floated, lives_floated, opens_floated, processes_moved, claims_floated, limits_floated}
 use Rattle.ix_model.proofs.Labels.{labels_process}
-use Rattle.ix_model.proofs.Fixed.{Fixed, fixed_floats}
 use Rattle.ix_model.proofs.Frames.{FrameSound, Follows, follows_affect, followed_object, followed_process}
 use Rattle.ix_model.proofs.Steadily.{follows_found}
 
@@ -35,32 +35,24 @@ use Rattle.ix_model.proofs.Steadily.{follows_found}
 abbrev pub HasRoom : Frame → Type 0
 HasRoom f = nat_lt (length f.log) f.limits.log ≡ true
 
-ends_exercise : (pid : ℕ) (x : PrivSet) (f : Frame) (P : Refusal → Frame → Type 0) (Q : Unit {0} → Frame → Type 0) → (HasRoom f → Q tt f) → ((r : Refusal) → P r f) → Ends (exercise pid x f) P Q
+room_exercise : (pid : ℕ) (x : PrivSet) (f : Frame) (P : Refusal → Frame → Type 0) (Q : Unit {0} → Frame → Type 0) → (HasRoom f → Q tt f) → ((r : Refusal) → P r f) → Ends (exercise pid x f) P Q
 unfolding exercise entitled log_has_room
-ends_exercise pid x f P Q h k = search (ending, h, k) depth 30
+room_exercise pid x f P Q h k = search (ending, h, k) depth 30
 
-ends_entitled : (pid : ℕ) (x : PrivSet) (f : Frame) (P : Refusal → Frame → Type 0) (Q : Unit {0} → Frame → Type 0) → Q tt f → ((r : Refusal) → P r f) → Ends (entitled pid x f) P Q
-unfolding entitled
-ends_entitled pid x f P Q h k = search (ending, h, k) depth 30
-
-ends_log_has_room : (f : Frame) (P : Refusal → Frame → Type 0) (Q : Unit {0} → Frame → Type 0) → (HasRoom f → Q tt f) → ((r : Refusal) → P r f) → Ends (log_has_room f) P Q
+room_log : (f : Frame) (P : Refusal → Frame → Type 0) (Q : Unit {0} → Frame → Type 0) → (HasRoom f → Q tt f) → ((r : Refusal) → P r f) → Ends (log_has_room f) P Q
 unfolding log_has_room
-ends_log_has_room f P Q h k = search (ending, h, k) depth 30
+room_log f P Q h k = search (ending, h, k) depth 30
 
-ends_logged : (l : AuditLine) (f : Frame) (P : Refusal → Frame → Type 0) (Q : Unit {0} → Frame → Type 0) → Q tt (record f { log = f.log ++ l ∷ [] }) → Ends (logged l f) P Q
-unfolding logged Ends
-ends_logged l f P Q h = h
-
-ends_allowed : (pid : ℕ) (was now : Categories) (f : Frame) (P : Refusal → Frame → Type 0) (Q : Unit {0} → Frame → Type 0) → ((not (leq was now) ≡ true → HasRoom f) → Q tt f) → ((r : Refusal) → P r f) → Ends (allowed pid was now f) P Q
+room_allowed : (pid : ℕ) (was now : Categories) (f : Frame) (P : Refusal → Frame → Type 0) (Q : Unit {0} → Frame → Type 0) → ((not (leq was now) ≡ true → HasRoom f) → Q tt f) → ((r : Refusal) → P r f) → Ends (allowed pid was now f) P Q
 unfolding allowed
-ends_allowed pid was now f P Q h k =
-    let second : Ends (only_if (not (leq was now)) (exercise pid to_lower) f) P Q = ends_only_if _ _ f P Q (λ yes. ends_exercise pid _ f P Q (λ room. h (λ again. room)) k) (λ no. h (λ yes. absurd (true≢false (sym yes ∙ no)))) in
+room_allowed pid was now f P Q h k =
+    let second : Ends (only_if (not (leq was now)) (exercise pid to_lower) f) P Q = ends_only_if _ _ f P Q (λ yes. room_exercise pid _ f P Q (λ room. h (λ again. room)) k) (λ no. h (λ yes. absurd (true≢false (sym yes ∙ no)))) in
     ends_bind _ _ f P Q (ends_caller pid f P _ (λ p lives.
     ends_then _ _ f P Q (ends_only_if _ _ f P _ (λ yes. ends_need _ _ f P _ (λ low. second) (k _)) (λ no. second))) (k _))
 
-ends_movable : (x : Object) (now : Categories) (f : Frame) (P : Refusal → Frame → Type 0) (Q : Unit {0} → Frame → Type 0) → leq x.label (ceiling_of f.fss x) ≡ true → (leq now (ceiling_of f.fss x) ≡ true → Q tt f) → ((r : Refusal) → P r f) → Ends (movable x now f) P Q
+fits_movable : (x : Object) (now : Categories) (f : Frame) (P : Refusal → Frame → Type 0) (Q : Unit {0} → Frame → Type 0) → leq x.label (ceiling_of f.fss x) ≡ true → (leq now (ceiling_of f.fss x) ≡ true → Q tt f) → ((r : Refusal) → P r f) → Ends (movable x now f) P Q
 unfolding movable
-ends_movable x now f P Q fits h k =
+fits_movable x now f P Q fits h k =
     ends_bind _ _ f P Q (ends_frame f P _ (ends_only_if _ _ f P Q
     (λ other. ends_then _ _ f P Q (ends_need _ _ f P _ (λ free. ends_need _ _ f P Q h (k _)) (k _)))
     (λ no. h (subst (λ (l : Categories). leq l (ceiling_of f.fss x) ≡ true) ((same-decides x.label now).0 (not-false _ no)) fits))))
@@ -91,7 +83,7 @@ module _ (f : Frame) where
           claims = record { claimant = s.sound.claims.claimant };
           limits = record { objects = w.objects; pipes = w.pipes; past = w.past; numbers = w.numbers; opens = w.opens; processes = w.processes; names = w.names; log = omega (arith, length-append g.log (l ∷ []), low) };
         };
-        fixed = record { limits = s.fixed.limits; fss = s.fixed.fss; objects = s.fixed.objects; opens = s.fixed.opens; kinds = s.fixed.kinds };
+        kinds = s.kinds;
       }
 
   ends_logged_if : (b : Bool) (l : AuditLine) (g : Frame) → (b ≡ true → HasRoom g) → Follows f g → (a : Reply) → Ends (◌>>◌ (only_if b (logged l)) (pass a) g) Refused Passed
@@ -119,8 +111,8 @@ module _ (f : Frame) where
   set_label_ends place pid path now g s =
       ends_bind _ _ g Refused Passed (ends_next _ g _ (follows_found f pid path) s (λ o m r.
       ends_bind _ _ m Refused Passed (ends_object o m Refused _ (λ x is.
-      ends_then _ _ m Refused Passed (ends_allowed pid x.label now m Refused _ (λ room.
-      ends_then _ _ m Refused Passed (ends_movable x now m Refused _ (r.sound.labels.objects o x is) (λ low.
+      ends_then _ _ m Refused Passed (room_allowed pid x.label now m Refused _ (λ room.
+      ends_then _ _ m Refused Passed (fits_movable x now m Refused _ (r.sound.labels.objects o x is) (λ low.
       ends_then _ _ m Refused Passed (ends_change_object o _ m Refused _ (
       ends_logged_if _ _ _ room (labelled m o x now is low r) _)))
       (λ why. r))) (λ why. r))) r)))
@@ -144,7 +136,7 @@ module _ (f : Frame) where
       (λ other. ends_then _ _ g Refused _ (ends_need _ _ g Refused _ (λ free. ends_need _ _ g Refused _ (λ low. last room low) s) s))
       (λ no. last room (low_again no))) in
       ends_then _ _ g Refused Passed (ends_only_if _ _ g Refused _
-      (λ yes. ends_exercise pid _ g Refused _ (λ room. second (λ again. room)) (λ why. s))
+      (λ yes. room_exercise pid _ g Refused _ (λ room. second (λ again. room)) (λ why. s))
       (λ no. second (λ yes. absurd (true≢false (sym yes ∙ no)))))) s)
 
   pub thaw_ends : (place pid : ℕ) (path : PathOf) (g : Frame) → Follows f g → Ends (thaw place pid path g) Refused Passed
@@ -152,7 +144,7 @@ module _ (f : Frame) where
   thaw_ends place pid path g s =
       ends_bind _ _ g Refused Passed (ends_next _ g _ (follows_found f pid path) s (λ o m r.
       ends_bind _ _ m Refused Passed (ends_object o m Refused _ (λ x is.
-      ends_then _ _ m Refused Passed (ends_exercise pid _ m Refused _ (λ room.
+      ends_then _ _ m Refused Passed (room_exercise pid _ m Refused _ (λ room.
       ends_then _ _ m Refused Passed (ends_change_object o _ m Refused _ (
       ends_logged_last _ _ room (followed_object f m o _ (λ y. refl) (λ y. refl) (λ y here. r.sound.labels.objects o y here) r) _)))
       (λ why. r))) r)))
@@ -161,7 +153,7 @@ module _ (f : Frame) where
   unfolding thaw_self
   thaw_self_ends place pid g s =
       ends_bind _ _ g Refused Passed (ends_caller pid g Refused _ (λ p lives.
-      ends_then _ _ g Refused Passed (ends_exercise pid _ g Refused _ (λ room.
+      ends_then _ _ g Refused Passed (room_exercise pid _ g Refused _ (λ room.
       ends_then _ _ g Refused Passed (ends_change_caller pid _ g Refused _ (
       ends_logged_last _ _ room (followed_process f g pid _ (λ q. refl) (λ q. refl) (λ q here. s.sound.labels.processes pid q here) s) _)))
       (λ why. s))) s)
@@ -170,7 +162,7 @@ module _ (f : Frame) where
   unfolding grant_lic
   grant_lic_ends place pid target set g s =
       ends_bind _ _ g Refused Passed (ends_caller target g Refused _ (λ p lives.
-      ends_then _ _ g Refused Passed (ends_exercise pid _ g Refused _ (λ room.
+      ends_then _ _ g Refused Passed (room_exercise pid _ g Refused _ (λ room.
       ends_then _ _ g Refused Passed (ends_change_caller target _ g Refused _ (
       ends_logged_last _ _ room (followed_process f g target _ (λ q. refl) (λ q. refl) (λ q here. s.sound.labels.processes target q here) s) _)))
       (λ why. s))) s)
@@ -190,18 +182,18 @@ module _ (f : Frame) where
       let last : (needs_to_set_ceilings pid target p now ≡ true → HasRoom g) → Ends (◌>>◌ (change_process target (λ q. record q { ceiling = now })) (◌>>◌ (only_if (needs_to_set_ceilings pid target p now) (logged (relabelling place pid act.Ceiling target p.ceiling now))) (pass reply.Done)) g) Refused Passed =
       λ room. ends_then _ _ g Refused Passed (ends_change_caller target _ g Refused _ (ends_logged_if _ _ _ room (process_bounded g target p now lives low s) _)) in
       ends_then _ _ g Refused Passed (ends_only_if _ _ g Refused _
-      (λ yes. ends_exercise pid _ g Refused _ (λ room. last (λ again. room)) (λ why. s))
+      (λ yes. room_exercise pid _ g Refused _ (λ room. last (λ again. room)) (λ why. s))
       (λ no. last (λ yes. absurd (true≢false (sym yes ∙ no)))))) s)) s)
 
   pub read_log_ends : (place pid index : ℕ) (g : Frame) → Follows f g → Ends (read_log place pid index g) Refused Passed
   unfolding read_log
   read_log_ends place pid index g s =
-      ends_then _ _ g Refused Passed (ends_entitled pid _ g Refused _ (
+      ends_then _ _ g Refused Passed (ends_entitled pid _ g Refused _ (λ why. s) (
       ends_bind _ _ g Refused Passed (ends_frame g Refused _ (
       ends_bind _ _ g Refused Passed (ends_some _ _ g Refused _ (λ l is.
-      ends_then _ _ g Refused Passed (ends_log_has_room g Refused _ (λ room.
+      ends_then _ _ g Refused Passed (room_log g Refused _ (λ room.
       ends_bind _ _ g Refused Passed (ends_caller pid g Refused _ (λ p lives. ends_logged_last _ _ room s _) s))
-      (λ why. s))) s)))) (λ why. s))
+      (λ why. s))) s)))))
 
   -- ---- privileges of files
   room_affect : (pid o : ℕ) → Keeps HasRoom (affect pid o)
@@ -213,7 +205,7 @@ module _ (f : Frame) where
       ends_bind _ _ g Refused Passed (ends_next _ g _ (follows_found f pid path) s (λ o m r.
       ends_bind _ _ m Refused Passed (ends_object o m Refused _ (λ x is.
       ends_then _ _ m Refused Passed (ends_need _ _ m Refused _ (λ no_dir.
-      ends_then _ _ m Refused Passed (ends_exercise pid _ m Refused _ (λ room.
+      ends_then _ _ m Refused Passed (room_exercise pid _ m Refused _ (λ room.
       ends_bind _ _ m Refused Passed (ends_caller pid m Refused _ (λ p lives.
       ends_then _ _ m Refused Passed (ends_kept (λ h. Follows f h × HasRoom h) _ Refused _ (holds_both _ _ _ ((follows_affect f pid o).led m r) ((room_affect pid o).led m room)) (λ why h k. k.0) (λ u h k.
       ends_then _ _ h Refused Passed (ends_change_object o _ h Refused _ (
@@ -241,7 +233,7 @@ module _ (f : Frame) where
           claims = claims_floated g k r (λ n. refl) s.sound.claims;
           limits = limits_floated g k r s.sound.limits.log s.sound.limits;
         };
-        fixed = fixed_floats f g s.fixed k r;
+        kinds = s.kinds;
       }
 
   pub change_dir_ends : (pid : ℕ) (path : PathOf) (g : Frame) → Follows f g → Ends (change_dir pid path g) Refused Passed

@@ -19,11 +19,9 @@ use Rattle.ix_model.proofs.Ends.{Ends, ends_then, ends_only_if, ends_change_obje
 use Rattle.ix_model.proofs.Labels.{labels_object, labels_process}
 use Rattle.ix_model.proofs.Floats.{Floats, object_but, floats_itself, floats_object}
 use Rattle.ix_model.proofs.Floated.{has_on, names_floated, lives_floated, processes_floated, limits_floated}
-use Rattle.ix_model.proofs.Fixed.{Fixed, fixed_floats, fixed_put_open, fixed_processes, fixed_gone_object}
 use Rattle.ix_model.proofs.Frames.{FrameSound, Follows}
 use Rattle.ix_model.proofs.Given.{OpensBut, and_more, either_more, or_more, processes_put_fd, limits_put_fd}
 use Rattle.ix_model.proofs.Awaiting.{LivesBut, Awaiting, awaiting, names_but}
-use Rattle.ix_model.proofs.Gone.{ends_let_go_object}
 use Rattle.ix_model.proofs.Claimants.{IsBehind, is_behind}
 
 -- all claims but one are claimants'

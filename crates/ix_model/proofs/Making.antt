@@ -26,10 +26,10 @@ use Rattle.ix_model.proofs.Looks.{ends_affect}
 use Rattle.ix_model.proofs.Endings.{ends_put_object}
 use Rattle.ix_model.proofs.FreeNumbers.{free_inode_is}
 use Rattle.ix_model.proofs.Floats.{Floats, object_but, floats_itself, floats_affect}
-use Rattle.ix_model.proofs.Fixed.{Fixed, SameKind, fixed_new_object, fixed_change_object}
+use Rattle.ix_model.proofs.SameKinds.{kinds_new, kinds_change}
 use Rattle.ix_model.proofs.Frames.{FrameSound, Follows, follows_itself, follows_affect}
 use Rattle.ix_model.proofs.Logging.{Refused, Passed, holds_both}
-use Rattle.ix_model.proofs.Walked.{Within, Leads, Along, along_itself, within_on, ends_walked_to, leads_there, leads_vacant, ends_missing}
+use Rattle.ix_model.proofs.Walked.{Within, Leads, Along, along_itself, within_on, leads_walked_to, leads_there, leads_vacant, leads_missing}
 use Rattle.ix_model.proofs.Awaiting.{IsNew, Awaiting, awaiting, awaiting_new, times_new, names_in_new}
 use Rattle.ix_model.proofs.Named.{named_sound}
 
@@ -76,10 +76,10 @@ created f m h a b r d o j name kind no_pipe within free room =
     let no_root : o ≢ 0 = λ e. true≢false (sym b.sound.names.root ∙ ap (λ k. option_map_or is_dir (at h.objects k) false) (sym e) ∙ ap (λ y. option_map_or is_dir y false) free_h) in
     record {
       sound = named_sound g d o w.dir x name (get_or-set_other h.objects o d (Some x) None apart ∙ w.is) w.is_directory born no_pipe w.leads
-      (room_same m g (names_in_new h o x new ∙ names_floated_in m h r) r.limits room)
-      (awaiting_new h o x new b.sound)
-      (λ dir. (times_new h o x new o ∙ unborn h o b.sound free_h, no_root));
-      fixed = fixed_change_object f g (fixed_new_object f h b.fixed o (Some x) free_f) d (with_name name o) (λ y. record { pipe = refl; fs = refl });
+          (room_same m g (names_in_new h o x new ∙ names_floated_in m h r) r.limits room)
+          (awaiting_new h o x new b.sound)
+          (λ dir. (times_new h o x new o ∙ unborn h o b.sound free_h, no_root));
+      kinds = kinds_change f.objects g.objects (kinds_new f.objects h.objects b.kinds o (Some x) free_f) d (with_name name o) (λ y. record { pipe = refl; fs = refl });
     }
 
 module _ (f : Frame) where
@@ -93,7 +93,7 @@ module _ (f : Frame) (s : FrameSound f) where
   make_ends : (pid : ℕ) (path : PathOf) (kind : Kind) → ((j : ℕ) → is_pipe (new_object kind (Some j)) ≡ false) → Ends (make pid path kind f) (Refused f) (Passed f)
   unfolding make
   make_ends pid path kind no_pipe =
-      ends_bind _ _ f (Refused f) (Passed f) (ends_missing f pid path (Refused f) _ (follows_itself f s) (λ r h k. k) (λ d m k within.
+      ends_bind _ _ f (Refused f) (Passed f) (leads_missing f pid path (Refused f) _ (follows_itself f s) (λ r h k. k) (λ d m k within.
       ends_bind _ _ m (Refused f) (Passed f) (ends_object d m (Refused f) _ (λ x is.
       ends_bind _ _ m (Refused f) (Passed f) (ends_frame m (Refused f) _ (
       ends_bind _ _ m (Refused f) (Passed f) (ends_some _ _ m (Refused f) _ (λ o free.
@@ -128,17 +128,17 @@ linked f m h s a b r d o dir target name x is no_dir leads within room =
     let no_pipe : is_pipe there.was ≡ false = sym (ap is_pipe there.same) ∙ not-true _ (sym (ap (λ y. option_map_or (λ z. not (is_pipe z)) y false) is) ∙ open_pipe) in
     record {
       sound = named_sound h d o w.dir there.was name w.is w.is_directory there.is_was no_pipe w.leads
-      (room_same m h (names_floated_in m h r) r.limits room) (awaiting o h b.sound)
-      (λ yes. absurd (true≢false (sym yes ∙ other)));
-      fixed = fixed_change_object f h b.fixed d (with_name name o) (λ y. record { pipe = refl; fs = refl });
+          (room_same m h (names_floated_in m h r) r.limits room) (awaiting o h b.sound)
+          (λ yes. absurd (true≢false (sym yes ∙ other)));
+      kinds = kinds_change f.objects h.objects b.kinds d (with_name name o) (λ y. record { pipe = refl; fs = refl });
     }
 
 module _ (f : Frame) (s : FrameSound f) where
   pub link_at_ends : (pid : ℕ) (target path : PathOf) → Ends (link_at pid target path f) (Refused f) (Passed f)
   unfolding link_at
   link_at_ends pid target path =
-      ends_bind _ _ f (Refused f) (Passed f) (ends_walked_to f f pid target (Refused f) _ (along_itself f (follows_itself f s)) (λ r h k. k) (λ a l k1 leads_a.
-      ends_bind _ _ l (Refused f) (Passed f) (ends_walked_to f l pid path (Refused f) _ k1 (λ r h k. k) (λ b m k leads_b.
+      ends_bind _ _ f (Refused f) (Passed f) (leads_walked_to f f pid target (Refused f) _ (along_itself f (follows_itself f s)) (λ r h k. k) (λ a l k1 leads_a.
+      ends_bind _ _ l (Refused f) (Passed f) (leads_walked_to f l pid path (Refused f) _ k1 (λ r h k. k) (λ b m k leads_b.
       ends_bind _ _ m (Refused f) (Passed f) (leads_there f (last_name target.names) a m (Refused f) _ leads_a (λ o dir leads.
       ends_bind _ _ m (Refused f) (Passed f) (ends_object o m (Refused f) _ (λ x is.
       ends_then _ _ m (Refused f) (Passed f) (ends_need _ _ m (Refused f) _ (λ no_dir.

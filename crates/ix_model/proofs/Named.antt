@@ -96,10 +96,12 @@ module _ (f : Frame) (d : ℕ) (x : Object) (is : at f.objects d ≡ Some x) (di
     processes_renamed r = record { none = r.none; home = λ p q lives. sees (λ z. option_map_or is_dir z false) (λ z. refl) q.cwd ∙ r.home p q lives; parent = r.parent; descriptors = r.descriptors }
 
     claims_renamed : ClaimsSound f → ClaimsSound (record f { objects = renamed })
-    claims_renamed r = record { claimant = λ m end p y here claim. elim (at_change f.objects d (renaming k) m y here) [
-      | inl c ↦ r.claimant m end p c.was (ap (at f.objects) c.here ∙ c.is_was) (ap (λ z. at z.claims end) (sym c.same) ∙ claim)
-      | inr apart ↦ r.claimant m end p y apart.1 claim
-    ] }
+    claims_renamed r = record {
+      claimant = λ m end p y here claim. elim (at_change f.objects d (renaming k) m y here) [
+        | inl c ↦ r.claimant m end p c.was (ap (at f.objects) c.here ∙ c.is_was) (ap (λ z. at z.claims end) (sym c.same) ∙ claim)
+        | inr apart ↦ r.claimant m end p y apart.1 claim
+      ];
+    }
 
     limits_renamed : WithinLimits f → WithinLimits (record f { objects = renamed })
     limits_renamed l = record {

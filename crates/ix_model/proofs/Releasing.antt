@@ -17,11 +17,11 @@ use Rattle.ix_model.proofs.Living.{is_living, not_ended, lives_as}
 use Rattle.ix_model.proofs.Ends.{Ends, ends_then, ends_only_if, ends_change_object, ends_change_caller, ends_put_open}
 use Rattle.ix_model.proofs.Floats.{floats_itself, floats_object}
 use Rattle.ix_model.proofs.Floated.{has_on}
-use Rattle.ix_model.proofs.Fixed.{Fixed, fixed_floats, fixed_put_open, fixed_processes, fixed_gone_object}
+use Rattle.ix_model.proofs.SameKinds.{Kinds, kinds_floats, kinds_gone}
 use Rattle.ix_model.proofs.Frames.{FrameSound, Follows}
 use Rattle.ix_model.proofs.Given.{and_more, or_more, either_more}
 use Rattle.ix_model.proofs.Awaiting.{Awaiting, awaiting, names_but}
-use Rattle.ix_model.proofs.Gone.{ends_let_go_object}
+use Rattle.ix_model.proofs.Gone.{object_released}
 use Rattle.ix_model.proofs.Claimants.{IsBehind, is_behind}
 use Rattle.ix_model.proofs.Loose.{Loose, loose_taken, loose_unclaimed, claims_kept}
 
@@ -115,35 +115,33 @@ no_directory (Some x) h = not-true _ h
 
 -- from a loose frame, the open entry and the object
 module _ (base : Frame) (P : Refusal → Frame → Type 0) (Q : Unit {0} → Frame → Type 0) where
-  released : (e : ℕ) (f : Frame) → Loose e f → (y : Open) → at f.opens e ≡ Some y → option_map_or is_dir (at f.objects y.object) false ≡ false → Fixed base f → ((h : Frame) → Follows base h → h.processes ≡ f.processes → Q tt h) → Ends (◌>>◌ (let_go_open e) (let_go_object y.object) f) P Q
+  released : (e : ℕ) (f : Frame) → Loose e f → (y : Open) → at f.opens e ≡ Some y → option_map_or is_dir (at f.objects y.object) false ≡ false → Kinds base.objects f.objects → ((h : Frame) → Follows base h → h.processes ≡ f.processes → Q tt h) → Ends (◌>>◌ (let_go_open e) (let_go_object y.object) f) P Q
   unfolding let_go_open
-  released e f l y there no_dir fixed next = ends_then _ _ f P Q (ends_only_if (not (owned f.processes e)) (put_open e None) f P _
+  released e f l y there no_dir kinds next = ends_then _ _ f P Q (ends_only_if (not (owned f.processes e)) (put_open e None) f P _
       (λ lost.
       let g : Frame = record f { opens = put f.opens e None } in
-      let fixed_g : Fixed base g = fixed_put_open base f fixed e None in
-      ends_put_open e None f P _ (ends_let_go_object g y.object P Q (awaiting_left e f l y there (not-true _ lost)) no_dir
-      (λ sound. next _ (record { sound = sound; fixed = fixed_g }) refl)
-      (λ sound. next _ (record { sound = sound; fixed = fixed_gone_object base g fixed_g y.object }) refl)))
+      ends_put_open e None f P _ (object_released g y.object P Q (awaiting_left e f l y there (not-true _ lost)) no_dir
+      (λ sound. next _ (record { sound = sound; kinds = kinds }) refl)
+      (λ sound. next _ (record { sound = sound; kinds = kinds_gone base.objects f.objects kinds y.object }) refl)))
       (λ own.
       let s = owned_sound e f l (not-false _ own) in
-      ends_let_go_object f y.object P Q (awaiting y.object f s) no_dir
-      (λ sound. next f (record { sound = sound; fixed = fixed }) refl)
-      (λ sound. next _ (record { sound = sound; fixed = fixed_gone_object base f fixed y.object }) refl)))
+      object_released f y.object P Q (awaiting y.object f s) no_dir
+      (λ sound. next f (record { sound = sound; kinds = kinds }) refl)
+      (λ sound. next _ (record { sound = sound; kinds = kinds_gone base.objects f.objects kinds y.object }) refl)))
 
   -- a descriptor, its claim, its open entry and the object
-  pub ends_let_go : (f : Frame) (pid fd : ℕ) (e : Behind) → behind f pid fd ≡ Some e → Follows base f → ((h : Frame) → Follows base h → h.processes ≡ change f.processes pid (λ q. record q { fds = put q.fds fd None }) → Q tt h) → Ends (let_go pid fd e f) P Q
+  pub descriptor_released : (f : Frame) (pid fd : ℕ) (e : Behind) → behind f pid fd ≡ Some e → Follows base f → ((h : Frame) → Follows base h → h.processes ≡ change f.processes pid (λ q. record q { fds = put q.fds fd None }) → Q tt h) → Ends (let_go pid fd e f) P Q
   unfolding let_go let_go_claim
-  ends_let_go f pid fd e is k next =
+  descriptor_released f pid fd e is k next =
       let b = is_behind f pid fd e is in
       let s = k.sound in
       let no_dir : option_map_or is_dir (at f.objects e.entry.object) false ≡ false = no_directory (at f.objects e.entry.object) (s.opens.target e.id e.entry b.stands) in
       let taken : Frame = record f { processes = change f.processes pid (λ q. record q { fds = put q.fds fd None }) } in
       let unclaiming : Object → Object = λ x. record x { claims = put x.claims e.entry.end None } in
-      let fixed : Fixed base taken = fixed_processes base f k.fixed (change f.processes pid (λ q. record q { fds = put q.fds fd None })) in
       ends_then _ _ f P Q (ends_change_caller pid _ f P _ (
       ends_then _ _ taken P Q (ends_only_if (has_lost taken pid e.entry.object e.entry.end) _ taken P _
       (λ lost. ends_change_object e.entry.object _ taken P _ (
       released e.id (record taken { objects = change f.objects e.entry.object unclaiming }) (loose_unclaimed f s pid fd e b) e.entry b.stands
       (seen_changed (λ y. option_map_or is_dir y false) unclaiming (λ y. refl) f.objects e.entry.object e.entry.object ∙ no_dir)
-      (fixed_floats base taken fixed _ (floats_object taken taken e.entry.object unclaiming (λ y. refl) (floats_itself taken))) next))
-      (λ kept. released e.id taken (loose_taken f s pid fd e b (claims_kept f s pid fd e b kept)) e.entry b.stands no_dir fixed next))))
+      (kinds_floats base.objects f.objects k.kinds _ (floats_object taken taken e.entry.object unclaiming (λ y. refl) (floats_itself taken)).objects) next))
+      (λ kept. released e.id taken (loose_taken f s pid fd e b (claims_kept f s pid fd e b kept)) e.entry b.stands no_dir k.kinds next))))

@@ -20,7 +20,6 @@ use Rattle.ix_model.proofs.Endings.{ends_put_process, ends_record_of}
 use Rattle.ix_model.proofs.Labels.{labels_put_process}
 use Rattle.ix_model.proofs.Floats.{Floats, process_but, floats_itself, floats_observe}
 use Rattle.ix_model.proofs.Floated.{has_on}
-use Rattle.ix_model.proofs.Fixed.{fixed_processes}
 use Rattle.ix_model.proofs.Frames.{FrameSound, Follows, follows_itself, follows_observe}
 use Rattle.ix_model.proofs.Logging.{Refused, Passed, holds_both}
 
@@ -141,4 +140,4 @@ module _ (f : Frame) (s : FrameSound f) where
       let passes = (position-Some (λ z. is_child pid z && is_ended z) f.processes c None first).1 in
       let ended : is_ended (at h.processes c) ≡ true = seen_same process_but is_ended (λ z. refl) f.processes h.processes j.1.processes c ∙ (and_parts (is_child pid (at f.processes c)) (is_ended (at f.processes c)) passes).1 in
       ends_then _ _ h (Refused f) (Passed f) (ends_put_process c None h (Refused f) _ (
-      ends_pass _ _ (Refused f) (Passed f) (record { sound = retired h c None (collects h c j.0.sound ended) j.0.sound; fixed = fixed_processes f h j.0.fixed _ })))))) k)) k)) k)))
+      ends_pass _ _ (Refused f) (Passed f) (record { sound = retired h c None (collects h c j.0.sound ended) j.0.sound; kinds = j.0.kinds })))))) k)) k)) k)))

@@ -3,7 +3,7 @@ use Rattle.std.proofs.Common.{ℕ}
 use Rattle.ix_label.specs.Category.{Categories}
 use Rattle.ix_model.specs.Naming.{PathOf}
 use Rattle.ix_model.specs.World.{Frame}
-use Rattle.ix_model.specs.Walks.{walked_to, found, found_in, missing, opened}
+use Rattle.ix_model.specs.Walks.{walked_to, found, opened}
 use Rattle.ix_model.specs.OnPaths.{stat_at, list_at}
 use Rattle.ix_model.specs.OnDescriptors.{Told, read_fd, write_fd, cut_fd, seek_fd}
 use Rattle.ix_model.specs.OnProcesses.{exec}
@@ -23,14 +23,6 @@ module _ (f : Frame) where
   pub follows_found : (pid : ℕ) (path : PathOf) → Keeps (Follows f) (found pid path)
   unfolding found
   follows_found pid path = search (following, follows_walked_to) depth 30
-
-  pub follows_found_in : (pid : ℕ) (path : PathOf) → Keeps (Follows f) (found_in pid path)
-  unfolding found_in
-  follows_found_in pid path = search (following, follows_walked_to) depth 30
-
-  pub follows_missing : (pid : ℕ) (path : PathOf) → Keeps (Follows f) (missing pid path)
-  unfolding missing
-  follows_missing pid path = search (following, follows_walked_to) depth 30
 
   pub follows_opened : (pid fd : ℕ) → Keeps (Follows f) (opened pid fd)
   unfolding opened

@@ -25,14 +25,15 @@ use Rattle.ix_model.proofs.FloatingRows.{floats_read_fd, floats_write_fd, floats
 use Rattle.ix_model.proofs.Floated.{lengths_floated}
 use Rattle.ix_model.proofs.Frames.{Follows, frame_of, whole_of}
 use Rattle.ix_model.proofs.Following.{follows_decided}
+use Rattle.ix_model.proofs.Fixed.{Fixed, fixed_decided}
 use Rattle.ix_model.proofs.Carried.{lengths_carried, carried_floats}
 use Rattle.ix_model.proofs.Standing.{Standing, behind_is, stands}
 use Rattle.ix_model.proofs.Lengths.{lengths_read, lengths_write, lengths_cut, lengths_seek, lengths_emptied}
 
 -- ---- answers, from a frame that follows
-module _ (w : World) (g : Frame) (k : Follows w.frame g) (s : Sound w) where
+module _ (w : World) (g : Frame) (fixed : Fixed w.frame g) (k : Follows w.frame g) (s : Sound w) where
   lengths : LengthsSound (record { frame = g; content = carried w.frame g w.content })
-  lengths = lengths_carried w g k.fixed s.lengths
+  lengths = lengths_carried w g fixed k.kinds s.lengths
 
   sound_plain : Sound (record { frame = g; content = carried w.frame g w.content })
   sound_plain = whole_of g _ k.sound lengths
@@ -115,26 +116,26 @@ pub sound_step : (w : World) (place pid : ℕ) (c : Op) → IsClean w → Sound 
 unfolding step answer told plainly row
 sound_step w place pid (op.ReadFd fd count) clean s =
     let t : Told = told w pid (op.ReadFd fd count) in
-    sound_read w _ (follows_decided w.frame (frame_of w s) t place pid (op.ReadFd fd count)) s
+    sound_read w _ (fixed_decided t place pid (op.ReadFd fd count) w.frame) (follows_decided w.frame (frame_of w s) t place pid (op.ReadFd fd count)) s
     (decided (Floats w.frame) t place pid (op.ReadFd fd count) w.frame (floats_itself w.frame) ((floats_read_fd w.frame t pid fd count).led w.frame (floats_itself w.frame))) clean
     count (behind w.frame pid fd) _ (λ e is. stands w.frame e.id e.entry s.opens (behind_is w.frame pid fd e is))
 sound_step w place pid (op.WriteFd fd bytes) clean s =
     let t : Told = told w pid (op.WriteFd fd bytes) in
-    sound_write w _ (follows_decided w.frame (frame_of w s) t place pid (op.WriteFd fd bytes)) s
+    sound_write w _ (fixed_decided t place pid (op.WriteFd fd bytes) w.frame) (follows_decided w.frame (frame_of w s) t place pid (op.WriteFd fd bytes)) s
     (decided (Floats w.frame) t place pid (op.WriteFd fd bytes) w.frame (floats_itself w.frame) ((floats_write_fd w.frame t pid fd).led w.frame (floats_itself w.frame))) clean
     bytes (behind w.frame pid fd) _ (λ e is. stands w.frame e.id e.entry s.opens (behind_is w.frame pid fd e is))
     (λ n wrote_n. let facts = wrote t place pid fd bytes w.frame n wrote_n in (facts.small, facts.room, facts.space))
 sound_step w place pid (op.CutFd fd len) clean s =
     let t : Told = told w pid (op.CutFd fd len) in
-    sound_cut w _ (follows_decided w.frame (frame_of w s) t place pid (op.CutFd fd len)) s
+    sound_cut w _ (fixed_decided t place pid (op.CutFd fd len) w.frame) (follows_decided w.frame (frame_of w s) t place pid (op.CutFd fd len)) s
     (decided (Floats w.frame) t place pid (op.CutFd fd len) w.frame (floats_itself w.frame) ((floats_cut_fd w.frame t pid fd len).led w.frame (floats_itself w.frame))) clean
     len (behind w.frame pid fd) _ (λ e is. stands w.frame e.id e.entry s.opens (behind_is w.frame pid fd e is))
     (λ done e x is. cut_tests t pid fd len w.frame (was_cut t place pid fd len w.frame done) e x is)
 sound_step w place pid (op.SeekFd fd offset) clean s =
     let t : Told = told w pid (op.SeekFd fd offset) in
-    sound_seek w _ (follows_decided w.frame (frame_of w s) t place pid (op.SeekFd fd offset)) s offset (behind w.frame pid fd) _ (sought t place pid fd offset w.frame)
-sound_step w place pid (op.StatAt path) clean s = sound_stat w _ (follows_decided w.frame (frame_of w s) (told w pid (op.StatAt path)) place pid (op.StatAt path)) s _
-sound_step w place pid (op.Exit status) clean s = sound_exit w _ (follows_decided w.frame (frame_of w s) (told w pid (op.Exit status)) place pid (op.Exit status)) s pid status _
-sound_step w place pid op.WaitChild clean s = sound_wait w _ (follows_decided w.frame (frame_of w s) (told w pid op.WaitChild) place pid op.WaitChild) s _
-sound_step w place pid (op.Pex fd) clean s = sound_pex w _ (follows_decided w.frame (frame_of w s) (told w pid (op.Pex fd)) place pid (op.Pex fd)) s (behind w.frame pid fd) _
-sound_step w place pid c clean s = sound_plain w _ (follows_decided w.frame (frame_of w s) (told w pid c) place pid c) s
+    sound_seek w _ (fixed_decided t place pid (op.SeekFd fd offset) w.frame) (follows_decided w.frame (frame_of w s) t place pid (op.SeekFd fd offset)) s offset (behind w.frame pid fd) _ (sought t place pid fd offset w.frame)
+sound_step w place pid (op.StatAt path) clean s = sound_stat w _ (fixed_decided (told w pid (op.StatAt path)) place pid (op.StatAt path) w.frame) (follows_decided w.frame (frame_of w s) (told w pid (op.StatAt path)) place pid (op.StatAt path)) s _
+sound_step w place pid (op.Exit status) clean s = sound_exit w _ (fixed_decided (told w pid (op.Exit status)) place pid (op.Exit status) w.frame) (follows_decided w.frame (frame_of w s) (told w pid (op.Exit status)) place pid (op.Exit status)) s pid status _
+sound_step w place pid op.WaitChild clean s = sound_wait w _ (fixed_decided (told w pid op.WaitChild) place pid op.WaitChild w.frame) (follows_decided w.frame (frame_of w s) (told w pid op.WaitChild) place pid op.WaitChild) s _
+sound_step w place pid (op.Pex fd) clean s = sound_pex w _ (fixed_decided (told w pid (op.Pex fd)) place pid (op.Pex fd) w.frame) (follows_decided w.frame (frame_of w s) (told w pid (op.Pex fd)) place pid (op.Pex fd)) s (behind w.frame pid fd) _
+sound_step w place pid c clean s = sound_plain w _ (fixed_decided (told w pid c) place pid c w.frame) (follows_decided w.frame (frame_of w s) (told w pid c) place pid c) s

@@ -20,13 +20,13 @@ use Rattle.ix_model.proofs.Living.{is_living, not_ended}
 use Rattle.ix_model.proofs.Ends.{Ends, ends_kept, ends_bind, ends_then, ends_pass, ends_frame, ends_need, ends_some, ends_object, ends_change_object}
 use Rattle.ix_model.proofs.Endings.{ends_put_object}
 use Rattle.ix_model.proofs.Floats.{Floats, object_but, floats_itself, floats_observe}
-use Rattle.ix_model.proofs.Fixed.{Fixed, fixed_change_object, fixed_gone_object}
+use Rattle.ix_model.proofs.SameKinds.{Kinds, kinds_change, kinds_gone}
 use Rattle.ix_model.proofs.Frames.{FrameSound, Follows, follows_itself, follows_observe}
 use Rattle.ix_model.proofs.Logging.{Refused, Passed, holds_both}
-use Rattle.ix_model.proofs.Walked.{Within, Leads, Along, within_on, ends_found_in}
+use Rattle.ix_model.proofs.Walked.{Within, Leads, Along, within_on, leads_found_in}
 use Rattle.ix_model.proofs.Awaiting.{Awaiting, awaiting}
 use Rattle.ix_model.proofs.Named.{unnamed, times_fewer}
-use Rattle.ix_model.proofs.Gone.{IsUnneeded, gone_sound, ends_let_go_object}
+use Rattle.ix_model.proofs.Gone.{IsUnneeded, gone_sound, object_released}
 use Rattle.ix_model.proofs.Making.{affect_on}
 
 -- what was found stands in the directory that was looked into last
@@ -38,7 +38,7 @@ module _ (f : Frame) (s : FrameSound f) where
   pub unlink_at_ends : (pid : ℕ) (path : PathOf) → Ends (unlink_at pid path f) (Refused f) (Passed f)
   unfolding unlink_at
   unlink_at_ends pid path =
-      ends_bind _ _ f (Refused f) (Passed f) (ends_found_in f pid path (Refused f) _ (follows_itself f s) (λ r h k. k) (λ o dir m k leads.
+      ends_bind _ _ f (Refused f) (Passed f) (leads_found_in f pid path (Refused f) _ (follows_itself f s) (λ r h k. k) (λ o dir m k leads.
       ends_bind _ _ m (Refused f) (Passed f) (ends_object o m (Refused f) _ (λ x is.
       ends_then _ _ m (Refused f) (Passed f) (ends_need _ _ m (Refused f) _ (λ no_dir.
       ends_bind _ _ m (Refused f) (Passed f) (ends_some _ _ m (Refused f) _ (λ d in_dir.
@@ -47,13 +47,13 @@ module _ (f : Frame) (s : FrameSound f) where
       let name : List ℕ = last_name path.names in
       let w = within_on m h r d name (Some o) (within_on f m k.floats d name (Some o) (inside_of f name o d dir in_dir leads)) in
       let g : Frame = record h { objects = change h.objects d (without_name (last_name path.names)) } in
-      let fixed : Fixed f g = fixed_change_object f h b.fixed d (without_name (last_name path.names)) (λ y. record { pipe = refl; fs = refl }) in
+      let kinds : Kinds f.objects g.objects = kinds_change f.objects h.objects b.kinds d (without_name (last_name path.names)) (λ y. record { pipe = refl; fs = refl }) in
       let other : option_map_or is_dir (at g.objects o) false ≡ false =
       seen_changed (λ y. option_map_or is_dir y false) (without_name (last_name path.names)) (λ y. refl) h.objects d o
       ∙ seen_same object_but (λ y. option_map_or is_dir y false) (λ y. refl) m.objects h.objects r.objects o ∙ ap (λ y. option_map_or is_dir y false) is ∙ not-true _ no_dir in
-      ends_then _ _ g (Refused f) (Passed f) (ends_let_go_object g o (Refused f) _ (unnamed h d o w.dir name w.is w.is_directory w.leads (awaiting o h b.sound)) other
-      (λ sound. ends_pass _ _ (Refused f) (Passed f) (record { sound = sound; fixed = fixed }))
-      (λ sound. ends_pass _ _ (Refused f) (Passed f) (record { sound = sound; fixed = fixed_gone_object f g fixed o })))))))) k.follows)) k.follows)) k.follows)))
+      ends_then _ _ g (Refused f) (Passed f) (object_released g o (Refused f) _ (unnamed h d o w.dir name w.is w.is_directory w.leads (awaiting o h b.sound)) other
+      (λ sound. ends_pass _ _ (Refused f) (Passed f) (record { sound = sound; kinds = kinds }))
+      (λ sound. ends_pass _ _ (Refused f) (Passed f) (record { sound = sound; kinds = kinds_gone f.objects g.objects kinds o })))))))) k.follows)) k.follows)) k.follows)))
 
 -- ---- a directory's name
 no_child : (x : Object) (name : List ℕ) (o : ℕ) → x.names ≡ [] → child x name ≡ Some o → ⊥
@@ -97,14 +97,14 @@ removed f m l h a r1 r2 b same d o name x is dir empty none within =
     } in
     record {
       sound = gone_sound g o b2.was u s1;
-      fixed = fixed_gone_object f g (fixed_change_object f h b.fixed d (without_name name) (λ z. record { pipe = refl; fs = refl })) o;
+      kinds = kinds_gone f.objects g.objects (kinds_change f.objects h.objects b.kinds d (without_name name) (λ z. record { pipe = refl; fs = refl })) o;
     }
 
 module _ (f : Frame) (s : FrameSound f) where
   pub remove_dir_ends : (pid : ℕ) (path : PathOf) → Ends (remove_dir pid path f) (Refused f) (Passed f)
   unfolding remove_dir
   remove_dir_ends pid path =
-      ends_bind _ _ f (Refused f) (Passed f) (ends_found_in f pid path (Refused f) _ (follows_itself f s) (λ r h k. k) (λ o dir m k leads.
+      ends_bind _ _ f (Refused f) (Passed f) (leads_found_in f pid path (Refused f) _ (follows_itself f s) (λ r h k. k) (λ o dir m k leads.
       ends_bind _ _ m (Refused f) (Passed f) (ends_object o m (Refused f) _ (λ x is.
       ends_then _ _ m (Refused f) (Passed f) (ends_need _ _ m (Refused f) _ (λ is_d.
       ends_then _ _ m (Refused f) (Passed f) (ends_kept (λ l. Follows f l × Floats m l) (observe pid x.label m) (Refused f) _ (holds_both _ _ _ ((follows_observe f pid x.label).led m k.follows) ((floats_observe m pid x.label).led m (floats_itself m))) (λ r l j. j.0) (λ u l j.

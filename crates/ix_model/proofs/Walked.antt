@@ -5,7 +5,7 @@ use Rattle.ix_label.specs.Category.{Categories}
 use Rattle.ix_model.specs.Naming.{PathOf, last_name}
 use Rattle.ix_model.specs.World.{Frame, Object, Process, at, living, is_dir}
 use Rattle.ix_model.specs.Outcomes.{Row}
-use Rattle.ix_model.specs.Rows.{pass, refuse, observe}
+use Rattle.ix_model.specs.Rows.{observe}
 use Rattle.ix_model.specs.Walks.{Sought, node, child, lacking, looking_into, walk_from, walk, join_all, walked_to, there, spot, vacant, found, found_in, missing}
 use Rattle.ix_model.specs.Walks as sought
 use Rattle.ix_model.specs.declared.refusal.Refusal.{Refusal}
@@ -13,6 +13,7 @@ use Rattle.ix_model.specs.declared.refusal.Refusal.TheVariants as refusal
 use Rattle.ix_model.proofs.Tables.{SameBut, back, seen_same}
 use Rattle.ix_model.proofs.Keeps.{Holds, Keeps}
 use Rattle.ix_model.proofs.Ends.{Ends, ends_kept, ends_bind, ends_then, ends_pass, ends_frame, ends_caller, ends_there}
+use Rattle.ix_model.proofs.RowEnds.{ends_spot, ends_vacant}
 use Rattle.ix_model.proofs.Floats.{Floats, object_but, floats_itself, floats_observe}
 use Rattle.ix_model.proofs.Frames.{FrameSound, Follows, follows_observe}
 use Rattle.ix_model.proofs.Logging.{holds_both}
@@ -101,9 +102,9 @@ module _ {A : Type 0} (f g : Frame) (m : Row A) (follow : Keeps (Follows f) m) (
   ends_along P Q s refused passed = ends_kept (λ h. Follows f h × Floats f h) (m g) P Q (holds_both _ _ _ (follow.led g s.follows) (float.led g s.floats)) (λ r h k. refused r h k.0) (λ a h k. passed a h (record { follows = k.0; floats = k.1 }))
 
 -- what a walk tells holds of the frame from which it began
-pub ends_walked_to : (f g : Frame) (pid : ℕ) (path : PathOf) (P : Refusal → Frame → Type 0) (Q : Sought → Frame → Type 0) → Along f g → ((r : Refusal) (h : Frame) → Follows f h → P r h) → ((w : Sought) (h : Frame) → Along f h → Leads f (last_name path.names) w → Q w h) → Ends (walked_to pid path g) P Q
+pub leads_walked_to : (f g : Frame) (pid : ℕ) (path : PathOf) (P : Refusal → Frame → Type 0) (Q : Sought → Frame → Type 0) → Along f g → ((r : Refusal) (h : Frame) → Follows f h → P r h) → ((w : Sought) (h : Frame) → Along f h → Leads f (last_name path.names) w → Q w h) → Ends (walked_to pid path g) P Q
 unfolding walked_to
-ends_walked_to f g pid path P Q s refused passed =
+leads_walked_to f g pid path P Q s refused passed =
     let t = s.follows.sound in
     ends_bind _ _ g P Q (ends_caller pid g P _ (λ p lives.
     ends_bind _ _ g P Q (ends_frame g P _ (
@@ -112,33 +113,19 @@ ends_walked_to f g pid path P Q s refused passed =
     (refused _ g s.follows))
 
 -- ---- what was found
-ends_vacant : (w : Sought) (f : Frame) (P : Refusal → Frame → Type 0) (Q : ℕ → Frame → Type 0) → ((d : ℕ) → w ≡ sought.Missing d → Q d f) → ((r : Refusal) → P r f) → Ends (vacant w f) P Q
-unfolding vacant Ends pass refuse
-ends_vacant (sought.Found o dir) f P Q h k = k _
-ends_vacant (sought.Missing d) f P Q h k = h d refl
-ends_vacant sought.NotFound f P Q h k = k _
-ends_vacant sought.NotDir f P Q h k = k _
-
-ends_spot : (w : Sought) (f : Frame) (P : Refusal → Frame → Type 0) (Q : (ℕ × Option ℕ) → Frame → Type 0) → ((o : ℕ) (dir : Option ℕ) → w ≡ sought.Found o dir → Q (o, dir) f) → ((r : Refusal) → P r f) → Ends (spot w f) P Q
-unfolding spot Ends pass refuse
-ends_spot (sought.Found o dir) f P Q h k = h o dir refl
-ends_spot (sought.Missing d) f P Q h k = k _
-ends_spot sought.NotFound f P Q h k = k _
-ends_spot sought.NotDir f P Q h k = k _
-
 -- what a walk told, and where it led
 pub leads_vacant : (f : Frame) (name : List ℕ) (w : Sought) (h : Frame) (P : Refusal → Frame → Type 0) (Q : ℕ → Frame → Type 0) → Leads f name w → ((d : ℕ) → Within f d name None → Q d h) → ((r : Refusal) → P r h) → Ends (vacant w h) P Q
-leads_vacant f name w h P Q leads next k = ends_vacant w h P Q (λ d is. next d (subst (λ (v : Sought). Leads f name v) is leads)) k
+leads_vacant f name w h P Q leads next k = ends_vacant w h P Q (λ d is. next d (subst (λ (v : Sought). Leads f name v) is leads)) (k _) (k _) (k _)
 
 pub leads_there : (f : Frame) (name : List ℕ) (w : Sought) (h : Frame) (P : Refusal → Frame → Type 0) (Q : ℕ → Frame → Type 0) → Leads f name w → ((o : ℕ) (dir : Option ℕ) → Leads f name (sought.Found o dir) → Q o h) → ((r : Refusal) → P r h) → Ends (there w h) P Q
 leads_there f name w h P Q leads next k = ends_there w h P Q (λ o dir is. next o dir (subst (λ (v : Sought). Leads f name v) is leads)) (k _) (k _)
 
-pub ends_missing : (f : Frame) (pid : ℕ) (path : PathOf) (P : Refusal → Frame → Type 0) (Q : ℕ → Frame → Type 0) → Follows f f → ((r : Refusal) (h : Frame) → Follows f h → P r h) → ((d : ℕ) (h : Frame) → Along f h → Within f d (last_name path.names) None → Q d h) → Ends (missing pid path f) P Q
+pub leads_missing : (f : Frame) (pid : ℕ) (path : PathOf) (P : Refusal → Frame → Type 0) (Q : ℕ → Frame → Type 0) → Follows f f → ((r : Refusal) (h : Frame) → Follows f h → P r h) → ((d : ℕ) (h : Frame) → Along f h → Within f d (last_name path.names) None → Q d h) → Ends (missing pid path f) P Q
 unfolding missing
-ends_missing f pid path P Q s refused passed = ends_bind _ _ f P Q (ends_walked_to f f pid path P _ (along_itself f s) refused (λ w h k leads.
+leads_missing f pid path P Q s refused passed = ends_bind _ _ f P Q (leads_walked_to f f pid path P _ (along_itself f s) refused (λ w h k leads.
     leads_vacant f (last_name path.names) w h P Q leads (λ d within. passed d h k within) (λ r. refused r h k.follows)))
 
-pub ends_found_in : (f : Frame) (pid : ℕ) (path : PathOf) (P : Refusal → Frame → Type 0) (Q : (ℕ × Option ℕ) → Frame → Type 0) → Follows f f → ((r : Refusal) (h : Frame) → Follows f h → P r h) → ((o : ℕ) (dir : Option ℕ) (h : Frame) → Along f h → Leads f (last_name path.names) (sought.Found o dir) → Q (o, dir) h) → Ends (found_in pid path f) P Q
+pub leads_found_in : (f : Frame) (pid : ℕ) (path : PathOf) (P : Refusal → Frame → Type 0) (Q : (ℕ × Option ℕ) → Frame → Type 0) → Follows f f → ((r : Refusal) (h : Frame) → Follows f h → P r h) → ((o : ℕ) (dir : Option ℕ) (h : Frame) → Along f h → Leads f (last_name path.names) (sought.Found o dir) → Q (o, dir) h) → Ends (found_in pid path f) P Q
 unfolding found_in
-ends_found_in f pid path P Q s refused passed = ends_bind _ _ f P Q (ends_walked_to f f pid path P _ (along_itself f s) refused (λ w h k leads.
-    ends_spot w h P Q (λ o dir is. passed o dir h k (subst (λ (v : Sought). Leads f (last_name path.names) v) is leads)) (λ r. refused r h k.follows)))
+leads_found_in f pid path P Q s refused passed = ends_bind _ _ f P Q (leads_walked_to f f pid path P _ (along_itself f s) refused (λ w h k leads.
+    ends_spot w h P Q (λ o dir is. passed o dir h k (subst (λ (v : Sought). Leads f (last_name path.names) v) is leads)) (refused _ h k.follows) (refused _ h k.follows)))
