@@ -13,7 +13,6 @@ use Rattle.ix_model.specs.Table.{decide}
 use Rattle.ix_model.specs.Telling.{told}
 use Rattle.ix_model.specs.Step.{plainly, read_answer, write_answer, cut_answer, seek_answer, exit_answer, pex_answer, answer, step, step_of, run, is_whole}
 use Rattle.ix_model.specs.WholePaths.{reaches, sent, written_to, IsEndOf}
-use Rattle.ix_model.specs.Clean.{IsClean}
 use Rattle.ix_model.specs.Sound.{Sound}
 use Rattle.ix_model.specs.History.{Op, Event}
 use Rattle.ix_model.specs.History as op
@@ -272,6 +271,6 @@ run_end w place (e ∷ h) o end whole low past far is =
     (run_end (step_of w place e).world (suc place) h o end (whole ++ new) low (past_next _ _ next) (rw next.fss far)
     (end_more _ _ new whole is (step_end w place e.pid e.op o end low past far)))
 
-pub holds_written : (w : World) (place : ℕ) (h : List Event) (o end : ℕ) → IsClean w → Sound w → first_pipe w.frame.fss ≤ o → end ≤ 1 → holding_of w.content o ≡ holds_nothing → IsEndOf (side end (holding_of (run w place h).content o)) (written_to w place h o end)
-holds_written w place h o end clean sound far low empty =
+pub holds_written : (w : World) (place : ℕ) (h : List Event) (o end : ℕ) → Sound w → first_pipe w.frame.fss ≤ o → end ≤ 1 → holding_of w.content o ≡ holds_nothing → IsEndOf (side end (holding_of (run w place h).content o)) (written_to w place h o end)
+holds_written w place h o end sound far low empty =
     run_end w place h o end [] low (pipes_past w.frame sound.limits) far (subst (λ x. IsEndOf (side end x) []) (sym empty) (nothing_side end []))
