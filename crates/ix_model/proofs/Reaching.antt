@@ -8,7 +8,6 @@ use Rattle.ix_model.specs.World.{World, Object}
 use Rattle.ix_model.specs.Step.{step_of, run}
 use Rattle.ix_model.specs.Opening.{opening_world, process_of}
 use Rattle.ix_model.specs.Valid.{is_within, all_differ, fs_fits, fss_fit, limits_fit, procs_fit, objects_fit, is_valid, is_flat_object, is_flat_process, is_flat}
-use Rattle.ix_model.specs.Calls.{is_built}
 use Rattle.ix_model.specs.Clean.{IsClean}
 use Rattle.ix_model.specs.Sound.{Sound}
 use Rattle.ix_model.specs.History.{Event}
