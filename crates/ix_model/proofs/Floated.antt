@@ -1,5 +1,5 @@
--- A frame that is a sound one but for labels is sound but for labels.
-use Rattle.std.proofs.Common.{◌≡◌, ◌<◌, ◌≤◌, ◌+◌, ◌==◌, ℕ, Bool, false, not, ◌&&◌, ◌||◌, List, map, length, sum, count_by, Option, Some, is_some, is_none, cond, refl, sym, ap, ◌∙◌, subst, arith}
+-- A frame that is a sound one but for labels and the like is sound but for labels and the log.
+use Rattle.std.proofs.Common.{◌≡◌, ◌<◌, ◌≤◌, ◌+◌, ◌==◌, ℕ, Bool, true, false, not, ◌&&◌, ◌||◌, List, map, length, sum, count_by, Option, Some, is_some, is_none, option_map, cond, refl, sym, ap, ◌∙◌, subst, arith}
 use Rattle.std.specs.Option.{option_map_or}
 use Rattle.std.specs.List.{list_any}
 use Rattle.std.proofs.lemmas.List.Sums.{sum-map}
@@ -7,7 +7,7 @@ use Rattle.ix_model.specs.World.{Frame, Content, Object, Process, Open, at, livi
 use Rattle.ix_model.specs.Telling.{blocks_where, blocks_on, lies_on}
 use Rattle.ix_model.specs.Numbers.{first_inode, inodes_of}
 use Rattle.ix_model.specs.Valid.{all_differ}
-use Rattle.ix_model.specs.Owners.{times_in, times_named, names_in_all, owns}
+use Rattle.ix_model.specs.Owners.{times_in, times_named, names_in_all, owns, is_claimant}
 use Rattle.ix_model.specs.Sound.{NamesSound, LivesSound, OpensSound, ProcessesSound, ClaimsSound, WithinLimits, LengthsSound}
 use Rattle.ix_model.specs.declared.config.FsSpec.{FsSpec}
 use Rattle.ix_model.proofs.Tables.{none_is, Back, back, seen_same, map_same, any_same, length_same}
@@ -68,27 +68,42 @@ module _ (f g : Frame) (r : Floats f g) where
     end = λ e x is. (λ i. x.end == 0 || x.end == 1 && seen_object (λ y. option_map_or is_pipe y false) (λ y. refl) x.object i) ∙ n.end e x (sym (ap (λ t. at t e) r.opens) ∙ is);
   }
 
-  pub processes_floated : ProcessesSound f → ProcessesSound g
-  processes_floated n = record {
+  -- the working directories are as they were
+  same_cwd : ((n : ℕ) → option_map (λ (q : Process). q.cwd) (at g.processes n) ≡ option_map (λ (q : Process). q.cwd) (at f.processes n)) → (n : ℕ) (q was : Process) → at g.processes n ≡ Some q → at f.processes n ≡ Some was → q.cwd ≡ was.cwd
+  same_cwd seen n q w is is_was = let h : Some q.cwd ≡ Some w.cwd = sym (ap (option_map (λ (y : Process). y.cwd)) is) ∙ seen n ∙ ap (option_map (λ (y : Process). y.cwd)) is_was in cc
+
+  -- where the working directories are directories
+  pub processes_moved : ((p : ℕ) (q : Process) → living (at g.processes p) ≡ Some q → option_map_or is_dir (at f.objects q.cwd) false ≡ true) → ProcessesSound f → ProcessesSound g
+  processes_moved homes n = record {
     none = none_is _ (seen_process is_none (λ x. refl) 0 ∙ ap is_none n.none);
-    home = λ p q lives.
-        let w = was_process p q (is_living _ q lives) in
-        seen_object (λ y. option_map_or is_dir y false) (λ y. refl) q.cwd ∙ ap (λ y. option_map_or is_dir (at f.objects y.cwd) false) w.same ∙ n.home p w.was (was_living p q lives);
+    home = λ p q lives. seen_object (λ y. option_map_or is_dir y false) (λ y. refl) q.cwd ∙ homes p q lives;
     parent = λ p k q is parent.
         let w = was_process p q is in
         seen_process (λ y. option_map_or (λ z. not z.ended) y false) (λ y. refl) k ∙ n.parent p k w.was w.is_was (sym (ap (λ y. y.parent) w.same) ∙ parent);
     descriptors = λ p q is. let w = was_process p q is in ap (λ y. length y.fds) w.same ∙ n.descriptors p w.was w.is_was;
   }
 
-  pub claims_floated : ClaimsSound f → ClaimsSound g
-  claims_floated n = record {
-    claimant = λ o end p x is claim.
-        let w = was o x is in
-        seen_process (has_on g.opens o end) (λ y. refl) p ∙ ap (λ t. has_on t o end (at f.processes p)) r.opens ∙ n.claimant o end p w.was w.is_was (sym (ap (λ y. at y.claims end) w.same) ∙ claim);
-  }
+  pub processes_floated : ((n : ℕ) → option_map (λ (q : Process). q.cwd) (at g.processes n) ≡ option_map (λ (q : Process). q.cwd) (at f.processes n)) → ProcessesSound f → ProcessesSound g
+  processes_floated seen n = processes_moved (λ p q lives.
+      let w = was_process p q (is_living _ q lives) in
+      ap (λ c. option_map_or is_dir (at f.objects c) false) (same_cwd seen p q w.was (is_living _ q lives) w.is_was) ∙ n.home p w.was (was_living p q lives)) n
 
-  pub limits_floated : WithinLimits f → WithinLimits g
-  limits_floated l = record {
+  claimant_floated : (o end p : ℕ) → is_claimant g o end p ≡ is_claimant f o end p
+  claimant_floated o end p = seen_process (has_on g.opens o end) (λ y. refl) p ∙ ap (λ t. has_on t o end (at f.processes p)) r.opens
+
+  -- where each claim is a claimant's
+  pub claims_moved : ((o end p : ℕ) (x : Object) → at g.objects o ≡ Some x → at x.claims end ≡ Some p → is_claimant f o end p ≡ true) → ClaimsSound g
+  claims_moved claimants = record { claimant = λ o end p x is claim. claimant_floated o end p ∙ claimants o end p x is claim }
+
+  pub claims_floated : ((n : ℕ) → option_map (λ (x : Object). x.claims) (at g.objects n) ≡ option_map (λ (x : Object). x.claims) (at f.objects n)) → ClaimsSound f → ClaimsSound g
+  claims_floated seen n = claims_moved (λ o end p x is claim.
+      let w = was o x is in
+      let h : Some x.claims ≡ Some w.was.claims = sym (ap (option_map (λ (y : Object). y.claims)) is) ∙ seen o ∙ ap (option_map (λ (y : Object). y.claims)) w.is_was in
+      let same : w.was.claims ≡ x.claims = cc in
+      n.claimant o end p w.was w.is_was (ap (λ c. at c end) same ∙ claim))
+
+  pub limits_floated : length g.log ≤ g.limits.log → WithinLimits f → WithinLimits g
+  limits_floated log l = record {
     objects = length_same object_but f.objects g.objects r.objects ∙ l.objects ∙ sym (λ i. first_inode (r.fss i) (length (r.fss i)) + (r.limits i).pipes);
     pipes = λ o x is. let w = was o x is in ap (λ y. is_none y.fs) w.same ∙ l.pipes o w.was w.is_was ∙ sym (ap is_pipe w.same);
     past = λ o x is pipe.
@@ -106,10 +121,7 @@ module _ (f g : Frame) (r : Floats f g) where
         let e : names_in_all g.objects ≡ names_in_all f.objects = ap sum (map_same object_but (λ x. option_map_or (λ y. length y.names) x 0) (λ x. refl) f.objects g.objects r.objects) in
         let k : g.limits.names ≡ f.limits.names = ap (λ y. y.names) r.limits in
         omega (arith, l.names);
-    log =
-        let e : length g.log ≡ length f.log = ap length r.log in
-        let k : g.limits.log ≡ f.limits.log = ap (λ y. y.log) r.limits in
-        omega (arith, l.log);
+    log = log;
   }
 
   pub lengths_floated : (c : Content) → LengthsSound (record { frame = f; content = c }) → LengthsSound (record { frame = g; content = c })

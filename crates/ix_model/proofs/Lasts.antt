@@ -112,7 +112,7 @@ kept_or_not : (R : Frame → Type 0) (b : Bool) (f g : Frame) → R f → R g �
 kept_or_not R true f g rf rg = rg
 kept_or_not R false f g rf rg = rf
 
-settled_keeps : (R : Frame → Type 0) (f : Frame) (o : Outcome Reply) → R f → Holds o R → R (settled f o).frame
+pub settled_keeps : (R : Frame → Type 0) (f : Frame) (o : Outcome Reply) → R f → Holds o R → R (settled f o).frame
 unfolding Holds
 settled_keeps R f (Refuse r g) rf h = kept_or_not R (keeps_label r) f g rf h
 settled_keeps R f (Pass a g) rf h = h

@@ -1,12 +1,12 @@
--- Lengths and blocks after a read and after a write.
+-- Lengths and blocks after the calls that edit what is held.
 use Rattle.std.proofs.Common.{◌≡◌, ◌<◌, ◌≤◌, ◌==◌, ◌+◌, ◌-◌, ℕ, zero, suc, max, Bool, true, false, true≢false, not, ◌&&◌, List, [], ◌∷◌, ◌++◌, length, take, drop, replicate, Option, Some, None, if◌then◌else◌, nat_le, nat_lt, refl, sym, ap, ◌∙◌, subst, arith, get_or, set, length-set, length-append}
 use Rattle.std.specs.Option.{option_map_or}
 use Rattle.std.proofs.lemmas.Bool.{cond-false, lt-leb, ne_eqb, not-true, ltb-false, or_parts}
 use Rattle.std.proofs.lemmas.List.{length-replicate, length-take, length-drop}
 use Rattle.ix_model.specs.World.{Frame, Content, Object, Holding, at, is_pipe}
 use Rattle.ix_model.specs.Walks.{Behind}
-use Rattle.ix_model.specs.Contents.{holding_of, offset_of, holds_nothing, side, with_side, on_pipe, readable, after_read, after_write, spliced}
-use Rattle.ix_model.specs.Telling.{blocks_for, blocks_where, blocks_on, lies_on, fs_at, length_then, told_of_pipe_write, told_of_file_write, told_of_write}
+use Rattle.ix_model.specs.Contents.{holding_of, offset_of, holds_nothing, side, with_side, on_pipe, readable, after_read, after_write, after_cut, after_seek, emptied, grown, cut_to, spliced}
+use Rattle.ix_model.specs.Telling.{blocks_for, blocks_where, blocks_on, blocks_beside, lies_on, fs_at, length_then, told_of_pipe_write, told_of_file_write, told_of_write}
 use Rattle.ix_model.specs.OnDescriptors.{Told}
 use Rattle.ix_model.specs.Sound.{WithinLimits, LengthsSound}
 use Rattle.ix_model.proofs.Tables.{none_is}
@@ -31,6 +31,9 @@ length-spliced offset (b ∷ bs) old =
     ∙ ap (λ n. length (take offset old) + n) (length-append (replicate (offset - length old) 0) _ ∙ ap (λ n. length (replicate {A = ℕ} (offset - length old) 0) + n) (length-append (b ∷ bs) (drop (offset + length (b ∷ bs)) old)))
     ∙ omega (arith, length-take offset old, length-replicate {A = ℕ} (offset - length old) 0, length-drop (offset + length (b ∷ bs)) old)
     ∙ sym (cond-false (length (b ∷ bs) == 0) (length old) (max (length old) (offset + length (b ∷ bs))) (ne_eqb (length (b ∷ bs)) 0 (λ e. absurd (omega arith))))
+
+length-cut : (len : ℕ) (old : List ℕ) → length (cut_to len old) ≡ len
+length-cut len old = omega (arith, length-take len (grown len old), length-append old (replicate (len - length old) 0), length-replicate {A = ℕ} (len - length old) 0)
 
 then_within : (m offset n old : ℕ) → offset + n ≤ m → old ≤ m → length_then offset n old ≤ m
 then_within m offset n old h k = go (n == 0)
@@ -83,6 +86,32 @@ module _ (f : Frame) (c : Content) (l : LengthsSound (record { frame = f; conten
     pipe = l.pipe;
     blocks = l.blocks;
   }
+
+  -- what holds nothing keeps all lengths
+  emptied_blocks : (p : ℕ → Bool) (n : ℕ) (hs : List Holding) (o : ℕ) → blocks_where p n (set hs o holds_nothing) ≤ blocks_where p n hs
+  emptied_blocks p n [] o = omega arith
+  emptied_blocks p n (h ∷ hs) zero = let head : (if p n then blocks_for (length holds_nothing.first) else 0) ≡ 0 = none (p n) in omega arith
+    where
+      none : (b : Bool) → (if b then blocks_for (length holds_nothing.first) else 0) ≡ 0
+      none true = refl
+      none false = refl
+  emptied_blocks p n (h ∷ hs) (suc o) = let rest = emptied_blocks p (suc n) hs o in omega arith
+
+  pub lengths_emptied : (o : ℕ) → LengthsSound (record { frame = f; content = emptied o c })
+  unfolding emptied
+  lengths_emptied o = record {
+    holdings = length-set c.holdings o holds_nothing ∙ l.holdings;
+    offsets = l.offsets;
+    offset = l.offset;
+    file = λ m y here other. set_either (λ z. length z.first ≤ 1048576) holds_nothing c.holdings o m holds_nothing (λ same. omega arith) (l.file m y here other);
+    pipe = λ m y here yes. set_either (λ z. (length z.first ≤ 4096) × (length z.second ≤ 4096)) holds_nothing c.holdings o m holds_nothing (λ same. (omega arith, omega arith)) (l.pipe m y here yes);
+    blocks = λ k. let less = emptied_blocks (lies_on f (Some k)) 0 c.holdings o in omega (arith, l.blocks k);
+  }
+
+  -- a seek
+  pub lengths_seek : (e : Behind) (offset : ℕ) → offset ≤ 1048576 → LengthsSound (record { frame = f; content = after_seek e offset c })
+  unfolding after_seek
+  lengths_seek e offset low = offset_edited e.id offset low
 
   -- a pipe's bytes use no blocks
   pipe_edited : (o : ℕ) (h : Holding) (x : Object) → WithinLimits f → at f.objects o ≡ Some x → is_pipe x ≡ true → (length h.first ≤ 4096) × (length h.second ≤ 4096) → LengthsSound (record { frame = f; content = record c { holdings = set c.holdings o h } })
@@ -141,25 +170,37 @@ module _ (f : Frame) (c : Content) (l : LengthsSound (record { frame = f; conten
         let plain : List ℕ → ℕ → ℕ = λ old n. length (with_side n (spliced (offset_of c e.id) new old) h).first in
         ap (plain (side e.entry.end h)) (s.at_end other) ∙ length-spliced (offset_of c e.id) new (side e.entry.end h)
 
-    blocks_written : (new : List ℕ) → is_pipe s.object ≡ false → blocks_where (λ m. not (m == e.entry.object) && lies_on f (fs_at f e.entry.object) m) 0 c.holdings + blocks_for (length_then (offset_of c e.id) (length new) (length (side e.entry.end (holding_of c e.entry.object)))) ≤ blocks_on f (fs_at f e.entry.object) → (k : ℕ) → blocks_where (lies_on f (Some k)) 0 (set c.holdings e.entry.object (written new)) ≤ blocks_on f (Some k)
-    blocks_written new other room k = go (lies_on f (Some k) e.entry.object) refl
+    -- a file's holding with other bytes, for which there is room
+    blocks_filed : (h : Holding) (n : ℕ) → length h.first ≡ n → blocks_beside f c e.entry.object + blocks_for n ≤ blocks_on f (fs_at f e.entry.object) → (k : ℕ) → blocks_where (lies_on f (Some k)) 0 (set c.holdings e.entry.object h) ≤ blocks_on f (Some k)
+    blocks_filed h n long room k = go (lies_on f (Some k) e.entry.object) refl
       where
-        go : (b : Bool) → lies_on f (Some k) e.entry.object ≡ b → blocks_where (lies_on f (Some k)) 0 (set c.holdings e.entry.object (written new)) ≤ blocks_on f (Some k)
+        go : (b : Bool) → lies_on f (Some k) e.entry.object ≡ b → blocks_where (lies_on f (Some k)) 0 (set c.holdings e.entry.object h) ≤ blocks_on f (Some k)
         go false off =
-            let skip = blocks_skip (lies_on f (Some k)) 0 c.holdings e.entry.object (written new) (ap (lies_on f (Some k)) (omega arith) ∙ off) in
+            let skip = blocks_skip (lies_on f (Some k)) 0 c.holdings e.entry.object h (ap (lies_on f (Some k)) (omega arith) ∙ off) in
             omega (arith, l.blocks k)
         go true on =
             let fs : fs_at f e.entry.object ≡ Some k = on_fs f k e.entry.object on in
-            let known : blocks_where (λ m. not (m == e.entry.object) && lies_on f (Some k) m) 0 c.holdings + blocks_for (length_then (offset_of c e.id) (length new) (length (side e.entry.end (holding_of c e.entry.object)))) ≤ blocks_on f (Some k) =
-            subst (λ (t : Option ℕ). blocks_where (λ m. not (m == e.entry.object) && lies_on f t m) 0 c.holdings + blocks_for (length_then (offset_of c e.id) (length new) (length (side e.entry.end (holding_of c e.entry.object)))) ≤ blocks_on f t) fs room in
-            let same : blocks_for (length (written new).first) ≡ blocks_for (length_then (offset_of c e.id) (length new) (length (side e.entry.end (holding_of c e.entry.object)))) = ap blocks_for (length-written new other) in
-            let more = blocks_edit (lies_on f (Some k)) (λ m. not (m == e.entry.object) && lies_on f (Some k) m) 0 c.holdings e.entry.object (written new) (λ m apart. ap (λ b. not b && lies_on f (Some k) m) (ne_eqb m e.entry.object (λ h. apart (omega arith)))) in
+            let known : blocks_where (λ m. not (m == e.entry.object) && lies_on f (Some k) m) 0 c.holdings + blocks_for n ≤ blocks_on f (Some k) =
+            subst (λ (t : Option ℕ). blocks_where (λ m. not (m == e.entry.object) && lies_on f t m) 0 c.holdings + blocks_for n ≤ blocks_on f t) fs room in
+            let same : blocks_for (length h.first) ≡ blocks_for n = ap blocks_for long in
+            let more = blocks_edit (lies_on f (Some k)) (λ m. not (m == e.entry.object) && lies_on f (Some k) m) 0 c.holdings e.entry.object h (λ m apart. ap (λ b. not b && lies_on f (Some k) m) (ne_eqb m e.entry.object (λ h. apart (omega arith)))) in
             omega arith
 
-    file_written : (new : List ℕ) → is_pipe s.object ≡ false → offset_of c e.id + length new ≤ 1048576 → blocks_where (λ m. not (m == e.entry.object) && lies_on f (fs_at f e.entry.object) m) 0 c.holdings + blocks_for (length_then (offset_of c e.id) (length new) (length (side e.entry.end (holding_of c e.entry.object)))) ≤ blocks_on f (fs_at f e.entry.object) → LengthsSound (record { frame = f; content = record c { holdings = set c.holdings e.entry.object (written new) } })
-    file_written new other low room =
-        let fits : length (written new).first ≤ 1048576 = subst (λ (n : ℕ). n ≤ 1048576) (sym (length-written new other)) (then_within 1048576 (offset_of c e.id) (length new) _ low (file_low other)) in
-        holding_edited e.entry.object (written new) s.object s.is_object (λ h. fits) (λ yes. absurd (true≢false (sym yes ∙ other))) (blocks_written new other room)
+    file_filed : (h : Holding) (n : ℕ) → length h.first ≡ n → is_pipe s.object ≡ false → n ≤ 1048576 → blocks_beside f c e.entry.object + blocks_for n ≤ blocks_on f (fs_at f e.entry.object) → LengthsSound (record { frame = f; content = record c { holdings = set c.holdings e.entry.object h } })
+    file_filed h n long other low room = holding_edited e.entry.object h s.object s.is_object (λ k. subst (λ (m : ℕ). m ≤ 1048576) (sym long) low) (λ yes. absurd (true≢false (sym yes ∙ other))) (blocks_filed h n long room)
+
+    file_written : (new : List ℕ) → is_pipe s.object ≡ false → offset_of c e.id + length new ≤ 1048576 → blocks_beside f c e.entry.object + blocks_for (length_then (offset_of c e.id) (length new) (length (side e.entry.end (holding_of c e.entry.object)))) ≤ blocks_on f (fs_at f e.entry.object) → LengthsSound (record { frame = f; content = record c { holdings = set c.holdings e.entry.object (written new) } })
+    file_written new other low room = file_filed (written new) _ (length-written new other) other (then_within 1048576 (offset_of c e.id) (length new) _ low (file_low other)) room
+
+    -- ---- a cut
+    pub lengths_cut : (len : ℕ) → is_pipe s.object ≡ false → len ≤ 1048576 → blocks_beside f c e.entry.object + blocks_for len ≤ blocks_on f (fs_at f e.entry.object) → LengthsSound (record { frame = f; content = after_cut e len c })
+    unfolding after_cut
+    lengths_cut len other low room =
+        let h : Holding = holding_of c e.entry.object in
+        let old : List ℕ = side e.entry.end (holding_of c e.entry.object) in
+        let long : length (with_side e.entry.end (cut_to len (side e.entry.end (holding_of c e.entry.object))) (holding_of c e.entry.object)).first ≡ len =
+        ap (λ n. length (with_side n (cut_to len (side e.entry.end (holding_of c e.entry.object))) (holding_of c e.entry.object)).first) (s.at_end other) ∙ length-cut len (side e.entry.end (holding_of c e.entry.object)) in
+        file_filed _ len long other low room
 
 pub lengths_write : (f : Frame) (c : Content) (l : LengthsSound (record { frame = f; content = c })) (e : Behind) (s : Standing f e.entry) (within : WithinLimits f) (new : List ℕ) → not (told_of_write f c (length new) (Some e)).too_big ≡ true → not (told_of_write f c (length new) (Some e)).full ≡ true → not (told_of_write f c (length new) (Some e)).no_space ≡ true → LengthsSound (record { frame = f; content = after_write f e new c })
 unfolding after_write told_of_write written

@@ -1,4 +1,4 @@
--- Every world that a valid flat config and built calls reach is sound and clean.
+-- Every world that a valid flat config reaches is sound.
 use Rattle.std.proofs.Common.{◌≡◌, ◌≤◌, ◌==◌, ◌+◌, ◌-◌, arith, ℕ, suc, true, ◌&&◌, List, [], ◌∷◌, length, length-append, map, replicate, Option, Some, None, refl, sym, ap, ◌∙◌, subst, nat_le}
 use Rattle.std.specs.List.{list_all}
 use Rattle.std.proofs.lemmas.Bool.{and_parts, leb-true}
@@ -97,11 +97,9 @@ opening_counts c valid flat =
     subst (λ (w : World). (length w.frame.objects ≤ 66560) × (length w.frame.processes ≤ 1025) × (w.frame.log ≡ [])) (sym r.is) (omega (arith, objects, r.count, pipes, inodes.1), omega (arith, processes, few, procs), refl)
 
 -- ---- runs
-pub sound_run : (w : World) (place : ℕ) (h : List Event) → list_all (λ e. is_built e.op) h ≡ true → IsClean w → Sound w → Sound (run w place h)
-sound_run w place [] built clean s = s
-sound_run w place (e ∷ h) built clean s =
-    let p = and_parts (is_built e.op) (list_all (λ e. is_built e.op) h) built in
-    sound_run (step_of w place e).world (suc place) h p.1 (clean_step w place e.pid e.op clean) (sound_step w place e.pid e.op p.0 clean s)
+pub sound_run : (w : World) (place : ℕ) (h : List Event) → IsClean w → Sound w → Sound (run w place h)
+sound_run w place [] clean s = s
+sound_run w place (e ∷ h) clean s = sound_run (step_of w place e).world (suc place) h (clean_step w place e.pid e.op clean) (sound_step w place e.pid e.op clean s)
 
-pub sound_reached : (c : Config) (h : List Event) → is_valid c ≡ true → is_flat c ≡ true → list_all (λ e. is_built e.op) h ≡ true → Sound (run (opening_world c) 1 h)
-sound_reached c h valid flat built = sound_run (opening_world c) 1 h built (clean_opening c) (sound_opening_world c valid flat)
+pub sound_reached : (c : Config) (h : List Event) → is_valid c ≡ true → is_flat c ≡ true → Sound (run (opening_world c) 1 h)
+sound_reached c h valid flat = sound_run (opening_world c) 1 h (clean_opening c) (sound_opening_world c valid flat)

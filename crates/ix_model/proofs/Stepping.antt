@@ -1,144 +1,141 @@
--- A step of a built call leaves a sound world.
-use Rattle.std.proofs.Common.{◌≡◌, ℕ, Bool, true, false, not, List, length, take, Option, Some, refl, sym, subst, ◌⊎◌, inl, inr, if◌then◌else◌}
-use Rattle.ix_model.specs.World.{Frame, Content, World, Open, at, lives}
-use Rattle.ix_model.specs.Outcomes.{Outcome, Refuse, Pass}
-use Rattle.ix_model.specs.Refusals.{keeps_label}
+-- The step of every call leaves a sound world.
+use Rattle.std.proofs.Common.{◌≡◌, ℕ, Bool, true, false, not, nat_le, List, length, take, Option, Some, None, refl, sym, ap, ◌∙◌, subst, if◌then◌else◌}
+use Rattle.std.proofs.lemmas.Bool.{leb-true, ltb-false, not-true}
+use Rattle.ix_model.specs.World.{Frame, Content, World, Open, at, is_ended, is_pipe}
 use Rattle.ix_model.specs.Walks.{Behind, behind}
-use Rattle.ix_model.specs.OnDescriptors.{Told}
-use Rattle.ix_model.specs.Table.{Decision, decide, settled, row}
-use Rattle.ix_model.specs.OnPaths.{open_at}
-use Rattle.ix_model.specs.Contents.{carried, readable, after_read, after_write}
-use Rattle.ix_model.specs.Step.{plainly, read_answer, write_answer, answer, step}
-use Rattle.ix_model.specs.Telling.{told, told_of_write}
-use Rattle.ix_model.specs.Naming.{PathOf}
-use Rattle.ix_model.specs.Calls.{is_built}
+use Rattle.ix_model.specs.OnDescriptors.{Told, seek_fd}
+use Rattle.ix_model.specs.Table.{decide, row}
+use Rattle.ix_model.specs.AuditLog.{is_answer}
+use Rattle.ix_model.specs.Contents.{carried, readable, after_read, after_write, after_cut, after_seek, after_exit, emptied}
+use Rattle.ix_model.specs.Step.{plainly, read_answer, write_answer, cut_answer, seek_answer, stat_answer, exit_answer, wait_answer, pex_answer, is_whole, answer, step}
+use Rattle.ix_model.specs.Telling.{told, told_of_write, told_of_cut}
 use Rattle.ix_model.specs.Clean.{IsClean}
-use Rattle.ix_model.specs.Sound.{LabelsBelow, LengthsSound, Sound}
+use Rattle.ix_model.specs.Sound.{LengthsSound, Sound}
 use Rattle.ix_model.specs.History.{Op}
 use Rattle.ix_model.specs.History as op
-use Rattle.ix_model.specs.declared.call.Mode.{Mode}
+use Rattle.ix_model.specs.declared.reply.Kind.TheVariants as kind
 use Rattle.ix_model.specs.declared.reply.Reply.{Reply}
 use Rattle.ix_model.specs.declared.reply.Reply.TheVariants as reply
-use Rattle.ix_model.specs.declared.refusal.Refusal.TheVariants as refusal
-use Rattle.ix_model.proofs.Ends.{Ends}
+use Rattle.ix_model.proofs.Ends.{Ends, Anything, ending}
 use Rattle.ix_model.proofs.Lasts.{decided}
-use Rattle.ix_model.proofs.Carrying.{carried_decided}
-use Rattle.ix_model.proofs.Cleaning.{WriteFacts, wrote}
-use Rattle.ix_model.proofs.Labels.{labels_decided}
-use Rattle.ix_model.proofs.Floats.{Floats, floats_itself, floats_self_label, floats_read_fd, floats_write_fd}
-use Rattle.ix_model.proofs.Floated.{names_floated, lives_floated, opens_floated, processes_floated, claims_floated, limits_floated, lengths_floated}
-use Rattle.ix_model.proofs.Given.{given, names_given, lives_given, opens_given, processes_given, claims_given, limits_given, lengths_given}
-use Rattle.ix_model.proofs.OpenedAt.{Opening, open_at_ends}
-use Rattle.ix_model.proofs.Standing.{behind_is, stands}
-use Rattle.ix_model.proofs.Lengths.{lengths_read, lengths_write}
+use Rattle.ix_model.proofs.Answered.{passed}
+use Rattle.ix_model.proofs.Cleaning.{WriteFacts, wrote, CutFacts, was_cut}
+use Rattle.ix_model.proofs.Floats.{Floats, floats_itself}
+use Rattle.ix_model.proofs.FloatingRows.{floats_read_fd, floats_write_fd, floats_cut_fd}
+use Rattle.ix_model.proofs.Floated.{lengths_floated}
+use Rattle.ix_model.proofs.Frames.{Follows, frame_of, whole_of}
+use Rattle.ix_model.proofs.Following.{follows_decided}
+use Rattle.ix_model.proofs.Fixed.{Fixed, fixed_decided}
+use Rattle.ix_model.proofs.Carried.{lengths_carried, carried_floats}
+use Rattle.ix_model.proofs.Standing.{Standing, behind_is, stands}
+use Rattle.ix_model.proofs.Lengths.{lengths_read, lengths_write, lengths_cut, lengths_seek, lengths_emptied}
 
--- ---- a frame that is the old one but for labels, with another content
-sound_floated : (w : World) (g : Frame) (c : Content) → Floats w.frame g → LabelsBelow g → Sound w → LengthsSound (record { frame = w.frame; content = c }) → Sound (record { frame = g; content = c })
-sound_floated w g c r below s lengths = record {
-  labels = below;
-  names = names_floated w.frame g r s.names;
-  lives = lives_floated w.frame g r s.lives;
-  opens = opens_floated w.frame g r s.opens;
-  processes = processes_floated w.frame g r s.processes;
-  claims = claims_floated w.frame g r s.claims;
-  limits = limits_floated w.frame g r s.limits;
-  lengths = lengths_floated w.frame g r c lengths;
-}
+-- ---- answers, from a frame that follows
+module _ (w : World) (g : Frame) (fixed : Fixed w.frame g) (k : Follows w.frame g) (s : Sound w) where
+  lengths : LengthsSound (record { frame = g; content = carried w.frame g w.content })
+  lengths = lengths_carried w g fixed k.kinds s.lengths
 
--- ---- a frame with one open entry more
-sound_opening : (w : World) (pid : ℕ) (g : Frame) → Opening pid w.frame g → LabelsBelow g → Sound w → Sound (record { frame = g; content = w.content })
-sound_opening w pid g o below s =
-    let x : Open = record { object = o.object; end = 0; mode = o.mode } in
-    let f = w.frame in
-    let m = o.mid in
-    let r = o.floated in
-    let new : LabelsBelow (given m pid o.fd o.entry x) → Sound (record { frame = given m pid o.fd o.entry x; content = w.content }) = λ labels. record {
-      labels = labels;
-      names = names_given m pid o.caller o.fd o.entry x o.is_caller o.free_fd o.free (names_floated f m r s.names);
-      lives = lives_given m pid o.caller o.fd o.entry x o.is_caller o.free_fd o.free (lives_floated f m r s.lives);
-      opens = opens_given m pid o.caller o.fd o.entry x o.is_caller o.free_fd o.free o.no_dir refl (opens_floated f m r s.opens);
-      processes = processes_given m pid o.caller o.fd o.entry x o.is_caller o.free_fd o.free (processes_floated f m r s.processes);
-      claims = claims_given m pid o.caller o.fd o.entry x o.is_caller o.free_fd o.free (claims_floated f m r s.claims);
-      limits = limits_given m pid o.caller o.fd o.entry x o.is_caller o.free_fd o.free (limits_floated f m r s.limits);
-      lengths = lengths_given m pid o.caller o.fd o.entry x o.is_caller o.free_fd o.free w.content (lengths_floated f m r w.content s.lengths);
-    } in
-    subst (λ (h : Frame). LabelsBelow h → Sound (record { frame = h; content = w.content })) (sym o.after) new below
+  sound_plain : Sound (record { frame = g; content = carried w.frame g w.content })
+  sound_plain = whole_of g _ k.sound lengths
 
-settled_opening : (pid : ℕ) (f : Frame) (o : Outcome Reply) → Ends o (λ r g. Floats f g) (λ a g. Opening pid f g) → Floats f (settled f o).frame ⊎ Opening pid f (settled f o).frame
-unfolding Ends
-settled_opening pid f (Refuse r g) h = inl (go (keeps_label r))
-  where
-    go : (b : Bool) → Floats f (if b then g else f)
-    go true = h
-    go false = floats_itself f
-settled_opening pid f (Pass a g) h = inr h
+  sound_seek : (offset : ℕ) (b : Option Behind) (r : Reply) → (r ≡ reply.Done → nat_le offset 1048576 ≡ true) → Sound (seek_answer w offset b r g).world
+  unfolding seek_answer plainly
+  sound_seek offset (Some e) reply.Done low = whole_of g _ k.sound (lengths_seek g _ lengths e offset (leb-true offset 1048576 (low refl)))
+  sound_seek offset _ _ low = sound_plain
 
-open_decided : (t : Told) (place pid : ℕ) (path : PathOf) (mode : Mode) (f : Frame) → Floats f (decide t place pid (op.OpenAt path mode) f).frame ⊎ Opening pid f (decide t place pid (op.OpenAt path mode) f).frame
-unfolding decide row
-open_decided t place pid path mode f = go (lives f pid)
-  where
-    unknown : Decision
-    unknown = record { reply = reply.No refusal.NoProcess; frame = f }
+  sound_stat : (r : Reply) → Sound (stat_answer w r g).world
+  unfolding stat_answer plainly
+  sound_stat (reply.Stat o kind.File size links frozen cap lic) = sound_plain
+  sound_stat _ = sound_plain
 
-    go : (b : Bool) → Floats f (if b then settled f (open_at pid path mode f) else unknown).frame ⊎ Opening pid f (if b then settled f (open_at pid path mode f) else unknown).frame
-    go true = settled_opening pid f (open_at pid path mode f) (open_at_ends pid path mode f)
-    go false = inl (floats_itself f)
+  sound_wait : (r : Reply) → Sound (wait_answer w r g).world
+  unfolding wait_answer plainly
+  sound_wait (reply.Child p status) = sound_plain
+  sound_wait _ = sound_plain
 
--- ---- answers
-sound_plain : (w : World) (g : Frame) → carried w.frame g w.content ≡ w.content → Sound (record { frame = g; content = w.content }) → Sound (record { frame = g; content = carried w.frame g w.content })
-sound_plain w g same s = subst (λ (c : Content). Sound (record { frame = g; content = c })) (sym same) s
+  exited : (b : Bool) (statuses : List ℕ) → LengthsSound (record { frame = g; content = if b then record (carried w.frame g w.content) { statuses = statuses } else carried w.frame g w.content })
+  exited true statuses = let l = lengths in record { holdings = l.holdings; offsets = l.offsets; offset = l.offset; file = l.file; pipe = l.pipe; blocks = l.blocks }
+  exited false statuses = lengths
 
-sound_read : (w : World) (g : Frame) (count : ℕ) (b : Option Behind) (r : Reply) → carried w.frame g w.content ≡ w.content → Floats w.frame g → LabelsBelow g → ((e : Behind) → b ≡ Some e → at w.frame.opens e.id ≡ Some e.entry) → Sound w → Sound (read_answer w count b r g).world
-unfolding read_answer plainly
-sound_read w g count (Some e) (reply.Bytes k) same floats below there s =
-    subst (λ (c : Content). Sound (record { frame = g; content = after_read w.frame e (length (take count (readable w.frame w.content e))) c })) (sym same)
-    (sound_floated w g _ floats below s (lengths_read w.frame w.content s.lengths e (stands w.frame e.id e.entry s.opens (there e refl)) s.limits count))
-sound_read w g count _ _ same floats below there s = sound_plain w g same (sound_floated w g w.content floats below s s.lengths)
+  sound_exit : (pid status : ℕ) (r : Reply) → Sound (exit_answer w pid status r g).world
+  unfolding exit_answer plainly after_exit
+  sound_exit pid status reply.Done = whole_of g _ k.sound (exited (is_ended (at g.processes pid)) _)
+  sound_exit pid status _ = sound_plain
 
--- what the tests of a write say of lengths
-pub record Fits (t : Told) : Type 0 where
-  pub small : not t.too_big ≡ true
-  pub room : not t.full ≡ true
-  pub space : not t.no_space ≡ true
+  either_emptied : (b : Bool) (o : ℕ) → LengthsSound (record { frame = g; content = if b then emptied o (carried w.frame g w.content) else carried w.frame g w.content })
+  either_emptied true o = lengths_emptied g _ lengths o
+  either_emptied false o = lengths
 
-sound_write : (w : World) (g : Frame) (new : List ℕ) (b : Option Behind) (r : Reply) → carried w.frame g w.content ≡ w.content → Floats w.frame g → LabelsBelow g → ((e : Behind) → b ≡ Some e → at w.frame.opens e.id ≡ Some e.entry) → ((k : ℕ) → r ≡ reply.Number k → Fits (told_of_write w.frame w.content (length new) b)) → Sound w → Sound (write_answer w new b r g).world
-unfolding write_answer plainly
-sound_write w g new (Some e) (reply.Number k) same floats below there fits s =
-    let t = fits k refl in
-    subst (λ (c : Content). Sound (record { frame = g; content = after_write w.frame e new c })) (sym same)
-    (sound_floated w g _ floats below s (lengths_write w.frame w.content s.lengths e (stands w.frame e.id e.entry s.opens (there e refl)) s.limits new t.small t.room t.space))
-sound_write w g new _ _ same floats below there fits s = sound_plain w g same (sound_floated w g w.content floats below s s.lengths)
+  sound_pex : (b : Option Behind) (r : Reply) → Sound (pex_answer w b r g).world
+  unfolding pex_answer plainly
+  sound_pex (Some e) r = whole_of g _ k.sound (either_emptied _ e.entry.object)
+  sound_pex None r = sound_plain
+
+  -- ---- where labels alone have changed in the frame
+  module _ (floats : Floats w.frame g) (clean : IsClean w) where
+    -- a content that the old frame can hold the new one can
+    edited : (h : Content → Content) → LengthsSound (record { frame = w.frame; content = h w.content }) → Sound (record { frame = g; content = h (carried w.frame g w.content) })
+    edited h l = whole_of g _ k.sound (subst (λ (c : Content). LengthsSound (record { frame = g; content = h c })) (sym (carried_floats w g floats clean)) (lengths_floated w.frame g floats (h w.content) l))
+
+    sound_read : (count : ℕ) (b : Option Behind) (r : Reply) → ((e : Behind) → b ≡ Some e → Standing w.frame e.entry) → Sound (read_answer w count b r g).world
+    unfolding read_answer plainly
+    sound_read count (Some e) (reply.Bytes n) there = edited (after_read w.frame e (length (take count (readable w.frame w.content e)))) (lengths_read w.frame w.content s.lengths e (there e refl) s.limits count)
+    sound_read count _ _ there = sound_plain
+
+    sound_write : (new : List ℕ) (b : Option Behind) (r : Reply) → ((e : Behind) → b ≡ Some e → Standing w.frame e.entry) → ((n : ℕ) → r ≡ reply.Number n → (not (told_of_write w.frame w.content (length new) b).too_big ≡ true) × (not (told_of_write w.frame w.content (length new) b).full ≡ true) × (not (told_of_write w.frame w.content (length new) b).no_space ≡ true)) → Sound (write_answer w new b r g).world
+    unfolding write_answer plainly
+    sound_write new (Some e) (reply.Number n) there fits = let t = fits n refl in edited (after_write w.frame e new) (lengths_write w.frame w.content s.lengths e (there e refl) s.limits new t.0 t.1 t.2)
+    sound_write new _ _ there fits = sound_plain
+
+    sound_cut : (len : ℕ) (b : Option Behind) (r : Reply) → ((e : Behind) → b ≡ Some e → Standing w.frame e.entry) → (r ≡ reply.Done → (e : Behind) (x : Standing w.frame e.entry) → b ≡ Some e → (is_pipe x.object ≡ false) × (nat_le len 1048576 ≡ true) × (not (told_of_cut w.frame w.content len b).no_space ≡ true)) → Sound (cut_answer w len b r g).world
+    unfolding cut_answer plainly told_of_cut
+    sound_cut len (Some e) reply.Done there fits =
+        let t = fits refl e (there e refl) refl in
+        edited (after_cut e len) (lengths_cut w.frame w.content s.lengths e (there e refl) s.limits len t.0 (leb-true len 1048576 t.1) (ltb-false _ _ (not-true _ t.2)))
+    sound_cut len _ _ there fits = sound_plain
+
+-- ---- what the tests said
+seek_ends : (pid fd offset : ℕ) (f : Frame) → Ends (seek_fd pid fd offset f) Anything (λ r g. nat_le offset 1048576 ≡ true)
+unfolding seek_fd
+seek_ends pid fd offset f = search ending depth 40 fits 8000
+
+sought : (t : Told) (place pid fd offset : ℕ) (f : Frame) → (decide t place pid (op.SeekFd fd offset) f).reply ≡ reply.Done → nat_le offset 1048576 ≡ true
+unfolding row
+sought t place pid fd offset f done = passed t place pid (op.SeekFd fd offset) f (λ r g. nat_le offset 1048576 ≡ true) (seek_ends pid fd offset f) (ap is_answer done)
+
+cut_tests : (t : Told) (pid fd len : ℕ) (f : Frame) (facts : CutFacts t pid fd len f) (e : Behind) (x : Standing f e.entry) → behind f pid fd ≡ Some e → (is_pipe x.object ≡ false) × (nat_le len 1048576 ≡ true) × (not t.no_space ≡ true)
+cut_tests t pid fd len f facts e x is =
+    let one : Some facts.entry ≡ Some e = sym facts.is_entry ∙ is in
+    let same : facts.entry ≡ e = cc in
+    let two : Some facts.object ≡ Some x.object = sym facts.is_object ∙ ap (λ b. at f.objects b.entry.object) same ∙ x.is_object in
+    let object : facts.object ≡ x.object = cc in
+    (ap is_pipe (sym object) ∙ not-true _ facts.no_pipe, facts.short, facts.space)
 
 -- ---- the step
-fits_of : (t : Told) (pid fd : ℕ) (f : Frame) → WriteFacts t pid fd f → Fits t
-fits_of t pid fd f facts = record { small = facts.small; room = facts.room; space = facts.space }
-
-pub sound_step : (w : World) (place pid : ℕ) (c : Op) → is_built c ≡ true → IsClean w → Sound w → Sound (step w place pid c).world
+pub sound_step : (w : World) (place pid : ℕ) (c : Op) → IsClean w → Sound w → Sound (step w place pid c).world
 unfolding step answer told plainly row
-sound_step w place pid (op.OpenAt path mode) built clean s =
-    let t : Told = told w pid (op.OpenAt path mode) in
-    let same = carried_decided w t place pid (op.OpenAt path mode) clean in
-    let below = labels_decided t place pid (op.OpenAt path mode) w.frame s.labels in
-    sound_plain w _ same (elim (open_decided t place pid path mode w.frame) [
-      | inl floats ↦ sound_floated w _ w.content floats below s s.lengths
-      | inr opening ↦ sound_opening w pid _ opening below s
-    ])
-sound_step w place pid (op.ReadFd fd count) built clean s =
+sound_step w place pid (op.ReadFd fd count) clean s =
     let t : Told = told w pid (op.ReadFd fd count) in
-    sound_read w _ count (behind w.frame pid fd) _ (carried_decided w t place pid (op.ReadFd fd count) clean)
-    (decided (Floats w.frame) t place pid (op.ReadFd fd count) w.frame (floats_itself w.frame) ((floats_read_fd w.frame t pid fd count).led w.frame (floats_itself w.frame)))
-    (labels_decided t place pid (op.ReadFd fd count) w.frame s.labels)
-    (λ e is. behind_is w.frame pid fd e is) s
-sound_step w place pid (op.WriteFd fd bytes) built clean s =
+    sound_read w _ (fixed_decided t place pid (op.ReadFd fd count) w.frame) (follows_decided w.frame (frame_of w s) t place pid (op.ReadFd fd count)) s
+    (decided (Floats w.frame) t place pid (op.ReadFd fd count) w.frame (floats_itself w.frame) ((floats_read_fd w.frame t pid fd count).led w.frame (floats_itself w.frame))) clean
+    count (behind w.frame pid fd) _ (λ e is. stands w.frame e.id e.entry s.opens (behind_is w.frame pid fd e is))
+sound_step w place pid (op.WriteFd fd bytes) clean s =
     let t : Told = told w pid (op.WriteFd fd bytes) in
-    sound_write w _ bytes (behind w.frame pid fd) _ (carried_decided w t place pid (op.WriteFd fd bytes) clean)
-    (decided (Floats w.frame) t place pid (op.WriteFd fd bytes) w.frame (floats_itself w.frame) ((floats_write_fd w.frame t pid fd).led w.frame (floats_itself w.frame)))
-    (labels_decided t place pid (op.WriteFd fd bytes) w.frame s.labels)
-    (λ e is. behind_is w.frame pid fd e is)
-    (λ k wrote_k. fits_of t pid fd w.frame (wrote t place pid fd bytes w.frame k wrote_k)) s
-sound_step w place pid op.SelfLabel built clean s =
-    let t : Told = told w pid op.SelfLabel in
-    sound_plain w _ (carried_decided w t place pid op.SelfLabel clean) (sound_floated w _ w.content
-    (decided (Floats w.frame) t place pid op.SelfLabel w.frame (floats_itself w.frame) ((floats_self_label w.frame pid).led w.frame (floats_itself w.frame)))
-    (labels_decided t place pid op.SelfLabel w.frame s.labels) s s.lengths)
-sound_step w place pid _ built clean s = cc
+    sound_write w _ (fixed_decided t place pid (op.WriteFd fd bytes) w.frame) (follows_decided w.frame (frame_of w s) t place pid (op.WriteFd fd bytes)) s
+    (decided (Floats w.frame) t place pid (op.WriteFd fd bytes) w.frame (floats_itself w.frame) ((floats_write_fd w.frame t pid fd).led w.frame (floats_itself w.frame))) clean
+    bytes (behind w.frame pid fd) _ (λ e is. stands w.frame e.id e.entry s.opens (behind_is w.frame pid fd e is))
+    (λ n wrote_n. let facts = wrote t place pid fd bytes w.frame n wrote_n in (facts.small, facts.room, facts.space))
+sound_step w place pid (op.CutFd fd len) clean s =
+    let t : Told = told w pid (op.CutFd fd len) in
+    sound_cut w _ (fixed_decided t place pid (op.CutFd fd len) w.frame) (follows_decided w.frame (frame_of w s) t place pid (op.CutFd fd len)) s
+    (decided (Floats w.frame) t place pid (op.CutFd fd len) w.frame (floats_itself w.frame) ((floats_cut_fd w.frame t pid fd len).led w.frame (floats_itself w.frame))) clean
+    len (behind w.frame pid fd) _ (λ e is. stands w.frame e.id e.entry s.opens (behind_is w.frame pid fd e is))
+    (λ done e x is. cut_tests t pid fd len w.frame (was_cut t place pid fd len w.frame done) e x is)
+sound_step w place pid (op.SeekFd fd offset) clean s =
+    let t : Told = told w pid (op.SeekFd fd offset) in
+    sound_seek w _ (fixed_decided t place pid (op.SeekFd fd offset) w.frame) (follows_decided w.frame (frame_of w s) t place pid (op.SeekFd fd offset)) s offset (behind w.frame pid fd) _ (sought t place pid fd offset w.frame)
+sound_step w place pid (op.StatAt path) clean s = sound_stat w _ (fixed_decided (told w pid (op.StatAt path)) place pid (op.StatAt path) w.frame) (follows_decided w.frame (frame_of w s) (told w pid (op.StatAt path)) place pid (op.StatAt path)) s _
+sound_step w place pid (op.Exit status) clean s = sound_exit w _ (fixed_decided (told w pid (op.Exit status)) place pid (op.Exit status) w.frame) (follows_decided w.frame (frame_of w s) (told w pid (op.Exit status)) place pid (op.Exit status)) s pid status _
+sound_step w place pid op.WaitChild clean s = sound_wait w _ (fixed_decided (told w pid op.WaitChild) place pid op.WaitChild w.frame) (follows_decided w.frame (frame_of w s) (told w pid op.WaitChild) place pid op.WaitChild) s _
+sound_step w place pid (op.Pex fd) clean s = sound_pex w _ (fixed_decided (told w pid (op.Pex fd)) place pid (op.Pex fd) w.frame) (follows_decided w.frame (frame_of w s) (told w pid (op.Pex fd)) place pid (op.Pex fd)) s (behind w.frame pid fd) _
+sound_step w place pid c clean s = sound_plain w _ (fixed_decided (told w pid c) place pid c w.frame) (follows_decided w.frame (frame_of w s) (told w pid c) place pid c) s

@@ -18,7 +18,7 @@ use Rattle.ix_model.proofs.Standing.{behind_is, stands}
 pub counted : (o : ℕ) (e : List ℕ × ℕ) (es : List (List ℕ × ℕ)) → count_by (λ n. n.1 == o) (e ∷ es) ≡ cond {A = ℕ} (e.1 == o) 1 0 + count_by (λ n. n.1 == o) es
 counted o e es = sum_by-cons (λ (n : List ℕ × ℕ). cond {A = ℕ} (n.1 == o) 1 0) e es
 
-child_named : (es : List (List ℕ × ℕ)) (name : List ℕ) (o : ℕ) → option_map (λ e. e.1) (find (λ e. same_bytes e.0 name) es) ≡ Some o → 0 < count_by (λ n. n.1 == o) es
+pub child_named : (es : List (List ℕ × ℕ)) (name : List ℕ) (o : ℕ) → option_map (λ e. e.1) (find (λ e. same_bytes e.0 name) es) ≡ Some o → 0 < count_by (λ n. n.1 == o) es
 child_named [] name o h = cc
 child_named (e ∷ es) name o h = go (same_bytes e.0 name) h (child_named es name o)
   where
