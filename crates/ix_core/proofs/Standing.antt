@@ -22,6 +22,7 @@ use Rattle.ix_model.proofs.Cleaning.{clean_step}
 use Rattle.ix_model.proofs.Reaching.{opening_counts, sound_reached}
 use Rattle.ix_model.proofs.Runs.{world_of-none, world_of-push}
 use Rattle.ix_model.proofs.Fixed.{fixed_step}
+use Rattle.ix_model.proofs.Built.{built_step}
 use Rattle.ix_core.specs.Stepping.{StandsFor, Shows}
 
 pub stands_first : (c : Config) (w : World) → is_valid c ≡ true → is_flat c ≡ true → w ≡ opening_world c → StandsFor w (record { config = c; events = [] })
@@ -48,6 +49,7 @@ built_more (x ∷ es) e h k =
 pub stands_next : (w v : World) (h : History) (e : Event) → StandsFor w h → is_built e.op ≡ true → length h.events < 6800000 → v ≡ (step w (length h.events + 1) e.pid e.op).world → StandsFor v (with_entry h e)
 stands_next w v h e s built few is =
     let fixed = fixed_step w (length h.events + 1) e.pid e.op in
+    let modest = built_step w (length h.events + 1) e.pid e.op built in
     record {
       run = is ∙ ap (λ (u : World). (step u (length h.events + 1) e.pid e.op).world) s.run ∙ sym (world_of-push h e);
       clean = subst (λ (u : World). IsClean u) (sym is) (clean_step w (length h.events + 1) e.pid e.op s.clean);
@@ -56,13 +58,13 @@ stands_next w v h e s built few is =
       built = built_more h.events e s.built built;
       few = omega (arith, length-append h.events (e ∷ []));
       objects = subst (λ (u : World). length u.frame.objects ≤ 66560) (sym is) (omega (arith, fixed.objects, s.objects));
-      processes = subst (λ (u : World). length u.frame.processes ≤ 1025) (sym is) (omega (arith, fixed.processes, s.processes));
-      log = subst (λ (u : World). u.frame.log ≡ []) (sym is) (fixed.log ∙ s.log);
+      processes = subst (λ (u : World). length u.frame.processes ≤ 1025) (sym is) (omega (arith, modest.processes, s.processes));
+      log = subst (λ (u : World). u.frame.log ≡ []) (sym is) (modest.log ∙ s.log);
     }
 
 pub sound_core : (w : World) (h : History) → StandsFor w h → Sound (world_of h)
 unfolding world_of
-sound_core w h s = sound_reached h.config h.events s.valid s.flat s.built
+sound_core w h s = sound_reached h.config h.events s.valid s.flat
 
 pub unlogged : (w : World) (h : History) → StandsFor w h → (world_of h).frame.log ≡ []
 unlogged w h s = subst (λ (u : World). u.frame.log ≡ []) s.run s.log

@@ -78,7 +78,7 @@ wrote_file w f g c c1 c2 c3 place pid fd new bytes e t r k view clean b p is sai
     let replies : r ≡ (decide t place pid (op.WriteFd fd new) w.frame).reply = said ∙ ap (λ (h : Frame). (decide t place pid (op.WriteFd fd new) h).reply) ef in
     let content : c3 ≡ after_write w.frame e new w.content = file_content w.frame c c1 c2 c3 e new bytes p lent spliced_is back moved ∙ ap (λ (d : Content). after_write w.frame e new d) ec in
     let whole = write_step w place pid fd new e t b (told_file w.frame w.content (length new) e t p is)
-    ∙ written w new e _ _ k (sym replies ∙ num) (carried_decided w t place pid (op.WriteFd fd new) clean) in
+    ∙ written w new e _ _ k (sym replies ∙ num) (carried_decided w t place pid (op.WriteFd fd new) refl clean) in
     (λ i. record { frame = frames i; content = content i }) ∙ sym (ap (λ (x : Given). x.world) whole)
 
 -- a write to a pipe that passed
@@ -97,7 +97,7 @@ wrote_pipe w f g c c1 c2 place pid fd new bytes e t r k view clean b p is said s
     let content : c2 ≡ after_write w.frame e new w.content = pipe_content w.frame c c1 c2 e new bytes p lent joined back ∙ ap (λ (d : Content). after_write w.frame e new d) ec in
     let told_is : t ≡ told_of_pipe_write (length (side (1 - e.entry.end) (holding_of w.content e.entry.object))) (length new) = is ∙ ap (λ (d : Content). told_of_pipe_write (length (side (1 - e.entry.end) (holding_of d e.entry.object))) (length new)) ec in
     let whole = write_step w place pid fd new e t b (told_pipe w.frame w.content (length new) e t p told_is)
-    ∙ written w new e _ _ k (sym replies ∙ num) (carried_decided w t place pid (op.WriteFd fd new) clean) in
+    ∙ written w new e _ _ k (sym replies ∙ num) (carried_decided w t place pid (op.WriteFd fd new) refl clean) in
     (λ i. record { frame = frames i; content = content i }) ∙ sym (ap (λ (x : Given). x.world) whole)
 
 -- a write that didn't pass, once what was lent is back
@@ -111,7 +111,7 @@ refused_write w f g c c2 place pid fd new e t r view clean b is said stands not 
     let frames : g ≡ (decide t place pid (op.WriteFd fd new) w.frame).frame = stands ∙ ap (λ (h : Frame). (decide t place pid (op.WriteFd fd new) h).frame) ef in
     let replies : r ≡ (decide t place pid (op.WriteFd fd new) w.frame).reply = said ∙ ap (λ (h : Frame). (decide t place pid (op.WriteFd fd new) h).reply) ef in
     let whole = write_step w place pid fd new e t b is
-    ∙ unwritten w new e _ _ (λ k h. not k (replies ∙ h)) (carried_decided w t place pid (op.WriteFd fd new) clean) in (
+    ∙ unwritten w new e _ _ (λ k h. not k (replies ∙ h)) (carried_decided w t place pid (op.WriteFd fd new) refl clean) in (
       (λ i. record { frame = frames i; content = (same ∙ ec) i }) ∙ sym (ap (λ (x : Given). x.world) whole),
       replies ∙ sym (ap (λ (x : Given). x.reply) whole),
       sym (ap (λ (x : Given). x.bytes) whole),
@@ -129,5 +129,5 @@ unbacked_write w f g c place pid fd new r view clean b said stands =
     let none : behind w.frame pid fd ≡ None = ap (λ (h : Frame). behind h pid fd) (sym ef) ∙ b in
     let frames : g ≡ (decide nothing_told place pid (op.WriteFd fd new) w.frame).frame = stands ∙ ap (λ (h : Frame). (decide nothing_told place pid (op.WriteFd fd new) h).frame) ef in
     let replies : r ≡ (decide nothing_told place pid (op.WriteFd fd new) w.frame).reply = said ∙ ap (λ (h : Frame). (decide nothing_told place pid (op.WriteFd fd new) h).reply) ef in
-    let same : carried w.frame (decide nothing_told place pid (op.WriteFd fd new) w.frame).frame w.content ≡ w.content = carried_decided w nothing_told place pid (op.WriteFd fd new) clean in
+    let same : carried w.frame (decide nothing_told place pid (op.WriteFd fd new) w.frame).frame w.content ≡ w.content = carried_decided w nothing_told place pid (op.WriteFd fd new) refl clean in
     (rw none ((λ i. record { frame = frames i; content = (ec ∙ sym same) i })), rw none replies, rw none refl)

@@ -5,7 +5,7 @@ use Rattle.ix_label.specs.Category.{Categories}
 use Rattle.ix_model.specs.World.{World, Frame, Content, Holding, at, change, lives}
 use Rattle.ix_model.specs.Walks as walks
 use Rattle.ix_model.specs.Walks.{Walk, Sought, join_all}
-use Rattle.ix_model.specs.Table as table
+use Rattle.ix_model.specs.OnDescriptors as descriptors
 use Rattle.ix_model.specs.Step.{Given, put_front}
 use Rattle.ix_model.specs.Contents.{holding_of, offset_of, side, with_side}
 use Rattle.ix_model.specs.History.{Op}
@@ -41,7 +41,7 @@ seen_of s = record { outcome = sought_of s.outcome; label = s.seen }
 abbrev pub seen_in : Walk → Seen
 seen_in w = record { outcome = w.outcome; label = join_all w.looked }
 
-abbrev pub told_of : Told → table.Told
+abbrev pub told_of : Told → descriptors.Told
 told_of t = record { too_big = t.too_big; full = t.full; no_space = t.no_space; empty = t.empty }
 
 -- the content with another holding of an object
@@ -75,12 +75,12 @@ pub record Restores (old new : Frame) (pid : ℕ) : Type 0 where
   pub back : (l : Categories) → label_at old pid ≡ Some l → record new { processes = change new.processes pid (λ p. record p { label = l }) } ≡ old
 
 -- what passed tests tell of what was asked
-abbrev pub Asked : Reply → Op → table.Told → Type 0
+abbrev pub Asked : Reply → Op → descriptors.Told → Type 0
 Asked (reply.Bytes k) (op.ReadFd fd count) t = count ≤ 4096
 Asked (reply.Number k) (op.WriteFd fd bytes) t = (t.too_big ≡ false) × (t.full ≡ false)
 Asked _ _ t = Unit {0}
 
-abbrev pub RowAsked : Result Reply Refusal → Op → table.Told → Type 0
+abbrev pub RowAsked : Result Reply Refusal → Op → descriptors.Told → Type 0
 RowAsked (Ok r) o t = Asked r o t
 RowAsked (Err why) o t = Unit {0}
 

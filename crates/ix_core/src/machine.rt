@@ -70,7 +70,7 @@ impl Machine {
     }
 
     /// A call that edits no content.
-    #[tactic(auto, using(ix_model::proofs::Carrying::carried_decided), unfolding(ix_model::specs::Step::step, ix_model::specs::Step::answer, ix_model::specs::Telling::told, ix_model::specs::Step::plainly))]
+    #[tactic(auto, using(ix_model::proofs::Built::carried_built), unfolding(ix_model::specs::Step::step, ix_model::specs::Step::answer, ix_model::specs::Telling::told, ix_model::specs::Step::plainly))]
     fn plain<L: Ledger>(
         &mut self,
         place: usize,
@@ -113,7 +113,7 @@ impl Machine {
     }
 
     /// A read: the decision, and then the bytes into the front of the buffer.
-    #[tactic(auto, using(ix_model::proofs::Carrying::carried_decided), unfolding(ix_model::specs::Step::step, ix_model::specs::Step::answer, ix_model::specs::Telling::told, ix_model::specs::Step::plainly, ix_model::specs::Telling::told_of_read, ix_model::specs::Step::read_answer, ix_model::specs::Contents::after_read, ix_model::specs::Contents::readable))]
+    #[tactic(auto, using(ix_model::proofs::Built::carried_built), unfolding(ix_model::specs::Step::step, ix_model::specs::Step::answer, ix_model::specs::Telling::told, ix_model::specs::Step::plainly, ix_model::specs::Telling::told_of_read, ix_model::specs::Step::read_answer, ix_model::specs::Contents::after_read, ix_model::specs::Contents::readable))]
     fn read<L: Ledger>(
         &mut self,
         place: usize,
@@ -173,7 +173,7 @@ impl Machine {
 
     /// A write, to a pipe or to a file. It makes room for the bytes before the decision, so that after `NoMemory`
     /// nothing has changed.
-    #[tactic(auto, using(ix_model::proofs::Carrying::carried_decided), unfolding(ix_model::specs::Step::step, ix_model::specs::Step::answer, ix_model::specs::Telling::told, ix_model::specs::Step::plainly, ix_model::specs::Telling::told_of_write, ix_model::specs::Step::write_answer))]
+    #[tactic(auto, using(ix_model::proofs::Built::carried_built), unfolding(ix_model::specs::Step::step, ix_model::specs::Step::answer, ix_model::specs::Telling::told, ix_model::specs::Step::plainly, ix_model::specs::Telling::told_of_write, ix_model::specs::Step::write_answer))]
     fn write<L: Ledger>(
         &mut self,
         alloc: Global,

@@ -1,40 +1,38 @@
 -- The log grows by the lines of licensed entries.
-use Rattle.std.proofs.Common.{◌≡◌, ℕ, suc, Bool, true, false, not, ◌&&◌, List, [], ◌∷◌, ◌++◌, Option, Some, None, refl, sym, ap, ◌∙◌, subst, if◌then◌else◌, append-nil, append_assoc, option_map, true≢false}
-use Rattle.std.specs.Option.{option_map_or, option_and_then}
+use Rattle.std.proofs.Common.{◌≡◌, ℕ, suc, Bool, true, false, not, ◌&&◌, List, [], ◌∷◌, ◌++◌, Option, Some, refl, sym, ap, ◌∙◌, if◌then◌else◌, append-nil, append_assoc, option_map}
+use Rattle.std.specs.Option.{option_map_or}
 use Rattle.std.specs.List.{list_all}
-use Rattle.ix_label.specs.Category.{Categories, bottom, join, leq, same}
+use Rattle.ix_label.specs.Category.{Categories, join, leq, same}
 use Rattle.ix_label.specs.Lattice.{same-decides}
 use Rattle.ix_model.specs.Naming.{PathOf}
 use Rattle.ix_model.specs.Privs.{either_of}
 use Rattle.ix_model.specs.Refusals.{keeps_label}
-use Rattle.ix_model.specs.World.{World, Frame, Object, Process, at, put, change, living, lives}
+use Rattle.ix_model.specs.World.{World, Frame, Object, Process, at, change, living, lives}
 use Rattle.ix_model.specs.Outcomes.{Outcome, Refuse, Pass}
 use Rattle.ix_model.specs.Rows.{change_object, change_process, put_object, put_open, put_process, add_process, affect}
 use Rattle.ix_model.specs.Walks.{Sought, walk, join_all, walked_to, found}
 use Rattle.ix_model.specs.Walks as sought
-use Rattle.ix_model.specs.Auditing.{logged, relabelling}
+use Rattle.ix_model.specs.Auditing.{relabelling}
 use Rattle.ix_model.specs.OnDescriptors.{Told}
 use Rattle.ix_model.specs.OnProcesses.{end_process}
 use Rattle.ix_model.specs.OnLabels.{needs_to_set_ceilings, set_label, set_self, thaw, thaw_self, set_priv, grant_lic, set_ceiling, read_log}
 use Rattle.ix_model.specs.Table.{Decision, row, settled, decide}
 use Rattle.ix_model.specs.Telling.{told}
 use Rattle.ix_model.specs.Step.{plainly, answer, step, step_of, run}
-use Rattle.ix_model.specs.AuditLog.{object_sought, object_of_path, label_at, of_process, exercises, is_answer, is_licensed, target_of, line_on_object, line_on_process, line_of_act, lines_added, audit_log}
+use Rattle.ix_model.specs.AuditLog.{object_of_path, label_at, of_process, exercises, is_answer, is_licensed, line_on_object, line_on_process, line_of_act, lines_added, audit_log}
 use Rattle.ix_model.specs.History.{Op, Event}
 use Rattle.ix_model.specs.History as op
 use Rattle.ix_model.specs.declared.privs.PrivSet.{PrivSet}
 use Rattle.ix_model.specs.declared.audit.Act.{Act}
 use Rattle.ix_model.specs.declared.audit.Act.TheVariants as act
 use Rattle.ix_model.specs.declared.audit.AuditLine.{AuditLine}
-use Rattle.ix_model.specs.declared.refusal.Refusal.{Refusal}
 use Rattle.ix_model.specs.declared.refusal.Refusal.TheVariants as refusal
 use Rattle.ix_model.specs.declared.reply.Reply.{Reply}
 use Rattle.ix_model.specs.declared.reply.Reply.TheVariants as reply
 use Rattle.ix_model.proofs.Tables.{at_changed}
-use Rattle.ix_model.proofs.Keeps.{Holds, Keeps, keeping}
+use Rattle.ix_model.proofs.Keeps.{Holds}
 use Rattle.ix_model.proofs.Ends.{Ends, Anything, ending, ends_bind, ends_then, ends_pass, ends_frame, ends_caller, ends_there, ends_kept, ends_more}
 use Rattle.ix_model.proofs.RowEnds.{endings}
-use Rattle.ix_model.proofs.Looks.{ends_affect}
 use Rattle.ix_model.proofs.Living.{is_living}
 use Rattle.ix_model.proofs.Rowwise.{Change, Logging, Words, changes_of, kept_row}
 use Rattle.ix_model.proofs.Refusing.{Relabelled, Relabels, relabelled_itself, relabelled_observe, refusing_row}

@@ -1,5 +1,5 @@
 -- Past the inodes of all file systems nothing but pipes is ever made.
-use Rattle.std.proofs.Common.{◌≡◌, ◌≢◌, ◌≤◌, ◌<◌, ◌+◌, ℕ, zero, suc, Bool, true, false, not, List, [], ◌∷◌, length, map, sum, take, Option, Some, None, is_none, option_map, refl, sym, ap, ◌∙◌, arith}
+use Rattle.std.proofs.Common.{◌≡◌, ◌≢◌, ◌≤◌, ◌+◌, ℕ, zero, suc, Bool, true, false, not, List, [], ◌∷◌, length, map, sum, take, Option, Some, None, is_none, refl, sym, ap, ◌∙◌, arith}
 use Rattle.std.specs.Option.{option_map_or}
 use Rattle.std.proofs.lemmas.List.{get_or-set_other}
 use Rattle.std.proofs.lemmas.List.Sums.{sum_by-cons, sum-map}
@@ -8,15 +8,13 @@ use Rattle.ix_model.specs.Numbers.{first_inode, inodes_of, first_pipe, free_inod
 use Rattle.ix_model.specs.Rows.{change_object, change_process, put_object, put_open, put_process, add_process}
 use Rattle.ix_model.specs.Auditing.{logged}
 use Rattle.ix_model.specs.OnProcesses.{end_process}
-use Rattle.ix_model.specs.OnDescriptors.{Told}
-use Rattle.ix_model.specs.Table.{decide}
 use Rattle.ix_model.specs.Telling.{told}
 use Rattle.ix_model.specs.Step.{step}
 use Rattle.ix_model.specs.Sound.{WithinLimits}
 use Rattle.ix_model.specs.History.{Op}
 use Rattle.ix_model.specs.declared.config.FsSpec.{FsSpec}
 use Rattle.ix_model.proofs.Tables.{seen_changed, seen_put}
-use Rattle.ix_model.proofs.Keeps.{Holds, Keeps}
+use Rattle.ix_model.proofs.Keeps.{Holds}
 use Rattle.ix_model.proofs.FreeNumbers.{free_inode_is}
 use Rattle.ix_model.proofs.Lasts.{decided}
 use Rattle.ix_model.proofs.Rowwise.{Words, all, bears_all, changes_of, kept_row}

@@ -3,13 +3,12 @@ use Rattle.std.proofs.Common.{◌≡◌, ◌++◌, ℕ, List, [], ◌∷◌, Opt
 use Rattle.std.specs.Option.{option_map_or, option_and_then}
 use Rattle.std.specs.List.{range_with_len}
 use Rattle.ix_label.specs.Category.{Categories}
-use Rattle.ix_model.specs.World.{Frame, Object, Process, at, put}
-use Rattle.ix_model.specs.Outcomes.{Row, Outcome, Refuse, Pass}
+use Rattle.ix_model.specs.World.{Frame, Object, at, put}
+use Rattle.ix_model.specs.Outcomes.{Row}
 use Rattle.ix_model.specs.Rows.{◌>>=◌, ◌>>◌, pass, only_if, caller, record_of, change_object, change_process, put_object, put_open, put_process, add_process}
 use Rattle.ix_model.specs.Walks.{Sought, Behind, behind, spot, vacant}
 use Rattle.ix_model.specs.Walks as sought
-use Rattle.ix_model.specs.Lifetimes.{let_go_object, let_go_open, let_go_claim, let_go, let_go_if_held, let_go_each, let_go_all, stays, has_lost}
-use Rattle.ix_model.specs.Owners.{owned}
+use Rattle.ix_model.specs.Lifetimes.{let_go_object, let_go_open, let_go_claim, let_go, let_go_if_held, let_go_each, let_go_all, has_lost}
 use Rattle.ix_model.specs.Auditing.{entitled, log_has_room, exercise, logged}
 use Rattle.ix_model.specs.OnProcesses.{remains, end_process}
 use Rattle.ix_model.specs.OnLabels.{allowed, movable}

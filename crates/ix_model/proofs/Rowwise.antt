@@ -1,9 +1,9 @@
 -- What every word that changes something keeps, every row keeps.
-use Rattle.std.proofs.Common.{ℕ, ◌≡◌, ◌&&◌, Bool, true, false, List, [], ◌∷◌, ◌++◌, Option, Some, None, refl}
+use Rattle.std.proofs.Common.{ℕ, ◌≡◌, ◌&&◌, Bool, true, false, List, [], ◌∷◌, Option, Some, None, refl}
 use Rattle.std.specs.Option.{option_map_or}
 use Rattle.std.specs.List.{list_all, range_with_len}
 use Rattle.std.proofs.lemmas.Bool.{and_parts}
-use Rattle.ix_label.specs.Category.{Categories, bottom, join}
+use Rattle.ix_label.specs.Category.{Categories, bottom}
 use Rattle.ix_model.specs.Naming.{PathOf}
 use Rattle.ix_model.specs.Privs.{no_privileges}
 use Rattle.ix_model.specs.Numbers.{free_inode, free_pipe}

@@ -1,8 +1,8 @@
 -- A pid is used once.
-use Rattle.std.proofs.Common.{◌≡◌, ◌≤◌, ◌<◌, ℕ, zero, suc, Bool, true, false, not, List, [], ◌∷◌, ◌++◌, length, Option, Some, None, is_none, is_some, refl, sym, ap, ◌∙◌, arith, length-set, length-append, if◌then◌else◌}
+use Rattle.std.proofs.Common.{◌≡◌, ℕ, suc, Bool, true, false, not, List, [], ◌∷◌, length, Option, Some, None, is_none, is_some, refl, ap, ◌∙◌, arith, length-set, length-append, if◌then◌else◌}
 use Rattle.std.specs.Option.{option_map_or, option_and_then}
 use Rattle.std.proofs.Math.ListN.{get_or-append}
-use Rattle.ix_model.specs.World.{World, Frame, Process, at, put, lives}
+use Rattle.ix_model.specs.World.{World, Frame, Process, at}
 use Rattle.ix_model.specs.Rows.{change_object, change_process, put_object, put_open, put_process, add_process}
 use Rattle.ix_model.specs.Auditing.{logged}
 use Rattle.ix_model.specs.OnProcesses.{remains, end_process}

@@ -1,15 +1,14 @@
 -- A call changes few labels.
-use Rattle.std.proofs.Common.{◌≡◌, ◌≢◌, ◌≤◌, ◌<◌, ◌==◌, ℕ, zero, suc, Bool, true, false, not, List, [], ◌∷◌, ◌++◌, length, Option, Some, None, is_some, option_map, refl, sym, ap, ◌∙◌, subst, arith, length-set, length-append, get_or, set, inl, inr, true≢false}
-use Rattle.std.specs.Option.{option_map_or, option_and_then}
+use Rattle.std.proofs.Common.{◌≡◌, ◌≢◌, ◌≤◌, ◌<◌, ◌==◌, ℕ, zero, suc, Bool, true, false, List, [], ◌∷◌, ◌++◌, length, Option, Some, None, is_some, option_map, refl, sym, ap, ◌∙◌, arith, length-set, length-append, inl, inr, true≢false}
 use Rattle.std.specs.List.{list_all}
 use Rattle.std.proofs.lemmas.Bool.{eqb-false}
 use Rattle.std.proofs.lemmas.Bool.Decides.{eqb_tells}
 use Rattle.std.proofs.Math.ListN.{get_or-append}
-use Rattle.std.proofs.lemmas.List.{get_or-set_other, get_or_past}
-use Rattle.ix_label.specs.Category.{Categories, bottom, join}
+use Rattle.std.proofs.lemmas.List.{get_or-set_other}
+use Rattle.ix_label.specs.Category.{Categories}
 use Rattle.ix_model.specs.Naming.{PathOf}
-use Rattle.ix_model.specs.Numbers.{free_inode, free_pipe}
-use Rattle.ix_model.specs.World.{World, Frame, Object, Process, Open, at, put, change}
+use Rattle.ix_model.specs.Numbers.{free_inode}
+use Rattle.ix_model.specs.World.{World, Frame, Object, Process, at, put, change}
 use Rattle.ix_model.specs.Outcomes.{Row}
 use Rattle.ix_model.specs.Rows.{◌>>=◌, ◌>>◌, some, only_if, frame, change_object, change_process, put_object, put_open, put_process, add_process, observe, affect}
 use Rattle.ix_model.specs.Walks.{walked_to, found, found_in, missing, opened}

@@ -1,5 +1,5 @@
 -- A path becomes whole by a claim alone, which empties it.
-use Rattle.std.proofs.Common.{◌≡◌, ◌≢◌, ℕ, zero, suc, Bool, true, false, not, ◌&&◌, List, [], ◌∷◌, Option, Some, None, is_some, option_map, refl, sym, ap, ◌∙◌, subst, true≢false, get_or, set, if◌then◌else◌, inl, inr}
+use Rattle.std.proofs.Common.{◌≡◌, ℕ, zero, suc, Bool, true, false, not, ◌&&◌, List, [], ◌∷◌, Option, Some, None, is_some, refl, sym, ap, ◌∙◌, true≢false, get_or, set, inl, inr}
 use Rattle.std.specs.Option.{option_map_or}
 use Rattle.std.specs.List.{list_all}
 use Rattle.std.proofs.lemmas.Bool.{and_parts}
@@ -16,14 +16,12 @@ use Rattle.ix_model.specs.Table.{row, decide}
 use Rattle.ix_model.specs.Telling.{told}
 use Rattle.ix_model.specs.AuditLog.{is_answer}
 use Rattle.ix_model.specs.Step.{pex_answer, answer, step, is_whole}
-use Rattle.ix_model.specs.Clean.{IsClean}
-use Rattle.ix_model.specs.Sound.{Sound}
 use Rattle.ix_model.specs.History.{Op}
 use Rattle.ix_model.specs.History as op
 use Rattle.ix_model.specs.declared.reply.Reply.{Reply}
 use Rattle.ix_model.specs.declared.reply.Reply.TheVariants as reply
 use Rattle.ix_model.specs.declared.refusal.Refusal.{Refusal}
-use Rattle.ix_model.proofs.Keeps.{Holds, Keeps}
+use Rattle.ix_model.proofs.Keeps.{Holds}
 use Rattle.ix_model.proofs.Ends.{Ends, Anything}
 use Rattle.ix_model.proofs.RowEnds.{endings}
 use Rattle.ix_model.proofs.Lasts.{decided}
@@ -149,9 +147,9 @@ pex_case w place pid fd o t was is = go (is_answer (decide t place pid (op.Pex f
         let same = (decided_frames t place pid (op.Pex fd) w.frame why.0 why.1).relabelled.is in
         absurd (true≢false (sym is ∙ ap (λ (g : Frame). is_whole g o) same ∙ was))
 
-pub becomes_empty : (w : World) (place pid : ℕ) (c : Op) (o : ℕ) → IsClean w → Sound w → is_whole w.frame o ≡ false → is_whole (step w place pid c).world.frame o ≡ true → holding_of (step w place pid c).world.content o ≡ holds_nothing
+pub becomes_empty : (w : World) (place pid : ℕ) (c : Op) (o : ℕ) → is_whole w.frame o ≡ false → is_whole (step w place pid c).world.frame o ≡ true → holding_of (step w place pid c).world.content o ≡ holds_nothing
 unfolding step answer claims_none
-becomes_empty w place pid (op.Pex fd) o clean sound was is = pex_case w place pid fd o (told w pid (op.Pex fd)) was (ap (λ (g : Frame). is_whole g o) (sym (step_frame w place pid (op.Pex fd))) ∙ is)
-becomes_empty w place pid c o clean sound was is =
+becomes_empty w place pid (op.Pex fd) o was is = pex_case w place pid fd o (told w pid (op.Pex fd)) was (ap (λ (g : Frame). is_whole g o) (sym (step_frame w place pid (op.Pex fd))) ∙ is)
+becomes_empty w place pid c o was is =
     let before = (whole_before (told w pid c) place pid c w.frame refl).was o (ap (λ (g : Frame). is_whole g o) (sym (step_frame w place pid c)) ∙ is) in
     absurd (true≢false (sym before ∙ was))

@@ -1,5 +1,5 @@
 -- What a pipe holds was written in it.
-use Rattle.std.proofs.Common.{◌≡◌, ◌≢◌, ◌≤◌, ◌<◌, ◌+◌, ◌-◌, ◌==◌, ℕ, zero, suc, Bool, true, false, not, ◌&&◌, List, [], ◌∷◌, ◌++◌, length, take, drop, Option, Some, None, is_some, refl, sym, ap, ◌∙◌, subst, arith, append-nil, append_assoc, true≢false, get_or, set, if◌then◌else◌, inl, inr}
+use Rattle.std.proofs.Common.{◌≡◌, ◌≢◌, ◌≤◌, ◌+◌, ◌-◌, ◌==◌, ℕ, zero, suc, Bool, true, false, not, ◌&&◌, List, [], ◌∷◌, ◌++◌, length, take, drop, Option, Some, None, is_some, refl, sym, ap, ◌∙◌, subst, arith, append-nil, append_assoc, true≢false, get_or, set, if◌then◌else◌, inl, inr}
 use Rattle.std.specs.Option.{option_map_or}
 use Rattle.std.proofs.lemmas.Bool.{ne_eqb, eq-eqb}
 use Rattle.std.proofs.lemmas.Bool.Decides.{eqb_tells}
@@ -7,20 +7,19 @@ use Rattle.std.proofs.lemmas.List.{get_or-set_other, take-append-drop}
 use Rattle.ix_model.specs.World.{World, Frame, Content, Object, Holding, at, is_ended, is_pipe}
 use Rattle.ix_model.specs.Walks.{Behind, behind}
 use Rattle.ix_model.specs.Numbers.{first_pipe}
-use Rattle.ix_model.specs.Contents.{keep, grown, carried, holding_of, offset_of, holds_nothing, side, with_side, on_pipe, readable, spliced, after_read, after_write, after_cut, after_seek, after_exit, emptied}
+use Rattle.ix_model.specs.Contents.{carried, holding_of, offset_of, holds_nothing, side, with_side, on_pipe, spliced, after_read, after_write, after_cut, after_seek, after_exit, emptied}
 use Rattle.ix_model.specs.OnDescriptors.{Told}
 use Rattle.ix_model.specs.Table.{decide}
 use Rattle.ix_model.specs.Telling.{told}
 use Rattle.ix_model.specs.Step.{plainly, read_answer, write_answer, cut_answer, seek_answer, exit_answer, pex_answer, answer, step, step_of, run, is_whole}
 use Rattle.ix_model.specs.WholePaths.{reaches, sent, written_to, IsEndOf}
-use Rattle.ix_model.specs.Clean.{IsClean}
 use Rattle.ix_model.specs.Sound.{Sound}
 use Rattle.ix_model.specs.History.{Op, Event}
 use Rattle.ix_model.specs.History as op
 use Rattle.ix_model.specs.declared.reply.Reply.{Reply}
 use Rattle.ix_model.specs.declared.reply.Reply.TheVariants as reply
 use Rattle.ix_model.proofs.Carrying.{get_or-keep}
-use Rattle.ix_model.proofs.Cleaning.{WriteFacts, wrote, CutFacts, was_cut}
+use Rattle.ix_model.proofs.Cleaning.{wrote, was_cut}
 use Rattle.ix_model.proofs.Answered.{world_stat, world_wait}
 use Rattle.ix_model.proofs.PipesPast.{PipesPast, is_other, pipes_past, past_step, past_next}
 
@@ -272,6 +271,6 @@ run_end w place (e ∷ h) o end whole low past far is =
     (run_end (step_of w place e).world (suc place) h o end (whole ++ new) low (past_next _ _ next) (rw next.fss far)
     (end_more _ _ new whole is (step_end w place e.pid e.op o end low past far)))
 
-pub holds_written : (w : World) (place : ℕ) (h : List Event) (o end : ℕ) → IsClean w → Sound w → first_pipe w.frame.fss ≤ o → end ≤ 1 → holding_of w.content o ≡ holds_nothing → IsEndOf (side end (holding_of (run w place h).content o)) (written_to w place h o end)
-holds_written w place h o end clean sound far low empty =
+pub holds_written : (w : World) (place : ℕ) (h : List Event) (o end : ℕ) → Sound w → first_pipe w.frame.fss ≤ o → end ≤ 1 → holding_of w.content o ≡ holds_nothing → IsEndOf (side end (holding_of (run w place h).content o)) (written_to w place h o end)
+holds_written w place h o end sound far low empty =
     run_end w place h o end [] low (pipes_past w.frame sound.limits) far (subst (λ x. IsEndOf (side end x) []) (sym empty) (nothing_side end []))

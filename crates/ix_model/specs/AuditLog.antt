@@ -1,13 +1,13 @@
 -- The audit log of a history, and which of its entries are licensed.
-use Rattle.std.specs.Prelude.{ℕ, suc, Bool, true, false, not, ◌&&◌, ◌||◌, List, [], ◌∷◌, ◌++◌, Option, Some, None, if◌then◌else◌}
+use Rattle.std.specs.Prelude.{ℕ, suc, Bool, true, false, not, ◌&&◌, List, [], ◌∷◌, ◌++◌, Option, Some, None, if◌then◌else◌}
 use Rattle.std.specs.Option.{option_map_or, option_and_then}
 use Rattle.ix_label.specs.Category.{Categories, bottom, leq}
 use Rattle.ix_model.specs.Naming.{PathOf}
-use Rattle.ix_model.specs.World.{World, Frame, Object, Process, at, living}
+use Rattle.ix_model.specs.World.{World, Frame, Process, at, living}
 use Rattle.ix_model.specs.Walks.{Sought, Found, walk}
 use Rattle.ix_model.specs.Auditing.{relabelling}
 use Rattle.ix_model.specs.OnLabels.{needs_to_set_ceilings}
-use Rattle.ix_model.specs.Step.{Given, step_of}
+use Rattle.ix_model.specs.Step.{step_of}
 use Rattle.ix_model.specs.History.{Op, Event}
 use Rattle.ix_model.specs.History as op
 use Rattle.ix_model.specs.declared.audit.Act.{Act}

@@ -1,8 +1,7 @@
 -- The exercise of privileges, and the lines of the audit log.
-use Rattle.std.specs.Prelude.{ℕ, Bool, ◌||◌, nat_lt, List, [], ◌∷◌, ◌++◌, length}
+use Rattle.std.specs.Prelude.{ℕ, ◌||◌, nat_lt, [], ◌∷◌, ◌++◌, length}
 use Rattle.ix_label.specs.Category.{Categories}
 use Rattle.ix_model.specs.Privs.{no_privileges, has_all}
-use Rattle.ix_model.specs.World.{Frame}
 use Rattle.ix_model.specs.Outcomes.{Row, Pass}
 use Rattle.ix_model.specs.Rows.{◌>>=◌, ◌>>◌, need, frame, caller}
 use Rattle.ix_model.specs.declared.privs.PrivSet.{PrivSet}

@@ -1,5 +1,5 @@
 -- What a world holds, and what reads, writes and the like do to it.
-use Rattle.std.specs.Prelude.{ℕ, suc, ◌+◌, ◌-◌, ◌==◌, nat_le, Bool, false, not, ◌&&◌, List, [], ◌∷◌, ◌++◌, length, take, drop, replicate, Option, is_some, if◌then◌else◌, slice_index_or, slice_set}
+use Rattle.std.specs.Prelude.{ℕ, suc, ◌+◌, ◌-◌, ◌==◌, nat_le, Bool, false, ◌&&◌, List, [], ◌∷◌, ◌++◌, length, take, drop, replicate, is_some, if◌then◌else◌, slice_index_or, slice_set}
 use Rattle.std.specs.Option.{option_map_or}
 use Rattle.ix_model.specs.World.{Frame, Content, Holding, at, is_ended, is_pipe}
 use Rattle.ix_model.specs.Walks.{Behind}

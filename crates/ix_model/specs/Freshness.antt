@@ -1,6 +1,6 @@
 -- Fresh descriptors: those whose labels a call has looked at, and that nothing has touched since.
-use Rattle.std.specs.Prelude.{ℕ, suc, Bool, true, false, not, ◌&&◌, ◌||◌, ◌==◌, List, [], ◌∷◌, Option}
-use Rattle.ix_label.specs.Category.{Categories, bottom, same}
+use Rattle.std.specs.Prelude.{ℕ, suc, Bool, true, false, not, ◌&&◌, ◌||◌, ◌==◌, List, [], ◌∷◌}
+use Rattle.ix_label.specs.Category.{bottom, same}
 use Rattle.ix_model.specs.World.{World, Frame}
 use Rattle.ix_model.specs.Walks.{behind}
 use Rattle.ix_model.specs.AuditLog.{label_at, of_process}

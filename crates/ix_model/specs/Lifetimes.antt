@@ -1,10 +1,10 @@
 -- How long open entries, objects and claims last.
-use Rattle.std.specs.Prelude.{ℕ, ◌==◌, Bool, false, not, ◌&&◌, ◌||◌, List, [], ◌∷◌, Option, Some, None, if◌then◌else◌}
+use Rattle.std.specs.Prelude.{ℕ, ◌==◌, Bool, false, not, ◌&&◌, ◌||◌, List, [], ◌∷◌, None}
 use Rattle.std.specs.Option.{option_map_or}
 use Rattle.std.specs.List.{range_with_len}
 use Rattle.ix_model.specs.World.{Frame, Object, at, put, is_file, is_dir, is_pipe, held}
 use Rattle.ix_model.specs.Owners.{times_named, owned, is_claimant}
-use Rattle.ix_model.specs.Outcomes.{Row, Pass}
+use Rattle.ix_model.specs.Outcomes.{Row}
 use Rattle.ix_model.specs.Rows.{◌>>◌, pass, only_if, change_process, change_object, put_object, put_open}
 use Rattle.ix_model.specs.Walks.{Behind, behind}
 

@@ -1,7 +1,6 @@
 -- The calls on descriptors: their tests in order, their effects and replies.
-use Rattle.std.specs.Prelude.{ℕ, ◌-◌, nat_le, Bool, not, ◌&&◌, Option, Some, None, if◌then◌else◌}
-use Rattle.std.specs.Option.{option_map_or}
-use Rattle.ix_model.specs.World.{Frame, Object, Open, at, put, lowest_free, is_pipe, is_trusted, may_read, may_write, held, held_from, has_claim}
+use Rattle.std.specs.Prelude.{ℕ, ◌-◌, nat_le, Bool, not, ◌&&◌, Option, Some, None}
+use Rattle.ix_model.specs.World.{Open, at, put, lowest_free, is_pipe, is_trusted, may_read, may_write, held, held_from, has_claim}
 use Rattle.ix_model.specs.Numbers.{free_pipe}
 use Rattle.ix_model.specs.Outcomes.{Row}
 use Rattle.ix_model.specs.Rows.{◌>>=◌, ◌>>◌, pass, need, some, frame, caller, object, change_process, change_object, put_object, put_open, observe, affect}

@@ -1,10 +1,10 @@
 -- The calls on labels, frozen marks, privileges and ceilings: their tests in order, their effects, replies and audit lines.
-use Rattle.std.specs.Prelude.{ℕ, ◌==◌, Bool, true, false, not, ◌&&◌, ◌||◌, Some, slice_get}
+use Rattle.std.specs.Prelude.{ℕ, ◌==◌, Bool, true, false, not, ◌||◌, slice_get}
 use Rattle.std.specs.Option.{option_map_or}
 use Rattle.ix_label.specs.Category.{Categories, leq, same, join}
 use Rattle.ix_model.specs.Naming.{PathOf}
 use Rattle.ix_model.specs.Privs.{to_lower, to_grant, to_set_ceilings, to_thaw, to_read_the_log, either_of, without}
-use Rattle.ix_model.specs.World.{Frame, Object, Process, is_dir, ceiling_of}
+use Rattle.ix_model.specs.World.{Object, Process, is_dir, ceiling_of}
 use Rattle.ix_model.specs.Outcomes.{Row}
 use Rattle.ix_model.specs.Rows.{◌>>=◌, ◌>>◌, pass, need, some, only_if, frame, caller, object, change_process, change_object, affect}
 use Rattle.ix_model.specs.Walks.{found}

@@ -1,5 +1,5 @@
 -- The calls on paths: their tests in order, their effects and replies.
-use Rattle.std.specs.Prelude.{ℕ, ◌==◌, Bool, false, not, ◌&&◌, List, [], length, Option, Some, None, slice_get, if◌then◌else◌}
+use Rattle.std.specs.Prelude.{ℕ, ◌==◌, Bool, false, not, ◌&&◌, [], length, Option, Some, None, slice_get, if◌then◌else◌}
 use Rattle.std.specs.Option.{option_map_or}
 use Rattle.std.specs.List.{list_any}
 use Rattle.ix_label.specs.Category.{bottom}
@@ -11,7 +11,7 @@ use Rattle.ix_model.specs.Directories.{with_name, without_name, has_room_for_a_n
 use Rattle.ix_model.specs.World.{Frame, Object, Process, put, lowest_free, is_dir, no_claims}
 use Rattle.ix_model.specs.Outcomes.{Row}
 use Rattle.ix_model.specs.Rows.{◌>>=◌, ◌>>◌, pass, need, some, frame, caller, object, change_process, change_object, put_object, put_open, observe, affect}
-use Rattle.ix_model.specs.Walks.{walked_to, there, spot, vacant, found, found_in, missing}
+use Rattle.ix_model.specs.Walks.{walked_to, there, vacant, found, found_in, missing}
 use Rattle.ix_model.specs.Lifetimes.{let_go_object}
 use Rattle.ix_model.specs.declared.call.Mode.{Mode}
 use Rattle.ix_model.specs.declared.refusal.Refusal.TheVariants as refusal

@@ -1,10 +1,9 @@
 -- The opening world: what a config describes.
-use Rattle.std.specs.Prelude.{ℕ, suc, ◌+◌, ◌-◌, false, List, [], ◌∷◌, ◌++◌, length, map, sum, take, drop, replicate, Option, Some, None, if◌then◌else◌, slice_index_or, slice_set, unwrap_or}
+use Rattle.std.specs.Prelude.{ℕ, suc, ◌+◌, ◌-◌, false, List, [], ◌∷◌, ◌++◌, length, map, drop, replicate, Option, Some, None, if◌then◌else◌, slice_set, unwrap_or}
 use Rattle.std.specs.Option.{option_map_or}
-use Rattle.std.proofs.Common.{option_map}
 use Rattle.ix_label.specs.Category.{bottom}
 use Rattle.ix_model.specs.Privs.{no_privileges}
-use Rattle.ix_model.specs.World.{World, Frame, Object, Process, at, put, change, lowest_free, no_claims}
+use Rattle.ix_model.specs.World.{World, Object, Process, put, change, no_claims}
 use Rattle.ix_model.specs.Naming.{last_name}
 use Rattle.ix_model.specs.Numbers.{first_inode, free_inode}
 use Rattle.ix_model.specs.Walks.{node, child}

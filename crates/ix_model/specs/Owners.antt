@@ -1,8 +1,8 @@
 -- Who names an object, and who has an open entry.
-use Rattle.std.specs.Prelude.{ℕ, ◌==◌, nat_lt, Bool, false, not, ◌&&◌, List, length, map, sum, count_by, Option, None, Some}
+use Rattle.std.specs.Prelude.{ℕ, ◌==◌, Bool, false, not, ◌&&◌, List, length, map, sum, count_by, Option, None, Some}
 use Rattle.std.specs.Option.{option_map_or}
 use Rattle.std.specs.List.{list_any}
-use Rattle.ix_model.specs.World.{Frame, Object, Process, Open, at, is_on}
+use Rattle.ix_model.specs.World.{Frame, Object, Process, at, is_on}
 
 -- how often a directory's list names an object, and how often all of them do
 abbrev pub times_in : ℕ → Option Object → ℕ

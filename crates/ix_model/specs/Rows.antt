@@ -1,5 +1,5 @@
 -- The words that the rows of the call table are written in: tests, and changes, in order.
-use Rattle.std.specs.Prelude.{ℕ, Bool, true, false, not, List, [], ◌∷◌, ◌++◌, Option, Some, None}
+use Rattle.std.specs.Prelude.{ℕ, Bool, true, false, not, [], ◌∷◌, ◌++◌, Option, Some, None}
 use Rattle.ix_label.specs.Category.{Categories, join, leq, same}
 use Rattle.ix_model.specs.World.{Object, Process, Open, Frame, at, put, change, living, ceiling_of}
 use Rattle.ix_model.specs.Outcomes.{Outcome, Refuse, Pass, Row}

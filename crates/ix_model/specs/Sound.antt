@@ -1,9 +1,8 @@
 -- What holds in every world that is reached.
-use Rattle.std.specs.Prelude.{◌≡◌, ℕ, ◌+◌, ◌<◌, ◌≤◌, ◌==◌, Bool, true, false, not, ◌&&◌, ◌||◌, List, [], length, map, sum, count_by, Option, Some, None, is_some, is_none, if◌then◌else◌}
+use Rattle.std.specs.Prelude.{◌≡◌, ℕ, ◌+◌, ◌<◌, ◌≤◌, ◌==◌, true, false, not, ◌&&◌, ◌||◌, [], length, map, count_by, Some, None, is_some, is_none, if◌then◌else◌}
 use Rattle.std.specs.Option.{option_map_or}
-use Rattle.std.specs.List.{list_any}
 use Rattle.ix_label.specs.Category.{leq}
-use Rattle.ix_model.specs.World.{World, Frame, Object, Process, Open, at, living, lives, is_file, is_dir, is_pipe, is_on, held, ceiling_of}
+use Rattle.ix_model.specs.World.{World, Frame, Object, Process, Open, at, living, lives, is_file, is_dir, is_pipe, held, ceiling_of}
 use Rattle.ix_model.specs.Contents.{holding_of, offset_of}
 use Rattle.ix_model.specs.Telling.{blocks_where, blocks_on, lies_on}
 use Rattle.ix_model.specs.Numbers.{first_inode, inodes_of}

@@ -1,10 +1,8 @@
 -- Whole paths: pipes of which both ends are claimed, and what they hold.
-use Rattle.std.specs.Prelude.{◌≡◌, ℕ, suc, ◌-◌, ◌==◌, ◌&&◌, Bool, true, false, List, [], ◌∷◌, ◌++◌, length, drop, Option, Some, None, if◌then◌else◌}
-use Rattle.std.specs.Option.{option_map_or}
+use Rattle.std.specs.Prelude.{◌≡◌, ℕ, suc, ◌-◌, ◌==◌, ◌&&◌, Bool, false, List, [], ◌∷◌, ◌++◌, Option, Some, None, if◌then◌else◌}
 use Rattle.ix_model.specs.World.{World, Frame}
 use Rattle.ix_model.specs.Walks.{Behind, behind}
-use Rattle.ix_model.specs.Contents.{holding_of, side}
-use Rattle.ix_model.specs.Step.{Given, step_of, run, is_whole}
+use Rattle.ix_model.specs.Step.{step_of}
 use Rattle.ix_model.specs.History.{Op, Event}
 use Rattle.ix_model.specs.History as op
 use Rattle.ix_model.specs.declared.reply.Reply.{Reply}

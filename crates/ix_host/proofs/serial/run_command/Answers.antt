@@ -23,7 +23,7 @@ returns-clause-text g c =
     let same : e0 ≡ e1 = λ i. record { seat = 0; line = c.args.command.now.line; pid = c.args.command.now.pid.0; op = same_op i } in
     let given = c.in-Given.ensures.step in
     let place : c.len.result ≡ length old.events + 1 = c.len.ensures.len ∙ ap (λ (h : History). length h.events) given.0 ∙ length-append old.events (e0 ∷ []) in
-    let are : AreShown c.in-Given.reply (next old e0).bytes = subst (λ (r : Reply). AreShown r (next old e0).bytes) (sym given.1) (shown_step (world_of old) (length old.events + 1) c.args.command.now.pid.0 (op_of c.call_of.result) c.call_of.ensures.built) in
+    let are : AreShown c.in-Given.reply (next old e0).bytes = subst (λ (r : Reply). AreShown r (next old e0).bytes) (sym given.1) (shown_step (world_of old) (length old.events + 1) c.args.command.now.pid.0 (op_of c.call_of.result)) in
     let reply : c.in-Given.reply ≡ (next old e1).reply = given.1 ∙ ap (λ e. (next old e).reply) same in
     let bytes : take c.count_in.result c.step.new.buf ≡ (next old e1).bytes =
     ap (λ n. take n c.step.new.buf) c.count_in.ensures ∙ shown_is c.in-Given.reply c.step.new.buf (next old e0).bytes c.in-Given.ensures.shown are ∙ ap (λ e. (next old e).bytes) same in

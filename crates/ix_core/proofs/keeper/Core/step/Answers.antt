@@ -34,4 +34,4 @@ returns-in-Ok-call-clause-shown g c =
     let said : c.in-Ok-call.reply ≡ (next h e).reply = c.in-Ok-call.ensures.1 ∙ ap (λ (x : Given). x.reply) is in
     let put = c.in-Ok-call.ensures.2 ∙ ap (λ (x : Given). put_front x.bytes c.args.buf.now) is in
     shows c.in-Ok-call.reply (next h e).bytes c.args.buf.now c.call.new.buf
-    (subst (λ (r : Reply). AreShown r (next h e).bytes) (sym said) (shown_step (world_of h) (length h.events + 1) c.args.pid.0 (op_of c.args.call.now) c.requires.built)) put
+    (subst (λ (r : Reply). AreShown r (next h e).bytes) (sym said) (shown_step (world_of h) (length h.events + 1) c.args.pid.0 (op_of c.args.call.now))) put
