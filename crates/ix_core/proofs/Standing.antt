@@ -21,7 +21,7 @@ use Rattle.ix_model.proofs.Openings.{clean_opening}
 use Rattle.ix_model.proofs.Cleaning.{clean_step}
 use Rattle.ix_model.proofs.Reaching.{opening_counts, sound_reached}
 use Rattle.ix_model.proofs.Runs.{world_of-none, world_of-push}
-use Rattle.ix_model.proofs.ObjectTable.{long_step}
+use Rattle.ix_model.proofs.Fixed.{fixed_step}
 use Rattle.ix_model.proofs.BuiltCalls.{built_step}
 use Rattle.ix_core.specs.Stepping.{StandsFor, Shows}
 
@@ -48,7 +48,7 @@ built_more (x ∷ es) e h k =
 
 pub stands_next : (w v : World) (h : History) (e : Event) → StandsFor w h → is_built e.op ≡ true → length h.events < 6800000 → v ≡ (step w (length h.events + 1) e.pid e.op).world → StandsFor v (with_entry h e)
 stands_next w v h e s built few is =
-    let long = long_step w (length h.events + 1) e.pid e.op in
+    let fixed = fixed_step w (length h.events + 1) e.pid e.op in
     let modest = built_step w (length h.events + 1) e.pid e.op built in
     record {
       run = is ∙ ap (λ (u : World). (step u (length h.events + 1) e.pid e.op).world) s.run ∙ sym (world_of-push h e);
@@ -57,7 +57,7 @@ stands_next w v h e s built few is =
       flat = s.flat;
       built = built_more h.events e s.built built;
       few = omega (arith, length-append h.events (e ∷ []));
-      objects = subst (λ (u : World). length u.frame.objects ≤ 66560) (sym is) (omega (arith, long, s.objects));
+      objects = subst (λ (u : World). length u.frame.objects ≤ 66560) (sym is) (omega (arith, fixed.objects, s.objects));
       processes = subst (λ (u : World). length u.frame.processes ≤ 1025) (sym is) (omega (arith, modest.processes, s.processes));
       log = subst (λ (u : World). u.frame.log ≡ []) (sym is) (modest.log ∙ s.log);
     }

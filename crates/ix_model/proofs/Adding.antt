@@ -1,12 +1,12 @@
 -- The rows that add descriptors and open entries leave a sound frame.
-use Rattle.std.proofs.Common.{◌≡◌, ◌≢◌, ◌<◌, ◌==◌, ◌&&◌, ◌||◌, ℕ, Bool, true, false, true≢false, not, List, length, length-set, Option, Some, None, is_some, option_map, refl, sym, ap, ◌∙◌, subst, arith, inl, inr}
+use Rattle.std.proofs.Common.{◌≡◌, ◌≢◌, ◌<◌, ◌==◌, ◌&&◌, ◌||◌, ℕ, true, false, true≢false, not, List, length, length-set, Option, Some, None, is_some, refl, sym, ap, ◌∙◌, subst, arith, inl, inr}
 use Rattle.std.specs.Option.{option_map_or}
 use Rattle.std.proofs.lemmas.Bool.{or_left, and_from, eq-eqb}
 use Rattle.std.proofs.lemmas.Bool.Decides.{eqb_tells}
 use Rattle.std.proofs.lemmas.List.{get_or-set_same, get_or-set_other}
 use Rattle.ix_label.specs.Lattice.{bottom-leq}
 use Rattle.ix_model.specs.Naming.{PathOf}
-use Rattle.ix_model.specs.World.{Frame, Object, Process, Open, at, put, change, living, lowest_free, is_file, is_dir, is_pipe, held}
+use Rattle.ix_model.specs.World.{Frame, Object, Process, Open, at, put, change, living, lowest_free, is_file, is_dir, is_pipe}
 use Rattle.ix_model.specs.Numbers.{free_pipe}
 use Rattle.ix_model.specs.Owners.{times_named}
 use Rattle.ix_model.specs.OnPaths.{new_object, open_at}
@@ -15,9 +15,7 @@ use Rattle.ix_model.specs.Sound.{NamesSound, LivesSound, OpensSound}
 use Rattle.ix_model.specs.declared.call.Mode.{Mode}
 use Rattle.ix_model.specs.declared.call.Mode.TheVariants as mode
 use Rattle.ix_model.specs.declared.reply.Kind.TheVariants as kind
-use Rattle.ix_model.specs.declared.reply.Reply.{Reply}
 use Rattle.ix_model.proofs.Tables.{change_twice}
-use Rattle.ix_model.proofs.Finds.{in_table}
 use Rattle.ix_model.proofs.Standing.{behind_is}
 use Rattle.ix_model.proofs.Ends.{Ends, ends_bind, ends_then, ends_pass, ends_frame, ends_need, ends_some, ends_caller, ends_object, ends_opened, ends_put_open, ends_change_caller}
 use Rattle.ix_model.proofs.Endings.{ends_put_object}
@@ -27,7 +25,7 @@ use Rattle.ix_model.proofs.SameKinds.{kinds_itself, kinds_new}
 use Rattle.ix_model.proofs.Frames.{FrameSound, Follows, follows_itself}
 use Rattle.ix_model.proofs.Steadily.{follows_found}
 use Rattle.ix_model.proofs.Logging.{Refused, Passed, ends_next}
-use Rattle.ix_model.proofs.Given.{OpensBut, opens_but, or_more, either_more, entered, held_more, held_here, lives_entered, opens_entered, claims_entered, limits_entered, given, processes_put_fd, limits_put_fd, given_lives, opens_given, claims_given}
+use Rattle.ix_model.proofs.Given.{opens_but, or_more, either_more, entered, held_more, held_here, lives_entered, opens_entered, claims_entered, limits_entered, given, processes_put_fd, limits_put_fd, given_lives, opens_given, claims_given}
 use Rattle.ix_model.proofs.Awaiting.{IsNew, Awaiting, awaiting, awaiting_new, names_all}
 
 -- ---- one descriptor more

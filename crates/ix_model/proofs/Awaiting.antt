@@ -1,15 +1,15 @@
 -- Frames that are sound but for one object, which has come or is about to go; and a new object.
-use Rattle.std.proofs.Common.{◌≡◌, ◌≢◌, ◌<◌, ◌≤◌, ◌+◌, ◌==◌, ℕ, zero, suc, Bool, true, false, true≢false, not, ◌&&◌, ◌||◌, List, [], map, sum, length, count_by, Option, Some, None, is_none, if◌then◌else◌, refl, sym, ap, ◌∙◌, subst, arith, inl, inr, length-set}
+use Rattle.std.proofs.Common.{◌≡◌, ◌≢◌, ◌<◌, ◌≤◌, ◌+◌, ◌==◌, ℕ, zero, suc, Bool, true, false, true≢false, not, ◌&&◌, ◌||◌, [], map, sum, length, count_by, Option, Some, None, is_none, if◌then◌else◌, refl, sym, ap, ◌∙◌, subst, arith, inl, inr, length-set}
 use Rattle.std.specs.Option.{option_map_or}
 use Rattle.std.proofs.lemmas.Bool.Decides.{eqb_tells}
-use Rattle.std.proofs.lemmas.List.{get_or-set_same, get_or-set_other}
+use Rattle.std.proofs.lemmas.List.{get_or-set_other}
 use Rattle.ix_label.specs.Category.{leq}
-use Rattle.ix_model.specs.World.{Frame, Object, Process, Open, at, put, is_file, is_dir, is_pipe, held, living, ceiling_of, no_claims}
+use Rattle.ix_model.specs.World.{Frame, Object, at, put, is_file, is_dir, is_pipe, held, ceiling_of, no_claims}
 use Rattle.ix_model.specs.Numbers.{first_inode, inodes_of}
 use Rattle.ix_model.specs.Owners.{times_in, times_named, names_in_all}
 use Rattle.ix_model.specs.Valid.{all_differ}
 use Rattle.ix_model.specs.Sound.{LabelsBelow, NamesSound, LivesSound, OpensSound, ProcessesSound, ClaimsSound, WithinLimits}
-use Rattle.ix_model.proofs.Finds.{at_put, passes_some, sum_put}
+use Rattle.ix_model.proofs.Finds.{at_put, sum_put}
 use Rattle.ix_model.proofs.Frames.{FrameSound}
 use Rattle.ix_model.proofs.Labels.{labels_put_object}
 

@@ -1,9 +1,9 @@
 -- The lengths of what is carried over.
-use Rattle.std.proofs.Common.{◌≡◌, ◌≤◌, ◌+◌, ◌==◌, ◌&&◌, ℕ, zero, suc, Bool, true, false, true≢false, List, [], ◌∷◌, length, map, Option, Some, None, is_some, if◌then◌else◌, refl, sym, ap, ◌∙◌, subst, arith, get_or}
+use Rattle.std.proofs.Common.{◌≡◌, ◌≤◌, ◌+◌, ◌==◌, ◌&&◌, ℕ, suc, Bool, true, false, true≢false, List, [], ◌∷◌, length, map, Option, Some, None, is_some, if◌then◌else◌, refl, sym, ap, ◌∙◌, subst, arith, get_or}
 use Rattle.std.specs.Option.{option_map_or}
 use Rattle.std.proofs.lemmas.Bool.{and_parts}
-use Rattle.ix_model.specs.World.{World, Frame, Content, Object, Process, Holding, at, is_pipe, is_ended}
-use Rattle.ix_model.specs.Contents.{keep, carried, holding_of, holds_nothing}
+use Rattle.ix_model.specs.World.{World, Frame, Object, Holding, at, is_ended}
+use Rattle.ix_model.specs.Contents.{keep, carried, holds_nothing}
 use Rattle.ix_model.specs.Telling.{blocks_for, blocks_where, blocks_on, lies_on}
 use Rattle.ix_model.specs.Clean.{IsClean}
 use Rattle.ix_model.specs.Sound.{LengthsSound}

@@ -1,19 +1,17 @@
 -- Who claims an end: a claimant has a descriptor on it. The claims of one object change, and all else stays.
-use Rattle.std.proofs.Common.{◌≡◌, ◌≢◌, ◌==◌, ◌&&◌, ℕ, Bool, true, false, true≢false, not, List, map, Option, Some, None, option_map, refl, sym, ap, ◌∙◌, subst, inl, inr, if◌then◌else◌}
+use Rattle.std.proofs.Common.{◌≡◌, ◌==◌, ◌&&◌, ℕ, true, false, not, map, Option, Some, None, option_map, refl, sym, ap, ◌∙◌, subst, inl, inr}
 use Rattle.std.specs.Option.{option_map_or}
 use Rattle.std.specs.List.{list_any}
-use Rattle.std.proofs.lemmas.Bool.{and_from, and_parts, eq-eqb, not-true}
+use Rattle.std.proofs.lemmas.Bool.{and_from, eq-eqb}
 use Rattle.ix_label.specs.Category.{leq, top}
 use Rattle.ix_model.specs.World.{Frame, Object, Process, Open, at, put, change, living, is_on}
 use Rattle.ix_model.specs.Owners.{is_claimant}
 use Rattle.ix_model.specs.Walks.{Behind, behind, behind_of, entry_at}
 use Rattle.ix_model.specs.OnDescriptors.{claimed, pex, unpex}
-use Rattle.ix_model.specs.Rows.{change_object, pass}
-use Rattle.ix_model.specs.declared.refusal.Refusal.{Refusal}
 use Rattle.ix_model.specs.declared.reply.Reply.{Reply}
 use Rattle.ix_model.proofs.Finds.{at_put, at_change, any_by}
 use Rattle.ix_model.proofs.Living.{is_living, not_ended}
-use Rattle.ix_model.proofs.Keeps.{Holds, keeps_claimed}
+use Rattle.ix_model.proofs.Keeps.{keeps_claimed}
 use Rattle.ix_model.proofs.Ends.{Ends, ends_kept, ends_bind, ends_then, ends_pass, ends_need, ends_object, ends_opened, ends_change_object}
 use Rattle.ix_model.proofs.Labels.{labels_object}
 use Rattle.ix_model.proofs.Floats.{object_but, floats_itself, floats_object}

@@ -1,26 +1,24 @@
 -- CloseFd and Exit leave a sound frame.
-use Rattle.std.proofs.Common.{◌≡◌, ◌≢◌, ◌<◌, ◌+◌, ◌==◌, ◌&&◌, ◌||◌, ℕ, Bool, true, false, true≢false, not, List, [], ◌∷◌, length, Option, Some, None, is_some, option_map, if◌then◌else◌, get_or, refl, sym, ap, ◌∙◌, subst, arith, inl, inr}
+use Rattle.std.proofs.Common.{◌≡◌, ◌<◌, ◌==◌, ◌&&◌, ℕ, Bool, true, false, true≢false, not, List, [], ◌∷◌, length, Option, Some, None, is_some, option_map, if◌then◌else◌, get_or, refl, sym, ap, ◌∙◌, subst, arith, inl, inr}
 use Rattle.std.specs.Option.{option_map_or, option_and_then}
 use Rattle.std.specs.List.{list_any, range_with_len}
 use Rattle.std.proofs.lemmas.Bool.{or_cases, and_parts, not-true, eqb-true, eq-eqb}
 use Rattle.std.proofs.lemmas.List.Folds.{list_any_at}
 use Rattle.std.proofs.lemmas.List.FromFn.{get_or-range_with_len, length-range_with_len}
 use Rattle.ix_label.specs.Category.{leq}
-use Rattle.ix_model.specs.World.{Frame, Process, Open, at, put, change, living, lives, is_on}
-use Rattle.ix_model.specs.Owners.{is_at, owns}
-use Rattle.ix_model.specs.Rows.{◌>>◌, pass}
+use Rattle.ix_model.specs.World.{Frame, Process, at, put, change, living, lives, is_on}
+use Rattle.ix_model.specs.Owners.{is_at}
+use Rattle.ix_model.specs.Rows.{pass}
 use Rattle.ix_model.specs.Walks.{Behind, behind, behind_of, entry_at}
 use Rattle.ix_model.specs.Lifetimes.{let_go, let_go_if_held, let_go_each, let_go_all}
 use Rattle.ix_model.specs.OnDescriptors.{close_fd}
 use Rattle.ix_model.specs.OnProcesses.{is_child, remains, end_process, exit}
 use Rattle.ix_model.specs.declared.refusal.Refusal.{Refusal}
-use Rattle.ix_model.specs.declared.reply.Reply.{Reply}
 use Rattle.ix_model.proofs.Tables.{at_changed}
 use Rattle.ix_model.proofs.Finds.{at_put, at_change, any_at, in_table, no_any, passes_some}
 use Rattle.ix_model.proofs.Living.{is_living, not_ended, lives_as}
 use Rattle.ix_model.proofs.Ends.{Ends, ends_bind, ends_then, ends_pass, ends_frame, ends_need, ends_opened}
 use Rattle.ix_model.proofs.Endings.{ends_put_process}
-use Rattle.ix_model.proofs.Floated.{has_on}
 use Rattle.ix_model.proofs.Frames.{FrameSound, Follows, follows_itself}
 use Rattle.ix_model.proofs.Logging.{Refused, Passed}
 use Rattle.ix_model.proofs.Releasing.{descriptor_released}

@@ -1,10 +1,10 @@
 -- What a put leaves at each number, where a test over a table passes, and sums over tables.
-use Rattle.std.proofs.Common.{◌≡◌, ◌≢◌, ◌<◌, ◌≤◌, ◌+◌, ℕ, zero, suc, Bool, true, false, true≢false, List, [], ◌∷◌, ◌++◌, map, length, sum, Option, Some, None, option_map, refl, sym, ap, ◌∙◌, subst, arith, ◌⊎◌, inl, inr, ◌||◌}
+use Rattle.std.proofs.Common.{◌≡◌, ◌≢◌, ◌<◌, ◌≤◌, ◌+◌, ℕ, zero, suc, Bool, true, false, true≢false, List, [], ◌∷◌, ◌++◌, map, length, sum, Option, Some, None, option_map, refl, sym, ap, ◌∙◌, arith, ◌⊎◌, inl, inr}
 use Rattle.std.specs.List.{list_any}
 use Rattle.std.proofs.lemmas.Bool.{or_cases, or_left, or_right, cases_lt}
 use Rattle.std.proofs.lemmas.Bool.Decides.{eqb_tells}
-use Rattle.std.proofs.lemmas.List.{get_or-set_same, get_or-set_other, get_or_past, set_past}
-use Rattle.std.proofs.lemmas.List.Sums.{sum-map, sum_by-set, sum_by-cons, get_or-le-sum_by, sum_by_push}
+use Rattle.std.proofs.lemmas.List.{get_or-set_other, get_or_past}
+use Rattle.std.proofs.lemmas.List.Sums.{sum-map, sum_by-set, sum_by-cons, get_or-le-sum_by}
 use Rattle.ix_model.specs.World.{at, put, change}
 
 -- ---- one put
@@ -99,7 +99,6 @@ module _ {A : Type 0} (F : Option A → ℕ) where
     | inl low ↦ let one = sum-map F t in omega (arith, one, get_or-le-sum_by F t n None low)
     | inr high ↦ let e : F (at t n) ≡ 0 = ap F (get_or_past t n None high) ∙ none in omega (arith, e)
   ]
-
 
 -- a sum of nothings
 pub sum_zero : {A : Type 0} (F : Option A → ℕ) (t : List (Option A)) → ((n : ℕ) → F (at t n) ≡ 0) → sum (map F t) ≡ 0

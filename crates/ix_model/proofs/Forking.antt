@@ -1,12 +1,11 @@
 -- A fork leaves a sound frame.
-use Rattle.std.proofs.Common.{◌≡◌, ◌<◌, ◌≤◌, ◌+◌, ◌==◌, ◌&&◌, ℕ, Bool, true, false, true≢false, not, nat_lt, List, [], ◌∷◌, ◌++◌, length, replicate, sum, map, count_by, cond, Option, Some, None, is_some, refl, sym, ap, ◌∙◌, subst, arith, inl, inr, length-set}
+use Rattle.std.proofs.Common.{◌≡◌, ◌<◌, ◌+◌, ℕ, Bool, true, false, true≢false, not, nat_lt, List, [], ◌∷◌, ◌++◌, length, replicate, count_by, cond, Option, Some, None, is_some, refl, sym, ap, ◌∙◌, arith, inl, inr, length-set}
 use Rattle.std.specs.Option.{option_map_or}
-use Rattle.std.specs.List.{list_any}
 use Rattle.std.proofs.lemmas.Bool.{ltb-true}
 use Rattle.std.proofs.lemmas.List.{get_or_append_left, length-replicate}
 use Rattle.std.proofs.lemmas.List.Sums.{sum_by_push}
-use Rattle.ix_model.specs.World.{Frame, Process, at, put, living, lives, is_dir}
-use Rattle.ix_model.specs.Owners.{owns, owned}
+use Rattle.ix_model.specs.World.{Frame, Process, at, living, lives, is_dir}
+use Rattle.ix_model.specs.Owners.{owns}
 use Rattle.ix_model.specs.OnProcesses.{kept_fds, fork}
 use Rattle.ix_model.specs.declared.call.Keep.{Keep}
 use Rattle.ix_model.specs.declared.call.Keep.TheVariants as keep
@@ -17,7 +16,7 @@ use Rattle.ix_model.proofs.Ends.{Ends, ends_bind, ends_then, ends_pass, ends_fra
 use Rattle.ix_model.proofs.Endings.{ends_add_process}
 use Rattle.ix_model.proofs.Labels.{labels_add_process}
 use Rattle.ix_model.proofs.Floated.{has_on}
-use Rattle.ix_model.proofs.Frames.{FrameSound, Follows, follows_itself}
+use Rattle.ix_model.proofs.Frames.{FrameSound, follows_itself}
 use Rattle.ix_model.proofs.Logging.{Refused, Passed}
 
 -- ---- the child's descriptors

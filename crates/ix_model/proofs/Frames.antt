@@ -1,12 +1,10 @@
 -- Sound frames: all that is said of a sound world but its lengths. What a frame that is one but for labels and the like keeps.
-use Rattle.std.proofs.Common.{◌≡◌, ◌≤◌, ℕ, List, Option, Some, option_map, true, refl, ap, ◌∙◌, length}
-use Rattle.std.specs.Option.{option_map_or}
-use Rattle.ix_label.specs.Category.{Categories, leq, join}
-use Rattle.ix_model.specs.World.{World, Frame, Content, Object, Process, at, change, living, is_dir, ceiling_of}
+use Rattle.std.proofs.Common.{◌≡◌, ◌≤◌, ℕ, List, Some, option_map, true, refl, ap, ◌∙◌, length}
+use Rattle.ix_label.specs.Category.{Categories, leq}
+use Rattle.ix_model.specs.World.{World, Frame, Content, Object, Process, at, change, ceiling_of}
 use Rattle.ix_model.specs.Rows.{change_object, change_process, observe, affect}
 use Rattle.ix_model.specs.Sound.{LabelsBelow, NamesSound, LivesSound, OpensSound, ProcessesSound, ClaimsSound, WithinLimits, LengthsSound, Sound}
 use Rattle.ix_model.specs.declared.config.FsSpec.{FsSpec}
-use Rattle.ix_model.specs.declared.refusal.Refusal.{Refusal}
 use Rattle.ix_model.proofs.Tables.{seen_changed}
 use Rattle.ix_model.proofs.Keeps.{Holds, Keeps}
 use Rattle.ix_model.proofs.Ends.{Ends, kept_ends}

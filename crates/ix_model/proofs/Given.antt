@@ -9,7 +9,7 @@ use Rattle.std.proofs.lemmas.List.Folds.{list_any_at}
 use Rattle.std.proofs.lemmas.List.Sums.{sum-map}
 use Rattle.ix_model.specs.World.{Frame, Process, Open, at, put, change, living, is_dir, is_pipe, is_on, held}
 use Rattle.ix_model.specs.Owners.{is_at, times_named, owns, owned}
-use Rattle.ix_model.specs.Sound.{NamesSound, LivesSound, OpensSound, ProcessesSound, ClaimsSound, WithinLimits}
+use Rattle.ix_model.specs.Sound.{LivesSound, OpensSound, ProcessesSound, ClaimsSound, WithinLimits}
 use Rattle.ix_model.proofs.Tables.{none_is, SameBut, Back, back, same_itself, same_changed, seen_changed, map_changed, at_changed, any_put, any_more}
 use Rattle.ix_model.proofs.Finds.{in_table}
 use Rattle.ix_model.proofs.Lasts.{some_put}

@@ -1,15 +1,12 @@
 -- An object goes.
-use Rattle.std.proofs.Common.{◌≡◌, ◌≢◌, ◌<◌, ◌≤◌, ◌+◌, ◌==◌, ℕ, zero, suc, Bool, true, false, true≢false, not, ◌&&◌, ◌||◌, List, [], ◌∷◌, map, sum, length, count_by, Option, Some, None, is_none, if◌then◌else◌, refl, sym, ap, ◌∙◌, subst, arith, ◌⊎◌, inl, inr, length-set}
+use Rattle.std.proofs.Common.{◌≡◌, ◌≢◌, ◌<◌, ◌==◌, ℕ, Bool, true, false, true≢false, not, ◌&&◌, ◌||◌, List, [], map, sum, length, count_by, Option, Some, None, refl, sym, ap, ◌∙◌, arith, ◌⊎◌, inl, inr, length-set}
 use Rattle.std.specs.Option.{option_map_or}
-use Rattle.std.specs.List.{list_any}
-use Rattle.std.proofs.lemmas.Bool.{and_from, or_parts, or_left, or_right, or_cases, and_parts, not-true, not-false, eqb-true, eq-eqb, ne_eqb, cases_Bool, cases_lt}
-use Rattle.std.proofs.lemmas.Bool.Decides.{eqb_tells}
+use Rattle.std.proofs.lemmas.Bool.{and_from, or_parts, or_cases, and_parts, not-true, not-false, eqb-true, eq-eqb, cases_lt}
 use Rattle.std.proofs.lemmas.List.{get_or-set_other}
 use Rattle.ix_model.specs.World.{Frame, Object, Process, Open, at, put, is_file, is_dir, is_pipe, is_on, held, living}
 use Rattle.ix_model.specs.Owners.{times_in, times_named, names_in_all}
-use Rattle.ix_model.specs.Rows.{put_object, only_if}
+use Rattle.ix_model.specs.Rows.{put_object}
 use Rattle.ix_model.specs.Lifetimes.{stays, let_go_object}
-use Rattle.ix_model.specs.Sound.{LabelsBelow, NamesSound, LivesSound, OpensSound, ProcessesSound, ClaimsSound, WithinLimits}
 use Rattle.ix_model.specs.declared.refusal.Refusal.{Refusal}
 use Rattle.ix_model.specs.declared.reply.Kind.{Kind}
 use Rattle.ix_model.specs.declared.reply.Kind.TheVariants as kind

@@ -1,5 +1,5 @@
 -- Labels below their ceilings: what each change of a table leaves.
-use Rattle.std.proofs.Common.{◌≡◌, ℕ, Bool, true, List, Option, Some, None, ◌++◌, [], ◌∷◌, refl, sym, ap, ◌∙◌, subst, inl, inr}
+use Rattle.std.proofs.Common.{◌≡◌, ℕ, true, Option, Some, ◌++◌, [], ◌∷◌, sym, ◌∙◌, subst, inl, inr}
 use Rattle.ix_label.specs.Category.{Categories, join, leq}
 use Rattle.ix_model.specs.World.{Frame, Object, Process, at, put, change, living, ceiling_of}
 use Rattle.ix_model.specs.Sound.{LabelsBelow}

@@ -1,5 +1,5 @@
 -- The rows that log, that set labels and ceilings, and that move a process leave a sound frame.
-use Rattle.std.proofs.Common.{◌≡◌, ◌≤◌, ◌+◌, ℕ, Bool, true, false, true≢false, not, nat_lt, List, [], ◌∷◌, ◌++◌, Option, Some, None, length, length-append, refl, sym, ap, ◌∙◌, subst, arith, inl, inr}
+use Rattle.std.proofs.Common.{◌≡◌, ℕ, Bool, true, false, true≢false, not, nat_lt, [], ◌∷◌, ◌++◌, Some, length, length-append, refl, sym, ap, ◌∙◌, subst, arith, inl, inr}
 use Rattle.std.specs.Option.{option_map_or}
 use Rattle.std.proofs.lemmas.Bool.{ltb-true, not-false}
 use Rattle.ix_label.specs.Category.{Categories, leq, same}
@@ -8,7 +8,7 @@ use Rattle.ix_model.specs.Naming.{PathOf}
 use Rattle.ix_model.specs.Privs.{to_lower}
 use Rattle.ix_model.specs.World.{Frame, Object, Process, at, change, living, is_dir, ceiling_of}
 use Rattle.ix_model.specs.Outcomes.{Row, Outcome, Refuse, Pass}
-use Rattle.ix_model.specs.Rows.{◌>>◌, pass, need, change_object, change_process, caller, only_if, affect}
+use Rattle.ix_model.specs.Rows.{◌>>◌, pass, need, change_process, only_if, affect}
 use Rattle.ix_model.specs.Auditing.{entitled, log_has_room, exercise, logged, relabelling}
 use Rattle.ix_model.specs.OnPaths.{change_dir}
 use Rattle.ix_model.specs.OnLabels.{allowed, movable, set_label, set_self, thaw, thaw_self, set_priv, grant_lic, needs_to_set_ceilings, set_ceiling, read_log}
@@ -21,14 +21,14 @@ use Rattle.ix_model.specs.declared.reply.Reply.{Reply}
 use Rattle.ix_model.specs.declared.reply.Reply.TheVariants as reply
 use Rattle.ix_model.proofs.Finds.{at_change}
 use Rattle.ix_model.proofs.Living.{is_living, not_ended, lives_as}
-use Rattle.ix_model.proofs.Keeps.{Holds, Keeps, keeping}
+use Rattle.ix_model.proofs.Keeps.{Holds, Keeps}
 use Rattle.ix_model.proofs.Ends.{Ends, ending, ends_kept, kept_ends, ends_bind, ends_then, ends_pass, ends_frame, ends_need, ends_some, ends_only_if, ends_caller, ends_object, ends_change_object, ends_change_caller}
 use Rattle.ix_model.proofs.RowEnds.{ends_entitled, ends_logged}
 use Rattle.ix_model.proofs.Looks.{ends_affect}
-use Rattle.ix_model.proofs.Floats.{Floats, floats_itself, floats_process}
+use Rattle.ix_model.proofs.Floats.{floats_itself, floats_process}
 use Rattle.ix_model.proofs.Floated.{names_floated, lives_floated, opens_floated, processes_moved, claims_floated, limits_floated}
 use Rattle.ix_model.proofs.Labels.{labels_process}
-use Rattle.ix_model.proofs.Frames.{FrameSound, Follows, follows_affect, followed_object, followed_process}
+use Rattle.ix_model.proofs.Frames.{Follows, follows_affect, followed_object, followed_process}
 use Rattle.ix_model.proofs.Steadily.{follows_found}
 
 -- the log takes one line more

@@ -1,28 +1,24 @@
 -- A descriptor is given up, and with it what it alone kept.
-use Rattle.std.proofs.Common.{◌≡◌, ◌≢◌, ◌==◌, ◌&&◌, ◌||◌, ℕ, Bool, true, false, true≢false, not, List, Option, Some, None, is_some, option_map, refl, sym, ap, ◌∙◌, subst, inl, inr, length-set}
+use Rattle.std.proofs.Common.{◌≡◌, ◌==◌, ◌&&◌, ◌||◌, ℕ, Bool, true, false, not, Option, Some, None, option_map, refl, sym, ap, ◌∙◌, inl, inr}
 use Rattle.std.specs.Option.{option_map_or}
 use Rattle.std.specs.List.{list_any}
-use Rattle.std.proofs.lemmas.Bool.{and_from, and_parts, eqb-true, eq-eqb, not-true, not-false, and_cases}
+use Rattle.std.proofs.lemmas.Bool.{and_parts, eqb-true, eq-eqb, not-false}
 use Rattle.std.proofs.lemmas.Bool.Decides.{eqb_tells}
 use Rattle.std.proofs.lemmas.List.{get_or-set_other}
-use Rattle.ix_model.specs.World.{Frame, Object, Process, Open, at, put, change, living, is_dir, is_pipe, is_on, held}
-use Rattle.ix_model.specs.Owners.{times_named, is_at, owns, owned, is_claimant}
-use Rattle.ix_model.specs.Walks.{Behind, behind}
-use Rattle.ix_model.specs.Rows.{only_if, put_open, change_object}
-use Rattle.ix_model.specs.Lifetimes.{has_lost, let_go_claim, let_go_open, let_go_object, let_go}
+use Rattle.ix_model.specs.World.{Frame, Object, Process, at, put, change, is_dir, is_pipe, is_on}
+use Rattle.ix_model.specs.Owners.{is_at, owns, is_claimant}
+use Rattle.ix_model.specs.Walks.{Behind}
+use Rattle.ix_model.specs.Lifetimes.{has_lost}
 use Rattle.ix_model.specs.Sound.{LabelsBelow, NamesSound, LivesSound, ProcessesSound, ClaimsSound, WithinLimits}
-use Rattle.ix_model.specs.declared.refusal.Refusal.{Refusal}
 use Rattle.ix_model.proofs.Tables.{at_changed, seen_changed, any_put}
-use Rattle.ix_model.proofs.Finds.{at_put, at_change, any_by, any_into, no_any, passes_some, put_none}
+use Rattle.ix_model.proofs.Finds.{at_put, at_change, any_into}
 use Rattle.ix_model.proofs.Living.{is_living, not_ended, lives_as}
-use Rattle.ix_model.proofs.Ends.{Ends, ends_then, ends_only_if, ends_change_object, ends_change_caller, ends_put_open}
 use Rattle.ix_model.proofs.Labels.{labels_object, labels_process}
-use Rattle.ix_model.proofs.Floats.{Floats, object_but, floats_itself, floats_object}
+use Rattle.ix_model.proofs.Floats.{floats_itself, floats_object}
 use Rattle.ix_model.proofs.Floated.{has_on, names_floated, lives_floated, processes_floated, limits_floated}
-use Rattle.ix_model.proofs.Frames.{FrameSound, Follows}
-use Rattle.ix_model.proofs.Given.{OpensBut, and_more, either_more, or_more, processes_put_fd, limits_put_fd}
-use Rattle.ix_model.proofs.Awaiting.{LivesBut, Awaiting, awaiting, names_but}
-use Rattle.ix_model.proofs.Claimants.{IsBehind, is_behind}
+use Rattle.ix_model.proofs.Frames.{FrameSound}
+use Rattle.ix_model.proofs.Given.{OpensBut, and_more, processes_put_fd, limits_put_fd}
+use Rattle.ix_model.proofs.Claimants.{IsBehind}
 
 -- all claims but one are claimants'
 pub record ClaimsBut (pid o end : ℕ) (f : Frame) : Type 0 where

@@ -1,12 +1,12 @@
 -- The rows that make a file, a directory or a name leave a sound frame.
-use Rattle.std.proofs.Common.{◌≡◌, ◌≢◌, ◌<◌, ◌≤◌, ◌+◌, ◌==◌, ℕ, Bool, true, false, true≢false, not, nat_lt, List, [], ◌∷◌, ◌++◌, map, sum, length, count_by, Option, Some, None, is_some, is_none, if◌then◌else◌, refl, sym, ap, ◌∙◌, subst, arith, inl, inr}
+use Rattle.std.proofs.Common.{◌≡◌, ◌≢◌, ◌<◌, ◌≤◌, ◌+◌, ◌==◌, ℕ, true, false, true≢false, not, nat_lt, List, sum, length, count_by, Option, Some, None, is_none, refl, sym, ap, ◌∙◌, subst, arith, inl, inr}
 use Rattle.std.specs.Option.{option_map_or}
-use Rattle.std.proofs.lemmas.Bool.{cases_lt, not-true, eqb-true}
+use Rattle.std.proofs.lemmas.Bool.{cases_lt, not-true}
 use Rattle.std.proofs.lemmas.List.{get_or-set_same, get_or-set_other}
 use Rattle.ix_label.specs.Lattice.{bottom-leq}
 use Rattle.ix_model.specs.Naming.{PathOf, last_name}
 use Rattle.ix_model.specs.Directories.{with_name, has_room_for_a_name}
-use Rattle.ix_model.specs.World.{Frame, Object, Process, at, put, change, is_dir, is_pipe}
+use Rattle.ix_model.specs.World.{Frame, Object, at, put, change, is_dir, is_pipe}
 use Rattle.ix_model.specs.Walks.{Sought}
 use Rattle.ix_model.specs.Walks as sought
 use Rattle.ix_model.specs.Numbers.{first_inode, inodes_of, free_inode, fs_number}
@@ -14,10 +14,8 @@ use Rattle.ix_model.specs.Owners.{times_in, times_named, names_in_all}
 use Rattle.ix_model.specs.Rows.{affect}
 use Rattle.ix_model.specs.OnPaths.{new_object, make, create_at, make_dir, link_at}
 use Rattle.ix_model.specs.declared.config.FsSpec.{FsSpec}
-use Rattle.ix_model.specs.declared.refusal.Refusal.{Refusal}
 use Rattle.ix_model.specs.declared.reply.Kind.{Kind}
 use Rattle.ix_model.specs.declared.reply.Kind.TheVariants as kind
-use Rattle.ix_model.specs.declared.reply.Reply.{Reply}
 use Rattle.ix_model.proofs.Tables.{none_is, back, length_same, map_same, seen_same}
 use Rattle.ix_model.proofs.Finds.{sum_zero}
 use Rattle.ix_model.proofs.There.{child_named}
@@ -30,7 +28,7 @@ use Rattle.ix_model.proofs.SameKinds.{kinds_new, kinds_change}
 use Rattle.ix_model.proofs.Frames.{FrameSound, Follows, follows_itself, follows_affect}
 use Rattle.ix_model.proofs.Logging.{Refused, Passed, holds_both}
 use Rattle.ix_model.proofs.Walked.{Within, Leads, Along, along_itself, within_on, leads_walked_to, leads_there, leads_vacant, leads_missing}
-use Rattle.ix_model.proofs.Awaiting.{IsNew, Awaiting, awaiting, awaiting_new, times_new, names_in_new}
+use Rattle.ix_model.proofs.Awaiting.{IsNew, awaiting, awaiting_new, times_new, names_in_new}
 use Rattle.ix_model.proofs.Named.{named_sound}
 
 -- ---- room for a name

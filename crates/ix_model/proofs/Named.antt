@@ -1,21 +1,20 @@
 -- A name more, and a name fewer, in one directory.
-use Rattle.std.proofs.Common.{◌≡◌, ◌≢◌, ◌<◌, ◌≤◌, ◌+◌, ◌==◌, ℕ, Bool, true, false, true≢false, not, ◌&&◌, ◌||◌, List, [], ◌∷◌, ◌++◌, map, sum, length, count_by, find, cond, nat_lt, Option, Some, None, is_some, is_none, option_map, if◌then◌else◌, refl, sym, ap, ◌∙◌, subst, arith, inl, inr, length-set, length-append}
+use Rattle.std.proofs.Common.{◌≡◌, ◌≢◌, ◌<◌, ◌≤◌, ◌+◌, ◌==◌, ℕ, Bool, true, false, true≢false, not, ◌&&◌, ◌||◌, List, [], ◌∷◌, ◌++◌, map, sum, length, count_by, cond, Option, Some, None, is_none, option_map, if◌then◌else◌, refl, sym, ap, ◌∙◌, subst, arith, inl, inr, length-set, length-append}
 use Rattle.std.specs.Option.{option_map_or}
 use Rattle.std.proofs.lemmas.Bool.Decides.{eqb_tells}
 use Rattle.std.proofs.lemmas.Bool.{ltb-true, ne_eqb, eq-eqb}
-use Rattle.ix_model.specs.Naming.{same_bytes}
 use Rattle.ix_model.specs.Directories.{with_name, without_name, has_room_for_a_name}
-use Rattle.ix_model.specs.World.{Frame, Object, Process, Open, at, change, is_file, is_dir, is_pipe, held}
+use Rattle.ix_model.specs.World.{Frame, Object, at, change, is_file, is_dir, is_pipe, held}
 use Rattle.ix_model.specs.Walks.{child}
 use Rattle.ix_model.specs.Owners.{times_in, times_named, names_in_all}
 use Rattle.ix_model.specs.Valid.{all_differ}
-use Rattle.ix_model.specs.Sound.{LabelsBelow, OpensSound, ProcessesSound, ClaimsSound, WithinLimits}
+use Rattle.ix_model.specs.Sound.{OpensSound, ProcessesSound, ClaimsSound, WithinLimits}
 use Rattle.ix_model.proofs.Tables.{seen_changed}
 use Rattle.ix_model.proofs.Finds.{in_table, at_change, sum_put}
 use Rattle.ix_model.proofs.Labels.{labels_object}
 use Rattle.ix_model.proofs.Frames.{FrameSound}
 use Rattle.ix_model.proofs.Listed.{Names, count_more, differ_more, others, count_out, differ_fewer, length_fewer}
-use Rattle.ix_model.proofs.Awaiting.{NamesBut, LivesBut, Awaiting, Arrived, arrived}
+use Rattle.ix_model.proofs.Awaiting.{NamesBut, LivesBut, Awaiting, arrived}
 
 -- an object with other names
 abbrev pub renaming : (Names → Names) → Object → Object

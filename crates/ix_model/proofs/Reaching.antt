@@ -1,7 +1,5 @@
 -- Every world that a valid config reaches is sound, and every world that is reached is clean.
 use Rattle.std.proofs.Common.{◌≡◌, ◌≤◌, ℕ, suc, true, List, [], ◌∷◌, length, replicate, Some, refl, sym, ap, ◌∙◌, subst, arith}
-use Rattle.std.specs.List.{list_all}
-use Rattle.std.proofs.lemmas.Bool.{and_parts}
 use Rattle.std.proofs.lemmas.List.{length-map}
 use Rattle.ix_model.specs.World.{World}
 use Rattle.ix_model.specs.Contents.{holds_nothing}
@@ -9,7 +7,6 @@ use Rattle.ix_model.specs.Step.{step_of, run}
 use Rattle.ix_model.specs.Numbers.{first_inode}
 use Rattle.ix_model.specs.Opening.{bare_objects, bare_world, process_of, opening_world}
 use Rattle.ix_model.specs.Valid.{fs_fits, is_valid, is_flat}
-use Rattle.ix_model.specs.Calls.{is_built}
 use Rattle.ix_model.specs.Clean.{IsClean}
 use Rattle.ix_model.specs.Sound.{Sound}
 use Rattle.ix_model.specs.History.{Event}

@@ -1,5 +1,5 @@
 -- An open entry without an owner goes, and with it the object that it alone kept.
-use Rattle.std.proofs.Common.{◌≡◌, ◌≢◌, ◌==◌, ◌&&◌, ◌||◌, ℕ, Bool, true, false, true≢false, not, List, Option, Some, None, is_some, option_map, refl, sym, ap, ◌∙◌, subst, inl, inr, length-set}
+use Rattle.std.proofs.Common.{◌≡◌, ◌≢◌, ◌==◌, ℕ, true, false, not, List, Option, Some, None, is_some, refl, sym, ap, ◌∙◌, inl, inr, length-set}
 use Rattle.std.specs.Option.{option_map_or}
 use Rattle.std.specs.List.{list_any}
 use Rattle.std.proofs.lemmas.Bool.{and_from, and_parts, eq-eqb, eqb-true, not-true, not-false}
@@ -8,21 +8,21 @@ use Rattle.std.proofs.lemmas.List.{get_or-set_other}
 use Rattle.ix_model.specs.World.{Frame, Object, Process, Open, at, put, change, living, is_dir, is_on, held}
 use Rattle.ix_model.specs.Owners.{times_named, is_at, owns, owned}
 use Rattle.ix_model.specs.Walks.{Behind, behind}
-use Rattle.ix_model.specs.Rows.{◌>>◌, only_if, put_open, change_object}
+use Rattle.ix_model.specs.Rows.{◌>>◌, put_open}
 use Rattle.ix_model.specs.Lifetimes.{has_lost, let_go_claim, let_go_open, let_go_object, let_go}
 use Rattle.ix_model.specs.declared.refusal.Refusal.{Refusal}
 use Rattle.ix_model.proofs.Tables.{seen_changed}
-use Rattle.ix_model.proofs.Finds.{at_put, any_by, any_into, no_any, passes_some, put_none}
+use Rattle.ix_model.proofs.Finds.{at_put, any_by, any_into, no_any, passes_some}
 use Rattle.ix_model.proofs.Living.{is_living, not_ended, lives_as}
 use Rattle.ix_model.proofs.Ends.{Ends, ends_then, ends_only_if, ends_change_object, ends_change_caller, ends_put_open}
 use Rattle.ix_model.proofs.Floats.{floats_itself, floats_object}
 use Rattle.ix_model.proofs.Floated.{has_on}
 use Rattle.ix_model.proofs.SameKinds.{Kinds, kinds_floats, kinds_gone}
 use Rattle.ix_model.proofs.Frames.{FrameSound, Follows}
-use Rattle.ix_model.proofs.Given.{and_more, or_more, either_more}
+use Rattle.ix_model.proofs.Given.{or_more, either_more}
 use Rattle.ix_model.proofs.Awaiting.{Awaiting, awaiting, names_but}
 use Rattle.ix_model.proofs.Gone.{object_released}
-use Rattle.ix_model.proofs.Claimants.{IsBehind, is_behind}
+use Rattle.ix_model.proofs.Claimants.{is_behind}
 use Rattle.ix_model.proofs.Loose.{Loose, loose_taken, loose_unclaimed, claims_kept}
 
 -- ---- the open entry

@@ -1,5 +1,5 @@
 -- A record that nothing needs is put in the place of a process, or none.
-use Rattle.std.proofs.Common.{◌≡◌, ◌≢◌, ◌<◌, ◌≤◌, ◌+◌, ◌==◌, ℕ, Bool, true, false, true≢false, not, ◌&&◌, List, map, sum, length, count_by, cond, Option, Some, None, is_some, refl, sym, ap, ◌∙◌, subst, arith, inl, inr}
+use Rattle.std.proofs.Common.{◌≡◌, ◌≢◌, ◌≤◌, ℕ, Bool, true, false, true≢false, not, ◌&&◌, List, length, cond, Option, Some, None, is_some, refl, sym, ap, ◌∙◌, arith, inl, inr}
 use Rattle.std.specs.Option.{option_map_or}
 use Rattle.std.proofs.lemmas.Bool.Decides.{eqb_tells}
 use Rattle.std.proofs.lemmas.List.{get_or-set_other}
@@ -7,7 +7,7 @@ use Rattle.std.specs.List.{list_any}
 use Rattle.std.proofs.lemmas.Bool.{and_parts}
 use Rattle.std.proofs.lemmas.List.Sums.{sum-map}
 use Rattle.std.proofs.lemmas.List.Quantifiers.{position-Some}
-use Rattle.ix_label.specs.Category.{Categories, leq}
+use Rattle.ix_label.specs.Category.{leq}
 use Rattle.ix_model.specs.World.{Frame, Process, at, put, living, lives, is_ended, is_on}
 use Rattle.ix_model.specs.Owners.{is_at, owns}
 use Rattle.ix_model.specs.Rows.{observe}

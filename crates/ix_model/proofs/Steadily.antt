@@ -1,6 +1,5 @@
 -- The rows that make and unmake nothing leave a sound frame.
 use Rattle.std.proofs.Common.{ℕ}
-use Rattle.ix_label.specs.Category.{Categories}
 use Rattle.ix_model.specs.Naming.{PathOf}
 use Rattle.ix_model.specs.World.{Frame}
 use Rattle.ix_model.specs.Walks.{walked_to, found, opened}

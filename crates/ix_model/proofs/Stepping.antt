@@ -1,13 +1,13 @@
 -- The step of every call leaves a sound world.
 use Rattle.std.proofs.Common.{◌≡◌, ℕ, Bool, true, false, not, nat_le, List, length, take, Option, Some, None, refl, sym, ap, ◌∙◌, subst, if◌then◌else◌}
 use Rattle.std.proofs.lemmas.Bool.{leb-true, ltb-false, not-true}
-use Rattle.ix_model.specs.World.{Frame, Content, World, Open, at, is_ended, is_pipe}
+use Rattle.ix_model.specs.World.{Frame, Content, World, at, is_ended, is_pipe}
 use Rattle.ix_model.specs.Walks.{Behind, behind}
 use Rattle.ix_model.specs.OnDescriptors.{Told, seek_fd}
 use Rattle.ix_model.specs.Table.{decide, row}
 use Rattle.ix_model.specs.AuditLog.{is_answer}
-use Rattle.ix_model.specs.Contents.{carried, readable, after_read, after_write, after_cut, after_seek, after_exit, emptied}
-use Rattle.ix_model.specs.Step.{plainly, read_answer, write_answer, cut_answer, seek_answer, stat_answer, exit_answer, wait_answer, pex_answer, is_whole, answer, step}
+use Rattle.ix_model.specs.Contents.{carried, readable, after_read, after_write, after_cut, after_exit, emptied}
+use Rattle.ix_model.specs.Step.{plainly, read_answer, write_answer, cut_answer, seek_answer, stat_answer, exit_answer, wait_answer, pex_answer, answer, step}
 use Rattle.ix_model.specs.Telling.{told, told_of_write, told_of_cut}
 use Rattle.ix_model.specs.Clean.{IsClean}
 use Rattle.ix_model.specs.Sound.{LengthsSound, Sound}
@@ -19,7 +19,7 @@ use Rattle.ix_model.specs.declared.reply.Reply.TheVariants as reply
 use Rattle.ix_model.proofs.Ends.{Ends, Anything, ending}
 use Rattle.ix_model.proofs.Lasts.{decided}
 use Rattle.ix_model.proofs.Answered.{passed}
-use Rattle.ix_model.proofs.Cleaning.{WriteFacts, wrote, CutFacts, was_cut}
+use Rattle.ix_model.proofs.Cleaning.{wrote, CutFacts, was_cut}
 use Rattle.ix_model.proofs.Floats.{Floats, floats_itself}
 use Rattle.ix_model.proofs.FloatingRows.{floats_read_fd, floats_write_fd, floats_cut_fd}
 use Rattle.ix_model.proofs.Floated.{lengths_floated}

@@ -1,19 +1,17 @@
 -- The rows that take a name away leave a sound frame.
-use Rattle.std.proofs.Common.{◌≡◌, ◌≢◌, ◌+◌, ◌==◌, ◌&&◌, ℕ, Bool, true, false, true≢false, not, List, [], find, option_map, length, Option, Some, None, is_some, if◌then◌else◌, refl, sym, ap, ◌∙◌, subst, arith, inl, inr}
+use Rattle.std.proofs.Common.{◌≡◌, ◌≢◌, ◌+◌, ◌==◌, ℕ, true, false, true≢false, not, List, [], find, option_map, length, Option, Some, None, if◌then◌else◌, refl, sym, ap, ◌∙◌, subst, arith, inl, inr}
 use Rattle.std.specs.Option.{option_map_or}
 use Rattle.std.specs.List.{list_any}
-use Rattle.std.proofs.lemmas.Bool.{not-true, eqb-true, eq-eqb, and_from, ne_eqb}
+use Rattle.std.proofs.lemmas.Bool.{not-true, eqb-true, eq-eqb, and_from}
 use Rattle.std.proofs.lemmas.Bool.Decides.{eqb_tells}
 use Rattle.std.proofs.lemmas.List.{nil_from_length, get_or-set_other}
 use Rattle.ix_model.specs.Naming.{PathOf, last_name, same_bytes}
 use Rattle.ix_model.specs.Directories.{without_name}
-use Rattle.ix_model.specs.World.{Frame, Object, Process, Open, at, put, change, living, is_dir}
+use Rattle.ix_model.specs.World.{Frame, Object, Process, at, put, change, living, is_dir}
 use Rattle.ix_model.specs.Walks.{Sought, child}
 use Rattle.ix_model.specs.Walks as sought
-use Rattle.ix_model.specs.Owners.{times_named}
 use Rattle.ix_model.specs.Rows.{observe}
 use Rattle.ix_model.specs.OnPaths.{is_home, unlink_at, remove_dir}
-use Rattle.ix_model.specs.declared.reply.Reply.{Reply}
 use Rattle.ix_model.proofs.Tables.{back, seen_changed, seen_same}
 use Rattle.ix_model.proofs.Finds.{no_any}
 use Rattle.ix_model.proofs.Living.{is_living, not_ended}
@@ -24,7 +22,7 @@ use Rattle.ix_model.proofs.SameKinds.{Kinds, kinds_change, kinds_gone}
 use Rattle.ix_model.proofs.Frames.{FrameSound, Follows, follows_itself, follows_observe}
 use Rattle.ix_model.proofs.Logging.{Refused, Passed, holds_both}
 use Rattle.ix_model.proofs.Walked.{Within, Leads, Along, within_on, leads_found_in}
-use Rattle.ix_model.proofs.Awaiting.{Awaiting, awaiting}
+use Rattle.ix_model.proofs.Awaiting.{awaiting}
 use Rattle.ix_model.proofs.Named.{unnamed, times_fewer}
 use Rattle.ix_model.proofs.Gone.{IsUnneeded, gone_sound, object_released}
 use Rattle.ix_model.proofs.Making.{affect_on}

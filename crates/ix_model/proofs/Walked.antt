@@ -1,21 +1,19 @@
 -- Where a walk leads: the directory that was looked into last, and what it has under the last name.
-use Rattle.std.proofs.Common.{◌≡◌, ◌-◌, ℕ, suc, Bool, true, false, true≢false, List, [], ◌∷◌, length, Option, Some, None, unwrap_or, option_map, if◌then◌else◌, refl, sym, ap, ◌∙◌, subst, arith, get_or}
+use Rattle.std.proofs.Common.{◌≡◌, ◌-◌, ℕ, suc, Bool, true, false, true≢false, List, [], ◌∷◌, length, Option, Some, None, unwrap_or, if◌then◌else◌, refl, sym, ap, ◌∙◌, subst, arith, get_or}
 use Rattle.std.specs.Option.{option_map_or}
-use Rattle.ix_label.specs.Category.{Categories}
 use Rattle.ix_model.specs.Naming.{PathOf, last_name}
-use Rattle.ix_model.specs.World.{Frame, Object, Process, at, living, is_dir}
+use Rattle.ix_model.specs.World.{Frame, Object, Process, at, is_dir}
 use Rattle.ix_model.specs.Outcomes.{Row}
 use Rattle.ix_model.specs.Rows.{observe}
 use Rattle.ix_model.specs.Walks.{Sought, node, child, lacking, looking_into, walk_from, walk, join_all, walked_to, there, spot, vacant, found, found_in, missing}
 use Rattle.ix_model.specs.Walks as sought
 use Rattle.ix_model.specs.declared.refusal.Refusal.{Refusal}
-use Rattle.ix_model.specs.declared.refusal.Refusal.TheVariants as refusal
 use Rattle.ix_model.proofs.Tables.{SameBut, back, seen_same}
-use Rattle.ix_model.proofs.Keeps.{Holds, Keeps}
+use Rattle.ix_model.proofs.Keeps.{Keeps}
 use Rattle.ix_model.proofs.Ends.{Ends, ends_kept, ends_bind, ends_then, ends_pass, ends_frame, ends_caller, ends_there}
 use Rattle.ix_model.proofs.RowEnds.{ends_spot, ends_vacant}
 use Rattle.ix_model.proofs.Floats.{Floats, object_but, floats_itself, floats_observe}
-use Rattle.ix_model.proofs.Frames.{FrameSound, Follows, follows_observe}
+use Rattle.ix_model.proofs.Frames.{Follows, follows_observe}
 use Rattle.ix_model.proofs.Logging.{holds_both}
 
 -- ---- a name in a directory
