@@ -13,10 +13,10 @@ use Rattle.ix_model.specs.declared.call.Mode.TheVariants as mode
 use Rattle.ix_model.specs.declared.refusal.Refusal.TheVariants as refusal
 use Rattle.ix_model.specs.declared.reply.Kind.TheVariants as kind
 use Rattle.ix_model.specs.declared.reply.Reply.TheVariants as reply
-use Rattle.ix_worked.specs.OnLabels.{levels, no_lines, officers, heights, pair, chest, holding_down, holding_down_gives, setting_labels, setting_labels_gives, setting_ceilings, setting_ceilings_gives, freezing, freezing_gives, acting_without_a_line, acting_without_a_line_gives, acting, acting_gives, acting_log, finding_what_is_high, finding_what_is_high_gives, looking_into_an_empty_pipe, looking_into_an_empty_pipe_gives, making_names_high, making_names_high_gives, raising_ceilings, raising_ceilings_gives, raising_ceilings_log}
+use Rattle.ix_worked.specs.OnLabels.{levels, no_lines, officers, heights, pair, chest, holding_down, setting_labels, setting_ceilings, freezing, acting_without_a_line, acting, acting_log, finding_what_is_high, looking_into_an_empty_pipe, making_names_high, raising_ceilings, raising_ceilings_log}
 use Rattle.ix_worked.specs.Scripts.{three, five, log_line}
-use Rattle.ix_worked.specs.Sessions.{log_of, answers}
-use Rattle.ix_worked.proofs.Chains.{Gives, number, bytes, refused, answered, done, log_given, answers_given}
+use Rattle.ix_worked.specs.Sessions.{log_of, calls, Goes}
+use Rattle.ix_worked.proofs.Chains.{Gives, number, bytes, refused, answered, done, log_given, lines_given}
 use Rattle.ix_worked.proofs.Computing.{running, auditing, fitting}
 use Rattle.ix_worked.proofs.Labels.{labels}
 use Rattle.ix_worked.proofs.Worlds.{with_process, with_object, with_line, floated, raised, opened, with_entry, with_new, with_pipe, with_child}
@@ -170,9 +170,9 @@ unfolding at_levels opened_high held_down raised_file frozen_file lower forked c
 worlds = 0
 
 -- ---- the histories
-pub holding_down_ran : answers levels holding_down ≡ holding_down_gives
+pub holding_down_ran : Goes levels holding_down
 unfolding running worlds
-holding_down_ran = answers_given levels holding_down
+holding_down_ran = lines_given (opening_world levels) 1 (calls holding_down)
     (number opened_high 0
     ∷ done held_down
     ∷ refused held_down refusal.ProcFrozen
@@ -182,9 +182,9 @@ holding_down_ran = answers_given levels holding_down
     ∷ [])
     ((simp labels refl, refl), ((refl, refl), ((simp labels refl, refl), ((simp labels refl, refl), ((simp labels refl, refl), ((refl, refl), tt))))))
 
-pub setting_labels_ran : answers levels setting_labels ≡ setting_labels_gives
+pub setting_labels_ran : Goes levels setting_labels
 unfolding running worlds
-setting_labels_ran = answers_given levels setting_labels
+setting_labels_ran = lines_given (opening_world levels) 1 (calls setting_labels)
     (refused at_levels refusal.NotAbove
     ∷ refused at_levels refusal.NotAbove
     ∷ done at_levels
@@ -194,9 +194,9 @@ setting_labels_ran = answers_given levels setting_labels
     ∷ [])
     ((simp labels refl, refl), ((simp labels refl, refl), ((simp labels refl, refl), ((simp labels refl, refl), ((simp labels refl, refl), ((simp labels refl, refl), tt))))))
 
-pub setting_ceilings_ran : answers levels setting_ceilings ≡ setting_ceilings_gives
+pub setting_ceilings_ran : Goes levels setting_ceilings
 unfolding running worlds
-setting_ceilings_ran = answers_given levels setting_ceilings
+setting_ceilings_ran = lines_given (opening_world levels) 1 (calls setting_ceilings)
     (refused at_levels refusal.BelowLabel
     ∷ refused at_levels refusal.BelowLabel
     ∷ refused at_levels refusal.NoCapability
@@ -209,9 +209,9 @@ setting_ceilings_ran = answers_given levels setting_ceilings
     ∷ [])
     ((simp labels refl, refl), ((simp labels refl, refl), ((simp labels refl, refl), ((simp labels refl, refl), ((simp labels refl, refl), ((refl, refl), ((simp labels refl, refl), ((refl, refl), ((simp labels refl, refl), tt)))))))))
 
-pub freezing_ran : answers levels freezing ≡ freezing_gives
+pub freezing_ran : Goes levels freezing
 unfolding running worlds
-freezing_ran = answers_given levels freezing
+freezing_ran = lines_given (opening_world levels) 1 (calls freezing)
     (done frozen_file
     ∷ done frozen_file
     ∷ done frozen_file
@@ -220,9 +220,9 @@ freezing_ran = answers_given levels freezing
     ∷ [])
     ((simp labels refl, refl), ((simp labels refl, refl), ((simp labels refl, refl), ((simp labels refl, refl), ((simp labels refl, refl), tt)))))
 
-pub acting_without_a_line_ran : answers no_lines acting_without_a_line ≡ acting_without_a_line_gives
+pub acting_without_a_line_ran : Goes no_lines acting_without_a_line
 unfolding running worlds
-acting_without_a_line_ran = answers_given no_lines acting_without_a_line
+acting_without_a_line_ran = lines_given (opening_world no_lines) 1 (calls acting_without_a_line)
     (done stiff ∷ (replicate 7 (refused stiff refusal.LogFull) ++ refused stiff refusal.EndOfList ∷ []))
     ((refl, refl), ((simp labels refl, refl), ((simp labels refl, refl), ((simp labels refl, refl), ((simp labels refl, refl), ((refl, refl), ((refl, refl), ((simp labels refl, refl), ((refl, refl), tt)))))))))
 
@@ -244,21 +244,21 @@ acting_given =
     ∷ refused dropped refusal.NoCapability
     ∷ []
 
-acting_steps : Gives (opening_world officers) 1 acting acting_given
+acting_steps : Gives (opening_world officers) 1 (calls acting) acting_given
 unfolding running worlds
 acting_steps = ((refl, refl), ((refl, refl), ((simp labels refl, refl), ((simp labels refl, refl), ((refl, refl), ((simp labels refl, refl), ((simp labels refl, refl), ((refl, refl), ((refl, refl), ((simp labels refl, refl), ((simp labels refl, refl), ((simp labels refl, refl), ((refl, refl), ((simp labels refl, refl), tt))))))))))))))
 
-pub acting_ran : answers officers acting ≡ acting_gives
+pub acting_ran : Goes officers acting
 unfolding running worlds
-acting_ran = answers_given officers acting acting_given acting_steps
+acting_ran = lines_given (opening_world officers) 1 (calls acting) acting_given acting_steps
 
-pub acting_logged : log_of officers acting ≡ acting_log
+pub acting_logged : log_of officers (calls acting) ≡ acting_log
 unfolding running auditing worlds
-acting_logged = log_given officers (opening_world officers) acting acting_given refl acting_steps ∙ simp labels refl
+acting_logged = log_given officers (opening_world officers) (calls acting) acting_given refl acting_steps ∙ simp labels refl
 
-pub finding_what_is_high_ran : answers heights finding_what_is_high ≡ finding_what_is_high_gives
+pub finding_what_is_high_ran : Goes heights finding_what_is_high
 unfolding running worlds
-finding_what_is_high_ran = answers_given heights finding_what_is_high
+finding_what_is_high_ran = lines_given (opening_world heights) 1 (calls finding_what_is_high)
     (answered at_heights (reply.Lab five)
     ∷ number high_open 0
     ∷ done gone_there
@@ -275,9 +275,9 @@ finding_what_is_high_ran = answers_given heights finding_what_is_high
     ∷ [])
     ((simp labels refl, refl), ((simp labels refl, refl), ((simp labels refl, refl), ((simp labels refl, refl), ((simp labels refl, refl), ((simp labels refl, refl), ((simp labels refl, refl), ((simp labels refl, refl), ((simp labels refl, refl), ((simp labels refl, refl), ((simp labels refl, refl), ((simp labels refl, refl), ((simp labels refl, refl), tt)))))))))))))
 
-pub looking_into_an_empty_pipe_ran : answers pair looking_into_an_empty_pipe ≡ looking_into_an_empty_pipe_gives
+pub looking_into_an_empty_pipe_ran : Goes pair looking_into_an_empty_pipe
 unfolding running worlds
-looking_into_an_empty_pipe_ran = answers_given pair looking_into_an_empty_pipe
+looking_into_an_empty_pipe_ran = lines_given (opening_world pair) 1 (calls looking_into_an_empty_pipe)
     (answered pair_piped (reply.Two (record { 0 = 0 }) (record { 0 = 1 }))
     ∷ number two_there 2
     ∷ number secret_open 2
@@ -287,9 +287,9 @@ looking_into_an_empty_pipe_ran = answers_given pair looking_into_an_empty_pipe
     ∷ [])
     ((refl, refl), ((refl, refl), ((simp labels refl, refl), ((simp labels refl, refl), ((simp labels refl, refl), ((simp labels refl, refl), tt))))))
 
-pub making_names_high_ran : answers chest making_names_high ≡ making_names_high_gives
+pub making_names_high_ran : Goes chest making_names_high
 unfolding running worlds
-making_names_high_ran = answers_given chest making_names_high
+making_names_high_ran = lines_given (opening_world chest) 1 (calls making_names_high)
     (number chest_filed 2
     ∷ answered chest_filed (reply.Lab three)
     ∷ answered chest_filed (reply.Lab bottom)
@@ -307,14 +307,14 @@ raising_ceilings_given =
     ∷ done (with_process 1 (λ p. record p { ceiling = three }) ceiling_high)
     ∷ []
 
-raising_ceilings_steps : Gives (opening_world officers) 1 raising_ceilings raising_ceilings_given
+raising_ceilings_steps : Gives (opening_world officers) 1 (calls raising_ceilings) raising_ceilings_given
 unfolding running worlds
 raising_ceilings_steps = ((simp labels refl, refl), ((simp labels refl, refl), ((simp labels refl, refl), tt)))
 
-pub raising_ceilings_ran : answers officers raising_ceilings ≡ raising_ceilings_gives
+pub raising_ceilings_ran : Goes officers raising_ceilings
 unfolding running worlds
-raising_ceilings_ran = answers_given officers raising_ceilings raising_ceilings_given raising_ceilings_steps
+raising_ceilings_ran = lines_given (opening_world officers) 1 (calls raising_ceilings) raising_ceilings_given raising_ceilings_steps
 
-pub raising_ceilings_logged : log_of officers raising_ceilings ≡ raising_ceilings_log
+pub raising_ceilings_logged : log_of officers (calls raising_ceilings) ≡ raising_ceilings_log
 unfolding running auditing worlds
-raising_ceilings_logged = log_given officers (opening_world officers) raising_ceilings raising_ceilings_given refl raising_ceilings_steps ∙ simp labels refl
+raising_ceilings_logged = log_given officers (opening_world officers) (calls raising_ceilings) raising_ceilings_given refl raising_ceilings_steps ∙ simp labels refl

@@ -10,9 +10,9 @@ use Rattle.ix_model.specs.declared.call.Mode.TheVariants as mode
 use Rattle.ix_model.specs.declared.refusal.Refusal.TheVariants as refusal
 use Rattle.ix_model.specs.declared.reply.Kind.TheVariants as kind
 use Rattle.ix_model.specs.declared.reply.Reply.TheVariants as reply
-use Rattle.ix_worked.specs.OnPaths.{shelves, full, tight, seeking, seeking_gives, looking_into_a_file, looking_into_a_file_gives, using_a_directory, using_a_directory_gives, making_again, making_again_gives, crossing, crossing_gives, removing_a_home, removing_a_home_gives, making_files, making_files_gives, making_names, making_names_gives, asking_for_objects, asking_for_objects_gives, unlinking_an_open_file, unlinking_an_open_file_gives, working_in_a_directory, working_in_a_directory_gives, sharing_blocks, sharing_blocks_gives}
-use Rattle.ix_worked.specs.Sessions.{answers}
-use Rattle.ix_worked.proofs.Chains.{number, bytes, refused, answered, done, answers_given}
+use Rattle.ix_worked.specs.OnPaths.{shelves, full, tight, seeking, looking_into_a_file, using_a_directory, making_again, crossing, removing_a_home, making_files, making_names, asking_for_objects, unlinking_an_open_file, working_in_a_directory, sharing_blocks}
+use Rattle.ix_worked.specs.Sessions.{calls, Goes}
+use Rattle.ix_worked.proofs.Chains.{number, bytes, refused, answered, done, lines_given}
 use Rattle.ix_worked.proofs.Computing.{running, fitting}
 use Rattle.ix_worked.proofs.Labels.{labels}
 use Rattle.ix_worked.proofs.Worlds.{with_process, with_object, opened, with_entry, with_fd, without_entry, moved, holding, with_new}
@@ -97,39 +97,39 @@ unfolding at_shelves in_d without_d with_a with_b at_full one_less linked readin
 worlds = 0
 
 -- ---- the histories
-pub seeking_ran : answers shelves seeking ≡ seeking_gives
+pub seeking_ran : Goes shelves seeking
 unfolding running worlds
-seeking_ran = answers_given shelves seeking
+seeking_ran = lines_given (opening_world shelves) 1 (calls seeking)
     (replicate 7 (refused at_shelves refusal.NotFound))
     ((simp labels refl, refl), ((simp labels refl, refl), ((simp labels refl, refl), ((simp labels refl, refl), ((simp labels refl, refl), ((simp labels refl, refl), ((simp labels refl, refl), tt)))))))
 
-pub looking_into_a_file_ran : answers shelves looking_into_a_file ≡ looking_into_a_file_gives
+pub looking_into_a_file_ran : Goes shelves looking_into_a_file
 unfolding running worlds
-looking_into_a_file_ran = answers_given shelves looking_into_a_file
+looking_into_a_file_ran = lines_given (opening_world shelves) 1 (calls looking_into_a_file)
     (replicate 6 (refused at_shelves refusal.NotDir))
     ((simp labels refl, refl), ((simp labels refl, refl), ((simp labels refl, refl), ((simp labels refl, refl), ((simp labels refl, refl), ((simp labels refl, refl), tt))))))
 
-pub using_a_directory_ran : answers shelves using_a_directory ≡ using_a_directory_gives
+pub using_a_directory_ran : Goes shelves using_a_directory
 unfolding running worlds
-using_a_directory_ran = answers_given shelves using_a_directory
+using_a_directory_ran = lines_given (opening_world shelves) 1 (calls using_a_directory)
     (replicate 6 (refused at_shelves refusal.IsDir))
     ((simp labels refl, refl), ((simp labels refl, refl), ((simp labels refl, refl), ((simp labels refl, refl), ((simp labels refl, refl), ((simp labels refl, refl), tt))))))
 
-pub making_again_ran : answers shelves making_again ≡ making_again_gives
+pub making_again_ran : Goes shelves making_again
 unfolding running worlds
-making_again_ran = answers_given shelves making_again
+making_again_ran = lines_given (opening_world shelves) 1 (calls making_again)
     (replicate 6 (refused at_shelves refusal.Exists))
     ((simp labels refl, refl), ((simp labels refl, refl), ((simp labels refl, refl), ((simp labels refl, refl), ((simp labels refl, refl), ((simp labels refl, refl), tt))))))
 
-pub crossing_ran : answers shelves crossing ≡ crossing_gives
+pub crossing_ran : Goes shelves crossing
 unfolding running worlds
-crossing_ran = answers_given shelves crossing
+crossing_ran = lines_given (opening_world shelves) 1 (calls crossing)
     (replicate 3 (refused at_shelves refusal.CrossFs))
     ((simp labels refl, refl), ((simp labels refl, refl), ((simp labels refl, refl), tt)))
 
-pub removing_a_home_ran : answers shelves removing_a_home ≡ removing_a_home_gives
+pub removing_a_home_ran : Goes shelves removing_a_home
 unfolding running worlds
-removing_a_home_ran = answers_given shelves removing_a_home
+removing_a_home_ran = lines_given (opening_world shelves) 1 (calls removing_a_home)
     (done in_d
     ∷ refused in_d refusal.InUse
     ∷ refused in_d refusal.InUse
@@ -138,9 +138,9 @@ removing_a_home_ran = answers_given shelves removing_a_home
     ∷ [])
     ((simp labels refl, refl), ((simp labels refl, refl), ((simp labels refl, refl), ((simp labels refl, refl), ((simp labels refl, refl), tt)))))
 
-pub making_files_ran : answers shelves making_files ≡ making_files_gives
+pub making_files_ran : Goes shelves making_files
 unfolding running worlds
-making_files_ran = answers_given shelves making_files
+making_files_ran = lines_given (opening_world shelves) 1 (calls making_files)
     (number with_a 3
     ∷ refused with_a refusal.NoInode
     ∷ refused with_a refusal.NoInode
@@ -149,9 +149,9 @@ making_files_ran = answers_given shelves making_files
     ∷ [])
     ((simp labels refl, refl), ((simp labels refl, refl), ((simp labels refl, refl), ((simp labels refl, refl), ((simp labels refl, refl), tt)))))
 
-pub making_names_ran : answers full making_names ≡ making_names_gives
+pub making_names_ran : Goes full making_names
 unfolding running worlds
-making_names_ran = answers_given full making_names
+making_names_ran = lines_given (opening_world full) 1 (calls making_names)
     (refused at_full refusal.NoEntry
     ∷ refused at_full refusal.NoEntry
     ∷ refused at_full refusal.NoEntry
@@ -160,9 +160,9 @@ making_names_ran = answers_given full making_names
     ∷ [])
     ((simp labels refl, refl), ((simp labels refl, refl), ((simp labels refl, refl), ((simp labels refl, refl), ((simp labels refl, refl), tt)))))
 
-pub asking_for_objects_ran : answers shelves asking_for_objects ≡ asking_for_objects_gives
+pub asking_for_objects_ran : Goes shelves asking_for_objects
 unfolding running worlds
-asking_for_objects_ran = answers_given shelves asking_for_objects
+asking_for_objects_ran = lines_given (opening_world shelves) 1 (calls asking_for_objects)
     (answered at_shelves (reply.Stat (record { 0 = 1 }) kind.File 3 1 false no_privileges no_privileges)
     ∷ done linked
     ∷ answered linked (reply.Stat (record { 0 = 1 }) kind.File 3 2 false no_privileges no_privileges)
@@ -174,9 +174,9 @@ asking_for_objects_ran = answers_given shelves asking_for_objects
     ∷ [])
     ((simp labels refl, refl), ((simp labels refl, refl), ((simp labels refl, refl), ((simp labels refl, refl), ((simp labels refl, refl), ((simp labels refl, refl), ((simp labels refl, refl), ((simp labels refl, refl), tt))))))))
 
-pub unlinking_an_open_file_ran : answers shelves unlinking_an_open_file ≡ unlinking_an_open_file_gives
+pub unlinking_an_open_file_ran : Goes shelves unlinking_an_open_file
 unfolding running worlds
-unlinking_an_open_file_ran = answers_given shelves unlinking_an_open_file
+unlinking_an_open_file_ran = lines_given (opening_world shelves) 1 (calls unlinking_an_open_file)
     (number reading 0
     ∷ done nameless
     ∷ refused nameless refusal.NotFound
@@ -189,9 +189,9 @@ unlinking_an_open_file_ran = answers_given shelves unlinking_an_open_file
     ∷ [])
     ((simp labels refl, refl), ((simp labels refl, refl), ((simp labels refl, refl), ((simp labels refl, refl), ((simp labels refl, refl), ((refl, refl), ((simp labels refl, refl), ((simp labels refl, refl), ((simp labels refl, refl), tt)))))))))
 
-pub working_in_a_directory_ran : answers shelves working_in_a_directory ≡ working_in_a_directory_gives
+pub working_in_a_directory_ran : Goes shelves working_in_a_directory
 unfolding running worlds
-working_in_a_directory_ran = answers_given shelves working_in_a_directory
+working_in_a_directory_ran = lines_given (opening_world shelves) 1 (calls working_in_a_directory)
     (done in_d
     ∷ number kept 3
     ∷ answered kept (reply.Stat (record { 0 = 3 }) kind.File 0 1 false no_privileges no_privileges)
@@ -201,9 +201,9 @@ working_in_a_directory_ran = answers_given shelves working_in_a_directory
     ∷ [])
     ((simp labels refl, refl), ((simp labels refl, refl), ((simp labels refl, refl), ((simp labels refl, refl), ((simp labels refl, refl), ((simp labels refl, refl), tt))))))
 
-pub sharing_blocks_ran : answers tight sharing_blocks ≡ sharing_blocks_gives
+pub sharing_blocks_ran : Goes tight sharing_blocks
 unfolding running worlds
-sharing_blocks_ran = answers_given tight sharing_blocks
+sharing_blocks_ran = lines_given (opening_world tight) 1 (calls sharing_blocks)
     (number tight_open 0
     ∷ refused tight_open refusal.NoSpace
     ∷ number tight_full 512

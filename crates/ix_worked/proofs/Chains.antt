@@ -14,7 +14,7 @@ use Rattle.ix_model.specs.declared.config.Config.{Config}
 use Rattle.ix_model.specs.declared.refusal.Refusal.{Refusal}
 use Rattle.ix_model.specs.declared.reply.Reply.{Reply}
 use Rattle.ix_model.specs.declared.reply.Reply.TheVariants as reply
-use Rattle.ix_worked.specs.Sessions.{Line, Shown, line_of, lines_of, labels_in, shown_from, shown, log_of, answers}
+use Rattle.ix_worked.specs.Sessions.{Line, Shown, line_of, lines_of, labels_in, shown_from, shown, log_of}
 
 -- what an answer by a number, one by bytes and a refusal give
 abbrev pub number : World → ℕ → Given
@@ -69,7 +69,8 @@ last_of w [] gs = w
 last_of w (e ∷ events) [] = w
 last_of w (e ∷ events) (g ∷ gs) = last_of g.world events gs
 
-lines_given : (w : World) (place : ℕ) (events : List Event) (gs : List Given) → Gives w place events gs → lines_of w place events ≡ lines_by events gs
+-- the lines of a history are those of what is given, and so is its last world
+pub lines_given : (w : World) (place : ℕ) (events : List Event) (gs : List Given) → Gives w place events gs → lines_of w place events ≡ lines_by events gs
 lines_given w place [] gs h = refl
 lines_given w place (e ∷ events) [] h = absurd h
 lines_given w place (e ∷ events) (g ∷ gs) h = ap (λ x. line_of e x ∷ lines_of x.world (suc place) events) (stepped w place e.pid e.op g h.0) ∙ ap (λ ls. line_of e g ∷ ls) (lines_given g.world (suc place) events gs h.1)
@@ -115,10 +116,6 @@ log_given_from w place (e ∷ events) (g ∷ gs) h =
 
 pub log_given : (c : Config) (w : World) (events : List Event) (gs : List Given) → opening_world c ≡ w → Gives w 1 events gs → log_of c events ≡ log_by w 1 events gs
 log_given c w events gs opening h = ap (λ v. audit_log v 1 events) opening ∙ log_given_from w 1 events gs h
-
--- what each entry gives, where these are given
-pub answers_given : (c : Config) (events : List Event) (gs : List Given) → Gives (opening_world c) 1 events gs → answers c events ≡ lines_by events gs
-answers_given c events gs h = lines_given (opening_world c) 1 events gs h
 
 -- a history in two parts
 pub lines_more : (w : World) (place : ℕ) (es fs : List Event) → lines_of w place (es ++ fs) ≡ lines_of w place es ++ lines_of (run w place es) (length es + place) fs

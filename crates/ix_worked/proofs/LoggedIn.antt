@@ -47,11 +47,8 @@ whole = claimed_by 256 (Some 1) (Some 2) bare
 asked : World
 asked = holding 256 (codes "login ann") [] whole
 
-heard : World
-heard = whole
-
 ann_forked : World
-ann_forked = with_process 3 (λ p. record p { fds = put (replicate 32 None) 3 (Some 3) }) (with_child 1 heard)
+ann_forked = with_process 3 (λ p. record p { fds = put (replicate 32 None) 3 (Some 3) }) (with_child 1 whole)
 
 ann_bare : World
 ann_bare = with_process 3 (λ p. record p { cap = no_privileges; lic = no_privileges }) ann_forked
@@ -71,17 +68,11 @@ ann_let_go = claimed_by 256 None (Some 2) ann_told
 answer_read : World
 answer_read = claimed_by 256 None (Some 2) ann_granted
 
-whole_again : World
-whole_again = ann_granted
-
 asked_again : World
-asked_again = holding 256 (codes "login bob") [] whole_again
-
-heard_again : World
-heard_again = whole_again
+asked_again = holding 256 (codes "login bob") [] ann_granted
 
 bob_forked : World
-bob_forked = with_process 4 (λ p. record p { fds = put (replicate 32 None) 3 (Some 3) }) (with_child 1 heard_again)
+bob_forked = with_process 4 (λ p. record p { fds = put (replicate 32 None) 3 (Some 3) }) (with_child 1 ann_granted)
 
 bob_bare : World
 bob_bare = with_process 4 (λ p. record p { cap = no_privileges; lic = no_privileges }) bob_forked
@@ -142,7 +133,7 @@ published = with_line (log_line 43 3 act.DownFile 6 two_and_five bottom) (raised
 
 -- opens all of them
 worlds : ℕ
-unfolding at_first piped both_piped forked bare half whole asked heard ann_forked ann_bare ann_held ann_granted ann_told ann_let_go answer_read whole_again asked_again heard_again bob_forked bob_bare bob_held bob_told bob_let_go mailed plan_open plan_read reported report_open report_written released want_half want_whole wanted want_heard want_granted want_told want_let_go published
+unfolding at_first piped both_piped forked bare half whole asked ann_forked ann_bare ann_held ann_granted ann_told ann_let_go answer_read asked_again bob_forked bob_bare bob_held bob_told bob_let_go mailed plan_open plan_read reported report_open report_written released want_half want_whole wanted want_heard want_granted want_told want_let_go published
 worlds = 0
 
 -- ---- the steps from one to the next
@@ -178,11 +169,11 @@ finds_it_whole : Steps asked 8 1 (op.Pex 0) (answered asked (reply.Whole (record
 unfolding running worlds
 finds_it_whole = (refl, refl)
 
-hears : Steps asked 9 1 (op.ReadFd 0 64) (bytes heard (codes "login ann"))
+hears : Steps asked 9 1 (op.ReadFd 0 64) (bytes whole (codes "login ann"))
 unfolding running worlds
 hears = (simp labels refl, refl)
 
-forks_ann : Steps heard 10 1 (op.Fork (keep.One (record { 0 = 3 }))) (number ann_forked 3)
+forks_ann : Steps whole 10 1 (op.Fork (keep.One (record { 0 = 3 }))) (number ann_forked 3)
 unfolding running worlds
 forks_ann = (refl, refl)
 
@@ -210,11 +201,11 @@ user_reads : Steps ann_let_go 16 2 (op.ReadFd 1 64) (bytes answer_read (codes "g
 unfolding running worlds
 user_reads = (simp labels refl, refl)
 
-claims_again : Steps answer_read 17 1 (op.Pex 0) (answered whole_again (reply.Whole (record { 0 = 2 }) bottom no_privileges))
+claims_again : Steps answer_read 17 1 (op.Pex 0) (answered ann_granted (reply.Whole (record { 0 = 2 }) bottom no_privileges))
 unfolding running worlds
 claims_again = (refl, refl)
 
-asks_again : Steps whole_again 18 2 (op.WriteFd 1 (codes "login bob")) (number asked_again 9)
+asks_again : Steps ann_granted 18 2 (op.WriteFd 1 (codes "login bob")) (number asked_again 9)
 unfolding running worlds
 asks_again = (simp labels refl, refl)
 
@@ -222,11 +213,11 @@ finds_it_whole_again : Steps asked_again 19 1 (op.Pex 0) (answered asked_again (
 unfolding running worlds
 finds_it_whole_again = (refl, refl)
 
-hears_again : Steps asked_again 20 1 (op.ReadFd 0 64) (bytes heard_again (codes "login bob"))
+hears_again : Steps asked_again 20 1 (op.ReadFd 0 64) (bytes ann_granted (codes "login bob"))
 unfolding running worlds
 hears_again = (simp labels refl, refl)
 
-forks_bob : Steps heard_again 21 1 (op.Fork (keep.One (record { 0 = 3 }))) (number bob_forked 4)
+forks_bob : Steps ann_granted 21 1 (op.Fork (keep.One (record { 0 = 3 }))) (number bob_forked 4)
 unfolding running worlds
 forks_bob = (refl, refl)
 
@@ -329,7 +320,7 @@ given =
     ∷ answered whole (reply.Whole (record { 0 = 1 }) bottom to_grant)
     ∷ number asked 9
     ∷ answered asked (reply.Whole (record { 0 = 2 }) bottom no_privileges)
-    ∷ bytes heard (codes "login ann")
+    ∷ bytes whole (codes "login ann")
     ∷ number ann_forked 3
     ∷ done ann_bare
     ∷ done ann_held
@@ -337,10 +328,10 @@ given =
     ∷ number ann_told 9
     ∷ done ann_let_go
     ∷ bytes answer_read (codes "granted 1")
-    ∷ answered whole_again (reply.Whole (record { 0 = 2 }) bottom no_privileges)
+    ∷ answered ann_granted (reply.Whole (record { 0 = 2 }) bottom no_privileges)
     ∷ number asked_again 9
     ∷ answered asked_again (reply.Whole (record { 0 = 2 }) bottom no_privileges)
-    ∷ bytes heard_again (codes "login bob")
+    ∷ bytes ann_granted (codes "login bob")
     ∷ number bob_forked 4
     ∷ done bob_bare
     ∷ done bob_held

@@ -1,5 +1,5 @@
 -- What is shown where a high process writes any two bytes, entry by entry.
-use Rattle.std.proofs.Common.{◌≡◌, ℕ, List, [], ◌∷◌, refl, arith, codes}
+use Rattle.std.proofs.Common.{◌≡◌, ℕ, List, [], ◌∷◌, refl, codes}
 use Rattle.ix_label.specs.Category.{Categories, bottom, top}
 use Rattle.ix_model.specs.World.{World}
 use Rattle.ix_model.specs.Step.{Given}
@@ -11,7 +11,7 @@ use Rattle.ix_worked.specs.Scripts.{seven, in_root, proc, file, usual_fs}
 use Rattle.ix_worked.specs.TwoLevels.{two_levels, writing, writing_shows}
 use Rattle.ix_worked.proofs.Chains.{Steps, number, bytes, shown_by, shown_given}
 use Rattle.ix_worked.proofs.Computing.{running}
-use Rattle.ix_worked.proofs.Labels.{labels, leq-one_top}
+use Rattle.ix_worked.proofs.Labels.{labels}
 use Rattle.ix_worked.proofs.Worlds.{Opened, world_with}
 
 -- the low process at a label with these descriptors, the high one with these, the file that is written, and what is open
