@@ -14,7 +14,7 @@ use Rattle.ix_model.specs.declared.reply.Reply.TheVariants as reply
 use Rattle.ix_worked.specs.OnDescriptors.{desk, copying, long_desk, using_none, reading_a_writer, writing_a_reader, going_too_far, claiming_a_file, cutting_a_pipe, letting_go, using_all, opening_all, making_pipes, reading_nothing, writing_into_a_broken_pipe, claiming_both, closing_a_claimed_end, writing_in_the_middle, using_numbers_again}
 use Rattle.ix_worked.specs.Scripts.{in_root, by}
 use Rattle.ix_worked.specs.Sessions.{line_of, lines_of, calls, Goes}
-use Rattle.ix_worked.proofs.Chains.{number, bytes, refused, answered, done, lines_more, lines_given}
+use Rattle.ix_worked.proofs.Chains.{◌⨾◌, number, bytes, refused, answered, done, lines_more, lines_given}
 use Rattle.ix_worked.proofs.Computing.{running, fitting}
 use Rattle.ix_worked.proofs.Labels.{labels}
 use Rattle.ix_worked.proofs.Worlds.{with_process, opened, with_entry, with_fd, without_entry, moved, holding, with_pipe, claimed_by, with_child}
@@ -111,13 +111,15 @@ pub using_none_ran : Goes desk using_none
 unfolding running worlds
 using_none_ran = lines_given (opening_world desk) 1 (calls using_none)
     (replicate 9 (refused at_desk refusal.BadFd))
-    ((refl, refl), ((refl, refl), ((refl, refl), ((refl, refl), ((refl, refl), ((refl, refl), ((refl, refl), ((refl, refl), ((refl, refl), tt)))))))))
+    ((refl, refl) ⨾ (refl, refl) ⨾ (refl, refl) ⨾ (refl, refl)
+    ⨾ (refl, refl) ⨾ (refl, refl) ⨾ (refl, refl) ⨾ (refl, refl)
+    ⨾ (refl, refl) ⨾ tt)
 
 pub reading_a_writer_ran : Goes desk reading_a_writer
 unfolding running worlds
 reading_a_writer_ran = lines_given (opening_world desk) 1 (calls reading_a_writer)
     (number writing 0 ∷ refused writing refusal.NotReadable ∷ [])
-    ((simp labels refl, refl), ((refl, refl), tt))
+    ((simp labels refl, refl) ⨾ (refl, refl) ⨾ tt)
 
 pub writing_a_reader_ran : Goes desk writing_a_reader
 unfolding running worlds
@@ -126,7 +128,7 @@ writing_a_reader_ran = lines_given (opening_world desk) 1 (calls writing_a_reade
     ∷ refused reading refusal.NotWritable
     ∷ refused reading refusal.NotWritable
     ∷ [])
-    ((simp labels refl, refl), ((refl, refl), ((refl, refl), tt)))
+    ((simp labels refl, refl) ⨾ (refl, refl) ⨾ (refl, refl) ⨾ tt)
 
 pub going_too_far_ran : Goes desk going_too_far
 unfolding running worlds
@@ -140,7 +142,9 @@ going_too_far_ran = lines_given (opening_world desk) 1 (calls going_too_far)
     ∷ done far
     ∷ refused far refusal.TooBig
     ∷ [])
-    ((simp labels refl, refl), ((refl, refl), ((refl, refl), ((refl, refl), ((refl, refl), ((refl, refl), ((refl, refl), ((refl, refl), tt))))))))
+    ((simp labels refl, refl) ⨾ (refl, refl) ⨾ (refl, refl) ⨾ (refl, refl)
+    ⨾ (refl, refl) ⨾ (refl, refl) ⨾ (refl, refl) ⨾ (refl, refl)
+    ⨾ tt)
 
 pub claiming_a_file_ran : Goes desk claiming_a_file
 unfolding running worlds
@@ -149,7 +153,7 @@ claiming_a_file_ran = lines_given (opening_world desk) 1 (calls claiming_a_file)
     ∷ refused both refusal.NotPipe
     ∷ refused both refusal.NotPipe
     ∷ [])
-    ((simp labels refl, refl), ((refl, refl), ((refl, refl), tt)))
+    ((simp labels refl, refl) ⨾ (refl, refl) ⨾ (refl, refl) ⨾ tt)
 
 pub cutting_a_pipe_ran : Goes desk cutting_a_pipe
 unfolding running worlds
@@ -158,7 +162,7 @@ cutting_a_pipe_ran = lines_given (opening_world desk) 1 (calls cutting_a_pipe)
     ∷ refused piped refusal.IsPipe
     ∷ refused piped refusal.IsPipe
     ∷ [])
-    ((refl, refl), ((refl, refl), ((refl, refl), tt)))
+    ((refl, refl) ⨾ (refl, refl) ⨾ (refl, refl) ⨾ tt)
 
 pub letting_go_ran : Goes desk letting_go
 unfolding running worlds
@@ -171,7 +175,8 @@ letting_go_ran = lines_given (opening_world desk) 1 (calls letting_go)
     ∷ refused shared refusal.PexHeld
     ∷ done (claimed_by 4 None None shared)
     ∷ [])
-    ((refl, refl), ((refl, refl), ((refl, refl), ((refl, refl), ((refl, refl), ((refl, refl), ((refl, refl), tt)))))))
+    ((refl, refl) ⨾ (refl, refl) ⨾ (refl, refl) ⨾ (refl, refl)
+    ⨾ (refl, refl) ⨾ (refl, refl) ⨾ (refl, refl) ⨾ tt)
 
 -- The first entry and the last are taken by themselves, and those between them at once.
 opens_the_first : step at_long_desk 1 1 (op.OpenAt (in_root (codes "n")) mode.Read) ≡ number long_reading 0
@@ -207,7 +212,9 @@ opening_all_ran = lines_given (opening_world desk) 1 (calls opening_all)
     ∷ number (with_fd 1 4 (Some 0) all_open) 4
     ∷ number (with_child 1 (with_fd 1 4 (Some 0) all_open)) 2
     ∷ [])
-    ((simp labels refl, refl), ((simp labels refl, refl), ((simp labels refl, refl), ((refl, refl), ((simp labels refl, refl), ((simp labels refl, refl), ((refl, refl), ((refl, refl), tt))))))))
+    ((simp labels refl, refl) ⨾ (simp labels refl, refl) ⨾ (simp labels refl, refl) ⨾ (refl, refl)
+    ⨾ (simp labels refl, refl) ⨾ (simp labels refl, refl) ⨾ (refl, refl) ⨾ (refl, refl)
+    ⨾ tt)
 
 pub making_pipes_ran : Goes desk making_pipes
 unfolding running worlds
@@ -219,7 +226,8 @@ making_pipes_ran = lines_given (opening_world desk) 1 (calls making_pipes)
     ∷ done at_desk
     ∷ answered piped (reply.Two (record { 0 = 0 }) (record { 0 = 1 }))
     ∷ [])
-    ((refl, refl), ((refl, refl), ((refl, refl), ((refl, refl), ((refl, refl), ((refl, refl), tt))))))
+    ((refl, refl) ⨾ (refl, refl) ⨾ (refl, refl) ⨾ (refl, refl)
+    ⨾ (refl, refl) ⨾ (refl, refl) ⨾ tt)
 
 pub reading_nothing_ran : Goes desk reading_nothing
 unfolding running worlds
@@ -233,7 +241,9 @@ reading_nothing_ran = lines_given (opening_world desk) 1 (calls reading_nothing)
     ∷ done other_end
     ∷ bytes other_end []
     ∷ [])
-    ((refl, refl), ((simp labels refl, refl), ((simp labels refl, refl), ((simp labels refl, refl), ((simp labels refl, refl), ((simp labels refl, refl), ((refl, refl), ((simp labels refl, refl), tt))))))))
+    ((refl, refl) ⨾ (simp labels refl, refl) ⨾ (simp labels refl, refl) ⨾ (simp labels refl, refl)
+    ⨾ (simp labels refl, refl) ⨾ (simp labels refl, refl) ⨾ (refl, refl) ⨾ (simp labels refl, refl)
+    ⨾ tt)
 
 pub writing_into_a_broken_pipe_ran : Goes desk writing_into_a_broken_pipe
 unfolding running worlds
@@ -244,7 +254,8 @@ writing_into_a_broken_pipe_ran = lines_given (opening_world desk) 1 (calls writi
     ∷ done (holding 4 [] (replicate 4096 65) other_end)
     ∷ refused (holding 4 [] (replicate 4096 65) other_end) refusal.Broken
     ∷ [])
-    ((refl, refl), ((simp labels refl, refl), ((refl, refl), ((refl, refl), ((refl, refl), tt)))))
+    ((refl, refl) ⨾ (simp labels refl, refl) ⨾ (refl, refl) ⨾ (refl, refl)
+    ⨾ (refl, refl) ⨾ tt)
 
 pub claiming_both_ran : Goes desk claiming_both
 unfolding running worlds
@@ -258,7 +269,9 @@ claiming_both_ran = lines_given (opening_world desk) 1 (calls claiming_both)
     ∷ answered (holding 4 [] (codes "y") whole) (reply.Whole (record { 0 = 1 }) bottom no_privileges)
     ∷ bytes whole (codes "y")
     ∷ [])
-    ((refl, refl), ((refl, refl), ((simp labels refl, refl), ((refl, refl), ((simp labels refl, refl), ((simp labels refl, refl), ((refl, refl), ((simp labels refl, refl), tt))))))))
+    ((refl, refl) ⨾ (refl, refl) ⨾ (simp labels refl, refl) ⨾ (refl, refl)
+    ⨾ (simp labels refl, refl) ⨾ (simp labels refl, refl) ⨾ (refl, refl) ⨾ (simp labels refl, refl)
+    ⨾ tt)
 
 pub closing_a_claimed_end_ran : Goes desk closing_a_claimed_end
 unfolding running worlds
@@ -272,7 +285,9 @@ closing_a_claimed_end_ran = lines_given (opening_world desk) 1 (calls closing_a_
     ∷ done none_left
     ∷ number (holding 4 [] (codes "x") none_left) 1
     ∷ [])
-    ((refl, refl), ((refl, refl), ((refl, refl), ((refl, refl), ((refl, refl), ((refl, refl), ((refl, refl), ((simp labels refl, refl), tt))))))))
+    ((refl, refl) ⨾ (refl, refl) ⨾ (refl, refl) ⨾ (refl, refl)
+    ⨾ (refl, refl) ⨾ (refl, refl) ⨾ (refl, refl) ⨾ (simp labels refl, refl)
+    ⨾ tt)
 
 pub writing_in_the_middle_ran : Goes desk writing_in_the_middle
 unfolding running worlds
@@ -288,7 +303,9 @@ writing_in_the_middle_ran = lines_given (opening_world desk) 1 (calls writing_in
     ∷ done (moved 0 0 longer)
     ∷ bytes (moved 0 4 longer) (97 ∷ 88 ∷ 0 ∷ 0 ∷ [])
     ∷ [])
-    ((simp labels refl, refl), ((refl, refl), ((simp labels refl, refl), ((simp labels refl, refl), ((simp labels refl, refl), ((simp labels refl, refl), ((refl, refl), ((simp labels refl, refl), ((refl, refl), ((simp labels refl, refl), tt))))))))))
+    ((simp labels refl, refl) ⨾ (refl, refl) ⨾ (simp labels refl, refl) ⨾ (simp labels refl, refl)
+    ⨾ (simp labels refl, refl) ⨾ (simp labels refl, refl) ⨾ (refl, refl) ⨾ (simp labels refl, refl)
+    ⨾ (refl, refl) ⨾ (simp labels refl, refl) ⨾ tt)
 
 pub using_numbers_again_ran : Goes desk using_numbers_again
 unfolding running worlds
@@ -306,4 +323,7 @@ using_numbers_again_ran = lines_given (opening_world desk) 1 (calls using_number
     ∷ answered piped (reply.Two (record { 0 = 0 }) (record { 0 = 1 }))
     ∷ refused piped refusal.Again
     ∷ [])
-    ((simp labels refl, refl), ((simp labels refl, refl), ((refl, refl), ((simp labels refl, refl), ((simp labels refl, refl), ((refl, refl), ((refl, refl), ((simp labels refl, refl), ((refl, refl), ((refl, refl), ((refl, refl), ((simp labels refl, refl), tt))))))))))))
+    ((simp labels refl, refl) ⨾ (simp labels refl, refl) ⨾ (refl, refl) ⨾ (simp labels refl, refl)
+    ⨾ (simp labels refl, refl) ⨾ (refl, refl) ⨾ (refl, refl) ⨾ (simp labels refl, refl)
+    ⨾ (refl, refl) ⨾ (refl, refl) ⨾ (refl, refl) ⨾ (simp labels refl, refl)
+    ⨾ tt)

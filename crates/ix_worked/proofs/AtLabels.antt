@@ -13,10 +13,10 @@ use Rattle.ix_model.specs.declared.call.Mode.TheVariants as mode
 use Rattle.ix_model.specs.declared.refusal.Refusal.TheVariants as refusal
 use Rattle.ix_model.specs.declared.reply.Kind.TheVariants as kind
 use Rattle.ix_model.specs.declared.reply.Reply.TheVariants as reply
-use Rattle.ix_worked.specs.OnLabels.{levels, no_lines, officers, heights, pair, chest, holding_down, setting_labels, setting_ceilings, freezing, acting_without_a_line, acting, acting_log, finding_what_is_high, looking_into_an_empty_pipe, making_names_high, raising_ceilings, raising_ceilings_log}
+use Rattle.ix_worked.specs.OnLabels.{levels, no_lines, officers, heights, low_house, pair, chest, holding_down, setting_labels, setting_ceilings, freezing, acting_without_a_line, acting, acting_log, finding_what_is_high, setting_high, looking_into_an_empty_pipe, making_names_high, raising_ceilings, raising_ceilings_log}
 use Rattle.ix_worked.specs.Scripts.{three, five, log_line}
 use Rattle.ix_worked.specs.Sessions.{log_of, calls, Goes}
-use Rattle.ix_worked.proofs.Chains.{Gives, number, bytes, refused, answered, done, log_given, lines_given}
+use Rattle.ix_worked.proofs.Chains.{◌⨾◌, Gives, number, bytes, refused, answered, done, log_given, lines_given}
 use Rattle.ix_worked.proofs.Computing.{running, auditing, fitting}
 use Rattle.ix_worked.proofs.Labels.{labels}
 use Rattle.ix_worked.proofs.Worlds.{with_process, with_object, with_line, floated, raised, opened, with_entry, with_new, with_pipe, with_child}
@@ -37,6 +37,10 @@ officers_fits = simp labels refl
 pub heights_fits : is_valid heights ≡ true
 unfolding fitting
 heights_fits = simp labels refl
+
+pub low_house_fits : is_valid low_house ≡ true
+unfolding fitting
+low_house_fits = simp labels refl
 
 pub pair_fits : is_valid pair ≡ true
 unfolding fitting
@@ -107,6 +111,12 @@ lowered = with_line (log_line 12 1 act.DownSelf 1 three bottom) (floated 1 botto
 dropped : World
 dropped = with_process 1 (λ p. record p { cap = no_privileges; lic = record { 0 = 30 } }) lowered
 
+at_low_house : World
+at_low_house = opening_world low_house
+
+file_at_three : World
+file_at_three = raised 1 three at_low_house
+
 at_pair : World
 at_pair = opening_world pair
 
@@ -166,7 +176,7 @@ d_high = with_process 4 (λ p. record p { label = five }) c_high
 
 -- opens all of them
 worlds : ℕ
-unfolding at_levels opened_high held_down raised_file frozen_file lower forked child_low grandchild at_no_lines stiff at_officers stopped thawed given granted read_it executed lowered dropped at_pair pair_piped two_there secret_open child_high pipe_high at_chest chest_filed chest_closed ceiling_low ceiling_high at_heights high_open gone_there frozen_high a_high b_high c_high d_high
+unfolding at_levels opened_high held_down raised_file frozen_file lower forked child_low grandchild at_no_lines stiff at_officers stopped thawed given granted read_it executed lowered dropped at_low_house file_at_three at_pair pair_piped two_there secret_open child_high pipe_high at_chest chest_filed chest_closed ceiling_low ceiling_high at_heights high_open gone_there frozen_high a_high b_high c_high d_high
 worlds = 0
 
 -- ---- the histories
@@ -180,7 +190,8 @@ holding_down_ran = lines_given (opening_world levels) 1 (calls holding_down)
     ∷ done held_down
     ∷ answered held_down (reply.Lab bottom)
     ∷ [])
-    ((simp labels refl, refl), ((refl, refl), ((simp labels refl, refl), ((simp labels refl, refl), ((simp labels refl, refl), ((refl, refl), tt))))))
+    ((simp labels refl, refl) ⨾ (refl, refl) ⨾ (simp labels refl, refl) ⨾ (simp labels refl, refl)
+    ⨾ (simp labels refl, refl) ⨾ (refl, refl) ⨾ tt)
 
 pub setting_labels_ran : Goes levels setting_labels
 unfolding running worlds
@@ -192,7 +203,8 @@ setting_labels_ran = lines_given (opening_world levels) 1 (calls setting_labels)
     ∷ done raised_file
     ∷ answered raised_file (reply.Lab three)
     ∷ [])
-    ((simp labels refl, refl), ((simp labels refl, refl), ((simp labels refl, refl), ((simp labels refl, refl), ((simp labels refl, refl), ((simp labels refl, refl), tt))))))
+    ((simp labels refl, refl) ⨾ (simp labels refl, refl) ⨾ (simp labels refl, refl) ⨾ (simp labels refl, refl)
+    ⨾ (simp labels refl, refl) ⨾ (simp labels refl, refl) ⨾ tt)
 
 pub setting_ceilings_ran : Goes levels setting_ceilings
 unfolding running worlds
@@ -207,7 +219,9 @@ setting_ceilings_ran = lines_given (opening_world levels) 1 (calls setting_ceili
     ∷ number grandchild 5
     ∷ refused grandchild refusal.NoCapability
     ∷ [])
-    ((simp labels refl, refl), ((simp labels refl, refl), ((simp labels refl, refl), ((simp labels refl, refl), ((simp labels refl, refl), ((refl, refl), ((simp labels refl, refl), ((refl, refl), ((simp labels refl, refl), tt)))))))))
+    ((simp labels refl, refl) ⨾ (simp labels refl, refl) ⨾ (simp labels refl, refl) ⨾ (simp labels refl, refl)
+    ⨾ (simp labels refl, refl) ⨾ (refl, refl) ⨾ (simp labels refl, refl) ⨾ (refl, refl)
+    ⨾ (simp labels refl, refl) ⨾ tt)
 
 pub freezing_ran : Goes levels freezing
 unfolding running worlds
@@ -218,13 +232,16 @@ freezing_ran = lines_given (opening_world levels) 1 (calls freezing)
     ∷ refused frozen_file refusal.FileFrozen
     ∷ answered frozen_file (reply.Lab three)
     ∷ [])
-    ((simp labels refl, refl), ((simp labels refl, refl), ((simp labels refl, refl), ((simp labels refl, refl), ((simp labels refl, refl), tt)))))
+    ((simp labels refl, refl) ⨾ (simp labels refl, refl) ⨾ (simp labels refl, refl) ⨾ (simp labels refl, refl)
+    ⨾ (simp labels refl, refl) ⨾ tt)
 
 pub acting_without_a_line_ran : Goes no_lines acting_without_a_line
 unfolding running worlds
 acting_without_a_line_ran = lines_given (opening_world no_lines) 1 (calls acting_without_a_line)
     (done stiff ∷ (replicate 7 (refused stiff refusal.LogFull) ++ refused stiff refusal.EndOfList ∷ []))
-    ((refl, refl), ((simp labels refl, refl), ((simp labels refl, refl), ((simp labels refl, refl), ((simp labels refl, refl), ((refl, refl), ((refl, refl), ((simp labels refl, refl), ((refl, refl), tt)))))))))
+    ((refl, refl) ⨾ (simp labels refl, refl) ⨾ (simp labels refl, refl) ⨾ (simp labels refl, refl)
+    ⨾ (simp labels refl, refl) ⨾ (refl, refl) ⨾ (refl, refl) ⨾ (simp labels refl, refl)
+    ⨾ (refl, refl) ⨾ tt)
 
 abbrev acting_given : List Given
 acting_given =
@@ -246,7 +263,10 @@ acting_given =
 
 acting_steps : Gives (opening_world officers) 1 (calls acting) acting_given
 unfolding running worlds
-acting_steps = ((refl, refl), ((refl, refl), ((simp labels refl, refl), ((simp labels refl, refl), ((refl, refl), ((simp labels refl, refl), ((simp labels refl, refl), ((refl, refl), ((refl, refl), ((simp labels refl, refl), ((simp labels refl, refl), ((simp labels refl, refl), ((refl, refl), ((simp labels refl, refl), tt))))))))))))))
+acting_steps = ((refl, refl) ⨾ (refl, refl) ⨾ (simp labels refl, refl) ⨾ (simp labels refl, refl)
+    ⨾ (refl, refl) ⨾ (simp labels refl, refl) ⨾ (simp labels refl, refl) ⨾ (refl, refl)
+    ⨾ (refl, refl) ⨾ (simp labels refl, refl) ⨾ (simp labels refl, refl) ⨾ (simp labels refl, refl)
+    ⨾ (refl, refl) ⨾ (simp labels refl, refl) ⨾ tt)
 
 pub acting_ran : Goes officers acting
 unfolding running worlds
@@ -273,7 +293,22 @@ finding_what_is_high_ran = lines_given (opening_world heights) 1 (calls finding_
     ∷ done d_high
     ∷ refused d_high refusal.InUse
     ∷ [])
-    ((simp labels refl, refl), ((simp labels refl, refl), ((simp labels refl, refl), ((simp labels refl, refl), ((simp labels refl, refl), ((simp labels refl, refl), ((simp labels refl, refl), ((simp labels refl, refl), ((simp labels refl, refl), ((simp labels refl, refl), ((simp labels refl, refl), ((simp labels refl, refl), ((simp labels refl, refl), tt)))))))))))))
+    ((simp labels refl, refl) ⨾ (simp labels refl, refl) ⨾ (simp labels refl, refl) ⨾ (simp labels refl, refl)
+    ⨾ (simp labels refl, refl) ⨾ (simp labels refl, refl) ⨾ (simp labels refl, refl) ⨾ (simp labels refl, refl)
+    ⨾ (simp labels refl, refl) ⨾ (simp labels refl, refl) ⨾ (simp labels refl, refl) ⨾ (simp labels refl, refl)
+    ⨾ (simp labels refl, refl) ⨾ tt)
+
+pub setting_high_ran : Goes low_house setting_high
+unfolding running worlds
+setting_high_ran = lines_given (opening_world low_house) 1 (calls setting_high)
+    (refused at_low_house refusal.FsCeiling
+    ∷ done file_at_three
+    ∷ refused file_at_three refusal.ProcCeiling
+    ∷ done (floated 1 three file_at_three)
+    ∷ answered (floated 1 three file_at_three) (reply.Lab three)
+    ∷ [])
+    ((simp labels refl, refl) ⨾ (simp labels refl, refl) ⨾ (simp labels refl, refl) ⨾ (simp labels refl, refl)
+    ⨾ (simp labels refl, refl) ⨾ tt)
 
 pub looking_into_an_empty_pipe_ran : Goes pair looking_into_an_empty_pipe
 unfolding running worlds
@@ -285,7 +320,8 @@ looking_into_an_empty_pipe_ran = lines_given (opening_world pair) 1 (calls looki
     ∷ number pipe_high 0
     ∷ refused (floated 1 five pipe_high) refusal.Again
     ∷ [])
-    ((refl, refl), ((refl, refl), ((simp labels refl, refl), ((simp labels refl, refl), ((simp labels refl, refl), ((simp labels refl, refl), tt))))))
+    ((refl, refl) ⨾ (refl, refl) ⨾ (simp labels refl, refl) ⨾ (simp labels refl, refl)
+    ⨾ (simp labels refl, refl) ⨾ (simp labels refl, refl) ⨾ tt)
 
 pub making_names_high_ran : Goes chest making_names_high
 unfolding running worlds
@@ -298,7 +334,8 @@ making_names_high_ran = lines_given (opening_world chest) 1 (calls making_names_
     ∷ refused chest_closed refusal.FileFrozen
     ∷ number (with_object 1 (with_name (codes "y") 3) (with_new 3 (Some (new_object kind.File (Some 0))) chest_closed)) 3
     ∷ [])
-    ((simp labels refl, refl), ((simp labels refl, refl), ((simp labels refl, refl), ((simp labels refl, refl), ((simp labels refl, refl), ((simp labels refl, refl), ((simp labels refl, refl), tt)))))))
+    ((simp labels refl, refl) ⨾ (simp labels refl, refl) ⨾ (simp labels refl, refl) ⨾ (simp labels refl, refl)
+    ⨾ (simp labels refl, refl) ⨾ (simp labels refl, refl) ⨾ (simp labels refl, refl) ⨾ tt)
 
 abbrev raising_ceilings_given : List Given
 raising_ceilings_given =
@@ -309,7 +346,7 @@ raising_ceilings_given =
 
 raising_ceilings_steps : Gives (opening_world officers) 1 (calls raising_ceilings) raising_ceilings_given
 unfolding running worlds
-raising_ceilings_steps = ((simp labels refl, refl), ((simp labels refl, refl), ((simp labels refl, refl), tt)))
+raising_ceilings_steps = ((simp labels refl, refl) ⨾ (simp labels refl, refl) ⨾ (simp labels refl, refl) ⨾ tt)
 
 pub raising_ceilings_ran : Goes officers raising_ceilings
 unfolding running worlds

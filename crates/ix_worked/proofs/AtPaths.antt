@@ -10,9 +10,9 @@ use Rattle.ix_model.specs.declared.call.Mode.TheVariants as mode
 use Rattle.ix_model.specs.declared.refusal.Refusal.TheVariants as refusal
 use Rattle.ix_model.specs.declared.reply.Kind.TheVariants as kind
 use Rattle.ix_model.specs.declared.reply.Reply.TheVariants as reply
-use Rattle.ix_worked.specs.OnPaths.{shelves, full, tight, seeking, looking_into_a_file, using_a_directory, making_again, crossing, removing_a_home, making_files, making_names, asking_for_objects, unlinking_an_open_file, working_in_a_directory, sharing_blocks}
+use Rattle.ix_worked.specs.OnPaths.{shelves, furnished, full, tight, seeking, looking_into_a_file, using_a_directory, making_again, crossing, removing_a_home, making_files, making_names, asking_for_objects, unlinking_an_open_file, looking_around, working_in_a_directory, sharing_blocks}
 use Rattle.ix_worked.specs.Sessions.{calls, Goes}
-use Rattle.ix_worked.proofs.Chains.{number, bytes, refused, answered, done, lines_given}
+use Rattle.ix_worked.proofs.Chains.{◌⨾◌, number, bytes, refused, answered, done, lines_given}
 use Rattle.ix_worked.proofs.Computing.{running, fitting}
 use Rattle.ix_worked.proofs.Labels.{labels}
 use Rattle.ix_worked.proofs.Worlds.{with_process, with_object, opened, with_entry, with_fd, without_entry, moved, holding, with_new}
@@ -21,6 +21,10 @@ use Rattle.ix_worked.proofs.Worlds.{with_process, with_object, opened, with_entr
 pub shelves_fits : is_valid shelves ≡ true
 unfolding fitting
 shelves_fits = simp labels refl
+
+pub furnished_fits : is_valid furnished ≡ true
+unfolding fitting
+furnished_fits = simp labels refl
 
 pub full_fits : is_valid full ≡ true
 unfolding fitting
@@ -45,6 +49,9 @@ with_a = with_object 0 (with_name (codes "a") 3) (with_new 3 (Some (new_object k
 
 with_b : World
 with_b = with_object 4 (with_name (codes "b") 5) (with_new 5 (Some (new_object kind.File (Some 1))) with_a)
+
+at_furnished : World
+at_furnished = opening_world furnished
 
 at_full : World
 at_full = opening_world full
@@ -93,7 +100,7 @@ tight_both = with_entry 1 1 1 (opened 5 mode.Write) tight_new
 
 -- opens all of them
 worlds : ℕ
-unfolding at_shelves in_d without_d with_a with_b at_full one_less linked reading nameless beside read_all gone reused kept at_tight tight_open tight_full tight_new tight_both
+unfolding at_shelves in_d without_d with_a with_b at_furnished at_full one_less linked reading nameless beside read_all gone reused kept at_tight tight_open tight_full tight_new tight_both
 worlds = 0
 
 -- ---- the histories
@@ -101,31 +108,35 @@ pub seeking_ran : Goes shelves seeking
 unfolding running worlds
 seeking_ran = lines_given (opening_world shelves) 1 (calls seeking)
     (replicate 7 (refused at_shelves refusal.NotFound))
-    ((simp labels refl, refl), ((simp labels refl, refl), ((simp labels refl, refl), ((simp labels refl, refl), ((simp labels refl, refl), ((simp labels refl, refl), ((simp labels refl, refl), tt)))))))
+    ((simp labels refl, refl) ⨾ (simp labels refl, refl) ⨾ (simp labels refl, refl) ⨾ (simp labels refl, refl)
+    ⨾ (simp labels refl, refl) ⨾ (simp labels refl, refl) ⨾ (simp labels refl, refl) ⨾ tt)
 
 pub looking_into_a_file_ran : Goes shelves looking_into_a_file
 unfolding running worlds
 looking_into_a_file_ran = lines_given (opening_world shelves) 1 (calls looking_into_a_file)
     (replicate 6 (refused at_shelves refusal.NotDir))
-    ((simp labels refl, refl), ((simp labels refl, refl), ((simp labels refl, refl), ((simp labels refl, refl), ((simp labels refl, refl), ((simp labels refl, refl), tt))))))
+    ((simp labels refl, refl) ⨾ (simp labels refl, refl) ⨾ (simp labels refl, refl) ⨾ (simp labels refl, refl)
+    ⨾ (simp labels refl, refl) ⨾ (simp labels refl, refl) ⨾ tt)
 
 pub using_a_directory_ran : Goes shelves using_a_directory
 unfolding running worlds
 using_a_directory_ran = lines_given (opening_world shelves) 1 (calls using_a_directory)
     (replicate 6 (refused at_shelves refusal.IsDir))
-    ((simp labels refl, refl), ((simp labels refl, refl), ((simp labels refl, refl), ((simp labels refl, refl), ((simp labels refl, refl), ((simp labels refl, refl), tt))))))
+    ((simp labels refl, refl) ⨾ (simp labels refl, refl) ⨾ (simp labels refl, refl) ⨾ (simp labels refl, refl)
+    ⨾ (simp labels refl, refl) ⨾ (simp labels refl, refl) ⨾ tt)
 
 pub making_again_ran : Goes shelves making_again
 unfolding running worlds
 making_again_ran = lines_given (opening_world shelves) 1 (calls making_again)
     (replicate 6 (refused at_shelves refusal.Exists))
-    ((simp labels refl, refl), ((simp labels refl, refl), ((simp labels refl, refl), ((simp labels refl, refl), ((simp labels refl, refl), ((simp labels refl, refl), tt))))))
+    ((simp labels refl, refl) ⨾ (simp labels refl, refl) ⨾ (simp labels refl, refl) ⨾ (simp labels refl, refl)
+    ⨾ (simp labels refl, refl) ⨾ (simp labels refl, refl) ⨾ tt)
 
 pub crossing_ran : Goes shelves crossing
 unfolding running worlds
 crossing_ran = lines_given (opening_world shelves) 1 (calls crossing)
     (replicate 3 (refused at_shelves refusal.CrossFs))
-    ((simp labels refl, refl), ((simp labels refl, refl), ((simp labels refl, refl), tt)))
+    ((simp labels refl, refl) ⨾ (simp labels refl, refl) ⨾ (simp labels refl, refl) ⨾ tt)
 
 pub removing_a_home_ran : Goes shelves removing_a_home
 unfolding running worlds
@@ -136,7 +147,8 @@ removing_a_home_ran = lines_given (opening_world shelves) 1 (calls removing_a_ho
     ∷ done at_shelves
     ∷ done without_d
     ∷ [])
-    ((simp labels refl, refl), ((simp labels refl, refl), ((simp labels refl, refl), ((simp labels refl, refl), ((simp labels refl, refl), tt)))))
+    ((simp labels refl, refl) ⨾ (simp labels refl, refl) ⨾ (simp labels refl, refl) ⨾ (simp labels refl, refl)
+    ⨾ (simp labels refl, refl) ⨾ tt)
 
 pub making_files_ran : Goes shelves making_files
 unfolding running worlds
@@ -147,7 +159,8 @@ making_files_ran = lines_given (opening_world shelves) 1 (calls making_files)
     ∷ number with_b 5
     ∷ refused with_b refusal.NoInode
     ∷ [])
-    ((simp labels refl, refl), ((simp labels refl, refl), ((simp labels refl, refl), ((simp labels refl, refl), ((simp labels refl, refl), tt)))))
+    ((simp labels refl, refl) ⨾ (simp labels refl, refl) ⨾ (simp labels refl, refl) ⨾ (simp labels refl, refl)
+    ⨾ (simp labels refl, refl) ⨾ tt)
 
 pub making_names_ran : Goes full making_names
 unfolding running worlds
@@ -158,7 +171,8 @@ making_names_ran = lines_given (opening_world full) 1 (calls making_names)
     ∷ done one_less
     ∷ done (with_object 0 (with_name (codes "a") 2) one_less)
     ∷ [])
-    ((simp labels refl, refl), ((simp labels refl, refl), ((simp labels refl, refl), ((simp labels refl, refl), ((simp labels refl, refl), tt)))))
+    ((simp labels refl, refl) ⨾ (simp labels refl, refl) ⨾ (simp labels refl, refl) ⨾ (simp labels refl, refl)
+    ⨾ (simp labels refl, refl) ⨾ tt)
 
 pub asking_for_objects_ran : Goes shelves asking_for_objects
 unfolding running worlds
@@ -172,7 +186,9 @@ asking_for_objects_ran = lines_given (opening_world shelves) 1 (calls asking_for
     ∷ answered linked (reply.Named (codes "k") (record { 0 = 1 }))
     ∷ refused linked refusal.EndOfList
     ∷ [])
-    ((simp labels refl, refl), ((simp labels refl, refl), ((simp labels refl, refl), ((simp labels refl, refl), ((simp labels refl, refl), ((simp labels refl, refl), ((simp labels refl, refl), ((simp labels refl, refl), tt))))))))
+    ((simp labels refl, refl) ⨾ (simp labels refl, refl) ⨾ (simp labels refl, refl) ⨾ (simp labels refl, refl)
+    ⨾ (simp labels refl, refl) ⨾ (simp labels refl, refl) ⨾ (simp labels refl, refl) ⨾ (simp labels refl, refl)
+    ⨾ tt)
 
 pub unlinking_an_open_file_ran : Goes shelves unlinking_an_open_file
 unfolding running worlds
@@ -187,7 +203,26 @@ unlinking_an_open_file_ran = lines_given (opening_world shelves) 1 (calls unlink
     ∷ number (with_entry 1 0 0 (opened 1 mode.Read) reused) 0
     ∷ bytes (with_entry 1 0 0 (opened 1 mode.Read) reused) []
     ∷ [])
-    ((simp labels refl, refl), ((simp labels refl, refl), ((simp labels refl, refl), ((simp labels refl, refl), ((simp labels refl, refl), ((refl, refl), ((simp labels refl, refl), ((simp labels refl, refl), ((simp labels refl, refl), tt)))))))))
+    ((simp labels refl, refl) ⨾ (simp labels refl, refl) ⨾ (simp labels refl, refl) ⨾ (simp labels refl, refl)
+    ⨾ (simp labels refl, refl) ⨾ (refl, refl) ⨾ (simp labels refl, refl) ⨾ (simp labels refl, refl)
+    ⨾ (simp labels refl, refl) ⨾ tt)
+
+pub looking_around_ran : Goes furnished looking_around
+unfolding running worlds
+looking_around_ran = lines_given (opening_world furnished) 1 (calls looking_around)
+    (answered at_furnished (reply.Stat (record { 0 = 1 }) kind.Dir 0 1 false no_privileges no_privileges)
+    ∷ answered at_furnished (reply.Stat (record { 0 = 2 }) kind.File 3 1 false no_privileges no_privileges)
+    ∷ answered at_furnished (reply.Stat (record { 0 = 6 }) kind.Dir 0 1 false no_privileges no_privileges)
+    ∷ answered at_furnished (reply.Stat (record { 0 = 7 }) kind.File 0 1 false no_privileges no_privileges)
+    ∷ answered at_furnished (reply.Stat (record { 0 = 3 }) kind.File 1 1 true no_privileges no_privileges)
+    ∷ answered at_furnished (reply.Named (codes "vol") (record { 0 = 6 }))
+    ∷ answered at_furnished (reply.Named (codes "d") (record { 0 = 1 }))
+    ∷ answered at_furnished (reply.Named (codes "o") (record { 0 = 3 }))
+    ∷ answered at_furnished (reply.Named (codes "m") (record { 0 = 7 }))
+    ∷ [])
+    ((simp labels refl, refl) ⨾ (simp labels refl, refl) ⨾ (simp labels refl, refl) ⨾ (simp labels refl, refl)
+    ⨾ (simp labels refl, refl) ⨾ (simp labels refl, refl) ⨾ (simp labels refl, refl) ⨾ (simp labels refl, refl)
+    ⨾ (simp labels refl, refl) ⨾ tt)
 
 pub working_in_a_directory_ran : Goes shelves working_in_a_directory
 unfolding running worlds
@@ -199,7 +234,8 @@ working_in_a_directory_ran = lines_given (opening_world shelves) 1 (calls workin
     ∷ refused kept refusal.NotEmpty
     ∷ done in_d
     ∷ [])
-    ((simp labels refl, refl), ((simp labels refl, refl), ((simp labels refl, refl), ((simp labels refl, refl), ((simp labels refl, refl), ((simp labels refl, refl), tt))))))
+    ((simp labels refl, refl) ⨾ (simp labels refl, refl) ⨾ (simp labels refl, refl) ⨾ (simp labels refl, refl)
+    ⨾ (simp labels refl, refl) ⨾ (simp labels refl, refl) ⨾ tt)
 
 pub sharing_blocks_ran : Goes tight sharing_blocks
 unfolding running worlds
@@ -212,4 +248,5 @@ sharing_blocks_ran = lines_given (opening_world tight) 1 (calls sharing_blocks)
     ∷ refused tight_both refusal.NoSpace
     ∷ number (moved 1 512 (holding 5 (replicate 512 65) [] tight_both)) 512
     ∷ [])
-    ((simp labels refl, refl), ((refl, refl), ((simp labels refl, refl), ((simp labels refl, refl), ((simp labels refl, refl), ((refl, refl), ((simp labels refl, refl), tt)))))))
+    ((simp labels refl, refl) ⨾ (refl, refl) ⨾ (simp labels refl, refl) ⨾ (simp labels refl, refl)
+    ⨾ (simp labels refl, refl) ⨾ (refl, refl) ⨾ (simp labels refl, refl) ⨾ tt)

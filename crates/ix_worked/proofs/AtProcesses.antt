@@ -7,7 +7,7 @@ use Rattle.ix_model.specs.declared.refusal.Refusal.TheVariants as refusal
 use Rattle.ix_model.specs.declared.reply.Reply.TheVariants as reply
 use Rattle.ix_worked.specs.OnProcesses.{family, calling_as_nobody, calling_after_the_end, forking_often, waiting_for_a_child, ending_first, ending_out_of_order}
 use Rattle.ix_worked.specs.Sessions.{calls, Goes}
-use Rattle.ix_worked.proofs.Chains.{number, refused, answered, done, lines_given}
+use Rattle.ix_worked.proofs.Chains.{◌⨾◌, number, refused, answered, done, lines_given}
 use Rattle.ix_worked.proofs.Computing.{running, fitting}
 use Rattle.ix_worked.proofs.Labels.{labels}
 use Rattle.ix_worked.proofs.Worlds.{with_child, with_ended, without_process}
@@ -76,7 +76,8 @@ calling_as_nobody_ran = lines_given (opening_world family) 1 (calls calling_as_n
     ∷ done (without_process 1 alone)
     ∷ refused (without_process 1 alone) refusal.NoProcess
     ∷ [])
-    ((refl, refl), ((refl, refl), ((refl, refl), ((refl, refl), ((refl, refl), ((refl, refl), tt))))))
+    ((refl, refl) ⨾ (refl, refl) ⨾ (refl, refl) ⨾ (refl, refl)
+    ⨾ (refl, refl) ⨾ (refl, refl) ⨾ tt)
 
 pub calling_after_the_end_ran : Goes family calling_after_the_end
 unfolding running worlds
@@ -88,7 +89,8 @@ calling_after_the_end_ran = lines_given (opening_world family) 1 (calls calling_
     ∷ answered collected (reply.Child (record { 0 = 2 }) 3)
     ∷ refused collected refusal.NoProcess
     ∷ [])
-    ((refl, refl), ((refl, refl), ((refl, refl), ((refl, refl), ((simp labels refl, refl), ((refl, refl), tt))))))
+    ((refl, refl) ⨾ (refl, refl) ⨾ (refl, refl) ⨾ (refl, refl)
+    ⨾ (simp labels refl, refl) ⨾ (refl, refl) ⨾ tt)
 
 pub forking_often_ran : Goes family forking_often
 unfolding running worlds
@@ -101,7 +103,8 @@ forking_often_ran = lines_given (opening_world family) 1 (calls forking_often)
     ∷ answered first_collected (reply.Child (record { 0 = 2 }) 3)
     ∷ number (with_child 1 first_collected) 4
     ∷ [])
-    ((refl, refl), ((refl, refl), ((refl, refl), ((refl, refl), ((refl, refl), ((simp labels refl, refl), ((refl, refl), tt)))))))
+    ((refl, refl) ⨾ (refl, refl) ⨾ (refl, refl) ⨾ (refl, refl)
+    ⨾ (refl, refl) ⨾ (simp labels refl, refl) ⨾ (refl, refl) ⨾ tt)
 
 pub waiting_for_a_child_ran : Goes family waiting_for_a_child
 unfolding running worlds
@@ -116,7 +119,9 @@ waiting_for_a_child_ran = lines_given (opening_world family) 1 (calls waiting_fo
     ∷ answered all_collected (reply.Child (record { 0 = 2 }) 4)
     ∷ refused all_collected refusal.NoChild
     ∷ [])
-    ((refl, refl), ((refl, refl), ((refl, refl), ((refl, refl), ((refl, refl), ((simp labels refl, refl), ((refl, refl), ((simp labels refl, refl), ((refl, refl), tt)))))))))
+    ((refl, refl) ⨾ (refl, refl) ⨾ (refl, refl) ⨾ (refl, refl)
+    ⨾ (refl, refl) ⨾ (simp labels refl, refl) ⨾ (refl, refl) ⨾ (simp labels refl, refl)
+    ⨾ (refl, refl) ⨾ tt)
 
 pub ending_first_ran : Goes family ending_first
 unfolding running worlds
@@ -128,7 +133,8 @@ ending_first_ran = lines_given (opening_world family) 1 (calls ending_first)
     ∷ answered collected (reply.Child (record { 0 = 2 }) 3)
     ∷ done (without_process 1 collected)
     ∷ [])
-    ((refl, refl), ((refl, refl), ((refl, refl), ((refl, refl), ((simp labels refl, refl), ((refl, refl), tt))))))
+    ((refl, refl) ⨾ (refl, refl) ⨾ (refl, refl) ⨾ (refl, refl)
+    ⨾ (simp labels refl, refl) ⨾ (refl, refl) ⨾ tt)
 
 pub ending_out_of_order_ran : Goes family ending_out_of_order
 unfolding running worlds
@@ -140,4 +146,5 @@ ending_out_of_order_ran = lines_given (opening_world family) 1 (calls ending_out
     ∷ answered (without_process 2 both_ended) (reply.Child (record { 0 = 2 }) 3)
     ∷ answered (without_process 3 (without_process 2 both_ended)) (reply.Child (record { 0 = 3 }) 5)
     ∷ [])
-    ((refl, refl), ((refl, refl), ((refl, refl), ((refl, refl), ((simp labels refl, refl), ((simp labels refl, refl), tt))))))
+    ((refl, refl) ⨾ (refl, refl) ⨾ (refl, refl) ⨾ (refl, refl)
+    ⨾ (simp labels refl, refl) ⨾ (simp labels refl, refl) ⨾ tt)

@@ -17,7 +17,7 @@ use Rattle.ix_model.specs.declared.reply.Reply.TheVariants as reply
 use Rattle.ix_worked.specs.Login.{office, asking, asking_shows}
 use Rattle.ix_worked.specs.Scripts.{all_five, two_and_five, in_root, under, log_line}
 use Rattle.ix_worked.specs.Sessions.{shown, log_of}
-use Rattle.ix_worked.proofs.Chains.{Steps, Gives, number, bytes, refused, answered, done, shown_by, shown_given, log_given}
+use Rattle.ix_worked.proofs.Chains.{◌⨾◌, Steps, Gives, number, bytes, refused, answered, done, shown_by, shown_given, log_given}
 use Rattle.ix_worked.proofs.Computing.{running, auditing}
 use Rattle.ix_worked.proofs.Labels.{labels}
 use Rattle.ix_worked.proofs.Worlds.{with_process, with_object, with_line, floated, raised, opened, with_entry, moved, holding, with_new, with_pipe, claimed_by, with_child}
@@ -358,127 +358,18 @@ given =
     ∷ []
 
 gives : Gives at_first 1 asking given
-gives = (
-  makes,
-  (
-    makes_again,
-    (
-      forks,
-      (
-        drops,
-        (
-          claims,
-          (
-            user_claims,
-            (
-              asks,
-              (
-                finds_it_whole,
-                (
-                  hears,
-                  (
-                    forks_ann,
-                    (
-                      ann_drops,
-                      (
-                        holds_ann,
-                        (
-                          grants_ann,
-                          (
-                            tells_ann,
-                            (
-                              lets_ann_go,
-                              (
-                                user_reads,
-                                (
-                                  claims_again,
-                                  (
-                                    asks_again,
-                                    (
-                                      finds_it_whole_again,
-                                      (
-                                        hears_again,
-                                        (
-                                          forks_bob,
-                                          (
-                                            bob_drops,
-                                            (
-                                              holds_bob,
-                                              (
-                                                tells_bob,
-                                                (
-                                                  lets_bob_go,
-                                                  (
-                                                    mails,
-                                                    (
-                                                      opens_plan,
-                                                      (
-                                                        reads_plan,
-                                                        (
-                                                          is_above_the_mail,
-                                                          (
-                                                            makes_report,
-                                                            (
-                                                              opens_report,
-                                                              (
-                                                                writes_report,
-                                                                (
-                                                                  executes,
-                                                                  (
-                                                                    has_no_licence,
-                                                                    (
-                                                                      claims_for_wants,
-                                                                      (
-                                                                        ann_claims,
-                                                                        (
-                                                                          wants,
-                                                                          (
-                                                                            finds_ann,
-                                                                            (
-                                                                              hears_ann,
-                                                                              (
-                                                                                grants_want,
-                                                                                (tells_want, (lets_want_go, (lowers, tt))),
-                                                                              ),
-                                                                            ),
-                                                                          ),
-                                                                        ),
-                                                                      ),
-                                                                    ),
-                                                                  ),
-                                                                ),
-                                                              ),
-                                                            ),
-                                                          ),
-                                                        ),
-                                                      ),
-                                                    ),
-                                                  ),
-                                                ),
-                                              ),
-                                            ),
-                                          ),
-                                        ),
-                                      ),
-                                    ),
-                                  ),
-                                ),
-                              ),
-                            ),
-                          ),
-                        ),
-                      ),
-                    ),
-                  ),
-                ),
-              ),
-            ),
-          ),
-        ),
-      ),
-    ),
-  ),
-)
+gives =
+    makes ⨾ makes_again ⨾ forks ⨾ drops
+    ⨾ claims ⨾ user_claims ⨾ asks ⨾ finds_it_whole
+    ⨾ hears ⨾ forks_ann ⨾ ann_drops ⨾ holds_ann
+    ⨾ grants_ann ⨾ tells_ann ⨾ lets_ann_go ⨾ user_reads
+    ⨾ claims_again ⨾ asks_again ⨾ finds_it_whole_again ⨾ hears_again
+    ⨾ forks_bob ⨾ bob_drops ⨾ holds_bob ⨾ tells_bob
+    ⨾ lets_bob_go ⨾ mails ⨾ opens_plan ⨾ reads_plan
+    ⨾ is_above_the_mail ⨾ makes_report ⨾ opens_report ⨾ writes_report
+    ⨾ executes ⨾ has_no_licence ⨾ claims_for_wants ⨾ ann_claims
+    ⨾ wants ⨾ finds_ann ⨾ hears_ann ⨾ grants_want
+    ⨾ tells_want ⨾ lets_want_go ⨾ lowers ⨾ tt
 
 opens : opening_world office ≡ at_first
 unfolding at_first

@@ -12,7 +12,7 @@ use Rattle.ix_model.specs.declared.reply.Reply.TheVariants as reply
 use Rattle.ix_worked.specs.Scripts.{seven, in_root, at_root, under}
 use Rattle.ix_worked.specs.Sessions.{shown}
 use Rattle.ix_worked.specs.Trees.{two_file_systems, naming, naming_shows}
-use Rattle.ix_worked.proofs.Chains.{Steps, Gives, number, refused, answered, done, shown_by, shown_given}
+use Rattle.ix_worked.proofs.Chains.{◌⨾◌, Steps, Gives, number, refused, answered, done, shown_by, shown_given}
 use Rattle.ix_worked.proofs.Computing.{running}
 use Rattle.ix_worked.proofs.Labels.{labels}
 use Rattle.ix_worked.proofs.Worlds.{with_object, floated, with_new}
@@ -96,22 +96,10 @@ given =
     ∷ []
 
 gives : Gives at_first 1 naming given
-gives = (
-  makes,
-  (
-    makes_in_it,
-    (
-      is_across,
-      (
-        is_not_empty,
-        (
-          unlinks,
-          (removes, (lists, (makes_high, (is_too_high, tt)))),
-        ),
-      ),
-    ),
-  ),
-)
+gives =
+    makes ⨾ makes_in_it ⨾ is_across ⨾ is_not_empty
+    ⨾ unlinks ⨾ removes ⨾ lists ⨾ makes_high
+    ⨾ is_too_high ⨾ tt
 
 opens : opening_world two_file_systems ≡ at_first
 unfolding at_first

@@ -12,7 +12,7 @@ use Rattle.ix_model.specs.declared.config.Config.{Config}
 use Rattle.ix_model.specs.declared.refusal.Refusal.TheVariants as refusal
 use Rattle.ix_model.specs.declared.reply.Kind.TheVariants as kind
 use Rattle.ix_model.specs.declared.reply.Reply.TheVariants as reply
-use Rattle.ix_worked.specs.Scripts.{all_five, three, five, three_and_five, in_root, under, proc, file, dir, gives, log_line, by, refuses, small_limits, small}
+use Rattle.ix_worked.specs.Scripts.{all_five, three, five, three_and_five, in_root, under, proc, file, dir, gives, log_line, by, refuses, small_limits, small_fs, small}
 use Rattle.ix_worked.specs.Sessions.{Line}
 
 -- proc a 3 * - -
@@ -51,6 +51,12 @@ officers = record
 -- dir /h 5 free
 abbrev pub heights : Config
 heights = record (small (replicate 5 (proc bottom top)) (file (codes "s") five [] ∷ dir (codes "h") five ∷ [])) { limits = record small_limits { procs = 8 } }
+
+-- fs root 3 4 4
+-- proc a - 3 - -
+-- file /f - free - - x
+abbrev pub low_house : Config
+low_house = record (small (proc bottom three ∷ []) (file (codes "f") bottom [] ∷ [])) { fss = record small_fs { ceiling = three } ∷ [] }
 
 -- proc a - * - -
 -- file /s 5 free - - x
@@ -167,6 +173,16 @@ finding_what_is_high =
     ∷ (by 3 (op.StatAt (in_root (codes "h"))), gives (reply.Stat (record { 0 = 2 }) kind.Dir 0 1 false no_privileges no_privileges) [] five)
     ∷ (by 4 (op.Exec (in_root (codes "s"))), gives reply.Done [] five)
     ∷ (by 5 (op.RemoveDir (in_root (codes "h"))), refuses refusal.InUse bottom)
+    ∷ []
+
+-- both ceilings are 3
+abbrev pub setting_high : List (Event × Line)
+setting_high =
+    (by 1 (op.SetLabel (in_root (codes "f")) five), refuses refusal.FsCeiling bottom)
+    ∷ (by 1 (op.SetLabel (in_root (codes "f")) three), gives reply.Done [] bottom)
+    ∷ (by 1 (op.SetSelf five), refuses refusal.ProcCeiling bottom)
+    ∷ (by 1 (op.SetSelf three), gives reply.Done [] three)
+    ∷ (by 1 (op.LabelOf (in_root (codes "f"))), gives (reply.Lab three) [] three)
     ∷ []
 
 -- the child has read what is at 5

@@ -1,5 +1,5 @@
 -- Short histories of the calls on paths.
-use Rattle.std.specs.Prelude.{false, List, [], ◌∷◌, map, replicate, codes}
+use Rattle.std.specs.Prelude.{true, false, List, [], ◌∷◌, map, replicate, codes}
 use Rattle.ix_label.specs.Category.{bottom, top}
 use Rattle.ix_model.specs.History.{Event}
 use Rattle.ix_model.specs.History as op
@@ -19,6 +19,23 @@ use Rattle.ix_worked.specs.Sessions.{Line}
 -- dir /d - free
 abbrev pub shelves : Config
 shelves = record (small (proc bottom top ∷ []) (file (codes "n") bottom (codes "abc") ∷ dir (codes "d") bottom ∷ [])) { fss = small_fs ∷ record small_fs { name = codes "vol"; inodes = 2 } ∷ [] }
+
+-- fs root * 4 6
+-- fs vol * 4 3
+-- proc a - * - -
+-- dir /d - free
+-- file /d/n - free - - "abc"
+-- file /vol/m - free - - x
+-- file /o - frozen - - "o"
+abbrev pub furnished : Config
+furnished = record
+    (small (proc bottom top ∷ [])
+    (dir (codes "d") bottom
+    ∷ record (file (codes "n") bottom (codes "abc")) { path = under (codes "d") (codes "n") }
+    ∷ record (file (codes "m") bottom []) { path = under (codes "vol") (codes "m") }
+    ∷ record (file (codes "o") bottom (codes "o")) { frozen = true }
+    ∷ []))
+    { fss = record small_fs { inodes = 6 } ∷ record small_fs { name = codes "vol"; inodes = 3 } ∷ [] }
 
 -- fs root * 4 32
 -- proc a - * - -
@@ -143,6 +160,20 @@ unlinking_an_open_file =
     ∷ (by 1 (op.CreateAt (in_root (codes "k"))), gives (reply.Number 1) [] bottom)
     ∷ (by 1 (op.OpenAt (in_root (codes "k")) mode.Read), gives (reply.Number 0) [] bottom)
     ∷ (by 1 (op.ReadFd 0 8), gives (reply.Bytes 0) [] bottom)
+    ∷ []
+
+-- directories are numbered as files are
+abbrev pub looking_around : List (Event × Line)
+looking_around =
+    (by 1 (op.StatAt (in_root (codes "d"))), gives (reply.Stat (record { 0 = 1 }) kind.Dir 0 1 false no_privileges no_privileges) [] bottom)
+    ∷ (by 1 (op.StatAt (under (codes "d") (codes "n"))), gives (reply.Stat (record { 0 = 2 }) kind.File 3 1 false no_privileges no_privileges) [] bottom)
+    ∷ (by 1 (op.StatAt (in_root (codes "vol"))), gives (reply.Stat (record { 0 = 6 }) kind.Dir 0 1 false no_privileges no_privileges) [] bottom)
+    ∷ (by 1 (op.StatAt (under (codes "vol") (codes "m"))), gives (reply.Stat (record { 0 = 7 }) kind.File 0 1 false no_privileges no_privileges) [] bottom)
+    ∷ (by 1 (op.StatAt (in_root (codes "o"))), gives (reply.Stat (record { 0 = 3 }) kind.File 1 1 true no_privileges no_privileges) [] bottom)
+    ∷ (by 1 (op.ListAt at_root 0), gives (reply.Named (codes "vol") (record { 0 = 6 })) [] bottom)
+    ∷ (by 1 (op.ListAt at_root 1), gives (reply.Named (codes "d") (record { 0 = 1 })) [] bottom)
+    ∷ (by 1 (op.ListAt at_root 2), gives (reply.Named (codes "o") (record { 0 = 3 })) [] bottom)
+    ∷ (by 1 (op.ListAt (in_root (codes "vol")) 0), gives (reply.Named (codes "m") (record { 0 = 7 })) [] bottom)
     ∷ []
 
 -- a file is made in /d, and removed

@@ -17,6 +17,8 @@ ghost use Rattle.ix_worked.specs.OnPaths.{
   shelves,
   asking_for_objects,
   unlinking_an_open_file,
+  furnished,
+  looking_around,
   working_in_a_directory,
   tight,
   sharing_blocks,
@@ -32,6 +34,8 @@ ghost use Rattle.ix_worked.specs.OnLabels.{
   acting_log,
   heights,
   finding_what_is_high,
+  low_house,
+  setting_high,
   pair,
   looking_into_an_empty_pipe,
   chest,
@@ -100,6 +104,14 @@ pub fn a_file_lasts_while_it_is_open()
     ensures goes { Goes shelves unlinking_an_open_file }
 {}
 
+/// A machine begins with what its config describes: each file and directory at the lowest free number of its file
+/// system, under its name, with its bytes.
+#[tactic(auto, using(crate::proofs::AtPaths::furnished_fits, crate::proofs::AtPaths::looking_around_ran))]
+pub fn a_machine_begins_as_it_is_described()
+    ensures valid { is_valid furnished ≡ true }
+    ensures goes { Goes furnished looking_around }
+{}
+
 /// A relative path begins at the working directory. That a directory has names is told before that it is in use.
 #[tactic(auto, using(crate::proofs::AtPaths::shelves_fits, crate::proofs::AtPaths::working_in_a_directory_ran))]
 pub fn a_relative_path_begins_at_the_working_directory()
@@ -158,6 +170,13 @@ pub fn each_act_is_a_line_of_the_log()
 pub fn some_calls_look_at_what_they_find()
     ensures valid { is_valid heights ≡ true }
     ensures goes { Goes heights finding_what_is_high }
+{}
+
+/// A label that is set stays below the ceiling of the file's file system, or of the process, as one that floats.
+#[tactic(auto, using(crate::proofs::AtLabels::low_house_fits, crate::proofs::AtLabels::setting_high_ran))]
+pub fn what_is_set_stays_below_its_ceiling()
+    ensures valid { is_valid low_house ≡ true }
+    ensures goes { Goes low_house setting_high }
 {}
 
 /// That a pipe is empty is told at its label, which a write of no bytes raises as any other.
