@@ -103,7 +103,8 @@ all_used = with_process 1 (λ p. record p { fds = replicate 32 (Some 0) }) long_
 
 -- opens all of them
 worlds : ℕ
-unfolding at_desk reading writing both far piped half shared three_open all_open one_end other_end whole handed handed_half handed_copy one_left none_left spliced shorter longer at_long_desk long_reading all_used
+unfolding at_desk reading writing both far piped half shared three_open all_open one_end other_end whole handed
+    handed_half handed_copy one_left none_left spliced shorter longer at_long_desk long_reading all_used
 worlds = 0
 
 -- ---- the histories

@@ -1,8 +1,6 @@
 -- The short histories of the calls on labels, privileges, ceilings and the log, entry by entry.
-use Rattle.std.proofs.Common.{◌≡◌, ℕ, true, false, List, [], ◌∷◌, ◌++◌, ◌∙◌, Some, replicate, refl, codes}
+use Rattle.std.proofs.Common.{◌≡◌, ℕ, true, false, List, [], ◌∷◌, ◌++◌, ◌∙◌, replicate, refl, codes}
 use Rattle.ix_label.specs.Category.{bottom, top}
-use Rattle.ix_model.specs.Directories.{with_name}
-use Rattle.ix_model.specs.OnPaths.{new_object}
 use Rattle.ix_model.specs.Opening.{opening_world}
 use Rattle.ix_model.specs.Privs.{to_lower, to_thaw, to_read_the_log, no_privileges}
 use Rattle.ix_model.specs.Step.{Given}
@@ -19,7 +17,7 @@ use Rattle.ix_worked.specs.Sessions.{log_of, calls, Goes}
 use Rattle.ix_worked.proofs.Chains.{◌⨾◌, Gives, number, bytes, refused, answered, done, log_given, lines_given}
 use Rattle.ix_worked.proofs.Computing.{running, auditing, fitting}
 use Rattle.ix_worked.proofs.Labels.{labels}
-use Rattle.ix_worked.proofs.Worlds.{with_process, with_object, with_line, floated, raised, opened, with_entry, with_new, with_pipe, with_child}
+use Rattle.ix_worked.proofs.Worlds.{with_made, with_process, with_object, with_line, floated, raised, opened, with_entry, with_pipe, with_child}
 
 -- ---- the configs are valid
 pub levels_fits : is_valid levels ≡ true
@@ -139,7 +137,7 @@ at_chest : World
 at_chest = opening_world chest
 
 chest_filed : World
-chest_filed = raised 1 three (with_object 1 (with_name (codes "x") 2) (with_new 2 (Some (new_object kind.File (Some 0))) at_chest))
+chest_filed = raised 1 three (with_made kind.File 0 1 (codes "x") 2 at_chest)
 
 chest_closed : World
 chest_closed = with_object 1 (λ x. record x { frozen = true }) chest_filed
@@ -176,7 +174,10 @@ d_high = with_process 4 (λ p. record p { label = five }) c_high
 
 -- opens all of them
 worlds : ℕ
-unfolding at_levels opened_high held_down raised_file frozen_file lower forked child_low grandchild at_no_lines stiff at_officers stopped thawed given granted read_it executed lowered dropped at_low_house file_at_three at_pair pair_piped two_there secret_open child_high pipe_high at_chest chest_filed chest_closed ceiling_low ceiling_high at_heights high_open gone_there frozen_high a_high b_high c_high d_high
+unfolding at_levels opened_high held_down raised_file frozen_file lower forked child_low grandchild at_no_lines stiff
+    at_officers stopped thawed given granted read_it executed lowered dropped at_low_house file_at_three at_pair pair_piped
+    two_there secret_open child_high pipe_high at_chest chest_filed chest_closed ceiling_low ceiling_high at_heights
+    high_open gone_there frozen_high a_high b_high c_high d_high
 worlds = 0
 
 -- ---- the histories
@@ -332,7 +333,7 @@ making_names_high_ran = lines_given (opening_world chest) 1 (calls making_names_
     ∷ done chest_closed
     ∷ refused chest_closed refusal.FileFrozen
     ∷ refused chest_closed refusal.FileFrozen
-    ∷ number (with_object 1 (with_name (codes "y") 3) (with_new 3 (Some (new_object kind.File (Some 0))) chest_closed)) 3
+    ∷ number (with_made kind.File 0 1 (codes "y") 3 chest_closed) 3
     ∷ [])
     ((simp labels refl, refl) ⨾ (simp labels refl, refl) ⨾ (simp labels refl, refl) ⨾ (simp labels refl, refl)
     ⨾ (simp labels refl, refl) ⨾ (simp labels refl, refl) ⨾ (simp labels refl, refl) ⨾ tt)

@@ -1,7 +1,6 @@
 -- The short histories of the calls on paths, entry by entry.
-use Rattle.std.proofs.Common.{◌≡◌, ℕ, true, false, [], ◌∷◌, Some, None, replicate, refl, codes}
+use Rattle.std.proofs.Common.{◌≡◌, ℕ, true, false, [], ◌∷◌, None, replicate, refl, codes}
 use Rattle.ix_model.specs.Directories.{with_name, without_name}
-use Rattle.ix_model.specs.OnPaths.{new_object}
 use Rattle.ix_model.specs.Opening.{opening_world}
 use Rattle.ix_model.specs.Privs.{no_privileges}
 use Rattle.ix_model.specs.Valid.{is_valid}
@@ -15,7 +14,7 @@ use Rattle.ix_worked.specs.Sessions.{calls, Goes}
 use Rattle.ix_worked.proofs.Chains.{◌⨾◌, number, bytes, refused, answered, done, lines_given}
 use Rattle.ix_worked.proofs.Computing.{running, fitting}
 use Rattle.ix_worked.proofs.Labels.{labels}
-use Rattle.ix_worked.proofs.Worlds.{with_process, with_object, opened, with_entry, with_fd, without_entry, moved, holding, with_new}
+use Rattle.ix_worked.proofs.Worlds.{with_made, with_process, with_object, opened, with_entry, with_fd, without_entry, moved, holding, with_new}
 
 -- ---- the configs are valid
 pub shelves_fits : is_valid shelves ≡ true
@@ -45,10 +44,10 @@ without_d : World
 without_d = with_object 0 (without_name (codes "d")) (with_new 2 None at_shelves)
 
 with_a : World
-with_a = with_object 0 (with_name (codes "a") 3) (with_new 3 (Some (new_object kind.File (Some 0))) at_shelves)
+with_a = with_made kind.File 0 0 (codes "a") 3 at_shelves
 
 with_b : World
-with_b = with_object 4 (with_name (codes "b") 5) (with_new 5 (Some (new_object kind.File (Some 1))) with_a)
+with_b = with_made kind.File 1 4 (codes "b") 5 with_a
 
 at_furnished : World
 at_furnished = opening_world furnished
@@ -69,7 +68,7 @@ nameless : World
 nameless = with_object 0 (without_name (codes "n")) reading
 
 beside : World
-beside = with_object 0 (with_name (codes "m") 3) (with_new 3 (Some (new_object kind.File (Some 0))) nameless)
+beside = with_made kind.File 0 0 (codes "m") 3 nameless
 
 read_all : World
 read_all = moved 0 3 beside
@@ -78,10 +77,10 @@ gone : World
 gone = without_entry 0 (with_fd 1 0 None (holding 1 [] [] (with_new 1 None read_all)))
 
 reused : World
-reused = with_object 0 (with_name (codes "k") 1) (with_new 1 (Some (new_object kind.File (Some 0))) gone)
+reused = with_made kind.File 0 0 (codes "k") 1 gone
 
 kept : World
-kept = with_object 2 (with_name (codes "x") 3) (with_new 3 (Some (new_object kind.File (Some 0))) in_d)
+kept = with_made kind.File 0 2 (codes "x") 3 in_d
 
 at_tight : World
 at_tight = opening_world tight
@@ -93,14 +92,15 @@ tight_full : World
 tight_full = moved 0 512 (holding 2 (replicate 512 65) [] tight_open)
 
 tight_new : World
-tight_new = with_object 4 (with_name (codes "k") 5) (with_new 5 (Some (new_object kind.File (Some 1))) tight_full)
+tight_new = with_made kind.File 1 4 (codes "k") 5 tight_full
 
 tight_both : World
 tight_both = with_entry 1 1 1 (opened 5 mode.Write) tight_new
 
 -- opens all of them
 worlds : ℕ
-unfolding at_shelves in_d without_d with_a with_b at_furnished at_full one_less linked reading nameless beside read_all gone reused kept at_tight tight_open tight_full tight_new tight_both
+unfolding at_shelves in_d without_d with_a with_b at_furnished at_full one_less linked reading nameless beside read_all
+    gone reused kept at_tight tight_open tight_full tight_new tight_both
 worlds = 0
 
 -- ---- the histories

@@ -62,7 +62,8 @@ both_ended = with_ended 2 3 second_ended
 
 -- opens all of them
 worlds : ℕ
-unfolding alone one_child one_ended collected two_children first_ended first_collected grandchild grandchild_ended grandchild_collected child_ended all_collected second_ended both_ended
+unfolding alone one_child one_ended collected two_children first_ended first_collected grandchild grandchild_ended
+    grandchild_collected child_ended all_collected second_ended both_ended
 worlds = 0
 
 -- ---- the histories

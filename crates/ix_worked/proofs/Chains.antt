@@ -78,7 +78,9 @@ last_of w (e ∷ events) (g ∷ gs) = last_of g.world events gs
 pub lines_given : (w : World) (place : ℕ) (events : List Event) (gs : List Given) → Gives w place events gs → lines_of w place events ≡ lines_by events gs
 lines_given w place [] gs h = refl
 lines_given w place (e ∷ events) [] h = absurd h
-lines_given w place (e ∷ events) (g ∷ gs) (link ⨾ links) = ap (λ x. line_of e x ∷ lines_of x.world (suc place) events) (stepped w place e.pid e.op g link) ∙ ap (λ ls. line_of e g ∷ ls) (lines_given g.world (suc place) events gs links)
+lines_given w place (e ∷ events) (g ∷ gs) (link ⨾ links) =
+    ap (λ x. line_of e x ∷ lines_of x.world (suc place) events) (stepped w place e.pid e.op g link)
+    ∙ ap (λ ls. line_of e g ∷ ls) (lines_given g.world (suc place) events gs links)
 
 run_given : (w : World) (place : ℕ) (events : List Event) (gs : List Given) → Gives w place events gs → run w place events ≡ last_of w events gs
 run_given w place [] gs h = refl
@@ -122,9 +124,11 @@ log_given_from w place (e ∷ events) (g ∷ gs) (link ⨾ links) =
 pub log_given : (c : Config) (w : World) (events : List Event) (gs : List Given) → opening_world c ≡ w → Gives w 1 events gs → log_of c events ≡ log_by w 1 events gs
 log_given c w events gs opening h = ap (λ v. audit_log v 1 events) opening ∙ log_given_from w 1 events gs h
 
--- a history in two parts
+-- the lines of a history in two parts
 pub lines_more : (w : World) (place : ℕ) (es fs : List Event) → lines_of w place (es ++ fs) ≡ lines_of w place es ++ lines_of (run w place es) (length es + place) fs
 lines_more w place [] fs = ap (λ p. lines_of w p fs) (let e : place ≡ 0 + place = omega arith in e)
 lines_more w place (e ∷ es) fs =
-    ap (λ ls. line_of e (step_of w place e) ∷ ls) (lines_more (step_of w place e).world (suc place) es fs
-    ∙ ap (λ p. lines_of (step_of w place e).world (suc place) es ++ lines_of (run (step_of w place e).world (suc place) es) p fs) (let e : length es + suc place ≡ suc (length es) + place = omega arith in e))
+    let v : World = (step_of w place e).world in
+    let same : length es + suc place ≡ suc (length es) + place = omega arith in
+    ap (λ ls. line_of e (step_of w place e) ∷ ls)
+    (lines_more v (suc place) es fs ∙ ap (λ p. lines_of v (suc place) es ++ lines_of (run v (suc place) es) p fs) same)

@@ -1,9 +1,7 @@
 -- What is shown where servers act for their users, entry by entry.
 use Rattle.std.proofs.Common.{◌≡◌, ℕ, List, [], ◌∷◌, Some, None, replicate, refl, codes}
 use Rattle.ix_label.specs.Category.{bottom}
-use Rattle.ix_model.specs.Directories.{with_name}
 use Rattle.ix_model.specs.History as op
-use Rattle.ix_model.specs.OnPaths.{new_object}
 use Rattle.ix_model.specs.Opening.{opening_world}
 use Rattle.ix_model.specs.Privs.{to_lower, to_grant, to_read_the_log, no_privileges}
 use Rattle.ix_model.specs.Step.{Given}
@@ -20,7 +18,7 @@ use Rattle.ix_worked.specs.Sessions.{shown, log_of}
 use Rattle.ix_worked.proofs.Chains.{◌⨾◌, Steps, Gives, number, bytes, refused, answered, done, shown_by, shown_given, log_given}
 use Rattle.ix_worked.proofs.Computing.{running, auditing}
 use Rattle.ix_worked.proofs.Labels.{labels}
-use Rattle.ix_worked.proofs.Worlds.{with_process, with_object, with_line, floated, raised, opened, with_entry, moved, holding, with_new, with_pipe, claimed_by, with_child}
+use Rattle.ix_worked.proofs.Worlds.{with_made, with_process, with_line, floated, raised, opened, with_entry, moved, holding, with_pipe, claimed_by, with_child}
 
 -- ---- the worlds, in order
 at_first : World
@@ -87,7 +85,7 @@ bob_let_go : World
 bob_let_go = claimed_by 256 None (Some 2) bob_told
 
 mailed : World
-mailed = with_object 1 (with_name (codes "m1") 5) (with_new 5 (Some (new_object kind.File (Some 0))) bob_let_go)
+mailed = with_made kind.File 0 1 (codes "m1") 5 bob_let_go
 
 plan_open : World
 plan_open = with_entry 3 0 4 (opened 4 mode.Read) mailed
@@ -96,7 +94,7 @@ plan_read : World
 plan_read = moved 4 2 (floated 3 two_and_five plan_open)
 
 reported : World
-reported = with_object 2 (with_name (codes "rep") 6) (with_new 6 (Some (new_object kind.File (Some 0))) plan_read)
+reported = with_made kind.File 0 2 (codes "rep") 6 plan_read
 
 report_open : World
 report_open = with_entry 3 1 5 (opened 6 mode.Write) reported
@@ -133,7 +131,9 @@ published = with_line (log_line 43 3 act.DownFile 6 two_and_five bottom) (raised
 
 -- opens all of them
 worlds : ℕ
-unfolding at_first piped both_piped forked bare half whole asked ann_forked ann_bare ann_held ann_granted ann_told ann_let_go answer_read asked_again bob_forked bob_bare bob_held bob_told bob_let_go mailed plan_open plan_read reported report_open report_written released want_half want_whole wanted want_heard want_granted want_told want_let_go published
+unfolding at_first piped both_piped forked bare half whole asked ann_forked ann_bare ann_held ann_granted ann_told
+    ann_let_go answer_read asked_again bob_forked bob_bare bob_held bob_told bob_let_go mailed plan_open plan_read reported
+    report_open report_written released want_half want_whole wanted want_heard want_granted want_told want_let_go published
 worlds = 0
 
 -- ---- the steps from one to the next

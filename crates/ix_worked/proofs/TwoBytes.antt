@@ -92,7 +92,8 @@ given a b =
     ∷ []
 
 ran : (a b : ℕ) → shown two_levels (writing (a ∷ b ∷ [])) ≡ shown_by at_first (writing (a ∷ b ∷ [])) (given a b)
-ran a b = shown_given two_levels at_first (writing (a ∷ b ∷ [])) (given a b) opening (opens_d_high ⨾ opens_d_low ⨾ opens_e_low ⨾ writes_d_high a b ⨾ reads_e_low a b ⨾ reads_d_low a b ⨾ tt)
+ran a b = shown_given two_levels at_first (writing (a ∷ b ∷ [])) (given a b) opening
+    (opens_d_high ⨾ opens_d_low ⨾ opens_e_low ⨾ writes_d_high a b ⨾ reads_e_low a b ⨾ reads_d_low a b ⨾ tt)
 
 pub two_bytes : (a b : ℕ) → shown two_levels (writing (a ∷ b ∷ [])) ≡ writing_shows (a ∷ b ∷ [])
 unfolding at_first one_open two_open all_open written read_low read_high

@@ -18,7 +18,8 @@ use Rattle.ix_worked.specs.Sessions.{Line}
 -- file /n - free - - "abc"
 -- dir /d - free
 abbrev pub shelves : Config
-shelves = record (small (proc bottom top ∷ []) (file (codes "n") bottom (codes "abc") ∷ dir (codes "d") bottom ∷ [])) { fss = small_fs ∷ record small_fs { name = codes "vol"; inodes = 2 } ∷ [] }
+shelves = record (small (proc bottom top ∷ []) (file (codes "n") bottom (codes "abc") ∷ dir (codes "d") bottom ∷ []))
+    { fss = small_fs ∷ record small_fs { name = codes "vol"; inodes = 2 } ∷ [] }
 
 -- fs root * 4 6
 -- fs vol * 4 3
