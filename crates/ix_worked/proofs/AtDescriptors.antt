@@ -11,10 +11,10 @@ use Rattle.ix_model.specs.World.{World}
 use Rattle.ix_model.specs.declared.call.Mode.TheVariants as mode
 use Rattle.ix_model.specs.declared.refusal.Refusal.TheVariants as refusal
 use Rattle.ix_model.specs.declared.reply.Reply.TheVariants as reply
-use Rattle.ix_worked.specs.OnDescriptors.{desk, copying, long_desk, using_none, using_none_gives, reading_a_writer, reading_a_writer_gives, writing_a_reader, writing_a_reader_gives, going_too_far, going_too_far_gives, claiming_a_file, claiming_a_file_gives, cutting_a_pipe, cutting_a_pipe_gives, letting_go, letting_go_gives, using_all, using_all_gives, opening_all, opening_all_gives, making_pipes, making_pipes_gives, reading_nothing, reading_nothing_gives, writing_into_a_broken_pipe, writing_into_a_broken_pipe_gives, claiming_both, claiming_both_gives, closing_a_claimed_end, closing_a_claimed_end_gives, writing_in_the_middle, writing_in_the_middle_gives, using_numbers_again, using_numbers_again_gives}
+use Rattle.ix_worked.specs.OnDescriptors.{desk, copying, long_desk, using_none, reading_a_writer, writing_a_reader, going_too_far, claiming_a_file, cutting_a_pipe, letting_go, using_all, opening_all, making_pipes, reading_nothing, writing_into_a_broken_pipe, claiming_both, closing_a_claimed_end, writing_in_the_middle, using_numbers_again}
 use Rattle.ix_worked.specs.Scripts.{in_root, by}
-use Rattle.ix_worked.specs.Sessions.{line_of, lines_of, answers}
-use Rattle.ix_worked.proofs.Chains.{number, bytes, refused, answered, done, lines_more, answers_given}
+use Rattle.ix_worked.specs.Sessions.{line_of, lines_of, calls, Goes}
+use Rattle.ix_worked.proofs.Chains.{◌⨾◌, number, bytes, refused, answered, done, lines_more, lines_given}
 use Rattle.ix_worked.proofs.Computing.{running, fitting}
 use Rattle.ix_worked.proofs.Labels.{labels}
 use Rattle.ix_worked.proofs.Worlds.{with_process, opened, with_entry, with_fd, without_entry, moved, holding, with_pipe, claimed_by, with_child}
@@ -103,34 +103,37 @@ all_used = with_process 1 (λ p. record p { fds = replicate 32 (Some 0) }) long_
 
 -- opens all of them
 worlds : ℕ
-unfolding at_desk reading writing both far piped half shared three_open all_open one_end other_end whole handed handed_half handed_copy one_left none_left spliced shorter longer at_long_desk long_reading all_used
+unfolding at_desk reading writing both far piped half shared three_open all_open one_end other_end whole handed
+    handed_half handed_copy one_left none_left spliced shorter longer at_long_desk long_reading all_used
 worlds = 0
 
 -- ---- the histories
-pub using_none_ran : answers desk using_none ≡ using_none_gives
+pub using_none_ran : Goes desk using_none
 unfolding running worlds
-using_none_ran = answers_given desk using_none
+using_none_ran = lines_given (opening_world desk) 1 (calls using_none)
     (replicate 9 (refused at_desk refusal.BadFd))
-    ((refl, refl), ((refl, refl), ((refl, refl), ((refl, refl), ((refl, refl), ((refl, refl), ((refl, refl), ((refl, refl), ((refl, refl), tt)))))))))
+    ((refl, refl) ⨾ (refl, refl) ⨾ (refl, refl) ⨾ (refl, refl)
+    ⨾ (refl, refl) ⨾ (refl, refl) ⨾ (refl, refl) ⨾ (refl, refl)
+    ⨾ (refl, refl) ⨾ tt)
 
-pub reading_a_writer_ran : answers desk reading_a_writer ≡ reading_a_writer_gives
+pub reading_a_writer_ran : Goes desk reading_a_writer
 unfolding running worlds
-reading_a_writer_ran = answers_given desk reading_a_writer
+reading_a_writer_ran = lines_given (opening_world desk) 1 (calls reading_a_writer)
     (number writing 0 ∷ refused writing refusal.NotReadable ∷ [])
-    ((simp labels refl, refl), ((refl, refl), tt))
+    ((simp labels refl, refl) ⨾ (refl, refl) ⨾ tt)
 
-pub writing_a_reader_ran : answers desk writing_a_reader ≡ writing_a_reader_gives
+pub writing_a_reader_ran : Goes desk writing_a_reader
 unfolding running worlds
-writing_a_reader_ran = answers_given desk writing_a_reader
+writing_a_reader_ran = lines_given (opening_world desk) 1 (calls writing_a_reader)
     (number reading 0
     ∷ refused reading refusal.NotWritable
     ∷ refused reading refusal.NotWritable
     ∷ [])
-    ((simp labels refl, refl), ((refl, refl), ((refl, refl), tt)))
+    ((simp labels refl, refl) ⨾ (refl, refl) ⨾ (refl, refl) ⨾ tt)
 
-pub going_too_far_ran : answers desk going_too_far ≡ going_too_far_gives
+pub going_too_far_ran : Goes desk going_too_far
 unfolding running worlds
-going_too_far_ran = answers_given desk going_too_far
+going_too_far_ran = lines_given (opening_world desk) 1 (calls going_too_far)
     (number both 0
     ∷ refused both refusal.TooBig
     ∷ refused both refusal.TooBig
@@ -140,29 +143,31 @@ going_too_far_ran = answers_given desk going_too_far
     ∷ done far
     ∷ refused far refusal.TooBig
     ∷ [])
-    ((simp labels refl, refl), ((refl, refl), ((refl, refl), ((refl, refl), ((refl, refl), ((refl, refl), ((refl, refl), ((refl, refl), tt))))))))
+    ((simp labels refl, refl) ⨾ (refl, refl) ⨾ (refl, refl) ⨾ (refl, refl)
+    ⨾ (refl, refl) ⨾ (refl, refl) ⨾ (refl, refl) ⨾ (refl, refl)
+    ⨾ tt)
 
-pub claiming_a_file_ran : answers desk claiming_a_file ≡ claiming_a_file_gives
+pub claiming_a_file_ran : Goes desk claiming_a_file
 unfolding running worlds
-claiming_a_file_ran = answers_given desk claiming_a_file
+claiming_a_file_ran = lines_given (opening_world desk) 1 (calls claiming_a_file)
     (number both 0
     ∷ refused both refusal.NotPipe
     ∷ refused both refusal.NotPipe
     ∷ [])
-    ((simp labels refl, refl), ((refl, refl), ((refl, refl), tt)))
+    ((simp labels refl, refl) ⨾ (refl, refl) ⨾ (refl, refl) ⨾ tt)
 
-pub cutting_a_pipe_ran : answers desk cutting_a_pipe ≡ cutting_a_pipe_gives
+pub cutting_a_pipe_ran : Goes desk cutting_a_pipe
 unfolding running worlds
-cutting_a_pipe_ran = answers_given desk cutting_a_pipe
+cutting_a_pipe_ran = lines_given (opening_world desk) 1 (calls cutting_a_pipe)
     (answered piped (reply.Two (record { 0 = 0 }) (record { 0 = 1 }))
     ∷ refused piped refusal.IsPipe
     ∷ refused piped refusal.IsPipe
     ∷ [])
-    ((refl, refl), ((refl, refl), ((refl, refl), tt)))
+    ((refl, refl) ⨾ (refl, refl) ⨾ (refl, refl) ⨾ tt)
 
-pub letting_go_ran : answers desk letting_go ≡ letting_go_gives
+pub letting_go_ran : Goes desk letting_go
 unfolding running worlds
-letting_go_ran = answers_given desk letting_go
+letting_go_ran = lines_given (opening_world desk) 1 (calls letting_go)
     (answered piped (reply.Two (record { 0 = 0 }) (record { 0 = 1 }))
     ∷ refused piped refusal.NotClaimed
     ∷ answered half reply.Half
@@ -171,14 +176,15 @@ letting_go_ran = answers_given desk letting_go
     ∷ refused shared refusal.PexHeld
     ∷ done (claimed_by 4 None None shared)
     ∷ [])
-    ((refl, refl), ((refl, refl), ((refl, refl), ((refl, refl), ((refl, refl), ((refl, refl), ((refl, refl), tt)))))))
+    ((refl, refl) ⨾ (refl, refl) ⨾ (refl, refl) ⨾ (refl, refl)
+    ⨾ (refl, refl) ⨾ (refl, refl) ⨾ (refl, refl) ⨾ tt)
 
 -- The first entry and the last are taken by themselves, and those between them at once.
 opens_the_first : step at_long_desk 1 1 (op.OpenAt (in_root (codes "n")) mode.Read) ≡ number long_reading 0
 unfolding running worlds
 opens_the_first = simp labels refl
 
-copies : run long_reading 2 copying ≡ all_used
+copies : run long_reading 2 (calls copying) ≡ all_used
 unfolding running worlds
 copies = refl
 
@@ -186,18 +192,18 @@ has_none_left : step all_used 35 1 (op.OpenAt (in_root (codes "n")) mode.Read) �
 unfolding running worlds
 has_none_left = simp labels refl
 
-pub using_all_ran : answers long_desk using_all ≡ using_all_gives
+pub using_all_ran : Goes long_desk using_all
 unfolding running worlds
 using_all_ran =
     let e : Event = by 1 (op.OpenAt (in_root (codes "n")) mode.Read) in
-    ap (λ g. line_of e g ∷ lines_of g.world 2 (copying ++ e ∷ [])) opens_the_first
-    ∙ ap (λ ls. line_of e (number long_reading 0) ∷ ls) (lines_more long_reading 2 copying (e ∷ [])
-    ∙ ap (λ w. lines_of long_reading 2 copying ++ lines_of w 35 (e ∷ [])) copies
-    ∙ ap (λ g. lines_of long_reading 2 copying ++ line_of e g ∷ []) has_none_left)
+    ap (λ g. line_of e g ∷ lines_of g.world 2 (calls copying ++ e ∷ [])) opens_the_first
+    ∙ ap (λ ls. line_of e (number long_reading 0) ∷ ls) (lines_more long_reading 2 (calls copying) (e ∷ [])
+    ∙ ap (λ w. lines_of long_reading 2 (calls copying) ++ lines_of w 35 (e ∷ [])) copies
+    ∙ ap (λ g. lines_of long_reading 2 (calls copying) ++ line_of e g ∷ []) has_none_left)
 
-pub opening_all_ran : answers desk opening_all ≡ opening_all_gives
+pub opening_all_ran : Goes desk opening_all
 unfolding running worlds
-opening_all_ran = answers_given desk opening_all
+opening_all_ran = lines_given (opening_world desk) 1 (calls opening_all)
     (number reading 0
     ∷ number (with_entry 1 1 1 (opened 1 mode.Read) reading) 1
     ∷ number three_open 2
@@ -207,11 +213,13 @@ opening_all_ran = answers_given desk opening_all
     ∷ number (with_fd 1 4 (Some 0) all_open) 4
     ∷ number (with_child 1 (with_fd 1 4 (Some 0) all_open)) 2
     ∷ [])
-    ((simp labels refl, refl), ((simp labels refl, refl), ((simp labels refl, refl), ((refl, refl), ((simp labels refl, refl), ((simp labels refl, refl), ((refl, refl), ((refl, refl), tt))))))))
+    ((simp labels refl, refl) ⨾ (simp labels refl, refl) ⨾ (simp labels refl, refl) ⨾ (refl, refl)
+    ⨾ (simp labels refl, refl) ⨾ (simp labels refl, refl) ⨾ (refl, refl) ⨾ (refl, refl)
+    ⨾ tt)
 
-pub making_pipes_ran : answers desk making_pipes ≡ making_pipes_gives
+pub making_pipes_ran : Goes desk making_pipes
 unfolding running worlds
-making_pipes_ran = answers_given desk making_pipes
+making_pipes_ran = lines_given (opening_world desk) 1 (calls making_pipes)
     (answered piped (reply.Two (record { 0 = 0 }) (record { 0 = 1 }))
     ∷ refused piped refusal.NoInode
     ∷ done one_end
@@ -219,11 +227,12 @@ making_pipes_ran = answers_given desk making_pipes
     ∷ done at_desk
     ∷ answered piped (reply.Two (record { 0 = 0 }) (record { 0 = 1 }))
     ∷ [])
-    ((refl, refl), ((refl, refl), ((refl, refl), ((refl, refl), ((refl, refl), ((refl, refl), tt))))))
+    ((refl, refl) ⨾ (refl, refl) ⨾ (refl, refl) ⨾ (refl, refl)
+    ⨾ (refl, refl) ⨾ (refl, refl) ⨾ tt)
 
-pub reading_nothing_ran : answers desk reading_nothing ≡ reading_nothing_gives
+pub reading_nothing_ran : Goes desk reading_nothing
 unfolding running worlds
-reading_nothing_ran = answers_given desk reading_nothing
+reading_nothing_ran = lines_given (opening_world desk) 1 (calls reading_nothing)
     (answered piped (reply.Two (record { 0 = 0 }) (record { 0 = 1 }))
     ∷ refused piped refusal.Again
     ∷ number (holding 4 (codes "x") [] piped) 1
@@ -233,22 +242,25 @@ reading_nothing_ran = answers_given desk reading_nothing
     ∷ done other_end
     ∷ bytes other_end []
     ∷ [])
-    ((refl, refl), ((simp labels refl, refl), ((simp labels refl, refl), ((simp labels refl, refl), ((simp labels refl, refl), ((simp labels refl, refl), ((refl, refl), ((simp labels refl, refl), tt))))))))
+    ((refl, refl) ⨾ (simp labels refl, refl) ⨾ (simp labels refl, refl) ⨾ (simp labels refl, refl)
+    ⨾ (simp labels refl, refl) ⨾ (simp labels refl, refl) ⨾ (refl, refl) ⨾ (simp labels refl, refl)
+    ⨾ tt)
 
-pub writing_into_a_broken_pipe_ran : answers desk writing_into_a_broken_pipe ≡ writing_into_a_broken_pipe_gives
+pub writing_into_a_broken_pipe_ran : Goes desk writing_into_a_broken_pipe
 unfolding running worlds
-writing_into_a_broken_pipe_ran = answers_given desk writing_into_a_broken_pipe
+writing_into_a_broken_pipe_ran = lines_given (opening_world desk) 1 (calls writing_into_a_broken_pipe)
     (answered piped (reply.Two (record { 0 = 0 }) (record { 0 = 1 }))
     ∷ number (holding 4 [] (replicate 4096 65) piped) 4096
     ∷ refused (holding 4 [] (replicate 4096 65) piped) refusal.PipeFull
     ∷ done (holding 4 [] (replicate 4096 65) other_end)
     ∷ refused (holding 4 [] (replicate 4096 65) other_end) refusal.Broken
     ∷ [])
-    ((refl, refl), ((simp labels refl, refl), ((refl, refl), ((refl, refl), ((refl, refl), tt)))))
+    ((refl, refl) ⨾ (simp labels refl, refl) ⨾ (refl, refl) ⨾ (refl, refl)
+    ⨾ (refl, refl) ⨾ tt)
 
-pub claiming_both_ran : answers desk claiming_both ≡ claiming_both_gives
+pub claiming_both_ran : Goes desk claiming_both
 unfolding running worlds
-claiming_both_ran = answers_given desk claiming_both
+claiming_both_ran = lines_given (opening_world desk) 1 (calls claiming_both)
     (answered piped (reply.Two (record { 0 = 0 }) (record { 0 = 1 }))
     ∷ answered half reply.Half
     ∷ number (holding 4 [] (codes "x") half) 1
@@ -258,11 +270,13 @@ claiming_both_ran = answers_given desk claiming_both
     ∷ answered (holding 4 [] (codes "y") whole) (reply.Whole (record { 0 = 1 }) bottom no_privileges)
     ∷ bytes whole (codes "y")
     ∷ [])
-    ((refl, refl), ((refl, refl), ((simp labels refl, refl), ((refl, refl), ((simp labels refl, refl), ((simp labels refl, refl), ((refl, refl), ((simp labels refl, refl), tt))))))))
+    ((refl, refl) ⨾ (refl, refl) ⨾ (simp labels refl, refl) ⨾ (refl, refl)
+    ⨾ (simp labels refl, refl) ⨾ (simp labels refl, refl) ⨾ (refl, refl) ⨾ (simp labels refl, refl)
+    ⨾ tt)
 
-pub closing_a_claimed_end_ran : answers desk closing_a_claimed_end ≡ closing_a_claimed_end_gives
+pub closing_a_claimed_end_ran : Goes desk closing_a_claimed_end
 unfolding running worlds
-closing_a_claimed_end_ran = answers_given desk closing_a_claimed_end
+closing_a_claimed_end_ran = lines_given (opening_world desk) 1 (calls closing_a_claimed_end)
     (answered piped (reply.Two (record { 0 = 0 }) (record { 0 = 1 }))
     ∷ number handed 2
     ∷ answered handed_half reply.Half
@@ -272,11 +286,13 @@ closing_a_claimed_end_ran = answers_given desk closing_a_claimed_end
     ∷ done none_left
     ∷ number (holding 4 [] (codes "x") none_left) 1
     ∷ [])
-    ((refl, refl), ((refl, refl), ((refl, refl), ((refl, refl), ((refl, refl), ((refl, refl), ((refl, refl), ((simp labels refl, refl), tt))))))))
+    ((refl, refl) ⨾ (refl, refl) ⨾ (refl, refl) ⨾ (refl, refl)
+    ⨾ (refl, refl) ⨾ (refl, refl) ⨾ (refl, refl) ⨾ (simp labels refl, refl)
+    ⨾ tt)
 
-pub writing_in_the_middle_ran : answers desk writing_in_the_middle ≡ writing_in_the_middle_gives
+pub writing_in_the_middle_ran : Goes desk writing_in_the_middle
 unfolding running worlds
-writing_in_the_middle_ran = answers_given desk writing_in_the_middle
+writing_in_the_middle_ran = lines_given (opening_world desk) 1 (calls writing_in_the_middle)
     (number both 0
     ∷ done (moved 0 1 both)
     ∷ number spliced 1
@@ -288,11 +304,13 @@ writing_in_the_middle_ran = answers_given desk writing_in_the_middle
     ∷ done (moved 0 0 longer)
     ∷ bytes (moved 0 4 longer) (97 ∷ 88 ∷ 0 ∷ 0 ∷ [])
     ∷ [])
-    ((simp labels refl, refl), ((refl, refl), ((simp labels refl, refl), ((simp labels refl, refl), ((simp labels refl, refl), ((simp labels refl, refl), ((refl, refl), ((simp labels refl, refl), ((refl, refl), ((simp labels refl, refl), tt))))))))))
+    ((simp labels refl, refl) ⨾ (refl, refl) ⨾ (simp labels refl, refl) ⨾ (simp labels refl, refl)
+    ⨾ (simp labels refl, refl) ⨾ (simp labels refl, refl) ⨾ (refl, refl) ⨾ (simp labels refl, refl)
+    ⨾ (refl, refl) ⨾ (simp labels refl, refl) ⨾ tt)
 
-pub using_numbers_again_ran : answers desk using_numbers_again ≡ using_numbers_again_gives
+pub using_numbers_again_ran : Goes desk using_numbers_again
 unfolding running worlds
-using_numbers_again_ran = answers_given desk using_numbers_again
+using_numbers_again_ran = lines_given (opening_world desk) 1 (calls using_numbers_again)
     (number reading 0
     ∷ bytes (moved 0 2 reading) (codes "ab")
     ∷ done at_desk
@@ -306,4 +324,7 @@ using_numbers_again_ran = answers_given desk using_numbers_again
     ∷ answered piped (reply.Two (record { 0 = 0 }) (record { 0 = 1 }))
     ∷ refused piped refusal.Again
     ∷ [])
-    ((simp labels refl, refl), ((simp labels refl, refl), ((refl, refl), ((simp labels refl, refl), ((simp labels refl, refl), ((refl, refl), ((refl, refl), ((simp labels refl, refl), ((refl, refl), ((refl, refl), ((refl, refl), ((simp labels refl, refl), tt))))))))))))
+    ((simp labels refl, refl) ⨾ (simp labels refl, refl) ⨾ (refl, refl) ⨾ (simp labels refl, refl)
+    ⨾ (simp labels refl, refl) ⨾ (refl, refl) ⨾ (refl, refl) ⨾ (simp labels refl, refl)
+    ⨾ (refl, refl) ⨾ (refl, refl) ⨾ (refl, refl) ⨾ (simp labels refl, refl)
+    ⨾ tt)

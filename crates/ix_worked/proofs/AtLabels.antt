@@ -1,8 +1,6 @@
 -- The short histories of the calls on labels, privileges, ceilings and the log, entry by entry.
-use Rattle.std.proofs.Common.{◌≡◌, ℕ, true, false, List, [], ◌∷◌, ◌++◌, ◌∙◌, Some, replicate, refl, codes}
+use Rattle.std.proofs.Common.{◌≡◌, ℕ, true, false, List, [], ◌∷◌, ◌++◌, ◌∙◌, replicate, refl, codes}
 use Rattle.ix_label.specs.Category.{bottom, top}
-use Rattle.ix_model.specs.Directories.{with_name}
-use Rattle.ix_model.specs.OnPaths.{new_object}
 use Rattle.ix_model.specs.Opening.{opening_world}
 use Rattle.ix_model.specs.Privs.{to_lower, to_thaw, to_read_the_log, no_privileges}
 use Rattle.ix_model.specs.Step.{Given}
@@ -13,13 +11,13 @@ use Rattle.ix_model.specs.declared.call.Mode.TheVariants as mode
 use Rattle.ix_model.specs.declared.refusal.Refusal.TheVariants as refusal
 use Rattle.ix_model.specs.declared.reply.Kind.TheVariants as kind
 use Rattle.ix_model.specs.declared.reply.Reply.TheVariants as reply
-use Rattle.ix_worked.specs.OnLabels.{levels, no_lines, officers, heights, pair, chest, holding_down, holding_down_gives, setting_labels, setting_labels_gives, setting_ceilings, setting_ceilings_gives, freezing, freezing_gives, acting_without_a_line, acting_without_a_line_gives, acting, acting_gives, acting_log, finding_what_is_high, finding_what_is_high_gives, looking_into_an_empty_pipe, looking_into_an_empty_pipe_gives, making_names_high, making_names_high_gives, raising_ceilings, raising_ceilings_gives, raising_ceilings_log}
+use Rattle.ix_worked.specs.OnLabels.{levels, no_lines, officers, heights, low_house, pair, chest, holding_down, setting_labels, setting_ceilings, freezing, acting_without_a_line, acting, acting_log, finding_what_is_high, setting_high, looking_into_an_empty_pipe, making_names_high, raising_ceilings, raising_ceilings_log}
 use Rattle.ix_worked.specs.Scripts.{three, five, log_line}
-use Rattle.ix_worked.specs.Sessions.{log_of, answers}
-use Rattle.ix_worked.proofs.Chains.{Gives, number, bytes, refused, answered, done, log_given, answers_given}
+use Rattle.ix_worked.specs.Sessions.{log_of, calls, Goes}
+use Rattle.ix_worked.proofs.Chains.{◌⨾◌, Gives, number, bytes, refused, answered, done, log_given, lines_given}
 use Rattle.ix_worked.proofs.Computing.{running, auditing, fitting}
 use Rattle.ix_worked.proofs.Labels.{labels}
-use Rattle.ix_worked.proofs.Worlds.{with_process, with_object, with_line, floated, raised, opened, with_entry, with_new, with_pipe, with_child}
+use Rattle.ix_worked.proofs.Worlds.{with_made, with_process, with_object, with_line, floated, raised, opened, with_entry, with_pipe, with_child}
 
 -- ---- the configs are valid
 pub levels_fits : is_valid levels ≡ true
@@ -37,6 +35,10 @@ officers_fits = simp labels refl
 pub heights_fits : is_valid heights ≡ true
 unfolding fitting
 heights_fits = simp labels refl
+
+pub low_house_fits : is_valid low_house ≡ true
+unfolding fitting
+low_house_fits = simp labels refl
 
 pub pair_fits : is_valid pair ≡ true
 unfolding fitting
@@ -107,6 +109,12 @@ lowered = with_line (log_line 12 1 act.DownSelf 1 three bottom) (floated 1 botto
 dropped : World
 dropped = with_process 1 (λ p. record p { cap = no_privileges; lic = record { 0 = 30 } }) lowered
 
+at_low_house : World
+at_low_house = opening_world low_house
+
+file_at_three : World
+file_at_three = raised 1 three at_low_house
+
 at_pair : World
 at_pair = opening_world pair
 
@@ -129,7 +137,7 @@ at_chest : World
 at_chest = opening_world chest
 
 chest_filed : World
-chest_filed = raised 1 three (with_object 1 (with_name (codes "x") 2) (with_new 2 (Some (new_object kind.File (Some 0))) at_chest))
+chest_filed = raised 1 three (with_made kind.File 0 1 (codes "x") 2 at_chest)
 
 chest_closed : World
 chest_closed = with_object 1 (λ x. record x { frozen = true }) chest_filed
@@ -166,13 +174,16 @@ d_high = with_process 4 (λ p. record p { label = five }) c_high
 
 -- opens all of them
 worlds : ℕ
-unfolding at_levels opened_high held_down raised_file frozen_file lower forked child_low grandchild at_no_lines stiff at_officers stopped thawed given granted read_it executed lowered dropped at_pair pair_piped two_there secret_open child_high pipe_high at_chest chest_filed chest_closed ceiling_low ceiling_high at_heights high_open gone_there frozen_high a_high b_high c_high d_high
+unfolding at_levels opened_high held_down raised_file frozen_file lower forked child_low grandchild at_no_lines stiff
+    at_officers stopped thawed given granted read_it executed lowered dropped at_low_house file_at_three at_pair pair_piped
+    two_there secret_open child_high pipe_high at_chest chest_filed chest_closed ceiling_low ceiling_high at_heights
+    high_open gone_there frozen_high a_high b_high c_high d_high
 worlds = 0
 
 -- ---- the histories
-pub holding_down_ran : answers levels holding_down ≡ holding_down_gives
+pub holding_down_ran : Goes levels holding_down
 unfolding running worlds
-holding_down_ran = answers_given levels holding_down
+holding_down_ran = lines_given (opening_world levels) 1 (calls holding_down)
     (number opened_high 0
     ∷ done held_down
     ∷ refused held_down refusal.ProcFrozen
@@ -180,11 +191,12 @@ holding_down_ran = answers_given levels holding_down
     ∷ done held_down
     ∷ answered held_down (reply.Lab bottom)
     ∷ [])
-    ((simp labels refl, refl), ((refl, refl), ((simp labels refl, refl), ((simp labels refl, refl), ((simp labels refl, refl), ((refl, refl), tt))))))
+    ((simp labels refl, refl) ⨾ (refl, refl) ⨾ (simp labels refl, refl) ⨾ (simp labels refl, refl)
+    ⨾ (simp labels refl, refl) ⨾ (refl, refl) ⨾ tt)
 
-pub setting_labels_ran : answers levels setting_labels ≡ setting_labels_gives
+pub setting_labels_ran : Goes levels setting_labels
 unfolding running worlds
-setting_labels_ran = answers_given levels setting_labels
+setting_labels_ran = lines_given (opening_world levels) 1 (calls setting_labels)
     (refused at_levels refusal.NotAbove
     ∷ refused at_levels refusal.NotAbove
     ∷ done at_levels
@@ -192,11 +204,12 @@ setting_labels_ran = answers_given levels setting_labels
     ∷ done raised_file
     ∷ answered raised_file (reply.Lab three)
     ∷ [])
-    ((simp labels refl, refl), ((simp labels refl, refl), ((simp labels refl, refl), ((simp labels refl, refl), ((simp labels refl, refl), ((simp labels refl, refl), tt))))))
+    ((simp labels refl, refl) ⨾ (simp labels refl, refl) ⨾ (simp labels refl, refl) ⨾ (simp labels refl, refl)
+    ⨾ (simp labels refl, refl) ⨾ (simp labels refl, refl) ⨾ tt)
 
-pub setting_ceilings_ran : answers levels setting_ceilings ≡ setting_ceilings_gives
+pub setting_ceilings_ran : Goes levels setting_ceilings
 unfolding running worlds
-setting_ceilings_ran = answers_given levels setting_ceilings
+setting_ceilings_ran = lines_given (opening_world levels) 1 (calls setting_ceilings)
     (refused at_levels refusal.BelowLabel
     ∷ refused at_levels refusal.BelowLabel
     ∷ refused at_levels refusal.NoCapability
@@ -207,24 +220,29 @@ setting_ceilings_ran = answers_given levels setting_ceilings
     ∷ number grandchild 5
     ∷ refused grandchild refusal.NoCapability
     ∷ [])
-    ((simp labels refl, refl), ((simp labels refl, refl), ((simp labels refl, refl), ((simp labels refl, refl), ((simp labels refl, refl), ((refl, refl), ((simp labels refl, refl), ((refl, refl), ((simp labels refl, refl), tt)))))))))
+    ((simp labels refl, refl) ⨾ (simp labels refl, refl) ⨾ (simp labels refl, refl) ⨾ (simp labels refl, refl)
+    ⨾ (simp labels refl, refl) ⨾ (refl, refl) ⨾ (simp labels refl, refl) ⨾ (refl, refl)
+    ⨾ (simp labels refl, refl) ⨾ tt)
 
-pub freezing_ran : answers levels freezing ≡ freezing_gives
+pub freezing_ran : Goes levels freezing
 unfolding running worlds
-freezing_ran = answers_given levels freezing
+freezing_ran = lines_given (opening_world levels) 1 (calls freezing)
     (done frozen_file
     ∷ done frozen_file
     ∷ done frozen_file
     ∷ refused frozen_file refusal.FileFrozen
     ∷ answered frozen_file (reply.Lab three)
     ∷ [])
-    ((simp labels refl, refl), ((simp labels refl, refl), ((simp labels refl, refl), ((simp labels refl, refl), ((simp labels refl, refl), tt)))))
+    ((simp labels refl, refl) ⨾ (simp labels refl, refl) ⨾ (simp labels refl, refl) ⨾ (simp labels refl, refl)
+    ⨾ (simp labels refl, refl) ⨾ tt)
 
-pub acting_without_a_line_ran : answers no_lines acting_without_a_line ≡ acting_without_a_line_gives
+pub acting_without_a_line_ran : Goes no_lines acting_without_a_line
 unfolding running worlds
-acting_without_a_line_ran = answers_given no_lines acting_without_a_line
+acting_without_a_line_ran = lines_given (opening_world no_lines) 1 (calls acting_without_a_line)
     (done stiff ∷ (replicate 7 (refused stiff refusal.LogFull) ++ refused stiff refusal.EndOfList ∷ []))
-    ((refl, refl), ((simp labels refl, refl), ((simp labels refl, refl), ((simp labels refl, refl), ((simp labels refl, refl), ((refl, refl), ((refl, refl), ((simp labels refl, refl), ((refl, refl), tt)))))))))
+    ((refl, refl) ⨾ (simp labels refl, refl) ⨾ (simp labels refl, refl) ⨾ (simp labels refl, refl)
+    ⨾ (simp labels refl, refl) ⨾ (refl, refl) ⨾ (refl, refl) ⨾ (simp labels refl, refl)
+    ⨾ (refl, refl) ⨾ tt)
 
 abbrev acting_given : List Given
 acting_given =
@@ -244,21 +262,24 @@ acting_given =
     ∷ refused dropped refusal.NoCapability
     ∷ []
 
-acting_steps : Gives (opening_world officers) 1 acting acting_given
+acting_steps : Gives (opening_world officers) 1 (calls acting) acting_given
 unfolding running worlds
-acting_steps = ((refl, refl), ((refl, refl), ((simp labels refl, refl), ((simp labels refl, refl), ((refl, refl), ((simp labels refl, refl), ((simp labels refl, refl), ((refl, refl), ((refl, refl), ((simp labels refl, refl), ((simp labels refl, refl), ((simp labels refl, refl), ((refl, refl), ((simp labels refl, refl), tt))))))))))))))
+acting_steps = ((refl, refl) ⨾ (refl, refl) ⨾ (simp labels refl, refl) ⨾ (simp labels refl, refl)
+    ⨾ (refl, refl) ⨾ (simp labels refl, refl) ⨾ (simp labels refl, refl) ⨾ (refl, refl)
+    ⨾ (refl, refl) ⨾ (simp labels refl, refl) ⨾ (simp labels refl, refl) ⨾ (simp labels refl, refl)
+    ⨾ (refl, refl) ⨾ (simp labels refl, refl) ⨾ tt)
 
-pub acting_ran : answers officers acting ≡ acting_gives
+pub acting_ran : Goes officers acting
 unfolding running worlds
-acting_ran = answers_given officers acting acting_given acting_steps
+acting_ran = lines_given (opening_world officers) 1 (calls acting) acting_given acting_steps
 
-pub acting_logged : log_of officers acting ≡ acting_log
+pub acting_logged : log_of officers (calls acting) ≡ acting_log
 unfolding running auditing worlds
-acting_logged = log_given officers (opening_world officers) acting acting_given refl acting_steps ∙ simp labels refl
+acting_logged = log_given officers (opening_world officers) (calls acting) acting_given refl acting_steps ∙ simp labels refl
 
-pub finding_what_is_high_ran : answers heights finding_what_is_high ≡ finding_what_is_high_gives
+pub finding_what_is_high_ran : Goes heights finding_what_is_high
 unfolding running worlds
-finding_what_is_high_ran = answers_given heights finding_what_is_high
+finding_what_is_high_ran = lines_given (opening_world heights) 1 (calls finding_what_is_high)
     (answered at_heights (reply.Lab five)
     ∷ number high_open 0
     ∷ done gone_there
@@ -273,11 +294,26 @@ finding_what_is_high_ran = answers_given heights finding_what_is_high
     ∷ done d_high
     ∷ refused d_high refusal.InUse
     ∷ [])
-    ((simp labels refl, refl), ((simp labels refl, refl), ((simp labels refl, refl), ((simp labels refl, refl), ((simp labels refl, refl), ((simp labels refl, refl), ((simp labels refl, refl), ((simp labels refl, refl), ((simp labels refl, refl), ((simp labels refl, refl), ((simp labels refl, refl), ((simp labels refl, refl), ((simp labels refl, refl), tt)))))))))))))
+    ((simp labels refl, refl) ⨾ (simp labels refl, refl) ⨾ (simp labels refl, refl) ⨾ (simp labels refl, refl)
+    ⨾ (simp labels refl, refl) ⨾ (simp labels refl, refl) ⨾ (simp labels refl, refl) ⨾ (simp labels refl, refl)
+    ⨾ (simp labels refl, refl) ⨾ (simp labels refl, refl) ⨾ (simp labels refl, refl) ⨾ (simp labels refl, refl)
+    ⨾ (simp labels refl, refl) ⨾ tt)
 
-pub looking_into_an_empty_pipe_ran : answers pair looking_into_an_empty_pipe ≡ looking_into_an_empty_pipe_gives
+pub setting_high_ran : Goes low_house setting_high
 unfolding running worlds
-looking_into_an_empty_pipe_ran = answers_given pair looking_into_an_empty_pipe
+setting_high_ran = lines_given (opening_world low_house) 1 (calls setting_high)
+    (refused at_low_house refusal.FsCeiling
+    ∷ done file_at_three
+    ∷ refused file_at_three refusal.ProcCeiling
+    ∷ done (floated 1 three file_at_three)
+    ∷ answered (floated 1 three file_at_three) (reply.Lab three)
+    ∷ [])
+    ((simp labels refl, refl) ⨾ (simp labels refl, refl) ⨾ (simp labels refl, refl) ⨾ (simp labels refl, refl)
+    ⨾ (simp labels refl, refl) ⨾ tt)
+
+pub looking_into_an_empty_pipe_ran : Goes pair looking_into_an_empty_pipe
+unfolding running worlds
+looking_into_an_empty_pipe_ran = lines_given (opening_world pair) 1 (calls looking_into_an_empty_pipe)
     (answered pair_piped (reply.Two (record { 0 = 0 }) (record { 0 = 1 }))
     ∷ number two_there 2
     ∷ number secret_open 2
@@ -285,20 +321,22 @@ looking_into_an_empty_pipe_ran = answers_given pair looking_into_an_empty_pipe
     ∷ number pipe_high 0
     ∷ refused (floated 1 five pipe_high) refusal.Again
     ∷ [])
-    ((refl, refl), ((refl, refl), ((simp labels refl, refl), ((simp labels refl, refl), ((simp labels refl, refl), ((simp labels refl, refl), tt))))))
+    ((refl, refl) ⨾ (refl, refl) ⨾ (simp labels refl, refl) ⨾ (simp labels refl, refl)
+    ⨾ (simp labels refl, refl) ⨾ (simp labels refl, refl) ⨾ tt)
 
-pub making_names_high_ran : answers chest making_names_high ≡ making_names_high_gives
+pub making_names_high_ran : Goes chest making_names_high
 unfolding running worlds
-making_names_high_ran = answers_given chest making_names_high
+making_names_high_ran = lines_given (opening_world chest) 1 (calls making_names_high)
     (number chest_filed 2
     ∷ answered chest_filed (reply.Lab three)
     ∷ answered chest_filed (reply.Lab bottom)
     ∷ done chest_closed
     ∷ refused chest_closed refusal.FileFrozen
     ∷ refused chest_closed refusal.FileFrozen
-    ∷ number (with_object 1 (with_name (codes "y") 3) (with_new 3 (Some (new_object kind.File (Some 0))) chest_closed)) 3
+    ∷ number (with_made kind.File 0 1 (codes "y") 3 chest_closed) 3
     ∷ [])
-    ((simp labels refl, refl), ((simp labels refl, refl), ((simp labels refl, refl), ((simp labels refl, refl), ((simp labels refl, refl), ((simp labels refl, refl), ((simp labels refl, refl), tt)))))))
+    ((simp labels refl, refl) ⨾ (simp labels refl, refl) ⨾ (simp labels refl, refl) ⨾ (simp labels refl, refl)
+    ⨾ (simp labels refl, refl) ⨾ (simp labels refl, refl) ⨾ (simp labels refl, refl) ⨾ tt)
 
 abbrev raising_ceilings_given : List Given
 raising_ceilings_given =
@@ -307,14 +345,14 @@ raising_ceilings_given =
     ∷ done (with_process 1 (λ p. record p { ceiling = three }) ceiling_high)
     ∷ []
 
-raising_ceilings_steps : Gives (opening_world officers) 1 raising_ceilings raising_ceilings_given
+raising_ceilings_steps : Gives (opening_world officers) 1 (calls raising_ceilings) raising_ceilings_given
 unfolding running worlds
-raising_ceilings_steps = ((simp labels refl, refl), ((simp labels refl, refl), ((simp labels refl, refl), tt)))
+raising_ceilings_steps = ((simp labels refl, refl) ⨾ (simp labels refl, refl) ⨾ (simp labels refl, refl) ⨾ tt)
 
-pub raising_ceilings_ran : answers officers raising_ceilings ≡ raising_ceilings_gives
+pub raising_ceilings_ran : Goes officers raising_ceilings
 unfolding running worlds
-raising_ceilings_ran = answers_given officers raising_ceilings raising_ceilings_given raising_ceilings_steps
+raising_ceilings_ran = lines_given (opening_world officers) 1 (calls raising_ceilings) raising_ceilings_given raising_ceilings_steps
 
-pub raising_ceilings_logged : log_of officers raising_ceilings ≡ raising_ceilings_log
+pub raising_ceilings_logged : log_of officers (calls raising_ceilings) ≡ raising_ceilings_log
 unfolding running auditing worlds
-raising_ceilings_logged = log_given officers (opening_world officers) raising_ceilings raising_ceilings_given refl raising_ceilings_steps ∙ simp labels refl
+raising_ceilings_logged = log_given officers (opening_world officers) (calls raising_ceilings) raising_ceilings_given refl raising_ceilings_steps ∙ simp labels refl

@@ -1,7 +1,6 @@
 -- The short histories of the calls on paths, entry by entry.
-use Rattle.std.proofs.Common.{◌≡◌, ℕ, true, false, [], ◌∷◌, Some, None, replicate, refl, codes}
+use Rattle.std.proofs.Common.{◌≡◌, ℕ, true, false, [], ◌∷◌, None, replicate, refl, codes}
 use Rattle.ix_model.specs.Directories.{with_name, without_name}
-use Rattle.ix_model.specs.OnPaths.{new_object}
 use Rattle.ix_model.specs.Opening.{opening_world}
 use Rattle.ix_model.specs.Privs.{no_privileges}
 use Rattle.ix_model.specs.Valid.{is_valid}
@@ -10,17 +9,21 @@ use Rattle.ix_model.specs.declared.call.Mode.TheVariants as mode
 use Rattle.ix_model.specs.declared.refusal.Refusal.TheVariants as refusal
 use Rattle.ix_model.specs.declared.reply.Kind.TheVariants as kind
 use Rattle.ix_model.specs.declared.reply.Reply.TheVariants as reply
-use Rattle.ix_worked.specs.OnPaths.{shelves, full, tight, seeking, seeking_gives, looking_into_a_file, looking_into_a_file_gives, using_a_directory, using_a_directory_gives, making_again, making_again_gives, crossing, crossing_gives, removing_a_home, removing_a_home_gives, making_files, making_files_gives, making_names, making_names_gives, asking_for_objects, asking_for_objects_gives, unlinking_an_open_file, unlinking_an_open_file_gives, working_in_a_directory, working_in_a_directory_gives, sharing_blocks, sharing_blocks_gives}
-use Rattle.ix_worked.specs.Sessions.{answers}
-use Rattle.ix_worked.proofs.Chains.{number, bytes, refused, answered, done, answers_given}
+use Rattle.ix_worked.specs.OnPaths.{shelves, furnished, full, tight, seeking, looking_into_a_file, using_a_directory, making_again, crossing, removing_a_home, making_files, making_names, asking_for_objects, unlinking_an_open_file, looking_around, working_in_a_directory, sharing_blocks}
+use Rattle.ix_worked.specs.Sessions.{calls, Goes}
+use Rattle.ix_worked.proofs.Chains.{◌⨾◌, number, bytes, refused, answered, done, lines_given}
 use Rattle.ix_worked.proofs.Computing.{running, fitting}
 use Rattle.ix_worked.proofs.Labels.{labels}
-use Rattle.ix_worked.proofs.Worlds.{with_process, with_object, opened, with_entry, with_fd, without_entry, moved, holding, with_new}
+use Rattle.ix_worked.proofs.Worlds.{with_made, with_process, with_object, opened, with_entry, with_fd, without_entry, moved, holding, with_new}
 
 -- ---- the configs are valid
 pub shelves_fits : is_valid shelves ≡ true
 unfolding fitting
 shelves_fits = simp labels refl
+
+pub furnished_fits : is_valid furnished ≡ true
+unfolding fitting
+furnished_fits = simp labels refl
 
 pub full_fits : is_valid full ≡ true
 unfolding fitting
@@ -41,10 +44,13 @@ without_d : World
 without_d = with_object 0 (without_name (codes "d")) (with_new 2 None at_shelves)
 
 with_a : World
-with_a = with_object 0 (with_name (codes "a") 3) (with_new 3 (Some (new_object kind.File (Some 0))) at_shelves)
+with_a = with_made kind.File 0 0 (codes "a") 3 at_shelves
 
 with_b : World
-with_b = with_object 4 (with_name (codes "b") 5) (with_new 5 (Some (new_object kind.File (Some 1))) with_a)
+with_b = with_made kind.File 1 4 (codes "b") 5 with_a
+
+at_furnished : World
+at_furnished = opening_world furnished
 
 at_full : World
 at_full = opening_world full
@@ -62,7 +68,7 @@ nameless : World
 nameless = with_object 0 (without_name (codes "n")) reading
 
 beside : World
-beside = with_object 0 (with_name (codes "m") 3) (with_new 3 (Some (new_object kind.File (Some 0))) nameless)
+beside = with_made kind.File 0 0 (codes "m") 3 nameless
 
 read_all : World
 read_all = moved 0 3 beside
@@ -71,10 +77,10 @@ gone : World
 gone = without_entry 0 (with_fd 1 0 None (holding 1 [] [] (with_new 1 None read_all)))
 
 reused : World
-reused = with_object 0 (with_name (codes "k") 1) (with_new 1 (Some (new_object kind.File (Some 0))) gone)
+reused = with_made kind.File 0 0 (codes "k") 1 gone
 
 kept : World
-kept = with_object 2 (with_name (codes "x") 3) (with_new 3 (Some (new_object kind.File (Some 0))) in_d)
+kept = with_made kind.File 0 2 (codes "x") 3 in_d
 
 at_tight : World
 at_tight = opening_world tight
@@ -86,83 +92,91 @@ tight_full : World
 tight_full = moved 0 512 (holding 2 (replicate 512 65) [] tight_open)
 
 tight_new : World
-tight_new = with_object 4 (with_name (codes "k") 5) (with_new 5 (Some (new_object kind.File (Some 1))) tight_full)
+tight_new = with_made kind.File 1 4 (codes "k") 5 tight_full
 
 tight_both : World
 tight_both = with_entry 1 1 1 (opened 5 mode.Write) tight_new
 
 -- opens all of them
 worlds : ℕ
-unfolding at_shelves in_d without_d with_a with_b at_full one_less linked reading nameless beside read_all gone reused kept at_tight tight_open tight_full tight_new tight_both
+unfolding at_shelves in_d without_d with_a with_b at_furnished at_full one_less linked reading nameless beside read_all
+    gone reused kept at_tight tight_open tight_full tight_new tight_both
 worlds = 0
 
 -- ---- the histories
-pub seeking_ran : answers shelves seeking ≡ seeking_gives
+pub seeking_ran : Goes shelves seeking
 unfolding running worlds
-seeking_ran = answers_given shelves seeking
+seeking_ran = lines_given (opening_world shelves) 1 (calls seeking)
     (replicate 7 (refused at_shelves refusal.NotFound))
-    ((simp labels refl, refl), ((simp labels refl, refl), ((simp labels refl, refl), ((simp labels refl, refl), ((simp labels refl, refl), ((simp labels refl, refl), ((simp labels refl, refl), tt)))))))
+    ((simp labels refl, refl) ⨾ (simp labels refl, refl) ⨾ (simp labels refl, refl) ⨾ (simp labels refl, refl)
+    ⨾ (simp labels refl, refl) ⨾ (simp labels refl, refl) ⨾ (simp labels refl, refl) ⨾ tt)
 
-pub looking_into_a_file_ran : answers shelves looking_into_a_file ≡ looking_into_a_file_gives
+pub looking_into_a_file_ran : Goes shelves looking_into_a_file
 unfolding running worlds
-looking_into_a_file_ran = answers_given shelves looking_into_a_file
+looking_into_a_file_ran = lines_given (opening_world shelves) 1 (calls looking_into_a_file)
     (replicate 6 (refused at_shelves refusal.NotDir))
-    ((simp labels refl, refl), ((simp labels refl, refl), ((simp labels refl, refl), ((simp labels refl, refl), ((simp labels refl, refl), ((simp labels refl, refl), tt))))))
+    ((simp labels refl, refl) ⨾ (simp labels refl, refl) ⨾ (simp labels refl, refl) ⨾ (simp labels refl, refl)
+    ⨾ (simp labels refl, refl) ⨾ (simp labels refl, refl) ⨾ tt)
 
-pub using_a_directory_ran : answers shelves using_a_directory ≡ using_a_directory_gives
+pub using_a_directory_ran : Goes shelves using_a_directory
 unfolding running worlds
-using_a_directory_ran = answers_given shelves using_a_directory
+using_a_directory_ran = lines_given (opening_world shelves) 1 (calls using_a_directory)
     (replicate 6 (refused at_shelves refusal.IsDir))
-    ((simp labels refl, refl), ((simp labels refl, refl), ((simp labels refl, refl), ((simp labels refl, refl), ((simp labels refl, refl), ((simp labels refl, refl), tt))))))
+    ((simp labels refl, refl) ⨾ (simp labels refl, refl) ⨾ (simp labels refl, refl) ⨾ (simp labels refl, refl)
+    ⨾ (simp labels refl, refl) ⨾ (simp labels refl, refl) ⨾ tt)
 
-pub making_again_ran : answers shelves making_again ≡ making_again_gives
+pub making_again_ran : Goes shelves making_again
 unfolding running worlds
-making_again_ran = answers_given shelves making_again
+making_again_ran = lines_given (opening_world shelves) 1 (calls making_again)
     (replicate 6 (refused at_shelves refusal.Exists))
-    ((simp labels refl, refl), ((simp labels refl, refl), ((simp labels refl, refl), ((simp labels refl, refl), ((simp labels refl, refl), ((simp labels refl, refl), tt))))))
+    ((simp labels refl, refl) ⨾ (simp labels refl, refl) ⨾ (simp labels refl, refl) ⨾ (simp labels refl, refl)
+    ⨾ (simp labels refl, refl) ⨾ (simp labels refl, refl) ⨾ tt)
 
-pub crossing_ran : answers shelves crossing ≡ crossing_gives
+pub crossing_ran : Goes shelves crossing
 unfolding running worlds
-crossing_ran = answers_given shelves crossing
+crossing_ran = lines_given (opening_world shelves) 1 (calls crossing)
     (replicate 3 (refused at_shelves refusal.CrossFs))
-    ((simp labels refl, refl), ((simp labels refl, refl), ((simp labels refl, refl), tt)))
+    ((simp labels refl, refl) ⨾ (simp labels refl, refl) ⨾ (simp labels refl, refl) ⨾ tt)
 
-pub removing_a_home_ran : answers shelves removing_a_home ≡ removing_a_home_gives
+pub removing_a_home_ran : Goes shelves removing_a_home
 unfolding running worlds
-removing_a_home_ran = answers_given shelves removing_a_home
+removing_a_home_ran = lines_given (opening_world shelves) 1 (calls removing_a_home)
     (done in_d
     ∷ refused in_d refusal.InUse
     ∷ refused in_d refusal.InUse
     ∷ done at_shelves
     ∷ done without_d
     ∷ [])
-    ((simp labels refl, refl), ((simp labels refl, refl), ((simp labels refl, refl), ((simp labels refl, refl), ((simp labels refl, refl), tt)))))
+    ((simp labels refl, refl) ⨾ (simp labels refl, refl) ⨾ (simp labels refl, refl) ⨾ (simp labels refl, refl)
+    ⨾ (simp labels refl, refl) ⨾ tt)
 
-pub making_files_ran : answers shelves making_files ≡ making_files_gives
+pub making_files_ran : Goes shelves making_files
 unfolding running worlds
-making_files_ran = answers_given shelves making_files
+making_files_ran = lines_given (opening_world shelves) 1 (calls making_files)
     (number with_a 3
     ∷ refused with_a refusal.NoInode
     ∷ refused with_a refusal.NoInode
     ∷ number with_b 5
     ∷ refused with_b refusal.NoInode
     ∷ [])
-    ((simp labels refl, refl), ((simp labels refl, refl), ((simp labels refl, refl), ((simp labels refl, refl), ((simp labels refl, refl), tt)))))
+    ((simp labels refl, refl) ⨾ (simp labels refl, refl) ⨾ (simp labels refl, refl) ⨾ (simp labels refl, refl)
+    ⨾ (simp labels refl, refl) ⨾ tt)
 
-pub making_names_ran : answers full making_names ≡ making_names_gives
+pub making_names_ran : Goes full making_names
 unfolding running worlds
-making_names_ran = answers_given full making_names
+making_names_ran = lines_given (opening_world full) 1 (calls making_names)
     (refused at_full refusal.NoEntry
     ∷ refused at_full refusal.NoEntry
     ∷ refused at_full refusal.NoEntry
     ∷ done one_less
     ∷ done (with_object 0 (with_name (codes "a") 2) one_less)
     ∷ [])
-    ((simp labels refl, refl), ((simp labels refl, refl), ((simp labels refl, refl), ((simp labels refl, refl), ((simp labels refl, refl), tt)))))
+    ((simp labels refl, refl) ⨾ (simp labels refl, refl) ⨾ (simp labels refl, refl) ⨾ (simp labels refl, refl)
+    ⨾ (simp labels refl, refl) ⨾ tt)
 
-pub asking_for_objects_ran : answers shelves asking_for_objects ≡ asking_for_objects_gives
+pub asking_for_objects_ran : Goes shelves asking_for_objects
 unfolding running worlds
-asking_for_objects_ran = answers_given shelves asking_for_objects
+asking_for_objects_ran = lines_given (opening_world shelves) 1 (calls asking_for_objects)
     (answered at_shelves (reply.Stat (record { 0 = 1 }) kind.File 3 1 false no_privileges no_privileges)
     ∷ done linked
     ∷ answered linked (reply.Stat (record { 0 = 1 }) kind.File 3 2 false no_privileges no_privileges)
@@ -172,11 +186,13 @@ asking_for_objects_ran = answers_given shelves asking_for_objects
     ∷ answered linked (reply.Named (codes "k") (record { 0 = 1 }))
     ∷ refused linked refusal.EndOfList
     ∷ [])
-    ((simp labels refl, refl), ((simp labels refl, refl), ((simp labels refl, refl), ((simp labels refl, refl), ((simp labels refl, refl), ((simp labels refl, refl), ((simp labels refl, refl), ((simp labels refl, refl), tt))))))))
+    ((simp labels refl, refl) ⨾ (simp labels refl, refl) ⨾ (simp labels refl, refl) ⨾ (simp labels refl, refl)
+    ⨾ (simp labels refl, refl) ⨾ (simp labels refl, refl) ⨾ (simp labels refl, refl) ⨾ (simp labels refl, refl)
+    ⨾ tt)
 
-pub unlinking_an_open_file_ran : answers shelves unlinking_an_open_file ≡ unlinking_an_open_file_gives
+pub unlinking_an_open_file_ran : Goes shelves unlinking_an_open_file
 unfolding running worlds
-unlinking_an_open_file_ran = answers_given shelves unlinking_an_open_file
+unlinking_an_open_file_ran = lines_given (opening_world shelves) 1 (calls unlinking_an_open_file)
     (number reading 0
     ∷ done nameless
     ∷ refused nameless refusal.NotFound
@@ -187,11 +203,30 @@ unlinking_an_open_file_ran = answers_given shelves unlinking_an_open_file
     ∷ number (with_entry 1 0 0 (opened 1 mode.Read) reused) 0
     ∷ bytes (with_entry 1 0 0 (opened 1 mode.Read) reused) []
     ∷ [])
-    ((simp labels refl, refl), ((simp labels refl, refl), ((simp labels refl, refl), ((simp labels refl, refl), ((simp labels refl, refl), ((refl, refl), ((simp labels refl, refl), ((simp labels refl, refl), ((simp labels refl, refl), tt)))))))))
+    ((simp labels refl, refl) ⨾ (simp labels refl, refl) ⨾ (simp labels refl, refl) ⨾ (simp labels refl, refl)
+    ⨾ (simp labels refl, refl) ⨾ (refl, refl) ⨾ (simp labels refl, refl) ⨾ (simp labels refl, refl)
+    ⨾ (simp labels refl, refl) ⨾ tt)
 
-pub working_in_a_directory_ran : answers shelves working_in_a_directory ≡ working_in_a_directory_gives
+pub looking_around_ran : Goes furnished looking_around
 unfolding running worlds
-working_in_a_directory_ran = answers_given shelves working_in_a_directory
+looking_around_ran = lines_given (opening_world furnished) 1 (calls looking_around)
+    (answered at_furnished (reply.Stat (record { 0 = 1 }) kind.Dir 0 1 false no_privileges no_privileges)
+    ∷ answered at_furnished (reply.Stat (record { 0 = 2 }) kind.File 3 1 false no_privileges no_privileges)
+    ∷ answered at_furnished (reply.Stat (record { 0 = 6 }) kind.Dir 0 1 false no_privileges no_privileges)
+    ∷ answered at_furnished (reply.Stat (record { 0 = 7 }) kind.File 0 1 false no_privileges no_privileges)
+    ∷ answered at_furnished (reply.Stat (record { 0 = 3 }) kind.File 1 1 true no_privileges no_privileges)
+    ∷ answered at_furnished (reply.Named (codes "vol") (record { 0 = 6 }))
+    ∷ answered at_furnished (reply.Named (codes "d") (record { 0 = 1 }))
+    ∷ answered at_furnished (reply.Named (codes "o") (record { 0 = 3 }))
+    ∷ answered at_furnished (reply.Named (codes "m") (record { 0 = 7 }))
+    ∷ [])
+    ((simp labels refl, refl) ⨾ (simp labels refl, refl) ⨾ (simp labels refl, refl) ⨾ (simp labels refl, refl)
+    ⨾ (simp labels refl, refl) ⨾ (simp labels refl, refl) ⨾ (simp labels refl, refl) ⨾ (simp labels refl, refl)
+    ⨾ (simp labels refl, refl) ⨾ tt)
+
+pub working_in_a_directory_ran : Goes shelves working_in_a_directory
+unfolding running worlds
+working_in_a_directory_ran = lines_given (opening_world shelves) 1 (calls working_in_a_directory)
     (done in_d
     ∷ number kept 3
     ∷ answered kept (reply.Stat (record { 0 = 3 }) kind.File 0 1 false no_privileges no_privileges)
@@ -199,11 +234,12 @@ working_in_a_directory_ran = answers_given shelves working_in_a_directory
     ∷ refused kept refusal.NotEmpty
     ∷ done in_d
     ∷ [])
-    ((simp labels refl, refl), ((simp labels refl, refl), ((simp labels refl, refl), ((simp labels refl, refl), ((simp labels refl, refl), ((simp labels refl, refl), tt))))))
+    ((simp labels refl, refl) ⨾ (simp labels refl, refl) ⨾ (simp labels refl, refl) ⨾ (simp labels refl, refl)
+    ⨾ (simp labels refl, refl) ⨾ (simp labels refl, refl) ⨾ tt)
 
-pub sharing_blocks_ran : answers tight sharing_blocks ≡ sharing_blocks_gives
+pub sharing_blocks_ran : Goes tight sharing_blocks
 unfolding running worlds
-sharing_blocks_ran = answers_given tight sharing_blocks
+sharing_blocks_ran = lines_given (opening_world tight) 1 (calls sharing_blocks)
     (number tight_open 0
     ∷ refused tight_open refusal.NoSpace
     ∷ number tight_full 512
@@ -212,4 +248,5 @@ sharing_blocks_ran = answers_given tight sharing_blocks
     ∷ refused tight_both refusal.NoSpace
     ∷ number (moved 1 512 (holding 5 (replicate 512 65) [] tight_both)) 512
     ∷ [])
-    ((simp labels refl, refl), ((refl, refl), ((simp labels refl, refl), ((simp labels refl, refl), ((simp labels refl, refl), ((refl, refl), ((simp labels refl, refl), tt)))))))
+    ((simp labels refl, refl) ⨾ (refl, refl) ⨾ (simp labels refl, refl) ⨾ (simp labels refl, refl)
+    ⨾ (simp labels refl, refl) ⨾ (refl, refl) ⨾ (simp labels refl, refl) ⨾ tt)

@@ -5,9 +5,9 @@ use Rattle.ix_model.specs.Valid.{is_valid}
 use Rattle.ix_model.specs.World.{World}
 use Rattle.ix_model.specs.declared.refusal.Refusal.TheVariants as refusal
 use Rattle.ix_model.specs.declared.reply.Reply.TheVariants as reply
-use Rattle.ix_worked.specs.OnProcesses.{family, calling_as_nobody, calling_as_nobody_gives, calling_after_the_end, calling_after_the_end_gives, forking_often, forking_often_gives, waiting_for_a_child, waiting_for_a_child_gives, ending_first, ending_first_gives, ending_out_of_order, ending_out_of_order_gives}
-use Rattle.ix_worked.specs.Sessions.{answers}
-use Rattle.ix_worked.proofs.Chains.{number, refused, answered, done, answers_given}
+use Rattle.ix_worked.specs.OnProcesses.{family, calling_as_nobody, calling_after_the_end, forking_often, waiting_for_a_child, ending_first, ending_out_of_order}
+use Rattle.ix_worked.specs.Sessions.{calls, Goes}
+use Rattle.ix_worked.proofs.Chains.{◌⨾◌, number, refused, answered, done, lines_given}
 use Rattle.ix_worked.proofs.Computing.{running, fitting}
 use Rattle.ix_worked.proofs.Labels.{labels}
 use Rattle.ix_worked.proofs.Worlds.{with_child, with_ended, without_process}
@@ -62,13 +62,14 @@ both_ended = with_ended 2 3 second_ended
 
 -- opens all of them
 worlds : ℕ
-unfolding alone one_child one_ended collected two_children first_ended first_collected grandchild grandchild_ended grandchild_collected child_ended all_collected second_ended both_ended
+unfolding alone one_child one_ended collected two_children first_ended first_collected grandchild grandchild_ended
+    grandchild_collected child_ended all_collected second_ended both_ended
 worlds = 0
 
 -- ---- the histories
-pub calling_as_nobody_ran : answers family calling_as_nobody ≡ calling_as_nobody_gives
+pub calling_as_nobody_ran : Goes family calling_as_nobody
 unfolding running worlds
-calling_as_nobody_ran = answers_given family calling_as_nobody
+calling_as_nobody_ran = lines_given (opening_world family) 1 (calls calling_as_nobody)
     (refused alone refusal.NoProcess
     ∷ refused alone refusal.NoProcess
     ∷ refused alone refusal.NoProcess
@@ -76,11 +77,12 @@ calling_as_nobody_ran = answers_given family calling_as_nobody
     ∷ done (without_process 1 alone)
     ∷ refused (without_process 1 alone) refusal.NoProcess
     ∷ [])
-    ((refl, refl), ((refl, refl), ((refl, refl), ((refl, refl), ((refl, refl), ((refl, refl), tt))))))
+    ((refl, refl) ⨾ (refl, refl) ⨾ (refl, refl) ⨾ (refl, refl)
+    ⨾ (refl, refl) ⨾ (refl, refl) ⨾ tt)
 
-pub calling_after_the_end_ran : answers family calling_after_the_end ≡ calling_after_the_end_gives
+pub calling_after_the_end_ran : Goes family calling_after_the_end
 unfolding running worlds
-calling_after_the_end_ran = answers_given family calling_after_the_end
+calling_after_the_end_ran = lines_given (opening_world family) 1 (calls calling_after_the_end)
     (number one_child 2
     ∷ done one_ended
     ∷ refused one_ended refusal.NoProcess
@@ -88,11 +90,12 @@ calling_after_the_end_ran = answers_given family calling_after_the_end
     ∷ answered collected (reply.Child (record { 0 = 2 }) 3)
     ∷ refused collected refusal.NoProcess
     ∷ [])
-    ((refl, refl), ((refl, refl), ((refl, refl), ((refl, refl), ((simp labels refl, refl), ((refl, refl), tt))))))
+    ((refl, refl) ⨾ (refl, refl) ⨾ (refl, refl) ⨾ (refl, refl)
+    ⨾ (simp labels refl, refl) ⨾ (refl, refl) ⨾ tt)
 
-pub forking_often_ran : answers family forking_often ≡ forking_often_gives
+pub forking_often_ran : Goes family forking_often
 unfolding running worlds
-forking_often_ran = answers_given family forking_often
+forking_often_ran = lines_given (opening_world family) 1 (calls forking_often)
     (number one_child 2
     ∷ number two_children 3
     ∷ refused two_children refusal.NoSlot
@@ -101,11 +104,12 @@ forking_often_ran = answers_given family forking_often
     ∷ answered first_collected (reply.Child (record { 0 = 2 }) 3)
     ∷ number (with_child 1 first_collected) 4
     ∷ [])
-    ((refl, refl), ((refl, refl), ((refl, refl), ((refl, refl), ((refl, refl), ((simp labels refl, refl), ((refl, refl), tt)))))))
+    ((refl, refl) ⨾ (refl, refl) ⨾ (refl, refl) ⨾ (refl, refl)
+    ⨾ (refl, refl) ⨾ (simp labels refl, refl) ⨾ (refl, refl) ⨾ tt)
 
-pub waiting_for_a_child_ran : answers family waiting_for_a_child ≡ waiting_for_a_child_gives
+pub waiting_for_a_child_ran : Goes family waiting_for_a_child
 unfolding running worlds
-waiting_for_a_child_ran = answers_given family waiting_for_a_child
+waiting_for_a_child_ran = lines_given (opening_world family) 1 (calls waiting_for_a_child)
     (refused alone refusal.NoChild
     ∷ number one_child 2
     ∷ number grandchild 3
@@ -116,11 +120,13 @@ waiting_for_a_child_ran = answers_given family waiting_for_a_child
     ∷ answered all_collected (reply.Child (record { 0 = 2 }) 4)
     ∷ refused all_collected refusal.NoChild
     ∷ [])
-    ((refl, refl), ((refl, refl), ((refl, refl), ((refl, refl), ((refl, refl), ((simp labels refl, refl), ((refl, refl), ((simp labels refl, refl), ((refl, refl), tt)))))))))
+    ((refl, refl) ⨾ (refl, refl) ⨾ (refl, refl) ⨾ (refl, refl)
+    ⨾ (refl, refl) ⨾ (simp labels refl, refl) ⨾ (refl, refl) ⨾ (simp labels refl, refl)
+    ⨾ (refl, refl) ⨾ tt)
 
-pub ending_first_ran : answers family ending_first ≡ ending_first_gives
+pub ending_first_ran : Goes family ending_first
 unfolding running worlds
-ending_first_ran = answers_given family ending_first
+ending_first_ran = lines_given (opening_world family) 1 (calls ending_first)
     (number one_child 2
     ∷ refused one_child refusal.ChildrenLive
     ∷ done one_ended
@@ -128,11 +134,12 @@ ending_first_ran = answers_given family ending_first
     ∷ answered collected (reply.Child (record { 0 = 2 }) 3)
     ∷ done (without_process 1 collected)
     ∷ [])
-    ((refl, refl), ((refl, refl), ((refl, refl), ((refl, refl), ((simp labels refl, refl), ((refl, refl), tt))))))
+    ((refl, refl) ⨾ (refl, refl) ⨾ (refl, refl) ⨾ (refl, refl)
+    ⨾ (simp labels refl, refl) ⨾ (refl, refl) ⨾ tt)
 
-pub ending_out_of_order_ran : answers family ending_out_of_order ≡ ending_out_of_order_gives
+pub ending_out_of_order_ran : Goes family ending_out_of_order
 unfolding running worlds
-ending_out_of_order_ran = answers_given family ending_out_of_order
+ending_out_of_order_ran = lines_given (opening_world family) 1 (calls ending_out_of_order)
     (number one_child 2
     ∷ number two_children 3
     ∷ done second_ended
@@ -140,4 +147,5 @@ ending_out_of_order_ran = answers_given family ending_out_of_order
     ∷ answered (without_process 2 both_ended) (reply.Child (record { 0 = 2 }) 3)
     ∷ answered (without_process 3 (without_process 2 both_ended)) (reply.Child (record { 0 = 3 }) 5)
     ∷ [])
-    ((refl, refl), ((refl, refl), ((refl, refl), ((refl, refl), ((simp labels refl, refl), ((simp labels refl, refl), tt))))))
+    ((refl, refl) ⨾ (refl, refl) ⨾ (refl, refl) ⨾ (refl, refl)
+    ⨾ (simp labels refl, refl) ⨾ (simp labels refl, refl) ⨾ tt)

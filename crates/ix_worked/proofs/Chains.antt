@@ -14,8 +14,9 @@ use Rattle.ix_model.specs.declared.config.Config.{Config}
 use Rattle.ix_model.specs.declared.refusal.Refusal.{Refusal}
 use Rattle.ix_model.specs.declared.reply.Reply.{Reply}
 use Rattle.ix_model.specs.declared.reply.Reply.TheVariants as reply
-use Rattle.ix_worked.specs.Sessions.{Line, Shown, line_of, lines_of, labels_in, shown_from, shown, log_of, answers}
+use Rattle.ix_worked.specs.Sessions.{Line, Shown, line_of, lines_of, labels_in, shown_from, shown, log_of}
 
+infixr 5 ◌⨾◌
 -- what an answer by a number, one by bytes and a refusal give
 abbrev pub number : World → ℕ → Given
 number w n = record { world = w; reply = reply.Number n; bytes = [] }
@@ -53,11 +54,15 @@ stepped : (w : World) (place pid : ℕ) (o : Op) (g : Given) → Steps w place p
 unfolding step
 stepped w place pid o g h = ap (answer w pid o) h.0 ∙ h.1
 
+-- a link, and the rest of a chain
+pub data Chained (A B : Type 0) : Type 0 where
+  ◌⨾◌ : A → B → Chained A B
+
 -- each entry gives the one that stands at its place, and the next is made from the world after it
 abbrev pub Gives : World → ℕ → List Event → List Given → Type 0
 Gives w place [] gs = Unit {0}
 Gives w place (e ∷ events) [] = ⊥
-Gives w place (e ∷ events) (g ∷ gs) = Steps w place e.pid e.op g × Gives g.world (suc place) events gs
+Gives w place (e ∷ events) (g ∷ gs) = Chained (Steps w place e.pid e.op g) (Gives g.world (suc place) events gs)
 
 abbrev pub lines_by : List Event → List Given → List Line
 lines_by [] gs = []
@@ -69,15 +74,18 @@ last_of w [] gs = w
 last_of w (e ∷ events) [] = w
 last_of w (e ∷ events) (g ∷ gs) = last_of g.world events gs
 
-lines_given : (w : World) (place : ℕ) (events : List Event) (gs : List Given) → Gives w place events gs → lines_of w place events ≡ lines_by events gs
+-- the lines of a history are those of what is given, and so is its last world
+pub lines_given : (w : World) (place : ℕ) (events : List Event) (gs : List Given) → Gives w place events gs → lines_of w place events ≡ lines_by events gs
 lines_given w place [] gs h = refl
 lines_given w place (e ∷ events) [] h = absurd h
-lines_given w place (e ∷ events) (g ∷ gs) h = ap (λ x. line_of e x ∷ lines_of x.world (suc place) events) (stepped w place e.pid e.op g h.0) ∙ ap (λ ls. line_of e g ∷ ls) (lines_given g.world (suc place) events gs h.1)
+lines_given w place (e ∷ events) (g ∷ gs) (link ⨾ links) =
+    ap (λ x. line_of e x ∷ lines_of x.world (suc place) events) (stepped w place e.pid e.op g link)
+    ∙ ap (λ ls. line_of e g ∷ ls) (lines_given g.world (suc place) events gs links)
 
 run_given : (w : World) (place : ℕ) (events : List Event) (gs : List Given) → Gives w place events gs → run w place events ≡ last_of w events gs
 run_given w place [] gs h = refl
 run_given w place (e ∷ events) [] h = absurd h
-run_given w place (e ∷ events) (g ∷ gs) h = ap (λ x. run x.world (suc place) events) (stepped w place e.pid e.op g h.0) ∙ run_given g.world (suc place) events gs h.1
+run_given w place (e ∷ events) (g ∷ gs) (link ⨾ links) = ap (λ x. run x.world (suc place) events) (stepped w place e.pid e.op g link) ∙ run_given g.world (suc place) events gs links
 
 -- the lines that are given, and the labels of the last world
 abbrev pub shown_by : World → List Event → List Given → Shown
@@ -109,20 +117,18 @@ log_given_from : (w : World) (place : ℕ) (events : List Event) (gs : List Give
 unfolding audit_log lines_added is_licensed
 log_given_from w place [] gs h = refl
 log_given_from w place (e ∷ events) [] h = absurd h
-log_given_from w place (e ∷ events) (g ∷ gs) h =
-    ap (λ x. lines_for w place e x ++ audit_log x.world (suc place) events) (stepped w place e.pid e.op g h.0)
-    ∙ ap (λ ls. lines_for w place e g ++ ls) (log_given_from g.world (suc place) events gs h.1)
+log_given_from w place (e ∷ events) (g ∷ gs) (link ⨾ links) =
+    ap (λ x. lines_for w place e x ++ audit_log x.world (suc place) events) (stepped w place e.pid e.op g link)
+    ∙ ap (λ ls. lines_for w place e g ++ ls) (log_given_from g.world (suc place) events gs links)
 
 pub log_given : (c : Config) (w : World) (events : List Event) (gs : List Given) → opening_world c ≡ w → Gives w 1 events gs → log_of c events ≡ log_by w 1 events gs
 log_given c w events gs opening h = ap (λ v. audit_log v 1 events) opening ∙ log_given_from w 1 events gs h
 
--- what each entry gives, where these are given
-pub answers_given : (c : Config) (events : List Event) (gs : List Given) → Gives (opening_world c) 1 events gs → answers c events ≡ lines_by events gs
-answers_given c events gs h = lines_given (opening_world c) 1 events gs h
-
--- a history in two parts
+-- the lines of a history in two parts
 pub lines_more : (w : World) (place : ℕ) (es fs : List Event) → lines_of w place (es ++ fs) ≡ lines_of w place es ++ lines_of (run w place es) (length es + place) fs
 lines_more w place [] fs = ap (λ p. lines_of w p fs) (let e : place ≡ 0 + place = omega arith in e)
 lines_more w place (e ∷ es) fs =
-    ap (λ ls. line_of e (step_of w place e) ∷ ls) (lines_more (step_of w place e).world (suc place) es fs
-    ∙ ap (λ p. lines_of (step_of w place e).world (suc place) es ++ lines_of (run (step_of w place e).world (suc place) es) p fs) (let e : length es + suc place ≡ suc (length es) + place = omega arith in e))
+    let v : World = (step_of w place e).world in
+    let same : length es + suc place ≡ suc (length es) + place = omega arith in
+    ap (λ ls. line_of e (step_of w place e) ∷ ls)
+    (lines_more v (suc place) es fs ∙ ap (λ p. lines_of v (suc place) es ++ lines_of (run v (suc place) es) p fs) same)

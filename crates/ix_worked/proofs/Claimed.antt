@@ -12,7 +12,7 @@ use Rattle.ix_model.specs.declared.reply.Reply.TheVariants as reply
 use Rattle.ix_worked.specs.Claims.{claiming, claiming_shows}
 use Rattle.ix_worked.specs.FullPipe.{one_process}
 use Rattle.ix_worked.specs.Sessions.{shown}
-use Rattle.ix_worked.proofs.Chains.{Steps, Gives, number, refused, answered, done, shown_by, shown_given}
+use Rattle.ix_worked.proofs.Chains.{◌⨾◌, Steps, Gives, number, refused, answered, done, shown_by, shown_given}
 use Rattle.ix_worked.proofs.Computing.{running}
 use Rattle.ix_worked.proofs.Worlds.{with_pipe, claimed_by, with_child, with_ended}
 
@@ -95,22 +95,10 @@ given =
     ∷ []
 
 gives : Gives at_first 1 claiming given
-gives = (
-  makes,
-  (
-    forks,
-    (
-      forks_again,
-      (
-        claims,
-        (
-          claims_the_other,
-          (is_kept_out, (claims_again, (exits, (is_half, tt)))),
-        ),
-      ),
-    ),
-  ),
-)
+gives =
+    makes ⨾ forks ⨾ forks_again ⨾ claims
+    ⨾ claims_the_other ⨾ is_kept_out ⨾ claims_again ⨾ exits
+    ⨾ is_half ⨾ tt
 
 opens : opening_world one_process ≡ at_first
 unfolding at_first

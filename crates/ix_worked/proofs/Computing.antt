@@ -22,17 +22,25 @@ use Rattle.ix_model.specs.Valid.{is_valid, is_flat, fss_fit, limits_fit, procs_f
 -- Whoever unfolds one of these unfolds what is named with it.
 -- the words of the rows
 unfoldable pub wording : ℕ
-unfolding ◌>>=◌ ◌>>◌ on_pass need some only_if pass refuse frame caller object record_of change_process change_object put_object put_process add_process put_open observe affect walked_to there found spot found_in vacant missing behind opened let_go_object let_go_open let_go_claim let_go let_go_if_held let_go_each let_go_all entitled log_has_room exercise logged free_inode free_pipe has_room_for_a_name has_all either_of without
+unfolding ◌>>=◌ ◌>>◌ on_pass need some only_if pass refuse frame caller object record_of change_process change_object
+    put_object put_process add_process put_open observe affect walked_to there found spot found_in vacant missing behind
+    opened let_go_object let_go_open let_go_claim let_go let_go_if_held let_go_each let_go_all entitled log_has_room
+    exercise logged free_inode free_pipe has_room_for_a_name has_all either_of without
 wording = 0
 
 -- the rows
 unfoldable pub deciding : ℕ
-unfolding make create_at make_dir link_at unlink_at remove_dir open_at change_dir stat_at list_at read_fd write_fd cut_fd seek_fd dup_fd close_fd make_pipe claimed pex unpex fork exec end_process exit wait_child label_of self_label allowed movable set_label set_self freeze freeze_self thaw thaw_self set_priv drop_lic grant_lic set_ceiling read_log row decide
+unfolding make create_at make_dir link_at unlink_at remove_dir open_at change_dir stat_at list_at read_fd write_fd
+    cut_fd seek_fd dup_fd close_fd make_pipe claimed pex unpex fork exec end_process exit wait_child label_of self_label
+    allowed movable set_label set_self freeze freeze_self thaw thaw_self set_priv drop_lic grant_lic set_ceiling read_log
+    row decide
 deciding = 0
 
 -- the steps
 unfoldable pub stepping : ℕ
-unfolding keep carried readable after_read after_write after_cut after_seek after_exit emptied told_of_read told_of_write told_of_cut told plainly read_answer write_answer cut_answer seek_answer stat_answer exit_answer wait_answer pex_answer answer step
+unfolding keep carried readable after_read after_write after_cut after_seek after_exit emptied told_of_read
+    told_of_write told_of_cut told plainly read_answer write_answer cut_answer seek_answer stat_answer exit_answer
+    wait_answer pex_answer answer step
 stepping = 0
 
 -- an opening world and its histories

@@ -10,7 +10,7 @@ use Rattle.ix_worked.specs.Copying.{copying, copying_shows}
 use Rattle.ix_worked.specs.Scripts.{in_root}
 use Rattle.ix_worked.specs.Sessions.{shown}
 use Rattle.ix_worked.specs.SharedEntry.{one_file}
-use Rattle.ix_worked.proofs.Chains.{Steps, Gives, number, bytes, answered, shown_by, shown_given}
+use Rattle.ix_worked.proofs.Chains.{◌⨾◌, Steps, Gives, number, bytes, answered, shown_by, shown_given}
 use Rattle.ix_worked.proofs.Computing.{running}
 use Rattle.ix_worked.proofs.Labels.{labels}
 use Rattle.ix_worked.proofs.Worlds.{opened, with_entry, moved, holding, with_pipe}
@@ -76,22 +76,9 @@ given =
     ∷ []
 
 gives : Gives at_first 1 copying given
-gives = (
-  opens_it,
-  (
-    makes,
-    (
-      reads,
-      (
-        writes,
-        (
-          is_at_the_end,
-          (receives, tt),
-        ),
-      ),
-    ),
-  ),
-)
+gives =
+    opens_it ⨾ makes ⨾ reads ⨾ writes
+    ⨾ is_at_the_end ⨾ receives ⨾ tt
 
 opens : opening_world one_file ≡ at_first
 unfolding at_first

@@ -11,7 +11,7 @@ use Rattle.ix_model.specs.declared.refusal.Refusal.TheVariants as refusal
 use Rattle.ix_worked.specs.Executing.{programs, executing, executing_shows}
 use Rattle.ix_worked.specs.Scripts.{in_root, log_line}
 use Rattle.ix_worked.specs.Sessions.{shown, log_of}
-use Rattle.ix_worked.proofs.Chains.{Steps, Gives, refused, done, shown_by, shown_given, log_given}
+use Rattle.ix_worked.proofs.Chains.{◌⨾◌, Steps, Gives, refused, done, shown_by, shown_given, log_given}
 use Rattle.ix_worked.proofs.Computing.{running, auditing}
 use Rattle.ix_worked.proofs.Labels.{labels}
 use Rattle.ix_worked.proofs.Worlds.{with_process, with_object, with_line}
@@ -61,7 +61,7 @@ given =
     ∷ []
 
 gives : Gives at_first 1 executing given
-gives = (gets_both, (thaws, (loses_both, (lacks_capability, tt))))
+gives = gets_both ⨾ thaws ⨾ loses_both ⨾ lacks_capability ⨾ tt
 
 opens : opening_world programs ≡ at_first
 unfolding at_first

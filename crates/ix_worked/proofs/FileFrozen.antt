@@ -9,7 +9,7 @@ use Rattle.ix_model.specs.declared.refusal.Refusal.TheVariants as refusal
 use Rattle.ix_worked.specs.FrozenFile.{a_frozen_file, writing_to_it, writing_to_it_shows}
 use Rattle.ix_worked.specs.Scripts.{in_root}
 use Rattle.ix_worked.specs.Sessions.{shown}
-use Rattle.ix_worked.proofs.Chains.{Steps, Gives, number, refused, shown_by, shown_given}
+use Rattle.ix_worked.proofs.Chains.{◌⨾◌, Steps, Gives, number, refused, shown_by, shown_given}
 use Rattle.ix_worked.proofs.Computing.{running}
 use Rattle.ix_worked.proofs.Labels.{labels}
 use Rattle.ix_worked.proofs.Worlds.{opened, with_entry, moved, holding}
@@ -59,7 +59,7 @@ given =
     ∷ []
 
 gives : Gives at_first 1 writing_to_it given
-gives = (opens_low, (writes_low, (opens_high, (stops_high, tt))))
+gives = opens_low ⨾ writes_low ⨾ opens_high ⨾ stops_high ⨾ tt
 
 opens : opening_world a_frozen_file ≡ at_first
 unfolding at_first

@@ -9,7 +9,7 @@ use Rattle.ix_model.specs.declared.refusal.Refusal.TheVariants as refusal
 use Rattle.ix_worked.specs.FewBlocks.{two_blocks, filling, filling_shows}
 use Rattle.ix_worked.specs.Scripts.{in_root}
 use Rattle.ix_worked.specs.Sessions.{shown}
-use Rattle.ix_worked.proofs.Chains.{Steps, Gives, number, bytes, refused, done, shown_by, shown_given}
+use Rattle.ix_worked.proofs.Chains.{◌⨾◌, Steps, Gives, number, bytes, refused, done, shown_by, shown_given}
 use Rattle.ix_worked.proofs.Computing.{running}
 use Rattle.ix_worked.proofs.Labels.{labels}
 use Rattle.ix_worked.proofs.Worlds.{opened, with_entry, moved, holding}
@@ -91,22 +91,10 @@ given =
     ∷ []
 
 gives : Gives at_first 1 filling given
-gives = (
-  opens_it,
-  (
-    is_too_long,
-    (
-      fills,
-      (
-        cuts,
-        (
-          seeks,
-          (writes, (goes_back, (reads, tt))),
-        ),
-      ),
-    ),
-  ),
-)
+gives =
+    opens_it ⨾ is_too_long ⨾ fills ⨾ cuts
+    ⨾ seeks ⨾ writes ⨾ goes_back ⨾ reads
+    ⨾ tt
 
 opens : opening_world two_blocks ≡ at_first
 unfolding at_first

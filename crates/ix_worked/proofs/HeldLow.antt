@@ -12,7 +12,7 @@ use Rattle.ix_worked.specs.Scripts.{four, in_root}
 use Rattle.ix_worked.specs.Sessions.{shown, log_of}
 use Rattle.ix_worked.specs.Waiting.{a_secret}
 use Rattle.ix_worked.specs.WaitingLow.{waiting_low, waiting_low_shows}
-use Rattle.ix_worked.proofs.Chains.{Steps, Gives, number, bytes, refused, done, shown_by, shown_given, log_given}
+use Rattle.ix_worked.proofs.Chains.{◌⨾◌, Steps, Gives, number, bytes, refused, done, shown_by, shown_given, log_given}
 use Rattle.ix_worked.proofs.Computing.{running, auditing}
 use Rattle.ix_worked.proofs.Labels.{labels}
 use Rattle.ix_worked.proofs.Worlds.{with_process, floated, opened, with_entry, without_entry, moved, with_child, with_ended}
@@ -78,22 +78,9 @@ given =
     ∷ []
 
 gives : Gives at_first 1 waiting_low given
-gives = (
-  forks,
-  (
-    opens_it,
-    (
-      reads,
-      (
-        exits,
-        (
-          lowers,
-          (is_refused, tt),
-        ),
-      ),
-    ),
-  ),
-)
+gives =
+    forks ⨾ opens_it ⨾ reads ⨾ exits
+    ⨾ lowers ⨾ is_refused ⨾ tt
 
 opens : opening_world a_secret ≡ at_first
 unfolding at_first

@@ -9,7 +9,7 @@ use Rattle.ix_model.specs.declared.call.Mode.TheVariants as mode
 use Rattle.ix_worked.specs.Inheriting.{letters, inheriting, inheriting_shows}
 use Rattle.ix_worked.specs.Scripts.{in_root}
 use Rattle.ix_worked.specs.Sessions.{shown}
-use Rattle.ix_worked.proofs.Chains.{Steps, Gives, number, bytes, done, shown_by, shown_given}
+use Rattle.ix_worked.proofs.Chains.{◌⨾◌, Steps, Gives, number, bytes, done, shown_by, shown_given}
 use Rattle.ix_worked.proofs.Computing.{running}
 use Rattle.ix_worked.proofs.Labels.{labels}
 use Rattle.ix_worked.proofs.Worlds.{opened, with_entry, with_fd, moved, with_child}
@@ -75,22 +75,9 @@ given =
     ∷ []
 
 gives : Gives at_first 1 inheriting given
-gives = (
-  opens_it,
-  (
-    forks,
-    (
-      reads_four,
-      (
-        reads_on,
-        (
-          closes,
-          (is_at_the_end, tt),
-        ),
-      ),
-    ),
-  ),
-)
+gives =
+    opens_it ⨾ forks ⨾ reads_four ⨾ reads_on
+    ⨾ closes ⨾ is_at_the_end ⨾ tt
 
 opens : opening_world letters ≡ at_first
 unfolding at_first

@@ -78,6 +78,9 @@ same-three_and_five_three = same-with_one three 5 3 refl
 pub leq-three_five : leq three five ≡ false
 leq-three_five = leq-with_one bottom 3 5 refl
 
+pub leq-five_three : leq five three ≡ false
+leq-five_three = leq-with_one bottom 5 3 refl
+
 pub leq-top_three : leq top three ≡ false
 leq-top_three = false_from_ne_true _ (λ h. true≢false (sym (leq-has top three h 5 (has-top 5 (omega arith))) ∙ has-with bottom 3 5 ∙ has-bottom 5))
 
@@ -87,4 +90,6 @@ same-three_three_and_five = ap (λ b. b && leq three_and_five three) (leq-more t
 
 pub ruleset tops = (leq-three_top, leq-four_top, leq-five_top, leq-seven_top, leq-three_and_five_top, leq-two_and_five_top)
 
-pub ruleset labels = (join-bottom, join-bottom_right, join-idem, join-more, join-less, leq-refl, bottom-leq, leq-with_bottom, same-refl, same-with_bottom, same-bottom_with, tops, leq-seven_five, leq-three_five, leq-top_three, leq-more, same-three_and_five_three, same-three_three_and_five)
+pub ruleset between = (leq-seven_five, leq-three_five, leq-five_three, leq-top_three, same-three_and_five_three, same-three_three_and_five)
+
+pub ruleset labels = (join-bottom, join-bottom_right, join-idem, join-more, join-less, leq-refl, bottom-leq, leq-with_bottom, leq-more, same-refl, same-with_bottom, same-bottom_with, tops, between)

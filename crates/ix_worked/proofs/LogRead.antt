@@ -11,7 +11,7 @@ use Rattle.ix_model.specs.declared.reply.Reply.TheVariants as reply
 use Rattle.ix_worked.specs.ReadingTheLog.{two_lines, reading_the_log, reading_the_log_shows}
 use Rattle.ix_worked.specs.Scripts.{three, log_line}
 use Rattle.ix_worked.specs.Sessions.{shown, log_of}
-use Rattle.ix_worked.proofs.Chains.{Steps, Gives, refused, answered, done, shown_by, shown_given, log_given}
+use Rattle.ix_worked.proofs.Chains.{◌⨾◌, Steps, Gives, refused, answered, done, shown_by, shown_given, log_given}
 use Rattle.ix_worked.proofs.Computing.{running, auditing}
 use Rattle.ix_worked.proofs.Labels.{labels}
 use Rattle.ix_worked.proofs.Worlds.{with_line, floated}
@@ -63,7 +63,9 @@ given =
     ∷ []
 
 gives : Gives at_first 1 reading_the_log given
-gives = (has_no_line, (lowers, (reads, (has_no_third, (has_no_room, tt)))))
+gives =
+    has_no_line ⨾ lowers ⨾ reads ⨾ has_no_third
+    ⨾ has_no_room ⨾ tt
 
 opens : opening_world two_lines ≡ at_first
 unfolding at_first

@@ -1,9 +1,7 @@
 -- What is shown where servers act for their users, entry by entry.
 use Rattle.std.proofs.Common.{◌≡◌, ℕ, List, [], ◌∷◌, Some, None, replicate, refl, codes}
 use Rattle.ix_label.specs.Category.{bottom}
-use Rattle.ix_model.specs.Directories.{with_name}
 use Rattle.ix_model.specs.History as op
-use Rattle.ix_model.specs.OnPaths.{new_object}
 use Rattle.ix_model.specs.Opening.{opening_world}
 use Rattle.ix_model.specs.Privs.{to_lower, to_grant, to_read_the_log, no_privileges}
 use Rattle.ix_model.specs.Step.{Given}
@@ -17,10 +15,10 @@ use Rattle.ix_model.specs.declared.reply.Reply.TheVariants as reply
 use Rattle.ix_worked.specs.Login.{office, asking, asking_shows}
 use Rattle.ix_worked.specs.Scripts.{all_five, two_and_five, in_root, under, log_line}
 use Rattle.ix_worked.specs.Sessions.{shown, log_of}
-use Rattle.ix_worked.proofs.Chains.{Steps, Gives, number, bytes, refused, answered, done, shown_by, shown_given, log_given}
+use Rattle.ix_worked.proofs.Chains.{◌⨾◌, Steps, Gives, number, bytes, refused, answered, done, shown_by, shown_given, log_given}
 use Rattle.ix_worked.proofs.Computing.{running, auditing}
 use Rattle.ix_worked.proofs.Labels.{labels}
-use Rattle.ix_worked.proofs.Worlds.{with_process, with_object, with_line, floated, raised, opened, with_entry, moved, holding, with_new, with_pipe, claimed_by, with_child}
+use Rattle.ix_worked.proofs.Worlds.{with_made, with_process, with_line, floated, raised, opened, with_entry, moved, holding, with_pipe, claimed_by, with_child}
 
 -- ---- the worlds, in order
 at_first : World
@@ -47,11 +45,8 @@ whole = claimed_by 256 (Some 1) (Some 2) bare
 asked : World
 asked = holding 256 (codes "login ann") [] whole
 
-heard : World
-heard = whole
-
 ann_forked : World
-ann_forked = with_process 3 (λ p. record p { fds = put (replicate 32 None) 3 (Some 3) }) (with_child 1 heard)
+ann_forked = with_process 3 (λ p. record p { fds = put (replicate 32 None) 3 (Some 3) }) (with_child 1 whole)
 
 ann_bare : World
 ann_bare = with_process 3 (λ p. record p { cap = no_privileges; lic = no_privileges }) ann_forked
@@ -71,17 +66,11 @@ ann_let_go = claimed_by 256 None (Some 2) ann_told
 answer_read : World
 answer_read = claimed_by 256 None (Some 2) ann_granted
 
-whole_again : World
-whole_again = ann_granted
-
 asked_again : World
-asked_again = holding 256 (codes "login bob") [] whole_again
-
-heard_again : World
-heard_again = whole_again
+asked_again = holding 256 (codes "login bob") [] ann_granted
 
 bob_forked : World
-bob_forked = with_process 4 (λ p. record p { fds = put (replicate 32 None) 3 (Some 3) }) (with_child 1 heard_again)
+bob_forked = with_process 4 (λ p. record p { fds = put (replicate 32 None) 3 (Some 3) }) (with_child 1 ann_granted)
 
 bob_bare : World
 bob_bare = with_process 4 (λ p. record p { cap = no_privileges; lic = no_privileges }) bob_forked
@@ -96,7 +85,7 @@ bob_let_go : World
 bob_let_go = claimed_by 256 None (Some 2) bob_told
 
 mailed : World
-mailed = with_object 1 (with_name (codes "m1") 5) (with_new 5 (Some (new_object kind.File (Some 0))) bob_let_go)
+mailed = with_made kind.File 0 1 (codes "m1") 5 bob_let_go
 
 plan_open : World
 plan_open = with_entry 3 0 4 (opened 4 mode.Read) mailed
@@ -105,7 +94,7 @@ plan_read : World
 plan_read = moved 4 2 (floated 3 two_and_five plan_open)
 
 reported : World
-reported = with_object 2 (with_name (codes "rep") 6) (with_new 6 (Some (new_object kind.File (Some 0))) plan_read)
+reported = with_made kind.File 0 2 (codes "rep") 6 plan_read
 
 report_open : World
 report_open = with_entry 3 1 5 (opened 6 mode.Write) reported
@@ -142,7 +131,9 @@ published = with_line (log_line 43 3 act.DownFile 6 two_and_five bottom) (raised
 
 -- opens all of them
 worlds : ℕ
-unfolding at_first piped both_piped forked bare half whole asked heard ann_forked ann_bare ann_held ann_granted ann_told ann_let_go answer_read whole_again asked_again heard_again bob_forked bob_bare bob_held bob_told bob_let_go mailed plan_open plan_read reported report_open report_written released want_half want_whole wanted want_heard want_granted want_told want_let_go published
+unfolding at_first piped both_piped forked bare half whole asked ann_forked ann_bare ann_held ann_granted ann_told
+    ann_let_go answer_read asked_again bob_forked bob_bare bob_held bob_told bob_let_go mailed plan_open plan_read reported
+    report_open report_written released want_half want_whole wanted want_heard want_granted want_told want_let_go published
 worlds = 0
 
 -- ---- the steps from one to the next
@@ -178,11 +169,11 @@ finds_it_whole : Steps asked 8 1 (op.Pex 0) (answered asked (reply.Whole (record
 unfolding running worlds
 finds_it_whole = (refl, refl)
 
-hears : Steps asked 9 1 (op.ReadFd 0 64) (bytes heard (codes "login ann"))
+hears : Steps asked 9 1 (op.ReadFd 0 64) (bytes whole (codes "login ann"))
 unfolding running worlds
 hears = (simp labels refl, refl)
 
-forks_ann : Steps heard 10 1 (op.Fork (keep.One (record { 0 = 3 }))) (number ann_forked 3)
+forks_ann : Steps whole 10 1 (op.Fork (keep.One (record { 0 = 3 }))) (number ann_forked 3)
 unfolding running worlds
 forks_ann = (refl, refl)
 
@@ -210,11 +201,11 @@ user_reads : Steps ann_let_go 16 2 (op.ReadFd 1 64) (bytes answer_read (codes "g
 unfolding running worlds
 user_reads = (simp labels refl, refl)
 
-claims_again : Steps answer_read 17 1 (op.Pex 0) (answered whole_again (reply.Whole (record { 0 = 2 }) bottom no_privileges))
+claims_again : Steps answer_read 17 1 (op.Pex 0) (answered ann_granted (reply.Whole (record { 0 = 2 }) bottom no_privileges))
 unfolding running worlds
 claims_again = (refl, refl)
 
-asks_again : Steps whole_again 18 2 (op.WriteFd 1 (codes "login bob")) (number asked_again 9)
+asks_again : Steps ann_granted 18 2 (op.WriteFd 1 (codes "login bob")) (number asked_again 9)
 unfolding running worlds
 asks_again = (simp labels refl, refl)
 
@@ -222,11 +213,11 @@ finds_it_whole_again : Steps asked_again 19 1 (op.Pex 0) (answered asked_again (
 unfolding running worlds
 finds_it_whole_again = (refl, refl)
 
-hears_again : Steps asked_again 20 1 (op.ReadFd 0 64) (bytes heard_again (codes "login bob"))
+hears_again : Steps asked_again 20 1 (op.ReadFd 0 64) (bytes ann_granted (codes "login bob"))
 unfolding running worlds
 hears_again = (simp labels refl, refl)
 
-forks_bob : Steps heard_again 21 1 (op.Fork (keep.One (record { 0 = 3 }))) (number bob_forked 4)
+forks_bob : Steps ann_granted 21 1 (op.Fork (keep.One (record { 0 = 3 }))) (number bob_forked 4)
 unfolding running worlds
 forks_bob = (refl, refl)
 
@@ -329,7 +320,7 @@ given =
     ∷ answered whole (reply.Whole (record { 0 = 1 }) bottom to_grant)
     ∷ number asked 9
     ∷ answered asked (reply.Whole (record { 0 = 2 }) bottom no_privileges)
-    ∷ bytes heard (codes "login ann")
+    ∷ bytes whole (codes "login ann")
     ∷ number ann_forked 3
     ∷ done ann_bare
     ∷ done ann_held
@@ -337,10 +328,10 @@ given =
     ∷ number ann_told 9
     ∷ done ann_let_go
     ∷ bytes answer_read (codes "granted 1")
-    ∷ answered whole_again (reply.Whole (record { 0 = 2 }) bottom no_privileges)
+    ∷ answered ann_granted (reply.Whole (record { 0 = 2 }) bottom no_privileges)
     ∷ number asked_again 9
     ∷ answered asked_again (reply.Whole (record { 0 = 2 }) bottom no_privileges)
-    ∷ bytes heard_again (codes "login bob")
+    ∷ bytes ann_granted (codes "login bob")
     ∷ number bob_forked 4
     ∷ done bob_bare
     ∷ done bob_held
@@ -367,127 +358,18 @@ given =
     ∷ []
 
 gives : Gives at_first 1 asking given
-gives = (
-  makes,
-  (
-    makes_again,
-    (
-      forks,
-      (
-        drops,
-        (
-          claims,
-          (
-            user_claims,
-            (
-              asks,
-              (
-                finds_it_whole,
-                (
-                  hears,
-                  (
-                    forks_ann,
-                    (
-                      ann_drops,
-                      (
-                        holds_ann,
-                        (
-                          grants_ann,
-                          (
-                            tells_ann,
-                            (
-                              lets_ann_go,
-                              (
-                                user_reads,
-                                (
-                                  claims_again,
-                                  (
-                                    asks_again,
-                                    (
-                                      finds_it_whole_again,
-                                      (
-                                        hears_again,
-                                        (
-                                          forks_bob,
-                                          (
-                                            bob_drops,
-                                            (
-                                              holds_bob,
-                                              (
-                                                tells_bob,
-                                                (
-                                                  lets_bob_go,
-                                                  (
-                                                    mails,
-                                                    (
-                                                      opens_plan,
-                                                      (
-                                                        reads_plan,
-                                                        (
-                                                          is_above_the_mail,
-                                                          (
-                                                            makes_report,
-                                                            (
-                                                              opens_report,
-                                                              (
-                                                                writes_report,
-                                                                (
-                                                                  executes,
-                                                                  (
-                                                                    has_no_licence,
-                                                                    (
-                                                                      claims_for_wants,
-                                                                      (
-                                                                        ann_claims,
-                                                                        (
-                                                                          wants,
-                                                                          (
-                                                                            finds_ann,
-                                                                            (
-                                                                              hears_ann,
-                                                                              (
-                                                                                grants_want,
-                                                                                (tells_want, (lets_want_go, (lowers, tt))),
-                                                                              ),
-                                                                            ),
-                                                                          ),
-                                                                        ),
-                                                                      ),
-                                                                    ),
-                                                                  ),
-                                                                ),
-                                                              ),
-                                                            ),
-                                                          ),
-                                                        ),
-                                                      ),
-                                                    ),
-                                                  ),
-                                                ),
-                                              ),
-                                            ),
-                                          ),
-                                        ),
-                                      ),
-                                    ),
-                                  ),
-                                ),
-                              ),
-                            ),
-                          ),
-                        ),
-                      ),
-                    ),
-                  ),
-                ),
-              ),
-            ),
-          ),
-        ),
-      ),
-    ),
-  ),
-)
+gives =
+    makes ⨾ makes_again ⨾ forks ⨾ drops
+    ⨾ claims ⨾ user_claims ⨾ asks ⨾ finds_it_whole
+    ⨾ hears ⨾ forks_ann ⨾ ann_drops ⨾ holds_ann
+    ⨾ grants_ann ⨾ tells_ann ⨾ lets_ann_go ⨾ user_reads
+    ⨾ claims_again ⨾ asks_again ⨾ finds_it_whole_again ⨾ hears_again
+    ⨾ forks_bob ⨾ bob_drops ⨾ holds_bob ⨾ tells_bob
+    ⨾ lets_bob_go ⨾ mails ⨾ opens_plan ⨾ reads_plan
+    ⨾ is_above_the_mail ⨾ makes_report ⨾ opens_report ⨾ writes_report
+    ⨾ executes ⨾ has_no_licence ⨾ claims_for_wants ⨾ ann_claims
+    ⨾ wants ⨾ finds_ann ⨾ hears_ann ⨾ grants_want
+    ⨾ tells_want ⨾ lets_want_go ⨾ lowers ⨾ tt
 
 opens : opening_world office ≡ at_first
 unfolding at_first

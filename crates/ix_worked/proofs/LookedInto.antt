@@ -8,7 +8,7 @@ use Rattle.ix_model.specs.declared.refusal.Refusal.TheVariants as refusal
 use Rattle.ix_worked.specs.HighDirectory.{a_high_directory, looking_into_it, looking_into_it_shows}
 use Rattle.ix_worked.specs.Scripts.{seven, under}
 use Rattle.ix_worked.specs.Sessions.{shown}
-use Rattle.ix_worked.proofs.Chains.{Steps, Gives, refused, shown_by, shown_given}
+use Rattle.ix_worked.proofs.Chains.{◌⨾◌, Steps, Gives, refused, shown_by, shown_given}
 use Rattle.ix_worked.proofs.Computing.{running}
 use Rattle.ix_worked.proofs.Labels.{labels}
 use Rattle.ix_worked.proofs.Worlds.{floated}
@@ -35,7 +35,7 @@ abbrev given : List Given
 given = refused floating refusal.NotFound ∷ []
 
 gives : Gives at_first 1 looking_into_it given
-gives = (is_missing, tt)
+gives = is_missing ⨾ tt
 
 opens : opening_world a_high_directory ≡ at_first
 unfolding at_first

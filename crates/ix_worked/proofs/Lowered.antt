@@ -10,7 +10,7 @@ use Rattle.ix_model.specs.declared.refusal.Refusal.TheVariants as refusal
 use Rattle.ix_worked.specs.Downgrading.{one_line, lowering, lowering_shows}
 use Rattle.ix_worked.specs.Scripts.{three, in_root, log_line}
 use Rattle.ix_worked.specs.Sessions.{shown, log_of}
-use Rattle.ix_worked.proofs.Chains.{Steps, Gives, refused, done, shown_by, shown_given, log_given}
+use Rattle.ix_worked.proofs.Chains.{◌⨾◌, Steps, Gives, refused, done, shown_by, shown_given, log_given}
 use Rattle.ix_worked.proofs.Computing.{running, auditing}
 use Rattle.ix_worked.proofs.Labels.{labels}
 use Rattle.ix_worked.proofs.Worlds.{with_line, raised}
@@ -54,7 +54,7 @@ given =
     ∷ []
 
 gives : Gives at_first 1 lowering given
-gives = (lacks_capability, (lacks_licence, (lowers, (has_no_room, tt))))
+gives = lacks_capability ⨾ lacks_licence ⨾ lowers ⨾ has_no_room ⨾ tt
 
 opens : opening_world one_line ≡ at_first
 unfolding at_first

@@ -1,8 +1,6 @@
 -- What is shown where names come and go, entry by entry.
-use Rattle.std.proofs.Common.{◌≡◌, ℕ, List, [], ◌∷◌, Some, refl, codes}
-use Rattle.ix_model.specs.Directories.{with_name}
+use Rattle.std.proofs.Common.{◌≡◌, ℕ, List, [], ◌∷◌, refl, codes}
 use Rattle.ix_model.specs.History as op
-use Rattle.ix_model.specs.OnPaths.{new_object}
 use Rattle.ix_model.specs.Opening.{opening_world}
 use Rattle.ix_model.specs.Step.{Given}
 use Rattle.ix_model.specs.World.{World}
@@ -12,20 +10,20 @@ use Rattle.ix_model.specs.declared.reply.Reply.TheVariants as reply
 use Rattle.ix_worked.specs.Scripts.{seven, in_root, at_root, under}
 use Rattle.ix_worked.specs.Sessions.{shown}
 use Rattle.ix_worked.specs.Trees.{two_file_systems, naming, naming_shows}
-use Rattle.ix_worked.proofs.Chains.{Steps, Gives, number, refused, answered, done, shown_by, shown_given}
+use Rattle.ix_worked.proofs.Chains.{◌⨾◌, Steps, Gives, number, refused, answered, done, shown_by, shown_given}
 use Rattle.ix_worked.proofs.Computing.{running}
 use Rattle.ix_worked.proofs.Labels.{labels}
-use Rattle.ix_worked.proofs.Worlds.{with_object, floated, with_new}
+use Rattle.ix_worked.proofs.Worlds.{with_made, floated}
 
 -- ---- the worlds, in order
 at_first : World
 at_first = opening_world two_file_systems
 
 made : World
-made = with_object 0 (with_name (codes "d") 2) (with_new 2 (Some (new_object kind.Dir (Some 0))) at_first)
+made = with_made kind.Dir 0 0 (codes "d") 2 at_first
 
 filed : World
-filed = with_object 2 (with_name (codes "n") 3) (with_new 3 (Some (new_object kind.File (Some 0))) made)
+filed = with_made kind.File 0 2 (codes "n") 3 made
 
 emptied : World
 emptied = made
@@ -37,7 +35,7 @@ floating : World
 floating = floated 1 seven at_first
 
 filed_high : World
-filed_high = with_object 1 (with_name (codes "q") 2) (with_new 2 (Some (new_object kind.File (Some 0))) floating)
+filed_high = with_made kind.File 0 1 (codes "q") 2 floating
 
 -- opens all of them
 worlds : ℕ
@@ -96,22 +94,10 @@ given =
     ∷ []
 
 gives : Gives at_first 1 naming given
-gives = (
-  makes,
-  (
-    makes_in_it,
-    (
-      is_across,
-      (
-        is_not_empty,
-        (
-          unlinks,
-          (removes, (lists, (makes_high, (is_too_high, tt)))),
-        ),
-      ),
-    ),
-  ),
-)
+gives =
+    makes ⨾ makes_in_it ⨾ is_across ⨾ is_not_empty
+    ⨾ unlinks ⨾ removes ⨾ lists ⨾ makes_high
+    ⨾ is_too_high ⨾ tt
 
 opens : opening_world two_file_systems ≡ at_first
 unfolding at_first

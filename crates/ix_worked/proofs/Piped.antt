@@ -8,7 +8,7 @@ use Rattle.ix_model.specs.declared.refusal.Refusal.TheVariants as refusal
 use Rattle.ix_model.specs.declared.reply.Reply.TheVariants as reply
 use Rattle.ix_worked.specs.FullPipe.{one_process, piping, piping_shows}
 use Rattle.ix_worked.specs.Sessions.{shown}
-use Rattle.ix_worked.proofs.Chains.{Steps, Gives, number, bytes, refused, answered, done, shown_by, shown_given}
+use Rattle.ix_worked.proofs.Chains.{◌⨾◌, Steps, Gives, number, bytes, refused, answered, done, shown_by, shown_given}
 use Rattle.ix_worked.proofs.Computing.{running}
 use Rattle.ix_worked.proofs.Labels.{labels}
 use Rattle.ix_worked.proofs.Worlds.{with_fd, without_entry, holding, with_pipe}
@@ -81,22 +81,10 @@ given =
     ∷ []
 
 gives : Gives at_first 1 piping given
-gives = (
-  makes,
-  (
-    fills,
-    (
-      is_full,
-      (
-        empties,
-        (
-          is_empty,
-          (closes, (is_at_the_end, (is_broken, tt))),
-        ),
-      ),
-    ),
-  ),
-)
+gives =
+    makes ⨾ fills ⨾ is_full ⨾ empties
+    ⨾ is_empty ⨾ closes ⨾ is_at_the_end ⨾ is_broken
+    ⨾ tt
 
 opens : opening_world one_process ≡ at_first
 unfolding at_first

@@ -1,5 +1,5 @@
 -- What is shown where a file is raised between two reads, entry by entry.
-use Rattle.std.proofs.Common.{◌≡◌, ℕ, List, [], ◌∷◌, refl, arith, codes}
+use Rattle.std.proofs.Common.{◌≡◌, ℕ, List, [], ◌∷◌, refl, codes}
 use Rattle.ix_label.specs.Category.{Categories, bottom, top}
 use Rattle.ix_model.specs.World.{World}
 use Rattle.ix_model.specs.Step.{Given}
@@ -10,9 +10,9 @@ use Rattle.ix_model.specs.declared.refusal.Refusal.TheVariants as refusal
 use Rattle.ix_worked.specs.Sessions.{shown}
 use Rattle.ix_worked.specs.Scripts.{seven, in_root, proc, file, usual_fs}
 use Rattle.ix_worked.specs.LooksAnew.{held_low, reading_twice, reading_twice_shows}
-use Rattle.ix_worked.proofs.Chains.{Steps, number, bytes, refused, shown_by, shown_given}
+use Rattle.ix_worked.proofs.Chains.{◌⨾◌, Steps, number, bytes, refused, shown_by, shown_given}
 use Rattle.ix_worked.proofs.Computing.{running}
-use Rattle.ix_worked.proofs.Labels.{labels, leq-one_top}
+use Rattle.ix_worked.proofs.Labels.{labels}
 use Rattle.ix_worked.proofs.Worlds.{Opened, world_with}
 
 -- the low process with these descriptors, the high one with these, the file, and what is open
@@ -73,7 +73,7 @@ abbrev given : List Given
 given = number one_open 0 ∷ number both_open 0 ∷ bytes read_once (codes "x") ∷ number raised 1 ∷ refused raised refusal.ProcCeiling ∷ []
 
 ran : shown held_low reading_twice ≡ shown_by at_first reading_twice given
-ran = shown_given held_low at_first reading_twice given opening (opens_high, (opens_low, (reads_low, (writes_high, (stops_low, tt)))))
+ran = shown_given held_low at_first reading_twice given opening (opens_high ⨾ opens_low ⨾ reads_low ⨾ writes_high ⨾ stops_low ⨾ tt)
 
 pub raised_between : shown held_low reading_twice ≡ reading_twice_shows
 unfolding at_first one_open both_open read_once raised

@@ -9,7 +9,7 @@ use Rattle.ix_model.specs.declared.refusal.Refusal.TheVariants as refusal
 use Rattle.ix_worked.specs.Scripts.{in_root}
 use Rattle.ix_worked.specs.Sessions.{shown}
 use Rattle.ix_worked.specs.SharedEntry.{one_file, sharing, sharing_shows}
-use Rattle.ix_worked.proofs.Chains.{Steps, Gives, number, bytes, refused, done, shown_by, shown_given}
+use Rattle.ix_worked.proofs.Chains.{◌⨾◌, Steps, Gives, number, bytes, refused, done, shown_by, shown_given}
 use Rattle.ix_worked.proofs.Computing.{running}
 use Rattle.ix_worked.proofs.Labels.{labels}
 use Rattle.ix_worked.proofs.Worlds.{opened, with_entry, with_fd, moved}
@@ -83,22 +83,9 @@ given =
     ∷ []
 
 gives : Gives at_first 1 sharing given
-gives = (
-  opens_it,
-  (
-    copies,
-    (
-      reads_a,
-      (
-        reads_b,
-        (
-          closes,
-          (is_refused, (reads_c, tt)),
-        ),
-      ),
-    ),
-  ),
-)
+gives =
+    opens_it ⨾ copies ⨾ reads_a ⨾ reads_b
+    ⨾ closes ⨾ is_refused ⨾ reads_c ⨾ tt
 
 opens : opening_world one_file ≡ at_first
 unfolding at_first

@@ -10,7 +10,7 @@ use Rattle.ix_worked.specs.Executing.{programs}
 use Rattle.ix_worked.specs.Scripts.{in_root}
 use Rattle.ix_worked.specs.Sessions.{shown}
 use Rattle.ix_worked.specs.TrustedFile.{writing_a_program, writing_a_program_shows}
-use Rattle.ix_worked.proofs.Chains.{Steps, Gives, number, refused, shown_by, shown_given}
+use Rattle.ix_worked.proofs.Chains.{◌⨾◌, Steps, Gives, number, refused, shown_by, shown_given}
 use Rattle.ix_worked.proofs.Computing.{running}
 use Rattle.ix_worked.proofs.Labels.{labels}
 use Rattle.ix_worked.proofs.Worlds.{opened, with_entry}
@@ -41,7 +41,7 @@ abbrev given : List Given
 given = number one_open 0 ∷ refused one_open refusal.Trusted ∷ []
 
 gives : Gives at_first 1 writing_a_program given
-gives = (opens_it, (is_refused, tt))
+gives = opens_it ⨾ is_refused ⨾ tt
 
 opens : opening_world programs ≡ at_first
 unfolding at_first

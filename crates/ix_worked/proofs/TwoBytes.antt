@@ -1,5 +1,5 @@
 -- What is shown where a high process writes any two bytes, entry by entry.
-use Rattle.std.proofs.Common.{◌≡◌, ℕ, List, [], ◌∷◌, refl, arith, codes}
+use Rattle.std.proofs.Common.{◌≡◌, ℕ, List, [], ◌∷◌, refl, codes}
 use Rattle.ix_label.specs.Category.{Categories, bottom, top}
 use Rattle.ix_model.specs.World.{World}
 use Rattle.ix_model.specs.Step.{Given}
@@ -9,9 +9,9 @@ use Rattle.ix_model.specs.declared.call.Mode.TheVariants as mode
 use Rattle.ix_worked.specs.Sessions.{shown}
 use Rattle.ix_worked.specs.Scripts.{seven, in_root, proc, file, usual_fs}
 use Rattle.ix_worked.specs.TwoLevels.{two_levels, writing, writing_shows}
-use Rattle.ix_worked.proofs.Chains.{Steps, number, bytes, shown_by, shown_given}
+use Rattle.ix_worked.proofs.Chains.{◌⨾◌, Steps, number, bytes, shown_by, shown_given}
 use Rattle.ix_worked.proofs.Computing.{running}
-use Rattle.ix_worked.proofs.Labels.{labels, leq-one_top}
+use Rattle.ix_worked.proofs.Labels.{labels}
 use Rattle.ix_worked.proofs.Worlds.{Opened, world_with}
 
 -- the low process at a label with these descriptors, the high one with these, the file that is written, and what is open
@@ -92,7 +92,8 @@ given a b =
     ∷ []
 
 ran : (a b : ℕ) → shown two_levels (writing (a ∷ b ∷ [])) ≡ shown_by at_first (writing (a ∷ b ∷ [])) (given a b)
-ran a b = shown_given two_levels at_first (writing (a ∷ b ∷ [])) (given a b) opening (opens_d_high, (opens_d_low, (opens_e_low, (writes_d_high a b, (reads_e_low a b, (reads_d_low a b, tt))))))
+ran a b = shown_given two_levels at_first (writing (a ∷ b ∷ [])) (given a b) opening
+    (opens_d_high ⨾ opens_d_low ⨾ opens_e_low ⨾ writes_d_high a b ⨾ reads_e_low a b ⨾ reads_d_low a b ⨾ tt)
 
 pub two_bytes : (a b : ℕ) → shown two_levels (writing (a ∷ b ∷ [])) ≡ writing_shows (a ∷ b ∷ [])
 unfolding at_first one_open two_open all_open written read_low read_high

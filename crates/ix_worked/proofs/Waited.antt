@@ -10,7 +10,7 @@ use Rattle.ix_model.specs.declared.reply.Reply.TheVariants as reply
 use Rattle.ix_worked.specs.Scripts.{four, in_root}
 use Rattle.ix_worked.specs.Sessions.{shown}
 use Rattle.ix_worked.specs.Waiting.{a_secret, waiting, waiting_shows}
-use Rattle.ix_worked.proofs.Chains.{Steps, Gives, number, bytes, answered, done, shown_by, shown_given}
+use Rattle.ix_worked.proofs.Chains.{◌⨾◌, Steps, Gives, number, bytes, answered, done, shown_by, shown_given}
 use Rattle.ix_worked.proofs.Computing.{running}
 use Rattle.ix_worked.proofs.Labels.{labels}
 use Rattle.ix_worked.proofs.Worlds.{floated, opened, with_entry, without_entry, moved, with_child, with_ended, without_process}
@@ -71,7 +71,9 @@ given =
     ∷ []
 
 gives : Gives at_first 1 waiting given
-gives = (forks, (opens_it, (reads, (exits, (waits, tt)))))
+gives =
+    forks ⨾ opens_it ⨾ reads ⨾ exits
+    ⨾ waits ⨾ tt
 
 opens : opening_world a_secret ≡ at_first
 unfolding at_first

@@ -4,10 +4,12 @@ use Rattle.ix_label.specs.Category.{Categories}
 use Rattle.ix_model.specs.World.{World, Process, Object, Open, at, change, put}
 use Rattle.ix_model.specs.Opening.{process_of}
 use Rattle.ix_model.specs.OnPaths.{new_object}
+use Rattle.ix_model.specs.Directories.{with_name}
 use Rattle.ix_model.specs.Flat.{flat_world}
 use Rattle.ix_model.specs.declared.audit.AuditLine.{AuditLine}
 use Rattle.ix_model.specs.declared.call.Mode.{Mode}
 use Rattle.ix_model.specs.declared.call.Mode.TheVariants as mode
+use Rattle.ix_model.specs.declared.reply.Kind.{Kind}
 use Rattle.ix_model.specs.declared.reply.Kind.TheVariants as kind
 use Rattle.ix_model.specs.declared.config.FsSpec.{FsSpec}
 use Rattle.ix_model.specs.declared.config.ProcSpec.{ProcSpec}
@@ -85,10 +87,17 @@ holding o first second w = record w { content = record w.content { holdings = sl
 abbrev pub with_new : ℕ → Option Object → World → World
 with_new o x w = record w { frame = record w.frame { objects = put w.frame.objects o x } }
 
+-- a new file or directory of a file system, under a name in a directory
+abbrev pub with_made : Kind → ℕ → ℕ → List ℕ → ℕ → World → World
+with_made kind fs dir name o w = with_object dir (with_name name o) (with_new o (Some (new_object kind (Some fs))) w)
+
 -- a pipe, and its ends under two descriptors of a process, by these open entries
 abbrev pub with_pipe : ℕ → ℕ → ℕ → ℕ → ℕ → ℕ → World → World
-with_pipe pid o a b d e w = with_entry pid a d (record { object = o; end = 0; mode = mode.Both }) (with_entry pid b e (record { object = o; end = 1; mode = mode.Both }) (with_new o (Some (new_object kind.Pipe None)) w))
+with_pipe pid o a b d e w =
+    with_entry pid a d (record { object = o; end = 0; mode = mode.Both })
+    (with_entry pid b e (record { object = o; end = 1; mode = mode.Both }) (with_new o (Some (new_object kind.Pipe None)) w))
 
+-- a pipe with these claims
 abbrev pub claimed_by : ℕ → Option ℕ → Option ℕ → World → World
 claimed_by o first second w = with_object o (λ x. record x { claims = first ∷ second ∷ [] }) w
 

@@ -10,7 +10,7 @@ use Rattle.ix_model.specs.declared.refusal.Refusal.TheVariants as refusal
 use Rattle.ix_worked.specs.Sessions.{shown}
 use Rattle.ix_worked.specs.Scripts.{three, in_root, proc, file}
 use Rattle.ix_worked.specs.FileCeiling.{low_fs, low_files, writing_down, writing_down_shows}
-use Rattle.ix_worked.proofs.Chains.{Steps, number, bytes, refused, shown_by, shown_given}
+use Rattle.ix_worked.proofs.Chains.{◌⨾◌, Steps, number, bytes, refused, shown_by, shown_given}
 use Rattle.ix_worked.proofs.Computing.{running}
 use Rattle.ix_worked.proofs.Labels.{labels}
 use Rattle.ix_worked.proofs.Worlds.{Opened, world_with}
@@ -51,7 +51,7 @@ abbrev given : List Given
 given = number one_open 0 ∷ refused one_open refusal.FsCeiling ∷ bytes read_on (codes "old") ∷ []
 
 ran : shown low_files writing_down ≡ shown_by at_first writing_down given
-ran = shown_given low_files at_first writing_down given opening (opens, (stops, (reads, tt)))
+ran = shown_given low_files at_first writing_down given opening (opens ⨾ stops ⨾ reads ⨾ tt)
 
 pub written_down : shown low_files writing_down ≡ writing_down_shows
 unfolding at_first one_open read_on

@@ -15,7 +15,6 @@ use Rattle.ix_worked.specs.Sessions.{Shown}
 abbrev pub two_block_fs : FsSpec
 two_block_fs = record { name = codes "root"; ceiling = top; blocks = 2; inodes = 8 }
 
--- fs root * 2 8
 -- proc a - * - -
 -- file /e - free - - x
 abbrev pub two_blocks : Config

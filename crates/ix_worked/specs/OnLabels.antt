@@ -1,5 +1,5 @@
 -- Short histories of the calls on labels, privileges, ceilings and the log.
-use Rattle.std.specs.Prelude.{true, false, List, [], ◌∷◌, ◌++◌, replicate, codes}
+use Rattle.std.specs.Prelude.{true, false, List, [], ◌∷◌, replicate, codes}
 use Rattle.ix_label.specs.Category.{bottom, top}
 use Rattle.ix_model.specs.History.{Event}
 use Rattle.ix_model.specs.History as op
@@ -12,7 +12,7 @@ use Rattle.ix_model.specs.declared.config.Config.{Config}
 use Rattle.ix_model.specs.declared.refusal.Refusal.TheVariants as refusal
 use Rattle.ix_model.specs.declared.reply.Kind.TheVariants as kind
 use Rattle.ix_model.specs.declared.reply.Reply.TheVariants as reply
-use Rattle.ix_worked.specs.Scripts.{all_five, three, five, three_and_five, in_root, under, proc, file, dir, gives, log_line, by, refuses, small_limits, small}
+use Rattle.ix_worked.specs.Scripts.{all_five, three, five, three_and_five, in_root, under, proc, file, dir, gives, log_line, by, refuses, small_limits, small_fs, small}
 use Rattle.ix_worked.specs.Sessions.{Line}
 
 -- proc a 3 * - -
@@ -52,6 +52,12 @@ officers = record
 abbrev pub heights : Config
 heights = record (small (replicate 5 (proc bottom top)) (file (codes "s") five [] ∷ dir (codes "h") five ∷ [])) { limits = record small_limits { procs = 8 } }
 
+-- fs root 3 4 4
+-- proc a - 3 - -
+-- file /f - free - - x
+abbrev pub low_house : Config
+low_house = record (small (proc bottom three ∷ []) (file (codes "f") bottom [] ∷ [])) { fss = record small_fs { ceiling = three } ∷ [] }
+
 -- proc a - * - -
 -- file /s 5 free - - x
 abbrev pub pair : Config
@@ -64,146 +70,82 @@ abbrev pub chest : Config
 chest = small (proc three top ∷ proc three_and_five top ∷ []) (dir (codes "d") bottom ∷ [])
 
 -- it has opened a file above it
-abbrev pub holding_down : List Event
+abbrev pub holding_down : List (Event × Line)
 holding_down =
-    by 2 (op.OpenAt (in_root (codes "s")) mode.Read)
-    ∷ by 2 op.FreezeSelf
-    ∷ by 2 (op.ReadFd 0 1)
-    ∷ by 2 (op.SetSelf five)
-    ∷ by 2 (op.SetSelf bottom)
-    ∷ by 2 op.SelfLabel
-    ∷ []
-
-abbrev pub holding_down_gives : List Line
-holding_down_gives =
-    gives (reply.Number 0) [] bottom
-    ∷ gives reply.Done [] bottom
-    ∷ refuses refusal.ProcFrozen bottom
-    ∷ refuses refusal.ProcFrozen bottom
-    ∷ gives reply.Done [] bottom
-    ∷ gives (reply.Lab bottom) [] bottom
+    (by 2 (op.OpenAt (in_root (codes "s")) mode.Read), gives (reply.Number 0) [] bottom)
+    ∷ (by 2 op.FreezeSelf, gives reply.Done [] bottom)
+    ∷ (by 2 (op.ReadFd 0 1), refuses refusal.ProcFrozen bottom)
+    ∷ (by 2 (op.SetSelf five), refuses refusal.ProcFrozen bottom)
+    ∷ (by 2 (op.SetSelf bottom), gives reply.Done [] bottom)
+    ∷ (by 2 op.SelfLabel, gives (reply.Lab bottom) [] bottom)
     ∷ []
 
 -- a frozen file may be set to the label that it has, and to no other
-abbrev pub setting_labels : List Event
+abbrev pub setting_labels : List (Event × Line)
 setting_labels =
-    by 1 (op.SetLabel (in_root (codes "f")) five)
-    ∷ by 1 (op.SetLabel (in_root (codes "f")) bottom)
-    ∷ by 1 (op.SetLabel (in_root (codes "z")) three)
-    ∷ by 1 (op.SetLabel (in_root (codes "z")) three_and_five)
-    ∷ by 1 (op.SetLabel (in_root (codes "f")) three)
-    ∷ by 1 (op.LabelOf (in_root (codes "f")))
-    ∷ []
-
-abbrev pub setting_labels_gives : List Line
-setting_labels_gives =
-    refuses refusal.NotAbove three
-    ∷ refuses refusal.NotAbove three
-    ∷ gives reply.Done [] three
-    ∷ refuses refusal.FileFrozen three
-    ∷ gives reply.Done [] three
-    ∷ gives (reply.Lab three) [] three
+    (by 1 (op.SetLabel (in_root (codes "f")) five), refuses refusal.NotAbove three)
+    ∷ (by 1 (op.SetLabel (in_root (codes "f")) bottom), refuses refusal.NotAbove three)
+    ∷ (by 1 (op.SetLabel (in_root (codes "z")) three), gives reply.Done [] three)
+    ∷ (by 1 (op.SetLabel (in_root (codes "z")) three_and_five), refuses refusal.FileFrozen three)
+    ∷ (by 1 (op.SetLabel (in_root (codes "f")) three), gives reply.Done [] three)
+    ∷ (by 1 (op.LabelOf (in_root (codes "f"))), gives (reply.Lab three) [] three)
     ∷ []
 
 -- pid 4 is a child of pid 2, and pid 5 of pid 4
-abbrev pub setting_ceilings : List Event
+abbrev pub setting_ceilings : List (Event × Line)
 setting_ceilings =
-    by 1 (op.SetCeiling 1 bottom)
-    ∷ by 2 (op.SetCeiling 1 bottom)
-    ∷ by 2 (op.SetCeiling 1 top)
-    ∷ by 1 (op.SetCeiling 1 three)
-    ∷ by 1 (op.SetCeiling 1 top)
-    ∷ by 2 (op.Fork keep.All)
-    ∷ by 2 (op.SetCeiling 4 bottom)
-    ∷ by 4 (op.Fork keep.All)
-    ∷ by 2 (op.SetCeiling 5 bottom)
-    ∷ []
-
-abbrev pub setting_ceilings_gives : List Line
-setting_ceilings_gives =
-    refuses refusal.BelowLabel three
-    ∷ refuses refusal.BelowLabel bottom
-    ∷ refuses refusal.NoCapability bottom
-    ∷ gives reply.Done [] three
-    ∷ refuses refusal.NoCapability three
-    ∷ gives (reply.Number 4) [] bottom
-    ∷ gives reply.Done [] bottom
-    ∷ gives (reply.Number 5) [] bottom
-    ∷ refuses refusal.NoCapability bottom
+    (by 1 (op.SetCeiling 1 bottom), refuses refusal.BelowLabel three)
+    ∷ (by 2 (op.SetCeiling 1 bottom), refuses refusal.BelowLabel bottom)
+    ∷ (by 2 (op.SetCeiling 1 top), refuses refusal.NoCapability bottom)
+    ∷ (by 1 (op.SetCeiling 1 three), gives reply.Done [] three)
+    ∷ (by 1 (op.SetCeiling 1 top), refuses refusal.NoCapability three)
+    ∷ (by 2 (op.Fork keep.All), gives (reply.Number 4) [] bottom)
+    ∷ (by 2 (op.SetCeiling 4 bottom), gives reply.Done [] bottom)
+    ∷ (by 4 (op.Fork keep.All), gives (reply.Number 5) [] bottom)
+    ∷ (by 2 (op.SetCeiling 5 bottom), refuses refusal.NoCapability bottom)
     ∷ []
 
 -- pid 1 is at 3, pid 2 at bottom, pid 3 at 3,5
-abbrev pub freezing : List Event
+abbrev pub freezing : List (Event × Line)
 freezing =
-    by 1 (op.Freeze (in_root (codes "f")))
-    ∷ by 1 (op.Freeze (in_root (codes "f")))
-    ∷ by 2 (op.Freeze (in_root (codes "f")))
-    ∷ by 3 (op.Freeze (in_root (codes "f")))
-    ∷ by 3 (op.LabelOf (in_root (codes "f")))
-    ∷ []
-
-abbrev pub freezing_gives : List Line
-freezing_gives =
-    gives reply.Done [] three
-    ∷ gives reply.Done [] three
-    ∷ gives reply.Done [] bottom
-    ∷ refuses refusal.FileFrozen three_and_five
-    ∷ gives (reply.Lab three) [] three_and_five
+    (by 1 (op.Freeze (in_root (codes "f"))), gives reply.Done [] three)
+    ∷ (by 1 (op.Freeze (in_root (codes "f"))), gives reply.Done [] three)
+    ∷ (by 2 (op.Freeze (in_root (codes "f"))), gives reply.Done [] bottom)
+    ∷ (by 3 (op.Freeze (in_root (codes "f"))), refuses refusal.FileFrozen three_and_five)
+    ∷ (by 3 (op.LabelOf (in_root (codes "f"))), gives (reply.Lab three) [] three_and_five)
     ∷ []
 
 -- the process and the file are frozen
-abbrev pub acting_without_a_line : List Event
+abbrev pub acting_without_a_line : List (Event × Line)
 acting_without_a_line =
-    by 1 op.FreezeSelf
-    ∷ by 1 (op.SetSelf bottom)
-    ∷ by 1 (op.SetLabel (in_root (codes "z")) bottom)
-    ∷ by 1 (op.SetPriv (in_root (codes "z")) to_lower to_lower)
-    ∷ by 1 (op.Thaw (in_root (codes "z")))
-    ∷ by 1 op.ThawSelf
-    ∷ by 1 (op.GrantLic 2 to_lower)
-    ∷ by 1 (op.SetCeiling 2 bottom)
-    ∷ by 1 (op.ReadLog 0)
+    (by 1 op.FreezeSelf, gives reply.Done [] three)
+    ∷ (by 1 (op.SetSelf bottom), refuses refusal.LogFull three)
+    ∷ (by 1 (op.SetLabel (in_root (codes "z")) bottom), refuses refusal.LogFull three)
+    ∷ (by 1 (op.SetPriv (in_root (codes "z")) to_lower to_lower), refuses refusal.LogFull three)
+    ∷ (by 1 (op.Thaw (in_root (codes "z"))), refuses refusal.LogFull three)
+    ∷ (by 1 op.ThawSelf, refuses refusal.LogFull three)
+    ∷ (by 1 (op.GrantLic 2 to_lower), refuses refusal.LogFull three)
+    ∷ (by 1 (op.SetCeiling 2 bottom), refuses refusal.LogFull three)
+    ∷ (by 1 (op.ReadLog 0), refuses refusal.EndOfList three)
     ∷ []
-
-abbrev pub acting_without_a_line_gives : List Line
-acting_without_a_line_gives =
-    gives reply.Done [] three ∷ (replicate 7 (refuses refusal.LogFull three) ++ refuses refusal.EndOfList three ∷ [])
 
 -- pid 2 lacks the licence to read the log until it is granted
-abbrev pub acting : List Event
+abbrev pub acting : List (Event × Line)
 acting =
-    by 2 (op.ReadLog 0)
-    ∷ by 1 op.FreezeSelf
-    ∷ by 1 (op.SetSelf bottom)
-    ∷ by 1 (op.SetPriv (in_root (codes "y")) to_lower to_lower)
-    ∷ by 1 op.ThawSelf
-    ∷ by 1 (op.SetPriv (in_root (codes "f")) to_lower to_thaw)
-    ∷ by 1 (op.StatAt (in_root (codes "f")))
-    ∷ by 1 (op.GrantLic 2 to_read_the_log)
-    ∷ by 2 (op.ReadLog 0)
-    ∷ by 1 (op.Exec (in_root (codes "f")))
-    ∷ by 1 (op.Thaw (in_root (codes "y")))
-    ∷ by 1 (op.SetSelf bottom)
-    ∷ by 1 (op.DropLic to_lower)
-    ∷ by 1 (op.SetLabel (in_root (codes "f")) bottom)
-    ∷ []
-
-abbrev pub acting_gives : List Line
-acting_gives =
-    refuses refusal.NoLicence bottom
-    ∷ gives reply.Done [] three
-    ∷ refuses refusal.ProcFrozen three
-    ∷ refuses refusal.FileFrozen three
-    ∷ gives reply.Done [] three
-    ∷ gives reply.Done [] three
-    ∷ gives (reply.Stat (record { 0 = 1 }) kind.File 3 1 false to_lower to_thaw) [] three
-    ∷ gives reply.Done [] three
-    ∷ gives (reply.LogLine (log_line 5 1 act.ThawSelf 1 three three)) [] bottom
-    ∷ gives reply.Done [] three
-    ∷ refuses refusal.NoCapability three
-    ∷ gives reply.Done [] bottom
-    ∷ gives reply.Done [] bottom
-    ∷ refuses refusal.NoCapability bottom
+    (by 2 (op.ReadLog 0), refuses refusal.NoLicence bottom)
+    ∷ (by 1 op.FreezeSelf, gives reply.Done [] three)
+    ∷ (by 1 (op.SetSelf bottom), refuses refusal.ProcFrozen three)
+    ∷ (by 1 (op.SetPriv (in_root (codes "y")) to_lower to_lower), refuses refusal.FileFrozen three)
+    ∷ (by 1 op.ThawSelf, gives reply.Done [] three)
+    ∷ (by 1 (op.SetPriv (in_root (codes "f")) to_lower to_thaw), gives reply.Done [] three)
+    ∷ (by 1 (op.StatAt (in_root (codes "f"))), gives (reply.Stat (record { 0 = 1 }) kind.File 3 1 false to_lower to_thaw) [] three)
+    ∷ (by 1 (op.GrantLic 2 to_read_the_log), gives reply.Done [] three)
+    ∷ (by 2 (op.ReadLog 0), gives (reply.LogLine (log_line 5 1 act.ThawSelf 1 three three)) [] bottom)
+    ∷ (by 1 (op.Exec (in_root (codes "f"))), gives reply.Done [] three)
+    ∷ (by 1 (op.Thaw (in_root (codes "y"))), refuses refusal.NoCapability three)
+    ∷ (by 1 (op.SetSelf bottom), gives reply.Done [] bottom)
+    ∷ (by 1 (op.DropLic to_lower), gives reply.Done [] bottom)
+    ∷ (by 1 (op.SetLabel (in_root (codes "f")) bottom), refuses refusal.NoCapability bottom)
     ∷ []
 
 abbrev pub acting_log : List AuditLine
@@ -216,97 +158,62 @@ acting_log =
     ∷ []
 
 -- a file and a directory above all who find them
-abbrev pub finding_what_is_high : List Event
+abbrev pub finding_what_is_high : List (Event × Line)
 finding_what_is_high =
-    by 1 (op.LabelOf (in_root (codes "s")))
-    ∷ by 1 (op.OpenAt (in_root (codes "s")) mode.Read)
-    ∷ by 1 (op.ChangeDir (in_root (codes "h")))
-    ∷ by 1 (op.SetLabel (in_root (codes "s")) five)
-    ∷ by 1 (op.Freeze (in_root (codes "s")))
-    ∷ by 1 (op.Exec (in_root (codes "h")))
-    ∷ by 1 (op.ListAt (in_root (codes "s")) 0)
-    ∷ by 1 (op.RemoveDir (in_root (codes "s")))
-    ∷ by 1 (op.StatAt (in_root (codes "s")))
-    ∷ by 2 (op.ListAt (in_root (codes "h")) 0)
-    ∷ by 3 (op.StatAt (in_root (codes "h")))
-    ∷ by 4 (op.Exec (in_root (codes "s")))
-    ∷ by 5 (op.RemoveDir (in_root (codes "h")))
+    (by 1 (op.LabelOf (in_root (codes "s"))), gives (reply.Lab five) [] bottom)
+    ∷ (by 1 (op.OpenAt (in_root (codes "s")) mode.Read), gives (reply.Number 0) [] bottom)
+    ∷ (by 1 (op.ChangeDir (in_root (codes "h"))), gives reply.Done [] bottom)
+    ∷ (by 1 (op.SetLabel (in_root (codes "s")) five), gives reply.Done [] bottom)
+    ∷ (by 1 (op.Freeze (in_root (codes "s"))), gives reply.Done [] bottom)
+    ∷ (by 1 (op.Exec (in_root (codes "h"))), refuses refusal.IsDir bottom)
+    ∷ (by 1 (op.ListAt (in_root (codes "s")) 0), refuses refusal.NotDir bottom)
+    ∷ (by 1 (op.RemoveDir (in_root (codes "s"))), refuses refusal.NotDir bottom)
+    ∷ (by 1 (op.StatAt (in_root (codes "s"))), gives (reply.Stat (record { 0 = 1 }) kind.File 0 1 true no_privileges no_privileges) [] five)
+    ∷ (by 2 (op.ListAt (in_root (codes "h")) 0), refuses refusal.EndOfList five)
+    ∷ (by 3 (op.StatAt (in_root (codes "h"))), gives (reply.Stat (record { 0 = 2 }) kind.Dir 0 1 false no_privileges no_privileges) [] five)
+    ∷ (by 4 (op.Exec (in_root (codes "s"))), gives reply.Done [] five)
+    ∷ (by 5 (op.RemoveDir (in_root (codes "h"))), refuses refusal.InUse bottom)
     ∷ []
 
-abbrev pub finding_what_is_high_gives : List Line
-finding_what_is_high_gives =
-    gives (reply.Lab five) [] bottom
-    ∷ gives (reply.Number 0) [] bottom
-    ∷ gives reply.Done [] bottom
-    ∷ gives reply.Done [] bottom
-    ∷ gives reply.Done [] bottom
-    ∷ refuses refusal.IsDir bottom
-    ∷ refuses refusal.NotDir bottom
-    ∷ refuses refusal.NotDir bottom
-    ∷ gives (reply.Stat (record { 0 = 1 }) kind.File 0 1 true no_privileges no_privileges) [] five
-    ∷ refuses refusal.EndOfList five
-    ∷ gives (reply.Stat (record { 0 = 2 }) kind.Dir 0 1 false no_privileges no_privileges) [] five
-    ∷ gives reply.Done [] five
-    ∷ refuses refusal.InUse bottom
+-- both ceilings are 3
+abbrev pub setting_high : List (Event × Line)
+setting_high =
+    (by 1 (op.SetLabel (in_root (codes "f")) five), refuses refusal.FsCeiling bottom)
+    ∷ (by 1 (op.SetLabel (in_root (codes "f")) three), gives reply.Done [] bottom)
+    ∷ (by 1 (op.SetSelf five), refuses refusal.ProcCeiling bottom)
+    ∷ (by 1 (op.SetSelf three), gives reply.Done [] three)
+    ∷ (by 1 (op.LabelOf (in_root (codes "f"))), gives (reply.Lab three) [] three)
     ∷ []
 
 -- the child has read what is at 5
-abbrev pub looking_into_an_empty_pipe : List Event
+abbrev pub looking_into_an_empty_pipe : List (Event × Line)
 looking_into_an_empty_pipe =
-    by 1 op.MakePipe
-    ∷ by 1 (op.Fork keep.All)
-    ∷ by 2 (op.OpenAt (in_root (codes "s")) mode.Read)
-    ∷ by 2 (op.ReadFd 2 1)
-    ∷ by 2 (op.WriteFd 0 [])
-    ∷ by 1 (op.ReadFd 1 8)
-    ∷ []
-
-abbrev pub looking_into_an_empty_pipe_gives : List Line
-looking_into_an_empty_pipe_gives =
-    gives (reply.Two (record { 0 = 0 }) (record { 0 = 1 })) [] bottom
-    ∷ gives (reply.Number 2) [] bottom
-    ∷ gives (reply.Number 2) [] bottom
-    ∷ gives (reply.Bytes 0) [] five
-    ∷ gives (reply.Number 0) [] five
-    ∷ refuses refusal.Again five
+    (by 1 op.MakePipe, gives (reply.Two (record { 0 = 0 }) (record { 0 = 1 })) [] bottom)
+    ∷ (by 1 (op.Fork keep.All), gives (reply.Number 2) [] bottom)
+    ∷ (by 2 (op.OpenAt (in_root (codes "s")) mode.Read), gives (reply.Number 2) [] bottom)
+    ∷ (by 2 (op.ReadFd 2 1), gives (reply.Bytes 0) [] five)
+    ∷ (by 2 (op.WriteFd 0 []), gives (reply.Number 0) [] five)
+    ∷ (by 1 (op.ReadFd 1 8), refuses refusal.Again five)
     ∷ []
 
 -- the directory is frozen after the first
-abbrev pub making_names_high : List Event
+abbrev pub making_names_high : List (Event × Line)
 making_names_high =
-    by 1 (op.CreateAt (under (codes "d") (codes "x")))
-    ∷ by 1 (op.LabelOf (in_root (codes "d")))
-    ∷ by 1 (op.LabelOf (under (codes "d") (codes "x")))
-    ∷ by 1 (op.Freeze (in_root (codes "d")))
-    ∷ by 2 (op.CreateAt (under (codes "d") (codes "y")))
-    ∷ by 2 (op.UnlinkAt (under (codes "d") (codes "x")))
-    ∷ by 1 (op.CreateAt (under (codes "d") (codes "y")))
-    ∷ []
-
-abbrev pub making_names_high_gives : List Line
-making_names_high_gives =
-    gives (reply.Number 2) [] three
-    ∷ gives (reply.Lab three) [] three
-    ∷ gives (reply.Lab bottom) [] three
-    ∷ gives reply.Done [] three
-    ∷ refuses refusal.FileFrozen three_and_five
-    ∷ refuses refusal.FileFrozen three_and_five
-    ∷ gives (reply.Number 3) [] three
+    (by 1 (op.CreateAt (under (codes "d") (codes "x"))), gives (reply.Number 2) [] three)
+    ∷ (by 1 (op.LabelOf (in_root (codes "d"))), gives (reply.Lab three) [] three)
+    ∷ (by 1 (op.LabelOf (under (codes "d") (codes "x"))), gives (reply.Lab bottom) [] three)
+    ∷ (by 1 (op.Freeze (in_root (codes "d"))), gives reply.Done [] three)
+    ∷ (by 2 (op.CreateAt (under (codes "d") (codes "y"))), refuses refusal.FileFrozen three_and_five)
+    ∷ (by 2 (op.UnlinkAt (under (codes "d") (codes "x"))), refuses refusal.FileFrozen three_and_five)
+    ∷ (by 1 (op.CreateAt (under (codes "d") (codes "y"))), gives (reply.Number 3) [] three)
     ∷ []
 
 -- another's is lowered and raised, and the own is lowered
-abbrev pub raising_ceilings : List Event
+abbrev pub raising_ceilings : List (Event × Line)
 raising_ceilings =
-    by 1 (op.SetCeiling 2 three)
-    ∷ by 1 (op.SetCeiling 2 top)
-    ∷ by 1 (op.SetCeiling 1 three)
-    ∷ []
-
-abbrev pub raising_ceilings_gives : List Line
-raising_ceilings_gives =
-    gives reply.Done [] three
-    ∷ gives reply.Done [] three
-    ∷ gives reply.Done [] three
+    (by 1 (op.SetCeiling 2 three), gives reply.Done [] three)
+    ∷ (by 1 (op.SetCeiling 2 top), gives reply.Done [] three)
+    ∷ (by 1 (op.SetCeiling 1 three), gives reply.Done [] three)
     ∷ []
 
 abbrev pub raising_ceilings_log : List AuditLine

@@ -16,135 +16,71 @@ abbrev pub family : Config
 family = small (proc bottom top ∷ []) []
 
 -- pid 0 never lives, and pid 1 no more once it has ended
-abbrev pub calling_as_nobody : List Event
+abbrev pub calling_as_nobody : List (Event × Line)
 calling_as_nobody =
-    by 0 op.SelfLabel
-    ∷ by 7 op.SelfLabel
-    ∷ by 1 (op.GrantLic 0 to_lower)
-    ∷ by 1 (op.SetCeiling 7 top)
-    ∷ by 1 (op.Exit 0)
-    ∷ by 1 op.SelfLabel
-    ∷ []
-
-abbrev pub calling_as_nobody_gives : List Line
-calling_as_nobody_gives =
-    unknown
-    ∷ unknown
-    ∷ refuses refusal.NoProcess bottom
-    ∷ refuses refusal.NoProcess bottom
-    ∷ ends
-    ∷ unknown
+    (by 0 op.SelfLabel, unknown)
+    ∷ (by 7 op.SelfLabel, unknown)
+    ∷ (by 1 (op.GrantLic 0 to_lower), refuses refusal.NoProcess bottom)
+    ∷ (by 1 (op.SetCeiling 7 top), refuses refusal.NoProcess bottom)
+    ∷ (by 1 (op.Exit 0), ends)
+    ∷ (by 1 op.SelfLabel, unknown)
     ∷ []
 
 -- before the wait and after it
-abbrev pub calling_after_the_end : List Event
+abbrev pub calling_after_the_end : List (Event × Line)
 calling_after_the_end =
-    by 1 (op.Fork keep.All)
-    ∷ by 2 (op.Exit 3)
-    ∷ by 2 op.SelfLabel
-    ∷ by 1 (op.GrantLic 2 to_lower)
-    ∷ by 1 op.WaitChild
-    ∷ by 2 op.SelfLabel
-    ∷ []
-
-abbrev pub calling_after_the_end_gives : List Line
-calling_after_the_end_gives =
-    gives (reply.Number 2) [] bottom
-    ∷ gives reply.Done [] bottom
-    ∷ refuses refusal.NoProcess bottom
-    ∷ refuses refusal.NoProcess bottom
-    ∷ gives (reply.Child (record { 0 = 2 }) 3) [] bottom
-    ∷ unknown
+    (by 1 (op.Fork keep.All), gives (reply.Number 2) [] bottom)
+    ∷ (by 2 (op.Exit 3), gives reply.Done [] bottom)
+    ∷ (by 2 op.SelfLabel, refuses refusal.NoProcess bottom)
+    ∷ (by 1 (op.GrantLic 2 to_lower), refuses refusal.NoProcess bottom)
+    ∷ (by 1 op.WaitChild, gives (reply.Child (record { 0 = 2 }) 3) [] bottom)
+    ∷ (by 2 op.SelfLabel, unknown)
     ∷ []
 
 -- there are three slots
-abbrev pub forking_often : List Event
+abbrev pub forking_often : List (Event × Line)
 forking_often =
-    by 1 (op.Fork keep.All)
-    ∷ by 1 (op.Fork keep.Nothing)
-    ∷ by 1 (op.Fork keep.All)
-    ∷ by 2 (op.Exit 3)
-    ∷ by 1 (op.Fork keep.All)
-    ∷ by 1 op.WaitChild
-    ∷ by 1 (op.Fork keep.All)
-    ∷ []
-
-abbrev pub forking_often_gives : List Line
-forking_often_gives =
-    gives (reply.Number 2) [] bottom
-    ∷ gives (reply.Number 3) [] bottom
-    ∷ refuses refusal.NoSlot bottom
-    ∷ gives reply.Done [] bottom
-    ∷ refuses refusal.NoSlot bottom
-    ∷ gives (reply.Child (record { 0 = 2 }) 3) [] bottom
-    ∷ gives (reply.Number 4) [] bottom
+    (by 1 (op.Fork keep.All), gives (reply.Number 2) [] bottom)
+    ∷ (by 1 (op.Fork keep.Nothing), gives (reply.Number 3) [] bottom)
+    ∷ (by 1 (op.Fork keep.All), refuses refusal.NoSlot bottom)
+    ∷ (by 2 (op.Exit 3), gives reply.Done [] bottom)
+    ∷ (by 1 (op.Fork keep.All), refuses refusal.NoSlot bottom)
+    ∷ (by 1 op.WaitChild, gives (reply.Child (record { 0 = 2 }) 3) [] bottom)
+    ∷ (by 1 (op.Fork keep.All), gives (reply.Number 4) [] bottom)
     ∷ []
 
 -- the grandchild ends first
-abbrev pub waiting_for_a_child : List Event
+abbrev pub waiting_for_a_child : List (Event × Line)
 waiting_for_a_child =
-    by 1 op.WaitChild
-    ∷ by 1 (op.Fork keep.All)
-    ∷ by 2 (op.Fork keep.All)
-    ∷ by 3 (op.Exit 3)
-    ∷ by 1 op.WaitChild
-    ∷ by 2 op.WaitChild
-    ∷ by 2 (op.Exit 4)
-    ∷ by 1 op.WaitChild
-    ∷ by 1 op.WaitChild
-    ∷ []
-
-abbrev pub waiting_for_a_child_gives : List Line
-waiting_for_a_child_gives =
-    refuses refusal.NoChild bottom
-    ∷ gives (reply.Number 2) [] bottom
-    ∷ gives (reply.Number 3) [] bottom
-    ∷ gives reply.Done [] bottom
-    ∷ refuses refusal.Again bottom
-    ∷ gives (reply.Child (record { 0 = 3 }) 3) [] bottom
-    ∷ gives reply.Done [] bottom
-    ∷ gives (reply.Child (record { 0 = 2 }) 4) [] bottom
-    ∷ refuses refusal.NoChild bottom
+    (by 1 op.WaitChild, refuses refusal.NoChild bottom)
+    ∷ (by 1 (op.Fork keep.All), gives (reply.Number 2) [] bottom)
+    ∷ (by 2 (op.Fork keep.All), gives (reply.Number 3) [] bottom)
+    ∷ (by 3 (op.Exit 3), gives reply.Done [] bottom)
+    ∷ (by 1 op.WaitChild, refuses refusal.Again bottom)
+    ∷ (by 2 op.WaitChild, gives (reply.Child (record { 0 = 3 }) 3) [] bottom)
+    ∷ (by 2 (op.Exit 4), gives reply.Done [] bottom)
+    ∷ (by 1 op.WaitChild, gives (reply.Child (record { 0 = 2 }) 4) [] bottom)
+    ∷ (by 1 op.WaitChild, refuses refusal.NoChild bottom)
     ∷ []
 
 -- and it ends once it has waited
-abbrev pub ending_first : List Event
+abbrev pub ending_first : List (Event × Line)
 ending_first =
-    by 1 (op.Fork keep.All)
-    ∷ by 1 (op.Exit 0)
-    ∷ by 2 (op.Exit 3)
-    ∷ by 1 (op.Exit 0)
-    ∷ by 1 op.WaitChild
-    ∷ by 1 (op.Exit 0)
-    ∷ []
-
-abbrev pub ending_first_gives : List Line
-ending_first_gives =
-    gives (reply.Number 2) [] bottom
-    ∷ refuses refusal.ChildrenLive bottom
-    ∷ gives reply.Done [] bottom
-    ∷ refuses refusal.ChildrenLive bottom
-    ∷ gives (reply.Child (record { 0 = 2 }) 3) [] bottom
-    ∷ ends
+    (by 1 (op.Fork keep.All), gives (reply.Number 2) [] bottom)
+    ∷ (by 1 (op.Exit 0), refuses refusal.ChildrenLive bottom)
+    ∷ (by 2 (op.Exit 3), gives reply.Done [] bottom)
+    ∷ (by 1 (op.Exit 0), refuses refusal.ChildrenLive bottom)
+    ∷ (by 1 op.WaitChild, gives (reply.Child (record { 0 = 2 }) 3) [] bottom)
+    ∷ (by 1 (op.Exit 0), ends)
     ∷ []
 
 -- the second ends first
-abbrev pub ending_out_of_order : List Event
+abbrev pub ending_out_of_order : List (Event × Line)
 ending_out_of_order =
-    by 1 (op.Fork keep.All)
-    ∷ by 1 (op.Fork keep.All)
-    ∷ by 3 (op.Exit 5)
-    ∷ by 2 (op.Exit 3)
-    ∷ by 1 op.WaitChild
-    ∷ by 1 op.WaitChild
-    ∷ []
-
-abbrev pub ending_out_of_order_gives : List Line
-ending_out_of_order_gives =
-    gives (reply.Number 2) [] bottom
-    ∷ gives (reply.Number 3) [] bottom
-    ∷ gives reply.Done [] bottom
-    ∷ gives reply.Done [] bottom
-    ∷ gives (reply.Child (record { 0 = 2 }) 3) [] bottom
-    ∷ gives (reply.Child (record { 0 = 3 }) 5) [] bottom
+    (by 1 (op.Fork keep.All), gives (reply.Number 2) [] bottom)
+    ∷ (by 1 (op.Fork keep.All), gives (reply.Number 3) [] bottom)
+    ∷ (by 3 (op.Exit 5), gives reply.Done [] bottom)
+    ∷ (by 2 (op.Exit 3), gives reply.Done [] bottom)
+    ∷ (by 1 op.WaitChild, gives (reply.Child (record { 0 = 2 }) 3) [] bottom)
+    ∷ (by 1 op.WaitChild, gives (reply.Child (record { 0 = 3 }) 5) [] bottom)
     ∷ []

@@ -1,5 +1,5 @@
 -- What a session shows: what each of its entries gives, and the labels and the audit log at its end.
-use Rattle.std.specs.Prelude.{ℕ, suc, List, [], ◌∷◌, Option, Some, None}
+use Rattle.std.specs.Prelude.{◌≡◌, ℕ, suc, List, [], ◌∷◌, map, Option, Some, None}
 use Rattle.std.proofs.Common.{option_map}
 use Rattle.ix_label.specs.Category.{Categories}
 use Rattle.ix_model.specs.World.{World, at}
@@ -57,6 +57,10 @@ shown c events = shown_from (opening_world c) events
 abbrev pub log_of : Config → List Event → List AuditLine
 log_of c events = audit_log (opening_world c) 1 events
 
--- what each entry of such a history gives
-abbrev pub answers : Config → List Event → List Line
-answers c events = lines_of (opening_world c) 1 events
+-- the calls of a history that is told together with what each of them gives
+abbrev pub calls : List (Event × Line) → List Event
+calls exchange = map (λ x. x.0) exchange
+
+-- from a config's opening world each call gives what stands beside it
+abbrev pub Goes : Config → List (Event × Line) → Type 0
+Goes c exchange = lines_of (opening_world c) 1 (calls exchange) ≡ map (λ x. x.1) exchange

@@ -18,8 +18,6 @@ root_fs = record { name = codes "root"; ceiling = top; blocks = 64; inodes = 8 }
 abbrev pub vol_fs : FsSpec
 vol_fs = record { name = codes "vol"; ceiling = five; blocks = 8; inodes = 4 }
 
--- fs root * 64 8
--- fs vol 5 8 4
 -- proc a - * - -
 -- dir /v 7 free
 abbrev pub two_file_systems : Config

@@ -3,63 +3,44 @@
 
 ghost use Rattle.std.specs.Prelude.{◌≡◌, true};
 ghost use Rattle.ix_model.specs.Valid.{is_valid};
-ghost use Rattle.ix_worked.specs.Sessions.{answers, log_of};
+ghost use Rattle.ix_worked.specs.Sessions.{Goes, calls, log_of};
 ghost use Rattle.ix_worked.specs.OnDescriptors.{
   desk,
   reading_nothing,
-  reading_nothing_gives,
   writing_into_a_broken_pipe,
-  writing_into_a_broken_pipe_gives,
   claiming_both,
-  claiming_both_gives,
   closing_a_claimed_end,
-  closing_a_claimed_end_gives,
   writing_in_the_middle,
-  writing_in_the_middle_gives,
   using_numbers_again,
-  using_numbers_again_gives,
 };
 ghost use Rattle.ix_worked.specs.OnPaths.{
   shelves,
   asking_for_objects,
-  asking_for_objects_gives,
   unlinking_an_open_file,
-  unlinking_an_open_file_gives,
+  furnished,
+  looking_around,
   working_in_a_directory,
-  working_in_a_directory_gives,
   tight,
   sharing_blocks,
-  sharing_blocks_gives,
 };
-ghost use Rattle.ix_worked.specs.OnProcesses.{
-  family,
-  calling_after_the_end,
-  calling_after_the_end_gives,
-  ending_out_of_order,
-  ending_out_of_order_gives,
-};
+ghost use Rattle.ix_worked.specs.OnProcesses.{family, calling_after_the_end, ending_out_of_order};
 ghost use Rattle.ix_worked.specs.OnLabels.{
   levels,
   freezing,
-  freezing_gives,
   no_lines,
   acting_without_a_line,
-  acting_without_a_line_gives,
   officers,
   acting,
-  acting_gives,
   acting_log,
   heights,
   finding_what_is_high,
-  finding_what_is_high_gives,
+  low_house,
+  setting_high,
   pair,
   looking_into_an_empty_pipe,
-  looking_into_an_empty_pipe_gives,
   chest,
   making_names_high,
-  making_names_high_gives,
   raising_ceilings,
-  raising_ceilings_gives,
   raising_ceilings_log,
 };
 
@@ -67,14 +48,14 @@ ghost use Rattle.ix_worked.specs.OnLabels.{
 #[tactic(auto, using(crate::proofs::AtDescriptors::desk_fits, crate::proofs::AtDescriptors::reading_nothing_ran))]
 pub fn a_read_of_nothing_asks_too()
     ensures valid { is_valid desk ≡ true }
-    ensures answers { answers desk reading_nothing ≡ reading_nothing_gives }
+    ensures goes { Goes desk reading_nothing }
 {}
 
 /// That a pipe is broken is looked at before that it is full.
 #[tactic(auto, using(crate::proofs::AtDescriptors::desk_fits, crate::proofs::AtDescriptors::writing_into_a_broken_pipe_ran))]
 pub fn a_broken_pipe_is_told_before_a_full_one()
     ensures valid { is_valid desk ≡ true }
-    ensures answers { answers desk writing_into_a_broken_pipe ≡ writing_into_a_broken_pipe_gives }
+    ensures goes { Goes desk writing_into_a_broken_pipe }
 {}
 
 /// Who has both ends makes the path whole alone. What was in it then is gone; a claim on a path that is whole already
@@ -82,14 +63,14 @@ pub fn a_broken_pipe_is_told_before_a_full_one()
 #[tactic(auto, using(crate::proofs::AtDescriptors::desk_fits, crate::proofs::AtDescriptors::claiming_both_ran))]
 pub fn a_path_is_emptied_as_it_becomes_whole()
     ensures valid { is_valid desk ≡ true }
-    ensures answers { answers desk claiming_both ≡ claiming_both_gives }
+    ensures goes { Goes desk claiming_both }
 {}
 
 /// A claim lasts as long as its claimant has a descriptor on the end, by whatever copy.
 #[tactic(auto, using(crate::proofs::AtDescriptors::desk_fits, crate::proofs::AtDescriptors::closing_a_claimed_end_ran))]
 pub fn a_claim_lasts_as_long_as_a_descriptor_on_its_end()
     ensures valid { is_valid desk ≡ true }
-    ensures answers { answers desk closing_a_claimed_end ≡ closing_a_claimed_end_gives }
+    ensures goes { Goes desk closing_a_claimed_end }
 {}
 
 /// A write stands at the offset and leaves what is around it. A cut leaves the offset, and what it adds is zeros. A
@@ -97,14 +78,14 @@ pub fn a_claim_lasts_as_long_as_a_descriptor_on_its_end()
 #[tactic(auto, using(crate::proofs::AtDescriptors::desk_fits, crate::proofs::AtDescriptors::writing_in_the_middle_ran))]
 pub fn a_write_stands_at_its_offset()
     ensures valid { is_valid desk ≡ true }
-    ensures answers { answers desk writing_in_the_middle ≡ writing_in_the_middle_gives }
+    ensures goes { Goes desk writing_in_the_middle }
 {}
 
 /// A new open entry begins at offset 0, and a new pipe is empty, whatever stood at their numbers before.
 #[tactic(auto, using(crate::proofs::AtDescriptors::desk_fits, crate::proofs::AtDescriptors::using_numbers_again_ran))]
 pub fn what_is_new_begins_anew()
     ensures valid { is_valid desk ≡ true }
-    ensures answers { answers desk using_numbers_again ≡ using_numbers_again_gives }
+    ensures goes { Goes desk using_numbers_again }
 {}
 
 /// A file is told with its length and how many names it has; a directory has length 0 and one name. Names are listed
@@ -112,7 +93,7 @@ pub fn what_is_new_begins_anew()
 #[tactic(auto, using(crate::proofs::AtPaths::shelves_fits, crate::proofs::AtPaths::asking_for_objects_ran))]
 pub fn an_object_is_told_with_its_size_and_links()
     ensures valid { is_valid shelves ≡ true }
-    ensures answers { answers shelves asking_for_objects ≡ asking_for_objects_gives }
+    ensures goes { Goes shelves asking_for_objects }
 {}
 
 /// A file whose last name is removed lasts while it is open, and then its number is the lowest free one. What is made
@@ -120,42 +101,50 @@ pub fn an_object_is_told_with_its_size_and_links()
 #[tactic(auto, using(crate::proofs::AtPaths::shelves_fits, crate::proofs::AtPaths::unlinking_an_open_file_ran))]
 pub fn a_file_lasts_while_it_is_open()
     ensures valid { is_valid shelves ≡ true }
-    ensures answers { answers shelves unlinking_an_open_file ≡ unlinking_an_open_file_gives }
+    ensures goes { Goes shelves unlinking_an_open_file }
+{}
+
+/// A machine begins with what its config describes: each file and directory at the lowest free number of its file
+/// system, under its name, with its bytes.
+#[tactic(auto, using(crate::proofs::AtPaths::furnished_fits, crate::proofs::AtPaths::looking_around_ran))]
+pub fn a_machine_begins_as_it_is_described()
+    ensures valid { is_valid furnished ≡ true }
+    ensures goes { Goes furnished looking_around }
 {}
 
 /// A relative path begins at the working directory. That a directory has names is told before that it is in use.
 #[tactic(auto, using(crate::proofs::AtPaths::shelves_fits, crate::proofs::AtPaths::working_in_a_directory_ran))]
 pub fn a_relative_path_begins_at_the_working_directory()
     ensures valid { is_valid shelves ≡ true }
-    ensures answers { answers shelves working_in_a_directory ≡ working_in_a_directory_gives }
+    ensures goes { Goes shelves working_in_a_directory }
 {}
 
 /// The files of a file system share its blocks, and those of another count for nothing.
 #[tactic(auto, using(crate::proofs::AtPaths::tight_fits, crate::proofs::AtPaths::sharing_blocks_ran))]
 pub fn files_share_the_blocks_of_their_file_system()
     ensures valid { is_valid tight ≡ true }
-    ensures answers { answers tight sharing_blocks ≡ sharing_blocks_gives }
+    ensures goes { Goes tight sharing_blocks }
 {}
 
 /// An ended child calls nothing, and has its last label until its parent has waited for it.
 #[tactic(auto, using(crate::proofs::AtProcesses::family_fits, crate::proofs::AtProcesses::calling_after_the_end_ran))]
 pub fn an_ended_child_has_its_label_until_it_is_collected()
     ensures valid { is_valid family ≡ true }
-    ensures answers { answers family calling_after_the_end ≡ calling_after_the_end_gives }
+    ensures goes { Goes family calling_after_the_end }
 {}
 
 /// Of the children that have ended the one with the lowest pid is collected first.
 #[tactic(auto, using(crate::proofs::AtProcesses::family_fits, crate::proofs::AtProcesses::ending_out_of_order_ran))]
 pub fn the_ended_child_with_the_lowest_pid_comes_first()
     ensures valid { is_valid family ≡ true }
-    ensures answers { answers family ending_out_of_order ≡ ending_out_of_order_gives }
+    ensures goes { Goes family ending_out_of_order }
 {}
 
 /// To freeze a file affects it: one that is frozen already is frozen again only by who is at or below its label.
 #[tactic(auto, using(crate::proofs::AtLabels::levels_fits, crate::proofs::AtLabels::freezing_ran))]
 pub fn what_is_frozen_already_is_frozen_again()
     ensures valid { is_valid levels ≡ true }
-    ensures answers { answers levels freezing ≡ freezing_gives }
+    ensures goes { Goes levels freezing }
 {}
 
 /// That the log is full is looked at before that something is frozen. Where the log has no line of that number, that
@@ -163,7 +152,7 @@ pub fn what_is_frozen_already_is_frozen_again()
 #[tactic(auto, using(crate::proofs::AtLabels::no_lines_fits, crate::proofs::AtLabels::acting_without_a_line_ran))]
 pub fn a_full_log_is_told_before_a_frozen_mark()
     ensures valid { is_valid no_lines ≡ true }
-    ensures answers { answers no_lines acting_without_a_line ≡ acting_without_a_line_gives }
+    ensures goes { Goes no_lines acting_without_a_line }
 {}
 
 /// Each act by a privilege is a line of the log, with its labels before and after. What is refused is none, and
@@ -171,8 +160,8 @@ pub fn a_full_log_is_told_before_a_frozen_mark()
 #[tactic(auto, using(crate::proofs::AtLabels::officers_fits, crate::proofs::AtLabels::acting_ran, crate::proofs::AtLabels::acting_logged))]
 pub fn each_act_is_a_line_of_the_log()
     ensures valid { is_valid officers ≡ true }
-    ensures answers { answers officers acting ≡ acting_gives }
-    ensures logged { log_of officers acting ≡ acting_log }
+    ensures goes { Goes officers acting }
+    ensures logged { log_of officers (calls acting) ≡ acting_log }
 {}
 
 /// To be told what an object is, what a directory holds, and to execute a file is to look at it. Opening it, its
@@ -180,14 +169,21 @@ pub fn each_act_is_a_line_of_the_log()
 #[tactic(auto, using(crate::proofs::AtLabels::heights_fits, crate::proofs::AtLabels::finding_what_is_high_ran))]
 pub fn some_calls_look_at_what_they_find()
     ensures valid { is_valid heights ≡ true }
-    ensures answers { answers heights finding_what_is_high ≡ finding_what_is_high_gives }
+    ensures goes { Goes heights finding_what_is_high }
+{}
+
+/// A label that is set stays below the ceiling of the file's file system, or of the process, as one that floats.
+#[tactic(auto, using(crate::proofs::AtLabels::low_house_fits, crate::proofs::AtLabels::setting_high_ran))]
+pub fn what_is_set_stays_below_its_ceiling()
+    ensures valid { is_valid low_house ≡ true }
+    ensures goes { Goes low_house setting_high }
 {}
 
 /// That a pipe is empty is told at its label, which a write of no bytes raises as any other.
 #[tactic(auto, using(crate::proofs::AtLabels::pair_fits, crate::proofs::AtLabels::looking_into_an_empty_pipe_ran))]
 pub fn an_empty_pipe_is_looked_at_too()
     ensures valid { is_valid pair ≡ true }
-    ensures answers { answers pair looking_into_an_empty_pipe ≡ looking_into_an_empty_pipe_gives }
+    ensures goes { Goes pair looking_into_an_empty_pipe }
 {}
 
 /// To make a name affects its directory; the file that is made is at bottom. In a frozen directory names are made by
@@ -195,13 +191,13 @@ pub fn an_empty_pipe_is_looked_at_too()
 #[tactic(auto, using(crate::proofs::AtLabels::chest_fits, crate::proofs::AtLabels::making_names_high_ran))]
 pub fn a_name_affects_its_directory_alone()
     ensures valid { is_valid chest ≡ true }
-    ensures answers { answers chest making_names_high ≡ making_names_high_gives }
+    ensures goes { Goes chest making_names_high }
 {}
 
 /// To set another's ceiling is a line of the log, with the ceilings before and after. To lower the own is none.
 #[tactic(auto, using(crate::proofs::AtLabels::officers_fits, crate::proofs::AtLabels::raising_ceilings_ran, crate::proofs::AtLabels::raising_ceilings_logged))]
 pub fn a_ceiling_of_another_is_a_line_of_the_log()
     ensures valid { is_valid officers ≡ true }
-    ensures answers { answers officers raising_ceilings ≡ raising_ceilings_gives }
-    ensures logged { log_of officers raising_ceilings ≡ raising_ceilings_log }
+    ensures goes { Goes officers raising_ceilings }
+    ensures logged { log_of officers (calls raising_ceilings) ≡ raising_ceilings_log }
 {}

@@ -1,5 +1,5 @@
 //! Worked sessions: what each of them shows, by the machine's definitions alone. These functions do nothing: each states
-//! what a history from a config gives, entry by entry, and the labels at its end.
+//! what a history from a config gives, entry by entry, and the labels and the audit log at its end.
 #![tactic(auto)]
 
 pub mod edges;

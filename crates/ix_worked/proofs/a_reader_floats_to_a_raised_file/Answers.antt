@@ -1,6 +1,6 @@
-use Rattle.std.proofs.Common.{refl, arith}
+use Rattle.std.proofs.Common.{refl}
 use Rattle.ix_worked.proofs.Computing.{fitting}
-use Rattle.ix_worked.proofs.Labels.{labels, leq-one_top}
+use Rattle.ix_worked.proofs.Labels.{labels}
 use Rattle.ix_worked.proofs.TwoBytes.{two_bytes}
 use Rattle.ix_worked.proofs.a_reader_floats_to_a_raised_file.Goals as goal
 

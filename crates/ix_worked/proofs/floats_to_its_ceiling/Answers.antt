@@ -1,6 +1,6 @@
-use Rattle.std.proofs.Common.{refl, arith}
+use Rattle.std.proofs.Common.{refl}
 use Rattle.ix_worked.proofs.Computing.{running, fitting}
-use Rattle.ix_worked.proofs.Labels.{labels, leq-one_top}
+use Rattle.ix_worked.proofs.Labels.{labels}
 use Rattle.ix_worked.proofs.floats_to_its_ceiling.Goals as goal
 
 pub returns-clause-valid : goal.returns-clause-valid

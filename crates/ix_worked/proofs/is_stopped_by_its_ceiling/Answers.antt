@@ -1,6 +1,6 @@
-use Rattle.std.proofs.Common.{refl, arith}
+use Rattle.std.proofs.Common.{refl}
 use Rattle.ix_worked.proofs.Computing.{running, fitting}
-use Rattle.ix_worked.proofs.Labels.{labels, leq-two_top, leq-with_one}
+use Rattle.ix_worked.proofs.Labels.{labels, leq-with_one}
 use Rattle.ix_worked.specs.Scripts.{three}
 use Rattle.ix_worked.proofs.is_stopped_by_its_ceiling.Goals as goal
 
