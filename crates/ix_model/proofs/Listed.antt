@@ -7,30 +7,17 @@ use Rattle.std.proofs.lemmas.List.Folds.{list_any-append}
 use Rattle.std.proofs.lemmas.List.Sums.{sum_by_push, length-filter, count_by-le-length}
 use Rattle.ix_model.specs.Naming.{same_bytes}
 use Rattle.ix_model.specs.Valid.{all_differ}
+use Rattle.ix_model.proofs.Alike.{bytes_are, bytes_itself}
 use Rattle.ix_model.proofs.There.{counted}
 
 abbrev pub Names : Type 0
 Names = List (List ℕ × ℕ)
 
 -- ---- two names
-pub same_bytes_is : (a b : List ℕ) → same_bytes a b ≡ true → a ≡ b
-same_bytes_is [] [] h = refl
-same_bytes_is [] (y ∷ b) h = cc
-same_bytes_is (x ∷ a) [] h = cc
-same_bytes_is (x ∷ a) (y ∷ b) h =
-    let p = and_parts (nat_eq x y) (same_bytes a b) h in
-    let head : x ≡ y = eqb-true x y p.0 in
-    let tail : a ≡ b = same_bytes_is a b p.1 in
-    cc
-
-pub same_bytes_itself : (a : List ℕ) → same_bytes a a ≡ true
-same_bytes_itself [] = refl
-same_bytes_itself (x ∷ a) = and_from (nat_eq x x) (same_bytes a a) (eq-eqb x x refl) (same_bytes_itself a)
-
 other_way : (a b : List ℕ) → same_bytes a b ≡ false → same_bytes b a ≡ false
 other_way a b h = false_from_ne_true _ (λ yes.
-    let e : b ≡ a = same_bytes_is b a yes in
-    true≢false (sym (same_bytes_itself a) ∙ ap (same_bytes a) (sym e) ∙ h))
+    let e : b ≡ a = bytes_are b a yes in
+    true≢false (sym (bytes_itself a) ∙ ap (same_bytes a) (sym e) ∙ h))
 
 -- ---- one more
 pub count_more : (m o : ℕ) (name : List ℕ) (es : Names) → count_by (λ n. n.1 == m) (es ++ (name, o) ∷ []) ≡ count_by (λ n. n.1 == m) es + cond {A = ℕ} (o == m) 1 0
@@ -71,7 +58,7 @@ module _ (name : List ℕ) (o : ℕ) where
       go true same k next =
           let p = and_parts (not (list_any (same_bytes e.0) (map (λ (n : List ℕ × ℕ). n.0) es))) (all_differ (map (λ (n : List ℕ × ℕ). n.0) es)) h in
           let one : e.1 ≡ o = cc in
-          let here : e.0 ≡ name = same_bytes_is e.0 name same in
+          let here : e.0 ≡ name = bytes_are e.0 name same in
           let rest : others name es ≡ es = none_out name es (ap (λ a. list_any (same_bytes a) (map (λ (n : List ℕ × ℕ). n.0) es)) (sym here) ∙ not-true _ p.0) in
           let left : count_by (λ n. n.1 == m) (others name es) ≡ count_by (λ n. n.1 == m) es = ap (count_by (λ n. n.1 == m)) rest in
           let head : cond {A = ℕ} (e.1 == m) 1 0 ≡ cond {A = ℕ} (o == m) 1 0 = ap (λ k. cond {A = ℕ} (k == m) 1 0) one in
