@@ -1,5 +1,5 @@
 -- What is known where the words end that make and unmake.
-use Rattle.std.proofs.Common.{◌≡◌, ℕ, Option, Some, None, List, [], ◌∷◌, ◌++◌}
+use Rattle.std.proofs.Common.{◌≡◌, ℕ, Option, Some, [], ◌∷◌, ◌++◌}
 use Rattle.ix_model.specs.World.{Frame, Object, Process, at, put}
 use Rattle.ix_model.specs.Rows.{put_object, put_process, add_process, record_of}
 use Rattle.ix_model.specs.declared.refusal.Refusal.{Refusal}
