@@ -9,7 +9,7 @@ use Rattle.ix_model.specs.declared.call.Mode.TheVariants as mode
 use Rattle.ix_model.specs.declared.refusal.Refusal.TheVariants as refusal
 use Rattle.ix_model.specs.declared.reply.Kind.TheVariants as kind
 use Rattle.ix_model.specs.declared.reply.Reply.TheVariants as reply
-use Rattle.ix_worked.specs.OnPaths.{shelves, furnished, full, tight, seeking, looking_into_a_file, using_a_directory, making_again, crossing, removing_a_home, making_files, making_names, asking_for_objects, unlinking_an_open_file, looking_around, working_in_a_directory, sharing_blocks}
+use Rattle.ix_worked.specs.OnPaths.{full_with_a_root, making_one_name_more, freeing_blocks, unlinking_one_of_two, shelves, furnished, full, tight, seeking, looking_into_a_file, using_a_directory, making_again, crossing, removing_a_home, making_files, making_names, asking_for_objects, unlinking_an_open_file, looking_around, working_in_a_directory, sharing_blocks}
 use Rattle.ix_worked.specs.Sessions.{calls, Goes}
 use Rattle.ix_worked.proofs.Chains.{◌⨾◌, number, bytes, refused, answered, done, lines_given}
 use Rattle.ix_worked.proofs.Computing.{running, fitting}
@@ -250,3 +250,53 @@ sharing_blocks_ran = lines_given (opening_world tight) 1 (calls sharing_blocks)
     ∷ [])
     ((simp labels refl, refl) ⨾ (refl, refl) ⨾ (simp labels refl, refl) ⨾ (simp labels refl, refl)
     ⨾ (simp labels refl, refl) ⨾ (refl, refl) ⨾ (simp labels refl, refl) ⨾ tt)
+
+pub full_with_a_root_fits : is_valid full_with_a_root ≡ true
+unfolding fitting
+full_with_a_root_fits = simp labels refl
+
+at_full_with_a_root : World
+at_full_with_a_root = opening_world full_with_a_root
+
+room_made : World
+room_made = with_object 0 (without_name (codes "a")) (with_new 1 None at_full_with_a_root)
+
+pub making_one_name_more_ran : Goes full_with_a_root making_one_name_more
+unfolding running at_full_with_a_root room_made
+making_one_name_more_ran = lines_given (opening_world full_with_a_root) 1 (calls making_one_name_more)
+    (refused at_full_with_a_root refusal.NoEntry
+    ∷ done room_made
+    ∷ number (with_made kind.File 1 32 (codes "q") 33 room_made) 33
+    ∷ [])
+    ((simp labels refl, refl) ⨾ (simp labels refl, refl) ⨾ (simp labels refl, refl) ⨾ tt)
+
+one_file_less : World
+one_file_less = with_object 0 (without_name (codes "n")) (with_new 1 None (holding 1 [] [] tight_open))
+
+pub freeing_blocks_ran : Goes tight freeing_blocks
+unfolding running worlds one_file_less
+freeing_blocks_ran = lines_given (opening_world tight) 1 (calls freeing_blocks)
+    (number tight_open 0
+    ∷ refused tight_open refusal.NoSpace
+    ∷ done one_file_less
+    ∷ number (moved 0 1024 (holding 2 (replicate 1024 65) [] one_file_less)) 1024
+    ∷ [])
+    ((simp labels refl, refl) ⨾ (refl, refl) ⨾ (simp labels refl, refl) ⨾ (simp labels refl, refl) ⨾ tt)
+
+second_name : World
+second_name = with_object 0 (without_name (codes "n")) linked
+
+no_name : World
+no_name = with_object 0 (without_name (codes "n")) (with_new 1 None (holding 1 [] [] at_shelves))
+
+pub unlinking_one_of_two_ran : Goes shelves unlinking_one_of_two
+unfolding running worlds second_name no_name
+unlinking_one_of_two_ran = lines_given (opening_world shelves) 1 (calls unlinking_one_of_two)
+    (done linked
+    ∷ done second_name
+    ∷ answered second_name (reply.Stat (record { 0 = 1 }) kind.File 3 1 false no_privileges no_privileges)
+    ∷ done no_name
+    ∷ number (with_made kind.File 0 0 (codes "x") 1 no_name) 1
+    ∷ [])
+    ((simp labels refl, refl) ⨾ (simp labels refl, refl) ⨾ (simp labels refl, refl) ⨾ (simp labels refl, refl)
+    ⨾ (simp labels refl, refl) ⨾ tt)

@@ -44,6 +44,14 @@ furnished = record
 abbrev pub full : Config
 full = record (small (proc bottom top ∷ []) (map (λ letter. file (letter ∷ []) bottom []) (codes "abcdefghijklmnop"))) { fss = record small_fs { inodes = 32 } ∷ [] }
 
+-- fs root * 4 32
+-- fs vol * 4 2
+-- proc a - * - -
+-- file /a - free - - x, and so on to /o
+abbrev pub full_with_a_root : Config
+full_with_a_root = record (small (proc bottom top ∷ []) (map (λ letter. file (letter ∷ []) bottom []) (codes "abcdefghijklmno")))
+    { fss = record small_fs { inodes = 32 } ∷ record small_fs { name = codes "vol"; inodes = 2 } ∷ [] }
+
 -- fs root * 2 4
 -- fs vol * 1 2
 -- proc a - * - -
@@ -198,4 +206,31 @@ sharing_blocks =
     ∷ (by 1 (op.OpenAt (under (codes "vol") (codes "k")) mode.Write), gives (reply.Number 1) [] bottom)
     ∷ (by 1 (op.WriteFd 1 (replicate 513 65)), refuses refusal.NoSpace bottom)
     ∷ (by 1 (op.WriteFd 1 (replicate 512 65)), gives (reply.Number 512) [] bottom)
+    ∷ []
+
+-- there are 16 names with that of the second file system
+abbrev pub making_one_name_more : List (Event × Line)
+making_one_name_more =
+    (by 1 (op.CreateAt (in_root (codes "q"))), refuses refusal.NoEntry bottom)
+    ∷ (by 1 (op.UnlinkAt (in_root (codes "a"))), gives reply.Done [] bottom)
+    ∷ (by 1 (op.CreateAt (under (codes "vol") (codes "q"))), gives (reply.Number 33) [] bottom)
+    ∷ []
+
+-- the other file goes, and the one that is open takes both blocks
+abbrev pub freeing_blocks : List (Event × Line)
+freeing_blocks =
+    (by 1 (op.OpenAt (in_root (codes "m")) mode.Write), gives (reply.Number 0) [] bottom)
+    ∷ (by 1 (op.WriteFd 0 (replicate 1024 65)), refuses refusal.NoSpace bottom)
+    ∷ (by 1 (op.UnlinkAt (in_root (codes "n"))), gives reply.Done [] bottom)
+    ∷ (by 1 (op.WriteFd 0 (replicate 1024 65)), gives (reply.Number 1024) [] bottom)
+    ∷ []
+
+-- the first name of two goes, and then the second
+abbrev pub unlinking_one_of_two : List (Event × Line)
+unlinking_one_of_two =
+    (by 1 (op.LinkAt (in_root (codes "n")) (under (codes "d") (codes "k"))), gives reply.Done [] bottom)
+    ∷ (by 1 (op.UnlinkAt (in_root (codes "n"))), gives reply.Done [] bottom)
+    ∷ (by 1 (op.StatAt (under (codes "d") (codes "k"))), gives (reply.Stat (record { 0 = 1 }) kind.File 3 1 false no_privileges no_privileges) [] bottom)
+    ∷ (by 1 (op.UnlinkAt (under (codes "d") (codes "k"))), gives reply.Done [] bottom)
+    ∷ (by 1 (op.CreateAt (in_root (codes "x"))), gives (reply.Number 1) [] bottom)
     ∷ []
