@@ -11,7 +11,7 @@ use Rattle.ix_model.specs.declared.call.Mode.TheVariants as mode
 use Rattle.ix_model.specs.declared.refusal.Refusal.TheVariants as refusal
 use Rattle.ix_model.specs.declared.reply.Kind.TheVariants as kind
 use Rattle.ix_model.specs.declared.reply.Reply.TheVariants as reply
-use Rattle.ix_worked.specs.OnLabels.{two_steps, program, walking_too_high, handing_on, handing_on_log, levels, no_lines, officers, heights, low_house, pair, chest, holding_down, setting_labels, setting_ceilings, freezing, acting_without_a_line, acting, acting_log, finding_what_is_high, setting_high, looking_into_an_empty_pipe, making_names_high, raising_ceilings, raising_ceilings_log}
+use Rattle.ix_worked.specs.OnLabels.{stiff_house, moving_what_is_frozen, two_steps, program, walking_too_high, handing_on, handing_on_log, levels, no_lines, officers, heights, low_house, pair, chest, holding_down, setting_labels, setting_ceilings, freezing, acting_without_a_line, acting, acting_log, finding_what_is_high, setting_high, looking_into_an_empty_pipe, making_names_high, raising_ceilings, raising_ceilings_log}
 use Rattle.ix_worked.specs.Scripts.{three, five, log_line}
 use Rattle.ix_worked.specs.Sessions.{log_of, calls, Goes}
 use Rattle.ix_worked.proofs.Chains.{◌⨾◌, Gives, number, bytes, refused, answered, done, log_given, lines_given}
@@ -418,3 +418,31 @@ handing_on_ran = lines_given (opening_world program) 1 (calls handing_on) handin
 pub handing_on_logged : log_of program (calls handing_on) ≡ handing_on_log
 unfolding running auditing program_open armed child_armed child_thawed child_bare
 handing_on_logged = log_given program (opening_world program) (calls handing_on) handing_on_given refl handing_on_steps
+
+pub stiff_house_fits : is_valid stiff_house ≡ true
+unfolding fitting
+stiff_house_fits = simp labels refl
+
+frozen_open : World
+frozen_open = with_entry 1 0 0 (opened 1 mode.Write) (opening_world stiff_house)
+
+both_frozen : World
+both_frozen = with_process 2 (λ p. record p { frozen = true }) frozen_open
+
+pub moving_what_is_frozen_ran : Goes stiff_house moving_what_is_frozen
+unfolding running frozen_open both_frozen
+moving_what_is_frozen_ran = lines_given (opening_world stiff_house) 1 (calls moving_what_is_frozen)
+    (number frozen_open 0
+    ∷ refused frozen_open refusal.FileFrozen
+    ∷ refused frozen_open refusal.FileFrozen
+    ∷ refused frozen_open refusal.FsCeiling
+    ∷ refused frozen_open refusal.FsCeiling
+    ∷ refused frozen_open refusal.NotFound
+    ∷ refused frozen_open refusal.NoCapability
+    ∷ refused frozen_open refusal.ProcCeiling
+    ∷ done both_frozen
+    ∷ refused both_frozen refusal.ProcFrozen
+    ∷ [])
+    ((simp labels refl, refl) ⨾ (simp labels refl, refl) ⨾ (simp labels refl, refl) ⨾ (simp labels refl, refl)
+    ⨾ (simp labels refl, refl) ⨾ (simp labels refl, refl) ⨾ (simp labels refl, refl) ⨾ (simp labels refl, refl)
+    ⨾ (refl, refl) ⨾ (simp labels refl, refl) ⨾ tt)

@@ -9,7 +9,7 @@ use Rattle.ix_model.specs.declared.call.Mode.TheVariants as mode
 use Rattle.ix_model.specs.declared.refusal.Refusal.TheVariants as refusal
 use Rattle.ix_model.specs.declared.reply.Kind.TheVariants as kind
 use Rattle.ix_model.specs.declared.reply.Reply.TheVariants as reply
-use Rattle.ix_worked.specs.OnPaths.{full_with_a_root, making_one_name_more, freeing_blocks, unlinking_one_of_two, shelves, furnished, full, tight, seeking, looking_into_a_file, using_a_directory, making_again, crossing, removing_a_home, making_files, making_names, asking_for_objects, unlinking_an_open_file, looking_around, working_in_a_directory, sharing_blocks}
+use Rattle.ix_worked.specs.OnPaths.{crowded, poor, making_without_room, asking_without_room, full_with_a_root, making_one_name_more, freeing_blocks, unlinking_one_of_two, shelves, furnished, full, tight, seeking, looking_into_a_file, using_a_directory, making_again, crossing, removing_a_home, making_files, making_names, asking_for_objects, unlinking_an_open_file, looking_around, working_in_a_directory, sharing_blocks}
 use Rattle.ix_worked.specs.Sessions.{calls, Goes}
 use Rattle.ix_worked.proofs.Chains.{◌⨾◌, number, bytes, refused, answered, done, lines_given}
 use Rattle.ix_worked.proofs.Computing.{running, fitting}
@@ -300,3 +300,45 @@ unlinking_one_of_two_ran = lines_given (opening_world shelves) 1 (calls unlinkin
     ∷ [])
     ((simp labels refl, refl) ⨾ (simp labels refl, refl) ⨾ (simp labels refl, refl) ⨾ (simp labels refl, refl)
     ⨾ (simp labels refl, refl) ⨾ tt)
+
+pub crowded_fits : is_valid crowded ≡ true
+unfolding fitting
+crowded_fits = simp labels refl
+
+at_crowded : World
+at_crowded = opening_world crowded
+
+pub making_without_room_ran : Goes crowded making_without_room
+unfolding running at_crowded
+making_without_room_ran = lines_given (opening_world crowded) 1 (calls making_without_room)
+    (refused at_crowded refusal.Exists
+    ∷ refused at_crowded refusal.NoInode
+    ∷ refused at_crowded refusal.IsDir
+    ∷ refused at_crowded refusal.NotFound
+    ∷ refused at_crowded refusal.Exists
+    ∷ refused at_crowded refusal.CrossFs
+    ∷ refused at_crowded refusal.CrossFs
+    ∷ [])
+    ((simp labels refl, refl) ⨾ (simp labels refl, refl) ⨾ (simp labels refl, refl) ⨾ (simp labels refl, refl)
+    ⨾ (simp labels refl, refl) ⨾ (simp labels refl, refl) ⨾ (simp labels refl, refl) ⨾ tt)
+
+pub poor_fits : is_valid poor ≡ true
+unfolding fitting
+poor_fits = simp labels refl
+
+only_open : World
+only_open = with_entry 1 0 0 (opened 1 mode.Read) (opening_world poor)
+
+pub asking_without_room_ran : Goes poor asking_without_room
+unfolding running only_open
+asking_without_room_ran = lines_given (opening_world poor) 1 (calls asking_without_room)
+    (number only_open 0
+    ∷ refused only_open refusal.IsDir
+    ∷ refused only_open refusal.NotFound
+    ∷ refused only_open refusal.NoOpen
+    ∷ refused only_open refusal.NoInode
+    ∷ refused only_open refusal.BadFd
+    ∷ refused only_open refusal.NoSlot
+    ∷ [])
+    ((simp labels refl, refl) ⨾ (simp labels refl, refl) ⨾ (simp labels refl, refl) ⨾ (simp labels refl, refl)
+    ⨾ (refl, refl) ⨾ (refl, refl) ⨾ (refl, refl) ⨾ tt)

@@ -65,6 +65,16 @@ abbrev pub program : Config
 program = small (proc bottom top ∷ []) (record (file (codes "prog") bottom []) { cap = to_thaw; lic = to_thaw } ∷ record (file (codes "z") bottom []) { frozen = true } ∷ [])
 
 -- fs root 3 4 4
+-- proc a 5 * - -
+-- proc b - 3 - -
+-- file /z - frozen - - x
+-- file /g - free - - x
+abbrev pub stiff_house : Config
+stiff_house = record
+    (small (proc five top ∷ proc bottom three ∷ []) (record (file (codes "z") bottom []) { frozen = true } ∷ file (codes "g") bottom [] ∷ []))
+    { fss = record small_fs { ceiling = three } ∷ [] }
+
+-- fs root 3 4 4
 -- proc a - 3 - -
 -- file /f - free - - x
 abbrev pub low_house : Config
@@ -254,3 +264,18 @@ handing_on =
 
 abbrev pub handing_on_log : List AuditLine
 handing_on_log = log_line 5 2 act.ThawFile 2 bottom bottom ∷ log_line 8 1 act.ThawFile 2 bottom bottom ∷ []
+
+-- a frozen file whose label would pass its ceiling, and a frozen process whose label would pass its own
+abbrev pub moving_what_is_frozen : List (Event × Line)
+moving_what_is_frozen =
+    (by 1 (op.OpenAt (in_root (codes "z")) mode.Write), gives (reply.Number 0) [] five)
+    ∷ (by 1 (op.WriteFd 0 (codes "x")), refuses refusal.FileFrozen five)
+    ∷ (by 1 (op.SetLabel (in_root (codes "z")) five), refuses refusal.FileFrozen five)
+    ∷ (by 1 (op.SetLabel (in_root (codes "g")) five), refuses refusal.FsCeiling five)
+    ∷ (by 1 (op.Freeze (in_root (codes "g"))), refuses refusal.FsCeiling five)
+    ∷ (by 1 (op.Thaw (in_root (codes "no"))), refuses refusal.NotFound five)
+    ∷ (by 1 (op.Thaw (in_root (codes "z"))), refuses refusal.NoCapability five)
+    ∷ (by 2 (op.SetSelf five), refuses refusal.ProcCeiling bottom)
+    ∷ (by 2 op.FreezeSelf, gives reply.Done [] bottom)
+    ∷ (by 2 (op.SetSelf five), refuses refusal.ProcFrozen bottom)
+    ∷ []

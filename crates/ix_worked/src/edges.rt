@@ -12,6 +12,7 @@ ghost use Rattle.ix_worked.specs.OnDescriptors.{
   closing_a_claimed_end,
   writing_in_the_middle,
   using_numbers_again,
+  asking_too_much,
 };
 ghost use Rattle.ix_worked.specs.OnPaths.{
   shelves,
@@ -26,6 +27,10 @@ ghost use Rattle.ix_worked.specs.OnPaths.{
   making_one_name_more,
   freeing_blocks,
   unlinking_one_of_two,
+  crowded,
+  making_without_room,
+  poor,
+  asking_without_room,
 };
 ghost use Rattle.ix_worked.specs.OnProcesses.{
   family,
@@ -57,6 +62,8 @@ ghost use Rattle.ix_worked.specs.OnLabels.{
   program,
   handing_on,
   handing_on_log,
+  stiff_house,
+  moving_what_is_frozen,
 };
 
 /// A read of no bytes is answered as any other: there may be more while the other end is held.
@@ -267,4 +274,36 @@ pub fn privileges_pass_to_a_child()
     ensures valid { is_valid program ≡ true }
     ensures goes { Goes program handing_on }
     ensures logged { log_of program (calls handing_on) ≡ handing_on_log }
+{}
+
+/// That a descriptor is on a pipe, is claimed or is not open that way is told before that there are too many bytes,
+/// and this before that a pipe is broken.
+#[tactic(auto, using(crate::proofs::AtDescriptors::desk_fits, crate::proofs::AtDescriptors::asking_too_much_ran))]
+pub fn too_many_bytes_are_told_late()
+    ensures valid { is_valid desk ≡ true }
+    ensures goes { Goes desk asking_too_much }
+{}
+
+/// What is wrong with a path is told before that an inode is missing, that before that a name is, and that a name
+/// would be on another file system before both.
+#[tactic(auto, using(crate::proofs::AtPaths::crowded_fits, crate::proofs::AtPaths::making_without_room_ran))]
+pub fn want_of_room_is_told_last()
+    ensures valid { is_valid crowded ≡ true }
+    ensures goes { Goes crowded making_without_room }
+{}
+
+/// What is asked for is looked at before there is room for it: a directory, a missing name, a descriptor that is
+/// none.
+#[tactic(auto, using(crate::proofs::AtPaths::poor_fits, crate::proofs::AtPaths::asking_without_room_ran))]
+pub fn what_is_asked_for_is_looked_at_before_room()
+    ensures valid { is_valid poor ≡ true }
+    ensures goes { Goes poor asking_without_room }
+{}
+
+/// That something is frozen is told before that its label would pass a ceiling, and a missing name before a missing
+/// capability.
+#[tactic(auto, using(crate::proofs::AtLabels::stiff_house_fits, crate::proofs::AtLabels::moving_what_is_frozen_ran))]
+pub fn a_frozen_mark_is_told_before_a_ceiling()
+    ensures valid { is_valid stiff_house ≡ true }
+    ensures goes { Goes stiff_house moving_what_is_frozen }
 {}
