@@ -88,8 +88,11 @@ at_tight = opening_world tight
 tight_open : World
 tight_open = with_entry 1 0 0 (opened 2 mode.Write) at_tight
 
+tight_once : World
+tight_once = moved 0 512 (holding 2 (replicate 512 65) [] tight_open)
+
 tight_full : World
-tight_full = moved 0 512 (holding 2 (replicate 512 65) [] tight_open)
+tight_full = moved 0 512 (holding 2 (replicate 512 66) [] tight_open)
 
 tight_new : World
 tight_new = with_made kind.File 1 4 (codes "k") 5 tight_full
@@ -100,7 +103,7 @@ tight_both = with_entry 1 1 1 (opened 5 mode.Write) tight_new
 -- opens all of them
 worlds : ℕ
 unfolding at_shelves in_d without_d with_a with_b at_furnished at_full one_less linked reading nameless beside read_all
-    gone reused kept at_tight tight_open tight_full tight_new tight_both
+    gone reused kept at_tight tight_open tight_once tight_full tight_new tight_both
 worlds = 0
 
 -- ---- the histories
@@ -242,13 +245,18 @@ unfolding running worlds
 sharing_blocks_ran = lines_given (opening_world tight) 1 (calls sharing_blocks)
     (number tight_open 0
     ∷ refused tight_open refusal.NoSpace
+    ∷ number tight_once 512
+    ∷ done (moved 0 0 tight_once)
     ∷ number tight_full 512
+    ∷ refused tight_full refusal.NoSpace
+    ∷ done tight_full
     ∷ number tight_new 5
     ∷ number tight_both 1
     ∷ refused tight_both refusal.NoSpace
     ∷ number (moved 1 512 (holding 5 (replicate 512 65) [] tight_both)) 512
     ∷ [])
-    ((simp labels refl, refl) ⨾ (refl, refl) ⨾ (simp labels refl, refl) ⨾ (simp labels refl, refl)
+    ((simp labels refl, refl) ⨾ (refl, refl) ⨾ (simp labels refl, refl) ⨾ (refl, refl)
+    ⨾ (simp labels refl, refl) ⨾ (refl, refl) ⨾ (simp labels refl, refl) ⨾ (simp labels refl, refl)
     ⨾ (simp labels refl, refl) ⨾ (refl, refl) ⨾ (simp labels refl, refl) ⨾ tt)
 
 pub full_with_a_root_fits : is_valid full_with_a_root ≡ true

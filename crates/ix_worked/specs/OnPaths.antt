@@ -211,12 +211,16 @@ working_in_a_directory =
     ∷ (by 1 (op.UnlinkAt (from_here (codes "x"))), gives reply.Done [] bottom)
     ∷ []
 
--- /n takes one of two blocks, and /vol has one
+-- /n takes one of two blocks, and /vol has one; what a file has already counts once
 abbrev pub sharing_blocks : List (Event × Line)
 sharing_blocks =
     (by 1 (op.OpenAt (in_root (codes "m")) mode.Write), gives (reply.Number 0) [] bottom)
     ∷ (by 1 (op.WriteFd 0 (replicate 513 65)), refuses refusal.NoSpace bottom)
     ∷ (by 1 (op.WriteFd 0 (replicate 512 65)), gives (reply.Number 512) [] bottom)
+    ∷ (by 1 (op.SeekFd 0 0), gives reply.Done [] bottom)
+    ∷ (by 1 (op.WriteFd 0 (replicate 512 66)), gives (reply.Number 512) [] bottom)
+    ∷ (by 1 (op.CutFd 0 513), refuses refusal.NoSpace bottom)
+    ∷ (by 1 (op.CutFd 0 512), gives reply.Done [] bottom)
     ∷ (by 1 (op.CreateAt (under (codes "vol") (codes "k"))), gives (reply.Number 5) [] bottom)
     ∷ (by 1 (op.OpenAt (under (codes "vol") (codes "k")) mode.Write), gives (reply.Number 1) [] bottom)
     ∷ (by 1 (op.WriteFd 1 (replicate 513 65)), refuses refusal.NoSpace bottom)
