@@ -11,7 +11,7 @@ use Rattle.ix_model.specs.World.{World}
 use Rattle.ix_model.specs.declared.call.Mode.TheVariants as mode
 use Rattle.ix_model.specs.declared.refusal.Refusal.TheVariants as refusal
 use Rattle.ix_model.specs.declared.reply.Reply.TheVariants as reply
-use Rattle.ix_worked.specs.OnDescriptors.{desk, copying, long_desk, using_none, reading_a_writer, writing_a_reader, going_too_far, claiming_a_file, cutting_a_pipe, letting_go, using_all, opening_all, making_pipes, reading_nothing, writing_into_a_broken_pipe, claiming_both, closing_a_claimed_end, writing_in_the_middle, using_numbers_again}
+use Rattle.ix_worked.specs.OnDescriptors.{asking_too_much, desk, copying, long_desk, using_none, reading_a_writer, writing_a_reader, going_too_far, claiming_a_file, cutting_a_pipe, letting_go, using_all, opening_all, making_pipes, reading_nothing, writing_into_a_broken_pipe, claiming_both, closing_a_claimed_end, writing_in_the_middle, using_numbers_again}
 use Rattle.ix_worked.specs.Scripts.{in_root, by}
 use Rattle.ix_worked.specs.Sessions.{line_of, lines_of, calls, Goes}
 use Rattle.ix_worked.proofs.Chains.{◌⨾◌, number, bytes, refused, answered, done, lines_more, lines_given}
@@ -327,4 +327,34 @@ using_numbers_again_ran = lines_given (opening_world desk) 1 (calls using_number
     ((simp labels refl, refl) ⨾ (simp labels refl, refl) ⨾ (refl, refl) ⨾ (simp labels refl, refl)
     ⨾ (simp labels refl, refl) ⨾ (refl, refl) ⨾ (refl, refl) ⨾ (simp labels refl, refl)
     ⨾ (refl, refl) ⨾ (refl, refl) ⨾ (refl, refl) ⨾ (simp labels refl, refl)
+    ⨾ tt)
+
+end_claimed : World
+end_claimed = claimed_by 4 (Some 1) None other_end
+
+child_there : World
+child_there = with_child 1 end_claimed
+
+child_reads : World
+child_reads = with_entry 2 1 1 (opened 1 mode.Read) child_there
+
+pub asking_too_much_ran : Goes desk asking_too_much
+unfolding running worlds end_claimed child_there child_reads
+asking_too_much_ran = lines_given (opening_world desk) 1 (calls asking_too_much)
+    (answered piped (reply.Two (record { 0 = 0 }) (record { 0 = 1 }))
+    ∷ refused piped refusal.IsPipe
+    ∷ refused piped refusal.IsPipe
+    ∷ done other_end
+    ∷ refused other_end refusal.TooBig
+    ∷ answered end_claimed reply.Half
+    ∷ number child_there 2
+    ∷ refused child_there refusal.PexHeld
+    ∷ refused child_there refusal.PexHeld
+    ∷ number child_reads 1
+    ∷ refused child_reads refusal.NotWritable
+    ∷ refused child_reads refusal.NotWritable
+    ∷ [])
+    ((refl, refl) ⨾ (refl, refl) ⨾ (refl, refl) ⨾ (refl, refl)
+    ⨾ (refl, refl) ⨾ (refl, refl) ⨾ (refl, refl) ⨾ (refl, refl)
+    ⨾ (refl, refl) ⨾ (simp labels refl, refl) ⨾ (refl, refl) ⨾ (refl, refl)
     ⨾ tt)

@@ -1,5 +1,5 @@
 -- The short histories of the calls on labels, privileges, ceilings and the log, entry by entry.
-use Rattle.std.proofs.Common.{◌≡◌, ℕ, true, false, List, [], ◌∷◌, ◌++◌, ◌∙◌, replicate, refl, codes}
+use Rattle.std.proofs.Common.{◌≡◌, ℕ, true, false, List, [], ◌∷◌, ◌++◌, ◌∙◌, replicate, refl, codes, None}
 use Rattle.ix_label.specs.Category.{bottom, top}
 use Rattle.ix_model.specs.Opening.{opening_world}
 use Rattle.ix_model.specs.Privs.{to_lower, to_thaw, to_read_the_log, no_privileges}
@@ -11,7 +11,7 @@ use Rattle.ix_model.specs.declared.call.Mode.TheVariants as mode
 use Rattle.ix_model.specs.declared.refusal.Refusal.TheVariants as refusal
 use Rattle.ix_model.specs.declared.reply.Kind.TheVariants as kind
 use Rattle.ix_model.specs.declared.reply.Reply.TheVariants as reply
-use Rattle.ix_worked.specs.OnLabels.{levels, no_lines, officers, heights, low_house, pair, chest, holding_down, setting_labels, setting_ceilings, freezing, acting_without_a_line, acting, acting_log, finding_what_is_high, setting_high, looking_into_an_empty_pipe, making_names_high, raising_ceilings, raising_ceilings_log}
+use Rattle.ix_worked.specs.OnLabels.{stiff_house, moving_what_is_frozen, two_steps, program, walking_too_high, handing_on, handing_on_log, levels, no_lines, officers, heights, low_house, pair, chest, holding_down, setting_labels, setting_ceilings, freezing, acting_without_a_line, acting, acting_log, finding_what_is_high, setting_high, looking_into_an_empty_pipe, making_names_high, raising_ceilings, raising_ceilings_log}
 use Rattle.ix_worked.specs.Scripts.{three, five, log_line}
 use Rattle.ix_worked.specs.Sessions.{log_of, calls, Goes}
 use Rattle.ix_worked.proofs.Chains.{◌⨾◌, Gives, number, bytes, refused, answered, done, log_given, lines_given}
@@ -356,3 +356,93 @@ raising_ceilings_ran = lines_given (opening_world officers) 1 (calls raising_cei
 pub raising_ceilings_logged : log_of officers (calls raising_ceilings) ≡ raising_ceilings_log
 unfolding running auditing worlds
 raising_ceilings_logged = log_given officers (opening_world officers) (calls raising_ceilings) raising_ceilings_given refl raising_ceilings_steps ∙ simp labels refl
+
+pub two_steps_fits : is_valid two_steps ≡ true
+unfolding fitting
+two_steps_fits = simp labels refl
+
+at_two_steps : World
+at_two_steps = opening_world two_steps
+
+pub walking_too_high_ran : Goes two_steps walking_too_high
+unfolding running at_two_steps
+walking_too_high_ran = lines_given (opening_world two_steps) 1 (calls walking_too_high)
+    (refused at_two_steps refusal.ProcCeiling
+    ∷ refused at_two_steps refusal.ProcCeiling
+    ∷ refused (floated 1 three at_two_steps) refusal.NotFound
+    ∷ [])
+    ((simp labels refl, refl) ⨾ (simp labels refl, refl) ⨾ (simp labels refl, refl) ⨾ tt)
+
+pub program_fits : is_valid program ≡ true
+unfolding fitting
+program_fits = simp labels refl
+
+program_open : World
+program_open = with_entry 1 0 0 (opened 1 mode.Both) (opening_world program)
+
+armed : World
+armed = with_process 1 (λ p. record p { cap = to_thaw; own = to_thaw }) program_open
+
+child_armed : World
+child_armed = with_process 2 (λ p. record p { fds = replicate 32 None }) (with_child 1 armed)
+
+child_thawed : World
+child_thawed = with_line (log_line 5 2 act.ThawFile 2 bottom bottom) (with_object 2 (λ x. record x { frozen = false }) child_armed)
+
+child_bare : World
+child_bare = with_process 2 (λ p. record p { cap = no_privileges; own = no_privileges }) child_thawed
+
+abbrev handing_on_given : List Given
+handing_on_given =
+    number program_open 0
+    ∷ refused program_open refusal.Trusted
+    ∷ done armed
+    ∷ number child_armed 2
+    ∷ done child_thawed
+    ∷ done child_bare
+    ∷ refused child_bare refusal.NoCapability
+    ∷ done (with_line (log_line 8 1 act.ThawFile 2 bottom bottom) child_bare)
+    ∷ []
+
+handing_on_steps : Gives (opening_world program) 1 (calls handing_on) handing_on_given
+unfolding running program_open armed child_armed child_thawed child_bare
+handing_on_steps =
+    (simp labels refl, refl) ⨾ (refl, refl) ⨾ (simp labels refl, refl) ⨾ (refl, refl)
+    ⨾ (simp labels refl, refl) ⨾ (refl, refl) ⨾ (simp labels refl, refl) ⨾ (simp labels refl, refl)
+    ⨾ tt
+
+pub handing_on_ran : Goes program handing_on
+unfolding running program_open armed child_armed child_thawed child_bare
+handing_on_ran = lines_given (opening_world program) 1 (calls handing_on) handing_on_given handing_on_steps
+
+pub handing_on_logged : log_of program (calls handing_on) ≡ handing_on_log
+unfolding running auditing program_open armed child_armed child_thawed child_bare
+handing_on_logged = log_given program (opening_world program) (calls handing_on) handing_on_given refl handing_on_steps
+
+pub stiff_house_fits : is_valid stiff_house ≡ true
+unfolding fitting
+stiff_house_fits = simp labels refl
+
+frozen_open : World
+frozen_open = with_entry 1 0 0 (opened 1 mode.Write) (opening_world stiff_house)
+
+both_frozen : World
+both_frozen = with_process 2 (λ p. record p { frozen = true }) frozen_open
+
+pub moving_what_is_frozen_ran : Goes stiff_house moving_what_is_frozen
+unfolding running frozen_open both_frozen
+moving_what_is_frozen_ran = lines_given (opening_world stiff_house) 1 (calls moving_what_is_frozen)
+    (number frozen_open 0
+    ∷ refused frozen_open refusal.FileFrozen
+    ∷ refused frozen_open refusal.FileFrozen
+    ∷ refused frozen_open refusal.FsCeiling
+    ∷ refused frozen_open refusal.FsCeiling
+    ∷ refused frozen_open refusal.NotFound
+    ∷ refused frozen_open refusal.NoCapability
+    ∷ refused frozen_open refusal.ProcCeiling
+    ∷ done both_frozen
+    ∷ refused both_frozen refusal.ProcFrozen
+    ∷ [])
+    ((simp labels refl, refl) ⨾ (simp labels refl, refl) ⨾ (simp labels refl, refl) ⨾ (simp labels refl, refl)
+    ⨾ (simp labels refl, refl) ⨾ (simp labels refl, refl) ⨾ (simp labels refl, refl) ⨾ (simp labels refl, refl)
+    ⨾ (refl, refl) ⨾ (simp labels refl, refl) ⨾ tt)

@@ -9,7 +9,7 @@ use Rattle.ix_model.specs.declared.call.Mode.TheVariants as mode
 use Rattle.ix_model.specs.declared.refusal.Refusal.TheVariants as refusal
 use Rattle.ix_model.specs.declared.reply.Kind.TheVariants as kind
 use Rattle.ix_model.specs.declared.reply.Reply.TheVariants as reply
-use Rattle.ix_worked.specs.OnPaths.{shelves, furnished, full, tight, seeking, looking_into_a_file, using_a_directory, making_again, crossing, removing_a_home, making_files, making_names, asking_for_objects, unlinking_an_open_file, looking_around, working_in_a_directory, sharing_blocks}
+use Rattle.ix_worked.specs.OnPaths.{crowded, poor, making_without_room, asking_without_room, full_with_a_root, making_one_name_more, freeing_blocks, unlinking_one_of_two, shelves, furnished, full, tight, seeking, looking_into_a_file, using_a_directory, making_again, crossing, removing_a_home, making_files, making_names, asking_for_objects, unlinking_an_open_file, looking_around, working_in_a_directory, sharing_blocks}
 use Rattle.ix_worked.specs.Sessions.{calls, Goes}
 use Rattle.ix_worked.proofs.Chains.{◌⨾◌, number, bytes, refused, answered, done, lines_given}
 use Rattle.ix_worked.proofs.Computing.{running, fitting}
@@ -88,8 +88,11 @@ at_tight = opening_world tight
 tight_open : World
 tight_open = with_entry 1 0 0 (opened 2 mode.Write) at_tight
 
+tight_once : World
+tight_once = moved 0 512 (holding 2 (replicate 512 65) [] tight_open)
+
 tight_full : World
-tight_full = moved 0 512 (holding 2 (replicate 512 65) [] tight_open)
+tight_full = moved 0 512 (holding 2 (replicate 512 66) [] tight_open)
 
 tight_new : World
 tight_new = with_made kind.File 1 4 (codes "k") 5 tight_full
@@ -100,7 +103,7 @@ tight_both = with_entry 1 1 1 (opened 5 mode.Write) tight_new
 -- opens all of them
 worlds : ℕ
 unfolding at_shelves in_d without_d with_a with_b at_furnished at_full one_less linked reading nameless beside read_all
-    gone reused kept at_tight tight_open tight_full tight_new tight_both
+    gone reused kept at_tight tight_open tight_once tight_full tight_new tight_both
 worlds = 0
 
 -- ---- the histories
@@ -242,11 +245,108 @@ unfolding running worlds
 sharing_blocks_ran = lines_given (opening_world tight) 1 (calls sharing_blocks)
     (number tight_open 0
     ∷ refused tight_open refusal.NoSpace
+    ∷ number tight_once 512
+    ∷ done (moved 0 0 tight_once)
     ∷ number tight_full 512
+    ∷ refused tight_full refusal.NoSpace
+    ∷ done tight_full
     ∷ number tight_new 5
     ∷ number tight_both 1
     ∷ refused tight_both refusal.NoSpace
     ∷ number (moved 1 512 (holding 5 (replicate 512 65) [] tight_both)) 512
     ∷ [])
-    ((simp labels refl, refl) ⨾ (refl, refl) ⨾ (simp labels refl, refl) ⨾ (simp labels refl, refl)
+    ((simp labels refl, refl) ⨾ (refl, refl) ⨾ (simp labels refl, refl) ⨾ (refl, refl)
+    ⨾ (simp labels refl, refl) ⨾ (refl, refl) ⨾ (simp labels refl, refl) ⨾ (simp labels refl, refl)
     ⨾ (simp labels refl, refl) ⨾ (refl, refl) ⨾ (simp labels refl, refl) ⨾ tt)
+
+pub full_with_a_root_fits : is_valid full_with_a_root ≡ true
+unfolding fitting
+full_with_a_root_fits = simp labels refl
+
+at_full_with_a_root : World
+at_full_with_a_root = opening_world full_with_a_root
+
+room_made : World
+room_made = with_object 0 (without_name (codes "a")) (with_new 1 None at_full_with_a_root)
+
+pub making_one_name_more_ran : Goes full_with_a_root making_one_name_more
+unfolding running at_full_with_a_root room_made
+making_one_name_more_ran = lines_given (opening_world full_with_a_root) 1 (calls making_one_name_more)
+    (refused at_full_with_a_root refusal.NoEntry
+    ∷ done room_made
+    ∷ number (with_made kind.File 1 32 (codes "q") 33 room_made) 33
+    ∷ [])
+    ((simp labels refl, refl) ⨾ (simp labels refl, refl) ⨾ (simp labels refl, refl) ⨾ tt)
+
+one_file_less : World
+one_file_less = with_object 0 (without_name (codes "n")) (with_new 1 None (holding 1 [] [] tight_open))
+
+pub freeing_blocks_ran : Goes tight freeing_blocks
+unfolding running worlds one_file_less
+freeing_blocks_ran = lines_given (opening_world tight) 1 (calls freeing_blocks)
+    (number tight_open 0
+    ∷ refused tight_open refusal.NoSpace
+    ∷ done one_file_less
+    ∷ number (moved 0 1024 (holding 2 (replicate 1024 65) [] one_file_less)) 1024
+    ∷ [])
+    ((simp labels refl, refl) ⨾ (refl, refl) ⨾ (simp labels refl, refl) ⨾ (simp labels refl, refl) ⨾ tt)
+
+second_name : World
+second_name = with_object 0 (without_name (codes "n")) linked
+
+no_name : World
+no_name = with_object 0 (without_name (codes "n")) (with_new 1 None (holding 1 [] [] at_shelves))
+
+pub unlinking_one_of_two_ran : Goes shelves unlinking_one_of_two
+unfolding running worlds second_name no_name
+unlinking_one_of_two_ran = lines_given (opening_world shelves) 1 (calls unlinking_one_of_two)
+    (done linked
+    ∷ done second_name
+    ∷ answered second_name (reply.Stat (record { 0 = 1 }) kind.File 3 1 false no_privileges no_privileges)
+    ∷ done no_name
+    ∷ number (with_made kind.File 0 0 (codes "x") 1 no_name) 1
+    ∷ [])
+    ((simp labels refl, refl) ⨾ (simp labels refl, refl) ⨾ (simp labels refl, refl) ⨾ (simp labels refl, refl)
+    ⨾ (simp labels refl, refl) ⨾ tt)
+
+pub crowded_fits : is_valid crowded ≡ true
+unfolding fitting
+crowded_fits = simp labels refl
+
+at_crowded : World
+at_crowded = opening_world crowded
+
+pub making_without_room_ran : Goes crowded making_without_room
+unfolding running at_crowded
+making_without_room_ran = lines_given (opening_world crowded) 1 (calls making_without_room)
+    (refused at_crowded refusal.Exists
+    ∷ refused at_crowded refusal.NoInode
+    ∷ refused at_crowded refusal.IsDir
+    ∷ refused at_crowded refusal.NotFound
+    ∷ refused at_crowded refusal.Exists
+    ∷ refused at_crowded refusal.CrossFs
+    ∷ refused at_crowded refusal.CrossFs
+    ∷ [])
+    ((simp labels refl, refl) ⨾ (simp labels refl, refl) ⨾ (simp labels refl, refl) ⨾ (simp labels refl, refl)
+    ⨾ (simp labels refl, refl) ⨾ (simp labels refl, refl) ⨾ (simp labels refl, refl) ⨾ tt)
+
+pub poor_fits : is_valid poor ≡ true
+unfolding fitting
+poor_fits = simp labels refl
+
+only_open : World
+only_open = with_entry 1 0 0 (opened 1 mode.Read) (opening_world poor)
+
+pub asking_without_room_ran : Goes poor asking_without_room
+unfolding running only_open
+asking_without_room_ran = lines_given (opening_world poor) 1 (calls asking_without_room)
+    (number only_open 0
+    ∷ refused only_open refusal.IsDir
+    ∷ refused only_open refusal.NotFound
+    ∷ refused only_open refusal.NoOpen
+    ∷ refused only_open refusal.NoInode
+    ∷ refused only_open refusal.BadFd
+    ∷ refused only_open refusal.NoSlot
+    ∷ [])
+    ((simp labels refl, refl) ⨾ (simp labels refl, refl) ⨾ (simp labels refl, refl) ⨾ (simp labels refl, refl)
+    ⨾ (refl, refl) ⨾ (refl, refl) ⨾ (refl, refl) ⨾ tt)

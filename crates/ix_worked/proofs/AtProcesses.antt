@@ -1,16 +1,16 @@
 -- The short histories of the calls on processes, entry by entry.
-use Rattle.std.proofs.Common.{◌≡◌, ℕ, true, [], ◌∷◌, refl}
+use Rattle.std.proofs.Common.{◌≡◌, ℕ, true, [], ◌∷◌, refl, Some, None, replicate}
 use Rattle.ix_model.specs.Opening.{opening_world}
 use Rattle.ix_model.specs.Valid.{is_valid}
-use Rattle.ix_model.specs.World.{World}
+use Rattle.ix_model.specs.World.{World, put}
 use Rattle.ix_model.specs.declared.refusal.Refusal.TheVariants as refusal
 use Rattle.ix_model.specs.declared.reply.Reply.TheVariants as reply
-use Rattle.ix_worked.specs.OnProcesses.{family, calling_as_nobody, calling_after_the_end, forking_often, waiting_for_a_child, ending_first, ending_out_of_order}
+use Rattle.ix_worked.specs.OnProcesses.{ending_with_a_pipe, keeping_some, family, calling_as_nobody, calling_after_the_end, forking_often, waiting_for_a_child, ending_first, ending_out_of_order}
 use Rattle.ix_worked.specs.Sessions.{calls, Goes}
 use Rattle.ix_worked.proofs.Chains.{◌⨾◌, number, refused, answered, done, lines_given}
 use Rattle.ix_worked.proofs.Computing.{running, fitting}
 use Rattle.ix_worked.proofs.Labels.{labels}
-use Rattle.ix_worked.proofs.Worlds.{with_child, with_ended, without_process}
+use Rattle.ix_worked.proofs.Worlds.{with_pipe, with_process, with_child, with_ended, without_process}
 
 -- ---- the configs are valid
 pub family_fits : is_valid family ≡ true
@@ -149,3 +149,35 @@ ending_out_of_order_ran = lines_given (opening_world family) 1 (calls ending_out
     ∷ [])
     ((refl, refl) ⨾ (refl, refl) ⨾ (refl, refl) ⨾ (refl, refl)
     ⨾ (simp labels refl, refl) ⨾ (simp labels refl, refl) ⨾ tt)
+
+pub ending_with_a_pipe_ran : Goes family ending_with_a_pipe
+unfolding running worlds
+ending_with_a_pipe_ran = lines_given (opening_world family) 1 (calls ending_with_a_pipe)
+    (number one_child 2
+    ∷ answered (with_pipe 2 4 0 1 0 1 one_child) (reply.Two (record { 0 = 0 }) (record { 0 = 1 }))
+    ∷ refused (with_pipe 2 4 0 1 0 1 one_child) refusal.NoInode
+    ∷ done one_ended
+    ∷ answered (with_pipe 1 4 0 1 0 1 one_ended) (reply.Two (record { 0 = 0 }) (record { 0 = 1 }))
+    ∷ [])
+    ((refl, refl) ⨾ (refl, refl) ⨾ (refl, refl) ⨾ (refl, refl)
+    ⨾ (refl, refl) ⨾ tt)
+
+-- a pipe and a child without descriptors, and another with one
+piped : World
+piped = with_pipe 1 4 0 1 0 1 alone
+
+two_kept : World
+two_kept = with_process 3 (λ p. record p { fds = put (replicate 32 None) 1 (Some 1) }) (with_child 1 (with_process 2 (λ p. record p { fds = replicate 32 None }) (with_child 1 piped)))
+
+pub keeping_some_ran : Goes family keeping_some
+unfolding running worlds piped two_kept
+keeping_some_ran = lines_given (opening_world family) 1 (calls keeping_some)
+    (answered piped (reply.Two (record { 0 = 0 }) (record { 0 = 1 }))
+    ∷ number (with_process 2 (λ p. record p { fds = replicate 32 None }) (with_child 1 piped)) 2
+    ∷ number two_kept 3
+    ∷ refused two_kept refusal.BadFd
+    ∷ refused two_kept refusal.BadFd
+    ∷ refused two_kept refusal.Again
+    ∷ [])
+    ((refl, refl) ⨾ (refl, refl) ⨾ (refl, refl) ⨾ (refl, refl)
+    ⨾ (refl, refl) ⨾ (simp labels refl, refl) ⨾ tt)

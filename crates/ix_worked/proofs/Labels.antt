@@ -72,6 +72,9 @@ leq-two_and_five_top = leq-two_top 2 5 (omega arith) (omega arith)
 pub leq-seven_five : leq seven five ≡ false
 leq-seven_five = leq-with_one bottom 7 5 refl
 
+pub leq-three_and_five_three : leq three_and_five three ≡ false
+leq-three_and_five_three = leq-with_one three 5 3 refl
+
 pub same-three_and_five_three : same three_and_five three ≡ false
 same-three_and_five_three = same-with_one three 5 3 refl
 
@@ -90,6 +93,6 @@ same-three_three_and_five = ap (λ b. b && leq three_and_five three) (leq-more t
 
 pub ruleset tops = (leq-three_top, leq-four_top, leq-five_top, leq-seven_top, leq-three_and_five_top, leq-two_and_five_top)
 
-pub ruleset between = (leq-seven_five, leq-three_five, leq-five_three, leq-top_three, same-three_and_five_three, same-three_three_and_five)
+pub ruleset between = (leq-seven_five, leq-three_five, leq-five_three, leq-top_three, leq-three_and_five_three, same-three_and_five_three, same-three_three_and_five)
 
 pub ruleset labels = (join-bottom, join-bottom_right, join-idem, join-more, join-less, leq-refl, bottom-leq, leq-with_bottom, leq-more, same-refl, same-with_bottom, same-bottom_with, tops, between)

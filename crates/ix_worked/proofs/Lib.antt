@@ -25,3 +25,4 @@ mod AtDescriptors
 mod AtPaths
 mod AtProcesses
 mod AtLabels
+mod Fitting

@@ -25,3 +25,4 @@ pub mod OnDescriptors
 pub mod OnPaths
 pub mod OnProcesses
 pub mod OnLabels
+pub mod Configs

@@ -211,3 +211,20 @@ using_numbers_again =
     ∷ (by 1 op.MakePipe, gives (reply.Two (record { 0 = 0 }) (record { 0 = 1 })) [] bottom)
     ∷ (by 1 (op.ReadFd 1 8), refuses refusal.Again bottom)
     ∷ []
+
+-- each call has two reasons to be refused: an end of a pipe, a claim, and what is open for reading, and too many bytes
+abbrev pub asking_too_much : List (Event × Line)
+asking_too_much =
+    (by 1 op.MakePipe, gives (reply.Two (record { 0 = 0 }) (record { 0 = 1 })) [] bottom)
+    ∷ (by 1 (op.SeekFd 0 1048577), refuses refusal.IsPipe bottom)
+    ∷ (by 1 (op.CutFd 0 1048577), refuses refusal.IsPipe bottom)
+    ∷ (by 1 (op.CloseFd 1), gives reply.Done [] bottom)
+    ∷ (by 1 (op.WriteFd 0 (replicate 4097 65)), refuses refusal.TooBig bottom)
+    ∷ (by 1 (op.Pex 0), gives reply.Half [] bottom)
+    ∷ (by 1 (op.Fork keep.All), gives (reply.Number 2) [] bottom)
+    ∷ (by 2 (op.ReadFd 0 4097), refuses refusal.PexHeld bottom)
+    ∷ (by 2 (op.WriteFd 0 (replicate 4097 65)), refuses refusal.PexHeld bottom)
+    ∷ (by 2 (op.OpenAt (in_root (codes "n")) mode.Read), gives (reply.Number 1) [] bottom)
+    ∷ (by 2 (op.WriteFd 1 (replicate 4097 65)), refuses refusal.NotWritable bottom)
+    ∷ (by 2 (op.CutFd 1 1048577), refuses refusal.NotWritable bottom)
+    ∷ []

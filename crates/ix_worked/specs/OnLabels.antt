@@ -52,6 +52,28 @@ officers = record
 abbrev pub heights : Config
 heights = record (small (replicate 5 (proc bottom top)) (file (codes "s") five [] ∷ dir (codes "h") five ∷ [])) { limits = record small_limits { procs = 8 } }
 
+-- proc a - 3 - -
+-- dir /h 3 free
+-- dir /k 3,5 free
+abbrev pub two_steps : Config
+two_steps = small (proc bottom three ∷ []) (dir (codes "h") three ∷ dir (codes "k") three_and_five ∷ [])
+
+-- file /prog - free T T x
+-- file /z - frozen - - x
+-- proc a - * - -
+abbrev pub program : Config
+program = small (proc bottom top ∷ []) (record (file (codes "prog") bottom []) { cap = to_thaw; lic = to_thaw } ∷ record (file (codes "z") bottom []) { frozen = true } ∷ [])
+
+-- fs root 3 4 4
+-- proc a 5 * - -
+-- proc b - 3 - -
+-- file /z - frozen - - x
+-- file /g - free - - x
+abbrev pub stiff_house : Config
+stiff_house = record
+    (small (proc five top ∷ proc bottom three ∷ []) (record (file (codes "z") bottom []) { frozen = true } ∷ file (codes "g") bottom [] ∷ []))
+    { fss = record small_fs { ceiling = three } ∷ [] }
+
 -- fs root 3 4 4
 -- proc a - 3 - -
 -- file /f - free - - x
@@ -218,3 +240,42 @@ raising_ceilings =
 
 abbrev pub raising_ceilings_log : List AuditLine
 raising_ceilings_log = log_line 1 1 act.Ceiling 2 top three ∷ log_line 2 1 act.Ceiling 2 three top ∷ []
+
+-- the first directory is at the ceiling, and the second above it
+abbrev pub walking_too_high : List (Event × Line)
+walking_too_high =
+    (by 1 (op.LinkAt (under (codes "h") (codes "x")) (under (codes "k") (codes "y"))), refuses refusal.ProcCeiling bottom)
+    ∷ (by 1 (op.CreateAt (under (codes "k") (codes "y"))), refuses refusal.ProcCeiling bottom)
+    ∷ (by 1 (op.StatAt (under (codes "h") (codes "x"))), refuses refusal.NotFound three)
+    ∷ []
+
+-- the program is executed, and its privileges pass to a child, which drops them
+abbrev pub handing_on : List (Event × Line)
+handing_on =
+    (by 1 (op.OpenAt (in_root (codes "prog")) mode.Both), gives (reply.Number 0) [] bottom)
+    ∷ (by 1 (op.CutFd 0 0), refuses refusal.Trusted bottom)
+    ∷ (by 1 (op.Exec (in_root (codes "prog"))), gives reply.Done [] bottom)
+    ∷ (by 1 (op.Fork keep.Nothing), gives (reply.Number 2) [] bottom)
+    ∷ (by 2 (op.Thaw (in_root (codes "z"))), gives reply.Done [] bottom)
+    ∷ (by 2 (op.DropLic to_thaw), gives reply.Done [] bottom)
+    ∷ (by 2 (op.Thaw (in_root (codes "z"))), refuses refusal.NoCapability bottom)
+    ∷ (by 1 (op.Thaw (in_root (codes "z"))), gives reply.Done [] bottom)
+    ∷ []
+
+abbrev pub handing_on_log : List AuditLine
+handing_on_log = log_line 5 2 act.ThawFile 2 bottom bottom ∷ log_line 8 1 act.ThawFile 2 bottom bottom ∷ []
+
+-- a frozen file whose label would pass its ceiling, and a frozen process whose label would pass its own
+abbrev pub moving_what_is_frozen : List (Event × Line)
+moving_what_is_frozen =
+    (by 1 (op.OpenAt (in_root (codes "z")) mode.Write), gives (reply.Number 0) [] five)
+    ∷ (by 1 (op.WriteFd 0 (codes "x")), refuses refusal.FileFrozen five)
+    ∷ (by 1 (op.SetLabel (in_root (codes "z")) five), refuses refusal.FileFrozen five)
+    ∷ (by 1 (op.SetLabel (in_root (codes "g")) five), refuses refusal.FsCeiling five)
+    ∷ (by 1 (op.Freeze (in_root (codes "g"))), refuses refusal.FsCeiling five)
+    ∷ (by 1 (op.Thaw (in_root (codes "no"))), refuses refusal.NotFound five)
+    ∷ (by 1 (op.Thaw (in_root (codes "z"))), refuses refusal.NoCapability five)
+    ∷ (by 2 (op.SetSelf five), refuses refusal.ProcCeiling bottom)
+    ∷ (by 2 op.FreezeSelf, gives reply.Done [] bottom)
+    ∷ (by 2 (op.SetSelf five), refuses refusal.ProcFrozen bottom)
+    ∷ []

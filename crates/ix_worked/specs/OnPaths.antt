@@ -4,12 +4,13 @@ use Rattle.ix_label.specs.Category.{bottom, top}
 use Rattle.ix_model.specs.History.{Event}
 use Rattle.ix_model.specs.History as op
 use Rattle.ix_model.specs.Privs.{to_lower, no_privileges}
+use Rattle.ix_model.specs.declared.call.Keep.TheVariants as keep
 use Rattle.ix_model.specs.declared.call.Mode.TheVariants as mode
 use Rattle.ix_model.specs.declared.config.Config.{Config}
 use Rattle.ix_model.specs.declared.refusal.Refusal.TheVariants as refusal
 use Rattle.ix_model.specs.declared.reply.Kind.TheVariants as kind
 use Rattle.ix_model.specs.declared.reply.Reply.TheVariants as reply
-use Rattle.ix_worked.specs.Scripts.{in_root, from_here, at_root, under, proc, file, dir, gives, by, refuses, here, small_fs, small}
+use Rattle.ix_worked.specs.Scripts.{small_limits, in_root, from_here, at_root, under, proc, file, dir, gives, by, refuses, here, small_fs, small}
 use Rattle.ix_worked.specs.Sessions.{Line}
 
 -- fs root * 4 4
@@ -43,6 +44,28 @@ furnished = record
 -- file /a - free - - x, and so on to /p
 abbrev pub full : Config
 full = record (small (proc bottom top ∷ []) (map (λ letter. file (letter ∷ []) bottom []) (codes "abcdefghijklmnop"))) { fss = record small_fs { inodes = 32 } ∷ [] }
+
+-- fs root * 4 32
+-- fs vol * 4 2
+-- proc a - * - -
+-- file /a - free - - x, and so on to /o
+abbrev pub full_with_a_root : Config
+full_with_a_root = record (small (proc bottom top ∷ []) (map (λ letter. file (letter ∷ []) bottom []) (codes "abcdefghijklmno")))
+    { fss = record small_fs { inodes = 32 } ∷ record small_fs { name = codes "vol"; inodes = 2 } ∷ [] }
+
+-- the same, where the second file system has its root alone
+abbrev pub crowded : Config
+crowded = record full_with_a_root { fss = record small_fs { inodes = 32 } ∷ record small_fs { name = codes "vol"; inodes = 1 } ∷ [] }
+
+-- limit procs 1
+-- limit opens 1
+-- limit pipes 0
+-- proc a - * - -
+-- file /n - free - - x
+-- dir /d - free
+abbrev pub poor : Config
+poor = record (small (proc bottom top ∷ []) (file (codes "n") bottom [] ∷ dir (codes "d") bottom ∷ []))
+    { limits = record small_limits { procs = 1; opens = 1; pipes = 0 } }
 
 -- fs root * 2 4
 -- fs vol * 1 2
@@ -188,14 +211,69 @@ working_in_a_directory =
     ∷ (by 1 (op.UnlinkAt (from_here (codes "x"))), gives reply.Done [] bottom)
     ∷ []
 
--- /n takes one of two blocks, and /vol has one
+-- /n takes one of two blocks, and /vol has one; what a file has already counts once
 abbrev pub sharing_blocks : List (Event × Line)
 sharing_blocks =
     (by 1 (op.OpenAt (in_root (codes "m")) mode.Write), gives (reply.Number 0) [] bottom)
     ∷ (by 1 (op.WriteFd 0 (replicate 513 65)), refuses refusal.NoSpace bottom)
     ∷ (by 1 (op.WriteFd 0 (replicate 512 65)), gives (reply.Number 512) [] bottom)
+    ∷ (by 1 (op.SeekFd 0 0), gives reply.Done [] bottom)
+    ∷ (by 1 (op.WriteFd 0 (replicate 512 66)), gives (reply.Number 512) [] bottom)
+    ∷ (by 1 (op.CutFd 0 513), refuses refusal.NoSpace bottom)
+    ∷ (by 1 (op.CutFd 0 512), gives reply.Done [] bottom)
     ∷ (by 1 (op.CreateAt (under (codes "vol") (codes "k"))), gives (reply.Number 5) [] bottom)
     ∷ (by 1 (op.OpenAt (under (codes "vol") (codes "k")) mode.Write), gives (reply.Number 1) [] bottom)
     ∷ (by 1 (op.WriteFd 1 (replicate 513 65)), refuses refusal.NoSpace bottom)
     ∷ (by 1 (op.WriteFd 1 (replicate 512 65)), gives (reply.Number 512) [] bottom)
+    ∷ []
+
+-- there are 16 names with that of the second file system
+abbrev pub making_one_name_more : List (Event × Line)
+making_one_name_more =
+    (by 1 (op.CreateAt (in_root (codes "q"))), refuses refusal.NoEntry bottom)
+    ∷ (by 1 (op.UnlinkAt (in_root (codes "a"))), gives reply.Done [] bottom)
+    ∷ (by 1 (op.CreateAt (under (codes "vol") (codes "q"))), gives (reply.Number 33) [] bottom)
+    ∷ []
+
+-- the other file goes, and the one that is open takes both blocks
+abbrev pub freeing_blocks : List (Event × Line)
+freeing_blocks =
+    (by 1 (op.OpenAt (in_root (codes "m")) mode.Write), gives (reply.Number 0) [] bottom)
+    ∷ (by 1 (op.WriteFd 0 (replicate 1024 65)), refuses refusal.NoSpace bottom)
+    ∷ (by 1 (op.UnlinkAt (in_root (codes "n"))), gives reply.Done [] bottom)
+    ∷ (by 1 (op.WriteFd 0 (replicate 1024 65)), gives (reply.Number 1024) [] bottom)
+    ∷ []
+
+-- the first name of two goes, and then the second
+abbrev pub unlinking_one_of_two : List (Event × Line)
+unlinking_one_of_two =
+    (by 1 (op.LinkAt (in_root (codes "n")) (under (codes "d") (codes "k"))), gives reply.Done [] bottom)
+    ∷ (by 1 (op.UnlinkAt (in_root (codes "n"))), gives reply.Done [] bottom)
+    ∷ (by 1 (op.StatAt (under (codes "d") (codes "k"))), gives (reply.Stat (record { 0 = 1 }) kind.File 3 1 false no_privileges no_privileges) [] bottom)
+    ∷ (by 1 (op.UnlinkAt (under (codes "d") (codes "k"))), gives reply.Done [] bottom)
+    ∷ (by 1 (op.CreateAt (in_root (codes "x"))), gives (reply.Number 1) [] bottom)
+    ∷ []
+
+-- there is no name left, and no inode on the second file system
+abbrev pub making_without_room : List (Event × Line)
+making_without_room =
+    (by 1 (op.CreateAt (in_root (codes "a"))), refuses refusal.Exists bottom)
+    ∷ (by 1 (op.CreateAt (under (codes "vol") (codes "q"))), refuses refusal.NoInode bottom)
+    ∷ (by 1 (op.LinkAt (in_root (codes "vol")) (in_root (codes "a"))), refuses refusal.IsDir bottom)
+    ∷ (by 1 (op.LinkAt (in_root (codes "x")) (in_root (codes "a"))), refuses refusal.NotFound bottom)
+    ∷ (by 1 (op.LinkAt (in_root (codes "a")) (in_root (codes "vol"))), refuses refusal.Exists bottom)
+    ∷ (by 1 (op.LinkAt (in_root (codes "a")) (under (codes "vol") (codes "q"))), refuses refusal.CrossFs bottom)
+    ∷ (by 1 (op.RemoveDir (in_root (codes "vol"))), refuses refusal.CrossFs bottom)
+    ∷ []
+
+-- the only open entry is in use, and there is no pipe and no slot
+abbrev pub asking_without_room : List (Event × Line)
+asking_without_room =
+    (by 1 (op.OpenAt (in_root (codes "n")) mode.Read), gives (reply.Number 0) [] bottom)
+    ∷ (by 1 (op.OpenAt (in_root (codes "d")) mode.Read), refuses refusal.IsDir bottom)
+    ∷ (by 1 (op.OpenAt (in_root (codes "x")) mode.Read), refuses refusal.NotFound bottom)
+    ∷ (by 1 (op.OpenAt (in_root (codes "n")) mode.Read), refuses refusal.NoOpen bottom)
+    ∷ (by 1 op.MakePipe, refuses refusal.NoInode bottom)
+    ∷ (by 1 (op.Fork (keep.One (record { 0 = 1 }))), refuses refusal.BadFd bottom)
+    ∷ (by 1 (op.Fork (keep.One (record { 0 = 0 }))), refuses refusal.NoSlot bottom)
     ∷ []

@@ -84,3 +84,24 @@ ending_out_of_order =
     ∷ (by 1 op.WaitChild, gives (reply.Child (record { 0 = 2 }) 3) [] bottom)
     ∷ (by 1 op.WaitChild, gives (reply.Child (record { 0 = 3 }) 5) [] bottom)
     ∷ []
+
+-- the child makes the only pipe there is, and ends
+abbrev pub ending_with_a_pipe : List (Event × Line)
+ending_with_a_pipe =
+    (by 1 (op.Fork keep.All), gives (reply.Number 2) [] bottom)
+    ∷ (by 2 op.MakePipe, gives (reply.Two (record { 0 = 0 }) (record { 0 = 1 })) [] bottom)
+    ∷ (by 1 op.MakePipe, refuses refusal.NoInode bottom)
+    ∷ (by 2 (op.Exit 3), gives reply.Done [] bottom)
+    ∷ (by 1 op.MakePipe, gives (reply.Two (record { 0 = 0 }) (record { 0 = 1 })) [] bottom)
+    ∷ []
+
+-- one child has none of its parent's descriptors, and another has the second
+abbrev pub keeping_some : List (Event × Line)
+keeping_some =
+    (by 1 op.MakePipe, gives (reply.Two (record { 0 = 0 }) (record { 0 = 1 })) [] bottom)
+    ∷ (by 1 (op.Fork keep.Nothing), gives (reply.Number 2) [] bottom)
+    ∷ (by 1 (op.Fork (keep.One (record { 0 = 1 }))), gives (reply.Number 3) [] bottom)
+    ∷ (by 2 (op.ReadFd 1 1), refuses refusal.BadFd bottom)
+    ∷ (by 3 (op.ReadFd 0 1), refuses refusal.BadFd bottom)
+    ∷ (by 3 (op.ReadFd 1 1), refuses refusal.Again bottom)
+    ∷ []

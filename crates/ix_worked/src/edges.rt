@@ -12,6 +12,7 @@ ghost use Rattle.ix_worked.specs.OnDescriptors.{
   closing_a_claimed_end,
   writing_in_the_middle,
   using_numbers_again,
+  asking_too_much,
 };
 ghost use Rattle.ix_worked.specs.OnPaths.{
   shelves,
@@ -22,8 +23,22 @@ ghost use Rattle.ix_worked.specs.OnPaths.{
   working_in_a_directory,
   tight,
   sharing_blocks,
+  full_with_a_root,
+  making_one_name_more,
+  freeing_blocks,
+  unlinking_one_of_two,
+  crowded,
+  making_without_room,
+  poor,
+  asking_without_room,
 };
-ghost use Rattle.ix_worked.specs.OnProcesses.{family, calling_after_the_end, ending_out_of_order};
+ghost use Rattle.ix_worked.specs.OnProcesses.{
+  family,
+  calling_after_the_end,
+  ending_out_of_order,
+  ending_with_a_pipe,
+  keeping_some,
+};
 ghost use Rattle.ix_worked.specs.OnLabels.{
   levels,
   freezing,
@@ -42,6 +57,13 @@ ghost use Rattle.ix_worked.specs.OnLabels.{
   making_names_high,
   raising_ceilings,
   raising_ceilings_log,
+  two_steps,
+  walking_too_high,
+  program,
+  handing_on,
+  handing_on_log,
+  stiff_house,
+  moving_what_is_frozen,
 };
 
 /// A read of no bytes is answered as any other: there may be more while the other end is held.
@@ -200,4 +222,88 @@ pub fn a_ceiling_of_another_is_a_line_of_the_log()
     ensures valid { is_valid officers ≡ true }
     ensures goes { Goes officers raising_ceilings }
     ensures logged { log_of officers (calls raising_ceilings) ≡ raising_ceilings_log }
+{}
+
+/// What a process alone kept open goes as it ends.
+#[tactic(auto, using(crate::proofs::AtProcesses::family_fits, crate::proofs::AtProcesses::ending_with_a_pipe_ran))]
+pub fn what_it_alone_kept_goes_with_a_process()
+    ensures valid { is_valid family ≡ true }
+    ensures goes { Goes family ending_with_a_pipe }
+{}
+
+/// A child has all descriptors of its parent, none of them, or one under its number.
+#[tactic(auto, using(crate::proofs::AtProcesses::family_fits, crate::proofs::AtProcesses::keeping_some_ran))]
+pub fn a_child_has_the_descriptors_that_it_is_given()
+    ensures valid { is_valid family ≡ true }
+    ensures goes { Goes family keeping_some }
+{}
+
+/// The names of further file systems count among the names that there are in all.
+#[tactic(auto, using(crate::proofs::AtPaths::full_with_a_root_fits, crate::proofs::AtPaths::making_one_name_more_ran))]
+pub fn names_of_file_systems_count()
+    ensures valid { is_valid full_with_a_root ≡ true }
+    ensures goes { Goes full_with_a_root making_one_name_more }
+{}
+
+/// The blocks of a file that goes are free again.
+#[tactic(auto, using(crate::proofs::AtPaths::tight_fits, crate::proofs::AtPaths::freeing_blocks_ran))]
+pub fn blocks_come_back()
+    ensures valid { is_valid tight ≡ true }
+    ensures goes { Goes tight freeing_blocks }
+{}
+
+/// A file that has two names lasts until both are removed.
+#[tactic(auto, using(crate::proofs::AtPaths::shelves_fits, crate::proofs::AtPaths::unlinking_one_of_two_ran))]
+pub fn a_file_lasts_while_it_has_a_name()
+    ensures valid { is_valid shelves ≡ true }
+    ensures goes { Goes shelves unlinking_one_of_two }
+{}
+
+/// A refusal at a ceiling leaves the label as it was, also where a look before it had passed. That a name is missing
+/// keeps it raised.
+#[tactic(auto, using(crate::proofs::AtLabels::two_steps_fits, crate::proofs::AtLabels::walking_too_high_ran))]
+pub fn a_refused_look_raises_nothing()
+    ensures valid { is_valid two_steps ≡ true }
+    ensures goes { Goes two_steps walking_too_high }
+{}
+
+/// A child has the privileges of its parent, also those that a program has brought, and what it drops its parent
+/// keeps. A program is not cut.
+#[tactic(auto, using(crate::proofs::AtLabels::program_fits, crate::proofs::AtLabels::handing_on_ran, crate::proofs::AtLabels::handing_on_logged))]
+pub fn privileges_pass_to_a_child()
+    ensures valid { is_valid program ≡ true }
+    ensures goes { Goes program handing_on }
+    ensures logged { log_of program (calls handing_on) ≡ handing_on_log }
+{}
+
+/// That a descriptor is on a pipe, is claimed or is not open that way is told before that there are too many bytes,
+/// and this before that a pipe is broken.
+#[tactic(auto, using(crate::proofs::AtDescriptors::desk_fits, crate::proofs::AtDescriptors::asking_too_much_ran))]
+pub fn too_many_bytes_are_told_late()
+    ensures valid { is_valid desk ≡ true }
+    ensures goes { Goes desk asking_too_much }
+{}
+
+/// What is wrong with a path is told before that an inode is missing, that before that a name is, and that a name
+/// would be on another file system before both.
+#[tactic(auto, using(crate::proofs::AtPaths::crowded_fits, crate::proofs::AtPaths::making_without_room_ran))]
+pub fn want_of_room_is_told_last()
+    ensures valid { is_valid crowded ≡ true }
+    ensures goes { Goes crowded making_without_room }
+{}
+
+/// What is asked for is looked at before there is room for it: a directory, a missing name, a descriptor that is
+/// none.
+#[tactic(auto, using(crate::proofs::AtPaths::poor_fits, crate::proofs::AtPaths::asking_without_room_ran))]
+pub fn what_is_asked_for_is_looked_at_before_room()
+    ensures valid { is_valid poor ≡ true }
+    ensures goes { Goes poor asking_without_room }
+{}
+
+/// That something is frozen is told before that its label would pass a ceiling, and a missing name before a missing
+/// capability.
+#[tactic(auto, using(crate::proofs::AtLabels::stiff_house_fits, crate::proofs::AtLabels::moving_what_is_frozen_ran))]
+pub fn a_frozen_mark_is_told_before_a_ceiling()
+    ensures valid { is_valid stiff_house ≡ true }
+    ensures goes { Goes stiff_house moving_what_is_frozen }
 {}

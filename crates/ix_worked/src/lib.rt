@@ -2,6 +2,7 @@
 //! what a history from a config gives, entry by entry, and the labels and the audit log at its end.
 #![tactic(auto)]
 
+pub mod configs;
 pub mod edges;
 pub mod refusals;
 

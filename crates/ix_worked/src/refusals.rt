@@ -1,5 +1,7 @@
 //! Refusals: when each of them comes, by the machine's definitions alone. These functions do nothing: each states what
-//! a short history gives on a small machine.
+//! a short history gives on a small machine. The refusals that aren't here come in the worked sessions: NotEmpty,
+//! ProcCeiling, FileFrozen, FsCeiling, Trusted, NoCapability, NoLicence, PexHeld, NoSpace, PipeFull, Broken, LogFull, Again
+//! and EndOfList.
 
 ghost use Rattle.std.specs.Prelude.{◌≡◌, true};
 ghost use Rattle.ix_model.specs.Valid.{is_valid};
