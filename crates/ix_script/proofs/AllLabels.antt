@@ -13,7 +13,7 @@ use Rattle.ix_script.specs.Labels.{labels_below, is_spelled, label_of}
 use Rattle.ix_model.proofs.Alike.{bytes_itself}
 use Rattle.ix_script.proofs.Names.{both}
 
-bool_cases : (b : Bool) → (b ≡ true) ⊎ (b ≡ false)
+pub bool_cases : (b : Bool) → (b ≡ true) ⊎ (b ≡ false)
 bool_cases true = inl refl
 bool_cases false = inr refl
 

@@ -1,81 +1,90 @@
--- The lines that are read, and those that are left.
-use Rattle.std.proofs.Common.{◌≡◌, ℕ, ◌+◌, ◌<◌, ◌≤◌, Bool, true, false, List, [], ◌∷◌, ◌++◌, length, take, drop, Some, None, is_some, refl, sym, ap, ◌∙◌, arith, add-one, take-append-drop, subst}
-use Rattle.std.proofs.lemmas.List.{take-take, append-nil}
+-- Reading line after line.
+use Rattle.std.proofs.Common.{◌≡◌, ℕ, ◌+◌, ◌<◌, ◌≤◌, true, List, [], ◌∷◌, ◌++◌, length, Option, Some, None, option_map, refl, sym, ap, ◌∙◌, subst, arith, append_assoc, length-append}
+use Rattle.std.proofs.lemmas.List.{append-nil}
+use Rattle.ix_model.specs.Valid.{is_valid}
+use Rattle.ix_script.specs.Before.{commands}
 use Rattle.ix_script.specs.Lines.{cut, lines_of}
-use Rattle.ix_script.specs.Order.{no_lines, with_text, with_texts, begins_script, script_of}
-use Rattle.ix_script.specs.Faults.{IsFault}
+use Rattle.ix_script.specs.Said.{both, line_of}
+use Rattle.ix_script.specs.Faults.{line_fault, fault_from}
+use Rattle.ix_script.specs.Scripts.{lines_said, config_of}
+use Rattle.ix_script.specs.Readers.{LineRight}
+use Rattle.ix_script.specs.Told.{DraftTold}
 use Rattle.ix_script.specs.declared.draft.Draft.{Draft}
-use Rattle.ix_script.proofs.Following.{texts_push, front_begins, taken}
-use Rattle.ix_script.proofs.Sound.{IsSound, sound_start, sound_next, next_lines}
+use Rattle.ix_script.specs.declared.line.Line.{Line}
+use Rattle.ix_script.proofs.Counting.{no_commands, commands_stay_few}
+use Rattle.ix_script.proofs.Staying.{valid_next}
 
--- the draft says what the lines say that stand before the rest of the bytes
-pub record Reading (lines : List (List ℕ)) (total : ℕ) (rest : List ℕ) (d : Draft) : Type 0 where
-  pub so_far : with_texts no_lines (take d.lines lines) ≡ Some d
-  pub left : drop d.lines lines ≡ cut rest
-  pub fewer : d.lines + length rest ≤ total
-  pub sound : IsSound d
+abbrev pub after : List Line → Option (List Line) → Option (List Line)
+after front more = option_map (λ lines. front ++ lines) more
 
-pub start : (bytes : List ℕ) → Reading (cut bytes) (length bytes) bytes no_lines
-unfolding with_texts no_lines
-start bytes = record { so_far = refl; left = refl; fewer = omega arith; sound = sound_start }
+-- what was read, and what is still to be read
+pub record Reading (texts : List (List ℕ)) (total : ℕ) (rest : List ℕ) (d : Draft) : Type 0 where
+  pub told : DraftTold d
+  pub valid : is_valid (config_of d.lines) ≡ true
+  pub fault : fault_from d.lines (cut rest) ≡ fault_from [] texts
+  pub said : after d.lines (lines_said (cut rest)) ≡ lines_said texts
+  pub short : length d.lines + length rest ≤ total
+  pub few_commands : commands d.lines ≤ 200000
 
-one_more : (lines : List (List ℕ)) (total : ℕ) (rest : List ℕ) (d : Draft) (text more : List ℕ) → Reading lines total rest d → cut rest ≡ text ∷ cut more → with_texts no_lines (take (d.lines + 1) lines) ≡ with_text d text
-one_more lines total rest d text more r first =
-    let front = taken lines d.lines text (cut more) (r.left ∙ first) in
-    rw (add-one, front.0, texts_push no_lines (take d.lines lines) text, r.so_far) refl
+-- ---- a line without a fault
+fault_later : (before : List Line) (text : List ℕ) (texts : List (List ℕ)) (l : Line) → line_fault before text ≡ None → line_of text ≡ Some l → fault_from before (text ∷ texts) ≡ fault_from (before ++ l ∷ []) texts
+unfolding fault_from
+fault_later before text texts l h m = rw (h, m) refl
 
-pub goes_on : (lines : List (List ℕ)) (total : ℕ) (rest : List ℕ) (d : Draft) (text more : List ℕ) (e : Draft) → Reading lines total rest d → cut rest ≡ text ∷ cut more → length more < length rest → with_text d text ≡ Some e → Reading lines total more e
-goes_on lines total rest d text more e r first less is =
-    let front = taken lines d.lines text (cut more) (r.left ∙ first) in
-    let next : e.lines ≡ d.lines + 1 = next_lines d text e is in
+regroup : (front : List Line) (l : Line) (more : Option (List Line)) → after front (option_map (λ (x : Line × List Line). x.0 ∷ x.1) (both (Some l) more)) ≡ after (front ++ l ∷ []) more
+regroup front l None = refl
+regroup front l (Some lines) = ap (λ (ls : List Line). Some ls) (sym (append_assoc front (l ∷ []) lines))
+
+said_later : (before : List Line) (text : List ℕ) (texts : List (List ℕ)) (l : Line) → line_of text ≡ Some l → after before (lines_said (text ∷ texts)) ≡ after (before ++ l ∷ []) (lines_said texts)
+unfolding lines_said
+said_later before text texts l m = rw m (regroup before l (lines_said texts))
+
+pub goes_on : (texts : List (List ℕ)) (total : ℕ) (rest : List ℕ) (d e : Draft) (text more : List ℕ) (l : Line) → Reading texts total rest d → cut rest ≡ text ∷ cut more → length more < length rest
+    → LineRight d.lines l (line_fault d.lines text) (line_of text) → DraftTold e → e.lines ≡ d.lines ++ l ∷ [] → Reading texts total more e
+goes_on texts total rest d e text more l r first fewer right told is =
     record {
-      so_far = ap (λ n. with_texts no_lines (take n lines)) next ∙ one_more lines total rest d text more r first ∙ is;
-      left = ap (λ n. drop n lines) (next ∙ add-one d.lines) ∙ front.1;
-      fewer = omega (arith, r.fewer);
-      sound = sound_next d text e is r.sound;
+      told = told;
+      valid = subst (λ (ls : List Line). is_valid (config_of ls) ≡ true) (sym is) (valid_next d.lines text l r.valid right.faultless right.meant right.fits);
+      fault = ap (λ (ls : List Line). fault_from ls (cut more)) is ∙ sym (fault_later d.lines text (cut more) l right.faultless right.meant) ∙ ap (fault_from d.lines) (sym first) ∙ r.fault;
+      said = ap (λ (ls : List Line). after ls (lines_said (cut more))) is ∙ sym (said_later d.lines text (cut more) l right.meant) ∙ ap (λ (ts : List (List ℕ)). after d.lines (lines_said ts)) (sym first) ∙ r.said;
+      short = let long : length e.lines ≡ length d.lines + 1 = ap length is ∙ length-append d.lines (l ∷ []) in let s = r.short in omega arith;
+      few_commands = subst (λ (ls : List Line). commands ls ≤ 200000) (sym is) (commands_stay_few d.lines l right.fits r.few_commands);
     }
 
-pub no_more : (lines : List (List ℕ)) (total : ℕ) (d : Draft) → Reading lines total [] d → with_texts no_lines lines ≡ Some d
-unfolding cut
-no_more lines total d r =
-    let whole : take d.lines lines ≡ lines = sym (append-nil (take d.lines lines)) ∙ ap (λ (xs : List (List ℕ)). take d.lines lines ++ xs) (sym r.left) ∙ take-append-drop d.lines lines in
-    ap (with_texts no_lines) (sym whole) ∙ r.so_far
+-- ---- a line with a fault
+fault_here : (before : List Line) (text : List ℕ) (texts : List (List ℕ)) (n : ℕ) → line_fault before text ≡ Some n → fault_from before (text ∷ texts) ≡ Some (length before + 1, n)
+unfolding fault_from
+fault_here before text texts n h = rw h refl
 
-begins_by : (lines : List (List ℕ)) (d : Draft) → with_texts no_lines lines ≡ Some d → begins_script lines ≡ true
-unfolding begins_script
-begins_by lines d h = ap is_some h
+pub stops : (texts : List (List ℕ)) (total : ℕ) (rest : List ℕ) (d : Draft) (text more : List ℕ) (n : ℕ) → Reading texts total rest d → cut rest ≡ text ∷ cut more → line_fault d.lines text ≡ Some n → fault_from [] texts ≡ Some (length d.lines + 1, n)
+stops texts total rest d text more n r first h = sym r.fault ∙ ap (fault_from d.lines) first ∙ fault_here d.lines text (cut more) n h
 
-not_by : (lines : List (List ℕ)) → with_texts no_lines lines ≡ None → begins_script lines ≡ false
-unfolding begins_script
-not_by lines h = ap is_some h
+-- ---- no line more
+pub faultless : (texts : List (List ℕ)) (total : ℕ) (d : Draft) → Reading texts total [] d → fault_from [] texts ≡ None
+unfolding fault_from cut
+faultless texts total d r = sym r.fault
 
-none_by : (lines : List (List ℕ)) → begins_script lines ≡ false → with_texts no_lines lines ≡ None
-unfolding begins_script
-none_by lines h = elim (with_texts no_lines lines) as (λ o. is_some o ≡ false → o ≡ None) [ None ↦ λ k. refl | Some d ↦ λ k. cc ] h
+pub all_said : (texts : List (List ℕ)) (total : ℕ) (d : Draft) → Reading texts total [] d → lines_said texts ≡ Some d.lines
+unfolding lines_said cut
+all_said texts total d r = sym r.said ∙ ap (λ (ls : List Line). Some ls) (append-nil d.lines)
 
-not_true : (b : Bool) → (b ≡ true → false ≡ true) → b ≡ false
-not_true true h = sym (h refl)
-not_true false h = refl
+-- ---- before any line
+after_none : (more : Option (List Line)) → after [] more ≡ more
+after_none None = refl
+after_none (Some lines) = refl
 
-pub broken_at : (lines : List (List ℕ)) (total : ℕ) (rest : List ℕ) (d : Draft) (text more : List ℕ) → Reading lines total rest d → cut rest ≡ text ∷ cut more → with_text d text ≡ None → begins_script (take (d.lines + 1) lines) ≡ false
-broken_at lines total rest d text more r first is = not_by (take (d.lines + 1) lines) (one_more lines total rest d text more r first ∙ is)
-
-pub least_at : (lines : List (List ℕ)) (total : ℕ) (rest : List ℕ) (d : Draft) → Reading lines total rest d → (m : ℕ) → m < d.lines + 1 → begins_script (take m lines) ≡ true
-least_at lines total rest d r m h =
-    let low : m ≤ d.lines = omega arith in
-    subst (λ (xs : List (List ℕ)). begins_script xs ≡ true) (take-take m d.lines lines low) (front_begins (take d.lines lines) m (begins_by (take d.lines lines) d r.so_far))
-
-pub no_script : (lines : List (List ℕ)) (n : ℕ) → begins_script (take n lines) ≡ false → with_texts no_lines lines ≡ None
-no_script lines n h = none_by lines (not_true (begins_script lines) (λ k. sym h ∙ front_begins lines n k))
+pub start : (bytes : List ℕ) (d : Draft) → DraftTold d → d.lines ≡ [] → is_valid (config_of []) ≡ true → Reading (cut bytes) (length bytes) bytes d
+start bytes d told none valid =
+    record {
+      told = told;
+      valid = subst (λ (ls : List Line). is_valid (config_of ls) ≡ true) (sym none) valid;
+      fault = ap (λ (ls : List Line). fault_from ls (cut bytes)) none;
+      said = ap (λ (ls : List Line). after ls (lines_said (cut bytes))) none ∙ after_none (lines_said (cut bytes));
+      short = let long : length d.lines ≡ 0 = ap length none in omega arith;
+      few_commands = subst (λ (ls : List Line). commands ls ≤ 200000) (sym none) no_commands;
+    }
 
 pub lines_cut : (bytes : List ℕ) → 0 < length bytes → lines_of bytes ≡ cut bytes
 unfolding lines_of
 lines_cut [] h = absurd (omega arith)
 lines_cut (b ∷ bytes) h = refl
-
-pub fault_at : (bytes rest : List ℕ) (d : Draft) (text more : List ℕ) → 0 < length bytes → Reading (cut bytes) (length bytes) rest d → cut rest ≡ text ∷ cut more → with_text d text ≡ None → (script_of bytes ≡ None) × IsFault bytes (d.lines + 1)
-unfolding script_of
-fault_at bytes rest d text more some r first is =
-    let broken : begins_script (take (d.lines + 1) (cut bytes)) ≡ false = broken_at (cut bytes) (length bytes) rest d text more r first is in
-    let none : with_texts no_lines (cut bytes) ≡ None = no_script (cut bytes) (d.lines + 1) broken in
-    rw (lines_cut bytes some) (rw none refl, record { broken = rw (lines_cut bytes some) broken; least = λ m h. rw (lines_cut bytes some) (least_at (cut bytes) (length bytes) rest d r m h) })

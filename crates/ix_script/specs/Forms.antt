@@ -1,134 +1,194 @@
--- The forms of the lines, and what each line says.
-use Rattle.std.specs.Prelude.{ℕ, ◌==◌, ◌&&◌, nat_le, Bool, false, not, List, length, Option, Some, None, if◌then◌else◌, codes}
-use Rattle.std.specs.List.{list_all, list_any}
+-- The forms of lines: their first words, and what may stand at their places.
+use Rattle.std.specs.Prelude.{ℕ, suc, ◌+◌, ◌==◌, nat_le, Bool, true, false, not, ◌&&◌, ◌||◌, List, [], ◌∷◌, ◌++◌, length, Option, Some, None, if◌then◌else◌, codes}
+use Rattle.std.specs.Option.{option_or}
+use Rattle.std.proofs.Common.{option_map}
 use Rattle.ix_model.specs.Naming.{same_bytes}
-use Rattle.ix_model.specs.Privs.{no_privileges}
-use Rattle.ix_model.specs.Valid.{is_within}
-use Rattle.ix_model.specs.declared.call.Mode.{Mode}
-use Rattle.ix_script.specs.Readers.{◌>>=◌}
-use Rattle.ix_script.specs.Labels.{label_of}
-use Rattle.ix_script.specs.Words.{split, split_2, split_3, name_of, number_of, number_within, path_of, mode_of, fd_of, payload_of}
-use Rattle.ix_script.specs.declared.line.Line.{Line}
-use Rattle.ix_script.specs.declared.line.Line.TheVariants as line
-use Rattle.ix_script.specs.declared.script.Deed.TheVariants as deed
+use Rattle.ix_script.specs.Cutting.{is_empty, word_at}
+use Rattle.ix_script.specs.Kinds.{Kind, Place}
+use Rattle.ix_script.specs.Kinds as kind
+use Rattle.ix_script.specs.declared.form.Form.{Form}
+use Rattle.ix_script.specs.declared.form.Form.TheVariants as form
+use Rattle.ix_script.specs.declared.form.Plain.{Plain}
+use Rattle.ix_script.specs.declared.form.Plain.TheVariants as plain
+use Rattle.ix_script.specs.declared.form.OnPath.{OnPath}
+use Rattle.ix_script.specs.declared.form.OnPath.TheVariants as on_path
+use Rattle.ix_script.specs.declared.form.OnFd.{OnFd}
+use Rattle.ix_script.specs.declared.form.OnFd.TheVariants as on_fd
+use Rattle.ix_script.specs.declared.form.Counted.{Counted}
+use Rattle.ix_script.specs.declared.form.Counted.TheVariants as counted
 
--- goes on where the test passes
-abbrev pub only_if : Bool → Option (Unit {0})
-only_if test = if test then Some tt else None
-
--- ---- the header
--- fs root LABEL BLOCKS INODES
-unfoldable pub fs_line : List ℕ → Option Line
-fs_line text = do
-  w ← split_3 text
-  _ ← only_if (same_bytes w.0 (codes "root"))
-  ceiling ← label_of w.1
-  blocks ← number_within 1 65536 w.2
-  inodes ← number_within 1 65536 w.3
-  Some (line.Fs (record { name = codes "root"; ceiling = ceiling; blocks = blocks; inodes = inodes }))
-
--- proc NAME LABEL CEILING - -
-unfoldable pub proc_line : List ℕ → Option Line
-proc_line text = do
-  w ← split_3 text
-  name ← name_of w.0
-  label ← label_of w.1
-  ceiling ← label_of w.2
-  _ ← only_if (same_bytes w.3 (codes "- -"))
-  Some (line.Proc name (record { label = label; ceiling = ceiling; cap = no_privileges; lic = no_privileges }))
-
--- file PATH LABEL free - - PAYLOAD
-unfoldable pub file_line : List ℕ → Option Line
-file_line text = do
-  w ← split_3 text
-  sets ← split_2 w.3
-  path ← path_of w.0
-  label ← label_of w.1
-  _ ← only_if (same_bytes w.2 (codes "free") && same_bytes sets.0 (codes "-") && same_bytes sets.1 (codes "-"))
-  bytes ← payload_of 1048576 sets.2
-  Some (line.File (record { path = path; dir = false; label = label; frozen = false; cap = no_privileges; lic = no_privileges; bytes = bytes }))
-
--- ---- the body
--- lane NAME
-unfoldable pub lane_line : List ℕ → Option Line
-lane_line text = do
-  name ← name_of text
-  Some (line.Lane name)
-
--- r|w|rw
-unfoldable pub plain_opening : List ℕ → Option (Mode × Option (List ℕ))
-plain_opening text = do
-  mode ← mode_of text
-  Some (mode, None)
-
--- r|w|rw as F
-unfoldable pub named_opening : List ℕ → Option (Mode × Option (List ℕ))
-named_opening text = do
-  w ← split_2 text
-  mode ← mode_of w.0
-  _ ← only_if (same_bytes w.1 (codes "as"))
-  name ← name_of w.2
-  Some (mode, Some name)
-
--- r|w|rw [as F]
-unfoldable pub opening_of : List ℕ → Option (Mode × Option (List ℕ))
-opening_of text = if list_any (λ b. b == 32) text then named_opening text else plain_opening text
-
--- open PROC PATH r|w|rw [as F]
-unfoldable pub open_line : List ℕ → Option Line
-open_line text = do
-  w ← split_2 text
-  proc ← name_of w.0
-  path ← path_of w.1
-  opening ← opening_of w.2
-  Some (line.Do proc (deed.Open path opening.0 opening.1))
-
--- read PROC FD NUMBER
-unfoldable pub read_line : List ℕ → Option Line
-read_line text = do
-  w ← split_2 text
-  proc ← name_of w.0
-  fd ← fd_of w.1
-  count ← number_of w.2
-  Some (line.Do proc (deed.Read fd count))
-
--- write PROC FD PAYLOAD
-unfoldable pub write_line : List ℕ → Option Line
-write_line text = do
-  w ← split_2 text
-  proc ← name_of w.0
-  fd ← fd_of w.1
-  bytes ← payload_of 4096 w.2
-  Some (line.Do proc (deed.Write fd bytes))
-
--- self PROC
-unfoldable pub self_line : List ℕ → Option Line
-self_line text = do
-  proc ← name_of text
-  Some (line.Do proc deed.SelfLabel)
-
--- ---- all forms
--- a line by its first word
-unfoldable pub line_by_word : List ℕ → List ℕ → Option Line
-line_by_word word rest =
-    if same_bytes word (codes "fs") then fs_line rest
-    else if same_bytes word (codes "proc") then proc_line rest
-    else if same_bytes word (codes "file") then file_line rest
-    else if same_bytes word (codes "lane") then lane_line rest
-    else if same_bytes word (codes "open") then open_line rest
-    else if same_bytes word (codes "read") then read_line rest
-    else if same_bytes word (codes "write") then write_line rest
-    else if same_bytes word (codes "self") then self_line rest
+-- ---- first words
+-- commands that take a process alone
+unfoldable pub plain_of : List ℕ → Option Plain
+plain_of word =
+    if same_bytes word (codes "wait") then Some plain.Wait
+    else if same_bytes word (codes "self") then Some plain.Self_
+    else if same_bytes word (codes "freezeself") then Some plain.Freezeself
+    else if same_bytes word (codes "thawself") then Some plain.Thawself
     else None
 
--- at most 65,536 bytes, each printable
-unfoldable pub is_text : List ℕ → Bool
-is_text text = nat_le (length text) 65536 && list_all (is_within 32 126) text
+-- commands that take a process and a path
+unfoldable pub on_path_of : List ℕ → Option OnPath
+on_path_of word =
+    if same_bytes word (codes "create") then Some on_path.Create
+    else if same_bytes word (codes "mkdir") then Some on_path.Mkdir
+    else if same_bytes word (codes "unlink") then Some on_path.Unlink
+    else if same_bytes word (codes "rmdir") then Some on_path.Rmdir
+    else if same_bytes word (codes "chdir") then Some on_path.Chdir
+    else if same_bytes word (codes "stat") then Some on_path.Stat
+    else if same_bytes word (codes "exec") then Some on_path.Exec
+    else if same_bytes word (codes "labelof") then Some on_path.Labelof
+    else if same_bytes word (codes "freeze") then Some on_path.Freeze
+    else if same_bytes word (codes "thaw") then Some on_path.Thaw
+    else None
 
--- what a line says, where it is of one of the forms
-unfoldable pub line_of : List ℕ → Option Line
-line_of text =
-    if not (is_text text) then None
-    else if same_bytes text (codes "ix 1") then Some line.Version
-    else if same_bytes text (codes "phase") then Some line.Phase
-    else split text >>= λ w. line_by_word w.0 w.1
+-- commands that take a process and a descriptor
+unfoldable pub on_fd_of : List ℕ → Option OnFd
+on_fd_of word =
+    if same_bytes word (codes "close") then Some on_fd.Close
+    else if same_bytes word (codes "pex") then Some on_fd.Pex
+    else if same_bytes word (codes "unpex") then Some on_fd.Unpex
+    else if same_bytes word (codes "priv") then Some on_fd.Priv
+    else None
+
+-- commands that take a process, a descriptor and a number
+unfoldable pub counted_of : List ℕ → Option Counted
+counted_of word =
+    if same_bytes word (codes "read") then Some counted.Read
+    else if same_bytes word (codes "cut") then Some counted.Cut
+    else if same_bytes word (codes "seek") then Some counted.Seek
+    else None
+
+-- lines that aren't commands
+unfoldable pub frame_form : List ℕ → Option Form
+frame_form word =
+    if same_bytes word (codes "limit") then Some form.Limit
+    else if same_bytes word (codes "fs") then Some form.Fs
+    else if same_bytes word (codes "proc") then Some form.Proc
+    else if same_bytes word (codes "dir") then Some form.Dir
+    else if same_bytes word (codes "file") then Some form.File
+    else if same_bytes word (codes "phase") then Some form.Phase
+    else if same_bytes word (codes "lane") then Some form.Lane
+    else None
+
+-- commands of those four groups
+unfoldable pub group_form : List ℕ → Option Form
+group_form word =
+    option_or (option_map (λ c. form.Plain c) (plain_of word))
+    (option_or (option_map (λ c. form.OnPath c) (on_path_of word))
+    (option_or (option_map (λ c. form.OnFd c) (on_fd_of word)) (option_map (λ c. form.Counted c) (counted_of word))))
+
+-- commands on descriptors and paths
+unfoldable pub file_form : List ℕ → Option Form
+file_form word =
+    if same_bytes word (codes "open") then Some form.Open
+    else if same_bytes word (codes "write") then Some form.Write
+    else if same_bytes word (codes "dup") then Some form.Dup
+    else if same_bytes word (codes "pipe") then Some form.Pipe
+    else if same_bytes word (codes "link") then Some form.Link
+    else if same_bytes word (codes "list") then Some form.List
+    else if same_bytes word (codes "copy") then Some form.Copy
+    else if same_bytes word (codes "setlabel") then Some form.Setlabel
+    else if same_bytes word (codes "setpriv") then Some form.Setpriv
+    else None
+
+-- commands on processes
+unfoldable pub process_form : List ℕ → Option Form
+process_form word =
+    if same_bytes word (codes "fork") then Some form.Fork
+    else if same_bytes word (codes "exit") then Some form.Exit
+    else if same_bytes word (codes "setself") then Some form.Setself
+    else if same_bytes word (codes "droplic") then Some form.Droplic
+    else if same_bytes word (codes "grant") then Some form.Grant
+    else if same_bytes word (codes "ceiling") then Some form.Ceiling
+    else if same_bytes word (codes "readlog") then Some form.Readlog
+    else if same_bytes word (codes "login") then Some form.Login
+    else None
+
+-- the form of a line by its first word
+unfoldable pub form_of : List ℕ → Option Form
+form_of word = option_or (frame_form word) (option_or (group_form word) (option_or (file_form word) (process_form word)))
+
+-- ---- places
+-- what may stand after the first word
+abbrev pub kinds : Form → List (List ℕ) → List Kind
+kinds form.Limit words = kind.Limited ∷ (kind.Bound (word_at words 1)) ∷ []
+kinds form.Fs words = kind.Own ∷ kind.Label ∷ (kind.Number 1 65536) ∷ (kind.Number 1 65536) ∷ []
+kinds form.Proc words = kind.Own ∷ kind.Label ∷ kind.Label ∷ kind.Privs ∷ kind.Privs ∷ []
+kinds form.Dir words = kind.MadePath ∷ kind.Label ∷ kind.State ∷ []
+kinds form.File words = kind.MadePath ∷ kind.Label ∷ kind.State ∷ kind.Privs ∷ kind.Privs ∷ (kind.Payload 1048576) ∷ []
+kinds form.Phase words = []
+kinds form.Lane words = kind.Own ∷ []
+kinds (form.Plain c) words = kind.Proc ∷ []
+kinds (form.OnPath c) words = kind.Proc ∷ kind.AnyPath ∷ []
+kinds (form.OnFd c) words = kind.Proc ∷ kind.Fd ∷ []
+kinds (form.Counted c) words = kind.Proc ∷ kind.Fd ∷ (kind.Number 0 4294967295) ∷ []
+kinds form.Open words = kind.Proc ∷ kind.AnyPath ∷ kind.Mode ∷ []
+kinds form.Write words = kind.Proc ∷ kind.Fd ∷ (kind.Payload 4096) ∷ []
+kinds form.Dup words = kind.Proc ∷ kind.Fd ∷ []
+kinds form.Pipe words = kind.Proc ∷ []
+kinds form.Link words = kind.Proc ∷ kind.AnyPath ∷ kind.AnyPath ∷ []
+kinds form.List words = kind.Proc ∷ kind.AnyPath ∷ (kind.Number 0 4294967295) ∷ []
+kinds form.Copy words = kind.Proc ∷ kind.Fd ∷ kind.Fd ∷ (kind.Number 0 4294967295) ∷ []
+kinds form.Setlabel words = kind.Proc ∷ kind.AnyPath ∷ kind.Label ∷ []
+kinds form.Setpriv words = kind.Proc ∷ kind.AnyPath ∷ kind.Privs ∷ kind.Privs ∷ []
+kinds form.Fork words = kind.Proc ∷ kind.Keep ∷ []
+kinds form.Exit words = kind.Proc ∷ (kind.Number 0 255) ∷ []
+kinds form.Setself words = kind.Proc ∷ kind.Label ∷ []
+kinds form.Droplic words = kind.Proc ∷ kind.Privs ∷ []
+kinds form.Grant words = kind.Proc ∷ kind.Proc ∷ kind.Privs ∷ []
+kinds form.Ceiling words = kind.Proc ∷ kind.Proc ∷ kind.Label ∷ []
+kinds form.Readlog words = kind.Proc ∷ (kind.Number 0 4294967295) ∷ []
+kinds form.Login words = kind.Proc ∷ kind.Fd ∷ kind.Fd ∷ []
+
+-- the names that may stand after `as`
+abbrev pub tail_of : Form → List Kind
+tail_of form.Open = kind.NewFd ∷ []
+tail_of form.Dup = kind.NewFd ∷ []
+tail_of form.Pipe = kind.NewFd ∷ kind.NewFd ∷ []
+tail_of form.Fork = kind.NewProc ∷ []
+tail_of form.Login = kind.NewProc ∷ []
+tail_of _ = []
+
+-- the places of these kinds, from that word on
+abbrev pub places_from : ℕ → List Kind → List (List ℕ) → List Place
+places_from i [] words = []
+places_from i (k ∷ ks) words = (k, word_at words i) ∷ places_from (suc i) ks words
+
+-- the places of a form's own words
+abbrev pub own_places : Form → List (List ℕ) → List Place
+own_places f words = places_from 1 (kinds f words) words
+
+-- the places of names after `as`, which is the word at that place; where the line ends before it there are none
+abbrev pub tail_places : List Kind → ℕ → List (List ℕ) → List Place
+tail_places [] n words = []
+tail_places (k ∷ ks) n words = if nat_le (length words) n then [] else places_from (n + 1) (k ∷ ks) words
+
+abbrev pub named_places : Form → List (List ℕ) → List Place
+named_places f words = tail_places (tail_of f) (1 + length (kinds f words)) words
+
+-- all places of a line
+abbrev pub places : Form → List (List ℕ) → List Place
+places f words = own_places f words ++ named_places f words
+
+-- the words of the form, and no others but `as` with its names
+abbrev pub has_right_count : Form → List (List ℕ) → Bool
+has_right_count f words =
+    length words == 1 + length (kinds f words)
+    || (not (is_empty (tail_of f)) && length words == 2 + length (kinds f words) + length (tail_of f) && same_bytes (word_at words (1 + length (kinds f words))) (codes "as"))
+
+-- ---- where a form may stand
+-- a line of the header
+abbrev pub is_header : Form → Bool
+is_header form.Limit = true
+is_header form.Fs = true
+is_header form.Proc = true
+is_header form.Dir = true
+is_header form.File = true
+is_header _ = false
+
+-- a command
+abbrev pub is_command_form : Form → Bool
+is_command_form form.Phase = false
+is_command_form form.Lane = false
+is_command_form f = not (is_header f)

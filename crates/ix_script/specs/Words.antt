@@ -1,36 +1,20 @@
--- The words of a script: names, numbers, paths, payloads.
-use Rattle.std.specs.Prelude.{ℕ, ◌+◌, ◌*◌, ◌-◌, ◌==◌, nat_le, Bool, true, false, not, ◌&&◌, ◌||◌, List, [], ◌∷◌, length, take, drop, position, Option, Some, None, if◌then◌else◌, codes, slice_get}
-use Rattle.std.specs.Option.{option_map_or}
+-- The words of a script: names, numbers, sets of privileges, paths, modes, states and descriptors.
+use Rattle.std.specs.Prelude.{ℕ, ◌+◌, ◌*◌, ◌-◌, ◌==◌, nat_le, Bool, true, false, not, ◌&&◌, ◌||◌, List, [], ◌∷◌, length, drop, Option, Some, None, if◌then◌else◌, codes}
 use Rattle.std.specs.List.{list_all}
 use Rattle.std.proofs.Common.{option_map}
 use Rattle.ix_model.specs.Naming.{PathOf, is_name, same_bytes}
 use Rattle.ix_model.specs.Valid.{is_within}
 use Rattle.ix_model.specs.declared.call.Mode.{Mode}
 use Rattle.ix_model.specs.declared.call.Mode.TheVariants as mode
-use Rattle.ix_script.specs.Readers.{◌>>=◌}
-use Rattle.ix_script.specs.declared.script.FdWord.{FdWord}
-use Rattle.ix_script.specs.declared.script.FdWord.TheVariants as word
-
--- ---- words
--- Words stand between single spaces. Only a payload may have spaces in it, and it stands last: it is what follows the
--- words before it.
--- what stands before the first space, and what stands after it
-unfoldable pub split : List ℕ → Option (List ℕ × List ℕ)
-split text = option_map (λ k. (take k text, drop (k + 1) text)) (position (λ b. b == 32) text)
-
--- two words and what follows them
-unfoldable pub split_2 : List ℕ → Option (List ℕ × List ℕ × List ℕ)
-split_2 text = do
-  first ← split text
-  second ← split first.1
-  Some (first.0, second.0, second.1)
-
--- three words and what follows them
-unfoldable pub split_3 : List ℕ → Option (List ℕ × List ℕ × List ℕ × List ℕ)
-split_3 text = do
-  first ← split text
-  others ← split_2 first.1
-  Some (first.0, others.0, others.1, others.2)
+use Rattle.ix_model.specs.declared.privs.PrivSet.{PrivSet}
+use Rattle.ix_script.specs.Lines.{with_front}
+use Rattle.ix_script.specs.Cutting.{begins, is_empty}
+use Rattle.ix_script.specs.declared.line.What.{What}
+use Rattle.ix_script.specs.declared.line.What.TheVariants as what
+use Rattle.ix_script.specs.declared.line.FdWord.{FdWord}
+use Rattle.ix_script.specs.declared.line.FdWord.TheVariants as fd
+use Rattle.ix_script.specs.declared.line.KeepWord.{KeepWord}
+use Rattle.ix_script.specs.declared.line.KeepWord.TheVariants as keep
 
 -- ---- names
 -- a small letter
@@ -47,7 +31,8 @@ may_stand_in_script_name b = is_letter b || is_digit b || b == 95
 
 -- whether the first byte passes the test
 abbrev pub begins_with : (ℕ → Bool) → List ℕ → Bool
-begins_with test word = option_map_or test (slice_get word 0) false
+begins_with test [] = false
+begins_with test (b ∷ word) = test b
 
 -- words with another meaning in a name's place
 abbrev pub is_reserved : List ℕ → Bool
@@ -57,7 +42,7 @@ is_reserved word = same_bytes word (codes "all") || same_bytes word (codes "none
 unfoldable pub is_script_name : List ℕ → Bool
 is_script_name word = begins_with is_letter word && nat_le (length word) 16 && list_all may_stand_in_script_name word && not (is_reserved word)
 
--- the name of a process, a lane or a descriptor
+-- the name of a file system, a process, a lane or a descriptor
 unfoldable pub name_of : List ℕ → Option (List ℕ)
 name_of word = if is_script_name word then Some word else None
 
@@ -67,33 +52,71 @@ abbrev pub value_from : ℕ → List ℕ → ℕ
 value_from n [] = n
 value_from n (digit ∷ digits) = value_from (n * 10 + (digit - 48)) digits
 
+-- the number of these digits
+unfoldable pub value : List ℕ → ℕ
+value word = value_from 0 word
+
 -- decimal digits, of which the first isn't 0 unless it is the only one
 unfoldable pub is_numeral : List ℕ → Bool
-is_numeral word = begins_with is_digit word && list_all is_digit word && (length word == 1 || not (begins_with (λ b. b == 48) word))
+is_numeral word = begins_with is_digit word && list_all is_digit word && (length word == 1 || not (begins 48 word))
 
--- a decimal number, at most 4,294,967,295
-unfoldable pub number_of : List ℕ → Option ℕ
-number_of word = if is_numeral word && nat_le (value_from 0 word) 4294967295 then Some (value_from 0 word) else None
+-- a decimal number within bounds
+unfoldable pub number_of : ℕ → ℕ → List ℕ → Option ℕ
+number_of low high word = if is_numeral word && is_within low high (value word) then Some (value word) else None
 
--- a number within bounds
-unfoldable pub number_within : ℕ → ℕ → List ℕ → Option ℕ
-number_within low high word = do
-  n ← number_of word
-  if is_within low high n then Some n else None
+-- ---- sets of privileges
+-- these bits and those of a word's letters, each of which stands at most once, and in this order
+abbrev pub bits_from : ℕ → List (ℕ × ℕ) → List ℕ → Option ℕ
+bits_from bits [] word = if is_empty word then Some bits else None
+bits_from bits ((letter, bit) ∷ letters) word = if begins letter word then bits_from (bits + bit) letters (drop 1 word) else bits_from bits letters word
+
+-- D, P, C, T, L
+abbrev pub letters : List (ℕ × ℕ)
+letters = (68, 1) ∷ (80, 2) ∷ (67, 4) ∷ (84, 8) ∷ (76, 16) ∷ []
+
+-- a set without privileges is `-`, another is its letters
+unfoldable pub privs_of : List ℕ → Option PrivSet
+privs_of word =
+    if same_bytes word (codes "-") then Some (record { 0 = 0 })
+    else if is_empty word then None
+    else option_map (λ bits. record { 0 = bits }) (bits_from 0 letters word)
 
 -- ---- paths
 -- printable and no space, quote or backslash
 abbrev pub may_stand_in_path : ℕ → Bool
 may_stand_in_path b = is_within 33 126 b && not (b == 34) && not (b == 92)
 
--- a slash and one name
+-- what stands between slashes
+unfoldable pub between_slashes : List ℕ → List (List ℕ)
+between_slashes [] = [] ∷ []
+between_slashes (b ∷ text) = if b == 47 then [] ∷ between_slashes text else with_front b (between_slashes text)
+
+-- 1 to 16 names joined by slashes
+unfoldable pub names_of : List ℕ → Option (List (List ℕ))
+names_of text = if list_all is_name (between_slashes text) && nat_le (length (between_slashes text)) 16 then Some (between_slashes text) else None
+
+abbrev pub path_from : Bool → List (List ℕ) → PathOf
+path_from absolute names = record { absolute = absolute; names = names }
+
+-- a path that begins with a slash, and one that doesn't
+abbrev pub absolute_path : List ℕ → Option PathOf
+absolute_path text = if is_empty text then Some (path_from true []) else option_map (path_from true) (names_of text)
+
+abbrev pub relative_path : List ℕ → Option PathOf
+relative_path text = option_map (path_from false) (names_of text)
+
+-- `/`, or names joined by slashes, with or without one slash before them
 unfoldable pub path_of : List ℕ → Option PathOf
 path_of word =
-    if begins_with (λ b. b == 47) word && list_all may_stand_in_path word && is_name (drop 1 word)
-    then Some (record { absolute = true; names = drop 1 word ∷ [] })
-    else None
+    if not (list_all may_stand_in_path word) then None
+    else if begins 47 word then absolute_path (drop 1 word)
+    else relative_path word
 
--- ---- modes and descriptors
+-- an absolute path with a name
+unfoldable pub made_path_of : List ℕ → Option PathOf
+made_path_of word = if begins 47 word && not (is_empty (drop 1 word)) then path_of word else None
+
+-- ---- words of a few spellings
 -- `r`, `w` or `rw`
 unfoldable pub mode_of : List ℕ → Option Mode
 mode_of word =
@@ -102,70 +125,37 @@ mode_of word =
     else if same_bytes word (codes "rw") then Some mode.Both
     else None
 
--- a descriptor by its number, and by its name
+-- whether a state is frozen
+unfoldable pub state_of : List ℕ → Option Bool
+state_of word =
+    if same_bytes word (codes "free") then Some false
+    else if same_bytes word (codes "frozen") then Some true
+    else None
+
+-- what a `limit` line limits
+unfoldable pub what_of : List ℕ → Option What
+what_of word =
+    if same_bytes word (codes "procs") then Some what.Procs
+    else if same_bytes word (codes "opens") then Some what.Opens
+    else if same_bytes word (codes "pipes") then Some what.Pipes
+    else if same_bytes word (codes "names") then Some what.Names
+    else if same_bytes word (codes "log") then Some what.Log
+    else None
+
+-- ---- descriptors
 abbrev pub numbered : List ℕ → Option FdWord
-numbered text = do
-  n ← number_within 0 255 text
-  Some (word.Number n)
+numbered word = option_map (λ n. fd.Number n) (number_of 0 255 word)
 
 abbrev pub named : List ℕ → Option FdWord
-named text = do
-  name ← name_of text
-  Some (word.Named name)
+named word = option_map (λ name. fd.Named name) (name_of word)
 
 -- a word that begins with a digit is a number up to 255, any other is a name
 unfoldable pub fd_of : List ℕ → Option FdWord
-fd_of text = if begins_with is_digit text then numbered text else named text
+fd_of word = if begins_with is_digit word then numbered word else named word
 
--- ---- payloads
--- printable and neither a quote nor a backslash
-abbrev pub may_stand_in_quotes : ℕ → Bool
-may_stand_in_quotes b = not (b == 34) && not (b == 92)
-
--- what stands before the last byte
-abbrev pub all_but_last : List ℕ → List ℕ
-all_but_last text = take (length text - 1) text
-
--- a text without quotes and backslashes, and the quote that ends it
-unfoldable pub quoted_of : List ℕ → Option (List ℕ)
-quoted_of text =
-    if same_bytes (drop (length text - 1) text) (34 ∷ []) && list_all may_stand_in_quotes (all_but_last text)
-    then Some (all_but_last text)
-    else None
-
--- a hexadecimal digit
-unfoldable pub digit_of : ℕ → Option ℕ
-digit_of b =
-    if is_digit b then Some (b - 48)
-    else if is_within 97 102 b then Some (b - 87)
-    else if is_within 65 70 b then Some (b - 55)
-    else None
-
--- the byte of two hexadecimal digits
-unfoldable pub pair_of : ℕ → ℕ → Option ℕ
-pair_of high low = do
-  h ← digit_of high
-  l ← digit_of low
-  Some (h * 16 + l)
-
--- pairs of hexadecimal digits
-unfoldable pub pairs_of : List ℕ → Option (List ℕ)
-pairs_of [] = Some []
-pairs_of (high ∷ []) = None
-pairs_of (high ∷ low ∷ text) = do
-  byte ← pair_of high low
-  bytes ← pairs_of text
-  Some (byte ∷ bytes)
-
--- a text in quotes, or `x` and pairs of hexadecimal digits
-unfoldable pub spelled_bytes : List ℕ → Option (List ℕ)
-spelled_bytes text =
-    if begins_with (λ b. b == 34) text then quoted_of (drop 1 text)
-    else if begins_with (λ b. b == 120) text then pairs_of (drop 1 text)
-    else None
-
--- at most so many bytes
-unfoldable pub payload_of : ℕ → List ℕ → Option (List ℕ)
-payload_of most text = do
-  bytes ← spelled_bytes text
-  if nat_le (length bytes) most then Some bytes else None
+-- all descriptors, none, or one
+unfoldable pub keep_of : List ℕ → Option KeepWord
+keep_of word =
+    if same_bytes word (codes "all") then Some keep.All
+    else if same_bytes word (codes "none") then Some keep.Nothing
+    else option_map (λ one. keep.One one) (fd_of word)

@@ -1,19 +1,20 @@
-ghost use Rattle.std.specs.Prelude.{◌≡◌};
-ghost use Rattle.ix_script.specs.Readers.{Gives};
+ghost use Rattle.std.specs.Prelude.{[], ◌∷◌};
+ghost use Rattle.ix_script.specs.Kinds as kind;
 ghost use Rattle.ix_script.specs.Labels.{label_of};
+ghost use Rattle.ix_script.specs.Readers.{Reads};
 
 use crate::refused::Refused;
 use ix_label::Label;
 
 /// The label of that spelling.
 pub(crate) fn label(word: &[u8]) -> Result<Label, Refused>
-    ensures { Gives (λ x. x) result (label_of word.now) }
+    ensures { Reads (λ x. x) result ((kind.Label, word.now) ∷ []) (label_of word.now) }
 {
     match Label::read(word) {
         Ok(label) => {
             label.is_label();
             Ok(label)
         }
-        Err(_) => Err(Refused::Form),
+        Err(_) => Err(Refused::Breaks(14)),
     }
 }

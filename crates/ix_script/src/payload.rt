@@ -1,104 +1,145 @@
-ghost use Rattle.std.specs.Prelude.{◌≡◌, ◌<◌, IfOk};
-ghost use Rattle.std.specs.List.{list_all};
-ghost use Rattle.ix_script.specs.Readers.{Gives};
-ghost use Rattle.ix_script.specs.Words.{may_stand_in_quotes, quoted_of, digit_of, pair_of, pairs_of, spelled_bytes, payload_of};
+ghost use Rattle.std.specs.Prelude.{◌≡◌, ℕ, ◌≤◌, ◌+◌, ◌==◌, [], ◌∷◌, length, position, IfSome, IfOk, OnOk, ◌++◌, replicate};
+ghost use Rattle.ix_script.specs.Kinds as kind;
+ghost use Rattle.ix_script.specs.Payloads.{pairs_of, quoted_from, bytes_of, times_from, times_of, payload_of};
+ghost use Rattle.ix_script.specs.Readers.{Reads};
+ghost use Rattle.ix_script.specs.Said.{payload_within};
+ghost use Rattle.ix_script.specs.Spelled.{Spells};
+ghost use Rattle.ix_script.specs.declared.escape.Escape.TheVariants as escape;
 
+use crate::escape::Escape;
+use crate::hexes::{pair, two_digits};
+use crate::numbers::{is_numeral, value};
 use crate::refused::Refused;
-use crate::words::{begins, is};
-use ix_model::Bytes;
+use crate::words::begins;
+use ix_model::{Bytes, NoMemory};
 use std::alloc::Global;
 
-fn kept(alloc: Global, text: &[u8]) -> Result<Bytes, Refused>
-    ensures { Gives (λ b. b) result (Some text.now) }
-{
-    let mut bytes = Bytes::new(alloc);
-    for b in text {
-        bytes.push(*b)?;
-    }
-    Ok(bytes)
-}
-
-fn all_in_quotes(text: &[u8]) -> bool
-    ensures { result ≡ list_all may_stand_in_quotes text.now }
-{
-    text.iter().all(|b| *b != b'"' && *b != b'\\')
-}
-
-#[tactic(auto, unfolding(crate::specs::Words::quoted_of))]
-fn quoted(alloc: Global, text: &[u8]) -> Result<Bytes, Refused>
-    ensures { Gives (λ b. b) result (quoted_of text.now) }
-{
-    let (front, end) = text.split_at(text.len().saturating_sub(1));
-    if !is(end, b"\"") || !all_in_quotes(front) {
-        return Err(Refused::Form);
-    }
-    kept(alloc, front)
-}
-
-#[tactic(auto, unfolding(crate::specs::Words::digit_of))]
-fn digit(b: u8) -> Result<u8, Refused>
-    ensures given { Gives (λ n. n) result (digit_of b) }
-    ensures low { IfOk result (λ n. n < 16) }
-{
-    if b >= b'0' && b <= b'9' {
-        Ok(b - b'0')
-    } else if b >= b'a' && b <= b'f' {
-        Ok(b - 87)
-    } else if b >= b'A' && b <= b'F' {
-        Ok(b - 55)
-    } else {
-        Err(Refused::Form)
-    }
-}
-
-#[tactic(auto, unfolding(crate::specs::Words::pair_of))]
-fn pair(high: u8, low: u8) -> Result<u8, Refused>
-    ensures { Gives (λ n. n) result (pair_of high low) }
-{
-    let high = digit(high)?;
-    let low = digit(low)?;
-    Ok(high * 16 + low)
-}
-
+/// The bytes of pairs of digits.
 fn pairs(alloc: Global, text: &[u8]) -> Result<Bytes, Refused>
-    ensures { Gives (λ b. b) result (pairs_of text.now) }
+    ensures { (most : ℕ) → Spells most result (pairs_of text.now) }
 {
     let mut bytes = Bytes::new(alloc);
     let mut rest = text;
     'pairs: while rest.len() >= 2 {
         let (_, more) = rest.split_at(2);
-        let byte = pair(rest[0], rest[1])?;
+        let Some(byte) = pair(rest[0], rest[1]) else {
+            return Err(Refused::Breaks(18));
+        };
         bytes.push(byte)?;
         rest = more;
     }
-    if !rest.is_empty() {
-        return Err(Refused::Form);
+    if rest.is_empty() {
+        Ok(bytes)
+    } else {
+        Err(Refused::Breaks(18))
+    }
+}
+
+/// One byte more, where there is one.
+fn push_any(bytes: &mut Bytes, byte: Option<u8>) -> Result<(), NoMemory>
+    ensures { OnOk result (bytes.new ≡ bytes.old ++ bytes_of byte) }
+{
+    match byte {
+        Some(byte) => bytes.push(byte),
+        None => Ok(()),
+    }
+}
+
+/// What stands in quotes, up to the quote that ends the text.
+fn quoted(alloc: Global, text: &[u8]) -> Result<Bytes, Refused>
+    ensures { (most : ℕ) → Spells most result (quoted_from escape.Plain text.now) }
+{
+    let mut bytes = Bytes::new(alloc);
+    let mut at = Escape::Plain;
+    'bytes: for (i, b) in text.iter().enumerate() {
+        if at.ends(*b) {
+            return if i + 1 == text.len() {
+                Ok(bytes)
+            } else {
+                Err(Refused::Breaks(18))
+            };
+        }
+        let Some((next, byte)) = at.after(*b) else {
+            return Err(Refused::Breaks(18));
+        };
+        push_any(&mut bytes, byte)?;
+        at = next;
+    }
+    Err(Refused::Breaks(18))
+}
+
+fn star(word: &[u8]) -> Option<usize>
+    ensures place { result ≡ position (λ b. b == 42) word.now }
+    ensures within { IfSome result (λ k. k + 1 ≤ length word.now) }
+{
+    word.iter().position(|b| *b == b'*')
+}
+
+fn filled(alloc: Global, count: u32, byte: u8) -> Result<Bytes, NoMemory>
+    ensures { IfOk result (λ bytes. bytes ≡ replicate count byte) }
+{
+    let mut bytes = Bytes::new(alloc);
+    'fill: for _i in 0..count {
+        bytes.push(byte)?;
     }
     Ok(bytes)
 }
 
-#[tactic(auto, unfolding(crate::specs::Words::spelled_bytes))]
-fn spelled(alloc: Global, text: &[u8]) -> Result<Bytes, Refused>
-    ensures { Gives (λ b. b) result (spelled_bytes text.now) }
+/// A byte so often as a number says, at most so often.
+#[tactic(auto, unfolding(crate::specs::Payloads::times_from, crate::specs::Spelled::spelling_fault))]
+fn times(alloc: Global, most: u32, count: &[u8], digits: &[u8]) -> Result<Bytes, Refused>
+    ensures { Spells most result (times_from count.now digits.now) }
 {
-    if begins(text, b'"') {
-        quoted(alloc, &text[1..])
-    } else if begins(text, b'x') {
-        pairs(alloc, &text[1..])
+    if !is_numeral(count) {
+        return Err(Refused::Breaks(18));
+    }
+    let Some(byte) = two_digits(digits) else {
+        return Err(Refused::Breaks(18));
+    };
+    let Some(n) = value(count) else {
+        return Err(Refused::Breaks(19));
+    };
+    if n > most {
+        return Err(Refused::Breaks(19));
+    }
+    Ok(filled(alloc, n, byte)?)
+}
+
+#[tactic(auto, unfolding(crate::specs::Payloads::times_of, crate::specs::Spelled::spelling_fault))]
+fn times_by_word(alloc: Global, most: u32, word: &[u8]) -> Result<Bytes, Refused>
+    ensures { Spells most result (times_of word.now) }
+{
+    match star(word) {
+        Some(k) => {
+            let (_, digits) = word.split_at(k + 1);
+            times(alloc, most, &word[..k], digits)
+        }
+        None => Err(Refused::Breaks(18)),
+    }
+}
+
+#[tactic(auto, unfolding(crate::specs::Payloads::payload_of))]
+fn spelled(alloc: Global, most: u32, word: &[u8]) -> Result<Bytes, Refused>
+    ensures { Spells most result (payload_of word.now) }
+{
+    if begins(b'"', word) {
+        quoted(alloc, &word[1..])
+    } else if begins(b'x', word) {
+        pairs(alloc, &word[1..])
     } else {
-        Err(Refused::Form)
+        times_by_word(alloc, most, word)
     }
 }
 
 /// The bytes of a payload, at most so many.
-#[tactic(auto, unfolding(crate::specs::Words::payload_of))]
-pub(crate) fn payload(alloc: Global, most: usize, text: &[u8]) -> Result<Bytes, Refused>
-    ensures { Gives (λ b. b) result (payload_of most text.now) }
+#[tactic(auto, unfolding(crate::specs::Spelled::spelling_fault, crate::specs::Kinds::places_fault, crate::specs::Kinds::first_broken))]
+pub(crate) fn payload(alloc: Global, most: u32, word: &[u8]) -> Result<Bytes, Refused>
+    ensures { Reads (λ x. x) result ((kind.Payload most, word.now) ∷ []) (payload_within most word.now) }
 {
-    let bytes = spelled(alloc, text)?;
-    if bytes.len() <= most {
+    let bytes = spelled(alloc, most, word)?;
+    if bytes.len() <= most as usize {
         Ok(bytes)
     } else {
-        Err(Refused::Form)
+        Err(Refused::Breaks(19))
     }
 }

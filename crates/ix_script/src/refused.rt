@@ -3,11 +3,11 @@ ghost use Rattle.ix_script.specs.declared.refused.Refused.TheVariants as refused
 
 use ix_model::NoMemory;
 
-/// Why a text wasn't read.
+/// Why a line wasn't read.
 #[derive(Clone, Copy, Debug, PartialEq, Eq)]
 pub(crate) enum Refused {
-    /// It isn't of the form.
-    Form,
+    /// The first rule that it breaks.
+    Breaks(u8),
     NoMemory,
 }
 

@@ -1,50 +1,138 @@
-use ix_model::{Bytes, Config, List, Mode, Name, Path, Pid};
+ghost use Rattle.std.specs.Prelude.{◌≡◌, ◌≤◌, ◌-◌, ◌<◌, ◌==◌, length, position, slice_get, IfSome, true, None, if◌then◌else◌, IfOk, IsTrue};
+ghost use Rattle.std.specs.Option.{option_copied};
+ghost use Rattle.ix_model.specs.Valid.{is_valid};
+ghost use Rattle.std.proofs.Common.{option_map};
+ghost use Rattle.ix_script.specs.Before.{lanes_of, commands, is_policy};
+ghost use Rattle.ix_script.specs.Scripts.{config_of, policy_told, policy_of};
+ghost use Rattle.ix_script.specs.Told.{DraftTold};
 
-/// A session script of the first form.
+use crate::draft::Draft;
+use crate::line::Line;
+use crate::plan::config;
+use ix_model::{Config, List, Name, NoMemory};
+use std::alloc::Global;
+use std::marker::Model;
+
+/// A session script: a list of lines, numbered from 1.
 #[derive(Drop)]
 pub struct Script {
-    /// What the machine starts from.
-    pub config: Config,
-    /// The name of the lane; `None` where the script has no lane.
-    pub lane: Option<Name>,
-    /// The commands of the lane, in order.
-    pub commands: List<Command>,
+    lines: List<Line>,
+    /// The names of the lanes, in the order in which they first appear.
+    lanes: List<Name>,
 }
 
-/// A command of a lane.
-#[derive(Drop)]
-pub struct Command {
-    /// The line that it stands on, from 1.
-    pub line: u32,
-    /// Who makes the call.
-    pub pid: Pid,
-    pub deed: Deed,
+impl Model for Script {
+    ghost use Rattle.std.specs.Prelude.{List};
+    ghost use Rattle.std.specs.Coded.{codes};
+    ghost use Rattle.ix_label.specs.contracts.label.Label as label_type;
+    ghost use Rattle.ix_script.specs.Held.{IsScript};
+    ghost use Rattle.ix_script.specs.declared.line.Line.{Line};
+
+    ghost Value = { List Line };
+
+    ghost coded = { Prim.hlevel (codes, label_type.the_row.coded) };
+
+    ghost view = { λ s. s.lines };
+
+    ghost invariant = { λ s. IsScript s.lines s.lanes };
 }
 
-/// What a command does: each is the system call of that meaning.
-#[derive(Drop)]
-pub enum Deed {
-    Open {
-        path: Path,
-        mode: Mode,
-        /// What the lines after it call the descriptor.
-        named: Option<Name>,
-    },
-    Read {
-        fd: FdWord,
-        count: u32,
-    },
-    Write {
-        fd: FdWord,
-        bytes: Bytes,
-    },
-    SelfLabel,
+impl Script {
+    /// The script of a draft.
+    pub(crate) fn of(draft: Draft) -> Script
+        requires told { DraftTold draft }
+        requires valid { is_valid (config_of draft.lines) ≡ true }
+        requires few { length draft.lines ≤ 16777216 }
+        requires few_commands { commands draft.lines ≤ 200000 }
+        ensures { result ≡ draft.lines }
+    {
+        let lanes = draft.body.into_lanes();
+        Script {
+            lines: draft.lines,
+            lanes,
+        }
+    }
+
+    /// All lines, in order.
+    pub(crate) fn lines(&self) -> &[Line]
+        ensures { result.now ≡ self.now }
+    {
+        self.lines.as_slice()
+    }
+
+    /// The line of a number from 1; `None` exactly where there is none.
+    pub fn line(&self, number: u32) -> Option<&Line>
+        ensures { option_copied result ≡ (if number == 0 then None else slice_get self.now (number - 1)) }
+    {
+        if number == 0 {
+            return None;
+        }
+        self.lines.get(number as usize - 1)
+    }
+
+    /// The name of a lane; `None` exactly past the last.
+    pub fn lane(&self, seat: u32) -> Option<&[u8]>
+        ensures { option_map (λ name. name.now) result ≡ slice_get (lanes_of self.now) seat }
+    {
+        match self.lanes.get(seat as usize) {
+            Some(name) => Some(name.as_bytes()),
+            None => None,
+        }
+    }
+
+    /// How many lines it has: at most 200,000 of them are commands.
+    pub fn len(&self) -> u32
+        ensures len { result ≡ length self.now }
+        ensures few { commands self.now ≤ 200000 }
+    {
+        self.lines.len() as u32
+    }
+
+    /// What a machine starts from: it is valid.
+    pub fn config(&self, alloc: Global) -> Result<Config, NoMemory>
+        ensures config { IfOk result (λ c. c ≡ config_of self.now) }
+        ensures valid { IfOk result (λ c. IsTrue (is_valid c)) }
+    {
+        config(alloc, self.lines.as_slice())
+    }
+
+    /// The number of the policy's line and its text; `None` exactly where there is no policy.
+    pub fn policy(&self) -> Option<(u32, &[u8])>
+        ensures { option_map (λ p. (p.0, p.1.now)) result ≡ policy_of self.now }
+    {
+        policy(&self.lines)
+    }
 }
 
-/// A descriptor, as a script says it.
-#[derive(Clone, Copy)]
-pub enum FdWord {
-    Number(u8),
-    /// The name that an earlier command of the lane gave it.
-    Named(Name),
+fn is_policy(line: &Line) -> bool
+    ensures { result ≡ is_policy line.now }
+{
+    matches!(line, Line::Policy { .. })
+}
+
+fn policy_place(lines: &[Line]) -> Option<usize>
+    ensures place { result ≡ position is_policy lines.now }
+    ensures within { IfSome result (λ k. k < length lines.now) }
+{
+    lines.iter().position(|line| is_policy(line))
+}
+
+fn policy_text(line: &Line) -> Option<&[u8]>
+    ensures { option_map (λ text. text.now) result ≡ policy_told line.now }
+{
+    match line {
+        Line::Policy { text } => Some(text.as_slice()),
+        _ => None,
+    }
+}
+
+#[tactic(auto, unfolding(crate::specs::Scripts::policy_of))]
+fn policy(lines: &List<Line>) -> Option<(u32, &[u8])>
+    requires { length lines.now ≤ 16777216 }
+    ensures { option_map (λ p. (p.0, p.1.now)) result ≡ policy_of lines.now }
+{
+    let place = policy_place(lines.as_slice())?;
+    let line = lines.get(place)?;
+    let text = policy_text(line)?;
+    Some((place as u32 + 1, text))
 }

@@ -1,10 +1,9 @@
 use Rattle.std.proofs.Common.{◌≡◌, length}
-use Rattle.ix_script.specs.Words.{pairs_of}
-use Rattle.ix_script.proofs.Pairs.{with_bytes}
+use Rattle.ix_script.specs.Payloads.{after_bytes, pairs_of}
 use Rattle.ix_script.proofs.payload.pairs.Given as goal
 
 abbrev pub invariant-pairs : goal.invariant-pairs
-invariant-pairs l = with_bytes l.bytes (pairs_of l.rest) ≡ pairs_of l.text
+invariant-pairs l = after_bytes l.bytes (pairs_of l.rest) ≡ pairs_of l.text
 
 abbrev pub decreases-pairs : goal.decreases-pairs
 decreases-pairs l = length l.rest

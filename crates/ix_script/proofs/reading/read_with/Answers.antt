@@ -1,16 +1,22 @@
-use Rattle.std.proofs.Common.{◌≡◌, Some, option_map, sym, ap, ◌∙◌}
+use Rattle.std.proofs.Common.{Some, List, sym, ap, ◌∙◌}
 use Rattle.std.proofs.lemmas.Bool.{eqb-true}
 use Rattle.std.proofs.lemmas.List.{nil_from_length}
-use Rattle.ix_script.specs.Order.{script_of, script_by}
-use Rattle.ix_script.specs.declared.script.Script.{Script}
-use Rattle.ix_script.proofs.NoBytes.{no_bytes}
+use Rattle.std.proofs.lemmas.Result.{err_from_is_err_and}
+use Rattle.ix_script.specs.declared.line.Line.{Line}
+use Rattle.ix_script.proofs.Whole.{too_long, no_bytes, has_cause, script_is}
 use Rattle.ix_script.proofs.reading.read_with.Goals as goal
+
+pub returns-then-bytes-gt16777216-clause-fail : goal.returns-then-bytes-gt16777216-clause-fail
+returns-then-bytes-gt16777216-clause-fail g c = too_long c.args.bytes.now c.if-bytes-gt16777216.true
 
 pub returns-then-is_empty-clause-fail : goal.returns-then-is_empty-clause-fail
 returns-then-is_empty-clause-fail g c = no_bytes c.args.bytes.now (nil_from_length c.args.bytes.now (eqb-true _ 0 (sym c.is_empty.ensures ∙ c.if-is_empty.true)))
 
-pub returns-in-Ok-clause-script : goal.returns-in-Ok-clause-script
-unfolding script_of
-returns-in-Ok-clause-script g c =
-    let told : c.in-Ok.script ≡ script_by c.in_ok-draft.draft = c.in-Ok.ensures in
-    ap (option_map script_by) c.in_ok-draft.ensures.whole ∙ ap (λ (s : Script). Some s) (sym told)
+pub returns-in_err-draft-clause-fail : goal.returns-in_err-draft-clause-fail
+returns-in_err-draft-clause-fail g c =
+    let p = err_from_is_err_and c.from_residual.result c.from_residual.ensures.1 in
+    rw (p.1, p.2) (has_cause c.in_err-draft.field-0.0 c.args.bytes.now c.if-bytes-gt16777216.false c.in_err-draft.ensures.fail)
+
+pub returns-clause-script : goal.returns-clause-script
+returns-clause-script g c =
+    script_is c.args.bytes.now c.in_ok-draft.draft.lines c.if-bytes-gt16777216.false c.in_ok-draft.ensures.faultless c.in_ok-draft.ensures.said ∙ ap (λ (ls : List Line). Some ls) (sym c.of.ensures)

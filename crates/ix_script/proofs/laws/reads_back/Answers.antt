@@ -1,0 +1,5 @@
+use Rattle.ix_script.proofs.ScriptBack.{reads_back}
+use Rattle.ix_script.proofs.laws.reads_back.Goals as goal
+
+pub returns : goal.returns
+returns c = reads_back

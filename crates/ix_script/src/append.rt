@@ -1,0 +1,174 @@
+ghost use Rattle.std.specs.Prelude.{◌≡◌, ◌++◌, ◌∷◌, OnOk};
+ghost use Rattle.std.specs.Fmt.{decimal};
+ghost use Rattle.ix_label.specs.Spelling.{spelling};
+ghost use Rattle.ix_script.specs.Before.{what_text};
+ghost use Rattle.ix_script.specs.Spellings.{further, joined, privs_text, path_text, mode_text, state_text, fd_text, keep_text, as_name, as_names};
+
+use crate::line::{FdWord, KeepWord, What};
+use crate::text::{label_text, mode_word, privs_text, state_word};
+use itoa::Buffer;
+use ix_label::Label;
+use ix_model::{Mode, Name, NoMemory, Path, PrivSet};
+
+/// Bytes at the end.
+pub(crate) fn push(out: &mut Vec<u8>, bytes: &[u8]) -> Result<(), NoMemory>
+    ensures { OnOk result (out.new.items ≡ out.old.items ++ bytes.now) }
+{
+    match out.extend_from_slice(bytes) {
+        Ok(()) => Ok(()),
+        Err(_) => Err(NoMemory),
+    }
+}
+
+/// A space and a word.
+pub(crate) fn word(out: &mut Vec<u8>, word: &[u8]) -> Result<(), NoMemory>
+    ensures { OnOk result (out.new.items ≡ out.old.items ++ 32 ∷ word.now) }
+{
+    push(out, b" ")?;
+    push(out, word)
+}
+
+/// A space and a number in decimal.
+pub(crate) fn number(out: &mut Vec<u8>, n: u32) -> Result<(), NoMemory>
+    ensures { OnOk result (out.new.items ≡ out.old.items ++ 32 ∷ decimal n) }
+{
+    let mut digits = Buffer::new();
+    word(out, digits.format(n).as_bytes())
+}
+
+/// A space and a name.
+pub(crate) fn name(out: &mut Vec<u8>, name: &Name) -> Result<(), NoMemory>
+    ensures { OnOk result (out.new.items ≡ out.old.items ++ 32 ∷ name.now) }
+{
+    word(out, name.as_bytes())
+}
+
+/// A space and a label.
+pub(crate) fn label(out: &mut Vec<u8>, label: &Label) -> Result<(), NoMemory>
+    ensures { OnOk result (out.new.items ≡ out.old.items ++ 32 ∷ spelling label.now) }
+{
+    word(out, label_text(label).as_bytes())
+}
+
+/// A space and a set of privileges.
+pub(crate) fn privs(out: &mut Vec<u8>, set: PrivSet) -> Result<(), NoMemory>
+    ensures { OnOk result (out.new.items ≡ out.old.items ++ 32 ∷ privs_text set) }
+{
+    word(out, privs_text(set).as_slice())
+}
+
+/// A further name of a path, after a slash.
+fn further_name(out: &mut Vec<u8>, name: &Name) -> Result<(), NoMemory>
+    ensures { OnOk result (out.new.items ≡ out.old.items ++ 47 ∷ name.now) }
+{
+    push(out, b"/")?;
+    push(out, name.as_bytes())
+}
+
+/// The names of a path with a slash between each two.
+#[tactic(auto, using(crate::proofs::Further::further_next))]
+fn names(out: &mut Vec<u8>, path: &Path) -> Result<(), NoMemory>
+    ensures { OnOk result (out.new.items ≡ out.old.items ++ joined 47 path.now.names) }
+{
+    let Some(first) = path.name(0) else {
+        return Ok(());
+    };
+    push(out, first.as_bytes())?;
+    for i in 1..path.len() {
+        let Some(name) = path.name(i) else {
+            return Ok(());
+        };
+        further_name(out, &name)?;
+    }
+    Ok(())
+}
+
+/// A space and a path.
+#[tactic(auto, unfolding(crate::specs::Spellings::path_text))]
+pub(crate) fn path(out: &mut Vec<u8>, path: &Path) -> Result<(), NoMemory>
+    ensures { OnOk result (out.new.items ≡ out.old.items ++ 32 ∷ path_text path.now) }
+{
+    push(out, b" ")?;
+    if path.absolute() {
+        push(out, b"/")?;
+        return names(out, path);
+    }
+    names(out, path)
+}
+
+/// A space and a mode.
+pub(crate) fn mode(out: &mut Vec<u8>, mode: Mode) -> Result<(), NoMemory>
+    ensures { OnOk result (out.new.items ≡ out.old.items ++ 32 ∷ mode_text mode) }
+{
+    word(out, mode_word(mode))
+}
+
+/// A space and a state.
+pub(crate) fn state(out: &mut Vec<u8>, frozen: bool) -> Result<(), NoMemory>
+    ensures { OnOk result (out.new.items ≡ out.old.items ++ 32 ∷ state_text frozen) }
+{
+    word(out, state_word(frozen))
+}
+
+fn what_word(what: What) -> &'static [u8]
+    ensures { result.now ≡ what_text what }
+{
+    match what {
+        What::Procs => b"procs",
+        What::Opens => b"opens",
+        What::Pipes => b"pipes",
+        What::Names => b"names",
+        What::Log => b"log",
+    }
+}
+
+/// A space and what is limited.
+pub(crate) fn what(out: &mut Vec<u8>, what: What) -> Result<(), NoMemory>
+    ensures { OnOk result (out.new.items ≡ out.old.items ++ 32 ∷ what_text what) }
+{
+    word(out, what_word(what))
+}
+
+/// A space and a descriptor.
+pub(crate) fn fd(out: &mut Vec<u8>, fd: &FdWord) -> Result<(), NoMemory>
+    ensures { OnOk result (out.new.items ≡ out.old.items ++ 32 ∷ fd_text fd.now) }
+{
+    match fd {
+        FdWord::Number(n) => number(out, u32::from(*n)),
+        FdWord::Named(named) => name(out, named),
+    }
+}
+
+/// A space and which descriptors are kept.
+pub(crate) fn keep(out: &mut Vec<u8>, keep: &KeepWord) -> Result<(), NoMemory>
+    ensures { OnOk result (out.new.items ≡ out.old.items ++ 32 ∷ keep_text keep.now) }
+{
+    match keep {
+        KeepWord::All => word(out, b"all"),
+        KeepWord::Nothing => word(out, b"none"),
+        KeepWord::One(one) => fd(out, one),
+    }
+}
+
+/// `as` and a name, where there is one.
+pub(crate) fn named(out: &mut Vec<u8>, named: &Option<Name>) -> Result<(), NoMemory>
+    ensures { OnOk result (out.new.items ≡ out.old.items ++ further 32 (as_name named.now)) }
+{
+    let Some(given) = named else {
+        return Ok(());
+    };
+    word(out, b"as")?;
+    name(out, given)
+}
+
+/// `as` and two names, where there are some.
+pub(crate) fn both_named(out: &mut Vec<u8>, named: &Option<(Name, Name)>) -> Result<(), NoMemory>
+    ensures { OnOk result (out.new.items ≡ out.old.items ++ further 32 (as_names named.now)) }
+{
+    let Some((first, second)) = named else {
+        return Ok(());
+    };
+    word(out, b"as")?;
+    name(out, first)?;
+    name(out, second)
+}

@@ -1,0 +1,181 @@
+ghost use Rattle.std.specs.Prelude.{◌≡◌, ℕ, ◌+◌, ◌<◌, ◌≤◌, ◌&&◌, ◌||◌, not, length, nat_le, nat_lt};
+ghost use Rattle.std.specs.List.{list_any};
+ghost use Rattle.ix_label.specs.Category.{leq};
+ghost use Rattle.ix_model.specs.Naming.{same_names};
+ghost use Rattle.ix_model.specs.Numbers.{inodes_of};
+ghost use Rattle.ix_model.specs.Valid.{fs_of, fs_ceiling, blocks_of, is_mount, is_there, is_dir_there};
+ghost use Rattle.ix_model.specs.declared.config.ObjSpec.{ObjSpec};
+ghost use Rattle.ix_script.specs.Before.{fss_of, objects_of, lanes_of, is_known};
+ghost use Rattle.ix_script.specs.Rules.{is_above, object_misfits, misfits, object_crowds, crowds, is_out_of_order, is_one_too_many, lacks_policy};
+ghost use Rattle.ix_script.specs.Told.{DraftTold};
+
+use crate::body::is_command;
+use crate::draft::Draft;
+use crate::fss::{blocks_for, fs_of, is_mount};
+use crate::known::is_known;
+use crate::line::Line;
+use ix_label::{Label, Steps};
+use ix_model::{FsSpec, Path};
+use std::sync::ledger::Ledger;
+
+fn has_inode(fss: &[FsSpec], k: usize, count: usize) -> bool
+    requires { k < length fss.now }
+    ensures { result ≡ nat_le (count + 2) (inodes_of fss.now k) }
+{
+    match (fss[k].inodes as usize).checked_sub(2) {
+        Some(most) => count <= most,
+        None => false,
+    }
+}
+
+fn has_blocks(fss: &[FsSpec], k: usize, taken: usize, needed: usize) -> bool
+    requires { k < length fss.now }
+    ensures { result ≡ nat_le (taken + needed) (blocks_of fss.now k) }
+{
+    match (fss[k].blocks as usize).checked_sub(taken) {
+        Some(left) => needed <= left,
+        None => false,
+    }
+}
+
+fn has_name(fss: usize, made: usize, names: u32) -> bool
+    ensures { result ≡ nat_le (fss + made) names }
+{
+    match (names as usize).checked_sub(fss) {
+        Some(left) => made <= left,
+        None => false,
+    }
+}
+
+fn is_above_fs<L: Ledger>(fss: &[FsSpec], path: &Path, label: &Label, steps: &mut Steps<L>) -> bool
+    requires { 0 < length fss.now }
+    ensures { result ≡ not (leq label.now (fs_ceiling fss.now (fs_of fss.now path.now.names))) }
+{
+    let k = fs_of(fss, path);
+    !label.leq(&fss[k].ceiling, steps)
+}
+
+/// Rules 22 to 26, and 28: what fits the lines before.
+impl Draft {
+    fn is_there(&self, path: &Path) -> bool
+        requires told { DraftTold self.now }
+        ensures { result ≡ is_there (fss_of self.now.lines) (objects_of self.now.lines) path.now.names }
+    {
+        is_mount(self.header.fss.as_slice(), path) || self.header.made.has(path)
+    }
+
+    /// Whether a directory beside the root is there.
+    fn is_further_dir(&self, path: &Path) -> bool
+        requires told { DraftTold self.now }
+        ensures { result ≡ (is_mount (fss_of self.now.lines) path.now.names || list_any (λ b. b.dir && same_names b.path.names path.now.names) (objects_of self.now.lines)) }
+    {
+        is_mount(self.header.fss.as_slice(), path) || self.header.made.has_dir(path)
+    }
+
+    fn is_dir_there(&self, path: &Path) -> bool
+        requires told { DraftTold self.now }
+        ensures { result ≡ is_dir_there (fss_of self.now.lines) (objects_of self.now.lines) path.now.names }
+    {
+        path.len() == 0 || self.is_further_dir(path)
+    }
+
+    fn misfits_tree(&self, path: &Path) -> bool
+        requires told { DraftTold self.now }
+        ensures { (o : ObjSpec) → o.path ≡ path.now → result ≡ object_misfits self.now.lines o }
+    {
+        self.is_there(path) || !self.is_dir_there(&path.parent())
+    }
+
+    fn lacks_room(&self, path: &Path, len: usize) -> bool
+        requires told { DraftTold self.now }
+        ensures { (o : ObjSpec) → o.path ≡ path.now → length o.bytes ≡ len → result ≡ object_crowds self.now.lines o }
+    {
+        let fss = self.header.fss.as_slice();
+        let k = fs_of(fss, path);
+        !has_name(fss.len(), self.header.made.len(), self.header.limits.names)
+            || !has_inode(fss, k, self.header.taken.counts[k])
+            || !has_blocks(fss, k, self.header.taken.blocks[k], blocks_for(len))
+    }
+
+    /// Whether a label is not below its ceiling.
+    pub fn is_above<L: Ledger>(&self, line: &Line, steps: &mut Steps<L>) -> bool
+        requires told { DraftTold self.now }
+        ensures { result ≡ is_above self.now.lines line.now }
+    {
+        let fss = self.header.fss.as_slice();
+        match line {
+            Line::Proc { label, ceiling, .. } => !label.leq(ceiling, steps),
+            Line::Dir { path, label, .. } => is_above_fs(fss, path, label, steps),
+            Line::File { path, label, .. } => is_above_fs(fss, path, label, steps),
+            _ => false,
+        }
+    }
+
+    /// Whether a path does not fit the tree.
+    pub fn misfits(&self, line: &Line) -> bool
+        requires told { DraftTold self.now }
+        ensures { result ≡ misfits self.now.lines line.now }
+    {
+        match line {
+            Line::Dir { path, .. } => self.misfits_tree(path),
+            Line::File { path, .. } => self.misfits_tree(path),
+            _ => false,
+        }
+    }
+
+    /// Whether there is no room.
+    pub fn crowds(&self, line: &Line) -> bool
+        requires told { DraftTold self.now }
+        ensures { result ≡ crowds self.now.lines line.now }
+    {
+        match line {
+            Line::Proc { .. } => self.header.procs.len() >= self.header.limits.procs as usize,
+            Line::Dir { path, .. } => self.lacks_room(path, 0),
+            Line::File { path, bytes, .. } => self.lacks_room(path, bytes.len()),
+            _ => false,
+        }
+    }
+
+    /// Whether a header line is out of order.
+    pub fn is_out_of_order(&self, line: &Line) -> bool
+        requires told { DraftTold self.now }
+        ensures { result ≡ is_out_of_order self.now.lines line.now }
+    {
+        match line {
+            Line::Limit { .. } => self.header.latest > 2,
+            Line::Fs { .. } => self.header.latest > 3,
+            _ => false,
+        }
+    }
+
+    fn has_all_lanes(&self, word: &[u8]) -> bool
+        requires told { DraftTold self.now }
+        ensures { result ≡ (not (is_known word.now (lanes_of self.now.lines)) && nat_le 64 (length (lanes_of self.now.lines))) }
+    {
+        !is_known(word, self.body.lanes.as_slice()) && self.body.lanes.len() >= 64
+    }
+
+    /// Whether there are too many.
+    pub fn is_one_too_many(&self, line: &Line) -> bool
+        requires told { DraftTold self.now }
+        ensures { result ≡ is_one_too_many self.now.lines line.now }
+    {
+        match line {
+            Line::Fs { .. } => self.header.told >= 16,
+            Line::Lane { name } => self.has_all_lanes(name.as_bytes()),
+            _ => is_command(line) && self.body.commands >= 200_000,
+        }
+    }
+
+    /// Whether there is no policy.
+    pub fn lacks_policy(&self, line: &Line) -> bool
+        requires told { DraftTold self.now }
+        ensures { result ≡ lacks_policy self.now.lines line.now }
+    {
+        match line {
+            Line::Priv { .. } => !self.header.policy,
+            Line::Login { .. } => !self.header.policy,
+            _ => false,
+        }
+    }
+}

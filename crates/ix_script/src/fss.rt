@@ -1,0 +1,54 @@
+ghost use Rattle.std.specs.Prelude.{◌≡◌, ℕ, ◌≤◌, ◌<◌, ◌+◌, length, IfSome, ◌∷◌, []};
+ghost use Rattle.std.specs.List.{list_any};
+ghost use Rattle.ix_model.specs.Naming.{same_names};
+ghost use Rattle.ix_model.specs.Telling.{blocks_for};
+ghost use Rattle.ix_model.specs.Valid.{mount_of, fs_of, is_mount};
+
+use ix_model::{FsSpec, Name, Path};
+
+/// The bytes of a block.
+const BLOCK: usize = 512;
+
+/// The place of that name among the further file systems, from 0.
+fn mount_of(fss: &[FsSpec], name: &Name) -> Option<usize>
+    ensures mount { result ≡ mount_of fss.now name.now }
+    ensures within { IfSome result (λ k. k + 1 < length fss.now) }
+{
+    fss.iter().skip(1).position(|s| s.name.same(name))
+}
+
+/// The place of the file system on which a path lies.
+pub(crate) fn fs_of(fss: &[FsSpec], path: &Path) -> usize
+    requires { 0 < length fss.now }
+    ensures fs { result ≡ fs_of fss.now path.now.names }
+    ensures within { result < length fss.now }
+{
+    let Some(name) = path.name(0) else {
+        return 0;
+    };
+    match mount_of(fss, &name) {
+        Some(k) => k + 1,
+        None => 0,
+    }
+}
+
+/// Whether a path has that one name.
+fn is_just(path: &Path, name: &Name) -> bool
+    ensures { result ≡ same_names (name.now ∷ []) path.now.names }
+{
+    path.len() == 1 && path.name(0).is_some_and(|first| name.same(&first))
+}
+
+/// Whether a further file system's root is there under the names.
+pub(crate) fn is_mount(fss: &[FsSpec], path: &Path) -> bool
+    ensures { result ≡ is_mount fss.now path.now.names }
+{
+    fss.iter().skip(1).any(|s| is_just(path, &s.name))
+}
+
+/// The blocks of a file that is so long.
+pub(crate) fn blocks_for(len: usize) -> usize
+    ensures { result ≡ blocks_for len }
+{
+    len.div_ceil(BLOCK)
+}

@@ -1,0 +1,9 @@
+/// A form of a payload.
+#[derive(Clone, Copy, Debug, PartialEq, Eq)]
+pub(crate) enum PayloadForm {
+    /// `x` and pairs of digits.
+    Pairs,
+    /// n*HH, for this byte.
+    Times(u8),
+    Quoted,
+}

@@ -1,0 +1,162 @@
+ghost use Rattle.std.specs.Prelude.{◌≡◌, ◌++◌, ◌∷◌, [], List, OnOk, IfOk};
+ghost use Rattle.ix_script.specs.Before.{fs_told, proc_told, object_told, or_default};
+ghost use Rattle.ix_script.specs.Held.{IsPlan};
+ghost use Rattle.ix_script.specs.Scripts.{config_of};
+ghost use Rattle.ix_script.specs.declared.line.Line.{Line};
+
+use crate::header::{default_fs, default_limits, limits_after};
+use crate::line::Line;
+use crate::rules::kept;
+use bitflags::Flags;
+use ix_model::{Bytes, Config, FsSpec, Limits, List, NoMemory, ObjSpec, PrivSet, ProcSpec};
+use std::alloc::Global;
+
+/// What lines tell of the machine that starts.
+#[derive(Drop)]
+pub(crate) struct Plan {
+    pub fss: List<FsSpec>,
+    pub limits: Limits,
+    pub procs: List<ProcSpec>,
+    pub objects: List<ObjSpec>,
+}
+
+fn add_fs(fss: &mut List<FsSpec>, line: &Line) -> Result<(), NoMemory>
+    ensures { OnOk result (fss.new ≡ fss.old ++ fs_told line.now) }
+{
+    match line {
+        Line::Fs {
+            name,
+            ceiling,
+            blocks,
+            inodes,
+        } => fss.push(FsSpec {
+            name: *name,
+            ceiling: *ceiling,
+            blocks: *blocks,
+            inodes: *inodes,
+        }),
+        _ => Ok(()),
+    }
+}
+
+fn add_proc(procs: &mut List<ProcSpec>, line: &Line) -> Result<(), NoMemory>
+    ensures { OnOk result (procs.new ≡ procs.old ++ proc_told line.now) }
+{
+    match line {
+        Line::Proc {
+            label,
+            ceiling,
+            cap,
+            lic,
+            ..
+        } => procs.push(ProcSpec {
+            label: *label,
+            ceiling: *ceiling,
+            cap: *cap,
+            lic: *lic,
+        }),
+        _ => Ok(()),
+    }
+}
+
+fn add_object(alloc: Global, objects: &mut List<ObjSpec>, line: &Line) -> Result<(), NoMemory>
+    ensures { OnOk result (objects.new ≡ objects.old ++ object_told line.now) }
+{
+    match line {
+        Line::Dir {
+            path,
+            label,
+            frozen,
+        } => objects.push(ObjSpec {
+            path: *path,
+            dir: true,
+            label: *label,
+            frozen: *frozen,
+            cap: PrivSet::from_bits_retain(0),
+            lic: PrivSet::from_bits_retain(0),
+            bytes: Bytes::new(alloc),
+        }),
+        Line::File {
+            path,
+            label,
+            frozen,
+            cap,
+            lic,
+            bytes,
+        } => {
+            let bytes = kept(alloc, bytes.as_slice())?;
+            objects.push(ObjSpec {
+                path: *path,
+                dir: false,
+                label: *label,
+                frozen: *frozen,
+                cap: *cap,
+                lic: *lic,
+                bytes,
+            })
+        }
+        _ => Ok(()),
+    }
+}
+
+/// The file systems, or the one that is there where none is told.
+fn fss_or_default(fss: List<FsSpec>) -> Result<List<FsSpec>, NoMemory>
+    ensures { IfOk result (λ all. all ≡ or_default fss) }
+{
+    let mut fss = fss;
+    if fss.len() == 0 {
+        fss.push(default_fs())?;
+    }
+    Ok(fss)
+}
+
+impl Plan {
+    #[tactic(auto, unfolding(crate::specs::Before::fss_told, crate::specs::Before::limits_of, crate::specs::Before::procs_of, crate::specs::Before::objects_of))]
+    fn new(alloc: Global) -> Plan
+        ensures { IsPlan result [] }
+    {
+        Plan {
+            fss: List::new(alloc),
+            limits: default_limits(),
+            procs: List::new(alloc),
+            objects: List::new(alloc),
+        }
+    }
+
+    /// One line more. After an error the plan isn't used.
+    fn add(&mut self, alloc: Global, line: &Line) -> Result<(), NoMemory>
+        ensures { OnOk result ((lines : List Line) → IsPlan self.old lines → IsPlan self.new (lines ++ line.now ∷ [])) }
+    {
+        add_fs(&mut self.fss, line)?;
+        self.limits = limits_after(&self.limits, line);
+        add_proc(&mut self.procs, line)?;
+        add_object(alloc, &mut self.objects, line)?;
+        Ok(())
+    }
+
+    /// What all lines tell.
+    fn of(alloc: Global, lines: &[Line]) -> Result<Plan, NoMemory>
+        ensures { IfOk result (λ p. IsPlan p lines.now) }
+    {
+        let mut plan = Plan::new(alloc);
+        'lines: for line in lines {
+            plan.add(alloc, line)?;
+        }
+        Ok(plan)
+    }
+}
+
+/// What a machine starts from by these lines.
+#[tactic(auto, unfolding(crate::specs::Scripts::config_of))]
+pub(crate) fn config(alloc: Global, lines: &[Line]) -> Result<Config, NoMemory>
+    ensures { IfOk result (λ c. c ≡ config_of lines.now) }
+{
+    let plan = Plan::of(alloc, lines)?;
+    Ok(Config {
+        fss: fss_or_default(plan.fss)?,
+        limits: plan.limits,
+        procs: plan.procs,
+        objects: plan.objects,
+        journal: 870_400_000,
+    })
+}

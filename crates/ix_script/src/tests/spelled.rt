@@ -1,0 +1,137 @@
+use super::*;
+use std::test::Fail;
+
+/// The canonical text of these bytes.
+fn spelled(alloc: Global, script: &str) -> Result<Vec<u8>, Fail> {
+    let script = read(alloc, script.as_bytes())?;
+    Ok(write(alloc, &script)?)
+}
+
+/// A script with every form of line, in its canonical text.
+const EVERY_FORM: &str = "ix 1
+
+limit procs 9
+limit opens 4096
+limit pipes 0
+limit names 16
+limit log 65536
+fs root * 64 16
+fs far 3,7-9 8 8
+proc a - * - -
+proc srv_1 3 3-4 DPCTL PL
+dir /far/x 3,7 frozen
+dir /y - free
+file /y/z 255 free D - x
+file /y/A~ 0-254 frozen DC TL \"q \\\"\\\\ q\"
+policy  {\"rules\": []} 
+phase
+lane one
+create a /n
+open a n r as f
+open a /n w
+open a .n rw as a
+read a f 4294967295
+write a 3 x00ff
+cut a f 0
+seek a 255 9
+dup a f as g
+dup a 0
+close a g
+pipe a
+pipe a as r w
+mkdir a y/w
+link a /y/z /z
+unlink a /z
+rmdir a /y/w
+chdir a /
+stat a y
+list a /y 1
+lane two
+
+fork a all
+fork a none as q
+fork q 0 as q
+fork q 0
+exec q /bin/sh
+exit q 255
+wait a
+labelof a /y
+self srv_1
+setlabel a /y *
+setself a 3
+freeze a /y
+freezeself a
+thaw a /y
+thawself a
+setpriv a /y - DPCTL
+droplic a P
+grant a q -
+ceiling a srv_1 0,2-255
+phase
+lane one
+fork a f
+fork a g as q
+pex a f
+unpex a 0
+readlog a 7
+copy a r 0 512
+priv srv_1 w
+login a f 1
+login a f g as u
+self u
+";
+
+#[test]
+fn every_form_is_written_as_it_was_read(rt: HostRuntime) -> Result<(), Fail> {
+    let text = spelled(rt.alloc(), EVERY_FORM)?;
+    assert_eq!(rt; text.as_slice(), EVERY_FORM.as_bytes());
+    Ok(())
+}
+
+#[test]
+fn skipped_lines_are_written_empty(rt: HostRuntime) -> Result<(), Fail> {
+    let text = spelled(rt.alloc(), "ix 1\n# a \"  line\n\n#\npolicy  x\nphase")?;
+    assert_eq!(rt;
+        text.as_slice(),
+        b"ix 1\n\n\n\npolicy  x\nphase\n".as_slice()
+    );
+    Ok(())
+}
+
+/// Payloads and their shortest spellings; of equally short ones `x` comes first, then the number of times, then the quotes.
+const PAYLOADS: [(&str, &str); 22] = [
+    ("x", "x"),
+    ("\"\"", "x"),
+    ("0*41", "x"),
+    ("x41", "x41"),
+    ("1*41", "x41"),
+    ("\"A\"", "x41"),
+    ("\"\\\"\"", "x22"),
+    ("\"\\x0a\"", "x0a"),
+    ("x4141", "2*41"),
+    ("\"AA\"", "2*41"),
+    ("x4142", "\"AB\""),
+    ("\"a\\x41\\n\"", "\"aA\\n\""),
+    ("x610A", "x610a"),
+    ("\"a\\n\"", "x610a"),
+    ("\"abc\\n\"", "\"abc\\n\""),
+    ("x6162630a", "\"abc\\n\""),
+    ("x00000000", "4*00"),
+    ("4*fF", "4*ff"),
+    ("\"aaaaaaaaaa\"", "10*61"),
+    ("\"ab\\xC3\\xa9\"", "x6162c3a9"),
+    ("\"a \\\"b\\\" \\\\\"", "\"a \\\"b\\\" \\\\\""),
+    ("x7f20", "x7f20"),
+];
+
+#[test]
+fn payloads_are_written_short(rt: HostRuntime) -> Result<(), Fail> {
+    let alloc = rt.alloc();
+    for (payload, want) in PAYLOADS {
+        let script = format!(in alloc; "ix 1\nfile /x - free - - {payload}")?;
+        let text = spelled(alloc, script.as_str())?;
+        let wanted = format!(in alloc; "ix 1\nfile /x - free - - {want}\n")?;
+        assert_eq!(rt; text.as_slice(), wanted.as_bytes(), "{payload}");
+    }
+    Ok(())
+}
