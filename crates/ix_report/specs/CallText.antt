@@ -6,7 +6,8 @@ use Rattle.ix_model.specs.History as op
 use Rattle.ix_label.specs.Spelling.{spelling}
 use Rattle.ix_report.specs.Hex.{hex}
 use Rattle.ix_report.specs.Names.{path_text}
-use Rattle.ix_report.specs.Words.{mode_text, keep_text, privs_text}
+use Rattle.ix_script.specs.Spellings.{mode_text, privs_text}
+use Rattle.ix_report.specs.Words.{keep_text}
 
 -- a call of a process
 unfoldable pub call_text : ℕ → Op → List ℕ

@@ -1,15 +1,8 @@
 -- Bytes in hexadecimal digits.
-use Rattle.std.specs.Prelude.{ℕ, ◌/◌, ◌%◌, List, [], ◌∷◌, codes, slice_index}
+use Rattle.std.specs.Prelude.{ℕ, List}
 use Rattle.std.specs.List.{flat_map}
+use Rattle.ix_script.specs.Spellings.{hex_pair}
 
--- a digit below 16, small
-abbrev pub hex_digit : ℕ → ℕ
-hex_digit n = slice_index (codes "0123456789abcdef") n
-
--- a byte as two digits, the higher one first
-abbrev pub hex_pair : ℕ → List ℕ
-hex_pair b = hex_digit (b / 16) ∷ hex_digit (b % 16) ∷ []
-
--- each byte as its pair
+-- each byte as two small digits
 abbrev pub hex : List ℕ → List ℕ
 hex bytes = flat_map hex_pair bytes

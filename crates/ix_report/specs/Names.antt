@@ -1,8 +1,8 @@
 -- Names and paths as a report writes them.
-use Rattle.std.specs.Prelude.{ℕ, Bool, ◌&&◌, not, List, [], ◌∷◌, ◌++◌, codes, ◌==◌, nat_le, if◌then◌else◌}
+use Rattle.std.specs.Prelude.{ℕ, Bool, ◌&&◌, not, List, [], ◌∷◌, ◌++◌, codes, ◌==◌, nat_le, if◌then◌else◌, map}
 use Rattle.std.specs.List.{flat_map}
 use Rattle.ix_model.specs.Naming.{PathOf}
-use Rattle.ix_report.specs.Hex.{hex_pair}
+use Rattle.ix_script.specs.Spellings.{hex_pair, joined}
 
 -- the bytes '"' and '\'
 abbrev pub quote : ℕ
@@ -23,20 +23,15 @@ name_byte b = if stands b then b ∷ [] else codes "\\x" ++ hex_pair b
 abbrev pub name_text : List ℕ → List ℕ
 name_text name = flat_map name_byte name
 
--- further names, each after a slash
-abbrev pub further : List (List ℕ) → List ℕ
-further names = flat_map (λ name. codes "/" ++ name_text name) names
-
 -- names with a slash between each two
-abbrev pub joined : List (List ℕ) → List ℕ
-joined [] = []
-joined (name ∷ names) = name_text name ++ further names
+abbrev pub names_text : List (List ℕ) → List ℕ
+names_text names = joined 47 (map name_text names)
 
 -- a path that begins at a working directory: a dot where it has no names
 abbrev pub relative_text : List (List ℕ) → List ℕ
 relative_text [] = codes "."
-relative_text (name ∷ names) = joined (name ∷ names)
+relative_text (name ∷ names) = names_text (name ∷ names)
 
 -- an absolute path begins with a slash
 unfoldable pub path_text : PathOf → List ℕ
-path_text p = if p.absolute then codes "/" ++ joined p.names else relative_text p.names
+path_text p = if p.absolute then codes "/" ++ names_text p.names else relative_text p.names

@@ -9,7 +9,8 @@ use Rattle.ix_label.specs.Spelling.{spelling}
 use Rattle.ix_report.specs.Hex.{hex}
 use Rattle.ix_report.specs.Names.{name_text}
 use Rattle.ix_report.specs.RefusalText.{refusal_text}
-use Rattle.ix_report.specs.Words.{kind_text, state_text, act_text, privs_text}
+use Rattle.ix_script.specs.Spellings.{privs_text, state_text}
+use Rattle.ix_report.specs.Words.{act_text, kind_text}
 
 -- an audit line, without its line feed
 unfoldable pub audit_text : AuditLine → List ℕ

@@ -4,15 +4,15 @@ ghost use Rattle.ix_model.specs.Calls.{op_of};
 ghost use Rattle.ix_label.specs.Spelling.{spelling};
 ghost use Rattle.ix_report.specs.Hex.{hex};
 ghost use Rattle.ix_report.specs.Names.{path_text};
-ghost use Rattle.ix_report.specs.Words.{keep_text, mode_text, privs_text};
+ghost use Rattle.ix_script.specs.Spellings.{mode_text, privs_text};
+ghost use Rattle.ix_report.specs.Words.{keep_text};
 ghost use Rattle.ix_report.specs.CallText.{call_text};
 
-use crate::labels::push_label;
 use crate::line::Line;
-use crate::pieces::{push_hex, push_number, push_path, push_privs};
-use crate::words::mode_word;
+use crate::pieces::{push_hex, push_label, push_number, push_path, push_privs};
 use ix_label::Label;
 use ix_model::{Call, Fd, Keep, Mode, NoMemory, Path, Pid, PrivSet};
+use ix_script::text::mode_word;
 
 /// A command's word, and the caller. The word ends with the `p` of the pid.
 fn push_command(line: &mut Line, word: &[u8], pid: Pid) -> Result<(), NoMemory>

@@ -1,13 +1,15 @@
 ghost use Rattle.std.specs.Prelude.{◌≡◌, ◌++◌, OnOk, codes};
 ghost use Rattle.std.specs.Fmt.{decimal};
-ghost use Rattle.ix_report.specs.Hex.{hex, hex_pair};
-ghost use Rattle.ix_report.specs.Names.{name_byte, name_text, joined, path_text};
-ghost use Rattle.ix_report.specs.Words.{letter, privs_text};
+ghost use Rattle.ix_label.specs.Spelling.{spelling};
+ghost use Rattle.ix_script.specs.Spellings.{hex_pair, privs_text};
+ghost use Rattle.ix_report.specs.Hex.{hex};
+ghost use Rattle.ix_report.specs.Names.{name_byte, name_text, names_text, path_text};
 
 use crate::line::Line;
-use bitflags::Flags;
 use itoa::Buffer;
+use ix_label::Label;
 use ix_model::{Name, NoMemory, Path, PrivSet};
+use ix_script::text::{hex_pair, label_text, privs_text};
 
 /// A number in decimal.
 pub fn push_number(line: &mut Line, n: u64) -> Result<(), NoMemory>
@@ -18,22 +20,13 @@ pub fn push_number(line: &mut Line, n: u64) -> Result<(), NoMemory>
     line.push(digits.format(n).as_bytes())
 }
 
-/// A byte as two small hexadecimal digits.
-fn push_hex_pair(line: &mut Line, byte: u8) -> Result<(), NoMemory>
-    ensures stays { line.new.before ≡ line.old.before }
-    ensures text { OnOk result (line.new.text ≡ line.old.text ++ hex_pair byte) }
-{
-    let digits = b"0123456789abcdef";
-    line.push(&[digits[(byte / 16) as usize], digits[(byte % 16) as usize]])
-}
-
 /// Bytes as pairs of small hexadecimal digits.
 pub fn push_hex(line: &mut Line, bytes: &[u8]) -> Result<(), NoMemory>
     ensures stays { line.new.before ≡ line.old.before }
     ensures text { OnOk result (line.new.text ≡ line.old.text ++ hex bytes.now) }
 {
     for byte in bytes {
-        push_hex_pair(line, *byte)?;
+        line.push(&hex_pair(*byte))?;
     }
     Ok(())
 }
@@ -47,7 +40,7 @@ fn push_name_byte(line: &mut Line, byte: u8) -> Result<(), NoMemory>
         return line.push(&[byte]);
     }
     line.push(b"\\x")?;
-    push_hex_pair(line, byte)
+    line.push(&hex_pair(byte))
 }
 
 /// A name, with the bytes escaped that don't stand in a path as they are.
@@ -74,7 +67,7 @@ fn push_further(line: &mut Line, name: &Name) -> Result<(), NoMemory>
 #[tactic(auto, using(crate::proofs::Further::further_next))]
 fn push_joined(line: &mut Line, path: &Path) -> Result<(), NoMemory>
     ensures stays { line.new.before ≡ line.old.before }
-    ensures text { OnOk result (line.new.text ≡ line.old.text ++ joined path.now.names) }
+    ensures text { OnOk result (line.new.text ≡ line.old.text ++ names_text path.now.names) }
 {
     let Some(first) = path.name(0) else {
         return Ok(());
@@ -105,34 +98,18 @@ pub fn push_path(line: &mut Line, path: &Path) -> Result<(), NoMemory>
     push_joined(line, path)
 }
 
-/// A privilege's letter, where the set has the privilege.
-fn push_letter(
-    line: &mut Line,
-    set: PrivSet,
-    privilege: PrivSet,
-    text: &[u8],
-) -> Result<(), NoMemory>
+/// A label in its one spelling. A report counts no looks at labels.
+pub fn push_label(line: &mut Line, label: &Label) -> Result<(), NoMemory>
     ensures stays { line.new.before ≡ line.old.before }
-    ensures text { OnOk result (line.new.text ≡ line.old.text ++ letter set privilege.0 text.now) }
+    ensures text { OnOk result (line.new.text ≡ line.old.text ++ spelling label.now) }
 {
-    if set.contains(privilege) {
-        return line.push(text);
-    }
-    Ok(())
+    line.push(label_text(label).as_bytes())
 }
 
 /// A set of privileges: a dash, or letters.
-#[tactic(auto, unfolding(crate::specs::Words::privs_text))]
 pub fn push_privs(line: &mut Line, set: PrivSet) -> Result<(), NoMemory>
     ensures stays { line.new.before ≡ line.old.before }
     ensures text { OnOk result (line.new.text ≡ line.old.text ++ privs_text set) }
 {
-    if set.is_empty() {
-        return line.push(b"-");
-    }
-    push_letter(line, set, PrivSet::DOWN, b"D")?;
-    push_letter(line, set, PrivSet::PRIV, b"P")?;
-    push_letter(line, set, PrivSet::CEIL, b"C")?;
-    push_letter(line, set, PrivSet::THAW, b"T")?;
-    push_letter(line, set, PrivSet::LOG, b"L")
+    line.push(privs_text(set).as_slice())
 }

@@ -5,16 +5,17 @@ ghost use Rattle.ix_label.specs.Spelling.{spelling};
 ghost use Rattle.ix_report.specs.Hex.{hex};
 ghost use Rattle.ix_report.specs.Names.{name_text};
 ghost use Rattle.ix_report.specs.RefusalText.{refusal_text};
-ghost use Rattle.ix_report.specs.Words.{act_text, kind_text, privs_text, state_text};
+ghost use Rattle.ix_script.specs.Spellings.{privs_text, state_text};
+ghost use Rattle.ix_report.specs.Words.{act_text, kind_text};
 ghost use Rattle.ix_report.specs.ReplyText.{audit_text, reply_text};
 
-use crate::labels::push_label;
 use crate::line::Line;
-use crate::pieces::{push_hex, push_name, push_number, push_privs};
+use crate::pieces::{push_hex, push_label, push_name, push_number, push_privs};
 use crate::refusals::name_of;
-use crate::words::{act_word, kind_word, state_word};
+use crate::words::{act_word, kind_word};
 use ix_label::Label;
 use ix_model::{AuditLine, Fd, Kind, Name, NoMemory, Obj, Pid, PrivSet, Refusal, Reply};
+use ix_script::text::state_word;
 
 /// A word, which ends with its space, and a number.
 fn push_word_number(line: &mut Line, word: &[u8], n: u64) -> Result<(), NoMemory>

@@ -5,13 +5,13 @@ ghost use Rattle.ix_report.specs.ReplyText.{AreBytesOf};
 ghost use Rattle.ix_report.specs.LineText.{audit_line, entry_line, head_line, object_line, process_line, seen_text, tail_line};
 
 use crate::calls::push_call;
-use crate::labels::push_label;
 use crate::line::Line;
-use crate::pieces::push_number;
+use crate::pieces::{push_label, push_number};
 use crate::replies::{push_audit, push_reply};
-use crate::words::{kind_word, life_word, state_word};
+use crate::words::{kind_word, life_word};
 use ix_label::Label;
 use ix_model::{AuditLine, Entry, NoMemory, ObjView, Pid, ProcView, Reply};
+use ix_script::text::state_word;
 
 /// Appends the first line. After `NoMemory` the bytes are as they were.
 #[tactic(auto, unfolding(crate::specs::LineText::head_line))]

@@ -1,18 +1,7 @@
 ghost use Rattle.std.specs.Prelude.{◌≡◌};
-ghost use Rattle.ix_report.specs.Words.{mode_text, kind_text, state_text, life_text, act_text};
+ghost use Rattle.ix_report.specs.Words.{act_text, kind_text, life_text};
 
-use ix_model::{Act, Kind, Mode};
-
-/// What an open entry serves for.
-pub fn mode_word(mode: Mode) -> &'static [u8]
-    ensures { result.now ≡ mode_text mode }
-{
-    match mode {
-        Mode::Read => b"r",
-        Mode::Write => b"w",
-        Mode::Both => b"rw",
-    }
-}
+use ix_model::{Act, Kind};
 
 /// What an object is.
 pub fn kind_word(kind: Kind) -> &'static [u8]
@@ -23,13 +12,6 @@ pub fn kind_word(kind: Kind) -> &'static [u8]
         Kind::Dir => b"dir",
         Kind::Pipe => b"pipe",
     }
-}
-
-/// Whether a label is frozen.
-pub fn state_word(frozen: bool) -> &'static [u8]
-    ensures { result.now ≡ state_text frozen }
-{
-    if frozen { b"frozen" } else { b"free" }
 }
 
 /// Whether a process has ended.
