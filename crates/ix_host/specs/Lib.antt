@@ -1,6 +1,16 @@
 pub mod Command
+pub mod CommandLine
+pub mod Pairs
+pub mod Built
+pub mod Rules
+pub mod Asked
 pub mod Serial
+pub mod Running
+pub mod Lanes
 pub mod Report
+pub mod Replies
+pub mod Telling
 pub mod Outcome
 pub mod Whole
 pub mod Run
+pub mod Laws

@@ -1,33 +1,43 @@
--- What a script comes to: a report, or a refusal.
-use Rattle.std.specs.Prelude.{◌≡◌, ℕ, ◌==◌, List, ◌++◌, codes, if◌then◌else◌}
-use Rattle.std.specs.Option.{option_map_or}
-use Rattle.std.specs.Fmt.{decimal}
-use Rattle.ix_script.specs.Order.{script_of}
-use Rattle.ix_script.specs.Faults.{fault_line}
+-- What a command comes to with an input: a text, or a refusal.
+use Rattle.std.specs.Prelude.{ℕ, List, [], Some, None, unwrap_or}
+use Rattle.ix_script.specs.Canonical.{canonical}
+use Rattle.ix_script.specs.Faults.{fault_of}
+use Rattle.ix_script.specs.Scripts.{script_of}
+use Rattle.ix_script.specs.declared.line.Line.{Line}
+use Rattle.ix_host.specs.declared.command.Command.{Command}
+use Rattle.ix_host.specs.declared.command.Command.TheVariants as command
+use Rattle.ix_host.specs.Built.{unbuilt_line}
 use Rattle.ix_host.specs.Report.{report_of}
-use Rattle.ix_host.specs.declared.answer.Text.{Text}
-use Rattle.ix_host.specs.declared.answer.Text.TheVariants as text
+use Rattle.ix_host.specs.Rules.{refusal_line}
+use Rattle.ix_host.specs.Serial.{serial}
 
--- the whole report, or the line and the rule of a refusal
+-- a whole text, or the line and the rule of a refusal
 pub data Outcome : Type 0 where
-  Report : List ℕ → Outcome
+  Whole : List ℕ → Outcome
   Refused : ℕ → ℕ → Outcome
 
--- what an input comes to that is not too long: the report of the script that it is, or a refusal of the line from which
--- on it is none
-unfoldable pub outcome_of : List ℕ → Outcome
-outcome_of bytes = option_map_or (λ s. Report (report_of s)) (script_of bytes) (Refused (fault_line bytes) 0)
+-- the text that a command gives of a script: the report of its serial history, or its canonical text
+unfoldable pub text_for : Command → List Line → List ℕ
+text_for command.Run s = report_of s (serial s)
+text_for command.Print s = canonical s
 
--- what is said to a script that breaks a rule
-abbrev pub rule_text : ℕ → List ℕ
-rule_text rule = if rule == 0 then codes "the form is not built yet" else codes "the script is too long"
+-- what a command comes to with a script: rule 0 is that a form isn't built yet
+unfoldable pub outcome_for : Command → List Line → Outcome
+outcome_for c s =
+    elim (unbuilt_line c s) [
+      | Some n ↦ Refused n 0
+      | None ↦ Whole (text_for c s)
+    ]
 
--- the one line that is written for a refusal
-unfoldable pub refusal_line : ℕ → ℕ → List ℕ
-refusal_line line rule = codes "script:" ++ decimal line ++ codes ": " ++ rule_text rule ++ codes "\n"
+-- what a command comes to with an input: the fault of the input stands before all else
+unfoldable pub outcome_of : Command → List ℕ → Outcome
+outcome_of c bytes =
+    elim (fault_of bytes) [
+      | Some fault ↦ Refused fault.0 fault.1
+      | None ↦ outcome_for c (unwrap_or (script_of bytes) [])
+    ]
 
--- The text gives the outcome. Want of memory gives none.
-abbrev pub Gives : Text → Outcome → Type 0
-Gives (text.Report report) outcome = outcome ≡ Report report.items
-Gives (text.Refused line rule words) outcome = (outcome ≡ Refused line rule) × (words.items ≡ refusal_line line rule)
-Gives text.NoMemory outcome = Unit {0}
+-- the text of an outcome
+abbrev pub text_of : Outcome → List ℕ
+text_of (Whole text) = text
+text_of (Refused line rule) = refusal_line line rule

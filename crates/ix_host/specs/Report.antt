@@ -1,5 +1,5 @@
--- The report of a script: of the one history that its commands make, and of the world to which that leads.
-use Rattle.std.specs.Prelude.{ℕ, ◌+◌, List, [], ◌∷◌, ◌++◌, length, Option, codes}
+-- The report of a history of a script: its entries, and the world to which they lead.
+use Rattle.std.specs.Prelude.{ℕ, ◌+◌, List, [], ◌∷◌, ◌++◌, length, Option, codes, slice_index_or}
 use Rattle.std.specs.Option.{option_map_or}
 use Rattle.std.proofs.Common.{option_map}
 use Rattle.std.specs.List.{range_with_len, flat_map}
@@ -8,24 +8,25 @@ use Rattle.ix_model.specs.Opening.{opening_world}
 use Rattle.ix_model.specs.Step.{step_of, run}
 use Rattle.ix_model.specs.History.{Event}
 use Rattle.ix_core.specs.Stepping.{view_of, shown_of}
-use Rattle.ix_script.specs.declared.script.Script.{Script}
+use Rattle.ix_script.specs.Before.{lanes_of}
+use Rattle.ix_script.specs.Scripts.{config_of}
+use Rattle.ix_script.specs.declared.line.Line.{Line}
 use Rattle.ix_report.specs.LineText.{head_line, entry_line, object_line, process_line, audit_line, tail_line}
-use Rattle.ix_host.specs.Serial.{serial}
 
--- the name of a script's lane; a script without one has no commands
-abbrev pub lane_of : Option (List ℕ) → List ℕ
-lane_of lane = option_map_or (λ name. name) lane []
+-- the name of a seat's lane
+abbrev pub lane_name : List (List ℕ) → ℕ → List ℕ
+lane_name lanes seat = slice_index_or lanes seat []
 
--- an entry that is made in a world: the call, what it gives, and the label of its caller after it
-abbrev pub entry_text : ℕ → List ℕ → World → Event → List ℕ
-entry_text place lane w e =
+-- an entry that is made in a world: its lane, the call, what it gives, and the label of its caller after it
+abbrev pub entry_text : List (List ℕ) → ℕ → World → Event → List ℕ
+entry_text lanes place w e =
     let given = step_of w place e in
-    entry_line place lane e given.reply given.bytes (option_map (λ (p : Process). p.label) (at given.world.frame.processes e.pid))
+    entry_line place (lane_name lanes e.seat) e given.reply given.bytes (option_map (λ (p : Process). p.label) (at given.world.frame.processes e.pid))
 
 -- entries, one after the other
-abbrev pub entries_text : ℕ → List ℕ → World → List Event → List ℕ
-entries_text place lane w [] = []
-entries_text place lane w (e ∷ events) = entry_text place lane w e ++ entries_text (place + 1) lane (step_of w place e).world events
+abbrev pub entries_text : List (List ℕ) → ℕ → World → List Event → List ℕ
+entries_text lanes place w [] = []
+entries_text lanes place w (e ∷ events) = entry_text lanes place w e ++ entries_text lanes (place + 1) (step_of w place e).world events
 
 -- the object of a number, where there is one
 abbrev pub object_text : List (Option Object) → ℕ → List ℕ
@@ -53,9 +54,8 @@ closing_text w count =
     codes "objects\n" ++ objects_text w ++ codes "processes\n" ++ processes_text w
     ++ codes "log\n" ++ flat_map audit_line w.frame.log ++ tail_line count (length w.frame.log)
 
--- the report: each entry, then the world to which they lead
-unfoldable pub report_of : Script → List ℕ
-report_of s =
-    let first = opening_world s.config in
-    let events = serial first 1 [] s.commands in
-    head_line ++ entries_text 1 (lane_of s.lane) first events ++ closing_text (run first 1 events) (length events)
+-- the report of a history of a script: each entry, then the world to which they lead
+unfoldable pub report_of : List Line → List Event → List ℕ
+report_of s events =
+    let first = opening_world (config_of s) in
+    head_line ++ entries_text (lanes_of s) 1 first events ++ closing_text (run first 1 events) (length events)

@@ -1,33 +1,34 @@
 -- What a run of the program comes to, by its words and its input.
-use Rattle.std.specs.Prelude.{◌≡◌, ℕ, ◌+◌, Bool, true, false, List, [], ◌++◌, length, drop, Option, Some, nat_lt, if◌then◌else◌}
-use Rattle.ix_host.specs.Command.{is_run, usage_line}
-use Rattle.ix_host.specs.Outcome.{Outcome, outcome_of, refusal_line}
+use Rattle.std.specs.Prelude.{◌≡◌, ℕ, ◌+◌, Bool, true, List, [], ◌++◌, drop, Option, Some, None, is_some, is_none}
+use Rattle.std.specs.Prelude.{IfSome}
+use Rattle.ix_io.specs.Streams.{Rose}
+use Rattle.ix_host.specs.Command.{command_of, usage_line}
+use Rattle.ix_host.specs.Outcome.{Outcome, outcome_of, text_of}
 use Rattle.ix_host.specs.Outcome as outcome
+use Rattle.ix_host.specs.Rules.{refusal_line}
 use Rattle.ix_host.specs.Whole.{script_max, WritesFront}
-use Rattle.ix_host.specs.declared.run.Status.{Status}
-use Rattle.ix_host.specs.declared.run.Status.TheVariants as status
-
--- what an input comes to; one that is too long breaks rule 1, said of line 1
-abbrev pub verdict : List ℕ → Outcome
-verdict bytes = if nat_lt script_max (length bytes) then outcome.Refused 1 1 else outcome_of bytes
-
--- the text of an outcome
-abbrev pub text_of : Outcome → List ℕ
-text_of (outcome.Report text) = text
-text_of (outcome.Refused line rule) = refusal_line line rule
+use Rattle.ix_host.specs.declared.command.Command.{Command}
+use Rattle.ix_host.specs.declared.status.Status.{Status}
+use Rattle.ix_host.specs.declared.status.Status.TheVariants as status
 
 -- the status of an outcome
 abbrev pub status_of : Outcome → Status
-status_of (outcome.Report text) = status.Done
+status_of (outcome.Whole text) = status.Done
 status_of (outcome.Refused line rule) = status.Script line rule
+
+-- the text that a command and the input call for
+unfoldable pub wanted_for : Option Command → List ℕ → List ℕ
+wanted_for None bytes = usage_line
+wanted_for (Some c) bytes = text_of (outcome_of c bytes)
 
 -- the text that the words and the input call for
 abbrev pub wanted : List (List ℕ) → List ℕ → List ℕ
-wanted words bytes = if is_run words then text_of (verdict bytes) else usage_line
+wanted words bytes = wanted_for (command_of words) bytes
 
 -- the status that the words and the input call for
-abbrev pub called_for : List (List ℕ) → List ℕ → Status
-called_for words bytes = if is_run words then status_of (verdict bytes) else status.Usage
+unfoldable pub called_for : Option Command → List ℕ → Status
+called_for None bytes = status.Usage
+called_for (Some c) bytes = status_of (outcome_of c bytes)
 
 -- the number that a program ends with
 abbrev pub code_of : Status → ℕ
@@ -47,14 +48,14 @@ IsAnswer status.ReadFault = ⊥
 IsAnswer status.WriteFault = ⊥
 IsAnswer status.NoMemory = ⊥
 
--- Whether the words are a command: they are none at Usage, and may be either where a write failed.
-abbrev pub FitsCommand : Status → Bool → Type 0
-FitsCommand status.Done run = run ≡ true
-FitsCommand status.Usage run = run ≡ false
-FitsCommand (status.Script line rule) run = run ≡ true
-FitsCommand status.ReadFault run = run ≡ true
-FitsCommand status.WriteFault run = Unit {0}
-FitsCommand status.NoMemory run = run ≡ true
+-- Whether the words are a command: they are none at Usage, and may be either where a write failed or memory ran out.
+abbrev pub FitsCommand : Status → Option Command → Type 0
+FitsCommand status.Done command = is_some command ≡ true
+FitsCommand status.Usage command = is_none command ≡ true
+FitsCommand (status.Script line rule) command = is_some command ≡ true
+FitsCommand status.ReadFault command = is_some command ≡ true
+FitsCommand status.WriteFault command = Unit {0}
+FitsCommand status.NoMemory command = Unit {0}
 
 -- How far the input was read: to its end, or for a refusal to one byte more than a script may have.
 abbrev pub ReadsOut : Status → List ℕ → Option (List ℕ) → Type 0
@@ -76,3 +77,20 @@ abbrev pub WritesLine : Status → List ℕ → Option (List ℕ) → Type 0
 WritesLine status.Usage taken after = after ≡ Some (taken ++ usage_line)
 WritesLine (status.Script line rule) taken after = after ≡ Some (taken ++ refusal_line line rule)
 WritesLine _ taken after = Unit {0}
+
+-- Where a command came to an end with an outcome: the status is the outcome's, or memory ran out or a write failed.
+abbrev pub IsEndOf : Outcome → Status → Type 0
+IsEndOf o status.Done = status.Done ≡ status_of o
+IsEndOf o status.Usage = ⊥
+IsEndOf o (status.Script line rule) = status.Script line rule ≡ status_of o
+IsEndOf o status.ReadFault = ⊥
+IsEndOf o status.WriteFault = Unit {0}
+IsEndOf o status.NoMemory = Unit {0}
+
+-- A command came to an end with this status: of the outcome's text this was taken, and the sink's count of faults went so far.
+pub record Ends (o : Outcome) (end : Status) (taken after : Option (List ℕ)) (done : Bool) (before now : ℕ) : Type 0 where
+  pub fits : IsEndOf o end
+  pub text : IfSome taken (λ t. WritesFor end (text_of o) t after)
+  pub finished : IsAnswer end → done ≡ true
+  pub kept : IsAnswer end → now ≡ before
+  pub fault : end ≡ status.WriteFault → Rose before now

@@ -1,61 +1,74 @@
--- The history that the commands of a lane make, where each is answered before the next.
-use Rattle.std.specs.Prelude.{ℕ, ◌+◌, nat_lt, List, [], ◌∷◌, ◌++◌, fold, Some, None, if◌then◌else◌}
+-- The serial history of a script: its lines in order, each answered before the next.
+use Rattle.std.specs.Prelude.{ℕ, suc, ◌+◌, List, [], ◌∷◌, length, replicate, Option, Some, None, slice_index_or, slice_set, if◌then◌else◌}
+use Rattle.std.proofs.Common.{option_map}
+use Rattle.std.specs.FinMap as map
 use Rattle.ix_model.specs.Naming.{same_bytes}
 use Rattle.ix_model.specs.World.{World}
+use Rattle.ix_model.specs.Opening.{opening_world}
 use Rattle.ix_model.specs.Step.{step_of}
-use Rattle.ix_model.specs.History.{Op, Event}
-use Rattle.ix_model.specs.History as op
+use Rattle.ix_model.specs.History.{Event}
 use Rattle.ix_model.specs.declared.reply.Reply.{Reply}
-use Rattle.ix_model.specs.declared.reply.Reply.TheVariants as reply
-use Rattle.ix_script.specs.declared.script.Command.{Command}
-use Rattle.ix_script.specs.declared.script.Deed.{Deed}
-use Rattle.ix_script.specs.declared.script.Deed.TheVariants as deed
-use Rattle.ix_script.specs.declared.script.FdWord.{FdWord}
-use Rattle.ix_script.specs.declared.script.FdWord.TheVariants as word
-use Rattle.ix_host.specs.declared.names.Bound.{Bound}
+use Rattle.ix_script.specs.Before.{lanes_of, proc_names}
+use Rattle.ix_script.specs.Scripts.{config_of}
+use Rattle.ix_script.specs.declared.line.Line.{Line}
+use Rattle.ix_script.specs.declared.line.Line.TheVariants as line
+use Rattle.ix_host.specs.declared.names.Names.{Names}
+use Rattle.ix_host.specs.Asked.{Asked, Numbers, asked, named, no_names}
 
--- what a name stands for, where one more is bound
-abbrev pub latest : List ℕ → ℕ → Bound → ℕ
-latest name fd bound = if same_bytes bound.name name then bound.fd else fd
+-- ---- a script's processes and lanes
+-- names with these after them, which stand for n and the numbers after it
+abbrev pub numbered : ℕ → List (List ℕ) → Numbers → Numbers
+numbered n [] numbers = numbers
+numbered n (name ∷ names) numbers = numbered (suc n) names (map.insert numbers name n)
 
--- the descriptor of a word: its number, or what its name was last bound to
-abbrev pub fd_of : List Bound → FdWord → ℕ
-fd_of names (word.Number n) = n
-fd_of names (word.Named name) = fold (latest name) 255 names
+-- the processes of the header have pids 1, 2 and so on, in order
+unfoldable pub header_of : List Line → Numbers
+header_of s = numbered 1 (proc_names s) map.empty
 
--- the system call that a deed is
-abbrev pub op_of_deed : List Bound → Deed → Op
-op_of_deed names (deed.Open path mode name) = op.OpenAt path mode
-op_of_deed names (deed.Read fd count) = op.ReadFd (fd_of names fd) count
-op_of_deed names (deed.Write fd bytes) = op.WriteFd (fd_of names fd) bytes
-op_of_deed names deed.SelfLabel = op.SelfLabel
+-- the seat of the lane of that name, where the first of these lanes has the seat n
+abbrev pub seat_from : ℕ → List ℕ → List (List ℕ) → Option ℕ
+seat_from n name [] = None
+seat_from n name (lane ∷ lanes) = if same_bytes name lane then Some n else seat_from (suc n) name lanes
 
--- the descriptor of a reply; 255, which no process has, where it says none
-abbrev pub number_in : Reply → ℕ
-number_in (reply.Number n) = if nat_lt n 256 then n else 255
-number_in _ = 255
+-- the seat of the lane in which the next line stands; lanes have seats 0, 1 and so on, in the order in which they first appear
+abbrev pub seat_after : List (List ℕ) → Option ℕ → Line → Option ℕ
+seat_after lanes seat line.Phase = None
+seat_after lanes seat (line.Lane name) = seat_from 0 name lanes
+seat_after lanes seat _ = seat
 
--- how many bytes a reply says were read
-abbrev pub count_in : Reply → ℕ
-count_in (reply.Bytes k) = k
-count_in _ = 0
+-- ---- one line
+-- the entry of what is asked for
+abbrev pub entry_of : ℕ → ℕ → Asked → Event
+entry_of seat number a = record { seat = seat; line = number; pid = a.pid; op = a.op }
 
--- an open binds the name that stands after `as` to the descriptor of its reply
-abbrev pub named : List Bound → Deed → Reply → List Bound
-named names (deed.Open path mode (Some name)) r = names ++ (record { name = name; fd = number_in r }) ∷ []
-named names (deed.Open path mode None) r = names
-named names (deed.Read fd count) r = names
-named names (deed.Write fd bytes) r = names
-named names deed.SelfLabel r = names
+-- what the names of a seat's lane stand for
+abbrev pub names_of : List Names → ℕ → Names
+names_of names seat = slice_index_or names seat no_names
 
--- the entry of a command; the one lane has seat 0
-abbrev pub event_of_command : List Bound → Command → Event
-event_of_command names c = record { seat = 0; line = c.line; pid = c.pid.0; op = op_of_deed names c.deed }
+-- the entry that a line makes, where it stands in a lane and asks for a call
+abbrev pub entry_at : List Line → List Names → Option ℕ → ℕ → Line → Option Event
+entry_at s names None number l = None
+entry_at s names (Some seat) number l = option_map (entry_of seat number) (asked (header_of s) (names_of names seat) l)
 
--- the entries of the commands, from a world and a place on
-abbrev pub serial : World → ℕ → List Bound → List Command → List Event
-serial w place names [] = []
-serial w place names (c ∷ commands) =
-    let e = event_of_command names c in
-    let given = step_of w place e in
-    e ∷ serial given.world (place + 1) (named names c.deed given.reply) commands
+-- what the names of all lanes stand for after a line of a seat's lane was answered
+abbrev pub renamed : List Names → ℕ → Line → Reply → List Names
+renamed names seat l r = slice_set names seat (named (names_of names seat) l r)
+
+-- ---- all lines
+-- the entries of lines, from a world and a place on; the first line has this number, and stands in the lane of this seat
+abbrev pub serial_from : List Line → World → ℕ → List Names → Option ℕ → ℕ → List Line → List Event
+serial_from s w place names seat number [] = []
+serial_from s w place names seat number (l ∷ lines) =
+    elim (entry_at s names seat number l) [
+      | None ↦ serial_from s w place names (seat_after (lanes_of s) seat l) (suc number) lines
+      | Some e ↦ e ∷ serial_from s (step_of w place e).world (place + 1) (renamed names e.seat l (step_of w place e).reply)
+          (seat_after (lanes_of s) seat l) (suc number) lines
+    ]
+
+-- the names of the lanes at first
+abbrev pub first_names : List Line → List Names
+first_names s = replicate (length (lanes_of s)) no_names
+
+-- the serial history of a script
+unfoldable pub serial : List Line → List Event
+serial s = serial_from s (opening_world (config_of s)) 1 (first_names s) None 1 s

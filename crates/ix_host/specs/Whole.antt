@@ -42,10 +42,12 @@ GoesOn all read after piece.End = (read ≡ all) × (after ≡ Some [])
 GoesOn all read after piece.Fault = Unit {0}
 GoesOn all read after piece.NoMemory = Unit {0}
 
--- Some front of the text went out.
+-- Some front of the text went out, and not what is left of it.
 pub record WritesFront (taken : List ℕ) (after : Option (List ℕ)) (text : List ℕ) : Type 0 where
-  pub count : ℕ
-  pub front : after ≡ Some (taken ++ take count text)
+  pub gone : List ℕ
+  pub left : List ℕ
+  pub whole : gone ++ left ≡ text
+  pub front : after ≡ Some (taken ++ gone)
 
 -- The text went out, or after a fault some front of it.
 abbrev pub Writes : {E : Type 0} → List ℕ → Option (List ℕ) → List ℕ → Result (Unit {0}) E → Type 0

@@ -1,53 +1,63 @@
-ghost use Rattle.std.specs.Prelude.{◌≡◌, ℕ, ◌+◌, ◌≤◌, ◌<◌, ◌⊎◌, false, true, length, IfSome};
+ghost use Rattle.std.specs.Prelude.{◌≡◌, ℕ, ◌≤◌, ◌<◌, ◌⊎◌, None, true, is_none, length, IfSome};
 ghost use Rattle.ix_io.specs.Streams.{Rose};
-ghost use Rattle.ix_host.specs.Command.{is_run};
+ghost use Rattle.ix_host.specs.Built.{unbuilt_line};
+ghost use Rattle.ix_host.specs.Command.{command_of};
+ghost use Rattle.ix_host.specs.Outcome.{outcome_for, outcome_of, text_for};
+ghost use Rattle.ix_host.specs.Outcome as outcome;
 ghost use Rattle.ix_host.specs.Whole.{TakesFew, script_max};
-ghost use Rattle.ix_host.specs.Run.{wanted, called_for, code_of, IsAnswer, FitsCommand, ReadsOut, WritesFor, WritesLine};
+ghost use Rattle.ix_host.specs.Run.{Ends, wanted, called_for, IsAnswer, FitsCommand, ReadsOut, WritesFor, WritesLine};
 
-use crate::answer::{Text, answer, too_long_line};
+use crate::built::unbuilt_line;
+use crate::command::Command;
+use crate::rules::too_long_line;
+use crate::sending::{print, refuse, run};
+use crate::status::Status;
 use crate::stream::{Input, read_all, write_all};
 use crate::words::Words;
 use ix_io::{Failed, Sink, Source};
+use ix_script::{ReadFail, Script, read};
 use std::alloc::Global;
+use std::marker::Brand;
+use std::sync::ledger::Blank;
 
-/// How a run ended.
-#[derive(Debug, Clone, Copy, PartialEq, Eq)]
-pub enum Status {
-    /// The whole text was written and finished, and the input was read to its end.
-    Done,
-    /// The words are no command; the usage line was written and finished.
-    Usage,
-    /// The script breaks this rule at this line, from 1; that was written and finished.
-    Script { line: u32, rule: u8 },
-    /// A read failed; nothing was run, and nothing was written.
-    ReadFault,
-    /// A write failed; some front of the text was written.
-    WriteFault,
-    /// There was no memory; some front of the text was written.
-    NoMemory,
-}
-
-impl Status {
-    ghost use Rattle.std.specs.Prelude.{◌≡◌};
-    ghost use Rattle.ix_host.specs.Run.{code_of};
-
-    /// The number that a program ends with.
-    pub fn code(&self) -> u8
-        ensures { result ≡ code_of self.now }
-    {
-        match self {
-            Status::Done => 0,
-            Status::Usage => 2,
-            Status::Script { .. } => 3,
-            Status::ReadFault => 4,
-            Status::WriteFault => 5,
-            Status::NoMemory => 6,
-        }
+/// Does what a command asks with a script all of whose forms are built under it.
+#[tactic(auto, unfolding(crate::specs::Outcome::text_for))]
+fn carry_out<K: Sink>(alloc: Global, sink: &mut K, command: Command, script: Script) -> Status
+    requires { unbuilt_line command script ≡ None }
+    ensures { Ends (outcome.Whole (text_for command script)) result (K.taken sink.old) (K.taken sink.new) (K.finished sink.new)
+        (K.faults sink.old) (K.faults sink.new) }
+{
+    match command {
+        Command::Run => run::<K, Brand>(alloc, sink, script, Blank::new(1)),
+        Command::Print => print(alloc, sink, &script),
     }
 }
 
-/// Does what the words ask: `run` reads a script from the source, runs it, and writes its report to
-/// the sink. All else is answered by the usage line. It waits for nobody.
+/// Does what a command asks with a script, where all its forms are built under it.
+fn answer_script<K: Sink>(alloc: Global, sink: &mut K, command: Command, script: Script) -> Status
+    ensures { Ends (outcome_for command script) result (K.taken sink.old) (K.taken sink.new) (K.finished sink.new)
+        (K.faults sink.old) (K.faults sink.new) }
+{
+    match unbuilt_line(command, &script) {
+        Some(line) => refuse(alloc, sink, line, 0),
+        None => carry_out(alloc, sink, command, script),
+    }
+}
+
+/// Does what a command asks with an input.
+fn answer<K: Sink>(alloc: Global, sink: &mut K, command: Command, bytes: &[u8]) -> Status
+    ensures { Ends (outcome_of command bytes.now) result (K.taken sink.old) (K.taken sink.new) (K.finished sink.new)
+        (K.faults sink.old) (K.faults sink.new) }
+{
+    match read(alloc, bytes) {
+        Ok(script) => answer_script(alloc, sink, command, script),
+        Err(ReadFail::Fault(fault)) => refuse(alloc, sink, fault.line, fault.rule),
+        Err(ReadFail::NoMemory) => Status::NoMemory,
+    }
+}
+
+/// Does what the words ask: `run` reads a script from the source, runs it, and writes its report to the sink; `print`
+/// writes the canonical text of the script. All else is answered by the usage line. It waits for nobody.
 pub fn run_serial<S: Source, K: Sink>(
     alloc: Global,
     words: &Words,
@@ -57,7 +67,7 @@ pub fn run_serial<S: Source, K: Sink>(
     // What is taken from the source, where that tells its bytes.
     ensures bounded { IfSome (S.left source.old) (λ bytes. TakesFew bytes (S.left source.new)) }
     ensures read_out { IfSome (S.left source.old) (λ bytes. ReadsOut result bytes (S.left source.new)) }
-    ensures not_read { is_run words.now ≡ false → source.new ≡ source.old }
+    ensures not_read { is_none (command_of words.now) ≡ true → source.new ≡ source.old }
 
     // What is written, where the sink tells its bytes.
     ensures written { IfSome (S.left source.old) (λ bytes. IfSome (K.taken sink.old) (λ taken.
@@ -67,24 +77,28 @@ pub fn run_serial<S: Source, K: Sink>(
     ensures not_written { result ≡ Status.ReadFault → sink.new ≡ sink.old }
 
     // When each status comes.
-    ensures command { FitsCommand result (is_run words.now) }
-    ensures answer { IsAnswer result → IfSome (S.left source.old) (λ bytes. result ≡ called_for words.now bytes) }
+    ensures command { FitsCommand result (command_of words.now) }
+    ensures answer { IsAnswer result → IfSome (S.left source.old) (λ bytes. result ≡ called_for (command_of words.now) bytes) }
     ensures quiet { IsAnswer result → (S.faults source.new ≡ S.faults source.old) × (K.faults sink.new ≡ K.faults sink.old) }
     ensures too_long { result ≡ Status.Script 1 1 → IfSome (S.left source.old) (λ bytes. script_max < length bytes) }
     ensures read_fault { result ≡ Status.ReadFault → Rose (S.faults source.old) (S.faults source.new) }
     ensures write_fault { result ≡ Status.WriteFault → Rose (K.faults sink.old) (K.faults sink.new) }
 
     // Where nothing failed, the status is the one that is called for, unless memory ran out.
-    ensures usage { is_run words.now ≡ false → ¬ Rose (K.faults sink.old) (K.faults sink.new) → result ≡ Status.Usage }
+    ensures usage { is_none (command_of words.now) ≡ true → ¬ Rose (K.faults sink.old) (K.faults sink.new)
+        → (result ≡ Status.Usage) ⊎ (result ≡ Status.NoMemory) }
     ensures complete { ¬ Rose (S.faults source.old) (S.faults source.new) → ¬ Rose (K.faults sink.old) (K.faults sink.new)
-        → IfSome (S.left source.old) (λ bytes. (result ≡ called_for words.now bytes) ⊎ (result ≡ Status.NoMemory)) }
+        → IfSome (S.left source.old) (λ bytes. (result ≡ called_for (command_of words.now) bytes) ⊎ (result ≡ Status.NoMemory)) }
 {
-    if !words.is_run() {
-        return match write_all(sink, b"usage: ixone run\n") {
+    let Ok(command) = words.command(alloc) else {
+        return Status::NoMemory;
+    };
+    let Some(command) = command else {
+        return match write_all(sink, b"usage: ixone run | print\n") {
             Ok(()) => Status::Usage,
             Err(Failed) => Status::WriteFault,
         };
-    }
+    };
     match read_all(alloc, source) {
         Input::Fault => Status::ReadFault,
         Input::NoMemory => Status::NoMemory,
@@ -92,16 +106,6 @@ pub fn run_serial<S: Source, K: Sink>(
             Ok(()) => Status::Script { line: 1, rule: 1 },
             Err(Failed) => Status::WriteFault,
         },
-        Input::Whole(bytes) => match answer(alloc, bytes.as_slice()) {
-            Text::Report(report) => match write_all(sink, report.as_slice()) {
-                Ok(()) => Status::Done,
-                Err(Failed) => Status::WriteFault,
-            },
-            Text::Refused { line, rule, text } => match write_all(sink, text.as_slice()) {
-                Ok(()) => Status::Script { line, rule },
-                Err(Failed) => Status::WriteFault,
-            },
-            Text::NoMemory => Status::NoMemory,
-        },
+        Input::Whole(bytes) => answer(alloc, sink, command, bytes.as_slice()),
     }
 }

@@ -1,112 +1,114 @@
-ghost use Rattle.std.specs.Prelude.{◌≡◌, ◌++◌, ◌+◌, ◌∷◌, ◌<◌, ◌≤◌, [], OnOk, length};
+ghost use Rattle.std.specs.Prelude.{◌≡◌, ◌<◌, ◌≤◌, List, [], None, false, IfSome, OnOk, length};
+ghost use Rattle.ix_script.specs.declared.line.Line.{Line};
+ghost use Rattle.ix_script.specs.Scripts.{config_of};
+ghost use Rattle.ix_host.specs.Asked.{asked};
+ghost use Rattle.ix_host.specs.Built.{is_unbuilt_run, unbuilt_line};
+ghost use Rattle.ix_host.specs.Serial.{entry_at, serial};
+ghost use Rattle.ix_host.specs.Running.{RunsLine, RunsCommand};
 ghost use Rattle.std.specs.Option.{option_map};
-ghost use Rattle.ix_model.specs.Calls.{event_of};
-ghost use Rattle.ix_model.specs.Histories.{world_of, next, with_entry};
-ghost use Rattle.ix_report.specs.LineText.{entry_line};
-ghost use Rattle.ix_report.specs.ReplyText.{AreBytesOf};
-ghost use Rattle.ix_host.specs.Serial.{count_in, event_of_command, named, serial};
-ghost use Rattle.ix_host.specs.Report.{entry_text, entries_text};
+ghost use Rattle.ix_host.specs.Serial.{entry_of, header_of};
+ghost use Rattle.ix_host.specs.declared.command.Command.TheVariants as command;
 
-use crate::names::{Bound, bind, call_of};
+use crate::calls::{bind, entry_asked};
+use crate::lanes::{first_names, header_of, seat_after};
+use crate::lines::line_at;
+use crate::names::Names;
+use crate::numbers::Numbers;
 use ix_core::Core;
 use ix_label::Steps;
-use ix_model::{Answer, Buf, Entry, NoMemory, ProcView, Reply};
-use ix_report::entry_line;
-use ix_script::Command;
+use ix_model::{Answer, Buf, NoMemory};
+use ix_script::{Line, Script};
 use std::alloc::Global;
 use std::sync::ledger::Ledger;
 
-/// How many bytes a reply says were read.
-fn count_in(reply: &Reply) -> usize
-    ensures { result ≡ count_in reply.now }
-{
-    match reply {
-        Reply::Bytes(k) => *k as usize,
-        _ => 0,
-    }
-}
-
-/// Appends the line of an entry, with the label of the caller's record.
-fn push_entry(
-    out: &mut Vec<u8>,
-    place: u32,
-    lane: &[u8],
-    entry: &Entry<'_>,
-    reply: &Reply,
-    bytes: &[u8],
-    caller: Option<ProcView>,
-) -> Result<(), NoMemory>
-    requires { AreBytesOf reply.now bytes.now }
-    ensures { OnOk result (out.new.items ≡ out.old.items
-        ++ entry_line place lane.now (event_of entry.now) reply.now bytes.now (option_map (λ v. v.label) caller)) }
-{
-    match caller {
-        Some(view) => entry_line(out, place, lane, entry, reply, bytes, Some(&view.label)),
-        None => entry_line(out, place, lane, entry, reply, bytes, None),
-    }
-}
-
-/// Makes the call of a command, binds the name that it gives, and appends the line of its entry.
+/// Makes the call of a line of a seat's lane, if it asks for one, and binds the name that it gives.
 fn run_command<L: Ledger>(
     core: &mut Core,
-    names: &mut Vec<Bound>,
-    lane: &[u8],
-    command: &Command,
+    header: &Numbers<u32>,
+    names: &mut Names,
+    seat: u32,
+    number: u32,
+    line: &Line,
     buf: &mut Buf,
-    out: &mut Vec<u8>,
     steps: &mut Steps<L>,
 ) -> Result<(), NoMemory>
-    requires { length core.old.events < 6800000 }
-    ensures core { OnOk result (core.new ≡ with_entry core.old (event_of_command names.old.items command.now)) }
-    ensures names { OnOk result (names.new.items
-        ≡ named names.old.items command.now.deed (next core.old (event_of_command names.old.items command.now)).reply) }
-    ensures text { OnOk result (out.new.items ≡ out.old.items
-        ++ entry_text (length core.old.events + 1) lane.now (world_of core.old) (event_of_command names.old.items command.now)) }
+    requires few { length core.old.events < 6800000 }
+    requires built { is_unbuilt_run false line.now ≡ false }
+    ensures { OnOk result (RunsCommand (option_map (entry_of seat number) (asked header.now names.old line.now))
+        core.old core.new names.old names.new line.now) }
 {
-    let (line, pid) = (command.line, command.pid);
-    let entry = Entry {
-        seat: 0,
-        line,
-        pid,
-        call: call_of(names.as_slice(), &command.deed),
+    let Some(entry) = entry_asked(header, names, seat, number, line) else {
+        return Ok(());
     };
-    let Answer::Given(reply) = core.step(0, line, pid, &entry.call, buf, steps) else {
+    let Answer::Given(reply) = core.step(seat, number, entry.pid, &entry.call, buf, steps) else {
         return Err(NoMemory);
     };
-    bind(names, &command.deed, &reply)?;
-    let bytes = &buf[..count_in(&reply)];
-    push_entry(
-        out,
-        core.len(),
-        lane,
-        &entry,
-        &reply,
-        bytes,
-        core.process(pid),
+    bind(names, line, &reply)
+}
+
+/// Runs a line, where it stands in a lane.
+fn run_line<L: Ledger>(
+    core: &mut Core,
+    header: &Numbers<u32>,
+    lanes: &mut Vec<Names>,
+    seat: Option<u32>,
+    number: u32,
+    line: &Line,
+    buf: &mut Buf,
+    steps: &mut Steps<L>,
+) -> Result<(), NoMemory>
+    requires few { length core.old.events < 6800000 }
+    requires built { is_unbuilt_run false line.now ≡ false }
+    requires within { IfSome seat (λ s. s < length lanes.old.items) }
+    ensures { (s : List Line) → header.now ≡ header_of s → OnOk result (RunsLine (entry_at s lanes.old.items seat number line.now)
+        core.old core.new lanes.old.items lanes.new.items line.now) }
+{
+    let Some(seat) = seat else {
+        return Ok(());
+    };
+    run_command(
+        core,
+        header,
+        &mut lanes[seat as usize],
+        seat,
+        number,
+        line,
+        buf,
+        steps,
     )
 }
 
-/// Runs the commands one after the other, and appends the line of each entry.
-pub fn run_commands<L: Ledger>(
+/// Runs the lines of a script one after the other.
+pub fn run_lines<L: Ledger>(
     alloc: Global,
     core: &mut Core,
-    lane: &[u8],
-    commands: &[Command],
-    out: &mut Vec<u8>,
+    script: &Script,
     steps: &mut Steps<L>,
 ) -> Result<(), NoMemory>
-    requires { length core.old.events + length commands.now ≤ 6800000 }
-    ensures core { OnOk result (core.new ≡ record core.old {
-      events = core.old.events ++ serial (world_of core.old) (length core.old.events + 1) [] commands.now;
-    }) }
-    ensures text { OnOk result (out.new.items ≡ out.old.items
-        ++ entries_text (length core.old.events + 1) lane.now (world_of core.old)
-        (serial (world_of core.old) (length core.old.events + 1) [] commands.now)) }
+    requires opening { core.old ≡ record { config = config_of script.now; events = [] } }
+    requires built { unbuilt_line command.Run script.now ≡ None }
+    ensures serial { OnOk result (core.new ≡ record { config = config_of script.now; events = serial script.now }) }
+    ensures few { OnOk result (length core.new.events ≤ 200000) }
 {
-    let mut names = Vec::new(alloc);
+    let header = header_of(alloc, script)?;
+    let mut lanes = first_names(alloc, script)?;
+    let mut seat = None;
     let mut buf = [0; 4096];
-    for command in commands {
-        run_command(core, &mut names, lane, command, &mut buf, out, steps)?;
+    for index in 0..script.len() {
+        let Some(line) = line_at(script, index) else {
+            return Ok(());
+        };
+        run_line(
+            core,
+            &header,
+            &mut lanes,
+            seat,
+            index + 1,
+            line,
+            &mut buf,
+            steps,
+        )?;
+        seat = seat_after(script, seat, line);
     }
     Ok(())
 }

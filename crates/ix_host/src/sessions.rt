@@ -244,3 +244,48 @@ fn a_name_stands_for_what_it_was_last_bound_to(rt: HostRuntime) -> Result<(), Fa
           end 6 0\n",
     )
 }
+
+#[test]
+fn a_script_is_printed_in_its_shortest_spelling(rt: HostRuntime) -> Result<(), Fail> {
+    let alloc = rt.alloc();
+    let script = b"ix 1\n# note\nfile /s 3 free - - x6869\nfile /z - free - - 1048576*00\n";
+    let text = b"ix 1\n\nfile /s 3 free - - \"hi\"\nfile /z - free - - 1048576*00\n";
+    let source = MemSource::new(alloc, script, &[])?;
+    let (status, sink) = run(alloc, &["print"], source, MemSink::new(alloc, 4096, &[])?)?;
+    assert!(rt; text.starts_with(sink.as_slice()));
+    assert_eq!(rt; status, Status::Done);
+    assert_eq!(rt; sink.as_slice(), text.as_slice());
+    Ok(())
+}
+
+#[test]
+fn each_lane_has_names_of_its_own(rt: HostRuntime) -> Result<(), Fail> {
+    prints(
+        &rt,
+        b"ix 1\n\
+          proc a - * - -\n\
+          file /s - free - - \"hi\"\n\
+          phase\n\
+          lane m\n\
+          open a /s r as f\n\
+          lane n\n\
+          open a /s r as g\n\
+          phase\n\
+          lane n\n\
+          read a g 1\n\
+          lane m\n\
+          read a f 2\n",
+        b"ix 1 report\n\
+          1 m 6 open p1 /s r = number 0 @ -\n\
+          2 n 8 open p1 /s r = number 1 @ -\n\
+          3 n 11 read p1 1 1 = bytes 1 x68 @ -\n\
+          4 m 13 read p1 0 2 = bytes 2 x6869 @ -\n\
+          objects\n\
+          0 dir - free\n\
+          1 file - free\n\
+          processes\n\
+          p1 - live\n\
+          log\n\
+          end 4 0\n",
+    )
+}

@@ -76,10 +76,9 @@ fn read_piece<S: Source>(source: &mut S, bytes: &mut Vec<u8>) -> Piece
     }
 }
 
-/// Writes all of the text, and finishes.
-pub fn write_all<K: Sink>(sink: &mut K, text: &[u8]) -> Result<(), Failed>
+/// Writes all of the text.
+pub fn write_piece<K: Sink>(sink: &mut K, text: &[u8]) -> Result<(), Failed>
     ensures told { IfSome (K.taken sink.old) (λ taken. Writes taken (K.taken sink.new) text.now result) }
-    ensures finished { OnOk result (K.finished sink.new ≡ true) }
     ensures cause { HasCause (K.faults sink.old) (K.faults sink.new) result }
 {
     let mut at = 0;
@@ -88,5 +87,15 @@ pub fn write_all<K: Sink>(sink: &mut K, text: &[u8]) -> Result<(), Failed>
         let n = sink.write(rest)?;
         at += n;
     }
+    Ok(())
+}
+
+/// Writes all of the text, and finishes.
+pub fn write_all<K: Sink>(sink: &mut K, text: &[u8]) -> Result<(), Failed>
+    ensures told { IfSome (K.taken sink.old) (λ taken. Writes taken (K.taken sink.new) text.now result) }
+    ensures finished { OnOk result (K.finished sink.new ≡ true) }
+    ensures cause { HasCause (K.faults sink.old) (K.faults sink.new) result }
+{
+    write_piece(sink, text)?;
     sink.finish()
 }

@@ -3,7 +3,7 @@ use ix_io::{MemSink, MemSource};
 use std::alloc::Global;
 use std::test::Fail;
 
-const USAGE: &[u8] = b"usage: ixone run\n";
+const USAGE: &[u8] = b"usage: ixone run | print\n";
 
 // The status of a run, and the sink that it wrote to.
 pub fn run(
@@ -21,9 +21,35 @@ pub fn run(
 }
 
 #[test]
-fn other_words_than_run_are_answered_by_the_usage_line(rt: HostRuntime) -> Result<(), Fail> {
+fn other_words_are_answered_by_the_usage_line(rt: HostRuntime) -> Result<(), Fail> {
     let alloc = rt.alloc();
-    for words in [[].as_slice(), &["help"], &["run", "run"], &["Run"]] {
+    for words in [
+        [].as_slice(),
+        &["help"],
+        &["run", "run"],
+        &["Run"],
+        &["run", "print"],
+        &["print", "run"],
+        &["run", "5"],
+        &["run", ""],
+        &[""],
+        &["-"],
+        // A flag is no word of a command, whatever it says.
+        &["--help"],
+        &["-h"],
+        &["--version"],
+        &["--run"],
+        &["-r"],
+        &["run", "--print"],
+        &["-- run"],
+        // Only one word `--` is left out.
+        &["--"],
+        &["--", "--"],
+        &["--", "run", "--"],
+        &["run", "--", "--"],
+        &["--", "--", "run"],
+        &["--", "run", "x"],
+    ] {
         let source = MemSource::new(alloc, b"ix 1\n", &[])?;
         let (status, sink) = run(alloc, words, source, MemSink::new(alloc, 100, &[])?)?;
         assert_eq!(rt; status, Status::Usage);
@@ -33,15 +59,52 @@ fn other_words_than_run_are_answered_by_the_usage_line(rt: HostRuntime) -> Resul
 }
 
 #[test]
+fn one_word_of_two_dashes_is_left_out(rt: HostRuntime) -> Result<(), Fail> {
+    let alloc = rt.alloc();
+    for words in [["--", "print"], ["print", "--"]] {
+        let source = MemSource::new(alloc, b"ix 1\n", &[])?;
+        let (status, sink) = run(alloc, &words, source, MemSink::new(alloc, 100, &[])?)?;
+        assert_eq!(rt; status, Status::Done);
+        assert_eq!(rt; sink.as_slice(), b"ix 1\n".as_slice());
+    }
+    Ok(())
+}
+
+#[test]
 fn a_script_is_refused_by_one_line(rt: HostRuntime) -> Result<(), Fail> {
     let alloc = rt.alloc();
-    let source = MemSource::new(alloc, b"ix 1\nix 1\n", &[])?;
-    let (status, sink) = run(alloc, &["run"], source, MemSink::new(alloc, 100, &[])?)?;
-    assert_eq!(rt; status, Status::Script { line: 2, rule: 0 });
-    assert_eq!(rt;
-        sink.as_slice(),
-        b"script:2: the form is not built yet\n".as_slice()
-    );
+    for (script, line, rule, text) in [
+        (
+            b"ix 1\nix 1\n".as_slice(),
+            2,
+            7,
+            b"script:2: the command is unknown\n".as_slice(),
+        ),
+        (
+            b"ix 1\ndir /v 7 free\n",
+            2,
+            0,
+            b"script:2: the form is not built yet\n",
+        ),
+        (
+            b"ix 1\nproc a - * - -\nphase\nlane m\nmkdir a /d\n",
+            5,
+            0,
+            b"script:5: the form is not built yet\n",
+        ),
+        // A fault on a later line stands before a form that isn't built.
+        (
+            b"ix 1\ndir /v 7 free\nix 1\n",
+            3,
+            7,
+            b"script:3: the command is unknown\n",
+        ),
+    ] {
+        let source = MemSource::new(alloc, script, &[])?;
+        let (status, sink) = run(alloc, &["run"], source, MemSink::new(alloc, 100, &[])?)?;
+        assert_eq!(rt; status, Status::Script { line, rule });
+        assert_eq!(rt; sink.as_slice(), text);
+    }
     Ok(())
 }
 
@@ -72,7 +135,7 @@ fn a_read_that_fails_writes_nothing(rt: HostRuntime) -> Result<(), Fail> {
 #[test]
 fn a_write_that_fails_leaves_a_front(rt: HostRuntime) -> Result<(), Fail> {
     let alloc = rt.alloc();
-    for (fails, room, took) in [([0], 100, 0), ([1], 100, 17), ([9], 3, 3)] {
+    for (fails, room, took) in [([0], 100, 0), ([1], 100, 25), ([9], 3, 3)] {
         let source = MemSource::new(alloc, b"", &[])?;
         let (status, sink) = run(alloc, &["help"], source, MemSink::new(alloc, room, &fails)?)?;
         assert_eq!(rt; status, Status::WriteFault);

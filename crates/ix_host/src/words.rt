@@ -1,7 +1,9 @@
-ghost use Rattle.std.specs.Prelude.{◌≡◌, ◌++◌, ◌∷◌, [], OnOk, OnErr, slice_get};
+ghost use Rattle.std.specs.Prelude.{◌≡◌, ◌++◌, ◌∷◌, [], OnOk, OnErr, IfOk, slice_get};
 ghost use Rattle.std.specs.Option.{option_copied};
-ghost use Rattle.ix_host.specs.Command.{is_run};
+ghost use Rattle.ix_host.specs.Command.{command_of};
 
+use crate::command::Command;
+use crate::command_line::read_command;
 use ix_model::NoMemory;
 use std::alloc::Global;
 use std::marker::Model;
@@ -48,13 +50,10 @@ impl Words {
         self.words.get(i).map(|word| word.as_str())
     }
 
-    /// Whether the words are the one word `run`.
-    pub(crate) fn is_run(&self) -> bool
-        ensures { result ≡ is_run self.now }
+    /// The command that the words are, once at most one word `--` is left out.
+    pub(crate) fn command(&self, alloc: Global) -> Result<Option<Command>, NoMemory>
+        ensures { IfOk result (λ command. command ≡ command_of self.now) }
     {
-        match self.words.as_slice() {
-            [word] => word.as_str() == "run",
-            _ => false,
-        }
+        read_command(alloc, self.words.as_slice())
     }
 }

@@ -1,4 +1,0 @@
-use Rattle.ix_host.proofs.answer.reported.Given as goal
-
-abbrev pub ghosts-report : goal.ghosts-report
-ghosts-report a = record { name = a.blank.name; parts = a.blank.parts }

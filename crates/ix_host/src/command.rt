@@ -1,0 +1,8 @@
+/// What the command words ask for.
+#[derive(Clone, Copy, Debug, PartialEq, Eq)]
+pub enum Command {
+    /// The report of a script.
+    Run,
+    /// The canonical text of a script.
+    Print,
+}
