@@ -16,7 +16,6 @@ use Rattle.ix_model.specs.Contents.{carried}
 use Rattle.ix_model.specs.Step.{plainly, read_answer, write_answer, cut_answer, seek_answer, stat_answer, exit_answer, wait_answer, pex_answer, is_whole, answer, step}
 use Rattle.ix_model.specs.Telling.{told}
 use Rattle.ix_model.specs.AuditLog.{is_answer}
-use Rattle.ix_model.specs.Laws.{Refused}
 use Rattle.ix_model.specs.History.{Op}
 use Rattle.ix_model.specs.History as op
 use Rattle.ix_model.specs.declared.call.Keep.{Keep}
@@ -384,7 +383,7 @@ unfolding pex_answer plainly
 pex_reply w None a g = refl
 pex_reply w (Some e) a g = refl
 
-plain_answer : (w : World) (pid : ℕ) (c : Op) (d : Decision) (r : Refusal) → (d.reply ≡ reply.No r → d.frame.objects ≡ w.frame.objects) → (answer w pid c d).reply ≡ reply.No r → Plain w d r (answer w pid c d).world
+pub plain_answer : (w : World) (pid : ℕ) (c : Op) (d : Decision) (r : Refusal) → (d.reply ≡ reply.No r → d.frame.objects ≡ w.frame.objects) → (answer w pid c d).reply ≡ reply.No r → Plain w d r (answer w pid c d).world
 unfolding answer plainly
 plain_answer w pid (op.ReadFd fd count) d r same is = plain_read w count (behind w.frame pid fd) d.reply d.frame r is
 plain_answer w pid (op.WriteFd fd bytes) d r same is = plain_write w bytes (behind w.frame pid fd) d.reply d.frame r is
@@ -397,16 +396,3 @@ plain_answer w pid (op.Pex fd) d r same is =
     let refused : d.reply ≡ reply.No r = sym (pex_reply w (behind w.frame pid fd) d.reply d.frame) ∙ is in
     plain_pex w (behind w.frame pid fd) d.reply d.frame r (same refused) refused
 plain_answer w pid _ d r same is = record { world = refl; reply = is }
-
-pub refused_step : (w : World) (place pid : ℕ) (c : Op) (r : Refusal) → (step w place pid c).reply ≡ reply.No r → Refused w pid r (step w place pid c).world
-unfolding step
-refused_step w place pid c r is =
-    let t : Told = told w pid c in
-    let d : Decision = decide t place pid c w.frame in
-    let plain = plain_answer w pid c d r (λ refused. ap (λ (f : Frame). f.objects) (decided_frames t place pid c w.frame r refused).relabelled.is) is in
-    let frames = decided_frames t place pid c w.frame r plain.reply in
-    record {
-      label = (frames.relabelled.label, ap (λ (v : World). v.frame) plain.world ∙ frames.relabelled.is);
-      kept = λ keeps. ap (λ (v : World). v.frame) plain.world ∙ frames.kept keeps;
-      content = λ clean. ap (λ (v : World). v.content) plain.world ∙ carried_same w d.frame (subst (λ (g : Frame). Lasts w.frame g) (sym frames.relabelled.is) (lasts_relabelled pid frames.relabelled.label w.frame)) clean;
-    }

@@ -33,4 +33,6 @@ pub mod Cost
 pub mod Freshness
 pub mod WholePaths
 pub mod Shown
+pub mod Looked
 pub mod Laws
+pub mod CallLaws

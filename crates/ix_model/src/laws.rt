@@ -1,4 +1,5 @@
 //! What holds of the machine's worlds. These functions do nothing: each states a law, which is proved.
+ghost use Rattle.ix_model.specs.CallLaws.{LimitsNeverChange, RowsAskForWhatStands};
 ghost use Rattle.ix_model.specs.Laws.{
   OpeningWorldsAreSound,
   OpeningWorldsAreClean,
@@ -46,7 +47,8 @@ pub fn reached_worlds_are_clean()
 {}
 
 /// A refused call leaves the frame as it was but for the caller's label, and that too unless the refusal is one of those
-/// that keep a label that a look has raised. It leaves what a clean world holds.
+/// that keep a label that a look has raised: then it is joined with what the call had looked at, and is no other. It
+/// leaves what a clean world holds.
 pub fn what_a_refusal_leaves()
     ensures refused { RefusalsLeaveWorlds }
 {}
@@ -80,4 +82,9 @@ pub fn whole_paths_begin_empty()
 /// Whatever a pipe holds was written in it since it was last empty: the last bytes that were written to that end.
 pub fn pipes_hold_what_was_written()
     ensures written { PipesHoldWhatWasWritten }
+{}
+
+/// No history changes the limits, the file systems, or how many numbers of objects and open entries there are.
+pub fn limits_never_change()
+    ensures limits { LimitsNeverChange }
 {}
