@@ -8,7 +8,7 @@ use Rattle.ix_model.specs.World.{Object, Holding, at, is_file, is_dir, is_pipe, 
 use Rattle.ix_model.specs.Contents.{holds_nothing}
 use Rattle.ix_model.specs.Telling.{blocks_where}
 use Rattle.ix_model.specs.Numbers.{first_inode, inodes_of}
-use Rattle.ix_model.specs.Valid.{all_differ, fs_of, blocks_of, is_there, is_dir_there, lying_on, blocks_taken}
+use Rattle.ix_model.specs.Valid.{all_differ, fs_of, blocks_of, is_taken, has_directory, lying_on, blocks_taken}
 use Rattle.ix_model.specs.Owners.{times_named, names_in_all}
 use Rattle.ix_model.specs.declared.config.FsSpec.{FsSpec}
 use Rattle.ix_model.specs.declared.config.Limits.{Limits}
@@ -51,8 +51,8 @@ pub record DirAt (fss : List FsSpec) (t : List (Option Object)) (place : ℕ →
 -- what a directory names is there under its place and the name, and each directory that is there is found
 pub record Ways (fss : List FsSpec) (before : List ObjSpec) (t : List (Option Object)) : Type 0 where
   pub place : ℕ → List (List ℕ)
-  pub entries : (d : ℕ) (x : Object) (name : List ℕ) → at t d ≡ Some x → list_any (λ e. same_bytes e.0 name) x.names ≡ true → is_there fss before (place d ++ name ∷ []) ≡ true
-  pub dirs : (names : List (List ℕ)) → is_dir_there fss before names ≡ true → DirAt fss t place names
+  pub entries : (d : ℕ) (x : Object) (name : List ℕ) → at t d ≡ Some x → list_any (λ e. same_bytes e.0 name) x.names ≡ true → is_taken fss before (place d ++ name ∷ []) ≡ true
+  pub dirs : (names : List (List ℕ)) → has_directory fss before names ≡ true → DirAt fss t place names
 
 -- ---- counts
 -- whether the object at a number lies on a file system

@@ -5,10 +5,10 @@ use Rattle.ix_model.specs.Rows.{change_object, change_process, put_object, put_o
 use Rattle.ix_model.specs.Auditing.{logged}
 use Rattle.ix_model.specs.OnProcesses.{end_process}
 use Rattle.ix_model.specs.OnDescriptors.{Told}
-use Rattle.ix_model.specs.Table.{decide}
+use Rattle.ix_model.specs.Table.{verdict}
 use Rattle.ix_model.specs.Telling.{told}
 use Rattle.ix_model.specs.Step.{step}
-use Rattle.ix_model.specs.History.{Op}
+use Rattle.ix_model.specs.Events.{Op}
 use Rattle.ix_model.specs.declared.audit.AuditLine.{AuditLine}
 use Rattle.ix_model.proofs.Keeps.{Holds, Keeps}
 use Rattle.ix_model.proofs.Rowwise.{Words, changes_of, kept_row, all, bears_all}
@@ -76,7 +76,7 @@ fixed_words pid f = record {
   collect = λ can p. fixed_put_process f p None;
 }
 
-pub fixed_decided : (t : Told) (place pid : ℕ) (c : Op) (f : Frame) → Fixed f (decide t place pid c f).frame
+pub fixed_decided : (t : Told) (place pid : ℕ) (c : Op) (f : Frame) → Fixed f (verdict t place pid c f).frame
 fixed_decided t place pid c f = decided (Fixed f) t place pid c f (fixed_itself f) ((kept_row all pid (Fixed f) (fixed_words pid f) t place c (bears_all (changes_of c))).led f (fixed_itself f))
 
 pub fixed_step : (w : World) (place pid : ℕ) (c : Op) → Fixed w.frame (step w place pid c).world.frame

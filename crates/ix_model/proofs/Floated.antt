@@ -7,7 +7,7 @@ use Rattle.ix_model.specs.World.{Frame, Content, Object, Process, Open, at, livi
 use Rattle.ix_model.specs.Telling.{blocks_where, blocks_on, lies_on}
 use Rattle.ix_model.specs.Numbers.{first_inode, inodes_of}
 use Rattle.ix_model.specs.Valid.{all_differ}
-use Rattle.ix_model.specs.Owners.{times_in, times_named, names_in_all, owns, is_claimant}
+use Rattle.ix_model.specs.Owners.{times_in, times_named, names_in_all, owns, has_end}
 use Rattle.ix_model.specs.Sound.{NamesSound, LivesSound, OpensSound, ProcessesSound, ClaimsSound, WithinLimits, LengthsSound}
 use Rattle.ix_model.specs.declared.config.FsSpec.{FsSpec}
 use Rattle.ix_model.proofs.Tables.{none_is, Back, back, seen_same, map_same, any_same, length_same}
@@ -88,11 +88,11 @@ module _ (f g : Frame) (r : Floats f g) where
       let w = was_process p q (is_living _ q lives) in
       ap (λ c. option_map_or is_dir (at f.objects c) false) (same_cwd seen p q w.was (is_living _ q lives) w.is_was) ∙ n.home p w.was (was_living p q lives)) n
 
-  claimant_floated : (o end p : ℕ) → is_claimant g o end p ≡ is_claimant f o end p
+  claimant_floated : (o end p : ℕ) → has_end g o end p ≡ has_end f o end p
   claimant_floated o end p = seen_process (has_on g.opens o end) (λ y. refl) p ∙ ap (λ t. has_on t o end (at f.processes p)) r.opens
 
   -- where each claim is a claimant's
-  pub claims_moved : ((o end p : ℕ) (x : Object) → at g.objects o ≡ Some x → at x.claims end ≡ Some p → is_claimant f o end p ≡ true) → ClaimsSound g
+  pub claims_moved : ((o end p : ℕ) (x : Object) → at g.objects o ≡ Some x → at x.claims end ≡ Some p → has_end f o end p ≡ true) → ClaimsSound g
   claims_moved claimants = record { claimant = λ o end p x is claim. claimant_floated o end p ∙ claimants o end p x is claim }
 
   pub claims_floated : ((n : ℕ) → option_map (λ (x : Object). x.claims) (at g.objects n) ≡ option_map (λ (x : Object). x.claims) (at f.objects n)) → ClaimsSound f → ClaimsSound g

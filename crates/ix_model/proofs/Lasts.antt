@@ -8,8 +8,8 @@ use Rattle.ix_model.specs.Rows.{put_open, put_object, change_object, change_proc
 use Rattle.ix_model.specs.Auditing.{logged}
 use Rattle.ix_model.specs.Refusals.{keeps_label}
 use Rattle.ix_model.specs.OnDescriptors.{Told}
-use Rattle.ix_model.specs.Table.{Decision, row, settled, decide}
-use Rattle.ix_model.specs.History.{Op}
+use Rattle.ix_model.specs.Table.{Decision, row, settled, verdict}
+use Rattle.ix_model.specs.Events.{Op}
 use Rattle.ix_model.specs.declared.audit.AuditLine.{AuditLine}
 use Rattle.ix_model.specs.declared.reply.Reply.{Reply}
 use Rattle.ix_model.specs.declared.reply.Reply.TheVariants as reply
@@ -118,8 +118,8 @@ settled_keeps R f (Refuse r g) rf h = kept_or_not R (keeps_label r) f g rf h
 settled_keeps R f (Pass a g) rf h = h
 
 -- what a row keeps, its decision keeps
-pub decided : (R : Frame → Type 0) (t : Told) (place pid : ℕ) (c : Op) (f : Frame) → R f → Holds (row t place pid c f) R → R (decide t place pid c f).frame
-unfolding decide
+pub decided : (R : Frame → Type 0) (t : Told) (place pid : ℕ) (c : Op) (f : Frame) → R f → Holds (row t place pid c f) R → R (verdict t place pid c f).frame
+unfolding verdict
 decided R t place pid c f rf h = go (lives f pid)
   where
     unknown : Decision
@@ -129,7 +129,7 @@ decided R t place pid c f rf h = go (lives f pid)
     go true = settled_keeps R f (row t place pid c f) rf h
     go false = rf
 
-pub lasts_decided : (t : Told) (place pid : ℕ) (c : Op) (f : Frame) → lets_nothing_go c ≡ true → Lasts f (decide t place pid c f).frame
+pub lasts_decided : (t : Told) (place pid : ℕ) (c : Op) (f : Frame) → lets_nothing_go c ≡ true → Lasts f (verdict t place pid c f).frame
 lasts_decided t place pid c f stays = decided (Lasts f) t place pid c f (lasts_itself f) ((kept_row lets_stay pid (Lasts f) (lasting_words pid f) t place c stays).led f (lasts_itself f))
 
 -- a frame in which the caller's label alone has changed

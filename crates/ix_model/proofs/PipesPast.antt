@@ -11,7 +11,7 @@ use Rattle.ix_model.specs.OnProcesses.{end_process}
 use Rattle.ix_model.specs.Telling.{told}
 use Rattle.ix_model.specs.Step.{step}
 use Rattle.ix_model.specs.Sound.{WithinLimits}
-use Rattle.ix_model.specs.History.{Op}
+use Rattle.ix_model.specs.Events.{Op}
 use Rattle.ix_model.specs.declared.config.FsSpec.{FsSpec}
 use Rattle.ix_model.proofs.Tables.{seen_changed, seen_put}
 use Rattle.ix_model.proofs.Keeps.{Holds}

@@ -10,7 +10,7 @@ use Rattle.ix_model.specs.Numbers.{free_inode, free_pipe}
 use Rattle.ix_model.specs.World.{Frame, Object, Process, Open, put, no_claims}
 use Rattle.ix_model.specs.Outcomes.{Row}
 use Rattle.ix_model.specs.Rows.{◌>>=◌, some, frame, pass, put_open, put_object, put_process, add_process, change_object, change_process, observe, affect}
-use Rattle.ix_model.specs.Walks.{Behind, behind, walked_to, found, found_in, missing, opened}
+use Rattle.ix_model.specs.Walks.{Behind, behind, walked_to, object_at, spot_at, missing, opened}
 use Rattle.ix_model.specs.Lifetimes.{let_go_object, let_go_open, let_go_claim, let_go, let_go_if_held, let_go_each, let_go_all, has_lost}
 use Rattle.ix_model.specs.Auditing.{logged}
 use Rattle.ix_model.specs.OnPaths.{new_object, make, create_at, make_dir, open_at, link_at, unlink_at, remove_dir, change_dir, stat_at, list_at}
@@ -18,8 +18,8 @@ use Rattle.ix_model.specs.OnDescriptors.{Told, read_fd, write_fd, cut_fd, seek_f
 use Rattle.ix_model.specs.OnProcesses.{end_process, fork, exec, exit, wait_child}
 use Rattle.ix_model.specs.OnLabels.{label_of, self_label, set_label, set_self, freeze, freeze_self, thaw, thaw_self, set_priv, drop_lic, grant_lic, set_ceiling, read_log}
 use Rattle.ix_model.specs.Table.{row}
-use Rattle.ix_model.specs.History.{Op}
-use Rattle.ix_model.specs.History as op
+use Rattle.ix_model.specs.Events.{Op}
+use Rattle.ix_model.specs.Events as op
 use Rattle.ix_model.specs.declared.call.Keep.{Keep}
 use Rattle.ix_model.specs.declared.call.Mode.{Mode}
 use Rattle.ix_model.specs.declared.privs.PrivSet.{PrivSet}
@@ -163,12 +163,12 @@ module _ (can : Change → Bool) (pid : ℕ) (R : Frame → Type 0) (w : Words c
   unfolding walked_to
   kept_walked_to path = search (wording, kept_observe) depth 30
 
-  pub kept_found : (path : PathOf) → Keeps R (found pid path)
-  unfolding found
+  pub kept_found : (path : PathOf) → Keeps R (object_at pid path)
+  unfolding object_at
   kept_found path = search (wording, kept_walked_to) depth 30
 
-  pub kept_found_in : (path : PathOf) → Keeps R (found_in pid path)
-  unfolding found_in
+  pub kept_found_in : (path : PathOf) → Keeps R (spot_at pid path)
+  unfolding spot_at
   kept_found_in path = search (wording, kept_walked_to) depth 30
 
   pub kept_missing : (path : PathOf) → Keeps R (missing pid path)

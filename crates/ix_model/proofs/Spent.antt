@@ -7,10 +7,10 @@ use Rattle.ix_model.specs.Rows.{change_object, change_process, put_object, put_o
 use Rattle.ix_model.specs.Auditing.{logged}
 use Rattle.ix_model.specs.OnProcesses.{remains, end_process}
 use Rattle.ix_model.specs.OnDescriptors.{Told}
-use Rattle.ix_model.specs.Table.{decide}
+use Rattle.ix_model.specs.Table.{verdict}
 use Rattle.ix_model.specs.Telling.{told}
 use Rattle.ix_model.specs.Step.{step, step_of, run}
-use Rattle.ix_model.specs.History.{Op, Event}
+use Rattle.ix_model.specs.Events.{Op, Event}
 use Rattle.ix_model.specs.Laws.{PidsSpent}
 use Rattle.ix_model.proofs.Tables.{none_is, seen_changed, seen_put}
 use Rattle.ix_model.proofs.Keeps.{Holds, Keeps}
@@ -97,7 +97,7 @@ module _ (f : Frame) where
 spent_itself : (f : Frame) → PidsSpent f f
 spent_itself f = record { grown = omega arith; gone = λ p low is. is; ended = λ p is low. is }
 
-pub spent_decided : (t : Told) (place pid : ℕ) (c : Op) (f : Frame) → PidsSpent f (decide t place pid c f).frame
+pub spent_decided : (t : Told) (place pid : ℕ) (c : Op) (f : Frame) → PidsSpent f (verdict t place pid c f).frame
 spent_decided t place pid c f = decided (PidsSpent f) t place pid c f (spent_itself f) ((kept_row all pid (PidsSpent f) (spent_words f pid) t place c (bears_all (changes_of c))).led f (spent_itself f))
 
 spent_step : (w : World) (place pid : ℕ) (c : Op) → PidsSpent w.frame (step w place pid c).world.frame

@@ -2,7 +2,7 @@
 use Rattle.std.proofs.Common.{ℕ}
 use Rattle.ix_model.specs.Naming.{PathOf}
 use Rattle.ix_model.specs.World.{Frame}
-use Rattle.ix_model.specs.Walks.{walked_to, found, opened}
+use Rattle.ix_model.specs.Walks.{walked_to, object_at, opened}
 use Rattle.ix_model.specs.OnPaths.{stat_at, list_at}
 use Rattle.ix_model.specs.OnDescriptors.{Told, read_fd, write_fd, cut_fd, seek_fd}
 use Rattle.ix_model.specs.OnProcesses.{exec}
@@ -19,8 +19,8 @@ module _ (f : Frame) where
   unfolding walked_to
   follows_walked_to pid path = search following depth 30
 
-  pub follows_found : (pid : ℕ) (path : PathOf) → Keeps (Follows f) (found pid path)
-  unfolding found
+  pub follows_found : (pid : ℕ) (path : PathOf) → Keeps (Follows f) (object_at pid path)
+  unfolding object_at
   follows_found pid path = search (following, follows_walked_to) depth 30
 
   pub follows_opened : (pid fd : ℕ) → Keeps (Follows f) (opened pid fd)

@@ -11,19 +11,19 @@ use Rattle.ix_model.specs.Numbers.{free_inode}
 use Rattle.ix_model.specs.World.{World, Frame, Object, Process, at, put, change}
 use Rattle.ix_model.specs.Outcomes.{Row}
 use Rattle.ix_model.specs.Rows.{◌>>=◌, ◌>>◌, some, only_if, frame, change_object, change_process, put_object, put_open, put_process, add_process, observe, affect}
-use Rattle.ix_model.specs.Walks.{walked_to, found, found_in, missing, opened}
+use Rattle.ix_model.specs.Walks.{walked_to, object_at, spot_at, missing, opened}
 use Rattle.ix_model.specs.Lifetimes.{let_go_object}
 use Rattle.ix_model.specs.Auditing.{logged}
 use Rattle.ix_model.specs.OnPaths.{new_object, make, create_at, make_dir, link_at, unlink_at, remove_dir}
 use Rattle.ix_model.specs.OnDescriptors.{Told, write_fd, cut_fd}
 use Rattle.ix_model.specs.OnProcesses.{end_process}
 use Rattle.ix_model.specs.OnLabels.{set_label, freeze, set_priv}
-use Rattle.ix_model.specs.Table.{row, decide}
+use Rattle.ix_model.specs.Table.{row, verdict}
 use Rattle.ix_model.specs.Telling.{told}
 use Rattle.ix_model.specs.Step.{step}
 use Rattle.ix_model.specs.Laws.{LabelsStay}
-use Rattle.ix_model.specs.History.{Op}
-use Rattle.ix_model.specs.History as op
+use Rattle.ix_model.specs.Events.{Op}
+use Rattle.ix_model.specs.Events as op
 use Rattle.ix_model.specs.declared.privs.PrivSet.{PrivSet}
 use Rattle.ix_model.specs.declared.audit.AuditLine.{AuditLine}
 use Rattle.ix_model.specs.declared.refusal.Refusal.{Refusal}
@@ -241,10 +241,10 @@ module _ (pid : ℕ) (f : Frame) where
   then_logged l = record { led = λ g r. record { number = r.number; objects = r.objects; processes = r.processes } }
 
   -- ---- the rows that touch a label
-  s_found : (path : PathOf) → Keeps Staying (found pid path)
+  s_found : (path : PathOf) → Keeps Staying (object_at pid path)
   s_found path = kept_found loses_none pid Staying staying_words path
 
-  s_found_in : (path : PathOf) → Keeps Staying (found_in pid path)
+  s_found_in : (path : PathOf) → Keeps Staying (spot_at pid path)
   s_found_in path = kept_found_in loses_none pid Staying staying_words path
 
   s_missing : (path : PathOf) → Keeps Staying (missing pid path)
@@ -345,7 +345,7 @@ module _ (pid : ℕ) (f : Frame) where
     processes = λ p x y other was is. r.processes.same p x y.label other was (ap (option_map (λ (q : Process). q.label)) is);
   }
 
-touched_decided : (t : Told) (place pid : ℕ) (c : Op) (f : Frame) → Touched pid f (decide t place pid c f).frame
+touched_decided : (t : Told) (place pid : ℕ) (c : Op) (f : Frame) → Touched pid f (verdict t place pid c f).frame
 touched_decided t place pid c f = decided (Touched pid f) t place pid c f (staying_touched pid f f (staying_itself pid f)) (touched_row pid f t place c)
 
 pub few_labels : (w : World) (place pid : ℕ) (c : Op) → LabelsStay pid w.frame (step w place pid c).world.frame

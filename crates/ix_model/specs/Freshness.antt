@@ -6,8 +6,8 @@ use Rattle.ix_model.specs.Walks.{behind}
 use Rattle.ix_model.specs.AuditLog.{label_at, of_process}
 use Rattle.std.proofs.Common.{option_map}
 use Rattle.ix_model.specs.Step.{Given, step_of}
-use Rattle.ix_model.specs.History.{Op, Event}
-use Rattle.ix_model.specs.History as op
+use Rattle.ix_model.specs.Events.{Op, Event}
+use Rattle.ix_model.specs.Events as op
 use Rattle.ix_model.specs.declared.reply.Reply.{Reply}
 use Rattle.ix_model.specs.declared.reply.Reply.TheVariants as reply
 

@@ -1,9 +1,9 @@
 -- The calls on descriptors: their tests in order, their effects and replies.
 use Rattle.std.specs.Prelude.{ℕ, ◌-◌, nat_le, Bool, not, ◌&&◌, Option, Some, None}
-use Rattle.ix_model.specs.World.{Open, at, put, lowest_free, is_pipe, is_trusted, may_read, may_write, held, held_from, has_claim}
+use Rattle.ix_model.specs.World.{Open, at, put, lowest_free, is_pipe, is_trusted, may_read, may_write, held, claimed_by_another, claimed_by}
 use Rattle.ix_model.specs.Numbers.{free_pipe}
 use Rattle.ix_model.specs.Outcomes.{Row}
-use Rattle.ix_model.specs.Rows.{◌>>=◌, ◌>>◌, pass, need, some, frame, caller, object, change_process, change_object, put_object, put_open, observe, affect}
+use Rattle.ix_model.specs.Rows.{◌>>=◌, ◌>>◌, pass, need, some, frame, process, object, change_process, change_object, put_object, put_open, observe, affect}
 use Rattle.ix_model.specs.Walks.{opened}
 use Rattle.ix_model.specs.Lifetimes.{let_go}
 use Rattle.ix_model.specs.OnPaths.{new_object}
@@ -27,7 +27,7 @@ read_fd t pid fd count = do
   e ← opened pid fd
   need (may_read e.entry.mode) refusal.NotReadable
   x ← object e.entry.object
-  need (not (held_from x e.entry.end pid)) refusal.PexHeld
+  need (not (claimed_by_another x e.entry.end pid)) refusal.PexHeld
   need (nat_le count 4096) refusal.TooBig
   observe pid x.label
   f ← frame
@@ -40,7 +40,7 @@ write_fd t pid fd = do
   e ← opened pid fd
   need (may_write e.entry.mode) refusal.NotWritable
   x ← object e.entry.object
-  need (not (held_from x e.entry.end pid)) refusal.PexHeld
+  need (not (claimed_by_another x e.entry.end pid)) refusal.PexHeld
   need (not t.too_big) refusal.TooBig
   need (not (is_trusted x)) refusal.Trusted
   f ← frame
@@ -77,7 +77,7 @@ seek_fd pid fd offset = do
 unfoldable pub dup_fd : ℕ → ℕ → Row Reply
 dup_fd pid fd = do
   e ← opened pid fd
-  p ← caller pid
+  p ← process pid
   n ← some (lowest_free p.fds) refusal.NoFd
   change_process pid (λ q. record q { fds = put q.fds n (Some e.id) })
   pass (reply.Number n)
@@ -99,7 +99,7 @@ unfoldable pub make_pipe : ℕ → Row Reply
 make_pipe pid = do
   f ← frame
   o ← some (free_pipe f) refusal.NoInode
-  p ← caller pid
+  p ← process pid
   a ← some (lowest_free p.fds) refusal.NoFd
   b ← some (lowest_free (put p.fds a (Some 0))) refusal.NoFd
   d ← some (lowest_free f.opens) refusal.NoOpen
@@ -114,7 +114,7 @@ make_pipe pid = do
 unfoldable pub claimed : Option ℕ → Row Reply
 claimed None = pass reply.Half
 claimed (Some q) = do
-  p ← caller q
+  p ← process q
   pass (reply.Whole (record { 0 = q }) p.label p.lic)
 
 -- Pex: the end is the caller's; where the path becomes whole by it, what was in it is gone
@@ -123,7 +123,7 @@ pex pid fd = do
   e ← opened pid fd
   x ← object e.entry.object
   need (is_pipe x) refusal.NotPipe
-  need (not (held_from x e.entry.end pid)) refusal.PexHeld
+  need (not (claimed_by_another x e.entry.end pid)) refusal.PexHeld
   answer ← claimed (at (put x.claims e.entry.end (Some pid)) (1 - e.entry.end))
   change_object e.entry.object (λ y. record y { claims = put y.claims e.entry.end (Some pid) })
   pass answer
@@ -134,6 +134,6 @@ unpex pid fd = do
   e ← opened pid fd
   x ← object e.entry.object
   need (is_pipe x) refusal.NotPipe
-  need (has_claim x e.entry.end pid) refusal.NotClaimed
+  need (claimed_by x e.entry.end pid) refusal.NotClaimed
   change_object e.entry.object (λ y. record y { claims = put y.claims e.entry.end None })
   pass reply.Done

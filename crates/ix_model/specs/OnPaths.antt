@@ -10,8 +10,8 @@ use Rattle.ix_model.specs.Owners.{times_named}
 use Rattle.ix_model.specs.Directories.{with_name, without_name, has_room_for_a_name}
 use Rattle.ix_model.specs.World.{Frame, Object, Process, put, lowest_free, is_dir, no_claims}
 use Rattle.ix_model.specs.Outcomes.{Row}
-use Rattle.ix_model.specs.Rows.{◌>>=◌, ◌>>◌, pass, need, some, frame, caller, object, change_process, change_object, put_object, put_open, observe, affect}
-use Rattle.ix_model.specs.Walks.{walked_to, there, vacant, found, found_in, missing}
+use Rattle.ix_model.specs.Rows.{◌>>=◌, ◌>>◌, pass, need, some, frame, process, object, change_process, change_object, put_object, put_open, observe, affect}
+use Rattle.ix_model.specs.Walks.{walked_to, found_object, vacant, object_at, spot_at, missing}
 use Rattle.ix_model.specs.Lifetimes.{let_go_object}
 use Rattle.ix_model.specs.declared.call.Mode.{Mode}
 use Rattle.ix_model.specs.declared.refusal.Refusal.TheVariants as refusal
@@ -51,7 +51,7 @@ unfoldable pub link_at : ℕ → PathOf → PathOf → Row Reply
 link_at pid target path = do
   a ← walked_to pid target
   b ← walked_to pid path
-  o ← there a
+  o ← found_object a
   x ← object o
   need (not (is_dir x)) refusal.IsDir
   d ← vacant b
@@ -67,7 +67,7 @@ link_at pid target path = do
 -- UnlinkAt: one name of a file fewer; without a name and an open entry the file is gone. A path of no names leads to a directory.
 unfoldable pub unlink_at : ℕ → PathOf → Row Reply
 unlink_at pid path = do
-  s ← found_in pid path
+  s ← spot_at pid path
   x ← object s.0
   need (not (is_dir x)) refusal.IsDir
   d ← some s.1 refusal.IsDir
@@ -84,7 +84,7 @@ is_home o p = option_map_or (λ q. not q.ended && q.cwd == o) p false
 -- leads to the caller's own.
 unfoldable pub remove_dir : ℕ → PathOf → Row Reply
 remove_dir pid path = do
-  s ← found_in pid path
+  s ← spot_at pid path
   x ← object s.0
   need (is_dir x) refusal.NotDir
   observe pid x.label
@@ -102,10 +102,10 @@ remove_dir pid path = do
 -- OpenAt: an open entry at offset 0 under the lowest free descriptor
 unfoldable pub open_at : ℕ → PathOf → Mode → Row Reply
 open_at pid path mode = do
-  o ← found pid path
+  o ← object_at pid path
   x ← object o
   need (not (is_dir x)) refusal.IsDir
-  p ← caller pid
+  p ← process pid
   fd ← some (lowest_free p.fds) refusal.NoFd
   f ← frame
   e ← some (lowest_free f.opens) refusal.NoOpen
@@ -116,7 +116,7 @@ open_at pid path mode = do
 -- ChangeDir: the working directory
 unfoldable pub change_dir : ℕ → PathOf → Row Reply
 change_dir pid path = do
-  o ← found pid path
+  o ← object_at pid path
   x ← object o
   need (is_dir x) refusal.NotDir
   change_process pid (λ q. record q { cwd = o })
@@ -129,7 +129,7 @@ links_of f o x = if is_dir x then 1 else times_named f.objects o
 -- StatAt: what an object is; its size is filled in from the content
 unfoldable pub stat_at : ℕ → PathOf → Row Reply
 stat_at pid path = do
-  o ← found pid path
+  o ← object_at pid path
   x ← object o
   observe pid x.label
   f ← frame
@@ -138,7 +138,7 @@ stat_at pid path = do
 -- ListAt: a name of a directory, counted from 0 in order of making
 unfoldable pub list_at : ℕ → PathOf → ℕ → Row Reply
 list_at pid path index = do
-  o ← found pid path
+  o ← object_at pid path
   x ← object o
   need (is_dir x) refusal.NotDir
   observe pid x.label

@@ -5,8 +5,8 @@ use Rattle.std.specs.List.{list_any}
 use Rattle.ix_model.specs.Naming.{PathOf}
 use Rattle.ix_model.specs.World.{Process, at, put, is_dir, is_ended}
 use Rattle.ix_model.specs.Outcomes.{Row}
-use Rattle.ix_model.specs.Rows.{◌>>=◌, ◌>>◌, pass, need, some, frame, caller, object, record_of, change_process, put_process, add_process, observe}
-use Rattle.ix_model.specs.Walks.{found}
+use Rattle.ix_model.specs.Rows.{◌>>=◌, ◌>>◌, pass, need, some, frame, process, object, record_of, change_process, put_process, add_process, observe}
+use Rattle.ix_model.specs.Walks.{object_at}
 use Rattle.ix_model.specs.Lifetimes.{let_go_all}
 use Rattle.ix_model.specs.declared.call.Keep.{Keep}
 use Rattle.ix_model.specs.declared.call.Keep.TheVariants as keep
@@ -29,7 +29,7 @@ kept_fds (keep.One fd) fds = put (replicate 32 None) fd.0 (at fds fd.0)
 -- Fork: a child like the caller, with the next pid
 unfoldable pub fork : ℕ → Keep → Row Reply
 fork pid keep = do
-  p ← caller pid
+  p ← process pid
   need (has_kept keep p) refusal.BadFd
   f ← frame
   need (nat_lt (count_by is_some f.processes) f.limits.procs) refusal.NoSlot
@@ -39,7 +39,7 @@ fork pid keep = do
 -- Exec: the file's capabilities and licences become the caller's; its own licences and descriptors stay
 unfoldable pub exec : ℕ → PathOf → Row Reply
 exec pid path = do
-  o ← found pid path
+  o ← object_at pid path
   x ← object o
   need (not (is_dir x)) refusal.IsDir
   observe pid x.label

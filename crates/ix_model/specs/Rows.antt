@@ -44,8 +44,8 @@ unfoldable pub frame : Row Frame
 frame = λ f. Pass f f
 
 -- the calling process. That it lives was tested before the row.
-unfoldable pub caller : ℕ → Row Process
-caller pid = λ f. some (living (at f.processes pid)) refusal.NoProcess f
+unfoldable pub process : ℕ → Row Process
+process pid = λ f. some (living (at f.processes pid)) refusal.NoProcess f
 
 -- the object of a number at which one stands. In a sound world no row asks for another.
 unfoldable pub object : ℕ → Row Object
@@ -79,7 +79,7 @@ put_open e x = λ f. Pass tt (record f { opens = put f.opens e x })
 -- observe: the caller's label is joined with the label of what it looks at, unless it is frozen or has to stay below its ceiling
 unfoldable pub observe : ℕ → Categories → Row (Unit {0})
 observe pid seen = do
-  p ← caller pid
+  p ← process pid
   only_if (not (same (join p.label seen) p.label)) (do
     need (not p.frozen) refusal.ProcFrozen
     need (leq (join p.label seen) p.ceiling) refusal.ProcCeiling
@@ -88,7 +88,7 @@ observe pid seen = do
 -- affect: the object's label is joined with the caller's, unless it is frozen or has to stay below its file system's ceiling
 unfoldable pub affect : ℕ → ℕ → Row (Unit {0})
 affect pid o = do
-  p ← caller pid
+  p ← process pid
   x ← object o
   f ← frame
   only_if (not (same (join x.label p.label) x.label)) (do
@@ -98,5 +98,5 @@ affect pid o = do
 
 -- Opens the words that the code steps through; those for which it has a call of its own stay closed.
 unfoldable pub coding : ℕ
-unfolding ◌>>=◌ ◌>>◌ on_pass need some only_if pass refuse frame caller object change_process change_object put_open
+unfolding ◌>>=◌ ◌>>◌ on_pass need some only_if pass refuse frame process object change_process change_object put_open
 coding = 0

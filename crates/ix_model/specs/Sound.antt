@@ -6,7 +6,7 @@ use Rattle.ix_model.specs.World.{World, Frame, Object, Process, Open, at, living
 use Rattle.ix_model.specs.Contents.{holding_of, offset_of}
 use Rattle.ix_model.specs.Telling.{blocks_where, blocks_on, lies_on}
 use Rattle.ix_model.specs.Numbers.{first_inode, inodes_of}
-use Rattle.ix_model.specs.Owners.{times_named, names_in_all, owned, is_claimant}
+use Rattle.ix_model.specs.Owners.{times_named, names_in_all, owned, has_end}
 use Rattle.ix_model.specs.Valid.{all_differ}
 
 -- ---- labels
@@ -51,7 +51,7 @@ pub record ProcessesSound (f : Frame) : Type 0 where
 
 -- a claimant lives and has a descriptor on the end that it claims
 pub record ClaimsSound (f : Frame) : Type 0 where
-  pub claimant : (o end p : ℕ) (x : Object) → at f.objects o ≡ Some x → at x.claims end ≡ Some p → is_claimant f o end p ≡ true
+  pub claimant : (o end p : ℕ) (x : Object) → at f.objects o ≡ Some x → at x.claims end ≡ Some p → has_end f o end p ≡ true
 
 -- ---- limits
 -- Each table is as long as its limit. An object that isn't a pipe lies on the file system of its number; a pipe lies on

@@ -3,11 +3,11 @@ use Rattle.std.specs.Prelude.{ℕ, suc, Bool, false, not, ◌&&◌, List, [], �
 use Rattle.std.specs.Option.{option_map_or}
 use Rattle.ix_model.specs.World.{Frame, World, at}
 use Rattle.ix_model.specs.Walks.{Behind, behind}
-use Rattle.ix_model.specs.Table.{Decision, decide}
+use Rattle.ix_model.specs.Table.{Decision, verdict}
 use Rattle.ix_model.specs.Contents.{carried, holding_of, readable, after_read, after_write, after_cut, after_seek, after_exit, emptied, status_of}
 use Rattle.ix_model.specs.Telling.{told}
-use Rattle.ix_model.specs.History.{Op, Event}
-use Rattle.ix_model.specs.History as op
+use Rattle.ix_model.specs.Events.{Op, Event}
+use Rattle.ix_model.specs.Events as op
 use Rattle.ix_model.specs.declared.reply.Kind.TheVariants as kind
 use Rattle.ix_model.specs.declared.reply.Reply.{Reply}
 use Rattle.ix_model.specs.declared.reply.Reply.TheVariants as reply
@@ -101,7 +101,7 @@ answer w pid _ d = plainly w d
 
 -- the step of a call by a process, which is the entry at this place
 unfoldable pub step : World → ℕ → ℕ → Op → Given
-step w place pid o = answer w pid o (decide (told w pid o) place pid o w.frame)
+step w place pid o = answer w pid o (verdict (told w pid o) place pid o w.frame)
 
 -- ---- runs
 -- the step of an entry

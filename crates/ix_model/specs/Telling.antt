@@ -5,8 +5,8 @@ use Rattle.ix_model.specs.World.{Frame, Content, World, Holding, at}
 use Rattle.ix_model.specs.Walks.{Behind, behind}
 use Rattle.ix_model.specs.OnDescriptors.{Told}
 use Rattle.ix_model.specs.Contents.{holding_of, offset_of, side, on_pipe, readable}
-use Rattle.ix_model.specs.History.{Op}
-use Rattle.ix_model.specs.History as op
+use Rattle.ix_model.specs.Events.{Op}
+use Rattle.ix_model.specs.Events as op
 
 -- ---- blocks
 -- the blocks that so many bytes use, 512 bytes each
@@ -24,8 +24,8 @@ lies_on f None o = false
 lies_on f (Some k) o = option_map_or (λ x. option_map_or (λ j. j == k) x.fs false) (at f.objects o) false
 
 -- the file system of an object, and how many blocks it has
-abbrev pub fs_at : Frame → ℕ → Option ℕ
-fs_at f o = option_and_then (λ x. x.fs) (at f.objects o)
+abbrev pub fs_of_object : Frame → ℕ → Option ℕ
+fs_of_object f o = option_and_then (λ x. x.fs) (at f.objects o)
 
 abbrev pub blocks_on : Frame → Option ℕ → ℕ
 blocks_on f None = 0
@@ -33,7 +33,7 @@ blocks_on f (Some k) = option_map_or (λ s. s.blocks) (at (map Some f.fss) k) 0
 
 -- the blocks of the other files of an object's file system
 abbrev pub blocks_beside : Frame → Content → ℕ → ℕ
-blocks_beside f c o = blocks_where (λ m. not (m == o) && lies_on f (fs_at f o) m) 0 c.holdings
+blocks_beside f c o = blocks_where (λ m. not (m == o) && lies_on f (fs_of_object f o) m) 0 c.holdings
 
 -- the length of a file of so many bytes once n bytes stand at an offset
 abbrev pub length_then : ℕ → ℕ → ℕ → ℕ
@@ -58,7 +58,7 @@ told_of_file_write f c e n =
     let big = nat_lt 4096 n || nat_lt 1048576 (offset_of c e.id + n) in
     record nothing_told {
       too_big = big;
-      no_space = not big && nat_lt (blocks_on f (fs_at f o)) (blocks_beside f c o + blocks_for (length_then (offset_of c e.id) n (length (side e.entry.end (holding_of c o)))));
+      no_space = not big && nat_lt (blocks_on f (fs_of_object f o)) (blocks_beside f c o + blocks_for (length_then (offset_of c e.id) n (length (side e.entry.end (holding_of c o)))));
     }
 
 unfoldable pub told_of_write : Frame → Content → ℕ → Option Behind → Told
@@ -68,7 +68,7 @@ told_of_write f c n (Some e) = if on_pipe f e then told_of_pipe_write (length (s
 -- the other files of its file system leave it so many blocks
 unfoldable pub told_of_cut : Frame → Content → ℕ → Option Behind → Told
 told_of_cut f c len None = nothing_told
-told_of_cut f c len (Some e) = record nothing_told { no_space = nat_lt (blocks_on f (fs_at f e.entry.object)) (blocks_beside f c e.entry.object + blocks_for len) }
+told_of_cut f c len (Some e) = record nothing_told { no_space = nat_lt (blocks_on f (fs_of_object f e.entry.object)) (blocks_beside f c e.entry.object + blocks_for len) }
 
 unfoldable pub told : World → ℕ → Op → Told
 told w pid (op.ReadFd fd count) = told_of_read w.frame w.content (behind w.frame pid fd)

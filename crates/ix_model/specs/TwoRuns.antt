@@ -4,8 +4,8 @@ use Rattle.ix_label.specs.Category.{Categories, leq}
 use Rattle.ix_model.specs.World.{World, Frame, Content, Holding, Object, Process, at, living}
 use Rattle.ix_model.specs.Contents.{holding_of, status_of}
 use Rattle.ix_model.specs.Step.{step_of}
-use Rattle.ix_model.specs.History.{Op, Event}
-use Rattle.ix_model.specs.History as op
+use Rattle.ix_model.specs.Events.{Op, Event}
+use Rattle.ix_model.specs.Events as op
 
 -- ---- worlds
 -- every byte is 0; lengths stay

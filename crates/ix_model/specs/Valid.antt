@@ -65,12 +65,12 @@ is_well_formed o =
     && (not o.dir || (is_empty o.cap && is_empty o.lic && length o.bytes == 0))
 
 -- something is there already under the names, with these lines before
-abbrev pub is_there : List FsSpec → List ObjSpec → List (List ℕ) → Bool
-is_there fss before names = is_mount fss names || list_any (λ b. same_names b.path.names names) before
+abbrev pub is_taken : List FsSpec → List ObjSpec → List (List ℕ) → Bool
+is_taken fss before names = is_mount fss names || list_any (λ b. same_names b.path.names names) before
 
 -- a directory is there under the names: the root, a further root, or one made before
-abbrev pub is_dir_there : List FsSpec → List ObjSpec → List (List ℕ) → Bool
-is_dir_there fss before names = same_names [] names || is_mount fss names || list_any (λ b. b.dir && same_names b.path.names names) before
+abbrev pub has_directory : List FsSpec → List ObjSpec → List (List ℕ) → Bool
+has_directory fss before names = same_names [] names || is_mount fss names || list_any (λ b. b.dir && same_names b.path.names names) before
 
 -- the lines before that lie on a file system
 abbrev pub lying_on : List FsSpec → ℕ → List ObjSpec → List ObjSpec
@@ -93,8 +93,8 @@ unfoldable pub object_fits : List FsSpec → Limits → List ObjSpec → ObjSpec
 object_fits fss l before o =
     is_well_formed o
     && leq o.label (fs_ceiling fss (fs_of fss o.path.names))
-    && not (is_there fss before o.path.names)
-    && is_dir_there fss before (take (length o.path.names - 1) o.path.names)
+    && not (is_taken fss before o.path.names)
+    && has_directory fss before (take (length o.path.names - 1) o.path.names)
     && has_room fss l before o
 
 -- each object line fits after those before it

@@ -7,7 +7,7 @@ use Rattle.ix_model.specs.Naming.{PathOf, same_bytes}
 use Rattle.ix_model.specs.Privs.{no_privileges}
 use Rattle.ix_model.specs.World.{Object, Process, Open, Frame, at, living, is_dir, no_claims}
 use Rattle.ix_model.specs.Outcomes.{Row}
-use Rattle.ix_model.specs.Rows.{◌>>=◌, ◌>>◌, pass, refuse, some, frame, caller, observe}
+use Rattle.ix_model.specs.Rows.{◌>>=◌, ◌>>◌, pass, refuse, some, frame, process, observe}
 use Rattle.ix_model.specs.declared.reply.Kind.TheVariants as kind
 use Rattle.ix_model.specs.declared.refusal.Refusal.TheVariants as refusal
 
@@ -62,36 +62,36 @@ join_all (l ∷ ls) = join l (join_all ls)
 -- all directories looked into are observed before the walk's outcome is answered
 unfoldable pub walked_to : ℕ → PathOf → Row Sought
 walked_to pid path = do
-  p ← caller pid
+  p ← process pid
   f ← frame
   observe pid (join_all (walk f.objects p path).looked)
   pass (walk f.objects p path).outcome
 
 -- the object that was found
-unfoldable pub there : Sought → Row ℕ
-there (Found o dir) = pass o
-there (Missing dir) = refuse refusal.NotFound
-there NotFound = refuse refusal.NotFound
-there NotDir = refuse refusal.NotDir
+unfoldable pub found_object : Sought → Row ℕ
+found_object (Found o dir) = pass o
+found_object (Missing dir) = refuse refusal.NotFound
+found_object NotFound = refuse refusal.NotFound
+found_object NotDir = refuse refusal.NotDir
 
 -- the object of the path, which must be there
-unfoldable pub found : ℕ → PathOf → Row ℕ
-found pid path = do
+unfoldable pub object_at : ℕ → PathOf → Row ℕ
+object_at pid path = do
   w ← walked_to pid path
-  there w
+  found_object w
 
 -- the object that was found, with the last directory looked into
-unfoldable pub spot : Sought → Row (ℕ × Option ℕ)
-spot (Found o dir) = pass (o, dir)
-spot (Missing dir) = refuse refusal.NotFound
-spot NotFound = refuse refusal.NotFound
-spot NotDir = refuse refusal.NotDir
+unfoldable pub found_spot : Sought → Row (ℕ × Option ℕ)
+found_spot (Found o dir) = pass (o, dir)
+found_spot (Missing dir) = refuse refusal.NotFound
+found_spot NotFound = refuse refusal.NotFound
+found_spot NotDir = refuse refusal.NotDir
 
 -- the same of the path, with the directory in which its last name stands; a path of no names has none
-unfoldable pub found_in : ℕ → PathOf → Row (ℕ × Option ℕ)
-found_in pid path = do
+unfoldable pub spot_at : ℕ → PathOf → Row (ℕ × Option ℕ)
+spot_at pid path = do
   w ← walked_to pid path
-  spot w
+  found_spot w
 
 -- the directory in which the last name is missing
 unfoldable pub vacant : Sought → Row ℕ

@@ -106,12 +106,12 @@ abbrev pub ceiling_of : List FsSpec → Object → Categories
 ceiling_of fss o = option_map_or (λ k. option_map_or (λ s. s.ceiling) (slice_index_or (map Some fss) k None) top) o.fs top
 
 -- whether a process other than this one has claimed the end
-abbrev pub held_from : Object → ℕ → ℕ → Bool
-held_from o end pid = option_map_or (λ p. not (p == pid)) (at o.claims end) false
+abbrev pub claimed_by_another : Object → ℕ → ℕ → Bool
+claimed_by_another o end pid = option_map_or (λ p. not (p == pid)) (at o.claims end) false
 
 -- whether a process has claimed the end
-abbrev pub has_claim : Object → ℕ → ℕ → Bool
-has_claim o end pid = option_map_or (λ p. p == pid) (at o.claims end) false
+abbrev pub claimed_by : Object → ℕ → ℕ → Bool
+claimed_by o end pid = option_map_or (λ p. p == pid) (at o.claims end) false
 
 -- what is no pipe has no claims, and a new pipe has none yet
 abbrev pub no_claims : List (Option ℕ)

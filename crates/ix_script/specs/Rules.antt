@@ -3,7 +3,7 @@ use Rattle.std.specs.Prelude.{ℕ, ◌-◌, nat_le, nat_lt, Bool, false, not, �
 use Rattle.std.specs.List.{list_any, list_all}
 use Rattle.ix_label.specs.Category.{leq}
 use Rattle.ix_model.specs.Naming.{same_bytes}
-use Rattle.ix_model.specs.Valid.{is_within, fs_of, fs_ceiling, is_there, is_dir_there, has_room}
+use Rattle.ix_model.specs.Valid.{is_within, fs_of, fs_ceiling, is_taken, has_directory, has_room}
 use Rattle.ix_model.specs.declared.config.ObjSpec.{ObjSpec}
 use Rattle.ix_script.specs.Cutting.{is_empty, is_open, word_at}
 use Rattle.ix_script.specs.Kinds.{Place, is_number_of_fd, is_all_or_none}
@@ -84,8 +84,8 @@ is_above before _ = false
 -- a path does not fit the tree: it is there, or its directory isn't
 abbrev pub object_misfits : List Line → ObjSpec → Bool
 object_misfits before o =
-    is_there (fss_of before) (objects_of before) o.path.names
-    || not (is_dir_there (fss_of before) (objects_of before) (take (length o.path.names - 1) o.path.names))
+    is_taken (fss_of before) (objects_of before) o.path.names
+    || not (has_directory (fss_of before) (objects_of before) (take (length o.path.names - 1) o.path.names))
 
 abbrev pub misfits : List Line → Line → Bool
 misfits before (line.Dir path label frozen) = object_misfits before (dir_spec path label frozen)
