@@ -4,7 +4,7 @@ use Rattle.std.specs.Option.{option_map_or}
 use Rattle.std.specs.List.{list_any}
 use Rattle.std.proofs.lemmas.Bool.{and_from, eq-eqb}
 use Rattle.ix_label.specs.Category.{leq, top}
-use Rattle.ix_model.specs.World.{Frame, Object, Process, Open, at, put, change, living, is_on}
+use Rattle.ix_model.specs.World.{fs_at, Frame, Object, Process, Open, at, put, change, living, is_on}
 use Rattle.ix_model.specs.Owners.{has_end}
 use Rattle.ix_model.specs.Walks.{Behind, behind, behind_of, entry_at}
 use Rattle.ix_model.specs.OnDescriptors.{claimed, pex, unpex}
@@ -61,7 +61,7 @@ reclaimed f o h same label fs claimants s =
     let g : Frame = record f { objects = change f.objects o h } in
     let r = floats_object f f o h same (floats_itself f) in
     record {
-      labels = labels_object f s.labels o h (λ x is. (λ i. leq (label x i) (option_map_or (λ k. option_map_or (λ t. t.ceiling) (at (map Some f.fss) k) top) (fs x i) top)) ∙ s.labels.objects o x is);
+      labels = labels_object f s.labels o h (λ x is. (λ i. leq (label x i) (option_map_or (λ k. (fs_at f.fss k).ceiling) (fs x i) top)) ∙ s.labels.objects o x is);
       names = names_floated f g r s.names;
       lives = lives_floated f g r s.lives;
       opens = opens_floated f g r s.opens;

@@ -20,7 +20,7 @@ use Rattle.ix_model.specs.declared.reply.Reply.TheVariants as reply
 use Rattle.ix_model.proofs.Lasts.{Lasts, lasts_decided}
 use Rattle.ix_model.proofs.Carrying.{get_or-keep, length-keep}
 use Rattle.ix_model.proofs.Ends.{Ends, Anything, ending}
-use Rattle.ix_model.proofs.Looks.{ends_touch}
+use Rattle.ix_model.proofs.Looks.{ends_touch, ends_float_entry}
 use Rattle.ix_model.proofs.Standing.{behind_is}
 use Rattle.ix_model.proofs.Answered.{world_stat, world_wait, passed}
 use Rattle.ix_model.proofs.Spent.{spent_decided}
@@ -115,7 +115,7 @@ pub record WriteFacts (t : Told) (pid fd : ℕ) (f : Frame) : Type 0 where
 
 write_ends : (t : Told) (pid fd : ℕ) (f : Frame) → Ends (write_fd t pid fd f) Anything (λ r g. WriteFacts t pid fd f)
 unfolding write_fd
-write_ends t pid fd f = search (ending, ends_touch) depth 40 fits 8000
+write_ends t pid fd f = search (ending, ends_touch, ends_float_entry) depth 40 fits 8000
 
 pub wrote : (t : Told) (place pid fd : ℕ) (bytes : List ℕ) (f : Frame) (k : ℕ) → (verdict t place pid (op.WriteFd fd bytes) f).reply ≡ reply.Number k → WriteFacts t pid fd f
 unfolding row
@@ -133,7 +133,7 @@ pub record CutFacts (t : Told) (pid fd len : ℕ) (f : Frame) : Type 0 where
 
 cut_ends : (t : Told) (pid fd len : ℕ) (f : Frame) → Ends (cut_fd t pid fd len f) Anything (λ r g. CutFacts t pid fd len f)
 unfolding cut_fd
-cut_ends t pid fd len f = search (ending, ends_touch) depth 40 fits 8000
+cut_ends t pid fd len f = search (ending, ends_touch, ends_float_entry) depth 40 fits 8000
 
 pub was_cut : (t : Told) (place pid fd len : ℕ) (f : Frame) → (verdict t place pid (op.CutFd fd len) f).reply ≡ reply.Done → CutFacts t pid fd len f
 unfolding row

@@ -2,7 +2,7 @@
 use Rattle.std.proofs.Common.{ℕ, ◌≡◌, Bool, true, false, Option, Some, None, refl}
 use Rattle.ix_model.specs.World.{Frame, Object, Process, Open, at, put, change, living}
 use Rattle.ix_model.specs.Outcomes.{Row, Outcome, Refuse, Pass}
-use Rattle.ix_model.specs.Rows.{◌>>=◌, ◌>>◌, on_pass, pass, refuse, need, some, only_if, frame, process, object, change_object, change_process, put_open}
+use Rattle.ix_model.specs.Rows.{◌>>=◌, ◌>>◌, on_pass, pass, refuse, need, some, only_if, frame, process, object, change_object, change_process, put_open, change_open}
 use Rattle.ix_model.specs.Walks.{Sought, Behind, found_object, behind, opened}
 use Rattle.ix_model.specs.Walks as sought
 use Rattle.ix_model.specs.declared.refusal.Refusal.{Refusal}
@@ -90,6 +90,10 @@ ends_change_object o h f P Q k = k
 pub ends_change_caller : (pid : ℕ) (h : Process → Process) (f : Frame) (P : Refusal → Frame → Type 0) (Q : Unit {0} → Frame → Type 0) → Q tt (record f { processes = change f.processes pid h }) → Ends (change_process pid h f) P Q
 unfolding Ends change_process
 ends_change_caller pid h f P Q k = k
+
+pub ends_change_open : (e : ℕ) (h : Open → Open) (f : Frame) (P : Refusal → Frame → Type 0) (Q : Unit {0} → Frame → Type 0) → Q tt (record f { opens = change f.opens e h }) → Ends (change_open e h f) P Q
+unfolding Ends change_open
+ends_change_open e h f P Q k = k
 
 pub ends_put_open : (e : ℕ) (x : Option Open) (f : Frame) (P : Refusal → Frame → Type 0) (Q : Unit {0} → Frame → Type 0) → Q tt (record f { opens = put f.opens e x }) → Ends (put_open e x f) P Q
 unfolding Ends put_open

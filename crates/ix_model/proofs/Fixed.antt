@@ -1,7 +1,7 @@
 -- What no call changes: the limits, the file systems, and the lengths of the objects' and the open entries' tables.
 use Rattle.std.proofs.Common.{◌≡◌, ℕ, Option, Some, None, refl, sym, subst, ◌∙◌, length, length-set}
 use Rattle.ix_model.specs.World.{World, Frame, Object, Process, Open}
-use Rattle.ix_model.specs.Rows.{change_object, change_process, put_object, put_open, put_process, add_process}
+use Rattle.ix_model.specs.Rows.{change_object, change_process, put_object, put_open, put_process, add_process, change_open}
 use Rattle.ix_model.specs.Auditing.{logged}
 use Rattle.ix_model.specs.OnProcesses.{end_process}
 use Rattle.ix_model.specs.OnDescriptors.{Told}
@@ -33,6 +33,10 @@ module _ (f : Frame) where
   unfolding put_object Holds
   fixed_put_object o x = record { led = λ g r. record { limits = r.limits; fss = r.fss; objects = length-set g.objects o x ∙ r.objects; opens = r.opens } }
 
+  fixed_change_open : (e : ℕ) (h : Open → Open) → Keeps (Fixed f) (change_open e h)
+  unfolding change_open Holds
+  fixed_change_open e h = record { led = λ g r. record { limits = r.limits; fss = r.fss; objects = r.objects; opens = length-set g.opens e _ ∙ r.opens } }
+
   fixed_put_open : (e : ℕ) (x : Option Open) → Keeps (Fixed f) (put_open e x)
   unfolding put_open Holds
   fixed_put_open e x = record { led = λ g r. record { limits = r.limits; fss = r.fss; objects = r.objects; opens = length-set g.opens e x ∙ r.opens } }
@@ -63,6 +67,7 @@ fixed_words pid f = record {
   process = λ p h same. fixed_change_process f p h;
   float = λ h same. fixed_change_process f pid h;
   entry = λ e x. fixed_put_open f e (Some x);
+  through = λ e l. fixed_change_open f e _;
   unclaim = λ o end. fixed_change_object f o _;
   relabel = λ can o h same. fixed_change_object f o h;
   claim = λ can o h same. fixed_change_object f o h;

@@ -2,7 +2,7 @@
 use Rattle.std.proofs.Common.{◌≡◌, ℕ, Bool, true, false, true≢false, not, nat_lt, [], ◌∷◌, ◌++◌, Some, length, length-append, refl, sym, ap, ◌∙◌, subst, arith, inl, inr}
 use Rattle.std.specs.Option.{option_map_or}
 use Rattle.std.proofs.lemmas.Bool.{ltb-true, not-false}
-use Rattle.ix_label.specs.Category.{Categories, leq, same}
+use Rattle.ix_label.specs.Category.{Categories, leq, same, bottom}
 use Rattle.ix_label.specs.Lattice.{same-decides}
 use Rattle.ix_model.specs.Naming.{PathOf}
 use Rattle.ix_model.specs.Privs.{to_lower}
@@ -196,8 +196,8 @@ module _ (f : Frame) where
       (λ why. s))) s)))))
 
   -- ---- privileges of files
-  room_affect : (pid o : ℕ) → Keeps HasRoom (affect pid o)
-  room_affect pid o = record { led = λ g room. kept_ends HasRoom _ (ends_affect pid o g (λ r h. HasRoom h) (λ u h. HasRoom h) (λ why. room) room (λ l x is low. room)) }
+  room_affect : (pid o : ℕ) (through : Categories) → Keeps HasRoom (affect pid o through)
+  room_affect pid o through = record { led = λ g room. kept_ends HasRoom _ (ends_affect pid o through g (λ r h. HasRoom h) (λ u h. HasRoom h) (λ why. room) room (λ l x is low. room)) }
 
   pub set_priv_ends : (place pid : ℕ) (path : PathOf) (cap lic : PrivSet) (g : Frame) → Follows f g → Ends (set_priv place pid path cap lic g) Refused Passed
   unfolding set_priv
@@ -207,7 +207,7 @@ module _ (f : Frame) where
       ends_then _ _ m Refused Passed (ends_need _ _ m Refused _ (λ no_dir.
       ends_then _ _ m Refused Passed (room_exercise pid _ m Refused _ (λ room.
       ends_bind _ _ m Refused Passed (ends_caller pid m Refused _ (λ p lives.
-      ends_then _ _ m Refused Passed (ends_kept (λ h. Follows f h × HasRoom h) _ Refused _ (holds_both _ _ _ ((follows_affect f pid o).led m r) ((room_affect pid o).led m room)) (λ why h k. k.0) (λ u h k.
+      ends_then _ _ m Refused Passed (ends_kept (λ h. Follows f h × HasRoom h) _ Refused _ (holds_both _ _ _ ((follows_affect f pid o bottom).led m r) ((room_affect pid o bottom).led m room)) (λ why h k. k.0) (λ u h k.
       ends_then _ _ h Refused Passed (ends_change_object o _ h Refused _ (
       ends_logged_last _ _ k.1 (followed_object f h o _ (λ y. refl) (λ y. refl) (λ y here. k.0.sound.labels.objects o y here) k.0) _))))) r))
       (λ why. r))) r)) r)))

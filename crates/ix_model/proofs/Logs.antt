@@ -2,14 +2,14 @@
 use Rattle.std.proofs.Common.{◌≡◌, ℕ, suc, Bool, true, false, not, ◌&&◌, List, [], ◌∷◌, ◌++◌, Option, Some, refl, sym, ap, ◌∙◌, if◌then◌else◌, append-nil, append_assoc, option_map}
 use Rattle.std.specs.Option.{option_map_or}
 use Rattle.std.specs.List.{list_all}
-use Rattle.ix_label.specs.Category.{Categories, join, leq, same}
-use Rattle.ix_label.specs.Lattice.{same-decides}
+use Rattle.ix_label.specs.Category.{Categories, join, leq, same, bottom}
+use Rattle.ix_label.specs.Lattice.{same-decides, join-bottom_right}
 use Rattle.ix_model.specs.Naming.{PathOf}
 use Rattle.ix_model.specs.Privs.{either_of}
 use Rattle.ix_model.specs.Refusals.{keeps_label}
 use Rattle.ix_model.specs.World.{World, Frame, Object, Process, at, change, living, lives}
 use Rattle.ix_model.specs.Outcomes.{Outcome, Refuse, Pass}
-use Rattle.ix_model.specs.Rows.{change_object, change_process, put_object, put_open, put_process, add_process, affect}
+use Rattle.ix_model.specs.Rows.{change_object, change_process, put_object, put_open, put_process, add_process, affect, change_open}
 use Rattle.ix_model.specs.Walks.{Sought, walk, join_all, walked_to, object_at}
 use Rattle.ix_model.specs.Walks as sought
 use Rattle.ix_model.specs.Auditing.{audit_line}
@@ -222,20 +222,28 @@ module _ (f : Frame) (place pid : ℕ) where
     after : at g.objects o ≡ Some (record object { label = join object.label caller.label })
     log : g.log ≡ m.log
 
-  affected_not : (o : ℕ) (m : Frame) (p : Process) (x : Object) → living (at m.processes pid) ≡ Some p → at m.objects o ≡ Some x → not (same (join x.label p.label) x.label) ≡ false → Affected o m m
+  affected_not : (o : ℕ) (m : Frame) (p : Process) (x : Object) → living (at m.processes pid) ≡ Some p → at m.objects o ≡ Some x → not (same (join x.label (join p.label bottom)) x.label) ≡ false → Affected o m m
   affected_not o m p x lives is free =
-      let e : join x.label p.label ≡ x.label = (same-decides (join x.label p.label) x.label).0 (sym (not_not (same (join x.label p.label) x.label)) ∙ ap not free) in
+      let far : Categories = join x.label (join p.label bottom) in
+      let e : join x.label p.label ≡ x.label = sym (ap (join x.label) (join-bottom_right p.label)) ∙ (same-decides far x.label).0 (sym (not_not (same far x.label)) ∙ ap not free) in
       record { caller = p; is_caller = lives; object = x; is_object = is; after = is ∙ ap (λ l. Some (record x { label = l })) (sym e); log = refl }
 
-  affected_yes : (o : ℕ) (m g : Frame) (p : Process) (x : Object) → living (at m.processes pid) ≡ Some p → at m.objects o ≡ Some x → g.objects ≡ change m.objects o (λ y. record y { label = join y.label p.label }) → g.log ≡ m.log → Affected o m g
-  affected_yes o m g p x lives is objects log = record { caller = p; is_caller = lives; object = x; is_object = is; after = changed m.objects g.objects o (λ y. record y { label = join y.label p.label }) x objects is; log = log }
+  affected_yes : (o : ℕ) (m g : Frame) (p : Process) (x : Object) → living (at m.processes pid) ≡ Some p → at m.objects o ≡ Some x → g.objects ≡ change m.objects o (λ y. record y { label = join y.label (join p.label bottom) }) → g.log ≡ m.log → Affected o m g
+  affected_yes o m g p x lives is objects log = record {
+    caller = p;
+    is_caller = lives;
+    object = x;
+    is_object = is;
+    after = changed m.objects g.objects o (λ y. record y { label = join y.label (join p.label bottom) }) x objects is ∙ (λ i. Some (record x { label = join x.label (join-bottom_right p.label i) }));
+    log = log;
+  }
 
-  affected : (o : ℕ) (m : Frame) → Ends (affect pid o m) Anything (λ u g. Affected o m g)
+  affected : (o : ℕ) (m : Frame) → Ends (affect pid o bottom m) Anything (λ u g. Affected o m g)
   unfolding affect
   affected o m = search (ending, affected_not, affected_yes) depth 40 fits 8000
 
-  ends_affected : (o : ℕ) (m : Frame) (Q : Unit {0} → Frame → Type 0) → ((g : Frame) → Affected o m g → Q tt g) → Ends (affect pid o m) Anything Q
-  ends_affected o m Q h = ends_more (affect pid o m) Anything (λ u g. Affected o m g) Q (affected o m) (λ u g. h g)
+  ends_affected : (o : ℕ) (m : Frame) (Q : Unit {0} → Frame → Type 0) → ((g : Frame) → Affected o m g → Q tt g) → Ends (affect pid o bottom m) Anything Q
+  ends_affected o m Q h = ends_more (affect pid o bottom m) Anything (λ u g. Affected o m g) Q (affected o m) (λ u g. h g)
 
   priv_done : (m n g : Frame) (o : ℕ) (path : PathOf) (cap lic : PrivSet) (x : Object) (p : Process) → Sight pid path f o m → at m.objects o ≡ Some x → living (at m.processes pid) ≡ Some p → Affected o m n → g.objects ≡ change n.objects o (λ y. record y { cap = cap; lic = lic }) → g.log ≡ n.log ++ record (audit_line place pid act.SetPriv o x.label (join x.label p.label)) { cap = cap; lic = lic } ∷ [] → LogAfter f place pid (op.SetPriv path cap lic) g
   priv_done m n g o path cap lic x p sight is lives a objects log =
@@ -256,12 +264,13 @@ log_stays Logging = false
 log_stays _ = true
 
 quiet_words : (pid : ℕ) (f : Frame) → Words log_stays pid (λ g. g.log ≡ f.log)
-unfolding change_object change_process put_object put_open put_process add_process end_process Holds
+unfolding change_object change_process change_open put_object put_open put_process add_process end_process Holds
 quiet_words pid f = record {
   object = λ o h same. record { led = λ g r. r };
   process = λ p h same. record { led = λ g r. r };
   float = λ h same. record { led = λ g r. r };
   entry = λ e x. record { led = λ g r. r };
+  through = λ e l. record { led = λ g r. r };
   unclaim = λ o end. record { led = λ g r. r };
   relabel = λ can o h same. record { led = λ g r. r };
   claim = λ can o h same. record { led = λ g r. r };

@@ -32,7 +32,7 @@ use Rattle.ix_model.proofs.Tables.{change_same, change_twice}
 use Rattle.ix_model.proofs.Keeps.{Keeps, keeping}
 use Rattle.ix_model.proofs.Ends.{Ends, ending, ends_more, ends_kept, kept_ends}
 use Rattle.ix_model.proofs.RowEnds.{endings, ends_let_go_object, ends_let_go, ends_let_go_all}
-use Rattle.ix_model.proofs.Looks.{ends_observe, ends_touch}
+use Rattle.ix_model.proofs.Looks.{ends_observe, ends_touch, ends_float_entry}
 use Rattle.ix_model.proofs.Lasts.{Lasts, lasts_relabelled}
 use Rattle.ix_model.proofs.Carrying.{carried_same}
 
@@ -111,7 +111,7 @@ module _ (pid : ℕ) (f : Frame) where
   ends_walked_to path g P Q here h k = looked (walked_to pid path) g P Q (relabelled_walked_to path) here h k
 
   -- ---- the rows
-  ruleset refusing = (endings, ends_look, ends_walked_to, ends_touch, ends_claimed, ends_let_go_object, ends_let_go, ends_let_go_all, relabelled_itself)
+  ruleset refusing = (endings, ends_look, ends_walked_to, ends_touch, ends_float_entry, ends_claimed, ends_let_go_object, ends_let_go, ends_let_go_all, relabelled_itself)
 
   relabels_make : (path : PathOf) (kind : Kind) → Relabels is_bare pid f (make pid path kind f)
   unfolding make missing

@@ -3,6 +3,7 @@ use Rattle.std.proofs.Common.{◌≡◌, ◌≤◌, ℕ, Bool, true, false, List
 use Rattle.std.proofs.lemmas.Bool.{leb-true}
 use Rattle.std.proofs.lemmas.List.{length-take}
 use Rattle.ix_label.specs.Category.{Categories}
+use Rattle.ix_model.proofs.Looks.{ends_float_entry}
 use Rattle.ix_model.specs.World.{World, Frame, lives}
 use Rattle.ix_model.specs.Outcomes.{Outcome, Refuse, Pass}
 use Rattle.ix_model.specs.Rows.{observe}
@@ -66,7 +67,7 @@ pub record ReadFacts (pid fd count : ℕ) (f : Frame) (r : Reply) : Type 0 where
 
 read_ends : (t : Told) (pid fd count : ℕ) (f : Frame) → Ends (read_fd t pid fd count f) Anything (λ r g. ReadFacts pid fd count f r)
 unfolding read_fd
-read_ends t pid fd count f = search (ending, any_observe) depth 40 fits 8000
+read_ends t pid fd count f = search (ending, any_observe, ends_float_entry) depth 40 fits 8000
 
 -- what a read's decision says: bytes, with these facts, or a refusal
 pub data Said (pid fd count : ℕ) (f : Frame) : Reply → Type 0 where

@@ -1,6 +1,7 @@
 -- The step of every call leaves a sound world.
 use Rattle.std.proofs.Common.{◌≡◌, ℕ, Bool, true, false, not, nat_le, List, length, take, Option, Some, None, refl, sym, ap, ◌∙◌, subst, if◌then◌else◌}
 use Rattle.std.proofs.lemmas.Bool.{leb-true, ltb-false, not-true}
+use Rattle.ix_model.proofs.Looks.{ends_float_entry}
 use Rattle.ix_model.specs.World.{Frame, Content, World, at, is_ended, is_pipe}
 use Rattle.ix_model.specs.Walks.{Behind, behind}
 use Rattle.ix_model.specs.OnDescriptors.{Told, seek_fd}
@@ -97,7 +98,7 @@ module _ (w : World) (g : Frame) (fixed : Fixed w.frame g) (k : Follows w.frame 
 -- ---- what the tests said
 seek_ends : (pid fd offset : ℕ) (f : Frame) → Ends (seek_fd pid fd offset f) Anything (λ r g. nat_le offset 1048576 ≡ true)
 unfolding seek_fd
-seek_ends pid fd offset f = search ending depth 40 fits 8000
+seek_ends pid fd offset f = search (ending, ends_float_entry) depth 40 fits 8000
 
 sought : (t : Told) (place pid fd offset : ℕ) (f : Frame) → (verdict t place pid (op.SeekFd fd offset) f).reply ≡ reply.Done → nat_le offset 1048576 ≡ true
 unfolding row

@@ -5,7 +5,7 @@ use Rattle.ix_model.specs.Naming.{PathOf, last_name}
 use Rattle.ix_model.specs.World.{Frame, Object, Process, at, is_dir}
 use Rattle.ix_model.specs.Outcomes.{Row}
 use Rattle.ix_model.specs.Rows.{observe}
-use Rattle.ix_model.specs.Walks.{Sought, node, child, lacking, looking_into, walk_from, walk, join_all, walked_to, found_object, found_spot, vacant, object_at, spot_at, missing}
+use Rattle.ix_model.specs.Walks.{Spot, Sought, node, child, lacking, looking_into, walk_from, walk, join_all, walked_to, found_object, found_spot, vacant, object_at, spot_at, missing}
 use Rattle.ix_model.specs.Walks as sought
 use Rattle.ix_model.specs.declared.refusal.Refusal.{Refusal}
 use Rattle.ix_model.proofs.Tables.{SameBut, back, seen_same}
@@ -123,7 +123,7 @@ unfolding missing
 leads_missing f pid path P Q s refused passed = ends_bind _ _ f P Q (leads_walked_to f f pid path P _ (along_itself f s) refused (λ w h k leads.
     leads_vacant f (last_name path.names) w h P Q leads (λ d within. passed d h k within) (λ r. refused r h k.follows)))
 
-pub leads_found_in : (f : Frame) (pid : ℕ) (path : PathOf) (P : Refusal → Frame → Type 0) (Q : (ℕ × Option ℕ) → Frame → Type 0) → Follows f f → ((r : Refusal) (h : Frame) → Follows f h → P r h) → ((o : ℕ) (dir : Option ℕ) (h : Frame) → Along f h → Leads f (last_name path.names) (sought.Found o dir) → Q (o, dir) h) → Ends (spot_at pid path f) P Q
+pub leads_found_in : (f : Frame) (pid : ℕ) (path : PathOf) (P : Refusal → Frame → Type 0) (Q : Spot → Frame → Type 0) → Follows f f → ((r : Refusal) (h : Frame) → Follows f h → P r h) → ((o : ℕ) (dir : Option ℕ) (h : Frame) → Along f h → Leads f (last_name path.names) (sought.Found o dir) → Q (record { object = o; dir = dir }) h) → Ends (spot_at pid path f) P Q
 unfolding spot_at
 leads_found_in f pid path P Q s refused passed = ends_bind _ _ f P Q (leads_walked_to f f pid path P _ (along_itself f s) refused (λ w h k leads.
     ends_spot w h P Q (λ o dir is. passed o dir h k (subst (λ (v : Sought). Leads f (last_name path.names) v) is leads)) (refused _ h k.follows) (refused _ h k.follows)))

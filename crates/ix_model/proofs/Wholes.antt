@@ -6,7 +6,7 @@ use Rattle.std.proofs.lemmas.Bool.{and_parts}
 use Rattle.std.proofs.lemmas.Bool.Decides.{eqb_tells}
 use Rattle.std.proofs.lemmas.List.{get_or-set_other}
 use Rattle.ix_model.specs.World.{World, Frame, Object, Holding, at, put, change}
-use Rattle.ix_model.specs.Rows.{change_object, change_process, put_object, put_open, put_process, add_process}
+use Rattle.ix_model.specs.Rows.{change_object, change_process, put_object, put_open, put_process, add_process, change_open}
 use Rattle.ix_model.specs.Walks.{Behind, behind}
 use Rattle.ix_model.specs.Auditing.{logged}
 use Rattle.ix_model.specs.Contents.{carried, emptied, holding_of, holds_nothing}
@@ -71,12 +71,13 @@ module _ (f : Frame) where
   same_claims g o h same r = whole_objects g _ (λ m is. shown_changed whole_of h (λ x whole. ap (λ c. is_some (at c 0) && is_some (at c 1)) (sym (same x)) ∙ whole) g.objects o m is) r
 
   whole_words : (pid : ℕ) → Words claims_none pid (WholeBefore f)
-  unfolding claims_none change_object change_process put_object put_open put_process add_process end_process logged Holds
+  unfolding claims_none change_object change_process change_open put_object put_open put_process add_process end_process logged Holds
   whole_words pid = record {
     object = λ o h same. record { led = λ g. same_claims g o h (λ x. ap (λ y. y.claims) (same x)) };
     process = λ p h same. record { led = λ g r. record { was = r.was } };
     float = λ h same. record { led = λ g r. record { was = r.was } };
     entry = λ e x. record { led = λ g r. record { was = r.was } };
+    through = λ e l. record { led = λ g r. record { was = r.was } };
     unclaim = λ o end. record { led = λ g. whole_objects g _ (λ m is. shown_changed whole_of _ (λ x whole. unclaimed x.claims end whole) g.objects o m is) };
     relabel = λ can o h same. record { led = λ g. same_claims g o h (λ x. ap (λ y. y.claims) (same x)) };
     claim = λ can. cc;

@@ -1,5 +1,6 @@
 -- Histories: the world that one leads to, and what each of its entries gives.
-use Rattle.std.specs.Prelude.{ℕ, ◌+◌, ◌-◌, List, [], ◌∷◌, ◌++◌, length, take}
+use Rattle.std.specs.Prelude.{ℕ, ◌+◌, ◌-◌, List, [], ◌∷◌, ◌++◌, length, take, Option, slice_get}
+use Rattle.std.proofs.Common.{option_map}
 use Rattle.ix_model.specs.World.{World}
 use Rattle.ix_model.specs.Opening.{opening_world}
 use Rattle.ix_model.specs.Step.{Given, step_of, run}
@@ -22,6 +23,6 @@ next h e = step_of (world_of h) (length h.events + 1) e
 abbrev pub with_entry : History → Event → History
 with_entry h e = record h { events = h.events ++ e ∷ [] }
 
--- what the entry at a place gives, the places being counted from 1
-abbrev pub reply_at : History → ℕ → Event → Given
-reply_at h place e = step_of (world_of (record h { events = take (place - 1) h.events })) place e
+-- what the entry at a place gives, if one stands there; the places are counted from 1
+abbrev pub given_at : History → ℕ → Option Given
+given_at h place = option_map (step_of (world_of (record h { events = take (place - 1) h.events })) place) (slice_get h.events (place - 1))

@@ -29,6 +29,7 @@ pub mod History
 pub mod AuditLog
 pub mod Lowering
 pub mod TwoRuns
+pub mod EqualLengths
 pub mod Cost
 pub mod Freshness
 pub mod WholePaths

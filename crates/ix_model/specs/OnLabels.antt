@@ -1,7 +1,7 @@
 -- The calls on labels, frozen marks, privileges and ceilings: their tests in order, their effects, replies and audit lines.
 use Rattle.std.specs.Prelude.{ℕ, ◌==◌, Bool, true, false, not, ◌||◌, slice_get}
 use Rattle.std.specs.Option.{option_map_or}
-use Rattle.ix_label.specs.Category.{Categories, leq, same, join}
+use Rattle.ix_label.specs.Category.{Categories, bottom, leq, same, join}
 use Rattle.ix_model.specs.Naming.{PathOf}
 use Rattle.ix_model.specs.Privs.{to_lower, to_grant, to_set_ceilings, to_thaw, to_read_the_log, either_of, without}
 use Rattle.ix_model.specs.World.{Object, Process, is_dir, ceiling_of}
@@ -72,7 +72,7 @@ set_self place pid now = do
 unfoldable pub freeze : ℕ → PathOf → Row Reply
 freeze pid path = do
   o ← object_at pid path
-  affect pid o
+  affect pid o bottom
   change_object o (λ x. record x { frozen = true })
   pass reply.Done
 
@@ -110,7 +110,7 @@ set_priv place pid path cap lic = do
   need (not (is_dir x)) refusal.IsDir
   exercise pid to_grant
   p ← process pid
-  affect pid o
+  affect pid o bottom
   change_object o (λ y. record y { cap = cap; lic = lic })
   logged (record (audit_line place pid act.SetPriv o x.label (join x.label p.label)) { cap = cap; lic = lic })
   pass reply.Done
@@ -131,7 +131,7 @@ grant_lic place pid target set = do
   pass reply.Done
 
 -- ---- ceilings
--- a ceiling that isn't lowered, or of a process that is neither the caller nor its child, needs CEIL
+-- CEIL is needed for a ceiling that isn't at or below the old one, and for that of a process that is neither the caller nor its child
 abbrev pub needs_to_set_ceilings : ℕ → ℕ → Process → Categories → Bool
 needs_to_set_ceilings pid target q now = not (leq now q.ceiling) || not (target == pid || option_map_or (λ r. r == pid) q.parent false)
 

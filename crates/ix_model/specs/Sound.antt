@@ -2,10 +2,10 @@
 use Rattle.std.specs.Prelude.{◌≡◌, ℕ, ◌+◌, ◌<◌, ◌≤◌, ◌==◌, true, false, not, ◌&&◌, ◌||◌, [], length, map, count_by, Some, None, is_some, is_none, if◌then◌else◌}
 use Rattle.std.specs.Option.{option_map_or}
 use Rattle.ix_label.specs.Category.{leq}
-use Rattle.ix_model.specs.World.{World, Frame, Object, Process, Open, at, living, lives, is_file, is_dir, is_pipe, held, ceiling_of}
+use Rattle.ix_model.specs.World.{fs_at, World, Frame, Object, Process, Open, at, living, lives, is_file, is_dir, is_pipe, held, ceiling_of}
 use Rattle.ix_model.specs.Contents.{holding_of, offset_of}
 use Rattle.ix_model.specs.Telling.{blocks_where, blocks_on, lies_on}
-use Rattle.ix_model.specs.Numbers.{first_inode, inodes_of}
+use Rattle.ix_model.specs.Numbers.{first_inode}
 use Rattle.ix_model.specs.Owners.{times_named, names_in_all, owned, has_end}
 use Rattle.ix_model.specs.Valid.{all_differ}
 
@@ -61,7 +61,7 @@ pub record WithinLimits (f : Frame) : Type 0 where
   pub objects : length f.objects ≡ first_inode f.fss (length f.fss) + f.limits.pipes
   pub pipes : (o : ℕ) (x : Object) → at f.objects o ≡ Some x → is_none x.fs ≡ is_pipe x
   pub past : (o : ℕ) (x : Object) → at f.objects o ≡ Some x → is_pipe x ≡ true → first_inode f.fss (length f.fss) ≤ o
-  pub numbers : (o k : ℕ) (x : Object) → at f.objects o ≡ Some x → x.fs ≡ Some k → (first_inode f.fss k ≤ o) × (o < first_inode f.fss k + inodes_of f.fss k)
+  pub numbers : (o k : ℕ) (x : Object) → at f.objects o ≡ Some x → x.fs ≡ Some k → (first_inode f.fss k ≤ o) × (o < first_inode f.fss k + (fs_at f.fss k).inodes)
   pub opens : length f.opens ≡ f.limits.opens
   pub processes : count_by is_some f.processes ≤ f.limits.procs
   pub names : names_in_all f.objects ≤ f.limits.names
