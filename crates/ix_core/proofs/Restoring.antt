@@ -8,8 +8,8 @@ use Rattle.ix_model.specs.World.{Frame, Process, at, change, lives}
 use Rattle.ix_model.specs.Outcomes.{Refuse}
 use Rattle.ix_model.specs.Refusals.{keeps_label}
 use Rattle.ix_model.specs.OnDescriptors.{Told}
-use Rattle.ix_model.specs.Table.{row, decide}
-use Rattle.ix_model.specs.History.{Op}
+use Rattle.ix_model.specs.Table.{row, verdict}
+use Rattle.ix_model.specs.Events.{Op}
 use Rattle.ix_model.specs.declared.refusal.Refusal.{Refusal}
 use Rattle.ix_core.specs.Meanings.{Restores, label_at}
 
@@ -54,6 +54,6 @@ pub set_back : (f g h : Frame) (pid : ℕ) (l : Categories) → Restores f g pid
 set_back f g h pid l r is e = e ∙ r.back l is
 
 -- a refusal that keeps no label leaves the frame as it was
-pub decide_refused : (t : Told) (place pid : ℕ) (o : Op) (f g : Frame) (why : Refusal) → lives f pid ≡ true → row t place pid o f ≡ Refuse why g → keeps_label why ≡ false → (decide t place pid o f).frame ≡ f
-unfolding decide
+pub decide_refused : (t : Told) (place pid : ℕ) (o : Op) (f g : Frame) (why : Refusal) → lives f pid ≡ true → row t place pid o f ≡ Refuse why g → keeps_label why ≡ false → (verdict t place pid o f).frame ≡ f
+unfolding verdict
 decide_refused t place pid o f g why l r k = rw (l, r, k) refl

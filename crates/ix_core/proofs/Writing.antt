@@ -3,12 +3,12 @@ use Rattle.std.proofs.Common.{◌≡◌, ℕ, ◌+◌, ◌-◌, List, [], ◌++�
 use Rattle.ix_model.specs.World.{World, Frame, Content}
 use Rattle.ix_model.specs.Walks.{Behind, behind}
 use Rattle.ix_model.specs.OnDescriptors.{Told}
-use Rattle.ix_model.specs.Table.{decide}
+use Rattle.ix_model.specs.Table.{verdict}
 use Rattle.ix_model.specs.Step.{Given, plainly, write_answer, answer, step}
 use Rattle.ix_model.specs.Telling.{nothing_told, told_of_pipe_write, told_of_file_write, told_of_write, told}
 use Rattle.ix_model.specs.Contents.{holding_of, offset_of, side, with_side, spliced, on_pipe, after_write, carried}
 use Rattle.ix_model.specs.Clean.{IsClean}
-use Rattle.ix_model.specs.History as op
+use Rattle.ix_model.specs.Events as op
 use Rattle.ix_model.specs.declared.reply.Reply.{Reply}
 use Rattle.ix_model.specs.declared.reply.Reply.TheVariants as reply
 use Rattle.ix_model.proofs.Carrying.{carried_decided}
@@ -18,7 +18,7 @@ use Rattle.ix_core.proofs.Lending.{put_lent}
 -- ---- the step
 -- the step of a write by a descriptor with something behind it
 pub write_step : (w : World) (place pid fd : ℕ) (new : List ℕ) (e : Behind) (t : Told) → behind w.frame pid fd ≡ Some e → t ≡ told_of_write w.frame w.content (length new) (Some e) →
-    step w place pid (op.WriteFd fd new) ≡ write_answer w new (Some e) (decide t place pid (op.WriteFd fd new) w.frame).reply (decide t place pid (op.WriteFd fd new) w.frame).frame
+    step w place pid (op.WriteFd fd new) ≡ write_answer w new (Some e) (verdict t place pid (op.WriteFd fd new) w.frame).reply (verdict t place pid (op.WriteFd fd new) w.frame).frame
 unfolding step answer told
 write_step w place pid fd new e t b is = rw (b, ← is) refl
 
@@ -65,7 +65,7 @@ pipe_content f c c1 c2 e new bytes p lent is back =
 -- a write to a file that passed
 pub wrote_file : (w : World) (f g : Frame) (c c1 c2 c3 : Content) (place pid fd : ℕ) (new bytes : List ℕ) (e : Behind) (t : Told) (r : Reply) (k : ℕ)
     → ◌≡◌ {A = World} (record { frame = f; content = c }) w → IsClean w → behind w.frame pid fd ≡ Some e → on_pipe w.frame e ≡ false → t ≡ told_of_file_write w.frame w.content e (length new)
-    → r ≡ (decide t place pid (op.WriteFd fd new) f).reply → g ≡ (decide t place pid (op.WriteFd fd new) f).frame → r ≡ reply.Number k
+    → r ≡ (verdict t place pid (op.WriteFd fd new) f).reply → g ≡ (verdict t place pid (op.WriteFd fd new) f).frame → r ≡ reply.Number k
     → c1 ≡ with_holding e.entry.object (with_side e.entry.end [] (holding_of c e.entry.object)) c
     → bytes ≡ spliced (offset_of c e.id) new (side e.entry.end (holding_of c e.entry.object))
     → c2 ≡ with_holding e.entry.object (with_side e.entry.end bytes (holding_of c1 e.entry.object)) c1
@@ -74,8 +74,8 @@ pub wrote_file : (w : World) (f g : Frame) (c c1 c2 c3 : Content) (place pid fd 
 wrote_file w f g c c1 c2 c3 place pid fd new bytes e t r k view clean b p is said stands num lent spliced_is back moved =
     let ef : f ≡ w.frame = ap (λ (v : World). v.frame) view in
     let ec : c ≡ w.content = ap (λ (v : World). v.content) view in
-    let frames : g ≡ (decide t place pid (op.WriteFd fd new) w.frame).frame = stands ∙ ap (λ (h : Frame). (decide t place pid (op.WriteFd fd new) h).frame) ef in
-    let replies : r ≡ (decide t place pid (op.WriteFd fd new) w.frame).reply = said ∙ ap (λ (h : Frame). (decide t place pid (op.WriteFd fd new) h).reply) ef in
+    let frames : g ≡ (verdict t place pid (op.WriteFd fd new) w.frame).frame = stands ∙ ap (λ (h : Frame). (verdict t place pid (op.WriteFd fd new) h).frame) ef in
+    let replies : r ≡ (verdict t place pid (op.WriteFd fd new) w.frame).reply = said ∙ ap (λ (h : Frame). (verdict t place pid (op.WriteFd fd new) h).reply) ef in
     let content : c3 ≡ after_write w.frame e new w.content = file_content w.frame c c1 c2 c3 e new bytes p lent spliced_is back moved ∙ ap (λ (d : Content). after_write w.frame e new d) ec in
     let whole = write_step w place pid fd new e t b (told_file w.frame w.content (length new) e t p is)
     ∙ written w new e _ _ k (sym replies ∙ num) (carried_decided w t place pid (op.WriteFd fd new) refl clean) in
@@ -84,7 +84,7 @@ wrote_file w f g c c1 c2 c3 place pid fd new bytes e t r k view clean b p is sai
 -- a write to a pipe that passed
 pub wrote_pipe : (w : World) (f g : Frame) (c c1 c2 : Content) (place pid fd : ℕ) (new bytes : List ℕ) (e : Behind) (t : Told) (r : Reply) (k : ℕ)
     → ◌≡◌ {A = World} (record { frame = f; content = c }) w → IsClean w → behind w.frame pid fd ≡ Some e → on_pipe w.frame e ≡ true → t ≡ told_of_pipe_write (length (side (1 - e.entry.end) (holding_of c e.entry.object))) (length new)
-    → r ≡ (decide t place pid (op.WriteFd fd new) f).reply → g ≡ (decide t place pid (op.WriteFd fd new) f).frame → r ≡ reply.Number k
+    → r ≡ (verdict t place pid (op.WriteFd fd new) f).reply → g ≡ (verdict t place pid (op.WriteFd fd new) f).frame → r ≡ reply.Number k
     → c1 ≡ with_holding e.entry.object (with_side (1 - e.entry.end) [] (holding_of c e.entry.object)) c
     → bytes ≡ side (1 - e.entry.end) (holding_of c e.entry.object) ++ new
     → c2 ≡ with_holding e.entry.object (with_side (1 - e.entry.end) bytes (holding_of c1 e.entry.object)) c1
@@ -92,8 +92,8 @@ pub wrote_pipe : (w : World) (f g : Frame) (c c1 c2 : Content) (place pid fd : �
 wrote_pipe w f g c c1 c2 place pid fd new bytes e t r k view clean b p is said stands num lent joined back =
     let ef : f ≡ w.frame = ap (λ (v : World). v.frame) view in
     let ec : c ≡ w.content = ap (λ (v : World). v.content) view in
-    let frames : g ≡ (decide t place pid (op.WriteFd fd new) w.frame).frame = stands ∙ ap (λ (h : Frame). (decide t place pid (op.WriteFd fd new) h).frame) ef in
-    let replies : r ≡ (decide t place pid (op.WriteFd fd new) w.frame).reply = said ∙ ap (λ (h : Frame). (decide t place pid (op.WriteFd fd new) h).reply) ef in
+    let frames : g ≡ (verdict t place pid (op.WriteFd fd new) w.frame).frame = stands ∙ ap (λ (h : Frame). (verdict t place pid (op.WriteFd fd new) h).frame) ef in
+    let replies : r ≡ (verdict t place pid (op.WriteFd fd new) w.frame).reply = said ∙ ap (λ (h : Frame). (verdict t place pid (op.WriteFd fd new) h).reply) ef in
     let content : c2 ≡ after_write w.frame e new w.content = pipe_content w.frame c c1 c2 e new bytes p lent joined back ∙ ap (λ (d : Content). after_write w.frame e new d) ec in
     let told_is : t ≡ told_of_pipe_write (length (side (1 - e.entry.end) (holding_of w.content e.entry.object))) (length new) = is ∙ ap (λ (d : Content). told_of_pipe_write (length (side (1 - e.entry.end) (holding_of d e.entry.object))) (length new)) ec in
     let whole = write_step w place pid fd new e t b (told_pipe w.frame w.content (length new) e t p told_is)
@@ -103,13 +103,13 @@ wrote_pipe w f g c c1 c2 place pid fd new bytes e t r k view clean b p is said s
 -- a write that didn't pass, once what was lent is back
 pub refused_write : (w : World) (f g : Frame) (c c2 : Content) (place pid fd : ℕ) (new : List ℕ) (e : Behind) (t : Told) (r : Reply)
     → ◌≡◌ {A = World} (record { frame = f; content = c }) w → IsClean w → behind w.frame pid fd ≡ Some e → t ≡ told_of_write w.frame w.content (length new) (Some e)
-    → r ≡ (decide t place pid (op.WriteFd fd new) f).reply → g ≡ (decide t place pid (op.WriteFd fd new) f).frame → ((k : ℕ) → r ≡ reply.Number k → ⊥) → c2 ≡ c
+    → r ≡ (verdict t place pid (op.WriteFd fd new) f).reply → g ≡ (verdict t place pid (op.WriteFd fd new) f).frame → ((k : ℕ) → r ≡ reply.Number k → ⊥) → c2 ≡ c
     → (record { frame = g; content = c2 } ≡ (step w place pid (op.WriteFd fd new)).world) × (r ≡ (step w place pid (op.WriteFd fd new)).reply) × (◌≡◌ {A = List ℕ} [] (step w place pid (op.WriteFd fd new)).bytes)
 refused_write w f g c c2 place pid fd new e t r view clean b is said stands not same =
     let ef : f ≡ w.frame = ap (λ (v : World). v.frame) view in
     let ec : c ≡ w.content = ap (λ (v : World). v.content) view in
-    let frames : g ≡ (decide t place pid (op.WriteFd fd new) w.frame).frame = stands ∙ ap (λ (h : Frame). (decide t place pid (op.WriteFd fd new) h).frame) ef in
-    let replies : r ≡ (decide t place pid (op.WriteFd fd new) w.frame).reply = said ∙ ap (λ (h : Frame). (decide t place pid (op.WriteFd fd new) h).reply) ef in
+    let frames : g ≡ (verdict t place pid (op.WriteFd fd new) w.frame).frame = stands ∙ ap (λ (h : Frame). (verdict t place pid (op.WriteFd fd new) h).frame) ef in
+    let replies : r ≡ (verdict t place pid (op.WriteFd fd new) w.frame).reply = said ∙ ap (λ (h : Frame). (verdict t place pid (op.WriteFd fd new) h).reply) ef in
     let whole = write_step w place pid fd new e t b is
     ∙ unwritten w new e _ _ (λ k h. not k (replies ∙ h)) (carried_decided w t place pid (op.WriteFd fd new) refl clean) in (
       (λ i. record { frame = frames i; content = (same ∙ ec) i }) ∙ sym (ap (λ (x : Given). x.world) whole),
@@ -120,14 +120,14 @@ refused_write w f g c c2 place pid fd new e t r view clean b is said stands not 
 -- a write by a descriptor with nothing behind it
 pub unbacked_write : (w : World) (f g : Frame) (c : Content) (place pid fd : ℕ) (new : List ℕ) (r : Reply)
     → ◌≡◌ {A = World} (record { frame = f; content = c }) w → IsClean w → behind f pid fd ≡ None
-    → r ≡ (decide nothing_told place pid (op.WriteFd fd new) f).reply → g ≡ (decide nothing_told place pid (op.WriteFd fd new) f).frame
+    → r ≡ (verdict nothing_told place pid (op.WriteFd fd new) f).reply → g ≡ (verdict nothing_told place pid (op.WriteFd fd new) f).frame
     → (record { frame = g; content = c } ≡ (step w place pid (op.WriteFd fd new)).world) × (r ≡ (step w place pid (op.WriteFd fd new)).reply) × (◌≡◌ {A = List ℕ} [] (step w place pid (op.WriteFd fd new)).bytes)
 unfolding step answer told told_of_write write_answer plainly
 unbacked_write w f g c place pid fd new r view clean b said stands =
     let ef : f ≡ w.frame = ap (λ (v : World). v.frame) view in
     let ec : c ≡ w.content = ap (λ (v : World). v.content) view in
     let none : behind w.frame pid fd ≡ None = ap (λ (h : Frame). behind h pid fd) (sym ef) ∙ b in
-    let frames : g ≡ (decide nothing_told place pid (op.WriteFd fd new) w.frame).frame = stands ∙ ap (λ (h : Frame). (decide nothing_told place pid (op.WriteFd fd new) h).frame) ef in
-    let replies : r ≡ (decide nothing_told place pid (op.WriteFd fd new) w.frame).reply = said ∙ ap (λ (h : Frame). (decide nothing_told place pid (op.WriteFd fd new) h).reply) ef in
-    let same : carried w.frame (decide nothing_told place pid (op.WriteFd fd new) w.frame).frame w.content ≡ w.content = carried_decided w nothing_told place pid (op.WriteFd fd new) refl clean in
+    let frames : g ≡ (verdict nothing_told place pid (op.WriteFd fd new) w.frame).frame = stands ∙ ap (λ (h : Frame). (verdict nothing_told place pid (op.WriteFd fd new) h).frame) ef in
+    let replies : r ≡ (verdict nothing_told place pid (op.WriteFd fd new) w.frame).reply = said ∙ ap (λ (h : Frame). (verdict nothing_told place pid (op.WriteFd fd new) h).reply) ef in
+    let same : carried w.frame (verdict nothing_told place pid (op.WriteFd fd new) w.frame).frame w.content ≡ w.content = carried_decided w nothing_told place pid (op.WriteFd fd new) refl clean in
     (rw none ((λ i. record { frame = frames i; content = (ec ∙ sym same) i })), rw none replies, rw none refl)

@@ -8,8 +8,8 @@ use Rattle.ix_model.specs.Walks.{Walk, Sought, join_all}
 use Rattle.ix_model.specs.OnDescriptors as descriptors
 use Rattle.ix_model.specs.Step.{Given, put_front}
 use Rattle.ix_model.specs.Contents.{holding_of, offset_of, side, with_side}
-use Rattle.ix_model.specs.History.{Op}
-use Rattle.ix_model.specs.History as op
+use Rattle.ix_model.specs.Events.{Op}
+use Rattle.ix_model.specs.Events as op
 use Rattle.ix_model.specs.declared.memory.NoMemory.{NoMemory}
 use Rattle.ix_model.specs.declared.refusal.Refusal.{Refusal}
 use Rattle.ix_model.specs.declared.reply.Reply.{Reply}

@@ -6,8 +6,8 @@ use Rattle.ix_model.specs.Step.{put_front}
 use Rattle.ix_model.specs.Clean.{IsClean}
 use Rattle.ix_model.specs.Valid.{is_valid, is_flat}
 use Rattle.ix_model.specs.Calls.{is_built}
-use Rattle.ix_model.specs.History.{Event}
-use Rattle.ix_model.specs.Histories.{History, world_of, next, with_entry}
+use Rattle.ix_model.specs.Events.{Event}
+use Rattle.ix_model.specs.History.{History, world_of, next, with_entry}
 use Rattle.ix_model.specs.declared.reply.Reply.TheVariants as reply
 use Rattle.ix_model.specs.declared.reply.Answer.{Answer}
 use Rattle.ix_model.specs.declared.reply.Answer.TheVariants as answer

@@ -4,7 +4,7 @@ ghost use Rattle.ix_model.specs.Calls.{op_of, event_of, is_built};
 ghost use Rattle.ix_model.specs.Valid.{is_valid, is_flat};
 ghost use Rattle.ix_model.specs.World.{at};
 ghost use Rattle.ix_model.specs.Sound.{Sound};
-ghost use Rattle.ix_model.specs.Histories.{world_of, next};
+ghost use Rattle.ix_model.specs.History.{world_of, next};
 ghost use Rattle.ix_core.specs.Stepping.{StepsTo, Shows, view_of, shown_of};
 
 use crate::boot::boot;
@@ -27,7 +27,7 @@ pub struct Core {
 }
 
 impl Model for Core {
-    ghost use Rattle.ix_model.specs.Histories.{History};
+    ghost use Rattle.ix_model.specs.History.{History};
     ghost use Rattle.ix_core.specs.Stepping.{StandsFor};
     ghost use Rattle.std.specs.Coded.{codes};
     ghost use Rattle.ix_label.specs.contracts.label.Label as label_type;

@@ -1,6 +1,6 @@
 ghost use Rattle.std.specs.Prelude.{◌≡◌, ℕ, ◌+◌, ◌-◌, ◌<◌, ◌≤◌, IsTrue, IfOk, OnErr, OnOk, false, length, Some, [], true, ◌^◌, nat_lt, ◌||◌, if◌then◌else◌};
 ghost use Rattle.ix_model.specs.Calls.{op_of, is_built};
-ghost use Rattle.ix_model.specs.History as op;
+ghost use Rattle.ix_model.specs.Events as op;
 ghost use Rattle.ix_model.specs.Clean.{IsClean};
 ghost use Rattle.ix_model.specs.Step.{step, put_front};
 ghost use Rattle.ix_model.specs.Telling.{told_of_read, told_of_pipe_write, told_of_file_write, length_then};
@@ -156,7 +156,7 @@ impl Machine {
             };
         }
         let object = e.object;
-        let fs = self.tables.fs_at(object);
+        let fs = self.tables.fs_of_object(object);
         let len = length_then(offset, n, self.contents.side(object, e.end).len());
         Told {
             no_space: exceeds(

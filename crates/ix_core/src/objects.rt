@@ -1,5 +1,5 @@
 ghost use Rattle.std.specs.Prelude.{◌≡◌};
-ghost use Rattle.ix_model.specs.World.{is_dir, is_file, is_pipe, is_trusted, held_from};
+ghost use Rattle.ix_model.specs.World.{is_dir, is_file, is_pipe, is_trusted, claimed_by_another};
 
 use bitflags::Flags;
 use ix_label::Label;
@@ -64,8 +64,8 @@ impl ObjectRow {
     }
 
     /// Whether a process other than this one has claimed the end.
-    pub fn held_from(&self, end: usize, pid: usize) -> bool
-        ensures { result ≡ held_from self.now end pid }
+    pub fn claimed_by_another(&self, end: usize, pid: usize) -> bool
+        ensures { result ≡ claimed_by_another self.now end pid }
     {
         match self.claims.get(end) {
             Some(Some(p)) => *p != pid,

@@ -16,7 +16,7 @@ pub struct Stored {
 }
 
 impl Model for Stored {
-    ghost use Rattle.ix_model.specs.History.{Event};
+    ghost use Rattle.ix_model.specs.Events.{Event};
     ghost use Rattle.std.specs.Coded.{codes};
     ghost use Rattle.ix_label.specs.contracts.label.Label as label_type;
 

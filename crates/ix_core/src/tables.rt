@@ -3,7 +3,7 @@ ghost use Rattle.std.specs.Option.{option_map, option_copied, option_map_or};
 ghost use Rattle.ix_model.specs.World.{at, put, change, lowest_free, lives, held, ceiling_of};
 ghost use Rattle.ix_model.specs.Walks.{behind};
 ghost use Rattle.ix_model.specs.Contents.{on_pipe};
-ghost use Rattle.ix_model.specs.Telling.{fs_at, lies_on, blocks_on};
+ghost use Rattle.ix_model.specs.Telling.{fs_of_object, lies_on, blocks_on};
 ghost use Rattle.ix_core.specs.Meanings.{behind_of, label_at};
 ghost use Rattle.ix_core.specs.Stepping.{view_of, shown_of};
 
@@ -132,8 +132,8 @@ impl Tables {
     }
 
     /// The file system of an object.
-    pub fn fs_at(&self, object: usize) -> Option<usize>
-        ensures { result ≡ fs_at self.now object }
+    pub fn fs_of_object(&self, object: usize) -> Option<usize>
+        ensures { result ≡ fs_of_object self.now object }
     {
         match self.object(object) {
             Some(x) => x.fs,
@@ -145,7 +145,7 @@ impl Tables {
     pub fn lies_on(&self, fs: Option<usize>, object: usize) -> bool
         ensures { result ≡ lies_on self.now fs object }
     {
-        match (fs, self.fs_at(object)) {
+        match (fs, self.fs_of_object(object)) {
             (Some(k), Some(j)) => j == k,
             _ => false,
         }

@@ -2,8 +2,9 @@
 use Rattle.std.proofs.Common.{◌≡◌, ℕ, suc, ◌+◌, ◌≤◌, ◌==◌, nat_le, Bool, true, false, not, ◌&&◌, ◌||◌, List, [], ◌∷◌, ◌++◌, length, Some, None, refl, arith, if◌then◌else◌, length-append}
 use Rattle.std.specs.List.{list_all}
 use Rattle.std.proofs.lemmas.Bool.{and_parts}
+use Rattle.ix_model.specs.World.{fs_at}
 use Rattle.ix_model.specs.Privs.{is_empty}
-use Rattle.ix_model.specs.Valid.{is_valid, is_flat, is_flat_object, is_flat_process, is_well_formed, fss_fit, limits_fit, procs_fit, objects_fit, object_fits, fs_ceiling, fs_of, is_there, is_dir_there, has_room}
+use Rattle.ix_model.specs.Valid.{is_valid, is_flat, is_flat_object, is_flat_process, is_well_formed, fss_fit, limits_fit, procs_fit, objects_fit, object_fits, fs_of, is_taken, has_directory, has_room}
 use Rattle.ix_model.specs.declared.config.Limits.{Limits}
 use Rattle.ix_model.specs.declared.config.FsSpec.{FsSpec}
 use Rattle.ix_model.specs.declared.config.ProcSpec.{ProcSpec}
@@ -106,9 +107,9 @@ flat_objects fss l before [] h k = refl
 flat_objects fss l before (o ∷ os) h k =
     let fits = and_parts (object_fits fss l before o) (objects_fit fss l (before ++ o ∷ []) os) h in
     let plain = and_parts (is_plain o) (list_all is_plain os) k in
-    let low = leq o.label (fs_ceiling fss (fs_of fss o.path.names)) in
-    let new = not (is_there fss before o.path.names) in
-    let dir = is_dir_there fss before (take (length o.path.names - 1) o.path.names) in
+    let low = leq o.label (fs_at fss (fs_of fss o.path.names)).ceiling in
+    let new = not (is_taken fss before o.path.names) in
+    let dir = has_directory fss before (take (length o.path.names - 1) o.path.names) in
     let p1 = and_parts (is_well_formed o && low && new && dir) (has_room fss l before o) fits.0 in
     let p2 = and_parts (is_well_formed o && low && new) dir p1.0 in
     let p3 = and_parts (is_well_formed o && low) new p2.0 in

@@ -3,8 +3,8 @@ use Rattle.std.proofs.Common.{◌≡◌, ℕ, suc, ◌+◌, ◌≤◌, ◌||◌,
 use Rattle.std.specs.Prelude.{count_by}
 use Rattle.std.specs.Option.{option_map}
 use Rattle.std.specs.List.{list_all}
-use Rattle.ix_model.specs.History.{Event}
-use Rattle.ix_model.specs.Histories.{History, world_of, next, with_entry}
+use Rattle.ix_model.specs.Events.{Event}
+use Rattle.ix_model.specs.History.{History, world_of, next, with_entry}
 use Rattle.ix_model.proofs.Runs.{world_of-push}
 use Rattle.ix_script.specs.declared.line.Line.{Line}
 use Rattle.ix_script.specs.declared.line.Line.TheVariants as line

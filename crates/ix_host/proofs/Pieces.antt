@@ -4,8 +4,8 @@ use Rattle.std.specs.Prelude.{codes}
 use Rattle.std.specs.List.{flat_map}
 use Rattle.std.proofs.lemmas.List.{drop_all, append-nil}
 use Rattle.std.proofs.lemmas.Option.{slice_get_within}
-use Rattle.ix_model.specs.History.{Event}
-use Rattle.ix_model.specs.Histories.{History, world_of, with_entry, next}
+use Rattle.ix_model.specs.Events.{Event}
+use Rattle.ix_model.specs.History.{History, world_of, with_entry, next}
 use Rattle.ix_model.proofs.Runs.{world_of-push}
 use Rattle.ix_script.specs.Before.{lanes_of}
 use Rattle.ix_report.specs.LineText.{head_line, audit_line, tail_line}

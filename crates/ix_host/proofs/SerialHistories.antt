@@ -6,7 +6,7 @@ use Rattle.std.proofs.lemmas.List.{get_or-replicate, length-replicate}
 use Rattle.ix_model.specs.World.{World}
 use Rattle.ix_model.specs.Opening.{opening_world}
 use Rattle.ix_model.specs.Step.{step_of}
-use Rattle.ix_model.specs.History.{Event}
+use Rattle.ix_model.specs.Events.{Event}
 use Rattle.ix_script.specs.Before.{lanes_of}
 use Rattle.ix_script.specs.Scripts.{config_of}
 use Rattle.ix_script.specs.declared.line.Line.{Line}

@@ -5,7 +5,7 @@ use Rattle.std.specs.List.{list_all}
 use Rattle.ix_model.specs.World.{World}
 use Rattle.ix_model.specs.Opening.{opening_world}
 use Rattle.ix_model.specs.Step.{step_of}
-use Rattle.ix_model.specs.History.{Event}
+use Rattle.ix_model.specs.Events.{Event}
 use Rattle.ix_model.specs.declared.reply.Reply.{Reply}
 use Rattle.ix_script.specs.Before.{lanes_of}
 use Rattle.ix_script.specs.Scripts.{config_of}

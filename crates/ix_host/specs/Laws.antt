@@ -1,6 +1,6 @@
 -- The laws of serial histories.
 use Rattle.std.specs.Prelude.{◌≡◌, List}
-use Rattle.ix_model.specs.History.{Event}
+use Rattle.ix_model.specs.Events.{Event}
 use Rattle.ix_script.specs.declared.line.Line.{Line}
 use Rattle.ix_host.specs.Lanes.{IsSerial}
 use Rattle.ix_host.specs.Serial.{serial}

@@ -6,7 +6,7 @@ use Rattle.std.specs.List.{range_with_len, flat_map}
 use Rattle.ix_model.specs.World.{World, Object, Process, at}
 use Rattle.ix_model.specs.Opening.{opening_world}
 use Rattle.ix_model.specs.Step.{step_of, run}
-use Rattle.ix_model.specs.History.{Event}
+use Rattle.ix_model.specs.Events.{Event}
 use Rattle.ix_core.specs.Stepping.{view_of, shown_of}
 use Rattle.ix_script.specs.Before.{lanes_of}
 use Rattle.ix_script.specs.Scripts.{config_of}

@@ -1,7 +1,7 @@
 -- What running a line does to the history and to the names.
 use Rattle.std.specs.Prelude.{◌≡◌, List, Option, Some, None}
-use Rattle.ix_model.specs.History.{Event}
-use Rattle.ix_model.specs.Histories.{History, next, with_entry}
+use Rattle.ix_model.specs.Events.{Event}
+use Rattle.ix_model.specs.History.{History, next, with_entry}
 use Rattle.ix_script.specs.declared.line.Line.{Line}
 use Rattle.ix_host.specs.declared.names.Names.{Names}
 use Rattle.ix_host.specs.Asked.{named}

@@ -6,7 +6,7 @@ use Rattle.ix_model.specs.Naming.{same_bytes}
 use Rattle.ix_model.specs.World.{World}
 use Rattle.ix_model.specs.Opening.{opening_world}
 use Rattle.ix_model.specs.Step.{step_of}
-use Rattle.ix_model.specs.History.{Event}
+use Rattle.ix_model.specs.Events.{Event}
 use Rattle.ix_model.specs.declared.reply.Reply.{Reply}
 use Rattle.ix_script.specs.Before.{lanes_of, proc_names}
 use Rattle.ix_script.specs.Scripts.{config_of}

@@ -3,7 +3,7 @@ use Rattle.std.specs.Prelude.{◌≡◌, ℕ, ◌+◌, ◌-◌, ◌<◌, ◌≤�
 use Rattle.std.specs.List.{flat_map, list_all}
 use Rattle.ix_model.specs.World.{World}
 use Rattle.ix_model.specs.Calls.{is_built}
-use Rattle.ix_model.specs.Histories.{world_of}
+use Rattle.ix_model.specs.History.{world_of}
 use Rattle.ix_script.specs.Before.{lanes_of}
 use Rattle.ix_report.specs.LineText.{head_line, audit_line, tail_line}
 use Rattle.ix_host.specs.Report.{entries_text, object_text, process_text, texts_from, closing_text}

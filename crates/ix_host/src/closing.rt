@@ -1,5 +1,5 @@
 ghost use Rattle.std.specs.Prelude.{◌≡◌, ◌++◌, OnOk};
-ghost use Rattle.ix_model.specs.Histories.{world_of};
+ghost use Rattle.ix_model.specs.History.{world_of};
 ghost use Rattle.ix_host.specs.Report.{object_text, process_text};
 
 use ix_core::Core;

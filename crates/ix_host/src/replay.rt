@@ -1,7 +1,7 @@
 ghost use Rattle.std.specs.Prelude.{◌≡◌, ◌++◌, ◌+◌, ◌-◌, ◌<◌, ◌==◌, None, Some, OnOk, IsTrue, length, slice_get, if◌then◌else◌};
 ghost use Rattle.std.specs.Option.{option_copied, option_map};
 ghost use Rattle.ix_model.specs.Calls.{event_of, is_built, op_of};
-ghost use Rattle.ix_model.specs.Histories.{world_of, with_entry};
+ghost use Rattle.ix_model.specs.History.{world_of, with_entry};
 ghost use Rattle.ix_script.specs.Before.{lanes_of};
 ghost use Rattle.ix_host.specs.Report.{entry_text, lane_name};
 

@@ -5,6 +5,7 @@ use Rattle.std.proofs.lemmas.Bool.{or_left, and_from, eq-eqb}
 use Rattle.std.proofs.lemmas.Bool.Decides.{eqb_tells}
 use Rattle.std.proofs.lemmas.List.{get_or-set_same, get_or-set_other}
 use Rattle.ix_label.specs.Lattice.{bottom-leq}
+use Rattle.ix_label.specs.Category.{bottom}
 use Rattle.ix_model.specs.Naming.{PathOf}
 use Rattle.ix_model.specs.World.{Frame, Object, Process, Open, at, put, change, living, lowest_free, is_file, is_dir, is_pipe}
 use Rattle.ix_model.specs.Numbers.{free_pipe}
@@ -79,7 +80,7 @@ module _ (f : Frame) (s : FrameSound f) where
       ends_bind _ _ m (Refused f) (Passed f) (ends_some _ _ m (Refused f) _ (λ e free.
       ends_then _ _ m (Refused f) (Passed f) (ends_put_open e _ m (Refused f) _ (
       ends_then _ _ _ (Refused f) (Passed f) (ends_change_caller pid _ _ (Refused f) _ (
-      let y : Open = record { object = o; end = 0; mode = mode } in
+      let y : Open = record { object = o; end = 0; mode = mode; label = bottom } in
       let a = lowest_free_is p.fds fd free_fd in
       let b = lowest_free_is m.opens e free in
       let no_d : option_map_or (λ z. not (is_dir z)) (at m.objects o) false ≡ true = ap (λ z. option_map_or (λ v. not (is_dir v)) z false) is ∙ no_dir in
@@ -108,7 +109,7 @@ module _ (f : Frame) (s : FrameSound f) where
     pipe = new_object kind.Pipe None
 
     abbrev end_of : ℕ → Open
-    end_of end = record { object = o; end = end; mode = mode.Both }
+    end_of end = record { object = o; end = end; mode = mode.Both; label = bottom }
 
     abbrev born : Frame
     born = record f { objects = put f.objects o (Some (new_object kind.Pipe None)) }

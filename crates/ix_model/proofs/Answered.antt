@@ -4,13 +4,13 @@ use Rattle.ix_model.specs.World.{Frame, World, lives}
 use Rattle.ix_model.specs.Outcomes.{Outcome, Refuse, Pass}
 use Rattle.ix_model.specs.Walks.{Behind, behind}
 use Rattle.ix_model.specs.OnDescriptors.{Told}
-use Rattle.ix_model.specs.Table.{Decision, row, settled, decide}
+use Rattle.ix_model.specs.Table.{Decision, row, settled, verdict}
 use Rattle.ix_model.specs.Contents.{carried}
 use Rattle.ix_model.specs.Telling.{told}
 use Rattle.ix_model.specs.AuditLog.{is_answer}
 use Rattle.ix_model.specs.Step.{plainly, read_answer, write_answer, cut_answer, seek_answer, stat_answer, exit_answer, wait_answer, pex_answer, answer, step}
-use Rattle.ix_model.specs.History.{Op}
-use Rattle.ix_model.specs.History as op
+use Rattle.ix_model.specs.Events.{Op}
+use Rattle.ix_model.specs.Events as op
 use Rattle.ix_model.specs.declared.reply.Kind.TheVariants as kind
 use Rattle.ix_model.specs.declared.reply.Reply.{Reply}
 use Rattle.ix_model.specs.declared.reply.Reply.TheVariants as reply
@@ -60,15 +60,15 @@ frame_pex w (Some e) r g = refl
 frame_pex w None r g = refl
 
 -- the frame after a step is the decision's
-pub step_frame : (w : World) (place pid : ℕ) (c : Op) → (step w place pid c).world.frame ≡ (decide (told w pid c) place pid c w.frame).frame
+pub step_frame : (w : World) (place pid : ℕ) (c : Op) → (step w place pid c).world.frame ≡ (verdict (told w pid c) place pid c w.frame).frame
 unfolding step answer plainly
 step_frame w place pid (op.ReadFd fd count) = frame_read w count (behind w.frame pid fd) _ _
 step_frame w place pid (op.WriteFd fd bytes) = frame_write w bytes (behind w.frame pid fd) _ _
 step_frame w place pid (op.CutFd fd len) = frame_cut w len (behind w.frame pid fd) _ _
 step_frame w place pid (op.SeekFd fd offset) = frame_seek w offset (behind w.frame pid fd) _ _
-step_frame w place pid (op.StatAt path) = λ i. (world_stat w (decide (told w pid (op.StatAt path)) place pid (op.StatAt path) w.frame).reply (decide (told w pid (op.StatAt path)) place pid (op.StatAt path) w.frame).frame i).frame
+step_frame w place pid (op.StatAt path) = λ i. (world_stat w (verdict (told w pid (op.StatAt path)) place pid (op.StatAt path) w.frame).reply (verdict (told w pid (op.StatAt path)) place pid (op.StatAt path) w.frame).frame i).frame
 step_frame w place pid (op.Exit status) = frame_exit w pid status _ _
-step_frame w place pid op.WaitChild = λ i. (world_wait w (decide (told w pid op.WaitChild) place pid op.WaitChild w.frame).reply (decide (told w pid op.WaitChild) place pid op.WaitChild w.frame).frame i).frame
+step_frame w place pid op.WaitChild = λ i. (world_wait w (verdict (told w pid op.WaitChild) place pid op.WaitChild w.frame).reply (verdict (told w pid op.WaitChild) place pid op.WaitChild w.frame).frame i).frame
 step_frame w place pid (op.Pex fd) = frame_pex w (behind w.frame pid fd) _ _
 step_frame w place pid c = refl
 
@@ -79,8 +79,8 @@ settled_passed f (Refuse r g) Q h ends = cc
 settled_passed f (Pass a g) Q h ends = ends
 
 -- what is known of where a row passes is known of an answer
-pub passed : (t : Told) (place pid : ℕ) (c : Op) (f : Frame) (Q : Reply → Frame → Type 0) → Ends (row t place pid c f) Anything Q → is_answer (decide t place pid c f).reply ≡ true → Q (decide t place pid c f).reply (decide t place pid c f).frame
-unfolding decide
+pub passed : (t : Told) (place pid : ℕ) (c : Op) (f : Frame) (Q : Reply → Frame → Type 0) → Ends (row t place pid c f) Anything Q → is_answer (verdict t place pid c f).reply ≡ true → Q (verdict t place pid c f).reply (verdict t place pid c f).frame
+unfolding verdict
 passed t place pid c f Q ends h = go (lives f pid) h
   where
     unknown : Decision

@@ -4,8 +4,8 @@ use Rattle.std.specs.Option.{option_map_or}
 use Rattle.std.proofs.lemmas.Bool.Decides.{eqb_tells}
 use Rattle.std.proofs.lemmas.List.{get_or-set_other}
 use Rattle.ix_label.specs.Category.{leq}
-use Rattle.ix_model.specs.World.{Frame, Object, at, put, is_file, is_dir, is_pipe, held, ceiling_of, no_claims}
-use Rattle.ix_model.specs.Numbers.{first_inode, inodes_of}
+use Rattle.ix_model.specs.World.{fs_at, Frame, Object, at, put, is_file, is_dir, is_pipe, held, ceiling_of, no_claims}
+use Rattle.ix_model.specs.Numbers.{first_inode}
 use Rattle.ix_model.specs.Owners.{times_in, times_named, names_in_all}
 use Rattle.ix_model.specs.Valid.{all_differ}
 use Rattle.ix_model.specs.Sound.{LabelsBelow, NamesSound, LivesSound, OpensSound, ProcessesSound, ClaimsSound, WithinLimits}
@@ -81,7 +81,7 @@ pub record IsNew (f : Frame) (o : ℕ) (x : Object) : Type 0 where
   pub low : leq x.label (ceiling_of f.fss x) ≡ true
   pub pipe : is_none x.fs ≡ is_pipe x
   pub past : is_pipe x ≡ true → first_inode f.fss (length f.fss) ≤ o
-  pub number : (k : ℕ) → x.fs ≡ Some k → (first_inode f.fss k ≤ o) × (o < first_inode f.fss k + inodes_of f.fss k)
+  pub number : (k : ℕ) → x.fs ≡ Some k → (first_inode f.fss k ≤ o) × (o < first_inode f.fss k + (fs_at f.fss k).inodes)
 
 module _ (f : Frame) (o : ℕ) (x : Object) (new : IsNew f o x) where
   -- what passes a test stood at another number, and passes it still

@@ -5,8 +5,8 @@ use Rattle.std.proofs.Math.ListN.{get_or-append}
 use Rattle.std.proofs.lemmas.Bool.{and_parts, leb-true, cases_lt}
 use Rattle.std.proofs.lemmas.Bool.Decides.{eqb_tells}
 use Rattle.std.proofs.lemmas.List.{get_or-append-add, get_or-set_other, length-replicate}
-use Rattle.ix_model.specs.World.{Object, at, change}
-use Rattle.ix_model.specs.Numbers.{first_inode, inodes_of}
+use Rattle.ix_model.specs.World.{fs_at, Object, at, change}
+use Rattle.ix_model.specs.Numbers.{first_inode}
 use Rattle.ix_model.specs.Opening.{root_of, bare, mounts}
 use Rattle.ix_model.specs.Valid.{is_within, fs_fits}
 use Rattle.ix_model.specs.declared.config.FsSpec.{FsSpec}
@@ -32,7 +32,7 @@ inodes_few s fit =
     let few = leb-true s.inodes 65536 (and_parts (nat_le 1 s.inodes) (nat_le s.inodes 65536) parts.1).1 in
     omega (arith, first-cons s [] 0)
 
-pub some_inodes : (fss : List FsSpec) (k : ℕ) → list_all fs_fits fss ≡ true → k < length fss → 1 ≤ inodes_of fss k
+pub some_inodes : (fss : List FsSpec) (k : ℕ) → list_all fs_fits fss ≡ true → k < length fss → 1 ≤ (fs_at fss k).inodes
 some_inodes [] k fit low = absurd (omega arith)
 some_inodes (s ∷ fss) zero fit low = (first_fits s fss fit).0
 some_inodes (s ∷ fss) (suc k) fit low = some_inodes fss k (first_fits s fss fit).1 (omega arith)

@@ -8,13 +8,13 @@ use Rattle.std.proofs.lemmas.List.Sums.{sum-map, sum_by-set}
 use Rattle.std.proofs.lemmas.Iterator.Adapters.{position_from-zero}
 use Rattle.ix_label.specs.Lattice.{bottom-leq}
 use Rattle.ix_model.specs.Naming.{same_bytes, same_names}
-use Rattle.ix_model.specs.World.{Object, Holding, at, is_file, is_dir, is_pipe}
+use Rattle.ix_model.specs.World.{fs_at, Object, Holding, at, is_file, is_dir, is_pipe}
 use Rattle.ix_model.specs.Walks.{nothing, node, child}
 use Rattle.ix_model.specs.Contents.{holds_nothing}
 use Rattle.ix_model.specs.Telling.{blocks_for, blocks_where}
-use Rattle.ix_model.specs.Numbers.{first_inode, inodes_of}
+use Rattle.ix_model.specs.Numbers.{first_inode}
 use Rattle.ix_model.specs.Opening.{root_of, mounts}
-use Rattle.ix_model.specs.Valid.{all_differ, fs_fits, fs_of, is_mount, is_there, is_dir_there}
+use Rattle.ix_model.specs.Valid.{all_differ, fs_fits, fs_of, is_mount, is_taken, has_directory}
 use Rattle.ix_model.specs.Owners.{times_in, times_named}
 use Rattle.ix_model.specs.declared.config.FsSpec.{FsSpec}
 use Rattle.ix_model.specs.declared.config.Limits.{Limits}
@@ -137,9 +137,9 @@ module _ (fss : List FsSpec) (l : Limits) (fit : list_all fs_fits fss ≡ true) 
   unfolding place_bare
   place_root = ap (λ x. option_map_or (λ name. name ∷ []) (option_map (λ (e : List ℕ × ℕ). e.0) x) []) (mounts_without (drop 1 fss) (first_inode fss 1) 0 first_some)
 
-  entries_bare : (d : ℕ) (x : Object) (name : List ℕ) → at table d ≡ Some x → list_any (λ e. same_bytes e.0 name) x.names ≡ true → is_there fss [] (place_bare d ++ name ∷ []) ≡ true
-  entries_bare d x name is = each (λ d x. list_any (λ e. same_bytes e.0 name) x.names ≡ true → is_there fss [] (place_bare d ++ name ∷ []) ≡ true)
-      (λ h. ap (λ p. is_there fss [] (p ++ name ∷ [])) place_root ∙ or_left _ _ (mounts_any (first_inode fss 1) (drop 1 fss) name h))
+  entries_bare : (d : ℕ) (x : Object) (name : List ℕ) → at table d ≡ Some x → list_any (λ e. same_bytes e.0 name) x.names ≡ true → is_taken fss [] (place_bare d ++ name ∷ []) ≡ true
+  entries_bare d x name is = each (λ d x. list_any (λ e. same_bytes e.0 name) x.names ≡ true → is_taken fss [] (place_bare d ++ name ∷ []) ≡ true)
+      (λ h. ap (λ p. is_taken fss [] (p ++ name ∷ [])) place_root ∙ or_left _ _ (mounts_any (first_inode fss 1) (drop 1 fss) name h))
       (λ k low h. absurd (true≢false (sym h)))
       d x is
 
@@ -171,7 +171,7 @@ module _ (fss : List FsSpec) (l : Limits) (fit : list_all fs_fits fss ≡ true) 
   bare_ways : Ways fss [] table
   bare_ways = record { place = place_bare; entries = entries_bare; dirs = dirs }
     where
-      dirs : (p : List (List ℕ)) → is_dir_there fss [] p ≡ true → DirAt fss table place_bare p
+      dirs : (p : List (List ℕ)) → has_directory fss [] p ≡ true → DirAt fss table place_bare p
       dirs p h = elim (or_cases (same_names [] p || is_mount fss p) false h) [
         | inl there ↦ elim (or_cases (same_names [] p) (is_mount fss p) there) [
           | inl root ↦ root_dir p root
@@ -181,7 +181,7 @@ module _ (fss : List FsSpec) (l : Limits) (fit : list_all fs_fits fss ≡ true) 
       ]
 
   -- ---- counts
-  gap : (k m : ℕ) → first_inode fss k < m → m < first_inode fss k + inodes_of fss k → is_some (at table m) ≡ false
+  gap : (k m : ℕ) → first_inode fss k < m → m < first_inode fss k + (fs_at fss k).inodes → is_some (at table m) ≡ false
   gap k m from to = ap is_some (at_others fss l.pipes fit some m (λ e. absurd (omega arith))) ∙ go (at (roots 0 fss l.pipes) m) refl
     where
       go : (x : Option Object) → at (roots 0 fss l.pipes) m ≡ x → is_some x ≡ false
@@ -199,7 +199,7 @@ module _ (fss : List FsSpec) (l : Limits) (fit : list_all fs_fits fss ≡ true) 
     short = λ o. subst (λ (h : Holding). length h.first ≤ 1048576) (sym (all_one holds_nothing (length table) o)) (omega arith);
     names = omega (arith, sum_bare (λ x. option_map_or (λ y. length y.names) x 0) refl (λ k. refl), length-mounts (first_inode fss 1) (drop 1 fss), length-further fss some);
     few = omega (arith, few);
-    taken = λ k. omega (arith, filled_one table (first_inode fss k) (inodes_of fss k) (gap k));
+    taken = λ k. omega (arith, filled_one table (first_inode fss k) (fs_at fss k).inodes (gap k));
     blocks = λ k. omega (arith, blocks_of_nothing (is_on_fs table k) 0 (length table));
     within = λ k. omega arith;
   }

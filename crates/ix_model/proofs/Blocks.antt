@@ -3,7 +3,7 @@ use Rattle.std.proofs.Common.{◌≡◌, ◌≢◌, ◌≤◌, ◌+◌, ◌==◌
 use Rattle.std.specs.Option.{option_map_or, option_and_then}
 use Rattle.std.proofs.lemmas.Bool.{eqb-true}
 use Rattle.ix_model.specs.World.{Frame, Object, Holding, at}
-use Rattle.ix_model.specs.Telling.{blocks_for, blocks_where, lies_on, fs_at}
+use Rattle.ix_model.specs.Telling.{blocks_for, blocks_where, lies_on, fs_of_object}
 
 -- the sum looks at the test from n on
 pub blocks_from : (p q : ℕ → Bool) (n : ℕ) (hs : List Holding) → ((m : ℕ) → n ≤ m → p m ≡ q m) → blocks_where p n hs ≡ blocks_where q n hs
@@ -35,7 +35,7 @@ blocks_edit p q n (y ∷ hs) (suc o) x same =
     omega arith
 
 -- an object that lies on a file system
-pub on_fs : (f : Frame) (k o : ℕ) → lies_on f (Some k) o ≡ true → fs_at f o ≡ Some k
+pub on_fs : (f : Frame) (k o : ℕ) → lies_on f (Some k) o ≡ true → fs_of_object f o ≡ Some k
 on_fs f k o h = go (at f.objects o) h
   where
     in_fs : (fs : Option ℕ) → option_map_or (λ j. j == k) fs false ≡ true → fs ≡ Some k

@@ -4,11 +4,11 @@ use Rattle.std.specs.Option.{option_map_or}
 use Rattle.std.specs.List.{list_any}
 use Rattle.ix_label.specs.Category.{leq}
 use Rattle.ix_model.specs.Naming.{same_bytes}
-use Rattle.ix_model.specs.World.{Object, Holding, at, is_file, is_dir, is_pipe, ceiling_of, no_claims}
+use Rattle.ix_model.specs.World.{fs_at, Object, Holding, at, is_file, is_dir, is_pipe, ceiling_of, no_claims}
 use Rattle.ix_model.specs.Contents.{holds_nothing}
 use Rattle.ix_model.specs.Telling.{blocks_where}
-use Rattle.ix_model.specs.Numbers.{first_inode, inodes_of}
-use Rattle.ix_model.specs.Valid.{all_differ, fs_of, blocks_of, is_there, is_dir_there, lying_on, blocks_taken}
+use Rattle.ix_model.specs.Numbers.{first_inode}
+use Rattle.ix_model.specs.Valid.{all_differ, fs_of, is_taken, has_directory, lying_on, blocks_taken}
 use Rattle.ix_model.specs.Owners.{times_named, names_in_all}
 use Rattle.ix_model.specs.declared.config.FsSpec.{FsSpec}
 use Rattle.ix_model.specs.declared.config.Limits.{Limits}
@@ -25,7 +25,7 @@ pub record Fits (fss : List FsSpec) (o : ℕ) (x : Object) : Type 0 where
   pub fs : ℕ
   pub is_fs : x.fs ≡ Some fs
   pub from : first_inode fss fs ≤ o
-  pub to : o < first_inode fss fs + inodes_of fss fs
+  pub to : o < first_inode fss fs + (fs_at fss fs).inodes
 
 -- ---- names
 -- the names are sound, and each file is named
@@ -51,8 +51,8 @@ pub record DirAt (fss : List FsSpec) (t : List (Option Object)) (place : ℕ →
 -- what a directory names is there under its place and the name, and each directory that is there is found
 pub record Ways (fss : List FsSpec) (before : List ObjSpec) (t : List (Option Object)) : Type 0 where
   pub place : ℕ → List (List ℕ)
-  pub entries : (d : ℕ) (x : Object) (name : List ℕ) → at t d ≡ Some x → list_any (λ e. same_bytes e.0 name) x.names ≡ true → is_there fss before (place d ++ name ∷ []) ≡ true
-  pub dirs : (names : List (List ℕ)) → is_dir_there fss before names ≡ true → DirAt fss t place names
+  pub entries : (d : ℕ) (x : Object) (name : List ℕ) → at t d ≡ Some x → list_any (λ e. same_bytes e.0 name) x.names ≡ true → is_taken fss before (place d ++ name ∷ []) ≡ true
+  pub dirs : (names : List (List ℕ)) → has_directory fss before names ≡ true → DirAt fss t place names
 
 -- ---- counts
 -- whether the object at a number lies on a file system
@@ -65,9 +65,9 @@ pub record Counted (fss : List FsSpec) (l : Limits) (before : List ObjSpec) (t :
   pub short : (o : ℕ) → length (get_or hs o holds_nothing).first ≤ 1048576
   pub names : suc (names_in_all t) ≡ length fss + length before
   pub few : length fss + length before ≤ suc l.names
-  pub taken : (k : ℕ) → filled t (first_inode fss k) (inodes_of fss k) ≤ suc (length (lying_on fss k before))
+  pub taken : (k : ℕ) → filled t (first_inode fss k) (fs_at fss k).inodes ≤ suc (length (lying_on fss k before))
   pub blocks : (k : ℕ) → blocks_where (is_on_fs t k) 0 hs ≤ blocks_taken fss k before
-  pub within : (k : ℕ) → blocks_taken fss k before ≤ blocks_of fss k
+  pub within : (k : ℕ) → blocks_taken fss k before ≤ (fs_at fss k).blocks
 
 -- ---- the whole
 pub record Built (fss : List FsSpec) (l : Limits) (before : List ObjSpec) (t : List (Option Object)) (hs : List Holding) : Type 0 where

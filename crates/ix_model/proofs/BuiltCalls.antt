@@ -3,13 +3,13 @@ use Rattle.std.proofs.Common.{◌≡◌, ℕ, true, length, refl, ap, ◌∙◌}
 use Rattle.ix_model.specs.World.{World, Frame}
 use Rattle.ix_model.specs.Calls.{is_built}
 use Rattle.ix_model.specs.OnDescriptors.{Told}
-use Rattle.ix_model.specs.Table.{decide}
+use Rattle.ix_model.specs.Table.{verdict}
 use Rattle.ix_model.specs.Telling.{told}
 use Rattle.ix_model.specs.Contents.{carried}
 use Rattle.ix_model.specs.Step.{step}
 use Rattle.ix_model.specs.Clean.{IsClean}
-use Rattle.ix_model.specs.History.{Op}
-use Rattle.ix_model.specs.History as op
+use Rattle.ix_model.specs.Events.{Op}
+use Rattle.ix_model.specs.Events as op
 use Rattle.ix_model.proofs.Lasts.{lets_nothing_go, lasts_decided}
 use Rattle.ix_model.proofs.Carrying.{carried_decided}
 use Rattle.ix_model.proofs.Logs.{logs_nothing, log_stays_step}
@@ -30,7 +30,7 @@ built_logs_nothing op.SelfLabel built = refl
 built_logs_nothing _ built = cc
 
 -- what a clean world holds stays
-pub carried_built : (w : World) (t : Told) (place pid : ℕ) (c : Op) → is_built c ≡ true → IsClean w → carried w.frame (decide t place pid c w.frame).frame w.content ≡ w.content
+pub carried_built : (w : World) (t : Told) (place pid : ℕ) (c : Op) → is_built c ≡ true → IsClean w → carried w.frame (verdict t place pid c w.frame).frame w.content ≡ w.content
 carried_built w t place pid c built clean = carried_decided w t place pid c (built_stays c built) clean
 
 pub record Modest (f g : Frame) : Type 0 where

@@ -2,13 +2,13 @@
 use Rattle.std.proofs.Common.{◌≡◌, ◌≤◌, ◌+◌, ◌==◌, ◌&&◌, ℕ, suc, Bool, true, false, true≢false, List, [], ◌∷◌, length, map, Option, Some, None, is_some, if◌then◌else◌, refl, sym, ap, ◌∙◌, subst, arith, get_or}
 use Rattle.std.specs.Option.{option_map_or}
 use Rattle.std.proofs.lemmas.Bool.{and_parts}
-use Rattle.ix_model.specs.World.{World, Frame, Object, Holding, at, is_ended}
+use Rattle.ix_model.specs.World.{World, Frame, Object, Holding, at, is_ended, fs_at}
 use Rattle.ix_model.specs.Contents.{keep, carried, holds_nothing}
 use Rattle.ix_model.specs.Telling.{blocks_for, blocks_where, blocks_on, lies_on}
 use Rattle.ix_model.specs.Clean.{IsClean}
 use Rattle.ix_model.specs.Sound.{LengthsSound}
 use Rattle.ix_model.proofs.Tables.{length_same, seen_same}
-use Rattle.ix_model.proofs.Floats.{Floats, object_but, process_but}
+use Rattle.ix_model.proofs.Floats.{Floats, object_but, process_but, open_but}
 use Rattle.ix_model.proofs.Fixed.{Fixed}
 use Rattle.ix_model.proofs.SameKinds.{Kinds}
 use Rattle.ix_model.proofs.Lasts.{Lasts}
@@ -66,7 +66,7 @@ lengths_carried w g r kinds l =
           l.pipe o x.0 x.1 (sym (kinds.same o x.0 y x.1 is).pipe ∙ pipe)) (omega arith, omega arith);
       blocks = λ k.
           let few : blocks_where (lies_on g (Some k)) 0 (keep holds_nothing stay 0 c.holdings) ≤ blocks_where (lies_on f (Some k)) 0 c.holdings = blocks_kept (lies_on g (Some k)) stay (lies_on f (Some k)) 0 c.holdings (λ m lies stays. lies_still (at f.objects m) (at g.objects m) k (λ a b is here. (kinds.same m a b is here).fs) (and_parts _ _ stays).0 lies) in
-          let same : blocks_on g (Some k) ≡ blocks_on f (Some k) = ap (λ fss. option_map_or (λ s. s.blocks) (at (map Some fss) k) 0) r.fss in
+          let same : blocks_on g (Some k) ≡ blocks_on f (Some k) = ap (λ fss. (fs_at fss k).blocks) r.fss in
           omega (arith, l.blocks k);
     }
 
@@ -74,7 +74,7 @@ lengths_carried w g r kinds l =
 lasts_floats : (f g : Frame) → Floats f g → Lasts f g
 lasts_floats f g r = record {
   objects = record { stays = λ n is. seen_same object_but is_some (λ x. refl) f.objects g.objects r.objects n ∙ is };
-  opens = record { stays = λ n is. ap (λ t. is_some (at t n)) r.opens ∙ is };
+  opens = record { stays = λ n is. seen_same open_but is_some (λ x. refl) f.opens g.opens r.opens n ∙ is };
   processes = record { stays = λ n is. seen_same process_but is_ended (λ x. refl) f.processes g.processes r.processes n ∙ is; count = length_same process_but f.processes g.processes r.processes };
 }
 

@@ -5,8 +5,8 @@ use Rattle.ix_model.specs.World.{Frame, Content, World, Process, Holding, at, is
 use Rattle.ix_model.specs.Contents.{keep, grown, carried, holds_nothing}
 use Rattle.ix_model.specs.Clean.{IsClean}
 use Rattle.ix_model.specs.OnDescriptors.{Told}
-use Rattle.ix_model.specs.Table.{decide}
-use Rattle.ix_model.specs.History.{Op}
+use Rattle.ix_model.specs.Table.{verdict}
+use Rattle.ix_model.specs.Events.{Op}
 use Rattle.ix_model.proofs.Lasts.{Lasting, Ended, Lasts, lets_nothing_go, lasts_decided}
 
 pub length-keep : {A : Type 0} (d : A) (p : ℕ → Bool) (k : ℕ) (xs : List A) → length (keep d p k xs) ≡ length xs
@@ -59,5 +59,5 @@ carried_same w g lasts clean =
     let s : keep 0 (λ p. is_ended (at f.processes p) && is_ended (at g.processes p)) 0 (grown (length g.processes) c.statuses) ≡ c.statuses = keep_ended f.processes g.processes c.statuses lasts.processes clean.statuses clean.count in
     contents h p s
 
-pub carried_decided : (w : World) (t : Told) (place pid : ℕ) (c : Op) → lets_nothing_go c ≡ true → IsClean w → carried w.frame (decide t place pid c w.frame).frame w.content ≡ w.content
+pub carried_decided : (w : World) (t : Told) (place pid : ℕ) (c : Op) → lets_nothing_go c ≡ true → IsClean w → carried w.frame (verdict t place pid c w.frame).frame w.content ≡ w.content
 carried_decided w t place pid c stays clean = carried_same w _ (lasts_decided t place pid c w.frame stays) clean

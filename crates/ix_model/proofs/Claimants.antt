@@ -4,8 +4,8 @@ use Rattle.std.specs.Option.{option_map_or}
 use Rattle.std.specs.List.{list_any}
 use Rattle.std.proofs.lemmas.Bool.{and_from, eq-eqb}
 use Rattle.ix_label.specs.Category.{leq, top}
-use Rattle.ix_model.specs.World.{Frame, Object, Process, Open, at, put, change, living, is_on}
-use Rattle.ix_model.specs.Owners.{is_claimant}
+use Rattle.ix_model.specs.World.{fs_at, Frame, Object, Process, Open, at, put, change, living, is_on}
+use Rattle.ix_model.specs.Owners.{has_end}
 use Rattle.ix_model.specs.Walks.{Behind, behind, behind_of, entry_at}
 use Rattle.ix_model.specs.OnDescriptors.{claimed, pex, unpex}
 use Rattle.ix_model.specs.declared.reply.Reply.{Reply}
@@ -45,7 +45,7 @@ is_behind f pid fd e h = go (living (at f.processes pid)) refl h
     go (Some p) is h = record { process = p; lives = is; descriptor = entry_of f (at p.fds fd) e h; stands = behind_is f pid fd e (ap (λ q. behind_of q f fd) is ∙ h) }
 
 -- the descriptor makes a claimant
-pub claims_by : (f : Frame) (pid fd : ℕ) (e : Behind) → IsBehind f pid fd e → is_claimant f e.entry.object e.entry.end pid ≡ true
+pub claims_by : (f : Frame) (pid fd : ℕ) (e : Behind) → IsBehind f pid fd e → has_end f e.entry.object e.entry.end pid ≡ true
 claims_by f pid fd e b =
     let o : ℕ = e.entry.object in
     let end : ℕ = e.entry.end in
@@ -56,12 +56,12 @@ claims_by f pid fd e b =
     ∙ and_from (not b.process.ended) _ (ap not (not_ended _ b.process b.lives)) some
 
 -- ---- other claims of one object
-pub reclaimed : (f : Frame) (o : ℕ) (h : Object → Object) → ((x : Object) → object_but (h x) ≡ object_but x) → ((x : Object) → (h x).label ≡ x.label) → ((x : Object) → (h x).fs ≡ x.fs) → ((m end p : ℕ) (x : Object) → at (change f.objects o h) m ≡ Some x → at x.claims end ≡ Some p → is_claimant f m end p ≡ true) → FrameSound f → FrameSound (record f { objects = change f.objects o h })
+pub reclaimed : (f : Frame) (o : ℕ) (h : Object → Object) → ((x : Object) → object_but (h x) ≡ object_but x) → ((x : Object) → (h x).label ≡ x.label) → ((x : Object) → (h x).fs ≡ x.fs) → ((m end p : ℕ) (x : Object) → at (change f.objects o h) m ≡ Some x → at x.claims end ≡ Some p → has_end f m end p ≡ true) → FrameSound f → FrameSound (record f { objects = change f.objects o h })
 reclaimed f o h same label fs claimants s =
     let g : Frame = record f { objects = change f.objects o h } in
     let r = floats_object f f o h same (floats_itself f) in
     record {
-      labels = labels_object f s.labels o h (λ x is. (λ i. leq (label x i) (option_map_or (λ k. option_map_or (λ t. t.ceiling) (at (map Some f.fss) k) top) (fs x i) top)) ∙ s.labels.objects o x is);
+      labels = labels_object f s.labels o h (λ x is. (λ i. leq (label x i) (option_map_or (λ k. (fs_at f.fss k).ceiling) (fs x i) top)) ∙ s.labels.objects o x is);
       names = names_floated f g r s.names;
       lives = lives_floated f g r s.lives;
       opens = opens_floated f g r s.opens;
@@ -71,17 +71,17 @@ reclaimed f o h same label fs claimants s =
     }
 
 -- a claim more, of a claimant; or one fewer
-with_claim : (f : Frame) (o end : ℕ) (c : Option ℕ) → ((p : ℕ) → c ≡ Some p → is_claimant f o end p ≡ true) → FrameSound f → (m k p : ℕ) (x : Object) → at (change f.objects o (λ y. record y { claims = put y.claims end c })) m ≡ Some x → at x.claims k ≡ Some p → is_claimant f m k p ≡ true
+with_claim : (f : Frame) (o end : ℕ) (c : Option ℕ) → ((p : ℕ) → c ≡ Some p → has_end f o end p ≡ true) → FrameSound f → (m k p : ℕ) (x : Object) → at (change f.objects o (λ y. record y { claims = put y.claims end c })) m ≡ Some x → at x.claims k ≡ Some p → has_end f m k p ≡ true
 with_claim f o end c new s m k p x is claim = elim (at_change f.objects o (λ y. record y { claims = put y.claims end c }) m x is) [
   | inl here ↦ elim (at_put here.was.claims end k c p (ap (λ y. at y.claims k) (sym here.same) ∙ claim)) [
-    | inl new_one ↦ (λ i. is_claimant f (here.here i) (new_one.0 i) p) ∙ new p new_one.1
-    | inr old ↦ ap (λ n. is_claimant f n k p) here.here ∙ s.claims.claimant o k p here.was here.is_was old.1
+    | inl new_one ↦ (λ i. has_end f (here.here i) (new_one.0 i) p) ∙ new p new_one.1
+    | inr old ↦ ap (λ n. has_end f n k p) here.here ∙ s.claims.claimant o k p here.was here.is_was old.1
   ]
   | inr other ↦ s.claims.claimant m k p x other.1 claim
 ]
 
 module _ (f : Frame) (s : FrameSound f) where
-  claim_put : (o end : ℕ) (c : Option ℕ) → ((p : ℕ) → c ≡ Some p → is_claimant f o end p ≡ true) → Follows f (record f { objects = change f.objects o (λ y. record y { claims = put y.claims end c }) })
+  claim_put : (o end : ℕ) (c : Option ℕ) → ((p : ℕ) → c ≡ Some p → has_end f o end p ≡ true) → Follows f (record f { objects = change f.objects o (λ y. record y { claims = put y.claims end c }) })
   claim_put o end c new = record {
     sound = reclaimed f o (λ y. record y { claims = put y.claims end c }) (λ y. refl) (λ y. refl) (λ y. refl) (with_claim f o end c new s) s;
     kinds = kinds_floats f.objects f.objects (kinds_itself f.objects) _ (floats_object f f o (λ y. record y { claims = put y.claims end c }) (λ y. refl) (floats_itself f)).objects;
@@ -103,7 +103,7 @@ module _ (f : Frame) (s : FrameSound f) where
       ends_then _ _ f (Refused f) (Passed f) (ends_change_object e.entry.object _ f (Refused f) _ (
       ends_pass _ _ (Refused f) (Passed f) (claim_put e.entry.object e.entry.end (Some pid) (λ p one.
       let same : pid ≡ p = cc in
-      subst (λ (n : ℕ). is_claimant f e.entry.object e.entry.end n ≡ true) same (claims_by f pid fd e (is_behind f pid fd e is))))))))) k)) k)) k)) k)
+      subst (λ (n : ℕ). has_end f e.entry.object e.entry.end n ≡ true) same (claims_by f pid fd e (is_behind f pid fd e is))))))))) k)) k)) k)) k)
 
   pub unpex_ends : (pid fd : ℕ) → Ends (unpex pid fd f) (Refused f) (Passed f)
   unfolding unpex

@@ -5,22 +5,22 @@ use Rattle.std.proofs.lemmas.List.{get_or-set_other, length-replicate}
 use Rattle.ix_model.specs.World.{Frame, Content, World, Object, Holding, at, is_ended, is_pipe}
 use Rattle.ix_model.specs.Walks.{Behind, behind}
 use Rattle.ix_model.specs.OnDescriptors.{Told, write_fd, cut_fd}
-use Rattle.ix_model.specs.Table.{decide, row}
+use Rattle.ix_model.specs.Table.{verdict, row}
 use Rattle.ix_model.specs.Contents.{grown, carried, holds_nothing, on_pipe, after_read, after_write, after_cut, after_seek, after_exit, emptied}
 use Rattle.ix_model.specs.Step.{plainly, read_answer, write_answer, cut_answer, seek_answer, exit_answer, pex_answer, answer, step, step_of, run, is_whole}
 use Rattle.ix_model.specs.Telling.{told}
 use Rattle.ix_model.specs.AuditLog.{is_answer}
 use Rattle.ix_model.specs.Opening.{opening_world}
 use Rattle.ix_model.specs.Clean.{IsClean}
-use Rattle.ix_model.specs.History.{Op, Event}
-use Rattle.ix_model.specs.History as op
+use Rattle.ix_model.specs.Events.{Op, Event}
+use Rattle.ix_model.specs.Events as op
 use Rattle.ix_model.specs.declared.config.Config.{Config}
 use Rattle.ix_model.specs.declared.reply.Reply.{Reply}
 use Rattle.ix_model.specs.declared.reply.Reply.TheVariants as reply
 use Rattle.ix_model.proofs.Lasts.{Lasts, lasts_decided}
 use Rattle.ix_model.proofs.Carrying.{get_or-keep, length-keep}
 use Rattle.ix_model.proofs.Ends.{Ends, Anything, ending}
-use Rattle.ix_model.proofs.Looks.{ends_touch}
+use Rattle.ix_model.proofs.Looks.{ends_touch, ends_float_entry}
 use Rattle.ix_model.proofs.Standing.{behind_is}
 use Rattle.ix_model.proofs.Answered.{world_stat, world_wait, passed}
 use Rattle.ix_model.proofs.Spent.{spent_decided}
@@ -115,9 +115,9 @@ pub record WriteFacts (t : Told) (pid fd : ℕ) (f : Frame) : Type 0 where
 
 write_ends : (t : Told) (pid fd : ℕ) (f : Frame) → Ends (write_fd t pid fd f) Anything (λ r g. WriteFacts t pid fd f)
 unfolding write_fd
-write_ends t pid fd f = search (ending, ends_touch) depth 40 fits 8000
+write_ends t pid fd f = search (ending, ends_touch, ends_float_entry) depth 40 fits 8000
 
-pub wrote : (t : Told) (place pid fd : ℕ) (bytes : List ℕ) (f : Frame) (k : ℕ) → (decide t place pid (op.WriteFd fd bytes) f).reply ≡ reply.Number k → WriteFacts t pid fd f
+pub wrote : (t : Told) (place pid fd : ℕ) (bytes : List ℕ) (f : Frame) (k : ℕ) → (verdict t place pid (op.WriteFd fd bytes) f).reply ≡ reply.Number k → WriteFacts t pid fd f
 unfolding row
 wrote t place pid fd bytes f k h = passed t place pid (op.WriteFd fd bytes) f (λ r g. WriteFacts t pid fd f) (write_ends t pid fd f) (ap is_answer h)
 
@@ -133,9 +133,9 @@ pub record CutFacts (t : Told) (pid fd len : ℕ) (f : Frame) : Type 0 where
 
 cut_ends : (t : Told) (pid fd len : ℕ) (f : Frame) → Ends (cut_fd t pid fd len f) Anything (λ r g. CutFacts t pid fd len f)
 unfolding cut_fd
-cut_ends t pid fd len f = search (ending, ends_touch) depth 40 fits 8000
+cut_ends t pid fd len f = search (ending, ends_touch, ends_float_entry) depth 40 fits 8000
 
-pub was_cut : (t : Told) (place pid fd len : ℕ) (f : Frame) → (decide t place pid (op.CutFd fd len) f).reply ≡ reply.Done → CutFacts t pid fd len f
+pub was_cut : (t : Told) (place pid fd len : ℕ) (f : Frame) → (verdict t place pid (op.CutFd fd len) f).reply ≡ reply.Done → CutFacts t pid fd len f
 unfolding row
 was_cut t place pid fd len f h = passed t place pid (op.CutFd fd len) f (λ r g. CutFacts t pid fd len f) (cut_ends t pid fd len f) (ap is_answer h)
 

@@ -3,7 +3,7 @@ use Rattle.std.proofs.Common.{◌≡◌, ℕ, suc, List, [], ◌∷◌, refl, �
 use Rattle.ix_model.specs.World.{World, Frame}
 use Rattle.ix_model.specs.Step.{step_of, run}
 use Rattle.ix_model.specs.CallLaws.{LimitsStay}
-use Rattle.ix_model.specs.History.{Event}
+use Rattle.ix_model.specs.Events.{Event}
 use Rattle.ix_model.proofs.Fixed.{fixed_step}
 
 pub limits_stay : (w : World) (place : ℕ) (h : List Event) → LimitsStay w.frame (run w place h).frame

@@ -5,11 +5,11 @@ use Rattle.ix_label.specs.Category.{leq, top}
 use Rattle.std.proofs.lemmas.Bool.{cond-true, cond-false}
 use Rattle.std.proofs.lemmas.Bool.Decides.{eqb_tells}
 use Rattle.std.proofs.lemmas.List.Sums.{length-filter, sum_by_push}
-use Rattle.ix_model.specs.World.{Object, Holding, at}
+use Rattle.ix_model.specs.World.{fs_at, Object, Holding, at}
 use Rattle.ix_model.specs.Contents.{holds_nothing}
 use Rattle.ix_model.specs.Telling.{blocks_for, blocks_where}
-use Rattle.ix_model.specs.Numbers.{first_inode, inodes_of}
-use Rattle.ix_model.specs.Valid.{fs_of, fs_ceiling, blocks_of, lying_on, blocks_taken}
+use Rattle.ix_model.specs.Numbers.{first_inode}
+use Rattle.ix_model.specs.Valid.{fs_of, lying_on, blocks_taken}
 use Rattle.ix_model.specs.declared.config.FsSpec.{FsSpec}
 use Rattle.ix_model.specs.declared.config.Limits.{Limits}
 use Rattle.ix_model.specs.declared.config.ObjSpec.{ObjSpec}
@@ -36,7 +36,7 @@ blocks_more fss j (x ∷ before) b = omega (arith, taken-cons fss j x (before ++
 abbrev pub holding_for : ObjSpec → Holding
 holding_for b = record { first = b.bytes; second = [] }
 
-module _ (fss : List FsSpec) (l : Limits) (before : List ObjSpec) (t : List (Option Object)) (hs : List Holding) (b : ObjSpec) (o d k : ℕ) (p : Place t o d) (line : Line fss l before b) (is_k : k ≡ fs_of fss b.path.names) (from : first_inode fss k ≤ o) (to : o < first_inode fss k + inodes_of fss k) where
+module _ (fss : List FsSpec) (l : Limits) (before : List ObjSpec) (t : List (Option Object)) (hs : List Holding) (b : ObjSpec) (o d k : ℕ) (p : Place t o d) (line : Line fss l before b) (is_k : k ≡ fs_of fss b.path.names) (from : first_inode fss k ≤ o) (to : o < first_inode fss k + (fs_at fss k).inodes) where
   abbrev next : List (Option Object)
   next = with_one t b d k o
 
@@ -47,21 +47,21 @@ module _ (fss : List FsSpec) (l : Limits) (before : List ObjSpec) (t : List (Opt
       (let r = fits d p.dir p.is_dir in record { low = r.low; no_pipe = r.no_pipe; unclaimed = r.unclaimed; fs = r.fs; is_fs = r.is_fs; from = r.from; to = r.to })
       (λ m x other apart is. fits m x is)
     where
-      low : leq b.label (option_map_or (λ s. s.ceiling) (at (map Some fss) k) top) ≡ true
-      low = ap (λ j. leq b.label (fs_ceiling fss j)) is_k ∙ line.low
+      low : leq b.label (fs_at fss k).ceiling ≡ true
+      low = ap (λ j. leq b.label (fs_at fss j).ceiling) is_k ∙ line.low
 
   -- ---- inodes
   stands_as : (m : ℕ) → m ≢ o → is_some (at next m) ≡ is_some (at t m)
   stands_as m other = seen t b o d k p is_some (λ x. refl) m other
 
-  taken_after : ((j : ℕ) → filled t (first_inode fss j) (inodes_of fss j) ≤ suc (length (lying_on fss j before))) → (j : ℕ) → filled next (first_inode fss j) (inodes_of fss j) ≤ suc (length (lying_on fss j (before ++ b ∷ [])))
+  taken_after : ((j : ℕ) → filled t (first_inode fss j) (fs_at fss j).inodes ≤ suc (length (lying_on fss j before))) → (j : ℕ) → filled next (first_inode fss j) (fs_at fss j).inodes ≤ suc (length (lying_on fss j (before ++ b ∷ [])))
   taken_after taken j = elim (eqb_tells (fs_of fss b.path.names) j) [
     | inl here ↦
         let one : cond {A = ℕ} (fs_of fss b.path.names == j) 1 0 ≡ 1 = ap (λ x. cond {A = ℕ} x 1 0) here.0 in
-        omega (arith, filled_more t next o (first_inode fss j) (inodes_of fss j) stands_as, taken j, lying_more fss j before b)
+        omega (arith, filled_more t next o (first_inode fss j) (fs_at fss j).inodes stands_as, taken j, lying_more fss j before b)
     | inr other ↦
-        let same : filled next (first_inode fss j) (inodes_of fss j) ≡ filled t (first_inode fss j) (inodes_of fss j) =
-        filled_same t next (first_inode fss j) (inodes_of fss j) (λ m low high. stands_as m (λ e.
+        let same : filled next (first_inode fss j) (fs_at fss j).inodes ≡ filled t (first_inode fss j) (fs_at fss j).inodes =
+        filled_same t next (first_inode fss j) (fs_at fss j).inodes (λ m low high. stands_as m (λ e.
         let here : k ≡ j = one_fs fss k j o from to (omega (arith, e, low)) (omega (arith, e, high)) in
         other.1 (sym is_k ∙ here))) in
         omega (arith, taken j, lying_more fss j before b)
@@ -96,11 +96,11 @@ module _ (fss : List FsSpec) (l : Limits) (before : List ObjSpec) (t : List (Opt
         | inr apart ↦ lies_as j m apart.1
       ]
 
-  within_after : (j : ℕ) → blocks_taken fss j before ≤ blocks_of fss j → blocks_taken fss j (before ++ b ∷ []) ≤ blocks_of fss j
+  within_after : (j : ℕ) → blocks_taken fss j before ≤ (fs_at fss j).blocks → blocks_taken fss j (before ++ b ∷ []) ≤ (fs_at fss j).blocks
   within_after j within = elim (eqb_tells (fs_of fss b.path.names) j) [
     | inl here ↦
         let more : cond {A = ℕ} (fs_of fss b.path.names == j) (blocks_for (length b.bytes)) 0 ≡ blocks_for (length b.bytes) = cond-true _ _ _ here.0 in
-        let room : blocks_taken fss j before + blocks_for (length b.bytes) ≤ blocks_of fss j = subst (λ (i : ℕ). blocks_taken fss i before + blocks_for (length b.bytes) ≤ blocks_of fss i) here.1 line.blocks in
+        let room : blocks_taken fss j before + blocks_for (length b.bytes) ≤ (fs_at fss j).blocks = subst (λ (i : ℕ). blocks_taken fss i before + blocks_for (length b.bytes) ≤ (fs_at fss i).blocks) here.1 line.blocks in
         omega (arith, blocks_more fss j before b)
     | inr other ↦
         let none : cond {A = ℕ} (fs_of fss b.path.names == j) (blocks_for (length b.bytes)) 0 ≡ 0 = cond-false _ _ _ other.0 in

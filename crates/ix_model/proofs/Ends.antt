@@ -2,8 +2,8 @@
 use Rattle.std.proofs.Common.{ℕ, ◌≡◌, Bool, true, false, Option, Some, None, refl}
 use Rattle.ix_model.specs.World.{Frame, Object, Process, Open, at, put, change, living}
 use Rattle.ix_model.specs.Outcomes.{Row, Outcome, Refuse, Pass}
-use Rattle.ix_model.specs.Rows.{◌>>=◌, ◌>>◌, on_pass, pass, refuse, need, some, only_if, frame, caller, object, change_object, change_process, put_open}
-use Rattle.ix_model.specs.Walks.{Sought, Behind, there, behind, opened}
+use Rattle.ix_model.specs.Rows.{◌>>=◌, ◌>>◌, on_pass, pass, refuse, need, some, only_if, frame, process, object, change_object, change_process, put_open, change_open}
+use Rattle.ix_model.specs.Walks.{Sought, Behind, found_object, behind, opened}
 use Rattle.ix_model.specs.Walks as sought
 use Rattle.ix_model.specs.declared.refusal.Refusal.{Refusal}
 use Rattle.ix_model.specs.declared.refusal.Refusal.TheVariants as refusal
@@ -75,8 +75,8 @@ unfolding Ends only_if pass
 ends_only_if true m f P Q h k = h refl
 ends_only_if false m f P Q h k = k refl
 
-pub ends_caller : (pid : ℕ) (f : Frame) (P : Refusal → Frame → Type 0) (Q : Process → Frame → Type 0) → ((p : Process) → living (at f.processes pid) ≡ Some p → Q p f) → P refusal.NoProcess f → Ends (caller pid f) P Q
-unfolding caller
+pub ends_caller : (pid : ℕ) (f : Frame) (P : Refusal → Frame → Type 0) (Q : Process → Frame → Type 0) → ((p : Process) → living (at f.processes pid) ≡ Some p → Q p f) → P refusal.NoProcess f → Ends (process pid f) P Q
+unfolding process
 ends_caller pid f P Q h k = ends_some _ _ _ _ _ h k
 
 pub ends_object : (o : ℕ) (f : Frame) (P : Refusal → Frame → Type 0) (Q : Object → Frame → Type 0) → ((x : Object) → at f.objects o ≡ Some x → Q x f) → P refusal.BadFd f → Ends (object o f) P Q
@@ -91,12 +91,16 @@ pub ends_change_caller : (pid : ℕ) (h : Process → Process) (f : Frame) (P : 
 unfolding Ends change_process
 ends_change_caller pid h f P Q k = k
 
+pub ends_change_open : (e : ℕ) (h : Open → Open) (f : Frame) (P : Refusal → Frame → Type 0) (Q : Unit {0} → Frame → Type 0) → Q tt (record f { opens = change f.opens e h }) → Ends (change_open e h f) P Q
+unfolding Ends change_open
+ends_change_open e h f P Q k = k
+
 pub ends_put_open : (e : ℕ) (x : Option Open) (f : Frame) (P : Refusal → Frame → Type 0) (Q : Unit {0} → Frame → Type 0) → Q tt (record f { opens = put f.opens e x }) → Ends (put_open e x f) P Q
 unfolding Ends put_open
 ends_put_open e x f P Q k = k
 
-pub ends_there : (w : Sought) (f : Frame) (P : Refusal → Frame → Type 0) (Q : ℕ → Frame → Type 0) → ((o : ℕ) (dir : Option ℕ) → w ≡ sought.Found o dir → Q o f) → P refusal.NotDir f → P refusal.NotFound f → Ends (there w f) P Q
-unfolding there Ends pass refuse
+pub ends_there : (w : Sought) (f : Frame) (P : Refusal → Frame → Type 0) (Q : ℕ → Frame → Type 0) → ((o : ℕ) (dir : Option ℕ) → w ≡ sought.Found o dir → Q o f) → P refusal.NotDir f → P refusal.NotFound f → Ends (found_object w f) P Q
+unfolding found_object Ends pass refuse
 ends_there sought.NotDir f P Q h d n = d
 ends_there sought.NotFound f P Q h d n = n
 ends_there (sought.Missing a) f P Q h d n = n

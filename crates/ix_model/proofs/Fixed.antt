@@ -1,14 +1,14 @@
 -- What no call changes: the limits, the file systems, and the lengths of the objects' and the open entries' tables.
 use Rattle.std.proofs.Common.{◌≡◌, ℕ, Option, Some, None, refl, sym, subst, ◌∙◌, length, length-set}
 use Rattle.ix_model.specs.World.{World, Frame, Object, Process, Open}
-use Rattle.ix_model.specs.Rows.{change_object, change_process, put_object, put_open, put_process, add_process}
+use Rattle.ix_model.specs.Rows.{change_object, change_process, put_object, put_open, put_process, add_process, change_open}
 use Rattle.ix_model.specs.Auditing.{logged}
 use Rattle.ix_model.specs.OnProcesses.{end_process}
 use Rattle.ix_model.specs.OnDescriptors.{Told}
-use Rattle.ix_model.specs.Table.{decide}
+use Rattle.ix_model.specs.Table.{verdict}
 use Rattle.ix_model.specs.Telling.{told}
 use Rattle.ix_model.specs.Step.{step}
-use Rattle.ix_model.specs.History.{Op}
+use Rattle.ix_model.specs.Events.{Op}
 use Rattle.ix_model.specs.declared.audit.AuditLine.{AuditLine}
 use Rattle.ix_model.proofs.Keeps.{Holds, Keeps}
 use Rattle.ix_model.proofs.Rowwise.{Words, changes_of, kept_row, all, bears_all}
@@ -32,6 +32,10 @@ module _ (f : Frame) where
   fixed_put_object : (o : ℕ) (x : Option Object) → Keeps (Fixed f) (put_object o x)
   unfolding put_object Holds
   fixed_put_object o x = record { led = λ g r. record { limits = r.limits; fss = r.fss; objects = length-set g.objects o x ∙ r.objects; opens = r.opens } }
+
+  fixed_change_open : (e : ℕ) (h : Open → Open) → Keeps (Fixed f) (change_open e h)
+  unfolding change_open Holds
+  fixed_change_open e h = record { led = λ g r. record { limits = r.limits; fss = r.fss; objects = r.objects; opens = length-set g.opens e _ ∙ r.opens } }
 
   fixed_put_open : (e : ℕ) (x : Option Open) → Keeps (Fixed f) (put_open e x)
   unfolding put_open Holds
@@ -63,6 +67,7 @@ fixed_words pid f = record {
   process = λ p h same. fixed_change_process f p h;
   float = λ h same. fixed_change_process f pid h;
   entry = λ e x. fixed_put_open f e (Some x);
+  through = λ e l. fixed_change_open f e _;
   unclaim = λ o end. fixed_change_object f o _;
   relabel = λ can o h same. fixed_change_object f o h;
   claim = λ can o h same. fixed_change_object f o h;
@@ -76,7 +81,7 @@ fixed_words pid f = record {
   collect = λ can p. fixed_put_process f p None;
 }
 
-pub fixed_decided : (t : Told) (place pid : ℕ) (c : Op) (f : Frame) → Fixed f (decide t place pid c f).frame
+pub fixed_decided : (t : Told) (place pid : ℕ) (c : Op) (f : Frame) → Fixed f (verdict t place pid c f).frame
 fixed_decided t place pid c f = decided (Fixed f) t place pid c f (fixed_itself f) ((kept_row all pid (Fixed f) (fixed_words pid f) t place c (bears_all (changes_of c))).led f (fixed_itself f))
 
 pub fixed_step : (w : World) (place pid : ℕ) (c : Op) → Fixed w.frame (step w place pid c).world.frame

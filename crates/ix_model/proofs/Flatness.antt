@@ -3,8 +3,7 @@ use Rattle.std.proofs.Common.{◌≡◌, ◌<◌, ◌≤◌, ◌+◌, ◌-◌, �
 use Rattle.std.specs.List.{list_all}
 use Rattle.std.proofs.lemmas.Bool.{and_parts, eqb-true}
 use Rattle.ix_model.specs.Privs.{is_empty}
-use Rattle.ix_model.specs.World.{World}
-use Rattle.ix_model.specs.Numbers.{inodes_of}
+use Rattle.ix_model.specs.World.{fs_at, World}
 use Rattle.ix_model.specs.Opening.{with_objects, opening_world}
 use Rattle.ix_model.specs.Valid.{fs_fits, fs_of, lying_on, object_fits, objects_fit, is_valid, is_flat_object, is_flat_process, is_flat}
 use Rattle.ix_model.specs.Flat.{flat_world}
@@ -58,7 +57,7 @@ record FileNext (s : FsSpec) (bs : List ObjSpec) (o : ObjSpec) : Type 0 where
 file_next : (l : Limits) (s : FsSpec) (bs : List ObjSpec) (o : ObjSpec) → object_fits (s ∷ []) l bs o ≡ true → is_flat_object o ≡ true → FileNext s bs o
 file_next l s bs o fits flat =
     let one = one_of o.path.names (and_parts (not o.dir && not o.frozen && is_empty o.cap && is_empty o.lic) (length o.path.names == 1) flat).1 in
-    let inodes : length (lying_on (s ∷ []) 0 bs) + 2 ≤ s.inodes = subst (λ (k : ℕ). length (lying_on (s ∷ []) k bs) + 2 ≤ inodes_of (s ∷ []) k) (fs_of_flat s o.path.names) (line_is (s ∷ []) l bs o fits).inodes in
+    let inodes : length (lying_on (s ∷ []) 0 bs) + 2 ≤ s.inodes = subst (λ (k : ℕ). length (lying_on (s ∷ []) k bs) + 2 ≤ (fs_at (s ∷ []) k).inodes) (fs_of_flat s o.path.names) (line_is (s ∷ []) l bs o fits).inodes in
     record { name = one.0; is_name = one.1; inode = omega (arith, ap length (lying_all s bs)) }
 
 -- ---- all files

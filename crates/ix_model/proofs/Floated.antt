@@ -1,17 +1,17 @@
 -- A frame that is a sound one but for labels and the like is sound but for labels and the log.
-use Rattle.std.proofs.Common.{◌≡◌, ◌<◌, ◌≤◌, ◌+◌, ◌==◌, ℕ, Bool, true, false, not, ◌&&◌, ◌||◌, List, map, length, sum, count_by, Option, Some, is_some, is_none, option_map, cond, refl, sym, ap, ◌∙◌, subst, arith}
+use Rattle.std.proofs.Common.{◌≡◌, ◌<◌, ◌≤◌, ◌+◌, ◌==◌, ℕ, Bool, true, false, not, ◌&&◌, ◌||◌, List, map, length, sum, count_by, Option, Some, None, is_some, is_none, option_map, cond, refl, sym, ap, ◌∙◌, subst, arith}
 use Rattle.std.specs.Option.{option_map_or}
 use Rattle.std.specs.List.{list_any}
 use Rattle.std.proofs.lemmas.List.Sums.{sum-map}
-use Rattle.ix_model.specs.World.{Frame, Content, Object, Process, Open, at, living, lives, is_file, is_dir, is_pipe, is_on, held}
+use Rattle.ix_model.specs.World.{fs_at, Frame, Content, Object, Process, Open, at, living, lives, is_file, is_dir, is_pipe, is_on, held}
 use Rattle.ix_model.specs.Telling.{blocks_where, blocks_on, lies_on}
-use Rattle.ix_model.specs.Numbers.{first_inode, inodes_of}
+use Rattle.ix_model.specs.Numbers.{first_inode}
 use Rattle.ix_model.specs.Valid.{all_differ}
-use Rattle.ix_model.specs.Owners.{times_in, times_named, names_in_all, owns, is_claimant}
+use Rattle.ix_model.specs.Owners.{times_in, times_named, names_in_all, owns, has_end}
 use Rattle.ix_model.specs.Sound.{NamesSound, LivesSound, OpensSound, ProcessesSound, ClaimsSound, WithinLimits, LengthsSound}
 use Rattle.ix_model.specs.declared.config.FsSpec.{FsSpec}
 use Rattle.ix_model.proofs.Tables.{none_is, Back, back, seen_same, map_same, any_same, length_same}
-use Rattle.ix_model.proofs.Floats.{Floats, object_but, process_but}
+use Rattle.ix_model.proofs.Floats.{Floats, object_but, process_but, open_but}
 use Rattle.ix_model.proofs.Living.{is_living, not_ended, lives_as}
 use Rattle.ix_model.proofs.Blocks.{blocks_from}
 
@@ -39,6 +39,19 @@ module _ (f g : Frame) (r : Floats f g) where
   times_floated : (o : ℕ) → times_named g.objects o ≡ times_named f.objects o
   times_floated o = ap sum (map_same object_but (times_in o) (λ x. refl) f.objects g.objects r.objects)
 
+  held_floated : (o end : ℕ) → held g.opens o end ≡ held f.opens o end
+  held_floated o end = any_same open_but (is_on o end) (λ x. refl) f.opens g.opens r.opens
+
+  stands_floated : (e : ℕ) → is_some (at g.opens e) ≡ is_some (at f.opens e)
+  stands_floated e = seen_same open_but is_some (λ x. refl) f.opens g.opens r.opens e
+
+  on_floated : (o end : ℕ) (d : Option ℕ) → option_map_or (λ e. is_on o end (at g.opens e)) d false ≡ option_map_or (λ e. is_on o end (at f.opens e)) d false
+  on_floated o end None = refl
+  on_floated o end (Some e) = seen_same open_but (is_on o end) (λ x. refl) f.opens g.opens r.opens e
+
+  was_open : (e : ℕ) (x : Open) → at g.opens e ≡ Some x → Back open_but f.opens e x
+  was_open e x is = back open_but (λ y. refl) f.opens g.opens r.opens e x is
+
   -- ---- the parts
   pub names_floated : NamesSound f → NamesSound g
   names_floated n = record {
@@ -54,18 +67,24 @@ module _ (f g : Frame) (r : Floats f g) where
 
   pub lives_floated : LivesSound f → LivesSound g
   lives_floated l = record {
-    file = λ o x is file. let w = was o x is in (λ i. not (times_floated o i == 0) || held (r.opens i) o 0) ∙ l.file o w.was w.is_was (sym (ap is_file w.same) ∙ file);
-    pipe = λ o x is pipe. let w = was o x is in (λ i. held (r.opens i) o 0 || held (r.opens i) o 1) ∙ l.pipe o w.was w.is_was (sym (ap is_pipe w.same) ∙ pipe);
+    file = λ o x is file. let w = was o x is in (λ i. not (times_floated o i == 0) || held_floated o 0 i) ∙ l.file o w.was w.is_was (sym (ap is_file w.same) ∙ file);
+    pipe = λ o x is pipe. let w = was o x is in (λ i. held_floated o 0 i || held_floated o 1 i) ∙ l.pipe o w.was w.is_was (sym (ap is_pipe w.same) ∙ pipe);
   }
 
   pub opens_floated : OpensSound f → OpensSound g
   opens_floated n = record {
     descriptor = λ p q fd e lives is.
         let w = was_process p q (is_living _ q lives) in
-        ap (λ t. is_some (at t e)) r.opens ∙ n.descriptor p w.was fd e (was_living p q lives) (sym (ap (λ y. at y.fds fd) w.same) ∙ is);
-    owned = λ e stands. any_same process_but (owns e) (λ x. refl) f.processes g.processes r.processes ∙ n.owned e (sym (ap (λ t. is_some (at t e)) r.opens) ∙ stands);
-    target = λ e x is. seen_object (λ y. option_map_or (λ z. not (is_dir z)) y false) (λ y. refl) x.object ∙ n.target e x (sym (ap (λ t. at t e) r.opens) ∙ is);
-    end = λ e x is. (λ i. x.end == 0 || x.end == 1 && seen_object (λ y. option_map_or is_pipe y false) (λ y. refl) x.object i) ∙ n.end e x (sym (ap (λ t. at t e) r.opens) ∙ is);
+        stands_floated e ∙ n.descriptor p w.was fd e (was_living p q lives) (sym (ap (λ y. at y.fds fd) w.same) ∙ is);
+    owned = λ e stands. any_same process_but (owns e) (λ x. refl) f.processes g.processes r.processes ∙ n.owned e (sym (stands_floated e) ∙ stands);
+    target = λ e x is.
+        let w = was_open e x is in
+        seen_object (λ y. option_map_or (λ z. not (is_dir z)) y false) (λ y. refl) x.object
+        ∙ ap (λ y. option_map_or (λ z. not (is_dir z)) (at f.objects y.object) false) w.same ∙ n.target e w.was w.is_was;
+    end = λ e x is.
+        let w = was_open e x is in
+        (λ i. x.end == 0 || x.end == 1 && seen_object (λ y. option_map_or is_pipe y false) (λ y. refl) x.object i)
+        ∙ ap (λ y. y.end == 0 || y.end == 1 && option_map_or is_pipe (at f.objects y.object) false) w.same ∙ n.end e w.was w.is_was;
   }
 
   -- the working directories are as they were
@@ -88,11 +107,13 @@ module _ (f g : Frame) (r : Floats f g) where
       let w = was_process p q (is_living _ q lives) in
       ap (λ c. option_map_or is_dir (at f.objects c) false) (same_cwd seen p q w.was (is_living _ q lives) w.is_was) ∙ n.home p w.was (was_living p q lives)) n
 
-  claimant_floated : (o end p : ℕ) → is_claimant g o end p ≡ is_claimant f o end p
-  claimant_floated o end p = seen_process (has_on g.opens o end) (λ y. refl) p ∙ ap (λ t. has_on t o end (at f.processes p)) r.opens
+  claimant_floated : (o end p : ℕ) → has_end g o end p ≡ has_end f o end p
+  claimant_floated o end p =
+      seen_process (has_on g.opens o end) (λ y. refl) p
+      ∙ (λ i. option_map_or (λ q. not q.ended && list_any (λ d. on_floated o end d i) q.fds) (at f.processes p) false)
 
   -- where each claim is a claimant's
-  pub claims_moved : ((o end p : ℕ) (x : Object) → at g.objects o ≡ Some x → at x.claims end ≡ Some p → is_claimant f o end p ≡ true) → ClaimsSound g
+  pub claims_moved : ((o end p : ℕ) (x : Object) → at g.objects o ≡ Some x → at x.claims end ≡ Some p → has_end f o end p ≡ true) → ClaimsSound g
   claims_moved claimants = record { claimant = λ o end p x is claim. claimant_floated o end p ∙ claimants o end p x is claim }
 
   pub claims_floated : ((n : ℕ) → option_map (λ (x : Object). x.claims) (at g.objects n) ≡ option_map (λ (x : Object). x.claims) (at f.objects n)) → ClaimsSound f → ClaimsSound g
@@ -111,8 +132,8 @@ module _ (f g : Frame) (r : Floats f g) where
         subst (λ (fss : List FsSpec). first_inode fss (length fss) ≤ o) (sym r.fss) (l.past o w.was w.is_was (sym (ap is_pipe w.same) ∙ pipe));
     numbers = λ o k x is on.
         let w = was o x is in
-        subst (λ (fss : List FsSpec). (first_inode fss k ≤ o) × (o < first_inode fss k + inodes_of fss k)) (sym r.fss) (l.numbers o k w.was w.is_was (sym (ap (λ y. y.fs) w.same) ∙ on));
-    opens = ap length r.opens ∙ l.opens ∙ sym (ap (λ y. y.opens) r.limits);
+        subst (λ (fss : List FsSpec). (first_inode fss k ≤ o) × (o < first_inode fss k + (fs_at fss k).inodes)) (sym r.fss) (l.numbers o k w.was w.is_was (sym (ap (λ y. y.fs) w.same) ∙ on));
+    opens = length_same open_but f.opens g.opens r.opens ∙ l.opens ∙ sym (ap (λ y. y.opens) r.limits);
     processes =
         let e : count_by is_some g.processes ≡ count_by is_some f.processes = sym (sum-map (λ x. cond (is_some x) 1 0) g.processes) ∙ ap sum (map_same process_but (λ x. cond (is_some x) 1 0) (λ x. refl) f.processes g.processes r.processes) ∙ sum-map (λ x. cond (is_some x) 1 0) f.processes in
         let k : g.limits.procs ≡ f.limits.procs = ap (λ y. y.procs) r.limits in
@@ -127,12 +148,12 @@ module _ (f g : Frame) (r : Floats f g) where
   pub lengths_floated : (c : Content) → LengthsSound (record { frame = f; content = c }) → LengthsSound (record { frame = g; content = c })
   lengths_floated c l = record {
     holdings = l.holdings ∙ sym (length_same object_but f.objects g.objects r.objects);
-    offsets = l.offsets ∙ sym (ap length r.opens);
+    offsets = l.offsets ∙ sym (length_same open_but f.opens g.opens r.opens);
     offset = l.offset;
     file = λ o x is file. let w = was o x is in l.file o w.was w.is_was (sym (ap is_pipe w.same) ∙ file);
     pipe = λ o x is pipe. let w = was o x is in l.pipe o w.was w.is_was (sym (ap is_pipe w.same) ∙ pipe);
     blocks = λ k.
         let e : blocks_where (lies_on g (Some k)) 0 c.holdings ≡ blocks_where (lies_on f (Some k)) 0 c.holdings = blocks_from _ _ 0 c.holdings (λ m low. seen_object (λ y. option_map_or (λ z. option_map_or (λ j. j == k) z.fs false) y false) (λ y. refl) m) in
-        let b : blocks_on g (Some k) ≡ blocks_on f (Some k) = ap (λ fss. option_map_or (λ s. s.blocks) (at (map Some fss) k) 0) r.fss in
+        let b : blocks_on g (Some k) ≡ blocks_on f (Some k) = ap (λ fss. (fs_at fss k).blocks) r.fss in
         omega (arith, l.blocks k);
   }

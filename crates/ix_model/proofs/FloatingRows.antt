@@ -1,17 +1,21 @@
 -- The calls on bytes change nothing in the frame but labels.
 use Rattle.std.proofs.Common.{ℕ}
-use Rattle.ix_model.specs.World.{Frame}
-use Rattle.ix_model.specs.Walks.{opened}
-use Rattle.ix_model.specs.OnDescriptors.{Told, read_fd, write_fd, cut_fd}
+use Rattle.ix_model.specs.World.{Frame, Object, Process}
+use Rattle.ix_model.specs.Walks.{Behind, opened}
+use Rattle.ix_model.specs.OnDescriptors.{Told, float_entry, read_fd, write_fd, cut_fd}
 use Rattle.ix_model.proofs.Keeps.{Keeps, keeping}
-use Rattle.ix_model.proofs.Floats.{Floats, floats_observe, floats_affect}
+use Rattle.ix_model.proofs.Floats.{Floats, floats_change_open, floats_observe, floats_affect}
 
 module _ (f : Frame) where
   floats_opened : (pid fd : ℕ) → Keeps (Floats f) (opened pid fd)
   unfolding opened
   floats_opened pid fd = search keeping depth 30
 
-  ruleset floating_rows = (keeping, floats_observe, floats_affect, floats_opened)
+  floats_float_entry : (p : Process) (x : Object) (e : Behind) → Keeps (Floats f) (float_entry p x e)
+  unfolding float_entry
+  floats_float_entry p x e = search (keeping, floats_change_open) depth 30
+
+  ruleset floating_rows = (keeping, floats_observe, floats_affect, floats_opened, floats_float_entry)
 
   pub floats_read_fd : (t : Told) (pid fd count : ℕ) → Keeps (Floats f) (read_fd t pid fd count)
   unfolding read_fd

@@ -2,9 +2,9 @@
 use Rattle.std.proofs.Common.{◌≡◌, ℕ, Bool, true, false, refl, if◌then◌else◌}
 use Rattle.ix_model.specs.World.{Frame, lives}
 use Rattle.ix_model.specs.OnDescriptors.{Told}
-use Rattle.ix_model.specs.Table.{Decision, row, settled, decide}
-use Rattle.ix_model.specs.History.{Op}
-use Rattle.ix_model.specs.History as op
+use Rattle.ix_model.specs.Table.{Decision, row, settled, verdict}
+use Rattle.ix_model.specs.Events.{Op}
+use Rattle.ix_model.specs.Events as op
 use Rattle.ix_model.specs.declared.reply.Reply.TheVariants as reply
 use Rattle.ix_model.specs.declared.refusal.Refusal.TheVariants as refusal
 use Rattle.ix_model.proofs.Keeps.{Holds}
@@ -61,8 +61,8 @@ module _ (f : Frame) (s : FrameSound f) where
   row_follows t place pid (op.ReadLog index) alive = kept_ends (Follows f) _ (read_log_ends f place pid index f (follows_itself f s))
 
   -- what is decided leaves a sound frame
-  pub follows_decided : (t : Told) (place pid : ℕ) (c : Op) → Follows f (decide t place pid c f).frame
-  unfolding decide
+  pub follows_decided : (t : Told) (place pid : ℕ) (c : Op) → Follows f (verdict t place pid c f).frame
+  unfolding verdict
   follows_decided t place pid c = go (lives f pid) refl
     where
       unknown : Decision

@@ -1,15 +1,15 @@
 -- Sound frames: all that is said of a sound world but its lengths. What a frame that is one but for labels and the like keeps.
 use Rattle.std.proofs.Common.{◌≡◌, ◌≤◌, ℕ, List, Some, option_map, true, refl, ap, ◌∙◌, length}
 use Rattle.ix_label.specs.Category.{Categories, leq}
-use Rattle.ix_model.specs.World.{World, Frame, Content, Object, Process, at, change, ceiling_of}
-use Rattle.ix_model.specs.Rows.{change_object, change_process, observe, affect}
+use Rattle.ix_model.specs.World.{World, Frame, Content, Object, Process, Open, at, change, ceiling_of}
+use Rattle.ix_model.specs.Rows.{change_object, change_process, change_open, observe, affect}
 use Rattle.ix_model.specs.Sound.{LabelsBelow, NamesSound, LivesSound, OpensSound, ProcessesSound, ClaimsSound, WithinLimits, LengthsSound, Sound}
 use Rattle.ix_model.specs.declared.config.FsSpec.{FsSpec}
 use Rattle.ix_model.proofs.Tables.{seen_changed}
 use Rattle.ix_model.proofs.Keeps.{Holds, Keeps}
 use Rattle.ix_model.proofs.Ends.{Ends, kept_ends}
 use Rattle.ix_model.proofs.Looks.{ends_observe, ends_affect}
-use Rattle.ix_model.proofs.Floats.{Floats, object_but, process_but, floats_itself, floats_object, floats_process}
+use Rattle.ix_model.proofs.Floats.{Floats, object_but, process_but, open_but, floats_open, floats_itself, floats_object, floats_process}
 use Rattle.ix_model.proofs.Floated.{names_floated, lives_floated, opens_floated, processes_floated, claims_floated, limits_floated}
 use Rattle.ix_model.proofs.Labels.{labels_object, labels_process, labels_observed, labels_affected}
 use Rattle.ix_model.proofs.SameKinds.{Kinds, kinds_itself, kinds_floats}
@@ -89,15 +89,20 @@ module _ (f : Frame) where
   unfolding change_process Holds
   follows_change_process p h same homes label = record { led = λ g s. followed_process g p h same homes (λ q is. label q ∙ s.sound.labels.processes p q is) s }
 
+  -- another label of an open entry
+  pub follows_change_open : (e : ℕ) (h : Open → Open) → ((x : Open) → open_but (h x) ≡ open_but x) → Keeps (Follows f) (change_open e h)
+  unfolding change_open Holds
+  follows_change_open e h same = record { led = λ g s. follows_steady g _ (record { floats = floats_open g g e h same (floats_itself g); homes = λ n. refl; claims = λ n. refl }) (record { objects = s.sound.labels.objects; processes = s.sound.labels.processes }) s.sound.limits.log s }
+
   -- ---- the two rules of floating
   observe_follows : (pid : ℕ) (seen : Categories) (g : Frame) → Follows f g → Ends (observe pid seen g) (λ r h. Follows f h) (λ u h. Follows f h)
   observe_follows pid seen g s = ends_observe pid seen g _ _ (λ r. s) s (λ p is low. follows_steady g _ (steady_process g pid _ (λ q. refl) (λ q. refl)) (labels_observed g pid seen p is low s.sound.labels) s.sound.limits.log s)
 
-  affect_follows : (pid o : ℕ) (g : Frame) → Follows f g → Ends (affect pid o g) (λ r h. Follows f h) (λ u h. Follows f h)
-  affect_follows pid o g s = ends_affect pid o g _ _ (λ r. s) s (λ l x is low. follows_steady g _ (steady_object g o _ (λ y. refl) (λ y. refl)) (labels_affected g o l x is low s.sound.labels) s.sound.limits.log s)
+  affect_follows : (pid o : ℕ) (through : Categories) (g : Frame) → Follows f g → Ends (affect pid o through g) (λ r h. Follows f h) (λ u h. Follows f h)
+  affect_follows pid o through g s = ends_affect pid o through g _ _ (λ r. s) s (λ l x is low. follows_steady g _ (steady_object g o _ (λ y. refl) (λ y. refl)) (labels_affected g o l x is low s.sound.labels) s.sound.limits.log s)
 
   pub follows_observe : (pid : ℕ) (seen : Categories) → Keeps (Follows f) (observe pid seen)
   follows_observe pid seen = record { led = λ g s. kept_ends (Follows f) _ (observe_follows pid seen g s) }
 
-  pub follows_affect : (pid o : ℕ) → Keeps (Follows f) (affect pid o)
-  follows_affect pid o = record { led = λ g s. kept_ends (Follows f) _ (affect_follows pid o g s) }
+  pub follows_affect : (pid o : ℕ) (through : Categories) → Keeps (Follows f) (affect pid o through)
+  follows_affect pid o through = record { led = λ g s. kept_ends (Follows f) _ (affect_follows pid o through g s) }

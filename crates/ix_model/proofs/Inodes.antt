@@ -6,32 +6,32 @@ use Rattle.std.proofs.lemmas.Bool.{cases_lt, cases_order}
 use Rattle.std.proofs.lemmas.Bool.Decides.{eqb_tells}
 use Rattle.std.proofs.lemmas.List.Sums.{sum_by-cons}
 use Rattle.std.proofs.lemmas.Iterator.Adapters.{position_from-zero}
-use Rattle.ix_model.specs.World.{at, lowest_free}
-use Rattle.ix_model.specs.Numbers.{first_inode, inodes_of}
+use Rattle.ix_model.specs.World.{fs_at, at, lowest_free}
+use Rattle.ix_model.specs.Numbers.{first_inode}
 use Rattle.ix_model.specs.declared.config.FsSpec.{FsSpec}
 
 -- ---- where they lie
 pub first-cons : (s : FsSpec) (fss : List FsSpec) (k : ℕ) → first_inode (s ∷ fss) (suc k) ≡ s.inodes + first_inode fss k
 first-cons s fss k = sum_by-cons (λ (n : ℕ). n) s.inodes (map (λ (t : FsSpec). t.inodes) (take k fss))
 
-pub first_next : (fss : List FsSpec) (k : ℕ) → first_inode fss (suc k) ≡ first_inode fss k + inodes_of fss k
+pub first_next : (fss : List FsSpec) (k : ℕ) → first_inode fss (suc k) ≡ first_inode fss k + (fs_at fss k).inodes
 first_next [] zero = refl
 first_next [] (suc k) = refl
 first_next (s ∷ fss) zero = omega (arith, first-cons s fss 0)
 first_next (s ∷ fss) (suc k) = omega (arith, first-cons s fss (suc k), first-cons s fss k, first_next fss k)
 
 -- a file system's numbers come before those of the ones after it
-first_after : (fss : List FsSpec) (j k : ℕ) → j < k → first_inode fss j + inodes_of fss j ≤ first_inode fss k
+first_after : (fss : List FsSpec) (j k : ℕ) → j < k → first_inode fss j + (fs_at fss j).inodes ≤ first_inode fss k
 first_after fss j zero h = absurd (omega arith)
 first_after fss j (suc k) h = elim (cases_lt j k) [
   | inl low ↦ omega (arith, first_after fss j k low, first_next fss k)
   | inr high ↦
       let same : k ≡ j = omega arith in
-      subst (λ (i : ℕ). first_inode fss i + inodes_of fss i ≤ first_inode fss (suc k)) same (omega (arith, first_next fss k))
+      subst (λ (i : ℕ). first_inode fss i + (fs_at fss i).inodes ≤ first_inode fss (suc k)) same (omega (arith, first_next fss k))
 ]
 
 -- a number is of one file system at most
-pub one_fs : (fss : List FsSpec) (j k o : ℕ) → first_inode fss j ≤ o → o < first_inode fss j + inodes_of fss j → first_inode fss k ≤ o → o < first_inode fss k + inodes_of fss k → j ≡ k
+pub one_fs : (fss : List FsSpec) (j k o : ℕ) → first_inode fss j ≤ o → o < first_inode fss j + (fs_at fss j).inodes → first_inode fss k ≤ o → o < first_inode fss k + (fs_at fss k).inodes → j ≡ k
 one_fs fss j k o from_j to_j from_k to_k = elim (cases_order j k) [
   | inl same ↦ same
   | inr apart ↦ elim apart [
@@ -40,7 +40,7 @@ one_fs fss j k o from_j to_j from_k to_k = elim (cases_order j k) [
   ]
 ]
 
-pub first_within : (fss : List FsSpec) (k : ℕ) → first_inode fss k + inodes_of fss k ≤ first_inode fss (length fss)
+pub first_within : (fss : List FsSpec) (k : ℕ) → first_inode fss k + (fs_at fss k).inodes ≤ first_inode fss (length fss)
 first_within [] zero = omega arith
 first_within [] (suc k) = omega arith
 first_within (s ∷ fss) zero = omega (arith, first-cons s fss (length fss))

@@ -3,8 +3,8 @@ use Rattle.std.proofs.Common.{ℕ, Bool, true, false, Option, Some, None}
 use Rattle.ix_label.specs.Category.{Categories}
 use Rattle.ix_model.specs.World.{Frame, Object, at, living}
 use Rattle.ix_model.specs.Outcomes.{Row, Outcome, Refuse, Pass}
-use Rattle.ix_model.specs.Rows.{◌>>=◌, ◌>>◌, on_pass, pass, refuse, need, some, only_if, frame, caller, object, record_of}
-use Rattle.ix_model.specs.Walks.{Sought, there, spot, vacant}
+use Rattle.ix_model.specs.Rows.{◌>>=◌, ◌>>◌, on_pass, pass, refuse, need, some, only_if, frame, process, object, record_of}
+use Rattle.ix_model.specs.Walks.{Sought, found_object, found_spot, vacant}
 use Rattle.ix_model.specs.Auditing.{entitled, log_has_room, exercise}
 use Rattle.ix_model.specs.OnLabels.{allowed, movable}
 use Rattle.ix_model.specs.OnDescriptors.{claimed}
@@ -61,23 +61,23 @@ unfolding only_if pass Holds
 keeps_only_if R true m h = h
 keeps_only_if R false m h = record { led = λ g a. a }
 
-pub keeps_there : (R : Frame → Type 0) (w : Sought) → Keeps R (there w)
-unfolding there pass Holds refuse
+pub keeps_there : (R : Frame → Type 0) (w : Sought) → Keeps R (found_object w)
+unfolding found_object pass Holds refuse
 keeps_there R sought.NotDir = record { led = λ g a. a }
 keeps_there R sought.NotFound = record { led = λ g a. a }
 keeps_there R (sought.Missing d) = record { led = λ g a. a }
 keeps_there R (sought.Found o d) = record { led = λ g a. a }
 
-pub keeps_caller : (R : Frame → Type 0) (pid : ℕ) → Keeps R (caller pid)
-unfolding caller
+pub keeps_caller : (R : Frame → Type 0) (pid : ℕ) → Keeps R (process pid)
+unfolding process
 keeps_caller R pid = record { led = λ g. (keeps_some R (living (at g.processes pid)) _).led g }
 
 pub keeps_object : (R : Frame → Type 0) (o : ℕ) → Keeps R (object o)
 unfolding object
 keeps_object R o = record { led = λ g. (keeps_some R (at g.objects o) _).led g }
 
-pub keeps_spot : (R : Frame → Type 0) (w : Sought) → Keeps R (spot w)
-unfolding spot pass Holds refuse
+pub keeps_spot : (R : Frame → Type 0) (w : Sought) → Keeps R (found_spot w)
+unfolding found_spot pass Holds refuse
 keeps_spot R sought.NotDir = record { led = λ g a. a }
 keeps_spot R sought.NotFound = record { led = λ g a. a }
 keeps_spot R (sought.Missing d) = record { led = λ g a. a }

@@ -4,12 +4,12 @@ use Rattle.std.specs.List.{list_all}
 use Rattle.ix_label.specs.Category.{Categories}
 use Rattle.ix_model.specs.World.{Frame, Object, Process, Open, at, put, change, lives, is_ended}
 use Rattle.ix_model.specs.Outcomes.{Outcome, Refuse, Pass}
-use Rattle.ix_model.specs.Rows.{put_open, put_object, change_object, change_process}
+use Rattle.ix_model.specs.Rows.{put_open, put_object, change_object, change_process, change_open}
 use Rattle.ix_model.specs.Auditing.{logged}
 use Rattle.ix_model.specs.Refusals.{keeps_label}
 use Rattle.ix_model.specs.OnDescriptors.{Told}
-use Rattle.ix_model.specs.Table.{Decision, row, settled, decide}
-use Rattle.ix_model.specs.History.{Op}
+use Rattle.ix_model.specs.Table.{Decision, row, settled, verdict}
+use Rattle.ix_model.specs.Events.{Op}
 use Rattle.ix_model.specs.declared.audit.AuditLine.{AuditLine}
 use Rattle.ix_model.specs.declared.reply.Reply.{Reply}
 use Rattle.ix_model.specs.declared.reply.Reply.TheVariants as reply
@@ -65,6 +65,10 @@ module _ (f : Frame) where
   unfolding change_process Holds
   lasts_processes p h same = record { led = λ g r. record { objects = r.objects; opens = r.opens; processes = ended_change _ _ p h same r.processes } }
 
+  lasts_opens : (e : ℕ) (h : Open → Open) → Keeps (Lasts f) (change_open e h)
+  unfolding change_open Holds
+  lasts_opens e h = record { led = λ g r. record { objects = r.objects; opens = lasting_change _ _ e h r.opens; processes = r.processes } }
+
   lasts_put_object : (o : ℕ) (x : Object) → Keeps (Lasts f) (put_object o (Some x))
   unfolding put_object Holds
   lasts_put_object o x = record { led = λ g r. record { objects = lasting_put _ _ o x r.objects; opens = r.opens; processes = r.processes } }
@@ -94,6 +98,7 @@ lasting_words pid f = record {
   process = λ p h same. lasts_processes f p h (λ q. ap (λ r. r.ended) (same q));
   float = λ h same. lasts_processes f pid h (λ q. ap (λ r. r.ended) (same q));
   entry = lasts_put_open f;
+  through = λ e l. lasts_opens f e _;
   unclaim = λ o end. lasts_objects f o _;
   relabel = λ can o h same. lasts_objects f o h;
   claim = λ can o h same. lasts_objects f o h;
@@ -118,8 +123,8 @@ settled_keeps R f (Refuse r g) rf h = kept_or_not R (keeps_label r) f g rf h
 settled_keeps R f (Pass a g) rf h = h
 
 -- what a row keeps, its decision keeps
-pub decided : (R : Frame → Type 0) (t : Told) (place pid : ℕ) (c : Op) (f : Frame) → R f → Holds (row t place pid c f) R → R (decide t place pid c f).frame
-unfolding decide
+pub decided : (R : Frame → Type 0) (t : Told) (place pid : ℕ) (c : Op) (f : Frame) → R f → Holds (row t place pid c f) R → R (verdict t place pid c f).frame
+unfolding verdict
 decided R t place pid c f rf h = go (lives f pid)
   where
     unknown : Decision
@@ -129,7 +134,7 @@ decided R t place pid c f rf h = go (lives f pid)
     go true = settled_keeps R f (row t place pid c f) rf h
     go false = rf
 
-pub lasts_decided : (t : Told) (place pid : ℕ) (c : Op) (f : Frame) → lets_nothing_go c ≡ true → Lasts f (decide t place pid c f).frame
+pub lasts_decided : (t : Told) (place pid : ℕ) (c : Op) (f : Frame) → lets_nothing_go c ≡ true → Lasts f (verdict t place pid c f).frame
 lasts_decided t place pid c f stays = decided (Lasts f) t place pid c f (lasts_itself f) ((kept_row lets_stay pid (Lasts f) (lasting_words pid f) t place c stays).led f (lasts_itself f))
 
 -- a frame in which the caller's label alone has changed

@@ -6,7 +6,7 @@ use Rattle.std.proofs.lemmas.List.{length-replicate, length-take, length-drop}
 use Rattle.ix_model.specs.World.{Frame, Content, Object, Holding, at, is_pipe}
 use Rattle.ix_model.specs.Walks.{Behind}
 use Rattle.ix_model.specs.Contents.{holding_of, offset_of, holds_nothing, side, with_side, on_pipe, readable, after_read, after_write, after_cut, after_seek, emptied, grown, cut_to, spliced}
-use Rattle.ix_model.specs.Telling.{blocks_for, blocks_where, blocks_on, blocks_beside, lies_on, fs_at, length_then, told_of_pipe_write, told_of_file_write, told_of_write}
+use Rattle.ix_model.specs.Telling.{blocks_for, blocks_where, blocks_on, blocks_beside, lies_on, fs_of_object, length_then, told_of_pipe_write, told_of_file_write, told_of_write}
 use Rattle.ix_model.specs.OnDescriptors.{Told}
 use Rattle.ix_model.specs.Sound.{WithinLimits, LengthsSound}
 use Rattle.ix_model.proofs.Tables.{none_is}
@@ -171,7 +171,7 @@ module _ (f : Frame) (c : Content) (l : LengthsSound (record { frame = f; conten
         ap (plain (side e.entry.end h)) (s.at_end other) ∙ length-spliced (offset_of c e.id) new (side e.entry.end h)
 
     -- a file's holding with other bytes, for which there is room
-    blocks_filed : (h : Holding) (n : ℕ) → length h.first ≡ n → blocks_beside f c e.entry.object + blocks_for n ≤ blocks_on f (fs_at f e.entry.object) → (k : ℕ) → blocks_where (lies_on f (Some k)) 0 (set c.holdings e.entry.object h) ≤ blocks_on f (Some k)
+    blocks_filed : (h : Holding) (n : ℕ) → length h.first ≡ n → blocks_beside f c e.entry.object + blocks_for n ≤ blocks_on f (fs_of_object f e.entry.object) → (k : ℕ) → blocks_where (lies_on f (Some k)) 0 (set c.holdings e.entry.object h) ≤ blocks_on f (Some k)
     blocks_filed h n long room k = go (lies_on f (Some k) e.entry.object) refl
       where
         go : (b : Bool) → lies_on f (Some k) e.entry.object ≡ b → blocks_where (lies_on f (Some k)) 0 (set c.holdings e.entry.object h) ≤ blocks_on f (Some k)
@@ -179,21 +179,21 @@ module _ (f : Frame) (c : Content) (l : LengthsSound (record { frame = f; conten
             let skip = blocks_skip (lies_on f (Some k)) 0 c.holdings e.entry.object h (ap (lies_on f (Some k)) (omega arith) ∙ off) in
             omega (arith, l.blocks k)
         go true on =
-            let fs : fs_at f e.entry.object ≡ Some k = on_fs f k e.entry.object on in
+            let fs : fs_of_object f e.entry.object ≡ Some k = on_fs f k e.entry.object on in
             let known : blocks_where (λ m. not (m == e.entry.object) && lies_on f (Some k) m) 0 c.holdings + blocks_for n ≤ blocks_on f (Some k) =
             subst (λ (t : Option ℕ). blocks_where (λ m. not (m == e.entry.object) && lies_on f t m) 0 c.holdings + blocks_for n ≤ blocks_on f t) fs room in
             let same : blocks_for (length h.first) ≡ blocks_for n = ap blocks_for long in
             let more = blocks_edit (lies_on f (Some k)) (λ m. not (m == e.entry.object) && lies_on f (Some k) m) 0 c.holdings e.entry.object h (λ m apart. ap (λ b. not b && lies_on f (Some k) m) (ne_eqb m e.entry.object (λ h. apart (omega arith)))) in
             omega arith
 
-    file_filed : (h : Holding) (n : ℕ) → length h.first ≡ n → is_pipe s.object ≡ false → n ≤ 1048576 → blocks_beside f c e.entry.object + blocks_for n ≤ blocks_on f (fs_at f e.entry.object) → LengthsSound (record { frame = f; content = record c { holdings = set c.holdings e.entry.object h } })
+    file_filed : (h : Holding) (n : ℕ) → length h.first ≡ n → is_pipe s.object ≡ false → n ≤ 1048576 → blocks_beside f c e.entry.object + blocks_for n ≤ blocks_on f (fs_of_object f e.entry.object) → LengthsSound (record { frame = f; content = record c { holdings = set c.holdings e.entry.object h } })
     file_filed h n long other low room = holding_edited e.entry.object h s.object s.is_object (λ k. subst (λ (m : ℕ). m ≤ 1048576) (sym long) low) (λ yes. absurd (true≢false (sym yes ∙ other))) (blocks_filed h n long room)
 
-    file_written : (new : List ℕ) → is_pipe s.object ≡ false → offset_of c e.id + length new ≤ 1048576 → blocks_beside f c e.entry.object + blocks_for (length_then (offset_of c e.id) (length new) (length (side e.entry.end (holding_of c e.entry.object)))) ≤ blocks_on f (fs_at f e.entry.object) → LengthsSound (record { frame = f; content = record c { holdings = set c.holdings e.entry.object (written new) } })
+    file_written : (new : List ℕ) → is_pipe s.object ≡ false → offset_of c e.id + length new ≤ 1048576 → blocks_beside f c e.entry.object + blocks_for (length_then (offset_of c e.id) (length new) (length (side e.entry.end (holding_of c e.entry.object)))) ≤ blocks_on f (fs_of_object f e.entry.object) → LengthsSound (record { frame = f; content = record c { holdings = set c.holdings e.entry.object (written new) } })
     file_written new other low room = file_filed (written new) _ (length-written new other) other (then_within 1048576 (offset_of c e.id) (length new) _ low (file_low other)) room
 
     -- ---- a cut
-    pub lengths_cut : (len : ℕ) → is_pipe s.object ≡ false → len ≤ 1048576 → blocks_beside f c e.entry.object + blocks_for len ≤ blocks_on f (fs_at f e.entry.object) → LengthsSound (record { frame = f; content = after_cut e len c })
+    pub lengths_cut : (len : ℕ) → is_pipe s.object ≡ false → len ≤ 1048576 → blocks_beside f c e.entry.object + blocks_for len ≤ blocks_on f (fs_of_object f e.entry.object) → LengthsSound (record { frame = f; content = after_cut e len c })
     unfolding after_cut
     lengths_cut len other low room =
         let h : Holding = holding_of c e.entry.object in
@@ -223,7 +223,7 @@ lengths_write f c l e s within new small room space = go (on_pipe f e) (sym (on_
     go false other small room space =
         let parts = or_parts (nat_lt 4096 (length new)) (nat_lt 1048576 (offset_of c e.id + length new)) (not-true _ small) in
         let low : offset_of c e.id + length new ≤ 1048576 = ltb-false 1048576 _ parts.1 in
-        let k : Option ℕ = fs_at f e.entry.object in
+        let k : Option ℕ = fs_of_object f e.entry.object in
         let sum : ℕ = blocks_where (λ m. not (m == e.entry.object) && lies_on f k m) 0 c.holdings + blocks_for (length_then (offset_of c e.id) (length new) (length (side e.entry.end (holding_of c e.entry.object)))) in
         let enough : nat_lt (blocks_on f k) sum ≡ false = ap (λ b. not b && nat_lt (blocks_on f k) sum) (sym (not-true _ small)) ∙ not-true _ space in
         let one = file_written f c l e s within new other low (ltb-false (blocks_on f k) sum enough) in

@@ -9,11 +9,11 @@ use Rattle.std.proofs.lemmas.List.{take-append-drop, drop_all}
 use Rattle.std.proofs.lemmas.List.Folds.{list_any-append}
 use Rattle.std.proofs.lemmas.Iterator.Adapters.{position_from-zero}
 use Rattle.ix_label.specs.Category.{leq}
+use Rattle.ix_model.specs.World.{fs_at}
 use Rattle.ix_model.specs.Naming.{same_bytes, same_names, last_name}
 use Rattle.ix_model.specs.Privs.{is_empty}
 use Rattle.ix_model.specs.Telling.{blocks_for}
-use Rattle.ix_model.specs.Numbers.{inodes_of}
-use Rattle.ix_model.specs.Valid.{fs_of, fs_ceiling, blocks_of, is_mount, is_well_formed, is_there, is_dir_there, lying_on, blocks_taken, has_room, object_fits}
+use Rattle.ix_model.specs.Valid.{fs_of, is_mount, is_well_formed, is_taken, has_directory, lying_on, blocks_taken, has_room, object_fits}
 use Rattle.ix_model.specs.declared.config.FsSpec.{FsSpec}
 use Rattle.ix_model.specs.declared.config.Limits.{Limits}
 use Rattle.ix_model.specs.declared.config.ObjSpec.{ObjSpec}
@@ -27,12 +27,12 @@ parent_of names = take (length names - 1) names
 pub record Line (fss : List FsSpec) (l : Limits) (before : List ObjSpec) (b : ObjSpec) : Type 0 where
   pub is_path : b.path.names ≡ parent_of b.path.names ++ last_name b.path.names ∷ []
   pub short : length b.bytes ≤ 1048576
-  pub low : leq b.label (fs_ceiling fss (fs_of fss b.path.names)) ≡ true
-  pub new : is_there fss before b.path.names ≡ false
-  pub dir : is_dir_there fss before (parent_of b.path.names) ≡ true
+  pub low : leq b.label (fs_at fss (fs_of fss b.path.names)).ceiling ≡ true
+  pub new : is_taken fss before b.path.names ≡ false
+  pub dir : has_directory fss before (parent_of b.path.names) ≡ true
   pub names : length fss + length before ≤ l.names
-  pub inodes : length (lying_on fss (fs_of fss b.path.names) before) + 2 ≤ inodes_of fss (fs_of fss b.path.names)
-  pub blocks : blocks_taken fss (fs_of fss b.path.names) before + blocks_for (length b.bytes) ≤ blocks_of fss (fs_of fss b.path.names)
+  pub inodes : length (lying_on fss (fs_of fss b.path.names) before) + 2 ≤ (fs_at fss (fs_of fss b.path.names)).inodes
+  pub blocks : blocks_taken fss (fs_of fss b.path.names) before + blocks_for (length b.bytes) ≤ (fs_at fss (fs_of fss b.path.names)).blocks
 
 split_last : (names : List (List ℕ)) → 1 ≤ length names → names ≡ parent_of names ++ last_name names ∷ []
 split_last names some =
@@ -45,9 +45,9 @@ unfolding object_fits
 line_is fss l before b fits =
     let names : List (List ℕ) = b.path.names in
     let k : ℕ = fs_of fss names in
-    let low : Bool = leq b.label (fs_ceiling fss k) in
-    let new : Bool = not (is_there fss before names) in
-    let dir : Bool = is_dir_there fss before (parent_of names) in
+    let low : Bool = leq b.label (fs_at fss k).ceiling in
+    let new : Bool = not (is_taken fss before names) in
+    let dir : Bool = has_directory fss before (parent_of names) in
     let p1 = and_parts (is_well_formed b && low && new && dir) (has_room fss l before b) fits in
     let p2 = and_parts (is_well_formed b && low && new) dir p1.0 in
     let p3 = and_parts (is_well_formed b && low) new p2.0 in
@@ -55,8 +55,8 @@ line_is fss l before b fits =
     let w1 = and_parts (b.path.absolute && nat_le 1 (length names) && nat_le (length b.bytes) 1048576) (not b.dir || (is_empty b.cap && is_empty b.lic && length b.bytes == 0)) p4.0 in
     let w2 = and_parts (b.path.absolute && nat_le 1 (length names)) (nat_le (length b.bytes) 1048576) w1.0 in
     let w3 = and_parts b.path.absolute (nat_le 1 (length names)) w2.0 in
-    let inodes : Bool = nat_le (length (lying_on fss k before) + 2) (inodes_of fss k) in
-    let blocks : Bool = nat_le (blocks_taken fss k before + blocks_for (length b.bytes)) (blocks_of fss k) in
+    let inodes : Bool = nat_le (length (lying_on fss k before) + 2) (fs_at fss k).inodes in
+    let blocks : Bool = nat_le (blocks_taken fss k before + blocks_for (length b.bytes)) (fs_at fss k).blocks in
     let r1 = and_parts (nat_le (length fss + length before) l.names && inodes) blocks p1.1 in
     let r2 = and_parts (nat_le (length fss + length before) l.names) inodes r1.0 in
     record {
@@ -87,17 +87,17 @@ there_more : (p : ObjSpec → Bool) (before : List ObjSpec) (b : ObjSpec) → li
 there_more p before b = list_any-append p before (b ∷ []) ∙ ap (λ x. list_any p before || x) (or-false (p b))
 
 -- what was there is there, and the new object is
-pub still_there : (fss : List FsSpec) (before : List ObjSpec) (b : ObjSpec) (names : List (List ℕ)) → is_there fss before names ≡ true → is_there fss (before ++ b ∷ []) names ≡ true
+pub still_there : (fss : List FsSpec) (before : List ObjSpec) (b : ObjSpec) (names : List (List ℕ)) → is_taken fss before names ≡ true → is_taken fss (before ++ b ∷ []) names ≡ true
 still_there fss before b names h = elim (or_cases (is_mount fss names) (list_any (λ c. same_names c.path.names names) before) h) [
   | inl mount ↦ or_left _ _ mount
   | inr made ↦ or_right (is_mount fss names) _ (there_more (λ c. same_names c.path.names names) before b ∙ or_left _ _ made)
 ]
 
-pub now_there : (fss : List FsSpec) (before : List ObjSpec) (b : ObjSpec) → is_there fss (before ++ b ∷ []) b.path.names ≡ true
+pub now_there : (fss : List FsSpec) (before : List ObjSpec) (b : ObjSpec) → is_taken fss (before ++ b ∷ []) b.path.names ≡ true
 now_there fss before b = or_right (is_mount fss b.path.names) _ (there_more (λ c. same_names c.path.names b.path.names) before b ∙ or_right (list_any (λ c. same_names c.path.names b.path.names) before) _ (names_itself b.path.names))
 
 -- a directory is one that was there, or the new object
-pub dir_there : (fss : List FsSpec) (before : List ObjSpec) (b : ObjSpec) (names : List (List ℕ)) → is_dir_there fss (before ++ b ∷ []) names ≡ true → (is_dir_there fss before names ≡ true) ⊎ ((b.dir ≡ true) × (b.path.names ≡ names))
+pub dir_there : (fss : List FsSpec) (before : List ObjSpec) (b : ObjSpec) (names : List (List ℕ)) → has_directory fss (before ++ b ∷ []) names ≡ true → (has_directory fss before names ≡ true) ⊎ ((b.dir ≡ true) × (b.path.names ≡ names))
 dir_there fss before b names h = elim (or_cases (same_names [] names || is_mount fss names) (list_any (λ c. c.dir && same_names c.path.names names) (before ++ b ∷ [])) h) [
   | inl root ↦ inl (or_left _ _ root)
   | inr made ↦ elim (or_cases (list_any (λ c. c.dir && same_names c.path.names names) before) (b.dir && same_names b.path.names names) (sym (there_more (λ c. c.dir && same_names c.path.names names) before b) ∙ made)) [

@@ -2,14 +2,14 @@
 use Rattle.std.proofs.Common.{◌≡◌, ℕ, Bool, true, false, true≢false, not, nat_lt, [], ◌∷◌, ◌++◌, Some, length, length-append, refl, sym, ap, ◌∙◌, subst, arith, inl, inr}
 use Rattle.std.specs.Option.{option_map_or}
 use Rattle.std.proofs.lemmas.Bool.{ltb-true, not-false}
-use Rattle.ix_label.specs.Category.{Categories, leq, same}
+use Rattle.ix_label.specs.Category.{Categories, leq, same, bottom}
 use Rattle.ix_label.specs.Lattice.{same-decides}
 use Rattle.ix_model.specs.Naming.{PathOf}
 use Rattle.ix_model.specs.Privs.{to_lower}
 use Rattle.ix_model.specs.World.{Frame, Object, Process, at, change, living, is_dir, ceiling_of}
 use Rattle.ix_model.specs.Outcomes.{Row, Outcome, Refuse, Pass}
 use Rattle.ix_model.specs.Rows.{◌>>◌, pass, need, change_process, only_if, affect}
-use Rattle.ix_model.specs.Auditing.{entitled, log_has_room, exercise, logged, relabelling}
+use Rattle.ix_model.specs.Auditing.{entitled, log_has_room, exercise, logged, audit_line}
 use Rattle.ix_model.specs.OnPaths.{change_dir}
 use Rattle.ix_model.specs.OnLabels.{allowed, movable, set_label, set_self, thaw, thaw_self, set_priv, grant_lic, needs_to_set_ceilings, set_ceiling, read_log}
 use Rattle.ix_model.specs.declared.audit.Act.TheVariants as act
@@ -129,9 +129,9 @@ module _ (f : Frame) where
   set_self_ends place pid now g s =
       ends_bind _ _ g Refused Passed (ends_caller pid g Refused _ (λ p lives.
       let low_again : not (same p.label now) ≡ false → leq now p.ceiling ≡ true = λ no. subst (λ (l : Categories). leq l p.ceiling ≡ true) ((same-decides p.label now).0 (not-false _ no)) (s.sound.labels.processes pid p (is_living _ p lives)) in
-      let last : (not (leq p.label now) ≡ true → HasRoom g) → leq now p.ceiling ≡ true → Ends (◌>>◌ (change_process pid (λ q. record q { label = now })) (◌>>◌ (only_if (not (leq p.label now)) (logged (relabelling place pid act.DownSelf pid p.label now))) (pass reply.Done)) g) Refused Passed =
+      let last : (not (leq p.label now) ≡ true → HasRoom g) → leq now p.ceiling ≡ true → Ends (◌>>◌ (change_process pid (λ q. record q { label = now })) (◌>>◌ (only_if (not (leq p.label now)) (logged (audit_line place pid act.DownSelf pid p.label now))) (pass reply.Done)) g) Refused Passed =
       λ room low. ends_then _ _ g Refused Passed (ends_change_caller pid _ g Refused _ (ends_logged_if _ _ _ room (process_labelled g pid p now lives low s) _)) in
-      let second : (not (leq p.label now) ≡ true → HasRoom g) → Ends (◌>>◌ (only_if (not (same p.label now)) (◌>>◌ (need (not p.frozen) refusal.ProcFrozen) (need (leq now p.ceiling) refusal.ProcCeiling))) (◌>>◌ (change_process pid (λ q. record q { label = now })) (◌>>◌ (only_if (not (leq p.label now)) (logged (relabelling place pid act.DownSelf pid p.label now))) (pass reply.Done))) g) Refused Passed =
+      let second : (not (leq p.label now) ≡ true → HasRoom g) → Ends (◌>>◌ (only_if (not (same p.label now)) (◌>>◌ (need (not p.frozen) refusal.ProcFrozen) (need (leq now p.ceiling) refusal.ProcCeiling))) (◌>>◌ (change_process pid (λ q. record q { label = now })) (◌>>◌ (only_if (not (leq p.label now)) (logged (audit_line place pid act.DownSelf pid p.label now))) (pass reply.Done))) g) Refused Passed =
       λ room. ends_then _ _ g Refused Passed (ends_only_if _ _ g Refused _
       (λ other. ends_then _ _ g Refused _ (ends_need _ _ g Refused _ (λ free. ends_need _ _ g Refused _ (λ low. last room low) s) s))
       (λ no. last room (low_again no))) in
@@ -179,7 +179,7 @@ module _ (f : Frame) where
   set_ceiling_ends place pid target now g s =
       ends_bind _ _ g Refused Passed (ends_caller target g Refused _ (λ p lives.
       ends_then _ _ g Refused Passed (ends_need _ _ g Refused _ (λ low.
-      let last : (needs_to_set_ceilings pid target p now ≡ true → HasRoom g) → Ends (◌>>◌ (change_process target (λ q. record q { ceiling = now })) (◌>>◌ (only_if (needs_to_set_ceilings pid target p now) (logged (relabelling place pid act.Ceiling target p.ceiling now))) (pass reply.Done)) g) Refused Passed =
+      let last : (needs_to_set_ceilings pid target p now ≡ true → HasRoom g) → Ends (◌>>◌ (change_process target (λ q. record q { ceiling = now })) (◌>>◌ (only_if (needs_to_set_ceilings pid target p now) (logged (audit_line place pid act.Ceiling target p.ceiling now))) (pass reply.Done)) g) Refused Passed =
       λ room. ends_then _ _ g Refused Passed (ends_change_caller target _ g Refused _ (ends_logged_if _ _ _ room (process_bounded g target p now lives low s) _)) in
       ends_then _ _ g Refused Passed (ends_only_if _ _ g Refused _
       (λ yes. room_exercise pid _ g Refused _ (λ room. last (λ again. room)) (λ why. s))
@@ -196,8 +196,8 @@ module _ (f : Frame) where
       (λ why. s))) s)))))
 
   -- ---- privileges of files
-  room_affect : (pid o : ℕ) → Keeps HasRoom (affect pid o)
-  room_affect pid o = record { led = λ g room. kept_ends HasRoom _ (ends_affect pid o g (λ r h. HasRoom h) (λ u h. HasRoom h) (λ why. room) room (λ l x is low. room)) }
+  room_affect : (pid o : ℕ) (through : Categories) → Keeps HasRoom (affect pid o through)
+  room_affect pid o through = record { led = λ g room. kept_ends HasRoom _ (ends_affect pid o through g (λ r h. HasRoom h) (λ u h. HasRoom h) (λ why. room) room (λ l x is low. room)) }
 
   pub set_priv_ends : (place pid : ℕ) (path : PathOf) (cap lic : PrivSet) (g : Frame) → Follows f g → Ends (set_priv place pid path cap lic g) Refused Passed
   unfolding set_priv
@@ -207,7 +207,7 @@ module _ (f : Frame) where
       ends_then _ _ m Refused Passed (ends_need _ _ m Refused _ (λ no_dir.
       ends_then _ _ m Refused Passed (room_exercise pid _ m Refused _ (λ room.
       ends_bind _ _ m Refused Passed (ends_caller pid m Refused _ (λ p lives.
-      ends_then _ _ m Refused Passed (ends_kept (λ h. Follows f h × HasRoom h) _ Refused _ (holds_both _ _ _ ((follows_affect f pid o).led m r) ((room_affect pid o).led m room)) (λ why h k. k.0) (λ u h k.
+      ends_then _ _ m Refused Passed (ends_kept (λ h. Follows f h × HasRoom h) _ Refused _ (holds_both _ _ _ ((follows_affect f pid o bottom).led m r) ((room_affect pid o bottom).led m room)) (λ why h k. k.0) (λ u h k.
       ends_then _ _ h Refused Passed (ends_change_object o _ h Refused _ (
       ends_logged_last _ _ k.1 (followed_object f h o _ (λ y. refl) (λ y. refl) (λ y here. k.0.sound.labels.objects o y here) k.0) _))))) r))
       (λ why. r))) r)) r)))

@@ -2,26 +2,26 @@
 use Rattle.std.proofs.Common.{◌≡◌, ℕ, suc, Bool, true, false, not, ◌&&◌, List, [], ◌∷◌, ◌++◌, Option, Some, refl, sym, ap, ◌∙◌, if◌then◌else◌, append-nil, append_assoc, option_map}
 use Rattle.std.specs.Option.{option_map_or}
 use Rattle.std.specs.List.{list_all}
-use Rattle.ix_label.specs.Category.{Categories, join, leq, same}
-use Rattle.ix_label.specs.Lattice.{same-decides}
+use Rattle.ix_label.specs.Category.{Categories, join, leq, same, bottom}
+use Rattle.ix_label.specs.Lattice.{same-decides, join-bottom_right}
 use Rattle.ix_model.specs.Naming.{PathOf}
 use Rattle.ix_model.specs.Privs.{either_of}
 use Rattle.ix_model.specs.Refusals.{keeps_label}
 use Rattle.ix_model.specs.World.{World, Frame, Object, Process, at, change, living, lives}
 use Rattle.ix_model.specs.Outcomes.{Outcome, Refuse, Pass}
-use Rattle.ix_model.specs.Rows.{change_object, change_process, put_object, put_open, put_process, add_process, affect}
-use Rattle.ix_model.specs.Walks.{Sought, walk, join_all, walked_to, found}
+use Rattle.ix_model.specs.Rows.{change_object, change_process, put_object, put_open, put_process, add_process, affect, change_open}
+use Rattle.ix_model.specs.Walks.{Sought, walk, join_all, walked_to, object_at}
 use Rattle.ix_model.specs.Walks as sought
-use Rattle.ix_model.specs.Auditing.{relabelling}
+use Rattle.ix_model.specs.Auditing.{audit_line}
 use Rattle.ix_model.specs.OnDescriptors.{Told}
 use Rattle.ix_model.specs.OnProcesses.{end_process}
 use Rattle.ix_model.specs.OnLabels.{needs_to_set_ceilings, set_label, set_self, thaw, thaw_self, set_priv, grant_lic, set_ceiling, read_log}
-use Rattle.ix_model.specs.Table.{Decision, row, settled, decide}
+use Rattle.ix_model.specs.Table.{Decision, row, settled, verdict}
 use Rattle.ix_model.specs.Telling.{told}
 use Rattle.ix_model.specs.Step.{plainly, answer, step, step_of, run}
 use Rattle.ix_model.specs.AuditLog.{object_of_path, label_at, of_process, exercises, is_answer, is_licensed, line_on_object, line_on_process, line_of_act, lines_added, audit_log}
-use Rattle.ix_model.specs.History.{Op, Event}
-use Rattle.ix_model.specs.History as op
+use Rattle.ix_model.specs.Events.{Op, Event}
+use Rattle.ix_model.specs.Events as op
 use Rattle.ix_model.specs.declared.privs.PrivSet.{PrivSet}
 use Rattle.ix_model.specs.declared.audit.Act.{Act}
 use Rattle.ix_model.specs.declared.audit.Act.TheVariants as act
@@ -66,8 +66,8 @@ is_target : (f : Frame) (pid o : ℕ) (path : PathOf) (p : Process) (dir : Optio
 unfolding object_of_path
 is_target f pid o path p dir lives ends = rw (lives, ends) refl
 
-ends_sight : (pid : ℕ) (path : PathOf) (f : Frame) (Q : ℕ → Frame → Type 0) → ((o : ℕ) (g : Frame) → Sight pid path f o g → Q o g) → Ends (found pid path f) Anything Q
-unfolding found walked_to
+ends_sight : (pid : ℕ) (path : PathOf) (f : Frame) (Q : ℕ → Frame → Type 0) → ((o : ℕ) (g : Frame) → Sight pid path f o g → Q o g) → Ends (object_at pid path f) Anything Q
+unfolding object_at walked_to
 ends_sight pid path f Q h =
     ends_bind _ _ f Anything Q (ends_bind _ _ f Anything _ (ends_caller pid f Anything _ (λ p lives.
     ends_bind _ _ f Anything _ (ends_frame f Anything _ (ends_then _ _ f Anything _ (
@@ -85,7 +85,7 @@ at_target f g pid o path x sight is =
     rw (sight.target, here) refl
 
 -- the line of an act on the object of a path
-object_line : (f m g : Frame) (place pid o : ℕ) (path : PathOf) (a : Act) (x y : Object) → Sight pid path f o m → at m.objects o ≡ Some x → at g.objects o ≡ Some y → line_on_object f g place pid path a ≡ relabelling place pid a o x.label y.label
+object_line : (f m g : Frame) (place pid o : ℕ) (path : PathOf) (a : Act) (x y : Object) → Sight pid path f o m → at m.objects o ≡ Some x → at g.objects o ≡ Some y → line_on_object f g place pid path a ≡ audit_line place pid a o x.label y.label
 unfolding label_at
 object_line f m g place pid o path a x y sight is after =
     let same : m.objects ≡ f.objects = ap (λ (h : Frame). h.objects) sight.relabelled.is in
@@ -93,7 +93,7 @@ object_line f m g place pid o path a x y sight is after =
     rw (sight.target, here, after) refl
 
 -- and of one on a process
-process_line : (get : Process → Categories) (f g : Frame) (place pid target : ℕ) (a : Act) (q r : Process) → at f.processes target ≡ Some q → at g.processes target ≡ Some r → line_on_process get f g place pid target a ≡ relabelling place pid a target (get q) (get r)
+process_line : (get : Process → Categories) (f g : Frame) (place pid target : ℕ) (a : Act) (q r : Process) → at f.processes target ≡ Some q → at g.processes target ≡ Some r → line_on_process get f g place pid target a ≡ audit_line place pid a target (get q) (get r)
 unfolding of_process
 process_line get f g place pid target a q r was is = rw (was, is) refl
 
@@ -110,13 +110,13 @@ not_not false = refl
 
 module _ (f : Frame) (place pid : ℕ) where
   -- SetLabel
-  label_line : (m g : Frame) (o : ℕ) (path : PathOf) (now : Categories) (x : Object) → Sight pid path f o m → at m.objects o ≡ Some x → not (leq x.label now) ≡ true → g.objects ≡ change m.objects o (λ y. record y { label = now }) → g.log ≡ m.log ++ relabelling place pid act.DownFile o x.label now ∷ [] → LogAfter f place pid (op.SetLabel path now) g
+  label_line : (m g : Frame) (o : ℕ) (path : PathOf) (now : Categories) (x : Object) → Sight pid path f o m → at m.objects o ≡ Some x → not (leq x.label now) ≡ true → g.objects ≡ change m.objects o (λ y. record y { label = now }) → g.log ≡ m.log ++ audit_line place pid act.DownFile o x.label now ∷ [] → LogAfter f place pid (op.SetLabel path now) g
   unfolding exercises line_of_act
   label_line m g o path now x sight is lowers objects log =
       line_added f g place pid (op.SetLabel path now) _
       (ap (λ l. not (leq l now)) (at_target f m pid o path x sight is) ∙ lowers)
       (ap Some (object_line f m g place pid o path act.DownFile x (record x { label = now }) sight is (changed m.objects g.objects o (λ y. record y { label = now }) x objects is)))
-      (log ∙ ap (λ t. t ++ relabelling place pid act.DownFile o x.label now ∷ []) (same_log pid path f m o sight))
+      (log ∙ ap (λ t. t ++ audit_line place pid act.DownFile o x.label now ∷ []) (same_log pid path f m o sight))
 
   label_quiet : (m g : Frame) (o : ℕ) (path : PathOf) (now : Categories) (x : Object) → Sight pid path f o m → at m.objects o ≡ Some x → not (leq x.label now) ≡ false → g.log ≡ m.log → LogAfter f place pid (op.SetLabel path now) g
   unfolding exercises
@@ -127,7 +127,7 @@ module _ (f : Frame) (place pid : ℕ) where
   label_logs path now = search (endings, ends_sight, label_line, label_quiet) depth 80 fits 16000
 
   -- SetSelf
-  self_line : (g : Frame) (now : Categories) (p : Process) → living (at f.processes pid) ≡ Some p → not (leq p.label now) ≡ true → g.processes ≡ change f.processes pid (λ q. record q { label = now }) → g.log ≡ f.log ++ relabelling place pid act.DownSelf pid p.label now ∷ [] → LogAfter f place pid (op.SetSelf now) g
+  self_line : (g : Frame) (now : Categories) (p : Process) → living (at f.processes pid) ≡ Some p → not (leq p.label now) ≡ true → g.processes ≡ change f.processes pid (λ q. record q { label = now }) → g.log ≡ f.log ++ audit_line place pid act.DownSelf pid p.label now ∷ [] → LogAfter f place pid (op.SetSelf now) g
   unfolding exercises line_of_act of_process
   self_line g now p lives lowers processes log =
       let is : at f.processes pid ≡ Some p = is_living (at f.processes pid) p lives in
@@ -143,19 +143,19 @@ module _ (f : Frame) (place pid : ℕ) where
   self_logs now = search (endings, self_line, self_quiet) depth 80 fits 16000
 
   -- Thaw
-  thaw_line : (m g : Frame) (o : ℕ) (path : PathOf) (x : Object) → Sight pid path f o m → at m.objects o ≡ Some x → g.objects ≡ change m.objects o (λ y. record y { frozen = false }) → g.log ≡ m.log ++ relabelling place pid act.ThawFile o x.label x.label ∷ [] → LogAfter f place pid (op.Thaw path) g
+  thaw_line : (m g : Frame) (o : ℕ) (path : PathOf) (x : Object) → Sight pid path f o m → at m.objects o ≡ Some x → g.objects ≡ change m.objects o (λ y. record y { frozen = false }) → g.log ≡ m.log ++ audit_line place pid act.ThawFile o x.label x.label ∷ [] → LogAfter f place pid (op.Thaw path) g
   unfolding exercises line_of_act
   thaw_line m g o path x sight is objects log =
       line_added f g place pid (op.Thaw path) _ refl
       (ap Some (object_line f m g place pid o path act.ThawFile x (record x { frozen = false }) sight is (changed m.objects g.objects o (λ y. record y { frozen = false }) x objects is)))
-      (log ∙ ap (λ t. t ++ relabelling place pid act.ThawFile o x.label x.label ∷ []) (same_log pid path f m o sight))
+      (log ∙ ap (λ t. t ++ audit_line place pid act.ThawFile o x.label x.label ∷ []) (same_log pid path f m o sight))
 
   thaw_logs : (path : PathOf) → Ends (thaw place pid path f) Anything (λ a g. LogAfter f place pid (op.Thaw path) g)
   unfolding thaw
   thaw_logs path = search (endings, ends_sight, thaw_line) depth 80 fits 16000
 
   -- ThawSelf
-  thaw_self_line : (g : Frame) (p : Process) → living (at f.processes pid) ≡ Some p → g.processes ≡ change f.processes pid (λ q. record q { frozen = false }) → g.log ≡ f.log ++ relabelling place pid act.ThawSelf pid p.label p.label ∷ [] → LogAfter f place pid op.ThawSelf g
+  thaw_self_line : (g : Frame) (p : Process) → living (at f.processes pid) ≡ Some p → g.processes ≡ change f.processes pid (λ q. record q { frozen = false }) → g.log ≡ f.log ++ audit_line place pid act.ThawSelf pid p.label p.label ∷ [] → LogAfter f place pid op.ThawSelf g
   unfolding exercises line_of_act
   thaw_self_line g p lives processes log =
       let is : at f.processes pid ≡ Some p = is_living (at f.processes pid) p lives in
@@ -167,7 +167,7 @@ module _ (f : Frame) (place pid : ℕ) where
   thaw_self_logs = search (endings, thaw_self_line) depth 80 fits 16000
 
   -- GrantLic
-  grant_line : (g : Frame) (target : ℕ) (set : PrivSet) (q : Process) → living (at f.processes target) ≡ Some q → g.processes ≡ change f.processes target (λ p. record p { lic = either_of p.lic set }) → g.log ≡ f.log ++ record (relabelling place pid act.Grant target q.label q.label) { lic = set } ∷ [] → LogAfter f place pid (op.GrantLic target set) g
+  grant_line : (g : Frame) (target : ℕ) (set : PrivSet) (q : Process) → living (at f.processes target) ≡ Some q → g.processes ≡ change f.processes target (λ p. record p { lic = either_of p.lic set }) → g.log ≡ f.log ++ record (audit_line place pid act.Grant target q.label q.label) { lic = set } ∷ [] → LogAfter f place pid (op.GrantLic target set) g
   unfolding exercises line_of_act
   grant_line g target set q lives processes log =
       let is : at f.processes target ≡ Some q = is_living (at f.processes target) q lives in
@@ -179,7 +179,7 @@ module _ (f : Frame) (place pid : ℕ) where
   grant_logs target set = search (endings, grant_line) depth 80 fits 16000
 
   -- SetCeiling
-  ceiling_line : (g : Frame) (target : ℕ) (now : Categories) (q : Process) → living (at f.processes target) ≡ Some q → needs_to_set_ceilings pid target q now ≡ true → g.processes ≡ change f.processes target (λ p. record p { ceiling = now }) → g.log ≡ f.log ++ relabelling place pid act.Ceiling target q.ceiling now ∷ [] → LogAfter f place pid (op.SetCeiling target now) g
+  ceiling_line : (g : Frame) (target : ℕ) (now : Categories) (q : Process) → living (at f.processes target) ≡ Some q → needs_to_set_ceilings pid target q now ≡ true → g.processes ≡ change f.processes target (λ p. record p { ceiling = now }) → g.log ≡ f.log ++ audit_line place pid act.Ceiling target q.ceiling now ∷ [] → LogAfter f place pid (op.SetCeiling target now) g
   unfolding exercises line_of_act of_process
   ceiling_line g target now q lives needs processes log =
       let is : at f.processes target ≡ Some q = is_living (at f.processes target) q lives in
@@ -195,7 +195,7 @@ module _ (f : Frame) (place pid : ℕ) where
   ceiling_logs target now = search (endings, ceiling_line, ceiling_quiet) depth 80 fits 16000
 
   -- ReadLog
-  read_line : (g : Frame) (index : ℕ) (p : Process) → living (at f.processes pid) ≡ Some p → g.processes ≡ f.processes → g.log ≡ f.log ++ relabelling place pid act.ReadLog index p.label p.label ∷ [] → LogAfter f place pid (op.ReadLog index) g
+  read_line : (g : Frame) (index : ℕ) (p : Process) → living (at f.processes pid) ≡ Some p → g.processes ≡ f.processes → g.log ≡ f.log ++ audit_line place pid act.ReadLog index p.label p.label ∷ [] → LogAfter f place pid (op.ReadLog index) g
   unfolding exercises line_of_act of_process
   read_line g index p lives processes log =
       let is : at f.processes pid ≡ Some p = is_living (at f.processes pid) p lives in
@@ -206,12 +206,12 @@ module _ (f : Frame) (place pid : ℕ) where
   read_logs index = search (endings, read_line) depth 80 fits 16000
 
   -- SetPriv
-  priv_line : (m g : Frame) (o : ℕ) (path : PathOf) (cap lic : PrivSet) (x : Object) (p : Process) → Sight pid path f o m → at m.objects o ≡ Some x → at g.objects o ≡ Some (record x { label = join x.label p.label; cap = cap; lic = lic }) → g.log ≡ m.log ++ record (relabelling place pid act.SetPriv o x.label (join x.label p.label)) { cap = cap; lic = lic } ∷ [] → LogAfter f place pid (op.SetPriv path cap lic) g
+  priv_line : (m g : Frame) (o : ℕ) (path : PathOf) (cap lic : PrivSet) (x : Object) (p : Process) → Sight pid path f o m → at m.objects o ≡ Some x → at g.objects o ≡ Some (record x { label = join x.label p.label; cap = cap; lic = lic }) → g.log ≡ m.log ++ record (audit_line place pid act.SetPriv o x.label (join x.label p.label)) { cap = cap; lic = lic } ∷ [] → LogAfter f place pid (op.SetPriv path cap lic) g
   unfolding exercises line_of_act
   priv_line m g o path cap lic x p sight is after log =
       line_added f g place pid (op.SetPriv path cap lic) _ refl
       (ap (λ (l : AuditLine). Some (record l { cap = cap; lic = lic })) (object_line f m g place pid o path act.SetPriv x (record x { label = join x.label p.label; cap = cap; lic = lic }) sight is after))
-      (log ∙ ap (λ t. t ++ record (relabelling place pid act.SetPriv o x.label (join x.label p.label)) { cap = cap; lic = lic } ∷ []) (same_log pid path f m o sight))
+      (log ∙ ap (λ t. t ++ record (audit_line place pid act.SetPriv o x.label (join x.label p.label)) { cap = cap; lic = lic } ∷ []) (same_log pid path f m o sight))
 
   -- what is affected has the joined label
   record Affected (o : ℕ) (m g : Frame) : Type 0 where
@@ -222,29 +222,37 @@ module _ (f : Frame) (place pid : ℕ) where
     after : at g.objects o ≡ Some (record object { label = join object.label caller.label })
     log : g.log ≡ m.log
 
-  affected_not : (o : ℕ) (m : Frame) (p : Process) (x : Object) → living (at m.processes pid) ≡ Some p → at m.objects o ≡ Some x → not (same (join x.label p.label) x.label) ≡ false → Affected o m m
+  affected_not : (o : ℕ) (m : Frame) (p : Process) (x : Object) → living (at m.processes pid) ≡ Some p → at m.objects o ≡ Some x → not (same (join x.label (join p.label bottom)) x.label) ≡ false → Affected o m m
   affected_not o m p x lives is free =
-      let e : join x.label p.label ≡ x.label = (same-decides (join x.label p.label) x.label).0 (sym (not_not (same (join x.label p.label) x.label)) ∙ ap not free) in
+      let far : Categories = join x.label (join p.label bottom) in
+      let e : join x.label p.label ≡ x.label = sym (ap (join x.label) (join-bottom_right p.label)) ∙ (same-decides far x.label).0 (sym (not_not (same far x.label)) ∙ ap not free) in
       record { caller = p; is_caller = lives; object = x; is_object = is; after = is ∙ ap (λ l. Some (record x { label = l })) (sym e); log = refl }
 
-  affected_yes : (o : ℕ) (m g : Frame) (p : Process) (x : Object) → living (at m.processes pid) ≡ Some p → at m.objects o ≡ Some x → g.objects ≡ change m.objects o (λ y. record y { label = join y.label p.label }) → g.log ≡ m.log → Affected o m g
-  affected_yes o m g p x lives is objects log = record { caller = p; is_caller = lives; object = x; is_object = is; after = changed m.objects g.objects o (λ y. record y { label = join y.label p.label }) x objects is; log = log }
+  affected_yes : (o : ℕ) (m g : Frame) (p : Process) (x : Object) → living (at m.processes pid) ≡ Some p → at m.objects o ≡ Some x → g.objects ≡ change m.objects o (λ y. record y { label = join y.label (join p.label bottom) }) → g.log ≡ m.log → Affected o m g
+  affected_yes o m g p x lives is objects log = record {
+    caller = p;
+    is_caller = lives;
+    object = x;
+    is_object = is;
+    after = changed m.objects g.objects o (λ y. record y { label = join y.label (join p.label bottom) }) x objects is ∙ (λ i. Some (record x { label = join x.label (join-bottom_right p.label i) }));
+    log = log;
+  }
 
-  affected : (o : ℕ) (m : Frame) → Ends (affect pid o m) Anything (λ u g. Affected o m g)
+  affected : (o : ℕ) (m : Frame) → Ends (affect pid o bottom m) Anything (λ u g. Affected o m g)
   unfolding affect
   affected o m = search (ending, affected_not, affected_yes) depth 40 fits 8000
 
-  ends_affected : (o : ℕ) (m : Frame) (Q : Unit {0} → Frame → Type 0) → ((g : Frame) → Affected o m g → Q tt g) → Ends (affect pid o m) Anything Q
-  ends_affected o m Q h = ends_more (affect pid o m) Anything (λ u g. Affected o m g) Q (affected o m) (λ u g. h g)
+  ends_affected : (o : ℕ) (m : Frame) (Q : Unit {0} → Frame → Type 0) → ((g : Frame) → Affected o m g → Q tt g) → Ends (affect pid o bottom m) Anything Q
+  ends_affected o m Q h = ends_more (affect pid o bottom m) Anything (λ u g. Affected o m g) Q (affected o m) (λ u g. h g)
 
-  priv_done : (m n g : Frame) (o : ℕ) (path : PathOf) (cap lic : PrivSet) (x : Object) (p : Process) → Sight pid path f o m → at m.objects o ≡ Some x → living (at m.processes pid) ≡ Some p → Affected o m n → g.objects ≡ change n.objects o (λ y. record y { cap = cap; lic = lic }) → g.log ≡ n.log ++ record (relabelling place pid act.SetPriv o x.label (join x.label p.label)) { cap = cap; lic = lic } ∷ [] → LogAfter f place pid (op.SetPriv path cap lic) g
+  priv_done : (m n g : Frame) (o : ℕ) (path : PathOf) (cap lic : PrivSet) (x : Object) (p : Process) → Sight pid path f o m → at m.objects o ≡ Some x → living (at m.processes pid) ≡ Some p → Affected o m n → g.objects ≡ change n.objects o (λ y. record y { cap = cap; lic = lic }) → g.log ≡ n.log ++ record (audit_line place pid act.SetPriv o x.label (join x.label p.label)) { cap = cap; lic = lic } ∷ [] → LogAfter f place pid (op.SetPriv path cap lic) g
   priv_done m n g o path cap lic x p sight is lives a objects log =
       let same_object : a.object ≡ x = let h = a.is_object in cc in
       let same_caller : a.caller ≡ p = let h = a.is_caller in cc in
       let stands : at n.objects o ≡ Some (record x { label = join x.label p.label }) = a.after ∙ (λ i. Some (record (same_object i) { label = join (same_object i).label (same_caller i).label })) in
       priv_line m g o path cap lic x p sight is
       (changed n.objects g.objects o (λ y. record y { cap = cap; lic = lic }) (record x { label = join x.label p.label }) objects stands)
-      (log ∙ ap (λ t. t ++ record (relabelling place pid act.SetPriv o x.label (join x.label p.label)) { cap = cap; lic = lic } ∷ []) a.log)
+      (log ∙ ap (λ t. t ++ record (audit_line place pid act.SetPriv o x.label (join x.label p.label)) { cap = cap; lic = lic } ∷ []) a.log)
 
   priv_logs : (path : PathOf) (cap lic : PrivSet) → Ends (set_priv place pid path cap lic f) Anything (λ a g. LogAfter f place pid (op.SetPriv path cap lic) g)
   unfolding set_priv
@@ -256,12 +264,13 @@ log_stays Logging = false
 log_stays _ = true
 
 quiet_words : (pid : ℕ) (f : Frame) → Words log_stays pid (λ g. g.log ≡ f.log)
-unfolding change_object change_process put_object put_open put_process add_process end_process Holds
+unfolding change_object change_process change_open put_object put_open put_process add_process end_process Holds
 quiet_words pid f = record {
   object = λ o h same. record { led = λ g r. r };
   process = λ p h same. record { led = λ g r. r };
   float = λ h same. record { led = λ g r. r };
   entry = λ e x. record { led = λ g r. r };
+  through = λ e l. record { led = λ g r. r };
   unclaim = λ o end. record { led = λ g r. r };
   relabel = λ can o h same. record { led = λ g r. r };
   claim = λ can o h same. record { led = λ g r. r };
@@ -324,8 +333,8 @@ unfolding Ends adds
 settled_log place pid c f (Refuse r g) relabels ends = log_kept (keeps_label r) pid f g relabels
 settled_log place pid c f (Pass a g) relabels ends = adds_answered f g place pid c a relabels ends
 
-decided_log : (t : Told) (place pid : ℕ) (c : Op) (f : Frame) → (decide t place pid c f).frame.log ≡ f.log ++ adds f (decide t place pid c f).frame place pid c (decide t place pid c f).reply
-unfolding decide adds
+decided_log : (t : Told) (place pid : ℕ) (c : Op) (f : Frame) → (verdict t place pid c f).frame.log ≡ f.log ++ adds f (verdict t place pid c f).frame place pid c (verdict t place pid c f).reply
+unfolding verdict adds
 decided_log t place pid c f = go (lives f pid)
   where
     decision : Bool → Decision
@@ -343,7 +352,7 @@ log_stays_step w place pid c quiet = ap (λ (g : Frame). g.log) (step_frame w pl
 step_adds : World → ℕ → ℕ → Op → List AuditLine
 step_adds w place pid c = adds w.frame (step w place pid c).world.frame place pid c (step w place pid c).reply
 
-plain_log : (w : World) (place pid : ℕ) (c : Op) → (step w place pid c).reply ≡ (decide (told w pid c) place pid c w.frame).reply → (step w place pid c).world.frame.log ≡ w.frame.log ++ step_adds w place pid c
+plain_log : (w : World) (place pid : ℕ) (c : Op) → (step w place pid c).reply ≡ (verdict (told w pid c) place pid c w.frame).reply → (step w place pid c).world.frame.log ≡ w.frame.log ++ step_adds w place pid c
 unfolding step_adds
 plain_log w place pid c same =
     let frames = step_frame w place pid c in
@@ -357,7 +366,7 @@ unfolding step_adds adds
 quiet_log w place pid c free =
     ap (λ (g : Frame). g.log) (step_frame w place pid c)
     ∙ decided_log (told w pid c) place pid c w.frame
-    ∙ ap (λ t. w.frame.log ++ t) (adds_none w.frame (decide (told w pid c) place pid c w.frame).frame place pid c (decide (told w pid c) place pid c w.frame).reply free ∙ sym (adds_none w.frame (step w place pid c).world.frame place pid c (step w place pid c).reply free))
+    ∙ ap (λ t. w.frame.log ++ t) (adds_none w.frame (verdict (told w pid c) place pid c w.frame).frame place pid c (verdict (told w pid c) place pid c w.frame).reply free ∙ sym (adds_none w.frame (step w place pid c).world.frame place pid c (step w place pid c).reply free))
 
 step_log : (w : World) (place pid : ℕ) (c : Op) → (step w place pid c).world.frame.log ≡ w.frame.log ++ step_adds w place pid c
 unfolding step answer plainly exercises

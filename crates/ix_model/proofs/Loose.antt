@@ -6,7 +6,7 @@ use Rattle.std.proofs.lemmas.Bool.{and_parts, eqb-true, eq-eqb, not-false}
 use Rattle.std.proofs.lemmas.Bool.Decides.{eqb_tells}
 use Rattle.std.proofs.lemmas.List.{get_or-set_other}
 use Rattle.ix_model.specs.World.{Frame, Object, Process, at, put, change, is_dir, is_pipe, is_on}
-use Rattle.ix_model.specs.Owners.{is_at, owns, is_claimant}
+use Rattle.ix_model.specs.Owners.{is_at, owns, has_end}
 use Rattle.ix_model.specs.Walks.{Behind}
 use Rattle.ix_model.specs.Lifetimes.{has_lost}
 use Rattle.ix_model.specs.Sound.{LabelsBelow, NamesSound, LivesSound, ProcessesSound, ClaimsSound, WithinLimits}
@@ -22,7 +22,7 @@ use Rattle.ix_model.proofs.Claimants.{IsBehind}
 
 -- all claims but one are claimants'
 pub record ClaimsBut (pid o end : ℕ) (f : Frame) : Type 0 where
-  pub claimant : (m k p : ℕ) (x : Object) → at f.objects m ≡ Some x → at x.claims k ≡ Some p → ((m ≡ o) × (k ≡ end) × (p ≡ pid) → ⊥) → is_claimant f m k p ≡ true
+  pub claimant : (m k p : ℕ) (x : Object) → at f.objects m ≡ Some x → at x.claims k ≡ Some p → ((m ≡ o) × (k ≡ end) × (p ≡ pid) → ⊥) → has_end f m k p ≡ true
 
 -- sound, but that an open entry may have no owner any more
 pub record Loose (e : ℕ) (f : Frame) : Type 0 where
@@ -133,8 +133,8 @@ module _ (f : Frame) (s : FrameSound f) (pid fd : ℕ) (e : Behind) (b : IsBehin
               let claimed : at x.claims e.entry.end ≡ Some p = ap (at x.claims) (sym same_end.1) ∙ claim in
               let own : option_map_or (λ y. option_map_or (λ n. n == pid) (at y.claims e.entry.end) false) (at f.objects e.entry.object) false ≡ true =
               ap (λ o. option_map_or (λ y. option_map_or (λ n. n == pid) (at y.claims e.entry.end) false) o false) there ∙ ap (λ c. option_map_or (λ n. n == pid) c false) claimed ∙ eq-eqb p pid same.1 in
-              let left : is_claimant taken e.entry.object e.entry.end pid ≡ true = not-false _ (ap (λ t. t && not (is_claimant taken e.entry.object e.entry.end pid)) (sym own) ∙ kept) in
-              (λ i. is_claimant taken (same_object.1 i) (same_end.1 i) (same.1 i)) ∙ left
+              let left : has_end taken e.entry.object e.entry.end pid ≡ true = not-false _ (ap (λ t. t && not (has_end taken e.entry.object e.entry.end pid)) (sym own) ∙ kept) in
+              (λ i. has_end taken (same_object.1 i) (same_end.1 i) (same.1 i)) ∙ left
         ]
       ]
     ];

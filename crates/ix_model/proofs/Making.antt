@@ -3,13 +3,14 @@ use Rattle.std.proofs.Common.{◌≡◌, ◌≢◌, ◌<◌, ◌≤◌, ◌+◌,
 use Rattle.std.specs.Option.{option_map_or}
 use Rattle.std.proofs.lemmas.Bool.{cases_lt, not-true}
 use Rattle.std.proofs.lemmas.List.{get_or-set_same, get_or-set_other}
+use Rattle.ix_label.specs.Category.{Categories, bottom}
 use Rattle.ix_label.specs.Lattice.{bottom-leq}
 use Rattle.ix_model.specs.Naming.{PathOf, last_name}
 use Rattle.ix_model.specs.Directories.{with_name, has_room_for_a_name}
-use Rattle.ix_model.specs.World.{Frame, Object, at, put, change, is_dir, is_pipe}
+use Rattle.ix_model.specs.World.{fs_at, Frame, Object, at, put, change, is_dir, is_pipe}
 use Rattle.ix_model.specs.Walks.{Sought}
 use Rattle.ix_model.specs.Walks as sought
-use Rattle.ix_model.specs.Numbers.{first_inode, inodes_of, free_inode, fs_number}
+use Rattle.ix_model.specs.Numbers.{first_inode, free_inode, fs_number}
 use Rattle.ix_model.specs.Owners.{times_in, times_named, names_in_all}
 use Rattle.ix_model.specs.Rows.{affect}
 use Rattle.ix_model.specs.OnPaths.{new_object, make, create_at, make_dir, link_at}
@@ -66,7 +67,7 @@ created f m h a b r d o j name kind no_pipe within free room =
     let free_f : at f.objects o ≡ None = none_before f m a.floats o n.free in
     let long : length h.objects ≡ length m.objects = length_same object_but m.objects h.objects r.objects in
     let inside : o < length h.objects = omega (arith, long, n.inside) in
-    let range : (k : ℕ) → Some j ≡ Some k → (first_inode h.fss k ≤ o) × (o < first_inode h.fss k + inodes_of h.fss k) = λ k e. let same : j ≡ k = cc in subst (λ (i : ℕ). (first_inode h.fss i ≤ o) × (o < first_inode h.fss i + inodes_of h.fss i)) same (subst (λ (t : List FsSpec). (first_inode t j ≤ o) × (o < first_inode t j + inodes_of t j)) (sym r.fss) (n.first, n.last)) in
+    let range : (k : ℕ) → Some j ≡ Some k → (first_inode h.fss k ≤ o) × (o < first_inode h.fss k + (fs_at h.fss k).inodes) = λ k e. let same : j ≡ k = cc in subst (λ (i : ℕ). (first_inode h.fss i ≤ o) × (o < first_inode h.fss i + (fs_at h.fss i).inodes)) same (subst (λ (t : List FsSpec). (first_inode t j ≤ o) × (o < first_inode t j + (fs_at t j).inodes)) (sym r.fss) (n.first, n.last)) in
     let new : IsNew h o x = record { free = free_h; inside = inside; nameless = refl; unclaimed = refl; low = bottom-leq _; pipe = sym no_pipe; past = λ yes. absurd (true≢false (sym yes ∙ no_pipe)); number = range } in
     let w = within_on m h r d name None (within_on f m a.floats d name None within) in
     let apart : d ≢ o = λ e. let both : Some w.dir ≡ None = sym w.is ∙ ap (at h.objects) e ∙ free_h in cc in
@@ -82,9 +83,9 @@ created f m h a b r d o j name kind no_pipe within free room =
 
 module _ (f : Frame) where
   -- affect, from a frame on the way
-  pub affect_on : (m : Frame) → Follows f m → (pid d : ℕ) (Q : Unit {0} → Frame → Type 0) → ((h : Frame) → Follows f h → Floats m h → h.processes ≡ m.processes → Q tt h) → Ends (affect pid d m) (Refused f) Q
-  affect_on m k pid d Q next = ends_kept (λ h. (Follows f h × Floats m h) × (h.processes ≡ m.processes)) (affect pid d m) (Refused f) Q
-      (holds_both _ _ _ (holds_both _ _ _ ((follows_affect f pid d).led m k) ((floats_affect m pid d).led m (floats_itself m))) (kept_ends (λ h. h.processes ≡ m.processes) _ (ends_affect pid d m _ _ (λ r. refl) refl (λ l x is low. refl))))
+  pub affect_on : (m : Frame) → Follows f m → (pid d : ℕ) (through : Categories) (Q : Unit {0} → Frame → Type 0) → ((h : Frame) → Follows f h → Floats m h → h.processes ≡ m.processes → Q tt h) → Ends (affect pid d through m) (Refused f) Q
+  affect_on m k pid d through Q next = ends_kept (λ h. (Follows f h × Floats m h) × (h.processes ≡ m.processes)) (affect pid d through m) (Refused f) Q
+      (holds_both _ _ _ (holds_both _ _ _ ((follows_affect f pid d through).led m k) ((floats_affect m pid d through).led m (floats_itself m))) (kept_ends (λ h. h.processes ≡ m.processes) _ (ends_affect pid d through m _ _ (λ r. refl) refl (λ l x is low. refl))))
       (λ r h j. j.0.0) (λ u h j. next h j.0.0 j.0.1 j.1)
 
 module _ (f : Frame) (s : FrameSound f) where
@@ -96,7 +97,7 @@ module _ (f : Frame) (s : FrameSound f) where
       ends_bind _ _ m (Refused f) (Passed f) (ends_frame m (Refused f) _ (
       ends_bind _ _ m (Refused f) (Passed f) (ends_some _ _ m (Refused f) _ (λ o free.
       ends_then _ _ m (Refused f) (Passed f) (ends_need _ _ m (Refused f) _ (λ room.
-      ends_then _ _ m (Refused f) (Passed f) (affect_on f m k.follows pid d _ (λ h b r same.
+      ends_then _ _ m (Refused f) (Passed f) (affect_on f m k.follows pid d bottom _ (λ h b r same.
       ends_then _ _ h (Refused f) (Passed f) (ends_put_object o _ h (Refused f) _ (
       ends_then _ _ _ (Refused f) (Passed f) (ends_change_object d _ _ (Refused f) _ (
       ends_pass _ _ (Refused f) (Passed f) (created f m h k b r d o (fs_number x) (last_name path.names) kind (no_pipe (fs_number x)) within free room)))))))
@@ -145,6 +146,6 @@ module _ (f : Frame) (s : FrameSound f) where
       ends_then _ _ m (Refused f) (Passed f) (ends_need _ _ m (Refused f) _ (λ one_fs.
       ends_bind _ _ m (Refused f) (Passed f) (ends_frame m (Refused f) _ (
       ends_then _ _ m (Refused f) (Passed f) (ends_need _ _ m (Refused f) _ (λ room.
-      ends_then _ _ m (Refused f) (Passed f) (affect_on f m k.follows pid d _ (λ h j r same.
+      ends_then _ _ m (Refused f) (Passed f) (affect_on f m k.follows pid d bottom _ (λ h j r same.
       ends_then _ _ h (Refused f) (Passed f) (ends_change_object d _ h (Refused f) _ (
       ends_pass _ _ (Refused f) (Passed f) (linked f m h s k j r d o dir (last_name target.names) (last_name path.names) x is no_dir leads within room)))))) k.follows)))) k.follows)) k.follows)) (λ r. k.follows))) k.follows)) k.follows)) (λ r. k.follows))))))

@@ -3,10 +3,10 @@ use Rattle.std.proofs.Common.{◌≡◌, ◌<◌, ◌≤◌, ◌+◌, ℕ, true,
 use Rattle.std.specs.Option.{option_map_or}
 use Rattle.std.specs.List.{list_any}
 use Rattle.std.proofs.lemmas.Bool.{and_parts, or_parts}
-use Rattle.ix_model.specs.World.{World, Frame, Object, Holding, lowest_free}
+use Rattle.ix_model.specs.World.{fs_at, World, Frame, Object, Holding, lowest_free}
 use Rattle.ix_model.specs.Naming.{same_names, last_name}
 use Rattle.ix_model.specs.Walks.{nothing, node}
-use Rattle.ix_model.specs.Numbers.{first_inode, inodes_of, free_inode}
+use Rattle.ix_model.specs.Numbers.{first_inode, free_inode}
 use Rattle.ix_model.specs.Opening.{process_of, directory_of, placed, with_object, with_objects}
 use Rattle.ix_model.specs.Valid.{fs_of, is_mount, object_fits, objects_fit}
 use Rattle.ix_model.specs.declared.config.Config.{Config}
@@ -43,7 +43,7 @@ line_at c t hs b d k o is_dir is_fs free =
     ∙ ap (λ j. option_map_or (placed w b d j) (free_inode w.frame j) w) is_fs
     ∙ ap (λ x. option_map_or (placed w b d k) x w) free
 
-free_at : (f : Frame) (k n : ℕ) → lowest_free (take (inodes_of f.fss k) (drop (first_inode f.fss k) f.objects)) ≡ Some n → free_inode f k ≡ Some (first_inode f.fss k + n)
+free_at : (f : Frame) (k n : ℕ) → lowest_free (take (fs_at f.fss k).inodes (drop (first_inode f.fss k) f.objects)) ≡ Some n → free_inode f k ≡ Some (first_inode f.fss k + n)
 unfolding free_inode
 free_at f k n is = ap (option_map (λ m. first_inode f.fss k + m)) is
 
@@ -55,11 +55,11 @@ line_built c before t hs b r fits =
     let k : ℕ = fs_of c.fss b.path.names in
     let no_root = or_parts (is_mount c.fss b.path.names) (list_any (λ x. same_names x.path.names b.path.names) before) line.new in
     let same_fs : k ≡ fs_of c.fss (parent_of b.path.names) = ap (fs_of c.fss) line.is_path ∙ fs_of_child c.fss (parent_of b.path.names) (last_name b.path.names) (ap (is_mount c.fss) (sym line.is_path) ∙ no_root.0) in
-    let free = free_is t (first_inode c.fss k) (inodes_of c.fss k) (omega (arith, first_within c.fss k, r.counted.long)) (omega (arith, r.counted.taken k, line.inodes)) in
+    let free = free_is t (first_inode c.fss k) (fs_at c.fss k).inodes (omega (arith, first_within c.fss k, r.counted.long)) (omega (arith, r.counted.taken k, line.inodes)) in
     let o : ℕ = first_inode c.fss k + free.step in
     let p : Place t o home.number = record { low = omega (arith, free.low, first_within c.fss k, r.counted.long); free = free.none; dir = home.object; is_dir = home.is_object } in
     let from : first_inode c.fss k ≤ o = omega arith in
-    let to : o < first_inode c.fss k + inodes_of c.fss k = omega (arith, free.low) in
+    let to : o < first_inode c.fss k + (fs_at c.fss k).inodes = omega (arith, free.low) in
     record {
       objects = with_one t b home.number k o;
       holdings = set hs o (holding_for b);

@@ -6,8 +6,8 @@ use Rattle.std.proofs.lemmas.Bool.{and_parts, or_left, not_from_false, ne_eqb}
 use Rattle.std.proofs.lemmas.List.{length-replicate, length-map}
 use Rattle.std.proofs.lemmas.List.Sums.{sum_by-cons, count_by-le-length}
 use Rattle.ix_label.specs.Category.{leq}
-use Rattle.ix_model.specs.World.{World, Object, Process, Open, Holding, at, is_dir, no_claims}
-use Rattle.ix_model.specs.Numbers.{first_inode, inodes_of}
+use Rattle.ix_model.specs.World.{fs_at, World, Object, Process, Open, Holding, at, is_dir, no_claims}
+use Rattle.ix_model.specs.Numbers.{first_inode}
 use Rattle.ix_model.specs.Opening.{process_of}
 use Rattle.ix_model.specs.Owners.{times_named}
 use Rattle.ix_model.specs.Sound.{LabelsBelow, NamesSound, LivesSound, OpensSound, ProcessesSound, ClaimsSound, WithinLimits, LengthsSound, Sound}
@@ -102,7 +102,7 @@ module _ (c : Config) (before : List ObjSpec) (t : List (Option Object)) (hs : L
         let f = r.fits o x is in
         let both : Some f.fs ≡ Some k = sym f.is_fs ∙ on in
         let same : f.fs ≡ k = cc in
-        subst (λ (j : ℕ). (first_inode c.fss j ≤ o) × (o < first_inode c.fss j + inodes_of c.fss j)) same (f.from, f.to);
+        subst (λ (j : ℕ). (first_inode c.fss j ≤ o) × (o < first_inode c.fss j + (fs_at c.fss j).inodes)) same (f.from, f.to);
     opens = length-replicate {A = Option Open} c.limits.opens None;
     processes = omega (arith, sum_by-cons (λ (q : Option Process). cond {A = ℕ} (is_some q) 1 0) None (processes_of c.procs), count_by-le-length is_some (processes_of c.procs), length-map c.procs (λ p. Some (process_of p)));
     names = omega (arith, r.counted.names, r.counted.few);

@@ -4,11 +4,11 @@ use Rattle.std.specs.Option.{option_map_or}
 use Rattle.std.proofs.lemmas.Bool.Decides.{eqb_tells}
 use Rattle.std.proofs.lemmas.List.{get_or-set_other, get_or-set_same, length-replicate, length-map, length-take, length-drop}
 use Rattle.std.proofs.lemmas.List.Quantifiers.{position-Some}
-use Rattle.ix_model.specs.World.{World, Frame, at, put, lowest_free}
+use Rattle.ix_model.specs.World.{fs_at, World, Frame, at, put, lowest_free}
 use Rattle.ix_model.specs.Walks.{node}
 use Rattle.ix_model.specs.Clean.{IsClean}
 use Rattle.ix_model.specs.Contents.{holds_nothing}
-use Rattle.ix_model.specs.Numbers.{first_inode, inodes_of, free_inode}
+use Rattle.ix_model.specs.Numbers.{first_inode, free_inode}
 use Rattle.ix_model.specs.Opening.{bare_objects, bare_world, directory_of, process_of, object_of, placed, with_object, with_objects, opening_world}
 use Rattle.ix_model.specs.declared.config.Config.{Config}
 use Rattle.ix_model.specs.declared.config.ObjSpec.{ObjSpec}
@@ -31,14 +31,14 @@ clean_bare c = record {
 -- a free inode is one of the table's numbers
 pub free_inside : (f : Frame) (k o : ℕ) → free_inode f k ≡ Some o → o < length f.objects
 unfolding free_inode
-free_inside f k o h = go (lowest_free (take (inodes_of f.fss k) (drop (first_inode f.fss k) f.objects))) refl h
+free_inside f k o h = go (lowest_free (take (fs_at f.fss k).inodes (drop (first_inode f.fss k) f.objects))) refl h
   where
-    go : (p : Option ℕ) → lowest_free (take (inodes_of f.fss k) (drop (first_inode f.fss k) f.objects)) ≡ p → option_map (λ n. first_inode f.fss k + n) p ≡ Some o → o < length f.objects
+    go : (p : Option ℕ) → lowest_free (take (fs_at f.fss k).inodes (drop (first_inode f.fss k) f.objects)) ≡ p → option_map (λ n. first_inode f.fss k + n) p ≡ Some o → o < length f.objects
     go None is h = cc
     go (Some n) is h =
-        let low = (position-Some is_none (take (inodes_of f.fss k) (drop (first_inode f.fss k) f.objects)) n None is).0 in
+        let low = (position-Some is_none (take (fs_at f.fss k).inodes (drop (first_inode f.fss k) f.objects)) n None is).0 in
         let e : first_inode f.fss k + n ≡ o = cc in
-        omega (arith, length-take (inodes_of f.fss k) (drop (first_inode f.fss k) f.objects), length-drop (first_inode f.fss k) f.objects)
+        omega (arith, length-take (fs_at f.fss k).inodes (drop (first_inode f.fss k) f.objects), length-drop (first_inode f.fss k) f.objects)
 
 clean_placed : (w : World) (spec : ObjSpec) (dir k o : ℕ) → o < length w.frame.objects → IsClean w → IsClean (placed w spec dir k o)
 clean_placed w spec dir k o low clean = record {

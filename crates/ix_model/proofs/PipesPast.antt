@@ -3,15 +3,15 @@ use Rattle.std.proofs.Common.{◌≡◌, ◌≢◌, ◌≤◌, ◌+◌, ℕ, zer
 use Rattle.std.specs.Option.{option_map_or}
 use Rattle.std.proofs.lemmas.List.{get_or-set_other}
 use Rattle.std.proofs.lemmas.List.Sums.{sum_by-cons, sum-map}
-use Rattle.ix_model.specs.World.{World, Frame, Object, at, put, change, is_pipe}
-use Rattle.ix_model.specs.Numbers.{first_inode, inodes_of, first_pipe, free_inode}
-use Rattle.ix_model.specs.Rows.{change_object, change_process, put_object, put_open, put_process, add_process}
+use Rattle.ix_model.specs.World.{fs_at, World, Frame, Object, at, put, change, is_pipe}
+use Rattle.ix_model.specs.Numbers.{first_inode, first_pipe, free_inode}
+use Rattle.ix_model.specs.Rows.{change_object, change_process, put_object, put_open, put_process, add_process, change_open}
 use Rattle.ix_model.specs.Auditing.{logged}
 use Rattle.ix_model.specs.OnProcesses.{end_process}
 use Rattle.ix_model.specs.Telling.{told}
 use Rattle.ix_model.specs.Step.{step}
 use Rattle.ix_model.specs.Sound.{WithinLimits}
-use Rattle.ix_model.specs.History.{Op}
+use Rattle.ix_model.specs.Events.{Op}
 use Rattle.ix_model.specs.declared.config.FsSpec.{FsSpec}
 use Rattle.ix_model.proofs.Tables.{seen_changed, seen_put}
 use Rattle.ix_model.proofs.Keeps.{Holds}
@@ -27,7 +27,7 @@ one_more s fss =
     sum-map inodes (s ∷ fss) ∙ sum_by-cons inodes s fss ∙ ap (λ n. s.inodes + n) (sym (sum-map inodes fss))
 
 -- the inodes of a file system lie before the pipes
-inodes_before : (fss : List FsSpec) (k : ℕ) → first_inode fss k + inodes_of fss k ≤ first_pipe fss
+inodes_before : (fss : List FsSpec) (k : ℕ) → first_inode fss k + (fs_at fss k).inodes ≤ first_pipe fss
 inodes_before [] zero = omega arith
 inodes_before [] (suc k) = omega arith
 inodes_before (s ∷ fss) zero =
@@ -61,12 +61,13 @@ module _ (f : Frame) where
       ap is_other (get_or-set_other g.objects o n (Some x) None apart) ∙ here) r
 
   past_words : (pid : ℕ) → Words all pid (PipesPast f)
-  unfolding change_object change_process put_object put_open put_process add_process end_process logged Holds
+  unfolding change_object change_process change_open put_object put_open put_process add_process end_process logged Holds
   past_words pid = record {
     object = λ o h same. record { led = λ g. past_changed g o h (λ x. ap (λ y. y.kind) (same x)) };
     process = λ p h same. record { led = λ g r. record { fss = r.fss; pipes = r.pipes } };
     float = λ h same. record { led = λ g r. record { fss = r.fss; pipes = r.pipes } };
     entry = λ e x. record { led = λ g r. record { fss = r.fss; pipes = r.pipes } };
+    through = λ e l. record { led = λ g r. record { fss = r.fss; pipes = r.pipes } };
     unclaim = λ o end. record { led = λ g. past_changed g o _ (λ x. refl) };
     relabel = λ can o h same. record { led = λ g. past_changed g o h (λ x. ap (λ y. y.kind) (same x)) };
     claim = λ can o h same. record { led = λ g. past_changed g o h (λ x. ap (λ y. y.kind) (same x)) };

@@ -10,7 +10,7 @@ use Rattle.ix_model.specs.Opening.{bare_objects, bare_world, process_of, opening
 use Rattle.ix_model.specs.Valid.{fs_fits, is_valid, is_flat}
 use Rattle.ix_model.specs.Clean.{IsClean}
 use Rattle.ix_model.specs.Sound.{Sound}
-use Rattle.ix_model.specs.History.{Event}
+use Rattle.ix_model.specs.Events.{Event}
 use Rattle.ix_model.specs.declared.config.Config.{Config}
 use Rattle.ix_model.specs.declared.config.FsSpec.{FsSpec}
 use Rattle.ix_model.proofs.Openings.{clean_opening}

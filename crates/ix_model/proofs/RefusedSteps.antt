@@ -2,11 +2,11 @@
 use Rattle.std.proofs.Common.{◌≡◌, ℕ, ap, sym, ◌∙◌, subst}
 use Rattle.ix_model.specs.World.{Frame, World}
 use Rattle.ix_model.specs.OnDescriptors.{Told}
-use Rattle.ix_model.specs.Table.{Decision, decide}
+use Rattle.ix_model.specs.Table.{Decision, verdict}
 use Rattle.ix_model.specs.Telling.{told}
 use Rattle.ix_model.specs.Step.{step, answer}
 use Rattle.ix_model.specs.Laws.{Refused}
-use Rattle.ix_model.specs.History.{Op}
+use Rattle.ix_model.specs.Events.{Op}
 use Rattle.ix_model.specs.declared.reply.Reply.TheVariants as reply
 use Rattle.ix_model.specs.declared.refusal.Refusal.{Refusal}
 use Rattle.ix_model.proofs.Refusing.{plain_answer, decided_frames}
@@ -18,7 +18,7 @@ pub refused_step : (w : World) (place pid : ℕ) (c : Op) (r : Refusal) → (ste
 unfolding step
 refused_step w place pid c r is =
     let t : Told = told w pid c in
-    let d : Decision = decide t place pid c w.frame in
+    let d : Decision = verdict t place pid c w.frame in
     let plain = plain_answer w pid c d r (λ refused. ap (λ (f : Frame). f.objects) (decided_frames t place pid c w.frame r refused).relabelled.is) is in
     let frames = decided_frames t place pid c w.frame r plain.reply in
     record {

@@ -6,18 +6,18 @@ use Rattle.ix_model.specs.Refusals.{keeps_label}
 use Rattle.ix_model.specs.World.{Frame, World, Process, at, change, lives}
 use Rattle.ix_model.specs.Outcomes.{Row, Outcome, Refuse, Pass}
 use Rattle.ix_model.specs.Rows.{observe}
-use Rattle.ix_model.specs.Walks.{Sought, Behind, behind, found, found_in, missing, walked_to}
+use Rattle.ix_model.specs.Walks.{Sought, Behind, behind, object_at, spot_at, missing, walked_to}
 use Rattle.ix_model.specs.OnPaths.{make, create_at, make_dir, open_at, link_at, unlink_at, remove_dir, change_dir, stat_at, list_at}
 use Rattle.ix_model.specs.OnDescriptors.{Told, read_fd, write_fd, cut_fd, seek_fd, dup_fd, close_fd, make_pipe, claimed, pex, unpex}
 use Rattle.ix_model.specs.OnProcesses.{fork, exec, exit, wait_child}
 use Rattle.ix_model.specs.OnLabels.{label_of, self_label, set_label, set_self, freeze, freeze_self, thaw, thaw_self, set_priv, drop_lic, grant_lic, set_ceiling, read_log}
-use Rattle.ix_model.specs.Table.{Decision, decide, settled, row}
+use Rattle.ix_model.specs.Table.{Decision, verdict, settled, row}
 use Rattle.ix_model.specs.Contents.{carried}
 use Rattle.ix_model.specs.Step.{plainly, read_answer, write_answer, cut_answer, seek_answer, stat_answer, exit_answer, wait_answer, pex_answer, is_whole, answer, step}
 use Rattle.ix_model.specs.Telling.{told}
 use Rattle.ix_model.specs.AuditLog.{is_answer}
-use Rattle.ix_model.specs.History.{Op}
-use Rattle.ix_model.specs.History as op
+use Rattle.ix_model.specs.Events.{Op}
+use Rattle.ix_model.specs.Events as op
 use Rattle.ix_model.specs.declared.call.Keep.{Keep}
 use Rattle.ix_model.specs.declared.call.Mode.{Mode}
 use Rattle.ix_model.specs.declared.privs.PrivSet.{PrivSet}
@@ -31,7 +31,7 @@ use Rattle.ix_model.proofs.Tables.{change_same, change_twice}
 use Rattle.ix_model.proofs.Keeps.{Keeps, keeping}
 use Rattle.ix_model.proofs.Ends.{Ends, ending, ends_more, ends_kept, kept_ends}
 use Rattle.ix_model.proofs.RowEnds.{endings, ends_let_go_object, ends_let_go, ends_let_go_all}
-use Rattle.ix_model.proofs.Looks.{ends_observe, ends_touch}
+use Rattle.ix_model.proofs.Looks.{ends_observe, ends_touch, ends_float_entry}
 use Rattle.ix_model.proofs.Lasts.{Lasts, lasts_relabelled}
 use Rattle.ix_model.proofs.Carrying.{carried_same}
 
@@ -110,7 +110,7 @@ module _ (pid : ℕ) (f : Frame) where
   ends_walked_to path g P Q here h k = looked (walked_to pid path) g P Q (relabelled_walked_to path) here h k
 
   -- ---- the rows
-  ruleset refusing = (endings, ends_look, ends_walked_to, ends_touch, ends_claimed, ends_let_go_object, ends_let_go, ends_let_go_all, relabelled_itself)
+  ruleset refusing = (endings, ends_look, ends_walked_to, ends_touch, ends_float_entry, ends_claimed, ends_let_go_object, ends_let_go, ends_let_go_all, relabelled_itself)
 
   relabels_make : (path : PathOf) (kind : Kind) → Relabels is_bare pid f (make pid path kind f)
   unfolding make missing
@@ -121,27 +121,27 @@ module _ (pid : ℕ) (f : Frame) where
   relabels_link_at target path = search refusing depth 80 fits 16000
 
   relabels_unlink_at : (path : PathOf) → Relabels is_bare pid f (unlink_at pid path f)
-  unfolding unlink_at found_in
+  unfolding unlink_at spot_at
   relabels_unlink_at path = search refusing depth 80 fits 16000
 
   relabels_remove_dir : (path : PathOf) → Relabels is_bare pid f (remove_dir pid path f)
-  unfolding remove_dir found_in
+  unfolding remove_dir spot_at
   relabels_remove_dir path = search refusing depth 80 fits 16000
 
   relabels_open_at : (path : PathOf) (mode : Mode) → Relabels is_bare pid f (open_at pid path mode f)
-  unfolding open_at found
+  unfolding open_at object_at
   relabels_open_at path mode = search refusing depth 80 fits 16000
 
   relabels_change_dir : (path : PathOf) → Relabels is_bare pid f (change_dir pid path f)
-  unfolding change_dir found
+  unfolding change_dir object_at
   relabels_change_dir path = search refusing depth 80 fits 16000
 
   relabels_stat_at : (path : PathOf) → Relabels is_bare pid f (stat_at pid path f)
-  unfolding stat_at found
+  unfolding stat_at object_at
   relabels_stat_at path = search refusing depth 80 fits 16000
 
   relabels_list_at : (path : PathOf) (index : ℕ) → Relabels is_bare pid f (list_at pid path index f)
-  unfolding list_at found
+  unfolding list_at object_at
   relabels_list_at path index = search refusing depth 80 fits 16000
 
   relabels_read_fd : (t : Told) (fd count : ℕ) → Relabels is_answer pid f (read_fd t pid fd count f)
@@ -185,7 +185,7 @@ module _ (pid : ℕ) (f : Frame) where
   relabels_fork keep = search refusing depth 80 fits 16000
 
   relabels_exec : (path : PathOf) → Relabels is_bare pid f (exec pid path f)
-  unfolding exec found
+  unfolding exec object_at
   relabels_exec path = search refusing depth 80 fits 16000
 
   relabels_exit : Relabels is_bare pid f (exit pid f)
@@ -197,7 +197,7 @@ module _ (pid : ℕ) (f : Frame) where
   relabels_wait_child = search refusing depth 80 fits 16000
 
   relabels_label_of : (path : PathOf) → Relabels is_bare pid f (label_of pid path f)
-  unfolding label_of found
+  unfolding label_of object_at
   relabels_label_of path = search refusing depth 80 fits 16000
 
   relabels_self_label : Relabels is_bare pid f (self_label pid f)
@@ -205,7 +205,7 @@ module _ (pid : ℕ) (f : Frame) where
   relabels_self_label = search refusing depth 80 fits 16000
 
   relabels_set_label : (place : ℕ) (path : PathOf) (now : Categories) → Relabels is_bare pid f (set_label place pid path now f)
-  unfolding set_label found
+  unfolding set_label object_at
   relabels_set_label place path now = search refusing depth 80 fits 16000
 
   relabels_set_self : (place : ℕ) (now : Categories) → Relabels is_bare pid f (set_self place pid now f)
@@ -213,7 +213,7 @@ module _ (pid : ℕ) (f : Frame) where
   relabels_set_self place now = search refusing depth 80 fits 16000
 
   relabels_freeze : (path : PathOf) → Relabels is_bare pid f (freeze pid path f)
-  unfolding freeze found
+  unfolding freeze object_at
   relabels_freeze path = search refusing depth 80 fits 16000
 
   relabels_freeze_self : Relabels is_bare pid f (freeze_self pid f)
@@ -221,7 +221,7 @@ module _ (pid : ℕ) (f : Frame) where
   relabels_freeze_self = search refusing depth 80 fits 16000
 
   relabels_thaw : (place : ℕ) (path : PathOf) → Relabels is_bare pid f (thaw place pid path f)
-  unfolding thaw found
+  unfolding thaw object_at
   relabels_thaw place path = search refusing depth 80 fits 16000
 
   relabels_thaw_self : (place : ℕ) → Relabels is_bare pid f (thaw_self place pid f)
@@ -229,7 +229,7 @@ module _ (pid : ℕ) (f : Frame) where
   relabels_thaw_self place = search refusing depth 80 fits 16000
 
   relabels_set_priv : (place : ℕ) (path : PathOf) (cap lic : PrivSet) → Relabels is_bare pid f (set_priv place pid path cap lic f)
-  unfolding set_priv found
+  unfolding set_priv object_at
   relabels_set_priv place path cap lic = search refusing depth 80 fits 16000
 
   relabels_drop_lic : (set : PrivSet) → Relabels is_bare pid f (drop_lic pid set f)
@@ -314,8 +314,8 @@ settled_frames pid f (Refuse why g) r h is =
     subst (λ (x : Refusal). Frames pid f x (if keeps_label why then g else f)) same (frames_of pid f g why h)
 settled_frames pid f (Pass a g) r h is = absurd (true≢false (sym h ∙ ap is_answer is))
 
-pub decided_frames : (t : Told) (place pid : ℕ) (c : Op) (f : Frame) (r : Refusal) → (decide t place pid c f).reply ≡ reply.No r → Frames pid f r (decide t place pid c f).frame
-unfolding decide
+pub decided_frames : (t : Told) (place pid : ℕ) (c : Op) (f : Frame) (r : Refusal) → (verdict t place pid c f).reply ≡ reply.No r → Frames pid f r (verdict t place pid c f).frame
+unfolding verdict
 decided_frames t place pid c f r is = go (lives f pid) is
   where
     unknown : Decision

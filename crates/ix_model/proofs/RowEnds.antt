@@ -5,8 +5,8 @@ use Rattle.std.specs.List.{range_with_len}
 use Rattle.ix_label.specs.Category.{Categories}
 use Rattle.ix_model.specs.World.{Frame, Object, at, put}
 use Rattle.ix_model.specs.Outcomes.{Row}
-use Rattle.ix_model.specs.Rows.{◌>>=◌, ◌>>◌, pass, only_if, caller, record_of, change_object, change_process, put_object, put_open, put_process, add_process}
-use Rattle.ix_model.specs.Walks.{Sought, Behind, behind, spot, vacant}
+use Rattle.ix_model.specs.Rows.{◌>>=◌, ◌>>◌, pass, only_if, process, record_of, change_object, change_process, put_object, put_open, put_process, add_process}
+use Rattle.ix_model.specs.Walks.{Spot, Sought, Behind, behind, found_spot, vacant}
 use Rattle.ix_model.specs.Walks as sought
 use Rattle.ix_model.specs.Lifetimes.{let_go_object, let_go_open, let_go_claim, let_go, let_go_if_held, let_go_each, let_go_all, has_lost}
 use Rattle.ix_model.specs.Auditing.{entitled, log_has_room, exercise, logged}
@@ -40,8 +40,8 @@ ends_allowed pid was now f P Q h k = ends_test (allowed pid was now) f P Q (λ R
 pub ends_movable : (x : Object) (now : Categories) (f : Frame) (P : Refusal → Frame → Type 0) (Q : Unit {0} → Frame → Type 0) → ((r : Refusal) → P r f) → Q tt f → Ends (movable x now f) P Q
 ends_movable x now f P Q h k = ends_test (movable x now) f P Q (λ R. keeps_movable R x now) h k
 
-pub ends_spot : (w : Sought) (f : Frame) (P : Refusal → Frame → Type 0) (Q : ℕ × Option ℕ → Frame → Type 0) → ((o : ℕ) (dir : Option ℕ) → w ≡ sought.Found o dir → Q (o, dir) f) → P refusal.NotDir f → P refusal.NotFound f → Ends (spot w f) P Q
-unfolding spot Ends pass Rattle.ix_model.specs.Rows.refuse
+pub ends_spot : (w : Sought) (f : Frame) (P : Refusal → Frame → Type 0) (Q : Spot → Frame → Type 0) → ((o : ℕ) (dir : Option ℕ) → w ≡ sought.Found o dir → Q (record { object = o; dir = dir }) f) → P refusal.NotDir f → P refusal.NotFound f → Ends (found_spot w f) P Q
+unfolding found_spot Ends pass Rattle.ix_model.specs.Rows.refuse
 ends_spot sought.NotDir f P Q h d n = d
 ends_spot sought.NotFound f P Q h d n = n
 ends_spot (sought.Missing a) f P Q h d n = n

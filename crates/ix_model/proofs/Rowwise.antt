@@ -3,23 +3,23 @@ use Rattle.std.proofs.Common.{ℕ, ◌≡◌, ◌&&◌, Bool, true, false, List,
 use Rattle.std.specs.Option.{option_map_or}
 use Rattle.std.specs.List.{list_all, range_with_len}
 use Rattle.std.proofs.lemmas.Bool.{and_parts}
-use Rattle.ix_label.specs.Category.{Categories, bottom}
+use Rattle.ix_label.specs.Category.{Categories, bottom, join}
 use Rattle.ix_model.specs.Naming.{PathOf}
 use Rattle.ix_model.specs.Privs.{no_privileges}
 use Rattle.ix_model.specs.Numbers.{free_inode, free_pipe}
 use Rattle.ix_model.specs.World.{Frame, Object, Process, Open, put, no_claims}
 use Rattle.ix_model.specs.Outcomes.{Row}
-use Rattle.ix_model.specs.Rows.{◌>>=◌, some, frame, pass, put_open, put_object, put_process, add_process, change_object, change_process, observe, affect}
-use Rattle.ix_model.specs.Walks.{Behind, behind, walked_to, found, found_in, missing, opened}
+use Rattle.ix_model.specs.Rows.{◌>>=◌, some, frame, pass, put_open, change_open, put_object, put_process, add_process, change_object, change_process, observe, affect}
+use Rattle.ix_model.specs.Walks.{Behind, behind, walked_to, object_at, spot_at, missing, opened}
 use Rattle.ix_model.specs.Lifetimes.{let_go_object, let_go_open, let_go_claim, let_go, let_go_if_held, let_go_each, let_go_all, has_lost}
 use Rattle.ix_model.specs.Auditing.{logged}
 use Rattle.ix_model.specs.OnPaths.{new_object, make, create_at, make_dir, open_at, link_at, unlink_at, remove_dir, change_dir, stat_at, list_at}
-use Rattle.ix_model.specs.OnDescriptors.{Told, read_fd, write_fd, cut_fd, seek_fd, dup_fd, close_fd, make_pipe, pex, unpex}
+use Rattle.ix_model.specs.OnDescriptors.{Told, float_entry, read_fd, write_fd, cut_fd, seek_fd, dup_fd, close_fd, make_pipe, pex, unpex}
 use Rattle.ix_model.specs.OnProcesses.{end_process, fork, exec, exit, wait_child}
 use Rattle.ix_model.specs.OnLabels.{label_of, self_label, set_label, set_self, freeze, freeze_self, thaw, thaw_self, set_priv, drop_lic, grant_lic, set_ceiling, read_log}
 use Rattle.ix_model.specs.Table.{row}
-use Rattle.ix_model.specs.History.{Op}
-use Rattle.ix_model.specs.History as op
+use Rattle.ix_model.specs.Events.{Op}
+use Rattle.ix_model.specs.Events as op
 use Rattle.ix_model.specs.declared.call.Keep.{Keep}
 use Rattle.ix_model.specs.declared.call.Mode.{Mode}
 use Rattle.ix_model.specs.declared.privs.PrivSet.{PrivSet}
@@ -79,6 +79,7 @@ pub record Words (can : Change → Bool) (pid : ℕ) (R : Frame → Type 0) : Ty
   pub process : (p : ℕ) (h : Process → Process) → ((q : Process) → process_core (h q) ≡ process_core q) → Keeps R (change_process p h)
   pub float : (h : Process → Process) → ((q : Process) → record (h q) { label = bottom } ≡ record q { label = bottom }) → Keeps R (change_process pid h)
   pub entry : (e : ℕ) (x : Open) → Keeps R (put_open e (Some x))
+  pub through : (e : ℕ) (l : Categories) → Keeps R (change_open e (λ y. record y { label = join y.label l }))
   pub unclaim : (o end : ℕ) → Keeps R (change_object o (λ x. record x { claims = put x.claims end None }))
   pub relabel : can Relabelling ≡ true → (o : ℕ) (h : Object → Object) → ((x : Object) → record (h x) { label = bottom } ≡ record x { label = bottom }) → Keeps R (change_object o h)
   pub claim : can Claiming ≡ true → (o : ℕ) (h : Object → Object) → ((x : Object) → record (h x) { claims = no_claims } ≡ record x { claims = no_claims }) → Keeps R (change_object o h)
@@ -114,6 +115,9 @@ module _ (can : Change → Bool) (pid : ℕ) (R : Frame → Type 0) (w : Words c
   w_entry : (e : ℕ) (x : Open) → Keeps R (put_open e (Some x))
   w_entry = w.entry
 
+  w_through : (e : ℕ) (l : Categories) → Keeps R (change_open e (λ y. record y { label = join y.label l }))
+  w_through = w.through
+
   w_unclaim : (o end : ℕ) → Keeps R (change_object o (λ x. record x { claims = put x.claims end None }))
   w_unclaim = w.unclaim
 
@@ -148,27 +152,27 @@ module _ (can : Change → Bool) (pid : ℕ) (R : Frame → Type 0) (w : Words c
   w_gone_open = w.gone_open
 
   -- the tests, and the words that a row changes the frame by
-  ruleset wording = (keeps_bind_frame, keeps_bind_some, keeping, keeping_tests, w_object, w_process, w_float, w_entry, w_unclaim, w_relabel, w_claim, w_log, w_inode, w_pipe, w_fork, w_end, w_collect, w_gone_object, w_gone_open)
+  ruleset wording = (keeps_bind_frame, keeps_bind_some, keeping, keeping_tests, w_object, w_process, w_float, w_entry, w_through, w_unclaim, w_relabel, w_claim, w_log, w_inode, w_pipe, w_fork, w_end, w_collect, w_gone_object, w_gone_open)
 
   -- ---- parts of rows
   pub kept_observe : (seen : Categories) → Keeps R (observe pid seen)
   unfolding observe
   kept_observe seen = search wording depth 30
 
-  kept_affect : can Relabelling ≡ true → (o : ℕ) → Keeps R (affect pid o)
+  kept_affect : can Relabelling ≡ true → (o : ℕ) (l : Categories) → Keeps R (affect pid o l)
   unfolding affect
-  kept_affect moves o = search wording depth 30
+  kept_affect moves o l = search wording depth 30
 
   pub kept_walked_to : (path : PathOf) → Keeps R (walked_to pid path)
   unfolding walked_to
   kept_walked_to path = search (wording, kept_observe) depth 30
 
-  pub kept_found : (path : PathOf) → Keeps R (found pid path)
-  unfolding found
+  pub kept_found : (path : PathOf) → Keeps R (object_at pid path)
+  unfolding object_at
   kept_found path = search (wording, kept_walked_to) depth 30
 
-  pub kept_found_in : (path : PathOf) → Keeps R (found_in pid path)
-  unfolding found_in
+  pub kept_found_in : (path : PathOf) → Keeps R (spot_at pid path)
+  unfolding spot_at
   kept_found_in path = search (wording, kept_walked_to) depth 30
 
   pub kept_missing : (path : PathOf) → Keeps R (missing pid path)
@@ -178,6 +182,10 @@ module _ (can : Change → Bool) (pid : ℕ) (R : Frame → Type 0) (w : Words c
   pub kept_opened : (fd : ℕ) → Keeps R (opened pid fd)
   unfolding opened
   kept_opened fd = search wording depth 30
+
+  kept_float_entry : (p : Process) (x : Object) (e : Behind) → Keeps R (float_entry p x e)
+  unfolding float_entry
+  kept_float_entry p x e = search wording depth 30
 
   -- ---- what goes
   kept_let_go_object : can LettingGo ≡ true → (o : ℕ) → Keeps R (let_go_object o)
@@ -250,11 +258,11 @@ module _ (can : Change → Bool) (pid : ℕ) (R : Frame → Type 0) (w : Words c
 
   kept_read_fd : (t : Told) (fd count : ℕ) → Keeps R (read_fd t pid fd count)
   unfolding read_fd
-  kept_read_fd t fd count = search rows depth 40
+  kept_read_fd t fd count = search (rows, kept_float_entry) depth 40
 
   kept_write_fd : can Relabelling ≡ true → (t : Told) (fd : ℕ) → Keeps R (write_fd t pid fd)
   unfolding write_fd
-  kept_write_fd moves t fd = search rows depth 40
+  kept_write_fd moves t fd = search (rows, kept_float_entry) depth 40
 
   kept_cut_fd : can Relabelling ≡ true → (t : Told) (fd len : ℕ) → Keeps R (cut_fd t pid fd len)
   unfolding cut_fd
@@ -262,7 +270,7 @@ module _ (can : Change → Bool) (pid : ℕ) (R : Frame → Type 0) (w : Words c
 
   kept_seek_fd : (fd offset : ℕ) → Keeps R (seek_fd pid fd offset)
   unfolding seek_fd
-  kept_seek_fd fd offset = search rows depth 40
+  kept_seek_fd fd offset = search (rows, kept_float_entry) depth 40
 
   kept_dup_fd : (fd : ℕ) → Keeps R (dup_fd pid fd)
   unfolding dup_fd

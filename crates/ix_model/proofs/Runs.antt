@@ -3,8 +3,8 @@ use Rattle.std.proofs.Common.{◌≡◌, ℕ, suc, ◌+◌, List, [], ◌∷◌,
 use Rattle.ix_model.specs.World.{World}
 use Rattle.ix_model.specs.Opening.{opening_world}
 use Rattle.ix_model.specs.Step.{step_of, run}
-use Rattle.ix_model.specs.History.{Event}
-use Rattle.ix_model.specs.Histories.{History, world_of, next, with_entry}
+use Rattle.ix_model.specs.Events.{Event}
+use Rattle.ix_model.specs.History.{History, world_of, next, with_entry}
 use Rattle.ix_model.specs.declared.config.Config.{Config}
 
 run-push : (w : World) (place : ℕ) (events : List Event) (e : Event) → run w place (events ++ e ∷ []) ≡ (step_of (run w place events) (length events + place) e).world

@@ -114,9 +114,9 @@ module _ (pid : ℕ) (f : Frame) where
 
   -- ---- affecting
   -- whatever becomes of the object
-  pub ends_moved : (o : ℕ) (g : Frame) (P : Refusal → Frame → Type 0) (Q : Unit {0} → Frame → Type 0) → ((r : Refusal) (h : Frame) → keeps_label r ≡ false → P r h) → ((h : Frame) → Q tt h) → Ends (affect pid o g) P Q
+  pub ends_moved : (o : ℕ) (l : Categories) (g : Frame) (P : Refusal → Frame → Type 0) (Q : Unit {0} → Frame → Type 0) → ((r : Refusal) (h : Frame) → keeps_label r ≡ false → P r h) → ((h : Frame) → Q tt h) → Ends (affect pid o l g) P Q
   unfolding affect
-  ends_moved o g P Q refused next =
+  ends_moved o l g P Q refused next =
       ends_bind _ _ g P Q (ends_caller pid g P _ (λ p lives.
       ends_bind _ _ g P Q (ends_object o g P _ (λ x is.
       ends_bind _ _ g P Q (ends_frame g P _ (ends_only_if _ _ g P Q

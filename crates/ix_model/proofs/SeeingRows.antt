@@ -1,4 +1,5 @@
 -- What the rows have looked at where they refuse and the label is kept.
+use Rattle.std.specs.Option.{option_map_or}
 use Rattle.std.proofs.Common.{◌≡◌, ℕ, Bool, true, false, true≢false, Option, Some, None, option_map, refl, sym, ap, ◌∙◌, subst, if◌then◌else◌}
 use Rattle.ix_label.specs.Category.{Categories, bottom, join}
 use Rattle.ix_model.specs.Naming.{PathOf}
@@ -6,18 +7,18 @@ use Rattle.ix_model.specs.Refusals.{keeps_label}
 use Rattle.ix_model.specs.World.{Frame, Object, Process, at, change, lives}
 use Rattle.ix_model.specs.Outcomes.{Outcome, Refuse, Pass}
 use Rattle.ix_model.specs.Rows.{observe}
-use Rattle.ix_model.specs.Walks.{Sought, Behind, behind, found, found_in, missing, walked_to}
+use Rattle.ix_model.specs.Walks.{Sought, Behind, behind, object_at, spot_at, missing, walked_to}
 use Rattle.ix_model.specs.Walks as sought
 use Rattle.ix_model.specs.Auditing.{exercise, entitled, log_has_room}
 use Rattle.ix_model.specs.OnPaths.{make, create_at, make_dir, open_at, link_at, unlink_at, remove_dir, change_dir, stat_at, list_at}
 use Rattle.ix_model.specs.OnDescriptors.{Told, read_fd, write_fd, cut_fd, seek_fd, dup_fd, close_fd, make_pipe, claimed, pex, unpex}
 use Rattle.ix_model.specs.OnProcesses.{fork, exec, exit, wait_child}
 use Rattle.ix_model.specs.OnLabels.{allowed, movable, label_of, self_label, set_label, set_self, freeze, freeze_self, thaw, thaw_self, set_priv, drop_lic, grant_lic, set_ceiling, read_log}
-use Rattle.ix_model.specs.Table.{Decision, row, settled, decide}
+use Rattle.ix_model.specs.Table.{Decision, row, settled, verdict}
 use Rattle.ix_model.specs.AuditLog.{object_of_path, label_at, is_answer}
 use Rattle.ix_model.specs.Looked.{along, looked_at}
-use Rattle.ix_model.specs.History.{Op}
-use Rattle.ix_model.specs.History as op
+use Rattle.ix_model.specs.Events.{Op}
+use Rattle.ix_model.specs.Events as op
 use Rattle.ix_model.specs.declared.call.Keep.{Keep}
 use Rattle.ix_model.specs.declared.call.Mode.{Mode}
 use Rattle.ix_model.specs.declared.privs.PrivSet.{PrivSet}
@@ -31,6 +32,7 @@ use Rattle.ix_model.proofs.Ends.{Ends, ending}
 use Rattle.ix_model.proofs.Refusing.{Relabelled, refusing_row, Plain, plain_answer, decided_frames}
 use Rattle.ix_model.proofs.Endings.{ends_record_of, ends_put_object, ends_put_process, ends_add_process}
 use Rattle.ix_model.proofs.RowEnds.{ends_spot, ends_vacant, ends_end_process, ends_logged, ends_let_go_object, ends_let_go, ends_let_go_all}
+use Rattle.ix_model.proofs.Looks.{ends_float_entry}
 use Rattle.ix_model.proofs.Seeing.{Seen, join_nothing, nothing_joined, seen_nothing, ends_seen, ends_seen_walk, ends_moved}
 
 -- what has been looked at where a row refuses so
@@ -72,7 +74,7 @@ module _ (pid : ℕ) (f : Frame) (start : Seen pid f bottom f) where
     unfolding exercise entitled log_has_room
     exercised x = search (ending, refused, next) depth 40
 
-  ruleset seeing = (ending, ends_record_of, ends_spot, ends_vacant, ends_put_object, ends_put_process, ends_add_process, ends_end_process, ends_logged, ends_let_go_object, ends_let_go, ends_let_go_all, ends_seen, ends_seen_walk, ends_moved, dropped, kept, claim_answered, entitled_or_not, room_or_not, exercised)
+  ruleset seeing = (ending, ends_record_of, ends_spot, ends_vacant, ends_put_object, ends_put_process, ends_add_process, ends_end_process, ends_logged, ends_let_go_object, ends_let_go, ends_let_go_all, ends_seen, ends_seen_walk, ends_moved, ends_float_entry, dropped, kept, claim_answered, entitled_or_not, room_or_not, exercised)
 
   abbrev pub Sees : (Refusal → Categories) → Outcome Reply → Type 0
   Sees seen o = Ends o (AsSeen pid f seen) (λ a g. Unit {0})
@@ -94,43 +96,43 @@ module _ (pid : ℕ) (f : Frame) (start : Seen pid f bottom f) where
   sees_link_at target path = search seeing depth 80 fits 16000
 
   sees_unlink_at : (path : PathOf) → Sees (one path) (unlink_at pid path f)
-  unfolding unlink_at found_in
+  unfolding unlink_at spot_at
   sees_unlink_at path = search seeing depth 80 fits 16000
 
   sees_open_at : (path : PathOf) (mode : Mode) → Sees (one path) (open_at pid path mode f)
-  unfolding open_at found
+  unfolding open_at object_at
   sees_open_at path mode = search seeing depth 80 fits 16000
 
   sees_change_dir : (path : PathOf) → Sees (one path) (change_dir pid path f)
-  unfolding change_dir found
+  unfolding change_dir object_at
   sees_change_dir path = search seeing depth 80 fits 16000
 
   sees_stat_at : (path : PathOf) → Sees (one path) (stat_at pid path f)
-  unfolding stat_at found
+  unfolding stat_at object_at
   sees_stat_at path = search seeing depth 80 fits 16000
 
   sees_exec : (path : PathOf) → Sees (one path) (exec pid path f)
-  unfolding exec found
+  unfolding exec object_at
   sees_exec path = search seeing depth 80 fits 16000
 
   sees_label_of : (path : PathOf) → Sees (one path) (label_of pid path f)
-  unfolding label_of found
+  unfolding label_of object_at
   sees_label_of path = search seeing depth 80 fits 16000
 
   sees_set_label : (place : ℕ) (path : PathOf) (now : Categories) → Sees (one path) (set_label place pid path now f)
-  unfolding set_label found allowed movable Ends
+  unfolding set_label object_at allowed movable Ends
   sees_set_label place path now = search seeing depth 80 fits 16000
 
   sees_freeze : (path : PathOf) → Sees (one path) (freeze pid path f)
-  unfolding freeze found
+  unfolding freeze object_at
   sees_freeze path = search seeing depth 80 fits 16000
 
   sees_thaw : (place : ℕ) (path : PathOf) → Sees (one path) (thaw place pid path f)
-  unfolding thaw found
+  unfolding thaw object_at
   sees_thaw place path = search seeing depth 80 fits 16000
 
   sees_set_priv : (place : ℕ) (path : PathOf) (cap lic : PrivSet) → Sees (one path) (set_priv place pid path cap lic f)
-  unfolding set_priv found
+  unfolding set_priv object_at
   sees_set_priv place path cap lic = search seeing depth 80 fits 16000
 
   -- ---- the rows that look at an object besides
@@ -148,8 +150,15 @@ module _ (pid : ℕ) (f : Frame) (start : Seen pid f bottom f) where
   look_at_path : (path : PathOf) (s : Categories) (o : ℕ) (x : Object) (g : Frame) (P : Refusal → Frame → Type 0) (Q : Unit {0} → Frame → Type 0) → Seen pid f s g → object_of_path f pid path ≡ Some o → at g.objects o ≡ Some x → ((r : Refusal) (h : Frame) → keeps_label r ≡ false → P r h) → ((h : Frame) → Seen pid f (join s (label_at f (object_of_path f pid path))) h → Q tt h) → Ends (observe pid x.label g) P Q
   look_at_path path s o x g P Q r leads is refused next = look_there s (object_of_path f pid path) o x g P Q r leads is refused next
 
-  look_behind : (fd : ℕ) (s : Categories) (e : Behind) (x : Object) (g : Frame) (P : Refusal → Frame → Type 0) (Q : Unit {0} → Frame → Type 0) → Seen pid f s g → behind f pid fd ≡ Some e → at g.objects e.entry.object ≡ Some x → ((r : Refusal) (h : Frame) → keeps_label r ≡ false → P r h) → ((h : Frame) → Seen pid f (join s (label_at f (option_map (λ (b : Behind). b.entry.object) (behind f pid fd)))) h → Q tt h) → Ends (observe pid x.label g) P Q
-  look_behind fd s e x g P Q r leads is refused next = look_there s _ e.entry.object x g P Q r (ap (option_map (λ (b : Behind). b.entry.object)) leads) is refused next
+  -- the label of the pipe behind a descriptor, with that of its open entry
+  read_label : ℕ → Categories
+  read_label fd = option_map_or (λ (e : Behind). join (label_at f (Some e.entry.object)) e.entry.label) (behind f pid fd) bottom
+
+  look_behind : (fd : ℕ) (s : Categories) (e : Behind) (x : Object) (g : Frame) (P : Refusal → Frame → Type 0) (Q : Unit {0} → Frame → Type 0) → Seen pid f s g → behind f pid fd ≡ Some e → at g.objects e.entry.object ≡ Some x → ((r : Refusal) (h : Frame) → keeps_label r ≡ false → P r h) → ((h : Frame) → Seen pid f (join s (read_label fd)) h → Q tt h) → Ends (observe pid (join x.label e.entry.label) g) P Q
+  unfolding read_label
+  look_behind fd s e x g P Q r leads is refused next =
+      let met : read_label fd ≡ join x.label e.entry.label = ap (λ b. option_map_or (λ (e : Behind). join (label_at f (Some e.entry.object)) e.entry.label) b bottom) leads ∙ (λ i. join (label_there s g (Some e.entry.object) e.entry.object x r refl is i) e.entry.label) in
+      ends_seen pid f s (join x.label e.entry.label) g P Q r refused (λ h there. next h (subst (λ (l : Categories). Seen pid f (join s l) h) (sym met) there))
 
   abbrev besides : PathOf → Categories
   besides path = join (join bottom (along f pid path)) (label_at f (object_of_path f pid path))
@@ -164,17 +173,17 @@ module _ (pid : ℕ) (f : Frame) (start : Seen pid f bottom f) where
   in_list path r = join bottom (along f pid path)
 
   abbrev in_read : ℕ → Refusal → Categories
-  in_read fd refusal.Again = join bottom (label_at f (option_map (λ (e : Behind). e.entry.object) (behind f pid fd)))
+  in_read fd refusal.Again = join bottom (read_label fd)
   in_read fd r = bottom
 
-  ruleset seeing_besides = (ending, ends_record_of, ends_spot, ends_vacant, ends_put_object, ends_put_process, ends_add_process, ends_end_process, ends_logged, ends_let_go_object, ends_seen_walk, ends_moved, dropped, kept)
+  ruleset seeing_besides = (ending, ends_record_of, ends_spot, ends_vacant, ends_put_object, ends_put_process, ends_add_process, ends_end_process, ends_logged, ends_let_go_object, ends_seen_walk, ends_moved, ends_float_entry, dropped, kept)
 
   sees_remove_dir : (path : PathOf) → Sees (in_remove path) (remove_dir pid path f)
-  unfolding remove_dir found_in Ends
+  unfolding remove_dir spot_at Ends
   sees_remove_dir path = search (seeing_besides, look_at_path path) depth 80 fits 16000
 
   sees_list_at : (path : PathOf) (index : ℕ) → Sees (in_list path) (list_at pid path index f)
-  unfolding list_at found
+  unfolding list_at object_at
   sees_list_at path index = search (seeing_besides, look_at_path path) depth 80 fits 16000
 
   sees_read_fd : (t : Told) (fd count : ℕ) → Sees (in_read fd) (read_fd t pid fd count f)
@@ -259,19 +268,15 @@ module _ (pid : ℕ) (f : Frame) (start : Seen pid f bottom f) where
   sees_read_log place index = search seeing depth 80 fits 16000
 
   -- ---- the table
-  no_label : label_at f None ≡ bottom
-  unfolding label_at
-  no_label = refl
-
-  tells_none : (r : Refusal) → join bottom (label_at f None) ≡ bottom
-  tells_none r = (λ i. join bottom (no_label i)) ∙ join_nothing bottom
+  tells_none : (r : Refusal) → join bottom bottom ≡ bottom
+  tells_none r = join_nothing bottom
 
   -- of one path, with an object besides or none
   tells : (path : PathOf) (l : Categories) → join (join (along f pid path) bottom) l ≡ join (join bottom (along f pid path)) l
   tells path l = (λ i. join (join_nothing (along f pid path) i) l) ∙ (λ i. join (sym (nothing_joined (along f pid path)) i) l)
 
-  tells_one : (path : PathOf) → join (join (along f pid path) bottom) (label_at f None) ≡ join bottom (along f pid path)
-  tells_one path = tells path (label_at f None) ∙ (λ i. join (join bottom (along f pid path)) (no_label i)) ∙ join_nothing _
+  tells_one : (path : PathOf) → join (join (along f pid path) bottom) bottom ≡ join bottom (along f pid path)
+  tells_one path = tells path bottom ∙ join_nothing _
 
   tells_remove : (path : PathOf) (r : Refusal) → looked_at f pid (op.RemoveDir path) r ≡ in_remove path r
   tells_remove path refusal.NotEmpty = tells path _
@@ -283,19 +288,20 @@ module _ (pid : ℕ) (f : Frame) (start : Seen pid f bottom f) where
   tells_list path index _ = tells_one path
 
   tells_read : (fd count : ℕ) (r : Refusal) → looked_at f pid (op.ReadFd fd count) r ≡ in_read fd r
+  unfolding read_label
   tells_read fd count refusal.Again = refl
   tells_read fd count _ = tells_none refusal.Again
 
-  tells_link : (target path : PathOf) → join (join (along f pid target) (join (along f pid path) bottom)) (label_at f None) ≡ join (join bottom (along f pid target)) (along f pid path)
+  tells_link : (target path : PathOf) → join (join (along f pid target) (join (along f pid path) bottom)) bottom ≡ join (join bottom (along f pid target)) (along f pid path)
   tells_link target path =
-      (λ i. join (join (along f pid target) (join_nothing (along f pid path) i)) (no_label i))
+      (λ i. join (join (along f pid target) (join_nothing (along f pid path) i)) bottom)
       ∙ join_nothing _
       ∙ (λ i. join (sym (nothing_joined (along f pid target)) i) (along f pid path))
 
-  with_one : (path : PathOf) (o : Outcome Reply) → Sees (one path) o → Sees (λ r. join (join (along f pid path) bottom) (label_at f None)) o
+  with_one : (path : PathOf) (o : Outcome Reply) → Sees (one path) o → Sees (λ r. join (join (along f pid path) bottom) bottom) o
   with_one path o h = said (one path) _ o (λ r. tells_one path) h
 
-  with_none : (o : Outcome Reply) → Sees none o → Sees (λ r. join bottom (label_at f None)) o
+  with_none : (o : Outcome Reply) → Sees none o → Sees (λ r. join bottom bottom) o
   with_none o h = said none _ o tells_none h
 
   pub sees_row : (t : Told) (place : ℕ) (c : Op) → Sees (looked_at f pid c) (row t place pid c f)
@@ -351,8 +357,8 @@ unfolding Ends
 both_end (Refuse r g) P P2 Q h k = h
 both_end (Pass a g) P P2 Q h k = k
 
-pub decided_seen : (t : Told) (place pid : ℕ) (c : Op) (f : Frame) (r : Refusal) → (decide t place pid c f).reply ≡ reply.No r → keeps_label r ≡ true → Seen pid f (looked_at f pid c r) (decide t place pid c f).frame
-unfolding decide
+pub decided_seen : (t : Told) (place pid : ℕ) (c : Op) (f : Frame) (r : Refusal) → (verdict t place pid c f).reply ≡ reply.No r → keeps_label r ≡ true → Seen pid f (looked_at f pid c r) (verdict t place pid c f).frame
+unfolding verdict
 decided_seen t place pid c f r is keeps = go (lives f pid) is
   where
     unknown : Decision

@@ -3,18 +3,19 @@ use Rattle.std.proofs.Common.{◌≡◌, ◌≤◌, ℕ, Bool, true, false, List
 use Rattle.std.proofs.lemmas.Bool.{leb-true}
 use Rattle.std.proofs.lemmas.List.{length-take}
 use Rattle.ix_label.specs.Category.{Categories}
+use Rattle.ix_model.proofs.Looks.{ends_float_entry}
 use Rattle.ix_model.specs.World.{World, Frame, lives}
 use Rattle.ix_model.specs.Outcomes.{Outcome, Refuse, Pass}
 use Rattle.ix_model.specs.Rows.{observe}
 use Rattle.ix_model.specs.Walks.{Behind, behind}
 use Rattle.ix_model.specs.OnDescriptors.{Told, read_fd}
-use Rattle.ix_model.specs.Table.{Decision, row, settled, decide}
+use Rattle.ix_model.specs.Table.{Decision, row, settled, verdict}
 use Rattle.ix_model.specs.Contents.{readable}
 use Rattle.ix_model.specs.Step.{plainly, read_answer, write_answer, cut_answer, seek_answer, stat_answer, exit_answer, wait_answer, pex_answer, answer, step}
 use Rattle.ix_model.specs.Telling.{told}
 use Rattle.ix_model.specs.Shown.{AreShown}
-use Rattle.ix_model.specs.History.{Op}
-use Rattle.ix_model.specs.History as op
+use Rattle.ix_model.specs.Events.{Op}
+use Rattle.ix_model.specs.Events as op
 use Rattle.ix_model.specs.declared.refusal.Refusal.{Refusal}
 use Rattle.ix_model.specs.declared.refusal.Refusal.TheVariants as refusal
 use Rattle.ix_model.specs.declared.reply.Kind.TheVariants as kind
@@ -36,8 +37,8 @@ unfolding Ends
 without pid f (Refuse r g) h = refl
 without pid f (Pass r g) h = bare_without r h
 
-decided_without : (t : Told) (place pid : ℕ) (o : Op) (f : Frame) → Relabels is_bare pid f (row t place pid o f) → Without (decide t place pid o f).reply
-unfolding decide
+decided_without : (t : Told) (place pid : ℕ) (o : Op) (f : Frame) → Relabels is_bare pid f (row t place pid o f) → Without (verdict t place pid o f).reply
+unfolding verdict
 decided_without t place pid o f h = go (lives f pid)
   where
     unknown : Decision
@@ -66,7 +67,7 @@ pub record ReadFacts (pid fd count : ℕ) (f : Frame) (r : Reply) : Type 0 where
 
 read_ends : (t : Told) (pid fd count : ℕ) (f : Frame) → Ends (read_fd t pid fd count f) Anything (λ r g. ReadFacts pid fd count f r)
 unfolding read_fd
-read_ends t pid fd count f = search (ending, any_observe) depth 40 fits 8000
+read_ends t pid fd count f = search (ending, any_observe, ends_float_entry) depth 40 fits 8000
 
 -- what a read's decision says: bytes, with these facts, or a refusal
 pub data Said (pid fd count : ℕ) (f : Frame) : Reply → Type 0 where
@@ -78,8 +79,8 @@ unfolding Ends
 settled_said pid fd count f (Refuse r g) h = Refused
 settled_said pid fd count f (Pass r g) h = Passed h
 
-read_said : (t : Told) (place pid fd count : ℕ) (f : Frame) → Said pid fd count f (decide t place pid (op.ReadFd fd count) f).reply
-unfolding decide row
+read_said : (t : Told) (place pid fd count : ℕ) (f : Frame) → Said pid fd count f (verdict t place pid (op.ReadFd fd count) f).reply
+unfolding verdict row
 read_said t place pid fd count f = go (lives f pid)
   where
     unknown : Decision

@@ -3,14 +3,14 @@ use Rattle.std.proofs.Common.{◌≡◌, ℕ, suc, Bool, true, false, not, List,
 use Rattle.std.specs.Option.{option_map_or, option_and_then}
 use Rattle.std.proofs.Math.ListN.{get_or-append}
 use Rattle.ix_model.specs.World.{World, Frame, Process, at}
-use Rattle.ix_model.specs.Rows.{change_object, change_process, put_object, put_open, put_process, add_process}
+use Rattle.ix_model.specs.Rows.{change_object, change_process, put_object, put_open, put_process, add_process, change_open}
 use Rattle.ix_model.specs.Auditing.{logged}
 use Rattle.ix_model.specs.OnProcesses.{remains, end_process}
 use Rattle.ix_model.specs.OnDescriptors.{Told}
-use Rattle.ix_model.specs.Table.{decide}
+use Rattle.ix_model.specs.Table.{verdict}
 use Rattle.ix_model.specs.Telling.{told}
 use Rattle.ix_model.specs.Step.{step, step_of, run}
-use Rattle.ix_model.specs.History.{Op, Event}
+use Rattle.ix_model.specs.Events.{Op, Event}
 use Rattle.ix_model.specs.Laws.{PidsSpent}
 use Rattle.ix_model.proofs.Tables.{none_is, seen_changed, seen_put}
 use Rattle.ix_model.proofs.Keeps.{Holds, Keeps}
@@ -74,12 +74,13 @@ module _ (f : Frame) where
   }
 
   spent_words : (pid : ℕ) → Words all pid (PidsSpent f)
-  unfolding change_object put_object put_open logged Holds
+  unfolding change_object change_open put_object put_open logged Holds
   spent_words pid = record {
     object = λ o h same. record { led = λ g r. same_processes f g _ refl r };
     process = λ p h same. spent_processes p h (λ q. ap (λ x. x.ended) (same q));
     float = λ h same. spent_processes pid h (λ q. ap (λ x. x.ended) (same q));
     entry = λ e x. record { led = λ g r. same_processes f g _ refl r };
+    through = λ e l. record { led = λ g r. same_processes f g _ refl r };
     unclaim = λ o end. record { led = λ g r. same_processes f g _ refl r };
     relabel = λ can o h same. record { led = λ g r. same_processes f g _ refl r };
     claim = λ can o h same. record { led = λ g r. same_processes f g _ refl r };
@@ -97,7 +98,7 @@ module _ (f : Frame) where
 spent_itself : (f : Frame) → PidsSpent f f
 spent_itself f = record { grown = omega arith; gone = λ p low is. is; ended = λ p is low. is }
 
-pub spent_decided : (t : Told) (place pid : ℕ) (c : Op) (f : Frame) → PidsSpent f (decide t place pid c f).frame
+pub spent_decided : (t : Told) (place pid : ℕ) (c : Op) (f : Frame) → PidsSpent f (verdict t place pid c f).frame
 spent_decided t place pid c f = decided (PidsSpent f) t place pid c f (spent_itself f) ((kept_row all pid (PidsSpent f) (spent_words f pid) t place c (bears_all (changes_of c))).led f (spent_itself f))
 
 spent_step : (w : World) (place pid : ℕ) (c : Op) → PidsSpent w.frame (step w place pid c).world.frame

@@ -1,26 +1,26 @@
 -- The rows that make and unmake nothing leave a sound frame.
 use Rattle.std.proofs.Common.{ℕ}
 use Rattle.ix_model.specs.Naming.{PathOf}
-use Rattle.ix_model.specs.World.{Frame}
-use Rattle.ix_model.specs.Walks.{walked_to, found, opened}
+use Rattle.ix_model.specs.World.{Frame, Object, Process}
+use Rattle.ix_model.specs.Walks.{Behind, walked_to, object_at, opened}
 use Rattle.ix_model.specs.OnPaths.{stat_at, list_at}
-use Rattle.ix_model.specs.OnDescriptors.{Told, read_fd, write_fd, cut_fd, seek_fd}
+use Rattle.ix_model.specs.OnDescriptors.{Told, float_entry, read_fd, write_fd, cut_fd, seek_fd}
 use Rattle.ix_model.specs.OnProcesses.{exec}
 use Rattle.ix_model.specs.OnLabels.{label_of, self_label, freeze, freeze_self, drop_lic}
 use Rattle.ix_model.specs.declared.privs.PrivSet.{PrivSet}
 use Rattle.ix_model.proofs.Keeps.{Keeps, keeping}
-use Rattle.ix_model.proofs.Frames.{Follows, follows_change_object, follows_change_process, follows_observe, follows_affect}
+use Rattle.ix_model.proofs.Frames.{Follows, follows_change_open, follows_change_object, follows_change_process, follows_observe, follows_affect}
 
 module _ (f : Frame) where
-  ruleset following = (keeping, follows_change_object, follows_change_process, follows_observe, follows_affect)
+  ruleset following = (keeping, follows_change_open, follows_change_object, follows_change_process, follows_observe, follows_affect)
 
   -- ---- walks and descriptors
   pub follows_walked_to : (pid : ℕ) (path : PathOf) → Keeps (Follows f) (walked_to pid path)
   unfolding walked_to
   follows_walked_to pid path = search following depth 30
 
-  pub follows_found : (pid : ℕ) (path : PathOf) → Keeps (Follows f) (found pid path)
-  unfolding found
+  pub follows_found : (pid : ℕ) (path : PathOf) → Keeps (Follows f) (object_at pid path)
+  unfolding object_at
   follows_found pid path = search (following, follows_walked_to) depth 30
 
   pub follows_opened : (pid fd : ℕ) → Keeps (Follows f) (opened pid fd)
@@ -47,13 +47,17 @@ module _ (f : Frame) where
   follows_self_label pid = search following_rows depth 40
 
   -- ---- bytes
+  follows_float_entry : (p : Process) (x : Object) (e : Behind) → Keeps (Follows f) (float_entry p x e)
+  unfolding float_entry
+  follows_float_entry p x e = search following depth 30
+
   pub follows_read_fd : (t : Told) (pid fd count : ℕ) → Keeps (Follows f) (read_fd t pid fd count)
   unfolding read_fd
-  follows_read_fd t pid fd count = search following_rows depth 40
+  follows_read_fd t pid fd count = search (following_rows, follows_float_entry) depth 40
 
   pub follows_write_fd : (t : Told) (pid fd : ℕ) → Keeps (Follows f) (write_fd t pid fd)
   unfolding write_fd
-  follows_write_fd t pid fd = search following_rows depth 40
+  follows_write_fd t pid fd = search (following_rows, follows_float_entry) depth 40
 
   pub follows_cut_fd : (t : Told) (pid fd len : ℕ) → Keeps (Follows f) (cut_fd t pid fd len)
   unfolding cut_fd
@@ -61,7 +65,7 @@ module _ (f : Frame) where
 
   pub follows_seek_fd : (pid fd offset : ℕ) → Keeps (Follows f) (seek_fd pid fd offset)
   unfolding seek_fd
-  follows_seek_fd pid fd offset = search following_rows depth 40
+  follows_seek_fd pid fd offset = search (following_rows, follows_float_entry) depth 40
 
   -- ---- frozen marks and privileges
   pub follows_freeze : (pid : ℕ) (path : PathOf) → Keeps (Follows f) (freeze pid path)

@@ -1,18 +1,19 @@
 -- The step of every call leaves a sound world.
 use Rattle.std.proofs.Common.{◌≡◌, ℕ, Bool, true, false, not, nat_le, List, length, take, Option, Some, None, refl, sym, ap, ◌∙◌, subst, if◌then◌else◌}
 use Rattle.std.proofs.lemmas.Bool.{leb-true, ltb-false, not-true}
+use Rattle.ix_model.proofs.Looks.{ends_float_entry}
 use Rattle.ix_model.specs.World.{Frame, Content, World, at, is_ended, is_pipe}
 use Rattle.ix_model.specs.Walks.{Behind, behind}
 use Rattle.ix_model.specs.OnDescriptors.{Told, seek_fd}
-use Rattle.ix_model.specs.Table.{decide, row}
+use Rattle.ix_model.specs.Table.{verdict, row}
 use Rattle.ix_model.specs.AuditLog.{is_answer}
 use Rattle.ix_model.specs.Contents.{carried, readable, after_read, after_write, after_cut, after_exit, emptied}
 use Rattle.ix_model.specs.Step.{plainly, read_answer, write_answer, cut_answer, seek_answer, stat_answer, exit_answer, wait_answer, pex_answer, answer, step}
 use Rattle.ix_model.specs.Telling.{told, told_of_write, told_of_cut}
 use Rattle.ix_model.specs.Clean.{IsClean}
 use Rattle.ix_model.specs.Sound.{LengthsSound, Sound}
-use Rattle.ix_model.specs.History.{Op}
-use Rattle.ix_model.specs.History as op
+use Rattle.ix_model.specs.Events.{Op}
+use Rattle.ix_model.specs.Events as op
 use Rattle.ix_model.specs.declared.reply.Kind.TheVariants as kind
 use Rattle.ix_model.specs.declared.reply.Reply.{Reply}
 use Rattle.ix_model.specs.declared.reply.Reply.TheVariants as reply
@@ -97,9 +98,9 @@ module _ (w : World) (g : Frame) (fixed : Fixed w.frame g) (k : Follows w.frame 
 -- ---- what the tests said
 seek_ends : (pid fd offset : ℕ) (f : Frame) → Ends (seek_fd pid fd offset f) Anything (λ r g. nat_le offset 1048576 ≡ true)
 unfolding seek_fd
-seek_ends pid fd offset f = search ending depth 40 fits 8000
+seek_ends pid fd offset f = search (ending, ends_float_entry) depth 40 fits 8000
 
-sought : (t : Told) (place pid fd offset : ℕ) (f : Frame) → (decide t place pid (op.SeekFd fd offset) f).reply ≡ reply.Done → nat_le offset 1048576 ≡ true
+sought : (t : Told) (place pid fd offset : ℕ) (f : Frame) → (verdict t place pid (op.SeekFd fd offset) f).reply ≡ reply.Done → nat_le offset 1048576 ≡ true
 unfolding row
 sought t place pid fd offset f done = passed t place pid (op.SeekFd fd offset) f (λ r g. nat_le offset 1048576 ≡ true) (seek_ends pid fd offset f) (ap is_answer done)
 

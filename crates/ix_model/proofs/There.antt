@@ -6,7 +6,7 @@ use Rattle.std.proofs.lemmas.List.Sums.{sum_by-cons}
 use Rattle.ix_model.specs.Naming.{PathOf, same_bytes}
 use Rattle.ix_model.specs.World.{Frame, World, Object, Process, at, is_dir, is_pipe}
 use Rattle.ix_model.specs.Outcomes.{Outcome, Refuse, Pass}
-use Rattle.ix_model.specs.Walks.{Behind, behind, Sought, node, child, lacking, looking_into, walk_from, walk, walked_to, found}
+use Rattle.ix_model.specs.Walks.{Behind, behind, Sought, node, child, lacking, looking_into, walk_from, walk, walked_to, object_at}
 use Rattle.ix_model.specs.Walks as sought
 use Rattle.ix_model.specs.Sound.{NamesSound, Sound}
 use Rattle.ix_model.specs.Laws.{ObjectsThere}
@@ -72,8 +72,8 @@ start_there f p true s home = dir_there _ s.root
 start_there f p false s home = dir_there _ home
 
 -- ---- the laws
-found_ends : (w : World) (pid : ℕ) (path : PathOf) → Sound w → Ends (found pid path w.frame) Anything (λ o g. is_some (at g.objects o) ≡ true)
-unfolding found walked_to
+found_ends : (w : World) (pid : ℕ) (path : PathOf) → Sound w → Ends (object_at pid path w.frame) Anything (λ o g. is_some (at g.objects o) ≡ true)
+unfolding object_at walked_to
 found_ends w pid path s =
     let f : Frame = w.frame in
     let Q : ℕ → Frame → Type 0 = λ o g. is_some (at g.objects o) ≡ true in
@@ -97,5 +97,5 @@ passed (Pass m h) n g Q is k =
 pub objects_there : (w : World) → Sound w → ObjectsThere w
 objects_there w s = record {
   behind = λ pid fd e is. ap is_some (stands w.frame e.id e.entry s.opens (behind_is w.frame pid fd e is)).is_object;
-  found = λ pid o path g is. passed (found pid path w.frame) o g _ is (found_ends w pid path s);
+  object_at = λ pid o path g is. passed (object_at pid path w.frame) o g _ is (found_ends w pid path s);
 }

@@ -8,22 +8,22 @@ use Rattle.std.proofs.lemmas.List.{get_or-set_other}
 use Rattle.ix_label.specs.Category.{Categories}
 use Rattle.ix_model.specs.Naming.{PathOf}
 use Rattle.ix_model.specs.Numbers.{free_inode}
-use Rattle.ix_model.specs.World.{World, Frame, Object, Process, at, put, change}
+use Rattle.ix_model.specs.World.{World, Frame, Object, Process, at, put, change, Open}
 use Rattle.ix_model.specs.Outcomes.{Row}
-use Rattle.ix_model.specs.Rows.{◌>>=◌, ◌>>◌, some, only_if, frame, change_object, change_process, put_object, put_open, put_process, add_process, observe, affect}
-use Rattle.ix_model.specs.Walks.{walked_to, found, found_in, missing, opened}
+use Rattle.ix_model.specs.Rows.{◌>>=◌, ◌>>◌, some, only_if, frame, change_object, change_process, put_object, put_open, put_process, add_process, observe, affect, change_open}
+use Rattle.ix_model.specs.Walks.{walked_to, object_at, spot_at, missing, opened, Behind}
 use Rattle.ix_model.specs.Lifetimes.{let_go_object}
 use Rattle.ix_model.specs.Auditing.{logged}
 use Rattle.ix_model.specs.OnPaths.{new_object, make, create_at, make_dir, link_at, unlink_at, remove_dir}
-use Rattle.ix_model.specs.OnDescriptors.{Told, write_fd, cut_fd}
+use Rattle.ix_model.specs.OnDescriptors.{Told, write_fd, cut_fd, float_entry}
 use Rattle.ix_model.specs.OnProcesses.{end_process}
 use Rattle.ix_model.specs.OnLabels.{set_label, freeze, set_priv}
-use Rattle.ix_model.specs.Table.{row, decide}
+use Rattle.ix_model.specs.Table.{row, verdict}
 use Rattle.ix_model.specs.Telling.{told}
 use Rattle.ix_model.specs.Step.{step}
 use Rattle.ix_model.specs.Laws.{LabelsStay}
-use Rattle.ix_model.specs.History.{Op}
-use Rattle.ix_model.specs.History as op
+use Rattle.ix_model.specs.Events.{Op}
+use Rattle.ix_model.specs.Events as op
 use Rattle.ix_model.specs.declared.privs.PrivSet.{PrivSet}
 use Rattle.ix_model.specs.declared.audit.AuditLine.{AuditLine}
 use Rattle.ix_model.specs.declared.refusal.Refusal.{Refusal}
@@ -128,12 +128,13 @@ module _ (pid : ℕ) (f : Frame) where
   makes_none _ = true
 
   steady_words : Words makes_none pid (Steady pid f)
-  unfolding makes_none change_object change_process put_object put_open put_process add_process end_process logged Holds
+  unfolding makes_none change_object change_process change_open put_object put_open put_process add_process end_process logged Holds
   steady_words = record {
     object = λ o h same. record { led = λ g. steady_object g o h (λ x. ap (λ y. y.label) (same x)) };
     process = λ p h same. record { led = λ g. steady_process g p h (λ q. ap (λ r. r.label) (same q)) };
     float = λ h same. record { led = λ g. steady_caller g _ };
     entry = λ e x. record { led = λ g r. record { objects = r.objects; processes = r.processes; grown = r.grown } };
+    through = λ e l. record { led = λ g r. record { objects = r.objects; processes = r.processes; grown = r.grown } };
     unclaim = λ o end. record { led = λ g. steady_object g o _ (λ x. refl) };
     relabel = λ can. cc;
     claim = λ can o h same. record { led = λ g. steady_object g o h (λ x. ap (λ y. y.label) (same x)) };
@@ -178,12 +179,13 @@ module _ (pid : ℕ) (f : Frame) where
   staying_new g o x free r = record { steady = steady_new g o (Some x) free r.steady; lasting = lasting_put _ _ o x r.lasting }
 
   staying_words : Words loses_none pid Staying
-  unfolding loses_none change_object change_process put_object put_open put_process add_process end_process logged Holds
+  unfolding loses_none change_object change_process change_open put_object put_open put_process add_process end_process logged Holds
   staying_words = record {
     object = λ o h same. record { led = λ g. staying_object g o h (λ x. ap (λ y. y.label) (same x)) };
     process = λ p h same. record { led = λ g r. record { steady = steady_process g p h (λ q. ap (λ s. s.label) (same q)) r.steady; lasting = r.lasting } };
     float = λ h same. record { led = λ g r. record { steady = steady_caller g _ r.steady; lasting = r.lasting } };
     entry = λ e x. record { led = λ g r. record { steady = record { objects = r.steady.objects; processes = r.steady.processes; grown = r.steady.grown }; lasting = r.lasting } };
+    through = λ e l. record { led = λ g r. record { steady = record { objects = r.steady.objects; processes = r.steady.processes; grown = r.steady.grown }; lasting = r.lasting } };
     unclaim = λ o end. record { led = λ g. staying_object g o _ (λ x. refl) };
     relabel = λ can. cc;
     claim = λ can o h same. record { led = λ g. staying_object g o h (λ x. ap (λ y. y.label) (same x)) };
@@ -228,6 +230,10 @@ module _ (pid : ℕ) (f : Frame) where
   unfolding put_object Holds
   then_inode m o k kind is free = record { led = λ g r. record { number = r.number; objects = alike_new _ _ f.objects g.objects o _ (fresh_inode m k o is free) r.objects; processes = r.processes } }
 
+  then_entry : (e : ℕ) (h : Open → Open) → Keeps Touched (change_open e h)
+  unfolding change_open Holds
+  then_entry e h = record { led = λ g r. record { number = r.number; objects = r.objects; processes = r.processes } }
+
   then_gone : (o : ℕ) → Keeps Touched (put_object o None)
   unfolding put_object Holds
   then_gone o = record { led = λ g r. record { number = r.number; objects = alike_gone _ _ f.objects g.objects o r.objects; processes = r.processes } }
@@ -236,15 +242,19 @@ module _ (pid : ℕ) (f : Frame) where
   unfolding let_go_object
   then_let_go o = record { led = λ g. (keeps_only_if Touched _ (put_object o None) (then_gone o)).led g }
 
+  then_float_entry : (p : Process) (x : Object) (e : Behind) → Keeps Touched (float_entry p x e)
+  unfolding float_entry
+  then_float_entry p x e = search (keeping, then_entry) depth 30
+
   then_logged : (l : AuditLine) → Keeps Touched (logged l)
   unfolding logged Holds
   then_logged l = record { led = λ g r. record { number = r.number; objects = r.objects; processes = r.processes } }
 
   -- ---- the rows that touch a label
-  s_found : (path : PathOf) → Keeps Staying (found pid path)
+  s_found : (path : PathOf) → Keeps Staying (object_at pid path)
   s_found path = kept_found loses_none pid Staying staying_words path
 
-  s_found_in : (path : PathOf) → Keeps Staying (found_in pid path)
+  s_found_in : (path : PathOf) → Keeps Staying (spot_at pid path)
   s_found_in path = kept_found_in loses_none pid Staying staying_words path
 
   s_missing : (path : PathOf) → Keeps Staying (missing pid path)
@@ -277,11 +287,11 @@ module _ (pid : ℕ) (f : Frame) where
   t_only_if : (b : Bool) (m : Row (Unit {0})) → Turns Staying Touched m → Turns Staying Touched (only_if b m)
   t_only_if b m h = turns_only_if Staying Touched staying_touched b m h
 
-  ruleset touching = (t_frame, t_some, t_first, t_then, t_last, t_only_if, turn_change, keeping, keeping_tests, s_found, s_found_in, s_missing, s_walked_to, s_opened, s_observe, then_object, then_inode, then_gone, then_let_go, then_logged)
+  ruleset touching = (t_frame, t_some, t_first, t_then, t_last, t_only_if, turn_change, keeping, keeping_tests, s_found, s_found_in, s_missing, s_walked_to, s_opened, s_observe, then_object, then_inode, then_gone, then_let_go, then_float_entry, then_logged)
 
-  t_affect : (o : ℕ) → Turns Staying Touched (affect pid o)
+  t_affect : (o : ℕ) (through : Categories) → Turns Staying Touched (affect pid o through)
   unfolding affect
-  t_affect o = search touching depth 40
+  t_affect o through = search touching depth 40
 
   t_make : (path : PathOf) (kind : Kind) → Turns Staying Touched (make pid path kind)
   unfolding make
@@ -345,7 +355,7 @@ module _ (pid : ℕ) (f : Frame) where
     processes = λ p x y other was is. r.processes.same p x y.label other was (ap (option_map (λ (q : Process). q.label)) is);
   }
 
-touched_decided : (t : Told) (place pid : ℕ) (c : Op) (f : Frame) → Touched pid f (decide t place pid c f).frame
+touched_decided : (t : Told) (place pid : ℕ) (c : Op) (f : Frame) → Touched pid f (verdict t place pid c f).frame
 touched_decided t place pid c f = decided (Touched pid f) t place pid c f (staying_touched pid f f (staying_itself pid f)) (touched_row pid f t place c)
 
 pub few_labels : (w : World) (place pid : ℕ) (c : Op) → LabelsStay pid w.frame (step w place pid c).world.frame

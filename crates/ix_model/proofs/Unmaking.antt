@@ -5,6 +5,7 @@ use Rattle.std.specs.List.{list_any}
 use Rattle.std.proofs.lemmas.Bool.{not-true, eqb-true, eq-eqb, and_from}
 use Rattle.std.proofs.lemmas.Bool.Decides.{eqb_tells}
 use Rattle.std.proofs.lemmas.List.{nil_from_length, get_or-set_other}
+use Rattle.ix_label.specs.Category.{bottom}
 use Rattle.ix_model.specs.Naming.{PathOf, last_name, same_bytes}
 use Rattle.ix_model.specs.Directories.{without_name}
 use Rattle.ix_model.specs.World.{Frame, Object, Process, at, put, change, living, is_dir}
@@ -40,7 +41,7 @@ module _ (f : Frame) (s : FrameSound f) where
       ends_bind _ _ m (Refused f) (Passed f) (ends_object o m (Refused f) _ (λ x is.
       ends_then _ _ m (Refused f) (Passed f) (ends_need _ _ m (Refused f) _ (λ no_dir.
       ends_bind _ _ m (Refused f) (Passed f) (ends_some _ _ m (Refused f) _ (λ d in_dir.
-      ends_then _ _ m (Refused f) (Passed f) (affect_on f m k.follows pid d _ (λ h b r same.
+      ends_then _ _ m (Refused f) (Passed f) (affect_on f m k.follows pid d bottom _ (λ h b r same.
       ends_then _ _ h (Refused f) (Passed f) (ends_change_object d _ h (Refused f) _ (
       let name : List ℕ = last_name path.names in
       let w = within_on m h r d name (Some o) (within_on f m k.floats d name (Some o) (inside_of f name o d dir in_dir leads)) in
@@ -111,7 +112,7 @@ module _ (f : Frame) (s : FrameSound f) where
       ends_then _ _ l (Refused f) (Passed f) (ends_need _ _ l (Refused f) _ (λ empty.
       ends_then _ _ l (Refused f) (Passed f) (ends_need _ _ l (Refused f) _ (λ none.
       ends_bind _ _ l (Refused f) (Passed f) (ends_some _ _ l (Refused f) _ (λ d in_dir.
-      ends_then _ _ l (Refused f) (Passed f) (affect_on f l j.0 pid d _ (λ h b r same.
+      ends_then _ _ l (Refused f) (Passed f) (affect_on f l j.0 pid d bottom _ (λ h b r same.
       ends_then _ _ h (Refused f) (Passed f) (ends_change_object d _ h (Refused f) _ (
       ends_then _ _ _ (Refused f) (Passed f) (ends_put_object o None _ (Refused f) _ (
       ends_pass _ _ (Refused f) (Passed f) (removed f m l h k j.1 r b same d o (last_name path.names) x is is_d empty none (inside_of f (last_name path.names) o d dir in_dir leads))))))))) j.0)) j.0)) j.0)) j.0)))))) k.follows)) k.follows)))

@@ -5,7 +5,7 @@ use Rattle.ix_model.specs.Naming.{PathOf, last_name}
 use Rattle.ix_model.specs.World.{Frame, Object, Process, at, is_dir}
 use Rattle.ix_model.specs.Outcomes.{Row}
 use Rattle.ix_model.specs.Rows.{observe}
-use Rattle.ix_model.specs.Walks.{Sought, node, child, lacking, looking_into, walk_from, walk, join_all, walked_to, there, spot, vacant, found, found_in, missing}
+use Rattle.ix_model.specs.Walks.{Spot, Sought, node, child, lacking, looking_into, walk_from, walk, join_all, walked_to, found_object, found_spot, vacant, object_at, spot_at, missing}
 use Rattle.ix_model.specs.Walks as sought
 use Rattle.ix_model.specs.declared.refusal.Refusal.{Refusal}
 use Rattle.ix_model.proofs.Tables.{SameBut, back, seen_same}
@@ -115,7 +115,7 @@ leads_walked_to f g pid path P Q s refused passed =
 pub leads_vacant : (f : Frame) (name : List ℕ) (w : Sought) (h : Frame) (P : Refusal → Frame → Type 0) (Q : ℕ → Frame → Type 0) → Leads f name w → ((d : ℕ) → Within f d name None → Q d h) → ((r : Refusal) → P r h) → Ends (vacant w h) P Q
 leads_vacant f name w h P Q leads next k = ends_vacant w h P Q (λ d is. next d (subst (λ (v : Sought). Leads f name v) is leads)) (k _) (k _) (k _)
 
-pub leads_there : (f : Frame) (name : List ℕ) (w : Sought) (h : Frame) (P : Refusal → Frame → Type 0) (Q : ℕ → Frame → Type 0) → Leads f name w → ((o : ℕ) (dir : Option ℕ) → Leads f name (sought.Found o dir) → Q o h) → ((r : Refusal) → P r h) → Ends (there w h) P Q
+pub leads_there : (f : Frame) (name : List ℕ) (w : Sought) (h : Frame) (P : Refusal → Frame → Type 0) (Q : ℕ → Frame → Type 0) → Leads f name w → ((o : ℕ) (dir : Option ℕ) → Leads f name (sought.Found o dir) → Q o h) → ((r : Refusal) → P r h) → Ends (found_object w h) P Q
 leads_there f name w h P Q leads next k = ends_there w h P Q (λ o dir is. next o dir (subst (λ (v : Sought). Leads f name v) is leads)) (k _) (k _)
 
 pub leads_missing : (f : Frame) (pid : ℕ) (path : PathOf) (P : Refusal → Frame → Type 0) (Q : ℕ → Frame → Type 0) → Follows f f → ((r : Refusal) (h : Frame) → Follows f h → P r h) → ((d : ℕ) (h : Frame) → Along f h → Within f d (last_name path.names) None → Q d h) → Ends (missing pid path f) P Q
@@ -123,7 +123,7 @@ unfolding missing
 leads_missing f pid path P Q s refused passed = ends_bind _ _ f P Q (leads_walked_to f f pid path P _ (along_itself f s) refused (λ w h k leads.
     leads_vacant f (last_name path.names) w h P Q leads (λ d within. passed d h k within) (λ r. refused r h k.follows)))
 
-pub leads_found_in : (f : Frame) (pid : ℕ) (path : PathOf) (P : Refusal → Frame → Type 0) (Q : (ℕ × Option ℕ) → Frame → Type 0) → Follows f f → ((r : Refusal) (h : Frame) → Follows f h → P r h) → ((o : ℕ) (dir : Option ℕ) (h : Frame) → Along f h → Leads f (last_name path.names) (sought.Found o dir) → Q (o, dir) h) → Ends (found_in pid path f) P Q
-unfolding found_in
+pub leads_found_in : (f : Frame) (pid : ℕ) (path : PathOf) (P : Refusal → Frame → Type 0) (Q : Spot → Frame → Type 0) → Follows f f → ((r : Refusal) (h : Frame) → Follows f h → P r h) → ((o : ℕ) (dir : Option ℕ) (h : Frame) → Along f h → Leads f (last_name path.names) (sought.Found o dir) → Q (record { object = o; dir = dir }) h) → Ends (spot_at pid path f) P Q
+unfolding spot_at
 leads_found_in f pid path P Q s refused passed = ends_bind _ _ f P Q (leads_walked_to f f pid path P _ (along_itself f s) refused (λ w h k leads.
     ends_spot w h P Q (λ o dir is. passed o dir h k (subst (λ (v : Sought). Leads f (last_name path.names) v) is leads)) (refused _ h k.follows) (refused _ h k.follows)))

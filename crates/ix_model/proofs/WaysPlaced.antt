@@ -9,7 +9,7 @@ use Rattle.ix_model.specs.Naming.{same_bytes, last_name}
 use Rattle.ix_model.specs.World.{Object, at, is_dir}
 use Rattle.ix_model.specs.Walks.{nothing, node, child}
 use Rattle.ix_model.specs.Opening.{object_of}
-use Rattle.ix_model.specs.Valid.{fs_of, is_there, is_dir_there}
+use Rattle.ix_model.specs.Valid.{fs_of, is_taken, has_directory}
 use Rattle.ix_model.specs.declared.config.FsSpec.{FsSpec}
 use Rattle.ix_model.specs.declared.config.Limits.{Limits}
 use Rattle.ix_model.specs.declared.config.ObjSpec.{ObjSpec}
@@ -61,9 +61,9 @@ module _ (fss : List FsSpec) (l : Limits) (before : List ObjSpec) (t : List (Opt
       go : (any : Bool) → list_any (λ e. same_bytes e.0 (last_name b.path.names)) p.dir.names ≡ any → any ≡ false
       go false is = refl
       go true is =
-          let made : is_there fss before (w.place home.number ++ last_name b.path.names ∷ []) ≡ true = w.entries home.number p.dir (last_name b.path.names) p.is_dir is in
+          let made : is_taken fss before (w.place home.number ++ last_name b.path.names ∷ []) ≡ true = w.entries home.number p.dir (last_name b.path.names) p.is_dir is in
           let path : w.place home.number ++ last_name b.path.names ∷ [] ≡ b.path.names = ap (λ names. names ++ last_name b.path.names ∷ []) home.back ∙ sym line.is_path in
-          absurd (true≢false (sym made ∙ ap (is_there fss before) path ∙ line.new))
+          absurd (true≢false (sym made ∙ ap (is_taken fss before) path ∙ line.new))
 
   child_kept : (n m : ℕ) (name : List ℕ) → child (node t n) name ≡ Some m → child (node next n) name ≡ Some m
   child_kept n m name h = elim (eqb_tells n o) [
@@ -101,29 +101,29 @@ module _ (fss : List FsSpec) (l : Limits) (before : List ObjSpec) (t : List (Opt
     | inr other ↦ other.0
   ]
 
-  entries_then : (m : ℕ) (x : Object) (name : List ℕ) → at next m ≡ Some x → list_any (λ e. same_bytes e.0 name) x.names ≡ true → is_there fss (before ++ b ∷ []) (place_then m ++ name ∷ []) ≡ true
-  entries_then m x name is = each_after t b o home.number k p (λ m x. list_any (λ e. same_bytes e.0 name) x.names ≡ true → is_there fss (before ++ b ∷ []) (place_then m ++ name ∷ []) ≡ true)
+  entries_then : (m : ℕ) (x : Object) (name : List ℕ) → at next m ≡ Some x → list_any (λ e. same_bytes e.0 name) x.names ≡ true → is_taken fss (before ++ b ∷ []) (place_then m ++ name ∷ []) ≡ true
+  entries_then m x name is = each_after t b o home.number k p (λ m x. list_any (λ e. same_bytes e.0 name) x.names ≡ true → is_taken fss (before ++ b ∷ []) (place_then m ++ name ∷ []) ≡ true)
       (λ h. absurd (true≢false (sym h)))
       in_dir
       (λ m x other apart is h. kept m x is (w.entries m x name is h))
       m x is
     where
-      kept : (m : ℕ) (x : Object) → at t m ≡ Some x → is_there fss before (w.place m ++ name ∷ []) ≡ true → is_there fss (before ++ b ∷ []) (place_then m ++ name ∷ []) ≡ true
-      kept m x is h = ap (λ names. is_there fss (before ++ b ∷ []) (names ++ name ∷ [])) (place_kept m (other_than m x is)) ∙ still_there fss before b (w.place m ++ name ∷ []) h
+      kept : (m : ℕ) (x : Object) → at t m ≡ Some x → is_taken fss before (w.place m ++ name ∷ []) ≡ true → is_taken fss (before ++ b ∷ []) (place_then m ++ name ∷ []) ≡ true
+      kept m x is h = ap (λ names. is_taken fss (before ++ b ∷ []) (names ++ name ∷ [])) (place_kept m (other_than m x is)) ∙ still_there fss before b (w.place m ++ name ∷ []) h
 
-      in_dir : list_any (λ e. same_bytes e.0 name) (p.dir.names ++ (last_name b.path.names, o) ∷ []) ≡ true → is_there fss (before ++ b ∷ []) (place_then home.number ++ name ∷ []) ≡ true
+      in_dir : list_any (λ e. same_bytes e.0 name) (p.dir.names ++ (last_name b.path.names, o) ∷ []) ≡ true → is_taken fss (before ++ b ∷ []) (place_then home.number ++ name ∷ []) ≡ true
       in_dir h = elim (or_cases (list_any (λ e. same_bytes e.0 name) p.dir.names) (same_bytes (last_name b.path.names) name || false) (sym (list_any-append (λ (e : List ℕ × ℕ). same_bytes e.0 name) p.dir.names ((last_name b.path.names, o) ∷ [])) ∙ h)) [
         | inl old ↦ kept home.number p.dir p.is_dir (w.entries home.number p.dir name p.is_dir old)
         | inr new ↦ elim (or_cases (same_bytes (last_name b.path.names) name) false new) [
           | inl same ↦
               let path : place_then home.number ++ name ∷ [] ≡ b.path.names =
               (λ i. (place_kept home.number (other_than home.number p.dir p.is_dir) ∙ home.back) i ++ sym (bytes_are (last_name b.path.names) name same) i ∷ []) ∙ sym line.is_path in
-              ap (is_there fss (before ++ b ∷ [])) path ∙ now_there fss before b
+              ap (is_taken fss (before ++ b ∷ [])) path ∙ now_there fss before b
           | inr none ↦ absurd (true≢false (sym none))
         ]
       ]
 
-  dirs_then : (names : List (List ℕ)) → is_dir_there fss (before ++ b ∷ []) names ≡ true → DirAt fss next place_then names
+  dirs_then : (names : List (List ℕ)) → has_directory fss (before ++ b ∷ []) names ≡ true → DirAt fss next place_then names
   dirs_then names h = elim (dir_there fss before b names h) [
     | inl old ↦
         let r = w.dirs names old in

@@ -6,18 +6,18 @@ use Rattle.std.proofs.lemmas.Bool.{and_parts}
 use Rattle.std.proofs.lemmas.Bool.Decides.{eqb_tells}
 use Rattle.std.proofs.lemmas.List.{get_or-set_other}
 use Rattle.ix_model.specs.World.{World, Frame, Object, Holding, at, put, change}
-use Rattle.ix_model.specs.Rows.{change_object, change_process, put_object, put_open, put_process, add_process}
+use Rattle.ix_model.specs.Rows.{change_object, change_process, put_object, put_open, put_process, add_process, change_open}
 use Rattle.ix_model.specs.Walks.{Behind, behind}
 use Rattle.ix_model.specs.Auditing.{logged}
 use Rattle.ix_model.specs.Contents.{carried, emptied, holding_of, holds_nothing}
 use Rattle.ix_model.specs.OnDescriptors.{Told, claimed, pex}
 use Rattle.ix_model.specs.OnProcesses.{end_process}
-use Rattle.ix_model.specs.Table.{row, decide}
+use Rattle.ix_model.specs.Table.{row, verdict}
 use Rattle.ix_model.specs.Telling.{told}
 use Rattle.ix_model.specs.AuditLog.{is_answer}
 use Rattle.ix_model.specs.Step.{pex_answer, answer, step, is_whole}
-use Rattle.ix_model.specs.History.{Op}
-use Rattle.ix_model.specs.History as op
+use Rattle.ix_model.specs.Events.{Op}
+use Rattle.ix_model.specs.Events as op
 use Rattle.ix_model.specs.declared.reply.Reply.{Reply}
 use Rattle.ix_model.specs.declared.reply.Reply.TheVariants as reply
 use Rattle.ix_model.specs.declared.refusal.Refusal.{Refusal}
@@ -71,12 +71,13 @@ module _ (f : Frame) where
   same_claims g o h same r = whole_objects g _ (λ m is. shown_changed whole_of h (λ x whole. ap (λ c. is_some (at c 0) && is_some (at c 1)) (sym (same x)) ∙ whole) g.objects o m is) r
 
   whole_words : (pid : ℕ) → Words claims_none pid (WholeBefore f)
-  unfolding claims_none change_object change_process put_object put_open put_process add_process end_process logged Holds
+  unfolding claims_none change_object change_process change_open put_object put_open put_process add_process end_process logged Holds
   whole_words pid = record {
     object = λ o h same. record { led = λ g. same_claims g o h (λ x. ap (λ y. y.claims) (same x)) };
     process = λ p h same. record { led = λ g r. record { was = r.was } };
     float = λ h same. record { led = λ g r. record { was = r.was } };
     entry = λ e x. record { led = λ g r. record { was = r.was } };
+    through = λ e l. record { led = λ g r. record { was = r.was } };
     unclaim = λ o end. record { led = λ g. whole_objects g _ (λ m is. shown_changed whole_of _ (λ x whole. unclaimed x.claims end whole) g.objects o m is) };
     relabel = λ can o h same. record { led = λ g. same_claims g o h (λ x. ap (λ y. y.claims) (same x)) };
     claim = λ can. cc;
@@ -90,7 +91,7 @@ module _ (f : Frame) where
     collect = λ can p. record { led = λ g r. record { was = r.was } };
   }
 
-whole_before : (t : Told) (place pid : ℕ) (c : Op) (f : Frame) → list_all claims_none (changes_of c) ≡ true → WholeBefore f (decide t place pid c f).frame
+whole_before : (t : Told) (place pid : ℕ) (c : Op) (f : Frame) → list_all claims_none (changes_of c) ≡ true → WholeBefore f (verdict t place pid c f).frame
 whole_before t place pid c f fits = decided (WholeBefore f) t place pid c f (record { was = λ o is. is }) ((kept_row claims_none pid (WholeBefore f) (whole_words f pid) t place c fits).led f (record { was = λ o is. is }))
 
 -- ---- a claim
@@ -136,11 +137,11 @@ refused_reply : (r : Reply) → is_answer r ≡ false → (why : Refusal) × (r 
 refused_reply (reply.No why) h = (why, refl)
 refused_reply _ h = cc
 
-pex_case : (w : World) (place pid fd o : ℕ) (t : Told) → is_whole w.frame o ≡ false → is_whole (decide t place pid (op.Pex fd) w.frame).frame o ≡ true → holding_of (pex_answer w (behind w.frame pid fd) (decide t place pid (op.Pex fd) w.frame).reply (decide t place pid (op.Pex fd) w.frame).frame).world.content o ≡ holds_nothing
+pex_case : (w : World) (place pid fd o : ℕ) (t : Told) → is_whole w.frame o ≡ false → is_whole (verdict t place pid (op.Pex fd) w.frame).frame o ≡ true → holding_of (pex_answer w (behind w.frame pid fd) (verdict t place pid (op.Pex fd) w.frame).reply (verdict t place pid (op.Pex fd) w.frame).frame).world.content o ≡ holds_nothing
 unfolding row
-pex_case w place pid fd o t was is = go (is_answer (decide t place pid (op.Pex fd) w.frame).reply) refl
+pex_case w place pid fd o t was is = go (is_answer (verdict t place pid (op.Pex fd) w.frame).reply) refl
   where
-    go : (b : Bool) → is_answer (decide t place pid (op.Pex fd) w.frame).reply ≡ b → holding_of (pex_answer w (behind w.frame pid fd) (decide t place pid (op.Pex fd) w.frame).reply (decide t place pid (op.Pex fd) w.frame).frame).world.content o ≡ holds_nothing
+    go : (b : Bool) → is_answer (verdict t place pid (op.Pex fd) w.frame).reply ≡ b → holding_of (pex_answer w (behind w.frame pid fd) (verdict t place pid (op.Pex fd) w.frame).reply (verdict t place pid (op.Pex fd) w.frame).frame).world.content o ≡ holds_nothing
     go true answers = pex_empties w pid fd o _ _ (passed t place pid (op.Pex fd) w.frame (λ a g. PexFacts pid fd w.frame g) (pex_ends pid fd w.frame) answers) was is
     go false refuses =
         let why = refused_reply _ refuses in

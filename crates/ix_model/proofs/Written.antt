@@ -9,13 +9,13 @@ use Rattle.ix_model.specs.Walks.{Behind, behind}
 use Rattle.ix_model.specs.Numbers.{first_pipe}
 use Rattle.ix_model.specs.Contents.{carried, holding_of, offset_of, holds_nothing, side, with_side, on_pipe, spliced, after_read, after_write, after_cut, after_seek, after_exit, emptied}
 use Rattle.ix_model.specs.OnDescriptors.{Told}
-use Rattle.ix_model.specs.Table.{decide}
+use Rattle.ix_model.specs.Table.{verdict}
 use Rattle.ix_model.specs.Telling.{told}
 use Rattle.ix_model.specs.Step.{plainly, read_answer, write_answer, cut_answer, seek_answer, exit_answer, pex_answer, answer, step, step_of, run, is_whole}
 use Rattle.ix_model.specs.WholePaths.{reaches, sent, written_to, IsEndOf}
 use Rattle.ix_model.specs.Sound.{Sound}
-use Rattle.ix_model.specs.History.{Op, Event}
-use Rattle.ix_model.specs.History as op
+use Rattle.ix_model.specs.Events.{Op, Event}
+use Rattle.ix_model.specs.Events as op
 use Rattle.ix_model.specs.declared.reply.Reply.{Reply}
 use Rattle.ix_model.specs.declared.reply.Reply.TheVariants as reply
 use Rattle.ix_model.proofs.Carrying.{get_or-keep}
@@ -233,14 +233,14 @@ not_true : (b : Bool) → not b ≡ true → b ≡ false
 not_true false h = refl
 not_true true h = cc
 
-write_apart : (w : World) (place pid fd o : ℕ) (new : List ℕ) (t : Told) → PipesPast w.frame w.frame → first_pipe w.frame.fss ≤ o → (e : Behind) (k : ℕ) → behind w.frame pid fd ≡ Some e → (decide t place pid (op.WriteFd fd new) w.frame).reply ≡ reply.Number k → on_pipe w.frame e ≡ false → o ≢ e.entry.object
+write_apart : (w : World) (place pid fd o : ℕ) (new : List ℕ) (t : Told) → PipesPast w.frame w.frame → first_pipe w.frame.fss ≤ o → (e : Behind) (k : ℕ) → behind w.frame pid fd ≡ Some e → (verdict t place pid (op.WriteFd fd new) w.frame).reply ≡ reply.Number k → on_pipe w.frame e ≡ false → o ≢ e.entry.object
 write_apart w place pid fd o new t past far e k is wrote_k file =
     let facts = wrote t place pid fd new w.frame k wrote_k in
     let same : facts.entry ≡ e = let h = facts.is_entry in cc in
     let there : at w.frame.objects e.entry.object ≡ Some facts.object = ap (λ (b : Behind). at w.frame.objects b.entry.object) (sym same) ∙ facts.is_object in
     before_pipes w.frame o e.entry.object facts.object past far there (sym (ap (λ x. option_map_or is_pipe x false) there) ∙ file)
 
-cut_apart : (w : World) (place pid fd len o : ℕ) (t : Told) → PipesPast w.frame w.frame → first_pipe w.frame.fss ≤ o → (e : Behind) → behind w.frame pid fd ≡ Some e → (decide t place pid (op.CutFd fd len) w.frame).reply ≡ reply.Done → o ≢ e.entry.object
+cut_apart : (w : World) (place pid fd len o : ℕ) (t : Told) → PipesPast w.frame w.frame → first_pipe w.frame.fss ≤ o → (e : Behind) → behind w.frame pid fd ≡ Some e → (verdict t place pid (op.CutFd fd len) w.frame).reply ≡ reply.Done → o ≢ e.entry.object
 cut_apart w place pid fd len o t past far e is done =
     let facts = was_cut t place pid fd len w.frame done in
     let same : facts.entry ≡ e = let h = facts.is_entry in cc in

@@ -5,11 +5,11 @@ use Rattle.ix_label.specs.Category.{Categories, bottom, leq}
 use Rattle.ix_model.specs.Naming.{PathOf}
 use Rattle.ix_model.specs.World.{World, Frame, Process, at, living}
 use Rattle.ix_model.specs.Walks.{Sought, Found, walk}
-use Rattle.ix_model.specs.Auditing.{relabelling}
+use Rattle.ix_model.specs.Auditing.{audit_line}
 use Rattle.ix_model.specs.OnLabels.{needs_to_set_ceilings}
 use Rattle.ix_model.specs.Step.{step_of}
-use Rattle.ix_model.specs.History.{Op, Event}
-use Rattle.ix_model.specs.History as op
+use Rattle.ix_model.specs.Events.{Op, Event}
+use Rattle.ix_model.specs.Events as op
 use Rattle.ix_model.specs.declared.audit.Act.{Act}
 use Rattle.ix_model.specs.declared.audit.Act.TheVariants as act
 use Rattle.ix_model.specs.declared.audit.AuditLine.{AuditLine}
@@ -60,11 +60,11 @@ target_of f pid path = option_map_or (λ o. o) (object_of_path f pid path) 0
 
 -- the line of an act on the object of a path: its labels before and after
 abbrev pub line_on_object : Frame → Frame → ℕ → ℕ → PathOf → Act → AuditLine
-line_on_object f g place pid path a = relabelling place pid a (target_of f pid path) (label_at f (object_of_path f pid path)) (label_at g (object_of_path f pid path))
+line_on_object f g place pid path a = audit_line place pid a (target_of f pid path) (label_at f (object_of_path f pid path)) (label_at g (object_of_path f pid path))
 
 -- the line of an act on a process: what it had and what it has, a label or a ceiling
 abbrev pub line_on_process : (Process → Categories) → Frame → Frame → ℕ → ℕ → ℕ → Act → AuditLine
-line_on_process get f g place pid target a = relabelling place pid a target (of_process get bottom f target) (of_process get bottom g target)
+line_on_process get f g place pid target a = audit_line place pid a target (of_process get bottom f target) (of_process get bottom g target)
 
 -- the line of a licensed entry, from the frames before and after it; no other entry has one
 unfoldable pub line_of_act : Frame → Frame → ℕ → ℕ → Op → Option AuditLine
@@ -75,7 +75,7 @@ line_of_act f g place pid op.ThawSelf = Some (line_on_process (λ p. p.label) f 
 line_of_act f g place pid (op.SetPriv path cap lic) = Some (record (line_on_object f g place pid path act.SetPriv) { cap = cap; lic = lic })
 line_of_act f g place pid (op.GrantLic target set) = Some (record (line_on_process (λ p. p.label) f g place pid target act.Grant) { lic = set })
 line_of_act f g place pid (op.SetCeiling target now) = Some (line_on_process (λ p. p.ceiling) f g place pid target act.Ceiling)
-line_of_act f g place pid (op.ReadLog index) = Some (relabelling place pid act.ReadLog index (of_process (λ p. p.label) bottom f pid) (of_process (λ p. p.label) bottom g pid))
+line_of_act f g place pid (op.ReadLog index) = Some (audit_line place pid act.ReadLog index (of_process (λ p. p.label) bottom f pid) (of_process (λ p. p.label) bottom g pid))
 line_of_act f g place pid _ = None
 
 -- the line that an entry adds: its own where it is licensed, else none

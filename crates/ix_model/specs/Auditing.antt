@@ -3,7 +3,7 @@ use Rattle.std.specs.Prelude.{ℕ, ◌||◌, nat_lt, [], ◌∷◌, ◌++◌, le
 use Rattle.ix_label.specs.Category.{Categories}
 use Rattle.ix_model.specs.Privs.{no_privileges, has_all}
 use Rattle.ix_model.specs.Outcomes.{Row, Pass}
-use Rattle.ix_model.specs.Rows.{◌>>=◌, ◌>>◌, need, frame, caller}
+use Rattle.ix_model.specs.Rows.{◌>>=◌, ◌>>◌, need, frame, process}
 use Rattle.ix_model.specs.declared.privs.PrivSet.{PrivSet}
 use Rattle.ix_model.specs.declared.audit.Act.{Act}
 use Rattle.ix_model.specs.declared.audit.AuditLine.{AuditLine}
@@ -12,7 +12,7 @@ use Rattle.ix_model.specs.declared.refusal.Refusal.TheVariants as refusal
 -- a privilege has to be in the caller's capabilities, and in its licences or its own
 unfoldable pub entitled : ℕ → PrivSet → Row (Unit {0})
 entitled pid x = do
-  p ← caller pid
+  p ← process pid
   need (has_all p.cap x) refusal.NoCapability
   need (has_all p.lic x || has_all p.own x) refusal.NoLicence
 
@@ -33,5 +33,5 @@ unfoldable pub logged : AuditLine → Row (Unit {0})
 logged l = λ f. Pass tt (record f { log = f.log ++ l ∷ [] })
 
 -- a line without sets: the entry's place, the caller, the act, its target, and the label or ceiling before and after
-abbrev pub relabelling : ℕ → ℕ → Act → ℕ → Categories → Categories → AuditLine
-relabelling place pid act target was now = record { place = place; pid = record { 0 = pid }; act = act; target = target; was = was; now = now; cap = no_privileges; lic = no_privileges }
+abbrev pub audit_line : ℕ → ℕ → Act → ℕ → Categories → Categories → AuditLine
+audit_line place pid act target was now = record { place = place; pid = record { 0 = pid }; act = act; target = target; was = was; now = now; cap = no_privileges; lic = no_privileges }

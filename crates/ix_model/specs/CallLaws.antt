@@ -4,8 +4,8 @@ use Rattle.std.specs.Option.{option_map_or}
 use Rattle.ix_model.specs.World.{Frame, World, at, living, lives}
 use Rattle.ix_model.specs.Step.{step, run}
 use Rattle.ix_model.specs.Sound.{Sound}
-use Rattle.ix_model.specs.History.{Op, Event}
-use Rattle.ix_model.specs.History as op
+use Rattle.ix_model.specs.Events.{Op, Event}
+use Rattle.ix_model.specs.Events as op
 use Rattle.ix_model.specs.declared.call.Keep.TheVariants as keep
 use Rattle.ix_model.specs.declared.refusal.Refusal.TheVariants as refusal
 use Rattle.ix_model.specs.declared.reply.Reply.{Reply}

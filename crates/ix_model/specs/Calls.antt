@@ -1,7 +1,7 @@
 -- What the calls and entries of the code mean.
 use Rattle.std.specs.Prelude.{ℕ, List, Bool, true, false}
-use Rattle.ix_model.specs.History.{Op, Event}
-use Rattle.ix_model.specs.History as op
+use Rattle.ix_model.specs.Events.{Op, Event}
+use Rattle.ix_model.specs.Events as op
 use Rattle.ix_model.specs.declared.call.Call.{Call}
 use Rattle.ix_model.specs.declared.call.Call.TheVariants as call
 use Rattle.ix_model.specs.declared.entry.Entry.{Entry}

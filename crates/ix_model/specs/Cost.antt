@@ -1,8 +1,8 @@
 -- What calls and histories cost a journal.
 use Rattle.std.specs.Prelude.{ℕ, ◌+◌, List, length, map, sum}
 use Rattle.ix_model.specs.Naming.{PathOf}
-use Rattle.ix_model.specs.History.{Op, Event}
-use Rattle.ix_model.specs.History as op
+use Rattle.ix_model.specs.Events.{Op, Event}
+use Rattle.ix_model.specs.Events as op
 
 -- a path costs the length of each name and one more
 abbrev pub cost_of_path : PathOf → ℕ

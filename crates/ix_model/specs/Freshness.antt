@@ -1,13 +1,14 @@
 -- Fresh descriptors: those whose labels a call has looked at, and that nothing has touched since.
-use Rattle.std.specs.Prelude.{ℕ, suc, Bool, true, false, not, ◌&&◌, ◌||◌, ◌==◌, List, [], ◌∷◌}
-use Rattle.ix_label.specs.Category.{bottom, same}
-use Rattle.ix_model.specs.World.{World, Frame}
-use Rattle.ix_model.specs.Walks.{behind}
+use Rattle.std.specs.Prelude.{ℕ, suc, Bool, true, false, not, ◌&&◌, ◌||◌, ◌==◌, List, [], ◌∷◌, Option}
+use Rattle.std.specs.Option.{option_map_or}
+use Rattle.ix_label.specs.Category.{Categories, bottom, same}
+use Rattle.ix_model.specs.World.{World, Frame, at}
+use Rattle.ix_model.specs.Walks.{Behind, behind}
 use Rattle.ix_model.specs.AuditLog.{label_at, of_process}
 use Rattle.std.proofs.Common.{option_map}
 use Rattle.ix_model.specs.Step.{Given, step_of}
-use Rattle.ix_model.specs.History.{Op, Event}
-use Rattle.ix_model.specs.History as op
+use Rattle.ix_model.specs.Events.{Op, Event}
+use Rattle.ix_model.specs.Events as op
 use Rattle.ix_model.specs.declared.reply.Reply.{Reply}
 use Rattle.ix_model.specs.declared.reply.Reply.TheVariants as reply
 
@@ -28,11 +29,16 @@ closes fd (op.CloseFd d) reply.Done = d == fd
 closes fd (op.Exit status) reply.Done = true
 closes fd o r = false
 
--- the label of a process, and of the object that its descriptor stood for, were changed from one frame to the next
+-- the label of an open entry
+abbrev pub label_through : Frame → Option Behind → Categories
+label_through f e = option_map_or (λ b. option_map_or (λ x. x.label) (at f.opens b.id) bottom) e bottom
+
+-- the label of a process, of the object that its descriptor stood for, or of the open entry was changed from one frame to the next
 abbrev pub relabels : Frame → Frame → ℕ → ℕ → Bool
 relabels f g pid fd =
-    let o = option_map (λ e. e.entry.object) (behind f pid fd) in
-    not (same (of_process (λ p. p.label) bottom f pid) (of_process (λ p. p.label) bottom g pid) && same (label_at f o) (label_at g o))
+    let e = behind f pid fd in
+    let o = option_map (λ b. b.entry.object) e in
+    not (same (of_process (λ p. p.label) bottom f pid) (of_process (λ p. p.label) bottom g pid) && same (label_at f o) (label_at g o) && same (label_through f e) (label_through g e))
 
 -- whether the descriptor is fresh after an entry, by whether it was before
 abbrev pub fresh_after : World → Event → Given → ℕ → ℕ → Way → Bool → Bool

@@ -1,52 +1,28 @@
--- Calls as they stand in a history, and its entries.
-use Rattle.std.specs.Prelude.{ℕ, List}
-use Rattle.ix_label.specs.Category.{Categories}
-use Rattle.ix_model.specs.Naming.{PathOf}
-use Rattle.ix_model.specs.declared.call.Mode.{Mode}
-use Rattle.ix_model.specs.declared.call.Keep.{Keep}
-use Rattle.ix_model.specs.declared.privs.PrivSet.{PrivSet}
+-- Histories: the world that one leads to, and what each of its entries gives.
+use Rattle.std.specs.Prelude.{ℕ, ◌+◌, ◌-◌, List, [], ◌∷◌, ◌++◌, length, take, Option, slice_get}
+use Rattle.std.proofs.Common.{option_map}
+use Rattle.ix_model.specs.World.{World}
+use Rattle.ix_model.specs.Opening.{opening_world}
+use Rattle.ix_model.specs.Step.{Given, step_of, run}
+use Rattle.ix_model.specs.Events.{Event}
+use Rattle.ix_model.specs.declared.config.Config.{Config}
 
--- a call, with the bytes that it writes
-pub data Op : Type 0 where
-  CreateAt : PathOf → Op
-  OpenAt : PathOf → Mode → Op
-  ReadFd : ℕ → ℕ → Op
-  WriteFd : ℕ → List ℕ → Op
-  CutFd : ℕ → ℕ → Op
-  SeekFd : ℕ → ℕ → Op
-  DupFd : ℕ → Op
-  CloseFd : ℕ → Op
-  MakePipe : Op
-  MakeDir : PathOf → Op
-  LinkAt : PathOf → PathOf → Op
-  UnlinkAt : PathOf → Op
-  RemoveDir : PathOf → Op
-  ChangeDir : PathOf → Op
-  StatAt : PathOf → Op
-  ListAt : PathOf → ℕ → Op
-  Fork : Keep → Op
-  Exec : PathOf → Op
-  Exit : ℕ → Op
-  WaitChild : Op
-  LabelOf : PathOf → Op
-  SelfLabel : Op
-  SetLabel : PathOf → Categories → Op
-  SetSelf : Categories → Op
-  Freeze : PathOf → Op
-  FreezeSelf : Op
-  Thaw : PathOf → Op
-  ThawSelf : Op
-  SetPriv : PathOf → PrivSet → PrivSet → Op
-  DropLic : PrivSet → Op
-  GrantLic : ℕ → PrivSet → Op
-  SetCeiling : ℕ → Categories → Op
-  Pex : ℕ → Op
-  Unpex : ℕ → Op
-  ReadLog : ℕ → Op
+-- a config, and the entries that were made from its opening world
+pub record History : Type 0 where
+  pub config : Config
+  pub events : List Event
 
--- an entry of a history: the seat that made it, the line that it comes from, the calling process, and its call
-pub record Event : Type 0 where
-  pub seat : ℕ
-  pub line : ℕ
-  pub pid : ℕ
-  pub op : Op
+-- the world that a history leads to
+unfoldable pub world_of : History → World
+world_of h = run (opening_world h.config) 1 h.events
+
+-- what one entry more gives
+abbrev pub next : History → Event → Given
+next h e = step_of (world_of h) (length h.events + 1) e
+
+abbrev pub with_entry : History → Event → History
+with_entry h e = record h { events = h.events ++ e ∷ [] }
+
+-- what the entry at a place gives, if one stands there; the places are counted from 1
+abbrev pub given_at : History → ℕ → Option Given
+given_at h place = option_map (step_of (world_of (record h { events = take (place - 1) h.events })) place) (slice_get h.events (place - 1))

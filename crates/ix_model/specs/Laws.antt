@@ -9,14 +9,14 @@ use Rattle.ix_model.specs.Contents.{holding_of, holds_nothing, side}
 use Rattle.ix_model.specs.AuditLog.{audit_log}
 use Rattle.ix_model.specs.WholePaths.{IsEndOf, written_to}
 use Rattle.ix_model.specs.Outcomes.{Pass}
-use Rattle.ix_model.specs.Walks.{Behind, behind, found}
+use Rattle.ix_model.specs.Walks.{Behind, behind, object_at}
 use Rattle.ix_model.specs.Step.{step, run, is_whole}
 use Rattle.ix_model.specs.Opening.{opening_world}
 use Rattle.ix_model.specs.Valid.{is_valid}
 use Rattle.ix_model.specs.Looked.{looked_at}
 use Rattle.ix_model.specs.Clean.{IsClean}
 use Rattle.ix_model.specs.Sound.{Sound}
-use Rattle.ix_model.specs.History.{Op, Event}
+use Rattle.ix_model.specs.Events.{Op, Event}
 use Rattle.ix_model.specs.declared.config.Config.{Config}
 use Rattle.ix_model.specs.declared.reply.Reply.TheVariants as reply
 use Rattle.ix_model.specs.declared.refusal.Refusal.{Refusal}
@@ -61,7 +61,7 @@ RefusalsLeaveWorlds = (w : World) (place pid : ℕ) (o : Op) (r : Refusal) → (
 -- an object stands behind each descriptor of a living process, and wherever a path is found to lead
 pub record ObjectsThere (w : World) : Type 0 where
   pub behind : (pid fd : ℕ) (e : Behind) → behind w.frame pid fd ≡ Some e → is_some (at w.frame.objects e.entry.object) ≡ true
-  pub found : (pid o : ℕ) (path : PathOf) (g : Frame) → found pid path w.frame ≡ Pass o g → is_some (at g.objects o) ≡ true
+  pub object_at : (pid o : ℕ) (path : PathOf) (g : Frame) → object_at pid path w.frame ≡ Pass o g → is_some (at g.objects o) ≡ true
 
 abbrev pub ObjectsAreThere : Type 0
 ObjectsAreThere = (w : World) → Sound w → ObjectsThere w

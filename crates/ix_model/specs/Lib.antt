@@ -1,7 +1,7 @@
 pub mod Naming
 pub mod Refusals
 pub mod Privs
-pub mod History
+pub mod Events
 pub mod Calls
 pub mod World
 pub mod Numbers
@@ -25,10 +25,11 @@ pub mod Flat
 pub mod Valid
 pub mod Clean
 pub mod Sound
-pub mod Histories
+pub mod History
 pub mod AuditLog
 pub mod Lowering
 pub mod TwoRuns
+pub mod EqualLengths
 pub mod Cost
 pub mod Freshness
 pub mod WholePaths

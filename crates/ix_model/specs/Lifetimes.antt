@@ -3,7 +3,7 @@ use Rattle.std.specs.Prelude.{ℕ, ◌==◌, Bool, false, not, ◌&&◌, ◌||�
 use Rattle.std.specs.Option.{option_map_or}
 use Rattle.std.specs.List.{range_with_len}
 use Rattle.ix_model.specs.World.{Frame, Object, at, put, is_file, is_dir, is_pipe, held}
-use Rattle.ix_model.specs.Owners.{times_named, owned, is_claimant}
+use Rattle.ix_model.specs.Owners.{times_named, owned, has_end}
 use Rattle.ix_model.specs.Outcomes.{Row}
 use Rattle.ix_model.specs.Rows.{◌>>◌, pass, only_if, change_process, change_object, put_object, put_open}
 use Rattle.ix_model.specs.Walks.{Behind, behind}
@@ -25,7 +25,7 @@ let_go_open e = λ f. only_if (not (owned f.processes e)) (put_open e None) f
 
 -- whether a process has claimed an end, and has no descriptor on it any more
 abbrev pub has_lost : Frame → ℕ → ℕ → ℕ → Bool
-has_lost f pid o end = option_map_or (λ x. option_map_or (λ p. p == pid) (at x.claims end) false) (at f.objects o) false && not (is_claimant f o end pid)
+has_lost f pid o end = option_map_or (λ x. option_map_or (λ p. p == pid) (at x.claims end) false) (at f.objects o) false && not (has_end f o end pid)
 
 -- a claim ends with the claimant's last descriptor on the end
 unfoldable pub let_go_claim : ℕ → ℕ → ℕ → Row (Unit {0})

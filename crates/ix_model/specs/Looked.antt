@@ -1,14 +1,13 @@
 -- What a call has looked at when it is refused.
-use Rattle.std.specs.Prelude.{ℕ, List, [], ◌∷◌, map, Option, None}
+use Rattle.std.specs.Prelude.{ℕ, List, [], ◌∷◌, map, Some}
 use Rattle.std.specs.Option.{option_map_or}
-use Rattle.std.proofs.Common.{option_map}
 use Rattle.ix_label.specs.Category.{Categories, bottom, join}
 use Rattle.ix_model.specs.Naming.{PathOf}
 use Rattle.ix_model.specs.World.{Frame, at, living}
 use Rattle.ix_model.specs.Walks.{walk, join_all, behind}
 use Rattle.ix_model.specs.AuditLog.{object_of_path, label_at}
-use Rattle.ix_model.specs.History.{Op}
-use Rattle.ix_model.specs.History as op
+use Rattle.ix_model.specs.Events.{Op}
+use Rattle.ix_model.specs.Events as op
 use Rattle.ix_model.specs.declared.refusal.Refusal.{Refusal}
 use Rattle.ix_model.specs.declared.refusal.Refusal.TheVariants as refusal
 
@@ -35,15 +34,15 @@ paths_of _ = []
 unfoldable pub along : Frame → ℕ → PathOf → Categories
 along f pid path = option_map_or (λ p. join_all (walk f.objects p path).looked) (living (at f.processes pid)) bottom
 
--- the object that a call looks at besides, before it is refused so: the directory that isn't empty or is a root, the
--- directory whose names have ended, and the pipe that holds nothing
-abbrev pub object_looked_at : Frame → ℕ → Op → Refusal → Option ℕ
-object_looked_at f pid (op.RemoveDir path) refusal.NotEmpty = object_of_path f pid path
-object_looked_at f pid (op.RemoveDir path) refusal.CrossFs = object_of_path f pid path
-object_looked_at f pid (op.ListAt path index) refusal.EndOfList = object_of_path f pid path
-object_looked_at f pid (op.ReadFd fd count) refusal.Again = option_map (λ e. e.entry.object) (behind f pid fd)
-object_looked_at f pid _ _ = None
+-- what a call looks at besides, before it is refused so: the directory that isn't empty or is a root, the directory whose
+-- names have ended, and the pipe that holds nothing, with the open entry on it
+abbrev pub besides : Frame → ℕ → Op → Refusal → Categories
+besides f pid (op.RemoveDir path) refusal.NotEmpty = label_at f (object_of_path f pid path)
+besides f pid (op.RemoveDir path) refusal.CrossFs = label_at f (object_of_path f pid path)
+besides f pid (op.ListAt path index) refusal.EndOfList = label_at f (object_of_path f pid path)
+besides f pid (op.ReadFd fd count) refusal.Again = option_map_or (λ e. join (label_at f (Some e.entry.object)) e.entry.label) (behind f pid fd) bottom
+besides f pid _ _ = bottom
 
 -- all that a call has looked at when it is refused so
 abbrev pub looked_at : Frame → ℕ → Op → Refusal → Categories
-looked_at f pid c r = join (join_all (map (along f pid) (paths_of c))) (label_at f (object_looked_at f pid c r))
+looked_at f pid c r = join (join_all (map (along f pid) (paths_of c))) (besides f pid c r)

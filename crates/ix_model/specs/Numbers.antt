@@ -2,20 +2,16 @@
 use Rattle.std.specs.Prelude.{ℕ, ◌+◌, ◌==◌, Bool, List, length, map, sum, take, drop, Option, Some}
 use Rattle.std.specs.Option.{option_map_or}
 use Rattle.std.proofs.Common.{option_map}
-use Rattle.ix_model.specs.World.{Frame, Object, at, lowest_free}
+use Rattle.ix_model.specs.World.{fs_at, Frame, Object, at, lowest_free}
 use Rattle.ix_model.specs.declared.config.FsSpec.{FsSpec}
 
 -- the first inode of a file system, which is its root directory
 abbrev pub first_inode : List FsSpec → ℕ → ℕ
 first_inode fss k = sum (map (λ s. s.inodes) (take k fss))
 
--- how many inodes a file system has
-abbrev pub inodes_of : List FsSpec → ℕ → ℕ
-inodes_of fss k = option_map_or (λ s. s.inodes) (at (map Some fss) k) 0
-
 -- the lowest free inode of a file system
 unfoldable pub free_inode : Frame → ℕ → Option ℕ
-free_inode f k = option_map (λ n. first_inode f.fss k + n) (lowest_free (take (inodes_of f.fss k) (drop (first_inode f.fss k) f.objects)))
+free_inode f k = option_map (λ n. first_inode f.fss k + n) (lowest_free (take (fs_at f.fss k).inodes (drop (first_inode f.fss k) f.objects)))
 
 -- the number of the first pipe
 abbrev pub first_pipe : List FsSpec → ℕ

@@ -1,14 +1,14 @@
 -- The calls on labels, frozen marks, privileges and ceilings: their tests in order, their effects, replies and audit lines.
 use Rattle.std.specs.Prelude.{ℕ, ◌==◌, Bool, true, false, not, ◌||◌, slice_get}
 use Rattle.std.specs.Option.{option_map_or}
-use Rattle.ix_label.specs.Category.{Categories, leq, same, join}
+use Rattle.ix_label.specs.Category.{Categories, bottom, leq, same, join}
 use Rattle.ix_model.specs.Naming.{PathOf}
 use Rattle.ix_model.specs.Privs.{to_lower, to_grant, to_set_ceilings, to_thaw, to_read_the_log, either_of, without}
 use Rattle.ix_model.specs.World.{Object, Process, is_dir, ceiling_of}
 use Rattle.ix_model.specs.Outcomes.{Row}
-use Rattle.ix_model.specs.Rows.{◌>>=◌, ◌>>◌, pass, need, some, only_if, frame, caller, object, change_process, change_object, affect}
-use Rattle.ix_model.specs.Walks.{found}
-use Rattle.ix_model.specs.Auditing.{exercise, entitled, log_has_room, logged, relabelling}
+use Rattle.ix_model.specs.Rows.{◌>>=◌, ◌>>◌, pass, need, some, only_if, frame, process, object, change_process, change_object, affect}
+use Rattle.ix_model.specs.Walks.{object_at}
+use Rattle.ix_model.specs.Auditing.{exercise, entitled, log_has_room, logged, audit_line}
 use Rattle.ix_model.specs.declared.privs.PrivSet.{PrivSet}
 use Rattle.ix_model.specs.declared.audit.Act.TheVariants as act
 use Rattle.ix_model.specs.declared.refusal.Refusal.TheVariants as refusal
@@ -19,20 +19,20 @@ use Rattle.ix_model.specs.declared.reply.Reply.TheVariants as reply
 -- LabelOf
 unfoldable pub label_of : ℕ → PathOf → Row Reply
 label_of pid path = do
-  o ← found pid path
+  o ← object_at pid path
   x ← object o
   pass (reply.Lab x.label)
 
 -- SelfLabel
 unfoldable pub self_label : ℕ → Row Reply
 self_label pid = do
-  p ← caller pid
+  p ← process pid
   pass (reply.Lab p.label)
 
 -- a label that isn't lowered has to take in the caller's; one that is lowered needs DOWN
 unfoldable pub allowed : ℕ → Categories → Categories → Row (Unit {0})
 allowed pid was now = do
-  p ← caller pid
+  p ← process pid
   only_if (leq was now) (need (leq (join was p.label) now) refusal.NotAbove)
   only_if (not (leq was now)) (exercise pid to_lower)
 
@@ -47,32 +47,32 @@ movable x now = do
 -- SetLabel: the object's label is that; a lowering is logged
 unfoldable pub set_label : ℕ → ℕ → PathOf → Categories → Row Reply
 set_label place pid path now = do
-  o ← found pid path
+  o ← object_at pid path
   x ← object o
   allowed pid x.label now
   movable x now
   change_object o (λ y. record y { label = now })
-  only_if (not (leq x.label now)) (logged (relabelling place pid act.DownFile o x.label now))
+  only_if (not (leq x.label now)) (logged (audit_line place pid act.DownFile o x.label now))
   pass reply.Done
 
 -- SetSelf: the caller's label is that; a lowering needs DOWN, and is logged
 unfoldable pub set_self : ℕ → ℕ → Categories → Row Reply
 set_self place pid now = do
-  p ← caller pid
+  p ← process pid
   only_if (not (leq p.label now)) (exercise pid to_lower)
   only_if (not (same p.label now)) (do
     need (not p.frozen) refusal.ProcFrozen
     need (leq now p.ceiling) refusal.ProcCeiling)
   change_process pid (λ q. record q { label = now })
-  only_if (not (leq p.label now)) (logged (relabelling place pid act.DownSelf pid p.label now))
+  only_if (not (leq p.label now)) (logged (audit_line place pid act.DownSelf pid p.label now))
   pass reply.Done
 
 -- ---- frozen marks
 -- Freeze
 unfoldable pub freeze : ℕ → PathOf → Row Reply
 freeze pid path = do
-  o ← found pid path
-  affect pid o
+  o ← object_at pid path
+  affect pid o bottom
   change_object o (λ x. record x { frozen = true })
   pass reply.Done
 
@@ -85,34 +85,34 @@ freeze_self pid = do
 -- Thaw: not frozen, also where it wasn't
 unfoldable pub thaw : ℕ → ℕ → PathOf → Row Reply
 thaw place pid path = do
-  o ← found pid path
+  o ← object_at pid path
   x ← object o
   exercise pid to_thaw
   change_object o (λ y. record y { frozen = false })
-  logged (relabelling place pid act.ThawFile o x.label x.label)
+  logged (audit_line place pid act.ThawFile o x.label x.label)
   pass reply.Done
 
 -- ThawSelf
 unfoldable pub thaw_self : ℕ → ℕ → Row Reply
 thaw_self place pid = do
-  p ← caller pid
+  p ← process pid
   exercise pid to_thaw
   change_process pid (λ q. record q { frozen = false })
-  logged (relabelling place pid act.ThawSelf pid p.label p.label)
+  logged (audit_line place pid act.ThawSelf pid p.label p.label)
   pass reply.Done
 
 -- ---- privileges
 -- SetPriv: the file's sets, which also affects it
 unfoldable pub set_priv : ℕ → ℕ → PathOf → PrivSet → PrivSet → Row Reply
 set_priv place pid path cap lic = do
-  o ← found pid path
+  o ← object_at pid path
   x ← object o
   need (not (is_dir x)) refusal.IsDir
   exercise pid to_grant
-  p ← caller pid
-  affect pid o
+  p ← process pid
+  affect pid o bottom
   change_object o (λ y. record y { cap = cap; lic = lic })
-  logged (record (relabelling place pid act.SetPriv o x.label (join x.label p.label)) { cap = cap; lic = lic })
+  logged (record (audit_line place pid act.SetPriv o x.label (join x.label p.label)) { cap = cap; lic = lic })
   pass reply.Done
 
 -- DropLic: the set goes from all three of the caller's
@@ -124,25 +124,25 @@ drop_lic pid set = do
 -- GrantLic: the set joins the licences of a process
 unfoldable pub grant_lic : ℕ → ℕ → ℕ → PrivSet → Row Reply
 grant_lic place pid target set = do
-  q ← caller target
+  q ← process target
   exercise pid to_grant
   change_process target (λ p. record p { lic = either_of p.lic set })
-  logged (record (relabelling place pid act.Grant target q.label q.label) { lic = set })
+  logged (record (audit_line place pid act.Grant target q.label q.label) { lic = set })
   pass reply.Done
 
 -- ---- ceilings
--- a ceiling that isn't lowered, or of a process that is neither the caller nor its child, needs CEIL
+-- CEIL is needed for a ceiling that isn't at or below the old one, and for that of a process that is neither the caller nor its child
 abbrev pub needs_to_set_ceilings : ℕ → ℕ → Process → Categories → Bool
 needs_to_set_ceilings pid target q now = not (leq now q.ceiling) || not (target == pid || option_map_or (λ r. r == pid) q.parent false)
 
 -- SetCeiling: the ceiling of a process, not below its label
 unfoldable pub set_ceiling : ℕ → ℕ → ℕ → Categories → Row Reply
 set_ceiling place pid target now = do
-  q ← caller target
+  q ← process target
   need (leq q.label now) refusal.BelowLabel
   only_if (needs_to_set_ceilings pid target q now) (exercise pid to_set_ceilings)
   change_process target (λ p. record p { ceiling = now })
-  only_if (needs_to_set_ceilings pid target q now) (logged (relabelling place pid act.Ceiling target q.ceiling now))
+  only_if (needs_to_set_ceilings pid target q now) (logged (audit_line place pid act.Ceiling target q.ceiling now))
   pass reply.Done
 
 -- ---- the log
@@ -153,6 +153,6 @@ read_log place pid index = do
   f ← frame
   l ← some (slice_get f.log index) refusal.EndOfList
   log_has_room
-  p ← caller pid
-  logged (relabelling place pid act.ReadLog index p.label p.label)
+  p ← process pid
+  logged (audit_line place pid act.ReadLog index p.label p.label)
   pass (reply.LogLine l)

@@ -10,8 +10,8 @@ use Rattle.ix_model.specs.Owners.{times_named}
 use Rattle.ix_model.specs.Directories.{with_name, without_name, has_room_for_a_name}
 use Rattle.ix_model.specs.World.{Frame, Object, Process, put, lowest_free, is_dir, no_claims}
 use Rattle.ix_model.specs.Outcomes.{Row}
-use Rattle.ix_model.specs.Rows.{◌>>=◌, ◌>>◌, pass, need, some, frame, caller, object, change_process, change_object, put_object, put_open, observe, affect}
-use Rattle.ix_model.specs.Walks.{walked_to, there, vacant, found, found_in, missing}
+use Rattle.ix_model.specs.Rows.{◌>>=◌, ◌>>◌, pass, need, some, frame, process, object, change_process, change_object, put_object, put_open, observe, affect}
+use Rattle.ix_model.specs.Walks.{walked_to, found_object, vacant, object_at, spot_at, missing}
 use Rattle.ix_model.specs.Lifetimes.{let_go_object}
 use Rattle.ix_model.specs.declared.call.Mode.{Mode}
 use Rattle.ix_model.specs.declared.refusal.Refusal.TheVariants as refusal
@@ -33,7 +33,7 @@ make pid path kind = do
   f ← frame
   o ← some (free_inode f (fs_number x)) refusal.NoInode
   need (has_room_for_a_name f) refusal.NoEntry
-  affect pid d
+  affect pid d bottom
   put_object o (Some (new_object kind (Some (fs_number x))))
   change_object d (with_name (last_name path.names) o)
   pass (reply.Number o)
@@ -51,7 +51,7 @@ unfoldable pub link_at : ℕ → PathOf → PathOf → Row Reply
 link_at pid target path = do
   a ← walked_to pid target
   b ← walked_to pid path
-  o ← there a
+  o ← found_object a
   x ← object o
   need (not (is_dir x)) refusal.IsDir
   d ← vacant b
@@ -59,7 +59,7 @@ link_at pid target path = do
   need (fs_number x == fs_number y) refusal.CrossFs
   f ← frame
   need (has_room_for_a_name f) refusal.NoEntry
-  affect pid d
+  affect pid d bottom
   change_object d (with_name (last_name path.names) o)
   pass reply.Done
 
@@ -67,13 +67,13 @@ link_at pid target path = do
 -- UnlinkAt: one name of a file fewer; without a name and an open entry the file is gone. A path of no names leads to a directory.
 unfoldable pub unlink_at : ℕ → PathOf → Row Reply
 unlink_at pid path = do
-  s ← found_in pid path
-  x ← object s.0
+  s ← spot_at pid path
+  x ← object s.object
   need (not (is_dir x)) refusal.IsDir
-  d ← some s.1 refusal.IsDir
-  affect pid d
+  d ← some s.dir refusal.IsDir
+  affect pid d bottom
   change_object d (without_name (last_name path.names))
-  let_go_object s.0
+  let_go_object s.object
   pass reply.Done
 
 -- a working directory of a living process
@@ -84,39 +84,39 @@ is_home o p = option_map_or (λ q. not q.ended && q.cwd == o) p false
 -- leads to the caller's own.
 unfoldable pub remove_dir : ℕ → PathOf → Row Reply
 remove_dir pid path = do
-  s ← found_in pid path
-  x ← object s.0
+  s ← spot_at pid path
+  x ← object s.object
   need (is_dir x) refusal.NotDir
   observe pid x.label
   f ← frame
-  need (not (is_root f.fss s.0 x)) refusal.CrossFs
+  need (not (is_root f.fss s.object x)) refusal.CrossFs
   need (length x.names == 0) refusal.NotEmpty
-  need (not (list_any (is_home s.0) f.processes)) refusal.InUse
-  d ← some s.1 refusal.InUse
-  affect pid d
+  need (not (list_any (is_home s.object) f.processes)) refusal.InUse
+  d ← some s.dir refusal.InUse
+  affect pid d bottom
   change_object d (without_name (last_name path.names))
-  put_object s.0 None
+  put_object s.object None
   pass reply.Done
 
 -- ---- going and looking
--- OpenAt: an open entry at offset 0 under the lowest free descriptor
+-- OpenAt: an open entry at bottom and offset 0 under the lowest free descriptor
 unfoldable pub open_at : ℕ → PathOf → Mode → Row Reply
 open_at pid path mode = do
-  o ← found pid path
+  o ← object_at pid path
   x ← object o
   need (not (is_dir x)) refusal.IsDir
-  p ← caller pid
+  p ← process pid
   fd ← some (lowest_free p.fds) refusal.NoFd
   f ← frame
   e ← some (lowest_free f.opens) refusal.NoOpen
-  put_open e (Some (record { object = o; end = 0; mode = mode }))
+  put_open e (Some (record { object = o; end = 0; mode = mode; label = bottom }))
   change_process pid (λ q. record q { fds = put q.fds fd (Some e) })
   pass (reply.Number fd)
 
 -- ChangeDir: the working directory
 unfoldable pub change_dir : ℕ → PathOf → Row Reply
 change_dir pid path = do
-  o ← found pid path
+  o ← object_at pid path
   x ← object o
   need (is_dir x) refusal.NotDir
   change_process pid (λ q. record q { cwd = o })
@@ -126,19 +126,23 @@ change_dir pid path = do
 abbrev pub links_of : Frame → ℕ → Object → ℕ
 links_of f o x = if is_dir x then 1 else times_named f.objects o
 
--- StatAt: what an object is; its size is filled in from the content
+-- what a row answers to a look at an object: the content fills in its size
+abbrev pub stat_passed : ℕ → Object → ℕ → Reply
+stat_passed o x links = reply.Stat (record { 0 = o }) x.kind 0 links x.frozen x.cap x.lic
+
+-- StatAt: what an object is
 unfoldable pub stat_at : ℕ → PathOf → Row Reply
 stat_at pid path = do
-  o ← found pid path
+  o ← object_at pid path
   x ← object o
   observe pid x.label
   f ← frame
-  pass (reply.Stat (record { 0 = o }) x.kind 0 (links_of f o x) x.frozen x.cap x.lic)
+  pass (stat_passed o x (links_of f o x))
 
 -- ListAt: a name of a directory, counted from 0 in order of making
 unfoldable pub list_at : ℕ → PathOf → ℕ → Row Reply
 list_at pid path index = do
-  o ← found pid path
+  o ← object_at pid path
   x ← object o
   need (is_dir x) refusal.NotDir
   observe pid x.label

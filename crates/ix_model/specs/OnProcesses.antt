@@ -5,8 +5,8 @@ use Rattle.std.specs.List.{list_any}
 use Rattle.ix_model.specs.Naming.{PathOf}
 use Rattle.ix_model.specs.World.{Process, at, put, is_dir, is_ended}
 use Rattle.ix_model.specs.Outcomes.{Row}
-use Rattle.ix_model.specs.Rows.{◌>>=◌, ◌>>◌, pass, need, some, frame, caller, object, record_of, change_process, put_process, add_process, observe}
-use Rattle.ix_model.specs.Walks.{found}
+use Rattle.ix_model.specs.Rows.{◌>>=◌, ◌>>◌, pass, need, some, frame, process, object, record_of, change_process, put_process, add_process, observe}
+use Rattle.ix_model.specs.Walks.{object_at}
 use Rattle.ix_model.specs.Lifetimes.{let_go_all}
 use Rattle.ix_model.specs.declared.call.Keep.{Keep}
 use Rattle.ix_model.specs.declared.call.Keep.TheVariants as keep
@@ -29,17 +29,18 @@ kept_fds (keep.One fd) fds = put (replicate 32 None) fd.0 (at fds fd.0)
 -- Fork: a child like the caller, with the next pid
 unfoldable pub fork : ℕ → Keep → Row Reply
 fork pid keep = do
-  p ← caller pid
+  p ← process pid
   need (has_kept keep p) refusal.BadFd
   f ← frame
   need (nat_lt (count_by is_some f.processes) f.limits.procs) refusal.NoSlot
   add_process (record p { parent = Some pid; fds = kept_fds keep p.fds })
   pass (reply.Number (length f.processes))
 
--- Exec: the file's capabilities and licences become the caller's; its own licences and descriptors stay
+-- Exec: the file's capabilities become the caller's, and its licences those of the caller's program; the caller's own licences
+-- and its descriptors stay
 unfoldable pub exec : ℕ → PathOf → Row Reply
 exec pid path = do
-  o ← found pid path
+  o ← object_at pid path
   x ← object o
   need (not (is_dir x)) refusal.IsDir
   observe pid x.label
@@ -55,6 +56,7 @@ is_child pid q = option_map_or (λ p. option_map_or (λ r. r == pid) p.parent fa
 abbrev pub remains : Process → Option Process
 remains p = if is_some p.parent then Some (record p { ended = true }) else None
 
+-- a process ends
 unfoldable pub end_process : ℕ → Row (Unit {0})
 end_process pid = λ f. put_process pid (option_and_then remains (at f.processes pid)) f
 
@@ -67,7 +69,11 @@ exit pid = do
   end_process pid
   pass reply.Done
 
--- WaitChild: the ended child with the lowest pid is looked at, and its record goes; its status is filled in from the content
+-- what a row answers to a wait: the content fills in the child's status
+abbrev pub wait_passed : ℕ → Reply
+wait_passed c = reply.Child (record { 0 = c }) 0
+
+-- WaitChild: the ended child with the lowest pid is looked at, and its record goes
 unfoldable pub wait_child : ℕ → Row Reply
 wait_child pid = do
   f ← frame
@@ -76,4 +82,4 @@ wait_child pid = do
   q ← record_of c
   observe pid q.label
   put_process c None
-  pass (reply.Child (record { 0 = c }) 0)
+  pass (wait_passed c)

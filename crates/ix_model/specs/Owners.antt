@@ -27,5 +27,5 @@ abbrev pub owned : List (Option Process) → ℕ → Bool
 owned processes e = list_any (owns e) processes
 
 -- whether a descriptor is on that end of that object, and whether the process, living, has such a descriptor
-abbrev pub is_claimant : Frame → ℕ → ℕ → ℕ → Bool
-is_claimant f o end p = option_map_or (λ q. not q.ended && list_any (λ d. option_map_or (λ e. is_on o end (at f.opens e)) d false) q.fds) (at f.processes p) false
+abbrev pub has_end : Frame → ℕ → ℕ → ℕ → Bool
+has_end f o end p = option_map_or (λ q. not q.ended && list_any (λ d. option_map_or (λ e. is_on o end (at f.opens e)) d false) q.fds) (at f.processes p) false

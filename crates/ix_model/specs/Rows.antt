@@ -44,8 +44,8 @@ unfoldable pub frame : Row Frame
 frame = λ f. Pass f f
 
 -- the calling process. That it lives was tested before the row.
-unfoldable pub caller : ℕ → Row Process
-caller pid = λ f. some (living (at f.processes pid)) refusal.NoProcess f
+unfoldable pub process : ℕ → Row Process
+process pid = λ f. some (living (at f.processes pid)) refusal.NoProcess f
 
 -- the object of a number at which one stands. In a sound world no row asks for another.
 unfoldable pub object : ℕ → Row Object
@@ -75,28 +75,32 @@ add_process p = λ f. Pass tt (record f { processes = f.processes ++ Some p ∷ 
 unfoldable pub put_open : ℕ → Option Open → Row (Unit {0})
 put_open e x = λ f. Pass tt (record f { opens = put f.opens e x })
 
+unfoldable pub change_open : ℕ → (Open → Open) → Row (Unit {0})
+change_open e h = λ f. Pass tt (record f { opens = change f.opens e h })
+
 -- ---- the two rules of floating
 -- observe: the caller's label is joined with the label of what it looks at, unless it is frozen or has to stay below its ceiling
 unfoldable pub observe : ℕ → Categories → Row (Unit {0})
 observe pid seen = do
-  p ← caller pid
+  p ← process pid
   only_if (not (same (join p.label seen) p.label)) (do
     need (not p.frozen) refusal.ProcFrozen
     need (leq (join p.label seen) p.ceiling) refusal.ProcCeiling
     change_process pid (λ q. record q { label = join q.label seen }))
 
--- affect: the object's label is joined with the caller's, unless it is frozen or has to stay below its file system's ceiling
-unfoldable pub affect : ℕ → ℕ → Row (Unit {0})
-affect pid o = do
-  p ← caller pid
+-- affect: the object's label is joined with the caller's, and with that of the open entry that the caller goes through, unless
+-- the object is frozen or has to stay below its file system's ceiling. Where no open entry's label counts, bottom stands for it.
+unfoldable pub affect : ℕ → ℕ → Categories → Row (Unit {0})
+affect pid o through = do
+  p ← process pid
   x ← object o
   f ← frame
-  only_if (not (same (join x.label p.label) x.label)) (do
+  only_if (not (same (join x.label (join p.label through)) x.label)) (do
     need (not x.frozen) refusal.FileFrozen
-    need (leq (join x.label p.label) (ceiling_of f.fss x)) refusal.FsCeiling
-    change_object o (λ y. record y { label = join y.label p.label }))
+    need (leq (join x.label (join p.label through)) (ceiling_of f.fss x)) refusal.FsCeiling
+    change_object o (λ y. record y { label = join y.label (join p.label through) }))
 
 -- Opens the words that the code steps through; those for which it has a call of its own stay closed.
 unfoldable pub coding : ℕ
-unfolding ◌>>=◌ ◌>>◌ on_pass need some only_if pass refuse frame caller object change_process change_object put_open
+unfolding ◌>>=◌ ◌>>◌ on_pass need some only_if pass refuse frame process object change_process change_object put_open change_open
 coding = 0

@@ -2,11 +2,11 @@
 use Rattle.std.specs.Prelude.{◌≡◌, ℕ, ◌+◌, ◌<◌, ◌≤◌, ◌==◌, true, false, not, ◌&&◌, ◌||◌, [], length, map, count_by, Some, None, is_some, is_none, if◌then◌else◌}
 use Rattle.std.specs.Option.{option_map_or}
 use Rattle.ix_label.specs.Category.{leq}
-use Rattle.ix_model.specs.World.{World, Frame, Object, Process, Open, at, living, lives, is_file, is_dir, is_pipe, held, ceiling_of}
+use Rattle.ix_model.specs.World.{fs_at, World, Frame, Object, Process, Open, at, living, lives, is_file, is_dir, is_pipe, held, ceiling_of}
 use Rattle.ix_model.specs.Contents.{holding_of, offset_of}
 use Rattle.ix_model.specs.Telling.{blocks_where, blocks_on, lies_on}
-use Rattle.ix_model.specs.Numbers.{first_inode, inodes_of}
-use Rattle.ix_model.specs.Owners.{times_named, names_in_all, owned, is_claimant}
+use Rattle.ix_model.specs.Numbers.{first_inode}
+use Rattle.ix_model.specs.Owners.{times_named, names_in_all, owned, has_end}
 use Rattle.ix_model.specs.Valid.{all_differ}
 
 -- ---- labels
@@ -51,7 +51,7 @@ pub record ProcessesSound (f : Frame) : Type 0 where
 
 -- a claimant lives and has a descriptor on the end that it claims
 pub record ClaimsSound (f : Frame) : Type 0 where
-  pub claimant : (o end p : ℕ) (x : Object) → at f.objects o ≡ Some x → at x.claims end ≡ Some p → is_claimant f o end p ≡ true
+  pub claimant : (o end p : ℕ) (x : Object) → at f.objects o ≡ Some x → at x.claims end ≡ Some p → has_end f o end p ≡ true
 
 -- ---- limits
 -- Each table is as long as its limit. An object that isn't a pipe lies on the file system of its number; a pipe lies on
@@ -61,7 +61,7 @@ pub record WithinLimits (f : Frame) : Type 0 where
   pub objects : length f.objects ≡ first_inode f.fss (length f.fss) + f.limits.pipes
   pub pipes : (o : ℕ) (x : Object) → at f.objects o ≡ Some x → is_none x.fs ≡ is_pipe x
   pub past : (o : ℕ) (x : Object) → at f.objects o ≡ Some x → is_pipe x ≡ true → first_inode f.fss (length f.fss) ≤ o
-  pub numbers : (o k : ℕ) (x : Object) → at f.objects o ≡ Some x → x.fs ≡ Some k → (first_inode f.fss k ≤ o) × (o < first_inode f.fss k + inodes_of f.fss k)
+  pub numbers : (o k : ℕ) (x : Object) → at f.objects o ≡ Some x → x.fs ≡ Some k → (first_inode f.fss k ≤ o) × (o < first_inode f.fss k + (fs_at f.fss k).inodes)
   pub opens : length f.opens ≡ f.limits.opens
   pub processes : count_by is_some f.processes ≤ f.limits.procs
   pub names : names_in_all f.objects ≤ f.limits.names

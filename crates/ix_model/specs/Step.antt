@@ -1,13 +1,13 @@
 -- One step of the machine: a row's decision, and what it does to bytes, offsets and statuses. Runs of histories.
 use Rattle.std.specs.Prelude.{ℕ, suc, Bool, false, not, ◌&&◌, List, [], ◌∷◌, ◌++◌, length, take, drop, Option, Some, None, is_some, if◌then◌else◌}
 use Rattle.std.specs.Option.{option_map_or}
-use Rattle.ix_model.specs.World.{Frame, World, at}
+use Rattle.ix_model.specs.World.{Frame, World, Content, at}
 use Rattle.ix_model.specs.Walks.{Behind, behind}
-use Rattle.ix_model.specs.Table.{Decision, decide}
+use Rattle.ix_model.specs.Table.{Decision, verdict}
 use Rattle.ix_model.specs.Contents.{carried, holding_of, readable, after_read, after_write, after_cut, after_seek, after_exit, emptied, status_of}
 use Rattle.ix_model.specs.Telling.{told}
-use Rattle.ix_model.specs.History.{Op, Event}
-use Rattle.ix_model.specs.History as op
+use Rattle.ix_model.specs.Events.{Op, Event}
+use Rattle.ix_model.specs.Events as op
 use Rattle.ix_model.specs.declared.reply.Kind.TheVariants as kind
 use Rattle.ix_model.specs.declared.reply.Reply.{Reply}
 use Rattle.ix_model.specs.declared.reply.Reply.TheVariants as reply
@@ -23,51 +23,43 @@ pub record Given : Type 0 where
 unfoldable pub plainly : World → Decision → Given
 plainly w d = record { world = record { frame = d.frame; content = carried w.frame d.frame w.content }; reply = d.reply; bytes = [] }
 
+-- the answer of a call that edits the content: the true reply, the bytes that it gives, and the edit
+abbrev pub edited : World → Frame → Reply → List ℕ → (Content → Content) → Given
+edited w g r bytes edit = record { world = record { frame = g; content = edit (carried w.frame g w.content) }; reply = r; bytes = bytes }
+
+-- a read gives the bytes that are readable, up to the count, and moves past them
+abbrev pub read_given : World → List ℕ → Behind → Frame → Given
+read_given w bytes e g = edited w g (reply.Bytes (length bytes)) bytes (after_read w.frame e (length bytes))
+
 unfoldable pub read_answer : World → ℕ → Option Behind → Reply → Frame → Given
-read_answer w count (Some e) (reply.Bytes k) g = record {
-  world = record { frame = g; content = after_read w.frame e (length (take count (readable w.frame w.content e))) (carried w.frame g w.content) };
-  reply = reply.Bytes (length (take count (readable w.frame w.content e)));
-  bytes = take count (readable w.frame w.content e);
-}
+read_answer w count (Some e) (reply.Bytes k) g = read_given w (take count (readable w.frame w.content e)) e g
 read_answer w count _ r g = plainly w (record { reply = r; frame = g })
 
+-- a write tells how many bytes it wrote
 unfoldable pub write_answer : World → List ℕ → Option Behind → Reply → Frame → Given
-write_answer w new (Some e) (reply.Number k) g = record {
-  world = record { frame = g; content = after_write w.frame e new (carried w.frame g w.content) };
-  reply = reply.Number (length new);
-  bytes = [];
-}
+write_answer w new (Some e) (reply.Number k) g = edited w g (reply.Number (length new)) [] (after_write w.frame e new)
 write_answer w new _ r g = plainly w (record { reply = r; frame = g })
 
+-- a cut and a seek
 unfoldable pub cut_answer : World → ℕ → Option Behind → Reply → Frame → Given
-cut_answer w len (Some e) reply.Done g = record {
-  world = record { frame = g; content = after_cut e len (carried w.frame g w.content) };
-  reply = reply.Done;
-  bytes = [];
-}
+cut_answer w len (Some e) reply.Done g = edited w g reply.Done [] (after_cut e len)
 cut_answer w len _ r g = plainly w (record { reply = r; frame = g })
 
 unfoldable pub seek_answer : World → ℕ → Option Behind → Reply → Frame → Given
-seek_answer w offset (Some e) reply.Done g = record {
-  world = record { frame = g; content = after_seek e offset (carried w.frame g w.content) };
-  reply = reply.Done;
-  bytes = [];
-}
+seek_answer w offset (Some e) reply.Done g = edited w g reply.Done [] (after_seek e offset)
 seek_answer w offset _ r g = plainly w (record { reply = r; frame = g })
 
--- the size of a file
+-- a look at a file tells its size
 unfoldable pub stat_answer : World → Reply → Frame → Given
 stat_answer w (reply.Stat o kind.File size links frozen cap lic) g = plainly w (record { reply = reply.Stat o kind.File (length (holding_of w.content o.0).first) links frozen cap lic; frame = g })
 stat_answer w r g = plainly w (record { reply = r; frame = g })
 
+-- an exit leaves the status
 unfoldable pub exit_answer : World → ℕ → ℕ → Reply → Frame → Given
-exit_answer w pid status reply.Done g = record {
-  world = record { frame = g; content = after_exit g pid status (carried w.frame g w.content) };
-  reply = reply.Done;
-  bytes = [];
-}
+exit_answer w pid status reply.Done g = edited w g reply.Done [] (after_exit g pid status)
 exit_answer w pid status r g = plainly w (record { reply = r; frame = g })
 
+-- a wait tells the status that the child left
 unfoldable pub wait_answer : World → Reply → Frame → Given
 wait_answer w (reply.Child p status) g = plainly w (record { reply = reply.Child p (status_of w.content p.0); frame = g })
 wait_answer w r g = plainly w (record { reply = r; frame = g })
@@ -78,16 +70,12 @@ is_whole f o = option_map_or (λ x. is_some (at x.claims 0) && is_some (at x.cla
 
 -- the claim that makes a path whole empties it
 unfoldable pub pex_answer : World → Option Behind → Reply → Frame → Given
-pex_answer w (Some e) r g = record {
-  world = record {
-    frame = g;
-    content = (if is_whole g e.entry.object && not (is_whole w.frame e.entry.object) then emptied e.entry.object (carried w.frame g w.content) else carried w.frame g w.content);
-  };
-  reply = r;
-  bytes = [];
-}
+pex_answer w (Some e) r g =
+    let o = e.entry.object in
+    edited w g r [] (λ c. if is_whole g o && not (is_whole w.frame o) then emptied o c else c)
 pex_answer w None r g = plainly w (record { reply = r; frame = g })
 
+-- what a call gives, by its decision
 unfoldable pub answer : World → ℕ → Op → Decision → Given
 answer w pid (op.ReadFd fd count) d = read_answer w count (behind w.frame pid fd) d.reply d.frame
 answer w pid (op.WriteFd fd bytes) d = write_answer w bytes (behind w.frame pid fd) d.reply d.frame
@@ -101,7 +89,7 @@ answer w pid _ d = plainly w d
 
 -- the step of a call by a process, which is the entry at this place
 unfoldable pub step : World → ℕ → ℕ → Op → Given
-step w place pid o = answer w pid o (decide (told w pid o) place pid o w.frame)
+step w place pid o = answer w pid o (verdict (told w pid o) place pid o w.frame)
 
 -- ---- runs
 -- the step of an entry

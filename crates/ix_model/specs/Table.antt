@@ -7,8 +7,8 @@ use Rattle.ix_model.specs.OnPaths.{create_at, make_dir, open_at, link_at, unlink
 use Rattle.ix_model.specs.OnDescriptors.{Told, read_fd, write_fd, cut_fd, seek_fd, dup_fd, close_fd, make_pipe, pex, unpex}
 use Rattle.ix_model.specs.OnProcesses.{fork, exec, exit, wait_child}
 use Rattle.ix_model.specs.OnLabels.{label_of, self_label, set_label, set_self, freeze, freeze_self, thaw, thaw_self, set_priv, drop_lic, grant_lic, set_ceiling, read_log}
-use Rattle.ix_model.specs.History.{Op}
-use Rattle.ix_model.specs.History as op
+use Rattle.ix_model.specs.Events.{Op}
+use Rattle.ix_model.specs.Events as op
 use Rattle.ix_model.specs.declared.refusal.Refusal.TheVariants as refusal
 use Rattle.ix_model.specs.declared.reply.Reply.{Reply}
 use Rattle.ix_model.specs.declared.reply.Reply.TheVariants as reply
@@ -62,5 +62,5 @@ settled f (Refuse r g) = record { reply = reply.No r; frame = if keeps_label r t
 settled f (Pass answer g) = record { reply = answer; frame = g }
 
 -- A call by a process that doesn't live is refused; else its row decides.
-unfoldable pub decide : Told → ℕ → ℕ → Op → Frame → Decision
-decide t place pid o f = if lives f pid then settled f (row t place pid o f) else record { reply = reply.No refusal.NoProcess; frame = f }
+unfoldable pub verdict : Told → ℕ → ℕ → Op → Frame → Decision
+verdict t place pid o f = if lives f pid then settled f (row t place pid o f) else record { reply = reply.No refusal.NoProcess; frame = f }

@@ -5,8 +5,7 @@ use Rattle.std.specs.List.{list_all, list_any}
 use Rattle.ix_label.specs.Category.{Categories, leq, top}
 use Rattle.ix_model.specs.Naming.{same_bytes, same_names}
 use Rattle.ix_model.specs.Privs.{is_empty}
-use Rattle.ix_model.specs.Numbers.{inodes_of}
-use Rattle.ix_model.specs.World.{at}
+use Rattle.ix_model.specs.World.{fs_at, at}
 use Rattle.ix_model.specs.Telling.{blocks_for}
 use Rattle.ix_model.specs.declared.config.Config.{Config}
 use Rattle.ix_model.specs.declared.config.FsSpec.{FsSpec}
@@ -47,13 +46,6 @@ abbrev pub fs_of : List FsSpec → List (List ℕ) → ℕ
 fs_of fss [] = 0
 fs_of fss (name ∷ names) = option_map_or suc (mount_of fss name) 0
 
--- the ceiling of a file system
-abbrev pub fs_ceiling : List FsSpec → ℕ → Categories
-fs_ceiling fss k = option_map_or (λ s. s.ceiling) (at (map Some fss) k) top
-
-abbrev pub blocks_of : List FsSpec → ℕ → ℕ
-blocks_of fss k = option_map_or (λ s. s.blocks) (at (map Some fss) k) 0
-
 -- a further file system's root
 abbrev pub is_mount : List FsSpec → List (List ℕ) → Bool
 is_mount fss names = list_any (λ s. same_names (s.name ∷ []) names) (drop 1 fss)
@@ -65,12 +57,12 @@ is_well_formed o =
     && (not o.dir || (is_empty o.cap && is_empty o.lic && length o.bytes == 0))
 
 -- something is there already under the names, with these lines before
-abbrev pub is_there : List FsSpec → List ObjSpec → List (List ℕ) → Bool
-is_there fss before names = is_mount fss names || list_any (λ b. same_names b.path.names names) before
+abbrev pub is_taken : List FsSpec → List ObjSpec → List (List ℕ) → Bool
+is_taken fss before names = is_mount fss names || list_any (λ b. same_names b.path.names names) before
 
 -- a directory is there under the names: the root, a further root, or one made before
-abbrev pub is_dir_there : List FsSpec → List ObjSpec → List (List ℕ) → Bool
-is_dir_there fss before names = same_names [] names || is_mount fss names || list_any (λ b. b.dir && same_names b.path.names names) before
+abbrev pub has_directory : List FsSpec → List ObjSpec → List (List ℕ) → Bool
+has_directory fss before names = same_names [] names || is_mount fss names || list_any (λ b. b.dir && same_names b.path.names names) before
 
 -- the lines before that lie on a file system
 abbrev pub lying_on : List FsSpec → ℕ → List ObjSpec → List ObjSpec
@@ -85,16 +77,16 @@ abbrev pub has_room : List FsSpec → Limits → List ObjSpec → ObjSpec → Bo
 has_room fss l before o =
     let k = fs_of fss o.path.names in
     nat_le (length fss + length before) l.names
-    && nat_le (length (lying_on fss k before) + 2) (inodes_of fss k)
-    && nat_le (blocks_taken fss k before + blocks_for (length o.bytes)) (blocks_of fss k)
+    && nat_le (length (lying_on fss k before) + 2) (fs_at fss k).inodes
+    && nat_le (blocks_taken fss k before + blocks_for (length o.bytes)) (fs_at fss k).blocks
 
 -- an object line fits after those before it
 unfoldable pub object_fits : List FsSpec → Limits → List ObjSpec → ObjSpec → Bool
 object_fits fss l before o =
     is_well_formed o
-    && leq o.label (fs_ceiling fss (fs_of fss o.path.names))
-    && not (is_there fss before o.path.names)
-    && is_dir_there fss before (take (length o.path.names - 1) o.path.names)
+    && leq o.label (fs_at fss (fs_of fss o.path.names)).ceiling
+    && not (is_taken fss before o.path.names)
+    && has_directory fss before (take (length o.path.names - 1) o.path.names)
     && has_room fss l before o
 
 -- each object line fits after those before it

@@ -7,7 +7,7 @@ use Rattle.ix_model.specs.Naming.{PathOf, same_bytes}
 use Rattle.ix_model.specs.Privs.{no_privileges}
 use Rattle.ix_model.specs.World.{Object, Process, Open, Frame, at, living, is_dir, no_claims}
 use Rattle.ix_model.specs.Outcomes.{Row}
-use Rattle.ix_model.specs.Rows.{◌>>=◌, ◌>>◌, pass, refuse, some, frame, caller, observe}
+use Rattle.ix_model.specs.Rows.{◌>>=◌, ◌>>◌, pass, refuse, some, frame, process, observe}
 use Rattle.ix_model.specs.declared.reply.Kind.TheVariants as kind
 use Rattle.ix_model.specs.declared.refusal.Refusal.TheVariants as refusal
 
@@ -28,6 +28,7 @@ pub record Walk : Type 0 where
 abbrev pub nothing : Object
 nothing = record { kind = kind.File; fs = None; label = bottom; frozen = false; cap = no_privileges; lic = no_privileges; claims = no_claims; names = [] }
 
+-- the object of a number
 abbrev pub node : List (Option Object) → ℕ → Object
 node objects n = unwrap_or (at objects n) nothing
 
@@ -35,6 +36,7 @@ node objects n = unwrap_or (at objects n) nothing
 abbrev pub child : Object → List ℕ → Option ℕ
 child o name = option_map (λ e. e.1) (find (λ e. same_bytes e.0 name) o.names)
 
+-- a walk that looked into one directory more, before all others
 abbrev pub looking_into : Object → Walk → Walk
 looking_into o w = record w { looked = o.label ∷ w.looked }
 
@@ -62,38 +64,43 @@ join_all (l ∷ ls) = join l (join_all ls)
 -- all directories looked into are observed before the walk's outcome is answered
 unfoldable pub walked_to : ℕ → PathOf → Row Sought
 walked_to pid path = do
-  p ← caller pid
+  p ← process pid
   f ← frame
   observe pid (join_all (walk f.objects p path).looked)
   pass (walk f.objects p path).outcome
 
--- the object that was found
-unfoldable pub there : Sought → Row ℕ
-there (Found o dir) = pass o
-there (Missing dir) = refuse refusal.NotFound
-there NotFound = refuse refusal.NotFound
-there NotDir = refuse refusal.NotDir
+-- the object at which a walk ended, which must have found one
+unfoldable pub found_object : Sought → Row ℕ
+found_object (Found o dir) = pass o
+found_object (Missing dir) = refuse refusal.NotFound
+found_object NotFound = refuse refusal.NotFound
+found_object NotDir = refuse refusal.NotDir
 
--- the object of the path, which must be there
-unfoldable pub found : ℕ → PathOf → Row ℕ
-found pid path = do
+-- the object of the path, at which one must be
+unfoldable pub object_at : ℕ → PathOf → Row ℕ
+object_at pid path = do
   w ← walked_to pid path
-  there w
+  found_object w
 
--- the object that was found, with the last directory looked into
-unfoldable pub spot : Sought → Row (ℕ × Option ℕ)
-spot (Found o dir) = pass (o, dir)
-spot (Missing dir) = refuse refusal.NotFound
-spot NotFound = refuse refusal.NotFound
-spot NotDir = refuse refusal.NotDir
+-- where a path leads: an object, and the directory in which its last name stands; a path of no names has none
+pub record Spot : Type 0 where
+  pub object : ℕ
+  pub dir : Option ℕ
 
--- the same of the path, with the directory in which its last name stands; a path of no names has none
-unfoldable pub found_in : ℕ → PathOf → Row (ℕ × Option ℕ)
-found_in pid path = do
+-- the spot at which a walk ended, which must have found an object
+unfoldable pub found_spot : Sought → Row Spot
+found_spot (Found o dir) = pass (record { object = o; dir = dir })
+found_spot (Missing dir) = refuse refusal.NotFound
+found_spot NotFound = refuse refusal.NotFound
+found_spot NotDir = refuse refusal.NotDir
+
+-- the spot of the path, at which an object must be
+unfoldable pub spot_at : ℕ → PathOf → Row Spot
+spot_at pid path = do
   w ← walked_to pid path
-  spot w
+  found_spot w
 
--- the directory in which the last name is missing
+-- the directory that lacks the last name of a walk, which must have found nothing under it
 unfoldable pub vacant : Sought → Row ℕ
 vacant (Found o dir) = refuse refusal.Exists
 vacant (Missing dir) = pass dir
@@ -112,10 +119,12 @@ pub record Behind : Type 0 where
   pub id : ℕ
   pub entry : Open
 
+-- the open entry of a number
 abbrev pub entry_at : Frame → Option ℕ → Option Behind
 entry_at f None = None
 entry_at f (Some e) = option_map (λ x. record { id = e; entry = x }) (at f.opens e)
 
+-- the open entry behind a descriptor of a process
 abbrev pub behind_of : Option Process → Frame → ℕ → Option Behind
 behind_of None f fd = None
 behind_of (Some p) f fd = entry_at f (at p.fds fd)

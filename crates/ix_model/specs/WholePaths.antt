@@ -3,8 +3,8 @@ use Rattle.std.specs.Prelude.{◌≡◌, ℕ, suc, ◌-◌, ◌==◌, ◌&&◌, 
 use Rattle.ix_model.specs.World.{World, Frame}
 use Rattle.ix_model.specs.Walks.{Behind, behind}
 use Rattle.ix_model.specs.Step.{step_of}
-use Rattle.ix_model.specs.History.{Op, Event}
-use Rattle.ix_model.specs.History as op
+use Rattle.ix_model.specs.Events.{Op, Event}
+use Rattle.ix_model.specs.Events as op
 use Rattle.ix_model.specs.declared.reply.Reply.{Reply}
 use Rattle.ix_model.specs.declared.reply.Reply.TheVariants as reply
 

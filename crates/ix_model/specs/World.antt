@@ -39,11 +39,12 @@ pub record Process : Type 0 where
   pub fds : List (Option ℕ)
   pub ended : Bool
 
--- An open entry: an object, or an end of a pipe. The end of a file's entry is 0.
+-- An open entry: an object, or an end of a pipe. The end of a file's entry is 0, and the label of a pipe's stays at bottom.
 pub record Open : Type 0 where
   pub object : ℕ
   pub end : ℕ
   pub mode : Mode
+  pub label : Categories
 
 -- All but bytes, offsets and exit statuses. What stands in a table stands at its number; at pid 0 nothing ever does.
 -- The processes only grow, so the next pid is the length of their table. The objects and the open entries have fixed length.
@@ -101,17 +102,21 @@ is_pipe o = elim o.kind [ kind.Pipe ↦ true | _ ↦ false ]
 abbrev pub is_trusted : Object → Bool
 is_trusted o = is_file o && not (is_empty o.cap && is_empty o.lic)
 
--- the ceiling of a file system, and of an object: a pipe's is top
+-- the file system of a number; a number past them stands for one without a name, with no block and no inode
+abbrev pub fs_at : List FsSpec → ℕ → FsSpec
+fs_at fss k = slice_index_or fss k (record { name = []; ceiling = top; blocks = 0; inodes = 0 })
+
+-- the ceiling of an object: that of its file system; a pipe's is top
 abbrev pub ceiling_of : List FsSpec → Object → Categories
-ceiling_of fss o = option_map_or (λ k. option_map_or (λ s. s.ceiling) (slice_index_or (map Some fss) k None) top) o.fs top
+ceiling_of fss o = option_map_or (λ k. (fs_at fss k).ceiling) o.fs top
 
 -- whether a process other than this one has claimed the end
-abbrev pub held_from : Object → ℕ → ℕ → Bool
-held_from o end pid = option_map_or (λ p. not (p == pid)) (at o.claims end) false
+abbrev pub claimed_by_another : Object → ℕ → ℕ → Bool
+claimed_by_another o end pid = option_map_or (λ p. not (p == pid)) (at o.claims end) false
 
 -- whether a process has claimed the end
-abbrev pub has_claim : Object → ℕ → ℕ → Bool
-has_claim o end pid = option_map_or (λ p. p == pid) (at o.claims end) false
+abbrev pub claimed_by : Object → ℕ → ℕ → Bool
+claimed_by o end pid = option_map_or (λ p. p == pid) (at o.claims end) false
 
 -- what is no pipe has no claims, and a new pipe has none yet
 abbrev pub no_claims : List (Option ℕ)

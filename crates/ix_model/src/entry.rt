@@ -25,7 +25,7 @@ pub struct Kept {
 }
 
 impl Model for Kept {
-    ghost use Rattle.ix_model.specs.History.{Event};
+    ghost use Rattle.ix_model.specs.Events.{Event};
     ghost use Rattle.std.specs.Coded.{codes};
     ghost use Rattle.ix_label.specs.contracts.label.Label as label_type;
 

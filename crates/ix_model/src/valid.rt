@@ -1,10 +1,10 @@
 ghost use Rattle.std.specs.Prelude.{◌≡◌, ℕ, ◌≤◌, ◌<◌, ◌+◌, ◌&&◌, length, IsTrue, IfSome, ◌∷◌, [], nat_le, map};
 ghost use Rattle.std.specs.List.{list_all, list_any};
 ghost use Rattle.ix_label.specs.Category.{leq};
+ghost use Rattle.ix_model.specs.World.{fs_at};
 ghost use Rattle.ix_model.specs.Naming.{same_bytes, same_names};
 ghost use Rattle.ix_model.specs.Telling.{blocks_for};
-ghost use Rattle.ix_model.specs.Numbers.{inodes_of};
-ghost use Rattle.ix_model.specs.Valid.{fs_fits, fss_fit, all_differ, limits_fit, procs_fit, mount_of, fs_of, fs_ceiling, blocks_of, is_mount, is_well_formed, is_there, is_dir_there, lying_on, blocks_taken, has_room, object_fits, objects_fit, is_valid};
+ghost use Rattle.ix_model.specs.Valid.{fs_fits, fss_fit, all_differ, limits_fit, procs_fit, mount_of, fs_of, is_mount, is_well_formed, is_taken, has_directory, lying_on, blocks_taken, has_room, object_fits, objects_fit, is_valid};
 
 use crate::config::{Config, FsSpec, Limits, ObjSpec, ProcSpec};
 use crate::name::Name;
@@ -154,8 +154,8 @@ fn is_made(before: &[ObjSpec], path: &Path) -> bool
     before.iter().any(|b| b.path.same_names(path))
 }
 
-fn is_there(fss: &[FsSpec], before: &[ObjSpec], path: &Path) -> bool
-    ensures { result ≡ is_there fss.now before.now path.now.names }
+fn is_taken(fss: &[FsSpec], before: &[ObjSpec], path: &Path) -> bool
+    ensures { result ≡ is_taken fss.now before.now path.now.names }
 {
     is_mount(fss, path) || is_made(before, path)
 }
@@ -166,8 +166,8 @@ fn is_made_dir(before: &[ObjSpec], path: &Path) -> bool
     before.iter().any(|b| b.dir && b.path.same_names(path))
 }
 
-fn is_dir_there(fss: &[FsSpec], before: &[ObjSpec], path: &Path) -> bool
-    ensures { result ≡ is_dir_there fss.now before.now path.now.names }
+fn has_directory(fss: &[FsSpec], before: &[ObjSpec], path: &Path) -> bool
+    ensures { result ≡ has_directory fss.now before.now path.now.names }
 {
     path.len() == 0 || is_mount(fss, path) || is_made_dir(before, path)
 }
@@ -186,7 +186,7 @@ fn is_well_formed(object: &ObjSpec) -> bool
 
 fn is_below_ceiling<L: Ledger>(fss: &[FsSpec], object: &ObjSpec, steps: &mut Steps<L>) -> bool
     requires { 0 < length fss.now }
-    ensures { result ≡ leq object.now.label (fs_ceiling fss.now (fs_of fss.now object.now.path.names)) }
+    ensures { result ≡ leq object.now.label (fs_at fss.now (fs_of fss.now object.now.path.names)).ceiling }
 {
     let k = fs_of(fss, &object.path);
     object.label.leq(&fss[k].ceiling, steps)
@@ -194,7 +194,7 @@ fn is_below_ceiling<L: Ledger>(fss: &[FsSpec], object: &ObjSpec, steps: &mut Ste
 
 fn has_inode(fss: &[FsSpec], k: usize, before: &[ObjSpec]) -> bool
     requires { k < length fss.now }
-    ensures { result ≡ nat_le (length (lying_on fss.now k before.now) + 2) (inodes_of fss.now k) }
+    ensures { result ≡ nat_le (length (lying_on fss.now k before.now) + 2) (fs_at fss.now k).inodes }
 {
     count_on(fss, k, before) + 2 <= fss[k].inodes as usize
 }
@@ -217,7 +217,7 @@ fn blocks_for(len: usize) -> usize
 fn has_blocks(fss: &[FsSpec], k: usize, before: &[ObjSpec], object: &ObjSpec) -> bool
     requires { k < length fss.now }
     ensures { result ≡ nat_le (blocks_taken fss.now k before.now + blocks_for (length object.now.bytes))
-        (blocks_of fss.now k) }
+        (fs_at fss.now k).blocks }
 {
     let mut left = fss[k].blocks as usize;
     for b in before {
@@ -255,8 +255,8 @@ fn object_fits<L: Ledger>(
 {
     is_well_formed(object)
         && is_below_ceiling(fss, object, steps)
-        && !is_there(fss, before, &object.path)
-        && is_dir_there(fss, before, &object.path.parent())
+        && !is_taken(fss, before, &object.path)
+        && has_directory(fss, before, &object.path.parent())
         && has_room(fss, limits, before, object)
 }
 

@@ -1,8 +1,8 @@
 -- The calls as a report writes them: the command's word, the caller, and the arguments in the command's order.
 use Rattle.std.specs.Prelude.{ℕ, List, ◌++◌, codes}
 use Rattle.std.specs.Fmt.{decimal}
-use Rattle.ix_model.specs.History.{Op}
-use Rattle.ix_model.specs.History as op
+use Rattle.ix_model.specs.Events.{Op}
+use Rattle.ix_model.specs.Events as op
 use Rattle.ix_label.specs.Spelling.{spelling}
 use Rattle.ix_report.specs.Hex.{hex}
 use Rattle.ix_report.specs.Names.{path_text}

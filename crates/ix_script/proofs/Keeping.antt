@@ -4,9 +4,9 @@ use Rattle.std.specs.List.{list_all}
 use Rattle.std.proofs.lemmas.Bool.{cases_eq, eq-eqb, ne_eqb, leb-true}
 use Rattle.std.proofs.lemmas.Bool.Decides.{nat_tests}
 use Rattle.std.proofs.lemmas.List.{append-nil, map-append}
+use Rattle.ix_model.specs.World.{fs_at}
 use Rattle.ix_model.specs.Telling.{blocks_for}
-use Rattle.ix_model.specs.Numbers.{inodes_of}
-use Rattle.ix_model.specs.Valid.{fs_fits, fs_of, lying_on, blocks_of, blocks_taken, has_room}
+use Rattle.ix_model.specs.Valid.{fs_fits, fs_of, lying_on, blocks_taken, has_room}
 use Rattle.ix_model.specs.declared.config.FsSpec.{FsSpec}
 use Rattle.ix_model.specs.declared.config.Limits.{Limits}
 use Rattle.ix_model.specs.declared.config.ObjSpec.{ObjSpec}
@@ -72,9 +72,9 @@ counted_one : (fss : List FsSpec) (limits : Limits) (os : List ObjSpec) (o : Obj
 counted_one fss limits os o old new some few fit room was taken =
     let here : ℕ = fs_of fss o.path.names in
     let low : here < 16 = let k : here < length fss = fs_within fss o.path.names some in omega arith in
-    let parts = both (nat_le (length fss + length os) limits.names) (nat_le (length (lying_on fss here os) + 2) (inodes_of fss here)) (both _ _ room).0 in
-    let inode : length (lying_on fss here os) + 2 ≤ inodes_of fss here = leb-true _ _ parts.1 in
-    let block : blocks_taken fss here os + blocks_for (length o.bytes) ≤ blocks_of fss here = leb-true _ _ (both _ _ room).1 in
+    let parts = both (nat_le (length fss + length os) limits.names) (nat_le (length (lying_on fss here os) + 2) (fs_at fss here).inodes) (both _ _ room).0 in
+    let inode : length (lying_on fss here os) + 2 ≤ (fs_at fss here).inodes = leb-true _ _ parts.1 in
+    let block : blocks_taken fss here os + blocks_for (length o.bytes) ≤ (fs_at fss here).blocks = leb-true _ _ (both _ _ room).1 in
     let counts : (j : ℕ) → slice_index new.counts j ≡ cond (j == here) (slice_index old.counts here + 1) (slice_index old.counts j) =
     taken.counts (omega (arith, was.counts here low, few_inodes fss here fit)) in
     let blocks : (j : ℕ) → slice_index new.blocks j ≡ cond (j == here) (slice_index old.blocks here + blocks_for (length o.bytes)) (slice_index old.blocks j) =

@@ -7,10 +7,10 @@ use Rattle.std.proofs.lemmas.List.{append-nil, map-append}
 use Rattle.std.proofs.lemmas.List.Sums.{fold-append}
 use Rattle.std.proofs.lemmas.List.Quantifiers.{position-Some}
 use Rattle.ix_label.specs.Category.{bottom}
+use Rattle.ix_model.specs.World.{fs_at}
 use Rattle.ix_model.specs.Naming.{same_bytes}
 use Rattle.ix_model.specs.Telling.{blocks_for}
-use Rattle.ix_model.specs.Numbers.{inodes_of}
-use Rattle.ix_model.specs.Valid.{is_within, fs_fits, mount_of, fs_of, lying_on, blocks_of, blocks_taken}
+use Rattle.ix_model.specs.Valid.{is_within, fs_fits, mount_of, fs_of, lying_on, blocks_taken}
 use Rattle.ix_model.specs.declared.config.FsSpec.{FsSpec}
 use Rattle.ix_model.specs.declared.config.ObjSpec.{ObjSpec}
 use Rattle.ix_script.proofs.Names.{both}
@@ -36,12 +36,12 @@ fits_few s h =
     let i = both (nat_le 1 s.inodes) (nat_le s.inodes 65536) p.1 in
     (leb-true s.blocks 65536 b.1, leb-true s.inodes 65536 i.1)
 
-pub few_inodes : (fss : List FsSpec) (k : ℕ) → list_all fs_fits fss ≡ true → inodes_of fss k ≤ 65536
+pub few_inodes : (fss : List FsSpec) (k : ℕ) → list_all fs_fits fss ≡ true → (fs_at fss k).inodes ≤ 65536
 few_inodes [] k h = omega arith
 few_inodes (s ∷ fss) zero h = (fits_few s (both (fs_fits s) (list_all fs_fits fss) h).0).1
 few_inodes (s ∷ fss) (suc k) h = few_inodes fss k (both (fs_fits s) (list_all fs_fits fss) h).1
 
-pub few_blocks : (fss : List FsSpec) (k : ℕ) → list_all fs_fits fss ≡ true → blocks_of fss k ≤ 65536
+pub few_blocks : (fss : List FsSpec) (k : ℕ) → list_all fs_fits fss ≡ true → (fs_at fss k).blocks ≤ 65536
 few_blocks [] k h = omega arith
 few_blocks (s ∷ fss) zero h = (fits_few s (both (fs_fits s) (list_all fs_fits fss) h).0).0
 few_blocks (s ∷ fss) (suc k) h = few_blocks fss k (both (fs_fits s) (list_all fs_fits fss) h).1

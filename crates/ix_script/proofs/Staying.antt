@@ -6,8 +6,9 @@ use Rattle.std.proofs.lemmas.Bool.Decides.{nat_tests}
 use Rattle.std.proofs.lemmas.List.{append-nil, map-append}
 use Rattle.std.proofs.lemmas.List.Folds.{list_all-append, list_any-append}
 use Rattle.ix_label.specs.Category.{leq}
+use Rattle.ix_model.specs.World.{fs_at}
 use Rattle.ix_model.specs.Naming.{same_bytes}
-use Rattle.ix_model.specs.Valid.{is_within, all_differ, fs_fits, fss_fit, limits_fit, procs_fit, fs_of, fs_ceiling, is_there, is_dir_there, has_room, is_well_formed, object_fits, objects_fit, is_valid}
+use Rattle.ix_model.specs.Valid.{is_within, all_differ, fs_fits, fss_fit, limits_fit, procs_fit, fs_of, is_taken, has_directory, has_room, is_well_formed, object_fits, objects_fit, is_valid}
 use Rattle.ix_model.specs.declared.config.FsSpec.{FsSpec}
 use Rattle.ix_model.specs.declared.config.Limits.{Limits}
 use Rattle.ix_model.specs.declared.config.ProcSpec.{ProcSpec}
@@ -138,11 +139,11 @@ fit_push fss l before (x ∷ os) o h k =
     let p = both (object_fits fss l before x) (objects_fit fss l (before ++ x ∷ []) os) h in
     join_tests _ _ p.0 (fit_push fss l (before ++ x ∷ []) os o p.1 (subst (λ (xs : List ObjSpec). object_fits fss l xs o ≡ true) (sym (append_assoc before (x ∷ []) os)) k))
 
-object_fit : (fss : List FsSpec) (l : Limits) (os : List ObjSpec) (o : ObjSpec) → is_well_formed o ≡ true → not (leq o.label (fs_ceiling fss (fs_of fss o.path.names))) ≡ false
-    → (is_there fss os o.path.names || not (is_dir_there fss os (take (length o.path.names - 1) o.path.names))) ≡ false → not (has_room fss l os o) ≡ false → object_fits fss l os o ≡ true
+object_fit : (fss : List FsSpec) (l : Limits) (os : List ObjSpec) (o : ObjSpec) → is_well_formed o ≡ true → not (leq o.label (fs_at fss (fs_of fss o.path.names)).ceiling) ≡ false
+    → (is_taken fss os o.path.names || not (has_directory fss os (take (length o.path.names - 1) o.path.names))) ≡ false → not (has_room fss l os o) ≡ false → object_fits fss l os o ≡ true
 unfolding object_fits
 object_fit fss l os o formed above misfit crowd =
-    let tree = neither (is_there fss os o.path.names) (not (is_dir_there fss os (take (length o.path.names - 1) o.path.names))) misfit in
+    let tree = neither (is_taken fss os o.path.names) (not (has_directory fss os (take (length o.path.names - 1) o.path.names))) misfit in
     join_tests _ _ (join_tests _ _ (join_tests _ _ (join_tests _ _ formed (not_false _ above)) (rw tree.0 refl)) (not_false _ tree.1)) (not_false _ crowd)
 
 -- ---- the whole

@@ -2,8 +2,9 @@
 use Rattle.std.specs.Prelude.{ℕ, ◌-◌, nat_le, nat_lt, Bool, false, not, ◌&&◌, ◌||◌, List, [], ◌∷◌, length, map, take, Option, Some, None, is_none, if◌then◌else◌}
 use Rattle.std.specs.List.{list_any, list_all}
 use Rattle.ix_label.specs.Category.{leq}
+use Rattle.ix_model.specs.World.{fs_at}
 use Rattle.ix_model.specs.Naming.{same_bytes}
-use Rattle.ix_model.specs.Valid.{is_within, fs_of, fs_ceiling, is_there, is_dir_there, has_room}
+use Rattle.ix_model.specs.Valid.{is_within, fs_of, is_taken, has_directory, has_room}
 use Rattle.ix_model.specs.declared.config.ObjSpec.{ObjSpec}
 use Rattle.ix_script.specs.Cutting.{is_empty, is_open, word_at}
 use Rattle.ix_script.specs.Kinds.{Place, is_number_of_fd, is_all_or_none}
@@ -73,7 +74,7 @@ names_unknown before f words = list_any (is_unknown before) (own_places f words)
 -- ---- 22 to 26, and 28: what fits
 -- a label is not below its ceiling
 abbrev pub object_above : List Line → ObjSpec → Bool
-object_above before o = not (leq o.label (fs_ceiling (fss_of before) (fs_of (fss_of before) o.path.names)))
+object_above before o = not (leq o.label ((fs_at (fss_of before) (fs_of (fss_of before) o.path.names)).ceiling))
 
 abbrev pub is_above : List Line → Line → Bool
 is_above before (line.Proc name label ceiling cap lic) = not (leq label ceiling)
@@ -84,8 +85,8 @@ is_above before _ = false
 -- a path does not fit the tree: it is there, or its directory isn't
 abbrev pub object_misfits : List Line → ObjSpec → Bool
 object_misfits before o =
-    is_there (fss_of before) (objects_of before) o.path.names
-    || not (is_dir_there (fss_of before) (objects_of before) (take (length o.path.names - 1) o.path.names))
+    is_taken (fss_of before) (objects_of before) o.path.names
+    || not (has_directory (fss_of before) (objects_of before) (take (length o.path.names - 1) o.path.names))
 
 abbrev pub misfits : List Line → Line → Bool
 misfits before (line.Dir path label frozen) = object_misfits before (dir_spec path label frozen)

@@ -1,9 +1,9 @@
 ghost use Rattle.std.specs.Prelude.{◌≡◌, ℕ, ◌+◌, ◌<◌, ◌≤◌, ◌&&◌, ◌||◌, not, length, nat_le, nat_lt};
 ghost use Rattle.std.specs.List.{list_any};
 ghost use Rattle.ix_label.specs.Category.{leq};
+ghost use Rattle.ix_model.specs.World.{fs_at};
 ghost use Rattle.ix_model.specs.Naming.{same_names};
-ghost use Rattle.ix_model.specs.Numbers.{inodes_of};
-ghost use Rattle.ix_model.specs.Valid.{fs_of, fs_ceiling, blocks_of, is_mount, is_there, is_dir_there};
+ghost use Rattle.ix_model.specs.Valid.{fs_of, is_mount, is_taken, has_directory};
 ghost use Rattle.ix_model.specs.declared.config.ObjSpec.{ObjSpec};
 ghost use Rattle.ix_script.specs.Before.{fss_of, objects_of, lanes_of, is_known};
 ghost use Rattle.ix_script.specs.Rules.{is_above, object_misfits, misfits, object_crowds, crowds, is_out_of_order, is_one_too_many, lacks_policy};
@@ -20,7 +20,7 @@ use std::sync::ledger::Ledger;
 
 fn has_inode(fss: &[FsSpec], k: usize, count: usize) -> bool
     requires { k < length fss.now }
-    ensures { result ≡ nat_le (count + 2) (inodes_of fss.now k) }
+    ensures { result ≡ nat_le (count + 2) (fs_at fss.now k).inodes }
 {
     match (fss[k].inodes as usize).checked_sub(2) {
         Some(most) => count <= most,
@@ -30,7 +30,7 @@ fn has_inode(fss: &[FsSpec], k: usize, count: usize) -> bool
 
 fn has_blocks(fss: &[FsSpec], k: usize, taken: usize, needed: usize) -> bool
     requires { k < length fss.now }
-    ensures { result ≡ nat_le (taken + needed) (blocks_of fss.now k) }
+    ensures { result ≡ nat_le (taken + needed) (fs_at fss.now k).blocks }
 {
     match (fss[k].blocks as usize).checked_sub(taken) {
         Some(left) => needed <= left,
@@ -49,7 +49,7 @@ fn has_name(fss: usize, made: usize, names: u32) -> bool
 
 fn is_above_fs<L: Ledger>(fss: &[FsSpec], path: &Path, label: &Label, steps: &mut Steps<L>) -> bool
     requires { 0 < length fss.now }
-    ensures { result ≡ not (leq label.now (fs_ceiling fss.now (fs_of fss.now path.now.names))) }
+    ensures { result ≡ not (leq label.now (fs_at fss.now (fs_of fss.now path.now.names)).ceiling) }
 {
     let k = fs_of(fss, path);
     !label.leq(&fss[k].ceiling, steps)
@@ -57,9 +57,9 @@ fn is_above_fs<L: Ledger>(fss: &[FsSpec], path: &Path, label: &Label, steps: &mu
 
 /// Rules 22 to 26, and 28: what fits the lines before.
 impl Draft {
-    fn is_there(&self, path: &Path) -> bool
+    fn is_taken(&self, path: &Path) -> bool
         requires told { DraftTold self.now }
-        ensures { result ≡ is_there (fss_of self.now.lines) (objects_of self.now.lines) path.now.names }
+        ensures { result ≡ is_taken (fss_of self.now.lines) (objects_of self.now.lines) path.now.names }
     {
         is_mount(self.header.fss.as_slice(), path) || self.header.made.has(path)
     }
@@ -72,9 +72,9 @@ impl Draft {
         is_mount(self.header.fss.as_slice(), path) || self.header.made.has_dir(path)
     }
 
-    fn is_dir_there(&self, path: &Path) -> bool
+    fn has_directory(&self, path: &Path) -> bool
         requires told { DraftTold self.now }
-        ensures { result ≡ is_dir_there (fss_of self.now.lines) (objects_of self.now.lines) path.now.names }
+        ensures { result ≡ has_directory (fss_of self.now.lines) (objects_of self.now.lines) path.now.names }
     {
         path.len() == 0 || self.is_further_dir(path)
     }
@@ -83,7 +83,7 @@ impl Draft {
         requires told { DraftTold self.now }
         ensures { (o : ObjSpec) → o.path ≡ path.now → result ≡ object_misfits self.now.lines o }
     {
-        self.is_there(path) || !self.is_dir_there(&path.parent())
+        self.is_taken(path) || !self.has_directory(&path.parent())
     }
 
     fn lacks_room(&self, path: &Path, len: usize) -> bool

@@ -1,8 +1,8 @@
 -- The short histories of the calls on descriptors, entry by entry.
 use Rattle.std.proofs.Common.{◌≡◌, ℕ, true, [], ◌∷◌, ◌++◌, ◌∙◌, Some, None, replicate, refl, ap, codes}
 use Rattle.ix_label.specs.Category.{bottom}
-use Rattle.ix_model.specs.History.{Event}
-use Rattle.ix_model.specs.History as op
+use Rattle.ix_model.specs.Events.{Event}
+use Rattle.ix_model.specs.Events as op
 use Rattle.ix_model.specs.Opening.{opening_world}
 use Rattle.ix_model.specs.Privs.{no_privileges}
 use Rattle.ix_model.specs.Step.{step, run}

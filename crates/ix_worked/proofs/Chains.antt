@@ -3,12 +3,12 @@ use Rattle.std.proofs.Common.{◌≡◌, ℕ, suc, ◌+◌, ◌&&◌, List, [], 
 use Rattle.std.specs.Option.{option_map_or}
 use Rattle.ix_model.specs.World.{World}
 use Rattle.ix_model.specs.Step.{Given, answer, step, step_of, run}
-use Rattle.ix_model.specs.Table.{Decision, decide}
+use Rattle.ix_model.specs.Table.{Decision, verdict}
 use Rattle.ix_model.specs.Telling.{told}
 use Rattle.ix_model.specs.Opening.{opening_world}
 use Rattle.ix_model.specs.AuditLog.{is_answer, is_licensed, exercises, line_of_act, lines_added, audit_log}
-use Rattle.ix_model.specs.History.{Op, Event}
-use Rattle.ix_model.specs.History as op
+use Rattle.ix_model.specs.Events.{Op, Event}
+use Rattle.ix_model.specs.Events as op
 use Rattle.ix_model.specs.declared.audit.AuditLine.{AuditLine}
 use Rattle.ix_model.specs.declared.config.Config.{Config}
 use Rattle.ix_model.specs.declared.refusal.Refusal.{Refusal}
@@ -48,7 +48,7 @@ decision_before o g = record { reply = reply_before o g.reply; frame = g.world.f
 -- A call gives that: it is decided on the frame, and then answered from the content. The two are computed one after the
 -- other, since what waits on a label is written out for each number that the content has.
 abbrev pub Steps : World → ℕ → ℕ → Op → Given → Type 0
-Steps w place pid o g = (decide (told w pid o) place pid o w.frame ≡ decision_before o g) × (answer w pid o (decision_before o g) ≡ g)
+Steps w place pid o g = (verdict (told w pid o) place pid o w.frame ≡ decision_before o g) × (answer w pid o (decision_before o g) ≡ g)
 
 stepped : (w : World) (place pid : ℕ) (o : Op) (g : Given) → Steps w place pid o g → step w place pid o ≡ g
 unfolding step

@@ -1,7 +1,7 @@
 -- What is shown where a path is claimed, entry by entry.
 use Rattle.std.proofs.Common.{◌≡◌, ℕ, List, [], ◌∷◌, Some, None, refl}
 use Rattle.ix_label.specs.Category.{bottom}
-use Rattle.ix_model.specs.History as op
+use Rattle.ix_model.specs.Events as op
 use Rattle.ix_model.specs.Opening.{opening_world}
 use Rattle.ix_model.specs.Privs.{no_privileges}
 use Rattle.ix_model.specs.Step.{Given}

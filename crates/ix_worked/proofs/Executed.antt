@@ -1,7 +1,7 @@
 -- What is shown where programs bring privileges, entry by entry.
 use Rattle.std.proofs.Common.{◌≡◌, ℕ, false, List, [], ◌∷◌, refl, codes}
 use Rattle.ix_label.specs.Category.{bottom}
-use Rattle.ix_model.specs.History as op
+use Rattle.ix_model.specs.Events as op
 use Rattle.ix_model.specs.Opening.{opening_world}
 use Rattle.ix_model.specs.Privs.{to_thaw, no_privileges}
 use Rattle.ix_model.specs.Step.{Given}

@@ -1,7 +1,7 @@
 -- What is shown where the log is read, entry by entry.
 use Rattle.std.proofs.Common.{◌≡◌, ℕ, List, [], ◌∷◌, refl}
 use Rattle.ix_label.specs.Category.{bottom}
-use Rattle.ix_model.specs.History as op
+use Rattle.ix_model.specs.Events as op
 use Rattle.ix_model.specs.Opening.{opening_world}
 use Rattle.ix_model.specs.Step.{Given}
 use Rattle.ix_model.specs.World.{World}

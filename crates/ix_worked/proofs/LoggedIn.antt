@@ -1,7 +1,7 @@
 -- What is shown where servers act for their users, entry by entry.
 use Rattle.std.proofs.Common.{◌≡◌, ℕ, List, [], ◌∷◌, Some, None, replicate, refl, codes}
 use Rattle.ix_label.specs.Category.{bottom}
-use Rattle.ix_model.specs.History as op
+use Rattle.ix_model.specs.Events as op
 use Rattle.ix_model.specs.Opening.{opening_world}
 use Rattle.ix_model.specs.Privs.{to_lower, to_grant, to_read_the_log, no_privileges}
 use Rattle.ix_model.specs.Step.{Given}

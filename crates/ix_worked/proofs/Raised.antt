@@ -4,7 +4,7 @@ use Rattle.ix_label.specs.Category.{Categories, bottom, top}
 use Rattle.ix_model.specs.World.{World}
 use Rattle.ix_model.specs.Step.{Given}
 use Rattle.ix_model.specs.Opening.{opening_world}
-use Rattle.ix_model.specs.History as op
+use Rattle.ix_model.specs.Events as op
 use Rattle.ix_model.specs.declared.call.Mode.TheVariants as mode
 use Rattle.ix_model.specs.declared.refusal.Refusal.TheVariants as refusal
 use Rattle.ix_worked.specs.Sessions.{shown}

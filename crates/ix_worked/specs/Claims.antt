@@ -1,8 +1,8 @@
 -- The ends of a pipe are claimed by two processes, and a third is kept out.
 use Rattle.std.specs.Prelude.{List, [], ◌∷◌}
 use Rattle.ix_label.specs.Category.{bottom}
-use Rattle.ix_model.specs.History.{Event}
-use Rattle.ix_model.specs.History as op
+use Rattle.ix_model.specs.Events.{Event}
+use Rattle.ix_model.specs.Events as op
 use Rattle.ix_model.specs.Privs.{no_privileges}
 use Rattle.ix_model.specs.declared.call.Keep.TheVariants as keep
 use Rattle.ix_model.specs.declared.refusal.Refusal.TheVariants as refusal

@@ -1,8 +1,8 @@
 -- A command that copies makes a read, and where bytes were read a write of them.
 use Rattle.std.specs.Prelude.{List, [], ◌∷◌, codes}
 use Rattle.ix_label.specs.Category.{bottom}
-use Rattle.ix_model.specs.History.{Event}
-use Rattle.ix_model.specs.History as op
+use Rattle.ix_model.specs.Events.{Event}
+use Rattle.ix_model.specs.Events as op
 use Rattle.ix_model.specs.declared.call.Mode.TheVariants as mode
 use Rattle.ix_model.specs.declared.reply.Reply.TheVariants as reply
 use Rattle.ix_worked.specs.Scripts.{in_root, entry, gives}

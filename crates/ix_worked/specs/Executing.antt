@@ -1,8 +1,8 @@
 -- A program brings its privileges, and the next one takes them away.
 use Rattle.std.specs.Prelude.{true, List, [], ◌∷◌, codes}
 use Rattle.ix_label.specs.Category.{bottom, top}
-use Rattle.ix_model.specs.History.{Event}
-use Rattle.ix_model.specs.History as op
+use Rattle.ix_model.specs.Events.{Event}
+use Rattle.ix_model.specs.Events as op
 use Rattle.ix_model.specs.Privs.{to_thaw}
 use Rattle.ix_model.specs.declared.audit.Act.TheVariants as act
 use Rattle.ix_model.specs.declared.config.Config.{Config}

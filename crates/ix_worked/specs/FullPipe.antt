@@ -1,8 +1,8 @@
 -- A pipe takes what fits whole, and breaks where its other end is let go.
 use Rattle.std.specs.Prelude.{List, [], ◌∷◌, replicate, codes}
 use Rattle.ix_label.specs.Category.{bottom, top}
-use Rattle.ix_model.specs.History.{Event}
-use Rattle.ix_model.specs.History as op
+use Rattle.ix_model.specs.Events.{Event}
+use Rattle.ix_model.specs.Events as op
 use Rattle.ix_model.specs.declared.config.Config.{Config}
 use Rattle.ix_model.specs.declared.refusal.Refusal.TheVariants as refusal
 use Rattle.ix_model.specs.declared.reply.Reply.TheVariants as reply

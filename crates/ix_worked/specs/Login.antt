@@ -1,8 +1,8 @@
 -- Servers act for their users, who ask over whole paths: two get a session, and one a licence.
 use Rattle.std.specs.Prelude.{true, List, [], ◌∷◌, codes}
 use Rattle.ix_label.specs.Category.{bottom, top}
-use Rattle.ix_model.specs.History.{Event}
-use Rattle.ix_model.specs.History as op
+use Rattle.ix_model.specs.Events.{Event}
+use Rattle.ix_model.specs.Events as op
 use Rattle.ix_model.specs.Privs.{to_lower, to_grant, to_read_the_log, no_privileges}
 use Rattle.ix_model.specs.declared.audit.Act.TheVariants as act
 use Rattle.ix_model.specs.declared.call.Keep.TheVariants as keep

@@ -1,8 +1,8 @@
 -- A file is raised between two reads through one descriptor.
 use Rattle.std.specs.Prelude.{List, [], ◌∷◌, codes}
 use Rattle.ix_label.specs.Category.{bottom, top}
-use Rattle.ix_model.specs.History.{Event}
-use Rattle.ix_model.specs.History as op
+use Rattle.ix_model.specs.Events.{Event}
+use Rattle.ix_model.specs.Events as op
 use Rattle.ix_model.specs.declared.call.Mode.TheVariants as mode
 use Rattle.ix_model.specs.declared.config.Config.{Config}
 use Rattle.ix_model.specs.declared.refusal.Refusal.TheVariants as refusal

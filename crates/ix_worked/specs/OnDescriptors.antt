@@ -1,8 +1,8 @@
 -- Short histories of the calls on descriptors.
 use Rattle.std.specs.Prelude.{List, [], ◌∷◌, ◌++◌, map, replicate, codes}
 use Rattle.ix_label.specs.Category.{bottom, top}
-use Rattle.ix_model.specs.History.{Event}
-use Rattle.ix_model.specs.History as op
+use Rattle.ix_model.specs.Events.{Event}
+use Rattle.ix_model.specs.Events as op
 use Rattle.ix_model.specs.Privs.{no_privileges}
 use Rattle.ix_model.specs.declared.call.Keep.TheVariants as keep
 use Rattle.ix_model.specs.declared.call.Mode.TheVariants as mode

@@ -1,8 +1,8 @@
 -- Short histories of the calls on labels, privileges, ceilings and the log.
 use Rattle.std.specs.Prelude.{true, false, List, [], ◌∷◌, replicate, codes}
 use Rattle.ix_label.specs.Category.{bottom, top}
-use Rattle.ix_model.specs.History.{Event}
-use Rattle.ix_model.specs.History as op
+use Rattle.ix_model.specs.Events.{Event}
+use Rattle.ix_model.specs.Events as op
 use Rattle.ix_model.specs.Privs.{to_lower, to_thaw, to_read_the_log, no_privileges}
 use Rattle.ix_model.specs.declared.audit.Act.TheVariants as act
 use Rattle.ix_model.specs.declared.audit.AuditLine.{AuditLine}

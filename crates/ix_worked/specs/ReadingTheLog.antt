@@ -1,8 +1,8 @@
 -- The log is read by a privilege, and each reading is a line of it.
 use Rattle.std.specs.Prelude.{List, [], ◌∷◌}
 use Rattle.ix_label.specs.Category.{bottom, top}
-use Rattle.ix_model.specs.History.{Event}
-use Rattle.ix_model.specs.History as op
+use Rattle.ix_model.specs.Events.{Event}
+use Rattle.ix_model.specs.Events as op
 use Rattle.ix_model.specs.declared.audit.Act.TheVariants as act
 use Rattle.ix_model.specs.declared.config.Config.{Config}
 use Rattle.ix_model.specs.declared.privs.PrivSet.{PrivSet}

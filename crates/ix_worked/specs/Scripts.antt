@@ -3,7 +3,7 @@ use Rattle.std.specs.Prelude.{ℕ, true, false, List, [], ◌∷◌, Some, None,
 use Rattle.ix_label.specs.Category.{Categories, bottom, top, with}
 use Rattle.ix_model.specs.Naming.{PathOf}
 use Rattle.ix_model.specs.Privs.{no_privileges}
-use Rattle.ix_model.specs.History.{Op, Event}
+use Rattle.ix_model.specs.Events.{Op, Event}
 use Rattle.ix_model.specs.declared.audit.Act.{Act}
 use Rattle.ix_model.specs.declared.audit.AuditLine.{AuditLine}
 use Rattle.ix_model.specs.declared.config.Config.{Config}

@@ -6,7 +6,7 @@ use Rattle.ix_model.specs.World.{World, at}
 use Rattle.ix_model.specs.Opening.{opening_world}
 use Rattle.ix_model.specs.Step.{Given, step_of, run}
 use Rattle.ix_model.specs.AuditLog.{audit_log}
-use Rattle.ix_model.specs.History.{Event}
+use Rattle.ix_model.specs.Events.{Event}
 use Rattle.ix_model.specs.declared.audit.AuditLine.{AuditLine}
 use Rattle.ix_model.specs.declared.config.Config.{Config}
 use Rattle.ix_model.specs.declared.reply.Reply.{Reply}

@@ -1,7 +1,7 @@
 -- A machine on which nothing is called.
 use Rattle.std.specs.Prelude.{List, [], ◌∷◌}
 use Rattle.ix_label.specs.Category.{bottom}
-use Rattle.ix_model.specs.History.{Event}
+use Rattle.ix_model.specs.Events.{Event}
 use Rattle.ix_model.specs.declared.config.Config.{Config}
 use Rattle.ix_worked.specs.Sessions.{Shown}
 use Rattle.ix_worked.specs.Scripts.{usual_fs, machine}

@@ -1,8 +1,8 @@
 -- A parent that has to stay low does not get the status of a high child.
 use Rattle.std.specs.Prelude.{List, [], ◌∷◌, codes}
 use Rattle.ix_label.specs.Category.{bottom}
-use Rattle.ix_model.specs.History.{Event}
-use Rattle.ix_model.specs.History as op
+use Rattle.ix_model.specs.Events.{Event}
+use Rattle.ix_model.specs.Events as op
 use Rattle.ix_model.specs.declared.call.Keep.TheVariants as keep
 use Rattle.ix_model.specs.declared.call.Mode.TheVariants as mode
 use Rattle.ix_model.specs.declared.refusal.Refusal.TheVariants as refusal

@@ -5,7 +5,7 @@ ghost use Rattle.ix_model.specs.Outcomes.{RowIs};
 ghost use Rattle.ix_model.specs.OnLabels.{self_label};
 ghost use Rattle.ix_model.specs.OnPaths.{open_at};
 ghost use Rattle.ix_model.specs.OnDescriptors.{read_fd, write_fd};
-ghost use Rattle.ix_model.specs.Table.{row, decide};
+ghost use Rattle.ix_model.specs.Table.{row, verdict};
 ghost use Rattle.ix_core.specs.Meanings.{Restores, Asked, RowAsked, told_of};
 
 use crate::opens::{Behind, OpenRow, may_read, may_write};
@@ -51,7 +51,7 @@ impl Tables {
         ensures row { RowIs result self.new (open_at pid path.now mode self.old) }
         ensures back { OnErr result (Restores self.old self.new pid) }
     {
-        let object = self.found(pid, path, steps)?;
+        let object = self.object_at(pid, path, steps)?;
         if self.object(object).ok_or(Refusal::BadFd)?.is_dir() {
             return Err(Refusal::IsDir);
         }
@@ -86,7 +86,7 @@ impl Tables {
             return Err(Refusal::NotReadable);
         }
         let x = self.object(e.object).ok_or(Refusal::BadFd)?;
-        if x.held_from(e.end, pid) {
+        if x.claimed_by_another(e.end, pid) {
             return Err(Refusal::PexHeld);
         }
         if count > 4096 {
@@ -120,7 +120,7 @@ impl Tables {
             return Err(Refusal::NotWritable);
         }
         let x = self.object(e.object).ok_or(Refusal::BadFd)?;
-        if x.held_from(e.end, pid) {
+        if x.claimed_by_another(e.end, pid) {
             return Err(Refusal::PexHeld);
         }
         if told.too_big {
@@ -168,7 +168,7 @@ impl Tables {
     }
 
     /// A call's reply. A refusal leaves all as it was, but for the raised label where it keeps that.
-    #[tactic(auto, using(crate::proofs::Restoring::set_back), unfolding(ix_model::specs::Table::decide))]
+    #[tactic(auto, using(crate::proofs::Restoring::set_back), unfolding(ix_model::specs::Table::verdict))]
     pub fn decide<L: Ledger>(
         &mut self,
         told: Told,
@@ -178,8 +178,8 @@ impl Tables {
         steps: &mut Steps<L>,
     ) -> Reply
         requires built { IsTrue (is_built (op_of call.now)) }
-        ensures reply { result ≡ (decide (told_of told) place pid (op_of call.now) self.old).reply }
-        ensures frame { self.new ≡ (decide (told_of told) place pid (op_of call.now) self.old).frame }
+        ensures reply { result ≡ (verdict (told_of told) place pid (op_of call.now) self.old).reply }
+        ensures frame { self.new ≡ (verdict (told_of told) place pid (op_of call.now) self.old).frame }
         ensures asked { Asked result (op_of call.now) (told_of told) }
     {
         if !self.lives(pid) {

@@ -3,7 +3,7 @@ ghost use Rattle.std.specs.Option.{option_map};
 ghost use Rattle.ix_model.specs.Naming.{same_bytes};
 ghost use Rattle.ix_model.specs.World.{lives, is_dir};
 ghost use Rattle.ix_model.specs.Outcomes.{RowIs, RowMeans};
-ghost use Rattle.ix_model.specs.Walks.{walk, walk_from, walked_to, found, lacking, node, child};
+ghost use Rattle.ix_model.specs.Walks.{walk, walk_from, walked_to, object_at, lacking, node, child};
 ghost use Rattle.ix_core.specs.Meanings.{Restores, sought_of, seen_of, seen_in};
 
 use crate::processes::ProcessRow;
@@ -118,15 +118,15 @@ impl Tables {
     }
 
     /// The object of a path, which must be there.
-    #[tactic(auto, unfolding(ix_model::specs::Rows::coding, ix_model::specs::Walks::found, ix_model::specs::Walks::there))]
-    pub fn found<L: Ledger>(
+    #[tactic(auto, unfolding(ix_model::specs::Rows::coding, ix_model::specs::Walks::object_at, ix_model::specs::Walks::found_object))]
+    pub fn object_at<L: Ledger>(
         &mut self,
         pid: usize,
         path: &Path,
         steps: &mut Steps<L>,
     ) -> Result<usize, Refusal>
         requires { IsTrue (lives self.old pid) }
-        ensures row { RowIs result self.new (found pid path.now self.old) }
+        ensures row { RowIs result self.new (object_at pid path.now self.old) }
         ensures back { Restores self.old self.new pid }
     {
         match self.walked_to(pid, path, steps)? {

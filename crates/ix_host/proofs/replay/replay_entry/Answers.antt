@@ -1,9 +1,9 @@
 use Rattle.std.proofs.Common.{◌≡◌, ◌++◌, ◌∷◌, [], ◌+◌, List, ℕ, length, take, sym, ap, ◌∙◌, subst, length-append, OnOk}
 use Rattle.std.specs.Option.{option_map}
 use Rattle.ix_model.specs.World.{World, Process, at}
-use Rattle.ix_model.specs.History.{Event}
+use Rattle.ix_model.specs.Events.{Event}
 use Rattle.ix_model.specs.Calls.{event_of}
-use Rattle.ix_model.specs.Histories.{History, world_of, next}
+use Rattle.ix_model.specs.History.{History, world_of, next}
 use Rattle.ix_model.specs.Shown.{AreShown}
 use Rattle.ix_model.specs.declared.reply.Reply.{Reply}
 use Rattle.ix_model.specs.declared.views.ProcView.{ProcView}

@@ -1,5 +1,5 @@
 use Rattle.std.proofs.Common.{append_assoc, length, sym, ◌≡◌, ap, ◌∙◌, [], true, subst}
-use Rattle.ix_model.specs.Histories.{world_of}
+use Rattle.ix_model.specs.History.{world_of}
 use Rattle.ix_model.specs.Valid.{is_valid}
 use Rattle.ix_model.specs.declared.config.Config.{Config}
 use Rattle.ix_script.specs.Scripts.{config_of}

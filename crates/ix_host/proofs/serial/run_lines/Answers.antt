@@ -1,7 +1,7 @@
 use Rattle.std.proofs.Common.{◌≡◌, ◌++◌, ◌+◌, List, length, drop, sym, ap, ◌∙◌, arith, refl, slice_get, add-one}
 use Rattle.std.proofs.lemmas.List.{length-replicate}
 use Rattle.std.specs.Option.{option_copied}
-use Rattle.ix_model.specs.Histories.{History, world_of}
+use Rattle.ix_model.specs.History.{History, world_of}
 use Rattle.ix_script.specs.Before.{commands, lanes_of}
 use Rattle.ix_script.specs.declared.line.Line.{Line}
 use Rattle.ix_host.specs.Asked.{no_names}

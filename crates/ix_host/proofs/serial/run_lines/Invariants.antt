@@ -1,6 +1,6 @@
 use Rattle.std.proofs.Common.{◌≡◌, ◌+◌, ◌≤◌, ◌<◌, ◌++◌, true, drop, length}
 use Rattle.std.specs.Prelude.{IfSome}
-use Rattle.ix_model.specs.Histories.{world_of}
+use Rattle.ix_model.specs.History.{world_of}
 use Rattle.ix_script.specs.Before.{commands, lanes_of}
 use Rattle.ix_script.specs.Scripts.{config_of}
 use Rattle.ix_host.specs.Serial.{serial, serial_from}

@@ -1,6 +1,7 @@
 use Rattle.std.proofs.Common.{◌≡◌, ◌+◌, take}
-use Rattle.ix_model.specs.Valid.{blocks_taken, blocks_of}
+use Rattle.ix_model.specs.World.{fs_at}
+use Rattle.ix_model.specs.Valid.{blocks_taken}
 use Rattle.ix_model.proofs.valid.has_blocks.Given as goal
 
 abbrev pub invariant-loop-b : goal.invariant-loop-b
-invariant-loop-b l = l.left + blocks_taken l.fss l.k (take l.b-index l.before) ≡ blocks_of l.fss l.k
+invariant-loop-b l = l.left + blocks_taken l.fss l.k (take l.b-index l.before) ≡ (fs_at l.fss l.k).blocks

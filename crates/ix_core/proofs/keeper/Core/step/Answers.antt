@@ -1,7 +1,7 @@
 use Rattle.std.proofs.Common.{◌≡◌, ◌+◌, ◌<◌, ◌++◌, ◌∷◌, [], List, length, ap, sym, ◌∙◌, subst, arith}
 use Rattle.ix_model.specs.Calls.{op_of}
-use Rattle.ix_model.specs.History.{Event}
-use Rattle.ix_model.specs.Histories.{History, world_of, next}
+use Rattle.ix_model.specs.Events.{Event}
+use Rattle.ix_model.specs.History.{History, world_of, next}
 use Rattle.ix_model.specs.Shown.{AreShown}
 use Rattle.ix_model.specs.Step.{Given, step, put_front}
 use Rattle.ix_model.specs.World.{World}

@@ -2,7 +2,7 @@ use Rattle.std.proofs.Common.{◌∙◌, ap}
 use Rattle.ix_script.specs.Before.{objects_of}
 use Rattle.ix_script.specs.Told.{made_there}
 use Rattle.ix_script.proofs.Making.{made_is, not_mount}
-use Rattle.ix_script.proofs.draft.Draft.is_there.Goals as goal
+use Rattle.ix_script.proofs.draft.Draft.is_taken.Goals as goal
 
 pub returns-else-is_mount : goal.returns-else-is_mount
 returns-else-is_mount c =
