@@ -56,7 +56,7 @@ relabelled_itself pid f = go (at f.processes pid) refl
           ap (λ y. record x { label = y.label }) same)));
     }
 
-relabelled_more : (pid : ℕ) (seen : Categories) (f g : Frame) → Relabelled pid f g → Relabelled pid f (record g { processes = change g.processes pid (λ p. record p { label = join p.label seen }) })
+pub relabelled_more : (pid : ℕ) (seen : Categories) (f g : Frame) → Relabelled pid f g → Relabelled pid f (record g { processes = change g.processes pid (λ p. record p { label = join p.label seen }) })
 relabelled_more pid seen f g r =
     let to : Process → Process = λ p. record p { label = r.label } in
     let joined : Process → Process = λ p. record p { label = join p.label seen } in

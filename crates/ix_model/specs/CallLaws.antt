@@ -47,8 +47,8 @@ process_named _ = None
 abbrev pub has_descriptor : Frame → ℕ → ℕ → Bool
 has_descriptor f pid fd = option_map_or (λ p. is_some (at p.fds fd)) (living (at f.processes pid)) false
 
--- BadFd comes exactly where a living caller names a descriptor that is none of its own, and NoProcess exactly where the
--- caller doesn't live or the process that it names doesn't
+-- BadFd comes only where the call names a descriptor that is none of the caller's, and NoProcess only where the caller
+-- doesn't live or the process that it names doesn't
 pub record NothingElseIsMissing (w : World) (pid : ℕ) (c : Op) (r : Reply) : Type 0 where
   pub bad_fd : r ≡ reply.No refusal.BadFd → option_map_or (has_descriptor w.frame pid) (descriptor_of c) true ≡ false
   pub no_process : r ≡ reply.No refusal.NoProcess → (lives w.frame pid && option_map_or (lives w.frame) (process_named c) true) ≡ false

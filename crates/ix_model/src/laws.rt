@@ -88,3 +88,10 @@ pub fn pipes_hold_what_was_written()
 pub fn limits_never_change()
     ensures limits { LimitsNeverChange }
 {}
+
+/// In a sound world no row asks for an object, an open entry or a process at a number at which nothing stands: BadFd comes
+/// only where the call names a descriptor that is none of the caller's, and NoProcess only where the caller or the process
+/// that it names doesn't live.
+pub fn rows_ask_for_what_stands()
+    ensures stands { RowsAskForWhatStands }
+{}
