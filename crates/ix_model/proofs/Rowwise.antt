@@ -1,5 +1,5 @@
 -- What every word that changes something keeps, every row keeps.
-use Rattle.std.proofs.Common.{ℕ, ◌≡◌, ◌&&◌, Bool, true, false, List, [], ◌∷◌, Option, Some, None, refl}
+use Rattle.std.proofs.Common.{ℕ, ◌≡◌, ◌&&◌, Bool, true, false, List, [], ◌∷◌, Option, Some, None, refl, not}
 use Rattle.std.specs.Option.{option_map_or}
 use Rattle.std.specs.List.{list_all, range_with_len}
 use Rattle.std.proofs.lemmas.Bool.{and_parts}
@@ -7,7 +7,7 @@ use Rattle.ix_label.specs.Category.{Categories, bottom, join}
 use Rattle.ix_model.specs.Naming.{PathOf}
 use Rattle.ix_model.specs.Privs.{no_privileges}
 use Rattle.ix_model.specs.Numbers.{free_inode, free_pipe}
-use Rattle.ix_model.specs.World.{Frame, Object, Process, Open, put, no_claims}
+use Rattle.ix_model.specs.World.{Frame, Object, Process, Open, put, no_claims, is_pipe}
 use Rattle.ix_model.specs.Outcomes.{Row}
 use Rattle.ix_model.specs.Rows.{◌>>=◌, some, frame, pass, put_open, change_open, put_object, put_process, add_process, change_object, change_process, observe, affect}
 use Rattle.ix_model.specs.Walks.{Behind, behind, walked_to, object_at, spot_at, missing, opened}
@@ -33,6 +33,7 @@ use Rattle.ix_model.proofs.Keeps.{Holds, Keeps, keeping, keeping_tests, keeps_th
 -- what a call may do, beside looking, changing descriptors and marks, giving up a claim, and making an open entry
 pub data Change : Type 0 where
   Relabelling : Change
+  Moving : Change
   Claiming : Change
   Logging : Change
   Making : Change
@@ -42,8 +43,10 @@ pub data Change : Type 0 where
 
 abbrev pub changes_of : Op → List Change
 changes_of (op.CreateAt path) = Relabelling ∷ Making ∷ []
-changes_of (op.WriteFd fd bytes) = Relabelling ∷ []
+changes_of (op.ReadFd fd count) = Moving ∷ []
+changes_of (op.WriteFd fd bytes) = Relabelling ∷ Moving ∷ []
 changes_of (op.CutFd fd len) = Relabelling ∷ []
+changes_of (op.SeekFd fd offset) = Moving ∷ []
 changes_of (op.CloseFd fd) = LettingGo ∷ []
 changes_of op.MakePipe = Making ∷ []
 changes_of (op.MakeDir path) = Relabelling ∷ Making ∷ []
@@ -78,8 +81,8 @@ pub record Words (can : Change → Bool) (pid : ℕ) (R : Frame → Type 0) : Ty
   pub object : (o : ℕ) (h : Object → Object) → ((x : Object) → object_core (h x) ≡ object_core x) → Keeps R (change_object o h)
   pub process : (p : ℕ) (h : Process → Process) → ((q : Process) → process_core (h q) ≡ process_core q) → Keeps R (change_process p h)
   pub float : (h : Process → Process) → ((q : Process) → record (h q) { label = bottom } ≡ record q { label = bottom }) → Keeps R (change_process pid h)
-  pub entry : (e : ℕ) (x : Open) → Keeps R (put_open e (Some x))
-  pub through : (e : ℕ) (l : Categories) → Keeps R (change_open e (λ y. record y { label = join y.label l }))
+  pub entry : (e : ℕ) (x : Open) → x.label ≡ bottom → Keeps R (put_open e (Some x))
+  pub through : can Moving ≡ true → (e : ℕ) (l : Categories) → Keeps R (change_open e (λ y. record y { label = join y.label l }))
   pub unclaim : (o end : ℕ) → Keeps R (change_object o (λ x. record x { claims = put x.claims end None }))
   pub relabel : can Relabelling ≡ true → (o : ℕ) (h : Object → Object) → ((x : Object) → record (h x) { label = bottom } ≡ record x { label = bottom }) → Keeps R (change_object o h)
   pub claim : can Claiming ≡ true → (o : ℕ) (h : Object → Object) → ((x : Object) → record (h x) { claims = no_claims } ≡ record x { claims = no_claims }) → Keeps R (change_object o h)
@@ -112,10 +115,10 @@ module _ (can : Change → Bool) (pid : ℕ) (R : Frame → Type 0) (w : Words c
   w_float : (h : Process → Process) → ((q : Process) → record (h q) { label = bottom } ≡ record q { label = bottom }) → Keeps R (change_process pid h)
   w_float = w.float
 
-  w_entry : (e : ℕ) (x : Open) → Keeps R (put_open e (Some x))
+  w_entry : (e : ℕ) (x : Open) → x.label ≡ bottom → Keeps R (put_open e (Some x))
   w_entry = w.entry
 
-  w_through : (e : ℕ) (l : Categories) → Keeps R (change_open e (λ y. record y { label = join y.label l }))
+  w_through : can Moving ≡ true → (e : ℕ) (l : Categories) → Keeps R (change_open e (λ y. record y { label = join y.label l }))
   w_through = w.through
 
   w_unclaim : (o end : ℕ) → Keeps R (change_object o (λ x. record x { claims = put x.claims end None }))
@@ -183,9 +186,9 @@ module _ (can : Change → Bool) (pid : ℕ) (R : Frame → Type 0) (w : Words c
   unfolding opened
   kept_opened fd = search wording depth 30
 
-  kept_float_entry : (p : Process) (x : Object) (e : Behind) → Keeps R (float_entry p x e)
+  kept_float_entry : can Moving ≡ true → (p : Process) (x : Object) (e : Behind) → Keeps R (float_entry p x e)
   unfolding float_entry
-  kept_float_entry p x e = search wording depth 30
+  kept_float_entry moves p x e = keeps_only_if R (not (is_pipe x)) _ (w.through moves e.id p.label)
 
   -- ---- what goes
   kept_let_go_object : can LettingGo ≡ true → (o : ℕ) → Keeps R (let_go_object o)
@@ -256,21 +259,21 @@ module _ (can : Change → Bool) (pid : ℕ) (R : Frame → Type 0) (w : Words c
   unfolding list_at
   kept_list_at path index = search rows depth 40
 
-  kept_read_fd : (t : Told) (fd count : ℕ) → Keeps R (read_fd t pid fd count)
+  kept_read_fd : can Moving ≡ true → (t : Told) (fd count : ℕ) → Keeps R (read_fd t pid fd count)
   unfolding read_fd
-  kept_read_fd t fd count = search (rows, kept_float_entry) depth 40
+  kept_read_fd shifts t fd count = search (rows, kept_float_entry) depth 40
 
-  kept_write_fd : can Relabelling ≡ true → (t : Told) (fd : ℕ) → Keeps R (write_fd t pid fd)
+  kept_write_fd : can Relabelling ≡ true → can Moving ≡ true → (t : Told) (fd : ℕ) → Keeps R (write_fd t pid fd)
   unfolding write_fd
-  kept_write_fd moves t fd = search (rows, kept_float_entry) depth 40
+  kept_write_fd moves shifts t fd = search (rows, kept_float_entry) depth 40
 
   kept_cut_fd : can Relabelling ≡ true → (t : Told) (fd len : ℕ) → Keeps R (cut_fd t pid fd len)
   unfolding cut_fd
   kept_cut_fd moves t fd len = search rows depth 40
 
-  kept_seek_fd : (fd offset : ℕ) → Keeps R (seek_fd pid fd offset)
+  kept_seek_fd : can Moving ≡ true → (fd offset : ℕ) → Keeps R (seek_fd pid fd offset)
   unfolding seek_fd
-  kept_seek_fd fd offset = search (rows, kept_float_entry) depth 40
+  kept_seek_fd shifts fd offset = search (rows, kept_float_entry) depth 40
 
   kept_dup_fd : (fd : ℕ) → Keeps R (dup_fd pid fd)
   unfolding dup_fd
@@ -372,10 +375,10 @@ module _ (can : Change → Bool) (pid : ℕ) (R : Frame → Type 0) (w : Words c
   unfolding row create_at make_dir
   kept_row t place (op.CreateAt path) h = kept_make (first _ _ h) (second _ _ _ h) path kind.File
   kept_row t place (op.OpenAt path mode) h = kept_open_at path mode
-  kept_row t place (op.ReadFd fd count) h = kept_read_fd t fd count
-  kept_row t place (op.WriteFd fd bytes) h = kept_write_fd (first _ _ h) t fd
+  kept_row t place (op.ReadFd fd count) h = kept_read_fd (first _ _ h) t fd count
+  kept_row t place (op.WriteFd fd bytes) h = kept_write_fd (first _ _ h) (second _ _ _ h) t fd
   kept_row t place (op.CutFd fd len) h = kept_cut_fd (first _ _ h) t fd len
-  kept_row t place (op.SeekFd fd offset) h = kept_seek_fd fd offset
+  kept_row t place (op.SeekFd fd offset) h = kept_seek_fd (first _ _ h) fd offset
   kept_row t place (op.DupFd fd) h = kept_dup_fd fd
   kept_row t place (op.CloseFd fd) h = kept_close_fd (first _ _ h) fd
   kept_row t place op.MakePipe h = kept_make_pipe (first _ _ h)

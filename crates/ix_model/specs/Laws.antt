@@ -30,9 +30,9 @@ OpeningWorldsAreSound = (c : Config) → is_valid c ≡ true → Sound (opening_
 abbrev pub OpeningWorldsAreClean : Type 0
 OpeningWorldsAreClean = (c : Config) → IsClean (opening_world c)
 
--- every call leaves a sound and clean world sound
+-- every call leaves a sound world sound
 abbrev pub StepsKeepWorldsSound : Type 0
-StepsKeepWorldsSound = (w : World) (place pid : ℕ) (o : Op) → IsClean w → Sound w → Sound (step w place pid o).world
+StepsKeepWorldsSound = (w : World) (place pid : ℕ) (o : Op) → Sound w → Sound (step w place pid o).world
 
 -- every call leaves a clean world clean
 abbrev pub StepsKeepWorldsClean : Type 0
