@@ -78,12 +78,12 @@ module _ (pid : ℕ) (f : Frame) where
 
   -- ---- walking
   -- a path leads where it led before the looks
-  record Before (s : Categories) (g : Frame) (p : Process) : Type 0 where
-    was : Process
-    lived : living (at f.processes pid) ≡ Some was
-    is : p ≡ record was { label = join was.label s }
+  pub record Before (s : Categories) (g : Frame) (p : Process) : Type 0 where
+    pub was : Process
+    pub lived : living (at f.processes pid) ≡ Some was
+    pub is : p ≡ record was { label = join was.label s }
 
-  lived_before : (s : Categories) (g : Frame) (p : Process) → Seen pid f s g → living (at g.processes pid) ≡ Some p → Before s g p
+  pub lived_before : (s : Categories) (g : Frame) (p : Process) → Seen pid f s g → living (at g.processes pid) ≡ Some p → Before s g p
   unfolding joined
   lived_before s g p r lives = go (at f.processes pid) refl (sym (ap (λ (h : Frame). at h.processes pid) r.is ∙ at_changed f.processes pid (joined s)) ∙ is_living _ p lives)
     where

@@ -37,3 +37,4 @@ pub mod Shown
 pub mod Looked
 pub mod Laws
 pub mod CallLaws
+pub mod Privileged

@@ -1,5 +1,6 @@
 //! What holds of the machine's worlds. These functions do nothing: each states a law, which is proved.
 ghost use Rattle.ix_model.specs.CallLaws.{LimitsNeverChange, RowsAskForWhatStands};
+ghost use Rattle.ix_model.specs.Privileged.{TheEntitledExercise, PrivilegesChangeAsSaid};
 ghost use Rattle.ix_model.specs.Laws.{
   OpeningWorldsAreSound,
   OpeningWorldsAreClean,
@@ -94,4 +95,10 @@ pub fn limits_never_change()
 /// that it names doesn't live.
 pub fn rows_ask_for_what_stands()
     ensures stands { RowsAskForWhatStands }
+{}
+
+/// Who exercises a privilege has it among its capabilities in the frame before, and a licence for it, its own or its
+/// program's.
+pub fn the_entitled_exercise()
+    ensures entitled { TheEntitledExercise }
 {}
