@@ -102,3 +102,10 @@ pub fn rows_ask_for_what_stands()
 pub fn the_entitled_exercise()
     ensures entitled { TheEntitledExercise }
 {}
+
+/// The privileges of a process change only where it makes an exec, which takes the file's, or drops some, or is granted
+/// licences, and as these say; a new process has its parent's. What an object carries changes only where SetPriv sets it,
+/// and a new object carries none.
+pub fn privileges_change_as_said()
+    ensures privileges { PrivilegesChangeAsSaid }
+{}
