@@ -38,3 +38,4 @@ pub mod Looked
 pub mod Laws
 pub mod CallLaws
 pub mod Privileged
+pub mod ClaimedPaths
