@@ -1,7 +1,7 @@
 -- Claimed ends and whole paths: who gets through a claimed end, and what the claimants of a whole path read.
 use Rattle.std.specs.Prelude.{◌≡◌, ℕ, suc, Bool, true, false, ◌&&◌, List, [], ◌∷◌, ◌++◌, Option, Some, None, if◌then◌else◌}
 use Rattle.std.specs.Option.{option_map_or}
-use Rattle.ix_model.specs.World.{World, Frame, Object, at, is_pipe, may_read, may_write, claimed_by_another, has_claim}
+use Rattle.ix_model.specs.World.{World, Frame, Object, at, is_pipe, may_read, may_write, claimed_by_another, claimed_by}
 use Rattle.ix_model.specs.Walks.{Behind, behind}
 use Rattle.ix_model.specs.Step.{Given, step, step_of, run, is_whole}
 use Rattle.ix_model.specs.WholePaths.{sent}
@@ -42,7 +42,7 @@ stays_whole w place (e ∷ events) o = is_whole w.frame o && stays_whole (step_o
 -- whether a process has claimed the end that an open entry is on
 abbrev pub claims_its_end : Frame → ℕ → Option Behind → Bool
 claims_its_end f pid None = false
-claims_its_end f pid (Some e) = option_map_or (λ x. has_claim x e.entry.end pid) (at f.objects e.entry.object) false
+claims_its_end f pid (Some e) = option_map_or (λ x. claimed_by x e.entry.end pid) (at f.objects e.entry.object) false
 
 -- the bytes that a claimant wrote which can be read at that end of that pipe
 abbrev pub sent_by_claimant : Frame → ℕ → Op → Reply → ℕ → ℕ → List ℕ

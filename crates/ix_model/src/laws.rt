@@ -1,4 +1,5 @@
 //! What holds of the machine's worlds. These functions do nothing: each states a law, which is proved.
+ghost use Rattle.ix_model.specs.ClaimedPaths.{OnlyClaimantsGetThrough, ClaimantsReadWhatClaimantsWrote};
 ghost use Rattle.ix_model.specs.CallLaws.{LimitsNeverChange, RowsAskForWhatStands};
 ghost use Rattle.ix_model.specs.Privileged.{TheEntitledExercise, PrivilegesChangeAsSaid};
 ghost use Rattle.ix_model.specs.Laws.{
@@ -108,4 +109,16 @@ pub fn the_entitled_exercise()
 /// and a new object carries none.
 pub fn privileges_change_as_said()
     ensures privileges { PrivilegesChangeAsSaid }
+{}
+
+/// Nobody but the claimant gets through a claimed end: a read, a write or a claim by another process is refused, gives no
+/// bytes and changes nothing.
+pub fn only_claimants_get_through()
+    ensures stopped { OnlyClaimantsGetThrough }
+{}
+
+/// Where a call made a path whole, and it has been whole since, all that is read from it was written by a claimant since,
+/// whichever pipe had its number before.
+pub fn claimants_read_what_claimants_wrote()
+    ensures inside { ClaimantsReadWhatClaimantsWrote }
 {}

@@ -1,4 +1,3 @@
-use Rattle.ix_model.proofs.Stopping.{stops}
 use Rattle.ix_model.proofs.Constant.{limits_stay}
 use Rattle.ix_model.proofs.laws.limits_never_change.Goals as goal
 
