@@ -1,5 +1,5 @@
 -- In a sound world each word asks for what stands: the refusals for want of it come from the two tests that are meant.
-use Rattle.std.proofs.Common.{◌≡◌, ◌-◌, ℕ, Bool, true, false, not, ◌&&◌, true≢false, List, [], ◌∷◌, Option, Some, None, is_some, option_map, refl, sym, ap, ◌∙◌, subst, inl, inr, if◌then◌else◌}
+use Rattle.std.proofs.Common.{◌≡◌, ◌-◌, ℕ, Bool, true, false, not, ◌&&◌, List, Option, Some, None, is_some, option_map, refl, sym, ap, ◌∙◌, subst, inl, inr, if◌then◌else◌}
 use Rattle.std.specs.Option.{option_map_or}
 use Rattle.std.specs.List.{list_any}
 use Rattle.ix_label.specs.Category.{Categories, leq}
@@ -8,7 +8,6 @@ use Rattle.ix_model.specs.World.{Frame, Object, Process, at, put, change, living
 use Rattle.ix_model.specs.Rows.{need, process, object, record_of, observe, affect}
 use Rattle.ix_model.specs.Walks.{Sought, Behind, behind, behind_of, entry_at, walk, walk_from, join_all, walked_to, opened}
 use Rattle.ix_model.specs.Walks as sought
-use Rattle.ix_model.specs.Owners.{has_end}
 use Rattle.ix_model.specs.Auditing.{exercise, entitled, log_has_room}
 use Rattle.ix_model.specs.OnDescriptors.{claimed}
 use Rattle.ix_model.specs.OnLabels.{allowed, movable}
@@ -26,7 +25,7 @@ use Rattle.ix_model.proofs.There.{walk_there, start_there}
 use Rattle.ix_model.proofs.Walked.{Within, Leads, walks}
 use Rattle.ix_model.proofs.Standing.{behind_is, stands}
 use Rattle.ix_model.proofs.Refusing.{Relabelled, relabelled_more}
-use Rattle.ix_model.proofs.Ends.{Ends, ending, ends_bind, ends_then, ends_pass, ends_frame, ends_some, ends_only_if, ends_need, ends_change_caller, ends_change_object}
+use Rattle.ix_model.proofs.Ends.{Ends, ends_bind, ends_then, ends_pass, ends_frame, ends_only_if, ends_need, ends_change_caller, ends_change_object}
 
 -- the two refusals for want of what a call names
 abbrev pub is_for_want : Refusal → Bool

@@ -1,14 +1,13 @@
 -- In a sound world a row is refused for want of something only where the call names what isn't there.
 use Rattle.std.specs.Option.{option_map_or}
 use Rattle.std.proofs.Common.{◌≡◌, ◌&&◌, ℕ, Bool, true, false, true≢false, Option, Some, None, is_some, position, refl, sym, ap, ◌∙◌, subst, if◌then◌else◌}
-use Rattle.std.proofs.lemmas.Bool.{and_parts}
 use Rattle.std.proofs.lemmas.List.Quantifiers.{position-Some}
 use Rattle.ix_label.specs.Category.{Categories}
 use Rattle.ix_model.specs.Naming.{PathOf}
-use Rattle.ix_model.specs.World.{Frame, World, Object, Process, at, living, lives, is_ended}
+use Rattle.ix_model.specs.World.{Frame, World, Process, at, living, lives, is_ended}
 use Rattle.ix_model.specs.Outcomes.{Outcome, Refuse, Pass}
 use Rattle.ix_model.specs.Rows.{need, record_of}
-use Rattle.ix_model.specs.Walks.{Behind, object_at, spot_at, missing}
+use Rattle.ix_model.specs.Walks.{object_at, spot_at, missing}
 use Rattle.ix_model.specs.OnPaths.{make, create_at, make_dir, open_at, link_at, unlink_at, remove_dir, change_dir, stat_at, list_at}
 use Rattle.ix_model.specs.OnDescriptors.{Told, read_fd, write_fd, cut_fd, seek_fd, dup_fd, close_fd, make_pipe, pex, unpex}
 use Rattle.ix_model.specs.OnProcesses.{has_kept, is_child, fork, exec, exit, wait_child}
@@ -31,10 +30,9 @@ use Rattle.ix_model.specs.declared.reply.Reply.{Reply}
 use Rattle.ix_model.specs.declared.reply.Reply.TheVariants as reply
 use Rattle.ix_model.specs.declared.refusal.Refusal.{Refusal}
 use Rattle.ix_model.specs.declared.refusal.Refusal.TheVariants as refusal
-use Rattle.ix_model.proofs.Living.{lives_as}
 use Rattle.ix_model.proofs.Frames.{FrameSound, frame_of}
 use Rattle.ix_model.proofs.Refusing.{Relabelled, relabelled_itself, refusing_row, plain_answer, decided_frames}
-use Rattle.ix_model.proofs.Ends.{Ends, ending, ends_bind, ends_then, ends_pass, ends_refuse, ends_frame, ends_need, ends_some, ends_only_if, ends_change_object, ends_change_caller, ends_change_open, ends_put_open, ends_there}
+use Rattle.ix_model.proofs.Ends.{Ends, ends_bind, ends_then, ends_pass, ends_refuse, ends_frame, ends_need, ends_some, ends_only_if, ends_change_object, ends_change_caller, ends_change_open, ends_put_open, ends_there}
 use Rattle.ix_model.proofs.Endings.{ends_put_object, ends_put_process, ends_add_process}
 use Rattle.ix_model.proofs.RowEnds.{ends_spot, ends_vacant, ends_end_process, ends_logged, ends_let_go_object, ends_let_go, ends_let_go_all}
 use Rattle.ix_model.proofs.Looks.{ends_float_entry}

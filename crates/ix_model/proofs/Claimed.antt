@@ -1,24 +1,23 @@
 -- What is read from a path that has been whole since a call made it so.
 use Rattle.std.specs.Option.{option_map_or}
-use Rattle.std.proofs.Common.{◌≡◌, ◌≤◌, ◌+◌, ◌-◌, ◌==◌, ℕ, zero, suc, Bool, true, false, true≢false, not, ◌&&◌, ◌||◌, List, [], ◌∷◌, ◌++◌, length, take, drop, Option, Some, None, is_some, refl, sym, ap, ◌∙◌, subst, arith, append_assoc, append-nil, inl, inr, if◌then◌else◌}
+use Rattle.std.proofs.Common.{◌≡◌, ◌≤◌, ◌-◌, ◌==◌, ℕ, zero, suc, Bool, true, false, true≢false, not, ◌&&◌, ◌||◌, List, [], ◌∷◌, ◌++◌, take, drop, Option, Some, None, is_some, refl, sym, ap, ◌∙◌, subst, arith, inl, inr, if◌then◌else◌}
 use Rattle.std.proofs.lemmas.Bool.{and_parts, or_cases, eqb-true}
 use Rattle.std.proofs.lemmas.List.{take-append-drop}
-use Rattle.ix_model.specs.World.{World, Frame, Object, Open, at, is_pipe, may_read, may_write, claimed_by_another, claimed_by, no_claims}
+use Rattle.ix_model.specs.World.{World, Frame, Object, at, is_pipe, claimed_by_another, claimed_by}
 use Rattle.ix_model.specs.Numbers.{first_pipe}
 use Rattle.ix_model.specs.Walks.{Behind, behind}
-use Rattle.ix_model.specs.Contents.{holding_of, holds_nothing, side, on_pipe, readable, offset_of}
+use Rattle.ix_model.specs.Contents.{holding_of, side, on_pipe, readable, offset_of}
 use Rattle.ix_model.specs.Telling.{told}
 use Rattle.ix_model.specs.Table.{verdict}
 use Rattle.ix_model.specs.Step.{plainly, read_answer, answer, step, step_of, run, is_whole}
-use Rattle.ix_model.specs.Sound.{OpensSound, ShapesSound, Sound}
+use Rattle.ix_model.specs.Sound.{ShapesSound, Sound}
 use Rattle.ix_model.specs.WholePaths.{reaches, sent, written_to, IsEndOf}
-use Rattle.ix_model.specs.ClaimedPaths.{Stopped, stays_whole, claims_its_end, sent_by_claimant, written_by_claimants, IsInside}
+use Rattle.ix_model.specs.ClaimedPaths.{stays_whole, claims_its_end, sent_by_claimant, written_by_claimants, IsInside}
 use Rattle.ix_model.specs.Events.{Op, Event}
 use Rattle.ix_model.specs.Events as op
 use Rattle.ix_model.specs.declared.reply.Reply.{Reply}
 use Rattle.ix_model.specs.declared.reply.Reply.TheVariants as reply
 use Rattle.ix_model.specs.declared.refusal.Refusal.{Refusal}
-use Rattle.ix_model.specs.declared.refusal.Refusal.TheVariants as refusal
 use Rattle.ix_model.proofs.Standing.{behind_is}
 use Rattle.ix_model.proofs.Soundly.{sound_step}
 use Rattle.ix_model.proofs.Wholes.{becomes_empty}

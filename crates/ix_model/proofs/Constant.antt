@@ -1,6 +1,6 @@
 -- No history changes the limits, the file systems, or how many numbers of objects and open entries there are.
-use Rattle.std.proofs.Common.{◌≡◌, ℕ, suc, List, [], ◌∷◌, refl, ◌∙◌}
-use Rattle.ix_model.specs.World.{World, Frame}
+use Rattle.std.proofs.Common.{ℕ, suc, List, [], ◌∷◌, refl, ◌∙◌}
+use Rattle.ix_model.specs.World.{World}
 use Rattle.ix_model.specs.Step.{step_of, run}
 use Rattle.ix_model.specs.CallLaws.{LimitsStay}
 use Rattle.ix_model.specs.Events.{Event}

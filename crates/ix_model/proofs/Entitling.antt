@@ -1,18 +1,17 @@
 -- Who exercises a privilege was entitled to it in the frame before.
-use Rattle.std.specs.Option.{option_map_or, option_and_then}
-use Rattle.std.proofs.Common.{◌≡◌, ℕ, Bool, true, false, not, true≢false, ◌&&◌, ◌||◌, Option, Some, None, option_map, refl, sym, ap, ◌∙◌, subst}
+use Rattle.std.specs.Option.{option_map_or}
+use Rattle.std.proofs.Common.{◌≡◌, ℕ, true, false, not, true≢false, ◌&&◌, ◌||◌, Option, Some, sym, ap, ◌∙◌}
 use Rattle.std.proofs.lemmas.Bool.{and_parts, and_from}
 use Rattle.ix_label.specs.Category.{Categories, bottom, join, leq}
 use Rattle.ix_model.specs.Naming.{PathOf}
-use Rattle.ix_model.specs.Privs.{has_all, to_lower, to_grant, to_set_ceilings, to_thaw, to_read_the_log}
+use Rattle.ix_model.specs.Privs.{has_all}
 use Rattle.ix_model.specs.World.{Frame, World, Object, Process, at, living}
-use Rattle.ix_model.specs.Rows.{process, affect}
+use Rattle.ix_model.specs.Rows.{affect}
 use Rattle.ix_model.specs.Walks.{Sought, walked_to, object_at}
 use Rattle.ix_model.specs.Walks as sought
 use Rattle.ix_model.specs.Auditing.{exercise, entitled, log_has_room}
-use Rattle.ix_model.specs.OnDescriptors.{Told}
 use Rattle.ix_model.specs.OnLabels.{needs_to_set_ceilings, allowed, movable, set_label, set_self, thaw, thaw_self, set_priv, grant_lic, set_ceiling, read_log}
-use Rattle.ix_model.specs.Table.{row, verdict}
+use Rattle.ix_model.specs.Table.{row}
 use Rattle.ix_model.specs.Telling.{told}
 use Rattle.ix_model.specs.Step.{step, plainly, answer}
 use Rattle.ix_model.specs.AuditLog.{object_of_path, label_at, of_process, exercises, is_answer, is_licensed}
@@ -22,9 +21,8 @@ use Rattle.ix_model.specs.Events.{Op, Event}
 use Rattle.ix_model.specs.Events as op
 use Rattle.ix_model.specs.declared.privs.PrivSet.{PrivSet}
 use Rattle.ix_model.specs.declared.reply.Reply.{Reply}
-use Rattle.ix_model.specs.declared.refusal.Refusal.{Refusal}
 use Rattle.ix_model.proofs.Living.{is_living}
-use Rattle.ix_model.proofs.Ends.{Ends, Anything, ending, ends_bind, ends_then, ends_caller, ends_need, ends_frame}
+use Rattle.ix_model.proofs.Ends.{Ends, Anything, ending, ends_bind, ends_then, ends_caller, ends_need}
 use Rattle.ix_model.proofs.RowEnds.{ends_logged, ends_log_has_room, ends_movable}
 use Rattle.ix_model.proofs.Looks.{ends_touch}
 use Rattle.ix_model.proofs.Seeing.{Seen, seen_nothing, lived_before, ends_seen_walk}

@@ -1,15 +1,15 @@
 -- What calls make of the privileges of processes and objects.
-use Rattle.std.specs.Option.{option_map_or, option_and_then}
-use Rattle.std.proofs.Common.{◌≡◌, ◌≢◌, ◌==◌, ℕ, Bool, true, false, true≢false, List, [], ◌∷◌, ◌++◌, length, Option, Some, None, is_some, option_map, refl, sym, ap, ◌∙◌, subst, arith, inl, inr, if◌then◌else◌}
+use Rattle.std.specs.Option.{option_map_or}
+use Rattle.std.proofs.Common.{◌≡◌, ◌≢◌, ◌==◌, ℕ, Bool, true, false, true≢false, List, [], ◌∷◌, ◌++◌, Option, Some, None, is_some, option_map, refl, sym, ap, ◌∙◌, subst, arith, inl, inr, if◌then◌else◌}
 use Rattle.std.proofs.lemmas.Bool.{eq-eqb}
 use Rattle.std.proofs.lemmas.Bool.Decides.{eqb_tells}
 use Rattle.ix_label.specs.Category.{Categories, bottom, join}
 use Rattle.ix_model.specs.Naming.{PathOf}
 use Rattle.ix_model.specs.Privs.{either_of, without, to_grant}
 use Rattle.ix_model.specs.Refusals.{keeps_label}
-use Rattle.ix_model.specs.World.{Frame, World, Object, Process, at, change, living, lives}
+use Rattle.ix_model.specs.World.{Frame, World, Object, Process, at, change, lives}
 use Rattle.ix_model.specs.Outcomes.{Outcome, Refuse, Pass}
-use Rattle.ix_model.specs.Rows.{observe, affect}
+use Rattle.ix_model.specs.Rows.{affect}
 use Rattle.ix_model.specs.Walks.{Behind, behind, object_at}
 use Rattle.ix_model.specs.OnPaths.{create_at, make_dir}
 use Rattle.ix_model.specs.OnDescriptors.{Told}
@@ -27,19 +27,18 @@ use Rattle.ix_model.specs.declared.privs.PrivSet.{PrivSet}
 use Rattle.ix_model.specs.declared.reply.Kind.TheVariants as kind
 use Rattle.ix_model.specs.declared.reply.Reply.{Reply}
 use Rattle.ix_model.specs.declared.reply.Reply.TheVariants as reply
-use Rattle.ix_model.specs.declared.refusal.Refusal.{Refusal}
 use Rattle.ix_model.specs.declared.refusal.Refusal.TheVariants as refusal
 use Rattle.ix_model.proofs.Tables.{at_changed}
 use Rattle.ix_model.proofs.Finds.{at_change}
 use Rattle.ix_model.proofs.Living.{is_living}
-use Rattle.ix_model.proofs.Keeps.{Keeps, Holds}
-use Rattle.ix_model.proofs.Ends.{Ends, Anything, ending, ends_bind, ends_then, ends_caller, ends_object, ends_need, ends_frame, ends_pass, ends_there, ends_kept, ends_change_caller, ends_change_object}
+use Rattle.ix_model.proofs.Keeps.{Keeps}
+use Rattle.ix_model.proofs.Ends.{Ends, Anything, ends_bind, ends_then, ends_caller, ends_object, ends_need, ends_frame, ends_pass, ends_there, ends_kept, ends_change_caller, ends_change_object}
 use Rattle.ix_model.proofs.Endings.{ends_add_process}
 use Rattle.ix_model.proofs.RowEnds.{ends_exercise, ends_logged}
 use Rattle.ix_model.proofs.Seeing.{Seen, seen_nothing, ends_seen, ends_seen_walk}
 use Rattle.ix_model.proofs.Refusing.{Relabelled, relabelled_itself, refusing_row}
 use Rattle.ix_model.proofs.Answered.{step_frame}
-use Rattle.ix_model.proofs.Unmoved.{Kept, CallersOwn, NoneAtAll, Unmoved, unmoved_itself, kept_itself, kept_change, kept_push, u_affect, u_make, u_link_at, u_unlink_at, u_remove_dir, u_open_at, u_change_dir, u_stat_at, u_list_at, u_read_fd, u_write_fd, u_cut_fd, u_seek_fd, u_dup_fd, u_close_fd, u_make_pipe, u_pex, u_unpex, u_exit, u_wait_child, u_label_of, u_self_label, u_set_label, u_set_self, u_freeze, u_freeze_self, u_thaw, u_thaw_self, u_set_ceiling, u_read_log}
+use Rattle.ix_model.proofs.Unmoved.{CallersOwn, Unmoved, unmoved_itself, kept_change, kept_push, u_affect, u_make, u_link_at, u_unlink_at, u_remove_dir, u_open_at, u_change_dir, u_stat_at, u_list_at, u_read_fd, u_write_fd, u_cut_fd, u_seek_fd, u_dup_fd, u_close_fd, u_make_pipe, u_pex, u_unpex, u_exit, u_wait_child, u_label_of, u_self_label, u_set_label, u_set_self, u_freeze, u_freeze_self, u_thaw, u_thaw_self, u_set_ceiling, u_read_log}
 
 module _ (f : Frame) (pid : ℕ) where
   pub Moves : Op → Frame → Type 0

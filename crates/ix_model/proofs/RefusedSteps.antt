@@ -4,7 +4,7 @@ use Rattle.ix_model.specs.World.{Frame, World}
 use Rattle.ix_model.specs.OnDescriptors.{Told}
 use Rattle.ix_model.specs.Table.{Decision, verdict}
 use Rattle.ix_model.specs.Telling.{told}
-use Rattle.ix_model.specs.Step.{step, answer}
+use Rattle.ix_model.specs.Step.{step}
 use Rattle.ix_model.specs.Laws.{Refused}
 use Rattle.ix_model.specs.Events.{Op}
 use Rattle.ix_model.specs.declared.reply.Reply.TheVariants as reply

@@ -13,8 +13,7 @@ use Rattle.ix_model.specs.OnProcesses.{fork, exec, exit, wait_child}
 use Rattle.ix_model.specs.OnLabels.{label_of, self_label, set_label, set_self, freeze, freeze_self, thaw, thaw_self, set_priv, drop_lic, grant_lic, set_ceiling, read_log}
 use Rattle.ix_model.specs.Table.{Decision, verdict, settled, row}
 use Rattle.ix_model.specs.Contents.{carried}
-use Rattle.ix_model.specs.Step.{plainly, read_answer, write_answer, cut_answer, seek_answer, stat_answer, exit_answer, wait_answer, pex_answer, is_whole, answer, step}
-use Rattle.ix_model.specs.Telling.{told}
+use Rattle.ix_model.specs.Step.{plainly, read_answer, write_answer, cut_answer, seek_answer, stat_answer, exit_answer, wait_answer, pex_answer, is_whole, answer}
 use Rattle.ix_model.specs.AuditLog.{is_answer}
 use Rattle.ix_model.specs.Events.{Op}
 use Rattle.ix_model.specs.Events as op
@@ -32,8 +31,6 @@ use Rattle.ix_model.proofs.Keeps.{Keeps, keeping}
 use Rattle.ix_model.proofs.Ends.{Ends, ending, ends_more, ends_kept, kept_ends}
 use Rattle.ix_model.proofs.RowEnds.{endings, ends_let_go_object, ends_let_go, ends_let_go_all}
 use Rattle.ix_model.proofs.Looks.{ends_observe, ends_touch, ends_float_entry}
-use Rattle.ix_model.proofs.Lasts.{Lasts, lasts_relabelled}
-use Rattle.ix_model.proofs.Carrying.{carried_same}
 
 -- ---- a frame that differs in the caller's label alone
 pub record Relabelled (pid : ℕ) (f g : Frame) : Type 0 where

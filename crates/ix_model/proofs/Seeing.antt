@@ -1,21 +1,20 @@
 -- The frame that looks leave: the caller's label joined with what it has looked at.
-use Rattle.std.proofs.Common.{◌≡◌, ℕ, Bool, true, false, not, true≢false, List, [], ◌∷◌, Option, Some, None, option_map, refl, sym, ap, ◌∙◌, subst}
+use Rattle.std.proofs.Common.{◌≡◌, ℕ, Bool, true, false, not, Option, Some, None, option_map, refl, sym, ap, ◌∙◌, subst}
 use Rattle.std.specs.Option.{option_map_or}
-use Rattle.ix_label.specs.Category.{Categories, bottom, join, same, leq}
+use Rattle.ix_label.specs.Category.{Categories, bottom, join, same}
 use Rattle.ix_label.specs.Lattice.{join-absorbs, join-assoc, join-comm, bottom-leq, same-decides}
 use Rattle.ix_model.specs.Naming.{PathOf}
 use Rattle.ix_model.specs.Refusals.{keeps_label}
-use Rattle.ix_model.specs.World.{Frame, Object, Process, at, change, living}
-use Rattle.ix_model.specs.Rows.{observe, affect, change_process}
+use Rattle.ix_model.specs.World.{Frame, Process, at, change, living}
+use Rattle.ix_model.specs.Rows.{observe, affect}
 use Rattle.ix_model.specs.Walks.{Sought, walk, join_all, walked_to}
 use Rattle.ix_model.specs.Walks as sought
-use Rattle.ix_model.specs.AuditLog.{object_sought, object_of_path}
+use Rattle.ix_model.specs.AuditLog.{object_of_path}
 use Rattle.ix_model.specs.Looked.{along}
 use Rattle.ix_model.specs.declared.refusal.Refusal.{Refusal}
-use Rattle.ix_model.specs.declared.refusal.Refusal.TheVariants as refusal
 use Rattle.ix_model.proofs.Tables.{at_changed, change_same, change_twice}
 use Rattle.ix_model.proofs.Living.{is_living, not_ended, lives_as}
-use Rattle.ix_model.proofs.Ends.{Ends, ending, ends_bind, ends_then, ends_pass, ends_frame, ends_caller, ends_object, ends_only_if, ends_need, ends_change_caller, ends_change_object}
+use Rattle.ix_model.proofs.Ends.{Ends, ends_bind, ends_then, ends_pass, ends_frame, ends_caller, ends_object, ends_only_if, ends_need, ends_change_caller, ends_change_object}
 
 -- ---- joins with bottom
 pub join_nothing : (a : Categories) → join a bottom ≡ a
@@ -41,8 +40,8 @@ module _ (pid : ℕ) (f : Frame) where
   unfolding joined
   seen_joined s l g r = record {
     is = ap (λ (h : Frame). let k : Frame = record h { processes = change h.processes pid (joined l) } in k) r.is
-      ∙ ap (λ t. let k : Frame = record f { processes = t } in k) (change_twice f.processes pid (joined s) (joined l))
-      ∙ (λ i. record f { processes = change f.processes pid (λ p. record p { label = join-assoc p.label s l i }) });
+        ∙ ap (λ t. let k : Frame = record f { processes = t } in k) (change_twice f.processes pid (joined s) (joined l))
+        ∙ (λ i. record f { processes = change f.processes pid (λ p. record p { label = join-assoc p.label s l i }) });
   }
 
   -- or one that adds nothing
@@ -53,7 +52,7 @@ module _ (pid : ℕ) (f : Frame) where
         let e : Some p ≡ Some x = sym (is_living _ p lives) ∙ here in
         let one : p ≡ x = cc in
         subst (λ (y : Process). joined l y ≡ y) one (λ i. record p { label = nothing i }))))
-      ∙ (seen_joined s l g r).is;
+        ∙ (seen_joined s l g r).is;
   }
 
   -- ---- looking

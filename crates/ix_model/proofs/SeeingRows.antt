@@ -1,14 +1,13 @@
 -- What the rows have looked at where they refuse and the label is kept.
 use Rattle.std.specs.Option.{option_map_or}
-use Rattle.std.proofs.Common.{◌≡◌, ℕ, Bool, true, false, true≢false, Option, Some, None, option_map, refl, sym, ap, ◌∙◌, subst, if◌then◌else◌}
+use Rattle.std.proofs.Common.{◌≡◌, ℕ, Bool, true, false, true≢false, Option, Some, None, refl, sym, ap, ◌∙◌, subst, if◌then◌else◌}
 use Rattle.ix_label.specs.Category.{Categories, bottom, join}
 use Rattle.ix_model.specs.Naming.{PathOf}
 use Rattle.ix_model.specs.Refusals.{keeps_label}
-use Rattle.ix_model.specs.World.{Frame, Object, Process, at, change, lives}
+use Rattle.ix_model.specs.World.{Frame, Object, at, lives}
 use Rattle.ix_model.specs.Outcomes.{Outcome, Refuse, Pass}
 use Rattle.ix_model.specs.Rows.{observe}
-use Rattle.ix_model.specs.Walks.{Sought, Behind, behind, object_at, spot_at, missing, walked_to}
-use Rattle.ix_model.specs.Walks as sought
+use Rattle.ix_model.specs.Walks.{Behind, behind, object_at, spot_at, missing}
 use Rattle.ix_model.specs.Auditing.{exercise, entitled, log_has_room}
 use Rattle.ix_model.specs.OnPaths.{make, create_at, make_dir, open_at, link_at, unlink_at, remove_dir, change_dir, stat_at, list_at}
 use Rattle.ix_model.specs.OnDescriptors.{Told, read_fd, write_fd, cut_fd, seek_fd, dup_fd, close_fd, make_pipe, claimed, pex, unpex}
@@ -29,7 +28,7 @@ use Rattle.ix_model.specs.declared.reply.Reply.TheVariants as reply
 use Rattle.ix_model.specs.declared.refusal.Refusal.{Refusal}
 use Rattle.ix_model.specs.declared.refusal.Refusal.TheVariants as refusal
 use Rattle.ix_model.proofs.Ends.{Ends, ending}
-use Rattle.ix_model.proofs.Refusing.{Relabelled, refusing_row, Plain, plain_answer, decided_frames}
+use Rattle.ix_model.proofs.Refusing.{Relabelled, refusing_row}
 use Rattle.ix_model.proofs.Endings.{ends_record_of, ends_put_object, ends_put_process, ends_add_process}
 use Rattle.ix_model.proofs.RowEnds.{ends_spot, ends_vacant, ends_end_process, ends_logged, ends_let_go_object, ends_let_go, ends_let_go_all}
 use Rattle.ix_model.proofs.Looks.{ends_float_entry}

@@ -1,10 +1,10 @@
 -- Nobody but the claimant gets through a claimed end.
 use Rattle.std.specs.Option.{option_map_or}
-use Rattle.std.proofs.Common.{◌≡◌, ℕ, Bool, true, false, true≢false, not, ◌&&◌, List, [], Option, Some, None, refl, sym, ap, ◌∙◌, if◌then◌else◌}
+use Rattle.std.proofs.Common.{◌≡◌, ℕ, Bool, true, false, true≢false, not, List, [], Option, Some, None, refl, sym, ap, ◌∙◌, if◌then◌else◌}
 use Rattle.ix_model.specs.Refusals.{keeps_label}
 use Rattle.ix_model.specs.World.{World, Frame, Object, Process, at, living, lives, is_pipe, may_read, may_write, claimed_by_another}
 use Rattle.ix_model.specs.Outcomes.{Outcome, Refuse, Pass}
-use Rattle.ix_model.specs.Rows.{◌>>=◌, ◌>>◌, on_pass, pass, refuse, need, some, frame, object}
+use Rattle.ix_model.specs.Rows.{◌>>=◌, on_pass, pass, refuse, need, some, frame, object}
 use Rattle.ix_model.specs.Walks.{Behind, behind, behind_of, opened}
 use Rattle.ix_model.specs.OnDescriptors.{Told, read_fd, write_fd, pex}
 use Rattle.ix_model.specs.Table.{row, settled, verdict}

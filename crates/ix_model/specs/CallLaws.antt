@@ -53,7 +53,7 @@ pub record NothingElseIsMissing (w : World) (pid : ℕ) (c : Op) (r : Reply) : T
   pub bad_fd : r ≡ reply.No refusal.BadFd → option_map_or (has_descriptor w.frame pid) (descriptor_of c) true ≡ false
   pub no_process : r ≡ reply.No refusal.NoProcess → (lives w.frame pid && option_map_or (lives w.frame) (process_named c) true) ≡ false
 
--- So no row ever asks for an object, an open entry or a process at a number at which nothing stands: it would be refused
--- so, and no other test is.
+-- So no row asks for an object, an open entry or a process at a number at which nothing stands: that would be refused so
+-- too, whatever the call names.
 abbrev pub RowsAskForWhatStands : Type 0
 RowsAskForWhatStands = (w : World) (place pid : ℕ) (c : Op) → Sound w → NothingElseIsMissing w pid c (step w place pid c).reply

@@ -1,5 +1,5 @@
 -- Who may exercise a privilege, and what calls make of the privileges that processes and objects have.
-use Rattle.std.specs.Prelude.{◌≡◌, ℕ, ◌==◌, Bool, true, false, ◌&&◌, ◌||◌, Option, Some, None, if◌then◌else◌}
+use Rattle.std.specs.Prelude.{◌≡◌, ℕ, ◌==◌, Bool, true, false, ◌&&◌, ◌||◌, Some, None, if◌then◌else◌}
 use Rattle.std.specs.Option.{option_map_or, option_and_then}
 use Rattle.std.proofs.Common.{option_map}
 use Rattle.ix_model.specs.Naming.{PathOf}
