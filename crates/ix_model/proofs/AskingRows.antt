@@ -1,6 +1,6 @@
 -- In a sound world a row is refused for want of something only where the call names what isn't there.
 use Rattle.std.specs.Option.{option_map_or}
-use Rattle.std.proofs.Common.{◌≡◌, ◌&&◌, ℕ, Bool, true, false, true≢false, Option, Some, None, is_some, position, refl, sym, ap, ◌∙◌, subst, if◌then◌else◌}
+use Rattle.std.proofs.Common.{◌≡◌, ◌&&◌, ℕ, Bool, true, false, not, true≢false, Option, Some, None, is_some, position, refl, sym, ap, ◌∙◌, subst, if◌then◌else◌}
 use Rattle.std.proofs.lemmas.List.Quantifiers.{position-Some}
 use Rattle.ix_label.specs.Category.{Categories}
 use Rattle.ix_model.specs.Naming.{PathOf}
@@ -17,7 +17,7 @@ use Rattle.ix_model.specs.Telling.{told}
 use Rattle.ix_model.specs.Step.{step}
 use Rattle.ix_model.specs.Sound.{Sound}
 use Rattle.ix_model.specs.AuditLog.{is_answer}
-use Rattle.ix_model.specs.CallLaws.{NothingElseIsMissing, descriptor_of, process_named, has_descriptor}
+use Rattle.ix_model.specs.CallLaws.{lacks_descriptor, lacks_process, descriptor_of, process_named, has_descriptor}
 use Rattle.ix_model.specs.Events.{Op}
 use Rattle.ix_model.specs.Events as op
 use Rattle.ix_model.specs.declared.call.Keep.{Keep}
@@ -307,8 +307,8 @@ step_wants w place pid c r s is =
     let plain = plain_answer w pid c (verdict t place pid c w.frame) r (λ refused. ap (λ (f : Frame). f.objects) (decided_frames t place pid c w.frame r refused).relabelled.is) is in
     decided_wants t place pid c w.frame r (frame_of w s) plain.reply
 
-pub nothing_else_is_missing : (w : World) (place pid : ℕ) (c : Op) → Sound w → NothingElseIsMissing w pid c (step w place pid c).reply
-nothing_else_is_missing w place pid c s = record {
-  bad_fd = step_wants w place pid c refusal.BadFd s;
-  no_process = step_wants w place pid c refusal.NoProcess s;
-}
+pub want_of_descriptor : (w : World) (place pid : ℕ) (c : Op) → Sound w → (step w place pid c).reply ≡ reply.No refusal.BadFd → lacks_descriptor w.frame pid c ≡ true
+want_of_descriptor w place pid c s is = ap not (step_wants w place pid c refusal.BadFd s is)
+
+pub want_of_process : (w : World) (place pid : ℕ) (c : Op) → Sound w → (step w place pid c).reply ≡ reply.No refusal.NoProcess → lacks_process w.frame pid c ≡ true
+want_of_process w place pid c s is = ap not (step_wants w place pid c refusal.NoProcess s is)

@@ -22,12 +22,12 @@ use Rattle.ix_model.proofs.RefusedSteps.{refused_step}
 
 -- ---- rows
 -- a test, with what is known where it fails
-tested : (b : Bool) (r : Refusal) (f : Frame) (P : Refusal → Frame → Type 0) (Q : Unit {0} → Frame → Type 0) → (b ≡ true → Q tt f) → (b ≡ false → P r f) → Ends (need b r f) P Q
+pub tested : (b : Bool) (r : Refusal) (f : Frame) (P : Refusal → Frame → Type 0) (Q : Unit {0} → Frame → Type 0) → (b ≡ true → Q tt f) → (b ≡ false → P r f) → Ends (need b r f) P Q
 unfolding need pass refuse Ends
 tested true r f P Q h k = h refl
 tested false r f P Q h k = k refl
 
-never : Reply → Frame → Type 0
+pub never : Reply → Frame → Type 0
 never a g = true ≡ false
 
 module _ (f : Frame) (pid fd : ℕ) (e : Behind) (x : Object) (leads : behind f pid fd ≡ Some e) (is : at f.objects e.entry.object ≡ Some x) (another : claimed_by_another x e.entry.end pid ≡ true) where
@@ -93,7 +93,7 @@ unfolding Ends never
 settled_stops f (Refuse why g) r h = ap reply.No h
 settled_stops f (Pass a g) r h = absurd (true≢false h)
 
-decided_stops : (t : Told) (place pid : ℕ) (c : Op) (f : Frame) (r : Refusal) → lives f pid ≡ true → Ends (row t place pid c f) (λ why g. why ≡ r) never → (verdict t place pid c f).reply ≡ reply.No r
+pub decided_stops : (t : Told) (place pid : ℕ) (c : Op) (f : Frame) (r : Refusal) → lives f pid ≡ true → Ends (row t place pid c f) (λ why g. why ≡ r) never → (verdict t place pid c f).reply ≡ reply.No r
 unfolding verdict
 decided_stops t place pid c f r alive h = rw alive (settled_stops f (row t place pid c f) r h)
 

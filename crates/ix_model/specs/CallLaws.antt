@@ -1,5 +1,5 @@
--- The laws of single calls: what none of them changes, and why one is refused.
-use Rattle.std.specs.Prelude.{◌≡◌, ℕ, Bool, true, false, ◌&&◌, List, length, Option, Some, None, is_some}
+-- What no call ever changes, and when a call is refused for want of what it names.
+use Rattle.std.specs.Prelude.{◌≡◌, ℕ, Bool, true, false, not, ◌&&◌, List, length, Option, Some, None, is_some}
 use Rattle.std.specs.Option.{option_map_or}
 use Rattle.ix_model.specs.World.{Frame, World, at, living, lives}
 use Rattle.ix_model.specs.Step.{step, run}
@@ -47,11 +47,20 @@ process_named _ = None
 abbrev pub has_descriptor : Frame → ℕ → ℕ → Bool
 has_descriptor f pid fd = option_map_or (λ p. is_some (at p.fds fd)) (living (at f.processes pid)) false
 
--- BadFd comes only where the call names a descriptor that is none of the caller's, and NoProcess only where the caller
--- doesn't live or the process that it names doesn't
+-- whether the call names a descriptor that is none of the caller's; and whether the caller doesn't live, or the process that
+-- the call names doesn't
+abbrev pub lacks_descriptor : Frame → ℕ → Op → Bool
+lacks_descriptor f pid c = not (option_map_or (has_descriptor f pid) (descriptor_of c) true)
+
+abbrev pub lacks_process : Frame → ℕ → Op → Bool
+lacks_process f pid c = not (lives f pid && option_map_or (lives f) (process_named c) true)
+
+-- NoProcess comes exactly where a process is lacking, and BadFd to a living caller exactly where a descriptor is
 pub record NothingElseIsMissing (w : World) (pid : ℕ) (c : Op) (r : Reply) : Type 0 where
-  pub bad_fd : r ≡ reply.No refusal.BadFd → option_map_or (has_descriptor w.frame pid) (descriptor_of c) true ≡ false
-  pub no_process : r ≡ reply.No refusal.NoProcess → (lives w.frame pid && option_map_or (lives w.frame) (process_named c) true) ≡ false
+  pub bad_fd : r ≡ reply.No refusal.BadFd → lacks_descriptor w.frame pid c ≡ true
+  pub bad_fd_comes : lives w.frame pid ≡ true → lacks_descriptor w.frame pid c ≡ true → r ≡ reply.No refusal.BadFd
+  pub no_process : r ≡ reply.No refusal.NoProcess → lacks_process w.frame pid c ≡ true
+  pub no_process_comes : lacks_process w.frame pid c ≡ true → r ≡ reply.No refusal.NoProcess
 
 -- So no row asks for an object, an open entry or a process at a number at which nothing stands: that would be refused so
 -- too, whatever the call names.

@@ -91,9 +91,9 @@ pub fn limits_never_change()
     ensures limits { LimitsNeverChange }
 {}
 
-/// In a sound world no row asks for an object, an open entry or a process at a number at which nothing stands: BadFd comes
-/// only where the call names a descriptor that is none of the caller's, and NoProcess only where the caller or the process
-/// that it names doesn't live.
+/// In a sound world no row asks for an object, an open entry or a process at a number at which nothing stands: NoProcess
+/// comes exactly where the caller or the process that the call names doesn't live, and BadFd to a living caller exactly where
+/// the call names a descriptor that is none of its own.
 pub fn rows_ask_for_what_stands()
     ensures stands { RowsAskForWhatStands }
 {}
