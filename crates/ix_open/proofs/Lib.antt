@@ -1,0 +1,5 @@
+pub mod Pooled
+pub mod Tabled
+pub mod Indexed
+pub mod Counted
+pub mod Viewed

@@ -1,0 +1,5 @@
+pub mod Table
+pub mod Entries
+pub mod Pool
+pub mod Indexed
+pub mod Tally

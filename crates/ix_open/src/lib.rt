@@ -1,0 +1,11 @@
+//! The open entries: the object and end that each is on, its offset, its label, and how many own it.
+#![tactic(auto)]
+
+mod keys;
+mod opens;
+#[cfg(test)]
+mod tests;
+mod view;
+
+pub use opens::Opens;
+pub use view::OpenView;
