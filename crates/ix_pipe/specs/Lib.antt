@@ -1,0 +1,4 @@
+pub mod Pipe
+pub mod Pool
+pub mod Claims
+pub mod Slots
