@@ -22,7 +22,7 @@ use Rattle.ix_core.specs.declared.tables.calls.Told.{Told}
 
 -- ---- values
 abbrev pub behind_of : Behind → walks.Behind
-behind_of b = record { id = b.id; entry = record { object = b.object; end = b.end; mode = b.mode } }
+behind_of b = record { id = b.id; entry = record { object = b.object; end = b.end; mode = b.mode; label = b.label } }
 
 abbrev pub sought_of : Walked → Sought
 sought_of (walked.Found obj dir) = walks.Found obj dir

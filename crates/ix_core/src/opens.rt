@@ -1,6 +1,7 @@
 ghost use Rattle.std.specs.Prelude.{◌≡◌};
 ghost use Rattle.ix_model.specs.World.{may_read, may_write, is_on};
 
+use ix_label::Label;
 use ix_model::Mode;
 use std::marker::Model;
 
@@ -10,16 +11,22 @@ pub struct OpenRow {
     pub object: usize,
     pub end: usize,
     pub mode: Mode,
+    /// What its offset may tell; a pipe's stays at bottom.
+    pub label: Label,
 }
 
 impl Model for OpenRow {
     ghost use Rattle.ix_model.specs.World.{Open};
+    ghost use Rattle.std.specs.Coded.{codes};
+    ghost use Rattle.ix_label.specs.contracts.label.Label as label_type;
 
     ghost Value = { Open };
 
-    ghost view = { λ e. record { object = e.object; end = e.end; mode = e.mode } };
+    ghost coded = { Prim.hlevel (codes, label_type.the_row.coded) };
 
-    ghost inverse = { λ e. record { object = e.object; end = e.end; mode = e.mode } };
+    ghost view = { λ e. record { object = e.object; end = e.end; mode = e.mode; label = e.label } };
+
+    ghost inverse = { λ e. record { object = e.object; end = e.end; mode = e.mode; label = e.label } };
 }
 
 /// The open entry behind a descriptor, with its number.
@@ -29,6 +36,7 @@ pub struct Behind {
     pub object: usize,
     pub end: usize,
     pub mode: Mode,
+    pub label: Label,
 }
 
 /// Whether an open entry of that mode serves for reading.

@@ -114,6 +114,7 @@ impl Tables {
                     object: entry.object,
                     end: entry.end,
                     mode: entry.mode,
+                    label: entry.label,
                 }),
                 _ => None,
             },

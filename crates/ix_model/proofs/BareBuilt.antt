@@ -21,7 +21,7 @@ use Rattle.ix_model.specs.declared.config.Limits.{Limits}
 use Rattle.ix_model.proofs.Alike.{names_are}
 use Rattle.ix_model.proofs.Openings.{all_one}
 use Rattle.ix_model.proofs.Inodes.{first-cons, first_next, one_fs, filled_one}
-use Rattle.ix_model.proofs.Built.{Fits, Named, DirAt, Ways, is_on_fs, Counted, Built}
+use Rattle.ix_model.proofs.Built.{Fits, Named, DirAt, Ways, is_on_fs, Counted, Held, Built}
 use Rattle.ix_model.proofs.Bare.{some_inodes, roots, length-roots, root_at, is_root, with_mounts, bare_table, at_first, at_others, each_root}
 use Rattle.ix_model.proofs.Mounts.{length-mounts, mounts_names, mounts_any, mounts_past, mounts_without, mounts_once, mount_at, mounted}
 use Rattle.ix_model.proofs.NamesPlaced.{sum_nothing}
@@ -204,5 +204,11 @@ module _ (fss : List FsSpec) (l : Limits) (fit : list_all fs_fits fss ≡ true) 
     within = λ k. omega arith;
   }
 
+  bare_held : Held table (replicate (length table) holds_nothing)
+  bare_held = record {
+    directory = λ o x is dir. ap (λ h. h.first) (all_one holds_nothing (length table) o);
+    second = λ o. ap (λ h. h.second) (all_one holds_nothing (length table) o);
+  }
+
   pub bare_built : Built fss l [] table (replicate (length table) holds_nothing)
-  bare_built = record { fits = bare_fits; named = bare_named; ways = bare_ways; counted = bare_counted }
+  bare_built = record { fits = bare_fits; named = bare_named; ways = bare_ways; counted = bare_counted; held = bare_held }

@@ -69,9 +69,16 @@ pub record Counted (fss : List FsSpec) (l : Limits) (before : List ObjSpec) (t :
   pub blocks : (k : ℕ) → blocks_where (is_on_fs t k) 0 hs ≤ blocks_taken fss k before
   pub within : (k : ℕ) → blocks_taken fss k before ≤ (fs_at fss k).blocks
 
+-- ---- holdings
+-- a directory has no bytes, and nothing has a second list
+pub record Held (t : List (Option Object)) (hs : List Holding) : Type 0 where
+  pub directory : (o : ℕ) (x : Object) → at t o ≡ Some x → is_dir x ≡ true → (get_or hs o holds_nothing).first ≡ []
+  pub second : (o : ℕ) → (get_or hs o holds_nothing).second ≡ []
+
 -- ---- the whole
 pub record Built (fss : List FsSpec) (l : Limits) (before : List ObjSpec) (t : List (Option Object)) (hs : List Holding) : Type 0 where
   pub fits : (o : ℕ) (x : Object) → at t o ≡ Some x → Fits fss o x
   pub named : Named t
   pub ways : Ways fss before t
   pub counted : Counted fss l before t hs
+  pub held : Held t hs

@@ -1,5 +1,5 @@
 -- The lengths of what is carried over.
-use Rattle.std.proofs.Common.{◌≡◌, ◌≤◌, ◌+◌, ◌==◌, ◌&&◌, ℕ, suc, Bool, true, false, true≢false, List, [], ◌∷◌, length, map, Option, Some, None, is_some, if◌then◌else◌, refl, sym, ap, ◌∙◌, subst, arith, get_or}
+use Rattle.std.proofs.Common.{◌≡◌, ◌≤◌, ◌+◌, ◌==◌, ◌&&◌, ℕ, suc, Bool, true, false, true≢false, List, [], ◌∷◌, length, Option, Some, None, is_some, if◌then◌else◌, refl, sym, ap, ◌∙◌, subst, arith, get_or}
 use Rattle.std.specs.Option.{option_map_or}
 use Rattle.std.proofs.lemmas.Bool.{and_parts}
 use Rattle.ix_model.specs.World.{World, Frame, Object, Holding, at, is_ended, fs_at}
@@ -19,7 +19,7 @@ kept_of : {A : Type 0} (P : A → Type 0) (b : Bool) (x d : A) → (b ≡ true �
 kept_of P true x d h k = h refl
 kept_of P false x d h k = k
 
-kept_at : {A : Type 0} (P : A → Type 0) (d : A) (p : ℕ → Bool) (xs : List A) (n : ℕ) → (p n ≡ true → P (get_or xs n d)) → P d → P (get_or (keep d p 0 xs) n d)
+pub kept_at : {A : Type 0} (P : A → Type 0) (d : A) (p : ℕ → Bool) (xs : List A) (n : ℕ) → (p n ≡ true → P (get_or xs n d)) → P d → P (get_or (keep d p 0 xs) n d)
 kept_at P d p xs n h k =
     let e : (if p (0 + n) then get_or xs n d else d) ≡ (if p n then get_or xs n d else d) = ap (λ m. if p m then get_or xs n d else d) (omega arith) in
     subst P (sym (get_or-keep d p 0 xs n ∙ e)) (kept_of P (p n) _ d h k)
@@ -45,7 +45,7 @@ lies_still (Some a) None k same there h = absurd (true≢false (sym h))
 lies_still (Some a) (Some b) k same there h = ap (λ t. option_map_or (λ j. j == k) t false) (sym (same a b refl refl)) ∙ h
 
 -- ---- lengths
-there_is : {A : Type 0} (o : Option A) → is_some o ≡ true → (x : A) × (o ≡ Some x)
+pub there_is : {A : Type 0} (o : Option A) → is_some o ≡ true → (x : A) × (o ≡ Some x)
 there_is None h = absurd (true≢false (sym h))
 there_is (Some x) h = (x, refl)
 

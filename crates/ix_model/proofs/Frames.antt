@@ -3,7 +3,7 @@ use Rattle.std.proofs.Common.{◌≡◌, ◌≤◌, ℕ, List, Some, option_map,
 use Rattle.ix_label.specs.Category.{Categories, leq}
 use Rattle.ix_model.specs.World.{World, Frame, Content, Object, Process, Open, at, change, ceiling_of}
 use Rattle.ix_model.specs.Rows.{change_object, change_process, change_open, observe, affect}
-use Rattle.ix_model.specs.Sound.{LabelsBelow, NamesSound, LivesSound, OpensSound, ProcessesSound, ClaimsSound, WithinLimits, LengthsSound, Sound}
+use Rattle.ix_model.specs.Sound.{LabelsBelow, NamesSound, LivesSound, OpensSound, ProcessesSound, ClaimsSound, WithinLimits, LengthsSound, ShapesSound, HoldingsSound, Sound}
 use Rattle.ix_model.specs.declared.config.FsSpec.{FsSpec}
 use Rattle.ix_model.proofs.Tables.{seen_changed}
 use Rattle.ix_model.proofs.Keeps.{Holds, Keeps}
@@ -26,8 +26,16 @@ pub record FrameSound (f : Frame) : Type 0 where
 pub frame_of : (w : World) → Sound w → FrameSound w.frame
 frame_of w s = record { labels = s.labels; names = s.names; lives = s.lives; opens = s.opens; processes = s.processes; claims = s.claims; limits = s.limits }
 
-pub whole_of : (g : Frame) (c : Content) → FrameSound g → LengthsSound (record { frame = g; content = c }) → Sound (record { frame = g; content = c })
-whole_of g c s lengths = record { labels = s.labels; names = s.names; lives = s.lives; opens = s.opens; processes = s.processes; claims = s.claims; limits = s.limits; lengths = lengths }
+-- sound but for what stands at a number and what it may hold
+pub record Measured (w : World) : Type 0 where
+  pub frame : FrameSound w.frame
+  pub lengths : LengthsSound w
+
+pub measured_of : (g : Frame) (c : Content) → FrameSound g → LengthsSound (record { frame = g; content = c }) → Measured (record { frame = g; content = c })
+measured_of g c s lengths = record { frame = s; lengths = lengths }
+
+pub whole_of : (w : World) → Measured w → ShapesSound w.frame → HoldingsSound w → Sound w
+whole_of w m shapes holdings = let s = m.frame in record { labels = s.labels; names = s.names; lives = s.lives; opens = s.opens; processes = s.processes; claims = s.claims; limits = s.limits; lengths = m.lengths; shapes = shapes; holdings = holdings }
 
 -- a frame that may follow a frame: a sound one, in which what stays is of the same kind
 pub record Follows (f g : Frame) : Type 0 where

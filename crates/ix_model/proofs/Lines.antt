@@ -1,5 +1,5 @@
 -- What an object line that fits says, and where a path leads after it.
-use Rattle.std.proofs.Common.{◌≡◌, ◌⊎◌, ◌≤◌, ◌+◌, ◌-◌, ◌==◌, ℕ, suc, Bool, true, false, not, ◌&&◌, ◌||◌, List, [], ◌∷◌, ◌++◌, length, take, drop, cond, Some, None, nat_le, refl, sym, ap, ◌∙◌, arith, get_or, inl, inr}
+use Rattle.std.proofs.Common.{◌≡◌, ◌⊎◌, ◌≤◌, ◌+◌, ◌-◌, ◌==◌, ℕ, suc, Bool, true, false, not, ◌&&◌, ◌||◌, List, [], ◌∷◌, ◌++◌, length, take, drop, cond, Some, None, nat_le, refl, sym, ap, ◌∙◌, arith, get_or, inl, inr, eqb-true}
 use Rattle.std.specs.Option.{option_map_or}
 use Rattle.std.specs.List.{list_any, position_from}
 use Rattle.std.proofs.Math.Bool.{and-true, or-false}
@@ -27,6 +27,7 @@ parent_of names = take (length names - 1) names
 pub record Line (fss : List FsSpec) (l : Limits) (before : List ObjSpec) (b : ObjSpec) : Type 0 where
   pub is_path : b.path.names ≡ parent_of b.path.names ++ last_name b.path.names ∷ []
   pub short : length b.bytes ≤ 1048576
+  pub bare : b.dir ≡ true → b.bytes ≡ []
   pub low : leq b.label (fs_at fss (fs_of fss b.path.names)).ceiling ≡ true
   pub new : is_taken fss before b.path.names ≡ false
   pub dir : has_directory fss before (parent_of b.path.names) ≡ true
@@ -39,6 +40,16 @@ split_last names some =
     let i : ℕ = length names - 1 in
     sym (take-append-drop i names)
     ∙ ap (λ rest. take i names ++ rest) (drop-cons names i [] (omega arith) ∙ ap (λ rest. get_or names i [] ∷ rest) (drop_all (suc i) names (omega arith)))
+
+-- a directory's line has no bytes
+empty_of : {A : Type 0} (xs : List A) → length xs ≡ 0 → xs ≡ []
+empty_of [] none = refl
+empty_of (x ∷ xs) none = absurd (omega arith)
+
+no_bytes : (b : ObjSpec) → (not b.dir || (is_empty b.cap && is_empty b.lic && length b.bytes == 0)) ≡ true → b.dir ≡ true → b.bytes ≡ []
+no_bytes b h dir =
+    let bare : (is_empty b.cap && is_empty b.lic && length b.bytes == 0) ≡ true = ap (λ d. not d || (is_empty b.cap && is_empty b.lic && length b.bytes == 0)) (sym dir) ∙ h in
+    empty_of b.bytes (eqb-true (length b.bytes) 0 (and_parts (is_empty b.cap && is_empty b.lic) (length b.bytes == 0) bare).1)
 
 pub line_is : (fss : List FsSpec) (l : Limits) (before : List ObjSpec) (b : ObjSpec) → object_fits fss l before b ≡ true → Line fss l before b
 unfolding object_fits
@@ -62,6 +73,7 @@ line_is fss l before b fits =
     record {
       is_path = split_last names (leb-true _ _ w3.1);
       short = leb-true _ _ w2.1;
+      bare = no_bytes b w1.1;
       low = p4.1;
       new = not-true _ p3.1;
       dir = p2.1;

@@ -269,8 +269,8 @@ quiet_words pid f = record {
   object = λ o h same. record { led = λ g r. r };
   process = λ p h same. record { led = λ g r. r };
   float = λ h same. record { led = λ g r. r };
-  entry = λ e x. record { led = λ g r. r };
-  through = λ e l. record { led = λ g r. r };
+  entry = λ e x low. record { led = λ g r. r };
+  through = λ can e l. record { led = λ g r. r };
   unclaim = λ o end. record { led = λ g r. r };
   relabel = λ can o h same. record { led = λ g r. r };
   claim = λ can o h same. record { led = λ g r. r };

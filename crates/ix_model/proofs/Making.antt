@@ -78,7 +78,7 @@ created f m h a b r d o j name kind no_pipe within free room =
           (room_same m g (names_in_new h o x new ∙ names_floated_in m h r) r.limits room)
           (awaiting_new h o x new b.sound)
           (λ dir. (times_new h o x new o ∙ unborn h o b.sound free_h, no_root));
-      kinds = kinds_change f.objects g.objects (kinds_new f.objects h.objects b.kinds o (Some x) free_f) d (with_name name o) (λ y. record { pipe = refl; fs = refl });
+      kinds = kinds_change f.objects g.objects (kinds_new f.objects h.objects b.kinds o (Some x) free_f) d (with_name name o) (λ y. record { pipe = refl; dir = refl; fs = refl });
     }
 
 module _ (f : Frame) where
@@ -129,7 +129,7 @@ linked f m h s a b r d o dir target name x is no_dir leads within room =
       sound = named_sound h d o w.dir there.was name w.is w.is_directory there.is_was no_pipe w.leads
           (room_same m h (names_floated_in m h r) r.limits room) (awaiting o h b.sound)
           (λ yes. absurd (true≢false (sym yes ∙ other)));
-      kinds = kinds_change f.objects h.objects b.kinds d (with_name name o) (λ y. record { pipe = refl; fs = refl });
+      kinds = kinds_change f.objects h.objects b.kinds d (with_name name o) (λ y. record { pipe = refl; dir = refl; fs = refl });
     }
 
 module _ (f : Frame) (s : FrameSound f) where

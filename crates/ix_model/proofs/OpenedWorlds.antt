@@ -18,6 +18,7 @@ use Rattle.ix_model.proofs.Placing.{Place, with_one}
 use Rattle.ix_model.proofs.Built.{Built}
 use Rattle.ix_model.proofs.NamesPlaced.{named_after}
 use Rattle.ix_model.proofs.WaysPlaced.{name_is_new, ways_after}
+use Rattle.ix_model.proofs.HeldPlaced.{held_after}
 use Rattle.ix_model.proofs.CountsPlaced.{holding_for, fits_after, counted_after}
 
 -- the config's world with these objects, which hold these
@@ -72,6 +73,7 @@ line_built c before t hs b r fits =
         named = named_after t b o home.number k p r.named home.dir (name_is_new c.fss c.limits before t b o k r.ways line home p refl refl);
         ways = ways_after c.fss c.limits before t b o k r.ways line home p refl refl;
         counted = counted_after c.fss c.limits before t hs b o home.number k p line refl from to r.counted;
+        held = held_after c.fss c.limits before t hs b o home.number k p line (omega (arith, p.low, r.counted.room)) r.held;
       };
     }
 

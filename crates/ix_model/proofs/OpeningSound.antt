@@ -10,7 +10,8 @@ use Rattle.ix_model.specs.World.{fs_at, World, Object, Process, Open, Holding, a
 use Rattle.ix_model.specs.Numbers.{first_inode}
 use Rattle.ix_model.specs.Opening.{process_of}
 use Rattle.ix_model.specs.Owners.{times_named}
-use Rattle.ix_model.specs.Sound.{LabelsBelow, NamesSound, LivesSound, OpensSound, ProcessesSound, ClaimsSound, WithinLimits, LengthsSound, Sound}
+use Rattle.ix_model.specs.Sound.{LabelsBelow, NamesSound, LivesSound, OpensSound, ProcessesSound, ClaimsSound, WithinLimits, LengthsSound, ShapesSound, Sound}
+use Rattle.ix_model.specs.Clean.{IsClean}
 use Rattle.ix_model.specs.declared.config.Config.{Config}
 use Rattle.ix_model.specs.declared.config.ProcSpec.{ProcSpec}
 use Rattle.ix_model.specs.declared.config.ObjSpec.{ObjSpec}
@@ -119,5 +120,12 @@ module _ (c : Config) (before : List ObjSpec) (t : List (Option Object)) (hs : L
     blocks = λ k. omega (arith, r.counted.blocks k, r.counted.within k);
   }
 
-  pub sound_built : Sound opened
-  sound_built = record { labels = labels_sound; names = names_sound; lives = lives_sound; opens = opens_sound; processes = processes_sound; claims = claims_sound; limits = limits_sound; lengths = lengths_sound }
+  shapes_sound : ShapesSound opened.frame
+  shapes_sound = record {
+    claims = λ o x is. ap length (r.fits o x is).unclaimed;
+    unclaimed = λ o x is other. (r.fits o x is).unclaimed;
+    entries = λ e x is. not_open e x _ is;
+  }
+
+  pub sound_built : IsClean opened → Sound opened
+  sound_built clean = record { labels = labels_sound; names = names_sound; lives = lives_sound; opens = opens_sound; processes = processes_sound; claims = claims_sound; limits = limits_sound; lengths = lengths_sound; shapes = shapes_sound; holdings = record { clean = clean; directory = r.held.directory; second = λ o x is other. r.held.second o } }

@@ -66,8 +66,8 @@ module _ (f : Frame) where
     object = λ o h same. record { led = λ g. past_changed g o h (λ x. ap (λ y. y.kind) (same x)) };
     process = λ p h same. record { led = λ g r. record { fss = r.fss; pipes = r.pipes } };
     float = λ h same. record { led = λ g r. record { fss = r.fss; pipes = r.pipes } };
-    entry = λ e x. record { led = λ g r. record { fss = r.fss; pipes = r.pipes } };
-    through = λ e l. record { led = λ g r. record { fss = r.fss; pipes = r.pipes } };
+    entry = λ e x low. record { led = λ g r. record { fss = r.fss; pipes = r.pipes } };
+    through = λ can e l. record { led = λ g r. record { fss = r.fss; pipes = r.pipes } };
     unclaim = λ o end. record { led = λ g. past_changed g o _ (λ x. refl) };
     relabel = λ can o h same. record { led = λ g. past_changed g o h (λ x. ap (λ y. y.kind) (same x)) };
     claim = λ can o h same. record { led = λ g. past_changed g o h (λ x. ap (λ y. y.kind) (same x)) };

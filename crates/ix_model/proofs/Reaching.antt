@@ -14,8 +14,7 @@ use Rattle.ix_model.specs.Events.{Event}
 use Rattle.ix_model.specs.declared.config.Config.{Config}
 use Rattle.ix_model.specs.declared.config.FsSpec.{FsSpec}
 use Rattle.ix_model.proofs.Openings.{clean_opening}
-use Rattle.ix_model.proofs.Cleaning.{clean_step}
-use Rattle.ix_model.proofs.Stepping.{sound_step}
+use Rattle.ix_model.proofs.Soundly.{sound_step}
 use Rattle.ix_model.proofs.Validity.{Valid, valid_parts}
 use Rattle.ix_model.proofs.Bare.{bare_table, inodes_few}
 use Rattle.ix_model.proofs.BareBuilt.{bare_built}
@@ -42,7 +41,7 @@ pub sound_opening_world : (c : Config) → is_valid c ≡ true → Sound (openin
 sound_opening_world c valid =
     let v = valid_parts c valid in
     let r = opening_is_built c v in
-    subst (λ (w : World). Sound w) (sym r.is) (sound_built c c.objects r.objects r.holdings r.built v.procs.low v.procs.few)
+    subst (λ (w : World). Sound w) (sym r.is) (sound_built c c.objects r.objects r.holdings r.built v.procs.low v.procs.few (subst (λ (w : World). IsClean w) r.is (clean_opening c)))
 
 -- how many objects there are in it with one file system, how many pids, and that nothing is logged
 pub opening_counts : (c : Config) → is_valid c ≡ true → is_flat c ≡ true → (length (opening_world c).frame.objects ≤ 66560) × (length (opening_world c).frame.processes ≤ 1025) × ((opening_world c).frame.log ≡ [])
@@ -55,9 +54,9 @@ opening_counts c valid flat =
     (omega (arith, r.built.counted.long, v.limits.pipes), omega (arith, length-map c.procs (λ p. Some (process_of p)), v.procs.few, v.limits.procs), refl)
 
 -- ---- runs
-pub sound_run : (w : World) (place : ℕ) (h : List Event) → IsClean w → Sound w → Sound (run w place h)
-sound_run w place [] clean s = s
-sound_run w place (e ∷ h) clean s = sound_run (step_of w place e).world (suc place) h (clean_step w place e.pid e.op clean) (sound_step w place e.pid e.op clean s)
+pub sound_run : (w : World) (place : ℕ) (h : List Event) → Sound w → Sound (run w place h)
+sound_run w place [] s = s
+sound_run w place (e ∷ h) s = sound_run (step_of w place e).world (suc place) h (sound_step w place e.pid e.op s)
 
 pub sound_reached : (c : Config) (h : List Event) → is_valid c ≡ true → Sound (run (opening_world c) 1 h)
-sound_reached c h valid = sound_run (opening_world c) 1 h (clean_opening c) (sound_opening_world c valid)
+sound_reached c h valid = sound_run (opening_world c) 1 h (sound_opening_world c valid)

@@ -1,31 +1,32 @@
--- Of an object that stands in two tables: its file system, and whether it is a pipe.
+-- Of an object that stands in two tables: its file system, and whether it is a pipe or a directory.
 use Rattle.std.proofs.Common.{◌≡◌, ℕ, List, Option, Some, None, refl, sym, ap, ◌∙◌, subst, inl, inr}
-use Rattle.ix_model.specs.World.{Object, at, put, change, is_pipe}
+use Rattle.ix_model.specs.World.{Object, at, put, change, is_dir, is_pipe}
 use Rattle.ix_model.proofs.Tables.{SameBut, back}
 use Rattle.ix_model.proofs.Finds.{at_put, at_change}
 use Rattle.ix_model.proofs.Floats.{object_but}
 
--- an object is a pipe or none as another is, and on the same file system
+-- an object is a pipe, a directory or neither as another is, and on the same file system
 pub record SameKind (x y : Object) : Type 0 where
   pub pipe : is_pipe y ≡ is_pipe x
+  pub dir : is_dir y ≡ is_dir x
   pub fs : y.fs ≡ x.fs
 
 same_kind_again : (x y z : Object) → SameKind x y → SameKind y z → SameKind x z
-same_kind_again x y z a b = record { pipe = b.pipe ∙ a.pipe; fs = b.fs ∙ a.fs }
+same_kind_again x y z a b = record { pipe = b.pipe ∙ a.pipe; dir = b.dir ∙ a.dir; fs = b.fs ∙ a.fs }
 
 -- what stands in both tables is of the same kind
 pub record Kinds (t u : List (Option Object)) : Type 0 where
   pub same : (o : ℕ) (x y : Object) → at t o ≡ Some x → at u o ≡ Some y → SameKind x y
 
 pub kinds_itself : (t : List (Option Object)) → Kinds t t
-kinds_itself t = record { same = λ o x y is here. let e : Some x ≡ Some y = sym is ∙ here in let one : x ≡ y = cc in subst (λ (z : Object). SameKind x z) one (record { pipe = refl; fs = refl }) }
+kinds_itself t = record { same = λ o x y is here. let e : Some x ≡ Some y = sym is ∙ here in let one : x ≡ y = cc in subst (λ (z : Object). SameKind x z) one (record { pipe = refl; dir = refl; fs = refl }) }
 
 module _ (t u : List (Option Object)) (r : Kinds t u) where
   pub kinds_floats : (v : List (Option Object)) → SameBut object_but u v → Kinds t v
   kinds_floats v s = record {
     same = λ o x y is here.
         let b = back object_but (λ z. refl) u v s o y here in
-        same_kind_again x b.was y (r.same o x b.was is b.is_was) (record { pipe = ap is_pipe b.same; fs = ap (λ z. z.fs) b.same });
+        same_kind_again x b.was y (r.same o x b.was is b.is_was) (record { pipe = ap is_pipe b.same; dir = ap is_dir b.same; fs = ap (λ z. z.fs) b.same });
   }
 
   pub kinds_change : (o : ℕ) (h : Object → Object) → ((x : Object) → SameKind x (h x)) → Kinds t (change u o h)

@@ -79,8 +79,8 @@ module _ (f : Frame) where
     object = λ o h same. record { led = λ g r. same_processes f g _ refl r };
     process = λ p h same. spent_processes p h (λ q. ap (λ x. x.ended) (same q));
     float = λ h same. spent_processes pid h (λ q. ap (λ x. x.ended) (same q));
-    entry = λ e x. record { led = λ g r. same_processes f g _ refl r };
-    through = λ e l. record { led = λ g r. same_processes f g _ refl r };
+    entry = λ e x low. record { led = λ g r. same_processes f g _ refl r };
+    through = λ can e l. record { led = λ g r. same_processes f g _ refl r };
     unclaim = λ o end. record { led = λ g r. same_processes f g _ refl r };
     relabel = λ can o h same. record { led = λ g r. same_processes f g _ refl r };
     claim = λ can o h same. record { led = λ g r. same_processes f g _ refl r };

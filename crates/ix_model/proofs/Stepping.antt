@@ -1,4 +1,4 @@
--- The step of every call leaves a sound world.
+-- The step of every call leaves a sound frame, and lengths within their bounds.
 use Rattle.std.proofs.Common.{◌≡◌, ℕ, Bool, true, false, not, nat_le, List, length, take, Option, Some, None, refl, sym, ap, ◌∙◌, subst, if◌then◌else◌}
 use Rattle.std.proofs.lemmas.Bool.{leb-true, ltb-false, not-true}
 use Rattle.ix_model.proofs.Looks.{ends_float_entry}
@@ -24,7 +24,7 @@ use Rattle.ix_model.proofs.Cleaning.{wrote, CutFacts, was_cut}
 use Rattle.ix_model.proofs.Floats.{Floats, floats_itself}
 use Rattle.ix_model.proofs.FloatingRows.{floats_read_fd, floats_write_fd, floats_cut_fd}
 use Rattle.ix_model.proofs.Floated.{lengths_floated}
-use Rattle.ix_model.proofs.Frames.{Follows, frame_of, whole_of}
+use Rattle.ix_model.proofs.Frames.{Follows, Measured, frame_of, measured_of}
 use Rattle.ix_model.proofs.Following.{follows_decided}
 use Rattle.ix_model.proofs.Fixed.{Fixed, fixed_decided}
 use Rattle.ix_model.proofs.Carried.{lengths_carried, carried_floats}
@@ -36,20 +36,20 @@ module _ (w : World) (g : Frame) (fixed : Fixed w.frame g) (k : Follows w.frame 
   lengths : LengthsSound (record { frame = g; content = carried w.frame g w.content })
   lengths = lengths_carried w g fixed k.kinds s.lengths
 
-  sound_plain : Sound (record { frame = g; content = carried w.frame g w.content })
-  sound_plain = whole_of g _ k.sound lengths
+  sound_plain : Measured (record { frame = g; content = carried w.frame g w.content })
+  sound_plain = measured_of g _ k.sound lengths
 
-  sound_seek : (offset : ℕ) (b : Option Behind) (r : Reply) → (r ≡ reply.Done → nat_le offset 1048576 ≡ true) → Sound (seek_answer w offset b r g).world
+  sound_seek : (offset : ℕ) (b : Option Behind) (r : Reply) → (r ≡ reply.Done → nat_le offset 1048576 ≡ true) → Measured (seek_answer w offset b r g).world
   unfolding seek_answer plainly
-  sound_seek offset (Some e) reply.Done low = whole_of g _ k.sound (lengths_seek g _ lengths e offset (leb-true offset 1048576 (low refl)))
+  sound_seek offset (Some e) reply.Done low = measured_of g _ k.sound (lengths_seek g _ lengths e offset (leb-true offset 1048576 (low refl)))
   sound_seek offset _ _ low = sound_plain
 
-  sound_stat : (r : Reply) → Sound (stat_answer w r g).world
+  sound_stat : (r : Reply) → Measured (stat_answer w r g).world
   unfolding stat_answer plainly
   sound_stat (reply.Stat o kind.File size links frozen cap lic) = sound_plain
   sound_stat _ = sound_plain
 
-  sound_wait : (r : Reply) → Sound (wait_answer w r g).world
+  sound_wait : (r : Reply) → Measured (wait_answer w r g).world
   unfolding wait_answer plainly
   sound_wait (reply.Child p status) = sound_plain
   sound_wait _ = sound_plain
@@ -58,37 +58,37 @@ module _ (w : World) (g : Frame) (fixed : Fixed w.frame g) (k : Follows w.frame 
   exited true statuses = let l = lengths in record { holdings = l.holdings; offsets = l.offsets; offset = l.offset; file = l.file; pipe = l.pipe; blocks = l.blocks }
   exited false statuses = lengths
 
-  sound_exit : (pid status : ℕ) (r : Reply) → Sound (exit_answer w pid status r g).world
+  sound_exit : (pid status : ℕ) (r : Reply) → Measured (exit_answer w pid status r g).world
   unfolding exit_answer plainly after_exit
-  sound_exit pid status reply.Done = whole_of g _ k.sound (exited (is_ended (at g.processes pid)) _)
+  sound_exit pid status reply.Done = measured_of g _ k.sound (exited (is_ended (at g.processes pid)) _)
   sound_exit pid status _ = sound_plain
 
   either_emptied : (b : Bool) (o : ℕ) → LengthsSound (record { frame = g; content = if b then emptied o (carried w.frame g w.content) else carried w.frame g w.content })
   either_emptied true o = lengths_emptied g _ lengths o
   either_emptied false o = lengths
 
-  sound_pex : (b : Option Behind) (r : Reply) → Sound (pex_answer w b r g).world
+  sound_pex : (b : Option Behind) (r : Reply) → Measured (pex_answer w b r g).world
   unfolding pex_answer plainly
-  sound_pex (Some e) r = whole_of g _ k.sound (either_emptied _ e.entry.object)
+  sound_pex (Some e) r = measured_of g _ k.sound (either_emptied _ e.entry.object)
   sound_pex None r = sound_plain
 
   -- ---- where labels alone have changed in the frame
   module _ (floats : Floats w.frame g) (clean : IsClean w) where
     -- a content that the old frame can hold the new one can
-    edited : (h : Content → Content) → LengthsSound (record { frame = w.frame; content = h w.content }) → Sound (record { frame = g; content = h (carried w.frame g w.content) })
-    edited h l = whole_of g _ k.sound (subst (λ (c : Content). LengthsSound (record { frame = g; content = h c })) (sym (carried_floats w g floats clean)) (lengths_floated w.frame g floats (h w.content) l))
+    edited : (h : Content → Content) → LengthsSound (record { frame = w.frame; content = h w.content }) → Measured (record { frame = g; content = h (carried w.frame g w.content) })
+    edited h l = measured_of g _ k.sound (subst (λ (c : Content). LengthsSound (record { frame = g; content = h c })) (sym (carried_floats w g floats clean)) (lengths_floated w.frame g floats (h w.content) l))
 
-    sound_read : (count : ℕ) (b : Option Behind) (r : Reply) → ((e : Behind) → b ≡ Some e → Standing w.frame e.entry) → Sound (read_answer w count b r g).world
+    sound_read : (count : ℕ) (b : Option Behind) (r : Reply) → ((e : Behind) → b ≡ Some e → Standing w.frame e.entry) → Measured (read_answer w count b r g).world
     unfolding read_answer plainly
     sound_read count (Some e) (reply.Bytes n) there = edited (after_read w.frame e (length (take count (readable w.frame w.content e)))) (lengths_read w.frame w.content s.lengths e (there e refl) s.limits count)
     sound_read count _ _ there = sound_plain
 
-    sound_write : (new : List ℕ) (b : Option Behind) (r : Reply) → ((e : Behind) → b ≡ Some e → Standing w.frame e.entry) → ((n : ℕ) → r ≡ reply.Number n → (not (told_of_write w.frame w.content (length new) b).too_big ≡ true) × (not (told_of_write w.frame w.content (length new) b).full ≡ true) × (not (told_of_write w.frame w.content (length new) b).no_space ≡ true)) → Sound (write_answer w new b r g).world
+    sound_write : (new : List ℕ) (b : Option Behind) (r : Reply) → ((e : Behind) → b ≡ Some e → Standing w.frame e.entry) → ((n : ℕ) → r ≡ reply.Number n → (not (told_of_write w.frame w.content (length new) b).too_big ≡ true) × (not (told_of_write w.frame w.content (length new) b).full ≡ true) × (not (told_of_write w.frame w.content (length new) b).no_space ≡ true)) → Measured (write_answer w new b r g).world
     unfolding write_answer plainly
     sound_write new (Some e) (reply.Number n) there fits = let t = fits n refl in edited (after_write w.frame e new) (lengths_write w.frame w.content s.lengths e (there e refl) s.limits new t.0 t.1 t.2)
     sound_write new _ _ there fits = sound_plain
 
-    sound_cut : (len : ℕ) (b : Option Behind) (r : Reply) → ((e : Behind) → b ≡ Some e → Standing w.frame e.entry) → (r ≡ reply.Done → (e : Behind) (x : Standing w.frame e.entry) → b ≡ Some e → (is_pipe x.object ≡ false) × (nat_le len 1048576 ≡ true) × (not (told_of_cut w.frame w.content len b).no_space ≡ true)) → Sound (cut_answer w len b r g).world
+    sound_cut : (len : ℕ) (b : Option Behind) (r : Reply) → ((e : Behind) → b ≡ Some e → Standing w.frame e.entry) → (r ≡ reply.Done → (e : Behind) (x : Standing w.frame e.entry) → b ≡ Some e → (is_pipe x.object ≡ false) × (nat_le len 1048576 ≡ true) × (not (told_of_cut w.frame w.content len b).no_space ≡ true)) → Measured (cut_answer w len b r g).world
     unfolding cut_answer plainly told_of_cut
     sound_cut len (Some e) reply.Done there fits =
         let t = fits refl e (there e refl) refl in
@@ -113,30 +113,30 @@ cut_tests t pid fd len f facts e x is =
     (ap is_pipe (sym object) ∙ not-true _ facts.no_pipe, facts.short, facts.space)
 
 -- ---- the step
-pub sound_step : (w : World) (place pid : ℕ) (c : Op) → IsClean w → Sound w → Sound (step w place pid c).world
+pub measured_step : (w : World) (place pid : ℕ) (c : Op) → IsClean w → Sound w → Measured (step w place pid c).world
 unfolding step answer told plainly row
-sound_step w place pid (op.ReadFd fd count) clean s =
+measured_step w place pid (op.ReadFd fd count) clean s =
     let t : Told = told w pid (op.ReadFd fd count) in
     sound_read w _ (fixed_decided t place pid (op.ReadFd fd count) w.frame) (follows_decided w.frame (frame_of w s) t place pid (op.ReadFd fd count)) s
     (decided (Floats w.frame) t place pid (op.ReadFd fd count) w.frame (floats_itself w.frame) ((floats_read_fd w.frame t pid fd count).led w.frame (floats_itself w.frame))) clean
     count (behind w.frame pid fd) _ (λ e is. stands w.frame e.id e.entry s.opens (behind_is w.frame pid fd e is))
-sound_step w place pid (op.WriteFd fd bytes) clean s =
+measured_step w place pid (op.WriteFd fd bytes) clean s =
     let t : Told = told w pid (op.WriteFd fd bytes) in
     sound_write w _ (fixed_decided t place pid (op.WriteFd fd bytes) w.frame) (follows_decided w.frame (frame_of w s) t place pid (op.WriteFd fd bytes)) s
     (decided (Floats w.frame) t place pid (op.WriteFd fd bytes) w.frame (floats_itself w.frame) ((floats_write_fd w.frame t pid fd).led w.frame (floats_itself w.frame))) clean
     bytes (behind w.frame pid fd) _ (λ e is. stands w.frame e.id e.entry s.opens (behind_is w.frame pid fd e is))
     (λ n wrote_n. let facts = wrote t place pid fd bytes w.frame n wrote_n in (facts.small, facts.room, facts.space))
-sound_step w place pid (op.CutFd fd len) clean s =
+measured_step w place pid (op.CutFd fd len) clean s =
     let t : Told = told w pid (op.CutFd fd len) in
     sound_cut w _ (fixed_decided t place pid (op.CutFd fd len) w.frame) (follows_decided w.frame (frame_of w s) t place pid (op.CutFd fd len)) s
     (decided (Floats w.frame) t place pid (op.CutFd fd len) w.frame (floats_itself w.frame) ((floats_cut_fd w.frame t pid fd len).led w.frame (floats_itself w.frame))) clean
     len (behind w.frame pid fd) _ (λ e is. stands w.frame e.id e.entry s.opens (behind_is w.frame pid fd e is))
     (λ done e x is. cut_tests t pid fd len w.frame (was_cut t place pid fd len w.frame done) e x is)
-sound_step w place pid (op.SeekFd fd offset) clean s =
+measured_step w place pid (op.SeekFd fd offset) clean s =
     let t : Told = told w pid (op.SeekFd fd offset) in
     sound_seek w _ (fixed_decided t place pid (op.SeekFd fd offset) w.frame) (follows_decided w.frame (frame_of w s) t place pid (op.SeekFd fd offset)) s offset (behind w.frame pid fd) _ (sought t place pid fd offset w.frame)
-sound_step w place pid (op.StatAt path) clean s = sound_stat w _ (fixed_decided (told w pid (op.StatAt path)) place pid (op.StatAt path) w.frame) (follows_decided w.frame (frame_of w s) (told w pid (op.StatAt path)) place pid (op.StatAt path)) s _
-sound_step w place pid (op.Exit status) clean s = sound_exit w _ (fixed_decided (told w pid (op.Exit status)) place pid (op.Exit status) w.frame) (follows_decided w.frame (frame_of w s) (told w pid (op.Exit status)) place pid (op.Exit status)) s pid status _
-sound_step w place pid op.WaitChild clean s = sound_wait w _ (fixed_decided (told w pid op.WaitChild) place pid op.WaitChild w.frame) (follows_decided w.frame (frame_of w s) (told w pid op.WaitChild) place pid op.WaitChild) s _
-sound_step w place pid (op.Pex fd) clean s = sound_pex w _ (fixed_decided (told w pid (op.Pex fd)) place pid (op.Pex fd) w.frame) (follows_decided w.frame (frame_of w s) (told w pid (op.Pex fd)) place pid (op.Pex fd)) s (behind w.frame pid fd) _
-sound_step w place pid c clean s = sound_plain w _ (fixed_decided (told w pid c) place pid c w.frame) (follows_decided w.frame (frame_of w s) (told w pid c) place pid c) s
+measured_step w place pid (op.StatAt path) clean s = sound_stat w _ (fixed_decided (told w pid (op.StatAt path)) place pid (op.StatAt path) w.frame) (follows_decided w.frame (frame_of w s) (told w pid (op.StatAt path)) place pid (op.StatAt path)) s _
+measured_step w place pid (op.Exit status) clean s = sound_exit w _ (fixed_decided (told w pid (op.Exit status)) place pid (op.Exit status) w.frame) (follows_decided w.frame (frame_of w s) (told w pid (op.Exit status)) place pid (op.Exit status)) s pid status _
+measured_step w place pid op.WaitChild clean s = sound_wait w _ (fixed_decided (told w pid op.WaitChild) place pid op.WaitChild w.frame) (follows_decided w.frame (frame_of w s) (told w pid op.WaitChild) place pid op.WaitChild) s _
+measured_step w place pid (op.Pex fd) clean s = sound_pex w _ (fixed_decided (told w pid (op.Pex fd)) place pid (op.Pex fd) w.frame) (follows_decided w.frame (frame_of w s) (told w pid (op.Pex fd)) place pid (op.Pex fd)) s (behind w.frame pid fd) _
+measured_step w place pid c clean s = sound_plain w _ (fixed_decided (told w pid c) place pid c w.frame) (follows_decided w.frame (frame_of w s) (told w pid c) place pid c) s

@@ -133,8 +133,8 @@ module _ (pid : ℕ) (f : Frame) where
     object = λ o h same. record { led = λ g. steady_object g o h (λ x. ap (λ y. y.label) (same x)) };
     process = λ p h same. record { led = λ g. steady_process g p h (λ q. ap (λ r. r.label) (same q)) };
     float = λ h same. record { led = λ g. steady_caller g _ };
-    entry = λ e x. record { led = λ g r. record { objects = r.objects; processes = r.processes; grown = r.grown } };
-    through = λ e l. record { led = λ g r. record { objects = r.objects; processes = r.processes; grown = r.grown } };
+    entry = λ e x low. record { led = λ g r. record { objects = r.objects; processes = r.processes; grown = r.grown } };
+    through = λ can e l. record { led = λ g r. record { objects = r.objects; processes = r.processes; grown = r.grown } };
     unclaim = λ o end. record { led = λ g. steady_object g o _ (λ x. refl) };
     relabel = λ can. cc;
     claim = λ can o h same. record { led = λ g. steady_object g o h (λ x. ap (λ y. y.label) (same x)) };
@@ -184,8 +184,8 @@ module _ (pid : ℕ) (f : Frame) where
     object = λ o h same. record { led = λ g. staying_object g o h (λ x. ap (λ y. y.label) (same x)) };
     process = λ p h same. record { led = λ g r. record { steady = steady_process g p h (λ q. ap (λ s. s.label) (same q)) r.steady; lasting = r.lasting } };
     float = λ h same. record { led = λ g r. record { steady = steady_caller g _ r.steady; lasting = r.lasting } };
-    entry = λ e x. record { led = λ g r. record { steady = record { objects = r.steady.objects; processes = r.steady.processes; grown = r.steady.grown }; lasting = r.lasting } };
-    through = λ e l. record { led = λ g r. record { steady = record { objects = r.steady.objects; processes = r.steady.processes; grown = r.steady.grown }; lasting = r.lasting } };
+    entry = λ e x low. record { led = λ g r. record { steady = record { objects = r.steady.objects; processes = r.steady.processes; grown = r.steady.grown }; lasting = r.lasting } };
+    through = λ can e l. record { led = λ g r. record { steady = record { objects = r.steady.objects; processes = r.steady.processes; grown = r.steady.grown }; lasting = r.lasting } };
     unclaim = λ o end. record { led = λ g. staying_object g o _ (λ x. refl) };
     relabel = λ can. cc;
     claim = λ can o h same. record { led = λ g. staying_object g o h (λ x. ap (λ y. y.label) (same x)) };

@@ -46,7 +46,7 @@ module _ (f : Frame) (s : FrameSound f) where
       let name : List ℕ = last_name path.names in
       let w = within_on m h r d name (Some o) (within_on f m k.floats d name (Some o) (inside_of f name o d dir in_dir leads)) in
       let g : Frame = record h { objects = change h.objects d (without_name (last_name path.names)) } in
-      let kinds : Kinds f.objects g.objects = kinds_change f.objects h.objects b.kinds d (without_name (last_name path.names)) (λ y. record { pipe = refl; fs = refl }) in
+      let kinds : Kinds f.objects g.objects = kinds_change f.objects h.objects b.kinds d (without_name (last_name path.names)) (λ y. record { pipe = refl; dir = refl; fs = refl }) in
       let other : option_map_or is_dir (at g.objects o) false ≡ false =
       seen_changed (λ y. option_map_or is_dir y false) (without_name (last_name path.names)) (λ y. refl) h.objects d o
       ∙ seen_same object_but (λ y. option_map_or is_dir y false) (λ y. refl) m.objects h.objects r.objects o ∙ ap (λ y. option_map_or is_dir y false) is ∙ not-true _ no_dir in
@@ -96,7 +96,7 @@ removed f m l h a r1 r2 b same d o name x is dir empty none within =
     } in
     record {
       sound = gone_sound g o b2.was u s1;
-      kinds = kinds_gone f.objects g.objects (kinds_change f.objects h.objects b.kinds d (without_name name) (λ z. record { pipe = refl; fs = refl })) o;
+      kinds = kinds_gone f.objects g.objects (kinds_change f.objects h.objects b.kinds d (without_name name) (λ z. record { pipe = refl; dir = refl; fs = refl })) o;
     }
 
 module _ (f : Frame) (s : FrameSound f) where

@@ -76,8 +76,8 @@ module _ (f : Frame) where
     object = λ o h same. record { led = λ g. same_claims g o h (λ x. ap (λ y. y.claims) (same x)) };
     process = λ p h same. record { led = λ g r. record { was = r.was } };
     float = λ h same. record { led = λ g r. record { was = r.was } };
-    entry = λ e x. record { led = λ g r. record { was = r.was } };
-    through = λ e l. record { led = λ g r. record { was = r.was } };
+    entry = λ e x low. record { led = λ g r. record { was = r.was } };
+    through = λ can e l. record { led = λ g r. record { was = r.was } };
     unclaim = λ o end. record { led = λ g. whole_objects g _ (λ m is. shown_changed whole_of _ (λ x whole. unclaimed x.claims end whole) g.objects o m is) };
     relabel = λ can o h same. record { led = λ g. same_claims g o h (λ x. ap (λ y. y.claims) (same x)) };
     claim = λ can. cc;

@@ -17,18 +17,20 @@ use Rattle.ix_model.specs.declared.reply.Reply.{Reply}
 use Rattle.ix_model.specs.declared.reply.Reply.TheVariants as reply
 
 -- ---- licensed entries
--- the object that a path of a living process leads to, if it leads to one
+-- the object at which a walk ended, if it found one
 abbrev pub object_sought : Sought → Option ℕ
 object_sought (Found o dir) = Some o
 object_sought _ = None
 
+-- the object that a path of a living process leads to, if it leads to one
 unfoldable pub object_of_path : Frame → ℕ → PathOf → Option ℕ
 object_of_path f pid path = option_and_then (λ p. object_sought (walk f.objects p path).outcome) (living (at f.processes pid))
 
--- the label of an object, and what a process has
+-- the label of an object
 unfoldable pub label_at : Frame → Option ℕ → Categories
 label_at f o = option_map_or (λ x. x.label) (option_and_then (λ n. at f.objects n) o) bottom
 
+-- what a process has
 unfoldable pub of_process : {A : Type 0} → (Process → A) → A → Frame → ℕ → A
 of_process get none f p = option_map_or get (at f.processes p) none
 

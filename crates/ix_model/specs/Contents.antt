@@ -27,10 +27,11 @@ carried f g c = record {
 }
 
 -- ---- what there is to read
--- what an object holds, and where an open entry stands
+-- what an object holds
 abbrev pub holding_of : Content → ℕ → Holding
 holding_of c o = slice_index_or c.holdings o holds_nothing
 
+-- where an open entry stands
 abbrev pub offset_of : Content → ℕ → ℕ
 offset_of c e = slice_index_or c.offsets e 0
 

@@ -28,6 +28,7 @@ cost_of_words (op.Thaw path) = cost_of_path path
 cost_of_words (op.SetPriv path cap lic) = cost_of_path path
 cost_of_words _ = 0
 
+-- what a call costs
 unfoldable pub cost_of : Op → ℕ
 cost_of o = 128 + cost_of_words o
 

@@ -12,6 +12,7 @@ use Rattle.ix_model.specs.Events as op
 abbrev pub zeros : List ℕ → List ℕ
 zeros bytes = map (λ b. 0) bytes
 
+-- the same of both lists of an object
 abbrev pub zeroed : Holding → Holding
 zeroed h = record { first = zeros h.first; second = zeros h.second }
 

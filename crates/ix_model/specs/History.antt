@@ -20,6 +20,7 @@ world_of h = run (opening_world h.config) 1 h.events
 abbrev pub next : History → Event → Given
 next h e = step_of (world_of h) (length h.events + 1) e
 
+-- the history with one entry more
 abbrev pub with_entry : History → Event → History
 with_entry h e = record h { events = h.events ++ e ∷ [] }
 

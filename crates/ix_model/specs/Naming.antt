@@ -45,12 +45,13 @@ pub record IsNameInside (bytes : List ℕ) (len : ℕ) : Type 0 where
   pub long : length (take len bytes) ≡ len
   pub padding : padded 28 (take len bytes) ≡ bytes
 
--- the names in the slots of a path, and the slots of its names
+-- the names in the slots of a path
 abbrev pub names_in : List (Option (List ℕ)) → List (List ℕ)
 names_in [] = []
 names_in (None ∷ slots) = []
 names_in (Some name ∷ slots) = name ∷ names_in slots
 
+-- the slots of names
 abbrev pub slots_of : List (List ℕ) → List (Option (List ℕ))
 slots_of names = map Some names ++ replicate (16 - length names) None
 

@@ -31,6 +31,7 @@ float_entry p x e = only_if (not (is_pipe x)) (change_open e.id (λ y. record y 
 abbrev pub read_passed : Reply
 read_passed = reply.Bytes 0
 
+-- the same for how many were written
 abbrev pub write_passed : Reply
 write_passed = reply.Number 0
 

@@ -16,14 +16,14 @@ use Rattle.ix_model.specs.declared.reply.Reply.{Reply}
 use Rattle.ix_model.specs.declared.reply.Reply.TheVariants as reply
 
 -- ---- labels
--- LabelOf
+-- LabelOf: the label of an object
 unfoldable pub label_of : ℕ → PathOf → Row Reply
 label_of pid path = do
   o ← object_at pid path
   x ← object o
   pass (reply.Lab x.label)
 
--- SelfLabel
+-- SelfLabel: the caller's own
 unfoldable pub self_label : ℕ → Row Reply
 self_label pid = do
   p ← process pid
@@ -68,7 +68,7 @@ set_self place pid now = do
   pass reply.Done
 
 -- ---- frozen marks
--- Freeze
+-- Freeze: an object's label moves no more
 unfoldable pub freeze : ℕ → PathOf → Row Reply
 freeze pid path = do
   o ← object_at pid path
@@ -76,7 +76,7 @@ freeze pid path = do
   change_object o (λ x. record x { frozen = true })
   pass reply.Done
 
--- FreezeSelf
+-- FreezeSelf: the caller's label moves no more
 unfoldable pub freeze_self : ℕ → Row Reply
 freeze_self pid = do
   change_process pid (λ p. record p { frozen = true })
@@ -92,7 +92,7 @@ thaw place pid path = do
   logged (audit_line place pid act.ThawFile o x.label x.label)
   pass reply.Done
 
--- ThawSelf
+-- ThawSelf: the caller isn't frozen, also where it wasn't
 unfoldable pub thaw_self : ℕ → ℕ → Row Reply
 thaw_self place pid = do
   p ← process pid

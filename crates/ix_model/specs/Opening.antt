@@ -43,6 +43,7 @@ directory_of objects n [] = n
 directory_of objects n (name ∷ []) = n
 directory_of objects n (name ∷ next ∷ names) = directory_of objects (unwrap_or (child (node objects n) name) n) (next ∷ names)
 
+-- the file or directory of a line, on a file system
 abbrev pub object_of : ℕ → ObjSpec → Object
 object_of k spec = record { kind = if spec.dir then kind.Dir else kind.File; fs = Some k; label = spec.label; frozen = spec.frozen; cap = spec.cap; lic = spec.lic; claims = no_claims; names = [] }
 
@@ -60,6 +61,7 @@ with_object w spec =
     let k = unwrap_or (node w.frame.objects dir).fs 0 in
     option_map_or (placed w spec dir k) (free_inode w.frame k) w
 
+-- all lines, in order
 abbrev pub with_objects : World → List ObjSpec → World
 with_objects w [] = w
 with_objects w (spec ∷ specs) = with_objects (with_object w spec) specs
@@ -72,5 +74,6 @@ bare_world c = record {
   content = record { holdings = replicate (length (bare_objects c)) holds_nothing; offsets = replicate c.limits.opens 0; statuses = replicate (length c.procs + 1) 0 };
 }
 
+-- the world that a config describes
 unfoldable pub opening_world : Config → World
 opening_world c = with_objects (bare_world c) c.objects

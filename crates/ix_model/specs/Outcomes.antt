@@ -3,10 +3,12 @@ use Rattle.std.specs.Prelude.{◌≡◌, Result, Ok, Err}
 use Rattle.ix_model.specs.World.{Frame}
 use Rattle.ix_model.specs.declared.refusal.Refusal.{Refusal}
 
+-- a refusal or an answer, with the frame that stands then
 pub data Outcome (A : Type 0) : Type 0 where
   Refuse : Refusal → Frame → Outcome A
   Pass : A → Frame → Outcome A
 
+-- a row, or a part of one: what a frame comes to
 abbrev pub Row : Type 0 → Type 0
 Row A = Frame → Outcome A
 

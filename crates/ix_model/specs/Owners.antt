@@ -9,6 +9,7 @@ abbrev pub times_in : ℕ → Option Object → ℕ
 times_in o None = 0
 times_in o (Some x) = count_by (λ n. n.1 == o) x.names
 
+-- how often the lists of all directories name it
 abbrev pub times_named : List (Option Object) → ℕ → ℕ
 times_named objects o = sum (map (times_in o) objects)
 
@@ -20,9 +21,11 @@ names_in_all objects = sum (map (λ x. option_map_or (λ y. length y.names) x 0)
 abbrev pub is_at : ℕ → Option ℕ → Bool
 is_at e d = option_map_or (λ x. x == e) d false
 
+-- whether a living process has a descriptor on the open entry
 abbrev pub owns : ℕ → Option Process → Bool
 owns e p = option_map_or (λ q. not q.ended && list_any (is_at e) q.fds) p false
 
+-- whether some process has
 abbrev pub owned : List (Option Process) → ℕ → Bool
 owned processes e = list_any (owns e) processes
 

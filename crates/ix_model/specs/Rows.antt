@@ -7,20 +7,25 @@ use Rattle.ix_model.specs.declared.refusal.Refusal.{Refusal}
 use Rattle.ix_model.specs.declared.refusal.Refusal.TheVariants as refusal
 
 -- ---- one after another
+-- what comes after an answer; after a refusal nothing comes
 unfoldable pub on_pass : {A B : Type 0} → Outcome A → (A → Frame → Outcome B) → Outcome B
 on_pass (Refuse r f) k = Refuse r f
 on_pass (Pass a f) k = k a f
 
+-- a part, and then one that is told what the first answered
 unfoldable pub ◌>>=◌ : {A B : Type 0} → Row A → (A → Row B) → Row B
 ◌>>=◌ m k = λ f. on_pass (m f) k
 
+-- a part, and then another
 unfoldable pub ◌>>◌ : {A B : Type 0} → Row A → Row B → Row B
 ◌>>◌ m k = λ f. on_pass (m f) (λ a. k)
 
 -- ---- tests
+-- an answer
 unfoldable pub pass : {A : Type 0} → A → Row A
 pass a = λ f. Pass a f
 
+-- a refusal
 unfoldable pub refuse : {A : Type 0} → Refusal → Row A
 refuse r = λ f. Refuse r f
 
@@ -40,10 +45,11 @@ only_if true m = m
 only_if false m = pass tt
 
 -- ---- what stands
+-- the frame as it stands
 unfoldable pub frame : Row Frame
 frame = λ f. Pass f f
 
--- the calling process. That it lives was tested before the row.
+-- the living process of a pid. That the caller lives was tested before the row.
 unfoldable pub process : ℕ → Row Process
 process pid = λ f. some (living (at f.processes pid)) refusal.NoProcess f
 
@@ -56,12 +62,14 @@ unfoldable pub record_of : ℕ → Row Process
 record_of p = λ f. some (at f.processes p) refusal.NoProcess f
 
 -- ---- changes
+-- a process, an object or an open entry with a change; where nothing stands nothing changes
 unfoldable pub change_process : ℕ → (Process → Process) → Row (Unit {0})
 change_process pid h = λ f. Pass tt (record f { processes = change f.processes pid h })
 
 unfoldable pub change_object : ℕ → (Object → Object) → Row (Unit {0})
 change_object o h = λ f. Pass tt (record f { objects = change f.objects o h })
 
+-- an object, a process or an open entry at a number, or nothing there
 unfoldable pub put_object : ℕ → Option Object → Row (Unit {0})
 put_object o x = λ f. Pass tt (record f { objects = put f.objects o x })
 
@@ -102,5 +110,5 @@ affect pid o through = do
 
 -- Opens the words that the code steps through; those for which it has a call of its own stay closed.
 unfoldable pub coding : ℕ
-unfolding ◌>>=◌ ◌>>◌ on_pass need some only_if pass refuse frame process object change_process change_object put_open change_open
+unfolding ◌>>=◌ ◌>>◌ on_pass need some only_if pass refuse frame process object change_process change_object change_open put_object put_process put_open add_process
 coding = 0

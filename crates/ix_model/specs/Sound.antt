@@ -1,9 +1,10 @@
 -- What holds in every world that is reached.
 use Rattle.std.specs.Prelude.{◌≡◌, ℕ, ◌+◌, ◌<◌, ◌≤◌, ◌==◌, true, false, not, ◌&&◌, ◌||◌, [], length, map, count_by, Some, None, is_some, is_none, if◌then◌else◌}
 use Rattle.std.specs.Option.{option_map_or}
-use Rattle.ix_label.specs.Category.{leq}
-use Rattle.ix_model.specs.World.{fs_at, World, Frame, Object, Process, Open, at, living, lives, is_file, is_dir, is_pipe, held, ceiling_of}
+use Rattle.ix_label.specs.Category.{leq, bottom}
+use Rattle.ix_model.specs.World.{fs_at, World, Frame, Object, Process, Open, at, living, lives, is_file, is_dir, is_pipe, held, ceiling_of, no_claims}
 use Rattle.ix_model.specs.Contents.{holding_of, offset_of}
+use Rattle.ix_model.specs.Clean.{IsClean}
 use Rattle.ix_model.specs.Telling.{blocks_where, blocks_on, lies_on}
 use Rattle.ix_model.specs.Numbers.{first_inode}
 use Rattle.ix_model.specs.Owners.{times_named, names_in_all, owned, has_end}
@@ -78,6 +79,19 @@ pub record LengthsSound (w : World) : Type 0 where
   pub pipe : (o : ℕ) (x : Object) → at w.frame.objects o ≡ Some x → is_pipe x ≡ true → (length (holding_of w.content o).first ≤ 4096) × (length (holding_of w.content o).second ≤ 4096)
   pub blocks : (k : ℕ) → blocks_where (lies_on w.frame (Some k)) 0 w.content.holdings ≤ blocks_on w.frame (Some k)
 
+-- ---- what stands at a number
+-- each object has two places for claims, which are empty where it is no pipe; a pipe's open entry is at bottom
+pub record ShapesSound (f : Frame) : Type 0 where
+  pub claims : (o : ℕ) (x : Object) → at f.objects o ≡ Some x → length x.claims ≡ 2
+  pub unclaimed : (o : ℕ) (x : Object) → at f.objects o ≡ Some x → is_pipe x ≡ false → x.claims ≡ no_claims
+  pub entries : (e : ℕ) (x : Open) → at f.opens e ≡ Some x → option_map_or is_pipe (at f.objects x.object) false ≡ true → x.label ≡ bottom
+
+-- nothing is held at a number at which nothing stands; a directory has no bytes, and what is no pipe has no second list
+pub record HoldingsSound (w : World) : Type 0 where
+  pub clean : IsClean w
+  pub directory : (o : ℕ) (x : Object) → at w.frame.objects o ≡ Some x → is_dir x ≡ true → (holding_of w.content o).first ≡ []
+  pub second : (o : ℕ) (x : Object) → at w.frame.objects o ≡ Some x → is_pipe x ≡ false → (holding_of w.content o).second ≡ []
+
 -- ---- the whole
 pub record Sound (w : World) : Type 0 where
   pub labels : LabelsBelow w.frame
@@ -88,3 +102,5 @@ pub record Sound (w : World) : Type 0 where
   pub claims : ClaimsSound w.frame
   pub limits : WithinLimits w.frame
   pub lengths : LengthsSound w
+  pub shapes : ShapesSound w.frame
+  pub holdings : HoldingsSound w

@@ -32,12 +32,13 @@ pub record Alike (l : Categories) (v w : World) : Type 0 where
   pub inside : AlikeIn l v.frame v.content w.content
 
 -- ---- entries
--- a living process whose label is at or below L, and one whose label isn't
+-- a living process whose label is at or below L
 pub record IsLow (l : Categories) (f : Frame) (pid : ℕ) : Type 0 where
   pub process : Process
   pub lives : living (at f.processes pid) ≡ Some process
   pub low : leq process.label l ≡ true
 
+-- a living process whose label isn't
 pub record IsHigh (l : Categories) (f : Frame) (pid : ℕ) : Type 0 where
   pub process : Process
   pub lives : living (at f.processes pid) ≡ Some process

@@ -1,11 +1,11 @@
 -- What makes a config valid.
-use Rattle.std.specs.Prelude.{ℕ, suc, ◌+◌, ◌-◌, ◌==◌, nat_le, Bool, true, not, ◌&&◌, ◌||◌, List, [], ◌∷◌, ◌++◌, length, map, sum, filter, take, drop, position, Option, Some}
+use Rattle.std.specs.Prelude.{ℕ, suc, ◌+◌, ◌-◌, ◌==◌, nat_le, Bool, true, not, ◌&&◌, ◌||◌, List, [], ◌∷◌, ◌++◌, length, map, sum, filter, take, drop, position, Option}
 use Rattle.std.specs.Option.{option_map_or}
 use Rattle.std.specs.List.{list_all, list_any}
-use Rattle.ix_label.specs.Category.{Categories, leq, top}
+use Rattle.ix_label.specs.Category.{leq}
 use Rattle.ix_model.specs.Naming.{same_bytes, same_names}
 use Rattle.ix_model.specs.Privs.{is_empty}
-use Rattle.ix_model.specs.World.{fs_at, at}
+use Rattle.ix_model.specs.World.{fs_at}
 use Rattle.ix_model.specs.Telling.{blocks_for}
 use Rattle.ix_model.specs.declared.config.Config.{Config}
 use Rattle.ix_model.specs.declared.config.FsSpec.{FsSpec}
@@ -13,6 +13,7 @@ use Rattle.ix_model.specs.declared.config.Limits.{Limits}
 use Rattle.ix_model.specs.declared.config.ProcSpec.{ProcSpec}
 use Rattle.ix_model.specs.declared.config.ObjSpec.{ObjSpec}
 
+-- whether a number is from low to high
 abbrev pub is_within : ℕ → ℕ → ℕ → Bool
 is_within low high n = nat_le low n && nat_le n high
 
@@ -22,6 +23,7 @@ abbrev pub all_differ : List (List ℕ) → Bool
 all_differ [] = true
 all_differ (name ∷ names) = not (list_any (same_bytes name) names) && all_differ names
 
+-- a file system has 1 to 65,536 blocks, and as many inodes
 abbrev pub fs_fits : FsSpec → Bool
 fs_fits s = is_within 1 65536 s.blocks && is_within 1 65536 s.inodes
 
@@ -29,6 +31,7 @@ fs_fits s = is_within 1 65536 s.blocks && is_within 1 65536 s.inodes
 unfoldable pub fss_fit : List FsSpec → Bool
 fss_fit fss = is_within 1 16 (length fss) && list_all fs_fits fss && all_differ (map (λ s. s.name) fss)
 
+-- each limit is within its own
 unfoldable pub limits_fit : Limits → Bool
 limits_fit l = is_within 1 1024 l.procs && is_within 1 4096 l.opens && nat_le l.pipes 1024 && is_within 16 65536 l.names && nat_le l.log 65536
 

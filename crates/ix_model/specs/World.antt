@@ -1,5 +1,5 @@
 -- The machine's world: the frame that calls decide on, and the content that it holds.
-use Rattle.std.specs.Prelude.{ℕ, Bool, true, false, not, ◌&&◌, ◌==◌, if◌then◌else◌, List, [], ◌∷◌, map, position, Option, Some, None, is_none, slice_set, slice_index_or}
+use Rattle.std.specs.Prelude.{ℕ, Bool, true, false, not, ◌&&◌, ◌==◌, if◌then◌else◌, List, [], ◌∷◌, position, Option, Some, None, is_none, slice_set, slice_index_or}
 use Rattle.std.specs.Option.{option_map_or}
 use Rattle.std.proofs.Common.{option_map}
 use Rattle.std.specs.List.{list_any}
@@ -67,6 +67,7 @@ pub record Content : Type 0 where
   pub offsets : List ℕ
   pub statuses : List ℕ
 
+-- a frame, and what it holds
 pub record World : Type 0 where
   pub frame : Frame
   pub content : Content
@@ -89,6 +90,7 @@ abbrev pub lowest_free : {A : Type 0} → List (Option A) → Option ℕ
 lowest_free table = position is_none table
 
 -- ---- objects
+-- what an object is
 abbrev pub is_file : Object → Bool
 is_file o = elim o.kind [ kind.File ↦ true | _ ↦ false ]
 
@@ -128,6 +130,7 @@ abbrev pub living : Option Process → Option Process
 living None = None
 living (Some p) = if p.ended then None else Some p
 
+-- whether a process lives
 abbrev pub lives : Frame → ℕ → Bool
 lives f pid = option_map_or (λ p. not p.ended) (at f.processes pid) false
 
@@ -135,6 +138,7 @@ lives f pid = option_map_or (λ p. not p.ended) (at f.processes pid) false
 abbrev pub is_ended : Option Process → Bool
 is_ended p = option_map_or (λ q. q.ended) p false
 
+-- whether an open entry of that mode serves for reading, and for writing
 abbrev pub may_read : Mode → Bool
 may_read mode.Read = true
 may_read mode.Both = true

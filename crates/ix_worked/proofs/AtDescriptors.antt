@@ -144,7 +144,7 @@ going_too_far_ran = lines_given (opening_world desk) 1 (calls going_too_far)
     ∷ refused far refusal.TooBig
     ∷ [])
     ((simp labels refl, refl) ⨾ (refl, refl) ⨾ (refl, refl) ⨾ (refl, refl)
-    ⨾ (refl, refl) ⨾ (refl, refl) ⨾ (refl, refl) ⨾ (refl, refl)
+    ⨾ (refl, refl) ⨾ (refl, refl) ⨾ (simp labels refl, refl) ⨾ (refl, refl)
     ⨾ tt)
 
 pub claiming_a_file_ran : Goes desk claiming_a_file
@@ -174,10 +174,13 @@ letting_go_ran = lines_given (opening_world desk) 1 (calls letting_go)
     ∷ number shared 2
     ∷ refused shared refusal.NotClaimed
     ∷ refused shared refusal.PexHeld
+    ∷ refused shared refusal.PexHeld
     ∷ done (claimed_by 4 None None shared)
+    ∷ answered (claimed_by 4 (Some 2) None shared) reply.Half
     ∷ [])
     ((refl, refl) ⨾ (refl, refl) ⨾ (refl, refl) ⨾ (refl, refl)
-    ⨾ (refl, refl) ⨾ (refl, refl) ⨾ (refl, refl) ⨾ tt)
+    ⨾ (refl, refl) ⨾ (refl, refl) ⨾ (refl, refl) ⨾ (refl, refl)
+    ⨾ (refl, refl) ⨾ tt)
 
 -- The first entry and the last are taken by themselves, and those between them at once.
 opens_the_first : step at_long_desk 1 1 (op.OpenAt (in_root (codes "n")) mode.Read) ≡ number long_reading 0
@@ -188,7 +191,7 @@ copies : run long_reading 2 (calls copying) ≡ all_used
 unfolding running worlds
 copies = refl
 
-has_none_left : step all_used 35 1 (op.OpenAt (in_root (codes "n")) mode.Read) ≡ refused all_used refusal.NoFd
+has_none_left : step all_used 36 1 (op.OpenAt (in_root (codes "n")) mode.Read) ≡ refused all_used refusal.NoFd
 unfolding running worlds
 has_none_left = simp labels refl
 
@@ -198,7 +201,7 @@ using_all_ran =
     let e : Event = by 1 (op.OpenAt (in_root (codes "n")) mode.Read) in
     ap (λ g. line_of e g ∷ lines_of g.world 2 (calls copying ++ e ∷ [])) opens_the_first
     ∙ ap (λ ls. line_of e (number long_reading 0) ∷ ls) (lines_more long_reading 2 (calls copying) (e ∷ [])
-    ∙ ap (λ w. lines_of long_reading 2 (calls copying) ++ lines_of w 35 (e ∷ [])) copies
+    ∙ ap (λ w. lines_of long_reading 2 (calls copying) ++ lines_of w 36 (e ∷ [])) copies
     ∙ ap (λ g. lines_of long_reading 2 (calls copying) ++ line_of e g ∷ []) has_none_left)
 
 pub opening_all_ran : Goes desk opening_all
@@ -210,12 +213,13 @@ opening_all_ran = lines_given (opening_world desk) 1 (calls opening_all)
     ∷ refused three_open refusal.NoOpen
     ∷ number all_open 3
     ∷ refused all_open refusal.NoOpen
+    ∷ refused all_open refusal.NoOpen
     ∷ number (with_fd 1 4 (Some 0) all_open) 4
     ∷ number (with_child 1 (with_fd 1 4 (Some 0) all_open)) 2
     ∷ [])
     ((simp labels refl, refl) ⨾ (simp labels refl, refl) ⨾ (simp labels refl, refl) ⨾ (refl, refl)
     ⨾ (simp labels refl, refl) ⨾ (simp labels refl, refl) ⨾ (refl, refl) ⨾ (refl, refl)
-    ⨾ tt)
+    ⨾ (refl, refl) ⨾ tt)
 
 pub making_pipes_ran : Goes desk making_pipes
 unfolding running worlds
@@ -304,9 +308,9 @@ writing_in_the_middle_ran = lines_given (opening_world desk) 1 (calls writing_in
     ∷ done (moved 0 0 longer)
     ∷ bytes (moved 0 4 longer) (97 ∷ 88 ∷ 0 ∷ 0 ∷ [])
     ∷ [])
-    ((simp labels refl, refl) ⨾ (refl, refl) ⨾ (simp labels refl, refl) ⨾ (simp labels refl, refl)
-    ⨾ (simp labels refl, refl) ⨾ (simp labels refl, refl) ⨾ (refl, refl) ⨾ (simp labels refl, refl)
-    ⨾ (refl, refl) ⨾ (simp labels refl, refl) ⨾ tt)
+    ((simp labels refl, refl) ⨾ (simp labels refl, refl) ⨾ (simp labels refl, refl) ⨾ (simp labels refl, refl)
+    ⨾ (simp labels refl, refl) ⨾ (simp labels refl, refl) ⨾ (simp labels refl, refl) ⨾ (simp labels refl, refl)
+    ⨾ (simp labels refl, refl) ⨾ (simp labels refl, refl) ⨾ tt)
 
 pub using_numbers_again_ran : Goes desk using_numbers_again
 unfolding running worlds

@@ -11,13 +11,13 @@ use Rattle.ix_model.specs.declared.call.Mode.TheVariants as mode
 use Rattle.ix_model.specs.declared.refusal.Refusal.TheVariants as refusal
 use Rattle.ix_model.specs.declared.reply.Kind.TheVariants as kind
 use Rattle.ix_model.specs.declared.reply.Reply.TheVariants as reply
-use Rattle.ix_worked.specs.OnLabels.{stiff_house, moving_what_is_frozen, two_steps, program, walking_too_high, handing_on, handing_on_log, levels, no_lines, officers, heights, low_house, pair, chest, holding_down, setting_labels, setting_ceilings, freezing, acting_without_a_line, acting, acting_log, finding_what_is_high, setting_high, looking_into_an_empty_pipe, making_names_high, raising_ceilings, raising_ceilings_log}
-use Rattle.ix_worked.specs.Scripts.{three, five, log_line}
+use Rattle.ix_worked.specs.OnLabels.{towers, looking_in_vain, reading_each_line, stiff_house, moving_what_is_frozen, two_steps, program, walking_too_high, handing_on, handing_on_log, levels, no_lines, officers, heights, low_house, pair, chest, holding_down, setting_labels, setting_ceilings, freezing, acting_without_a_line, acting, acting_log, finding_what_is_high, setting_high, looking_into_an_empty_pipe, making_names_high, raising_ceilings, raising_ceilings_log}
+use Rattle.ix_worked.specs.Scripts.{three, five, three_and_five, log_line}
 use Rattle.ix_worked.specs.Sessions.{log_of, calls, Goes}
 use Rattle.ix_worked.proofs.Chains.{◌⨾◌, Gives, number, bytes, refused, answered, done, log_given, lines_given}
 use Rattle.ix_worked.proofs.Computing.{running, auditing, fitting}
 use Rattle.ix_worked.proofs.Labels.{labels}
-use Rattle.ix_worked.proofs.Worlds.{with_made, with_process, with_object, with_line, floated, raised, opened, with_entry, with_pipe, with_child}
+use Rattle.ix_worked.proofs.Worlds.{marked, with_made, with_process, with_object, with_line, floated, raised, opened, with_entry, with_pipe, with_child}
 
 -- ---- the configs are valid
 pub levels_fits : is_valid levels ≡ true
@@ -128,7 +128,7 @@ secret_open : World
 secret_open = with_entry 2 2 2 (opened 1 mode.Read) two_there
 
 child_high : World
-child_high = floated 2 five secret_open
+child_high = marked 2 five (floated 2 five secret_open)
 
 pipe_high : World
 pipe_high = raised 4 five child_high
@@ -147,6 +147,9 @@ ceiling_low = with_line (log_line 1 1 act.Ceiling 2 top three) (with_process 2 (
 
 ceiling_high : World
 ceiling_high = with_line (log_line 2 1 act.Ceiling 2 three top) (with_process 2 (λ p. record p { ceiling = top }) ceiling_low)
+
+child_ceiling_high : World
+child_ceiling_high = with_line (log_line 5 1 act.Ceiling 3 three top) (with_child 1 ceiling_high)
 
 at_heights : World
 at_heights = opening_world heights
@@ -176,7 +179,7 @@ d_high = with_process 4 (λ p. record p { label = five }) c_high
 worlds : ℕ
 unfolding at_levels opened_high held_down raised_file frozen_file lower forked child_low grandchild at_no_lines stiff
     at_officers stopped thawed given granted read_it executed lowered dropped at_low_house file_at_three at_pair pair_piped
-    two_there secret_open child_high pipe_high at_chest chest_filed chest_closed ceiling_low ceiling_high at_heights
+    two_there secret_open child_high pipe_high at_chest chest_filed chest_closed ceiling_low ceiling_high child_ceiling_high at_heights
     high_open gone_there frozen_high a_high b_high c_high d_high
 worlds = 0
 
@@ -217,12 +220,13 @@ setting_ceilings_ran = lines_given (opening_world levels) 1 (calls setting_ceili
     ∷ refused lower refusal.NoCapability
     ∷ number forked 4
     ∷ done child_low
+    ∷ refused child_low refusal.NoCapability
     ∷ number grandchild 5
     ∷ refused grandchild refusal.NoCapability
     ∷ [])
     ((simp labels refl, refl) ⨾ (simp labels refl, refl) ⨾ (simp labels refl, refl) ⨾ (simp labels refl, refl)
-    ⨾ (simp labels refl, refl) ⨾ (refl, refl) ⨾ (simp labels refl, refl) ⨾ (refl, refl)
-    ⨾ (simp labels refl, refl) ⨾ tt)
+    ⨾ (simp labels refl, refl) ⨾ (refl, refl) ⨾ (simp labels refl, refl) ⨾ (simp labels refl, refl)
+    ⨾ (refl, refl) ⨾ (simp labels refl, refl) ⨾ tt)
 
 pub freezing_ran : Goes levels freezing
 unfolding running worlds
@@ -342,12 +346,17 @@ abbrev raising_ceilings_given : List Given
 raising_ceilings_given =
     done ceiling_low
     ∷ done ceiling_high
-    ∷ done (with_process 1 (λ p. record p { ceiling = three }) ceiling_high)
+    ∷ number (with_child 1 ceiling_high) 3
+    ∷ done (with_process 3 (λ p. record p { ceiling = three }) (with_child 1 ceiling_high))
+    ∷ done child_ceiling_high
+    ∷ done (with_process 1 (λ p. record p { ceiling = three }) child_ceiling_high)
     ∷ []
 
 raising_ceilings_steps : Gives (opening_world officers) 1 (calls raising_ceilings) raising_ceilings_given
 unfolding running worlds
-raising_ceilings_steps = ((simp labels refl, refl) ⨾ (simp labels refl, refl) ⨾ (simp labels refl, refl) ⨾ tt)
+raising_ceilings_steps =
+    (simp labels refl, refl) ⨾ (simp labels refl, refl) ⨾ (refl, refl) ⨾ (simp labels refl, refl)
+    ⨾ (simp labels refl, refl) ⨾ (simp labels refl, refl) ⨾ tt
 
 pub raising_ceilings_ran : Goes officers raising_ceilings
 unfolding running worlds
@@ -435,6 +444,7 @@ moving_what_is_frozen_ran = lines_given (opening_world stiff_house) 1 (calls mov
     (number frozen_open 0
     ∷ refused frozen_open refusal.FileFrozen
     ∷ refused frozen_open refusal.FileFrozen
+    ∷ refused frozen_open refusal.FileFrozen
     ∷ refused frozen_open refusal.FsCeiling
     ∷ refused frozen_open refusal.FsCeiling
     ∷ refused frozen_open refusal.NotFound
@@ -445,4 +455,79 @@ moving_what_is_frozen_ran = lines_given (opening_world stiff_house) 1 (calls mov
     ∷ [])
     ((simp labels refl, refl) ⨾ (simp labels refl, refl) ⨾ (simp labels refl, refl) ⨾ (simp labels refl, refl)
     ⨾ (simp labels refl, refl) ⨾ (simp labels refl, refl) ⨾ (simp labels refl, refl) ⨾ (simp labels refl, refl)
-    ⨾ (refl, refl) ⨾ (simp labels refl, refl) ⨾ tt)
+    ⨾ (simp labels refl, refl) ⨾ (refl, refl) ⨾ (simp labels refl, refl) ⨾ tt)
+
+pub towers_fits : is_valid towers ≡ true
+unfolding fitting
+towers_fits = simp labels refl
+
+at_towers : World
+at_towers = opening_world towers
+
+first_saw : World
+first_saw = floated 1 five at_towers
+
+second_saw : World
+second_saw = floated 2 five first_saw
+
+third_saw : World
+third_saw = floated 3 five second_saw
+
+fourth_saw : World
+fourth_saw = floated 4 five third_saw
+
+fifth_saw : World
+fifth_saw = floated 5 five fourth_saw
+
+pub looking_in_vain_ran : Goes towers looking_in_vain
+unfolding running at_towers first_saw second_saw third_saw fourth_saw fifth_saw
+looking_in_vain_ran = lines_given (opening_world towers) 1 (calls looking_in_vain)
+    (refused first_saw refusal.NotDir
+    ∷ refused second_saw refusal.IsDir
+    ∷ refused third_saw refusal.Exists
+    ∷ refused fourth_saw refusal.NotEmpty
+    ∷ refused fifth_saw refusal.CrossFs
+    ∷ refused (floated 6 five fifth_saw) refusal.NotFound
+    ∷ [])
+    ((simp labels refl, refl) ⨾ (simp labels refl, refl) ⨾ (simp labels refl, refl) ⨾ (simp labels refl, refl)
+    ⨾ (simp labels refl, refl) ⨾ (simp labels refl, refl) ⨾ tt)
+
+-- ---- the lines of what is done
+file_given : World
+file_given = with_line (record (log_line 1 1 act.SetPriv 1 bottom three) { cap = to_lower; lic = to_thaw }) (with_object 1 (λ x. record x { label = three; cap = to_lower; lic = to_thaw }) at_officers)
+
+both_raised : World
+both_raised = floated 1 three_and_five (raised 1 three_and_five file_given)
+
+one_held : World
+one_held = with_line (log_line 4 1 act.Ceiling 2 top three) (with_process 2 (λ p. record p { ceiling = three }) both_raised)
+
+file_thawed : World
+file_thawed = with_line (log_line 5 1 act.ThawFile 2 bottom bottom) (with_object 2 (λ x. record x { frozen = false }) one_held)
+
+first_read : World
+first_read = with_line (log_line 7 1 act.ReadLog 0 three_and_five three_and_five) file_thawed
+
+second_read : World
+second_read = with_line (log_line 8 1 act.ReadLog 1 three_and_five three_and_five) first_read
+
+third_read : World
+third_read = with_line (log_line 9 1 act.ReadLog 2 three_and_five three_and_five) second_read
+
+pub reading_each_line_ran : Goes officers reading_each_line
+unfolding running at_officers file_given both_raised one_held file_thawed first_read second_read third_read
+reading_each_line_ran = lines_given (opening_world officers) 1 (calls reading_each_line)
+    (done file_given
+    ∷ done (raised 1 three_and_five file_given)
+    ∷ done both_raised
+    ∷ done one_held
+    ∷ done file_thawed
+    ∷ answered file_thawed (reply.Stat (record { 0 = 2 }) kind.File 0 1 false no_privileges no_privileges)
+    ∷ answered first_read (reply.LogLine (record (log_line 1 1 act.SetPriv 1 bottom three) { cap = to_lower; lic = to_thaw }))
+    ∷ answered second_read (reply.LogLine (log_line 4 1 act.Ceiling 2 top three))
+    ∷ answered third_read (reply.LogLine (log_line 5 1 act.ThawFile 2 bottom bottom))
+    ∷ refused third_read refusal.EndOfList
+    ∷ [])
+    ((simp labels refl, refl) ⨾ (simp labels refl, refl) ⨾ (simp labels refl, refl) ⨾ (simp labels refl, refl)
+    ⨾ (simp labels refl, refl) ⨾ (simp labels refl, refl) ⨾ (refl, refl) ⨾ (refl, refl)
+    ⨾ (refl, refl) ⨾ (refl, refl) ⨾ tt)

@@ -1,5 +1,6 @@
 -- The short histories of the calls on paths, entry by entry.
 use Rattle.std.proofs.Common.{◌≡◌, ℕ, true, false, [], ◌∷◌, None, replicate, refl, codes}
+use Rattle.ix_label.specs.Category.{bottom}
 use Rattle.ix_model.specs.Directories.{with_name, without_name}
 use Rattle.ix_model.specs.Opening.{opening_world}
 use Rattle.ix_model.specs.Privs.{no_privileges}
@@ -9,7 +10,8 @@ use Rattle.ix_model.specs.declared.call.Mode.TheVariants as mode
 use Rattle.ix_model.specs.declared.refusal.Refusal.TheVariants as refusal
 use Rattle.ix_model.specs.declared.reply.Kind.TheVariants as kind
 use Rattle.ix_model.specs.declared.reply.Reply.TheVariants as reply
-use Rattle.ix_worked.specs.OnPaths.{crowded, poor, making_without_room, asking_without_room, full_with_a_root, making_one_name_more, freeing_blocks, unlinking_one_of_two, shelves, furnished, full, tight, seeking, looking_into_a_file, using_a_directory, making_again, crossing, removing_a_home, making_files, making_names, asking_for_objects, unlinking_an_open_file, looking_around, working_in_a_directory, sharing_blocks}
+use Rattle.ix_worked.specs.OnPaths.{attic, naming_high, crowded, poor, making_without_room, asking_without_room, full_with_a_root, making_one_name_more, freeing_blocks, unlinking_one_of_two, shelves, furnished, full, tight, seeking, looking_into_a_file, using_a_directory, making_again, crossing, removing_a_home, making_files, making_names, asking_for_objects, unlinking_an_open_file, looking_around, working_in_a_directory, sharing_blocks}
+use Rattle.ix_worked.specs.Scripts.{three}
 use Rattle.ix_worked.specs.Sessions.{calls, Goes}
 use Rattle.ix_worked.proofs.Chains.{◌⨾◌, number, bytes, refused, answered, done, lines_given}
 use Rattle.ix_worked.proofs.Computing.{running, fitting}
@@ -110,16 +112,17 @@ worlds = 0
 pub seeking_ran : Goes shelves seeking
 unfolding running worlds
 seeking_ran = lines_given (opening_world shelves) 1 (calls seeking)
-    (replicate 7 (refused at_shelves refusal.NotFound))
+    (replicate 8 (refused at_shelves refusal.NotFound))
     ((simp labels refl, refl) ⨾ (simp labels refl, refl) ⨾ (simp labels refl, refl) ⨾ (simp labels refl, refl)
-    ⨾ (simp labels refl, refl) ⨾ (simp labels refl, refl) ⨾ (simp labels refl, refl) ⨾ tt)
+    ⨾ (simp labels refl, refl) ⨾ (simp labels refl, refl) ⨾ (simp labels refl, refl) ⨾ (simp labels refl, refl)
+    ⨾ tt)
 
 pub looking_into_a_file_ran : Goes shelves looking_into_a_file
 unfolding running worlds
 looking_into_a_file_ran = lines_given (opening_world shelves) 1 (calls looking_into_a_file)
-    (replicate 6 (refused at_shelves refusal.NotDir))
+    (replicate 7 (refused at_shelves refusal.NotDir))
     ((simp labels refl, refl) ⨾ (simp labels refl, refl) ⨾ (simp labels refl, refl) ⨾ (simp labels refl, refl)
-    ⨾ (simp labels refl, refl) ⨾ (simp labels refl, refl) ⨾ tt)
+    ⨾ (simp labels refl, refl) ⨾ (simp labels refl, refl) ⨾ (simp labels refl, refl) ⨾ tt)
 
 pub using_a_directory_ran : Goes shelves using_a_directory
 unfolding running worlds
@@ -255,7 +258,7 @@ sharing_blocks_ran = lines_given (opening_world tight) 1 (calls sharing_blocks)
     ∷ refused tight_both refusal.NoSpace
     ∷ number (moved 1 512 (holding 5 (replicate 512 65) [] tight_both)) 512
     ∷ [])
-    ((simp labels refl, refl) ⨾ (refl, refl) ⨾ (simp labels refl, refl) ⨾ (refl, refl)
+    ((simp labels refl, refl) ⨾ (refl, refl) ⨾ (simp labels refl, refl) ⨾ (simp labels refl, refl)
     ⨾ (simp labels refl, refl) ⨾ (refl, refl) ⨾ (simp labels refl, refl) ⨾ (simp labels refl, refl)
     ⨾ (simp labels refl, refl) ⨾ (refl, refl) ⨾ (simp labels refl, refl) ⨾ tt)
 
@@ -350,3 +353,30 @@ asking_without_room_ran = lines_given (opening_world poor) 1 (calls asking_witho
     ∷ [])
     ((simp labels refl, refl) ⨾ (simp labels refl, refl) ⨾ (simp labels refl, refl) ⨾ (simp labels refl, refl)
     ⨾ (refl, refl) ⨾ (refl, refl) ⨾ (refl, refl) ⨾ tt)
+
+pub attic_fits : is_valid attic ≡ true
+unfolding fitting
+attic_fits = simp labels refl
+
+at_attic : World
+at_attic = opening_world attic
+
+named_high : World
+named_high = with_object 1 (λ d. with_name (codes "k") 2 (record d { label = three })) at_attic
+
+removed_high : World
+removed_high = with_object 0 (λ d. without_name (codes "e") (record d { label = three })) (with_new 3 None named_high)
+
+pub naming_high_ran : Goes attic naming_high
+unfolding running at_attic named_high removed_high
+naming_high_ran = lines_given (opening_world attic) 1 (calls naming_high)
+    (done named_high
+    ∷ answered named_high (reply.Lab three)
+    ∷ answered named_high (reply.Lab bottom)
+    ∷ done removed_high
+    ∷ answered removed_high (reply.Lab three)
+    ∷ refused removed_high refusal.NotFound
+    ∷ number (with_made kind.Dir 0 0 (codes "e") 3 removed_high) 3
+    ∷ [])
+    ((simp labels refl, refl) ⨾ (simp labels refl, refl) ⨾ (simp labels refl, refl) ⨾ (simp labels refl, refl)
+    ⨾ (simp labels refl, refl) ⨾ (simp labels refl, refl) ⨾ (simp labels refl, refl) ⨾ tt)

@@ -5,12 +5,13 @@ use Rattle.ix_model.specs.Valid.{is_valid}
 use Rattle.ix_model.specs.World.{World, put}
 use Rattle.ix_model.specs.declared.refusal.Refusal.TheVariants as refusal
 use Rattle.ix_model.specs.declared.reply.Reply.TheVariants as reply
-use Rattle.ix_worked.specs.OnProcesses.{ending_with_a_pipe, keeping_some, family, calling_as_nobody, calling_after_the_end, forking_often, waiting_for_a_child, ending_first, ending_out_of_order}
+use Rattle.ix_worked.specs.OnProcesses.{house, forking_as_it_is, ending_with_a_pipe, keeping_some, family, calling_as_nobody, calling_after_the_end, forking_often, waiting_for_a_child, ending_first, ending_out_of_order}
+use Rattle.ix_worked.specs.Scripts.{three}
 use Rattle.ix_worked.specs.Sessions.{calls, Goes}
 use Rattle.ix_worked.proofs.Chains.{◌⨾◌, number, refused, answered, done, lines_given}
 use Rattle.ix_worked.proofs.Computing.{running, fitting}
 use Rattle.ix_worked.proofs.Labels.{labels}
-use Rattle.ix_worked.proofs.Worlds.{with_pipe, with_process, with_child, with_ended, without_process}
+use Rattle.ix_worked.proofs.Worlds.{with_pipe, with_process, floated, with_child, with_ended, without_process}
 
 -- ---- the configs are valid
 pub family_fits : is_valid family ≡ true
@@ -181,3 +182,39 @@ keeping_some_ran = lines_given (opening_world family) 1 (calls keeping_some)
     ∷ [])
     ((refl, refl) ⨾ (refl, refl) ⨾ (refl, refl) ⨾ (refl, refl)
     ⨾ (refl, refl) ⨾ (simp labels refl, refl) ⨾ tt)
+
+pub house_fits : is_valid house ≡ true
+unfolding fitting
+house_fits = simp labels refl
+
+at_house : World
+at_house = opening_world house
+
+raised_and_held : World
+raised_and_held = with_process 1 (λ p. record p { label = three; ceiling = three }) at_house
+
+gone_to_d : World
+gone_to_d = with_process 1 (λ p. record p { cwd = 1 }) raised_and_held
+
+child_in_d : World
+child_in_d = with_child 1 gone_to_d
+
+parent_frozen : World
+parent_frozen = with_process 1 (λ p. record p { frozen = true }) child_in_d
+
+pub forking_as_it_is_ran : Goes house forking_as_it_is
+unfolding running at_house raised_and_held gone_to_d child_in_d parent_frozen
+forking_as_it_is_ran = lines_given (opening_world house) 1 (calls forking_as_it_is)
+    (done (floated 1 three at_house)
+    ∷ done raised_and_held
+    ∷ done gone_to_d
+    ∷ number child_in_d 2
+    ∷ answered child_in_d (reply.Lab three)
+    ∷ refused child_in_d refusal.ProcCeiling
+    ∷ done parent_frozen
+    ∷ number (with_child 1 parent_frozen) 3
+    ∷ refused (with_child 1 parent_frozen) refusal.ProcFrozen
+    ∷ [])
+    ((simp labels refl, refl) ⨾ (simp labels refl, refl) ⨾ (simp labels refl, refl) ⨾ (refl, refl)
+    ⨾ (simp labels refl, refl) ⨾ (simp labels refl, refl) ⨾ (refl, refl) ⨾ (refl, refl)
+    ⨾ (simp labels refl, refl) ⨾ tt)

@@ -1,6 +1,6 @@
 -- The words that the sessions are evaluated through. All words on labels stay closed.
 use Rattle.std.proofs.Common.{ℕ}
-use Rattle.ix_model.specs.Rows.{◌>>=◌, ◌>>◌, on_pass, need, some, only_if, pass, refuse, frame, process, object, record_of, change_process, change_object, put_object, put_process, add_process, put_open, observe, affect}
+use Rattle.ix_model.specs.Rows.{◌>>=◌, ◌>>◌, on_pass, need, some, only_if, pass, refuse, frame, process, object, record_of, change_process, change_object, put_object, put_process, add_process, put_open, change_open, observe, affect}
 use Rattle.ix_model.specs.Walks.{walked_to, found_object, object_at, found_spot, spot_at, vacant, missing, behind, opened}
 use Rattle.ix_model.specs.Lifetimes.{let_go_object, let_go_open, let_go_claim, let_go, let_go_if_held, let_go_each, let_go_all}
 use Rattle.ix_model.specs.Auditing.{entitled, log_has_room, exercise, logged}
@@ -8,7 +8,7 @@ use Rattle.ix_model.specs.Numbers.{free_inode, free_pipe}
 use Rattle.ix_model.specs.Directories.{has_room_for_a_name}
 use Rattle.ix_model.specs.Privs.{has_all, either_of, without}
 use Rattle.ix_model.specs.OnPaths.{make, create_at, make_dir, link_at, unlink_at, remove_dir, open_at, change_dir, stat_at, list_at}
-use Rattle.ix_model.specs.OnDescriptors.{read_fd, write_fd, cut_fd, seek_fd, dup_fd, close_fd, make_pipe, claimed, pex, unpex}
+use Rattle.ix_model.specs.OnDescriptors.{float_entry, read_fd, write_fd, cut_fd, seek_fd, dup_fd, close_fd, make_pipe, claimed, pex, unpex}
 use Rattle.ix_model.specs.OnProcesses.{fork, exec, end_process, exit, wait_child}
 use Rattle.ix_model.specs.OnLabels.{label_of, self_label, allowed, movable, set_label, set_self, freeze, freeze_self, thaw, thaw_self, set_priv, drop_lic, grant_lic, set_ceiling, read_log}
 use Rattle.ix_model.specs.Table.{row, verdict}
@@ -23,14 +23,14 @@ use Rattle.ix_model.specs.Valid.{is_valid, is_flat, fss_fit, limits_fit, procs_f
 -- the words of the rows
 unfoldable pub wording : ℕ
 unfolding ◌>>=◌ ◌>>◌ on_pass need some only_if pass refuse frame process object record_of change_process change_object
-    put_object put_process add_process put_open observe affect walked_to found_object object_at found_spot spot_at vacant missing behind
+    put_object put_process add_process put_open change_open observe affect walked_to found_object object_at found_spot spot_at vacant missing behind
     opened let_go_object let_go_open let_go_claim let_go let_go_if_held let_go_each let_go_all entitled log_has_room
     exercise logged free_inode free_pipe has_room_for_a_name has_all either_of without
 wording = 0
 
 -- the rows
 unfoldable pub deciding : ℕ
-unfolding make create_at make_dir link_at unlink_at remove_dir open_at change_dir stat_at list_at read_fd write_fd
+unfolding float_entry make create_at make_dir link_at unlink_at remove_dir open_at change_dir stat_at list_at read_fd write_fd
     cut_fd seek_fd dup_fd close_fd make_pipe claimed pex unpex fork exec end_process exit wait_child label_of self_label
     allowed movable set_label set_self freeze freeze_self thaw thaw_self set_priv drop_lic grant_lic set_ceiling read_log
     row verdict

@@ -7,12 +7,12 @@ use Rattle.ix_model.specs.World.{World}
 use Rattle.ix_model.specs.declared.call.Mode.TheVariants as mode
 use Rattle.ix_model.specs.declared.refusal.Refusal.TheVariants as refusal
 use Rattle.ix_worked.specs.FrozenFile.{a_frozen_file, writing_to_it, writing_to_it_shows}
-use Rattle.ix_worked.specs.Scripts.{in_root}
+use Rattle.ix_worked.specs.Scripts.{three, in_root}
 use Rattle.ix_worked.specs.Sessions.{shown}
 use Rattle.ix_worked.proofs.Chains.{◌⨾◌, Steps, Gives, number, refused, shown_by, shown_given}
 use Rattle.ix_worked.proofs.Computing.{running}
 use Rattle.ix_worked.proofs.Labels.{labels}
-use Rattle.ix_worked.proofs.Worlds.{opened, with_entry, moved, holding}
+use Rattle.ix_worked.proofs.Worlds.{marked, opened, with_entry, moved, holding}
 
 -- ---- the worlds, in order
 at_first : World
@@ -22,7 +22,7 @@ one_open : World
 one_open = with_entry 1 0 0 (opened 1 mode.Write) at_first
 
 written : World
-written = moved 0 1 (holding 1 (codes "A") [] one_open)
+written = marked 0 three (moved 0 1 (holding 1 (codes "A") [] one_open))
 
 both_open : World
 both_open = with_entry 2 0 1 (opened 1 mode.Write) written

@@ -63,7 +63,7 @@ cuts = (simp labels refl, refl)
 
 seeks : Steps cut 5 1 (op.SeekFd 0 5) (done at_five)
 unfolding running worlds
-seeks = (refl, refl)
+seeks = (simp labels refl, refl)
 
 writes : Steps at_five 6 1 (op.WriteFd 0 (codes "B")) (number written 1)
 unfolding running worlds
@@ -71,7 +71,7 @@ writes = (simp labels refl, refl)
 
 goes_back : Steps written 7 1 (op.SeekFd 0 0) (done at_start)
 unfolding running worlds
-goes_back = (refl, refl)
+goes_back = (simp labels refl, refl)
 
 reads : Steps at_start 8 1 (op.ReadFd 0 8) (bytes read_all (0 ∷ 0 ∷ 0 ∷ 0 ∷ 0 ∷ 66 ∷ []))
 unfolding running worlds

@@ -15,7 +15,7 @@ use Rattle.ix_worked.specs.WaitingLow.{waiting_low, waiting_low_shows}
 use Rattle.ix_worked.proofs.Chains.{◌⨾◌, Steps, Gives, number, bytes, refused, done, shown_by, shown_given, log_given}
 use Rattle.ix_worked.proofs.Computing.{running, auditing}
 use Rattle.ix_worked.proofs.Labels.{labels}
-use Rattle.ix_worked.proofs.Worlds.{with_process, floated, opened, with_entry, without_entry, moved, with_child, with_ended}
+use Rattle.ix_worked.proofs.Worlds.{marked, with_process, floated, opened, with_entry, without_entry, moved, with_child, with_ended}
 
 -- ---- the worlds, in order
 at_first : World
@@ -28,7 +28,7 @@ one_open : World
 one_open = with_entry 2 0 0 (opened 1 mode.Read) forked
 
 read_once : World
-read_once = moved 0 1 (floated 2 four one_open)
+read_once = marked 0 four (moved 0 1 (floated 2 four one_open))
 
 ended : World
 ended = with_ended 2 9 (without_entry 0 read_once)

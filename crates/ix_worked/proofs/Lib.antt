@@ -21,8 +21,10 @@ mod Piped
 mod Claimed
 mod Copied
 mod LoggedIn
+mod ReadFar
 mod AtDescriptors
 mod AtPaths
 mod AtProcesses
 mod AtLabels
+mod AtEntries
 mod Fitting

@@ -18,7 +18,7 @@ use Rattle.ix_worked.specs.Sessions.{shown, log_of}
 use Rattle.ix_worked.proofs.Chains.{◌⨾◌, Steps, Gives, number, bytes, refused, answered, done, shown_by, shown_given, log_given}
 use Rattle.ix_worked.proofs.Computing.{running, auditing}
 use Rattle.ix_worked.proofs.Labels.{labels}
-use Rattle.ix_worked.proofs.Worlds.{with_made, with_process, with_line, floated, raised, opened, with_entry, moved, holding, with_pipe, claimed_by, with_child}
+use Rattle.ix_worked.proofs.Worlds.{marked, with_made, with_process, with_line, floated, raised, opened, with_entry, moved, holding, with_pipe, claimed_by, with_child}
 
 -- ---- the worlds, in order
 at_first : World
@@ -91,7 +91,7 @@ plan_open : World
 plan_open = with_entry 3 0 4 (opened 4 mode.Read) mailed
 
 plan_read : World
-plan_read = moved 4 2 (floated 3 two_and_five plan_open)
+plan_read = marked 4 two_and_five (moved 4 2 (floated 3 two_and_five plan_open))
 
 reported : World
 reported = with_made kind.File 0 2 (codes "rep") 6 plan_read
@@ -100,7 +100,7 @@ report_open : World
 report_open = with_entry 3 1 5 (opened 6 mode.Write) reported
 
 report_written : World
-report_written = raised 6 two_and_five (moved 5 8 (holding 6 (codes "q3 is up") [] report_open))
+report_written = marked 5 two_and_five (raised 6 two_and_five (moved 5 8 (holding 6 (codes "q3 is up") [] report_open)))
 
 released : World
 released = with_process 3 (λ p. record p { cap = to_lower; own = no_privileges }) report_written

@@ -22,26 +22,26 @@ world low high label held opens =
     (file (codes "d") label held ∷ []) opens
 
 abbrev reads : ℕ → Opened
-reads offset = record { file = 1; mode = mode.Read; offset = offset }
+reads offset = record { file = 1; mode = mode.Read; label = bottom; offset = offset }
 
-abbrev writes : ℕ → Opened
-writes offset = record { file = 1; mode = mode.Write; offset = offset }
+abbrev writes : Categories → ℕ → Opened
+writes label offset = record { file = 1; mode = mode.Write; label = label; offset = offset }
 
 -- ---- the worlds, in order
 at_first : World
 at_first = world [] [] bottom (codes "xy") []
 
 one_open : World
-one_open = world [] (0 ∷ []) bottom (codes "xy") (writes 0 ∷ [])
+one_open = world [] (0 ∷ []) bottom (codes "xy") (writes bottom 0 ∷ [])
 
 both_open : World
-both_open = world (1 ∷ []) (0 ∷ []) bottom (codes "xy") (writes 0 ∷ reads 0 ∷ [])
+both_open = world (1 ∷ []) (0 ∷ []) bottom (codes "xy") (writes bottom 0 ∷ reads 0 ∷ [])
 
 read_once : World
-read_once = world (1 ∷ []) (0 ∷ []) bottom (codes "xy") (writes 0 ∷ reads 1 ∷ [])
+read_once = world (1 ∷ []) (0 ∷ []) bottom (codes "xy") (writes bottom 0 ∷ reads 1 ∷ [])
 
 raised : World
-raised = world (1 ∷ []) (0 ∷ []) seven (codes "Zy") (writes 1 ∷ reads 1 ∷ [])
+raised = world (1 ∷ []) (0 ∷ []) seven (codes "Zy") (writes seven 1 ∷ reads 1 ∷ [])
 
 -- ---- the steps from one to the next
 opening : opening_world held_low ≡ at_first

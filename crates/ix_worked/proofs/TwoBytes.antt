@@ -20,36 +20,36 @@ world label low high raised bytes opens =
     world_with usual_fs (record { spec = proc label top; holds = low } ∷ record { spec = proc seven top; holds = high } ∷ [])
     (file (codes "d") raised bytes ∷ file (codes "e") bottom (codes "ok") ∷ []) opens
 
-abbrev on_d : ℕ → Opened
-on_d offset = record { file = 1; mode = mode.Read; offset = offset }
+abbrev on_d : Categories → ℕ → Opened
+on_d label offset = record { file = 1; mode = mode.Read; label = label; offset = offset }
 
 abbrev on_e : ℕ → Opened
-on_e offset = record { file = 2; mode = mode.Read; offset = offset }
+on_e offset = record { file = 2; mode = mode.Read; label = bottom; offset = offset }
 
-abbrev writes_d : ℕ → Opened
-writes_d offset = record { file = 1; mode = mode.Write; offset = offset }
+abbrev writes_d : Categories → ℕ → Opened
+writes_d label offset = record { file = 1; mode = mode.Write; label = label; offset = offset }
 
 -- ---- the worlds, in order
 at_first : World
 at_first = world bottom [] [] bottom (0 ∷ []) []
 
 one_open : World
-one_open = world bottom [] (0 ∷ []) bottom (0 ∷ []) (writes_d 0 ∷ [])
+one_open = world bottom [] (0 ∷ []) bottom (0 ∷ []) (writes_d bottom 0 ∷ [])
 
 two_open : World
-two_open = world bottom (1 ∷ []) (0 ∷ []) bottom (0 ∷ []) (writes_d 0 ∷ on_d 0 ∷ [])
+two_open = world bottom (1 ∷ []) (0 ∷ []) bottom (0 ∷ []) (writes_d bottom 0 ∷ on_d bottom 0 ∷ [])
 
 all_open : World
-all_open = world bottom (1 ∷ 2 ∷ []) (0 ∷ []) bottom (0 ∷ []) (writes_d 0 ∷ on_d 0 ∷ on_e 0 ∷ [])
+all_open = world bottom (1 ∷ 2 ∷ []) (0 ∷ []) bottom (0 ∷ []) (writes_d bottom 0 ∷ on_d bottom 0 ∷ on_e 0 ∷ [])
 
 written : ℕ → ℕ → World
-written a b = world bottom (1 ∷ 2 ∷ []) (0 ∷ []) seven (a ∷ b ∷ []) (writes_d 2 ∷ on_d 0 ∷ on_e 0 ∷ [])
+written a b = world bottom (1 ∷ 2 ∷ []) (0 ∷ []) seven (a ∷ b ∷ []) (writes_d seven 2 ∷ on_d bottom 0 ∷ on_e 0 ∷ [])
 
 read_low : ℕ → ℕ → World
-read_low a b = world bottom (1 ∷ 2 ∷ []) (0 ∷ []) seven (a ∷ b ∷ []) (writes_d 2 ∷ on_d 0 ∷ on_e 2 ∷ [])
+read_low a b = world bottom (1 ∷ 2 ∷ []) (0 ∷ []) seven (a ∷ b ∷ []) (writes_d seven 2 ∷ on_d bottom 0 ∷ on_e 2 ∷ [])
 
 read_high : ℕ → ℕ → World
-read_high a b = world seven (1 ∷ 2 ∷ []) (0 ∷ []) seven (a ∷ b ∷ []) (writes_d 2 ∷ on_d 2 ∷ on_e 2 ∷ [])
+read_high a b = world seven (1 ∷ 2 ∷ []) (0 ∷ []) seven (a ∷ b ∷ []) (writes_d seven 2 ∷ on_d seven 2 ∷ on_e 2 ∷ [])
 
 -- ---- the steps from one to the next
 opening : opening_world two_levels ≡ at_first

@@ -13,7 +13,7 @@ use Rattle.ix_worked.specs.Waiting.{a_secret, waiting, waiting_shows}
 use Rattle.ix_worked.proofs.Chains.{◌⨾◌, Steps, Gives, number, bytes, answered, done, shown_by, shown_given}
 use Rattle.ix_worked.proofs.Computing.{running}
 use Rattle.ix_worked.proofs.Labels.{labels}
-use Rattle.ix_worked.proofs.Worlds.{floated, opened, with_entry, without_entry, moved, with_child, with_ended, without_process}
+use Rattle.ix_worked.proofs.Worlds.{marked, floated, opened, with_entry, without_entry, moved, with_child, with_ended, without_process}
 
 -- ---- the worlds, in order
 at_first : World
@@ -26,7 +26,7 @@ one_open : World
 one_open = with_entry 2 0 0 (opened 1 mode.Read) forked
 
 read_once : World
-read_once = moved 0 1 (floated 2 four one_open)
+read_once = marked 0 four (moved 0 1 (floated 2 four one_open))
 
 ended : World
 ended = with_ended 2 9 (without_entry 0 read_once)

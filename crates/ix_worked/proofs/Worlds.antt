@@ -1,6 +1,6 @@
 -- The worlds that the sessions go through, written out.
 use Rattle.std.proofs.Common.{ℕ, ◌+◌, ◌-◌, true, List, [], ◌∷◌, ◌++◌, Option, Some, None, option_map, map, length, replicate, slice_set}
-use Rattle.ix_label.specs.Category.{Categories}
+use Rattle.ix_label.specs.Category.{Categories, bottom}
 use Rattle.ix_model.specs.World.{World, Process, Object, Open, at, change, put}
 use Rattle.ix_model.specs.Opening.{process_of}
 use Rattle.ix_model.specs.OnPaths.{new_object}
@@ -21,10 +21,11 @@ pub record Holder : Type 0 where
   pub spec : ProcSpec
   pub holds : List ℕ
 
--- an open entry of a file, and its offset
+-- an open entry of a file, with its label and its offset
 pub record Opened : Type 0 where
   pub file : ℕ
   pub mode : Mode
+  pub label : Categories
   pub offset : ℕ
 
 -- these at the front of a table of so many
@@ -38,7 +39,7 @@ world_with fs holders files opens =
     record {
       frame = record w.frame {
         processes = None ∷ map (λ h. Some (record (process_of h.spec) { fds = front 32 None (map Some h.holds) })) holders;
-        opens = front usual_limits.opens None (map (λ e. Some (record { object = e.file; end = 0; mode = e.mode })) opens);
+        opens = front usual_limits.opens None (map (λ e. Some (record { object = e.file; end = 0; mode = e.mode; label = e.label })) opens);
       };
       content = record w.content { offsets = front usual_limits.opens 0 (map (λ e. e.offset) opens) };
     }
@@ -65,7 +66,11 @@ abbrev pub with_entry : ℕ → ℕ → ℕ → Open → World → World
 with_entry pid fd e entry w = with_process pid (λ p. record p { fds = put p.fds fd (Some e) }) (record w { frame = record w.frame { opens = put w.frame.opens e (Some entry) } })
 
 abbrev pub opened : ℕ → Mode → Open
-opened file mode = record { object = file; end = 0; mode = mode }
+opened file mode = record { object = file; end = 0; mode = mode; label = bottom }
+
+-- an open entry at a label
+abbrev pub marked : ℕ → Categories → World → World
+marked e label w = record w { frame = record w.frame { opens = change w.frame.opens e (λ x. record x { label = label }) } }
 
 -- what a descriptor of a process names
 abbrev pub with_fd : ℕ → ℕ → Option ℕ → World → World
@@ -94,8 +99,8 @@ with_made kind fs dir name o w = with_object dir (with_name name o) (with_new o 
 -- a pipe, and its ends under two descriptors of a process, by these open entries
 abbrev pub with_pipe : ℕ → ℕ → ℕ → ℕ → ℕ → ℕ → World → World
 with_pipe pid o a b d e w =
-    with_entry pid a d (record { object = o; end = 0; mode = mode.Both })
-    (with_entry pid b e (record { object = o; end = 1; mode = mode.Both }) (with_new o (Some (new_object kind.Pipe None)) w))
+    with_entry pid a d (record { object = o; end = 0; mode = mode.Both; label = bottom })
+    (with_entry pid b e (record { object = o; end = 1; mode = mode.Both; label = bottom }) (with_new o (Some (new_object kind.Pipe None)) w))
 
 -- a pipe with these claims
 abbrev pub claimed_by : ℕ → Option ℕ → Option ℕ → World → World

@@ -24,10 +24,10 @@ at_first : World
 at_first = world [] []
 
 one_open : World
-one_open = world (0 ∷ []) (record { file = 1; mode = mode.Both; offset = 0 } ∷ [])
+one_open = world (0 ∷ []) (record { file = 1; mode = mode.Both; label = bottom; offset = 0 } ∷ [])
 
 read_on : World
-read_on = world (0 ∷ []) (record { file = 1; mode = mode.Both; offset = 3 } ∷ [])
+read_on = world (0 ∷ []) (record { file = 1; mode = mode.Both; label = three; offset = 3 } ∷ [])
 
 -- ---- the steps from one to the next
 opening : opening_world low_files ≡ at_first

@@ -21,8 +21,10 @@ pub mod FullPipe
 pub mod Claims
 pub mod Copying
 pub mod Login
+pub mod SharedOffset
 pub mod OnDescriptors
 pub mod OnPaths
 pub mod OnProcesses
 pub mod OnLabels
+pub mod OnEntries
 pub mod Configs

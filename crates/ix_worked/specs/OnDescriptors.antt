@@ -18,13 +18,14 @@ use Rattle.std.specs.List.{range_with_len}
 abbrev pub desk : Config
 desk = small (proc bottom top ∷ []) (file (codes "n") bottom (codes "abc") ∷ [])
 
--- 30 copies of a descriptor, a pipe, and two more copies
+-- 30 copies of a descriptor, a pipe, two more copies, and a pipe again
 abbrev pub copying : List (Event × Line)
 copying =
     map (λ n. (by 1 (op.DupFd 0), gives (reply.Number n) [] bottom)) (range_with_len 1 30)
     ++ (by 1 op.MakePipe, refuses refusal.NoFd bottom)
     ∷ (by 1 (op.DupFd 0), gives (reply.Number 31) [] bottom)
     ∷ (by 1 (op.DupFd 0), refuses refusal.NoFd bottom)
+    ∷ (by 1 op.MakePipe, refuses refusal.NoFd bottom)
     ∷ []
 
 -- the same with as many open entries as descriptors
@@ -89,7 +90,7 @@ cutting_a_pipe =
     ∷ (by 1 (op.SeekFd 1 0), refuses refusal.IsPipe bottom)
     ∷ []
 
--- before the claim, and by a child after it
+-- before the claim, and by a child after it, which claims the end once it is let go
 abbrev pub letting_go : List (Event × Line)
 letting_go =
     (by 1 op.MakePipe, gives (reply.Two (record { 0 = 0 }) (record { 0 = 1 })) [] bottom)
@@ -98,7 +99,9 @@ letting_go =
     ∷ (by 1 (op.Fork keep.All), gives (reply.Number 2) [] bottom)
     ∷ (by 2 (op.Unpex 0), refuses refusal.NotClaimed bottom)
     ∷ (by 2 (op.WriteFd 0 []), refuses refusal.PexHeld bottom)
+    ∷ (by 2 (op.Pex 0), refuses refusal.PexHeld bottom)
     ∷ (by 1 (op.Unpex 0), gives reply.Done [] bottom)
+    ∷ (by 2 (op.Pex 0), gives reply.Half [] bottom)
     ∷ []
 
 -- 31 are in use before the pipe, and 32 after one copy more
@@ -116,6 +119,7 @@ opening_all =
     ∷ (by 1 op.MakePipe, refuses refusal.NoOpen bottom)
     ∷ (by 1 (op.OpenAt (in_root (codes "n")) mode.Read), gives (reply.Number 3) [] bottom)
     ∷ (by 1 (op.OpenAt (in_root (codes "n")) mode.Read), refuses refusal.NoOpen bottom)
+    ∷ (by 1 op.MakePipe, refuses refusal.NoOpen bottom)
     ∷ (by 1 (op.DupFd 0), gives (reply.Number 4) [] bottom)
     ∷ (by 1 (op.Fork keep.All), gives (reply.Number 2) [] bottom)
     ∷ []

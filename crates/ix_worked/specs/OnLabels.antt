@@ -123,6 +123,7 @@ setting_ceilings =
     ∷ (by 1 (op.SetCeiling 1 top), refuses refusal.NoCapability three)
     ∷ (by 2 (op.Fork keep.All), gives (reply.Number 4) [] bottom)
     ∷ (by 2 (op.SetCeiling 4 bottom), gives reply.Done [] bottom)
+    ∷ (by 2 (op.SetCeiling 4 three), refuses refusal.NoCapability bottom)
     ∷ (by 4 (op.Fork keep.All), gives (reply.Number 5) [] bottom)
     ∷ (by 2 (op.SetCeiling 5 bottom), refuses refusal.NoCapability bottom)
     ∷ []
@@ -230,16 +231,19 @@ making_names_high =
     ∷ (by 1 (op.CreateAt (under (codes "d") (codes "y"))), gives (reply.Number 3) [] three)
     ∷ []
 
--- another's is lowered and raised, and the own is lowered
+-- another's is lowered and raised, a child's is too, and the own is lowered
 abbrev pub raising_ceilings : List (Event × Line)
 raising_ceilings =
     (by 1 (op.SetCeiling 2 three), gives reply.Done [] three)
     ∷ (by 1 (op.SetCeiling 2 top), gives reply.Done [] three)
+    ∷ (by 1 (op.Fork keep.All), gives (reply.Number 3) [] three)
+    ∷ (by 1 (op.SetCeiling 3 three), gives reply.Done [] three)
+    ∷ (by 1 (op.SetCeiling 3 top), gives reply.Done [] three)
     ∷ (by 1 (op.SetCeiling 1 three), gives reply.Done [] three)
     ∷ []
 
 abbrev pub raising_ceilings_log : List AuditLine
-raising_ceilings_log = log_line 1 1 act.Ceiling 2 top three ∷ log_line 2 1 act.Ceiling 2 three top ∷ []
+raising_ceilings_log = log_line 1 1 act.Ceiling 2 top three ∷ log_line 2 1 act.Ceiling 2 three top ∷ log_line 5 1 act.Ceiling 3 three top ∷ []
 
 -- the first directory is at the ceiling, and the second above it
 abbrev pub walking_too_high : List (Event × Line)
@@ -270,6 +274,7 @@ abbrev pub moving_what_is_frozen : List (Event × Line)
 moving_what_is_frozen =
     (by 1 (op.OpenAt (in_root (codes "z")) mode.Write), gives (reply.Number 0) [] five)
     ∷ (by 1 (op.WriteFd 0 (codes "x")), refuses refusal.FileFrozen five)
+    ∷ (by 1 (op.CutFd 0 0), refuses refusal.FileFrozen five)
     ∷ (by 1 (op.SetLabel (in_root (codes "z")) five), refuses refusal.FileFrozen five)
     ∷ (by 1 (op.SetLabel (in_root (codes "g")) five), refuses refusal.FsCeiling five)
     ∷ (by 1 (op.Freeze (in_root (codes "g"))), refuses refusal.FsCeiling five)
@@ -278,4 +283,45 @@ moving_what_is_frozen =
     ∷ (by 2 (op.SetSelf five), refuses refusal.ProcCeiling bottom)
     ∷ (by 2 op.FreezeSelf, gives reply.Done [] bottom)
     ∷ (by 2 (op.SetSelf five), refuses refusal.ProcFrozen bottom)
+    ∷ []
+
+-- fs root * 4 4
+-- fs vol * 4 2
+-- proc a - * - -, and so on to f
+-- dir /h 5 free
+-- file /h/s - free - - x
+-- dir /h/e - free
+abbrev pub towers : Config
+towers = record
+    (small (replicate 6 (proc bottom top))
+    (dir (codes "h") five
+    ∷ record (file (codes "s") bottom []) { path = under (codes "h") (codes "s") }
+    ∷ record (dir (codes "e") bottom) { path = under (codes "h") (codes "e") }
+    ∷ []))
+    { limits = record small_limits { procs = 8 }; fss = small_fs ∷ record small_fs { name = codes "vol"; inodes = 2 } ∷ [] }
+
+-- each looks into /h, and is refused for what it finds there
+abbrev pub looking_in_vain : List (Event × Line)
+looking_in_vain =
+    (by 1 (op.StatAt (record { absolute = true; names = codes "h" ∷ codes "s" ∷ codes "x" ∷ [] })), refuses refusal.NotDir five)
+    ∷ (by 2 (op.OpenAt (under (codes "h") (codes "e")) mode.Read), refuses refusal.IsDir five)
+    ∷ (by 3 (op.CreateAt (under (codes "h") (codes "s"))), refuses refusal.Exists five)
+    ∷ (by 4 (op.RemoveDir (in_root (codes "h"))), refuses refusal.NotEmpty five)
+    ∷ (by 5 (op.LinkAt (under (codes "h") (codes "s")) (under (codes "vol") (codes "x"))), refuses refusal.CrossFs five)
+    ∷ (by 6 (op.LinkAt (under (codes "h") (codes "x")) (in_root (codes "y"))), refuses refusal.NotFound five)
+    ∷ []
+
+-- what is raised is no line
+abbrev pub reading_each_line : List (Event × Line)
+reading_each_line =
+    (by 1 (op.SetPriv (in_root (codes "f")) to_lower to_thaw), gives reply.Done [] three)
+    ∷ (by 1 (op.SetLabel (in_root (codes "f")) three_and_five), gives reply.Done [] three)
+    ∷ (by 1 (op.SetSelf three_and_five), gives reply.Done [] three_and_five)
+    ∷ (by 1 (op.SetCeiling 2 three), gives reply.Done [] three_and_five)
+    ∷ (by 1 (op.Thaw (in_root (codes "y"))), gives reply.Done [] three_and_five)
+    ∷ (by 1 (op.StatAt (in_root (codes "y"))), gives (reply.Stat (record { 0 = 2 }) kind.File 0 1 false no_privileges no_privileges) [] three_and_five)
+    ∷ (by 1 (op.ReadLog 0), gives (reply.LogLine (record (log_line 1 1 act.SetPriv 1 bottom three) { cap = to_lower; lic = to_thaw })) [] three_and_five)
+    ∷ (by 1 (op.ReadLog 1), gives (reply.LogLine (log_line 4 1 act.Ceiling 2 top three)) [] three_and_five)
+    ∷ (by 1 (op.ReadLog 2), gives (reply.LogLine (log_line 5 1 act.ThawFile 2 bottom bottom)) [] three_and_five)
+    ∷ (by 1 (op.ReadLog 6), refuses refusal.EndOfList three_and_five)
     ∷ []

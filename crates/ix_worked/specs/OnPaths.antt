@@ -10,7 +10,7 @@ use Rattle.ix_model.specs.declared.config.Config.{Config}
 use Rattle.ix_model.specs.declared.refusal.Refusal.TheVariants as refusal
 use Rattle.ix_model.specs.declared.reply.Kind.TheVariants as kind
 use Rattle.ix_model.specs.declared.reply.Reply.TheVariants as reply
-use Rattle.ix_worked.specs.Scripts.{small_limits, in_root, from_here, at_root, under, proc, file, dir, gives, by, refuses, here, small_fs, small}
+use Rattle.ix_worked.specs.Scripts.{three, small_limits, in_root, from_here, at_root, under, proc, file, dir, gives, by, refuses, here, small_fs, small}
 use Rattle.ix_worked.specs.Sessions.{Line}
 
 -- fs root * 4 4
@@ -85,6 +85,7 @@ seeking =
     ∷ (by 1 (op.LinkAt (in_root (codes "x")) (in_root (codes "y"))), refuses refusal.NotFound bottom)
     ∷ (by 1 (op.UnlinkAt (under (codes "d") (codes "x"))), refuses refusal.NotFound bottom)
     ∷ (by 1 (op.RemoveDir (in_root (codes "x"))), refuses refusal.NotFound bottom)
+    ∷ (by 1 (op.RemoveDir (under (codes "x") (codes "y"))), refuses refusal.NotFound bottom)
     ∷ (by 1 (op.LabelOf (in_root (codes "x"))), refuses refusal.NotFound bottom)
     ∷ []
 
@@ -94,6 +95,7 @@ looking_into_a_file =
     (by 1 (op.StatAt (under (codes "n") (codes "x"))), refuses refusal.NotDir bottom)
     ∷ (by 1 (op.CreateAt (under (codes "n") (codes "x"))), refuses refusal.NotDir bottom)
     ∷ (by 1 (op.OpenAt (under (codes "n") (codes "x")) mode.Read), refuses refusal.NotDir bottom)
+    ∷ (by 1 (op.UnlinkAt (under (codes "n") (codes "x"))), refuses refusal.NotDir bottom)
     ∷ (by 1 (op.ChangeDir (in_root (codes "n"))), refuses refusal.NotDir bottom)
     ∷ (by 1 (op.RemoveDir (in_root (codes "n"))), refuses refusal.NotDir bottom)
     ∷ (by 1 (op.ListAt (in_root (codes "n")) 0), refuses refusal.NotDir bottom)
@@ -276,4 +278,23 @@ asking_without_room =
     ∷ (by 1 op.MakePipe, refuses refusal.NoInode bottom)
     ∷ (by 1 (op.Fork (keep.One (record { 0 = 1 }))), refuses refusal.BadFd bottom)
     ∷ (by 1 (op.Fork (keep.One (record { 0 = 0 }))), refuses refusal.NoSlot bottom)
+    ∷ []
+
+-- proc a 3 * - -
+-- dir /d - free
+-- file /n - free - - "abc"
+-- dir /e - free
+abbrev pub attic : Config
+attic = small (proc three top ∷ []) (dir (codes "d") bottom ∷ file (codes "n") bottom (codes "abc") ∷ dir (codes "e") bottom ∷ [])
+
+-- the file gets a name in /d, and /e goes from the root
+abbrev pub naming_high : List (Event × Line)
+naming_high =
+    (by 1 (op.LinkAt (in_root (codes "n")) (under (codes "d") (codes "k"))), gives reply.Done [] three)
+    ∷ (by 1 (op.LabelOf (in_root (codes "d"))), gives (reply.Lab three) [] three)
+    ∷ (by 1 (op.LabelOf at_root), gives (reply.Lab bottom) [] three)
+    ∷ (by 1 (op.RemoveDir (in_root (codes "e"))), gives reply.Done [] three)
+    ∷ (by 1 (op.LabelOf at_root), gives (reply.Lab three) [] three)
+    ∷ (by 1 (op.LabelOf (in_root (codes "e"))), refuses refusal.NotFound three)
+    ∷ (by 1 (op.MakeDir (in_root (codes "e"))), gives (reply.Number 3) [] three)
     ∷ []

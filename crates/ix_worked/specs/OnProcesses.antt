@@ -1,5 +1,5 @@
 -- Short histories of the calls on processes.
-use Rattle.std.specs.Prelude.{List, [], ◌∷◌}
+use Rattle.std.specs.Prelude.{List, [], ◌∷◌, codes}
 use Rattle.ix_label.specs.Category.{bottom, top}
 use Rattle.ix_model.specs.Events.{Event}
 use Rattle.ix_model.specs.Events as op
@@ -8,7 +8,7 @@ use Rattle.ix_model.specs.declared.call.Keep.TheVariants as keep
 use Rattle.ix_model.specs.declared.config.Config.{Config}
 use Rattle.ix_model.specs.declared.refusal.Refusal.TheVariants as refusal
 use Rattle.ix_model.specs.declared.reply.Reply.TheVariants as reply
-use Rattle.ix_worked.specs.Scripts.{proc, gives, ends, by, refuses, unknown, small}
+use Rattle.ix_worked.specs.Scripts.{three, three_and_five, in_root, here, proc, dir, gives, ends, by, refuses, unknown, small}
 use Rattle.ix_worked.specs.Sessions.{Line}
 
 -- proc a - * - -
@@ -104,4 +104,23 @@ keeping_some =
     ∷ (by 2 (op.ReadFd 1 1), refuses refusal.BadFd bottom)
     ∷ (by 3 (op.ReadFd 0 1), refuses refusal.BadFd bottom)
     ∷ (by 3 (op.ReadFd 1 1), refuses refusal.Again bottom)
+    ∷ []
+
+-- proc a - * - -
+-- dir /d 3 free
+abbrev pub house : Config
+house = small (proc bottom top ∷ []) (dir (codes "d") three ∷ [])
+
+-- the parent is raised, has a low ceiling and is in /d; it forks, is frozen, and forks again
+abbrev pub forking_as_it_is : List (Event × Line)
+forking_as_it_is =
+    (by 1 (op.SetSelf three), gives reply.Done [] three)
+    ∷ (by 1 (op.SetCeiling 1 three), gives reply.Done [] three)
+    ∷ (by 1 (op.ChangeDir (in_root (codes "d"))), gives reply.Done [] three)
+    ∷ (by 1 (op.Fork keep.Nothing), gives (reply.Number 2) [] three)
+    ∷ (by 2 (op.LabelOf here), gives (reply.Lab three) [] three)
+    ∷ (by 2 (op.SetSelf three_and_five), refuses refusal.ProcCeiling three)
+    ∷ (by 1 op.FreezeSelf, gives reply.Done [] three)
+    ∷ (by 1 (op.Fork keep.Nothing), gives (reply.Number 3) [] three)
+    ∷ (by 3 (op.SetSelf three_and_five), refuses refusal.ProcFrozen three)
     ∷ []

@@ -31,6 +31,8 @@ ghost use Rattle.ix_worked.specs.OnPaths.{
   making_without_room,
   poor,
   asking_without_room,
+  attic,
+  naming_high,
 };
 ghost use Rattle.ix_worked.specs.OnProcesses.{
   family,
@@ -38,6 +40,8 @@ ghost use Rattle.ix_worked.specs.OnProcesses.{
   ending_out_of_order,
   ending_with_a_pipe,
   keeping_some,
+  house,
+  forking_as_it_is,
 };
 ghost use Rattle.ix_worked.specs.OnLabels.{
   levels,
@@ -64,6 +68,18 @@ ghost use Rattle.ix_worked.specs.OnLabels.{
   handing_on_log,
   stiff_house,
   moving_what_is_frozen,
+  towers,
+  looking_in_vain,
+  reading_each_line,
+};
+ghost use Rattle.ix_worked.specs.OnEntries.{
+  shared_desk,
+  seeking_high,
+  writing_high,
+  writing_high_log,
+  cutting_high,
+  reading_nothing_high,
+  draining_high,
 };
 
 /// A read of no bytes is answered as any other: there may be more while the other end is held.
@@ -306,4 +322,73 @@ pub fn what_is_asked_for_is_looked_at_before_room()
 pub fn a_frozen_mark_is_told_before_a_ceiling()
     ensures valid { is_valid stiff_house ≡ true }
     ensures goes { Goes stiff_house moving_what_is_frozen }
+{}
+
+/// To link a file affects the directory of the new name, and to remove a directory the one that it goes from. Its name
+/// is free again.
+#[tactic(auto, using(crate::proofs::AtPaths::attic_fits, crate::proofs::AtPaths::naming_high_ran))]
+pub fn what_is_named_and_removed_affects_its_directory()
+    ensures valid { is_valid attic ≡ true }
+    ensures goes { Goes attic naming_high }
+{}
+
+/// Who is refused for what it found has looked at it, and keeps the label to which that raised it. A link looks along
+/// both its paths, and who removes a directory looks at it.
+#[tactic(auto, using(crate::proofs::AtLabels::towers_fits, crate::proofs::AtLabels::looking_in_vain_ran))]
+pub fn a_look_is_kept_by_the_refusal_after_it()
+    ensures valid { is_valid towers ≡ true }
+    ensures goes { Goes towers looking_in_vain }
+{}
+
+/// The log has the lines of what needed a privilege, in order, each as it can be read later, and none of what was
+/// raised. What is thawed is not frozen.
+#[tactic(auto, using(crate::proofs::AtLabels::officers_fits, crate::proofs::AtLabels::reading_each_line_ran))]
+pub fn the_log_is_read_line_by_line()
+    ensures valid { is_valid officers ≡ true }
+    ensures goes { Goes officers reading_each_line }
+{}
+
+/// A child has the label, the ceiling, the mark and the working directory that its parent has then.
+#[tactic(auto, using(crate::proofs::AtProcesses::house_fits, crate::proofs::AtProcesses::forking_as_it_is_ran))]
+pub fn a_child_is_as_its_parent_was()
+    ensures valid { is_valid house ≡ true }
+    ensures goes { Goes house forking_as_it_is }
+{}
+
+/// A seek marks the open entry with the label of who seeks, and one from below doesn't take that away. A read through it
+/// floats to the mark; a cut takes no heed of it.
+#[tactic(auto, using(crate::proofs::AtEntries::shared_desk_fits, crate::proofs::AtEntries::seeking_high_ran))]
+pub fn a_seek_marks_its_open_entry()
+    ensures valid { is_valid shared_desk ≡ true }
+    ensures goes { Goes shared_desk seeking_high }
+{}
+
+/// A write marks the open entry too. The mark stays where the file's label is lowered, and raises the file again with the
+/// next write through it, and who reads through it.
+#[tactic(auto, using(crate::proofs::AtEntries::shared_desk_fits, crate::proofs::AtEntries::writing_high_ran, crate::proofs::AtEntries::writing_high_logged))]
+pub fn a_write_marks_its_open_entry()
+    ensures valid { is_valid shared_desk ≡ true }
+    ensures goes { Goes shared_desk writing_high }
+    ensures logged { log_of shared_desk (calls writing_high) ≡ writing_high_log }
+{}
+
+/// A cut affects the file, and leaves the open entry without a mark.
+#[tactic(auto, using(crate::proofs::AtEntries::shared_desk_fits, crate::proofs::AtEntries::cutting_high_ran))]
+pub fn a_cut_marks_no_open_entry()
+    ensures valid { is_valid shared_desk ≡ true }
+    ensures goes { Goes shared_desk cutting_high }
+{}
+
+/// A read that gives nothing marks the open entry as any other. One that is opened anew has no mark.
+#[tactic(auto, using(crate::proofs::AtEntries::shared_desk_fits, crate::proofs::AtEntries::reading_nothing_high_ran))]
+pub fn a_read_of_nothing_marks_its_open_entry()
+    ensures valid { is_valid shared_desk ≡ true }
+    ensures goes { Goes shared_desk reading_nothing_high }
+{}
+
+/// The open entries of a pipe are never marked: who takes bytes from it tells nothing by where it has come to.
+#[tactic(auto, using(crate::proofs::AtEntries::shared_desk_fits, crate::proofs::AtEntries::draining_high_ran))]
+pub fn a_pipe_has_no_mark()
+    ensures valid { is_valid shared_desk ≡ true }
+    ensures goes { Goes shared_desk draining_high }
 {}

@@ -31,6 +31,7 @@ ghost use Rattle.ix_worked.specs.FullPipe.{one_process, piping, piping_shows};
 ghost use Rattle.ix_worked.specs.Claims.{claiming, claiming_shows};
 ghost use Rattle.ix_worked.specs.Copying.{copying, copying_shows};
 ghost use Rattle.ix_worked.specs.Login.{office, asking, asking_shows};
+ghost use Rattle.ix_worked.specs.SharedOffset.{one_shared, below_seven, reading_on, reading_on_shows, writing_on, writing_on_shows, writing_frozen, writing_frozen_shows};
 
 /// Where nothing is called there is the root, without categories, and nothing else.
 pub fn an_untouched_machine_is_its_root()
@@ -197,4 +198,26 @@ pub fn servers_act_for_users_over_whole_paths()
     ensures valid { is_valid office ≡ true }
     ensures shown { shown office asking ≡ asking_shows }
     ensures logged { log_of office asking ≡ asking_shows.log }
+{}
+
+/// A parent that reads on where its high child stopped, through the open entry that both have, floats to the child's
+/// label.
+#[tactic(auto, using(crate::proofs::ReadFar::one_shared_fits, crate::proofs::ReadFar::one_shared_is_flat, crate::proofs::ReadFar::read_on))]
+pub fn a_parent_floats_where_its_child_has_read()
+    ensures valid { is_valid one_shared ≡ true }
+    ensures flat { is_flat one_shared ≡ true }
+    ensures shown { shown one_shared reading_on ≡ reading_on_shows }
+{}
+
+/// A parent that writes there stays where it is, and raises the file to the child's label.
+#[tactic(auto, using(crate::proofs::ReadFar::written_on))]
+pub fn a_file_is_raised_where_a_high_child_has_read()
+    ensures shown { shown one_shared writing_on ≡ writing_on_shows }
+{}
+
+/// Where the file is frozen such a write is refused.
+#[tactic(auto, using(crate::proofs::ReadFar::below_seven_fits, crate::proofs::ReadFar::refused_there))]
+pub fn a_frozen_file_is_not_written_where_a_high_child_has_read()
+    ensures valid { is_valid below_seven ≡ true }
+    ensures shown { shown below_seven writing_frozen ≡ writing_frozen_shows }
 {}

@@ -10,7 +10,7 @@ ghost use Rattle.ix_core.specs.Meanings.{Restores, Asked, RowAsked, told_of};
 
 use crate::opens::{Behind, OpenRow, may_read, may_write};
 use crate::tables::Tables;
-use ix_label::Steps;
+use ix_label::{Label, Steps};
 use ix_model::{Call, Fd, Mode, Path, Refusal, Reply};
 use std::sync::ledger::Ledger;
 
@@ -61,13 +61,14 @@ impl Tables {
             object,
             end: 0,
             mode,
+            label: Label::bottom(),
         });
         self.set_fd(pid, fd, id);
         Ok(Reply::Number(fd as u64))
     }
 
-    /// ReadFd: its tests and the floating of the caller's label. The bytes, and their number in the reply, come later.
-    #[tactic(auto, using(crate::proofs::Restoring::restores_itself), unfolding(ix_model::specs::Rows::coding, ix_model::specs::Walks::opened, ix_model::specs::OnDescriptors::read_fd))]
+    /// ReadFd: its tests, and the floating of the caller's label and of the open entry's. The bytes, and their number in the reply, come later.
+    #[tactic(auto, using(crate::proofs::Restoring::restores_itself), unfolding(ix_model::specs::Rows::coding, ix_model::specs::Walks::opened, ix_model::specs::OnDescriptors::float_entry, ix_model::specs::OnDescriptors::read_fd))]
     fn read<L: Ledger>(
         &mut self,
         told: Told,
@@ -93,16 +94,21 @@ impl Tables {
             return Err(Refusal::TooBig);
         }
         let is_pipe = x.is_pipe();
-        let label = x.label;
-        self.observe(pid, &label, steps)?;
+        let seen = x.label.join(&e.label, steps);
+        self.observe(pid, &seen, steps)?;
         if is_pipe && told.empty && self.is_held_there(&e) {
             return Err(Refusal::Again);
         }
+        if is_pipe {
+            return Ok(Reply::Bytes(0));
+        }
+        let reader = self.caller(pid).label;
+        self.float_entry(e.id, &reader, steps);
         Ok(Reply::Bytes(0))
     }
 
-    /// WriteFd: its tests and the floating of the object's label. The bytes, and their number in the reply, come later.
-    #[tactic(auto, using(crate::proofs::Restoring::restores_itself), unfolding(ix_model::specs::Rows::coding, ix_model::specs::Walks::opened, ix_model::specs::OnDescriptors::write_fd))]
+    /// WriteFd: its tests, and the floating of the object's label and of the open entry's. The bytes, and their number in the reply, come later.
+    #[tactic(auto, using(crate::proofs::Restoring::restores_itself), unfolding(ix_model::specs::Rows::coding, ix_model::specs::Walks::opened, ix_model::specs::OnDescriptors::float_entry, ix_model::specs::OnDescriptors::write_fd))]
     fn write<L: Ledger>(
         &mut self,
         told: Told,
@@ -138,7 +144,13 @@ impl Tables {
         if told.no_space {
             return Err(Refusal::NoSpace);
         }
-        self.affect(pid, e.object, steps)?;
+        let is_pipe = x.is_pipe();
+        let writer = self.caller(pid).label;
+        self.affect(pid, e.object, &e.label, steps)?;
+        if is_pipe {
+            return Ok(Reply::Number(0));
+        }
+        self.float_entry(e.id, &writer, steps);
         Ok(Reply::Number(0))
     }
 

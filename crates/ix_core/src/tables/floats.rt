@@ -1,4 +1,5 @@
 ghost use Rattle.std.specs.Prelude.{◌≡◌, ◌<◌, IsTrue, OnErr, length, map, Some};
+ghost use Rattle.ix_label.specs.Category.{join};
 ghost use Rattle.ix_model.specs.World.{lives, change, ceiling_of};
 ghost use Rattle.ix_model.specs.Outcomes.{RowIs};
 ghost use Rattle.ix_model.specs.Rows.{observe, affect};
@@ -38,21 +39,23 @@ impl Tables {
         Ok(())
     }
 
-    /// The object's label floats up to that of the process that writes to it.
+    /// The object's label floats up to that of the process that writes to it, and to that of the open entry that it goes
+    /// through.
     #[tactic(auto, unfolding(ix_model::specs::Rows::coding, ix_model::specs::Rows::affect))]
     pub fn affect<L: Ledger>(
         &mut self,
         pid: usize,
         object: usize,
+        through: &Label,
         steps: &mut Steps<L>,
     ) -> Result<(), Refusal>
         requires { IsTrue (lives self.old pid) }
-        ensures row { RowIs result self.new (affect pid object self.old) }
+        ensures row { RowIs result self.new (affect pid object through.now self.old) }
         ensures same { OnErr result (self.new ≡ self.old) }
     {
-        let label = self.caller(pid).label;
+        let writer = self.caller(pid).label.join(through, steps);
         let x = self.object(object).ok_or(Refusal::BadFd)?;
-        let need = x.label.join(&label, steps);
+        let need = x.label.join(&writer, steps);
         if need.same(&x.label, steps) {
             return Ok(());
         }
@@ -64,6 +67,17 @@ impl Tables {
         }
         self.set_object_label(object, need);
         Ok(())
+    }
+
+    /// An open entry takes in the label of who moves its offset.
+    pub fn float_entry<L: Ledger>(&mut self, id: usize, label: &Label, steps: &mut Steps<L>)
+        ensures { self.new ≡ record self.old { opens = change self.old.opens id (λ y. record y { label = join y.label label.now }) } }
+    {
+        if let Some(slot) = self.opens.get_mut(id) {
+            if let Some(entry) = slot {
+                entry.label = entry.label.join(label, steps);
+            }
+        }
     }
 
     /// The ceiling of an object: that of its file system, or top for a pipe.

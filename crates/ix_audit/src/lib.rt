@@ -1,0 +1,8 @@
+//! The audit log: a list of lines that takes so many and no more.
+#![tactic(auto)]
+
+mod log;
+#[cfg(test)]
+mod tests;
+
+pub use log::{Log, LogFull};

@@ -1,0 +1,2 @@
+pub mod Floating
+pub mod Marks

@@ -1,0 +1,10 @@
+//! The two rules by which labels float, and the marks that save a look at labels that were looked at before.
+#![tactic(auto)]
+
+mod floats;
+mod mark;
+#[cfg(test)]
+mod tests;
+
+pub use floats::{affect, observe};
+pub use mark::{Mark, Way};
