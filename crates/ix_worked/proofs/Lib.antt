@@ -28,3 +28,7 @@ mod AtProcesses
 mod AtLabels
 mod AtEntries
 mod Fitting
+mod Agreeing
+mod Freshened
+mod Falling
+mod Costing
