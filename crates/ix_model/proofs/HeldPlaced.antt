@@ -1,13 +1,12 @@
 -- What the objects of a config's lines hold, with one line more.
-use Rattle.std.proofs.Common.{◌≡◌, ◌≢◌, ◌<◌, ℕ, Bool, true, false, List, [], Option, Some, get_or, set, refl, sym, ap, ◌∙◌, if◌then◌else◌, length}
+use Rattle.std.proofs.Common.{◌≡◌, ◌≢◌, ◌<◌, ℕ, Bool, true, false, List, [], Option, get_or, set, refl, sym, ap, ◌∙◌, if◌then◌else◌, length}
 use Rattle.std.proofs.lemmas.List.{get_or-set_same, get_or-set_other}
-use Rattle.ix_model.specs.World.{Object, Holding, at, is_dir}
+use Rattle.ix_model.specs.World.{Object, Holding, is_dir}
 use Rattle.ix_model.specs.Contents.{holds_nothing}
 use Rattle.ix_model.specs.Opening.{object_of}
 use Rattle.ix_model.specs.declared.config.ObjSpec.{ObjSpec}
 use Rattle.ix_model.specs.declared.config.FsSpec.{FsSpec}
 use Rattle.ix_model.specs.declared.config.Limits.{Limits}
-use Rattle.ix_model.specs.declared.reply.Kind.{Kind}
 use Rattle.ix_model.specs.declared.reply.Kind.TheVariants as kind
 use Rattle.ix_model.proofs.Lines.{Line}
 use Rattle.ix_model.proofs.Lengths.{set_either}

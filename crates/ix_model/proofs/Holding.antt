@@ -4,7 +4,7 @@ use Rattle.std.proofs.lemmas.Bool.{and_parts, not-true}
 use Rattle.ix_model.specs.World.{World, Frame, Content, Object, Holding, at, is_dir, is_pipe, is_ended}
 use Rattle.ix_model.specs.Walks.{Behind, behind}
 use Rattle.ix_model.specs.Contents.{carried, holding_of, offset_of, holds_nothing, side, with_side, change_side, on_pipe, readable, after_read, after_write, after_cut, after_seek, after_exit, emptied, spliced, cut_to}
-use Rattle.ix_model.specs.Step.{plainly, read_answer, write_answer, cut_answer, seek_answer, stat_answer, exit_answer, wait_answer, pex_answer, answer, step, is_whole}
+use Rattle.ix_model.specs.Step.{plainly, read_answer, write_answer, cut_answer, seek_answer, stat_answer, exit_answer, wait_answer, pex_answer, answer, step}
 use Rattle.ix_model.specs.Table.{verdict}
 use Rattle.ix_model.specs.Telling.{told}
 use Rattle.ix_model.specs.Sound.{Sound}
@@ -37,8 +37,8 @@ side_changed f c o end h fits r = record {
       (r.directory n x is dir);
   second = λ n x is other. set_either (λ (s : Holding). s.second ≡ []) holds_nothing c.holdings o n _
       (λ here.
-          let there : at f.objects o ≡ Some x = ap (at f.objects) (sym here) ∙ is in
-          first_alone end (h (side end (holding_of c o))) (holding_of c o) ((fits x there).1 other) ∙ r.second o x there other)
+      let there : at f.objects o ≡ Some x = ap (at f.objects) (sym here) ∙ is in
+      first_alone end (h (side end (holding_of c o))) (holding_of c o) ((fits x there).1 other) ∙ r.second o x there other)
       (r.second n x is other);
 }
 

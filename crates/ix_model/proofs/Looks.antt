@@ -6,7 +6,6 @@ use Rattle.ix_model.specs.Walks.{Behind}
 use Rattle.ix_model.specs.OnDescriptors.{float_entry}
 use Rattle.ix_model.specs.Rows.{observe, affect}
 use Rattle.ix_model.specs.declared.refusal.Refusal.{Refusal}
-use Rattle.ix_model.specs.declared.refusal.Refusal.TheVariants as refusal
 use Rattle.ix_model.proofs.Ends.{Ends, ending, ends_bind, ends_then, ends_caller, ends_object, ends_frame, ends_only_if, ends_need, ends_change_object, ends_change_open}
 
 pub ends_observe : (pid : ℕ) (seen : Categories) (f : Frame) (P : Refusal → Frame → Type 0) (Q : Unit {0} → Frame → Type 0) → ((r : Refusal) → P r f) → Q tt f → ((p : Process) → living (at f.processes pid) ≡ Some p → leq (join p.label seen) p.ceiling ≡ true → Q tt (record f { processes = change f.processes pid (λ q. record q { label = join q.label seen }) })) → Ends (observe pid seen f) P Q

@@ -14,7 +14,6 @@ use Rattle.ix_model.specs.Events.{Event}
 use Rattle.ix_model.specs.declared.config.Config.{Config}
 use Rattle.ix_model.specs.declared.config.FsSpec.{FsSpec}
 use Rattle.ix_model.proofs.Openings.{clean_opening}
-use Rattle.ix_model.proofs.Cleaning.{clean_step}
 use Rattle.ix_model.proofs.Soundly.{sound_step}
 use Rattle.ix_model.proofs.Validity.{Valid, valid_parts}
 use Rattle.ix_model.proofs.Bare.{bare_table, inodes_few}

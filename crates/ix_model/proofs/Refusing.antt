@@ -13,10 +13,8 @@ use Rattle.ix_model.specs.OnProcesses.{fork, exec, exit, wait_child}
 use Rattle.ix_model.specs.OnLabels.{label_of, self_label, set_label, set_self, freeze, freeze_self, thaw, thaw_self, set_priv, drop_lic, grant_lic, set_ceiling, read_log}
 use Rattle.ix_model.specs.Table.{Decision, verdict, settled, row}
 use Rattle.ix_model.specs.Contents.{carried}
-use Rattle.ix_model.specs.Step.{plainly, read_answer, write_answer, cut_answer, seek_answer, stat_answer, exit_answer, wait_answer, pex_answer, is_whole, answer, step}
-use Rattle.ix_model.specs.Telling.{told}
+use Rattle.ix_model.specs.Step.{plainly, read_answer, write_answer, cut_answer, seek_answer, stat_answer, exit_answer, wait_answer, pex_answer, is_whole, answer}
 use Rattle.ix_model.specs.AuditLog.{is_answer}
-use Rattle.ix_model.specs.Laws.{Refused}
 use Rattle.ix_model.specs.Events.{Op}
 use Rattle.ix_model.specs.Events as op
 use Rattle.ix_model.specs.declared.call.Keep.{Keep}
@@ -33,8 +31,6 @@ use Rattle.ix_model.proofs.Keeps.{Keeps, keeping}
 use Rattle.ix_model.proofs.Ends.{Ends, ending, ends_more, ends_kept, kept_ends}
 use Rattle.ix_model.proofs.RowEnds.{endings, ends_let_go_object, ends_let_go, ends_let_go_all}
 use Rattle.ix_model.proofs.Looks.{ends_observe, ends_touch, ends_float_entry}
-use Rattle.ix_model.proofs.Lasts.{Lasts, lasts_relabelled}
-use Rattle.ix_model.proofs.Carrying.{carried_same}
 
 -- ---- a frame that differs in the caller's label alone
 pub record Relabelled (pid : ℕ) (f g : Frame) : Type 0 where
@@ -57,7 +53,7 @@ relabelled_itself pid f = go (at f.processes pid) refl
           ap (λ y. record x { label = y.label }) same)));
     }
 
-relabelled_more : (pid : ℕ) (seen : Categories) (f g : Frame) → Relabelled pid f g → Relabelled pid f (record g { processes = change g.processes pid (λ p. record p { label = join p.label seen }) })
+pub relabelled_more : (pid : ℕ) (seen : Categories) (f g : Frame) → Relabelled pid f g → Relabelled pid f (record g { processes = change g.processes pid (λ p. record p { label = join p.label seen }) })
 relabelled_more pid seen f g r =
     let to : Process → Process = λ p. record p { label = r.label } in
     let joined : Process → Process = λ p. record p { label = join p.label seen } in
@@ -384,7 +380,7 @@ unfolding pex_answer plainly
 pex_reply w None a g = refl
 pex_reply w (Some e) a g = refl
 
-plain_answer : (w : World) (pid : ℕ) (c : Op) (d : Decision) (r : Refusal) → (d.reply ≡ reply.No r → d.frame.objects ≡ w.frame.objects) → (answer w pid c d).reply ≡ reply.No r → Plain w d r (answer w pid c d).world
+pub plain_answer : (w : World) (pid : ℕ) (c : Op) (d : Decision) (r : Refusal) → (d.reply ≡ reply.No r → d.frame.objects ≡ w.frame.objects) → (answer w pid c d).reply ≡ reply.No r → Plain w d r (answer w pid c d).world
 unfolding answer plainly
 plain_answer w pid (op.ReadFd fd count) d r same is = plain_read w count (behind w.frame pid fd) d.reply d.frame r is
 plain_answer w pid (op.WriteFd fd bytes) d r same is = plain_write w bytes (behind w.frame pid fd) d.reply d.frame r is
@@ -397,16 +393,3 @@ plain_answer w pid (op.Pex fd) d r same is =
     let refused : d.reply ≡ reply.No r = sym (pex_reply w (behind w.frame pid fd) d.reply d.frame) ∙ is in
     plain_pex w (behind w.frame pid fd) d.reply d.frame r (same refused) refused
 plain_answer w pid _ d r same is = record { world = refl; reply = is }
-
-pub refused_step : (w : World) (place pid : ℕ) (c : Op) (r : Refusal) → (step w place pid c).reply ≡ reply.No r → Refused w pid r (step w place pid c).world
-unfolding step
-refused_step w place pid c r is =
-    let t : Told = told w pid c in
-    let d : Decision = verdict t place pid c w.frame in
-    let plain = plain_answer w pid c d r (λ refused. ap (λ (f : Frame). f.objects) (decided_frames t place pid c w.frame r refused).relabelled.is) is in
-    let frames = decided_frames t place pid c w.frame r plain.reply in
-    record {
-      label = (frames.relabelled.label, ap (λ (v : World). v.frame) plain.world ∙ frames.relabelled.is);
-      kept = λ keeps. ap (λ (v : World). v.frame) plain.world ∙ frames.kept keeps;
-      content = λ clean. ap (λ (v : World). v.content) plain.world ∙ carried_same w d.frame (subst (λ (g : Frame). Lasts w.frame g) (sym frames.relabelled.is) (lasts_relabelled pid frames.relabelled.label w.frame)) clean;
-    }

@@ -1,21 +1,18 @@
 -- What stands at a number after a call: two places for claims, empty where it is no pipe, and pipes' open entries at bottom.
-use Rattle.std.proofs.Common.{◌≡◌, ◌<◌, ◌≤◌, ℕ, zero, suc, Bool, true, false, true≢false, not, List, [], ◌∷◌, length, length-set, Option, Some, None, is_none, refl, sym, ap, ◌∙◌, subst, arith, inl, inr, ◌&&◌, ◌-◌}
+use Rattle.std.proofs.Common.{◌≡◌, ◌≤◌, ℕ, zero, suc, Bool, true, false, true≢false, not, List, length, length-set, Option, Some, None, is_none, refl, sym, ap, ◌∙◌, subst, arith, inl, inr, ◌&&◌, ◌-◌}
 use Rattle.std.specs.Option.{option_map_or}
-use Rattle.std.specs.List.{list_all}
 use Rattle.std.proofs.lemmas.Bool.{not-true}
-use Rattle.ix_label.specs.Category.{Categories, bottom, join}
+use Rattle.ix_label.specs.Category.{bottom}
 use Rattle.ix_model.specs.OnPaths.{new_object}
-use Rattle.ix_model.specs.Numbers.{first_inode, first_pipe}
-use Rattle.ix_model.specs.World.{fs_at, World, Frame, Object, Process, Open, at, put, change, is_dir, is_pipe, no_claims, held}
-use Rattle.ix_model.specs.Rows.{◌>>◌, change_process, change_object, change_open, put_object, put_process, put_open, add_process, process, observe, affect, ◌>>=◌, pass, need, frame}
-use Rattle.ix_model.specs.Walks.{Behind, behind}
+use Rattle.ix_model.specs.Numbers.{first_pipe}
+use Rattle.ix_model.specs.World.{Frame, Object, Process, Open, at, put, change, is_dir, is_pipe, no_claims, held}
+use Rattle.ix_model.specs.Rows.{◌>>◌, change_process, change_object, change_open, put_object, put_process, put_open, add_process, process, ◌>>=◌, pass, need, frame}
+use Rattle.ix_model.specs.Walks.{Behind}
 use Rattle.ix_model.specs.Auditing.{logged}
 use Rattle.ix_model.specs.OnDescriptors.{Told, float_entry, read_fd, write_fd, seek_fd, pex, claimed, read_passed, write_passed}
 use Rattle.ix_model.specs.OnProcesses.{end_process}
 use Rattle.ix_model.specs.Table.{row, verdict}
-use Rattle.ix_model.specs.Step.{step}
-use Rattle.ix_model.specs.Telling.{told}
-use Rattle.ix_model.specs.Sound.{WithinLimits, OpensSound, ShapesSound, Sound}
+use Rattle.ix_model.specs.Sound.{WithinLimits, OpensSound, ShapesSound}
 use Rattle.ix_model.specs.Events.{Op}
 use Rattle.ix_model.specs.Events as op
 use Rattle.ix_model.specs.declared.config.FsSpec.{FsSpec}
@@ -26,12 +23,12 @@ use Rattle.ix_model.specs.declared.refusal.Refusal.{Refusal}
 use Rattle.ix_model.specs.declared.refusal.Refusal.TheVariants as refusal
 use Rattle.ix_model.proofs.Finds.{at_put, at_change, passes_some}
 use Rattle.ix_model.proofs.Inodes.{first_within}
-use Rattle.ix_model.proofs.Keeps.{Holds, Keeps, keeps_claimed}
+use Rattle.ix_model.proofs.Keeps.{Holds, keeps_claimed}
 use Rattle.ix_model.proofs.Ends.{Ends, kept_ends, ends_kept, ends_bind, ends_then, ends_pass, ends_frame, ends_need, ends_caller, ends_object, ends_opened, ends_only_if, ends_change_object, ends_change_open}
 use Rattle.ix_model.proofs.Looks.{ends_observe, ends_affect}
 use Rattle.ix_model.proofs.Lasts.{decided}
 use Rattle.ix_model.proofs.Standing.{behind_is}
-use Rattle.ix_model.proofs.Rowwise.{Change, Claiming, Moving, Words, changes_of, object_core, kept_row}
+use Rattle.ix_model.proofs.Rowwise.{Change, Claiming, Moving, Words, kept_row}
 use Rattle.ix_model.proofs.Frames.{FrameSound}
 
 -- ---- claims
@@ -222,7 +219,7 @@ module _ (f : Frame) (limits : WithinLimits f) (r : LowEntries f f) where
       (λ pipe. ends_pass _ _ PL QL (same_low g opens fss)))
 
   read_rest : (t : Told) (pid : ℕ) (x : Object) (e : Behind) (g : Frame) → g.opens ≡ f.opens → g.fss ≡ f.fss → at f.opens e.id ≡ Some e.entry → at f.objects e.entry.object ≡ Some x
-    → Ends (◌>>=◌ frame (λ h. ◌>>◌ (need (not (is_pipe x && t.empty && held h.opens e.entry.object (1 - e.entry.end))) refusal.Again) (◌>>=◌ (process pid) (λ p. ◌>>◌ (float_entry p x e) (pass read_passed)))) g) PL QL
+      → Ends (◌>>=◌ frame (λ h. ◌>>◌ (need (not (is_pipe x && t.empty && held h.opens e.entry.object (1 - e.entry.end))) refusal.Again) (◌>>=◌ (process pid) (λ p. ◌>>◌ (float_entry p x e) (pass read_passed)))) g) PL QL
   unfolding PL QL
   read_rest t pid x e g opens fss stands here =
       let s = same_low g opens fss in

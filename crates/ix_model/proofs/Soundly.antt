@@ -1,12 +1,11 @@
 -- The step of every call leaves a sound world.
-use Rattle.std.proofs.Common.{◌≡◌, ℕ, sym, subst}
+use Rattle.std.proofs.Common.{ℕ, sym, subst}
 use Rattle.ix_model.specs.World.{World, Frame}
 use Rattle.ix_model.specs.Step.{step}
-use Rattle.ix_model.specs.Table.{verdict}
 use Rattle.ix_model.specs.Telling.{told}
-use Rattle.ix_model.specs.Sound.{ShapesSound, HoldingsSound, Sound}
+use Rattle.ix_model.specs.Sound.{ShapesSound, Sound}
 use Rattle.ix_model.specs.Events.{Op}
-use Rattle.ix_model.proofs.Frames.{FrameSound, frame_of, whole_of}
+use Rattle.ix_model.proofs.Frames.{frame_of, whole_of}
 use Rattle.ix_model.proofs.Following.{follows_decided}
 use Rattle.ix_model.proofs.Answered.{step_frame}
 use Rattle.ix_model.proofs.Cleaning.{clean_step}

@@ -50,7 +50,7 @@ module _ (f : Frame) (s : NamesSound f) where
           let same : child x name ≡ Some o = ap (λ y. child (unwrap_or y sought.nothing) name) (sym is) ∙ h in
           no_pipe_there _ (s.living n o x is (child_named x.names name o same))
 
-  walk_there : (names : List (List ℕ)) (n : ℕ) (before : Option ℕ) (o : ℕ) (dir : Option ℕ) → is_some (at f.objects n) ≡ true → (walk_from f.objects n before names).outcome ≡ sought.Found o dir → is_some (at f.objects o) ≡ true
+  pub walk_there : (names : List (List ℕ)) (n : ℕ) (before : Option ℕ) (o : ℕ) (dir : Option ℕ) → is_some (at f.objects n) ≡ true → (walk_from f.objects n before names).outcome ≡ sought.Found o dir → is_some (at f.objects o) ≡ true
   walk_there [] n before o dir there h = let same : n ≡ o = cc in ap (λ m. is_some (at f.objects m)) (sym same) ∙ there
   walk_there (name ∷ names) n before o dir there h =
       branch (is_dir (node f.objects n)) (child (node f.objects n) name) refl h (λ m k. walk_there names m (Some n) o dir k)
@@ -67,7 +67,7 @@ module _ (f : Frame) (s : NamesSound f) where
       branch true None is k next = lacks names k
       branch true (Some m) is k next = next m (child_there n m name there is) k
 
-start_there : (f : Frame) (p : Process) (absolute : Bool) → NamesSound f → option_map_or is_dir (at f.objects p.cwd) false ≡ true → is_some (at f.objects (if absolute then 0 else p.cwd)) ≡ true
+pub start_there : (f : Frame) (p : Process) (absolute : Bool) → NamesSound f → option_map_or is_dir (at f.objects p.cwd) false ≡ true → is_some (at f.objects (if absolute then 0 else p.cwd)) ≡ true
 start_there f p true s home = dir_there _ s.root
 start_there f p false s home = dir_there _ home
 

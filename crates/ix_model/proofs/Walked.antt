@@ -63,7 +63,7 @@ module _ (f : Frame) where
   start_dir p true root home = root
   start_dir p false root home = home
 
-  walks : (p : Process) (path : PathOf) → option_map_or is_dir (at f.objects 0) false ≡ true → option_map_or is_dir (at f.objects p.cwd) false ≡ true → Leads f (last_name path.names) (walk f.objects p path).outcome
+  pub walks : (p : Process) (path : PathOf) → option_map_or is_dir (at f.objects 0) false ≡ true → option_map_or is_dir (at f.objects p.cwd) false ≡ true → Leads f (last_name path.names) (walk f.objects p path).outcome
   walks p path root home = go path.names
     where
       go : (names : List (List ℕ)) → Leads f (last_name names) (walk_from f.objects (if path.absolute then 0 else p.cwd) None names).outcome

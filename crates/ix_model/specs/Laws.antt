@@ -1,6 +1,6 @@
 -- The laws of the machine's worlds: which are sound and clean, and what a refusal leaves.
 use Rattle.std.specs.Prelude.{◌≡◌, ◌≤◌, ◌<◌, ◌==◌, ℕ, true, false, List, ◌++◌, length, Some, None, is_some}
-use Rattle.ix_label.specs.Category.{Categories}
+use Rattle.ix_label.specs.Category.{join}
 use Rattle.ix_model.specs.Naming.{PathOf}
 use Rattle.ix_model.specs.Refusals.{keeps_label}
 use Rattle.ix_model.specs.World.{Frame, World, Object, Process, at, change, lives}
@@ -13,6 +13,7 @@ use Rattle.ix_model.specs.Walks.{Behind, behind, object_at}
 use Rattle.ix_model.specs.Step.{step, run, is_whole}
 use Rattle.ix_model.specs.Opening.{opening_world}
 use Rattle.ix_model.specs.Valid.{is_valid}
+use Rattle.ix_model.specs.Looked.{looked_at}
 use Rattle.ix_model.specs.Clean.{IsClean}
 use Rattle.ix_model.specs.Sound.{Sound}
 use Rattle.ix_model.specs.Events.{Op, Event}
@@ -46,15 +47,15 @@ abbrev pub ReachedWorldsAreClean : Type 0
 ReachedWorldsAreClean = (c : Config) (h : List Event) → IsClean (run (opening_world c) 1 h)
 
 -- ---- refusals
--- after a refusal the frame is as before but for the caller's label, which has changed only where the refusal keeps it,
--- and what a clean world holds stays
-pub record Refused (w : World) (pid : ℕ) (r : Refusal) (v : World) : Type 0 where
-  pub label : (l : Categories) × (v.frame ≡ record w.frame { processes = change w.frame.processes pid (λ p. record p { label = l }) })
+-- a refusal that keeps a raised label leaves the frame as before but for the caller's label, which is joined with what the
+-- call had looked at; every other one leaves it as before; and what a clean world holds stays
+pub record Refused (w : World) (pid : ℕ) (c : Op) (r : Refusal) (v : World) : Type 0 where
+  pub label : keeps_label r ≡ true → v.frame ≡ record w.frame { processes = change w.frame.processes pid (λ p. record p { label = join p.label (looked_at w.frame pid c r) }) }
   pub kept : keeps_label r ≡ false → v.frame ≡ w.frame
   pub content : IsClean w → v.content ≡ w.content
 
 abbrev pub RefusalsLeaveWorlds : Type 0
-RefusalsLeaveWorlds = (w : World) (place pid : ℕ) (o : Op) (r : Refusal) → (step w place pid o).reply ≡ reply.No r → Refused w pid r (step w place pid o).world
+RefusalsLeaveWorlds = (w : World) (place pid : ℕ) (o : Op) (r : Refusal) → (step w place pid o).reply ≡ reply.No r → Refused w pid o r (step w place pid o).world
 
 -- ---- objects
 -- an object stands behind each descriptor of a living process, and wherever a path is found to lead

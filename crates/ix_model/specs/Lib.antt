@@ -34,4 +34,8 @@ pub mod Cost
 pub mod Freshness
 pub mod WholePaths
 pub mod Shown
+pub mod Looked
 pub mod Laws
+pub mod CallLaws
+pub mod Privileged
+pub mod ClaimedPaths

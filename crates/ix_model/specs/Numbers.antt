@@ -1,8 +1,8 @@
 -- The numbers of objects: the inodes of the first file system from 0, then those of the next and so on, then the pipes.
-use Rattle.std.specs.Prelude.{ℕ, ◌+◌, ◌==◌, Bool, List, length, map, sum, take, drop, Option, Some}
+use Rattle.std.specs.Prelude.{ℕ, ◌+◌, ◌==◌, Bool, List, length, map, sum, take, drop, Option}
 use Rattle.std.specs.Option.{option_map_or}
 use Rattle.std.proofs.Common.{option_map}
-use Rattle.ix_model.specs.World.{fs_at, Frame, Object, at, lowest_free}
+use Rattle.ix_model.specs.World.{fs_at, Frame, Object, lowest_free}
 use Rattle.ix_model.specs.declared.config.FsSpec.{FsSpec}
 
 -- the first inode of a file system, which is its root directory

@@ -110,5 +110,5 @@ affect pid o through = do
 
 -- Opens the words that the code steps through; those for which it has a call of its own stay closed.
 unfoldable pub coding : ℕ
-unfolding ◌>>=◌ ◌>>◌ on_pass need some only_if pass refuse frame process object change_process change_object put_open change_open
+unfolding ◌>>=◌ ◌>>◌ on_pass need some only_if pass refuse frame process object change_process change_object change_open put_object put_process put_open add_process
 coding = 0

@@ -1,11 +1,11 @@
 -- What makes a config valid.
-use Rattle.std.specs.Prelude.{ℕ, suc, ◌+◌, ◌-◌, ◌==◌, nat_le, Bool, true, not, ◌&&◌, ◌||◌, List, [], ◌∷◌, ◌++◌, length, map, sum, filter, take, drop, position, Option, Some}
+use Rattle.std.specs.Prelude.{ℕ, suc, ◌+◌, ◌-◌, ◌==◌, nat_le, Bool, true, not, ◌&&◌, ◌||◌, List, [], ◌∷◌, ◌++◌, length, map, sum, filter, take, drop, position, Option}
 use Rattle.std.specs.Option.{option_map_or}
 use Rattle.std.specs.List.{list_all, list_any}
-use Rattle.ix_label.specs.Category.{Categories, leq, top}
+use Rattle.ix_label.specs.Category.{leq}
 use Rattle.ix_model.specs.Naming.{same_bytes, same_names}
 use Rattle.ix_model.specs.Privs.{is_empty}
-use Rattle.ix_model.specs.World.{fs_at, at}
+use Rattle.ix_model.specs.World.{fs_at}
 use Rattle.ix_model.specs.Telling.{blocks_for}
 use Rattle.ix_model.specs.declared.config.Config.{Config}
 use Rattle.ix_model.specs.declared.config.FsSpec.{FsSpec}

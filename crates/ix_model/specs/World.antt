@@ -1,5 +1,5 @@
 -- The machine's world: the frame that calls decide on, and the content that it holds.
-use Rattle.std.specs.Prelude.{ℕ, Bool, true, false, not, ◌&&◌, ◌==◌, if◌then◌else◌, List, [], ◌∷◌, map, position, Option, Some, None, is_none, slice_set, slice_index_or}
+use Rattle.std.specs.Prelude.{ℕ, Bool, true, false, not, ◌&&◌, ◌==◌, if◌then◌else◌, List, [], ◌∷◌, position, Option, Some, None, is_none, slice_set, slice_index_or}
 use Rattle.std.specs.Option.{option_map_or}
 use Rattle.std.proofs.Common.{option_map}
 use Rattle.std.specs.List.{list_any}

@@ -1,4 +1,7 @@
 //! What holds of the machine's worlds. These functions do nothing: each states a law, which is proved.
+ghost use Rattle.ix_model.specs.ClaimedPaths.{OnlyClaimantsGetThrough, ClaimantsReadWhatClaimantsWrote};
+ghost use Rattle.ix_model.specs.CallLaws.{LimitsNeverChange, RowsAskForWhatStands};
+ghost use Rattle.ix_model.specs.Privileged.{TheEntitledExercise, PrivilegesChangeAsSaid};
 ghost use Rattle.ix_model.specs.Laws.{
   OpeningWorldsAreSound,
   OpeningWorldsAreClean,
@@ -46,7 +49,8 @@ pub fn reached_worlds_are_clean()
 {}
 
 /// A refused call leaves the frame as it was but for the caller's label, and that too unless the refusal is one of those
-/// that keep a label that a look has raised. It leaves what a clean world holds.
+/// that keep a label that a look has raised: then it is joined with what the call had looked at, and is no other. It
+/// leaves what a clean world holds.
 pub fn what_a_refusal_leaves()
     ensures refused { RefusalsLeaveWorlds }
 {}
@@ -80,4 +84,41 @@ pub fn whole_paths_begin_empty()
 /// Whatever a pipe holds was written in it since it was last empty: the last bytes that were written to that end.
 pub fn pipes_hold_what_was_written()
     ensures written { PipesHoldWhatWasWritten }
+{}
+
+/// No history changes the limits, the file systems, or how many numbers of objects and open entries there are.
+pub fn limits_never_change()
+    ensures limits { LimitsNeverChange }
+{}
+
+/// In a sound world no row asks for an object, an open entry or a process at a number at which nothing stands: NoProcess
+/// comes exactly where the caller or the process that the call names doesn't live, and BadFd to a living caller exactly where
+/// the call names a descriptor that is none of its own.
+pub fn rows_ask_for_what_stands()
+    ensures stands { RowsAskForWhatStands }
+{}
+
+/// Who exercises a privilege has it among its capabilities in the frame before, and a licence for it, its own or its
+/// program's.
+pub fn the_entitled_exercise()
+    ensures entitled { TheEntitledExercise }
+{}
+
+/// The privileges of a process change only where it makes an exec, which takes the file's, or drops some, or is granted
+/// licences, and as these say; a new process has its parent's. What an object carries changes only where SetPriv sets it,
+/// and a new object carries none.
+pub fn privileges_change_as_said()
+    ensures privileges { PrivilegesChangeAsSaid }
+{}
+
+/// Nobody but the claimant gets through a claimed end: a read, a write or a claim by another process is refused, gives no
+/// bytes and changes nothing.
+pub fn only_claimants_get_through()
+    ensures stopped { OnlyClaimantsGetThrough }
+{}
+
+/// Where a call made a path whole, and it has been whole since, all that is read from it was written by a claimant since,
+/// whichever pipe had its number before.
+pub fn claimants_read_what_claimants_wrote()
+    ensures inside { ClaimantsReadWhatClaimantsWrote }
 {}

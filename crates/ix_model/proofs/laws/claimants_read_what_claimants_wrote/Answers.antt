@@ -1,0 +1,5 @@
+use Rattle.ix_model.proofs.Claimed.{claimants_read}
+use Rattle.ix_model.proofs.laws.claimants_read_what_claimants_wrote.Goals as goal
+
+pub returns : goal.returns
+returns c = record { inside = claimants_read }

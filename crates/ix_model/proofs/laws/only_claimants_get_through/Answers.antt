@@ -1,0 +1,5 @@
+use Rattle.ix_model.proofs.Stopping.{stops}
+use Rattle.ix_model.proofs.laws.only_claimants_get_through.Goals as goal
+
+pub returns : goal.returns
+returns c = record { stopped = stops }
