@@ -96,7 +96,7 @@ unfolding two.all_open
 writer_is_low_at_seven = not_high seven two.all_open.frame 2 (simp labels refl)
 
 -- three bytes
-written_three : World
+unfoldable pub written_three : World
 written_three = two.world bottom (1 ∷ 2 ∷ []) (0 ∷ []) seven (codes "ABC") (two.writes_d seven 3 ∷ two.on_d bottom 0 ∷ two.on_e 0 ∷ [])
 
 three_read_low : World
@@ -105,7 +105,7 @@ three_read_low = two.world bottom (1 ∷ 2 ∷ []) (0 ∷ []) seven (codes "ABC"
 three_read_high : World
 three_read_high = two.world seven (1 ∷ 2 ∷ []) (0 ∷ []) seven (codes "ABC") (two.writes_d seven 3 ∷ two.on_d seven 2 ∷ two.on_e 2 ∷ [])
 
-writes_three : Steps two.all_open 4 2 (op.WriteFd 0 (codes "ABC")) (number written_three 3)
+pub writes_three : Steps two.all_open 4 2 (op.WriteFd 0 (codes "ABC")) (number written_three 3)
 unfolding running two.all_open written_three
 writes_three = (simp labels refl, refl)
 

@@ -31,4 +31,5 @@ mod Fitting
 mod Agreeing
 mod Freshened
 mod Falling
+mod Alikeness
 mod Costing

@@ -8,6 +8,8 @@ ghost use Rattle.ix_model.specs.Events.{CreateAt, LinkAt, WriteFd, SelfLabel};
 ghost use Rattle.ix_model.specs.Freshness.{Reading, Writing};
 ghost use Rattle.ix_model.specs.Lowering.{Lowered, Crosses};
 ghost use Rattle.ix_model.specs.Opening.{opening_world};
+ghost use Rattle.ix_model.specs.EqualLengths.{AlikeInLength};
+ghost use Rattle.ix_model.specs.TwoRuns.{Alike};
 ghost use Rattle.ix_worked.specs.Downgrading.{one_line, lowering};
 ghost use Rattle.ix_worked.specs.LooksAnew.{held_low, reading_twice};
 ghost use Rattle.ix_worked.specs.OnDescriptors.{desk};
@@ -62,6 +64,17 @@ pub fn what_is_written_low_may_not_be_replaced()
 pub fn a_status_that_is_given_high_may_be_replaced()
     ensures agree { BothAgree bottom family (leaving_high 3) (leaving_high 4) }
     ensures in_length { BothAgreeInLength bottom family (leaving_high 3) (leaving_high 4) }
+{}
+
+/// After the write the worlds are alike at bottom, whatever was written, and at 7 they aren't. Where more was written they
+/// have one shape still, but not the same lengths.
+#[tactic(auto, using(crate::proofs::Alikeness::two_are_alike, crate::proofs::Alikeness::two_are_alike_in_length, crate::proofs::Alikeness::three_are_alike, crate::proofs::Alikeness::three_are_not_in_length, crate::proofs::Alikeness::two_are_not_at_seven))]
+pub fn worlds_are_alike_below_what_was_written()
+    ensures alike { Alike bottom (after two_levels (writing (codes "AA")) 4) (after two_levels (writing (codes "BB")) 4) }
+    ensures in_length { AlikeInLength bottom (after two_levels (writing (codes "AA")) 4) (after two_levels (writing (codes "BB")) 4) }
+    ensures longer { Alike bottom (after two_levels (writing (codes "AA")) 4) (after two_levels (writing (codes "ABC")) 4) }
+    ensures lengths { AlikeInLength bottom (after two_levels (writing (codes "AA")) 4) (after two_levels (writing (codes "ABC")) 4) → ⊥ }
+    ensures own { Alike seven (after two_levels (writing (codes "AA")) 4) (after two_levels (writing (codes "BB")) 4) → ⊥ }
 {}
 
 /// A descriptor is fresh for reading from its first read until another process raises the file, and a refused read
