@@ -55,8 +55,11 @@ lowered_again = with_line (log_line 8 1 act.DownFile 1 seven bottom) (raised 1 b
 unfoldable pub child_cut : World
 child_cut = raised 1 seven (holding 1 (codes "ab") [] high_child)
 
+unfoldable pub opened_above : World
+opened_above = with_entry 1 1 1 (opened 1 mode.Read) child_cut
+
 unfoldable pub cut_lowered : World
-cut_lowered = with_line (log_line 6 1 act.DownFile 1 seven bottom) (raised 1 bottom child_cut)
+cut_lowered = with_line (log_line 7 1 act.DownFile 1 seven bottom) (raised 1 bottom opened_above)
 
 unfoldable pub reading : World
 reading = with_entry 1 0 0 (opened 1 mode.Read) at_desk
@@ -79,7 +82,7 @@ half_drained = holding 4 (codes "y") [] (floated 2 seven (with_child 1 piped))
 -- opens all of them
 unfoldable pub worlds : ℕ
 unfolding at_desk both high_child read_first child_sought cut_low child_wrote lowered wrote_on lowered_again child_cut
-    cut_lowered reading reading_child two_open piped filled half_drained
+    opened_above cut_lowered reading reading_child two_open piped filled half_drained
 worlds = 0
 
 -- ---- the histories
@@ -143,11 +146,14 @@ cutting_high_ran = lines_given (opening_world shared_desk) 1 (calls cutting_high
     ∷ done high_child
     ∷ done child_cut
     ∷ answered child_cut (reply.Lab seven)
+    ∷ number opened_above 1
     ∷ done cut_lowered
     ∷ bytes (moved 0 2 cut_lowered) (codes "ab")
+    ∷ bytes (moved 1 1 (moved 0 2 cut_lowered)) (codes "a")
     ∷ [])
     ((simp labels refl, refl) ⨾ (refl, refl) ⨾ (simp labels refl, refl) ⨾ (simp labels refl, refl)
-    ⨾ (simp labels refl, refl) ⨾ (simp labels refl, refl) ⨾ (simp labels refl, refl) ⨾ tt)
+    ⨾ (simp labels refl, refl) ⨾ (simp labels refl, refl) ⨾ (simp labels refl, refl) ⨾ (simp labels refl, refl)
+    ⨾ (simp labels refl, refl) ⨾ tt)
 
 pub reading_nothing_high_ran : Goes shared_desk reading_nothing_high
 unfolding running worlds
