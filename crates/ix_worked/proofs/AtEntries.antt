@@ -21,72 +21,74 @@ unfolding fitting
 shared_desk_fits = simp labels refl
 
 -- ---- the worlds that they come to
-at_desk : World
+unfoldable pub at_desk : World
 at_desk = opening_world shared_desk
 
-both : World
+unfoldable pub both : World
 both = with_entry 1 0 0 (opened 1 mode.Both) at_desk
 
 -- the child is there, at 7
-high_child : World
+unfoldable pub high_child : World
 high_child = floated 2 seven (with_child 1 both)
 
-read_first : World
+unfoldable pub read_first : World
 read_first = moved 0 1 both
 
-child_sought : World
+unfoldable pub child_sought : World
 child_sought = marked 0 seven (floated 2 seven (with_child 1 read_first))
 
-cut_low : World
+unfoldable pub cut_low : World
 cut_low = holding 1 (codes "ab") [] child_sought
 
-child_wrote : World
+unfoldable pub child_wrote : World
 child_wrote = marked 0 seven (raised 1 seven (moved 0 1 (holding 1 (codes "xbc") [] high_child)))
 
-lowered : World
+unfoldable pub lowered : World
 lowered = with_line (log_line 5 1 act.DownFile 1 seven bottom) (raised 1 bottom child_wrote)
 
-wrote_on : World
+unfoldable pub wrote_on : World
 wrote_on = raised 1 seven (moved 0 2 (holding 1 (codes "xyc") [] lowered))
 
-lowered_again : World
+unfoldable pub lowered_again : World
 lowered_again = with_line (log_line 8 1 act.DownFile 1 seven bottom) (raised 1 bottom wrote_on)
 
-child_cut : World
+unfoldable pub child_cut : World
 child_cut = raised 1 seven (holding 1 (codes "ab") [] high_child)
 
-cut_lowered : World
-cut_lowered = with_line (log_line 6 1 act.DownFile 1 seven bottom) (raised 1 bottom child_cut)
+unfoldable pub opened_above : World
+opened_above = with_entry 1 1 1 (opened 1 mode.Read) child_cut
 
-reading : World
+unfoldable pub cut_lowered : World
+cut_lowered = with_line (log_line 7 1 act.DownFile 1 seven bottom) (raised 1 bottom opened_above)
+
+unfoldable pub reading : World
 reading = with_entry 1 0 0 (opened 1 mode.Read) at_desk
 
-reading_child : World
+unfoldable pub reading_child : World
 reading_child = floated 2 seven (with_child 1 reading)
 
-two_open : World
+unfoldable pub two_open : World
 two_open = with_entry 1 1 1 (opened 1 mode.Read) (marked 0 seven reading_child)
 
-piped : World
+unfoldable pub piped : World
 piped = with_pipe 1 4 0 1 0 1 at_desk
 
-filled : World
+unfoldable pub filled : World
 filled = holding 4 (codes "xy") [] (with_child 1 piped)
 
-half_drained : World
+unfoldable pub half_drained : World
 half_drained = holding 4 (codes "y") [] (floated 2 seven (with_child 1 piped))
 
 -- opens all of them
-worlds : ℕ
+unfoldable pub worlds : ℕ
 unfolding at_desk both high_child read_first child_sought cut_low child_wrote lowered wrote_on lowered_again child_cut
-    cut_lowered reading reading_child two_open piped filled half_drained
+    opened_above cut_lowered reading reading_child two_open piped filled half_drained
 worlds = 0
 
 -- ---- the histories
-pub seeking_high_ran : Goes shared_desk seeking_high
-unfolding running worlds
-seeking_high_ran = lines_given (opening_world shared_desk) 1 (calls seeking_high)
-    (number both 0
+abbrev pub seeking_high_given : List Given
+seeking_high_given =
+    number both 0
     ∷ bytes read_first (codes "a")
     ∷ number (with_child 1 read_first) 2
     ∷ done (floated 2 seven (with_child 1 read_first))
@@ -95,10 +97,18 @@ seeking_high_ran = lines_given (opening_world shared_desk) 1 (calls seeking_high
     ∷ answered cut_low (reply.Lab bottom)
     ∷ done (moved 0 0 cut_low)
     ∷ bytes (floated 1 seven (moved 0 2 cut_low)) (codes "ab")
-    ∷ [])
-    ((simp labels refl, refl) ⨾ (simp labels refl, refl) ⨾ (refl, refl) ⨾ (simp labels refl, refl)
+    ∷ []
+
+pub seeking_high_steps : Gives (opening_world shared_desk) 1 (calls seeking_high) seeking_high_given
+unfolding running worlds
+seeking_high_steps =
+    (simp labels refl, refl) ⨾ (simp labels refl, refl) ⨾ (refl, refl) ⨾ (simp labels refl, refl)
     ⨾ (simp labels refl, refl) ⨾ (simp labels refl, refl) ⨾ (simp labels refl, refl) ⨾ (simp labels refl, refl)
-    ⨾ (simp labels refl, refl) ⨾ tt)
+    ⨾ (simp labels refl, refl) ⨾ tt
+
+pub seeking_high_ran : Goes shared_desk seeking_high
+unfolding running worlds
+seeking_high_ran = lines_given (opening_world shared_desk) 1 (calls seeking_high) seeking_high_given seeking_high_steps
 
 abbrev writing_high_given : List Given
 writing_high_given =
@@ -136,11 +146,14 @@ cutting_high_ran = lines_given (opening_world shared_desk) 1 (calls cutting_high
     ∷ done high_child
     ∷ done child_cut
     ∷ answered child_cut (reply.Lab seven)
+    ∷ number opened_above 1
     ∷ done cut_lowered
     ∷ bytes (moved 0 2 cut_lowered) (codes "ab")
+    ∷ bytes (moved 1 1 (moved 0 2 cut_lowered)) (codes "a")
     ∷ [])
     ((simp labels refl, refl) ⨾ (refl, refl) ⨾ (simp labels refl, refl) ⨾ (simp labels refl, refl)
-    ⨾ (simp labels refl, refl) ⨾ (simp labels refl, refl) ⨾ (simp labels refl, refl) ⨾ tt)
+    ⨾ (simp labels refl, refl) ⨾ (simp labels refl, refl) ⨾ (simp labels refl, refl) ⨾ (simp labels refl, refl)
+    ⨾ (simp labels refl, refl) ⨾ tt)
 
 pub reading_nothing_high_ran : Goes shared_desk reading_nothing_high
 unfolding running worlds

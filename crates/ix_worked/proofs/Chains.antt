@@ -1,5 +1,5 @@
 -- A history shows what its steps give, one after another.
-use Rattle.std.proofs.Common.{◌≡◌, ℕ, suc, ◌+◌, ◌&&◌, List, [], ◌∷◌, ◌++◌, length, if◌then◌else◌, refl, ap, ◌∙◌, arith}
+use Rattle.std.proofs.Common.{◌≡◌, ℕ, zero, suc, ◌+◌, ◌&&◌, List, [], ◌∷◌, ◌++◌, length, take, if◌then◌else◌, refl, ap, ◌∙◌, arith}
 use Rattle.std.specs.Option.{option_map_or}
 use Rattle.ix_model.specs.World.{World}
 use Rattle.ix_model.specs.Step.{Given, answer, step, step_of, run}
@@ -50,7 +50,7 @@ decision_before o g = record { reply = reply_before o g.reply; frame = g.world.f
 abbrev pub Steps : World → ℕ → ℕ → Op → Given → Type 0
 Steps w place pid o g = (verdict (told w pid o) place pid o w.frame ≡ decision_before o g) × (answer w pid o (decision_before o g) ≡ g)
 
-stepped : (w : World) (place pid : ℕ) (o : Op) (g : Given) → Steps w place pid o g → step w place pid o ≡ g
+pub stepped : (w : World) (place pid : ℕ) (o : Op) (g : Given) → Steps w place pid o g → step w place pid o ≡ g
 unfolding step
 stepped w place pid o g h = ap (answer w pid o) h.0 ∙ h.1
 
@@ -82,7 +82,7 @@ lines_given w place (e ∷ events) (g ∷ gs) (link ⨾ links) =
     ap (λ x. line_of e x ∷ lines_of x.world (suc place) events) (stepped w place e.pid e.op g link)
     ∙ ap (λ ls. line_of e g ∷ ls) (lines_given g.world (suc place) events gs links)
 
-run_given : (w : World) (place : ℕ) (events : List Event) (gs : List Given) → Gives w place events gs → run w place events ≡ last_of w events gs
+pub run_given : (w : World) (place : ℕ) (events : List Event) (gs : List Given) → Gives w place events gs → run w place events ≡ last_of w events gs
 run_given w place [] gs h = refl
 run_given w place (e ∷ events) [] h = absurd h
 run_given w place (e ∷ events) (g ∷ gs) (link ⨾ links) = ap (λ x. run x.world (suc place) events) (stepped w place e.pid e.op g link) ∙ run_given g.world (suc place) events gs links
@@ -123,6 +123,13 @@ log_given_from w place (e ∷ events) (g ∷ gs) (link ⨾ links) =
 
 pub log_given : (c : Config) (w : World) (events : List Event) (gs : List Given) → opening_world c ≡ w → Gives w 1 events gs → log_of c events ≡ log_by w 1 events gs
 log_given c w events gs opening h = ap (λ v. audit_log v 1 events) opening ∙ log_given_from w 1 events gs h
+
+-- a history's beginning gives the beginning of what it gives
+pub gives_some : (n : ℕ) (w : World) (place : ℕ) (events : List Event) (gs : List Given) → Gives w place events gs → Gives w place (take n events) (take n gs)
+gives_some zero w place events gs h = tt
+gives_some (suc n) w place [] gs h = tt
+gives_some (suc n) w place (e ∷ events) [] h = absurd h
+gives_some (suc n) w place (e ∷ events) (g ∷ gs) (link ⨾ links) = link ⨾ gives_some n g.world (suc place) events gs links
 
 -- the lines of a history in two parts
 pub lines_more : (w : World) (place : ℕ) (es fs : List Event) → lines_of w place (es ++ fs) ≡ lines_of w place es ++ lines_of (run w place es) (length es + place) fs

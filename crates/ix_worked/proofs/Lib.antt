@@ -28,3 +28,8 @@ mod AtProcesses
 mod AtLabels
 mod AtEntries
 mod Fitting
+mod Agreeing
+mod Freshened
+mod Falling
+mod Alikeness
+mod Costing

@@ -16,10 +16,10 @@ use Rattle.ix_worked.proofs.Labels.{labels}
 use Rattle.ix_worked.proofs.Worlds.{with_line, raised}
 
 -- ---- the worlds, in order
-at_first : World
+unfoldable pub at_first : World
 at_first = opening_world one_line
 
-lowered : World
+unfoldable pub lowered : World
 lowered = with_line (log_line 3 3 act.DownFile 1 three bottom) (raised 1 bottom at_first)
 
 -- opens all of them
@@ -45,7 +45,7 @@ unfolding running worlds
 has_no_room = (simp labels refl, refl)
 
 -- ---- all of them. The worlds stay closed until the last step is taken.
-abbrev given : List Given
+abbrev pub given : List Given
 given =
     refused at_first refusal.NoCapability
     ∷ refused at_first refusal.NoLicence
@@ -53,10 +53,10 @@ given =
     ∷ refused lowered refusal.LogFull
     ∷ []
 
-gives : Gives at_first 1 lowering given
+pub gives : Gives at_first 1 lowering given
 gives = lacks_capability ⨾ lacks_licence ⨾ lowers ⨾ has_no_room ⨾ tt
 
-opens : opening_world one_line ≡ at_first
+pub opens : opening_world one_line ≡ at_first
 unfolding at_first
 opens = refl
 

@@ -15,63 +15,63 @@ use Rattle.ix_worked.proofs.Labels.{labels}
 use Rattle.ix_worked.proofs.Worlds.{opened, with_entry, with_fd, moved}
 
 -- ---- the worlds, in order
-at_first : World
+unfoldable pub at_first : World
 at_first = opening_world one_file
 
-one_open : World
+unfoldable pub one_open : World
 one_open = with_entry 1 0 0 (opened 1 mode.Read) at_first
 
-both : World
+unfoldable pub both : World
 both = with_fd 1 1 (Some 0) one_open
 
-read_one : World
+unfoldable pub read_one : World
 read_one = moved 0 1 both
 
-read_two : World
+unfoldable pub read_two : World
 read_two = moved 0 2 both
 
-closed : World
+unfoldable pub closed : World
 closed = with_fd 1 0 None read_two
 
-read_all : World
+unfoldable pub read_all : World
 read_all = moved 0 3 closed
 
 -- opens all of them
-worlds : ℕ
+unfoldable pub worlds : ℕ
 unfolding at_first one_open both read_one read_two closed read_all
 worlds = 0
 
 -- ---- the steps from one to the next
-opens_it : Steps at_first 1 1 (op.OpenAt (in_root (codes "n")) mode.Read) (number one_open 0)
+pub opens_it : Steps at_first 1 1 (op.OpenAt (in_root (codes "n")) mode.Read) (number one_open 0)
 unfolding running worlds
 opens_it = (simp labels refl, refl)
 
-copies : Steps one_open 2 1 (op.DupFd 0) (number both 1)
+pub copies : Steps one_open 2 1 (op.DupFd 0) (number both 1)
 unfolding running worlds
 copies = (refl, refl)
 
-reads_a : Steps both 3 1 (op.ReadFd 0 1) (bytes read_one (codes "a"))
+pub reads_a : Steps both 3 1 (op.ReadFd 0 1) (bytes read_one (codes "a"))
 unfolding running worlds
 reads_a = (simp labels refl, refl)
 
-reads_b : Steps read_one 4 1 (op.ReadFd 1 1) (bytes read_two (codes "b"))
+pub reads_b : Steps read_one 4 1 (op.ReadFd 1 1) (bytes read_two (codes "b"))
 unfolding running worlds
 reads_b = (simp labels refl, refl)
 
-closes : Steps read_two 5 1 (op.CloseFd 0) (done closed)
+pub closes : Steps read_two 5 1 (op.CloseFd 0) (done closed)
 unfolding running worlds
 closes = (refl, refl)
 
-is_refused : Steps closed 6 1 (op.SeekFd 1 1048577) (refused closed refusal.TooBig)
+pub is_refused : Steps closed 6 1 (op.SeekFd 1 1048577) (refused closed refusal.TooBig)
 unfolding running worlds
 is_refused = (refl, refl)
 
-reads_c : Steps closed 7 1 (op.ReadFd 1 8) (bytes read_all (codes "c"))
+pub reads_c : Steps closed 7 1 (op.ReadFd 1 8) (bytes read_all (codes "c"))
 unfolding running worlds
 reads_c = (simp labels refl, refl)
 
 -- ---- all of them. The worlds stay closed until the last step is taken.
-abbrev given : List Given
+abbrev pub given : List Given
 given =
     number one_open 0
     ∷ number both 1
@@ -82,12 +82,12 @@ given =
     ∷ bytes read_all (codes "c")
     ∷ []
 
-gives : Gives at_first 1 sharing given
+pub gives : Gives at_first 1 sharing given
 gives =
     opens_it ⨾ copies ⨾ reads_a ⨾ reads_b
     ⨾ closes ⨾ is_refused ⨾ reads_c ⨾ tt
 
-opens : opening_world one_file ≡ at_first
+pub opens : opening_world one_file ≡ at_first
 unfolding at_first
 opens = refl
 

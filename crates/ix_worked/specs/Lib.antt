@@ -27,4 +27,5 @@ pub mod OnPaths
 pub mod OnProcesses
 pub mod OnLabels
 pub mod OnEntries
+pub mod PairsOfRuns
 pub mod Configs

@@ -49,7 +49,7 @@ writing_high =
 abbrev pub writing_high_log : List AuditLine
 writing_high_log = log_line 5 1 act.DownFile 1 seven bottom ∷ log_line 8 1 act.DownFile 1 seven bottom ∷ []
 
--- the child is at 7 and cuts, which moves no offset; its parent lowers the file, and reads
+-- the child is at 7 and cuts, which moves no offset; its parent opens the file anew, lowers it, and reads by both
 abbrev pub cutting_high : List (Event × Line)
 cutting_high =
     (by 1 (op.OpenAt (in_root (codes "n")) mode.Both), gives (reply.Number 0) [] bottom)
@@ -57,8 +57,10 @@ cutting_high =
     ∷ (by 2 (op.SetSelf seven), gives reply.Done [] seven)
     ∷ (by 2 (op.CutFd 0 2), gives reply.Done [] seven)
     ∷ (by 1 (op.LabelOf (in_root (codes "n"))), gives (reply.Lab seven) [] bottom)
+    ∷ (by 1 (op.OpenAt (in_root (codes "n")) mode.Read), gives (reply.Number 1) [] bottom)
     ∷ (by 1 (op.SetLabel (in_root (codes "n")) bottom), gives reply.Done [] bottom)
     ∷ (by 1 (op.ReadFd 0 8), gives (reply.Bytes 2) (codes "ab") bottom)
+    ∷ (by 1 (op.ReadFd 1 1), gives (reply.Bytes 1) (codes "a") bottom)
     ∷ []
 
 -- the child is at 7 and reads no byte; its parent opens the file anew, and then reads through the open entry that both have

@@ -372,7 +372,8 @@ pub fn a_write_marks_its_open_entry()
     ensures logged { log_of shared_desk (calls writing_high) ≡ writing_high_log }
 {}
 
-/// A cut affects the file, and leaves the open entry without a mark.
+/// A cut affects the file, and leaves the open entry without a mark. Neither has one that is opened anew while the file
+/// is above.
 #[tactic(auto, using(crate::proofs::AtEntries::shared_desk_fits, crate::proofs::AtEntries::cutting_high_ran))]
 pub fn a_cut_marks_no_open_entry()
     ensures valid { is_valid shared_desk ≡ true }

@@ -5,6 +5,7 @@
 pub mod configs;
 pub mod edges;
 pub mod refusals;
+pub mod two_runs;
 
 ghost use Rattle.std.specs.Prelude.{◌≡◌, ℕ, true, [], ◌∷◌, codes, take};
 ghost use Rattle.ix_model.specs.Valid.{is_valid, is_flat};

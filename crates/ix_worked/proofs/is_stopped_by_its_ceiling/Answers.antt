@@ -1,7 +1,6 @@
 use Rattle.std.proofs.Common.{refl}
 use Rattle.ix_worked.proofs.Computing.{running, fitting}
-use Rattle.ix_worked.proofs.Labels.{labels, leq-with_one}
-use Rattle.ix_worked.specs.Scripts.{three}
+use Rattle.ix_worked.proofs.Labels.{labels}
 use Rattle.ix_worked.proofs.is_stopped_by_its_ceiling.Goals as goal
 
 pub returns-clause-valid : goal.returns-clause-valid
@@ -14,4 +13,4 @@ returns-clause-flat c = refl
 
 pub returns-clause-shown : goal.returns-clause-shown
 unfolding running
-returns-clause-shown c = simp (labels, leq-with_one three 5 3 refl) refl
+returns-clause-shown c = simp labels refl
