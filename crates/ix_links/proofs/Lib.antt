@@ -1,0 +1,4 @@
+pub mod Running
+pub mod Listing
+pub mod Calls
+pub mod Making
