@@ -54,7 +54,7 @@ two-parts f (xs ∷ xss) zero (suc m) l n ne = omega (arith, part-le-total f xss
 two-parts f (xs ∷ xss) (suc k) zero l n ne = omega (arith, part-le-total f xss k (omega arith))
 two-parts f (xs ∷ xss) (suc k) (suc m) l n ne = omega (arith, two-parts f xss k m (omega arith) (omega arith) (λ e. ne (ap suc e)))
 
-at_most_once : (s : Chains) (i : ℕ) → IsPool s → total (times i) (lists s) ≤ 1
+pub at_most_once : (s : Chains) (i : ℕ) → IsPool s → total (times i) (lists s) ≤ 1
 at_most_once s i h = let once = h.once i in grind (arith, nat_tests)
 
 -- an index stands in one chain
