@@ -11,6 +11,7 @@ use Rattle.ix_links.specs.declared.link.Link.{Link}
 use Rattle.ix_links.specs.declared.link.Ends.{Ends}
 use Rattle.ix_links.specs.declared.links.Links.TheInside.{Inside}
 use Rattle.ix_links.specs.Chains.{Chains, lists, times, total, without, pool, chain_of, all_free, pushed_front, pushed_back, front_moved, back_moved, removed, before}
+use Rattle.ix_links.specs.Whole.{IsPool}
 use Rattle.ix_links.specs.Linking.{loose, link_at, Within, unlinked_items, unlinked_ends, inserted_items, inserted_ends}
 use Rattle.ix_links.specs.Standing.{walk, head_or, Runs, IsChain, AreChains, Hold, links_view, IsSound}
 use Rattle.ix_links.proofs.Running.{Once, Among, times-append, times_here, times_skip, times_other, link_between, chain-inserted, link_in_chain, length-unlinked, length-inserted, head-among, last-among}
@@ -204,3 +205,7 @@ previous_in_chain s k i n l h is e = ap (λ (m : Link). m.previous) (found s i n
 
 pub previous_in_free : (s : Inside) (i n : ℕ) (l : Link) → IsSound s → l ≡ get_or s.items.items i l → slice_get (links_view s).free n ≡ Some i → l.previous ≡ before (links_view s).free n
 previous_in_free s i n l h is e = ap (λ (m : Link). m.previous) (found s i n l _ h.hold.chains.0.runs is e) ∙ before_or-none _ n
+
+-- the law of a pool
+pub is_pool : (s : Inside) → IsSound s → IsPool (links_view s)
+is_pool s h = record { once = λ i. h.hold.once i ∙ ap (λ n. cond (nat_lt i n) 1 0) (sym h.hold.all); few = omega (arith, h.hold.all, h.few) }

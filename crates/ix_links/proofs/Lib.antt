@@ -2,3 +2,4 @@ pub mod Running
 pub mod Listing
 pub mod Calls
 pub mod Making
+pub mod Held

@@ -1,3 +1,4 @@
 pub mod Chains
 pub mod Linking
 pub mod Standing
+pub mod Whole

@@ -1,5 +1,6 @@
 ghost use Rattle.std.specs.Prelude.{◌≡◌, ℕ, ◌+◌, ◌<◌, length, slice_get, IfOk, Some, None};
 ghost use Rattle.std.specs.List.{last_or, Contains};
+ghost use Rattle.ix_links.specs.Whole.{IsPool};
 ghost use Rattle.ix_links.specs.Chains.{chain_of, pool, all_free, pushed_front, pushed_back, removed, before};
 
 use crate::link;
@@ -65,6 +66,14 @@ impl Links {
             unused,
             free: items,
         })
+    }
+
+    /// Does nothing: its contract is the law that each index of the pool stands in one list, and
+    /// there once.
+    pub fn is_pool(&self)
+        ensures { IsPool self.now }
+    {
+        let _ = &self.free;
     }
 
     /// How many indices are free. Constant time.
