@@ -1,0 +1,4 @@
+mod OneKind
+mod Kin
+mod Counts
+mod Shapes
