@@ -1,10 +1,10 @@
 -- The laws of isolation: what two runs that agree at a label have in common.
-use Rattle.std.specs.Prelude.{◌≡◌, ℕ, true}
+use Rattle.std.specs.Prelude.{◌≡◌, ℕ, ◌+◌, suc, Bool, true, false, List, [], ◌∷◌, take, Some, slice_get}
 use Rattle.ix_label.specs.Category.{Categories}
 use Rattle.ix_model.specs.World.{World, Frame}
-use Rattle.ix_model.specs.Step.{Given, step}
+use Rattle.ix_model.specs.Step.{Given, step, step_of, run}
 use Rattle.ix_model.specs.Lowering.{Crosses}
-use Rattle.ix_model.specs.TwoRuns.{shape, Alike, IsLow, AgreeAt, is_one_kind}
+use Rattle.ix_model.specs.TwoRuns.{shape, Alike, IsLow, Low, AgreeAt, Agree, is_one_kind}
 use Rattle.ix_model.specs.Events.{Op, Event}
 use Rattle.ix_model.specs.Events as op
 use Rattle.ix_model.specs.declared.reply.Reply.{Reply}
@@ -27,3 +27,39 @@ pub record OneShape (o p : Op) (a b : Given) : Type 0 where
 -- so two calls do from worlds of one shape, where their replies are of one kind
 abbrev pub KeepShape : Op → Op → Type 0
 KeepShape o p = (v w : World) (place pid : ℕ) → shape v ≡ shape w → is_one_kind (step v place pid o).reply (step w place pid p).reply ≡ true → OneShape o p (step v place pid o) (step w place pid p)
+
+-- two calls by a process leave worlds alike at L, where no label crosses L; and where it ends low their replies are equal,
+-- with bytes and status
+pub record AlikeAfter (l : Categories) (pid : ℕ) (f : Frame) (a b : Given) : Type 0 where
+  pub worlds : (Crosses l f a.world.frame → ⊥) → Alike l a.world b.world
+  pub replies : IsLow l a.world.frame pid → (a.reply ≡ b.reply) × (a.bytes ≡ b.bytes)
+
+-- so two entries with these calls do from worlds alike at L, where they agree at L and their replies are of one kind
+abbrev pub KeepAlike : Op → Op → Type 0
+KeepAlike o p = (l : Categories) (v w : World) (seat line place pid : ℕ) → Alike l v w → AgreeAt l v.frame (record { seat = seat; line = line; pid = pid; op = o }) (record { seat = seat; line = line; pid = pid; op = p }) → is_one_kind (step v place pid o).reply (step w place pid p).reply ≡ true → AlikeAfter l pid v.frame (step v place pid o) (step w place pid p)
+
+-- ---- histories
+-- no entry of a history crosses L; the first is at this place
+abbrev pub NoneCrosses : Categories → World → ℕ → List Event → Type 0
+NoneCrosses l w place [] = Unit {0}
+NoneCrosses l w place (e ∷ events) = (Crosses l w.frame (step_of w place e).world.frame → ⊥) × NoneCrosses l (step_of w place e).world (suc place) events
+
+-- what an entry gives after the first n entries of a history
+abbrev pub given_after : World → ℕ → List Event → ℕ → Event → Given
+given_after w place events n e = step_of (run w place (take n events)) (place + n) e
+
+-- what two histories that agree at L, from worlds alike at L, have in common
+pub record Isolated (l : Categories) (v w : World) (place : ℕ) (events others : List Event) : Type 0 where
+  -- after each prefix the shapes are equal
+  pub shapes : (n : ℕ) → shape (run v place (take n events)) ≡ shape (run w place (take n others))
+  -- at each place the replies are equal in the part that the frame decides
+  pub replies : (n : ℕ) (e f : Event) → slice_get events n ≡ Some e → slice_get others n ≡ Some f → frame_part e.op (given_after v place events n e).reply ≡ frame_part f.op (given_after w place others n f).reply
+  -- after each prefix in which no entry crosses L the worlds are alike at L
+  pub worlds : (n : ℕ) → NoneCrosses l v place (take n events) → Alike l (run v place (take n events)) (run w place (take n others))
+  -- where an entry is low and none before it crosses L, the replies are equal with their bytes and status
+  pub reads : (n : ℕ) (e f : Event) → slice_get events n ≡ Some e → slice_get others n ≡ Some f → NoneCrosses l v place (take n events) → Low l (run v place (take n events)) (place + n) e →
+      ((given_after v place events n e).reply ≡ (given_after w place others n f).reply) × ((given_after v place events n e).bytes ≡ (given_after w place others n f).bytes)
+
+-- whatever the label, the worlds and the histories are
+abbrev pub Isolation : Type 0
+Isolation = (l : Categories) (v w : World) (place : ℕ) (events others : List Event) → Alike l v w → Agree l v w place events others → Isolated l v w place events others

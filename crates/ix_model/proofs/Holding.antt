@@ -37,8 +37,8 @@ side_changed f c o end h fits r = record {
       (r.directory n x is dir);
   second = λ n x is other. set_either (λ (s : Holding). s.second ≡ []) holds_nothing c.holdings o n _
       (λ here.
-          let there : at f.objects o ≡ Some x = ap (at f.objects) (sym here) ∙ is in
-          first_alone end (h (side end (holding_of c o))) (holding_of c o) ((fits x there).1 other) ∙ r.second o x there other)
+      let there : at f.objects o ≡ Some x = ap (at f.objects) (sym here) ∙ is in
+      first_alone end (h (side end (holding_of c o))) (holding_of c o) ((fits x there).1 other) ∙ r.second o x there other)
       (r.second n x is other);
 }
 

@@ -222,7 +222,7 @@ module _ (f : Frame) (limits : WithinLimits f) (r : LowEntries f f) where
       (λ pipe. ends_pass _ _ PL QL (same_low g opens fss)))
 
   read_rest : (t : Told) (pid : ℕ) (x : Object) (e : Behind) (g : Frame) → g.opens ≡ f.opens → g.fss ≡ f.fss → at f.opens e.id ≡ Some e.entry → at f.objects e.entry.object ≡ Some x
-    → Ends (◌>>=◌ frame (λ h. ◌>>◌ (need (not (is_pipe x && t.empty && held h.opens e.entry.object (1 - e.entry.end))) refusal.Again) (◌>>=◌ (process pid) (λ p. ◌>>◌ (float_entry p x e) (pass read_passed)))) g) PL QL
+      → Ends (◌>>=◌ frame (λ h. ◌>>◌ (need (not (is_pipe x && t.empty && held h.opens e.entry.object (1 - e.entry.end))) refusal.Again) (◌>>=◌ (process pid) (λ p. ◌>>◌ (float_entry p x e) (pass read_passed)))) g) PL QL
   unfolding PL QL
   read_rest t pid x e g opens fss stands here =
       let s = same_low g opens fss in
