@@ -6,3 +6,4 @@ mod Entries
 mod Inside
 mod Facts
 mod Steps
+mod Histories

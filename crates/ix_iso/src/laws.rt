@@ -6,7 +6,7 @@ ghost use Rattle.ix_model.specs.Events as op;
 ghost use Rattle.ix_model.specs.declared.call.Mode.{Mode};
 ghost use Rattle.ix_model.specs.declared.call.Keep.{Keep};
 ghost use Rattle.ix_model.specs.declared.privs.PrivSet.{PrivSet};
-ghost use Rattle.ix_iso.specs.Laws.{KeepShape, KeepAlike};
+ghost use Rattle.ix_iso.specs.Laws.{KeepShape, KeepAlike, Isolation};
 
 // ---- equal shapes
 
@@ -430,4 +430,14 @@ pub fn alike_step_unpex()
 #[tactic(auto, using(crate::proofs::Steps::alike_ops))]
 pub fn alike_step_read_log()
     ensures law { (index : ℕ) → KeepAlike (op.ReadLog index) (op.ReadLog index) }
+{}
+
+// ---- whole histories
+
+/// What two runs have in common whose histories agree at a label, from worlds alike at it: the shapes after each prefix, and
+/// the replies but for how many bytes were read or written, sizes and statuses; the worlds at that label, as long as no
+/// entry crosses it; and until then all that a low process is told, bytes and statuses too.
+#[tactic(auto, using(crate::proofs::Histories::isolated))]
+pub fn isolation()
+    ensures isolated { Isolation }
 {}
