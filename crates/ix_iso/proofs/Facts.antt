@@ -157,21 +157,25 @@ write_known t pid fd f =
     tt)) tt)) tt)) tt)))) tt)) tt)) tt)) tt)) tt)) tt)
 
 -- ---- a look at a file
-objects_kept : (f : Frame) (p : ℕ) (h : Process → Process) → Keeps (λ g. g.objects ≡ f.objects) (change_process p h)
+-- walks leave the objects and the log as they are
+abbrev pub Looking : Frame → Frame → Type 0
+Looking f g = (g.objects ≡ f.objects) × (g.log ≡ f.log)
+
+looking_changed : (f : Frame) (p : ℕ) (h : Process → Process) → Keeps (Looking f) (change_process p h)
 unfolding change_process Holds
-objects_kept f p h = record { led = λ g r. r }
+looking_changed f p h = record { led = λ g r. r }
 
-objects_observed : (f : Frame) (pid : ℕ) (seen : Categories) → Keeps (λ g. g.objects ≡ f.objects) (observe pid seen)
+looking_observed : (f : Frame) (pid : ℕ) (seen : Categories) → Keeps (Looking f) (observe pid seen)
 unfolding observe
-objects_observed f pid seen = search (keeping, objects_kept) depth 30
+looking_observed f pid seen = search (keeping, looking_changed) depth 30
 
-objects_walked : (f : Frame) (pid : ℕ) (path : PathOf) → Keeps (λ g. g.objects ≡ f.objects) (walked_to pid path)
+looking_walked : (f : Frame) (pid : ℕ) (path : PathOf) → Keeps (Looking f) (walked_to pid path)
 unfolding walked_to
-objects_walked f pid path = search (keeping, objects_observed) depth 30
+looking_walked f pid path = search (keeping, looking_observed) depth 30
 
-pub objects_found : (f : Frame) (pid : ℕ) (path : PathOf) → Keeps (λ g. g.objects ≡ f.objects) (object_at pid path)
+pub looking_found : (f : Frame) (pid : ℕ) (path : PathOf) → Keeps (Looking f) (object_at pid path)
 unfolding object_at
-objects_found f pid path = search (keeping, objects_walked) depth 30
+looking_found f pid path = search (keeping, looking_walked) depth 30
 
 pub record StatFacts (pid : ℕ) (f : Frame) (r : Reply) (g : Frame) : Type 0 where
   pub number : ℕ
@@ -187,10 +191,10 @@ pub stat_known : (pid : ℕ) (path : PathOf) (f : Frame) → Ends (stat_at pid p
 unfolding stat_at
 stat_known pid path f =
     let Q : Reply → Frame → Type 0 = StatFacts pid f in
-    ends_bind _ _ f Anything Q (ends_kept (λ m. m.objects ≡ f.objects) (object_at pid path f) Anything _ ((objects_found f pid path).led f refl) (λ r m kept. tt) (λ o m kept.
+    ends_bind _ _ f Anything Q (ends_kept (Looking f) (object_at pid path f) Anything _ ((looking_found f pid path).led f (refl, refl)) (λ r m kept. tt) (λ o m kept.
     ends_bind _ _ m Anything Q (ends_object o m Anything _ (λ x here.
     ends_then _ _ m Anything Q (ends_looks pid x.label m _ (λ g p objects opens lives sees.
-    ends_bind _ _ g Anything Q (ends_frame g Anything _ (ends_pass _ g Anything Q (record { number = o; object = x; is_object = ap (λ t. at t o) (sym kept) ∙ here; links = _; is_reply = refl; process = p; lives = lives; sees = sees }))))))
+    ends_bind _ _ g Anything Q (ends_frame g Anything _ (ends_pass _ g Anything Q (record { number = o; object = x; is_object = ap (λ t. at t o) (sym kept.0) ∙ here; links = _; is_reply = refl; process = p; lives = lives; sees = sees }))))))
     tt)))
 
 -- ---- a wait

@@ -7,3 +7,5 @@ mod Inside
 mod Facts
 mod Steps
 mod Histories
+mod Rising
+mod Lowerings

@@ -1,12 +1,17 @@
 -- The laws of isolation: what two runs that agree at a label have in common.
-use Rattle.std.specs.Prelude.{◌≡◌, ℕ, ◌+◌, suc, Bool, true, false, List, [], ◌∷◌, take, Some, slice_get}
+use Rattle.std.specs.Prelude.{◌≡◌, ℕ, ◌+◌, suc, Bool, true, false, List, [], ◌∷◌, ◌++◌, take, Some, slice_get}
 use Rattle.ix_label.specs.Category.{Categories}
 use Rattle.ix_model.specs.World.{World, Frame}
 use Rattle.ix_model.specs.Step.{Given, step, step_of, run}
-use Rattle.ix_model.specs.Lowering.{Crosses}
+use Rattle.ix_model.specs.Auditing.{audit_line}
+use Rattle.ix_model.specs.AuditLog.{is_licensed, lines_added}
+use Rattle.ix_model.specs.Lowering.{Crosses, Lowered}
+use Rattle.ix_model.specs.Lowering as low
 use Rattle.ix_model.specs.TwoRuns.{shape, Alike, IsLow, Low, AgreeAt, Agree, is_one_kind}
 use Rattle.ix_model.specs.Events.{Op, Event}
 use Rattle.ix_model.specs.Events as op
+use Rattle.ix_model.specs.declared.audit.Act.TheVariants as act
+use Rattle.ix_model.specs.declared.audit.AuditLine.{AuditLine}
 use Rattle.ix_model.specs.declared.reply.Reply.{Reply}
 use Rattle.ix_model.specs.declared.reply.Reply.TheVariants as reply
 
@@ -63,3 +68,20 @@ pub record Isolated (l : Categories) (v w : World) (place : ℕ) (events others 
 -- whatever the label, the worlds and the histories are
 abbrev pub Isolation : Type 0
 Isolation = (l : Categories) (v w : World) (place : ℕ) (events others : List Event) → Alike l v w → Agree l v w place events others → Isolated l v w place events others
+
+-- ---- lowered labels
+-- the line that a lowering has in the log: the entry's place and process, downfile or downself, the object or the process,
+-- and its label before and after
+abbrev pub line_of_lowering : {f g : Frame} → ℕ → ℕ → Lowered f g → AuditLine
+line_of_lowering place pid (low.OfObject o x y before after falls) = audit_line place pid act.DownFile o x.label y.label
+line_of_lowering place pid (low.OfProcess p x y before after falls) = audit_line place pid act.DownSelf p x.label y.label
+
+-- an entry is licensed, and the log has that line for it
+pub record IsLogged (w : World) (place : ℕ) (e : Event) (line : AuditLine) : Type 0 where
+  pub licensed : is_licensed w place e ≡ true
+  pub added : lines_added w place e ≡ line ∷ []
+  pub log : (step_of w place e).world.frame.log ≡ w.frame.log ++ line ∷ []
+
+-- each entry that lowered a label is licensed and logged
+abbrev pub LoweringsAreLogged : Type 0
+LoweringsAreLogged = (w : World) (place : ℕ) (e : Event) → (lowered : Lowered w.frame (step_of w place e).world.frame) → IsLogged w place e (line_of_lowering place e.pid lowered)

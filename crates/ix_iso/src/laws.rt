@@ -6,7 +6,7 @@ ghost use Rattle.ix_model.specs.Events as op;
 ghost use Rattle.ix_model.specs.declared.call.Mode.{Mode};
 ghost use Rattle.ix_model.specs.declared.call.Keep.{Keep};
 ghost use Rattle.ix_model.specs.declared.privs.PrivSet.{PrivSet};
-ghost use Rattle.ix_iso.specs.Laws.{KeepShape, KeepAlike, Isolation};
+ghost use Rattle.ix_iso.specs.Laws.{KeepShape, KeepAlike, Isolation, LoweringsAreLogged};
 
 // ---- equal shapes
 
@@ -440,4 +440,10 @@ pub fn alike_step_read_log()
 #[tactic(auto, using(crate::proofs::Histories::isolated))]
 pub fn isolation()
     ensures isolated { Isolation }
+{}
+
+/// Each entry that lowered a label is licensed, and the log ends in its line: downfile or downself, the object or the
+/// process, and its label before and after.
+pub fn lowered_step()
+    ensures logged { LoweringsAreLogged }
 {}
