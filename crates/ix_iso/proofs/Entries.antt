@@ -187,3 +187,26 @@ module _ (f : Frame) (pid : ℕ) where
 -- whatever is called, no label of an open entry that stays is below what it was
 pub entries_rise : (t : Told) (place pid : ℕ) (c : Op) (f : Frame) → EntriesRise f.opens (verdict t place pid c f).frame.opens
 entries_rise t place pid c f = decided (λ g. EntriesRise f.opens g.opens) t place pid c f (rise_itself f.opens) (rise_row f pid t place c)
+
+-- ---- where no open entry's label changes
+-- the calls that go by the shape alone: the others read, write, seek or end a process, or needn't be looked at
+abbrev pub leaves_labels : Op → Bool
+leaves_labels (op.ReadFd fd count) = false
+leaves_labels (op.WriteFd fd bytes) = false
+leaves_labels (op.SeekFd fd offset) = false
+leaves_labels _ = true
+
+module _ (f : Frame) (pid : ℕ) where
+  stay_row : (t : Told) (place : ℕ) (c : Op) → leaves_labels c ≡ true → Holds (row t place pid c f) (λ g. EntriesStay f.opens g.opens)
+  unfolding still adds
+  stay_row t place (op.ReadFd fd count) h = absurd (true≢false (sym h))
+  stay_row t place (op.WriteFd fd bytes) h = absurd (true≢false (sym h))
+  stay_row t place (op.SeekFd fd offset) h = absurd (true≢false (sym h))
+  stay_row t place (op.CloseFd fd) h = (moved_row still pid _ (staying f pid) t place (op.CloseFd fd) refl).led f (stay_itself f.opens)
+  stay_row t place (op.UnlinkAt path) h = (moved_row still pid _ (staying f pid) t place (op.UnlinkAt path) refl).led f (stay_itself f.opens)
+  stay_row t place (op.RemoveDir path) h = (moved_row still pid _ (staying f pid) t place (op.RemoveDir path) refl).led f (stay_itself f.opens)
+  stay_row t place (op.Exit status) h = (moved_row still pid _ (staying f pid) t place (op.Exit status) refl).led f (stay_itself f.opens)
+  stay_row t place c h = added_row f pid t place c (moved_row adds pid _ (adding f pid) t place c refl)
+
+pub entries_stay : (t : Told) (place pid : ℕ) (c : Op) (f : Frame) → leaves_labels c ≡ true → EntriesStay f.opens (verdict t place pid c f).frame.opens
+entries_stay t place pid c f h = decided (λ g. EntriesStay f.opens g.opens) t place pid c f (stay_itself f.opens) (stay_row f pid t place c h)

@@ -35,7 +35,7 @@ zeros_at zero n = refl
 zeros_at (suc m) zero = refl
 zeros_at (suc m) (suc n) = zeros_at m n
 
-grown_at : (xs : List ℕ) (m n : ℕ) → ◌≡◌ {A = ℕ} (get_or (xs ++ replicate m 0) n 0) (get_or xs n 0)
+pub grown_at : (xs : List ℕ) (m n : ℕ) → ◌≡◌ {A = ℕ} (get_or (xs ++ replicate m 0) n 0) (get_or xs n 0)
 grown_at [] m n = zeros_at m n
 grown_at (x ∷ xs) m zero = refl
 grown_at (x ∷ xs) m (suc n) = grown_at xs m n
@@ -79,19 +79,19 @@ carried_alike l f g c d entries steady same = record {
 }
 
 -- ---- edits
-set_alike : {A : Type 0} (d : A) (xs ys : List A) (n m : ℕ) (x y : A) → length xs ≡ length ys → (m ≡ n → x ≡ y) → get_or xs m d ≡ get_or ys m d → get_or (set xs n x) m d ≡ get_or (set ys n y) m d
-set_alike d [] [] n m x y long here same = same
-set_alike d [] (b ∷ ys) n m x y long here same = absurd (omega (arith, long))
-set_alike d (a ∷ xs) [] n m x y long here same = absurd (omega (arith, long))
-set_alike d (a ∷ xs) (b ∷ ys) zero zero x y long here same = here refl
-set_alike d (a ∷ xs) (b ∷ ys) zero (suc m) x y long here same = same
-set_alike d (a ∷ xs) (b ∷ ys) (suc n) zero x y long here same = same
-set_alike d (a ∷ xs) (b ∷ ys) (suc n) (suc m) x y long here same = set_alike d xs ys n m x y (omega (arith, long)) (λ e. here (ap suc e)) same
+pub set_alike : {A : Type 0} (d : A) (xs ys : List A) (n m : ℕ) (x y : A) → length xs ≡ length ys → (m ≡ n → x ≡ y) → ((m ≡ n → ⊥) → get_or xs m d ≡ get_or ys m d) → get_or (set xs n x) m d ≡ get_or (set ys n y) m d
+set_alike d [] [] n m x y long here apart = refl
+set_alike d [] (b ∷ ys) n m x y long here apart = absurd (omega (arith, long))
+set_alike d (a ∷ xs) [] n m x y long here apart = absurd (omega (arith, long))
+set_alike d (a ∷ xs) (b ∷ ys) zero zero x y long here apart = here refl
+set_alike d (a ∷ xs) (b ∷ ys) zero (suc m) x y long here apart = apart (λ e. omega (arith, e))
+set_alike d (a ∷ xs) (b ∷ ys) (suc n) zero x y long here apart = apart (λ e. omega (arith, e))
+set_alike d (a ∷ xs) (b ∷ ys) (suc n) (suc m) x y long here apart = set_alike d xs ys n m x y (omega (arith, long)) (λ e. here (ap suc e)) (λ other. apart (λ e. other (omega (arith, e))))
 
 module _ (l : Categories) (g : Frame) (c d : Content) (counts : SameCounts c d) (same : AlikeIn l g c d) where
   pub holding_alike : (o : ℕ) (a b : Holding) → ((x : Object) → at g.objects o ≡ Some x → leq x.label l ≡ true → a ≡ b) → AlikeIn l g (record c { holdings = set c.holdings o a }) (record d { holdings = set d.holdings o b })
   holding_alike o a b equal = record {
-    bytes = λ n x here below. set_alike holds_nothing c.holdings d.holdings o n a b counts.holdings (λ e. equal x (ap (at g.objects) (sym e) ∙ here) below) (same.bytes n x here below);
+    bytes = λ n x here below. set_alike holds_nothing c.holdings d.holdings o n a b counts.holdings (λ e. equal x (ap (at g.objects) (sym e) ∙ here) below) (λ other. same.bytes n x here below);
     offsets = same.offsets;
     statuses = same.statuses;
   }
@@ -99,7 +99,7 @@ module _ (l : Categories) (g : Frame) (c d : Content) (counts : SameCounts c d) 
   pub offset_alike : (e m n : ℕ) → ((x : Open) → at g.opens e ≡ Some x → leq x.label l ≡ true → m ≡ n) → AlikeIn l g (record c { offsets = set c.offsets e m }) (record d { offsets = set d.offsets e n })
   offset_alike e m n equal = record {
     bytes = same.bytes;
-    offsets = λ k x here below. set_alike 0 c.offsets d.offsets e k m n counts.offsets (λ i. equal x (ap (at g.opens) (sym i) ∙ here) below) (same.offsets k x here below);
+    offsets = λ k x here below. set_alike 0 c.offsets d.offsets e k m n counts.offsets (λ i. equal x (ap (at g.opens) (sym i) ∙ here) below) (λ other. same.offsets k x here below);
     statuses = same.statuses;
   }
 
@@ -107,5 +107,5 @@ module _ (l : Categories) (g : Frame) (c d : Content) (counts : SameCounts c d) 
   status_alike p m n equal = record {
     bytes = same.bytes;
     offsets = same.offsets;
-    statuses = λ k x here ended below. set_alike 0 c.statuses d.statuses p k m n counts.statuses (λ i. equal x (ap (at g.processes) (sym i) ∙ here) below) (same.statuses k x here ended below);
+    statuses = λ k x here ended below. set_alike 0 c.statuses d.statuses p k m n counts.statuses (λ i. equal x (ap (at g.processes) (sym i) ∙ here) below) (λ other. same.statuses k x here ended below);
   }

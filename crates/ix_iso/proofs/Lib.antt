@@ -9,3 +9,7 @@ mod Steps
 mod Histories
 mod Rising
 mod Lowerings
+mod Zeroed
+mod InLength
+mod ByShape
+mod Opened

@@ -6,7 +6,8 @@ ghost use Rattle.ix_model.specs.Events as op;
 ghost use Rattle.ix_model.specs.declared.call.Mode.{Mode};
 ghost use Rattle.ix_model.specs.declared.call.Keep.{Keep};
 ghost use Rattle.ix_model.specs.declared.privs.PrivSet.{PrivSet};
-ghost use Rattle.ix_iso.specs.Laws.{KeepShape, KeepAlike, Isolation, LoweringsAreLogged};
+ghost use Rattle.ix_iso.specs.Configs.{ConfigsOpenAlike};
+ghost use Rattle.ix_iso.specs.Laws.{KeepShape, KeepAlike, Isolation, LoweringsAreLogged, OutlinesDecideKinds, IsolationInLength, MostCallsGoByShape};
 
 // ---- equal shapes
 
@@ -432,6 +433,15 @@ pub fn alike_step_read_log()
     ensures law { (index : ℕ) → KeepAlike (op.ReadLog index) (op.ReadLog index) }
 {}
 
+// ---- calls that go by the shape alone
+
+/// All calls but eight neither read nor edit what is held. From worlds of one shape they give equal replies and worlds of one
+/// shape, and from worlds alike at a label worlds alike at it, unless a label crosses it.
+#[tactic(auto, using(crate::proofs::ByShape::by_shape))]
+pub fn alike_by_shape()
+    ensures most { MostCallsGoByShape }
+{}
+
 // ---- whole histories
 
 /// What two runs have in common whose histories agree at a label, from worlds alike at it: the shapes after each prefix, and
@@ -446,4 +456,26 @@ pub fn isolation()
 /// process, and its label before and after.
 pub fn lowered_step()
     ensures logged { LoweringsAreLogged }
+{}
+
+// ---- with equal lengths
+
+/// From worlds in which bytes and statuses alone differ, two calls that differ in bytes of one length or in a status alone
+/// have replies of one kind, and leave such worlds.
+pub fn outlines_decide_kinds()
+    ensures one { OutlinesDecideKinds }
+{}
+
+/// The law of `isolation` where all lengths and offsets are equal: nothing is asked of the replies, and lengths and offsets
+/// stay equal.
+pub fn isolation_in_length()
+    ensures isolated { IsolationInLength }
+{}
+
+// ---- configs
+
+/// Two configs that differ only in the bytes of files not at or below a label open worlds that are alike at it; where these
+/// bytes are as many in both, all lengths are equal.
+pub fn configs_alike()
+    ensures alike { ConfigsOpenAlike }
 {}
