@@ -1,8 +1,8 @@
 -- The calls that neither read nor edit what is held.
-use Rattle.std.proofs.Common.{◌≡◌, ◌+◌, ℕ, Bool, true, false, true≢false, ◌&&◌, List, length, Option, Some, None, is_some, if◌then◌else◌, refl, sym, ap, ◌∙◌, arith, subst, get_or}
+use Rattle.std.proofs.Common.{◌≡◌, ◌+◌, ℕ, Bool, true, false, true≢false, ◌&&◌, List, length, is_some, if◌then◌else◌, refl, sym, ap, ◌∙◌, arith, subst, get_or}
 use Rattle.ix_label.specs.Category.{Categories}
-use Rattle.ix_model.specs.World.{World, Frame, Content, Open, at, is_ended}
-use Rattle.ix_model.specs.Contents.{keep, grown, carried, holding_of, offset_of, status_of, holds_nothing}
+use Rattle.ix_model.specs.World.{World, Frame, at, is_ended}
+use Rattle.ix_model.specs.Contents.{keep, grown, carried, holds_nothing}
 use Rattle.ix_model.specs.Table.{Decision, verdict}
 use Rattle.ix_model.specs.Telling.{told, nothing_told}
 use Rattle.ix_model.specs.Step.{Given, plainly, answer, step}
@@ -11,9 +11,8 @@ use Rattle.ix_model.specs.TwoRuns.{shape, Alike, AlikeIn}
 use Rattle.ix_model.specs.Events.{Op}
 use Rattle.ix_model.specs.Events as op
 use Rattle.ix_model.proofs.Carrying.{get_or-keep}
-use Rattle.ix_model.proofs.Answered.{step_frame}
-use Rattle.ix_iso.specs.Laws.{goes_by_shape, LeavesWhatIsHeld, GoesByShape, OneShape}
-use Rattle.ix_iso.proofs.Counts.{shape_frames, shape_counts}
+use Rattle.ix_iso.specs.Laws.{goes_by_shape, LeavesWhatIsHeld, GoesByShape}
+use Rattle.ix_iso.proofs.Counts.{shape_frames}
 use Rattle.ix_iso.proofs.Shapes.{twins_itself, one_shape, left, right}
 use Rattle.ix_iso.proofs.Entries.{EntriesStay, entries_stay, entries_rise, leaves_labels}
 use Rattle.ix_iso.proofs.Inside.{carried_alike, grown_at}

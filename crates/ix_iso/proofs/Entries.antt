@@ -13,7 +13,7 @@ use Rattle.ix_model.specs.Events as op
 use Rattle.ix_model.proofs.Finds.{at_put, at_change}
 use Rattle.ix_model.proofs.Keeps.{Holds, Keeps}
 use Rattle.ix_model.proofs.Lasts.{Lasting, lasting_itself, lasting_put, decided}
-use Rattle.ix_model.proofs.Rowwise.{Change, Moving, Opening, LettingGo, Moves, changes_of, moved_row}
+use Rattle.ix_model.proofs.Rowwise.{Change, Moving, Opening, LettingGo, Moves, moved_row}
 use Rattle.ix_model.proofs.Turns.{holds_more}
 
 -- ---- what is asked of the open entries alone

@@ -1,21 +1,17 @@
 -- What is known where the rows pass that answer bytes, sizes and statuses: whose labels the caller's is not below.
-use Rattle.std.proofs.Common.{◌≡◌, ◌≢◌, ◌-◌, ℕ, Bool, true, false, true≢false, not, ◌&&◌, List, Option, Some, None, option_map, refl, sym, ap, ◌∙◌, subst, inl, inr}
-use Rattle.std.proofs.lemmas.Bool.{and_parts, not-true, not-false}
+use Rattle.std.proofs.Common.{◌≡◌, ℕ, true, false, true≢false, ◌&&◌, List, Option, Some, None, option_map, refl, sym, ap, ◌∙◌, subst, inl, inr}
+use Rattle.std.proofs.lemmas.Bool.{and_parts, not-false}
 use Rattle.std.proofs.lemmas.List.Quantifiers.{position-Some}
-use Rattle.ix_label.specs.Category.{Categories, join, leq, same}
-use Rattle.ix_label.specs.Lattice.{same-decides, leq-refl, leq-trans, leq-join_left, leq-join_right}
+use Rattle.ix_label.specs.Category.{Categories, join, leq}
+use Rattle.ix_label.specs.Lattice.{same-decides, leq-trans, leq-join_left, leq-join_right}
 use Rattle.ix_model.specs.Naming.{PathOf}
-use Rattle.ix_model.specs.World.{Frame, Object, Process, Open, at, put, change, living, is_pipe, is_ended, held}
-use Rattle.ix_model.specs.Outcomes.{Row}
-use Rattle.ix_model.specs.Rows.{◌>>=◌, ◌>>◌, pass, need, only_if, frame, process, change_process, change_open, observe, affect}
+use Rattle.ix_model.specs.World.{Frame, Object, Process, Open, at, put, change, living, is_pipe, is_ended}
+use Rattle.ix_model.specs.Rows.{change_process, observe, affect}
 use Rattle.ix_model.specs.Walks.{Behind, behind, walked_to, object_at}
-use Rattle.ix_model.specs.OnDescriptors.{Told, float_entry, read_fd, write_fd, read_passed, write_passed}
-use Rattle.ix_model.specs.OnPaths.{stat_at, stat_passed, links_of}
+use Rattle.ix_model.specs.OnDescriptors.{Told, float_entry, read_fd, write_fd}
+use Rattle.ix_model.specs.OnPaths.{stat_at, stat_passed}
 use Rattle.ix_model.specs.OnProcesses.{is_child, wait_child, wait_passed}
-use Rattle.ix_model.specs.declared.refusal.Refusal.{Refusal}
-use Rattle.ix_model.specs.declared.refusal.Refusal.TheVariants as refusal
 use Rattle.ix_model.specs.declared.reply.Reply.{Reply}
-use Rattle.ix_model.specs.declared.reply.Reply.TheVariants as reply
 use Rattle.ix_model.proofs.Tables.{at_changed}
 use Rattle.ix_model.proofs.Finds.{at_put, at_change}
 use Rattle.ix_model.proofs.Living.{is_living, not_ended, lives_as}

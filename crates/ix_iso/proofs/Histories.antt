@@ -1,12 +1,11 @@
 -- Whole histories, by induction.
-use Rattle.std.proofs.Common.{◌≡◌, ◌+◌, ℕ, zero, suc, Bool, true, false, List, [], ◌∷◌, take, slice_get, Option, Some, None, refl, sym, ap, ◌∙◌, arith, subst}
+use Rattle.std.proofs.Common.{◌≡◌, ℕ, zero, suc, true, List, [], ◌∷◌, take, slice_get, Some, sym, ap, ◌∙◌, arith, subst}
 use Rattle.ix_label.specs.Category.{Categories}
-use Rattle.ix_model.specs.World.{World, Frame}
-use Rattle.ix_model.specs.Step.{Given, step, step_of, run}
-use Rattle.ix_model.specs.Lowering.{Crosses}
-use Rattle.ix_model.specs.TwoRuns.{shape, Alike, IsLow, Low, AgreeAt, Same, Other, Agree, is_one_kind}
-use Rattle.ix_model.specs.Events.{Op, Event}
-use Rattle.ix_iso.specs.Laws.{frame_part, OneShape, AlikeAfter, NoneCrosses, given_after, Isolated}
+use Rattle.ix_model.specs.World.{World}
+use Rattle.ix_model.specs.Step.{Given, step_of, run}
+use Rattle.ix_model.specs.TwoRuns.{shape, Alike, IsLow, AgreeAt, Same, Other, Agree, is_one_kind}
+use Rattle.ix_model.specs.Events.{Event}
+use Rattle.ix_iso.specs.Laws.{frame_part, OneShape, NoneCrosses, given_after, Isolated}
 use Rattle.ix_iso.proofs.Shapes.{twins_itself, twins_replaced, shape_twins}
 use Rattle.ix_iso.proofs.Steps.{alike_events}
 

@@ -1,20 +1,19 @@
 -- What a row decides depends on the frame and on the kind of its reply alone, whatever it is told of lengths.
-use Rattle.std.proofs.Common.{◌≡◌, ◌≢◌, ◌+◌, ℕ, Bool, true, false, not, ◌&&◌, refl, sym, ap, ◌∙◌, arith, if◌then◌else◌}
+use Rattle.std.proofs.Common.{◌≡◌, ◌≢◌, ℕ, Bool, true, false, refl, sym, arith, if◌then◌else◌}
 use Rattle.ix_model.specs.Refusals.{number_of, keeps_label}
-use Rattle.ix_model.specs.World.{Frame, Object, Process, lives, is_pipe, held}
+use Rattle.ix_model.specs.World.{Frame, Object, lives}
 use Rattle.ix_model.specs.Outcomes.{Row, Outcome, Refuse, Pass}
-use Rattle.ix_model.specs.Rows.{◌>>=◌, ◌>>◌, on_pass, pass, refuse, need, frame, process}
+use Rattle.ix_model.specs.Rows.{◌>>=◌, ◌>>◌, on_pass, pass, refuse, need, process}
 use Rattle.ix_model.specs.Walks.{Behind}
 use Rattle.ix_model.specs.OnDescriptors.{Told, float_entry, read_fd, write_fd, cut_fd, read_passed}
 use Rattle.ix_model.specs.Table.{Decision, row, settled, verdict}
-use Rattle.ix_model.specs.TwoRuns.{is_one_kind}
 use Rattle.ix_model.specs.Events.{Op}
 use Rattle.ix_model.specs.Events as op
 use Rattle.ix_model.specs.declared.reply.Reply.{Reply}
 use Rattle.ix_model.specs.declared.reply.Reply.TheVariants as reply
 use Rattle.ix_model.specs.declared.refusal.Refusal.{Refusal}
 use Rattle.ix_model.specs.declared.refusal.Refusal.TheVariants as refusal
-use Rattle.ix_model.proofs.Ends.{Ends, Anything, ending, ends_bind, ends_then, ends_need, ends_caller, ends_pass}
+use Rattle.ix_model.proofs.Ends.{Ends, ending, ends_bind, ends_then, ends_caller, ends_pass}
 use Rattle.ix_model.proofs.Looks.{ends_touch, ends_float_entry}
 use Rattle.ix_iso.proofs.OneKind.{kind_number, one_refusal}
 

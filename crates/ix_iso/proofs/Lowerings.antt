@@ -1,22 +1,21 @@
 -- What is lowered is logged: of the two calls that set a label, each that lowers one has its line.
-use Rattle.std.proofs.Common.{◌≡◌, ◌≢◌, ℕ, Bool, true, false, true≢false, not, List, [], ◌∷◌, ◌++◌, Option, Some, None, if◌then◌else◌, refl, sym, ap, ◌∙◌, subst, inl, inr, append-nil}
+use Rattle.std.proofs.Common.{◌≡◌, ℕ, Bool, true, false, true≢false, not, List, [], ◌∷◌, ◌++◌, Some, if◌then◌else◌, refl, sym, ap, ◌∙◌, subst, inl, inr, append-nil}
 use Rattle.std.specs.Option.{option_map_or}
-use Rattle.std.proofs.lemmas.Bool.{not-true, not-false}
+use Rattle.std.proofs.lemmas.Bool.{not-false}
 use Rattle.std.proofs.lemmas.List.{append_cancel_left}
 use Rattle.ix_label.specs.Category.{Categories, leq, same}
-use Rattle.ix_label.specs.Lattice.{leq-refl}
 use Rattle.ix_model.specs.Naming.{PathOf}
 use Rattle.ix_model.specs.Privs.{to_lower}
 use Rattle.ix_model.specs.World.{World, Frame, Object, Process, at, change, living}
-use Rattle.ix_model.specs.Rows.{◌>>◌, pass, need, only_if, change_object, change_process}
+use Rattle.ix_model.specs.Rows.{◌>>◌, pass, need, only_if, change_process}
 use Rattle.ix_model.specs.Walks.{object_at}
-use Rattle.ix_model.specs.Auditing.{exercise, logged, audit_line}
+use Rattle.ix_model.specs.Auditing.{logged, audit_line}
 use Rattle.ix_model.specs.AuditLog.{audit_log, lines_added, is_licensed, line_of_act}
 use Rattle.ix_model.specs.OnLabels.{set_label, set_self}
 use Rattle.ix_model.specs.OnDescriptors.{Told}
-use Rattle.ix_model.specs.Table.{row, verdict}
+use Rattle.ix_model.specs.Table.{row}
 use Rattle.ix_model.specs.Telling.{told}
-use Rattle.ix_model.specs.Step.{step, step_of, run}
+use Rattle.ix_model.specs.Step.{step, step_of}
 use Rattle.ix_model.specs.Lowering.{Lowered}
 use Rattle.ix_model.specs.Lowering as low
 use Rattle.ix_model.specs.Events.{Op, Event}
@@ -29,7 +28,7 @@ use Rattle.ix_model.specs.declared.reply.Reply.{Reply}
 use Rattle.ix_model.specs.declared.reply.Reply.TheVariants as reply
 use Rattle.ix_model.proofs.Finds.{at_change}
 use Rattle.ix_model.proofs.Living.{is_living}
-use Rattle.ix_model.proofs.Keeps.{Holds, Keeps}
+use Rattle.ix_model.proofs.Keeps.{Holds}
 use Rattle.ix_model.proofs.Ends.{Ends, ends_kept, kept_ends, ends_bind, ends_then, ends_pass, ends_need, ends_only_if, ends_caller, ends_object, ends_change_object, ends_change_caller}
 use Rattle.ix_model.proofs.RowEnds.{ends_exercise, ends_allowed, ends_movable, ends_logged}
 use Rattle.ix_model.proofs.Lasts.{decided}
@@ -40,7 +39,7 @@ use Rattle.ix_model.proofs.Turns.{holds_more}
 use Rattle.ix_model.proofs.Answered.{step_frame}
 use Rattle.ix_iso.specs.Laws.{line_of_lowering, IsLogged}
 use Rattle.ix_iso.proofs.Facts.{Looking, looking_found}
-use Rattle.ix_iso.proofs.Rising.{LabelsRise, Risen, risen_itself, rising, no_lowering, sets_labels, risen_row}
+use Rattle.ix_iso.proofs.Rising.{Risen, risen_itself, rising, no_lowering, risen_row}
 
 -- what is lowered from one frame to the next has its line at the end of the log
 record Tells (place pid : ℕ) (f g : Frame) : Type 0 where

@@ -1,21 +1,21 @@
 -- Two configs that differ in what high files hold open worlds that are alike.
-use Rattle.std.proofs.Common.{◌≡◌, ℕ, suc, Bool, true, false, List, [], ◌∷◌, ◌++◌, length, map, Option, Some, None, refl, sym, ap, ◌∙◌, ◌⊎◌, subst, inl, inr, get_or, set, replicate, unwrap_or, length-set}
+use Rattle.std.proofs.Common.{◌≡◌, ℕ, true, List, [], ◌∷◌, ◌++◌, length, map, Option, Some, None, refl, sym, ap, ◌∙◌, ◌⊎◌, subst, inl, inr, get_or, set, unwrap_or, length-set}
 use Rattle.std.specs.Option.{option_map_or}
 use Rattle.std.proofs.lemmas.List.{map-set}
 use Rattle.ix_label.specs.Category.{Categories, leq}
 use Rattle.ix_model.specs.Naming.{last_name}
-use Rattle.ix_model.specs.World.{World, Frame, Content, Holding, Object, Process, Open, at, put, change}
+use Rattle.ix_model.specs.World.{World, Frame, Holding, Object, at, put, change}
 use Rattle.ix_model.specs.Numbers.{free_inode}
 use Rattle.ix_model.specs.Walks.{node}
 use Rattle.ix_model.specs.Contents.{holding_of, holds_nothing}
-use Rattle.ix_model.specs.Opening.{directory_of, object_of, placed, with_object, with_objects, bare_objects, bare_world, opening_world, process_of}
-use Rattle.ix_model.specs.TwoRuns.{Alike, AlikeIn}
-use Rattle.ix_model.specs.EqualLengths.{zeros, zeroed, outline, AlikeInLength}
+use Rattle.ix_model.specs.Opening.{directory_of, object_of, placed, with_object, with_objects, bare_objects, bare_world, opening_world}
+use Rattle.ix_model.specs.TwoRuns.{AlikeIn}
+use Rattle.ix_model.specs.EqualLengths.{zeroed}
 use Rattle.ix_model.specs.declared.config.Config.{Config}
 use Rattle.ix_model.specs.declared.config.ObjSpec.{ObjSpec}
 use Rattle.ix_model.proofs.Finds.{at_put, at_change}
 use Rattle.ix_iso.specs.Configs.{SameLine, SameLines, DifferAbove, SameLengths, OpenAlike}
-use Rattle.ix_iso.proofs.Counts.{SameCounts, counts_itself, shape_from}
+use Rattle.ix_iso.proofs.Counts.{shape_from}
 use Rattle.ix_iso.proofs.Inside.{set_alike}
 use Rattle.ix_iso.proofs.Zeroed.{zero_content, same_zeros}
 use Rattle.ix_iso.proofs.InLength.{outline_from}

@@ -4,7 +4,6 @@ use Rattle.std.specs.Option.{option_and_then}
 use Rattle.ix_label.specs.Category.{Categories, leq}
 use Rattle.ix_label.specs.Lattice.{leq-refl, leq-trans}
 use Rattle.ix_model.specs.World.{Frame, Object, Process, at, put, change}
-use Rattle.ix_model.specs.Numbers.{free_inode}
 use Rattle.ix_model.specs.Rows.{change_object, change_process, change_open, put_object, put_open, put_process, add_process}
 use Rattle.ix_model.specs.Auditing.{logged}
 use Rattle.ix_model.specs.OnProcesses.{remains, end_process}
@@ -16,7 +15,7 @@ use Rattle.ix_model.proofs.Finds.{at_put, at_change, at_push, in_table}
 use Rattle.ix_model.proofs.FreeNumbers.{free_inode_is, free_pipe_is}
 use Rattle.ix_model.proofs.Keeps.{Holds, Keeps}
 use Rattle.ix_model.proofs.Lasts.{Lasting, lasting_itself, lasting_change, lasting_put}
-use Rattle.ix_model.proofs.Rowwise.{Change, Lowering, Making, LettingGo, Moves, changes_of, moved_row}
+use Rattle.ix_model.proofs.Rowwise.{Change, Lowering, Making, LettingGo, Moves, moved_row}
 use Rattle.ix_model.proofs.Turns.{holds_more}
 
 -- ---- tables

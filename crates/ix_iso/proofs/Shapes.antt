@@ -1,11 +1,11 @@
 -- Two worlds of one shape keep one shape.
-use Rattle.std.proofs.Common.{◌≡◌, ℕ, true, List, length, refl, sym, ap, ◌∙◌, subst}
+use Rattle.std.proofs.Common.{◌≡◌, ℕ, true, List, length, refl, sym, ap, ◌∙◌}
 use Rattle.ix_model.specs.World.{Frame, World, Content}
 use Rattle.ix_model.specs.Contents.{carried}
 use Rattle.ix_model.specs.OnDescriptors.{Told}
 use Rattle.ix_model.specs.Table.{Decision, row, verdict}
 use Rattle.ix_model.specs.Telling.{told}
-use Rattle.ix_model.specs.Step.{Given, answer, step}
+use Rattle.ix_model.specs.Step.{step}
 use Rattle.ix_model.specs.TwoRuns.{shape, is_one_kind, Replaced, Written, Exited}
 use Rattle.ix_model.specs.Events.{Op}
 use Rattle.ix_model.specs.Events as op

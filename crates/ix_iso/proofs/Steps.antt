@@ -1,5 +1,5 @@
 -- Two worlds alike at a label are so after each call, and what a low process is told is the same.
-use Rattle.std.proofs.Common.{◌≡◌, ◌≢◌, ◌⊎◌, ◌+◌, ◌-◌, ◌==◌, ℕ, Bool, true, false, true≢false, not, ◌&&◌, List, [], ◌∷◌, ◌++◌, length, take, drop, Option, Some, None, is_some, option_map, if◌then◌else◌, refl, sym, ap, ◌∙◌, subst, inl, inr, set}
+use Rattle.std.proofs.Common.{◌≡◌, ◌⊎◌, ◌+◌, ◌-◌, ℕ, Bool, true, false, true≢false, not, ◌&&◌, List, ◌++◌, length, take, drop, Option, Some, None, if◌then◌else◌, refl, sym, ap, ◌∙◌, subst, inl, inr, set}
 use Rattle.std.specs.Option.{option_map_or}
 use Rattle.ix_label.specs.Category.{Categories, leq}
 use Rattle.ix_label.specs.Lattice.{leq-trans}
@@ -10,16 +10,15 @@ use Rattle.ix_model.specs.OnDescriptors.{Told}
 use Rattle.ix_model.specs.Table.{Decision, row, verdict}
 use Rattle.ix_model.specs.Telling.{told}
 use Rattle.ix_model.specs.AuditLog.{is_answer}
-use Rattle.ix_model.specs.Step.{Given, plainly, edited, read_answer, write_answer, cut_answer, seek_answer, stat_answer, exit_answer, wait_answer, pex_answer, is_whole, answer, step, step_of}
+use Rattle.ix_model.specs.Step.{Given, plainly, read_answer, write_answer, cut_answer, seek_answer, stat_answer, exit_answer, wait_answer, pex_answer, is_whole, answer, step, step_of}
 use Rattle.ix_model.specs.Lowering.{Crosses}
-use Rattle.ix_model.specs.Lowering as low
-use Rattle.ix_model.specs.TwoRuns.{shape, AlikeIn, Alike, IsLow, IsHigh, AgreeAt, Same, Other, Replaced, Written, Exited, is_one_kind}
+use Rattle.ix_model.specs.TwoRuns.{AlikeIn, Alike, IsLow, IsHigh, AgreeAt, Same, Other, Replaced, Written, Exited, is_one_kind}
 use Rattle.ix_model.specs.Events.{Op, Event}
 use Rattle.ix_model.specs.Events as op
 use Rattle.ix_model.specs.declared.reply.Kind.TheVariants as kind
 use Rattle.ix_model.specs.declared.reply.Reply.{Reply}
 use Rattle.ix_model.specs.declared.reply.Reply.TheVariants as reply
-use Rattle.ix_model.proofs.Answered.{step_frame, passed}
+use Rattle.ix_model.proofs.Answered.{passed}
 use Rattle.ix_model.proofs.Living.{is_living}
 use Rattle.ix_model.proofs.Standing.{behind_is}
 use Rattle.ix_iso.specs.Laws.{AlikeAfter}
@@ -27,7 +26,7 @@ use Rattle.ix_iso.proofs.Counts.{SameCounts, counts_carried, shape_counts, shape
 use Rattle.ix_iso.proofs.Shapes.{twins_itself, twins_replaced, Twins, one_decision, shape_twins}
 use Rattle.ix_iso.proofs.Entries.{EntriesRise, entries_rise}
 use Rattle.ix_iso.proofs.Inside.{carried_alike, object_was_low, process_was_low, offset_carried, holding_alike, offset_alike, status_alike}
-use Rattle.ix_iso.proofs.Facts.{ReadFacts, ReadKnown, read_known, WriteFacts, WriteKnown, write_known, StatFacts, stat_known, WaitFacts, wait_known}
+use Rattle.ix_iso.proofs.Facts.{ReadKnown, read_known, WriteKnown, write_known, StatFacts, stat_known, WaitFacts, wait_known}
 
 -- what is alike after two calls, from one frame
 pub record Inside (l : Categories) (pid : ℕ) (f : Frame) (a b : Given) : Type 0 where
