@@ -1,0 +1,78 @@
+-- Whole histories, by induction.
+use Rattle.std.proofs.Common.{◌≡◌, ℕ, zero, suc, true, List, [], ◌∷◌, take, slice_get, Some, sym, ap, ◌∙◌, arith, subst}
+use Rattle.ix_label.specs.Category.{Categories}
+use Rattle.ix_model.specs.World.{World}
+use Rattle.ix_model.specs.Step.{Given, step_of, run}
+use Rattle.ix_model.specs.TwoRuns.{shape, Alike, IsLow, AgreeAt, Same, Other, Agree, is_one_kind}
+use Rattle.ix_model.specs.Events.{Event}
+use Rattle.ix_iso.specs.Laws.{frame_part, OneShape, NoneCrosses, given_after, Isolated}
+use Rattle.ix_iso.proofs.Shapes.{twins_itself, twins_replaced, shape_twins}
+use Rattle.ix_iso.proofs.Steps.{alike_events}
+
+-- ---- one entry
+shape_events : (l : Categories) (v w : World) (place : ℕ) (e f : Event) → shape v ≡ shape w → AgreeAt l v.frame e f → is_one_kind (step_of v place e).reply (step_of w place f).reply ≡ true → OneShape e.op f.op (step_of v place e) (step_of w place f)
+shape_events l v w place _ _ shapes (Same {e = e}) kind = shape_twins v w place e.pid e.op e.op (twins_itself e.op) shapes kind
+shape_events l v w place _ _ shapes (Other {seat = seat} {line = line} {pid = pid} {a = a} {b = b} high replaced) kind = shape_twins v w place pid a b (twins_replaced a b replaced) shapes kind
+
+-- ---- all entries
+-- what an entry gives at a place, after an entry more
+later : (w : World) (place : ℕ) (e : Event) (events : List Event) (n : ℕ) (f : Event) → given_after (step_of w place e).world (suc place) events n f ≡ given_after w place (e ∷ events) (suc n) f
+later w place e events n f = ap (λ k. step_of (run (step_of w place e).world (suc place) (take n events)) k f) (omega arith)
+
+first : (w : World) (place : ℕ) (events : List Event) (e : Event) → given_after w place events 0 e ≡ step_of w place e
+first w place events e = ap (λ k. step_of w k e) (omega arith)
+
+module _ (l : Categories) where
+  shapes_along : (v w : World) (place : ℕ) (events others : List Event) → shape v ≡ shape w → Agree l v w place events others → (n : ℕ) → shape (run v place (take n events)) ≡ shape (run w place (take n others))
+  shapes_along v w place events others shapes agree zero = shapes
+  shapes_along v w place [] [] shapes agree (suc n) = shapes
+  shapes_along v w place [] (f ∷ others) shapes agree (suc n) = absurd agree
+  shapes_along v w place (e ∷ events) [] shapes agree (suc n) = absurd agree
+  shapes_along v w place (e ∷ events) (f ∷ others) shapes agree (suc n) =
+      shapes_along (step_of v place e).world (step_of w place f).world (suc place) events others (shape_events l v w place e f shapes agree.0 agree.1).shapes agree.2 n
+
+  replies_along : (v w : World) (place : ℕ) (events others : List Event) → shape v ≡ shape w → Agree l v w place events others → (n : ℕ) (e f : Event) → slice_get events n ≡ Some e → slice_get others n ≡ Some f → frame_part e.op (given_after v place events n e).reply ≡ frame_part f.op (given_after w place others n f).reply
+  replies_along v w place [] others shapes agree n e f is here = cc
+  replies_along v w place (a ∷ events) [] shapes agree n e f is here = absurd agree
+  replies_along v w place (a ∷ events) (b ∷ others) shapes agree zero e f is here =
+      let i : a ≡ e = cc in
+      let j : b ≡ f = cc in
+      let now : frame_part a.op (step_of v place a).reply ≡ frame_part b.op (step_of w place b).reply = (shape_events l v w place a b shapes agree.0 agree.1).replies in
+      let here_e : frame_part e.op (step_of v place e).reply ≡ frame_part f.op (step_of w place f).reply = subst (λ (x : Event). frame_part x.op (step_of v place x).reply ≡ frame_part f.op (step_of w place f).reply) i (subst (λ (y : Event). frame_part a.op (step_of v place a).reply ≡ frame_part y.op (step_of w place y).reply) j now) in
+      ap (λ (g : Given). frame_part e.op g.reply) (first v place (a ∷ events) e) ∙ here_e ∙ sym (ap (λ (g : Given). frame_part f.op g.reply) (first w place (b ∷ others) f))
+  replies_along v w place (a ∷ events) (b ∷ others) shapes agree (suc n) e f is here =
+      let rest = replies_along (step_of v place a).world (step_of w place b).world (suc place) events others (shape_events l v w place a b shapes agree.0 agree.1).shapes agree.2 n e f is here in
+      ap (λ (g : Given). frame_part e.op g.reply) (sym (later v place a events n e)) ∙ rest ∙ ap (λ (g : Given). frame_part f.op g.reply) (later w place b others n f)
+
+  alike_along : (v w : World) (place : ℕ) (events others : List Event) → Alike l v w → Agree l v w place events others → (n : ℕ) → NoneCrosses l v place (take n events) → Alike l (run v place (take n events)) (run w place (take n others))
+  alike_along v w place events others alike agree zero none = alike
+  alike_along v w place [] [] alike agree (suc n) none = alike
+  alike_along v w place [] (f ∷ others) alike agree (suc n) none = absurd agree
+  alike_along v w place (e ∷ events) [] alike agree (suc n) none = absurd agree
+  alike_along v w place (e ∷ events) (f ∷ others) alike agree (suc n) none =
+      alike_along (step_of v place e).world (step_of w place f).world (suc place) events others ((alike_events l v w place e f alike agree.0 agree.1).worlds none.0) agree.2 n none.1
+
+  -- the replies, where the entry is low
+  abbrev EqualIfLow : ℕ → Given → Given → Type 0
+  EqualIfLow pid a b = IsLow l a.world.frame pid → (a.reply ≡ b.reply) × (a.bytes ≡ b.bytes)
+
+  reads_along : (v w : World) (place : ℕ) (events others : List Event) → Alike l v w → Agree l v w place events others → (n : ℕ) (e f : Event) → slice_get events n ≡ Some e → slice_get others n ≡ Some f → NoneCrosses l v place (take n events) → EqualIfLow e.pid (given_after v place events n e) (given_after w place others n f)
+  reads_along v w place [] others alike agree n e f is here none = cc
+  reads_along v w place (a ∷ events) [] alike agree n e f is here none = absurd agree
+  reads_along v w place (a ∷ events) (b ∷ others) alike agree zero e f is here none =
+      let i : a ≡ e = cc in
+      let j : b ≡ f = cc in
+      let now : EqualIfLow a.pid (step_of v place a) (step_of w place b) = (alike_events l v w place a b alike agree.0 agree.1).replies in
+      let here_e : EqualIfLow e.pid (step_of v place e) (step_of w place f) = subst (λ (x : Event). EqualIfLow x.pid (step_of v place x) (step_of w place f)) i (subst (λ (y : Event). EqualIfLow a.pid (step_of v place a) (step_of w place y)) j now) in
+      subst (λ (g : Given). EqualIfLow e.pid g (given_after w place (b ∷ others) 0 f)) (sym (first v place (a ∷ events) e)) (subst (λ (h : Given). EqualIfLow e.pid (step_of v place e) h) (sym (first w place (b ∷ others) f)) here_e)
+  reads_along v w place (a ∷ events) (b ∷ others) alike agree (suc n) e f is here none =
+      let rest = reads_along (step_of v place a).world (step_of w place b).world (suc place) events others ((alike_events l v w place a b alike agree.0 agree.1).worlds none.0) agree.2 n e f is here none.1 in
+      subst (λ (g : Given). EqualIfLow e.pid g (given_after w place (b ∷ others) (suc n) f)) (later v place a events n e) (subst (λ (h : Given). EqualIfLow e.pid (given_after (step_of v place a).world (suc place) events n e) h) (later w place b others n f) rest)
+
+pub isolated : (l : Categories) (v w : World) (place : ℕ) (events others : List Event) → Alike l v w → Agree l v w place events others → Isolated l v w place events others
+isolated l v w place events others alike agree = record {
+  shapes = λ n. shapes_along l v w place events others alike.shapes agree n;
+  replies = λ n e f is here. replies_along l v w place events others alike.shapes agree n e f is here;
+  worlds = λ n none. alike_along l v w place events others alike agree n none;
+  reads = λ n e f is here none low. reads_along l v w place events others alike agree n e f is here none low;
+}

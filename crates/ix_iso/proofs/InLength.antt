@@ -1,0 +1,216 @@
+-- Worlds of one outline stay so, and give replies of one kind; so runs with equal lengths agree.
+use Rattle.std.proofs.Common.{◌≡◌, ℕ, zero, suc, Bool, true, false, not, ◌&&◌, List, [], ◌∷◌, length, take, Option, Some, None, if◌then◌else◌, refl, sym, ap, ◌∙◌, subst, inl, inr}
+use Rattle.std.proofs.lemmas.List.{length-map}
+use Rattle.ix_label.specs.Category.{Categories}
+use Rattle.ix_model.specs.World.{World, Frame, Content}
+use Rattle.ix_model.specs.Walks.{Behind, behind}
+use Rattle.ix_model.specs.Contents.{carried, readable, after_read, after_write, after_cut, after_seek, after_exit, emptied}
+use Rattle.ix_model.specs.Table.{Decision, verdict}
+use Rattle.ix_model.specs.Telling.{told, told_of_read, told_of_write, told_of_cut}
+use Rattle.ix_model.specs.Step.{Given, plainly, read_answer, write_answer, cut_answer, seek_answer, stat_answer, exit_answer, wait_answer, pex_answer, is_whole, answer, step, step_of, run}
+use Rattle.ix_model.specs.TwoRuns.{shape, Alike, Agree, AgreeAt, Replaced, is_one_kind}
+use Rattle.ix_model.specs.TwoRuns as two
+use Rattle.ix_model.specs.EqualLengths.{zeros, zeroed, outline, AlikeInLength, AgreeInLength, AgreeInLengthAt, ReplacedInLength, Same, Other, Written, Exited}
+use Rattle.ix_model.specs.Events.{Op, Event}
+use Rattle.ix_model.specs.Events as op
+use Rattle.ix_model.specs.declared.reply.Kind.TheVariants as kind
+use Rattle.ix_model.specs.declared.reply.Reply.{Reply}
+use Rattle.ix_model.specs.declared.reply.Reply.TheVariants as reply
+use Rattle.ix_model.proofs.Answered.{step_frame}
+use Rattle.ix_iso.specs.Laws.{AreLikeInLength, OneOutline, IsolatedInLength}
+use Rattle.ix_iso.proofs.OneKind.{kind_number, equal_kinds}
+use Rattle.ix_iso.proofs.Counts.{SameCounts, shape_from, told_answer}
+use Rattle.ix_iso.proofs.Shapes.{Twins, twins_itself, twins_replaced}
+use Rattle.ix_iso.proofs.Histories.{isolated}
+use Rattle.ix_iso.proofs.Zeroed.{zero_content, take_zeros, length_zeros, same_zeros, readable_zero, carried_zero, read_zero, write_zero, cut_zero, seek_zero, exit_zero, emptied_zero, told_read_zero, told_write_zero, told_cut_zero}
+
+-- ---- outlines
+pub outline_from : (v w : World) → v.frame ≡ w.frame → zero_content v.content ≡ zero_content w.content → outline v ≡ outline w
+unfolding outline
+outline_from v w frames contents = λ i. record { frame = frames i; content = contents i }
+
+outline_frames : (v w : World) → outline v ≡ outline w → v.frame ≡ w.frame
+unfolding outline
+outline_frames v w h = ap (λ (u : World). u.frame) h
+
+outline_contents : (v w : World) → outline v ≡ outline w → zero_content v.content ≡ zero_content w.content
+unfolding outline
+outline_contents v w h = ap (λ (u : World). u.content) h
+
+zero_counts : (c d : Content) → zero_content c ≡ zero_content d → SameCounts c d
+zero_counts c d h = record {
+  holdings = sym (length-map c.holdings zeroed) ∙ ap (λ (x : Content). length x.holdings) h ∙ length-map d.holdings zeroed;
+  offsets = ap (λ (x : Content). length x.offsets) h;
+  statuses = sym (length_zeros c.statuses) ∙ ap (λ (x : Content). length x.statuses) h ∙ length_zeros d.statuses;
+}
+
+-- worlds of one outline are of one shape
+pub outline_shape : (v w : World) → outline v ≡ outline w → shape v ≡ shape w
+outline_shape v w h = shape_from v w (outline_frames v w h) (zero_counts v.content w.content (outline_contents v w h))
+
+-- ---- answers
+module _ (f : Frame) (c d : Content) (same : zero_content c ≡ zero_content d) where
+  abbrev one : World
+  one = record { frame = f; content = c }
+
+  abbrev other : World
+  other = record { frame = f; content = d }
+
+  abbrev Zeroed : Given → Given → Type 0
+  Zeroed a b = zero_content a.world.content ≡ zero_content b.world.content
+
+  kept : (g : Frame) → zero_content (carried f g c) ≡ zero_content (carried f g d)
+  kept g = carried_zero f g c ∙ ap (carried f g) same ∙ sym (carried_zero f g d)
+
+  -- an edit that does the same to what is held with every byte 0
+  edited : (g : Frame) (h k m : Content → Content) → ((x : Content) → zero_content (h x) ≡ m (zero_content x)) → ((x : Content) → zero_content (k x) ≡ m (zero_content x)) → zero_content (h (carried f g c)) ≡ zero_content (k (carried f g d))
+  edited g h k m one_way other_way = one_way (carried f g c) ∙ ap m (kept g) ∙ sym (other_way (carried f g d))
+
+  read_length : (x : Content) (count : ℕ) (e : Behind) → length (take count (readable f x e)) ≡ length (take count (readable f (zero_content x) e))
+  read_length x count e = sym (length_zeros (take count (readable f x e))) ∙ ap length (take_zeros count (readable f x e)) ∙ ap (λ bytes. length (take count bytes)) (sym (readable_zero f x e))
+
+  read_outline : (count : ℕ) (b : Option Behind) (r : Reply) (g : Frame) → Zeroed (read_answer one count b r g) (read_answer other count b r g)
+  unfolding read_answer plainly
+  read_outline count (Some e) (reply.Bytes k) g =
+      let long = read_length c count e ∙ ap (λ x. length (take count (readable f x e))) same ∙ sym (read_length d count e) in
+      edited g (after_read f e (length (take count (readable f c e)))) (after_read f e (length (take count (readable f d e)))) (after_read f e (length (take count (readable f c e)))) (λ x. read_zero f e _ x) (λ x. read_zero f e _ x ∙ ap (λ k. after_read f e k (zero_content x)) (sym long))
+  read_outline count _ r g = kept g
+
+  write_outline : (m n : List ℕ) → zeros m ≡ zeros n → (b : Option Behind) (r : Reply) (g : Frame) → Zeroed (write_answer one m b r g) (write_answer other n b r g)
+  unfolding write_answer plainly
+  write_outline m n equal (Some e) (reply.Number k) g = edited g (after_write f e m) (after_write f e n) (after_write f e (zeros m)) (λ x. write_zero f e m x) (λ x. write_zero f e n x ∙ ap (λ z. after_write f e z (zero_content x)) (sym equal))
+  write_outline m n equal _ r g = kept g
+
+  cut_outline : (len : ℕ) (b : Option Behind) (r : Reply) (g : Frame) → Zeroed (cut_answer one len b r g) (cut_answer other len b r g)
+  unfolding cut_answer plainly
+  cut_outline len (Some e) reply.Done g = edited g (after_cut e len) (after_cut e len) (after_cut e len) (λ x. cut_zero e len x) (λ x. cut_zero e len x)
+  cut_outline len _ r g = kept g
+
+  seek_outline : (offset : ℕ) (b : Option Behind) (r : Reply) (g : Frame) → Zeroed (seek_answer one offset b r g) (seek_answer other offset b r g)
+  unfolding seek_answer plainly
+  seek_outline offset (Some e) reply.Done g = edited g (after_seek e offset) (after_seek e offset) (after_seek e offset) (λ x. seek_zero e offset x) (λ x. seek_zero e offset x)
+  seek_outline offset _ r g = kept g
+
+  stat_outline : (r : Reply) (g : Frame) → Zeroed (stat_answer one r g) (stat_answer other r g)
+  unfolding stat_answer plainly
+  stat_outline (reply.Stat o kind.File size links frozen x y) g = kept g
+  stat_outline r g = kept g
+
+  exit_outline : (pid s t : ℕ) (r : Reply) (g : Frame) → Zeroed (exit_answer one pid s r g) (exit_answer other pid t r g)
+  unfolding exit_answer plainly
+  exit_outline pid s t reply.Done g = edited g (after_exit g pid s) (after_exit g pid t) (after_exit g pid 0) (λ x. exit_zero g pid s x) (λ x. exit_zero g pid t x)
+  exit_outline pid s t r g = kept g
+
+  wait_outline : (r : Reply) (g : Frame) → Zeroed (wait_answer one r g) (wait_answer other r g)
+  unfolding wait_answer plainly
+  wait_outline (reply.Child p status) g = kept g
+  wait_outline r g = kept g
+
+  either_way : (b : Bool) (v x w y : Content) → zero_content v ≡ zero_content w → zero_content x ≡ zero_content y → zero_content (if b then v else x) ≡ zero_content (if b then w else y)
+  either_way true v x w y r s = r
+  either_way false v x w y r s = s
+
+  pex_outline : (b : Option Behind) (r : Reply) (g : Frame) → Zeroed (pex_answer one b r g) (pex_answer other b r g)
+  unfolding pex_answer plainly
+  pex_outline (Some e) r g = either_way (is_whole g e.entry.object && not (is_whole f e.entry.object)) _ _ _ _ (edited g (emptied e.entry.object) (emptied e.entry.object) (emptied e.entry.object) (λ x. emptied_zero e.entry.object x) (λ x. emptied_zero e.entry.object x)) (kept g)
+  pex_outline None r g = kept g
+
+  answer_outline : (pid : ℕ) (o : Op) (e : Decision) → Zeroed (answer one pid o e) (answer other pid o e)
+  unfolding answer plainly
+  answer_outline pid (op.ReadFd fd count) e = read_outline count (behind f pid fd) _ _
+  answer_outline pid (op.WriteFd fd bytes) e = write_outline bytes bytes refl (behind f pid fd) _ _
+  answer_outline pid (op.CutFd fd len) e = cut_outline len (behind f pid fd) _ _
+  answer_outline pid (op.SeekFd fd offset) e = seek_outline offset (behind f pid fd) _ _
+  answer_outline pid (op.StatAt path) e = stat_outline _ _
+  answer_outline pid (op.Exit status) e = exit_outline pid status status _ _
+  answer_outline pid op.WaitChild e = wait_outline _ _
+  answer_outline pid (op.Pex fd) e = pex_outline (behind f pid fd) _ _
+  answer_outline pid o e = kept e.frame
+
+  replaced_outline : (pid : ℕ) (o p : Op) (e : Decision) → ReplacedInLength o p → Zeroed (answer one pid o e) (answer other pid p e)
+  unfolding answer plainly
+  replaced_outline pid _ _ e (Written {fd = fd} {a = a} {b = b} long) = write_outline a b (same_zeros a b long) (behind f pid fd) _ _
+  replaced_outline pid _ _ e (Exited {s = s} {t = t}) = exit_outline pid s t _ _
+
+  like_outline : (pid : ℕ) (o p : Op) (e : Decision) → AreLikeInLength o p → Zeroed (answer one pid o e) (answer other pid p e)
+  like_outline pid o p e (inl equal) = subst (λ (q : Op). Zeroed (answer one pid o e) (answer other pid q e)) equal (answer_outline pid o e)
+  like_outline pid o p e (inr replaced) = replaced_outline pid o p e replaced
+
+  -- ---- what is told
+  told_same : (pid : ℕ) (o : Op) → told one pid o ≡ told other pid o
+  unfolding told
+  told_same pid (op.ReadFd fd count) = sym (told_read_zero f c (behind f pid fd)) ∙ ap (λ x. told_of_read f x (behind f pid fd)) same ∙ told_read_zero f d (behind f pid fd)
+  told_same pid (op.WriteFd fd bytes) = sym (told_write_zero f c (length bytes) (behind f pid fd)) ∙ ap (λ x. told_of_write f x (length bytes) (behind f pid fd)) same ∙ told_write_zero f d (length bytes) (behind f pid fd)
+  told_same pid (op.CutFd fd len) = sym (told_cut_zero f c len (behind f pid fd)) ∙ ap (λ x. told_of_cut f x len (behind f pid fd)) same ∙ told_cut_zero f d len (behind f pid fd)
+  told_same pid o = refl
+
+-- a call is told the lengths of what it writes alone
+told_replaced : (w : World) (pid : ℕ) (o p : Op) → ReplacedInLength o p → told w pid o ≡ told w pid p
+unfolding told
+told_replaced w pid _ _ (Written {fd = fd} {a = a} {b = b} long) = ap (λ n. told_of_write w.frame w.content n (behind w.frame pid fd)) long
+told_replaced w pid _ _ Exited = refl
+
+-- ---- steps
+in_length : (o p : Op) → ReplacedInLength o p → Replaced o p
+in_length _ _ (Written long) = two.Written
+in_length _ _ Exited = two.Exited
+
+like_twins : (o p : Op) → AreLikeInLength o p → Twins o p
+like_twins o p (inl equal) = subst (λ (q : Op). Twins o q) equal (twins_itself o)
+like_twins o p (inr replaced) = twins_replaced o p (in_length o p replaced)
+
+like_told : (w : World) (pid : ℕ) (o p : Op) → AreLikeInLength o p → told w pid o ≡ told w pid p
+like_told w pid o p (inl equal) = ap (told w pid) equal
+like_told w pid o p (inr replaced) = told_replaced w pid o p replaced
+
+-- at one frame
+at_one_frame : (f : Frame) (c d : Content) (place pid : ℕ) (o p : Op) → zero_content c ≡ zero_content d → AreLikeInLength o p → OneOutline (step (record { frame = f; content = c }) place pid o) (step (record { frame = f; content = d }) place pid p)
+unfolding step
+at_one_frame f c d place pid o p same like =
+    let v : World = record { frame = f; content = c } in
+    let w : World = record { frame = f; content = d } in
+    let left : Decision = verdict (told v pid o) place pid o f in
+    let right : Decision = verdict (told w pid p) place pid p f in
+    let told_one : told v pid o ≡ told w pid p = told_same f c d same pid o ∙ like_told w pid o p like in
+    let one : left ≡ right = ap (λ t. verdict t place pid o f) told_one ∙ (like_twins o p like).verdicts (told w pid p) place pid f in
+    let contents : zero_content (step v place pid o).world.content ≡ zero_content (step w place pid p).world.content = like_outline f c d same pid o p left like ∙ ap (λ (e : Decision). zero_content (answer w pid p e).world.content) one in
+    record {
+      kinds = equal_kinds _ _ ((told_answer v pid o left).kind ∙ ap (λ (e : Decision). kind_number e.reply) one ∙ sym (told_answer w pid p right).kind);
+      outlines = outline_from _ _ (step_frame v place pid o ∙ ap (λ (e : Decision). e.frame) one ∙ sym (step_frame w place pid p)) contents;
+    }
+
+pub one_outline : (v w : World) (place pid : ℕ) (o p : Op) → outline v ≡ outline w → AreLikeInLength o p → OneOutline (step v place pid o) (step w place pid p)
+one_outline v w place pid o p outlines like =
+    subst (λ (f : Frame). OneOutline (step v place pid o) (step (record { frame = f; content = w.content }) place pid p)) (outline_frames v w outlines) (at_one_frame v.frame v.content w.content place pid o p (outline_contents v w outlines) like)
+
+-- ---- histories
+events_outline : (l : Categories) (v w : World) (place : ℕ) (e f : Event) → outline v ≡ outline w → AgreeInLengthAt l v.frame e f → OneOutline (step_of v place e) (step_of w place f)
+events_outline l v w place _ _ outlines (Same {e = e}) = one_outline v w place e.pid e.op e.op outlines (inl refl)
+events_outline l v w place _ _ outlines (Other {seat = seat} {line = line} {pid = pid} {a = a} {b = b} high replaced) = one_outline v w place pid a b outlines (inr replaced)
+
+agree_at : (l : Categories) (f : Frame) (a b : Event) → AgreeInLengthAt l f a b → AgreeAt l f a b
+agree_at l f _ _ Same = two.Same
+agree_at l f _ _ (Other {a = a} {b = b} high replaced) = two.Other high (in_length a b replaced)
+
+-- with equal lengths the replies are of one kind, so the histories agree
+agree_from : (l : Categories) (v w : World) (place : ℕ) (events others : List Event) → outline v ≡ outline w → AgreeInLength l v place events others → Agree l v w place events others
+agree_from l v w place [] [] outlines agree = tt
+agree_from l v w place [] (f ∷ others) outlines agree = absurd agree
+agree_from l v w place (e ∷ events) [] outlines agree = absurd agree
+agree_from l v w place (e ∷ events) (f ∷ others) outlines agree =
+    let here = events_outline l v w place e f outlines agree.0 in
+    (agree_at l v.frame e f agree.0, here.kinds, agree_from l (step_of v place e).world (step_of w place f).world (suc place) events others here.outlines agree.1)
+
+outlines_along : (l : Categories) (v w : World) (place : ℕ) (events others : List Event) → outline v ≡ outline w → AgreeInLength l v place events others → (n : ℕ) → outline (run v place (take n events)) ≡ outline (run w place (take n others))
+outlines_along l v w place events others outlines agree zero = outlines
+outlines_along l v w place [] [] outlines agree (suc n) = outlines
+outlines_along l v w place [] (f ∷ others) outlines agree (suc n) = absurd agree
+outlines_along l v w place (e ∷ events) [] outlines agree (suc n) = absurd agree
+outlines_along l v w place (e ∷ events) (f ∷ others) outlines agree (suc n) =
+    outlines_along l (step_of v place e).world (step_of w place f).world (suc place) events others (events_outline l v w place e f outlines agree.0).outlines agree.1 n
+
+pub isolated_in_length : (l : Categories) (v w : World) (place : ℕ) (events others : List Event) → AlikeInLength l v w → AgreeInLength l v place events others → IsolatedInLength l v w place events others
+isolated_in_length l v w place events others alike agree = record {
+  isolated = isolated l v w place events others (record { shapes = outline_shape v w alike.outlines; inside = alike.inside }) (agree_from l v w place events others alike.outlines agree);
+  outlines = λ n. outlines_along l v w place events others alike.outlines agree n;
+}

@@ -1,0 +1,161 @@
+-- What is lowered is logged: of the two calls that set a label, each that lowers one has its line.
+use Rattle.std.proofs.Common.{◌≡◌, ℕ, Bool, true, false, true≢false, not, List, [], ◌∷◌, ◌++◌, Some, if◌then◌else◌, refl, sym, ap, ◌∙◌, subst, inl, inr, append-nil}
+use Rattle.std.specs.Option.{option_map_or}
+use Rattle.std.proofs.lemmas.Bool.{not-false}
+use Rattle.std.proofs.lemmas.List.{append_cancel_left}
+use Rattle.ix_label.specs.Category.{Categories, leq, same}
+use Rattle.ix_model.specs.Naming.{PathOf}
+use Rattle.ix_model.specs.Privs.{to_lower}
+use Rattle.ix_model.specs.World.{World, Frame, Object, Process, at, change, living}
+use Rattle.ix_model.specs.Rows.{◌>>◌, pass, need, only_if, change_process}
+use Rattle.ix_model.specs.Walks.{object_at}
+use Rattle.ix_model.specs.Auditing.{logged, audit_line}
+use Rattle.ix_model.specs.AuditLog.{audit_log, lines_added, is_licensed, line_of_act}
+use Rattle.ix_model.specs.OnLabels.{set_label, set_self}
+use Rattle.ix_model.specs.OnDescriptors.{Told}
+use Rattle.ix_model.specs.Table.{row}
+use Rattle.ix_model.specs.Telling.{told}
+use Rattle.ix_model.specs.Step.{step, step_of}
+use Rattle.ix_model.specs.Lowering.{Lowered}
+use Rattle.ix_model.specs.Lowering as low
+use Rattle.ix_model.specs.Events.{Op, Event}
+use Rattle.ix_model.specs.Events as op
+use Rattle.ix_model.specs.declared.audit.Act.TheVariants as act
+use Rattle.ix_model.specs.declared.audit.AuditLine.{AuditLine}
+use Rattle.ix_model.specs.declared.refusal.Refusal.{Refusal}
+use Rattle.ix_model.specs.declared.refusal.Refusal.TheVariants as refusal
+use Rattle.ix_model.specs.declared.reply.Reply.{Reply}
+use Rattle.ix_model.specs.declared.reply.Reply.TheVariants as reply
+use Rattle.ix_model.proofs.Finds.{at_change}
+use Rattle.ix_model.proofs.Living.{is_living}
+use Rattle.ix_model.proofs.Keeps.{Holds}
+use Rattle.ix_model.proofs.Ends.{Ends, ends_kept, kept_ends, ends_bind, ends_then, ends_pass, ends_need, ends_only_if, ends_caller, ends_object, ends_change_object, ends_change_caller}
+use Rattle.ix_model.proofs.RowEnds.{ends_exercise, ends_allowed, ends_movable, ends_logged}
+use Rattle.ix_model.proofs.Lasts.{decided}
+use Rattle.ix_model.proofs.Logging.{holds_both}
+use Rattle.ix_model.proofs.Logs.{logged_run}
+use Rattle.ix_model.proofs.Rowwise.{moved_found}
+use Rattle.ix_model.proofs.Turns.{holds_more}
+use Rattle.ix_model.proofs.Answered.{step_frame}
+use Rattle.ix_iso.specs.Laws.{line_of_lowering, IsLogged}
+use Rattle.ix_iso.proofs.Facts.{Looking, looking_found}
+use Rattle.ix_iso.proofs.Rising.{Risen, risen_itself, rising, no_lowering, risen_row}
+
+-- what is lowered from one frame to the next has its line at the end of the log
+record Tells (place pid : ℕ) (f g : Frame) : Type 0 where
+  objects : (o : ℕ) (x y : Object) → at f.objects o ≡ Some x → at g.objects o ≡ Some y → leq x.label y.label ≡ false → g.log ≡ f.log ++ audit_line place pid act.DownFile o x.label y.label ∷ []
+  processes : (p : ℕ) (x y : Process) → at f.processes p ≡ Some x → at g.processes p ≡ Some y → leq x.label y.label ≡ false → g.log ≡ f.log ++ audit_line place pid act.DownSelf p x.label y.label ∷ []
+
+module _ (place pid : ℕ) (f : Frame) where
+  -- where nothing is lowered
+  tells_risen : (g : Frame) → Risen f g.objects g.processes → Tells place pid f g
+  tells_risen g r = record {
+    objects = λ o x y is here falls. absurd (true≢false (sym (r.objects.rise o x y is here) ∙ falls));
+    processes = λ p x y is here falls. absurd (true≢false (sym (r.processes.rise p x y is here) ∙ falls));
+  }
+
+  P : Refusal → Frame → Type 0
+  P r g = Tells place pid f g
+
+  Q : Reply → Frame → Type 0
+  Q a g = Tells place pid f g
+
+  -- ---- an object's label is set
+  abbrev relabelled : Frame → ℕ → Categories → List AuditLine → Frame
+  relabelled m o now log = record m { objects = change m.objects o (λ y. record y { label = now }); log = log }
+
+  tells_object : (m : Frame) (o : ℕ) (x : Object) (now : Categories) (log : List AuditLine) → Risen f m.objects m.processes → Looking f m → at m.objects o ≡ Some x → (leq x.label now ≡ false → log ≡ f.log ++ audit_line place pid act.DownFile o x.label now ∷ []) → Tells place pid f (relabelled m o now log)
+  tells_object m o x now log r looking here line = record {
+    objects = λ n a b is there falls. elim (at_change m.objects o (λ y. record y { label = now }) n b there) [
+      | inl c ↦
+          let stood : at f.objects n ≡ Some x = ap (λ t. at t n) (sym looking.0) ∙ ap (at m.objects) c.here ∙ here in
+          let h : Some x ≡ Some a = sym stood ∙ is in
+          let one : x ≡ a = cc in
+          let label : b.label ≡ now = ap (λ (y : Object). y.label) c.same in
+          let was : x.label ≡ a.label = ap (λ (y : Object). y.label) one in
+          line (ap (λ l. leq l now) was ∙ ap (leq a.label) (sym label) ∙ falls) ∙ (λ i. f.log ++ audit_line place pid act.DownFile (sym c.here i) (was i) (sym label i) ∷ [])
+      | inr other ↦ absurd (true≢false (sym (r.objects.rise n a b is other.1) ∙ falls))
+    ];
+    processes = λ p a b is there falls. absurd (true≢false (sym (r.processes.rise p a b is there) ∙ falls));
+  }
+
+  looks : (path : PathOf) → Holds (object_at pid path f) (λ m. Risen f m.objects m.processes × Looking f m)
+  looks path = holds_both (λ m. Risen f m.objects m.processes) (Looking f) (object_at pid path f) ((moved_found no_lowering pid (λ m. Risen f m.objects m.processes) (rising f pid) path).led f (risen_itself f)) ((looking_found f pid path).led f (refl, refl))
+
+  label_tells : (path : PathOf) (now : Categories) → Ends (set_label place pid path now f) P Q
+  unfolding set_label P Q
+  label_tells path now =
+      ends_bind _ _ f P Q (ends_kept (λ m. Risen f m.objects m.processes × Looking f m) (object_at pid path f) P _ (looks path) (λ why m both. tells_risen m both.0) (λ o m both.
+      let r = both.0 in let looking = both.1 in let unchanged = tells_risen m r in
+      ends_bind _ _ m P Q (ends_object o m P _ (λ x here.
+      ends_then _ _ m P Q (ends_allowed pid x.label now m P _ (λ why. unchanged) (
+      ends_then _ _ m P Q (ends_movable x now m P _ (λ why. unchanged) (
+      ends_then _ _ m P Q (ends_change_object o _ m P _ (
+      ends_then _ _ _ P Q (ends_only_if _ _ _ P _
+      (λ falls. ends_logged _ _ P _ (ends_pass _ _ P Q (tells_object m o x now (m.log ++ audit_line place pid act.DownFile o x.label now ∷ []) r looking here (λ low. ap (λ log. log ++ audit_line place pid act.DownFile o x.label now ∷ []) looking.1))))
+      (λ rises. ends_pass _ _ P Q (tells_object m o x now m.log r looking here (λ falls. absurd (true≢false (sym (not-false _ rises) ∙ falls)))))))))))))
+      unchanged)))
+
+  -- ---- the caller's label is set
+  tells_process : (p : Process) (now : Categories) (log : List AuditLine) → living (at f.processes pid) ≡ Some p → (leq p.label now ≡ false → log ≡ f.log ++ audit_line place pid act.DownSelf pid p.label now ∷ []) → Tells place pid f (record f { processes = change f.processes pid (λ q. record q { label = now }); log = log })
+  tells_process p now log lives line = record {
+    objects = λ o a b is there falls. absurd (true≢false (sym ((risen_itself f).objects.rise o a b is there) ∙ falls));
+    processes = λ n a b is there falls. elim (at_change f.processes pid (λ q. record q { label = now }) n b there) [
+      | inl c ↦
+          let h : Some p ≡ Some a = sym (is_living _ p lives) ∙ ap (at f.processes) (sym c.here) ∙ is in
+          let one : p ≡ a = cc in
+          let label : b.label ≡ now = ap (λ (y : Process). y.label) c.same in
+          let was : p.label ≡ a.label = ap (λ (y : Process). y.label) one in
+          line (ap (λ l. leq l now) was ∙ ap (leq a.label) (sym label) ∙ falls) ∙ (λ i. f.log ++ audit_line place pid act.DownSelf (sym c.here i) (was i) (sym label i) ∷ [])
+      | inr other ↦ absurd (true≢false (sym ((risen_itself f).processes.rise n a b is other.1) ∙ falls))
+    ];
+  }
+
+  self_tells : (now : Categories) → Ends (set_self place pid now f) P Q
+  unfolding set_self P Q
+  self_tells now =
+      let unchanged = tells_risen f (risen_itself f) in
+      ends_bind _ _ f P Q (ends_caller pid f P _ (λ p lives.
+      let last : Ends (◌>>◌ (change_process pid (λ q. record q { label = now })) (◌>>◌ (only_if (not (leq p.label now)) (logged (audit_line place pid act.DownSelf pid p.label now))) (pass reply.Done)) f) P Q =
+      ends_then _ _ f P Q (ends_change_caller pid (λ q. record q { label = now }) f P _ (
+      ends_then _ _ _ P Q (ends_only_if (not (leq p.label now)) (logged (audit_line place pid act.DownSelf pid p.label now)) _ P _
+      (λ falls. ends_logged _ _ P _ (ends_pass reply.Done _ P Q (tells_process p now _ lives (λ low. refl))))
+      (λ rises. ends_pass reply.Done _ P Q (tells_process p now _ lives (λ falls. absurd (true≢false (sym (not-false _ rises) ∙ falls)))))))) in
+      let second : Ends (◌>>◌ (only_if (not (same p.label now)) (◌>>◌ (need (not p.frozen) refusal.ProcFrozen) (need (leq now p.ceiling) refusal.ProcCeiling))) (◌>>◌ (change_process pid (λ q. record q { label = now })) (◌>>◌ (only_if (not (leq p.label now)) (logged (audit_line place pid act.DownSelf pid p.label now))) (pass reply.Done))) f) P Q =
+      ends_then _ _ f P Q (ends_only_if (not (same p.label now)) _ f P _
+      (λ other. ends_then _ _ f P _ (ends_need (not p.frozen) refusal.ProcFrozen f P _ (λ free. ends_need (leq now p.ceiling) refusal.ProcCeiling f P _ (λ low. last) unchanged) unchanged))
+      (λ no. last)) in
+      ends_then _ _ f P Q (ends_only_if _ _ f P _ (λ falls. ends_exercise pid to_lower f P _ (λ why. unchanged) second) (λ rises. second)))
+      unchanged)
+
+  told_row : (t : Told) (c : Op) → Holds (row t place pid c f) (Tells place pid f)
+  unfolding row P Q
+  told_row t (op.SetLabel path now) = kept_ends (Tells place pid f) _ (label_tells path now)
+  told_row t (op.SetSelf now) = kept_ends (Tells place pid f) _ (self_tells now)
+  told_row t c = holds_more (λ g. Risen f g.objects g.processes) (Tells place pid f) (row t place pid c f) tells_risen (risen_row f pid t place c refl)
+
+tells_step : (w : World) (place pid : ℕ) (c : Op) → Tells place pid w.frame (step w place pid c).world.frame
+tells_step w place pid c = subst (λ (g : Frame). Tells place pid w.frame g) (sym (step_frame w place pid c)) (decided (Tells place pid w.frame) (told w pid c) place pid c w.frame (tells_risen place pid w.frame w.frame (risen_itself w.frame)) (told_row place pid w.frame (told w pid c) c))
+
+-- ---- the log
+-- the log after one entry is the log before it and what the entry adds
+one_entry : (w : World) (place : ℕ) (e : Event) → (step_of w place e).world.frame.log ≡ w.frame.log ++ lines_added w place e
+unfolding audit_log
+one_entry w place e = logged_run w place (e ∷ []) ∙ ap (λ (x : List AuditLine). w.frame.log ++ x) (append-nil (lines_added w place e))
+
+licensed_by : (w : World) (place : ℕ) (e : Event) (line : AuditLine) → lines_added w place e ≡ line ∷ [] → is_licensed w place e ≡ true
+unfolding lines_added
+licensed_by w place e line h = go (is_licensed w place e) h
+  where
+    go : (b : Bool) → (if b then option_map_or (λ l. l ∷ []) (line_of_act w.frame (step_of w place e).world.frame place e.pid e.op) [] else []) ≡ line ∷ [] → b ≡ true
+    go true h = refl
+    go false h = cc
+
+by_its_line : (w : World) (place : ℕ) (e : Event) (line : AuditLine) → (step_of w place e).world.frame.log ≡ w.frame.log ++ line ∷ [] → IsLogged w place e line
+by_its_line w place e line h =
+    let added : lines_added w place e ≡ line ∷ [] = append_cancel_left w.frame.log (lines_added w place e) (line ∷ []) (sym (one_entry w place e) ∙ h) in
+    record { licensed = licensed_by w place e line added; added = added; log = h }
+
+pub lowerings_logged : (w : World) (place : ℕ) (e : Event) (lowered : Lowered w.frame (step_of w place e).world.frame) → IsLogged w place e (line_of_lowering place e.pid lowered)
+lowerings_logged w place e (low.OfObject o x y is here falls) = by_its_line w place e _ ((tells_step w place e.pid e.op).objects o x y is here falls)
+lowerings_logged w place e (low.OfProcess p x y is here falls) = by_its_line w place e _ ((tells_step w place e.pid e.op).processes p x y is here falls)

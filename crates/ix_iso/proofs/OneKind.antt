@@ -1,0 +1,104 @@
+-- Replies of one kind, by number.
+use Rattle.std.proofs.Common.{◌≡◌, ◌+◌, ℕ, true, true≢false, [], ◌∷◌, refl, sym, ap, ◌∙◌, arith, slice_index_or}
+use Rattle.std.proofs.lemmas.Bool.{eqb-true}
+use Rattle.std.specs.Cmp.{unsigned_Decides}
+use Rattle.ix_model.specs.Refusals.{number_of}
+use Rattle.ix_model.specs.TwoRuns.{is_one_kind}
+use Rattle.ix_model.specs.declared.refusal.Refusal.{Refusal}
+use Rattle.ix_model.specs.declared.refusal.Refusal.TheVariants as refusal
+use Rattle.ix_model.specs.declared.reply.Reply.{Reply}
+use Rattle.ix_model.specs.declared.reply.Reply.TheVariants as reply
+
+-- ---- refusals
+-- the refusals by their numbers
+unfoldable of_number : ℕ → Refusal
+of_number n = slice_index_or (refusal.NoProcess ∷ refusal.NoProcess ∷ refusal.BadFd ∷ refusal.NotReadable ∷ refusal.NotWritable ∷ refusal.NotFound ∷ refusal.NotDir ∷ refusal.IsDir ∷ refusal.Exists ∷ refusal.NotEmpty ∷ refusal.CrossFs ∷ refusal.ProcFrozen ∷ refusal.ProcCeiling ∷ refusal.FileFrozen ∷ refusal.FsCeiling ∷ refusal.Trusted ∷ refusal.NoCapability ∷ refusal.NoLicence ∷ refusal.NotAbove ∷ refusal.BelowLabel ∷ refusal.PexHeld ∷ refusal.NotPipe ∷ refusal.NotClaimed ∷ refusal.NoSpace ∷ refusal.NoInode ∷ refusal.NoEntry ∷ refusal.NoSlot ∷ refusal.NoFd ∷ refusal.NoOpen ∷ refusal.TooBig ∷ refusal.PipeFull ∷ refusal.Broken ∷ refusal.NoChild ∷ refusal.ChildrenLive ∷ refusal.LogFull ∷ refusal.Again ∷ refusal.EndOfList ∷ refusal.IsPipe ∷ refusal.InUse ∷ []) n refusal.NoProcess
+
+of_its_number : (r : Refusal) → of_number (number_of r) ≡ r
+unfolding of_number
+of_its_number refusal.NoProcess = refl
+of_its_number refusal.BadFd = refl
+of_its_number refusal.NotReadable = refl
+of_its_number refusal.NotWritable = refl
+of_its_number refusal.NotFound = refl
+of_its_number refusal.NotDir = refl
+of_its_number refusal.IsDir = refl
+of_its_number refusal.Exists = refl
+of_its_number refusal.NotEmpty = refl
+of_its_number refusal.CrossFs = refl
+of_its_number refusal.ProcFrozen = refl
+of_its_number refusal.ProcCeiling = refl
+of_its_number refusal.FileFrozen = refl
+of_its_number refusal.FsCeiling = refl
+of_its_number refusal.Trusted = refl
+of_its_number refusal.NoCapability = refl
+of_its_number refusal.NoLicence = refl
+of_its_number refusal.NotAbove = refl
+of_its_number refusal.BelowLabel = refl
+of_its_number refusal.PexHeld = refl
+of_its_number refusal.NotPipe = refl
+of_its_number refusal.NotClaimed = refl
+of_its_number refusal.NoSpace = refl
+of_its_number refusal.NoInode = refl
+of_its_number refusal.NoEntry = refl
+of_its_number refusal.NoSlot = refl
+of_its_number refusal.NoFd = refl
+of_its_number refusal.NoOpen = refl
+of_its_number refusal.TooBig = refl
+of_its_number refusal.PipeFull = refl
+of_its_number refusal.Broken = refl
+of_its_number refusal.NoChild = refl
+of_its_number refusal.ChildrenLive = refl
+of_its_number refusal.LogFull = refl
+of_its_number refusal.Again = refl
+of_its_number refusal.EndOfList = refl
+of_its_number refusal.IsPipe = refl
+of_its_number refusal.InUse = refl
+
+pub one_refusal : (q r : Refusal) → number_of q ≡ number_of r → q ≡ r
+one_refusal q r h = sym (of_its_number q) ∙ ap of_number h ∙ of_its_number r
+
+-- ---- kinds
+abbrev pub kind_number : Reply → ℕ
+kind_number reply.Done = 0
+kind_number (reply.Number n) = 1
+kind_number (reply.Two a b) = 2
+kind_number (reply.Bytes k) = 3
+kind_number (reply.Stat o kind size links frozen x y) = 4
+kind_number (reply.Lab a) = 5
+kind_number (reply.Named name o) = 6
+kind_number reply.Half = 7
+kind_number (reply.Whole p a x) = 8
+kind_number (reply.LogLine x) = 9
+kind_number (reply.Child p x) = 10
+kind_number (reply.No why) = 11 + number_of why
+
+pub kinds_equal : (a b : Reply) → is_one_kind a b ≡ true → kind_number a ≡ kind_number b
+kinds_equal (reply.No why) (reply.No other) h = ap (λ n. 11 + n) (eqb-true (number_of why) (number_of other) h)
+kinds_equal reply.Done reply.Done h = refl
+kinds_equal (reply.Number m) (reply.Number n) h = refl
+kinds_equal (reply.Two a b) (reply.Two c d) h = refl
+kinds_equal (reply.Bytes m) (reply.Bytes n) h = refl
+kinds_equal (reply.Stat o kind size links frozen x y) (reply.Stat o2 kind2 size2 links2 frozen2 x2 y2) h = refl
+kinds_equal (reply.Lab a) (reply.Lab b) h = refl
+kinds_equal (reply.Named m n) (reply.Named name o) h = refl
+kinds_equal reply.Half reply.Half h = refl
+kinds_equal (reply.Whole p a x) (reply.Whole q b y) h = refl
+kinds_equal (reply.LogLine x) (reply.LogLine y) h = refl
+kinds_equal (reply.Child p x) (reply.Child q y) h = refl
+kinds_equal a b h = absurd (true≢false (sym h))
+
+pub equal_kinds : (a b : Reply) → kind_number a ≡ kind_number b → is_one_kind a b ≡ true
+equal_kinds (reply.No why) (reply.No other) h = (unsigned_Decides (number_of why) (number_of other)).1 (omega (arith, h))
+equal_kinds reply.Done reply.Done h = refl
+equal_kinds (reply.Number m) (reply.Number n) h = refl
+equal_kinds (reply.Two a b) (reply.Two c d) h = refl
+equal_kinds (reply.Bytes m) (reply.Bytes n) h = refl
+equal_kinds (reply.Stat o kind size links frozen x y) (reply.Stat o2 kind2 size2 links2 frozen2 x2 y2) h = refl
+equal_kinds (reply.Lab a) (reply.Lab b) h = refl
+equal_kinds (reply.Named m n) (reply.Named name o) h = refl
+equal_kinds reply.Half reply.Half h = refl
+equal_kinds (reply.Whole p a x) (reply.Whole q b y) h = refl
+equal_kinds (reply.LogLine x) (reply.LogLine y) h = refl
+equal_kinds (reply.Child p x) (reply.Child q y) h = refl
+equal_kinds a b h = absurd (omega (arith, h))
