@@ -1,21 +1,19 @@
 -- What each call leaves and answers, over the fields.
-use Rattle.std.proofs.Common.{◌≡◌, ◌≢◌, ℕ, zero, suc, ◌+◌, ◌-◌, ◌<◌, ◌≤◌, ◌^◌, true, false, cond, List, [], ◌∷◌, ◌++◌, length, set, get_or, map, replicate, Option, Some, None, refl, sym, ap, ◌∙◌, subst, arith, inl, inr, ◌⊎◌, slice_get, length-set, append_assoc, length-append, append-nil, nat_lt, add-one}
-use Rattle.std.specs.List.{last_or, Contains, range_with_len}
+use Rattle.std.proofs.Common.{◌≡◌, ℕ, zero, suc, ◌+◌, ◌-◌, ◌<◌, ◌≤◌, ◌^◌, cond, List, [], ◌∷◌, ◌++◌, length, set, get_or, Option, Some, None, refl, sym, ap, ◌∙◌, subst, arith, inl, inr, slice_get, append-nil, nat_lt, add-one}
+use Rattle.std.specs.List.{last_or, Contains}
 use Rattle.std.specs.Vec.{with_items, with_item}
-use Rattle.std.proofs.lemmas.Bool.{cases_eq, cases_lt}
-use Rattle.std.proofs.lemmas.Bool.Decides.{nat_tests, eqb_tells}
-use Rattle.std.proofs.lemmas.List.{get_or-set_other, with_items_is, get_or_default, get_or_past, map-id}
-use Rattle.std.proofs.lemmas.List.FromFn.{map-range_with_len_more, length-range_with_len}
-use Rattle.std.proofs.lemmas.Option.{same_Some, slice_get_within, get_or_from_slice_get}
+use Rattle.std.proofs.lemmas.Bool.{cases_lt}
+use Rattle.std.proofs.lemmas.List.{with_items_is, get_or_past}
+use Rattle.std.proofs.lemmas.Option.{same_Some, get_or_from_slice_get}
 use Rattle.ix_links.specs.declared.link.Link.{Link}
 use Rattle.ix_links.specs.declared.link.Ends.{Ends}
 use Rattle.ix_links.specs.declared.links.Links.TheInside.{Inside}
-use Rattle.ix_links.specs.Chains.{Chains, lists, times, total, without, pool, chain_of, all_free, pushed_front, pushed_back, front_moved, back_moved, removed, before}
+use Rattle.ix_links.specs.Chains.{Chains, lists, times, total, without, pushed_front, pushed_back, front_moved, back_moved, removed, before}
 use Rattle.ix_links.specs.Whole.{IsPool}
 use Rattle.ix_links.specs.Linking.{loose, link_at, Within, unlinked_items, unlinked_ends, inserted_items, inserted_ends}
-use Rattle.ix_links.specs.Standing.{walk, head_or, Runs, IsChain, AreChains, Hold, links_view, IsSound}
-use Rattle.ix_links.proofs.Running.{Once, Among, times-append, times_here, times_skip, times_other, link_between, chain-inserted, link_in_chain, length-unlinked, length-inserted, head-among, last-among}
-use Rattle.ix_links.proofs.Listing.{part-le-total, total-set, chains-length, chain_at, held_within, split, times_contained, shows, sound, some_free, link_of_free, hold_pushed, hold_removed}
+use Rattle.ix_links.specs.Standing.{head_or, Runs, IsChain, Hold, links_view, IsSound}
+use Rattle.ix_links.proofs.Running.{Among, times-append, times_skip, link_between, link_in_chain, length-unlinked, length-inserted, head-among, last-among}
+use Rattle.ix_links.proofs.Listing.{part-le-total, chain_at, held_within, split, times_contained, shows, sound, some_free, hold_pushed, hold_removed}
 
 pub Within_from : (items : List Link) (o : Option ℕ) → ((j : ℕ) → o ≡ Some j → j < length items) → Within items o
 Within_from items None h = tt

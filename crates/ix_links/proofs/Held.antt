@@ -1,13 +1,13 @@
 -- For callers: what the law of a pool says of an index at a place of a chain.
-use Rattle.std.proofs.Common.{◌≡◌, ◌≢◌, ℕ, zero, suc, ◌+◌, ◌<◌, ◌≤◌, List, [], ◌∷◌, ◌++◌, length, set, get_or, Some, None, refl, sym, ap, ◌∙◌, subst, arith, inl, inr, ◌⊎◌, slice_get, length-set, length-append}
+use Rattle.std.proofs.Common.{◌≡◌, ◌≢◌, ℕ, zero, suc, ◌+◌, ◌<◌, ◌≤◌, List, [], ◌∷◌, ◌++◌, length, get_or, Some, refl, sym, ap, subst, arith, inl, inr, slice_get, length-append}
 use Rattle.std.specs.List.{Contains}
 use Rattle.std.proofs.lemmas.Bool.{cases_eq, cases_lt}
 use Rattle.std.proofs.lemmas.Bool.Decides.{nat_tests}
-use Rattle.std.proofs.lemmas.List.{get_or-set_other, get_or-set_same, get_or_past}
+use Rattle.std.proofs.lemmas.List.{get_or_past}
 use Rattle.std.proofs.lemmas.Option.{same_Some, slice_get_within, get_or_from_slice_get}
 use Rattle.ix_links.specs.Chains.{Chains, lists, total, times, pool, chain_of, pushed_front, pushed_back, front_moved, back_moved, removed, without}
 use Rattle.ix_links.specs.Whole.{IsPool}
-use Rattle.ix_links.proofs.Running.{times-append, times_here, times_skip}
+use Rattle.ix_links.proofs.Running.{times_here, times_skip}
 use Rattle.ix_links.proofs.Listing.{part-le-total, total-set, split, times_contained}
 
 -- an index at a place of a list

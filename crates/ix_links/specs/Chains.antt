@@ -1,5 +1,5 @@
 -- What contracts see of the pool: lists of indices.
-use Rattle.std.specs.Prelude.{ℕ, zero, suc, ◌+◌, ◌<◌, ◌==◌, List, [], ◌∷◌, length, set, get_or, Option, None, ◌++◌, if◌then◌else◌, slice_get, replicate}
+use Rattle.std.specs.Prelude.{ℕ, zero, suc, ◌+◌, ◌==◌, List, [], ◌∷◌, length, set, get_or, Option, None, ◌++◌, if◌then◌else◌, slice_get, replicate}
 use Rattle.std.specs.List.{range_with_len}
 
 -- the list of each chain, and that of the free indices

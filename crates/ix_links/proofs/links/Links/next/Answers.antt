@@ -1,5 +1,5 @@
-use Rattle.std.proofs.Common.{◌≡◌, ◌+◌, ℕ, Some, sym, subst, ap, ◌∙◌, slice_get}
-use Rattle.ix_links.specs.Chains.{Chains, chain_of, before}
+use Rattle.std.proofs.Common.{◌≡◌, ◌+◌, Some, sym, subst, ap, ◌∙◌, slice_get}
+use Rattle.ix_links.specs.Chains.{Chains, chain_of}
 use Rattle.ix_links.proofs.Calls.{next_in_chain, next_in_free}
 use Rattle.ix_links.proofs.links.Links.next.Goals as goal
 
