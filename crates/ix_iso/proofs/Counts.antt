@@ -1,5 +1,5 @@
 -- How many of each a content has, and the part of a reply that the frame decides: neither looks at what is held.
-use Rattle.std.proofs.Common.{◌≡◌, ◌+◌, ◌-◌, ℕ, Bool, true, false, ◌&&◌, not, List, [], ◌∷◌, length, map, replicate, Option, Some, None, if◌then◌else◌, refl, sym, ap, ◌∙◌, arith, set, length-set, length-append}
+use Rattle.std.proofs.Common.{◌≡◌, ◌+◌, ◌-◌, ℕ, Bool, true, false, true≢false, ◌&&◌, not, List, [], ◌∷◌, length, map, replicate, Option, Some, None, if◌then◌else◌, refl, sym, ap, ◌∙◌, arith, set, length-set, length-append}
 use Rattle.std.proofs.lemmas.List.{length-map, length-replicate}
 use Rattle.ix_model.specs.Naming.{PathOf}
 use Rattle.ix_model.specs.World.{Frame, World, Content, Holding, at, is_ended}
@@ -14,7 +14,7 @@ use Rattle.ix_model.specs.declared.reply.Kind.TheVariants as kind
 use Rattle.ix_model.specs.declared.reply.Reply.{Reply}
 use Rattle.ix_model.specs.declared.reply.Reply.TheVariants as reply
 use Rattle.ix_model.proofs.Carrying.{length-keep}
-use Rattle.ix_iso.specs.Laws.{frame_part}
+use Rattle.ix_iso.specs.Laws.{frame_part, gives_bytes}
 use Rattle.ix_iso.proofs.OneKind.{kind_number}
 
 -- as many objects, open entries and processes
@@ -172,49 +172,50 @@ module _ (w : World) where
   pub record Told (c : Op) (a : Given) (r : Reply) : Type 0 where
     pub kind : kind_number a.reply ≡ kind_number r
     pub part : frame_part c a.reply ≡ frame_part c r
+    pub bytes : gives_bytes c ≡ false → a.bytes ≡ []
 
-  told_same : (c : Op) (a : Given) (r : Reply) → a.reply ≡ r → Told c a r
-  told_same c a r h = record { kind = ap kind_number h; part = ap (frame_part c) h }
+  told_same : (c : Op) (a : Given) (r : Reply) → a.reply ≡ r → a.bytes ≡ [] → Told c a r
+  told_same c a r h none = record { kind = ap kind_number h; part = ap (frame_part c) h; bytes = λ other. none }
 
   told_read : (fd count : ℕ) (b : Option Behind) (r : Reply) (g : Frame) → Told (op.ReadFd fd count) (read_answer w count b r g) r
   unfolding read_answer plainly
-  told_read fd count (Some e) (reply.Bytes k) g = record { kind = refl; part = refl }
-  told_read fd count _ r g = told_same _ _ r refl
+  told_read fd count (Some e) (reply.Bytes k) g = record { kind = refl; part = refl; bytes = λ other. absurd (true≢false other) }
+  told_read fd count _ r g = told_same _ _ r refl refl
 
   told_write : (fd : ℕ) (new : List ℕ) (b : Option Behind) (r : Reply) (g : Frame) → Told (op.WriteFd fd new) (write_answer w new b r g) r
   unfolding write_answer plainly
-  told_write fd new (Some e) (reply.Number k) g = record { kind = refl; part = refl }
-  told_write fd new _ r g = told_same _ _ r refl
+  told_write fd new (Some e) (reply.Number k) g = record { kind = refl; part = refl; bytes = λ other. refl }
+  told_write fd new _ r g = told_same _ _ r refl refl
 
   told_cut : (c : Op) (len : ℕ) (b : Option Behind) (r : Reply) (g : Frame) → Told c (cut_answer w len b r g) r
   unfolding cut_answer plainly
-  told_cut c len (Some e) reply.Done g = told_same c _ reply.Done refl
-  told_cut c len _ r g = told_same c _ r refl
+  told_cut c len (Some e) reply.Done g = told_same c _ reply.Done refl refl
+  told_cut c len _ r g = told_same c _ r refl refl
 
   told_seek : (c : Op) (offset : ℕ) (b : Option Behind) (r : Reply) (g : Frame) → Told c (seek_answer w offset b r g) r
   unfolding seek_answer plainly
-  told_seek c offset (Some e) reply.Done g = told_same c _ reply.Done refl
-  told_seek c offset _ r g = told_same c _ r refl
+  told_seek c offset (Some e) reply.Done g = told_same c _ reply.Done refl refl
+  told_seek c offset _ r g = told_same c _ r refl refl
 
   told_stat : (path : PathOf) (r : Reply) (g : Frame) → Told (op.StatAt path) (stat_answer w r g) r
   unfolding stat_answer plainly
-  told_stat path (reply.Stat o kind.File size links frozen x y) g = record { kind = refl; part = refl }
-  told_stat path r g = told_same _ _ r refl
+  told_stat path (reply.Stat o kind.File size links frozen x y) g = record { kind = refl; part = refl; bytes = λ other. refl }
+  told_stat path r g = told_same _ _ r refl refl
 
   told_exit : (c : Op) (pid status : ℕ) (r : Reply) (g : Frame) → Told c (exit_answer w pid status r g) r
   unfolding exit_answer plainly
-  told_exit c pid status reply.Done g = told_same c _ reply.Done refl
-  told_exit c pid status r g = told_same c _ r refl
+  told_exit c pid status reply.Done g = told_same c _ reply.Done refl refl
+  told_exit c pid status r g = told_same c _ r refl refl
 
   told_wait : (r : Reply) (g : Frame) → Told op.WaitChild (wait_answer w r g) r
   unfolding wait_answer plainly
-  told_wait (reply.Child p status) g = record { kind = refl; part = refl }
-  told_wait r g = told_same _ _ r refl
+  told_wait (reply.Child p status) g = record { kind = refl; part = refl; bytes = λ other. refl }
+  told_wait r g = told_same _ _ r refl refl
 
   told_pex : (c : Op) (b : Option Behind) (r : Reply) (g : Frame) → Told c (pex_answer w b r g) r
   unfolding pex_answer plainly
-  told_pex c (Some e) r g = told_same c _ r refl
-  told_pex c None r g = told_same c _ r refl
+  told_pex c (Some e) r g = told_same c _ r refl refl
+  told_pex c None r g = told_same c _ r refl refl
 
   pub told_answer : (pid : ℕ) (c : Op) (d : Decision) → Told c (answer w pid c d) d.reply
   unfolding answer plainly
@@ -226,4 +227,4 @@ module _ (w : World) where
   told_answer pid (op.Exit status) d = told_exit _ pid status _ _
   told_answer pid op.WaitChild d = told_wait _ _
   told_answer pid (op.Pex fd) d = told_pex _ (behind w.frame pid fd) _ _
-  told_answer pid c d = told_same c _ d.reply refl
+  told_answer pid c d = told_same c _ d.reply refl refl

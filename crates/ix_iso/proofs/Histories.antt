@@ -1,11 +1,11 @@
 -- Whole histories, by induction.
-use Rattle.std.proofs.Common.{◌≡◌, ℕ, zero, suc, true, List, [], ◌∷◌, take, slice_get, Some, sym, ap, ◌∙◌, arith, subst}
+use Rattle.std.proofs.Common.{false, ◌≡◌, ℕ, zero, suc, true, List, [], ◌∷◌, take, slice_get, Some, sym, ap, ◌∙◌, arith, subst}
 use Rattle.ix_label.specs.Category.{Categories}
 use Rattle.ix_model.specs.World.{World}
 use Rattle.ix_model.specs.Step.{Given, step_of, run}
 use Rattle.ix_model.specs.TwoRuns.{shape, Alike, IsLow, AgreeAt, Same, Other, Agree, is_one_kind}
 use Rattle.ix_model.specs.Events.{Event}
-use Rattle.ix_iso.specs.Laws.{frame_part, OneShape, NoneCrosses, given_after, Isolated}
+use Rattle.ix_iso.specs.Laws.{frame_part, gives_bytes, OneShape, NoneCrosses, given_after, Isolated}
 use Rattle.ix_iso.proofs.Shapes.{twins_itself, twins_replaced, shape_twins}
 use Rattle.ix_iso.proofs.Steps.{alike_events}
 
@@ -31,18 +31,23 @@ module _ (l : Categories) where
   shapes_along v w place (e ∷ events) (f ∷ others) shapes agree (suc n) =
       shapes_along (step_of v place e).world (step_of w place f).world (suc place) events others (shape_events l v w place e f shapes agree.0 agree.1).shapes agree.2 n
 
-  replies_along : (v w : World) (place : ℕ) (events others : List Event) → shape v ≡ shape w → Agree l v w place events others → (n : ℕ) (e f : Event) → slice_get events n ≡ Some e → slice_get others n ≡ Some f → frame_part e.op (given_after v place events n e).reply ≡ frame_part f.op (given_after w place others n f).reply
+  -- the replies, whatever is low
+  abbrev SameReply : Event → Event → Given → Given → Type 0
+  SameReply e f a b = (frame_part e.op a.reply ≡ frame_part f.op b.reply) × (gives_bytes e.op ≡ false → a.bytes ≡ b.bytes)
+
+  replies_along : (v w : World) (place : ℕ) (events others : List Event) → shape v ≡ shape w → Agree l v w place events others → (n : ℕ) (e f : Event) → slice_get events n ≡ Some e → slice_get others n ≡ Some f → SameReply e f (given_after v place events n e) (given_after w place others n f)
   replies_along v w place [] others shapes agree n e f is here = cc
   replies_along v w place (a ∷ events) [] shapes agree n e f is here = absurd agree
   replies_along v w place (a ∷ events) (b ∷ others) shapes agree zero e f is here =
       let i : a ≡ e = cc in
       let j : b ≡ f = cc in
-      let now : frame_part a.op (step_of v place a).reply ≡ frame_part b.op (step_of w place b).reply = (shape_events l v w place a b shapes agree.0 agree.1).replies in
-      let here_e : frame_part e.op (step_of v place e).reply ≡ frame_part f.op (step_of w place f).reply = subst (λ (x : Event). frame_part x.op (step_of v place x).reply ≡ frame_part f.op (step_of w place f).reply) i (subst (λ (y : Event). frame_part a.op (step_of v place a).reply ≡ frame_part y.op (step_of w place y).reply) j now) in
-      ap (λ (g : Given). frame_part e.op g.reply) (first v place (a ∷ events) e) ∙ here_e ∙ sym (ap (λ (g : Given). frame_part f.op g.reply) (first w place (b ∷ others) f))
+      let step = shape_events l v w place a b shapes agree.0 agree.1 in
+      let now : SameReply a b (step_of v place a) (step_of w place b) = (step.replies, step.bytes) in
+      let here_e : SameReply e f (step_of v place e) (step_of w place f) = subst (λ (x : Event). SameReply x f (step_of v place x) (step_of w place f)) i (subst (λ (y : Event). SameReply a y (step_of v place a) (step_of w place y)) j now) in
+      subst (λ (g : Given). SameReply e f g (given_after w place (b ∷ others) 0 f)) (sym (first v place (a ∷ events) e)) (subst (λ (h : Given). SameReply e f (step_of v place e) h) (sym (first w place (b ∷ others) f)) here_e)
   replies_along v w place (a ∷ events) (b ∷ others) shapes agree (suc n) e f is here =
       let rest = replies_along (step_of v place a).world (step_of w place b).world (suc place) events others (shape_events l v w place a b shapes agree.0 agree.1).shapes agree.2 n e f is here in
-      ap (λ (g : Given). frame_part e.op g.reply) (sym (later v place a events n e)) ∙ rest ∙ ap (λ (g : Given). frame_part f.op g.reply) (later w place b others n f)
+      subst (λ (g : Given). SameReply e f g (given_after w place (b ∷ others) (suc n) f)) (later v place a events n e) (subst (λ (h : Given). SameReply e f (given_after (step_of v place a).world (suc place) events n e) h) (later w place b others n f) rest)
 
   alike_along : (v w : World) (place : ℕ) (events others : List Event) → Alike l v w → Agree l v w place events others → (n : ℕ) → NoneCrosses l v place (take n events) → Alike l (run v place (take n events)) (run w place (take n others))
   alike_along v w place events others alike agree zero none = alike

@@ -12,7 +12,7 @@ use Rattle.ix_model.specs.Events as op
 use Rattle.ix_model.specs.declared.reply.Reply.{Reply}
 use Rattle.ix_model.specs.declared.reply.Reply.TheVariants as reply
 use Rattle.ix_model.proofs.Answered.{step_frame}
-use Rattle.ix_iso.specs.Laws.{frame_part, OneShape}
+use Rattle.ix_iso.specs.Laws.{frame_part, gives_bytes, OneShape}
 use Rattle.ix_iso.proofs.OneKind.{kind_number, kinds_equal}
 use Rattle.ix_iso.proofs.Kin.{verdict_kind}
 use Rattle.ix_iso.proofs.Counts.{SameCounts, counts_carried, kept_answer, told_answer, shape_from, shape_frames, shape_counts}
@@ -21,13 +21,14 @@ use Rattle.ix_iso.proofs.Counts.{SameCounts, counts_carried, kept_answer, told_a
 pub record Twins (o p : Op) : Type 0 where
   pub verdicts : (t : Told) (place pid : ℕ) (f : Frame) → verdict t place pid o f ≡ verdict t place pid p f
   pub parts : (r : Reply) → frame_part o r ≡ frame_part p r
+  pub reads : gives_bytes p ≡ gives_bytes o
 
 pub twins_itself : (o : Op) → Twins o o
-twins_itself o = record { verdicts = λ t place pid f. refl; parts = λ r. refl }
+twins_itself o = record { verdicts = λ t place pid f. refl; parts = λ r. refl; reads = refl }
 
 pub twins_write : (fd : ℕ) (a b : List ℕ) → Twins (op.WriteFd fd a) (op.WriteFd fd b)
 unfolding verdict row
-twins_write fd a b = record { verdicts = λ t place pid f. refl; parts = part }
+twins_write fd a b = record { verdicts = λ t place pid f. refl; parts = part; reads = refl }
   where
     part : (r : Reply) → frame_part (op.WriteFd fd a) r ≡ frame_part (op.WriteFd fd b) r
     part (reply.Number n) = refl
@@ -35,7 +36,7 @@ twins_write fd a b = record { verdicts = λ t place pid f. refl; parts = part }
 
 pub twins_exit : (s t : ℕ) → Twins (op.Exit s) (op.Exit t)
 unfolding verdict row
-twins_exit s t = record { verdicts = λ t place pid f. refl; parts = λ r. refl }
+twins_exit s t = record { verdicts = λ t place pid f. refl; parts = λ r. refl; reads = refl }
 
 pub twins_replaced : (o p : Op) → Replaced o p → Twins o p
 twins_replaced _ _ (Written {fd = fd} {a = a} {b = b}) = twins_write fd a b
@@ -75,6 +76,7 @@ module _ (v w : World) (place pid : ℕ) (o p : Op) (twins : Twins o p) (shapes 
           statuses = c.statuses ∙ counts.statuses ∙ ap (λ (x : Content). length x.statuses) moved ∙ sym d.statuses;
         });
         replies = (told_answer v pid o left).part ∙ twins.parts left.reply ∙ ap (λ (e : Decision). frame_part p e.reply) one ∙ sym (told_answer w pid p right).part;
+        bytes = λ other. (told_answer v pid o left).bytes other ∙ sym ((told_answer w pid p right).bytes (twins.reads ∙ other));
       }
 
 pub shape_twins : (v w : World) (place pid : ℕ) (o p : Op) → Twins o p → shape v ≡ shape w → is_one_kind (step v place pid o).reply (step w place pid p).reply ≡ true → OneShape o p (step v place pid o) (step w place pid p)

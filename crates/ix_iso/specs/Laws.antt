@@ -26,10 +26,16 @@ frame_part (op.StatAt path) (reply.Stat o kind size links frozen cap lic) = repl
 frame_part op.WaitChild (reply.Child p status) = reply.Child p 0
 frame_part o r = r
 
--- two calls leave worlds of one shape, and their replies are equal in the part that the frame decides
+-- whether a call is a read, which alone gives bytes
+abbrev pub gives_bytes : Op → Bool
+gives_bytes (op.ReadFd fd count) = true
+gives_bytes _ = false
+
+-- two calls leave worlds of one shape, and their replies are equal in the part that the frame decides, and in all bytes but a read's
 pub record OneShape (o p : Op) (a b : Given) : Type 0 where
   pub shapes : shape a.world ≡ shape b.world
   pub replies : frame_part o a.reply ≡ frame_part p b.reply
+  pub bytes : gives_bytes o ≡ false → a.bytes ≡ b.bytes
 
 -- so two calls do from worlds of one shape, where their replies are of one kind
 abbrev pub KeepShape : Op → Op → Type 0
@@ -92,8 +98,9 @@ given_after w place events n e = step_of (run w place (take n events)) (place + 
 pub record Isolated (l : Categories) (v w : World) (place : ℕ) (events others : List Event) : Type 0 where
   -- after each prefix the shapes are equal
   pub shapes : (n : ℕ) → shape (run v place (take n events)) ≡ shape (run w place (take n others))
-  -- at each place the replies are equal in the part that the frame decides
-  pub replies : (n : ℕ) (e f : Event) → slice_get events n ≡ Some e → slice_get others n ≡ Some f → frame_part e.op (given_after v place events n e).reply ≡ frame_part f.op (given_after w place others n f).reply
+  -- at each place the replies are equal in the part that the frame decides, and in all bytes but a read's
+  pub replies : (n : ℕ) (e f : Event) → slice_get events n ≡ Some e → slice_get others n ≡ Some f →
+      (frame_part e.op (given_after v place events n e).reply ≡ frame_part f.op (given_after w place others n f).reply) × (gives_bytes e.op ≡ false → (given_after v place events n e).bytes ≡ (given_after w place others n f).bytes)
   -- after each prefix in which no entry crosses L the worlds are alike at L
   pub worlds : (n : ℕ) → NoneCrosses l v place (take n events) → Alike l (run v place (take n events)) (run w place (take n others))
   -- where an entry is low and none before it crosses L, the replies are equal with their bytes and status
