@@ -1,5 +1,5 @@
 -- Names in their cells and slots.
-use Rattle.std.proofs.Common.{◌≡◌, ℕ, zero, suc, ◌+◌, ◌-◌, ◌<◌, ◌≤◌, List, [], ◌∷◌, ◌++◌, length, take, drop, map, replicate, Option, Some, None, false, refl, sym, ap, ◌∙◌, arith, length-append, append_assoc, sub-one, length-take-le}
+use Rattle.std.proofs.Common.{◌≡◌, ℕ, zero, suc, ◌+◌, ◌-◌, ◌<◌, ◌≤◌, List, [], ◌∷◌, ◌++◌, length, take, drop, map, replicate, Option, Some, None, true, false, refl, sym, ap, ◌∙◌, arith, length-append, append_assoc, sub-one, length-take-le}
 use Rattle.std.proofs.Math.ListN.{set}
 use Rattle.std.proofs.Math.Seq.{set-append_seam, take-append_seam}
 use Rattle.std.proofs.lemmas.List.{drop-replicate, map-append, length-map}
@@ -15,6 +15,10 @@ cells bytes h =
       long = rw front refl;
       padding = rw (front, drop-replicate) refl;
     }
+
+-- a name in its cells is that name
+pub named : (bytes rest : List ℕ) → is_name bytes ≡ true → is_name (take (length bytes) (bytes ++ rest)) ≡ true
+named bytes rest h = rw take-append_seam h
 
 names_in_none : (n : ℕ) → names_in (replicate n None) ≡ []
 names_in_none zero = refl

@@ -14,18 +14,18 @@ pub struct Name {
 }
 
 impl Model for Name {
-    ghost use Rattle.std.specs.Prelude.{List, ℕ, take, length};
-    ghost use Rattle.ix_model.specs.Naming.{IsNameInside, padded};
+    ghost use Rattle.std.specs.Prelude.{List, ℕ, IsTrue, take, length};
+    ghost use Rattle.ix_model.specs.Naming.{IsNameInside, is_name, padded};
 
     ghost Value = { List ℕ };
 
     ghost view = { λ n. take n.len n.bytes };
 
-    ghost invariant = { λ n. IsNameInside n.bytes n.len };
+    ghost invariant = { λ n. IsNameInside n.bytes n.len × IsTrue (is_name (take n.len n.bytes)) };
 
     ghost inverse = { λ t. record { bytes = padded 28 t; len = length t } };
 
-    ghost inverse_ok = { λ n h i. record { bytes = h.padding i; len = h.long i } };
+    ghost inverse_ok = { λ n h i. record { bytes = h.0.padding i; len = h.0.long i } };
 }
 
 #[tactic(auto, unfolding(crate::specs::Naming::is_name))]
@@ -67,6 +67,7 @@ impl Name {
     /// Its bytes.
     pub fn as_bytes(&self) -> &[u8]
         ensures bytes { result.now ≡ self.now }
+        ensures name { IsTrue (is_name self.now) }
         ensures few { length self.now ≤ 28 }
     {
         &self.bytes[..self.len as usize]

@@ -1,0 +1,3 @@
+pub mod Packed
+pub mod Coding
+pub mod Growing

@@ -1,0 +1,4 @@
+pub mod Recorded
+pub mod Names
+pub mod Heads
+pub mod Entries

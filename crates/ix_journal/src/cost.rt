@@ -1,0 +1,57 @@
+ghost use Rattle.std.specs.Prelude.{◌≡◌, ◌≤◌};
+ghost use Rattle.ix_model.specs.Calls.{op_of};
+ghost use Rattle.ix_model.specs.Cost.{cost_of, cost_of_words, cost_of_path};
+
+use ix_model::{Call, Path};
+
+/// What an entry costs besides its words.
+pub const ENTRY: u64 = 128;
+
+/// What a call costs: 128, and its words, which are the bytes that it writes, or for each name of its paths the length and
+/// one more.
+#[tactic(auto, unfolding(ix_model::specs::Cost::cost_of))]
+pub fn cost_of(call: &Call<'_>) -> u64
+    ensures { result ≡ cost_of (op_of call.now) }
+{
+    ENTRY + cost_of_words(call)
+}
+
+fn cost_of_words(call: &Call<'_>) -> u64
+    ensures cost { result ≡ cost_of_words (op_of call.now) }
+    ensures fits { result ≤ 9223372036854775807 }
+{
+    match call {
+        Call::WriteFd { bytes, .. } => bytes.len() as u64,
+        Call::LinkAt { target, path } => cost_of_path(target) + cost_of_path(path),
+        Call::CreateAt { path }
+        | Call::OpenAt { path, .. }
+        | Call::MakeDir { path }
+        | Call::UnlinkAt { path }
+        | Call::RemoveDir { path }
+        | Call::ChangeDir { path }
+        | Call::StatAt { path }
+        | Call::ListAt { path, .. }
+        | Call::Exec { path }
+        | Call::LabelOf { path }
+        | Call::SetLabel { path, .. }
+        | Call::Freeze { path }
+        | Call::Thaw { path }
+        | Call::SetPriv { path, .. } => cost_of_path(path),
+        _ => 0,
+    }
+}
+
+/// What a path costs: 16 names of at most 28 bytes, at the most.
+fn cost_of_path(path: &Path) -> u64
+    ensures cost { result ≡ cost_of_path path.now }
+    ensures few { result ≤ 464 }
+{
+    let mut cost = 0;
+    for i in 0..path.len() {
+        match path.name(i) {
+            Some(name) => cost += name.as_bytes().len() as u64 + 1,
+            None => unreachable!(),
+        }
+    }
+    cost
+}

@@ -1,0 +1,154 @@
+ghost use Rattle.std.specs.Prelude.{◌≡◌, ◌≤◌, ◌==◌, ◌-◌, ◌↔◌, IfOk, IsTrue, None, [], length, slice_get, if◌then◌else◌};
+ghost use Rattle.std.specs.Option.{option_map};
+ghost use Rattle.ix_model.specs.Calls.{op_of, event_of};
+ghost use Rattle.ix_model.specs.Cost.{cost_of, cost_of_history};
+ghost use Rattle.ix_journal.specs.Entries.{Fits, with_event, event_in, record_of, IsWhole};
+
+use crate::cost::{ENTRY, cost_of};
+use crate::packing::{head_of, put_words};
+use crate::record::Record;
+use crate::unpacking::call_in;
+use ix_model::{Call, Entry, NoMemory};
+use std::alloc::Global;
+use std::marker::Model;
+
+/// The entries of a history, which cost at most `cap` together.
+///
+/// An entry is kept as a record of fixed size, at most 128 bytes, and its words: the bytes that it writes, or the names of
+/// its paths, each with a byte for its length before it. So the memory that entries touch is at most what they cost.
+///
+/// Contracts see the entries and the cap.
+#[derive(Drop)]
+pub struct Journal {
+    cap: u64,
+    records: Vec<Record>,
+    words: Vec<u8>,
+}
+
+impl Model for Journal {
+    ghost use Rattle.std.specs.Prelude.{map, vec_capacity};
+    ghost use Rattle.std.specs.Coded.{codes};
+    ghost use Rattle.ix_label.specs.contracts.label.Label as label_type;
+    ghost use Rattle.ix_journal.specs.Entries.{Entries, AreEntries, event_in};
+
+    ghost Value = { Entries };
+
+    ghost coded = { Prim.hlevel (codes, label_type.the_row.coded) };
+
+    ghost view = { λ j. record { cap = j.cap; events = map (event_in j.words.items) j.records.items } };
+
+    ghost invariant = { λ j. AreEntries j.cap (vec_capacity j.records) (vec_capacity j.words) j.records.items j.words.items };
+}
+
+impl Journal {
+    /// A journal without entries, of a cap in bytes, at most 870,400,000. It reserves whatever entries of that cost may
+    /// take, and touches none of it: `cap` bytes for words, and for each 128 of them a record, which has 72 bytes as labels
+    /// are now. Where that isn't there it answers `NoMemory`. No other call takes memory.
+    pub fn new(alloc: Global, cap: u64) -> Result<Journal, NoMemory>
+        requires { cap ≤ 870400000 }
+        ensures { IfOk result (λ j. j ≡ record { cap = cap; events = [] }) }
+    {
+        let Ok(records) = Vec::with_capacity(alloc, (cap / ENTRY) as usize) else {
+            return Err(NoMemory);
+        };
+        let Ok(words) = Vec::with_capacity(alloc, cap as usize) else {
+            return Err(NoMemory);
+        };
+        Ok(Journal {
+            cap,
+            records,
+            words,
+        })
+    }
+
+    /// What a call costs: 128, plus the bytes of a WriteFd, plus for each name of its paths the length and one more.
+    pub fn cost(call: &Call<'_>) -> u64
+        ensures { result ≡ cost_of (op_of call.now) }
+    {
+        cost_of(call)
+    }
+
+    /// What the entries cost together, at most the cap.
+    pub fn used(&self) -> u64
+        ensures used { result ≡ cost_of_history self.now.events }
+        ensures within { result ≤ self.now.cap }
+    {
+        ENTRY * self.records.len() as u64 + self.words.len() as u64
+    }
+
+    /// What the entries may cost together, at most 870,400,000.
+    pub fn cap(&self) -> u64
+        ensures cap { result ≡ self.now.cap }
+        ensures small { result ≤ 870400000 }
+    {
+        self.cap
+    }
+
+    /// Whether the journal takes that entry: what is used, and what the entry costs, are at most the cap.
+    pub fn fits(&self, entry: &Entry<'_>) -> bool
+        ensures { IsTrue result ↔ Fits self.now (event_of entry.now) }
+    {
+        cost_of(&entry.call) <= self.cap - self.used()
+    }
+
+    /// One entry more, at the end, which has to fit. Its bytes and names are copied, into memory that was reserved.
+    pub fn push(&mut self, entry: &Entry<'_>)
+        requires { Fits self.old (event_of entry.now) }
+        ensures { self.new ≡ with_event (event_of entry.now) self.old }
+    {
+        let start = self.words.len();
+        put_words(&mut self.words, &entry.call);
+        let len = self.words.len() - start;
+        self.records
+            .push_reserved(record_of(entry, start as u32, len as u32));
+    }
+
+    /// How many entries it has.
+    pub fn len(&self) -> u32
+        ensures { result ≡ length self.now.events }
+    {
+        self.records.len() as u32
+    }
+
+    /// The entry at a place, from 1; `None` exactly at 0 and past the last. The bytes that it writes are lent, not copied.
+    pub fn entry(&self, place: u32) -> Option<Entry<'_>>
+        ensures { option_map event_of result ≡ (if place == 0 then None else slice_get self.now.events (place - 1)) }
+    {
+        if place == 0 {
+            return None;
+        }
+        match self.records.get(place as usize - 1) {
+            Some(record) => Some(entry_in(record, self.words.as_slice())),
+            None => None,
+        }
+    }
+}
+
+/// The record of an entry whose words begin there, and take so many bytes.
+fn record_of(entry: &Entry<'_>, start: u32, len: u32) -> Record
+    ensures { result ≡ record_of (event_of entry.now) start len }
+{
+    Record {
+        seat: entry.seat,
+        line: entry.line,
+        pid: entry.pid,
+        start,
+        len,
+        head: head_of(&entry.call),
+    }
+}
+
+/// The entry of a record whose words lie among these.
+fn entry_in<'a>(recorded: &Record, words: &'a [u8]) -> Entry<'a>
+    requires { IsWhole words.now recorded.now }
+    ensures { event_of result ≡ event_in words.now recorded.now }
+{
+    let start = recorded.start as usize;
+    let words = &words[start..start + recorded.len as usize];
+    Entry {
+        seat: recorded.seat,
+        line: recorded.line,
+        pid: recorded.pid,
+        call: call_in(&recorded.head, words),
+    }
+}

@@ -1,0 +1,13 @@
+//! The journal: the entries of a history, packed within a number of bytes that is reserved at the beginning.
+#![tactic(auto)]
+
+mod cost;
+mod journal;
+mod names;
+mod packing;
+mod record;
+#[cfg(test)]
+mod tests;
+mod unpacking;
+
+pub use journal::Journal;

@@ -1,0 +1,91 @@
+use ix_label::Label;
+use ix_model::{Fd, Keep, Mode, Pid, PrivSet};
+use std::marker::Model;
+use std::mem::size_of;
+
+/// A path without its names, which lie among the words.
+#[derive(Clone, Copy)]
+pub struct Shape {
+    pub absolute: bool,
+    /// How many names it has, at most 16.
+    pub count: u8,
+}
+
+/// A call on one path, without the path.
+#[derive(Clone, Copy)]
+pub enum OnPath {
+    CreateAt,
+    OpenAt { mode: Mode },
+    MakeDir,
+    UnlinkAt,
+    RemoveDir,
+    ChangeDir,
+    StatAt,
+    ListAt { index: u32 },
+    Exec,
+    LabelOf,
+    SetLabel { label: Label },
+    Freeze,
+    Thaw,
+    SetPriv { cap: PrivSet, lic: PrivSet },
+}
+
+/// A call that has no path and writes no bytes.
+#[derive(Clone, Copy)]
+pub enum Alone {
+    ReadFd { fd: Fd, count: u32 },
+    CutFd { fd: Fd, len: u32 },
+    SeekFd { fd: Fd, at: u32 },
+    DupFd { fd: Fd },
+    CloseFd { fd: Fd },
+    MakePipe,
+    Fork { keep: Keep },
+    Exit { status: u8 },
+    WaitChild,
+    SelfLabel,
+    SetSelf { label: Label },
+    FreezeSelf,
+    ThawSelf,
+    DropLic { set: PrivSet },
+    GrantLic { pid: Pid, set: PrivSet },
+    SetCeiling { pid: Pid, label: Label },
+    Pex { fd: Fd },
+    Unpex { fd: Fd },
+    ReadLog { index: u32 },
+}
+
+/// A call without its words: the names of its paths, or the bytes that it writes.
+#[derive(Clone, Copy)]
+pub enum Head {
+    Plain(Alone),
+    Path(Shape, OnPath),
+    Link(Shape, Shape),
+    Write(Fd),
+}
+
+/// An entry without its words, and where these lie.
+#[derive(Drop)]
+pub struct Record {
+    pub seat: u32,
+    pub line: u32,
+    pub pid: Pid,
+    /// Where its words begin, and how many bytes they take.
+    pub start: u32,
+    pub len: u32,
+    pub head: Head,
+}
+
+impl Model for Record {
+    ghost use Rattle.std.specs.Coded.{codes};
+    ghost use Rattle.ix_label.specs.contracts.label.Label as label_type;
+    ghost use Rattle.ix_journal.specs.Recorded.{Recorded};
+
+    ghost Value = { Recorded };
+
+    ghost coded = { Prim.hlevel (codes, label_type.the_row.coded) };
+
+    ghost view = { λ r. record { seat = r.seat; line = r.line; pid = r.pid.0; start = r.start; len = r.len; head = r.head } };
+}
+
+/// Each entry costs 128 bytes besides its words, and its record takes no more.
+const _: () = prove!(size_of::<Record>() <= 128);

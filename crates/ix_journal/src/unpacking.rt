@@ -1,0 +1,76 @@
+ghost use Rattle.std.specs.Prelude.{◌≡◌};
+ghost use Rattle.ix_model.specs.Calls.{op_of};
+ghost use Rattle.ix_journal.specs.Heads.{op_alone, op_on, op_in, IsPacked};
+
+use crate::names::take_path;
+use crate::record::{Alone, Head, OnPath};
+use ix_model::{Call, Path};
+
+/// The call of a head, with those words: the names of its paths, or the bytes that it writes.
+pub fn call_in<'a>(head: &Head, words: &'a [u8]) -> Call<'a>
+    requires { IsPacked head.now words.now }
+    ensures { op_of result ≡ op_in head.now words.now }
+{
+    match *head {
+        Head::Plain(plain) => call_alone(plain),
+        Head::Path(shape, call) => {
+            let (path, _) = take_path(shape, words);
+            call_on(call, path)
+        }
+        Head::Link(target, path) => {
+            let (target, rest) = take_path(target, words);
+            let (path, _) = take_path(path, rest);
+            Call::LinkAt { target, path }
+        }
+        Head::Write(fd) => Call::WriteFd { fd, bytes: words },
+    }
+}
+
+/// The call on that path.
+fn call_on<'a>(call: OnPath, path: Path) -> Call<'a>
+    ensures { op_of result ≡ op_on call path }
+{
+    match call {
+        OnPath::CreateAt => Call::CreateAt { path },
+        OnPath::OpenAt { mode } => Call::OpenAt { path, mode },
+        OnPath::MakeDir => Call::MakeDir { path },
+        OnPath::UnlinkAt => Call::UnlinkAt { path },
+        OnPath::RemoveDir => Call::RemoveDir { path },
+        OnPath::ChangeDir => Call::ChangeDir { path },
+        OnPath::StatAt => Call::StatAt { path },
+        OnPath::ListAt { index } => Call::ListAt { path, index },
+        OnPath::Exec => Call::Exec { path },
+        OnPath::LabelOf => Call::LabelOf { path },
+        OnPath::SetLabel { label } => Call::SetLabel { path, label },
+        OnPath::Freeze => Call::Freeze { path },
+        OnPath::Thaw => Call::Thaw { path },
+        OnPath::SetPriv { cap, lic } => Call::SetPriv { path, cap, lic },
+    }
+}
+
+/// The call that has no words.
+fn call_alone<'a>(call: Alone) -> Call<'a>
+    ensures { op_of result ≡ op_alone call }
+{
+    match call {
+        Alone::ReadFd { fd, count } => Call::ReadFd { fd, count },
+        Alone::CutFd { fd, len } => Call::CutFd { fd, len },
+        Alone::SeekFd { fd, at } => Call::SeekFd { fd, at },
+        Alone::DupFd { fd } => Call::DupFd { fd },
+        Alone::CloseFd { fd } => Call::CloseFd { fd },
+        Alone::MakePipe => Call::MakePipe,
+        Alone::Fork { keep } => Call::Fork { keep },
+        Alone::Exit { status } => Call::Exit { status },
+        Alone::WaitChild => Call::WaitChild,
+        Alone::SelfLabel => Call::SelfLabel,
+        Alone::SetSelf { label } => Call::SetSelf { label },
+        Alone::FreezeSelf => Call::FreezeSelf,
+        Alone::ThawSelf => Call::ThawSelf,
+        Alone::DropLic { set } => Call::DropLic { set },
+        Alone::GrantLic { pid, set } => Call::GrantLic { pid, set },
+        Alone::SetCeiling { pid, label } => Call::SetCeiling { pid, label },
+        Alone::Pex { fd } => Call::Pex { fd },
+        Alone::Unpex { fd } => Call::Unpex { fd },
+        Alone::ReadLog { index } => Call::ReadLog { index },
+    }
+}
