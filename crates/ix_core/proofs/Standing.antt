@@ -12,7 +12,7 @@ use Rattle.ix_model.specs.Shown.{AreShown}
 use Rattle.ix_model.specs.Valid.{is_valid, is_flat}
 use Rattle.ix_model.specs.Calls.{is_built}
 use Rattle.ix_model.specs.Events.{Event}
-use Rattle.ix_model.specs.History.{History, world_of, with_entry}
+use Rattle.ix_model.specs.History.{History, world_of, next, with_entry}
 use Rattle.ix_model.specs.declared.config.Config.{Config}
 use Rattle.ix_model.specs.declared.reply.Reply.{Reply}
 use Rattle.ix_model.specs.declared.reply.Reply.TheVariants as reply
@@ -23,7 +23,8 @@ use Rattle.ix_model.proofs.Reaching.{opening_counts, sound_reached}
 use Rattle.ix_model.proofs.Runs.{world_of-none, world_of-push}
 use Rattle.ix_model.proofs.Fixed.{fixed_step}
 use Rattle.ix_model.proofs.BuiltCalls.{built_step}
-use Rattle.ix_core.specs.Stepping.{StandsFor, Shows}
+use Rattle.ix_iso.proofs.Hiding.{last_is_told_alike}
+use Rattle.ix_core.specs.Stepping.{StandsFor, Shows, AnswersAlike}
 
 pub stands_first : (c : Config) (w : World) → is_valid c ≡ true → is_flat c ≡ true → w ≡ opening_world c → StandsFor w (record { config = c; events = [] })
 stands_first c w valid flat e =
@@ -73,3 +74,16 @@ unlogged w h s = subst (λ (u : World). u.frame.log ≡ []) s.run s.log
 pub shows : (r : Reply) (bytes before after : List ℕ) → AreShown r bytes → after ≡ put_front bytes before → Shows (answer.Given r) after bytes
 shows (reply.Bytes k) bytes before after h e = (h.1, h.0, ap (take k) e ∙ ap (λ n. take n (put_front bytes before)) (sym h.0) ∙ take-append_seam bytes (drop (length bytes) before))
 shows _ bytes before after h e = tt
+
+-- the step of a machine that stands for a history gives what the history's next entry gives
+pub gives_next : (w : World) (k h : History) (place : ℕ) (e : Event) → StandsFor w k → k ≡ h → place ≡ length k.events → step w (place + 1) e.pid e.op ≡ next h e
+gives_next w k h place e s same count =
+    ap (λ (u : World). step u (place + 1) e.pid e.op) (s.run ∙ ap world_of same)
+    ∙ ap (λ n. step (world_of h) (n + 1) e.pid e.op) (count ∙ ap (λ (x : History). length x.events) same)
+
+-- what is answered as the next entry says is answered alike
+pub answers_alike : (h : History) (e : Event) (r : Reply) (before after : List ℕ) → r ≡ (next h e).reply → after ≡ put_front (next h e).bytes before → AnswersAlike (answer.Given r) h e before after
+unfolding world_of
+answers_alike h e r before after said put = λ l v others f agree none low.
+    let told = last_is_told_alike l (opening_world h.config) v h.events others e f agree none low in
+    (said ∙ told.0, put ∙ ap (λ bytes. put_front bytes before) told.1)

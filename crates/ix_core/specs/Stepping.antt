@@ -1,8 +1,11 @@
 -- What a core stands for, what a step of it does, and what it shows.
-use Rattle.std.specs.Prelude.{◌≡◌, ◌≤◌, ℕ, true, List, [], length, take}
+use Rattle.std.specs.Prelude.{◌≡◌, ◌≤◌, ◌+◌, ℕ, true, List, [], ◌∷◌, ◌++◌, length, take}
 use Rattle.std.specs.List.{list_all}
+use Rattle.ix_label.specs.Category.{Categories}
 use Rattle.ix_model.specs.World.{World, Object, Process}
-use Rattle.ix_model.specs.Step.{put_front}
+use Rattle.ix_model.specs.Opening.{opening_world}
+use Rattle.ix_model.specs.Step.{step_of, run, put_front}
+use Rattle.ix_model.specs.TwoRuns.{Low}
 use Rattle.ix_model.specs.Clean.{IsClean}
 use Rattle.ix_model.specs.Valid.{is_valid, is_flat}
 use Rattle.ix_model.specs.Calls.{is_built}
@@ -13,6 +16,8 @@ use Rattle.ix_model.specs.declared.reply.Answer.{Answer}
 use Rattle.ix_model.specs.declared.reply.Answer.TheVariants as answer
 use Rattle.ix_model.specs.declared.views.ObjView.{ObjView}
 use Rattle.ix_model.specs.declared.views.ProcView.{ProcView}
+use Rattle.ix_iso.specs.Laws.{NoneCrosses}
+use Rattle.ix_iso.specs.Hiding.{RunsAgree}
 
 -- The machine's world is the run of the history from the opening world of a valid config, with built calls alone. So many
 -- entries, objects and pids there are at most, and nothing is logged: no built call exercises a privilege.
@@ -45,3 +50,13 @@ view_of o = record { kind = o.kind; label = o.label; frozen = o.frozen }
 
 abbrev pub shown_of : Process → ProcView
 shown_of p = record { label = p.label; ended = p.ended }
+
+-- What a core answers a caller that is low at L, where no entry crossed L before, is what each run answers there that agrees
+-- with the core's own at L: the reply, and the bytes in the buffer.
+abbrev pub AnswersAlike : Answer → History → Event → List ℕ → List ℕ → Type 0
+AnswersAlike (answer.Given r) old e before after =
+    (l : Categories) (v : World) (others : List Event) (f : Event) → RunsAgree l (opening_world old.config) v (old.events ++ e ∷ []) (others ++ f ∷ []) →
+    NoneCrosses l (opening_world old.config) 1 old.events → Low l (world_of old) (length old.events + 1) e →
+    let there = step_of (run v 1 others) (length old.events + 1) f in (r ≡ there.reply) × (after ≡ put_front there.bytes before)
+AnswersAlike (answer.JournalFull used need cap) old e before after = Unit {0}
+AnswersAlike answer.NoMemory old e before after = Unit {0}

@@ -5,7 +5,9 @@ ghost use Rattle.ix_model.specs.Valid.{is_valid, is_flat};
 ghost use Rattle.ix_model.specs.World.{at};
 ghost use Rattle.ix_model.specs.Sound.{Sound};
 ghost use Rattle.ix_model.specs.History.{world_of, next};
-ghost use Rattle.ix_core.specs.Stepping.{StepsTo, Shows, view_of, shown_of};
+ghost use Rattle.ix_model.specs.Opening.{opening_world};
+ghost use Rattle.ix_iso.specs.Hiding.{HidesWhatIsHigh};
+ghost use Rattle.ix_core.specs.Stepping.{StepsTo, Shows, AnswersAlike, view_of, shown_of};
 
 use crate::boot::boot;
 use crate::machine::Machine;
@@ -61,6 +63,10 @@ impl Core {
     /// Makes a call: `Given` is the machine's reply, and the call is the next entry of the history. A read's bytes are
     /// then at the front of the buffer, and the rest of it stays. After `NoMemory` nothing has changed, and the history
     /// has no entry more. There is no journal yet, so `JournalFull` never comes.
+    ///
+    /// What a process at or below a label is told is the same in each run whose history agrees with the core's own at that
+    /// label, from the config's opening world or one alike to it, as long as no entry lets something down across the label.
+    #[tactic(auto, using(ix_iso::proofs::Hiding::hides))]
     pub fn step<L: Ledger>(
         &mut self,
         seat: u32,
@@ -74,6 +80,8 @@ impl Core {
         requires built { IsTrue (is_built (op_of call.now)) }
         ensures step { StepsTo result self.old self.new buf.old buf.new (record { seat = seat; line = line; pid = pid.0; op = op_of call.now }) }
         ensures shown { Shows result buf.new (next self.old (record { seat = seat; line = line; pid = pid.0; op = op_of call.now })).bytes }
+        ensures alike { AnswersAlike result self.old (record { seat = seat; line = line; pid = pid.0; op = op_of call.now }) buf.old buf.new }
+        ensures hides { HidesWhatIsHigh (opening_world self.new.config) self.new.events }
     {
         let Ok(entry) = Stored::keep(self.alloc, seat, line, pid, call) else {
             return Answer::NoMemory;

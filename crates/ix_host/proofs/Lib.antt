@@ -18,3 +18,4 @@ pub mod SerialHistories
 pub mod LaterRules
 pub mod Outcomes
 pub mod Verdicts
+pub mod Hiding

@@ -4,6 +4,7 @@ use Rattle.ix_model.specs.Events.{Event}
 use Rattle.ix_script.specs.declared.line.Line.{Line}
 use Rattle.ix_host.specs.Lanes.{IsSerial}
 use Rattle.ix_host.specs.Serial.{serial}
+use Rattle.ix_host.specs.Hiding.{HidesLines}
 
 -- two serial histories of a script are the same
 abbrev pub SerialOne : Type 0
@@ -12,3 +13,7 @@ SerialOne = (s : List Line) (g h : List Event) → IsSerial s g → IsSerial s h
 -- the serial history that is defined is a serial history of its script
 abbrev pub SerialIsSerial : Type 0
 SerialIsSerial = (s : List Line) → IsSerial s (serial s)
+
+-- each script's report hides what is high
+abbrev pub LowLinesAreEqual : Type 0
+LowLinesAreEqual = (s : List Line) → HidesLines s

@@ -10,6 +10,7 @@ pub mod Lanes
 pub mod Report
 pub mod Replies
 pub mod Telling
+pub mod Hiding
 pub mod Outcome
 pub mod Whole
 pub mod Run

@@ -29,12 +29,16 @@ outcome_for c s =
       | None ↦ Whole (text_for c s)
     ]
 
+-- the script that an input is: where it has a fault, one without lines
+abbrev pub script_in : List ℕ → List Line
+script_in bytes = unwrap_or (script_of bytes) []
+
 -- what a command comes to with an input: the fault of the input stands before all else
 unfoldable pub outcome_of : Command → List ℕ → Outcome
 outcome_of c bytes =
     elim (fault_of bytes) [
       | Some fault ↦ Refused fault.0 fault.1
-      | None ↦ outcome_for c (unwrap_or (script_of bytes) [])
+      | None ↦ outcome_for c (script_in bytes)
     ]
 
 -- the text of an outcome

@@ -23,10 +23,14 @@ entry_text lanes place w e =
     let given = step_of w place e in
     entry_line place (lane_name lanes e.seat) e given.reply given.bytes (option_map (λ (p : Process). p.label) (at given.world.frame.processes e.pid))
 
+-- the lines of entries, each by itself
+abbrev pub entry_lines : List (List ℕ) → ℕ → World → List Event → List (List ℕ)
+entry_lines lanes place w [] = []
+entry_lines lanes place w (e ∷ events) = entry_text lanes place w e ∷ entry_lines lanes (place + 1) (step_of w place e).world events
+
 -- entries, one after the other
 abbrev pub entries_text : List (List ℕ) → ℕ → World → List Event → List ℕ
-entries_text lanes place w [] = []
-entries_text lanes place w (e ∷ events) = entry_text lanes place w e ++ entries_text lanes (place + 1) (step_of w place e).world events
+entries_text lanes place w events = flat_map (λ line. line) (entry_lines lanes place w events)
 
 -- the object of a number, where there is one
 abbrev pub object_text : List (Option Object) → ℕ → List ℕ

@@ -1,5 +1,5 @@
-//! What holds of the histories of scripts. These functions do nothing: each states a law, which is proved.
-ghost use Rattle.ix_host.specs.Laws.{SerialOne, SerialIsSerial};
+//! What holds of the histories of scripts and of their reports. These functions do nothing: each states a law, which is proved.
+ghost use Rattle.ix_host.specs.Laws.{SerialOne, SerialIsSerial, LowLinesAreEqual};
 
 /// No script has two serial histories. A history is serial where each entry is of a lane, each lane's entries are those
 /// that its lines make when they are answered as in the run of the history, no lane asks for a further call, and along the
@@ -12,4 +12,11 @@ pub fn serial_one()
 /// of its script, whatever the lines are. So each script has exactly one.
 pub fn serial_is_serial()
     ensures serial { SerialIsSerial }
+{}
+
+/// Where the runs of two scripts of the same lanes agree at a label, each line of the report whose process ends at or below
+/// that label is the same in both reports, as long as no entry before it lets something down across the label.
+#[tactic(auto, using(crate::proofs::Hiding::low_lines))]
+pub fn low_lines_are_equal()
+    ensures equal { LowLinesAreEqual }
 {}

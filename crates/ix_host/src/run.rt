@@ -1,9 +1,10 @@
-ghost use Rattle.std.specs.Prelude.{◌≡◌, ℕ, ◌≤◌, ◌<◌, ◌⊎◌, None, true, is_none, length, IfSome};
+ghost use Rattle.std.specs.Prelude.{◌≡◌, ℕ, ◌≤◌, ◌<◌, ◌⊎◌, None, Some, true, is_none, length, IfSome};
 ghost use Rattle.ix_io.specs.Streams.{Rose};
 ghost use Rattle.ix_host.specs.Built.{unbuilt_line};
 ghost use Rattle.ix_host.specs.Command.{command_of};
-ghost use Rattle.ix_host.specs.Outcome.{outcome_for, outcome_of, text_for};
+ghost use Rattle.ix_host.specs.Outcome.{outcome_for, outcome_of, text_for, script_in};
 ghost use Rattle.ix_host.specs.Outcome as outcome;
+ghost use Rattle.ix_host.specs.Hiding.{IsHidingReport};
 ghost use Rattle.ix_host.specs.Whole.{TakesFew, script_max};
 ghost use Rattle.ix_host.specs.Run.{Ends, wanted, called_for, IsAnswer, FitsCommand, ReadsOut, WritesFor, WritesLine};
 
@@ -74,6 +75,8 @@ pub fn run_serial<S: Source, K: Sink>(
         WritesFor result (wanted words.now bytes) taken (K.taken sink.new))) }
     ensures line { IfSome (K.taken sink.old) (λ taken. WritesLine result taken (K.taken sink.new)) }
     ensures finished { IsAnswer result → K.finished sink.new ≡ true }
+    ensures hides { result ≡ Status.Done → command_of words.now ≡ Some Command.Run → IfSome (S.left source.old) (λ bytes.
+        IsHidingReport (script_in bytes) (wanted words.now bytes)) }
     ensures not_written { result ≡ Status.ReadFault → sink.new ≡ sink.old }
 
     // When each status comes.

@@ -1,5 +1,5 @@
 -- Whole histories, by induction.
-use Rattle.std.proofs.Common.{false, ◌≡◌, ℕ, zero, suc, true, List, [], ◌∷◌, take, slice_get, Some, sym, ap, ◌∙◌, arith, subst}
+use Rattle.std.proofs.Common.{false, ◌≡◌, ℕ, zero, suc, true, List, [], ◌∷◌, take, slice_get, Some, sym, ap, ◌+◌, arith, subst}
 use Rattle.ix_label.specs.Category.{Categories}
 use Rattle.ix_model.specs.World.{World}
 use Rattle.ix_model.specs.Step.{Given, step_of, run}
@@ -8,9 +8,10 @@ use Rattle.ix_model.specs.Events.{Event}
 use Rattle.ix_iso.specs.Laws.{frame_part, gives_bytes, OneShape, NoneCrosses, given_after, Isolated}
 use Rattle.ix_iso.proofs.Shapes.{twins_itself, twins_replaced, shape_twins}
 use Rattle.ix_iso.proofs.Steps.{alike_events}
+use Rattle.ix_iso.proofs.Lowerings.{low_is_same}
 
 -- ---- one entry
-shape_events : (l : Categories) (v w : World) (place : ℕ) (e f : Event) → shape v ≡ shape w → AgreeAt l v.frame e f → is_one_kind (step_of v place e).reply (step_of w place f).reply ≡ true → OneShape e.op f.op (step_of v place e) (step_of w place f)
+pub shape_events : (l : Categories) (v w : World) (place : ℕ) (e f : Event) → shape v ≡ shape w → AgreeAt l v.frame e f → is_one_kind (step_of v place e).reply (step_of w place f).reply ≡ true → OneShape e.op f.op (step_of v place e) (step_of w place f)
 shape_events l v w place _ _ shapes (Same {e = e}) kind = shape_twins v w place e.pid e.op e.op (twins_itself e.op) shapes kind
 shape_events l v w place _ _ shapes (Other {seat = seat} {line = line} {pid = pid} {a = a} {b = b} high replaced) kind = shape_twins v w place pid a b (twins_replaced a b replaced) shapes kind
 
@@ -74,10 +75,20 @@ module _ (l : Categories) where
       let rest = reads_along (step_of v place a).world (step_of w place b).world (suc place) events others ((alike_events l v w place a b alike agree.0 agree.1).worlds none.0) agree.2 n e f is here none.1 in
       subst (λ (g : Given). EqualIfLow e.pid g (given_after w place (b ∷ others) (suc n) f)) (later v place a events n e) (subst (λ (h : Given). EqualIfLow e.pid (given_after (step_of v place a).world (suc place) events n e) h) (later w place b others n f) rest)
 
+  entries_along : (v w : World) (place : ℕ) (events others : List Event) → Agree l v w place events others → (n : ℕ) (e f : Event) → slice_get events n ≡ Some e → slice_get others n ≡ Some f → AgreeAt l (run v place (take n events)).frame e f
+  entries_along v w place [] others agree n e f is here = cc
+  entries_along v w place (a ∷ events) [] agree n e f is here = absurd agree
+  entries_along v w place (a ∷ events) (b ∷ others) agree zero e f is here =
+      let i : a ≡ e = cc in
+      let j : b ≡ f = cc in
+      subst (λ (x : Event). AgreeAt l v.frame x f) i (subst (λ (y : Event). AgreeAt l v.frame a y) j agree.0)
+  entries_along v w place (a ∷ events) (b ∷ others) agree (suc n) e f is here = entries_along (step_of v place a).world (step_of w place b).world (suc place) events others agree.2 n e f is here
+
 pub isolated : (l : Categories) (v w : World) (place : ℕ) (events others : List Event) → Alike l v w → Agree l v w place events others → Isolated l v w place events others
 isolated l v w place events others alike agree = record {
   shapes = λ n. shapes_along l v w place events others alike.shapes agree n;
   replies = λ n e f is here. replies_along l v w place events others alike.shapes agree n e f is here;
   worlds = λ n none. alike_along l v w place events others alike agree n none;
+  entries = λ n e f is here low. low_is_same l (run v place (take n events)) (place + n) e f (entries_along l v w place events others agree n e f is here) low;
   reads = λ n e f is here none low. reads_along l v w place events others alike agree n e f is here none low;
 }

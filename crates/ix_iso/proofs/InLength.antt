@@ -193,7 +193,7 @@ agree_at l f _ _ Same = two.Same
 agree_at l f _ _ (Other {a = a} {b = b} high replaced) = two.Other high (in_length a b replaced)
 
 -- with equal lengths the replies are of one kind, so the histories agree
-agree_from : (l : Categories) (v w : World) (place : ℕ) (events others : List Event) → outline v ≡ outline w → AgreeInLength l v place events others → Agree l v w place events others
+pub agree_from : (l : Categories) (v w : World) (place : ℕ) (events others : List Event) → outline v ≡ outline w → AgreeInLength l v place events others → Agree l v w place events others
 agree_from l v w place [] [] outlines agree = tt
 agree_from l v w place [] (f ∷ others) outlines agree = absurd agree
 agree_from l v w place (e ∷ events) [] outlines agree = absurd agree
@@ -209,8 +209,12 @@ outlines_along l v w place (e ∷ events) [] outlines agree (suc n) = absurd agr
 outlines_along l v w place (e ∷ events) (f ∷ others) outlines agree (suc n) =
     outlines_along l (step_of v place e).world (step_of w place f).world (suc place) events others (events_outline l v w place e f outlines agree.0).outlines agree.1 n
 
+-- worlds that are alike in length are alike
+pub alike_from : (l : Categories) (v w : World) → AlikeInLength l v w → Alike l v w
+alike_from l v w alike = record { shapes = outline_shape v w alike.outlines; inside = alike.inside }
+
 pub isolated_in_length : (l : Categories) (v w : World) (place : ℕ) (events others : List Event) → AlikeInLength l v w → AgreeInLength l v place events others → IsolatedInLength l v w place events others
 isolated_in_length l v w place events others alike agree = record {
-  isolated = isolated l v w place events others (record { shapes = outline_shape v w alike.outlines; inside = alike.inside }) (agree_from l v w place events others alike.outlines agree);
+  isolated = isolated l v w place events others (alike_from l v w alike) (agree_from l v w place events others alike.outlines agree);
   outlines = λ n. outlines_along l v w place events others alike.outlines agree n;
 }

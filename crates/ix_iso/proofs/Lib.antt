@@ -13,3 +13,4 @@ mod Zeroed
 mod InLength
 mod ByShape
 mod Opened
+pub mod Hiding

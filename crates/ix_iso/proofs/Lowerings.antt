@@ -1,16 +1,18 @@
 -- What is lowered is logged: of the two calls that set a label, each that lowers one has its line.
 use Rattle.std.proofs.Common.{◌≡◌, ℕ, Bool, true, false, true≢false, not, List, [], ◌∷◌, ◌++◌, Some, if◌then◌else◌, refl, sym, ap, ◌∙◌, subst, inl, inr, append-nil}
 use Rattle.std.specs.Option.{option_map_or}
-use Rattle.std.proofs.lemmas.Bool.{not-false}
+use Rattle.std.proofs.lemmas.Bool.{not-false, false_from_ne_true}
+use Rattle.std.proofs.Math.Bool.{and-false}
 use Rattle.std.proofs.lemmas.List.{append_cancel_left}
 use Rattle.ix_label.specs.Category.{Categories, leq, same}
+use Rattle.ix_label.specs.Lattice.{leq-trans}
 use Rattle.ix_model.specs.Naming.{PathOf}
 use Rattle.ix_model.specs.Privs.{to_lower}
 use Rattle.ix_model.specs.World.{World, Frame, Object, Process, at, change, living}
 use Rattle.ix_model.specs.Rows.{◌>>◌, pass, need, only_if, change_process}
 use Rattle.ix_model.specs.Walks.{object_at}
 use Rattle.ix_model.specs.Auditing.{logged, audit_line}
-use Rattle.ix_model.specs.AuditLog.{audit_log, lines_added, is_licensed, line_of_act}
+use Rattle.ix_model.specs.AuditLog.{audit_log, lines_added, is_licensed, exercises, line_of_act}
 use Rattle.ix_model.specs.OnLabels.{set_label, set_self}
 use Rattle.ix_model.specs.OnDescriptors.{Told}
 use Rattle.ix_model.specs.Table.{row}
@@ -18,6 +20,7 @@ use Rattle.ix_model.specs.Telling.{told}
 use Rattle.ix_model.specs.Step.{step, step_of}
 use Rattle.ix_model.specs.Lowering.{Lowered}
 use Rattle.ix_model.specs.Lowering as low
+use Rattle.ix_model.specs.TwoRuns.{Low, AgreeAt, Same, Other, Replaced, Written, Exited}
 use Rattle.ix_model.specs.Events.{Op, Event}
 use Rattle.ix_model.specs.Events as op
 use Rattle.ix_model.specs.declared.audit.Act.TheVariants as act
@@ -159,3 +162,22 @@ by_its_line w place e line h =
 pub lowerings_logged : (w : World) (place : ℕ) (e : Event) (lowered : Lowered w.frame (step_of w place e).world.frame) → IsLogged w place e (line_of_lowering place e.pid lowered)
 lowerings_logged w place e (low.OfObject o x y is here falls) = by_its_line w place e _ ((tells_step w place e.pid e.op).objects o x y is here falls)
 lowerings_logged w place e (low.OfProcess p x y is here falls) = by_its_line w place e _ ((tells_step w place e.pid e.op).processes p x y is here falls)
+
+-- ---- replaced entries
+-- a label that isn't at or below L isn't at or below one that is
+not_below : (l a b : Categories) → leq a l ≡ false → leq b l ≡ true → leq a b ≡ false
+not_below l a b high below = false_from_ne_true (leq a b) (λ h. true≢false (sym (leq-trans a b l h below) ∙ high))
+
+-- neither a write nor an exit is licensed
+replaced_unlicensed : (w : World) (place seat line pid : ℕ) (o p : Op) → Replaced o p → is_licensed w place (record { seat = seat; line = line; pid = pid; op = o }) ≡ false
+unfolding is_licensed exercises
+replaced_unlicensed w place seat line pid _ _ Written = and-false _
+replaced_unlicensed w place seat line pid _ _ Exited = and-false _
+
+-- so a caller that is low after its entry had nothing replaced
+pub low_is_same : (l : Categories) (w : World) (place : ℕ) (e f : Event) → AgreeAt l w.frame e f → Low l w place e → e ≡ f
+low_is_same l w place _ _ (Same {e = e}) after = refl
+low_is_same l w place _ _ (Other {seat = seat} {line = line} {pid = pid} {a = a} {b = b} high replaced) after =
+    let e : Event = record { seat = seat; line = line; pid = pid; op = a } in
+    let lowered : Lowered w.frame (step_of w place e).world.frame = low.OfProcess pid high.process after.process (is_living _ high.process high.lives) (is_living _ after.process after.lives) (not_below l high.process.label after.process.label high.high after.low) in
+    absurd (true≢false (sym (lowerings_logged w place e lowered).licensed ∙ replaced_unlicensed w place seat line pid a b replaced))

@@ -103,6 +103,8 @@ pub record Isolated (l : Categories) (v w : World) (place : ℕ) (events others 
       (frame_part e.op (given_after v place events n e).reply ≡ frame_part f.op (given_after w place others n f).reply) × (gives_bytes e.op ≡ false → (given_after v place events n e).bytes ≡ (given_after w place others n f).bytes)
   -- after each prefix in which no entry crosses L the worlds are alike at L
   pub worlds : (n : ℕ) → NoneCrosses l v place (take n events) → Alike l (run v place (take n events)) (run w place (take n others))
+  -- an entry that is low is the same in both
+  pub entries : (n : ℕ) (e f : Event) → slice_get events n ≡ Some e → slice_get others n ≡ Some f → Low l (run v place (take n events)) (place + n) e → e ≡ f
   -- where an entry is low and none before it crosses L, the replies are equal with their bytes and status
   pub reads : (n : ℕ) (e f : Event) → slice_get events n ≡ Some e → slice_get others n ≡ Some f → NoneCrosses l v place (take n events) → Low l (run v place (take n events)) (place + n) e →
       ((given_after v place events n e).reply ≡ (given_after w place others n f).reply) × ((given_after v place events n e).bytes ≡ (given_after w place others n f).bytes)

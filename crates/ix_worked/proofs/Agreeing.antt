@@ -26,7 +26,7 @@ use Rattle.ix_worked.proofs.TwoBytes as two
 use Rattle.ix_worked.proofs.Worlds.{floated, opened, with_entry, with_child, with_ended}
 
 -- ---- who is high, and who is low
-high_of : (l : Categories) (f : Frame) (pid : ℕ) (o : Option Process) → living (at f.processes pid) ≡ o → option_map_or (λ q. leq q.label l) o true ≡ false → IsHigh l f pid
+pub high_of : (l : Categories) (f : Frame) (pid : ℕ) (o : Option Process) → living (at f.processes pid) ≡ o → option_map_or (λ q. leq q.label l) o true ≡ false → IsHigh l f pid
 high_of l f pid None is h = absurd (true≢false h)
 high_of l f pid (Some q) is h = record { process = q; lives = is; high = h }
 
@@ -41,7 +41,7 @@ not_low : (l : Categories) (f : Frame) (pid : ℕ) → option_map_or (λ q. leq 
 not_low l f pid h low = true≢false (sym low.low ∙ ap (λ o. option_map_or (λ q. leq q.label l) o false) (sym low.lives) ∙ h)
 
 -- ---- one place after another
-agree_on : (l : Categories) (v w : World) (place : ℕ) (e f : Event) (g h : Given) (events others : List Event) → Steps v place e.pid e.op g → Steps w place f.pid f.op h → AgreeAt l v.frame e f → is_one_kind g.reply h.reply ≡ true → Agree l g.world h.world (suc place) events others → Agree l v w place (e ∷ events) (f ∷ others)
+pub agree_on : (l : Categories) (v w : World) (place : ℕ) (e f : Event) (g h : Given) (events others : List Event) → Steps v place e.pid e.op g → Steps w place f.pid f.op h → AgreeAt l v.frame e f → is_one_kind g.reply h.reply ≡ true → Agree l g.world h.world (suc place) events others → Agree l v w place (e ∷ events) (f ∷ others)
 agree_on l v w place e f g h events others first second here kind rest =
     subst (λ (x : Given). AgreeAt l v.frame e f × is_one_kind x.reply (step_of w place f).reply ≡ true × Agree l x.world (step_of w place f).world (suc place) events others) (sym (stepped v place e.pid e.op g first))
     (subst (λ (y : Given). AgreeAt l v.frame e f × is_one_kind g.reply y.reply ≡ true × Agree l g.world y.world (suc place) events others) (sym (stepped w place f.pid f.op h second)) (here, kind, rest))

@@ -25,7 +25,7 @@ object_falls f g o None b is_a is_b h = absurd (true≢false h)
 object_falls f g o (Some x) None is_a is_b h = absurd (true≢false h)
 object_falls f g o (Some x) (Some y) is_a is_b h = lowering.Lowered.OfObject o x y is_a is_b h
 
-object_crosses : (l : Categories) (f g : Frame) (o : ℕ) (a b : Option Object) → at f.objects o ≡ a → at g.objects o ≡ b → option_map_or (λ x. leq x.label l) a true ≡ false → option_map_or (λ y. leq y.label l) b false ≡ true → Crosses l f g
+pub object_crosses : (l : Categories) (f g : Frame) (o : ℕ) (a b : Option Object) → at f.objects o ≡ a → at g.objects o ≡ b → option_map_or (λ x. leq x.label l) a true ≡ false → option_map_or (λ y. leq y.label l) b false ≡ true → Crosses l f g
 object_crosses l f g o None b is_a is_b h k = absurd (true≢false h)
 object_crosses l f g o (Some x) None is_a is_b h k = absurd (true≢false (sym k))
 object_crosses l f g o (Some x) (Some y) is_a is_b h k = lowering.Crosses.OfObject o x y is_a is_b h k

@@ -33,3 +33,4 @@ mod Freshened
 mod Falling
 mod Alikeness
 mod Costing
+mod ToldUp

@@ -29,3 +29,4 @@ pub mod OnLabels
 pub mod OnEntries
 pub mod PairsOfRuns
 pub mod Configs
+pub mod ToldUp

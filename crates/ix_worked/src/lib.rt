@@ -5,6 +5,7 @@
 pub mod configs;
 pub mod edges;
 pub mod refusals;
+pub mod told_up;
 pub mod two_runs;
 
 ghost use Rattle.std.specs.Prelude.{◌≡◌, ℕ, true, [], ◌∷◌, codes, take};

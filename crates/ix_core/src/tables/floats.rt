@@ -8,7 +8,7 @@ ghost use Rattle.ix_core.specs.Meanings.{Restores};
 use crate::objects::ObjectRow;
 use crate::tables::Tables;
 use ix_label::{Label, Steps};
-use ix_model::Refusal;
+use ix_model::{Floating, Refusal};
 use std::sync::ledger::Ledger;
 
 impl Tables {
@@ -25,17 +25,14 @@ impl Tables {
         ensures back { Restores self.old self.new pid }
     {
         let p = self.caller(pid);
-        let need = p.label.join(seen, steps);
-        if need.same(&p.label, steps) {
-            return Ok(());
+        let proc = Floating {
+            label: p.label,
+            ceiling: p.ceiling,
+            frozen: p.frozen,
+        };
+        if let Some(label) = ix_float::observe(&proc, seen, steps)? {
+            self.set_process_label(pid, label);
         }
-        if p.frozen {
-            return Err(Refusal::ProcFrozen);
-        }
-        if !need.leq(&p.ceiling, steps) {
-            return Err(Refusal::ProcCeiling);
-        }
-        self.set_process_label(pid, need);
         Ok(())
     }
 
@@ -55,17 +52,14 @@ impl Tables {
     {
         let writer = self.caller(pid).label.join(through, steps);
         let x = self.object(object).ok_or(Refusal::BadFd)?;
-        let need = x.label.join(&writer, steps);
-        if need.same(&x.label, steps) {
-            return Ok(());
+        let floating = Floating {
+            label: x.label,
+            ceiling: self.ceiling(x),
+            frozen: x.frozen,
+        };
+        if let Some(label) = ix_float::affect(&floating, &writer, steps)? {
+            self.set_object_label(object, label);
         }
-        if x.frozen {
-            return Err(Refusal::FileFrozen);
-        }
-        if !need.leq(&self.ceiling(x), steps) {
-            return Err(Refusal::FsCeiling);
-        }
-        self.set_object_label(object, need);
         Ok(())
     }
 

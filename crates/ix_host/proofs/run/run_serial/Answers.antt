@@ -1,6 +1,7 @@
 use Rattle.std.proofs.Common.{◌≡◌, ◌++◌, ◌∙◌, Some, sym}
 use Rattle.ix_host.specs.Command.{command_of}
 use Rattle.ix_host.specs.Whole.{WritesFront}
+use Rattle.ix_host.proofs.Hiding.{hides_run}
 use Rattle.ix_host.proofs.Verdicts.{read_out, is_called_for, is_wanted, never_too_long, is_complete, usage_wanted, usage_called, usage_complete, long_wanted, long_called, long_complete}
 use Rattle.ix_host.proofs.run.run_serial.Goals as goal
 
@@ -28,6 +29,11 @@ pub returns-in-Whole-clause-written : goal.returns-in-Whole-clause-written
 returns-in-Whole-clause-written g c = let e = rw c.as_slice.ensures.value at c.answer.ensures in
     is_wanted c.in-Some.command (command_of c.args.words.now) c.answer.result (g.S.Source.left c.args.source.now) (g.S.Source.left c.read_all.new.source) (g.K.Sink.taken c.args.sink.now)
     (g.K.Sink.taken c.answer.new.sink) c.in-Whole.bytes.items (sym c.in-Some.is ∙ c.in-Ok.ensures) c.in-Whole.ensures.told e.text
+
+pub returns-in-Whole-clause-hides : goal.returns-in-Whole-clause-hides
+returns-in-Whole-clause-hides g c = let e = rw c.as_slice.ensures.value at c.answer.ensures in λ a b.
+    hides_run c.in-Some.command (command_of c.args.words.now) c.answer.result (g.S.Source.left c.args.source.now) (g.S.Source.left c.read_all.new.source) c.in-Whole.bytes.items
+    (sym c.in-Some.is ∙ c.in-Ok.ensures) e.fits c.in-Whole.ensures.told a b
 
 pub returns-in-Whole-clause-answer : goal.returns-in-Whole-clause-answer
 returns-in-Whole-clause-answer g c = let e = rw c.as_slice.ensures.value at c.answer.ensures in

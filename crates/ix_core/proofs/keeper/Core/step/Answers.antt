@@ -8,7 +8,7 @@ use Rattle.ix_model.specs.World.{World}
 use Rattle.ix_model.specs.declared.reply.Reply.{Reply}
 use Rattle.ix_model.proofs.Showing.{shown_step}
 use Rattle.ix_core.specs.Stepping.{StandsFor}
-use Rattle.ix_core.proofs.Standing.{stands_next, shows}
+use Rattle.ix_core.proofs.Standing.{stands_next, shows, gives_next, answers_alike}
 use Rattle.ix_core.proofs.keeper.Core.step.Goals as goal
 
 pub invariant_of-self-in-Ok-call : goal.invariant_of-self-in-Ok-call
@@ -27,11 +27,16 @@ pub returns-in-Ok-call-clause-shown : goal.returns-in-Ok-call-clause-shown
 returns-in-Ok-call-clause-shown g c =
     let h : History = c.args.self.now in
     let e : Event = record { seat = c.args.seat; line = c.args.line; pid = c.args.pid.0; op = op_of c.args.call.now } in
-    let count = c.len-place.ensures ∙ c.self.inside.entries.ok.0 ∙ ap (λ (k : History). length k.events) c.self.view_is in
-    let world : c.self.inside.machine ≡ world_of h = c.self.invariant.run ∙ ap world_of c.self.view_is in
-    let is : step c.self.inside.machine (c.len-place.result + 1) c.args.pid.0 (op_of c.args.call.now) ≡ next h e =
-    ap (λ (w : World). step w (c.len-place.result + 1) c.args.pid.0 (op_of c.args.call.now)) world ∙ ap (λ n. step (world_of h) (n + 1) c.args.pid.0 (op_of c.args.call.now)) count in
+    let is = gives_next c.self.inside.machine _ h c.len-place.result e c.self.invariant c.self.view_is (c.len-place.ensures ∙ c.self.inside.entries.ok.0) in
     let said : c.in-Ok-call.reply ≡ (next h e).reply = c.in-Ok-call.ensures.1 ∙ ap (λ (x : Given). x.reply) is in
     let put = c.in-Ok-call.ensures.2 ∙ ap (λ (x : Given). put_front x.bytes c.args.buf.now) is in
     shows c.in-Ok-call.reply (next h e).bytes c.args.buf.now c.call.new.buf
     (subst (λ (r : Reply). AreShown r (next h e).bytes) (sym said) (shown_step (world_of h) (length h.events + 1) c.args.pid.0 (op_of c.args.call.now))) put
+
+pub returns-in-Ok-call-clause-alike : goal.returns-in-Ok-call-clause-alike
+returns-in-Ok-call-clause-alike g c =
+    let h : History = c.args.self.now in
+    let e : Event = record { seat = c.args.seat; line = c.args.line; pid = c.args.pid.0; op = op_of c.args.call.now } in
+    let is = gives_next c.self.inside.machine _ h c.len-place.result e c.self.invariant c.self.view_is (c.len-place.ensures ∙ c.self.inside.entries.ok.0) in
+    answers_alike h e c.in-Ok-call.reply c.args.buf.now c.call.new.buf
+    (c.in-Ok-call.ensures.1 ∙ ap (λ (x : Given). x.reply) is) (c.in-Ok-call.ensures.2 ∙ ap (λ (x : Given). put_front x.bytes c.args.buf.now) is)
