@@ -16,7 +16,6 @@ pub fn serial_is_serial()
 
 /// Where the runs of two scripts of the same lanes agree at a label, each line of the report whose process ends at or below
 /// that label is the same in both reports, as long as no entry before it lets something down across the label.
-#[tactic(auto, using(crate::proofs::Hiding::low_lines))]
 pub fn low_lines_are_equal()
     ensures equal { LowLinesAreEqual }
 {}

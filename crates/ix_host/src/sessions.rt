@@ -289,3 +289,44 @@ fn each_lane_has_names_of_its_own(rt: HostRuntime) -> Result<(), Fail> {
           end 4 0\n",
     )
 }
+
+// What is printed of a session in which a high process writes this.
+fn report_of<R: AllocGlobal + Abort>(rt: &R, payload: &str) -> Result<MemSink, Fail> {
+    let alloc = rt.alloc();
+    let script = format!(in alloc;
+        "ix 1\n\
+         proc l - * - -\n\
+         proc h 7 * - -\n\
+         file /d - free - - x00\n\
+         file /e - free - - \"ok\"\n\
+         phase\n\
+         lane m\n\
+         open h /d w as f\n\
+         open l /d r as g\n\
+         open l /e r as k\n\
+         write h f \"{payload}\"\n\
+         read l k 2\n\
+         read l g 2\n"
+    )?;
+    let source = MemSource::new(alloc, script.as_bytes(), &[])?;
+    let (status, sink) = run(alloc, &["run"], source, MemSink::new(alloc, 4096, &[])?)?;
+    assert_eq!(rt; status, Status::Done);
+    Ok(sink)
+}
+
+#[test]
+fn what_is_written_high_shows_in_high_lines_alone(rt: HostRuntime) -> Result<(), Fail> {
+    let first = report_of(&rt, "AA")?;
+    // As many bytes, and more.
+    for payload in ["BB", "ABC"] {
+        let other = report_of(&rt, payload)?;
+        let lines = first.as_slice().split(|byte| *byte == b'\n');
+        let others = other.as_slice().split(|byte| *byte == b'\n');
+        for (number, (line, other)) in lines.zip(others).enumerate() {
+            // The fourth entry is the write, and the sixth the read that raises its reader.
+            let is_high = number == 4 || number == 6;
+            assert_eq!(rt; line == other, !is_high);
+        }
+    }
+    Ok(())
+}

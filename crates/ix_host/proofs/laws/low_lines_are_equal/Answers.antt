@@ -1,0 +1,5 @@
+use Rattle.ix_host.proofs.Hiding.{low_lines}
+use Rattle.ix_host.proofs.laws.low_lines_are_equal.Goals as goal
+
+pub returns : goal.returns
+returns c = record { equal = low_lines }
