@@ -1,14 +1,14 @@
 mod OneKind
 mod Kin
-mod Counts
+pub mod Counts
 mod Shapes
 mod Entries
 mod Inside
 mod Facts
-mod Steps
-mod Histories
+pub mod Steps
+pub mod Histories
 mod Rising
-mod Lowerings
+pub mod Lowerings
 mod Zeroed
 mod InLength
 mod ByShape

@@ -18,14 +18,14 @@ ghost use Rattle.ix_worked.specs.ToldUp.{
 };
 
 /// The status that a high child leaves is told to its parent, which is high then.
-#[tactic(auto, using(crate::proofs::ToldUp::waited_for_high, crate::proofs::ToldUp::statuses_agree))]
+#[tactic(auto, using(crate::proofs::ToldUp::waited_for_high))]
 pub fn a_status_is_told_up()
     ensures goes { (status : ℕ) → Goes family (waiting_for_high status) }
     ensures agree { (a b : ℕ) → BothAgree bottom family (calls (waiting_for_high a)) (calls (waiting_for_high b)) }
 {}
 
 /// What a high child writes into a pipe is read at its other end by its parent, which is high then.
-#[tactic(auto, using(crate::proofs::ToldUp::piped_from_high, crate::proofs::ToldUp::pipes_agree))]
+#[tactic(auto, using(crate::proofs::ToldUp::piped_from_high))]
 pub fn a_pipe_tells_up()
     ensures goes { (byte : ℕ) → Goes family (piping_from_high byte) }
     ensures agree { (a b : ℕ) → BothAgree bottom family (calls (piping_from_high a)) (calls (piping_from_high b)) }
@@ -33,7 +33,7 @@ pub fn a_pipe_tells_up()
 
 /// How much a high child writes through an open entry that it shares with its parent shows in what the parent reads next,
 /// and the parent is high then.
-#[tactic(auto, using(crate::proofs::ToldUp::notebook_fits, crate::proofs::ToldUp::shared_with_one, crate::proofs::ToldUp::shared_with_three, crate::proofs::ToldUp::offsets_agree))]
+#[tactic(auto, using(crate::proofs::ToldUp::notebook_fits, crate::proofs::ToldUp::shared_with_one, crate::proofs::ToldUp::shared_with_three))]
 pub fn a_shared_offset_tells_up()
     ensures valid { is_valid notebook ≡ true }
     ensures one { Goes notebook (sharing_with_high (codes "x") (codes "b")) }
@@ -43,7 +43,7 @@ pub fn a_shared_offset_tells_up()
 
 /// What a high process wrote is read by one that stays low, once the file was let down across bottom. The log tells that,
 /// and tells the same whatever was written.
-#[tactic(auto, using(crate::proofs::ToldUp::bureau_fits, crate::proofs::ToldUp::let_down, crate::proofs::ToldUp::lowered_files_agree, crate::proofs::ToldUp::third_crosses_bottom))]
+#[tactic(auto, using(crate::proofs::ToldUp::bureau_fits, crate::proofs::ToldUp::let_down))]
 pub fn a_lowering_lets_through_and_is_logged()
     ensures valid { is_valid bureau ≡ true }
     ensures goes { (byte : ℕ) → Goes bureau (letting_down byte) }
