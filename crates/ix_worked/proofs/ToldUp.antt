@@ -1,9 +1,9 @@
 -- What a high process does comes to one that was low, entry by entry.
-use Rattle.std.proofs.Common.{◌≡◌, ℕ, suc, true, List, [], ◌∷◌, ◌++◌, length, map, take, refl, sym, subst₂, codes}
+use Rattle.std.proofs.Common.{◌≡◌, ℕ, suc, true, List, [], ◌∷◌, map, take, refl, sym, subst₂, codes}
 use Rattle.ix_label.specs.Category.{Categories, bottom}
 use Rattle.ix_model.specs.World.{World, at, living}
 use Rattle.ix_model.specs.Opening.{opening_world}
-use Rattle.ix_model.specs.Step.{Given, run}
+use Rattle.ix_model.specs.Step.{Given}
 use Rattle.ix_model.specs.Events.{Op, Event}
 use Rattle.ix_model.specs.Events as op
 use Rattle.ix_model.specs.Lowering.{Crosses}
@@ -106,10 +106,25 @@ statuses_agree a b = agreed bottom alone alone 1
     ∷ (record { first = by 2 (op.Exit a); second = by 2 (op.Exit b); gives = done (ended a); others = done (ended b) })
     ∷ same (by 1 op.WaitChild) (answered (waited a) (reply.Child (record { 0 = 2 }) a)) (answered (waited b) (reply.Child (record { 0 = 2 }) b))
     ∷ [])
-    ((forks, forks, runs.AgreeAt.Same, refl,
-    (rises, rises, runs.AgreeAt.Same, refl,
-    (ends a, ends b, runs.AgreeAt.Other child_is_high runs.Replaced.Exited, refl,
-    (waits a, waits b, runs.AgreeAt.Same, refl, tt)))))
+    ((
+      forks,
+      forks,
+      runs.AgreeAt.Same,
+      refl,
+      (
+        rises,
+        rises,
+        runs.AgreeAt.Same,
+        refl,
+        (
+          ends a,
+          ends b,
+          runs.AgreeAt.Other child_is_high runs.Replaced.Exited,
+          refl,
+          (waits a, waits b, runs.AgreeAt.Same, refl, tt),
+        ),
+      ),
+    ))
 
 -- ---- a pipe
 piped : World
@@ -170,11 +185,31 @@ pipes_agree a b = agreed bottom alone alone 1
     ∷ (record { first = by 2 (op.WriteFd 0 (a ∷ [])); second = by 2 (op.WriteFd 0 (b ∷ [])); gives = number (pipe_written a) 1; others = number (pipe_written b) 1 })
     ∷ same (by 1 (op.ReadFd 1 1)) (bytes (pipe_read a) (a ∷ [])) (bytes (pipe_read b) (b ∷ []))
     ∷ [])
-    ((makes_pipe, makes_pipe, runs.AgreeAt.Same, refl,
-    (forks_with_pipe, forks_with_pipe, runs.AgreeAt.Same, refl,
-    (rises_with_pipe, rises_with_pipe, runs.AgreeAt.Same, refl,
-    (writes_pipe a, writes_pipe b, runs.AgreeAt.Other writer_is_high runs.Replaced.Written, refl,
-    (reads_pipe a, reads_pipe b, runs.AgreeAt.Same, refl, tt))))))
+    ((
+      makes_pipe,
+      makes_pipe,
+      runs.AgreeAt.Same,
+      refl,
+      (
+        forks_with_pipe,
+        forks_with_pipe,
+        runs.AgreeAt.Same,
+        refl,
+        (
+          rises_with_pipe,
+          rises_with_pipe,
+          runs.AgreeAt.Same,
+          refl,
+          (
+            writes_pipe a,
+            writes_pipe b,
+            runs.AgreeAt.Other writer_is_high runs.Replaced.Written,
+            refl,
+            (reads_pipe a, reads_pipe b, runs.AgreeAt.Same, refl, tt),
+          ),
+        ),
+      ),
+    ))
 
 -- ---- a shared offset
 pub notebook_fits : is_valid notebook ≡ true
@@ -266,11 +301,31 @@ offsets_agree = agreed bottom noted noted 1
     ∷ (record { first = by 2 (op.WriteFd 0 (codes "x")); second = by 2 (op.WriteFd 0 (codes "xyz")); gives = number one_written 1; others = number three_written 3 })
     ∷ same (by 1 (op.ReadFd 0 1)) (bytes one_read (codes "b")) (bytes three_read (codes "d"))
     ∷ [])
-    ((opens_note, opens_note, runs.AgreeAt.Same, refl,
-    (forks_with_note, forks_with_note, runs.AgreeAt.Same, refl,
-    (rises_with_note, rises_with_note, runs.AgreeAt.Same, refl,
-    (writes_one, writes_three, runs.AgreeAt.Other sharer_is_high runs.Replaced.Written, refl,
-    (reads_second, reads_fourth, runs.AgreeAt.Same, refl, tt))))))
+    ((
+      opens_note,
+      opens_note,
+      runs.AgreeAt.Same,
+      refl,
+      (
+        forks_with_note,
+        forks_with_note,
+        runs.AgreeAt.Same,
+        refl,
+        (
+          rises_with_note,
+          rises_with_note,
+          runs.AgreeAt.Same,
+          refl,
+          (
+            writes_one,
+            writes_three,
+            runs.AgreeAt.Other sharer_is_high runs.Replaced.Written,
+            refl,
+            (reads_second, reads_fourth, runs.AgreeAt.Same, refl, tt),
+          ),
+        ),
+      ),
+    ))
 
 -- ---- a lowered file, and the log
 pub bureau_fits : is_valid bureau ≡ true
@@ -357,12 +412,37 @@ lowered_files_agree a b = agreed bottom closed closed 1
     ∷ same (by 2 (op.OpenAt (in_root (codes "s")) mode.Read)) (number (open_again a) 0) (number (open_again b) 0)
     ∷ same (by 2 (op.ReadFd 0 1)) (bytes (read_low a) (a ∷ [])) (bytes (read_low b) (b ∷ []))
     ∷ [])
-    ((opens_secret, opens_secret, runs.AgreeAt.Same, refl,
-    (writes_secret a, writes_secret b, runs.AgreeAt.Other clerk_is_high runs.Replaced.Written, refl,
-    (lets_down a, lets_down b, runs.AgreeAt.Same, refl,
-    (reads_log a, reads_log b, runs.AgreeAt.Same, refl,
-    (opens_again a, opens_again b, runs.AgreeAt.Same, refl,
-    (reads_low a, reads_low b, runs.AgreeAt.Same, refl, tt)))))))
+    ((
+      opens_secret,
+      opens_secret,
+      runs.AgreeAt.Same,
+      refl,
+      (
+        writes_secret a,
+        writes_secret b,
+        runs.AgreeAt.Other clerk_is_high runs.Replaced.Written,
+        refl,
+        (
+          lets_down a,
+          lets_down b,
+          runs.AgreeAt.Same,
+          refl,
+          (
+            reads_log a,
+            reads_log b,
+            runs.AgreeAt.Same,
+            refl,
+            (
+              opens_again a,
+              opens_again b,
+              runs.AgreeAt.Same,
+              refl,
+              (reads_low a, reads_low b, runs.AgreeAt.Same, refl, tt),
+            ),
+          ),
+        ),
+      ),
+    ))
 
 crosses_there : (byte : ℕ) → Crosses bottom (secret_written byte).frame (lowered byte).frame
 unfolding running secret_worlds
