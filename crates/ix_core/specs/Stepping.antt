@@ -2,15 +2,15 @@
 use Rattle.std.specs.Prelude.{◌≡◌, ◌≤◌, ◌+◌, ℕ, true, List, [], ◌∷◌, ◌++◌, length, take}
 use Rattle.std.specs.List.{list_all}
 use Rattle.ix_label.specs.Category.{Categories}
-use Rattle.ix_model.specs.World.{World, Object, Process}
-use Rattle.ix_model.specs.Opening.{opening_world}
-use Rattle.ix_model.specs.Step.{step_of, run, put_front}
-use Rattle.ix_model.specs.TwoRuns.{Low}
-use Rattle.ix_model.specs.Clean.{IsClean}
-use Rattle.ix_model.specs.Valid.{is_valid, is_flat}
-use Rattle.ix_model.specs.Calls.{is_built}
-use Rattle.ix_model.specs.Events.{Event}
-use Rattle.ix_model.specs.History.{History, world_of, next, with_entry}
+use Rattle.ix_model.specs.world.World.{World, Object, Process}
+use Rattle.ix_model.specs.opening.Opening.{opening_world}
+use Rattle.ix_model.specs.history.Step.{step_of, run, put_front}
+use Rattle.ix_model.specs.two_runs.TwoRuns.{Low}
+use Rattle.ix_model.specs.laws.Clean.{IsClean}
+use Rattle.ix_model.specs.opening.Valid.{is_valid, is_flat}
+use Rattle.ix_model.specs.history.Calls.{is_built}
+use Rattle.ix_model.specs.history.Events.{Event}
+use Rattle.ix_model.specs.history.History.{History, world_of, next, with_entry}
 use Rattle.ix_model.specs.declared.reply.Reply.TheVariants as reply
 use Rattle.ix_model.specs.declared.reply.Answer.{Answer}
 use Rattle.ix_model.specs.declared.reply.Answer.TheVariants as answer

@@ -3,10 +3,10 @@ use Rattle.std.proofs.Common.{◌≡◌, ℕ, zero, suc, ◌+◌, List, [], ◌�
 use Rattle.std.proofs.Common.{option_map}
 use Rattle.std.specs.Prelude.{IfSome}
 use Rattle.ix_label.specs.Category.{Categories}
-use Rattle.ix_model.specs.World.{World, Process, at}
-use Rattle.ix_model.specs.Step.{step_of, run}
-use Rattle.ix_model.specs.Events.{Event}
-use Rattle.ix_model.specs.TwoRuns.{Alike, Low, Agree}
+use Rattle.ix_model.specs.world.World.{World, Process, at}
+use Rattle.ix_model.specs.history.Step.{step_of, run}
+use Rattle.ix_model.specs.history.Events.{Event}
+use Rattle.ix_model.specs.two_runs.TwoRuns.{Alike, Low, Agree}
 use Rattle.ix_iso.specs.Laws.{NoneCrosses}
 use Rattle.ix_iso.proofs.Counts.{shape_frames}
 use Rattle.ix_iso.proofs.Steps.{alike_events}
@@ -14,21 +14,21 @@ use Rattle.ix_iso.proofs.Histories.{shape_events}
 use Rattle.ix_iso.proofs.Lowerings.{low_is_same}
 use Rattle.ix_iso.proofs.Hiding.{alike_runs, hides}
 use Rattle.ix_report.specs.LineText.{entry_line}
-use Rattle.ix_script.specs.Before.{lanes_of}
-use Rattle.ix_script.specs.Faults.{fault_of}
+use Rattle.ix_script.specs.lines.Before.{lanes_of}
+use Rattle.ix_script.specs.lines.Faults.{fault_of}
 use Rattle.ix_script.specs.declared.line.Line.{Line}
 use Rattle.ix_host.specs.declared.command.Command.{Command}
 use Rattle.ix_host.specs.declared.command.Command.TheVariants as command
 use Rattle.ix_host.specs.declared.status.Status.{Status}
 use Rattle.ix_host.specs.declared.status.Status.TheVariants as status
-use Rattle.ix_host.specs.Built.{unbuilt_line}
+use Rattle.ix_host.specs.serial.Built.{unbuilt_line}
 use Rattle.ix_host.specs.Hiding.{HidesLines, IsHidingReport, world_opened}
-use Rattle.ix_host.specs.Outcome.{Outcome, outcome_of, outcome_for, text_for, text_of, script_in}
-use Rattle.ix_host.specs.Outcome as outcome
-use Rattle.ix_host.specs.Report.{lane_name, entry_text, entry_lines, report_of}
-use Rattle.ix_host.specs.Run.{IsAnswer, IsEndOf, called_for, wanted_for, status_of}
-use Rattle.ix_host.specs.Serial.{serial}
-use Rattle.ix_host.proofs.Verdicts.{WasRead, is_called_for}
+use Rattle.ix_host.specs.run.Outcome.{Outcome, outcome_of, outcome_for, text_for, text_of, script_in}
+use Rattle.ix_host.specs.run.Outcome as outcome
+use Rattle.ix_host.specs.report.Report.{lane_name, entry_text, entry_lines, report_of}
+use Rattle.ix_host.specs.run.Run.{IsAnswer, IsEndOf, called_for, wanted_for, status_of}
+use Rattle.ix_host.specs.serial.Serial.{serial}
+use Rattle.ix_host.proofs.comes_to.Verdicts.{WasRead, is_called_for}
 
 -- ---- one line
 module _ (l : Categories) (lanes : List (List ℕ)) where

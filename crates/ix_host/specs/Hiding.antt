@@ -1,18 +1,18 @@
 -- What the report of a script hides of what was written high.
 use Rattle.std.specs.Prelude.{◌≡◌, ℕ, ◌+◌, List, take, Some, slice_get}
 use Rattle.ix_label.specs.Category.{Categories}
-use Rattle.ix_model.specs.World.{World}
-use Rattle.ix_model.specs.Opening.{opening_world}
-use Rattle.ix_model.specs.Step.{run}
-use Rattle.ix_model.specs.TwoRuns.{Low}
-use Rattle.ix_model.specs.Events.{Event}
+use Rattle.ix_model.specs.world.World.{World}
+use Rattle.ix_model.specs.opening.Opening.{opening_world}
+use Rattle.ix_model.specs.history.Step.{run}
+use Rattle.ix_model.specs.two_runs.TwoRuns.{Low}
+use Rattle.ix_model.specs.history.Events.{Event}
 use Rattle.ix_iso.specs.Laws.{NoneCrosses}
 use Rattle.ix_iso.specs.Hiding.{RunsAgree, HidesWhatIsHigh}
-use Rattle.ix_script.specs.Before.{lanes_of}
-use Rattle.ix_script.specs.Scripts.{config_of}
+use Rattle.ix_script.specs.lines.Before.{lanes_of}
+use Rattle.ix_script.specs.scripts.Scripts.{config_of}
 use Rattle.ix_script.specs.declared.line.Line.{Line}
-use Rattle.ix_host.specs.Report.{entry_lines, report_of}
-use Rattle.ix_host.specs.Serial.{serial}
+use Rattle.ix_host.specs.report.Report.{entry_lines, report_of}
+use Rattle.ix_host.specs.serial.Serial.{serial}
 
 -- the world that a script opens
 abbrev pub world_opened : List Line → World

@@ -1,10 +1,10 @@
 -- Each history hides what is high, and so does its last entry.
 use Rattle.std.proofs.Common.{◌≡◌, ℕ, suc, ◌+◌, List, [], ◌∷◌, ◌++◌, length, take, refl, arith, subst}
 use Rattle.ix_label.specs.Category.{Categories}
-use Rattle.ix_model.specs.World.{World}
-use Rattle.ix_model.specs.Step.{step_of, run}
-use Rattle.ix_model.specs.TwoRuns.{Alike, Low, Agree}
-use Rattle.ix_model.specs.Events.{Event}
+use Rattle.ix_model.specs.world.World.{World}
+use Rattle.ix_model.specs.history.Step.{step_of, run}
+use Rattle.ix_model.specs.two_runs.TwoRuns.{Alike, Low, Agree}
+use Rattle.ix_model.specs.history.Events.{Event}
 use Rattle.ix_iso.specs.Laws.{NoneCrosses}
 use Rattle.ix_iso.specs.Hiding.{RunsAgree, InKind, InLength, HidesWhatIsHigh}
 use Rattle.ix_iso.proofs.Steps.{alike_events}

@@ -1,12 +1,12 @@
 -- What a history hides of what was written high, and what its entries let down.
 use Rattle.std.specs.Prelude.{◌≡◌, ℕ, ◌+◌, List, take, Some, slice_get}
 use Rattle.ix_label.specs.Category.{Categories}
-use Rattle.ix_model.specs.World.{World}
-use Rattle.ix_model.specs.Step.{run}
-use Rattle.ix_model.specs.Lowering.{Lowered}
-use Rattle.ix_model.specs.TwoRuns.{Alike, Agree}
-use Rattle.ix_model.specs.EqualLengths.{AlikeInLength, AgreeInLength}
-use Rattle.ix_model.specs.Events.{Event}
+use Rattle.ix_model.specs.world.World.{World}
+use Rattle.ix_model.specs.history.Step.{run}
+use Rattle.ix_model.specs.history.Lowering.{Lowered}
+use Rattle.ix_model.specs.two_runs.TwoRuns.{Alike, Agree}
+use Rattle.ix_model.specs.two_runs.EqualLengths.{AlikeInLength, AgreeInLength}
+use Rattle.ix_model.specs.history.Events.{Event}
 use Rattle.ix_iso.specs.Laws.{given_after, Isolated, line_of_lowering, IsLogged}
 
 -- Two runs agree at L where bytes and statuses alone differ, and only above L. The lengths may differ where the replies are

@@ -1,28 +1,28 @@
 -- What a high process does comes to one that was low, entry by entry.
 use Rattle.std.proofs.Common.{◌≡◌, ℕ, suc, true, List, [], ◌∷◌, map, take, refl, sym, subst₂, codes}
 use Rattle.ix_label.specs.Category.{Categories, bottom}
-use Rattle.ix_model.specs.World.{World, at, living}
-use Rattle.ix_model.specs.Opening.{opening_world}
-use Rattle.ix_model.specs.Step.{Given}
-use Rattle.ix_model.specs.Events.{Op, Event}
-use Rattle.ix_model.specs.Events as op
-use Rattle.ix_model.specs.Lowering.{Crosses}
-use Rattle.ix_model.specs.TwoRuns.{Agree, AgreeAt, IsHigh, is_one_kind}
-use Rattle.ix_model.specs.TwoRuns as runs
-use Rattle.ix_model.specs.Valid.{is_valid}
+use Rattle.ix_model.specs.world.World.{World, at, living}
+use Rattle.ix_model.specs.opening.Opening.{opening_world}
+use Rattle.ix_model.specs.history.Step.{Given}
+use Rattle.ix_model.specs.history.Events.{Op, Event}
+use Rattle.ix_model.specs.history.Events as op
+use Rattle.ix_model.specs.history.Lowering.{Crosses}
+use Rattle.ix_model.specs.two_runs.TwoRuns.{Agree, AgreeAt, IsHigh, is_one_kind}
+use Rattle.ix_model.specs.two_runs.TwoRuns as runs
+use Rattle.ix_model.specs.opening.Valid.{is_valid}
 use Rattle.ix_model.specs.declared.audit.Act.TheVariants as act
 use Rattle.ix_model.specs.declared.call.Keep.TheVariants as keep
 use Rattle.ix_model.specs.declared.call.Mode.TheVariants as mode
 use Rattle.ix_model.specs.declared.reply.Reply.TheVariants as reply
-use Rattle.ix_worked.specs.OnProcesses.{family}
+use Rattle.ix_worked.specs.short.OnProcesses.{family}
 use Rattle.ix_worked.specs.PairsOfRuns.{before, after, BothAgree}
 use Rattle.ix_worked.specs.Scripts.{seven, in_root, by, log_line}
 use Rattle.ix_worked.specs.Sessions.{calls, Goes}
 use Rattle.ix_worked.specs.ToldUp.{waiting_for_high, piping_from_high, notebook, sharing_with_high, bureau, letting_down}
-use Rattle.ix_worked.proofs.Agreeing.{agree_on, high_of}
+use Rattle.ix_worked.proofs.runs.Agreeing.{agree_on, high_of}
 use Rattle.ix_worked.proofs.Chains.{◌⨾◌, Steps, Gives, number, bytes, answered, done, lines_given, run_given, gives_some}
 use Rattle.ix_worked.proofs.Computing.{running, fitting}
-use Rattle.ix_worked.proofs.Falling.{object_crosses}
+use Rattle.ix_worked.proofs.runs.Falling.{object_crosses}
 use Rattle.ix_worked.proofs.Labels.{labels, leq-with_bottom}
 use Rattle.ix_worked.proofs.Worlds.{with_line, with_pipe, with_entry, opened, floated, raised, marked, moved, holding, with_child, with_ended, without_process}
 

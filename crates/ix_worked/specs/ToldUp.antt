@@ -1,9 +1,9 @@
 -- What a high process does comes to one that was low: by a status, a pipe, a shared offset, and once it was let down.
 use Rattle.std.specs.Prelude.{ℕ, List, [], ◌∷◌, length, codes}
 use Rattle.ix_label.specs.Category.{bottom, top}
-use Rattle.ix_model.specs.Events.{Event}
-use Rattle.ix_model.specs.Events as op
-use Rattle.ix_model.specs.Privs.{to_lower, to_read_the_log}
+use Rattle.ix_model.specs.history.Events.{Event}
+use Rattle.ix_model.specs.history.Events as op
+use Rattle.ix_model.specs.world.Privs.{to_lower, to_read_the_log}
 use Rattle.ix_model.specs.declared.audit.Act.TheVariants as act
 use Rattle.ix_model.specs.declared.call.Keep.TheVariants as keep
 use Rattle.ix_model.specs.declared.call.Mode.TheVariants as mode

@@ -3,9 +3,9 @@
 
 ghost use Rattle.std.specs.Prelude.{◌≡◌, ℕ, true, codes};
 ghost use Rattle.ix_label.specs.Category.{bottom};
-ghost use Rattle.ix_model.specs.Lowering.{Crosses};
-ghost use Rattle.ix_model.specs.Valid.{is_valid};
-ghost use Rattle.ix_worked.specs.OnProcesses.{family};
+ghost use Rattle.ix_model.specs.history.Lowering.{Crosses};
+ghost use Rattle.ix_model.specs.opening.Valid.{is_valid};
+ghost use Rattle.ix_worked.specs.short.OnProcesses.{family};
 ghost use Rattle.ix_worked.specs.PairsOfRuns.{before, after, BothAgree};
 ghost use Rattle.ix_worked.specs.Sessions.{Goes, calls};
 ghost use Rattle.ix_worked.specs.ToldUp.{
