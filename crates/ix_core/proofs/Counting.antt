@@ -3,8 +3,8 @@ use Rattle.std.proofs.Common.{◌≡◌, ℕ, ◌+◌, ◌<◌, ◌≤◌, List,
 use Rattle.std.proofs.Math.Seq.{drop-cons}
 use Rattle.std.proofs.lemmas.List.{drop_all}
 use Rattle.std.proofs.lemmas.Bool.Decides.{nat_tests}
-use Rattle.ix_model.specs.World.{Holding}
-use Rattle.ix_model.specs.Telling.{blocks_for, blocks_where}
+use Rattle.ix_model.specs.world.World.{Holding}
+use Rattle.ix_model.specs.rows.Telling.{blocks_for, blocks_where}
 
 pub one_more : (p : ℕ → Bool) (i : ℕ) (hs : List Holding) (d : Holding) → i < length hs → blocks_where p i (drop i hs) ≡ (if p i then blocks_for (length (get_or hs i d).first) else 0) + blocks_where p (i + 1) (drop (i + 1) hs)
 one_more p i hs d low = rw (add-one, drop-cons hs i d) refl

@@ -2,8 +2,8 @@
 use Rattle.std.proofs.Common.{◌≡◌, ℕ, ◌==◌, List, [], length, Bool, true, false, refl, sym, ap, ◌∙◌, arith, get_or, set, get_or-set_same, inl, inr, if◌then◌else◌, length-set}
 use Rattle.std.proofs.lemmas.List.{set-get_or, set-set, set_past}
 use Rattle.std.proofs.lemmas.Bool.{cases_lt}
-use Rattle.ix_model.specs.World.{Content, Holding}
-use Rattle.ix_model.specs.Contents.{holding_of, holds_nothing, side, with_side}
+use Rattle.ix_model.specs.world.World.{Content, Holding}
+use Rattle.ix_model.specs.world.Contents.{holding_of, holds_nothing, side, with_side}
 use Rattle.ix_core.specs.Meanings.{with_holding}
 
 side_twice : (b : Bool) (h : Holding) (xs ys : List ℕ) → (if b then record (if b then record h { first = xs } else record h { second = xs }) { first = ys } else record (if b then record h { first = xs } else record h { second = xs }) { second = ys }) ≡ (if b then record h { first = ys } else record h { second = ys })

@@ -4,12 +4,12 @@ use Rattle.std.proofs.Math.ListN.{set}
 use Rattle.std.proofs.lemmas.List.{set-get_or}
 use Rattle.std.specs.Option.{option_map_or}
 use Rattle.ix_label.specs.Category.{Categories}
-use Rattle.ix_model.specs.World.{Frame, Process, at, change, lives}
-use Rattle.ix_model.specs.Outcomes.{Refuse}
-use Rattle.ix_model.specs.Refusals.{keeps_label}
-use Rattle.ix_model.specs.OnDescriptors.{Told}
-use Rattle.ix_model.specs.Table.{row, verdict}
-use Rattle.ix_model.specs.Events.{Op}
+use Rattle.ix_model.specs.world.World.{Frame, Process, at, change, lives}
+use Rattle.ix_model.specs.rows.Outcomes.{Refuse}
+use Rattle.ix_model.specs.rows.Refusals.{keeps_label}
+use Rattle.ix_model.specs.rows.OnDescriptors.{Told}
+use Rattle.ix_model.specs.rows.Table.{row, verdict}
+use Rattle.ix_model.specs.history.Events.{Op}
 use Rattle.ix_model.specs.declared.refusal.Refusal.{Refusal}
 use Rattle.ix_core.specs.Meanings.{Restores, label_at}
 

@@ -4,7 +4,7 @@ use Rattle.std.proofs.lemmas.List.{drop_all, take-append-le, take_all, take-repl
 use Rattle.std.proofs.Math.Seq.{take-append-add, take-append_seam}
 use Rattle.std.proofs.lemmas.Bool.{cases_lt}
 use Rattle.std.proofs.lemmas.Bool.Decides.{nat_tests}
-use Rattle.ix_model.specs.Contents.{spliced}
+use Rattle.ix_model.specs.world.Contents.{spliced}
 
 -- filled up with zeros to a length
 abbrev filled : ℕ → List ℕ → List ℕ

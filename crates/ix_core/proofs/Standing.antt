@@ -3,26 +3,26 @@ use Rattle.std.proofs.Common.{◌≡◌, ◌+◌, ◌<◌, ◌≤◌, ℕ, true,
 use Rattle.std.specs.List.{list_all}
 use Rattle.std.proofs.Math.Seq.{take-append_seam}
 use Rattle.std.proofs.lemmas.Bool.{and_parts}
-use Rattle.ix_model.specs.World.{World}
-use Rattle.ix_model.specs.Opening.{opening_world}
-use Rattle.ix_model.specs.Step.{step, put_front}
-use Rattle.ix_model.specs.Clean.{IsClean}
-use Rattle.ix_model.specs.Sound.{Sound}
-use Rattle.ix_model.specs.Shown.{AreShown}
-use Rattle.ix_model.specs.Valid.{is_valid, is_flat}
-use Rattle.ix_model.specs.Calls.{is_built}
-use Rattle.ix_model.specs.Events.{Event}
-use Rattle.ix_model.specs.History.{History, world_of, with_entry}
+use Rattle.ix_model.specs.world.World.{World}
+use Rattle.ix_model.specs.opening.Opening.{opening_world}
+use Rattle.ix_model.specs.history.Step.{step, put_front}
+use Rattle.ix_model.specs.laws.Clean.{IsClean}
+use Rattle.ix_model.specs.laws.Sound.{Sound}
+use Rattle.ix_model.specs.history.Shown.{AreShown}
+use Rattle.ix_model.specs.opening.Valid.{is_valid, is_flat}
+use Rattle.ix_model.specs.history.Calls.{is_built}
+use Rattle.ix_model.specs.history.Events.{Event}
+use Rattle.ix_model.specs.history.History.{History, world_of, with_entry}
 use Rattle.ix_model.specs.declared.config.Config.{Config}
 use Rattle.ix_model.specs.declared.reply.Reply.{Reply}
 use Rattle.ix_model.specs.declared.reply.Reply.TheVariants as reply
 use Rattle.ix_model.specs.declared.reply.Answer.TheVariants as answer
-use Rattle.ix_model.proofs.Openings.{clean_opening}
-use Rattle.ix_model.proofs.Cleaning.{clean_step}
-use Rattle.ix_model.proofs.Reaching.{opening_counts, sound_reached}
-use Rattle.ix_model.proofs.Runs.{world_of-none, world_of-push}
-use Rattle.ix_model.proofs.Fixed.{fixed_step}
-use Rattle.ix_model.proofs.BuiltCalls.{built_step}
+use Rattle.ix_model.proofs.opening.Openings.{clean_opening}
+use Rattle.ix_model.proofs.clean.Cleaning.{clean_step}
+use Rattle.ix_model.proofs.sound.Reaching.{opening_counts, sound_reached}
+use Rattle.ix_model.proofs.words.Runs.{world_of-none, world_of-push}
+use Rattle.ix_model.proofs.words.Fixed.{fixed_step}
+use Rattle.ix_model.proofs.clean.BuiltCalls.{built_step}
 use Rattle.ix_core.specs.Stepping.{StandsFor, Shows}
 
 pub stands_first : (c : Config) (w : World) → is_valid c ≡ true → is_flat c ≡ true → w ≡ opening_world c → StandsFor w (record { config = c; events = [] })

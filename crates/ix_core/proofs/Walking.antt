@@ -5,9 +5,9 @@ use Rattle.std.proofs.Math.Seq.{drop-cons}
 use Rattle.std.proofs.lemmas.Option.{slice_get_within, slice_get_cases, get_or_from_slice_get}
 use Rattle.ix_label.specs.Category.{Categories, bottom, join}
 use Rattle.ix_label.specs.Lattice.{join-bottom, join-bottom_right, join-assoc}
-use Rattle.ix_model.specs.World.{Object, is_dir}
-use Rattle.ix_model.specs.Walks.{Walk, Sought, node, child, walk_from, looking_into, lacking, join_all}
-use Rattle.ix_model.specs.Walks as sought
+use Rattle.ix_model.specs.world.World.{Object, is_dir}
+use Rattle.ix_model.specs.rows.Walks.{Walk, Sought, node, child, walk_from, looking_into, lacking, join_all}
+use Rattle.ix_model.specs.rows.Walks as sought
 use Rattle.ix_core.specs.Meanings.{Seen, seen_in}
 
 -- a walk with a label joined to what it sees

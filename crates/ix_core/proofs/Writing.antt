@@ -1,17 +1,17 @@
 -- What a write comes to, by the kind of what stands behind its descriptor.
 use Rattle.std.proofs.Common.{◌≡◌, ℕ, ◌+◌, ◌-◌, List, [], ◌++◌, length, Some, None, true, false, refl, sym, ap, ◌∙◌, set}
-use Rattle.ix_model.specs.World.{World, Frame, Content}
-use Rattle.ix_model.specs.Walks.{Behind, behind}
-use Rattle.ix_model.specs.OnDescriptors.{Told}
-use Rattle.ix_model.specs.Table.{verdict}
-use Rattle.ix_model.specs.Step.{Given, plainly, write_answer, answer, step}
-use Rattle.ix_model.specs.Telling.{nothing_told, told_of_pipe_write, told_of_file_write, told_of_write, told}
-use Rattle.ix_model.specs.Contents.{holding_of, offset_of, side, with_side, spliced, on_pipe, after_write, carried}
-use Rattle.ix_model.specs.Clean.{IsClean}
-use Rattle.ix_model.specs.Events as op
+use Rattle.ix_model.specs.world.World.{World, Frame, Content}
+use Rattle.ix_model.specs.rows.Walks.{Behind, behind}
+use Rattle.ix_model.specs.rows.OnDescriptors.{Told}
+use Rattle.ix_model.specs.rows.Table.{verdict}
+use Rattle.ix_model.specs.history.Step.{Given, plainly, write_answer, answer, step}
+use Rattle.ix_model.specs.rows.Telling.{nothing_told, told_of_pipe_write, told_of_file_write, told_of_write, told}
+use Rattle.ix_model.specs.world.Contents.{holding_of, offset_of, side, with_side, spliced, on_pipe, after_write, carried}
+use Rattle.ix_model.specs.laws.Clean.{IsClean}
+use Rattle.ix_model.specs.history.Events as op
 use Rattle.ix_model.specs.declared.reply.Reply.{Reply}
 use Rattle.ix_model.specs.declared.reply.Reply.TheVariants as reply
-use Rattle.ix_model.proofs.Carrying.{carried_decided}
+use Rattle.ix_model.proofs.clean.Carrying.{carried_decided}
 use Rattle.ix_core.specs.Meanings.{with_holding}
 use Rattle.ix_core.proofs.Lending.{put_lent}
 

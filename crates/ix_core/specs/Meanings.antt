@@ -2,14 +2,14 @@
 use Rattle.std.specs.Prelude.{◌≡◌, ◌≤◌, ◌+◌, ℕ, Bool, false, true, if◌then◌else◌, take, drop, List, Option, Some, Result, Ok, Err, slice_set}
 use Rattle.std.proofs.Common.{option_map}
 use Rattle.ix_label.specs.Category.{Categories}
-use Rattle.ix_model.specs.World.{World, Frame, Content, Holding, at, change, lives}
-use Rattle.ix_model.specs.Walks as walks
-use Rattle.ix_model.specs.Walks.{Walk, Sought, join_all}
-use Rattle.ix_model.specs.OnDescriptors as descriptors
-use Rattle.ix_model.specs.Step.{Given, put_front}
-use Rattle.ix_model.specs.Contents.{holding_of, offset_of, side, with_side}
-use Rattle.ix_model.specs.Events.{Op}
-use Rattle.ix_model.specs.Events as op
+use Rattle.ix_model.specs.world.World.{World, Frame, Content, Holding, at, change, lives}
+use Rattle.ix_model.specs.rows.Walks as walks
+use Rattle.ix_model.specs.rows.Walks.{Walk, Sought, join_all}
+use Rattle.ix_model.specs.rows.OnDescriptors as descriptors
+use Rattle.ix_model.specs.history.Step.{Given, put_front}
+use Rattle.ix_model.specs.world.Contents.{holding_of, offset_of, side, with_side}
+use Rattle.ix_model.specs.history.Events.{Op}
+use Rattle.ix_model.specs.history.Events as op
 use Rattle.ix_model.specs.declared.memory.NoMemory.{NoMemory}
 use Rattle.ix_model.specs.declared.refusal.Refusal.{Refusal}
 use Rattle.ix_model.specs.declared.reply.Reply.{Reply}

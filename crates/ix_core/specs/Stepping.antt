@@ -1,13 +1,13 @@
 -- What a core stands for, what a step of it does, and what it shows.
 use Rattle.std.specs.Prelude.{◌≡◌, ◌≤◌, ℕ, true, List, [], length, take}
 use Rattle.std.specs.List.{list_all}
-use Rattle.ix_model.specs.World.{World, Object, Process}
-use Rattle.ix_model.specs.Step.{put_front}
-use Rattle.ix_model.specs.Clean.{IsClean}
-use Rattle.ix_model.specs.Valid.{is_valid, is_flat}
-use Rattle.ix_model.specs.Calls.{is_built}
-use Rattle.ix_model.specs.Events.{Event}
-use Rattle.ix_model.specs.History.{History, world_of, next, with_entry}
+use Rattle.ix_model.specs.world.World.{World, Object, Process}
+use Rattle.ix_model.specs.history.Step.{put_front}
+use Rattle.ix_model.specs.laws.Clean.{IsClean}
+use Rattle.ix_model.specs.opening.Valid.{is_valid, is_flat}
+use Rattle.ix_model.specs.history.Calls.{is_built}
+use Rattle.ix_model.specs.history.Events.{Event}
+use Rattle.ix_model.specs.history.History.{History, world_of, next, with_entry}
 use Rattle.ix_model.specs.declared.reply.Reply.TheVariants as reply
 use Rattle.ix_model.specs.declared.reply.Answer.{Answer}
 use Rattle.ix_model.specs.declared.reply.Answer.TheVariants as answer

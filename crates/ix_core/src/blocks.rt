@@ -1,6 +1,6 @@
 ghost use Rattle.std.specs.Prelude.{◌≡◌, ◌+◌, ◌<◌, ◌/◌, ◌^◌, ◌==◌, ◌&&◌, not, length, nat_lt, if◌then◌else◌, slice_index_or};
-ghost use Rattle.ix_model.specs.Contents.{holds_nothing as nothing_held};
-ghost use Rattle.ix_model.specs.Telling.{blocks_for, blocks_where, lies_on};
+ghost use Rattle.ix_model.specs.world.Contents.{holds_nothing as nothing_held};
+ghost use Rattle.ix_model.specs.rows.Telling.{blocks_for, blocks_where, lies_on};
 
 use crate::holdings::HoldingRow;
 use crate::tables::Tables;

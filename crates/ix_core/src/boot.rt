@@ -1,10 +1,10 @@
 ghost use Rattle.std.specs.Prelude.{◌≡◌, ◌+◌, ◌-◌, ◌∷◌, [], length, map, replicate, IfOk, IsTrue, Some, None};
 ghost use Rattle.std.specs.List.{list_all};
-ghost use Rattle.ix_model.specs.Valid.{is_valid, is_flat, is_flat_object};
-ghost use Rattle.ix_model.specs.Opening.{opening_world, process_of, object_of};
-ghost use Rattle.ix_model.specs.Naming.{last_name};
-ghost use Rattle.ix_model.specs.Contents.{holds_nothing};
-ghost use Rattle.ix_model.specs.Flat.{named, root_with, file_of, bytes_of, flat_objects, flat_holdings, flat_world};
+ghost use Rattle.ix_model.specs.opening.Valid.{is_valid, is_flat, is_flat_object};
+ghost use Rattle.ix_model.specs.opening.Opening.{opening_world, process_of, object_of};
+ghost use Rattle.ix_model.specs.world.Naming.{last_name};
+ghost use Rattle.ix_model.specs.world.Contents.{holds_nothing};
+ghost use Rattle.ix_model.specs.opening.Flat.{named, root_with, file_of, bytes_of, flat_objects, flat_holdings, flat_world};
 
 use crate::contents::Contents;
 use crate::holdings::HoldingRow;

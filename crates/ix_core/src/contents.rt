@@ -1,6 +1,6 @@
 ghost use Rattle.std.specs.Prelude.{◌≡◌, ◌+◌, ◌<◌, ◌≤◌, length, ◌^◌, drop, take, slice_set, false, [], if◌then◌else◌};
-ghost use Rattle.ix_model.specs.Contents.{holding_of, offset_of, side, with_side};
-ghost use Rattle.ix_model.specs.Step.{put_front};
+ghost use Rattle.ix_model.specs.world.Contents.{holding_of, offset_of, side, with_side};
+ghost use Rattle.ix_model.specs.history.Step.{put_front};
 ghost use Rattle.ix_core.specs.Meanings.{with_holding, behind_of, front, fronted};
 
 use crate::holdings::HoldingRow;
@@ -18,7 +18,7 @@ pub struct Contents {
 }
 
 impl Model for Contents {
-    ghost use Rattle.ix_model.specs.World.{Content};
+    ghost use Rattle.ix_model.specs.world.World.{Content};
 
     ghost Value = { Content };
 

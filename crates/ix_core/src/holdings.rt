@@ -1,5 +1,5 @@
 ghost use Rattle.std.specs.Prelude.{◌≡◌, ◌+◌, ◌-◌, ◌≤◌, ◌++◌, length, drop, take, vec_len, vec_capacity, OnOk, [], replicate};
-ghost use Rattle.ix_model.specs.Contents.{side, with_side, spliced};
+ghost use Rattle.ix_model.specs.world.Contents.{side, with_side, spliced};
 
 use ix_model::NoMemory;
 use std::alloc::Global;
@@ -13,7 +13,7 @@ pub struct HoldingRow {
 }
 
 impl Model for HoldingRow {
-    ghost use Rattle.ix_model.specs.World.{Holding};
+    ghost use Rattle.ix_model.specs.world.World.{Holding};
 
     ghost Value = { Holding };
 

@@ -1,10 +1,10 @@
 ghost use Rattle.std.specs.Prelude.{◌≡◌, [], length, ◌<◌, ◌+◌, ◌==◌, ◌-◌, IfOk, IsTrue, None, if◌then◌else◌, slice_get};
 ghost use Rattle.std.specs.Option.{option_map};
-ghost use Rattle.ix_model.specs.Calls.{op_of, event_of, is_built};
-ghost use Rattle.ix_model.specs.Valid.{is_valid, is_flat};
-ghost use Rattle.ix_model.specs.World.{at};
-ghost use Rattle.ix_model.specs.Sound.{Sound};
-ghost use Rattle.ix_model.specs.History.{world_of, next};
+ghost use Rattle.ix_model.specs.history.Calls.{op_of, event_of, is_built};
+ghost use Rattle.ix_model.specs.opening.Valid.{is_valid, is_flat};
+ghost use Rattle.ix_model.specs.world.World.{at};
+ghost use Rattle.ix_model.specs.laws.Sound.{Sound};
+ghost use Rattle.ix_model.specs.history.History.{world_of, next};
 ghost use Rattle.ix_core.specs.Stepping.{StepsTo, Shows, view_of, shown_of};
 
 use crate::boot::boot;
@@ -27,7 +27,7 @@ pub struct Core {
 }
 
 impl Model for Core {
-    ghost use Rattle.ix_model.specs.History.{History};
+    ghost use Rattle.ix_model.specs.history.History.{History};
     ghost use Rattle.ix_core.specs.Stepping.{StandsFor};
     ghost use Rattle.std.specs.Coded.{codes};
     ghost use Rattle.ix_label.specs.contracts.label.Label as label_type;

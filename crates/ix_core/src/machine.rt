@@ -1,11 +1,11 @@
 ghost use Rattle.std.specs.Prelude.{◌≡◌, ℕ, ◌+◌, ◌-◌, ◌<◌, ◌≤◌, IsTrue, IfOk, OnErr, OnOk, false, length, Some, [], true, ◌^◌, nat_lt, ◌||◌, if◌then◌else◌};
-ghost use Rattle.ix_model.specs.Calls.{op_of, is_built};
-ghost use Rattle.ix_model.specs.Events as op;
-ghost use Rattle.ix_model.specs.Clean.{IsClean};
-ghost use Rattle.ix_model.specs.Step.{step, put_front};
-ghost use Rattle.ix_model.specs.Telling.{told_of_read, told_of_pipe_write, told_of_file_write, length_then};
-ghost use Rattle.ix_model.specs.Contents.{readable, side, holding_of, offset_of, on_pipe};
-ghost use Rattle.ix_model.specs.Walks.{behind};
+ghost use Rattle.ix_model.specs.history.Calls.{op_of, is_built};
+ghost use Rattle.ix_model.specs.history.Events as op;
+ghost use Rattle.ix_model.specs.laws.Clean.{IsClean};
+ghost use Rattle.ix_model.specs.history.Step.{step, put_front};
+ghost use Rattle.ix_model.specs.rows.Telling.{told_of_read, told_of_pipe_write, told_of_file_write, length_then};
+ghost use Rattle.ix_model.specs.world.Contents.{readable, side, holding_of, offset_of, on_pipe};
+ghost use Rattle.ix_model.specs.rows.Walks.{behind};
 ghost use Rattle.ix_core.specs.Meanings.{behind_of, told_of, Gives, IsPlain};
 
 use crate::blocks::exceeds;
@@ -27,7 +27,7 @@ pub struct Machine {
 }
 
 impl Model for Machine {
-    ghost use Rattle.ix_model.specs.World.{World};
+    ghost use Rattle.ix_model.specs.world.World.{World};
     ghost use Rattle.std.specs.Coded.{codes};
     ghost use Rattle.ix_label.specs.contracts.label.Label as label_type;
 
@@ -70,7 +70,7 @@ impl Machine {
     }
 
     /// A call that edits no content.
-    #[tactic(auto, using(ix_model::proofs::BuiltCalls::carried_built), unfolding(ix_model::specs::Step::step, ix_model::specs::Step::answer, ix_model::specs::Telling::told, ix_model::specs::Step::plainly))]
+    #[tactic(auto, using(ix_model::proofs::clean::BuiltCalls::carried_built), unfolding(ix_model::specs::history::Step::step, ix_model::specs::history::Step::answer, ix_model::specs::rows::Telling::told, ix_model::specs::history::Step::plainly))]
     fn plain<L: Ledger>(
         &mut self,
         place: usize,
@@ -100,7 +100,7 @@ impl Machine {
     }
 
     /// What the lengths tell of a read: whether there is nothing left.
-    #[tactic(auto, unfolding(ix_model::specs::Telling::told_of_read, ix_model::specs::Contents::readable))]
+    #[tactic(auto, unfolding(ix_model::specs::rows::Telling::told_of_read, ix_model::specs::world::Contents::readable))]
     fn told_of_read(&self, e: &Behind) -> Told
         ensures { told_of result ≡ told_of_read self.now.frame self.now.content (Some (behind_of e.now)) }
     {
@@ -113,7 +113,7 @@ impl Machine {
     }
 
     /// A read: the decision, and then the bytes into the front of the buffer.
-    #[tactic(auto, using(ix_model::proofs::BuiltCalls::carried_built), unfolding(ix_model::specs::Step::step, ix_model::specs::Step::answer, ix_model::specs::Telling::told, ix_model::specs::Step::plainly, ix_model::specs::Telling::told_of_read, ix_model::specs::Step::read_answer, ix_model::specs::Contents::after_read, ix_model::specs::Contents::readable))]
+    #[tactic(auto, using(ix_model::proofs::clean::BuiltCalls::carried_built), unfolding(ix_model::specs::history::Step::step, ix_model::specs::history::Step::answer, ix_model::specs::rows::Telling::told, ix_model::specs::history::Step::plainly, ix_model::specs::rows::Telling::told_of_read, ix_model::specs::history::Step::read_answer, ix_model::specs::world::Contents::after_read, ix_model::specs::world::Contents::readable))]
     fn read<L: Ledger>(
         &mut self,
         place: usize,
@@ -173,7 +173,7 @@ impl Machine {
 
     /// A write, to a pipe or to a file. It makes room for the bytes before the decision, so that after `NoMemory`
     /// nothing has changed.
-    #[tactic(auto, using(ix_model::proofs::BuiltCalls::carried_built), unfolding(ix_model::specs::Step::step, ix_model::specs::Step::answer, ix_model::specs::Telling::told, ix_model::specs::Step::plainly, ix_model::specs::Telling::told_of_write, ix_model::specs::Step::write_answer))]
+    #[tactic(auto, using(ix_model::proofs::clean::BuiltCalls::carried_built), unfolding(ix_model::specs::history::Step::step, ix_model::specs::history::Step::answer, ix_model::specs::rows::Telling::told, ix_model::specs::history::Step::plainly, ix_model::specs::rows::Telling::told_of_write, ix_model::specs::history::Step::write_answer))]
     fn write<L: Ledger>(
         &mut self,
         alloc: Global,
@@ -201,7 +201,7 @@ impl Machine {
     }
 
     /// A write to a pipe: the bytes stand at the end of what the other end can read.
-    #[tactic(auto, unfolding(ix_model::specs::Step::step, ix_model::specs::Step::answer, ix_model::specs::Telling::told, ix_model::specs::Telling::told_of_write, ix_model::specs::Step::write_answer))]
+    #[tactic(auto, unfolding(ix_model::specs::history::Step::step, ix_model::specs::history::Step::answer, ix_model::specs::rows::Telling::told, ix_model::specs::rows::Telling::told_of_write, ix_model::specs::history::Step::write_answer))]
     fn write_pipe<L: Ledger>(
         &mut self,
         alloc: Global,
@@ -247,7 +247,7 @@ impl Machine {
     }
 
     /// A write to a file: the bytes stand at the offset, which moves.
-    #[tactic(auto, unfolding(ix_model::specs::Step::step, ix_model::specs::Step::answer, ix_model::specs::Telling::told, ix_model::specs::Telling::told_of_write, ix_model::specs::Step::write_answer))]
+    #[tactic(auto, unfolding(ix_model::specs::history::Step::step, ix_model::specs::history::Step::answer, ix_model::specs::rows::Telling::told, ix_model::specs::rows::Telling::told_of_write, ix_model::specs::history::Step::write_answer))]
     fn write_file<L: Ledger>(
         &mut self,
         alloc: Global,

@@ -1,5 +1,5 @@
 ghost use Rattle.std.specs.Prelude.{◌≡◌};
-ghost use Rattle.ix_model.specs.World.{is_dir, is_file, is_pipe, is_trusted, claimed_by_another};
+ghost use Rattle.ix_model.specs.world.World.{is_dir, is_file, is_pipe, is_trusted, claimed_by_another};
 
 use bitflags::Flags;
 use ix_label::Label;
@@ -23,7 +23,7 @@ pub struct ObjectRow {
 }
 
 impl Model for ObjectRow {
-    ghost use Rattle.ix_model.specs.World.{Object};
+    ghost use Rattle.ix_model.specs.world.World.{Object};
     ghost use Rattle.std.specs.Coded.{codes};
     ghost use Rattle.ix_label.specs.contracts.label.Label as label_type;
 

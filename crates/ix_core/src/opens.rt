@@ -1,5 +1,5 @@
 ghost use Rattle.std.specs.Prelude.{◌≡◌};
-ghost use Rattle.ix_model.specs.World.{may_read, may_write, is_on};
+ghost use Rattle.ix_model.specs.world.World.{may_read, may_write, is_on};
 
 use ix_label::Label;
 use ix_model::Mode;
@@ -16,7 +16,7 @@ pub struct OpenRow {
 }
 
 impl Model for OpenRow {
-    ghost use Rattle.ix_model.specs.World.{Open};
+    ghost use Rattle.ix_model.specs.world.World.{Open};
     ghost use Rattle.std.specs.Coded.{codes};
     ghost use Rattle.ix_label.specs.contracts.label.Label as label_type;
 

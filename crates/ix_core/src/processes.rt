@@ -1,5 +1,5 @@
 ghost use Rattle.std.specs.Prelude.{◌≡◌, ◌<◌, IfSome};
-ghost use Rattle.ix_model.specs.World.{lowest_free};
+ghost use Rattle.ix_model.specs.world.World.{lowest_free};
 
 use ix_label::Label;
 use ix_model::PrivSet;
@@ -21,7 +21,7 @@ pub struct ProcessRow {
 }
 
 impl Model for ProcessRow {
-    ghost use Rattle.ix_model.specs.World.{Process};
+    ghost use Rattle.ix_model.specs.world.World.{Process};
     ghost use Rattle.std.specs.Coded.{codes};
     ghost use Rattle.ix_label.specs.contracts.label.Label as label_type;
 

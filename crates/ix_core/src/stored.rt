@@ -1,5 +1,5 @@
 ghost use Rattle.std.specs.Prelude.{◌≡◌, ℕ, List, IfOk};
-ghost use Rattle.ix_model.specs.Calls.{op_of, event_of, with_bytes};
+ghost use Rattle.ix_model.specs.history.Calls.{op_of, event_of, with_bytes};
 
 use ix_model::{Call, Entry, NoMemory, Pid};
 use std::alloc::Global;
@@ -16,7 +16,7 @@ pub struct Stored {
 }
 
 impl Model for Stored {
-    ghost use Rattle.ix_model.specs.Events.{Event};
+    ghost use Rattle.ix_model.specs.history.Events.{Event};
     ghost use Rattle.std.specs.Coded.{codes};
     ghost use Rattle.ix_label.specs.contracts.label.Label as label_type;
 
@@ -24,7 +24,7 @@ impl Model for Stored {
 
     ghost coded = { Prim.hlevel (codes, label_type.the_row.coded) };
 
-    ghost use Rattle.ix_model.specs.Calls.{op_of, with_bytes};
+    ghost use Rattle.ix_model.specs.history.Calls.{op_of, with_bytes};
 
     ghost view = { λ s. record { seat = s.seat; line = s.line; pid = s.pid.0; op = with_bytes s.bytes.items (op_of s.call) } };
 }

@@ -1,9 +1,9 @@
 ghost use Rattle.std.specs.Prelude.{◌≡◌, ℕ, ◌<◌, length, IsTrue, IfSome, Some, false, ◌^◌};
 ghost use Rattle.std.specs.Option.{option_map, option_copied, option_map_or};
-ghost use Rattle.ix_model.specs.World.{at, put, change, lowest_free, lives, held, ceiling_of};
-ghost use Rattle.ix_model.specs.Walks.{behind};
-ghost use Rattle.ix_model.specs.Contents.{on_pipe};
-ghost use Rattle.ix_model.specs.Telling.{fs_of_object, lies_on, blocks_on};
+ghost use Rattle.ix_model.specs.world.World.{at, put, change, lowest_free, lives, held, ceiling_of};
+ghost use Rattle.ix_model.specs.rows.Walks.{behind};
+ghost use Rattle.ix_model.specs.world.Contents.{on_pipe};
+ghost use Rattle.ix_model.specs.rows.Telling.{fs_of_object, lies_on, blocks_on};
 ghost use Rattle.ix_core.specs.Meanings.{behind_of, label_at};
 ghost use Rattle.ix_core.specs.Stepping.{view_of, shown_of};
 
@@ -31,7 +31,7 @@ pub struct Tables {
 }
 
 impl Model for Tables {
-    ghost use Rattle.ix_model.specs.World.{Frame};
+    ghost use Rattle.ix_model.specs.world.World.{Frame};
     ghost use Rattle.std.specs.Coded.{codes};
     ghost use Rattle.ix_label.specs.contracts.label.Label as label_type;
 
@@ -99,7 +99,7 @@ impl Tables {
     }
 
     /// The open entry behind a descriptor of a living process.
-    #[tactic(auto, unfolding(ix_model::specs::Walks::behind))]
+    #[tactic(auto, unfolding(ix_model::specs::rows::Walks::behind))]
     pub fn behind(&self, pid: usize, fd: Fd) -> Option<Behind>
         ensures fd { IfSome result (λ e. fd.0 < 32) }
         ensures behind { option_map behind_of result ≡ behind self.now pid fd.0 }

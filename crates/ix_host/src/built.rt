@@ -1,6 +1,6 @@
 ghost use Rattle.std.specs.Prelude.{◌≡◌, ◌||◌};
-ghost use Rattle.ix_model.specs.Privs.{is_empty};
-ghost use Rattle.ix_host.specs.Built.{is_fs, is_unbuilt_run, is_unbuilt_print, is_unbuilt, unbuilt_line};
+ghost use Rattle.ix_model.specs.world.Privs.{is_empty};
+ghost use Rattle.ix_host.specs.serial.Built.{is_fs, is_unbuilt_run, is_unbuilt_print, is_unbuilt, unbuilt_line};
 
 use crate::command::Command;
 use crate::lines::line_at;
@@ -23,7 +23,7 @@ fn tells_fs(before: bool, line: &Line) -> bool
 }
 
 /// Whether a line has a form that isn't built under `run`. `second` tells whether a file system was told before.
-#[tactic(auto, unfolding(crate::specs::Built::is_unbuilt_run))]
+#[tactic(auto, unfolding(crate::specs::serial::Built::is_unbuilt_run))]
 fn is_unbuilt_run(second: bool, line: &Line) -> bool
     ensures { result ≡ is_unbuilt_run second line.now }
 {
@@ -45,7 +45,7 @@ fn is_unbuilt_run(second: bool, line: &Line) -> bool
 }
 
 /// Whether a line has a form that isn't built under a command.
-#[tactic(auto, unfolding(crate::specs::Built::is_unbuilt_print))]
+#[tactic(auto, unfolding(crate::specs::serial::Built::is_unbuilt_print))]
 fn is_unbuilt(command: Command, second: bool, line: &Line) -> bool
     ensures { result ≡ is_unbuilt command second line.now }
 {
@@ -56,7 +56,7 @@ fn is_unbuilt(command: Command, second: bool, line: &Line) -> bool
 }
 
 /// The first line that has a form which isn't built under a command.
-#[tactic(auto, unfolding(crate::specs::Built::unbuilt_line))]
+#[tactic(auto, unfolding(crate::specs::serial::Built::unbuilt_line))]
 pub fn unbuilt_line(command: Command, script: &Script) -> Option<u32>
     ensures { result ≡ unbuilt_line command script.now }
 {

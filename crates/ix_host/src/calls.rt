@@ -1,9 +1,9 @@
 ghost use Rattle.std.specs.Prelude.{◌≡◌, false, IfSome, IsTrue, OnOk};
 ghost use Rattle.std.specs.Option.{option_map};
-ghost use Rattle.ix_model.specs.Calls.{op_of, event_of, is_built};
-ghost use Rattle.ix_host.specs.Asked.{asked, named, number_in, bound};
-ghost use Rattle.ix_host.specs.Built.{is_unbuilt_run};
-ghost use Rattle.ix_host.specs.Serial.{entry_of};
+ghost use Rattle.ix_model.specs.history.Calls.{op_of, event_of, is_built};
+ghost use Rattle.ix_host.specs.serial.Asked.{asked, named, number_in, bound};
+ghost use Rattle.ix_host.specs.serial.Built.{is_unbuilt_run};
+ghost use Rattle.ix_host.specs.serial.Serial.{entry_of};
 
 use crate::names::Names;
 use crate::numbers::Numbers;
@@ -11,7 +11,7 @@ use ix_model::{Call, Entry, Name, NoMemory, Reply};
 use ix_script::Line;
 
 /// The entry that a line of a seat's lane asks for, where it is a command.
-#[tactic(auto, unfolding(crate::specs::Asked::asked, crate::specs::Built::is_unbuilt_run))]
+#[tactic(auto, unfolding(crate::specs::serial::Asked::asked, crate::specs::serial::Built::is_unbuilt_run))]
 pub fn entry_asked<'a>(
     header: &Numbers<u32>,
     names: &Names,
@@ -77,7 +77,7 @@ fn number_in(reply: &Reply) -> u8
 }
 
 /// Lets the name that stands after `as`, if one does, stand for what the reply says.
-#[tactic(auto, unfolding(crate::specs::Asked::named, crate::specs::Built::is_unbuilt_run))]
+#[tactic(auto, unfolding(crate::specs::serial::Asked::named, crate::specs::serial::Built::is_unbuilt_run))]
 pub fn bind(names: &mut Names, line: &Line, reply: &Reply) -> Result<(), NoMemory>
     requires { is_unbuilt_run false line.now ≡ false }
     ensures { OnOk result (names.new ≡ named names.old line.now reply.now) }

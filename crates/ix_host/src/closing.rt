@@ -1,6 +1,6 @@
 ghost use Rattle.std.specs.Prelude.{◌≡◌, ◌++◌, OnOk};
-ghost use Rattle.ix_model.specs.History.{world_of};
-ghost use Rattle.ix_host.specs.Report.{object_text, process_text};
+ghost use Rattle.ix_model.specs.history.History.{world_of};
+ghost use Rattle.ix_host.specs.report.Report.{object_text, process_text};
 
 use ix_core::Core;
 use ix_model::{NoMemory, Pid};

@@ -1,8 +1,8 @@
 //! The command words as clap reads them: a command, and a value that no command takes yet.
 ghost use Rattle.std.specs.Prelude.{◌≡◌, IfOk, codes, map, string_bytes};
 ghost use Rattle.clap.specs.Words.{app_of, first_value, found_of};
-ghost use Rattle.ix_host.specs.Command.{command_of, named_command};
-ghost use Rattle.ix_host.specs.CommandLine.{command_line, read_alone};
+ghost use Rattle.ix_host.specs.command.Command.{command_of, named_command};
+ghost use Rattle.ix_host.specs.command.CommandLine.{command_line, read_alone};
 
 use crate::command::Command;
 use clap::error::ErrorKind;

@@ -1,9 +1,9 @@
 ghost use Rattle.std.specs.Prelude.{◌≡◌, ◌++◌, OnOk};
 ghost use Rattle.std.specs.Option.{option_map};
-ghost use Rattle.ix_model.specs.Calls.{event_of};
+ghost use Rattle.ix_model.specs.history.Calls.{event_of};
 ghost use Rattle.ix_report.specs.LineText.{entry_line};
 ghost use Rattle.ix_report.specs.ReplyText.{AreBytesOf};
-ghost use Rattle.ix_host.specs.Replies.{count_in};
+ghost use Rattle.ix_host.specs.serial.Replies.{count_in};
 
 use ix_model::{Entry, NoMemory, ProcView, Reply};
 use ix_report::entry_line;

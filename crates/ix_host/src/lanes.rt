@@ -1,7 +1,7 @@
 ghost use Rattle.std.specs.Prelude.{◌≡◌, ◌+◌, ◌<◌, ◌≤◌, IfOk, OnOk, length};
-ghost use Rattle.ix_model.specs.Naming.{same_bytes};
-ghost use Rattle.ix_script.specs.Before.{lanes_of, proc_name_told};
-ghost use Rattle.ix_host.specs.Serial.{first_names, header_of, numbered, seat_from, seat_after};
+ghost use Rattle.ix_model.specs.world.Naming.{same_bytes};
+ghost use Rattle.ix_script.specs.lines.Before.{lanes_of, proc_name_told};
+ghost use Rattle.ix_host.specs.serial.Serial.{first_names, header_of, numbered, seat_from, seat_after};
 
 use crate::lines::line_at;
 use crate::names::Names;

@@ -1,5 +1,5 @@
 //! What holds of the histories of scripts. These functions do nothing: each states a law, which is proved.
-ghost use Rattle.ix_host.specs.Laws.{SerialOne, SerialIsSerial};
+ghost use Rattle.ix_host.specs.serial.Laws.{SerialOne, SerialIsSerial};
 
 /// No script has two serial histories. A history is serial where each entry is of a lane, each lane's entries are those
 /// that its lines make when they are answered as in the run of the history, no lane asks for a further call, and along the

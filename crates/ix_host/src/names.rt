@@ -12,7 +12,7 @@ pub struct Names {
 
 impl Names {
     ghost use Rattle.std.specs.Prelude.{◌≡◌};
-    ghost use Rattle.ix_host.specs.Asked.{no_names, pid_of, fd_of};
+    ghost use Rattle.ix_host.specs.serial.Asked.{no_names, pid_of, fd_of};
 
     /// No names.
     pub fn new(alloc: Global) -> Names

@@ -15,7 +15,7 @@ impl<N> Model for Numbers<N> {
     ghost use Rattle.std.specs.Cmp.Lexicographic.{slice_cmp};
     ghost use Rattle.std.specs.FinMap as map;
     ghost use Rattle.std.specs.Coded.{coded_ℕ, coded_list};
-    ghost use Rattle.ix_host.specs.Pairs.{pairs_of};
+    ghost use Rattle.ix_host.specs.serial.Pairs.{pairs_of};
 
     ghost Value = { map.FinMap (slice_cmp nat_cmp) N };
 

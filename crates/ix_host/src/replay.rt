@@ -1,9 +1,9 @@
 ghost use Rattle.std.specs.Prelude.{◌≡◌, ◌++◌, ◌+◌, ◌-◌, ◌<◌, ◌==◌, None, Some, OnOk, IsTrue, length, slice_get, if◌then◌else◌};
 ghost use Rattle.std.specs.Option.{option_copied, option_map};
-ghost use Rattle.ix_model.specs.Calls.{event_of, is_built, op_of};
-ghost use Rattle.ix_model.specs.History.{world_of, with_entry};
-ghost use Rattle.ix_script.specs.Before.{lanes_of};
-ghost use Rattle.ix_host.specs.Report.{entry_text, lane_name};
+ghost use Rattle.ix_model.specs.history.Calls.{event_of, is_built, op_of};
+ghost use Rattle.ix_model.specs.history.History.{world_of, with_entry};
+ghost use Rattle.ix_script.specs.lines.Before.{lanes_of};
+ghost use Rattle.ix_host.specs.report.Report.{entry_text, lane_name};
 
 use crate::entry_text::{count_in, push_entry};
 use ix_core::Core;

@@ -1,5 +1,5 @@
 ghost use Rattle.std.specs.Prelude.{◌≡◌, ◌<◌, [], false, true, OnOk};
-ghost use Rattle.ix_host.specs.Telling.{IsTold, Tells, left_of, pieces_of};
+ghost use Rattle.ix_host.specs.report.Telling.{IsTold, Tells, left_of, pieces_of};
 ghost use Rattle.ix_host.specs.declared.report.Next.TheVariants as next;
 
 use crate::closing::{push_object, push_process};
@@ -39,7 +39,7 @@ const PIECE: usize = 65_536;
 
 impl Report {
     /// Whether all was told.
-    #[tactic(auto, unfolding(crate::specs::Telling::left_of, crate::specs::Telling::pieces_of))]
+    #[tactic(auto, unfolding(crate::specs::report::Telling::left_of, crate::specs::report::Telling::pieces_of))]
     pub fn is_told(&self) -> bool
         ensures told { result ≡ true → left_of self.now ≡ [] }
         ensures going { result ≡ false → 0 < pieces_of self.now }

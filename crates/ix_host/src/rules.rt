@@ -1,12 +1,12 @@
 ghost use Rattle.std.specs.Prelude.{◌≡◌, IfOk};
-ghost use Rattle.ix_host.specs.Rules.{first_rule_text, word_rule_text, last_rule_text, rule_text, refusal_line};
+ghost use Rattle.ix_host.specs.report.Rules.{first_rule_text, word_rule_text, last_rule_text, rule_text, refusal_line};
 
 use crate::text::{push, push_number};
 use ix_model::NoMemory;
 use std::alloc::Global;
 
 /// What is said to the rules on the words of a line, and those before them.
-#[tactic(auto, unfolding(crate::specs::Rules::first_rule_text))]
+#[tactic(auto, unfolding(crate::specs::report::Rules::first_rule_text))]
 fn first_rule_text(rule: u8) -> &'static [u8]
     ensures { result.now ≡ first_rule_text rule }
 {
@@ -25,7 +25,7 @@ fn first_rule_text(rule: u8) -> &'static [u8]
 }
 
 /// What is said to the rules that a word can break.
-#[tactic(auto, unfolding(crate::specs::Rules::word_rule_text))]
+#[tactic(auto, unfolding(crate::specs::report::Rules::word_rule_text))]
 fn word_rule_text(rule: u8) -> &'static [u8]
     ensures { result.now ≡ word_rule_text rule }
 {
@@ -44,7 +44,7 @@ fn word_rule_text(rule: u8) -> &'static [u8]
 }
 
 /// What is said to the rules on a line among others.
-#[tactic(auto, unfolding(crate::specs::Rules::last_rule_text))]
+#[tactic(auto, unfolding(crate::specs::report::Rules::last_rule_text))]
 fn last_rule_text(rule: u8) -> &'static [u8]
     ensures { result.now ≡ last_rule_text rule }
 {
@@ -62,7 +62,7 @@ fn last_rule_text(rule: u8) -> &'static [u8]
 }
 
 /// What is said to a script that breaks a rule.
-#[tactic(auto, unfolding(crate::specs::Rules::rule_text))]
+#[tactic(auto, unfolding(crate::specs::report::Rules::rule_text))]
 fn rule_text(rule: u8) -> &'static [u8]
     ensures { result.now ≡ rule_text rule }
 {
@@ -76,7 +76,7 @@ fn rule_text(rule: u8) -> &'static [u8]
 }
 
 /// The line of text for a script that breaks a rule at a line.
-#[tactic(auto, unfolding(crate::specs::Rules::refusal_line))]
+#[tactic(auto, unfolding(crate::specs::report::Rules::refusal_line))]
 pub fn refusal(alloc: Global, line: u32, rule: u8) -> Result<Vec<u8>, NoMemory>
     ensures { IfOk result (λ text. text.items ≡ refusal_line line rule) }
 {

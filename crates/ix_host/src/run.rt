@@ -1,11 +1,11 @@
 ghost use Rattle.std.specs.Prelude.{◌≡◌, ℕ, ◌≤◌, ◌<◌, ◌⊎◌, None, true, is_none, length, IfSome};
 ghost use Rattle.ix_io.specs.Streams.{Rose};
-ghost use Rattle.ix_host.specs.Built.{unbuilt_line};
-ghost use Rattle.ix_host.specs.Command.{command_of};
-ghost use Rattle.ix_host.specs.Outcome.{outcome_for, outcome_of, text_for};
-ghost use Rattle.ix_host.specs.Outcome as outcome;
-ghost use Rattle.ix_host.specs.Whole.{TakesFew, script_max};
-ghost use Rattle.ix_host.specs.Run.{Ends, wanted, called_for, IsAnswer, FitsCommand, ReadsOut, WritesFor, WritesLine};
+ghost use Rattle.ix_host.specs.serial.Built.{unbuilt_line};
+ghost use Rattle.ix_host.specs.command.Command.{command_of};
+ghost use Rattle.ix_host.specs.run.Outcome.{outcome_for, outcome_of, text_for};
+ghost use Rattle.ix_host.specs.run.Outcome as outcome;
+ghost use Rattle.ix_host.specs.run.Whole.{TakesFew, script_max};
+ghost use Rattle.ix_host.specs.run.Run.{Ends, wanted, called_for, IsAnswer, FitsCommand, ReadsOut, WritesFor, WritesLine};
 
 use crate::built::unbuilt_line;
 use crate::command::Command;
@@ -21,7 +21,7 @@ use std::marker::Brand;
 use std::sync::ledger::Blank;
 
 /// Does what a command asks with a script all of whose forms are built under it.
-#[tactic(auto, unfolding(crate::specs::Outcome::text_for))]
+#[tactic(auto, unfolding(crate::specs::run::Outcome::text_for))]
 fn carry_out<K: Sink>(alloc: Global, sink: &mut K, command: Command, script: Script) -> Status
     requires { unbuilt_line command script ≡ None }
     ensures { Ends (outcome.Whole (text_for command script)) result (K.taken sink.old) (K.taken sink.new) (K.finished sink.new)

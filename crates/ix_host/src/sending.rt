@@ -1,11 +1,11 @@
 ghost use Rattle.std.specs.Prelude.{◌≡◌, ◌<◌, None, IfOk};
-ghost use Rattle.ix_script.specs.Canonical.{canonical};
-ghost use Rattle.ix_host.specs.Built.{unbuilt_line};
-ghost use Rattle.ix_host.specs.Outcome as outcome;
-ghost use Rattle.ix_host.specs.Report.{report_of};
-ghost use Rattle.ix_host.specs.Run.{Ends};
-ghost use Rattle.ix_host.specs.Serial.{serial};
-ghost use Rattle.ix_host.specs.Telling.{IsTold, left_of};
+ghost use Rattle.ix_script.specs.scripts.Canonical.{canonical};
+ghost use Rattle.ix_host.specs.serial.Built.{unbuilt_line};
+ghost use Rattle.ix_host.specs.run.Outcome as outcome;
+ghost use Rattle.ix_host.specs.report.Report.{report_of};
+ghost use Rattle.ix_host.specs.run.Run.{Ends};
+ghost use Rattle.ix_host.specs.serial.Serial.{serial};
+ghost use Rattle.ix_host.specs.report.Telling.{IsTold, left_of};
 ghost use Rattle.ix_host.specs.declared.command.Command.TheVariants as command;
 
 use crate::report::{Next, Report};

@@ -1,12 +1,12 @@
 ghost use Rattle.std.specs.Prelude.{◌≡◌, ◌<◌, ◌≤◌, List, [], None, false, IfSome, OnOk, length};
 ghost use Rattle.ix_script.specs.declared.line.Line.{Line};
-ghost use Rattle.ix_script.specs.Scripts.{config_of};
-ghost use Rattle.ix_host.specs.Asked.{asked};
-ghost use Rattle.ix_host.specs.Built.{is_unbuilt_run, unbuilt_line};
-ghost use Rattle.ix_host.specs.Serial.{entry_at, serial};
-ghost use Rattle.ix_host.specs.Running.{RunsLine, RunsCommand};
+ghost use Rattle.ix_script.specs.scripts.Scripts.{config_of};
+ghost use Rattle.ix_host.specs.serial.Asked.{asked};
+ghost use Rattle.ix_host.specs.serial.Built.{is_unbuilt_run, unbuilt_line};
+ghost use Rattle.ix_host.specs.serial.Serial.{entry_at, serial};
+ghost use Rattle.ix_host.specs.serial.Running.{RunsLine, RunsCommand};
 ghost use Rattle.std.specs.Option.{option_map};
-ghost use Rattle.ix_host.specs.Serial.{entry_of, header_of};
+ghost use Rattle.ix_host.specs.serial.Serial.{entry_of, header_of};
 ghost use Rattle.ix_host.specs.declared.command.Command.TheVariants as command;
 
 use crate::calls::{bind, entry_asked};

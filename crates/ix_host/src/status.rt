@@ -17,7 +17,7 @@ pub enum Status {
 
 impl Status {
     ghost use Rattle.std.specs.Prelude.{◌≡◌};
-    ghost use Rattle.ix_host.specs.Run.{code_of};
+    ghost use Rattle.ix_host.specs.run.Run.{code_of};
 
     /// The number that a program ends with.
     pub fn code(&self) -> u8

@@ -1,6 +1,6 @@
 ghost use Rattle.std.specs.Prelude.{◌≡◌, ℕ, ◌+◌, ◌≤◌, ◌<◌, List, length, IfSome, OnOk, true, vec_len};
 ghost use Rattle.ix_io.specs.Streams.{HasCause, Rose};
-ghost use Rattle.ix_host.specs.Whole.{script_max, Gathers, GoesOn, IsFront, IsShort, TakesFew, Writes};
+ghost use Rattle.ix_host.specs.run.Whole.{script_max, Gathers, GoesOn, IsFront, IsShort, TakesFew, Writes};
 
 use ix_io::{Failed, Sink, Source};
 use std::alloc::Global;

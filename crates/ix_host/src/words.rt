@@ -1,6 +1,6 @@
 ghost use Rattle.std.specs.Prelude.{◌≡◌, ◌++◌, ◌∷◌, [], OnOk, OnErr, IfOk, slice_get};
 ghost use Rattle.std.specs.Option.{option_copied};
-ghost use Rattle.ix_host.specs.Command.{command_of};
+ghost use Rattle.ix_host.specs.command.Command.{command_of};
 
 use crate::command::Command;
 use crate::command_line::read_command;

@@ -2,19 +2,19 @@
 use Rattle.std.proofs.Common.{◌≡◌, ℕ, Bool, true, false, true≢false, List, Option, Some, None, is_some, refl, sym, ap, ◌∙◌, subst, inl, inr}
 use Rattle.ix_label.specs.Category.{Categories, bottom, join, leq}
 use Rattle.ix_label.specs.Lattice.{leq-refl, leq-trans, leq-join_left}
-use Rattle.ix_model.specs.World.{Frame, Open, at, put, change}
-use Rattle.ix_model.specs.Rows.{change_object, change_process, change_open, put_object, put_open, put_process, add_process}
-use Rattle.ix_model.specs.Auditing.{logged}
-use Rattle.ix_model.specs.OnProcesses.{end_process}
-use Rattle.ix_model.specs.OnDescriptors.{Told}
-use Rattle.ix_model.specs.Table.{row, verdict}
-use Rattle.ix_model.specs.Events.{Op}
-use Rattle.ix_model.specs.Events as op
-use Rattle.ix_model.proofs.Finds.{at_put, at_change}
-use Rattle.ix_model.proofs.Keeps.{Holds, Keeps}
-use Rattle.ix_model.proofs.Lasts.{Lasting, lasting_itself, lasting_put, decided}
-use Rattle.ix_model.proofs.Rowwise.{Change, Moving, Opening, LettingGo, Moves, moved_row}
-use Rattle.ix_model.proofs.Turns.{holds_more}
+use Rattle.ix_model.specs.world.World.{Frame, Open, at, put, change}
+use Rattle.ix_model.specs.rows.Rows.{change_object, change_process, change_open, put_object, put_open, put_process, add_process}
+use Rattle.ix_model.specs.rows.Auditing.{logged}
+use Rattle.ix_model.specs.rows.OnProcesses.{end_process}
+use Rattle.ix_model.specs.rows.OnDescriptors.{Told}
+use Rattle.ix_model.specs.rows.Table.{row, verdict}
+use Rattle.ix_model.specs.history.Events.{Op}
+use Rattle.ix_model.specs.history.Events as op
+use Rattle.ix_model.proofs.tables.Finds.{at_put, at_change}
+use Rattle.ix_model.proofs.words.Keeps.{Holds, Keeps}
+use Rattle.ix_model.proofs.words.Lasts.{Lasting, lasting_itself, lasting_put, decided}
+use Rattle.ix_model.proofs.words.Rowwise.{Change, Moving, Opening, LettingGo, Moves, moved_row}
+use Rattle.ix_model.proofs.words.Turns.{holds_more}
 
 -- ---- what is asked of the open entries alone
 module _ (can : Change → Bool) (pid : ℕ) (S : List (Option Open) → Type 0) where

@@ -4,21 +4,21 @@ use Rattle.std.proofs.lemmas.Bool.{and_parts, not-false}
 use Rattle.std.proofs.lemmas.List.Quantifiers.{position-Some}
 use Rattle.ix_label.specs.Category.{Categories, join, leq}
 use Rattle.ix_label.specs.Lattice.{same-decides, leq-trans, leq-join_left, leq-join_right}
-use Rattle.ix_model.specs.Naming.{PathOf}
-use Rattle.ix_model.specs.World.{Frame, Object, Process, Open, at, put, change, living, is_pipe, is_ended}
-use Rattle.ix_model.specs.Rows.{change_process, observe, affect}
-use Rattle.ix_model.specs.Walks.{Behind, behind, walked_to, object_at}
-use Rattle.ix_model.specs.OnDescriptors.{Told, float_entry, read_fd, write_fd}
-use Rattle.ix_model.specs.OnPaths.{stat_at, stat_passed}
-use Rattle.ix_model.specs.OnProcesses.{is_child, wait_child, wait_passed}
+use Rattle.ix_model.specs.world.Naming.{PathOf}
+use Rattle.ix_model.specs.world.World.{Frame, Object, Process, Open, at, put, change, living, is_pipe, is_ended}
+use Rattle.ix_model.specs.rows.Rows.{change_process, observe, affect}
+use Rattle.ix_model.specs.rows.Walks.{Behind, behind, walked_to, object_at}
+use Rattle.ix_model.specs.rows.OnDescriptors.{Told, float_entry, read_fd, write_fd}
+use Rattle.ix_model.specs.rows.OnPaths.{stat_at, stat_passed}
+use Rattle.ix_model.specs.rows.OnProcesses.{is_child, wait_child, wait_passed}
 use Rattle.ix_model.specs.declared.reply.Reply.{Reply}
-use Rattle.ix_model.proofs.Tables.{at_changed}
-use Rattle.ix_model.proofs.Finds.{at_put, at_change}
-use Rattle.ix_model.proofs.Living.{is_living, not_ended, lives_as}
-use Rattle.ix_model.proofs.Keeps.{Holds, Keeps, keeping}
-use Rattle.ix_model.proofs.Ends.{Ends, Anything, ends_kept, ends_bind, ends_then, ends_pass, ends_frame, ends_need, ends_some, ends_only_if, ends_caller, ends_object, ends_opened, ends_change_object, ends_change_caller, ends_change_open}
-use Rattle.ix_model.proofs.Endings.{ends_put_process, ends_record_of}
-use Rattle.ix_model.proofs.Standing.{behind_is}
+use Rattle.ix_model.proofs.tables.Tables.{at_changed}
+use Rattle.ix_model.proofs.tables.Finds.{at_put, at_change}
+use Rattle.ix_model.proofs.words.Living.{is_living, not_ended, lives_as}
+use Rattle.ix_model.proofs.words.Keeps.{Holds, Keeps, keeping}
+use Rattle.ix_model.proofs.words.Ends.{Ends, Anything, ends_kept, ends_bind, ends_then, ends_pass, ends_frame, ends_need, ends_some, ends_only_if, ends_caller, ends_object, ends_opened, ends_change_object, ends_change_caller, ends_change_open}
+use Rattle.ix_model.proofs.words.Endings.{ends_put_process, ends_record_of}
+use Rattle.ix_model.proofs.words.Standing.{behind_is}
 
 -- ---- looking
 still_lives : (f : Frame) (pid : ℕ) (h : Process → Process) (p : Process) → (h p).ended ≡ p.ended → living (at f.processes pid) ≡ Some p → living (at (change f.processes pid h) pid) ≡ Some (h p)

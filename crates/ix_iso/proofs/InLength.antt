@@ -2,21 +2,21 @@
 use Rattle.std.proofs.Common.{◌≡◌, ℕ, zero, suc, Bool, true, false, not, ◌&&◌, List, [], ◌∷◌, length, take, Option, Some, None, if◌then◌else◌, refl, sym, ap, ◌∙◌, subst, inl, inr}
 use Rattle.std.proofs.lemmas.List.{length-map}
 use Rattle.ix_label.specs.Category.{Categories}
-use Rattle.ix_model.specs.World.{World, Frame, Content}
-use Rattle.ix_model.specs.Walks.{Behind, behind}
-use Rattle.ix_model.specs.Contents.{carried, readable, after_read, after_write, after_cut, after_seek, after_exit, emptied}
-use Rattle.ix_model.specs.Table.{Decision, verdict}
-use Rattle.ix_model.specs.Telling.{told, told_of_read, told_of_write, told_of_cut}
-use Rattle.ix_model.specs.Step.{Given, plainly, read_answer, write_answer, cut_answer, seek_answer, stat_answer, exit_answer, wait_answer, pex_answer, is_whole, answer, step, step_of, run}
-use Rattle.ix_model.specs.TwoRuns.{shape, Alike, Agree, AgreeAt, Replaced, is_one_kind}
-use Rattle.ix_model.specs.TwoRuns as two
-use Rattle.ix_model.specs.EqualLengths.{zeros, zeroed, outline, AlikeInLength, AgreeInLength, AgreeInLengthAt, ReplacedInLength, Same, Other, Written, Exited}
-use Rattle.ix_model.specs.Events.{Op, Event}
-use Rattle.ix_model.specs.Events as op
+use Rattle.ix_model.specs.world.World.{World, Frame, Content}
+use Rattle.ix_model.specs.rows.Walks.{Behind, behind}
+use Rattle.ix_model.specs.world.Contents.{carried, readable, after_read, after_write, after_cut, after_seek, after_exit, emptied}
+use Rattle.ix_model.specs.rows.Table.{Decision, verdict}
+use Rattle.ix_model.specs.rows.Telling.{told, told_of_read, told_of_write, told_of_cut}
+use Rattle.ix_model.specs.history.Step.{Given, plainly, read_answer, write_answer, cut_answer, seek_answer, stat_answer, exit_answer, wait_answer, pex_answer, is_whole, answer, step, step_of, run}
+use Rattle.ix_model.specs.two_runs.TwoRuns.{shape, Alike, Agree, AgreeAt, Replaced, is_one_kind}
+use Rattle.ix_model.specs.two_runs.TwoRuns as two
+use Rattle.ix_model.specs.two_runs.EqualLengths.{zeros, zeroed, outline, AlikeInLength, AgreeInLength, AgreeInLengthAt, ReplacedInLength, Same, Other, Written, Exited}
+use Rattle.ix_model.specs.history.Events.{Op, Event}
+use Rattle.ix_model.specs.history.Events as op
 use Rattle.ix_model.specs.declared.reply.Kind.TheVariants as kind
 use Rattle.ix_model.specs.declared.reply.Reply.{Reply}
 use Rattle.ix_model.specs.declared.reply.Reply.TheVariants as reply
-use Rattle.ix_model.proofs.Answered.{step_frame}
+use Rattle.ix_model.proofs.words.Answered.{step_frame}
 use Rattle.ix_iso.specs.Laws.{AreLikeInLength, OneOutline, IsolatedInLength}
 use Rattle.ix_iso.proofs.OneKind.{kind_number, equal_kinds}
 use Rattle.ix_iso.proofs.Counts.{SameCounts, shape_from, told_answer}

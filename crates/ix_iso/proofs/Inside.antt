@@ -3,13 +3,13 @@ use Rattle.std.proofs.Common.{◌≡◌, ◌+◌, ℕ, zero, suc, Bool, true, fa
 use Rattle.std.proofs.lemmas.Bool.{and_parts}
 use Rattle.ix_label.specs.Category.{Categories, leq}
 use Rattle.ix_label.specs.Lattice.{leq-trans}
-use Rattle.ix_model.specs.World.{Frame, Content, Holding, Object, Process, Open, at, is_ended}
-use Rattle.ix_model.specs.Contents.{keep, grown, carried, holding_of, offset_of, status_of, holds_nothing}
-use Rattle.ix_model.specs.Lowering.{Crosses}
-use Rattle.ix_model.specs.Lowering as low
-use Rattle.ix_model.specs.TwoRuns.{AlikeIn}
-use Rattle.ix_model.proofs.Carried.{there_is}
-use Rattle.ix_model.proofs.Carrying.{get_or-keep}
+use Rattle.ix_model.specs.world.World.{Frame, Content, Holding, Object, Process, Open, at, is_ended}
+use Rattle.ix_model.specs.world.Contents.{keep, grown, carried, holding_of, offset_of, status_of, holds_nothing}
+use Rattle.ix_model.specs.history.Lowering.{Crosses}
+use Rattle.ix_model.specs.history.Lowering as low
+use Rattle.ix_model.specs.two_runs.TwoRuns.{AlikeIn}
+use Rattle.ix_model.proofs.sound.Carried.{there_is}
+use Rattle.ix_model.proofs.clean.Carrying.{get_or-keep}
 use Rattle.ix_iso.proofs.Counts.{SameCounts}
 use Rattle.ix_iso.proofs.Entries.{EntriesRise}
 

@@ -4,39 +4,39 @@ use Rattle.std.specs.Option.{option_map_or}
 use Rattle.std.proofs.lemmas.Bool.{not-false}
 use Rattle.std.proofs.lemmas.List.{append_cancel_left}
 use Rattle.ix_label.specs.Category.{Categories, leq, same}
-use Rattle.ix_model.specs.Naming.{PathOf}
-use Rattle.ix_model.specs.Privs.{to_lower}
-use Rattle.ix_model.specs.World.{World, Frame, Object, Process, at, change, living}
-use Rattle.ix_model.specs.Rows.{◌>>◌, pass, need, only_if, change_process}
-use Rattle.ix_model.specs.Walks.{object_at}
-use Rattle.ix_model.specs.Auditing.{logged, audit_line}
-use Rattle.ix_model.specs.AuditLog.{audit_log, lines_added, is_licensed, line_of_act}
-use Rattle.ix_model.specs.OnLabels.{set_label, set_self}
-use Rattle.ix_model.specs.OnDescriptors.{Told}
-use Rattle.ix_model.specs.Table.{row}
-use Rattle.ix_model.specs.Telling.{told}
-use Rattle.ix_model.specs.Step.{step, step_of}
-use Rattle.ix_model.specs.Lowering.{Lowered}
-use Rattle.ix_model.specs.Lowering as low
-use Rattle.ix_model.specs.Events.{Op, Event}
-use Rattle.ix_model.specs.Events as op
+use Rattle.ix_model.specs.world.Naming.{PathOf}
+use Rattle.ix_model.specs.world.Privs.{to_lower}
+use Rattle.ix_model.specs.world.World.{World, Frame, Object, Process, at, change, living}
+use Rattle.ix_model.specs.rows.Rows.{◌>>◌, pass, need, only_if, change_process}
+use Rattle.ix_model.specs.rows.Walks.{object_at}
+use Rattle.ix_model.specs.rows.Auditing.{logged, audit_line}
+use Rattle.ix_model.specs.history.AuditLog.{audit_log, lines_added, is_licensed, line_of_act}
+use Rattle.ix_model.specs.rows.OnLabels.{set_label, set_self}
+use Rattle.ix_model.specs.rows.OnDescriptors.{Told}
+use Rattle.ix_model.specs.rows.Table.{row}
+use Rattle.ix_model.specs.rows.Telling.{told}
+use Rattle.ix_model.specs.history.Step.{step, step_of}
+use Rattle.ix_model.specs.history.Lowering.{Lowered}
+use Rattle.ix_model.specs.history.Lowering as low
+use Rattle.ix_model.specs.history.Events.{Op, Event}
+use Rattle.ix_model.specs.history.Events as op
 use Rattle.ix_model.specs.declared.audit.Act.TheVariants as act
 use Rattle.ix_model.specs.declared.audit.AuditLine.{AuditLine}
 use Rattle.ix_model.specs.declared.refusal.Refusal.{Refusal}
 use Rattle.ix_model.specs.declared.refusal.Refusal.TheVariants as refusal
 use Rattle.ix_model.specs.declared.reply.Reply.{Reply}
 use Rattle.ix_model.specs.declared.reply.Reply.TheVariants as reply
-use Rattle.ix_model.proofs.Finds.{at_change}
-use Rattle.ix_model.proofs.Living.{is_living}
-use Rattle.ix_model.proofs.Keeps.{Holds}
-use Rattle.ix_model.proofs.Ends.{Ends, ends_kept, kept_ends, ends_bind, ends_then, ends_pass, ends_need, ends_only_if, ends_caller, ends_object, ends_change_object, ends_change_caller}
-use Rattle.ix_model.proofs.RowEnds.{ends_exercise, ends_allowed, ends_movable, ends_logged}
-use Rattle.ix_model.proofs.Lasts.{decided}
-use Rattle.ix_model.proofs.Logging.{holds_both}
-use Rattle.ix_model.proofs.Logs.{logged_run}
-use Rattle.ix_model.proofs.Rowwise.{moved_found}
-use Rattle.ix_model.proofs.Turns.{holds_more}
-use Rattle.ix_model.proofs.Answered.{step_frame}
+use Rattle.ix_model.proofs.tables.Finds.{at_change}
+use Rattle.ix_model.proofs.words.Living.{is_living}
+use Rattle.ix_model.proofs.words.Keeps.{Holds}
+use Rattle.ix_model.proofs.words.Ends.{Ends, ends_kept, kept_ends, ends_bind, ends_then, ends_pass, ends_need, ends_only_if, ends_caller, ends_object, ends_change_object, ends_change_caller}
+use Rattle.ix_model.proofs.words.RowEnds.{ends_exercise, ends_allowed, ends_movable, ends_logged}
+use Rattle.ix_model.proofs.words.Lasts.{decided}
+use Rattle.ix_model.proofs.sound.Logging.{holds_both}
+use Rattle.ix_model.proofs.told.Logs.{logged_run}
+use Rattle.ix_model.proofs.words.Rowwise.{moved_found}
+use Rattle.ix_model.proofs.words.Turns.{holds_more}
+use Rattle.ix_model.proofs.words.Answered.{step_frame}
 use Rattle.ix_iso.specs.Laws.{line_of_lowering, IsLogged}
 use Rattle.ix_iso.proofs.Facts.{Looking, looking_found}
 use Rattle.ix_iso.proofs.Rising.{Risen, risen_itself, rising, no_lowering, risen_row}

@@ -2,8 +2,8 @@
 use Rattle.std.proofs.Common.{◌≡◌, ◌+◌, ℕ, true, true≢false, [], ◌∷◌, refl, sym, ap, ◌∙◌, arith, slice_index_or}
 use Rattle.std.proofs.lemmas.Bool.{eqb-true}
 use Rattle.std.specs.Cmp.{unsigned_Decides}
-use Rattle.ix_model.specs.Refusals.{number_of}
-use Rattle.ix_model.specs.TwoRuns.{is_one_kind}
+use Rattle.ix_model.specs.rows.Refusals.{number_of}
+use Rattle.ix_model.specs.two_runs.TwoRuns.{is_one_kind}
 use Rattle.ix_model.specs.declared.refusal.Refusal.{Refusal}
 use Rattle.ix_model.specs.declared.refusal.Refusal.TheVariants as refusal
 use Rattle.ix_model.specs.declared.reply.Reply.{Reply}

@@ -3,17 +3,17 @@ use Rattle.std.proofs.Common.{◌≡◌, ℕ, true, List, [], ◌∷◌, ◌++�
 use Rattle.std.specs.Option.{option_map_or}
 use Rattle.std.proofs.lemmas.List.{map-set}
 use Rattle.ix_label.specs.Category.{Categories, leq}
-use Rattle.ix_model.specs.Naming.{last_name}
-use Rattle.ix_model.specs.World.{World, Frame, Holding, Object, at, put, change}
-use Rattle.ix_model.specs.Numbers.{free_inode}
-use Rattle.ix_model.specs.Walks.{node}
-use Rattle.ix_model.specs.Contents.{holding_of, holds_nothing}
-use Rattle.ix_model.specs.Opening.{directory_of, object_of, placed, with_object, with_objects, bare_objects, bare_world, opening_world}
-use Rattle.ix_model.specs.TwoRuns.{AlikeIn}
-use Rattle.ix_model.specs.EqualLengths.{zeroed}
+use Rattle.ix_model.specs.world.Naming.{last_name}
+use Rattle.ix_model.specs.world.World.{World, Frame, Holding, Object, at, put, change}
+use Rattle.ix_model.specs.world.Numbers.{free_inode}
+use Rattle.ix_model.specs.rows.Walks.{node}
+use Rattle.ix_model.specs.world.Contents.{holding_of, holds_nothing}
+use Rattle.ix_model.specs.opening.Opening.{directory_of, object_of, placed, with_object, with_objects, bare_objects, bare_world, opening_world}
+use Rattle.ix_model.specs.two_runs.TwoRuns.{AlikeIn}
+use Rattle.ix_model.specs.two_runs.EqualLengths.{zeroed}
 use Rattle.ix_model.specs.declared.config.Config.{Config}
 use Rattle.ix_model.specs.declared.config.ObjSpec.{ObjSpec}
-use Rattle.ix_model.proofs.Finds.{at_put, at_change}
+use Rattle.ix_model.proofs.tables.Finds.{at_put, at_change}
 use Rattle.ix_iso.specs.Configs.{SameLine, SameLines, DifferAbove, SameLengths, OpenAlike}
 use Rattle.ix_iso.proofs.Counts.{shape_from}
 use Rattle.ix_iso.proofs.Inside.{set_alike}

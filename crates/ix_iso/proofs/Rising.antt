@@ -3,20 +3,20 @@ use Rattle.std.proofs.Common.{◌≡◌, ◌≤◌, ◌<◌, ℕ, Bool, true, fa
 use Rattle.std.specs.Option.{option_and_then}
 use Rattle.ix_label.specs.Category.{Categories, leq}
 use Rattle.ix_label.specs.Lattice.{leq-refl, leq-trans}
-use Rattle.ix_model.specs.World.{Frame, Object, Process, at, put, change}
-use Rattle.ix_model.specs.Rows.{change_object, change_process, change_open, put_object, put_open, put_process, add_process}
-use Rattle.ix_model.specs.Auditing.{logged}
-use Rattle.ix_model.specs.OnProcesses.{remains, end_process}
-use Rattle.ix_model.specs.OnDescriptors.{Told}
-use Rattle.ix_model.specs.Table.{row}
-use Rattle.ix_model.specs.Events.{Op}
-use Rattle.ix_model.specs.Events as op
-use Rattle.ix_model.proofs.Finds.{at_put, at_change, at_push, in_table}
-use Rattle.ix_model.proofs.FreeNumbers.{free_inode_is, free_pipe_is}
-use Rattle.ix_model.proofs.Keeps.{Holds, Keeps}
-use Rattle.ix_model.proofs.Lasts.{Lasting, lasting_itself, lasting_change, lasting_put}
-use Rattle.ix_model.proofs.Rowwise.{Change, Lowering, Making, LettingGo, Moves, moved_row}
-use Rattle.ix_model.proofs.Turns.{holds_more}
+use Rattle.ix_model.specs.world.World.{Frame, Object, Process, at, put, change}
+use Rattle.ix_model.specs.rows.Rows.{change_object, change_process, change_open, put_object, put_open, put_process, add_process}
+use Rattle.ix_model.specs.rows.Auditing.{logged}
+use Rattle.ix_model.specs.rows.OnProcesses.{remains, end_process}
+use Rattle.ix_model.specs.rows.OnDescriptors.{Told}
+use Rattle.ix_model.specs.rows.Table.{row}
+use Rattle.ix_model.specs.history.Events.{Op}
+use Rattle.ix_model.specs.history.Events as op
+use Rattle.ix_model.proofs.tables.Finds.{at_put, at_change, at_push, in_table}
+use Rattle.ix_model.proofs.tables.FreeNumbers.{free_inode_is, free_pipe_is}
+use Rattle.ix_model.proofs.words.Keeps.{Holds, Keeps}
+use Rattle.ix_model.proofs.words.Lasts.{Lasting, lasting_itself, lasting_change, lasting_put}
+use Rattle.ix_model.proofs.words.Rowwise.{Change, Lowering, Making, LettingGo, Moves, moved_row}
+use Rattle.ix_model.proofs.words.Turns.{holds_more}
 
 -- ---- tables
 -- of what stands in both tables no label is below what it was

@@ -3,24 +3,24 @@ use Rattle.std.proofs.Common.{◌≡◌, ◌⊎◌, ◌+◌, ◌-◌, ℕ, Bool,
 use Rattle.std.specs.Option.{option_map_or}
 use Rattle.ix_label.specs.Category.{Categories, leq}
 use Rattle.ix_label.specs.Lattice.{leq-trans}
-use Rattle.ix_model.specs.World.{World, Frame, Content, Holding, Object, Process, Open, at, living, is_pipe, is_ended}
-use Rattle.ix_model.specs.Walks.{Behind, behind}
-use Rattle.ix_model.specs.Contents.{carried, holding_of, offset_of, status_of, side, with_side, on_pipe, readable, change_side, after_read, after_write, spliced, after_cut, cut_to, after_seek, after_exit, emptied, holds_nothing}
-use Rattle.ix_model.specs.OnDescriptors.{Told}
-use Rattle.ix_model.specs.Table.{Decision, row, verdict}
-use Rattle.ix_model.specs.Telling.{told}
-use Rattle.ix_model.specs.AuditLog.{is_answer}
-use Rattle.ix_model.specs.Step.{Given, plainly, read_answer, write_answer, cut_answer, seek_answer, stat_answer, exit_answer, wait_answer, pex_answer, is_whole, answer, step, step_of}
-use Rattle.ix_model.specs.Lowering.{Crosses}
-use Rattle.ix_model.specs.TwoRuns.{AlikeIn, Alike, IsLow, IsHigh, AgreeAt, Same, Other, Replaced, Written, Exited, is_one_kind}
-use Rattle.ix_model.specs.Events.{Op, Event}
-use Rattle.ix_model.specs.Events as op
+use Rattle.ix_model.specs.world.World.{World, Frame, Content, Holding, Object, Process, Open, at, living, is_pipe, is_ended}
+use Rattle.ix_model.specs.rows.Walks.{Behind, behind}
+use Rattle.ix_model.specs.world.Contents.{carried, holding_of, offset_of, status_of, side, with_side, on_pipe, readable, change_side, after_read, after_write, spliced, after_cut, cut_to, after_seek, after_exit, emptied, holds_nothing}
+use Rattle.ix_model.specs.rows.OnDescriptors.{Told}
+use Rattle.ix_model.specs.rows.Table.{Decision, row, verdict}
+use Rattle.ix_model.specs.rows.Telling.{told}
+use Rattle.ix_model.specs.history.AuditLog.{is_answer}
+use Rattle.ix_model.specs.history.Step.{Given, plainly, read_answer, write_answer, cut_answer, seek_answer, stat_answer, exit_answer, wait_answer, pex_answer, is_whole, answer, step, step_of}
+use Rattle.ix_model.specs.history.Lowering.{Crosses}
+use Rattle.ix_model.specs.two_runs.TwoRuns.{AlikeIn, Alike, IsLow, IsHigh, AgreeAt, Same, Other, Replaced, Written, Exited, is_one_kind}
+use Rattle.ix_model.specs.history.Events.{Op, Event}
+use Rattle.ix_model.specs.history.Events as op
 use Rattle.ix_model.specs.declared.reply.Kind.TheVariants as kind
 use Rattle.ix_model.specs.declared.reply.Reply.{Reply}
 use Rattle.ix_model.specs.declared.reply.Reply.TheVariants as reply
-use Rattle.ix_model.proofs.Answered.{passed}
-use Rattle.ix_model.proofs.Living.{is_living}
-use Rattle.ix_model.proofs.Standing.{behind_is}
+use Rattle.ix_model.proofs.words.Answered.{passed}
+use Rattle.ix_model.proofs.words.Living.{is_living}
+use Rattle.ix_model.proofs.words.Standing.{behind_is}
 use Rattle.ix_iso.specs.Laws.{AlikeAfter}
 use Rattle.ix_iso.proofs.Counts.{SameCounts, counts_carried, shape_counts, shape_frames}
 use Rattle.ix_iso.proofs.Shapes.{twins_itself, twins_replaced, Twins, one_decision, shape_twins}

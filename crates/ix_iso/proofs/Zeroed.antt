@@ -2,11 +2,11 @@
 use Rattle.std.proofs.Common.{◌≡◌, ◌+◌, ◌-◌, ◌==◌, nat_le, nat_lt, ℕ, zero, suc, Bool, true, false, not, ◌&&◌, ◌||◌, List, [], ◌∷◌, ◌++◌, length, map, take, drop, replicate, Option, Some, None, is_some, if◌then◌else◌, refl, sym, ap, ◌∙◌, arith, set}
 use Rattle.std.proofs.Math.ListN.{get_or-map}
 use Rattle.std.proofs.lemmas.List.{length-map, map-append, map-set}
-use Rattle.ix_model.specs.World.{Frame, Content, Holding, at, is_ended}
-use Rattle.ix_model.specs.Walks.{Behind}
-use Rattle.ix_model.specs.Contents.{keep, grown, carried, holding_of, offset_of, side, with_side, on_pipe, readable, change_side, after_read, after_write, spliced, after_cut, cut_to, after_seek, after_exit, emptied, holds_nothing}
-use Rattle.ix_model.specs.Telling.{blocks_for, blocks_where, blocks_on, blocks_beside, lies_on, fs_of_object, length_then, nothing_told, told_of_read, told_of_pipe_write, told_of_file_write, told_of_write, told_of_cut}
-use Rattle.ix_model.specs.EqualLengths.{zeros, zeroed}
+use Rattle.ix_model.specs.world.World.{Frame, Content, Holding, at, is_ended}
+use Rattle.ix_model.specs.rows.Walks.{Behind}
+use Rattle.ix_model.specs.world.Contents.{keep, grown, carried, holding_of, offset_of, side, with_side, on_pipe, readable, change_side, after_read, after_write, spliced, after_cut, cut_to, after_seek, after_exit, emptied, holds_nothing}
+use Rattle.ix_model.specs.rows.Telling.{blocks_for, blocks_where, blocks_on, blocks_beside, lies_on, fs_of_object, length_then, nothing_told, told_of_read, told_of_pipe_write, told_of_file_write, told_of_write, told_of_cut}
+use Rattle.ix_model.specs.two_runs.EqualLengths.{zeros, zeroed}
 
 abbrev pub zero_content : Content → Content
 zero_content c = record c { holdings = map zeroed c.holdings; statuses = zeros c.statuses }

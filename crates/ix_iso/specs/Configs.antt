@@ -1,9 +1,9 @@
 -- Two configs that differ in what high files hold.
 use Rattle.std.specs.Prelude.{◌≡◌, List, [], ◌∷◌, true, length}
 use Rattle.ix_label.specs.Category.{Categories, leq}
-use Rattle.ix_model.specs.Opening.{opening_world}
-use Rattle.ix_model.specs.TwoRuns.{Alike}
-use Rattle.ix_model.specs.EqualLengths.{AlikeInLength}
+use Rattle.ix_model.specs.opening.Opening.{opening_world}
+use Rattle.ix_model.specs.two_runs.TwoRuns.{Alike}
+use Rattle.ix_model.specs.two_runs.EqualLengths.{AlikeInLength}
 use Rattle.ix_model.specs.declared.config.Config.{Config}
 use Rattle.ix_model.specs.declared.config.ObjSpec.{ObjSpec}
 

@@ -1,17 +1,17 @@
 -- The laws of isolation: what two runs that agree at a label have in common.
 use Rattle.std.specs.Prelude.{◌≡◌, ◌⊎◌, ℕ, ◌+◌, suc, Bool, true, false, List, [], ◌∷◌, ◌++◌, take, Some, None, is_some, slice_get}
 use Rattle.ix_label.specs.Category.{Categories, bottom}
-use Rattle.ix_model.specs.World.{World, Frame, Open, at, is_ended}
-use Rattle.ix_model.specs.Contents.{holding_of, offset_of, status_of, holds_nothing}
-use Rattle.ix_model.specs.Step.{Given, step, step_of, run}
-use Rattle.ix_model.specs.Auditing.{audit_line}
-use Rattle.ix_model.specs.AuditLog.{is_licensed, lines_added}
-use Rattle.ix_model.specs.Lowering.{Crosses, Lowered}
-use Rattle.ix_model.specs.Lowering as low
-use Rattle.ix_model.specs.TwoRuns.{shape, Alike, IsLow, Low, AgreeAt, Agree, is_one_kind}
-use Rattle.ix_model.specs.EqualLengths.{outline, AlikeInLength, AgreeInLength, ReplacedInLength}
-use Rattle.ix_model.specs.Events.{Op, Event}
-use Rattle.ix_model.specs.Events as op
+use Rattle.ix_model.specs.world.World.{World, Frame, Open, at, is_ended}
+use Rattle.ix_model.specs.world.Contents.{holding_of, offset_of, status_of, holds_nothing}
+use Rattle.ix_model.specs.history.Step.{Given, step, step_of, run}
+use Rattle.ix_model.specs.rows.Auditing.{audit_line}
+use Rattle.ix_model.specs.history.AuditLog.{is_licensed, lines_added}
+use Rattle.ix_model.specs.history.Lowering.{Crosses, Lowered}
+use Rattle.ix_model.specs.history.Lowering as low
+use Rattle.ix_model.specs.two_runs.TwoRuns.{shape, Alike, IsLow, Low, AgreeAt, Agree, is_one_kind}
+use Rattle.ix_model.specs.two_runs.EqualLengths.{outline, AlikeInLength, AgreeInLength, ReplacedInLength}
+use Rattle.ix_model.specs.history.Events.{Op, Event}
+use Rattle.ix_model.specs.history.Events as op
 use Rattle.ix_model.specs.declared.audit.Act.TheVariants as act
 use Rattle.ix_model.specs.declared.audit.AuditLine.{AuditLine}
 use Rattle.ix_model.specs.declared.reply.Reply.{Reply}

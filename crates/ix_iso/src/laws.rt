@@ -1,8 +1,8 @@
 //! The laws of isolation. These functions do nothing: each states a law, which is proved.
 ghost use Rattle.std.specs.Prelude.{ℕ, List};
 ghost use Rattle.ix_label.specs.Category.{Categories};
-ghost use Rattle.ix_model.specs.Naming.{PathOf};
-ghost use Rattle.ix_model.specs.Events as op;
+ghost use Rattle.ix_model.specs.world.Naming.{PathOf};
+ghost use Rattle.ix_model.specs.history.Events as op;
 ghost use Rattle.ix_model.specs.declared.call.Mode.{Mode};
 ghost use Rattle.ix_model.specs.declared.call.Keep.{Keep};
 ghost use Rattle.ix_model.specs.declared.privs.PrivSet.{PrivSet};

@@ -1,10 +1,10 @@
 -- A call that was packed comes back from its head and its words.
 use Rattle.std.proofs.Common.{◌≡◌, ℕ, List, [], ◌++◌, length, refl, sym, ap, subst, ◌∙◌, arith, length-append}
 use Rattle.std.proofs.lemmas.List.{append-nil}
-use Rattle.ix_model.specs.Naming.{PathOf}
-use Rattle.ix_model.specs.Cost.{cost_of_words}
-use Rattle.ix_model.specs.Events.{Op}
-use Rattle.ix_model.specs.Events as op
+use Rattle.ix_model.specs.world.Naming.{PathOf}
+use Rattle.ix_model.specs.history.Cost.{cost_of_words}
+use Rattle.ix_model.specs.history.Events.{Op}
+use Rattle.ix_model.specs.history.Events as op
 use Rattle.ix_journal.specs.Names.{packed, past, path_at, IsPathAt}
 use Rattle.ix_journal.specs.Heads.{paths_of, words_of, shape_of, head_of, op_in, IsPacked, IsNamed, AreNamed}
 use Rattle.ix_journal.proofs.Packed.{names_at-packed, past-packed, AreNames-packed, length-packed}

@@ -5,8 +5,8 @@ use Rattle.std.proofs.Math.Seq.{drop-append_seam}
 use Rattle.std.proofs.lemmas.List.{map-append, drop-append-le, take-append-le, take_all, length-drop}
 use Rattle.std.proofs.lemmas.List.Elements.{All-nil, All-cons, All-head, All-tail, All-append}
 use Rattle.std.proofs.lemmas.List.Sums.{sum-map, sum_by-append, sum_by-cons}
-use Rattle.ix_model.specs.Cost.{cost_of, cost_of_words, cost_of_history}
-use Rattle.ix_model.specs.Events.{Op, Event}
+use Rattle.ix_model.specs.history.Cost.{cost_of, cost_of_words, cost_of_history}
+use Rattle.ix_model.specs.history.Events.{Op, Event}
 use Rattle.ix_journal.specs.Heads.{paths_of, words_of, head_of, op_in, IsPacked, AreNamed}
 use Rattle.ix_journal.specs.Entries.{Entries, Fits, with_event, words_in, event_in, record_of, IsWhole, AreEntries}
 use Rattle.ix_journal.specs.Recorded.{Recorded}

@@ -7,7 +7,7 @@ use Rattle.std.proofs.lemmas.List.{append-nil}
 use Rattle.std.proofs.lemmas.List.Folds.{list_all_more}
 use Rattle.std.proofs.lemmas.List.Sums.{sum-map, sum_by-cons}
 use Rattle.std.proofs.lemmas.Option.{get_or_from_slice_get}
-use Rattle.ix_model.specs.Naming.{PathOf, add_name, is_name}
+use Rattle.ix_model.specs.world.Naming.{PathOf, add_name, is_name}
 use Rattle.ix_journal.specs.Names.{packed, first_name, behind, names_at, past, IsFirst, AreNames}
 
 -- ---- one name

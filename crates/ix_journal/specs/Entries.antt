@@ -1,8 +1,8 @@
 -- A journal: the entries of a history, and what they may cost.
 use Rattle.std.specs.Prelude.{ℕ, ◌+◌, ◌*◌, ◌/◌, ◌≤◌, ◌≡◌, List, [], ◌∷◌, ◌++◌, length, map}
 use Rattle.std.specs.List.{All, slice_range}
-use Rattle.ix_model.specs.Events.{Event}
-use Rattle.ix_model.specs.Cost.{cost_of, cost_of_history}
+use Rattle.ix_model.specs.history.Events.{Event}
+use Rattle.ix_model.specs.history.Cost.{cost_of, cost_of_history}
 use Rattle.ix_journal.specs.Heads.{head_of, op_in, IsPacked}
 use Rattle.ix_journal.specs.Recorded.{Recorded}
 

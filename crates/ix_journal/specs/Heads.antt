@@ -1,9 +1,9 @@
 -- How a call lies in a journal: a head of fixed size, and its words, which are the names of its paths or the bytes that it writes.
 use Rattle.std.specs.Prelude.{ℕ, ◌≤◌, IsTrue, List, [], ◌∷◌, ◌++◌, length}
 use Rattle.std.specs.List.{list_all}
-use Rattle.ix_model.specs.Naming.{PathOf, is_name}
-use Rattle.ix_model.specs.Events.{Op}
-use Rattle.ix_model.specs.Events as op
+use Rattle.ix_model.specs.world.Naming.{PathOf, is_name}
+use Rattle.ix_model.specs.history.Events.{Op}
+use Rattle.ix_model.specs.history.Events as op
 use Rattle.ix_journal.specs.Names.{packed, past, path_at, IsPathAt}
 use Rattle.ix_journal.specs.declared.record.Shape.{Shape}
 use Rattle.ix_journal.specs.declared.record.OnPath.{OnPath}

@@ -1,6 +1,6 @@
 -- How the names of paths lie among the words: one after another, each with its length before it.
 use Rattle.std.specs.Prelude.{ℕ, zero, suc, ◌<◌, ◌≤◌, IsTrue, List, [], ◌∷◌, ◌++◌, length, take, drop, slice_index}
-use Rattle.ix_model.specs.Naming.{PathOf, is_name}
+use Rattle.ix_model.specs.world.Naming.{PathOf, is_name}
 use Rattle.ix_journal.specs.declared.record.Shape.{Shape}
 
 -- names one after another

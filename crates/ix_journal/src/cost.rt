@@ -1,6 +1,6 @@
 ghost use Rattle.std.specs.Prelude.{◌≡◌, ◌≤◌};
-ghost use Rattle.ix_model.specs.Calls.{op_of};
-ghost use Rattle.ix_model.specs.Cost.{cost_of, cost_of_words, cost_of_path};
+ghost use Rattle.ix_model.specs.history.Calls.{op_of};
+ghost use Rattle.ix_model.specs.history.Cost.{cost_of, cost_of_words, cost_of_path};
 
 use ix_model::{Call, Path};
 
@@ -9,7 +9,7 @@ pub const ENTRY: u64 = 128;
 
 /// What a call costs: 128, and its words, which are the bytes that it writes, or for each name of its paths the length and
 /// one more.
-#[tactic(auto, unfolding(ix_model::specs::Cost::cost_of))]
+#[tactic(auto, unfolding(ix_model::specs::history::Cost::cost_of))]
 pub fn cost_of(call: &Call<'_>) -> u64
     ensures { result ≡ cost_of (op_of call.now) }
 {

@@ -1,7 +1,7 @@
 ghost use Rattle.std.specs.Prelude.{◌≡◌, ◌≤◌, ◌==◌, ◌-◌, ◌↔◌, IfOk, IsTrue, None, [], length, slice_get, if◌then◌else◌};
 ghost use Rattle.std.specs.Option.{option_map};
-ghost use Rattle.ix_model.specs.Calls.{op_of, event_of};
-ghost use Rattle.ix_model.specs.Cost.{cost_of, cost_of_history};
+ghost use Rattle.ix_model.specs.history.Calls.{op_of, event_of};
+ghost use Rattle.ix_model.specs.history.Cost.{cost_of, cost_of_history};
 ghost use Rattle.ix_journal.specs.Entries.{Fits, with_event, event_in, record_of, IsWhole};
 
 use crate::cost::{ENTRY, cost_of};

@@ -1,6 +1,6 @@
 ghost use Rattle.std.specs.Prelude.{◌≡◌, ◌+◌, ◌≤◌, ◌++◌, ◌∷◌, IsTrue, length, vec_capacity, vec_len};
-ghost use Rattle.ix_model.specs.Naming.{is_name};
-ghost use Rattle.ix_model.specs.Cost.{cost_of_path};
+ghost use Rattle.ix_model.specs.world.Naming.{is_name};
+ghost use Rattle.ix_model.specs.history.Cost.{cost_of_path};
 ghost use Rattle.ix_journal.specs.Names.{packed, first_name, behind, past, path_at, IsFirst, IsPathAt};
 ghost use Rattle.ix_journal.specs.Heads.{IsNamed};
 

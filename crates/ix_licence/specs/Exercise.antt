@@ -1,6 +1,6 @@
 -- The exercise of a privilege.
 use Rattle.std.specs.Prelude.{◌||◌, Result, Ok, Err, if◌then◌else◌}
-use Rattle.ix_model.specs.Privs.{has_all}
+use Rattle.ix_model.specs.world.Privs.{has_all}
 use Rattle.ix_model.specs.declared.privs.PrivSet.{PrivSet}
 use Rattle.ix_model.specs.declared.refusal.Refusal.{Refusal}
 use Rattle.ix_model.specs.declared.refusal.Refusal.TheVariants as refusal

@@ -1,5 +1,5 @@
 ghost use Rattle.std.specs.Prelude.{◌≡◌};
-ghost use Rattle.ix_model.specs.Privs.{without};
+ghost use Rattle.ix_model.specs.world.Privs.{without};
 ghost use Rattle.ix_licence.specs.Exercise.{exercised};
 
 use bitflags::Flags;
@@ -21,7 +21,7 @@ pub struct Privs {
 ///
 /// Else it is refused: `NoCapability` where the privilege isn't in the capabilities, and `NoLicence` where it is in these
 /// and in no licences. It takes no memory.
-#[tactic(auto, unfolding(ix_model::specs::Privs::has_all))]
+#[tactic(auto, unfolding(ix_model::specs::world::Privs::has_all))]
 pub fn may(privs: &Privs, x: PrivSet) -> Result<(), Refusal>
     ensures { result ≡ exercised privs.now x }
 {

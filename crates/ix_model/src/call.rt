@@ -1,5 +1,5 @@
 ghost use Rattle.std.specs.Prelude.{◌≡◌};
-ghost use Rattle.ix_model.specs.Calls.{is_built, op_of};
+ghost use Rattle.ix_model.specs.history.Calls.{is_built, op_of};
 
 use crate::ids::{Fd, Pid};
 use crate::path::Path;

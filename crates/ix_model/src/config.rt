@@ -78,7 +78,7 @@ pub struct Config {
 
 impl Config {
     ghost use Rattle.std.specs.Prelude.{◌≡◌};
-    ghost use Rattle.ix_model.specs.Valid.{is_valid};
+    ghost use Rattle.ix_model.specs.opening.Valid.{is_valid};
 
     /// Whether a machine can start from it: whether its file systems, limits and processes are within their bounds,
     /// each object line can be carried out after those before it, and the journal is within its limit.

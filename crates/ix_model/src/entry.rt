@@ -25,7 +25,7 @@ pub struct Kept {
 }
 
 impl Model for Kept {
-    ghost use Rattle.ix_model.specs.Events.{Event};
+    ghost use Rattle.ix_model.specs.history.Events.{Event};
     ghost use Rattle.std.specs.Coded.{codes};
     ghost use Rattle.ix_label.specs.contracts.label.Label as label_type;
 
@@ -33,7 +33,7 @@ impl Model for Kept {
 
     ghost coded = { Prim.hlevel (codes, label_type.the_row.coded) };
 
-    ghost use Rattle.ix_model.specs.Calls.{op_of, with_bytes};
+    ghost use Rattle.ix_model.specs.history.Calls.{op_of, with_bytes};
 
     ghost view = { λ k. record { seat = k.seat; line = k.line; pid = k.pid.0; op = with_bytes k.bytes (op_of k.call) } };
 }

@@ -1,6 +1,6 @@
 ghost use Rattle.std.specs.Prelude.{◌≡◌, ℕ, ◌≤◌, length, IsTrue, MatchOption};
 ghost use Rattle.std.specs.List.{list_all};
-ghost use Rattle.ix_model.specs.Naming.{is_name, may_stand_in_name, same_bytes};
+ghost use Rattle.ix_model.specs.world.Naming.{is_name, may_stand_in_name, same_bytes};
 
 use std::marker::Model;
 
@@ -15,7 +15,7 @@ pub struct Name {
 
 impl Model for Name {
     ghost use Rattle.std.specs.Prelude.{List, ℕ, IsTrue, take, length};
-    ghost use Rattle.ix_model.specs.Naming.{IsNameInside, is_name, padded};
+    ghost use Rattle.ix_model.specs.world.Naming.{IsNameInside, is_name, padded};
 
     ghost Value = { List ℕ };
 
@@ -28,7 +28,7 @@ impl Model for Name {
     ghost inverse_ok = { λ n h i. record { bytes = h.0.padding i; len = h.0.long i } };
 }
 
-#[tactic(auto, unfolding(crate::specs::Naming::is_name))]
+#[tactic(auto, unfolding(crate::specs::world::Naming::is_name))]
 fn is_name(bytes: &[u8]) -> bool
     ensures is { result ≡ is_name bytes.now }
     ensures fits { IsTrue result → length bytes.now ≤ 28 }

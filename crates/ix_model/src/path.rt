@@ -1,6 +1,6 @@
 ghost use Rattle.std.specs.Prelude.{◌≡◌, ℕ, ◌≤◌, ◌<◌, ◌-◌, length, take, IsTrue, ◌↔◌, slice_get, []};
 ghost use Rattle.std.specs.Bool.{OnTrue, OnFalse};
-ghost use Rattle.ix_model.specs.Naming.{PathOf, add_name, same_names};
+ghost use Rattle.ix_model.specs.world.Naming.{PathOf, add_name, same_names};
 
 use crate::name::Name;
 use std::marker::Model;
@@ -17,7 +17,7 @@ pub struct Path {
 
 impl Model for Path {
     ghost use Rattle.std.specs.Prelude.{length};
-    ghost use Rattle.ix_model.specs.Naming.{PathOf, names_in, slots_of, IsPathInside};
+    ghost use Rattle.ix_model.specs.world.Naming.{PathOf, names_in, slots_of, IsPathInside};
 
     ghost Value = { PathOf };
 

@@ -1,5 +1,5 @@
 ghost use Rattle.std.specs.Prelude.{◌≡◌};
-ghost use Rattle.ix_model.specs.Refusals.{keeps_label, number_of};
+ghost use Rattle.ix_model.specs.rows.Refusals.{keeps_label, number_of};
 
 /// Why the machine refuses a call.
 #[derive(Clone, Copy, Debug, PartialEq, Eq)]

@@ -1,10 +1,10 @@
 ghost use Rattle.std.specs.Prelude.{◌≡◌, ℕ, ◌≤◌, ◌<◌, ◌+◌, ◌&&◌, length, IsTrue, IfSome, ◌∷◌, [], nat_le, map};
 ghost use Rattle.std.specs.List.{list_all, list_any};
 ghost use Rattle.ix_label.specs.Category.{leq};
-ghost use Rattle.ix_model.specs.World.{fs_at};
-ghost use Rattle.ix_model.specs.Naming.{same_bytes, same_names};
-ghost use Rattle.ix_model.specs.Telling.{blocks_for};
-ghost use Rattle.ix_model.specs.Valid.{fs_fits, fss_fit, all_differ, limits_fit, procs_fit, mount_of, fs_of, is_mount, is_well_formed, is_taken, has_directory, lying_on, blocks_taken, has_room, object_fits, objects_fit, is_valid};
+ghost use Rattle.ix_model.specs.world.World.{fs_at};
+ghost use Rattle.ix_model.specs.world.Naming.{same_bytes, same_names};
+ghost use Rattle.ix_model.specs.rows.Telling.{blocks_for};
+ghost use Rattle.ix_model.specs.opening.Valid.{fs_fits, fss_fit, all_differ, limits_fit, procs_fit, mount_of, fs_of, is_mount, is_well_formed, is_taken, has_directory, lying_on, blocks_taken, has_room, object_fits, objects_fit, is_valid};
 
 use crate::config::{Config, FsSpec, Limits, ObjSpec, ProcSpec};
 use crate::name::Name;
@@ -23,7 +23,7 @@ const FILE_MAX: usize = 1_048_576;
 const JOURNAL_MAX: u64 = 870_400_000;
 
 /// Whether a config is valid. The ledger of the steps is the caller's choice.
-#[tactic(auto, unfolding(crate::specs::Valid::is_valid))]
+#[tactic(auto, unfolding(crate::specs::opening::Valid::is_valid))]
 pub(crate) fn is_valid<L: Ledger>(config: &Config, blank: Blank) -> bool
     requires name { blank.name ≡ L.name }
     requires parts { blank.parts ≡ L.parts }
@@ -74,7 +74,7 @@ fn all_differ(fss: &[FsSpec]) -> bool
     true
 }
 
-#[tactic(auto, unfolding(crate::specs::Valid::fss_fit))]
+#[tactic(auto, unfolding(crate::specs::opening::Valid::fss_fit))]
 fn fss_fit(fss: &[FsSpec]) -> bool
     ensures fit { result ≡ fss_fit fss.now }
     ensures some { IsTrue result → 0 < length fss.now }
@@ -82,7 +82,7 @@ fn fss_fit(fss: &[FsSpec]) -> bool
     (1..=16).contains(&fss.len()) && each_fits(fss) && all_differ(fss)
 }
 
-#[tactic(auto, unfolding(crate::specs::Valid::limits_fit))]
+#[tactic(auto, unfolding(crate::specs::opening::Valid::limits_fit))]
 fn limits_fit(limits: &Limits) -> bool
     ensures { result ≡ limits_fit limits.now }
 {
@@ -104,7 +104,7 @@ fn below_ceilings<L: Ledger>(procs: &[ProcSpec], steps: &mut Steps<L>) -> bool
     true
 }
 
-#[tactic(auto, unfolding(crate::specs::Valid::procs_fit))]
+#[tactic(auto, unfolding(crate::specs::opening::Valid::procs_fit))]
 fn procs_fit<L: Ledger>(limits: &Limits, procs: &[ProcSpec], steps: &mut Steps<L>) -> bool
     ensures { result ≡ procs_fit limits.now procs.now }
 {
@@ -242,7 +242,7 @@ fn has_room(fss: &[FsSpec], limits: &Limits, before: &[ObjSpec], object: &ObjSpe
         && has_blocks(fss, k, before, object)
 }
 
-#[tactic(auto, unfolding(crate::specs::Valid::object_fits))]
+#[tactic(auto, unfolding(crate::specs::opening::Valid::object_fits))]
 fn object_fits<L: Ledger>(
     fss: &[FsSpec],
     limits: &Limits,

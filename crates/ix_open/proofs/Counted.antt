@@ -5,7 +5,7 @@ use Rattle.std.proofs.lemmas.Bool.Decides.{eqb_tells, nat_tests}
 use Rattle.std.proofs.lemmas.Bool.{cases_lt}
 use Rattle.std.proofs.lemmas.List.{length-set, length-replicate, get_or-set_same, get_or-set_other, get_or_past}
 use Rattle.std.proofs.lemmas.List.Sums.{sum_by-set, sum_by-cons, count_by-le-length}
-use Rattle.ix_model.specs.World.{at, is_on, held}
+use Rattle.ix_model.specs.world.World.{at, is_on, held}
 use Rattle.ix_open.specs.Entries.{open_in}
 use Rattle.ix_open.specs.Tally.{place, is_at, AreCounted}
 use Rattle.ix_open.proofs.Pooled.{one}

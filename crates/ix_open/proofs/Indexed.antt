@@ -5,7 +5,7 @@ use Rattle.std.proofs.lemmas.List.{same_lists, length-replicate, length-map, len
 use Rattle.std.proofs.lemmas.List.Sums.{sum_by-set, sum_by-cons, count_by-le-length}
 use Rattle.std.proofs.lemmas.Bool.Decides.{eqb_tells}
 use Rattle.std.proofs.lemmas.Bool.{cases_lt}
-use Rattle.ix_model.specs.World.{at, lowest_free}
+use Rattle.ix_model.specs.world.World.{at, lowest_free}
 use Rattle.slab.specs.Slab.{Slab, get, slab_len, HasRoomFor, Updates}
 use Rattle.slab.proofs.SlabLemmas.{Updates-with_value}
 use Rattle.ix_open.specs.Indexed.{entry_in, seen, IsIndex}

@@ -3,7 +3,7 @@ use Rattle.std.proofs.Common.{◌≡◌, ℕ, zero, suc, true, List, [], ◌∷�
 use Rattle.std.specs.List.{prefix_len}
 use Rattle.std.proofs.lemmas.List.{map-set, length-map}
 use Rattle.std.proofs.lemmas.List.Sums.{sum_by-cons}
-use Rattle.ix_model.specs.World.{Open, at, lowest_free}
+use Rattle.ix_model.specs.world.World.{Open, at, lowest_free}
 use Rattle.ix_open.specs.Table.{none_open, without}
 use Rattle.ix_open.specs.Entries.{table_of, open_of, open_in, offset_in, owners_in, shown, with_entry}
 use Rattle.ix_open.specs.declared.view.OpenView.{OpenView}

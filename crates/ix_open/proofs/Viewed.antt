@@ -5,7 +5,7 @@ use Rattle.std.proofs.lemmas.Bool.{and_parts, eqb-true}
 use Rattle.ix_label.specs.Category.{bottom}
 use Rattle.ix_model.specs.declared.ids.Obj.{Obj}
 use Rattle.ix_model.specs.declared.call.Mode.{Mode}
-use Rattle.ix_model.specs.World.{Open, at, lowest_free, is_on, held}
+use Rattle.ix_model.specs.world.World.{Open, at, lowest_free, is_on, held}
 use Rattle.slab.specs.Slab.{Slab, get, Updates}
 use Rattle.slab.proofs.SlabLemmas.{Updates-with_value}
 use Rattle.ix_open.specs.Table.{OpenTable, without}

@@ -2,7 +2,7 @@
 use Rattle.std.specs.Prelude.{ℕ, List, map, Option, Some, slice_set, slice_index_or}
 use Rattle.std.specs.Option.{option_map_or}
 use Rattle.std.proofs.Common.{option_map}
-use Rattle.ix_model.specs.World.{Open, put}
+use Rattle.ix_model.specs.world.World.{Open, put}
 use Rattle.ix_open.specs.Table.{OpenTable}
 use Rattle.ix_open.specs.declared.view.OpenView.{OpenView}
 

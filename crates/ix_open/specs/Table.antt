@@ -1,7 +1,7 @@
 -- What a contract sees of the open entries: tables by number.
 use Rattle.std.specs.Prelude.{ℕ, ◌-◌, Bool, true, false, List, replicate, Option, Some, None, slice_set, slice_index_or}
 use Rattle.ix_label.specs.Category.{Categories}
-use Rattle.ix_model.specs.World.{Open, put, change}
+use Rattle.ix_model.specs.world.World.{Open, put, change}
 
 -- Where each entry stands and its label, its offset, and how many own it; at a free number there is none, and 0.
 -- The numbers of objects are below the last field.

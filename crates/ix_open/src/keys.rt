@@ -1,5 +1,5 @@
 ghost use Rattle.std.specs.Prelude.{◌≡◌, ◌+◌, Some, IsTrue, is_some};
-ghost use Rattle.ix_model.specs.World.{at};
+ghost use Rattle.ix_model.specs.world.World.{at};
 ghost use Rattle.ix_open.specs.Indexed.{entry_in};
 ghost use Rattle.ix_open.specs.Tally.{place};
 

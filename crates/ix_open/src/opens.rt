@@ -1,7 +1,7 @@
 ghost use Rattle.std.specs.Prelude.{◌≡◌, ℕ, ◌+◌, ◌-◌, ◌<◌, ◌==◌, ◌^◌, IsTrue, IfOk, Some, is_some, is_none, slice_index_or, count_by};
 ghost use Rattle.std.proofs.Common.{option_map};
 ghost use Rattle.ix_label.specs.Category.{bottom};
-ghost use Rattle.ix_model.specs.World.{Open, at, lowest_free, is_on, held};
+ghost use Rattle.ix_model.specs.world.World.{Open, at, lowest_free, is_on, held};
 ghost use Rattle.ix_open.specs.Table.{none_open, opened, with_owners, with_offset, with_label, without, released};
 ghost use Rattle.ix_open.specs.Entries.{shown, open_of, with_entry};
 

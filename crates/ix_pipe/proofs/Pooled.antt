@@ -10,7 +10,7 @@ use Rattle.std.proofs.lemmas.List.{length-set, get_or_default}
 use Rattle.std.proofs.lemmas.List.Sums.{sum_by-cons, sum_by_push, sum_by-set, position_or_len_is, count_by-le-length}
 use Rattle.std.proofs.lemmas.List.Sorted.{sum_by_popped, sum_by_pushed}
 use Rattle.std.proofs.lemmas.Map.Keys.{ge_from_not_lt}
-use Rattle.ix_model.specs.World.{at, lowest_free}
+use Rattle.ix_model.specs.world.World.{at, lowest_free}
 use Rattle.ix_pipe.specs.Pool.{IsPool, vacancy, times, lowest_first}
 
 abbrev pub one : Bool → ℕ

@@ -3,7 +3,7 @@ use Rattle.std.proofs.Common.{◌≡◌, ℕ, Bool, true, false, List, set, Opti
 use Rattle.std.proofs.lemmas.List.{map-set}
 use Rattle.ix_label.specs.Category.{Categories}
 use Rattle.ix_model.specs.declared.ids.Pid.{Pid}
-use Rattle.ix_model.specs.Contents.{holds_nothing}
+use Rattle.ix_model.specs.world.Contents.{holds_nothing}
 use Rattle.ix_pipe.specs.Pipe.{with_claim}
 use Rattle.ix_pipe.specs.Claims.{claimed_with, emptied}
 use Rattle.ix_pipe.specs.Slots.{shown}

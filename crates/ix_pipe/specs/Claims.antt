@@ -1,7 +1,7 @@
 -- What a claim on an end of a pipe comes to.
 use Rattle.std.specs.Prelude.{ℕ, ◌==◌, Option, Some, None, if◌then◌else◌}
-use Rattle.ix_model.specs.World.{at}
-use Rattle.ix_model.specs.Contents.{holds_nothing}
+use Rattle.ix_model.specs.world.World.{at}
+use Rattle.ix_model.specs.world.Contents.{holds_nothing}
 use Rattle.ix_pipe.specs.Pipe.{Pipe, with_claim}
 use Rattle.ix_pipe.specs.declared.claim.Claim.{Claim}
 use Rattle.ix_pipe.specs.declared.claim.Claim.TheVariants.{Held, Half, Whole}

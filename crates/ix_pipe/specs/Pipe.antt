@@ -2,8 +2,8 @@
 use Rattle.std.specs.Prelude.{ℕ, ◌+◌, ◌≤◌, ◌≡◌, Bool, false, nat_le, List, [], ◌++◌, length, drop, Option, Some, None}
 use Rattle.std.specs.Option.{option_map_or}
 use Rattle.ix_label.specs.Category.{Categories, bottom}
-use Rattle.ix_model.specs.World.{Holding, at, put, no_claims}
-use Rattle.ix_model.specs.Contents.{holds_nothing, side, with_side}
+use Rattle.ix_model.specs.world.World.{Holding, at, put, no_claims}
+use Rattle.ix_model.specs.world.Contents.{holds_nothing, side, with_side}
 
 -- a label, a claim on each end (a pid or none), and what each end can read
 pub record Pipe : Type 0 where

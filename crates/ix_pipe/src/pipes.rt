@@ -1,6 +1,6 @@
 ghost use Rattle.std.specs.Prelude.{◌≡◌, ◌-◌, ◌<◌, ◌≤◌, ◌++◌, length, take, drop, min, IsTrue, is_some, IfOk, replicate, if◌then◌else◌};
 ghost use Rattle.std.proofs.Common.{option_map};
-ghost use Rattle.ix_model.specs.World.{at, put, change, lowest_free};
+ghost use Rattle.ix_model.specs.world.World.{at, put, change, lowest_free};
 ghost use Rattle.ix_pipe.specs.Pipe.{Pipe, most, waiting_at, fits_at, with_fewer, with_more, with_label, with_claim, made, IsBounded};
 ghost use Rattle.ix_pipe.specs.Claims.{claimant_of, claim_answer, claimed};
 

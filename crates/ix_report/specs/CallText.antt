@@ -1,12 +1,12 @@
 -- The calls as a report writes them: the command's word, the caller, and the arguments in the command's order.
 use Rattle.std.specs.Prelude.{ℕ, List, ◌++◌, codes}
 use Rattle.std.specs.Fmt.{decimal}
-use Rattle.ix_model.specs.Events.{Op}
-use Rattle.ix_model.specs.Events as op
+use Rattle.ix_model.specs.history.Events.{Op}
+use Rattle.ix_model.specs.history.Events as op
 use Rattle.ix_label.specs.Spelling.{spelling}
 use Rattle.ix_report.specs.Hex.{hex}
 use Rattle.ix_report.specs.Names.{path_text}
-use Rattle.ix_script.specs.Spellings.{mode_text, privs_text}
+use Rattle.ix_script.specs.texts.Spellings.{mode_text, privs_text}
 use Rattle.ix_report.specs.Words.{keep_text}
 
 -- a call of a process

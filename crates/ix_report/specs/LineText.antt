@@ -3,13 +3,13 @@ use Rattle.std.specs.Prelude.{ℕ, List, ◌++◌, codes, Option}
 use Rattle.std.specs.Option.{option_map_or}
 use Rattle.std.specs.Fmt.{decimal}
 use Rattle.ix_label.specs.Category.{Categories}
-use Rattle.ix_model.specs.Events.{Event}
+use Rattle.ix_model.specs.history.Events.{Event}
 use Rattle.ix_model.specs.declared.reply.Reply.{Reply}
 use Rattle.ix_model.specs.declared.audit.AuditLine.{AuditLine}
 use Rattle.ix_model.specs.declared.views.ObjView.{ObjView}
 use Rattle.ix_model.specs.declared.views.ProcView.{ProcView}
 use Rattle.ix_label.specs.Spelling.{spelling}
-use Rattle.ix_script.specs.Spellings.{state_text}
+use Rattle.ix_script.specs.texts.Spellings.{state_text}
 use Rattle.ix_report.specs.Words.{kind_text, life_text}
 use Rattle.ix_report.specs.CallText.{call_text}
 use Rattle.ix_report.specs.ReplyText.{reply_text, audit_text}

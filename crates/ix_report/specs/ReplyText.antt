@@ -1,7 +1,7 @@
 -- The replies as a report writes them.
 use Rattle.std.specs.Prelude.{◌≡◌, ℕ, List, ◌++◌, codes, length}
 use Rattle.std.specs.Fmt.{decimal}
-use Rattle.ix_model.specs.Refusals.{number_of}
+use Rattle.ix_model.specs.rows.Refusals.{number_of}
 use Rattle.ix_model.specs.declared.reply.Reply.{Reply}
 use Rattle.ix_model.specs.declared.reply.Reply.TheVariants as reply
 use Rattle.ix_model.specs.declared.audit.AuditLine.{AuditLine}
@@ -9,7 +9,7 @@ use Rattle.ix_label.specs.Spelling.{spelling}
 use Rattle.ix_report.specs.Hex.{hex}
 use Rattle.ix_report.specs.Names.{name_text}
 use Rattle.ix_report.specs.RefusalText.{refusal_text}
-use Rattle.ix_script.specs.Spellings.{privs_text, state_text}
+use Rattle.ix_script.specs.texts.Spellings.{privs_text, state_text}
 use Rattle.ix_report.specs.Words.{act_text, kind_text}
 
 -- an audit line, without its line feed

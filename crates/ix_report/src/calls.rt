@@ -1,10 +1,10 @@
 ghost use Rattle.std.specs.Prelude.{◌≡◌, ◌++◌, OnOk, codes};
 ghost use Rattle.std.specs.Fmt.{decimal};
-ghost use Rattle.ix_model.specs.Calls.{op_of};
+ghost use Rattle.ix_model.specs.history.Calls.{op_of};
 ghost use Rattle.ix_label.specs.Spelling.{spelling};
 ghost use Rattle.ix_report.specs.Hex.{hex};
 ghost use Rattle.ix_report.specs.Names.{path_text};
-ghost use Rattle.ix_script.specs.Spellings.{mode_text, privs_text};
+ghost use Rattle.ix_script.specs.texts.Spellings.{mode_text, privs_text};
 ghost use Rattle.ix_report.specs.Words.{keep_text};
 ghost use Rattle.ix_report.specs.CallText.{call_text};
 

@@ -1,7 +1,7 @@
 ghost use Rattle.std.specs.Prelude.{◌≡◌, ◌++◌, OnOk, codes};
 ghost use Rattle.std.specs.Fmt.{decimal};
 ghost use Rattle.ix_label.specs.Spelling.{spelling};
-ghost use Rattle.ix_script.specs.Spellings.{hex_pair, privs_text};
+ghost use Rattle.ix_script.specs.texts.Spellings.{hex_pair, privs_text};
 ghost use Rattle.ix_report.specs.Hex.{hex};
 ghost use Rattle.ix_report.specs.Names.{name_byte, name_text, names_text, path_text};
 

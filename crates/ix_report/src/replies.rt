@@ -1,11 +1,11 @@
 ghost use Rattle.std.specs.Prelude.{◌≡◌, ◌++◌, OnOk, codes};
 ghost use Rattle.std.specs.Fmt.{decimal};
-ghost use Rattle.ix_model.specs.Refusals.{number_of};
+ghost use Rattle.ix_model.specs.rows.Refusals.{number_of};
 ghost use Rattle.ix_label.specs.Spelling.{spelling};
 ghost use Rattle.ix_report.specs.Hex.{hex};
 ghost use Rattle.ix_report.specs.Names.{name_text};
 ghost use Rattle.ix_report.specs.RefusalText.{refusal_text};
-ghost use Rattle.ix_script.specs.Spellings.{privs_text, state_text};
+ghost use Rattle.ix_script.specs.texts.Spellings.{privs_text, state_text};
 ghost use Rattle.ix_report.specs.Words.{act_text, kind_text};
 ghost use Rattle.ix_report.specs.ReplyText.{audit_text, reply_text};
 

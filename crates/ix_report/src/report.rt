@@ -1,6 +1,6 @@
 ghost use Rattle.std.specs.Prelude.{◌≡◌, ◌++◌, OnOk, OnErr};
 ghost use Rattle.std.specs.Option.{option_copied};
-ghost use Rattle.ix_model.specs.Calls.{event_of};
+ghost use Rattle.ix_model.specs.history.Calls.{event_of};
 ghost use Rattle.ix_report.specs.ReplyText.{AreBytesOf};
 ghost use Rattle.ix_report.specs.LineText.{audit_line, entry_line, head_line, object_line, process_line, seen_text, tail_line};
 

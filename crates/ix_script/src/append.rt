@@ -1,8 +1,8 @@
 ghost use Rattle.std.specs.Prelude.{◌≡◌, ◌++◌, ◌∷◌, OnOk};
 ghost use Rattle.std.specs.Fmt.{decimal};
 ghost use Rattle.ix_label.specs.Spelling.{spelling};
-ghost use Rattle.ix_script.specs.Before.{what_text};
-ghost use Rattle.ix_script.specs.Spellings.{further, joined, privs_text, path_text, mode_text, state_text, fd_text, keep_text, as_name, as_names};
+ghost use Rattle.ix_script.specs.lines.Before.{what_text};
+ghost use Rattle.ix_script.specs.texts.Spellings.{further, joined, privs_text, path_text, mode_text, state_text, fd_text, keep_text, as_name, as_names};
 
 use crate::line::{FdWord, KeepWord, What};
 use crate::text::{label_text, mode_word, privs_text, state_word};
@@ -66,7 +66,7 @@ fn further_name(out: &mut Vec<u8>, name: &Name) -> Result<(), NoMemory>
 }
 
 /// The names of a path with a slash between each two.
-#[tactic(auto, using(crate::proofs::Further::further_next))]
+#[tactic(auto, using(crate::proofs::texts::Further::further_next))]
 fn names(out: &mut Vec<u8>, path: &Path) -> Result<(), NoMemory>
     ensures { OnOk result (out.new.items ≡ out.old.items ++ joined 47 path.now.names) }
 {
@@ -84,7 +84,7 @@ fn names(out: &mut Vec<u8>, path: &Path) -> Result<(), NoMemory>
 }
 
 /// A space and a path.
-#[tactic(auto, unfolding(crate::specs::Spellings::path_text))]
+#[tactic(auto, unfolding(crate::specs::texts::Spellings::path_text))]
 pub(crate) fn path(out: &mut Vec<u8>, path: &Path) -> Result<(), NoMemory>
     ensures { OnOk result (out.new.items ≡ out.old.items ++ 32 ∷ path_text path.now) }
 {

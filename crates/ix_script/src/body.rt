@@ -1,6 +1,6 @@
 ghost use Rattle.std.specs.Prelude.{◌≡◌, ◌++◌, ◌∷◌, ◌+◌, ◌<◌, ◌^◌, ◌||◌, [], List, OnOk, if◌then◌else◌};
-ghost use Rattle.ix_script.specs.Before.{is_phase, is_command, lane_after, phase_lanes_after, lanes_after, in_lane, new_fds, new_procs, is_known};
-ghost use Rattle.ix_script.specs.Told.{BodyTold};
+ghost use Rattle.ix_script.specs.lines.Before.{is_phase, is_command, lane_after, phase_lanes_after, lanes_after, in_lane, new_fds, new_procs, is_known};
+ghost use Rattle.ix_script.specs.reader.Told.{BodyTold};
 ghost use Rattle.ix_script.specs.declared.line.Line.{Line};
 
 use crate::given::Given;
@@ -129,7 +129,7 @@ fn add_procs(procs: &mut Given, lane: &Option<Name>, line: &Line) -> Result<(), 
 }
 
 impl Body {
-    #[tactic(auto, unfolding(crate::specs::Before::in_body, crate::specs::Before::lane_now, crate::specs::Before::phase_lanes, crate::specs::Before::lanes_of, crate::specs::Before::fds_given, crate::specs::Before::procs_given, crate::specs::Before::commands))]
+    #[tactic(auto, unfolding(crate::specs::lines::Before::in_body, crate::specs::lines::Before::lane_now, crate::specs::lines::Before::phase_lanes, crate::specs::lines::Before::lanes_of, crate::specs::lines::Before::fds_given, crate::specs::lines::Before::procs_given, crate::specs::lines::Before::commands))]
     pub fn new(alloc: Global) -> Body
         ensures { BodyTold result [] }
     {

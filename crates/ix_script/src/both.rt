@@ -1,5 +1,5 @@
 ghost use Rattle.std.specs.Prelude.{◌≡◌};
-ghost use Rattle.ix_script.specs.Least.{least, joined};
+ghost use Rattle.ix_script.specs.reader.Least.{least, joined};
 
 use crate::refused::Refused;
 

@@ -5,7 +5,7 @@ ghost use Rattle.std.specs.Cmp.Lexicographic.{lists_total, nat_list_cmp_total, s
 ghost use Rattle.std.specs.Cmp.Rules.{comparing};
 ghost use Rattle.std.specs.Option.{option_cmp};
 ghost use Rattle.std.specs.Ordering.{is_eq, nat_cmp};
-ghost use Rattle.ix_script.specs.Indexed.{names_cmp};
+ghost use Rattle.ix_script.specs.reader.Indexed.{names_cmp};
 
 use crate::by_bytes::order as order_of_bytes;
 use ix_model::{Name, Path};

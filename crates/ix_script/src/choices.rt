@@ -1,7 +1,7 @@
 ghost use Rattle.std.specs.Prelude.{◌≡◌, [], ◌∷◌};
-ghost use Rattle.ix_script.specs.Kinds as kind;
-ghost use Rattle.ix_script.specs.Readers.{Reads};
-ghost use Rattle.ix_script.specs.Words.{mode_of, state_of, what_of};
+ghost use Rattle.ix_script.specs.lines.Kinds as kind;
+ghost use Rattle.ix_script.specs.reader.Readers.{Reads};
+ghost use Rattle.ix_script.specs.texts.Words.{mode_of, state_of, what_of};
 
 use crate::line::What;
 use crate::refused::Refused;
@@ -9,7 +9,7 @@ use crate::words::is;
 use ix_model::Mode;
 
 /// `r`, `w` or `rw`.
-#[tactic(auto, unfolding(crate::specs::Words::mode_of, crate::specs::Kinds::places_fault, crate::specs::Kinds::first_broken))]
+#[tactic(auto, unfolding(crate::specs::texts::Words::mode_of, crate::specs::lines::Kinds::places_fault, crate::specs::lines::Kinds::first_broken))]
 pub(crate) fn mode(word: &[u8]) -> Result<Mode, Refused>
     ensures { Reads (λ x. x) result ((kind.Mode, word.now) ∷ []) (mode_of word.now) }
 {
@@ -25,7 +25,7 @@ pub(crate) fn mode(word: &[u8]) -> Result<Mode, Refused>
 }
 
 /// Whether a state is frozen.
-#[tactic(auto, unfolding(crate::specs::Words::state_of, crate::specs::Kinds::places_fault, crate::specs::Kinds::first_broken))]
+#[tactic(auto, unfolding(crate::specs::texts::Words::state_of, crate::specs::lines::Kinds::places_fault, crate::specs::lines::Kinds::first_broken))]
 pub(crate) fn state(word: &[u8]) -> Result<bool, Refused>
     ensures { Reads (λ x. x) result ((kind.State, word.now) ∷ []) (state_of word.now) }
 {
@@ -38,7 +38,7 @@ pub(crate) fn state(word: &[u8]) -> Result<bool, Refused>
     }
 }
 
-#[tactic(auto, unfolding(crate::specs::Words::what_of))]
+#[tactic(auto, unfolding(crate::specs::texts::Words::what_of))]
 pub(crate) fn what_by_name(word: &[u8]) -> Option<What>
     ensures { result ≡ what_of word.now }
 {
@@ -58,7 +58,7 @@ pub(crate) fn what_by_name(word: &[u8]) -> Option<What>
 }
 
 /// What a `limit` line limits.
-#[tactic(auto, unfolding(crate::specs::Kinds::places_fault, crate::specs::Kinds::first_broken))]
+#[tactic(auto, unfolding(crate::specs::lines::Kinds::places_fault, crate::specs::lines::Kinds::first_broken))]
 pub(crate) fn what(word: &[u8]) -> Result<What, Refused>
     ensures { Reads (λ x. x) result ((kind.Limited, word.now) ∷ []) (what_of word.now) }
 {

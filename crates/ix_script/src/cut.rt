@@ -1,8 +1,8 @@
 ghost use Rattle.std.specs.Prelude.{◌≡◌, ℕ, ◌≤◌, ◌<◌, ◌+◌, ◌∷◌, ◌++◌, [], length, take, drop, IfSome, IfOk, Some, None, map};
 ghost use Rattle.std.specs.Option.{option_map_or};
 ghost use Rattle.std.specs.List.{list_any};
-ghost use Rattle.ix_script.specs.Cutting.{pieces, words_of, word_at, is_closed, is_open, is_empty};
-ghost use Rattle.ix_script.specs.Rules.{has_empty_word, has_open_quote};
+ghost use Rattle.ix_script.specs.texts.Cutting.{pieces, words_of, word_at, is_closed, is_open, is_empty};
+ghost use Rattle.ix_script.specs.lines.Rules.{has_empty_word, has_open_quote};
 ghost use Rattle.ix_script.specs.declared.spot.Spot.TheVariants as spot;
 
 use crate::spot::Spot;
@@ -55,7 +55,7 @@ fn first_word(text: &[u8]) -> (&[u8], Option<&[u8]>)
 }
 
 /// The text, where it has a byte.
-#[tactic(auto, unfolding(crate::specs::Cutting::words_of))]
+#[tactic(auto, unfolding(crate::specs::texts::Cutting::words_of))]
 fn if_any(text: &[u8]) -> Option<&[u8]>
     ensures { words_of text.now ≡ option_map_or (λ front. pieces spot.Front front.now) result [] }
 {

@@ -1,8 +1,8 @@
 ghost use Rattle.std.specs.Prelude.{◌≡◌, ◌++◌, ◌∷◌, ◌+◌, ◌<◌, ◌^◌, [], true, None, length, OnOk, IfOk};
-ghost use Rattle.ix_model.specs.Valid.{is_valid};
-ghost use Rattle.ix_script.specs.Faults.{said_fault};
-ghost use Rattle.ix_script.specs.Scripts.{config_of};
-ghost use Rattle.ix_script.specs.Told.{DraftTold};
+ghost use Rattle.ix_model.specs.opening.Valid.{is_valid};
+ghost use Rattle.ix_script.specs.lines.Faults.{said_fault};
+ghost use Rattle.ix_script.specs.scripts.Scripts.{config_of};
+ghost use Rattle.ix_script.specs.reader.Told.{DraftTold};
 
 use crate::body::Body;
 use crate::header::Header;

@@ -1,5 +1,5 @@
 ghost use Rattle.std.specs.Prelude.{◌≡◌};
-ghost use Rattle.ix_script.specs.Payloads.{escape_step, ends, escaped_byte};
+ghost use Rattle.ix_script.specs.texts.Payloads.{escape_step, ends, escaped_byte};
 
 use crate::hexes::pair;
 
@@ -17,7 +17,7 @@ pub(crate) enum Escape {
 }
 
 /// The byte that a backslash and this byte stand for.
-#[tactic(auto, unfolding(crate::specs::Payloads::escaped_byte))]
+#[tactic(auto, unfolding(crate::specs::texts::Payloads::escaped_byte))]
 fn escaped(b: u8) -> Option<u8>
     ensures { result ≡ escaped_byte b }
 {
@@ -44,7 +44,7 @@ impl Escape {
     }
 
     /// Where the next byte stands, and the byte that is read with this one; `None` where this one may not stand.
-    #[tactic(auto, unfolding(crate::specs::Payloads::escape_step))]
+    #[tactic(auto, unfolding(crate::specs::texts::Payloads::escape_step))]
     pub fn after(self, b: u8) -> Option<(Escape, Option<u8>)>
         ensures { result ≡ escape_step self b }
     {

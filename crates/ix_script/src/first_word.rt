@@ -1,11 +1,11 @@
 ghost use Rattle.std.specs.Prelude.{◌≡◌, ◌+◌, ◌==◌, length, List, ℕ};
-ghost use Rattle.ix_script.specs.Forms.{plain_of, on_path_of, on_fd_of, counted_of, frame_form, group_form, file_form, process_form, form_of};
+ghost use Rattle.ix_script.specs.lines.Forms.{plain_of, on_path_of, on_fd_of, counted_of, frame_form, group_form, file_form, process_form, form_of};
 
 use crate::form::{Counted, Form, OnFd, OnPath, Plain};
 use crate::words::is;
 
 /// Commands that take a process alone.
-#[tactic(auto, unfolding(crate::specs::Forms::plain_of))]
+#[tactic(auto, unfolding(crate::specs::lines::Forms::plain_of))]
 fn plain(word: &[u8]) -> Option<Plain>
     ensures { result ≡ plain_of word.now }
 {
@@ -23,7 +23,7 @@ fn plain(word: &[u8]) -> Option<Plain>
 }
 
 /// Commands that take a process and a path.
-#[tactic(auto, unfolding(crate::specs::Forms::on_path_of))]
+#[tactic(auto, unfolding(crate::specs::lines::Forms::on_path_of))]
 fn on_path(word: &[u8]) -> Option<OnPath>
     ensures { result ≡ on_path_of word.now }
 {
@@ -53,7 +53,7 @@ fn on_path(word: &[u8]) -> Option<OnPath>
 }
 
 /// Commands that take a process and a descriptor.
-#[tactic(auto, unfolding(crate::specs::Forms::on_fd_of))]
+#[tactic(auto, unfolding(crate::specs::lines::Forms::on_fd_of))]
 fn on_fd(word: &[u8]) -> Option<OnFd>
     ensures { result ≡ on_fd_of word.now }
 {
@@ -71,7 +71,7 @@ fn on_fd(word: &[u8]) -> Option<OnFd>
 }
 
 /// Commands that take a process, a descriptor and a number.
-#[tactic(auto, unfolding(crate::specs::Forms::counted_of))]
+#[tactic(auto, unfolding(crate::specs::lines::Forms::counted_of))]
 fn counted(word: &[u8]) -> Option<Counted>
     ensures { result ≡ counted_of word.now }
 {
@@ -87,7 +87,7 @@ fn counted(word: &[u8]) -> Option<Counted>
 }
 
 /// Lines that aren't commands.
-#[tactic(auto, unfolding(crate::specs::Forms::frame_form))]
+#[tactic(auto, unfolding(crate::specs::lines::Forms::frame_form))]
 fn frame(word: &[u8]) -> Option<Form>
     ensures { result ≡ frame_form word.now }
 {
@@ -111,7 +111,7 @@ fn frame(word: &[u8]) -> Option<Form>
 }
 
 /// Commands on descriptors and paths.
-#[tactic(auto, unfolding(crate::specs::Forms::file_form))]
+#[tactic(auto, unfolding(crate::specs::lines::Forms::file_form))]
 fn of_files(word: &[u8]) -> Option<Form>
     ensures { result ≡ file_form word.now }
 {
@@ -139,7 +139,7 @@ fn of_files(word: &[u8]) -> Option<Form>
 }
 
 /// Commands on processes.
-#[tactic(auto, unfolding(crate::specs::Forms::process_form))]
+#[tactic(auto, unfolding(crate::specs::lines::Forms::process_form))]
 fn of_processes(word: &[u8]) -> Option<Form>
     ensures { result ≡ process_form word.now }
 {
@@ -165,7 +165,7 @@ fn of_processes(word: &[u8]) -> Option<Form>
 }
 
 /// Commands of the four groups.
-#[tactic(auto, unfolding(crate::specs::Forms::group_form))]
+#[tactic(auto, unfolding(crate::specs::lines::Forms::group_form))]
 fn of_groups(word: &[u8]) -> Option<Form>
     ensures { result ≡ group_form word.now }
 {
@@ -185,7 +185,7 @@ fn of_groups(word: &[u8]) -> Option<Form>
 }
 
 /// The form of a line by its first word.
-#[tactic(auto, unfolding(crate::specs::Forms::form_of))]
+#[tactic(auto, unfolding(crate::specs::lines::Forms::form_of))]
 pub(crate) fn form_of(word: &[u8]) -> Option<Form>
     ensures { result ≡ form_of word.now }
 {

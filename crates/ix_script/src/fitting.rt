@@ -1,13 +1,13 @@
 ghost use Rattle.std.specs.Prelude.{◌≡◌, ℕ, ◌+◌, ◌<◌, ◌≤◌, ◌&&◌, ◌||◌, not, length, nat_le, nat_lt};
 ghost use Rattle.std.specs.List.{list_any};
 ghost use Rattle.ix_label.specs.Category.{leq};
-ghost use Rattle.ix_model.specs.World.{fs_at};
-ghost use Rattle.ix_model.specs.Naming.{same_names};
-ghost use Rattle.ix_model.specs.Valid.{fs_of, is_mount, is_taken, has_directory};
+ghost use Rattle.ix_model.specs.world.World.{fs_at};
+ghost use Rattle.ix_model.specs.world.Naming.{same_names};
+ghost use Rattle.ix_model.specs.opening.Valid.{fs_of, is_mount, is_taken, has_directory};
 ghost use Rattle.ix_model.specs.declared.config.ObjSpec.{ObjSpec};
-ghost use Rattle.ix_script.specs.Before.{fss_of, objects_of, lanes_of, is_known};
-ghost use Rattle.ix_script.specs.Rules.{is_above, object_misfits, misfits, object_crowds, crowds, is_out_of_order, is_one_too_many, lacks_policy};
-ghost use Rattle.ix_script.specs.Told.{DraftTold};
+ghost use Rattle.ix_script.specs.lines.Before.{fss_of, objects_of, lanes_of, is_known};
+ghost use Rattle.ix_script.specs.lines.Rules.{is_above, object_misfits, misfits, object_crowds, crowds, is_out_of_order, is_one_too_many, lacks_policy};
+ghost use Rattle.ix_script.specs.reader.Told.{DraftTold};
 
 use crate::body::is_command;
 use crate::draft::Draft;

@@ -1,5 +1,5 @@
 ghost use Rattle.std.specs.Prelude.{◌≡◌, ℕ, ◌≤◌, List, length};
-ghost use Rattle.ix_script.specs.Forms.{kinds, tail_of, is_header, is_command_form, has_right_count};
+ghost use Rattle.ix_script.specs.lines.Forms.{kinds, tail_of, is_header, is_command_form, has_right_count};
 
 use crate::cut::Words;
 use crate::words::is;

@@ -1,8 +1,8 @@
 ghost use Rattle.std.specs.Prelude.{◌≡◌, ℕ, ◌≤◌, ◌<◌, ◌+◌, length, IfSome, ◌∷◌, []};
 ghost use Rattle.std.specs.List.{list_any};
-ghost use Rattle.ix_model.specs.Naming.{same_names};
-ghost use Rattle.ix_model.specs.Telling.{blocks_for};
-ghost use Rattle.ix_model.specs.Valid.{mount_of, fs_of, is_mount};
+ghost use Rattle.ix_model.specs.world.Naming.{same_names};
+ghost use Rattle.ix_model.specs.rows.Telling.{blocks_for};
+ghost use Rattle.ix_model.specs.opening.Valid.{mount_of, fs_of, is_mount};
 
 use ix_model::{FsSpec, Name, Path};
 

@@ -1,7 +1,7 @@
 ghost use Rattle.std.specs.Prelude.{◌≡◌, ◌++◌, ◌∷◌, ◌&&◌, [], OnOk};
 ghost use Rattle.std.specs.List.{list_any};
-ghost use Rattle.ix_model.specs.Naming.{same_bytes};
-ghost use Rattle.ix_script.specs.Before.{in_lane, is_given, listed, listed_two};
+ghost use Rattle.ix_model.specs.world.Naming.{same_bytes};
+ghost use Rattle.ix_script.specs.lines.Before.{in_lane, is_given, listed, listed_two};
 
 use crate::by_bytes::ByBytes;
 use crate::words::is;
@@ -26,7 +26,7 @@ pub(crate) struct Given {
 
 impl Model for Given {
     ghost use Rattle.std.specs.Prelude.{List, ℕ};
-    ghost use Rattle.ix_script.specs.Indexed.{AreIndexed};
+    ghost use Rattle.ix_script.specs.reader.Indexed.{AreIndexed};
 
     ghost Value = { List (List ℕ × List ℕ) };
 

@@ -1,6 +1,6 @@
-ghost use Rattle.ix_script.specs.Forms.{places};
-ghost use Rattle.ix_script.specs.Readers.{Reads};
-ghost use Rattle.ix_script.specs.Said.{said, plain_line, path_line, fd_line, counted_line};
+ghost use Rattle.ix_script.specs.lines.Forms.{places};
+ghost use Rattle.ix_script.specs.reader.Readers.{Reads};
+ghost use Rattle.ix_script.specs.lines.Said.{said, plain_line, path_line, fd_line, counted_line};
 ghost use Rattle.ix_script.specs.declared.form.Form.TheVariants as form;
 ghost use Rattle.std.specs.Prelude.{◌≡◌};
 

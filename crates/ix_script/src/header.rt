@@ -1,10 +1,10 @@
 ghost use Rattle.std.specs.Prelude.{◌≡◌, ◌++◌, ◌∷◌, ◌+◌, ◌<◌, ◌≤◌, ◌||◌, ◌&&◌, not, [], ◌==◌, true, None, List, length, map, max, false, OnOk, OnErr, IfOk, nat_le, nat_lt, if◌then◌else◌, codes};
 ghost use Rattle.ix_label.specs.Category.{leq};
-ghost use Rattle.ix_script.specs.Before.{fs_told, or_default, default_fs, default_limits, limits_after, with_limit, what_told, what_text, proc_name_told, object_told, is_policy, group, is_known};
-ghost use Rattle.ix_script.specs.Told.{made_of, HeaderTold, TakenOne, Takes, fss_after};
-ghost use Rattle.ix_model.specs.Valid.{is_valid};
-ghost use Rattle.ix_script.specs.Faults.{said_fault};
-ghost use Rattle.ix_script.specs.Scripts.{config_of};
+ghost use Rattle.ix_script.specs.lines.Before.{fs_told, or_default, default_fs, default_limits, limits_after, with_limit, what_told, what_text, proc_name_told, object_told, is_policy, group, is_known};
+ghost use Rattle.ix_script.specs.reader.Told.{made_of, HeaderTold, TakenOne, Takes, fss_after};
+ghost use Rattle.ix_model.specs.opening.Valid.{is_valid};
+ghost use Rattle.ix_script.specs.lines.Faults.{said_fault};
+ghost use Rattle.ix_script.specs.scripts.Scripts.{config_of};
 ghost use Rattle.ix_script.specs.declared.line.Line.{Line};
 
 use crate::fss::{blocks_for, fs_of};
@@ -121,7 +121,7 @@ fn add_made(made: &mut Tree, line: &Line) -> Result<(), NoMemory>
 }
 
 /// The file system of a script that tells none.
-#[tactic(auto, unfolding(crate::specs::Before::default_fs))]
+#[tactic(auto, unfolding(crate::specs::lines::Before::default_fs))]
 pub(crate) fn default_fs() -> FsSpec
     ensures { result ≡ default_fs }
 {
@@ -143,7 +143,7 @@ fn root_name() -> Name
 }
 
 /// The limits of a script that tells none.
-#[tactic(auto, unfolding(crate::specs::Before::default_limits))]
+#[tactic(auto, unfolding(crate::specs::lines::Before::default_limits))]
 pub(crate) fn default_limits() -> Limits
     ensures { result ≡ default_limits }
 {
@@ -222,7 +222,7 @@ fn take(taken: &mut Taken, fss: &[FsSpec], line: &Line)
 
 impl Header {
     /// Before any line.
-    #[tactic(auto, unfolding(crate::specs::Before::fss_told, crate::specs::Before::limits_of, crate::specs::Before::whats_told, crate::specs::Before::proc_names, crate::specs::Before::objects_of, crate::specs::Before::has_policy))]
+    #[tactic(auto, unfolding(crate::specs::lines::Before::fss_told, crate::specs::lines::Before::limits_of, crate::specs::lines::Before::whats_told, crate::specs::lines::Before::proc_names, crate::specs::lines::Before::objects_of, crate::specs::lines::Before::has_policy))]
     pub fn new(alloc: Global) -> Result<Header, NoMemory>
         ensures { IfOk result (λ h. HeaderTold h []) }
     {

@@ -1,10 +1,10 @@
 ghost use Rattle.std.specs.Prelude.{◌≡◌, ◌<◌, IfSome};
-ghost use Rattle.ix_script.specs.Payloads.{digit_of, pair_of, two_digits};
+ghost use Rattle.ix_script.specs.texts.Payloads.{digit_of, pair_of, two_digits};
 
 use crate::words::is_digit;
 
 /// The value of a hexadecimal digit.
-#[tactic(auto, unfolding(crate::specs::Payloads::digit_of))]
+#[tactic(auto, unfolding(crate::specs::texts::Payloads::digit_of))]
 fn digit(b: u8) -> Option<u8>
     ensures digit { result ≡ digit_of b }
     ensures low { IfSome result (λ n. n < 16) }
@@ -21,7 +21,7 @@ fn digit(b: u8) -> Option<u8>
 }
 
 /// The byte of two digits.
-#[tactic(auto, unfolding(crate::specs::Payloads::pair_of))]
+#[tactic(auto, unfolding(crate::specs::texts::Payloads::pair_of))]
 pub(crate) fn pair(high: u8, low: u8) -> Option<u8>
     ensures { result ≡ pair_of high low }
 {

@@ -1,5 +1,5 @@
 ghost use Rattle.std.specs.Prelude.{◌≡◌};
-ghost use Rattle.ix_script.specs.Before.{is_known};
+ghost use Rattle.ix_script.specs.lines.Before.{is_known};
 
 use crate::words::is;
 use ix_model::Name;

@@ -1,7 +1,7 @@
 ghost use Rattle.std.specs.Prelude.{[], ◌∷◌};
-ghost use Rattle.ix_script.specs.Kinds as kind;
-ghost use Rattle.ix_script.specs.Labels.{label_of};
-ghost use Rattle.ix_script.specs.Readers.{Reads};
+ghost use Rattle.ix_script.specs.lines.Kinds as kind;
+ghost use Rattle.ix_script.specs.texts.Labels.{label_of};
+ghost use Rattle.ix_script.specs.reader.Readers.{Reads};
 
 use crate::refused::Refused;
 use ix_label::Label;

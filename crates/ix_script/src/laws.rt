@@ -1,6 +1,6 @@
 //! Laws of the canonical text, each a contract of its own.
 
-ghost use Rattle.ix_script.specs.Laws.{ReadsBack, OneByteMore, LineStays, NoShorterPayload};
+ghost use Rattle.ix_script.specs.scripts.Laws.{ReadsBack, OneByteMore, LineStays, NoShorterPayload};
 
 /// Does nothing: its contract is the law that the canonical text of a script that was read is
 /// read as the same script, where it has at most 16,777,216 bytes.

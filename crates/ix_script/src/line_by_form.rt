@@ -1,6 +1,6 @@
-ghost use Rattle.ix_script.specs.Forms.{places};
-ghost use Rattle.ix_script.specs.Readers.{Reads};
-ghost use Rattle.ix_script.specs.Said.{said};
+ghost use Rattle.ix_script.specs.lines.Forms.{places};
+ghost use Rattle.ix_script.specs.reader.Readers.{Reads};
+ghost use Rattle.ix_script.specs.lines.Said.{said};
 
 use crate::cut::Words;
 use crate::file_lines::{copy, dup, link, list, open, pipe, setlabel, setpriv, write};
@@ -13,7 +13,7 @@ use crate::refused::Refused;
 use std::alloc::Global;
 
 /// What a line of that form says, by rules 11 to 19: those that a word can break by itself.
-#[tactic(auto, unfolding(crate::specs::Kinds::places_fault, crate::specs::Kinds::first_broken))]
+#[tactic(auto, unfolding(crate::specs::lines::Kinds::places_fault, crate::specs::lines::Kinds::first_broken))]
 pub(crate) fn line_by_form(alloc: Global, form: Form, words: &Words<'_>) -> Result<Line, Refused>
     ensures { Reads (λ x. x) result (places form words.now) (said form words.now) }
 {

@@ -1,17 +1,17 @@
 ghost use Rattle.std.specs.Prelude.{◌≡◌, ℕ, ◌≤◌, ◌<◌, [], ◌∷◌, ◌==◌, Some, IfSome, MatchOption, IfOk, not, IsTrue};
 ghost use Rattle.std.specs.Bool.{OnFalse};
-ghost use Rattle.ix_model.specs.Valid.{is_within};
-ghost use Rattle.ix_script.specs.Kinds as kind;
-ghost use Rattle.ix_script.specs.Kinds.{bounds, bounds_of};
-ghost use Rattle.ix_script.specs.Readers.{Reads};
-ghost use Rattle.ix_script.specs.Words.{is_numeral, value, number_of, fd_of, keep_of};
+ghost use Rattle.ix_model.specs.opening.Valid.{is_within};
+ghost use Rattle.ix_script.specs.lines.Kinds as kind;
+ghost use Rattle.ix_script.specs.lines.Kinds.{bounds, bounds_of};
+ghost use Rattle.ix_script.specs.reader.Readers.{Reads};
+ghost use Rattle.ix_script.specs.texts.Words.{is_numeral, value, number_of, fd_of, keep_of};
 
 use crate::choices::what_by_name;
 use crate::line::{FdWord, KeepWord, What};
 use crate::refused::Refused;
 use crate::words::{all_digits, begins, begins_with_digit, is, name};
 
-#[tactic(auto, unfolding(crate::specs::Words::is_numeral))]
+#[tactic(auto, unfolding(crate::specs::texts::Words::is_numeral))]
 pub(crate) fn is_numeral(word: &[u8]) -> bool
     ensures { result ≡ is_numeral word.now }
 {
@@ -19,7 +19,7 @@ pub(crate) fn is_numeral(word: &[u8]) -> bool
 }
 
 /// The number of these digits; `None` exactly where it is above 4,294,967,295.
-#[tactic(auto, unfolding(crate::specs::Words::value))]
+#[tactic(auto, unfolding(crate::specs::texts::Words::value))]
 pub(crate) fn value(word: &[u8]) -> Option<u32>
     ensures { MatchOption result (4294967295 < value word.now) (λ n. n ≡ value word.now) }
 {
@@ -34,7 +34,7 @@ pub(crate) fn value(word: &[u8]) -> Option<u32>
 }
 
 /// A decimal number without leading zeros, within bounds.
-#[tactic(auto, unfolding(crate::specs::Words::number_of, crate::specs::Kinds::places_fault, crate::specs::Kinds::first_broken))]
+#[tactic(auto, unfolding(crate::specs::texts::Words::number_of, crate::specs::lines::Kinds::places_fault, crate::specs::lines::Kinds::first_broken))]
 pub(crate) fn number(low: u32, high: u32, word: &[u8]) -> Result<u32, Refused>
     ensures number { Reads (λ x. x) result ((kind.Number low high, word.now) ∷ []) (number_of low high word.now) }
     ensures within { IfOk result (λ n. n ≤ high) }
@@ -65,7 +65,7 @@ fn bounds_of(what: What) -> (u32, u32)
     }
 }
 
-#[tactic(auto, unfolding(crate::specs::Kinds::bounds))]
+#[tactic(auto, unfolding(crate::specs::lines::Kinds::bounds))]
 fn bounds(word: &[u8]) -> (u32, u32)
     ensures { result ≡ bounds word.now }
 {
@@ -76,7 +76,7 @@ fn bounds(word: &[u8]) -> (u32, u32)
 }
 
 /// The number of a `limit` line for that word.
-#[tactic(auto, unfolding(crate::specs::Kinds::places_fault, crate::specs::Kinds::first_broken))]
+#[tactic(auto, unfolding(crate::specs::lines::Kinds::places_fault, crate::specs::lines::Kinds::first_broken))]
 pub(crate) fn bound(what: &[u8], word: &[u8]) -> Result<u32, Refused>
     ensures { Reads (λ x. x) result ((kind.Bound what.now, word.now) ∷ []) (number_of (bounds what.now).0 (bounds what.now).1 word.now) }
 {
@@ -85,7 +85,7 @@ pub(crate) fn bound(what: &[u8], word: &[u8]) -> Result<u32, Refused>
 }
 
 /// A number up to 255, or a name.
-#[tactic(auto, unfolding(crate::specs::Words::fd_of, crate::specs::Kinds::places_fault, crate::specs::Kinds::first_broken))]
+#[tactic(auto, unfolding(crate::specs::texts::Words::fd_of, crate::specs::lines::Kinds::places_fault, crate::specs::lines::Kinds::first_broken))]
 pub(crate) fn fd(word: &[u8]) -> Result<FdWord, Refused>
     ensures { Reads (λ x. x) result ((kind.Fd, word.now) ∷ []) (fd_of word.now) }
 {
@@ -98,7 +98,7 @@ pub(crate) fn fd(word: &[u8]) -> Result<FdWord, Refused>
 }
 
 /// `all`, `none`, or a descriptor.
-#[tactic(auto, unfolding(crate::specs::Words::keep_of, crate::specs::Kinds::places_fault, crate::specs::Kinds::first_broken))]
+#[tactic(auto, unfolding(crate::specs::texts::Words::keep_of, crate::specs::lines::Kinds::places_fault, crate::specs::lines::Kinds::first_broken))]
 pub(crate) fn keep(word: &[u8]) -> Result<KeepWord, Refused>
     ensures { Reads (λ x. x) result ((kind.Keep, word.now) ∷ []) (keep_of word.now) }
 {

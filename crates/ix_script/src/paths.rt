@@ -2,9 +2,9 @@ ghost use Rattle.std.specs.Prelude.{◌≡◌, ℕ, ◌≤◌, ◌<◌, ◌+◌,
 ghost use Rattle.std.specs.Option.{option_map_or};
 ghost use Rattle.std.specs.List.{list_all};
 ghost use Rattle.std.proofs.Common.{option_map};
-ghost use Rattle.ix_script.specs.Kinds as kind;
-ghost use Rattle.ix_script.specs.Readers.{Reads};
-ghost use Rattle.ix_script.specs.Words.{may_stand_in_path, between_slashes, names_of, path_from, absolute_path, relative_path, path_of, made_path_of};
+ghost use Rattle.ix_script.specs.lines.Kinds as kind;
+ghost use Rattle.ix_script.specs.reader.Readers.{Reads};
+ghost use Rattle.ix_script.specs.texts.Words.{may_stand_in_path, between_slashes, names_of, path_from, absolute_path, relative_path, path_of, made_path_of};
 
 use crate::refused::Refused;
 use crate::words::begins;
@@ -69,7 +69,7 @@ fn absolute_path(text: &[u8]) -> Option<Path>
     }
 }
 
-#[tactic(auto, unfolding(crate::specs::Words::path_of))]
+#[tactic(auto, unfolding(crate::specs::texts::Words::path_of))]
 fn path_by_word(word: &[u8]) -> Option<Path>
     ensures { result ≡ path_of word.now }
 {
@@ -84,7 +84,7 @@ fn path_by_word(word: &[u8]) -> Option<Path>
 }
 
 /// A path.
-#[tactic(auto, unfolding(crate::specs::Kinds::places_fault, crate::specs::Kinds::first_broken))]
+#[tactic(auto, unfolding(crate::specs::lines::Kinds::places_fault, crate::specs::lines::Kinds::first_broken))]
 pub(crate) fn path(word: &[u8]) -> Result<Path, Refused>
     ensures { Reads (λ x. x) result ((kind.AnyPath, word.now) ∷ []) (path_of word.now) }
 {
@@ -95,7 +95,7 @@ pub(crate) fn path(word: &[u8]) -> Result<Path, Refused>
 }
 
 /// An absolute path with a name.
-#[tactic(auto, unfolding(crate::specs::Words::made_path_of, crate::specs::Kinds::places_fault, crate::specs::Kinds::first_broken))]
+#[tactic(auto, unfolding(crate::specs::texts::Words::made_path_of, crate::specs::lines::Kinds::places_fault, crate::specs::lines::Kinds::first_broken))]
 pub(crate) fn made_path(word: &[u8]) -> Result<Path, Refused>
     ensures { Reads (λ x. x) result ((kind.MadePath, word.now) ∷ []) (made_path_of word.now) }
 {

@@ -1,9 +1,9 @@
 ghost use Rattle.std.specs.Prelude.{◌≡◌, ℕ, ◌≤◌, ◌+◌, ◌==◌, [], ◌∷◌, length, position, IfSome, IfOk, OnOk, ◌++◌, replicate};
-ghost use Rattle.ix_script.specs.Kinds as kind;
-ghost use Rattle.ix_script.specs.Payloads.{pairs_of, quoted_from, bytes_of, times_from, times_of, payload_of};
-ghost use Rattle.ix_script.specs.Readers.{Reads};
-ghost use Rattle.ix_script.specs.Said.{payload_within};
-ghost use Rattle.ix_script.specs.Spelled.{Spells};
+ghost use Rattle.ix_script.specs.lines.Kinds as kind;
+ghost use Rattle.ix_script.specs.texts.Payloads.{pairs_of, quoted_from, bytes_of, times_from, times_of, payload_of};
+ghost use Rattle.ix_script.specs.reader.Readers.{Reads};
+ghost use Rattle.ix_script.specs.lines.Said.{payload_within};
+ghost use Rattle.ix_script.specs.texts.Spelled.{Spells};
 ghost use Rattle.ix_script.specs.declared.escape.Escape.TheVariants as escape;
 
 use crate::escape::Escape;
@@ -86,7 +86,7 @@ fn filled(alloc: Global, count: u32, byte: u8) -> Result<Bytes, NoMemory>
 }
 
 /// A byte so often as a number says, at most so often.
-#[tactic(auto, unfolding(crate::specs::Payloads::times_from, crate::specs::Spelled::spelling_fault))]
+#[tactic(auto, unfolding(crate::specs::texts::Payloads::times_from, crate::specs::texts::Spelled::spelling_fault))]
 fn times(alloc: Global, most: u32, count: &[u8], digits: &[u8]) -> Result<Bytes, Refused>
     ensures { Spells most result (times_from count.now digits.now) }
 {
@@ -105,7 +105,7 @@ fn times(alloc: Global, most: u32, count: &[u8], digits: &[u8]) -> Result<Bytes,
     Ok(filled(alloc, n, byte)?)
 }
 
-#[tactic(auto, unfolding(crate::specs::Payloads::times_of, crate::specs::Spelled::spelling_fault))]
+#[tactic(auto, unfolding(crate::specs::texts::Payloads::times_of, crate::specs::texts::Spelled::spelling_fault))]
 fn times_by_word(alloc: Global, most: u32, word: &[u8]) -> Result<Bytes, Refused>
     ensures { Spells most result (times_of word.now) }
 {
@@ -118,7 +118,7 @@ fn times_by_word(alloc: Global, most: u32, word: &[u8]) -> Result<Bytes, Refused
     }
 }
 
-#[tactic(auto, unfolding(crate::specs::Payloads::payload_of))]
+#[tactic(auto, unfolding(crate::specs::texts::Payloads::payload_of))]
 fn spelled(alloc: Global, most: u32, word: &[u8]) -> Result<Bytes, Refused>
     ensures { Spells most result (payload_of word.now) }
 {
@@ -132,7 +132,7 @@ fn spelled(alloc: Global, most: u32, word: &[u8]) -> Result<Bytes, Refused>
 }
 
 /// The bytes of a payload, at most so many.
-#[tactic(auto, unfolding(crate::specs::Spelled::spelling_fault, crate::specs::Kinds::places_fault, crate::specs::Kinds::first_broken))]
+#[tactic(auto, unfolding(crate::specs::texts::Spelled::spelling_fault, crate::specs::lines::Kinds::places_fault, crate::specs::lines::Kinds::first_broken))]
 pub(crate) fn payload(alloc: Global, most: u32, word: &[u8]) -> Result<Bytes, Refused>
     ensures { Reads (λ x. x) result ((kind.Payload most, word.now) ∷ []) (payload_within most word.now) }
 {

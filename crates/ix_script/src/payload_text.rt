@@ -1,7 +1,7 @@
 ghost use Rattle.std.specs.Prelude.{◌≡◌, ◌++◌, ◌∷◌, ◌≤◌, ◌==◌, length, OnOk};
 ghost use Rattle.std.specs.List.{list_all};
-ghost use Rattle.ix_script.specs.Spellings.{hex_pair, pairs_text, times_text, quoted_byte, quoted_text, once, payload_text};
-ghost use Rattle.ix_script.specs.PayloadForms.{text_in};
+ghost use Rattle.ix_script.specs.texts.Spellings.{hex_pair, pairs_text, times_text, quoted_byte, quoted_text, once, payload_text};
+ghost use Rattle.ix_script.specs.texts.PayloadForms.{text_in};
 
 use crate::append::push;
 use crate::payload_form::PayloadForm;
@@ -31,7 +31,7 @@ fn times(out: &mut Vec<u8>, n: usize, byte: u8) -> Result<(), NoMemory>
 }
 
 /// A byte in quotes.
-#[tactic(auto, unfolding(crate::specs::Spellings::quoted_byte))]
+#[tactic(auto, unfolding(crate::specs::texts::Spellings::quoted_byte))]
 fn quoted_byte(out: &mut Vec<u8>, byte: u8) -> Result<(), NoMemory>
     ensures { OnOk result (out.new.items ≡ out.old.items ++ quoted_byte byte) }
 {
@@ -60,7 +60,7 @@ fn quoted(out: &mut Vec<u8>, bytes: &[u8]) -> Result<(), NoMemory>
 }
 
 /// How many bytes a byte takes in quotes.
-#[tactic(auto, unfolding(crate::specs::Spellings::quoted_byte))]
+#[tactic(auto, unfolding(crate::specs::texts::Spellings::quoted_byte))]
 fn quoted_byte_len(byte: u8) -> u8
     ensures len { result ≡ length (quoted_byte byte) }
     ensures few { result ≤ 4 }
@@ -101,7 +101,7 @@ fn are_all(byte: u8, bytes: &[u8]) -> bool
 }
 
 /// The byte that these are over and over; `None` also where there is none.
-#[tactic(auto, using(crate::proofs::Shortest::once_first))]
+#[tactic(auto, using(crate::proofs::back::Shortest::once_first))]
 fn repeated(bytes: &[u8]) -> Option<u8>
     ensures { result ≡ once bytes.now }
 {
@@ -117,7 +117,7 @@ fn repeated(bytes: &[u8]) -> Option<u8>
 }
 
 /// The shortest spelling; of equally short ones the pairs come first, then n*HH.
-#[tactic(auto, unfolding(crate::specs::Spellings::payload_text))]
+#[tactic(auto, unfolding(crate::specs::texts::Spellings::payload_text))]
 fn shortest(bytes: &[u8]) -> PayloadForm
     ensures { text_in result bytes.now ≡ payload_text bytes.now }
 {

@@ -1,12 +1,12 @@
 ghost use Rattle.std.specs.Prelude.{ℕ, ◌<◌, [], ◌∷◌};
-ghost use Rattle.ix_script.specs.Cutting.{word_at};
-ghost use Rattle.ix_script.specs.Forms.{tail_places};
-ghost use Rattle.ix_script.specs.Kinds as kind;
-ghost use Rattle.ix_script.specs.Kinds.{bounds};
-ghost use Rattle.ix_script.specs.Labels.{label_of};
-ghost use Rattle.ix_script.specs.Readers.{Reads};
-ghost use Rattle.ix_script.specs.Said.{payload_within, name_after, two_names_after};
-ghost use Rattle.ix_script.specs.Words.{name_of, number_of, privs_of, path_of, made_path_of, mode_of, state_of, what_of, fd_of, keep_of};
+ghost use Rattle.ix_script.specs.texts.Cutting.{word_at};
+ghost use Rattle.ix_script.specs.lines.Forms.{tail_places};
+ghost use Rattle.ix_script.specs.lines.Kinds as kind;
+ghost use Rattle.ix_script.specs.lines.Kinds.{bounds};
+ghost use Rattle.ix_script.specs.texts.Labels.{label_of};
+ghost use Rattle.ix_script.specs.reader.Readers.{Reads};
+ghost use Rattle.ix_script.specs.lines.Said.{payload_within, name_after, two_names_after};
+ghost use Rattle.ix_script.specs.texts.Words.{name_of, number_of, privs_of, path_of, made_path_of, mode_of, state_of, what_of, fd_of, keep_of};
 
 use crate::both::both;
 use crate::choices::{mode, state, what};
@@ -116,7 +116,7 @@ impl<'a> Words<'a> {
     }
 
     /// The name behind `as` at that place, where the line goes on to it.
-    #[tactic(auto, unfolding(crate::specs::Kinds::places_fault, crate::specs::Kinds::first_broken))]
+    #[tactic(auto, unfolding(crate::specs::lines::Kinds::places_fault, crate::specs::lines::Kinds::first_broken))]
     pub fn name_after(&self, n: usize) -> Result<Option<Name>, Refused>
         requires { n < 8 }
         ensures new_fd { Reads (λ x. x) result (tail_places (kind.NewFd ∷ []) n self.now) (name_after n self.now) }
@@ -130,7 +130,7 @@ impl<'a> Words<'a> {
     }
 
     /// The two names behind `as` at place 2, where the line goes on to them.
-    #[tactic(auto, unfolding(crate::specs::Kinds::places_fault, crate::specs::Kinds::first_broken))]
+    #[tactic(auto, unfolding(crate::specs::lines::Kinds::places_fault, crate::specs::lines::Kinds::first_broken))]
     pub fn two_names_after(&self) -> Result<Option<(Name, Name)>, Refused>
         ensures { Reads (λ x. x) result (tail_places (kind.NewFd ∷ kind.NewFd ∷ []) 2 self.now) (two_names_after 2 self.now) }
     {

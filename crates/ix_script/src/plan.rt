@@ -1,7 +1,7 @@
 ghost use Rattle.std.specs.Prelude.{◌≡◌, ◌++◌, ◌∷◌, [], List, OnOk, IfOk};
-ghost use Rattle.ix_script.specs.Before.{fs_told, proc_told, object_told, or_default};
-ghost use Rattle.ix_script.specs.Held.{IsPlan};
-ghost use Rattle.ix_script.specs.Scripts.{config_of};
+ghost use Rattle.ix_script.specs.lines.Before.{fs_told, proc_told, object_told, or_default};
+ghost use Rattle.ix_script.specs.scripts.Held.{IsPlan};
+ghost use Rattle.ix_script.specs.scripts.Scripts.{config_of};
 ghost use Rattle.ix_script.specs.declared.line.Line.{Line};
 
 use crate::header::{default_fs, default_limits, limits_after};
@@ -111,7 +111,7 @@ fn fss_or_default(fss: List<FsSpec>) -> Result<List<FsSpec>, NoMemory>
 }
 
 impl Plan {
-    #[tactic(auto, unfolding(crate::specs::Before::fss_told, crate::specs::Before::limits_of, crate::specs::Before::procs_of, crate::specs::Before::objects_of))]
+    #[tactic(auto, unfolding(crate::specs::lines::Before::fss_told, crate::specs::lines::Before::limits_of, crate::specs::lines::Before::procs_of, crate::specs::lines::Before::objects_of))]
     fn new(alloc: Global) -> Plan
         ensures { IsPlan result [] }
     {
@@ -147,7 +147,7 @@ impl Plan {
 }
 
 /// What a machine starts from by these lines.
-#[tactic(auto, unfolding(crate::specs::Scripts::config_of))]
+#[tactic(auto, unfolding(crate::specs::scripts::Scripts::config_of))]
 pub(crate) fn config(alloc: Global, lines: &[Line]) -> Result<Config, NoMemory>
     ensures { IfOk result (λ c. c ≡ config_of lines.now) }
 {

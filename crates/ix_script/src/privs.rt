@@ -1,7 +1,7 @@
 ghost use Rattle.std.specs.Prelude.{◌≡◌, ℕ, ◌≤◌, ◌<◌, ◌+◌, List, [], ◌∷◌};
-ghost use Rattle.ix_script.specs.Kinds as kind;
-ghost use Rattle.ix_script.specs.Readers.{Reads};
-ghost use Rattle.ix_script.specs.Words.{bits_from, letters, privs_of};
+ghost use Rattle.ix_script.specs.lines.Kinds as kind;
+ghost use Rattle.ix_script.specs.reader.Readers.{Reads};
+ghost use Rattle.ix_script.specs.texts.Words.{bits_from, letters, privs_of};
 
 use crate::refused::Refused;
 use crate::words::{begins, is};
@@ -33,7 +33,7 @@ fn bits(word: &[u8]) -> Option<u8>
 }
 
 /// A set of privileges.
-#[tactic(auto, unfolding(crate::specs::Words::privs_of, crate::specs::Kinds::places_fault, crate::specs::Kinds::first_broken))]
+#[tactic(auto, unfolding(crate::specs::texts::Words::privs_of, crate::specs::lines::Kinds::places_fault, crate::specs::lines::Kinds::first_broken))]
 pub(crate) fn privs(word: &[u8]) -> Result<PrivSet, Refused>
     ensures { Reads (λ x. x) result ((kind.Privs, word.now) ∷ []) (privs_of word.now) }
 {

@@ -1,6 +1,6 @@
-ghost use Rattle.ix_script.specs.Forms.{places};
-ghost use Rattle.ix_script.specs.Readers.{Reads};
-ghost use Rattle.ix_script.specs.Said.{said};
+ghost use Rattle.ix_script.specs.lines.Forms.{places};
+ghost use Rattle.ix_script.specs.reader.Readers.{Reads};
+ghost use Rattle.ix_script.specs.lines.Said.{said};
 ghost use Rattle.ix_script.specs.declared.form.Form.TheVariants as form;
 
 use crate::both::both;

@@ -1,11 +1,11 @@
 ghost use Rattle.std.specs.Prelude.{◌≡◌, ◌<◌, ◌≤◌, ◌∷◌, [], true, None, Some, length, IfOk, IfErr};
-ghost use Rattle.ix_model.specs.Valid.{is_valid};
-ghost use Rattle.ix_script.specs.Before.{commands};
-ghost use Rattle.ix_script.specs.Faults.{fault_from, fault_of};
-ghost use Rattle.ix_script.specs.Lines.{cut, lines_of};
-ghost use Rattle.ix_script.specs.Readers.{HasCause};
-ghost use Rattle.ix_script.specs.Scripts.{lines_said, script_of, config_of};
-ghost use Rattle.ix_script.specs.Told.{DraftTold};
+ghost use Rattle.ix_model.specs.opening.Valid.{is_valid};
+ghost use Rattle.ix_script.specs.lines.Before.{commands};
+ghost use Rattle.ix_script.specs.lines.Faults.{fault_from, fault_of};
+ghost use Rattle.ix_script.specs.texts.Lines.{cut, lines_of};
+ghost use Rattle.ix_script.specs.reader.Readers.{HasCause};
+ghost use Rattle.ix_script.specs.scripts.Scripts.{lines_said, script_of, config_of};
+ghost use Rattle.ix_script.specs.reader.Told.{DraftTold};
 
 use crate::draft::Draft;
 use crate::fail::{ReadFail, ScriptFault};

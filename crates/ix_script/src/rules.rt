@@ -1,11 +1,11 @@
 ghost use Rattle.std.specs.Prelude.{◌≡◌, Some, None, [], IfOk, if◌then◌else◌};
 ghost use Rattle.std.specs.List.{list_all};
-ghost use Rattle.ix_model.specs.Valid.{is_within};
-ghost use Rattle.ix_script.specs.Cutting.{words_of, is_skipped, is_policy_line, policy_text};
-ghost use Rattle.ix_script.specs.Faults.{text_fault, words_fault, stand_fault, names_fault, said_fault, form_fault, command_fault, policy_fault, first_line_fault, body_fault, line_fault};
-ghost use Rattle.ix_script.specs.Readers.{Finds, Tells};
-ghost use Rattle.ix_script.specs.Said.{said, said_by_words, line_of};
-ghost use Rattle.ix_script.specs.Told.{DraftTold};
+ghost use Rattle.ix_model.specs.opening.Valid.{is_within};
+ghost use Rattle.ix_script.specs.texts.Cutting.{words_of, is_skipped, is_policy_line, policy_text};
+ghost use Rattle.ix_script.specs.lines.Faults.{text_fault, words_fault, stand_fault, names_fault, said_fault, form_fault, command_fault, policy_fault, first_line_fault, body_fault, line_fault};
+ghost use Rattle.ix_script.specs.reader.Readers.{Finds, Tells};
+ghost use Rattle.ix_script.specs.lines.Said.{said, said_by_words, line_of};
+ghost use Rattle.ix_script.specs.reader.Told.{DraftTold};
 ghost use Rattle.ix_script.specs.declared.line.Line.TheVariants as line;
 
 use crate::cut::Words;
@@ -28,7 +28,7 @@ fn all_printable(text: &[u8]) -> bool
 }
 
 /// Rules 2 and 3.
-#[tactic(auto, unfolding(crate::specs::Faults::text_fault, crate::specs::Rules::is_too_long, crate::specs::Rules::is_unprintable))]
+#[tactic(auto, unfolding(crate::specs::lines::Faults::text_fault, crate::specs::lines::Rules::is_too_long, crate::specs::lines::Rules::is_unprintable))]
 fn check_text(text: &[u8]) -> Result<(), Refused>
     ensures { Finds result (text_fault text.now) }
 {
@@ -42,7 +42,7 @@ fn check_text(text: &[u8]) -> Result<(), Refused>
 }
 
 /// Rules 4 and 5.
-#[tactic(auto, unfolding(crate::specs::Faults::words_fault))]
+#[tactic(auto, unfolding(crate::specs::lines::Faults::words_fault))]
 fn check_words(words: &Words<'_>) -> Result<(), Refused>
     ensures { Finds result (words_fault words.now) }
 {
@@ -64,7 +64,7 @@ fn is_skipped(text: &[u8]) -> bool
     }
 }
 
-#[tactic(auto, unfolding(crate::specs::Cutting::is_policy_line))]
+#[tactic(auto, unfolding(crate::specs::texts::Cutting::is_policy_line))]
 fn is_policy_line(text: &[u8]) -> bool
     ensures { result ≡ is_policy_line text.now }
 {
@@ -94,7 +94,7 @@ fn check_first_words(alloc: Global, text: &[u8]) -> Result<(), Refused>
 }
 
 /// Line 1: rules 4 to 6.
-#[tactic(auto, unfolding(crate::specs::Faults::first_line_fault))]
+#[tactic(auto, unfolding(crate::specs::lines::Faults::first_line_fault))]
 fn first_line(alloc: Global, text: &[u8]) -> Result<Line, Refused>
     ensures { Tells [] result (first_line_fault text.now) (line_of text.now) }
 {
@@ -108,7 +108,7 @@ fn first_line(alloc: Global, text: &[u8]) -> Result<Line, Refused>
 
 impl Draft {
     /// Rules 8 to 10.
-    #[tactic(auto, unfolding(crate::specs::Faults::stand_fault))]
+    #[tactic(auto, unfolding(crate::specs::lines::Faults::stand_fault))]
     fn check_stand(&self, form: Form, words: &Words<'_>) -> Result<(), Refused>
         requires told { DraftTold self.now }
         ensures { Finds result (stand_fault self.now.lines form words.now) }
@@ -126,7 +126,7 @@ impl Draft {
     }
 
     /// Rules 20 and 21.
-    #[tactic(auto, unfolding(crate::specs::Faults::names_fault))]
+    #[tactic(auto, unfolding(crate::specs::lines::Faults::names_fault))]
     fn check_names(&self, form: Form, words: &Words<'_>) -> Result<(), Refused>
         requires told { DraftTold self.now }
         ensures { Finds result (names_fault self.now.lines form words.now) }
@@ -141,7 +141,7 @@ impl Draft {
     }
 
     /// Rules 22 to 26, and 28.
-    #[tactic(auto, unfolding(crate::specs::Faults::said_fault))]
+    #[tactic(auto, unfolding(crate::specs::lines::Faults::said_fault))]
     fn check_said<L: Ledger>(&self, line: &Line, steps: &mut Steps<L>) -> Result<(), Refused>
         requires told { DraftTold self.now }
         ensures { Finds result (said_fault self.now.lines line.now) }
@@ -168,7 +168,7 @@ impl Draft {
     }
 
     /// A line of a form: the rules from 8 on.
-    #[tactic(auto, unfolding(crate::specs::Faults::form_fault))]
+    #[tactic(auto, unfolding(crate::specs::lines::Faults::form_fault))]
     fn form_line<L: Ledger>(
         &self,
         alloc: Global,
@@ -187,7 +187,7 @@ impl Draft {
     }
 
     /// A line that is cut into words: the rules from 4 on.
-    #[tactic(auto, unfolding(crate::specs::Faults::command_fault))]
+    #[tactic(auto, unfolding(crate::specs::lines::Faults::command_fault))]
     fn command_line<L: Ledger>(
         &self,
         alloc: Global,
@@ -205,7 +205,7 @@ impl Draft {
     }
 
     /// The policy: it stands in the header, has a text, and stands once.
-    #[tactic(auto, unfolding(crate::specs::Faults::policy_fault))]
+    #[tactic(auto, unfolding(crate::specs::lines::Faults::policy_fault))]
     fn policy_line(&self, alloc: Global, text: &[u8]) -> Result<Line, Refused>
         requires told { DraftTold self.now }
         ensures { Tells self.now.lines result (policy_fault self.now.lines text.now) (Some (line.Policy (policy_text text.now))) }
@@ -226,7 +226,7 @@ impl Draft {
     }
 
     /// A line by where it stands and how it begins: the rules from 4 on.
-    #[tactic(auto, unfolding(crate::specs::Faults::body_fault))]
+    #[tactic(auto, unfolding(crate::specs::lines::Faults::body_fault))]
     fn body_line<L: Ledger>(
         &self,
         alloc: Global,
@@ -250,7 +250,7 @@ impl Draft {
     }
 
     /// What the next line says; else the first rule that it breaks.
-    #[tactic(auto, unfolding(crate::specs::Faults::line_fault))]
+    #[tactic(auto, unfolding(crate::specs::lines::Faults::line_fault))]
     pub fn next_line<L: Ledger>(
         &self,
         alloc: Global,

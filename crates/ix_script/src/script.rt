@@ -1,10 +1,10 @@
 ghost use Rattle.std.specs.Prelude.{◌≡◌, ◌≤◌, ◌-◌, ◌<◌, ◌==◌, length, position, slice_get, IfSome, true, None, if◌then◌else◌, IfOk, IsTrue};
 ghost use Rattle.std.specs.Option.{option_copied};
-ghost use Rattle.ix_model.specs.Valid.{is_valid};
+ghost use Rattle.ix_model.specs.opening.Valid.{is_valid};
 ghost use Rattle.std.proofs.Common.{option_map};
-ghost use Rattle.ix_script.specs.Before.{lanes_of, commands, is_policy};
-ghost use Rattle.ix_script.specs.Scripts.{config_of, policy_told, policy_of};
-ghost use Rattle.ix_script.specs.Told.{DraftTold};
+ghost use Rattle.ix_script.specs.lines.Before.{lanes_of, commands, is_policy};
+ghost use Rattle.ix_script.specs.scripts.Scripts.{config_of, policy_told, policy_of};
+ghost use Rattle.ix_script.specs.reader.Told.{DraftTold};
 
 use crate::draft::Draft;
 use crate::line::Line;
@@ -25,7 +25,7 @@ impl Model for Script {
     ghost use Rattle.std.specs.Prelude.{List};
     ghost use Rattle.std.specs.Coded.{codes};
     ghost use Rattle.ix_label.specs.contracts.label.Label as label_type;
-    ghost use Rattle.ix_script.specs.Held.{IsScript};
+    ghost use Rattle.ix_script.specs.scripts.Held.{IsScript};
     ghost use Rattle.ix_script.specs.declared.line.Line.{Line};
 
     ghost Value = { List Line };
@@ -126,7 +126,7 @@ fn policy_text(line: &Line) -> Option<&[u8]>
     }
 }
 
-#[tactic(auto, unfolding(crate::specs::Scripts::policy_of))]
+#[tactic(auto, unfolding(crate::specs::scripts::Scripts::policy_of))]
 fn policy(lines: &List<Line>) -> Option<(u32, &[u8])>
     requires { length lines.now ≤ 16777216 }
     ensures { option_map (λ p. (p.0, p.1.now)) result ≡ policy_of lines.now }

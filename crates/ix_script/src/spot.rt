@@ -1,5 +1,5 @@
 ghost use Rattle.std.specs.Prelude.{◌≡◌};
-ghost use Rattle.ix_script.specs.Cutting.{after_byte, is_quoted, parts_words, closes};
+ghost use Rattle.ix_script.specs.texts.Cutting.{after_byte, is_quoted, parts_words, closes};
 
 /// Where in a line a byte stands.
 #[derive(Clone, Copy, Debug, PartialEq, Eq)]

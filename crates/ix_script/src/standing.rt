@@ -1,10 +1,10 @@
 ghost use Rattle.std.specs.Prelude.{◌≡◌, map};
 ghost use Rattle.std.specs.List.{list_any};
-ghost use Rattle.ix_model.specs.Naming.{same_bytes};
-ghost use Rattle.ix_script.specs.Before.{is_known, fss_told, whats_told, what_text, proc_names, phase_lanes};
-ghost use Rattle.ix_script.specs.Kinds as kind;
-ghost use Rattle.ix_script.specs.Rules.{is_late, is_outside, is_given_twice, is_unknown, names_unknown};
-ghost use Rattle.ix_script.specs.Told.{DraftTold};
+ghost use Rattle.ix_model.specs.world.Naming.{same_bytes};
+ghost use Rattle.ix_script.specs.lines.Before.{is_known, fss_told, whats_told, what_text, proc_names, phase_lanes};
+ghost use Rattle.ix_script.specs.lines.Kinds as kind;
+ghost use Rattle.ix_script.specs.lines.Rules.{is_late, is_outside, is_given_twice, is_unknown, names_unknown};
+ghost use Rattle.ix_script.specs.reader.Told.{DraftTold};
 
 use crate::cut::Words;
 use crate::draft::Draft;

@@ -3,7 +3,7 @@
 ghost use Rattle.std.specs.Prelude.{◌≡◌, ◌++◌, ◌+◌, ◌<◌, ◌≤◌};
 ghost use Rattle.arrayvec.specs.ArrayVec.{array_vec_len};
 ghost use Rattle.ix_label.specs.Spelling.{spelling};
-ghost use Rattle.ix_script.specs.Spellings.{hex_pair, letter_in, mode_text, privs_text, state_text};
+ghost use Rattle.ix_script.specs.texts.Spellings.{hex_pair, letter_in, mode_text, privs_text, state_text};
 
 use arrayvec::ArrayVec;
 use bitflags::Flags;
@@ -33,7 +33,7 @@ fn spell<L: Ledger>(label: &Label, blank: Blank) -> LabelText
 }
 
 /// A set of privileges: a dash, or the letters D, P, C, T and L of DOWN, PRIV, CEIL, THAW and LOG, in this order.
-#[tactic(auto, unfolding(crate::specs::Spellings::privs_text))]
+#[tactic(auto, unfolding(crate::specs::texts::Spellings::privs_text))]
 pub fn privs_text(set: PrivSet) -> ArrayVec<u8, 5>
     ensures { result.items ≡ privs_text set }
 {

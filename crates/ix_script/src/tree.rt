@@ -1,5 +1,5 @@
 ghost use Rattle.std.specs.Prelude.{◌≡◌, ◌++◌, ◌∷◌, [], length, OnOk};
-ghost use Rattle.ix_script.specs.Told.{made_there, made_dir_there};
+ghost use Rattle.ix_script.specs.reader.Told.{made_there, made_dir_there};
 
 use crate::by_names::ByNames;
 use ix_model::{NoMemory, Path};
@@ -31,7 +31,7 @@ pub(crate) struct Tree {
 impl Model for Tree {
     ghost use Rattle.std.specs.Prelude.{List};
     ghost use Rattle.ix_script.specs.declared.tree.Made.{Made};
-    ghost use Rattle.ix_script.specs.Indexed.{AreSites};
+    ghost use Rattle.ix_script.specs.reader.Indexed.{AreSites};
 
     ghost Value = { List Made };
 

@@ -1,11 +1,11 @@
 ghost use Rattle.std.specs.Prelude.{◌≡◌, ℕ, ◌≤◌, [], ◌∷◌, ◌==◌, length, not, ◌&&◌, IfOk};
 ghost use Rattle.std.specs.List.{list_all};
-ghost use Rattle.ix_model.specs.Naming.{same_bytes};
-ghost use Rattle.ix_model.specs.Valid.{is_within};
-ghost use Rattle.ix_script.specs.Cutting.{begins};
-ghost use Rattle.ix_script.specs.Kinds as kind;
-ghost use Rattle.ix_script.specs.Readers.{Reads};
-ghost use Rattle.ix_script.specs.Words.{is_letter, is_digit, begins_with, may_stand_in_script_name, is_reserved, is_script_name, name_of, is_numeral, value, number_of};
+ghost use Rattle.ix_model.specs.world.Naming.{same_bytes};
+ghost use Rattle.ix_model.specs.opening.Valid.{is_within};
+ghost use Rattle.ix_script.specs.texts.Cutting.{begins};
+ghost use Rattle.ix_script.specs.lines.Kinds as kind;
+ghost use Rattle.ix_script.specs.reader.Readers.{Reads};
+ghost use Rattle.ix_script.specs.texts.Words.{is_letter, is_digit, begins_with, may_stand_in_script_name, is_reserved, is_script_name, name_of, is_numeral, value, number_of};
 
 use crate::refused::Refused;
 use ix_model::Name;
@@ -76,7 +76,7 @@ fn is_reserved(word: &[u8]) -> bool
     is(word, b"all") || is(word, b"none") || is(word, b"as")
 }
 
-#[tactic(auto, unfolding(crate::specs::Words::is_script_name))]
+#[tactic(auto, unfolding(crate::specs::texts::Words::is_script_name))]
 fn is_script_name(word: &[u8]) -> bool
     ensures { result ≡ is_script_name word.now }
 {
@@ -84,7 +84,7 @@ fn is_script_name(word: &[u8]) -> bool
 }
 
 /// The name of a file system, a process, a lane or a descriptor.
-#[tactic(auto, unfolding(crate::specs::Words::name_of, crate::specs::Kinds::places_fault, crate::specs::Kinds::first_broken))]
+#[tactic(auto, unfolding(crate::specs::texts::Words::name_of, crate::specs::lines::Kinds::places_fault, crate::specs::lines::Kinds::first_broken))]
 pub(crate) fn name(word: &[u8]) -> Result<Name, Refused>
     ensures own { Reads (λ x. x) result ((kind.Own, word.now) ∷ []) (name_of word.now) }
     ensures proc { Reads (λ x. x) result ((kind.Proc, word.now) ∷ []) (name_of word.now) }

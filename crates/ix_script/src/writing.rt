@@ -1,9 +1,9 @@
 ghost use Rattle.std.specs.Prelude.{◌≡◌, ◌++◌, ◌∷◌, [], OnOk, IfOk, codes};
 ghost use Rattle.std.specs.Fmt.{decimal};
 ghost use Rattle.ix_label.specs.Spelling.{spelling};
-ghost use Rattle.ix_script.specs.Before.{what_text};
-ghost use Rattle.ix_script.specs.Spellings.{joined, privs_text, path_text, mode_text, state_text, fd_text, keep_text, as_name, as_names, payload_text};
-ghost use Rattle.ix_script.specs.Canonical.{line_text, canonical};
+ghost use Rattle.ix_script.specs.lines.Before.{what_text};
+ghost use Rattle.ix_script.specs.texts.Spellings.{joined, privs_text, path_text, mode_text, state_text, fd_text, keep_text, as_name, as_names, payload_text};
+ghost use Rattle.ix_script.specs.scripts.Canonical.{line_text, canonical};
 
 use crate::append::{
     both_named, fd, keep, label, mode, name, named, number, path, privs, push, state, what,
@@ -299,7 +299,7 @@ fn login(
 }
 
 /// A line's text, without a line feed.
-#[tactic(auto, unfolding(crate::specs::Canonical::line_words))]
+#[tactic(auto, unfolding(crate::specs::scripts::Canonical::line_words))]
 fn write_line(out: &mut Vec<u8>, line: &Line) -> Result<(), NoMemory>
     ensures { OnOk result (out.new.items ≡ out.old.items ++ line_text line.now) }
 {

@@ -1,14 +1,14 @@
 -- A history shows what its steps give, one after another.
 use Rattle.std.proofs.Common.{◌≡◌, ℕ, zero, suc, ◌+◌, ◌&&◌, List, [], ◌∷◌, ◌++◌, length, take, if◌then◌else◌, refl, ap, ◌∙◌, arith}
 use Rattle.std.specs.Option.{option_map_or}
-use Rattle.ix_model.specs.World.{World}
-use Rattle.ix_model.specs.Step.{Given, answer, step, step_of, run}
-use Rattle.ix_model.specs.Table.{Decision, verdict}
-use Rattle.ix_model.specs.Telling.{told}
-use Rattle.ix_model.specs.Opening.{opening_world}
-use Rattle.ix_model.specs.AuditLog.{is_answer, is_licensed, exercises, line_of_act, lines_added, audit_log}
-use Rattle.ix_model.specs.Events.{Op, Event}
-use Rattle.ix_model.specs.Events as op
+use Rattle.ix_model.specs.world.World.{World}
+use Rattle.ix_model.specs.history.Step.{Given, answer, step, step_of, run}
+use Rattle.ix_model.specs.rows.Table.{Decision, verdict}
+use Rattle.ix_model.specs.rows.Telling.{told}
+use Rattle.ix_model.specs.opening.Opening.{opening_world}
+use Rattle.ix_model.specs.history.AuditLog.{is_answer, is_licensed, exercises, line_of_act, lines_added, audit_log}
+use Rattle.ix_model.specs.history.Events.{Op, Event}
+use Rattle.ix_model.specs.history.Events as op
 use Rattle.ix_model.specs.declared.audit.AuditLine.{AuditLine}
 use Rattle.ix_model.specs.declared.config.Config.{Config}
 use Rattle.ix_model.specs.declared.refusal.Refusal.{Refusal}

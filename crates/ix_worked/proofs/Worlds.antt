@@ -1,11 +1,11 @@
 -- The worlds that the sessions go through, written out.
 use Rattle.std.proofs.Common.{ℕ, ◌+◌, ◌-◌, true, List, [], ◌∷◌, ◌++◌, Option, Some, None, option_map, map, length, replicate, slice_set}
 use Rattle.ix_label.specs.Category.{Categories, bottom}
-use Rattle.ix_model.specs.World.{World, Process, Object, Open, at, change, put}
-use Rattle.ix_model.specs.Opening.{process_of}
-use Rattle.ix_model.specs.OnPaths.{new_object}
-use Rattle.ix_model.specs.Directories.{with_name}
-use Rattle.ix_model.specs.Flat.{flat_world}
+use Rattle.ix_model.specs.world.World.{World, Process, Object, Open, at, change, put}
+use Rattle.ix_model.specs.opening.Opening.{process_of}
+use Rattle.ix_model.specs.rows.OnPaths.{new_object}
+use Rattle.ix_model.specs.world.Directories.{with_name}
+use Rattle.ix_model.specs.opening.Flat.{flat_world}
 use Rattle.ix_model.specs.declared.audit.AuditLine.{AuditLine}
 use Rattle.ix_model.specs.declared.call.Mode.{Mode}
 use Rattle.ix_model.specs.declared.call.Mode.TheVariants as mode

@@ -1,8 +1,8 @@
 -- Configs at the edge of what is valid, and just past it.
 use Rattle.std.specs.Prelude.{◌≡◌, ℕ, Bool, List, [], ◌∷◌, map, replicate, codes}
 use Rattle.ix_label.specs.Category.{bottom, top}
-use Rattle.ix_model.specs.Privs.{to_lower}
-use Rattle.ix_model.specs.Valid.{is_valid}
+use Rattle.ix_model.specs.world.Privs.{to_lower}
+use Rattle.ix_model.specs.opening.Valid.{is_valid}
 use Rattle.ix_model.specs.declared.config.Config.{Config}
 use Rattle.ix_model.specs.declared.config.Limits.{Limits}
 use Rattle.ix_model.specs.declared.config.FsSpec.{FsSpec}

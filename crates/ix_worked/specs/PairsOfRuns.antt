@@ -2,15 +2,15 @@
 use Rattle.std.specs.Prelude.{◌≡◌, ℕ, suc, ◌==◌, ◌-◌, Bool, true, false, List, [], ◌∷◌, map, take, length, codes}
 use Rattle.std.specs.List.{range_with_len}
 use Rattle.ix_label.specs.Category.{Categories}
-use Rattle.ix_model.specs.World.{World}
-use Rattle.ix_model.specs.Opening.{opening_world}
-use Rattle.ix_model.specs.Step.{step_of, run}
-use Rattle.ix_model.specs.Events.{Op, Event}
-use Rattle.ix_model.specs.Events as op
-use Rattle.ix_model.specs.EqualLengths.{AgreeInLength}
-use Rattle.ix_model.specs.Freshness.{Way, is_fresh}
-use Rattle.ix_model.specs.Lowering.{Lowered, Crosses}
-use Rattle.ix_model.specs.TwoRuns.{Agree, Low}
+use Rattle.ix_model.specs.world.World.{World}
+use Rattle.ix_model.specs.opening.Opening.{opening_world}
+use Rattle.ix_model.specs.history.Step.{step_of, run}
+use Rattle.ix_model.specs.history.Events.{Op, Event}
+use Rattle.ix_model.specs.history.Events as op
+use Rattle.ix_model.specs.two_runs.EqualLengths.{AgreeInLength}
+use Rattle.ix_model.specs.history.Freshness.{Way, is_fresh}
+use Rattle.ix_model.specs.history.Lowering.{Lowered, Crosses}
+use Rattle.ix_model.specs.two_runs.TwoRuns.{Agree, Low}
 use Rattle.ix_model.specs.declared.call.Keep.TheVariants as keep
 use Rattle.ix_model.specs.declared.call.Mode.TheVariants as mode
 use Rattle.ix_model.specs.declared.config.Config.{Config}

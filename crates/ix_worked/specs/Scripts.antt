@@ -1,9 +1,9 @@
 -- The words that the sessions' configs and histories are written in.
 use Rattle.std.specs.Prelude.{ℕ, true, false, List, [], ◌∷◌, Some, None, codes}
 use Rattle.ix_label.specs.Category.{Categories, bottom, top, with}
-use Rattle.ix_model.specs.Naming.{PathOf}
-use Rattle.ix_model.specs.Privs.{no_privileges}
-use Rattle.ix_model.specs.Events.{Op, Event}
+use Rattle.ix_model.specs.world.Naming.{PathOf}
+use Rattle.ix_model.specs.world.Privs.{no_privileges}
+use Rattle.ix_model.specs.history.Events.{Op, Event}
 use Rattle.ix_model.specs.declared.audit.Act.{Act}
 use Rattle.ix_model.specs.declared.audit.AuditLine.{AuditLine}
 use Rattle.ix_model.specs.declared.config.Config.{Config}

@@ -8,31 +8,31 @@ pub mod refusals;
 pub mod two_runs;
 
 ghost use Rattle.std.specs.Prelude.{◌≡◌, ℕ, true, [], ◌∷◌, codes, take};
-ghost use Rattle.ix_model.specs.Valid.{is_valid, is_flat};
+ghost use Rattle.ix_model.specs.opening.Valid.{is_valid, is_flat};
 ghost use Rattle.ix_worked.specs.Sessions.{shown, log_of};
-ghost use Rattle.ix_worked.specs.Untouched.{untouched, no_entries, untouched_shows};
+ghost use Rattle.ix_worked.specs.labels.Untouched.{untouched, no_entries, untouched_shows};
 ghost use Rattle.ix_worked.specs.Scripts.{three, three_and_five};
-ghost use Rattle.ix_worked.specs.Floating.{reading_up, reading, floating_shows, stopped_shows};
-ghost use Rattle.ix_worked.specs.FileCeiling.{low_files, writing_down, writing_down_shows};
-ghost use Rattle.ix_worked.specs.TwoLevels.{two_levels, writing, writing_shows};
-ghost use Rattle.ix_worked.specs.LooksAnew.{held_low, reading_twice, reading_twice_shows};
-ghost use Rattle.ix_worked.specs.FrozenFile.{a_frozen_file, writing_to_it, writing_to_it_shows};
-ghost use Rattle.ix_worked.specs.Downgrading.{one_line, lowering, lowering_shows};
-ghost use Rattle.ix_worked.specs.ReadingTheLog.{two_lines, reading_the_log, reading_the_log_shows};
-ghost use Rattle.ix_worked.specs.Executing.{programs, executing, executing_shows};
-ghost use Rattle.ix_worked.specs.TrustedFile.{writing_a_program, writing_a_program_shows};
-ghost use Rattle.ix_worked.specs.SharedEntry.{one_file, sharing, sharing_shows};
-ghost use Rattle.ix_worked.specs.FewBlocks.{two_blocks, filling, filling_shows};
-ghost use Rattle.ix_worked.specs.Inheriting.{letters, inheriting, inheriting_shows};
-ghost use Rattle.ix_worked.specs.Waiting.{a_secret, waiting, waiting_shows};
-ghost use Rattle.ix_worked.specs.WaitingLow.{waiting_low, waiting_low_shows};
-ghost use Rattle.ix_worked.specs.Trees.{two_file_systems, naming, naming_shows};
-ghost use Rattle.ix_worked.specs.HighDirectory.{a_high_directory, looking_into_it, looking_into_it_shows};
-ghost use Rattle.ix_worked.specs.FullPipe.{one_process, piping, piping_shows};
-ghost use Rattle.ix_worked.specs.Claims.{claiming, claiming_shows};
-ghost use Rattle.ix_worked.specs.Copying.{copying, copying_shows};
-ghost use Rattle.ix_worked.specs.Login.{office, asking, asking_shows};
-ghost use Rattle.ix_worked.specs.SharedOffset.{one_shared, below_seven, reading_on, reading_on_shows, writing_on, writing_on_shows, writing_frozen, writing_frozen_shows};
+ghost use Rattle.ix_worked.specs.labels.Floating.{reading_up, reading, floating_shows, stopped_shows};
+ghost use Rattle.ix_worked.specs.labels.FileCeiling.{low_files, writing_down, writing_down_shows};
+ghost use Rattle.ix_worked.specs.labels.TwoLevels.{two_levels, writing, writing_shows};
+ghost use Rattle.ix_worked.specs.labels.LooksAnew.{held_low, reading_twice, reading_twice_shows};
+ghost use Rattle.ix_worked.specs.labels.FrozenFile.{a_frozen_file, writing_to_it, writing_to_it_shows};
+ghost use Rattle.ix_worked.specs.privileges.Downgrading.{one_line, lowering, lowering_shows};
+ghost use Rattle.ix_worked.specs.privileges.ReadingTheLog.{two_lines, reading_the_log, reading_the_log_shows};
+ghost use Rattle.ix_worked.specs.privileges.Executing.{programs, executing, executing_shows};
+ghost use Rattle.ix_worked.specs.privileges.TrustedFile.{writing_a_program, writing_a_program_shows};
+ghost use Rattle.ix_worked.specs.files.SharedEntry.{one_file, sharing, sharing_shows};
+ghost use Rattle.ix_worked.specs.files.FewBlocks.{two_blocks, filling, filling_shows};
+ghost use Rattle.ix_worked.specs.processes.Inheriting.{letters, inheriting, inheriting_shows};
+ghost use Rattle.ix_worked.specs.processes.Waiting.{a_secret, waiting, waiting_shows};
+ghost use Rattle.ix_worked.specs.processes.WaitingLow.{waiting_low, waiting_low_shows};
+ghost use Rattle.ix_worked.specs.files.Trees.{two_file_systems, naming, naming_shows};
+ghost use Rattle.ix_worked.specs.labels.HighDirectory.{a_high_directory, looking_into_it, looking_into_it_shows};
+ghost use Rattle.ix_worked.specs.pipes.FullPipe.{one_process, piping, piping_shows};
+ghost use Rattle.ix_worked.specs.pipes.Claims.{claiming, claiming_shows};
+ghost use Rattle.ix_worked.specs.pipes.Copying.{copying, copying_shows};
+ghost use Rattle.ix_worked.specs.privileges.Login.{office, asking, asking_shows};
+ghost use Rattle.ix_worked.specs.processes.SharedOffset.{one_shared, below_seven, reading_on, reading_on_shows, writing_on, writing_on_shows, writing_frozen, writing_frozen_shows};
 
 /// Where nothing is called there is the root, without categories, and nothing else.
 pub fn an_untouched_machine_is_its_root()
@@ -203,7 +203,7 @@ pub fn servers_act_for_users_over_whole_paths()
 
 /// A parent that reads on where its high child stopped, through the open entry that both have, floats to the child's
 /// label.
-#[tactic(auto, using(crate::proofs::ReadFar::one_shared_fits, crate::proofs::ReadFar::one_shared_is_flat, crate::proofs::ReadFar::read_on))]
+#[tactic(auto, using(crate::proofs::processes::ReadFar::one_shared_fits, crate::proofs::processes::ReadFar::one_shared_is_flat, crate::proofs::processes::ReadFar::read_on))]
 pub fn a_parent_floats_where_its_child_has_read()
     ensures valid { is_valid one_shared ≡ true }
     ensures flat { is_flat one_shared ≡ true }
@@ -211,13 +211,13 @@ pub fn a_parent_floats_where_its_child_has_read()
 {}
 
 /// A parent that writes there stays where it is, and raises the file to the child's label.
-#[tactic(auto, using(crate::proofs::ReadFar::written_on))]
+#[tactic(auto, using(crate::proofs::processes::ReadFar::written_on))]
 pub fn a_file_is_raised_where_a_high_child_has_read()
     ensures shown { shown one_shared writing_on ≡ writing_on_shows }
 {}
 
 /// Where the file is frozen such a write is refused.
-#[tactic(auto, using(crate::proofs::ReadFar::below_seven_fits, crate::proofs::ReadFar::refused_there))]
+#[tactic(auto, using(crate::proofs::processes::ReadFar::below_seven_fits, crate::proofs::processes::ReadFar::refused_there))]
 pub fn a_frozen_file_is_not_written_where_a_high_child_has_read()
     ensures valid { is_valid below_seven ≡ true }
     ensures shown { shown below_seven writing_frozen ≡ writing_frozen_shows }

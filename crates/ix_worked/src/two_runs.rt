@@ -3,18 +3,18 @@
 
 ghost use Rattle.std.specs.Prelude.{◌≡◌, true, false, [], ◌∷◌, codes, replicate};
 ghost use Rattle.ix_label.specs.Category.{Categories, bottom};
-ghost use Rattle.ix_model.specs.Cost.{cost_of, cost_of_history};
-ghost use Rattle.ix_model.specs.Events.{CreateAt, LinkAt, WriteFd, SelfLabel};
-ghost use Rattle.ix_model.specs.Freshness.{Reading, Writing};
-ghost use Rattle.ix_model.specs.Lowering.{Lowered, Crosses};
-ghost use Rattle.ix_model.specs.Opening.{opening_world};
-ghost use Rattle.ix_model.specs.EqualLengths.{AlikeInLength};
-ghost use Rattle.ix_model.specs.TwoRuns.{Alike};
-ghost use Rattle.ix_worked.specs.Downgrading.{one_line, lowering};
-ghost use Rattle.ix_worked.specs.LooksAnew.{held_low, reading_twice};
-ghost use Rattle.ix_worked.specs.OnDescriptors.{desk};
-ghost use Rattle.ix_worked.specs.OnEntries.{shared_desk, seeking_high};
-ghost use Rattle.ix_worked.specs.OnProcesses.{family};
+ghost use Rattle.ix_model.specs.history.Cost.{cost_of, cost_of_history};
+ghost use Rattle.ix_model.specs.history.Events.{CreateAt, LinkAt, WriteFd, SelfLabel};
+ghost use Rattle.ix_model.specs.history.Freshness.{Reading, Writing};
+ghost use Rattle.ix_model.specs.history.Lowering.{Lowered, Crosses};
+ghost use Rattle.ix_model.specs.opening.Opening.{opening_world};
+ghost use Rattle.ix_model.specs.two_runs.EqualLengths.{AlikeInLength};
+ghost use Rattle.ix_model.specs.two_runs.TwoRuns.{Alike};
+ghost use Rattle.ix_worked.specs.privileges.Downgrading.{one_line, lowering};
+ghost use Rattle.ix_worked.specs.labels.LooksAnew.{held_low, reading_twice};
+ghost use Rattle.ix_worked.specs.short.OnDescriptors.{desk};
+ghost use Rattle.ix_worked.specs.short.OnEntries.{shared_desk, seeking_high};
+ghost use Rattle.ix_worked.specs.short.OnProcesses.{family};
 ghost use Rattle.ix_worked.specs.PairsOfRuns.{
   before,
   after,
@@ -29,12 +29,12 @@ ghost use Rattle.ix_worked.specs.PairsOfRuns.{
 };
 ghost use Rattle.ix_worked.specs.Scripts.{seven, in_root, under};
 ghost use Rattle.ix_worked.specs.Sessions.{calls};
-ghost use Rattle.ix_worked.specs.SharedEntry.{one_file, sharing};
-ghost use Rattle.ix_worked.specs.TwoLevels.{two_levels, writing};
+ghost use Rattle.ix_worked.specs.files.SharedEntry.{one_file, sharing};
+ghost use Rattle.ix_worked.specs.labels.TwoLevels.{two_levels, writing};
 
 /// What a high process writes is replaced by other bytes: at bottom the two histories agree, and the one low read is
 /// that of the other file.
-#[tactic(auto, using(crate::proofs::Agreeing::other_bytes_agree, crate::proofs::Agreeing::other_bytes_agree_in_length, crate::proofs::Agreeing::reads_low_once))]
+#[tactic(auto, using(crate::proofs::runs::Agreeing::other_bytes_agree, crate::proofs::runs::Agreeing::other_bytes_agree_in_length, crate::proofs::runs::Agreeing::reads_low_once))]
 pub fn what_is_written_high_may_be_replaced()
     ensures agree { BothAgree bottom two_levels (writing (codes "AA")) (writing (codes "BB")) }
     ensures in_length { BothAgreeInLength bottom two_levels (writing (codes "AA")) (writing (codes "BB")) }
@@ -43,7 +43,7 @@ pub fn what_is_written_high_may_be_replaced()
 
 /// More bytes agree too, but not where lengths have to be equal. Bytes that are refused don't, since the two replies are
 /// of two kinds.
-#[tactic(auto, using(crate::proofs::Agreeing::more_bytes_agree, crate::proofs::Agreeing::more_bytes_do_not_in_length, crate::proofs::Agreeing::too_many_do_not))]
+#[tactic(auto, using(crate::proofs::runs::Agreeing::more_bytes_agree, crate::proofs::runs::Agreeing::more_bytes_do_not_in_length, crate::proofs::runs::Agreeing::too_many_do_not))]
 pub fn how_much_is_written_high_may_differ()
     ensures agree { BothAgree bottom two_levels (writing (codes "AA")) (writing (codes "ABC")) }
     ensures in_length { BothAgreeInLength bottom two_levels (writing (codes "AA")) (writing (codes "ABC")) → ⊥ }
@@ -51,7 +51,7 @@ pub fn how_much_is_written_high_may_differ()
 {}
 
 /// Who is at or below the label has nothing replaced: neither a low process at bottom, nor the high one at its own label.
-#[tactic(auto, using(crate::proofs::Agreeing::low_bytes_do_not, crate::proofs::Agreeing::low_bytes_do_not_in_length, crate::proofs::Agreeing::own_bytes_do_not, crate::proofs::Agreeing::own_bytes_do_not_in_length))]
+#[tactic(auto, using(crate::proofs::runs::Agreeing::low_bytes_do_not, crate::proofs::runs::Agreeing::low_bytes_do_not_in_length, crate::proofs::runs::Agreeing::own_bytes_do_not, crate::proofs::runs::Agreeing::own_bytes_do_not_in_length))]
 pub fn what_is_written_low_may_not_be_replaced()
     ensures low { BothAgree bottom desk (writing_low (codes "x")) (writing_low (codes "y")) → ⊥ }
     ensures low_in_length { BothAgreeInLength bottom desk (writing_low (codes "x")) (writing_low (codes "y")) → ⊥ }
@@ -60,7 +60,7 @@ pub fn what_is_written_low_may_not_be_replaced()
 {}
 
 /// The status with which a high process ends may be another.
-#[tactic(auto, using(crate::proofs::Agreeing::statuses_agree, crate::proofs::Agreeing::statuses_agree_in_length))]
+#[tactic(auto, using(crate::proofs::runs::Agreeing::statuses_agree, crate::proofs::runs::Agreeing::statuses_agree_in_length))]
 pub fn a_status_that_is_given_high_may_be_replaced()
     ensures agree { BothAgree bottom family (leaving_high 3) (leaving_high 4) }
     ensures in_length { BothAgreeInLength bottom family (leaving_high 3) (leaving_high 4) }
@@ -68,7 +68,7 @@ pub fn a_status_that_is_given_high_may_be_replaced()
 
 /// After the write the worlds are alike at bottom, whatever was written, and at 7 they aren't. Where more was written they
 /// have one shape still, but not the same lengths.
-#[tactic(auto, using(crate::proofs::Alikeness::two_are_alike, crate::proofs::Alikeness::two_are_alike_in_length, crate::proofs::Alikeness::three_are_alike, crate::proofs::Alikeness::three_are_not_in_length, crate::proofs::Alikeness::two_are_not_at_seven))]
+#[tactic(auto, using(crate::proofs::runs::Alikeness::two_are_alike, crate::proofs::runs::Alikeness::two_are_alike_in_length, crate::proofs::runs::Alikeness::three_are_alike, crate::proofs::runs::Alikeness::three_are_not_in_length, crate::proofs::runs::Alikeness::two_are_not_at_seven))]
 pub fn worlds_are_alike_below_what_was_written()
     ensures alike { Alike bottom (after two_levels (writing (codes "AA")) 4) (after two_levels (writing (codes "BB")) 4) }
     ensures in_length { AlikeInLength bottom (after two_levels (writing (codes "AA")) 4) (after two_levels (writing (codes "BB")) 4) }
@@ -79,21 +79,21 @@ pub fn worlds_are_alike_below_what_was_written()
 
 /// A descriptor is fresh for reading from its first read until another process raises the file, and a refused read
 /// doesn't make it so. One that is written is fresh for writing, though the write raised the file.
-#[tactic(auto, using(crate::proofs::Freshened::read_is_fresh, crate::proofs::Freshened::write_is_fresh))]
+#[tactic(auto, using(crate::proofs::runs::Freshened::read_is_fresh, crate::proofs::runs::Freshened::write_is_fresh))]
 pub fn a_descriptor_is_fresh_until_its_file_is_raised()
     ensures reading { fresh_along held_low reading_twice 1 0 Reading ≡ false ∷ false ∷ true ∷ false ∷ false ∷ [] }
     ensures writing { fresh_along held_low reading_twice 2 0 Writing ≡ false ∷ false ∷ false ∷ true ∷ true ∷ [] }
 {}
 
 /// Of two descriptors on one open entry each is fresh by itself, until it is closed.
-#[tactic(auto, using(crate::proofs::Freshened::first_is_closed, crate::proofs::Freshened::second_is_kept))]
+#[tactic(auto, using(crate::proofs::runs::Freshened::first_is_closed, crate::proofs::runs::Freshened::second_is_kept))]
 pub fn a_descriptor_is_fresh_until_it_is_closed()
     ensures closed { fresh_along one_file sharing 1 0 Reading ≡ false ∷ false ∷ true ∷ true ∷ false ∷ false ∷ false ∷ [] }
     ensures kept { fresh_along one_file sharing 1 1 Reading ≡ false ∷ false ∷ false ∷ true ∷ true ∷ true ∷ true ∷ [] }
 {}
 
 /// A seek of a high process, which marks the open entry that both have, ends it too.
-#[tactic(auto, using(crate::proofs::Freshened::marked_is_stale))]
+#[tactic(auto, using(crate::proofs::runs::Freshened::marked_is_stale))]
 pub fn a_descriptor_is_fresh_until_its_open_entry_is_marked()
     ensures reading { fresh_along shared_desk (calls seeking_high) 1 0 Reading ≡ false ∷ true ∷ true ∷ true ∷ false ∷ false ∷ false ∷ false ∷ true ∷ [] }
 {}
@@ -112,7 +112,7 @@ pub fn what_floats_lowers_nothing()
 
 /// A call costs 128, and the bytes that it writes, and of each path each name and one byte more. A history costs what its
 /// calls do.
-#[tactic(auto, using(crate::proofs::Costing::making, crate::proofs::Costing::linking, crate::proofs::Costing::writing_three, crate::proofs::Costing::asking_itself, crate::proofs::Costing::the_session))]
+#[tactic(auto, using(crate::proofs::runs::Costing::making, crate::proofs::runs::Costing::linking, crate::proofs::runs::Costing::writing_three, crate::proofs::runs::Costing::asking_itself, crate::proofs::runs::Costing::the_session))]
 pub fn calls_cost_what_they_carry()
     ensures creates { cost_of (CreateAt (in_root (codes "a"))) ≡ 130 }
     ensures links { cost_of (LinkAt (in_root (codes "a")) (under (codes "d") (codes "key"))) ≡ 136 }

@@ -1,11 +1,11 @@
 ghost use Rattle.std.specs.Prelude.{◌≡◌, ◌≤◌, ◌<◌, ◌-◌, IsTrue, OnErr, OnOk, false, length, Some};
-ghost use Rattle.ix_model.specs.Calls.{op_of, is_built};
-ghost use Rattle.ix_model.specs.World.{lives, change, put, held};
-ghost use Rattle.ix_model.specs.Outcomes.{RowIs};
-ghost use Rattle.ix_model.specs.OnLabels.{self_label};
-ghost use Rattle.ix_model.specs.OnPaths.{open_at};
-ghost use Rattle.ix_model.specs.OnDescriptors.{read_fd, write_fd};
-ghost use Rattle.ix_model.specs.Table.{row, verdict};
+ghost use Rattle.ix_model.specs.history.Calls.{op_of, is_built};
+ghost use Rattle.ix_model.specs.world.World.{lives, change, put, held};
+ghost use Rattle.ix_model.specs.rows.Outcomes.{RowIs};
+ghost use Rattle.ix_model.specs.rows.OnLabels.{self_label};
+ghost use Rattle.ix_model.specs.rows.OnPaths.{open_at};
+ghost use Rattle.ix_model.specs.rows.OnDescriptors.{read_fd, write_fd};
+ghost use Rattle.ix_model.specs.rows.Table.{row, verdict};
 ghost use Rattle.ix_core.specs.Meanings.{Restores, Asked, RowAsked, told_of};
 
 use crate::opens::{Behind, OpenRow, may_read, may_write};
@@ -29,7 +29,7 @@ pub struct Told {
 
 impl Tables {
     /// SelfLabel: the caller's label.
-    #[tactic(auto, unfolding(ix_model::specs::Rows::coding, ix_model::specs::OnLabels::self_label))]
+    #[tactic(auto, unfolding(ix_model::specs::rows::Rows::coding, ix_model::specs::rows::OnLabels::self_label))]
     fn self_label(&self, pid: usize) -> Result<Reply, Refusal>
         requires { IsTrue (lives self.now pid) }
         ensures row { RowIs result self.now (self_label pid self.now) }
@@ -39,7 +39,7 @@ impl Tables {
 
     /// OpenAt: an open entry on the file of the path, under the caller's lowest free descriptor. A refusal may have
     /// raised the caller's label.
-    #[tactic(auto, unfolding(ix_model::specs::Rows::coding, ix_model::specs::OnPaths::open_at))]
+    #[tactic(auto, unfolding(ix_model::specs::rows::Rows::coding, ix_model::specs::rows::OnPaths::open_at))]
     fn open<L: Ledger>(
         &mut self,
         pid: usize,
@@ -68,7 +68,7 @@ impl Tables {
     }
 
     /// ReadFd: its tests, and the floating of the caller's label and of the open entry's. The bytes, and their number in the reply, come later.
-    #[tactic(auto, using(crate::proofs::Restoring::restores_itself), unfolding(ix_model::specs::Rows::coding, ix_model::specs::Walks::opened, ix_model::specs::OnDescriptors::float_entry, ix_model::specs::OnDescriptors::read_fd))]
+    #[tactic(auto, using(crate::proofs::Restoring::restores_itself), unfolding(ix_model::specs::rows::Rows::coding, ix_model::specs::rows::Walks::opened, ix_model::specs::rows::OnDescriptors::float_entry, ix_model::specs::rows::OnDescriptors::read_fd))]
     fn read<L: Ledger>(
         &mut self,
         told: Told,
@@ -108,7 +108,7 @@ impl Tables {
     }
 
     /// WriteFd: its tests, and the floating of the object's label and of the open entry's. The bytes, and their number in the reply, come later.
-    #[tactic(auto, using(crate::proofs::Restoring::restores_itself), unfolding(ix_model::specs::Rows::coding, ix_model::specs::Walks::opened, ix_model::specs::OnDescriptors::float_entry, ix_model::specs::OnDescriptors::write_fd))]
+    #[tactic(auto, using(crate::proofs::Restoring::restores_itself), unfolding(ix_model::specs::rows::Rows::coding, ix_model::specs::rows::Walks::opened, ix_model::specs::rows::OnDescriptors::float_entry, ix_model::specs::rows::OnDescriptors::write_fd))]
     fn write<L: Ledger>(
         &mut self,
         told: Told,
@@ -155,7 +155,7 @@ impl Tables {
     }
 
     /// The row of a call by a living process.
-    #[tactic(auto, using(crate::proofs::Restoring::restores_itself), unfolding(ix_model::specs::Table::row))]
+    #[tactic(auto, using(crate::proofs::Restoring::restores_itself), unfolding(ix_model::specs::rows::Table::row))]
     fn row<L: Ledger>(
         &mut self,
         told: Told,
@@ -180,7 +180,7 @@ impl Tables {
     }
 
     /// A call's reply. A refusal leaves all as it was, but for the raised label where it keeps that.
-    #[tactic(auto, using(crate::proofs::Restoring::set_back), unfolding(ix_model::specs::Table::verdict))]
+    #[tactic(auto, using(crate::proofs::Restoring::set_back), unfolding(ix_model::specs::rows::Table::verdict))]
     pub fn decide<L: Ledger>(
         &mut self,
         told: Told,

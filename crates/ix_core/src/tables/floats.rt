@@ -1,8 +1,8 @@
 ghost use Rattle.std.specs.Prelude.{◌≡◌, ◌<◌, IsTrue, OnErr, length, map, Some};
 ghost use Rattle.ix_label.specs.Category.{join};
-ghost use Rattle.ix_model.specs.World.{lives, change, ceiling_of};
-ghost use Rattle.ix_model.specs.Outcomes.{RowIs};
-ghost use Rattle.ix_model.specs.Rows.{observe, affect};
+ghost use Rattle.ix_model.specs.world.World.{lives, change, ceiling_of};
+ghost use Rattle.ix_model.specs.rows.Outcomes.{RowIs};
+ghost use Rattle.ix_model.specs.rows.Rows.{observe, affect};
 ghost use Rattle.ix_core.specs.Meanings.{Restores};
 
 use crate::objects::ObjectRow;
@@ -13,7 +13,7 @@ use std::sync::ledger::Ledger;
 
 impl Tables {
     /// The process's label floats up to what it looks at.
-    #[tactic(auto, using(crate::proofs::Restoring::restores_itself), unfolding(ix_model::specs::Rows::coding, ix_model::specs::Rows::observe))]
+    #[tactic(auto, using(crate::proofs::Restoring::restores_itself), unfolding(ix_model::specs::rows::Rows::coding, ix_model::specs::rows::Rows::observe))]
     pub fn observe<L: Ledger>(
         &mut self,
         pid: usize,
@@ -41,7 +41,7 @@ impl Tables {
 
     /// The object's label floats up to that of the process that writes to it, and to that of the open entry that it goes
     /// through.
-    #[tactic(auto, unfolding(ix_model::specs::Rows::coding, ix_model::specs::Rows::affect))]
+    #[tactic(auto, unfolding(ix_model::specs::rows::Rows::coding, ix_model::specs::rows::Rows::affect))]
     pub fn affect<L: Ledger>(
         &mut self,
         pid: usize,

@@ -1,9 +1,9 @@
 ghost use Rattle.std.specs.Prelude.{◌≡◌, ◌+◌, ◌<◌, IsTrue, drop, find};
 ghost use Rattle.std.specs.Option.{option_map};
-ghost use Rattle.ix_model.specs.Naming.{same_bytes};
-ghost use Rattle.ix_model.specs.World.{lives, is_dir};
-ghost use Rattle.ix_model.specs.Outcomes.{RowIs, RowMeans};
-ghost use Rattle.ix_model.specs.Walks.{walk, walk_from, walked_to, object_at, lacking, node, child};
+ghost use Rattle.ix_model.specs.world.Naming.{same_bytes};
+ghost use Rattle.ix_model.specs.world.World.{lives, is_dir};
+ghost use Rattle.ix_model.specs.rows.Outcomes.{RowIs, RowMeans};
+ghost use Rattle.ix_model.specs.rows.Walks.{walk, walk_from, walked_to, object_at, lacking, node, child};
 ghost use Rattle.ix_core.specs.Meanings.{Restores, sought_of, seen_of, seen_in};
 
 use crate::processes::ProcessRow;
@@ -101,7 +101,7 @@ impl Tables {
     }
 
     /// All directories that a walk looks into are observed before its outcome is answered.
-    #[tactic(auto, unfolding(ix_model::specs::Rows::coding, ix_model::specs::Walks::walked_to))]
+    #[tactic(auto, unfolding(ix_model::specs::rows::Rows::coding, ix_model::specs::rows::Walks::walked_to))]
     fn walked_to<L: Ledger>(
         &mut self,
         pid: usize,
@@ -118,7 +118,7 @@ impl Tables {
     }
 
     /// The object of a path, which must be there.
-    #[tactic(auto, unfolding(ix_model::specs::Rows::coding, ix_model::specs::Walks::object_at, ix_model::specs::Walks::found_object))]
+    #[tactic(auto, unfolding(ix_model::specs::rows::Rows::coding, ix_model::specs::rows::Walks::object_at, ix_model::specs::rows::Walks::found_object))]
     pub fn object_at<L: Ledger>(
         &mut self,
         pid: usize,

@@ -1,7 +1,7 @@
 use Rattle.std.proofs.Common.{refl}
 use Rattle.ix_worked.proofs.Computing.{fitting}
 use Rattle.ix_worked.proofs.Labels.{labels}
-use Rattle.ix_worked.proofs.Lowered.{lowered_once, logged_once}
+use Rattle.ix_worked.proofs.privileges.Lowered.{lowered_once, logged_once}
 use Rattle.ix_worked.proofs.a_lowering_needs_both_and_a_line.Goals as goal
 
 pub returns-clause-valid : goal.returns-clause-valid

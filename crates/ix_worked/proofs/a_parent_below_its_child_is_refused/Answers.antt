@@ -1,7 +1,7 @@
 use Rattle.std.proofs.Common.{refl}
 use Rattle.ix_worked.proofs.Computing.{fitting}
 use Rattle.ix_worked.proofs.Labels.{labels}
-use Rattle.ix_worked.proofs.HeldLow.{held_low, lowering_logs_nothing}
+use Rattle.ix_worked.proofs.processes.HeldLow.{held_low, lowering_logs_nothing}
 use Rattle.ix_worked.proofs.a_parent_below_its_child_is_refused.Goals as goal
 
 pub returns-clause-valid : goal.returns-clause-valid

@@ -1,7 +1,7 @@
 use Rattle.std.proofs.Common.{refl}
 use Rattle.ix_worked.proofs.Computing.{fitting}
 use Rattle.ix_worked.proofs.Labels.{labels}
-use Rattle.ix_worked.proofs.Waited.{waited_for}
+use Rattle.ix_worked.proofs.processes.Waited.{waited_for}
 use Rattle.ix_worked.proofs.a_parent_floats_to_its_child.Goals as goal
 
 pub returns-clause-valid : goal.returns-clause-valid

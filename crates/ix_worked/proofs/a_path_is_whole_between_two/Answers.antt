@@ -1,7 +1,7 @@
 use Rattle.std.proofs.Common.{refl}
 use Rattle.ix_worked.proofs.Computing.{fitting}
 use Rattle.ix_worked.proofs.Labels.{labels}
-use Rattle.ix_worked.proofs.Claimed.{claimed_whole}
+use Rattle.ix_worked.proofs.pipes.Claimed.{claimed_whole}
 use Rattle.ix_worked.proofs.a_path_is_whole_between_two.Goals as goal
 
 pub returns-clause-valid : goal.returns-clause-valid

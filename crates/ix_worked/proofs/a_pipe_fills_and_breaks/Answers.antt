@@ -1,7 +1,7 @@
 use Rattle.std.proofs.Common.{refl}
 use Rattle.ix_worked.proofs.Computing.{fitting}
 use Rattle.ix_worked.proofs.Labels.{labels}
-use Rattle.ix_worked.proofs.Piped.{piped_through}
+use Rattle.ix_worked.proofs.pipes.Piped.{piped_through}
 use Rattle.ix_worked.proofs.a_pipe_fills_and_breaks.Goals as goal
 
 pub returns-clause-valid : goal.returns-clause-valid

@@ -1,7 +1,7 @@
 use Rattle.std.proofs.Common.{refl}
 use Rattle.ix_worked.proofs.Computing.{fitting}
 use Rattle.ix_worked.proofs.Labels.{labels}
-use Rattle.ix_worked.proofs.Executed.{executed, thawing_logged}
+use Rattle.ix_worked.proofs.privileges.Executed.{executed, thawing_logged}
 use Rattle.ix_worked.proofs.a_program_brings_its_privileges.Goals as goal
 
 pub returns-clause-valid : goal.returns-clause-valid

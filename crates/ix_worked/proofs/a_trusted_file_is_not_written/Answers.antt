@@ -1,7 +1,7 @@
 use Rattle.std.proofs.Common.{refl}
 use Rattle.ix_worked.proofs.Computing.{fitting}
 use Rattle.ix_worked.proofs.Labels.{labels}
-use Rattle.ix_worked.proofs.Trusting.{trusted_stays}
+use Rattle.ix_worked.proofs.privileges.Trusting.{trusted_stays}
 use Rattle.ix_worked.proofs.a_trusted_file_is_not_written.Goals as goal
 
 pub returns-clause-valid : goal.returns-clause-valid

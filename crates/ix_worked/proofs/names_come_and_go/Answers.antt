@@ -1,7 +1,7 @@
 use Rattle.std.proofs.Common.{refl}
 use Rattle.ix_worked.proofs.Computing.{fitting}
 use Rattle.ix_worked.proofs.Labels.{labels}
-use Rattle.ix_worked.proofs.Named.{named}
+use Rattle.ix_worked.proofs.files.Named.{named}
 use Rattle.ix_worked.proofs.names_come_and_go.Goals as goal
 
 pub returns-clause-valid : goal.returns-clause-valid

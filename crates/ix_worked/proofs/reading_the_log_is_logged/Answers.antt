@@ -1,7 +1,7 @@
 use Rattle.std.proofs.Common.{refl}
 use Rattle.ix_worked.proofs.Computing.{fitting}
 use Rattle.ix_worked.proofs.Labels.{labels}
-use Rattle.ix_worked.proofs.LogRead.{log_read, readings_logged}
+use Rattle.ix_worked.proofs.privileges.LogRead.{log_read, readings_logged}
 use Rattle.ix_worked.proofs.reading_the_log_is_logged.Goals as goal
 
 pub returns-clause-valid : goal.returns-clause-valid

@@ -1,5 +1,5 @@
 use Rattle.std.proofs.Common.{◌≡◌, ◌+◌, ◌==◌, ◌&&◌, not, drop}
-use Rattle.ix_model.specs.Telling.{blocks_for, blocks_where, lies_on}
+use Rattle.ix_model.specs.rows.Telling.{blocks_for, blocks_where, lies_on}
 use Rattle.ix_core.proofs.blocks.exceeds.Given as goal
 
 abbrev pub invariant-loop-i : goal.invariant-loop-i

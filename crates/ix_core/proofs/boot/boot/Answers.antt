@@ -1,9 +1,9 @@
 use Rattle.std.proofs.Common.{◌≡◌, ◌+◌, ◌-◌, length, Result, Ok, Err, IfOk, sym, ◌∙◌}
-use Rattle.ix_model.specs.World.{World}
-use Rattle.ix_model.specs.Flat.{flat_world}
-use Rattle.ix_model.specs.Opening.{opening_world}
+use Rattle.ix_model.specs.world.World.{World}
+use Rattle.ix_model.specs.opening.Flat.{flat_world}
+use Rattle.ix_model.specs.opening.Opening.{opening_world}
 use Rattle.ix_model.specs.declared.memory.NoMemory.{NoMemory}
-use Rattle.ix_model.proofs.Flatness.{files_alone, opening_flat}
+use Rattle.ix_model.proofs.opening.Flatness.{files_alone, opening_flat}
 use Rattle.ix_core.proofs.Booting.{first_fs, some_fs}
 use Rattle.ix_core.proofs.boot.boot.Goals as goal
 

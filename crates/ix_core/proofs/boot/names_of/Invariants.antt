@@ -1,5 +1,5 @@
 use Rattle.std.proofs.Common.{◌≡◌, ◌+◌, ◌++◌, drop}
-use Rattle.ix_model.specs.Flat.{named}
+use Rattle.ix_model.specs.opening.Flat.{named}
 use Rattle.ix_core.proofs.boot.names_of.Given as goal
 
 abbrev pub invariant-loop-i : goal.invariant-loop-i

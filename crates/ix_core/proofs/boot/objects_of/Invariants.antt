@@ -1,5 +1,5 @@
 use Rattle.std.proofs.Common.{◌≡◌, ◌-◌, ◌++◌, replicate, None}
-use Rattle.ix_model.specs.Flat.{flat_objects}
+use Rattle.ix_model.specs.opening.Flat.{flat_objects}
 use Rattle.ix_core.proofs.boot.objects_of.Given as goal
 
 abbrev pub invariant-loop-i : goal.invariant-loop-i

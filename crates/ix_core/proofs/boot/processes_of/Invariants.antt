@@ -1,5 +1,5 @@
 use Rattle.std.proofs.Common.{◌≡◌, ◌∷◌, ◌++◌, drop, map, Some, None}
-use Rattle.ix_model.specs.Opening.{process_of}
+use Rattle.ix_model.specs.opening.Opening.{process_of}
 use Rattle.ix_core.proofs.boot.processes_of.Given as goal
 
 abbrev pub invariant-loop-spec : goal.invariant-loop-spec

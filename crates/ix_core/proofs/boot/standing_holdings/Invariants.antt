@@ -1,6 +1,6 @@
 use Rattle.std.proofs.Common.{◌≡◌, ◌∷◌, ◌++◌, drop, map}
-use Rattle.ix_model.specs.Contents.{holds_nothing}
-use Rattle.ix_model.specs.Flat.{bytes_of}
+use Rattle.ix_model.specs.world.Contents.{holds_nothing}
+use Rattle.ix_model.specs.opening.Flat.{bytes_of}
 use Rattle.ix_core.proofs.boot.standing_holdings.Given as goal
 
 abbrev pub invariant-loop-file : goal.invariant-loop-file

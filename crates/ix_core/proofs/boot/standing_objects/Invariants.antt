@@ -1,5 +1,5 @@
 use Rattle.std.proofs.Common.{◌≡◌, ◌∷◌, ◌++◌, drop, map, Some}
-use Rattle.ix_model.specs.Flat.{named, root_with, file_of}
+use Rattle.ix_model.specs.opening.Flat.{named, root_with, file_of}
 use Rattle.ix_core.proofs.boot.standing_objects.Given as goal
 
 abbrev pub invariant-loop-file : goal.invariant-loop-file

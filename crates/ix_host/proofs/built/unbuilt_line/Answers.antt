@@ -1,5 +1,5 @@
 use Rattle.std.proofs.Common.{sym, ◌∙◌}
-use Rattle.ix_host.proofs.ScriptLines.{unbuilt_here, unbuilt_later}
+use Rattle.ix_host.proofs.serially.ScriptLines.{unbuilt_here, unbuilt_later}
 use Rattle.ix_host.proofs.built.unbuilt_line.Goals as goal
 
 pub returns-then-is_unbuilt : goal.returns-then-is_unbuilt

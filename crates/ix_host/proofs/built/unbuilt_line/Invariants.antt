@@ -1,5 +1,5 @@
 use Rattle.std.proofs.Common.{◌≡◌, ◌+◌, drop}
-use Rattle.ix_host.specs.Built.{unbuilt_from, unbuilt_line}
+use Rattle.ix_host.specs.serial.Built.{unbuilt_from, unbuilt_line}
 use Rattle.ix_host.proofs.built.unbuilt_line.Given as goal
 
 abbrev pub invariant-loop-index : goal.invariant-loop-index

@@ -1,7 +1,7 @@
 use Rattle.std.proofs.Common.{rules, ◌≡◌, ◌∙◌, ap₂, codes}
 use Rattle.std.proofs.lemmas.Result.{IfOk-weaker}
 use Rattle.clap.specs.Words.{app_of, rule_of, with_rule}
-use Rattle.ix_host.specs.CommandLine.{bare_line, value}
+use Rattle.ix_host.specs.command.CommandLine.{bare_line, value}
 use Rattle.ix_host.proofs.command_line.command_line.Goals as goal
 
 pub returns : goal.returns

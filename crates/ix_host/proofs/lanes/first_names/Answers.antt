@@ -1,9 +1,9 @@
 use Rattle.std.proofs.Common.{◌≡◌, true, is_ok, not, sym, ◌∙◌, ap, arith, replicate, length}
 use Rattle.std.proofs.lemmas.Option.{slice_get_within}
-use Rattle.ix_script.specs.Before.{lanes_of}
-use Rattle.ix_host.specs.Asked.{no_names}
-use Rattle.ix_host.proofs.Indexed.{none_mapped}
-use Rattle.ix_host.proofs.LaneCount.{lanes_few, replicate-push, at_end}
+use Rattle.ix_script.specs.lines.Before.{lanes_of}
+use Rattle.ix_host.specs.serial.Asked.{no_names}
+use Rattle.ix_host.proofs.serially.Indexed.{none_mapped}
+use Rattle.ix_host.proofs.serially.LaneCount.{lanes_few, replicate-push, at_end}
 use Rattle.ix_host.proofs.lanes.first_names.Goals as goal
 
 pub returns-in_default : goal.returns-in_default

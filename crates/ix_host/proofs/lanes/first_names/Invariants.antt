@@ -1,6 +1,6 @@
 use Rattle.std.proofs.Common.{◌≡◌, ◌≤◌, length, replicate}
-use Rattle.ix_script.specs.Before.{lanes_of}
-use Rattle.ix_host.specs.Asked.{no_names}
+use Rattle.ix_script.specs.lines.Before.{lanes_of}
+use Rattle.ix_host.specs.serial.Asked.{no_names}
 use Rattle.ix_host.proofs.lanes.first_names.Given as goal
 
 abbrev pub invariant-loop-seat : goal.invariant-loop-seat

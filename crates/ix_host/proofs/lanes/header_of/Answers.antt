@@ -1,6 +1,6 @@
 use Rattle.std.proofs.Common.{sym, ◌∙◌, arith, refl}
-use Rattle.ix_host.specs.Serial.{header_of}
-use Rattle.ix_host.proofs.Numbering.{numbered_on, numbered_end}
+use Rattle.ix_host.specs.serial.Serial.{header_of}
+use Rattle.ix_host.proofs.serially.Numbering.{numbered_on, numbered_end}
 use Rattle.ix_host.proofs.lanes.header_of.Goals as goal
 
 pub loop-index-init : goal.loop-index-init

@@ -1,6 +1,6 @@
 use Rattle.std.proofs.Common.{◌≡◌, ◌+◌, ◌≤◌, drop}
-use Rattle.ix_script.specs.Before.{proc_names}
-use Rattle.ix_host.specs.Serial.{header_of, numbered}
+use Rattle.ix_script.specs.lines.Before.{proc_names}
+use Rattle.ix_host.specs.serial.Serial.{header_of, numbered}
 use Rattle.ix_host.proofs.lanes.header_of.Given as goal
 
 abbrev pub invariant-loop-index : goal.invariant-loop-index

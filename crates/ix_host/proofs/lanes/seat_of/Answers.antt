@@ -1,8 +1,8 @@
 use Rattle.std.proofs.Common.{sym, ◌∙◌, arith}
-use Rattle.ix_script.specs.Before.{lanes_of}
-use Rattle.ix_host.proofs.Indexed.{none_mapped}
-use Rattle.ix_host.proofs.LaneCount.{lanes_few}
-use Rattle.ix_host.proofs.SeatSearch.{seat_here, seat_later, seat_none, seat_past}
+use Rattle.ix_script.specs.lines.Before.{lanes_of}
+use Rattle.ix_host.proofs.serially.Indexed.{none_mapped}
+use Rattle.ix_host.proofs.serially.LaneCount.{lanes_few}
+use Rattle.ix_host.proofs.serially.SeatSearch.{seat_here, seat_later, seat_none, seat_past}
 use Rattle.ix_host.proofs.lanes.seat_of.Goals as goal
 
 pub returns-then-is_named : goal.returns-then-is_named

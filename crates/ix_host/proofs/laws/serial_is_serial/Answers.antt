@@ -1,4 +1,4 @@
-use Rattle.ix_host.proofs.SerialHistories.{serial_serial}
+use Rattle.ix_host.proofs.serially.SerialHistories.{serial_serial}
 use Rattle.ix_host.proofs.laws.serial_is_serial.Goals as goal
 
 pub returns : goal.returns

@@ -1,5 +1,5 @@
 use Rattle.std.proofs.Common.{◌∙◌}
-use Rattle.ix_host.proofs.Indexed.{counted_from_one}
+use Rattle.ix_host.proofs.serially.Indexed.{counted_from_one}
 use Rattle.ix_host.proofs.lines.line_at.Goals as goal
 
 pub returns : goal.returns

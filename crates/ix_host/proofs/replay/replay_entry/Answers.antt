@@ -1,16 +1,16 @@
 use Rattle.std.proofs.Common.{◌≡◌, ◌++◌, ◌∷◌, [], ◌+◌, List, ℕ, length, take, sym, ap, ◌∙◌, subst, length-append, OnOk}
 use Rattle.std.specs.Option.{option_map}
-use Rattle.ix_model.specs.World.{World, Process, at}
-use Rattle.ix_model.specs.Events.{Event}
-use Rattle.ix_model.specs.Calls.{event_of}
-use Rattle.ix_model.specs.History.{History, world_of, next}
-use Rattle.ix_model.specs.Shown.{AreShown}
+use Rattle.ix_model.specs.world.World.{World, Process, at}
+use Rattle.ix_model.specs.history.Events.{Event}
+use Rattle.ix_model.specs.history.Calls.{event_of}
+use Rattle.ix_model.specs.history.History.{History, world_of, next}
+use Rattle.ix_model.specs.history.Shown.{AreShown}
 use Rattle.ix_model.specs.declared.reply.Reply.{Reply}
 use Rattle.ix_model.specs.declared.views.ProcView.{ProcView}
-use Rattle.ix_model.proofs.Runs.{world_of-push}
-use Rattle.ix_model.proofs.Showing.{shown_step}
+use Rattle.ix_model.proofs.words.Runs.{world_of-push}
+use Rattle.ix_model.proofs.clean.Showing.{shown_step}
 use Rattle.ix_report.specs.LineText.{entry_line}
-use Rattle.ix_host.proofs.Shown.{shown_is, label_shown}
+use Rattle.ix_host.proofs.serially.Shown.{shown_is, label_shown}
 use Rattle.ix_host.proofs.replay.replay_entry.Goals as goal
 
 pub returns-clause-text : goal.returns-clause-text

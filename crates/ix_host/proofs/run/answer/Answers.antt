@@ -1,5 +1,5 @@
-use Rattle.ix_host.specs.Outcome.{outcome_for, outcome_of}
-use Rattle.ix_host.proofs.Outcomes.{ends_as, outcome_fault, outcome_script}
+use Rattle.ix_host.specs.run.Outcome.{outcome_for, outcome_of}
+use Rattle.ix_host.proofs.comes_to.Outcomes.{ends_as, outcome_fault, outcome_script}
 use Rattle.ix_host.proofs.run.answer.Goals as goal
 
 pub returns-in-Ok : goal.returns-in-Ok

@@ -1,7 +1,7 @@
 use Rattle.std.proofs.Common.{sym, ◌∙◌}
-use Rattle.ix_host.specs.Outcome.{outcome_for, text_for}
-use Rattle.ix_host.specs.Outcome as outcome
-use Rattle.ix_host.proofs.Outcomes.{ends_as, outcome_unbuilt, outcome_built}
+use Rattle.ix_host.specs.run.Outcome.{outcome_for, text_for}
+use Rattle.ix_host.specs.run.Outcome as outcome
+use Rattle.ix_host.proofs.comes_to.Outcomes.{ends_as, outcome_unbuilt, outcome_built}
 use Rattle.ix_host.proofs.run.answer_script.Goals as goal
 
 pub returns-in-Some : goal.returns-in-Some

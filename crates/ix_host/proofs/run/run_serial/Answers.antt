@@ -1,7 +1,7 @@
 use Rattle.std.proofs.Common.{◌≡◌, ◌++◌, ◌∙◌, Some, sym}
-use Rattle.ix_host.specs.Command.{command_of}
-use Rattle.ix_host.specs.Whole.{WritesFront}
-use Rattle.ix_host.proofs.Verdicts.{read_out, is_called_for, is_wanted, never_too_long, is_complete, usage_wanted, usage_called, usage_complete, long_wanted, long_called, long_complete}
+use Rattle.ix_host.specs.command.Command.{command_of}
+use Rattle.ix_host.specs.run.Whole.{WritesFront}
+use Rattle.ix_host.proofs.comes_to.Verdicts.{read_out, is_called_for, is_wanted, never_too_long, is_complete, usage_wanted, usage_called, usage_complete, long_wanted, long_called, long_complete}
 use Rattle.ix_host.proofs.run.run_serial.Goals as goal
 
 pub returns-in-Ok-write_all-clause-written : goal.returns-in-Ok-write_all-clause-written

@@ -1,16 +1,16 @@
 use Rattle.std.proofs.Common.{append_assoc, length, sym, ◌≡◌, ap, ◌∙◌, [], true, subst}
-use Rattle.ix_model.specs.History.{world_of}
-use Rattle.ix_model.specs.Valid.{is_valid}
+use Rattle.ix_model.specs.history.History.{world_of}
+use Rattle.ix_model.specs.opening.Valid.{is_valid}
 use Rattle.ix_model.specs.declared.config.Config.{Config}
-use Rattle.ix_script.specs.Scripts.{config_of}
-use Rattle.ix_host.specs.Report.{report_of, entries_text, closing_text}
-use Rattle.ix_model.specs.Opening.{opening_world}
-use Rattle.ix_model.specs.Step.{run}
-use Rattle.ix_script.specs.Before.{lanes_of}
+use Rattle.ix_script.specs.scripts.Scripts.{config_of}
+use Rattle.ix_host.specs.report.Report.{report_of, entries_text, closing_text}
+use Rattle.ix_model.specs.opening.Opening.{opening_world}
+use Rattle.ix_model.specs.history.Step.{run}
+use Rattle.ix_script.specs.lines.Before.{lanes_of}
 use Rattle.ix_report.specs.LineText.{head_line}
-use Rattle.ix_host.specs.Serial.{serial}
-use Rattle.ix_host.specs.Telling.{left_of, entries_left}
-use Rattle.ix_host.proofs.FlatConfigs.{flat_config}
+use Rattle.ix_host.specs.serial.Serial.{serial}
+use Rattle.ix_host.specs.report.Telling.{left_of, entries_left}
+use Rattle.ix_host.proofs.serially.FlatConfigs.{flat_config}
 use Rattle.ix_host.proofs.sending.reported.Goals as goal
 
 pub boot-requires-clause-flat : goal.boot-requires-clause-flat

@@ -1,7 +1,7 @@
 use Rattle.std.proofs.Common.{◌≡◌, ◌++◌, true, is_ok, is_err, not, sym, ap, ◌∙◌}
-use Rattle.ix_host.specs.Telling.{left_of}
-use Rattle.ix_host.proofs.Oks.{from_ok, from_err}
-use Rattle.ix_host.proofs.Outlets.{sent_failed}
+use Rattle.ix_host.specs.report.Telling.{left_of}
+use Rattle.ix_host.proofs.words_in.Oks.{from_ok, from_err}
+use Rattle.ix_host.proofs.piecewise.Outlets.{sent_failed}
 use Rattle.ix_host.proofs.sending.send.Goals as goal
 
 pub returns-then-is_err-2 : goal.returns-then-is_err-2

@@ -1,7 +1,7 @@
 use Rattle.std.proofs.Common.{◌≡◌}
 use Rattle.std.specs.Prelude.{IfSome}
-use Rattle.ix_host.specs.Telling.{IsTold, left_of, pieces_of}
-use Rattle.ix_host.proofs.Outlets.{Sent}
+use Rattle.ix_host.specs.report.Telling.{IsTold, left_of, pieces_of}
+use Rattle.ix_host.proofs.piecewise.Outlets.{Sent}
 use Rattle.ix_host.proofs.sending.send.Given as goal
 
 abbrev pub invariant-pieces : goal.invariant-pieces

@@ -1,15 +1,15 @@
 use Rattle.std.proofs.Common.{◌≡◌, ◌++◌, ◌+◌, List, length, drop, sym, ap, ◌∙◌, arith, refl, slice_get, add-one}
 use Rattle.std.proofs.lemmas.List.{length-replicate}
 use Rattle.std.specs.Option.{option_copied}
-use Rattle.ix_model.specs.History.{History, world_of}
-use Rattle.ix_script.specs.Before.{commands, lanes_of}
+use Rattle.ix_model.specs.history.History.{History, world_of}
+use Rattle.ix_script.specs.lines.Before.{commands, lanes_of}
 use Rattle.ix_script.specs.declared.line.Line.{Line}
-use Rattle.ix_host.specs.Asked.{no_names}
-use Rattle.ix_host.specs.Running.{RunsLine}
-use Rattle.ix_host.specs.Serial.{entry_at, serial, serial_from}
-use Rattle.ix_host.proofs.Indexed.{is_there, rest_is}
-use Rattle.ix_host.proofs.Going.{all_are_built, next_built, events_go_on, same_config, same_lanes, few_stay, count_here}
-use Rattle.ix_host.proofs.LaneSteps.{seat_within}
+use Rattle.ix_host.specs.serial.Asked.{no_names}
+use Rattle.ix_host.specs.serial.Running.{RunsLine}
+use Rattle.ix_host.specs.serial.Serial.{entry_at, serial, serial_from}
+use Rattle.ix_host.proofs.serially.Indexed.{is_there, rest_is}
+use Rattle.ix_host.proofs.serially.Going.{all_are_built, next_built, events_go_on, same_config, same_lanes, few_stay, count_here}
+use Rattle.ix_host.proofs.serially.LaneSteps.{seat_within}
 use Rattle.ix_host.proofs.serial.run_lines.Goals as goal
 
 pub loop-index-init : goal.loop-index-init

@@ -1,10 +1,10 @@
 use Rattle.std.proofs.Common.{◌≡◌, ◌+◌, ◌≤◌, ◌<◌, ◌++◌, true, drop, length}
 use Rattle.std.specs.Prelude.{IfSome}
-use Rattle.ix_model.specs.History.{world_of}
-use Rattle.ix_script.specs.Before.{commands, lanes_of}
-use Rattle.ix_script.specs.Scripts.{config_of}
-use Rattle.ix_host.specs.Serial.{serial, serial_from}
-use Rattle.ix_host.proofs.Going.{all_built}
+use Rattle.ix_model.specs.history.History.{world_of}
+use Rattle.ix_script.specs.lines.Before.{commands, lanes_of}
+use Rattle.ix_script.specs.scripts.Scripts.{config_of}
+use Rattle.ix_host.specs.serial.Serial.{serial, serial_from}
+use Rattle.ix_host.proofs.serially.Going.{all_built}
 use Rattle.ix_host.proofs.serial.run_lines.Given as goal
 
 abbrev pub invariant-loop-index : goal.invariant-loop-index

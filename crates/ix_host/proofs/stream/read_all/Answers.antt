@@ -1,5 +1,5 @@
 use Rattle.std.proofs.Common.{arith}
-use Rattle.ix_host.proofs.Fronts.{if_some_along, too_long}
+use Rattle.ix_host.proofs.piecewise.Fronts.{if_some_along, too_long}
 use Rattle.ix_host.proofs.stream.read_all.Goals as goal
 
 pub returns-clause-told : goal.returns-clause-told

@@ -1,6 +1,6 @@
 use Rattle.std.proofs.Common.{◌≡◌, ◌-◌, ◌+◌, ◌≤◌, vec_len}
 use Rattle.std.specs.Prelude.{IfSome}
-use Rattle.ix_host.specs.Whole.{IsFront, script_max}
+use Rattle.ix_host.specs.run.Whole.{IsFront, script_max}
 use Rattle.ix_host.proofs.stream.read_all.Given as goal
 
 abbrev pub invariant-pieces : goal.invariant-pieces

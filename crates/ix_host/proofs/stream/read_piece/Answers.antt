@@ -1,5 +1,5 @@
 use Rattle.std.proofs.Common.{◌≡◌, ◌∙◌, ap, arith, is_ok, not, true}
-use Rattle.ix_host.proofs.Fronts.{read_after, front_grows}
+use Rattle.ix_host.proofs.piecewise.Fronts.{read_after, front_grows}
 use Rattle.ix_host.proofs.stream.read_piece.Goals as goal
 
 pub returns-else-is_err-clause-told : goal.returns-else-is_err-clause-told

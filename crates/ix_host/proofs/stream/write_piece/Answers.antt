@@ -1,5 +1,5 @@
 use Rattle.std.proofs.Common.{◌∙◌, arith}
-use Rattle.ix_host.proofs.Fronts.{wrote_more}
+use Rattle.ix_host.proofs.piecewise.Fronts.{wrote_more}
 use Rattle.ix_host.proofs.stream.write_piece.Goals as goal
 
 pub pieces-preserved : goal.pieces-preserved

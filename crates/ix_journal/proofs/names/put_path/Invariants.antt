@@ -1,6 +1,6 @@
 use Rattle.std.proofs.Common.{◌≡◌, ◌+◌, ◌≤◌, ◌++◌, length, take, drop, vec_capacity, true}
 use Rattle.std.specs.List.{list_all}
-use Rattle.ix_model.specs.Naming.{is_name}
+use Rattle.ix_model.specs.world.Naming.{is_name}
 use Rattle.ix_journal.specs.Names.{packed}
 use Rattle.ix_journal.proofs.names.put_path.Given as goal
 

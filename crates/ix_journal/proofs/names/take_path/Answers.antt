@@ -1,5 +1,5 @@
 use Rattle.std.proofs.Common.{rules, arith, ◌≡◌, ◌∙◌}
-use Rattle.ix_model.specs.Naming.{add_name}
+use Rattle.ix_model.specs.world.Naming.{add_name}
 use Rattle.ix_journal.proofs.Packed.{taken_more}
 use Rattle.ix_journal.proofs.names.take_path.Goals as goal
 

@@ -1,4 +1,4 @@
-use Rattle.ix_model.proofs.Touching.{few_labels}
+use Rattle.ix_model.proofs.told.Touching.{few_labels}
 use Rattle.ix_model.proofs.laws.calls_touch_few_labels.Goals as goal
 
 pub returns : goal.returns

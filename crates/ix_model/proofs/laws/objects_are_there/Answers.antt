@@ -1,4 +1,4 @@
-use Rattle.ix_model.proofs.There.{objects_there}
+use Rattle.ix_model.proofs.words.There.{objects_there}
 use Rattle.ix_model.proofs.laws.objects_are_there.Goals as goal
 
 pub returns : goal.returns

@@ -1,4 +1,4 @@
-use Rattle.ix_model.proofs.Stopping.{stops}
+use Rattle.ix_model.proofs.paths_and_pipes.Stopping.{stops}
 use Rattle.ix_model.proofs.laws.only_claimants_get_through.Goals as goal
 
 pub returns : goal.returns

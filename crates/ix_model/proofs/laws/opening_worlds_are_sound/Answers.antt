@@ -1,4 +1,4 @@
-use Rattle.ix_model.proofs.Reaching.{sound_opening_world}
+use Rattle.ix_model.proofs.sound.Reaching.{sound_opening_world}
 use Rattle.ix_model.proofs.laws.opening_worlds_are_sound.Goals as goal
 
 pub returns : goal.returns

@@ -1,4 +1,4 @@
-use Rattle.ix_model.proofs.Soundly.{sound_step}
+use Rattle.ix_model.proofs.sound.Soundly.{sound_step}
 use Rattle.ix_model.proofs.laws.steps_keep_worlds_sound.Goals as goal
 
 pub returns : goal.returns

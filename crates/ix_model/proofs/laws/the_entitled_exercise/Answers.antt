@@ -1,4 +1,4 @@
-use Rattle.ix_model.proofs.Entitling.{entitled_entry}
+use Rattle.ix_model.proofs.told.Entitling.{entitled_entry}
 use Rattle.ix_model.proofs.laws.the_entitled_exercise.Goals as goal
 
 pub returns : goal.returns

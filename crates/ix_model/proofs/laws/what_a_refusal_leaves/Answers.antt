@@ -1,4 +1,4 @@
-use Rattle.ix_model.proofs.RefusedSteps.{refused_step}
+use Rattle.ix_model.proofs.refused.RefusedSteps.{refused_step}
 use Rattle.ix_model.proofs.laws.what_a_refusal_leaves.Goals as goal
 
 pub returns : goal.returns

@@ -1,5 +1,5 @@
 use Rattle.std.proofs.Common.{sym, ◌∙◌}
-use Rattle.ix_model.proofs.Fitting.{all_differ_step}
+use Rattle.ix_model.proofs.opening.Fitting.{all_differ_step}
 use Rattle.ix_model.proofs.valid.all_differ.Goals as goal
 
 pub returns-then-is_named : goal.returns-then-is_named

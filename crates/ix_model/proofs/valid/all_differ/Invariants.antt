@@ -1,5 +1,5 @@
 use Rattle.std.proofs.Common.{◌≡◌, drop, map}
-use Rattle.ix_model.specs.Valid.{all_differ}
+use Rattle.ix_model.specs.opening.Valid.{all_differ}
 use Rattle.ix_model.proofs.valid.all_differ.Given as goal
 
 abbrev pub invariant-loop-i : goal.invariant-loop-i

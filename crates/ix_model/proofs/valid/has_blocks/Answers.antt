@@ -1,9 +1,9 @@
 use Rattle.std.proofs.Common.{◌≡◌, ◌+◌, ◌≤◌, length, take, sym, ap, ◌∙◌, arith}
 use Rattle.std.proofs.lemmas.Bool.{eq-eqb, lt-leb}
-use Rattle.ix_model.specs.World.{fs_at}
-use Rattle.ix_model.specs.Telling.{blocks_for}
-use Rattle.ix_model.specs.Valid.{blocks_taken}
-use Rattle.ix_model.proofs.Fitting.{taken_more}
+use Rattle.ix_model.specs.world.World.{fs_at}
+use Rattle.ix_model.specs.rows.Telling.{blocks_for}
+use Rattle.ix_model.specs.opening.Valid.{blocks_taken}
+use Rattle.ix_model.proofs.opening.Fitting.{taken_more}
 use Rattle.ix_model.proofs.valid.has_blocks.Goals as goal
 
 pub returns-then-needed-left : goal.returns-then-needed-left

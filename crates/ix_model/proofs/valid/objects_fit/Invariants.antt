@@ -1,5 +1,5 @@
 use Rattle.std.proofs.Common.{◌≡◌, [], take, drop}
-use Rattle.ix_model.specs.Valid.{objects_fit}
+use Rattle.ix_model.specs.opening.Valid.{objects_fit}
 use Rattle.ix_model.proofs.valid.objects_fit.Given as goal
 
 abbrev pub invariant-loop-i : goal.invariant-loop-i

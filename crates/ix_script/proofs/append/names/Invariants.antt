@@ -1,5 +1,5 @@
 use Rattle.std.proofs.Common.{◌≡◌, ◌++◌, drop}
-use Rattle.ix_script.specs.Spellings.{joined, further}
+use Rattle.ix_script.specs.texts.Spellings.{joined, further}
 use Rattle.ix_script.proofs.append.names.Given as goal
 
 abbrev pub invariant-loop-i : goal.invariant-loop-i

@@ -1,5 +1,5 @@
 use Rattle.std.proofs.Common.{◌∙◌, sym}
-use Rattle.ix_script.proofs.Indexing.{order_differs, order_goes_on}
+use Rattle.ix_script.proofs.reader.Indexing.{order_differs, order_goes_on}
 use Rattle.ix_script.proofs.by_names.order.Goals as goal
 
 pub returns-then-not-is_eq : goal.returns-then-not-is_eq

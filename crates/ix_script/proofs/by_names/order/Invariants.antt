@@ -1,5 +1,5 @@
 use Rattle.std.proofs.Common.{◌≡◌, drop}
-use Rattle.ix_script.specs.Indexed.{names_cmp}
+use Rattle.ix_script.specs.reader.Indexed.{names_cmp}
 use Rattle.ix_script.proofs.by_names.order.Given as goal
 
 abbrev pub invariant-loop-i : goal.invariant-loop-i

@@ -1,6 +1,6 @@
 use Rattle.std.proofs.Common.{◌∙◌, sym, ap}
 use Rattle.ix_script.specs.declared.spot.Spot.TheVariants as spot
-use Rattle.ix_script.proofs.Pieces.{gap_from, cut_at, cut_at_gap, gap_found, gap_next, gap_none, gap_start}
+use Rattle.ix_script.proofs.texts.Pieces.{gap_from, cut_at, cut_at_gap, gap_found, gap_next, gap_none, gap_start}
 use Rattle.ix_script.proofs.cut.end_of_word.Goals as goal
 
 pub bytes-init : goal.bytes-init

@@ -1,5 +1,5 @@
 use Rattle.std.proofs.Common.{◌∙◌, sym}
-use Rattle.ix_script.proofs.Pieces.{closed_here, closed_next, never_closed}
+use Rattle.ix_script.proofs.texts.Pieces.{closed_here, closed_next, never_closed}
 use Rattle.ix_script.proofs.cut.is_closed.Goals as goal
 
 pub returns-then-closes : goal.returns-then-closes

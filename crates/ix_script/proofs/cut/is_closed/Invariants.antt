@@ -1,5 +1,5 @@
 use Rattle.std.proofs.Common.{◌≡◌, drop}
-use Rattle.ix_script.specs.Cutting.{is_closed}
+use Rattle.ix_script.specs.texts.Cutting.{is_closed}
 use Rattle.ix_script.specs.declared.spot.Spot.TheVariants as spot
 use Rattle.ix_script.proofs.cut.is_closed.Given as goal
 

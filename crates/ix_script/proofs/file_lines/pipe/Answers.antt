@@ -1,13 +1,13 @@
 use Rattle.std.proofs.Common.{[], ◌∷◌}
 use Rattle.std.proofs.lemmas.Result.{err_from_is_err_and}
-use Rattle.ix_script.specs.Cutting.{word_at}
-use Rattle.ix_script.specs.Forms.{tail_places}
-use Rattle.ix_script.specs.Kinds as kind
-use Rattle.ix_script.specs.Kinds.{bounds}
-use Rattle.ix_script.specs.Said.{both, two_names_after}
-use Rattle.ix_script.specs.Words.{name_of}
+use Rattle.ix_script.specs.texts.Cutting.{word_at}
+use Rattle.ix_script.specs.lines.Forms.{tail_places}
+use Rattle.ix_script.specs.lines.Kinds as kind
+use Rattle.ix_script.specs.lines.Kinds.{bounds}
+use Rattle.ix_script.specs.lines.Said.{both, two_names_after}
+use Rattle.ix_script.specs.texts.Words.{name_of}
 use Rattle.ix_script.specs.declared.line.Line.TheVariants as line
-use Rattle.ix_script.proofs.Readings.{both_reads, line_read, line_refused}
+use Rattle.ix_script.proofs.lines.Readings.{both_reads, line_read, line_refused}
 use Rattle.ix_script.proofs.file_lines.pipe.Goals as goal
 
 pub returns-in_err-proc : goal.returns-in_err-proc

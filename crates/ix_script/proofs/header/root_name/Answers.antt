@@ -1,5 +1,5 @@
 use Rattle.std.proofs.Common.{refl}
-use Rattle.ix_model.specs.Naming.{is_name}
+use Rattle.ix_model.specs.world.Naming.{is_name}
 use Rattle.ix_script.proofs.header.root_name.Goals as goal
 
 pub unreachable-requires : goal.unreachable-requires

@@ -1,6 +1,6 @@
 use Rattle.std.proofs.Common.{sym, refl}
-use Rattle.ix_script.specs.Kinds.{places_fault, first_broken}
-use Rattle.ix_script.proofs.AllLabels.{label_found, label_missing}
+use Rattle.ix_script.specs.lines.Kinds.{places_fault, first_broken}
+use Rattle.ix_script.proofs.texts.AllLabels.{label_found, label_missing}
 use Rattle.ix_script.proofs.labels.label.Goals as goal
 
 pub returns-in-Ok : goal.returns-in-Ok

@@ -1,4 +1,4 @@
-use Rattle.ix_script.proofs.TextBack.{line_back}
+use Rattle.ix_script.proofs.back.TextBack.{line_back}
 use Rattle.ix_script.proofs.laws.line_stays.Goals as goal
 
 pub returns : goal.returns

@@ -1,4 +1,4 @@
-use Rattle.ix_script.proofs.ScriptBack.{one_byte_more}
+use Rattle.ix_script.proofs.back.ScriptBack.{one_byte_more}
 use Rattle.ix_script.proofs.laws.one_byte_more.Goals as goal
 
 pub returns : goal.returns

@@ -1,5 +1,5 @@
 use Rattle.std.proofs.Common.{◌≡◌, ◌≤◌, drop}
-use Rattle.ix_script.specs.Words.{value_from}
+use Rattle.ix_script.specs.texts.Words.{value_from}
 use Rattle.ix_script.proofs.numbers.value.Given as goal
 
 abbrev pub invariant-loop-b : goal.invariant-loop-b

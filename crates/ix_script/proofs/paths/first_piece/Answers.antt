@@ -1,5 +1,5 @@
 use Rattle.std.proofs.Common.{sym, ◌∙◌}
-use Rattle.ix_script.proofs.Pieces.{slash_at, slash_none}
+use Rattle.ix_script.proofs.texts.Pieces.{slash_at, slash_none}
 use Rattle.ix_script.proofs.paths.first_piece.Goals as goal
 
 pub returns-in-Some-clause-pieces : goal.returns-in-Some-clause-pieces

@@ -1,8 +1,8 @@
 use Rattle.std.proofs.Common.{◌≡◌, List, ℕ, ◌∷◌, ◌++◌, [], sym, ap, ◌∙◌, Some, IsTrue}
 use Rattle.std.specs.Option.{option_map_or}
-use Rattle.ix_model.specs.Naming.{PathOf}
-use Rattle.ix_script.specs.Words.{between_slashes, path_from}
-use Rattle.ix_script.proofs.Joined.{no_name, too_many, all_names}
+use Rattle.ix_model.specs.world.Naming.{PathOf}
+use Rattle.ix_script.specs.texts.Words.{between_slashes, path_from}
+use Rattle.ix_script.proofs.texts.Joined.{no_name, too_many, all_names}
 use Rattle.ix_script.proofs.paths.joined.Goals as goal
 
 pub returns-in_default : goal.returns-in_default

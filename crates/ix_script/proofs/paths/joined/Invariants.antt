@@ -1,7 +1,7 @@
 use Rattle.std.proofs.Common.{◌≡◌, ◌++◌, true, length}
 use Rattle.std.specs.List.{list_all}
-use Rattle.ix_model.specs.Naming.{is_name}
-use Rattle.ix_script.specs.Words.{between_slashes}
+use Rattle.ix_model.specs.world.Naming.{is_name}
+use Rattle.ix_script.specs.texts.Words.{between_slashes}
 use Rattle.ix_script.proofs.paths.joined.Given as goal
 
 abbrev pub invariant-names : goal.invariant-names

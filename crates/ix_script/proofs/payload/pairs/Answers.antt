@@ -1,6 +1,6 @@
 use Rattle.std.proofs.Common.{◌∙◌, sym}
-use Rattle.ix_script.specs.Payloads.{pairs_of}
-use Rattle.ix_script.proofs.Spelling.{no_spelling, pair_read, pair_broken, one_left, none_left}
+use Rattle.ix_script.specs.texts.Payloads.{pairs_of}
+use Rattle.ix_script.proofs.texts.Spelling.{no_spelling, pair_read, pair_broken, one_left, none_left}
 use Rattle.ix_script.proofs.payload.pairs.Goals as goal
 
 pub returns-in_default : goal.returns-in_default

@@ -1,5 +1,5 @@
 use Rattle.std.proofs.Common.{◌≡◌, length}
-use Rattle.ix_script.specs.Payloads.{after_bytes, pairs_of}
+use Rattle.ix_script.specs.texts.Payloads.{after_bytes, pairs_of}
 use Rattle.ix_script.proofs.payload.pairs.Given as goal
 
 abbrev pub invariant-pairs : goal.invariant-pairs

@@ -1,8 +1,8 @@
 use Rattle.std.proofs.Common.{◌∙◌, ◌+◌, length, sym, arith}
 use Rattle.std.proofs.lemmas.Bool.{eq-eqb, ne_eqb}
-use Rattle.ix_script.specs.Payloads.{quoted_from}
+use Rattle.ix_script.specs.texts.Payloads.{quoted_from}
 use Rattle.ix_script.specs.declared.escape.Escape.TheVariants as escape
-use Rattle.ix_script.proofs.Spelling.{no_spelling, quoted_read, quoted_broken, quoted_done, quoted_early, quoted_past}
+use Rattle.ix_script.proofs.texts.Spelling.{no_spelling, quoted_read, quoted_broken, quoted_done, quoted_early, quoted_past}
 use Rattle.ix_script.proofs.payload.quoted.Goals as goal
 
 pub returns-then-i-text : goal.returns-then-i-text

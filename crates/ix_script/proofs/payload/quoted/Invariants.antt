@@ -1,5 +1,5 @@
 use Rattle.std.proofs.Common.{◌≡◌, drop}
-use Rattle.ix_script.specs.Payloads.{after_bytes, quoted_from}
+use Rattle.ix_script.specs.texts.Payloads.{after_bytes, quoted_from}
 use Rattle.ix_script.specs.declared.escape.Escape.TheVariants as escape
 use Rattle.ix_script.proofs.payload.quoted.Given as goal
 

@@ -1,5 +1,5 @@
 use Rattle.std.proofs.Common.{arith}
-use Rattle.ix_script.proofs.Shortest.{quoted_more}
+use Rattle.ix_script.proofs.back.Shortest.{quoted_more}
 use Rattle.ix_script.proofs.payload_text.quoted_len.Goals as goal
 
 pub loop-byte-preserved : goal.loop-byte-preserved

@@ -1,6 +1,6 @@
 use Rattle.std.proofs.Common.{◌≡◌, ◌+◌, ◌*◌, ◌≤◌, length, drop}
 use Rattle.std.specs.List.{flat_map}
-use Rattle.ix_script.specs.Spellings.{quoted_byte, quoted_text}
+use Rattle.ix_script.specs.texts.Spellings.{quoted_byte, quoted_text}
 use Rattle.ix_script.proofs.payload_text.quoted_len.Given as goal
 
 abbrev pub invariant-loop-byte : goal.invariant-loop-byte

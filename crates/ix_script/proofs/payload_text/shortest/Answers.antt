@@ -1,5 +1,5 @@
 use Rattle.std.proofs.Common.{sym, ◌∙◌, refl}
-use Rattle.ix_script.proofs.Shortest.{quotes_of_two, pairs_of_two, quotes_of_three, times_of_three, quotes_not_times, pairs_of_three}
+use Rattle.ix_script.proofs.back.Shortest.{quotes_of_two, pairs_of_two, quotes_of_three, times_of_three, quotes_not_times, pairs_of_three}
 use Rattle.ix_script.proofs.payload_text.shortest.Goals as goal
 
 pub returns-then-quoted-pairs : goal.returns-then-quoted-pairs

@@ -1,5 +1,5 @@
 use Rattle.std.proofs.Common.{[], ◌∷◌, ◌∙◌, sym}
-use Rattle.ix_script.proofs.Verdicts.{no_bytes_left, bytes_left}
+use Rattle.ix_script.proofs.reader.Verdicts.{no_bytes_left, bytes_left}
 use Rattle.ix_script.proofs.privs.bits.Goals as goal
 
 pub returns-then-is_empty : goal.returns-then-is_empty

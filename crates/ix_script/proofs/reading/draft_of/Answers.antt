@@ -1,11 +1,11 @@
 use Rattle.std.proofs.Common.{◌≡◌, ℕ, List, [], length, sym, ◌∙◌, ap, subst}
 use Rattle.std.proofs.lemmas.Bool.{eqb-true}
 use Rattle.std.proofs.lemmas.List.{nil_from_length}
-use Rattle.ix_script.specs.Lines.{cut}
-use Rattle.ix_script.specs.Faults.{fault_from}
-use Rattle.ix_script.specs.Scripts.{lines_said}
-use Rattle.ix_script.proofs.Progress.{Reading, start, goes_on, stops, faultless, all_said, lines_cut}
-use Rattle.ix_script.proofs.Staying.{valid_none}
+use Rattle.ix_script.specs.texts.Lines.{cut}
+use Rattle.ix_script.specs.lines.Faults.{fault_from}
+use Rattle.ix_script.specs.scripts.Scripts.{lines_said}
+use Rattle.ix_script.proofs.reader.Progress.{Reading, start, goes_on, stops, faultless, all_said, lines_cut}
+use Rattle.ix_script.proofs.reader.Staying.{valid_none}
 use Rattle.ix_script.proofs.reading.draft_of.Goals as goal
 
 pub lines-init : goal.lines-init

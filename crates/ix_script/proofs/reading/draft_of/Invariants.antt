@@ -1,6 +1,6 @@
 use Rattle.std.proofs.Common.{length}
-use Rattle.ix_script.specs.Lines.{cut}
-use Rattle.ix_script.proofs.Progress.{Reading}
+use Rattle.ix_script.specs.texts.Lines.{cut}
+use Rattle.ix_script.proofs.reader.Progress.{Reading}
 use Rattle.ix_script.proofs.reading.draft_of.Given as goal
 
 abbrev pub invariant-lines : goal.invariant-lines

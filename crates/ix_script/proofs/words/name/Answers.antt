@@ -1,5 +1,5 @@
 use Rattle.std.proofs.Common.{sym, ◌∙◌}
-use Rattle.ix_script.proofs.Names.{script_name_is_name}
+use Rattle.ix_script.proofs.texts.Names.{script_name_is_name}
 use Rattle.ix_script.proofs.words.name.Goals as goal
 
 pub unreachable-requires : goal.unreachable-requires

@@ -1,5 +1,5 @@
 use Rattle.std.proofs.Common.{◌≡◌, ◌++◌, drop}
-use Rattle.ix_script.specs.Canonical.{canonical}
+use Rattle.ix_script.specs.scripts.Canonical.{canonical}
 use Rattle.ix_script.proofs.writing.write_lines.Given as goal
 
 abbrev pub invariant-loop-line : goal.invariant-loop-line

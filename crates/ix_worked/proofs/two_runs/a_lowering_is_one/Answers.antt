@@ -1,4 +1,4 @@
-use Rattle.ix_worked.proofs.Falling.{third_lowers, third_crosses}
+use Rattle.ix_worked.proofs.runs.Falling.{third_lowers, third_crosses}
 use Rattle.ix_worked.proofs.two_runs.a_lowering_is_one.Goals as goal
 
 pub returns-clause-lowered : goal.returns-clause-lowered

@@ -1,4 +1,4 @@
-use Rattle.ix_worked.proofs.Falling.{nothing_falls, nothing_is_crossed}
+use Rattle.ix_worked.proofs.runs.Falling.{nothing_falls, nothing_is_crossed}
 use Rattle.ix_worked.proofs.two_runs.what_floats_lowers_nothing.Goals as goal
 
 pub returns-clause-lowers : goal.returns-clause-lowers

@@ -1,6 +1,6 @@
 use Rattle.std.proofs.Common.{◌≡◌, [], subst}
-use Rattle.ix_model.specs.Sound.{Sound}
-use Rattle.ix_model.specs.History.{History, world_of}
+use Rattle.ix_model.specs.laws.Sound.{Sound}
+use Rattle.ix_model.specs.history.History.{History, world_of}
 use Rattle.ix_core.proofs.Standing.{sound_core, unlogged}
 use Rattle.ix_core.proofs.keeper.Core.len.Goals as goal
 

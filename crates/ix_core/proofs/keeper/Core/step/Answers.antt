@@ -1,12 +1,12 @@
 use Rattle.std.proofs.Common.{◌≡◌, ◌+◌, ◌<◌, ◌++◌, ◌∷◌, [], List, length, ap, sym, ◌∙◌, subst, arith}
-use Rattle.ix_model.specs.Calls.{op_of}
-use Rattle.ix_model.specs.Events.{Event}
-use Rattle.ix_model.specs.History.{History, world_of, next}
-use Rattle.ix_model.specs.Shown.{AreShown}
-use Rattle.ix_model.specs.Step.{Given, step, put_front}
-use Rattle.ix_model.specs.World.{World}
+use Rattle.ix_model.specs.history.Calls.{op_of}
+use Rattle.ix_model.specs.history.Events.{Event}
+use Rattle.ix_model.specs.history.History.{History, world_of, next}
+use Rattle.ix_model.specs.history.Shown.{AreShown}
+use Rattle.ix_model.specs.history.Step.{Given, step, put_front}
+use Rattle.ix_model.specs.world.World.{World}
 use Rattle.ix_model.specs.declared.reply.Reply.{Reply}
-use Rattle.ix_model.proofs.Showing.{shown_step}
+use Rattle.ix_model.proofs.clean.Showing.{shown_step}
 use Rattle.ix_core.specs.Stepping.{StandsFor}
 use Rattle.ix_core.proofs.Standing.{stands_next, shows}
 use Rattle.ix_core.proofs.keeper.Core.step.Goals as goal

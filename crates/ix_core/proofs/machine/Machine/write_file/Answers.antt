@@ -1,6 +1,6 @@
 use Rattle.std.proofs.Common.{◌≡◌, ℕ, List, ap, ◌∙◌, length}
-use Rattle.ix_model.specs.World.{World, Content}
-use Rattle.ix_model.specs.Contents.{offset_of, spliced}
+use Rattle.ix_model.specs.world.World.{World, Content}
+use Rattle.ix_model.specs.world.Contents.{offset_of, spliced}
 use Rattle.ix_core.specs.Meanings.{behind_of, told_of}
 use Rattle.ix_core.proofs.Lending.{put_back}
 use Rattle.ix_core.proofs.Writing.{told_file, wrote_file, refused_write}

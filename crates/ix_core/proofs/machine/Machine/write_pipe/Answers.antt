@@ -1,7 +1,7 @@
 use Rattle.std.proofs.Common.{◌≡◌, ℕ, ◌-◌, ◌++◌, List, [], ap, ◌∙◌, length}
-use Rattle.ix_model.specs.World.{World, Content}
-use Rattle.ix_model.specs.Contents.{side, with_side, holding_of}
-use Rattle.ix_model.specs.Telling.{told_of_pipe_write}
+use Rattle.ix_model.specs.world.World.{World, Content}
+use Rattle.ix_model.specs.world.Contents.{side, with_side, holding_of}
+use Rattle.ix_model.specs.rows.Telling.{told_of_pipe_write}
 use Rattle.ix_core.specs.Meanings.{behind_of, told_of, with_holding}
 use Rattle.ix_core.proofs.Lending.{put_back}
 use Rattle.ix_core.proofs.Writing.{told_pipe, wrote_pipe, refused_write}

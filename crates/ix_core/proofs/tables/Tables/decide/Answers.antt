@@ -1,5 +1,5 @@
 use Rattle.std.proofs.Common.{sym, ◌∙◌}
-use Rattle.ix_model.specs.Calls.{op_of}
+use Rattle.ix_model.specs.history.Calls.{op_of}
 use Rattle.ix_core.specs.Meanings.{told_of}
 use Rattle.ix_core.proofs.Restoring.{set_back, decide_refused}
 use Rattle.ix_core.proofs.tables.Tables.decide.Goals as goal

@@ -1,5 +1,5 @@
 use Rattle.std.proofs.Common.{◌≡◌, drop}
-use Rattle.ix_model.specs.Walks.{walk, walk_from}
+use Rattle.ix_model.specs.rows.Walks.{walk, walk_from}
 use Rattle.ix_core.specs.Meanings.{seen_in}
 use Rattle.ix_core.proofs.Walking.{raised}
 use Rattle.ix_core.proofs.tables.Tables.walk.Given as goal

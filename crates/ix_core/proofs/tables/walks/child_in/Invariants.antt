@@ -1,5 +1,5 @@
 use Rattle.std.proofs.Common.{◌≡◌, find, drop}
-use Rattle.ix_model.specs.Naming.{same_bytes}
+use Rattle.ix_model.specs.world.Naming.{same_bytes}
 use Rattle.ix_core.proofs.tables.walks.child_in.Given as goal
 
 abbrev pub invariant-loop-known : goal.invariant-loop-known

@@ -1,5 +1,5 @@
 use Rattle.std.proofs.Common.{sym}
-use Rattle.ix_host.proofs.Keyed.{get-pairs}
+use Rattle.ix_host.proofs.serially.Keyed.{get-pairs}
 use Rattle.ix_host.proofs.numbers.Numbers.get.Goals as goal
 
 pub returns : goal.returns

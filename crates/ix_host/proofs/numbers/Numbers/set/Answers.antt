@@ -1,6 +1,6 @@
 use Rattle.std.proofs.Common.{◌≡◌, ◌∙◌, true, is_ok, not, ap}
-use Rattle.ix_host.proofs.Keyed.{map-set}
-use Rattle.ix_host.proofs.Oks.{from_ok}
+use Rattle.ix_host.proofs.serially.Keyed.{map-set}
+use Rattle.ix_host.proofs.words_in.Oks.{from_ok}
 use Rattle.ix_host.proofs.numbers.Numbers.set.Goals as goal
 
 pub returns-clause-ok : goal.returns-clause-ok

@@ -1,4 +1,4 @@
-use Rattle.ix_host.specs.Telling.{Tells, pieces_of}
+use Rattle.ix_host.specs.report.Telling.{Tells, pieces_of}
 use Rattle.ix_host.proofs.report.Report.fill.Given as goal
 
 abbrev pub invariant-pieces : goal.invariant-pieces

@@ -1,4 +1,4 @@
-use Rattle.ix_host.proofs.Pieces.{ended}
+use Rattle.ix_host.proofs.piecewise.Pieces.{ended}
 use Rattle.ix_host.proofs.report.Report.tell.Goals as goal
 
 pub returns-in-End : goal.returns-in-End

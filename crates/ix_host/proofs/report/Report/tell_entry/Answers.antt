@@ -1,9 +1,9 @@
 use Rattle.std.proofs.Common.{sym, ◌∙◌, ap, arith}
 use Rattle.std.specs.Option.{option_map}
-use Rattle.ix_model.specs.Calls.{event_of, is_built}
-use Rattle.ix_host.proofs.Indexed.{counted_from_one, all_at, is_there}
-use Rattle.ix_host.proofs.Oks.{both_ok}
-use Rattle.ix_host.proofs.Pieces.{entries_told, entry_told}
+use Rattle.ix_model.specs.history.Calls.{event_of, is_built}
+use Rattle.ix_host.proofs.serially.Indexed.{counted_from_one, all_at, is_there}
+use Rattle.ix_host.proofs.words_in.Oks.{both_ok}
+use Rattle.ix_host.proofs.piecewise.Pieces.{entries_told, entry_told}
 use Rattle.ix_host.proofs.report.Report.tell_entry.Goals as goal
 
 pub returns-then-told-len : goal.returns-then-told-len

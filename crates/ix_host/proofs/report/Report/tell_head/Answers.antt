@@ -1,4 +1,4 @@
-use Rattle.ix_host.proofs.Pieces.{head_told}
+use Rattle.ix_host.proofs.piecewise.Pieces.{head_told}
 use Rattle.ix_host.proofs.report.Report.tell_head.Goals as goal
 
 pub returns : goal.returns

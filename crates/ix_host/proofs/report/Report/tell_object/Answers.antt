@@ -1,5 +1,5 @@
 use Rattle.std.proofs.Common.{arith}
-use Rattle.ix_host.proofs.Pieces.{object_told, objects_told}
+use Rattle.ix_host.proofs.piecewise.Pieces.{object_told, objects_told}
 use Rattle.ix_host.proofs.report.Report.tell_object.Goals as goal
 
 pub returns-then-n-objects : goal.returns-then-n-objects

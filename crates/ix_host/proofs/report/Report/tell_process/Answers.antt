@@ -1,5 +1,5 @@
 use Rattle.std.proofs.Common.{arith}
-use Rattle.ix_host.proofs.Pieces.{process_told, processes_told}
+use Rattle.ix_host.proofs.piecewise.Pieces.{process_told, processes_told}
 use Rattle.ix_host.proofs.report.Report.tell_process.Goals as goal
 
 pub returns-then-pid-next_pid : goal.returns-then-pid-next_pid

@@ -1,6 +1,6 @@
 use Rattle.std.proofs.Common.{rules, arith, ◌∷◌, ◌++◌, [], List, length, ap, ◌∙◌, length-append}
 use Rattle.std.specs.Vec.{vec_capacity}
-use Rattle.ix_model.specs.Calls.{op_of, event_of}
+use Rattle.ix_model.specs.history.Calls.{op_of, event_of}
 use Rattle.ix_journal.specs.Heads.{words_of}
 use Rattle.ix_journal.specs.Recorded.{Recorded}
 use Rattle.ix_journal.proofs.Coding.{packs}

@@ -1,5 +1,5 @@
 use Rattle.std.proofs.Common.{ap, List, ℕ}
-use Rattle.ix_model.proofs.Slots.{pop_inside}
+use Rattle.ix_model.proofs.tables.Slots.{pop_inside}
 use Rattle.ix_model.proofs.path.Path.parent.Goals as goal
 
 pub invariant_of-parent : goal.invariant_of-parent

@@ -1,5 +1,5 @@
 use Rattle.std.proofs.Common.{ap, List, ℕ}
-use Rattle.ix_model.proofs.Slots.{push_inside}
+use Rattle.ix_model.proofs.tables.Slots.{push_inside}
 use Rattle.ix_model.proofs.path.Path.push.Goals as goal
 
 pub invariant_of-self : goal.invariant_of-self

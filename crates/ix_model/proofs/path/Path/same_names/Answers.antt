@@ -1,5 +1,5 @@
 use Rattle.std.proofs.Common.{sym, ◌∙◌}
-use Rattle.ix_model.proofs.Fitting.{same_names_step}
+use Rattle.ix_model.proofs.opening.Fitting.{same_names_step}
 use Rattle.ix_model.proofs.path.Path.same_names.Goals as goal
 
 pub returns-then-not-same : goal.returns-then-not-same

@@ -1,5 +1,5 @@
 use Rattle.std.proofs.Common.{◌≡◌, drop}
-use Rattle.ix_model.specs.Naming.{same_names}
+use Rattle.ix_model.specs.world.Naming.{same_names}
 use Rattle.ix_model.proofs.path.Path.same_names.Given as goal
 
 abbrev pub invariant-loop-i : goal.invariant-loop-i

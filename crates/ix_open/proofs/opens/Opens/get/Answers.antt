@@ -1,5 +1,5 @@
 use Rattle.std.proofs.Common.{ℕ, Option, ap, ◌∙◌, List}
-use Rattle.ix_model.specs.World.{at}
+use Rattle.ix_model.specs.world.World.{at}
 use Rattle.ix_open.specs.Indexed.{entry_in}
 use Rattle.ix_open.proofs.Viewed.{entry_shown}
 use Rattle.ix_open.proofs.opens.Opens.get.Goals as goal

@@ -1,5 +1,5 @@
 use Rattle.std.proofs.Common.{◌≡◌, ℕ, Option, Some, is_some, sym, ap, ◌∙◌, arith, List, get_or}
-use Rattle.ix_model.specs.World.{at}
+use Rattle.ix_model.specs.world.World.{at}
 use Rattle.std.proofs.lemmas.List.{get_or_read}
 use Rattle.ix_open.proofs.Viewed.{key_there, entry_gone, count_stands, counted_gone}
 use Rattle.ix_open.proofs.Pooled.{pool_released, pool_room}

@@ -1,6 +1,6 @@
 use Rattle.std.proofs.Common.{◌∙◌, ◌++◌, ◌||◌, ◌+◌, cond, sym, ap, Option, List, ℕ, Bool}
-use Rattle.ix_script.specs.Before.{is_phase, is_command, lane_after, phase_lanes_after, lanes_after, in_lane, new_fds, new_procs}
-use Rattle.ix_script.proofs.Pushed.{body_push, lane_push, phase_lanes_push, lanes_push, fds_push, procs_given_push, commands_push}
+use Rattle.ix_script.specs.lines.Before.{is_phase, is_command, lane_after, phase_lanes_after, lanes_after, in_lane, new_fds, new_procs}
+use Rattle.ix_script.proofs.reader.Pushed.{body_push, lane_push, phase_lanes_push, lanes_push, fds_push, procs_given_push, commands_push}
 use Rattle.ix_script.proofs.body.Body.add.Goals as goal
 
 pub returns : goal.returns

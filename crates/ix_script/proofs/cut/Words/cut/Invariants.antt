@@ -1,6 +1,6 @@
 use Rattle.std.proofs.Common.{◌≡◌, suc, ◌++◌, [], map, length}
 use Rattle.std.specs.Option.{option_map_or}
-use Rattle.ix_script.specs.Cutting.{pieces, words_of}
+use Rattle.ix_script.specs.texts.Cutting.{pieces, words_of}
 use Rattle.ix_script.specs.declared.spot.Spot.TheVariants as spot
 use Rattle.ix_script.proofs.cut.Words.cut.Given as goal
 

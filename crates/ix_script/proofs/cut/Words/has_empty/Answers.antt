@@ -1,8 +1,8 @@
 use Rattle.std.proofs.Common.{sym, ap, ◌∙◌}
 use Rattle.std.specs.List.{list_any}
-use Rattle.ix_script.specs.Cutting.{is_empty}
-use Rattle.ix_script.specs.Rules.{has_empty_word}
-use Rattle.ix_script.proofs.Verdicts.{any_map}
+use Rattle.ix_script.specs.texts.Cutting.{is_empty}
+use Rattle.ix_script.specs.lines.Rules.{has_empty_word}
+use Rattle.ix_script.proofs.reader.Verdicts.{any_map}
 use Rattle.ix_script.proofs.cut.Words.has_empty.Goals as goal
 
 pub returns : goal.returns

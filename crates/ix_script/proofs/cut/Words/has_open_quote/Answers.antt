@@ -1,8 +1,8 @@
 use Rattle.std.proofs.Common.{sym, ap, ◌∙◌}
 use Rattle.std.specs.List.{list_any}
-use Rattle.ix_script.specs.Cutting.{is_open}
-use Rattle.ix_script.specs.Rules.{has_open_quote}
-use Rattle.ix_script.proofs.Verdicts.{any_map}
+use Rattle.ix_script.specs.texts.Cutting.{is_open}
+use Rattle.ix_script.specs.lines.Rules.{has_open_quote}
+use Rattle.ix_script.proofs.reader.Verdicts.{any_map}
 use Rattle.ix_script.proofs.cut.Words.has_open_quote.Goals as goal
 
 pub returns : goal.returns

@@ -1,5 +1,5 @@
 use Rattle.std.proofs.Common.{arith}
-use Rattle.ix_script.proofs.Counting.{few_commands}
+use Rattle.ix_script.proofs.reader.Counting.{few_commands}
 use Rattle.ix_script.proofs.draft.Draft.add.Goals as goal
 
 pub add-requires-2 : goal.add-requires-2

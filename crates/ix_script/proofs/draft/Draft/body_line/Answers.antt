@@ -1,5 +1,5 @@
 use Rattle.std.proofs.Common.{sym, ◌∙◌}
-use Rattle.ix_script.proofs.Deciding.{some_lines, skipped_right, policy_right, command_right}
+use Rattle.ix_script.proofs.lines.Deciding.{some_lines, skipped_right, policy_right, command_right}
 use Rattle.ix_script.proofs.draft.Draft.body_line.Goals as goal
 
 pub returns-then-is_skipped : goal.returns-then-is_skipped

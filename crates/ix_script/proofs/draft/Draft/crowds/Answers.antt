@@ -1,5 +1,5 @@
 use Rattle.std.proofs.Common.{refl, sym}
-use Rattle.ix_script.specs.Before.{dir_spec, file_spec}
+use Rattle.ix_script.specs.lines.Before.{dir_spec, file_spec}
 use Rattle.ix_script.proofs.draft.Draft.crowds.Goals as goal
 
 pub returns-in-Dir : goal.returns-in-Dir

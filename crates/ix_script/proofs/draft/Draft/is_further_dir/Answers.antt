@@ -1,7 +1,7 @@
 use Rattle.std.proofs.Common.{◌∙◌, ap}
-use Rattle.ix_script.specs.Before.{objects_of}
-use Rattle.ix_script.specs.Told.{made_dir_there}
-use Rattle.ix_script.proofs.Making.{made_dir_is, not_mount}
+use Rattle.ix_script.specs.lines.Before.{objects_of}
+use Rattle.ix_script.specs.reader.Told.{made_dir_there}
+use Rattle.ix_script.proofs.reader.Making.{made_dir_is, not_mount}
 use Rattle.ix_script.proofs.draft.Draft.is_further_dir.Goals as goal
 
 pub returns-else-is_mount : goal.returns-else-is_mount

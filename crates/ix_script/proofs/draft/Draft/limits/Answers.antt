@@ -1,8 +1,8 @@
 use Rattle.std.proofs.Common.{◌∙◌, sym, ap}
 use Rattle.std.specs.List.{list_any}
-use Rattle.ix_model.specs.Naming.{same_bytes}
-use Rattle.ix_script.specs.Before.{what_text, whats_told}
-use Rattle.ix_script.proofs.Verdicts.{any_map}
+use Rattle.ix_model.specs.world.Naming.{same_bytes}
+use Rattle.ix_script.specs.lines.Before.{what_text, whats_told}
+use Rattle.ix_script.proofs.reader.Verdicts.{any_map}
 use Rattle.ix_script.proofs.draft.Draft.limits.Goals as goal
 
 pub returns : goal.returns

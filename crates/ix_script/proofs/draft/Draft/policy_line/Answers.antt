@@ -1,5 +1,5 @@
 use Rattle.std.proofs.Common.{sym, ◌∙◌}
-use Rattle.ix_script.proofs.Deciding.{policy_read}
+use Rattle.ix_script.proofs.lines.Deciding.{policy_read}
 use Rattle.ix_script.proofs.draft.Draft.policy_line.Goals as goal
 
 pub returns : goal.returns

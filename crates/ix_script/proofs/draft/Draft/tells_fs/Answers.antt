@@ -1,10 +1,10 @@
 use Rattle.std.proofs.Common.{◌<◌, ◌∙◌, sym, ap, length, arith}
 use Rattle.std.specs.List.{list_any}
-use Rattle.ix_model.specs.Naming.{same_bytes}
+use Rattle.ix_model.specs.world.Naming.{same_bytes}
 use Rattle.ix_model.specs.declared.config.FsSpec.{FsSpec}
-use Rattle.ix_script.specs.Before.{fss_told}
-use Rattle.ix_script.proofs.Verdicts.{any_map}
-use Rattle.ix_script.proofs.Keeping.{told_is}
+use Rattle.ix_script.specs.lines.Before.{fss_told}
+use Rattle.ix_script.proofs.reader.Verdicts.{any_map}
+use Rattle.ix_script.proofs.reader.Keeping.{told_is}
 use Rattle.ix_script.proofs.draft.Draft.tells_fs.Goals as goal
 
 pub returns-then-self-gt0 : goal.returns-then-self-gt0

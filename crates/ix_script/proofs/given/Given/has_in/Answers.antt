@@ -1,7 +1,7 @@
 use Rattle.std.proofs.Common.{◌∙◌, ◌&&◌, List, ℕ, ap}
 use Rattle.std.specs.List.{list_any}
-use Rattle.ix_model.specs.Naming.{same_bytes}
-use Rattle.ix_script.specs.Indexed.{is_place}
+use Rattle.ix_model.specs.world.Naming.{same_bytes}
+use Rattle.ix_script.specs.reader.Indexed.{is_place}
 use Rattle.ix_script.proofs.given.Given.has_in.Goals as goal
 
 pub returns-in-Some : goal.returns-in-Some

@@ -1,7 +1,7 @@
 use Rattle.std.proofs.Common.{◌∙◌, ◌∷◌, ◌++◌, [], sym, ap}
 use Rattle.std.specs.List.{list_any}
-use Rattle.ix_script.specs.Indexed.{is_place}
-use Rattle.ix_script.proofs.Indexing.{place_indexed}
+use Rattle.ix_script.specs.reader.Indexed.{is_place}
+use Rattle.ix_script.proofs.reader.Indexing.{place_indexed}
 use Rattle.ix_script.proofs.given.Given.push.Goals as goal
 
 pub invariant_of-self-in-Ok-insert : goal.invariant_of-self-in-Ok-insert

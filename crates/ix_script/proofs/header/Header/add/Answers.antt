@@ -1,6 +1,6 @@
-use Rattle.ix_script.proofs.Follows.{follows}
-use Rattle.ix_script.proofs.Keeping.{header_next}
-use Rattle.ix_script.proofs.Validity.{fits_of}
+use Rattle.ix_script.proofs.lines.Follows.{follows}
+use Rattle.ix_script.proofs.reader.Keeping.{header_next}
+use Rattle.ix_script.proofs.reader.Validity.{fits_of}
 use Rattle.ix_script.proofs.header.Header.add.Goals as goal
 
 pub returns : goal.returns

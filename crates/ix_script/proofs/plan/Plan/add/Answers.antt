@@ -1,6 +1,6 @@
 use Rattle.std.proofs.Common.{◌∙◌, ◌++◌, sym, ap}
-use Rattle.ix_script.specs.Before.{fs_told, limits_after, proc_told, object_told}
-use Rattle.ix_script.proofs.Pushed.{fss_push, limits_push, procs_push, objects_push}
+use Rattle.ix_script.specs.lines.Before.{fs_told, limits_after, proc_told, object_told}
+use Rattle.ix_script.proofs.reader.Pushed.{fss_push, limits_push, procs_push, objects_push}
 use Rattle.ix_script.proofs.plan.Plan.add.Goals as goal
 
 pub returns : goal.returns

@@ -1,5 +1,5 @@
 use Rattle.std.proofs.Common.{take}
-use Rattle.ix_script.proofs.Planning.{plan_more, plan_all}
+use Rattle.ix_script.proofs.reader.Planning.{plan_more, plan_all}
 use Rattle.ix_script.proofs.plan.Plan.of.Goals as goal
 
 pub lines-preserved : goal.lines-preserved

@@ -1,5 +1,5 @@
 use Rattle.std.proofs.Common.{take}
-use Rattle.ix_script.specs.Held.{IsPlan}
+use Rattle.ix_script.specs.scripts.Held.{IsPlan}
 use Rattle.ix_script.proofs.plan.Plan.of.Given as goal
 
 abbrev pub invariant-lines : goal.invariant-lines

@@ -1,7 +1,7 @@
 use Rattle.std.proofs.Common.{◌∙◌}
 use Rattle.std.specs.List.{list_any}
-use Rattle.ix_script.specs.Indexed.{is_site}
-use Rattle.ix_script.proofs.Indexing.{there_by_dir, there_by_file}
+use Rattle.ix_script.specs.reader.Indexed.{is_site}
+use Rattle.ix_script.proofs.reader.Indexing.{there_by_dir, there_by_file}
 use Rattle.ix_script.proofs.tree.Tree.has.Goals as goal
 
 pub returns-then-has_dir : goal.returns-then-has_dir

@@ -1,6 +1,6 @@
 use Rattle.std.proofs.Common.{◌∙◌}
 use Rattle.std.specs.List.{list_any}
-use Rattle.ix_script.specs.Indexed.{is_site}
+use Rattle.ix_script.specs.reader.Indexed.{is_site}
 use Rattle.ix_script.proofs.tree.Tree.has_dir.Goals as goal
 
 pub returns : goal.returns

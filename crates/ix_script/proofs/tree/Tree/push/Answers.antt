@@ -1,7 +1,7 @@
 use Rattle.std.proofs.Common.{◌∙◌, sym, ap}
 use Rattle.std.specs.List.{list_any}
-use Rattle.ix_script.specs.Indexed.{is_site}
-use Rattle.ix_script.proofs.Indexing.{site_indexed}
+use Rattle.ix_script.specs.reader.Indexed.{is_site}
+use Rattle.ix_script.proofs.reader.Indexing.{site_indexed}
 use Rattle.ix_script.proofs.tree.Tree.push.Goals as goal
 
 pub invariant_of-self-in-Ok-insert : goal.invariant_of-self-in-Ok-insert

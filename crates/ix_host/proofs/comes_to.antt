@@ -1,0 +1,3 @@
+pub mod LaterRules
+pub mod Outcomes
+pub mod Verdicts

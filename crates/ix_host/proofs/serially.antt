@@ -1,0 +1,12 @@
+pub mod Keyed
+pub mod Indexed
+pub mod ScriptLines
+pub mod LaneCount
+pub mod SeatSearch
+pub mod Numbering
+pub mod Going
+pub mod Shown
+pub mod FlatConfigs
+pub mod LaneSteps
+pub mod Remains
+pub mod SerialHistories

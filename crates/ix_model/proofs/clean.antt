@@ -1,0 +1,4 @@
+pub mod Carrying
+pub mod Cleaning
+pub mod BuiltCalls
+pub mod Showing

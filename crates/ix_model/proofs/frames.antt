@@ -1,0 +1,11 @@
+pub mod Frames
+pub mod Awaiting
+pub mod Named
+pub mod Gone
+pub mod Claimants
+pub mod Loose
+pub mod Releasing
+pub mod Retired
+pub mod Floats
+pub mod Floated
+pub mod Given

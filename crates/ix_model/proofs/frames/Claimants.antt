@@ -1,0 +1,117 @@
+-- Who claims an end: a claimant has a descriptor on it. The claims of one object change, and all else stays.
+use Rattle.std.proofs.Common.{◌≡◌, ◌==◌, ◌&&◌, ℕ, true, false, not, Option, Some, None, option_map, refl, sym, ap, ◌∙◌, subst, inl, inr}
+use Rattle.std.specs.Option.{option_map_or}
+use Rattle.std.specs.List.{list_any}
+use Rattle.std.proofs.lemmas.Bool.{and_from, eq-eqb}
+use Rattle.ix_label.specs.Category.{leq, top}
+use Rattle.ix_model.specs.world.World.{fs_at, Frame, Object, Process, Open, at, put, change, living, is_on}
+use Rattle.ix_model.specs.world.Owners.{has_end}
+use Rattle.ix_model.specs.rows.Walks.{Behind, behind, behind_of, entry_at}
+use Rattle.ix_model.specs.rows.OnDescriptors.{claimed, pex, unpex}
+use Rattle.ix_model.specs.declared.reply.Reply.{Reply}
+use Rattle.ix_model.proofs.tables.Finds.{at_put, at_change, any_by}
+use Rattle.ix_model.proofs.words.Living.{is_living, not_ended}
+use Rattle.ix_model.proofs.words.Keeps.{keeps_claimed}
+use Rattle.ix_model.proofs.words.Ends.{Ends, ends_kept, ends_bind, ends_then, ends_pass, ends_need, ends_object, ends_opened, ends_change_object}
+use Rattle.ix_model.proofs.tables.Labels.{labels_object}
+use Rattle.ix_model.proofs.frames.Floats.{object_but, floats_itself, floats_object}
+use Rattle.ix_model.proofs.frames.Floated.{names_floated, lives_floated, opens_floated, processes_floated, claims_moved, limits_floated}
+use Rattle.ix_model.proofs.tables.SameKinds.{kinds_itself, kinds_floats}
+use Rattle.ix_model.proofs.frames.Frames.{FrameSound, Follows, follows_itself}
+use Rattle.ix_model.proofs.sound.Logging.{Refused, Passed}
+use Rattle.ix_model.proofs.words.Standing.{behind_is}
+
+-- ---- what stands behind a descriptor
+pub record IsBehind (f : Frame) (pid fd : ℕ) (e : Behind) : Type 0 where
+  pub process : Process
+  pub lives : living (at f.processes pid) ≡ Some process
+  pub descriptor : at process.fds fd ≡ Some e.id
+  pub stands : at f.opens e.id ≡ Some e.entry
+
+entry_of : (f : Frame) (d : Option ℕ) (e : Behind) → entry_at f d ≡ Some e → d ≡ Some e.id
+entry_of f None e h = cc
+entry_of f (Some n) e h = go (at f.opens n) h
+  where
+    go : (o : Option Open) → option_map (λ x. let b : Behind = record { id = n; entry = x } in b) o ≡ Some e → Some n ≡ Some e.id
+    go None h = cc
+    go (Some x) h = let i : n ≡ e.id = cc in ap Some i
+
+pub is_behind : (f : Frame) (pid fd : ℕ) (e : Behind) → behind f pid fd ≡ Some e → IsBehind f pid fd e
+unfolding behind
+is_behind f pid fd e h = go (living (at f.processes pid)) refl h
+  where
+    go : (p : Option Process) → living (at f.processes pid) ≡ p → behind_of p f fd ≡ Some e → IsBehind f pid fd e
+    go None is h = cc
+    go (Some p) is h = record { process = p; lives = is; descriptor = entry_of f (at p.fds fd) e h; stands = behind_is f pid fd e (ap (λ q. behind_of q f fd) is ∙ h) }
+
+-- the descriptor makes a claimant
+pub claims_by : (f : Frame) (pid fd : ℕ) (e : Behind) → IsBehind f pid fd e → has_end f e.entry.object e.entry.end pid ≡ true
+claims_by f pid fd e b =
+    let o : ℕ = e.entry.object in
+    let end : ℕ = e.entry.end in
+    let on : is_on e.entry.object e.entry.end (at f.opens e.id) ≡ true = ap (is_on e.entry.object e.entry.end) b.stands ∙ and_from (e.entry.object == e.entry.object) (e.entry.end == e.entry.end) (eq-eqb e.entry.object e.entry.object refl) (eq-eqb e.entry.end e.entry.end refl) in
+    let some : list_any (λ d. option_map_or (λ k. is_on e.entry.object e.entry.end (at f.opens k)) d false) b.process.fds ≡ true =
+    any_by (λ d. option_map_or (λ k. is_on e.entry.object e.entry.end (at f.opens k)) d false) refl b.process.fds fd (ap (λ d. option_map_or (λ k. is_on e.entry.object e.entry.end (at f.opens k)) d false) b.descriptor ∙ on) in
+    ap (λ q. option_map_or (λ q. not q.ended && list_any (λ d. option_map_or (λ k. is_on e.entry.object e.entry.end (at f.opens k)) d false) q.fds) q false) (is_living _ b.process b.lives)
+    ∙ and_from (not b.process.ended) _ (ap not (not_ended _ b.process b.lives)) some
+
+-- ---- other claims of one object
+pub reclaimed : (f : Frame) (o : ℕ) (h : Object → Object) → ((x : Object) → object_but (h x) ≡ object_but x) → ((x : Object) → (h x).label ≡ x.label) → ((x : Object) → (h x).fs ≡ x.fs) → ((m end p : ℕ) (x : Object) → at (change f.objects o h) m ≡ Some x → at x.claims end ≡ Some p → has_end f m end p ≡ true) → FrameSound f → FrameSound (record f { objects = change f.objects o h })
+reclaimed f o h same label fs claimants s =
+    let g : Frame = record f { objects = change f.objects o h } in
+    let r = floats_object f f o h same (floats_itself f) in
+    record {
+      labels = labels_object f s.labels o h (λ x is. (λ i. leq (label x i) (option_map_or (λ k. (fs_at f.fss k).ceiling) (fs x i) top)) ∙ s.labels.objects o x is);
+      names = names_floated f g r s.names;
+      lives = lives_floated f g r s.lives;
+      opens = opens_floated f g r s.opens;
+      processes = processes_floated f g r (λ n. refl) s.processes;
+      claims = claims_moved f g r claimants;
+      limits = limits_floated f g r s.limits.log s.limits;
+    }
+
+-- a claim more, of a claimant; or one fewer
+with_claim : (f : Frame) (o end : ℕ) (c : Option ℕ) → ((p : ℕ) → c ≡ Some p → has_end f o end p ≡ true) → FrameSound f → (m k p : ℕ) (x : Object) → at (change f.objects o (λ y. record y { claims = put y.claims end c })) m ≡ Some x → at x.claims k ≡ Some p → has_end f m k p ≡ true
+with_claim f o end c new s m k p x is claim = elim (at_change f.objects o (λ y. record y { claims = put y.claims end c }) m x is) [
+  | inl here ↦ elim (at_put here.was.claims end k c p (ap (λ y. at y.claims k) (sym here.same) ∙ claim)) [
+    | inl new_one ↦ (λ i. has_end f (here.here i) (new_one.0 i) p) ∙ new p new_one.1
+    | inr old ↦ ap (λ n. has_end f n k p) here.here ∙ s.claims.claimant o k p here.was here.is_was old.1
+  ]
+  | inr other ↦ s.claims.claimant m k p x other.1 claim
+]
+
+module _ (f : Frame) (s : FrameSound f) where
+  claim_put : (o end : ℕ) (c : Option ℕ) → ((p : ℕ) → c ≡ Some p → has_end f o end p ≡ true) → Follows f (record f { objects = change f.objects o (λ y. record y { claims = put y.claims end c }) })
+  claim_put o end c new = record {
+    sound = reclaimed f o (λ y. record y { claims = put y.claims end c }) (λ y. refl) (λ y. refl) (λ y. refl) (with_claim f o end c new s) s;
+    kinds = kinds_floats f.objects f.objects (kinds_itself f.objects) _ (floats_object f f o (λ y. record y { claims = put y.claims end c }) (λ y. refl) (floats_itself f)).objects;
+  }
+
+  -- a claim is answered from the frame as it stands
+  answered : (other : Option ℕ) (Q : Reply → Frame → Type 0) → ((a : Reply) → Q a f) → Ends (claimed other f) (Refused f) Q
+  answered other Q next = ends_kept (λ g. f ≡ g) (claimed other f) (Refused f) Q ((keeps_claimed (λ g. f ≡ g) other).led f refl) (λ r g e. subst (λ (h : Frame). Follows f h) e (follows_itself f s)) (λ a g e. subst (λ (h : Frame). Q a h) e (next a))
+
+  pub pex_ends : (pid fd : ℕ) → Ends (pex pid fd f) (Refused f) (Passed f)
+  unfolding pex
+  pex_ends pid fd =
+      let k = follows_itself f s in
+      ends_bind _ _ f (Refused f) (Passed f) (ends_opened pid fd f (Refused f) _ (λ e is.
+      ends_bind _ _ f (Refused f) (Passed f) (ends_object e.entry.object f (Refused f) _ (λ x here.
+      ends_then _ _ f (Refused f) (Passed f) (ends_need _ _ f (Refused f) _ (λ pipe.
+      ends_then _ _ f (Refused f) (Passed f) (ends_need _ _ f (Refused f) _ (λ free.
+      ends_bind _ _ f (Refused f) (Passed f) (answered _ _ (λ a.
+      ends_then _ _ f (Refused f) (Passed f) (ends_change_object e.entry.object _ f (Refused f) _ (
+      ends_pass _ _ (Refused f) (Passed f) (claim_put e.entry.object e.entry.end (Some pid) (λ p one.
+      let same : pid ≡ p = cc in
+      subst (λ (n : ℕ). has_end f e.entry.object e.entry.end n ≡ true) same (claims_by f pid fd e (is_behind f pid fd e is))))))))) k)) k)) k)) k)
+
+  pub unpex_ends : (pid fd : ℕ) → Ends (unpex pid fd f) (Refused f) (Passed f)
+  unfolding unpex
+  unpex_ends pid fd =
+      let k = follows_itself f s in
+      ends_bind _ _ f (Refused f) (Passed f) (ends_opened pid fd f (Refused f) _ (λ e is.
+      ends_bind _ _ f (Refused f) (Passed f) (ends_object e.entry.object f (Refused f) _ (λ x here.
+      ends_then _ _ f (Refused f) (Passed f) (ends_need _ _ f (Refused f) _ (λ pipe.
+      ends_then _ _ f (Refused f) (Passed f) (ends_need _ _ f (Refused f) _ (λ own.
+      ends_then _ _ f (Refused f) (Passed f) (ends_change_object e.entry.object _ f (Refused f) _ (
+      ends_pass _ _ (Refused f) (Passed f) (claim_put e.entry.object e.entry.end None (λ p none. cc))))) k)) k)) k)) k)

@@ -1,0 +1,121 @@
+-- What an object line that fits says, and where a path leads after it.
+use Rattle.std.proofs.Common.{◌≡◌, ◌⊎◌, ◌≤◌, ◌+◌, ◌-◌, ◌==◌, ℕ, suc, Bool, true, false, not, ◌&&◌, ◌||◌, List, [], ◌∷◌, ◌++◌, length, take, drop, cond, Some, None, nat_le, refl, sym, ap, ◌∙◌, arith, get_or, inl, inr, eqb-true}
+use Rattle.std.specs.Option.{option_map_or}
+use Rattle.std.specs.List.{list_any, position_from}
+use Rattle.std.proofs.Math.Bool.{and-true, or-false}
+use Rattle.std.proofs.Math.Seq.{drop-cons}
+use Rattle.std.proofs.lemmas.Bool.{and_parts, or_parts, or_cases, or_left, or_right, not-true, leb-true}
+use Rattle.std.proofs.lemmas.List.{take-append-drop, drop_all}
+use Rattle.std.proofs.lemmas.List.Folds.{list_any-append}
+use Rattle.std.proofs.lemmas.Iterator.Adapters.{position_from-zero}
+use Rattle.ix_label.specs.Category.{leq}
+use Rattle.ix_model.specs.world.World.{fs_at}
+use Rattle.ix_model.specs.world.Naming.{same_bytes, same_names, last_name}
+use Rattle.ix_model.specs.world.Privs.{is_empty}
+use Rattle.ix_model.specs.rows.Telling.{blocks_for}
+use Rattle.ix_model.specs.opening.Valid.{fs_of, is_mount, is_well_formed, is_taken, has_directory, lying_on, blocks_taken, has_room, object_fits}
+use Rattle.ix_model.specs.declared.config.FsSpec.{FsSpec}
+use Rattle.ix_model.specs.declared.config.Limits.{Limits}
+use Rattle.ix_model.specs.declared.config.ObjSpec.{ObjSpec}
+use Rattle.ix_model.proofs.tables.Alike.{names_are, names_itself}
+
+-- all names but the last
+abbrev pub parent_of : List (List ℕ) → List (List ℕ)
+parent_of names = take (length names - 1) names
+
+-- what it says, part by part
+pub record Line (fss : List FsSpec) (l : Limits) (before : List ObjSpec) (b : ObjSpec) : Type 0 where
+  pub is_path : b.path.names ≡ parent_of b.path.names ++ last_name b.path.names ∷ []
+  pub short : length b.bytes ≤ 1048576
+  pub bare : b.dir ≡ true → b.bytes ≡ []
+  pub low : leq b.label (fs_at fss (fs_of fss b.path.names)).ceiling ≡ true
+  pub new : is_taken fss before b.path.names ≡ false
+  pub dir : has_directory fss before (parent_of b.path.names) ≡ true
+  pub names : length fss + length before ≤ l.names
+  pub inodes : length (lying_on fss (fs_of fss b.path.names) before) + 2 ≤ (fs_at fss (fs_of fss b.path.names)).inodes
+  pub blocks : blocks_taken fss (fs_of fss b.path.names) before + blocks_for (length b.bytes) ≤ (fs_at fss (fs_of fss b.path.names)).blocks
+
+split_last : (names : List (List ℕ)) → 1 ≤ length names → names ≡ parent_of names ++ last_name names ∷ []
+split_last names some =
+    let i : ℕ = length names - 1 in
+    sym (take-append-drop i names)
+    ∙ ap (λ rest. take i names ++ rest) (drop-cons names i [] (omega arith) ∙ ap (λ rest. get_or names i [] ∷ rest) (drop_all (suc i) names (omega arith)))
+
+-- a directory's line has no bytes
+empty_of : {A : Type 0} (xs : List A) → length xs ≡ 0 → xs ≡ []
+empty_of [] none = refl
+empty_of (x ∷ xs) none = absurd (omega arith)
+
+no_bytes : (b : ObjSpec) → (not b.dir || (is_empty b.cap && is_empty b.lic && length b.bytes == 0)) ≡ true → b.dir ≡ true → b.bytes ≡ []
+no_bytes b h dir =
+    let bare : (is_empty b.cap && is_empty b.lic && length b.bytes == 0) ≡ true = ap (λ d. not d || (is_empty b.cap && is_empty b.lic && length b.bytes == 0)) (sym dir) ∙ h in
+    empty_of b.bytes (eqb-true (length b.bytes) 0 (and_parts (is_empty b.cap && is_empty b.lic) (length b.bytes == 0) bare).1)
+
+pub line_is : (fss : List FsSpec) (l : Limits) (before : List ObjSpec) (b : ObjSpec) → object_fits fss l before b ≡ true → Line fss l before b
+unfolding object_fits
+line_is fss l before b fits =
+    let names : List (List ℕ) = b.path.names in
+    let k : ℕ = fs_of fss names in
+    let low : Bool = leq b.label (fs_at fss k).ceiling in
+    let new : Bool = not (is_taken fss before names) in
+    let dir : Bool = has_directory fss before (parent_of names) in
+    let p1 = and_parts (is_well_formed b && low && new && dir) (has_room fss l before b) fits in
+    let p2 = and_parts (is_well_formed b && low && new) dir p1.0 in
+    let p3 = and_parts (is_well_formed b && low) new p2.0 in
+    let p4 = and_parts (is_well_formed b) low p3.0 in
+    let w1 = and_parts (b.path.absolute && nat_le 1 (length names) && nat_le (length b.bytes) 1048576) (not b.dir || (is_empty b.cap && is_empty b.lic && length b.bytes == 0)) p4.0 in
+    let w2 = and_parts (b.path.absolute && nat_le 1 (length names)) (nat_le (length b.bytes) 1048576) w1.0 in
+    let w3 = and_parts b.path.absolute (nat_le 1 (length names)) w2.0 in
+    let inodes : Bool = nat_le (length (lying_on fss k before) + 2) (fs_at fss k).inodes in
+    let blocks : Bool = nat_le (blocks_taken fss k before + blocks_for (length b.bytes)) (fs_at fss k).blocks in
+    let r1 = and_parts (nat_le (length fss + length before) l.names && inodes) blocks p1.1 in
+    let r2 = and_parts (nat_le (length fss + length before) l.names) inodes r1.0 in
+    record {
+      is_path = split_last names (leb-true _ _ w3.1);
+      short = leb-true _ _ w2.1;
+      bare = no_bytes b w1.1;
+      low = p4.1;
+      new = not-true _ p3.1;
+      dir = p2.1;
+      names = leb-true _ _ r2.0;
+      inodes = leb-true _ _ r2.1;
+      blocks = leb-true _ _ r1.1;
+    }
+
+-- ---- the file system of a path
+no_mount : (ms : List FsSpec) (name : List ℕ) (i : ℕ) → list_any (λ s. same_names (s.name ∷ []) (name ∷ [])) ms ≡ false → position_from (λ s. same_bytes s.name name) i ms ≡ None
+no_mount [] name i h = refl
+no_mount (s ∷ ms) name i h =
+    let p = or_parts (same_names (s.name ∷ []) (name ∷ [])) (list_any (λ t. same_names (t.name ∷ []) (name ∷ [])) ms) h in
+    ap (λ b. cond b (Some i) (position_from (λ t. same_bytes t.name name) (i + 1) ms)) (sym (and-true (same_bytes s.name name)) ∙ p.0) ∙ no_mount ms name (i + 1) p.1
+
+-- a path that isn't a root lies where its directory does
+pub fs_of_child : (fss : List FsSpec) (names : List (List ℕ)) (name : List ℕ) → is_mount fss (names ++ name ∷ []) ≡ false → fs_of fss (names ++ name ∷ []) ≡ fs_of fss names
+fs_of_child fss [] name h = ap (λ o. option_map_or suc o 0) (position_from-zero (λ (s : FsSpec). same_bytes s.name name) (drop 1 fss) ∙ no_mount (drop 1 fss) name 0 h)
+fs_of_child fss (x ∷ names) name h = refl
+
+-- ---- with one line more
+there_more : (p : ObjSpec → Bool) (before : List ObjSpec) (b : ObjSpec) → list_any p (before ++ b ∷ []) ≡ (list_any p before || p b)
+there_more p before b = list_any-append p before (b ∷ []) ∙ ap (λ x. list_any p before || x) (or-false (p b))
+
+-- what was there is there, and the new object is
+pub still_there : (fss : List FsSpec) (before : List ObjSpec) (b : ObjSpec) (names : List (List ℕ)) → is_taken fss before names ≡ true → is_taken fss (before ++ b ∷ []) names ≡ true
+still_there fss before b names h = elim (or_cases (is_mount fss names) (list_any (λ c. same_names c.path.names names) before) h) [
+  | inl mount ↦ or_left _ _ mount
+  | inr made ↦ or_right (is_mount fss names) _ (there_more (λ c. same_names c.path.names names) before b ∙ or_left _ _ made)
+]
+
+pub now_there : (fss : List FsSpec) (before : List ObjSpec) (b : ObjSpec) → is_taken fss (before ++ b ∷ []) b.path.names ≡ true
+now_there fss before b = or_right (is_mount fss b.path.names) _ (there_more (λ c. same_names c.path.names b.path.names) before b ∙ or_right (list_any (λ c. same_names c.path.names b.path.names) before) _ (names_itself b.path.names))
+
+-- a directory is one that was there, or the new object
+pub dir_there : (fss : List FsSpec) (before : List ObjSpec) (b : ObjSpec) (names : List (List ℕ)) → has_directory fss (before ++ b ∷ []) names ≡ true → (has_directory fss before names ≡ true) ⊎ ((b.dir ≡ true) × (b.path.names ≡ names))
+dir_there fss before b names h = elim (or_cases (same_names [] names || is_mount fss names) (list_any (λ c. c.dir && same_names c.path.names names) (before ++ b ∷ [])) h) [
+  | inl root ↦ inl (or_left _ _ root)
+  | inr made ↦ elim (or_cases (list_any (λ c. c.dir && same_names c.path.names names) before) (b.dir && same_names b.path.names names) (sym (there_more (λ c. c.dir && same_names c.path.names names) before b) ∙ made)) [
+    | inl old ↦ inl (or_right (same_names [] names || is_mount fss names) _ old)
+    | inr new ↦
+        let p = and_parts b.dir (same_names b.path.names names) new in
+        inr (p.0, names_are b.path.names names p.1)
+  ]
+]

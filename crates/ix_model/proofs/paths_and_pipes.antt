@@ -1,0 +1,5 @@
+pub mod Wholes
+pub mod PipesPast
+pub mod Written
+pub mod Stopping
+pub mod Claimed

@@ -1,0 +1,10 @@
+pub mod Slots
+pub mod Tables
+pub mod Finds
+pub mod SameKinds
+pub mod Alike
+pub mod Listed
+pub mod FreeNumbers
+pub mod Blocks
+pub mod Labels
+pub mod Inodes

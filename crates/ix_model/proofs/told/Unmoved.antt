@@ -1,0 +1,363 @@
+-- The privileges of processes and objects: what rows leave of them that change none.
+use Rattle.std.specs.Option.{option_map_or, option_and_then}
+use Rattle.std.specs.List.{range_with_len}
+use Rattle.std.proofs.Common.{◌≡◌, ◌≤◌, ℕ, Bool, true, false, true≢false, List, [], ◌∷◌, ◌++◌, length, Option, Some, None, is_some, option_map, refl, sym, ap, ◌∙◌, subst, arith, inl, inr, if◌then◌else◌}
+use Rattle.ix_label.specs.Category.{Categories}
+use Rattle.ix_model.specs.world.Naming.{PathOf}
+use Rattle.ix_model.specs.world.Numbers.{free_inode, free_pipe}
+use Rattle.ix_model.specs.world.World.{Frame, Object, Process, Open, at, put, change}
+use Rattle.ix_model.specs.rows.Rows.{pass, change_object, change_process, put_object, put_process, put_open, change_open, observe, affect}
+use Rattle.ix_model.specs.rows.Walks.{Behind, behind, walked_to, object_at, spot_at, missing, opened}
+use Rattle.ix_model.specs.rows.Lifetimes.{let_go_object, let_go_open, let_go_claim, let_go, let_go_if_held, let_go_each, let_go_all, has_lost}
+use Rattle.ix_model.specs.rows.Auditing.{logged}
+use Rattle.ix_model.specs.rows.OnPaths.{new_object, make, open_at, link_at, unlink_at, remove_dir, change_dir, stat_at, list_at}
+use Rattle.ix_model.specs.rows.OnDescriptors.{Told, float_entry, read_fd, write_fd, cut_fd, seek_fd, dup_fd, close_fd, make_pipe, pex, unpex}
+use Rattle.ix_model.specs.rows.OnProcesses.{remains, end_process, exit, wait_child}
+use Rattle.ix_model.specs.rows.OnLabels.{label_of, self_label, set_label, set_self, freeze, freeze_self, thaw, thaw_self, set_ceiling, read_log}
+use Rattle.ix_model.specs.laws.Privileged.{Privileges, Carried, privileges, carried_by, carries_none}
+use Rattle.ix_model.specs.declared.call.Mode.{Mode}
+use Rattle.ix_model.specs.declared.audit.AuditLine.{AuditLine}
+use Rattle.ix_model.specs.declared.reply.Kind.{Kind}
+use Rattle.ix_model.specs.declared.reply.Kind.TheVariants as kind
+use Rattle.ix_model.proofs.tables.Finds.{at_put, at_push, at_change, in_table}
+use Rattle.ix_model.proofs.tables.FreeNumbers.{free_inode_is, free_pipe_is}
+use Rattle.ix_model.proofs.words.Lasts.{Lasting, lasting_itself, lasting_change, lasting_put}
+use Rattle.ix_model.proofs.words.Keeps.{Holds, Keeps, keeping, keeping_tests, keeps_then, keeps_pass, keeps_only_if}
+use Rattle.ix_model.proofs.words.Rowwise.{keeps_bind_frame, keeps_bind_some}
+
+-- ---- tables
+-- what stands in both has the same, and what is new has what a new one may have
+pub record Kept {A B : Type 0} (get : A → B) (new : B → Type 0) (t u : List (Option A)) : Type 0 where
+  pub same : (n : ℕ) (x y : A) → at t n ≡ Some x → at u n ≡ Some y → get y ≡ get x
+  pub fresh : (n : ℕ) (y : A) → at t n ≡ None → at u n ≡ Some y → new (get y)
+
+module _ {A B : Type 0} (get : A → B) (new : B → Type 0) (t : List (Option A)) where
+  pub kept_itself : Kept get new t t
+  kept_itself = record {
+    same = λ n x y is seen. let e : Some x ≡ Some y = sym is ∙ seen in let one : x ≡ y = cc in ap get (sym one);
+    fresh = λ n y is seen. let e : None ≡ Some y = sym is ∙ seen in cc;
+  }
+
+  pub kept_change : (u : List (Option A)) (n : ℕ) (h : A → A) → ((x : A) → get (h x) ≡ get x) → Kept get new t u → Kept get new t (change u n h)
+  kept_change u n h keeps r = record {
+    same = λ m x y is seen. elim (at_change u n h m y seen) [
+      | inl c ↦ ap get c.same ∙ keeps c.was ∙ r.same m x c.was is (ap (at u) c.here ∙ c.is_was)
+      | inr other ↦ r.same m x y is other.1
+    ];
+    fresh = λ m y is seen. elim (at_change u n h m y seen) [
+      | inl c ↦ subst new (sym (ap get c.same ∙ keeps c.was)) (r.fresh m c.was is (ap (at u) c.here ∙ c.is_was))
+      | inr other ↦ r.fresh m y is other.1
+    ];
+  }
+
+  pub kept_none : (u : List (Option A)) (n : ℕ) → Kept get new t u → Kept get new t (put u n None)
+  kept_none u n r = record {
+    same = λ m x y is seen. elim (at_put u n m None y seen) [
+      | inl here ↦ let e : None ≡ Some y = here.1 in cc
+      | inr other ↦ r.same m x y is other.1
+    ];
+    fresh = λ m y is seen. elim (at_put u n m None y seen) [
+      | inl here ↦ let e : None ≡ Some y = here.1 in cc
+      | inr other ↦ r.fresh m y is other.1
+    ];
+  }
+
+  pub kept_put : (u : List (Option A)) (n : ℕ) (z : A) → at t n ≡ None → new (get z) → Kept get new t u → Kept get new t (put u n (Some z))
+  kept_put u n z free fits r = record {
+    same = λ m x y is seen. elim (at_put u n m (Some z) y seen) [
+      | inl here ↦ let e : None ≡ Some x = sym free ∙ ap (at t) (sym here.0) ∙ is in cc
+      | inr other ↦ r.same m x y is other.1
+    ];
+    fresh = λ m y is seen. elim (at_put u n m (Some z) y seen) [
+      | inl here ↦ let one : z ≡ y = cc in subst (λ (v : A). new (get v)) one fits
+      | inr other ↦ r.fresh m y is other.1
+    ];
+  }
+
+  pub kept_push : (u : List (Option A)) (z : A) → length t ≤ length u → new (get z) → Kept get new t u → Kept get new t (u ++ Some z ∷ [])
+  kept_push u z long fits r = record {
+    same = λ m x y is seen. elim (at_push u z m y seen) [
+      | inl here ↦ let low = in_table t m x is in let at_end : m ≡ length u = here.0 in absurd (omega (arith, low, at_end, long))
+      | inr other ↦ r.same m x y is other
+    ];
+    fresh = λ m y is seen. elim (at_push u z m y seen) [
+      | inl here ↦ subst (λ (v : A). new (get v)) here.1 fits
+      | inr other ↦ r.fresh m y is other
+    ];
+  }
+
+  -- another with the same
+  pub kept_again : (u : List (Option A)) (n : ℕ) (z was : A) → at u n ≡ Some was → get z ≡ get was → Kept get new t u → Kept get new t (put u n (Some z))
+  kept_again u n z was is_was keeps r = record {
+    same = λ m x y is seen. elim (at_put u n m (Some z) y seen) [
+      | inl here ↦ let one : z ≡ y = cc in ap get (sym one) ∙ keeps ∙ r.same m x was is (ap (at u) here.0 ∙ is_was)
+      | inr other ↦ r.same m x y is other.1
+    ];
+    fresh = λ m y is seen. elim (at_put u n m (Some z) y seen) [
+      | inl here ↦ let one : z ≡ y = cc in subst new (sym (ap get (sym one) ∙ keeps)) (r.fresh m was is (ap (at u) here.0 ∙ is_was))
+      | inr other ↦ r.fresh m y is other.1
+    ];
+  }
+
+-- ---- frames
+abbrev pub CallersOwn : Frame → ℕ → Privileges → Type 0
+CallersOwn f pid v = option_map privileges (at f.processes pid) ≡ Some v
+
+abbrev pub NoneAtAll : Carried → Type 0
+NoneAtAll v = v ≡ carries_none
+
+pub record Unmoved (f : Frame) (pid : ℕ) (loses : Bool) (g : Frame) : Type 0 where
+  pub processes : Kept privileges (CallersOwn f pid) f.processes g.processes
+  pub objects : Kept carried_by NoneAtAll f.objects g.objects
+  pub lasting : loses ≡ false → Lasting f.objects g.objects
+
+pub unmoved_itself : (f : Frame) (pid : ℕ) (loses : Bool) → Unmoved f pid loses f
+unmoved_itself f pid loses = record { processes = kept_itself _ _ f.processes; objects = kept_itself _ _ f.objects; lasting = λ e. lasting_itself f.objects }
+
+module _ (f : Frame) (pid : ℕ) (loses : Bool) where
+  abbrev R : Frame → Type 0
+  R = Unmoved f pid loses
+
+  u_change_object : (o : ℕ) (h : Object → Object) → ((x : Object) → carried_by (h x) ≡ carried_by x) → Keeps R (change_object o h)
+  unfolding change_object Holds
+  u_change_object o h same = record { led = λ g r. record { processes = r.processes; objects = kept_change _ _ f.objects g.objects o h same r.objects; lasting = λ e. lasting_change f.objects g.objects o h (r.lasting e) } }
+
+  u_change_process : (p : ℕ) (h : Process → Process) → ((q : Process) → privileges (h q) ≡ privileges q) → Keeps R (change_process p h)
+  unfolding change_process Holds
+  u_change_process p h same = record { led = λ g r. record { processes = kept_change _ _ f.processes g.processes p h same r.processes; objects = r.objects; lasting = r.lasting } }
+
+  u_put_open : (e : ℕ) (x : Option Open) → Keeps R (put_open e x)
+  unfolding put_open Holds
+  u_put_open e x = record { led = λ g r. record { processes = r.processes; objects = r.objects; lasting = r.lasting } }
+
+  u_change_open : (e : ℕ) (h : Open → Open) → Keeps R (change_open e h)
+  unfolding change_open Holds
+  u_change_open e h = record { led = λ g r. record { processes = r.processes; objects = r.objects; lasting = r.lasting } }
+
+  u_logged : (l : AuditLine) → Keeps R (logged l)
+  unfolding logged Holds
+  u_logged l = record { led = λ g r. record { processes = r.processes; objects = r.objects; lasting = r.lasting } }
+
+  u_no_object : loses ≡ true → (o : ℕ) → Keeps R (put_object o None)
+  unfolding put_object Holds
+  u_no_object can o = record { led = λ g r. record { processes = r.processes; objects = kept_none _ _ f.objects g.objects o r.objects; lasting = λ e. absurd (true≢false (sym can ∙ e)) } }
+
+  u_no_process : (p : ℕ) → Keeps R (put_process p None)
+  unfolding put_process Holds
+  u_no_process p = record { led = λ g r. record { processes = kept_none _ _ f.processes g.processes p r.processes; objects = r.objects; lasting = r.lasting } }
+
+  u_end : (p : ℕ) → Keeps R (end_process p)
+  unfolding end_process put_process Holds
+  u_end p = record { led = λ g r. record { processes = go g r (at g.processes p) refl; objects = r.objects; lasting = r.lasting } }
+    where
+      left : (g : Frame) → R g → (q : Process) → at g.processes p ≡ Some q → (b : Bool) → Kept privileges (CallersOwn f pid) f.processes (put g.processes p (if b then Some (record q { ended = true }) else None))
+      left g r q is true = kept_again _ _ f.processes g.processes p (record q { ended = true }) q is refl r.processes
+      left g r q is false = kept_none _ _ f.processes g.processes p r.processes
+
+      go : (g : Frame) → R g → (o : Option Process) → at g.processes p ≡ o → Kept privileges (CallersOwn f pid) f.processes (put g.processes p (option_and_then remains o))
+      go g r None is = kept_none _ _ f.processes g.processes p r.processes
+      go g r (Some q) is = left g r q is (is_some q.parent)
+
+  -- what is new is put where nothing stood
+  was_free : (g : Frame) (o : ℕ) → loses ≡ false → R g → at g.objects o ≡ None → at f.objects o ≡ None
+  was_free g o all r free = go (at f.objects o) refl
+    where
+      go : (x : Option Object) → at f.objects o ≡ x → x ≡ None
+      go None is = refl
+      go (Some x) is = absurd (true≢false (sym ((r.lasting all).stays o (ap is_some is)) ∙ ap is_some free))
+
+  u_inode : loses ≡ false → (m : Frame) (o k : ℕ) (kind : Kind) → R m → free_inode m k ≡ Some o → Keeps R (put_object o (Some (new_object kind (Some k))))
+  unfolding put_object Holds
+  u_inode all m o k kind r free = record { led = λ g s. record { processes = s.processes; objects = kept_put _ _ f.objects g.objects o _ (was_free m o all r (free_inode_is m k o free).free) refl s.objects; lasting = λ e. lasting_put f.objects g.objects o _ (s.lasting e) } }
+
+  u_pipe : loses ≡ false → (m : Frame) (o : ℕ) → R m → free_pipe m ≡ Some o → Keeps R (put_object o (Some (new_object kind.Pipe None)))
+  unfolding put_object Holds
+  u_pipe all m o r free = record { led = λ g s. record { processes = s.processes; objects = kept_put _ _ f.objects g.objects o _ (was_free m o all r (free_pipe_is m o free).free) refl s.objects; lasting = λ e. lasting_put f.objects g.objects o _ (s.lasting e) } }
+
+  ruleset words = (keeps_bind_frame, keeps_bind_some, keeping, keeping_tests, u_change_object, u_change_process, u_put_open, u_change_open, u_logged, u_no_object, u_no_process, u_end, u_inode, u_pipe)
+
+  -- ---- parts of rows
+  pub u_observe : (seen : Categories) → Keeps R (observe pid seen)
+  unfolding observe
+  u_observe seen = search words depth 30
+
+  pub u_affect : (o : ℕ) (l : Categories) → Keeps R (affect pid o l)
+  unfolding affect
+  u_affect o l = search words depth 30
+
+  u_float_entry : (p : Process) (x : Object) (e : Behind) → Keeps R (float_entry p x e)
+  unfolding float_entry
+  u_float_entry p x e = search words depth 30
+
+  pub u_walked_to : (path : PathOf) → Keeps R (walked_to pid path)
+  unfolding walked_to
+  u_walked_to path = search (words, u_observe) depth 30
+
+  pub u_object_at : (path : PathOf) → Keeps R (object_at pid path)
+  unfolding object_at
+  u_object_at path = search (words, u_walked_to) depth 30
+
+  u_spot_at : (path : PathOf) → Keeps R (spot_at pid path)
+  unfolding spot_at
+  u_spot_at path = search (words, u_walked_to) depth 30
+
+  u_missing : (path : PathOf) → Keeps R (missing pid path)
+  unfolding missing
+  u_missing path = search (words, u_walked_to) depth 30
+
+  u_opened : (fd : ℕ) → Keeps R (opened pid fd)
+  unfolding opened
+  u_opened fd = search words depth 30
+
+  -- ---- what goes
+  u_let_go_object : loses ≡ true → (o : ℕ) → Keeps R (let_go_object o)
+  unfolding let_go_object
+  u_let_go_object can o = record { led = λ g. (keeps_only_if R _ (put_object o None) (u_no_object can o)).led g }
+
+  u_let_go_open : (e : ℕ) → Keeps R (let_go_open e)
+  unfolding let_go_open
+  u_let_go_open e = record { led = λ g. (keeps_only_if R _ (put_open e None) (u_put_open e None)).led g }
+
+  u_let_go_claim : (o end : ℕ) → Keeps R (let_go_claim pid o end)
+  unfolding let_go_claim
+  u_let_go_claim o end = record { led = λ g. (keeps_only_if R (has_lost g pid o end) _ (u_change_object o _ (λ x. refl))).led g }
+
+  u_let_go : loses ≡ true → (fd : ℕ) (e : Behind) → Keeps R (let_go pid fd e)
+  unfolding let_go
+  u_let_go can fd e = search (words, u_let_go_object, u_let_go_open, u_let_go_claim) depth 30
+
+  u_let_go_if_held : loses ≡ true → (fd : ℕ) → Keeps R (let_go_if_held pid fd)
+  unfolding let_go_if_held
+  u_let_go_if_held can fd = record { led = λ g r. (go (behind g pid fd)).led g r }
+    where
+      go : (b : Option Behind) → Keeps R (option_map_or (let_go pid fd) b (pass tt))
+      go None = keeps_pass R tt
+      go (Some e) = u_let_go can fd e
+
+  u_let_go_each : loses ≡ true → (fds : List ℕ) → Keeps R (let_go_each pid fds)
+  unfolding let_go_each
+  u_let_go_each can [] = keeps_pass R tt
+  u_let_go_each can (fd ∷ fds) = keeps_then R _ _ (u_let_go_if_held can fd) (u_let_go_each can fds)
+
+  u_let_go_all : loses ≡ true → Keeps R (let_go_all pid)
+  unfolding let_go_all
+  u_let_go_all can = u_let_go_each can (range_with_len 0 32)
+
+  -- ---- the rows
+  ruleset rows = (words, u_observe, u_affect, u_float_entry, u_walked_to, u_object_at, u_spot_at, u_missing, u_opened, u_let_go_object, u_let_go, u_let_go_all)
+
+  pub u_make : loses ≡ false → (path : PathOf) (kind : Kind) → Keeps R (make pid path kind)
+  unfolding make
+  u_make all path kind = search rows depth 60 fits 8000
+
+  pub u_link_at : (target path : PathOf) → Keeps R (link_at pid target path)
+  unfolding link_at
+  u_link_at target path = search rows depth 60 fits 8000
+
+  pub u_unlink_at : loses ≡ true → (path : PathOf) → Keeps R (unlink_at pid path)
+  unfolding unlink_at
+  u_unlink_at can path = search rows depth 60 fits 8000
+
+  pub u_remove_dir : loses ≡ true → (path : PathOf) → Keeps R (remove_dir pid path)
+  unfolding remove_dir
+  u_remove_dir can path = search rows depth 60 fits 8000
+
+  pub u_open_at : (path : PathOf) (mode : Mode) → Keeps R (open_at pid path mode)
+  unfolding open_at
+  u_open_at path mode = search rows depth 60 fits 8000
+
+  pub u_change_dir : (path : PathOf) → Keeps R (change_dir pid path)
+  unfolding change_dir
+  u_change_dir path = search rows depth 60 fits 8000
+
+  pub u_stat_at : (path : PathOf) → Keeps R (stat_at pid path)
+  unfolding stat_at
+  u_stat_at path = search rows depth 60 fits 8000
+
+  pub u_list_at : (path : PathOf) (index : ℕ) → Keeps R (list_at pid path index)
+  unfolding list_at
+  u_list_at path index = search rows depth 60 fits 8000
+
+  pub u_read_fd : (t : Told) (fd count : ℕ) → Keeps R (read_fd t pid fd count)
+  unfolding read_fd
+  u_read_fd t fd count = search rows depth 60 fits 8000
+
+  pub u_write_fd : (t : Told) (fd : ℕ) → Keeps R (write_fd t pid fd)
+  unfolding write_fd
+  u_write_fd t fd = search rows depth 60 fits 8000
+
+  pub u_cut_fd : (t : Told) (fd len : ℕ) → Keeps R (cut_fd t pid fd len)
+  unfolding cut_fd
+  u_cut_fd t fd len = search rows depth 60 fits 8000
+
+  pub u_seek_fd : (fd offset : ℕ) → Keeps R (seek_fd pid fd offset)
+  unfolding seek_fd
+  u_seek_fd fd offset = search rows depth 60 fits 8000
+
+  pub u_dup_fd : (fd : ℕ) → Keeps R (dup_fd pid fd)
+  unfolding dup_fd
+  u_dup_fd fd = search rows depth 60 fits 8000
+
+  pub u_close_fd : loses ≡ true → (fd : ℕ) → Keeps R (close_fd pid fd)
+  unfolding close_fd
+  u_close_fd can fd = search rows depth 60 fits 8000
+
+  pub u_make_pipe : loses ≡ false → Keeps R (make_pipe pid)
+  unfolding make_pipe
+  u_make_pipe all = search rows depth 60 fits 8000
+
+  pub u_pex : (fd : ℕ) → Keeps R (pex pid fd)
+  unfolding pex
+  u_pex fd = search rows depth 60 fits 8000
+
+  pub u_unpex : (fd : ℕ) → Keeps R (unpex pid fd)
+  unfolding unpex
+  u_unpex fd = search rows depth 60 fits 8000
+
+  pub u_exit : loses ≡ true → Keeps R (exit pid)
+  unfolding exit
+  u_exit can = search rows depth 60 fits 8000
+
+  pub u_wait_child : Keeps R (wait_child pid)
+  unfolding wait_child
+  u_wait_child = search rows depth 60 fits 8000
+
+  pub u_label_of : (path : PathOf) → Keeps R (label_of pid path)
+  unfolding label_of
+  u_label_of path = search rows depth 60 fits 8000
+
+  pub u_self_label : Keeps R (self_label pid)
+  unfolding self_label
+  u_self_label = search rows depth 60 fits 8000
+
+  pub u_set_label : (place : ℕ) (path : PathOf) (now : Categories) → Keeps R (set_label place pid path now)
+  unfolding set_label
+  u_set_label place path now = search rows depth 60 fits 8000
+
+  pub u_set_self : (place : ℕ) (now : Categories) → Keeps R (set_self place pid now)
+  unfolding set_self
+  u_set_self place now = search rows depth 60 fits 8000
+
+  pub u_freeze : (path : PathOf) → Keeps R (freeze pid path)
+  unfolding freeze
+  u_freeze path = search rows depth 60 fits 8000
+
+  pub u_freeze_self : Keeps R (freeze_self pid)
+  unfolding freeze_self
+  u_freeze_self = search rows depth 60 fits 8000
+
+  pub u_thaw : (place : ℕ) (path : PathOf) → Keeps R (thaw place pid path)
+  unfolding thaw
+  u_thaw place path = search rows depth 60 fits 8000
+
+  pub u_thaw_self : (place : ℕ) → Keeps R (thaw_self place pid)
+  unfolding thaw_self
+  u_thaw_self place = search rows depth 60 fits 8000
+
+  pub u_set_ceiling : (place target : ℕ) (now : Categories) → Keeps R (set_ceiling place pid target now)
+  unfolding set_ceiling
+  u_set_ceiling place target now = search rows depth 60 fits 8000
+
+  pub u_read_log : (place index : ℕ) → Keeps R (read_log place pid index)
+  unfolding read_log
+  u_read_log place index = search rows depth 60 fits 8000

@@ -1,0 +1,16 @@
+pub mod Keeps
+pub mod Rowwise
+pub mod Lasts
+pub mod Ends
+pub mod Endings
+pub mod RowEnds
+pub mod Answered
+pub mod Runs
+pub mod Living
+pub mod Fixed
+pub mod Walked
+pub mod Looks
+pub mod Standing
+pub mod There
+pub mod Turns
+pub mod Constant

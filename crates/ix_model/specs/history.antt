@@ -1,0 +1,9 @@
+pub mod Events
+pub mod Calls
+pub mod Step
+pub mod History
+pub mod AuditLog
+pub mod Lowering
+pub mod Cost
+pub mod Freshness
+pub mod Shown

@@ -1,0 +1,8 @@
+pub mod Clean
+pub mod Sound
+pub mod WholePaths
+pub mod Looked
+pub mod Laws
+pub mod CallLaws
+pub mod Privileged
+pub mod ClaimedPaths

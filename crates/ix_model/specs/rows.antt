@@ -1,0 +1,12 @@
+pub mod Refusals
+pub mod Outcomes
+pub mod Rows
+pub mod Walks
+pub mod Lifetimes
+pub mod Auditing
+pub mod OnPaths
+pub mod OnDescriptors
+pub mod OnProcesses
+pub mod OnLabels
+pub mod Table
+pub mod Telling

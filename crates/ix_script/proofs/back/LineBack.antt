@@ -1,0 +1,181 @@
+-- The canonical text of a line that was read is read as the same line, has no fault, and is no longer.
+use Rattle.std.proofs.Common.{◌≡◌, ℕ, ◌^◌, ◌<◌, ◌≤◌, true, false, not, nat_le, List, [], ◌∷◌, ◌++◌, length, Some, None, refl, sym, ap, ◌∙◌, subst, arith}
+use Rattle.std.specs.Prelude.{codes, if◌then◌else◌}
+use Rattle.std.specs.List.{list_all}
+use Rattle.std.specs.Option.{option_or, option_map_or}
+use Rattle.std.proofs.lemmas.Bool.{not-false, leb-true}
+use Rattle.std.proofs.lemmas.List.{length-append}
+use Rattle.std.proofs.lemmas.List.Folds.{list_all-append}
+use Rattle.std.proofs.lemmas.Option.{cond_some}
+use Rattle.ix_model.specs.world.Naming.{same_bytes}
+use Rattle.ix_model.specs.opening.Valid.{is_within}
+use Rattle.ix_script.specs.texts.Cutting.{is_empty, begins, is_skipped, is_policy_line, pieces, words_of, word_at}
+use Rattle.ix_script.specs.texts.Payloads.{◌>>=◌, payload_of}
+use Rattle.ix_script.specs.lines.Kinds.{places_fault}
+use Rattle.ix_script.specs.lines.Forms.{form_of, frame_form, group_form, plain_of, on_path_of, on_fd_of, counted_of, file_form, has_right_count, places}
+use Rattle.ix_script.specs.lines.Rules.{is_late, is_outside}
+use Rattle.ix_script.specs.lines.Said.{payload_within, said, line_of}
+use Rattle.ix_script.specs.lines.Faults.{text_fault, words_fault, stand_fault, names_fault, said_fault, form_fault, command_fault, line_fault, body_fault}
+use Rattle.ix_script.specs.texts.Spellings.{further, joined, payload_text}
+use Rattle.ix_script.specs.scripts.Canonical.{line_words, line_text}
+use Rattle.ix_script.specs.declared.line.Line.{Line}
+use Rattle.ix_script.specs.declared.form.Form.{Form}
+use Rattle.ix_script.specs.declared.form.Form.TheVariants as form
+use Rattle.ix_script.specs.declared.spot.Spot.TheVariants as spot
+use Rattle.ix_script.proofs.texts.Names.{both as both_true, join_tests}
+use Rattle.ix_script.proofs.reader.Told.{bound, neither, neither_from}
+use Rattle.ix_script.proofs.lines.FirstWords.{form_word}
+use Rattle.ix_script.proofs.texts.Cuts.{words_joined, words_some, cut_again}
+use Rattle.ix_script.proofs.back.PayloadBack.{Spells}
+use Rattle.ix_script.proofs.back.QuotesBack.{payload_spells}
+use Rattle.ix_script.proofs.back.Shorter.{payload_longer}
+use Rattle.ix_script.proofs.lines.Faultless.{one_kept, text_parts, text_from, words_again}
+
+-- a text that stands for another
+pub record Back (before : List Line) (text again : List ℕ) (l : Line) : Type 0 where
+  pub means : line_of again ≡ Some l
+  pub sound : line_fault before again ≡ None
+  pub short : length again ≤ length text
+
+-- what is known of a line of a form
+pub record Formed (before : List Line) (text : List ℕ) (f : Form) (l : Line) : Type 0 where
+  pub means : line_of text ≡ Some l
+  pub sound : line_fault before text ≡ None
+  pub some : is_empty text ≡ false
+  pub later : is_empty before ≡ false
+  pub first : form_word f ≡ word_at (words_of text) 0
+  pub tells : said f (words_of text) ≡ Some l
+  pub whole : words_fault (words_of text) ≡ None
+  pub fits : form_fault before f (words_of text) ≡ None
+
+-- the same text
+pub itself : (before : List Line) (text again : List ℕ) (l : Line) → text ≡ again → line_of text ≡ Some l → line_fault before text ≡ None → Back before text again l
+itself before text again l e means sound = record {
+  means = ap line_of (sym e) ∙ means;
+  sound = ap (line_fault before) (sym e) ∙ sound;
+  short = omega (arith, ap length e);
+}
+
+-- ---- a line without a payload
+pub right_count : (before : List Line) (f : Form) (words : List (List ℕ)) → form_fault before f words ≡ None → has_right_count f words ≡ true
+unfolding form_fault stand_fault
+right_count before f words h =
+    let stand = (neither (stand_fault before f words) (option_or (places_fault (places f words)) (option_or (names_fault before f words) (option_map_or (said_fault before) (said f words) None))) h).0 in
+    let late = one_kept 8 (is_late before f) ((9, is_outside before f) ∷ (10, not (has_right_count f words)) ∷ []) stand in
+    let outside = one_kept 9 (is_outside before f) ((10, not (has_right_count f words)) ∷ []) late.1 in
+    let count = one_kept 10 (not (has_right_count f words)) [] outside.1 in
+    not-false (has_right_count f words) count.0
+
+pub spelled : (before : List Line) (text : List ℕ) (f : Form) (l : Line) → Formed before text f l → line_words l ≡ words_of text → Back before text (line_text l) l
+spelled before text f l k e = itself before text (line_text l) l (sym (ap (joined 32) e ∙ words_joined text)) k.means k.sound
+
+-- ---- a payload
+-- a payload that fits, and its shortest spelling
+pub record Shortest (most : ℕ) (p : List ℕ) (bytes : List ℕ) : Type 0 where
+  pub spells : Spells bytes (payload_text bytes)
+  pub short : length (payload_text bytes) ≤ length p
+  pub alike : payload_of p ≡ payload_of (payload_text bytes)
+  pub within : payload_within most p ≡ payload_within most (payload_text bytes)
+
+pub fitting : (most : ℕ) (p bytes : List ℕ) → most < 2 ^ 64 → list_all (is_within 32 126) p ≡ true → payload_within most p ≡ Some bytes → Shortest most p bytes
+fitting most p bytes few printable h =
+    let m = bound (payload_of p) (λ bs. if nat_le (length bs) most then Some bs else None) bytes h in
+    let c = cond_some (nat_le (length m.0) most) m.0 bytes m.2 in
+    let read : payload_of p ≡ Some bytes = m.1 ∙ ap (λ (bs : List ℕ). Some bs) c.1 in
+    let le : length m.0 ≤ most = leb-true (length m.0) most c.0 in
+    let small : length bytes < 2 ^ 64 = omega (arith, ap length c.1) in
+    let k = payload_longer p bytes printable small read in
+    let s = payload_spells bytes k.1 small in
+    let same_read : payload_of p ≡ payload_of (payload_text bytes) = read ∙ sym s.read in
+    record {
+      spells = s;
+      short = k.0;
+      alike = same_read;
+      within = ap (λ o. o >>= λ bs. if nat_le (length bs) most then Some bs else None) same_read;
+    }
+
+-- the last word is printable, where the text is
+pub last_printable : (front : List (List ℕ)) (p : List ℕ) → list_all (is_within 32 126) (joined 32 (front ++ p ∷ [])) ≡ true → list_all (is_within 32 126) p ≡ true
+last_printable [] p h = (both_true (list_all (is_within 32 126) p) true (sym (list_all-append (is_within 32 126) p []) ∙ h)).0
+last_printable (word ∷ front) p h =
+    let parts = both_true (list_all (is_within 32 126) word) (list_all (is_within 32 126) (further 32 (front ++ p ∷ []))) (sym (list_all-append (is_within 32 126) word (further 32 (front ++ p ∷ []))) ∙ h) in
+    further_printable front p parts.1
+  where
+    further_printable : (front : List (List ℕ)) (p : List ℕ) → list_all (is_within 32 126) (further 32 (front ++ p ∷ [])) ≡ true → list_all (is_within 32 126) p ≡ true
+    further_printable [] p h = (both_true (list_all (is_within 32 126) p) true (sym (list_all-append (is_within 32 126) p []) ∙ h)).0
+    further_printable (word ∷ front) p h =
+        let parts = both_true (list_all (is_within 32 126) word) (list_all (is_within 32 126) (further 32 (front ++ p ∷ []))) (sym (list_all-append (is_within 32 126) word (further 32 (front ++ p ∷ []))) ∙ h) in
+        further_printable front p parts.1
+
+-- another last word, no longer and printable
+further_other : (front : List (List ℕ)) (p q : List ℕ) → length q ≤ length p → list_all (is_within 32 126) q ≡ true → list_all (is_within 32 126) (further 32 (front ++ p ∷ [])) ≡ true → (length (further 32 (front ++ q ∷ [])) ≤ length (further 32 (front ++ p ∷ []))) × (list_all (is_within 32 126) (further 32 (front ++ q ∷ [])) ≡ true)
+further_other [] p q short fine h = (omega (arith, length-append q [], length-append p []), list_all-append (is_within 32 126) q [] ∙ join_tests _ _ fine refl)
+further_other (word ∷ front) p q short fine h =
+    let parts = both_true (list_all (is_within 32 126) word) (list_all (is_within 32 126) (further 32 (front ++ p ∷ []))) (sym (list_all-append (is_within 32 126) word (further 32 (front ++ p ∷ []))) ∙ h) in
+    let k = further_other front p q short fine parts.1 in (
+      omega (arith, k.0, length-append word (further 32 (front ++ q ∷ [])), length-append word (further 32 (front ++ p ∷ []))),
+      list_all-append (is_within 32 126) word (further 32 (front ++ q ∷ [])) ∙ join_tests _ _ parts.0 k.1,
+    )
+
+joined_other : (first : List ℕ) (front : List (List ℕ)) (p q : List ℕ) → length q ≤ length p → list_all (is_within 32 126) q ≡ true → list_all (is_within 32 126) (joined 32 (first ∷ (front ++ p ∷ []))) ≡ true → (length (joined 32 (first ∷ (front ++ q ∷ []))) ≤ length (joined 32 (first ∷ (front ++ p ∷ [])))) × (list_all (is_within 32 126) (joined 32 (first ∷ (front ++ q ∷ []))) ≡ true)
+joined_other first front p q short fine h =
+    let parts = both_true (list_all (is_within 32 126) first) (list_all (is_within 32 126) (further 32 (front ++ p ∷ []))) (sym (list_all-append (is_within 32 126) first (further 32 (front ++ p ∷ []))) ∙ h) in
+    let k = further_other front p q short fine parts.1 in (
+      omega (arith, k.0, length-append first (further 32 (front ++ q ∷ [])), length-append first (further 32 (front ++ p ∷ []))),
+      list_all-append (is_within 32 126) first (further 32 (front ++ q ∷ [])) ∙ join_tests _ _ parts.0 k.1,
+    )
+
+-- ---- a line with a payload
+-- a text that begins as a command does is cut into words
+pub record Begins (first : List ℕ) (f : Form) : Type 0 where
+  form : form_of first ≡ Some f
+  some : (rest : List (List ℕ)) → is_empty (joined 32 (first ∷ rest)) ≡ false
+  not_skipped : (rest : List (List ℕ)) → is_skipped (joined 32 (first ∷ rest)) ≡ false
+  not_version : (rest : List (List ℕ)) → same_bytes (joined 32 (first ∷ rest)) (codes "ix 1") ≡ false
+  not_policy : (rest : List (List ℕ)) → is_policy_line (joined 32 (first ∷ rest)) ≡ false
+
+pub file_begins : Begins (codes "file") form.File
+unfolding form_of frame_form is_policy_line
+file_begins = record { form = refl; some = λ rest. refl; not_skipped = λ rest. refl; not_version = λ rest. refl; not_policy = λ rest. refl }
+
+pub write_begins : Begins (codes "write") form.Write
+unfolding form_of frame_form group_form plain_of on_path_of on_fd_of counted_of file_form is_policy_line
+write_begins = record { form = refl; some = λ rest. refl; not_skipped = λ rest. refl; not_version = λ rest. refl; not_policy = λ rest. refl }
+
+means_by_words : (first : List ℕ) (rest : List (List ℕ)) (f : Form) → Begins first f → words_of (joined 32 (first ∷ rest)) ≡ first ∷ rest → line_of (joined 32 (first ∷ rest)) ≡ said f (first ∷ rest)
+unfolding line_of
+means_by_words first rest f k cut =
+    rw (k.not_skipped rest, k.not_version rest, k.not_policy rest, cut) (ap (λ o. o >>= λ g. said g (first ∷ rest)) k.form)
+
+sound_by_words : (before : List Line) (first : List ℕ) (rest : List (List ℕ)) (f : Form) → Begins first f → words_of (joined 32 (first ∷ rest)) ≡ first ∷ rest → is_empty before ≡ false → text_fault (joined 32 (first ∷ rest)) ≡ None → words_fault (first ∷ rest) ≡ None → form_fault before f (first ∷ rest) ≡ None → line_fault before (joined 32 (first ∷ rest)) ≡ None
+unfolding line_fault body_fault command_fault
+sound_by_words before first rest f k cut later fine whole fits =
+    neither_from _ _ fine (rw (later, k.not_skipped rest, k.not_policy rest, cut)
+    (neither_from _ _ whole (ap (λ o. option_map_or (λ g. form_fault before g (first ∷ rest)) o (Some 7)) k.form ∙ fits)))
+
+pub payload_back : (before : List Line) (text : List ℕ) (f : Form) (l : Line) (most : ℕ) (first : List ℕ) (front : List (List ℕ)) (p bytes : List ℕ)
+    → Begins first f → Formed before text f l → Shortest most p bytes → words_of text ≡ first ∷ (front ++ p ∷ [])
+    → form_fault before f (first ∷ (front ++ p ∷ [])) ≡ form_fault before f (first ∷ (front ++ payload_text bytes ∷ []))
+    → said f (first ∷ (front ++ p ∷ [])) ≡ said f (first ∷ (front ++ payload_text bytes ∷ []))
+    → line_words l ≡ first ∷ (front ++ payload_text bytes ∷ []) → Back before text (line_text l) l
+unfolding line_fault
+payload_back before text f l most first front p bytes begins k s cut fits tells words =
+    let q : List ℕ = payload_text bytes in
+    let whole : joined 32 (first ∷ (front ++ p ∷ [])) ≡ text = ap (joined 32) (sym cut) ∙ words_joined text in
+    let fine = text_parts text (neither_text before text k.sound) in
+    let other = joined_other first front p q s.short s.spells.printable (ap (list_all (is_within 32 126)) whole ∙ fine.1) in
+    let long : length (joined 32 (first ∷ (front ++ p ∷ []))) ≡ length text = ap length whole in
+    let pieces_are : pieces spot.Front (joined 32 (first ∷ (front ++ p ∷ []))) ≡ first ∷ (front ++ p ∷ []) = ap (pieces spot.Front) whole ∙ sym (words_some text k.some) ∙ cut in
+    let again : words_of (joined 32 (first ∷ (front ++ q ∷ []))) ≡ first ∷ (front ++ q ∷ []) =
+    words_some (joined 32 (first ∷ (front ++ q ∷ []))) (begins.some (front ++ q ∷ [])) ∙ cut_again (first ∷ front) p q pieces_are s.spells.whole in
+    let means : line_of (joined 32 (first ∷ (front ++ q ∷ []))) ≡ Some l =
+    means_by_words first (front ++ q ∷ []) f begins again ∙ sym tells ∙ ap (said f) (sym cut) ∙ k.tells in
+    let fine_text : text_fault (joined 32 (first ∷ (front ++ q ∷ []))) ≡ None = text_from (joined 32 (first ∷ (front ++ q ∷ []))) (omega (arith, fine.0, other.0)) other.1 in
+    let whole_words : words_fault (first ∷ (front ++ q ∷ [])) ≡ None = words_again (first ∷ front) p q (ap words_fault (sym cut) ∙ k.whole) s.spells.some s.spells.closed in
+    let fits_again : form_fault before f (first ∷ (front ++ q ∷ [])) ≡ None = sym fits ∙ ap (form_fault before f) (sym cut) ∙ k.fits in
+    let sound : line_fault before (joined 32 (first ∷ (front ++ q ∷ []))) ≡ None = sound_by_words before first (front ++ q ∷ []) f begins again k.later fine_text whole_words fits_again in
+    let short : length (joined 32 (first ∷ (front ++ q ∷ []))) ≤ length text = omega (arith, other.0) in
+    subst (λ ws. Back before text (joined 32 ws) l) (sym words) (record { means = means; sound = sound; short = short })
+  where
+    neither_text : (before : List Line) (text : List ℕ) → line_fault before text ≡ None → text_fault text ≡ None
+    neither_text before text h = (neither (text_fault text) (body_fault before text) h).0

@@ -1,0 +1,237 @@
+-- No spelling of a payload is shorter than the shortest.
+use Rattle.std.proofs.Common.{◌≡◌, ℕ, zero, suc, ◌+◌, ◌^◌, ◌<◌, ◌≤◌, true, false, ◌||◌, ◌==◌, nat_lt, nat_le, cond, List, [], ◌∷◌, ◌++◌, length, get_or, take, drop, replicate, Option, Some, None, inl, inr, refl, sym, ap, ◌∙◌, option_map, subst, arith}
+use Rattle.std.specs.Prelude.{if◌then◌else◌}
+use Rattle.std.specs.List.{list_all, flat_map, position, position_or_len}
+use Rattle.std.specs.Fmt.{decimal}
+use Rattle.std.proofs.lemmas.Bool.{cases_Bool, eqb-true, ltb-true, ltb-false, leb-true, eq-eqb, or_cases}
+use Rattle.std.proofs.lemmas.List.{length-append, length-replicate}
+use Rattle.std.proofs.lemmas.List.Sums.{split_at_first}
+use Rattle.std.proofs.lemmas.Option.{cond_some, none-some, same_Some}
+use Rattle.ix_model.specs.opening.Valid.{is_within}
+use Rattle.ix_script.specs.texts.Cutting.{begins, is_empty}
+use Rattle.ix_script.specs.texts.Words.{is_numeral, value}
+use Rattle.ix_script.specs.texts.Payloads.{◌>>=◌, after_bytes, pair_of, pairs_of, escaped_byte, escape_step, ends, bytes_of, quoted_from, two_digits, times_from, times_of, payload_of}
+use Rattle.ix_script.specs.lines.Said.{payload_within}
+use Rattle.ix_script.specs.texts.Spellings.{hex_pair, pairs_text, times_text, stands_quoted, quoted_byte, quoted_text, once, times_texts, shortest, payload_text}
+use Rattle.ix_script.specs.declared.escape.Escape.{Escape}
+use Rattle.ix_script.specs.declared.escape.Escape.TheVariants as escape
+use Rattle.ix_script.proofs.texts.Names.{both, join_tests}
+use Rattle.ix_script.proofs.reader.Told.{bound, mapped, chosen, either}
+use Rattle.ix_script.proofs.back.OneSpelling.{decimal_of_value, begun}
+use Rattle.ix_script.proofs.back.HexBack.{Small, pair_small, pairs_long}
+use Rattle.ix_script.proofs.back.Shortest.{length-pairs}
+
+-- ---- the first of the shortest
+le_first : (text : List ℕ) (others : List (List ℕ)) → length (shortest text others) ≤ length text
+le_first text [] = omega arith
+le_first text (other ∷ others) = elim (cases_Bool (nat_lt (length other) (length text))) [
+  | inl e ↦ let k = le_first other others in let less = ltb-true (length other) (length text) e in rw e (omega arith)
+  | inr e ↦ rw e (le_first text others)
+]
+
+le_later : (text : List ℕ) (before : List (List ℕ)) (it : List ℕ) (others : List (List ℕ)) → length (shortest text (before ++ it ∷ others)) ≤ length it
+le_later text [] it others = elim (cases_Bool (nat_lt (length it) (length text))) [
+  | inl e ↦ rw e (le_first it others)
+  | inr e ↦ let k = le_first text others in let more = ltb-false (length it) (length text) e in rw e (omega arith)
+]
+le_later text (other ∷ before) it others = elim (cases_Bool (nat_lt (length other) (length text))) [
+  | inl e ↦ rw e (le_later other before it others)
+  | inr e ↦ rw e (le_later text before it others)
+]
+
+pub le_pairs : (bytes : List ℕ) → length (payload_text bytes) ≤ length (pairs_text bytes)
+unfolding payload_text
+le_pairs bytes = le_first (pairs_text bytes) (times_texts bytes ++ quoted_text bytes ∷ [])
+
+pub le_quotes : (bytes : List ℕ) → length (payload_text bytes) ≤ length (quoted_text bytes)
+unfolding payload_text
+le_quotes bytes = le_later (pairs_text bytes) (times_texts bytes) (quoted_text bytes) []
+
+pub le_times : (bytes : List ℕ) (b : ℕ) → once bytes ≡ Some b → length (payload_text bytes) ≤ length (times_text (length bytes) b)
+unfolding payload_text
+le_times bytes b e = rw e (le_later (pairs_text bytes) [] (times_text (length bytes) b) (quoted_text bytes ∷ []))
+
+-- ---- quotes
+-- what an escape has taken before the byte that it stands for is told
+abbrev begun_with : Escape → ℕ
+begun_with escape.Plain = 0
+begun_with escape.Begun = 1
+begun_with escape.High = 2
+begun_with (escape.Low high) = 3
+
+-- bytes in quotes are no longer than the text from which they are read
+record NoLonger (taken : ℕ) (text bytes : List ℕ) : Type 0 where
+  short : length (flat_map quoted_byte bytes) + 1 ≤ length text + taken
+  small : Small bytes
+
+-- with one byte more, which takes no more than was taken
+one_more : (b taken : ℕ) (text more : List ℕ) → b < 256 → length (quoted_byte b) ≤ taken → NoLonger 0 text more → NoLonger taken text (b ∷ more)
+one_more b taken text more small cost k = record {
+  short = omega (arith, k.short, length-append (quoted_byte b) (flat_map quoted_byte more));
+  small = (small, k.small);
+}
+
+-- it counts a byte of the text as taken
+counted : (b taken : ℕ) (text bytes : List ℕ) → NoLonger (suc taken) text bytes → NoLonger taken (b ∷ text) bytes
+counted b taken text bytes k = record { short = omega (arith, k.short); small = k.small }
+
+cost_one : (b : ℕ) → is_within 32 126 b ≡ true → (b == 34) ≡ false → (b == 92) ≡ false → length (quoted_byte b) ≤ 1
+unfolding quoted_byte
+cost_one b fine no_quote no_slash = rw (fine, no_quote, no_slash) (omega arith)
+
+cost_two : (c b : ℕ) → escaped_byte c ≡ Some b → (length (quoted_byte b) ≤ 2) × (b < 256)
+unfolding quoted_byte escaped_byte
+cost_two c b h = elim (chosen (c == 92 || c == 34) c (cond (c == 110) (Some 10) None) b h) [
+  | inl p ↦ elim (or_cases (c == 92) (c == 34) p.0) [
+    | inl e ↦ let k : b ≡ 92 = sym p.1 ∙ eqb-true c 92 e in rw k (omega arith, omega arith)
+    | inr e ↦ let k : b ≡ 34 = sym p.1 ∙ eqb-true c 34 e in rw k (omega arith, omega arith)
+  ]
+  | inr k ↦ let e : b ≡ 10 = sym (cond_some (c == 110) 10 b k).1 in rw e (omega arith, omega arith)
+]
+
+cost_four : (b : ℕ) → length (quoted_byte b) ≤ 4
+unfolding quoted_byte
+cost_four b = elim (cases_Bool (stands_quoted b)) [
+  | inl e ↦ rw e (omega arith)
+  | inr odd ↦ elim (cases_Bool (b == 34 || b == 92)) [
+    | inl e ↦ rw (odd, e) (omega arith)
+    | inr other ↦ elim (cases_Bool (b == 10)) [
+      | inl e ↦ rw (odd, other, e) (omega arith)
+      | inr e ↦ rw (odd, other, e) (omega arith)
+    ]
+  ]
+]
+
+below : (b : ℕ) → is_within 32 126 b ≡ true → b < 256
+below b h = let p = both (nat_le 32 b) (nat_le b 126) h in let k = leb-true b 126 p.1 in omega arith
+
+-- a byte that is read
+abbrev read_plain : ℕ → Escape × Option ℕ
+read_plain byte = (escape.Plain, Some byte)
+
+-- what one byte of the text costs
+abbrev Costs : ℕ → Escape → Option ℕ → Type 0
+Costs taken next None = begun_with next ≡ suc taken
+Costs taken next (Some byte) = (next ≡ escape.Plain) × (byte < 256) × (length (quoted_byte byte) ≤ suc taken)
+
+step_costs : (at : Escape) (b : ℕ) (s : Escape × Option ℕ) → is_within 32 126 b ≡ true → ends at b ≡ false → escape_step at b ≡ Some s → Costs (begun_with at) s.0 s.1
+unfolding escape_step
+step_costs escape.Plain b s fine no_end h = elim (either (b == 92) (Some (escape.Begun, None)) (Some (escape.Plain, Some b)) s h) [
+  | inl p ↦ subst (λ (s : Escape × Option ℕ). Costs 0 s.0 s.1) (same_Some (escape.Begun, None) s p.1) refl
+  | inr p ↦ subst (λ (s : Escape × Option ℕ). Costs 0 s.0 s.1) (same_Some (escape.Plain, Some b) s p.1) (refl, below b fine, cost_one b fine no_end p.0)
+]
+step_costs escape.Begun b s fine no_end h = elim (either (b == 120) (Some (escape.High, None)) (option_map read_plain (escaped_byte b)) s h) [
+  | inl p ↦ subst (λ (s : Escape × Option ℕ). Costs 1 s.0 s.1) (same_Some (escape.High, None) s p.1) refl
+  | inr p ↦
+      let m = mapped read_plain (escaped_byte b) s p.1 in
+      let c = cost_two b m.0 m.1 in
+      subst (λ (s : Escape × Option ℕ). Costs 1 s.0 s.1) m.2 (refl, c.1, c.0)
+]
+step_costs escape.High b s fine no_end h = subst (λ (s : Escape × Option ℕ). Costs 2 s.0 s.1) (same_Some (escape.Low b, None) s h) refl
+step_costs (escape.Low high) b s fine no_end h =
+    let m = mapped read_plain (pair_of high b) s h in
+    subst (λ (s : Escape × Option ℕ). Costs 3 s.0 s.1) m.2 (refl, pair_small high b m.0 m.1, cost_four m.0)
+
+-- one byte of the text, and what follows
+one_step : (taken : ℕ) (next : Escape) (byte : Option ℕ) (text bytes : List ℕ) → Costs taken next byte → after_bytes (bytes_of byte) (quoted_from next text) ≡ Some bytes → ((more : List ℕ) → quoted_from next text ≡ Some more → NoLonger (begun_with next) text more) → NoLonger (suc taken) text bytes
+one_step taken next None text bytes cost h later =
+    let m = mapped (λ (more : List ℕ). more) (quoted_from next text) bytes h in
+    subst (λ (n : ℕ). NoLonger n text bytes) cost (subst (NoLonger (begun_with next) text) m.2 (later m.0 m.1))
+one_step taken next (Some byte) text bytes cost h later =
+    let m = mapped (λ (more : List ℕ). byte ∷ more) (quoted_from next text) bytes h in
+    let plain : NoLonger 0 text m.0 = subst (λ (n : Escape). NoLonger (begun_with n) text m.0) cost.0 (later m.0 m.1) in
+    subst (NoLonger (suc taken) text) m.2 (one_more byte (suc taken) text m.0 cost.1 cost.2 plain)
+
+quotes_longer : (at : Escape) (text bytes : List ℕ) → list_all (is_within 32 126) text ≡ true → quoted_from at text ≡ Some bytes → NoLonger (begun_with at) text bytes
+unfolding quoted_from
+quotes_longer at [] bytes all h = absurd (none-some bytes h)
+quotes_longer at (b ∷ text) bytes all h =
+    let a = both (is_within 32 126 b) (list_all (is_within 32 126) text) all in
+    let step = λ (s : Escape × Option ℕ). after_bytes (bytes_of s.1) (quoted_from s.0 text) in
+    elim (either (ends at b) (cond (is_empty text) (Some []) None) (escape_step at b >>= step) bytes h) [
+      | inl p ↦
+          let q = cond_some (is_empty text) [] bytes p.1 in
+          subst (NoLonger (begun_with at) (b ∷ text)) q.1 (record { short = omega arith; small = tt })
+      | inr p ↦
+          let m = bound (escape_step at b) step bytes p.1 in
+          counted b (begun_with at) text bytes (one_step (begun_with at) m.0.0 m.0.1 text bytes (step_costs at b m.0 a.0 p.0 m.1) m.2 (λ more k. quotes_longer m.0.0 text more a.1 k))
+    ]
+
+-- ---- n*HH
+same_all : (n b : ℕ) → list_all (λ c. c == b) (replicate n b) ≡ true
+same_all zero b = refl
+same_all (suc n) b = join_tests _ _ (eq-eqb b b refl) (same_all n b)
+
+once_replicate : (n b : ℕ) → once (replicate (suc n) b) ≡ Some b
+once_replicate n b = rw (same_all n b) refl
+
+small_replicate : (n b : ℕ) → b < 256 → Small (replicate n b)
+small_replicate zero b h = tt
+small_replicate (suc n) b h = (h, small_replicate n b h)
+
+no_longer_times : (n b : ℕ) → n < 2 ^ 64 → length (payload_text (replicate n b)) ≤ length (decimal n) + 3
+no_longer_times zero b h = omega (arith, le_pairs [])
+no_longer_times (suc n) b h =
+    let k = le_times (replicate (suc n) b) b (once_replicate n b) in
+    let e : length (replicate (suc n) b) ≡ suc n = length-replicate (suc n) b in
+    let f : length (times_text (length (replicate (suc n) b)) b) ≡ length (times_text (suc n) b) = ap (λ m. length (times_text m b)) e in
+    omega (arith, k, f, length-append (decimal (suc n)) (42 ∷ hex_pair b))
+
+two_parts : (text : List ℕ) (b : ℕ) → two_digits text ≡ Some b → (b < 256) × (length text ≡ 2)
+two_parts [] b h = absurd (none-some b h)
+two_parts (high ∷ []) b h = absurd (none-some b h)
+two_parts (high ∷ low ∷ []) b h = (pair_small high low b h, refl)
+two_parts (high ∷ low ∷ c ∷ text) b h = absurd (none-some b h)
+
+times_parts : (count text bytes : List ℕ) → times_from count text ≡ Some bytes → (b : ℕ) × (b < 256) × (length text ≡ 2) × (is_numeral count ≡ true) × (replicate (value count) b ≡ bytes)
+unfolding times_from
+times_parts count text bytes h = elim (either (is_numeral count) (option_map (λ byte. replicate (value count) byte) (two_digits text)) None bytes h) [
+  | inl p ↦
+      let m = mapped (λ byte. replicate (value count) byte) (two_digits text) bytes p.1 in
+      let two = two_parts text m.0 m.1 in
+      (m.0, two.0, two.1, p.0, m.2)
+  | inr p ↦ absurd (none-some bytes p.1)
+]
+
+times_longer : (word bytes : List ℕ) → length bytes < 2 ^ 64 → times_of word ≡ Some bytes → (length (payload_text bytes) ≤ length word) × Small bytes
+unfolding times_of
+times_longer word bytes few h =
+    let m = bound (position (λ b. b == 42) word) (λ star. times_from (take star word) (drop (star + 1) word)) bytes h in
+    let at = cond_some (nat_lt (position_or_len (λ b. b == 42) word) (length word)) (position_or_len (λ b. b == 42) word) m.0 m.1 in
+    let inside : position_or_len (λ b. b == 42) word < length word = ltb-true _ _ at.0 in
+    let split = split_at_first (λ b. b == 42) word 0 inside in
+    let p = times_parts (take m.0 word) (drop (m.0 + 1) word) bytes m.2 in
+    let n : value (take m.0 word) ≡ length bytes = sym (length-replicate (value (take m.0 word)) p.0) ∙ ap length p.4 in
+    let small : value (take m.0 word) < 2 ^ 64 = omega arith in
+    let digits : length (decimal (value (take m.0 word))) ≡ length (take m.0 word) = ap length (decimal_of_value (take m.0 word) p.3 small) in
+    let k = no_longer_times (value (take m.0 word)) p.0 small in
+    let same : length (payload_text (replicate (value (take m.0 word)) p.0)) ≡ length (payload_text bytes) = ap (λ bs. length (payload_text bs)) p.4 in
+    let whole : length word ≡ length (take m.0 word) + suc (length (drop (m.0 + 1) word)) =
+    ap length (subst (λ (i : ℕ). word ≡ take i word ++ (get_or word i 0 ∷ drop (i + 1) word)) at.1 split) ∙ length-append (take m.0 word) (get_or word m.0 0 ∷ drop (m.0 + 1) word) in
+    (omega arith, subst Small p.4 (small_replicate (value (take m.0 word)) p.0 p.1))
+
+-- ---- any spelling
+pub payload_longer : (word bytes : List ℕ) → list_all (is_within 32 126) word ≡ true → length bytes < 2 ^ 64 → payload_of word ≡ Some bytes → (length (payload_text bytes) ≤ length word) × Small bytes
+unfolding payload_of
+payload_longer word bytes printable few h = elim (either (begins 34 word) (quoted_from escape.Plain (drop 1 word)) (cond (begins 120 word) (pairs_of (drop 1 word)) (times_of word)) bytes h) [
+  | inl p ↦
+      let e = begun 34 word p.0 in
+      let rest : list_all (is_within 32 126) (drop 1 word) ≡ true = ap (list_all (is_within 32 126)) (sym e) ∙ printable in
+      let k = quotes_longer escape.Plain (drop 1 word) bytes rest p.1 in
+      (omega (arith, le_quotes bytes, k.short, ap length e, length-append (flat_map quoted_byte bytes) (34 ∷ [])), k.small)
+  | inr p ↦ elim (either (begins 120 word) (pairs_of (drop 1 word)) (times_of word) bytes p.1) [
+    | inl q ↦
+        let e = begun 120 word q.0 in
+        let k = pairs_long (drop 1 word) bytes q.1 in
+        (omega (arith, le_pairs bytes, length-pairs bytes, k.0, ap length e), k.1)
+    | inr q ↦ times_longer word bytes few q.1
+  ]
+]
+
+pub no_shorter : (word bytes : List ℕ) → list_all (is_within 32 126) word ≡ true → payload_within 1048576 word ≡ Some bytes → length (payload_text bytes) ≤ length word
+no_shorter word bytes printable h =
+    let m = bound (payload_of word) (λ bs. if nat_le (length bs) 1048576 then Some bs else None) bytes h in
+    let c = cond_some (nat_le (length m.0) 1048576) m.0 bytes m.2 in
+    let le : length m.0 ≤ 1048576 = leb-true (length m.0) 1048576 c.0 in
+    let few : length bytes < 2 ^ 64 = omega (arith, ap length c.1) in
+    (payload_longer word bytes printable few (m.1 ∙ ap (λ (bs : List ℕ). Some bs) c.1)).0

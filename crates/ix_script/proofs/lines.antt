@@ -1,0 +1,9 @@
+pub mod Follows
+pub mod Lying
+pub mod Ordered
+pub mod Deciding
+pub mod Sound
+pub mod Readings
+pub mod FirstWords
+pub mod FormWords
+pub mod Faultless

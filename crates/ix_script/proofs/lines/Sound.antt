@@ -1,0 +1,288 @@
+-- What holds of a line that breaks no rule.
+use Rattle.std.proofs.Common.{◌≡◌, ℕ, ◌≤◌, ◌==◌, nat_le, Bool, true, false, ◌&&◌, not, cond, List, [], ◌∷◌, length, map, drop, Option, if◌then◌else◌, Some, None, option_map, codes, refl, sym, ap, ◌∙◌, subst, arith, inl, inr}
+use Rattle.std.specs.Option.{option_or, option_map_or}
+use Rattle.std.specs.Cmp.Lexicographic.{same_text}
+use Rattle.std.proofs.lemmas.Bool.{le-leb}
+use Rattle.std.specs.List.{list_all}
+use Rattle.ix_label.specs.Category.{Categories}
+use Rattle.ix_model.specs.declared.privs.PrivSet.{PrivSet}
+use Rattle.ix_model.specs.world.Naming.{PathOf, is_name, same_bytes}
+use Rattle.ix_model.specs.opening.Valid.{is_within}
+use Rattle.ix_script.specs.texts.Lines.{with_front}
+use Rattle.ix_script.specs.lines.Before.{is_known, fss_told}
+use Rattle.ix_script.specs.texts.Cutting.{begins, is_empty, words_of, word_at, is_skipped, is_policy_line, policy_text}
+use Rattle.ix_script.specs.texts.Words.{name_of, is_numeral, value, number_of, between_slashes, names_of, path_from, may_stand_in_path, path_of, made_path_of, what_of, is_script_name, privs_of, state_of}
+use Rattle.ix_script.specs.texts.Labels.{label_of}
+use Rattle.ix_script.specs.texts.Payloads.{◌>>=◌, payload_of}
+use Rattle.ix_script.specs.lines.Kinds.{bounds_of, bounds, places_fault}
+use Rattle.ix_script.specs.lines.Forms.{form_of, places}
+use Rattle.ix_script.specs.lines.Said.{both, payload_within, said, said_by_words, line_of, plain_line, path_line, fd_line, counted_line}
+use Rattle.ix_script.specs.lines.Rules.{is_given_twice, names_unknown}
+use Rattle.ix_script.specs.lines.Faults.{text_fault, words_fault, stand_fault, names_fault, form_fault, command_fault, first_line_fault, body_fault, line_fault}
+use Rattle.ix_script.specs.declared.form.Form.{Form}
+use Rattle.ix_script.specs.declared.form.Form.TheVariants as form
+use Rattle.ix_script.specs.declared.form.Plain.{Plain}
+use Rattle.ix_script.specs.declared.form.Plain.TheVariants as plain
+use Rattle.ix_script.specs.declared.form.OnPath.{OnPath}
+use Rattle.ix_script.specs.declared.form.OnPath.TheVariants as on_path
+use Rattle.ix_script.specs.declared.form.OnFd.{OnFd}
+use Rattle.ix_script.specs.declared.form.OnFd.TheVariants as on_fd
+use Rattle.ix_script.specs.declared.form.Counted.{Counted}
+use Rattle.ix_script.specs.declared.form.Counted.TheVariants as counted
+use Rattle.ix_script.specs.declared.line.FdWord.{FdWord}
+use Rattle.ix_script.specs.declared.line.What.{What}
+use Rattle.ix_script.specs.declared.line.Line.{Line}
+use Rattle.ix_script.specs.declared.line.Line.TheVariants as line
+use Rattle.ix_script.proofs.texts.Names as names
+use Rattle.ix_script.proofs.texts.AllLabels.{bool_cases}
+use Rattle.ix_script.proofs.lines.Follows.{passes}
+use Rattle.ix_script.proofs.lines.Deciding.{first_is}
+
+-- numbers are within their bounds, a file system's name is new, and an object has an absolute path with a name, and few bytes
+abbrev pub HasPlace : PathOf → Type 0
+HasPlace path = (path.absolute && nat_le 1 (length path.names)) ≡ true
+
+pub record SoundFs (before : List Line) (name : List ℕ) (blocks inodes : ℕ) : Type 0 where
+  pub fits : (is_within 1 65536 blocks && is_within 1 65536 inodes) ≡ true
+  pub new : is_known name (map (λ s. s.name) (fss_told before)) ≡ false
+
+pub record SoundFile (path : PathOf) (bytes : List ℕ) : Type 0 where
+  pub place : HasPlace path
+  pub few : nat_le (length bytes) 1048576 ≡ true
+
+abbrev pub Sound : List Line → Line → Type 0
+Sound before (line.Limit w n) = is_within (bounds_of w).0 (bounds_of w).1 n ≡ true
+Sound before (line.Fs name ceiling blocks inodes) = SoundFs before name blocks inodes
+Sound before (line.Dir path label frozen) = HasPlace path
+Sound before (line.File path label frozen cap lic bytes) = SoundFile path bytes
+Sound before _ = Unit {0}
+
+-- ---- taking readings apart
+pub record Both {A B : Type 0} (a : Option A) (b : Option B) (x : A × B) : Type 0 where
+  pub first : a ≡ Some x.0
+  pub second : b ≡ Some x.1
+
+apart : {A B : Type 0} (a : Option A) (b : Option B) (x : A × B) → both a b ≡ Some x → Both a b x
+apart None b x h = cc
+apart (Some y) None x h = cc
+apart (Some y) (Some z) x h = let e : (y, z) ≡ x = cc in record { first = ap (λ p. Some p.0) e; second = ap (λ p. Some p.1) e }
+
+made_by : {X : Type 0} (g : X → Line) (before : List Line) (m : Option X) (l : Line) → ((x : X) → m ≡ Some x → Sound before (g x)) → option_map g m ≡ Some l → Sound before l
+made_by g before None l right h = cc
+made_by g before (Some x) l right h = let e : g x ≡ l = cc in subst (λ (k : Line). Sound before k) e (right x refl)
+
+chosen : {A : Type 0} (b : Bool) (x y : A) → cond b (Some x) None ≡ Some y → (b ≡ true) × (x ≡ y)
+chosen true x y h = (refl, cc)
+chosen false x y h = cc
+
+within : (low high n : ℕ) (word : List ℕ) → number_of low high word ≡ Some n → is_within low high n ≡ true
+unfolding number_of
+within low high n word h =
+    let p = chosen (is_numeral word && is_within low high (value word)) (value word) n h in
+    subst (λ (k : ℕ). is_within low high k ≡ true) p.1 (names.both (is_numeral word) (is_within low high (value word)) p.0).1
+
+bounds_are : (word : List ℕ) (w : What) → what_of word ≡ Some w → bounds word ≡ bounds_of w
+unfolding bounds
+bounds_are word w h = rw h refl
+
+named : (word name : List ℕ) → name_of word ≡ Some name → word ≡ name
+unfolding name_of
+named word name h = (chosen (is_script_name word) word name h).1
+
+-- ---- paths
+front_some : (b : ℕ) (pieces : List (List ℕ)) → 1 ≤ length (with_front b pieces)
+front_some b [] = omega arith
+front_some b (p ∷ pieces) = omega arith
+
+pieces_some : (text : List ℕ) → 1 ≤ length (between_slashes text)
+unfolding between_slashes
+pieces_some [] = omega arith
+pieces_some (b ∷ text) =
+    elim (b == 47) as (λ t. 1 ≤ length (cond t ([] ∷ between_slashes text) (with_front b (between_slashes text)))) [
+      | true ↦ omega arith
+      | false ↦ front_some b (between_slashes text)
+    ]
+
+names_some : (text : List ℕ) (found : List (List ℕ)) → names_of text ≡ Some found → nat_le 1 (length found) ≡ true
+unfolding names_of
+names_some text found h =
+    let p = chosen (list_all is_name (between_slashes text) && nat_le (length (between_slashes text)) 16) (between_slashes text) found h in
+    subst (λ (fs : List (List ℕ)). nat_le 1 (length fs) ≡ true) p.1 (le-leb 1 (length (between_slashes text)) (pieces_some text))
+
+taken : {A : Type 0} (b : Bool) (o : Option A) (y : A) → cond b o None ≡ Some y → (b ≡ true) × (o ≡ Some y)
+taken true o y h = (refl, h)
+taken false o y h = cc
+
+untaken : {A : Type 0} (b : Bool) (o : Option A) (y : A) → cond b None o ≡ Some y → (b ≡ false) × (o ≡ Some y)
+untaken true o y h = cc
+untaken false o y h = (refl, h)
+
+not_false : (b : Bool) → not b ≡ false → b ≡ true
+not_false true h = refl
+not_false false h = cc
+
+not_true : (b : Bool) → not b ≡ true → b ≡ false
+not_true true h = cc
+not_true false h = refl
+
+from_names : (m : Option (List (List ℕ))) (path : PathOf) → ((found : List (List ℕ)) → m ≡ Some found → nat_le 1 (length found) ≡ true) → option_map (path_from true) m ≡ Some path → HasPlace path
+from_names None path right h = cc
+from_names (Some found) path right h = let e : path_from true found ≡ path = cc in subst HasPlace e (right found refl)
+
+made_place : (word : List ℕ) (path : PathOf) → made_path_of word ≡ Some path → HasPlace path
+unfolding made_path_of path_of
+made_place word path h =
+    let one = taken (begins 47 word && not (is_empty (drop 1 word))) _ path h in
+    let start = names.both (begins 47 word) (not (is_empty (drop 1 word))) one.0 in
+    let two = untaken (not (list_all may_stand_in_path word)) _ path one.1 in
+    let some : is_empty (drop 1 word) ≡ false = not_true (is_empty (drop 1 word)) start.1 in
+    let three : option_map (path_from true) (names_of (drop 1 word)) ≡ Some path = rw (start.0, some) at two.1 in
+    from_names (names_of (drop 1 word)) path (λ found e. names_some (drop 1 word) found e) three
+
+-- ---- what each form says is sound
+plain_sound : (before : List Line) (c : Plain) (proc : List ℕ) → Sound before (plain_line c proc)
+plain_sound before plain.Wait proc = tt
+plain_sound before plain.Self_ proc = tt
+plain_sound before plain.Freezeself proc = tt
+plain_sound before plain.Thawself proc = tt
+
+path_sound : (before : List Line) (c : OnPath) (proc : List ℕ) (path : PathOf) → Sound before (path_line c proc path)
+path_sound before on_path.Create proc path = tt
+path_sound before on_path.Mkdir proc path = tt
+path_sound before on_path.Unlink proc path = tt
+path_sound before on_path.Rmdir proc path = tt
+path_sound before on_path.Chdir proc path = tt
+path_sound before on_path.Stat proc path = tt
+path_sound before on_path.Exec proc path = tt
+path_sound before on_path.Labelof proc path = tt
+path_sound before on_path.Freeze proc path = tt
+path_sound before on_path.Thaw proc path = tt
+
+fd_sound : (before : List Line) (c : OnFd) (proc : List ℕ) (fd : FdWord) → Sound before (fd_line c proc fd)
+fd_sound before on_fd.Close proc fd = tt
+fd_sound before on_fd.Pex proc fd = tt
+fd_sound before on_fd.Unpex proc fd = tt
+fd_sound before on_fd.Priv proc fd = tt
+
+counted_sound : (before : List Line) (c : Counted) (proc : List ℕ) (fd : FdWord) (n : ℕ) → Sound before (counted_line c proc fd n)
+counted_sound before counted.Read proc fd n = tt
+counted_sound before counted.Cut proc fd n = tt
+counted_sound before counted.Seek proc fd n = tt
+
+limit_sound : (before : List Line) (words : List (List ℕ)) (x : What × ℕ) → both (what_of (word_at words 1)) (number_of (bounds (word_at words 1)).0 (bounds (word_at words 1)).1 (word_at words 2)) ≡ Some x → Sound before (line.Limit x.0 x.1)
+limit_sound before words x h =
+    let p = apart _ _ x h in
+    let low = within (bounds (word_at words 1)).0 (bounds (word_at words 1)).1 x.1 (word_at words 2) p.second in
+    subst (λ (b : ℕ × ℕ). is_within b.0 b.1 x.1 ≡ true) (bounds_are (word_at words 1) x.0 p.first) low
+
+fs_sound : (before : List Line) (words : List (List ℕ)) (x : List ℕ × (Categories × (ℕ × ℕ))) → is_known (word_at words 1) (map (λ s. s.name) (fss_told before)) ≡ false
+    → both (name_of (word_at words 1)) (both (label_of (word_at words 2)) (both (number_of 1 65536 (word_at words 3)) (number_of 1 65536 (word_at words 4)))) ≡ Some x → Sound before (line.Fs x.0 x.1.0 x.1.1.0 x.1.1.1)
+fs_sound before words x new h =
+    let a = apart _ _ x h in
+    let b = apart _ _ x.1 a.second in
+    let c = apart _ _ x.1.1 b.second in
+    record {
+      fits = names.join_tests _ _ (within 1 65536 x.1.1.0 (word_at words 3) c.first) (within 1 65536 x.1.1.1 (word_at words 4) c.second);
+      new = subst (λ (n : List ℕ). is_known n (map (λ s. s.name) (fss_told before)) ≡ false) (named (word_at words 1) x.0 a.first) new;
+    }
+
+payload_few : (most : ℕ) (word bytes : List ℕ) (m : Option (List ℕ)) → (m >>= λ found. if nat_le (length found) most then Some found else None) ≡ Some bytes → nat_le (length bytes) most ≡ true
+payload_few most word bytes None h = cc
+payload_few most word bytes (Some found) h =
+    let p = chosen (nat_le (length found) most) found bytes h in
+    subst (λ (f : List ℕ). nat_le (length f) most ≡ true) p.1 p.0
+
+file_sound : (before : List Line) (words : List (List ℕ)) (x : PathOf × (Categories × (Bool × (PrivSet × (PrivSet × List ℕ)))))
+    → both (made_path_of (word_at words 1)) (both (label_of (word_at words 2)) (both (state_of (word_at words 3)) (both (privs_of (word_at words 4)) (both (privs_of (word_at words 5)) (payload_within 1048576 (word_at words 6)))))) ≡ Some x
+    → Sound before (line.File x.0 x.1.0 x.1.1.0 x.1.1.1.0 x.1.1.1.1.0 x.1.1.1.1.1)
+file_sound before words x h =
+    let a = apart _ _ x h in
+    let b = apart _ _ x.1 a.second in
+    let c = apart _ _ x.1.1 b.second in
+    let d = apart _ _ x.1.1.1 c.second in
+    let e = apart _ _ x.1.1.1.1 d.second in
+    record { place = made_place (word_at words 1) x.0 a.first; few = payload_few 1048576 (word_at words 6) x.1.1.1.1.1 (payload_of (word_at words 6)) e.second }
+
+sound_form : (before : List Line) (f : Form) (words : List (List ℕ)) (l : Line) → is_given_twice before f words ≡ false → said f words ≡ Some l → Sound before l
+sound_form before form.Limit words l new h = made_by (λ x. line.Limit x.0 x.1) before _ l (λ x e. limit_sound before words x e) h
+sound_form before form.Fs words l new h = made_by (λ x. line.Fs x.0 x.1.0 x.1.1.0 x.1.1.1) before _ l (λ x e. fs_sound before words x new e) h
+sound_form before form.Proc words l new h = made_by (λ x. line.Proc x.0 x.1.0 x.1.1.0 x.1.1.1.0 x.1.1.1.1) before _ l (λ x e. tt) h
+sound_form before form.Dir words l new h = made_by (λ x. line.Dir x.0 x.1.0 x.1.1) before _ l (λ x e. made_place (word_at words 1) x.0 (apart _ _ x e).first) h
+sound_form before form.File words l new h = made_by (λ x. line.File x.0 x.1.0 x.1.1.0 x.1.1.1.0 x.1.1.1.1.0 x.1.1.1.1.1) before _ l (λ x e. file_sound before words x e) h
+sound_form before form.Phase words l new h = let e : line.Phase ≡ l = cc in subst (λ (k : Line). Sound before k) e tt
+sound_form before form.Lane words l new h = made_by (λ x. line.Lane x) before _ l (λ x e. tt) h
+sound_form before (form.Plain c) words l new h = made_by (λ x. plain_line c x) before _ l (λ x e. plain_sound before c x) h
+sound_form before (form.OnPath c) words l new h = made_by (λ x. path_line c x.0 x.1) before _ l (λ x e. path_sound before c x.0 x.1) h
+sound_form before (form.OnFd c) words l new h = made_by (λ x. fd_line c x.0 x.1) before _ l (λ x e. fd_sound before c x.0 x.1) h
+sound_form before (form.Counted c) words l new h = made_by (λ x. counted_line c x.0 x.1.0 x.1.1) before _ l (λ x e. counted_sound before c x.0 x.1.0 x.1.1) h
+sound_form before form.Open words l new h = made_by (λ x. line.Open x.0 x.1.0 x.1.1.0 x.1.1.1) before _ l (λ x e. tt) h
+sound_form before form.Write words l new h = made_by (λ x. line.Write x.0 x.1.0 x.1.1) before _ l (λ x e. tt) h
+sound_form before form.Dup words l new h = made_by (λ x. line.Dup x.0 x.1.0 x.1.1) before _ l (λ x e. tt) h
+sound_form before form.Pipe words l new h = made_by (λ x. line.Pipe x.0 x.1) before _ l (λ x e. tt) h
+sound_form before form.Link words l new h = made_by (λ x. line.Link x.0 x.1.0 x.1.1) before _ l (λ x e. tt) h
+sound_form before form.List words l new h = made_by (λ x. line.List x.0 x.1.0 x.1.1) before _ l (λ x e. tt) h
+sound_form before form.Copy words l new h = made_by (λ x. line.Copy x.0 x.1.0 x.1.1.0 x.1.1.1) before _ l (λ x e. tt) h
+sound_form before form.Setlabel words l new h = made_by (λ x. line.Setlabel x.0 x.1.0 x.1.1) before _ l (λ x e. tt) h
+sound_form before form.Setpriv words l new h = made_by (λ x. line.Setpriv x.0 x.1.0 x.1.1.0 x.1.1.1) before _ l (λ x e. tt) h
+sound_form before form.Fork words l new h = made_by (λ x. line.Fork x.0 x.1.0 x.1.1) before _ l (λ x e. tt) h
+sound_form before form.Exit words l new h = made_by (λ x. line.Exit x.0 x.1) before _ l (λ x e. tt) h
+sound_form before form.Setself words l new h = made_by (λ x. line.Setself x.0 x.1) before _ l (λ x e. tt) h
+sound_form before form.Droplic words l new h = made_by (λ x. line.Droplic x.0 x.1) before _ l (λ x e. tt) h
+sound_form before form.Grant words l new h = made_by (λ x. line.Grant x.0 x.1.0 x.1.1) before _ l (λ x e. tt) h
+sound_form before form.Ceiling words l new h = made_by (λ x. line.Ceiling x.0 x.1.0 x.1.1) before _ l (λ x e. tt) h
+sound_form before form.Readlog words l new h = made_by (λ x. line.Readlog x.0 x.1) before _ l (λ x e. tt) h
+sound_form before form.Login words l new h = made_by (λ x. line.Login x.0 x.1.0 x.1.1.0 x.1.1.1) before _ l (λ x e. tt) h
+
+-- ---- the rules that were passed
+neither : {A : Type 0} (a b : Option A) → option_or a b ≡ None → (a ≡ None) × (b ≡ None)
+neither None b h = (refl, h)
+neither (Some x) b h = cc
+
+new_names : (before : List Line) (f : Form) (words : List (List ℕ)) → form_fault before f words ≡ None → is_given_twice before f words ≡ false
+unfolding form_fault names_fault
+new_names before f words h =
+    let one = neither (stand_fault before f words) _ h in
+    let two = neither (places_fault (places f words)) _ one.1 in
+    let three = neither (cond (is_given_twice before f words) (Some 20) (cond (names_unknown before f words) (Some 21) None)) _ two.1 in
+    (passes (is_given_twice before f words) 20 _ three.0).0
+
+sound_words : (before : List Line) (words : List (List ℕ)) (o : Option Form) (l : Line) → option_map_or (λ f. form_fault before f words) o (Some 7) ≡ None → (o >>= λ f. said f words) ≡ Some l → Sound before l
+sound_words before words None l h m = cc
+sound_words before words (Some f) l h m = sound_form before f words l (new_names before f words h) m
+
+-- ---- a line that breaks no rule
+first_sound : (text : List ℕ) (l : Line) → first_line_fault text ≡ None → line_of text ≡ Some l → Sound [] l
+unfolding first_line_fault
+first_sound text l h m =
+    let one = neither _ (cond (not (same_bytes text (codes "ix 1"))) (Some 6) None) h in
+    let two = passes (not (same_bytes text (codes "ix 1"))) 6 None one.1 in
+    let is : same_bytes text (codes "ix 1") ≡ true = not_false (same_bytes text (codes "ix 1")) two.0 in
+    let e : text ≡ codes "ix 1" = same_text text (codes "ix 1") (sym is) in
+    let k : Some l ≡ Some line.Version = sym m ∙ ap line_of e ∙ first_is.meant in
+    let same : line.Version ≡ l = cc in
+    subst (λ (x : Line). Sound [] x) same tt
+
+later_sound : (before : List Line) (text : List ℕ) (l : Line) → is_empty before ≡ false → body_fault before text ≡ None → line_of text ≡ Some l → Sound before l
+unfolding body_fault line_of command_fault
+later_sound before text l some h m = elim (bool_cases (is_skipped text)) [
+  | inl t ↦ let k : Some line.Skipped ≡ Some l = rw t at m in let same : line.Skipped ≡ l = cc in subst (λ (x : Line). Sound before x) same tt
+  | inr f ↦ elim (bool_cases (is_policy_line text)) [
+    | inl p ↦ let k : Some (line.Policy (policy_text text)) ≡ Some l = rw (f, p) at m in let same : line.Policy (policy_text text) ≡ l = cc in subst (λ (x : Line). Sound before x) same tt
+    | inr q ↦ elim (bool_cases (same_bytes text (codes "ix 1"))) [
+      | inl v ↦ let k : Some line.Version ≡ Some l = rw (f, q, v) at m in let same : line.Version ≡ l = cc in subst (λ (x : Line). Sound before x) same tt
+      | inr w ↦
+          let k : said_by_words (words_of text) ≡ Some l = rw (f, q, w) at m in
+          let g : option_or (words_fault (words_of text)) (option_map_or (λ x. form_fault before x (words_of text)) (form_of (word_at (words_of text) 0)) (Some 7)) ≡ None = rw (some, f, q) at h in
+          sound_words before (words_of text) (form_of (word_at (words_of text) 0)) l (neither _ _ g).1 k
+    ]
+  ]
+]
+
+by_start : (before : List Line) (text : List ℕ) (l : Line) → body_fault before text ≡ None → line_of text ≡ Some l → Sound before l
+unfolding body_fault
+by_start [] text l h m = first_sound text l h m
+by_start (b ∷ before) text l h m = later_sound (b ∷ before) text l refl h m
+
+pub sound : (before : List Line) (text : List ℕ) (l : Line) → line_fault before text ≡ None → line_of text ≡ Some l → Sound before l
+unfolding line_fault
+sound before text l h m = by_start before text l (neither (text_fault text) _ h).1 m

@@ -1,0 +1,12 @@
+pub mod Verdicts
+pub mod Pushed
+pub mod Indexing
+pub mod Keeping
+pub mod Validity
+pub mod Making
+pub mod Staying
+pub mod Progress
+pub mod Counting
+pub mod Whole
+pub mod Planning
+pub mod Told

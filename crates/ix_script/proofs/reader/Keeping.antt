@@ -1,0 +1,150 @@
+-- What is kept of the header holds with one line more.
+use Rattle.std.proofs.Common.{◌≡◌, ℕ, suc, ◌+◌, ◌<◌, ◌≤◌, ◌==◌, nat_le, nat_lt, Bool, true, false, ◌||◌, not, cond, List, [], ◌∷◌, ◌++◌, length, map, max, slice_index, refl, sym, ap, ◌∙◌, subst, arith, length-append, inl, inr}
+use Rattle.std.specs.List.{list_all}
+use Rattle.std.proofs.lemmas.Bool.{cases_eq, eq-eqb, ne_eqb, leb-true}
+use Rattle.std.proofs.lemmas.Bool.Decides.{nat_tests}
+use Rattle.std.proofs.lemmas.List.{append-nil, map-append}
+use Rattle.ix_model.specs.world.World.{fs_at}
+use Rattle.ix_model.specs.rows.Telling.{blocks_for}
+use Rattle.ix_model.specs.opening.Valid.{fs_fits, fs_of, lying_on, blocks_taken, has_room}
+use Rattle.ix_model.specs.declared.config.FsSpec.{FsSpec}
+use Rattle.ix_model.specs.declared.config.Limits.{Limits}
+use Rattle.ix_model.specs.declared.config.ObjSpec.{ObjSpec}
+use Rattle.ix_script.specs.lines.Before.{fs_told, or_default, fss_told, fss_of, what_told, limits_after, limits_of, proc_name_told, object_told, objects_of, is_policy, group}
+use Rattle.ix_script.specs.reader.Told.{made_of, HeaderTold, TakenOne, Takes, fss_after}
+use Rattle.ix_script.specs.declared.header.Header.{Header}
+use Rattle.ix_script.specs.declared.taken.Taken.{Taken}
+use Rattle.ix_script.specs.declared.line.Line.{Line}
+use Rattle.ix_script.specs.declared.line.Line.TheVariants as line
+use Rattle.ix_script.proofs.texts.Names.{both}
+use Rattle.ix_script.proofs.lines.Follows.{Follows}
+use Rattle.ix_script.proofs.lines.Lying.{fs_within, few_inodes, few_blocks, count_here, count_else, blocks_here, blocks_else}
+use Rattle.ix_script.proofs.lines.Ordered.{no_objects, latest_push}
+use Rattle.ix_script.proofs.reader.Pushed.{fss_push, whats_push, limits_push, proc_names_push, objects_push, policy_push}
+
+-- ---- file systems
+pub some_fs : (fss : List FsSpec) → 0 < length (or_default fss)
+some_fs [] = omega arith
+some_fs (fs ∷ fss) = omega arith
+
+pub told_is : (told : List FsSpec) → 0 < length told → or_default told ≡ told
+told_is [] h = absurd (omega arith)
+told_is (fs ∷ told) h = refl
+
+pub told_few : (fss : List FsSpec) → length (or_default fss) ≤ 16 → length fss ≤ 16
+told_few [] h = omega arith
+told_few (fs ∷ fss) h = h
+
+one_more : (told : List FsSpec) (more : List FsSpec) → length more ≤ 1 → fss_after (length told) (or_default told) more ≡ or_default (told ++ more)
+one_more told [] h = ap or_default (sym (append-nil told))
+one_more [] (fs ∷ []) h = refl
+one_more (t ∷ told) (fs ∷ []) h = rw (ne_eqb (suc (length told)) 0 (λ e. let k : suc (length told) ≡ 0 = e in absurd (omega arith))) refl
+one_more told (fs ∷ f ∷ more) h = absurd (omega arith)
+
+one_told : (x : Line) → length (fs_told x) ≤ 1
+one_told (line.Fs name ceiling blocks inodes) = omega arith
+one_told _ = omega arith
+
+fss_kept : (n : ℕ) (old new : List FsSpec) (told : List FsSpec) (x : Line) → n ≡ length told → old ≡ or_default told → new ≡ fss_after n old (fs_told x) → new ≡ or_default (told ++ fs_told x)
+fss_kept n old new told x hn ho h = h ∙ (λ i. fss_after (hn i) (ho i) (fs_told x)) ∙ one_more told (fs_told x) (one_told x)
+
+room_for_fs : (before : List Line) (x : Line) → Follows before x → length (fss_told before) ≤ 16 → length (fss_told before) + length (fs_told x) ≤ 16
+room_for_fs before (line.Fs name ceiling blocks inodes) f few =
+    let many : nat_le 16 (length (fss_told before)) ≡ false = f.many in
+    grind (arith, nat_tests)
+room_for_fs before _ f few = omega arith
+
+few_after : (fss : List FsSpec) → length fss ≤ 16 → length (or_default fss) ≤ 16
+few_after [] h = omega arith
+few_after (fs ∷ fss) h = h
+
+-- ---- what objects take
+pub record Counted (fss : List FsSpec) (os : List ObjSpec) (taken : Taken) : Type 0 where
+  pub counts : (k : ℕ) → k < 16 → slice_index taken.counts k ≡ length (lying_on fss k os)
+  pub blocks : (k : ℕ) → k < 16 → slice_index taken.blocks k ≡ blocks_taken fss k os
+
+not_false : (b : Bool) → not b ≡ false → b ≡ true
+not_false true h = refl
+not_false false h = cc
+
+counted_one : (fss : List FsSpec) (limits : Limits) (os : List ObjSpec) (o : ObjSpec) (old new : Taken) → 0 < length fss → length fss ≤ 16 → list_all fs_fits fss ≡ true → has_room fss limits os o ≡ true
+    → Counted fss os old → TakenOne fss o.path.names (length o.bytes) old new → Counted fss (os ++ o ∷ []) new
+counted_one fss limits os o old new some few fit room was taken =
+    let here : ℕ = fs_of fss o.path.names in
+    let low : here < 16 = let k : here < length fss = fs_within fss o.path.names some in omega arith in
+    let parts = both (nat_le (length fss + length os) limits.names) (nat_le (length (lying_on fss here os) + 2) (fs_at fss here).inodes) (both _ _ room).0 in
+    let inode : length (lying_on fss here os) + 2 ≤ (fs_at fss here).inodes = leb-true _ _ parts.1 in
+    let block : blocks_taken fss here os + blocks_for (length o.bytes) ≤ (fs_at fss here).blocks = leb-true _ _ (both _ _ room).1 in
+    let counts : (j : ℕ) → slice_index new.counts j ≡ cond (j == here) (slice_index old.counts here + 1) (slice_index old.counts j) =
+    taken.counts (omega (arith, was.counts here low, few_inodes fss here fit)) in
+    let blocks : (j : ℕ) → slice_index new.blocks j ≡ cond (j == here) (slice_index old.blocks here + blocks_for (length o.bytes)) (slice_index old.blocks j) =
+    taken.blocks (omega (arith, was.blocks here low, few_blocks fss here fit)) in
+    record {
+      counts = λ k h. counts k ∙ elim (cases_eq k here) [
+        | inl e ↦ rw (eq-eqb k here e) (ap (λ n. n + 1) (was.counts here low) ∙ sym (count_here fss os o k e ∙ ap (λ j. length (lying_on fss j os) + 1) e))
+        | inr ne ↦ rw (ne_eqb k here ne) (was.counts k h ∙ sym (count_else fss os o k ne))
+      ];
+      blocks = λ k h. blocks k ∙ elim (cases_eq k here) [
+        | inl e ↦ rw (eq-eqb k here e) (ap (λ n. n + blocks_for (length o.bytes)) (was.blocks here low) ∙ sym (blocks_here fss os o k e ∙ ap (λ j. blocks_taken fss j os + blocks_for (length o.bytes)) e))
+        | inr ne ↦ rw (ne_eqb k here ne) (was.blocks k h ∙ sym (blocks_else fss os o k ne))
+      ];
+    }
+
+nothing_lies : (fss : List FsSpec) (taken : Taken) (gss : List FsSpec) → Counted fss [] taken → Counted gss [] taken
+nothing_lies fss taken gss was = record { counts = was.counts; blocks = was.blocks }
+
+-- where a line tells no object and no file system
+counted_same : (fss : List FsSpec) (os : List ObjSpec) (old new : Taken) (gss : List FsSpec) (ps : List ObjSpec) → Counted fss os old → new ≡ old → gss ≡ fss → ps ≡ os → Counted gss ps new
+counted_same fss os old new gss ps was e f g =
+    subst (λ (t : Taken). Counted gss ps t) (sym e) (subst (λ (qs : List ObjSpec). Counted gss qs old) (sym g) (subst (λ (hs : List FsSpec). Counted hs os old) (sym f) was))
+
+abbrev pub After : List Line → Line → List Line
+After before x = before ++ x ∷ []
+
+pub same_fss : (before : List Line) (x : Line) → fs_told x ≡ [] → fss_of (After before x) ≡ fss_of before
+same_fss before x h = ap or_default (fss_push before x ∙ ap (λ more. fss_told before ++ more) h ∙ append-nil (fss_told before))
+
+pub same_objects : (before : List Line) (x : Line) → object_told x ≡ [] → objects_of (After before x) ≡ objects_of before
+same_objects before x h = objects_push before x ∙ ap (λ more. objects_of before ++ more) h ∙ append-nil (objects_of before)
+
+counted_object : (before : List Line) (x : Line) (o : ObjSpec) (old new : Taken) → 0 < length (fss_of before) → length (fss_of before) ≤ 16 → list_all fs_fits (fss_of before) ≡ true → fs_told x ≡ [] → object_told x ≡ o ∷ []
+    → not (has_room (fss_of before) (limits_of before) (objects_of before) o) ≡ false → Counted (fss_of before) (objects_of before) old → TakenOne (fss_of before) o.path.names (length o.bytes) old new → Counted (fss_of (After before x)) (objects_of (After before x)) new
+counted_object before x o old new some few fit no_fs told room was taken =
+    let one : Counted (fss_of before) (objects_of before ++ o ∷ []) new = counted_one (fss_of before) (limits_of before) (objects_of before) o old new some few fit (not_false _ room) was taken in
+    counted_same (fss_of before) (objects_of before ++ o ∷ []) new new (fss_of (After before x)) (objects_of (After before x)) one refl (same_fss before x no_fs) (objects_push before x ∙ ap (λ more. objects_of before ++ more) told)
+
+counted_next : (before : List Line) (x : Line) (old new : Taken) → 0 < length (fss_of before) → length (fss_of before) ≤ 16 → list_all fs_fits (fss_of before) ≡ true → Follows before x
+    → Counted (fss_of before) (objects_of before) old → Takes (fss_of before) (object_told x) old new → Counted (fss_of (After before x)) (objects_of (After before x)) new
+counted_next before (line.Dir path label frozen) old new some few fit f was takes = counted_object before (line.Dir path label frozen) _ old new some few fit refl refl f.crowds was takes
+counted_next before (line.File path label frozen cap lic bytes) old new some few fit f was takes = counted_object before (line.File path label frozen cap lic bytes) _ old new some few fit refl refl f.crowds was takes
+counted_next before (line.Fs name ceiling blocks inodes) old new some few fit f was takes =
+    let x : Line = line.Fs name ceiling blocks inodes in
+    let none : objects_of before ≡ [] = no_objects before f.order in
+    let nothing : Counted (fss_of before) [] old = subst (λ (os : List ObjSpec). Counted (fss_of before) os old) none was in
+    counted_same (fss_of (After before x)) [] old new (fss_of (After before x)) (objects_of (After before x)) (nothing_lies (fss_of before) old (fss_of (After before x)) nothing) takes refl (same_objects before x refl ∙ none)
+counted_next before x old new some few fit f was takes = counted_same (fss_of before) (objects_of before) old new (fss_of (After before x)) (objects_of (After before x)) was takes (same_fss before x refl) (same_objects before x refl)
+
+-- ---- the whole
+pub header_next : (h n : Header) (before : List Line) (x : Line) → HeaderTold h before → list_all fs_fits (fss_of before) ≡ true → Follows before x
+    → n.told ≡ h.told + length (fs_told x) → n.fss ≡ fss_after h.told h.fss (fs_told x) → n.limits ≡ limits_after h.limits x → n.whats ≡ h.whats ++ what_told x → n.procs ≡ h.procs ++ proc_name_told x
+    → n.made ≡ h.made ++ map made_of (object_told x) → Takes h.fss (object_told x) h.taken n.taken → n.latest ≡ max h.latest (group x) → n.policy ≡ (h.policy || is_policy x) → HeaderTold n (After before x)
+header_next h n before x was fit f told fss limits whats procs made takes latest policy =
+    let told_is : length (fss_told before) ≤ 16 = told_few (fss_told before) (subst (λ (fs : List FsSpec). length fs ≤ 16) was.fss was.few) in
+    let fss_is : n.fss ≡ fss_of (After before x) = fss_kept h.told h.fss n.fss (fss_told before) x was.told was.fss fss ∙ ap or_default (sym (fss_push before x)) in
+    let count : length (fss_told (After before x)) ≡ length (fss_told before) + length (fs_told x) = ap length (fss_push before x) ∙ length-append (fss_told before) (fs_told x) in
+    let few : length (fss_of (After before x)) ≤ 16 = few_after (fss_told (After before x)) (omega (arith, room_for_fs before x f told_is)) in
+    let counted : Counted (fss_of (After before x)) (objects_of (After before x)) n.taken =
+    counted_next before x h.taken n.taken (some_fs (fss_told before)) (subst (λ (fs : List FsSpec). length fs ≤ 16) was.fss was.few) fit f (record { counts = was.counts; blocks = was.blocks }) (subst (λ (fs : List FsSpec). Takes fs (object_told x) h.taken n.taken) was.fss takes) in
+    record {
+      told = told ∙ ap (λ k. k + length (fs_told x)) was.told ∙ sym count;
+      fss = fss_is;
+      few = subst (λ (fs : List FsSpec). length fs ≤ 16) (sym fss_is) few;
+      limits = limits ∙ ap (λ l. limits_after l x) was.limits ∙ sym (limits_push before x);
+      whats = whats ∙ ap (λ ws. ws ++ what_told x) was.whats ∙ sym (whats_push before x);
+      procs = procs ∙ ap (λ names. names ++ proc_name_told x) was.procs ∙ sym (proc_names_push before x);
+      made = made ∙ ap (λ ms. ms ++ map made_of (object_told x)) was.made ∙ sym (ap (map made_of) (objects_push before x) ∙ map-append made_of (objects_of before) (object_told x));
+      counts = counted.counts;
+      blocks = counted.blocks;
+      latest = λ g. latest_push g h.latest before x (was.latest g) ∙ ap (nat_lt g) (sym latest);
+      policy = policy ∙ ap (λ p. p || is_policy x) was.policy ∙ sym (policy_push before x);
+    }

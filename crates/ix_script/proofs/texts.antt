@@ -1,0 +1,9 @@
+pub mod Names
+pub mod Digits
+pub mod Pieces
+pub mod Feeds
+pub mod Joined
+pub mod Spelling
+pub mod AllLabels
+pub mod Further
+pub mod Cuts

@@ -1,0 +1,107 @@
+-- Cutting the first piece off.
+use Rattle.std.proofs.Common.{◌≡◌, ℕ, zero, suc, ◌+◌, ◌<◌, ◌≤◌, ◌==◌, Bool, true, false, cond, List, [], ◌∷◌, length, take, drop, get_or, Option, Some, None, option_map, refl, sym, ap, ◌∙◌, arith, add-one, add-zero, drop-cons, length-drop}
+use Rattle.std.specs.Option.{option_map_or}
+use Rattle.std.specs.List.{position, position_from}
+use Rattle.std.proofs.lemmas.List.Quantifiers.{position-Some}
+use Rattle.std.proofs.lemmas.Iterator.Adapters.{position_from-zero}
+use Rattle.ix_script.specs.texts.Lines.{with_front}
+use Rattle.ix_script.specs.texts.Words.{between_slashes}
+use Rattle.std.proofs.lemmas.Bool.{eq-eqb, ne_eqb}
+use Rattle.std.proofs.lemmas.List.{drop_all}
+use Rattle.ix_script.specs.texts.Cutting.{pieces, parts_words, after_byte, closes, is_closed, is_empty}
+use Rattle.ix_script.specs.declared.spot.Spot.{Spot}
+use Rattle.ix_script.specs.declared.spot.Spot.TheVariants as spot
+
+-- ---- slashes
+abbrev slash : ℕ → Bool
+slash b = b == 47
+
+at_slash : (text : List ℕ) (k : ℕ) → k < length text → slash (get_or text k 0) ≡ true → ((j : ℕ) → j < k → slash (get_or text j 0) ≡ false) → between_slashes text ≡ take k text ∷ between_slashes (drop (suc k) text)
+unfolding between_slashes
+at_slash [] k within found before = absurd (omega arith)
+at_slash (b ∷ text) zero within found before = rw found refl
+at_slash (b ∷ text) (suc k) within found before =
+    let first : slash b ≡ false = before 0 (omega arith) in
+    let rest : between_slashes text ≡ take k text ∷ between_slashes (drop (suc k) text) = at_slash text k (omega arith) found (λ j h. before (suc j) (omega arith)) in
+    rw (first, rest) refl
+
+-- up to a slash
+pub slash_at : (text : List ℕ) (k : ℕ) → position (λ b. b == 47) text ≡ Some k → between_slashes text ≡ take k text ∷ between_slashes (drop (k + 1) text)
+slash_at text k h =
+    let found = position-Some slash text k 0 h in
+    at_slash text k found.0 found.1 found.2 ∙ ap (λ n. take k text ∷ between_slashes (drop n text)) (sym (add-one k))
+
+none_cases : (t : Bool) (i : ℕ) (o : Option ℕ) → cond t (Some i) o ≡ None → (t ≡ false) × (o ≡ None)
+none_cases true i o h = cc
+none_cases false i o h = (refl, h)
+
+no_slash_from : (text : List ℕ) (i : ℕ) → position_from slash i text ≡ None → between_slashes text ≡ text ∷ []
+unfolding between_slashes
+no_slash_from [] i h = refl
+no_slash_from (b ∷ text) i h =
+    let p = none_cases (slash b) i (position_from slash (i + 1) text) h in
+    let rest : between_slashes text ≡ text ∷ [] = no_slash_from text (i + 1) p.1 in
+    rw (p.0, rest) refl
+
+-- where there is no slash
+pub slash_none : (text : List ℕ) → position (λ b. b == 47) text ≡ None → between_slashes text ≡ text ∷ []
+slash_none text h = no_slash_from text 0 (sym (position_from-zero slash text) ∙ h)
+
+-- ---- words
+-- the place of the first space between words
+abbrev pub gap_from : Spot → List ℕ → Option ℕ
+gap_from at [] = None
+gap_from at (b ∷ text) = cond (parts_words at b) (Some 0) (option_map suc (gap_from (after_byte at b) text))
+
+-- what is cut off up to there
+abbrev pub cut_at : List ℕ → Option ℕ → List (List ℕ)
+cut_at text gap = option_map_or (λ k. take k text ∷ pieces spot.Front (drop (k + 1) text)) gap (text ∷ [])
+
+later : (b : ℕ) (text : List ℕ) (gap : Option ℕ) → with_front b (cut_at text gap) ≡ cut_at (b ∷ text) (option_map suc gap)
+later b text None = refl
+later b text (Some k) = rw (add-one k, add-one (suc k)) refl
+
+pub cut_at_gap : (at : Spot) (text : List ℕ) → pieces at text ≡ cut_at text (gap_from at text)
+unfolding pieces
+cut_at_gap at [] = refl
+cut_at_gap at (b ∷ text) =
+    elim (parts_words at b) as (λ t. cond t ([] ∷ pieces spot.Front text) (with_front b (pieces (after_byte at b) text)) ≡ cut_at (b ∷ text) (cond t (Some 0) (option_map suc (gap_from (after_byte at b) text)))) [
+      | true ↦ refl
+      | false ↦ ap (with_front b) (cut_at_gap (after_byte at b) text) ∙ later b text (gap_from (after_byte at b) text)
+    ]
+
+-- ---- walks along a text
+pub gap_found : (all : Option ℕ) (at : Spot) (text : List ℕ) (i : ℕ) → i < length text → parts_words at (get_or text i 0) ≡ true → all ≡ option_map (λ k. i + k) (gap_from at (drop i text)) → all ≡ Some i
+gap_found all at text i h t so_far = so_far ∙ rw (drop-cons text i 0, t) (ap (λ (n : ℕ). Some n) (add-zero i))
+
+shifted : (i : ℕ) (gap : Option ℕ) → option_map (λ k. i + k) (option_map suc gap) ≡ option_map (λ k. suc i + k) gap
+shifted i None = refl
+shifted i (Some k) = ap (λ (n : ℕ). Some n) (omega arith)
+
+pub gap_next : (all : Option ℕ) (at : Spot) (text : List ℕ) (i : ℕ) → i < length text → parts_words at (get_or text i 0) ≡ false → all ≡ option_map (λ k. i + k) (gap_from at (drop i text))
+    → all ≡ option_map (λ k. (i + 1) + k) (gap_from (after_byte at (get_or text i 0)) (drop (i + 1) text))
+gap_next all at text i h t so_far = so_far ∙ rw (drop-cons text i 0, t, add-one) (shifted i (gap_from (after_byte at (get_or text i 0)) (drop (suc i) text)))
+
+pub gap_none : (all : Option ℕ) (at : Spot) (text : List ℕ) (i : ℕ) → length text ≤ i → all ≡ option_map (λ k. i + k) (gap_from at (drop i text)) → all ≡ None
+gap_none all at text i h so_far = so_far ∙ rw (drop_all i text h) refl
+
+-- ---- the quote that closes a word
+pub last_place : (rest : List ℕ) (i n : ℕ) → length rest + suc i ≡ n → (i + 1 == n) ≡ is_empty rest
+last_place [] i n h = eq-eqb (i + 1) n (omega arith)
+last_place (b ∷ rest) i n h = ne_eqb (i + 1) n (λ e. let k : i + 1 ≡ n = e in absurd (omega arith))
+
+pub closed_here : (at : Spot) (word : List ℕ) (i : ℕ) → i < length word → closes at (get_or word i 0) ≡ true → (i + 1 == length word) ≡ is_closed at (drop i word)
+unfolding is_closed
+closed_here at word i h t = rw (drop-cons word i 0, t) (last_place (drop (suc i) word) i (length word) (omega (arith, length-drop (suc i) word)))
+
+pub closed_next : (at : Spot) (word : List ℕ) (i : ℕ) → i < length word → closes at (get_or word i 0) ≡ false → is_closed (after_byte at (get_or word i 0)) (drop (i + 1) word) ≡ is_closed at (drop i word)
+unfolding is_closed
+closed_next at word i h t = rw (drop-cons word i 0, t, add-one) refl
+
+pub never_closed : (at : Spot) (word : List ℕ) (i : ℕ) → length word ≤ i → is_closed at (drop i word) ≡ false
+unfolding is_closed
+never_closed at word i h = rw (drop_all i word h) refl
+
+pub gap_start : (gap : Option ℕ) → gap ≡ option_map (λ k. 0 + k) gap
+gap_start None = refl
+gap_start (Some k) = ap (λ (n : ℕ). Some n) (omega arith)

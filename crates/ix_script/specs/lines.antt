@@ -1,0 +1,6 @@
+pub mod Kinds
+pub mod Forms
+pub mod Before
+pub mod Rules
+pub mod Said
+pub mod Faults

@@ -1,0 +1,4 @@
+pub mod Readers
+pub mod Least
+pub mod Told
+pub mod Indexed

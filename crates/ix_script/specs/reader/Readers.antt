@@ -1,0 +1,43 @@
+-- What a reader of the code tells of what it was given.
+use Rattle.std.specs.Prelude.{◌≡◌, ℕ, List, Option, Some, None, Result, Ok, Err}
+use Rattle.ix_script.specs.lines.Kinds.{Place, places_fault}
+use Rattle.ix_script.specs.lines.Faults.{said_fault}
+use Rattle.ix_script.specs.declared.fail.ReadFail.{ReadFail}
+use Rattle.ix_script.specs.declared.fail.ReadFail.TheVariants as fail
+use Rattle.ix_script.specs.declared.line.Line.{Line}
+use Rattle.ix_script.specs.declared.refused.Refused.{Refused}
+use Rattle.ix_script.specs.declared.refused.Refused.TheVariants as refused
+
+-- it is refused by the first rule that is broken; for want of memory it is refused whatever it is
+abbrev pub Refuses : Refused → Option ℕ → Type 0
+Refuses (refused.Breaks n) fault = fault ≡ Some n
+Refuses refused.NoMemory fault = Unit {0}
+
+-- it is let pass where no rule is broken
+abbrev pub Finds : {X : Type 0} → Result X Refused → Option ℕ → Type 0
+Finds (Ok x) fault = fault ≡ None
+Finds (Err e) fault = Refuses e fault
+
+-- what is read, seen by the view, is what the words mean, and they break no rule by themselves
+pub record ReadRight {X Y : Type 0} (view : X → Y) (x : X) (places : List Place) (meaning : Option Y) : Type 0 where
+  pub faultless : places_fault places ≡ None
+  pub meant : meaning ≡ Some (view x)
+
+abbrev pub Reads : {X Y : Type 0} → (X → Y) → Result X Refused → List Place → Option Y → Type 0
+Reads view (Ok x) places meaning = ReadRight view x places meaning
+Reads view (Err e) places meaning = Refuses e (places_fault places)
+
+-- a line that is read breaks no rule and says this, and it fits the lines before by the rules on what it says
+pub record LineRight (before : List Line) (l : Line) (fault : Option ℕ) (meaning : Option Line) : Type 0 where
+  pub faultless : fault ≡ None
+  pub meant : meaning ≡ Some l
+  pub fits : said_fault before l ≡ None
+
+abbrev pub Tells : List Line → Result Line Refused → Option ℕ → Option Line → Type 0
+Tells before (Ok l) fault meaning = LineRight before l fault meaning
+Tells before (Err e) fault meaning = Refuses e fault
+
+-- the fault that is told is that of the input
+abbrev pub HasCause : ReadFail → Option (ℕ × ℕ) → Type 0
+HasCause (fail.Fault f) fault = fault ≡ Some (f.line, f.rule)
+HasCause fail.NoMemory fault = Unit {0}

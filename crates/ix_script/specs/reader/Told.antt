@@ -1,0 +1,71 @@
+-- What the reader keeps of the lines before.
+use Rattle.std.specs.Prelude.{◌≡◌, ℕ, ◌+◌, ◌^◌, ◌<◌, ◌≤◌, ◌==◌, ◌&&◌, nat_lt, Bool, List, [], ◌∷◌, ◌++◌, length, map, slice_index, if◌then◌else◌}
+use Rattle.std.specs.List.{list_any}
+use Rattle.ix_model.specs.world.Naming.{same_names}
+use Rattle.ix_model.specs.rows.Telling.{blocks_for}
+use Rattle.ix_model.specs.opening.Valid.{fs_of, lying_on, blocks_taken}
+use Rattle.ix_model.specs.declared.config.FsSpec.{FsSpec}
+use Rattle.ix_model.specs.declared.config.ObjSpec.{ObjSpec}
+use Rattle.ix_script.specs.lines.Before.{fss_told, fss_of, limits_of, whats_told, proc_names, objects_of, group, has_policy, in_body, lane_now, phase_lanes, lanes_of, fds_given, procs_given, commands}
+use Rattle.ix_script.specs.declared.line.Line.{Line}
+use Rattle.ix_script.specs.declared.body.Body.{Body}
+use Rattle.ix_script.specs.declared.draft.Draft.{Draft}
+use Rattle.ix_script.specs.declared.header.Header.{Header}
+use Rattle.ix_script.specs.declared.taken.Taken.{Taken}
+use Rattle.ix_script.specs.declared.tree.Made.{Made}
+
+-- what is kept of an object
+abbrev pub made_of : ObjSpec → Made
+made_of o = record { path = o.path; dir = o.dir }
+
+-- something, and a directory, was made under the names
+abbrev pub made_there : List Made → List (List ℕ) → Bool
+made_there made names = list_any (λ m. same_names m.path.names names) made
+
+abbrev pub made_dir_there : List Made → List (List ℕ) → Bool
+made_dir_there made names = list_any (λ m. m.dir && same_names m.path.names names) made
+
+-- file systems, limits, processes, objects with what they take, and the policy
+pub record HeaderTold (h : Header) (lines : List Line) : Type 0 where
+  pub told : h.told ≡ length (fss_told lines)
+  pub fss : h.fss ≡ fss_of lines
+  pub few : length h.fss ≤ 16
+  pub limits : h.limits ≡ limits_of lines
+  pub whats : h.whats ≡ whats_told lines
+  pub procs : h.procs ≡ proc_names lines
+  pub made : h.made ≡ map made_of (objects_of lines)
+  pub counts : (k : ℕ) → k < 16 → slice_index h.taken.counts k ≡ length (lying_on (fss_of lines) k (objects_of lines))
+  pub blocks : (k : ℕ) → k < 16 → slice_index h.taken.blocks k ≡ blocks_taken (fss_of lines) k (objects_of lines)
+  pub latest : (g : ℕ) → list_any (λ b. nat_lt g (group b)) lines ≡ nat_lt g h.latest
+  pub policy : h.policy ≡ has_policy lines
+
+-- phases, lanes and commands
+pub record BodyTold (b : Body) (lines : List Line) : Type 0 where
+  pub started : b.started ≡ in_body lines
+  pub lane : b.lane ≡ lane_now lines
+  pub phase_lanes : b.phase_lanes ≡ phase_lanes lines
+  pub lanes : b.lanes ≡ lanes_of lines
+  pub fds : b.fds ≡ fds_given lines
+  pub procs : b.procs ≡ procs_given lines
+  pub commands : b.commands ≡ commands lines
+
+-- ---- changes
+-- an object that is so long more, on the file system where it lies
+pub record TakenOne (fss : List FsSpec) (names : List (List ℕ)) (len : ℕ) (old new : Taken) : Type 0 where
+  pub counts : slice_index old.counts (fs_of fss names) + 1 < 2 ^ 64 → (j : ℕ) → slice_index new.counts j ≡ (if j == fs_of fss names then slice_index old.counts (fs_of fss names) + 1 else slice_index old.counts j)
+  pub blocks : slice_index old.blocks (fs_of fss names) + blocks_for len < 2 ^ 64 → (j : ℕ) → slice_index new.blocks j ≡ (if j == fs_of fss names then slice_index old.blocks (fs_of fss names) + blocks_for len else slice_index old.blocks j)
+
+-- the object that a line tells more, if it tells one
+abbrev pub Takes : List FsSpec → List ObjSpec → Taken → Taken → Type 0
+Takes fss [] old new = new ≡ old
+Takes fss (o ∷ os) old new = TakenOne fss o.path.names (length o.bytes) old new
+
+-- a file system more in place of the one that is there where none is told
+abbrev pub fss_after : ℕ → List FsSpec → List FsSpec → List FsSpec
+fss_after told fss [] = fss
+fss_after told fss (fs ∷ more) = if told == 0 then fs ∷ [] else fss ++ fs ∷ []
+
+-- all that is kept
+pub record DraftTold (d : Draft) : Type 0 where
+  pub header : HeaderTold d.header d.lines
+  pub body : BodyTold d.body d.lines

@@ -1,0 +1,4 @@
+pub mod Scripts
+pub mod Canonical
+pub mod Laws
+pub mod Held

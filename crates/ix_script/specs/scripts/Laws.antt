@@ -1,0 +1,28 @@
+-- The laws of the canonical text.
+use Rattle.std.specs.Prelude.{◌≡◌, ℕ, ◌+◌, ◌≤◌, List, length, true, Some, None}
+use Rattle.std.specs.List.{list_all}
+use Rattle.ix_model.specs.opening.Valid.{is_within}
+use Rattle.ix_script.specs.lines.Said.{payload_within, line_of}
+use Rattle.ix_script.specs.lines.Faults.{line_fault}
+use Rattle.ix_script.specs.scripts.Scripts.{script_of}
+use Rattle.ix_script.specs.texts.Spellings.{payload_text}
+use Rattle.ix_script.specs.scripts.Canonical.{line_text, canonical}
+use Rattle.ix_script.specs.declared.line.Line.{Line}
+
+-- where the canonical text of a script that was read isn't too long, reading it gives that script
+abbrev pub ReadsBack : Type 0
+ReadsBack = (bytes : List ℕ) (lines : List Line) → script_of bytes ≡ Some lines → length (canonical lines) ≤ 16777216 → script_of (canonical lines) ≡ Some lines
+
+-- it has at most one byte more than what was read
+abbrev pub OneByteMore : Type 0
+OneByteMore = (bytes : List ℕ) (lines : List Line) → script_of bytes ≡ Some lines → length (canonical lines) ≤ length bytes + 1
+
+-- the text of a line that was read says that line, has no fault where the line had none, and is no longer
+abbrev pub LineStays : Type 0
+LineStays =
+    (before : List Line) (text : List ℕ) (l : Line) → line_of text ≡ Some l → line_fault before text ≡ None
+    → (line_of (line_text l) ≡ Some l) × (line_fault before (line_text l) ≡ None) × (length (line_text l) ≤ length text)
+
+-- no word of a script that spells a payload is shorter than the payload's shortest spelling
+abbrev pub NoShorterPayload : Type 0
+NoShorterPayload = (word bytes : List ℕ) → list_all (is_within 32 126) word ≡ true → payload_within 1048576 word ≡ Some bytes → length (payload_text bytes) ≤ length word

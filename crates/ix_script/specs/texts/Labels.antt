@@ -1,0 +1,18 @@
+-- The label that a word spells.
+use Rattle.std.specs.Prelude.{ℕ, zero, suc, Bool, List, [], ◌∷◌, ◌++◌, map, find, Option}
+use Rattle.ix_label.specs.Category.{Categories, bottom, with}
+use Rattle.ix_label.specs.Spelling.{spelling}
+use Rattle.ix_model.specs.world.Naming.{same_bytes}
+
+-- every label of categories below n
+unfoldable pub labels_below : ℕ → List Categories
+labels_below zero = bottom ∷ []
+labels_below (suc n) = labels_below n ++ map (λ l. with l n) (labels_below n)
+
+-- whether the label has that spelling
+abbrev pub is_spelled : List ℕ → Categories → Bool
+is_spelled word l = same_bytes (spelling l) word
+
+-- among all labels, the one of that spelling; it is said so, and never searched
+unfoldable pub label_of : List ℕ → Option Categories
+label_of word = find (is_spelled word) (labels_below 256)

@@ -1,0 +1,161 @@
+-- The words of a script: names, numbers, sets of privileges, paths, modes, states and descriptors.
+use Rattle.std.specs.Prelude.{ℕ, ◌+◌, ◌*◌, ◌-◌, ◌==◌, nat_le, Bool, true, false, not, ◌&&◌, ◌||◌, List, [], ◌∷◌, length, drop, Option, Some, None, if◌then◌else◌, codes}
+use Rattle.std.specs.List.{list_all}
+use Rattle.std.proofs.Common.{option_map}
+use Rattle.ix_model.specs.world.Naming.{PathOf, is_name, same_bytes}
+use Rattle.ix_model.specs.opening.Valid.{is_within}
+use Rattle.ix_model.specs.declared.call.Mode.{Mode}
+use Rattle.ix_model.specs.declared.call.Mode.TheVariants as mode
+use Rattle.ix_model.specs.declared.privs.PrivSet.{PrivSet}
+use Rattle.ix_script.specs.texts.Lines.{with_front}
+use Rattle.ix_script.specs.texts.Cutting.{begins, is_empty}
+use Rattle.ix_script.specs.declared.line.What.{What}
+use Rattle.ix_script.specs.declared.line.What.TheVariants as what
+use Rattle.ix_script.specs.declared.line.FdWord.{FdWord}
+use Rattle.ix_script.specs.declared.line.FdWord.TheVariants as fd
+use Rattle.ix_script.specs.declared.line.KeepWord.{KeepWord}
+use Rattle.ix_script.specs.declared.line.KeepWord.TheVariants as keep
+
+-- ---- names
+-- a small letter
+abbrev pub is_letter : ℕ → Bool
+is_letter b = is_within 97 122 b
+
+-- a decimal digit
+abbrev pub is_digit : ℕ → Bool
+is_digit b = is_within 48 57 b
+
+-- a small letter, a digit or `_`
+abbrev pub may_stand_in_script_name : ℕ → Bool
+may_stand_in_script_name b = is_letter b || is_digit b || b == 95
+
+-- whether the first byte passes the test
+abbrev pub begins_with : (ℕ → Bool) → List ℕ → Bool
+begins_with test [] = false
+begins_with test (b ∷ word) = test b
+
+-- words with another meaning in a name's place
+abbrev pub is_reserved : List ℕ → Bool
+is_reserved word = same_bytes word (codes "all") || same_bytes word (codes "none") || same_bytes word (codes "as")
+
+-- a small letter, then at most 15 small letters, digits or `_`
+unfoldable pub is_script_name : List ℕ → Bool
+is_script_name word = begins_with is_letter word && nat_le (length word) 16 && list_all may_stand_in_script_name word && not (is_reserved word)
+
+-- the name of a file system, a process, a lane or a descriptor
+unfoldable pub name_of : List ℕ → Option (List ℕ)
+name_of word = if is_script_name word then Some word else None
+
+-- ---- numbers
+-- the number of these digits after the digits of n
+abbrev pub value_from : ℕ → List ℕ → ℕ
+value_from n [] = n
+value_from n (digit ∷ digits) = value_from (n * 10 + (digit - 48)) digits
+
+-- the number of these digits
+unfoldable pub value : List ℕ → ℕ
+value word = value_from 0 word
+
+-- decimal digits, of which the first isn't 0 unless it is the only one
+unfoldable pub is_numeral : List ℕ → Bool
+is_numeral word = begins_with is_digit word && list_all is_digit word && (length word == 1 || not (begins 48 word))
+
+-- a decimal number within bounds
+unfoldable pub number_of : ℕ → ℕ → List ℕ → Option ℕ
+number_of low high word = if is_numeral word && is_within low high (value word) then Some (value word) else None
+
+-- ---- sets of privileges
+-- these bits and those of a word's letters, each of which stands at most once, and in this order
+abbrev pub bits_from : ℕ → List (ℕ × ℕ) → List ℕ → Option ℕ
+bits_from bits [] word = if is_empty word then Some bits else None
+bits_from bits ((letter, bit) ∷ letters) word = if begins letter word then bits_from (bits + bit) letters (drop 1 word) else bits_from bits letters word
+
+-- D, P, C, T, L
+abbrev pub letters : List (ℕ × ℕ)
+letters = (68, 1) ∷ (80, 2) ∷ (67, 4) ∷ (84, 8) ∷ (76, 16) ∷ []
+
+-- a set without privileges is `-`, another is its letters
+unfoldable pub privs_of : List ℕ → Option PrivSet
+privs_of word =
+    if same_bytes word (codes "-") then Some (record { 0 = 0 })
+    else if is_empty word then None
+    else option_map (λ bits. record { 0 = bits }) (bits_from 0 letters word)
+
+-- ---- paths
+-- printable and no space, quote or backslash
+abbrev pub may_stand_in_path : ℕ → Bool
+may_stand_in_path b = is_within 33 126 b && not (b == 34) && not (b == 92)
+
+-- what stands between slashes
+unfoldable pub between_slashes : List ℕ → List (List ℕ)
+between_slashes [] = [] ∷ []
+between_slashes (b ∷ text) = if b == 47 then [] ∷ between_slashes text else with_front b (between_slashes text)
+
+-- 1 to 16 names joined by slashes
+unfoldable pub names_of : List ℕ → Option (List (List ℕ))
+names_of text = if list_all is_name (between_slashes text) && nat_le (length (between_slashes text)) 16 then Some (between_slashes text) else None
+
+abbrev pub path_from : Bool → List (List ℕ) → PathOf
+path_from absolute names = record { absolute = absolute; names = names }
+
+-- a path that begins with a slash, and one that doesn't
+abbrev pub absolute_path : List ℕ → Option PathOf
+absolute_path text = if is_empty text then Some (path_from true []) else option_map (path_from true) (names_of text)
+
+abbrev pub relative_path : List ℕ → Option PathOf
+relative_path text = option_map (path_from false) (names_of text)
+
+-- `/`, or names joined by slashes, with or without one slash before them
+unfoldable pub path_of : List ℕ → Option PathOf
+path_of word =
+    if not (list_all may_stand_in_path word) then None
+    else if begins 47 word then absolute_path (drop 1 word)
+    else relative_path word
+
+-- an absolute path with a name
+unfoldable pub made_path_of : List ℕ → Option PathOf
+made_path_of word = if begins 47 word && not (is_empty (drop 1 word)) then path_of word else None
+
+-- ---- words of a few spellings
+-- `r`, `w` or `rw`
+unfoldable pub mode_of : List ℕ → Option Mode
+mode_of word =
+    if same_bytes word (codes "r") then Some mode.Read
+    else if same_bytes word (codes "w") then Some mode.Write
+    else if same_bytes word (codes "rw") then Some mode.Both
+    else None
+
+-- whether a state is frozen
+unfoldable pub state_of : List ℕ → Option Bool
+state_of word =
+    if same_bytes word (codes "free") then Some false
+    else if same_bytes word (codes "frozen") then Some true
+    else None
+
+-- what a `limit` line limits
+unfoldable pub what_of : List ℕ → Option What
+what_of word =
+    if same_bytes word (codes "procs") then Some what.Procs
+    else if same_bytes word (codes "opens") then Some what.Opens
+    else if same_bytes word (codes "pipes") then Some what.Pipes
+    else if same_bytes word (codes "names") then Some what.Names
+    else if same_bytes word (codes "log") then Some what.Log
+    else None
+
+-- ---- descriptors
+abbrev pub numbered : List ℕ → Option FdWord
+numbered word = option_map (λ n. fd.Number n) (number_of 0 255 word)
+
+abbrev pub named : List ℕ → Option FdWord
+named word = option_map (λ name. fd.Named name) (name_of word)
+
+-- a word that begins with a digit is a number up to 255, any other is a name
+unfoldable pub fd_of : List ℕ → Option FdWord
+fd_of word = if begins_with is_digit word then numbered word else named word
+
+-- all descriptors, none, or one
+unfoldable pub keep_of : List ℕ → Option KeepWord
+keep_of word =
+    if same_bytes word (codes "all") then Some keep.All
+    else if same_bytes word (codes "none") then Some keep.Nothing
+    else option_map (λ one. keep.One one) (fd_of word)

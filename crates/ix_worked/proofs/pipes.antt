@@ -1,0 +1,3 @@
+pub mod Piped
+pub mod Claimed
+pub mod Copied

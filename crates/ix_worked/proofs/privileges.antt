@@ -1,0 +1,5 @@
+pub mod Lowered
+pub mod LogRead
+pub mod Executed
+pub mod Trusting
+pub mod LoggedIn

@@ -1,0 +1,4 @@
+pub mod Inherited
+pub mod Waited
+pub mod HeldLow
+pub mod ReadFar

@@ -1,0 +1,3 @@
+pub mod SharedEntry
+pub mod FewBlocks
+pub mod Trees

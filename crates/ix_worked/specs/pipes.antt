@@ -1,0 +1,3 @@
+pub mod FullPipe
+pub mod Claims
+pub mod Copying

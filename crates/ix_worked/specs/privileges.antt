@@ -1,0 +1,5 @@
+pub mod Downgrading
+pub mod ReadingTheLog
+pub mod Executing
+pub mod TrustedFile
+pub mod Login

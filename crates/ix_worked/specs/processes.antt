@@ -1,0 +1,4 @@
+pub mod Inheriting
+pub mod Waiting
+pub mod WaitingLow
+pub mod SharedOffset
