@@ -9,10 +9,10 @@ ghost use Rattle.ix_script.specs.lines.Before.{fss_of, objects_of, lanes_of, is_
 ghost use Rattle.ix_script.specs.lines.Rules.{is_above, object_misfits, misfits, object_crowds, crowds, is_out_of_order, is_one_too_many, lacks_policy};
 ghost use Rattle.ix_script.specs.reader.Told.{DraftTold};
 
-use crate::body::is_command;
-use crate::draft::Draft;
-use crate::fss::{blocks_for, fs_of, is_mount};
-use crate::known::is_known;
+use crate::before::body::is_command;
+use crate::before::draft::Draft;
+use crate::before::fss::{blocks_for, fs_of, is_mount};
+use crate::before::known::is_known;
 use crate::line::Line;
 use ix_label::{Label, Steps};
 use ix_model::{FsSpec, Path};

@@ -4,7 +4,7 @@ ghost use Rattle.ix_script.specs.scripts.Held.{IsPlan};
 ghost use Rattle.ix_script.specs.scripts.Scripts.{config_of};
 ghost use Rattle.ix_script.specs.declared.line.Line.{Line};
 
-use crate::header::{default_fs, default_limits, limits_after};
+use crate::before::header::{default_fs, default_limits, limits_after};
 use crate::line::Line;
 use crate::rules::kept;
 use bitflags::Flags;

@@ -7,7 +7,7 @@ ghost use Rattle.ix_script.specs.reader.Readers.{HasCause};
 ghost use Rattle.ix_script.specs.scripts.Scripts.{lines_said, script_of, config_of};
 ghost use Rattle.ix_script.specs.reader.Told.{DraftTold};
 
-use crate::draft::Draft;
+use crate::before::draft::Draft;
 use crate::fail::{ReadFail, ScriptFault};
 use crate::refused::Refused;
 use crate::script::Script;

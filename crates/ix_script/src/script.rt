@@ -6,7 +6,7 @@ ghost use Rattle.ix_script.specs.lines.Before.{lanes_of, commands, is_policy};
 ghost use Rattle.ix_script.specs.scripts.Scripts.{config_of, policy_told, policy_of};
 ghost use Rattle.ix_script.specs.reader.Told.{DraftTold};
 
-use crate::draft::Draft;
+use crate::before::draft::Draft;
 use crate::line::Line;
 use crate::plan::config;
 use ix_model::{Config, List, Name, NoMemory};

@@ -4,7 +4,7 @@ use Rattle.ix_script.specs.lines.Faults.{fault_of}
 use Rattle.ix_script.specs.texts.Lines.{lines_of}
 use Rattle.ix_script.specs.scripts.Scripts.{script_of, lines_said}
 use Rattle.ix_script.specs.declared.line.Line.{Line}
-use Rattle.ix_host.specs.declared.command.Command.{Command}
+use Rattle.ix_host.specs.declared.asked.command.Command.{Command}
 use Rattle.ix_host.specs.declared.status.Status.{Status}
 use Rattle.ix_host.specs.serial.Built.{unbuilt_line}
 use Rattle.ix_host.specs.run.Outcome.{Outcome, outcome_for, outcome_of, text_for}

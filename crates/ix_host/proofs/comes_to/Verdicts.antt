@@ -4,7 +4,7 @@ use Rattle.std.specs.Prelude.{IfSome}
 use Rattle.std.proofs.lemmas.List.{drop_all}
 use Rattle.std.proofs.lemmas.Bool.{lt-ltb}
 use Rattle.ix_io.specs.Streams.{Rose}
-use Rattle.ix_host.specs.declared.command.Command.{Command}
+use Rattle.ix_host.specs.declared.asked.command.Command.{Command}
 use Rattle.ix_host.specs.declared.status.Status.{Status}
 use Rattle.ix_host.specs.declared.status.Status.TheVariants as status
 use Rattle.ix_host.specs.command.Command.{usage_line}

@@ -11,8 +11,8 @@ use Rattle.ix_script.specs.lines.Before.{lanes_of}
 use Rattle.ix_report.specs.LineText.{head_line, audit_line, tail_line}
 use Rattle.ix_host.specs.report.Report.{entries_text, entry_text, object_text, process_text, texts_from, objects_text, processes_text, closing_text}
 use Rattle.ix_host.specs.report.Telling.{IsTold, Tells, left_of, entries_left, objects_left, processes_left, log_left, last_world, pieces_of}
-use Rattle.ix_host.specs.declared.report.Next.TheVariants as stage
-use Rattle.ix_host.specs.declared.report.Report.{Report}
+use Rattle.ix_host.specs.declared.telling.report.Next.TheVariants as stage
+use Rattle.ix_host.specs.declared.telling.report.Report.{Report}
 use Rattle.ix_host.proofs.serially.Indexed.{rest_is}
 
 -- one text more was written of those that are left

@@ -15,7 +15,7 @@ use Rattle.ix_script.specs.declared.line.Line.{Line}
 use Rattle.ix_script.specs.declared.line.Line.TheVariants as line
 use Rattle.ix_script.specs.lines.Before.{fs_told, fss_told, fss_of, or_default, limits_of, proc_told, procs_of, object_told, objects_of}
 use Rattle.ix_script.specs.scripts.Scripts.{config_of}
-use Rattle.ix_host.specs.declared.command.Command.TheVariants as command
+use Rattle.ix_host.specs.declared.asked.command.Command.TheVariants as command
 use Rattle.ix_host.specs.serial.Built.{is_fs, is_unbuilt_run, unbuilt_from, unbuilt_line}
 use Rattle.ix_host.proofs.serially.Going.{all_built, all_are_built, both_true}
 

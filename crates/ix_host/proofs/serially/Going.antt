@@ -9,8 +9,8 @@ use Rattle.ix_model.proofs.words.Runs.{world_of-push}
 use Rattle.ix_script.specs.declared.line.Line.{Line}
 use Rattle.ix_script.specs.declared.line.Line.TheVariants as line
 use Rattle.ix_script.specs.lines.Before.{commands, is_command, lanes_of}
-use Rattle.ix_host.specs.declared.command.Command.TheVariants as command
-use Rattle.ix_host.specs.declared.names.Names.{Names}
+use Rattle.ix_host.specs.declared.asked.command.Command.TheVariants as command
+use Rattle.ix_host.specs.declared.running.names.Names.{Names}
 use Rattle.ix_host.specs.serial.Asked.{Asked, Numbers, asked}
 use Rattle.ix_host.specs.serial.Built.{is_fs, is_unbuilt_run, unbuilt_from, unbuilt_line}
 use Rattle.ix_host.specs.serial.Running.{RunsLine}

@@ -11,7 +11,7 @@ use Rattle.ix_model.specs.declared.reply.Reply.{Reply}
 use Rattle.ix_script.specs.lines.Before.{lanes_of}
 use Rattle.ix_script.specs.declared.line.Line.{Line}
 use Rattle.ix_script.specs.declared.line.Line.TheVariants as line
-use Rattle.ix_host.specs.declared.names.Names.{Names}
+use Rattle.ix_host.specs.declared.running.names.Names.{Names}
 use Rattle.ix_host.specs.serial.Asked.{Asked, Numbers, asked, named, no_names}
 use Rattle.ix_host.specs.serial.Serial.{entry_of, entry_at, header_of, names_of, renamed, seat_after, seat_from, serial_from}
 use Rattle.ix_host.specs.serial.Lanes.{Numbered, calls_from, entries_of, lines_of_seat, replies_from, with_entry_first}

@@ -8,7 +8,7 @@ use Rattle.ix_model.specs.history.Events.{Event}
 use Rattle.ix_model.specs.declared.reply.Reply.{Reply}
 use Rattle.ix_script.specs.lines.Before.{lanes_of}
 use Rattle.ix_script.specs.declared.line.Line.{Line}
-use Rattle.ix_host.specs.declared.names.Names.{Names}
+use Rattle.ix_host.specs.declared.running.names.Names.{Names}
 use Rattle.ix_host.specs.serial.Asked.{Asked, Numbers, asked, named}
 use Rattle.ix_host.specs.serial.Serial.{entry_of, header_of, names_of, renamed, seat_after}
 use Rattle.ix_host.specs.serial.Lanes.{Calls, Numbered, calls_from, entries_of, lines_of_seat, never_falls, replies_from, with_entry_first}

@@ -1,7 +1,7 @@
 -- The lines of a script, one after the other.
 use Rattle.std.proofs.Common.{◌≡◌, ℕ, suc, ◌+◌, ◌||◌, Bool, true, false, List, drop, Option, Some, ap, ◌∙◌, slice_get, add-one}
 use Rattle.ix_script.specs.declared.line.Line.{Line}
-use Rattle.ix_host.specs.declared.command.Command.{Command}
+use Rattle.ix_host.specs.declared.asked.command.Command.{Command}
 use Rattle.ix_host.specs.serial.Built.{is_fs, is_unbuilt, unbuilt_from}
 use Rattle.ix_host.proofs.serially.Indexed.{rest_is}
 

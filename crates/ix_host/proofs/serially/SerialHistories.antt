@@ -10,7 +10,7 @@ use Rattle.ix_model.specs.history.Events.{Event}
 use Rattle.ix_script.specs.lines.Before.{lanes_of}
 use Rattle.ix_script.specs.scripts.Scripts.{config_of}
 use Rattle.ix_script.specs.declared.line.Line.{Line}
-use Rattle.ix_host.specs.declared.names.Names.{Names}
+use Rattle.ix_host.specs.declared.running.names.Names.{Names}
 use Rattle.ix_host.specs.serial.Asked.{Asked, asked, no_names}
 use Rattle.ix_host.specs.serial.Serial.{entry_of, first_names, header_of, names_of, renamed, seat_after, serial, serial_from}
 use Rattle.ix_host.specs.serial.Lanes.{Calls, IsSerial, calls_from, calls_of, entries_of, lines_of_seat, replies_from, replies_of}

@@ -15,7 +15,7 @@ use Rattle.clap.specs.Kinds.{or_else}
 use Rattle.clap.specs.Faults.{bundle_fault, bundle_step_fault, check_fault, defaults_fault, entered_fault, fault_of, flag_word_fault, flags_fault, settle_fault, step_fault, walk_fault, word_fault}
 use Rattle.clap.specs.Lexer.{long_of, short_of}
 use Rattle.clap.proofs.OnLiterals.{clap_on_literals}
-use Rattle.ix_host.specs.declared.command.Command.{Command}
+use Rattle.ix_host.specs.declared.asked.command.Command.{Command}
 use Rattle.ix_host.specs.command.Command.{command_of, left_out, named_command, only_command}
 use Rattle.ix_host.specs.command.CommandLine.{command_line, read_alone}
 

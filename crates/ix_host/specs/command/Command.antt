@@ -1,8 +1,8 @@
 -- The command words of the programs.
 use Rattle.std.specs.Prelude.{ℕ, List, [], ◌∷◌, Option, Some, None, if◌then◌else◌, codes}
 use Rattle.ix_model.specs.world.Naming.{same_bytes}
-use Rattle.ix_host.specs.declared.command.Command.{Command}
-use Rattle.ix_host.specs.declared.command.Command.TheVariants as command
+use Rattle.ix_host.specs.declared.asked.command.Command.{Command}
+use Rattle.ix_host.specs.declared.asked.command.Command.TheVariants as command
 
 -- the words without the first `--`
 abbrev pub left_out : List (List ℕ) → List (List ℕ)

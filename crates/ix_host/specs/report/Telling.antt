@@ -7,9 +7,9 @@ use Rattle.ix_model.specs.history.History.{world_of}
 use Rattle.ix_script.specs.lines.Before.{lanes_of}
 use Rattle.ix_report.specs.LineText.{head_line, audit_line, tail_line}
 use Rattle.ix_host.specs.report.Report.{entries_text, object_text, process_text, texts_from, closing_text}
-use Rattle.ix_host.specs.declared.report.Next.{Next}
-use Rattle.ix_host.specs.declared.report.Next.TheVariants as next
-use Rattle.ix_host.specs.declared.report.Report.{Report}
+use Rattle.ix_host.specs.declared.telling.report.Next.{Next}
+use Rattle.ix_host.specs.declared.telling.report.Next.TheVariants as next
+use Rattle.ix_host.specs.declared.telling.report.Report.{Report}
 
 -- the world that a report closes with
 abbrev pub last_world : Report → World

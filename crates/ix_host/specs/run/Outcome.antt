@@ -4,8 +4,8 @@ use Rattle.ix_script.specs.scripts.Canonical.{canonical}
 use Rattle.ix_script.specs.lines.Faults.{fault_of}
 use Rattle.ix_script.specs.scripts.Scripts.{script_of}
 use Rattle.ix_script.specs.declared.line.Line.{Line}
-use Rattle.ix_host.specs.declared.command.Command.{Command}
-use Rattle.ix_host.specs.declared.command.Command.TheVariants as command
+use Rattle.ix_host.specs.declared.asked.command.Command.{Command}
+use Rattle.ix_host.specs.declared.asked.command.Command.TheVariants as command
 use Rattle.ix_host.specs.serial.Built.{unbuilt_line}
 use Rattle.ix_host.specs.report.Report.{report_of}
 use Rattle.ix_host.specs.report.Rules.{refusal_line}

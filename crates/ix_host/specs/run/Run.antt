@@ -7,7 +7,7 @@ use Rattle.ix_host.specs.run.Outcome.{Outcome, outcome_of, text_of}
 use Rattle.ix_host.specs.run.Outcome as outcome
 use Rattle.ix_host.specs.report.Rules.{refusal_line}
 use Rattle.ix_host.specs.run.Whole.{script_max, WritesFront}
-use Rattle.ix_host.specs.declared.command.Command.{Command}
+use Rattle.ix_host.specs.declared.asked.command.Command.{Command}
 use Rattle.ix_host.specs.declared.status.Status.{Status}
 use Rattle.ix_host.specs.declared.status.Status.TheVariants as status
 

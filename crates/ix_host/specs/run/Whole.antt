@@ -1,9 +1,9 @@
 -- What reading all of an input and writing all of a text give.
 use Rattle.std.specs.Prelude.{◌≡◌, ℕ, ◌+◌, ◌<◌, ◌≤◌, List, [], ◌++◌, length, take, drop, Option, Some, Result, Ok, Err}
-use Rattle.ix_host.specs.declared.stream.Input.{Input}
-use Rattle.ix_host.specs.declared.stream.Input.TheVariants as input
-use Rattle.ix_host.specs.declared.stream.Piece.{Piece}
-use Rattle.ix_host.specs.declared.stream.Piece.TheVariants as piece
+use Rattle.ix_host.specs.declared.streams.stream.Input.{Input}
+use Rattle.ix_host.specs.declared.streams.stream.Input.TheVariants as input
+use Rattle.ix_host.specs.declared.streams.stream.Piece.{Piece}
+use Rattle.ix_host.specs.declared.streams.stream.Piece.TheVariants as piece
 
 -- the most bytes that a script may have
 abbrev pub script_max : ℕ

@@ -15,7 +15,7 @@ use Rattle.ix_script.specs.declared.line.FdWord.{FdWord}
 use Rattle.ix_script.specs.declared.line.FdWord.TheVariants as fd_word
 use Rattle.ix_script.specs.declared.line.KeepWord.{KeepWord}
 use Rattle.ix_script.specs.declared.line.KeepWord.TheVariants as keep_word
-use Rattle.ix_host.specs.declared.names.Names.{Names}
+use Rattle.ix_host.specs.declared.running.names.Names.{Names}
 
 -- ---- names
 -- names, each with the number that it stands for: of two that are equal the later counts

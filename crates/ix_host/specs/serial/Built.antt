@@ -3,8 +3,8 @@ use Rattle.std.specs.Prelude.{ℕ, suc, nat_le, Bool, true, false, not, ◌||◌
 use Rattle.ix_model.specs.world.Privs.{is_empty}
 use Rattle.ix_script.specs.declared.line.Line.{Line}
 use Rattle.ix_script.specs.declared.line.Line.TheVariants as line
-use Rattle.ix_host.specs.declared.command.Command.{Command}
-use Rattle.ix_host.specs.declared.command.Command.TheVariants as command
+use Rattle.ix_host.specs.declared.asked.command.Command.{Command}
+use Rattle.ix_host.specs.declared.asked.command.Command.TheVariants as command
 
 -- whether a line tells a file system
 abbrev pub is_fs : Line → Bool

@@ -10,7 +10,7 @@ use Rattle.ix_model.specs.declared.reply.Reply.{Reply}
 use Rattle.ix_script.specs.lines.Before.{lanes_of}
 use Rattle.ix_script.specs.scripts.Scripts.{config_of}
 use Rattle.ix_script.specs.declared.line.Line.{Line}
-use Rattle.ix_host.specs.declared.names.Names.{Names}
+use Rattle.ix_host.specs.declared.running.names.Names.{Names}
 use Rattle.ix_host.specs.serial.Asked.{Numbers, asked, named, no_names}
 use Rattle.ix_host.specs.serial.Serial.{entry_of, header_of, seat_after}
 

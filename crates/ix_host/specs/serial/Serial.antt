@@ -12,7 +12,7 @@ use Rattle.ix_script.specs.lines.Before.{lanes_of, proc_names}
 use Rattle.ix_script.specs.scripts.Scripts.{config_of}
 use Rattle.ix_script.specs.declared.line.Line.{Line}
 use Rattle.ix_script.specs.declared.line.Line.TheVariants as line
-use Rattle.ix_host.specs.declared.names.Names.{Names}
+use Rattle.ix_host.specs.declared.running.names.Names.{Names}
 use Rattle.ix_host.specs.serial.Asked.{Asked, Numbers, asked, named, no_names}
 
 -- ---- a script's processes and lanes

@@ -19,9 +19,9 @@ use Rattle.ix_script.specs.lines.Faults.{text_fault, words_fault, stand_fault, n
 use Rattle.ix_script.specs.texts.Spellings.{further, joined, payload_text}
 use Rattle.ix_script.specs.scripts.Canonical.{line_words, line_text}
 use Rattle.ix_script.specs.declared.line.Line.{Line}
-use Rattle.ix_script.specs.declared.form.Form.{Form}
-use Rattle.ix_script.specs.declared.form.Form.TheVariants as form
-use Rattle.ix_script.specs.declared.spot.Spot.TheVariants as spot
+use Rattle.ix_script.specs.declared.cutting.form.Form.{Form}
+use Rattle.ix_script.specs.declared.cutting.form.Form.TheVariants as form
+use Rattle.ix_script.specs.declared.cutting.spot.Spot.TheVariants as spot
 use Rattle.ix_script.proofs.texts.Names.{both as both_true, join_tests}
 use Rattle.ix_script.proofs.reader.Told.{bound, neither, neither_from}
 use Rattle.ix_script.proofs.lines.FirstWords.{form_word}

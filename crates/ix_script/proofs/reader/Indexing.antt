@@ -12,9 +12,9 @@ use Rattle.std.proofs.lemmas.Map.Text.{is_eq-slice_cmp}
 use Rattle.ix_model.specs.world.Naming.{same_bytes, same_names}
 use Rattle.ix_script.specs.reader.Indexed.{place_cmp, is_place, AreIndexed, names_cmp, site_cmp, is_site, AreSites}
 use Rattle.ix_script.specs.reader.Told.{made_there, made_dir_there}
-use Rattle.ix_script.specs.declared.given.Place.{Place}
-use Rattle.ix_script.specs.declared.tree.Made.{Made}
-use Rattle.ix_script.specs.declared.tree.Site.{Site}
+use Rattle.ix_script.specs.declared.before.given.Place.{Place}
+use Rattle.ix_script.specs.declared.before.tree.Made.{Made}
+use Rattle.ix_script.specs.declared.before.tree.Site.{Site}
 use Rattle.ix_script.proofs.reader.Pushed.{any_push}
 
 -- equal in their order means one name

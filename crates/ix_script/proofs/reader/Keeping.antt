@@ -12,8 +12,8 @@ use Rattle.ix_model.specs.declared.config.Limits.{Limits}
 use Rattle.ix_model.specs.declared.config.ObjSpec.{ObjSpec}
 use Rattle.ix_script.specs.lines.Before.{fs_told, or_default, fss_told, fss_of, what_told, limits_after, limits_of, proc_name_told, object_told, objects_of, is_policy, group}
 use Rattle.ix_script.specs.reader.Told.{made_of, HeaderTold, TakenOne, Takes, fss_after}
-use Rattle.ix_script.specs.declared.header.Header.{Header}
-use Rattle.ix_script.specs.declared.taken.Taken.{Taken}
+use Rattle.ix_script.specs.declared.before.header.Header.{Header}
+use Rattle.ix_script.specs.declared.before.taken.Taken.{Taken}
 use Rattle.ix_script.specs.declared.line.Line.{Line}
 use Rattle.ix_script.specs.declared.line.Line.TheVariants as line
 use Rattle.ix_script.proofs.texts.Names.{both}

@@ -6,7 +6,7 @@ use Rattle.ix_model.specs.opening.Valid.{is_mount}
 use Rattle.ix_model.specs.declared.config.FsSpec.{FsSpec}
 use Rattle.ix_model.specs.declared.config.ObjSpec.{ObjSpec}
 use Rattle.ix_script.specs.reader.Told.{made_of, made_there, made_dir_there}
-use Rattle.ix_script.specs.declared.tree.Made.{Made}
+use Rattle.ix_script.specs.declared.before.tree.Made.{Made}
 use Rattle.ix_script.proofs.reader.Verdicts.{any_map}
 
 pub made_is : (os : List ObjSpec) (names : List (List ℕ)) → made_there (map made_of os) names ≡ list_any (λ o. same_names o.path.names names) os

@@ -9,7 +9,7 @@ use Rattle.ix_script.specs.lines.Faults.{line_fault, fault_from}
 use Rattle.ix_script.specs.scripts.Scripts.{lines_said, config_of}
 use Rattle.ix_script.specs.reader.Readers.{LineRight}
 use Rattle.ix_script.specs.reader.Told.{DraftTold}
-use Rattle.ix_script.specs.declared.draft.Draft.{Draft}
+use Rattle.ix_script.specs.declared.before.draft.Draft.{Draft}
 use Rattle.ix_script.specs.declared.line.Line.{Line}
 use Rattle.ix_script.proofs.reader.Counting.{no_commands, commands_stay_few}
 use Rattle.ix_script.proofs.reader.Staying.{valid_next}

@@ -9,8 +9,8 @@ use Rattle.ix_script.specs.texts.Words.{between_slashes}
 use Rattle.std.proofs.lemmas.Bool.{eq-eqb, ne_eqb}
 use Rattle.std.proofs.lemmas.List.{drop_all}
 use Rattle.ix_script.specs.texts.Cutting.{pieces, parts_words, after_byte, closes, is_closed, is_empty}
-use Rattle.ix_script.specs.declared.spot.Spot.{Spot}
-use Rattle.ix_script.specs.declared.spot.Spot.TheVariants as spot
+use Rattle.ix_script.specs.declared.cutting.spot.Spot.{Spot}
+use Rattle.ix_script.specs.declared.cutting.spot.Spot.TheVariants as spot
 
 -- ---- slashes
 abbrev slash : ℕ → Bool

@@ -5,7 +5,7 @@ use Rattle.std.proofs.lemmas.List.{append-nil, drop_all}
 use Rattle.ix_script.specs.texts.Cutting.{is_empty}
 use Rattle.ix_script.specs.texts.Payloads.{◌>>=◌, pair_of, pairs_of, after_bytes, bytes_of, escape_step, ends, quoted_from}
 use Rattle.ix_script.specs.texts.Spelled.{spelling_fault}
-use Rattle.ix_script.specs.declared.escape.Escape.{Escape}
+use Rattle.ix_script.specs.declared.values.escape.Escape.{Escape}
 use Rattle.ix_script.proofs.texts.Pieces.{last_place}
 
 -- what isn't well formed breaks that rule, however much may stand

@@ -6,9 +6,9 @@ use Rattle.std.specs.List.{list_any}
 use Rattle.std.specs.Ordering.{bool_cmp, nat_cmp, ordering_then}
 use Rattle.std.specs.declared.cmp.Ordering.{Ordering}
 use Rattle.ix_model.specs.world.Naming.{same_bytes, same_names}
-use Rattle.ix_script.specs.declared.given.Place.{Place}
-use Rattle.ix_script.specs.declared.tree.Made.{Made}
-use Rattle.ix_script.specs.declared.tree.Site.{Site}
+use Rattle.ix_script.specs.declared.before.given.Place.{Place}
+use Rattle.ix_script.specs.declared.before.tree.Made.{Made}
+use Rattle.ix_script.specs.declared.before.tree.Site.{Site}
 
 -- by the lane, and then by the name
 abbrev pub place_cmp : Place → Place → Ordering

@@ -8,11 +8,11 @@ use Rattle.ix_model.specs.declared.config.FsSpec.{FsSpec}
 use Rattle.ix_model.specs.declared.config.ObjSpec.{ObjSpec}
 use Rattle.ix_script.specs.lines.Before.{fss_told, fss_of, limits_of, whats_told, proc_names, objects_of, group, has_policy, in_body, lane_now, phase_lanes, lanes_of, fds_given, procs_given, commands}
 use Rattle.ix_script.specs.declared.line.Line.{Line}
-use Rattle.ix_script.specs.declared.body.Body.{Body}
-use Rattle.ix_script.specs.declared.draft.Draft.{Draft}
-use Rattle.ix_script.specs.declared.header.Header.{Header}
-use Rattle.ix_script.specs.declared.taken.Taken.{Taken}
-use Rattle.ix_script.specs.declared.tree.Made.{Made}
+use Rattle.ix_script.specs.declared.before.body.Body.{Body}
+use Rattle.ix_script.specs.declared.before.draft.Draft.{Draft}
+use Rattle.ix_script.specs.declared.before.header.Header.{Header}
+use Rattle.ix_script.specs.declared.before.taken.Taken.{Taken}
+use Rattle.ix_script.specs.declared.before.tree.Made.{Made}
 
 -- what is kept of an object
 abbrev pub made_of : ObjSpec → Made

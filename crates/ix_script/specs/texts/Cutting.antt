@@ -3,8 +3,8 @@ use Rattle.std.specs.Prelude.{ℕ, ◌==◌, Bool, true, false, not, ◌&&◌, �
 use Rattle.std.specs.List.{slice_index_or}
 use Rattle.ix_model.specs.world.Naming.{same_bytes}
 use Rattle.ix_script.specs.texts.Lines.{with_front}
-use Rattle.ix_script.specs.declared.spot.Spot.{Spot}
-use Rattle.ix_script.specs.declared.spot.Spot.TheVariants as spot
+use Rattle.ix_script.specs.declared.cutting.spot.Spot.{Spot}
+use Rattle.ix_script.specs.declared.cutting.spot.Spot.TheVariants as spot
 
 -- whether there is none
 abbrev pub is_empty : {A : Type 0} → List A → Bool

@@ -1,8 +1,8 @@
 -- The text of a payload in each of its forms.
 use Rattle.std.specs.Prelude.{ℕ, List, length}
 use Rattle.ix_script.specs.texts.Spellings.{pairs_text, times_text, quoted_text}
-use Rattle.ix_script.specs.declared.payload_form.PayloadForm.{PayloadForm}
-use Rattle.ix_script.specs.declared.payload_form.PayloadForm.TheVariants as payload_form
+use Rattle.ix_script.specs.declared.values.payload_form.PayloadForm.{PayloadForm}
+use Rattle.ix_script.specs.declared.values.payload_form.PayloadForm.TheVariants as payload_form
 
 abbrev pub text_in : PayloadForm → List ℕ → List ℕ
 text_in payload_form.Pairs bytes = pairs_text bytes

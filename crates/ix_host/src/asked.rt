@@ -1,0 +1,5 @@
+//! The command words.
+
+pub mod command;
+pub mod command_line;
+pub mod words;

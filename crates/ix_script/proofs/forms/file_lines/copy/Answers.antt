@@ -1,0 +1,19 @@
+use Rattle.std.proofs.Common.{[], ◌∷◌}
+use Rattle.std.proofs.lemmas.Result.{err_from_is_err_and}
+use Rattle.ix_script.specs.texts.Cutting.{word_at}
+use Rattle.ix_script.specs.lines.Kinds as kind
+use Rattle.ix_script.specs.lines.Kinds.{bounds}
+use Rattle.ix_script.specs.lines.Said.{both}
+use Rattle.ix_script.specs.texts.Words.{name_of, number_of, fd_of}
+use Rattle.ix_script.specs.declared.line.Line.TheVariants as line
+use Rattle.ix_script.proofs.lines.Readings.{both_reads, line_read, line_refused}
+use Rattle.ix_script.proofs.forms.file_lines.copy.Goals as goal
+
+pub returns-in_err-proc : goal.returns-in_err-proc
+returns-in_err-proc c =
+    let p = err_from_is_err_and c.from_residual.result c.from_residual.ensures.1 in
+    rw (p.1, p.2) (line_refused c.both-3.result c.in_err-proc.field-0.0 ((kind.Proc, word_at c.args.words.now 1) ∷ ((kind.Fd, word_at c.args.words.now 2) ∷ ((kind.Fd, word_at c.args.words.now 3) ∷ ((kind.Number 0 4294967295, word_at c.args.words.now 4) ∷ [])))) (both (name_of (word_at c.args.words.now 1)) (both (fd_of (word_at c.args.words.now 2)) (both (fd_of (word_at c.args.words.now 3)) (number_of 0 4294967295 (word_at c.args.words.now 4))))) (both_reads (kind.Proc, word_at c.args.words.now 1) ((kind.Fd, word_at c.args.words.now 2) ∷ ((kind.Fd, word_at c.args.words.now 3) ∷ ((kind.Number 0 4294967295, word_at c.args.words.now 4) ∷ []))) c.name.result c.both-2.result c.both-3.result (name_of (word_at c.args.words.now 1)) (both (fd_of (word_at c.args.words.now 2)) (both (fd_of (word_at c.args.words.now 3)) (number_of 0 4294967295 (word_at c.args.words.now 4)))) c.both-3.ensures c.name.ensures.proc (both_reads (kind.Fd, word_at c.args.words.now 2) ((kind.Fd, word_at c.args.words.now 3) ∷ ((kind.Number 0 4294967295, word_at c.args.words.now 4) ∷ [])) c.fd.result c.both.result c.both-2.result (fd_of (word_at c.args.words.now 2)) (both (fd_of (word_at c.args.words.now 3)) (number_of 0 4294967295 (word_at c.args.words.now 4))) c.both-2.ensures c.fd.ensures (both_reads (kind.Fd, word_at c.args.words.now 3) ((kind.Number 0 4294967295, word_at c.args.words.now 4) ∷ []) c.fd-2.result c.any_number.result c.both.result (fd_of (word_at c.args.words.now 3)) (number_of 0 4294967295 (word_at c.args.words.now 4)) c.both.ensures c.fd-2.ensures c.any_number.ensures))) c.in_err-proc.was)
+
+pub returns : goal.returns
+returns c =
+    line_read (λ x. line.Copy x.0 x.1.0 x.1.1.0 x.1.1.1) c.both-3.result (c.in_ok-proc.proc, (c.in_ok-proc.from, (c.in_ok-proc.to, c.in_ok-proc.count))) ((kind.Proc, word_at c.args.words.now 1) ∷ ((kind.Fd, word_at c.args.words.now 2) ∷ ((kind.Fd, word_at c.args.words.now 3) ∷ ((kind.Number 0 4294967295, word_at c.args.words.now 4) ∷ [])))) (both (name_of (word_at c.args.words.now 1)) (both (fd_of (word_at c.args.words.now 2)) (both (fd_of (word_at c.args.words.now 3)) (number_of 0 4294967295 (word_at c.args.words.now 4))))) (both_reads (kind.Proc, word_at c.args.words.now 1) ((kind.Fd, word_at c.args.words.now 2) ∷ ((kind.Fd, word_at c.args.words.now 3) ∷ ((kind.Number 0 4294967295, word_at c.args.words.now 4) ∷ []))) c.name.result c.both-2.result c.both-3.result (name_of (word_at c.args.words.now 1)) (both (fd_of (word_at c.args.words.now 2)) (both (fd_of (word_at c.args.words.now 3)) (number_of 0 4294967295 (word_at c.args.words.now 4)))) c.both-3.ensures c.name.ensures.proc (both_reads (kind.Fd, word_at c.args.words.now 2) ((kind.Fd, word_at c.args.words.now 3) ∷ ((kind.Number 0 4294967295, word_at c.args.words.now 4) ∷ [])) c.fd.result c.both.result c.both-2.result (fd_of (word_at c.args.words.now 2)) (both (fd_of (word_at c.args.words.now 3)) (number_of 0 4294967295 (word_at c.args.words.now 4))) c.both-2.ensures c.fd.ensures (both_reads (kind.Fd, word_at c.args.words.now 3) ((kind.Number 0 4294967295, word_at c.args.words.now 4) ∷ []) c.fd-2.result c.any_number.result c.both.result (fd_of (word_at c.args.words.now 3)) (number_of 0 4294967295 (word_at c.args.words.now 4)) c.both.ensures c.fd-2.ensures c.any_number.ensures))) c.in_ok-proc.was

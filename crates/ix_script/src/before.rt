@@ -1,0 +1,13 @@
+//! What is kept of the lines before.
+
+pub mod body;
+pub mod by_bytes;
+pub mod by_names;
+pub mod draft;
+pub mod fss;
+pub mod given;
+pub mod header;
+pub mod known;
+pub mod standing;
+pub mod taken;
+pub mod tree;

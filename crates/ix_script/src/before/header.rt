@@ -1,0 +1,262 @@
+ghost use Rattle.std.specs.Prelude.{◌≡◌, ◌++◌, ◌∷◌, ◌+◌, ◌<◌, ◌≤◌, ◌||◌, ◌&&◌, not, [], ◌==◌, true, None, List, length, map, max, false, OnOk, OnErr, IfOk, nat_le, nat_lt, if◌then◌else◌, codes};
+ghost use Rattle.ix_label.specs.Category.{leq};
+ghost use Rattle.ix_script.specs.lines.Before.{fs_told, or_default, default_fs, default_limits, limits_after, with_limit, what_told, what_text, proc_name_told, object_told, is_policy, group, is_known};
+ghost use Rattle.ix_script.specs.reader.Told.{made_of, HeaderTold, TakenOne, Takes, fss_after};
+ghost use Rattle.ix_model.specs.opening.Valid.{is_valid};
+ghost use Rattle.ix_script.specs.lines.Faults.{said_fault};
+ghost use Rattle.ix_script.specs.scripts.Scripts.{config_of};
+ghost use Rattle.ix_script.specs.declared.line.Line.{Line};
+
+use crate::before::fss::{blocks_for, fs_of};
+use crate::before::taken::Taken;
+use crate::before::tree::{Made, Tree};
+use crate::cutting::words::is;
+use crate::line::{Line, What};
+use ix_label::Label;
+use ix_model::{FsSpec, Limits, List, Name, NoMemory, Path};
+use std::alloc::Global;
+
+/// What the lines so far tell of the machine.
+#[derive(Drop)]
+pub(crate) struct Header {
+    /// How many lines told a file system.
+    pub told: usize,
+    /// These, or the one that is there where none is told.
+    pub fss: List<FsSpec>,
+    pub limits: Limits,
+    /// What lines limited.
+    pub whats: List<What>,
+    /// The names of processes.
+    pub procs: List<Name>,
+    /// The directories and files.
+    pub made: Tree,
+    pub taken: Taken,
+    /// The last of the groups of lines so far.
+    pub latest: u8,
+    /// Whether there was a policy.
+    pub policy: bool,
+}
+
+/// The group of a line, by which the header is ordered.
+fn group(line: &Line) -> u8
+    ensures { result ≡ group line.now }
+{
+    match line {
+        Line::Skipped => 0,
+        Line::Version => 1,
+        Line::Limit { .. } => 2,
+        Line::Fs { .. } => 3,
+        Line::Proc { .. } | Line::Dir { .. } | Line::File { .. } | Line::Policy { .. } => 4,
+        _ => 5,
+    }
+}
+
+fn latest_after(latest: u8, line: &Line) -> u8
+    ensures { result ≡ max latest (group line.now) }
+{
+    latest.max(group(line))
+}
+
+fn policy_after(policy: bool, line: &Line) -> bool
+    ensures { result ≡ (policy || is_policy line.now) }
+{
+    policy || matches!(line, Line::Policy { .. })
+}
+
+fn with_limit(limits: &Limits, what: What, number: u32) -> Limits
+    ensures { result ≡ with_limit limits.now what number }
+{
+    let mut limits = *limits;
+    match what {
+        What::Procs => limits.procs = number,
+        What::Opens => limits.opens = number,
+        What::Pipes => limits.pipes = number,
+        What::Names => limits.names = number,
+        What::Log => limits.log = number,
+    }
+    limits
+}
+
+pub(crate) fn limits_after(limits: &Limits, line: &Line) -> Limits
+    ensures { result ≡ limits_after limits.now line.now }
+{
+    match line {
+        Line::Limit { what, number } => with_limit(limits, *what, *number),
+        _ => *limits,
+    }
+}
+
+fn add_what(whats: &mut List<What>, line: &Line) -> Result<(), NoMemory>
+    ensures { OnOk result (whats.new ≡ whats.old ++ what_told line.now) }
+{
+    match line {
+        Line::Limit { what, .. } => whats.push(*what),
+        _ => Ok(()),
+    }
+}
+
+fn add_proc(procs: &mut List<Name>, line: &Line) -> Result<(), NoMemory>
+    ensures { OnOk result (procs.new ≡ procs.old ++ proc_name_told line.now) }
+{
+    match line {
+        Line::Proc { name, .. } => procs.push(*name),
+        _ => Ok(()),
+    }
+}
+
+fn add_made(made: &mut Tree, line: &Line) -> Result<(), NoMemory>
+    ensures { OnOk result (made.new ≡ made.old ++ map made_of (object_told line.now)) }
+{
+    match line {
+        Line::Dir { path, .. } => made.push(Made {
+            path: *path,
+            dir: true,
+        }),
+        Line::File { path, .. } => made.push(Made {
+            path: *path,
+            dir: false,
+        }),
+        _ => Ok(()),
+    }
+}
+
+/// The file system of a script that tells none.
+#[tactic(auto, unfolding(crate::specs::lines::Before::default_fs))]
+pub(crate) fn default_fs() -> FsSpec
+    ensures { result ≡ default_fs }
+{
+    FsSpec {
+        name: root_name(),
+        ceiling: Label::top(),
+        blocks: 4096,
+        inodes: 256,
+    }
+}
+
+fn root_name() -> Name
+    ensures { result ≡ codes "root" }
+{
+    match Name::read(b"root") {
+        Some(name) => name,
+        None => unreachable!(),
+    }
+}
+
+/// The limits of a script that tells none.
+#[tactic(auto, unfolding(crate::specs::lines::Before::default_limits))]
+pub(crate) fn default_limits() -> Limits
+    ensures { result ≡ default_limits }
+{
+    Limits {
+        procs: 64,
+        opens: 256,
+        pipes: 32,
+        names: 4096,
+        log: 1024,
+    }
+}
+
+fn push_fs(alloc: Global, told: usize, fss: &mut List<FsSpec>, fs: FsSpec) -> Result<(), NoMemory>
+    ensures { OnOk result (fss.new ≡ (if told == 0 then fs ∷ [] else fss.old ++ fs ∷ [])) }
+{
+    if told == 0 {
+        *fss = List::new(alloc);
+    }
+    fss.push(fs)
+}
+
+fn add_fs(alloc: Global, told: usize, fss: &mut List<FsSpec>, line: &Line) -> Result<(), NoMemory>
+    ensures { OnOk result (fss.new ≡ fss_after told fss.old (fs_told line.now)) }
+{
+    match line {
+        Line::Fs {
+            name,
+            ceiling,
+            blocks,
+            inodes,
+        } => push_fs(
+            alloc,
+            told,
+            fss,
+            FsSpec {
+                name: *name,
+                ceiling: *ceiling,
+                blocks: *blocks,
+                inodes: *inodes,
+            },
+        ),
+        _ => Ok(()),
+    }
+}
+
+fn told_after(told: usize, line: &Line) -> usize
+    requires { told ≤ 16 }
+    ensures { result ≡ told + length (fs_told line.now) }
+{
+    match line {
+        Line::Fs { .. } => told + 1,
+        _ => told,
+    }
+}
+
+fn take_object(taken: &mut Taken, fss: &[FsSpec], path: &Path, len: usize)
+    requires some { 0 < length fss.now }
+    requires few { length fss.now ≤ 16 }
+    ensures { TakenOne fss.now path.now.names len taken.old taken.new }
+{
+    let k = fs_of(fss, path);
+    taken.add(k, blocks_for(len));
+}
+
+fn take(taken: &mut Taken, fss: &[FsSpec], line: &Line)
+    requires some { 0 < length fss.now }
+    requires few { length fss.now ≤ 16 }
+    ensures { Takes fss.now (object_told line.now) taken.old taken.new }
+{
+    match line {
+        Line::Dir { path, .. } => take_object(taken, fss, path, 0),
+        Line::File { path, bytes, .. } => take_object(taken, fss, path, bytes.len()),
+        _ => {}
+    }
+}
+
+impl Header {
+    /// Before any line.
+    #[tactic(auto, unfolding(crate::specs::lines::Before::fss_told, crate::specs::lines::Before::limits_of, crate::specs::lines::Before::whats_told, crate::specs::lines::Before::proc_names, crate::specs::lines::Before::objects_of, crate::specs::lines::Before::has_policy))]
+    pub fn new(alloc: Global) -> Result<Header, NoMemory>
+        ensures { IfOk result (λ h. HeaderTold h []) }
+    {
+        let mut fss = List::new(alloc);
+        fss.push(default_fs())?;
+        Ok(Header {
+            told: 0,
+            fss,
+            limits: default_limits(),
+            whats: List::new(alloc),
+            procs: List::new(alloc),
+            made: Tree::new(alloc),
+            taken: Taken::new(),
+            latest: 0,
+            policy: false,
+        })
+    }
+
+    /// One line more. After an error the header isn't used.
+    pub fn add(&mut self, alloc: Global, line: &Line) -> Result<(), NoMemory>
+        requires told { self.old.told ≤ 16 }
+        requires some { 0 < length self.old.fss }
+        requires few { length self.old.fss ≤ 16 }
+        ensures { OnOk result ((lines : List Line) → HeaderTold self.old lines → is_valid (config_of lines) ≡ true → said_fault lines line.now ≡ None → HeaderTold self.new (lines ++ line.now ∷ [])) }
+    {
+        take(&mut self.taken, self.fss.as_slice(), line);
+        add_fs(alloc, self.told, &mut self.fss, line)?;
+        self.told = told_after(self.told, line);
+        self.limits = limits_after(&self.limits, line);
+        add_what(&mut self.whats, line)?;
+        add_proc(&mut self.procs, line)?;
+        add_made(&mut self.made, line)?;
+        self.latest = latest_after(self.latest, line);
+        self.policy = policy_after(self.policy, line);
+        Ok(())
+    }
+}

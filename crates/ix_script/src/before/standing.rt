@@ -1,0 +1,152 @@
+ghost use Rattle.std.specs.Prelude.{◌≡◌, map};
+ghost use Rattle.std.specs.List.{list_any};
+ghost use Rattle.ix_model.specs.world.Naming.{same_bytes};
+ghost use Rattle.ix_script.specs.lines.Before.{is_known, fss_told, whats_told, what_text, proc_names, phase_lanes};
+ghost use Rattle.ix_script.specs.lines.Kinds as kind;
+ghost use Rattle.ix_script.specs.lines.Rules.{is_late, is_outside, is_given_twice, is_unknown, names_unknown};
+ghost use Rattle.ix_script.specs.reader.Told.{DraftTold};
+
+use crate::before::draft::Draft;
+use crate::before::known::is_known;
+use crate::cutting::cut::Words;
+use crate::cutting::form::Form;
+use crate::cutting::words::{begins_with_digit, is};
+use crate::line::What;
+use ix_model::FsSpec;
+
+/// The spelling of a WHAT.
+fn what_text(what: What) -> &'static [u8]
+    ensures { result.now ≡ what_text what }
+{
+    match what {
+        What::Procs => b"procs",
+        What::Opens => b"opens",
+        What::Pipes => b"pipes",
+        What::Names => b"names",
+        What::Log => b"log",
+    }
+}
+
+fn is_named(word: &[u8], fss: &[FsSpec]) -> bool
+    ensures { result ≡ list_any (λ s. same_bytes word.now s.name) fss.now }
+{
+    fss.iter().any(|fs| is(word, fs.name.as_bytes()))
+}
+
+fn is_limited(word: &[u8], whats: &[What]) -> bool
+    ensures { result ≡ list_any (λ w. same_bytes word.now (what_text w)) whats.now }
+{
+    whats.iter().any(|what| is(word, what_text(*what)))
+}
+
+/// Rules 8, 9, 20 and 21: where a line stands, and its names.
+impl Draft {
+    /// Whether a header line stands after a phase.
+    pub fn is_late(&self, form: Form) -> bool
+        requires told { DraftTold self.now }
+        ensures { result ≡ is_late self.now.lines form }
+    {
+        form.is_header() && self.body.started
+    }
+
+    /// Whether a command stands outside a lane, or a lane outside a phase.
+    pub fn is_outside(&self, form: Form) -> bool
+        requires told { DraftTold self.now }
+        ensures { result ≡ is_outside self.now.lines form }
+    {
+        match form {
+            Form::Lane => !self.body.started,
+            _ => form.is_command() && self.body.lane.is_none(),
+        }
+    }
+
+    fn tells_fs(&self, word: &[u8]) -> bool
+        requires told { DraftTold self.now }
+        ensures { result ≡ is_known word.now (map (λ s. s.name) (fss_told self.now.lines)) }
+    {
+        self.header.told > 0 && is_named(word, self.header.fss.as_slice())
+    }
+
+    fn limits(&self, word: &[u8]) -> bool
+        requires told { DraftTold self.now }
+        ensures { result ≡ is_known word.now (map what_text (whats_told self.now.lines)) }
+    {
+        is_limited(word, self.header.whats.as_slice())
+    }
+
+    fn tells_proc(&self, word: &[u8]) -> bool
+        requires told { DraftTold self.now }
+        ensures { result ≡ is_known word.now (proc_names self.now.lines) }
+    {
+        is_known(word, self.header.procs.as_slice())
+    }
+
+    fn opens_lane(&self, word: &[u8]) -> bool
+        requires told { DraftTold self.now }
+        ensures { result ≡ is_known word.now (phase_lanes self.now.lines) }
+    {
+        is_known(word, self.body.phase_lanes.as_slice())
+    }
+
+    /// Whether a name is given twice.
+    pub fn gives_twice(&self, form: Form, words: &Words<'_>) -> bool
+        requires told { DraftTold self.now }
+        ensures { result ≡ is_given_twice self.now.lines form words.now }
+    {
+        match form {
+            Form::Fs => self.tells_fs(words.get(1)),
+            Form::Limit => self.limits(words.get(1)),
+            Form::Proc => self.tells_proc(words.get(1)),
+            Form::Lane => self.opens_lane(words.get(1)),
+            Form::Pipe => words.len() > 2 && is(words.get(3), words.get(4)),
+            Form::Fork => words.len() > 3 && self.tells_proc(words.get(4)),
+            Form::Login => words.len() > 4 && self.tells_proc(words.get(5)),
+            _ => false,
+        }
+    }
+
+    fn lacks_proc(&self, word: &[u8]) -> bool
+        requires told { DraftTold self.now }
+        ensures { result ≡ is_unknown self.now.lines (kind.Proc, word.now) }
+    {
+        !self.tells_proc(word) && !self.body.procs.has(&self.body.lane, word)
+    }
+
+    fn lacks_fd(&self, word: &[u8]) -> bool
+        requires told { DraftTold self.now }
+        ensures { result ≡ is_unknown self.now.lines (kind.Fd, word.now) }
+    {
+        !begins_with_digit(word) && !self.body.fds.has(&self.body.lane, word)
+    }
+
+    fn lacks_kept(&self, word: &[u8]) -> bool
+        requires told { DraftTold self.now }
+        ensures { result ≡ is_unknown self.now.lines (kind.Keep, word.now) }
+    {
+        !is(word, b"all") && !is(word, b"none") && self.lacks_fd(word)
+    }
+
+    /// Whether a process or a descriptor is unknown.
+    pub fn is_unknown(&self, form: Form, words: &Words<'_>) -> bool
+        requires told { DraftTold self.now }
+        ensures { result ≡ names_unknown self.now.lines form words.now }
+    {
+        if !form.is_command() {
+            return false;
+        }
+        if self.lacks_proc(words.get(1)) {
+            return true;
+        }
+        match form {
+            Form::Grant | Form::Ceiling => self.lacks_proc(words.get(2)),
+            Form::OnFd(_) | Form::Counted(_) | Form::Write | Form::Dup => {
+                self.lacks_fd(words.get(2))
+            }
+            Form::Fork => self.lacks_kept(words.get(2)),
+            Form::Copy | Form::Login => {
+                self.lacks_fd(words.get(2)) || self.lacks_fd(words.get(3))
+            }
+            _ => false,
+        }
+    }
+}

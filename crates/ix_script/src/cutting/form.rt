@@ -1,0 +1,140 @@
+ghost use Rattle.std.specs.Prelude.{◌≡◌, ℕ, ◌≤◌, List, length};
+ghost use Rattle.ix_script.specs.lines.Forms.{kinds, tail_of, is_header, is_command_form, has_right_count};
+
+use crate::cutting::cut::Words;
+use crate::cutting::words::is;
+
+/// A command that takes a process alone.
+#[derive(Clone, Copy, Debug, PartialEq, Eq)]
+pub(crate) enum Plain {
+    Wait,
+    Self_,
+    Freezeself,
+    Thawself,
+}
+
+/// A command that takes a process and a path.
+#[derive(Clone, Copy, Debug, PartialEq, Eq)]
+pub(crate) enum OnPath {
+    Create,
+    Mkdir,
+    Unlink,
+    Rmdir,
+    Chdir,
+    Stat,
+    Exec,
+    Labelof,
+    Freeze,
+    Thaw,
+}
+
+/// A command that takes a process and a descriptor.
+#[derive(Clone, Copy, Debug, PartialEq, Eq)]
+pub(crate) enum OnFd {
+    Close,
+    Pex,
+    Unpex,
+    Priv,
+}
+
+/// A command that takes a process, a descriptor and a number.
+#[derive(Clone, Copy, Debug, PartialEq, Eq)]
+pub(crate) enum Counted {
+    Read,
+    Cut,
+    Seek,
+}
+
+/// The form of a line, by its first word.
+#[derive(Clone, Copy, Debug, PartialEq, Eq)]
+pub(crate) enum Form {
+    Limit,
+    Fs,
+    Proc,
+    Dir,
+    File,
+    Phase,
+    Lane,
+    Plain(Plain),
+    OnPath(OnPath),
+    OnFd(OnFd),
+    Counted(Counted),
+    Open,
+    Write,
+    Dup,
+    Pipe,
+    Link,
+    List,
+    Fork,
+    Exit,
+    Setlabel,
+    Setself,
+    Setpriv,
+    Droplic,
+    Grant,
+    Ceiling,
+    Readlog,
+    Copy,
+    Login,
+}
+
+impl Form {
+    /// Whether it is a line of the header.
+    pub fn is_header(self) -> bool
+        ensures { result ≡ is_header self }
+    {
+        matches!(
+            self,
+            Form::Limit | Form::Fs | Form::Proc | Form::Dir | Form::File
+        )
+    }
+
+    pub fn is_command(self) -> bool
+        ensures { result ≡ is_command_form self }
+    {
+        !matches!(
+            self,
+            Form::Limit | Form::Fs | Form::Proc | Form::Dir | Form::File | Form::Phase | Form::Lane
+        )
+    }
+
+    /// How many words stand after the first.
+    fn count(self) -> usize
+        ensures count { (words : List (List ℕ)) → result ≡ length (kinds self words) }
+        ensures few { result ≤ 6 }
+    {
+        match self {
+            Form::Phase => 0,
+            Form::Lane | Form::Plain(_) | Form::Pipe => 1,
+            Form::Limit | Form::OnPath(_) | Form::OnFd(_) | Form::Dup => 2,
+            Form::Fork | Form::Exit | Form::Setself | Form::Droplic | Form::Readlog => 2,
+            Form::Dir | Form::Counted(_) | Form::Open | Form::Write | Form::Link => 3,
+            Form::List | Form::Setlabel | Form::Grant | Form::Ceiling | Form::Login => 3,
+            Form::Fs | Form::Copy | Form::Setpriv => 4,
+            Form::Proc => 5,
+            Form::File => 6,
+        }
+    }
+
+    /// How many names may stand after `as`.
+    fn names_after_as(self) -> usize
+        ensures names { result ≡ length (tail_of self) }
+        ensures few { result ≤ 2 }
+    {
+        match self {
+            Form::Open | Form::Dup | Form::Fork | Form::Login => 1,
+            Form::Pipe => 2,
+            _ => 0,
+        }
+    }
+
+    /// Whether the line has the words of the form, and no others but `as` with its names.
+    pub fn has_right_count(self, words: &Words<'_>) -> bool
+        ensures { result ≡ has_right_count self words.now }
+    {
+        let own = self.count();
+        let names = self.names_after_as();
+        words.len() == 1 + own
+            || (names > 0 && words.len() == 2 + own + names && is(words.get(1 + own), b"as"))
+    }
+}

@@ -1,0 +1,89 @@
+ghost use Rattle.ix_script.specs.lines.Forms.{places};
+ghost use Rattle.ix_script.specs.reader.Readers.{Reads};
+ghost use Rattle.ix_script.specs.lines.Said.{said, plain_line, path_line, fd_line, counted_line};
+ghost use Rattle.ix_script.specs.declared.cutting.form.Form.TheVariants as form;
+ghost use Rattle.std.specs.Prelude.{◌≡◌};
+
+use crate::cutting::cut::Words;
+use crate::cutting::form::{Counted, OnFd, OnPath, Plain};
+use crate::forms::both::both;
+use crate::line::{FdWord, Line};
+use crate::refused::Refused;
+use ix_model::{Name, Path};
+
+fn plain_line(command: Plain, proc: Name) -> Line
+    ensures { result ≡ plain_line command proc }
+{
+    match command {
+        Plain::Wait => Line::Wait { proc },
+        Plain::Self_ => Line::Self_ { proc },
+        Plain::Freezeself => Line::Freezeself { proc },
+        Plain::Thawself => Line::Thawself { proc },
+    }
+}
+
+fn path_line(command: OnPath, proc: Name, path: Path) -> Line
+    ensures { result ≡ path_line command proc path }
+{
+    match command {
+        OnPath::Create => Line::Create { proc, path },
+        OnPath::Mkdir => Line::Mkdir { proc, path },
+        OnPath::Unlink => Line::Unlink { proc, path },
+        OnPath::Rmdir => Line::Rmdir { proc, path },
+        OnPath::Chdir => Line::Chdir { proc, path },
+        OnPath::Stat => Line::Stat { proc, path },
+        OnPath::Exec => Line::Exec { proc, path },
+        OnPath::Labelof => Line::Labelof { proc, path },
+        OnPath::Freeze => Line::Freeze { proc, path },
+        OnPath::Thaw => Line::Thaw { proc, path },
+    }
+}
+
+fn fd_line(command: OnFd, proc: Name, fd: FdWord) -> Line
+    ensures { result ≡ fd_line command proc fd }
+{
+    match command {
+        OnFd::Close => Line::Close { proc, fd },
+        OnFd::Pex => Line::Pex { proc, fd },
+        OnFd::Unpex => Line::Unpex { proc, fd },
+        OnFd::Priv => Line::Priv { proc, fd },
+    }
+}
+
+fn counted_line(command: Counted, proc: Name, fd: FdWord, n: u32) -> Line
+    ensures { result ≡ counted_line command proc fd n }
+{
+    match command {
+        Counted::Read => Line::Read { proc, fd, count: n },
+        Counted::Cut => Line::Cut { proc, fd, len: n },
+        Counted::Seek => Line::Seek { proc, fd, at: n },
+    }
+}
+
+pub(crate) fn plain(command: Plain, words: &Words<'_>) -> Result<Line, Refused>
+    ensures { Reads (λ x. x) result (places (form.Plain command) words.now) (said (form.Plain command) words.now) }
+{
+    let proc = words.name(1)?;
+    Ok(plain_line(command, proc))
+}
+
+pub(crate) fn on_path(command: OnPath, words: &Words<'_>) -> Result<Line, Refused>
+    ensures { Reads (λ x. x) result (places (form.OnPath command) words.now) (said (form.OnPath command) words.now) }
+{
+    let (proc, path) = both(words.name(1), words.path(2))?;
+    Ok(path_line(command, proc, path))
+}
+
+pub(crate) fn on_fd(command: OnFd, words: &Words<'_>) -> Result<Line, Refused>
+    ensures { Reads (λ x. x) result (places (form.OnFd command) words.now) (said (form.OnFd command) words.now) }
+{
+    let (proc, fd) = both(words.name(1), words.fd(2))?;
+    Ok(fd_line(command, proc, fd))
+}
+
+pub(crate) fn counted(command: Counted, words: &Words<'_>) -> Result<Line, Refused>
+    ensures { Reads (λ x. x) result (places (form.Counted command) words.now) (said (form.Counted command) words.now) }
+{
+    let (proc, (fd, n)) = both(words.name(1), both(words.fd(2), words.any_number(3)))?;
+    Ok(counted_line(command, proc, fd, n))
+}

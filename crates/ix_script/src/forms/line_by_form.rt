@@ -1,0 +1,50 @@
+ghost use Rattle.ix_script.specs.lines.Forms.{places};
+ghost use Rattle.ix_script.specs.reader.Readers.{Reads};
+ghost use Rattle.ix_script.specs.lines.Said.{said};
+
+use crate::cutting::cut::Words;
+use crate::cutting::form::Form;
+use crate::forms::file_lines::{copy, dup, link, list, open, pipe, setlabel, setpriv, write};
+use crate::forms::group_lines::{counted, on_fd, on_path, plain};
+use crate::forms::header_lines::{dir, file, fs, lane, limit, proc};
+use crate::forms::process_lines::{ceiling, droplic, exit, fork, grant, login, readlog, setself};
+use crate::line::Line;
+use crate::refused::Refused;
+use std::alloc::Global;
+
+/// What a line of that form says, by rules 11 to 19: those that a word can break by itself.
+#[tactic(auto, unfolding(crate::specs::lines::Kinds::places_fault, crate::specs::lines::Kinds::first_broken))]
+pub(crate) fn line_by_form(alloc: Global, form: Form, words: &Words<'_>) -> Result<Line, Refused>
+    ensures { Reads (λ x. x) result (places form words.now) (said form words.now) }
+{
+    match form {
+        Form::Limit => limit(words),
+        Form::Fs => fs(words),
+        Form::Proc => proc(words),
+        Form::Dir => dir(words),
+        Form::File => file(alloc, words),
+        Form::Phase => Ok(Line::Phase),
+        Form::Lane => lane(words),
+        Form::Plain(command) => plain(command, words),
+        Form::OnPath(command) => on_path(command, words),
+        Form::OnFd(command) => on_fd(command, words),
+        Form::Counted(command) => counted(command, words),
+        Form::Open => open(words),
+        Form::Write => write(alloc, words),
+        Form::Dup => dup(words),
+        Form::Pipe => pipe(words),
+        Form::Link => link(words),
+        Form::List => list(words),
+        Form::Copy => copy(words),
+        Form::Setlabel => setlabel(words),
+        Form::Setpriv => setpriv(words),
+        Form::Fork => fork(words),
+        Form::Exit => exit(words),
+        Form::Setself => setself(words),
+        Form::Droplic => droplic(words),
+        Form::Grant => grant(words),
+        Form::Ceiling => ceiling(words),
+        Form::Readlog => readlog(words),
+        Form::Login => login(words),
+    }
+}

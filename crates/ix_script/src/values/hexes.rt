@@ -1,0 +1,41 @@
+ghost use Rattle.std.specs.Prelude.{◌≡◌, ◌<◌, IfSome};
+ghost use Rattle.ix_script.specs.texts.Payloads.{digit_of, pair_of, two_digits};
+
+use crate::cutting::words::is_digit;
+
+/// The value of a hexadecimal digit.
+#[tactic(auto, unfolding(crate::specs::texts::Payloads::digit_of))]
+fn digit(b: u8) -> Option<u8>
+    ensures digit { result ≡ digit_of b }
+    ensures low { IfSome result (λ n. n < 16) }
+{
+    if is_digit(b) {
+        Some(b - b'0')
+    } else if b >= b'a' && b <= b'f' {
+        Some(b - 87)
+    } else if b >= b'A' && b <= b'F' {
+        Some(b - 55)
+    } else {
+        None
+    }
+}
+
+/// The byte of two digits.
+#[tactic(auto, unfolding(crate::specs::texts::Payloads::pair_of))]
+pub(crate) fn pair(high: u8, low: u8) -> Option<u8>
+    ensures { result ≡ pair_of high low }
+{
+    let high = digit(high)?;
+    let low = digit(low)?;
+    Some(high * 16 + low)
+}
+
+/// The byte of a text of two digits.
+pub(crate) fn two_digits(text: &[u8]) -> Option<u8>
+    ensures { result ≡ two_digits text.now }
+{
+    match text {
+        [high, low] => pair(*high, *low),
+        _ => None,
+    }
+}

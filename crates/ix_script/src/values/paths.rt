@@ -1,0 +1,109 @@
+ghost use Rattle.std.specs.Prelude.{◌≡◌, ℕ, ◌≤◌, ◌<◌, ◌+◌, ◌==◌, [], ◌∷◌, length, position, Some, None, IfSome};
+ghost use Rattle.std.specs.Option.{option_map_or};
+ghost use Rattle.std.specs.List.{list_all};
+ghost use Rattle.std.proofs.Common.{option_map};
+ghost use Rattle.ix_script.specs.lines.Kinds as kind;
+ghost use Rattle.ix_script.specs.reader.Readers.{Reads};
+ghost use Rattle.ix_script.specs.texts.Words.{may_stand_in_path, between_slashes, names_of, path_from, absolute_path, relative_path, path_of, made_path_of};
+
+use crate::cutting::words::begins;
+use crate::refused::Refused;
+use ix_model::{Name, Path};
+
+fn slash(text: &[u8]) -> Option<usize>
+    ensures place { result ≡ position (λ b. b == 47) text.now }
+    ensures within { IfSome result (λ k. k + 1 ≤ length text.now) }
+{
+    text.iter().position(|b| *b == b'/')
+}
+
+/// What stands before the first slash, and what stands after it.
+fn first_piece(text: &[u8]) -> (&[u8], Option<&[u8]>)
+    ensures pieces { between_slashes text.now ≡ result.0.now ∷ option_map_or (λ more. between_slashes more.now) result.1 [] }
+    ensures fewer { IfSome result.1 (λ more. length more.now < length text.now) }
+{
+    match slash(text) {
+        Some(k) => {
+            let (_, more) = text.split_at(k + 1);
+            (&text[..k], Some(more))
+        }
+        None => (text, None),
+    }
+}
+
+/// The path of names joined by slashes.
+fn joined(absolute: bool, text: &[u8]) -> Option<Path>
+    ensures { result ≡ option_map (path_from absolute) (names_of text.now) }
+{
+    let mut path = Path::new(absolute);
+    let mut rest = text;
+    'names: loop {
+        let (word, more) = first_piece(rest);
+        let Some(name) = Name::read(word) else {
+            return None;
+        };
+        if !path.push(name) {
+            return None;
+        }
+        match more {
+            Some(text) => rest = text,
+            None => return Some(path),
+        }
+    }
+}
+
+fn all_in_path(word: &[u8]) -> bool
+    ensures { result ≡ list_all may_stand_in_path word.now }
+{
+    word.iter()
+        .all(|b| *b >= 33 && *b <= 126 && *b != b'"' && *b != b'\\')
+}
+
+fn absolute_path(text: &[u8]) -> Option<Path>
+    ensures { result ≡ absolute_path text.now }
+{
+    if text.is_empty() {
+        Some(Path::new(true))
+    } else {
+        joined(true, text)
+    }
+}
+
+#[tactic(auto, unfolding(crate::specs::texts::Words::path_of))]
+fn path_by_word(word: &[u8]) -> Option<Path>
+    ensures { result ≡ path_of word.now }
+{
+    if !all_in_path(word) {
+        return None;
+    }
+    if begins(b'/', word) {
+        absolute_path(&word[1..])
+    } else {
+        joined(false, word)
+    }
+}
+
+/// A path.
+#[tactic(auto, unfolding(crate::specs::lines::Kinds::places_fault, crate::specs::lines::Kinds::first_broken))]
+pub(crate) fn path(word: &[u8]) -> Result<Path, Refused>
+    ensures { Reads (λ x. x) result ((kind.AnyPath, word.now) ∷ []) (path_of word.now) }
+{
+    match path_by_word(word) {
+        Some(path) => Ok(path),
+        None => Err(Refused::Breaks(16)),
+    }
+}
+
+/// An absolute path with a name.
+#[tactic(auto, unfolding(crate::specs::texts::Words::made_path_of, crate::specs::lines::Kinds::places_fault, crate::specs::lines::Kinds::first_broken))]
+pub(crate) fn made_path(word: &[u8]) -> Result<Path, Refused>
+    ensures { Reads (λ x. x) result ((kind.MadePath, word.now) ∷ []) (made_path_of word.now) }
+{
+    if !begins(b'/', word) || word.len() == 1 {
+        return Err(Refused::Breaks(16));
+    }
+    match path_by_word(word) {
+        Some(path) => Ok(path),
+        None => Err(Refused::Breaks(16)),
+    }
+}

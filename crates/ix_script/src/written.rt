@@ -1,0 +1,5 @@
+//! The canonical text.
+
+pub mod append;
+pub mod payload_text;
+pub mod writing;

@@ -1,0 +1,176 @@
+ghost use Rattle.std.specs.Prelude.{◌≡◌, ◌++◌, ◌∷◌, ◌≤◌, ◌==◌, length, OnOk};
+ghost use Rattle.std.specs.List.{list_all};
+ghost use Rattle.ix_script.specs.texts.Spellings.{hex_pair, pairs_text, times_text, quoted_byte, quoted_text, once, payload_text};
+ghost use Rattle.ix_script.specs.texts.PayloadForms.{text_in};
+
+use crate::text::hex_pair;
+use crate::values::payload_form::PayloadForm;
+use crate::written::append::push;
+use itoa::Buffer;
+use ix_model::NoMemory;
+
+/// `x` and pairs of digits.
+fn pairs(out: &mut Vec<u8>, bytes: &[u8]) -> Result<(), NoMemory>
+    ensures { OnOk result (out.new.items ≡ out.old.items ++ pairs_text bytes.now) }
+{
+    push(out, b"x")?;
+    for byte in bytes {
+        push(out, &hex_pair(*byte))?;
+    }
+    Ok(())
+}
+
+/// n*HH.
+fn times(out: &mut Vec<u8>, n: usize, byte: u8) -> Result<(), NoMemory>
+    ensures { OnOk result (out.new.items ≡ out.old.items ++ times_text n byte) }
+{
+    let mut digits = Buffer::new();
+    push(out, digits.format(n).as_bytes())?;
+    push(out, b"*")?;
+    push(out, &hex_pair(byte))
+}
+
+/// A byte in quotes.
+#[tactic(auto, unfolding(crate::specs::texts::Spellings::quoted_byte))]
+fn quoted_byte(out: &mut Vec<u8>, byte: u8) -> Result<(), NoMemory>
+    ensures { OnOk result (out.new.items ≡ out.old.items ++ quoted_byte byte) }
+{
+    if (b' '..=b'~').contains(&byte) && byte != b'"' && byte != b'\\' {
+        return push(out, &[byte]);
+    }
+    if byte == b'"' || byte == b'\\' {
+        return push(out, &[b'\\', byte]);
+    }
+    if byte == b'\n' {
+        return push(out, b"\\n");
+    }
+    push(out, b"\\x")?;
+    push(out, &hex_pair(byte))
+}
+
+/// The bytes in quotes.
+fn quoted(out: &mut Vec<u8>, bytes: &[u8]) -> Result<(), NoMemory>
+    ensures { OnOk result (out.new.items ≡ out.old.items ++ quoted_text bytes.now) }
+{
+    push(out, b"\"")?;
+    for byte in bytes {
+        quoted_byte(out, *byte)?;
+    }
+    push(out, b"\"")
+}
+
+/// How many bytes a byte takes in quotes.
+#[tactic(auto, unfolding(crate::specs::texts::Spellings::quoted_byte))]
+fn quoted_byte_len(byte: u8) -> u8
+    ensures len { result ≡ length (quoted_byte byte) }
+    ensures few { result ≤ 4 }
+{
+    if (b' '..=b'~').contains(&byte) && byte != b'"' && byte != b'\\' {
+        return 1;
+    }
+    if byte == b'"' || byte == b'\\' || byte == b'\n' {
+        return 2;
+    }
+    4
+}
+
+/// How many bytes they take in quotes.
+fn quoted_len(bytes: &[u8]) -> u128
+    ensures { result ≡ length (quoted_text bytes.now) }
+{
+    let mut len = 2;
+    for byte in bytes {
+        len += u128::from(quoted_byte_len(*byte));
+    }
+    len
+}
+
+/// How many bytes n*HH takes.
+fn times_len(n: usize, byte: u8) -> u128
+    ensures { result ≡ length (times_text n byte) }
+{
+    let mut digits = Buffer::new();
+    digits.format(n).len() as u128 + 3
+}
+
+/// Whether each is that byte.
+fn are_all(byte: u8, bytes: &[u8]) -> bool
+    ensures { result ≡ list_all (λ c. c == byte) bytes.now }
+{
+    bytes.iter().all(|b| *b == byte)
+}
+
+/// The byte that these are over and over; `None` also where there is none.
+#[tactic(auto, using(crate::proofs::back::Shortest::once_first))]
+fn repeated(bytes: &[u8]) -> Option<u8>
+    ensures { result ≡ once bytes.now }
+{
+    match bytes {
+        [] => None,
+        [first, rest @ ..] => {
+            if are_all(*first, rest) {
+                return Some(*first);
+            }
+            None
+        }
+    }
+}
+
+/// The shortest spelling; of equally short ones the pairs come first, then n*HH.
+#[tactic(auto, unfolding(crate::specs::texts::Spellings::payload_text))]
+fn shortest(bytes: &[u8]) -> PayloadForm
+    ensures { text_in result bytes.now ≡ payload_text bytes.now }
+{
+    let pairs = bytes.len() as u128 * 2 + 1;
+    let quoted = quoted_len(bytes);
+    let Some(byte) = repeated(bytes) else {
+        if quoted < pairs {
+            return PayloadForm::Quoted;
+        }
+        return PayloadForm::Pairs;
+    };
+    let times = times_len(bytes.len(), byte);
+    if times < pairs {
+        if quoted < times {
+            return PayloadForm::Quoted;
+        }
+        return PayloadForm::Times(byte);
+    }
+    if quoted < pairs {
+        return PayloadForm::Quoted;
+    }
+    PayloadForm::Pairs
+}
+
+/// A space and a payload in its shortest spelling.
+pub(crate) fn payload(out: &mut Vec<u8>, bytes: &[u8]) -> Result<(), NoMemory>
+    ensures { OnOk result (out.new.items ≡ out.old.items ++ 32 ∷ payload_text bytes.now) }
+{
+    push(out, b" ")?;
+    match shortest(bytes) {
+        PayloadForm::Pairs => pairs(out, bytes),
+        PayloadForm::Times(byte) => times(out, bytes.len(), byte),
+        PayloadForm::Quoted => quoted(out, bytes),
+    }
+}
+
+#[cfg(test)]
+mod tests {
+    use super::*;
+    use std::test::Fail;
+
+    #[test]
+    fn shortest_spelling_first_form(rt: HostRuntime) -> Result<(), Fail> {
+        let mut out = Vec::new(rt.alloc());
+        payload(&mut out, b"")?;
+        payload(&mut out, b"A")?;
+        payload(&mut out, b"AA")?;
+        payload(&mut out, b"\na")?;
+        payload(&mut out, b"rel")?;
+        payload(&mut out, b"\"\\\x00ab")?;
+        payload(&mut out, &[0; 64])?;
+        let text = b" x x41 2*41 x0a61 \"rel\" x225c006162 64*00";
+        assert_eq!(rt; out.as_slice(), text.as_slice());
+        Ok(())
+    }
+}
