@@ -2,7 +2,7 @@ mod Computing
 mod Labels
 mod Worlds
 mod Chains
-mod labels
+mod floating
 mod privileges
 mod files
 mod processes

@@ -1,6 +1,6 @@
 pub mod Sessions
 pub mod Scripts
-pub mod labels
+pub mod floating
 pub mod privileges
 pub mod files
 pub mod processes

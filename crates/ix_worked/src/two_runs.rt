@@ -11,7 +11,7 @@ ghost use Rattle.ix_model.specs.opening.Opening.{opening_world};
 ghost use Rattle.ix_model.specs.two_runs.EqualLengths.{AlikeInLength};
 ghost use Rattle.ix_model.specs.two_runs.TwoRuns.{Alike};
 ghost use Rattle.ix_worked.specs.privileges.Downgrading.{one_line, lowering};
-ghost use Rattle.ix_worked.specs.labels.LooksAnew.{held_low, reading_twice};
+ghost use Rattle.ix_worked.specs.floating.LooksAnew.{held_low, reading_twice};
 ghost use Rattle.ix_worked.specs.short.OnDescriptors.{desk};
 ghost use Rattle.ix_worked.specs.short.OnEntries.{shared_desk, seeking_high};
 ghost use Rattle.ix_worked.specs.short.OnProcesses.{family};
@@ -30,7 +30,7 @@ ghost use Rattle.ix_worked.specs.PairsOfRuns.{
 ghost use Rattle.ix_worked.specs.Scripts.{seven, in_root, under};
 ghost use Rattle.ix_worked.specs.Sessions.{calls};
 ghost use Rattle.ix_worked.specs.files.SharedEntry.{one_file, sharing};
-ghost use Rattle.ix_worked.specs.labels.TwoLevels.{two_levels, writing};
+ghost use Rattle.ix_worked.specs.floating.TwoLevels.{two_levels, writing};
 
 /// What a high process writes is replaced by other bytes: at bottom the two histories agree, and the one low read is
 /// that of the other file.

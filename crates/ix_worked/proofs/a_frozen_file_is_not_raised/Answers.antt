@@ -1,7 +1,7 @@
 use Rattle.std.proofs.Common.{refl}
 use Rattle.ix_worked.proofs.Computing.{fitting}
 use Rattle.ix_worked.proofs.Labels.{labels}
-use Rattle.ix_worked.proofs.labels.FileFrozen.{frozen_stays}
+use Rattle.ix_worked.proofs.floating.FileFrozen.{frozen_stays}
 use Rattle.ix_worked.proofs.a_frozen_file_is_not_raised.Goals as goal
 
 pub returns-clause-valid : goal.returns-clause-valid

@@ -1,7 +1,7 @@
 use Rattle.std.proofs.Common.{refl}
 use Rattle.ix_worked.proofs.Computing.{fitting}
 use Rattle.ix_worked.proofs.Labels.{labels}
-use Rattle.ix_worked.proofs.labels.TwoBytes.{two_bytes}
+use Rattle.ix_worked.proofs.floating.TwoBytes.{two_bytes}
 use Rattle.ix_worked.proofs.a_reader_floats_to_a_raised_file.Goals as goal
 
 pub returns-clause-valid : goal.returns-clause-valid

@@ -1,5 +1,5 @@
 use Rattle.std.proofs.Common.{sym, ap, ◌∙◌, take}
-use Rattle.ix_worked.proofs.labels.TwoBytes.{two_bytes}
+use Rattle.ix_worked.proofs.floating.TwoBytes.{two_bytes}
 use Rattle.ix_worked.proofs.other_bytes_change_high_reads_alone.Goals as goal
 
 pub returns-clause-shown : goal.returns-clause-shown

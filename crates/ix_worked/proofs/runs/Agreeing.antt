@@ -18,11 +18,11 @@ use Rattle.ix_worked.specs.short.OnDescriptors.{desk}
 use Rattle.ix_worked.specs.short.OnProcesses.{family}
 use Rattle.ix_worked.specs.PairsOfRuns.{BothAgree, BothAgreeInLength, is_read, LowRead, LowReadAlone, writing_low, leaving_high}
 use Rattle.ix_worked.specs.Scripts.{seven, in_root, by}
-use Rattle.ix_worked.specs.labels.TwoLevels.{two_levels, writing}
+use Rattle.ix_worked.specs.floating.TwoLevels.{two_levels, writing}
 use Rattle.ix_worked.proofs.Chains.{Steps, number, bytes, refused, done, stepped}
 use Rattle.ix_worked.proofs.Computing.{running}
 use Rattle.ix_worked.proofs.Labels.{labels, leq-with_bottom}
-use Rattle.ix_worked.proofs.labels.TwoBytes as two
+use Rattle.ix_worked.proofs.floating.TwoBytes as two
 use Rattle.ix_worked.proofs.Worlds.{floated, opened, with_entry, with_child, with_ended}
 
 -- ---- who is high, and who is low

@@ -12,12 +12,12 @@ use Rattle.ix_model.specs.history.Lowering.{Lowered, Crosses}
 use Rattle.ix_model.specs.history.Lowering as lowering
 use Rattle.ix_worked.specs.privileges.Downgrading as session
 use Rattle.ix_worked.specs.PairsOfRuns.{before, after, LowersNowhere, CrossesNowhere}
-use Rattle.ix_worked.specs.labels.TwoLevels.{two_levels, writing}
+use Rattle.ix_worked.specs.floating.TwoLevels.{two_levels, writing}
 use Rattle.ix_worked.proofs.Chains.{Steps, number, bytes, stepped, run_given, gives_some}
 use Rattle.ix_worked.proofs.Computing.{running}
 use Rattle.ix_worked.proofs.Labels.{labels}
 use Rattle.ix_worked.proofs.privileges.Lowered as down
-use Rattle.ix_worked.proofs.labels.TwoBytes as two
+use Rattle.ix_worked.proofs.floating.TwoBytes as two
 
 -- ---- a label is lowered
 object_falls : (f g : Frame) (o : ℕ) (a b : Option Object) → at f.objects o ≡ a → at g.objects o ≡ b → option_map_or (λ x. option_map_or (λ y. leq x.label y.label) b true) a true ≡ false → Lowered f g

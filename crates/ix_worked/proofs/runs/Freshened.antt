@@ -6,7 +6,7 @@ use Rattle.ix_model.specs.history.Step.{Given}
 use Rattle.ix_model.specs.history.Events.{Event}
 use Rattle.ix_model.specs.history.Freshness.{Way, fresh_after, fresh_from, is_fresh}
 use Rattle.ix_model.specs.history.Freshness as way
-use Rattle.ix_worked.specs.labels.LooksAnew.{held_low, reading_twice}
+use Rattle.ix_worked.specs.floating.LooksAnew.{held_low, reading_twice}
 use Rattle.ix_worked.specs.short.OnEntries.{shared_desk, seeking_high}
 use Rattle.ix_worked.specs.PairsOfRuns.{fresh_along}
 use Rattle.ix_worked.specs.Sessions.{calls}
@@ -15,7 +15,7 @@ use Rattle.ix_worked.proofs.Chains.{◌⨾◌, Gives, stepped, gives_some}
 use Rattle.ix_worked.proofs.Computing.{running, auditing}
 use Rattle.ix_worked.proofs.Labels.{labels}
 use Rattle.ix_worked.proofs.short.AtEntries as entries
-use Rattle.ix_worked.proofs.labels.Raised as raised
+use Rattle.ix_worked.proofs.floating.Raised as raised
 use Rattle.ix_worked.proofs.files.Shared as shared
 
 -- whether a descriptor is fresh after a history that gives this

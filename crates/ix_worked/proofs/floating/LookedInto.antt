@@ -5,7 +5,7 @@ use Rattle.ix_model.specs.opening.Opening.{opening_world}
 use Rattle.ix_model.specs.history.Step.{Given}
 use Rattle.ix_model.specs.world.World.{World}
 use Rattle.ix_model.specs.declared.refusal.Refusal.TheVariants as refusal
-use Rattle.ix_worked.specs.labels.HighDirectory.{a_high_directory, looking_into_it, looking_into_it_shows}
+use Rattle.ix_worked.specs.floating.HighDirectory.{a_high_directory, looking_into_it, looking_into_it_shows}
 use Rattle.ix_worked.specs.Scripts.{seven, under}
 use Rattle.ix_worked.specs.Sessions.{shown}
 use Rattle.ix_worked.proofs.Chains.{◌⨾◌, Steps, Gives, refused, shown_by, shown_given}

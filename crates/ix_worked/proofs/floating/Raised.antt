@@ -9,7 +9,7 @@ use Rattle.ix_model.specs.declared.call.Mode.TheVariants as mode
 use Rattle.ix_model.specs.declared.refusal.Refusal.TheVariants as refusal
 use Rattle.ix_worked.specs.Sessions.{shown}
 use Rattle.ix_worked.specs.Scripts.{seven, in_root, proc, file, usual_fs}
-use Rattle.ix_worked.specs.labels.LooksAnew.{held_low, reading_twice, reading_twice_shows}
+use Rattle.ix_worked.specs.floating.LooksAnew.{held_low, reading_twice, reading_twice_shows}
 use Rattle.ix_worked.proofs.Chains.{◌⨾◌, Steps, Gives, number, bytes, refused, shown_by, shown_given}
 use Rattle.ix_worked.proofs.Computing.{running}
 use Rattle.ix_worked.proofs.Labels.{labels}

@@ -6,7 +6,7 @@ use Rattle.ix_model.specs.history.Step.{Given}
 use Rattle.ix_model.specs.world.World.{World}
 use Rattle.ix_model.specs.declared.call.Mode.TheVariants as mode
 use Rattle.ix_model.specs.declared.refusal.Refusal.TheVariants as refusal
-use Rattle.ix_worked.specs.labels.FrozenFile.{a_frozen_file, writing_to_it, writing_to_it_shows}
+use Rattle.ix_worked.specs.floating.FrozenFile.{a_frozen_file, writing_to_it, writing_to_it_shows}
 use Rattle.ix_worked.specs.Scripts.{three, in_root}
 use Rattle.ix_worked.specs.Sessions.{shown}
 use Rattle.ix_worked.proofs.Chains.{◌⨾◌, Steps, Gives, number, refused, shown_by, shown_given}

@@ -9,7 +9,7 @@ use Rattle.ix_model.specs.declared.call.Mode.TheVariants as mode
 use Rattle.ix_model.specs.declared.refusal.Refusal.TheVariants as refusal
 use Rattle.ix_worked.specs.Sessions.{shown}
 use Rattle.ix_worked.specs.Scripts.{three, in_root, proc, file}
-use Rattle.ix_worked.specs.labels.FileCeiling.{low_fs, low_files, writing_down, writing_down_shows}
+use Rattle.ix_worked.specs.floating.FileCeiling.{low_fs, low_files, writing_down, writing_down_shows}
 use Rattle.ix_worked.proofs.Chains.{◌⨾◌, Steps, number, bytes, refused, shown_by, shown_given}
 use Rattle.ix_worked.proofs.Computing.{running}
 use Rattle.ix_worked.proofs.Labels.{labels}

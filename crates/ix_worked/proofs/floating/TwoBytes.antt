@@ -9,7 +9,7 @@ use Rattle.ix_model.specs.history.Events as op
 use Rattle.ix_model.specs.declared.call.Mode.TheVariants as mode
 use Rattle.ix_worked.specs.Sessions.{shown}
 use Rattle.ix_worked.specs.Scripts.{seven, in_root, proc, file, usual_fs, entry}
-use Rattle.ix_worked.specs.labels.TwoLevels.{two_levels, writing, writing_shows}
+use Rattle.ix_worked.specs.floating.TwoLevels.{two_levels, writing, writing_shows}
 use Rattle.ix_worked.proofs.Chains.{◌⨾◌, Steps, number, bytes, shown_by, shown_given}
 use Rattle.ix_worked.proofs.Computing.{running}
 use Rattle.ix_worked.proofs.Labels.{labels}
