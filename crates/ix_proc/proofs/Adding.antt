@@ -1,14 +1,14 @@
--- What the tables show of a new process, and what a call that adds, changes or removes one asks.
-use Rattle.std.proofs.Common.{◌≡◌, ◌≢◌, ◌<◌, ◌≤◌, ◌+◌, ◌==◌, ℕ, Bool, true, false, true≢false, List, [], ◌∷◌, ◌++◌, map, length, cond, nat_lt, count_by, slice_get, Option, Some, None, is_some, option_map, if◌then◌else◌, refl, sym, ap, ◌∙◌, subst, arith, inl, inr, get_or, set}
+-- What the tables show of a new process, and what adding, changing and removing one rests on.
+use Rattle.std.proofs.Common.{◌≡◌, ◌<◌, ◌+◌, ℕ, Bool, true, false, true≢false, List, [], ◌∷◌, ◌++◌, length, nat_lt, count_by, slice_get, Option, Some, None, is_some, option_map, if◌then◌else◌, refl, sym, ap, ◌∙◌, subst, arith, get_or, set}
 use Rattle.std.specs.Option.{option_map_or, option_and_then}
 use Rattle.std.specs.List.{list_any, remove, Contains}
 use Rattle.std.proofs.lemmas.Bool.{lt-ltb, le-ltb}
 use Rattle.ix_model.specs.world.World.{Process, at, living, is_ended}
 use Rattle.ix_links.specs.Chains.{Chains, chain_of, pushed_back, back_moved, removed}
 use Rattle.ix_proc.specs.Table.{ProcTable, with_process, number_of}
-use Rattle.ix_proc.specs.Slots.{pid_in, record_at, lookup, led, found, laid, table_of, process_of, process_in, status_in, AreSlots, Finds}
+use Rattle.ix_proc.specs.Slots.{pid_in, record_at, lookup, found, laid, table_of, process_of, process_in, status_in, AreSlots, Finds}
 use Rattle.ix_proc.specs.Kin.{AreKin, Hangs, Parented}
-use Rattle.ix_proc.proofs.Laying.{length_laid, laid_pushed, are_pushed, tables_pushed, count_processes}
+use Rattle.ix_proc.proofs.Laying.{laid_pushed, are_pushed, tables_pushed, count_processes}
 use Rattle.ix_proc.proofs.Found.{next_is, process_is}
 use Rattle.ix_proc.proofs.Hanging.{lives_there}
 use Rattle.ix_proc.proofs.Pushed.{low, new_link, kin_pushed}
@@ -19,15 +19,6 @@ use Rattle.ix_model.specs.declared.ids.Pid.{Pid}
 use Rattle.ix_proc.specs.declared.slot.Slot.{Slot}
 use Rattle.ix_proc.specs.declared.slot.Record.{Record}
 
--- an ended process does not live
-pub ended_dead : (o : Option Process) → is_ended o ≡ true → is_some (living o) ≡ false
-ended_dead None ended = refl
-ended_dead (Some p) ended = ap (λ (b : Bool). is_some (if b then None else Some p)) ended
-
--- a process that lives has not ended
-pub living_goes_on : (p : Process) → is_some (living (Some p)) ≡ true → p.ended ≡ true → ⊥
-living_goes_on p alive ended = true≢false (sym alive ∙ ap (λ (b : Bool). is_some (if b then None else Some p)) ended)
-
 pid_same : (a b : Option Pid) → option_map number_of a ≡ option_map number_of b → a ≡ b
 pid_same None None e = refl
 pid_same None (Some y) e = absurd (cc e)
@@ -37,17 +28,6 @@ pid_same (Some x) (Some y) e = let numbers : Some x.0 ≡ Some y.0 = e in let sa
 free_first : (free : List ℕ) (i : ℕ) → Some i ≡ slice_get free 0 → (rest : List ℕ) × (free ≡ i ∷ rest)
 free_first [] i e = absurd (cc e)
 free_first (x ∷ rest) i e = let both : Some i ≡ Some x = e in let same : i ≡ x = cc in (rest, ap (λ y. y ∷ rest) (sym same))
-
-none_free : (free : List ℕ) → None ≡ slice_get free 0 → length free ≡ 0
-none_free [] e = refl
-none_free (x ∷ rest) e = absurd (cc e)
-
-pushed_none : (free : List ℕ) (c : ℕ) (chains : List (List ℕ)) → free ≡ [] → back_moved c free chains ≡ record { chains = chains; free = free }
-pushed_none free c chains e = rw e refl
-
-nothing : (free : List ℕ) → None ≡ slice_get free 0 → free ≡ []
-nothing [] e = refl
-nothing (x ∷ rest) e = absurd (cc e)
 
 module _ (t : List Slot) (rs : List Record) (n limit : ℕ) (k : Chains) (are : AreSlots t rs n) (kin : AreKin t rs k limit) (fit : length rs ≡ limit) (table : ProcTable) (view : table_of (laid t rs n) limit ≡ table) where
   pub taken : count_by is_some table.processes ≡ length t
@@ -78,13 +58,6 @@ module _ (t : List Slot) (rs : List Record) (n limit : ℕ) (k : Chains) (are : 
   pub parent_same : (p : ℕ) (s : Slot) → lookup t p ≡ Some s → (o : Option Pid) → option_and_then (λ (x : Process). x.parent) (at table.processes p) ≡ option_map number_of o → o ≡ (record_at rs s.link).parent
   parent_same p s is o e = pid_same o (record_at rs s.link).parent (sym e ∙ ap (λ (x : Option Process). option_and_then (λ (y : Process). y.parent) x) (process_is t rs n limit are table view p s is))
 
-  -- no link is free
-  pub full : None ≡ slice_get k.free 0 → nat_lt (count_by is_some table.processes) table.limit ≡ false
-  full e = le-ltb _ _ (omega (arith, taken, limit_is, kin.spare, none_free k.free e))
-
-  pub unmoved : (c : ℕ) → None ≡ slice_get k.free 0 → pushed_back c k ≡ k
-  unmoved c e = pushed_none k.free c k.chains (nothing k.free e)
-
   -- a link is free
   module _ (x : Slot) (r : Record) (c : ℕ) (first : Some x.link ≡ slice_get k.free 0) (is : pid_in x ≡ length table.processes) (bears : r.who.pid.0 ≡ length table.processes) (hangs : Hangs t limit r.parent c) (lives : option_map_or (λ q. is_some (living (at table.processes q.0))) r.parent true ≡ true) where
     free : k.free ≡ x.link ∷ (free_first k.free x.link first).0
@@ -92,9 +65,6 @@ module _ (t : List Slot) (rs : List Record) (n limit : ℕ) (k : Chains) (are : 
 
     pub room : nat_lt (count_by is_some table.processes) table.limit ≡ true
     room = lt-ltb _ _ (omega (arith, taken, limit_is, kin.spare, ap length free))
-
-    pub few : length t < limit
-    few = omega (arith, kin.spare, ap length free)
 
     pub in_records : x.link < length rs
     in_records = low t rs n limit k are kin fit x r (free_first k.free x.link first).0 (is ∙ next_pid_is) free c hangs (parent_lives r.parent lives)
@@ -124,9 +94,6 @@ module _ (t : List Slot) (rs : List Record) (n limit : ℕ) (k : Chains) (are : 
 
     pub removed_held : Contains (chain_of c k) d.link
     removed_held = subst (λ (i : ℕ). Contains (chain_of c k) i) (sym same_link) (held t rs n limit k are kin fit j p d there c hangs_behind)
-
-    pub removed_low : c < length k.chains
-    removed_low = chain_low t rs n limit k are kin fit j p d there c hangs_behind
 
     pub removed_kin : list_any (is_child p) table.processes ≡ false → AreKin (remove t j) rs (removed c d.link k) limit
     removed_kin none = subst (λ (i : ℕ). AreKin (remove t j) rs (removed c i k) limit) (sym same_link) (kin_removed t rs n limit k are kin fit j p d there c hangs_behind (childless_from t rs n limit are table view p none))

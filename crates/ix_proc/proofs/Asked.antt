@@ -1,13 +1,13 @@
 -- What the chains answer of the children of a process.
-use Rattle.std.proofs.Common.{◌≡◌, IsTrue, ◌<◌, ◌+◌, ◌==◌, ℕ, Bool, true, false, true≢false, ◌&&◌, List, [], ◌∷◌, length, position, slice_get, get_or, Option, Some, None, is_some, unwrap_or, option_map, refl, sym, ap, ◌∙◌, subst, arith, inl, inr}
+use Rattle.std.proofs.Common.{◌≡◌, IsTrue, ◌<◌, ◌==◌, ℕ, Bool, true, false, true≢false, ◌&&◌, List, [], length, slice_get, get_or, Option, Some, None, is_some, unwrap_or, option_map, refl, sym, ap, ◌∙◌, arith, inl, inr}
 use Rattle.std.specs.Option.{option_map_or}
 use Rattle.std.specs.List.{find, list_any}
 use Rattle.std.proofs.lemmas.Bool.Decides.{eqb_tells}
-use Rattle.ix_model.specs.world.World.{Process, at, living, is_ended}
+use Rattle.ix_model.specs.world.World.{Process, at, living}
 use Rattle.ix_model.specs.rows.OnProcesses.{is_child}
 use Rattle.ix_links.specs.Chains.{Chains, chain_of}
 use Rattle.ix_proc.specs.Table.{ProcTable, EndedChild}
-use Rattle.ix_proc.specs.Slots.{pid_in, record_at, lookup, led, found, process_in, process_of, status_in, laid, table_of, AreSlots, is_child_record}
+use Rattle.ix_proc.specs.Slots.{pid_in, record_at, lookup, led, found, process_in, laid, table_of, AreSlots, is_child_record}
 use Rattle.ix_proc.specs.Kin.{linked, AreKin}
 use Rattle.ix_proc.proofs.Looking.{lookup_at}
 use Rattle.ix_proc.proofs.Linked.{linked_none}

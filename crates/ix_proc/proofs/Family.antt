@@ -1,23 +1,19 @@
 -- A process more, another record in its place, and one that goes keep the chains of children true.
-use Rattle.std.proofs.Common.{◌≡◌, ◌≢◌, ◌<◌, ◌≤◌, ◌+◌, ◌==◌, ℕ, zero, suc, Bool, true, false, true≢false, List, [], ◌∷◌, ◌++◌, map, length, length-append, nat_lt, cond, Option, Some, None, is_some, is_none, option_map, if◌then◌else◌, refl, sym, ap, ◌∙◌, subst, arith, inl, inr, get_or, set}
+use Rattle.std.proofs.Common.{◌≡◌, ◌<◌, ◌≤◌, ◌+◌, ◌==◌, ℕ, true, false, true≢false, List, [], ◌∷◌, ◌++◌, length, length-append, nat_lt, Option, Some, None, is_some, option_map, if◌then◌else◌, refl, sym, ap, ◌∙◌, arith, inl, inr, get_or}
 use Rattle.std.specs.Option.{option_map_or}
-use Rattle.std.specs.List.{remove}
-use Rattle.std.proofs.lemmas.List.{get_or-set_same, get_or-set_other, length-set, map-append}
+use Rattle.std.proofs.lemmas.List.{map-append}
 use Rattle.std.proofs.lemmas.Bool.Decides.{eqb_tells}
 use Rattle.std.proofs.lemmas.Bool.{cases_lt, lt-ltb, le-ltb}
 use Rattle.ix_model.specs.world.World.{living}
-use Rattle.ix_links.specs.Chains.{Chains, times, chain_of, pushed_back, without, removed}
-use Rattle.ix_proc.specs.Slots.{pid_in, record_at, lookup, found, process_in, process_of, is_child_record, AreSlots, Finds, Below}
-use Rattle.ix_proc.specs.Kin.{linked, is_root, AreKin}
-use Rattle.ix_proc.proofs.Looking.{lookup_push, lookup_at, lookup_below}
-use Rattle.ix_proc.proofs.Linked.{links, times_same, times_other, linked_push, linked_none}
+use Rattle.ix_links.specs.Chains.{Chains, times}
+use Rattle.ix_links.proofs.Running.{times-append, times_other}
+use Rattle.ix_proc.specs.Slots.{pid_in, record_at, lookup, found, process_in, is_child_record, AreSlots}
+use Rattle.ix_proc.specs.Kin.{linked, AreKin}
+use Rattle.ix_proc.proofs.Looking.{lookup_at, lookup_below}
+use Rattle.ix_proc.proofs.Linked.{links, times_same, linked_none}
 use Rattle.ix_model.specs.declared.ids.Pid.{Pid}
 use Rattle.ix_proc.specs.declared.slot.Slot.{Slot}
 use Rattle.ix_proc.specs.declared.slot.Record.{Record}
-
-pub times_append : (i : ℕ) (xs : List ℕ) (y : ℕ) → times i (xs ++ y ∷ []) ≡ times i xs + (if y == i then 1 else 0)
-times_append i [] y = omega arith
-times_append i (x ∷ xs) y = omega (arith, times_append i xs y)
 
 -- a slot that a look-up finds stands in the list
 pub found_times : (t : List Slot) (p : ℕ) (s : Slot) → lookup t p ≡ Some s → 1 ≤ times s.link (links t)
@@ -26,7 +22,7 @@ found_times (x ∷ t) p s is = elim (eqb_tells (pid_in x) p) [
   | inl e ↦ (let first : Some x ≡ Some s = sym (rw e.0 refl) ∙ is in let same : x ≡ s = cc in omega (arith, times_same x.link s.link (links t) (ap (λ (y : Slot). y.link) same)))
   | inr e ↦ (let more = found_times t p s (sym (rw e.0 refl) ∙ is) in elim (eqb_tells x.link s.link) [
     | inl h ↦ omega (arith, more, times_same x.link s.link (links t) h.1)
-    | inr h ↦ omega (arith, more, times_other x.link s.link (links t) h.1)
+    | inr h ↦ omega (arith, more, times_other s.link x.link (links t) (λ same. h.1 (sym same)))
   ])
 ]
 
@@ -56,7 +52,7 @@ module _ (t : List Slot) (rs : List Record) (n limit : ℕ) (k : Chains) (are : 
   whole_pushed x rest free i =
       let split : links (t ++ x ∷ []) ≡ links t ++ x.link ∷ [] = map-append (λ (s : Slot). s.link) t (x ∷ []) in
       let more : times i k.free ≡ (if x.link == i then 1 else 0) + times i rest = ap (times i) free in
-      omega (arith, more, kin.whole i, ap (times i) split, times_append i (links t) x.link)
+      omega (arith, more, kin.whole i, ap (times i) split, times-append i (links t) (x.link ∷ []))
 
   pub spare_pushed : (x : Slot) (rest : List ℕ) → k.free ≡ x.link ∷ rest → length rest + length (t ++ x ∷ []) ≡ limit
   spare_pushed x rest free = omega (arith, ap length free, kin.spare, length-append t (x ∷ []))

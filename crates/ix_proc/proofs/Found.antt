@@ -1,14 +1,11 @@
 -- What the tables show of the slots and records that stand behind them.
-use Rattle.std.proofs.Common.{◌≡◌, ◌≢◌, ◌<◌, ◌+◌, ◌==◌, ℕ, Bool, true, false, true≢false, List, [], ◌∷◌, ◌++◌, length, count_by, Option, Some, None, is_some, option_map, if◌then◌else◌, refl, sym, ap, ◌∙◌, subst, arith, get_or, set}
-use Rattle.std.specs.Option.{option_and_then}
+use Rattle.std.proofs.Common.{◌≡◌, ℕ, true, true≢false, List, length, Option, Some, None, is_some, option_map, sym, ap, ◌∙◌, subst, get_or, set}
 use Rattle.std.specs.List.{remove}
-use Rattle.std.proofs.lemmas.List.{set-get_or, length-map}
-use Rattle.ix_model.specs.world.World.{Process, at, put, change, living}
-use Rattle.ix_model.specs.rows.OnProcesses.{remains}
-use Rattle.ix_proc.specs.Table.{ProcTable, ended, ended_as, collected, caller_of, with_caller, number_of}
-use Rattle.ix_proc.specs.Slots.{pid_in, record_at, process_of, process_in, status_in, table_of, with_record, lookup, laid, AreSlots, Finds}
-use Rattle.ix_proc.proofs.Laying.{at_laid, length_laid, at_processes, at_statuses, tables_set, record_of, laid_set, laid_remove, found_slot, count_processes}
-use Rattle.ix_model.specs.declared.ids.Pid.{Pid}
+use Rattle.std.proofs.lemmas.List.{length-map}
+use Rattle.ix_model.specs.world.World.{at}
+use Rattle.ix_proc.specs.Table.{ProcTable, collected}
+use Rattle.ix_proc.specs.Slots.{record_at, process_of, process_in, status_in, table_of, with_record, lookup, laid, AreSlots, Finds}
+use Rattle.ix_proc.proofs.Laying.{at_laid, length_laid, at_processes, at_statuses, tables_set, record_of, laid_set, laid_remove, found_slot}
 use Rattle.ix_proc.specs.declared.slot.Slot.{Slot}
 use Rattle.ix_proc.specs.declared.slot.Record.{Record}
 

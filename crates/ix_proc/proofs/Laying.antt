@@ -1,7 +1,7 @@
 -- A change of the slots or the records is a change of what is laid out by pid, and that of the tables.
-use Rattle.std.proofs.Common.{◌≡◌, ◌≢◌, ◌<◌, ◌+◌, ◌==◌, ℕ, Bool, true, false, true≢false, List, [], ◌∷◌, ◌++◌, map, length, length-append, count_by, cond, Option, Some, None, is_some, option_map, refl, sym, ap, ◌∙◌, subst, arith, inl, inr, get_or, set}
+use Rattle.std.proofs.Common.{◌≡◌, ◌≢◌, ◌<◌, ◌+◌, ◌==◌, ℕ, Bool, true, false, List, [], ◌∷◌, ◌++◌, map, length, length-append, count_by, cond, Option, Some, None, is_some, refl, sym, ap, ◌∙◌, subst, arith, inl, inr, get_or, set}
 use Rattle.std.specs.List.{remove, range_with_len}
-use Rattle.std.proofs.lemmas.List.{map-set, map-append, length-map, length-set, get_or_past, same_lists, get_or-set_same, get_or-set_other}
+use Rattle.std.proofs.lemmas.List.{map-set, map-append, length-set, get_or_past, same_lists, get_or-set_same, get_or-set_other}
 use Rattle.std.proofs.Math.ListN.{get_or-map}
 use Rattle.std.proofs.lemmas.List.Edits.{length-remove}
 use Rattle.std.proofs.lemmas.List.Sums.{sum_by-set, sum_by_push, sum_by-cons}
@@ -9,9 +9,9 @@ use Rattle.std.proofs.lemmas.List.FromFn.{get_or-map-range_with_len, length-map-
 use Rattle.std.proofs.lemmas.Bool.Decides.{eqb_tells, nat_tests}
 use Rattle.std.proofs.lemmas.Bool.{cases_lt}
 use Rattle.ix_model.specs.world.World.{Process, at}
-use Rattle.ix_proc.specs.Table.{ProcTable, with_process, no_processes}
+use Rattle.ix_proc.specs.Table.{with_process, no_processes}
 use Rattle.ix_proc.specs.Slots.{pid_in, record_at, process_of, process_in, status_in, table_of, lookup, led, found, laid, Below, AreSlots, Finds}
-use Rattle.ix_proc.proofs.Looking.{lookup_below, lookup_at, lookup_remove, lookup_push, lookup_pid, rises_remove, below_remove, rises_push, below_push}
+use Rattle.ix_proc.proofs.Looking.{lookup_below, lookup_at, lookup_remove, lookup_push, rises_remove, below_remove, rises_push, below_push}
 use Rattle.ix_proc.specs.declared.slot.Slot.{Slot}
 use Rattle.ix_proc.specs.declared.slot.Record.{Record}
 

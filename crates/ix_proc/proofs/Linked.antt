@@ -1,9 +1,10 @@
 -- The links of the records that pass a test, after a change.
-use Rattle.std.proofs.Common.{◌≡◌, ◌≢◌, ◌<◌, ◌≤◌, ◌+◌, ◌==◌, ℕ, zero, suc, Bool, true, false, true≢false, List, [], ◌∷◌, ◌++◌, map, length, cond, Option, Some, None, if◌then◌else◌, refl, sym, ap, ◌∙◌, subst, arith, inl, inr, get_or, set}
+use Rattle.std.proofs.Common.{◌≡◌, ◌≢◌, ◌<◌, ◌≤◌, ◌+◌, ℕ, zero, suc, Bool, true, false, List, [], ◌∷◌, ◌++◌, map, length, if◌then◌else◌, refl, sym, ap, ◌∙◌, arith, inl, inr, get_or, set}
 use Rattle.std.specs.List.{remove}
 use Rattle.std.proofs.lemmas.List.{get_or-set_same, get_or-set_other}
-use Rattle.std.proofs.lemmas.Bool.Decides.{eqb_tells, nat_tests}
+use Rattle.std.proofs.lemmas.Bool.Decides.{eqb_tells}
 use Rattle.ix_links.specs.Chains.{times, without}
+use Rattle.ix_links.proofs.Running.{times_other, times_skip}
 use Rattle.ix_proc.specs.Slots.{record_at}
 use Rattle.ix_proc.specs.Kin.{linked}
 use Rattle.ix_proc.specs.declared.slot.Slot.{Slot}
@@ -12,24 +13,14 @@ use Rattle.ix_proc.specs.declared.slot.Record.{Record}
 abbrev pub links : List Slot → List ℕ
 links t = map (λ (s : Slot). s.link) t
 
--- how often a link stands in a list with one element more
 pub times_same : (x i : ℕ) (xs : List ℕ) → x ≡ i → times i (x ∷ xs) ≡ 1 + times i xs
 times_same x i xs e = elim (eqb_tells x i) [ inl h ↦ rw h.0 refl | inr h ↦ absurd (h.1 e) ]
-
-pub times_other : (x i : ℕ) (xs : List ℕ) → x ≢ i → times i (x ∷ xs) ≡ times i xs
-times_other x i xs differs = elim (eqb_tells x i) [
-  | inl h ↦ absurd (differs h.1)
-  | inr h ↦ (let none : times i (x ∷ xs) ≡ 0 + times i xs = rw h.0 refl in omega (arith, none))
-]
-
-pub times_more : (x i : ℕ) (xs : List ℕ) → times i xs ≤ times i (x ∷ xs)
-times_more x i xs = elim (eqb_tells x i) [ inl h ↦ omega (arith, times_same x i xs h.1) | inr h ↦ omega (arith, times_other x i xs h.1) ]
 
 -- a link that stands in no slot is not the first one's
 other_link : (s : Slot) (t : List Slot) (i : ℕ) → times i (links (s ∷ t)) ≡ 0 → (s.link ≢ i) × (times i (links t) ≡ 0)
 other_link s t i none = elim (eqb_tells s.link i) [
   | inl e ↦ absurd (omega (arith, none, times_same s.link i (links t) e.1))
-  | inr e ↦ (e.1, sym (times_other s.link i (links t) e.1) ∙ none)
+  | inr e ↦ (e.1, sym (times_other i s.link (links t) (λ same. e.1 (sym same))) ∙ none)
 ]
 
 -- a new record under a link that stands in no slot
@@ -63,9 +54,9 @@ linked_few P (s ∷ t) rs i = go (P (record_at rs s.link)) (linked_few P t rs i)
     go : (b : Bool) → times i (linked P t rs) ≤ times i (links t) → times i (if b then s.link ∷ linked P t rs else linked P t rs) ≤ times i (links (s ∷ t))
     go true more = elim (eqb_tells s.link i) [
       | inl e ↦ omega (arith, more, times_same s.link i (linked P t rs) e.1, times_same s.link i (links t) e.1)
-      | inr e ↦ omega (arith, more, times_other s.link i (linked P t rs) e.1, times_other s.link i (links t) e.1)
+      | inr e ↦ omega (arith, more, times_other i s.link (linked P t rs) (λ same. e.1 (sym same)), times_other i s.link (links t) (λ same. e.1 (sym same)))
     ]
-    go false more = omega (arith, more, times_more s.link i (links t))
+    go false more = omega (arith, more, times_skip i s.link (links t))
 
 without_same : (x : ℕ) (xs : List ℕ) → without x (x ∷ xs) ≡ xs
 without_same x xs = elim (eqb_tells x x) [ inl e ↦ rw e.0 refl | inr e ↦ absurd (e.1 refl) ]
@@ -77,13 +68,13 @@ pub without_none : (i : ℕ) (xs : List ℕ) → times i xs ≡ 0 → without i 
 without_none i [] none = refl
 without_none i (x ∷ xs) none = elim (eqb_tells x i) [
   | inl e ↦ absurd (omega (arith, none, times_same x i xs e.1))
-  | inr e ↦ without_other x i xs e.1 ∙ ap (λ l. x ∷ l) (without_none i xs (sym (times_other x i xs e.1) ∙ none))
+  | inr e ↦ without_other x i xs e.1 ∙ ap (λ l. x ∷ l) (without_none i xs (sym (times_other i x xs (λ same. e.1 (sym same))) ∙ none))
 ]
 
 times_at : (t : List Slot) (k : ℕ) (d : Slot) → k < length t → 1 ≤ times (get_or t k d).link (links t)
 times_at [] k d low = absurd (omega arith)
 times_at (s ∷ t) zero d low = omega (arith, times_same s.link s.link (links t) refl)
-times_at (s ∷ t) (suc k) d low = omega (arith, times_at t k d (omega arith), times_more s.link (get_or t k d).link (links t))
+times_at (s ∷ t) (suc k) d low = omega (arith, times_at t k d (omega arith), times_skip (get_or t k d).link s.link (links t))
 
 -- a slot that goes, whose link is no other's
 pub linked_remove : (P : Record → Bool) (t : List Slot) (rs : List Record) (k : ℕ) (d : Slot) → k < length t → times (get_or t k d).link (links t) ≤ 1 → linked P (remove t k) rs ≡ without (get_or t k d).link (linked P t rs)
@@ -96,7 +87,7 @@ linked_remove P (s ∷ t) rs zero d low once = go (P (record_at rs s.link)) rest
     go : (b : Bool) → without s.link (linked P t rs) ≡ linked P t rs → linked P t rs ≡ without s.link (if b then s.link ∷ linked P t rs else linked P t rs)
     go true more = sym (without_same s.link (linked P t rs))
     go false more = sym more
-linked_remove P (s ∷ t) rs (suc k) d low once = go (P (record_at rs s.link)) (linked_remove P t rs k d (omega arith) (omega (arith, once, times_more s.link (get_or t k d).link (links t)))) apart
+linked_remove P (s ∷ t) rs (suc k) d low once = go (P (record_at rs s.link)) (linked_remove P t rs k d (omega arith) (omega (arith, once, times_skip (get_or t k d).link s.link (links t)))) apart
   where
     apart : s.link ≢ (get_or t k d).link
     apart same = omega (arith, once, times_same s.link (get_or t k d).link (links t) same, times_at t k d (omega arith))

@@ -1,18 +1,19 @@
 -- A new process behind those of its chain keeps the chains of children true.
-use Rattle.std.proofs.Common.{◌≡◌, ◌≢◌, ◌<◌, ◌≤◌, ◌+◌, ◌==◌, ℕ, Bool, true, false, true≢false, List, [], ◌∷◌, ◌++◌, map, length, cond, Option, Some, None, is_some, option_map, if◌then◌else◌, refl, sym, ap, ◌∙◌, subst, arith, inl, inr, get_or, set}
+use Rattle.std.proofs.Common.{◌≡◌, ◌≢◌, ◌<◌, ◌==◌, ℕ, Bool, true, false, true≢false, List, [], ◌∷◌, ◌++◌, length, cond, Option, Some, None, is_some, if◌then◌else◌, refl, sym, ap, ◌∙◌, subst, arith, inl, inr, get_or, set}
 use Rattle.std.specs.Option.{option_map_or}
 use Rattle.std.proofs.lemmas.List.{get_or-set_same, get_or-set_other, length-set, length-append, map-append}
 use Rattle.std.proofs.lemmas.Bool.Decides.{eqb_tells}
 use Rattle.ix_model.specs.world.World.{living}
 use Rattle.ix_links.specs.Chains.{Chains, times, chain_of, back_moved, pushed_back}
+use Rattle.ix_links.proofs.Running.{times-append}
 use Rattle.ix_links.proofs.Listing.{total-set}
 use Rattle.ix_proc.specs.Slots.{pid_in, record_at, lookup, led, found, process_of, process_in, is_child_record, AreSlots, Below}
-use Rattle.ix_proc.specs.Kin.{linked, is_root, AreKin, Hangs}
+use Rattle.ix_proc.specs.Kin.{linked, AreKin, Hangs}
 use Rattle.ix_proc.proofs.Looking.{lookup_push}
-use Rattle.ix_proc.proofs.Linked.{links, times_same, linked_push}
+use Rattle.ix_proc.proofs.Linked.{links, linked_push}
 use Rattle.ix_proc.proofs.Laying.{below_next}
-use Rattle.ix_proc.proofs.Family.{childless, found_times, free_link, times_append, whole_pushed, spare_pushed}
-use Rattle.ix_proc.proofs.Hanging.{link_low, in_chains, apart, children_edited, roots_edited}
+use Rattle.ix_proc.proofs.Family.{childless, found_times, free_link, whole_pushed, spare_pushed}
+use Rattle.ix_proc.proofs.Hanging.{in_chains, apart, children_edited, roots_edited}
 use Rattle.ix_model.specs.declared.ids.Pid.{Pid}
 use Rattle.ix_proc.specs.declared.slot.Slot.{Slot}
 use Rattle.ix_proc.specs.declared.slot.Record.{Record}
@@ -71,7 +72,7 @@ module _ (t : List Slot) (rs : List Record) (n limit : ℕ) (k : Chains) (are : 
   idle_on : (i : ℕ) → i < limit → times i (links (t ++ x ∷ [])) ≡ 0 → get_or new_chains i [] ≡ []
   idle_on i under gone =
       let split : links (t ++ x ∷ []) ≡ links t ++ x.link ∷ [] = map-append (λ (s : Slot). s.link) t (x ∷ []) in
-      let before : times i (links t) ≡ 0 = omega (arith, gone, ap (times i) split, times_append i (links t) x.link) in
+      let before : times i (links t) ≡ 0 = omega (arith, gone, ap (times i) split, times-append i (links t) (x.link ∷ [])) in
       get_or-set_other k.chains c i (chain_of c k ++ x.link ∷ []) [] (apart t rs n limit k are kin fit c r.parent hangs i under before) ∙ kin.idle i under before
 
   moved_kin : AreKin (t ++ x ∷ []) (set rs x.link r) (record { chains = new_chains; free = rest }) limit

@@ -1,5 +1,5 @@
 -- Another record in its place, and one that goes, keep the chains of children true.
-use Rattle.std.proofs.Common.{◌≡◌, ◌≢◌, ◌<◌, ◌≤◌, ◌+◌, ◌==◌, ℕ, zero, suc, Bool, true, false, true≢false, List, [], ◌∷◌, map, length, cond, Option, Some, None, is_some, is_none, option_map, if◌then◌else◌, refl, sym, ap, ◌∙◌, subst, arith, inl, inr, get_or, set}
+use Rattle.std.proofs.Common.{◌≡◌, ◌≢◌, ◌<◌, ◌+◌, ◌==◌, ℕ, zero, suc, Bool, true, false, true≢false, List, [], ◌∷◌, length, Option, Some, None, is_some, is_none, if◌then◌else◌, refl, sym, ap, ◌∙◌, subst, arith, inl, inr, get_or, set}
 use Rattle.std.specs.Option.{option_map_or}
 use Rattle.std.specs.List.{remove, Contains}
 use Rattle.std.proofs.lemmas.List.{get_or-set_same, get_or-set_other, length-set, length-append}
@@ -7,13 +7,14 @@ use Rattle.std.proofs.lemmas.List.Edits.{length-remove}
 use Rattle.std.proofs.lemmas.Bool.Decides.{eqb_tells}
 use Rattle.ix_model.specs.world.World.{living}
 use Rattle.ix_links.specs.Chains.{Chains, times, chain_of, without, removed}
+use Rattle.ix_links.proofs.Running.{times_other}
 use Rattle.ix_links.proofs.Listing.{total-set, split, times_contained}
 use Rattle.ix_proc.specs.Slots.{pid_in, record_at, lookup, led, found, process_of, process_in, is_child_record, AreSlots, Finds}
 use Rattle.ix_proc.specs.Kin.{linked, is_root, AreKin, Hangs}
 use Rattle.ix_proc.proofs.Looking.{lookup_at}
-use Rattle.ix_proc.proofs.Linked.{links, times_same, times_other, linked_set, linked_remove, linked_none, without_none}
+use Rattle.ix_proc.proofs.Linked.{links, linked_set, linked_remove, linked_none, without_none}
 use Rattle.ix_proc.proofs.Laying.{seen_set, found_slot, gone, still}
-use Rattle.ix_proc.proofs.Hanging.{link_low, link_once, child_is, child_not, root_is, root_not, in_chains, apart, children_edited, roots_edited}
+use Rattle.ix_proc.proofs.Hanging.{link_once, child_is, in_chains, apart, children_edited, roots_edited}
 use Rattle.ix_model.specs.declared.ids.Pid.{Pid}
 use Rattle.ix_proc.specs.declared.slot.Slot.{Slot}
 use Rattle.ix_proc.specs.declared.slot.Record.{Record}
@@ -33,7 +34,7 @@ linked_fails P (s ∷ t) rs i fails = go (P (record_at rs s.link)) refl (linked_
     go : (b : Bool) → P (record_at rs s.link) ≡ b → times i (linked P t rs) ≡ 0 → times i (if b then s.link ∷ linked P t rs else linked P t rs) ≡ 0
     go true e more = elim (eqb_tells s.link i) [
       | inl h ↦ absurd (true≢false (sym e ∙ ap (λ j. P (record_at rs j)) h.1 ∙ fails))
-      | inr h ↦ times_other s.link i (linked P t rs) h.1 ∙ more
+      | inr h ↦ times_other i s.link (linked P t rs) (λ same. h.1 (sym same)) ∙ more
     ]
     go false e more = more
 

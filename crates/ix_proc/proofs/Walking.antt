@@ -4,9 +4,10 @@ use Rattle.std.specs.List.{find}
 use Rattle.std.proofs.lemmas.Bool.Decides.{eqb_tells}
 use Rattle.std.proofs.lemmas.Bool.{cases_lt, le-ltb}
 use Rattle.ix_links.specs.Chains.{Chains, times, chain_of}
+use Rattle.ix_links.proofs.Running.{times_skip}
 use Rattle.ix_proc.specs.Slots.{lookup, is_child_record, AreSlots}
 use Rattle.ix_proc.specs.Kin.{linked, AreKin, IsWalk}
-use Rattle.ix_proc.proofs.Linked.{links, times_same, times_other, times_more, linked_few}
+use Rattle.ix_proc.proofs.Linked.{links, times_same, linked_few}
 use Rattle.ix_proc.proofs.Hanging.{link_once}
 use Rattle.ix_proc.specs.declared.slot.Slot.{Slot}
 use Rattle.ix_proc.specs.declared.slot.Record.{Record}
@@ -21,12 +22,12 @@ abbrev pub Once : List ℕ → Type 0
 Once xs = (i : ℕ) → times i xs ≤ 1
 
 once_less : (x : ℕ) (xs : List ℕ) → Once (x ∷ xs) → Once xs
-once_less x xs once i = omega (arith, once i, times_more x i xs)
+once_less x xs once i = omega (arith, once i, times_skip i x xs)
 
 there_times : (xs : List ℕ) (m i : ℕ) → slice_get xs m ≡ Some i → 1 ≤ times i xs
 there_times [] m i is = absurd (cc is)
 there_times (x ∷ xs) zero i is = omega (arith, times_same x i xs (let same : Some x ≡ Some i = is in cc))
-there_times (x ∷ xs) (suc m) i is = omega (arith, there_times xs m i is, times_more x i xs)
+there_times (x ∷ xs) (suc m) i is = omega (arith, there_times xs m i is, times_skip i x xs)
 
 other_than : (x : ℕ) (xs : List ℕ) (m i : ℕ) → Once (x ∷ xs) → slice_get xs m ≡ Some i → x ≢ i
 other_than x xs m i once is same = omega (arith, once i, times_same x i xs same, there_times xs m i is)

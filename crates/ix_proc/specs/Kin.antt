@@ -1,5 +1,5 @@
 -- The children of each process stand on a chain of links, and the processes without a parent on one of their own.
-use Rattle.std.specs.Prelude.{◌≡◌, ℕ, ◌+◌, ◌<◌, ◌≤◌, ◌==◌, nat_lt, Bool, true, List, [], ◌∷◌, length, map, filter, Option, None, Some, is_some, is_none, if◌then◌else◌, slice_get}
+use Rattle.std.specs.Prelude.{◌≡◌, ℕ, ◌+◌, ◌<◌, ◌≤◌, nat_lt, Bool, true, List, [], ◌∷◌, length, map, Option, None, Some, is_some, is_none, if◌then◌else◌, slice_get}
 use Rattle.ix_model.specs.world.World.{living}
 use Rattle.ix_links.specs.Chains.{Chains, times, chain_of, pool}
 use Rattle.ix_proc.specs.Slots.{record_at, lookup, found, process_in, is_child_record}

@@ -201,8 +201,8 @@ impl Procs {
 
     /// The record of an ended process goes. All else stays.
     ///
-    /// It moves the pids behind that one up by a place, which keeps them in one sorted row for look-ups by halves. It
-    /// is the one kind of call that passes over more than it was asked for: at most 1,024 pids of 8 bytes, in one copy.
+    /// The pids behind it move up by a place, so that they stay a sorted row that can be searched by halves: one copy
+    /// of 8 bytes for each, and a valid config has at most 1,024 processes.
     pub fn collect(&mut self, child: Pid)
         requires { IsTrue (is_ended (at self.old.processes child.0)) }
         ensures { self.new ≡ collected child.0 self.old }

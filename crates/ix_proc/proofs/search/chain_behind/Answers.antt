@@ -1,4 +1,3 @@
-use Rattle.ix_proc.specs.Slots.{nobody}
 use Rattle.ix_proc.proofs.Hanging.{hangs_found}
 use Rattle.ix_proc.proofs.search.chain_behind.Goals as goal
 

@@ -1,4 +1,4 @@
-use Rattle.std.proofs.Common.{◌≡◌, ◌<◌, ℕ, Option, List, Some, None, is_some, length, true≢false, sym, ap, ◌∙◌, subst, arith, vec_capacity}
+use Rattle.std.proofs.Common.{◌≡◌, ℕ, List, Some, None, is_some, length, true≢false, sym, ap, ◌∙◌, subst, arith, vec_capacity}
 use Rattle.std.specs.List.{find}
 use Rattle.std.proofs.lemmas.List.{get_or_read}
 use Rattle.ix_links.specs.Chains.{chain_of}

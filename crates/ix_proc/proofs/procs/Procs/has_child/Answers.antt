@@ -1,4 +1,4 @@
-use Rattle.std.proofs.Common.{◌≡◌, ◌<◌, Option, List, Some, None, refl, sym, ap, ◌∙◌, subst, arith, vec_capacity}
+use Rattle.std.proofs.Common.{◌≡◌, List, Some, None, sym, ◌∙◌, subst, arith, vec_capacity}
 use Rattle.ix_proc.specs.Slots.{lookup, Finds}
 use Rattle.ix_proc.proofs.Found.{slot_of}
 use Rattle.ix_proc.proofs.Hanging.{link_low}

@@ -1,4 +1,4 @@
-use Rattle.std.proofs.Common.{◌≡◌, ◌+◌, ℕ, sym, ap, ◌∙◌, arith, vec_capacity}
+use Rattle.std.proofs.Common.{◌+◌, sym, ap, ◌∙◌, arith, vec_capacity}
 use Rattle.ix_links.specs.Chains.{all_free}
 use Rattle.ix_proc.specs.Table.{no_processes}
 use Rattle.ix_proc.proofs.Laying.{are_none, no_tables}

@@ -1,6 +1,5 @@
-use Rattle.std.proofs.Common.{◌≡◌, ◌<◌, length, List, refl, sym, ap, ◌∙◌, subst, arith, vec_capacity}
+use Rattle.std.proofs.Common.{List, refl, sym, ◌∙◌, subst, arith, vec_capacity}
 use Rattle.std.proofs.lemmas.List.{length-set}
-use Rattle.ix_proc.specs.Table.{ProcTable}
 use Rattle.ix_proc.specs.Slots.{new_record}
 use Rattle.ix_proc.specs.Kin.{Parented}
 use Rattle.ix_proc.proofs.Hanging.{hangs_there}

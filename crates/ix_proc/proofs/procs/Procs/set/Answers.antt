@@ -1,13 +1,10 @@
-use Rattle.std.proofs.Common.{◌≡◌, ◌<◌, ℕ, true, true≢false, Option, List, Some, None, is_some, refl, sym, ap, ◌∙◌, subst, arith, get_or, option_map, vec_capacity}
-use Rattle.std.proofs.lemmas.List.{get_or_read, length-set}
-use Rattle.ix_model.specs.world.World.{at}
-use Rattle.ix_proc.specs.Table.{ProcTable}
-use Rattle.ix_proc.specs.Slots.{lookup, Finds, process_of, process_in, status_in, record_at, nobody, pid_in}
-use Rattle.ix_proc.proofs.Laying.{are_set, are_removed, are_none, no_tables}
-use Rattle.ix_proc.proofs.Found.{slot_of, not_there, absent, process_is, status_is, record_set, record_gone, next_is}
+use Rattle.std.proofs.Common.{◌≡◌, List, Some, None, refl, ◌∙◌, subst, arith, vec_capacity}
+use Rattle.std.proofs.lemmas.List.{length-set}
+use Rattle.ix_proc.specs.Slots.{lookup, Finds}
+use Rattle.ix_proc.proofs.Laying.{are_set}
+use Rattle.ix_proc.proofs.Found.{slot_of, not_there, record_set}
 use Rattle.ix_proc.proofs.Adding.{set_kin}
 use Rattle.ix_proc.specs.declared.slot.Slot.{Slot}
-use Rattle.ix_proc.specs.declared.slot.Record.{Record}
 use Rattle.ix_proc.proofs.procs.Procs.set.Goals as goal
 
 pub unreachable-requires : goal.unreachable-requires
