@@ -1,11 +1,8 @@
 -- Before there is any process.
-use Rattle.std.proofs.Common.{◌≡◌, ◌<◌, ◌≤◌, ◌+◌, ℕ, zero, suc, List, [], length, replicate, nat_lt, cond, refl, sym, ◌∙◌, subst, arith, inl, inr, get_or}
-use Rattle.std.specs.List.{range_with_len}
+use Rattle.std.proofs.Common.{◌≡◌, ◌+◌, ℕ, zero, suc, List, [], length, replicate, refl, sym, subst, arith, get_or}
 use Rattle.std.proofs.lemmas.List.{length-replicate}
 use Rattle.std.proofs.lemmas.List.FromFn.{length-range_with_len}
-use Rattle.std.proofs.lemmas.Bool.{cases_lt}
-use Rattle.std.proofs.lemmas.Bool.Decides.{nat_tests}
-use Rattle.ix_links.specs.Chains.{Chains, times, total, all_free}
+use Rattle.ix_links.specs.Chains.{Chains, all_free}
 use Rattle.ix_links.proofs.Making.{times-range, total-empty}
 use Rattle.ix_proc.specs.Kin.{AreKin}
 use Rattle.ix_proc.specs.declared.slot.Slot.{Slot}

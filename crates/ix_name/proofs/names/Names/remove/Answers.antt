@@ -50,7 +50,7 @@ pub overflow_sub-index_mut : goal.overflow_sub-index_mut
 overflow_sub-index_mut c =
     let is = hit_is _ _ _ _ _ c.self.invariant _ c.self.view_is _ c.args.dir.0 c.args.name.now _ c.bucket_of-bucket.ensures.bucket c.deref.ensures.value c.in_ok-index.index c.in_ok-index.ensures c.index.result.now c.in_ok-entry.entry c.index.ensures c.in_ok-entry.was in
     let its = hit_its _ _ _ _ _ c.self.invariant _ c.self.view_is _ c.args.dir.0 c.args.name.now _ c.bucket_of-bucket.ensures.bucket c.deref.ensures.value c.in_ok-index.index c.in_ok-index.ensures c.index.result.now c.in_ok-entry.entry c.index.ensures c.in_ok-entry.was in
-    count_some _ _ _ _ _ c.self.invariant c.is_pool.ensures c.is_pool-2.ensures _ c.self.view_is c.in_ok-index.index c.in_ok-entry.entry is c.args.dir.0 c.args.name.now its c.index_mut-2.result.now c.index_mut-2.ensures.value
+    omega (arith, count_some _ _ _ _ _ c.self.invariant c.is_pool.ensures c.is_pool-2.ensures _ c.self.view_is c.in_ok-index.index c.in_ok-entry.entry is c.args.dir.0 c.args.name.now its c.index_mut-2.result.now c.index_mut-2.ensures.value)
 
 pub invariant_of-self : goal.invariant_of-self
 invariant_of-self c =
