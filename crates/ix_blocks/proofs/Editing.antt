@@ -9,14 +9,14 @@ use Rattle.ix_model.specs.rows.Telling.{blocks_for, length_then}
 use Rattle.ix_blocks.specs.Files.{Files, used, bytes_of, with_bytes, laid_over, has_room}
 
 -- a file of other bytes twice
-pub twice_bytes : (f : ℕ) (v : Files) (xs ys : List ℕ) → with_bytes f ys (with_bytes f xs v) ≡ with_bytes f ys v
+twice_bytes : (f : ℕ) (v : Files) (xs ys : List ℕ) → with_bytes f ys (with_bytes f xs v) ≡ with_bytes f ys v
 twice_bytes f v xs ys = ap (λ xss. record { files = xss; blocks = v.blocks }) (set-set v.files f xs ys)
 
-pub bytes-with_bytes : (f : ℕ) (v : Files) (xs : List ℕ) → f < length v.files → bytes_of f (with_bytes f xs v) ≡ xs
+bytes-with_bytes : (f : ℕ) (v : Files) (xs : List ℕ) → f < length v.files → bytes_of f (with_bytes f xs v) ≡ xs
 bytes-with_bytes f v xs low = get_or-set_same v.files f xs [] low
 
 -- bytes that are long enough already
-pub grown_none : (n : ℕ) (xs : List ℕ) → n ≤ length xs → grown n xs ≡ xs
+grown_none : (n : ℕ) (xs : List ℕ) → n ≤ length xs → grown n xs ≡ xs
 grown_none n xs h = ap (λ k. xs ++ replicate k 0) (let e : n - length xs ≡ 0 = omega (arith, h) in e) ∙ append-nil xs
 
 -- there is room where so many blocks are free

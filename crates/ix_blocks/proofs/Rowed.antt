@@ -54,7 +54,7 @@ module _ (v : Chains) (ds : List (List ℕ)) (rows : AreRows v ds) (f : ℕ) (lo
   part_long : (a c : List ℕ) → chain_of f v ≡ a ++ c → length (flat ds a) ≡ 512 * length a
   part_long a c is = length-flat ds a (λ j some. rows.sized j (omega (arith, rows.each, below_part v f j a c rows.law low is some)))
 
-  pub chain_long : length (flat ds (chain_of f v)) ≡ 512 * length (chain_of f v)
+  chain_long : length (flat ds (chain_of f v)) ≡ 512 * length (chain_of f v)
   chain_long = part_long (chain_of f v) [] (sym (append-nil (chain_of f v)))
 
   -- they are far fewer than a word counts
@@ -74,7 +74,7 @@ module _ (v : Chains) (ds : List (List ℕ)) (rows : AreRows v ds) (f : ℕ) (lo
   block_sized q b at = rows.sized b (block_below q b at)
 
   -- bytes that lie in one block
-  pub piece_is : (q b start size n : ℕ) → slice_get (chain_of f v) q ≡ Some b → start + size ≤ 512 → n ≡ 512 * q + start → take size (drop n (flat ds (chain_of f v))) ≡ take size (drop start (get_or ds b []))
+  piece_is : (q b start size n : ℕ) → slice_get (chain_of f v) q ≡ Some b → start + size ≤ 512 → n ≡ 512 * q + start → take size (drop n (flat ds (chain_of f v))) ≡ take size (drop start (get_or ds b []))
   piece_is q b start size n at fits is =
       let p = split_at (chain_of f v) q b at in
       let row = get_or ds b [] in

@@ -98,7 +98,7 @@ module _ (s : Inside) (v : Files) (is : blocks_view s ≡ v) (filled : IsBlocks 
   pub free_is : (n : ℕ) → n + used v.files ≡ v.blocks → n ≡ s.store.free
   free_is n all = omega (arith, all, ap (λ (u : Files). u.blocks) is, ap (λ (u : Files). used u.files) is)
 
-  pub bytes_are : bytes_of f v ≡ take (get_or s.lengths.items f 0) (whole_of f s.store)
+  bytes_are : bytes_of f v ≡ take (get_or s.lengths.items f 0) (whole_of f s.store)
   bytes_are = ap (bytes_of f) (sym is) ∙ cut_each-at s.lengths.items s.store.wholes f
 
   pub whole_long : length (whole_of f s.store) ≡ 512 * blocks_for (get_or s.lengths.items f 0)

@@ -1,4 +1,4 @@
--- What each call of the store leaves.
+-- What becomes of chains and their bytes as blocks come, go and change.
 use Rattle.std.proofs.Common.{◌≡◌, ℕ, zero, suc, ◌+◌, ◌-◌, ◌*◌, ◌/◌, ◌%◌, ◌<◌, ◌≤◌, List, [], ◌∷◌, ◌++◌, length, take, set, get_or, replicate, Option, Some, None, refl, sym, ap, ◌∙◌, subst, arith, append-nil, length-append, slice_get}
 use Rattle.std.specs.List.{last_or, Contains}
 use Rattle.std.proofs.lemmas.List.{get_or-set_same, map-set, take_at, get_or_at, set-get_or}
@@ -58,6 +58,7 @@ pub flats-none : (blocks : List (List ℕ)) (n : ℕ) → flats blocks (replicat
 flats-none blocks zero = refl
 flats-none blocks (suc n) = ap (λ ws. [] ∷ ws) (flats-none blocks n)
 
+-- a new pool has as many indices as were asked for
 total-none : (n : ℕ) → total length (replicate n []) ≡ 0
 total-none zero = refl
 total-none (suc n) = omega (arith, total-none n)
@@ -70,29 +71,32 @@ pub first_parts : (xs : List ℕ) (i : ℕ) → slice_get xs 0 ≡ Some i → (r
 first_parts [] i e = cc
 first_parts (x ∷ xs) i e = (xs, ap (λ y. y ∷ xs) (same_Some x i e))
 
-some_last : (x : ℕ) (xs : List ℕ) → last_or (Some x) xs ≡ None → ⊥
-some_last x [] e = cc
-some_last x (y ∷ xs) e = some_last y xs e
+-- a list with no last one is empty
+not_none : (x : ℕ) (xs : List ℕ) → last_or (Some x) xs ≡ None → ⊥
+not_none x [] e = cc
+not_none x (y ∷ xs) e = not_none y xs e
 
 last_some : (xs : List ℕ) (i : ℕ) → last_or None xs ≡ Some i → 0 < length xs
 last_some [] i e = cc
 last_some (x ∷ xs) i e = omega arith
 
 -- the last index of a list, and what stands before it
-pub last_parts : (xs : List ℕ) (p : Option ℕ) (i : ℕ) → last_or p xs ≡ Some i → 0 < length xs → (a : List ℕ) × (xs ≡ a ++ i ∷ [])
+last_parts : (xs : List ℕ) (p : Option ℕ) (i : ℕ) → last_or p xs ≡ Some i → 0 < length xs → (a : List ℕ) × (xs ≡ a ++ i ∷ [])
 last_parts [] p i e some = absurd (omega arith)
 last_parts (x ∷ []) p i e some = ([], ap (λ y. y ∷ []) (same_Some x i e))
 last_parts (x ∷ (y ∷ xs)) p i e some = let q = last_parts (y ∷ xs) (Some x) i e (omega arith) in (x ∷ q.0, ap (λ ys. x ∷ ys) q.1)
 
 pub none_last : (xs : List ℕ) → last_or None xs ≡ None → xs ≡ []
 none_last [] e = refl
-none_last (x ∷ xs) e = absurd (some_last x xs e)
+none_last (x ∷ xs) e = absurd (not_none x xs e)
 
+-- the last one stands in the list
 pub last_held : (xs : List ℕ) (i : ℕ) → last_or None xs ≡ Some i → Contains xs i
 last_held xs i e =
     let p = last_parts xs None i e (last_some xs i e) in
     subst (λ ys. Contains ys i) (sym p.1) (length p.0, omega (arith, length-append p.0 (i ∷ [])), get_or_at p.0 i [] i (length p.0) refl)
 
+-- a list without its last one, which stands there once
 without-last : (a : List ℕ) (i : ℕ) → times i a ≡ 0 → without i (a ++ i ∷ []) ≡ a
 without-last [] i none = grind (arith, nat_tests)
 without-last (x ∷ a) i none =
@@ -122,6 +126,7 @@ below_part v f j a b law l is some =
     let here : 0 < total (times j) (lists v) = omega (arith, part-le-total (times j) v.chains f l, ap (times j) is, times-append j a b) in
     grind (arith, nat_tests)
 
+-- and so is the last one of a chain
 pub last_below : (v : Chains) (f b : ℕ) → IsPool v → f < length v.chains → last_or None (chain_of f v) ≡ Some b → b < pool v
 last_below v f b law l last =
     let p = last_parts (chain_of f v) None b last (last_some (chain_of f v) b last) in

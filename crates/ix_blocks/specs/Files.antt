@@ -1,6 +1,6 @@
 -- What contracts see: a list of bytes for each file, and how many blocks there are.
 use Rattle.std.specs.Prelude.{ℕ, ◌+◌, ◌-◌, Bool, nat_le, List, [], ◌∷◌, ◌++◌, length, take, drop, set, get_or, replicate}
-use Rattle.ix_model.specs.rows.Telling.{blocks_for}
+use Rattle.ix_model.specs.rows.Telling.{blocks_for, length_then}
 
 -- the bytes of each file, and the number of blocks of the pool
 pub record Files : Type 0 where
@@ -24,7 +24,7 @@ bytes_of f s = get_or s.files f []
 abbrev pub with_bytes : ℕ → List ℕ → Files → Files
 with_bytes f bytes s = record { files = set s.files f bytes; blocks = s.blocks }
 
--- each file empty
+-- all blocks free, and each file empty
 abbrev pub all_empty : ℕ → ℕ → Files
 all_empty blocks files = record { files = replicate files []; blocks = blocks }
 
@@ -35,3 +35,7 @@ has_room f len s = nat_le (blocks_for len - blocks_for (length (bytes_of f s))) 
 -- bytes laid over others from a place on
 abbrev pub laid_over : ℕ → List ℕ → List ℕ → List ℕ
 laid_over place xs old = take place old ++ (xs ++ drop (place + length xs) old)
+
+-- how long a file is once those bytes are written at an offset
+abbrev pub length_after : ℕ → ℕ → List ℕ → Files → ℕ
+length_after f offset new s = length_then offset (length new) (length (bytes_of f s))

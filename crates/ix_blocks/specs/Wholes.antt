@@ -11,6 +11,7 @@ pub record Wholes : Type 0 where
 abbrev pub whole_of : ℕ → Wholes → List ℕ
 whole_of f s = get_or s.wholes f []
 
+-- so many free blocks, and files without any
 abbrev pub none_held : ℕ → ℕ → Wholes
 none_held blocks files = record { wholes = replicate files []; free = blocks }
 
@@ -26,5 +27,6 @@ blocks_dropped n f s = record { wholes = set s.wholes f (take (length (whole_of 
 abbrev pub laid_in : ℕ → ℕ → List ℕ → List (List ℕ) → List (List ℕ)
 laid_in f place xs ws = set ws f (laid_over place xs (get_or ws f []))
 
+-- a store with bytes laid over those of a file
 abbrev pub with_laid_over : ℕ → ℕ → List ℕ → Wholes → Wholes
 with_laid_over f place xs s = record { wholes = laid_in f place xs s.wholes; free = s.free }

@@ -1,7 +1,7 @@
 ghost use Rattle.std.specs.Prelude.{◌≡◌, ◌+◌, ◌<◌, ◌≤◌, ◌++◌, length, take, drop, min, IfOk, Ok, Err, if◌then◌else◌};
 ghost use Rattle.ix_model.specs.world.Contents.{grown, spliced, cut_to};
-ghost use Rattle.ix_model.specs.rows.Telling.{blocks_for, length_then};
-ghost use Rattle.ix_blocks.specs.Files.{used, bytes_of, with_bytes, all_empty, laid_over, most, has_room};
+ghost use Rattle.ix_model.specs.rows.Telling.{blocks_for};
+ghost use Rattle.ix_blocks.specs.Files.{used, bytes_of, with_bytes, all_empty, laid_over, length_after, most, has_room};
 
 use crate::rows::SIZE;
 use crate::store::Store;
@@ -16,8 +16,8 @@ pub struct NoSpace;
 /// The bytes of files, which lie in blocks of 512 bytes of one pool.
 ///
 /// A file has the blocks that its bytes fill, the last one in part, and no more. Contracts see the
-/// bytes of each file and the number of blocks. A block has its place in the chain of its file, so
-/// `read`, `write` and `cut` go from one to the next up to the first that they touch.
+/// bytes of each file and the number of blocks. The blocks of a file are a chain, so `read`, `write`
+/// and a `cut` that grows the file go from its first block to the first that they touch.
 #[derive(Drop)]
 pub struct Blocks {
     store: Store,
@@ -89,9 +89,9 @@ impl Blocks {
     /// the file before them.
     pub fn write(&mut self, file: u32, at: u64, bytes: &[u8]) -> Result<(), NoSpace>
         requires file { file < length self.old.files }
-        requires most { length_then at (length bytes.now) (length (bytes_of file self.old)) ≤ most }
-        ensures room { result ≡ (if has_room file (length_then at (length bytes.now) (length (bytes_of file self.old))) self.old then Ok tt else Err (record {})) }
-        ensures bytes { self.new ≡ (if has_room file (length_then at (length bytes.now) (length (bytes_of file self.old))) self.old then with_bytes file (spliced at bytes.now (bytes_of file self.old)) self.old else self.old) }
+        requires most { length_after file at bytes.now self.old ≤ most }
+        ensures room { result ≡ (if has_room file (length_after file at bytes.now self.old) self.old then Ok tt else Err (record {})) }
+        ensures bytes { self.new ≡ (if has_room file (length_after file at bytes.now self.old) self.old then with_bytes file (spliced at bytes.now (bytes_of file self.old)) self.old else self.old) }
     {
         if bytes.is_empty() {
             return Ok(());

@@ -1,4 +1,4 @@
-ghost use Rattle.std.specs.Prelude.{◌≡◌, ◌+◌, ◌*◌, ◌<◌, ◌≤◌, ◌/◌, ◌%◌, ◌^◌, length, take, drop, replicate, slice_get};
+ghost use Rattle.std.specs.Prelude.{◌≡◌, ◌+◌, ◌<◌, ◌≤◌, length, take, drop, replicate, slice_get};
 ghost use Rattle.ix_links.specs.Chains.{chain_of};
 ghost use Rattle.ix_links.specs.Whole.{IsPool};
 ghost use Rattle.ix_blocks.specs.Files.{laid_over};
@@ -7,11 +7,14 @@ ghost use Rattle.ix_blocks.specs.Stored.{flats, flat, AreRows};
 
 use ix_links::Links;
 
-/// The bytes of a block.
+/// How many bytes a block has.
 pub(crate) const SIZE: usize = 512;
 
+/// The bytes of a block.
+pub(crate) type Block = [u8; SIZE];
+
 /// Lays bytes over those of a file from a place on, block after block.
-pub(crate) fn lay(links: &Links, blocks: &mut [[u8; 512]], file: u32, place: usize, bytes: &[u8])
+pub(crate) fn lay(links: &Links, blocks: &mut [Block], file: u32, place: usize, bytes: &[u8])
     requires rows { AreRows links.now blocks.old }
     requires file { file < length links.now.chains }
     requires within { place + length bytes.now ≤ length (flat blocks.old (chain_of file links.now)) }
@@ -35,7 +38,7 @@ pub(crate) fn lay(links: &Links, blocks: &mut [[u8; 512]], file: u32, place: usi
 }
 
 /// Copies the bytes of a file from a place on, block after block, as many as fill `out`.
-pub(crate) fn fetch(links: &Links, blocks: &[[u8; 512]], file: u32, place: usize, out: &mut [u8])
+pub(crate) fn fetch(links: &Links, blocks: &[Block], file: u32, place: usize, out: &mut [u8])
     requires rows { AreRows links.now blocks.now }
     requires file { file < length links.now.chains }
     requires within { place + length out.old ≤ length (flat blocks.now (chain_of file links.now)) }
@@ -59,14 +62,14 @@ pub(crate) fn fetch(links: &Links, blocks: &[[u8; 512]], file: u32, place: usize
 }
 
 /// Fills a block with zeros.
-pub(crate) fn clear(row: &mut [u8; 512])
+pub(crate) fn clear(row: &mut Block)
     ensures { row.new ≡ replicate 512 0 }
 {
-    *row = [0; 512];
+    *row = [0; SIZE];
 }
 
 /// Lays bytes over those of one block.
-fn lay_in(row: &mut [u8; 512], start: usize, bytes: &[u8])
+fn lay_in(row: &mut Block, start: usize, bytes: &[u8])
     requires { start + length bytes.now ≤ 512 }
     ensures { row.new ≡ laid_over start bytes.now row.old }
 {

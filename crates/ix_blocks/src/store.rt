@@ -2,7 +2,7 @@ ghost use Rattle.std.specs.Prelude.{◌≡◌, ◌<◌, ◌+◌, ◌*◌, ◌≤
 ghost use Rattle.ix_blocks.specs.Wholes.{whole_of, none_held, blocks_added, blocks_dropped, with_laid_over};
 
 use crate::rows;
-use crate::rows::SIZE;
+use crate::rows::{Block, SIZE};
 use ix_links::{Links, NoMemory};
 use std::alloc::Global;
 use std::marker::Model;
@@ -13,7 +13,7 @@ use std::marker::Model;
 #[derive(Drop)]
 pub(crate) struct Store {
     links: Links,
-    blocks: Vec<[u8; 512]>,
+    blocks: Vec<Block>,
 }
 
 impl Model for Store {
@@ -35,7 +35,7 @@ impl Store {
     {
         let links = Links::new(alloc, blocks, files)?;
         links.is_pool();
-        let pool = vec![in alloc; [0; 512]; blocks as usize]?;
+        let pool = vec![in alloc; [0; SIZE]; blocks as usize]?;
         Ok(Store {
             links,
             blocks: pool,
