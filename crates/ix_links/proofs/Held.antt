@@ -4,10 +4,12 @@ use Rattle.std.specs.List.{Contains}
 use Rattle.std.proofs.lemmas.Bool.{cases_eq, cases_lt}
 use Rattle.std.proofs.lemmas.Bool.Decides.{nat_tests}
 use Rattle.std.proofs.lemmas.List.{get_or_past}
+use Rattle.std.proofs.lemmas.List.FromFn.{length-range_with_len}
 use Rattle.std.proofs.lemmas.Option.{same_Some, slice_get_within, get_or_from_slice_get}
-use Rattle.ix_links.specs.Chains.{Chains, lists, total, times, pool, chain_of, pushed_front, pushed_back, front_moved, back_moved, removed, without}
+use Rattle.ix_links.specs.Chains.{Chains, lists, total, times, pool, chain_of, all_free, pushed_front, pushed_back, front_moved, back_moved, removed, without}
 use Rattle.ix_links.specs.Whole.{IsPool}
 use Rattle.ix_links.proofs.Running.{times_here, times_skip}
+use Rattle.ix_links.proofs.Making.{total-empty}
 use Rattle.ix_links.proofs.Listing.{part-le-total, total-set, split, times_contained}
 
 -- an index at a place of a list
@@ -75,6 +77,10 @@ held_once s k n p i h e f =
         | inr more ↦ absurd (omega (arith, few, times_twice (chain_of k s) p n i (omega arith) f e))
       ]
     ]
+
+-- a new pool has so many indices
+pub pool-all_free : (items chains : ℕ) → pool (all_free items chains) ≡ items
+pool-all_free items chains = omega (arith, total-empty length chains refl, length-range_with_len 0 items)
 
 -- the number of indices stays
 pool-front_moved : (k : ℕ) (free : List ℕ) (chains : List (List ℕ)) → k < length chains → pool (front_moved k free chains) ≡ length free + total length chains

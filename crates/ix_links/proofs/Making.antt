@@ -32,7 +32,7 @@ times-within a (suc n) j h l = elim (cases_lt a j) [
       subst (λ x. times x (a ∷ range_with_len (a + 1) n) ≡ 1) same (omega (arith, times_here a (range_with_len (a + 1) n), times-below (a + 1) n a (omega arith)))
 ]
 
-times-range : (n j : ℕ) → times j (range_with_len 0 n) ≡ cond (nat_lt j n) 1 0
+pub times-range : (n j : ℕ) → times j (range_with_len 0 n) ≡ cond (nat_lt j n) 1 0
 times-range n j = elim (cases_lt j n) [
   | inl low ↦ let e = times-within 0 n j (omega arith) (omega arith) in grind (arith, nat_tests)
   | inr past ↦ let e = times-past 0 n j (omega arith) in grind (arith, nat_tests)
@@ -62,7 +62,7 @@ empty_chains : (items : List Link) (e : Ends) (m : ℕ) → e.first ≡ None →
 empty_chains items e zero first last = tt
 empty_chains items e (suc m) first last = (record { runs = tt; first = first; last = last }, empty_chains items e m first last)
 
-total-empty : (f : List ℕ → ℕ) (m : ℕ) → f [] ≡ 0 → total f (replicate m []) ≡ 0
+pub total-empty : (f : List ℕ → ℕ) (m : ℕ) → f [] ≡ 0 → total f (replicate m []) ≡ 0
 total-empty f zero h = refl
 total-empty f (suc m) h = omega (arith, h, total-empty f m h)
 

@@ -1,0 +1,13 @@
+use Rattle.std.proofs.Common.{sym, ◌∙◌, arith}
+use Rattle.std.proofs.lemmas.List.{get_or_read}
+use Rattle.ix_blocks.proofs.Showing.{file_below, bytes_long}
+use Rattle.ix_blocks.proofs.blocks.Blocks.len.Goals as goal
+
+pub index-requires : goal.index-requires
+index-requires c = omega (arith, c.self.inside.lengths.ok, file_below c.self.inside c.args.self.now c.self.view_is c.self.invariant c.args.file c.requires)
+
+pub returns : goal.returns
+returns c =
+    c.from.ensures
+    ∙ get_or_read c.self.inside.lengths.items c.args.file c.index.result.now (file_below c.self.inside c.args.self.now c.self.view_is c.self.invariant c.args.file c.requires) c.index.ensures 0
+    ∙ sym (bytes_long c.self.inside c.args.self.now c.self.view_is c.self.invariant c.args.file c.requires)

@@ -1,0 +1,4 @@
+pub mod Files
+pub mod Shown
+pub mod Wholes
+pub mod Stored

@@ -1,0 +1,11 @@
+//! The bytes of files, in chains of blocks of one pool.
+#![tactic(auto)]
+
+mod blocks;
+mod rows;
+mod store;
+#[cfg(test)]
+mod tests;
+
+pub use blocks::{Blocks, NoSpace};
+pub use ix_links::NoMemory;

@@ -1,0 +1,4 @@
+pub mod Directories
+pub mod Entries
+pub mod Buckets
+pub mod Indexed

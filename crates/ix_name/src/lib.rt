@@ -1,0 +1,12 @@
+//! The names of directories: chains in one pool of entries, and an index by directory and name.
+#![tactic(auto)]
+
+mod buckets;
+mod entry;
+mod names;
+#[cfg(test)]
+mod tests;
+mod walk;
+
+pub use entry::NoEntry;
+pub use names::Names;

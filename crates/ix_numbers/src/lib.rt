@@ -1,0 +1,10 @@
+//! Numbers below a limit, of which the lowest free one is given out.
+#![tactic(auto)]
+
+mod memory;
+mod numbers;
+#[cfg(test)]
+mod tests;
+
+pub use memory::NoMemory;
+pub use numbers::Numbers;

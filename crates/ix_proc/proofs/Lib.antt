@@ -1,0 +1,13 @@
+pub mod Looking
+pub mod Laying
+pub mod Found
+pub mod Linked
+pub mod Family
+pub mod Hanging
+pub mod Pushed
+pub mod Staying
+pub mod Children
+pub mod Walking
+pub mod Adding
+pub mod Starting
+pub mod Asked
