@@ -11,5 +11,6 @@ mixed sum (b ∷ bytes) = mixed ((sum * 257 + b) % 4294967291) bytes
 abbrev pub bucket_of : ℕ → ℕ → List ℕ → ℕ
 bucket_of buckets d name = mixed d name % buckets
 
+-- the bucket of an entry
 abbrev pub bucket_in : ℕ → Entry → ℕ
 bucket_in buckets e = bucket_of buckets e.dir e.name

@@ -13,15 +13,16 @@ entry_at es i = slice_index_or es i None
 abbrev pub is_of : ℕ → List ℕ → Entry → Bool
 is_of d name e = e.dir == d && same_bytes e.name name
 
--- whether one stands at an index
+-- whether such an entry stands at an index
 abbrev pub is_at : List (Option Entry) → ℕ → List ℕ → ℕ → Bool
 is_at es d name i = option_map_or (is_of d name) (entry_at es i) false
 
--- the name and the object at an index
+-- its name and its object's number
 abbrev pub pair_of : Option Entry → List ℕ × ℕ
 pair_of None = ([], 0)
 pair_of (Some e) = (e.name, e.obj.0)
 
+-- the name and the object's number at an index
 abbrev pub pair_at : List (Option Entry) → ℕ → List ℕ × ℕ
 pair_at es i = pair_of (entry_at es i)
 
@@ -29,10 +30,11 @@ pair_at es i = pair_of (entry_at es i)
 abbrev pub lists_of : List (Option Entry) → List (List ℕ) → List (List (List ℕ × ℕ))
 lists_of es chains = map (map (pair_at es)) chains
 
--- an index stands in the chain that its entry says, and in no other
+-- whether an index stands in a chain
 abbrev pub stands_in : List (List ℕ) → ℕ → ℕ → Bool
 stands_in chains c i = list_any (λ j. j == i) (slice_index_or chains c [])
 
+-- each index with an entry stands in the chain that the entry says, and in no other; one without stands in none
 pub record AreFiled (chain_of : Entry → ℕ) (chains : List (List ℕ)) (es : List (Option Entry)) : Type 0 where
   pub filed : (c i : ℕ) → stands_in chains c i ≡ option_map_or (λ e. chain_of e == c) (entry_at es i) false
 

@@ -6,11 +6,12 @@ use Rattle.ix_name.specs.Directories.{Directories}
 use Rattle.ix_name.specs.Entries.{lists_of, AreFiled, AreUnique}
 use Rattle.ix_name.specs.Buckets.{bucket_in}
 
--- what contracts see
+-- the names and the free entries that contracts see
 abbrev pub directories : List (Option Entry) → Chains → Directories
 directories es dirs = record { lists = lists_of es dirs.chains; free = length dirs.free }
 
--- each entry stands in the chain of its directory and in that of its bucket, and both pools have the same free indices
+-- each entry stands in the chain of its directory and in that of its bucket; both pools are as large as the entries, and
+-- have the same free indices; the counts are those of the directories' chains
 pub record AreIndexed (es : List (Option Entry)) (dirs buckets : Chains) (counts : List ℕ) (width : ℕ) : Type 0 where
   pub by_dir : AreFiled (λ e. e.dir) dirs.chains es
   pub by_bucket : AreFiled (bucket_in width) buckets.chains es

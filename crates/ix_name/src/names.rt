@@ -13,8 +13,9 @@ use std::marker::Model;
 /// The names of all directories, in one pool of entries.
 ///
 /// A directory's entries are a chain, in order of making. All entries stand also in as many buckets as there are
-/// entries, by directory and name, so that a name is found without a walk over its directory. A bucket has one entry on
-/// the average; the bucket of a name depends on nothing but the directory, the name and the number of entries.
+/// entries, by directory and name, so that a name is found without a walk over its directory. The bucket of a name
+/// depends on nothing but the directory, the name and the number of buckets: at most one entry stands in a bucket on the
+/// average, but whoever chooses names for it can have them all in one.
 ///
 /// All memory is taken by [`new`](Names::new). Contracts see for each directory the list of its names with their
 /// objects, and how many entries are free.
@@ -75,7 +76,7 @@ impl Names {
 
     /// The object that a directory has under a name; `None` exactly where it has none.
     ///
-    /// A walk over the entries of one bucket, and over no others of the directory.
+    /// It costs a walk over the entries of one bucket, however many names the directory has.
     pub fn find(&self, dir: Obj, name: &Name) -> Option<Obj>
         ensures { option_map (λ o. o.0) result ≡ under name.now (names_of self.now dir.0) }
     {
@@ -85,8 +86,8 @@ impl Names {
         Some(entry.obj)
     }
 
-    /// One name more for a directory that hasn't it, at the end. Refused, with no change, exactly where no entry is free.
-    /// Constant time.
+    /// One name more for a directory that hasn't it, at the end; the directory is below `objects`. Refused, with no
+    /// change, exactly where no entry is free. Constant time.
     pub fn add(&mut self, dir: Obj, name: Name, obj: Obj) -> Result<(), NoEntry>
         requires dir { dir.0 < length self.old.lists }
         requires absent { under name (names_of self.old dir.0) ≡ None }
@@ -127,10 +128,11 @@ impl Names {
         Some(entry.obj)
     }
 
-    /// The name at a place of a directory's order of making, from 0, with its object; `None` exactly past the last.
+    /// The name at a place of a directory's order of making, from 0, with its object; `None` exactly past the last. The
+    /// directory is below `objects`.
     ///
-    /// A walk from the directory's first name to the place: a removal closes up, and so moves the places of all that
-    /// follow, which nothing keeps.
+    /// It costs a walk from the directory's first name to the place: a removal closes up and so moves the places of all
+    /// that follow, and no entry keeps its place.
     pub fn at(&self, dir: Obj, place: u32) -> Option<(Name, Obj)>
         requires { dir.0 < length self.now.lists }
         ensures { option_map (λ e. (e.0, e.1.0)) result ≡ slice_get (names_of self.now dir.0) place }
@@ -140,7 +142,7 @@ impl Names {
         Some((entry.name, entry.obj))
     }
 
-    /// How many names a directory has. Constant time.
+    /// How many names a directory below `objects` has. Constant time.
     pub fn count(&self, dir: Obj) -> u32
         requires { dir.0 < length self.now.lists }
         ensures { result ≡ length (names_of self.now dir.0) }

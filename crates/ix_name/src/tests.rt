@@ -47,6 +47,7 @@ fn stands(names: &Names, dir: Obj, place: u32, name: &Name, obj: Obj) -> bool
     }
 }
 
+/// The name of these bytes.
 fn name<R: Abort>(rt: &R, bytes: &[u8]) -> Name {
     match Name::read(bytes) {
         Some(name) => name,

@@ -42,3 +42,11 @@ stands_taken (e ∷ es) (suc n) h = stands_taken es n h
 -- what stands at a number and still does leaves the marks
 pub kept : {A : Type 0} (es : List (Option A)) (n : ℕ) (old new : Option A) → old ≡ get_or es n old → is_none new ≡ is_none old → vacancies (set es n new) ≡ vacancies es
 kept es n old new read same = map-set_same is_none es n new old (same ∙ ap is_none read)
+
+-- an entry in the place of one
+is_taken : {A : Type 0} (e : Option A) → is_some e ≡ true → is_none e ≡ false
+is_taken None h = cc
+is_taken (Some x) h = refl
+
+pub refilled : {A : Type 0} (es : List (Option A)) (n : ℕ) (e : A) → is_some (get_or es n None) ≡ true → vacancies (set es n (Some e)) ≡ vacancies es
+refilled es n e there = map-set_same is_none es n (Some e) None (sym (is_taken (get_or es n None) there))
