@@ -58,14 +58,6 @@ pub flats-none : (blocks : List (List ℕ)) (n : ℕ) → flats blocks (replicat
 flats-none blocks zero = refl
 flats-none blocks (suc n) = ap (λ ws. [] ∷ ws) (flats-none blocks n)
 
--- a new pool has as many indices as were asked for
-total-none : (n : ℕ) → total length (replicate n []) ≡ 0
-total-none zero = refl
-total-none (suc n) = omega (arith, total-none n)
-
-pub pool-all_free : (items chains : ℕ) → pool (all_free items chains) ≡ items
-pool-all_free items chains = omega (arith, length-range_with_len 0 items, total-none chains)
-
 -- the first one of a list, and what stands behind it
 pub first_parts : (xs : List ℕ) (i : ℕ) → slice_get xs 0 ≡ Some i → (rest : List ℕ) × (xs ≡ i ∷ rest)
 first_parts [] i e = cc

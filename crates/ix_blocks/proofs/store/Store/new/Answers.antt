@@ -6,7 +6,8 @@ use Rattle.std.proofs.lemmas.List.FromFn.{length-range_with_len}
 use Rattle.ix_links.specs.Chains.{Chains, pool}
 use Rattle.ix_blocks.specs.Wholes.{Wholes}
 use Rattle.ix_blocks.specs.Stored.{flats}
-use Rattle.ix_blocks.proofs.Storing.{flats-none, pool-all_free}
+use Rattle.ix_links.proofs.Held.{pool-all_free}
+use Rattle.ix_blocks.proofs.Storing.{flats-none}
 use Rattle.ix_blocks.proofs.store.Store.new.Goals as goal
 
 pub invariant_of-result : goal.invariant_of-result
