@@ -445,8 +445,8 @@ pub fn alike_by_shape()
 // ---- whole histories
 
 /// What two runs have in common whose histories agree at a label, from worlds alike at it: the shapes after each prefix, and
-/// the replies but for how many bytes were read or written, sizes and statuses; the worlds at that label, as long as no
-/// entry crosses it; and until then all that a low process is told, bytes and statuses too.
+/// the replies but for how many bytes were read or written, sizes and statuses; each entry that is low; the worlds at that
+/// label, as long as no entry crosses it; and until then all that a low process is told, bytes and statuses too.
 #[tactic(auto, using(crate::proofs::Histories::isolated))]
 pub fn isolation()
     ensures isolated { Isolation }

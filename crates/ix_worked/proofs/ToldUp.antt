@@ -1,5 +1,5 @@
 -- What a high process does comes to one that was low, entry by entry.
-use Rattle.std.proofs.Common.{◌≡◌, ℕ, suc, true, List, [], ◌∷◌, map, take, refl, sym, subst₂, codes}
+use Rattle.std.proofs.Common.{◌≡◌, ℕ, suc, true, false, List, [], ◌∷◌, map, take, refl, sym, subst₂, codes}
 use Rattle.ix_label.specs.Category.{Categories, bottom}
 use Rattle.ix_model.specs.world.World.{World, at, living}
 use Rattle.ix_model.specs.opening.Opening.{opening_world}
@@ -7,18 +7,21 @@ use Rattle.ix_model.specs.history.Step.{Given}
 use Rattle.ix_model.specs.history.Events.{Op, Event}
 use Rattle.ix_model.specs.history.Events as op
 use Rattle.ix_model.specs.history.Lowering.{Crosses}
+use Rattle.ix_model.specs.world.Privs.{no_privileges}
 use Rattle.ix_model.specs.two_runs.TwoRuns.{Agree, AgreeAt, IsHigh, is_one_kind}
 use Rattle.ix_model.specs.two_runs.TwoRuns as runs
 use Rattle.ix_model.specs.opening.Valid.{is_valid}
 use Rattle.ix_model.specs.declared.audit.Act.TheVariants as act
 use Rattle.ix_model.specs.declared.call.Keep.TheVariants as keep
 use Rattle.ix_model.specs.declared.call.Mode.TheVariants as mode
+use Rattle.ix_model.specs.declared.reply.Kind.TheVariants as kind
+use Rattle.ix_model.specs.declared.reply.Reply.{Reply}
 use Rattle.ix_model.specs.declared.reply.Reply.TheVariants as reply
 use Rattle.ix_worked.specs.short.OnProcesses.{family}
 use Rattle.ix_worked.specs.PairsOfRuns.{before, after, BothAgree}
 use Rattle.ix_worked.specs.Scripts.{seven, in_root, by, log_line}
 use Rattle.ix_worked.specs.Sessions.{calls, Goes}
-use Rattle.ix_worked.specs.ToldUp.{waiting_for_high, piping_from_high, notebook, sharing_with_high, bureau, letting_down}
+use Rattle.ix_worked.specs.ToldUp.{waiting_for_high, piping_from_high, notebook, sharing_with_high, drawer, looking_at_high, bureau, letting_down}
 use Rattle.ix_worked.proofs.runs.Agreeing.{agree_on, high_of}
 use Rattle.ix_worked.proofs.Chains.{◌⨾◌, Steps, Gives, number, bytes, answered, done, lines_given, run_given, gives_some}
 use Rattle.ix_worked.proofs.Computing.{running, fitting}
@@ -324,6 +327,91 @@ offsets_agree = agreed bottom noted noted 1
             (reads_second, reads_fourth, runs.AgreeAt.Same, refl, tt),
           ),
         ),
+      ),
+    ))
+
+-- ---- a size
+pub drawer_fits : is_valid drawer ≡ true
+unfolding fitting
+drawer_fits = simp labels refl
+
+shut : World
+shut = opening_world drawer
+
+drawn : World
+drawn = with_entry 2 0 0 (opened 1 mode.Write) shut
+
+-- so many bytes were written
+filled : ℕ → List ℕ → World
+filled n held = marked 0 seven (moved 0 n (raised 1 seven (holding 1 held [] drawn)))
+
+looked : ℕ → List ℕ → World
+looked n held = floated 1 seven (filled n held)
+
+drawer_worlds : ℕ
+unfolding shut drawn filled looked
+drawer_worlds = 0
+
+abbrev looking : Op
+looking = op.StatAt (in_root (codes "d"))
+
+abbrev size : ℕ → Reply
+size n = reply.Stat (record { 0 = 1 }) kind.File n 1 false no_privileges no_privileges
+
+draws : Steps shut 1 2 (op.OpenAt (in_root (codes "d")) mode.Write) (number drawn 0)
+unfolding running drawer_worlds
+draws = (simp labels refl, refl)
+
+fills_two : Steps drawn 2 2 (op.WriteFd 0 (codes "AA")) (number (filled 2 (codes "AA")) 2)
+unfolding running drawer_worlds
+fills_two = (simp labels refl, refl)
+
+fills_three : Steps drawn 2 2 (op.WriteFd 0 (codes "ABC")) (number (filled 3 (codes "ABC")) 3)
+unfolding running drawer_worlds
+fills_three = (simp labels refl, refl)
+
+looks_at_two : Steps (filled 2 (codes "AA")) 3 1 looking (answered (looked 2 (codes "AA")) (size 2))
+unfolding running drawer_worlds
+looks_at_two = (simp labels refl, refl)
+
+looks_at_three : Steps (filled 3 (codes "ABC")) 3 1 looking (answered (looked 3 (codes "ABC")) (size 3))
+unfolding running drawer_worlds
+looks_at_three = (simp labels refl, refl)
+
+filler_is_high : IsHigh bottom drawn.frame 2
+unfolding running drawer_worlds
+filler_is_high = high_of bottom drawn.frame 2 (living (at drawn.frame.processes 2)) refl (leq-with_bottom bottom 7)
+
+pub looked_at_two : Goes drawer (looking_at_high (codes "AA"))
+unfolding running drawer_worlds
+looked_at_two = lines_given shut 1 (calls (looking_at_high (codes "AA")))
+    (number drawn 0 ∷ number (filled 2 (codes "AA")) 2 ∷ answered (looked 2 (codes "AA")) (size 2) ∷ [])
+    (draws ⨾ fills_two ⨾ looks_at_two ⨾ tt)
+
+pub looked_at_three : Goes drawer (looking_at_high (codes "ABC"))
+unfolding running drawer_worlds
+looked_at_three = lines_given shut 1 (calls (looking_at_high (codes "ABC")))
+    (number drawn 0 ∷ number (filled 3 (codes "ABC")) 3 ∷ answered (looked 3 (codes "ABC")) (size 3) ∷ [])
+    (draws ⨾ fills_three ⨾ looks_at_three ⨾ tt)
+
+pub sizes_agree : BothAgree bottom drawer (calls (looking_at_high (codes "AA"))) (calls (looking_at_high (codes "ABC")))
+unfolding shut
+sizes_agree = agreed bottom shut shut 1
+    (same (by 2 (op.OpenAt (in_root (codes "d")) mode.Write)) (number drawn 0) (number drawn 0)
+    ∷ (record { first = by 2 (op.WriteFd 0 (codes "AA")); second = by 2 (op.WriteFd 0 (codes "ABC")); gives = number (filled 2 (codes "AA")) 2; others = number (filled 3 (codes "ABC")) 3 })
+    ∷ same (by 1 looking) (answered (looked 2 (codes "AA")) (size 2)) (answered (looked 3 (codes "ABC")) (size 3))
+    ∷ [])
+    ((
+      draws,
+      draws,
+      runs.AgreeAt.Same,
+      refl,
+      (
+        fills_two,
+        fills_three,
+        runs.AgreeAt.Other filler_is_high runs.Replaced.Written,
+        refl,
+        (looks_at_two, looks_at_three, runs.AgreeAt.Same, refl, tt),
       ),
     ))
 

@@ -1,13 +1,14 @@
 -- What a high process does comes to one that was low: by a status, a pipe, a shared offset, and once it was let down.
-use Rattle.std.specs.Prelude.{ℕ, List, [], ◌∷◌, length, codes}
+use Rattle.std.specs.Prelude.{ℕ, false, List, [], ◌∷◌, length, codes}
 use Rattle.ix_label.specs.Category.{bottom, top}
 use Rattle.ix_model.specs.history.Events.{Event}
 use Rattle.ix_model.specs.history.Events as op
-use Rattle.ix_model.specs.world.Privs.{to_lower, to_read_the_log}
+use Rattle.ix_model.specs.world.Privs.{no_privileges, to_lower, to_read_the_log}
 use Rattle.ix_model.specs.declared.audit.Act.TheVariants as act
 use Rattle.ix_model.specs.declared.call.Keep.TheVariants as keep
 use Rattle.ix_model.specs.declared.call.Mode.TheVariants as mode
 use Rattle.ix_model.specs.declared.config.Config.{Config}
+use Rattle.ix_model.specs.declared.reply.Kind.TheVariants as kind
 use Rattle.ix_model.specs.declared.reply.Reply.TheVariants as reply
 use Rattle.ix_worked.specs.Scripts.{seven, in_root, proc, file, gives, by, log_line, small}
 use Rattle.ix_worked.specs.Sessions.{Line}
@@ -44,6 +45,20 @@ sharing_with_high written next =
     ∷ (by 2 (op.SetSelf seven), gives reply.Done [] seven)
     ∷ (by 2 (op.WriteFd 0 written), gives (reply.Number (length written)) [] seven)
     ∷ (by 1 (op.ReadFd 0 1), gives (reply.Bytes 1) next seven)
+    ∷ []
+
+-- proc l - * - -
+-- proc h 7 * - -
+-- file /d - free - - x
+abbrev pub drawer : Config
+drawer = small (proc bottom top ∷ proc seven top ∷ []) (file (codes "d") bottom [] ∷ [])
+
+-- a high process writes into a file, and a low one looks at it
+abbrev pub looking_at_high : List ℕ → List (Event × Line)
+looking_at_high written =
+    (by 2 (op.OpenAt (in_root (codes "d")) mode.Write), gives (reply.Number 0) [] seven)
+    ∷ (by 2 (op.WriteFd 0 written), gives (reply.Number (length written)) [] seven)
+    ∷ (by 1 (op.StatAt (in_root (codes "d"))), gives (reply.Stat (record { 0 = 1 }) kind.File (length written) 1 false no_privileges no_privileges) [] seven)
     ∷ []
 
 -- proc w 7 * D D

@@ -13,6 +13,8 @@ ghost use Rattle.ix_worked.specs.ToldUp.{
   piping_from_high,
   notebook,
   sharing_with_high,
+  drawer,
+  looking_at_high,
   bureau,
   letting_down,
 };
@@ -39,6 +41,15 @@ pub fn a_shared_offset_tells_up()
     ensures one { Goes notebook (sharing_with_high (codes "x") (codes "b")) }
     ensures three { Goes notebook (sharing_with_high (codes "xyz") (codes "d")) }
     ensures agree { BothAgree bottom notebook (calls (sharing_with_high (codes "x") (codes "b"))) (calls (sharing_with_high (codes "xyz") (codes "d"))) }
+{}
+
+/// How much a high process has written into a file shows in the size that is told of it, to one that is high then.
+#[tactic(auto, using(crate::proofs::ToldUp::drawer_fits, crate::proofs::ToldUp::looked_at_two, crate::proofs::ToldUp::looked_at_three))]
+pub fn a_size_is_told_up()
+    ensures valid { is_valid drawer ≡ true }
+    ensures two { Goes drawer (looking_at_high (codes "AA")) }
+    ensures three { Goes drawer (looking_at_high (codes "ABC")) }
+    ensures agree { BothAgree bottom drawer (calls (looking_at_high (codes "AA"))) (calls (looking_at_high (codes "ABC"))) }
 {}
 
 /// What a high process wrote is read by one that stays low, once the file was let down across bottom. The log tells that,
