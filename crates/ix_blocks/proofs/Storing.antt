@@ -2,10 +2,9 @@
 use Rattle.std.proofs.Common.{◌≡◌, ℕ, zero, suc, ◌+◌, ◌-◌, ◌*◌, ◌/◌, ◌%◌, ◌<◌, ◌≤◌, List, [], ◌∷◌, ◌++◌, length, take, set, get_or, replicate, Option, Some, None, refl, sym, ap, ◌∙◌, subst, arith, append-nil, length-append, slice_get}
 use Rattle.std.specs.List.{last_or, Contains}
 use Rattle.std.proofs.lemmas.List.{get_or-set_same, map-set, take_at, get_or_at, set-get_or}
-use Rattle.std.proofs.lemmas.List.FromFn.{length-range_with_len}
 use Rattle.std.proofs.lemmas.Bool.Decides.{nat_tests}
 use Rattle.std.proofs.lemmas.Option.{same_Some}
-use Rattle.ix_links.specs.Chains.{Chains, lists, times, total, pool, chain_of, without, all_free, pushed_back, back_moved, removed}
+use Rattle.ix_links.specs.Chains.{Chains, lists, times, total, pool, chain_of, without, pushed_back, back_moved, removed}
 use Rattle.ix_links.specs.Whole.{IsPool}
 use Rattle.ix_links.proofs.Running.{times_here, times_skip, times-append}
 use Rattle.ix_links.proofs.Listing.{part-le-total}

@@ -119,6 +119,17 @@ impl Blocks {
         Ok(())
     }
 
+    /// Whether a file may have a length: it needs no more blocks than it has and are free. So this tells whether a write or a
+    /// cut to that length is refused. Constant time.
+    pub fn has_room(&self, file: u32, len: u64) -> bool
+        requires file { file < length self.now.files }
+        requires most { len ≤ most }
+        ensures { result ≡ has_room file len self.now }
+    {
+        let held = blocks_for(self.len(file) as usize);
+        blocks_for(len as usize).saturating_sub(held) <= self.free() as usize
+    }
+
     /// Puts zeros at the end of a file up to a length; nothing where it is that long already.
     fn grow(&mut self, file: u32, len: usize) -> Result<(), NoSpace>
         requires file { file < length self.old.files }

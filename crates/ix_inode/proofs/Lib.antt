@@ -1,0 +1,4 @@
+pub mod Flat
+pub mod Standing
+pub mod Laid
+pub mod Opening
