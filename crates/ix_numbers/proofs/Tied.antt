@@ -1,7 +1,7 @@
 -- The marks of a table's vacant numbers, as its entries come, change and go.
 use Rattle.std.proofs.Common.{◌≡◌, ◌<◌, ◌+◌, ℕ, zero, suc, Bool, true, false, not, List, [], ◌∷◌, length, count_by, cond, Option, Some, None, is_none, is_some, refl, sym, ap, ◌∙◌, get_or, set, replicate}
 use Rattle.std.specs.List.{slice_get, position, prefix_len}
-use Rattle.std.proofs.lemmas.List.{length-map}
+use Rattle.std.proofs.lemmas.List.{length-map, map-set}
 use Rattle.std.proofs.Math.Seq.{map-set_same}
 use Rattle.std.proofs.lemmas.List.Quantifiers.{position-Some}
 use Rattle.std.proofs.lemmas.List.Sums.{sum_by-cons}
@@ -32,12 +32,20 @@ is_vacant (Some x) h = cc
 pub vacant_there : {A : Type 0} (es : List (Option A)) (n : ℕ) → position is_none es ≡ Some n → (n < length es) × (get_or es n None ≡ None)
 vacant_there es n h = let found = position-Some is_none es n None h in (found.0, is_vacant (get_or es n None) found.1)
 
+-- so a number that is given out is one of the table's, and nothing stands there
+pub given_vacant : {A : Type 0} (es : List (Option A)) (marks : List Bool) (n : ℕ) → marks ≡ vacancies es → Some n ≡ lowest marks → (n < length es) × (get_or es n None ≡ None)
+given_vacant es marks n tied given = vacant_there es n (sym (lowest_vacant es) ∙ ap lowest (sym tied) ∙ sym given)
+
 -- a number at which something stands is taken
 pub stands_taken : {A : Type 0} (es : List (Option A)) (n : ℕ) → is_some (get_or es n None) ≡ true → slice_get (vacancies es) n ≡ Some false
 stands_taken [] n h = absurd (cc h)
 stands_taken (None ∷ es) zero h = absurd (cc h)
 stands_taken (Some e ∷ es) zero h = refl
 stands_taken (e ∷ es) (suc n) h = stands_taken es n h
+
+-- what comes or goes at a number
+pub changed : {A : Type 0} (es : List (Option A)) (marks : List Bool) (n : ℕ) (e : Option A) → marks ≡ vacancies es → set marks n (is_none e) ≡ vacancies (set es n e)
+changed es marks n e tied = ap (λ (bs : List Bool). set bs n (is_none e)) tied ∙ sym (map-set is_none es n e)
 
 -- what stands at a number and still does leaves the marks
 pub kept : {A : Type 0} (es : List (Option A)) (n : ℕ) (old new : Option A) → old ≡ get_or es n old → is_none new ≡ is_none old → vacancies (set es n new) ≡ vacancies es

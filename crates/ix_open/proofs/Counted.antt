@@ -6,9 +6,9 @@ use Rattle.std.proofs.lemmas.Bool.{cases_lt}
 use Rattle.std.proofs.lemmas.List.{length-set, length-replicate, get_or-set_same, get_or-set_other, get_or_past}
 use Rattle.std.proofs.lemmas.List.Sums.{sum_by-set, sum_by-cons, count_by-le-length}
 use Rattle.ix_model.specs.world.World.{at, is_on, held}
+use Rattle.ix_numbers.proofs.Heap.{one}
 use Rattle.ix_open.specs.Entries.{open_in}
 use Rattle.ix_open.specs.Tally.{place, is_at, AreCounted}
-use Rattle.ix_open.proofs.Pooled.{one}
 use Rattle.ix_open.specs.declared.view.OpenView.{OpenView}
 
 count_set : (k : ℕ) (es : List (Option OpenView)) (n : ℕ) (x : Option OpenView) → n < length es → count_by (is_at k) (set es n x) + one (is_at k (at es n)) ≡ count_by (is_at k) es + one (is_at k x)
