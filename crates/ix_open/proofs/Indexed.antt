@@ -14,7 +14,7 @@ use Rattle.ix_open.specs.declared.view.OpenView.{OpenView}
 abbrev no_key_at : Option ℕ
 no_key_at = None
 
-low_at : {A : Type 0} (t : List (Option A)) (n : ℕ) (x : A) → at t n ≡ Some x → n < length t
+pub low_at : {A : Type 0} (t : List (Option A)) (n : ℕ) (x : A) → at t n ≡ Some x → n < length t
 low_at t n x is = elim (cases_lt n (length t)) [ inl low ↦ low | inr past ↦ absurd (let none = get_or_past t n None past in cc (none, is)) ]
 
 -- an edit in its place keeps the number of entries
