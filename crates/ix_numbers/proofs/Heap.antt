@@ -35,7 +35,7 @@ times_below k x (y ∷ ys) least low =
       | inr e ↦ rw (e.0, rest) refl
     ]
 
-here : (n : ℕ) → one (n == n) ≡ 1
+pub here : (n : ℕ) → one (n == n) ≡ 1
 here n = elim (eqb_tells n n) [ inl e ↦ rw e.0 refl | inr e ↦ absurd (e.1 refl) ]
 
 -- the number on top stands in the heap

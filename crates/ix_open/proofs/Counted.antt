@@ -6,16 +6,14 @@ use Rattle.std.proofs.lemmas.Bool.{cases_lt}
 use Rattle.std.proofs.lemmas.List.{length-set, length-replicate, get_or-set_same, get_or-set_other, get_or_past}
 use Rattle.std.proofs.lemmas.List.Sums.{sum_by-set, sum_by-cons, count_by-le-length}
 use Rattle.ix_model.specs.world.World.{at, is_on, held}
+use Rattle.ix_numbers.proofs.Heap.{one, here}
 use Rattle.ix_open.specs.Entries.{open_in}
 use Rattle.ix_open.specs.Tally.{place, is_at, AreCounted}
-use Rattle.ix_open.proofs.Pooled.{one}
+use Rattle.ix_open.proofs.Indexed.{low_at}
 use Rattle.ix_open.specs.declared.view.OpenView.{OpenView}
 
 count_set : (k : ℕ) (es : List (Option OpenView)) (n : ℕ) (x : Option OpenView) → n < length es → count_by (is_at k) (set es n x) + one (is_at k (at es n)) ≡ count_by (is_at k) es + one (is_at k x)
 count_set k es n x low = sum_by-set (λ (o : Option OpenView). cond {A = ℕ} (is_at k o) 1 0) es n x None low
-
-pub low_at : {A : Type 0} (t : List (Option A)) (n : ℕ) (x : A) → at t n ≡ Some x → n < length t
-low_at t n x is = elim (cases_lt n (length t)) [ inl low ↦ low | inr past ↦ absurd (let none = get_or_past t n None past in cc (none, is)) ]
 
 skipped : (k : ℕ) (es : List (Option OpenView)) → count_by (is_at k) (None ∷ es) ≡ count_by (is_at k) es
 skipped k es = omega (arith, sum_by-cons (λ (x : Option OpenView). cond {A = ℕ} (is_at k x) 1 0) None es)
@@ -23,9 +21,6 @@ skipped k es = omega (arith, sum_by-cons (λ (x : Option OpenView). cond {A = �
 -- a count that is not 0 is one of the list's
 low_count : (counts : List ℕ) (k : ℕ) → 0 < get_or counts k 0 → k < length counts
 low_count counts k some = elim (cases_lt k (length counts)) [ inl low ↦ low | inr past ↦ absurd (omega (arith, get_or_past counts k 0 past)) ]
-
-here : (k : ℕ) → one (k == k) ≡ 1
-here k = grind (arith, nat_tests)
 
 -- an element of a list after an edit
 edited : (P : OpenView → Type 0) (es : List (Option OpenView)) (n : ℕ) (x : Option OpenView) → n < length es → ((v : OpenView) → x ≡ Some v → P v) → ((m : ℕ) (v : OpenView) → at es m ≡ Some v → P v) → (m : ℕ) (v : OpenView) → at (set es n x) m ≡ Some v → P v

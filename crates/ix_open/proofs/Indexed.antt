@@ -1,11 +1,11 @@
 -- An edit of the slab under one key is an edit of the entries at one number.
-use Rattle.std.proofs.Common.{◌≡◌, ◌≢◌, ◌<◌, ◌≤◌, ◌+◌, ℕ, zero, suc, true, true≢false, not, replicate, List, [], ◌∷◌, length, count_by, cond, Option, Some, None, is_some, is_none, refl, sym, ap, ◌∙◌, arith, inl, inr, get_or, set}
-use Rattle.std.specs.List.{prefix_len}
+use Rattle.std.proofs.Common.{◌≡◌, ◌≢◌, ◌<◌, ◌≤◌, ◌+◌, ℕ, zero, suc, Bool, true, true≢false, not, replicate, List, [], ◌∷◌, length, count_by, cond, Option, Some, None, is_some, refl, sym, ap, ◌∙◌, arith, inl, inr, get_or, set}
 use Rattle.std.proofs.lemmas.List.{same_lists, length-replicate, length-map, length-set, get_or-map, get_or-set_same, get_or-set_other, get_or_past}
 use Rattle.std.proofs.lemmas.List.Sums.{sum_by-set, sum_by-cons, count_by-le-length}
 use Rattle.std.proofs.lemmas.Bool.Decides.{eqb_tells}
 use Rattle.std.proofs.lemmas.Bool.{cases_lt}
-use Rattle.ix_model.specs.world.World.{at, lowest_free}
+use Rattle.ix_model.specs.world.World.{at}
+use Rattle.ix_numbers.specs.Marks.{vacancies}
 use Rattle.slab.specs.Slab.{Slab, get, slab_len, HasRoomFor, Updates}
 use Rattle.slab.proofs.SlabLemmas.{Updates-with_value}
 use Rattle.ix_open.specs.Indexed.{entry_in, seen, IsIndex}
@@ -14,7 +14,7 @@ use Rattle.ix_open.specs.declared.view.OpenView.{OpenView}
 abbrev no_key_at : Option ℕ
 no_key_at = None
 
-low_at : {A : Type 0} (t : List (Option A)) (n : ℕ) (x : A) → at t n ≡ Some x → n < length t
+pub low_at : {A : Type 0} (t : List (Option A)) (n : ℕ) (x : A) → at t n ≡ Some x → n < length t
 low_at t n x is = elim (cases_lt n (length t)) [ inl low ↦ low | inr past ↦ absurd (let none = get_or_past t n None past in cc (none, is)) ]
 
 -- an edit in its place keeps the number of entries
@@ -136,27 +136,11 @@ module _ (s : Slab OpenView) (keys : List (Option ℕ)) (index : IsIndex s keys)
       gone : (m j : ℕ) → m ≡ n → at (set keys n None) m ≡ Some j → ⊥
       gone m j e js = let none = get_or-set_same keys n None None (low_at keys n k is) in let same = ap (at (set keys n None)) (sym e) ∙ js in cc (none, same)
 
--- ---- the searches
-module _ (s : Slab OpenView) where
-  first_seen : (keys : List (Option ℕ)) → ((n k : ℕ) → at keys n ≡ Some k → is_some (get s k) ≡ true) → prefix_len (λ o. not (is_none o)) (seen s keys) ≡ prefix_len (λ o. not (is_none o)) keys
-  first_seen [] h = refl
-  first_seen (None ∷ keys) h = refl
-  first_seen (Some k ∷ keys) h = go (get s k) (h 0 k refl) (first_seen keys (λ n j is. h (suc n) j is))
-    where
-      go : (o : Option OpenView) → is_some o ≡ true → prefix_len (λ o. not (is_none o)) (seen s keys) ≡ prefix_len (λ o. not (is_none o)) keys → prefix_len (λ o. not (is_none o)) (o ∷ seen s keys) ≡ prefix_len (λ o. not (is_none o)) (Some k ∷ keys)
-      go None some more = absurd (cc some)
-      go (Some e) some more = ap (λ n. 1 + n) more
-
-  pub lowest_seen : (keys : List (Option ℕ)) → IsIndex s keys → lowest_free (seen s keys) ≡ lowest_free keys
-  lowest_seen keys index = rw (first_seen keys index.lives, length-map keys (entry_in s)) refl
-
-  pub count_seen : (keys : List (Option ℕ)) → ((n k : ℕ) → at keys n ≡ Some k → is_some (get s k) ≡ true) → count_by is_none (seen s keys) ≡ count_by is_none keys
-  count_seen [] h = refl
-  count_seen (k ∷ keys) h = sum_by-cons (λ (o : Option OpenView). cond {A = ℕ} (is_none o) 1 0) (entry_in s k) (seen s keys) ∙ ap (λ n. cond (is_none (entry_in s k)) 1 0 + n) (count_seen keys (λ n j is. h (suc n) j is)) ∙ ap (λ b. cond b 1 0 + count_by is_none keys) (same k (λ j is. h 0 j is)) ∙ sym (sum_by-cons (λ (o : Option ℕ). cond {A = ℕ} (is_none o) 1 0) k keys)
-    where
-      same : (o : Option ℕ) → ((j : ℕ) → o ≡ Some j → is_some (get s j) ≡ true) → is_none (entry_in s o) ≡ is_none o
-      same None live = refl
-      same (Some j) live = ap not (live j refl)
+-- the numbers that show no entry are those that have no key
+pub vacant_seen : (s : Slab OpenView) (keys : List (Option ℕ)) → ((n k : ℕ) → at keys n ≡ Some k → is_some (get s k) ≡ true) → vacancies (seen s keys) ≡ vacancies keys
+vacant_seen s [] h = refl
+vacant_seen s (None ∷ keys) h = ap (λ (marks : List Bool). true ∷ marks) (vacant_seen s keys (λ n j is. h (suc n) j is))
+vacant_seen s (Some k ∷ keys) h = (λ i. not (h 0 k refl i) ∷ vacant_seen s keys (λ n j is. h (suc n) j is) i)
 
 pub at_seen_key : (s : Slab OpenView) (keys : List (Option ℕ)) (n k : ℕ) (e : OpenView) → at keys n ≡ Some k → get s k ≡ Some e → at (seen s keys) n ≡ Some e
 at_seen_key s keys n k e is found = at_seen s keys n ∙ ap (entry_in s) is ∙ found

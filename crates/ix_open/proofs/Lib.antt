@@ -1,4 +1,3 @@
-pub mod Pooled
 pub mod Tabled
 pub mod Indexed
 pub mod Counted

@@ -1,11 +1,10 @@
 -- An edit of an entry, as the tables show it.
-use Rattle.std.proofs.Common.{◌≡◌, ℕ, zero, suc, true, List, [], ◌∷◌, map, replicate, count_by, cond, not, ◌+◌, Option, Some, None, is_none, is_some, refl, sym, ap, ◌∙◌, get_or, set, option_map}
-use Rattle.std.specs.List.{prefix_len}
-use Rattle.std.proofs.lemmas.List.{map-set, length-map}
-use Rattle.std.proofs.lemmas.List.Sums.{sum_by-cons}
-use Rattle.ix_model.specs.world.World.{Open, at, lowest_free}
+use Rattle.std.proofs.Common.{◌≡◌, ℕ, zero, suc, Bool, true, false, List, [], ◌∷◌, map, replicate, Option, Some, None, is_some, refl, sym, ap, ◌∙◌, get_or, set, option_map}
+use Rattle.std.proofs.lemmas.List.{map-set}
+use Rattle.ix_model.specs.world.World.{at}
+use Rattle.ix_numbers.specs.Marks.{vacancies}
 use Rattle.ix_open.specs.Table.{none_open, without}
-use Rattle.ix_open.specs.Entries.{table_of, open_of, open_in, offset_in, owners_in, shown, with_entry}
+use Rattle.ix_open.specs.Entries.{table_of, open_in, offset_in, owners_in, shown, with_entry}
 use Rattle.ix_open.specs.declared.view.OpenView.{OpenView}
 
 module _ (objects : ℕ) where
@@ -51,26 +50,11 @@ module _ (objects : ℕ) where
       go None opens offset owners = rw opens refl
       go (Some v) opens offset owners = rw (opens, offset, owners) refl
 
--- how many numbers are free, and the lowest
-vacant_entry : Option OpenView → ℕ
-vacant_entry o = cond {A = ℕ} (is_none o) 1 0
-
-vacant_open : Option Open → ℕ
-vacant_open o = cond {A = ℕ} (is_none o) 1 0
-
-pub count_none : (es : List (Option OpenView)) → count_by is_none es ≡ count_by is_none (map open_in es)
-unfolding vacant_entry vacant_open
-count_none [] = refl
-count_none (None ∷ es) = sum_by-cons vacant_entry None es ∙ ap (λ n. 1 + n) (count_none es) ∙ sym (sum_by-cons vacant_open None (map open_in es))
-count_none (Some v ∷ es) = sum_by-cons vacant_entry (Some v) es ∙ ap (λ n. 0 + n) (count_none es) ∙ sym (sum_by-cons vacant_open (Some (open_of v)) (map open_in es))
-
-first_none : (es : List (Option OpenView)) → prefix_len (λ o. not (is_none o)) (map open_in es) ≡ prefix_len (λ o. not (is_none o)) es
-first_none [] = refl
-first_none (None ∷ es) = refl
-first_none (Some v ∷ es) = ap (λ n. 1 + n) (first_none es)
-
-pub lowest_same : (es : List (Option OpenView)) → lowest_free (map open_in es) ≡ lowest_free es
-lowest_same es = rw (first_none es, length-map es open_in) refl
+-- the numbers at which the table has no entry
+pub vacant_opens : (es : List (Option OpenView)) → vacancies (map open_in es) ≡ vacancies es
+vacant_opens [] = refl
+vacant_opens (None ∷ es) = ap (λ (marks : List Bool). true ∷ marks) (vacant_opens es)
+vacant_opens (Some v ∷ es) = ap (λ (marks : List Bool). false ∷ marks) (vacant_opens es)
 
 map_replicate : {A B : Type 0} (F : A → B) (n : ℕ) (a : A) → map F (replicate n a) ≡ replicate n (F a)
 map_replicate F zero a = refl

@@ -1,5 +1,5 @@
 -- What the tables show of the slab and the keys that stand behind them.
-use Rattle.std.proofs.Common.{◌≡◌, ◌<◌, ◌==◌, ◌&&◌, ◌+◌, ◌-◌, ◌^◌, ℕ, true, false, List, length, count_by, Option, Some, None, is_some, is_none, refl, sym, ap, ◌∙◌, get_or, set, option_map, subst, nat_lt, arith}
+use Rattle.std.proofs.Common.{◌≡◌, ◌<◌, ◌==◌, ◌&&◌, ◌+◌, ◌-◌, ◌^◌, ℕ, Bool, true, false, List, length, count_by, Option, Some, None, is_some, is_none, refl, sym, ap, ◌∙◌, get_or, set, option_map, subst, nat_lt, arith}
 use Rattle.std.proofs.lemmas.List.{length-map}
 use Rattle.std.proofs.lemmas.Bool.{and_parts, eqb-true}
 use Rattle.ix_label.specs.Category.{bottom}
@@ -8,12 +8,14 @@ use Rattle.ix_model.specs.declared.call.Mode.{Mode}
 use Rattle.ix_model.specs.world.World.{Open, at, lowest_free, is_on, held}
 use Rattle.slab.specs.Slab.{Slab, get, Updates}
 use Rattle.slab.proofs.SlabLemmas.{Updates-with_value}
+use Rattle.ix_numbers.specs.Marks.{lowest, count, vacancies}
+use Rattle.ix_numbers.proofs.Tied.{lowest_vacant, count_vacant}
 use Rattle.ix_open.specs.Table.{OpenTable, without}
 use Rattle.ix_open.specs.Entries.{table_of, open_of, open_in, offset_in, owners_in, shown, with_entry}
 use Rattle.ix_open.specs.Indexed.{seen, entry_in, IsIndex}
 use Rattle.ix_open.specs.Tally.{place, AreCounted}
-use Rattle.ix_open.proofs.Tabled.{at_opens, at_offsets, at_owners, taken, shown_is, tables_entry, tables_without, lowest_same, count_none}
-use Rattle.ix_open.proofs.Indexed.{at_seen, at_seen_key, has_key, seen_edited, seen_opened, seen_released, lowest_seen, count_seen}
+use Rattle.ix_open.proofs.Tabled.{at_opens, at_offsets, at_owners, taken, shown_is, tables_entry, tables_without, vacant_opens}
+use Rattle.ix_open.proofs.Indexed.{at_seen, at_seen_key, has_key, seen_edited, seen_opened, seen_released, vacant_seen}
 use Rattle.ix_open.proofs.Counted.{counted_same, counted_more, counted_fewer, count_fits, count_there, held_is, not_held}
 use Rattle.ix_open.specs.declared.view.OpenView.{OpenView}
 
@@ -46,13 +48,16 @@ module _ (s : Slab OpenView) (keys : List (Option ℕ)) (objects : ℕ) (t : Ope
   pub entry_shown : (n : ℕ) → entry_in s (at keys n) ≡ option_map (shown t n) (at t.opens n)
   entry_shown n = sym (at_seen s keys n) ∙ shown_is objects (seen s keys) n ∙ ap (λ (u : OpenTable). option_map (shown u n) (at u.opens n)) view
 
-  -- the searches
+  -- the free numbers
   module _ (index : IsIndex s keys) where
-    pub lowest_shown : lowest_free t.opens ≡ lowest_free keys
-    lowest_shown = ap (λ (u : OpenTable). lowest_free u.opens) (sym view) ∙ lowest_same (seen s keys) ∙ lowest_seen s keys index
+    free_shown : vacancies t.opens ≡ vacancies keys
+    free_shown = ap (λ (u : OpenTable). vacancies u.opens) (sym view) ∙ vacant_opens (seen s keys) ∙ vacant_seen s keys index.lives
 
-    pub count_shown : count_by is_none keys ≡ count_by is_none t.opens
-    count_shown = sym (count_seen s keys index.lives) ∙ count_none (seen s keys) ∙ ap (λ (u : OpenTable). count_by is_none u.opens) view
+    pub lowest_shown : (marks : List Bool) → marks ≡ vacancies keys → lowest marks ≡ lowest_free t.opens
+    lowest_shown marks tied = ap lowest (tied ∙ sym free_shown) ∙ lowest_vacant t.opens
+
+    pub count_shown : (marks : List Bool) → marks ≡ vacancies keys → count marks ≡ count_by is_none t.opens
+    count_shown marks tied = ap count (tied ∙ sym free_shown) ∙ count_vacant t.opens
 
     -- an entry in the place of another
     pub entry_edited : (n k : ℕ) (v : OpenView) → at keys n ≡ Some k → is_some (get s k) ≡ true → table_of (seen (record s { slots = set s.slots k (Some v) }) keys) objects ≡ with_entry n v t

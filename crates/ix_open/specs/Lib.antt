@@ -1,5 +1,4 @@
 pub mod Table
 pub mod Entries
-pub mod Pool
 pub mod Indexed
 pub mod Tally

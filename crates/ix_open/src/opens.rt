@@ -9,10 +9,9 @@ use crate::keys::{entry_at, key_of, place};
 use crate::view::OpenView;
 use ix_label::Label;
 use ix_model::{Mode, NoMemory, Obj};
+use ix_numbers::Numbers;
 use slab::Slab;
 use std::alloc::Global;
-use std::cmp::Reverse;
-use std::collections::BinaryHeap;
 use std::marker::Model;
 
 /// Open entries by number, for objects of which the numbers are below a limit. A new entry takes the
@@ -24,8 +23,8 @@ pub struct Opens {
     entries: Slab<OpenView>,
     /// The key under which the slab keeps the entry of each number.
     keys: Vec<Option<usize>>,
-    /// The numbers at which nothing stands, the lowest on top.
-    free: BinaryHeap<Reverse<u32>>,
+    /// Which numbers are free.
+    numbers: Numbers,
     /// How many entries are on each end of each object.
     counts: Vec<u32>,
     objects: u32,
@@ -37,8 +36,8 @@ impl Model for Opens {
     ghost use Rattle.ix_open.specs.Table.{OpenTable};
     ghost use Rattle.ix_open.specs.Entries.{table_of};
     ghost use Rattle.ix_open.specs.Indexed.{seen, IsIndex};
-    ghost use Rattle.std.specs.BinaryHeap.{heap_items, heap_len, heap_capacity};
-    ghost use Rattle.ix_open.specs.Pool.{IsPool};
+    ghost use Rattle.std.specs.Prelude.{◌≡◌};
+    ghost use Rattle.ix_numbers.specs.Marks.{vacancies};
     ghost use Rattle.ix_open.specs.Tally.{AreCounted};
 
     ghost Value = { OpenTable };
@@ -48,7 +47,7 @@ impl Model for Opens {
     ghost view = { λ m. table_of (seen m.entries m.keys.items) m.objects };
 
     ghost invariant = { λ m. IsIndex m.entries m.keys.items
-        × (IsPool m.keys.items (heap_items m.free) (heap_len m.free) (heap_capacity m.free)
+        × ((m.numbers ≡ vacancies m.keys.items)
         × AreCounted (seen m.entries m.keys.items) m.counts.items m.objects) };
 }
 
@@ -63,28 +62,21 @@ impl Opens {
         let Ok(entries) = Slab::with_capacity(alloc, opens as usize) else {
             return Err(NoMemory);
         };
-        let Ok(mut keys) = Vec::with_capacity(alloc, opens as usize) else {
+        let mut keys = Vec::new(alloc);
+        let Ok(()) = keys.resize(opens as usize, None) else {
             return Err(NoMemory);
         };
-        let Ok(mut free) = BinaryHeap::with_capacity(alloc, opens as usize) else {
+        let Ok(numbers) = Numbers::new(alloc, opens) else {
             return Err(NoMemory);
         };
         let mut counts = Vec::new(alloc);
         let Ok(()) = counts.resize(2 * objects as usize, 0) else {
             return Err(NoMemory);
         };
-        for n in 0..opens {
-            let Ok(()) = keys.push(None) else {
-                return Err(NoMemory);
-            };
-            let Ok(()) = free.push(Reverse(n)) else {
-                return Err(NoMemory);
-            };
-        }
         Ok(Opens {
             entries,
             keys,
-            free,
+            numbers,
             counts,
             objects,
         })
@@ -100,7 +92,7 @@ impl Opens {
         ensures id { result ≡ lowest_free self.old.opens }
         ensures new { self.new ≡ opened result (record { object = obj.0; end = end; mode = mode; label = bottom }) self.old }
     {
-        let Reverse(id) = self.free.pop()?;
+        let id = self.numbers.take()?;
         let key = self.entries.insert_reserved(OpenView {
             obj,
             end,
@@ -200,7 +192,7 @@ impl Opens {
     pub fn free(&self) -> u32
         ensures { result ≡ count_by is_none self.now.opens }
     {
-        self.free.len() as u32
+        self.numbers.free()
     }
 
     /// The entry of a number at which one stands.
@@ -233,9 +225,6 @@ impl Opens {
         let entry = self.entries.remove(key);
         self.keys[id as usize] = None;
         self.counts[place(entry.obj, entry.end)] -= 1;
-        match self.free.push(Reverse(id)) {
-            Ok(()) => (),
-            Err(_) => unreachable!(),
-        }
+        self.numbers.give(id);
     }
 }

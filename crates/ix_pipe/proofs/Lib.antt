@@ -1,2 +1,2 @@
 pub mod Slotted
-pub mod Pooled
+pub mod Changed

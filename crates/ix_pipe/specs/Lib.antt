@@ -1,4 +1,3 @@
 pub mod Pipe
-pub mod Pool
 pub mod Claims
 pub mod Slots

@@ -9,9 +9,8 @@ use crate::queue::PipeFull;
 use crate::slot::Slot;
 use ix_label::Label;
 use ix_model::{NoMemory, Pid};
+use ix_numbers::Numbers;
 use std::alloc::Global;
-use std::cmp::Reverse;
-use std::collections::BinaryHeap;
 use std::marker::Model;
 
 /// Pipes by number. A new one takes the lowest free number.
@@ -20,15 +19,14 @@ use std::marker::Model;
 #[derive(Drop)]
 pub struct Pipes {
     slots: Vec<Slot>,
-    /// The numbers at which no pipe stands, the lowest on top.
-    free: BinaryHeap<Reverse<u32>>,
+    /// Which numbers are free.
+    numbers: Numbers,
 }
 
 impl Model for Pipes {
-    ghost use Rattle.std.specs.Prelude.{List, Option};
-    ghost use Rattle.std.specs.BinaryHeap.{heap_items, heap_len, heap_capacity};
+    ghost use Rattle.std.specs.Prelude.{◌≡◌, List, Option};
+    ghost use Rattle.ix_numbers.specs.Marks.{vacancies};
     ghost use Rattle.ix_pipe.specs.Pipe.{Pipe};
-    ghost use Rattle.ix_pipe.specs.Pool.{IsPool};
     ghost use Rattle.std.specs.Coded.{codes};
     ghost use Rattle.ix_label.specs.contracts.label.Label as label_type;
 
@@ -38,7 +36,7 @@ impl Model for Pipes {
 
     ghost view = { λ m. m.slots.items };
 
-    ghost invariant = { λ m. IsPool m.slots.items (heap_items m.free) (heap_len m.free) (heap_capacity m.free) };
+    ghost invariant = { λ m. m.numbers ≡ vacancies m.slots.items };
 }
 
 impl Pipes {
@@ -49,28 +47,22 @@ impl Pipes {
         let Ok(mut slots) = Vec::with_capacity(alloc, pipes as usize) else {
             return Err(NoMemory);
         };
-        let Ok(mut free) = BinaryHeap::with_capacity(alloc, pipes as usize) else {
+        let Ok(numbers) = Numbers::new(alloc, pipes) else {
             return Err(NoMemory);
         };
-        for n in 0..pipes {
+        for _n in 0..pipes {
             let Ok(()) = slots.push(Slot::new(alloc)?) else {
                 return Err(NoMemory);
             };
-            let Ok(()) = free.push(Reverse(n)) else {
-                return Err(NoMemory);
-            };
         }
-        Ok(Pipes { slots, free })
+        Ok(Pipes { slots, numbers })
     }
 
     /// The lowest free number; `None` exactly where none is free. Constant time.
     pub fn vacant(&self) -> Option<u32>
         ensures { result ≡ lowest_free self.now }
     {
-        match self.free.peek() {
-            Some(n) => Some(n.0),
-            None => None,
-        }
+        self.numbers.first()
     }
 
     /// A new pipe under the lowest free number; `None`, with no change, exactly where none is free. It is empty and
@@ -79,13 +71,9 @@ impl Pipes {
         ensures number { result ≡ lowest_free self.old }
         ensures made { self.new ≡ made result self.old }
     {
-        match self.free.pop() {
-            Some(Reverse(pipe)) => {
-                self.slots[pipe as usize].begin();
-                Some(pipe)
-            }
-            None => None,
-        }
+        let pipe = self.numbers.take()?;
+        self.slots[pipe as usize].begin();
+        Some(pipe)
     }
 
     /// Lets a pipe go; its number is free from then on.
@@ -94,10 +82,7 @@ impl Pipes {
         ensures { self.new ≡ put self.old pipe None }
     {
         self.slots[pipe as usize].end();
-        match self.free.push(Reverse(pipe)) {
-            Ok(()) => (),
-            Err(_) => unreachable!(),
-        }
+        self.numbers.give(pipe);
     }
 
     /// Whether a pipe stands at the number.

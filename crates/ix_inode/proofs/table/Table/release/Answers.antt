@@ -1,8 +1,10 @@
-use Rattle.ix_numbers.proofs.Tied.{tied_taken, given_tied}
+use Rattle.std.proofs.Common.{◌∙◌, List, Bool, None, ap}
+use Rattle.std.specs.List.{slice_get}
+use Rattle.ix_numbers.proofs.Tied.{stands_taken, changed}
 use Rattle.ix_inode.proofs.table.Table.release.Goals as goal
 
 pub give-requires : goal.give-requires
-give-requires c = tied_taken _ _ c.self.invariant c.args.n (rw c.self.view_is c.requires)
+give-requires c = ap (λ (marks : List Bool). slice_get marks c.args.n) c.self.invariant ∙ stands_taken _ c.args.n (rw c.self.view_is c.requires)
 
 pub invariant_of-self : goal.invariant_of-self
-invariant_of-self c = given_tied _ _ c.self.invariant _ c.args.n c.give.ensures
+invariant_of-self c = c.give.ensures ∙ changed _ _ c.args.n None c.self.invariant

@@ -1,6 +1,7 @@
-use Rattle.std.proofs.Common.{◌∙◌}
-use Rattle.ix_numbers.proofs.Tied.{tied_lowest}
+use Rattle.std.proofs.Common.{◌∙◌, ap}
+use Rattle.ix_numbers.specs.Marks.{lowest}
+use Rattle.ix_numbers.proofs.Tied.{lowest_vacant}
 use Rattle.ix_inode.proofs.table.Table.vacant.Goals as goal
 
 pub returns : goal.returns
-returns c = rw (← c.self.view_is) (c.first.ensures ∙ tied_lowest _ _ c.self.invariant)
+returns c = rw (← c.self.view_is) (c.first.ensures ∙ ap lowest c.self.invariant ∙ lowest_vacant c.self.inside.nodes.items)

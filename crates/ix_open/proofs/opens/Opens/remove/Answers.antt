@@ -1,8 +1,9 @@
-use Rattle.std.proofs.Common.{◌≡◌, ℕ, Option, Some, is_some, sym, ap, ◌∙◌, arith, List, get_or}
+use Rattle.std.proofs.Common.{◌≡◌, ℕ, Bool, Option, None, Some, is_some, sym, ap, ◌∙◌, arith, List, get_or}
+use Rattle.std.specs.List.{slice_get}
 use Rattle.ix_model.specs.world.World.{at}
 use Rattle.std.proofs.lemmas.List.{get_or_read}
+use Rattle.ix_numbers.proofs.Tied.{stands_taken, changed}
 use Rattle.ix_open.proofs.Viewed.{key_there, entry_gone, count_stands, counted_gone}
-use Rattle.ix_open.proofs.Pooled.{pool_released, pool_room}
 use Rattle.ix_open.proofs.Indexed.{index_released}
 use Rattle.ix_open.proofs.opens.Opens.remove.Goals as goal
 
@@ -22,11 +23,10 @@ overflow_sub-index_mut c =
     let read : c.index_mut-2.result.now ≡ get_or c.self.inside.counts.items c.place.result 0 = get_or_read c.self.inside.counts.items c.place.result _ stands.0 c.index_mut-2.ensures.value 0 in
     omega (arith, stands.1, read)
 
-pub unreachable-requires : goal.unreachable-requires
-unreachable-requires c =
+pub give-requires : goal.give-requires
+give-requires c =
     let key : at c.self.inside.keys.items c.args.id ≡ Some c.key_of-key.result = ap (λ (t : List (Option ℕ)). at t c.args.id) (sym c.as_slice.ensures.value) ∙ c.key_of-key.ensures in
-    let ok = c.in-Err.ensures.succeeds (pool_room _ _ _ _ c.self.invariant.1.0 c.args.id (ap is_some key)) in
-    cc
+    ap (λ (marks : List Bool). slice_get marks c.args.id) c.self.invariant.1.0 ∙ stands_taken c.self.inside.keys.items c.args.id (ap is_some key)
 
 pub invariant_of-self : goal.invariant_of-self
 invariant_of-self c =
@@ -35,7 +35,7 @@ invariant_of-self c =
     let read : c.index_mut-2.result.now ≡ get_or c.self.inside.counts.items c.place.result 0 = get_or_read c.self.inside.counts.items c.place.result _ stands.0 c.index_mut-2.ensures.value 0 in (
       index_released c.self.inside.entries c.self.inside.keys.items c.self.invariant.0 c.remove-entry.new.self c.args.id c.key_of-key.result key c.remove-entry.ensures.updates c.remove-entry.ensures.len c.remove-entry.ensures.capacity,
       (
-        pool_released _ _ _ _ c.self.invariant.1.0 c.args.id _ _ _ (ap is_some key) c.in-Ok.ensures.permutation (c.in-Ok.ensures.heap_order c.self.invariant.1.0.ordered) c.in-Ok.ensures.len c.in-Ok.ensures.capacity,
+        c.give.ensures ∙ changed c.self.inside.keys.items _ c.args.id None c.self.invariant.1.0,
         counted_gone c.self.inside.entries c.self.inside.keys.items _ _ c.self.invariant.0 c.self.invariant.1.1 c.args.id c.key_of-key.result c.remove-entry.result key c.remove-entry.ensures.value c.place.result c.place.ensures c.remove-entry.new.self c.index_mut-2.result.now read c.remove-entry.ensures.updates,
       ),
     )

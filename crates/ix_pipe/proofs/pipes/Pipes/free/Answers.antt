@@ -1,8 +1,10 @@
-use Rattle.ix_pipe.proofs.Pooled.{pool_released, pool_room}
+use Rattle.std.proofs.Common.{◌∙◌, ap, None, List, Bool}
+use Rattle.std.specs.List.{slice_get}
+use Rattle.ix_numbers.proofs.Tied.{stands_taken, changed}
 use Rattle.ix_pipe.proofs.pipes.Pipes.free.Goals as goal
 
-pub unreachable-requires : goal.unreachable-requires
-unreachable-requires c = let ok = c.in-Err.ensures.succeeds (pool_room _ _ _ _ c.self.invariant c.args.pipe (rw c.self.view_is c.requires)) in cc
+pub give-requires : goal.give-requires
+give-requires c = ap (λ (marks : List Bool). slice_get marks c.args.pipe) c.self.invariant ∙ stands_taken c.self.inside.slots.items c.args.pipe (rw c.self.view_is c.requires)
 
 pub invariant_of-self : goal.invariant_of-self
-invariant_of-self c = rw c.end.ensures (pool_released _ _ _ _ c.self.invariant c.args.pipe _ _ _ (rw c.self.view_is c.requires) c.in-Ok.ensures.permutation (c.in-Ok.ensures.heap_order c.self.invariant.ordered) c.in-Ok.ensures.len c.in-Ok.ensures.capacity)
+invariant_of-self c = rw c.end.ensures (c.give.ensures ∙ changed c.self.inside.slots.items _ c.args.pipe None c.self.invariant)

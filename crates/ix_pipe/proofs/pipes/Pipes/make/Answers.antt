@@ -1,16 +1,17 @@
-use Rattle.std.proofs.Common.{sym, arith}
+use Rattle.std.proofs.Common.{◌∙◌, ap, arith, Some}
+use Rattle.ix_numbers.specs.Marks.{lowest}
+use Rattle.ix_numbers.proofs.Tied.{lowest_vacant, given_vacant, changed}
 use Rattle.ix_pipe.specs.Pipe.{new_pipe}
-use Rattle.ix_pipe.proofs.Pooled.{pool_opened, popped_free, popped_lowest, pool_full}
 use Rattle.ix_pipe.proofs.pipes.Pipes.make.Goals as goal
 
+pub returns-in_err-pipe-clause-number : goal.returns-in_err-pipe-clause-number
+returns-in_err-pipe-clause-number c = c.from_residual.ensures ∙ rw (← c.self.view_is) (c.in_err-pipe.ensures.number ∙ ap lowest c.self.invariant ∙ lowest_vacant c.self.inside.slots.items)
+
 pub index_mut-requires : goal.index_mut-requires
-index_mut-requires c = omega (arith, (popped_free _ _ _ _ c.self.invariant c.in-Some.field-0 _ c.in-Some.ensures.permutation).0, c.self.inside.slots.ok)
+index_mut-requires c = omega (arith, (given_vacant _ _ _ c.self.invariant c.in_ok-pipe.ensures.number).0, c.self.inside.slots.ok)
 
-pub invariant_of-self : goal.invariant_of-self
-invariant_of-self c = rw c.begin.ensures (pool_opened _ _ _ _ c.self.invariant c.in-Some.field-0 _ _ _ new_pipe c.in-Some.ensures.permutation (c.in-Some.ensures.heap_order c.self.invariant.ordered).0 c.in-Some.ensures.len (omega (arith, c.in-Some.ensures.capacity)))
+pub invariant_of-self-2 : goal.invariant_of-self-2
+invariant_of-self-2 c = rw c.begin.ensures (c.in_ok-pipe.ensures.taken ∙ changed c.self.inside.slots.items _ c.in_ok-pipe.pipe (Some new_pipe) c.self.invariant)
 
-pub returns-in-Some-clause-number : goal.returns-in-Some-clause-number
-returns-in-Some-clause-number c = rw (← c.self.view_is) (sym (popped_lowest _ _ _ _ c.self.invariant c.in-Some.field-0 _ c.in-Some.ensures.permutation (c.in-Some.ensures.heap_order c.self.invariant.ordered).1))
-
-pub returns-in-None-clause-number : goal.returns-in-None-clause-number
-returns-in-None-clause-number c = rw (← c.self.view_is) (sym (pool_full _ _ _ _ c.self.invariant c.in-None.ensures.none))
+pub returns-clause-number : goal.returns-clause-number
+returns-clause-number c = rw (← c.self.view_is) (c.in_ok-pipe.ensures.number ∙ ap lowest c.self.invariant ∙ lowest_vacant c.self.inside.slots.items)

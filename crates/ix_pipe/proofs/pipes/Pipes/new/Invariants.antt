@@ -1,7 +1,6 @@
-use Rattle.std.proofs.Common.{◌≡◌, ◌≤◌, None, replicate, heap_items, heap_len}
-use Rattle.std.specs.BinaryHeap.{heap_capacity}
-use Rattle.ix_pipe.specs.Pool.{IsPool}
+use Rattle.std.proofs.Common.{◌≡◌, None, replicate}
 use Rattle.ix_pipe.proofs.pipes.Pipes.new.Given as goal
 
+-- no pipe stands at the numbers so far
 abbrev pub invariant-loop-n : goal.invariant-loop-n
-invariant-loop-n l = (IsPool l.slots.items (heap_items l.free) (heap_len l.free) (heap_capacity l.free)) × (l.slots.items ≡ replicate l.n None) × (l.fn.pipes ≤ heap_capacity l.free)
+invariant-loop-n l = l.slots.items ≡ replicate l._n None

@@ -1,9 +1,7 @@
-use Rattle.std.proofs.Common.{sym, arith}
-use Rattle.ix_pipe.proofs.Pooled.{top_lowest, pool_full_by}
+use Rattle.std.proofs.Common.{◌∙◌, ap}
+use Rattle.ix_numbers.specs.Marks.{lowest}
+use Rattle.ix_numbers.proofs.Tied.{lowest_vacant}
 use Rattle.ix_pipe.proofs.pipes.Pipes.vacant.Goals as goal
 
-pub returns-in-Some : goal.returns-in-Some
-returns-in-Some c = rw (← c.self.view_is) (sym (top_lowest _ _ _ _ c.self.invariant c.in-Some.n.now (omega (arith, c.in-Some.ensures.item)) c.in-Some.ensures.lookup (c.in-Some.ensures.greatest c.self.invariant.ordered)))
-
-pub returns-in-None : goal.returns-in-None
-returns-in-None c = rw (← c.self.view_is) (sym (pool_full_by _ _ _ _ c.self.invariant c.in-None.ensures.variant.1))
+pub returns : goal.returns
+returns c = rw (← c.self.view_is) (c.first.ensures ∙ ap lowest c.self.invariant ∙ lowest_vacant c.self.inside.slots.items)

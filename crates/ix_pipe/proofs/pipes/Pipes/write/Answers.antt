@@ -1,5 +1,5 @@
-use Rattle.ix_pipe.proofs.Pooled.{pool_changed_if}
+use Rattle.ix_pipe.proofs.Changed.{pipe_changed_if}
 use Rattle.ix_pipe.proofs.pipes.Pipes.write.Goals as goal
 
 pub invariant_of-self : goal.invariant_of-self
-invariant_of-self c = pool_changed_if _ _ _ _ c.self.invariant _ c.args.pipe _ _ _ (rw c.self.view_is c.requires.lives) c.index_mut.ensures.value c.append.ensures.bytes
+invariant_of-self c = pipe_changed_if _ _ _ _ _ _ c.self.invariant c.index_mut.ensures.value _ c.append.ensures.bytes

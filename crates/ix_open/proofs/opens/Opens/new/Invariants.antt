@@ -1,7 +1,0 @@
-use Rattle.std.proofs.Common.{◌≡◌, ◌≤◌, None, replicate, heap_items, heap_len}
-use Rattle.std.specs.BinaryHeap.{heap_capacity}
-use Rattle.ix_open.specs.Pool.{IsPool}
-use Rattle.ix_open.proofs.opens.Opens.new.Given as goal
-
-abbrev pub invariant-loop-n : goal.invariant-loop-n
-invariant-loop-n l = (IsPool l.keys.items (heap_items l.free) (heap_len l.free) (heap_capacity l.free)) × (l.keys.items ≡ replicate l.n None) × (l.fn.opens ≤ heap_capacity l.free)
