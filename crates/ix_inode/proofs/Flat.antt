@@ -1,7 +1,7 @@
 -- Lists of several pieces joined end to end, and an edit of one piece.
-use Rattle.std.proofs.Common.{◌≡◌, ◌<◌, ◌≤◌, ◌+◌, ◌-◌, ◌∙◌, ℕ, zero, suc, List, [], ◌∷◌, ◌++◌, length, length-append, map, take, drop, set, get_or, sum, refl, sym, ap, arith, zero-add}
+use Rattle.std.proofs.Common.{◌≡◌, ◌<◌, ◌+◌, ◌-◌, ◌∙◌, ℕ, zero, suc, List, [], ◌∷◌, ◌++◌, length, length-append, take, drop, set, get_or, refl, sym, ap, arith, zero-add}
 use Rattle.std.specs.List.{flat_map}
-use Rattle.std.proofs.lemmas.List.{set-append_left, set-append_right, take-append-le, take_at, drop_at, drop-drop, get_or_default}
+use Rattle.std.proofs.lemmas.List.{set-append_left, set-append_right, take_at, drop_at, drop-drop}
 
 module _ {X A : Type 0} (f : X → List A) where
   -- an element changed in a piece is one changed in the whole
@@ -14,12 +14,6 @@ module _ {X A : Type 0} (f : X → List A) where
       let right : set (f x ++ flat_map f xs) (length (f x) + (length (flat_map f (take k xs)) + n)) a ≡ f x ++ set (flat_map f xs) (length (f x) + (length (flat_map f (take k xs)) + n) - length (f x)) a = set-append_right (f x) (flat_map f xs) (length (f x)) _ a refl (omega arith) in
       let back : length (f x) + (length (flat_map f (take k xs)) + n) - length (f x) ≡ length (flat_map f (take k xs)) + n = omega arith in
       ap (λ ys. f x ++ ys) rest ∙ sym (ap (λ m. set (f x ++ flat_map f xs) m a) long ∙ right ∙ ap (λ m. f x ++ set (flat_map f xs) m a) back)
-
-  -- a piece that stays leaves the whole
-  pub flat_kept : (xs : List X) (k : ℕ) (y : X) → f y ≡ f (get_or xs k y) → flat_map f (set xs k y) ≡ flat_map f xs
-  flat_kept [] k y e = refl
-  flat_kept (x ∷ xs) zero y e = ap (λ ys. ys ++ flat_map f xs) e
-  flat_kept (x ∷ xs) (suc k) y e = ap (λ ys. f x ++ ys) (flat_kept xs k y e)
 
   -- a piece is what stands in the whole from its start on
   pub flat_window : (xs : List X) (k n : ℕ) (d : X) → k < length xs → n ≡ length (f (get_or xs k d)) → take n (drop (length (flat_map f (take k xs))) (flat_map f xs)) ≡ f (get_or xs k d)

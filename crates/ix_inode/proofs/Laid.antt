@@ -1,5 +1,5 @@
 -- The file systems one behind the other: where their inodes stand, and an edit of one.
-use Rattle.std.proofs.Common.{Bool, ◌≡◌, ◌<◌, ◌≤◌, ◌≢◌, ◌+◌, ◌-◌, ◌*◌, ◌∙◌, ℕ, zero, suc, true, false, not, nat_le, List, [], ◌∷◌, ◌++◌, length, length-append, map, take, drop, set, get_or, sum, Option, Some, None, option_map, is_none, is_some, IfSome, if◌then◌else◌, ◌^◌, refl, sym, ap, subst, arith, inl, inr, get_or-set_same, get_or-set_other}
+use Rattle.std.proofs.Common.{Bool, ◌≡◌, ◌<◌, ◌≤◌, ◌+◌, ◌-◌, ◌∙◌, ℕ, zero, suc, true, false, not, nat_le, List, [], ◌∷◌, ◌++◌, length, length-append, take, drop, set, get_or, Option, Some, None, option_map, is_some, IfSome, if◌then◌else◌, ◌^◌, refl, sym, ap, subst, arith, inl, inr, get_or-set_same, get_or-set_other}
 use Rattle.std.specs.List.{flat_map}
 use Rattle.std.specs.Option.{option_map_or}
 use Rattle.std.proofs.lemmas.List.{length-set, length-map, get_or_default, get_or_read, get_or_past, get_or-map, set-get_or, take_more, append-nil}
@@ -47,13 +47,6 @@ bytes_start vs k h = start_at (λ v. v.blocks.files) vs k (λ j v low is. (h.eac
 -- a file system's number is below their count
 pub low_is : (vs : List Volume) (k : ℕ) (s : Nodes) → nodes_of vs ≡ s → k < length s.fss → k < length vs
 low_is vs k s is h = omega (arith, length-map vs (λ (v : Volume). v.spec), ap (λ (t : Nodes). length t.fss) is, h)
-
--- what lives lies on one of them
-pub lives_there : {A : Type 0} (t : List (Option A)) (o : ℕ) → is_some (at t o) ≡ true → o < length t
-lives_there t o h = elim (cases_lt o (length t)) [
-  | inl low ↦ low
-  | inr past ↦ absurd (cc (get_or_past t o None past, h))
-]
 
 -- a file lives, and so does an inode that names a file system
 pub file_lives : (o : ℕ) (s : Nodes) → is_file_at o s ≡ true → is_some (at s.nodes o) ≡ true
@@ -106,7 +99,7 @@ module _ (vs : List Volume) (h : AreVolumes vs) (k : ℕ) (v : Volume) (low : k 
         }
 
     -- the file systems are that still
-    pub laid_edit : ((y : Node) → x ≡ Some y → (y.fs ≡ k) × (leq y.label v.spec.ceiling ≡ true)) → (x ≡ None → bytes ≡ []) → AreVolumes (set vs k w)
+    laid_edit : ((y : Node) → x ≡ Some y → (y.fs ≡ k) × (leq y.label v.spec.ceiling ≡ true)) → (x ≡ None → bytes ≡ []) → AreVolumes (set vs k w)
     laid_edit new none =
         let same : specs (set vs k w) ≡ specs vs = kept_specs w edit.spec in
         let P : List FsSpec → ℕ → Volume → Type 0 = λ ss j u. IsVolume ss j u in
@@ -122,7 +115,7 @@ module _ (vs : List Volume) (h : AreVolumes vs) (k : ℕ) (v : Volume) (low : k 
         }
 
     -- and so it is an edit of all inodes
-    pub view_edit : (o : ℕ) → IsSpot vs k n o → nodes_of (set vs k w) ≡ with_inode o x bytes (nodes_of vs)
+    view_edit : (o : ℕ) → IsSpot vs k n o → nodes_of (set vs k w) ≡ with_inode o x bytes (nodes_of vs)
     view_edit o spot =
         let read : v ≡ get_or vs k w = get_or_read vs k v low is w in
         let ns : Volume → List (Option Node) = λ u. u.nodes in
@@ -158,7 +151,7 @@ module _ (vs : List Volume) (h : AreVolumes vs) (k : ℕ) (v : Volume) (low : k 
   pub view_ceiling : fs_ceiling k (nodes_of vs) ≡ v.spec.ceiling
   view_ceiling = ap (λ (s : FsSpec). s.ceiling) (spec_at _)
 
-  pub view_first : v.first ≡ first_inode (specs vs) k
+  view_first : v.first ≡ first_inode (specs vs) k
   view_first = one.first
 
   -- what lies in its range
@@ -196,7 +189,7 @@ module _ (vs : List Volume) (h : AreVolumes vs) (k : ℕ) (v : Volume) (low : k 
       ap (option_map (told_at o (nodes_of vs))) (view_at n o spot ∙ at_n) ∙ (λ i. Some (told (ceiling i) (length (bytes i)) x))
 
   -- a number of it
-  pub spot_here : (n : ℕ) → n < length v.nodes → IsSpot vs k n (v.first + n)
+  spot_here : (n : ℕ) → n < length v.nodes → IsSpot vs k n (v.first + n)
   spot_here n there = record {
     within = low;
     there = λ u at_k. let P : Volume → Type 0 = λ w. n < length w.nodes in subst P (is ∙ get_or_default vs k v u low ∙ sym at_k) there;

@@ -1,7 +1,7 @@
 -- File systems as they are made, one after the other.
-use Rattle.std.proofs.Common.{◌≡◌, ◌<◌, ◌≤◌, ◌+◌, ◌-◌, ◌*◌, ◌∙◌, ℕ, zero, suc, Bool, true, false, ◌&&◌, nat_le, List, [], ◌∷◌, ◌++◌, length, length-append, map, take, replicate, get_or, sum, Option, Some, None, refl, sym, ap, subst, arith, inl, inr}
-use Rattle.std.specs.List.{flat_map, list_all}
-use Rattle.std.proofs.lemmas.List.{length-map, length-take, length-replicate, length_push, get_or_append_left, get_or_push, get_or_default, take-append-le, take_more, take_all, map_push, append-nil, append_assoc, replicate-append-replicate}
+use Rattle.std.proofs.Common.{◌≡◌, ◌<◌, ◌≤◌, ◌+◌, ◌-◌, ◌∙◌, ℕ, suc, Bool, true, false, ◌&&◌, nat_le, List, [], ◌∷◌, ◌++◌, length, map, take, replicate, get_or, sum, Option, Some, None, refl, sym, ap, subst, arith, inl, inr}
+use Rattle.std.specs.List.{list_all}
+use Rattle.std.proofs.lemmas.List.{length-map, length-take, length-replicate, length_push, get_or_append_left, get_or_push, take-append-le, take_more, take_all, map_push, append-nil, append_assoc, replicate-append-replicate}
 use Rattle.std.proofs.lemmas.List.Concat.{flat_map-append}
 use Rattle.std.proofs.lemmas.List.Sums.{sum-map, sum_by_push}
 use Rattle.std.proofs.lemmas.List.Folds.{list_all_at}
@@ -14,8 +14,8 @@ use Rattle.ix_blocks.specs.Files.{Files}
 use Rattle.ix_inode.specs.declared.node.Node.{Node}
 use Rattle.ix_inode.specs.declared.volume.Volume.{Volume}
 use Rattle.ix_inode.specs.Shown.{new_node}
-use Rattle.ix_inode.specs.Nodes.{Nodes, bare, opened, are_within}
-use Rattle.ix_inode.specs.Volumes.{IsNew, AreOn, IsVolume, AreVolumes, AreNew, specs, all_nodes, all_bytes, nodes_of}
+use Rattle.ix_inode.specs.Nodes.{bare, opened, are_within}
+use Rattle.ix_inode.specs.Volumes.{IsNew, AreOn, IsVolume, AreNew, specs, all_nodes, all_bytes, nodes_of}
 use Rattle.ix_inode.proofs.Standing.{on_first}
 
 both : (a b : Bool) → (a && b) ≡ true → (a ≡ true) × (b ≡ true)

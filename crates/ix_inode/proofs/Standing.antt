@@ -1,6 +1,5 @@
 -- The inodes of one file system stand on it, below its ceiling, and hold nothing where none stands, whatever is edited.
-use Rattle.std.proofs.Common.{◌≡◌, ◌<◌, ◌-◌, ◌∙◌, ℕ, zero, suc, Bool, true, ltb, List, [], ◌∷◌, length, set, get_or, replicate, Option, Some, None, sym, ap, arith, inl, inr, refl, get_or-set_same, get_or-set_other}
-use Rattle.std.proofs.lemmas.List.{length-replicate}
+use Rattle.std.proofs.Common.{◌≡◌, ◌<◌, ◌-◌, ◌∙◌, ℕ, zero, suc, true, ltb, List, [], ◌∷◌, length, set, get_or, replicate, Option, Some, None, sym, ap, arith, inl, inr, refl, get_or-set_same, get_or-set_other}
 use Rattle.std.proofs.lemmas.Bool.{cases_eq, lt-ltb}
 use Rattle.ix_label.specs.Category.{Categories, leq}
 use Rattle.ix_label.specs.Lattice.{bottom-leq}

@@ -1,11 +1,10 @@
 -- A new inode, and what is told of one.
-use Rattle.std.specs.Prelude.{ℕ, Bool, true, false, not, List, Option, None, Some, if◌then◌else◌}
+use Rattle.std.specs.Prelude.{ℕ, Bool, true, false, List, Option, None, Some, if◌then◌else◌}
 use Rattle.ix_label.specs.Category.{Categories, bottom}
 use Rattle.ix_model.specs.world.Privs.{no_privileges}
 use Rattle.ix_model.specs.world.World.{put}
 use Rattle.ix_model.specs.declared.reply.Kind.{Kind}
 use Rattle.ix_model.specs.declared.reply.Kind.TheVariants as kind
-use Rattle.ix_model.specs.declared.views.Floating.{Floating}
 use Rattle.ix_inode.specs.declared.node.Inode.{Inode}
 use Rattle.ix_inode.specs.declared.node.Node.{Node}
 

@@ -20,7 +20,7 @@ pub struct Inode {
     pub lic: PrivSet,
     /// How many names it has; 1 for a directory.
     pub links: u32,
-    /// How many bytes it holds, at most 1,048,576; 0 for a directory.
+    /// How many bytes it holds.
     pub size: u64,
 }
 

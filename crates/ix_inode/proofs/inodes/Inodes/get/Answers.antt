@@ -1,6 +1,5 @@
-use Rattle.std.proofs.Common.{◌≡◌, ◌∙◌, ℕ, Option, None, Some, sym, ap, option_map}
+use Rattle.std.proofs.Common.{◌≡◌, ◌∙◌, ℕ, Some, sym, ap, option_map}
 use Rattle.ix_label.specs.Category.{leq}
-use Rattle.ix_model.specs.world.World.{at}
 use Rattle.ix_inode.specs.Shown.{told}
 use Rattle.ix_inode.specs.Nodes.{told_at}
 use Rattle.ix_inode.specs.Volumes.{IsSpot, nodes_of}

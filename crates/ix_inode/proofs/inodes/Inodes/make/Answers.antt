@@ -1,5 +1,4 @@
-use Rattle.std.proofs.Common.{ℕ, Option, ◌≡◌, ◌+◌, ◌<◌, ◌∙◌, sym, ap, length, option_map}
-use Rattle.ix_inode.specs.Shown.{new_node}
+use Rattle.std.proofs.Common.{ℕ, Option, ◌+◌, ◌<◌, ◌∙◌, sym, ap, length, option_map}
 use Rattle.ix_inode.proofs.Laid.{low_is, view_vacant, view_made, laid_made, fits_here}
 use Rattle.ix_inode.proofs.inodes.Inodes.make.Goals as goal
 
