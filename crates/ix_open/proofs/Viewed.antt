@@ -2,9 +2,6 @@
 use Rattle.std.proofs.Common.{◌≡◌, ◌<◌, ◌==◌, ◌&&◌, ◌+◌, ◌-◌, ◌^◌, ℕ, Bool, true, false, List, length, count_by, Option, Some, None, is_some, is_none, refl, sym, ap, ◌∙◌, get_or, set, option_map, subst, nat_lt, arith}
 use Rattle.std.proofs.lemmas.List.{length-map}
 use Rattle.std.proofs.lemmas.Bool.{and_parts, eqb-true}
-use Rattle.ix_label.specs.Category.{bottom}
-use Rattle.ix_model.specs.declared.ids.Obj.{Obj}
-use Rattle.ix_model.specs.declared.call.Mode.{Mode}
 use Rattle.ix_model.specs.world.World.{Open, at, lowest_free, is_on, held}
 use Rattle.slab.specs.Slab.{Slab, get, Updates}
 use Rattle.slab.proofs.SlabLemmas.{Updates-with_value}
@@ -23,10 +20,6 @@ use Rattle.ix_open.specs.declared.view.OpenView.{OpenView}
 pub on_some : (o end : ℕ) (e : Option Open) → is_on o end e ≡ true → is_some e ≡ true
 on_some o end None there = there
 on_some o end (Some x) there = refl
-
--- an entry as it comes
-abbrev pub new_entry : Obj → ℕ → Mode → OpenView
-new_entry o end mode = record { obj = o; end = end; mode = mode; at = 0; owners = 1; label = bottom }
 
 module _ (s : Slab OpenView) (keys : List (Option ℕ)) (objects : ℕ) (t : OpenTable) (view : table_of (seen s keys) objects ≡ t) where
   -- where an entry stands there is a key

@@ -1,5 +1,5 @@
 -- The tables of the entries that the code keeps, and an entry as the tables show it.
-use Rattle.std.specs.Prelude.{ℕ, List, map, Option, Some, slice_set, slice_index_or}
+use Rattle.std.specs.Prelude.{ℕ, List, map, Option, Some, None, slice_set, slice_index_or}
 use Rattle.std.specs.Option.{option_map_or}
 use Rattle.std.proofs.Common.{option_map}
 use Rattle.ix_model.specs.world.World.{Open, put}
@@ -34,3 +34,8 @@ shown t n e = record { obj = record { 0 = e.object }; end = e.end; mode = e.mode
 -- the tables with that entry at a number
 abbrev pub with_entry : ℕ → OpenView → OpenTable → OpenTable
 with_entry n v t = record t { opens = put t.opens n (Some (open_of v)); offsets = slice_set t.offsets n v.at; owners = slice_set t.owners n v.owners }
+
+-- the tables with that entry at the number that was free, if there was one
+abbrev pub with_new : Option ℕ → OpenView → OpenTable → OpenTable
+with_new None v t = t
+with_new (Some n) v t = with_entry n v t

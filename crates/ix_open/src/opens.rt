@@ -3,7 +3,7 @@ ghost use Rattle.std.proofs.Common.{option_map};
 ghost use Rattle.ix_label.specs.Category.{bottom};
 ghost use Rattle.ix_model.specs.world.World.{Open, at, lowest_free, is_on, held};
 ghost use Rattle.ix_open.specs.Table.{none_open, opened, with_owners, with_offset, with_label, without, released};
-ghost use Rattle.ix_open.specs.Entries.{shown, open_of, with_entry};
+ghost use Rattle.ix_open.specs.Entries.{shown, open_of, with_entry, with_new};
 
 use crate::keys::{entry_at, key_of, place};
 use crate::view::OpenView;
@@ -92,18 +92,14 @@ impl Opens {
         ensures id { result ≡ lowest_free self.old.opens }
         ensures new { self.new ≡ opened result (record { object = obj.0; end = end; mode = mode; label = bottom }) self.old }
     {
-        let id = self.numbers.take()?;
-        let key = self.entries.insert_reserved(OpenView {
+        self.add(OpenView {
             obj,
             end,
             mode,
             at: 0,
             owners: 1,
             label: Label::bottom(),
-        });
-        self.keys[id as usize] = Some(key);
-        self.counts[place(obj, end)] += 1;
-        Some(id)
+        })
     }
 
     /// The entry has one owner more. All else stays.
@@ -193,6 +189,22 @@ impl Opens {
         ensures { result ≡ count_by is_none self.now.opens }
     {
         self.numbers.free()
+    }
+
+    /// Puts an entry at the lowest free number; `None`, with no change, exactly where none is free.
+    fn add(&mut self, entry: OpenView) -> Option<u32>
+        requires object { entry.obj.0 < self.old.objects }
+        requires end { entry.end < 2 }
+        requires owned { 0 < entry.owners }
+        ensures id { result ≡ lowest_free self.old.opens }
+        ensures new { self.new ≡ with_new result entry self.old }
+    {
+        let id = self.numbers.take()?;
+        let count = place(entry.obj, entry.end);
+        let key = self.entries.insert_reserved(entry);
+        self.keys[id as usize] = Some(key);
+        self.counts[count] += 1;
+        Some(id)
     }
 
     /// The entry of a number at which one stands.
