@@ -2,10 +2,10 @@
 use Rattle.std.proofs.Common.{Bool, ◌≡◌, ◌<◌, ◌≤◌, ◌+◌, ◌-◌, ◌∙◌, ℕ, zero, suc, true, false, not, nat_le, List, [], ◌∷◌, ◌++◌, length, length-append, take, drop, set, get_or, Option, Some, None, option_map, is_some, IfSome, if◌then◌else◌, ◌^◌, refl, sym, ap, subst, arith, inl, inr, get_or-set_same, get_or-set_other}
 use Rattle.std.specs.List.{flat_map}
 use Rattle.std.specs.Option.{option_map_or}
-use Rattle.std.proofs.lemmas.List.{length-set, length-map, get_or_default, get_or_read, get_or_past, get_or-map, set-get_or, take_more, append-nil}
+use Rattle.std.proofs.lemmas.List.{length-set, length-map, get_or_default, get_or_read, get_or-map, set-get_or, take_more, append-nil}
 use Rattle.std.proofs.lemmas.List.Sums.{sum-map, sum_by-cons}
 use Rattle.std.proofs.lemmas.List.Concat.{get_or-flat_map, flat_map-append}
-use Rattle.std.proofs.lemmas.Bool.{cases_eq, cases_lt}
+use Rattle.std.proofs.lemmas.Bool.{cases_eq}
 use Rattle.std.proofs.Math.Seq.{map-set_same}
 use Rattle.ix_label.specs.Category.{leq}
 use Rattle.ix_label.specs.Lattice.{bottom-leq}
