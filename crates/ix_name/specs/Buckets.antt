@@ -5,7 +5,7 @@ use Rattle.ix_name.specs.declared.entry.Entry.{Entry}
 -- a number in which the directory and each byte count
 unfoldable pub mixed : ℕ → List ℕ → ℕ
 mixed sum [] = sum
-mixed sum (b ∷ bytes) = mixed ((sum * 257 + b) % 4294967291) bytes
+mixed sum (b ∷ bytes) = mixed ((sum * 16777619 + b) % 4294967291) bytes
 
 -- the bucket among so many
 abbrev pub bucket_of : ℕ → ℕ → List ℕ → ℕ

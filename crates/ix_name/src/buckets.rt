@@ -15,14 +15,15 @@ pub fn bucket_of(dir: u32, name: &Name, buckets: u32) -> u32
     (mixed(dir, name.as_bytes()) % buckets as u64) as u32
 }
 
-/// A number below the prime in which the directory and each byte count.
+/// A number below the prime in which the directory and each byte count. By the multiplier names of a byte or two spread over
+/// all buckets too.
 #[tactic(auto, unfolding(crate::specs::Buckets::mixed))]
 fn mixed(dir: u32, bytes: &[u8]) -> u64
     ensures { result ≡ mixed dir bytes.now }
 {
     let mut sum = dir as u64;
     for byte in bytes {
-        sum = (sum * 257 + *byte as u64) % PRIME;
+        sum = (sum * 16_777_619 + *byte as u64) % PRIME;
     }
     sum
 }
