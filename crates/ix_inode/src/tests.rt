@@ -1,4 +1,4 @@
-ghost use Rattle.std.specs.Prelude.{◌≡◌, ◌<◌, true};
+ghost use Rattle.std.specs.Prelude.{◌≡◌, ◌<◌, true, length};
 ghost use Rattle.ix_model.specs.opening.Valid.{fs_fits};
 
 use crate::{Inodes, NoSpace};
@@ -117,5 +117,30 @@ fn set_and_told<L: Ledger, R: Abort>(rt: &R, alloc: Global, blank: Blank) -> Res
     assert!(rt; told.float.label.has(3, &mut steps) && told.float.frozen);
     assert!(rt; told.kind == Kind::Dir && told.fs == 1 && told.links == 2 && told.size == 0);
     assert!(rt; told.cap == PrivSet::DOWN && told.lic == PrivSet::LOG);
+    Ok(())
+}
+
+/// Lets a file or a directory go, where one stands.
+fn free(inodes: &mut Inodes, obj: Obj)
+    ensures { length inodes.new.fss ≡ length inodes.old.fss }
+{
+    if inodes.get(obj).is_some() {
+        inodes.free(obj);
+    }
+}
+
+#[test]
+fn the_lowest_free_number_is_given_out_again(rt: HostRuntime) -> Result<(), Fail> {
+    let fss = [one_block(&rt), one_block(&rt)];
+    let Ok(mut inodes) = Inodes::new(rt.alloc(), &fss) else {
+        return Err(Fail::from("no memory"));
+    };
+    assert_eq!(rt; inodes.make(0, Kind::Dir), Some(Obj(1)));
+    assert_eq!(rt; inodes.make(0, Kind::Dir), Some(Obj(2)));
+    assert_eq!(rt; inodes.make(0, Kind::File), Some(Obj(3)));
+    assert_eq!(rt; inodes.root(1), Obj(8));
+    free(&mut inodes, Obj(3));
+    free(&mut inodes, Obj(2));
+    assert_eq!(rt; inodes.vacant(0), Some(Obj(2)));
     Ok(())
 }
