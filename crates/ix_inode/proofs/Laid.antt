@@ -18,9 +18,10 @@ use Rattle.ix_blocks.specs.Files.{Files, with_bytes, used, has_room}
 use Rattle.ix_inode.specs.declared.node.Node.{Node}
 use Rattle.ix_inode.specs.declared.volume.Volume.{Volume}
 use Rattle.ix_inode.specs.Shown.{new_node, told, taken}
-use Rattle.ix_inode.specs.Nodes.{Nodes, vacant_in, made, fs_ceiling, with_inode, with_node, without, holding, bytes_at, is_file_at, has_space, free_blocks, bytes_on, told_at}
+use Rattle.ix_inode.specs.Nodes.{Nodes, vacant_in, made, fs_ceiling, with_inode, with_node, without, holding, bytes_at, is_file_at, has_space, free_blocks, blocks_of, bytes_on, told_at}
 use Rattle.ix_inode.specs.Volumes.{AreOn, IsVolume, AreVolumes, IsSpot, specs, all_nodes, all_bytes, nodes_of}
 use Rattle.ix_inode.proofs.Standing.{on_edit, same_some}
+use Rattle.ix_inode.proofs.Counted.{used_here}
 use Rattle.ix_inode.proofs.Flat.{flat_set, flat_window}
 
 -- ---- where the inodes begin
@@ -172,6 +173,13 @@ module _ (vs : List Volume) (h : AreVolumes vs) (k : ℕ) (v : Volume) (low : k 
       let blocks : (fs_at (specs vs) k).blocks ≡ v.blocks.blocks = ap (λ (s : FsSpec). s.blocks) (spec_at _) ∙ sym one.blocks in
       let files : bytes_on k (nodes_of vs) ≡ v.blocks.files = window (λ u. u.blocks.files) (bytes_start vs k h) one.files in
       λ i. blocks i - used (files i)
+
+  -- all its blocks
+  pub view_counted : (free : ℕ) → free + used v.blocks.files ≡ v.blocks.blocks → blocks_of k (all_nodes vs) (all_bytes vs) + free_blocks k (nodes_of vs) ≡ (fs_at (specs vs) k).blocks
+  view_counted free all =
+      let blocks : (fs_at (specs vs) k).blocks ≡ v.blocks.blocks = ap (λ (s : FsSpec). s.blocks) (spec_at _) ∙ sym one.blocks in
+      let files : blocks_of k (all_nodes vs) (all_bytes vs) ≡ used v.blocks.files = used_here vs 0 k k v (λ j u there e. let w = h.each j u there e in record { on = subst (λ m. AreOn m u.spec.ceiling u.nodes u.blocks.files) (omega arith) w.on; long = w.files ∙ sym w.nodes }) (omega arith) low is in
+      omega (arith, blocks, files, view_free, all)
 
   pub view_space : (n o len : ℕ) → IsSpot vs k n o → is_some (at v.nodes n) ≡ true → has_room n len v.blocks ≡ has_space o len (nodes_of vs)
   view_space n o len spot lives =

@@ -1,4 +1,5 @@
 pub mod Flat
 pub mod Standing
+pub mod Counted
 pub mod Laid
 pub mod Opening

@@ -1,5 +1,5 @@
 -- What contracts see of files and directories: a record at each number, and bytes.
-use Rattle.std.specs.Prelude.{ℕ, suc, ◌+◌, ◌-◌, nat_le, Bool, true, false, not, ◌&&◌, List, [], ◌∷◌, ◌++◌, length, take, drop, replicate, Option, Some, None, slice_set, slice_index_or}
+use Rattle.std.specs.Prelude.{ℕ, suc, ◌+◌, ◌-◌, ◌==◌, nat_le, if◌then◌else◌, Bool, true, false, not, ◌&&◌, List, [], ◌∷◌, ◌++◌, length, take, drop, replicate, Option, Some, None, slice_set, slice_index_or}
 use Rattle.std.specs.List.{list_all}
 use Rattle.std.specs.Option.{option_map_or}
 use Rattle.std.proofs.Common.{option_map}
@@ -77,6 +77,12 @@ bytes_on k s = take (fs_at s.fss k).inodes (drop (first_inode s.fss k) s.bytes)
 
 abbrev pub free_blocks : ℕ → Nodes → ℕ
 free_blocks k s = (fs_at s.fss k).blocks - used (bytes_on k s)
+
+-- the blocks that the inodes which name a file system use together
+abbrev pub blocks_of : ℕ → List (Option Node) → List (List ℕ) → ℕ
+blocks_of k [] bytes = 0
+blocks_of k (x ∷ nodes) [] = 0
+blocks_of k (x ∷ nodes) (b ∷ bytes) = (if option_map_or (λ y. y.fs == k) x false then blocks_for (length b) else 0) + blocks_of k nodes bytes
 
 -- whether a file may have that length: it needs no more blocks than it has and are free on its file system
 abbrev pub has_space : ℕ → ℕ → Nodes → Bool

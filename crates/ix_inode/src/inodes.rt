@@ -1,12 +1,13 @@
-ghost use Rattle.std.specs.Prelude.{◌≡◌, ◌<◌, ◌≤◌, ◌++◌, min, take, drop, IsTrue, IfOk, is_some, IfSome, Some, length, if◌then◌else◌};
+ghost use Rattle.std.specs.Prelude.{◌≡◌, ◌+◌, ◌<◌, ◌≤◌, ◌++◌, min, take, drop, IsTrue, IfOk, is_some, IfSome, Some, length, if◌then◌else◌};
 ghost use Rattle.std.proofs.Common.{option_map};
 ghost use Rattle.ix_label.specs.Category.{leq};
-ghost use Rattle.ix_model.specs.world.World.{at};
+ghost use Rattle.ix_model.specs.world.World.{at, fs_at};
 ghost use Rattle.ix_model.specs.world.Numbers.{first_inode};
 ghost use Rattle.ix_model.specs.world.Contents.{spliced, cut_to};
 ghost use Rattle.ix_blocks.specs.Files.{most};
 ghost use Rattle.ix_inode.specs.Shown.{new_node, is_dir_kind};
-ghost use Rattle.ix_inode.specs.Nodes.{changed, vacant_in, made, without, holding, bytes_at, is_file_at, has_space, length_after, told_at, ceiling_at, fs_ceiling, with_node, opened, are_within};
+ghost use Rattle.ix_inode.specs.Nodes.{changed, vacant_in, made, without, holding, bytes_at, is_file_at, has_space, length_after, told_at, ceiling_at, fs_ceiling, with_node, opened, are_within, blocks_of, free_blocks};
+ghost use Rattle.ix_inode.specs.declared.node.Node.{Node};
 
 use crate::node::{Inode, Node};
 use crate::spot::{object_of, spot_of, spot_there};
@@ -208,6 +209,16 @@ impl Inodes {
     {
         let spot = spot_there(self.volumes.as_slice(), obj.0);
         self.volumes[spot.volume].blocks.cut(spot.inode, len)
+    }
+
+    /// Does nothing: its contract is the law that on the file system of an inode the blocks that are used and those that are
+    /// free are all blocks that it has.
+    pub fn counted(&self, obj: Obj)
+        requires { IsTrue (is_some (at self.now.nodes obj.0)) }
+        ensures { (x : Node) → at self.now.nodes obj.0 ≡ Some x → blocks_of x.fs self.now.nodes self.now.bytes + free_blocks x.fs self.now ≡ (fs_at self.now.fss x.fs).blocks }
+    {
+        let spot = spot_there(self.volumes.as_slice(), obj.0);
+        self.volumes[spot.volume].blocks.free();
     }
 
     /// What is kept of a number at which an inode stands.
