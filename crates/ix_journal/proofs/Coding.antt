@@ -6,7 +6,8 @@ use Rattle.ix_model.specs.history.Cost.{cost_of_words}
 use Rattle.ix_model.specs.history.Events.{Op}
 use Rattle.ix_model.specs.history.Events as op
 use Rattle.ix_journal.specs.Names.{packed, past, path_at, IsPathAt}
-use Rattle.ix_journal.specs.Heads.{paths_of, words_of, shape_of, head_of, op_in, IsPacked, IsNamed, AreNamed}
+use Rattle.ix_model.specs.laws.Looked.{paths_of}
+use Rattle.ix_journal.specs.Heads.{words_of, shape_of, head_of, op_in, IsPacked, IsNamed, AreNamed}
 use Rattle.ix_journal.proofs.Packed.{names_at-packed, past-packed, AreNames-packed, length-packed}
 
 -- ---- one path

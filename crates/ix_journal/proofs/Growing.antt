@@ -7,7 +7,8 @@ use Rattle.std.proofs.lemmas.List.Elements.{All-nil, All-cons, All-head, All-tai
 use Rattle.std.proofs.lemmas.List.Sums.{sum-map, sum_by-append, sum_by-cons}
 use Rattle.ix_model.specs.history.Cost.{cost_of, cost_of_words, cost_of_history}
 use Rattle.ix_model.specs.history.Events.{Op, Event}
-use Rattle.ix_journal.specs.Heads.{paths_of, words_of, head_of, op_in, IsPacked, AreNamed}
+use Rattle.ix_model.specs.laws.Looked.{paths_of}
+use Rattle.ix_journal.specs.Heads.{words_of, head_of, op_in, IsPacked, AreNamed}
 use Rattle.ix_journal.specs.Entries.{Entries, Fits, with_event, words_in, event_in, record_of, IsWhole, AreEntries}
 use Rattle.ix_journal.specs.Recorded.{Recorded}
 use Rattle.ix_journal.proofs.Coding.{packs}

@@ -2,6 +2,7 @@
 use Rattle.std.specs.Prelude.{ℕ, ◌≤◌, IsTrue, List, [], ◌∷◌, ◌++◌, length}
 use Rattle.std.specs.List.{list_all}
 use Rattle.ix_model.specs.world.Naming.{PathOf, is_name}
+use Rattle.ix_model.specs.laws.Looked.{paths_of}
 use Rattle.ix_model.specs.history.Events.{Op}
 use Rattle.ix_model.specs.history.Events as op
 use Rattle.ix_journal.specs.Names.{packed, past, path_at, IsPathAt}
@@ -14,25 +15,6 @@ use Rattle.ix_journal.specs.declared.record.Head.{Head}
 use Rattle.ix_journal.specs.declared.record.Head.TheVariants as head
 
 -- ---- words
--- the paths of a call
-abbrev pub paths_of : Op → List PathOf
-paths_of (op.CreateAt path) = path ∷ []
-paths_of (op.OpenAt path mode) = path ∷ []
-paths_of (op.MakeDir path) = path ∷ []
-paths_of (op.LinkAt target path) = target ∷ path ∷ []
-paths_of (op.UnlinkAt path) = path ∷ []
-paths_of (op.RemoveDir path) = path ∷ []
-paths_of (op.ChangeDir path) = path ∷ []
-paths_of (op.StatAt path) = path ∷ []
-paths_of (op.ListAt path index) = path ∷ []
-paths_of (op.Exec path) = path ∷ []
-paths_of (op.LabelOf path) = path ∷ []
-paths_of (op.SetLabel path label) = path ∷ []
-paths_of (op.Freeze path) = path ∷ []
-paths_of (op.Thaw path) = path ∷ []
-paths_of (op.SetPriv path cap lic) = path ∷ []
-paths_of _ = []
-
 -- the names of paths, one after another
 abbrev pub names_of : List PathOf → List ℕ
 names_of [] = []

@@ -1,7 +1,8 @@
 ghost use Rattle.std.specs.Prelude.{◌≡◌, ◌+◌, ◌≤◌, ◌++◌, [], vec_capacity, vec_len};
 ghost use Rattle.ix_model.specs.history.Calls.{op_of};
 ghost use Rattle.ix_model.specs.history.Cost.{cost_of_words};
-ghost use Rattle.ix_journal.specs.Heads.{head_of, shape_of, paths_of, words_of, AreNamed};
+ghost use Rattle.ix_model.specs.laws.Looked.{paths_of};
+ghost use Rattle.ix_journal.specs.Heads.{head_of, shape_of, words_of, AreNamed};
 
 use crate::names::{put, put_path, put_paths};
 use crate::record::{Alone, Head, OnPath, Shape};
