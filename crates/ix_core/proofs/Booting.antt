@@ -1,9 +1,9 @@
 -- What boot needs of a flat config, and one step of filling a table up.
 use Rattle.std.proofs.Common.{◌≡◌, ℕ, ◌+◌, ◌-◌, ◌<◌, true, List, [], ◌∷◌, ◌++◌, replicate, Some, None, slice_get, sym, ap, ◌∙◌, arith, append_assoc, suc}
-use Rattle.ix_model.specs.opening.Valid.{is_flat}
+use Rattle.ix_core.specs.Built.{is_flat}
 use Rattle.ix_model.specs.declared.config.Config.{Config}
 use Rattle.ix_model.specs.declared.config.FsSpec.{FsSpec}
-use Rattle.ix_model.proofs.opening.Flatness.{only_fs}
+use Rattle.ix_core.proofs.Flatness.{only_fs}
 
 pub filled_more : {A : Type 0} (xs whole : List A) (d : A) (n i : ℕ) → i < n → xs ++ replicate (n - i) d ≡ whole → (xs ++ d ∷ []) ++ replicate (n - (i + 1)) d ≡ whole
 filled_more xs whole d n i low h =

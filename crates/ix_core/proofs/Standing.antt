@@ -9,8 +9,7 @@ use Rattle.ix_model.specs.history.Step.{step, put_front}
 use Rattle.ix_model.specs.laws.Clean.{IsClean}
 use Rattle.ix_model.specs.laws.Sound.{Sound}
 use Rattle.ix_model.specs.history.Shown.{AreShown}
-use Rattle.ix_model.specs.opening.Valid.{is_valid, is_flat}
-use Rattle.ix_model.specs.history.Calls.{is_built}
+use Rattle.ix_model.specs.opening.Valid.{is_valid}
 use Rattle.ix_model.specs.history.Events.{Event}
 use Rattle.ix_model.specs.history.History.{History, world_of, next, with_entry}
 use Rattle.ix_model.specs.declared.config.Config.{Config}
@@ -19,12 +18,14 @@ use Rattle.ix_model.specs.declared.reply.Reply.TheVariants as reply
 use Rattle.ix_model.specs.declared.reply.Answer.TheVariants as answer
 use Rattle.ix_model.proofs.opening.Openings.{clean_opening}
 use Rattle.ix_model.proofs.clean.Cleaning.{clean_step}
-use Rattle.ix_model.proofs.sound.Reaching.{opening_counts, sound_reached}
+use Rattle.ix_model.proofs.sound.Reaching.{sound_reached}
 use Rattle.ix_model.proofs.words.Runs.{world_of-none, world_of-push}
 use Rattle.ix_model.proofs.words.Fixed.{fixed_step}
-use Rattle.ix_model.proofs.clean.BuiltCalls.{built_step}
 use Rattle.ix_iso.proofs.Hiding.{last_is_told_alike}
+use Rattle.ix_core.specs.Built.{is_built, is_flat}
 use Rattle.ix_core.specs.Stepping.{StandsFor, Shows, AnswersAlike}
+use Rattle.ix_core.proofs.BuiltCalls.{built_step}
+use Rattle.ix_core.proofs.Flatness.{opening_counts}
 
 pub stands_first : (c : Config) (w : World) → is_valid c ≡ true → is_flat c ≡ true → w ≡ opening_world c → StandsFor w (record { config = c; events = [] })
 stands_first c w valid flat e =

@@ -2,22 +2,20 @@
 use Rattle.std.specs.Prelude.{◌≡◌, ◌≤◌, ◌+◌, ℕ, true, List, [], ◌∷◌, ◌++◌, length, take}
 use Rattle.std.specs.List.{list_all}
 use Rattle.ix_label.specs.Category.{Categories}
-use Rattle.ix_model.specs.world.World.{World, Object, Process}
+use Rattle.ix_model.specs.world.World.{World}
 use Rattle.ix_model.specs.opening.Opening.{opening_world}
 use Rattle.ix_model.specs.history.Step.{step_of, run, put_front}
 use Rattle.ix_model.specs.two_runs.TwoRuns.{Low}
 use Rattle.ix_model.specs.laws.Clean.{IsClean}
-use Rattle.ix_model.specs.opening.Valid.{is_valid, is_flat}
-use Rattle.ix_model.specs.history.Calls.{is_built}
+use Rattle.ix_model.specs.opening.Valid.{is_valid}
 use Rattle.ix_model.specs.history.Events.{Event}
 use Rattle.ix_model.specs.history.History.{History, world_of, next, with_entry}
 use Rattle.ix_model.specs.declared.reply.Reply.TheVariants as reply
 use Rattle.ix_model.specs.declared.reply.Answer.{Answer}
 use Rattle.ix_model.specs.declared.reply.Answer.TheVariants as answer
-use Rattle.ix_model.specs.declared.views.ObjView.{ObjView}
-use Rattle.ix_model.specs.declared.views.ProcView.{ProcView}
 use Rattle.ix_iso.specs.Laws.{NoneCrosses}
 use Rattle.ix_iso.specs.Hiding.{RunsAgree}
+use Rattle.ix_core.specs.Built.{is_built, is_flat}
 
 -- The machine's world is the run of the history from the opening world of a valid config, with built calls alone. So many
 -- entries, objects and pids there are at most, and nothing is logged: no built call exercises a privilege.
@@ -43,13 +41,6 @@ StepsTo answer.NoMemory old new before after e = (new ≡ old) × (after ≡ bef
 abbrev pub Shows : Answer → List ℕ → List ℕ → Type 0
 Shows (answer.Given (reply.Bytes k)) after bytes = (k ≤ 4096) × (length bytes ≡ k) × (take k after ≡ bytes)
 Shows _ after bytes = Unit {0}
-
--- what a report says of an object, and of a process
-abbrev pub view_of : Object → ObjView
-view_of o = record { kind = o.kind; label = o.label; frozen = o.frozen }
-
-abbrev pub shown_of : Process → ProcView
-shown_of p = record { label = p.label; ended = p.ended }
 
 -- What a core answers a caller that is low at L, where no entry crossed L before, is what each run answers there that agrees
 -- with the core's own at L: the reply, and the bytes in the buffer.

@@ -1,6 +1,7 @@
 ghost use Rattle.std.specs.Prelude.{◌≡◌, ◌+◌, ◌-◌, ◌∷◌, [], length, map, replicate, IfOk, IsTrue, Some, None};
 ghost use Rattle.std.specs.List.{list_all};
-ghost use Rattle.ix_model.specs.opening.Valid.{is_valid, is_flat, is_flat_object};
+ghost use Rattle.ix_model.specs.opening.Valid.{is_valid};
+ghost use Rattle.ix_core.specs.Built.{is_flat, is_flat_object};
 ghost use Rattle.ix_model.specs.opening.Opening.{opening_world, process_of, object_of};
 ghost use Rattle.ix_model.specs.world.Naming.{last_name};
 ghost use Rattle.ix_model.specs.world.Contents.{holds_nothing};

@@ -1,13 +1,15 @@
 ghost use Rattle.std.specs.Prelude.{◌≡◌, [], length, ◌<◌, ◌+◌, ◌==◌, ◌-◌, IfOk, IsTrue, None, if◌then◌else◌, slice_get};
 ghost use Rattle.std.specs.Option.{option_map};
-ghost use Rattle.ix_model.specs.history.Calls.{op_of, event_of, is_built};
-ghost use Rattle.ix_model.specs.opening.Valid.{is_valid, is_flat};
+ghost use Rattle.ix_model.specs.history.Calls.{op_of, event_of};
+ghost use Rattle.ix_model.specs.opening.Valid.{is_valid};
 ghost use Rattle.ix_model.specs.world.World.{at};
 ghost use Rattle.ix_model.specs.laws.Sound.{Sound};
 ghost use Rattle.ix_model.specs.history.History.{world_of, next};
+ghost use Rattle.ix_model.specs.history.Views.{view_of, shown_of};
 ghost use Rattle.ix_model.specs.opening.Opening.{opening_world};
 ghost use Rattle.ix_iso.specs.Hiding.{HidesWhatIsHigh};
-ghost use Rattle.ix_core.specs.Stepping.{StepsTo, Shows, AnswersAlike, view_of, shown_of};
+ghost use Rattle.ix_core.specs.Built.{is_built, is_flat};
+ghost use Rattle.ix_core.specs.Stepping.{StepsTo, Shows, AnswersAlike};
 
 use crate::boot::boot;
 use crate::machine::Machine;

@@ -1,5 +1,6 @@
 ghost use Rattle.std.specs.Prelude.{◌≡◌, ℕ, ◌+◌, ◌-◌, ◌<◌, ◌≤◌, IsTrue, IfOk, OnErr, OnOk, false, length, Some, [], true, ◌^◌, nat_lt, ◌||◌, if◌then◌else◌};
-ghost use Rattle.ix_model.specs.history.Calls.{op_of, is_built};
+ghost use Rattle.ix_model.specs.history.Calls.{op_of};
+ghost use Rattle.ix_core.specs.Built.{is_built};
 ghost use Rattle.ix_model.specs.history.Events as op;
 ghost use Rattle.ix_model.specs.laws.Clean.{IsClean};
 ghost use Rattle.ix_model.specs.history.Step.{step, put_front};
@@ -70,7 +71,7 @@ impl Machine {
     }
 
     /// A call that edits no content.
-    #[tactic(auto, using(ix_model::proofs::clean::BuiltCalls::carried_built), unfolding(ix_model::specs::history::Step::step, ix_model::specs::history::Step::answer, ix_model::specs::rows::Telling::told, ix_model::specs::history::Step::plainly))]
+    #[tactic(auto, using(crate::proofs::BuiltCalls::carried_built), unfolding(ix_model::specs::history::Step::step, ix_model::specs::history::Step::answer, ix_model::specs::rows::Telling::told, ix_model::specs::history::Step::plainly))]
     fn plain<L: Ledger>(
         &mut self,
         place: usize,
@@ -113,7 +114,7 @@ impl Machine {
     }
 
     /// A read: the decision, and then the bytes into the front of the buffer.
-    #[tactic(auto, using(ix_model::proofs::clean::BuiltCalls::carried_built), unfolding(ix_model::specs::history::Step::step, ix_model::specs::history::Step::answer, ix_model::specs::rows::Telling::told, ix_model::specs::history::Step::plainly, ix_model::specs::rows::Telling::told_of_read, ix_model::specs::history::Step::read_answer, ix_model::specs::world::Contents::after_read, ix_model::specs::world::Contents::readable))]
+    #[tactic(auto, using(crate::proofs::BuiltCalls::carried_built), unfolding(ix_model::specs::history::Step::step, ix_model::specs::history::Step::answer, ix_model::specs::rows::Telling::told, ix_model::specs::history::Step::plainly, ix_model::specs::rows::Telling::told_of_read, ix_model::specs::history::Step::read_answer, ix_model::specs::world::Contents::after_read, ix_model::specs::world::Contents::readable))]
     fn read<L: Ledger>(
         &mut self,
         place: usize,
@@ -173,7 +174,7 @@ impl Machine {
 
     /// A write, to a pipe or to a file. It makes room for the bytes before the decision, so that after `NoMemory`
     /// nothing has changed.
-    #[tactic(auto, using(ix_model::proofs::clean::BuiltCalls::carried_built), unfolding(ix_model::specs::history::Step::step, ix_model::specs::history::Step::answer, ix_model::specs::rows::Telling::told, ix_model::specs::history::Step::plainly, ix_model::specs::rows::Telling::told_of_write, ix_model::specs::history::Step::write_answer))]
+    #[tactic(auto, using(crate::proofs::BuiltCalls::carried_built), unfolding(ix_model::specs::history::Step::step, ix_model::specs::history::Step::answer, ix_model::specs::rows::Telling::told, ix_model::specs::history::Step::plainly, ix_model::specs::rows::Telling::told_of_write, ix_model::specs::history::Step::write_answer))]
     fn write<L: Ledger>(
         &mut self,
         alloc: Global,

@@ -5,7 +5,7 @@ ghost use Rattle.ix_model.specs.rows.Walks.{behind};
 ghost use Rattle.ix_model.specs.world.Contents.{on_pipe};
 ghost use Rattle.ix_model.specs.rows.Telling.{fs_of_object, lies_on, blocks_on};
 ghost use Rattle.ix_core.specs.Meanings.{behind_of, label_at};
-ghost use Rattle.ix_core.specs.Stepping.{view_of, shown_of};
+ghost use Rattle.ix_model.specs.history.Views.{view_of, shown_of};
 
 mod calls;
 mod floats;

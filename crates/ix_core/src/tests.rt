@@ -1,7 +1,7 @@
 ghost use Rattle.std.specs.Prelude.{◌≡◌, ◌<◌, IsTrue};
 ghost use Rattle.std.specs.List.{list_all};
-ghost use Rattle.ix_model.specs.history.Calls.{op_of, is_built};
-ghost use Rattle.ix_model.specs.opening.Valid.{is_flat, is_flat_object, is_flat_process};
+ghost use Rattle.ix_model.specs.history.Calls.{op_of};
+ghost use Rattle.ix_core.specs.Built.{is_built, is_flat, is_flat_object, is_flat_process};
 
 use crate::Core;
 use bitflags::Flags;
@@ -98,7 +98,7 @@ fn are_flat_processes(specs: &[ProcSpec]) -> bool
     specs.iter().all(|p| is_flat_process(p))
 }
 
-#[tactic(auto, unfolding(ix_model::specs::opening::Valid::is_flat))]
+#[tactic(auto, unfolding(crate::specs::Built::is_flat))]
 fn is_flat(config: &Config) -> bool
     ensures { result ≡ is_flat config.now }
 {

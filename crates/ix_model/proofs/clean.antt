@@ -1,4 +1,3 @@
 pub mod Carrying
 pub mod Cleaning
-pub mod BuiltCalls
 pub mod Showing

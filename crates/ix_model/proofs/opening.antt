@@ -13,6 +13,4 @@ pub mod Mounts
 pub mod BareBuilt
 pub mod OpenedWorlds
 pub mod OpeningSound
-pub mod Flat
-pub mod Flatness
 mod HeldPlaced

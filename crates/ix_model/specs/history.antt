@@ -7,3 +7,6 @@ pub mod Lowering
 pub mod Cost
 pub mod Freshness
 pub mod Shown
+pub mod Views
+pub mod Made
+pub mod Systems

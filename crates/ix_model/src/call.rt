@@ -1,6 +1,3 @@
-ghost use Rattle.std.specs.Prelude.{◌≡◌};
-ghost use Rattle.ix_model.specs.history.Calls.{is_built, op_of};
-
 use crate::ids::{Fd, Pid};
 use crate::path::Path;
 use crate::privs::PrivSet;
@@ -171,16 +168,4 @@ pub enum Call<'a> {
     ReadLog {
         index: u32,
     },
-}
-
-impl Call<'_> {
-    /// Whether the core makes this call already. The others are named, and not built yet.
-    pub fn built(&self) -> bool
-        ensures { result ≡ is_built (op_of self.now) }
-    {
-        matches!(
-            self,
-            Call::OpenAt { .. } | Call::ReadFd { .. } | Call::WriteFd { .. } | Call::SelfLabel
-        )
-    }
 }

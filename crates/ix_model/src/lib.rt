@@ -15,6 +15,7 @@ mod path;
 mod privs;
 mod refusal;
 mod reply;
+mod sys;
 mod valid;
 mod views;
 
@@ -31,4 +32,5 @@ pub use path::Path;
 pub use privs::PrivSet;
 pub use refusal::Refusal;
 pub use reply::{Answer, Kind, Reply};
+pub use sys::Sys;
 pub use views::{Caller, Floating, ObjView, ProcView};

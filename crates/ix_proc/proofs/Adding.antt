@@ -3,9 +3,10 @@ use Rattle.std.proofs.Common.{◌≡◌, ◌<◌, ◌+◌, ℕ, true, false, Lis
 use Rattle.std.specs.Option.{option_map_or, option_and_then}
 use Rattle.std.specs.List.{list_any, remove, Contains}
 use Rattle.std.proofs.lemmas.Bool.{lt-ltb}
+use Rattle.ix_model.specs.world.Callers.{number_of}
 use Rattle.ix_model.specs.world.World.{Process, at, living}
 use Rattle.ix_links.specs.Chains.{Chains, chain_of, pushed_back, removed}
-use Rattle.ix_proc.specs.Table.{ProcTable, with_process, number_of}
+use Rattle.ix_proc.specs.Table.{ProcTable, with_process}
 use Rattle.ix_proc.specs.Slots.{pid_in, record_at, lookup, found, laid, table_of, process_of, process_in, status_in, AreSlots, Finds}
 use Rattle.ix_proc.specs.Kin.{AreKin, Hangs, Parented}
 use Rattle.ix_proc.proofs.Laying.{laid_pushed, are_pushed, tables_pushed, count_processes}

@@ -6,9 +6,10 @@ use Rattle.std.proofs.lemmas.List.{length-map}
 use Rattle.std.proofs.lemmas.List.Sums.{position_or_len_is}
 use Rattle.std.proofs.lemmas.Bool.Decides.{eqb_tells, nat_tests}
 use Rattle.std.proofs.lemmas.Bool.{lt-ltb, le-ltb, cases_lt}
+use Rattle.ix_model.specs.world.Callers.{number_of}
 use Rattle.ix_model.specs.world.World.{Process, at, living, is_ended}
 use Rattle.ix_model.specs.rows.OnProcesses.{is_child}
-use Rattle.ix_proc.specs.Table.{ProcTable, number_of}
+use Rattle.ix_proc.specs.Table.{ProcTable}
 use Rattle.ix_proc.specs.Slots.{pid_in, record_at, process_of, process_in, lookup, led, found, laid, table_of, Above, Rises, AreSlots, is_child_record}
 use Rattle.ix_proc.specs.Kin.{linked}
 use Rattle.ix_proc.proofs.Looking.{lookup_above, lookup_below}

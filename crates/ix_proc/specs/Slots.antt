@@ -4,9 +4,10 @@ use Rattle.std.specs.Option.{option_map_or}
 use Rattle.std.specs.List.{range_with_len}
 use Rattle.std.proofs.Common.{option_map}
 use Rattle.ix_label.specs.Category.{bottom}
+use Rattle.ix_model.specs.world.Callers.{number_of}
 use Rattle.ix_model.specs.world.Privs.{no_privileges}
 use Rattle.ix_model.specs.world.World.{Process, put}
-use Rattle.ix_proc.specs.Table.{ProcTable, number_of}
+use Rattle.ix_proc.specs.Table.{ProcTable}
 use Rattle.ix_model.specs.declared.ids.Pid.{Pid}
 use Rattle.ix_model.specs.declared.views.Caller.{Caller}
 use Rattle.ix_proc.specs.declared.slot.Slot.{Slot}

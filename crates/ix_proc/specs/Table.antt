@@ -9,8 +9,6 @@ use Rattle.ix_model.specs.rows.OnProcesses.{kept_fds, is_child, remains}
 use Rattle.ix_model.specs.declared.call.Keep.{Keep}
 use Rattle.ix_model.specs.declared.call.Keep.TheVariants as keep
 use Rattle.ix_model.specs.declared.ids.Pid.{Pid}
-use Rattle.ix_model.specs.declared.views.Caller.{Caller}
-use Rattle.ix_model.specs.declared.views.ProcView.{ProcView}
 use Rattle.ix_model.specs.declared.config.ProcSpec.{ProcSpec}
 
 -- The record of each pid, if it has one, and its exit status, or 0. The next pid is the length. There are at most so many records.
@@ -43,13 +41,6 @@ abbrev pub keeps : Keep → List (Option ℕ) → Bool
 keeps (keep.One fd) fds = is_some (at fds fd.0)
 keeps _ fds = true
 
--- a living process as its calls see it, and with what they left
-abbrev pub caller_of : ℕ → Process → Caller
-caller_of pid p = record { pid = record { 0 = pid }; float = record { label = p.label; ceiling = p.ceiling; frozen = p.frozen }; cap = p.cap; lic = p.lic; own = p.own; cwd = record { 0 = p.cwd }; fds = p.fds }
-
-abbrev pub with_caller : Caller → Process → Process
-with_caller c p = record { parent = p.parent; label = c.float.label; ceiling = c.float.ceiling; frozen = c.float.frozen; cap = c.cap; lic = c.lic; own = c.own; cwd = c.cwd.0; fds = c.fds; ended = p.ended }
-
 -- the record of a pid once its process has ended
 abbrev pub ended_as : Option Process → ℕ → ℕ → ProcTable → ProcTable
 ended_as None pid status t = record t { processes = put t.processes pid None; statuses = slice_set t.statuses pid 0 }
@@ -60,12 +51,6 @@ ended pid status t = ended_as (option_and_then remains (at t.processes pid)) pid
 
 abbrev pub collected : ℕ → ProcTable → ProcTable
 collected pid t = record t { processes = put t.processes pid None; statuses = slice_set t.statuses pid 0 }
-
-abbrev pub shown_of : Process → ProcView
-shown_of p = record { label = p.label; ended = p.ended }
-
-abbrev pub number_of : Pid → ℕ
-number_of p = p.0
 
 -- the ended child with the lowest pid, its label and its status
 abbrev pub EndedChild : Option (Pid × Categories × ℕ) → ℕ → ProcTable → Type 0

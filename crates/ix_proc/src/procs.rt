@@ -3,8 +3,10 @@ ghost use Rattle.std.specs.Option.{option_copied, option_map_or, option_and_then
 ghost use Rattle.std.specs.List.{list_any};
 ghost use Rattle.std.proofs.Common.{option_map};
 ghost use Rattle.ix_model.specs.world.World.{Process, at, put, change, living, is_ended};
+ghost use Rattle.ix_model.specs.world.Callers.{number_of, caller_of, with_caller};
 ghost use Rattle.ix_model.specs.rows.OnProcesses.{has_kept, is_child};
-ghost use Rattle.ix_proc.specs.Table.{no_processes, Adds, starting, child_of, caller_of, with_caller, ended, collected, shown_of, number_of, EndedChild};
+ghost use Rattle.ix_model.specs.history.Views.{shown_of};
+ghost use Rattle.ix_proc.specs.Table.{no_processes, Adds, starting, child_of, ended, collected, EndedChild};
 ghost use Rattle.ix_proc.specs.Slots.{process_of, process_in, status_in, with_record, new_record};
 
 use crate::descriptors::kept;

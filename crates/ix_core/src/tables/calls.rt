@@ -1,5 +1,6 @@
 ghost use Rattle.std.specs.Prelude.{◌≡◌, ◌≤◌, ◌<◌, ◌-◌, IsTrue, OnErr, OnOk, false, length, Some};
-ghost use Rattle.ix_model.specs.history.Calls.{op_of, is_built};
+ghost use Rattle.ix_model.specs.history.Calls.{op_of};
+ghost use Rattle.ix_core.specs.Built.{is_built};
 ghost use Rattle.ix_model.specs.world.World.{lives, change, put, held};
 ghost use Rattle.ix_model.specs.rows.Outcomes.{RowIs};
 ghost use Rattle.ix_model.specs.rows.OnLabels.{self_label};

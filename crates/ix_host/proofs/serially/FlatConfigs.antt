@@ -4,7 +4,7 @@ use Rattle.std.specs.List.{list_all}
 use Rattle.std.proofs.lemmas.Bool.{and_parts}
 use Rattle.ix_model.specs.world.World.{fs_at}
 use Rattle.ix_model.specs.world.Privs.{is_empty}
-use Rattle.ix_model.specs.opening.Valid.{is_valid, is_flat, is_flat_object, is_flat_process, is_well_formed, fss_fit, limits_fit, procs_fit, objects_fit, object_fits, fs_of, is_taken, has_directory, has_room}
+use Rattle.ix_model.specs.opening.Valid.{is_valid, is_well_formed, fss_fit, limits_fit, procs_fit, objects_fit, object_fits, fs_of, is_taken, has_directory, has_room}
 use Rattle.ix_model.specs.declared.config.Limits.{Limits}
 use Rattle.ix_model.specs.declared.config.FsSpec.{FsSpec}
 use Rattle.ix_model.specs.declared.config.ProcSpec.{ProcSpec}
@@ -15,6 +15,7 @@ use Rattle.ix_script.specs.declared.line.Line.{Line}
 use Rattle.ix_script.specs.declared.line.Line.TheVariants as line
 use Rattle.ix_script.specs.lines.Before.{fs_told, fss_told, fss_of, or_default, limits_of, proc_told, procs_of, object_told, objects_of}
 use Rattle.ix_script.specs.scripts.Scripts.{config_of}
+use Rattle.ix_core.specs.Built.{is_flat, is_flat_object, is_flat_process}
 use Rattle.ix_host.specs.declared.asked.command.Command.TheVariants as command
 use Rattle.ix_host.specs.serial.Built.{is_fs, is_unbuilt_run, unbuilt_from, unbuilt_line}
 use Rattle.ix_host.proofs.serially.Going.{all_built, all_are_built, both_true}

@@ -7,7 +7,7 @@ use Rattle.ix_model.specs.world.World.{World, Object, Process, at}
 use Rattle.ix_model.specs.opening.Opening.{opening_world}
 use Rattle.ix_model.specs.history.Step.{step_of, run}
 use Rattle.ix_model.specs.history.Events.{Event}
-use Rattle.ix_core.specs.Stepping.{view_of, shown_of}
+use Rattle.ix_model.specs.history.Views.{view_of, shown_of}
 use Rattle.ix_script.specs.lines.Before.{lanes_of}
 use Rattle.ix_script.specs.scripts.Scripts.{config_of}
 use Rattle.ix_script.specs.declared.line.Line.{Line}

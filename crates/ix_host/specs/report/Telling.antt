@@ -2,7 +2,7 @@
 use Rattle.std.specs.Prelude.{◌≡◌, ℕ, ◌+◌, ◌-◌, ◌<◌, ◌≤◌, true, List, [], ◌++◌, length, drop, codes}
 use Rattle.std.specs.List.{flat_map, list_all}
 use Rattle.ix_model.specs.world.World.{World}
-use Rattle.ix_model.specs.history.Calls.{is_built}
+use Rattle.ix_core.specs.Built.{is_built}
 use Rattle.ix_model.specs.history.History.{world_of}
 use Rattle.ix_script.specs.lines.Before.{lanes_of}
 use Rattle.ix_report.specs.LineText.{head_line, audit_line, tail_line}

@@ -1,6 +1,7 @@
 ghost use Rattle.std.specs.Prelude.{◌≡◌, false, IfSome, IsTrue, OnOk};
 ghost use Rattle.std.specs.Option.{option_map};
-ghost use Rattle.ix_model.specs.history.Calls.{op_of, event_of, is_built};
+ghost use Rattle.ix_model.specs.history.Calls.{op_of, event_of};
+ghost use Rattle.ix_core.specs.Built.{is_built};
 ghost use Rattle.ix_host.specs.serial.Asked.{asked, named, number_in, bound};
 ghost use Rattle.ix_host.specs.serial.Built.{is_unbuilt_run};
 ghost use Rattle.ix_host.specs.serial.Serial.{entry_of};

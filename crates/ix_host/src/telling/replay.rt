@@ -1,6 +1,7 @@
 ghost use Rattle.std.specs.Prelude.{◌≡◌, ◌++◌, ◌+◌, ◌-◌, ◌<◌, ◌==◌, None, Some, OnOk, IsTrue, length, slice_get, if◌then◌else◌};
 ghost use Rattle.std.specs.Option.{option_copied, option_map};
-ghost use Rattle.ix_model.specs.history.Calls.{event_of, is_built, op_of};
+ghost use Rattle.ix_model.specs.history.Calls.{event_of, op_of};
+ghost use Rattle.ix_core.specs.Built.{is_built};
 ghost use Rattle.ix_model.specs.history.History.{world_of, with_entry};
 ghost use Rattle.ix_script.specs.lines.Before.{lanes_of};
 ghost use Rattle.ix_host.specs.report.Report.{entry_text, lane_name};

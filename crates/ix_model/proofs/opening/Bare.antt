@@ -25,13 +25,6 @@ first_fits s fss fit =
     let p = and_parts (fs_fits s) (list_all fs_fits fss) fit in
     (has_inode s p.0, p.1)
 
--- one file system has at most 65,536
-pub inodes_few : (s : FsSpec) → list_all fs_fits (s ∷ []) ≡ true → first_inode (s ∷ []) (length (s ∷ [])) ≤ 65536
-inodes_few s fit =
-    let parts = and_parts (is_within 1 65536 s.blocks) (is_within 1 65536 s.inodes) (and_parts (fs_fits s) true fit).0 in
-    let few = leb-true s.inodes 65536 (and_parts (nat_le 1 s.inodes) (nat_le s.inodes 65536) parts.1).1 in
-    omega (arith, first-cons s [] 0)
-
 pub some_inodes : (fss : List FsSpec) (k : ℕ) → list_all fs_fits fss ≡ true → k < length fss → 1 ≤ (fs_at fss k).inodes
 some_inodes [] k fit low = absurd (omega arith)
 some_inodes (s ∷ fss) zero fit low = (first_fits s fss fit).0

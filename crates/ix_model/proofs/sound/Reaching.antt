@@ -1,26 +1,21 @@
 -- Every world that a valid config reaches is sound, and every world that is reached is clean.
-use Rattle.std.proofs.Common.{◌≡◌, ◌≤◌, ℕ, suc, true, List, [], ◌∷◌, length, replicate, Some, refl, sym, ap, ◌∙◌, subst, arith}
-use Rattle.std.proofs.lemmas.List.{length-map}
-use Rattle.std.specs.List.{list_all}
+use Rattle.std.proofs.Common.{◌≡◌, ℕ, suc, true, List, [], ◌∷◌, length, replicate, refl, sym, subst, arith}
 use Rattle.ix_model.specs.world.World.{World}
 use Rattle.ix_model.specs.world.Contents.{holds_nothing}
 use Rattle.ix_model.specs.history.Step.{step_of, run}
-use Rattle.ix_model.specs.world.Numbers.{first_inode}
-use Rattle.ix_model.specs.opening.Opening.{bare_objects, bare_world, process_of, opening_world}
-use Rattle.ix_model.specs.opening.Valid.{fs_fits, is_valid, is_flat}
+use Rattle.ix_model.specs.opening.Opening.{bare_objects, bare_world, opening_world}
+use Rattle.ix_model.specs.opening.Valid.{is_valid}
 use Rattle.ix_model.specs.laws.Clean.{IsClean}
 use Rattle.ix_model.specs.laws.Sound.{Sound}
 use Rattle.ix_model.specs.history.Events.{Event}
 use Rattle.ix_model.specs.declared.config.Config.{Config}
-use Rattle.ix_model.specs.declared.config.FsSpec.{FsSpec}
 use Rattle.ix_model.proofs.opening.Openings.{clean_opening}
 use Rattle.ix_model.proofs.sound.Soundly.{sound_step}
 use Rattle.ix_model.proofs.opening.Validity.{Valid, valid_parts}
-use Rattle.ix_model.proofs.opening.Bare.{bare_table, inodes_few}
+use Rattle.ix_model.proofs.opening.Bare.{bare_table}
 use Rattle.ix_model.proofs.opening.BareBuilt.{bare_built}
 use Rattle.ix_model.proofs.opening.OpenedWorlds.{WorldBuilt, lines_built}
 use Rattle.ix_model.proofs.opening.OpeningSound.{sound_built}
-use Rattle.ix_model.proofs.opening.Flatness.{only_fs}
 
 -- ---- the opening world
 bare_is_built : (c : Config) → Valid c → WorldBuilt c [] (bare_world c)
@@ -42,16 +37,6 @@ sound_opening_world c valid =
     let v = valid_parts c valid in
     let r = opening_is_built c v in
     subst (λ (w : World). Sound w) (sym r.is) (sound_built c c.objects r.objects r.holdings r.built v.procs.low v.procs.few (subst (λ (w : World). IsClean w) r.is (clean_opening c)))
-
--- how many objects there are in it with one file system, how many pids, and that nothing is logged
-pub opening_counts : (c : Config) → is_valid c ≡ true → is_flat c ≡ true → (length (opening_world c).frame.objects ≤ 66560) × (length (opening_world c).frame.processes ≤ 1025) × ((opening_world c).frame.log ≡ [])
-opening_counts c valid flat =
-    let v = valid_parts c valid in
-    let r = opening_is_built c v in
-    let one = only_fs c flat in
-    let inodes : first_inode c.fss (length c.fss) ≤ 65536 = subst (λ (fss : List FsSpec). first_inode fss (length fss) ≤ 65536) (sym one.1) (inodes_few one.0 (ap (list_all fs_fits) (sym one.1) ∙ v.fss.each)) in
-    subst (λ (w : World). (length w.frame.objects ≤ 66560) × (length w.frame.processes ≤ 1025) × (w.frame.log ≡ [])) (sym r.is)
-    (omega (arith, r.built.counted.long, v.limits.pipes), omega (arith, length-map c.procs (λ p. Some (process_of p)), v.procs.few, v.limits.procs), refl)
 
 -- ---- runs
 pub sound_run : (w : World) (place : ℕ) (h : List Event) → Sound w → Sound (run w place h)

@@ -36,7 +36,6 @@ use Rattle.ix_model.proofs.words.RowEnds.{endings}
 use Rattle.ix_model.proofs.words.Living.{is_living}
 use Rattle.ix_model.proofs.words.Rowwise.{Change, Logging, Words, changes_of, kept_row}
 use Rattle.ix_model.proofs.refused.Refusing.{Relabelled, Relabels, relabelled_itself, relabelled_observe, refusing_row}
-use Rattle.ix_model.proofs.words.Lasts.{decided}
 use Rattle.ix_model.proofs.words.Answered.{step_frame}
 
 -- ---- what an entry adds
@@ -285,7 +284,7 @@ quiet_words pid f = record {
 }
 
 -- whether a call writes nothing into the log
-abbrev pub logs_nothing : Op → Bool
+abbrev logs_nothing : Op → Bool
 logs_nothing c = list_all log_stays (changes_of c)
 
 quiet_row : (t : Told) (place pid : ℕ) (c : Op) (f : Frame) → logs_nothing c ≡ true → Holds (row t place pid c f) (λ g. g.log ≡ f.log)
@@ -345,9 +344,6 @@ decided_log t place pid c f = go (lives f pid)
     go false = sym (append-nil f.log)
 
 -- ---- steps and runs
-pub log_stays_step : (w : World) (place pid : ℕ) (c : Op) → logs_nothing c ≡ true → (step w place pid c).world.frame.log ≡ w.frame.log
-log_stays_step w place pid c quiet = ap (λ (g : Frame). g.log) (step_frame w place pid c) ∙ decided (λ g. g.log ≡ w.frame.log) (told w pid c) place pid c w.frame refl (quiet_row (told w pid c) place pid c w.frame quiet)
-
 -- what the step of a call adds
 step_adds : World → ℕ → ℕ → Op → List AuditLine
 step_adds w place pid c = adds w.frame (step w place pid c).world.frame place pid c (step w place pid c).reply

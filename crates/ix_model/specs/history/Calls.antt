@@ -1,5 +1,5 @@
 -- What the calls and entries of the code mean.
-use Rattle.std.specs.Prelude.{ℕ, List, Bool, true, false}
+use Rattle.std.specs.Prelude.{ℕ, List}
 use Rattle.ix_model.specs.history.Events.{Op, Event}
 use Rattle.ix_model.specs.history.Events as op
 use Rattle.ix_model.specs.declared.call.Call.{Call}
@@ -52,11 +52,3 @@ with_bytes bytes o = o
 -- the entry that an entry of the code is
 abbrev pub event_of : Entry → Event
 event_of e = record { seat = e.seat; line = e.line; pid = e.pid.0; op = op_of e.call }
-
--- the calls that the core makes already
-abbrev pub is_built : Op → Bool
-is_built (op.OpenAt path mode) = true
-is_built (op.ReadFd fd count) = true
-is_built (op.WriteFd fd bytes) = true
-is_built op.SelfLabel = true
-is_built _ = false

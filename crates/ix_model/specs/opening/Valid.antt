@@ -101,14 +101,3 @@ objects_fit fss l before (o ∷ os) = object_fits fss l before o && objects_fit 
 -- a config is valid where each part of it fits, and its journal is within the limit
 unfoldable pub is_valid : Config → Bool
 is_valid c = fss_fit c.fss && limits_fit c.limits && procs_fit c.limits c.procs && objects_fit c.fss c.limits [] c.objects && nat_le c.journal 870400000
-
--- Until directories, further file systems, frozen objects and privileges are built: one file system, and free files in its
--- root, without privileges.
-abbrev pub is_flat_object : ObjSpec → Bool
-is_flat_object o = not o.dir && not o.frozen && is_empty o.cap && is_empty o.lic && length o.path.names == 1
-
-abbrev pub is_flat_process : ProcSpec → Bool
-is_flat_process p = is_empty p.cap && is_empty p.lic
-
-unfoldable pub is_flat : Config → Bool
-is_flat c = length c.fss == 1 && list_all is_flat_object c.objects && list_all is_flat_process c.procs

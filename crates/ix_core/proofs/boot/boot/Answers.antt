@@ -3,7 +3,7 @@ use Rattle.ix_model.specs.world.World.{World}
 use Rattle.ix_model.specs.opening.Flat.{flat_world}
 use Rattle.ix_model.specs.opening.Opening.{opening_world}
 use Rattle.ix_model.specs.declared.memory.NoMemory.{NoMemory}
-use Rattle.ix_model.proofs.opening.Flatness.{files_alone, opening_flat}
+use Rattle.ix_core.proofs.Flatness.{files_alone, opening_flat}
 use Rattle.ix_core.proofs.Booting.{first_fs, some_fs}
 use Rattle.ix_core.proofs.boot.boot.Goals as goal
 

@@ -1,6 +1,7 @@
 use Rattle.std.proofs.Common.{sym, ◌∙◌, ap, arith}
 use Rattle.std.specs.Option.{option_map}
-use Rattle.ix_model.specs.history.Calls.{event_of, is_built}
+use Rattle.ix_model.specs.history.Calls.{event_of}
+use Rattle.ix_core.specs.Built.{is_built}
 use Rattle.ix_host.proofs.serially.Indexed.{counted_from_one, all_at, is_there}
 use Rattle.ix_host.proofs.words_in.Oks.{both_ok}
 use Rattle.ix_host.proofs.piecewise.Pieces.{entries_told, entry_told}

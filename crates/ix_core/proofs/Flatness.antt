@@ -1,11 +1,13 @@
 -- The opening world of a valid flat config is a flat one.
-use Rattle.std.proofs.Common.{◌≡◌, ◌<◌, ◌≤◌, ◌+◌, ◌-◌, ◌==◌, ℕ, zero, suc, true, not, ◌&&◌, List, [], ◌∷◌, ◌++◌, length, cond, refl, sym, ap, ◌∙◌, subst, arith, length-append, append_assoc, append-nil}
+use Rattle.std.proofs.Common.{◌≡◌, ◌<◌, ◌≤◌, ◌+◌, ◌-◌, ◌==◌, ℕ, zero, suc, true, not, ◌&&◌, List, [], ◌∷◌, ◌++◌, length, cond, refl, sym, ap, ◌∙◌, subst, arith, length-append, append_assoc, append-nil, Some, nat_le}
 use Rattle.std.specs.List.{list_all}
-use Rattle.std.proofs.lemmas.Bool.{and_parts, eqb-true}
+use Rattle.std.proofs.lemmas.Bool.{and_parts, eqb-true, leb-true}
+use Rattle.std.proofs.lemmas.List.{length-map}
 use Rattle.ix_model.specs.world.Privs.{is_empty}
 use Rattle.ix_model.specs.world.World.{fs_at, World}
-use Rattle.ix_model.specs.opening.Opening.{with_objects, opening_world}
-use Rattle.ix_model.specs.opening.Valid.{fs_fits, fs_of, lying_on, object_fits, objects_fit, is_valid, is_flat_object, is_flat_process, is_flat}
+use Rattle.ix_model.specs.world.Numbers.{first_inode}
+use Rattle.ix_model.specs.opening.Opening.{with_objects, process_of, opening_world}
+use Rattle.ix_model.specs.opening.Valid.{fs_fits, fs_of, lying_on, object_fits, objects_fit, is_valid, is_within}
 use Rattle.ix_model.specs.opening.Flat.{flat_world}
 use Rattle.ix_model.specs.declared.config.Config.{Config}
 use Rattle.ix_model.specs.declared.config.Limits.{Limits}
@@ -15,7 +17,10 @@ use Rattle.ix_model.specs.declared.config.ObjSpec.{ObjSpec}
 use Rattle.ix_model.proofs.opening.Bare.{first_fits}
 use Rattle.ix_model.proofs.opening.Lines.{line_is}
 use Rattle.ix_model.proofs.opening.Validity.{valid_parts}
-use Rattle.ix_model.proofs.opening.Flat.{one_more, bare_flat_world}
+use Rattle.ix_model.proofs.tables.Inodes.{first-cons}
+use Rattle.ix_model.proofs.sound.Reaching.{opening_is_built}
+use Rattle.ix_core.specs.Built.{is_flat_object, is_flat_process, is_flat}
+use Rattle.ix_core.proofs.FlatWorlds.{one_more, bare_flat_world}
 
 -- ---- with one file system
 fs_of_flat : (s : FsSpec) (names : List (List ℕ)) → fs_of (s ∷ []) names ≡ 0
@@ -92,3 +97,21 @@ opening_flat c s one valid flat =
     let some : 1 ≤ s.inodes = (first_fits s [] (ap (list_all fs_fits) (sym one) ∙ v.fss.each)).0 in
     let r = flat_opening c s one some (ap (λ t. objects_fit t c.limits [] c.objects) (sym one) ∙ v.objects) (files_alone c flat) in
     r.is ∙ ap (flat_world c.limits s c.procs c.objects) (let n : r.free ≡ s.inodes + c.limits.pipes - (length c.objects + 1) = omega (arith, r.count) in n)
+
+-- ---- its counts
+-- one file system has at most 65,536
+pub inodes_few : (s : FsSpec) → list_all fs_fits (s ∷ []) ≡ true → first_inode (s ∷ []) (length (s ∷ [])) ≤ 65536
+inodes_few s fit =
+    let parts = and_parts (is_within 1 65536 s.blocks) (is_within 1 65536 s.inodes) (and_parts (fs_fits s) true fit).0 in
+    let few = leb-true s.inodes 65536 (and_parts (nat_le 1 s.inodes) (nat_le s.inodes 65536) parts.1).1 in
+    omega (arith, first-cons s [] 0)
+
+-- how many objects there are in it with one file system, how many pids, and that nothing is logged
+pub opening_counts : (c : Config) → is_valid c ≡ true → is_flat c ≡ true → (length (opening_world c).frame.objects ≤ 66560) × (length (opening_world c).frame.processes ≤ 1025) × ((opening_world c).frame.log ≡ [])
+opening_counts c valid flat =
+    let v = valid_parts c valid in
+    let r = opening_is_built c v in
+    let one = only_fs c flat in
+    let inodes : first_inode c.fss (length c.fss) ≤ 65536 = subst (λ (fss : List FsSpec). first_inode fss (length fss) ≤ 65536) (sym one.1) (inodes_few one.0 (ap (list_all fs_fits) (sym one.1) ∙ v.fss.each)) in
+    subst (λ (w : World). (length w.frame.objects ≤ 66560) × (length w.frame.processes ≤ 1025) × (w.frame.log ≡ [])) (sym r.is)
+    (omega (arith, r.built.counted.long, v.limits.pipes), omega (arith, length-map c.procs (λ p. Some (process_of p)), v.procs.few, v.limits.procs), refl)

@@ -1,0 +1,14 @@
+-- The entries that a system has made.
+use Rattle.std.specs.Prelude.{ℕ}
+use Rattle.ix_model.specs.history.Events.{Op, Event}
+use Rattle.ix_model.specs.declared.ids.Pid.{Pid}
+use Rattle.ix_model.specs.declared.reply.Reply.{Reply}
+
+-- an entry, and the reply to it
+pub record Made : Type 0 where
+  pub event : Event
+  pub reply : Reply
+
+-- the entry of a seat's call: the line that it comes from, who calls, and the call
+abbrev pub entry : ℕ → ℕ → Pid → Op → Event
+entry seat line pid o = record { seat = seat; line = line; pid = pid.0; op = o }
