@@ -17,7 +17,7 @@ use Rattle.ix_model.specs.rows.Telling.{told_of_read, told_of_write, told_of_cut
 use Rattle.ix_model.specs.history.Step.{plainly, read_answer, write_answer, cut_answer, seek_answer, stat_answer, exit_answer, wait_answer, pex_answer, answer, step}
 use Rattle.ix_model.specs.opening.Opening.{opening_world, bare_objects, with_object}
 use Rattle.ix_model.specs.history.AuditLog.{object_of_path, label_at, of_process, exercises, line_of_act, is_licensed, lines_added, audit_log}
-use Rattle.ix_model.specs.opening.Valid.{is_valid, is_flat, fss_fit, limits_fit, procs_fit, object_fits}
+use Rattle.ix_model.specs.opening.Valid.{is_valid, fss_fit, limits_fit, procs_fit, object_fits}
 
 -- Whoever unfolds one of these unfolds what is named with it.
 -- the words of the rows
@@ -58,7 +58,7 @@ unfoldable pub licensing : ℕ
 unfolding auditing is_licensed lines_added audit_log
 licensing = 0
 
--- what makes a config valid and flat
+-- what makes a config valid
 unfoldable pub fitting : ℕ
-unfolding is_valid is_flat fss_fit limits_fit procs_fit object_fits
+unfolding is_valid fss_fit limits_fit procs_fit object_fits
 fitting = 0

@@ -9,7 +9,7 @@ pub mod told_up;
 pub mod two_runs;
 
 ghost use Rattle.std.specs.Prelude.{◌≡◌, ℕ, true, [], ◌∷◌, codes, take};
-ghost use Rattle.ix_model.specs.opening.Valid.{is_valid, is_flat};
+ghost use Rattle.ix_model.specs.opening.Valid.{is_valid};
 ghost use Rattle.ix_worked.specs.Sessions.{shown, log_of};
 ghost use Rattle.ix_worked.specs.floating.Untouched.{untouched, no_entries, untouched_shows};
 ghost use Rattle.ix_worked.specs.Scripts.{three, three_and_five};
@@ -38,28 +38,24 @@ ghost use Rattle.ix_worked.specs.processes.SharedOffset.{one_shared, below_seven
 /// Where nothing is called there is the root, without categories, and nothing else.
 pub fn an_untouched_machine_is_its_root()
     ensures valid { is_valid untouched ≡ true }
-    ensures flat { is_flat untouched ≡ true }
     ensures shown { shown untouched no_entries ≡ untouched_shows }
 {}
 
 /// A reader floats to the label of the file that it reads, where that is exactly its ceiling.
 pub fn floats_to_its_ceiling()
     ensures valid { is_valid (reading_up three) ≡ true }
-    ensures flat { is_flat (reading_up three) ≡ true }
     ensures shown { shown (reading_up three) reading ≡ floating_shows }
 {}
 
 /// A reader isn't let past its ceiling: the read is refused, and its label stays.
 pub fn is_stopped_by_its_ceiling()
     ensures valid { is_valid (reading_up three_and_five) ≡ true }
-    ensures flat { is_flat (reading_up three_and_five) ≡ true }
     ensures shown { shown (reading_up three_and_five) reading ≡ stopped_shows }
 {}
 
 /// A file isn't raised past the ceiling of its file system: the write is refused, and label and bytes stay.
 pub fn a_file_stops_at_its_file_systems_ceiling()
     ensures valid { is_valid low_files ≡ true }
-    ensures flat { is_flat low_files ≡ true }
     ensures shown { shown low_files writing_down ≡ writing_down_shows }
 {}
 
@@ -67,7 +63,6 @@ pub fn a_file_stops_at_its_file_systems_ceiling()
 /// that file.
 pub fn a_reader_floats_to_a_raised_file()
     ensures valid { is_valid two_levels ≡ true }
-    ensures flat { is_flat two_levels ≡ true }
     ensures shown { shown two_levels (writing (codes "AA")) ≡ writing_shows (codes "AA") }
 {}
 
@@ -81,7 +76,6 @@ pub fn other_bytes_change_high_reads_alone()
 /// Each read looks at the file's label anew: one that passed before the file was raised doesn't pass after.
 pub fn each_read_looks_anew()
     ensures valid { is_valid held_low ≡ true }
-    ensures flat { is_flat held_low ≡ true }
     ensures shown { shown held_low reading_twice ≡ reading_twice_shows }
 {}
 
@@ -122,14 +116,12 @@ pub fn a_trusted_file_is_not_written()
 /// A copy of a descriptor shares its open entry, which lasts as long as one of them, and so the offset.
 pub fn a_copy_of_a_descriptor_shares_its_offset()
     ensures valid { is_valid one_file ≡ true }
-    ensures flat { is_flat one_file ≡ true }
     ensures shown { shown one_file sharing ≡ sharing_shows }
 {}
 
 /// A write that needs more blocks than there are is refused. What is cut is gone, and what is skipped reads as zeros.
 pub fn blocks_run_out_and_gaps_are_zeros()
     ensures valid { is_valid two_blocks ≡ true }
-    ensures flat { is_flat two_blocks ≡ true }
     ensures shown { shown two_blocks filling ≡ filling_shows }
 {}
 
@@ -137,14 +129,12 @@ pub fn blocks_run_out_and_gaps_are_zeros()
 /// closes.
 pub fn a_child_shares_the_offset()
     ensures valid { is_valid letters ≡ true }
-    ensures flat { is_flat letters ≡ true }
     ensures shown { shown letters inheriting ≡ inheriting_shows }
 {}
 
 /// A parent that waits floats to the label of its ended child, and gets the status.
 pub fn a_parent_floats_to_its_child()
     ensures valid { is_valid a_secret ≡ true }
-    ensures flat { is_flat a_secret ≡ true }
     ensures shown { shown a_secret waiting ≡ waiting_shows }
 {}
 
@@ -152,7 +142,6 @@ pub fn a_parent_floats_to_its_child()
 /// own ceiling needs no privilege, and is not logged.
 pub fn a_parent_below_its_child_is_refused()
     ensures valid { is_valid a_secret ≡ true }
-    ensures flat { is_flat a_secret ≡ true }
     ensures shown { shown a_secret waiting_low ≡ waiting_low_shows }
     ensures logged { log_of a_secret waiting_low ≡ waiting_low_shows.log }
 {}
@@ -174,7 +163,6 @@ pub fn a_missing_name_is_told_at_its_directorys_label()
 /// breaks once it is let go.
 pub fn a_pipe_fills_and_breaks()
     ensures valid { is_valid one_process ≡ true }
-    ensures flat { is_flat one_process ≡ true }
     ensures shown { shown one_process piping ≡ piping_shows }
 {}
 
@@ -182,14 +170,12 @@ pub fn a_pipe_fills_and_breaks()
 /// once one of the two ends.
 pub fn a_path_is_whole_between_two()
     ensures valid { is_valid one_process ≡ true }
-    ensures flat { is_flat one_process ≡ true }
     ensures shown { shown one_process claiming ≡ claiming_shows }
 {}
 
 /// What is read of a file is written into a pipe, and read at its other end.
 pub fn a_copy_goes_through_a_pipe()
     ensures valid { is_valid one_file ≡ true }
-    ensures flat { is_flat one_file ≡ true }
     ensures shown { shown one_file copying ≡ copying_shows }
 {}
 
@@ -204,10 +190,9 @@ pub fn servers_act_for_users_over_whole_paths()
 
 /// A parent that reads on where its high child stopped, through the open entry that both have, floats to the child's
 /// label.
-#[tactic(auto, using(crate::proofs::processes::ReadFar::one_shared_fits, crate::proofs::processes::ReadFar::one_shared_is_flat, crate::proofs::processes::ReadFar::read_on))]
+#[tactic(auto, using(crate::proofs::processes::ReadFar::one_shared_fits, crate::proofs::processes::ReadFar::read_on))]
 pub fn a_parent_floats_where_its_child_has_read()
     ensures valid { is_valid one_shared ≡ true }
-    ensures flat { is_flat one_shared ≡ true }
     ensures shown { shown one_shared reading_on ≡ reading_on_shows }
 {}
 

@@ -8,9 +8,5 @@ pub returns-clause-valid : goal.returns-clause-valid
 unfolding fitting
 returns-clause-valid c = simp labels refl
 
-pub returns-clause-flat : goal.returns-clause-flat
-unfolding fitting
-returns-clause-flat c = refl
-
 pub returns-clause-shown : goal.returns-clause-shown
 returns-clause-shown c = written_down

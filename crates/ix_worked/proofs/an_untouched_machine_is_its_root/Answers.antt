@@ -6,10 +6,6 @@ pub returns-clause-valid : goal.returns-clause-valid
 unfolding fitting
 returns-clause-valid c = refl
 
-pub returns-clause-flat : goal.returns-clause-flat
-unfolding fitting
-returns-clause-flat c = refl
-
 pub returns-clause-shown : goal.returns-clause-shown
 unfolding running
 returns-clause-shown c = refl

@@ -3,7 +3,7 @@ use Rattle.std.proofs.Common.{◌≡◌, ℕ, true, List, [], ◌∷◌, refl, c
 use Rattle.ix_model.specs.world.World.{World}
 use Rattle.ix_model.specs.history.Step.{Given}
 use Rattle.ix_model.specs.opening.Opening.{opening_world}
-use Rattle.ix_model.specs.opening.Valid.{is_valid, is_flat}
+use Rattle.ix_model.specs.opening.Valid.{is_valid}
 use Rattle.ix_model.specs.history.Events as op
 use Rattle.ix_model.specs.declared.call.Keep.TheVariants as keep
 use Rattle.ix_model.specs.declared.call.Mode.TheVariants as mode
@@ -19,10 +19,6 @@ use Rattle.ix_worked.proofs.Worlds.{with_object, floated, raised, marked, opened
 pub one_shared_fits : is_valid one_shared ≡ true
 unfolding fitting
 one_shared_fits = simp labels refl
-
-pub one_shared_is_flat : is_flat one_shared ≡ true
-unfolding fitting
-one_shared_is_flat = refl
 
 pub below_seven_fits : is_valid below_seven ≡ true
 unfolding fitting
