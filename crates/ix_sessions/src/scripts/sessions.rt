@@ -1,6 +1,6 @@
-use crate::{KeepWord, Line, read};
 use bitflags::Flags;
 use ix_model::PrivSet;
+use ix_script::{KeepWord, Line, need, read};
 use std::test::Fail;
 
 const SESSION: &[u8] =
