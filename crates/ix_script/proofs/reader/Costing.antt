@@ -1,18 +1,17 @@
 -- What lines cost: at most 4,352 for each command, and nothing for another line.
-use Rattle.std.proofs.Common.{◌≡◌, ℕ, ◌+◌, ◌*◌, ◌<◌, ◌≤◌, ◌&&◌, nat_le, Bool, true, false, cond, not, List, [], ◌∷◌, ◌++◌, length, map, drop, min, Option, Some, None, option_map, codes, get_or, refl, sym, ap, ◌∙◌, subst, arith, inl, inr}
+use Rattle.std.proofs.Common.{◌≡◌, ℕ, ◌+◌, ◌*◌, ◌<◌, ◌≤◌, ◌&&◌, nat_le, Bool, true, false, cond, not, List, [], ◌∷◌, ◌++◌, length, drop, Option, Some, None, option_map, codes, get_or, refl, ap, ◌∙◌, subst, arith, inl, inr}
 use Rattle.std.specs.List.{list_all, sum_by}
 use Rattle.std.proofs.lemmas.Bool.{leb-true}
 use Rattle.std.proofs.lemmas.Option.{none-some, same_Some}
 use Rattle.std.proofs.lemmas.List.Sums.{sum_by-cons, sum_by_push, sum_by-drop_more, sum-map}
 use Rattle.ix_model.specs.world.Naming.{PathOf, is_name, same_bytes}
 use Rattle.ix_model.specs.history.Cost.{cost_of_path}
-use Rattle.ix_model.specs.opening.Valid.{is_valid}
 use Rattle.ix_script.specs.texts.Cutting.{begins, is_empty, is_skipped, is_policy_line, policy_text, words_of, word_at}
-use Rattle.ix_script.specs.texts.Words.{between_slashes, names_of, path_from, may_stand_in_path, absolute_path, relative_path, path_of, name_of, fd_of}
-use Rattle.ix_script.specs.texts.Payloads.{◌>>=◌, payload_of}
+use Rattle.ix_script.specs.texts.Words.{between_slashes, names_of, path_from, may_stand_in_path, absolute_path, relative_path, path_of}
+use Rattle.ix_script.specs.texts.Payloads.{payload_of}
 use Rattle.ix_script.specs.lines.Forms.{form_of}
 use Rattle.ix_script.specs.lines.Before.{is_command, commands}
-use Rattle.ix_script.specs.lines.Said.{both, payload_within, plain_line, path_line, fd_line, counted_line, said, said_by_words, line_of}
+use Rattle.ix_script.specs.lines.Said.{payload_within, plain_line, path_line, fd_line, counted_line, said, said_by_words, line_of}
 use Rattle.ix_script.specs.scripts.Need.{cost_of_line, need}
 use Rattle.ix_script.specs.declared.cutting.form.Form.{Form}
 use Rattle.ix_script.specs.declared.cutting.form.Form.TheVariants as form
