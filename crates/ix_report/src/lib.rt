@@ -10,6 +10,3 @@ mod report;
 mod words;
 
 pub use report::{audit_line, entry_line, head, object_line, process_line, tail};
-
-#[cfg(test)]
-mod tests;

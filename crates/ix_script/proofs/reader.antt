@@ -6,6 +6,7 @@ pub mod Validity
 pub mod Making
 pub mod Staying
 pub mod Progress
+pub mod Costing
 pub mod Counting
 pub mod Whole
 pub mod Planning

@@ -1,3 +1,4 @@
+pub mod Need
 pub mod Scripts
 pub mod Canonical
 pub mod Laws

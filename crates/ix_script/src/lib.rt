@@ -2,6 +2,7 @@
 #![tactic(auto)]
 
 mod before;
+mod cost;
 mod cutting;
 mod fail;
 mod fitting;
@@ -20,8 +21,5 @@ mod written;
 pub use fail::{ReadFail, ScriptFault};
 pub use line::{FdWord, KeepWord, Line, What};
 pub use reading::read;
-pub use script::Script;
+pub use script::{Script, need};
 pub use written::writing::write;
-
-#[cfg(test)]
-mod tests;

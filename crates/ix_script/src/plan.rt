@@ -1,10 +1,12 @@
-ghost use Rattle.std.specs.Prelude.{◌≡◌, ◌++◌, ◌∷◌, [], List, OnOk, IfOk};
+ghost use Rattle.std.specs.Prelude.{◌≡◌, ◌++◌, ◌∷◌, [], List, OnOk, IfOk, ◌≤◌};
 ghost use Rattle.ix_script.specs.lines.Before.{fs_told, proc_told, object_told, or_default};
 ghost use Rattle.ix_script.specs.scripts.Held.{IsPlan};
+ghost use Rattle.ix_script.specs.scripts.Need.{need};
 ghost use Rattle.ix_script.specs.scripts.Scripts.{config_of};
 ghost use Rattle.ix_script.specs.declared.line.Line.{Line};
 
 use crate::before::header::{default_fs, default_limits, limits_after};
+use crate::cost::cost_of_lines;
 use crate::line::Line;
 use crate::rules::kept;
 use bitflags::Flags;
@@ -149,6 +151,7 @@ impl Plan {
 /// What a machine starts from by these lines.
 #[tactic(auto, unfolding(crate::specs::scripts::Scripts::config_of))]
 pub(crate) fn config(alloc: Global, lines: &[Line]) -> Result<Config, NoMemory>
+    requires { need lines.now ≤ 870400000 }
     ensures { IfOk result (λ c. c ≡ config_of lines.now) }
 {
     let plan = Plan::of(alloc, lines)?;
@@ -157,6 +160,6 @@ pub(crate) fn config(alloc: Global, lines: &[Line]) -> Result<Config, NoMemory>
         limits: plan.limits,
         procs: plan.procs,
         objects: plan.objects,
-        journal: 870_400_000,
+        journal: cost_of_lines(lines),
     })
 }

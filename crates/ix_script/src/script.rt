@@ -3,10 +3,12 @@ ghost use Rattle.std.specs.Option.{option_copied};
 ghost use Rattle.ix_model.specs.opening.Valid.{is_valid};
 ghost use Rattle.std.proofs.Common.{option_map};
 ghost use Rattle.ix_script.specs.lines.Before.{lanes_of, commands, is_policy};
+ghost use Rattle.ix_script.specs.scripts.Need.{need};
 ghost use Rattle.ix_script.specs.scripts.Scripts.{config_of, policy_told, policy_of};
 ghost use Rattle.ix_script.specs.reader.Told.{DraftTold};
 
 use crate::before::draft::Draft;
+use crate::cost::cost_of_lines;
 use crate::line::Line;
 use crate::plan::config;
 use ix_model::{Config, List, Name, NoMemory};
@@ -89,6 +91,7 @@ impl Script {
     }
 
     /// What a machine starts from: it is valid.
+    #[tactic(auto, using(crate::proofs::reader::Validity::need_fits))]
     pub fn config(&self, alloc: Global) -> Result<Config, NoMemory>
         ensures config { IfOk result (λ c. c ≡ config_of self.now) }
         ensures valid { IfOk result (λ c. IsTrue (is_valid c)) }
@@ -102,6 +105,15 @@ impl Script {
     {
         policy(&self.lines)
     }
+}
+
+/// What the entries of a script's commands cost a journal, at the most: of a command that is one call the call's cost, of
+/// `copy` two entries and the bytes that it carries, of `priv` 656 and of `login` 1,168. It is at most 870,400,000.
+#[tactic(auto, using(crate::proofs::reader::Validity::need_fits))]
+pub fn need(script: &Script) -> u64
+    ensures { result ≡ need script.now }
+{
+    cost_of_lines(script.lines.as_slice())
 }
 
 fn is_policy(line: &Line) -> bool

@@ -1,5 +1,5 @@
 -- A config stays valid with one line more.
-use Rattle.std.proofs.Common.{◌≡◌, ℕ, ◌+◌, ◌-◌, ◌<◌, nat_le, nat_eq, Bool, true, false, not, ◌&&◌, ◌||◌, List, [], ◌∷◌, ◌++◌, length, map, take, Some, None, refl, sym, ap, ◌∙◌, subst, arith, append_assoc, length-append, inl, inr}
+use Rattle.std.proofs.Common.{◌≡◌, ℕ, ◌+◌, ◌-◌, ◌<◌, ◌≤◌, nat_le, nat_eq, Bool, true, false, not, ◌&&◌, ◌||◌, List, [], ◌∷◌, ◌++◌, length, map, take, Some, None, refl, sym, ap, ◌∙◌, subst, arith, append_assoc, length-append, inl, inr}
 use Rattle.std.specs.List.{list_any, list_all, flat_map}
 use Rattle.std.proofs.lemmas.Bool.{le-leb, cases_eq, eq-eqb, ne_eqb}
 use Rattle.std.proofs.lemmas.Bool.Decides.{nat_tests}
@@ -17,6 +17,7 @@ use Rattle.ix_script.specs.lines.Before.{fs_told, fss_told, or_default, fss_of, 
 use Rattle.ix_script.specs.lines.Kinds.{bounds_of}
 use Rattle.ix_script.specs.lines.Said.{line_of}
 use Rattle.ix_script.specs.lines.Faults.{said_fault, line_fault}
+use Rattle.ix_script.specs.scripts.Need.{need}
 use Rattle.ix_script.specs.scripts.Scripts.{config_of}
 use Rattle.ix_script.specs.declared.line.What.{What}
 use Rattle.ix_script.specs.declared.line.What.TheVariants as what
@@ -216,8 +217,8 @@ parts_next before (line.File path label frozen cap lic bytes) was f s =
 parts_next before x was f s = parts_same before (After before x) (same_fss before x refl) (limits_push before x) (same_procs before x refl) (same_objects before x refl) was
 
 pub valid_none : is_valid (config_of []) ≡ true
-unfolding is_valid config_of fss_fit limits_fit procs_fit fss_told default_fs limits_of default_limits procs_of objects_of
+unfolding is_valid config_of fss_fit limits_fit procs_fit fss_told default_fs limits_of default_limits procs_of objects_of need
 valid_none = refl
 
-pub valid_next : (before : List Line) (text : List ℕ) (l : Line) → is_valid (config_of before) ≡ true → line_fault before text ≡ None → line_of text ≡ Some l → said_fault before l ≡ None → is_valid (config_of (before ++ l ∷ [])) ≡ true
-valid_next before text l h f m fits = valid_by (before ++ l ∷ []) (parts_next before l (parts_of before h) (follows before l fits) (sound before text l f m))
+pub valid_next : (before : List Line) (text : List ℕ) (l : Line) → is_valid (config_of before) ≡ true → line_fault before text ≡ None → line_of text ≡ Some l → said_fault before l ≡ None → need (before ++ l ∷ []) ≤ 870400000 → is_valid (config_of (before ++ l ∷ [])) ≡ true
+valid_next before text l h f m fits few = valid_by (before ++ l ∷ []) (parts_next before l (parts_of before h) (follows before l fits) (sound before text l f m)) few

@@ -1,9 +1,11 @@
 -- The parts of a valid config.
-use Rattle.std.proofs.Common.{◌≡◌, true, ◌&&◌, List, [], length, map, refl}
+use Rattle.std.proofs.Common.{◌≡◌, ◌≤◌, true, ◌&&◌, List, [], length, map, refl}
 use Rattle.std.specs.List.{list_all}
+use Rattle.std.proofs.lemmas.Bool.{leb-true, le-leb}
 use Rattle.ix_model.specs.opening.Valid.{is_within, all_differ, fs_fits, fss_fit, limits_fit, procs_fit, objects_fit, is_valid}
 use Rattle.ix_model.specs.declared.config.FsSpec.{FsSpec}
 use Rattle.ix_script.specs.lines.Before.{fss_of, limits_of, procs_of, objects_of}
+use Rattle.ix_script.specs.scripts.Need.{need}
 use Rattle.ix_script.specs.scripts.Scripts.{config_of}
 use Rattle.ix_script.specs.declared.line.Line.{Line}
 use Rattle.ix_script.proofs.texts.Names.{both}
@@ -23,9 +25,14 @@ parts_of lines h =
     let d = both _ _ c.0 in
     record { fss = d.0; limits = d.1; procs = c.1; objects = b.1 }
 
-pub valid_by : (lines : List Line) → Parts lines → is_valid (config_of lines) ≡ true
+-- what lines need is what the journal may cost
+pub need_fits : (lines : List Line) → is_valid (config_of lines) ≡ true → need lines ≤ 870400000
 unfolding is_valid config_of
-valid_by lines p = rw (p.fss, p.limits, p.procs, p.objects) refl
+need_fits lines h = leb-true (need lines) 870400000 (both _ _ h).1
+
+pub valid_by : (lines : List Line) → Parts lines → need lines ≤ 870400000 → is_valid (config_of lines) ≡ true
+unfolding is_valid config_of
+valid_by lines p few = rw (p.fss, p.limits, p.procs, p.objects, le-leb (need lines) 870400000 few) refl
 
 pub each_fits : (fss : List FsSpec) → fss_fit fss ≡ true → list_all fs_fits fss ≡ true
 unfolding fss_fit

@@ -7,6 +7,7 @@ use Rattle.ix_script.specs.texts.Payloads.{◌>>=◌}
 use Rattle.ix_script.specs.lines.Before.{fss_of, limits_of, procs_of, objects_of, is_policy}
 use Rattle.ix_script.specs.lines.Said.{both, line_of}
 use Rattle.ix_script.specs.lines.Faults.{fault_of}
+use Rattle.ix_script.specs.scripts.Need.{need}
 use Rattle.ix_script.specs.declared.line.Line.{Line}
 use Rattle.ix_script.specs.declared.line.Line.TheVariants as line
 
@@ -21,7 +22,7 @@ script_of bytes = if is_none (fault_of bytes) then lines_said (lines_of bytes) e
 
 -- what a machine starts from
 unfoldable pub config_of : List Line → Config
-config_of lines = record { fss = fss_of lines; limits = limits_of lines; procs = procs_of lines; objects = objects_of lines; journal = 870400000 }
+config_of lines = record { fss = fss_of lines; limits = limits_of lines; procs = procs_of lines; objects = objects_of lines; journal = need lines }
 
 -- the policy's text, where a line is one
 abbrev pub policy_told : Line → Option (List ℕ)

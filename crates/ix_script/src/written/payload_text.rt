@@ -153,24 +153,3 @@ pub(crate) fn payload(out: &mut Vec<u8>, bytes: &[u8]) -> Result<(), NoMemory>
         PayloadForm::Quoted => quoted(out, bytes),
     }
 }
-
-#[cfg(test)]
-mod tests {
-    use super::*;
-    use std::test::Fail;
-
-    #[test]
-    fn shortest_spelling_first_form(rt: HostRuntime) -> Result<(), Fail> {
-        let mut out = Vec::new(rt.alloc());
-        payload(&mut out, b"")?;
-        payload(&mut out, b"A")?;
-        payload(&mut out, b"AA")?;
-        payload(&mut out, b"\na")?;
-        payload(&mut out, b"rel")?;
-        payload(&mut out, b"\"\\\x00ab")?;
-        payload(&mut out, &[0; 64])?;
-        let text = b" x x41 2*41 x0a61 \"rel\" x225c006162 64*00";
-        assert_eq!(rt; out.as_slice(), text.as_slice());
-        Ok(())
-    }
-}

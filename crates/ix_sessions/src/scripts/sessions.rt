@@ -1,6 +1,6 @@
-use crate::{KeepWord, Line, read};
 use bitflags::Flags;
 use ix_model::PrivSet;
+use ix_script::{KeepWord, Line, need, read};
 use std::test::Fail;
 
 const SESSION: &[u8] =
@@ -56,5 +56,6 @@ fn describes_a_config(rt: HostRuntime) -> Result<(), Fail> {
     assert_eq!(rt; config.procs.len(), 1);
     assert_eq!(rt; config.objects.len(), 2);
     assert!(rt; config.valid());
+    assert_eq!(rt; (config.journal, need(&script)), (1_949, 1_949));
     Ok(())
 }

@@ -1,13 +1,13 @@
 ghost use Rattle.std.specs.Prelude.{[]};
 ghost use Rattle.ix_report.specs.ReplyText.{AreBytesOf};
 
-use crate::{audit_line, entry_line, head, object_line, process_line, tail};
 use bitflags::Flags;
 use ix_label::Label;
 use ix_model::{
     Act, AuditLine, Call, Entry, Fd, Keep, Kind, Mode, Name, NoMemory, Obj, ObjView, Path, Pid,
     PrivSet, ProcView, Refusal, Reply,
 };
+use ix_report::{audit_line, entry_line, head, object_line, process_line, tail};
 use std::test::Fail;
 
 #[test]

@@ -1,4 +1,5 @@
-use super::*;
+use ix_script::{read, write};
+use std::alloc::Global;
 use std::test::Fail;
 
 /// The canonical text of these bytes.
@@ -99,7 +100,7 @@ fn skipped_lines_are_written_empty(rt: HostRuntime) -> Result<(), Fail> {
 }
 
 /// Payloads and their shortest spellings; of equally short ones `x` comes first, then the number of times, then the quotes.
-const PAYLOADS: [(&str, &str); 22] = [
+const PAYLOADS: [(&str, &str); 24] = [
     ("x", "x"),
     ("\"\"", "x"),
     ("0*41", "x"),
@@ -122,6 +123,8 @@ const PAYLOADS: [(&str, &str); 22] = [
     ("\"ab\\xC3\\xa9\"", "x6162c3a9"),
     ("\"a \\\"b\\\" \\\\\"", "\"a \\\"b\\\" \\\\\""),
     ("x7f20", "x7f20"),
+    ("\"rel\"", "\"rel\""),
+    ("\"\\\"\\\\\\x00ab\"", "x225c006162"),
 ];
 
 #[test]

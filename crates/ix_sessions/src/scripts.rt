@@ -7,7 +7,7 @@ mod sessions;
 mod spelled;
 mod together;
 
-use super::*;
+use ix_script::{ReadFail, read};
 use std::alloc::Global;
 use std::process::Abort;
 

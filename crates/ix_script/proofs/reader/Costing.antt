@@ -1,0 +1,202 @@
+-- What lines cost: at most 4,352 for each command, and nothing for another line.
+use Rattle.std.proofs.Common.{◌≡◌, ℕ, ◌+◌, ◌*◌, ◌<◌, ◌≤◌, ◌&&◌, nat_le, Bool, true, false, cond, not, List, [], ◌∷◌, ◌++◌, length, drop, Option, Some, None, option_map, codes, get_or, refl, ap, ◌∙◌, subst, arith, inl, inr}
+use Rattle.std.specs.List.{list_all, sum_by}
+use Rattle.std.proofs.lemmas.Bool.{leb-true}
+use Rattle.std.proofs.lemmas.Option.{none-some, same_Some}
+use Rattle.std.proofs.lemmas.List.Sums.{sum_by-cons, sum_by_push, sum_by-drop_more, sum-map}
+use Rattle.ix_model.specs.world.Naming.{PathOf, is_name, same_bytes}
+use Rattle.ix_model.specs.history.Cost.{cost_of_path}
+use Rattle.ix_script.specs.texts.Cutting.{begins, is_empty, is_skipped, is_policy_line, policy_text, words_of, word_at}
+use Rattle.ix_script.specs.texts.Words.{between_slashes, names_of, path_from, may_stand_in_path, absolute_path, relative_path, path_of}
+use Rattle.ix_script.specs.texts.Payloads.{payload_of}
+use Rattle.ix_script.specs.lines.Forms.{form_of}
+use Rattle.ix_script.specs.lines.Before.{is_command, commands}
+use Rattle.ix_script.specs.lines.Said.{payload_within, plain_line, path_line, fd_line, counted_line, said, said_by_words, line_of}
+use Rattle.ix_script.specs.scripts.Need.{cost_of_line, need}
+use Rattle.ix_script.specs.declared.cutting.form.Form.{Form}
+use Rattle.ix_script.specs.declared.cutting.form.Form.TheVariants as form
+use Rattle.ix_script.specs.declared.cutting.form.Plain.{Plain}
+use Rattle.ix_script.specs.declared.cutting.form.Plain.TheVariants as plain
+use Rattle.ix_script.specs.declared.cutting.form.OnPath.{OnPath}
+use Rattle.ix_script.specs.declared.cutting.form.OnPath.TheVariants as on_path
+use Rattle.ix_script.specs.declared.cutting.form.OnFd.{OnFd}
+use Rattle.ix_script.specs.declared.cutting.form.OnFd.TheVariants as on_fd
+use Rattle.ix_script.specs.declared.cutting.form.Counted.{Counted}
+use Rattle.ix_script.specs.declared.cutting.form.Counted.TheVariants as counted
+use Rattle.ix_script.specs.declared.line.FdWord.{FdWord}
+use Rattle.ix_script.specs.declared.line.Line.{Line}
+use Rattle.ix_script.specs.declared.line.Line.TheVariants as line
+use Rattle.ix_script.proofs.texts.Names.{both as both_true}
+use Rattle.ix_script.proofs.reader.Told.{mapped, paired, bound, either}
+use Rattle.ix_script.proofs.reader.Pushed.{commands_push}
+
+-- ---- paths
+name_short : (name : List ℕ) → is_name name ≡ true → length name ≤ 28
+unfolding is_name
+name_short name h = leb-true (length name) 28 (both_true _ _ (both_true _ _ (both_true _ _ (both_true _ _ h).0).0).0).1
+
+names_short : (names : List (List ℕ)) → list_all is_name names ≡ true → sum_by (λ n. length n + 1) names ≤ 29 * length names
+names_short [] h = omega arith
+names_short (name ∷ names) h =
+    let parts = both_true (is_name name) (list_all is_name names) h in
+    omega (arith, sum_by-cons (λ (n : List ℕ). length n + 1) name names, name_short name parts.0, names_short names parts.1)
+
+named_cheap : (absolute : Bool) (text : List ℕ) (path : PathOf) → option_map (path_from absolute) (names_of text) ≡ Some path → cost_of_path path ≤ 464
+unfolding names_of
+named_cheap absolute text path h =
+    let m = mapped (path_from absolute) (names_of text) path h in
+    elim (either (list_all is_name (between_slashes text) && nat_le (length (between_slashes text)) 16) (Some (between_slashes text)) None m.0 m.1) [
+      | inl p ↦
+          let parts = both_true (list_all is_name (between_slashes text)) (nat_le (length (between_slashes text)) 16) p.0 in
+          let few : length (between_slashes text) ≤ 16 = leb-true _ _ parts.1 in
+          let same : between_slashes text ≡ m.0 = same_Some (between_slashes text) m.0 p.1 in
+          let cost : cost_of_path (path_from absolute (between_slashes text)) ≤ 464 = omega (arith, few, names_short (between_slashes text) parts.0, sum-map (λ (n : List ℕ). length n + 1) (between_slashes text)) in
+          subst (λ (p : PathOf). cost_of_path p ≤ 464) (ap (path_from absolute) same ∙ m.2) cost
+      | inr p ↦ absurd (none-some m.0 p.1)
+    ]
+
+absolute_cheap : (text : List ℕ) (path : PathOf) → absolute_path text ≡ Some path → cost_of_path path ≤ 464
+absolute_cheap text path h = elim (either (is_empty text) (Some (path_from true [])) (option_map (path_from true) (names_of text)) path h) [
+  | inl p ↦ subst (λ (p : PathOf). cost_of_path p ≤ 464) (same_Some (path_from true []) path p.1) (omega arith)
+  | inr p ↦ named_cheap true text path p.1
+]
+
+path_cheap : (word : List ℕ) (path : PathOf) → path_of word ≡ Some path → cost_of_path path ≤ 464
+unfolding path_of
+path_cheap word path h = elim (either (not (list_all may_stand_in_path word)) None (cond (begins 47 word) (absolute_path (drop 1 word)) (relative_path word)) path h) [
+  | inl p ↦ absurd (none-some path p.1)
+  | inr p ↦ elim (either (begins 47 word) (absolute_path (drop 1 word)) (relative_path word) path p.1) [
+    | inl q ↦ absolute_cheap (drop 1 word) path q.1
+    | inr q ↦ named_cheap false word path q.1
+  ]
+]
+
+-- ---- a line
+abbrev Cheap : Line → Type 0
+Cheap l = cost_of_line l ≤ cond (is_command l) 4352 0
+
+made_by : {X : Type 0} (g : X → Line) (m : Option X) (l : Line) → ((x : X) → m ≡ Some x → Cheap (g x)) → option_map g m ≡ Some l → Cheap l
+made_by g m l cheap h = let p = mapped g m l h in subst Cheap p.2 (cheap p.0 p.1)
+
+plain_cheap : (c : Plain) (proc : List ℕ) → Cheap (plain_line c proc)
+unfolding cost_of_line
+plain_cheap plain.Wait proc = omega arith
+plain_cheap plain.Self_ proc = omega arith
+plain_cheap plain.Freezeself proc = omega arith
+plain_cheap plain.Thawself proc = omega arith
+
+on_path_cheap : (c : OnPath) (proc : List ℕ) (path : PathOf) → cost_of_path path ≤ 464 → Cheap (path_line c proc path)
+unfolding cost_of_line
+on_path_cheap on_path.Create proc path h = omega (arith, h)
+on_path_cheap on_path.Mkdir proc path h = omega (arith, h)
+on_path_cheap on_path.Unlink proc path h = omega (arith, h)
+on_path_cheap on_path.Rmdir proc path h = omega (arith, h)
+on_path_cheap on_path.Chdir proc path h = omega (arith, h)
+on_path_cheap on_path.Stat proc path h = omega (arith, h)
+on_path_cheap on_path.Exec proc path h = omega (arith, h)
+on_path_cheap on_path.Labelof proc path h = omega (arith, h)
+on_path_cheap on_path.Freeze proc path h = omega (arith, h)
+on_path_cheap on_path.Thaw proc path h = omega (arith, h)
+
+on_fd_cheap : (c : OnFd) (proc : List ℕ) (fd : FdWord) → Cheap (fd_line c proc fd)
+unfolding cost_of_line
+on_fd_cheap on_fd.Close proc fd = omega arith
+on_fd_cheap on_fd.Pex proc fd = omega arith
+on_fd_cheap on_fd.Unpex proc fd = omega arith
+on_fd_cheap on_fd.Priv proc fd = omega arith
+
+counted_cheap : (c : Counted) (proc : List ℕ) (fd : FdWord) (n : ℕ) → Cheap (counted_line c proc fd n)
+unfolding cost_of_line
+counted_cheap counted.Read proc fd n = omega arith
+counted_cheap counted.Cut proc fd n = omega arith
+counted_cheap counted.Seek proc fd n = omega arith
+
+payload_few : (word bytes : List ℕ) → payload_within 4096 word ≡ Some bytes → length bytes ≤ 4096
+payload_few word bytes h =
+    let b = bound (payload_of word) (λ found. cond (nat_le (length found) 4096) (Some found) None) bytes h in
+    elim (either (nat_le (length b.0) 4096) (Some b.0) None bytes b.2) [
+      | inl p ↦ subst (λ (f : List ℕ). length f ≤ 4096) (same_Some b.0 bytes p.1) (leb-true (length b.0) 4096 p.0)
+      | inr p ↦ absurd (none-some bytes p.1)
+    ]
+
+form_cheap : (f : Form) (words : List (List ℕ)) (l : Line) → said f words ≡ Some l → Cheap l
+unfolding cost_of_line
+form_cheap form.Limit words l h = made_by (λ x. line.Limit x.0 x.1) _ l (λ x e. omega arith) h
+form_cheap form.Fs words l h = made_by (λ x. line.Fs x.0 x.1.0 x.1.1.0 x.1.1.1) _ l (λ x e. omega arith) h
+form_cheap form.Proc words l h = made_by (λ x. line.Proc x.0 x.1.0 x.1.1.0 x.1.1.1.0 x.1.1.1.1) _ l (λ x e. omega arith) h
+form_cheap form.Dir words l h = made_by (λ x. line.Dir x.0 x.1.0 x.1.1) _ l (λ x e. omega arith) h
+form_cheap form.File words l h = made_by (λ x. line.File x.0 x.1.0 x.1.1.0 x.1.1.1.0 x.1.1.1.1.0 x.1.1.1.1.1) _ l (λ x e. omega arith) h
+form_cheap form.Phase words l h = subst Cheap (same_Some line.Phase l h) (omega arith)
+form_cheap form.Lane words l h = made_by (λ x. line.Lane x) _ l (λ x e. omega arith) h
+form_cheap (form.Plain c) words l h = made_by (λ x. plain_line c x) _ l (λ x e. plain_cheap c x) h
+form_cheap (form.OnPath c) words l h = made_by (λ x. path_line c x.0 x.1) _ l (λ x e. on_path_cheap c x.0 x.1 (path_cheap (word_at words 2) x.1 (paired _ _ x e).1)) h
+form_cheap (form.OnFd c) words l h = made_by (λ x. fd_line c x.0 x.1) _ l (λ x e. on_fd_cheap c x.0 x.1) h
+form_cheap (form.Counted c) words l h = made_by (λ x. counted_line c x.0 x.1.0 x.1.1) _ l (λ x e. counted_cheap c x.0 x.1.0 x.1.1) h
+form_cheap form.Open words l h =
+    made_by (λ x. line.Open x.0 x.1.0 x.1.1.0 x.1.1.1) _ l (λ x e. omega (arith, path_cheap (word_at words 2) x.1.0 (paired _ _ x.1 (paired _ _ x e).1).0)) h
+form_cheap form.Write words l h =
+    made_by (λ x. line.Write x.0 x.1.0 x.1.1) _ l (λ x e. omega (arith, payload_few (word_at words 3) x.1.1 (paired _ _ x.1 (paired _ _ x e).1).1)) h
+form_cheap form.Dup words l h = made_by (λ x. line.Dup x.0 x.1.0 x.1.1) _ l (λ x e. omega arith) h
+form_cheap form.Pipe words l h = made_by (λ x. line.Pipe x.0 x.1) _ l (λ x e. omega arith) h
+form_cheap form.Link words l h =
+    made_by (λ x. line.Link x.0 x.1.0 x.1.1) _ l
+    (λ x e. let p = paired _ _ x.1 (paired _ _ x e).1 in omega (arith, path_cheap (word_at words 2) x.1.0 p.0, path_cheap (word_at words 3) x.1.1 p.1)) h
+form_cheap form.List words l h =
+    made_by (λ x. line.List x.0 x.1.0 x.1.1) _ l (λ x e. omega (arith, path_cheap (word_at words 2) x.1.0 (paired _ _ x.1 (paired _ _ x e).1).0)) h
+form_cheap form.Copy words l h = made_by (λ x. line.Copy x.0 x.1.0 x.1.1.0 x.1.1.1) _ l (λ x e. omega arith) h
+form_cheap form.Setlabel words l h =
+    made_by (λ x. line.Setlabel x.0 x.1.0 x.1.1) _ l (λ x e. omega (arith, path_cheap (word_at words 2) x.1.0 (paired _ _ x.1 (paired _ _ x e).1).0)) h
+form_cheap form.Setpriv words l h =
+    made_by (λ x. line.Setpriv x.0 x.1.0 x.1.1.0 x.1.1.1) _ l (λ x e. omega (arith, path_cheap (word_at words 2) x.1.0 (paired _ _ x.1 (paired _ _ x e).1).0)) h
+form_cheap form.Fork words l h = made_by (λ x. line.Fork x.0 x.1.0 x.1.1) _ l (λ x e. omega arith) h
+form_cheap form.Exit words l h = made_by (λ x. line.Exit x.0 x.1) _ l (λ x e. omega arith) h
+form_cheap form.Setself words l h = made_by (λ x. line.Setself x.0 x.1) _ l (λ x e. omega arith) h
+form_cheap form.Droplic words l h = made_by (λ x. line.Droplic x.0 x.1) _ l (λ x e. omega arith) h
+form_cheap form.Grant words l h = made_by (λ x. line.Grant x.0 x.1.0 x.1.1) _ l (λ x e. omega arith) h
+form_cheap form.Ceiling words l h = made_by (λ x. line.Ceiling x.0 x.1.0 x.1.1) _ l (λ x e. omega arith) h
+form_cheap form.Readlog words l h = made_by (λ x. line.Readlog x.0 x.1) _ l (λ x e. omega arith) h
+form_cheap form.Login words l h = made_by (λ x. line.Login x.0 x.1.0 x.1.1.0 x.1.1.1) _ l (λ x e. omega arith) h
+
+line_cheap : (text : List ℕ) (l : Line) → line_of text ≡ Some l → Cheap l
+unfolding line_of cost_of_line
+line_cheap text l h =
+    let words = said_by_words (words_of text) in
+    let version = cond (same_bytes text (codes "ix 1")) (Some line.Version) words in
+    let policy = cond (is_policy_line text) (Some (line.Policy (policy_text text))) version in
+    elim (either (is_skipped text) (Some line.Skipped) policy l h) [
+      | inl p ↦ subst Cheap (same_Some line.Skipped l p.1) (omega arith)
+      | inr p ↦ elim (either (is_policy_line text) (Some (line.Policy (policy_text text))) version l p.1) [
+        | inl q ↦ subst Cheap (same_Some (line.Policy (policy_text text)) l q.1) (omega arith)
+        | inr q ↦ elim (either (same_bytes text (codes "ix 1")) (Some line.Version) words l q.1) [
+          | inl v ↦ subst Cheap (same_Some line.Version l v.1) (omega arith)
+          | inr v ↦
+              let b = bound (form_of (word_at (words_of text) 0)) (λ f. said f (words_of text)) l v.1 in
+              form_cheap b.0 (words_of text) l b.2
+        ]
+      ]
+    ]
+
+-- ---- line after line
+pub need_first : (lines : List Line) (i : ℕ) (l : Line) → i < length lines → l ≡ get_or lines i l → need (drop i lines) ≡ cost_of_line l + need (drop (i + 1) lines)
+unfolding need
+need_first lines i l low is =
+    omega (arith, sum-map cost_of_line (drop i lines), sum-map cost_of_line (drop (i + 1) lines), sum_by-drop_more cost_of_line lines i l low, ap cost_of_line is)
+
+need_push : (lines : List Line) (l : Line) → need (lines ++ l ∷ []) ≡ need lines + cost_of_line l
+unfolding need
+need_push lines l = omega (arith, sum-map cost_of_line (lines ++ l ∷ []), sum-map cost_of_line lines, sum_by_push cost_of_line lines l)
+
+pub need_none : need [] ≡ 0
+unfolding need
+need_none = refl
+
+one_more : (command : Bool) (cost n m : ℕ) → cost ≤ cond command 4352 0 → n ≤ 4352 * m → n + cost ≤ 4352 * cond command (m + 1) m
+one_more true cost n m h few = omega (arith, h, few)
+one_more false cost n m h few = omega (arith, h, few)
+
+-- lines that were read need at most 4,352 for each command
+pub cheap_none : need [] ≤ 4352 * commands []
+cheap_none = omega (arith, need_none)
+
+pub cheap_next : (before : List Line) (text : List ℕ) (l : Line) → line_of text ≡ Some l → need before ≤ 4352 * commands before → need (before ++ l ∷ []) ≤ 4352 * commands (before ++ l ∷ [])
+cheap_next before text l m few = rw (need_push before l, commands_push before l) (one_more (is_command l) (cost_of_line l) (need before) (commands before) (line_cheap text l m) few)

@@ -1,0 +1,80 @@
+ghost use Rattle.std.specs.Prelude.{◌≡◌, ◌≤◌, if◌then◌else◌};
+ghost use Rattle.ix_model.specs.history.Cost.{cost_of_path};
+ghost use Rattle.ix_script.specs.lines.Before.{is_command};
+ghost use Rattle.ix_script.specs.scripts.Need.{cost_of_line, need};
+
+use crate::before::body::is_command;
+use crate::line::Line;
+use ix_model::Path;
+
+/// What an entry costs besides its words.
+const ENTRY: u64 = 128;
+
+/// What a `priv` line costs: five entries and 16 bytes.
+const PRIV: u64 = 656;
+
+/// What a `login` line costs: nine entries and 16 bytes.
+const LOGIN: u64 = 1168;
+
+/// What a path costs: 16 names of at most 28 bytes, at the most.
+fn cost_of_path(path: &Path) -> u64
+    ensures cost { result ≡ cost_of_path path.now }
+    ensures few { result ≤ 464 }
+{
+    let mut cost = 0;
+    'names: for i in 0..path.len() {
+        match path.name(i) {
+            Some(name) => cost += name.as_bytes().len() as u64 + 1,
+            None => unreachable!(),
+        }
+    }
+    cost
+}
+
+/// What the entries of a line cost, at the most.
+#[tactic(auto, unfolding(crate::specs::scripts::Need::cost_of_line))]
+fn cost_of_line(line: &Line) -> u64
+    ensures { result ≡ cost_of_line line.now }
+{
+    match line {
+        Line::Write { bytes, .. } => ENTRY + bytes.as_slice().len() as u64,
+        Line::Link { target, path, .. } => ENTRY + (cost_of_path(target) + cost_of_path(path)),
+        Line::Create { path, .. }
+        | Line::Open { path, .. }
+        | Line::Mkdir { path, .. }
+        | Line::Unlink { path, .. }
+        | Line::Rmdir { path, .. }
+        | Line::Chdir { path, .. }
+        | Line::Stat { path, .. }
+        | Line::List { path, .. }
+        | Line::Exec { path, .. }
+        | Line::Labelof { path, .. }
+        | Line::Setlabel { path, .. }
+        | Line::Freeze { path, .. }
+        | Line::Thaw { path, .. }
+        | Line::Setpriv { path, .. } => ENTRY + cost_of_path(path),
+        Line::Copy { count, .. } => 2 * ENTRY + (*count).min(4096) as u64,
+        Line::Priv { .. } => PRIV,
+        Line::Login { .. } => LOGIN,
+        _ => cost_of_plain(line),
+    }
+}
+
+/// What a line costs that costs no more than an entry.
+fn cost_of_plain(line: &Line) -> u64
+    ensures { result ≡ (if is_command line.now then 128 else 0) }
+{
+    if is_command(line) { ENTRY } else { 0 }
+}
+
+/// What the entries of these lines cost, at the most.
+pub(crate) fn cost_of_lines(lines: &[Line]) -> u64
+    requires { need lines.now ≤ 870400000 }
+    ensures { result ≡ need lines.now }
+{
+    let mut cost = 0;
+    'lines: for line in lines {
+        cost += cost_of_line(line);
+    }
+    cost
+}
