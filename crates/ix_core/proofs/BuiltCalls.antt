@@ -11,14 +11,11 @@ use Rattle.ix_model.specs.history.AuditLog.{exercises, is_answer, is_licensed, l
 use Rattle.ix_model.specs.laws.Clean.{IsClean}
 use Rattle.ix_model.specs.history.Events.{Op, Event}
 use Rattle.ix_model.specs.history.Events as op
-use Rattle.ix_model.proofs.words.Lasts.{lets_nothing_go, lasts_decided}
+use Rattle.ix_model.proofs.words.Lasts.{lets_nothing_go}
 use Rattle.ix_model.proofs.words.Answered.{step_frame}
-use Rattle.ix_model.proofs.clean.Carrying.{carried_same}
+use Rattle.ix_model.proofs.clean.Carrying.{carried_decided}
 use Rattle.ix_model.proofs.told.Logs.{logged_run}
 use Rattle.ix_core.specs.Built.{is_built}
-
-pub carried_decided : (w : World) (t : Told) (place pid : ℕ) (c : Op) → lets_nothing_go c ≡ true → IsClean w → carried w.frame (verdict t place pid c w.frame).frame w.content ≡ w.content
-carried_decided w t place pid c stays clean = carried_same w _ (lasts_decided t place pid c w.frame stays) clean
 
 pub built_stays : (c : Op) → is_built c ≡ true → lets_nothing_go c ≡ true
 built_stays (op.OpenAt path mode) built = refl
