@@ -72,7 +72,7 @@ pub no_cost : cost_of_history [] ≡ 0
 unfolding cost_of_history
 no_cost = refl
 
-cost_more : (events : List Event) (e : Event) → cost_of_history (events ++ e ∷ []) ≡ cost_of_history events + cost_of e.op
+pub cost_more : (events : List Event) (e : Event) → cost_of_history (events ++ e ∷ []) ≡ cost_of_history events + cost_of e.op
 unfolding cost_of_history
 cost_more events e =
     let cost : Event → ℕ = λ (x : Event). cost_of x.op in
