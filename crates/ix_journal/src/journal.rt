@@ -1,14 +1,14 @@
-ghost use Rattle.std.specs.Prelude.{◌≡◌, ◌≤◌, ◌==◌, ◌-◌, ◌↔◌, IfOk, IsTrue, None, [], length, slice_get, if◌then◌else◌};
+ghost use Rattle.std.specs.Prelude.{◌≡◌, ◌≤◌, ◌+◌, ◌==◌, ◌-◌, ◌↔◌, IfOk, IsTrue, None, [], length, slice_get, if◌then◌else◌};
 ghost use Rattle.std.specs.Option.{option_map};
 ghost use Rattle.ix_model.specs.history.Calls.{op_of, event_of};
 ghost use Rattle.ix_model.specs.history.Cost.{cost_of, cost_of_history};
-ghost use Rattle.ix_journal.specs.Entries.{Fits, with_event, event_in, record_of, IsWhole};
+ghost use Rattle.ix_journal.specs.Entries.{Fits, with_event, event_in, IsWhole};
 
 use crate::cost::{ENTRY, cost_of};
 use crate::packing::{head_of, put_words};
 use crate::record::Record;
 use crate::unpacking::call_in;
-use ix_model::{Call, Entry, NoMemory};
+use ix_model::{Call, Entry, NoMemory, Pid};
 use std::alloc::Global;
 use std::marker::Model;
 
@@ -88,7 +88,14 @@ impl Journal {
     pub fn fits(&self, entry: &Entry<'_>) -> bool
         ensures { IsTrue result ↔ Fits self.now (event_of entry.now) }
     {
-        cost_of(&entry.call) <= self.cap - self.used()
+        self.takes(&entry.call)
+    }
+
+    /// Whether the journal takes an entry of that call.
+    pub fn takes(&self, call: &Call<'_>) -> bool
+        ensures { IsTrue result ↔ (cost_of_history self.now.events + cost_of (op_of call.now) ≤ self.now.cap) }
+    {
+        cost_of(call) <= self.cap - self.used()
     }
 
     /// One entry more, at the end, which has to fit. Its bytes and names are copied, into memory that was reserved.
@@ -96,11 +103,25 @@ impl Journal {
         requires { Fits self.old (event_of entry.now) }
         ensures { self.new ≡ with_event (event_of entry.now) self.old }
     {
+        self.keep(entry.seat, entry.line, entry.pid, &entry.call);
+    }
+
+    /// The same for an entry that is told by its parts.
+    pub fn keep(&mut self, seat: u32, line: u32, pid: Pid, call: &Call<'_>)
+        requires { Fits self.old (record { seat = seat; line = line; pid = pid.0; op = op_of call.now }) }
+        ensures { self.new ≡ with_event (record { seat = seat; line = line; pid = pid.0; op = op_of call.now }) self.old }
+    {
         let start = self.words.len();
-        put_words(&mut self.words, &entry.call);
+        put_words(&mut self.words, call);
         let len = self.words.len() - start;
-        self.records
-            .push_reserved(record_of(entry, start as u32, len as u32));
+        self.records.push_reserved(Record {
+            seat,
+            line,
+            pid,
+            start: start as u32,
+            len: len as u32,
+            head: head_of(call),
+        });
     }
 
     /// How many entries it has.
@@ -121,20 +142,6 @@ impl Journal {
             Some(record) => Some(entry_in(record, self.words.as_slice())),
             None => None,
         }
-    }
-}
-
-/// The record of an entry whose words begin there, and take so many bytes.
-fn record_of(entry: &Entry<'_>, start: u32, len: u32) -> Record
-    ensures { result ≡ record_of (event_of entry.now) start len }
-{
-    Record {
-        seat: entry.seat,
-        line: entry.line,
-        pid: entry.pid,
-        start,
-        len,
-        head: head_of(&entry.call),
     }
 }
 
