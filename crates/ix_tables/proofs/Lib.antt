@@ -1,0 +1,16 @@
+pub mod Claiming
+pub mod Counting
+pub mod FreePipes
+pub mod Holding
+pub mod Joining
+pub mod LettingGo
+pub mod Making
+pub mod Naming
+pub mod Piping
+pub mod Placing
+pub mod Refusing
+pub mod Renaming
+pub mod Rooms
+pub mod Telling
+pub mod Unmaking
+pub mod Vacant
