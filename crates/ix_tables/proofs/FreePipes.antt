@@ -1,5 +1,5 @@
 -- Free pipes, and how many objects there can be.
-use Rattle.std.proofs.Common.{◌≡◌, ◌+◌, ◌-◌, ◌<◌, ◌≤◌, ℕ, nat_lt, cond, List, [], ◌∷◌, length, map, drop, Option, Some, None, is_none, option_map, slice_set, refl, sym, ap, ◌∙◌, arith, length-append}
+use Rattle.std.proofs.Common.{◌≡◌, ◌+◌, ◌-◌, ◌<◌, ◌≤◌, ℕ, nat_lt, cond, List, [], ◌∷◌, length, map, drop, Option, Some, None, is_none, option_map, slice_set, refl, sym, ap, ◌∙◌, arith}
 use Rattle.std.specs.List.{position_or_len}
 use Rattle.std.proofs.lemmas.List.{length-map, drop_at}
 use Rattle.ix_model.specs.world.World.{Object, put, lowest_free}
@@ -15,7 +15,7 @@ use Rattle.ix_pipe.specs.Pipe.{Pipe, made, new_pipe}
 use Rattle.ix_tables.specs.Parts.{Parts}
 use Rattle.ix_tables.specs.Meanings.{vacant_pipe}
 use Rattle.ix_tables.specs.Joined.{objects_of, object_of_pipe, all_objects, joined, AreJoined}
-use Rattle.ix_tables.proofs.Joining.{length-objects}
+use Rattle.ix_tables.proofs.Joining.{length-objects, length-all}
 use Rattle.ix_tables.proofs.Piping.{piped}
 
 -- the first free place depends on what stands alone
@@ -29,9 +29,6 @@ free_map f t =
     let long : length (map (option_map f) t) ≡ length t = length-map t (option_map f) in
     let first : position_or_len is_none (map (option_map f) t) ≡ position_or_len is_none t = first_map f t in
     λ i. cond (nat_lt (first i) (long i)) (Some (first i)) None
-
-length-all : (nodes : Nodes) (names : Directories) (ps : List (Option Pipe)) → length (all_objects nodes names ps) ≡ length nodes.nodes + length ps
-length-all nodes names ps = omega (arith, length-append (objects_of nodes.nodes names.lists) (map (option_map object_of_pipe) ps), length-objects nodes.nodes names.lists, length-map ps (option_map object_of_pipe))
 
 module _ (l : Limits) (nodes : Nodes) (names : Directories) (ps : List (Option Pipe)) (es : OpenTable) (hs : List ℕ) (now : Parts) (first : ℕ)
     (inv : AreJoined l nodes names ps es hs × (first ≡ length nodes.nodes)) (view : joined l nodes names ps es hs ≡ now) where

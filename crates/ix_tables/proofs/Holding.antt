@@ -10,13 +10,12 @@ use Rattle.ix_model.specs.declared.config.Limits.{Limits}
 use Rattle.ix_inode.specs.declared.node.Node.{Node}
 use Rattle.ix_inode.specs.Nodes.{Nodes, is_file_at, bytes_at, holding}
 use Rattle.ix_inode.specs.Shown.{kind_of}
-use Rattle.ix_name.specs.Directories.{Directories}
+use Rattle.ix_name.specs.Directories.{Directories, names_of}
 use Rattle.ix_open.specs.Table.{OpenTable}
 use Rattle.ix_pipe.specs.Pipe.{Pipe}
 use Rattle.ix_tables.specs.Parts.{Parts}
 use Rattle.ix_tables.specs.Joined.{object_of, object_of_pipe, holding_of_bytes, holding_of_pipe, all_holdings, joined, AreJoined}
-use Rattle.ix_tables.proofs.Joining.{at_objects}
-use Rattle.ix_tables.proofs.Piping.{at_before, at_behind}
+use Rattle.ix_tables.proofs.Joining.{at_inode, at_pipe}
 
 pipe_no_file : (p : Option Pipe) → option_map_or is_file (option_map object_of_pipe p) false ≡ false
 pipe_no_file None = refl
@@ -36,15 +35,15 @@ module _ (l : Limits) (nodes : Nodes) (names : Directories) (ps : List (Option P
   is_inode = elim (cases_lt n first) [
     | inl low ↦ low
     | inr past ↦
-        let here : at now.objects n ≡ option_map object_of_pipe (at ps (n - first)) = ap (λ (v : Parts). at v.objects n) (sym view) ∙ at_behind nodes names ps first n inv.1 past in
+        let here : at now.objects n ≡ option_map object_of_pipe (at ps (n - first)) = ap (λ (v : Parts). at v.objects n) (sym view) ∙ at_pipe nodes names ps first n inv.1 past in
         absurd (cc (file, ap (λ (o : Option Object). option_map_or is_file o false) here, pipe_no_file (at ps (n - first))))
   ]
 
-  pub inode_there : at now.objects n ≡ option_map (object_of (slice_index_or names.lists n [])) (at nodes.nodes n)
-  inode_there = ap (λ (v : Parts). at v.objects n) (sym view) ∙ at_before nodes names ps first n inv.1 is_inode ∙ at_objects nodes.nodes names.lists n
+  pub inode_there : at now.objects n ≡ option_map (object_of (names_of names n)) (at nodes.nodes n)
+  inode_there = ap (λ (v : Parts). at v.objects n) (sym view) ∙ at_inode nodes names ps n (omega (arith, is_inode, inv.1))
 
   pub is_file_there : is_file_at n nodes ≡ true
-  is_file_there = file_kind (slice_index_or names.lists n []) (at nodes.nodes n) (ap (λ (o : Option Object). option_map_or is_file o false) (sym inode_there) ∙ file)
+  is_file_there = file_kind (names_of names n) (at nodes.nodes n) (ap (λ (o : Option Object). option_map_or is_file o false) (sym inode_there) ∙ file)
 
   low_bytes : n < length nodes.bytes
   low_bytes = omega (arith, is_inode, inv.0.bytes, inv.1)

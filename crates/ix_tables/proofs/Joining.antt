@@ -4,7 +4,6 @@ use Rattle.std.specs.Option.{option_map_or}
 use Rattle.std.proofs.lemmas.Bool.{cases_lt}
 use Rattle.std.proofs.lemmas.List.{get_or_append_left, get_or-append_right, set-append_left, set-append_right, map-set, length-map}
 use Rattle.std.proofs.Math.ListN.{get_or-map}
-use Rattle.ix_model.proofs.tables.Tables.{map_changed}
 use Rattle.ix_model.specs.world.World.{Object, at, put, change, is_dir, is_pipe, ceiling_of, fs_at}
 use Rattle.ix_model.specs.rows.Walks.{node, nothing}
 use Rattle.ix_model.specs.declared.config.Limits.{Limits}
@@ -13,10 +12,10 @@ use Rattle.ix_inode.specs.Shown.{kind_of, is_dir_kind}
 use Rattle.ix_inode.specs.declared.node.Node.{Node}
 use Rattle.ix_name.specs.Directories.{Directories, names_of}
 use Rattle.ix_open.specs.Table.{OpenTable}
-use Rattle.ix_pipe.specs.Pipe.{Pipe, with_label}
-use Rattle.ix_label.specs.Category.{Categories, top}
+use Rattle.ix_pipe.specs.Pipe.{Pipe}
+use Rattle.ix_label.specs.Category.{top}
 use Rattle.ix_tables.specs.Parts.{Parts}
-use Rattle.ix_tables.specs.Joined.{object_of, objects_of, object_of_pipe, holding_of_bytes, holding_of_pipe, all_objects, joined}
+use Rattle.ix_tables.specs.Joined.{object_of, objects_of, object_of_pipe, all_objects, joined}
 
 abbrev pub Lists : Type 0
 Lists = List (List (List ℕ × ℕ))
@@ -59,16 +58,16 @@ module _ (nodes : Nodes) (names : Directories) (pipes : List (Option Pipe)) wher
   pub at_inode : (n : ℕ) → n < length nodes.nodes → at (all_objects nodes names pipes) n ≡ option_map (object_of (names_of names n)) (at nodes.nodes n)
   at_inode n low = get_or_append_left (objects_of nodes.nodes names.lists) (map (option_map object_of_pipe) pipes) None n (omega (arith, length-objects nodes.nodes names.lists, low)) ∙ at_objects nodes.nodes names.lists n
 
-  pub at_pipe : (n : ℕ) → length nodes.nodes ≤ n → at (all_objects nodes names pipes) n ≡ option_map object_of_pipe (at pipes (n - length nodes.nodes))
-  at_pipe n high = get_or-append_right (objects_of nodes.nodes names.lists) (map (option_map object_of_pipe) pipes) (length nodes.nodes) n None (length-objects nodes.nodes names.lists) high ∙ get_or-map (option_map object_of_pipe) pipes (n - length nodes.nodes) None
+  pub at_pipe : (first n : ℕ) → first ≡ length nodes.nodes → first ≤ n → at (all_objects nodes names pipes) n ≡ option_map object_of_pipe (at pipes (n - first))
+  at_pipe first n is past = get_or-append_right (objects_of nodes.nodes names.lists) (map (option_map object_of_pipe) pipes) first n None (length-objects nodes.nodes names.lists ∙ sym is) past ∙ get_or-map (option_map object_of_pipe) pipes (n - first) None
 
   pub put_inode : (n : ℕ) (x : Option Object) → n < length nodes.nodes → put (all_objects nodes names pipes) n x ≡ put (objects_of nodes.nodes names.lists) n x ++ map (option_map object_of_pipe) pipes
   put_inode n x low = set-append_left (objects_of nodes.nodes names.lists) (map (option_map object_of_pipe) pipes) n x (omega (arith, length-objects nodes.nodes names.lists, low))
 
-  pub put_pipe : (n : ℕ) (p : Option Pipe) → length nodes.nodes ≤ n → all_objects nodes names (put pipes (n - length nodes.nodes) p) ≡ put (all_objects nodes names pipes) n (option_map object_of_pipe p)
-  put_pipe n p high =
-      ap (λ os. objects_of nodes.nodes names.lists ++ os) (map-set (option_map object_of_pipe) pipes (n - length nodes.nodes) p)
-      ∙ sym (set-append_right (objects_of nodes.nodes names.lists) (map (option_map object_of_pipe) pipes) (length nodes.nodes) n (option_map object_of_pipe p) (length-objects nodes.nodes names.lists) high)
+  pub put_pipe : (first n : ℕ) (p : Option Pipe) → first ≡ length nodes.nodes → first ≤ n → all_objects nodes names (put pipes (n - first) p) ≡ put (all_objects nodes names pipes) n (option_map object_of_pipe p)
+  put_pipe first n p is past =
+      ap (λ os. objects_of nodes.nodes names.lists ++ os) (map-set (option_map object_of_pipe) pipes (n - first) p)
+      ∙ sym (set-append_right (objects_of nodes.nodes names.lists) (map (option_map object_of_pipe) pipes) first n (option_map object_of_pipe p) (length-objects nodes.nodes names.lists ∙ sym is) past)
 
   pub length-all : length (all_objects nodes names pipes) ≡ length nodes.nodes + length pipes
   length-all = length-append (objects_of nodes.nodes names.lists) (map (option_map object_of_pipe) pipes) ∙ ap (λ n. n + length (map (option_map object_of_pipe) pipes)) (length-objects nodes.nodes names.lists) ∙ ap (λ n. length nodes.nodes + n) (length-map pipes (option_map object_of_pipe))
@@ -77,7 +76,7 @@ module _ (nodes : Nodes) (names : Directories) (pipes : List (Option Pipe)) wher
   pub inode_there : (n : ℕ) → is_some (at (all_objects nodes names pipes) n) ≡ true → is_pipe (node (all_objects nodes names pipes) n) ≡ false → (n < length nodes.nodes) × (is_some (at nodes.nodes n) ≡ true)
   inode_there n lives other = elim (cases_lt n (length nodes.nodes)) [
     | inl low ↦ (low, some (at nodes.nodes n) (ap is_some (sym (at_inode n low)) ∙ lives))
-    | inr high ↦ absurd (piped (at pipes (n - length nodes.nodes)) (ap is_some (sym (at_pipe n high)) ∙ lives) (ap (λ o. is_pipe (unwrap_or o nothing)) (sym (at_pipe n high)) ∙ other))
+    | inr high ↦ absurd (piped (at pipes (n - length nodes.nodes)) (ap is_some (sym (at_pipe (length nodes.nodes) n refl high)) ∙ lives) (ap (λ o. is_pipe (unwrap_or o nothing)) (sym (at_pipe (length nodes.nodes) n refl high)) ∙ other))
   ]
     where
       some : (x : Option Node) → is_some (option_map (object_of (names_of names n)) x) ≡ true → is_some x ≡ true
@@ -88,17 +87,12 @@ module _ (nodes : Nodes) (names : Directories) (pipes : List (Option Pipe)) wher
       piped None h other = cc
       piped (Some p) h other = cc
 
-  -- ---- a change of an inode, and of a pipe
+  -- ---- a change of an inode
   pub inode_changed : (n : ℕ) (h : Node → Node) (k : Object → Object) → n < length nodes.nodes → ((names : List (List ℕ × ℕ)) (x : Node) → object_of names (h x) ≡ k (object_of names x)) → all_objects (changed n h nodes) names pipes ≡ change (all_objects nodes names pipes) n k
   inode_changed n h k low same =
       ap (λ os. os ++ map (option_map object_of_pipe) pipes) (objects_changed nodes.nodes names.lists n h k same)
       ∙ sym (put_inode n (option_map k (at (objects_of nodes.nodes names.lists) n)) low)
       ∙ ap (λ o. put (all_objects nodes names pipes) n (option_map k o)) (at_objects nodes.nodes names.lists n ∙ sym (at_inode n low))
-
-  pub pipe_changed : (n : ℕ) (h : Pipe → Pipe) (k : Object → Object) → length nodes.nodes ≤ n → ((x : Pipe) → object_of_pipe (h x) ≡ k (object_of_pipe x)) → all_objects nodes names (change pipes (n - length nodes.nodes) h) ≡ change (all_objects nodes names pipes) n k
-  pipe_changed n h k high same =
-      put_pipe n (option_map h (at pipes (n - length nodes.nodes))) high
-      ∙ ap (put (all_objects nodes names pipes) n) (mapped object_of_pipe h k same (at pipes (n - length nodes.nodes)) ∙ ap (option_map k) (sym (at_pipe n high)))
 
   inode_ceiling : (n : ℕ) → n < length nodes.nodes → ceiling_of nodes.fss (node (all_objects nodes names pipes) n) ≡ ceiling_at n nodes
   inode_ceiling n low = ap (λ (o : Option Object). ceiling_of nodes.fss (unwrap_or o nothing)) (at_inode n low) ∙ go (at nodes.nodes n)
@@ -121,25 +115,6 @@ module _ (limits : Limits) (nodes : Nodes) (names : Directories) (pipes : List (
       let moved : joined limits (changed n h nodes) names pipes es hs ≡ record v { objects = change v.objects n k } = λ i. record v { objects = inode_changed nodes names pipes n h k low same i } in
       ap (λ (u : Nodes). joined limits u names pipes es hs) is ∙ moved ∙ ap (λ (u : Parts). let w : Parts = record u { objects = change u.objects n k } in w) view
 
-  pub pipe_labelled : (pipes2 : List (Option Pipe)) (first n : ℕ) (l : Categories) → first ≡ length nodes.nodes → first ≤ n → pipes2 ≡ change pipes (n - first) (with_label l)
-      → joined limits nodes names pipes2 es hs ≡ record now { objects = change now.objects n (λ x. record x { label = l }) }
-  pipe_labelled pipes2 first n l f high is =
-      let v : Parts = joined limits nodes names pipes es hs in
-      let here : pipes2 ≡ change pipes (n - length nodes.nodes) (with_label l) = is ∙ ap (λ k. change pipes (n - k) (with_label l)) f in
-      let above : length nodes.nodes ≤ n = omega (arith, f, high) in
-      let os = pipe_changed nodes names pipes n (with_label l) (λ x. record x { label = l }) above (λ x. refl) in
-      let bs = ap (λ xs. map holding_of_bytes nodes.bytes ++ xs) (map_changed holding_of_pipe (with_label l) (λ y. refl) pipes (n - length nodes.nodes)) in
-      let moved : joined limits nodes names (change pipes (n - length nodes.nodes) (with_label l)) es hs ≡ record v { objects = change v.objects n (λ x. record x { label = l }) } = λ i. record v { objects = os i; holdings = bs i } in
-      ap (λ (u : List (Option Pipe)). joined limits nodes names u es hs) here ∙ moved ∙ ap (λ (u : Parts). let w : Parts = record u { objects = change u.objects n (λ x. record x { label = l }) } in w) view
-
-  pub pipe_there : (first n : ℕ) → first ≡ length nodes.nodes → first ≤ n → is_some (at now.objects n) ≡ true → is_some (at pipes (n - first)) ≡ true
-  pipe_there first n f high lives =
-      go (at pipes (n - first)) (ap (λ k. is_some (option_map object_of_pipe (at pipes (n - k)))) f ∙ ap is_some (sym (at_pipe nodes names pipes n (omega (arith, f, high)))) ∙ ap (λ (v : Parts). is_some (at v.objects n)) view ∙ lives)
-    where
-      go : (p : Option Pipe) → is_some (option_map object_of_pipe p) ≡ true → is_some p ≡ true
-      go None h = h
-      go (Some p) h = refl
-
   pub inode_there_below : (n : ℕ) → n < length nodes.nodes → is_some (at now.objects n) ≡ true → is_some (at nodes.nodes n) ≡ true
   inode_there_below n low lives = go (at nodes.nodes n) (ap is_some (sym (at_inode nodes names pipes n low)) ∙ ap (λ (v : Parts). is_some (at v.objects n)) view ∙ lives)
     where
@@ -152,7 +127,7 @@ module _ (limits : Limits) (nodes : Nodes) (names : Directories) (pipes : List (
   directory_there d dir =
       elim (cases_lt d (length nodes.nodes)) [
         | inl low ↦ (low, go (at nodes.nodes d) (ap (λ (o : Option Object). is_dir (unwrap_or o nothing)) (sym (at_inode nodes names pipes d low)) ∙ before))
-        | inr high ↦ absurd (piped (at pipes (d - length nodes.nodes)) (ap (λ (o : Option Object). is_dir (unwrap_or o nothing)) (sym (at_pipe nodes names pipes d high)) ∙ before))
+        | inr high ↦ absurd (piped (at pipes (d - length nodes.nodes)) (ap (λ (o : Option Object). is_dir (unwrap_or o nothing)) (sym (at_pipe nodes names pipes (length nodes.nodes) d refl high)) ∙ before))
       ]
     where
       before : is_dir (node (all_objects nodes names pipes) d) ≡ true

@@ -1,5 +1,5 @@
 -- A pipe that goes, unless an open entry is on an end of it.
-use Rattle.std.proofs.Common.{◌≡◌, ◌-◌, ◌<◌, ◌≤◌, ℕ, Bool, true, false, not, ◌&&◌, ◌||◌, List, [], length, Option, Some, None, is_some, option_map, slice_index_or, refl, sym, ap, ◌∙◌, if◌then◌else◌}
+use Rattle.std.proofs.Common.{◌≡◌, ◌-◌, ◌<◌, ◌≤◌, ℕ, Bool, true, false, not, ◌&&◌, ◌||◌, List, length, Option, Some, None, is_some, option_map, refl, sym, ap, ◌∙◌, arith, if◌then◌else◌}
 use Rattle.std.specs.Option.{option_map_or}
 use Rattle.ix_model.specs.world.World.{Object, at, put, is_pipe, held}
 use Rattle.ix_model.specs.rows.Lifetimes.{stays}
@@ -7,14 +7,14 @@ use Rattle.ix_model.specs.declared.config.Limits.{Limits}
 use Rattle.ix_inode.specs.declared.node.Node.{Node}
 use Rattle.ix_inode.specs.Nodes.{Nodes}
 use Rattle.ix_inode.specs.Shown.{kind_of}
-use Rattle.ix_name.specs.Directories.{Directories}
+use Rattle.ix_name.specs.Directories.{Directories, names_of}
 use Rattle.ix_open.specs.Table.{OpenTable}
 use Rattle.ix_pipe.specs.Pipe.{Pipe}
 use Rattle.ix_tables.specs.Parts.{Parts}
 use Rattle.ix_tables.specs.Meanings.{frame_alone, without_object, object_let_go}
 use Rattle.ix_tables.specs.Joined.{object_of, object_of_pipe, joined, AreJoined}
-use Rattle.ix_tables.proofs.Joining.{at_objects}
-use Rattle.ix_tables.proofs.Piping.{at_behind, at_before, piped}
+use Rattle.ix_tables.proofs.Joining.{at_inode, at_pipe}
+use Rattle.ix_tables.proofs.Piping.{piped}
 
 abbrev gone_or_not : ℕ → Parts → Bool → Parts
 gone_or_not n v gone = if gone then without_object n v else v
@@ -44,14 +44,14 @@ module _ (l : Limits) (nodes : Nodes) (names : Directories) (ps : List (Option P
   -- none stands below the first pipe where only a pipe can
   pub none_goes : n < first → option_map_or is_pipe (at now.objects n) true ≡ true → now ≡ object_let_go n now
   none_goes low h =
-      let here : at now.objects n ≡ option_map (object_of (slice_index_or names.lists n [])) (at nodes.nodes n) = ap (λ (v : Parts). at v.objects n) (sym view) ∙ at_before nodes names ps first n inv.1 low ∙ at_objects nodes.nodes names.lists n in
-      let none : at now.objects n ≡ None = here ∙ none_if_pipe (slice_index_or names.lists n []) (at nodes.nodes n) (ap (λ (o : Option Object). option_map_or is_pipe o true) (sym here) ∙ h) in
+      let here : at now.objects n ≡ option_map (object_of (names_of names n)) (at nodes.nodes n) = ap (λ (v : Parts). at v.objects n) (sym view) ∙ at_inode nodes names ps n (omega (arith, low, inv.1)) in
+      let none : at now.objects n ≡ None = here ∙ none_if_pipe (names_of names n) (at nodes.nodes n) (ap (λ (o : Option Object). option_map_or is_pipe o true) (sym here) ∙ h) in
       ap (λ (o : Option Object). gone_or_not n now (goes n now o)) (sym none)
 
   module _ (past : first ≤ n) where
     by_tests : gone_or_not n now (is_some (at ps (n - first)) && not (held es.opens n 0 || held es.opens n 1)) ≡ object_let_go n now
     by_tests =
-        let here : at now.objects n ≡ option_map object_of_pipe (at ps (n - first)) = ap (λ (v : Parts). at v.objects n) (sym view) ∙ at_behind nodes names ps first n inv.1 past in
+        let here : at now.objects n ≡ option_map object_of_pipe (at ps (n - first)) = ap (λ (v : Parts). at v.objects n) (sym view) ∙ at_pipe nodes names ps first n inv.1 past in
         let opens : es.opens ≡ now.opens = ap (λ (v : Parts). v.opens) view in
         ap (λ os. gone_or_not n now (is_some (at ps (n - first)) && not (held os n 0 || held os n 1))) opens
         ∙ ap (gone_or_not n now) (sym (ap (goes n now) here ∙ pipe_goes n now (at ps (n - first))))

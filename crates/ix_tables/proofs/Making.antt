@@ -1,5 +1,5 @@
 -- Names that come.
-use Rattle.std.proofs.Common.{◌≡◌, ◌+◌, ◌-◌, ◌^◌, ◌<◌, ◌==◌, Bool, true, false, not, cond, ℕ, List, [], ◌∷◌, ◌++◌, length, Option, Some, None, is_some, option_map, slice_set, refl, sym, ap, subst, ◌∙◌, arith, inl, inr, length-set, get_or-set_other}
+use Rattle.std.proofs.Common.{◌≡◌, ◌+◌, ◌^◌, ◌<◌, ◌==◌, Bool, true, false, not, cond, ℕ, List, [], ◌∷◌, ◌++◌, length, Option, Some, None, is_some, option_map, slice_set, refl, sym, ap, subst, ◌∙◌, arith, inl, inr, length-set, get_or-set_other}
 use Rattle.std.specs.Option.{option_map_or}
 use Rattle.std.proofs.lemmas.Bool.Decides.{eqb_tells, nat_tests}
 use Rattle.ix_model.specs.world.World.{Object, at, put, change, is_dir, is_file}
@@ -22,15 +22,14 @@ use Rattle.ix_name.specs.Directories.{Directories, names_of, under}
 use Rattle.ix_open.specs.Table.{OpenTable}
 use Rattle.ix_pipe.specs.Pipe.{Pipe}
 use Rattle.ix_tables.specs.Parts.{Parts}
-use Rattle.ix_tables.specs.Joined.{object_of, object_of_pipe, joined, names_for, HasLinks, HasNames, AreJoined}
-use Rattle.ix_tables.proofs.Joining.{at_inode, directory_there, names_there}
+use Rattle.ix_tables.specs.Joined.{joined, names_for, HasLinks, HasNames, AreJoined}
+use Rattle.ix_tables.proofs.Joining.{directory_there, names_there}
 use Rattle.ix_tables.proofs.Naming.{room_is, few_times}
 use Rattle.ix_tables.proofs.Counting.{names_more, times_more}
-use Rattle.ix_tables.proofs.Renaming.{directory_edited, is_file_kind}
-use Rattle.ix_tables.proofs.Joining.{at_pipe}
+use Rattle.ix_tables.proofs.Renaming.{directory_edited}
+use Rattle.ix_tables.proofs.Holding.{is_inode, is_file_there}
 use Rattle.ix_name.specs.Directories.{with_more}
 use Rattle.ix_model.specs.world.Owners.{names_in_all}
-use Rattle.std.proofs.lemmas.Bool.{cases_lt}
 use Rattle.std.proofs.Common.{nat_lt, if◌then◌else◌}
 
 module _ (limits : Limits) (nodes nodes2 : Nodes) (names names2 : Directories) (pipes : List (Option Pipe)) (es : OpenTable) (hs : List ℕ) (now : Parts) (j : AreJoined limits nodes names pipes es hs) (view : joined limits nodes names pipes es hs ≡ now)
@@ -100,22 +99,7 @@ module _ (limits : Limits) (nodes nodes2 : Nodes) (names names2 : Directories) (
   -- ---- one name more for a file
   module _ (file : option_map_or is_file (at now.objects n) false ≡ true) where
     plain : (n < length nodes.nodes) × (option_map_or (λ x. not x.dir) (at nodes.nodes n) false ≡ true)
-    plain = elim (cases_lt n (length nodes.nodes)) [
-      | inl low ↦ (low, go (at nodes.nodes n) (ap (λ (o : Option Object). option_map_or is_file o false) (sym (ap (λ (v : Parts). at v.objects n) (sym view) ∙ at_inode nodes names pipes n low)) ∙ file))
-      | inr high ↦ absurd (piped (at pipes (n - length nodes.nodes)) (ap (λ (o : Option Object). option_map_or is_file o false) (sym (ap (λ (v : Parts). at v.objects n) (sym view) ∙ at_pipe nodes names pipes n high)) ∙ file))
-    ]
-      where
-        by_kind : (b : Bool) → is_file_kind (kind_of b) ≡ true → not b ≡ true
-        by_kind true h = cc
-        by_kind false h = refl
-
-        go : (x : Option Node) → option_map_or is_file (option_map (object_of (names_of names n)) x) false ≡ true → option_map_or (λ y. not y.dir) x false ≡ true
-        go None h = h
-        go (Some x) h = by_kind x.dir h
-
-        piped : (p : Option Pipe) → option_map_or is_file (option_map object_of_pipe p) false ≡ true → ⊥
-        piped None h = cc
-        piped (Some p) h = cc
+    plain = (is_inode limits nodes names pipes es hs now (length nodes.nodes) (j, refl) view n file, is_file_there limits nodes names pipes es hs now (length nodes.nodes) (j, refl) view n file)
 
     pub stands : None ≡ option_map (told_at n nodes) (at nodes.nodes n) → ⊥
     stands is = go (at nodes.nodes n) plain.1 is

@@ -3,7 +3,7 @@ use Rattle.std.proofs.Common.{◌≡◌, ◌+◌, ◌-◌, ◌<◌, ◌≤◌, �
 use Rattle.std.specs.Option.{option_map_or}
 use Rattle.std.proofs.lemmas.Bool.{cases_lt}
 use Rattle.std.proofs.lemmas.Bool.Decides.{nat_tests}
-use Rattle.std.proofs.lemmas.List.{get_or-append_right, set-append_right, get_or_append_left, map-set, set-get_or, length-map}
+use Rattle.std.proofs.lemmas.List.{get_or-append_right, set-append_right, map-set, set-get_or, length-map}
 use Rattle.std.proofs.Math.ListN.{get_or-map}
 use Rattle.ix_model.specs.world.World.{Object, Holding, at, put, change, is_pipe}
 use Rattle.ix_model.specs.world.Contents.{holds_nothing, side}
@@ -12,13 +12,13 @@ use Rattle.ix_model.specs.declared.config.Limits.{Limits}
 use Rattle.ix_inode.specs.declared.node.Node.{Node}
 use Rattle.ix_inode.specs.Nodes.{Nodes}
 use Rattle.ix_inode.specs.Shown.{kind_of}
-use Rattle.ix_name.specs.Directories.{Directories}
+use Rattle.ix_name.specs.Directories.{Directories, names_of}
 use Rattle.ix_open.specs.Table.{OpenTable}
 use Rattle.ix_pipe.specs.Pipe.{Pipe, waiting, waiting_at, fits, fits_at}
 use Rattle.ix_pipe.specs.Claims.{claimant_of}
 use Rattle.ix_tables.specs.Parts.{Parts}
-use Rattle.ix_tables.specs.Joined.{object_of, objects_of, object_of_pipe, holding_of_bytes, holding_of_pipe, all_objects, all_holdings, joined, AreJoined}
-use Rattle.ix_tables.proofs.Joining.{at_objects, length-objects}
+use Rattle.ix_tables.specs.Joined.{object_of, object_of_pipe, holding_of_bytes, holding_of_pipe, all_objects, all_holdings, joined, AreJoined}
+use Rattle.ix_tables.proofs.Joining.{at_inode, at_pipe, put_pipe}
 
 -- no inode is a pipe
 no_pipe : (names : List (List ℕ × ℕ)) (x : Option Node) → is_pipe (unwrap_or (option_map (object_of names) x) nothing) ≡ false
@@ -35,18 +35,10 @@ some_piped (Some p) h = refl
 
 module _ (nodes : Nodes) (names : Directories) (ps : List (Option Pipe)) (first n : ℕ) (is : first ≡ length nodes.nodes) where
   -- ---- what stands there
-  pub at_behind : first ≤ n → at (all_objects nodes names ps) n ≡ option_map object_of_pipe (at ps (n - first))
-  at_behind past =
-      get_or-append_right (objects_of nodes.nodes names.lists) (map (option_map object_of_pipe) ps) first n None (length-objects nodes.nodes names.lists ∙ sym is) past
-      ∙ get_or-map (option_map object_of_pipe) ps (n - first) None
-
-  pub at_before : n < first → at (all_objects nodes names ps) n ≡ at (objects_of nodes.nodes names.lists) n
-  at_before low = get_or_append_left (objects_of nodes.nodes names.lists) (map (option_map object_of_pipe) ps) None n (omega (arith, length-objects nodes.nodes names.lists, is, low))
-
   no_pipe_before : n < first → is_pipe (node (all_objects nodes names ps) n) ≡ false
   no_pipe_before low =
-      ap (λ (o : Option Object). is_pipe (unwrap_or o nothing)) (at_before low ∙ at_objects nodes.nodes names.lists n)
-      ∙ no_pipe (slice_index_or names.lists n []) (at nodes.nodes n)
+      ap (λ (o : Option Object). is_pipe (unwrap_or o nothing)) (at_inode nodes names ps n (omega (arith, is, low)))
+      ∙ no_pipe (names_of names n) (at nodes.nodes n)
 
   pub past_inodes : is_pipe (node (all_objects nodes names ps) n) ≡ true → first ≤ n
   past_inodes h = elim (cases_lt n first) [
@@ -55,7 +47,7 @@ module _ (nodes : Nodes) (names : Directories) (ps : List (Option Pipe)) (first 
   ]
 
   pub pipe_lives : is_pipe (node (all_objects nodes names ps) n) ≡ true → is_some (at ps (n - first)) ≡ true
-  pipe_lives h = some_piped (at ps (n - first)) (ap (λ (o : Option Object). is_pipe (unwrap_or o nothing)) (sym (at_behind (past_inodes h))) ∙ h)
+  pipe_lives h = some_piped (at ps (n - first)) (ap (λ (o : Option Object). is_pipe (unwrap_or o nothing)) (sym (at_pipe nodes names ps first n is (past_inodes h))) ∙ h)
 
   pub held_behind : length nodes.bytes ≡ length nodes.nodes → first ≤ n → slice_index_or (all_holdings nodes ps) n holds_nothing ≡ holding_of_pipe (at ps (n - first))
   held_behind bytes past =
@@ -64,11 +56,6 @@ module _ (nodes : Nodes) (names : Directories) (ps : List (Option Pipe)) (first 
 
   -- ---- another pipe, or none, in its place
   module _ (y : Option Pipe) (past : first ≤ n) where
-    objects_behind : all_objects nodes names (put ps (n - first) y) ≡ put (all_objects nodes names ps) n (option_map object_of_pipe y)
-    objects_behind =
-        ap (λ (os : List (Option Object)). objects_of nodes.nodes names.lists ++ os) (map-set (option_map object_of_pipe) ps (n - first) y)
-        ∙ sym (set-append_right (objects_of nodes.nodes names.lists) (map (option_map object_of_pipe) ps) first n (option_map object_of_pipe y) (length-objects nodes.nodes names.lists ∙ sym is) past)
-
     holdings_behind : length nodes.bytes ≡ length nodes.nodes → all_holdings nodes (put ps (n - first) y) ≡ slice_set (all_holdings nodes ps) n (holding_of_pipe y)
     holdings_behind bytes =
         ap (λ (hs : List Holding). map holding_of_bytes nodes.bytes ++ hs) (map-set holding_of_pipe ps (n - first) y)
@@ -76,7 +63,7 @@ module _ (nodes : Nodes) (names : Directories) (ps : List (Option Pipe)) (first 
 
     pub piped : (l : Limits) (es : OpenTable) (hs : List ℕ) → length nodes.bytes ≡ length nodes.nodes
         → joined l nodes names (put ps (n - first) y) es hs ≡ record (joined l nodes names ps es hs) { objects = put (all_objects nodes names ps) n (option_map object_of_pipe y); holdings = slice_set (all_holdings nodes ps) n (holding_of_pipe y) }
-    piped l es hs bytes = λ i. record (joined l nodes names ps es hs) { objects = objects_behind i; holdings = holdings_behind bytes i }
+    piped l es hs bytes = λ i. record (joined l nodes names ps es hs) { objects = put_pipe nodes names ps first n y is past i; holdings = holdings_behind bytes i }
 
 -- ---- what is told of a pipe that lives
 claimant_is : (x : Option Pipe) (end : ℕ) → is_some x ≡ true → claimant_of end x ≡ at (unwrap_or (option_map object_of_pipe x) nothing).claims end
@@ -99,6 +86,18 @@ filled : (h : Pipe → Pipe) (u : Holding → Holding) → ((p : Pipe) → (h p)
 filled h u same None lives = absurd (cc lives)
 filled h u same (Some p) lives = same p
 
+-- what stands behind the inodes is a pipe
+pub pipe_past : (l : Limits) (nodes : Nodes) (names : Directories) (ps : List (Option Pipe)) (es : OpenTable) (hs : List ℕ) (now : Parts) → joined l nodes names ps es hs ≡ now → (first n : ℕ) → first ≡ length nodes.nodes → first ≤ n
+    → is_some (at now.objects n) ≡ true → is_pipe (node now.objects n) ≡ true
+pipe_past l nodes names ps es hs now view first n is past lives = ap (λ (o : Option Object). is_pipe (unwrap_or o nothing)) here ∙ go (at ps (n - first)) (ap is_some (sym here) ∙ lives)
+  where
+    here : at now.objects n ≡ option_map object_of_pipe (at ps (n - first))
+    here = ap (λ (v : Parts). at v.objects n) (sym view) ∙ at_pipe nodes names ps first n is past
+
+    go : (p : Option Pipe) → is_some (option_map object_of_pipe p) ≡ true → is_pipe (unwrap_or (option_map object_of_pipe p) nothing) ≡ true
+    go None h = cc
+    go (Some p) h = refl
+
 -- ---- as the parts show it
 module _ (l : Limits) (nodes : Nodes) (names : Directories) (ps : List (Option Pipe)) (es : OpenTable) (hs : List ℕ) (now : Parts) (first n : ℕ)
     (inv : AreJoined l nodes names ps es hs × (first ≡ length nodes.nodes)) (view : joined l nodes names ps es hs ≡ now) (pipe : is_pipe (node now.objects n) ≡ true) where
@@ -112,7 +111,7 @@ module _ (l : Limits) (nodes : Nodes) (names : Directories) (ps : List (Option P
   is_living = pipe_lives nodes names ps first n inv.1 piped_there
 
   pub object_there : at now.objects n ≡ option_map object_of_pipe (at ps (n - first))
-  object_there = ap (λ (v : Parts). at v.objects n) (sym view) ∙ at_behind nodes names ps first n inv.1 is_past
+  object_there = ap (λ (v : Parts). at v.objects n) (sym view) ∙ at_pipe nodes names ps first n inv.1 is_past
 
   pub holding_there : slice_index_or now.holdings n holds_nothing ≡ holding_of_pipe (at ps (n - first))
   holding_there = ap (λ (v : Parts). slice_index_or v.holdings n holds_nothing) (sym view) ∙ held_behind nodes names ps first n inv.1 inv.0.bytes is_past

@@ -1,5 +1,5 @@
 -- Another inode, or none, at a number, and a new one.
-use Rattle.std.proofs.Common.{◌≡◌, ◌+◌, ◌-◌, ◌<◌, ◌≤◌, ◌^◌, Bool, true, false, ℕ, List, [], ◌++◌, map, length, Option, Some, None, option_map, unwrap_or, slice_set, nat_lt, refl, sym, ap, subst, ◌∙◌, arith, inl, inr, length-set, get_or-set_other, get_or-set_same}
+use Rattle.std.proofs.Common.{◌≡◌, ◌+◌, ◌<◌, ◌^◌, Bool, true, false, ℕ, List, [], ◌++◌, map, length, Option, Some, None, option_map, unwrap_or, slice_set, nat_lt, refl, sym, ap, subst, ◌∙◌, arith, inl, inr, length-set, get_or-set_other, get_or-set_same}
 use Rattle.std.specs.Option.{option_map_or}
 use Rattle.std.proofs.lemmas.Bool.{cases_eq}
 use Rattle.std.proofs.lemmas.List.{length-map, map-set, set-append_left}

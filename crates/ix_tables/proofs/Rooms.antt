@@ -11,14 +11,13 @@ use Rattle.ix_model.specs.declared.config.Limits.{Limits}
 use Rattle.ix_model.proofs.tables.Blocks.{blocks_from}
 use Rattle.ix_inode.specs.declared.node.Node.{Node}
 use Rattle.ix_inode.specs.Nodes.{Nodes, blocks_of, free_blocks, has_space, bytes_at}
-use Rattle.ix_name.specs.Directories.{Directories}
+use Rattle.ix_name.specs.Directories.{Directories, names_of}
 use Rattle.ix_open.specs.Table.{OpenTable}
 use Rattle.ix_pipe.specs.Pipe.{Pipe}
 use Rattle.ix_tables.specs.Parts.{Parts}
 use Rattle.ix_tables.specs.Meanings.{frame_alone, has_room}
 use Rattle.ix_tables.specs.Joined.{object_of, object_of_pipe, holding_of_bytes, holding_of_pipe, all_objects, joined, AreJoined}
-use Rattle.ix_tables.proofs.Joining.{at_objects}
-use Rattle.ix_tables.proofs.Piping.{at_before, at_behind}
+use Rattle.ix_tables.proofs.Joining.{at_inode, at_pipe}
 use Rattle.ix_tables.proofs.Holding.{inode_there, bytes_there, is_file_there}
 
 -- whether an inode names a file system
@@ -89,10 +88,10 @@ module _ (l : Limits) (nodes : Nodes) (names : Directories) (ps : List (Option P
   lies_there : (k m : ℕ) → lies_on (frame_alone whole) (Some k) m ≡ names_fs k (at nodes.nodes m)
   lies_there k m = elim (cases_lt m first) [
     | inl low ↦
-        ap (λ (o : Option Object). option_map_or (λ x. option_map_or (λ j. j == k) x.fs false) o false) (at_before nodes names ps first m inv.1 low ∙ at_objects nodes.nodes names.lists m)
-        ∙ inode_on k (slice_index_or names.lists m []) (at nodes.nodes m)
+        ap (λ (o : Option Object). option_map_or (λ x. option_map_or (λ j. j == k) x.fs false) o false) (at_inode nodes names ps m (omega (arith, low, inv.1)))
+        ∙ inode_on k (names_of names m) (at nodes.nodes m)
     | inr past ↦
-        ap (λ (o : Option Object). option_map_or (λ x. option_map_or (λ j. j == k) x.fs false) o false) (at_behind nodes names ps first m inv.1 past)
+        ap (λ (o : Option Object). option_map_or (λ x. option_map_or (λ j. j == k) x.fs false) o false) (at_pipe nodes names ps first m inv.1 past)
         ∙ pipe_on k (at ps (m - first)) ∙ sym (ap (names_fs k) (get_or_past nodes.nodes m None (omega (arith, past, inv.1))))
   ]
 
@@ -101,7 +100,7 @@ module _ (l : Limits) (nodes : Nodes) (names : Directories) (ps : List (Option P
     lies_here = ap (lies_on (frame_alone whole) (Some x.fs)) (zero-add n) ∙ lies_there x.fs n ∙ ap (names_fs x.fs) there ∙ same_number x.fs
 
     fs_here : fs_of_object (frame_alone whole) n ≡ Some x.fs
-    fs_here = ap (λ (o : Option Object). option_and_then (λ y. y.fs) o) (inode_there l nodes names ps es hs whole first inv refl n file ∙ ap (option_map (object_of (slice_index_or names.lists n []))) there)
+    fs_here = ap (λ (o : Option Object). option_and_then (λ y. y.fs) o) (inode_there l nodes names ps es hs whole first inv refl n file ∙ ap (option_map (object_of (names_of names n))) there)
 
     beside_here : blocks_where (λ m. not (m == n) && lies_on (frame_alone whole) (Some x.fs) m) 0 whole.holdings + blocks_for (length (bytes_at n nodes)) ≡ blocks_of x.fs nodes.nodes nodes.bytes
     beside_here =

@@ -1,13 +1,11 @@
 -- What is told of the objects that inodes and pipes make.
-use Rattle.std.proofs.Common.{◌≡◌, ◌+◌, ◌-◌, ◌<◌, ◌≤◌, Bool, true, false, IfSome, ℕ, List, length, Option, Some, None, is_some, option_map, unwrap_or, refl, sym, ap, subst, ◌∙◌, arith}
+use Rattle.std.proofs.Common.{◌≡◌, ◌+◌, ◌-◌, ◌<◌, false, IfSome, ℕ, List, length, Option, Some, None, is_some, option_map, unwrap_or, refl, sym, ap, subst, ◌∙◌, arith}
 use Rattle.ix_label.specs.Category.{Categories, top}
 use Rattle.ix_model.proofs.tables.Finds.{in_table}
-use Rattle.ix_model.specs.world.World.{Object, at, is_dir, ceiling_of}
-use Rattle.ix_model.specs.world.Privs.{no_privileges}
+use Rattle.ix_model.specs.world.World.{Object, at}
 use Rattle.ix_model.specs.rows.Walks.{node, nothing}
 use Rattle.ix_model.specs.declared.reply.Kind.TheVariants as kind
 use Rattle.ix_model.specs.declared.privs.PrivSet.{PrivSet}
-use Rattle.ix_model.specs.declared.config.FsSpec.{FsSpec}
 use Rattle.ix_inode.specs.Nodes.{Nodes, told_at}
 use Rattle.ix_inode.specs.declared.node.Inode.{Inode}
 use Rattle.ix_inode.specs.declared.node.Node.{Node}
@@ -51,7 +49,7 @@ module _ (nodes : Nodes) (names : Directories) (pipes : List (Option Pipe)) (obj
 
   behind : (p : ℕ) → at objects (length nodes.nodes + p) ≡ option_map object_of_pipe (at pipes p)
   behind p =
-      ap (λ t. at t (length nodes.nodes + p)) (sym view) ∙ at_pipe nodes names pipes (length nodes.nodes + p) (omega arith)
+      ap (λ t. at t (length nodes.nodes + p)) (sym view) ∙ at_pipe nodes names pipes (length nodes.nodes) (length nodes.nodes + p) refl (omega arith)
       ∙ ap (λ k. option_map object_of_pipe (at pipes k)) (let back : length nodes.nodes + p - length nodes.nodes ≡ p = omega arith in back)
 
   pub pipe_shows : (p : ℕ) (label : Categories) (c l : PrivSet) → option_map (λ q. q.label) (at pipes p) ≡ Some label → c.0 ≡ 0 → l.0 ≡ 0 → Shows objects (length nodes.nodes + p) (Some (row_of_pipe label c l))

@@ -1,11 +1,8 @@
 -- Files and directories that go.
-use Rattle.std.proofs.Common.{◌≡◌, ◌+◌, ◌-◌, ◌<◌, ◌≤◌, ◌==◌, ◌^◌, ◌&&◌, ◌||◌, Bool, true, false, not, ℕ, nat_eq, List, [], ◌++◌, map, length, Option, Some, None, is_some, if◌then◌else◌, option_map, refl, sym, ap, subst, ◌∙◌, arith, inl, inr, length-set, get_or-set_other, get_or-set_same}
+use Rattle.std.proofs.Common.{◌≡◌, ◌-◌, ◌<◌, ◌≤◌, ◌==◌, ◌&&◌, ◌||◌, Bool, true, false, not, ℕ, nat_eq, List, [], length, Option, Some, None, is_some, if◌then◌else◌, option_map, refl, sym, ap, subst, ◌∙◌, arith, inl, inr}
 use Rattle.std.specs.Option.{option_map_or}
 use Rattle.std.proofs.lemmas.Bool.Decides.{eqb_tells}
-use Rattle.std.proofs.lemmas.Bool.{cases_eq, cases_lt}
-use Rattle.std.proofs.lemmas.List.{get_or_past, length-map, map-set, set-append_left}
-use Rattle.ix_model.specs.world.World.{Object, at, put, held, is_pipe}
-use Rattle.ix_model.specs.world.Contents.{holds_nothing}
+use Rattle.ix_model.specs.world.World.{Object, at, held, is_pipe}
 use Rattle.ix_model.specs.world.Numbers.{first_pipe}
 use Rattle.ix_model.specs.world.Owners.{times_named}
 use Rattle.ix_model.specs.rows.Lifetimes.{stays}
@@ -21,8 +18,8 @@ use Rattle.ix_open.specs.Table.{OpenTable}
 use Rattle.ix_pipe.specs.Pipe.{Pipe}
 use Rattle.ix_tables.specs.Parts.{Parts}
 use Rattle.ix_tables.specs.Meanings.{frame_alone, without_object, object_let_go}
-use Rattle.ix_tables.specs.Joined.{object_of, object_of_pipe, holding_of_bytes, holding_of_pipe, joined, names_in, names_for, HasLinks, HasNames, AreJoined}
-use Rattle.ix_tables.proofs.Joining.{objects_put, at_inode, at_pipe, put_inode}
+use Rattle.ix_tables.specs.Joined.{object_of, object_of_pipe, joined, names_for, HasLinks, HasNames, AreJoined}
+use Rattle.ix_tables.proofs.Joining.{at_inode, at_pipe}
 use Rattle.ix_tables.proofs.Naming.{all_times}
 use Rattle.ix_tables.proofs.Placing.{inode_put, joined_put}
 
@@ -90,7 +87,7 @@ module _ (limits : Limits) (nodes : Nodes) (names : Directories) (pipes : List (
       go (Some x) e h = cc
 
   pub piped : (n : ℕ) → length nodes.nodes ≤ n → option_map_or is_pipe (at now.objects n) true ≡ true
-  piped n high = ap (λ (o : Option Object). option_map_or is_pipe o true) (ap (λ (v : Parts). at v.objects n) (sym view) ∙ at_pipe nodes names pipes n high) ∙ go (at pipes (n - length nodes.nodes))
+  piped n high = ap (λ (o : Option Object). option_map_or is_pipe o true) (ap (λ (v : Parts). at v.objects n) (sym view) ∙ at_pipe nodes names pipes (length nodes.nodes) n refl high) ∙ go (at pipes (n - length nodes.nodes))
     where
       go : (p : Option Pipe) → option_map_or is_pipe (option_map object_of_pipe p) true ≡ true
       go None = refl

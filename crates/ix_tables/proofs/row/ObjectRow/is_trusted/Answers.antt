@@ -8,6 +8,6 @@ returns-after-is_empty c =
     let x = c.args.self.now in
     let both : c.if-is_empty.result ≡ (is_empty x.cap && is_empty x.lic) = elim c.if-is_empty.branch [
       | then-is_empty w ↦ w.result-is ∙ w.is_empty-then-is_empty.ensures tt ∙ ap (λ b. b && is_empty x.lic) (sym w.if-is_empty.true ∙ c.is_empty.ensures tt)
-      | else-is_empty w ↦ w.result-is ∙ ap (λ b. b && is_empty x.lic) (sym w.if-is_empty.false ∙ c.is_empty.ensures tt)
+      | else-is_empty w ↦ w.result-is ∙ w.if-is_empty.false ∙ ap (λ b. b && is_empty x.lic) (sym w.if-is_empty.false ∙ c.is_empty.ensures tt)
     ] in
     ap not both ∙ ap (λ b. b && not (is_empty x.cap && is_empty x.lic)) (sym c.if-is_file.true ∙ c.is_file.ensures)

@@ -1,4 +1,4 @@
-use Rattle.std.proofs.Common.{◌∙◌, ap, sym, arith, length-set, None}
+use Rattle.std.proofs.Common.{◌∙◌, sym, arith, length-set, None}
 use Rattle.ix_tables.proofs.Unmaking.{piped, idle_bare, idle_joined, idle_gone}
 use Rattle.ix_tables.proofs.tables.Tables.let_go_object.Goals as goal
 
