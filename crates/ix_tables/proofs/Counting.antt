@@ -40,12 +40,12 @@ fewer f w by name (e ∷ ns) n different is = go (same_bytes e.0 name) refl (few
         let cut : without name (e ∷ ns) ≡ e ∷ without name ns = rw h refl in
         omega (arith, sum_by-cons f e ns, rest_fewer tail later, ap (sum_by f) cut, sum_by-cons f e (without name ns))
 
-pub lengths : (ns : Names) → length ns ≡ sum_by (λ e. 1) ns
+lengths : (ns : Names) → length ns ≡ sum_by (λ e. 1) ns
 lengths [] = refl
 lengths (e ∷ ns) = omega (arith, lengths ns, sum_by-cons {X = List ℕ × ℕ} (λ x. 1) e ns)
 
 -- a list of a directory in the place of another
-pub total_set : (f : Names → ℕ) (ls : Lists) (d : ℕ) (new : Names) → d < length ls → sum (map f (set ls d new)) + f (names_at ls d) ≡ sum (map f ls) + f new
+total_set : (f : Names → ℕ) (ls : Lists) (d : ℕ) (new : Names) → d < length ls → sum (map f (set ls d new)) + f (names_at ls d) ≡ sum (map f ls) + f new
 total_set f ls d new low = omega (arith, sum-map f (set ls d new), sum-map f ls, sum_by-set f ls d new [] low)
 
 -- ---- one name fewer

@@ -48,7 +48,7 @@ mapped : {A B : Type 0} (f : A → B) (h : A → A) (k : B → B) → ((x : A) �
 mapped f h k same None = refl
 mapped f h k same (Some x) = ap Some (same x)
 
-pub objects_changed : (xs : List (Option Node)) (ls : Lists) (n : ℕ) (h : Node → Node) (k : Object → Object) → ((names : List (List ℕ × ℕ)) (x : Node) → object_of names (h x) ≡ k (object_of names x)) → objects_of (change xs n h) ls ≡ change (objects_of xs ls) n k
+objects_changed : (xs : List (Option Node)) (ls : Lists) (n : ℕ) (h : Node → Node) (k : Object → Object) → ((names : List (List ℕ × ℕ)) (x : Node) → object_of names (h x) ≡ k (object_of names x)) → objects_of (change xs n h) ls ≡ change (objects_of xs ls) n k
 objects_changed xs ls n h k same =
     objects_put xs ls n (option_map h (at xs n))
     ∙ ap (put (objects_of xs ls) n) (mapped (object_of (names_at ls n)) h k (same (names_at ls n)) (at xs n) ∙ ap (option_map k) (sym (at_objects xs ls n)))
@@ -88,7 +88,7 @@ module _ (nodes : Nodes) (names : Directories) (pipes : List (Option Pipe)) wher
       piped (Some p) h other = cc
 
   -- ---- a change of an inode
-  pub inode_changed : (n : ℕ) (h : Node → Node) (k : Object → Object) → n < length nodes.nodes → ((names : List (List ℕ × ℕ)) (x : Node) → object_of names (h x) ≡ k (object_of names x)) → all_objects (changed n h nodes) names pipes ≡ change (all_objects nodes names pipes) n k
+  inode_changed : (n : ℕ) (h : Node → Node) (k : Object → Object) → n < length nodes.nodes → ((names : List (List ℕ × ℕ)) (x : Node) → object_of names (h x) ≡ k (object_of names x)) → all_objects (changed n h nodes) names pipes ≡ change (all_objects nodes names pipes) n k
   inode_changed n h k low same =
       ap (λ os. os ++ map (option_map object_of_pipe) pipes) (objects_changed nodes.nodes names.lists n h k same)
       ∙ sym (put_inode n (option_map k (at (objects_of nodes.nodes names.lists) n)) low)

@@ -30,7 +30,7 @@ use Rattle.ix_tables.proofs.Renaming.{directory_edited}
 use Rattle.ix_tables.proofs.Holding.{is_inode, is_file_there}
 use Rattle.ix_name.specs.Directories.{with_more}
 use Rattle.ix_model.specs.world.Owners.{names_in_all}
-use Rattle.std.proofs.Common.{nat_lt, if◌then◌else◌}
+use Rattle.std.proofs.Common.{nat_lt}
 
 module _ (limits : Limits) (nodes nodes2 : Nodes) (names names2 : Directories) (pipes : List (Option Pipe)) (es : OpenTable) (hs : List ℕ) (now : Parts) (j : AreJoined limits nodes names pipes es hs) (view : joined limits nodes names pipes es hs ≡ now)
     (d n : ℕ) (name : List ℕ) (dir : is_dir (node now.objects d) ≡ true) (absent : child (node now.objects d) name ≡ None) (room : nat_lt (names_in_all now.objects) now.limits.names ≡ true) where
@@ -47,10 +47,7 @@ module _ (limits : Limits) (nodes nodes2 : Nodes) (names names2 : Directories) (
   has_entry = room_is limits nodes names pipes es hs now j view ∙ room
 
   -- ---- the name with so many links, where what stands at its number may have that many and one name more
-  module _ (links : ℕ) (set : nodes2 ≡ changed n (λ x. record x { links = links }) nodes) (added : names2 ≡ (if nat_lt 0 names.free then with_more d name n names else names)) (within : n < length nodes.nodes) where
-    added_is : names2 ≡ with_more d name n names
-    added_is = added ∙ ap (λ b. if b then with_more d name n names else names) has_entry
-
+  module _ (links : ℕ) (set : nodes2 ≡ changed n (λ x. record x { links = links }) nodes) (added : names2 ≡ with_more d name n names) (within : n < length nodes.nodes) where
     one_more : (o : ℕ) → names_for o (with_more d name n names).lists ≡ names_for o names.lists + cond (n == o) 1 0
     one_more o = times_more names.lists d n name in_lists o
 
@@ -60,7 +57,7 @@ module _ (limits : Limits) (nodes nodes2 : Nodes) (names names2 : Directories) (
       | inr e ↦ get_or-set_other names.lists d o (names_of names d ++ (name, n) ∷ []) [] e.1 ∙ j.bare o none
     ]
 
-    pub named_joined : HasNames (option_map (λ y. let z : Node = record y { links = links } in z) (at nodes.nodes n)) (names_for n names.lists + 1) → AreJoined limits nodes2 names2 pipes es hs
+    named_joined : HasNames (option_map (λ y. let z : Node = record y { links = links } in z) (at nodes.nodes n)) (names_for n names.lists + 1) → AreJoined limits nodes2 names2 pipes es hs
     named_joined tied =
         let ns2 = change nodes.nodes n (λ x. record x { links = links }) in
         let long : length ns2 ≡ length nodes.nodes = length-set nodes.nodes n _ in
@@ -87,11 +84,11 @@ module _ (limits : Limits) (nodes nodes2 : Nodes) (names names2 : Directories) (
           few = subst (λ k. k + length pipes < 2 ^ 32) (sym long) j.few;
           few_names = j.few_names;
         } in
-        rw (set, added_is) all
+        rw (set, added) all
 
-    pub named_view : joined limits nodes2 names2 pipes es hs ≡ record now { objects = change now.objects d (with_name name n) }
+    named_view : joined limits nodes2 names2 pipes es hs ≡ record now { objects = change now.objects d (with_name name n) }
     named_view =
-        let edited = directory_edited limits nodes names names2 pipes es hs now j.lists view d (λ ns. ns ++ (name, n) ∷ []) below (ap (λ (x : Directories). x.lists) added_is) in
+        let edited = directory_edited limits nodes names names2 pipes es hs now j.lists view d (λ ns. ns ++ (name, n) ∷ []) below (ap (λ (x : Directories). x.lists) added) in
         let mid : Parts = record now { objects = change now.objects d (with_name name n) } in
         inode_edited limits nodes names2 pipes es hs mid edited nodes2 n (λ x. record x { links = links }) (λ x. x) within (λ ns x. refl) set
         ∙ ap (λ t. let w : Parts = record now { objects = t } in w) (change_same (change now.objects d (with_name name n)) n (λ x. x) (λ x h. refl))
@@ -119,7 +116,7 @@ module _ (limits : Limits) (nodes nodes2 : Nodes) (names names2 : Directories) (
         flip false h = refl
 
     module _ (i : Inode) (is : Some i ≡ option_map (told_at n nodes) (at nodes.nodes n)) where
-      pub links_are : i.links ≡ names_for n names.lists
+      links_are : i.links ≡ names_for n names.lists
       links_are = go (at nodes.nodes n) refl is
         where
           go : (x : Option Node) → at nodes.nodes n ≡ x → Some i ≡ option_map (told_at n nodes) x → i.links ≡ names_for n names.lists
@@ -131,7 +128,7 @@ module _ (limits : Limits) (nodes nodes2 : Nodes) (names names2 : Directories) (
           let some : 0 < names.free = grind (arith, nat_tests, has_entry) in
           omega (arith, links_are, few_times n names.lists, j.entries, small, some)
 
-      module _ (more : nodes2 ≡ changed n (λ x. record x { links = i.links + 1 }) nodes) (added : names2 ≡ (if nat_lt 0 names.free then with_more d name n names else names)) where
+      module _ (more : nodes2 ≡ changed n (λ x. record x { links = i.links + 1 }) nodes) (added : names2 ≡ with_more d name n names) where
         tied_still : (x : Option Node) → at nodes.nodes n ≡ x → Some i ≡ option_map (told_at n nodes) x → HasNames (option_map (λ y. let z : Node = record y { links = i.links + 1 } in z) x) (names_for n names.lists + 1)
         tied_still None e h = cc
         tied_still (Some x) e h =
@@ -152,7 +149,7 @@ module _ (limits : Limits) (nodes nodes1 nodes2 : Nodes) (names names2 : Directo
   pub new_stands : is_some (at nodes1.nodes n) ≡ true
   new_stands = ap is_some (at_placed limits nodes nodes1 names pipes es hs now j view n fs k vacant kind new)
 
-  module _ (set : nodes2 ≡ changed n (λ x. record x { links = 1 }) nodes1) (added : names2 ≡ (if nat_lt 0 names.free then with_more d name n names else names)) where
+  module _ (set : nodes2 ≡ changed n (λ x. record x { links = 1 }) nodes1) (added : names2 ≡ with_more d name n names) where
     abbrev between : Parts
     between = placed n fs k now
 

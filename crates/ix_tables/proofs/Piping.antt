@@ -40,16 +40,16 @@ module _ (nodes : Nodes) (names : Directories) (ps : List (Option Pipe)) (first 
       ap (λ (o : Option Object). is_pipe (unwrap_or o nothing)) (at_inode nodes names ps n (omega (arith, is, low)))
       ∙ no_pipe (names_of names n) (at nodes.nodes n)
 
-  pub past_inodes : is_pipe (node (all_objects nodes names ps) n) ≡ true → first ≤ n
+  past_inodes : is_pipe (node (all_objects nodes names ps) n) ≡ true → first ≤ n
   past_inodes h = elim (cases_lt n first) [
     | inl low ↦ absurd (cc (no_pipe_before low, h))
     | inr past ↦ past
   ]
 
-  pub pipe_lives : is_pipe (node (all_objects nodes names ps) n) ≡ true → is_some (at ps (n - first)) ≡ true
+  pipe_lives : is_pipe (node (all_objects nodes names ps) n) ≡ true → is_some (at ps (n - first)) ≡ true
   pipe_lives h = some_piped (at ps (n - first)) (ap (λ (o : Option Object). is_pipe (unwrap_or o nothing)) (sym (at_pipe nodes names ps first n is (past_inodes h))) ∙ h)
 
-  pub held_behind : length nodes.bytes ≡ length nodes.nodes → first ≤ n → slice_index_or (all_holdings nodes ps) n holds_nothing ≡ holding_of_pipe (at ps (n - first))
+  held_behind : length nodes.bytes ≡ length nodes.nodes → first ≤ n → slice_index_or (all_holdings nodes ps) n holds_nothing ≡ holding_of_pipe (at ps (n - first))
   held_behind bytes past =
       get_or-append_right (map holding_of_bytes nodes.bytes) (map holding_of_pipe ps) first n holds_nothing (length-map nodes.bytes holding_of_bytes ∙ bytes ∙ sym is) past
       ∙ get_or-map holding_of_pipe ps (n - first) None

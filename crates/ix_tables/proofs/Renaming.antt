@@ -25,7 +25,7 @@ use Rattle.ix_tables.proofs.Joining.{Lists, names_at, at_objects, at_inode, put_
 use Rattle.ix_tables.proofs.Counting.{Names, names_fewer, times_fewer}
 use Rattle.ix_tables.proofs.Placing.{inode_put, joined_put}
 
-pub objects_named : (xs : List (Option Node)) (ls : Lists) (d : ℕ) (h : Names → Names) → length ls ≡ length xs → objects_of xs (set ls d (h (names_at ls d))) ≡ change (objects_of xs ls) d (λ o. record o { names = h o.names })
+objects_named : (xs : List (Option Node)) (ls : Lists) (d : ℕ) (h : Names → Names) → length ls ≡ length xs → objects_of xs (set ls d (h (names_at ls d))) ≡ change (objects_of xs ls) d (λ o. record o { names = h o.names })
 objects_named [] [] d h long = refl
 objects_named [] (l ∷ ls) d h long = let none : suc (length ls) ≡ 0 = long in absurd (omega (arith, none))
 objects_named (x ∷ xs) [] d h long = let none : 0 ≡ suc (length xs) = long in absurd (omega (arith, none))
@@ -46,7 +46,7 @@ directory_edited limits nodes names names2 pipes es hs now long view d h low is 
     let moved : joined limits nodes names2 pipes es hs ≡ record v { objects = change v.objects d k } = λ i. record v { objects = os i } in
     moved ∙ ap (λ (u : Parts). let w : Parts = record u { objects = change u.objects d k } in w) view
 
-abbrev pub is_file_kind : Kind → Bool
+abbrev is_file_kind : Kind → Bool
 is_file_kind k = elim k [ kind.File ↦ true | _ ↦ false ]
 
 module _ (limits : Limits) (nodes nodes2 : Nodes) (names names2 : Directories) (pipes : List (Option Pipe)) (es : OpenTable) (hs : List ℕ) (now : Parts) (j : AreJoined limits nodes names pipes es hs) (view : joined limits nodes names pipes es hs ≡ now)

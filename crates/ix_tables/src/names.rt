@@ -10,10 +10,12 @@ ghost use Rattle.ix_model.specs.world.Owners.{names_in_all, times_named};
 ghost use Rattle.ix_model.specs.rows.OnPaths.{new_object};
 ghost use Rattle.ix_model.specs.rows.Walks.{node, child};
 ghost use Rattle.ix_inode.specs.Shown.{kind_of};
+ghost use Rattle.ix_name.specs.Directories.{names_of, under, with_more};
 ghost use Rattle.ix_tables.specs.Meanings.{vacant_inode, frame_alone, object_let_go};
 
 use crate::tables::Tables;
 use ix_model::{Kind, Name, Obj};
+use ix_name::Names;
 
 /// Names of directories, and the files and directories that come and go by them.
 impl Tables {
@@ -79,10 +81,7 @@ impl Tables {
         ensures { self.new ≡ record self.old { objects = change (put self.old.objects n (Some (new_object kind (Some fs)))) dir (with_name name n); holdings = slice_set self.old.holdings n holds_nothing } }
     {
         self.inodes.make(fs, kind);
-        match self.names.add(Obj(dir), name, Obj(n)) {
-            Ok(()) => (),
-            Err(_) => unreachable!(),
-        }
+        enter(&mut self.names, dir, name, n);
         self.inodes.set_links(Obj(n), 1);
     }
 
@@ -94,10 +93,7 @@ impl Tables {
         requires file { option_map_or is_file (at self.old.objects n) false ≡ true }
         ensures { self.new ≡ record self.old { objects = change self.old.objects dir (with_name name n) } }
     {
-        match self.names.add(Obj(dir), name, Obj(n)) {
-            Ok(()) => (),
-            Err(_) => unreachable!(),
-        }
+        enter(&mut self.names, dir, name, n);
         if let Some(inode) = self.inodes.get(Obj(n)) {
             self.inodes.set_links(Obj(n), inode.links + 1);
         }
@@ -153,5 +149,18 @@ impl Tables {
             },
             None => false,
         }
+    }
+}
+
+/// A name more in a directory that hasn't it, at the end. An entry has to be free.
+fn enter(names: &mut Names, dir: u32, name: Name, n: u32)
+    requires dir { dir < length names.old.lists }
+    requires absent { under name (names_of names.old dir) ≡ None }
+    requires room { nat_lt 0 names.old.free ≡ true }
+    ensures { names.new ≡ with_more dir name n names.old }
+{
+    match names.add(Obj(dir), name, Obj(n)) {
+        Ok(()) => (),
+        Err(_) => unreachable!(),
     }
 }
