@@ -6,6 +6,11 @@ pub mod Joining
 pub mod LettingGo
 pub mod Making
 pub mod Naming
+pub mod OpeningBare
+pub mod OpeningJoined
+pub mod OpeningLines
+pub mod OpeningNames
+pub mod OpeningPlaces
 pub mod Piping
 pub mod Placing
 pub mod Refusing

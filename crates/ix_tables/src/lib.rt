@@ -4,6 +4,7 @@
 mod bytes;
 mod names;
 mod objects;
+mod opening;
 mod opens;
 mod pipes;
 mod row;
