@@ -45,7 +45,7 @@ lengths [] = refl
 lengths (e ∷ ns) = omega (arith, lengths ns, sum_by-cons {X = List ℕ × ℕ} (λ x. 1) e ns)
 
 -- a list of a directory in the place of another
-total_set : (f : Names → ℕ) (ls : Lists) (d : ℕ) (new : Names) → d < length ls → sum (map f (set ls d new)) + f (names_at ls d) ≡ sum (map f ls) + f new
+pub total_set : (f : Names → ℕ) (ls : Lists) (d : ℕ) (new : Names) → d < length ls → sum (map f (set ls d new)) + f (names_at ls d) ≡ sum (map f ls) + f new
 total_set f ls d new low = omega (arith, sum-map f (set ls d new), sum-map f ls, sum_by-set f ls d new [] low)
 
 -- ---- one name fewer

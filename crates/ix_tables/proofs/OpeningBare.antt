@@ -1,12 +1,11 @@
 -- The tables before any object line show the world before any.
-use Rattle.std.proofs.Common.{◌≡◌, ◌+◌, ◌-◌, ◌<◌, ◌≤◌, ◌==◌, ◌^◌, ℕ, zero, suc, Bool, true, false, cond, List, [], ◌∷◌, ◌++◌, length, map, sum, drop, replicate, count_by, set, Option, Some, None, option_map, refl, sym, ap, ◌∙◌, subst, arith, append_assoc, length-append, length-set}
-use Rattle.std.specs.Option.{option_map_or}
+use Rattle.std.proofs.Common.{◌≡◌, ◌+◌, ◌-◌, ◌<◌, ◌≤◌, ◌==◌, ℕ, zero, suc, true, false, cond, List, [], ◌∷◌, ◌++◌, length, map, sum, drop, replicate, count_by, Option, Some, None, option_map, refl, sym, ap, ◌∙◌, arith, length-append, length-set}
 use Rattle.std.specs.List.{list_all, range_with_len}
 use Rattle.std.proofs.lemmas.Bool.Decides.{nat_tests}
 use Rattle.std.proofs.lemmas.List.{length-replicate, length-map, map-append, replicate-append-replicate}
 use Rattle.std.proofs.lemmas.List.FromFn.{length-range_with_len}
-use Rattle.std.proofs.lemmas.List.Sums.{sum-map, sum_by-cons}
-use Rattle.ix_model.specs.world.World.{Object, Open, Holding, Process, at, change}
+use Rattle.std.proofs.lemmas.List.Sums.{sum_by-cons}
+use Rattle.ix_model.specs.world.World.{Object, Open, Process, change}
 use Rattle.ix_model.specs.world.Contents.{holds_nothing}
 use Rattle.ix_model.specs.world.Numbers.{first_inode, first_pipe}
 use Rattle.ix_model.specs.world.Owners.{is_at}
@@ -16,20 +15,18 @@ use Rattle.ix_model.specs.opening.Opening as opening
 use Rattle.ix_model.specs.opening.Valid.{fs_fits}
 use Rattle.ix_model.specs.declared.config.Config.{Config}
 use Rattle.ix_model.specs.declared.config.FsSpec.{FsSpec}
-use Rattle.ix_model.specs.declared.config.Limits.{Limits}
 use Rattle.ix_model.specs.declared.config.ProcSpec.{ProcSpec}
 use Rattle.ix_model.proofs.opening.Bare.{roots, length-roots}
-use Rattle.ix_model.proofs.opening.Validity.{Valid}
-use Rattle.ix_inode.specs.Nodes.{Nodes, bare, opened}
+use Rattle.ix_inode.specs.Nodes.{bare, opened}
 use Rattle.ix_inode.specs.Shown.{new_node}
 use Rattle.ix_inode.specs.declared.node.Node.{Node}
 use Rattle.ix_name.specs.Directories.{Directories}
 use Rattle.ix_open.specs.Table.{OpenTable, none_open}
 use Rattle.ix_pipe.specs.Pipe.{Pipe}
-use Rattle.ix_tables.specs.Parts.{Parts, named_by, owners_of, homes_of, parts_of}
+use Rattle.ix_tables.specs.Parts.{named_by, owners_of, homes_of, parts_of}
 use Rattle.ix_tables.specs.Joined.{object_of, objects_of, object_of_pipe, holding_of_bytes, holding_of_pipe, all_objects, all_holdings, joined}
 use Rattle.ix_tables.specs.Opening.{roots_named, homes_at_first}
-use Rattle.ix_tables.proofs.Joining.{Lists, names_at}
+use Rattle.ix_tables.proofs.Naming.{sum_more}
 use Rattle.ix_tables.proofs.Renaming.{objects_named}
 
 map_repeated : {A B : Type 0} (f : A → B) (n : ℕ) (x : A) → map f (replicate n x) ≡ replicate n (f x)
@@ -69,9 +66,6 @@ none_at e (suc n) = omega (arith, sum_by-cons (λ (d : Option ℕ). cond {A = �
 
 abbrev started : List ProcSpec → List (Option Process)
 started ps = map (λ p. Some (process_of p)) ps
-
-sum_more : {X : Type 0} (f : X → ℕ) (x : X) (xs : List X) → sum (map f (x ∷ xs)) ≡ f x + sum (map f xs)
-sum_more f x xs = sum-map f (x ∷ xs) ∙ sum_by-cons f x xs ∙ ap (λ n. f x + n) (sym (sum-map f xs))
 
 nobody_owns : (e : ℕ) (ps : List ProcSpec) → sum (map (named_by e) (started ps)) ≡ 0
 nobody_owns e [] = refl

@@ -1,5 +1,5 @@
 -- The tables before any object line are joined as they have to be.
-use Rattle.std.proofs.Common.{◌≡◌, ◌+◌, ◌-◌, ◌<◌, ◌≤◌, ◌==◌, ◌^◌, ◌&&◌, ℕ, zero, suc, Bool, true, false, nat_le, List, [], ◌∷◌, ◌++◌, length, map, sum, drop, replicate, count_by, set, Option, Some, None, option_map, refl, sym, ap, ◌∙◌, subst, arith, length-set, length-append, append-nil, get_or-set_other, inl, inr}
+use Rattle.std.proofs.Common.{◌≡◌, ◌+◌, ◌<◌, ◌≤◌, ◌==◌, ◌&&◌, ℕ, zero, suc, Bool, true, false, nat_le, List, [], ◌∷◌, length, map, sum, drop, replicate, count_by, set, Option, Some, None, option_map, refl, sym, ap, ◌∙◌, subst, arith, length-set, append-nil, get_or-set_other, inl, inr}
 use Rattle.std.specs.Option.{option_map_or}
 use Rattle.std.specs.List.{list_all}
 use Rattle.std.proofs.Math.ListN.{get_or-map}
@@ -15,18 +15,16 @@ use Rattle.ix_model.specs.opening.Valid.{fs_fits, fss_fit, limits_fit, procs_fit
 use Rattle.ix_model.specs.declared.config.Config.{Config}
 use Rattle.ix_model.specs.declared.config.FsSpec.{FsSpec}
 use Rattle.ix_model.specs.declared.config.Limits.{Limits}
-use Rattle.ix_model.specs.declared.reply.Kind.{Kind}
-use Rattle.ix_model.specs.declared.reply.Kind.TheVariants as kind
-use Rattle.ix_model.proofs.tables.Inodes.{first-cons, first_next, first_within}
+use Rattle.ix_model.proofs.tables.Inodes.{first-cons, first_within}
 use Rattle.ix_model.proofs.opening.Bare.{first_fits, some_inodes, roots, root_at, is_root}
 use Rattle.ix_model.proofs.opening.Mounts.{length-mounts, mounts_once, mount_at}
 use Rattle.ix_model.proofs.opening.Openings.{all_one}
-use Rattle.ix_model.proofs.opening.Validity.{FssFit, Valid, valid_parts}
+use Rattle.ix_model.proofs.opening.Validity.{FssFit, valid_parts}
 use Rattle.ix_inode.specs.Nodes.{Nodes, bare, opened, are_within}
 use Rattle.ix_inode.specs.Shown.{kind_of}
 use Rattle.ix_inode.specs.declared.node.Node.{Node}
-use Rattle.ix_name.specs.Directories.{Directories, names_of}
-use Rattle.ix_open.specs.Table.{OpenTable, none_open}
+use Rattle.ix_name.specs.Directories.{Directories}
+use Rattle.ix_open.specs.Table.{OpenTable}
 use Rattle.ix_pipe.specs.Pipe.{Pipe}
 use Rattle.ix_tables.specs.Joined.{object_of, names_in, names_for, HasLinks, HasNames, AreJoined}
 use Rattle.ix_tables.proofs.Joining.{Lists, names_at}
@@ -77,9 +75,6 @@ over_first f n names none some =
 module _ (fss : List FsSpec) (fit : list_all fs_fits fss ≡ true) (some : 0 < length fss) where
   at_bare : (o : ℕ) → at (roots 0 fss 0) o ≡ option_map (object_of []) (at (bare 0 fss) o)
   at_bare o = ap (λ (os : List (Option Object)). at os o) (append-nil (opening.bare 0 fss) ∙ sym (bare_as 0 fss)) ∙ get_or-map (option_map (object_of [])) (bare 0 fss) o None
-
-  is_dir_kind : Kind → Bool
-  is_dir_kind k = elim k [ kind.Dir ↦ true | _ ↦ false ]
 
   dirs : (o : ℕ) (x : Node) → at (bare 0 fss) o ≡ Some x → x.dir ≡ true
   dirs o x is =

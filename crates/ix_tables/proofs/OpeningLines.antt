@@ -1,18 +1,16 @@
 -- One object line more.
-use Rattle.std.proofs.Common.{◌≡◌, ◌≢◌, ◌+◌, ◌-◌, ◌<◌, ◌≤◌, ◌==◌, ℕ, zero, suc, Bool, true, false, not, nat_lt, nat_le, ◌&&◌, List, [], ◌∷◌, ◌++◌, length, take, drop, replicate, Option, Some, None, option_map, unwrap_or, slice_get, slice_set, slice_index_or, if◌then◌else◌, refl, sym, ap, ◌∙◌, subst, arith, inl, inr, append-nil}
+use Rattle.std.proofs.Common.{◌≡◌, ◌≢◌, ◌+◌, ◌-◌, ◌<◌, ◌≤◌, ◌==◌, ℕ, zero, suc, Bool, true, false, not, nat_lt, nat_le, ◌&&◌, List, [], ◌∷◌, ◌++◌, length, take, drop, replicate, Option, Some, None, unwrap_or, slice_get, slice_set, slice_index_or, if◌then◌else◌, refl, sym, ap, ◌∙◌, subst, arith, inl, inr, append-nil}
 use Rattle.std.specs.Option.{option_map_or, option_and_then}
 use Rattle.std.proofs.lemmas.List.{set-set}
 use Rattle.std.proofs.lemmas.Bool.Decides.{nat_tests, eqb_tells}
-use Rattle.ix_label.specs.Category.{leq}
-use Rattle.ix_model.specs.world.World.{Object, Holding, at, put, change, fs_at, ceiling_of, is_dir, is_file, is_pipe}
+use Rattle.ix_model.specs.world.World.{Object, Holding, at, put, change, fs_at, is_dir}
 use Rattle.ix_model.specs.world.Contents.{holds_nothing, with_side, spliced}
 use Rattle.ix_model.specs.world.Directories.{with_name}
 use Rattle.ix_model.specs.world.Naming.{last_name}
 use Rattle.ix_model.specs.rows.Walks.{node, nothing, child}
 use Rattle.ix_model.specs.rows.OnPaths.{new_object}
 use Rattle.ix_model.specs.rows.Telling.{blocks_for, blocks_where, blocks_on, lies_on, fs_of_object}
-use Rattle.ix_model.specs.opening.Opening.{object_of, directory_of}
-use Rattle.ix_model.specs.declared.privs.PrivSet.{PrivSet}
+use Rattle.ix_model.specs.opening.Opening.{directory_of}
 use Rattle.ix_model.specs.declared.config.ObjSpec.{ObjSpec}
 use Rattle.ix_model.proofs.tables.Tables.{change_twice}
 use Rattle.ix_model.proofs.tables.Blocks.{blocks_edit}

@@ -1,12 +1,11 @@
 -- How many inodes there are, and the names of the further file systems.
-use Rattle.std.proofs.Common.{◌≡◌, ◌+◌, ◌-◌, ◌*◌, ◌<◌, ◌≤◌, ◌||◌, ◌&&◌, ℕ, zero, suc, Bool, true, false, not, nat_lt, List, [], ◌∷◌, ◌++◌, length, map, take, drop, replicate, find, set, get_or, Option, Some, None, option_map, if◌then◌else◌, refl, sym, ap, ◌∙◌, arith, length-set}
-use Rattle.std.specs.List.{list_any, list_all}
-use Rattle.std.proofs.lemmas.Bool.{and_parts, or_parts, cond-false}
-use Rattle.std.proofs.lemmas.Bool.Decides.{nat_tests}
-use Rattle.std.proofs.lemmas.List.{get_or-set_same, set-set, length-replicate, take_all, length-drop}
+use Rattle.std.proofs.Common.{◌≡◌, ◌+◌, ◌-◌, ◌*◌, ◌<◌, ◌≤◌, ℕ, zero, suc, Bool, true, false, not, List, [], ◌∷◌, ◌++◌, length, map, take, drop, replicate, find, set, get_or, Some, None, option_map, refl, sym, ap, ◌∙◌, arith}
+use Rattle.std.specs.List.{list_any}
+use Rattle.std.proofs.lemmas.Bool.{and_parts, or_parts, not-true, cond-false}
+use Rattle.std.proofs.lemmas.List.{get_or-set_same, get_or_read, set-set, length-replicate, take_all, length-drop}
 use Rattle.ix_model.specs.world.World.{fs_at}
 use Rattle.ix_model.specs.world.Naming.{same_bytes}
-use Rattle.ix_model.specs.world.Numbers.{first_inode, first_pipe}
+use Rattle.ix_model.specs.world.Numbers.{first_inode}
 use Rattle.ix_model.specs.opening.Opening.{mounts}
 use Rattle.ix_model.specs.opening.Valid.{all_differ}
 use Rattle.ix_model.specs.declared.config.FsSpec.{FsSpec}
@@ -21,21 +20,11 @@ pub record AreCounted (fss : List FsSpec) (k n : ℕ) : Type 0 where
   pub is : n ≡ first_inode fss k
   pub low : n ≤ k * 65536
 
--- a file system that was read
-read_is : (fss : List FsSpec) (k : ℕ) (s : FsSpec) → k < length fss → s ≡ get_or fss k s → s ≡ fs_at fss k
-read_is [] k s low is = absurd (omega (arith, low))
-read_is (x ∷ fss) zero s low is = is
-read_is (x ∷ fss) (suc k) s low is = read_is fss k s (omega (arith, low)) is
-
 -- ---- the names of the first so many of further file systems
 any_at : (p : List ℕ → Bool) (ms : List FsSpec) (k : ℕ) (s : FsSpec) → list_any p (map (λ m. m.name) ms) ≡ false → k < length ms → s ≡ get_or ms k s → p s.name ≡ false
 any_at p [] k s none low is = absurd (omega (arith, low))
 any_at p (m ∷ ms) zero s none low is = ap (λ (x : FsSpec). p x.name) is ∙ (or_parts (p m.name) (list_any p (map (λ (x : FsSpec). x.name) ms)) none).0
 any_at p (m ∷ ms) (suc k) s none low is = any_at p ms k s (or_parts (p m.name) (list_any p (map (λ (x : FsSpec). x.name) ms)) none).1 (omega (arith, low)) is
-
-opposite : (b : Bool) → not b ≡ true → b ≡ false
-opposite true h = sym h
-opposite false h = refl
 
 -- none of them has the name of the next
 absent_so_far : (n : ℕ) (ms : List FsSpec) (k : ℕ) (s : FsSpec) → all_differ (map (λ m. m.name) ms) ≡ true → k < length ms → s ≡ get_or ms k s → under s.name (mounts n (take k ms)) ≡ None
@@ -43,7 +32,7 @@ absent_so_far n [] k s differ low is = absurd (omega (arith, low))
 absent_so_far n (m ∷ ms) zero s differ low is = refl
 absent_so_far n (m ∷ ms) (suc k) s differ low is =
     let p = and_parts (not (list_any (same_bytes m.name) (map (λ (x : FsSpec). x.name) ms))) (all_differ (map (λ (x : FsSpec). x.name) ms)) differ in
-    let other : same_bytes m.name s.name ≡ false = any_at (same_bytes m.name) ms k s (opposite _ p.0) (omega (arith, low)) is in
+    let other : same_bytes m.name s.name ≡ false = any_at (same_bytes m.name) ms k s (not-true _ p.0) (omega (arith, low)) is in
     ap (option_map (λ (e : List ℕ × ℕ). e.1)) (cond-false (same_bytes m.name s.name) (Some (m.name, n)) (find (λ e. same_bytes e.0 s.name) (mounts (n + m.inodes) (take k ms))) other)
     ∙ absent_so_far (n + m.inodes) ms k s p.1 (omega (arith, low)) is
 
@@ -74,16 +63,10 @@ set_empty : (inodes : ℕ) → set (replicate {A = List (List ℕ × ℕ)} inode
 set_empty zero = refl
 set_empty (suc n) = refl
 
-module _ (entries inodes : ℕ) (fss rest : List FsSpec) (k root : ℕ) (names : Directories) (s : FsSpec) (within : are_within fss ≡ true) (differ : all_differ (map (λ s. s.name) fss) ≡ true) (enough : length fss ≤ entries) (some : 0 < inodes)
+module _ (entries inodes : ℕ) (fss rest : List FsSpec) (k root : ℕ) (names : Directories) (s : FsSpec) (within : are_within fss ≡ true) (differ : all_differ (map (λ s. s.name) fss) ≡ true) (some : 0 < inodes)
     (so : AreNamed entries inodes fss rest k root names) (low : k < length rest) (is : s ≡ get_or rest k s) where
   abbrev lists : List (List (List ℕ × ℕ))
   lists = set (replicate inodes []) 0 (mounts (first_inode fss 1) (take k rest))
-
-  long : length lists ≡ inodes
-  long = length-set (replicate inodes []) 0 (mounts (first_inode fss 1) (take k rest)) ∙ length-replicate {A = List (List ℕ × ℕ)} inodes []
-
-  pub in_lists : 0 < length names.lists
-  in_lists = omega (arith, ap (λ (n : Directories). length n.lists) so.named, long, some)
 
   at_root : names_of (named_so_far entries inodes (first_inode fss 1) rest k) 0 ≡ mounts (first_inode fss 1) (take k rest)
   at_root = get_or-set_same (replicate inodes []) 0 (mounts (first_inode fss 1) (take k rest)) [] (omega (arith, length-replicate {A = List (List ℕ × ℕ)} inodes [], some))
@@ -95,12 +78,6 @@ module _ (entries inodes : ℕ) (fss rest : List FsSpec) (k root : ℕ) (names :
 
   rest_long : length rest ≡ length fss - 1
   rest_long = ap length so.further ∙ length-drop 1 fss
-
-  pub has_entry : nat_lt 0 names.free ≡ true
-  has_entry =
-      let free : names.free ≡ entries - k = ap (λ (n : Directories). n.free) so.named in
-      let more : 0 < names.free = omega (arith, free, rest_long, low, enough) in
-      grind (arith, nat_tests, more)
 
   small : s.inodes ≤ 65536
   small =
@@ -114,10 +91,10 @@ module _ (entries inodes : ℕ) (fss rest : List FsSpec) (k root : ℕ) (names :
   pub few : root + s.inodes ≤ 1114112
   few = omega (arith, so.low, small, within_few fss within, rest_long, low)
 
-  pub named_more : (after : Directories) → after ≡ (if nat_lt 0 names.free then with_more 0 s.name root names else names) → AreNamed entries inodes fss rest (k + 1) (root + s.inodes) after
+  pub named_more : (after : Directories) → after ≡ with_more 0 s.name root names → AreNamed entries inodes fss rest (k + 1) (root + s.inodes) after
   named_more after added = record {
     further = so.further;
-    named = added ∙ ap (λ b. if b then with_more 0 s.name root names else names) has_entry ∙ more;
+    named = added ∙ more;
     next = omega (arith, so.next, one_more, ap (first_inode rest) up);
     low = omega (arith, so.low, small);
   }
@@ -126,7 +103,9 @@ module _ (entries inodes : ℕ) (fss rest : List FsSpec) (k root : ℕ) (names :
       up = omega arith
 
       one_more : first_inode rest (suc k) ≡ first_inode rest k + s.inodes
-      one_more = omega (arith, first_next rest k, ap (λ (t : FsSpec). t.inodes) (read_is rest k s low is))
+      one_more =
+          let read : s ≡ fs_at rest k = get_or_read rest k s low is _ in
+          omega (arith, first_next rest k, ap (λ (t : FsSpec). t.inodes) read)
 
       more : with_more 0 s.name root names ≡ named_so_far entries inodes (first_inode fss 1) rest (k + 1)
       more =

@@ -25,7 +25,7 @@ use Rattle.ix_tables.proofs.Joining.{Lists, names_at, at_objects, at_inode, put_
 use Rattle.ix_tables.proofs.Counting.{Names, names_fewer, times_fewer}
 use Rattle.ix_tables.proofs.Placing.{inode_put, joined_put}
 
-objects_named : (xs : List (Option Node)) (ls : Lists) (d : ℕ) (h : Names → Names) → length ls ≡ length xs → objects_of xs (set ls d (h (names_at ls d))) ≡ change (objects_of xs ls) d (λ o. record o { names = h o.names })
+pub objects_named : (xs : List (Option Node)) (ls : Lists) (d : ℕ) (h : Names → Names) → length ls ≡ length xs → objects_of xs (set ls d (h (names_at ls d))) ≡ change (objects_of xs ls) d (λ o. record o { names = h o.names })
 objects_named [] [] d h long = refl
 objects_named [] (l ∷ ls) d h long = let none : suc (length ls) ≡ 0 = long in absurd (omega (arith, none))
 objects_named (x ∷ xs) [] d h long = let none : 0 ≡ suc (length xs) = long in absurd (omega (arith, none))

@@ -1,5 +1,5 @@
 -- How the tables come to be: before any object line, and by one line more.
-use Rattle.std.specs.Prelude.{◌≡◌, ◌+◌, ◌-◌, ◌≤◌, ◌<◌, ℕ, true, nat_lt, List, [], ◌∷◌, ◌++◌, length, take, drop, replicate, Option, Some, None, if◌then◌else◌, slice_set, unwrap_or}
+use Rattle.std.specs.Prelude.{◌≡◌, ◌+◌, ◌-◌, ◌≤◌, ◌<◌, ℕ, true, nat_lt, List, [], ◌∷◌, length, take, drop, replicate, Option, Some, None, if◌then◌else◌, slice_set, unwrap_or}
 use Rattle.ix_label.specs.Category.{leq}
 use Rattle.ix_model.specs.world.World.{World, Object, fs_at, at, put, change, is_dir}
 use Rattle.ix_model.specs.world.Directories.{with_name}

@@ -153,7 +153,7 @@ impl Tables {
 }
 
 /// A name more in a directory that hasn't it, at the end. An entry has to be free.
-fn enter(names: &mut Names, dir: u32, name: Name, n: u32)
+pub(crate) fn enter(names: &mut Names, dir: u32, name: Name, n: u32)
     requires dir { dir < length names.old.lists }
     requires absent { under name (names_of names.old dir) ≡ None }
     requires room { nat_lt 0 names.old.free ≡ true }

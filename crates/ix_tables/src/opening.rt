@@ -12,9 +12,10 @@ ghost use Rattle.ix_tables.specs.Parts.{parts_of};
 ghost use Rattle.ix_tables.specs.Meanings.{has_room};
 ghost use Rattle.ix_tables.specs.Opening.{roots_named, homes_at_first, opening_after, Leads, kind_said, as_said, with_line, HasPlace};
 
+use crate::names::enter;
 use crate::tables::Tables;
 use ix_inode::Inodes;
-use ix_model::{Config, FsSpec, Kind, Limits, Name, NoMemory, Obj, ObjSpec, Path};
+use ix_model::{Config, FsSpec, Kind, Name, NoMemory, ObjSpec, Path};
 use ix_name::Names;
 use ix_open::Opens;
 use ix_pipe::Pipes;
@@ -162,19 +163,14 @@ fn count_inodes(fss: &[FsSpec]) -> u32
     ensures few { result ≤ 1048576 }
 {
     let mut inodes = 0;
-    for (k, spec) in fss.iter().enumerate() {
+    for spec in fss {
         inodes += spec.inodes;
     }
     inodes
 }
 
 /// The names of the further file systems, in the first root.
-fn name_roots(
-    alloc: Global,
-    entries: u32,
-    inodes: u32,
-    fss: &[FsSpec],
-) -> Result<Names, NoMemory>
+fn name_roots(alloc: Global, entries: u32, inodes: u32, fss: &[FsSpec]) -> Result<Names, NoMemory>
     requires within { IsTrue (are_within fss.now) }
     requires differ { IsTrue (all_differ (map (λ s. s.name) fss.now)) }
     requires some { 0 < length fss.now }
@@ -184,11 +180,8 @@ fn name_roots(
 {
     let mut names = Names::new(alloc, entries, inodes)?;
     let mut root = fss[0].inodes;
-    for (k, spec) in fss[1..].iter().enumerate() {
-        match names.add(Obj(0), spec.name, Obj(root)) {
-            Ok(()) => (),
-            Err(_) => unreachable!(),
-        }
+    for spec in &fss[1..] {
+        enter(&mut names, 0, spec.name, root);
         root += spec.inodes;
     }
     Ok(names)

@@ -1,11 +1,10 @@
-use Rattle.std.proofs.Common.{◌≡◌, ◌+◌, ◌≤◌, ℕ, List, length, map, ap, sym, subst, ◌∙◌, arith}
-use Rattle.ix_model.specs.opening.Opening.{bare_world}
+use Rattle.std.proofs.Common.{◌≡◌, ◌+◌, ◌≤◌, ℕ, List, length, map, ap, sym, ◌∙◌, arith}
 use Rattle.ix_model.specs.opening.Valid.{all_differ}
 use Rattle.ix_model.specs.world.Numbers.{first_pipe}
 use Rattle.ix_model.specs.declared.config.FsSpec.{FsSpec}
 use Rattle.ix_model.proofs.opening.Validity.{valid_parts}
 use Rattle.ix_inode.specs.Nodes.{Nodes, are_within, opened}
-use Rattle.ix_tables.specs.Joined.{joined, AreJoined}
+use Rattle.ix_tables.specs.Joined.{joined}
 use Rattle.ix_open.specs.Table.{none_open}
 use Rattle.ix_tables.specs.Opening.{roots_named, homes_at_first}
 use Rattle.ix_tables.proofs.OpeningBare.{bare_names, bare_pipes, bare_opens, bare_homes, bare_view}
