@@ -143,6 +143,9 @@ object_is w b d k o dir fs vacant =
     ∙ ap (λ j. option_map_or (placed w b d j) (free_inode w.frame j) w) fs
     ∙ ap (λ x. option_map_or (placed w b d k) x w) vacant
 
+line_after : (w : World) (b : ObjSpec) (d k o : ℕ) → length (placed w b d k o).frame.objects ≡ length w.frame.objects → with_object w b ≡ placed w b d k o → with_line b d k o (parts_of w) ≡ parts_of (with_object w b)
+line_after w b d k o long is = (λ i. record (with_line b d k o (parts_of w)) { homes = homes_of (sym long i) w.frame.processes }) ∙ ap parts_of (sym is)
+
 within_fss : (fss : List FsSpec) (k : ℕ) → 1 ≤ (fs_at fss k).inodes → k < length fss
 within_fss [] zero some = absurd (omega (arith, some))
 within_fss [] (suc k) some = absurd (omega (arith, some))
@@ -184,9 +187,7 @@ goes_built c before t hs b r fits =
       short = line.short;
       blocks = omega (arith, blocks, line.blocks);
     } in
-    let homes : homes_of (length t) w.frame.processes ≡ homes_of (length (placed w b home.number k o).frame.objects) w.frame.processes = ap (λ (n : ℕ). homes_of n w.frame.processes) (sym (length-after t b o home.number k p)) in
-    let after : with_line b home.number k o (parts_of w) ≡ parts_of (with_object w b) =
-    (λ i. record (with_line b home.number k o (parts_of w)) { homes = homes i }) ∙ ap parts_of (sym (object_is w b home.number k o at_dir fs vacant)) in
+    let after = line_after w b home.number k o (length-after t b o home.number k p) (object_is w b home.number k o at_dir fs vacant) in
     goes_by b (parts_of w) (parts_of (with_object w b)) home.number k o way at_dir fs vacant place after
 
 -- each line goes into the tables after those before it
