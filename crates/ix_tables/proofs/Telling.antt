@@ -1,0 +1,70 @@
+-- What is told of the objects that inodes and pipes make.
+use Rattle.std.proofs.Common.{◌≡◌, ◌+◌, ◌-◌, ◌<◌, false, IfSome, ℕ, List, length, Option, Some, None, is_some, option_map, unwrap_or, refl, sym, ap, subst, ◌∙◌, arith}
+use Rattle.ix_label.specs.Category.{Categories, top}
+use Rattle.ix_model.proofs.tables.Finds.{in_table}
+use Rattle.ix_model.specs.world.World.{Object, at}
+use Rattle.ix_model.specs.rows.Walks.{node, nothing}
+use Rattle.ix_model.specs.declared.reply.Kind.TheVariants as kind
+use Rattle.ix_model.specs.declared.privs.PrivSet.{PrivSet}
+use Rattle.ix_inode.specs.Nodes.{Nodes, told_at}
+use Rattle.ix_inode.specs.declared.node.Inode.{Inode}
+use Rattle.ix_inode.specs.declared.node.Node.{Node}
+use Rattle.ix_name.specs.Directories.{Directories, names_of}
+use Rattle.ix_pipe.specs.Pipe.{Pipe}
+use Rattle.ix_tables.specs.Joined.{object_of, object_of_pipe, all_objects}
+use Rattle.ix_tables.specs.Meanings.{Shows, object_by}
+use Rattle.ix_tables.specs.declared.row.ObjectRow.{ObjectRow}
+use Rattle.ix_tables.proofs.Joining.{at_inode, at_pipe}
+
+-- what stands is told
+pub shows_node : (objects : List (Option Object)) (n : ℕ) (x : ObjectRow) → Shows objects n (Some x) → node objects n ≡ object_by (node objects n) x
+shows_node objects n x shows = ap (λ (o : Option Object). unwrap_or o nothing) shows
+
+pub shows_within : (objects : List (Option Object)) (n : ℕ) (r : Option ObjectRow) → Shows objects n r → IfSome r (λ x. n < length objects)
+shows_within objects n None shows = tt
+shows_within objects n (Some x) shows = in_table objects n (object_by (node objects n) x) shows
+
+-- a row of the same object is told where the object is
+told : (objects : List (Option Object)) (n : ℕ) (o : Object) (x : ObjectRow) → at objects n ≡ Some o → o ≡ object_by o x → Shows objects n (Some x)
+told objects n o x here same = here ∙ ap Some same ∙ ap (λ (p : Option Object). Some (object_by (unwrap_or p nothing) x)) (sym here)
+
+-- an inode's row
+abbrev pub row_of : Inode → ObjectRow
+row_of x = record { kind = x.kind; fs = Some x.fs; float = x.float; cap = x.cap; lic = x.lic; links = x.links; size = x.size }
+
+-- a pipe's row
+abbrev row_of_pipe : Categories → PrivSet → PrivSet → ObjectRow
+row_of_pipe label cap lic = record { kind = kind.Pipe; fs = None; float = record { label = label; ceiling = top; frozen = false }; cap = cap; lic = lic; links = 0; size = 0 }
+
+module _ (nodes : Nodes) (names : Directories) (pipes : List (Option Pipe)) (objects : List (Option Object)) (view : all_objects nodes names pipes ≡ objects) where
+  pub inode_shows : (n : ℕ) (r : Option Inode) → n < length nodes.nodes → r ≡ option_map (told_at n nodes) (at nodes.nodes n) → Shows objects n (option_map row_of r)
+  inode_shows n r low is = subst (λ (s : Option Inode). Shows objects n (option_map row_of s)) (sym is) (go (at nodes.nodes n) refl)
+    where
+      here : (x : Option Node) → at nodes.nodes n ≡ x → at objects n ≡ option_map (object_of (names_of names n)) x
+      here x e = ap (λ t. at t n) (sym view) ∙ at_inode nodes names pipes n low ∙ ap (option_map (object_of (names_of names n))) e
+
+      go : (x : Option Node) → at nodes.nodes n ≡ x → Shows objects n (option_map row_of (option_map (told_at n nodes) x))
+      go None e = here None e
+      go (Some x) e = told objects n (object_of (names_of names n) x) (row_of (told_at n nodes x)) (here (Some x) e) refl
+
+  behind : (p : ℕ) → at objects (length nodes.nodes + p) ≡ option_map object_of_pipe (at pipes p)
+  behind p =
+      ap (λ t. at t (length nodes.nodes + p)) (sym view) ∙ at_pipe nodes names pipes (length nodes.nodes) (length nodes.nodes + p) refl (omega arith)
+      ∙ ap (λ k. option_map object_of_pipe (at pipes k)) (let back : length nodes.nodes + p - length nodes.nodes ≡ p = omega arith in back)
+
+  pub pipe_shows : (p : ℕ) (label : Categories) (c l : PrivSet) → option_map (λ q. q.label) (at pipes p) ≡ Some label → c.0 ≡ 0 → l.0 ≡ 0 → Shows objects (length nodes.nodes + p) (Some (row_of_pipe label c l))
+  pipe_shows p label c l is none none2 = go (at pipes p) refl is
+    where
+      go : (x : Option Pipe) → at pipes p ≡ x → option_map (λ q. q.label) x ≡ Some label → Shows objects (length nodes.nodes + p) (Some (row_of_pipe label c l))
+      go None e h = cc
+      go (Some q) e h =
+          let same : q.label ≡ label = cc in
+          told objects (length nodes.nodes + p) (object_of_pipe q) (row_of_pipe label c l) (behind p ∙ ap (option_map object_of_pipe) e)
+          (λ i. record (object_of_pipe q) { label = same i; cap = record { 0 = sym none i }; lic = record { 0 = sym none2 i } })
+
+  pub no_pipe_shows : (p : ℕ) → is_some (at pipes p) ≡ false → at objects (length nodes.nodes + p) ≡ None
+  no_pipe_shows p dead = behind p ∙ go (at pipes p) dead
+    where
+      go : (x : Option Pipe) → is_some x ≡ false → option_map object_of_pipe x ≡ None
+      go None h = refl
+      go (Some q) h = cc

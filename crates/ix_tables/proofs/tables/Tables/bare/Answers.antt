@@ -1,0 +1,74 @@
+use Rattle.std.proofs.Common.{◌≡◌, ◌+◌, ◌≤◌, ℕ, List, length, map, ap, sym, ◌∙◌, arith}
+use Rattle.ix_model.specs.opening.Valid.{all_differ}
+use Rattle.ix_model.specs.world.Numbers.{first_pipe}
+use Rattle.ix_model.specs.declared.config.FsSpec.{FsSpec}
+use Rattle.ix_model.proofs.opening.Validity.{valid_parts}
+use Rattle.ix_inode.specs.Nodes.{Nodes, are_within, opened}
+use Rattle.ix_tables.specs.Joined.{joined}
+use Rattle.ix_open.specs.Table.{none_open}
+use Rattle.ix_tables.specs.Opening.{roots_named, homes_at_first}
+use Rattle.ix_tables.proofs.OpeningBare.{bare_names, bare_pipes, bare_opens, bare_homes, bare_view}
+use Rattle.ix_tables.proofs.OpeningJoined.{fss_within, some_inode, bare_joined, first_is, joined_as}
+use Rattle.ix_tables.proofs.tables.Tables.bare.Goals as goal
+
+pub count_inodes-first_pipe-requires : goal.count_inodes-first_pipe-requires
+count_inodes-first_pipe-requires c = ap are_within c.as_slice-fss.ensures ∙ fss_within c.args.config.now.fss (valid_parts c.args.config.now c.requires).fss
+
+pub overflow_add-objects : goal.overflow_add-objects
+overflow_add-objects c = omega (arith, c.count_inodes-first_pipe.ensures.few, (valid_parts c.args.config.now c.requires).limits.pipes)
+
+pub new-requires : goal.new-requires
+new-requires c = ap are_within c.as_slice-fss.ensures ∙ fss_within c.args.config.now.fss (valid_parts c.args.config.now c.requires).fss
+
+pub name_roots-requires-clause-within : goal.name_roots-requires-clause-within
+name_roots-requires-clause-within c = ap are_within c.as_slice-fss.ensures ∙ fss_within c.args.config.now.fss (valid_parts c.args.config.now c.requires).fss
+
+pub name_roots-requires-clause-differ : goal.name_roots-requires-clause-differ
+name_roots-requires-clause-differ c = ap (λ (fss : List FsSpec). all_differ (map (λ s. s.name) fss)) c.as_slice-fss.ensures ∙ (valid_parts c.args.config.now c.requires).fss.differ
+
+pub name_roots-requires-clause-some : goal.name_roots-requires-clause-some
+name_roots-requires-clause-some c = omega (arith, ap length c.as_slice-fss.ensures, (valid_parts c.args.config.now c.requires).fss.some)
+
+pub name_roots-requires-clause-entries : goal.name_roots-requires-clause-entries
+name_roots-requires-clause-entries c = omega (arith, ap length c.as_slice-fss.ensures, (valid_parts c.args.config.now c.requires).fss.few, (valid_parts c.args.config.now c.requires).limits.names)
+
+pub name_roots-requires-clause-inodes : goal.name_roots-requires-clause-inodes
+name_roots-requires-clause-inodes c =
+    let v = valid_parts c.args.config.now c.requires in
+    omega (arith, c.count_inodes-first_pipe.ensures.inodes, ap first_pipe c.as_slice-fss.ensures, some_inode c.args.config.now.fss v.fss.each v.fss.some)
+
+pub overflow_cast-len : goal.overflow_cast-len
+overflow_cast-len c =
+    let v = valid_parts c.args.config.now c.requires in
+    omega (arith, c.len.ensures, v.procs.few, v.limits.procs)
+
+pub homes_of-requires : goal.homes_of-requires
+homes_of-requires c =
+    let v = valid_parts c.args.config.now c.requires in
+    omega (arith, c.count_inodes-first_pipe.ensures.inodes, ap first_pipe c.as_slice-fss.ensures, some_inode c.args.config.now.fss v.fss.each v.fss.some)
+
+pub invariant_of-result : goal.invariant_of-result
+invariant_of-result c =
+    let fss = c.as_slice-fss.ensures in
+    let first = c.count_inodes-first_pipe.ensures.inodes ∙ ap first_pipe fss in
+    let limits = c.args.config.now.limits in
+    let nodes : c.in_ok-new.field-0 ≡ opened c.args.config.now.fss = c.in_ok-new.ensures ∙ ap opened fss in
+    let names : c.in_ok-name_roots.field-0 ≡ bare_names c.args.config.now = c.in_ok-name_roots.ensures ∙ (λ i. roots_named limits.names (first i) (fss i)) in
+    let pipes : c.in_ok-new-2.field-0 ≡ bare_pipes c.args.config.now = c.in_ok-new-2.ensures in
+    let opens : c.in_ok-new-3.field-0 ≡ bare_opens c.args.config.now = c.in_ok-new-3.ensures ∙ ap (λ (n : ℕ). none_open limits.opens (n + limits.pipes)) first in
+    let homes : c.in_ok-homes_of.field-0.items ≡ bare_homes c.args.config.now = c.in_ok-homes_of.ensures ∙ (λ i. homes_at_first (first i + limits.pipes) (c.len.ensures i)) in
+    let few : first_pipe c.args.config.now.fss ≤ 1048576 = omega (arith, first, c.count_inodes-first_pipe.ensures.few) in
+    (joined_as c.args.config.now _ _ _ _ _ nodes names pipes opens homes (bare_joined c.args.config.now c.requires few), first ∙ first_is c.args.config.now c.requires ∙ ap (λ (ns : Nodes). length ns.nodes) (sym nodes))
+
+pub returns : goal.returns
+returns c =
+    let fss = c.as_slice-fss.ensures in
+    let first = c.count_inodes-first_pipe.ensures.inodes ∙ ap first_pipe fss in
+    let limits = c.args.config.now.limits in
+    let nodes : c.in_ok-new.field-0 ≡ opened c.args.config.now.fss = c.in_ok-new.ensures ∙ ap opened fss in
+    let names : c.in_ok-name_roots.field-0 ≡ bare_names c.args.config.now = c.in_ok-name_roots.ensures ∙ (λ i. roots_named limits.names (first i) (fss i)) in
+    let pipes : c.in_ok-new-2.field-0 ≡ bare_pipes c.args.config.now = c.in_ok-new-2.ensures in
+    let opens : c.in_ok-new-3.field-0 ≡ bare_opens c.args.config.now = c.in_ok-new-3.ensures ∙ ap (λ (n : ℕ). none_open limits.opens (n + limits.pipes)) first in
+    let homes : c.in_ok-homes_of.field-0.items ≡ bare_homes c.args.config.now = c.in_ok-homes_of.ensures ∙ (λ i. homes_at_first (first i + limits.pipes) (c.len.ensures i)) in
+    let v = valid_parts c.args.config.now c.requires in
+    (λ i. joined limits (nodes i) (names i) (pipes i) (opens i) (homes i)) ∙ bare_view c.args.config.now v.fss.each (some_inode c.args.config.now.fss v.fss.each v.fss.some)

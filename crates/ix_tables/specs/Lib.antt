@@ -1,0 +1,4 @@
+pub mod Parts
+pub mod Joined
+pub mod Meanings
+pub mod Opening
