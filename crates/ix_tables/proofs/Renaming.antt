@@ -8,20 +8,18 @@ use Rattle.ix_model.proofs.tables.Finds.{in_table}
 use Rattle.ix_model.proofs.tables.Tables.{seen_changed, at_changed, change_same}
 use Rattle.ix_model.specs.rows.Walks.{node, child, nothing}
 use Rattle.ix_model.specs.declared.reply.Kind.{Kind}
+use Rattle.ix_model.specs.declared.config.Limits.{Limits}
 use Rattle.ix_model.specs.declared.reply.Kind.TheVariants as kind
-use Rattle.ix_inode.specs.Nodes.{told_at, changed}
+use Rattle.ix_inode.specs.Nodes.{told_at, changed, Nodes, with_inode}
 use Rattle.ix_inode.specs.Shown.{kind_of}
 use Rattle.ix_inode.specs.declared.node.Inode.{Inode}
-use Rattle.ix_tables.proofs.Joining.{inode_edited}
-use Rattle.ix_model.specs.declared.config.Limits.{Limits}
-use Rattle.ix_inode.specs.Nodes.{Nodes, with_inode}
 use Rattle.ix_inode.specs.declared.node.Node.{Node}
 use Rattle.ix_name.specs.Directories.{Directories, names_of, under, without, with_fewer, removed, AreDifferent}
 use Rattle.ix_open.specs.Table.{OpenTable}
 use Rattle.ix_pipe.specs.Pipe.{Pipe}
 use Rattle.ix_tables.specs.Parts.{Parts}
 use Rattle.ix_tables.specs.Joined.{object_of, objects_of, object_of_pipe, all_objects, joined, names_in, names_for, HasLinks, HasNames, AreJoined}
-use Rattle.ix_tables.proofs.Joining.{Lists, names_at, at_objects, at_inode, put_inode, directory_there, names_there}
+use Rattle.ix_tables.proofs.Joining.{inode_edited, Lists, names_at, at_objects, at_inode, put_inode, directory_there, names_there}
 use Rattle.ix_tables.proofs.Counting.{Names, names_fewer, times_fewer}
 use Rattle.ix_tables.proofs.Placing.{inode_put, joined_put}
 
