@@ -1,5 +1,5 @@
 -- What the tables show of the slab and the keys that stand behind them.
-use Rattle.std.proofs.Common.{◌≡◌, ◌<◌, ◌==◌, ◌&&◌, ◌+◌, ◌-◌, ◌^◌, ℕ, Bool, true, false, List, length, count_by, Option, Some, None, is_some, is_none, refl, sym, ap, ◌∙◌, get_or, set, option_map, subst, nat_lt, arith}
+use Rattle.std.proofs.Common.{◌≡◌, ◌<◌, ◌==◌, ◌&&◌, ◌+◌, ◌-◌, ◌^◌, ℕ, Bool, true, false, List, length, count_by, Option, Some, None, is_some, is_none, refl, sym, ap, ◌∙◌, get_or, set, option_map, subst, nat_lt, arith, IfSome}
 use Rattle.std.proofs.lemmas.List.{length-map}
 use Rattle.std.proofs.lemmas.Bool.{and_parts, eqb-true}
 use Rattle.ix_model.specs.world.World.{Open, at, lowest_free, is_on, held}
@@ -65,6 +65,11 @@ module _ (s : Slab OpenView) (keys : List (Option ℕ)) (objects : ℕ) (t : Ope
     entry_gone new n k key updates = ap (λ es. table_of es objects) (seen_released s keys index new n k key updates) ∙ tables_without objects (seen s keys) n ∙ ap (without n) view
 
   module _ (counts : List ℕ) (sure : AreCounted (seen s keys) counts objects) where
+    -- an entry is on end 0 or 1
+    pub end_shown : (n : ℕ) (o : Option OpenView) → o ≡ entry_in s (at keys n) → IfSome o (λ v. v.end < 2)
+    end_shown n None is = tt
+    end_shown n (Some v) is = sure.ends n v (at_seen s keys n ∙ sym is)
+
     pub held_shown : (o end : ℕ) → end < 2 → nat_lt 0 (get_or counts (place o end) 0) ≡ held t.opens o end
     held_shown o end within = held_is (seen s keys) counts objects sure o end within ∙ ap (λ (u : OpenTable). held u.opens o end) view
 

@@ -1,4 +1,4 @@
-ghost use Rattle.std.specs.Prelude.{◌≡◌, ℕ, ◌+◌, ◌-◌, ◌<◌, ◌==◌, ◌^◌, IsTrue, IfOk, Some, is_some, is_none, slice_index_or, count_by};
+ghost use Rattle.std.specs.Prelude.{◌≡◌, ℕ, ◌+◌, ◌-◌, ◌<◌, ◌==◌, ◌^◌, IsTrue, IfOk, IfSome, Some, is_some, is_none, slice_index_or, count_by};
 ghost use Rattle.std.proofs.Common.{option_map};
 ghost use Rattle.ix_label.specs.Category.{bottom};
 ghost use Rattle.ix_model.specs.world.World.{Open, at, lowest_free, is_on, held};
@@ -144,7 +144,8 @@ impl Opens {
 
     /// The entry of a number; `None` exactly where none stands there. One step.
     pub fn get(&self, id: u32) -> Option<OpenView>
-        ensures { result ≡ option_map (shown self.now id) (at self.now.opens id) }
+        ensures entry { result ≡ option_map (shown self.now id) (at self.now.opens id) }
+        ensures end { IfSome result (λ e. e.end < 2) }
     {
         entry_at(&self.entries, self.keys.as_slice(), id)
     }

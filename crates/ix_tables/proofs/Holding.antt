@@ -8,7 +8,8 @@ use Rattle.ix_model.specs.world.World.{Object, Holding, at, is_file}
 use Rattle.ix_model.specs.world.Contents.{holds_nothing, with_side}
 use Rattle.ix_model.specs.declared.config.Limits.{Limits}
 use Rattle.ix_inode.specs.declared.node.Node.{Node}
-use Rattle.ix_inode.specs.Nodes.{Nodes, is_file_at, bytes_at, holding}
+use Rattle.ix_inode.specs.declared.node.Inode.{Inode}
+use Rattle.ix_inode.specs.Nodes.{Nodes, is_file_at, bytes_at, told_at, holding}
 use Rattle.ix_inode.specs.Shown.{kind_of}
 use Rattle.ix_name.specs.Directories.{Directories, names_of}
 use Rattle.ix_open.specs.Table.{OpenTable}
@@ -56,6 +57,14 @@ module _ (l : Limits) (nodes : Nodes) (names : Directories) (ps : List (Option P
 
   pub bytes_there : bytes_at n nodes ≡ (slice_index_or now.holdings n holds_nothing).first
   bytes_there = ap (λ (h : Holding). h.first) (sym held_there)
+
+  -- what is told of how many there are
+  pub size_there : (r : Option Inode) → r ≡ option_map (told_at n nodes) (at nodes.nodes n) → option_map_or (λ x. x.size) r 0 ≡ length (slice_index_or now.holdings n holds_nothing).first
+  size_there r is = ap (λ (s : Option Inode). option_map_or (λ x. x.size) s 0) is ∙ go (at nodes.nodes n) refl ∙ ap (λ (bs : List ℕ). length bs) bytes_there
+    where
+      go : (x : Option Node) → at nodes.nodes n ≡ x → option_map_or (λ y. y.size) (option_map (told_at n nodes) x) 0 ≡ length (bytes_at n nodes)
+      go None e = absurd (cc (is_file_there, ap (λ (o : Option Node). option_map_or (λ y. not y.dir) o false) e))
+      go (Some x) e = refl
 
   -- other bytes in the file
   pub written_there : (h : List ℕ → List ℕ) → joined l (holding n (h (bytes_at n nodes)) nodes) names ps es hs

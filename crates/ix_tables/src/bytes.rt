@@ -20,6 +20,17 @@ impl Tables {
         self.inodes.read(Obj(n), offset, out)
     }
 
+    /// How many bytes a file holds.
+    pub fn size(&self, n: u32) -> u64
+        requires { option_map_or is_file (at self.now.objects n) false ≡ true }
+        ensures { result ≡ length (slice_index_or self.now.holdings n holds_nothing).first }
+    {
+        match self.inodes.get(Obj(n)) {
+            Some(inode) => inode.size,
+            None => 0,
+        }
+    }
+
     /// Whether a file may have a length, of at most 1,048,576: its file system has as many blocks.
     pub fn has_room(&self, n: u32, len: u64) -> bool
         requires file { option_map_or is_file (at self.now.objects n) false ≡ true }

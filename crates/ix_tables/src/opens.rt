@@ -18,6 +18,7 @@ impl Tables {
         ensures entry { option_map open_of result ≡ at self.now.opens id }
         ensures offset { IfSome result (λ e. e.at ≡ slice_index_or self.now.offsets id 0) }
         ensures owners { IfSome result (λ e. e.owners ≡ slice_index_or self.now.owners id 0) }
+        ensures end { IfSome result (λ e. e.end < 2) }
     {
         self.opens.get(id)
     }
