@@ -11,7 +11,7 @@ use Rattle.ix_model.specs.history.AuditLog.{exercises, is_answer, is_licensed, l
 use Rattle.ix_model.specs.laws.Clean.{IsClean}
 use Rattle.ix_model.specs.history.Events.{Op, Event}
 use Rattle.ix_model.specs.history.Events as op
-use Rattle.ix_model.proofs.words.Lasts.{lets_nothing_go}
+use Rattle.ix_model.proofs.words.Lasts.{lets_nothing_go, lasts_decided}
 use Rattle.ix_model.proofs.words.Answered.{step_frame}
 use Rattle.ix_model.proofs.clean.Carrying.{carried_decided}
 use Rattle.ix_model.proofs.told.Logs.{logged_run}

@@ -11,7 +11,7 @@ use Rattle.ix_model.specs.laws.Clean.{IsClean}
 use Rattle.ix_model.specs.history.Events as op
 use Rattle.ix_model.specs.declared.reply.Reply.{Reply}
 use Rattle.ix_model.specs.declared.reply.Reply.TheVariants as reply
-use Rattle.ix_core.proofs.BuiltCalls.{carried_decided}
+use Rattle.ix_model.proofs.clean.Carrying.{carried_decided}
 use Rattle.ix_core.specs.Meanings.{with_holding}
 use Rattle.ix_core.proofs.Lending.{put_lent}
 
