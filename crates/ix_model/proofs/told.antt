@@ -4,3 +4,4 @@ pub mod Touching
 pub mod Entitling
 pub mod Unmoved
 pub mod Moving
+pub mod Replies

@@ -14,3 +14,4 @@ pub mod Standing
 pub mod There
 pub mod Turns
 pub mod Constant
+pub mod Seats

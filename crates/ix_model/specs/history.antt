@@ -9,4 +9,5 @@ pub mod Freshness
 pub mod Shown
 pub mod Views
 pub mod Made
+pub mod Seats
 pub mod Systems

@@ -6,3 +6,4 @@ pub mod Laws
 pub mod CallLaws
 pub mod Privileged
 pub mod ClaimedPaths
+pub mod Replies

@@ -2,6 +2,7 @@
 ghost use Rattle.ix_model.specs.laws.ClaimedPaths.{OnlyClaimantsGetThrough, ClaimantsReadWhatClaimantsWrote};
 ghost use Rattle.ix_model.specs.laws.CallLaws.{LimitsNeverChange, RowsAskForWhatStands};
 ghost use Rattle.ix_model.specs.laws.Privileged.{TheEntitledExercise, PrivilegesChangeAsSaid};
+ghost use Rattle.ix_model.specs.laws.Replies.{RepliesFitTheirCalls};
 ghost use Rattle.ix_model.specs.laws.Laws.{
   OpeningWorldsAreSound,
   OpeningWorldsAreClean,
@@ -121,4 +122,11 @@ pub fn only_claimants_get_through()
 /// whichever pipe had its number before.
 pub fn claimants_read_what_claimants_wrote()
     ensures inside { ClaimantsReadWhatClaimantsWrote }
+{}
+
+/// In a sound world every reply to a call is a refusal, or what the call's row in the table passes, with its bounds: a
+/// descriptor is at most 31, and a read gives at most 4,096 bytes and at most as many as were asked for. A fork's number is
+/// the next pid; the law speaks of worlds in which that is below 2^32.
+pub fn replies_fit_their_calls()
+    ensures fits { RepliesFitTheirCalls }
 {}

@@ -27,11 +27,11 @@ use Rattle.ix_model.proofs.opening.Mounts.{length-mounts, mounts_names, mounts_a
 use Rattle.ix_model.proofs.opening.NamesPlaced.{sum_nothing}
 
 -- ---- the further file systems
-first_split : (fss : List FsSpec) (k : ℕ) → 0 < length fss → first_inode fss (suc k) ≡ first_inode fss 1 + first_inode (drop 1 fss) k
+pub first_split : (fss : List FsSpec) (k : ℕ) → 0 < length fss → first_inode fss (suc k) ≡ first_inode fss 1 + first_inode (drop 1 fss) k
 first_split [] k some = absurd (omega arith)
 first_split (s ∷ ms) k some = omega (arith, first-cons s ms k, first-cons s ms 0)
 
-further_fit : (fss : List FsSpec) → list_all fs_fits fss ≡ true → list_all fs_fits (drop 1 fss) ≡ true
+pub further_fit : (fss : List FsSpec) → list_all fs_fits fss ≡ true → list_all fs_fits (drop 1 fss) ≡ true
 further_fit [] fit = refl
 further_fit (s ∷ ms) fit = (and_parts (fs_fits s) (list_all fs_fits ms) fit).1
 

@@ -18,7 +18,7 @@ use Rattle.ix_model.proofs.opening.OpenedWorlds.{WorldBuilt, lines_built}
 use Rattle.ix_model.proofs.opening.OpeningSound.{sound_built}
 
 -- ---- the opening world
-bare_is_built : (c : Config) → Valid c → WorldBuilt c [] (bare_world c)
+pub bare_is_built : (c : Config) → Valid c → WorldBuilt c [] (bare_world c)
 unfolding bare_objects
 bare_is_built c v = record {
   objects = bare_table c.fss c.limits.pipes;
