@@ -4,6 +4,7 @@ pub mod FreePipes
 pub mod Holding
 pub mod Joining
 pub mod LettingGo
+pub mod Linking
 pub mod Making
 pub mod Naming
 pub mod OpeningBare

@@ -15,8 +15,9 @@ use Rattle.ix_model.specs.opening.Valid.{fs_fits, fss_fit, limits_fit, procs_fit
 use Rattle.ix_model.specs.declared.config.Config.{Config}
 use Rattle.ix_model.specs.declared.config.FsSpec.{FsSpec}
 use Rattle.ix_model.specs.declared.config.Limits.{Limits}
-use Rattle.ix_model.proofs.tables.Inodes.{first-cons, first_within}
-use Rattle.ix_model.proofs.opening.Bare.{first_fits, some_inodes, roots, root_at, is_root}
+use Rattle.ix_model.proofs.tables.Inodes.{first_within}
+use Rattle.ix_model.proofs.opening.Bare.{some_inodes, roots, root_at, is_root}
+use Rattle.ix_model.proofs.opening.BareBuilt.{first_split, further_fit}
 use Rattle.ix_model.proofs.opening.Mounts.{length-mounts, mounts_once, mount_at}
 use Rattle.ix_model.proofs.opening.Openings.{all_one}
 use Rattle.ix_model.proofs.opening.Validity.{FssFit, valid_parts}
@@ -53,14 +54,6 @@ few_names c valid =
     limits_names c.limits (and_parts (fss_fit c.fss) (limits_fit c.limits) p3.0).1
 
 -- ---- the names of the further file systems
-further_fit : (fss : List FsSpec) → list_all fs_fits fss ≡ true → list_all fs_fits (drop 1 fss) ≡ true
-further_fit [] fit = refl
-further_fit (s ∷ ms) fit = (first_fits s ms fit).1
-
-further_first : (fss : List FsSpec) (j : ℕ) → 0 < length fss → first_inode fss 1 + first_inode (drop 1 fss) j ≡ first_inode fss (suc j)
-further_first [] j some = absurd (omega (arith, some))
-further_first (s ∷ ms) j some = omega (arith, first-cons s ms j, first-cons s ms 0)
-
 nothing_in : (f : Names → ℕ) (n : ℕ) → f [] ≡ 0 → sum (map f (replicate n [])) ≡ 0
 nothing_in f zero none = refl
 nothing_in f (suc n) none = sum-map f ([] ∷ replicate n []) ∙ sum_by-cons f [] (replicate n []) ∙ (λ i. none i + (sym (sum-map f (replicate n [])) ∙ nothing_in f n none) i)
@@ -100,7 +93,7 @@ module _ (fss : List FsSpec) (fit : list_all fs_fits fss ≡ true) (some : 0 < l
   nowhere o is = elim (cases_lt 0 (count_by (λ e. e.1 == o) listed)) [
     | inl named ↦
         let r = mount_at (drop 1 fss) (first_inode fss 1) o named in
-        let here : o ≡ first_inode fss (suc r.place) = r.is ∙ further_first fss r.place some in
+        let here : o ≡ first_inode fss (suc r.place) = r.is ∙ sym (first_split fss r.place some) in
         let low : suc r.place < length fss = omega (arith, r.low, length-drop 1 fss) in
         let e : None ≡ Some (opening.root_of (0 + suc r.place)) = sym (at_bare o ∙ ap (option_map (object_of [])) is) ∙ ap (at (roots 0 fss 0)) here ∙ root_at 0 fss 0 (suc r.place) fit low in
         cc

@@ -1,5 +1,5 @@
 -- Each object line of a valid config finds its place in the tables that those before it have made.
-use Rattle.std.proofs.Common.{◌≡◌, ◌+◌, ◌<◌, ◌≤◌, ◌&&◌, ℕ, zero, suc, Bool, true, false, List, [], ◌∷◌, ◌++◌, length, take, replicate, find, Option, Some, None, option_map, unwrap_or, slice_get, refl, sym, ap, ◌∙◌, subst, arith, append_assoc, append-nil, length-append}
+use Rattle.std.proofs.Common.{◌≡◌, ◌+◌, ◌<◌, ◌≤◌, ◌&&◌, ℕ, zero, suc, Bool, true, false, List, [], ◌∷◌, ◌++◌, length, take, find, Option, Some, None, option_map, unwrap_or, slice_get, refl, sym, ap, ◌∙◌, subst, arith, append_assoc, append-nil, length-append}
 use Rattle.std.specs.Option.{option_map_or, option_and_then}
 use Rattle.std.specs.List.{list_any}
 use Rattle.std.proofs.lemmas.Bool.{and_parts, or_parts, cond-false}
@@ -7,24 +7,22 @@ use Rattle.std.proofs.lemmas.Bool.Decides.{nat_tests}
 use Rattle.std.proofs.lemmas.List.{take_all}
 use Rattle.ix_model.specs.world.World.{World, Object, Holding, at, fs_at, is_dir}
 use Rattle.ix_model.specs.world.Naming.{same_bytes, same_names, last_name}
-use Rattle.ix_model.specs.world.Contents.{holds_nothing}
 use Rattle.ix_model.specs.world.Numbers.{first_inode, free_inode}
 use Rattle.ix_model.specs.world.Owners.{names_in_all}
 use Rattle.ix_model.specs.rows.Telling.{blocks_where, lies_on}
 use Rattle.ix_model.specs.rows.Walks.{node, nothing, child}
-use Rattle.ix_model.specs.opening.Opening.{directory_of, placed, with_object, with_objects, bare_objects, bare_world, opening_world}
+use Rattle.ix_model.specs.opening.Opening.{directory_of, placed, with_object, with_objects, bare_world, opening_world}
 use Rattle.ix_model.specs.opening.Valid.{is_valid, fs_of, is_mount, blocks_taken, object_fits, objects_fit}
 use Rattle.ix_model.specs.declared.config.Config.{Config}
 use Rattle.ix_model.specs.declared.config.FsSpec.{FsSpec}
 use Rattle.ix_model.specs.declared.config.Limits.{Limits}
 use Rattle.ix_model.specs.declared.config.ObjSpec.{ObjSpec}
 use Rattle.ix_model.proofs.tables.Inodes.{first_within, free_is}
-use Rattle.ix_model.proofs.opening.Bare.{bare_table}
-use Rattle.ix_model.proofs.opening.BareBuilt.{bare_built}
 use Rattle.ix_model.proofs.opening.Built.{Built}
 use Rattle.ix_model.proofs.opening.Leading.{lead, directory_is}
 use Rattle.ix_model.proofs.opening.Lines.{parent_of, line_is, fs_of_child}
-use Rattle.ix_model.proofs.opening.OpenedWorlds.{world_with, WorldBuilt, lines_built}
+use Rattle.ix_model.proofs.sound.Reaching.{bare_is_built}
+use Rattle.ix_model.proofs.opening.OpenedWorlds.{world_with, lines_built}
 use Rattle.ix_model.proofs.opening.Placing.{Place, length-after}
 use Rattle.ix_model.proofs.opening.Validity.{Valid, valid_parts}
 use Rattle.ix_model.proofs.opening.WaysPlaced.{name_is_new}
@@ -66,15 +64,6 @@ next_is : (c : Config) (i : ℕ) (b : ObjSpec) → slice_get c.objects i ≡ Som
 next_is c i b is =
     let up : suc i ≡ i + 1 = omega arith in
     sym (ap (with_objects (bare_world c)) (take_one c.objects i b is) ∙ with_last (bare_world c) (take i c.objects) b) ∙ ap (λ (n : ℕ). opening_after n c) up
-
-bare_is_built : (c : Config) → Valid c → WorldBuilt c [] (bare_world c)
-unfolding bare_objects
-bare_is_built c v = record {
-  objects = bare_table c.fss c.limits.pipes;
-  holdings = replicate (length (bare_table c.fss c.limits.pipes)) holds_nothing;
-  is = refl;
-  built = bare_built c.fss c.limits v.fss.each v.fss.some v.fss.differ (omega (arith, v.fss.few, v.limits.names));
-}
 
 -- ---- the way to its directory
 find_nothing : {A : Type 0} (p : A → Bool) (xs : List A) → list_any p xs ≡ false → find p xs ≡ None

@@ -22,7 +22,8 @@ tests [] = refl
 tests (None ∷ t) = refl
 tests (Some x ∷ t) = ap (λ n. 1 + n) (tests t)
 
-free_by : {A B : Type 0} (t : List (Option A)) (u : List (Option B)) → map is_none t ≡ map is_none u → lowest_free t ≡ lowest_free u
+-- the lowest free number, by where nothing stands
+pub free_by : {A B : Type 0} (t : List (Option A)) (u : List (Option B)) → map is_none t ≡ map is_none u → lowest_free t ≡ lowest_free u
 free_by {A} {B} t u same =
     let long : length t ≡ length u = sym (length-map t is_none) ∙ ap length same ∙ length-map u is_none in
     let first : position_or_len is_none t ≡ position_or_len is_none u = tests t ∙ ap (position_or_len (λ b. b)) same ∙ sym (tests u) in

@@ -1,13 +1,16 @@
-ghost use Rattle.std.specs.Prelude.{◌≡◌, ◌+◌, ◌<◌, ◌==◌, ◌^◌, length, is_some, IfSome, IsTrue, Some, true, false};
+ghost use Rattle.std.specs.Prelude.{◌≡◌, ◌+◌, ◌<◌, ◌==◌, ◌^◌, length, is_some, IfSome, IsTrue, Some, true, false, if◌then◌else◌};
 ghost use Rattle.ix_label.specs.Category.{leq};
 ghost use Rattle.ix_model.specs.world.World.{at, change, ceiling_of, is_dir, is_pipe};
 ghost use Rattle.ix_model.specs.world.Numbers.{first_inode, first_pipe};
+ghost use Rattle.ix_model.specs.rows.OnPaths.{links_of};
 ghost use Rattle.ix_model.specs.rows.Walks.{node};
-ghost use Rattle.ix_tables.specs.Meanings.{Shows, object_by};
+ghost use Rattle.ix_inode.specs.Shown.{is_dir_kind};
+ghost use Rattle.ix_tables.specs.Meanings.{Shows, frame_alone, object_by};
 
 use crate::row::ObjectRow;
 use crate::tables::Tables;
 use bitflags::Flags;
+use ix_inode::Inode;
 use ix_label::Label;
 use ix_model::{Floating, Kind, Obj, PrivSet};
 
@@ -17,6 +20,7 @@ impl Tables {
     pub fn object(&self, n: u32) -> Option<ObjectRow>
         ensures object { Shows self.now.objects n result }
         ensures ceiling { IfSome result (λ x. x.float.ceiling ≡ ceiling_of self.now.fss (object_by (node self.now.objects n) x)) }
+        ensures links { IfSome result (λ x. x.links ≡ links_of (frame_alone self.now) n (object_by (node self.now.objects n) x)) }
         ensures within { IfSome result (λ x. n < length self.now.objects) }
     {
         if n >= self.first_pipe {
@@ -29,7 +33,7 @@ impl Tables {
             float: inode.float,
             cap: inode.cap,
             lic: inode.lic,
-            links: inode.links,
+            links: links_told(&inode),
             size: inode.size,
         })
     }
@@ -98,6 +102,7 @@ impl Tables {
     fn pipe(&self, pipe: u32) -> Option<ObjectRow>
         ensures pipe { Shows self.now.objects (first_pipe self.now.fss + pipe) result }
         ensures ceiling { IfSome result (λ x. x.float.ceiling ≡ ceiling_of self.now.fss (object_by (node self.now.objects (first_pipe self.now.fss + pipe)) x)) }
+        ensures links { IfSome result (λ x. x.links ≡ links_of (frame_alone self.now) (first_pipe self.now.fss + pipe) (object_by (node self.now.objects (first_pipe self.now.fss + pipe)) x)) }
     {
         if !self.pipes.lives(pipe) {
             return None;
@@ -115,5 +120,16 @@ impl Tables {
             links: 0,
             size: 0,
         })
+    }
+}
+
+/// How many names an inode is told to have: one where it is a directory.
+fn links_told(inode: &Inode) -> u32
+    ensures { result ≡ (if is_dir_kind inode.now.kind then 1 else inode.now.links) }
+{
+    match inode.kind {
+        Kind::Dir => 1,
+        Kind::File => inode.links,
+        Kind::Pipe => inode.links,
     }
 }

@@ -1,4 +1,4 @@
-ghost use Rattle.std.specs.Prelude.{◌≡◌};
+ghost use Rattle.std.specs.Prelude.{◌≡◌, length};
 
 use ix_inode::Inodes;
 use ix_model::Limits;
@@ -45,5 +45,12 @@ impl Tables {
         ensures { result.now ≡ self.now.limits }
     {
         &self.limits
+    }
+
+    /// How many numbers of objects there are: all inodes and all pipes.
+    pub fn objects(&self) -> u32
+        ensures { result ≡ length self.now.objects }
+    {
+        self.homes.len() as u32
     }
 }

@@ -1,7 +1,10 @@
-use Rattle.std.proofs.Common.{◌≡◌, ◌+◌, ◌-◌, ◌∙◌, Some, None, ap, sym, subst, arith}
+use Rattle.std.proofs.Common.{◌≡◌, ◌+◌, ◌-◌, ◌∙◌, IfSome, Some, None, ap, sym, subst, arith}
 use Rattle.ix_model.specs.world.Numbers.{first_pipe}
+use Rattle.ix_model.specs.rows.OnPaths.{links_of}
+use Rattle.ix_model.specs.rows.Walks.{node}
 use Rattle.ix_tables.specs.Parts.{Parts}
-use Rattle.ix_tables.specs.Meanings.{Shows}
+use Rattle.ix_tables.specs.Meanings.{Shows, frame_alone, object_by}
+use Rattle.ix_tables.proofs.Linking.{links_shown}
 use Rattle.ix_tables.proofs.Telling.{row_of, inode_shows, shows_within}
 use Rattle.ix_tables.proofs.tables.Tables.object.Goals as goal
 
@@ -25,3 +28,12 @@ returns-clause-object c = inode_shows c.self.inside.inodes c.self.inside.names c
 
 pub returns-clause-within : goal.returns-clause-within
 returns-clause-within c = shows_within c.args.self.now.objects c.args.n (Some (row_of c.in_ok-inode.inode)) (returns-clause-object c)
+
+pub returns-then-n-self-clause-links : goal.returns-then-n-self-clause-links
+returns-then-n-self-clause-links c =
+    let first = ap (λ (v : Parts). first_pipe v.fss) (sym c.self.view_is) ∙ c.self.invariant.0.first in
+    let same : first_pipe c.args.self.now.fss + (c.args.n - c.self.inside.first_pipe) ≡ c.args.n = omega (arith, first, c.self.invariant.1, c.if-n-self.true) in
+    subst (λ k. IfSome c.pipe.result (λ x. x.links ≡ links_of (frame_alone c.args.self.now) k (object_by (node c.args.self.now.objects k) x))) same c.pipe.ensures.links
+
+pub returns-clause-links : goal.returns-clause-links
+returns-clause-links c = c.links_told.ensures ∙ links_shown c.self.inside.limits c.self.inside.inodes c.self.inside.names c.self.inside.pipes c.self.inside.opens c.self.inside.homes.items c.args.self.now c.self.invariant.0 c.self.view_is c.args.n c.in_ok-inode.inode c.in_ok-inode.ensures.told

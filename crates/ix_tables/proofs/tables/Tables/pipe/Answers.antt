@@ -1,6 +1,7 @@
-use Rattle.std.proofs.Common.{◌∙◌, ap, sym}
+use Rattle.std.proofs.Common.{◌+◌, ◌∙◌, ap, sym, arith}
 use Rattle.ix_model.specs.world.Numbers.{first_pipe}
 use Rattle.ix_tables.specs.Parts.{Parts}
+use Rattle.ix_tables.proofs.Linking.{pipe_unnamed}
 use Rattle.ix_tables.proofs.Telling.{pipe_shows, no_pipe_shows}
 use Rattle.ix_tables.proofs.tables.Tables.pipe.Goals as goal
 
@@ -13,3 +14,8 @@ pub returns-clause-pipe : goal.returns-clause-pipe
 returns-clause-pipe c =
     let first = ap (λ (v : Parts). first_pipe v.fss) (sym c.self.view_is) ∙ c.self.invariant.0.first in
     rw first (pipe_shows c.self.inside.inodes c.self.inside.names c.self.inside.pipes c.args.self.now.objects (ap (λ (v : Parts). v.objects) c.self.view_is) c.args.pipe c.label.result c.empty.result c.empty-2.result c.label.ensures (c.empty.ensures tt) (c.empty-2.ensures tt))
+
+pub returns-clause-links : goal.returns-clause-links
+returns-clause-links c =
+    let first = ap (λ (v : Parts). first_pipe v.fss) (sym c.self.view_is) ∙ c.self.invariant.0.first in
+    pipe_unnamed c.self.inside.limits c.self.inside.inodes c.self.inside.names c.self.inside.pipes c.self.inside.opens c.self.inside.homes.items c.args.self.now c.self.invariant.0 c.self.view_is (first_pipe c.args.self.now.fss + c.args.pipe) (omega (arith, first))
