@@ -8,6 +8,7 @@ pub mod fss;
 pub mod given;
 pub mod header;
 pub mod known;
+pub mod names;
 pub mod standing;
 pub mod taken;
 pub mod tree;

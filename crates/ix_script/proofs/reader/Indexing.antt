@@ -10,8 +10,9 @@ use Rattle.std.specs.Ordering.{bool_cmp, is_eq, nat_cmp, ordering_then}
 use Rattle.std.proofs.lemmas.Cmp.{nat_list_eq_equiv}
 use Rattle.std.proofs.lemmas.Map.Text.{is_eq-slice_cmp}
 use Rattle.ix_model.specs.world.Naming.{same_bytes, same_names}
-use Rattle.ix_script.specs.reader.Indexed.{place_cmp, is_place, AreIndexed, names_cmp, site_cmp, is_site, AreSites}
+use Rattle.ix_script.specs.reader.Indexed.{bytes_cmp, AreNames, place_cmp, is_place, AreIndexed, names_cmp, site_cmp, is_site, AreSites}
 use Rattle.ix_script.specs.reader.Told.{made_there, made_dir_there}
+use Rattle.ix_script.specs.declared.before.by_bytes.ByBytes.{ByBytes}
 use Rattle.ix_script.specs.declared.before.given.Place.{Place}
 use Rattle.ix_script.specs.declared.before.tree.Made.{Made}
 use Rattle.ix_script.specs.declared.before.tree.Site.{Site}
@@ -31,6 +32,12 @@ new_or_there true true = refl
 new_or_there true false = refl
 new_or_there false true = refl
 new_or_there false false = refl
+
+-- a name more in both
+pub name_indexed : (n : ByBytes) (old new : BTreeSet ByBytes) (items : List (List ℕ)) → Updates bytes_cmp old new n true → AreNames old items → AreNames new (items ++ n.name ∷ [])
+name_indexed n old new items more was = λ q.
+    more.0 q ∙ (λ i. cond (equal_bytes n.name q.name i) true (was q i)) ∙ new_or_there (same_bytes q.name n.name) (list_any (same_bytes q.name) items)
+    ∙ sym (any_push (same_bytes q.name) items n.name)
 
 -- a place more in both
 pub place_indexed : (p : Place) (old new : BTreeSet Place) (items : List (List ℕ × List ℕ))

@@ -6,6 +6,7 @@ use Rattle.std.specs.List.{list_any}
 use Rattle.std.specs.Ordering.{bool_cmp, nat_cmp, ordering_then}
 use Rattle.std.specs.declared.cmp.Ordering.{Ordering}
 use Rattle.ix_model.specs.world.Naming.{same_bytes, same_names}
+use Rattle.ix_script.specs.declared.before.by_bytes.ByBytes.{ByBytes}
 use Rattle.ix_script.specs.declared.before.given.Place.{Place}
 use Rattle.ix_script.specs.declared.before.tree.Made.{Made}
 use Rattle.ix_script.specs.declared.before.tree.Site.{Site}
@@ -17,6 +18,14 @@ place_cmp a b = ordering_then (slice_cmp nat_cmp a.lane.name b.lane.name) (slice
 -- a name of the list in its lane
 abbrev pub is_place : Place → List ℕ × List ℕ → Bool
 is_place p n = same_bytes p.lane.name n.0 && same_bytes p.name.name n.1
+
+-- by the bytes
+abbrev pub bytes_cmp : ByBytes → ByBytes → Ordering
+bytes_cmp a b = slice_cmp nat_cmp a.name b.name
+
+-- the index has the names of the list, and no other
+abbrev pub AreNames : BTreeSet ByBytes → List (List ℕ) → Type 0
+AreNames index items = (n : ByBytes) → contains bytes_cmp index n ≡ list_any (same_bytes n.name) items
 
 -- the index has the places of the list, and no other
 abbrev pub AreIndexed : BTreeSet Place → List (List ℕ × List ℕ) → Type 0

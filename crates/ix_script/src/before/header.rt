@@ -8,6 +8,7 @@ ghost use Rattle.ix_script.specs.scripts.Scripts.{config_of};
 ghost use Rattle.ix_script.specs.declared.line.Line.{Line};
 
 use crate::before::fss::{blocks_for, fs_of};
+use crate::before::names::Names;
 use crate::before::taken::Taken;
 use crate::before::tree::{Made, Tree};
 use crate::cutting::words::is;
@@ -27,7 +28,7 @@ pub(crate) struct Header {
     /// What lines limited.
     pub whats: List<What>,
     /// The names of processes.
-    pub procs: List<Name>,
+    pub procs: Names,
     /// The directories and files.
     pub made: Tree,
     pub taken: Taken,
@@ -95,7 +96,7 @@ fn add_what(whats: &mut List<What>, line: &Line) -> Result<(), NoMemory>
     }
 }
 
-fn add_proc(procs: &mut List<Name>, line: &Line) -> Result<(), NoMemory>
+fn add_proc(procs: &mut Names, line: &Line) -> Result<(), NoMemory>
     ensures { OnOk result (procs.new ≡ procs.old ++ proc_name_told line.now) }
 {
     match line {
@@ -233,7 +234,7 @@ impl Header {
             fss,
             limits: default_limits(),
             whats: List::new(alloc),
-            procs: List::new(alloc),
+            procs: Names::new(alloc),
             made: Tree::new(alloc),
             taken: Taken::new(),
             latest: 0,

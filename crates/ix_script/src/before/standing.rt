@@ -78,7 +78,7 @@ impl Draft {
         requires told { DraftTold self.now }
         ensures { result ≡ is_known word.now (proc_names self.now.lines) }
     {
-        is_known(word, self.header.procs.as_slice())
+        self.header.procs.has(word)
     }
 
     fn opens_lane(&self, word: &[u8]) -> bool
