@@ -1,86 +1,105 @@
--- What a core's machine stands for, at first and one entry later.
-use Rattle.std.proofs.Common.{◌≡◌, ◌+◌, ◌<◌, ◌≤◌, ℕ, true, List, [], ◌∷◌, ◌++◌, length, take, drop, refl, sym, ap, ◌∙◌, subst, arith, length-append}
-use Rattle.std.specs.List.{list_all}
-use Rattle.std.proofs.Math.Seq.{take-append_seam}
-use Rattle.std.proofs.lemmas.Bool.{and_parts}
+-- What a core's machine and journal stand for, at first and one entry later.
+use Rattle.std.proofs.Common.{◌≡◌, ◌+◌, ◌*◌, ◌<◌, ◌≤◌, ◌-◌, ◌^◌, ◌&&◌, nat_le, ℕ, true, List, [], ◌∷◌, ◌++◌, length, Some, take, drop, refl, sym, ap, ◌∙◌, subst, arith}
+use Rattle.std.specs.List.{sum_by}
+use Rattle.std.proofs.lemmas.Bool.{and_parts, leb-true}
+use Rattle.std.proofs.lemmas.List.{length-map}
+use Rattle.std.proofs.Math.Seq.{take-append_seam, drop-append_seam}
+use Rattle.std.proofs.lemmas.List.Sums.{sum-map, sum_by-cons}
 use Rattle.ix_model.specs.world.World.{World}
-use Rattle.ix_model.specs.opening.Opening.{opening_world}
-use Rattle.ix_model.specs.history.Step.{step, put_front}
-use Rattle.ix_model.specs.laws.Clean.{IsClean}
+use Rattle.ix_model.specs.opening.Opening.{opening_world, process_of}
+use Rattle.ix_model.specs.history.AuditLog.{audit_log}
+use Rattle.ix_model.specs.history.Cost.{cost_of, cost_of_words, cost_of_history}
+use Rattle.ix_model.specs.history.Step.{step, run, put_front}
 use Rattle.ix_model.specs.laws.Sound.{Sound}
 use Rattle.ix_model.specs.history.Shown.{AreShown}
-use Rattle.ix_model.specs.opening.Valid.{is_valid}
+use Rattle.ix_model.specs.history.Systems.{FitsCall, LeavesRest}
+use Rattle.ix_model.specs.opening.Valid.{is_valid, fss_fit, limits_fit, procs_fit, objects_fit}
 use Rattle.ix_model.specs.history.Events.{Event}
 use Rattle.ix_model.specs.history.History.{History, world_of, next, with_entry}
 use Rattle.ix_model.specs.declared.config.Config.{Config}
 use Rattle.ix_model.specs.declared.reply.Reply.{Reply}
 use Rattle.ix_model.specs.declared.reply.Reply.TheVariants as reply
 use Rattle.ix_model.specs.declared.reply.Answer.TheVariants as answer
-use Rattle.ix_model.proofs.opening.Openings.{clean_opening}
-use Rattle.ix_model.proofs.clean.Cleaning.{clean_step}
-use Rattle.ix_model.proofs.sound.Reaching.{sound_reached}
+use Rattle.ix_model.proofs.opening.Validity.{valid_parts}
+use Rattle.ix_model.proofs.sound.Reaching.{opening_is_built, sound_reached}
+use Rattle.ix_model.proofs.told.Logs.{logged_run}
+use Rattle.ix_model.proofs.told.Replies.{replies_fit}
 use Rattle.ix_model.proofs.words.Runs.{world_of-none, world_of-push}
-use Rattle.ix_model.proofs.words.Fixed.{fixed_step}
 use Rattle.ix_iso.proofs.Hiding.{last_is_told_alike}
-use Rattle.ix_core.specs.Built.{is_built, is_flat}
+use Rattle.ix_journal.proofs.Growing.{no_cost, cost_more}
+use Rattle.ix_journal.specs.Entries.{Entries, Fits, with_event}
 use Rattle.ix_core.specs.Stepping.{StandsFor, Shows, AnswersAlike}
-use Rattle.ix_core.proofs.BuiltCalls.{built_step}
-use Rattle.ix_core.proofs.Flatness.{opening_counts}
+use Rattle.ix_core.proofs.Pids.{pids_run}
 
-pub stands_first : (c : Config) (w : World) → is_valid c ≡ true → is_flat c ≡ true → w ≡ opening_world c → StandsFor w (record { config = c; events = [] })
-stands_first c w valid flat e =
-    let counts = opening_counts c valid flat in
-    record {
-      run = e ∙ sym (world_of-none c);
-      clean = subst (λ (v : World). IsClean v) (sym e) (clean_opening c);
-      valid = valid;
-      flat = flat;
-      built = refl;
-      few = omega arith;
-      objects = subst (λ (v : World). length v.frame.objects ≤ 66560) (sym e) counts.0;
-      processes = subst (λ (v : World). length v.frame.processes ≤ 1025) (sym e) counts.1;
-      log = subst (λ (v : World). v.frame.log ≡ []) (sym e) counts.2;
-    }
+-- ---- how many pids there can be
+dear : (es : List Event) → 128 * length es ≤ sum_by (λ e. cost_of e.op) es
+unfolding cost_of
+dear [] = omega arith
+dear (e ∷ es) =
+    let cost : Event → ℕ = λ x. 128 + cost_of_words x.op in
+    omega (arith, sum_by-cons cost e es, dear es)
 
-built_more : (es : List Event) (e : Event) → list_all (λ x. is_built x.op) es ≡ true → is_built e.op ≡ true → list_all (λ x. is_built x.op) (es ++ e ∷ []) ≡ true
-built_more [] e h k = rw k refl
-built_more (x ∷ es) e h k =
-    let p = and_parts (is_built x.op) (list_all (λ x. is_built x.op) es) h in
-    rw p.0 (built_more es e p.1 k)
+pub entries_are_few : (es : List Event) (most : ℕ) → cost_of_history es ≤ most → most ≤ 870400000 → length es ≤ 6800000
+unfolding cost_of_history
+entries_are_few es most fits small = omega (arith, dear es, sum-map (λ (e : Event). cost_of e.op) es, fits, small)
 
-pub stands_next : (w v : World) (h : History) (e : Event) → StandsFor w h → is_built e.op ≡ true → length h.events < 6800000 → v ≡ (step w (length h.events + 1) e.pid e.op).world → StandsFor v (with_entry h e)
-stands_next w v h e s built few is =
-    let fixed = fixed_step w (length h.events + 1) e.pid e.op in
-    let modest = built_step w (length h.events + 1) e.pid e.op built in
-    record {
-      run = is ∙ ap (λ (u : World). (step u (length h.events + 1) e.pid e.op).world) s.run ∙ sym (world_of-push h e);
-      clean = subst (λ (u : World). IsClean u) (sym is) (clean_step w (length h.events + 1) e.pid e.op s.clean);
-      valid = s.valid;
-      flat = s.flat;
-      built = built_more h.events e s.built built;
-      few = omega (arith, length-append h.events (e ∷ []));
-      objects = subst (λ (u : World). length u.frame.objects ≤ 66560) (sym is) (omega (arith, fixed.objects, s.objects));
-      processes = subst (λ (u : World). length u.frame.processes ≤ 1025) (sym is) (omega (arith, modest.processes, s.processes));
-      log = subst (λ (u : World). u.frame.log ≡ []) (sym is) (modest.log ∙ s.log);
-    }
+pub opening_pids : (c : Config) → is_valid c ≡ true → length (opening_world c).frame.processes ≤ 1025
+opening_pids c valid =
+    let v = valid_parts c valid in
+    let r = opening_is_built c v in
+    subst (λ (w : World). length w.frame.processes ≤ 1025) (sym r.is) (omega (arith, length-map c.procs (λ p. Some (process_of p)), v.procs.few, v.limits.procs))
 
-pub sound_core : (w : World) (h : History) → StandsFor w h → Sound (world_of h)
+opening_log : (c : Config) → is_valid c ≡ true → (opening_world c).frame.log ≡ []
+opening_log c valid = let r = opening_is_built c (valid_parts c valid) in subst (λ (w : World). w.frame.log ≡ []) (sym r.is) refl
+
+pub small_journal : (c : Config) → is_valid c ≡ true → c.journal ≤ 870400000
+unfolding is_valid
+small_journal c valid = leb-true c.journal 870400000 (and_parts (fss_fit c.fss && limits_fit c.limits && procs_fit c.limits c.procs && objects_fit c.fss c.limits [] c.objects) (nat_le c.journal 870400000) valid).1
+
+pub pids_are_few : (c : Config) (es : List Event) → is_valid c ≡ true → cost_of_history es ≤ c.journal → length (run (opening_world c) 1 es).frame.processes < 2 ^ 32 - 1
+pids_are_few c es valid fits = omega (arith, pids_run (opening_world c) 1 es, opening_pids c valid, entries_are_few es c.journal fits (small_journal c valid))
+
+-- ---- what a core stands for
+pub stands_first : (c : Config) (w : World) → is_valid c ≡ true → w ≡ opening_world c → StandsFor w (record { cap = c.journal; events = [] }) (record { config = c; events = [] })
+stands_first c w valid e = record {
+  run = e ∙ sym (world_of-none c);
+  valid = valid;
+  cap = refl;
+  fits = omega (arith, no_cost);
+}
+
+pub stands_next : (w v : World) (j : Entries) (h : History) (e : Event) → StandsFor w j h → j.events ≡ h.events → Fits j e → v ≡ (step w (length h.events + 1) e.pid e.op).world → StandsFor v (with_event e j) (with_entry h e)
+stands_next w v j h e s same fits is = record {
+  run = is ∙ ap (λ (u : World). (step u (length h.events + 1) e.pid e.op).world) s.run ∙ sym (world_of-push h e);
+  valid = s.valid;
+  cap = s.cap;
+  fits = omega (arith, cost_more h.events e, ap cost_of_history same, fits, s.cap);
+}
+
+pub sound_core : (w : World) (j : Entries) (h : History) → StandsFor w j h → Sound (world_of h)
 unfolding world_of
-sound_core w h s = sound_reached h.config h.events s.valid
+sound_core w j h s = sound_reached h.config h.events s.valid
 
-pub unlogged : (w : World) (h : History) → StandsFor w h → (world_of h).frame.log ≡ []
-unlogged w h s = subst (λ (u : World). u.frame.log ≡ []) s.run s.log
+pub pids_core : (w : World) (j : Entries) (h : History) → StandsFor w j h → length w.frame.processes < 2 ^ 32 - 1
+unfolding world_of
+pids_core w j h s = subst (λ (u : World). length u.frame.processes < 2 ^ 32 - 1) (sym s.run) (pids_are_few h.config h.events s.valid s.fits)
 
 -- the bytes that a reply tells of are the first ones of the buffer
 pub shows : (r : Reply) (bytes before after : List ℕ) → AreShown r bytes → after ≡ put_front bytes before → Shows (answer.Given r) after bytes
 shows (reply.Bytes k) bytes before after h e = (h.1, h.0, ap (take k) e ∙ ap (λ n. take n (put_front bytes before)) (sym h.0) ∙ take-append_seam bytes (drop (length bytes) before))
 shows _ bytes before after h e = tt
 
--- the step of a machine that stands for a history gives what the history's next entry gives
-pub gives_next : (w : World) (k h : History) (place : ℕ) (e : Event) → StandsFor w k → k ≡ h → place ≡ length k.events → step w (place + 1) e.pid e.op ≡ next h e
-gives_next w k h place e s same count =
-    ap (λ (u : World). step u (place + 1) e.pid e.op) (s.run ∙ ap world_of same)
-    ∙ ap (λ n. step (world_of h) (n + 1) e.pid e.op) (count ∙ ap (λ (x : History). length x.events) same)
+-- and what stands behind them stays
+pub rest_stays : (r : Reply) (bytes before after : List ℕ) → AreShown r bytes → after ≡ put_front bytes before → LeavesRest (answer.Given r) before after
+rest_stays (reply.Bytes k) bytes before after h e = ap (drop k) e ∙ ap (λ n. drop n (put_front bytes before)) (sym h.0) ∙ drop-append_seam bytes (drop (length bytes) before) ∙ ap (λ n. drop n before) h.0
+rest_stays _ bytes before after h e = e ∙ ap (λ b. put_front b before) h
+
+-- what is answered as the next entry says fits its call
+pub fits_next : (w : World) (j : Entries) (k h : History) (e : Event) (r : Reply) → StandsFor w j k → k ≡ h → r ≡ (next h e).reply → FitsCall e.op r
+fits_next w j k h e r s same said =
+    let few : length (world_of k).frame.processes < 2 ^ 32 - 1 = subst (λ (u : World). length u.frame.processes < 2 ^ 32 - 1) s.run (pids_core w j k s) in
+    let fits : FitsCall e.op (next k e).reply = replies_fit (world_of k) (length k.events + 1) e.pid e.op (sound_core w j k s) (omega (arith, few)) in
+    subst (λ (x : Reply). FitsCall e.op x) (sym said) (subst (λ (g : History). FitsCall e.op (next g e).reply) same fits)
 
 -- what is answered as the next entry says is answered alike
 pub answers_alike : (h : History) (e : Event) (r : Reply) (before after : List ℕ) → r ≡ (next h e).reply → after ≡ put_front (next h e).bytes before → AnswersAlike (answer.Given r) h e before after
@@ -88,3 +107,14 @@ unfolding world_of
 answers_alike h e r before after said put = λ l v others f agree none low.
     let told = last_is_told_alike l (opening_world h.config) v h.events others e f agree none low in
     (said ∙ told.0, put ∙ ap (λ bytes. put_front bytes before) told.1)
+
+-- the log of a reached world has the lines of the licensed entries alone
+pub licensed_lines : (h : History) → is_valid h.config ≡ true → (world_of h).frame.log ≡ audit_log (opening_world h.config) 1 h.events
+unfolding world_of
+licensed_lines h valid = logged_run (opening_world h.config) 1 h.events ∙ ap (λ log. log ++ audit_log (opening_world h.config) 1 h.events) (opening_log h.config valid)
+
+-- the step of a machine that stands for a history gives what the history's next entry gives
+pub gives_next : (w : World) (j : Entries) (k h : History) (place : ℕ) (e : Event) → StandsFor w j k → k ≡ h → place ≡ length k.events → step w (place + 1) e.pid e.op ≡ next h e
+gives_next w j k h place e s same count =
+    ap (λ (u : World). step u (place + 1) e.pid e.op) (s.run ∙ ap world_of same)
+    ∙ ap (λ n. step (world_of h) (n + 1) e.pid e.op) (count ∙ ap (λ (x : History). length x.events) same)

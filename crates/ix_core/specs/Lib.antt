@@ -1,3 +1,3 @@
-pub mod Built
-pub mod Meanings
 pub mod Stepping
+pub mod Stops
+pub mod OneSeat

@@ -1,41 +1,39 @@
 -- What a core stands for, what a step of it does, and what it shows.
-use Rattle.std.specs.Prelude.{◌≡◌, ◌≤◌, ◌+◌, ℕ, true, List, [], ◌∷◌, ◌++◌, length, take}
-use Rattle.std.specs.List.{list_all}
+use Rattle.std.specs.Prelude.{◌≡◌, ◌≤◌, ◌<◌, ◌+◌, ℕ, true, List, [], ◌∷◌, ◌++◌, length, take}
 use Rattle.ix_label.specs.Category.{Categories}
 use Rattle.ix_model.specs.world.World.{World}
 use Rattle.ix_model.specs.opening.Opening.{opening_world}
 use Rattle.ix_model.specs.history.Step.{step_of, run, put_front}
 use Rattle.ix_model.specs.two_runs.TwoRuns.{Low}
-use Rattle.ix_model.specs.laws.Clean.{IsClean}
 use Rattle.ix_model.specs.opening.Valid.{is_valid}
+use Rattle.ix_model.specs.history.Cost.{cost_of, cost_of_history}
 use Rattle.ix_model.specs.history.Events.{Event}
+use Rattle.ix_journal.specs.Entries.{Entries}
 use Rattle.ix_model.specs.history.History.{History, world_of, next, with_entry}
 use Rattle.ix_model.specs.declared.reply.Reply.TheVariants as reply
 use Rattle.ix_model.specs.declared.reply.Answer.{Answer}
 use Rattle.ix_model.specs.declared.reply.Answer.TheVariants as answer
 use Rattle.ix_iso.specs.Laws.{NoneCrosses}
 use Rattle.ix_iso.specs.Hiding.{RunsAgree}
-use Rattle.ix_core.specs.Built.{is_built, is_flat}
 
--- The machine's world is the run of the history from the opening world of a valid config, with built calls alone. So many
--- entries, objects and pids there are at most, and nothing is logged: no built call exercises a privilege.
-pub record StandsFor (world : World) (h : History) : Type 0 where
+-- The machine's world is the run of the history from the opening world of a valid config, whose journal has the history's
+-- entries and is as large as the config says.
+pub record StandsFor (world : World) (journal : Entries) (h : History) : Type 0 where
   pub run : world ≡ world_of h
-  pub clean : IsClean world
   pub valid : is_valid h.config ≡ true
-  pub flat : is_flat h.config ≡ true
-  pub built : list_all (λ e. is_built e.op) h.events ≡ true
-  pub few : length h.events ≤ 6800000
-  pub objects : length world.frame.objects ≤ 66560
-  pub processes : length world.frame.processes ≤ 1025
-  pub log : world.frame.log ≡ []
+  pub cap : journal.cap ≡ h.config.journal
+  pub fits : cost_of_history h.events ≤ h.config.journal
 
--- The answer is the machine's, with its bytes at the front of the buffer, and the history has one entry more. Where there
--- is no memory for it nothing has changed; the journal is never full yet.
+-- The answer is the machine's, with its bytes at the front of the buffer, and the history has one entry more, which the
+-- journal has room for. Where the journal hasn't, the answer says what is used, what the entry needs and how much there may be,
+-- and nothing has changed. Memory never runs out.
 abbrev pub StepsTo : Answer → History → History → List ℕ → List ℕ → Event → Type 0
-StepsTo (answer.Given r) old new before after e = (new ≡ with_entry old e) × (r ≡ (next old e).reply) × (after ≡ put_front (next old e).bytes before)
-StepsTo (answer.JournalFull used need cap) old new before after e = ⊥
-StepsTo answer.NoMemory old new before after e = (new ≡ old) × (after ≡ before)
+StepsTo (answer.Given r) old new before after e =
+    (new ≡ with_entry old e) × (r ≡ (next old e).reply) × (after ≡ put_front (next old e).bytes before)
+    × (cost_of_history old.events + cost_of e.op ≤ old.config.journal)
+StepsTo (answer.JournalFull used need cap) old new before after e =
+    (used ≡ cost_of_history old.events) × (need ≡ cost_of e.op) × (cap ≡ old.config.journal) × (cap < used + need) × (new ≡ old) × (after ≡ before)
+StepsTo answer.NoMemory old new before after e = ⊥
 
 -- Where bytes were read, they are the first ones of the buffer, as many as the reply says.
 abbrev pub Shows : Answer → List ℕ → List ℕ → Type 0

@@ -22,11 +22,11 @@ use Rattle.ix_host.specs.declared.asked.command.Command.TheVariants as command
 use Rattle.ix_host.specs.declared.status.Status.{Status}
 use Rattle.ix_host.specs.declared.status.Status.TheVariants as status
 use Rattle.ix_host.specs.serial.Built.{unbuilt_line}
-use Rattle.ix_host.specs.Hiding.{HidesLines, IsHidingReport, world_opened}
+use Rattle.ix_host.specs.Hiding.{HidesLines, IsHidingReport, TakesHidingReport, world_opened}
 use Rattle.ix_host.specs.run.Outcome.{Outcome, outcome_of, outcome_for, text_for, text_of, script_in}
 use Rattle.ix_host.specs.run.Outcome as outcome
 use Rattle.ix_host.specs.report.Report.{lane_name, entry_text, entry_lines, report_of}
-use Rattle.ix_host.specs.run.Run.{IsAnswer, IsEndOf, called_for, wanted_for, status_of}
+use Rattle.ix_host.specs.run.Run.{IsAnswer, IsEndOf, WritesFor, called_for, wanted_for, status_of}
 use Rattle.ix_host.specs.serial.Serial.{serial}
 use Rattle.ix_host.proofs.comes_to.Verdicts.{WasRead, is_called_for}
 
@@ -87,7 +87,13 @@ hiding_run c bytes done run =
       lines = low_lines (script_in bytes);
     }
 
-pub hides_run : (c : Command) (found : Option Command) (end : Status) (first left : Option (List ℕ)) (read : List ℕ) → Some c ≡ found → IsEndOf (outcome_of c read) end → WasRead first left read
-    → end ≡ status.Done → found ≡ Some command.Run → IfSome first (λ bytes. IsHidingReport (script_in bytes) (wanted_for found bytes))
-hides_run c found end None left read is h w done run = tt
-hides_run c found end (Some bytes) left read is h w done run = hiding_run found bytes (sym done ∙ is_called_for c found end (Some bytes) left read is h w (subst IsAnswer (sym done) tt)) run
+pub hides_run : (c : Command) (found : Option Command) (end : Status) (first left taken after : Option (List ℕ)) (read : List ℕ) → Some c ≡ found → IsEndOf (outcome_of c read) end → WasRead first left read
+    → IfSome first (λ bytes. IfSome taken (λ t. WritesFor end (wanted_for found bytes) t after))
+    → end ≡ status.Done → found ≡ Some command.Run → IfSome first (λ bytes. IfSome taken (λ t. TakesHidingReport (script_in bytes) t after))
+hides_run c found end None left taken after read is h w went done run = tt
+hides_run c found end (Some bytes) left None after read is h w went done run = tt
+hides_run c found end (Some bytes) left (Some t) after read is h w went done run = record {
+  text = wanted_for found bytes;
+  went_out = subst (λ (e : Status). WritesFor e (wanted_for found bytes) t after) done went;
+  hides = hiding_run found bytes (sym done ∙ is_called_for c found end (Some bytes) left read is h w (subst IsAnswer (sym done) tt)) run;
+}

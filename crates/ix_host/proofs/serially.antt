@@ -1,12 +1,14 @@
 pub mod Keyed
+pub mod Costs
 pub mod Indexed
 pub mod ScriptLines
 pub mod LaneCount
 pub mod SeatSearch
 pub mod Numbering
-pub mod Going
 pub mod Shown
-pub mod FlatConfigs
 pub mod LaneSteps
+pub mod Going
+pub mod OneEntry
 pub mod Remains
 pub mod SerialHistories
+pub mod Needs

@@ -1,5 +1,5 @@
 -- What the report of a script hides of what was written high.
-use Rattle.std.specs.Prelude.{◌≡◌, ℕ, ◌+◌, List, take, Some, slice_get}
+use Rattle.std.specs.Prelude.{◌≡◌, ℕ, ◌+◌, List, ◌++◌, take, Option, Some, slice_get}
 use Rattle.ix_label.specs.Category.{Categories}
 use Rattle.ix_model.specs.world.World.{World}
 use Rattle.ix_model.specs.opening.Opening.{opening_world}
@@ -34,3 +34,9 @@ pub record IsHidingReport (s : List Line) (text : List ℕ) : Type 0 where
   pub report : text ≡ report_of s (serial s)
   pub history : HidesWhatIsHigh (world_opened s) (serial s)
   pub lines : HidesLines s
+
+-- What was taken is what was taken before, and after it a report that hides what is high.
+pub record TakesHidingReport (s : List Line) (taken : List ℕ) (after : Option (List ℕ)) : Type 0 where
+  pub text : List ℕ
+  pub went_out : after ≡ Some (taken ++ text)
+  pub hides : IsHidingReport s text

@@ -1,5 +1,5 @@
 //! What holds of the histories of scripts and of their reports. These functions do nothing: each states a law, which is proved.
-ghost use Rattle.ix_host.specs.serial.Laws.{SerialOne, SerialIsSerial, LowLinesAreEqual};
+ghost use Rattle.ix_host.specs.serial.Laws.{SerialOne, SerialIsSerial, NeedFits, NeedFitsSoFar, LowLinesAreEqual};
 
 /// No script has two serial histories. A history is serial where each entry is of a lane, each lane's entries are those
 /// that its lines make when they are answered as in the run of the history, no lane asks for a further call, and along the
@@ -12,6 +12,14 @@ pub fn serial_one()
 /// of its script, whatever the lines are. So each script has exactly one.
 pub fn serial_is_serial()
     ensures serial { SerialIsSerial }
+{}
+
+/// A history that holds each lane's calls, in whatever order the lanes take turns, costs no more than its script needs, and so
+/// does the part of one that a run has made so far, with the next call of any lane. So a journal of the script's config is
+/// never full.
+pub fn need_fits()
+    ensures whole { NeedFits }
+    ensures so_far { NeedFitsSoFar }
 {}
 
 /// Where the runs of two scripts of the same lanes agree at a label, each line of the report whose process ends at or below

@@ -14,8 +14,3 @@ pub use ix_io as io;
 pub use ix_model::NoMemory;
 pub use run::run_serial;
 pub use status::Status;
-
-#[cfg(test)]
-mod sessions;
-#[cfg(test)]
-mod tests;

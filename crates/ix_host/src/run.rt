@@ -4,7 +4,7 @@ ghost use Rattle.ix_host.specs.serial.Built.{unbuilt_line};
 ghost use Rattle.ix_host.specs.command.Command.{command_of};
 ghost use Rattle.ix_host.specs.run.Outcome.{outcome_for, outcome_of, text_for, script_in};
 ghost use Rattle.ix_host.specs.run.Outcome as outcome;
-ghost use Rattle.ix_host.specs.Hiding.{IsHidingReport};
+ghost use Rattle.ix_host.specs.Hiding.{TakesHidingReport};
 ghost use Rattle.ix_host.specs.run.Whole.{TakesFew, script_max};
 ghost use Rattle.ix_host.specs.run.Run.{Ends, wanted, called_for, IsAnswer, FitsCommand, ReadsOut, WritesFor, WritesLine};
 
@@ -21,10 +21,9 @@ use std::alloc::Global;
 use std::marker::Brand;
 use std::sync::ledger::Blank;
 
-/// Does what a command asks with a script all of whose forms are built under it.
+/// Does what a command asks with a script.
 #[tactic(auto, unfolding(crate::specs::run::Outcome::text_for))]
 fn carry_out<K: Sink>(alloc: Global, sink: &mut K, command: Command, script: Script) -> Status
-    requires { unbuilt_line command script ≡ None }
     ensures { Ends (outcome.Whole (text_for command script)) result (K.taken sink.old) (K.taken sink.new) (K.finished sink.new)
         (K.faults sink.old) (K.faults sink.new) }
 {
@@ -76,7 +75,7 @@ pub fn run_serial<S: Source, K: Sink>(
     ensures line { IfSome (K.taken sink.old) (λ taken. WritesLine result taken (K.taken sink.new)) }
     ensures finished { IsAnswer result → K.finished sink.new ≡ true }
     ensures hides { result ≡ Status.Done → command_of words.now ≡ Some Command.Run → IfSome (S.left source.old) (λ bytes.
-        IsHidingReport (script_in bytes) (wanted words.now bytes)) }
+        IfSome (K.taken sink.old) (λ taken. TakesHidingReport (script_in bytes) taken (K.taken sink.new))) }
     ensures not_written { result ≡ Status.ReadFault → sink.new ≡ sink.old }
 
     // When each status comes.

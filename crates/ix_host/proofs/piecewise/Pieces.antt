@@ -1,9 +1,10 @@
 -- One piece more of a report.
-use Rattle.std.proofs.Common.{◌≡◌, ℕ, suc, ◌+◌, ◌-◌, ◌<◌, ◌≤◌, List, [], ◌∷◌, ◌++◌, length, drop, Some, refl, sym, ap, ◌∙◌, arith, slice_get, append_assoc, length-append}
+use Rattle.std.proofs.Common.{◌≡◌, ℕ, suc, ◌+◌, ◌-◌, ◌<◌, ◌≤◌, List, [], ◌∷◌, ◌++◌, length, drop, Some, None, refl, sym, ap, ◌∙◌, arith, slice_get, append_assoc, length-append}
 use Rattle.std.specs.Prelude.{codes}
 use Rattle.std.specs.List.{flat_map}
 use Rattle.std.proofs.lemmas.List.{drop_all, append-nil}
 use Rattle.std.proofs.lemmas.Option.{slice_get_within}
+use Rattle.ix_model.specs.history.Cost.{cost_of, cost_of_history}
 use Rattle.ix_model.specs.history.Events.{Event}
 use Rattle.ix_model.specs.history.History.{History, world_of, with_entry, next}
 use Rattle.ix_model.proofs.words.Runs.{world_of-push}
@@ -13,7 +14,9 @@ use Rattle.ix_host.specs.report.Report.{entries_text, entry_text, object_text, p
 use Rattle.ix_host.specs.report.Telling.{IsTold, Tells, left_of, entries_left, objects_left, processes_left, log_left, last_world, pieces_of}
 use Rattle.ix_host.specs.declared.telling.report.Next.TheVariants as stage
 use Rattle.ix_host.specs.declared.telling.report.Report.{Report}
-use Rattle.ix_host.proofs.serially.Indexed.{rest_is}
+use Rattle.ix_model.specs.declared.audit.AuditLine.{AuditLine}
+use Rattle.ix_host.proofs.serially.Costs.{cost-cons, cost-push}
+use Rattle.ix_host.proofs.serially.Indexed.{rest_is, none_left}
 
 -- one text more was written of those that are left
 went_on : (out text rest left : List ℕ) → left ≡ text ++ rest → (out ++ text) ++ rest ≡ out ++ left
@@ -42,7 +45,9 @@ unfolding objects_left processes_left closing_text objects_text processes_text
 closing_is r =
     let objects = texts_all (object_text (last_world r).frame.objects) (length (last_world r).frame.objects) in
     let processes = texts_all (process_text (last_world r).frame.processes) (length (last_world r).frame.processes) in
-    (λ i. codes "objects\n" ++ ((objects i ++ codes "processes\n") ++ (processes i ++ log_left r)))
+    (λ i. codes "objects\n" ++ ((objects i ++ codes "processes\n") ++ (processes i ++ (codes "log\n" ++ log_left r 0))))
+    ∙ ap (λ t. codes "objects\n" ++ ((texts_from (object_text (last_world r).frame.objects) 0 (length (last_world r).frame.objects) ++ codes "processes\n") ++ (texts_from (process_text (last_world r).frame.processes) 0 (length (last_world r).frame.processes) ++ t)))
+    (sym (append_assoc (codes "log\n") (flat_map audit_line (last_world r).frame.log) (tail_line (length r.history.events) (length (last_world r).frame.log))))
     ∙ all_join (codes "objects\n") (texts_from (object_text (last_world r).frame.objects) 0 (length (last_world r).frame.objects)) (codes "processes\n")
     (texts_from (process_text (last_world r).frame.processes) 0 (length (last_world r).frame.processes)) (codes "log\n") (flat_map audit_line (last_world r).frame.log)
     (tail_line (length r.history.events) (length (last_world r).frame.log))
@@ -57,14 +62,19 @@ pub tells_more : (a b c : Report) (x y z : List ℕ) → Tells a b x y → Tells
 tells_more a b c x y z h k = record {
   text = k.text ∙ h.text;
   history = k.history ∙ h.history;
+  fits = λ told. k.fits (h.fits told);
   fewer = omega (arith, h.fewer, k.fewer);
 }
 
 pub still_told : (a b : Report) (x y : List ℕ) → IsTold a → Tells a b x y → IsTold b
-still_told a b x y h t = record {
-  built = rw t.history h.built;
-  few = rw t.history h.few;
-}
+still_told a b x y h t = t.fits h
+
+-- the journal has room for what is left of the history, so for the next entry of it
+pub next_fits : (r : Report) (e : Event) → IsTold r → slice_get r.history.events (length r.replay.events) ≡ Some e → cost_of_history r.replay.events + cost_of e.op ≤ r.replay.config.journal
+next_fits r e told at =
+    let left : cost_of_history (drop (length r.replay.events) r.history.events) ≡ cost_of e.op + cost_of_history (drop (length r.replay.events + 1) r.history.events) =
+    ap cost_of_history (rest_is r.history.events (length r.replay.events) e at) ∙ cost-cons e (drop (length r.replay.events + 1) r.history.events) in
+    omega (arith, told.fits, left)
 
 module _ (r : Report) (before after : List ℕ) where
   pub head_told : r.next ≡ stage.Head → after ≡ before ++ head_line → Tells r (record r { next = stage.Entry }) before after
@@ -72,6 +82,7 @@ module _ (r : Report) (before after : List ℕ) where
   head_told is e = record {
     text = rw (e, is) (append_assoc before head_line _);
     history = refl;
+    fits = λ told. record { fits = told.fits };
     fewer = rw is (omega arith);
   }
 
@@ -83,6 +94,7 @@ module _ (r : Report) (before after : List ℕ) where
     text = rw (e, is, drop_all (length r.replay.events) r.history.events past)
         (append_assoc before (codes "objects\n") (objects_left (record r { next = stage.Object 0 }) 0) ∙ ap (λ t. before ++ t) (closing_is (record r { next = stage.Object 0 })));
     history = refl;
+    fits = λ told. record { fits = told.fits };
     fewer = rw is (omega arith);
   }
 
@@ -97,6 +109,7 @@ module _ (r : Report) (before after : List ℕ) where
         ∙ ap (λ t. before ++ t) (texts_join (object_text (last_world r).frame.objects n) (texts_from (object_text (last_world r).frame.objects) (n + 1) (length (last_world r).frame.objects - (n + 1)))
         (codes "processes\n") (processes_left r 0)));
     history = refl;
+    fits = λ told. record { fits = told.fits };
     fewer = rw is (omega (arith, within));
   }
 
@@ -107,6 +120,7 @@ module _ (r : Report) (before after : List ℕ) where
   objects_told n is past e = record {
     text = rw (e, is, texts_past (object_text (last_world r).frame.objects) n (length (last_world r).frame.objects) past) (append_assoc before (codes "processes\n") _);
     history = refl;
+    fits = λ told. record { fits = told.fits };
     fewer = rw is (omega (arith, past));
   }
 
@@ -118,18 +132,41 @@ module _ (r : Report) (before after : List ℕ) where
     text = rw (e, is, texts_next (process_text (last_world r).frame.processes) pid (length (last_world r).frame.processes) within)
         (append_assoc before (process_text (last_world r).frame.processes pid) _ ∙ ap (λ t. before ++ t) (sym (append_assoc (process_text (last_world r).frame.processes pid) _ _)));
     history = refl;
+    fits = λ told. record { fits = told.fits };
     fewer = rw is (omega (arith, within));
   }
 
-  -- the log, which is empty, and the last line
-  pub processes_told : (pid : ℕ) (middle : List ℕ) → r.next ≡ stage.Process pid → length (last_world r).frame.processes ≤ pid → (last_world r).frame.log ≡ []
-      → middle ≡ before ++ codes "log\n" → after ≡ middle ++ tail_line (length r.history.events) 0
-      → Tells r (record r { next = stage.End }) before after
+  -- the heading of the log, after the last process
+  pub processes_told : (pid : ℕ) → r.next ≡ stage.Process pid → length (last_world r).frame.processes ≤ pid → after ≡ before ++ codes "log\n"
+      → Tells r (record r { next = stage.Log 0 }) before after
   unfolding left_of processes_left pieces_of
-  processes_told pid middle is past none e f = record {
-    text = rw (f, e, is, texts_past (process_text (last_world r).frame.processes) pid (length (last_world r).frame.processes) past, none)
-        (append-nil _ ∙ append_assoc before (codes "log\n") _);
+  processes_told pid is past e = record {
+    text = rw (e, is, texts_past (process_text (last_world r).frame.processes) pid (length (last_world r).frame.processes) past) (append_assoc before (codes "log\n") _);
     history = refl;
+    fits = λ told. record { fits = told.fits };
+    fewer = rw is (omega arith);
+  }
+
+  -- a line of the log
+  pub line_told : (n : ℕ) (line : AuditLine) → r.next ≡ stage.Log n → slice_get (last_world r).frame.log n ≡ Some line → after ≡ before ++ audit_line line
+      → Tells r (record r { next = stage.Log (n + 1) }) before after
+  unfolding left_of pieces_of
+  line_told n line is at e = record {
+    text = rw (e, is, rest_is (last_world r).frame.log n line at)
+        (append_assoc before (audit_line line) _ ∙ ap (λ t. before ++ t) (sym (append_assoc (audit_line line) (flat_map audit_line (drop (n + 1) (last_world r).frame.log)) _)));
+    history = refl;
+    fits = λ told. record { fits = told.fits };
+    fewer = let within : n < length (last_world r).frame.log = slice_get_within (last_world r).frame.log n line at in rw is (omega (arith, within));
+  }
+
+  -- the last line of all
+  pub log_told : (n : ℕ) → r.next ≡ stage.Log n → slice_get (last_world r).frame.log n ≡ None → after ≡ before ++ tail_line (length r.history.events) (length (last_world r).frame.log)
+      → Tells r (record r { next = stage.End }) before after
+  unfolding left_of pieces_of
+  log_told n is at e = record {
+    text = rw (e, is, none_left (last_world r).frame.log n at) (append-nil _);
+    history = refl;
+    fits = λ told. record { fits = told.fits };
     fewer = rw is (omega arith);
   }
 
@@ -150,5 +187,12 @@ entry_told r k e before after is at grown said =
           ∙ ap (λ t. before ++ t) (sym (append_assoc (entry_text (lanes_of r.script) (length r.replay.events + 1) (world_of r.replay) e)
           (entries_text (lanes_of r.script) (length r.replay.events + 1 + 1) (next r.replay e).world rest) closing)));
       history = refl;
+      fits = λ told. record {
+        fits =
+            let left : cost_of_history (drop (length r.replay.events) r.history.events) ≡ cost_of e.op + cost_of_history rest =
+            ap cost_of_history (rest_is r.history.events (length r.replay.events) e at) ∙ cost-cons e rest in
+            let more : cost_of_history (r.replay.events ++ e ∷ []) ≡ cost_of_history r.replay.events + cost_of e.op = cost-push r.replay.events e in
+            rw (grown, longer) (omega (arith, told.fits, left, more));
+      };
       fewer = let within : length r.replay.events < length r.history.events = slice_get_within r.history.events (length r.replay.events) e at in rw (is, grown) (omega (arith, within, longer));
     }

@@ -1,5 +1,5 @@
 -- What lanes ask for, what they are answered, and the serial history, a line or an entry at a time.
-use Rattle.std.proofs.Common.{◌≡◌, ℕ, suc, ◌+◌, ◌<◌, true, false, List, [], ◌∷◌, length, Option, Some, None, refl, sym, arith, if◌then◌else◌}
+use Rattle.std.proofs.Common.{◌≡◌, ℕ, suc, ◌+◌, ◌<◌, true, false, List, [], ◌∷◌, length, Option, Some, None, refl, sym, ap, arith, if◌then◌else◌}
 use Rattle.std.specs.Prelude.{IfSome}
 use Rattle.std.proofs.lemmas.Bool.{eq-eqb, ne_eqb}
 use Rattle.std.proofs.lemmas.List.{get_or-set_same, get_or-set_other, length-set}
@@ -12,9 +12,9 @@ use Rattle.ix_script.specs.lines.Before.{lanes_of}
 use Rattle.ix_script.specs.declared.line.Line.{Line}
 use Rattle.ix_script.specs.declared.line.Line.TheVariants as line
 use Rattle.ix_host.specs.declared.running.names.Names.{Names}
-use Rattle.ix_host.specs.serial.Asked.{Asked, Numbers, asked, named, no_names}
-use Rattle.ix_host.specs.serial.Serial.{entry_of, entry_at, header_of, names_of, renamed, seat_after, seat_from, serial_from}
-use Rattle.ix_host.specs.serial.Lanes.{Numbered, calls_from, entries_of, lines_of_seat, replies_from, with_entry_first}
+use Rattle.ix_host.specs.serial.Asked.{Answered, Asked, Numbers, asked, asked_then, named, no_names}
+use Rattle.ix_host.specs.serial.Serial.{answered, entry_of, entry_then, entry_at, header_of, names_of, renamed, seat_after, seat_from, serial_from}
+use Rattle.ix_host.specs.serial.Lanes.{Calls, Numbered, asks_for, calls_from, entries_of, lines_of_seat, replies_from, with_entry_first}
 use Rattle.ix_host.proofs.serially.Indexed.{if_some_below}
 
 -- ---- the lines of a seat's lane
@@ -27,17 +27,28 @@ pub lines-other : (lanes : List (List ℕ)) (k j n : ℕ) (l : Line) (lines : Li
 lines-other lanes k j n l lines apart = rw (ne_eqb j k apart) refl
 
 -- ---- what a line asks for
-pub calls-none : (header : Numbers) (k n : ℕ) (names : Names) (l : Line) (lines : List Numbered) (replies : List Reply) → asked header names l ≡ None
-    → calls_from header k names ((record { number = n; said = l }) ∷ lines) replies ≡ calls_from header k names lines replies
-calls-none header k n names l lines replies is = rw (is, calls_from) refl
+-- what comes after the first answer to a line: its second call, where it asks for one, and the lines after it
+abbrev pub after_first : Numbers → ℕ → ℕ → Names → List Numbered → Option Asked → List Answered → Calls
+after_first header k n names lines None answers = calls_from header k names lines answers
+after_first header k n names lines (Some b) answers = asks_for (entry_of k n b) answers (λ q later. calls_from header k names lines later)
 
-pub calls-unanswered : (header : Numbers) (k n : ℕ) (names : Names) (l : Line) (lines : List Numbered) (a : Asked) → asked header names l ≡ Some a
-    → calls_from header k names ((record { number = n; said = l }) ∷ lines) [] ≡ record { entries = []; asks = true }
-calls-unanswered header k n names l lines a is = rw (is, calls_from) refl
+pub calls-none : (header : Numbers) (k n : ℕ) (names : Names) (l : Line) (lines : List Numbered) (answers : List Answered) → asked header names l ≡ None
+    → calls_from header k names ((record { number = n; said = l }) ∷ lines) answers ≡ calls_from header k names lines answers
+calls-none header k n names l lines answers is = rw (is, calls_from) refl
 
-pub calls-answered : (header : Numbers) (k n : ℕ) (names : Names) (l : Line) (lines : List Numbered) (a : Asked) (r : Reply) (replies : List Reply) → asked header names l ≡ Some a
-    → calls_from header k names ((record { number = n; said = l }) ∷ lines) (r ∷ replies) ≡ with_entry_first (entry_of k n a) (calls_from header k (named names l r) lines replies)
-calls-answered header k n names l lines a r replies is = rw (is, calls_from) refl
+same_after : (header : Numbers) (k n : ℕ) (names : Names) (l : Line) (r : Answered) (lines : List Numbered) (answers : List Answered) (o : Option Asked)
+    → elim o [
+      | None ↦ calls_from header k (named names l r.reply) lines answers
+      | Some b ↦ asks_for (entry_of k n b) answers (λ q later. calls_from header k (named names l r.reply) lines later)
+    ] ≡ after_first header k n (named names l r.reply) lines o answers
+same_after header k n names l r lines answers None = refl
+same_after header k n names l r lines answers (Some b) = refl
+
+pub calls-some : (header : Numbers) (k n : ℕ) (names : Names) (l : Line) (lines : List Numbered) (a : Asked) (answers : List Answered) → asked header names l ≡ Some a
+    → calls_from header k names ((record { number = n; said = l }) ∷ lines) answers
+    ≡ asks_for (entry_of k n a) answers (λ r rest. after_first header k n (named names l r.reply) lines (asked_then header names l r) rest)
+calls-some header k n names l lines a [] is = rw (is, calls_from) refl
+calls-some header k n names l lines a (r ∷ answers) is = rw (is, calls_from) (ap (λ c. with_entry_first (entry_of k n a) c) (same_after header k n names l r lines answers (asked_then header names l r)))
 
 -- ---- the entries of a seat, and the replies to them
 pub entries-mine : (k : ℕ) (e : Event) (events : List Event) → e.seat ≡ k → entries_of k (e ∷ events) ≡ e ∷ entries_of k events
@@ -47,7 +58,7 @@ pub entries-other : (k : ℕ) (e : Event) (events : List Event) → (e.seat ≡ 
 entries-other k e events apart = rw (ne_eqb e.seat k apart) refl
 
 pub replies-mine : (w : World) (place k : ℕ) (e : Event) (events : List Event) → e.seat ≡ k
-    → replies_from w place k (e ∷ events) ≡ (step_of w place e).reply ∷ replies_from (step_of w place e).world (place + 1) k events
+    → replies_from w place k (e ∷ events) ≡ answered (step_of w place e) ∷ replies_from (step_of w place e).world (place + 1) k events
 replies-mine w place k e events mine = rw (eq-eqb e.seat k mine) refl
 
 pub replies-other : (w : World) (place k : ℕ) (e : Event) (events : List Event) → (e.seat ≡ k → ⊥)
@@ -75,9 +86,15 @@ pub serial-none : (s : List Line) (w : World) (place : ℕ) (names : List Names)
     → serial_from s w place names seat n (l ∷ lines) ≡ serial_from s w place names (seat_after (lanes_of s) seat l) (suc n) lines
 serial-none s w place names seat n l lines is = rw (is, serial_from) refl
 
-pub serial-some : (s : List Line) (w : World) (place : ℕ) (names : List Names) (seat : Option ℕ) (n : ℕ) (l : Line) (lines : List Line) (e : Event) → entry_at s names seat n l ≡ Some e
+pub serial-one : (s : List Line) (w : World) (place : ℕ) (names : List Names) (seat : Option ℕ) (n : ℕ) (l : Line) (lines : List Line) (e : Event) → entry_at s names seat n l ≡ Some e
+    → entry_then s names l e (answered (step_of w place e)) ≡ None
     → serial_from s w place names seat n (l ∷ lines) ≡ e ∷ serial_from s (step_of w place e).world (place + 1) (renamed names e.seat l (step_of w place e).reply) (seat_after (lanes_of s) seat l) (suc n) lines
-serial-some s w place names seat n l lines e is = rw (is, serial_from) refl
+serial-one s w place names seat n l lines e is so = rw (is, serial_from, so) refl
+
+pub serial-two : (s : List Line) (w : World) (place : ℕ) (names : List Names) (seat : Option ℕ) (n : ℕ) (l : Line) (lines : List Line) (e f : Event) → entry_at s names seat n l ≡ Some e
+    → entry_then s names l e (answered (step_of w place e)) ≡ Some f
+    → serial_from s w place names seat n (l ∷ lines) ≡ e ∷ f ∷ serial_from s (step_of (step_of w place e).world (place + 1) f).world (place + 1 + 1) (renamed names e.seat l (step_of w place e).reply) (seat_after (lanes_of s) seat l) (suc n) lines
+serial-two s w place names seat n l lines e f is so = rw (is, serial_from, so) refl
 
 -- ---- seats
 seat_found : (n : ℕ) (name : List ℕ) (lanes : List (List ℕ)) → IfSome (seat_from n name lanes) (λ s. s < n + length lanes)

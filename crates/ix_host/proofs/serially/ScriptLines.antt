@@ -1,19 +1,19 @@
 -- The lines of a script, one after the other.
-use Rattle.std.proofs.Common.{◌≡◌, ℕ, suc, ◌+◌, ◌||◌, Bool, true, false, List, drop, Option, Some, ap, ◌∙◌, slice_get, add-one}
+use Rattle.std.proofs.Common.{◌≡◌, ℕ, suc, ◌+◌, true, false, List, drop, Option, Some, ap, ◌∙◌, slice_get, add-one}
 use Rattle.ix_script.specs.declared.line.Line.{Line}
 use Rattle.ix_host.specs.declared.asked.command.Command.{Command}
-use Rattle.ix_host.specs.serial.Built.{is_fs, is_unbuilt, unbuilt_from}
+use Rattle.ix_host.specs.serial.Built.{is_unbuilt, unbuilt_from}
 use Rattle.ix_host.proofs.serially.Indexed.{rest_is}
 
 -- the next line isn't built
-pub unbuilt_here : (c : Command) (second : Bool) (lines : List Line) (i : ℕ) (l : Line) (first : Option ℕ)
-    → slice_get lines i ≡ Some l → is_unbuilt c second l ≡ true → unbuilt_from c second (i + 1) (drop i lines) ≡ first → Some (i + 1) ≡ first
-unbuilt_here c second lines i l first at is h = rw (rest_is lines i l at, is) at h
+pub unbuilt_here : (c : Command) (lines : List Line) (i : ℕ) (l : Line) (first : Option ℕ)
+    → slice_get lines i ≡ Some l → is_unbuilt c l ≡ true → unbuilt_from c (i + 1) (drop i lines) ≡ first → Some (i + 1) ≡ first
+unbuilt_here c lines i l first at is h = rw (rest_is lines i l at, is) at h
 
 -- the next line is built
-pub unbuilt_later : (c : Command) (second : Bool) (lines : List Line) (i : ℕ) (l : Line) (first : Option ℕ)
-    → slice_get lines i ≡ Some l → is_unbuilt c second l ≡ false → unbuilt_from c second (i + 1) (drop i lines) ≡ first
-    → unbuilt_from c (second || is_fs l) (i + 1 + 1) (drop (i + 1) lines) ≡ first
-unbuilt_later c second lines i l first at is h =
-    let k : unbuilt_from c (second || is_fs l) (suc (i + 1)) (drop (i + 1) lines) ≡ first = rw (rest_is lines i l at, is) at h in
-    ap (λ n. unbuilt_from c (second || is_fs l) n (drop (i + 1) lines)) (add-one (i + 1)) ∙ k
+pub unbuilt_later : (c : Command) (lines : List Line) (i : ℕ) (l : Line) (first : Option ℕ)
+    → slice_get lines i ≡ Some l → is_unbuilt c l ≡ false → unbuilt_from c (i + 1) (drop i lines) ≡ first
+    → unbuilt_from c (i + 1 + 1) (drop (i + 1) lines) ≡ first
+unbuilt_later c lines i l first at is h =
+    let k : unbuilt_from c (suc (i + 1)) (drop (i + 1) lines) ≡ first = rw (rest_is lines i l at, is) at h in
+    ap (λ n. unbuilt_from c n (drop (i + 1) lines)) (add-one (i + 1)) ∙ k

@@ -1,7 +1,6 @@
 -- Serial histories of a script: there is one, and it is the serial history.
 use Rattle.std.proofs.Common.{◌≡◌, ℕ, suc, ◌+◌, ◌<◌, List, [], ◌∷◌, length, Option, Some, None, refl, sym, ap, ◌∙◌, subst, arith, inl, inr}
 use Rattle.std.specs.Prelude.{IfSome}
-use Rattle.std.proofs.lemmas.Bool.{cases_eq}
 use Rattle.std.proofs.lemmas.List.{get_or-replicate, length-replicate}
 use Rattle.ix_model.specs.world.World.{World}
 use Rattle.ix_model.specs.opening.Opening.{opening_world}
@@ -11,13 +10,19 @@ use Rattle.ix_script.specs.lines.Before.{lanes_of}
 use Rattle.ix_script.specs.scripts.Scripts.{config_of}
 use Rattle.ix_script.specs.declared.line.Line.{Line}
 use Rattle.ix_host.specs.declared.running.names.Names.{Names}
-use Rattle.ix_host.specs.serial.Asked.{Asked, asked, no_names}
-use Rattle.ix_host.specs.serial.Serial.{entry_of, first_names, header_of, names_of, renamed, seat_after, serial, serial_from}
+use Rattle.std.specs.Option.{option_map}
+use Rattle.ix_host.specs.serial.Asked.{Asked, asked, asked_then, no_names}
+use Rattle.ix_host.specs.serial.Serial.{answered, entry_of, entry_then, first_names, header_of, names_of, renamed, seat_after, serial, serial_from}
 use Rattle.ix_host.specs.serial.Lanes.{Calls, IsSerial, calls_from, calls_of, entries_of, lines_of_seat, replies_from, replies_of}
-use Rattle.ix_host.proofs.serially.LaneSteps.{entries-mine, length-renamed, entry-none, entry-some, serial-none, serial-some, seat_within}
-use Rattle.ix_host.proofs.serially.Remains.{Remains, first_seat, skipped, is_asked, one_before, one_after, is_first}
+use Rattle.ix_host.proofs.serially.LaneSteps.{entries-mine, length-renamed, entry-none, entry-some, serial-none, serial-one, serial-two, seat_within}
+use Rattle.ix_host.proofs.serially.OneEntry.{Going, first_seat, one_after, one_before}
+use Rattle.ix_host.proofs.serially.Remains.{lane_calls, next_names, next_seat, reply, skipped, others_later, first_answers, then_starts, second_answers, second_others_later, rest_starts}
 
 -- ---- all lines
+-- the entries are what remains of a serial history from a line on, where the machine has come to a world and a place
+abbrev pub Remains : List Line → World → ℕ → List Names → Option ℕ → ℕ → List Line → List Event → Type 0
+Remains s w place names at n lines events = Going (length (lanes_of s)) (lane_calls s names at n lines) w place events
+
 -- from a line on, there is no serial history but that one
 abbrev IsOne : List Line → ℕ → List Line → Type 0
 IsOne s n lines = (w : World) (place : ℕ) (names : List Names) (at : Option ℕ) (h : List Event) → length names ≡ length (lanes_of s) → IfSome at (λ k. k < length (lanes_of s))
@@ -26,7 +31,54 @@ IsOne s n lines = (w : World) (place : ℕ) (names : List Names) (at : Option �
 none_remain : (s : List Line) (n : ℕ) → IsOne s n []
 none_remain s n w place names at [] long within r = refl
 none_remain s n w place names at (e ∷ events) long within r =
-    let none : [] ≡ e ∷ entries_of e.seat events = ap (λ (x : Calls). x.entries) (r.calls e.seat (first_seat (lanes_of s) e events r.seats).0) ∙ entries-mine e.seat e events refl in cc
+    let none : [] ≡ e ∷ entries_of e.seat events = ap (λ (x : Calls). x.entries) (r.calls e.seat (first_seat (length (lanes_of s)) e events r.seats).0) ∙ entries-mine e.seat e events refl in cc
+
+module _ (s : List Line) (n j : ℕ) (l : Line) (lines : List Line) (w : World) (place : ℕ) (names : List Names) (a : Asked) (long : length names ≡ length (lanes_of s)) (within : j < length (lanes_of s)) (is : asked (header_of s) (names_of names j) l ≡ Some a) where
+  abbrev e : Event
+  e = entry_of j n a
+
+  abbrev mid : World
+  mid = (step_of w place e).world
+
+  abbrev after : List Names
+  after = next_names s names j n l lines w place a
+
+  abbrev later_seat : Option ℕ
+  later_seat = next_seat s names j n l lines
+
+  same_length : length after ≡ length (lanes_of s)
+  same_length = length-renamed names j l _ ∙ long
+
+  still_within : IfSome later_seat (λ k. k < length (lanes_of s))
+  still_within = seat_within (lanes_of s) (Some j) l _ refl within
+
+  then_is : (o : Option Asked) → asked_then (header_of s) (names_of names j) l (reply s names j n l lines w place a) ≡ o → entry_then s names l e (answered (step_of w place e)) ≡ option_map (entry_of j n) o
+  then_is o so = ap (option_map (entry_of j n)) so
+
+  call_one : IsOne s (suc n) lines → (h : List Event) → Remains s w place names (Some j) n (l ∷ lines) h
+      → (o : Option Asked) → asked_then (header_of s) (names_of names j) l (reply s names j n l lines w place a) ≡ o → h ≡ serial_from s w place names (Some j) n (l ∷ lines)
+  call_one later h r None so =
+      let first = one_after (length (lanes_of s)) _ _ w place e _ (first_answers s names j n l lines w place a (length (lanes_of s)) None is so (omega (arith, long, within)) within) (others_later s names j n l lines) h r in
+      first.1 ∙ ap (λ es. e ∷ es) (later mid (place + 1) after later_seat first.0 same_length still_within first.2)
+      ∙ sym (serial-one s w place names (Some j) n l lines e (entry-some s names j n l a is) (then_is None so))
+  call_one later h r (Some b) so =
+      let first = one_after (length (lanes_of s)) _ _ w place e _ (first_answers s names j n l lines w place a (length (lanes_of s)) (Some b) is so (omega (arith, long, within)) within) (others_later s names j n l lines) h r in
+      let f : Event = entry_of j n b in
+      let second = one_after (length (lanes_of s)) _ _ mid (place + 1) f _ (second_answers s names j n l lines w place a (length (lanes_of s)) b within mid (place + 1)) (second_others_later s names j n l lines w place a b) first.0 first.2 in
+      first.1 ∙ ap (λ es. e ∷ es) (second.1 ∙ ap (λ es. f ∷ es) (later (step_of mid (place + 1) f).world (place + 1 + 1) after later_seat second.0 same_length still_within second.2))
+      ∙ sym (serial-two s w place names (Some j) n l lines e f (entry-some s names j n l a is) (then_is (Some b) so))
+
+  call_there : Remains s (step_of w place e).world (place + 1) after later_seat (suc n) lines (serial_from s (step_of w place e).world (place + 1) after later_seat (suc n) lines)
+      → ((f : Event) → Remains s (step_of mid (place + 1) f).world (place + 1 + 1) after later_seat (suc n) lines (serial_from s (step_of mid (place + 1) f).world (place + 1 + 1) after later_seat (suc n) lines))
+      → (o : Option Asked) → asked_then (header_of s) (names_of names j) l (reply s names j n l lines w place a) ≡ o → Remains s w place names (Some j) n (l ∷ lines) (serial_from s w place names (Some j) n (l ∷ lines))
+  call_there once twice None so =
+      subst (λ (h : List Event). Remains s w place names (Some j) n (l ∷ lines) h) (sym (serial-one s w place names (Some j) n l lines e (entry-some s names j n l a is) (then_is None so)))
+      (one_before (length (lanes_of s)) _ _ w place e _ (first_answers s names j n l lines w place a (length (lanes_of s)) None is so (omega (arith, long, within)) within) (then_starts s names j n l lines w place a None) _ once)
+  call_there once twice (Some b) so =
+      let f : Event = entry_of j n b in
+      subst (λ (h : List Event). Remains s w place names (Some j) n (l ∷ lines) h) (sym (serial-two s w place names (Some j) n l lines e f (entry-some s names j n l a is) (then_is (Some b) so)))
+      (one_before (length (lanes_of s)) _ _ w place e _ (first_answers s names j n l lines w place a (length (lanes_of s)) (Some b) is so (omega (arith, long, within)) within) (then_starts s names j n l lines w place a (Some b)) _
+      (one_before (length (lanes_of s)) _ _ mid (place + 1) f _ (second_answers s names j n l lines w place a (length (lanes_of s)) b within mid (place + 1)) (rest_starts s names j n l lines w place a) _ (twice f)))
 
 asked_one : (s : List Line) (n j : ℕ) (l : Line) (lines : List Line) → IsOne s (suc n) lines → (w : World) (place : ℕ) (names : List Names) (h : List Event) → length names ≡ length (lanes_of s) → j < length (lanes_of s)
     → Remains s w place names (Some j) n (l ∷ lines) h → (o : Option Asked) → asked (header_of s) (names_of names j) l ≡ o → h ≡ serial_from s w place names (Some j) n (l ∷ lines)
@@ -34,18 +86,7 @@ asked_one s n j l lines later w place names h long within r None is =
     later w place names (seat_after (lanes_of s) (Some j) l) h long (seat_within (lanes_of s) (Some j) l _ refl within)
     (record { seats = r.seats; calls = λ k k_within. sym (skipped s names j n l lines is k (replies_from w place k h)) ∙ r.calls k k_within; order = r.order })
     ∙ sym (serial-none s w place names (Some j) n l lines (entry-none s names j n l is))
-asked_one s n j l lines later w place names [] long within r (Some a) is =
-    let there = is_asked s names j n l lines a [] [] is (r.calls j within) in
-    let none : [] ≡ entry_of j n a ∷ there.0 = there.1 in cc
-asked_one s n j l lines later w place names (e ∷ events) long within r (Some a) is = elim (cases_eq e.seat j) [
-  | inl mine ↦
-      let after = one_after s names j n l lines w place e events a is (omega (arith, long, within)) within mine r in
-      let same = later (step_of w place e).world (place + 1) (renamed names j l (step_of w place e).reply) (seat_after (lanes_of s) (Some j) l) events (length-renamed names j l (step_of w place e).reply ∙ long) (seat_within (lanes_of s) (Some j) l _ refl within) after.1 in
-      ap (λ es. e ∷ es) same
-      ∙ ap (λ (x : Event). x ∷ serial_from s (step_of w place x).world (place + 1) (renamed names j l (step_of w place x).reply) (seat_after (lanes_of s) (Some j) l) (suc n) lines) (sym after.0)
-      ∙ sym (serial-some s w place names (Some j) n l lines (entry_of j n a) (entry-some s names j n l a is))
-  | inr apart ↦ absurd (is_first s names j n l lines w place e events a is within r apart)
-]
+asked_one s n j l lines later w place names h long within r (Some a) is = call_one s n j l lines w place names a long within is later h r _ refl
 
 line_one : (s : List Line) (n : ℕ) (l : Line) (lines : List Line) → IsOne s (suc n) lines → IsOne s n (l ∷ lines)
 line_one s n l lines later w place names None h long within r =
@@ -68,10 +109,12 @@ asked_there s n j l lines later w place names long within None is =
     subst (λ (h : List Event). Remains s w place names (Some j) n (l ∷ lines) h) (sym (serial-none s w place names (Some j) n l lines (entry-none s names j n l is)))
     (record { seats = r.seats; calls = λ k k_within. skipped s names j n l lines is k _ ∙ r.calls k k_within; order = r.order })
 asked_there s n j l lines later w place names long within (Some a) is =
-    let e : Event = entry_of j n a in
-    subst (λ (h : List Event). Remains s w place names (Some j) n (l ∷ lines) h) (sym (serial-some s w place names (Some j) n l lines e (entry-some s names j n l a is)))
-    (one_before s names j n l lines w place e _ a is (omega (arith, long, within)) within refl
-    (later (step_of w place e).world (place + 1) (renamed names j l (step_of w place e).reply) (seat_after (lanes_of s) (Some j) l) (length-renamed names j l (step_of w place e).reply ∙ long) (seat_within (lanes_of s) (Some j) l _ refl within)))
+    let names_within = length-renamed names j l _ ∙ long in
+    let seat_is = seat_within (lanes_of s) (Some j) l _ refl within in
+    call_there s n j l lines w place names a long within is
+    (later (step_of w place (entry_of j n a)).world (place + 1) (renamed names j l (step_of w place (entry_of j n a)).reply) (seat_after (lanes_of s) (Some j) l) names_within seat_is)
+    (λ f. later (step_of (step_of w place (entry_of j n a)).world (place + 1) f).world (place + 1 + 1) (renamed names j l (step_of w place (entry_of j n a)).reply) (seat_after (lanes_of s) (Some j) l) names_within seat_is)
+    _ refl
 
 line_there : (s : List Line) (n : ℕ) (l : Line) (lines : List Line) → IsThere s (suc n) lines → IsThere s n (l ∷ lines)
 line_there s n l lines later w place names None long within =

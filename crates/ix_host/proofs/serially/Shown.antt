@@ -7,8 +7,8 @@ use Rattle.ix_model.specs.declared.reply.Reply.{Reply}
 use Rattle.ix_model.specs.declared.reply.Reply.TheVariants as reply
 use Rattle.ix_model.specs.declared.reply.Answer.TheVariants as answer
 use Rattle.ix_model.specs.declared.views.ProcView.{ProcView}
-use Rattle.ix_model.specs.history.Views.{shown_of}
 use Rattle.ix_core.specs.Stepping.{Shows}
+use Rattle.ix_model.specs.history.Views.{shown_of}
 use Rattle.ix_host.specs.serial.Replies.{count_in}
 
 -- the bytes at the front of the buffer are those that the call gives

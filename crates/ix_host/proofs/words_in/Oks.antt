@@ -5,10 +5,6 @@ pub from_ok : {A E : Type 0} {P : Type 0} (r : Result A E) → is_ok r ≡ true 
 from_ok (Ok x) is h = h
 from_ok (Err e) is h = cc
 
-pub both_ok : {A E : Type 0} {P Q R : Type 0} (r : Result A E) → OnOk r P → OnOk r Q → (P → Q → R) → OnOk r R
-both_ok (Ok x) p q f = f p q
-both_ok (Err e) p q f = tt
-
 pub from_err : {A E : Type 0} {P : Type 0} (r : Result A E) → is_err r ≡ true → OnErr r P → P
 from_err (Ok x) is h = cc
 from_err (Err e) is h = h

@@ -1,5 +1,5 @@
 -- The system calls that the commands of a lane ask for.
-use Rattle.std.specs.Prelude.{ℕ, nat_lt, List, Option, Some, None, if◌then◌else◌, unwrap_or}
+use Rattle.std.specs.Prelude.{ℕ, nat_lt, ◌==◌, min, List, Option, Some, None, if◌then◌else◌, unwrap_or}
 use Rattle.std.specs.FinMap as map
 use Rattle.std.specs.Ordering.{nat_cmp}
 use Rattle.std.specs.Cmp.Lexicographic.{slice_cmp}
@@ -16,6 +16,7 @@ use Rattle.ix_script.specs.declared.line.FdWord.TheVariants as fd_word
 use Rattle.ix_script.specs.declared.line.KeepWord.{KeepWord}
 use Rattle.ix_script.specs.declared.line.KeepWord.TheVariants as keep_word
 use Rattle.ix_host.specs.declared.running.names.Names.{Names}
+use Rattle.ix_host.specs.serial.Replies.{count_in}
 
 -- ---- names
 -- names, each with the number that it stands for: of two that are equal the later counts
@@ -49,7 +50,7 @@ pub record Asked : Type 0 where
 abbrev pub by : Numbers → Names → List ℕ → Op → Option Asked
 by header names proc o = Some (record { pid = pid_of header names proc; op = o })
 
--- The one system call of a command. `copy`, `priv` and `login` make several, and aren't built yet; other lines make none.
+-- The first system call of a command: `copy` reads. `priv` and `login` aren't built yet, and other lines make none. A script's statuses are at most 255.
 unfoldable pub asked : Numbers → Names → Line → Option Asked
 asked header names (line.Create proc path) = by header names proc (op.CreateAt path)
 asked header names (line.Open proc path mode named) = by header names proc (op.OpenAt path mode)
@@ -69,7 +70,7 @@ asked header names (line.Stat proc path) = by header names proc (op.StatAt path)
 asked header names (line.List proc path index) = by header names proc (op.ListAt path index)
 asked header names (line.Fork proc keeps named) = by header names proc (op.Fork (keep_of names keeps))
 asked header names (line.Exec proc path) = by header names proc (op.Exec path)
-asked header names (line.Exit proc status) = by header names proc (op.Exit status)
+asked header names (line.Exit proc status) = by header names proc (op.Exit (min status 255))
 asked header names (line.Wait proc) = by header names proc op.WaitChild
 asked header names (line.Labelof proc path) = by header names proc (op.LabelOf path)
 asked header names (line.Self_ proc) = by header names proc op.SelfLabel
@@ -86,7 +87,18 @@ asked header names (line.Ceiling proc of_proc label) = by header names proc (op.
 asked header names (line.Pex proc fd) = by header names proc (op.Pex (fd_of names fd))
 asked header names (line.Unpex proc fd) = by header names proc (op.Unpex (fd_of names fd))
 asked header names (line.Readlog proc index) = by header names proc (op.ReadLog index)
+asked header names (line.Copy proc from to count) = by header names proc (op.ReadFd (fd_of names from) count)
 asked header names _ = None
+
+-- what a call was answered, with the bytes that it gave
+pub record Answered : Type 0 where
+  pub reply : Reply
+  pub bytes : List ℕ
+
+-- The second system call of a command whose first one was answered: `copy` writes the bytes that it read, where there are any. Other lines make none.
+unfoldable pub asked_then : Numbers → Names → Line → Answered → Option Asked
+asked_then header names (line.Copy proc from to count) r = if count_in r.reply == 0 then None else by header names proc (op.WriteFd (fd_of names to) r.bytes)
+asked_then header names _ r = None
 
 -- ---- what a reply binds
 -- the number in a reply where it is at most so great, else one that stands for none

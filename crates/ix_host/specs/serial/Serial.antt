@@ -5,7 +5,7 @@ use Rattle.std.specs.FinMap as map
 use Rattle.ix_model.specs.world.Naming.{same_bytes}
 use Rattle.ix_model.specs.world.World.{World}
 use Rattle.ix_model.specs.opening.Opening.{opening_world}
-use Rattle.ix_model.specs.history.Step.{step_of}
+use Rattle.ix_model.specs.history.Step.{Given, step_of}
 use Rattle.ix_model.specs.history.Events.{Event}
 use Rattle.ix_model.specs.declared.reply.Reply.{Reply}
 use Rattle.ix_script.specs.lines.Before.{lanes_of, proc_names}
@@ -13,7 +13,7 @@ use Rattle.ix_script.specs.scripts.Scripts.{config_of}
 use Rattle.ix_script.specs.declared.line.Line.{Line}
 use Rattle.ix_script.specs.declared.line.Line.TheVariants as line
 use Rattle.ix_host.specs.declared.running.names.Names.{Names}
-use Rattle.ix_host.specs.serial.Asked.{Asked, Numbers, asked, named, no_names}
+use Rattle.ix_host.specs.serial.Asked.{Answered, Asked, Numbers, asked, asked_then, named, no_names}
 
 -- ---- a script's processes and lanes
 -- names with these after them, which stand for n and the numbers after it
@@ -45,10 +45,18 @@ entry_of seat number a = record { seat = seat; line = number; pid = a.pid; op = 
 abbrev pub names_of : List Names → ℕ → Names
 names_of names seat = slice_index_or names seat no_names
 
--- the entry that a line makes, where it stands in a lane and asks for a call
+-- what an entry is answered
+abbrev pub answered : Given → Answered
+answered given = record { reply = given.reply; bytes = given.bytes }
+
+-- the first entry that a line makes, where it stands in a lane and asks for a call
 abbrev pub entry_at : List Line → List Names → Option ℕ → ℕ → Line → Option Event
 entry_at s names None number l = None
 entry_at s names (Some seat) number l = option_map (entry_of seat number) (asked (header_of s) (names_of names seat) l)
+
+-- the second entry that a line makes, where it asks for a call once its first entry was answered
+abbrev pub entry_then : List Line → List Names → Line → Event → Answered → Option Event
+entry_then s names l e r = option_map (entry_of e.seat e.line) (asked_then (header_of s) (names_of names e.seat) l r)
 
 -- what the names of all lanes stand for after a line of a seat's lane was answered
 abbrev pub renamed : List Names → ℕ → Line → Reply → List Names
@@ -61,8 +69,12 @@ serial_from s w place names seat number [] = []
 serial_from s w place names seat number (l ∷ lines) =
     elim (entry_at s names seat number l) [
       | None ↦ serial_from s w place names (seat_after (lanes_of s) seat l) (suc number) lines
-      | Some e ↦ e ∷ serial_from s (step_of w place e).world (place + 1) (renamed names e.seat l (step_of w place e).reply)
-          (seat_after (lanes_of s) seat l) (suc number) lines
+      | Some e ↦ e ∷ elim (entry_then s names l e (answered (step_of w place e))) [
+        | None ↦ serial_from s (step_of w place e).world (place + 1) (renamed names e.seat l (step_of w place e).reply)
+            (seat_after (lanes_of s) seat l) (suc number) lines
+        | Some f ↦ f ∷ serial_from s (step_of (step_of w place e).world (place + 1) f).world (place + 1 + 1)
+            (renamed names e.seat l (step_of w place e).reply) (seat_after (lanes_of s) seat l) (suc number) lines
+      ]
     ]
 
 -- the names of the lanes at first

@@ -1,6 +1,6 @@
 use crate::running::numbers::Numbers;
-use ix_model::{Fd, Name, Pid};
-use ix_script::FdWord;
+use ix_model::{Fd, Keep, Name, Pid};
+use ix_script::{FdWord, KeepWord};
 use std::alloc::Global;
 
 /// What the names that a lane gave stand for.
@@ -12,7 +12,7 @@ pub struct Names {
 
 impl Names {
     ghost use Rattle.std.specs.Prelude.{◌≡◌};
-    ghost use Rattle.ix_host.specs.serial.Asked.{no_names, pid_of, fd_of};
+    ghost use Rattle.ix_host.specs.serial.Asked.{no_names, pid_of, fd_of, keep_of};
 
     /// No names.
     pub fn new(alloc: Global) -> Names
@@ -41,6 +41,17 @@ impl Names {
         match word {
             FdWord::Number(n) => Fd(*n),
             FdWord::Named(name) => Fd(self.fds.get(name).unwrap_or(255)),
+        }
+    }
+
+    /// Which descriptors a child gets.
+    pub fn keep_of(&self, word: &KeepWord) -> Keep
+        ensures { result ≡ keep_of self.now word.now }
+    {
+        match word {
+            KeepWord::All => Keep::All,
+            KeepWord::Nothing => Keep::Nothing,
+            KeepWord::One(fd) => Keep::One(self.fd_of(fd)),
         }
     }
 }

@@ -1,27 +1,75 @@
-ghost use Rattle.std.specs.Prelude.{◌≡◌, ◌<◌, ◌≤◌, List, [], None, false, IfSome, OnOk, length};
+ghost use Rattle.std.specs.Prelude.{◌≡◌, ◌<◌, ◌≤◌, ◌+◌, List, [], IfSome, OnOk, length, take};
+ghost use Rattle.ix_model.specs.history.Calls.{event_of};
+ghost use Rattle.ix_model.specs.history.Cost.{cost_of, cost_of_history};
+ghost use Rattle.ix_model.specs.history.History.{next, with_entry};
 ghost use Rattle.ix_script.specs.declared.line.Line.{Line};
+ghost use Rattle.ix_script.specs.scripts.Need.{cost_of_line, need};
 ghost use Rattle.ix_script.specs.scripts.Scripts.{config_of};
-ghost use Rattle.ix_host.specs.serial.Asked.{asked};
-ghost use Rattle.ix_host.specs.serial.Built.{is_unbuilt_run, unbuilt_line};
-ghost use Rattle.ix_host.specs.serial.Serial.{entry_at, serial};
-ghost use Rattle.ix_host.specs.serial.Running.{RunsLine, RunsCommand};
+ghost use Rattle.ix_host.specs.serial.Asked.{asked, asked_then};
+ghost use Rattle.ix_host.specs.serial.Replies.{count_in};
+ghost use Rattle.ix_host.specs.serial.Serial.{entry_at, entry_of, entry_then, header_of, serial};
+ghost use Rattle.ix_host.specs.serial.Running.{RunsLine, RunsCommand, with_second};
 ghost use Rattle.std.specs.Option.{option_map};
-ghost use Rattle.ix_host.specs.serial.Serial.{entry_of, header_of};
-ghost use Rattle.ix_host.specs.declared.asked.command.Command.TheVariants as command;
 
-use crate::running::calls::{bind, entry_asked};
+use crate::running::calls::{bind, entry_asked, entry_then};
 use crate::running::lanes::{first_names, header_of, seat_after};
 use crate::running::lines::line_at;
 use crate::running::names::Names;
 use crate::running::numbers::Numbers;
 use ix_core::Core;
 use ix_label::Steps;
-use ix_model::{Answer, Buf, NoMemory};
+use ix_model::{Answer, Buf, Entry, NoMemory, Reply};
 use ix_script::{Line, Script};
 use std::alloc::Global;
 use std::sync::ledger::Ledger;
 
-/// Makes the call of a line of a seat's lane, if it asks for one, and binds the name that it gives.
+/// Makes an entry for which the journal has room.
+pub fn make<L: Ledger>(
+    core: &mut Core,
+    entry: &Entry<'_>,
+    buf: &mut Buf,
+    steps: &mut Steps<L>,
+) -> Reply
+    requires { cost_of_history core.old.events + cost_of (event_of entry.now).op ≤ core.old.config.journal }
+    ensures core { core.new ≡ with_entry core.old (event_of entry.now) }
+    ensures reply { result ≡ (next core.old (event_of entry.now)).reply }
+    ensures few { count_in result ≤ 4096 }
+    ensures shown { take (count_in result) buf.new ≡ (next core.old (event_of entry.now)).bytes }
+{
+    match core.step(entry.seat, entry.line, entry.pid, &entry.call, buf, steps) {
+        Answer::Given(reply) => reply,
+        Answer::JournalFull { .. } => unreachable!(),
+        Answer::NoMemory => unreachable!(),
+    }
+}
+
+/// Makes the second call of a line of a seat's lane, if it asks for one once its first call was answered, with the bytes at
+/// the front of the buffer.
+fn run_second<L: Ledger>(
+    core: &mut Core,
+    header: &Numbers<u32>,
+    names: &Names,
+    seat: u32,
+    number: u32,
+    line: &Line,
+    reply: &Reply,
+    buf: &Buf,
+    steps: &mut Steps<L>,
+)
+    requires few { count_in reply.now ≤ 4096 }
+    requires fits { IfSome (option_map (entry_of seat number) (asked_then header.now names.now line.now
+        (record { reply = reply.now; bytes = take (count_in reply.now) buf.now })))
+        (λ f. cost_of_history core.old.events + cost_of f.op ≤ core.old.config.journal) }
+    ensures { core.new ≡ with_second (option_map (entry_of seat number) (asked_then header.now names.now line.now
+        (record { reply = reply.now; bytes = take (count_in reply.now) buf.now }))) core.old }
+{
+    if let Some(entry) = entry_then(header, names, seat, number, line, reply, buf) {
+        let mut spare = [0; 4096];
+        make(core, &entry, &mut spare, steps);
+    }
+}
+
+/// Makes the calls of a line of a seat's lane, if it asks for any, and binds the names that it gives.
 fn run_command<L: Ledger>(
     core: &mut Core,
     header: &Numbers<u32>,
@@ -32,17 +80,16 @@ fn run_command<L: Ledger>(
     buf: &mut Buf,
     steps: &mut Steps<L>,
 ) -> Result<(), NoMemory>
-    requires few { length core.old.events < 6800000 }
-    requires built { is_unbuilt_run false line.now ≡ false }
+    requires { cost_of_history core.old.events + cost_of_line line.now ≤ core.old.config.journal }
     ensures { OnOk result (RunsCommand (option_map (entry_of seat number) (asked header.now names.old line.now))
+        (λ e r. option_map (entry_of e.seat e.line) (asked_then header.now names.old line.now r))
         core.old core.new names.old names.new line.now) }
 {
     let Some(entry) = entry_asked(header, names, seat, number, line) else {
         return Ok(());
     };
-    let Answer::Given(reply) = core.step(seat, number, entry.pid, &entry.call, buf, steps) else {
-        return Err(NoMemory);
-    };
+    let reply = make(core, &entry, buf, steps);
+    run_second(core, header, names, seat, number, line, &reply, buf, steps);
     bind(names, line, &reply)
 }
 
@@ -57,11 +104,10 @@ fn run_line<L: Ledger>(
     buf: &mut Buf,
     steps: &mut Steps<L>,
 ) -> Result<(), NoMemory>
-    requires few { length core.old.events < 6800000 }
-    requires built { is_unbuilt_run false line.now ≡ false }
+    requires fits { cost_of_history core.old.events + cost_of_line line.now ≤ core.old.config.journal }
     requires within { IfSome seat (λ s. s < length lanes.old.items) }
     ensures { (s : List Line) → header.now ≡ header_of s → OnOk result (RunsLine (entry_at s lanes.old.items seat number line.now)
-        core.old core.new lanes.old.items lanes.new.items line.now) }
+        (entry_then s lanes.old.items line.now) core.old core.new lanes.old.items lanes.new.items line.now) }
 {
     let Some(seat) = seat else {
         return Ok(());
@@ -78,17 +124,16 @@ fn run_line<L: Ledger>(
     )
 }
 
-/// Runs the lines of a script one after the other.
+/// Runs the lines of a script one after the other. The journal has room for them all: `NoMemory` is of the names alone.
 pub fn run_lines<L: Ledger>(
     alloc: Global,
     core: &mut Core,
     script: &Script,
     steps: &mut Steps<L>,
 ) -> Result<(), NoMemory>
-    requires opening { core.old ≡ record { config = config_of script.now; events = [] } }
-    requires built { unbuilt_line command.Run script.now ≡ None }
+    requires { core.old ≡ record { config = config_of script.now; events = [] } }
     ensures serial { OnOk result (core.new ≡ record { config = config_of script.now; events = serial script.now }) }
-    ensures few { OnOk result (length core.new.events ≤ 200000) }
+    ensures fits { OnOk result (cost_of_history core.new.events ≤ need script.now) }
 {
     let header = header_of(alloc, script)?;
     let mut lanes = first_names(alloc, script)?;

@@ -1,12 +1,10 @@
-ghost use Rattle.std.specs.Prelude.{◌≡◌, ◌<◌, None, IfOk};
+ghost use Rattle.std.specs.Prelude.{◌≡◌, ◌<◌, IfOk};
 ghost use Rattle.ix_script.specs.scripts.Canonical.{canonical};
-ghost use Rattle.ix_host.specs.serial.Built.{unbuilt_line};
 ghost use Rattle.ix_host.specs.run.Outcome as outcome;
 ghost use Rattle.ix_host.specs.report.Report.{report_of};
 ghost use Rattle.ix_host.specs.run.Run.{Ends};
 ghost use Rattle.ix_host.specs.serial.Serial.{serial};
 ghost use Rattle.ix_host.specs.report.Telling.{IsTold, left_of};
-ghost use Rattle.ix_host.specs.declared.asked.command.Command.TheVariants as command;
 
 use crate::running::serial::run_lines;
 use crate::status::Status;
@@ -55,7 +53,6 @@ fn reported<L: Ledger>(
     script: Script,
     steps: &mut Steps<L>,
 ) -> Result<Report, NoMemory>
-    requires { unbuilt_line command.Run script ≡ None }
     ensures told { IfOk result (λ r. IsTold r) }
     ensures text { IfOk result (λ r. left_of r ≡ report_of script (serial script)) }
 {
@@ -103,7 +100,6 @@ pub fn run<K: Sink, L: Ledger>(alloc: Global, sink: &mut K, script: Script, blan
     requires name { blank.name ≡ L.name }
     requires parts { blank.parts ≡ L.parts }
     requires some { 0 < L.parts }
-    requires built { unbuilt_line command.Run script ≡ None }
     ensures { Ends (outcome.Whole (report_of script (serial script))) result (K.taken sink.old) (K.taken sink.new)
         (K.finished sink.new) (K.faults sink.old) (K.faults sink.new) }
 {

@@ -1,4 +1,4 @@
-ghost use Rattle.std.specs.Prelude.{◌≡◌, ℕ, ◌+◌, ◌≤◌, ◌<◌, List, length, IfSome, OnOk, true, vec_len};
+ghost use Rattle.std.specs.Prelude.{◌≡◌, ℕ, ◌+◌, ◌≤◌, ◌<◌, List, IfSome, OnOk, true, vec_len};
 ghost use Rattle.ix_io.specs.Streams.{HasCause, Rose};
 ghost use Rattle.ix_host.specs.run.Whole.{script_max, Gathers, GoesOn, IsFront, IsShort, TakesFew, Writes};
 

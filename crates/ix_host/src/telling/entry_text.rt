@@ -3,20 +3,9 @@ ghost use Rattle.std.specs.Option.{option_map};
 ghost use Rattle.ix_model.specs.history.Calls.{event_of};
 ghost use Rattle.ix_report.specs.LineText.{entry_line};
 ghost use Rattle.ix_report.specs.ReplyText.{AreBytesOf};
-ghost use Rattle.ix_host.specs.serial.Replies.{count_in};
 
 use ix_model::{Entry, NoMemory, ProcView, Reply};
 use ix_report::entry_line;
-
-/// How many bytes a reply says were read.
-pub fn count_in(reply: &Reply) -> usize
-    ensures { result ≡ count_in reply.now }
-{
-    match reply {
-        Reply::Bytes(k) => *k as usize,
-        _ => 0,
-    }
-}
 
 /// Appends the line of an entry, with the label of the caller's record after it.
 pub fn push_entry(

@@ -1,15 +1,16 @@
-ghost use Rattle.std.specs.Prelude.{◌≡◌, ◌++◌, ◌+◌, ◌-◌, ◌<◌, ◌==◌, None, Some, OnOk, IsTrue, length, slice_get, if◌then◌else◌};
-ghost use Rattle.std.specs.Option.{option_copied, option_map};
-ghost use Rattle.ix_model.specs.history.Calls.{event_of, op_of};
-ghost use Rattle.ix_core.specs.Built.{is_built};
+ghost use Rattle.std.specs.Prelude.{◌≡◌, ◌++◌, ◌+◌, ◌≤◌, None, Some, OnOk, length};
+ghost use Rattle.ix_model.specs.history.Calls.{event_of};
+ghost use Rattle.ix_model.specs.history.Cost.{cost_of, cost_of_history};
 ghost use Rattle.ix_model.specs.history.History.{world_of, with_entry};
 ghost use Rattle.ix_script.specs.lines.Before.{lanes_of};
 ghost use Rattle.ix_host.specs.report.Report.{entry_text, lane_name};
 
-use crate::telling::entry_text::{count_in, push_entry};
+use crate::running::calls::count_in;
+use crate::running::serial::make;
+use crate::telling::entry_text::push_entry;
 use ix_core::Core;
 use ix_label::Steps;
-use ix_model::{Answer, Buf, Entry, NoMemory};
+use ix_model::{Buf, Entry, NoMemory};
 use ix_script::Script;
 use std::sync::ledger::Ledger;
 
@@ -23,7 +24,7 @@ fn lane_name(script: &Script, seat: u32) -> &[u8]
     }
 }
 
-/// Makes an entry once more, and appends its line.
+/// Makes an entry once more, for which the journal has room, and appends its line.
 pub fn replay_entry<L: Ledger>(
     script: &Script,
     core: &mut Core,
@@ -32,19 +33,14 @@ pub fn replay_entry<L: Ledger>(
     buf: &mut Buf,
     steps: &mut Steps<L>,
 ) -> Result<(), NoMemory>
-    requires few { length core.old.events < 6800000 }
-    requires built { IsTrue (is_built (op_of entry.now.call)) }
-    ensures core { OnOk result (core.new ≡ with_entry core.old (event_of entry.now)) }
+    requires { cost_of_history core.old.events + cost_of (event_of entry.now).op ≤ core.old.config.journal }
+    ensures core { core.new ≡ with_entry core.old (event_of entry.now) }
     ensures text { OnOk result (out.new.items ≡ out.old.items
         ++ entry_text (lanes_of script.now) (length core.old.events + 1) (world_of core.old) (event_of entry.now)) }
 {
-    let pid = entry.pid;
-    let Answer::Given(reply) = core.step(entry.seat, entry.line, pid, &entry.call, buf, steps)
-    else {
-        return Err(NoMemory);
-    };
+    let reply = make(core, entry, buf, steps);
     let bytes = &buf[..count_in(&reply)];
-    let caller = core.process(pid);
+    let caller = core.process(entry.pid);
     push_entry(
         out,
         core.len(),

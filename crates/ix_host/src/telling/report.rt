@@ -8,7 +8,7 @@ use crate::telling::replay::replay_entry;
 use ix_core::Core;
 use ix_label::Steps;
 use ix_model::{Buf, NoMemory};
-use ix_report::{head, tail};
+use ix_report::{audit_line, head, tail};
 use ix_script::Script;
 use std::sync::ledger::Ledger;
 
@@ -20,8 +20,10 @@ pub enum Next {
     Entry,
     /// The object of a number, or the heading after the last one.
     Object(u32),
-    /// The process of a pid, or what stands after the last one.
+    /// The process of a pid, or the heading after the last one.
     Process(u32),
+    /// The line of the audit log at an index, or the last line of all.
+    Log(u32),
     End,
 }
 
@@ -49,6 +51,7 @@ impl Report {
             Next::Entry => false,
             Next::Object(_) => false,
             Next::Process(_) => false,
+            Next::Log(_) => false,
             Next::End => true,
         }
     }
@@ -101,19 +104,34 @@ impl Report {
         Ok(())
     }
 
-    /// Tells the process of a pid, or what stands after the last one. No call is built yet that is logged.
+    /// Tells the process of a pid, or the heading after the last one.
     fn tell_process(&mut self, out: &mut Vec<u8>, pid: u32) -> Result<(), NoMemory>
         requires { self.old.next ≡ next.Process pid }
         ensures { OnOk result (Tells self.old self.new out.old.items out.new.items) }
     {
         if pid >= self.history.next_pid().0 {
             push(out, b"log\n")?;
-            tail(out, self.history.len(), 0)?;
-            self.next = Next::End;
+            self.next = Next::Log(0);
             return Ok(());
         }
         push_process(out, &self.history, pid)?;
         self.next = Next::Process(pid + 1);
+        Ok(())
+    }
+
+    /// Tells the line of the audit log at an index, or the last line of all.
+    fn tell_log(&mut self, out: &mut Vec<u8>, n: u32) -> Result<(), NoMemory>
+        requires { self.old.next ≡ next.Log n }
+        ensures { OnOk result (Tells self.old self.new out.old.items out.new.items) }
+    {
+        let lines = self.history.log_len();
+        let Some(line) = self.history.log_line(n) else {
+            tail(out, self.history.len(), lines)?;
+            self.next = Next::End;
+            return Ok(());
+        };
+        audit_line(out, &line)?;
+        self.next = Next::Log(n + 1);
         Ok(())
     }
 
@@ -133,6 +151,7 @@ impl Report {
             Next::Entry => self.tell_entry(out, buf, steps),
             Next::Object(n) => self.tell_object(out, n),
             Next::Process(pid) => self.tell_process(out, pid),
+            Next::Log(n) => self.tell_log(out, n),
             Next::End => Ok(()),
         }
     }

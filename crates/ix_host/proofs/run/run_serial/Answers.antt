@@ -32,8 +32,11 @@ returns-in-Whole-clause-written g c = let e = rw c.as_slice.ensures.value at c.a
 
 pub returns-in-Whole-clause-hides : goal.returns-in-Whole-clause-hides
 returns-in-Whole-clause-hides g c = let e = rw c.as_slice.ensures.value at c.answer.ensures in λ a b.
-    hides_run c.in-Some.command (command_of c.args.words.now) c.answer.result (g.S.Source.left c.args.source.now) (g.S.Source.left c.read_all.new.source) c.in-Whole.bytes.items
-    (sym c.in-Some.is ∙ c.in-Ok.ensures) e.fits c.in-Whole.ensures.told a b
+    hides_run c.in-Some.command (command_of c.args.words.now) c.answer.result (g.S.Source.left c.args.source.now) (g.S.Source.left c.read_all.new.source) (g.K.Sink.taken c.args.sink.now)
+    (g.K.Sink.taken c.answer.new.sink) c.in-Whole.bytes.items (sym c.in-Some.is ∙ c.in-Ok.ensures) e.fits c.in-Whole.ensures.told
+    (is_wanted c.in-Some.command (command_of c.args.words.now) c.answer.result (g.S.Source.left c.args.source.now) (g.S.Source.left c.read_all.new.source) (g.K.Sink.taken c.args.sink.now)
+    (g.K.Sink.taken c.answer.new.sink) c.in-Whole.bytes.items (sym c.in-Some.is ∙ c.in-Ok.ensures) c.in-Whole.ensures.told e.text)
+    a b
 
 pub returns-in-Whole-clause-answer : goal.returns-in-Whole-clause-answer
 returns-in-Whole-clause-answer g c = let e = rw c.as_slice.ensures.value at c.answer.ensures in

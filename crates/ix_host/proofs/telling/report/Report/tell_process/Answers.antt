@@ -4,8 +4,7 @@ use Rattle.ix_host.proofs.telling.report.Report.tell_process.Goals as goal
 
 pub returns-then-pid-next_pid : goal.returns-then-pid-next_pid
 returns-then-pid-next_pid c =
-    processes_told c.args.self.now c.args.out.now.items c.tail.new.out.items c.args.pid c.push.new.out.items c.requires (omega (arith, c.next_pid.ensures, c.if-pid-next_pid.true))
-    c.len.ensures.unlogged c.in_ok-push.ensures (rw (← c.len.ensures.len) c.in_ok-tail.ensures.ok)
+    processes_told c.args.self.now c.args.out.now.items c.push.new.out.items c.args.pid c.requires (omega (arith, c.next_pid.ensures, c.if-pid-next_pid.true)) c.in_ok-push.ensures
 
 pub returns : goal.returns
 returns c =

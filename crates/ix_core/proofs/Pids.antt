@@ -1,0 +1,131 @@
+-- A call makes one process at most, so pids stay few as long as entries do.
+use Rattle.std.proofs.Common.{◌≡◌, ◌≤◌, ◌+◌, ℕ, suc, Bool, true, false, List, [], ◌∷◌, ◌++◌, length, nat_lt, count_by, is_some, Option, Some, None, refl, sym, subst, arith, length-set, length-append}
+use Rattle.std.specs.List.{list_all}
+use Rattle.ix_model.specs.world.World.{World, Frame, Process, at, living}
+use Rattle.ix_model.specs.rows.Rows.{◌>>=◌, ◌>>◌, on_pass, process, some, need, frame, pass, refuse, change_object, change_process, put_object, put_open, put_process, add_process, change_open}
+use Rattle.ix_model.specs.rows.Auditing.{logged}
+use Rattle.ix_model.specs.rows.OnProcesses.{end_process, fork, has_kept, kept_fds}
+use Rattle.ix_model.specs.declared.call.Keep.{Keep}
+use Rattle.ix_model.specs.rows.OnDescriptors.{Told}
+use Rattle.ix_model.specs.rows.Table.{row, verdict}
+use Rattle.ix_model.specs.rows.Telling.{told}
+use Rattle.ix_model.specs.history.Step.{step, step_of, run}
+use Rattle.ix_model.specs.history.Events.{Op, Event}
+use Rattle.ix_model.specs.history.Events as op
+use Rattle.ix_model.proofs.words.Keeps.{Holds, Keeps}
+use Rattle.ix_model.proofs.words.Rowwise.{Change, Forking, Words, changes_of, kept_row}
+use Rattle.ix_model.proofs.words.Lasts.{decided}
+use Rattle.ix_model.proofs.words.Answered.{step_frame}
+
+-- so many pids more than there were
+pub record Grown (n : ℕ) (f g : Frame) : Type 0 where
+  pub few : length g.processes ≤ length f.processes + n
+
+abbrev makes_no_process : Change → Bool
+makes_no_process Forking = false
+makes_no_process _ = true
+
+abbrev is_fork : Op → Bool
+is_fork (op.Fork keep) = true
+is_fork _ = false
+
+bears : (c : Op) → is_fork c ≡ false → list_all makes_no_process (changes_of c) ≡ true
+bears (op.Fork keep) h = cc
+bears _ h = refl
+
+-- ---- the words
+with_processes : (n : ℕ) (f g : Frame) (t : List (Option Process)) → length t ≡ length g.processes → Grown n f g → Grown n f (record g { processes = t })
+with_processes n f g t same r = record { few = omega (arith, same, r.few) }
+
+module _ (n : ℕ) (f : Frame) where
+  grown_object : (o : ℕ) (x : Option _) → Keeps (Grown n f) (put_object o x)
+  unfolding put_object Holds
+  grown_object o x = record { led = λ g r. record { few = r.few } }
+
+  grown_changed : (o : ℕ) (h : _) → Keeps (Grown n f) (change_object o h)
+  unfolding change_object Holds
+  grown_changed o h = record { led = λ g r. record { few = r.few } }
+
+  grown_entry : (e : ℕ) (x : Option _) → Keeps (Grown n f) (put_open e x)
+  unfolding put_open Holds
+  grown_entry e x = record { led = λ g r. record { few = r.few } }
+
+  grown_opened : (e : ℕ) (h : _) → Keeps (Grown n f) (change_open e h)
+  unfolding change_open Holds
+  grown_opened e h = record { led = λ g r. record { few = r.few } }
+
+  grown_process : (p : ℕ) (h : Process → Process) → Keeps (Grown n f) (change_process p h)
+  unfolding change_process Holds
+  grown_process p h = record { led = λ g r. with_processes n f g _ (length-set g.processes p _) r }
+
+  grown_put : (p : ℕ) (x : Option Process) → Keeps (Grown n f) (put_process p x)
+  unfolding put_process Holds
+  grown_put p x = record { led = λ g r. with_processes n f g _ (length-set g.processes p x) r }
+
+  grown_end : (p : ℕ) → Keeps (Grown n f) (end_process p)
+  unfolding end_process
+  grown_end p = record { led = λ g r. (grown_put p _).led g r }
+
+  grown_log : (l : _) → Keeps (Grown n f) (logged l)
+  unfolding logged Holds
+  grown_log l = record { led = λ g r. record { few = r.few } }
+
+  grown_words : (pid : ℕ) → Words makes_no_process pid (Grown n f)
+  grown_words pid = record {
+    object = λ o h same. grown_changed o h;
+    process = λ p h same. grown_process p h;
+    float = λ h same. grown_process pid h;
+    entry = λ e x low. grown_entry e (Some x);
+    through = λ can e l. grown_opened e _;
+    unclaim = λ o end. grown_changed o _;
+    relabel = λ can o h same. grown_changed o h;
+    claim = λ can o h same. grown_changed o h;
+    log = λ can. grown_log;
+    inode = λ can g o k kind r free. grown_object o _;
+    pipe = λ can g o r free. grown_object o _;
+    gone_object = λ can o. grown_object o None;
+    gone_open = λ can e. grown_entry e None;
+    fork = λ can q. cc;
+    end = λ can. grown_end pid;
+    collect = λ can p. grown_put p None;
+  }
+
+-- ---- a fork
+no_more : (f : Frame) → Grown 1 f f
+no_more f = record { few = omega arith }
+
+one_more : (f : Frame) (p : Process) → Grown 1 f (record f { processes = f.processes ++ Some p ∷ [] })
+one_more f p = record { few = omega (arith, length-append f.processes (Some p ∷ [])) }
+
+forked_by : (f : Frame) (pid : ℕ) (keep : Keep) (p : Process) (a b : Bool) → living (at f.processes pid) ≡ Some p → has_kept keep p ≡ a → nat_lt (count_by is_some f.processes) f.limits.procs ≡ b → Holds (fork pid keep f) (Grown 1 f)
+unfolding fork ◌>>=◌ ◌>>◌ on_pass process some need frame add_process pass refuse Holds
+forked_by f pid keep p true true is h k = rw (is, h, k) (one_more f (record p { parent = Some pid; fds = kept_fds keep p.fds }))
+forked_by f pid keep p true false is h k = rw (is, h, k) (no_more f)
+forked_by f pid keep p false b is h k = rw (is, h) (no_more f)
+
+forked_by_none : (f : Frame) (pid : ℕ) (keep : Keep) → living (at f.processes pid) ≡ None → Holds (fork pid keep f) (Grown 1 f)
+unfolding fork ◌>>=◌ on_pass process some refuse Holds
+forked_by_none f pid keep is = rw is (no_more f)
+
+grown_fork : (f : Frame) (pid : ℕ) (keep : Keep) → Holds (fork pid keep f) (Grown 1 f)
+grown_fork f pid keep = go (living (at f.processes pid)) refl
+  where
+    go : (o : Option Process) → living (at f.processes pid) ≡ o → Holds (fork pid keep f) (Grown 1 f)
+    go None is = forked_by_none f pid keep is
+    go (Some p) is = forked_by f pid keep p (has_kept keep p) (nat_lt (count_by is_some f.processes) f.limits.procs) is refl refl
+
+-- ---- all calls
+grown_row : (f : Frame) (t : Told) (place pid : ℕ) (c : Op) → Holds (row t place pid c f) (Grown 1 f)
+unfolding row
+grown_row f t place pid (op.Fork keep) = grown_fork f pid keep
+grown_row f t place pid c = (kept_row makes_no_process pid (Grown 1 f) (grown_words 1 f pid) t place c (bears c refl)).led f (record { few = omega arith })
+
+pub one_pid_more : (w : World) (place pid : ℕ) (c : Op) → length (step w place pid c).world.frame.processes ≤ length w.frame.processes + 1
+one_pid_more w place pid c =
+    let first : Grown 1 w.frame w.frame = record { few = omega arith } in
+    let r : Grown 1 w.frame (verdict (told w pid c) place pid c w.frame).frame = decided (Grown 1 w.frame) (told w pid c) place pid c w.frame first (grown_row w.frame (told w pid c) place pid c) in
+    subst (λ (g : Frame). length g.processes ≤ length w.frame.processes + 1) (sym (step_frame w place pid c)) r.few
+
+pub pids_run : (w : World) (place : ℕ) (h : List Event) → length (run w place h).frame.processes ≤ length w.frame.processes + length h
+pids_run w place [] = omega arith
+pids_run w place (e ∷ h) = omega (arith, pids_run (step_of w place e).world (suc place) h, one_pid_more w place e.pid e.op)

@@ -1,0 +1,115 @@
+ghost use Rattle.std.specs.Prelude.{◌≡◌, ◌≤◌, ◌<◌};
+ghost use Rattle.ix_model.specs.history.Calls.{op_of};
+ghost use Rattle.ix_model.specs.history.Cost.{cost_of_history};
+ghost use Rattle.ix_model.specs.history.Made.{entry};
+ghost use Rattle.ix_model.specs.history.Seats.{made_by, GoesOn};
+ghost use Rattle.ix_model.specs.history.Systems.{made_after, FullFor, Fits, LeavesRest};
+ghost use Rattle.ix_core.specs.Stops.{FilledUp, StopsWhereFull};
+
+use crate::keeper::Core;
+use ix_label::Steps;
+use ix_model::{Answer, Buf, Call, Pid, Sys};
+use std::marker::Brand;
+use std::sync::ledger::{Blank, Ledger};
+
+/// What makes calls on a core as one seat, on one thread. It borrows the core.
+///
+/// It means the entries of its seat in the core's history, each with the reply that the history's run gives. So one that is
+/// made anew on the same core for the same seat means the same list. A full journal alone stops its calls: memory never runs
+/// out.
+#[derive(Drop)]
+pub struct CoreSys<'a> {
+    core: &'a mut Core,
+    seat: u32,
+    /// How many calls stopped, at most 2^64 - 1.
+    stops: u64,
+    /// What the last stop told; zeros where there was none.
+    used: u64,
+    need: u64,
+    cap: u64,
+    ghost last: { 0 < stops → FilledUp used cap core.now },
+}
+
+impl<'a> CoreSys<'a> {
+    ghost use Rattle.ix_core.specs.OneSeat.{core_of, seat_of, made_of, stops_of};
+
+    /// A seat's system over a core. It has the entries that the seat has made there, and no stops.
+    pub fn new(core: &'a mut Core, seat: u32) -> CoreSys<'a>
+        ensures same { (core_of result).ghost_name ≡ core.entry.ghost_name }
+        ensures core { (core_of result).now ≡ core.old }
+        ensures seat { seat_of result ≡ seat }
+        ensures made { made_of result ≡ made_by seat core.old }
+        ensures fresh { stops_of result ≡ 0 }
+    {
+        CoreSys {
+            core,
+            seat,
+            stops: 0,
+            used: 0,
+            need: 0,
+            cap: 0,
+        }
+    }
+}
+
+impl Sys for CoreSys<'_> {
+    ghost use Rattle.std.specs.Prelude.{refl};
+    ghost use Rattle.std.proofs.Common.{◌∙◌, subst};
+    ghost use Rattle.ix_model.proofs.words.Seats.{goes_on_not, goes_on_further};
+    ghost use Rattle.ix_core.specs.OneSeat.{core_of, seat_of, made_of, stops_of, stopped_of, Onward};
+
+    ghost seat = { seat_of };
+
+    ghost made = { made_of };
+
+    ghost stops = { stops_of };
+
+    ghost stopped = { stopped_of };
+
+    ghost follows = { Onward };
+
+    ghost reflexive = { λ s. (refl, refl, goes_on_not (seat_of s) (core_of s).now) };
+
+    ghost transitive = { λ s t u p q. (
+      q.0 ∙ p.0,
+      q.1 ∙ p.1,
+      goes_on_further (seat_of s) (core_of s).now (core_of t).now (core_of u).now p.2
+          (subst (λ n. GoesOn n (core_of t).now (core_of u).now) p.1 q.2),
+    ) };
+
+    fn call(&mut self, line: u32, pid: Pid, call: &Call<'_>, buf: &mut Buf) -> Answer {
+        let answer = step_as::<Brand>(self.core, self.seat, line, pid, call, buf, Blank::new(1));
+        if let Answer::JournalFull { used, need, cap } = answer {
+            self.stops = self.stops.saturating_add(1);
+            self.used = used;
+            self.need = need;
+            self.cap = cap;
+        }
+        answer
+    }
+}
+
+/// A seat's step on a core, whose looks at labels nobody counts. The ledger of the steps is the caller's choice.
+fn step_as<L: Ledger>(
+    core: &mut Core,
+    seat: u32,
+    line: u32,
+    pid: Pid,
+    call: &Call<'_>,
+    buf: &mut Buf,
+    blank: Blank,
+) -> Answer
+    requires name { blank.name ≡ L.name }
+    requires parts { blank.parts ≡ L.parts }
+    requires some { 0 < L.parts }
+    ensures made { made_by seat core.new ≡ made_after result (entry seat line pid (op_of call.now)) (made_by seat core.old) }
+    ensures on { GoesOn seat core.old core.new }
+    ensures full { FullFor (op_of call.now) result }
+    ensures fits { Fits (op_of call.now) result }
+    ensures rest { LeavesRest result buf.old buf.new }
+    ensures stops { StopsWhereFull result core.new }
+    ensures costs { cost_of_history core.old.events ≤ cost_of_history core.new.events }
+{
+    let mut steps = Steps::<L>::new(blank);
+    core.step(seat, line, pid, call, buf, &mut steps)
+}

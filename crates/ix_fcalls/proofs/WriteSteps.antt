@@ -1,0 +1,83 @@
+-- What a write comes to as a step of the world.
+use Rattle.std.proofs.Common.{◌≡◌, ◌-◌, ℕ, Bool, true, false, List, [], length, Option, Some, None, refl, sym, ap, subst, ◌∙◌, if◌then◌else◌}
+use Rattle.std.proofs.lemmas.Bool.{not-true}
+use Rattle.ix_model.specs.world.World.{World, Frame, Content, Process}
+use Rattle.ix_model.specs.world.Contents.{on_pipe, after_write, side, holding_of}
+use Rattle.ix_model.specs.laws.Sound.{Sound}
+use Rattle.ix_model.specs.rows.OnDescriptors.{Told}
+use Rattle.ix_model.specs.rows.Table.{verdict}
+use Rattle.ix_model.specs.rows.Telling.{told, nothing_told, told_of_write, told_of_pipe_write, told_of_file_write}
+use Rattle.ix_model.specs.rows.Walks.{Behind, behind}
+use Rattle.ix_model.specs.history.Step.{step, answer, plainly, edited, write_answer}
+use Rattle.ix_model.specs.history.Events as op
+use Rattle.ix_model.specs.declared.reply.Reply.{Reply}
+use Rattle.ix_model.specs.declared.reply.Reply.TheVariants as reply
+use Rattle.ix_model.proofs.frames.Floats.{Floats}
+use Rattle.ix_model.proofs.clean.Cleaning.{wrote}
+use Rattle.ix_tables.specs.Parts.{Parts}
+use Rattle.ix_fcalls.specs.Around.{Around, frame_of, world_of}
+use Rattle.ix_fcalls.specs.Counted.{Keeps}
+use Rattle.ix_fcalls.specs.Filed.{Answers}
+use Rattle.ix_fcalls.proofs.Answering.{answers_said, answers_edited}
+use Rattle.ix_fcalls.proofs.Unmoved.{floats_write, told_write_same, after_write_same, content_same}
+
+write_none : (w : World) (place pid fd : ℕ) (new : List ℕ) → behind w.frame pid fd ≡ None → step w place pid (op.WriteFd fd new) ≡ plainly w (verdict nothing_told place pid (op.WriteFd fd new) w.frame)
+unfolding step answer told told_of_write write_answer
+write_none w place pid fd new none = rw none refl
+
+write_some : (w : World) (place pid fd : ℕ) (new : List ℕ) (e : Behind) (m : Told) → behind w.frame pid fd ≡ Some e → m ≡ told_of_write w.frame w.content (length new) (Some e)
+    → step w place pid (op.WriteFd fd new) ≡ write_answer w new (Some e) (verdict m place pid (op.WriteFd fd new) w.frame).reply (verdict m place pid (op.WriteFd fd new) w.frame).frame
+unfolding step answer told
+write_some w place pid fd new e m some is = rw (some, ← is) refl
+
+unwritten : (w : World) (new : List ℕ) (e : Behind) (r : Reply) (g : Frame) → ((k : ℕ) → r ≡ reply.Number k → ⊥) → write_answer w new (Some e) r g ≡ plainly w (record { reply = r; frame = g })
+unfolding write_answer
+unwritten w new e (reply.Number k) g not = absurd (not k refl)
+unwritten w new e _ g not = refl
+
+was_written : (w : World) (new : List ℕ) (e : Behind) (r : Reply) (g : Frame) (k : ℕ) → r ≡ reply.Number k → write_answer w new (Some e) r g ≡ edited w g (reply.Number (length new)) [] (after_write w.frame e new)
+unfolding write_answer
+was_written w new e r g k is = rw is refl
+
+-- a write is never told that there is nothing to read
+none_empty : (f : Frame) (c : Content) (n : ℕ) (e : Behind) → (told_of_write f c n (Some e)).empty ≡ false
+unfolding told_of_write
+none_empty f c n e = either (on_pipe f e)
+  where
+    either : (b : Bool) → (if b then told_of_pipe_write (length (side (1 - e.entry.end) (holding_of c e.entry.object))) n else told_of_file_write f c e n).empty ≡ false
+    either true = refl
+    either false = refl
+
+-- the write of a list through a descriptor, as it is decided
+module _ (a : Around) (t u : Parts) (ps qs : List (Option Process)) (fd : ℕ) (new : List ℕ) (m : Told) (r : Reply) (sound : Sound (world_of a t ps)) (kept : Keeps t u)
+    (said : r ≡ (verdict m a.place a.pid (op.WriteFd fd new) (frame_of a t ps)).reply) (stands : frame_of a u qs ≡ (verdict m a.place a.pid (op.WriteFd fd new) (frame_of a t ps)).frame) where
+  pub write_floats : Floats (frame_of a t ps) (frame_of a u qs)
+  write_floats = subst (λ (g : Frame). Floats (frame_of a t ps) g) (sym stands) (floats_write m a.place a.pid fd new (frame_of a t ps))
+
+  pub answers_write_none : (buf : List ℕ) → behind (frame_of a t ps) a.pid fd ≡ None → m ≡ nothing_told → Answers (step (world_of a t ps) a.place a.pid (op.WriteFd fd new)) (world_of a u qs) r buf buf
+  answers_write_none buf none is = answers_said a t u ps qs (op.WriteFd fd new) m refl sound kept stands r buf said
+      (write_none (world_of a t ps) a.place a.pid fd new none ∙ ap (λ n. plainly (world_of a t ps) (verdict n a.place a.pid (op.WriteFd fd new) (frame_of a t ps))) (sym is))
+
+  module _ (e : Behind) (some : behind (frame_of a t ps) a.pid fd ≡ Some e) (is : m ≡ told_of_write (frame_of a t ps) (world_of a t ps).content (length new) (Some e)) where
+    pub answers_unwritten : (buf : List ℕ) → ((k : ℕ) → r ≡ reply.Number k → ⊥) → Answers (step (world_of a t ps) a.place a.pid (op.WriteFd fd new)) (world_of a u qs) r buf buf
+    answers_unwritten buf not = answers_said a t u ps qs (op.WriteFd fd new) m refl sound kept stands r buf said
+        (write_some (world_of a t ps) a.place a.pid fd new e m some is ∙ unwritten (world_of a t ps) new e _ _ (λ k b. not k (said ∙ b)))
+
+    -- there is room for a write that passed
+    pub write_room : (k : ℕ) → r ≡ reply.Number k → told_of_write (frame_of a u qs) (world_of a u qs).content (length new) (Some e) ≡ nothing_told
+    write_room k number =
+        let facts = wrote m a.place a.pid fd new (frame_of a t ps) k (sym said ∙ number) in
+        let big = not-true m.too_big facts.small in
+        let full = not-true m.full facts.room in
+        let space = not-true m.no_space facts.space in
+        let empty : m.empty ≡ false = ap (λ (n : Told). n.empty) is ∙ none_empty (frame_of a t ps) (world_of a t ps).content (length new) e in
+        told_write_same (frame_of a t ps) (frame_of a u qs) write_floats (world_of a u qs).content (length new) e
+        ∙ ap (λ c. told_of_write (frame_of a t ps) c (length new) (Some e)) (content_same a t u ps qs kept)
+        ∙ sym is ∙ (λ i. record { too_big = big i; full = full i; no_space = space i; empty = empty i })
+
+    pub answers_write : (v : Parts) (k : ℕ) (buf : List ℕ) → r ≡ reply.Number k → frame_of a v qs ≡ frame_of a u qs → (world_of a v qs).content ≡ after_write (frame_of a u qs) e new (world_of a u qs).content
+        → Answers (step (world_of a t ps) a.place a.pid (op.WriteFd fd new)) (world_of a v qs) (reply.Number (length new)) buf buf
+    answers_write v k buf number same moved =
+        answers_edited a t u ps qs (op.WriteFd fd new) m refl sound kept stands v (reply.Number (length new)) [] buf buf (after_write (frame_of a t ps) e new)
+        (write_some (world_of a t ps) a.place a.pid fd new e m some is ∙ was_written (world_of a t ps) new e _ _ k (sym said ∙ number))
+        same (moved ∙ after_write_same (frame_of a t ps) (frame_of a u qs) write_floats e new (world_of a u qs).content) refl

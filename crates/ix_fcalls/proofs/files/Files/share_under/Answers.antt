@@ -1,0 +1,10 @@
+use Rattle.std.proofs.Common.{ap, ◌∙◌, ◌+◌, slice_set, slice_index_or}
+use Rattle.ix_tables.specs.Parts.{Parts}
+use Rattle.ix_fcalls.proofs.Giving.{counted_shared}
+use Rattle.ix_fcalls.proofs.files.Files.share_under.Goals as goal
+
+pub returns-clause-counted : goal.returns-clause-counted
+returns-clause-counted g c =
+    counted_shared c.args.self.now c.args.who.now c.requires.counted _ c.args.fd c.args.id c.requires.free c.share.new.self c.set_fd.new.self c.requires.stands
+    (c.share.ensures ∙ ap (λ (v : Parts). let w : Parts = record v { owners = slice_set v.owners c.args.id (slice_index_or v.owners c.args.id 0 + 1) } in w) c.self.view_is)
+    c.set_fd.ensures

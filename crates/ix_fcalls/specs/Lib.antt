@@ -1,0 +1,9 @@
+pub mod Around
+pub mod Counted
+pub mod Calling
+pub mod Meanings
+pub mod Telling
+pub mod Serving
+pub mod Filed
+pub mod Claiming
+pub mod Remaining

@@ -1,0 +1,180 @@
+ghost use Rattle.std.specs.Prelude.{◌≡◌, ◌<◌, ◌≤◌, ◌-◌, ◌&&◌, OnErr, Some, true, false, length, take, drop, slice_index_or, slice_set};
+ghost use Rattle.std.specs.Option.{option_map_or};
+ghost use Rattle.ix_model.specs.history.Events as op;
+ghost use Rattle.ix_model.specs.history.Step.{step, put_front};
+ghost use Rattle.ix_model.specs.laws.Sound.{Sound};
+ghost use Rattle.ix_model.specs.rows.Outcomes.{RowIs};
+ghost use Rattle.ix_model.specs.rows.OnDescriptors.{read_fd};
+ghost use Rattle.ix_model.specs.rows.Telling.{told_of_read};
+ghost use Rattle.ix_model.specs.rows.Walks.{node};
+ghost use Rattle.ix_model.specs.world.Contents.{readable, after_read, holds_nothing, side, with_side};
+ghost use Rattle.ix_model.specs.world.World.{at, held, is_file, is_pipe, may_read};
+ghost use Rattle.ix_fcalls.specs.Around.{frame_of, world_of};
+ghost use Rattle.ix_fcalls.specs.Counted.{IsCounted, Keeps};
+ghost use Rattle.ix_fcalls.specs.Filed.{Answers};
+ghost use Rattle.ix_fcalls.specs.Meanings.{behind_of};
+ghost use Rattle.ix_fcalls.specs.Serving.{Serves};
+ghost use Rattle.ix_fcalls.specs.Telling.{told_of};
+
+use crate::behind::Behind;
+use crate::files::Files;
+use crate::told::{NOTHING_TOLD, Told};
+use crate::who::{Rest, Who};
+use ix_label::Steps;
+use ix_model::{Buf, Call, Fd, Mode, Refusal, Reply};
+use std::sync::ledger::Ledger;
+
+/// Reads.
+impl Files {
+    /// ReadFd: its tests, and the floating of the caller's label and of the open entry's. The bytes, and their number in
+    /// the reply, come later.
+    #[tactic(auto, unfolding(ix_model::specs::rows::Rows::coding, ix_model::specs::rows::Walks::opened, ix_model::specs::rows::OnDescriptors::float_entry, ix_model::specs::rows::OnDescriptors::read_fd))]
+    pub(crate) fn read_fd<R: Rest, L: Ledger>(
+        &mut self,
+        told: Told,
+        who: &mut Who<R>,
+        fd: Fd,
+        count: u32,
+        steps: &mut Steps<L>,
+    ) -> Result<Reply, Refusal>
+        requires sound { Sound (world_of R.rest self.old who.old) }
+        requires counted { IsCounted self.old who.old }
+        ensures row { RowIs result (frame_of R.rest self.new who.new) (read_fd (told_of told) R.rest.pid fd.0 count (frame_of R.rest self.old who.old)) }
+        ensures counted { IsCounted self.new who.new }
+        ensures back { OnErr result (self.new ≡ self.old) }
+        ensures kept { Keeps self.old self.new }
+    {
+        let e = self.behind(who, fd).ok_or(Refusal::BadFd)?;
+        if !reads(e.mode) {
+            return Err(Refusal::NotReadable);
+        }
+        let Some(x) = self.tables.object(e.object) else {
+            return Err(Refusal::BadFd);
+        };
+        if self.is_claimed_by_another(who, &e) {
+            return Err(Refusal::PexHeld);
+        }
+        if count > 4096 {
+            return Err(Refusal::TooBig);
+        }
+        let seen = x.float.label.join(&e.label, steps);
+        self.observe(who, &seen, steps)?;
+        let p = *who.caller();
+        if x.is_pipe() {
+            if self.has_to_wait(told, &e) {
+                return Err(Refusal::Again);
+            }
+            return Ok(Reply::Bytes(0));
+        }
+        self.float_entry(e.id, &p.float.label, steps);
+        Ok(Reply::Bytes(0))
+    }
+
+    /// Whether a read of a pipe has to wait: there is nothing to read, and some open entry is on the other end.
+    fn has_to_wait(&self, told: Told, e: &Behind) -> bool
+        ensures { result ≡ (told.empty && held self.now.opens e.now.object (1 - e.now.end)) }
+    {
+        told.empty && self.is_held_there(e)
+    }
+
+    /// What the lengths tell of a read: whether there is nothing left.
+    fn told_of_read<R: Rest>(&self, who: &Who<R>, e: &Behind) -> Told
+        requires { Serves self.now e.now }
+        ensures { told_of result ≡ told_of_read (frame_of R.rest self.now who.now) (world_of R.rest self.now who.now).content (Some (behind_of e.now)) }
+    {
+        let _ = who;
+        if self.is_on_pipe(e) {
+            let there = self.tables.left(e.object, e.end);
+            return Told {
+                empty: there == 0,
+                ..NOTHING_TOLD
+            };
+        }
+        let held = self.tables.size(e.object);
+        Told {
+            empty: held <= e.offset as u64,
+            ..NOTHING_TOLD
+        }
+    }
+
+    /// Copies what a file holds from an offset on, up to the count, to the front of the buffer, and answers how many bytes
+    /// that is.
+    fn copy_bytes(&self, object: u32, offset: u32, count: u32, buf: &mut Buf) -> u32
+        requires file { option_map_or is_file (at self.now.objects object) false ≡ true }
+        requires few { count ≤ 4096 }
+        ensures count { result ≡ length (take count (drop offset (slice_index_or self.now.holdings object holds_nothing).first)) }
+        ensures few { result ≤ 4096 }
+        ensures bytes { buf.new ≡ put_front (take count (drop offset (slice_index_or self.now.holdings object holds_nothing).first)) buf.old }
+    {
+        self.tables
+            .read(object, offset as u64, &mut buf[..count as usize]) as u32
+    }
+
+    /// Takes what an end of a pipe can read, up to the count, to the front of the buffer, and answers how many bytes that
+    /// is.
+    fn take_bytes(&mut self, object: u32, end: u8, count: u32, buf: &mut Buf) -> u32
+        requires pipe { is_pipe (node self.old.objects object) ≡ true }
+        requires end { end < 2 }
+        requires few { count ≤ 4096 }
+        ensures count { result ≡ length (take count (side end (slice_index_or self.old.holdings object holds_nothing))) }
+        ensures bytes { buf.new ≡ put_front (take count (side end (slice_index_or self.old.holdings object holds_nothing))) buf.old }
+        ensures rest { self.new ≡ record self.old { holdings = slice_set self.old.holdings object (with_side end (drop result (side end (slice_index_or self.old.holdings object holds_nothing))) (slice_index_or self.old.holdings object holds_nothing)) } }
+    {
+        self.tables.take(object, end, &mut buf[..count as usize]) as u32
+    }
+
+    /// Reads what there is behind an open entry, up to the count, into the front of the buffer, and answers how many bytes
+    /// that is. They leave a pipe; a file's offset moves past them.
+    fn read_bytes<R: Rest>(&mut self, who: &Who<R>, e: &Behind, count: u32, buf: &mut Buf) -> u32
+        requires serves { Serves self.old e.now }
+        requires few { count ≤ 4096 }
+        requires counted { IsCounted self.old who.now }
+        ensures count { result ≡ length (take count (readable (frame_of R.rest self.old who.now) (world_of R.rest self.old who.now).content (behind_of e.now))) }
+        ensures bytes { buf.new ≡ put_front (take count (readable (frame_of R.rest self.old who.now) (world_of R.rest self.old who.now).content (behind_of e.now))) buf.old }
+        ensures frame { frame_of R.rest self.new who.now ≡ frame_of R.rest self.old who.now }
+        ensures content { (world_of R.rest self.new who.now).content ≡ after_read (frame_of R.rest self.old who.now) (behind_of e.now) result (world_of R.rest self.old who.now).content }
+        ensures counted { IsCounted self.new who.now }
+    {
+        let _ = who;
+        if self.is_on_pipe(e) {
+            return self.take_bytes(e.object, e.end, count, buf);
+        }
+        let k = self.copy_bytes(e.object, e.offset, count, buf);
+        let past = e.offset + k;
+        self.tables.seek(e.id, past);
+        k
+    }
+
+    /// A read: the decision, and then the bytes into the front of the buffer.
+    pub(crate) fn read<R: Rest, L: Ledger>(
+        &mut self,
+        who: &mut Who<R>,
+        fd: Fd,
+        count: u32,
+        buf: &mut Buf,
+        steps: &mut Steps<L>,
+    ) -> Reply
+        requires sound { Sound (world_of R.rest self.old who.old) }
+        requires counted { IsCounted self.old who.old }
+        requires few { self.old.limits.procs ≤ 1024 }
+        ensures step { Answers (step (world_of R.rest self.old who.old) R.rest.place R.rest.pid (op.ReadFd fd.0 count)) (world_of R.rest self.new who.new) result buf.old buf.new }
+        ensures counted { IsCounted self.new who.new }
+    {
+        let call = Call::ReadFd { fd, count };
+        let Some(e) = self.behind(who, fd) else {
+            return self.decide(NOTHING_TOLD, who, &call, steps);
+        };
+        let told = self.told_of_read(who, &e);
+        match self.decide(told, who, &call, steps) {
+            Reply::Bytes(_) => Reply::Bytes(self.read_bytes(who, &e, count, buf)),
+            reply => reply,
+        }
+    }
+}
+
+/// Whether a descriptor of that mode may read.
+fn reads(mode: Mode) -> bool
+    ensures { result ≡ may_read mode }
+{
+    matches!(mode, Mode::Read | Mode::Both)
+}

@@ -1,0 +1,193 @@
+ghost use Rattle.std.specs.Prelude.{◌≡◌, ◌+◌, ◌<◌, ◌≤◌, ◌||◌, OnErr, ℕ, List, Some, true, false, length, nat_lt, slice_index_or};
+ghost use Rattle.std.specs.Option.{option_map_or};
+ghost use Rattle.ix_model.specs.history.Events as op;
+ghost use Rattle.ix_model.specs.history.Step.{step};
+ghost use Rattle.ix_model.specs.laws.Sound.{Sound};
+ghost use Rattle.ix_model.specs.rows.Outcomes.{RowIs};
+ghost use Rattle.ix_model.specs.rows.OnDescriptors.{write_fd};
+ghost use Rattle.ix_model.specs.rows.Telling.{nothing_told, told_of_write, told_of_file_write, told_of_pipe_write, length_then};
+ghost use Rattle.ix_model.specs.world.Contents.{after_write};
+ghost use Rattle.ix_model.specs.world.World.{at, is_file, is_pipe};
+ghost use Rattle.ix_fcalls.specs.Around.{frame_of, world_of};
+ghost use Rattle.ix_fcalls.specs.Counted.{IsCounted, Keeps};
+ghost use Rattle.ix_fcalls.specs.Filed.{Answers};
+ghost use Rattle.ix_fcalls.specs.Meanings.{behind_of};
+ghost use Rattle.ix_fcalls.specs.Serving.{Serves};
+ghost use Rattle.ix_fcalls.specs.Telling.{told_of};
+
+use crate::behind::Behind;
+use crate::files::Files;
+use crate::told::{NOTHING_TOLD, Told};
+use crate::who::{Rest, Who};
+use ix_label::Steps;
+use ix_model::{Call, Fd, Mode, Refusal, Reply};
+use std::sync::ledger::Ledger;
+
+/// Writes.
+impl Files {
+    /// WriteFd: its tests, and the floating of the object's label and of the open entry's. The bytes, and their number in
+    /// the reply, come later.
+    #[tactic(auto, using(ix_model::proofs::words::Standing::behind_is, crate::proofs::Marking::marking), unfolding(ix_model::specs::rows::Rows::coding, ix_model::specs::rows::Walks::opened, ix_model::specs::rows::OnDescriptors::float_entry, ix_model::specs::rows::OnDescriptors::write_fd))]
+    pub(crate) fn write_fd<R: Rest, L: Ledger>(
+        &mut self,
+        told: Told,
+        who: &mut Who<R>,
+        fd: Fd,
+        steps: &mut Steps<L>,
+    ) -> Result<Reply, Refusal>
+        requires sound { Sound (world_of R.rest self.old who.old) }
+        requires counted { IsCounted self.old who.old }
+        ensures row { RowIs result (frame_of R.rest self.new who.new) (write_fd (told_of told) R.rest.pid fd.0 (frame_of R.rest self.old who.old)) }
+        ensures counted { IsCounted self.new who.new }
+        ensures back { OnErr result (self.new ≡ self.old) }
+        ensures kept { Keeps self.old self.new }
+    {
+        let e = self.behind(who, fd).ok_or(Refusal::BadFd)?;
+        if !matches!(e.mode, Mode::Write | Mode::Both) {
+            return Err(Refusal::NotWritable);
+        }
+        let Some(x) = self.tables.object(e.object) else {
+            return Err(Refusal::BadFd);
+        };
+        if self.is_claimed_by_another(who, &e) {
+            return Err(Refusal::PexHeld);
+        }
+        if told.too_big {
+            return Err(Refusal::TooBig);
+        }
+        if x.is_trusted() {
+            return Err(Refusal::Trusted);
+        }
+        if x.is_pipe() && !self.is_held_there(&e) {
+            return Err(Refusal::Broken);
+        }
+        if told.full {
+            return Err(Refusal::PipeFull);
+        }
+        if told.no_space {
+            return Err(Refusal::NoSpace);
+        }
+        self.affect(who, e.object, &e.label, steps)?;
+        if x.is_pipe() {
+            return Ok(Reply::Number(0));
+        }
+        self.float_entry(e.id, &who.caller().float.label, steps);
+        Ok(Reply::Number(0))
+    }
+
+    /// What the lengths tell of a write to a file.
+    fn told_of_file_write<R: Rest>(&self, who: &Who<R>, e: &Behind, n: usize) -> Told
+        requires serves { Serves self.now e.now }
+        requires file { option_map_or is_pipe (at self.now.objects e.now.object) false ≡ false }
+        ensures { told_of result ≡ told_of_file_write (frame_of R.rest self.now who.now) (world_of R.rest self.now who.now).content (behind_of e.now) n }
+    {
+        let _ = who;
+        if is_too_big(e.offset, n) {
+            return Told {
+                too_big: true,
+                ..NOTHING_TOLD
+            };
+        }
+        let old = self.tables.size(e.object);
+        let len = length_then(e.offset, n, old);
+        let room = self.tables.has_room(e.object, len);
+        Told {
+            no_space: !room,
+            ..NOTHING_TOLD
+        }
+    }
+
+    /// What the lengths tell of a write.
+    fn told_of_write<R: Rest>(&self, who: &Who<R>, e: &Behind, n: usize) -> Told
+        requires { Serves self.now e.now }
+        ensures { told_of result ≡ told_of_write (frame_of R.rest self.now who.now) (world_of R.rest self.now who.now).content n (Some (behind_of e.now)) }
+    {
+        if self.is_on_pipe(e) {
+            let other = 1u8.saturating_sub(e.end);
+            let there = self.tables.left(e.object, other);
+            return told_of_pipe_write(there, n);
+        }
+        self.told_of_file_write(who, e, n)
+    }
+
+    /// Writes bytes through an open entry, which has room for them: at the offset of a file, which moves past them, or to
+    /// what the pipe's other end can read.
+    fn write_bytes<R: Rest>(&mut self, who: &Who<R>, e: &Behind, bytes: &[u8])
+        requires serves { Serves self.old e.now }
+        requires room { told_of_write (frame_of R.rest self.old who.now) (world_of R.rest self.old who.now).content (length bytes.now) (Some (behind_of e.now)) ≡ nothing_told }
+        requires counted { IsCounted self.old who.now }
+        ensures frame { frame_of R.rest self.new who.now ≡ frame_of R.rest self.old who.now }
+        ensures content { (world_of R.rest self.new who.now).content ≡ after_write (frame_of R.rest self.old who.now) (behind_of e.now) bytes.now (world_of R.rest self.old who.now).content }
+        ensures counted { IsCounted self.new who.now }
+    {
+        let _ = who;
+        if self.is_on_pipe(e) {
+            self.tables.append(e.object, e.end, bytes);
+            return;
+        }
+        let n = bytes.len() as u32;
+        let past = e.offset + n;
+        self.tables.write(e.object, e.offset as u64, bytes);
+        self.tables.seek(e.id, past);
+    }
+
+    /// A write: the decision, and then the bytes.
+    pub(crate) fn write<R: Rest, L: Ledger>(
+        &mut self,
+        who: &mut Who<R>,
+        fd: Fd,
+        bytes: &[u8],
+        steps: &mut Steps<L>,
+    ) -> Reply
+        requires sound { Sound (world_of R.rest self.old who.old) }
+        requires counted { IsCounted self.old who.old }
+        requires few { self.old.limits.procs ≤ 1024 }
+        ensures step { (buf : List ℕ) → Answers (step (world_of R.rest self.old who.old) R.rest.place R.rest.pid (op.WriteFd fd.0 bytes.now)) (world_of R.rest self.new who.new) result buf buf }
+        ensures counted { IsCounted self.new who.new }
+    {
+        let call = Call::WriteFd { fd, bytes };
+        let Some(e) = self.behind(who, fd) else {
+            return self.decide(NOTHING_TOLD, who, &call, steps);
+        };
+        let told = self.told_of_write(who, &e, bytes.len());
+        match self.decide(told, who, &call, steps) {
+            Reply::Number(_) => {
+                self.write_bytes(who, &e, bytes);
+                Reply::Number(bytes.len() as u64)
+            }
+            reply => reply,
+        }
+    }
+}
+
+/// Whether a write of `n` bytes at an offset is too big: more than 4,096 bytes, or past 1,048,576.
+fn is_too_big(offset: u32, n: usize) -> bool
+    ensures { result ≡ (nat_lt 4096 n || nat_lt 1048576 (offset + n)) }
+{
+    n > 4096 || offset as usize + n > 1048576
+}
+
+/// The length of a file of `old` bytes once `n` bytes stand at an offset.
+fn length_then(offset: u32, n: usize, old: u64) -> u64
+    requires { n ≤ 4096 }
+    ensures { result ≡ length_then offset n old }
+{
+    if n == 0 {
+        old
+    } else {
+        old.max(offset as u64 + n as u64)
+    }
+}
+
+/// What the lengths tell of a write of `n` bytes to a pipe that holds so many.
+fn told_of_pipe_write(there: u32, n: usize) -> Told
+    requires { there ≤ 4096 }
+    ensures { told_of result ≡ told_of_pipe_write there n }
+{
+    let left = 4096 - there as usize;
+    Told {
+        too_big: n > 4096,
+        full: n > left,
+        ..NOTHING_TOLD
+    }
+}

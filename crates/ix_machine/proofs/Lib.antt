@@ -1,0 +1,14 @@
+pub mod Births
+pub mod Booting
+pub mod Carried
+pub mod Claims
+pub mod Ends
+pub mod Landing
+pub mod Moved
+pub mod Restoring
+pub mod Rows
+pub mod Stepped
+pub mod Waits
+pub mod Lowering
+pub mod Exercising
+pub mod Parents

@@ -1,0 +1,7 @@
+pub mod Born
+pub mod Claimed
+pub mod Joined
+pub mod Opened
+pub mod OwnCalls
+pub mod Meanings
+pub mod Restoring

@@ -1,0 +1,20 @@
+//! The machine: files, processes and the audit log, with every call.
+#![tactic(auto)]
+
+mod boot;
+mod calls;
+mod claiming;
+mod ending;
+mod exercise;
+mod floats;
+mod forking;
+mod freezing;
+mod labels;
+mod machine;
+mod parts;
+mod privileges;
+mod running;
+mod turns;
+mod walks;
+
+pub use machine::Machine;

@@ -1,0 +1,78 @@
+ghost use Rattle.std.specs.Prelude.{◌≡◌, ◌<◌, ◌-◌, ◌^◌, length, true};
+ghost use Rattle.ix_model.specs.history.Events as op;
+ghost use Rattle.ix_model.specs.history.Step.{step};
+ghost use Rattle.ix_model.specs.laws.Sound.{Sound};
+ghost use Rattle.ix_model.specs.world.World.{lives};
+ghost use Rattle.ix_fcalls.specs.Filed.{Answers};
+
+use crate::machine::Machine;
+use ix_label::Steps;
+use ix_model::{Buf, Fd, Keep, Pid, Reply};
+use std::sync::ledger::Ledger;
+
+/// The steps of the calls that look at what the world holds, or edit it. A refusal leaves the world as it was.
+impl Machine {
+    /// A fork.
+    pub(crate) fn forked(&mut self, place: u32, pid: Pid, keep: Keep, buf: &Buf) -> Reply
+        requires sound { Sound self.old }
+        requires lives { lives self.old.frame pid.0 ≡ true }
+        requires few { length self.old.frame.processes < 2 ^ 32 - 1 }
+        ensures { Answers (step self.old place pid.0 (op.Fork keep)) self.new result buf.now buf.now }
+    {
+        let _ = place;
+        let _ = buf;
+        match self.fork(pid, keep) {
+            Ok(reply) => reply,
+            Err(why) => Reply::No(why),
+        }
+    }
+
+    /// An exit.
+    pub(crate) fn exited(&mut self, place: u32, pid: Pid, status: u8, buf: &Buf) -> Reply
+        requires sound { Sound self.old }
+        requires lives { lives self.old.frame pid.0 ≡ true }
+        ensures { Answers (step self.old place pid.0 (op.Exit status)) self.new result buf.now buf.now }
+    {
+        let _ = place;
+        let _ = buf;
+        match self.exit(pid, status) {
+            Ok(reply) => reply,
+            Err(why) => Reply::No(why),
+        }
+    }
+
+    /// A wait for a child.
+    #[tactic(auto, using(crate::proofs::Stepped::waited, crate::proofs::Stepped::wait_refused))]
+    pub(crate) fn waited<L: Ledger>(
+        &mut self,
+        place: u32,
+        pid: Pid,
+        buf: &Buf,
+        steps: &mut Steps<L>,
+    ) -> Reply
+        requires sound { Sound self.old }
+        requires lives { lives self.old.frame pid.0 ≡ true }
+        ensures { Answers (step self.old place pid.0 op.WaitChild) self.new result buf.now buf.now }
+    {
+        let _ = place;
+        let _ = buf;
+        match self.wait_child(pid, steps) {
+            Ok((child, status)) => Reply::Child { pid: child, status },
+            Err(why) => Reply::No(why),
+        }
+    }
+
+    /// A claim on an end of a pipe.
+    pub(crate) fn pexed(&mut self, place: u32, pid: Pid, fd: Fd, buf: &Buf) -> Reply
+        requires sound { Sound self.old }
+        requires lives { lives self.old.frame pid.0 ≡ true }
+        ensures { Answers (step self.old place pid.0 (op.Pex fd.0)) self.new result buf.now buf.now }
+    {
+        let _ = place;
+        let _ = buf;
+        match self.pex(pid, fd) {
+            Ok(reply) => reply,
+            Err(why) => Reply::No(why),
+        }
+    }
+}
