@@ -1,8 +1,8 @@
 ghost use Rattle.std.specs.Prelude.{◌≡◌, ◌≤◌};
 ghost use Rattle.ix_model.specs.history.Calls.{op_of};
-ghost use Rattle.ix_model.specs.history.Cost.{cost_of, cost_of_words, cost_of_path};
+ghost use Rattle.ix_model.specs.history.Cost.{cost_of, cost_of_words};
 
-use ix_model::{Call, Path};
+use ix_model::Call;
 
 /// What an entry costs besides its words.
 pub const ENTRY: u64 = 128;
@@ -22,7 +22,7 @@ fn cost_of_words(call: &Call<'_>) -> u64
 {
     match call {
         Call::WriteFd { bytes, .. } => bytes.len() as u64,
-        Call::LinkAt { target, path } => cost_of_path(target) + cost_of_path(path),
+        Call::LinkAt { target, path } => target.cost() + path.cost(),
         Call::CreateAt { path }
         | Call::OpenAt { path, .. }
         | Call::MakeDir { path }
@@ -36,22 +36,7 @@ fn cost_of_words(call: &Call<'_>) -> u64
         | Call::SetLabel { path, .. }
         | Call::Freeze { path }
         | Call::Thaw { path }
-        | Call::SetPriv { path, .. } => cost_of_path(path),
+        | Call::SetPriv { path, .. } => path.cost(),
         _ => 0,
     }
-}
-
-/// What a path costs: 16 names of at most 28 bytes, at the most.
-fn cost_of_path(path: &Path) -> u64
-    ensures cost { result ≡ cost_of_path path.now }
-    ensures few { result ≤ 464 }
-{
-    let mut cost = 0;
-    for i in 0..path.len() {
-        match path.name(i) {
-            Some(name) => cost += name.as_bytes().len() as u64 + 1,
-            None => unreachable!(),
-        }
-    }
-    cost
 }

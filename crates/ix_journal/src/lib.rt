@@ -6,8 +6,6 @@ mod journal;
 mod names;
 mod packing;
 mod record;
-#[cfg(test)]
-mod tests;
 mod unpacking;
 
 pub use journal::Journal;

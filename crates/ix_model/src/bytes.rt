@@ -61,17 +61,3 @@ impl Bytes {
         }
     }
 }
-
-#[cfg(test)]
-mod tests {
-    use super::*;
-    use std::test::Fail;
-
-    #[test]
-    fn pushes(rt: HostRuntime) -> Result<(), Fail> {
-        let mut bytes = Bytes::new(rt.alloc());
-        bytes.push(7)?;
-        assert_eq!(rt; bytes.as_slice(), [7].as_slice());
-        Ok(())
-    }
-}

@@ -63,17 +63,3 @@ impl<T: Drop> List<T> {
         }
     }
 }
-
-#[cfg(test)]
-mod tests {
-    use super::*;
-    use std::test::Fail;
-
-    #[test]
-    fn pushes(rt: HostRuntime) -> Result<(), Fail> {
-        let mut list = List::new(rt.alloc());
-        list.push(7u32)?;
-        assert_eq!(rt; list.as_slice(), [7].as_slice());
-        Ok(())
-    }
-}

@@ -1,5 +1,6 @@
 ghost use Rattle.std.specs.Prelude.{◌≡◌, ℕ, ◌≤◌, ◌<◌, ◌-◌, length, take, IsTrue, ◌↔◌, slice_get, []};
 ghost use Rattle.std.specs.Bool.{OnTrue, OnFalse};
+ghost use Rattle.ix_model.specs.history.Cost.{cost_of_path};
 ghost use Rattle.ix_model.specs.world.Naming.{PathOf, add_name, same_names};
 
 use crate::name::Name;
@@ -61,6 +62,21 @@ impl Path {
         ensures { result ≡ slice_get self.now.names i }
     {
         if i < NAMES_MAX { self.slots[i] } else { None }
+    }
+
+    /// What it costs a journal: the length of each name and one more, at most 464.
+    pub fn cost(&self) -> u64
+        ensures cost { result ≡ cost_of_path self.now }
+        ensures few { result ≤ 464 }
+    {
+        let mut cost = 0;
+        'names: for i in 0..self.len() {
+            match self.name(i) {
+                Some(name) => cost += name.as_bytes().len() as u64 + 1,
+                None => unreachable!(),
+            }
+        }
+        cost
     }
 
     /// How many names it has, at most 16.

@@ -14,7 +14,7 @@ pub trait Sys {
     /// The number of its seat.
     ghost seat: { Self → ℕ };
 
-    /// The entries that it has made, each with its reply, the first one first.
+    /// The entries that it has made, each with its reply and the bytes that it was given, the first one first.
     ghost made: { Self → List Made };
 
     /// How many of its calls stopped: they were answered otherwise than `Given`. The count stands still at 2^64 - 1,
@@ -39,7 +39,7 @@ pub trait Sys {
     /// These two make no entry, and are one stop more.
     fn call(&mut self, line: u32, pid: Pid, call: &Call<'_>, buf: &mut Buf) -> Answer
         ensures seat { seat self.new ≡ seat self.old }
-        ensures made { made self.new ≡ made_after result (entry (seat self.old) line pid (op_of call.now)) (made self.old) }
+        ensures made { made self.new ≡ made_after result (entry (seat self.old) line pid (op_of call.now)) buf.new (made self.old) }
         ensures stops { stops self.new ≡ stops_after result (stops self.old) }
         ensures stopped { stopped self.new ≡ last_stop result (stopped self.old) }
         ensures full { FullFor (op_of call.now) result }

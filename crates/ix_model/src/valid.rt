@@ -277,6 +277,3 @@ fn objects_fit<L: Ledger>(
     }
     true
 }
-
-#[cfg(test)]
-mod tests;

@@ -1,11 +1,9 @@
 ghost use Rattle.std.specs.Prelude.{◌≡◌, ◌≤◌, if◌then◌else◌};
-ghost use Rattle.ix_model.specs.history.Cost.{cost_of_path};
 ghost use Rattle.ix_script.specs.lines.Before.{is_command};
 ghost use Rattle.ix_script.specs.scripts.Need.{cost_of_line, need};
 
 use crate::before::body::is_command;
 use crate::line::Line;
-use ix_model::Path;
 
 /// What an entry costs besides its words.
 const ENTRY: u64 = 128;
@@ -16,21 +14,6 @@ const PRIV: u64 = 656;
 /// What a `login` line costs: nine entries and 16 bytes.
 const LOGIN: u64 = 1168;
 
-/// What a path costs: 16 names of at most 28 bytes, at the most.
-fn cost_of_path(path: &Path) -> u64
-    ensures cost { result ≡ cost_of_path path.now }
-    ensures few { result ≤ 464 }
-{
-    let mut cost = 0;
-    'names: for i in 0..path.len() {
-        match path.name(i) {
-            Some(name) => cost += name.as_bytes().len() as u64 + 1,
-            None => unreachable!(),
-        }
-    }
-    cost
-}
-
 /// What the entries of a line cost, at the most.
 #[tactic(auto, unfolding(crate::specs::scripts::Need::cost_of_line))]
 fn cost_of_line(line: &Line) -> u64
@@ -38,7 +21,7 @@ fn cost_of_line(line: &Line) -> u64
 {
     match line {
         Line::Write { bytes, .. } => ENTRY + bytes.as_slice().len() as u64,
-        Line::Link { target, path, .. } => ENTRY + (cost_of_path(target) + cost_of_path(path)),
+        Line::Link { target, path, .. } => ENTRY + (target.cost() + path.cost()),
         Line::Create { path, .. }
         | Line::Open { path, .. }
         | Line::Mkdir { path, .. }
@@ -52,7 +35,7 @@ fn cost_of_line(line: &Line) -> u64
         | Line::Setlabel { path, .. }
         | Line::Freeze { path, .. }
         | Line::Thaw { path, .. }
-        | Line::Setpriv { path, .. } => ENTRY + cost_of_path(path),
+        | Line::Setpriv { path, .. } => ENTRY + path.cost(),
         Line::Copy { count, .. } => 2 * ENTRY + (*count).min(4096) as u64,
         Line::Priv { .. } => PRIV,
         Line::Login { .. } => LOGIN,

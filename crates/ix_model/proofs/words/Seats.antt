@@ -10,23 +10,23 @@ use Rattle.ix_model.specs.history.Step.{step_of, run}
 use Rattle.ix_model.specs.history.Events.{Event}
 use Rattle.ix_model.specs.history.History.{History, world_of, next, with_entry}
 use Rattle.ix_model.specs.history.Made.{Made}
-use Rattle.ix_model.specs.history.Seats.{replied, made_by, GoesOn}
+use Rattle.ix_model.specs.history.Seats.{made_of, replied, made_by, GoesOn}
 
 -- ---- what was made
 -- the entry that comes last is answered by the world to which the others lead
-replied-push : (w : World) (place : ℕ) (events : List Event) (e : Event) → replied w place (events ++ e ∷ []) ≡ replied w place events ++ record { event = e; reply = (step_of (run w place events) (length events + place) e).reply } ∷ []
-replied-push w place [] e = let z : place ≡ 0 + place = omega arith in ap (λ n. record { event = e; reply = (step_of w n e).reply } ∷ []) z
+replied-push : (w : World) (place : ℕ) (events : List Event) (e : Event) → replied w place (events ++ e ∷ []) ≡ replied w place events ++ made_of e (step_of (run w place events) (length events + place) e) ∷ []
+replied-push w place [] e = let z : place ≡ 0 + place = omega arith in ap (λ n. made_of e (step_of w n e) ∷ []) z
 replied-push w place (x ∷ events) e =
     let z : length events + suc place ≡ suc (length events) + place = omega arith in
     let rest : List Made = replied (step_of w place x).world (suc place) events in
-    ap (λ l. record { event = x; reply = (step_of w place x).reply } ∷ l) (replied-push (step_of w place x).world (suc place) events e
-    ∙ ap (λ n. rest ++ record { event = e; reply = (step_of (run (step_of w place x).world (suc place) events) n e).reply } ∷ []) z)
+    ap (λ l. made_of x (step_of w place x) ∷ l) (replied-push (step_of w place x).world (suc place) events e
+    ∙ ap (λ n. rest ++ made_of e (step_of (run (step_of w place x).world (suc place) events) n e) ∷ []) z)
 
-pub made_by-push : (seat : ℕ) (h : History) (e : Event) → e.seat ≡ seat → made_by seat (with_entry h e) ≡ made_by seat h ++ record { event = e; reply = (next h e).reply } ∷ []
+pub made_by-push : (seat : ℕ) (h : History) (e : Event) → e.seat ≡ seat → made_by seat (with_entry h e) ≡ made_by seat h ++ made_of e (next h e) ∷ []
 unfolding made_by world_of
 made_by-push seat h e own =
     let by : Made → Bool = λ m. m.event.seat == seat in
-    let last : Made = record { event = e; reply = (next h e).reply } in
+    let last : Made = made_of e (next h e) in
     let here : by last ≡ true = eq-eqb e.seat seat own in
     ap (filter by) (replied-push (opening_world h.config) 1 h.events e)
     ∙ filter-append by (replied (opening_world h.config) 1 h.events) (last ∷ [])

@@ -3,15 +3,19 @@ use Rattle.std.specs.Prelude.{◌≡◌, ℕ, suc, ◌==◌, true, List, [], ◌
 use Rattle.std.specs.List.{filter, list_all}
 use Rattle.ix_model.specs.world.World.{World}
 use Rattle.ix_model.specs.opening.Opening.{opening_world}
-use Rattle.ix_model.specs.history.Step.{step_of}
+use Rattle.ix_model.specs.history.Step.{Given, step_of}
 use Rattle.ix_model.specs.history.Events.{Event}
 use Rattle.ix_model.specs.history.History.{History}
 use Rattle.ix_model.specs.history.Made.{Made}
 
--- each entry of a history with the reply that its run gives; the first entry is at this place
+-- an entry with what a step gave it
+abbrev pub made_of : Event → Given → Made
+made_of e given = record { event = e; reply = given.reply; bytes = given.bytes }
+
+-- each entry of a history with the reply and the bytes that its run gives; the first entry is at this place
 abbrev pub replied : World → ℕ → List Event → List Made
 replied w place [] = []
-replied w place (e ∷ events) = record { event = e; reply = (step_of w place e).reply } ∷ replied (step_of w place e).world (suc place) events
+replied w place (e ∷ events) = made_of e (step_of w place e) ∷ replied (step_of w place e).world (suc place) events
 
 -- those of one seat, from the config's opening world
 unfoldable pub made_by : ℕ → History → List Made

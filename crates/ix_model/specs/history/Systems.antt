@@ -1,5 +1,5 @@
 -- What one call of a system does, whatever the system is.
-use Rattle.std.specs.Prelude.{◌≡◌, ◌≤◌, ◌<◌, ℕ, ◌+◌, ◌-◌, ◌^◌, min, List, [], ◌∷◌, ◌++◌, drop}
+use Rattle.std.specs.Prelude.{◌≡◌, ◌≤◌, ◌<◌, ℕ, ◌+◌, ◌-◌, ◌^◌, min, List, [], ◌∷◌, ◌++◌, take, drop}
 use Rattle.ix_model.specs.history.Events.{Op, Event}
 use Rattle.ix_model.specs.history.Events as op
 use Rattle.ix_model.specs.history.Cost.{cost_of}
@@ -10,10 +10,15 @@ use Rattle.ix_model.specs.declared.reply.Answer.{Answer}
 use Rattle.ix_model.specs.declared.reply.Answer.TheVariants as answer
 
 -- ---- what is made
--- a call that is given a reply is one entry more, with that reply; any other makes none
-abbrev pub made_after : Answer → Event → List Made → List Made
-made_after (answer.Given r) e made = made ++ record { event = e; reply = r } ∷ []
-made_after _ e made = made
+-- the bytes that a reply gives: as many as it says, at the front of the buffer
+abbrev pub bytes_in : Reply → List ℕ → List ℕ
+bytes_in (reply.Bytes k) buf = take k buf
+bytes_in _ buf = []
+
+-- a call that is given a reply is one entry more, with that reply and the bytes in the buffer then; any other makes none
+abbrev pub made_after : Answer → Event → List ℕ → List Made → List Made
+made_after (answer.Given r) e buf made = made ++ record { event = e; reply = r; bytes = bytes_in r buf } ∷ []
+made_after _ e buf made = made
 
 -- ---- stops
 -- a count with one more; it stays at its greatest value, 2^64 - 1

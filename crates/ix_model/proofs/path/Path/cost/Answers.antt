@@ -1,12 +1,12 @@
-use Rattle.std.proofs.Common.{rules, arith, ◌≡◌, ◌+◌, ℕ, List, length, drop, get_or, Some, ap, subst}
-use Rattle.std.specs.List.{slice_get, sum_by}
+use Rattle.std.proofs.Common.{rules, arith, ◌≡◌, ◌+◌, ℕ, List, length, get_or, Some, ap}
+use Rattle.std.specs.List.{slice_get}
 use Rattle.std.proofs.lemmas.Option.{slice_get_within, get_or_from_slice_get}
 use Rattle.std.proofs.lemmas.List.Sums.{sum_by-drop_more}
-use Rattle.ix_script.proofs.cost.cost_of_path.Goals as goal
+use Rattle.ix_model.proofs.path.Path.cost.Goals as goal
 
 pub names-preserved : goal.names-preserved
 names-preserved c =
-    let names = c.args.path.now.names in
+    let names = c.args.self.now.names in
     let name = c.in-Some.name in
     let cost : List ℕ → ℕ = λ n. length n + 1 in
     let is : slice_get names c.names.i ≡ Some name = search rules in
