@@ -4,8 +4,6 @@
 mod blocks;
 mod rows;
 mod store;
-#[cfg(test)]
-mod tests;
 
 pub use blocks::{Blocks, NoSpace};
 pub use ix_links::NoMemory;

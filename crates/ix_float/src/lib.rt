@@ -3,8 +3,6 @@
 
 mod floats;
 mod mark;
-#[cfg(test)]
-mod tests;
 
 pub use floats::{affect, observe};
 pub use mark::{Mark, Way};

@@ -5,8 +5,6 @@ mod inodes;
 mod node;
 mod spot;
 mod table;
-#[cfg(test)]
-mod tests;
 mod volume;
 
 pub use inodes::Inodes;

@@ -152,31 +152,3 @@ impl Sink for MemSink {
         if fails { Err(Failed) } else { Ok(()) }
     }
 }
-
-#[cfg(test)]
-mod tests {
-    use super::*;
-    use std::test::Fail;
-
-    #[test]
-    fn source_gives_all_but_at_planned_faults(rt: HostRuntime) -> Result<(), Fail> {
-        let mut source = MemSource::new(rt.alloc(), b"abc", &[1])?;
-        let mut buf = [0; 2];
-        for want in [Ok(2), Err(Failed), Ok(1), Ok(0)] {
-            assert_eq!(rt; source.read(&mut buf), want);
-        }
-        assert_eq!(rt; buf, *b"cb");
-        Ok(())
-    }
-
-    #[test]
-    fn sink_takes_what_it_has_room_for(rt: HostRuntime) -> Result<(), Fail> {
-        let mut sink = MemSink::new(rt.alloc(), 3, &[1])?;
-        for want in [Ok(2), Err(Failed), Ok(1), Err(Failed)] {
-            assert_eq!(rt; sink.write(b"ab"), want);
-        }
-        assert_eq!(rt; sink.finish(), Ok(()));
-        assert_eq!(rt; sink.as_slice(), b"aba".as_slice());
-        Ok(())
-    }
-}

@@ -125,22 +125,3 @@ impl Sink for QuietSink {
         Ok(())
     }
 }
-
-#[cfg(test)]
-mod tests {
-    use super::*;
-    use std::test::Fail;
-
-    #[test]
-    fn quiet_streams_hand_on_all(rt: HostRuntime) -> Result<(), Fail> {
-        let mut source = QuietSource::new(rt.alloc(), b"abc")?;
-        let mut sink = QuietSink::new();
-        let mut buf = [0; 2];
-        for want in [2, 1, 0] {
-            assert_eq!(rt; source.read(&mut buf), Ok(want));
-            assert_eq!(rt; sink.write(&buf[..want]), Ok(want));
-        }
-        assert_eq!(rt; sink.taken(), 3);
-        Ok(())
-    }
-}

@@ -2,7 +2,5 @@
 #![tactic(auto)]
 
 mod privs;
-#[cfg(test)]
-mod tests;
 
 pub use privs::{Privs, after_exec, dropped, may};

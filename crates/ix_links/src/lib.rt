@@ -4,8 +4,6 @@
 mod link;
 mod links;
 mod memory;
-#[cfg(test)]
-mod tests;
 
 pub use links::Links;
 pub use memory::NoMemory;

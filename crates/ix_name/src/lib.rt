@@ -4,8 +4,6 @@
 mod buckets;
 mod entry;
 mod names;
-#[cfg(test)]
-mod tests;
 mod walk;
 
 pub use entry::NoEntry;

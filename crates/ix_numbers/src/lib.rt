@@ -3,8 +3,6 @@
 
 mod memory;
 mod numbers;
-#[cfg(test)]
-mod tests;
 
 pub use memory::NoMemory;
 pub use numbers::Numbers;

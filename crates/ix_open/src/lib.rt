@@ -3,8 +3,6 @@
 
 mod keys;
 mod opens;
-#[cfg(test)]
-mod tests;
 mod view;
 
 pub use opens::Opens;

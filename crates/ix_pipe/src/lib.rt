@@ -5,8 +5,6 @@ mod claim;
 mod pipes;
 mod queue;
 mod slot;
-#[cfg(test)]
-mod tests;
 
 pub use claim::Claim;
 pub use pipes::Pipes;

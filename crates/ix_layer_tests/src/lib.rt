@@ -1,0 +1,37 @@
+//! Tests of the layers under the calls, each by itself.
+#![tactic(auto)]
+
+#[cfg(test)]
+mod audit;
+#[cfg(test)]
+mod blocks;
+#[cfg(test)]
+mod configs;
+#[cfg(test)]
+mod floats;
+#[cfg(test)]
+mod inodes;
+#[cfg(test)]
+mod journals;
+#[cfg(test)]
+mod labels;
+#[cfg(test)]
+mod licences;
+#[cfg(test)]
+mod links;
+#[cfg(test)]
+mod lists;
+#[cfg(test)]
+mod marks;
+#[cfg(test)]
+mod names;
+#[cfg(test)]
+mod numbers;
+#[cfg(test)]
+mod opens;
+#[cfg(test)]
+mod pipes;
+#[cfg(test)]
+mod procs;
+#[cfg(test)]
+mod streams;
