@@ -1,9 +1,9 @@
 -- The two ends of a new pipe: two free entries under two free descriptors.
-use Rattle.std.proofs.Common.{◌≡◌, ◌≢◌, ◌+◌, ◌<◌, ◌≤◌, ◌&&◌, ℕ, ◌⊎◌, zero, suc, option_map, if◌then◌else◌, cond, Bool, true, false, nat_lt, List, [], ◌∷◌, Option, Some, None, length, count_by, is_some, is_none, refl, sym, ap, ◌∙◌, subst, arith, inl, inr, set, get_or, length-set, slice_set, slice_index_or}
+use Rattle.std.proofs.Common.{◌≡◌, ◌≢◌, ◌+◌, ◌<◌, ◌≤◌, ◌&&◌, ℕ, ◌⊎◌, zero, suc, option_map, if◌then◌else◌, cond, Bool, true, false, nat_lt, List, [], ◌∷◌, Option, Some, None, length, count_by, is_some, is_none, refl, sym, ap, ◌∙◌, arith, inl, inr, length-set, slice_set, slice_index_or}
 use Rattle.std.specs.Option.{option_map_or}
 use Rattle.std.specs.List.{position_or_len}
 use Rattle.std.proofs.lemmas.Bool.{and_from, lt-ltb}
-use Rattle.std.proofs.lemmas.List.{get_or-set_other, set-get_or}
+use Rattle.std.proofs.lemmas.List.{set-get_or}
 use Rattle.std.proofs.lemmas.List.Sums.{sum_by-set, sum_by-cons}
 use Rattle.ix_model.specs.world.World.{Process, Object, Open, Holding, at, put, change, living, lowest_free}
 use Rattle.ix_model.proofs.tables.FreeNumbers.{lowest_free_is, IsFreePipe, free_pipe_is}

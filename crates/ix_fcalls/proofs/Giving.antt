@@ -1,5 +1,5 @@
 -- One descriptor more of the caller: what it does to the counts, and that these are right.
-use Rattle.std.proofs.Common.{◌≡◌, ◌+◌, ◌<◌, ◌≤◌, ◌==◌, ◌&&◌, ℕ, not, cond, Bool, true, false, true≢false, nat_lt, List, Option, Some, None, map, sum, set, get_or, length, count_by, is_some, is_none, refl, sym, ap, ◌∙◌, arith, inl, inr, length-set, slice_set, slice_index_or, if◌then◌else◌}
+use Rattle.std.proofs.Common.{◌≡◌, ◌+◌, ◌<◌, ◌≤◌, ◌&&◌, ℕ, cond, Bool, true, false, true≢false, nat_lt, List, Option, Some, None, map, sum, set, get_or, length, count_by, is_some, is_none, refl, sym, ap, ◌∙◌, arith, inl, inr, length-set, slice_set, slice_index_or, if◌then◌else◌}
 use Rattle.std.specs.Option.{option_map_or}
 use Rattle.std.specs.List.{range_with_len}
 use Rattle.std.proofs.lemmas.Bool.{cases_lt, and_parts, and_from, lt-ltb, ltb-true}
@@ -13,7 +13,7 @@ use Rattle.ix_model.specs.rows.OnPaths.{is_home}
 use Rattle.ix_model.specs.declared.views.Caller.{Caller}
 use Rattle.ix_model.proofs.tables.Finds.{sum_zero}
 use Rattle.ix_model.proofs.tables.FreeNumbers.{lowest_free_is}
-use Rattle.ix_tables.specs.Parts.{Parts, named_by, owners_of, homes_of}
+use Rattle.ix_tables.specs.Parts.{Parts, named_by, homes_of}
 use Rattle.ix_fcalls.specs.Around.{Around, world_of, process_of}
 use Rattle.ix_fcalls.specs.Counted.{IsCounted, IsClear, Keeps, has_free}
 use Rattle.ix_fcalls.proofs.Counting.{one, counts_are, one_more, count_changed, owners_put, stands_within, owners_long, owners_at}

@@ -26,6 +26,9 @@ pub mod SeekSteps
 pub mod LookSteps
 pub mod Turning
 pub mod ReadRow
+pub mod WriteRow
+pub mod KnownRow
+pub mod KnownSteps
 pub mod Chaining
 pub mod Leading
 pub mod Unnaming

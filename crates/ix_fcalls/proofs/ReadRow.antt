@@ -1,25 +1,37 @@
 -- The row of a read, once its tests are passed.
-use Rattle.std.proofs.Common.{◌≡◌, ◌&&◌, ◌-◌, ℕ, true, false, nat_le, Some, refl}
-use Rattle.ix_label.specs.Category.{join}
+use Rattle.std.proofs.Common.{◌≡◌, ◌&&◌, ◌-◌, ℕ, true, false, Some, refl, sym, ap, ◌∙◌}
+use Rattle.ix_label.specs.Category.{Categories, join}
+use Rattle.ix_model.specs.declared.refusal.Refusal.{Refusal}
 use Rattle.ix_model.specs.declared.refusal.Refusal.TheVariants as refusal
 use Rattle.ix_model.specs.declared.reply.Reply.TheVariants as reply
-use Rattle.ix_model.specs.world.World.{Frame, Object, Process, at, change, held, living, is_pipe, may_read, claimed_by_another}
+use Rattle.ix_model.specs.world.World.{Frame, Object, Process, at, change, held, living, is_pipe}
 use Rattle.ix_model.specs.rows.Outcomes.{Refuse, Pass}
 use Rattle.ix_model.specs.rows.Rows.{◌>>=◌, ◌>>◌, on_pass, pass, need, some, only_if, refuse, frame, object, process, change_open, observe}
 use Rattle.ix_model.specs.rows.OnDescriptors.{Told, read_fd, float_entry}
-use Rattle.ix_model.specs.rows.Walks.{Behind, behind, opened}
+use Rattle.ix_model.specs.rows.Walks.{Behind, opened}
+use Rattle.ix_fcalls.specs.Tested.{ToRead}
 
-module _ (t : Told) (pid fd count : ℕ) (f g : Frame) (e : Behind) (x : Object) (is : behind f pid fd ≡ Some e) (there : at f.objects e.entry.object ≡ Some x)
-    (reads : may_read e.entry.mode ≡ true) (free : claimed_by_another x e.entry.end pid ≡ false) (few : nat_le count 4096 ≡ true) (seen : observe pid (join x.label e.entry.label) f ≡ Pass tt g) where
-  pub read_waits : is_pipe x ≡ true → (t.empty && held g.opens e.entry.object (1 - e.entry.end)) ≡ true → read_fd t pid fd count f ≡ Refuse refusal.Again g
+-- what an open entry takes in: nothing on a pipe, else the label of the process
+pub floats_none : (p : Process) (x : Object) (e : Behind) (f : Frame) → is_pipe x ≡ true → float_entry p x e f ≡ Pass tt f
+unfolding float_entry only_if pass
+floats_none p x e f pipe = rw pipe refl
+
+pub floats_in : (p : Process) (x : Object) (e : Behind) (f : Frame) → is_pipe x ≡ false → float_entry p x e f ≡ Pass tt (record f { opens = change f.opens e.id (λ y. record y { label = join y.label p.label }) })
+unfolding float_entry only_if change_open
+floats_in p x e f file = rw file refl
+
+module _ (t : Told) (pid fd count : ℕ) (f : Frame) (e : Behind) (x : Object) (tested : ToRead f pid fd count e x) where
+  pub read_refused : (s : Categories) (why : Refusal) (g : Frame) → s ≡ join x.label e.entry.label → observe pid s f ≡ Refuse why g → read_fd t pid fd count f ≡ Refuse why g
   unfolding read_fd opened frame object some ◌>>=◌ ◌>>◌ on_pass pass need refuse
-  read_waits pipe wait = rw (is, reads, there, free, few, seen, pipe, wait) refl
+  read_refused s why g is stops =
+      let refused : observe pid (join x.label e.entry.label) f ≡ Refuse why g = ap (λ (l : Categories). observe pid l f) (sym is) ∙ stops in
+      rw (tested.is_behind, tested.reads, tested.is_object, tested.free, tested.few, refused) refl
 
-  module _ (p : Process) (lives : living (at g.processes pid) ≡ Some p) where
-    pub read_pipe : is_pipe x ≡ true → (t.empty && held g.opens e.entry.object (1 - e.entry.end)) ≡ false → read_fd t pid fd count f ≡ Pass (reply.Bytes 0) g
-    unfolding read_fd opened frame object process float_entry change_open only_if some ◌>>=◌ ◌>>◌ on_pass pass need refuse
-    read_pipe pipe wait = rw (is, reads, there, free, few, seen, pipe, wait, lives) refl
+  module _ (g : Frame) (seen : observe pid (join x.label e.entry.label) f ≡ Pass tt g) where
+    pub read_waits : (is_pipe x && t.empty && held g.opens e.entry.object (1 - e.entry.end)) ≡ true → read_fd t pid fd count f ≡ Refuse refusal.Again g
+    unfolding read_fd opened frame object some ◌>>=◌ ◌>>◌ on_pass pass need refuse
+    read_waits wait = rw (tested.is_behind, tested.reads, tested.is_object, tested.free, tested.few, seen, wait) refl
 
-    pub read_file : is_pipe x ≡ false → read_fd t pid fd count f ≡ Pass (reply.Bytes 0) (record g { opens = change g.opens e.id (λ y. record y { label = join y.label p.label }) })
-    unfolding read_fd opened frame object process float_entry change_open only_if some ◌>>=◌ ◌>>◌ on_pass pass need refuse
-    read_file file = rw (is, reads, there, free, few, seen, file, lives) refl
+    pub read_passes : (p : Process) (h : Frame) → (is_pipe x && t.empty && held g.opens e.entry.object (1 - e.entry.end)) ≡ false → living (at g.processes pid) ≡ Some p → float_entry p x e g ≡ Pass tt h → read_fd t pid fd count f ≡ Pass (reply.Bytes 0) h
+    unfolding read_fd opened frame object process some ◌>>=◌ ◌>>◌ on_pass pass need refuse
+    read_passes p h wait lives floats = rw (tested.is_behind, tested.reads, tested.is_object, tested.free, tested.few, seen, wait, lives, floats) refl

@@ -7,3 +7,5 @@ pub mod Serving
 pub mod Filed
 pub mod Claiming
 pub mod Remaining
+pub mod Tested
+pub mod Spots

@@ -1,4 +1,4 @@
-ghost use Rattle.std.specs.Prelude.{◌≡◌, ◌<◌, ◌≤◌, is_some, length, IsTrue, IfOk, IfSome, Some, true, false};
+ghost use Rattle.std.specs.Prelude.{◌≡◌, ◌<◌, ◌≤◌, is_some, length, IsTrue, IfOk, IfSome, true, false};
 ghost use Rattle.ix_label.specs.Category.{leq};
 ghost use Rattle.ix_model.specs.history.Calls.{op_of};
 ghost use Rattle.ix_model.specs.history.Step.{step};
@@ -6,12 +6,12 @@ ghost use Rattle.ix_model.specs.laws.Sound.{Sound};
 ghost use Rattle.ix_model.specs.opening.Opening.{opening_world};
 ghost use Rattle.ix_model.specs.opening.Valid.{is_valid};
 ghost use Rattle.ix_model.specs.rows.Walks.{node};
-ghost use Rattle.ix_model.specs.world.World.{Process, at, change, ceiling_of, is_pipe, lives};
+ghost use Rattle.ix_model.specs.world.World.{at, change, ceiling_of, is_pipe, lives};
 ghost use Rattle.ix_tables.specs.Meanings.{Shows, object_by};
 ghost use Rattle.ix_tables.specs.Parts.{parts_of};
 ghost use Rattle.ix_fcalls.specs.Around.{Moment, around, world_of, with_who};
-ghost use Rattle.ix_fcalls.specs.Counted.{IsCounted};
 ghost use Rattle.ix_fcalls.specs.Filed.{Answers, is_filed};
+ghost use Rattle.ix_fcalls.specs.Tested.{IsKnown};
 
 use ix_label::{Label, Steps};
 use ix_model::{Buf, Call, Caller, Config, Limits, NoMemory, Obj, PrivSet, Reply};
@@ -74,6 +74,21 @@ impl Files {
         ensures pid { who.new.pid.0 ≡ who.old.pid.0 }
     {
         self.turn::<Brand, L>(who, call, buf, steps)
+    }
+
+    /// A read or a write through a descriptor of which it is known that a look at the labels would change none. It moves the
+    /// files as [`call`](Files::call) does, and looks at no label; the process stays as it is.
+    pub fn call_known(&mut self, who: &Caller, call: &Call<'_>, buf: &mut Buf) -> Reply
+        ghost moment: { Moment }
+        requires known { IsKnown moment.world.frame who.now.pid.0 (op_of call.now) }
+        requires sound { Sound moment.world }
+        requires parts { self.old ≡ parts_of moment.world }
+        requires who { with_who moment.world.frame.processes who.now ≡ moment.world.frame.processes }
+        requires lives { lives moment.world.frame who.now.pid.0 ≡ true }
+        ensures step { Answers (step moment.world moment.place who.now.pid.0 (op_of call.now)) (world_of (around moment.place who.now.pid.0 moment.world) self.new moment.world.frame.processes) result buf.old buf.new }
+        ensures parts { self.new ≡ parts_of (step moment.world moment.place who.now.pid.0 (op_of call.now)).world }
+    {
+        self.turn_known::<Brand>(who, call, buf)
     }
 
     /// Sets the label of an object, to one at or below its ceiling.

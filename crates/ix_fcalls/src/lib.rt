@@ -14,6 +14,7 @@ mod looking;
 mod making;
 mod opening;
 mod reading;
+mod spots;
 mod taking;
 mod told;
 mod turn;

@@ -1,10 +1,14 @@
-ghost use Rattle.std.specs.Prelude.{◌≡◌, ◌<◌, ◌≤◌, ◌-◌, ◌&&◌, OnErr, Some, true, false, length, take, drop, slice_index_or, slice_set};
+ghost use Rattle.std.specs.Prelude.{◌≡◌, ◌<◌, ◌≤◌, ◌-◌, ◌&&◌, OnErr, IfOk, IfErr, Some, true, false, length, take, drop, slice_index_or, slice_set};
 ghost use Rattle.std.specs.Option.{option_map_or};
 ghost use Rattle.ix_model.specs.history.Events as op;
 ghost use Rattle.ix_model.specs.history.Step.{step, put_front};
+ghost use Rattle.ix_model.specs.history.Freshness.{Reading};
 ghost use Rattle.ix_model.specs.laws.Sound.{Sound};
-ghost use Rattle.ix_model.specs.rows.Outcomes.{RowIs};
-ghost use Rattle.ix_model.specs.rows.OnDescriptors.{read_fd};
+ghost use Rattle.ix_fresh.specs.Known.{Known};
+ghost use Rattle.ix_tables.specs.Meanings.{object_by};
+ghost use Rattle.ix_fcalls.specs.Tested.{ToRead, RefusesRead};
+ghost use Rattle.ix_model.specs.rows.Outcomes.{RowIs, RowMeans};
+ghost use Rattle.ix_model.specs.rows.OnDescriptors.{read_fd, read_passed};
 ghost use Rattle.ix_model.specs.rows.Telling.{told_of_read};
 ghost use Rattle.ix_model.specs.rows.Walks.{node};
 ghost use Rattle.ix_model.specs.world.Contents.{readable, after_read, holds_nothing, side, with_side};
@@ -22,13 +26,41 @@ use crate::told::{NOTHING_TOLD, Told};
 use crate::who::{Rest, Who};
 use ix_label::Steps;
 use ix_model::{Buf, Call, Fd, Mode, Refusal, Reply};
+use ix_tables::ObjectRow;
 use std::sync::ledger::Ledger;
 
 /// Reads.
 impl Files {
+    /// What ReadFd reads through and from, where it passes the tests before its look at a label.
+    #[tactic(auto, unfolding(ix_model::specs::rows::Rows::coding, ix_model::specs::rows::Walks::opened, ix_model::specs::rows::OnDescriptors::read_fd))]
+    fn to_read<R: Rest>(
+        &self,
+        who: &Who<R>,
+        fd: Fd,
+        count: u32,
+    ) -> Result<(Behind, ObjectRow), Refusal>
+        requires sound { Sound (world_of R.rest self.now who.now) }
+        ensures passed { IfOk result (λ b. ToRead (frame_of R.rest self.now who.now) R.rest.pid fd.0 count (behind_of b.0) (object_by (node self.now.objects b.0.object) b.1)) }
+        ensures refused { IfErr result (λ why. RefusesRead (frame_of R.rest self.now who.now) R.rest.pid fd.0 count why) }
+    {
+        let e = self.behind(who, fd).ok_or(Refusal::BadFd)?;
+        if !reads(e.mode) {
+            return Err(Refusal::NotReadable);
+        }
+        let Some(x) = self.tables.object(e.object) else {
+            return Err(Refusal::BadFd);
+        };
+        if self.is_claimed_by_another(who, &e) {
+            return Err(Refusal::PexHeld);
+        }
+        if count > 4096 {
+            return Err(Refusal::TooBig);
+        }
+        Ok((e, x))
+    }
+
     /// ReadFd: its tests, and the floating of the caller's label and of the open entry's. The bytes, and their number in
     /// the reply, come later.
-    #[tactic(auto, unfolding(ix_model::specs::rows::Rows::coding, ix_model::specs::rows::Walks::opened, ix_model::specs::rows::OnDescriptors::float_entry, ix_model::specs::rows::OnDescriptors::read_fd))]
     pub(crate) fn read_fd<R: Rest, L: Ledger>(
         &mut self,
         told: Told,
@@ -44,36 +76,46 @@ impl Files {
         ensures back { OnErr result (self.new ≡ self.old) }
         ensures kept { Keeps self.old self.new }
     {
-        let e = self.behind(who, fd).ok_or(Refusal::BadFd)?;
-        if !reads(e.mode) {
-            return Err(Refusal::NotReadable);
-        }
-        let Some(x) = self.tables.object(e.object) else {
-            return Err(Refusal::BadFd);
-        };
-        if self.is_claimed_by_another(who, &e) {
-            return Err(Refusal::PexHeld);
-        }
-        if count > 4096 {
-            return Err(Refusal::TooBig);
-        }
+        let (e, x) = self.to_read(who, fd, count)?;
         let seen = x.float.label.join(&e.label, steps);
         self.observe(who, &seen, steps)?;
-        let p = *who.caller();
+        if self.has_to_wait(told, &e, &x) {
+            return Err(Refusal::Again);
+        }
+        let label = who.caller().float.label;
         if x.is_pipe() {
-            if self.has_to_wait(told, &e) {
-                return Err(Refusal::Again);
-            }
             return Ok(Reply::Bytes(0));
         }
-        self.float_entry(e.id, &p.float.label, steps);
+        self.float_entry(e.id, &label, steps);
         Ok(Reply::Bytes(0))
     }
 
-    /// Whether a read of a pipe has to wait: there is nothing to read, and some open entry is on the other end.
-    fn has_to_wait(&self, told: Told, e: &Behind) -> bool
-        ensures { result ≡ (told.empty && held self.now.opens e.now.object (1 - e.now.end)) }
+    /// The tests of ReadFd where a look at the labels would change none: all but that look.
+    fn read_fd_known<R: Rest>(
+        &self,
+        told: Told,
+        who: &Who<R>,
+        fd: Fd,
+        count: u32,
+    ) -> Result<(), Refusal>
+        requires sound { Sound (world_of R.rest self.now who.now) }
+        requires known { Known Reading (frame_of R.rest self.now who.now) R.rest.pid fd.0 }
+        ensures row { RowMeans (λ u. read_passed) result (frame_of R.rest self.now who.now) (read_fd (told_of told) R.rest.pid fd.0 count (frame_of R.rest self.now who.now)) }
     {
+        let (e, x) = self.to_read(who, fd, count)?;
+        if self.has_to_wait(told, &e, &x) {
+            return Err(Refusal::Again);
+        }
+        Ok(())
+    }
+
+    /// Whether a read of a pipe has to wait: there is nothing to read, and some open entry is on the other end.
+    fn has_to_wait(&self, told: Told, e: &Behind, x: &ObjectRow) -> bool
+        ensures { result ≡ (is_pipe (object_by (node self.now.objects e.now.object) x.now) && told.empty && held self.now.opens e.now.object (1 - e.now.end)) }
+    {
+        if !x.is_pipe() {
+            return false;
+        }
         told.empty && self.is_held_there(e)
     }
 
@@ -168,6 +210,30 @@ impl Files {
         match self.decide(told, who, &call, steps) {
             Reply::Bytes(_) => Reply::Bytes(self.read_bytes(who, &e, count, buf)),
             reply => reply,
+        }
+    }
+
+    /// A read where a look at the labels would change none: its tests, and then the bytes into the front of the buffer.
+    pub(crate) fn read_known<R: Rest>(
+        &mut self,
+        who: &Who<R>,
+        fd: Fd,
+        count: u32,
+        buf: &mut Buf,
+    ) -> Reply
+        requires sound { Sound (world_of R.rest self.old who.now) }
+        requires counted { IsCounted self.old who.now }
+        requires known { Known Reading (frame_of R.rest self.old who.now) R.rest.pid fd.0 }
+        ensures step { Answers (step (world_of R.rest self.old who.now) R.rest.place R.rest.pid (op.ReadFd fd.0 count)) (world_of R.rest self.new who.now) result buf.old buf.new }
+        ensures counted { IsCounted self.new who.now }
+    {
+        let Some(e) = self.behind(who, fd) else {
+            unreachable!()
+        };
+        let told = self.told_of_read(who, &e);
+        match self.read_fd_known(told, who, fd, count) {
+            Ok(()) => Reply::Bytes(self.read_bytes(who, &e, count, buf)),
+            Err(why) => Reply::No(why),
         }
     }
 }

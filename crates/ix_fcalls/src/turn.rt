@@ -1,4 +1,4 @@
-ghost use Rattle.std.specs.Prelude.{◌≡◌, ◌≤◌, ℕ, List, IsTrue, OnErr, OnOk, false, true};
+ghost use Rattle.std.specs.Prelude.{◌≡◌, ◌≤◌, ℕ, List, IsTrue, OnErr, OnOk};
 ghost use Rattle.ix_model.specs.history.Calls.{op_of};
 ghost use Rattle.ix_model.specs.history.Step.{step};
 ghost use Rattle.ix_model.specs.laws.Sound.{Sound};
@@ -8,6 +8,7 @@ ghost use Rattle.ix_fcalls.specs.Around.{frame_of, world_of, with_who};
 ghost use Rattle.ix_fcalls.specs.Calling.{IsCalling};
 ghost use Rattle.ix_fcalls.specs.Counted.{IsCounted};
 ghost use Rattle.ix_fcalls.specs.Filed.{Answers, IsLook, Leaves, is_filed, is_plain, lets_go};
+ghost use Rattle.ix_fcalls.specs.Tested.{IsKnown};
 ghost use Rattle.ix_fcalls.specs.Telling.{FileThere, TellsOfFile, size_told, told_of, with_size};
 
 use crate::files::Files;
@@ -190,6 +191,21 @@ impl Files {
         }
     }
 
+    /// A read or a write where a look at the labels would change none.
+    fn answer_known<R: Rest>(&mut self, who: &Who<R>, call: &Call<'_>, buf: &mut Buf) -> Reply
+        requires known { IsKnown (frame_of R.rest self.old who.now) R.rest.pid (op_of call.now) }
+        requires sound { Sound (world_of R.rest self.old who.now) }
+        requires counted { IsCounted self.old who.now }
+        ensures step { Answers (step (world_of R.rest self.old who.now) R.rest.place R.rest.pid (op_of call.now)) (world_of R.rest self.new who.now) result buf.old buf.new }
+        ensures counted { IsCounted self.new who.now }
+    {
+        match call {
+            Call::ReadFd { fd, count } => self.read_known(who, *fd, *count, buf),
+            Call::WriteFd { fd, bytes } => self.write_known(who, *fd, bytes),
+            _ => unreachable!(),
+        }
+    }
+
     /// The call of a process among the others.
     pub(crate) fn turn<R: Rest, L: Ledger>(
         &mut self,
@@ -211,5 +227,23 @@ impl Files {
         let reply = self.answer(&mut who, call, buf, steps);
         *caller = *who.caller();
         reply
+    }
+
+    /// The same where a look at the labels would change none: the process stays as it is.
+    pub(crate) fn turn_known<R: Rest>(
+        &mut self,
+        caller: &Caller,
+        call: &Call<'_>,
+        buf: &mut Buf,
+    ) -> Reply
+        requires calling { IsCalling R.rest caller.now.pid.0 }
+        requires known { IsKnown (frame_of R.rest self.old (with_who R.rest.processes caller.now)) R.rest.pid (op_of call.now) }
+        requires sound { Sound (world_of R.rest self.old (with_who R.rest.processes caller.now)) }
+        requires counted { IsCounted self.old (with_who R.rest.processes caller.now) }
+        ensures step { Answers (step (world_of R.rest self.old (with_who R.rest.processes caller.now)) R.rest.place R.rest.pid (op_of call.now)) (world_of R.rest self.new (with_who R.rest.processes caller.now)) result buf.old buf.new }
+        ensures counted { IsCounted self.new (with_who R.rest.processes caller.now) }
+    {
+        let who = Who::<R>::new(caller);
+        self.answer_known(&who, call, buf)
     }
 }

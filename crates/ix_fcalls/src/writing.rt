@@ -1,13 +1,18 @@
-ghost use Rattle.std.specs.Prelude.{◌≡◌, ◌+◌, ◌<◌, ◌≤◌, ◌||◌, OnErr, ℕ, List, Some, true, false, length, nat_lt, slice_index_or};
+ghost use Rattle.std.specs.Prelude.{◌≡◌, ◌+◌, ◌<◌, ◌≤◌, ◌||◌, OnErr, IfOk, IfErr, ℕ, List, Some, true, false, length, nat_lt};
 ghost use Rattle.std.specs.Option.{option_map_or};
 ghost use Rattle.ix_model.specs.history.Events as op;
 ghost use Rattle.ix_model.specs.history.Step.{step};
+ghost use Rattle.ix_model.specs.history.Freshness.{Writing};
 ghost use Rattle.ix_model.specs.laws.Sound.{Sound};
-ghost use Rattle.ix_model.specs.rows.Outcomes.{RowIs};
-ghost use Rattle.ix_model.specs.rows.OnDescriptors.{write_fd};
+ghost use Rattle.ix_model.specs.rows.Walks.{node};
+ghost use Rattle.ix_fresh.specs.Known.{Known};
+ghost use Rattle.ix_tables.specs.Meanings.{object_by};
+ghost use Rattle.ix_fcalls.specs.Tested.{ToWrite};
+ghost use Rattle.ix_model.specs.rows.Outcomes.{RowIs, RowMeans, Refuse};
+ghost use Rattle.ix_model.specs.rows.OnDescriptors.{write_fd, write_passed};
 ghost use Rattle.ix_model.specs.rows.Telling.{nothing_told, told_of_write, told_of_file_write, told_of_pipe_write, length_then};
 ghost use Rattle.ix_model.specs.world.Contents.{after_write};
-ghost use Rattle.ix_model.specs.world.World.{at, is_file, is_pipe};
+ghost use Rattle.ix_model.specs.world.World.{at, is_pipe};
 ghost use Rattle.ix_fcalls.specs.Around.{frame_of, world_of};
 ghost use Rattle.ix_fcalls.specs.Counted.{IsCounted, Keeps};
 ghost use Rattle.ix_fcalls.specs.Filed.{Answers};
@@ -21,26 +26,22 @@ use crate::told::{NOTHING_TOLD, Told};
 use crate::who::{Rest, Who};
 use ix_label::Steps;
 use ix_model::{Call, Fd, Mode, Refusal, Reply};
+use ix_tables::ObjectRow;
 use std::sync::ledger::Ledger;
 
 /// Writes.
 impl Files {
-    /// WriteFd: its tests, and the floating of the object's label and of the open entry's. The bytes, and their number in
-    /// the reply, come later.
-    #[tactic(auto, using(ix_model::proofs::words::Standing::behind_is, crate::proofs::Marking::marking), unfolding(ix_model::specs::rows::Rows::coding, ix_model::specs::rows::Walks::opened, ix_model::specs::rows::OnDescriptors::float_entry, ix_model::specs::rows::OnDescriptors::write_fd))]
-    pub(crate) fn write_fd<R: Rest, L: Ledger>(
-        &mut self,
+    /// What WriteFd writes through and to, where it passes the tests before its look at a label.
+    #[tactic(auto, unfolding(ix_model::specs::rows::Rows::coding, ix_model::specs::rows::Walks::opened, ix_model::specs::rows::OnDescriptors::write_fd))]
+    fn to_write<R: Rest>(
+        &self,
         told: Told,
-        who: &mut Who<R>,
+        who: &Who<R>,
         fd: Fd,
-        steps: &mut Steps<L>,
-    ) -> Result<Reply, Refusal>
-        requires sound { Sound (world_of R.rest self.old who.old) }
-        requires counted { IsCounted self.old who.old }
-        ensures row { RowIs result (frame_of R.rest self.new who.new) (write_fd (told_of told) R.rest.pid fd.0 (frame_of R.rest self.old who.old)) }
-        ensures counted { IsCounted self.new who.new }
-        ensures back { OnErr result (self.new ≡ self.old) }
-        ensures kept { Keeps self.old self.new }
+    ) -> Result<(Behind, ObjectRow), Refusal>
+        requires sound { Sound (world_of R.rest self.now who.now) }
+        ensures passed { IfOk result (λ b. ToWrite (told_of told) (frame_of R.rest self.now who.now) R.rest.pid fd.0 (behind_of b.0) (object_by (node self.now.objects b.0.object) b.1)) }
+        ensures refused { IfErr result (λ why. write_fd (told_of told) R.rest.pid fd.0 (frame_of R.rest self.now who.now) ≡ Refuse why (frame_of R.rest self.now who.now)) }
     {
         let e = self.behind(who, fd).ok_or(Refusal::BadFd)?;
         if !matches!(e.mode, Mode::Write | Mode::Both) {
@@ -67,12 +68,44 @@ impl Files {
         if told.no_space {
             return Err(Refusal::NoSpace);
         }
+        Ok((e, x))
+    }
+
+    /// WriteFd: its tests, and the floating of the object's label and of the open entry's. The bytes, and their number in
+    /// the reply, come later.
+    #[tactic(auto, using(crate::proofs::Marking::marking))]
+    pub(crate) fn write_fd<R: Rest, L: Ledger>(
+        &mut self,
+        told: Told,
+        who: &mut Who<R>,
+        fd: Fd,
+        steps: &mut Steps<L>,
+    ) -> Result<Reply, Refusal>
+        requires sound { Sound (world_of R.rest self.old who.old) }
+        requires counted { IsCounted self.old who.old }
+        ensures row { RowIs result (frame_of R.rest self.new who.new) (write_fd (told_of told) R.rest.pid fd.0 (frame_of R.rest self.old who.old)) }
+        ensures counted { IsCounted self.new who.new }
+        ensures back { OnErr result (self.new ≡ self.old) }
+        ensures kept { Keeps self.old self.new }
+    {
+        let (e, x) = self.to_write(told, who, fd)?;
+        let label = who.caller().float.label;
         self.affect(who, e.object, &e.label, steps)?;
         if x.is_pipe() {
             return Ok(Reply::Number(0));
         }
-        self.float_entry(e.id, &who.caller().float.label, steps);
+        self.float_entry(e.id, &label, steps);
         Ok(Reply::Number(0))
+    }
+
+    /// The tests of WriteFd where a look at the labels would change none: all but that look.
+    fn write_fd_known<R: Rest>(&self, told: Told, who: &Who<R>, fd: Fd) -> Result<(), Refusal>
+        requires sound { Sound (world_of R.rest self.now who.now) }
+        requires known { Known Writing (frame_of R.rest self.now who.now) R.rest.pid fd.0 }
+        ensures row { RowMeans (λ u. write_passed) result (frame_of R.rest self.now who.now) (write_fd (told_of told) R.rest.pid fd.0 (frame_of R.rest self.now who.now)) }
+    {
+        self.to_write(told, who, fd)?;
+        Ok(())
     }
 
     /// What the lengths tell of a write to a file.
@@ -156,6 +189,27 @@ impl Files {
                 Reply::Number(bytes.len() as u64)
             }
             reply => reply,
+        }
+    }
+
+    /// A write where a look at the labels would change none: its tests, and then the bytes.
+    pub(crate) fn write_known<R: Rest>(&mut self, who: &Who<R>, fd: Fd, bytes: &[u8]) -> Reply
+        requires sound { Sound (world_of R.rest self.old who.now) }
+        requires counted { IsCounted self.old who.now }
+        requires known { Known Writing (frame_of R.rest self.old who.now) R.rest.pid fd.0 }
+        ensures step { (buf : List ℕ) → Answers (step (world_of R.rest self.old who.now) R.rest.place R.rest.pid (op.WriteFd fd.0 bytes.now)) (world_of R.rest self.new who.now) result buf buf }
+        ensures counted { IsCounted self.new who.now }
+    {
+        let Some(e) = self.behind(who, fd) else {
+            unreachable!()
+        };
+        let told = self.told_of_write(who, &e, bytes.len());
+        match self.write_fd_known(told, who, fd) {
+            Ok(()) => {
+                self.write_bytes(who, &e, bytes);
+                Reply::Number(bytes.len() as u64)
+            }
+            Err(why) => Reply::No(why),
         }
     }
 }

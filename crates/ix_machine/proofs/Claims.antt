@@ -1,5 +1,5 @@
 -- What a claim, and the end of one, make of a sound world.
-use Rattle.std.proofs.Common.{◌≡◌, ◌≢◌, ◌==◌, ◌-◌, ◌&&◌, ◌||◌, ℕ, Bool, true, false, true≢false, not, List, Option, Some, None, unwrap_or, Result, Ok, refl, sym, ap, subst, ◌∙◌, if◌then◌else◌, arith}
+use Rattle.std.proofs.Common.{◌≡◌, ◌≢◌, ◌==◌, ◌-◌, ◌&&◌, ◌||◌, ℕ, Bool, true, false, true≢false, not, Option, Some, None, unwrap_or, Result, Ok, refl, sym, ap, subst, ◌∙◌, if◌then◌else◌, arith}
 use Rattle.std.specs.Option.{option_map_or}
 use Rattle.std.specs.List.{list_any}
 use Rattle.std.proofs.lemmas.Bool.{eqb-true}
@@ -12,7 +12,7 @@ use Rattle.ix_model.specs.history.Step.{pex_answer, is_whole}
 use Rattle.ix_model.specs.rows.OnDescriptors.{pex, unpex, claimed}
 use Rattle.ix_model.specs.rows.Outcomes.{Refuse, Pass}
 use Rattle.ix_model.specs.rows.Rows.{◌>>=◌, ◌>>◌, on_pass, need, some, refuse, pass, frame, object, process, change_object}
-use Rattle.ix_model.specs.rows.Walks.{Behind, behind, behind_of, entry_at, opened, node, nothing}
+use Rattle.ix_model.specs.rows.Walks.{Behind, behind, opened, node, nothing}
 use Rattle.ix_model.specs.declared.refusal.Refusal.{Refusal}
 use Rattle.ix_model.specs.declared.refusal.Refusal.TheVariants as refusal
 use Rattle.ix_model.specs.declared.reply.Reply.{Reply}
@@ -32,6 +32,7 @@ use Rattle.ix_fcalls.specs.Claiming.{entry_of, Claims, ClaimsAt, ClaimsBehind, U
 use Rattle.ix_fcalls.proofs.Counting.{counted_changed}
 use Rattle.ix_machine.specs.Claimed.{ClaimedIs, UnclaimedIs, AnswersPex}
 use Rattle.ix_machine.specs.Joined.{joined, AreJoined}
+use Rattle.ix_machine.proofs.Standing.{behind_by}
 
 -- ---- the row of a claim
 module _ (f : Frame) (pid fd : ℕ) (e : Behind) (x : Object) (is : behind f pid fd ≡ Some e) (there : at f.objects e.entry.object ≡ Some x) where
@@ -94,14 +95,6 @@ has_end_lives f o end q h = go (at f.processes q) (λ (y : Process). list_any (�
         both false b k = k
 
 module _ (t : Parts) (p : ProcTable) (l : Lines) (s : Sound (joined t p l)) (pid fd : ℕ) where
-  entry_alone : (d : Option ℕ) → entry_at (frame_alone t) d ≡ entry_at (joined t p l).frame d
-  entry_alone None = refl
-  entry_alone (Some e) = refl
-
-  behind_by : (c : Caller) (q : Process) → living (at p.processes pid) ≡ Some q → q.fds ≡ c.fds → entry_of c fd t ≡ behind (joined t p l).frame pid fd
-  unfolding behind
-  behind_by c q is fds = entry_alone (at c.fds fd) ∙ ap (λ (ds : List (Option ℕ)). entry_at (joined t p l).frame (at ds fd)) (sym fds) ∙ sym (ap (λ (o : Option Process). behind_of o (joined t p l).frame fd) is)
-
   module _ (e : Behind) (x : Object) (is : behind (joined t p l).frame pid fd ≡ Some e) (there : at t.objects e.entry.object ≡ Some x) where
     abbrev claims_it : Object → Object
     claims_it y = record y { claims = put y.claims e.entry.end (Some pid) }
@@ -202,10 +195,10 @@ module _ (t : Parts) (p : ProcTable) (l : Lines) (s : Sound (joined t p l)) (pid
       by_claim e st.object is st.is_object r u (is_pipe st.object) (claimed_by st.object e.entry.end pid) refl refl (subst (λ (y : Object). UnclaimsAt (is_pipe y) (claimed_by y e.entry.end pid) r e t u) (ap (λ (o : Option Object). unwrap_or o nothing) st.is_object) h)
 
   claimed_there : (r : Result Claim Refusal) (c : Caller) (q : Process) (u : Parts) → living (at p.processes pid) ≡ Some q → q.fds ≡ c.fds → c.pid.0 ≡ pid → Claims r c fd t u → ClaimedIs r pid fd (joined t p l) (joined u p l)
-  claimed_there r c q u is fds id h = by_entry r u (behind (joined t p l).frame pid fd) refl (subst (λ (b : Option Behind). ClaimsBehind b r pid t u) (behind_by c q is fds) (subst (λ (n : ℕ). ClaimsBehind (entry_of c fd t) r n t u) id h))
+  claimed_there r c q u is fds id h = by_entry r u (behind (joined t p l).frame pid fd) refl (subst (λ (b : Option Behind). ClaimsBehind b r pid t u) (behind_by t p l pid fd c q is fds) (subst (λ (n : ℕ). ClaimsBehind (entry_of c fd t) r n t u) id h))
 
   unclaimed_there : (r : Result (Unit {0}) Refusal) (c : Caller) (q : Process) (u : Parts) → living (at p.processes pid) ≡ Some q → q.fds ≡ c.fds → c.pid.0 ≡ pid → Unclaims r c fd t u → UnclaimedIs r pid fd (joined t p l) (joined u p l)
-  unclaimed_there r c q u is fds id h = by_claimed r u (behind (joined t p l).frame pid fd) refl (subst (λ (b : Option Behind). UnclaimsBehind b r pid t u) (behind_by c q is fds) (subst (λ (n : ℕ). UnclaimsBehind (entry_of c fd t) r n t u) id h))
+  unclaimed_there r c q u is fds id h = by_claimed r u (behind (joined t p l).frame pid fd) refl (subst (λ (b : Option Behind). UnclaimsBehind b r pid t u) (behind_by t p l pid fd c q is fds) (subst (λ (n : ℕ). UnclaimsBehind (entry_of c fd t) r n t u) id h))
 
 -- ---- what is counted
 claimed_joined : (t : Parts) (p : ProcTable) (l : Lines) (o end pid : ℕ) (held whole : Bool) → AreJoined t p l → AreJoined (if held then t else (if whole then parts_emptied o (with_claim o end (Some pid) t) else with_claim o end (Some pid) t)) p l

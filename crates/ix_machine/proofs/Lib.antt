@@ -5,6 +5,8 @@ pub mod Claims
 pub mod Ends
 pub mod Landing
 pub mod Moved
+pub mod Knowing
+pub mod Standing
 pub mod Restoring
 pub mod Rows
 pub mod Stepped

@@ -36,3 +36,11 @@ moved t x p q l w place pid c who here j parts whole put =
       log = j.log ∙ sym (ap (λ (m : Limits). m.log) limits);
       few = subst (λ (m : Limits). m.procs ≤ 1024) (sym limits) j.few;
     }
+
+-- the same where the process stays as it is
+pub moved_still : (t x : Parts) (p : ProcTable) (l : Lines) (w : World) (place pid : ℕ) (c : Op) (who : Caller) → joined t p l ≡ w → AreJoined t p l → x ≡ parts_of (step w place pid c).world
+    → with_who w.frame.processes who ≡ w.frame.processes → world_of (around place pid w) x w.frame.processes ≡ (step w place pid c).world → AreJoined x p l
+moved_still t x p l w place pid c who here j parts shown whole =
+    let ps : w.frame.processes ≡ p.processes = ap (λ (u : World). u.frame.processes) (sym here) in
+    let stays : with_who p.processes who ≡ p.processes = subst (λ (rs : List (Option Process)). with_who rs who ≡ rs) ps shown in
+    moved t x p p l w place pid c who here j parts (ap (λ (rs : List (Option Process)). world_of (around place pid w) x rs) shown ∙ whole) (λ i. record p { processes = sym stays i })

@@ -9,6 +9,7 @@ ghost use Rattle.ix_model.specs.rows.Telling.{nothing_told};
 ghost use Rattle.ix_model.specs.world.World.{lives};
 ghost use Rattle.ix_fcalls.specs.Around.{Moment};
 ghost use Rattle.ix_fcalls.specs.Filed.{Answers, is_filed};
+ghost use Rattle.ix_fcalls.specs.Tested.{IsKnown};
 ghost use Rattle.ix_machine.specs.OwnCalls.{is_still};
 ghost use Rattle.ix_machine.specs.Restoring.{Restores};
 
@@ -45,6 +46,30 @@ impl Machine {
             Call::Pex { fd } => self.pexed(place, pid, *fd, buf),
             _ => self.own(place, pid, call, buf, steps),
         }
+    }
+
+    /// One step of the machine: a read or a write by a process, at a place of the history, through a descriptor of which it is
+    /// known that a look at the labels would change none. It looks at no label, and takes no memory.
+    pub fn call_known(&mut self, place: u32, pid: Pid, call: &Call<'_>, buf: &mut Buf) -> Reply
+        requires sound { Sound self.old }
+        requires known { IsKnown self.old.frame pid.0 (op_of call.now) }
+        ensures { Answers (step self.old place pid.0 (op_of call.now)) self.new result buf.old buf.new }
+    {
+        self.filed_known(place, pid, call, buf)
+    }
+
+    /// The same, as the files answer it.
+    fn filed_known(&mut self, place: u32, pid: Pid, call: &Call<'_>, buf: &mut Buf) -> Reply
+        ghost moment: { Moment }
+        requires world { self.old ≡ moment.world }
+        requires place { place ≡ moment.place }
+        requires sound { Sound moment.world }
+        requires known { IsKnown moment.world.frame pid.0 (op_of call.now) }
+        ensures { Answers (step moment.world moment.place pid.0 (op_of call.now)) self.new result buf.old buf.new }
+    {
+        let _ = place;
+        let who = *self.who(pid);
+        self.files.call_known(&who, call, buf)
     }
 
     /// A call that the files answer.

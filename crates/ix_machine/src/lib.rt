@@ -14,6 +14,7 @@ mod machine;
 mod parts;
 mod privileges;
 mod running;
+mod spots;
 mod turns;
 mod walks;
 
