@@ -1,24 +1,43 @@
 -- What one seat's step on a core makes, and how the core goes on.
-use Rattle.std.proofs.Common.{◌≡◌, ◌≤◌, ℕ, List, [], ◌∷◌, ◌++◌, refl, sym, ap, ◌∙◌, subst, arith}
+use Rattle.std.proofs.Common.{◌≡◌, ◌≤◌, ◌+◌, ℕ, List, [], ◌∷◌, ◌++◌, length, refl, sym, ap, ◌∙◌, subst, arith}
 use Rattle.ix_model.specs.history.Cost.{cost_of_history}
 use Rattle.ix_model.specs.history.Events.{Op}
-use Rattle.ix_model.specs.history.History.{History}
+use Rattle.ix_model.specs.history.History.{History, world_of, next}
 use Rattle.ix_model.specs.history.Made.{Made, entry}
-use Rattle.ix_model.specs.history.Seats.{made_by, GoesOn}
-use Rattle.ix_model.specs.history.Systems.{made_after}
+use Rattle.ix_model.specs.history.Seats.{made_of, made_by, GoesOn}
+use Rattle.ix_model.specs.history.Shown.{AreShown}
+use Rattle.ix_model.specs.history.Step.{put_front}
+use Rattle.ix_model.specs.history.Systems.{bytes_in, made_after}
 use Rattle.ix_model.specs.declared.ids.Pid.{Pid}
+use Rattle.ix_model.specs.declared.reply.Reply.{Reply}
+use Rattle.ix_model.specs.declared.reply.Reply.TheVariants as reply
 use Rattle.ix_model.specs.declared.reply.Answer.{Answer}
 use Rattle.ix_model.specs.declared.reply.Answer.TheVariants as answer
 use Rattle.ix_model.proofs.words.Seats.{made_by-push, goes_on_not, goes_on_once}
 use Rattle.ix_journal.proofs.Growing.{cost_more}
+use Rattle.ix_model.proofs.clean.Showing.{shown_step}
 use Rattle.ix_core.specs.Stepping.{StepsTo}
+use Rattle.ix_core.proofs.Standing.{shows}
+
+-- the bytes in the buffer are those that the reply gives
+pub gives_bytes : (r : Reply) (bytes before after : List ℕ) → AreShown r bytes → after ≡ put_front bytes before → bytes_in r after ≡ bytes
+gives_bytes (reply.Bytes k) bytes before after h e = (shows (reply.Bytes k) bytes before after h e).2
+gives_bytes _ bytes before after h e = sym h
 
 module _ (old new : History) (before after : List ℕ) (seat line : ℕ) (pid : Pid) (o : Op) where
   abbrev Steps : Answer → Type 0
   Steps a = StepsTo a old new before after (entry seat line pid o)
 
-  pub makes : (a : Answer) → Steps a → made_by seat new ≡ made_after a (entry seat line pid o) (made_by seat old)
-  makes (answer.Given r) h = ap (made_by seat) h.0 ∙ made_by-push seat old (entry seat line pid o) refl ∙ ap (λ x. let m : Made = record { event = entry seat line pid o; reply = x } in made_by seat old ++ m ∷ []) (sym h.1)
+  made_next : (r : Reply) → r ≡ (next old (entry seat line pid o)).reply → after ≡ put_front (next old (entry seat line pid o)).bytes before → made_of (entry seat line pid o) (next old (entry seat line pid o)) ≡ record { event = entry seat line pid o; reply = r; bytes = bytes_in r after }
+  made_next r said put =
+      let e = entry seat line pid o in
+      let given = next old e in
+      let shown : AreShown r given.bytes = subst (λ (x : Reply). AreShown x given.bytes) (sym said) (shown_step (world_of old) (length old.events + 1) pid.0 o) in
+      let bytes : bytes_in r after ≡ given.bytes = gives_bytes r given.bytes before after shown put in
+      λ i. record { event = e; reply = sym said i; bytes = sym bytes i }
+
+  pub makes : (a : Answer) → Steps a → made_by seat new ≡ made_after a (entry seat line pid o) after (made_by seat old)
+  makes (answer.Given r) h = ap (made_by seat) h.0 ∙ made_by-push seat old (entry seat line pid o) refl ∙ ap (λ (m : Made). made_by seat old ++ m ∷ []) (made_next r h.1 h.2)
   makes (answer.JournalFull used need cap) h = ap (made_by seat) h.4
   makes answer.NoMemory h = absurd h
 

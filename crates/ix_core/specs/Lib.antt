@@ -1,3 +1,4 @@
 pub mod Stepping
 pub mod Stops
 pub mod OneSeat
+pub mod Marking

@@ -10,17 +10,23 @@ ghost use Rattle.ix_model.specs.opening.Valid.{is_valid};
 ghost use Rattle.ix_model.specs.world.World.{at};
 ghost use Rattle.ix_iso.specs.Hiding.{HidesWhatIsHigh};
 ghost use Rattle.ix_model.specs.history.Views.{view_of, shown_of};
+ghost use Rattle.ix_model.specs.history.Freshness.{is_fresh};
+ghost use Rattle.ix_core.specs.Marking.{way_of, goes_fresh};
 ghost use Rattle.ix_core.specs.Stepping.{StepsTo, Shows, AnswersAlike};
 
+use crate::marking::turn;
+use ix_float::Way;
 use ix_journal::Journal;
 use ix_label::Steps;
 use ix_machine::Machine;
-use ix_model::{Answer, AuditLine, Buf, Call, Config, Entry, NoMemory, ObjView, Pid, ProcView};
+use ix_marks::Marks;
+use ix_model::{Answer, AuditLine, Buf, Call, Config, Entry, Fd, NoMemory, ObjView, Pid, ProcView};
 use std::alloc::Global;
 use std::marker::Model;
 use std::sync::ledger::Ledger;
 
-/// A machine with the config that it started from, and the journal of the history that led to it.
+/// A machine with the config that it started from, the journal of the history that led to it, and the marks of the descriptors
+/// that are fresh after it.
 ///
 /// Contracts see the config and the history: the core stands for the world to which they lead. All memory is taken by
 /// [`boot`](Core::boot).
@@ -29,13 +35,14 @@ pub struct Core {
     config: Config,
     machine: Machine,
     journal: Journal,
+    marks: Marks,
 }
 
 impl Model for Core {
     ghost use Rattle.std.specs.Coded.{codes};
     ghost use Rattle.ix_label.specs.contracts.label.Label as label_type;
     ghost use Rattle.ix_model.specs.history.History.{History};
-    ghost use Rattle.ix_core.specs.Stepping.{StandsFor};
+    ghost use Rattle.ix_core.specs.Marking.{IsKept};
 
     ghost Value = { History };
 
@@ -43,7 +50,7 @@ impl Model for Core {
 
     ghost view = { λ c. record { config = c.config; events = c.journal.events } };
 
-    ghost invariant = { λ c. StandsFor c.machine c.journal (record { config = c.config; events = c.journal.events }) };
+    ghost invariant = { λ c. IsKept c.machine c.journal c.marks (record { config = c.config; events = c.journal.events }) };
 }
 
 impl Core {
@@ -55,10 +62,13 @@ impl Core {
     {
         let machine = Machine::boot(alloc, &config)?;
         let journal = Journal::new(alloc, config.journal)?;
+        let limits = config.limits;
+        let marks = Marks::new(alloc, limits.procs, machine.objects(), limits.opens)?;
         Ok(Core {
             config,
             machine,
             journal,
+            marks,
         })
     }
 
@@ -66,6 +76,9 @@ impl Core {
     /// then at the front of the buffer, and the rest of it stays. `JournalFull` comes exactly where the entry's cost and
     /// the cost of the entries before it are above the config's journal; nothing has changed then, and the call wasn't
     /// made. `NoMemory` never comes. A reply is a refusal, or what the call's row passes, within its bounds.
+    ///
+    /// A read through a descriptor that is [`fresh`](Core::fresh) for reading looks at no label, nor does a write through one
+    /// that is fresh for writing.
     ///
     /// What a process at or below a label is told is the same in each run whose history agrees with the core's own at that
     /// label, from the config's opening world or one alike to it, as long as no entry lets something down across the label.
@@ -85,6 +98,7 @@ impl Core {
         ensures rest { LeavesRest result buf.old buf.new }
         ensures alike { AnswersAlike result self.old (record { seat = seat; line = line; pid = pid.0; op = op_of call.now }) buf.old buf.new }
         ensures hides { HidesWhatIsHigh (opening_world self.new.config) self.new.events }
+        ensures fresh { IsTrue (goes_fresh self.old pid.0 (op_of call.now)) → steps.new ≡ steps.old }
     {
         if !self.journal.takes(call) {
             return Answer::JournalFull {
@@ -94,9 +108,20 @@ impl Core {
             };
         }
         let place = self.journal.len() + 1;
-        let reply = self.machine.call(place, pid, call, buf, steps);
+        let (machine, marks) = (&mut self.machine, &mut self.marks);
+        let reply = turn(machine, marks, place, pid, call, buf, steps);
         self.journal.keep(seat, line, pid, call);
         Answer::Given(reply)
+    }
+
+    /// Whether a descriptor of a process is fresh for that way: the process read through it and was given bytes, or wrote
+    /// through it and was told how many, and since then neither did a call close it, nor change the label of the process, of
+    /// the object behind it or of its open entry. `false` where the process or the descriptor is none. It looks for the
+    /// process in one bucket, and else takes constant time.
+    pub fn fresh(&self, pid: Pid, fd: Fd, way: Way) -> bool
+        ensures { result ≡ is_fresh (opening_world self.now.config) self.now.events pid.0 fd.0 (way_of way) }
+    {
+        self.marks.fresh(pid, fd, way)
     }
 
     /// The entry at a place of the history, from 1; `None` exactly where there is none.

@@ -2,6 +2,7 @@
 #![tactic(auto)]
 
 mod keeper;
+mod marking;
 mod system;
 
 pub use keeper::Core;

@@ -14,8 +14,8 @@ use std::sync::ledger::{Blank, Ledger};
 
 /// What makes calls on a core as one seat, on one thread. It borrows the core.
 ///
-/// It means the entries of its seat in the core's history, each with the reply that the history's run gives. So one that is
-/// made anew on the same core for the same seat means the same list. A full journal alone stops its calls: memory never runs
+/// It means the entries of its seat in the core's history, each with the reply and the bytes that the history's run gives. So
+/// one that is made anew on the same core for the same seat means the same list. A full journal alone stops its calls: memory never runs
 /// out.
 #[derive(Drop)]
 pub struct CoreSys<'a> {
@@ -102,7 +102,7 @@ fn step_as<L: Ledger>(
     requires name { blank.name ≡ L.name }
     requires parts { blank.parts ≡ L.parts }
     requires some { 0 < L.parts }
-    ensures made { made_by seat core.new ≡ made_after result (entry seat line pid (op_of call.now)) (made_by seat core.old) }
+    ensures made { made_by seat core.new ≡ made_after result (entry seat line pid (op_of call.now)) buf.new (made_by seat core.old) }
     ensures on { GoesOn seat core.old core.new }
     ensures full { FullFor (op_of call.now) result }
     ensures fits { Fits (op_of call.now) result }

@@ -1,0 +1,220 @@
+-- A process that lives goes on living, unless it exits.
+use Rattle.std.proofs.Common.{◌≡◌, ◌≢◌, ◌==◌, ◌&&◌, ◌≤◌, ◌<◌, ℕ, Bool, true, false, not, true≢false, List, [], ◌∷◌, length, position, Option, Some, None, refl, sym, ap, ◌∙◌, subst, inl, inr}
+use Rattle.std.specs.Option.{option_map_or}
+use Rattle.std.specs.List.{list_all, range_with_len}
+use Rattle.std.proofs.lemmas.Bool.{and_parts, eq-eqb}
+use Rattle.std.proofs.lemmas.Bool.Decides.{eqb_tells}
+use Rattle.std.proofs.lemmas.List.{get_or-set_other, get_or_append_left}
+use Rattle.std.proofs.lemmas.List.Quantifiers.{position-Some}
+use Rattle.ix_model.specs.world.World.{World, Frame, Object, Process, Open, at, lives, is_ended}
+use Rattle.ix_model.specs.rows.Rows.{pass, put_object, put_open, put_process, add_process, change_object, change_process, change_open}
+use Rattle.ix_model.specs.rows.Walks.{Behind, behind}
+use Rattle.ix_model.specs.rows.Auditing.{logged}
+use Rattle.ix_model.specs.rows.Lifetimes.{let_go_object, let_go_open, let_go_claim, let_go, let_go_if_held, let_go_each, let_go_all, has_lost}
+use Rattle.ix_model.specs.rows.OnDescriptors.{Told}
+use Rattle.ix_model.specs.rows.OnProcesses.{is_child, end_process, exit, wait_child}
+use Rattle.ix_model.specs.rows.Refusals.{keeps_label}
+use Rattle.ix_model.specs.rows.Table.{row}
+use Rattle.ix_model.specs.rows.Telling.{told}
+use Rattle.ix_model.specs.history.Step.{step}
+use Rattle.ix_model.specs.history.Systems.{FitsCall}
+use Rattle.ix_model.specs.history.Events.{Op}
+use Rattle.ix_model.specs.history.Events as op
+use Rattle.ix_model.specs.laws.Sound.{Sound}
+use Rattle.ix_model.specs.declared.audit.AuditLine.{AuditLine}
+use Rattle.ix_model.specs.declared.refusal.Refusal.{Refusal}
+use Rattle.ix_model.specs.declared.reply.Reply.{Reply}
+use Rattle.ix_model.specs.declared.reply.Reply.TheVariants as reply
+use Rattle.ix_model.proofs.tables.Tables.{seen_changed}
+use Rattle.ix_model.proofs.tables.Finds.{in_table}
+use Rattle.ix_model.proofs.words.Keeps.{Holds, Keeps, keeps_bind, keeps_then, keeps_pass, keeps_need, keeps_record_of, keeps_only_if}
+use Rattle.ix_model.proofs.words.Rowwise.{Change, Ending, Words, changes_of, keeps_bind_frame, keeps_bind_some, kept_observe, kept_row}
+use Rattle.ix_model.proofs.words.Lasts.{decided}
+use Rattle.ix_model.proofs.words.Answered.{step_frame}
+use Rattle.ix_model.proofs.refused.RefusedSteps.{refused_step}
+use Rattle.ix_model.proofs.told.Replies.{replies_fit}
+use Rattle.ix_core.specs.Marking.{has_exited}
+
+abbrev alive : Option Process → Bool
+alive o = option_map_or (λ q. not q.ended) o false
+
+inside : (t : List (Option Process)) (n : ℕ) → alive (at t n) ≡ true → n < length t
+inside t n h = go (at t n) refl h
+  where
+    go : (o : Option Process) → at t n ≡ o → alive o ≡ true → n < length t
+    go None is h = cc
+    go (Some x) is h = in_table t n x is
+
+abbrev ends_nothing : Change → Bool
+ends_nothing Ending = false
+ends_nothing _ = true
+
+abbrev is_ending : Op → Bool
+is_ending (op.Exit status) = true
+is_ending op.WaitChild = true
+is_ending _ = false
+
+bears : (c : Op) → is_ending c ≡ false → list_all ends_nothing (changes_of c) ≡ true
+bears (op.Exit status) h = cc
+bears op.WaitChild h = cc
+bears _ h = refl
+
+module _ (n : ℕ) where
+  abbrev Alive : Frame → Type 0
+  Alive g = lives g n ≡ true
+
+  -- ---- the words
+  a_object : (o : ℕ) (h : Object → Object) → Keeps Alive (change_object o h)
+  unfolding change_object Holds
+  a_object o h = record { led = λ g r. r }
+
+  a_put_object : (o : ℕ) (x : Option Object) → Keeps Alive (put_object o x)
+  unfolding put_object Holds
+  a_put_object o x = record { led = λ g r. r }
+
+  a_open : (e : ℕ) (h : Open → Open) → Keeps Alive (change_open e h)
+  unfolding change_open Holds
+  a_open e h = record { led = λ g r. r }
+
+  a_put_open : (e : ℕ) (x : Option Open) → Keeps Alive (put_open e x)
+  unfolding put_open Holds
+  a_put_open e x = record { led = λ g r. r }
+
+  a_logged : (l : AuditLine) → Keeps Alive (logged l)
+  unfolding logged Holds
+  a_logged l = record { led = λ g r. r }
+
+  a_process : (p : ℕ) (h : Process → Process) → ((q : Process) → (h q).ended ≡ q.ended) → Keeps Alive (change_process p h)
+  unfolding change_process Holds
+  a_process p h same = record { led = λ g r. seen_changed alive h (λ q. ap not (same q)) g.processes p n ∙ r }
+
+  a_add : (p : Process) → Keeps Alive (add_process p)
+  unfolding add_process Holds
+  a_add p = record { led = λ g r. ap alive (get_or_append_left g.processes (Some p ∷ []) None n (inside g.processes n r)) ∙ r }
+
+  a_end : (pid : ℕ) → n ≢ pid → Keeps Alive (end_process pid)
+  unfolding end_process put_process Holds
+  a_end pid apart = record { led = λ g r. ap alive (get_or-set_other g.processes pid n _ None apart) ∙ r }
+
+  -- what is collected has ended
+  not_both : (o : Option Process) → alive o ≡ true → is_ended o ≡ true → ⊥
+  not_both None h k = cc
+  not_both (Some q) h k = true≢false (sym h ∙ ap not k)
+
+  a_collect : (pid c : ℕ) (m : Frame) → Alive m → position (λ q. is_child pid q && is_ended q) m.processes ≡ Some c → Keeps Alive (put_process c None)
+  unfolding put_process Holds
+  a_collect pid c m was first =
+      let ended : is_ended (at m.processes c) ≡ true = (and_parts (is_child pid (at m.processes c)) (is_ended (at m.processes c)) (position-Some (λ z. is_child pid z && is_ended z) m.processes c None first).1).1 in
+      let apart : n ≢ c = λ same. not_both (at m.processes n) was (ap (λ i. is_ended (at m.processes i)) same ∙ ended) in
+      record { led = λ g r. ap alive (get_or-set_other g.processes c n None None apart) ∙ r }
+
+  words : (pid : ℕ) → Words ends_nothing pid Alive
+  words pid = record {
+    object = λ o h same. a_object o h;
+    process = λ p h same. a_process p h (λ q. ap (λ x. x.ended) (same q));
+    float = λ h same. a_process pid h (λ q. ap (λ x. x.ended) (same q));
+    entry = λ e x low. a_put_open e (Some x);
+    through = λ can e l. a_open e _;
+    unclaim = λ o end. a_object o _;
+    relabel = λ can o h same. a_object o h;
+    claim = λ can o h same. a_object o h;
+    log = λ can. a_logged;
+    inode = λ can g o k kind r free. a_put_object o _;
+    pipe = λ can g o r free. a_put_object o _;
+    gone_object = λ can o. a_put_object o None;
+    gone_open = λ can e. a_put_open e None;
+    fork = λ can q. a_add q;
+    end = λ can. cc;
+    collect = λ can. cc;
+  }
+
+  -- ---- a wait
+  a_wait_child : (pid : ℕ) → Keeps Alive (wait_child pid)
+  unfolding wait_child
+  a_wait_child pid =
+      keeps_bind_frame Alive _ (λ f r.
+      keeps_then Alive _ _ (keeps_need Alive _ _)
+      (keeps_bind_some Alive _ _ _ (λ c is.
+      keeps_bind Alive _ _ (keeps_record_of Alive c) (λ q.
+      keeps_then Alive _ _ (kept_observe ends_nothing pid Alive (words pid) q.label)
+      (keeps_then Alive _ _ (a_collect pid c f r is) (keeps_pass Alive _))))))
+
+  -- ---- an exit
+  a_let_go_object : (o : ℕ) → Keeps Alive (let_go_object o)
+  unfolding let_go_object
+  a_let_go_object o = record { led = λ g. (keeps_only_if Alive _ (put_object o None) (a_put_object o None)).led g }
+
+  a_let_go_open : (e : ℕ) → Keeps Alive (let_go_open e)
+  unfolding let_go_open
+  a_let_go_open e = record { led = λ g. (keeps_only_if Alive _ (put_open e None) (a_put_open e None)).led g }
+
+  a_let_go_claim : (pid o end : ℕ) → Keeps Alive (let_go_claim pid o end)
+  unfolding let_go_claim
+  a_let_go_claim pid o end = record { led = λ g. (keeps_only_if Alive (has_lost g pid o end) _ (a_object o _)).led g }
+
+  a_let_go : (pid fd : ℕ) (e : Behind) → Keeps Alive (let_go pid fd e)
+  unfolding let_go
+  a_let_go pid fd e =
+      keeps_then Alive _ _ (a_process pid _ (λ q. refl))
+      (keeps_then Alive _ _ (a_let_go_claim pid e.entry.object e.entry.end)
+      (keeps_then Alive _ _ (a_let_go_open e.id) (a_let_go_object e.entry.object)))
+
+  a_let_go_if_held : (pid fd : ℕ) → Keeps Alive (let_go_if_held pid fd)
+  unfolding let_go_if_held
+  a_let_go_if_held pid fd = record { led = λ g r. (go (behind g pid fd)).led g r }
+    where
+      go : (b : Option Behind) → Keeps Alive (option_map_or (let_go pid fd) b (pass tt))
+      go None = keeps_pass Alive tt
+      go (Some e) = a_let_go pid fd e
+
+  a_let_go_each : (pid : ℕ) (fds : List ℕ) → Keeps Alive (let_go_each pid fds)
+  unfolding let_go_each
+  a_let_go_each pid [] = keeps_pass Alive tt
+  a_let_go_each pid (fd ∷ fds) = keeps_then Alive _ _ (a_let_go_if_held pid fd) (a_let_go_each pid fds)
+
+  a_let_go_all : (pid : ℕ) → Keeps Alive (let_go_all pid)
+  unfolding let_go_all
+  a_let_go_all pid = a_let_go_each pid (range_with_len 0 32)
+
+  a_exit : (pid : ℕ) → n ≢ pid → Keeps Alive (exit pid)
+  unfolding exit
+  a_exit pid apart =
+      keeps_bind_frame Alive _ (λ f r.
+      keeps_then Alive _ _ (keeps_need Alive _ _)
+      (keeps_then Alive _ _ (a_let_go_all pid)
+      (keeps_then Alive _ _ (a_end pid apart) (keeps_pass Alive _))))
+
+  -- ---- all calls
+  refused_lives : (w : World) (place pid : ℕ) (c : Op) (r : Refusal) → (step w place pid c).reply ≡ reply.No r → Alive w.frame → Alive (step w place pid c).world.frame
+  refused_lives w place pid c r is was = go (keeps_label r) refl
+    where
+      go : (b : Bool) → keeps_label r ≡ b → Alive (step w place pid c).world.frame
+      go true keeps = ap (λ (f : Frame). lives f n) ((refused_step w place pid c r is).label keeps) ∙ seen_changed alive _ (λ q. refl) w.frame.processes pid n ∙ was
+      go false keeps = ap (λ (f : Frame). lives f n) ((refused_step w place pid c r is).kept keeps) ∙ was
+
+  kept_on : (w : World) (place pid : ℕ) (c : Op) → Keeps Alive (row (told w pid c) place pid c) → Alive w.frame → Alive (step w place pid c).world.frame
+  kept_on w place pid c keeps was =
+      subst (λ (g : Frame). lives g n ≡ true) (sym (step_frame w place pid c))
+      (decided Alive (told w pid c) place pid c w.frame was (keeps.led w.frame was))
+
+  -- a caller who hasn't exited was refused
+  still_there : (w : World) (place pid status : ℕ) (r : Reply) → (step w place pid (op.Exit status)).reply ≡ r → FitsCall (op.Exit status) r → has_exited (op.Exit status) r ≡ false → Alive w.frame → Alive (step w place pid (op.Exit status)).world.frame
+  still_there w place pid status (reply.No why) is fits stays was = refused_lives w place pid (op.Exit status) why is was
+  still_there w place pid status reply.Done is fits stays was = cc
+  still_there w place pid status _ is fits stays was = absurd fits
+
+  exit_row : (t : Told) (place pid status : ℕ) → n ≢ pid → Keeps Alive (row t place pid (op.Exit status))
+  unfolding row
+  exit_row t place pid status apart = a_exit pid apart
+
+  wait_row : (t : Told) (place pid : ℕ) → Keeps Alive (row t place pid op.WaitChild)
+  unfolding row
+  wait_row t place pid = a_wait_child pid
+
+  pub lives_on : (w : World) (place pid : ℕ) (c : Op) → Sound w → length w.frame.processes ≤ 4294967295 → (n == pid && has_exited c (step w place pid c).reply) ≡ false → lives w.frame n ≡ true → lives (step w place pid c).world.frame n ≡ true
+  lives_on w place pid (op.Exit status) s few stays was = elim (eqb_tells n pid) [
+    | inl same ↦ still_there w place pid status _ refl (replies_fit w place pid (op.Exit status) s few) (sym (ap (λ b. b && has_exited (op.Exit status) (step w place pid (op.Exit status)).reply) (eq-eqb n pid same.1)) ∙ stays) was
+    | inr apart ↦ kept_on w place pid (op.Exit status) (exit_row _ place pid status apart.1) was
+  ]
+  lives_on w place pid op.WaitChild s few stays was = kept_on w place pid op.WaitChild (wait_row _ place pid) was
+  lives_on w place pid c s few stays was = kept_on w place pid c (kept_row ends_nothing pid Alive (words pid) _ place c (bears c refl)) was

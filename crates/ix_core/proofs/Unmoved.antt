@@ -1,0 +1,94 @@
+-- A call of which it is known that it changes no label leaves the frame as it was.
+use Rattle.std.proofs.Common.{◌≡◌, ℕ, Option, Some, refl, sym, ◌∙◌, subst}
+use Rattle.ix_model.specs.world.World.{World, Frame, Object, Process, at}
+use Rattle.ix_model.specs.rows.Outcomes.{Outcome, Pass}
+use Rattle.ix_model.specs.rows.OnDescriptors.{Told, float_entry, read_fd, write_fd}
+use Rattle.ix_model.specs.rows.Table.{row}
+use Rattle.ix_model.specs.rows.Telling.{told}
+use Rattle.ix_model.specs.rows.Walks.{Behind, behind}
+use Rattle.ix_model.specs.history.Events.{Op}
+use Rattle.ix_model.specs.history.Events as op
+use Rattle.ix_model.specs.history.Freshness.{Way, Reading, Writing}
+use Rattle.ix_model.specs.history.Step.{step}
+use Rattle.ix_model.specs.declared.refusal.Refusal.{Refusal}
+use Rattle.ix_model.specs.declared.reply.Reply.{Reply}
+use Rattle.ix_model.proofs.words.Keeps.{Holds}
+use Rattle.ix_model.proofs.words.Ends.{Ends, kept_ends, ends_bind, ends_then, ends_pass, ends_frame, ends_need, ends_caller, ends_object, ends_opened}
+use Rattle.ix_model.proofs.words.Lasts.{decided}
+use Rattle.ix_model.proofs.words.Answered.{step_frame}
+use Rattle.ix_fresh.specs.Known.{Known, ChangeNothing}
+use Rattle.ix_fresh.specs.Laws.{KnownChangesNothing}
+use Rattle.ix_fcalls.specs.Tested.{IsKnown}
+
+one_there : {A : Type 0} (o : Option A) (p q : A) → o ≡ Some p → o ≡ Some q → p ≡ q
+one_there o p q is here = let h : Some p ≡ Some q = sym is ∙ here in cc
+
+-- what is known is known of the open entry and the object that stand there
+changes_nothing : KnownChangesNothing → (way : Way) (f : Frame) (pid fd : ℕ) (k : Known way f pid fd) (e : Behind) (x : Object) → behind f pid fd ≡ Some e → at f.objects e.entry.object ≡ Some x → ChangeNothing way f pid k.process x e
+changes_nothing law way f pid fd k e x is there =
+    let entry : k.entry ≡ e = one_there (behind f pid fd) k.entry e k.is_behind is in
+    let object : k.object ≡ x = one_there (at f.objects e.entry.object) k.object x (subst (λ (b : Behind). at f.objects b.entry.object ≡ Some k.object) entry k.is_object) there in
+    subst (λ (y : Object). ChangeNothing way f pid k.process y e) object (subst (λ (b : Behind). ChangeNothing way f pid k.process k.object b) entry (law way f pid fd k))
+
+module _ (law : KnownChangesNothing) (f : Frame) where
+  abbrev As : Frame → Type 0
+  As g = g ≡ f
+
+  abbrev No : Refusal → Frame → Type 0
+  No why g = As g
+
+  abbrev Yes : Reply → Frame → Type 0
+  Yes r g = As g
+
+  passes_on : {A : Type 0} (o : Outcome A) (a : A) (Q : A → Frame → Type 0) → o ≡ Pass a f → Q a f → Ends o No Q
+  unfolding Ends
+  passes_on o a Q is h = subst (λ z. Ends z No Q) (sym is) h
+
+  floats : (pid fd : ℕ) (way : Way) (k : Known way f pid fd) (q : Process) (x : Object) (e : Behind) → ChangeNothing way f pid k.process x e → k.process ≡ q → float_entry q x e f ≡ Pass tt f
+  floats pid fd way k q x e nothing same = subst (λ (p : Process). float_entry p x e f ≡ Pass tt f) same nothing.float_entry
+
+  read_still : (t : Told) (pid fd count : ℕ) → Known Reading f pid fd → Ends (read_fd t pid fd count f) No Yes
+  unfolding read_fd
+  read_still t pid fd count k =
+      ends_bind _ _ f No Yes (ends_opened pid fd f No _ (λ e is.
+      ends_then _ _ f No Yes (ends_need _ _ f No _ (λ may.
+      ends_bind _ _ f No Yes (ends_object e.entry.object f No _ (λ x here.
+      let nothing = changes_nothing law Reading f pid fd k e x is here in
+      ends_then _ _ f No Yes (ends_need _ _ f No _ (λ free.
+      ends_then _ _ f No Yes (ends_need _ _ f No _ (λ few.
+      ends_then _ _ f No Yes (passes_on _ tt _ nothing.look (
+      ends_bind _ _ f No Yes (ends_frame f No _ (
+      ends_then _ _ f No Yes (ends_need _ _ f No _ (λ some.
+      ends_bind _ _ f No Yes (ends_caller pid f No _ (λ q lives.
+      ends_then _ _ f No Yes (passes_on _ tt _ (floats pid fd Reading k q x e nothing (one_there _ k.process q k.lives lives)) (
+      ends_pass _ f No Yes refl)))
+      refl)) refl)))))) refl)) refl)) refl)) refl)) refl)
+
+  write_still : (t : Told) (pid fd : ℕ) → Known Writing f pid fd → Ends (write_fd t pid fd f) No Yes
+  unfolding write_fd
+  write_still t pid fd k =
+      ends_bind _ _ f No Yes (ends_opened pid fd f No _ (λ e is.
+      ends_then _ _ f No Yes (ends_need _ _ f No _ (λ may.
+      ends_bind _ _ f No Yes (ends_object e.entry.object f No _ (λ x here.
+      let nothing = changes_nothing law Writing f pid fd k e x is here in
+      ends_then _ _ f No Yes (ends_need _ _ f No _ (λ free.
+      ends_then _ _ f No Yes (ends_need _ _ f No _ (λ few.
+      ends_then _ _ f No Yes (ends_need _ _ f No _ (λ plain.
+      ends_bind _ _ f No Yes (ends_frame f No _ (
+      ends_then _ _ f No Yes (ends_need _ _ f No _ (λ whole.
+      ends_then _ _ f No Yes (ends_need _ _ f No _ (λ room.
+      ends_then _ _ f No Yes (ends_need _ _ f No _ (λ space.
+      ends_bind _ _ f No Yes (ends_caller pid f No _ (λ q lives.
+      ends_then _ _ f No Yes (passes_on _ tt _ nothing.look (
+      ends_then _ _ f No Yes (passes_on _ tt _ (floats pid fd Writing k q x e nothing (one_there _ k.process q k.lives lives)) (
+      ends_pass _ f No Yes refl)))))
+      refl)) refl)) refl)) refl)))) refl)) refl)) refl)) refl)) refl)) refl)
+
+  row_still : (t : Told) (place pid : ℕ) (c : Op) → IsKnown f pid c → Holds (row t place pid c f) As
+  unfolding row
+  row_still t place pid (op.ReadFd fd count) k = kept_ends As _ (read_still t pid fd count k)
+  row_still t place pid (op.WriteFd fd bytes) k = kept_ends As _ (write_still t pid fd k)
+  row_still t place pid _ k = absurd k
+
+pub known_still : KnownChangesNothing → (w : World) (place pid : ℕ) (c : Op) → IsKnown w.frame pid c → (step w place pid c).world.frame ≡ w.frame
+known_still law w place pid c k = step_frame w place pid c ∙ decided (As law w.frame) (told w pid c) place pid c w.frame refl (row_still law w.frame _ place pid c k)
