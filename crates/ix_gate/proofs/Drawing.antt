@@ -12,9 +12,10 @@ use Rattle.ix_gate.specs.declared.view.Role.TheVariants.{Numbered}
 use Rattle.ix_gate.specs.declared.view.Stage.{Stage}
 use Rattle.ix_gate.specs.declared.view.Stage.TheVariants.{Idle, Waits, Holds}
 use Rattle.ix_gate.specs.View.{HasNumber, with_ticket}
-use Rattle.ix_gate.specs.Rule.{most_turns, total_turns, Book, HasTicket, IsQueued, Stands, Fits}
+use Rattle.ix_gate.specs.Rule.{most_turns, total_turns, Book, HasTicket, IsQueued, DrewLast, Stands, Fits}
 use Rattle.ix_gate.specs.Steps.{Draws}
 use Rattle.ix_gate.proofs.Counts.{put, put_here, put_else, put_holds, total_turns-put, total_turns_fit, mod_fits}
+use Rattle.ix_gate.proofs.Serving.{is_served}
 use Rattle.ix_gate.proofs.Views.{at_lt, same_at, each_set, kept_set, Rule}
 
 -- the book after the seat at place id, of the number n, drew
@@ -54,12 +55,13 @@ module _ {M B E : Type 0} (seat : E → ℕ) (base : B) (seats : ℕ) (g : Book 
     makes = q.makes;
     stands = stands;
     look_found = q.look_found;
+    drew = q.drew;
   }
 
   -- and of the view that has drawn, at its new stage
-  pub draw_fits : (v : View B E) (st : Stage E) (looks found : ℕ) → v.role ≡ Numbered n → found ≤ g.served → Fits seat base seats g homes id v → Stands (put g.queue g.next id) g.served (g.next + 1) g.published homes' id v.role st
-      → Fits seat base seats (with_draw g id n) homes' id record v { stage = st; turns = v.turns + 1; looks = looks; look_found = found }
-  draw_fits v st looks found is low f stands = record {
+  pub draw_fits : (v : View B E) (st : Stage E) (ticket looks found : ℕ) → v.role ≡ Numbered n → found ≤ g.served → DrewLast g.served (v.turns + 1) ticket st → Fits seat base seats g homes id v → Stands (put g.queue g.next id) g.served (g.next + 1) g.published homes' id v.role st
+      → Fits seat base seats (with_draw g id n) homes' id record v { stage = st; turns = v.turns + 1; ticket = ticket; looks = looks; look_found = found }
+  draw_fits v st ticket looks found is low drew f stands = record {
     based = f.based;
     sized = f.sized;
     seen = f.seen;
@@ -71,6 +73,7 @@ module _ {M B E : Type 0} (seat : E → ℕ) (base : B) (seats : ℕ) (g : Book 
     makes = f.makes;
     stands = stands;
     look_found = low;
+    drew = drew;
   }
 
 module _ {M B E : Type 0} (base_of : M → B) (history_of : M → List E) (seat : E → ℕ) (base : B) (seats : ℕ) where
@@ -99,13 +102,14 @@ module _ {M B E : Type 0} (base_of : M → B) (history_of : M → List E) (seat 
           counted = draw_counted g id n mine.1 r.counted;
           few_turns = draw_few g id n (omega arith) r.few_turns;
           few_seats = r.few_seats;
+          short = r.short;
           unmade = r.unmade;
           kept = kept_set base_of history_of base g.published s.homes s.views id v w at (λ p x. cc (sym idle ∙ x)) r.kept;
           queued = draw_queued g id n s.views v w at idle e r.queued;
           each = each_set (Fits seat base seats (with_draw g id n) s.homes) s.views id w
-              (draw_fits seat base seats g s.homes s.homes id n v (Waits t) v.looks v.look_found is f.look_found f
+              (draw_fits seat base seats g s.homes s.homes id n v (Waits t) t v.looks v.look_found is f.look_found refl f
               (subst (λ (z : ℕ). Stands (put g.queue g.next id) g.served (g.next + 1) g.published s.homes id v.role (Waits z)) (sym e) (put_here g.queue g.next id, ordered, omega arith, (n, is))))
               (λ j d other there. let q = r.each j d there in draw_fits_other seat base seats g s.homes s.homes id n j d mine.0 other q (draw_stands g id n s.homes j d.role d.stage q.stands));
         },
-        refl,
+        (refl, is_served base_of history_of seat base seats s r id v t at idle (omega arith) (omega arith)),
       )

@@ -1,5 +1,5 @@
 -- The entries of one number, in a history and in its beginnings.
-use Rattle.std.proofs.Common.{◌≡◌, ◌≢◌, ℕ, zero, suc, ◌+◌, ◌⊎◌, List, [], ◌∷◌, ◌++◌, length, refl, ap, sym, ◌∙◌, ⊎_elim, inl, inr, arith, length-append, eqb, cond, ne_eqb, eq-eqb}
+use Rattle.std.proofs.Common.{◌≡◌, ◌≢◌, ℕ, zero, suc, ◌+◌, ◌≤◌, ◌⊎◌, List, [], ◌∷◌, ◌++◌, length, refl, ap, sym, ◌∙◌, ⊎_elim, inl, inr, arith, length-append, eqb, cond, ne_eqb, eq-eqb}
 use Rattle.std.specs.Prelude.{Contains}
 use Rattle.std.proofs.lemmas.List.{append-nil, nil_from_length}
 use Rattle.std.proofs.lemmas.List.Elements.{filter-append}
@@ -55,6 +55,10 @@ module _ {E : Type 0} (seat : E → ℕ) where
   pub grows_prefix : (n : ℕ) (taken h : List E) → Grows seat n taken h → IsPrefix taken h
   grows_prefix n taken h (inl e) = ([], append-nil taken ∙ sym e)
   grows_prefix n taken h (inr (x, e, is)) = (x ∷ [], sym e)
+
+  pub grows_length : (n : ℕ) (taken h : List E) → Grows seat n taken h → length h ≤ length taken + 1
+  grows_length n taken h (inl e) = omega (arith, ap length e)
+  grows_length n taken h (inr (x, e, is)) = omega (arith, ap length e, length-append taken (x ∷ []))
 
   pub grows_other : (n k : ℕ) (taken h : List E) → Grows seat n taken h → k ≢ n → entries_of seat k h ≡ entries_of seat k taken
   grows_other n k taken h (inl e) other = ap (entries_of seat k) e

@@ -5,10 +5,12 @@ pub mod Filled
 pub mod Views
 pub mod Drawing
 pub mod Alone
+pub mod Serving
 pub mod Looking
 pub mod Passing
 pub mod Numbering
 pub mod Meeting
 pub mod Trying
 pub mod Closing
+pub mod Joining
 pub mod Resting

@@ -1,5 +1,5 @@
 -- A look keeps the rule: by a seat with a ticket, whether it finds that or not, and by a seat without one.
-use Rattle.std.proofs.Common.{◌≡◌, ◌≢◌, ℕ, ◌⊎◌, List, [], ◌∷◌, get_or, set, Option, None, Some, refl, ap, sym, ◌∙◌, subst, inl, inr, arith}
+use Rattle.std.proofs.Common.{◌≡◌, ◌≢◌, ℕ, ◌≤◌, ◌⊎◌, List, [], ◌∷◌, length, get_or, set, Option, None, Some, refl, ap, sym, ◌∙◌, subst, inl, inr, arith}
 use mathlib.Core.Logic.{dite}
 use mathlib.Core.Option.{Option as Home, none, some}
 use mathlib.Core.List.{IsPrefix}
@@ -13,12 +13,12 @@ use Rattle.ix_gate.specs.declared.view.Role.{Role}
 use Rattle.ix_gate.specs.declared.view.Stage.{Stage}
 use Rattle.ix_gate.specs.declared.view.Stage.TheVariants.{Idle, Waits, Holds}
 use Rattle.ix_gate.specs.View.{Agrees, with_look, with_free_look}
-use Rattle.ix_gate.specs.Rule.{Book, HasTicket, Stands, Fits, IsKept}
+use Rattle.ix_gate.specs.Rule.{Book, HasTicket, DrewLast, Stands, Fits, IsKept}
 use Rattle.ix_gate.specs.Steps.{Takes, Looks, FreeLooks}
 use Rattle.ix_gate.proofs.Prefixes.{prefix_shorter}
 use Rattle.ix_gate.proofs.Counts.{total_turns_fit}
-use Rattle.ix_gate.proofs.Alone.{alone_served}
-use Rattle.ix_gate.proofs.Views.{at_lt, same_at, each_set, queued_set, agrees_published, seats_known, unmoved, MaySet, Rule}
+use Rattle.ix_gate.proofs.Serving.{is_served, seen_served}
+use Rattle.ix_gate.proofs.Views.{at_lt, same_at, each_set, queued_set, agrees_published, unmoved, MaySet, Rule}
 
 -- what others know stays so where the slot leaves its home
 pub away_stands : {M E : Type 0} (queue : ℕ → ℕ) (served next : ℕ) (published : List E) (homes : List (Home (Option M))) (m : M) (i : ℕ) (r : Role) (st : Stage E) → homes ≡ some (Some m) ∷ []
@@ -29,14 +29,15 @@ away_stands queue served next published homes m i r (Holds p) home k = absurd (c
 
 module _ {M B E : Type 0} (base_of : M → B) (history_of : M → List E) (seat : E → ℕ) (base : B) (seats : ℕ) where
   -- the machine at home has the base and the published history, which agree with what each seat knows
-  pub takes_from_home : (g : Book E) (homes : List (Home (Option M))) (id : ℕ) (me : Me (Option M) (View B E)) (m : M) (next : Stage E → View B E) → Fits seat base seats g homes id me.0 → g.published ≡ history_of m → base_of m ≡ base
-      → Takes base_of history_of seat me (next (Holds (history_of m)), (0, Some m) ∷ me.1) next
-  takes_from_home g homes id me m next f has based = record {
+  pub takes_from_home : (g : Book E) (homes : List (Home (Option M))) (id : ℕ) (me : Me (Option M) (View B E)) (m : M) (found : ℕ) (next : Stage E → View B E) → Fits seat base seats g homes id me.0 → g.published ≡ history_of m → base_of m ≡ base → length g.published ≤ found
+      → Takes base_of history_of seat me (next (Holds (history_of m)), (0, Some m) ∷ me.1) found next
+  takes_from_home g homes id me m found next f has based short = record {
     machine = m;
     now = refl;
     based = subst (λ (b : B). (me.0.base ≡ None) ⊎ (me.0.base ≡ Some b)) (sym based) f.based;
     begins = subst (IsPrefix me.0.seen) has f.seen;
     agrees = subst (Agrees seat me.0) has (agrees_published base_of history_of seat base seats g homes id me.0 f);
+    entries = subst (λ (h : List E). length h ≤ found) has short;
   }
 
   look_miss : (s : State (Option M) (View B E)) (r : Rule base_of history_of seat base seats s) (slots id : ℕ) (me : Me (Option M) (View B E)) (t : ℕ) → me.0.stage ≡ Waits t → get_elem? s.views id ≡ some me.0 → get_or s.words 1 0 ≢ t
@@ -61,6 +62,7 @@ module _ {M B E : Type 0} (base_of : M → B) (history_of : M → List E) (seat 
           makes = f.makes;
           stands = subst (Stands g.queue g.served g.next g.published s.homes id v.role) waits f.stands;
           look_found = omega arith;
+          drew = subst (DrewLast g.served v.turns v.ticket) waits f.drew;
         },
         λ u is. (λ hit. absurd (miss (hit ∙ cc (sym is ∙ waits))), λ _. ap (λ (z : Stage E). (with_look v found z, me.1)) (sym waits ∙ is)),
       )
@@ -88,6 +90,7 @@ module _ {M B E : Type 0} (base_of : M → B) (history_of : M → List E) (seat 
           counted = r.counted;
           few_turns = r.few_turns;
           few_seats = r.few_seats;
+          short = r.short;
           unmade = r.unmade;
           kept = inr (id, w, history_of m, bare, set_here s.views id w (at_lt s.views id v at), refl);
           queued = queued_set g.queue g.served g.next s.views id v w at (λ u o. let mine : t ≡ u = subst (HasTicket g.served u) waits o in sym mine ∙ now) r.queued;
@@ -103,6 +106,7 @@ module _ {M B E : Type 0} (base_of : M → B) (history_of : M → List E) (seat 
                 makes = f.makes;
                 stands = (ap g.queue (sym now) ∙ k.0, omega arith, k.3, has, bare);
                 look_found = omega arith;
+                drew = subst (DrewLast g.served v.turns v.ticket) waits f.drew ∙ now;
               }
               (λ j d _ there. let q = r.each j d there in record {
                 based = q.based;
@@ -115,9 +119,10 @@ module _ {M B E : Type 0} (base_of : M → B) (history_of : M → List E) (seat 
                 makes = q.makes;
                 stands = away_stands g.queue g.served g.next g.published s.homes m j d.role d.stage home q.stands;
                 look_found = q.look_found;
+                drew = q.drew;
               });
         },
-        λ u is. (λ _. takes_from_home g s.homes id me m (with_look v found) f (sym has) based, λ miss. absurd (miss (hit ∙ cc (sym waits ∙ is)))),
+        λ u is. (λ _. takes_from_home g s.homes id me m found (with_look v found) f (sym has) based (omega (arith, r.short, e)), λ miss. absurd (miss (hit ∙ cc (sym waits ∙ is)))),
       )
   look_hit s r slots id me t waits at hit (inr (i, u, h, away, there, holds)) =
       let g : Book E = r.book in
@@ -159,12 +164,14 @@ module _ {M B E : Type 0} (base_of : M → B) (history_of : M → List E) (seat 
           makes = f.makes;
           stands = f.stands;
           look_found = omega arith;
+          drew = f.drew;
         },
         record {
           now = refl;
           line = λ le. prefix_shorter v.told v.seen g.published f.told f.seen le;
           agrees = f.agrees;
           room = omega arith;
-          alone = λ one k b is based. let a = alone_served base_of history_of seat base seats s r id k v at idle is (seats_known v.base v.seats seats b f.sized based ∙ one) in e ∙ (a.0 ∙ a.1);
+          served = is_served base_of history_of seat base seats s r id v found at idle (omega arith) (omega arith);
+          entries = omega (arith, seen_served base_of history_of seat base seats s r id v at, e);
         },
       )

@@ -29,6 +29,7 @@ module _ {M B E : Type 0} (base_of : M → B) (history_of : M → List E) (seat 
         counted = r.counted;
         few_turns = r.few_turns;
         few_seats = r.few_seats;
+        short = r.short;
         unmade = r.unmade;
         kept = kept_more base_of history_of base g.published s.homes (set s.views id v) (note v) (kept_set base_of history_of base g.published s.homes s.views id v v at (λ h x. cc (sym idle ∙ x)) r.kept);
         queued = queued_more g.queue g.served g.next (set s.views id v) (note v) (queued_set g.queue g.served g.next s.views id v v at (λ t o. o) r.queued);
@@ -45,6 +46,7 @@ module _ {M B E : Type 0} (base_of : M → B) (history_of : M → List E) (seat 
               makes = tt;
               stands = tt;
               look_found = omega arith;
+              drew = λ l. absurd (omega arith);
             })
             (at_end (set s.views id v) (note v) d j there);
       }
@@ -61,6 +63,7 @@ module _ {M B E : Type 0} (base_of : M → B) (history_of : M → List E) (seat 
     makes = tt;
     stands = tt;
     look_found = omega arith;
+    drew = λ l. absurd (omega arith);
   }
 
   -- a book that differs from that of the state at most in who has a number, where one idle view has become u and another was spent
@@ -77,6 +80,7 @@ module _ {M B E : Type 0} (base_of : M → B) (history_of : M → List E) (seat 
         counted = r.counted;
         few_turns = r.few_turns;
         few_seats = r.few_seats;
+        short = r.short;
         unmade = r.unmade;
         kept = kept_set base_of history_of base g.published s.homes (set s.views id u) other w spent_view there (λ p x. cc (sym rests ∙ x)) (kept_set base_of history_of base g.published s.homes s.views id v u at (λ p x. cc (sym idle ∙ x)) r.kept);
         queued = queued_set g.queue g.served g.next (set s.views id u) other w spent_view there (λ t o. absurd (subst (HasTicket g.served t) rests o))
@@ -106,6 +110,7 @@ module _ {M B E : Type 0} (base_of : M → B) (history_of : M → List E) (seat 
         makes = f.makes;
         stands = f.stands;
         look_found = f.look_found;
+        drew = f.drew;
       } (λ i e _ z. z) apart
 
   -- the seat at id has the numbers that the seat at other had
@@ -158,6 +163,7 @@ module _ {M B E : Type 0} (base_of : M → B) (history_of : M → List E) (seat 
         makes = f.makes;
         stands = f.stands;
         look_found = f.look_found;
+        drew = f.drew;
       }
       (λ i e far z. record {
         based = z.based;
@@ -170,5 +176,6 @@ module _ {M B E : Type 0} (base_of : M → B) (history_of : M → List E) (seat 
         makes = z.makes;
         stands = z.stands;
         look_found = z.look_found;
+        drew = z.drew;
       })
       apart

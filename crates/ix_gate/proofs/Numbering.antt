@@ -38,6 +38,7 @@ module _ {M B E : Type 0} (base_of : M → B) (history_of : M → List E) (seat 
     makes = (refl, refl);
     stands = tt;
     look_found = omega arith;
+    drew = λ l. absurd (omega arith);
   }
   opening_each homes (suc i) v e = absurd (cc e)
 
@@ -49,6 +50,7 @@ module _ {M B E : Type 0} (base_of : M → B) (history_of : M → List E) (seat 
     counted = refl;
     few_turns = λ _. omega arith;
     few_seats = (omega arith, few);
+    short = omega arith;
     unmade = λ _ _. refl;
     kept = inl (m, refl, empty, based);
     queued = λ t a b. absurd (omega arith);
@@ -81,6 +83,7 @@ module _ {M B E : Type 0} (base_of : M → B) (history_of : M → List E) (seat 
           counted = let a = total_turns-same (put g.turns g.made 0) g.turns g.made (λ x l. put_else g.turns g.made 0 x (λ y. omega arith)) in let b = put_here g.turns g.made 0 in let c = r.counted in omega arith;
           few_turns = put_holds (λ x. x ≤ most_turns) g.turns g.made 0 (omega arith) r.few_turns;
           few_seats = (omega arith, few.1);
+          short = r.short;
           unmade = λ x l. r.unmade x (omega arith);
           kept = kept_set base_of history_of base g.published s.homes s.views id v w at (λ p x. cc (sym idle ∙ x)) r.kept;
           queued = queued_set g.queue g.served g.next s.views id v w at (λ t o. absurd (subst (HasTicket g.served t) idle o)) r.queued;
@@ -97,6 +100,7 @@ module _ {M B E : Type 0} (base_of : M → B) (history_of : M → List E) (seat 
                 makes = (makes.0, omega arith);
                 stands = tt;
                 look_found = omega arith;
+                drew = λ l. absurd (omega arith);
               }
               (λ j d other there. let q = r.each j d there in record {
                 based = q.based;
@@ -109,6 +113,7 @@ module _ {M B E : Type 0} (base_of : M → B) (history_of : M → List E) (seat 
                 makes = makes_other g.made (suc g.made) g.maker g.maker j d.role (λ y. other (y ∙ sym makes.0)) q.makes;
                 stands = q.stands;
                 look_found = q.look_found;
+                drew = q.drew;
               });
         },
         λ x same. let y : k ≡ x = cc (sym is ∙ same) in (e ∙ (sym here ∙ y), ap (λ (z : ℕ). (fresh v.seats v.base (Made z), me.1)) y),
@@ -130,6 +135,7 @@ module _ {M B E : Type 0} (base_of : M → B) (history_of : M → List E) (seat 
         counted = r.counted;
         few_turns = r.few_turns;
         few_seats = r.few_seats;
+        short = r.short;
         unmade = r.unmade;
         kept = kept_more base_of history_of base g.published s.homes (set s.views id own) right (kept_set base_of history_of base g.published s.homes s.views id v own at (λ p x. cc x) r.kept);
         queued = queued_more g.queue g.served g.next (set s.views id own) right (queued_set g.queue g.served g.next s.views id v own at (λ t o. o) r.queued);
@@ -146,6 +152,7 @@ module _ {M B E : Type 0} (base_of : M → B) (history_of : M → List E) (seat 
               makes = tt;
               stands = tt;
               look_found = f.look_found;
+              drew = f.drew;
             }
             (λ i e other t. let q = r.each i e t in record {
               based = q.based;
@@ -158,6 +165,7 @@ module _ {M B E : Type 0} (base_of : M → B) (history_of : M → List E) (seat 
               makes = makes_other g.made g.made g.maker place i e.role (λ y. other (y ∙ sym makes.0)) q.makes;
               stands = q.stands;
               look_found = q.look_found;
+              drew = q.drew;
             })
             j d)
             (λ (t : (j ≡ place) × (right ≡ d)). subst (λ (z : ℕ × View B E). Fits seat base seats h s.homes z.0 z.1) (λ i. (sym t.0 i, t.1 i)) record {
@@ -171,6 +179,7 @@ module _ {M B E : Type 0} (base_of : M → B) (history_of : M → List E) (seat 
               makes = (refl, let m = makes.1 in omega arith);
               stands = tt;
               look_found = f.look_found;
+              drew = f.drew;
             })
             (at_end (set s.views id own) right d j there);
       }

@@ -12,9 +12,9 @@ use Rattle.ix_gate.specs.declared.view.Stage.{Stage}
 use Rattle.ix_gate.specs.declared.view.Stage.TheVariants.{Idle, Waits, Holds}
 use Rattle.ix_gate.specs.History.{entries_of, Grows, KeepsEnded}
 use Rattle.ix_gate.specs.View.{HasNumber, number_of, with_turn}
-use Rattle.ix_gate.specs.Rule.{Book, HasTicket, IsQueued, Stands, Fits}
+use Rattle.ix_gate.specs.Rule.{Book, HasTicket, IsQueued, DrewLast, Stands, Fits}
 use Rattle.ix_gate.specs.Steps.{PassesOn}
-use Rattle.ix_gate.proofs.Entries.{grows_prefix, grows_other}
+use Rattle.ix_gate.proofs.Entries.{grows_prefix, grows_length, grows_other}
 use Rattle.ix_gate.proofs.Counts.{total_turns_fit, mod_fits}
 use Rattle.ix_gate.proofs.Views.{each_set, same_at, Rule}
 
@@ -33,6 +33,13 @@ module _ {M E : Type 0} (queue : ℕ → ℕ) (served next id : ℕ) where
   pass_stands published h homes homes' i r Idle q other k = tt
   pass_stands published h homes homes' i r (Waits t) q other k = let ne : t ≢ served = λ x. other (sym k.0 ∙ (ap queue x ∙ q)) in (k.0, omega arith, k.2, k.3)
   pass_stands published h homes homes' i r (Holds p) q other k = absurd (other (sym k.0 ∙ q))
+
+-- a seat that passed no turn on has the ticket that it drew last, or passed it on before
+pass_drew : {M E : Type 0} (queue : ℕ → ℕ) (served next id : ℕ) (published : List E) (homes : List (Home (Option M))) (i : ℕ) (r : Role) (turns ticket : ℕ) (st : Stage E) → queue served ≡ id → i ≢ id → Stands queue served next published homes i r st
+    → DrewLast served turns ticket st → DrewLast (suc served) turns ticket st
+pass_drew queue served next id published homes i r turns ticket Idle q other k d = λ some_turn. let before = d some_turn in omega arith
+pass_drew queue served next id published homes i r turns ticket (Waits t) q other k d = d
+pass_drew queue served next id published homes i r turns ticket (Holds h) q other k d = absurd (other (sym k.0 ∙ q))
 
 pass_ticket : {E : Type 0} (served t : ℕ) (st : Stage E) → served < t → HasTicket served t st → HasTicket (suc served) t st
 pass_ticket served t Idle l o = o
@@ -84,6 +91,7 @@ module _ {M B E : Type 0} (base_of : M → B) (history_of : M → List E) (seat 
           counted = r.counted;
           few_turns = r.few_turns;
           few_seats = r.few_seats;
+          short = omega (arith, r.short, grows_length seat n g.published h grown);
           unmade = λ x l. let made = mine.1 in still x (λ y. omega arith) ∙ r.unmade x l;
           kept = inl (m, homes, refl, machine_based v.base m f.based based);
           queued = pass_queued g.queue g.served g.next id taken s.views v w at holds r.queued;
@@ -99,6 +107,7 @@ module _ {M B E : Type 0} (base_of : M → B) (history_of : M → List E) (seat 
                 makes = f.makes;
                 stands = tt;
                 look_found = let l = f.look_found in omega arith;
+                drew = λ _. let its = subst (DrewLast g.served v.turns v.ticket) holds f.drew in omega arith;
               }
               (λ j d other there. let q = r.each j d there in record {
                 based = q.based;
@@ -111,6 +120,7 @@ module _ {M B E : Type 0} (base_of : M → B) (history_of : M → List E) (seat 
                 makes = q.makes;
                 stands = pass_stands g.queue g.served g.next id g.published h s.homes (put_back s.homes me.1) j d.role d.stage k.0 other q.stands;
                 look_found = let l = q.look_found in omega arith;
+                drew = pass_drew g.queue g.served g.next id g.published s.homes j d.role d.turns d.ticket d.stage k.0 other q.stands q.drew;
               });
         },
         λ x same. let here : Some m ≡ Some x = ap (λ (q : List (ℕ × Option M)). carried q (Some m)) (sym has ∙ same) in let y : m ≡ x = cc here in

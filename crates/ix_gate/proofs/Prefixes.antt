@@ -18,6 +18,9 @@ module _ {A : Type 0} where
       let rest = prefix_shorter xs ys zs (p.0, cc (p.1)) (q.0, cc (q.1)) (omega arith) in
       (rest.0, cc (heads, rest.1))
 
+  pub prefix_length : (xs ys : List A) → IsPrefix xs ys → length xs ≤ length ys
+  prefix_length xs ys p = omega (arith, ap length p.1, length-append xs p.0)
+
   -- what holds of two lists, the longer one first, holds of `longer` and `shorter`
   pub by_length : (xs ys : List A) (P : List A → List A → Type 0) → (length xs ≤ length ys → P ys xs) → (length ys ≤ length xs → P xs ys) → P (longer xs ys) (shorter xs ys)
   by_length xs ys P low high = ⊎_elim

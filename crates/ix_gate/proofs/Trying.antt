@@ -54,16 +54,17 @@ module _ {M B E : Type 0} (base_of : M → B) (history_of : M → List E) (seat 
           counted = draw_counted g id n mine.1 r.counted;
           few_turns = draw_few g id n (omega arith) r.few_turns;
           few_seats = r.few_seats;
+          short = r.short;
           unmade = r.unmade;
           kept = inr (id, w, history_of m, bare, set_here s.views id w (at_lt s.views id v at), refl);
           queued = draw_queued g id n s.views v w at idle (sym now) r.queued;
           each = each_set (Fits seat base seats (with_draw g id n) homes) s.views id w
-              (draw_fits seat base seats g s.homes homes id n v (Holds (history_of m)) (v.looks + 1) found is (omega arith) f
+              (draw_fits seat base seats g s.homes homes id n v (Holds (history_of m)) found (v.looks + 1) found is (omega arith) (e ∙ sym now) f
               (ap (put g.queue g.next id) now ∙ put_here g.queue g.next id, omega arith, (n, is), has, bare))
               (λ j d other there. let q = r.each j d there in draw_fits_other seat base seats g s.homes homes id n j d mine.0 other q
               (draw_stands g id n homes j d.role d.stage (away_stands g.queue g.served g.next g.published s.homes m j d.role d.stage home q.stands)));
         },
-        (λ _. takes_from_home base_of history_of seat base seats g s.homes id me m (with_look (with_ticket v found) found) f (sym has) based, λ miss. absurd (miss hit)),
+        (λ _. takes_from_home base_of history_of seat base seats g s.homes id me m found (with_look (with_ticket v found) found) f (sym has) based (omega (arith, r.short, e, now)), λ miss. absurd (miss hit)),
       )
 
   try_miss : (s : State (Option M) (View B E)) (r : Rule base_of history_of seat base seats s) (slots id : ℕ) (me : Me (Option M) (View B E)) (n old new : ℕ) → me.0.stage ≡ Idle → me.0.role ≡ Numbered n
@@ -73,7 +74,9 @@ module _ {M B E : Type 0} (base_of : M → B) (history_of : M → List E) (seat 
       let v : View B E = me.0 in
       let found : ℕ = get_or s.words 0 0 in
       let e : found ≡ g.next = ap (λ (ws : List ℕ). get_or ws 0 0) r.words in
-      let f = r.each id v at in (
+      let f = r.each id v at in
+      let low = f.look_found in
+      let ordered = r.ordered in (
         with_miss v found,
         keeps,
         tt,
@@ -88,8 +91,9 @@ module _ {M B E : Type 0} (base_of : M → B) (history_of : M → List E) (seat 
           makes = f.makes;
           stands = f.stands;
           look_found = f.look_found;
+          drew = f.drew;
         },
-        (λ hit. absurd (miss hit), λ _. (refl, λ one b based. let a = alone_served base_of history_of seat base seats s r id n v at idle is (seats_known v.base v.seats seats b f.sized based ∙ one) in e ∙ a.1)),
+        (λ hit. absurd (miss hit), λ _. (refl, omega arith, λ one b based. let a = alone_served base_of history_of seat base seats s r id n v at idle is (seats_known v.base v.seats seats b f.sized based ∙ one) in e ∙ a.1)),
       )
 
   pub try_draw_allowed : (slots id : ℕ) (me : Me (Option M) (View B E)) (n old : ℕ) → me.0.stage ≡ Idle → me.0.role ≡ Numbered n → me.0.turns < most_turns → me.0.look_found ≡ old

@@ -84,6 +84,7 @@ module _ {M B E : Type 0} (base_of : M → B) (history_of : M → List E) (seat 
     counted = r.counted;
     few_turns = r.few_turns;
     few_seats = r.few_seats;
+    short = r.short;
     unmade = r.unmade;
     kept = kept_set base_of history_of base r.book.published s.homes s.views id v w at free r.kept;
     queued = queued_set r.book.queue r.book.served r.book.next s.views id v w at stays r.queued;

@@ -1,5 +1,5 @@
 -- How a seat's view and slots stand behind what contracts see of it.
-use Rattle.std.specs.Prelude.{◌≡◌, ℕ, ◌<◌, ◌≤◌, ◌⊎◌, List, [], ◌∷◌, Option, None, Some}
+use Rattle.std.specs.Prelude.{◌≡◌, ℕ, ◌<◌, ◌≤◌, ◌⊎◌, List, [], ◌∷◌, length, Option, None, Some}
 use mathlib.Core.List.{IsPrefix}
 use Rattle.atomic_table.specs.Table.{Me}
 use Rattle.atomic_table.specs.Seated.{TableId}
@@ -29,6 +29,7 @@ module _ {B E : Type 0} where
     taken = taken_at v.stage;
     ended = v.ended;
     turns = turns;
+    ticket = v.ticket;
     looks = v.looks;
     look_found = v.look_found;
     misses = v.misses;
@@ -58,12 +59,12 @@ module _ {B E : Type 0} where
   HasLooked v w = (looks : ℕ) × (found : ℕ) × (v.looks ≤ looks) × (w ≡ record v { looks = looks; look_found = found })
 
 module _ {M B E : Type 0} (base : M → B) (history : M → List E) (seat : E → ℕ) where
-  -- a seat with a ticket has looked until it held the turn, and took the machine x out of its slot
+  -- a seat has looked until it found its ticket served, and took the machine x out of its slot
   pub record TakesMachine (m n : Me (Option M) (View B E)) (x : M) : Type 0 where
     pub looks : ℕ
-    pub found : ℕ
-    pub now : n ≡ (record (m.0) { stage = Holds (history x); looks = looks; look_found = found }, (0, None) ∷ [])
+    pub now : n ≡ (record (m.0) { stage = Holds (history x); looks = looks; look_found = m.0.ticket }, (0, None) ∷ [])
     pub more : m.0.looks < looks
     pub based : (m.0.base ≡ None) ⊎ (m.0.base ≡ Some (base x))
     pub begins : IsPrefix m.0.seen (history x)
     pub agrees : Agrees seat m.0 (history x)
+    pub entries : length (history x) ≤ m.0.ticket

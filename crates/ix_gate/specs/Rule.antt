@@ -1,5 +1,5 @@
 -- The rule of a gate's table: what holds between any two steps.
-use Rattle.std.specs.Prelude.{◌≡◌, ℕ, zero, suc, ◌+◌, ◌<◌, ◌≤◌, ◌^◌, ◌⊎◌, List, [], ◌∷◌, Option, None, Some, Contains}
+use Rattle.std.specs.Prelude.{◌≡◌, ℕ, zero, suc, ◌+◌, ◌<◌, ◌≤◌, ◌^◌, ◌⊎◌, List, [], ◌∷◌, length, Option, None, Some, Contains}
 use mathlib.Core.Option.{Option as Home, none, some}
 use mathlib.Core.List.{IsPrefix}
 use lib.ListN.{get_elem?}
@@ -58,6 +58,12 @@ HasTicket served t Idle = ⊥
 HasTicket served t (Waits u) = u ≡ t
 HasTicket served t (Holds h) = t ≡ served
 
+-- the last ticket of a seat that has drawn one was passed on, unless the seat has it still
+abbrev pub DrewLast : {E : Type 0} → ℕ → ℕ → ℕ → Stage E → Type 0
+DrewLast served turns ticket Idle = 0 < turns → ticket < served
+DrewLast served turns ticket (Waits t) = ticket ≡ t
+DrewLast served turns ticket (Holds h) = ticket ≡ served
+
 module _ {B E : Type 0} (queue : ℕ → ℕ) (served next : ℕ) where
   -- each ticket that was drawn and not yet passed on has its seat
   abbrev pub IsQueued : List (View B E) → Type 0
@@ -93,6 +99,7 @@ module _ {M B E : Type 0} (seat : E → ℕ) (base : B) (seats : ℕ) (g : Book 
     pub stands : Stands g.queue g.served g.next g.published homes i v.role v.stage
     -- the number that is served has not gone back
     pub look_found : v.look_found ≤ g.served
+    pub drew : DrewLast g.served v.turns v.ticket v.stage
 
 module _ {M B E : Type 0} (base_of : M → B) (history_of : M → List E) (base : B) (published : List E) where
   -- the machine is at home with the published history, or some seat holds the turn
@@ -112,6 +119,8 @@ module _ {M B E : Type 0} (base_of : M → B) (history_of : M → List E) (seat 
     pub counted : book.next ≡ total_turns book.turns book.made
     pub few_turns : (n : ℕ) → book.turns n ≤ most_turns
     pub few_seats : (book.made ≤ seats) × (seats ≤ most_seats)
+    -- each entry was made in a turn that was passed on
+    pub short : length book.published ≤ book.served
     -- a number that was not made has no entry
     pub unmade : (n : ℕ) → book.made ≤ n → entries_of seat n book.published ≡ []
     pub kept : IsKept base_of history_of base book.published s.homes s.views

@@ -1,5 +1,5 @@
 -- What contracts see of a seat.
-use Rattle.std.specs.Prelude.{◌≡◌, ℕ, ◌+◌, ◌⊎◌, List, [], Option, None, Some, Contains}
+use Rattle.std.specs.Prelude.{◌≡◌, ℕ, ◌+◌, ◌<◌, ◌≤◌, ◌⊎◌, List, [], length, Option, None, Some, Contains}
 use Rattle.atomic_table.specs.Seated.{TableId}
 use Rattle.ix_gate.specs.History.{entries_of, longer}
 
@@ -14,7 +14,9 @@ pub record SeatState (B E : Type 0) : Type 0 where
   pub taken : Option (List E)
   -- the numbers of the seats that were joined into this one, each with its entries
   pub ended : List (ℕ × List E)
+  -- how many turns it has made, and the ticket of the last
   pub turns : ℕ
+  pub ticket : ℕ
   -- how often it looked at the number that is served, and what it found last
   pub looks : ℕ
   pub look_found : ℕ
@@ -34,15 +36,16 @@ module _ {B E : Type 0} where
     taken = None;
     ended = [];
     turns = 0;
+    ticket = 0;
     looks = 0;
     look_found = 0;
     misses = 0;
     miss_found = 0;
   }
 
-  -- one turn more, which the seat holds, with the history that it took
+  -- one turn more, which the seat holds, with the history that it took; the last look found its ticket
   abbrev pub after_take : SeatState B E → List E → ℕ → ℕ → SeatState B E
-  after_take k h looks found = record k { taken = Some h; turns = k.turns + 1; looks = looks; look_found = found }
+  after_take k h looks ticket = record k { taken = Some h; turns = k.turns + 1; ticket = ticket; looks = looks; look_found = ticket }
 
   -- no turn, and the history was seen
   abbrev pub after_give : SeatState B E → List E → SeatState B E
@@ -55,6 +58,15 @@ module _ {B E : Type 0} where
   -- the longer of two histories was seen, these numbers are ended, and one look more found a number
   abbrev pub after_meeting : SeatState B E → List E → List (ℕ × List E) → ℕ → SeatState B E
   after_meeting k seen ended found = record k { seen = longer k.seen seen; ended = ended; looks = k.looks + 1; look_found = found }
+
+  -- What a seat without a turn learns by a number that was found served, and by the history h that it has then seen or taken.
+  -- The number is no less than that of the look before, and the ticket of the seat's last turn comes before it. Each entry of h
+  -- was made in a turn before it. At a gate of one seat it is the number of the seat's turns
+  pub record LearnsServed (k : SeatState B E) (h : List E) (found : ℕ) : Type 0 where
+    pub least : k.look_found ≤ found
+    pub passed : 0 < k.turns → k.ticket < found
+    pub entries : length h ≤ found
+    pub alone : k.seats ≡ 1 → found ≡ k.turns
 
   -- the number is the seat's own, or one that it ended
   abbrev pub StandsFor : SeatState B E → ℕ → Type 0

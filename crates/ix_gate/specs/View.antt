@@ -1,5 +1,5 @@
 -- The view of a seat, and how a step changes it.
-use Rattle.std.specs.Prelude.{◌≡◌, ℕ, ◌+◌, List, [], ◌∷◌, ◌++◌, Option, None, Some}
+use Rattle.std.specs.Prelude.{◌≡◌, ℕ, ◌+◌, ◌<◌, ◌≤◌, List, [], ◌∷◌, ◌++◌, Option, None, Some}
 use Rattle.ix_gate.specs.declared.view.View.{View}
 use Rattle.ix_gate.specs.declared.view.Role.{Role}
 use Rattle.ix_gate.specs.declared.view.Role.TheVariants.{Nobody, Next, Made, Numbered}
@@ -34,6 +34,7 @@ module _ {B E : Type 0} where
     own = [];
     ended = [];
     turns = 0;
+    ticket = 0;
     looks = 0;
     look_found = 0;
     misses = 0;
@@ -58,7 +59,7 @@ module _ {B E : Type 0} where
 
   -- a draw: one turn more, with a ticket
   abbrev pub with_ticket : View B E → ℕ → View B E
-  with_ticket v ticket = record v { stage = Waits ticket; turns = v.turns + 1 }
+  with_ticket v ticket = record v { stage = Waits ticket; turns = v.turns + 1; ticket = ticket }
 
   -- one look more, with the number found, and where the seat stands then
   abbrev pub with_look : View B E → ℕ → Stage E → View B E
@@ -92,3 +93,11 @@ module _ {B E : Type 0} (seat : E → ℕ) where
   -- the history has the entries that the view knows of its number and of each that it ended, and no others of these
   abbrev pub Agrees : View B E → List E → Type 0
   Agrees v h = ((n : ℕ) → HasNumber v.role n → entries_of seat n h ≡ v.own) × KeepsEnded seat v.ended h
+
+module _ {B E : Type 0} where
+  -- What a seat without a ticket is told by a number that it finds. It is no less than that of the look before, the tickets of
+  -- the seat's turns come before it, and at a gate of one seat it is the number of these turns
+  pub record IsServed (v : View B E) (found : ℕ) : Type 0 where
+    pub least : v.look_found ≤ found
+    pub passed : 0 < v.turns → v.ticket < found
+    pub alone : v.seats ≡ 1 → (k : ℕ) (b : B) → v.role ≡ Numbered k → v.base ≡ Some b → found ≡ v.turns

@@ -1,10 +1,10 @@
 // A seat at a gate, and what it may call.
-ghost use Rattle.std.specs.Prelude.{◌≡◌, ◌≢◌, ◌+◌, ◌<◌, ◌≤◌, List, [], ◌∷◌, ◌++◌, None, Some, IfOk, IfErr, IsOk};
+ghost use Rattle.std.specs.Prelude.{◌≡◌, ◌+◌, ◌<◌, ◌≤◌, List, [], ◌∷◌, ◌++◌, None, Some, IfOk, IfErr, IsOk};
 ghost use mathlib.Core.List.{IsPrefix};
 ghost use Rattle.ix_gate.specs.declared.view.Stage.TheVariants.{Waits};
 ghost use Rattle.ix_gate.specs.History.{entries_of, Grows, KeepsEnded, IsInLine};
 ghost use Rattle.ix_gate.specs.Rule.{most_turns};
-ghost use Rattle.ix_gate.specs.Seat.{own_entries, after_take, after_give, after_meeting, after_busy};
+ghost use Rattle.ix_gate.specs.Seat.{own_entries, after_take, after_give, after_meeting, after_busy, LearnsServed};
 ghost use Rattle.ix_gate.specs.AtRest.{TakesMachine};
 
 use crate::gate::Gate;
@@ -73,7 +73,7 @@ impl<M: Machine> Seat<M> {
 
     /// Draws a ticket, waits for its turn, and takes the machine. Its history begins with all that
     /// the seat has seen, and has of the seat's own entries, and of each that it ended, just those
-    /// that it had.
+    /// that it had. The last look found the ticket, so that each turn before it was passed on.
     ///
     /// A seat that has made 2^57 turns waits forever.
     pub fn take<R: Wait>(&mut self, rt: &R, gate: &Gate<M>) -> M
@@ -84,6 +84,7 @@ impl<M: Machine> Seat<M> {
         ensures own { entries_of M.seat self.old.number (M.history result) ≡ own_entries M.seat self.old }
         ensures ended { KeepsEnded M.seat self.old.ended (M.history result) }
         ensures looks { self.old.looks < self.new.looks }
+        ensures served { LearnsServed self.old (M.history result) self.new.look_found }
         ensures seat { self.new ≡ after_take self.old (M.history result) self.new.looks self.new.look_found }
     {
         if self.turns >= MOST_TURNS {
@@ -99,9 +100,9 @@ impl<M: Machine> Seat<M> {
     /// Takes the machine where nobody has a ticket, and waits for nobody. What `take` says of the
     /// machine and the seat holds of an `Ok`.
     ///
-    /// `Busy` comes just where the exchange finds another ticket next than the number that was
-    /// found served. The seat keeps both numbers, which differ, and else stays as it was. At a gate
-    /// of one seat it never comes.
+    /// An `Ok` has looked twice: the number that was found served is the ticket. `Busy` comes just
+    /// where the exchange finds another ticket next, a later one. The seat keeps both numbers, and
+    /// else stays as it was. At a gate of one seat it never comes.
     pub fn try_take(&mut self, gate: &Gate<M>) -> Result<M, Busy>
         requires gate { self.old.gate ≡ gate.now.id }
         requires free { self.old.taken ≡ None }
@@ -111,11 +112,11 @@ impl<M: Machine> Seat<M> {
         ensures own { IfOk result (λ m.
             entries_of M.seat self.old.number (M.history m) ≡ own_entries M.seat self.old) }
         ensures ended { IfOk result (λ m. KeepsEnded M.seat self.old.ended (M.history m)) }
-        ensures looks { self.old.looks < self.new.looks }
+        ensures served { IfOk result (λ m. LearnsServed self.old (M.history m) self.new.look_found) }
         ensures seat { IfOk result (λ m.
-            self.new ≡ after_take self.old (M.history m) self.new.looks self.new.look_found) }
+            self.new ≡ after_take self.old (M.history m) (self.old.looks + 2) self.new.look_found) }
         ensures busy { IfErr result (λ b. self.new ≡ after_busy self.old b.serving b.ticket) }
-        ensures differ { IfErr result (λ b. b.serving ≢ b.ticket) }
+        ensures late { IfErr result (λ b. LearnsServed self.old self.old.seen b.serving × (b.serving < b.ticket)) }
         ensures alone { self.old.seats ≡ 1 → IsOk result }
     {
         let shared = &gate.table.shared;
@@ -148,13 +149,15 @@ impl<M: Machine> Seat<M> {
     }
 
     /// Learns what the other seat has seen: of two histories at one gate one begins the other, and
-    /// this seat has then seen the longer. The other stays as it was.
+    /// this seat has then seen the longer. One look finds a number that is served, after the turns
+    /// of all that it has seen. The other stays as it was.
     pub fn meet(&mut self, gate: &Gate<M>, other: &mut Seat<M>)
         requires gate { (self.old.gate ≡ gate.now.id) × (other.old.gate ≡ gate.now.id) }
         requires free { (self.old.taken ≡ None) × (other.old.taken ≡ None) }
         ensures line { IsInLine self.old.seen other.old.seen }
         ensures seen { IsPrefix self.old.seen self.new.seen × IsPrefix other.old.seen self.new.seen }
         ensures own { own_entries M.seat self.new ≡ own_entries M.seat self.old }
+        ensures served { LearnsServed self.old self.new.seen self.new.look_found }
         ensures seat { self.new ≡ after_meeting self.old other.old.seen self.old.ended self.new.look_found }
         ensures other { other.new ≡ other.old }
     {
@@ -172,6 +175,7 @@ impl<M: Machine> Seat<M> {
         ensures line { IsInLine self.old.seen other.seen }
         ensures seen { IsPrefix self.old.seen self.new.seen × IsPrefix other.seen self.new.seen }
         ensures own { own_entries M.seat self.new ≡ own_entries M.seat self.old }
+        ensures served { LearnsServed self.old self.new.seen self.new.look_found }
         ensures seat { self.new ≡ after_meeting self.old other.seen
             (self.old.ended ++ (other.number, own_entries M.seat other) ∷ other.ended)
             self.new.look_found }
@@ -191,6 +195,7 @@ impl<M: Machine> Seat<M> {
 fn await_turn<M: Machine, R: Wait>(rt: &R, gate: &Gate<M>, token: &mut Token<M>, ticket: u64) -> M
     requires gate { token.old.table_id ≡ gate.now.id }
     requires waits { token.old.me.0.stage ≡ Waits ticket }
+    requires drawn { token.old.me.0.ticket ≡ ticket }
     requires free { token.old.me.1 ≡ [] }
     ensures token { (token.new.table_id ≡ token.old.table_id) × (token.new.id ≡ token.old.id) }
     ensures taken { TakesMachine M.base M.history M.seat token.old.me token.new.me result }

@@ -1,8 +1,9 @@
-ghost use Rattle.std.specs.Prelude.{◌≡◌, ◌<◌, None, [], All, IfOk};
+ghost use Rattle.std.specs.Prelude.{◌≡◌, ℕ, ◌<◌, ◌≤◌, None, [], All, Contains, IfOk, IfSome, map};
 ghost use Rattle.ix_gate.specs.Rule.{most_turns};
+ghost use Rattle.ix_gate.specs.Seat.{StandsFor};
 
-use crate::{Busy, Gate, Machine, Seat};
-use std::alloc::AllocError;
+use crate::{Busy, Gate, Machine, NoMemory, Seat};
+use std::alloc::{AllocError, Global};
 use std::sync::Wait;
 use std::test::Fail;
 use std::thread;
@@ -104,6 +105,28 @@ fn two_threads_take_turns(rt: HostRuntime) -> Result<(), Fail> {
     Ok(())
 }
 
+fn open(alloc: Global, count: u32) -> Result<(Gate<Tally>, Vec<Seat<Tally>>), NoMemory>
+    requires { (0 < count) × (count ≤ 64) }
+    ensures ready { IfOk result (λ r. All (λ s. (s.gate ≡ r.0.id) × (s.taken ≡ None)) r.1.items) }
+    ensures all { IfOk result (λ r. (n : ℕ) → n < r.0.seats → Contains (map (λ s. s.number) r.1.items) n) }
+{
+    let tally = Tally {
+        turns: Vec::new(alloc),
+    };
+    let (gate, seats) = Gate::new(alloc, tally, count)?;
+    Ok((gate, seats))
+}
+
+fn run_one<R: Wait>(rt: &R, gate: &Gate<Tally>, mut seat: Seat<Tally>) -> Seat<Tally>
+    requires ready { (seat.gate ≡ gate.now.id) × (seat.taken ≡ None) }
+    ensures ready { (result.gate ≡ gate.now.id) × (result.taken ≡ None) }
+    ensures number { result.number ≡ seat.number }
+{
+    take_turns(rt, gate, &mut seat, 250);
+    seat
+}
+
+// All seats take their turns, each in a thread of its own.
 fn run_all<R: Threads + Wait + Sync>(
     rt: &R,
     gate: &Gate<Tally>,
@@ -111,43 +134,63 @@ fn run_all<R: Threads + Wait + Sync>(
 ) -> Result<Vec<Seat<Tally>>, AllocError>
     requires ready { All (λ s. (s.gate ≡ gate.now.id) × (s.taken ≡ None)) seats.items }
     ensures ready { IfOk result (λ v. All (λ s. (s.gate ≡ gate.now.id) × (s.taken ≡ None)) v.items) }
+    ensures numbers { IfOk result (λ v. map (λ s. s.number) v.items ≡ map (λ s. s.number) seats.items) }
 {
-    thread::map_vec(rt, seats, &|seat| run_one(rt, gate, seat))
+    let seats = thread::map_vec(rt, seats, &|seat| run_one(rt, gate, seat))?;
+    Ok(seats)
 }
 
-fn run_one<R: Wait>(rt: &R, gate: &Gate<Tally>, mut seat: Seat<Tally>) -> Seat<Tally>
-    requires ready { (seat.gate ≡ gate.now.id) × (seat.taken ≡ None) }
-    ensures ready { (result.gate ≡ gate.now.id) × (result.taken ≡ None) }
+// All seats are joined into the first one.
+fn join_all(gate: &Gate<Tally>, seats: Vec<Seat<Tally>>) -> Option<Seat<Tally>>
+    requires ready { All (λ s. (s.gate ≡ gate.now.id) × (s.taken ≡ None)) seats.items }
+    ensures ready { IfSome result (λ r. (r.gate ≡ gate.now.id) × (r.taken ≡ None)) }
+    ensures all { IfSome result (λ r. All (λ s. StandsFor r s.number) seats.items) }
 {
-    take_turns(rt, gate, &mut seat, 250);
-    seat
-}
-
-fn join_all(gate: &Gate<Tally>, first: &mut Seat<Tally>, others: Vec<Seat<Tally>>)
-    requires first { (first.old.gate ≡ gate.now.id) × (first.old.taken ≡ None) }
-    requires others { All (λ s. (s.gate ≡ gate.now.id) × (s.taken ≡ None)) others.items }
-    ensures first { (first.new.gate ≡ gate.now.id) × (first.new.taken ≡ None) }
-{
-    for other in others {
+    let mut rest = seats.into_iter();
+    let mut first = rest.next()?;
+    for other in rest {
         first.join(gate, other);
     }
+    Some(first)
+}
+
+// The tally that is left when all seats have taken their turns, each in a thread of its own.
+fn run_and_close<R: Threads + Wait + Sync>(
+    rt: &R,
+    gate: Gate<Tally>,
+    seats: Vec<Seat<Tally>>,
+) -> Option<Tally>
+    requires ready { All (λ s. (s.gate ≡ gate.id) × (s.taken ≡ None)) seats.items }
+    requires all { (n : ℕ) → n < gate.seats → Contains (map (λ s. s.number) seats.items) n }
+{
+    let Ok(seats) = run_all(rt, &gate, seats) else {
+        return None;
+    };
+    let first = join_all(&gate, seats)?;
+    Some(gate.close(first))
+}
+
+#[test]
+fn one_seat_closes(rt: HostRuntime) -> Result<(), Fail> {
+    let (gate, seats) = open(rt.alloc(), 1)?;
+    let Some(tally) = run_and_close(&rt, gate, seats) else {
+        return Err(Fail::new("the seat is missing"));
+    };
+    assert_eq!(rt; tally.turns_of(0), 250);
+    assert_eq!(rt; tally.turns.len(), 250);
+    Ok(())
 }
 
 #[test]
 fn eight_threads_take_turns(rt: HostRuntime) -> Result<(), Fail> {
-    let tally = Tally {
-        turns: Vec::new(rt.alloc()),
-    };
-    let (gate, seats) = Gate::new(rt.alloc(), tally, 8)?;
-    let mut seats = run_all(&rt, &gate, seats)?;
-    let Some(mut first) = seats.pop() else {
+    let (gate, seats) = open(rt.alloc(), 8)?;
+    let Some(tally) = run_and_close(&rt, gate, seats) else {
         return Err(Fail::new("a seat is missing"));
     };
-    join_all(&gate, &mut first, seats);
-    let tally = first.take(&rt, &gate);
     for seat in 0..8 {
         assert_eq!(rt; tally.turns_of(seat), 250, "at seat {seat}");
     }
+    assert_eq!(rt; tally.turns.len(), 2000);
     Ok(())
 }
 

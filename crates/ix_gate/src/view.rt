@@ -40,8 +40,9 @@ pub struct View<B, E> {
     pub own: LinkedList<E>,
     /// The numbers of the seats that were joined into this one, each with its entries.
     pub ended: LinkedList<(u64, LinkedList<E>)>,
-    /// How many tickets the seat has drawn.
+    /// How many tickets the seat has drawn, and which was the last.
     pub turns: u64,
+    pub ticket: u64,
     /// How often it looked at the number that is served, and what it found last.
     pub looks: u64,
     pub look_found: u64,

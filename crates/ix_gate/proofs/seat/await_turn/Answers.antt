@@ -19,4 +19,4 @@ exchange-requires g c =
 pub returns-then-serving-ticket-clause-taken : goal.returns-then-serving-ticket-clause-taken
 returns-then-serving-ticket-clause-taken g c =
     let t = (c.load-serving.ensures.2 c.args.ticket (ap (λ v. v.stage) c.loop.invariant.2.3 ∙ c.requires.waits)).0 c.if-serving-ticket.true in
-    taking _ _ _ _ _ _ _ _ _ _ c.loop.invariant.2 c.loop.invariant.3 t c.exchange.ensures.2 c.unwrap.ensures c.exchange.ensures.3
+    taking _ _ _ _ _ _ _ _ _ _ c.loop.invariant.2 c.loop.invariant.3 (c.if-serving-ticket.true ∙ sym c.requires.drawn) t c.exchange.ensures.2 c.unwrap.ensures c.exchange.ensures.3

@@ -1,9 +1,10 @@
-use Rattle.std.proofs.Common.{rules, refl, ap, sym, ◌∙◌, subst}
+use Rattle.std.proofs.Common.{rules, ◌≤◌, length, refl, ap, sym, ◌∙◌, subst}
 use Rattle.ix_gate.specs.AtRest.{IsAtRest}
-use Rattle.ix_gate.specs.View.{with_note}
+use Rattle.ix_gate.specs.View.{with_note, IsServed}
+use Rattle.ix_gate.specs.Seat.{LearnsServed}
 use Rattle.ix_gate.proofs.Looking.{free_look_allowed}
 use Rattle.ix_gate.proofs.Meeting.{note_allowed, take_note_allowed}
-use Rattle.ix_gate.proofs.Resting.{idle_of, at_rest_after_look}
+use Rattle.ix_gate.proofs.Resting.{idle_of, at_rest_after_look, learns}
 use Rattle.ix_gate.proofs.seat.Seat.meet.Goals as goal
 
 pub split_seat-note-requires : goal.split_seat-note-requires
@@ -27,3 +28,10 @@ invariant_of-self g c =
 
 pub invariant_of-other : goal.invariant_of-other
 invariant_of-other g c = subst (IsAtRest g.M.Machine.seat c.other.inside.number c.other.inside.turns) (sym c.split_seat-note.ensures.2) c.other.invariant
+
+pub returns-clause-served : goal.returns-clause-served
+returns-clause-served g c =
+    let look = c.load.ensures.2 in
+    let told = subst (λ m. IsServed m.0 c.load.result × (length m.0.seen ≤ c.load.result)) c.join_seat.ensures.2 (look.served, look.entries) in
+    subst (λ m. LearnsServed c.args.self.now m.0.seen m.0.look_found) (sym look.now)
+    (learns g.M.Machine.seat _ _ _ c.load.result c.self.inside.token.me c.args.self.now c.join_seat.new.seat.me.0.seen c.self.invariant c.self.view_is record { least = told.0.least; passed = told.0.passed; alone = told.0.alone } look.entries)

@@ -1,10 +1,11 @@
 use Rattle.std.proofs.Common.{rules, ◌∷◌, Some, refl, ap, sym, ◌∙◌, subst, arith}
 use Rattle.ix_gate.specs.History.{KeepsEnded}
+use Rattle.ix_gate.specs.Seat.{LearnsServed}
 use Rattle.atomic_table.specs.Table.{rest}
 use Rattle.ix_gate.specs.View.{with_ticket}
 use Rattle.ix_gate.proofs.Looking.{free_look_allowed}
 use Rattle.ix_gate.proofs.Trying.{try_draw_allowed}
-use Rattle.ix_gate.proofs.Resting.{idle_of, at_rest_after_look, at_rest_after_miss, at_rest_after_take, taking_at_once}
+use Rattle.ix_gate.proofs.Resting.{idle_of, at_rest_after_look, at_rest_after_miss, at_rest_after_take, taking_at_once, learns}
 use Rattle.ix_gate.proofs.seat.Seat.try_take.Goals as goal
 
 pub load-serving-requires : goal.load-serving-requires
@@ -55,3 +56,11 @@ returns-clause-ended g c =
     let t = c.compare_exchange-ticket.ensures.2.0 c.if-ticket-serving.false in
     let took = taking_at_once g.M.Machine.base g.M.Machine.history g.M.Machine.seat c.load-serving.new.seat.me _ _ _ c.exchange.result c.unwrap.result (ap (λ m. m.1) look.now ∙ free.1) t c.exchange.ensures.2 c.unwrap.ensures c.exchange.ensures.3 in
     subst (λ l. KeepsEnded g.M.Machine.seat l (g.M.Machine.history c.unwrap.result)) (ap (λ m. m.0.ended) look.now ∙ ap (λ k. k.ended) c.self.view_is) took.agrees.1
+
+pub returns-clause-served : goal.returns-clause-served
+returns-clause-served g c =
+    let look = c.load-serving.ensures.2 in
+    let t = c.compare_exchange-ticket.ensures.2.0 c.if-ticket-serving.false in
+    let took = taking_at_once g.M.Machine.base g.M.Machine.history g.M.Machine.seat c.load-serving.new.seat.me _ _ _ c.exchange.result c.unwrap.result (ap (λ m. m.1) look.now ∙ (idle_of _ _ (ap (λ k. k.taken) c.self.view_is ∙ c.requires.free) c.self.invariant.carries).1) t c.exchange.ensures.2 c.unwrap.ensures c.exchange.ensures.3 in
+    subst (LearnsServed c.args.self.now (g.M.Machine.history c.unwrap.result)) (sym (ap (λ m. m.0.look_found) took.now ∙ c.if-ticket-serving.false))
+    (learns g.M.Machine.seat _ _ _ c.load-serving.result c.self.inside.token.me c.args.self.now (g.M.Machine.history c.unwrap.result) c.self.invariant c.self.view_is look.served (omega (arith, took.entries, c.if-ticket-serving.false)))

@@ -1,0 +1,120 @@
+// A seat of a kernel, as what makes calls.
+ghost use Rattle.std.specs.Prelude.{◌≡◌, ◌<◌};
+ghost use mathlib.Core.List.{IsPrefix};
+ghost use Rattle.ix_gate.specs.Seat.{after_meeting};
+ghost use Rattle.ix_kernel.specs.Systems.{made_at, GoesOn};
+
+use crate::kernel::Kernel;
+use crate::seat::KSeat;
+use ix_model::{Answer, Buf, Call, Pid, Sys};
+use std::marker::Model;
+use std::sync::Wait;
+
+/// What makes calls on a kernel as one seat. It has the seat, and shares the kernel.
+///
+/// It means the entries of its seat in what the seat has seen, each with the reply and the bytes that the run of that gives. So one that is
+/// made anew with the same seat means the same list. A full journal alone stops its calls: memory never runs out.
+#[derive(Drop)]
+pub struct SeatSys<'a, R: Wait + Sync> {
+    kernel: &'a Kernel,
+    seat: KSeat,
+    rt: &'a R,
+    /// How many calls stopped, at most 2^64 - 1.
+    stops: u64,
+    /// What the last stop told; noughts where there was none.
+    used: u64,
+    need: u64,
+    cap: u64,
+}
+
+impl<'a, R: Wait + Sync> Model for SeatSys<'a, R> {
+    ghost use Rattle.std.specs.Coded.{codes};
+    ghost use Rattle.ix_label.specs.contracts.label.Label as label_type;
+    ghost use Rattle.ix_kernel.specs.Systems.{SystemState, Sits};
+
+    ghost Value = { SystemState };
+
+    ghost coded = { Prim.hlevel (codes, label_type.the_row.coded) };
+
+    ghost view = { λ s. record {
+      kernel = s.kernel.now;
+      seat = s.seat;
+      stops = s.stops;
+      used = s.used;
+      need = s.need;
+      cap = s.cap;
+    } };
+
+    ghost invariant = { λ s. Sits (record { kernel = s.kernel.now; seat = s.seat; stops = s.stops; used = s.used; need = s.need; cap = s.cap }) };
+}
+
+impl<'a, R: Wait + Sync> SeatSys<'a, R> {
+    /// A seat's system. It has the entries that the seat has made, and no stops.
+    pub fn new(kernel: &'a Kernel, seat: KSeat, rt: &'a R) -> SeatSys<'a, R>
+        requires { seat.gate ≡ kernel.now.id }
+        ensures { result ≡ record { kernel = kernel.now; seat = seat; stops = 0; used = 0; need = 0; cap = 0 } }
+    {
+        SeatSys {
+            kernel,
+            seat,
+            rt,
+            stops: 0,
+            used: 0,
+            need: 0,
+            cap: 0,
+        }
+    }
+
+    /// Learns what the other's seat has seen, as `KSeat::meet` does. What it has made, and its stops, stay.
+    pub fn meet(&mut self, other: &mut SeatSys<'a, R>)
+        requires { self.old.kernel ≡ other.old.kernel }
+        ensures seen { IsPrefix self.old.seat.seen self.new.seat.seen × IsPrefix other.old.seat.seen self.new.seat.seen }
+        ensures made { made_at self.new.seat ≡ made_at self.old.seat }
+        ensures system { self.new ≡ record self.old {
+          seat = after_meeting self.old.seat other.old.seat.seen self.old.seat.ended self.new.seat.look_found;
+        } }
+        ensures other { other.new ≡ other.old }
+    {
+        self.seat.meet(self.kernel, &mut other.seat);
+    }
+
+    /// The seat.
+    pub fn into_seat(self) -> KSeat
+        ensures { result ≡ self.entry.seat }
+    {
+        let SeatSys { seat, .. } = self;
+        seat
+    }
+}
+
+impl<R: Wait + Sync> Sys for SeatSys<'_, R> {
+    ghost use Rattle.std.specs.Prelude.{refl};
+    ghost use Rattle.std.proofs.Common.{◌∙◌};
+    ghost use Rattle.ix_model.specs.declared.reply.Answer.TheVariants as answer;
+    ghost use Rattle.ix_kernel.specs.Systems.{seat_goes_on_not, seat_goes_on_further};
+
+    ghost seat = { λ s. s.seat.number };
+
+    ghost made = { λ s. made_at s.seat };
+
+    ghost stops = { λ s. s.stops };
+
+    ghost stopped = { λ s. answer.JournalFull s.used s.need s.cap };
+
+    ghost follows = { λ s t. GoesOn s t };
+
+    ghost reflexive = { λ s. (refl, seat_goes_on_not s.seat) };
+
+    ghost transitive = { λ s t u p q. (q.0 ∙ p.0, seat_goes_on_further s.seat t.seat u.seat p.1 q.1) };
+
+    fn call(&mut self, line: u32, pid: Pid, call: &Call<'_>, buf: &mut Buf) -> Answer {
+        let answer = self.seat.call(self.rt, self.kernel, line, pid, call, buf);
+        if let Answer::JournalFull { used, need, cap } = answer {
+            self.stops = self.stops.saturating_add(1);
+            self.used = used;
+            self.need = need;
+            self.cap = cap;
+        }
+        answer
+    }
+}
