@@ -27,7 +27,7 @@ use Rattle.ix_host.specs.run.Outcome.{Outcome, outcome_of, outcome_for, text_for
 use Rattle.ix_host.specs.run.Outcome as outcome
 use Rattle.ix_host.specs.report.Report.{lane_name, entry_text, entry_lines, report_of}
 use Rattle.ix_host.specs.run.Run.{IsAnswer, IsEndOf, WritesFor, called_for, wanted_for, status_of}
-use Rattle.ix_host.specs.serial.Serial.{serial}
+use Rattle.ix_lanes.specs.histories.Serial.{serial}
 use Rattle.ix_host.proofs.comes_to.Verdicts.{WasRead, is_called_for}
 
 -- ---- one line

@@ -1,14 +1,3 @@
-pub mod Keyed
-pub mod Costs
-pub mod Indexed
 pub mod ScriptLines
-pub mod LaneCount
-pub mod SeatSearch
-pub mod Numbering
 pub mod Shown
-pub mod LaneSteps
 pub mod Going
-pub mod OneEntry
-pub mod Remains
-pub mod SerialHistories
-pub mod Needs

@@ -1,2 +1,1 @@
 pub mod LineWalk
-pub mod Oks

@@ -12,7 +12,7 @@ use Rattle.ix_script.specs.lines.Before.{lanes_of}
 use Rattle.ix_script.specs.scripts.Scripts.{config_of}
 use Rattle.ix_script.specs.declared.line.Line.{Line}
 use Rattle.ix_host.specs.report.Report.{entry_lines, report_of}
-use Rattle.ix_host.specs.serial.Serial.{serial}
+use Rattle.ix_lanes.specs.histories.Serial.{serial}
 
 -- the world that a script opens
 abbrev pub world_opened : List Line → World

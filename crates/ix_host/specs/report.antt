@@ -1,3 +1,4 @@
 pub mod Rules
 pub mod Report
 pub mod Telling
+pub mod Fixed

@@ -1,29 +1,22 @@
-//! What holds of the histories of scripts and of their reports. These functions do nothing: each states a law, which is proved.
-ghost use Rattle.ix_host.specs.serial.Laws.{SerialOne, SerialIsSerial, NeedFits, NeedFitsSoFar, LowLinesAreEqual};
+//! What holds of the reports of scripts. These functions do nothing: each states a law, which is proved.
+ghost use Rattle.ix_host.specs.report.Fixed.{OneHistory, ScriptsNamed};
+ghost use Rattle.ix_host.specs.serial.Laws.{LowLinesAreEqual};
 
-/// No script has two serial histories. A history is serial where each entry is of a lane, each lane's entries are those
-/// that its lines make when they are answered as in the run of the history, no lane asks for a further call, and along the
-/// entries the numbers of lines never fall.
-pub fn serial_one()
-    ensures one { SerialOne }
-{}
-
-/// The serial history that is defined, the calls of the lines in order, each answered before the next, is a serial history
-/// of its script, whatever the lines are. So each script has exactly one.
-pub fn serial_is_serial()
-    ensures serial { SerialIsSerial }
-{}
-
-/// A history that holds each lane's calls, in whatever order the lanes take turns, costs no more than its script needs, and so
-/// does the part of one that a run has made so far, with the next call of any lane. So a journal of the script's config is
-/// never full.
-pub fn need_fits()
-    ensures whole { NeedFits }
-    ensures so_far { NeedFitsSoFar }
-{}
+use ix_script::laws::line_stays;
 
 /// Where the runs of two scripts of the same lanes agree at a label, each line of the report whose process ends at or below
 /// that label is the same in both reports, as long as no entry before it lets something down across the label.
 pub fn low_lines_are_equal()
     ensures equal { LowLinesAreEqual }
 {}
+
+/// A report fixes its history: of two histories of a script that each hold the calls of its lanes, in whatever order the
+/// lanes take turns, the reports are the same text only where the histories are the same. The lanes of each script that is
+/// read have the names that this asks for.
+pub fn one_history()
+    ensures names { ScriptsNamed }
+    ensures one { OneHistory }
+{
+    // The proof of `names` rests on this law.
+    line_stays();
+}

@@ -15,8 +15,8 @@ use Rattle.ix_host.specs.report.Telling.{IsTold, Tells, left_of, entries_left, o
 use Rattle.ix_host.specs.declared.telling.report.Next.TheVariants as stage
 use Rattle.ix_host.specs.declared.telling.report.Report.{Report}
 use Rattle.ix_model.specs.declared.audit.AuditLine.{AuditLine}
-use Rattle.ix_host.proofs.serially.Costs.{cost-cons, cost-push}
-use Rattle.ix_host.proofs.serially.Indexed.{rest_is, none_left}
+use Rattle.ix_lanes.proofs.serially.Costs.{cost-cons, cost-push}
+use Rattle.ix_lanes.proofs.found.Indexed.{rest_is, none_left}
 
 -- one text more was written of those that are left
 went_on : (out text rest left : List ℕ) → left ≡ text ++ rest → (out ++ text) ++ rest ≡ out ++ left

@@ -10,13 +10,12 @@ use Rattle.ix_script.specs.declared.line.Line.{Line}
 use Rattle.ix_script.specs.lines.Before.{lanes_of}
 use Rattle.ix_script.specs.scripts.Need.{cost_of_line, need}
 use Rattle.ix_script.specs.scripts.Scripts.{config_of}
-use Rattle.ix_host.specs.declared.running.names.Names.{Names}
-use Rattle.ix_host.specs.serial.Asked.{Answered, Asked, Numbers, asked, asked_then}
+use Rattle.ix_lanes.specs.asking.Asked.{Answered, Asked, Names, Numbers, asked, asked_then}
 use Rattle.ix_host.specs.serial.Running.{RunsLine, with_entries, with_second}
-use Rattle.ix_host.specs.serial.Serial.{answered, entry_at, entry_of, entry_then, header_of, names_of, renamed, seat_after, serial_from}
-use Rattle.ix_host.proofs.serially.Costs.{AreFew, cost-push, few_bytes, first_cost, second_cost, need-cons}
-use Rattle.ix_host.proofs.serially.Indexed.{rest_is}
-use Rattle.ix_host.proofs.serially.LaneSteps.{serial-none, serial-one, serial-two}
+use Rattle.ix_lanes.specs.histories.Serial.{answered, entry_at, entry_of, entry_then, header_of, names_of, renamed, seat_after, serial_from}
+use Rattle.ix_lanes.proofs.serially.Costs.{AreFew, cost-push, few_bytes, first_cost, second_cost, need-cons}
+use Rattle.ix_lanes.proofs.found.Indexed.{rest_is}
+use Rattle.ix_lanes.proofs.serially.LaneSteps.{serial-none, serial-one, serial-two}
 
 -- ---- what a line costs
 -- what a line of a lane makes costs no more than the line

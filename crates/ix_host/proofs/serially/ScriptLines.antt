@@ -3,7 +3,7 @@ use Rattle.std.proofs.Common.{◌≡◌, ℕ, suc, ◌+◌, true, false, List, d
 use Rattle.ix_script.specs.declared.line.Line.{Line}
 use Rattle.ix_host.specs.declared.asked.command.Command.{Command}
 use Rattle.ix_host.specs.serial.Built.{is_unbuilt, unbuilt_from}
-use Rattle.ix_host.proofs.serially.Indexed.{rest_is}
+use Rattle.ix_lanes.proofs.found.Indexed.{rest_is}
 
 -- the next line isn't built
 pub unbuilt_here : (c : Command) (lines : List Line) (i : ℕ) (l : Line) (first : Option ℕ)

@@ -9,7 +9,7 @@ use Rattle.ix_host.specs.declared.asked.command.Command.TheVariants as command
 use Rattle.ix_host.specs.serial.Built.{unbuilt_line}
 use Rattle.ix_host.specs.report.Report.{report_of}
 use Rattle.ix_host.specs.report.Rules.{refusal_line}
-use Rattle.ix_host.specs.serial.Serial.{serial}
+use Rattle.ix_lanes.specs.histories.Serial.{serial}
 
 -- a whole text, or the line and the rule of a refusal
 pub data Outcome : Type 0 where

@@ -3,9 +3,8 @@ use Rattle.std.specs.Prelude.{◌≡◌, List, Option, Some, None}
 use Rattle.ix_model.specs.history.Events.{Event}
 use Rattle.ix_model.specs.history.History.{History, next, with_entry}
 use Rattle.ix_script.specs.declared.line.Line.{Line}
-use Rattle.ix_host.specs.declared.running.names.Names.{Names}
-use Rattle.ix_host.specs.serial.Asked.{Answered, named}
-use Rattle.ix_host.specs.serial.Serial.{answered, renamed}
+use Rattle.ix_lanes.specs.asking.Asked.{Answered, Names, named}
+use Rattle.ix_lanes.specs.histories.Serial.{answered, renamed}
 
 -- the history with the second entry of a line, where it makes one
 abbrev pub with_second : Option Event → History → History

@@ -2,7 +2,7 @@ ghost use Rattle.std.specs.Prelude.{◌≡◌};
 ghost use Rattle.ix_host.specs.serial.Built.{is_unbuilt, is_unbuilt_run, unbuilt_line};
 
 use crate::asked::command::Command;
-use crate::running::lines::line_at;
+use ix_lanes::line_at;
 use ix_script::{Line, Script};
 
 /// Whether a line has a form that isn't built under `run`.

@@ -5,19 +5,17 @@ ghost use Rattle.ix_model.specs.history.History.{next, with_entry};
 ghost use Rattle.ix_script.specs.declared.line.Line.{Line};
 ghost use Rattle.ix_script.specs.scripts.Need.{cost_of_line, need};
 ghost use Rattle.ix_script.specs.scripts.Scripts.{config_of};
-ghost use Rattle.ix_host.specs.serial.Asked.{asked, asked_then};
-ghost use Rattle.ix_host.specs.serial.Replies.{count_in};
-ghost use Rattle.ix_host.specs.serial.Serial.{entry_at, entry_of, entry_then, header_of, serial};
+ghost use Rattle.ix_lanes.specs.asking.Asked.{asked, asked_then};
+ghost use Rattle.ix_lanes.specs.asking.Replies.{count_in};
+ghost use Rattle.ix_lanes.specs.histories.Serial.{entry_at, entry_of, entry_then, header_of, serial};
 ghost use Rattle.ix_host.specs.serial.Running.{RunsLine, RunsCommand, with_second};
 ghost use Rattle.std.specs.Option.{option_map};
 
-use crate::running::calls::{bind, entry_asked, entry_then};
-use crate::running::lanes::{first_names, header_of, seat_after};
-use crate::running::lines::line_at;
-use crate::running::names::Names;
-use crate::running::numbers::Numbers;
 use ix_core::Core;
 use ix_label::Steps;
+use ix_lanes::{
+    Names, Numbers, entry_asked, entry_then, first_names, header_of, line_at, seat_after,
+};
 use ix_model::{Answer, Buf, Entry, NoMemory, Reply};
 use ix_script::{Line, Script};
 use std::alloc::Global;
@@ -63,7 +61,8 @@ fn run_second<L: Ledger>(
     ensures { core.new ≡ with_second (option_map (entry_of seat number) (asked_then header.now names.now line.now
         (record { reply = reply.now; bytes = take (count_in reply.now) buf.now }))) core.old }
 {
-    if let Some(entry) = entry_then(header, names, seat, number, line, reply, buf) {
+    let places = names.places();
+    if let Some(entry) = entry_then(header, places, seat, number, line, reply, buf) {
         let mut spare = [0; 4096];
         make(core, &entry, &mut spare, steps);
     }
@@ -85,12 +84,12 @@ fn run_command<L: Ledger>(
         (λ e r. option_map (entry_of e.seat e.line) (asked_then header.now names.old line.now r))
         core.old core.new names.old names.new line.now) }
 {
-    let Some(entry) = entry_asked(header, names, seat, number, line) else {
+    let Some(entry) = entry_asked(header, names.places(), seat, number, line) else {
         return Ok(());
     };
     let reply = make(core, &entry, buf, steps);
     run_second(core, header, names, seat, number, line, &reply, buf, steps);
-    bind(names, line, &reply)
+    names.bind(line, &reply)
 }
 
 /// Runs a line, where it stands in a lane.

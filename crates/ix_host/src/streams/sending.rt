@@ -3,7 +3,7 @@ ghost use Rattle.ix_script.specs.scripts.Canonical.{canonical};
 ghost use Rattle.ix_host.specs.run.Outcome as outcome;
 ghost use Rattle.ix_host.specs.report.Report.{report_of};
 ghost use Rattle.ix_host.specs.run.Run.{Ends};
-ghost use Rattle.ix_host.specs.serial.Serial.{serial};
+ghost use Rattle.ix_lanes.specs.histories.Serial.{serial};
 ghost use Rattle.ix_host.specs.report.Telling.{IsTold, left_of};
 
 use crate::running::serial::run_lines;

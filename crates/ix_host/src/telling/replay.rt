@@ -5,11 +5,11 @@ ghost use Rattle.ix_model.specs.history.History.{world_of, with_entry};
 ghost use Rattle.ix_script.specs.lines.Before.{lanes_of};
 ghost use Rattle.ix_host.specs.report.Report.{entry_text, lane_name};
 
-use crate::running::calls::count_in;
 use crate::running::serial::make;
 use crate::telling::entry_text::push_entry;
 use ix_core::Core;
 use ix_label::Steps;
+use ix_lanes::count_in;
 use ix_model::{Buf, Entry, NoMemory};
 use ix_script::Script;
 use std::sync::ledger::Ledger;

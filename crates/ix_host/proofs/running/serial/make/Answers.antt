@@ -1,4 +1,4 @@
-use Rattle.std.proofs.Common.{◌≡◌, ◌+◌, ◌≤◌, List, ℕ, length, take, sym, ap, ◌∙◌, subst}
+use Rattle.std.proofs.Common.{◌+◌, length, sym, subst}
 use Rattle.ix_model.specs.history.Events.{Event}
 use Rattle.ix_model.specs.history.Calls.{event_of}
 use Rattle.ix_model.specs.history.History.{History, world_of, next}

@@ -7,13 +7,13 @@ use Rattle.ix_script.specs.lines.Before.{lanes_of}
 use Rattle.ix_script.specs.scripts.Need.{cost_of_line, need}
 use Rattle.ix_script.specs.scripts.Scripts.{config_of}
 use Rattle.ix_script.specs.declared.line.Line.{Line}
-use Rattle.ix_host.specs.serial.Asked.{no_names}
+use Rattle.ix_lanes.specs.asking.Asked.{no_names}
 use Rattle.ix_host.specs.serial.Running.{RunsLine}
-use Rattle.ix_host.specs.serial.Serial.{entry_at, entry_then, serial, serial_from}
-use Rattle.ix_host.proofs.serially.Costs.{cost-none, need-cons}
-use Rattle.ix_host.proofs.serially.Indexed.{is_there, rest_is}
+use Rattle.ix_lanes.specs.histories.Serial.{entry_at, entry_then, serial, serial_from}
+use Rattle.ix_lanes.proofs.serially.Costs.{cost-none, need-cons}
+use Rattle.ix_lanes.proofs.found.Indexed.{is_there, rest_is}
 use Rattle.ix_host.proofs.serially.Going.{events_go_on, same_config, same_lanes, costs_stay, count_here, journal_is}
-use Rattle.ix_host.proofs.serially.LaneSteps.{seat_within}
+use Rattle.ix_lanes.proofs.serially.LaneSteps.{seat_within}
 use Rattle.ix_host.proofs.running.serial.run_lines.Goals as goal
 
 pub loop-index-init : goal.loop-index-init

@@ -5,7 +5,7 @@ use Rattle.ix_model.specs.history.History.{world_of}
 use Rattle.ix_script.specs.lines.Before.{lanes_of}
 use Rattle.ix_script.specs.scripts.Need.{need}
 use Rattle.ix_script.specs.scripts.Scripts.{config_of}
-use Rattle.ix_host.specs.serial.Serial.{serial, serial_from}
+use Rattle.ix_lanes.specs.histories.Serial.{serial, serial_from}
 use Rattle.ix_host.proofs.running.serial.run_lines.Given as goal
 
 abbrev pub invariant-loop-index : goal.invariant-loop-index

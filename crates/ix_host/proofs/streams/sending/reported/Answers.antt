@@ -6,9 +6,9 @@ use Rattle.ix_model.specs.opening.Opening.{opening_world}
 use Rattle.ix_model.specs.history.Step.{run}
 use Rattle.ix_script.specs.lines.Before.{lanes_of}
 use Rattle.ix_report.specs.LineText.{head_line}
-use Rattle.ix_host.specs.serial.Serial.{serial}
+use Rattle.ix_lanes.specs.histories.Serial.{serial}
 use Rattle.ix_host.specs.report.Telling.{left_of, entries_left}
-use Rattle.ix_host.proofs.serially.Costs.{cost-none}
+use Rattle.ix_lanes.proofs.serially.Costs.{cost-none}
 use Rattle.ix_host.proofs.streams.sending.reported.Goals as goal
 
 -- nothing, and then this

@@ -1,6 +1,6 @@
 use Rattle.std.proofs.Common.{[], sym, ◌∙◌}
 use Rattle.ix_script.specs.lines.Before.{lanes_of}
-use Rattle.ix_host.proofs.serially.Indexed.{none_mapped, or_default}
+use Rattle.ix_lanes.proofs.found.Indexed.{none_mapped, or_default}
 use Rattle.ix_host.proofs.telling.replay.lane_name.Goals as goal
 
 pub returns-in-None : goal.returns-in-None

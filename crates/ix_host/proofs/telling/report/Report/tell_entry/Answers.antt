@@ -1,7 +1,7 @@
 use Rattle.std.proofs.Common.{sym, ◌∙◌, ap, arith}
 use Rattle.std.specs.Option.{option_map}
 use Rattle.ix_model.specs.history.Calls.{event_of}
-use Rattle.ix_host.proofs.serially.Indexed.{counted_from_one, is_there}
+use Rattle.ix_lanes.proofs.found.Indexed.{counted_from_one, is_there}
 use Rattle.std.proofs.lemmas.Result.{on_ok_weaker}
 use Rattle.ix_host.proofs.piecewise.Pieces.{entries_told, entry_told, next_fits}
 use Rattle.ix_host.proofs.telling.report.Report.tell_entry.Goals as goal

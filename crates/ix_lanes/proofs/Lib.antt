@@ -1,0 +1,3 @@
+pub mod found
+pub mod serially
+pub mod phased

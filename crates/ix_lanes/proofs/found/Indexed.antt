@@ -1,0 +1,47 @@
+-- A list, as it is gone through by index.
+use Rattle.std.proofs.Common.{◌≡◌, unwrap_or, slice_index_or, ℕ, ◌+◌, ◌-◌, ◌<◌, ◌≤◌, ◌==◌, List, [], ◌∷◌, length, drop, Option, Some, None, refl, sym, ap, ◌∙◌, arith, slice_get, add-one, false, inl, inr, if◌then◌else◌}
+use Rattle.std.specs.Prelude.{IfSome}
+use Rattle.std.specs.Option.{option_map}
+use Rattle.std.proofs.Math.Seq.{drop-cons}
+use Rattle.std.proofs.lemmas.List.{drop_all}
+use Rattle.std.proofs.lemmas.Option.{slice_get_within, slice_get_cases, get_or_from_slice_get, unwrap_or-slice_get}
+
+-- the item at an index, and those after it
+pub rest_is : {A : Type 0} (xs : List A) (i : ℕ) (x : A) → slice_get xs i ≡ Some x → drop i xs ≡ x ∷ drop (i + 1) xs
+rest_is xs i x h =
+    let within : i < length xs = slice_get_within xs i x h in
+    rw (add-one, drop-cons xs i x) (rw (get_or_from_slice_get xs i x x h) refl)
+
+-- past the end nothing is left
+pub none_left : {A : Type 0} (xs : List A) (i : ℕ) → slice_get xs i ≡ None → drop i xs ≡ []
+none_left xs i h = elim (slice_get_cases xs i).1 [
+  | inl there ↦ let e : None ≡ Some there.0 = sym h ∙ there.2 in cc
+  | inr past ↦ drop_all i xs past.0
+]
+
+-- within a list there is an item
+pub is_there : {A : Type 0} (xs : List A) (i : ℕ) → i < length xs → slice_get xs i ≡ None → ⊥
+is_there xs i within none = elim (slice_get_cases xs i).1 [
+  | inl there ↦ let e : None ≡ Some there.0 = sym none ∙ there.2 in cc
+  | inr past ↦ absurd (omega (arith, past.0, within))
+]
+
+-- an item that is counted from 1
+pub counted_from_one : {A : Type 0} (xs : List A) (i : ℕ) → (if i + 1 == 0 then None else slice_get xs (i + 1 - 1)) ≡ slice_get xs i
+counted_from_one xs i =
+    let same : i + 1 - 1 ≡ i = omega arith in
+    let some : (i + 1 == 0) ≡ false = grind arith in
+    rw (same, some) refl
+
+-- a number that is below one bound is below a greater one
+pub if_some_below : (o : Option ℕ) (n m : ℕ) → n ≤ m → IfSome o (λ s. s < n) → IfSome o (λ s. s < m)
+if_some_below None n m h k = tt
+if_some_below (Some s) n m h k = omega (arith, h, k)
+
+-- nothing is nothing, however it is seen
+pub none_mapped : {A B : Type 0} (f : A → B) (o : Option A) → o ≡ None → option_map f o ≡ None
+none_mapped f o none = ap (option_map f) none
+
+-- an item that isn't there
+pub or_default : {A : Type 0} (xs : List A) (i : ℕ) (d : A) → slice_get xs i ≡ None → d ≡ slice_index_or xs i d
+or_default xs i d none = sym (ap (λ o. unwrap_or o d) none) ∙ unwrap_or-slice_get xs i d

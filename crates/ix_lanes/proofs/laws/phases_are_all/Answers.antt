@@ -1,0 +1,5 @@
+use Rattle.ix_lanes.proofs.phased.PhaseRuns.{all_phases}
+use Rattle.ix_lanes.proofs.laws.phases_are_all.Goals as goal
+
+pub returns : goal.returns
+returns c = record { phases = all_phases }

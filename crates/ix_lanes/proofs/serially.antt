@@ -1,0 +1,6 @@
+pub mod Costs
+pub mod LaneSteps
+pub mod OneEntry
+pub mod Remains
+pub mod SerialHistories
+pub mod Needs

@@ -1,0 +1,3 @@
+pub mod asking
+pub mod histories
+pub mod running

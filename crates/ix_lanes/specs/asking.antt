@@ -1,0 +1,4 @@
+pub mod Pairs
+pub mod Replies
+pub mod Asked
+pub mod Places

@@ -1,0 +1,10 @@
+-- The law of phases.
+use Rattle.std.specs.Prelude.{◌≡◌, ℕ, List}
+use Rattle.ix_script.specs.declared.line.Line.{Line}
+use Rattle.ix_lanes.specs.asking.Asked.{Answered}
+use Rattle.ix_lanes.specs.histories.Lanes.{calls_of}
+use Rattle.ix_lanes.specs.running.Phases.{phases, calls_before}
+
+-- in all phases of a script a lane asks for what it asks for in all
+abbrev pub PhasesAreAll : Type 0
+PhasesAreAll = (s : List Line) (seat : ℕ) (answers : List Answered) → calls_before s seat (phases s) answers ≡ calls_of s seat answers

@@ -1,0 +1,319 @@
+ghost use Rattle.std.specs.Prelude.{◌≡◌, ◌≤◌, Some, take, true};
+ghost use Rattle.std.specs.Option.{option_map};
+ghost use Rattle.ix_model.specs.history.Calls.{event_of};
+ghost use Rattle.ix_lanes.specs.asking.Asked.{asked, asked_then, both_bound, bound, first_in, named, number_in, pid_of, second_in};
+ghost use Rattle.ix_script.specs.lines.Before.{listed, listed_two};
+ghost use Rattle.ix_lanes.specs.asking.Places.{given, has_all, has_places, KeepsNames, KeepsPlaces, standing};
+ghost use Rattle.ix_lanes.specs.asking.Replies.{count_in};
+ghost use Rattle.ix_lanes.specs.histories.Serial.{entry_of};
+
+use crate::asking::numbers::Numbers;
+use crate::asking::places::{Places, fill};
+use ix_model::{Buf, Call, Entry, Name, Reply};
+use ix_script::Line;
+
+/// The first entry that a line of a seat's lane asks for, where it is a command.
+#[tactic(auto, unfolding(crate::specs::asking::Asked::asked))]
+pub fn entry_asked<'a>(
+    header: &Numbers<u32>,
+    places: &Places,
+    seat: u32,
+    number: u32,
+    line: &'a Line,
+) -> Option<Entry<'a>>
+    ensures { option_map event_of result ≡ option_map (entry_of seat number) (asked header.now (standing places.now) line.now) }
+{
+    let (proc, call) = match line {
+        Line::Create { proc, path } => (proc, Call::CreateAt { path: *path }),
+        Line::Open {
+            proc,
+            path,
+            mode,
+            ..
+        } => (
+            proc,
+            Call::OpenAt {
+                path: *path,
+                mode: *mode,
+            },
+        ),
+        Line::Read { proc, fd, count } => (
+            proc,
+            Call::ReadFd {
+                fd: places.fd_of(fd),
+                count: *count,
+            },
+        ),
+        Line::Write { proc, fd, bytes } => (
+            proc,
+            Call::WriteFd {
+                fd: places.fd_of(fd),
+                bytes: bytes.as_slice(),
+            },
+        ),
+        Line::Cut { proc, fd, len } => (
+            proc,
+            Call::CutFd {
+                fd: places.fd_of(fd),
+                len: *len,
+            },
+        ),
+        Line::Seek {
+            proc,
+            fd,
+            at: offset,
+        } => (
+            proc,
+            Call::SeekFd {
+                fd: places.fd_of(fd),
+                at: *offset,
+            },
+        ),
+        Line::Dup { proc, fd, .. } => (
+            proc,
+            Call::DupFd {
+                fd: places.fd_of(fd),
+            },
+        ),
+        Line::Close { proc, fd } => (
+            proc,
+            Call::CloseFd {
+                fd: places.fd_of(fd),
+            },
+        ),
+        Line::Pipe { proc, .. } => (proc, Call::MakePipe),
+        Line::Mkdir { proc, path } => (proc, Call::MakeDir { path: *path }),
+        Line::Link { proc, target, path } => (
+            proc,
+            Call::LinkAt {
+                target: *target,
+                path: *path,
+            },
+        ),
+        Line::Unlink { proc, path } => (proc, Call::UnlinkAt { path: *path }),
+        Line::Rmdir { proc, path } => (proc, Call::RemoveDir { path: *path }),
+        Line::Chdir { proc, path } => (proc, Call::ChangeDir { path: *path }),
+        Line::Stat { proc, path } => (proc, Call::StatAt { path: *path }),
+        Line::List { proc, path, index } => (
+            proc,
+            Call::ListAt {
+                path: *path,
+                index: *index,
+            },
+        ),
+        Line::Fork { proc, keep, .. } => (
+            proc,
+            Call::Fork {
+                keep: places.keep_of(keep),
+            },
+        ),
+        Line::Exec { proc, path } => (proc, Call::Exec { path: *path }),
+        Line::Exit { proc, status } => (
+            proc,
+            Call::Exit {
+                status: (*status).min(255) as u8,
+            },
+        ),
+        Line::Wait { proc } => (proc, Call::WaitChild),
+        Line::Labelof { proc, path } => (proc, Call::LabelOf { path: *path }),
+        Line::Self_ { proc } => (proc, Call::SelfLabel),
+        Line::Setlabel { proc, path, label } => (
+            proc,
+            Call::SetLabel {
+                path: *path,
+                label: *label,
+            },
+        ),
+        Line::Setself { proc, label } => (proc, Call::SetSelf { label: *label }),
+        Line::Freeze { proc, path } => (proc, Call::Freeze { path: *path }),
+        Line::Freezeself { proc } => (proc, Call::FreezeSelf),
+        Line::Thaw { proc, path } => (proc, Call::Thaw { path: *path }),
+        Line::Thawself { proc } => (proc, Call::ThawSelf),
+        Line::Setpriv {
+            proc,
+            path,
+            cap,
+            lic,
+        } => (
+            proc,
+            Call::SetPriv {
+                path: *path,
+                cap: *cap,
+                lic: *lic,
+            },
+        ),
+        Line::Droplic { proc, set } => (proc, Call::DropLic { set: *set }),
+        Line::Grant { proc, to, set } => (
+            proc,
+            Call::GrantLic {
+                pid: places.pid_of(header, to),
+                set: *set,
+            },
+        ),
+        Line::Ceiling { proc, of, label } => (
+            proc,
+            Call::SetCeiling {
+                pid: places.pid_of(header, of),
+                label: *label,
+            },
+        ),
+        Line::Pex { proc, fd } => (
+            proc,
+            Call::Pex {
+                fd: places.fd_of(fd),
+            },
+        ),
+        Line::Unpex { proc, fd } => (
+            proc,
+            Call::Unpex {
+                fd: places.fd_of(fd),
+            },
+        ),
+        Line::Readlog { proc, index } => (proc, Call::ReadLog { index: *index }),
+        Line::Copy {
+            proc,
+            from,
+            count,
+            ..
+        } => (
+            proc,
+            Call::ReadFd {
+                fd: places.fd_of(from),
+                count: *count,
+            },
+        ),
+        _ => return None,
+    };
+    Some(Entry {
+        seat,
+        line: number,
+        pid: places.pid_of(header, proc),
+        call,
+    })
+}
+
+/// How many bytes a reply says were read.
+pub fn count_in(reply: &Reply) -> usize
+    ensures { result ≡ count_in reply.now }
+{
+    match reply {
+        Reply::Bytes(k) => *k as usize,
+        _ => 0,
+    }
+}
+
+/// The second entry that a line of a seat's lane asks for, once its first one was answered and the bytes that it gave are
+/// at the front of a buffer.
+#[tactic(auto, unfolding(crate::specs::asking::Asked::asked_then))]
+pub fn entry_then<'a>(
+    header: &Numbers<u32>,
+    places: &Places,
+    seat: u32,
+    number: u32,
+    line: &Line,
+    reply: &Reply,
+    buf: &'a Buf,
+) -> Option<Entry<'a>>
+    requires { count_in reply.now ≤ 4096 }
+    ensures { option_map event_of result ≡ option_map (entry_of seat number)
+        (asked_then header.now (standing places.now) line.now (record { reply = reply.now; bytes = take (count_in reply.now) buf.now })) }
+{
+    let Line::Copy { proc, to, .. } = line else {
+        return None;
+    };
+    let count = count_in(reply);
+    if count == 0 {
+        return None;
+    }
+    Some(Entry {
+        seat,
+        line: number,
+        pid: places.pid_of(header, proc),
+        call: Call::WriteFd {
+            fd: places.fd_of(to),
+            bytes: &buf[..count],
+        },
+    })
+}
+
+/// The descriptor that a reply says, or one that no process has.
+fn fd_in(reply: &Reply) -> u8
+    ensures { result ≡ number_in 255 255 reply.now }
+{
+    match reply {
+        Reply::Number(n) => { if *n > 255 { 255 } else { *n as u8 } }
+        _ => 255,
+    }
+}
+
+/// The pid that a reply says, or one that no process has.
+fn pid_in(reply: &Reply) -> u32
+    ensures { result ≡ number_in 4294967295 0 reply.now }
+{
+    match reply {
+        Reply::Number(n) => { if *n > 4294967295 { 0 } else { *n as u32 } }
+        _ => 0,
+    }
+}
+
+/// The descriptors of both ends that a reply says, or twice one that no process has.
+fn fds_in(reply: &Reply) -> (u8, u8)
+    ensures first { result.0 ≡ first_in reply.now }
+    ensures second { result.1 ≡ second_in reply.now }
+{
+    match reply {
+        Reply::Two(first, second) => (first.0, second.0),
+        _ => (255, 255),
+    }
+}
+
+/// Lets a name, if there is one, stand for the descriptor that the reply says.
+fn bind_fd(fds: &mut Numbers<Option<u8>>, name: &Option<Name>, reply: &Reply)
+    requires { has_all fds.old (listed name.now) ≡ true }
+    ensures set { given fds.new ≡ bound name.now (number_in 255 255 reply.now) (given fds.old) }
+    ensures keeps { KeepsNames fds.old fds.new }
+{
+    if let Some(name) = name {
+        fill(fds, name, fd_in(reply));
+    }
+}
+
+/// Lets a name, if there is one, stand for the pid that the reply says.
+fn bind_proc(procs: &mut Numbers<Option<u32>>, name: &Option<Name>, reply: &Reply)
+    requires { has_all procs.old (listed name.now) ≡ true }
+    ensures set { given procs.new ≡ bound name.now (number_in 4294967295 0 reply.now) (given procs.old) }
+    ensures keeps { KeepsNames procs.old procs.new }
+{
+    if let Some(name) = name {
+        fill(procs, name, pid_in(reply));
+    }
+}
+
+/// Lets the names of both ends of a pipe, if there are any, stand for what the reply says.
+fn bind_both(fds: &mut Numbers<Option<u8>>, two: &Option<(Name, Name)>, reply: &Reply)
+    requires { has_all fds.old (listed_two two.now) ≡ true }
+    ensures set { given fds.new ≡ both_bound two.now reply.now (given fds.old) }
+    ensures keeps { KeepsNames fds.old fds.new }
+{
+    if let Some((first_name, second_name)) = two {
+        let (first, second) = fds_in(reply);
+        fill(fds, first_name, first);
+        fill(fds, second_name, second);
+    }
+}
+
+/// Lets the names that stand after `as`, if any do, stand for what the reply says.
+#[tactic(auto, unfolding(crate::specs::asking::Asked::named, crate::specs::asking::Places::has_places))]
+pub fn bind(places: &mut Places, line: &Line, reply: &Reply)
+    requires { has_places places.old line.now ≡ true }
+    ensures set { standing places.new ≡ named (standing places.old) line.now reply.now }
+    ensures keeps { KeepsPlaces places.old places.new }
+{
+    match line {
+        Line::Open { named, .. } => bind_fd(&mut places.fds, named, reply),
+        Line::Dup { named, .. } => bind_fd(&mut places.fds, named, reply),
+        Line::Pipe { named, .. } => bind_both(&mut places.fds, named, reply),
+        Line::Fork { named, .. } => bind_proc(&mut places.procs, named, reply),
+        _ => {}
+    }
+}

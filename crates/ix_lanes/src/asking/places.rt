@@ -1,0 +1,140 @@
+ghost use Rattle.std.specs.Prelude.{◌≡◌, OnOk, true};
+ghost use Rattle.std.specs.FinMap as map;
+ghost use Rattle.ix_script.specs.lines.Before.{listed, listed_two};
+ghost use Rattle.ix_lanes.specs.asking.Places.{given, has_all, KeepsNames};
+
+use crate::asking::numbers::Numbers;
+use ix_model::{Fd, Keep, Name, NoMemory, Pid};
+use ix_script::{FdWord, KeepWord, Line};
+use std::alloc::Global;
+
+/// What the names of a lane stand for. Each name has a place, which is found beforehand, and in which a number stands once a line
+/// has given it one.
+#[derive(Drop)]
+pub struct Places {
+    pub procs: Numbers<Option<u32>>,
+    pub fds: Numbers<Option<u8>>,
+}
+
+/// What stands in a name's place.
+fn number_of<N: Copy>(names: &Numbers<Option<N>>, name: &Name) -> Option<N>
+    ensures { result ≡ map.get (given names.now) name.now }
+{
+    match names.get(name) {
+        Some(number) => number,
+        None => None,
+    }
+}
+
+/// Finds a name its place, if it has none yet.
+fn add_name<N: Copy>(names: &mut Numbers<Option<N>>, name: &Name) -> Result<(), NoMemory>
+    ensures same { given names.new ≡ given names.old }
+    ensures place { OnOk result (map.contains_key names.new name.now ≡ true) }
+    ensures keeps { KeepsNames names.old names.new }
+{
+    if names.has(name) {
+        return Ok(());
+    }
+    names.set(name, None)
+}
+
+/// Finds a name, if there is one, its place.
+fn add_one<N: Copy>(names: &mut Numbers<Option<N>>, name: &Option<Name>) -> Result<(), NoMemory>
+    ensures same { given names.new ≡ given names.old }
+    ensures place { OnOk result (has_all names.new (listed name.now) ≡ true) }
+    ensures keeps { KeepsNames names.old names.new }
+{
+    match name {
+        Some(name) => add_name(names, name),
+        None => Ok(()),
+    }
+}
+
+/// Finds two names, if they are there, their places.
+fn add_two<N: Copy>(
+    names: &mut Numbers<Option<N>>,
+    two: &Option<(Name, Name)>,
+) -> Result<(), NoMemory>
+    ensures same { given names.new ≡ given names.old }
+    ensures place { OnOk result (has_all names.new (listed_two two.now) ≡ true) }
+    ensures keeps { KeepsNames names.old names.new }
+{
+    let Some((first, second)) = two else {
+        return Ok(());
+    };
+    add_name(names, first)?;
+    add_name(names, second)
+}
+
+/// Puts a number in a name's place.
+pub fn fill<N: Copy>(names: &mut Numbers<Option<N>>, name: &Name, number: N)
+    requires { map.contains_key names.old name.now ≡ true }
+    ensures set { given names.new ≡ map.insert (given names.old) name.now number }
+    ensures keeps { KeepsNames names.old names.new }
+{
+    names.put(name, Some(number));
+}
+
+impl Places {
+    ghost use Rattle.std.specs.Prelude.{◌≡◌, OnOk, true};
+    ghost use Rattle.ix_lanes.specs.asking.Asked.{fd_of, keep_of, no_names, pid_of};
+    ghost use Rattle.ix_lanes.specs.asking.Places.{has_places, KeepsPlaces, standing};
+
+    /// No names.
+    pub fn new(alloc: Global) -> Places
+        ensures { standing result ≡ no_names }
+    {
+        Places {
+            procs: Numbers::new(alloc),
+            fds: Numbers::new(alloc),
+        }
+    }
+
+    /// Finds the names that a line gives their places. Each name stands for what it stood for.
+    #[tactic(auto, unfolding(crate::specs::asking::Places::has_places))]
+    pub fn add(&mut self, line: &Line) -> Result<(), NoMemory>
+        ensures same { standing self.new ≡ standing self.old }
+        ensures places { OnOk result (has_places self.new line.now ≡ true) }
+        ensures keeps { KeepsPlaces self.old self.new }
+    {
+        match line {
+            Line::Open { named, .. } => add_one(&mut self.fds, named),
+            Line::Dup { named, .. } => add_one(&mut self.fds, named),
+            Line::Pipe { named, .. } => add_two(&mut self.fds, named),
+            Line::Fork { named, .. } => add_one(&mut self.procs, named),
+            Line::Login { named, .. } => add_one(&mut self.procs, named),
+            _ => Ok(()),
+        }
+    }
+
+    /// The process of a name: one of the header, or one that the lane gave.
+    pub fn pid_of(&self, header: &Numbers<u32>, name: &Name) -> Pid
+        ensures { result.0 ≡ pid_of header.now (standing self.now) name.now }
+    {
+        match number_of(&self.procs, name) {
+            Some(pid) => Pid(pid),
+            None => Pid(header.get(name).unwrap_or(0)),
+        }
+    }
+
+    /// The descriptor that a word says.
+    pub fn fd_of(&self, word: &FdWord) -> Fd
+        ensures { result.0 ≡ fd_of (standing self.now) word.now }
+    {
+        match word {
+            FdWord::Number(n) => Fd(*n),
+            FdWord::Named(name) => Fd(number_of(&self.fds, name).unwrap_or(255)),
+        }
+    }
+
+    /// Which descriptors a child gets.
+    pub fn keep_of(&self, word: &KeepWord) -> Keep
+        ensures { result ≡ keep_of (standing self.now) word.now }
+    {
+        match word {
+            KeepWord::All => Keep::All,
+            KeepWord::Nothing => Keep::Nothing,
+            KeepWord::One(fd) => Keep::One(self.fd_of(fd)),
+        }
+    }
+}

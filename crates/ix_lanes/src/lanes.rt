@@ -1,0 +1,90 @@
+ghost use Rattle.std.specs.Prelude.{◌≡◌, ◌+◌, ◌<◌, ◌≤◌, IfOk, OnOk, length};
+ghost use Rattle.ix_model.specs.world.Naming.{same_bytes};
+ghost use Rattle.ix_script.specs.lines.Before.{lanes_of, proc_name_told};
+ghost use Rattle.ix_lanes.specs.histories.Serial.{first_names, header_of, numbered, seat_from, seat_after};
+
+use crate::asking::names::Names;
+use crate::asking::numbers::Numbers;
+use crate::lines::line_at;
+use ix_model::{Name, NoMemory};
+use ix_script::{Line, Script};
+use std::alloc::Global;
+
+/// Lets the name of a `proc` line stand for the pid after so many.
+fn add_proc(header: &mut Numbers<u32>, count: u32, line: &Line) -> Result<u32, NoMemory>
+    requires { count < 4294967295 }
+    ensures header { OnOk result (header.new ≡ numbered (count + 1) (proc_name_told line.now) header.old) }
+    ensures count { IfOk result (λ n. (n ≡ count + length (proc_name_told line.now)) × (n ≤ count + 1)) }
+{
+    match line {
+        Line::Proc { name, .. } => {
+            header.set(name, count + 1)?;
+            Ok(count + 1)
+        }
+        _ => Ok(count),
+    }
+}
+
+/// The processes of the header, by their names: they have pids 1, 2 and so on, in order.
+pub fn header_of(alloc: Global, script: &Script) -> Result<Numbers<u32>, NoMemory>
+    ensures { IfOk result (λ header. header ≡ header_of script.now) }
+{
+    let mut header = Numbers::new(alloc);
+    let mut count = 0;
+    for index in 0..script.len() {
+        let Some(line) = line_at(script, index) else {
+            return Err(NoMemory);
+        };
+        count = add_proc(&mut header, count, line)?;
+    }
+    Ok(header)
+}
+
+/// The names of the lanes at first: none.
+pub fn first_names(alloc: Global, script: &Script) -> Result<Vec<Names>, NoMemory>
+    ensures { IfOk result (λ names. names.items ≡ first_names script.now) }
+{
+    let mut lanes = Vec::new(alloc);
+    for seat in 0..script.len() {
+        let Some(_name) = script.lane(seat) else {
+            return Ok(lanes);
+        };
+        if lanes.push(Names::new(alloc)).is_err() {
+            return Err(NoMemory);
+        }
+    }
+    Ok(lanes)
+}
+
+/// Whether these are the bytes of the name.
+fn is_named(name: &Name, bytes: &[u8]) -> bool
+    ensures { result ≡ same_bytes name.now bytes.now }
+{
+    name.as_bytes() == bytes
+}
+
+/// The seat of the lane of a name.
+fn seat_of(script: &Script, name: &Name) -> Option<u32>
+    ensures { result ≡ seat_from 0 name.now (lanes_of script.now) }
+{
+    for seat in 0..script.len() {
+        let Some(lane) = script.lane(seat) else {
+            return None;
+        };
+        if is_named(name, lane) {
+            return Some(seat);
+        }
+    }
+    None
+}
+
+/// The seat of the lane in which the next line stands.
+pub fn seat_after(script: &Script, seat: Option<u32>, line: &Line) -> Option<u32>
+    ensures { result ≡ seat_after (lanes_of script.now) seat line.now }
+{
+    match line {
+        Line::Phase => None,
+        Line::Lane { name } => seat_of(script, name),
+        _ => seat,
+    }
+}

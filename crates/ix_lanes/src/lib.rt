@@ -1,0 +1,17 @@
+//! What the lanes of a script ask for, line by line, the histories that hold it, and runs of lanes.
+#![tactic(auto)]
+
+mod asking;
+mod lanes;
+pub mod laws;
+mod lines;
+mod running;
+
+pub use asking::calls::{count_in, entry_asked, entry_then};
+pub use asking::names::Names;
+pub use asking::numbers::Numbers;
+pub use asking::places::Places;
+pub use lanes::{first_names, header_of, seat_after};
+pub use lines::line_at;
+pub use running::lane_run::LaneRun;
+pub use running::side_by_side::{Lane, run_phase};

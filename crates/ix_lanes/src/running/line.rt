@@ -1,0 +1,87 @@
+ghost use Rattle.std.specs.Prelude.{◌≡◌, ◌≤◌, List, [], ◌∷◌, true, take, IfOk, IfErr, OnOk};
+ghost use Rattle.std.specs.Option.{option_map};
+ghost use Rattle.ix_model.specs.history.Calls.{event_of};
+ghost use Rattle.ix_model.specs.history.Made.{Made};
+ghost use Rattle.ix_model.specs.history.Systems.{FullFor};
+ghost use Rattle.ix_lanes.specs.asking.Asked.{asked_then};
+ghost use Rattle.ix_lanes.specs.asking.Places.{has_places, KeepsPlaces, standing};
+ghost use Rattle.ix_lanes.specs.asking.Replies.{count_in};
+ghost use Rattle.ix_lanes.specs.histories.Serial.{entry_of};
+ghost use Rattle.ix_lanes.specs.running.Lines.{alone, LinesCut, LinesDone, Makes, MakesIt, Stops, StopsAt, made_so};
+
+use crate::asking::calls::{bind, entry_asked, entry_then};
+use crate::asking::numbers::Numbers;
+use crate::asking::places::Places;
+use ix_model::{Answer, Buf, Entry, Reply, Sys};
+use ix_script::Line;
+
+/// Makes a call of the system's seat. `Err` is a stop.
+fn make<S: Sys>(sys: &mut S, entry: &Entry<'_>, buf: &mut Buf) -> Result<Reply, Answer>
+    requires { S.seat sys.old ≡ entry.now.seat }
+    ensures given { IfOk result (λ r. Makes S.seat S.made S.stops S.follows sys.old sys.new (made_so (event_of entry.now) r (take (count_in r) buf.new) ∷ [])) }
+    ensures few { IfOk result (λ r. count_in r ≤ 4096) }
+    ensures stop { IfErr result (λ stop. Stops S.seat S.made S.stops S.stopped S.follows sys.old sys.new [] stop) }
+    ensures full { IfErr result (λ stop. FullFor (event_of entry.now).op stop) }
+{
+    match sys.call(entry.line, entry.pid, &entry.call, buf) {
+        Answer::Given(reply) => Ok(reply),
+        Answer::JournalFull { used, need, cap } => Err(Answer::JournalFull { used, need, cap }),
+        Answer::NoMemory => Err(Answer::NoMemory),
+    }
+}
+
+/// Makes the second call of a line of a seat's lane, if it asks for one once its first call was answered, with the bytes at
+/// the front of the buffer.
+fn make_second<S: Sys>(
+    sys: &mut S,
+    header: &Numbers<u32>,
+    places: &Places,
+    seat: u32,
+    number: u32,
+    line: &Line,
+    reply: &Reply,
+    buf: &Buf,
+) -> Result<(), Answer>
+    requires seat { S.seat sys.old ≡ seat }
+    requires few { count_in reply.now ≤ 4096 }
+    ensures done { OnOk result ((more : List Made) × Makes S.seat S.made S.stops S.follows sys.old sys.new more
+        × MakesIt (option_map (entry_of seat number) (asked_then header.now (standing places.now) line.now
+        (record { reply = reply.now; bytes = take (count_in reply.now) buf.now }))) more) }
+    ensures stop { IfErr result (λ stop. Stops S.seat S.made S.stops S.stopped S.follows sys.old sys.new [] stop) }
+    ensures at { IfErr result (λ stop. StopsAt (option_map (entry_of seat number) (asked_then header.now (standing places.now) line.now
+        (record { reply = reply.now; bytes = take (count_in reply.now) buf.now }))) stop) }
+{
+    let Some(entry) = entry_then(header, places, seat, number, line, reply, buf) else {
+        return Ok(());
+    };
+    let mut spare = [0; 4096];
+    make(sys, &entry, &mut spare)?;
+    Ok(())
+}
+
+/// Makes the calls of a line of a seat's lane, if it asks for any, and binds the names that it gives.
+pub fn run_line<S: Sys>(
+    sys: &mut S,
+    header: &Numbers<u32>,
+    places: &mut Places,
+    seat: u32,
+    number: u32,
+    line: &Line,
+    buf: &mut Buf,
+) -> Result<(), Answer>
+    requires seat { S.seat sys.old ≡ seat }
+    requires places { has_places places.old line.now ≡ true }
+    ensures done { OnOk result ((more : List Made) × Makes S.seat S.made S.stops S.follows sys.old sys.new more
+        × LinesDone header.now seat (standing places.old) (alone number line.now) more (standing places.new)) }
+    ensures cut { IfErr result (λ stop. (more : List Made) × Stops S.seat S.made S.stops S.stopped S.follows sys.old sys.new more stop
+        × LinesCut header.now seat (standing places.old) (alone number line.now) more stop) }
+    ensures keeps { KeepsPlaces places.old places.new }
+{
+    let Some(entry) = entry_asked(header, places, seat, number, line) else {
+        return Ok(());
+    };
+    let reply = make(sys, &entry, buf)?;
+    make_second(sys, header, places, seat, number, line, &reply, buf)?;
+    bind(places, line, &reply);
+    Ok(())
+}

@@ -1,0 +1,105 @@
+ghost use Rattle.std.specs.Prelude.{◌≡◌, All, Option};
+ghost use Rattle.std.specs.Option.{option_or};
+ghost use denote.Param.Send.{IsSync};
+ghost use Rattle.ix_model.specs.declared.reply.Answer.{Answer};
+ghost use Rattle.ix_lanes.specs.running.SideBySide.{AllRun, IsReady, RunsPhase};
+
+use crate::running::lane_run::LaneRun;
+use ix_model::{Answer, Sys};
+use std::thread::{Threads, join_mut};
+
+/// A run of a lane, and what makes its calls.
+#[derive(Drop)]
+pub struct Lane<'a, S> {
+    pub run: LaneRun<'a>,
+    pub sys: S,
+}
+
+/// What runs a phase.
+trait Runner {
+    ghost use Rattle.std.specs.Prelude.{ℕ, Option};
+    ghost use Rattle.ix_model.specs.declared.reply.Answer.{Answer};
+
+    /// It may run the phase of a number.
+    ghost is_ready: { ℕ → Self → Type 0 };
+
+    /// The second state comes of the first by a phase that answers so.
+    ghost runs: { Self → Self → Option Answer → Type 0 };
+
+    /// Runs a phase. `Some` is a stop.
+    fn run_next(&mut self, phase: u32) -> Option<Answer>
+        requires { is_ready phase self.old }
+        ensures { runs self.old self.new result };
+}
+
+impl<'a, S: Sys> Runner for Lane<'a, S> {
+    ghost use Rattle.ix_lanes.specs.running.SideBySide.{IsReady, RunsPhase};
+
+    ghost is_ready = { λ phase l. IsReady S.seat S.made phase l };
+
+    ghost runs = { λ l m answer. RunsPhase S.seat S.made S.stops S.stopped S.follows l m answer };
+
+    fn run_next(&mut self, phase: u32) -> Option<Answer> {
+        self.run.phase(&mut self.sys, phase)
+    }
+}
+
+/// Runs a phase of each, side by side where threads can be started.
+#[cycle(halves)]
+fn run_all<T: Runner + Send, R: Threads + Sync>(
+    rt: &R,
+    runners: &mut [T],
+    phase: u32,
+) -> Option<Answer>
+    requires { All (T.is_ready phase) runners.old }
+    ensures { AllRun T.runs runners.old runners.new result }
+{
+    if runners.len() == 0 {
+        return None;
+    }
+    if runners.len() == 1 {
+        return runners[0].run_next(phase);
+    }
+    let (front, back) = runners.split_at_mut(runners.len() / 2);
+    run_both(rt, front, back, phase)
+}
+
+/// Runs a phase of each of two halves of a list, side by side where a thread can be started.
+#[cycle(halves)]
+fn run_both<T: Runner + Send, R: Threads + Sync>(
+    rt: &R,
+    front: &mut [T],
+    back: &mut [T],
+    phase: u32,
+) -> Option<Answer>
+    requires front { All (T.is_ready phase) front.old }
+    requires back { All (T.is_ready phase) back.old }
+    ensures { (first : Option Answer) × (second : Option Answer) × AllRun T.runs front.old front.new first
+        × AllRun T.runs back.old back.new second × (result ≡ option_or first second) }
+{
+    let (first, second) = join_mut(
+        rt,
+        &mut || -> Option<Answer>
+            requires { IsSync R.row × All (T.is_ready phase) front.now }
+            ensures { AllRun T.runs front.entry.now front.exit.now result }
+        { run_all(rt, front, phase) },
+        &mut || -> Option<Answer>
+            requires { IsSync R.row × All (T.is_ready phase) back.now }
+            ensures { AllRun T.runs back.entry.now back.exit.now result }
+        { run_all(rt, back, phase) },
+    );
+    first.or(second)
+}
+
+/// Runs the next phase of each lane, side by side where threads can be started. `None`: each lane's lines are all done. Else it is
+/// the stop of the first lane in the list that has one. Each lane is left as `LaneRun::phase` leaves it. It takes no memory.
+pub fn run_phase<'a, S: Sys + Send, R: Threads + Sync>(
+    rt: &R,
+    lanes: &mut [Lane<'a, S>],
+    phase: u32,
+) -> Option<Answer>
+    requires { All (IsReady S.seat S.made phase) lanes.old }
+    ensures { AllRun (RunsPhase S.seat S.made S.stops S.stopped S.follows) lanes.old lanes.new result }
+{
+    run_all(rt, lanes, phase)
+}
