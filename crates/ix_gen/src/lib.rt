@@ -1,0 +1,9 @@
+//! The generator: a session script with any number of commands, the same text at each call.
+#![tactic(auto)]
+
+mod generator;
+pub mod laws;
+#[cfg(test)]
+mod tests;
+
+pub use generator::text;
