@@ -1,1 +1,3 @@
 pub mod Further
+pub mod Items
+pub mod Pairs

@@ -8,8 +8,9 @@ ghost use Rattle.ix_script.specs.texts.Spellings.{mode_text, privs_text};
 ghost use Rattle.ix_report.specs.Words.{keep_text};
 ghost use Rattle.ix_report.specs.CallText.{call_text};
 
+use crate::labels::push_label;
 use crate::line::Line;
-use crate::pieces::{push_hex, push_label, push_number, push_path, push_privs};
+use crate::pieces::{push_hex, push_number, push_path, push_privs};
 use ix_label::Label;
 use ix_model::{Call, Fd, Keep, Mode, NoMemory, Path, Pid, PrivSet};
 use ix_script::text::mode_word;
@@ -29,7 +30,7 @@ fn push_with_number(line: &mut Line, word: &[u8], pid: Pid, n: u32) -> Result<()
     ensures text { OnOk result (line.new.text ≡ line.old.text ++ (word.now ++ decimal pid.0 ++ codes " " ++ decimal n)) }
 {
     push_command(line, word, pid)?;
-    line.push(b" ")?;
+    line.push_byte(b' ')?;
     push_number(line, u64::from(n))
 }
 
@@ -54,7 +55,7 @@ fn push_with_fd_number(
         ++ (word.now ++ decimal pid.0 ++ codes " " ++ decimal fd.0 ++ codes " " ++ decimal n)) }
 {
     push_with_fd(line, word, pid, fd)?;
-    line.push(b" ")?;
+    line.push_byte(b' ')?;
     push_number(line, u64::from(n))
 }
 
@@ -64,7 +65,7 @@ fn push_with_path(line: &mut Line, word: &[u8], pid: Pid, path: &Path) -> Result
     ensures text { OnOk result (line.new.text ≡ line.old.text ++ (word.now ++ decimal pid.0 ++ codes " " ++ path_text path.now)) }
 {
     push_command(line, word, pid)?;
-    line.push(b" ")?;
+    line.push_byte(b' ')?;
     push_path(line, path)
 }
 
@@ -74,7 +75,7 @@ fn push_with_label(line: &mut Line, word: &[u8], pid: Pid, label: &Label) -> Res
     ensures text { OnOk result (line.new.text ≡ line.old.text ++ (word.now ++ decimal pid.0 ++ codes " " ++ spelling label.now)) }
 {
     push_command(line, word, pid)?;
-    line.push(b" ")?;
+    line.push_byte(b' ')?;
     push_label(line, label)
 }
 
@@ -84,7 +85,7 @@ fn push_with_privs(line: &mut Line, word: &[u8], pid: Pid, set: PrivSet) -> Resu
     ensures text { OnOk result (line.new.text ≡ line.old.text ++ (word.now ++ decimal pid.0 ++ codes " " ++ privs_text set)) }
 {
     push_command(line, word, pid)?;
-    line.push(b" ")?;
+    line.push_byte(b' ')?;
     push_privs(line, set)
 }
 
@@ -105,7 +106,7 @@ fn push_open(line: &mut Line, pid: Pid, path: &Path, mode: Mode) -> Result<(), N
         ++ (codes "open p" ++ decimal pid.0 ++ codes " " ++ path_text path.now ++ codes " " ++ mode_text mode)) }
 {
     push_with_path(line, b"open p", pid, path)?;
-    line.push(b" ")?;
+    line.push_byte(b' ')?;
     line.push(mode_word(mode))
 }
 
@@ -127,7 +128,7 @@ fn push_link(line: &mut Line, pid: Pid, target: &Path, path: &Path) -> Result<()
         ++ (codes "link p" ++ decimal pid.0 ++ codes " " ++ path_text target.now ++ codes " " ++ path_text path.now)) }
 {
     push_with_path(line, b"link p", pid, target)?;
-    line.push(b" ")?;
+    line.push_byte(b' ')?;
     push_path(line, path)
 }
 
@@ -138,7 +139,7 @@ fn push_list(line: &mut Line, pid: Pid, path: &Path, index: u32) -> Result<(), N
         ++ (codes "list p" ++ decimal pid.0 ++ codes " " ++ path_text path.now ++ codes " " ++ decimal index)) }
 {
     push_with_path(line, b"list p", pid, path)?;
-    line.push(b" ")?;
+    line.push_byte(b' ')?;
     push_number(line, u64::from(index))
 }
 
@@ -152,7 +153,7 @@ fn push_fork(line: &mut Line, pid: Pid, keep: Keep) -> Result<(), NoMemory>
         Keep::All => line.push(b" all"),
         Keep::Nothing => line.push(b" none"),
         Keep::One(fd) => {
-            line.push(b" ")?;
+            line.push_byte(b' ')?;
             push_number(line, u64::from(fd.0))
         }
     }
@@ -165,7 +166,7 @@ fn push_set_label(line: &mut Line, pid: Pid, path: &Path, label: &Label) -> Resu
         ++ (codes "setlabel p" ++ decimal pid.0 ++ codes " " ++ path_text path.now ++ codes " " ++ spelling label.now)) }
 {
     push_with_path(line, b"setlabel p", pid, path)?;
-    line.push(b" ")?;
+    line.push_byte(b' ')?;
     push_label(line, label)
 }
 
@@ -183,9 +184,9 @@ fn push_set_priv(
         ++ codes " " ++ privs_text cap ++ codes " " ++ privs_text lic)) }
 {
     push_with_path(line, b"setpriv p", pid, path)?;
-    line.push(b" ")?;
+    line.push_byte(b' ')?;
     push_privs(line, cap)?;
-    line.push(b" ")?;
+    line.push_byte(b' ')?;
     push_privs(line, lic)
 }
 
@@ -196,7 +197,7 @@ fn push_grant(line: &mut Line, pid: Pid, target: Pid, set: PrivSet) -> Result<()
         ++ (codes "grant p" ++ decimal pid.0 ++ codes " p" ++ decimal target.0 ++ codes " " ++ privs_text set)) }
 {
     push_with_process(line, b"grant p", pid, target)?;
-    line.push(b" ")?;
+    line.push_byte(b' ')?;
     push_privs(line, set)
 }
 
@@ -207,7 +208,7 @@ fn push_ceiling(line: &mut Line, pid: Pid, target: Pid, label: &Label) -> Result
         ++ (codes "ceiling p" ++ decimal pid.0 ++ codes " p" ++ decimal target.0 ++ codes " " ++ spelling label.now)) }
 {
     push_with_process(line, b"ceiling p", pid, target)?;
-    line.push(b" ")?;
+    line.push_byte(b' ')?;
     push_label(line, label)
 }
 

@@ -2,6 +2,7 @@
 #![tactic(auto)]
 
 mod calls;
+mod labels;
 mod line;
 mod pieces;
 mod refusals;

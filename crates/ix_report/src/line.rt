@@ -1,4 +1,4 @@
-ghost use Rattle.std.specs.Prelude.{◌≡◌, ◌++◌, [], OnOk, OnErr};
+ghost use Rattle.std.specs.Prelude.{◌≡◌, ◌++◌, [], ◌∷◌, OnOk, OnErr};
 
 use ix_model::NoMemory;
 use std::marker::Model;
@@ -40,6 +40,17 @@ impl Line {
         ensures text { OnOk result (self.new.text ≡ self.old.text ++ bytes.now) }
     {
         match self.bytes.extend_from_slice(bytes) {
+            Ok(()) => Ok(()),
+            Err(_) => Err(NoMemory),
+        }
+    }
+
+    /// Writes one byte at the line's end, as `push` does.
+    pub fn push_byte(&mut self, byte: u8) -> Result<(), NoMemory>
+        ensures stays { self.new.before ≡ self.old.before }
+        ensures text { OnOk result (self.new.text ≡ self.old.text ++ byte ∷ []) }
+    {
+        match self.bytes.push(byte) {
             Ok(()) => Ok(()),
             Err(_) => Err(NoMemory),
         }

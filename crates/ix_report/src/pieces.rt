@@ -1,34 +1,57 @@
-ghost use Rattle.std.specs.Prelude.{◌≡◌, ◌++◌, OnOk, codes};
+ghost use Rattle.std.specs.Prelude.{◌≡◌, ◌*◌, ◌≤◌, ◌++◌, length, take, OnOk, codes};
 ghost use Rattle.std.specs.Fmt.{decimal};
-ghost use Rattle.ix_label.specs.Spelling.{spelling};
 ghost use Rattle.ix_script.specs.texts.Spellings.{hex_pair, privs_text};
 ghost use Rattle.ix_report.specs.Hex.{hex};
 ghost use Rattle.ix_report.specs.Names.{name_byte, name_text, names_text, path_text};
 
 use crate::line::Line;
 use itoa::Buffer;
-use ix_label::Label;
 use ix_model::{Name, NoMemory, Path, PrivSet};
-use ix_script::text::{hex_pair, label_text, privs_text};
+use ix_script::text::{hex_pair, privs_text};
 
-/// A number in decimal.
+/// A number in decimal. One of a single digit takes a short way.
+#[tactic(auto, using(std::proofs::lemmas::Fmt::decimal_digit))]
 pub fn push_number(line: &mut Line, n: u64) -> Result<(), NoMemory>
     ensures stays { line.new.before ≡ line.old.before }
     ensures text { OnOk result (line.new.text ≡ line.old.text ++ decimal n) }
 {
+    if n < 10 {
+        return line.push_byte(b'0' + n as u8);
+    }
     let mut digits = Buffer::new();
     line.push(digits.format(n).as_bytes())
 }
 
-/// Bytes as pairs of small hexadecimal digits.
+/// Bytes as pairs of small hexadecimal digits, 32 bytes at a time.
+#[tactic(auto, using(crate::proofs::Pairs::parts_hex))]
 pub fn push_hex(line: &mut Line, bytes: &[u8]) -> Result<(), NoMemory>
     ensures stays { line.new.before ≡ line.old.before }
     ensures text { OnOk result (line.new.text ≡ line.old.text ++ hex bytes.now) }
 {
-    for byte in bytes {
-        line.push(&hex_pair(*byte))?;
+    let mut pairs = [0; 64];
+    let mut rest = bytes;
+    'parts: while !rest.is_empty() {
+        let (part, more) = rest.split_at(rest.len().min(32));
+        fill_pairs(&mut pairs, part);
+        line.push(&pairs[..2 * part.len()])?;
+        rest = more;
     }
     Ok(())
+}
+
+/// The pairs of at most 32 bytes, from the front of an array on.
+#[tactic(auto, using(crate::proofs::Pairs::take_two))]
+fn fill_pairs(pairs: &mut [u8; 64], part: &[u8])
+    requires { length part.now ≤ 32 }
+    ensures { take (2 * length part.now) pairs.new ≡ hex part.now }
+{
+    let mut at = 0;
+    for byte in part {
+        let pair = hex_pair(*byte);
+        pairs[at] = pair[0];
+        pairs[at + 1] = pair[1];
+        at += 2;
+    }
 }
 
 /// A byte of a name, as it is or escaped.
@@ -37,7 +60,7 @@ fn push_name_byte(line: &mut Line, byte: u8) -> Result<(), NoMemory>
     ensures text { OnOk result (line.new.text ≡ line.old.text ++ name_byte byte) }
 {
     if (0x21..=0x7e).contains(&byte) && byte != b'"' && byte != b'\\' {
-        return line.push(&[byte]);
+        return line.push_byte(byte);
     }
     line.push(b"\\x")?;
     line.push(&hex_pair(byte))
@@ -59,7 +82,7 @@ fn push_further(line: &mut Line, name: &Name) -> Result<(), NoMemory>
     ensures stays { line.new.before ≡ line.old.before }
     ensures text { OnOk result (line.new.text ≡ line.old.text ++ (codes "/" ++ name_text name.now)) }
 {
-    line.push(b"/")?;
+    line.push_byte(b'/')?;
     push_name(line, name)
 }
 
@@ -89,21 +112,13 @@ pub fn push_path(line: &mut Line, path: &Path) -> Result<(), NoMemory>
     ensures text { OnOk result (line.new.text ≡ line.old.text ++ path_text path.now) }
 {
     if path.absolute() {
-        line.push(b"/")?;
+        line.push_byte(b'/')?;
         return push_joined(line, path);
     }
     if path.len() == 0 {
-        return line.push(b".");
+        return line.push_byte(b'.');
     }
     push_joined(line, path)
-}
-
-/// A label in its one spelling. A report counts no looks at labels.
-pub fn push_label(line: &mut Line, label: &Label) -> Result<(), NoMemory>
-    ensures stays { line.new.before ≡ line.old.before }
-    ensures text { OnOk result (line.new.text ≡ line.old.text ++ spelling label.now) }
-{
-    line.push(label_text(label).as_bytes())
 }
 
 /// A set of privileges: a dash, or letters.

@@ -9,8 +9,9 @@ ghost use Rattle.ix_script.specs.texts.Spellings.{privs_text, state_text};
 ghost use Rattle.ix_report.specs.Words.{act_text, kind_text};
 ghost use Rattle.ix_report.specs.ReplyText.{audit_text, reply_text};
 
+use crate::labels::push_label;
 use crate::line::Line;
-use crate::pieces::{push_hex, push_label, push_name, push_number, push_privs};
+use crate::pieces::{push_hex, push_name, push_number, push_privs};
 use crate::refusals::name_of;
 use crate::words::{act_word, kind_word};
 use ix_label::Label;
@@ -31,9 +32,9 @@ fn push_both_privs(line: &mut Line, cap: PrivSet, lic: PrivSet) -> Result<(), No
     ensures stays { line.new.before ≡ line.old.before }
     ensures text { OnOk result (line.new.text ≡ line.old.text ++ (codes " " ++ privs_text cap ++ codes " " ++ privs_text lic)) }
 {
-    line.push(b" ")?;
+    line.push_byte(b' ')?;
     push_privs(line, cap)?;
-    line.push(b" ")?;
+    line.push_byte(b' ')?;
     push_privs(line, lic)
 }
 
@@ -69,7 +70,7 @@ fn push_object_size(
         ++ (codes "stat " ++ decimal obj.0 ++ codes " " ++ kind_text kind ++ codes " " ++ decimal size ++ codes " " ++ decimal links)) }
 {
     push_word_number(line, b"stat ", u64::from(obj.0))?;
-    line.push(b" ")?;
+    line.push_byte(b' ')?;
     line.push(kind_word(kind))?;
     push_word_number(line, b" ", size)?;
     push_word_number(line, b" ", u64::from(links))
@@ -81,7 +82,7 @@ fn push_state(line: &mut Line, frozen: bool, cap: PrivSet, lic: PrivSet) -> Resu
     ensures text { OnOk result (line.new.text ≡ line.old.text
         ++ (codes " " ++ state_text frozen ++ codes " " ++ privs_text cap ++ codes " " ++ privs_text lic)) }
 {
-    line.push(b" ")?;
+    line.push_byte(b' ')?;
     line.push(state_word(frozen))?;
     push_both_privs(line, cap, lic)
 }
@@ -103,9 +104,9 @@ fn push_whole(line: &mut Line, pid: Pid, label: &Label, lic: PrivSet) -> Result<
         ++ (codes "whole p" ++ decimal pid.0 ++ codes " " ++ spelling label.now ++ codes " " ++ privs_text lic)) }
 {
     push_word_number(line, b"whole p", u64::from(pid.0))?;
-    line.push(b" ")?;
+    line.push_byte(b' ')?;
     push_label(line, label)?;
-    line.push(b" ")?;
+    line.push_byte(b' ')?;
     push_privs(line, lic)
 }
 
@@ -124,7 +125,7 @@ fn push_refusal(line: &mut Line, why: Refusal) -> Result<(), NoMemory>
     ensures text { OnOk result (line.new.text ≡ line.old.text ++ (codes "no " ++ decimal (number_of why) ++ codes " " ++ refusal_text why)) }
 {
     push_word_number(line, b"no ", u64::from(why.number()))?;
-    line.push(b" ")?;
+    line.push_byte(b' ')?;
     line.push(name_of(why))
 }
 
@@ -137,7 +138,7 @@ fn push_act(line: &mut Line, audit: &AuditLine) -> Result<(), NoMemory>
 {
     push_number(line, u64::from(audit.place))?;
     push_word_number(line, b" p", u64::from(audit.pid.0))?;
-    line.push(b" ")?;
+    line.push_byte(b' ')?;
     line.push(act_word(audit.act))?;
     push_word_number(line, b" ", u64::from(audit.target))
 }
@@ -149,9 +150,9 @@ pub fn push_audit(line: &mut Line, audit: &AuditLine) -> Result<(), NoMemory>
     ensures text { OnOk result (line.new.text ≡ line.old.text ++ audit_text audit.entry.now) }
 {
     push_act(line, audit)?;
-    line.push(b" ")?;
+    line.push_byte(b' ')?;
     push_label(line, &audit.was)?;
-    line.push(b" ")?;
+    line.push_byte(b' ')?;
     push_label(line, &audit.now)?;
     push_both_privs(line, audit.cap, audit.lic)
 }

@@ -5,8 +5,9 @@ ghost use Rattle.ix_report.specs.ReplyText.{AreBytesOf};
 ghost use Rattle.ix_report.specs.LineText.{audit_line, entry_line, head_line, object_line, process_line, seen_text, tail_line};
 
 use crate::calls::push_call;
+use crate::labels::push_label;
 use crate::line::Line;
-use crate::pieces::{push_label, push_number};
+use crate::pieces::push_number;
 use crate::replies::{push_audit, push_reply};
 use crate::words::{kind_word, life_word};
 use ix_label::Label;
@@ -114,17 +115,17 @@ fn push_entry(
         ++ entry_line place lane.now (event_of entry.now) reply.now bytes.now (option_copied label.entry)) }
 {
     push_number(line, u64::from(place))?;
-    line.push(b" ")?;
+    line.push_byte(b' ')?;
     line.push(lane)?;
-    line.push(b" ")?;
+    line.push_byte(b' ')?;
     push_number(line, u64::from(entry.line))?;
-    line.push(b" ")?;
+    line.push_byte(b' ')?;
     push_call(line, entry.pid, &entry.call)?;
     line.push(b" = ")?;
     push_reply(line, reply, bytes)?;
     line.push(b" @ ")?;
     push_seen(line, label)?;
-    line.push(b"\n")
+    line.push_byte(b'\n')
 }
 
 /// The line of an object.
@@ -134,13 +135,13 @@ fn push_object(line: &mut Line, number: u32, view: &ObjView) -> Result<(), NoMem
     ensures text { OnOk result (line.new.text ≡ line.old.text ++ object_line number view.now) }
 {
     push_number(line, u64::from(number))?;
-    line.push(b" ")?;
+    line.push_byte(b' ')?;
     line.push(kind_word(view.kind))?;
-    line.push(b" ")?;
+    line.push_byte(b' ')?;
     push_label(line, &view.label)?;
-    line.push(b" ")?;
+    line.push_byte(b' ')?;
     line.push(state_word(view.frozen))?;
-    line.push(b"\n")
+    line.push_byte(b'\n')
 }
 
 /// The line of a process.
@@ -149,13 +150,13 @@ fn push_process(line: &mut Line, pid: Pid, view: &ProcView) -> Result<(), NoMemo
     ensures stays { line.new.before ≡ line.old.before }
     ensures text { OnOk result (line.new.text ≡ line.old.text ++ process_line pid.0 view.now) }
 {
-    line.push(b"p")?;
+    line.push_byte(b'p')?;
     push_number(line, u64::from(pid.0))?;
-    line.push(b" ")?;
+    line.push_byte(b' ')?;
     push_label(line, &view.label)?;
-    line.push(b" ")?;
+    line.push_byte(b' ')?;
     line.push(life_word(view.ended))?;
-    line.push(b"\n")
+    line.push_byte(b'\n')
 }
 
 /// A line of the audit log.
@@ -165,7 +166,7 @@ fn push_audit_line(line: &mut Line, audit: &AuditLine) -> Result<(), NoMemory>
     ensures text { OnOk result (line.new.text ≡ line.old.text ++ audit_line audit.entry.now) }
 {
     push_audit(line, audit)?;
-    line.push(b"\n")
+    line.push_byte(b'\n')
 }
 
 /// The last line.
@@ -176,7 +177,7 @@ fn push_tail(line: &mut Line, entries: u32, lines: u32) -> Result<(), NoMemory>
 {
     line.push(b"end ")?;
     push_number(line, u64::from(entries))?;
-    line.push(b" ")?;
+    line.push_byte(b' ')?;
     push_number(line, u64::from(lines))?;
-    line.push(b"\n")
+    line.push_byte(b'\n')
 }

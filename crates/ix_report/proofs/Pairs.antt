@@ -1,0 +1,19 @@
+-- Bytes as pairs of digits.
+use Rattle.std.proofs.Common.{◌≡◌, ℕ, suc, ◌+◌, ◌<◌, List, [], ◌∷◌, ◌++◌, length, take, drop, refl, sym, ap, ◌∙◌, arith, append_assoc}
+use Rattle.std.proofs.Math.ListN.{set, length-set}
+use Rattle.std.proofs.Math.Seq.{take-suc-set}
+use Rattle.std.proofs.lemmas.List.{take-append-drop}
+use Rattle.std.proofs.lemmas.Grind.{flat_map-append}
+use Rattle.ix_script.specs.texts.Spellings.{hex_pair}
+use Rattle.ix_report.specs.Hex.{hex}
+
+-- two stores, one after the other
+pub take_two : (xs : List ℕ) (n a b : ℕ) → n + 1 < length xs → take (n + 2) (set (set xs n a) (n + 1) b) ≡ take n xs ++ a ∷ b ∷ []
+take_two xs n a b h =
+    let one : n + 1 ≡ suc n = omega arith in
+    let two : n + 2 ≡ suc (suc n) = omega arith in
+    rw (one, two, take-suc-set (set xs n a) (suc n) b (omega (arith, length-set {A = ℕ})), take-suc-set xs n a (omega arith), append_assoc) refl
+
+-- the first bytes, and the others
+pub parts_hex : (bytes : List ℕ) (n : ℕ) → hex (take n bytes) ++ hex (drop n bytes) ≡ hex bytes
+parts_hex bytes n = sym (flat_map-append hex_pair (take n bytes) (drop n bytes)) ∙ ap hex (take-append-drop n bytes)
