@@ -1,4 +1,4 @@
 mod reader
 pub mod texts
 mod lines
-mod back
+pub mod back

@@ -11,3 +11,5 @@ pub mod Counting
 pub mod Whole
 pub mod Planning
 pub mod Told
+pub mod Packing
+pub mod Walking

@@ -7,3 +7,4 @@ pub mod Spelling
 pub mod AllLabels
 pub mod Further
 pub mod Cuts
+pub mod Words

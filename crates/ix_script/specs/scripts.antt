@@ -3,3 +3,4 @@ pub mod Scripts
 pub mod Canonical
 pub mod Laws
 pub mod Held
+pub mod Packed

@@ -5,4 +5,5 @@ pub mod Words
 pub mod Payloads
 pub mod Spellings
 pub mod PayloadForms
+pub mod PayloadBytes
 pub mod Spelled

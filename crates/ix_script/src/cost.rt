@@ -4,6 +4,7 @@ ghost use Rattle.ix_script.specs.scripts.Need.{cost_of_line, need};
 
 use crate::before::body::is_command;
 use crate::line::Line;
+use crate::packed::Lines;
 
 /// What an entry costs besides its words.
 const ENTRY: u64 = 128;
@@ -16,12 +17,12 @@ const LOGIN: u64 = 1168;
 
 /// What the entries of a line cost, at the most.
 #[tactic(auto, unfolding(crate::specs::scripts::Need::cost_of_line))]
-fn cost_of_line(line: &Line) -> u64
+fn cost_of_line(line: &Line<'_>) -> u64
     ensures { result ≡ cost_of_line line.now }
 {
     match line {
-        Line::Write { bytes, .. } => ENTRY + bytes.as_slice().len() as u64,
-        Line::Link { target, path, .. } => ENTRY + (target.cost() + path.cost()),
+        Line::Write { bytes, .. } => ENTRY + bytes.len() as u64,
+        Line::Link { target, path, .. } => ENTRY + (target.path().cost() + path.path().cost()),
         Line::Create { path, .. }
         | Line::Open { path, .. }
         | Line::Mkdir { path, .. }
@@ -35,7 +36,7 @@ fn cost_of_line(line: &Line) -> u64
         | Line::Setlabel { path, .. }
         | Line::Freeze { path, .. }
         | Line::Thaw { path, .. }
-        | Line::Setpriv { path, .. } => ENTRY + path.cost(),
+        | Line::Setpriv { path, .. } => ENTRY + path.path().cost(),
         Line::Copy { count, .. } => 2 * ENTRY + (*count).min(4096) as u64,
         Line::Priv { .. } => PRIV,
         Line::Login { .. } => LOGIN,
@@ -44,20 +45,23 @@ fn cost_of_line(line: &Line) -> u64
 }
 
 /// What a line costs that costs no more than an entry.
-fn cost_of_plain(line: &Line) -> u64
+fn cost_of_plain(line: &Line<'_>) -> u64
     ensures { result ≡ (if is_command line.now then 128 else 0) }
 {
     if is_command(line) { ENTRY } else { 0 }
 }
 
 /// What the entries of these lines cost, at the most.
-pub(crate) fn cost_of_lines(lines: &[Line]) -> u64
+pub(crate) fn cost_of_lines(lines: &Lines) -> u64
     requires { need lines.now ≤ 870400000 }
     ensures { result ≡ need lines.now }
 {
     let mut cost = 0;
-    'lines: for line in lines {
-        cost += cost_of_line(line);
+    'lines: for index in 0..lines.len() {
+        let Some(line) = lines.get(index) else {
+            return cost;
+        };
+        cost += cost_of_line(&line);
     }
     cost
 }

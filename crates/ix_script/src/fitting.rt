@@ -98,46 +98,46 @@ impl Draft {
     }
 
     /// Whether a label is not below its ceiling.
-    pub fn is_above<L: Ledger>(&self, line: &Line, steps: &mut Steps<L>) -> bool
+    pub fn is_above<L: Ledger>(&self, line: &Line<'_>, steps: &mut Steps<L>) -> bool
         requires told { DraftTold self.now }
         ensures { result ≡ is_above self.now.lines line.now }
     {
         let fss = self.header.fss.as_slice();
         match line {
             Line::Proc { label, ceiling, .. } => !label.leq(ceiling, steps),
-            Line::Dir { path, label, .. } => is_above_fs(fss, path, label, steps),
-            Line::File { path, label, .. } => is_above_fs(fss, path, label, steps),
+            Line::Dir { path, label, .. } => is_above_fs(fss, &path.path(), label, steps),
+            Line::File { path, label, .. } => is_above_fs(fss, &path.path(), label, steps),
             _ => false,
         }
     }
 
     /// Whether a path does not fit the tree.
-    pub fn misfits(&self, line: &Line) -> bool
+    pub fn misfits(&self, line: &Line<'_>) -> bool
         requires told { DraftTold self.now }
         ensures { result ≡ misfits self.now.lines line.now }
     {
         match line {
-            Line::Dir { path, .. } => self.misfits_tree(path),
-            Line::File { path, .. } => self.misfits_tree(path),
+            Line::Dir { path, .. } => self.misfits_tree(&path.path()),
+            Line::File { path, .. } => self.misfits_tree(&path.path()),
             _ => false,
         }
     }
 
     /// Whether there is no room.
-    pub fn crowds(&self, line: &Line) -> bool
+    pub fn crowds(&self, line: &Line<'_>) -> bool
         requires told { DraftTold self.now }
         ensures { result ≡ crowds self.now.lines line.now }
     {
         match line {
             Line::Proc { .. } => self.header.procs.len() >= self.header.limits.procs as usize,
-            Line::Dir { path, .. } => self.lacks_room(path, 0),
-            Line::File { path, bytes, .. } => self.lacks_room(path, bytes.len()),
+            Line::Dir { path, .. } => self.lacks_room(&path.path(), 0),
+            Line::File { path, bytes, .. } => self.lacks_room(&path.path(), bytes.len()),
             _ => false,
         }
     }
 
     /// Whether a header line is out of order.
-    pub fn is_out_of_order(&self, line: &Line) -> bool
+    pub fn is_out_of_order(&self, line: &Line<'_>) -> bool
         requires told { DraftTold self.now }
         ensures { result ≡ is_out_of_order self.now.lines line.now }
     {
@@ -156,7 +156,7 @@ impl Draft {
     }
 
     /// Whether there are too many.
-    pub fn is_one_too_many(&self, line: &Line) -> bool
+    pub fn is_one_too_many(&self, line: &Line<'_>) -> bool
         requires told { DraftTold self.now }
         ensures { result ≡ is_one_too_many self.now.lines line.now }
     {
@@ -168,7 +168,7 @@ impl Draft {
     }
 
     /// Whether there is no policy.
-    pub fn lacks_policy(&self, line: &Line) -> bool
+    pub fn lacks_policy(&self, line: &Line<'_>) -> bool
         requires told { DraftTold self.now }
         ensures { result ≡ lacks_policy self.now.lines line.now }
     {

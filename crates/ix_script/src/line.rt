@@ -1,5 +1,8 @@
+use crate::values::paths::PathWord;
+use crate::values::payload::Payload;
+use crate::values::policy::PolicyText;
 use ix_label::Label;
-use ix_model::{Bytes, Mode, Name, Path, PrivSet};
+use ix_model::{Mode, Name, PrivSet};
 
 /// What a `limit` line limits.
 #[derive(Clone, Copy, Debug, PartialEq, Eq)]
@@ -27,9 +30,9 @@ pub enum KeepWord {
     One(FdWord),
 }
 
-/// A line of a script. A `named` is what stands after `as`.
+/// A line of a script, which borrows the script's text. A `named` is what stands after `as`.
 #[derive(Drop)]
-pub enum Line {
+pub enum Line<'a> {
     /// An empty line, or one that begins with `#`.
     Skipped,
     /// `ix 1`
@@ -52,20 +55,20 @@ pub enum Line {
         lic: PrivSet,
     },
     Dir {
-        path: Path,
+        path: PathWord<'a>,
         label: Label,
         frozen: bool,
     },
     File {
-        path: Path,
+        path: PathWord<'a>,
         label: Label,
         frozen: bool,
         cap: PrivSet,
         lic: PrivSet,
-        bytes: Bytes,
+        bytes: Payload<'a, 1_048_576>,
     },
     Policy {
-        text: Bytes,
+        text: PolicyText<'a>,
     },
     Phase,
     Lane {
@@ -73,11 +76,11 @@ pub enum Line {
     },
     Create {
         proc: Name,
-        path: Path,
+        path: PathWord<'a>,
     },
     Open {
         proc: Name,
-        path: Path,
+        path: PathWord<'a>,
         mode: Mode,
         named: Option<Name>,
     },
@@ -89,7 +92,7 @@ pub enum Line {
     Write {
         proc: Name,
         fd: FdWord,
-        bytes: Bytes,
+        bytes: Payload<'a, 4096>,
     },
     Cut {
         proc: Name,
@@ -116,32 +119,32 @@ pub enum Line {
     },
     Mkdir {
         proc: Name,
-        path: Path,
+        path: PathWord<'a>,
     },
     Link {
         proc: Name,
-        target: Path,
-        path: Path,
+        target: PathWord<'a>,
+        path: PathWord<'a>,
     },
     Unlink {
         proc: Name,
-        path: Path,
+        path: PathWord<'a>,
     },
     Rmdir {
         proc: Name,
-        path: Path,
+        path: PathWord<'a>,
     },
     Chdir {
         proc: Name,
-        path: Path,
+        path: PathWord<'a>,
     },
     Stat {
         proc: Name,
-        path: Path,
+        path: PathWord<'a>,
     },
     List {
         proc: Name,
-        path: Path,
+        path: PathWord<'a>,
         index: u32,
     },
     Fork {
@@ -151,7 +154,7 @@ pub enum Line {
     },
     Exec {
         proc: Name,
-        path: Path,
+        path: PathWord<'a>,
     },
     Exit {
         proc: Name,
@@ -162,14 +165,14 @@ pub enum Line {
     },
     Labelof {
         proc: Name,
-        path: Path,
+        path: PathWord<'a>,
     },
     Self_ {
         proc: Name,
     },
     Setlabel {
         proc: Name,
-        path: Path,
+        path: PathWord<'a>,
         label: Label,
     },
     Setself {
@@ -178,21 +181,21 @@ pub enum Line {
     },
     Freeze {
         proc: Name,
-        path: Path,
+        path: PathWord<'a>,
     },
     Freezeself {
         proc: Name,
     },
     Thaw {
         proc: Name,
-        path: Path,
+        path: PathWord<'a>,
     },
     Thawself {
         proc: Name,
     },
     Setpriv {
         proc: Name,
-        path: Path,
+        path: PathWord<'a>,
         cap: PrivSet,
         lic: PrivSet,
     },

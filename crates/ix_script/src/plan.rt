@@ -8,7 +8,8 @@ ghost use Rattle.ix_script.specs.declared.line.Line.{Line};
 use crate::before::header::{default_fs, default_limits, limits_after};
 use crate::cost::cost_of_lines;
 use crate::line::Line;
-use crate::rules::kept;
+use crate::packed::Lines;
+use crate::values::payload::Payload;
 use bitflags::Flags;
 use ix_model::{Bytes, Config, FsSpec, Limits, List, NoMemory, ObjSpec, PrivSet, ProcSpec};
 use std::alloc::Global;
@@ -22,7 +23,7 @@ pub(crate) struct Plan {
     pub objects: List<ObjSpec>,
 }
 
-fn add_fs(fss: &mut List<FsSpec>, line: &Line) -> Result<(), NoMemory>
+fn add_fs(fss: &mut List<FsSpec>, line: &Line<'_>) -> Result<(), NoMemory>
     ensures { OnOk result (fss.new ≡ fss.old ++ fs_told line.now) }
 {
     match line {
@@ -41,7 +42,7 @@ fn add_fs(fss: &mut List<FsSpec>, line: &Line) -> Result<(), NoMemory>
     }
 }
 
-fn add_proc(procs: &mut List<ProcSpec>, line: &Line) -> Result<(), NoMemory>
+fn add_proc(procs: &mut List<ProcSpec>, line: &Line<'_>) -> Result<(), NoMemory>
     ensures { OnOk result (procs.new ≡ procs.old ++ proc_told line.now) }
 {
     match line {
@@ -61,7 +62,19 @@ fn add_proc(procs: &mut List<ProcSpec>, line: &Line) -> Result<(), NoMemory>
     }
 }
 
-fn add_object(alloc: Global, objects: &mut List<ObjSpec>, line: &Line) -> Result<(), NoMemory>
+/// The bytes of a file.
+fn decoded(alloc: Global, payload: &Payload<'_, 1_048_576>) -> Result<Bytes, NoMemory>
+    ensures { IfOk result (λ bytes. bytes ≡ payload.now) }
+{
+    let mut bytes = Bytes::new(alloc);
+    let mut left = payload.bytes();
+    'bytes: while let Some(byte) = left.next() {
+        bytes.push(byte)?;
+    }
+    Ok(bytes)
+}
+
+fn add_object(alloc: Global, objects: &mut List<ObjSpec>, line: &Line<'_>) -> Result<(), NoMemory>
     ensures { OnOk result (objects.new ≡ objects.old ++ object_told line.now) }
 {
     match line {
@@ -70,7 +83,7 @@ fn add_object(alloc: Global, objects: &mut List<ObjSpec>, line: &Line) -> Result
             label,
             frozen,
         } => objects.push(ObjSpec {
-            path: *path,
+            path: path.path(),
             dir: true,
             label: *label,
             frozen: *frozen,
@@ -86,9 +99,9 @@ fn add_object(alloc: Global, objects: &mut List<ObjSpec>, line: &Line) -> Result
             lic,
             bytes,
         } => {
-            let bytes = kept(alloc, bytes.as_slice())?;
+            let bytes = decoded(alloc, bytes)?;
             objects.push(ObjSpec {
-                path: *path,
+                path: path.path(),
                 dir: false,
                 label: *label,
                 frozen: *frozen,
@@ -126,7 +139,7 @@ impl Plan {
     }
 
     /// One line more. After an error the plan isn't used.
-    fn add(&mut self, alloc: Global, line: &Line) -> Result<(), NoMemory>
+    fn add(&mut self, alloc: Global, line: &Line<'_>) -> Result<(), NoMemory>
         ensures { OnOk result ((lines : List Line) → IsPlan self.old lines → IsPlan self.new (lines ++ line.now ∷ [])) }
     {
         add_fs(&mut self.fss, line)?;
@@ -137,12 +150,15 @@ impl Plan {
     }
 
     /// What all lines tell.
-    fn of(alloc: Global, lines: &[Line]) -> Result<Plan, NoMemory>
+    fn of(alloc: Global, lines: &Lines) -> Result<Plan, NoMemory>
         ensures { IfOk result (λ p. IsPlan p lines.now) }
     {
         let mut plan = Plan::new(alloc);
-        'lines: for line in lines {
-            plan.add(alloc, line)?;
+        'lines: for index in 0..lines.len() {
+            let Some(line) = lines.get(index) else {
+                return Err(NoMemory);
+            };
+            plan.add(alloc, &line)?;
         }
         Ok(plan)
     }
@@ -150,7 +166,7 @@ impl Plan {
 
 /// What a machine starts from by these lines.
 #[tactic(auto, unfolding(crate::specs::scripts::Scripts::config_of))]
-pub(crate) fn config(alloc: Global, lines: &[Line]) -> Result<Config, NoMemory>
+pub(crate) fn config(alloc: Global, lines: &Lines) -> Result<Config, NoMemory>
     requires { need lines.now ≤ 870400000 }
     ensures { IfOk result (λ c. c ≡ config_of lines.now) }
 {

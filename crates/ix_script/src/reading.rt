@@ -9,7 +9,7 @@ ghost use Rattle.ix_script.specs.reader.Told.{DraftTold};
 
 use crate::before::draft::Draft;
 use crate::fail::{ReadFail, ScriptFault};
-use crate::refused::Refused;
+use crate::rule::Rule;
 use crate::script::Script;
 use bstr::ByteSlice;
 use ix_label::Steps;
@@ -40,23 +40,30 @@ fn draft_of<L: Ledger>(alloc: Global, bytes: &[u8], steps: &mut Steps<L>) -> Res
     ensures few_commands { IfOk result (λ d. commands d.lines ≤ 200000) }
     ensures fail { IfErr result (λ e. HasCause e (fault_from [] (lines_of bytes.now))) }
 {
-    let mut draft = Draft::new(alloc)?;
+    let mut draft = Draft::new(alloc, bytes)?;
     let mut rest = bytes;
     'lines: while !rest.is_empty() {
         let (text, more) = first_line(rest);
         let line = draft.lines.len() as u32 + 1;
-        match draft.next_line(alloc, text, steps) {
-            Ok(said) => {
-                draft.add(alloc, said)?;
-                rest = more;
+        match draft.next_line(text, steps) {
+            Ok(said) => draft.add(alloc, text, &said)?,
+            Err(rule) => {
+                return Err(ReadFail::Fault(ScriptFault { line, rule: rule.0 }));
             }
-            Err(Refused::Breaks(rule)) => {
-                return Err(ReadFail::Fault(ScriptFault { line, rule }));
-            }
-            Err(Refused::NoMemory) => return Err(ReadFail::NoMemory),
         }
+        rest = more;
     }
     Ok(draft)
+}
+
+/// The fault of line 1.
+fn first_line_breaks(rule: Rule) -> ReadFail
+    ensures { HasCause result (Some (1, rule.0)) }
+{
+    ReadFail::Fault(ScriptFault {
+        line: 1,
+        rule: rule.0,
+    })
 }
 
 fn read_with<L: Ledger>(alloc: Global, bytes: &[u8], blank: Blank) -> Result<Script, ReadFail>
@@ -67,10 +74,10 @@ fn read_with<L: Ledger>(alloc: Global, bytes: &[u8], blank: Blank) -> Result<Scr
     ensures fail { IfErr result (λ e. HasCause e (fault_of bytes.now)) }
 {
     if bytes.len() > 16_777_216 {
-        return Err(ReadFail::Fault(ScriptFault { line: 1, rule: 1 }));
+        return Err(first_line_breaks(Rule::LONG_SCRIPT));
     }
     if bytes.is_empty() {
-        return Err(ReadFail::Fault(ScriptFault { line: 1, rule: 6 }));
+        return Err(first_line_breaks(Rule::NO_VERSION));
     }
     let mut steps = Steps::<L>::new(blank);
     let draft = draft_of(alloc, bytes, &mut steps)?;

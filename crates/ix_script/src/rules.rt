@@ -1,4 +1,4 @@
-ghost use Rattle.std.specs.Prelude.{◌≡◌, Some, None, [], IfOk, if◌then◌else◌};
+ghost use Rattle.std.specs.Prelude.{◌≡◌, Some, None, [], if◌then◌else◌};
 ghost use Rattle.std.specs.List.{list_all};
 ghost use Rattle.ix_model.specs.opening.Valid.{is_within};
 ghost use Rattle.ix_script.specs.texts.Cutting.{words_of, is_skipped, is_policy_line, policy_text};
@@ -15,10 +15,9 @@ use crate::cutting::form::Form;
 use crate::cutting::words::{begins, is};
 use crate::forms::line_by_form::line_by_form;
 use crate::line::Line;
-use crate::refused::Refused;
+use crate::rule::Rule;
+use crate::values::policy::PolicyText;
 use ix_label::Steps;
-use ix_model::{Bytes, NoMemory};
-use std::alloc::Global;
 use std::sync::ledger::Ledger;
 
 fn all_printable(text: &[u8]) -> bool
@@ -29,33 +28,33 @@ fn all_printable(text: &[u8]) -> bool
 
 /// Rules 2 and 3.
 #[tactic(auto, unfolding(crate::specs::lines::Faults::text_fault, crate::specs::lines::Rules::is_too_long, crate::specs::lines::Rules::is_unprintable))]
-fn check_text(text: &[u8]) -> Result<(), Refused>
+fn check_text(text: &[u8]) -> Result<(), Rule>
     ensures { Finds result (text_fault text.now) }
 {
     if text.len() > 65_536 {
-        return Err(Refused::Breaks(2));
+        return Err(Rule::LONG_LINE);
     }
     if !all_printable(text) {
-        return Err(Refused::Breaks(3));
+        return Err(Rule::UNPRINTABLE);
     }
     Ok(())
 }
 
 /// Rules 4 and 5.
 #[tactic(auto, unfolding(crate::specs::lines::Faults::words_fault))]
-fn check_words(words: &Words<'_>) -> Result<(), Refused>
+fn check_words(words: &Words<'_>) -> Result<(), Rule>
     ensures { Finds result (words_fault words.now) }
 {
     if words.has_empty() {
-        return Err(Refused::Breaks(4));
+        return Err(Rule::EMPTY_WORD);
     }
     if words.has_open_quote() {
-        return Err(Refused::Breaks(5));
+        return Err(Rule::OPEN_QUOTE);
     }
     Ok(())
 }
 
-fn is_skipped(text: &[u8]) -> bool
+pub(crate) fn is_skipped(text: &[u8]) -> bool
     ensures { result ≡ is_skipped text.now }
 {
     match text {
@@ -65,122 +64,109 @@ fn is_skipped(text: &[u8]) -> bool
 }
 
 #[tactic(auto, unfolding(crate::specs::texts::Cutting::is_policy_line))]
-fn is_policy_line(text: &[u8]) -> bool
+pub(crate) fn is_policy_line(text: &[u8]) -> bool
     ensures { result ≡ is_policy_line text.now }
 {
     is(text, b"policy") || is(&text[..text.len().min(7)], b"policy ")
 }
 
-/// The bytes of a text.
-pub(crate) fn kept(alloc: Global, text: &[u8]) -> Result<Bytes, NoMemory>
-    ensures { IfOk result (λ b. b ≡ text.now) }
-{
-    let mut bytes = Bytes::new(alloc);
-    for b in text {
-        bytes.push(*b)?;
-    }
-    Ok(bytes)
-}
-
 /// Rules 4 and 5 of the first line, where it isn't a policy.
-fn check_first_words(alloc: Global, text: &[u8]) -> Result<(), Refused>
+fn check_first_words(text: &[u8]) -> Result<(), Rule>
     ensures { Finds result (if is_policy_line text.now then None else words_fault (words_of text.now)) }
 {
     if is_policy_line(text) {
         return Ok(());
     }
-    let words = Words::cut(alloc, text)?;
-    check_words(&words)
+    check_words(&Words::cut(text))
 }
 
 /// Line 1: rules 4 to 6.
 #[tactic(auto, unfolding(crate::specs::lines::Faults::first_line_fault))]
-fn first_line(alloc: Global, text: &[u8]) -> Result<Line, Refused>
+fn first_line(text: &[u8]) -> Result<Line<'_>, Rule>
     ensures { Tells [] result (first_line_fault text.now) (line_of text.now) }
 {
-    check_first_words(alloc, text)?;
+    check_first_words(text)?;
     if is(text, b"ix 1") {
         Ok(Line::Version)
     } else {
-        Err(Refused::Breaks(6))
+        Err(Rule::NO_VERSION)
     }
 }
 
 impl Draft {
     /// Rules 8 to 10.
     #[tactic(auto, unfolding(crate::specs::lines::Faults::stand_fault))]
-    fn check_stand(&self, form: Form, words: &Words<'_>) -> Result<(), Refused>
+    fn check_stand(&self, form: Form, words: &Words<'_>) -> Result<(), Rule>
         requires told { DraftTold self.now }
         ensures { Finds result (stand_fault self.now.lines form words.now) }
     {
         if self.is_late(form) {
-            return Err(Refused::Breaks(8));
+            return Err(Rule::LATE_HEADER);
         }
         if self.is_outside(form) {
-            return Err(Refused::Breaks(9));
+            return Err(Rule::OUTSIDE_LANE);
         }
         if !form.has_right_count(words) {
-            return Err(Refused::Breaks(10));
+            return Err(Rule::WORD_COUNT);
         }
         Ok(())
     }
 
     /// Rules 20 and 21.
     #[tactic(auto, unfolding(crate::specs::lines::Faults::names_fault))]
-    fn check_names(&self, form: Form, words: &Words<'_>) -> Result<(), Refused>
+    fn check_names(&self, form: Form, words: &Words<'_>) -> Result<(), Rule>
         requires told { DraftTold self.now }
         ensures { Finds result (names_fault self.now.lines form words.now) }
     {
         if self.gives_twice(form, words) {
-            return Err(Refused::Breaks(20));
+            return Err(Rule::GIVEN_TWICE);
         }
         if self.is_unknown(form, words) {
-            return Err(Refused::Breaks(21));
+            return Err(Rule::UNKNOWN_NAME);
         }
         Ok(())
     }
 
     /// Rules 22 to 26, and 28.
     #[tactic(auto, unfolding(crate::specs::lines::Faults::said_fault))]
-    fn check_said<L: Ledger>(&self, line: &Line, steps: &mut Steps<L>) -> Result<(), Refused>
+    fn check_said<L: Ledger>(&self, line: &Line<'_>, steps: &mut Steps<L>) -> Result<(), Rule>
         requires told { DraftTold self.now }
         ensures { Finds result (said_fault self.now.lines line.now) }
     {
         if self.is_above(line, steps) {
-            return Err(Refused::Breaks(22));
+            return Err(Rule::ABOVE_CEILING);
         }
         if self.misfits(line) {
-            return Err(Refused::Breaks(23));
+            return Err(Rule::MISFIT);
         }
         if self.crowds(line) {
-            return Err(Refused::Breaks(24));
+            return Err(Rule::NO_ROOM);
         }
         if self.is_out_of_order(line) {
-            return Err(Refused::Breaks(25));
+            return Err(Rule::OUT_OF_ORDER);
         }
         if self.is_one_too_many(line) {
-            return Err(Refused::Breaks(26));
+            return Err(Rule::TOO_MANY);
         }
         if self.lacks_policy(line) {
-            return Err(Refused::Breaks(28));
+            return Err(Rule::NO_POLICY);
         }
         Ok(())
     }
 
     /// A line of a form: the rules from 8 on.
     #[tactic(auto, unfolding(crate::specs::lines::Faults::form_fault))]
-    fn form_line<L: Ledger>(
+    fn form_line<'a, L: Ledger>(
         &self,
-        alloc: Global,
         form: Form,
-        words: &Words<'_>,
+        words: &Words<'a>,
         steps: &mut Steps<L>,
-    ) -> Result<Line, Refused>
+    ) -> Result<Line<'a>, Rule>
         requires told { DraftTold self.now }
         ensures { Tells self.now.lines result (form_fault self.now.lines form words.now) (said form words.now) }
     {
         self.check_stand(form, words)?;
-        let line = line_by_form(alloc, form, words)?;
+        let line = line_by_form(form, words)?;
         self.check_names(form, words)?;
         self.check_said(&line, steps)?;
         Ok(line)
@@ -188,79 +174,75 @@ impl Draft {
 
     /// A line that is cut into words: the rules from 4 on.
     #[tactic(auto, unfolding(crate::specs::lines::Faults::command_fault))]
-    fn command_line<L: Ledger>(
+    fn command_line<'a, L: Ledger>(
         &self,
-        alloc: Global,
-        words: &Words<'_>,
+        words: &Words<'a>,
         steps: &mut Steps<L>,
-    ) -> Result<Line, Refused>
+    ) -> Result<Line<'a>, Rule>
         requires told { DraftTold self.now }
         ensures { Tells self.now.lines result (command_fault self.now.lines words.now) (said_by_words words.now) }
     {
         check_words(words)?;
         match form_of(words.get(0)) {
-            Some(form) => self.form_line(alloc, form, words, steps),
-            None => Err(Refused::Breaks(7)),
+            Some(form) => self.form_line(form, words, steps),
+            None => Err(Rule::UNKNOWN_COMMAND),
         }
     }
 
     /// The policy: it stands in the header, has a text, and stands once.
     #[tactic(auto, unfolding(crate::specs::lines::Faults::policy_fault))]
-    fn policy_line(&self, alloc: Global, text: &[u8]) -> Result<Line, Refused>
+    fn policy_line<'a>(&self, text: &'a [u8]) -> Result<Line<'a>, Rule>
         requires told { DraftTold self.now }
         ensures { Tells self.now.lines result (policy_fault self.now.lines text.now) (Some (line.Policy (policy_text text.now))) }
     {
         if self.body.started {
-            return Err(Refused::Breaks(8));
+            return Err(Rule::LATE_HEADER);
         }
         if text.len() <= 7 {
-            return Err(Refused::Breaks(10));
+            return Err(Rule::WORD_COUNT);
         }
         if self.header.policy {
-            return Err(Refused::Breaks(20));
+            return Err(Rule::GIVEN_TWICE);
         }
         let (_, rest) = text.split_at(7);
         Ok(Line::Policy {
-            text: kept(alloc, rest)?,
+            text: PolicyText::new(rest),
         })
     }
 
     /// A line by where it stands and how it begins: the rules from 4 on.
     #[tactic(auto, unfolding(crate::specs::lines::Faults::body_fault))]
-    fn body_line<L: Ledger>(
+    fn body_line<'a, L: Ledger>(
         &self,
-        alloc: Global,
-        text: &[u8],
+        text: &'a [u8],
         steps: &mut Steps<L>,
-    ) -> Result<Line, Refused>
+    ) -> Result<Line<'a>, Rule>
         requires told { DraftTold self.now }
         ensures { Tells self.now.lines result (body_fault self.now.lines text.now) (line_of text.now) }
     {
         if self.lines.len() == 0 {
-            return first_line(alloc, text);
+            return first_line(text);
         }
         if is_skipped(text) {
             return Ok(Line::Skipped);
         }
         if is_policy_line(text) {
-            return self.policy_line(alloc, text);
+            return self.policy_line(text);
         }
-        let words = Words::cut(alloc, text)?;
-        self.command_line(alloc, &words, steps)
+        self.command_line(&Words::cut(text), steps)
     }
 
     /// What the next line says; else the first rule that it breaks.
     #[tactic(auto, unfolding(crate::specs::lines::Faults::line_fault))]
-    pub fn next_line<L: Ledger>(
+    pub fn next_line<'a, L: Ledger>(
         &self,
-        alloc: Global,
-        text: &[u8],
+        text: &'a [u8],
         steps: &mut Steps<L>,
-    ) -> Result<Line, Refused>
+    ) -> Result<Line<'a>, Rule>
         requires told { DraftTold self.now }
         ensures { Tells self.now.lines result (line_fault self.now.lines text.now) (line_of text.now) }
     {
         check_text(text)?;
-        self.body_line(alloc, text, steps)
+        self.body_line(text, steps)
     }
 }

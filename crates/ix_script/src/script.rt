@@ -1,5 +1,4 @@
 ghost use Rattle.std.specs.Prelude.{◌≡◌, ◌≤◌, ◌-◌, ◌<◌, ◌==◌, length, position, slice_get, IfSome, true, None, if◌then◌else◌, IfOk, IsTrue};
-ghost use Rattle.std.specs.Option.{option_copied};
 ghost use Rattle.ix_model.specs.opening.Valid.{is_valid};
 ghost use Rattle.std.proofs.Common.{option_map};
 ghost use Rattle.ix_script.specs.lines.Before.{lanes_of, commands, is_policy};
@@ -10,15 +9,16 @@ ghost use Rattle.ix_script.specs.reader.Told.{DraftTold};
 use crate::before::draft::Draft;
 use crate::cost::cost_of_lines;
 use crate::line::Line;
+use crate::packed::Lines;
 use crate::plan::config;
 use ix_model::{Config, List, Name, NoMemory};
 use std::alloc::Global;
 use std::marker::Model;
 
-/// A session script: a list of lines, numbered from 1.
+/// A session script: a list of lines, numbered from 1. Their texts are kept, and a line is made when it is asked for.
 #[derive(Drop)]
 pub struct Script {
-    lines: List<Line>,
+    lines: Lines,
     /// The names of the lanes, in the order in which they first appear.
     lanes: List<Name>,
 }
@@ -56,20 +56,17 @@ impl Script {
     }
 
     /// All lines, in order.
-    pub(crate) fn lines(&self) -> &[Line]
+    pub(crate) fn lines(&self) -> &Lines
         ensures { result.now ≡ self.now }
     {
-        self.lines.as_slice()
+        &self.lines
     }
 
-    /// The line of a number from 1; `None` exactly where there is none.
-    pub fn line(&self, number: u32) -> Option<&Line>
-        ensures { option_copied result ≡ (if number == 0 then None else slice_get self.now (number - 1)) }
+    /// The line of a number from 1; `None` exactly where there is none. It takes no memory.
+    pub fn line(&self, number: u32) -> Option<Line<'_>>
+        ensures { result ≡ (if number == 0 then None else slice_get self.now (number - 1)) }
     {
-        if number == 0 {
-            return None;
-        }
-        self.lines.get(number as usize - 1)
+        self.lines.get((number as usize).checked_sub(1)?)
     }
 
     /// The name of a lane; `None` exactly past the last.
@@ -96,7 +93,7 @@ impl Script {
         ensures config { IfOk result (λ c. c ≡ config_of self.now) }
         ensures valid { IfOk result (λ c. IsTrue (is_valid c)) }
     {
-        config(alloc, self.lines.as_slice())
+        config(alloc, &self.lines)
     }
 
     /// The number of the policy's line and its text; `None` exactly where there is no policy.
@@ -113,38 +110,45 @@ impl Script {
 pub fn need(script: &Script) -> u64
     ensures { result ≡ need script.now }
 {
-    cost_of_lines(script.lines.as_slice())
+    cost_of_lines(&script.lines)
 }
 
-fn is_policy(line: &Line) -> bool
+fn is_policy(line: &Line<'_>) -> bool
     ensures { result ≡ is_policy line.now }
 {
     matches!(line, Line::Policy { .. })
 }
 
-fn policy_place(lines: &[Line]) -> Option<usize>
+/// The place of the policy.
+fn policy_place(lines: &Lines) -> Option<usize>
     ensures place { result ≡ position is_policy lines.now }
     ensures within { IfSome result (λ k. k < length lines.now) }
 {
-    lines.iter().position(|line| is_policy(line))
+    'lines: for index in 0..lines.len() {
+        let line = lines.get(index)?;
+        if is_policy(&line) {
+            return Some(index);
+        }
+    }
+    None
 }
 
-fn policy_text(line: &Line) -> Option<&[u8]>
+fn policy_text<'a>(line: &Line<'a>) -> Option<&'a [u8]>
     ensures { option_map (λ text. text.now) result ≡ policy_told line.now }
 {
     match line {
-        Line::Policy { text } => Some(text.as_slice()),
+        Line::Policy { text } => Some(text.as_bytes()),
         _ => None,
     }
 }
 
 #[tactic(auto, unfolding(crate::specs::scripts::Scripts::policy_of))]
-fn policy(lines: &List<Line>) -> Option<(u32, &[u8])>
+fn policy(lines: &Lines) -> Option<(u32, &[u8])>
     requires { length lines.now ≤ 16777216 }
     ensures { option_map (λ p. (p.0, p.1.now)) result ≡ policy_of lines.now }
 {
-    let place = policy_place(lines.as_slice())?;
+    let place = policy_place(lines)?;
     let line = lines.get(place)?;
-    let text = policy_text(line)?;
+    let text = policy_text(&line)?;
     Some((place as u32 + 1, text))
 }

@@ -9,4 +9,6 @@ pub mod paths;
 pub mod payload;
 pub mod payload_form;
 pub mod places;
+pub mod policy;
 pub mod privs;
+pub mod spelling;

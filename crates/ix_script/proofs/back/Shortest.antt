@@ -1,10 +1,11 @@
 -- The shortest spelling of a payload, by the lengths of its spellings.
-use Rattle.std.proofs.Common.{◌≡◌, ℕ, ◌+◌, ◌*◌, ◌<◌, ◌≤◌, ◌==◌, List, [], ◌∷◌, length, drop, get_or, Some, None, refl, sym, ◌∙◌, arith}
+use Rattle.std.proofs.Common.{◌≡◌, ℕ, zero, suc, ◌+◌, ◌*◌, ◌<◌, ◌≤◌, ◌==◌, Bool, true, false, ◌||◌, cond, codes, replicate, ap, List, [], ◌∷◌, ◌++◌, length, drop, get_or, Some, None, refl, sym, ◌∙◌, arith}
 use Rattle.std.specs.Prelude.{if◌then◌else◌}
 use Rattle.std.specs.List.{flat_map, list_all}
-use Rattle.std.proofs.lemmas.Bool.{lt-ltb, le-ltb}
-use Rattle.std.proofs.lemmas.List.{at_drop_more, length-append}
-use Rattle.ix_script.specs.texts.Spellings.{hex_pair, pairs_text, times_text, quoted_byte, quoted_text, once, shortest, payload_text}
+use Rattle.std.specs.Fmt.{decimal}
+use Rattle.std.proofs.lemmas.Bool.{lt-ltb, le-ltb, eq-eqb}
+use Rattle.std.proofs.lemmas.List.{at_drop_more, length-append, length-replicate}
+use Rattle.ix_script.specs.texts.Spellings.{hex_pair, pairs_text, times_text, stands_quoted, quoted_byte, quoted_text, once, shortest, payload_text}
 
 -- the first byte and the others, tested against it
 pub once_first : (bytes : List ℕ) → 0 < length bytes → once bytes ≡ (if list_all (λ c. c == get_or bytes 0 0) (drop 1 bytes) then Some (get_or bytes 0 0) else None)
@@ -68,3 +69,34 @@ module _ (bytes : List ℕ) (pairs quoted : ℕ) (p : pairs ≡ length bytes * 2
   pub pairs_of_three : (b times : ℕ) → once bytes ≡ Some b → times ≡ length (times_text (length bytes) b) → pairs ≤ times → pairs ≤ quoted → pairs_text bytes ≡ payload_text bytes
   pairs_of_three b times e t first second =
       sym (some_for b e ∙ of_three_first (pairs_text bytes) (times_text (length bytes) b) (quoted_text bytes) (omega (arith, length-pairs bytes)) ∙ of_two_first (pairs_text bytes) (quoted_text bytes) (omega (arith, length-pairs bytes)))
+
+-- ---- one byte over and over
+by_cases : (p q r : Bool) (w x y z : List ℕ) → 1 ≤ length w → 1 ≤ length x → 1 ≤ length y → 1 ≤ length z → 1 ≤ length (cond p w (cond q x (cond r y z)))
+by_cases true q r w x y z hw hx hy hz = hw
+by_cases false true r w x y z hw hx hy hz = hx
+by_cases false false true w x y z hw hx hy hz = hy
+by_cases false false false w x y z hw hx hy hz = hz
+
+quoted_some : (b : ℕ) → 1 ≤ length (quoted_byte b)
+unfolding quoted_byte
+quoted_some b = by_cases (stands_quoted b) (b == 34 || b == 92) (b == 10) _ _ _ _ (omega arith) (omega arith) (omega arith) (omega arith)
+
+quoted_all : (n b : ℕ) → n ≤ length (flat_map quoted_byte (replicate n b))
+quoted_all zero b = omega arith
+quoted_all (suc n) b = omega (arith, quoted_all n b, quoted_some b, length-append (quoted_byte b) (flat_map quoted_byte (replicate n b)))
+
+same_all : (n b : ℕ) → list_all (λ c. c == b) (replicate n b) ≡ true
+same_all zero b = refl
+same_all (suc n) b = rw (eq-eqb b b refl) (same_all n b)
+
+once_all : (n b : ℕ) → 0 < n → once (replicate n b) ≡ Some b
+once_all zero b h = absurd (omega arith)
+once_all (suc n) b h = rw (same_all n b) refl
+
+pub times_alone : (n b len : ℕ) → len ≡ length (times_text n b) → len < n * 2 + 1 → len ≤ n + 2 → payload_text (replicate n b) ≡ times_text n b
+times_alone n b len h below few =
+    let long : length (replicate n b) ≡ n = length-replicate n b in
+    let quotes = length-append (flat_map quoted_byte (replicate n b)) (codes "\"") in
+    let some : 0 < n = omega (arith, h, length-append (decimal n) (codes "*" ++ hex_pair b)) in
+    sym (times_of_three (replicate n b) (length (replicate n b) * 2 + 1) (length (quoted_text (replicate n b))) refl refl b len (once_all n b some)
+    (h ∙ ap (λ k. length (times_text k b)) (sym long)) (omega arith) (omega (arith, quoted_all n b, quotes))) ∙ ap (λ k. times_text k b) long

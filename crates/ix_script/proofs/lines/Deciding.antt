@@ -9,7 +9,7 @@ use Rattle.ix_script.specs.lines.Rules.{has_empty_word, has_open_quote}
 use Rattle.ix_script.specs.lines.Faults.{words_fault, said_fault, command_fault, policy_fault, first_line_fault, body_fault}
 use Rattle.ix_script.specs.lines.Said.{said_by_words, line_of}
 use Rattle.ix_script.specs.reader.Readers.{LineRight, Tells}
-use Rattle.ix_script.specs.declared.refused.Refused.{Refused}
+use Rattle.ix_script.specs.declared.rule.Rule.{Rule}
 use Rattle.ix_script.specs.declared.line.Line.{Line}
 use Rattle.ix_script.specs.declared.line.Line.TheVariants as line
 use Rattle.ix_script.proofs.texts.AllLabels.{bool_cases}
@@ -58,10 +58,10 @@ unfolding policy_fault
 policy_read before text bytes rest early some once e f =
     record { faultless = rw (early, more_than 7 text some, once) refl; meant = ap (λ (t : List ℕ). Some (line.Policy t)) (sym (e ∙ f)); fits = policy_fits before bytes }
 
-told_as : (before : List Line) (r : Result Line Refused) (f g : Option ℕ) (m n : Option Line) → g ≡ f → n ≡ m → Tells before r f m → Tells before r g n
+told_as : (before : List Line) (r : Result Line Rule) (f g : Option ℕ) (m n : Option Line) → g ≡ f → n ≡ m → Tells before r f m → Tells before r g n
 told_as before r f g m n e d h = subst (λ (x : Option Line). Tells before r g x) (sym d) (subst (λ (x : Option ℕ). Tells before r x m) (sym e) h)
 
-pub policy_right : (before : List Line) (text : List ℕ) (r : Result Line Refused) → is_empty before ≡ false → is_skipped text ≡ false → is_policy_line text ≡ true
+pub policy_right : (before : List Line) (text : List ℕ) (r : Result Line Rule) → is_empty before ≡ false → is_skipped text ≡ false → is_policy_line text ≡ true
     → Tells before r (policy_fault before text) (Some (line.Policy (policy_text text))) → Tells before r (body_fault before text) (line_of text)
 unfolding body_fault line_of
 policy_right before text r h k p t = told_as before r (policy_fault before text) _ (Some (line.Policy (policy_text text))) _ (rw (h, k, p) refl) (rw (k, p) refl) t
@@ -80,13 +80,13 @@ not_ix before text h = elim (bool_cases (same_bytes text (codes "ix 1"))) [
   | inr f ↦ f
 ]
 
-command_meant : (before : List Line) (text : List ℕ) (r : Result Line Refused) → is_skipped text ≡ false → is_policy_line text ≡ false
+command_meant : (before : List Line) (text : List ℕ) (r : Result Line Rule) → is_skipped text ≡ false → is_policy_line text ≡ false
     → Tells before r (command_fault before (words_of text)) (said_by_words (words_of text)) → Tells before r (command_fault before (words_of text)) (line_of text)
 unfolding line_of
 command_meant before text (Ok l) k p t = record { faultless = t.faultless; meant = rw (k, p, not_ix before text t.faultless) t.meant; fits = t.fits }
 command_meant before text (Err e) k p t = t
 
-pub command_right : (before : List Line) (text : List ℕ) (r : Result Line Refused) → is_empty before ≡ false → is_skipped text ≡ false → is_policy_line text ≡ false
+pub command_right : (before : List Line) (text : List ℕ) (r : Result Line Rule) → is_empty before ≡ false → is_skipped text ≡ false → is_policy_line text ≡ false
     → Tells before r (command_fault before (words_of text)) (said_by_words (words_of text)) → Tells before r (body_fault before text) (line_of text)
 unfolding body_fault
 command_right before text r h k p t = told_as before r (command_fault before (words_of text)) _ (line_of text) (line_of text) (rw (h, k, p) refl) refl (command_meant before text r k p t)

@@ -5,8 +5,7 @@ use Rattle.ix_script.specs.lines.Kinds.{Kind, Place, place_rules, first_broken, 
 use Rattle.ix_script.specs.lines.Said.{both}
 use Rattle.ix_script.specs.reader.Readers.{Refuses, ReadRight, Reads}
 use Rattle.ix_script.specs.reader.Least.{joined}
-use Rattle.ix_script.specs.declared.refused.Refused.{Refused}
-use Rattle.ix_script.specs.declared.refused.Refused.TheVariants as refused
+use Rattle.ix_script.specs.declared.rule.Rule.{Rule}
 
 abbrev Rules : Type 0
 Rules = List (ℕ × (Kind → List ℕ → Bool))
@@ -67,28 +66,24 @@ unfolding places_fault
 least_fault p places = least_broken 0 place_rules p places rules_rise
 
 -- the reading of one place, and of those after it
-pub both_read : {X Y A B : Type 0} (v : X → A) (u : Y → B) (p : Place) (places : List Place) (a : Result X Refused) (b : Result Y Refused) (ma : Option A) (mb : Option B)
+pub both_read : {X Y A B : Type 0} (v : X → A) (u : Y → B) (p : Place) (places : List Place) (a : Result X Rule) (b : Result Y Rule) (ma : Option A) (mb : Option B)
     → Reads v a (p ∷ []) ma → Reads u b places mb → Reads (λ x. (v x.0, u x.1)) (joined a b) (p ∷ places) (both ma mb)
 both_read v u p places (Ok x) (Ok y) ma mb h k =
     record { faultless = least_fault p places ∙ rw (h.faultless, k.faultless) refl; meant = rw (h.meant, k.meant) refl }
-both_read v u p places (Ok x) (Err (refused.Breaks n)) ma mb h k = least_fault p places ∙ rw (h.faultless, k) refl
-both_read v u p places (Ok x) (Err refused.NoMemory) ma mb h k = tt
-both_read v u p places (Err (refused.Breaks m)) (Ok y) ma mb h k = least_fault p places ∙ rw (h, k.faultless) refl
-both_read v u p places (Err refused.NoMemory) (Ok y) ma mb h k = tt
-both_read v u p places (Err (refused.Breaks m)) (Err (refused.Breaks n)) ma mb h k = least_fault p places ∙ rw (h, k) refl
-both_read v u p places (Err (refused.Breaks m)) (Err refused.NoMemory) ma mb h k = tt
-both_read v u p places (Err refused.NoMemory) (Err e) ma mb h k = tt
+both_read v u p places (Ok x) (Err n) ma mb h k = least_fault p places ∙ rw (h.faultless, k) refl
+both_read v u p places (Err m) (Ok y) ma mb h k = least_fault p places ∙ rw (h, k.faultless) refl
+both_read v u p places (Err m) (Err n) ma mb h k = least_fault p places ∙ rw (h, k) refl
 
-pub both_reads : {X Y : Type 0} (p : Place) (places : List Place) (a : Result X Refused) (b : Result Y Refused) (r : Result (X × Y) Refused) (ma : Option X) (mb : Option Y)
+pub both_reads : {X Y : Type 0} (p : Place) (places : List Place) (a : Result X Rule) (b : Result Y Rule) (r : Result (X × Y) Rule) (ma : Option X) (mb : Option Y)
     → r ≡ joined a b → Reads (λ x. x) a (p ∷ []) ma → Reads (λ x. x) b places mb → Reads (λ x. x) r (p ∷ places) (both ma mb)
 both_reads p places a b r ma mb e h k = subst (λ q. Reads (λ x. x) q (p ∷ places) (both ma mb)) (sym e) (both_read (λ x. x) (λ x. x) p places a b ma mb h k)
 
 -- what is made of what was read
-pub line_read : {X Y : Type 0} (f : X → Y) (r : Result X Refused) (x : X) (places : List Place) (m : Option X) → Reads (λ z. z) r places m → r ≡ Ok x → ReadRight (λ z. z) (f x) places (option_map f m)
+pub line_read : {X Y : Type 0} (f : X → Y) (r : Result X Rule) (x : X) (places : List Place) (m : Option X) → Reads (λ z. z) r places m → r ≡ Ok x → ReadRight (λ z. z) (f x) places (option_map f m)
 line_read f (Ok y) x places m h e = let same : y ≡ x = cc in record { faultless = h.faultless; meant = rw h.meant (ap (λ z. Some (f z)) same) }
 line_read f (Err y) x places m h e = cc
 
 -- what is refused
-pub line_refused : {X : Type 0} (r : Result X Refused) (e : Refused) (places : List Place) (m : Option X) → Reads (λ z. z) r places m → r ≡ Err e → Refuses e (places_fault places)
+pub line_refused : {X : Type 0} (r : Result X Rule) (e : Rule) (places : List Place) (m : Option X) → Reads (λ z. z) r places m → r ≡ Err e → Refuses e (places_fault places)
 line_refused (Ok y) e places m h is = cc
-line_refused (Err y) e places m h is = let same : y ≡ e = cc in subst (λ (z : Refused). Refuses z (places_fault places)) same h
+line_refused (Err y) e places m h is = let same : y ≡ e = cc in subst (λ (z : Rule). Refuses z (places_fault places)) same h

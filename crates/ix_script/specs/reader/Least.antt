@@ -1,16 +1,13 @@
 -- Two readings together.
 use Rattle.std.specs.Prelude.{Result, Ok, Err, min}
-use Rattle.ix_script.specs.declared.refused.Refused.{Refused}
-use Rattle.ix_script.specs.declared.refused.Refused.TheVariants as refused
+use Rattle.ix_script.specs.declared.rule.Rule.{Rule}
 
 -- the lesser of two rules
-abbrev pub least : Refused → Refused → Refused
-least (refused.Breaks m) (refused.Breaks n) = refused.Breaks (min m n)
-least (refused.Breaks m) refused.NoMemory = refused.NoMemory
-least refused.NoMemory e = refused.NoMemory
+abbrev pub least : Rule → Rule → Rule
+least m n = record { 0 = min m.0 n.0 }
 
 -- both values; else the least rule that is broken
-abbrev pub joined : {A B : Type 0} → Result A Refused → Result B Refused → Result (A × B) Refused
+abbrev pub joined : {A B : Type 0} → Result A Rule → Result B Rule → Result (A × B) Rule
 joined (Ok x) (Ok y) = Ok (x, y)
 joined (Ok x) (Err e) = Err e
 joined (Err e) (Ok y) = Err e

@@ -5,16 +5,14 @@ use Rattle.ix_script.specs.lines.Faults.{said_fault}
 use Rattle.ix_script.specs.declared.fail.ReadFail.{ReadFail}
 use Rattle.ix_script.specs.declared.fail.ReadFail.TheVariants as fail
 use Rattle.ix_script.specs.declared.line.Line.{Line}
-use Rattle.ix_script.specs.declared.refused.Refused.{Refused}
-use Rattle.ix_script.specs.declared.refused.Refused.TheVariants as refused
+use Rattle.ix_script.specs.declared.rule.Rule.{Rule}
 
--- it is refused by the first rule that is broken; for want of memory it is refused whatever it is
-abbrev pub Refuses : Refused → Option ℕ → Type 0
-Refuses (refused.Breaks n) fault = fault ≡ Some n
-Refuses refused.NoMemory fault = Unit {0}
+-- it is the first rule that is broken
+abbrev pub Refuses : Rule → Option ℕ → Type 0
+Refuses rule fault = fault ≡ Some rule.0
 
 -- it is let pass where no rule is broken
-abbrev pub Finds : {X : Type 0} → Result X Refused → Option ℕ → Type 0
+abbrev pub Finds : {X : Type 0} → Result X Rule → Option ℕ → Type 0
 Finds (Ok x) fault = fault ≡ None
 Finds (Err e) fault = Refuses e fault
 
@@ -23,7 +21,7 @@ pub record ReadRight {X Y : Type 0} (view : X → Y) (x : X) (places : List Plac
   pub faultless : places_fault places ≡ None
   pub meant : meaning ≡ Some (view x)
 
-abbrev pub Reads : {X Y : Type 0} → (X → Y) → Result X Refused → List Place → Option Y → Type 0
+abbrev pub Reads : {X Y : Type 0} → (X → Y) → Result X Rule → List Place → Option Y → Type 0
 Reads view (Ok x) places meaning = ReadRight view x places meaning
 Reads view (Err e) places meaning = Refuses e (places_fault places)
 
@@ -33,7 +31,7 @@ pub record LineRight (before : List Line) (l : Line) (fault : Option ℕ) (meani
   pub meant : meaning ≡ Some l
   pub fits : said_fault before l ≡ None
 
-abbrev pub Tells : List Line → Result Line Refused → Option ℕ → Option Line → Type 0
+abbrev pub Tells : List Line → Result Line Rule → Option ℕ → Option Line → Type 0
 Tells before (Ok l) fault meaning = LineRight before l fault meaning
 Tells before (Err e) fault meaning = Refuses e fault
 

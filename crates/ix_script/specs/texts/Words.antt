@@ -1,5 +1,5 @@
 -- The words of a script: names, numbers, sets of privileges, paths, modes, states and descriptors.
-use Rattle.std.specs.Prelude.{ℕ, ◌+◌, ◌*◌, ◌-◌, ◌==◌, nat_le, Bool, true, false, not, ◌&&◌, ◌||◌, List, [], ◌∷◌, length, drop, Option, Some, None, if◌then◌else◌, codes}
+use Rattle.std.specs.Prelude.{ℕ, ◌+◌, ◌*◌, ◌-◌, ◌==◌, nat_le, Bool, true, false, not, ◌&&◌, ◌||◌, List, [], ◌∷◌, length, drop, Option, Some, None, if◌then◌else◌, unwrap_or, codes}
 use Rattle.std.specs.List.{list_all}
 use Rattle.std.proofs.Common.{option_map}
 use Rattle.ix_model.specs.world.Naming.{PathOf, is_name, same_bytes}
@@ -111,6 +111,10 @@ path_of word =
     if not (list_all may_stand_in_path word) then None
     else if begins 47 word then absolute_path (drop 1 word)
     else relative_path word
+
+-- the path that a word spells
+abbrev pub path_in : List ℕ → PathOf
+path_in word = unwrap_or (path_of word) (path_from false [])
 
 -- an absolute path with a name
 unfoldable pub made_path_of : List ℕ → Option PathOf

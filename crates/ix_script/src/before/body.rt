@@ -27,19 +27,19 @@ pub(crate) struct Body {
     pub commands: u32,
 }
 
-fn is_phase(line: &Line) -> bool
+fn is_phase(line: &Line<'_>) -> bool
     ensures { result ≡ is_phase line.now }
 {
     matches!(line, Line::Phase)
 }
 
-fn started_after(started: bool, line: &Line) -> bool
+fn started_after(started: bool, line: &Line<'_>) -> bool
     ensures { result ≡ (started || is_phase line.now) }
 {
     started || is_phase(line)
 }
 
-pub(crate) fn is_command(line: &Line) -> bool
+pub(crate) fn is_command(line: &Line<'_>) -> bool
     ensures { result ≡ is_command line.now }
 {
     match line {
@@ -54,7 +54,7 @@ pub(crate) fn is_command(line: &Line) -> bool
     }
 }
 
-fn commands_after(commands: u32, line: &Line) -> u32
+fn commands_after(commands: u32, line: &Line<'_>) -> u32
     requires { commands + 1 < 2 ^ 32 }
     ensures { result ≡ (if is_command line.now then commands + 1 else commands) }
 {
@@ -65,7 +65,7 @@ fn commands_after(commands: u32, line: &Line) -> u32
     }
 }
 
-fn lane_after(lane: &Option<Name>, line: &Line) -> Option<Name>
+fn lane_after(lane: &Option<Name>, line: &Line<'_>) -> Option<Name>
     ensures { result ≡ lane_after lane.now line.now }
 {
     match line {
@@ -75,7 +75,7 @@ fn lane_after(lane: &Option<Name>, line: &Line) -> Option<Name>
     }
 }
 
-fn add_phase_lane(alloc: Global, lanes: &mut List<Name>, line: &Line) -> Result<(), NoMemory>
+fn add_phase_lane(alloc: Global, lanes: &mut List<Name>, line: &Line<'_>) -> Result<(), NoMemory>
     ensures { OnOk result (lanes.new ≡ phase_lanes_after lanes.old line.now) }
 {
     match line {
@@ -98,7 +98,7 @@ fn add_name(lanes: &mut List<Name>, name: &Name) -> Result<(), NoMemory>
     }
 }
 
-fn add_lane(lanes: &mut List<Name>, line: &Line) -> Result<(), NoMemory>
+fn add_lane(lanes: &mut List<Name>, line: &Line<'_>) -> Result<(), NoMemory>
     ensures { OnOk result (lanes.new ≡ lanes_after lanes.old line.now) }
 {
     match line {
@@ -107,7 +107,7 @@ fn add_lane(lanes: &mut List<Name>, line: &Line) -> Result<(), NoMemory>
     }
 }
 
-fn add_fds(fds: &mut Given, lane: &Option<Name>, line: &Line) -> Result<(), NoMemory>
+fn add_fds(fds: &mut Given, lane: &Option<Name>, line: &Line<'_>) -> Result<(), NoMemory>
     ensures { OnOk result (fds.new ≡ fds.old ++ in_lane lane.now (new_fds line.now)) }
 {
     match line {
@@ -118,7 +118,7 @@ fn add_fds(fds: &mut Given, lane: &Option<Name>, line: &Line) -> Result<(), NoMe
     }
 }
 
-fn add_procs(procs: &mut Given, lane: &Option<Name>, line: &Line) -> Result<(), NoMemory>
+fn add_procs(procs: &mut Given, lane: &Option<Name>, line: &Line<'_>) -> Result<(), NoMemory>
     ensures { OnOk result (procs.new ≡ procs.old ++ in_lane lane.now (new_procs line.now)) }
 {
     match line {
@@ -152,7 +152,7 @@ impl Body {
     }
 
     /// One line more. After an error the body isn't used.
-    pub fn add(&mut self, alloc: Global, line: &Line) -> Result<(), NoMemory>
+    pub fn add(&mut self, alloc: Global, line: &Line<'_>) -> Result<(), NoMemory>
         requires { self.old.commands + 1 < 2 ^ 32 }
         ensures { OnOk result ((lines : List Line) → BodyTold self.old lines → BodyTold self.new (lines ++ line.now ∷ [])) }
     {

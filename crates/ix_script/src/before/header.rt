@@ -39,7 +39,7 @@ pub(crate) struct Header {
 }
 
 /// The group of a line, by which the header is ordered.
-fn group(line: &Line) -> u8
+fn group(line: &Line<'_>) -> u8
     ensures { result ≡ group line.now }
 {
     match line {
@@ -52,13 +52,13 @@ fn group(line: &Line) -> u8
     }
 }
 
-fn latest_after(latest: u8, line: &Line) -> u8
+fn latest_after(latest: u8, line: &Line<'_>) -> u8
     ensures { result ≡ max latest (group line.now) }
 {
     latest.max(group(line))
 }
 
-fn policy_after(policy: bool, line: &Line) -> bool
+fn policy_after(policy: bool, line: &Line<'_>) -> bool
     ensures { result ≡ (policy || is_policy line.now) }
 {
     policy || matches!(line, Line::Policy { .. })
@@ -78,7 +78,7 @@ fn with_limit(limits: &Limits, what: What, number: u32) -> Limits
     limits
 }
 
-pub(crate) fn limits_after(limits: &Limits, line: &Line) -> Limits
+pub(crate) fn limits_after(limits: &Limits, line: &Line<'_>) -> Limits
     ensures { result ≡ limits_after limits.now line.now }
 {
     match line {
@@ -87,7 +87,7 @@ pub(crate) fn limits_after(limits: &Limits, line: &Line) -> Limits
     }
 }
 
-fn add_what(whats: &mut List<What>, line: &Line) -> Result<(), NoMemory>
+fn add_what(whats: &mut List<What>, line: &Line<'_>) -> Result<(), NoMemory>
     ensures { OnOk result (whats.new ≡ whats.old ++ what_told line.now) }
 {
     match line {
@@ -96,7 +96,7 @@ fn add_what(whats: &mut List<What>, line: &Line) -> Result<(), NoMemory>
     }
 }
 
-fn add_proc(procs: &mut Names, line: &Line) -> Result<(), NoMemory>
+fn add_proc(procs: &mut Names, line: &Line<'_>) -> Result<(), NoMemory>
     ensures { OnOk result (procs.new ≡ procs.old ++ proc_name_told line.now) }
 {
     match line {
@@ -105,16 +105,16 @@ fn add_proc(procs: &mut Names, line: &Line) -> Result<(), NoMemory>
     }
 }
 
-fn add_made(made: &mut Tree, line: &Line) -> Result<(), NoMemory>
+fn add_made(made: &mut Tree, line: &Line<'_>) -> Result<(), NoMemory>
     ensures { OnOk result (made.new ≡ made.old ++ map made_of (object_told line.now)) }
 {
     match line {
         Line::Dir { path, .. } => made.push(Made {
-            path: *path,
+            path: path.path(),
             dir: true,
         }),
         Line::File { path, .. } => made.push(Made {
-            path: *path,
+            path: path.path(),
             dir: false,
         }),
         _ => Ok(()),
@@ -166,7 +166,12 @@ fn push_fs(alloc: Global, told: usize, fss: &mut List<FsSpec>, fs: FsSpec) -> Re
     fss.push(fs)
 }
 
-fn add_fs(alloc: Global, told: usize, fss: &mut List<FsSpec>, line: &Line) -> Result<(), NoMemory>
+fn add_fs(
+    alloc: Global,
+    told: usize,
+    fss: &mut List<FsSpec>,
+    line: &Line<'_>,
+) -> Result<(), NoMemory>
     ensures { OnOk result (fss.new ≡ fss_after told fss.old (fs_told line.now)) }
 {
     match line {
@@ -190,7 +195,7 @@ fn add_fs(alloc: Global, told: usize, fss: &mut List<FsSpec>, line: &Line) -> Re
     }
 }
 
-fn told_after(told: usize, line: &Line) -> usize
+fn told_after(told: usize, line: &Line<'_>) -> usize
     requires { told ≤ 16 }
     ensures { result ≡ told + length (fs_told line.now) }
 {
@@ -209,14 +214,14 @@ fn take_object(taken: &mut Taken, fss: &[FsSpec], path: &Path, len: usize)
     taken.add(k, blocks_for(len));
 }
 
-fn take(taken: &mut Taken, fss: &[FsSpec], line: &Line)
+fn take(taken: &mut Taken, fss: &[FsSpec], line: &Line<'_>)
     requires some { 0 < length fss.now }
     requires few { length fss.now ≤ 16 }
     ensures { Takes fss.now (object_told line.now) taken.old taken.new }
 {
     match line {
-        Line::Dir { path, .. } => take_object(taken, fss, path, 0),
-        Line::File { path, bytes, .. } => take_object(taken, fss, path, bytes.len()),
+        Line::Dir { path, .. } => take_object(taken, fss, &path.path(), 0),
+        Line::File { path, bytes, .. } => take_object(taken, fss, &path.path(), bytes.len()),
         _ => {}
     }
 }
@@ -243,7 +248,7 @@ impl Header {
     }
 
     /// One line more. After an error the header isn't used.
-    pub fn add(&mut self, alloc: Global, line: &Line) -> Result<(), NoMemory>
+    pub fn add(&mut self, alloc: Global, line: &Line<'_>) -> Result<(), NoMemory>
         requires told { self.old.told ≤ 16 }
         requires some { 0 < length self.old.fss }
         requires few { length self.old.fss ≤ 16 }

@@ -1,28 +1,37 @@
-ghost use Rattle.std.specs.Prelude.{◌≡◌, ℕ, ◌≤◌, ◌<◌, ◌+◌, ◌∷◌, ◌++◌, [], length, take, drop, IfSome, IfOk, Some, None, map};
+ghost use Rattle.std.specs.Prelude.{◌≡◌, ℕ, ◌≤◌, ◌<◌, ◌+◌, ◌^◌, ◌∷◌, ◌++◌, [], length, take, drop, IfSome, Some, None, map};
 ghost use Rattle.std.specs.Option.{option_map_or};
-ghost use Rattle.std.specs.List.{list_any};
 ghost use Rattle.ix_script.specs.texts.Cutting.{pieces, words_of, word_at, is_closed, is_open, is_empty};
 ghost use Rattle.ix_script.specs.lines.Rules.{has_empty_word, has_open_quote};
 ghost use Rattle.ix_script.specs.declared.cutting.spot.Spot.TheVariants as spot;
 
 use crate::cutting::spot::Spot;
 use crate::cutting::words::begins;
-use ix_model::NoMemory;
-use std::alloc::Global;
+use arrayvec::ArrayVec;
 use std::marker::Model;
 
-/// The words of a line, which stand in its text.
+/// How many words are kept: no line has more that are read.
+const KEPT: usize = 8;
+
+/// The words of a line. The first eight are kept; of the others it is known how many there are, and whether they are well formed.
 #[derive(Drop)]
 pub(crate) struct Words<'a> {
-    items: Vec<&'a [u8]>,
+    text: &'a [u8],
+    first: ArrayVec<&'a [u8], 8>,
+    count: usize,
+    has_empty: bool,
+    has_open: bool,
 }
 
 impl<'a> Model for Words<'a> {
     ghost use Rattle.std.specs.Prelude.{List, ℕ, map};
+    ghost use Rattle.ix_script.specs.texts.Cutting.{words_of};
+    ghost use Rattle.ix_script.specs.reader.Cut.{AreWords};
 
     ghost Value = { List (List ℕ) };
 
-    ghost view = { λ w. map (λ s. s.now) w.items.items };
+    ghost view = { λ w. words_of w.text.now };
+
+    ghost invariant = { λ w. AreWords (words_of w.text.now) (map (λ s. s.now) w.first.items) w.count w.has_empty w.has_open };
 }
 
 /// The place of the space that ends the first word.
@@ -57,12 +66,10 @@ fn first_word(text: &[u8]) -> (&[u8], Option<&[u8]>)
 /// The text, where it has a byte.
 #[tactic(auto, unfolding(crate::specs::texts::Cutting::words_of))]
 fn if_any(text: &[u8]) -> Option<&[u8]>
-    ensures { words_of text.now ≡ option_map_or (λ front. pieces spot.Front front.now) result [] }
+    ensures words { words_of text.now ≡ option_map_or (λ front. pieces spot.Front front.now) result [] }
+    ensures few { length text.now < 2 ^ 64 }
 {
-    match text {
-        [] => None,
-        [_, ..] => Some(text),
-    }
+    if text.len() == 0 { None } else { Some(text) }
 }
 
 /// Whether the quote that closes a word is its last byte.
@@ -94,60 +101,74 @@ fn is_empty(word: &[u8]) -> bool
     }
 }
 
-fn any_empty(words: &[&[u8]]) -> bool
-    ensures { result ≡ list_any (λ s. is_empty s.now) words.now }
+fn word_at<'a>(words: &[&'a [u8]], i: usize) -> &'a [u8]
+    ensures { result.now ≡ word_at (map (λ s. s.now) words.now) i }
 {
-    words.iter().any(|word| is_empty(word))
+    match words.get(i) {
+        Some(word) => word,
+        None => &[],
+    }
 }
 
-fn any_open(words: &[&[u8]]) -> bool
-    ensures { result ≡ list_any (λ s. is_open s.now) words.now }
+/// Keeps a word, where there is room.
+fn keep<'a>(first: &mut ArrayVec<&'a [u8], 8>, word: &'a [u8])
+    ensures { map (λ s. s.now) first.new.items ≡ take 8 (map (λ s. s.now) first.old.items ++ word.now ∷ []) }
 {
-    words.iter().any(|word| is_open(word))
+    if first.len() < KEPT {
+        first.push(word);
+    }
 }
 
 impl<'a> Words<'a> {
     /// The words of a line.
-    pub fn cut(alloc: Global, text: &'a [u8]) -> Result<Words<'a>, NoMemory>
-        ensures { IfOk result (λ w. w ≡ words_of text.now) }
+    pub fn cut(text: &'a [u8]) -> Words<'a>
+        ensures { result ≡ words_of text.now }
     {
-        let mut items = Vec::new(alloc);
+        let mut first = ArrayVec::new();
+        let mut count = 0;
+        let mut has_empty = false;
+        let mut has_open = false;
         let mut rest = if_any(text);
         'words: while let Some(front) = rest {
             let (word, more) = first_word(front);
-            match items.push(word) {
-                Ok(()) => rest = more,
-                Err(_) => return Err(NoMemory),
-            }
+            keep(&mut first, word);
+            count += 1;
+            has_empty |= is_empty(word);
+            has_open |= is_open(word);
+            rest = more;
         }
-        Ok(Words { items })
+        Words {
+            text,
+            first,
+            count,
+            has_empty,
+            has_open,
+        }
     }
 
     pub fn len(&self) -> usize
         ensures { result ≡ length self.now }
     {
-        self.items.len()
+        self.count
     }
 
     /// The word at a place from 0; no bytes where there is none.
     pub fn get(&self, i: usize) -> &'a [u8]
+        requires { i < 8 }
         ensures { result.now ≡ word_at self.now i }
     {
-        match self.items.get(i) {
-            Some(word) => word,
-            None => &[],
-        }
+        word_at(self.first.as_slice(), i)
     }
 
     pub fn has_empty(&self) -> bool
         ensures { result ≡ has_empty_word self.now }
     {
-        any_empty(self.items.as_slice())
+        self.has_empty
     }
 
     pub fn has_open_quote(&self) -> bool
         ensures { result ≡ has_open_quote self.now }
     {
-        any_open(self.items.as_slice())
+        self.has_open
     }
 }

@@ -7,7 +7,7 @@ ghost use Rattle.ix_script.specs.lines.Kinds as kind;
 ghost use Rattle.ix_script.specs.reader.Readers.{Reads};
 ghost use Rattle.ix_script.specs.texts.Words.{is_letter, is_digit, begins_with, may_stand_in_script_name, is_reserved, is_script_name, name_of, is_numeral, value, number_of};
 
-use crate::refused::Refused;
+use crate::rule::Rule;
 use ix_model::Name;
 
 /// Whether the two are the same bytes.
@@ -85,14 +85,14 @@ fn is_script_name(word: &[u8]) -> bool
 
 /// The name of a file system, a process, a lane or a descriptor.
 #[tactic(auto, unfolding(crate::specs::texts::Words::name_of, crate::specs::lines::Kinds::places_fault, crate::specs::lines::Kinds::first_broken))]
-pub(crate) fn name(word: &[u8]) -> Result<Name, Refused>
+pub(crate) fn name(word: &[u8]) -> Result<Name, Rule>
     ensures own { Reads (λ x. x) result ((kind.Own, word.now) ∷ []) (name_of word.now) }
     ensures proc { Reads (λ x. x) result ((kind.Proc, word.now) ∷ []) (name_of word.now) }
     ensures new_proc { Reads (λ x. x) result ((kind.NewProc, word.now) ∷ []) (name_of word.now) }
     ensures new_fd { Reads (λ x. x) result ((kind.NewFd, word.now) ∷ []) (name_of word.now) }
 {
     if !is_script_name(word) {
-        return Err(Refused::Breaks(11));
+        return Err(Rule::BAD_NAME);
     }
     match Name::read(word) {
         Some(name) => Ok(name),

@@ -1,26 +1,17 @@
 ghost use Rattle.std.specs.Prelude.{◌≡◌};
 ghost use Rattle.ix_script.specs.reader.Least.{least, joined};
 
-use crate::refused::Refused;
+use crate::rule::Rule;
 
 /// The lesser of two rules.
-fn least(a: Refused, b: Refused) -> Refused
+fn least(a: Rule, b: Rule) -> Rule
     ensures { result ≡ least a b }
 {
-    match a {
-        Refused::NoMemory => Refused::NoMemory,
-        Refused::Breaks(m) => match b {
-            Refused::NoMemory => Refused::NoMemory,
-            Refused::Breaks(n) => Refused::Breaks(m.min(n)),
-        },
-    }
+    Rule(a.0.min(b.0))
 }
 
 /// Both values; else the least rule that is broken.
-pub(crate) fn both<A: Drop, B: Drop>(
-    a: Result<A, Refused>,
-    b: Result<B, Refused>,
-) -> Result<(A, B), Refused>
+pub(crate) fn both<A: Drop, B: Drop>(a: Result<A, Rule>, b: Result<B, Rule>) -> Result<(A, B), Rule>
     ensures { result ≡ joined a b }
 {
     match a {

@@ -6,10 +6,9 @@ ghost use Rattle.ix_script.specs.declared.cutting.form.Form.TheVariants as form;
 use crate::cutting::cut::Words;
 use crate::forms::both::both;
 use crate::line::Line;
-use crate::refused::Refused;
-use std::alloc::Global;
+use crate::rule::Rule;
 
-pub(crate) fn open(words: &Words<'_>) -> Result<Line, Refused>
+pub(crate) fn open<'a>(words: &Words<'a>) -> Result<Line<'a>, Rule>
     ensures { Reads (λ x. x) result (places form.Open words.now) (said form.Open words.now) }
 {
     let (proc, (path, (mode, named))) = both(
@@ -24,45 +23,42 @@ pub(crate) fn open(words: &Words<'_>) -> Result<Line, Refused>
     })
 }
 
-pub(crate) fn write(alloc: Global, words: &Words<'_>) -> Result<Line, Refused>
+pub(crate) fn write<'a>(words: &Words<'a>) -> Result<Line<'a>, Rule>
     ensures { Reads (λ x. x) result (places form.Write words.now) (said form.Write words.now) }
 {
-    let (proc, (fd, bytes)) = both(
-        words.name(1),
-        both(words.fd(2), words.payload(alloc, 4_096, 3)),
-    )?;
+    let (proc, (fd, bytes)) = both(words.name(1), both(words.fd(2), words.payload(3)))?;
     Ok(Line::Write { proc, fd, bytes })
 }
 
-pub(crate) fn dup(words: &Words<'_>) -> Result<Line, Refused>
+pub(crate) fn dup<'a>(words: &Words<'a>) -> Result<Line<'a>, Rule>
     ensures { Reads (λ x. x) result (places form.Dup words.now) (said form.Dup words.now) }
 {
     let (proc, (fd, named)) = both(words.name(1), both(words.fd(2), words.name_after(3)))?;
     Ok(Line::Dup { proc, fd, named })
 }
 
-pub(crate) fn pipe(words: &Words<'_>) -> Result<Line, Refused>
+pub(crate) fn pipe<'a>(words: &Words<'a>) -> Result<Line<'a>, Rule>
     ensures { Reads (λ x. x) result (places form.Pipe words.now) (said form.Pipe words.now) }
 {
     let (proc, named) = both(words.name(1), words.two_names_after())?;
     Ok(Line::Pipe { proc, named })
 }
 
-pub(crate) fn link(words: &Words<'_>) -> Result<Line, Refused>
+pub(crate) fn link<'a>(words: &Words<'a>) -> Result<Line<'a>, Rule>
     ensures { Reads (λ x. x) result (places form.Link words.now) (said form.Link words.now) }
 {
     let (proc, (target, path)) = both(words.name(1), both(words.path(2), words.path(3)))?;
     Ok(Line::Link { proc, target, path })
 }
 
-pub(crate) fn list(words: &Words<'_>) -> Result<Line, Refused>
+pub(crate) fn list<'a>(words: &Words<'a>) -> Result<Line<'a>, Rule>
     ensures { Reads (λ x. x) result (places form.List words.now) (said form.List words.now) }
 {
     let (proc, (path, index)) = both(words.name(1), both(words.path(2), words.any_number(3)))?;
     Ok(Line::List { proc, path, index })
 }
 
-pub(crate) fn copy(words: &Words<'_>) -> Result<Line, Refused>
+pub(crate) fn copy<'a>(words: &Words<'a>) -> Result<Line<'a>, Rule>
     ensures { Reads (λ x. x) result (places form.Copy words.now) (said form.Copy words.now) }
 {
     let (proc, (from, (to, count))) = both(
@@ -77,14 +73,14 @@ pub(crate) fn copy(words: &Words<'_>) -> Result<Line, Refused>
     })
 }
 
-pub(crate) fn setlabel(words: &Words<'_>) -> Result<Line, Refused>
+pub(crate) fn setlabel<'a>(words: &Words<'a>) -> Result<Line<'a>, Rule>
     ensures { Reads (λ x. x) result (places form.Setlabel words.now) (said form.Setlabel words.now) }
 {
     let (proc, (path, label)) = both(words.name(1), both(words.path(2), words.label(3)))?;
     Ok(Line::Setlabel { proc, path, label })
 }
 
-pub(crate) fn setpriv(words: &Words<'_>) -> Result<Line, Refused>
+pub(crate) fn setpriv<'a>(words: &Words<'a>) -> Result<Line<'a>, Rule>
     ensures { Reads (λ x. x) result (places form.Setpriv words.now) (said form.Setpriv words.now) }
 {
     let (proc, (path, (cap, lic))) = both(

@@ -8,10 +8,11 @@ use crate::cutting::cut::Words;
 use crate::cutting::form::{Counted, OnFd, OnPath, Plain};
 use crate::forms::both::both;
 use crate::line::{FdWord, Line};
-use crate::refused::Refused;
-use ix_model::{Name, Path};
+use crate::rule::Rule;
+use crate::values::paths::PathWord;
+use ix_model::Name;
 
-fn plain_line(command: Plain, proc: Name) -> Line
+fn plain_line<'a>(command: Plain, proc: Name) -> Line<'a>
     ensures { result ≡ plain_line command proc }
 {
     match command {
@@ -22,8 +23,8 @@ fn plain_line(command: Plain, proc: Name) -> Line
     }
 }
 
-fn path_line(command: OnPath, proc: Name, path: Path) -> Line
-    ensures { result ≡ path_line command proc path }
+fn path_line<'a>(command: OnPath, proc: Name, path: PathWord<'a>) -> Line<'a>
+    ensures { result ≡ path_line command proc path.entry }
 {
     match command {
         OnPath::Create => Line::Create { proc, path },
@@ -39,7 +40,7 @@ fn path_line(command: OnPath, proc: Name, path: Path) -> Line
     }
 }
 
-fn fd_line(command: OnFd, proc: Name, fd: FdWord) -> Line
+fn fd_line<'a>(command: OnFd, proc: Name, fd: FdWord) -> Line<'a>
     ensures { result ≡ fd_line command proc fd }
 {
     match command {
@@ -50,7 +51,7 @@ fn fd_line(command: OnFd, proc: Name, fd: FdWord) -> Line
     }
 }
 
-fn counted_line(command: Counted, proc: Name, fd: FdWord, n: u32) -> Line
+fn counted_line<'a>(command: Counted, proc: Name, fd: FdWord, n: u32) -> Line<'a>
     ensures { result ≡ counted_line command proc fd n }
 {
     match command {
@@ -60,28 +61,28 @@ fn counted_line(command: Counted, proc: Name, fd: FdWord, n: u32) -> Line
     }
 }
 
-pub(crate) fn plain(command: Plain, words: &Words<'_>) -> Result<Line, Refused>
+pub(crate) fn plain<'a>(command: Plain, words: &Words<'a>) -> Result<Line<'a>, Rule>
     ensures { Reads (λ x. x) result (places (form.Plain command) words.now) (said (form.Plain command) words.now) }
 {
     let proc = words.name(1)?;
     Ok(plain_line(command, proc))
 }
 
-pub(crate) fn on_path(command: OnPath, words: &Words<'_>) -> Result<Line, Refused>
+pub(crate) fn on_path<'a>(command: OnPath, words: &Words<'a>) -> Result<Line<'a>, Rule>
     ensures { Reads (λ x. x) result (places (form.OnPath command) words.now) (said (form.OnPath command) words.now) }
 {
     let (proc, path) = both(words.name(1), words.path(2))?;
     Ok(path_line(command, proc, path))
 }
 
-pub(crate) fn on_fd(command: OnFd, words: &Words<'_>) -> Result<Line, Refused>
+pub(crate) fn on_fd<'a>(command: OnFd, words: &Words<'a>) -> Result<Line<'a>, Rule>
     ensures { Reads (λ x. x) result (places (form.OnFd command) words.now) (said (form.OnFd command) words.now) }
 {
     let (proc, fd) = both(words.name(1), words.fd(2))?;
     Ok(fd_line(command, proc, fd))
 }
 
-pub(crate) fn counted(command: Counted, words: &Words<'_>) -> Result<Line, Refused>
+pub(crate) fn counted<'a>(command: Counted, words: &Words<'a>) -> Result<Line<'a>, Rule>
     ensures { Reads (λ x. x) result (places (form.Counted command) words.now) (said (form.Counted command) words.now) }
 {
     let (proc, (fd, n)) = both(words.name(1), both(words.fd(2), words.any_number(3)))?;

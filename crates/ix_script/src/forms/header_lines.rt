@@ -6,17 +6,16 @@ ghost use Rattle.ix_script.specs.declared.cutting.form.Form.TheVariants as form;
 use crate::cutting::cut::Words;
 use crate::forms::both::both;
 use crate::line::Line;
-use crate::refused::Refused;
-use std::alloc::Global;
+use crate::rule::Rule;
 
-pub(crate) fn limit(words: &Words<'_>) -> Result<Line, Refused>
+pub(crate) fn limit<'a>(words: &Words<'a>) -> Result<Line<'a>, Rule>
     ensures { Reads (λ x. x) result (places form.Limit words.now) (said form.Limit words.now) }
 {
     let (what, number) = both(words.what(1), words.bound())?;
     Ok(Line::Limit { what, number })
 }
 
-pub(crate) fn fs(words: &Words<'_>) -> Result<Line, Refused>
+pub(crate) fn fs<'a>(words: &Words<'a>) -> Result<Line<'a>, Rule>
     ensures { Reads (λ x. x) result (places form.Fs words.now) (said form.Fs words.now) }
 {
     let (name, (ceiling, (blocks, inodes))) = both(
@@ -34,7 +33,7 @@ pub(crate) fn fs(words: &Words<'_>) -> Result<Line, Refused>
     })
 }
 
-pub(crate) fn proc(words: &Words<'_>) -> Result<Line, Refused>
+pub(crate) fn proc<'a>(words: &Words<'a>) -> Result<Line<'a>, Rule>
     ensures { Reads (λ x. x) result (places form.Proc words.now) (said form.Proc words.now) }
 {
     let (name, (label, (ceiling, (cap, lic)))) = both(
@@ -53,7 +52,7 @@ pub(crate) fn proc(words: &Words<'_>) -> Result<Line, Refused>
     })
 }
 
-pub(crate) fn dir(words: &Words<'_>) -> Result<Line, Refused>
+pub(crate) fn dir<'a>(words: &Words<'a>) -> Result<Line<'a>, Rule>
     ensures { Reads (λ x. x) result (places form.Dir words.now) (said form.Dir words.now) }
 {
     let (path, (label, frozen)) = both(words.made_path(1), both(words.label(2), words.state(3)))?;
@@ -64,7 +63,7 @@ pub(crate) fn dir(words: &Words<'_>) -> Result<Line, Refused>
     })
 }
 
-pub(crate) fn file(alloc: Global, words: &Words<'_>) -> Result<Line, Refused>
+pub(crate) fn file<'a>(words: &Words<'a>) -> Result<Line<'a>, Rule>
     ensures { Reads (λ x. x) result (places form.File words.now) (said form.File words.now) }
 {
     let (path, (label, (frozen, (cap, (lic, bytes))))) = both(
@@ -73,10 +72,7 @@ pub(crate) fn file(alloc: Global, words: &Words<'_>) -> Result<Line, Refused>
             words.label(2),
             both(
                 words.state(3),
-                both(
-                    words.privs(4),
-                    both(words.privs(5), words.payload(alloc, 1_048_576, 6)),
-                ),
+                both(words.privs(4), both(words.privs(5), words.payload(6))),
             ),
         ),
     )?;
@@ -90,7 +86,7 @@ pub(crate) fn file(alloc: Global, words: &Words<'_>) -> Result<Line, Refused>
     })
 }
 
-pub(crate) fn lane(words: &Words<'_>) -> Result<Line, Refused>
+pub(crate) fn lane<'a>(words: &Words<'a>) -> Result<Line<'a>, Rule>
     ensures { Reads (λ x. x) result (places form.Lane words.now) (said form.Lane words.now) }
 {
     let name = words.name(1)?;

@@ -9,12 +9,11 @@ use crate::forms::group_lines::{counted, on_fd, on_path, plain};
 use crate::forms::header_lines::{dir, file, fs, lane, limit, proc};
 use crate::forms::process_lines::{ceiling, droplic, exit, fork, grant, login, readlog, setself};
 use crate::line::Line;
-use crate::refused::Refused;
-use std::alloc::Global;
+use crate::rule::Rule;
 
 /// What a line of that form says, by rules 11 to 19: those that a word can break by itself.
 #[tactic(auto, unfolding(crate::specs::lines::Kinds::places_fault, crate::specs::lines::Kinds::first_broken))]
-pub(crate) fn line_by_form(alloc: Global, form: Form, words: &Words<'_>) -> Result<Line, Refused>
+pub(crate) fn line_by_form<'a>(form: Form, words: &Words<'a>) -> Result<Line<'a>, Rule>
     ensures { Reads (λ x. x) result (places form words.now) (said form words.now) }
 {
     match form {
@@ -22,7 +21,7 @@ pub(crate) fn line_by_form(alloc: Global, form: Form, words: &Words<'_>) -> Resu
         Form::Fs => fs(words),
         Form::Proc => proc(words),
         Form::Dir => dir(words),
-        Form::File => file(alloc, words),
+        Form::File => file(words),
         Form::Phase => Ok(Line::Phase),
         Form::Lane => lane(words),
         Form::Plain(command) => plain(command, words),
@@ -30,7 +29,7 @@ pub(crate) fn line_by_form(alloc: Global, form: Form, words: &Words<'_>) -> Resu
         Form::OnFd(command) => on_fd(command, words),
         Form::Counted(command) => counted(command, words),
         Form::Open => open(words),
-        Form::Write => write(alloc, words),
+        Form::Write => write(words),
         Form::Dup => dup(words),
         Form::Pipe => pipe(words),
         Form::Link => link(words),

@@ -6,58 +6,58 @@ ghost use Rattle.ix_script.specs.declared.cutting.form.Form.TheVariants as form;
 use crate::cutting::cut::Words;
 use crate::forms::both::both;
 use crate::line::Line;
-use crate::refused::Refused;
+use crate::rule::Rule;
 
-pub(crate) fn fork(words: &Words<'_>) -> Result<Line, Refused>
+pub(crate) fn fork<'a>(words: &Words<'a>) -> Result<Line<'a>, Rule>
     ensures { Reads (λ x. x) result (places form.Fork words.now) (said form.Fork words.now) }
 {
     let (proc, (keep, named)) = both(words.name(1), both(words.keep(2), words.name_after(3)))?;
     Ok(Line::Fork { proc, keep, named })
 }
 
-pub(crate) fn exit(words: &Words<'_>) -> Result<Line, Refused>
+pub(crate) fn exit<'a>(words: &Words<'a>) -> Result<Line<'a>, Rule>
     ensures { Reads (λ x. x) result (places form.Exit words.now) (said form.Exit words.now) }
 {
     let (proc, status) = both(words.name(1), words.number(0, 255, 2))?;
     Ok(Line::Exit { proc, status })
 }
 
-pub(crate) fn setself(words: &Words<'_>) -> Result<Line, Refused>
+pub(crate) fn setself<'a>(words: &Words<'a>) -> Result<Line<'a>, Rule>
     ensures { Reads (λ x. x) result (places form.Setself words.now) (said form.Setself words.now) }
 {
     let (proc, label) = both(words.name(1), words.label(2))?;
     Ok(Line::Setself { proc, label })
 }
 
-pub(crate) fn droplic(words: &Words<'_>) -> Result<Line, Refused>
+pub(crate) fn droplic<'a>(words: &Words<'a>) -> Result<Line<'a>, Rule>
     ensures { Reads (λ x. x) result (places form.Droplic words.now) (said form.Droplic words.now) }
 {
     let (proc, set) = both(words.name(1), words.privs(2))?;
     Ok(Line::Droplic { proc, set })
 }
 
-pub(crate) fn grant(words: &Words<'_>) -> Result<Line, Refused>
+pub(crate) fn grant<'a>(words: &Words<'a>) -> Result<Line<'a>, Rule>
     ensures { Reads (λ x. x) result (places form.Grant words.now) (said form.Grant words.now) }
 {
     let (proc, (to, set)) = both(words.name(1), both(words.name(2), words.privs(3)))?;
     Ok(Line::Grant { proc, to, set })
 }
 
-pub(crate) fn ceiling(words: &Words<'_>) -> Result<Line, Refused>
+pub(crate) fn ceiling<'a>(words: &Words<'a>) -> Result<Line<'a>, Rule>
     ensures { Reads (λ x. x) result (places form.Ceiling words.now) (said form.Ceiling words.now) }
 {
     let (proc, (of, label)) = both(words.name(1), both(words.name(2), words.label(3)))?;
     Ok(Line::Ceiling { proc, of, label })
 }
 
-pub(crate) fn readlog(words: &Words<'_>) -> Result<Line, Refused>
+pub(crate) fn readlog<'a>(words: &Words<'a>) -> Result<Line<'a>, Rule>
     ensures { Reads (λ x. x) result (places form.Readlog words.now) (said form.Readlog words.now) }
 {
     let (proc, index) = both(words.name(1), words.any_number(2))?;
     Ok(Line::Readlog { proc, index })
 }
 
-pub(crate) fn login(words: &Words<'_>) -> Result<Line, Refused>
+pub(crate) fn login<'a>(words: &Words<'a>) -> Result<Line<'a>, Rule>
     ensures { Reads (λ x. x) result (places form.Login words.now) (said form.Login words.now) }
 {
     let (proc, (fd, (hand, named))) = both(

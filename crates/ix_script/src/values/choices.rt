@@ -5,12 +5,12 @@ ghost use Rattle.ix_script.specs.texts.Words.{mode_of, state_of, what_of};
 
 use crate::cutting::words::is;
 use crate::line::What;
-use crate::refused::Refused;
+use crate::rule::Rule;
 use ix_model::Mode;
 
 /// `r`, `w` or `rw`.
 #[tactic(auto, unfolding(crate::specs::texts::Words::mode_of, crate::specs::lines::Kinds::places_fault, crate::specs::lines::Kinds::first_broken))]
-pub(crate) fn mode(word: &[u8]) -> Result<Mode, Refused>
+pub(crate) fn mode(word: &[u8]) -> Result<Mode, Rule>
     ensures { Reads (λ x. x) result ((kind.Mode, word.now) ∷ []) (mode_of word.now) }
 {
     if is(word, b"r") {
@@ -20,13 +20,13 @@ pub(crate) fn mode(word: &[u8]) -> Result<Mode, Refused>
     } else if is(word, b"rw") {
         Ok(Mode::Both)
     } else {
-        Err(Refused::Breaks(17))
+        Err(Rule::UNKNOWN_WORD)
     }
 }
 
 /// Whether a state is frozen.
 #[tactic(auto, unfolding(crate::specs::texts::Words::state_of, crate::specs::lines::Kinds::places_fault, crate::specs::lines::Kinds::first_broken))]
-pub(crate) fn state(word: &[u8]) -> Result<bool, Refused>
+pub(crate) fn state(word: &[u8]) -> Result<bool, Rule>
     ensures { Reads (λ x. x) result ((kind.State, word.now) ∷ []) (state_of word.now) }
 {
     if is(word, b"free") {
@@ -34,7 +34,7 @@ pub(crate) fn state(word: &[u8]) -> Result<bool, Refused>
     } else if is(word, b"frozen") {
         Ok(true)
     } else {
-        Err(Refused::Breaks(17))
+        Err(Rule::UNKNOWN_WORD)
     }
 }
 
@@ -59,11 +59,11 @@ pub(crate) fn what_by_name(word: &[u8]) -> Option<What>
 
 /// What a `limit` line limits.
 #[tactic(auto, unfolding(crate::specs::lines::Kinds::places_fault, crate::specs::lines::Kinds::first_broken))]
-pub(crate) fn what(word: &[u8]) -> Result<What, Refused>
+pub(crate) fn what(word: &[u8]) -> Result<What, Rule>
     ensures { Reads (λ x. x) result ((kind.Limited, word.now) ∷ []) (what_of word.now) }
 {
     match what_by_name(word) {
         Some(what) => Ok(what),
-        None => Err(Refused::Breaks(17)),
+        None => Err(Rule::UNKNOWN_WORD),
     }
 }

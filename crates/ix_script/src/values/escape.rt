@@ -18,7 +18,7 @@ pub(crate) enum Escape {
 
 /// The byte that a backslash and this byte stand for.
 #[tactic(auto, unfolding(crate::specs::texts::Payloads::escaped_byte))]
-fn escaped(b: u8) -> Option<u8>
+pub(crate) fn escaped(b: u8) -> Option<u8>
     ensures { result ≡ escaped_byte b }
 {
     if b == b'\\' || b == b'"' {

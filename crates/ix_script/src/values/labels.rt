@@ -3,11 +3,11 @@ ghost use Rattle.ix_script.specs.lines.Kinds as kind;
 ghost use Rattle.ix_script.specs.texts.Labels.{label_of};
 ghost use Rattle.ix_script.specs.reader.Readers.{Reads};
 
-use crate::refused::Refused;
+use crate::rule::Rule;
 use ix_label::Label;
 
 /// The label of that spelling.
-pub(crate) fn label(word: &[u8]) -> Result<Label, Refused>
+pub(crate) fn label(word: &[u8]) -> Result<Label, Rule>
     ensures { Reads (λ x. x) result ((kind.Label, word.now) ∷ []) (label_of word.now) }
 {
     match Label::read(word) {
@@ -15,6 +15,6 @@ pub(crate) fn label(word: &[u8]) -> Result<Label, Refused>
             label.is_label();
             Ok(label)
         }
-        Err(_) => Err(Refused::Breaks(14)),
+        Err(_) => Err(Rule::BAD_LABEL),
     }
 }

@@ -8,7 +8,7 @@ ghost use Rattle.ix_script.specs.texts.Words.{is_numeral, value, number_of, fd_o
 
 use crate::cutting::words::{all_digits, begins, begins_with_digit, is, name};
 use crate::line::{FdWord, KeepWord, What};
-use crate::refused::Refused;
+use crate::rule::Rule;
 use crate::values::choices::what_by_name;
 
 #[tactic(auto, unfolding(crate::specs::texts::Words::is_numeral))]
@@ -35,20 +35,20 @@ pub(crate) fn value(word: &[u8]) -> Option<u32>
 
 /// A decimal number without leading zeros, within bounds.
 #[tactic(auto, unfolding(crate::specs::texts::Words::number_of, crate::specs::lines::Kinds::places_fault, crate::specs::lines::Kinds::first_broken))]
-pub(crate) fn number(low: u32, high: u32, word: &[u8]) -> Result<u32, Refused>
+pub(crate) fn number(low: u32, high: u32, word: &[u8]) -> Result<u32, Rule>
     ensures number { Reads (λ x. x) result ((kind.Number low high, word.now) ∷ []) (number_of low high word.now) }
     ensures within { IfOk result (λ n. n ≤ high) }
 {
     if !is_numeral(word) {
-        return Err(Refused::Breaks(12));
+        return Err(Rule::BAD_NUMBER);
     }
     let Some(n) = value(word) else {
-        return Err(Refused::Breaks(13));
+        return Err(Rule::OUT_OF_RANGE);
     };
     if low <= n && n <= high {
         Ok(n)
     } else {
-        Err(Refused::Breaks(13))
+        Err(Rule::OUT_OF_RANGE)
     }
 }
 
@@ -77,7 +77,7 @@ fn bounds(word: &[u8]) -> (u32, u32)
 
 /// The number of a `limit` line for that word.
 #[tactic(auto, unfolding(crate::specs::lines::Kinds::places_fault, crate::specs::lines::Kinds::first_broken))]
-pub(crate) fn bound(what: &[u8], word: &[u8]) -> Result<u32, Refused>
+pub(crate) fn bound(what: &[u8], word: &[u8]) -> Result<u32, Rule>
     ensures { Reads (λ x. x) result ((kind.Bound what.now, word.now) ∷ []) (number_of (bounds what.now).0 (bounds what.now).1 word.now) }
 {
     let (low, high) = bounds(what);
@@ -86,7 +86,7 @@ pub(crate) fn bound(what: &[u8], word: &[u8]) -> Result<u32, Refused>
 
 /// A number up to 255, or a name.
 #[tactic(auto, unfolding(crate::specs::texts::Words::fd_of, crate::specs::lines::Kinds::places_fault, crate::specs::lines::Kinds::first_broken))]
-pub(crate) fn fd(word: &[u8]) -> Result<FdWord, Refused>
+pub(crate) fn fd(word: &[u8]) -> Result<FdWord, Rule>
     ensures { Reads (λ x. x) result ((kind.Fd, word.now) ∷ []) (fd_of word.now) }
 {
     if begins_with_digit(word) {
@@ -99,7 +99,7 @@ pub(crate) fn fd(word: &[u8]) -> Result<FdWord, Refused>
 
 /// `all`, `none`, or a descriptor.
 #[tactic(auto, unfolding(crate::specs::texts::Words::keep_of, crate::specs::lines::Kinds::places_fault, crate::specs::lines::Kinds::first_broken))]
-pub(crate) fn keep(word: &[u8]) -> Result<KeepWord, Refused>
+pub(crate) fn keep(word: &[u8]) -> Result<KeepWord, Rule>
     ensures { Reads (λ x. x) result ((kind.Keep, word.now) ∷ []) (keep_of word.now) }
 {
     if is(word, b"all") {

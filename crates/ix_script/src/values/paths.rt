@@ -4,11 +4,13 @@ ghost use Rattle.std.specs.List.{list_all};
 ghost use Rattle.std.proofs.Common.{option_map};
 ghost use Rattle.ix_script.specs.lines.Kinds as kind;
 ghost use Rattle.ix_script.specs.reader.Readers.{Reads};
+ghost use Rattle.ix_script.specs.texts.Spellings.{path_text};
 ghost use Rattle.ix_script.specs.texts.Words.{may_stand_in_path, between_slashes, names_of, path_from, absolute_path, relative_path, path_of, made_path_of};
 
 use crate::cutting::words::begins;
-use crate::refused::Refused;
+use crate::rule::Rule;
 use ix_model::{Name, Path};
+use std::marker::Model;
 
 fn slash(text: &[u8]) -> Option<usize>
     ensures place { result ≡ position (λ b. b == 47) text.now }
@@ -83,27 +85,66 @@ fn path_by_word(word: &[u8]) -> Option<Path>
     }
 }
 
+/// A path, as a word of a script spells it. It borrows the word, and contracts see the path.
+#[derive(Drop)]
+pub struct PathWord<'a> {
+    word: &'a [u8],
+}
+
+impl<'a> Model for PathWord<'a> {
+    ghost use Rattle.std.specs.Prelude.{◌≡◌, Some};
+    ghost use Rattle.ix_model.specs.world.Naming.{PathOf};
+    ghost use Rattle.ix_script.specs.texts.Words.{path_in, path_of};
+
+    ghost Value = { PathOf };
+
+    ghost view = { λ p. path_in p.word.now };
+
+    ghost invariant = { λ p. path_of p.word.now ≡ Some (path_in p.word.now) };
+}
+
+impl<'a> PathWord<'a> {
+    /// The path.
+    pub fn path(&self) -> Path
+        ensures { result ≡ self.now }
+    {
+        match path_by_word(self.word) {
+            Some(path) => path,
+            None => unreachable!(),
+        }
+    }
+
+    /// Its text, which is the word.
+    pub fn as_bytes(&self) -> &'a [u8]
+        ensures { result.now ≡ path_text self.now }
+    {
+        self.word
+    }
+}
+
 /// A path.
 #[tactic(auto, unfolding(crate::specs::lines::Kinds::places_fault, crate::specs::lines::Kinds::first_broken))]
-pub(crate) fn path(word: &[u8]) -> Result<Path, Refused>
+pub(crate) fn path(word: &[u8]) -> Result<PathWord<'_>, Rule>
     ensures { Reads (λ x. x) result ((kind.AnyPath, word.now) ∷ []) (path_of word.now) }
 {
-    match path_by_word(word) {
-        Some(path) => Ok(path),
-        None => Err(Refused::Breaks(16)),
+    if path_by_word(word).is_some() {
+        Ok(PathWord { word })
+    } else {
+        Err(Rule::BAD_PATH)
     }
 }
 
 /// An absolute path with a name.
 #[tactic(auto, unfolding(crate::specs::texts::Words::made_path_of, crate::specs::lines::Kinds::places_fault, crate::specs::lines::Kinds::first_broken))]
-pub(crate) fn made_path(word: &[u8]) -> Result<Path, Refused>
+pub(crate) fn made_path(word: &[u8]) -> Result<PathWord<'_>, Rule>
     ensures { Reads (λ x. x) result ((kind.MadePath, word.now) ∷ []) (made_path_of word.now) }
 {
     if !begins(b'/', word) || word.len() == 1 {
-        return Err(Refused::Breaks(16));
+        return Err(Rule::BAD_PATH);
     }
-    match path_by_word(word) {
-        Some(path) => Ok(path),
-        None => Err(Refused::Breaks(16)),
+    if path_by_word(word).is_some() {
+        Ok(PathWord { word })
+    } else {
+        Err(Rule::BAD_PATH)
     }
 }

@@ -1,71 +1,89 @@
-ghost use Rattle.std.specs.Prelude.{◌≡◌, ℕ, ◌≤◌, ◌+◌, ◌==◌, [], ◌∷◌, length, position, IfSome, IfOk, OnOk, ◌++◌, replicate};
+ghost use Rattle.std.specs.Prelude.{◌≡◌, ℕ, ◌<◌, ◌≤◌, ◌+◌, ◌^◌, ◌==◌, ◌∷◌, [], length, position, IfSome, Some, None, take, replicate};
 ghost use Rattle.ix_script.specs.lines.Kinds as kind;
-ghost use Rattle.ix_script.specs.texts.Payloads.{pairs_of, quoted_from, bytes_of, times_from, times_of, payload_of};
+ghost use Rattle.ix_script.specs.texts.Payloads.{bytes_of, pairs_of, quoted_from, times_from, times_of, payload_of};
 ghost use Rattle.ix_script.specs.reader.Readers.{Reads};
 ghost use Rattle.ix_script.specs.lines.Said.{payload_within};
-ghost use Rattle.ix_script.specs.texts.Spelled.{Spells};
+ghost use Rattle.ix_script.specs.texts.Spelled.{Counts, Spells};
 ghost use Rattle.ix_script.specs.declared.values.escape.Escape.TheVariants as escape;
 
 use crate::cutting::words::begins;
-use crate::refused::Refused;
+use crate::rule::Rule;
 use crate::values::escape::Escape;
 use crate::values::hexes::{pair, two_digits};
 use crate::values::numbers::{is_numeral, value};
-use ix_model::{Bytes, NoMemory};
-use std::alloc::Global;
+use crate::values::spelling::{PayloadBytes, Spelling};
+use std::marker::Model;
 
-/// The bytes of pairs of digits.
-fn pairs(alloc: Global, text: &[u8]) -> Result<Bytes, Refused>
-    ensures { (most : ℕ) → Spells most result (pairs_of text.now) }
+/// The bytes that a word of a script spells, at most so many. It borrows the word, and contracts see the list of the bytes.
+#[derive(Drop)]
+pub struct Payload<'a, const MOST: u32> {
+    spelling: Spelling<'a>,
+    len: u32,
+}
+
+impl<'a, const MOST: u32> Model for Payload<'a, MOST> {
+    ghost use Rattle.std.specs.Prelude.{List, ℕ};
+    ghost use Rattle.ix_script.specs.texts.PayloadBytes.{IsPayload, bytes_in};
+
+    ghost Value = { List ℕ };
+
+    ghost view = { λ p. bytes_in p.spelling };
+
+    ghost invariant = { λ p. IsPayload MOST p.spelling p.len };
+}
+
+/// How many bytes pairs of digits spell.
+fn count_of_pairs(text: &[u8]) -> Result<usize, Rule>
+    ensures { (most : ℕ) → Counts most result (pairs_of text.now) }
 {
-    let mut bytes = Bytes::new(alloc);
+    let mut count = 0;
     let mut rest = text;
     'pairs: while rest.len() >= 2 {
         let (_, more) = rest.split_at(2);
-        let Some(byte) = pair(rest[0], rest[1]) else {
-            return Err(Refused::Breaks(18));
+        let Some(_byte) = pair(rest[0], rest[1]) else {
+            return Err(Rule::BAD_PAYLOAD);
         };
-        bytes.push(byte)?;
+        count += 1;
         rest = more;
     }
     if rest.is_empty() {
-        Ok(bytes)
+        Ok(count)
     } else {
-        Err(Refused::Breaks(18))
+        Err(Rule::BAD_PAYLOAD)
     }
 }
 
-/// One byte more, where there is one.
-fn push_any(bytes: &mut Bytes, byte: Option<u8>) -> Result<(), NoMemory>
-    ensures { OnOk result (bytes.new ≡ bytes.old ++ bytes_of byte) }
+fn count_after(count: usize, byte: Option<u8>) -> usize
+    requires { count + 1 < 2 ^ 64 }
+    ensures { result ≡ count + length (bytes_of byte) }
 {
     match byte {
-        Some(byte) => bytes.push(byte),
-        None => Ok(()),
+        Some(_) => count + 1,
+        None => count,
     }
 }
 
-/// What stands in quotes, up to the quote that ends the text.
-fn quoted(alloc: Global, text: &[u8]) -> Result<Bytes, Refused>
-    ensures { (most : ℕ) → Spells most result (quoted_from escape.Plain text.now) }
+/// How many bytes are spelled in quotes, up to the quote that ends the text.
+fn count_of_quoted(text: &[u8]) -> Result<usize, Rule>
+    ensures { (most : ℕ) → Counts most result (quoted_from escape.Plain text.now) }
 {
-    let mut bytes = Bytes::new(alloc);
+    let mut count = 0;
     let mut at = Escape::Plain;
     'bytes: for (i, b) in text.iter().enumerate() {
         if at.ends(*b) {
             return if i + 1 == text.len() {
-                Ok(bytes)
+                Ok(count)
             } else {
-                Err(Refused::Breaks(18))
+                Err(Rule::BAD_PAYLOAD)
             };
         }
         let Some((next, byte)) = at.after(*b) else {
-            return Err(Refused::Breaks(18));
+            return Err(Rule::BAD_PAYLOAD);
         };
-        push_any(&mut bytes, byte)?;
+        count = count_after(count, byte);
         at = next;
     }
-    Err(Refused::Breaks(18))
+    Err(Rule::BAD_PAYLOAD)
 }
 
 fn star(word: &[u8]) -> Option<usize>
@@ -75,71 +93,124 @@ fn star(word: &[u8]) -> Option<usize>
     word.iter().position(|b| *b == b'*')
 }
 
-fn filled(alloc: Global, count: u32, byte: u8) -> Result<Bytes, NoMemory>
-    ensures { IfOk result (λ bytes. bytes ≡ replicate count byte) }
-{
-    let mut bytes = Bytes::new(alloc);
-    'fill: for _i in 0..count {
-        bytes.push(byte)?;
-    }
-    Ok(bytes)
-}
-
 /// A byte so often as a number says, at most so often.
 #[tactic(auto, unfolding(crate::specs::texts::Payloads::times_from, crate::specs::texts::Spelled::spelling_fault))]
-fn times(alloc: Global, most: u32, count: &[u8], digits: &[u8]) -> Result<Bytes, Refused>
+fn times<'a>(most: u32, count: &[u8], digits: &[u8]) -> Result<(Spelling<'a>, usize), Rule>
     ensures { Spells most result (times_from count.now digits.now) }
 {
     if !is_numeral(count) {
-        return Err(Refused::Breaks(18));
+        return Err(Rule::BAD_PAYLOAD);
     }
     let Some(byte) = two_digits(digits) else {
-        return Err(Refused::Breaks(18));
+        return Err(Rule::BAD_PAYLOAD);
     };
     let Some(n) = value(count) else {
-        return Err(Refused::Breaks(19));
+        return Err(Rule::LONG_PAYLOAD);
     };
     if n > most {
-        return Err(Refused::Breaks(19));
+        return Err(Rule::LONG_PAYLOAD);
     }
-    Ok(filled(alloc, n, byte)?)
+    Ok((Spelling::Times(n, byte), n as usize))
 }
 
 #[tactic(auto, unfolding(crate::specs::texts::Payloads::times_of, crate::specs::texts::Spelled::spelling_fault))]
-fn times_by_word(alloc: Global, most: u32, word: &[u8]) -> Result<Bytes, Refused>
+fn times_by_word<'a>(most: u32, word: &[u8]) -> Result<(Spelling<'a>, usize), Rule>
     ensures { Spells most result (times_of word.now) }
 {
     match star(word) {
         Some(k) => {
             let (_, digits) = word.split_at(k + 1);
-            times(alloc, most, &word[..k], digits)
+            times(most, &word[..k], digits)
         }
-        None => Err(Refused::Breaks(18)),
+        None => Err(Rule::BAD_PAYLOAD),
     }
 }
 
+fn pairs(text: &[u8]) -> Result<(Spelling<'_>, usize), Rule>
+    ensures { (most : ℕ) → Spells most result (pairs_of text.now) }
+{
+    match count_of_pairs(text) {
+        Ok(count) => Ok((Spelling::Pairs(text), count)),
+        Err(rule) => Err(rule),
+    }
+}
+
+fn quoted(text: &[u8]) -> Result<(Spelling<'_>, usize), Rule>
+    ensures { (most : ℕ) → Spells most result (quoted_from escape.Plain text.now) }
+{
+    match count_of_quoted(text) {
+        Ok(count) => Ok((Spelling::Quoted(text), count)),
+        Err(rule) => Err(rule),
+    }
+}
+
+/// How a word spells bytes, and how many.
 #[tactic(auto, unfolding(crate::specs::texts::Payloads::payload_of))]
-fn spelled(alloc: Global, most: u32, word: &[u8]) -> Result<Bytes, Refused>
+fn spelled<'a>(most: u32, word: &'a [u8]) -> Result<(Spelling<'a>, usize), Rule>
     ensures { Spells most result (payload_of word.now) }
 {
     if begins(b'"', word) {
-        quoted(alloc, &word[1..])
+        quoted(&word[1..])
     } else if begins(b'x', word) {
-        pairs(alloc, &word[1..])
+        pairs(&word[1..])
     } else {
-        times_by_word(alloc, most, word)
+        times_by_word(most, word)
     }
 }
 
 /// The bytes of a payload, at most so many.
 #[tactic(auto, unfolding(crate::specs::texts::Spelled::spelling_fault, crate::specs::lines::Kinds::places_fault, crate::specs::lines::Kinds::first_broken))]
-pub(crate) fn payload(alloc: Global, most: u32, word: &[u8]) -> Result<Bytes, Refused>
-    ensures { Reads (λ x. x) result ((kind.Payload most, word.now) ∷ []) (payload_within most word.now) }
+pub(crate) fn payload_of<'a, const MOST: u32>(word: &'a [u8]) -> Result<Payload<'a, MOST>, Rule>
+    ensures { Reads (λ x. x) result ((kind.Payload MOST, word.now) ∷ []) (payload_within MOST word.now) }
 {
-    let bytes = spelled(alloc, most, word)?;
-    if bytes.len() <= most as usize {
-        Ok(bytes)
-    } else {
-        Err(Refused::Breaks(19))
+    let (spelling, len) = spelled(MOST, word)?;
+    if len > MOST as usize {
+        return Err(Rule::LONG_PAYLOAD);
+    }
+    Ok(Payload {
+        spelling,
+        len: len as u32,
+    })
+}
+
+impl<'a, const MOST: u32> Payload<'a, MOST> {
+    /// How many bytes there are.
+    pub fn len(&self) -> usize
+        ensures len { result ≡ length self.now }
+        ensures few { result ≤ MOST }
+    {
+        self.len as usize
+    }
+
+    /// The byte that the word says so often, and how often, where it is n*HH.
+    pub(crate) fn times(&self) -> Option<(usize, u8)>
+        ensures { IfSome result (λ t. self.now ≡ replicate t.0 t.1) }
+    {
+        match self.spelling {
+            Spelling::Times(n, byte) => Some((n as usize, byte)),
+            _ => None,
+        }
+    }
+
+    /// The bytes, one after the other.
+    pub fn bytes(&self) -> PayloadBytes<'a>
+        ensures { result ≡ self.now }
+    {
+        PayloadBytes::new(self.spelling)
+    }
+
+    /// Puts the bytes at the front of a buffer.
+    pub fn decode(&self, buf: &mut [u8])
+        requires { length self.now ≤ length buf.old }
+        ensures front { take (length self.now) buf.new ≡ self.now }
+        ensures len { length buf.new ≡ length buf.old }
+    {
+        let mut bytes = self.bytes();
+        'bytes: for i in 0..self.len() {
+            let Some(byte) = bytes.next() else {
+                return;
+            };
+            buf[i] = byte;
+        }
     }
 }

@@ -12,20 +12,20 @@ use crate::cutting::cut::Words;
 use crate::cutting::words::name;
 use crate::forms::both::both;
 use crate::line::{FdWord, KeepWord, What};
-use crate::refused::Refused;
+use crate::rule::Rule;
 use crate::values::choices::{mode, state, what};
 use crate::values::labels::label;
 use crate::values::numbers::{bound, fd, keep, number};
-use crate::values::paths::{made_path, path};
-use crate::values::payload::payload;
+use crate::values::paths::{PathWord, made_path, path};
+use crate::values::payload::{Payload, payload_of};
 use crate::values::privs::privs;
 use ix_label::Label;
-use ix_model::{Bytes, Mode, Name, Path, PrivSet};
-use std::alloc::Global;
+use ix_model::{Mode, Name, PrivSet};
 
 /// What stands at a place, counted from 0, with the command's word at 0.
 impl<'a> Words<'a> {
-    pub fn name(&self, i: usize) -> Result<Name, Refused>
+    pub fn name(&self, i: usize) -> Result<Name, Rule>
+        requires { i < 8 }
         ensures own { Reads (λ x. x) result ((kind.Own, word_at self.now i) ∷ []) (name_of (word_at self.now i)) }
         ensures proc { Reads (λ x. x) result ((kind.Proc, word_at self.now i) ∷ []) (name_of (word_at self.now i)) }
         ensures new_proc { Reads (λ x. x) result ((kind.NewProc, word_at self.now i) ∷ []) (name_of (word_at self.now i)) }
@@ -34,91 +34,103 @@ impl<'a> Words<'a> {
         name(self.get(i))
     }
 
-    pub fn path(&self, i: usize) -> Result<Path, Refused>
+    pub fn path(&self, i: usize) -> Result<PathWord<'a>, Rule>
+        requires { i < 8 }
         ensures { Reads (λ x. x) result ((kind.AnyPath, word_at self.now i) ∷ []) (path_of (word_at self.now i)) }
     {
         path(self.get(i))
     }
 
-    pub fn made_path(&self, i: usize) -> Result<Path, Refused>
+    pub fn made_path(&self, i: usize) -> Result<PathWord<'a>, Rule>
+        requires { i < 8 }
         ensures { Reads (λ x. x) result ((kind.MadePath, word_at self.now i) ∷ []) (made_path_of (word_at self.now i)) }
     {
         made_path(self.get(i))
     }
 
-    pub fn label(&self, i: usize) -> Result<Label, Refused>
+    pub fn label(&self, i: usize) -> Result<Label, Rule>
+        requires { i < 8 }
         ensures { Reads (λ x. x) result ((kind.Label, word_at self.now i) ∷ []) (label_of (word_at self.now i)) }
     {
         label(self.get(i))
     }
 
-    pub fn privs(&self, i: usize) -> Result<PrivSet, Refused>
+    pub fn privs(&self, i: usize) -> Result<PrivSet, Rule>
+        requires { i < 8 }
         ensures { Reads (λ x. x) result ((kind.Privs, word_at self.now i) ∷ []) (privs_of (word_at self.now i)) }
     {
         privs(self.get(i))
     }
 
-    pub fn mode(&self, i: usize) -> Result<Mode, Refused>
+    pub fn mode(&self, i: usize) -> Result<Mode, Rule>
+        requires { i < 8 }
         ensures { Reads (λ x. x) result ((kind.Mode, word_at self.now i) ∷ []) (mode_of (word_at self.now i)) }
     {
         mode(self.get(i))
     }
 
-    pub fn state(&self, i: usize) -> Result<bool, Refused>
+    pub fn state(&self, i: usize) -> Result<bool, Rule>
+        requires { i < 8 }
         ensures { Reads (λ x. x) result ((kind.State, word_at self.now i) ∷ []) (state_of (word_at self.now i)) }
     {
         state(self.get(i))
     }
 
-    pub fn what(&self, i: usize) -> Result<What, Refused>
+    pub fn what(&self, i: usize) -> Result<What, Rule>
+        requires { i < 8 }
         ensures { Reads (λ x. x) result ((kind.Limited, word_at self.now i) ∷ []) (what_of (word_at self.now i)) }
     {
         what(self.get(i))
     }
 
-    pub fn fd(&self, i: usize) -> Result<FdWord, Refused>
+    pub fn fd(&self, i: usize) -> Result<FdWord, Rule>
+        requires { i < 8 }
         ensures { Reads (λ x. x) result ((kind.Fd, word_at self.now i) ∷ []) (fd_of (word_at self.now i)) }
     {
         fd(self.get(i))
     }
 
-    pub fn keep(&self, i: usize) -> Result<KeepWord, Refused>
+    pub fn keep(&self, i: usize) -> Result<KeepWord, Rule>
+        requires { i < 8 }
         ensures { Reads (λ x. x) result ((kind.Keep, word_at self.now i) ∷ []) (keep_of (word_at self.now i)) }
     {
         keep(self.get(i))
     }
 
-    pub fn number(&self, low: u32, high: u32, i: usize) -> Result<u32, Refused>
+    pub fn number(&self, low: u32, high: u32, i: usize) -> Result<u32, Rule>
+        requires { i < 8 }
         ensures { Reads (λ x. x) result ((kind.Number low high, word_at self.now i) ∷ []) (number_of low high (word_at self.now i)) }
     {
         number(low, high, self.get(i))
     }
 
     /// Any number.
-    pub fn any_number(&self, i: usize) -> Result<u32, Refused>
+    pub fn any_number(&self, i: usize) -> Result<u32, Rule>
+        requires { i < 8 }
         ensures { Reads (λ x. x) result ((kind.Number 0 4294967295, word_at self.now i) ∷ []) (number_of 0 4294967295 (word_at self.now i)) }
     {
         self.number(0, 4_294_967_295, i)
     }
 
     /// The number of a `limit` line.
-    pub fn bound(&self) -> Result<u32, Refused>
+    pub fn bound(&self) -> Result<u32, Rule>
         ensures { Reads (λ x. x) result ((kind.Bound (word_at self.now 1), word_at self.now 2) ∷ []) (number_of (bounds (word_at self.now 1)).0 (bounds (word_at self.now 1)).1 (word_at self.now 2)) }
     {
         bound(self.get(1), self.get(2))
     }
 
     /// At most so many bytes.
-    pub fn payload(&self, alloc: Global, most: u32, i: usize) -> Result<Bytes, Refused>
-        ensures { Reads (λ x. x) result ((kind.Payload most, word_at self.now i) ∷ []) (payload_within most (word_at self.now i)) }
+    pub fn payload<const MOST: u32>(&self, i: usize) -> Result<Payload<'a, MOST>, Rule>
+        requires { i < 8 }
+        ensures { Reads (λ x. x) result ((kind.Payload MOST, word_at self.now i) ∷ []) (payload_within MOST (word_at self.now i)) }
     {
-        payload(alloc, most, self.get(i))
+        payload_of(self.get(i))
     }
 
     /// The name behind `as` at that place, where the line goes on to it.
     #[tactic(auto, unfolding(crate::specs::lines::Kinds::places_fault, crate::specs::lines::Kinds::first_broken))]
-    pub fn name_after(&self, n: usize) -> Result<Option<Name>, Refused>
-        requires { n < 8 }
+    pub fn name_after(&self, n: usize) -> Result<Option<Name>, Rule>
+        requires { n < 7 }
         ensures new_fd { Reads (λ x. x) result (tail_places (kind.NewFd ∷ []) n self.now) (name_after n self.now) }
         ensures new_proc { Reads (λ x. x) result (tail_places (kind.NewProc ∷ []) n self.now) (name_after n self.now) }
     {
@@ -131,7 +143,7 @@ impl<'a> Words<'a> {
 
     /// The two names behind `as` at place 2, where the line goes on to them.
     #[tactic(auto, unfolding(crate::specs::lines::Kinds::places_fault, crate::specs::lines::Kinds::first_broken))]
-    pub fn two_names_after(&self) -> Result<Option<(Name, Name)>, Refused>
+    pub fn two_names_after(&self) -> Result<Option<(Name, Name)>, Rule>
         ensures { Reads (λ x. x) result (tail_places (kind.NewFd ∷ kind.NewFd ∷ []) 2 self.now) (two_names_after 2 self.now) }
     {
         if self.len() <= 2 {

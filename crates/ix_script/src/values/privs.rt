@@ -4,7 +4,7 @@ ghost use Rattle.ix_script.specs.reader.Readers.{Reads};
 ghost use Rattle.ix_script.specs.texts.Words.{bits_from, letters, privs_of};
 
 use crate::cutting::words::{begins, is};
-use crate::refused::Refused;
+use crate::rule::Rule;
 use bitflags::Flags;
 use ix_model::PrivSet;
 
@@ -34,17 +34,17 @@ fn bits(word: &[u8]) -> Option<u8>
 
 /// A set of privileges.
 #[tactic(auto, unfolding(crate::specs::texts::Words::privs_of, crate::specs::lines::Kinds::places_fault, crate::specs::lines::Kinds::first_broken))]
-pub(crate) fn privs(word: &[u8]) -> Result<PrivSet, Refused>
+pub(crate) fn privs(word: &[u8]) -> Result<PrivSet, Rule>
     ensures { Reads (λ x. x) result ((kind.Privs, word.now) ∷ []) (privs_of word.now) }
 {
     if is(word, b"-") {
         return Ok(PrivSet::from_bits_retain(0));
     }
     if word.is_empty() {
-        return Err(Refused::Breaks(15));
+        return Err(Rule::BAD_SET);
     }
     match bits(word) {
         Some(bits) => Ok(PrivSet::from_bits_retain(bits)),
-        None => Err(Refused::Breaks(15)),
+        None => Err(Rule::BAD_SET),
     }
 }

@@ -2,13 +2,14 @@ ghost use Rattle.std.specs.Prelude.{◌≡◌, ◌++◌, ◌∷◌, OnOk};
 ghost use Rattle.std.specs.Fmt.{decimal};
 ghost use Rattle.ix_label.specs.Spelling.{spelling};
 ghost use Rattle.ix_script.specs.lines.Before.{what_text};
-ghost use Rattle.ix_script.specs.texts.Spellings.{further, joined, privs_text, path_text, mode_text, state_text, fd_text, keep_text, as_name, as_names};
+ghost use Rattle.ix_script.specs.texts.Spellings.{further, privs_text, path_text, mode_text, state_text, fd_text, keep_text, as_name, as_names};
 
 use crate::line::{FdWord, KeepWord, What};
 use crate::text::{label_text, mode_word, privs_text, state_word};
+use crate::values::paths::PathWord;
 use itoa::Buffer;
 use ix_label::Label;
-use ix_model::{Mode, Name, NoMemory, Path, PrivSet};
+use ix_model::{Mode, Name, NoMemory, PrivSet};
 
 /// Bytes at the end.
 pub(crate) fn push(out: &mut Vec<u8>, bytes: &[u8]) -> Result<(), NoMemory>
@@ -57,43 +58,11 @@ pub(crate) fn privs(out: &mut Vec<u8>, set: PrivSet) -> Result<(), NoMemory>
     word(out, privs_text(set).as_slice())
 }
 
-/// A further name of a path, after a slash.
-fn further_name(out: &mut Vec<u8>, name: &Name) -> Result<(), NoMemory>
-    ensures { OnOk result (out.new.items ≡ out.old.items ++ 47 ∷ name.now) }
-{
-    push(out, b"/")?;
-    push(out, name.as_bytes())
-}
-
-/// The names of a path with a slash between each two.
-#[tactic(auto, using(crate::proofs::texts::Further::further_next))]
-fn names(out: &mut Vec<u8>, path: &Path) -> Result<(), NoMemory>
-    ensures { OnOk result (out.new.items ≡ out.old.items ++ joined 47 path.now.names) }
-{
-    let Some(first) = path.name(0) else {
-        return Ok(());
-    };
-    push(out, first.as_bytes())?;
-    for i in 1..path.len() {
-        let Some(name) = path.name(i) else {
-            return Ok(());
-        };
-        further_name(out, &name)?;
-    }
-    Ok(())
-}
-
 /// A space and a path.
-#[tactic(auto, unfolding(crate::specs::texts::Spellings::path_text))]
-pub(crate) fn path(out: &mut Vec<u8>, path: &Path) -> Result<(), NoMemory>
+pub(crate) fn path(out: &mut Vec<u8>, path: &PathWord<'_>) -> Result<(), NoMemory>
     ensures { OnOk result (out.new.items ≡ out.old.items ++ 32 ∷ path_text path.now) }
 {
-    push(out, b" ")?;
-    if path.absolute() {
-        push(out, b"/")?;
-        return names(out, path);
-    }
-    names(out, path)
+    word(out, path.as_bytes())
 }
 
 /// A space and a mode.

@@ -1,9 +1,10 @@
-ghost use Rattle.std.specs.Prelude.{◌≡◌, ◌++◌, ◌∷◌, ◌≤◌, ◌==◌, length, OnOk};
+ghost use Rattle.std.specs.Prelude.{◌≡◌, ◌++◌, ◌∷◌, ◌≤◌, ◌==◌, length, replicate, OnOk, IsTrue};
 ghost use Rattle.std.specs.List.{list_all};
 ghost use Rattle.ix_script.specs.texts.Spellings.{hex_pair, pairs_text, times_text, quoted_byte, quoted_text, once, payload_text};
 ghost use Rattle.ix_script.specs.texts.PayloadForms.{text_in};
 
 use crate::text::hex_pair;
+use crate::values::payload::Payload;
 use crate::values::payload_form::PayloadForm;
 use crate::written::append::push;
 use itoa::Buffer;
@@ -142,14 +143,56 @@ fn shortest(bytes: &[u8]) -> PayloadForm
     PayloadForm::Pairs
 }
 
-/// A space and a payload in its shortest spelling.
-pub(crate) fn payload(out: &mut Vec<u8>, bytes: &[u8]) -> Result<(), NoMemory>
-    ensures { OnOk result (out.new.items ≡ out.old.items ++ 32 ∷ payload_text bytes.now) }
+/// The bytes in their shortest spelling.
+fn shortest_text(out: &mut Vec<u8>, bytes: &[u8]) -> Result<(), NoMemory>
+    ensures { OnOk result (out.new.items ≡ out.old.items ++ payload_text bytes.now) }
 {
-    push(out, b" ")?;
     match shortest(bytes) {
         PayloadForm::Pairs => pairs(out, bytes),
         PayloadForm::Times(byte) => times(out, bytes.len(), byte),
         PayloadForm::Quoted => quoted(out, bytes),
     }
+}
+
+/// Whether n*HH is shorter than the pairs, and no longer than the quotes, whatever the byte is.
+fn are_times_shortest(n: usize, byte: u8) -> bool
+    ensures { IsTrue result → payload_text (replicate n byte) ≡ times_text n byte }
+{
+    let len = times_len(n, byte);
+    len < n as u128 * 2 + 1 && len <= n as u128 + 2
+}
+
+/// Puts all bytes of a payload into a buffer.
+fn decode<const MOST: u32>(
+    buffer: &mut Vec<u8>,
+    payload: &Payload<'_, MOST>,
+) -> Result<(), NoMemory>
+    ensures { OnOk result (buffer.new.items ≡ payload.now) }
+{
+    buffer.clear();
+    let mut left = payload.bytes();
+    'bytes: while let Some(byte) = left.next() {
+        if buffer.push(byte).is_err() {
+            return Err(NoMemory);
+        }
+    }
+    Ok(())
+}
+
+/// A space and a payload in its shortest spelling. A byte over and over is never put into the buffer but once.
+pub(crate) fn payload<const MOST: u32>(
+    out: &mut Vec<u8>,
+    buffer: &mut Vec<u8>,
+    payload: &Payload<'_, MOST>,
+) -> Result<(), NoMemory>
+    ensures { OnOk result (out.new.items ≡ out.old.items ++ 32 ∷ payload_text payload.now) }
+{
+    push(out, b" ")?;
+    if let Some((n, byte)) = payload.times() {
+        if are_times_shortest(n, byte) {
+            return times(out, n, byte);
+        }
+    }
+    decode(buffer, payload)?;
+    shortest_text(out, buffer.as_slice())
 }

@@ -6,13 +6,16 @@ ghost use Rattle.ix_script.specs.texts.Spellings.{joined, privs_text, path_text,
 ghost use Rattle.ix_script.specs.scripts.Canonical.{line_text, canonical};
 
 use crate::line::{FdWord, KeepWord, Line, What};
+use crate::packed::Lines;
 use crate::script::Script;
+use crate::values::paths::PathWord;
+use crate::values::payload::Payload;
 use crate::written::append::{
     both_named, fd, keep, label, mode, name, named, number, path, privs, push, state, what,
 };
 use crate::written::payload_text::payload;
 use ix_label::Label;
-use ix_model::{Mode, Name, NoMemory, Path, PrivSet};
+use ix_model::{Mode, Name, NoMemory, PrivSet};
 use std::alloc::Global;
 
 fn limit(out: &mut Vec<u8>, w: What, n: u32) -> Result<(), NoMemory>
@@ -59,7 +62,7 @@ fn proc(
     privs(out, lic)
 }
 
-fn dir(out: &mut Vec<u8>, at: &Path, own: &Label, frozen: bool) -> Result<(), NoMemory>
+fn dir(out: &mut Vec<u8>, at: &PathWord<'_>, own: &Label, frozen: bool) -> Result<(), NoMemory>
     ensures { OnOk result (out.new.items ≡ out.old.items
         ++ joined 32 (codes "dir" ∷ path_text at.now ∷ spelling own.now ∷ state_text frozen ∷ [])) }
 {
@@ -71,12 +74,13 @@ fn dir(out: &mut Vec<u8>, at: &Path, own: &Label, frozen: bool) -> Result<(), No
 
 fn file(
     out: &mut Vec<u8>,
-    at: &Path,
+    buffer: &mut Vec<u8>,
+    at: &PathWord<'_>,
     own: &Label,
     frozen: bool,
     cap: PrivSet,
     lic: PrivSet,
-    bytes: &[u8],
+    bytes: &Payload<'_, 1_048_576>,
 ) -> Result<(), NoMemory>
     ensures { OnOk result (out.new.items ≡ out.old.items
         ++ joined 32 (codes "file" ∷ path_text at.now ∷ spelling own.now ∷ state_text frozen
@@ -88,7 +92,7 @@ fn file(
     state(out, frozen)?;
     privs(out, cap)?;
     privs(out, lic)?;
-    payload(out, bytes)
+    payload(out, buffer, bytes)
 }
 
 fn policy(out: &mut Vec<u8>, text: &[u8]) -> Result<(), NoMemory>
@@ -107,7 +111,7 @@ fn with_name(out: &mut Vec<u8>, word: &[u8], called: &Name) -> Result<(), NoMemo
 }
 
 /// A command with a path.
-fn with_path(out: &mut Vec<u8>, word: &[u8], proc: &Name, at: &Path) -> Result<(), NoMemory>
+fn with_path(out: &mut Vec<u8>, word: &[u8], proc: &Name, at: &PathWord<'_>) -> Result<(), NoMemory>
     ensures { OnOk result (out.new.items ≡ out.old.items ++ joined 32 (word.now ∷ proc.now ∷ path_text at.now ∷ [])) }
 {
     with_name(out, word, proc)?;
@@ -148,7 +152,7 @@ fn with_number(out: &mut Vec<u8>, word: &[u8], proc: &Name, n: u32) -> Result<()
 fn open(
     out: &mut Vec<u8>,
     proc: &Name,
-    at: &Path,
+    at: &PathWord<'_>,
     way: Mode,
     tail: &Option<Name>,
 ) -> Result<(), NoMemory>
@@ -160,12 +164,18 @@ fn open(
     named(out, tail)
 }
 
-fn write_fd(out: &mut Vec<u8>, proc: &Name, at: &FdWord, bytes: &[u8]) -> Result<(), NoMemory>
+fn write_fd(
+    out: &mut Vec<u8>,
+    buffer: &mut Vec<u8>,
+    proc: &Name,
+    at: &FdWord,
+    bytes: &Payload<'_, 4096>,
+) -> Result<(), NoMemory>
     ensures { OnOk result (out.new.items ≡ out.old.items
         ++ joined 32 (codes "write" ∷ proc.now ∷ fd_text at.now ∷ payload_text bytes.now ∷ [])) }
 {
     with_fd(out, b"write", proc, at)?;
-    payload(out, bytes)
+    payload(out, buffer, bytes)
 }
 
 fn dup(out: &mut Vec<u8>, proc: &Name, at: &FdWord, tail: &Option<Name>) -> Result<(), NoMemory>
@@ -183,7 +193,12 @@ fn pipe(out: &mut Vec<u8>, proc: &Name, tail: &Option<(Name, Name)>) -> Result<(
     both_named(out, tail)
 }
 
-fn link(out: &mut Vec<u8>, proc: &Name, target: &Path, at: &Path) -> Result<(), NoMemory>
+fn link(
+    out: &mut Vec<u8>,
+    proc: &Name,
+    target: &PathWord<'_>,
+    at: &PathWord<'_>,
+) -> Result<(), NoMemory>
     ensures { OnOk result (out.new.items ≡ out.old.items
         ++ joined 32 (codes "link" ∷ proc.now ∷ path_text target.now ∷ path_text at.now ∷ [])) }
 {
@@ -191,7 +206,7 @@ fn link(out: &mut Vec<u8>, proc: &Name, target: &Path, at: &Path) -> Result<(), 
     path(out, at)
 }
 
-fn list(out: &mut Vec<u8>, proc: &Name, at: &Path, index: u32) -> Result<(), NoMemory>
+fn list(out: &mut Vec<u8>, proc: &Name, at: &PathWord<'_>, index: u32) -> Result<(), NoMemory>
     ensures { OnOk result (out.new.items ≡ out.old.items
         ++ joined 32 (codes "list" ∷ proc.now ∷ path_text at.now ∷ decimal index ∷ [])) }
 {
@@ -213,7 +228,7 @@ fn fork(
     named(out, tail)
 }
 
-fn set_label(out: &mut Vec<u8>, proc: &Name, at: &Path, new: &Label) -> Result<(), NoMemory>
+fn set_label(out: &mut Vec<u8>, proc: &Name, at: &PathWord<'_>, new: &Label) -> Result<(), NoMemory>
     ensures { OnOk result (out.new.items ≡ out.old.items
         ++ joined 32 (codes "setlabel" ∷ proc.now ∷ path_text at.now ∷ spelling new.now ∷ [])) }
 {
@@ -231,7 +246,7 @@ fn set_self(out: &mut Vec<u8>, proc: &Name, new: &Label) -> Result<(), NoMemory>
 fn set_priv(
     out: &mut Vec<u8>,
     proc: &Name,
-    at: &Path,
+    at: &PathWord<'_>,
     cap: PrivSet,
     lic: PrivSet,
 ) -> Result<(), NoMemory>
@@ -300,7 +315,7 @@ fn login(
 
 /// A line's text, without a line feed.
 #[tactic(auto, unfolding(crate::specs::scripts::Canonical::line_words))]
-fn write_line(out: &mut Vec<u8>, line: &Line) -> Result<(), NoMemory>
+fn write_line(out: &mut Vec<u8>, buffer: &mut Vec<u8>, line: &Line<'_>) -> Result<(), NoMemory>
     ensures { OnOk result (out.new.items ≡ out.old.items ++ line_text line.now) }
 {
     match line {
@@ -332,8 +347,8 @@ fn write_line(out: &mut Vec<u8>, line: &Line) -> Result<(), NoMemory>
             cap,
             lic,
             bytes,
-        } => file(out, path, label, *frozen, *cap, *lic, bytes.as_slice()),
-        Line::Policy { text } => policy(out, text.as_slice()),
+        } => file(out, buffer, path, label, *frozen, *cap, *lic, bytes),
+        Line::Policy { text } => policy(out, text.as_bytes()),
         Line::Phase => push(out, b"phase"),
         Line::Lane { name } => with_name(out, b"lane", name),
         Line::Create { proc, path } => with_path(out, b"create", proc, path),
@@ -344,7 +359,7 @@ fn write_line(out: &mut Vec<u8>, line: &Line) -> Result<(), NoMemory>
             named,
         } => open(out, proc, path, *mode, named),
         Line::Read { proc, fd, count } => with_fd_number(out, b"read", proc, fd, *count),
-        Line::Write { proc, fd, bytes } => write_fd(out, proc, fd, bytes.as_slice()),
+        Line::Write { proc, fd, bytes } => write_fd(out, buffer, proc, fd, bytes),
         Line::Cut { proc, fd, len } => with_fd_number(out, b"cut", proc, fd, *len),
         Line::Seek { proc, fd, at } => with_fd_number(out, b"seek", proc, fd, *at),
         Line::Dup { proc, fd, named } => dup(out, proc, fd, named),
@@ -398,28 +413,34 @@ fn write_line(out: &mut Vec<u8>, line: &Line) -> Result<(), NoMemory>
 }
 
 /// A line's text and a line feed.
-fn write_ended(out: &mut Vec<u8>, line: &Line) -> Result<(), NoMemory>
+fn write_ended(out: &mut Vec<u8>, buffer: &mut Vec<u8>, line: &Line<'_>) -> Result<(), NoMemory>
     ensures { OnOk result (out.new.items ≡ out.old.items ++ (line_text line.now ++ codes "\n")) }
 {
-    write_line(out, line)?;
+    write_line(out, buffer, line)?;
     push(out, b"\n")
 }
 
 /// The canonical text of lines.
-fn write_lines(out: &mut Vec<u8>, lines: &[Line]) -> Result<(), NoMemory>
+fn write_lines(out: &mut Vec<u8>, buffer: &mut Vec<u8>, lines: &Lines) -> Result<(), NoMemory>
     ensures { OnOk result (out.new.items ≡ out.old.items ++ canonical lines.now) }
 {
-    for line in lines {
-        write_ended(out, line)?;
+    for index in 0..lines.len() {
+        let Some(line) = lines.get(index) else {
+            return Err(NoMemory);
+        };
+        write_ended(out, buffer, &line)?;
     }
     Ok(())
 }
 
-/// The canonical text of a script.
+/// The canonical text of a script. It holds no more memory than a little besides that text.
 pub fn write(alloc: Global, script: &Script) -> Result<Vec<u8>, NoMemory>
     ensures { IfOk result (λ text. text.items ≡ canonical script.now) }
 {
-    let mut text = Vec::new(alloc);
-    write_lines(&mut text, script.lines())?;
+    let lines = script.lines();
+    let Ok(mut text) = Vec::with_capacity(alloc, lines.room()) else {
+        return Err(NoMemory);
+    };
+    write_lines(&mut text, &mut Vec::new(alloc), lines)?;
     Ok(text)
 }

@@ -14,4 +14,4 @@ returns-then-is_policy_line g c =
 pub returns : goal.returns
 returns g c =
     command_right c.args.self.now.lines c.args.text.now c.command_line.result (some_lines c.args.self.now.lines c.len.result c.len.ensures c.if-len-eq0.false) (sym c.is_skipped.ensures ∙ c.if-is_skipped.false)
-    (sym c.is_policy_line.ensures ∙ c.if-is_policy_line.false) (rw c.in_ok-words.ensures at c.command_line.ensures)
+    (sym c.is_policy_line.ensures ∙ c.if-is_policy_line.false) (rw c.cut.ensures at c.command_line.ensures)

@@ -1,4 +1,4 @@
-use Rattle.std.proofs.Common.{◌∙◌, ◌∷◌, ◌++◌, [], sym, ap}
+use Rattle.std.proofs.Common.{◌∙◌, sym, ap}
 use Rattle.std.specs.List.{list_any}
 use Rattle.ix_model.specs.world.Naming.{same_bytes}
 use Rattle.ix_script.proofs.reader.Indexing.{name_indexed}

@@ -1,0 +1,46 @@
+-- Lines that are held as their texts.
+use Rattle.std.specs.Prelude.{◌≡◌, ℕ, zero, suc, ◌-◌, ◌≤◌, List, [], ◌∷◌, length, take, drop, Some, None, unwrap_or}
+use Rattle.ix_script.specs.texts.Cutting.{word_at}
+use Rattle.ix_script.specs.lines.Kinds.{places_fault}
+use Rattle.ix_script.specs.lines.Forms.{form_of, places}
+use Rattle.ix_script.specs.lines.Said.{line_of}
+use Rattle.ix_script.specs.lines.Faults.{line_fault}
+use Rattle.ix_script.specs.declared.cutting.form.Form.{Form}
+use Rattle.ix_script.specs.declared.line.Line.{Line}
+use Rattle.ix_script.specs.declared.line.Line.TheVariants as line
+
+-- what a text says
+abbrev pub line_in : List ℕ → Line
+line_in text = unwrap_or (line_of text) line.Skipped
+
+-- it says something, and breaks no rule where some lines stand before it
+pub record IsLine (text : List ℕ) : Type 0 where
+  pub said : line_of text ≡ Some (line_in text)
+  pub before : List Line
+  pub faultless : line_fault before text ≡ None
+
+-- the first word is that of a form, and no word breaks a rule by itself
+pub record IsSaid (words : List (List ℕ)) : Type 0 where
+  pub form : Form
+  pub first : form_of (word_at words 0) ≡ Some form
+  pub faultless : places_fault (places form words) ≡ None
+
+-- the text from one place to another
+abbrev pub between : ℕ → ℕ → List ℕ → List ℕ
+between from end text = take (end - from) (drop from text)
+
+-- what the texts say that end at these places; the first begins at `from`
+abbrev pub held : ℕ → List ℕ → List ℕ → List Line
+held from text [] = []
+held from text (end ∷ ends) = line_in (between from end text) ∷ held end text ends
+
+-- where the text of a line begins
+abbrev pub begin_at : ℕ → List ℕ → ℕ → ℕ
+begin_at from ends zero = from
+begin_at from [] (suc i) = from
+begin_at from (end ∷ ends) (suc i) = begin_at end ends i
+
+-- they follow one another up to the end, and each is a line
+abbrev pub AreLines : ℕ → List ℕ → List ℕ → Type 0
+AreLines from text [] = from ≡ length text
+AreLines from text (end ∷ ends) = (from ≤ end) × (end ≤ length text) × IsLine (between from end text) × AreLines end text ends

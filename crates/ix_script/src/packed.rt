@@ -1,0 +1,173 @@
+ghost use Rattle.std.specs.Prelude.{◌≡◌, ◌++◌, ◌∷◌, ◌+◌, ◌<◌, ◌≤◌, ◌^◌, [], Some, length, slice_get, OnOk, IfOk};
+ghost use Rattle.ix_script.specs.lines.Forms.{form_of, places};
+ghost use Rattle.ix_script.specs.lines.Kinds.{places_fault};
+ghost use Rattle.ix_script.specs.lines.Said.{line_of, said_by_words};
+ghost use Rattle.ix_script.specs.scripts.Packed.{IsLine, IsSaid, begin_at, between, line_in};
+ghost use Rattle.ix_script.specs.texts.Cutting.{policy_text};
+ghost use Rattle.ix_script.specs.declared.line.Line.TheVariants as line;
+
+use crate::cutting::cut::Words;
+use crate::cutting::first_word::form_of;
+use crate::cutting::words::is;
+use crate::forms::line_by_form::line_by_form;
+use crate::line::Line;
+use crate::rules::{is_policy_line, is_skipped};
+use crate::values::policy::PolicyText;
+use ix_model::NoMemory;
+use std::alloc::Global;
+use std::marker::Model;
+
+/// Lines, each of which breaks no rule. Their texts are kept, and contracts see what they say.
+#[derive(Drop)]
+pub(crate) struct Lines {
+    /// The texts of all lines in order, without line feeds.
+    text: Vec<u8>,
+    /// Where in it the text of each line ends.
+    ends: Vec<u32>,
+}
+
+impl Model for Lines {
+    ghost use Rattle.std.specs.Prelude.{List};
+    ghost use Rattle.std.specs.Coded.{codes};
+    ghost use Rattle.ix_label.specs.contracts.label.Label as label_type;
+    ghost use Rattle.ix_script.specs.scripts.Packed.{AreLines, held};
+    ghost use Rattle.ix_script.specs.declared.line.Line.{Line};
+
+    ghost Value = { List Line };
+
+    ghost coded = { Prim.hlevel (codes, label_type.the_row.coded) };
+
+    ghost view = { λ l. held 0 l.text.items l.ends.items };
+
+    ghost invariant = { λ l. AreLines 0 l.text.items l.ends.items };
+}
+
+/// What a policy's line says.
+fn policy_said(text: &[u8]) -> Line<'_>
+    ensures { result ≡ line.Policy (policy_text text.now) }
+{
+    let (_, rest) = text.split_at(text.len().min(7));
+    Line::Policy {
+        text: PolicyText::new(rest),
+    }
+}
+
+/// What the words of a line say that breaks no rule.
+fn said_by_words<'a>(words: &Words<'a>) -> Line<'a>
+    requires { IsSaid words.now }
+    ensures { said_by_words words.now ≡ Some result }
+{
+    let Some(form) = form_of(words.get(0)) else {
+        unreachable!();
+    };
+    match line_by_form(form, words) {
+        Ok(line) => line,
+        Err(_) => unreachable!(),
+    }
+}
+
+/// What a text says that breaks no rule.
+#[tactic(auto, unfolding(crate::specs::lines::Said::line_of))]
+fn said(text: &[u8]) -> Line<'_>
+    requires { IsLine text.now }
+    ensures { line_of text.now ≡ Some result }
+{
+    if is_skipped(text) {
+        return Line::Skipped;
+    }
+    if is_policy_line(text) {
+        return policy_said(text);
+    }
+    if is(text, b"ix 1") {
+        return Line::Version;
+    }
+    said_by_words(&Words::cut(text))
+}
+
+/// How many line feeds there are.
+fn feeds_in(bytes: &[u8]) -> usize
+    ensures { result ≤ length bytes.now }
+{
+    bytes.iter().filter(|b| **b == b'\n').count()
+}
+
+/// Where the text of a line begins.
+fn begin(ends: &[u32], i: usize) -> u32
+    requires { i < length ends.now }
+    ensures { result ≡ begin_at 0 ends.now i }
+{
+    match i.checked_sub(1) {
+        Some(before) => ends[before],
+        None => 0,
+    }
+}
+
+/// What stands in a text from one place to another.
+fn part(text: &[u8], from: usize, end: usize) -> &[u8]
+    requires low { from ≤ end }
+    requires high { end ≤ length text.now }
+    ensures { result.now ≡ between from end text.now }
+{
+    &text[from..end]
+}
+
+impl Lines {
+    /// No lines, with room for those of an input.
+    pub fn for_all(alloc: Global, bytes: &[u8]) -> Result<Lines, NoMemory>
+        ensures { IfOk result (λ lines. lines ≡ []) }
+    {
+        let feeds = feeds_in(bytes);
+        let Ok(text) = Vec::with_capacity(alloc, bytes.len() - feeds) else {
+            return Err(NoMemory);
+        };
+        let Ok(ends) = Vec::with_capacity(alloc, feeds + 1) else {
+            return Err(NoMemory);
+        };
+        Ok(Lines { text, ends })
+    }
+
+    pub fn len(&self) -> usize
+        ensures { result ≡ length self.now }
+    {
+        self.ends.as_slice().len()
+    }
+
+    /// How many bytes the texts have, with a line feed each: no fewer than the canonical text has.
+    pub fn room(&self) -> usize {
+        self.text.len().saturating_add(self.ends.len())
+    }
+
+    /// The line at an index from 0; `None` exactly past the end. It takes no memory.
+    pub fn get(&self, i: usize) -> Option<Line<'_>>
+        ensures { result ≡ slice_get self.now i }
+    {
+        let ends = self.ends.as_slice();
+        if i >= ends.len() {
+            return None;
+        }
+        let text = part(
+            self.text.as_slice(),
+            begin(ends, i) as usize,
+            ends[i] as usize,
+        );
+        Some(said(text))
+    }
+
+    /// One line more, which the text says. After `NoMemory` the lines are as they were.
+    pub fn push(&mut self, text: &[u8]) -> Result<(), NoMemory>
+        requires { IsLine text.now }
+        ensures { OnOk result (self.new ≡ self.old ++ line_in text.now ∷ []) }
+    {
+        let Ok(end) = u32::try_from(self.text.as_slice().len() + text.len()) else {
+            return Err(NoMemory);
+        };
+        let Ok(()) = self.ends.push(end) else {
+            return Err(NoMemory);
+        };
+        let Ok(()) = self.text.extend_from_slice(text) else {
+            self.ends.pop();
+            return Err(NoMemory);
+        };
+        Ok(())
+    }
+}
