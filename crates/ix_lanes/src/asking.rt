@@ -1,6 +1,5 @@
 //! The calls that lines ask for, and the names that stand in them.
 
 pub mod calls;
-pub mod names;
 pub mod numbers;
 pub mod places;

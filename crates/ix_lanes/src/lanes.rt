@@ -1,9 +1,8 @@
 ghost use Rattle.std.specs.Prelude.{◌≡◌, ◌+◌, ◌<◌, ◌≤◌, IfOk, OnOk, length};
 ghost use Rattle.ix_model.specs.world.Naming.{same_bytes};
 ghost use Rattle.ix_script.specs.lines.Before.{lanes_of, proc_name_told};
-ghost use Rattle.ix_lanes.specs.histories.Serial.{first_names, header_of, numbered, seat_from, seat_after};
+ghost use Rattle.ix_lanes.specs.histories.Serial.{header_of, numbered, seat_from, seat_after};
 
-use crate::asking::names::Names;
 use crate::asking::numbers::Numbers;
 use crate::lines::line_at;
 use ix_model::{Name, NoMemory};
@@ -11,7 +10,7 @@ use ix_script::{Line, Script};
 use std::alloc::Global;
 
 /// Lets the name of a `proc` line stand for the pid after so many.
-fn add_proc(header: &mut Numbers<u32>, count: u32, line: &Line) -> Result<u32, NoMemory>
+fn add_proc(header: &mut Numbers<u32>, count: u32, line: &Line<'_>) -> Result<u32, NoMemory>
     requires { count < 4294967295 }
     ensures header { OnOk result (header.new ≡ numbered (count + 1) (proc_name_told line.now) header.old) }
     ensures count { IfOk result (λ n. (n ≡ count + length (proc_name_told line.now)) × (n ≤ count + 1)) }
@@ -35,25 +34,9 @@ pub fn header_of(alloc: Global, script: &Script) -> Result<Numbers<u32>, NoMemor
         let Some(line) = line_at(script, index) else {
             return Err(NoMemory);
         };
-        count = add_proc(&mut header, count, line)?;
+        count = add_proc(&mut header, count, &line)?;
     }
     Ok(header)
-}
-
-/// The names of the lanes at first: none.
-pub fn first_names(alloc: Global, script: &Script) -> Result<Vec<Names>, NoMemory>
-    ensures { IfOk result (λ names. names.items ≡ first_names script.now) }
-{
-    let mut lanes = Vec::new(alloc);
-    for seat in 0..script.len() {
-        let Some(_name) = script.lane(seat) else {
-            return Ok(lanes);
-        };
-        if lanes.push(Names::new(alloc)).is_err() {
-            return Err(NoMemory);
-        }
-    }
-    Ok(lanes)
 }
 
 /// Whether these are the bytes of the name.
@@ -79,7 +62,7 @@ fn seat_of(script: &Script, name: &Name) -> Option<u32>
 }
 
 /// The seat of the lane in which the next line stands.
-pub fn seat_after(script: &Script, seat: Option<u32>, line: &Line) -> Option<u32>
+pub fn seat_after(script: &Script, seat: Option<u32>, line: &Line<'_>) -> Option<u32>
     ensures { result ≡ seat_after (lanes_of script.now) seat line.now }
 {
     match line {
@@ -87,4 +70,17 @@ pub fn seat_after(script: &Script, seat: Option<u32>, line: &Line) -> Option<u32
         Line::Lane { name } => seat_of(script, name),
         _ => seat,
     }
+}
+
+/// How many lanes a script has, where it has at most 64.
+pub fn lanes_in(script: &Script) -> u32
+    requires { length (lanes_of script.now) ≤ 64 }
+    ensures { result ≡ length (lanes_of script.now) }
+{
+    for seat in 0..64 {
+        if script.lane(seat).is_none() {
+            return seat;
+        }
+    }
+    64
 }

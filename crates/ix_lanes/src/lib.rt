@@ -7,11 +7,9 @@ pub mod laws;
 mod lines;
 mod running;
 
-pub use asking::calls::{count_in, entry_asked, entry_then};
-pub use asking::names::Names;
-pub use asking::numbers::Numbers;
-pub use asking::places::Places;
-pub use lanes::{first_names, header_of, seat_after};
+pub use asking::calls::count_in;
+pub use lanes::{lanes_in, seat_after};
 pub use lines::line_at;
 pub use running::lane_run::LaneRun;
+pub use running::phases::phases_in;
 pub use running::side_by_side::{Lane, run_phase};

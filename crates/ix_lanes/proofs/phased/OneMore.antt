@@ -13,7 +13,9 @@ use Rattle.ix_lanes.specs.asking.Places.{has_places, KeepsPlaces}
 use Rattle.ix_lanes.specs.histories.Lanes.{Calls, Numbered, calls_from, is_seat}
 use Rattle.ix_lanes.specs.running.Phases.{lane_among, names_from, seat_at}
 use Rattle.ix_lanes.specs.running.Runs.{answers_of, events_of}
-use Rattle.ix_lanes.specs.running.Lines.{alone, LinesCut, LinesDone, Makes}
+use Rattle.ix_model.specs.history.Systems.{one_more}
+use Rattle.ix_model.specs.declared.reply.Answer.{Answer}
+use Rattle.ix_lanes.specs.running.Lines.{alone, LinesCut, LinesDone, Makes, Stops}
 use Rattle.ix_lanes.specs.running.Fields.{all_placed}
 use Rattle.ix_lanes.proofs.phased.Appended.{appended, stays_cut}
 use Rattle.ix_lanes.proofs.phased.LaneLines.{lane-append, lane_one_more, mine}
@@ -26,6 +28,16 @@ makes-then seat_of made_of stops_of follows_of transitive s t u xs ys first seco
   seat = second.seat ∙ first.seat;
   made = second.made ∙ ap (λ m. m ++ ys) first.made ∙ append_assoc (made_of s) xs ys;
   stops = second.stops ∙ first.stops;
+  follows = transitive s t u first.follows second.follows;
+}
+
+pub stops-then : {S : Type 0} (seat_of : S → ℕ) (made_of : S → List Made) (stops_of : S → ℕ) (stopped_of : S → Answer) (follows_of : S → S → Type 0) → ((s t u : S) → follows_of s t → follows_of t u → follows_of s u)
+    → (s t u : S) (xs ys : List Made) (stop : Answer) → Makes seat_of made_of stops_of follows_of s t xs → Stops seat_of made_of stops_of stopped_of follows_of t u ys stop → Stops seat_of made_of stops_of stopped_of follows_of s u (xs ++ ys) stop
+stops-then seat_of made_of stops_of stopped_of follows_of transitive s t u xs ys stop first second = record {
+  seat = second.seat ∙ first.seat;
+  made = second.made ∙ ap (λ m. m ++ ys) first.made ∙ append_assoc (made_of s) xs ys;
+  stops = second.stops ∙ ap one_more first.stops;
+  last = second.last;
   follows = transitive s t u first.follows second.follows;
 }
 

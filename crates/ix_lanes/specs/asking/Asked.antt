@@ -1,5 +1,5 @@
 -- The system calls that the commands of a lane ask for.
-use Rattle.std.specs.Prelude.{refl, ℕ, nat_lt, ◌==◌, min, List, Option, Some, None, if◌then◌else◌, unwrap_or}
+use Rattle.std.specs.Prelude.{refl, ℕ, nat_lt, ◌==◌, min, List, [], Option, Some, None, if◌then◌else◌, unwrap_or}
 use Rattle.std.specs.FinMap as map
 use Rattle.std.specs.Coded.{Coded, code_by, coded×, coded_list, coded_ℕ}
 use Rattle.std.specs.Ordering.{nat_cmp}
@@ -99,6 +99,11 @@ asked header names (line.Unpex proc fd) = by header names proc (op.Unpex (fd_of 
 asked header names (line.Readlog proc index) = by header names proc (op.ReadLog index)
 asked header names (line.Copy proc from to count) = by header names proc (op.ReadFd (fd_of names from) count)
 asked header names _ = None
+
+-- the bytes that a line writes
+abbrev pub written : Line → List ℕ
+written (line.Write proc fd bytes) = bytes
+written _ = []
 
 -- what a call was answered, with the bytes that it gave
 pub record Answered : Type 0 where

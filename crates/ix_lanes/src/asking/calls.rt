@@ -1,7 +1,7 @@
 ghost use Rattle.std.specs.Prelude.{◌≡◌, ◌≤◌, Some, take, true};
 ghost use Rattle.std.specs.Option.{option_map};
 ghost use Rattle.ix_model.specs.history.Calls.{event_of};
-ghost use Rattle.ix_lanes.specs.asking.Asked.{asked, asked_then, both_bound, bound, first_in, named, number_in, pid_of, second_in};
+ghost use Rattle.ix_lanes.specs.asking.Asked.{asked, asked_then, both_bound, bound, first_in, named, number_in, pid_of, second_in, written};
 ghost use Rattle.ix_script.specs.lines.Before.{listed, listed_two};
 ghost use Rattle.ix_lanes.specs.asking.Places.{given, has_all, has_places, KeepsNames, KeepsPlaces, standing};
 ghost use Rattle.ix_lanes.specs.asking.Replies.{count_in};
@@ -12,19 +12,36 @@ use crate::asking::places::{Places, fill};
 use ix_model::{Buf, Call, Entry, Name, Reply};
 use ix_script::Line;
 
-/// The first entry that a line of a seat's lane asks for, where it is a command.
+/// Puts the bytes that a line writes, where it is a `write` line, at the front of a buffer, and answers how many they are.
+pub fn put_written(line: &Line<'_>, buf: &mut Buf) -> usize
+    ensures few { result ≤ 4096 }
+    ensures bytes { take result buf.new ≡ written line.now }
+{
+    match line {
+        Line::Write { bytes, .. } => {
+            let count = bytes.len();
+            bytes.decode(buf);
+            count
+        }
+        _ => 0,
+    }
+}
+
+/// The first entry that a line of a seat's lane asks for, where it is a command. It holds the bytes that the line writes.
 #[tactic(auto, unfolding(crate::specs::asking::Asked::asked))]
 pub fn entry_asked<'a>(
     header: &Numbers<u32>,
     places: &Places,
     seat: u32,
     number: u32,
-    line: &'a Line,
+    line: &Line<'_>,
+    bytes: &'a [u8],
 ) -> Option<Entry<'a>>
+    requires { bytes.now ≡ written line.now }
     ensures { option_map event_of result ≡ option_map (entry_of seat number) (asked header.now (standing places.now) line.now) }
 {
     let (proc, call) = match line {
-        Line::Create { proc, path } => (proc, Call::CreateAt { path: *path }),
+        Line::Create { proc, path } => (proc, Call::CreateAt { path: path.path() }),
         Line::Open {
             proc,
             path,
@@ -33,7 +50,7 @@ pub fn entry_asked<'a>(
         } => (
             proc,
             Call::OpenAt {
-                path: *path,
+                path: path.path(),
                 mode: *mode,
             },
         ),
@@ -44,11 +61,11 @@ pub fn entry_asked<'a>(
                 count: *count,
             },
         ),
-        Line::Write { proc, fd, bytes } => (
+        Line::Write { proc, fd, .. } => (
             proc,
             Call::WriteFd {
                 fd: places.fd_of(fd),
-                bytes: bytes.as_slice(),
+                bytes,
             },
         ),
         Line::Cut { proc, fd, len } => (
@@ -82,22 +99,22 @@ pub fn entry_asked<'a>(
             },
         ),
         Line::Pipe { proc, .. } => (proc, Call::MakePipe),
-        Line::Mkdir { proc, path } => (proc, Call::MakeDir { path: *path }),
+        Line::Mkdir { proc, path } => (proc, Call::MakeDir { path: path.path() }),
         Line::Link { proc, target, path } => (
             proc,
             Call::LinkAt {
-                target: *target,
-                path: *path,
+                target: target.path(),
+                path: path.path(),
             },
         ),
-        Line::Unlink { proc, path } => (proc, Call::UnlinkAt { path: *path }),
-        Line::Rmdir { proc, path } => (proc, Call::RemoveDir { path: *path }),
-        Line::Chdir { proc, path } => (proc, Call::ChangeDir { path: *path }),
-        Line::Stat { proc, path } => (proc, Call::StatAt { path: *path }),
+        Line::Unlink { proc, path } => (proc, Call::UnlinkAt { path: path.path() }),
+        Line::Rmdir { proc, path } => (proc, Call::RemoveDir { path: path.path() }),
+        Line::Chdir { proc, path } => (proc, Call::ChangeDir { path: path.path() }),
+        Line::Stat { proc, path } => (proc, Call::StatAt { path: path.path() }),
         Line::List { proc, path, index } => (
             proc,
             Call::ListAt {
-                path: *path,
+                path: path.path(),
                 index: *index,
             },
         ),
@@ -107,7 +124,7 @@ pub fn entry_asked<'a>(
                 keep: places.keep_of(keep),
             },
         ),
-        Line::Exec { proc, path } => (proc, Call::Exec { path: *path }),
+        Line::Exec { proc, path } => (proc, Call::Exec { path: path.path() }),
         Line::Exit { proc, status } => (
             proc,
             Call::Exit {
@@ -115,19 +132,19 @@ pub fn entry_asked<'a>(
             },
         ),
         Line::Wait { proc } => (proc, Call::WaitChild),
-        Line::Labelof { proc, path } => (proc, Call::LabelOf { path: *path }),
+        Line::Labelof { proc, path } => (proc, Call::LabelOf { path: path.path() }),
         Line::Self_ { proc } => (proc, Call::SelfLabel),
         Line::Setlabel { proc, path, label } => (
             proc,
             Call::SetLabel {
-                path: *path,
+                path: path.path(),
                 label: *label,
             },
         ),
         Line::Setself { proc, label } => (proc, Call::SetSelf { label: *label }),
-        Line::Freeze { proc, path } => (proc, Call::Freeze { path: *path }),
+        Line::Freeze { proc, path } => (proc, Call::Freeze { path: path.path() }),
         Line::Freezeself { proc } => (proc, Call::FreezeSelf),
-        Line::Thaw { proc, path } => (proc, Call::Thaw { path: *path }),
+        Line::Thaw { proc, path } => (proc, Call::Thaw { path: path.path() }),
         Line::Thawself { proc } => (proc, Call::ThawSelf),
         Line::Setpriv {
             proc,
@@ -137,7 +154,7 @@ pub fn entry_asked<'a>(
         } => (
             proc,
             Call::SetPriv {
-                path: *path,
+                path: path.path(),
                 cap: *cap,
                 lic: *lic,
             },
@@ -210,7 +227,7 @@ pub fn entry_then<'a>(
     places: &Places,
     seat: u32,
     number: u32,
-    line: &Line,
+    line: &Line<'_>,
     reply: &Reply,
     buf: &'a Buf,
 ) -> Option<Entry<'a>>
@@ -304,7 +321,7 @@ fn bind_both(fds: &mut Numbers<Option<u8>>, two: &Option<(Name, Name)>, reply: &
 
 /// Lets the names that stand after `as`, if any do, stand for what the reply says.
 #[tactic(auto, unfolding(crate::specs::asking::Asked::named, crate::specs::asking::Places::has_places))]
-pub fn bind(places: &mut Places, line: &Line, reply: &Reply)
+pub fn bind(places: &mut Places, line: &Line<'_>, reply: &Reply)
     requires { has_places places.old line.now ≡ true }
     ensures set { standing places.new ≡ named (standing places.old) line.now reply.now }
     ensures keeps { KeepsPlaces places.old places.new }

@@ -92,7 +92,7 @@ impl Places {
 
     /// Finds the names that a line gives their places. Each name stands for what it stood for.
     #[tactic(auto, unfolding(crate::specs::asking::Places::has_places))]
-    pub fn add(&mut self, line: &Line) -> Result<(), NoMemory>
+    pub fn add(&mut self, line: &Line<'_>) -> Result<(), NoMemory>
         ensures same { standing self.new ≡ standing self.old }
         ensures places { OnOk result (has_places self.new line.now ≡ true) }
         ensures keeps { KeepsPlaces self.old self.new }

@@ -41,9 +41,9 @@ fn places_of(alloc: Global, script: &Script, lane: u32) -> Result<Places, NoMemo
             return Err(NoMemory);
         };
         if is_lane(seat, lane) {
-            places.add(line)?;
+            places.add(&line)?;
         }
-        seat = seat_after(script, seat, line);
+        seat = seat_after(script, seat, &line);
     }
     Ok(places)
 }
@@ -73,15 +73,25 @@ fn run_lines<S: Sys>(
     ensures keeps { KeepsPlaces places.old places.new }
 {
     let mut seat = first_seat;
+    let mut payload = [0; 4096];
     let mut buf = [0; 4096];
     for index in first..end {
         let Some(line) = line_at(script, index) else {
             return Ok(seat);
         };
         if is_lane(seat, lane) {
-            run_line(sys, header, places, lane, index + 1, line, &mut buf)?;
+            run_line(
+                sys,
+                header,
+                places,
+                lane,
+                index + 1,
+                &line,
+                &mut payload,
+                &mut buf,
+            )?;
         }
-        seat = seat_after(script, seat, line);
+        seat = seat_after(script, seat, &line);
     }
     Ok(seat)
 }

@@ -9,7 +9,7 @@ ghost use Rattle.ix_lanes.specs.asking.Replies.{count_in};
 ghost use Rattle.ix_lanes.specs.histories.Serial.{entry_of};
 ghost use Rattle.ix_lanes.specs.running.Lines.{alone, LinesCut, LinesDone, Makes, MakesIt, Stops, StopsAt, made_so};
 
-use crate::asking::calls::{bind, entry_asked, entry_then};
+use crate::asking::calls::{bind, entry_asked, entry_then, put_written};
 use crate::asking::numbers::Numbers;
 use crate::asking::places::Places;
 use ix_model::{Answer, Buf, Entry, Reply, Sys};
@@ -38,7 +38,7 @@ fn make_second<S: Sys>(
     places: &Places,
     seat: u32,
     number: u32,
-    line: &Line,
+    line: &Line<'_>,
     reply: &Reply,
     buf: &Buf,
 ) -> Result<(), Answer>
@@ -59,14 +59,16 @@ fn make_second<S: Sys>(
     Ok(())
 }
 
-/// Makes the calls of a line of a seat's lane, if it asks for any, and binds the names that it gives.
+/// Makes the calls of a line of a seat's lane, if it asks for any, and binds the names that it gives. What the line writes is put
+/// into the first buffer, and what its calls read into the second.
 pub fn run_line<S: Sys>(
     sys: &mut S,
     header: &Numbers<u32>,
     places: &mut Places,
     seat: u32,
     number: u32,
-    line: &Line,
+    line: &Line<'_>,
+    payload: &mut Buf,
     buf: &mut Buf,
 ) -> Result<(), Answer>
     requires seat { S.seat sys.old ≡ seat }
@@ -77,7 +79,8 @@ pub fn run_line<S: Sys>(
         × LinesCut header.now seat (standing places.old) (alone number line.now) more stop) }
     ensures keeps { KeepsPlaces places.old places.new }
 {
-    let Some(entry) = entry_asked(header, places, seat, number, line) else {
+    let count = put_written(line, payload);
+    let Some(entry) = entry_asked(header, places, seat, number, line, &payload[..count]) else {
         return Ok(());
     };
     let reply = make(sys, &entry, buf)?;

@@ -9,7 +9,7 @@ loop-index-init c = record { names = rw (c.new-header.ensures) refl; few = omega
 
 pub loop-index-preserved : goal.loop-index-preserved
 loop-index-preserved c = record {
-  names = rw (c.in_ok-count.ensures.header) (numbered_on c.loop-index.count c.in_ok-count.count c.args.script.now c.loop-index.index c.in-Some.line.now c.loop-index.header (sym c.in-Some.ensures) c.in_ok-count.ensures.count.0
+  names = rw (c.in_ok-count.ensures.header) (numbered_on c.loop-index.count c.in_ok-count.count c.args.script.now c.loop-index.index c.in-Some.line c.loop-index.header (sym c.in-Some.ensures) c.in_ok-count.ensures.count.0
       ∙ c.loop-index.invariant.names);
   few = omega (arith, c.in_ok-count.ensures.count.1, c.loop-index.invariant.few);
 }

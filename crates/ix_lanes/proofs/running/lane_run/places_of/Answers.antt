@@ -16,7 +16,7 @@ pub loop-index-preserved : goal.loop-index-preserved
 loop-index-preserved c =
     let s : List Line = c.args.script.now in
     let i = c.loop-index.index in
-    let l : Line = c.in-Some.line.now in
+    let l : Line = c.in-Some.line in
     let at = sym c.in-Some.ensures in
     let seat = sym (ap (is_seat c.args.lane) c.loop-index.invariant.seat) ∙ sym c.is_lane.ensures in
     record {

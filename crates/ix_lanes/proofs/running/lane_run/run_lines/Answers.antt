@@ -5,10 +5,10 @@ use Rattle.ix_lanes.specs.asking.Asked.{no_names}
 use Rattle.ix_lanes.specs.asking.Places.{standing}
 use Rattle.ix_lanes.specs.histories.Lanes.{is_seat}
 use Rattle.ix_lanes.specs.histories.Serial.{seat_after}
-use Rattle.ix_lanes.specs.running.Lines.{LinesCut}
+use Rattle.ix_lanes.specs.running.Lines.{LinesCut, Stops}
 use Rattle.ix_lanes.specs.running.Phases.{lane_among}
 use Rattle.ix_lanes.proofs.phased.LaneLines.{seat_one_more}
-use Rattle.ix_lanes.proofs.phased.OneMore.{keeps-lines, line-cut, line-here, line-not, makes-then, placed-line}
+use Rattle.ix_lanes.proofs.phased.OneMore.{keeps-lines, line-cut, line-here, line-not, makes-then, placed-line, stops-then}
 use Rattle.ix_lanes.proofs.running.lane_run.run_lines.Goals.{then-is_lane+in_ok-run_line, else-is_lane}
 use Rattle.ix_lanes.proofs.running.lane_run.run_lines.Goals as goal
 
@@ -16,7 +16,7 @@ pub run_line-requires-clause-places : goal.run_line-requires-clause-places
 run_line-requires-clause-places g c =
     let s : List Line = c.args.script.now in
     let seat = sym (ap (is_seat c.args.lane) c.loop-index.invariant.seat) ∙ sym c.is_lane.ensures in
-    placed-line s c.args.lane c.loop-index.index c.in-Some.line.now (sym c.in-Some.ensures) c.loop-index.places (seat ∙ c.if-is_lane.true)
+    placed-line s c.args.lane c.loop-index.index c.in-Some.line (sym c.in-Some.ensures) c.loop-index.places (seat ∙ c.if-is_lane.true)
     (keeps-lines c.args.places.now c.loop-index.places c.loop-index.invariant.keeps (lane_among s c.args.lane s) c.requires.places)
 
 pub returns-in_err-run_line-clause-cut : goal.returns-in_err-run_line-clause-cut
@@ -27,16 +27,24 @@ returns-in_err-run_line-clause-cut g c =
     let seat = sym (ap (is_seat lane) c.loop-index.invariant.seat) ∙ sym c.is_lane.ensures in
     let one = c.in_err-run_line.ensures.cut in
     let cut : LinesCut c.args.header.now lane no_names (lane_among s lane (take c.args.end s)) (g.S.Sys.made c.run_line.new.sys) c.in_err-run_line.field-0.0 =
-    rw one.1.made (line-cut s lane i c.in-Some.line.now (sym c.in-Some.ensures) c.args.header.now no_names (standing c.loop-index.places) (g.S.Sys.made c.loop-index.sys) one.0
+    rw one.1.made (line-cut s lane i c.in-Some.line (sym c.in-Some.ensures) c.args.header.now no_names (standing c.loop-index.places) (g.S.Sys.made c.loop-index.sys) one.0
     c.in_err-run_line.field-0.0 c.args.end (seat ∙ c.if-is_lane.true) (omega (arith, c.loop-index-test.true)) c.loop-index.invariant.done one.2) in
     search (rules, cut)
+
+pub returns-in_err-run_line-clause-stop : goal.returns-in_err-run_line-clause-stop
+returns-in_err-run_line-clause-stop g c =
+    let one = c.in_err-run_line.ensures.cut in
+    let made = c.loop-index.invariant.made in
+    let stop : Stops g.S.Sys.seat g.S.Sys.made g.S.Sys.stops g.S.Sys.stopped g.S.Sys.follows c.args.sys.now c.run_line.new.sys (made.0 ++ one.0) c.in_err-run_line.field-0.0 =
+    stops-then g.S.Sys.seat g.S.Sys.made g.S.Sys.stops g.S.Sys.stopped g.S.Sys.follows g.S.Sys.transitive c.args.sys.now c.loop-index.sys c.run_line.new.sys made.0 one.0 c.in_err-run_line.field-0.0 made.1 one.1 in
+    search (rules, stop)
 
 pub loop-index-preserved : goal.loop-index-preserved
 loop-index-preserved g c =
     let s : List Line = c.args.script.now in
     let lane = c.args.lane in
     let i = c.loop-index.index in
-    let l : Line = c.in-Some.line.now in
+    let l : Line = c.in-Some.line in
     let at = sym c.in-Some.ensures in
     let seat = sym (ap (is_seat lane) c.loop-index.invariant.seat) ∙ sym c.is_lane.ensures in
     record {

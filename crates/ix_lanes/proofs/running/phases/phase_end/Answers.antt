@@ -1,5 +1,4 @@
-use Rattle.std.proofs.Common.{◌≡◌, ◌+◌, List, length, sym, ap, ◌∙◌, arith, subst}
-use Rattle.std.specs.Option.{option_copied}
+use Rattle.std.proofs.Common.{◌≡◌, ◌+◌, List, length, sym, ◌∙◌, arith, subst}
 use Rattle.std.proofs.lemmas.Option.{slice_get_within}
 use Rattle.ix_script.specs.declared.line.Line.{Line}
 use Rattle.ix_lanes.proofs.found.Indexed.{is_there}
@@ -14,11 +13,11 @@ loop-index-init c = record {
 }
 
 pub returns-in_default : goal.returns-in_default
-returns-in_default c = absurd (is_there c.args.script.now c.loop-index.index (omega (arith, c.len-index-end.ensures.len, c.loop-index-test.true)) (sym c.line_at.ensures ∙ ap option_copied c.in_default.is))
+returns-in_default c = absurd (is_there c.args.script.now c.loop-index.index (omega (arith, c.len-index-end.ensures.len, c.loop-index-test.true)) (sym c.line_at.ensures ∙ c.in_default.is))
 
 pub returns-then-passed : goal.returns-then-passed
 returns-then-passed c =
-    left-end c.args.script.now c.args.phase c.loop-index.index c.in-Some.line.now (sym c.in-Some.ensures) (sym c.is_phase.ensures ∙ c.if-is_phase.true)
+    left-end c.args.script.now c.args.phase c.loop-index.index c.in-Some.line (sym c.in-Some.ensures) (sym c.is_phase.ensures ∙ c.if-is_phase.true)
     (subst (λ b. Left c.args.script.now c.args.phase c.loop-index.index b) c.if-passed.true c.loop-index.invariant.left)
 
 pub loop-index-preserved : goal.loop-index-preserved
@@ -28,10 +27,10 @@ loop-index-preserved c =
     record {
       left = elim c.if-is_phase.branch [
         | then-is_phase+else-passed w ↦ subst (λ b. Left s c.args.phase (i + 1) b) (sym w.passed-is)
-            (left-phase s c.args.phase i c.in-Some.line.now (sym c.in-Some.ensures) (sym c.is_phase.ensures ∙ w.if-is_phase.true)
+            (left-phase s c.args.phase i c.in-Some.line (sym c.in-Some.ensures) (sym c.is_phase.ensures ∙ w.if-is_phase.true)
             (subst (λ b. Left s c.args.phase i b) w.if-passed.false c.loop-index.invariant.left))
         | else-is_phase w ↦ subst (λ b. Left s c.args.phase (i + 1) b) (sym w.passed-is)
-            (left-other s c.args.phase i c.loop-index.passed c.in-Some.line.now (sym c.in-Some.ensures) (sym c.is_phase.ensures ∙ w.if-is_phase.false) c.loop-index.invariant.left)
+            (left-other s c.args.phase i c.loop-index.passed c.in-Some.line (sym c.in-Some.ensures) (sym c.is_phase.ensures ∙ w.if-is_phase.false) c.loop-index.invariant.left)
       ];
       within = omega (arith, slice_get_within s i _ (sym c.in-Some.ensures));
     }
