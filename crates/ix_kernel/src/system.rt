@@ -2,7 +2,7 @@
 ghost use Rattle.std.specs.Prelude.{◌≡◌, ◌<◌};
 ghost use mathlib.Core.List.{IsPrefix};
 ghost use Rattle.ix_gate.specs.Seat.{after_meeting};
-ghost use Rattle.ix_kernel.specs.Systems.{made_at, GoesOn};
+ghost use Rattle.ix_kernel.specs.Systems.{FilledUp, made_at, GoesOn};
 
 use crate::kernel::Kernel;
 use crate::seat::KSeat;
@@ -15,7 +15,7 @@ use std::sync::Wait;
 /// It means the entries of its seat in what the seat has seen, each with the reply and the bytes that the run of that gives. So one that is
 /// made anew with the same seat means the same list. A full journal alone stops its calls: memory never runs out.
 #[derive(Drop)]
-pub struct SeatSys<'a, R: Wait + Sync> {
+pub struct SeatSys<'a, R> {
     kernel: &'a Kernel,
     seat: KSeat,
     rt: &'a R,
@@ -27,7 +27,7 @@ pub struct SeatSys<'a, R: Wait + Sync> {
     cap: u64,
 }
 
-impl<'a, R: Wait + Sync> Model for SeatSys<'a, R> {
+impl<'a, R> Model for SeatSys<'a, R> {
     ghost use Rattle.std.specs.Coded.{codes};
     ghost use Rattle.ix_label.specs.contracts.label.Label as label_type;
     ghost use Rattle.ix_kernel.specs.Systems.{SystemState, Sits};
@@ -48,7 +48,7 @@ impl<'a, R: Wait + Sync> Model for SeatSys<'a, R> {
     ghost invariant = { λ s. Sits (record { kernel = s.kernel.now; seat = s.seat; stops = s.stops; used = s.used; need = s.need; cap = s.cap }) };
 }
 
-impl<'a, R: Wait + Sync> SeatSys<'a, R> {
+impl<'a, R> SeatSys<'a, R> {
     /// A seat's system. It has the entries that the seat has made, and no stops.
     pub fn new(kernel: &'a Kernel, seat: KSeat, rt: &'a R) -> SeatSys<'a, R>
         requires { seat.gate ≡ kernel.now.id }
@@ -78,16 +78,17 @@ impl<'a, R: Wait + Sync> SeatSys<'a, R> {
         self.seat.meet(self.kernel, &mut other.seat);
     }
 
-    /// The seat.
+    /// The seat. What the last stop told fits what the seat has seen.
     pub fn into_seat(self) -> KSeat
-        ensures { result ≡ self.entry.seat }
+        ensures seat { result ≡ self.entry.seat }
+        ensures last { 0 < self.entry.stops → FilledUp self.entry.used self.entry.cap self.entry.seat }
     {
         let SeatSys { seat, .. } = self;
         seat
     }
 }
 
-impl<R: Wait + Sync> Sys for SeatSys<'_, R> {
+impl<R: Wait> Sys for SeatSys<'_, R> {
     ghost use Rattle.std.specs.Prelude.{refl};
     ghost use Rattle.std.proofs.Common.{◌∙◌};
     ghost use Rattle.ix_model.specs.declared.reply.Answer.TheVariants as answer;
