@@ -1,0 +1,61 @@
+ghost use Rattle.std.specs.Prelude.{◌≡◌, ◌+◌, ◌≤◌, ◌<◌, length, IfOk};
+ghost use Rattle.ix_model.specs.history.Seats.{GoesOn};
+ghost use Rattle.ix_script.specs.lines.Before.{lanes_of};
+ghost use Rattle.ix_lanes.specs.running.Phases.{phases};
+ghost use Rattle.ix_serial.specs.Running.{HasRoom, IsLane, lane_at_first};
+
+use ix_core::{Core, CoreSys};
+use ix_lanes::LaneRun;
+use ix_model::NoMemory;
+use ix_script::Script;
+use std::alloc::Global;
+
+/// A lane of a script, as it is run on a core, and how many phases it has done.
+#[derive(Drop)]
+pub struct SerialLane<'a> {
+    run: LaneRun<'a>,
+    seat: u32,
+    done: u32,
+}
+
+impl<'a> SerialLane<'a> {
+    /// The lane of a seat, which has done no phase. It takes all the memory that the run needs.
+    pub fn new(alloc: Global, script: &'a Script, seat: u32) -> Result<SerialLane<'a>, NoMemory>
+        requires { seat < length (lanes_of script.now) }
+        ensures { IfOk result (λ lane. lane ≡ lane_at_first script.now seat) }
+    {
+        let run = LaneRun::new(alloc, script, seat)?;
+        Ok(SerialLane { run, seat, done: 0 })
+    }
+
+    /// Runs the lane's next phase.
+    fn run_phase(&mut self, core: &mut Core)
+        requires few { self.old.done < 4294967295 }
+        requires phase { self.old.done < phases self.old.run.script }
+        requires is { IsLane self.old.run.script self.old.seat core.old self.old }
+        requires room { HasRoom self.old.run.script self.old.seat core.old }
+        ensures done { self.new.done ≡ self.old.done + 1 }
+        ensures is { IsLane self.old.run.script self.old.seat core.new self.new }
+        ensures on { GoesOn self.old.seat core.old core.new }
+    {
+        let mut sys = CoreSys::new(core, self.seat);
+        match self.run.phase(&mut sys, self.done) {
+            None => self.done += 1,
+            Some(_) => unreachable!(),
+        }
+    }
+
+    /// Runs the phases of the lane that it hasn't done, up to so many.
+    pub fn run_to(&mut self, core: &mut Core, end: u32)
+        requires within { end ≤ phases self.old.run.script }
+        requires is { IsLane self.old.run.script self.old.seat core.old self.old }
+        requires room { HasRoom self.old.run.script self.old.seat core.old }
+        ensures done { self.old.done ≤ end → self.new.done ≡ end }
+        ensures is { IsLane self.old.run.script self.old.seat core.new self.new }
+        ensures on { GoesOn self.old.seat core.old core.new }
+    {
+        for _ in self.done..end {
+            self.run_phase(core);
+        }
+    }
+}

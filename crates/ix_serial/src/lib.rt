@@ -1,0 +1,7 @@
+//! The lanes of a script, run one after the other on one core.
+#![tactic(auto)]
+
+mod lane;
+mod serial;
+
+pub use serial::run_history;
