@@ -1,0 +1,15 @@
+pub mod MadeIn
+pub mod PhaseOf
+pub mod LinesIn
+pub mod Order
+pub mod Whole
+pub mod Full
+pub mod Seen
+pub mod OneLane
+pub mod OnePhase
+pub mod Meeting
+pub mod FewLanes
+pub mod Joining
+pub mod Seating
+pub mod Ending
+pub mod MetAt

@@ -1,0 +1,81 @@
+-- A journal of the script's config is never full.
+use Rattle.std.proofs.Common.{◌≡◌, ℕ, ◌+◌, ◌≤◌, nat_lt, true, List, [], ◌∷◌, ◌++◌, length, drop, fold, Option, Some, None, refl, sym, ap, ◌∙◌, subst, arith, append-nil}
+use Rattle.std.specs.Prelude.{IfSome}
+use Rattle.std.specs.List.{list_all}
+use Rattle.std.proofs.lemmas.List.{take-append-drop}
+use Rattle.ix_model.specs.opening.Opening.{opening_world}
+use Rattle.ix_model.specs.history.Cost.{cost_of_history}
+use Rattle.ix_model.specs.history.Events.{Event}
+use Rattle.ix_script.specs.lines.Before.{lanes_of}
+use Rattle.ix_script.specs.scripts.Need.{need}
+use Rattle.ix_script.specs.scripts.Scripts.{config_of}
+use Rattle.ix_script.specs.declared.line.Line.{Line}
+use Rattle.ix_lanes.specs.asking.Asked.{Answered, Asked, Names, Numbers, asked, no_names}
+use Rattle.ix_lanes.specs.histories.Serial.{header_of, seat_after}
+use Rattle.ix_lanes.specs.histories.Lanes.{Calls, LanesSoFar, Numbered, calls_from, calls_of, entries_of, lines_of_seat, replies_from, replies_of}
+use Rattle.ix_lanes.specs.running.Phases.{calls_before, lane_among, lane_before, lines_before, names_from}
+use Rattle.ix_parallel.specs.Joining.{IsFull}
+use Rattle.ix_parallel.specs.Stages.{ComesTo}
+use Rattle.ix_lanes.proofs.serially.Costs.{cost-push}
+use Rattle.ix_lanes.proofs.serially.LaneSteps.{calls-none, calls-some}
+use Rattle.ix_lanes.proofs.serially.Needs.{next_fits}
+use Rattle.ix_lanes.proofs.phased.Appended.{appended, stays_cut}
+use Rattle.ix_lanes.proofs.phased.LaneLines.{lane-append}
+use Rattle.ix_lanes.proofs.phased.PhaseLines.{before-taken}
+use Rattle.ix_parallel.proofs.together.MadeIn.{one_reply_each}
+
+-- what isn't answered is no entry
+none_without : (header : Numbers) (k : ℕ) (names : Names) (lines : List Numbered) → (calls_from header k names lines []).entries ≡ []
+none_without header k names [] = refl
+none_without header k names (l ∷ lines) = by_first (none_without header k names lines) (asked header names l.said) refl
+  where
+    by_first : (calls_from header k names lines []).entries ≡ [] → (o : Option Asked) → asked header names l.said ≡ o → (calls_from header k names (l ∷ lines) []).entries ≡ []
+    by_first later None is = ap (λ (c : Calls). c.entries) (calls-none header k l.number names l.said lines [] is) ∙ later
+    by_first later (Some a) is = ap (λ (c : Calls). c.entries) (calls-some header k l.number names l.said lines a [] is)
+
+-- the lines of a lane behind some phases
+lane_behind : (s : List Line) (seat k : ℕ) → (more : List Numbered) × (lines_of_seat (lanes_of s) seat 1 None s ≡ lane_before s seat k ++ more)
+lane_behind s seat k =
+    let front : List Line = lines_before k s in
+    let rest : List Line = drop (length front) s in
+    let lines : s ≡ front ++ rest = sym (take-append-drop (length front) s) ∙ ap (λ ls. ls ++ rest) (sym (before-taken s k)) in (
+      lines_of_seat (lanes_of s) seat (1 + length front) (fold (seat_after (lanes_of s)) None front) rest,
+      ap (lane_among s seat) lines ∙ lane-append (lanes_of s) seat 1 None front rest,
+    )
+
+-- of all that a lane asks for, what it made in some phases comes first, and what it was to make next
+pub comes_so_far : (s : List Line) (k : ℕ) (events : List Event) (seat : ℕ) (next : Option Event) → ComesTo s k events seat next
+    → ((calls_of s seat (replies_of s seat events)).entries ≡ entries_of seat events) × IfSome next (λ e. (calls_of s seat (replies_of s seat events)).next ≡ Some e)
+unfolding calls_before calls_of replies_of
+comes_so_far s k events seat None h =
+    let lines = lane_behind s seat k in
+    let replies : List Answered = replies_from (opening_world (config_of s)) 1 seat events in
+    let names : Names = names_from (header_of s) no_names (lane_before s seat k) replies in
+    let both = appended (header_of s) seat lines.0 (lane_before s seat k) no_names replies [] (entries_of seat events) (one_reply_each seat (opening_world (config_of s)) 1 events) h in (
+      ap (λ ls. (calls_from (header_of s) seat no_names ls replies).entries) lines.1
+          ∙ ap (λ rs. (calls_from (header_of s) seat no_names (lane_before s seat k ++ lines.0) rs).entries) (sym (append-nil replies))
+          ∙ ap (λ (c : Calls). c.entries) both.calls
+          ∙ ap (λ es. entries_of seat events ++ es) (none_without (header_of s) seat names lines.0)
+          ∙ append-nil (entries_of seat events),
+      tt,
+    )
+comes_so_far s k events seat (Some e) h =
+    let lines = lane_behind s seat k in
+    let replies : List Answered = replies_from (opening_world (config_of s)) 1 seat events in
+    let whole : calls_from (header_of s) seat no_names (lines_of_seat (lanes_of s) seat 1 None s) replies ≡ record { entries = entries_of seat events; next = Some e } =
+    ap (λ ls. calls_from (header_of s) seat no_names ls replies) lines.1
+    ∙ stays_cut (header_of s) seat lines.0 (lane_before s seat k) no_names replies e (ap (λ (c : Calls). c.next) h) ∙ h in
+    (ap (λ (c : Calls). c.entries) whole, ap (λ (c : Calls). c.next) whole)
+
+-- So a full journal that is told of no more than what was made contradicts what the script needs.
+pub never_full : (s : List Line) (events : List Event) → list_all (λ e. nat_lt e.seat (length (lanes_of s))) events ≡ true → IsFull s events → ⊥
+never_full s events seats h =
+    let asks = h.asks in
+    let so_far : LanesSoFar s events = record { seats = seats; calls = λ n low. let lane = asks.each n low in (comes_so_far s asks.phases events n lane.0 lane.1).0 } in
+    let next = (comes_so_far s asks.phases events h.stopped (Some h.next) asks.here).1 in
+    let fits : cost_of_history (events ++ h.next ∷ []) ≤ need s =
+    subst (λ (o : Option Event). IfSome o (λ f. cost_of_history (events ++ f ∷ []) ≤ need s)) next (next_fits s events so_far h.stopped asks.within) in
+    let full = h.full in
+    let little = h.little in
+    let room = h.room in
+    omega (arith, fits, cost-push events h.next, full.0, full.1, little, room)

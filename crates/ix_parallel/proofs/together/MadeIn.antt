@@ -1,0 +1,78 @@
+-- What a seat made of a history: its entries, and the replies to them.
+use Rattle.std.proofs.Common.{◌≡◌, ℕ, suc, ◌+◌, ◌==◌, true, false, List, [], ◌∷◌, ◌++◌, length, refl, ap, ◌∙◌, arith, if◌then◌else◌}
+use Rattle.std.specs.List.{filter}
+use Rattle.ix_model.specs.world.World.{World}
+use Rattle.ix_model.specs.opening.Opening.{opening_world}
+use Rattle.ix_model.specs.history.Step.{step_of}
+use Rattle.ix_model.specs.history.Events.{Event}
+use Rattle.ix_model.specs.history.Made.{Made}
+use Rattle.ix_model.specs.history.Seats.{made_by, made_of, replied}
+use Rattle.ix_script.specs.scripts.Scripts.{config_of}
+use Rattle.ix_script.specs.declared.line.Line.{Line}
+use Rattle.ix_lanes.specs.asking.Asked.{Answered}
+use Rattle.ix_lanes.specs.histories.Serial.{answered}
+use Rattle.ix_lanes.specs.histories.Lanes.{entries_of, replies_from, replies_of}
+use Rattle.ix_lanes.specs.running.Runs.{answers_of, events_of}
+
+module _ (k : ℕ) where
+  abbrev its : List Made → List Made
+  its made = filter (λ m. m.event.seat == k) made
+
+  events_replied : (w : World) (place : ℕ) (events : List Event) → events_of (its (replied w place events)) ≡ entries_of k events
+  events_replied w place [] = refl
+  events_replied w place (e ∷ events) =
+      let rest : List Made = its (replied (step_of w place e).world (suc place) events) in
+      let first : Made = made_of e (step_of w place e) in
+      let later = events_replied (step_of w place e).world (suc place) events in
+      elim (e.seat == k) as (λ b. events_of (if b then first ∷ rest else rest) ≡ (if b then e ∷ entries_of k events else entries_of k events)) [
+        | true ↦ ap (λ es. e ∷ es) later
+        | false ↦ later
+      ]
+
+  answers_replied : (w : World) (place : ℕ) (events : List Event) → answers_of (its (replied w place events)) ≡ replies_from w place k events
+  answers_replied w place [] = refl
+  answers_replied w place (e ∷ events) =
+      let rest : List Made = its (replied (step_of w place e).world (suc place) events) in
+      let first : Made = made_of e (step_of w place e) in
+      let next : suc place ≡ place + 1 = omega arith in
+      let replies : List Answered = replies_from (step_of w place e).world (place + 1) k events in
+      let later : answers_of rest ≡ replies = answers_replied (step_of w place e).world (suc place) events ∙ ap (λ n. replies_from (step_of w place e).world n k events) next in
+      elim (e.seat == k) as (λ b. answers_of (if b then first ∷ rest else rest) ≡ (if b then answered (step_of w place e) ∷ replies else replies)) [
+        | true ↦ ap (λ rs. answered (step_of w place e) ∷ rs) later
+        | false ↦ later
+      ]
+
+  -- the replies to the first entries stay where more entries are made
+  pub more_replies : (w : World) (place : ℕ) (xs ys : List Event) → (more : List Answered) × (replies_from w place k (xs ++ ys) ≡ replies_from w place k xs ++ more)
+  more_replies w place [] ys = (replies_from w place k ys, refl)
+  more_replies w place (x ∷ xs) ys =
+      let later = more_replies (step_of w place x).world (place + 1) xs ys in
+      let first : Answered = answered (step_of w place x) in
+      let whole : List Answered = replies_from (step_of w place x).world (place + 1) k (xs ++ ys) in
+      let front : List Answered = replies_from (step_of w place x).world (place + 1) k xs in (
+        later.0,
+        elim (x.seat == k) as (λ b. (if b then first ∷ whole else whole) ≡ (if b then first ∷ front else front) ++ later.0) [
+          | true ↦ ap (λ rs. first ∷ rs) later.1
+          | false ↦ later.1
+        ],
+      )
+
+  -- each entry has one reply
+  pub one_reply_each : (w : World) (place : ℕ) (events : List Event) → length (entries_of k events) ≡ length (replies_from w place k events)
+  one_reply_each w place [] = refl
+  one_reply_each w place (e ∷ events) =
+      let later = one_reply_each (step_of w place e).world (place + 1) events in
+      let replies : List Answered = replies_from (step_of w place e).world (place + 1) k events in
+      elim (e.seat == k) as (λ b. length (if b then e ∷ entries_of k events else entries_of k events) ≡ length (if b then answered (step_of w place e) ∷ replies else replies)) [
+        | true ↦ ap suc later
+        | false ↦ later
+      ]
+
+module _ (s : List Line) (k : ℕ) (events : List Event) where
+  pub made_entries : events_of (made_by k (record { config = config_of s; events = events })) ≡ entries_of k events
+  unfolding made_by
+  made_entries = events_replied k (opening_world (config_of s)) 1 events
+
+  pub made_replies : answers_of (made_by k (record { config = config_of s; events = events })) ≡ replies_of s k events
+  unfolding made_by replies_of
+  made_replies = answers_replied k (opening_world (config_of s)) 1 events

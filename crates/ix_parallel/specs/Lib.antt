@@ -1,0 +1,5 @@
+pub mod History
+pub mod Stages
+pub mod Seats
+pub mod Meeting
+pub mod Joining

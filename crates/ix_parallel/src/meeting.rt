@@ -1,0 +1,113 @@
+//! What the seats of lanes learn of each other between two phases.
+ghost use Rattle.std.specs.Prelude.{◌≡◌, ◌≢◌, ◌<◌, ◌++◌, length};
+ghost use Rattle.ix_parallel.specs.Meeting.{FirstSeeAll, LearnAll, MayMeet, Meets, SameKernel, SeesFirst};
+
+use crate::watch::Watched;
+use ix_lanes::Lane;
+
+/// What learns of others of its kind.
+trait Learner {
+    ghost use Rattle.std.specs.Prelude.{◌≡◌};
+
+    /// The first may learn of the second.
+    ghost may_meet: { Self → Self → Type 0 };
+
+    /// The first comes to the third state when it learns of the second.
+    ghost learns: { Self → Self → Self → Type 0 };
+
+    /// Learns of another, which stays.
+    fn meet(&mut self, other: &mut Self)
+        requires { may_meet self.old other.old }
+        ensures learns { learns self.old other.old self.new }
+        ensures other { other.new ≡ other.old };
+}
+
+impl<'a, R, W> Learner for Lane<'_, Watched<'a, R, W>> {
+    ghost use Rattle.std.specs.Prelude.{◌≡◌};
+    ghost use Rattle.ix_parallel.specs.Meeting.{LearnsOf};
+
+    ghost may_meet = { λ one other. one.sys.kernel ≡ other.sys.kernel };
+
+    ghost learns = { λ one other after. LearnsOf one other after };
+
+    fn meet(&mut self, other: &mut Self) {
+        self.sys.meet(&mut other.sys);
+    }
+}
+
+/// Lets one of these meet the first behind them.
+fn meet_behind<T: Learner>(front: &mut [T], back: &mut [T], one: usize)
+    requires within { (one < length front.old) × (0 < length back.old) }
+    requires may { MayMeet T.may_meet one (length front.old) (front.old ++ back.old) }
+    ensures { Meets T.learns one (length front.old) (front.old ++ back.old) (front.new ++ back.new) }
+{
+    front[one].meet(&mut back[0]);
+}
+
+/// Lets the first behind these meet one of them.
+fn meet_before<T: Learner>(front: &mut [T], back: &mut [T], other: usize)
+    requires within { (other < length front.old) × (0 < length back.old) }
+    requires may { MayMeet T.may_meet (length front.old) other (front.old ++ back.old) }
+    ensures { Meets T.learns (length front.old) other (front.old ++ back.old) (front.new ++ back.new) }
+{
+    back[0].meet(&mut front[other]);
+}
+
+/// Lets one meet a later one.
+fn meet_later<T: Learner>(all: &mut [T], one: usize, other: usize)
+    requires within { (one < other) × (other < length all.old) }
+    requires may { MayMeet T.may_meet one other all.old }
+    ensures { Meets T.learns one other all.old all.new }
+{
+    let (front, back) = all.split_at_mut(other);
+    meet_behind(front, back, one)
+}
+
+/// Lets one meet an earlier one.
+fn meet_earlier<T: Learner>(all: &mut [T], one: usize, other: usize)
+    requires within { (other < one) × (one < length all.old) }
+    requires may { MayMeet T.may_meet one other all.old }
+    ensures { Meets T.learns one other all.old all.new }
+{
+    let (front, back) = all.split_at_mut(one);
+    meet_before(front, back, other)
+}
+
+/// Lets one meet another.
+fn meet_two<T: Learner>(all: &mut [T], one: usize, other: usize)
+    requires within { (one < length all.old) × (other < length all.old) × (one ≢ other) }
+    requires may { MayMeet T.may_meet one other all.old }
+    ensures { Meets T.learns one other all.old all.new }
+{
+    if one < other {
+        meet_later(all, one, other);
+    } else {
+        meet_earlier(all, one, other);
+    }
+}
+
+/// Lets the seat of a lane meet that of every other lane in turn.
+fn meet_others<'a, R, W>(lanes: &mut [Lane<'_, Watched<'a, R, W>>], one: usize)
+    requires within { one < length lanes.old }
+    requires kernel { SameKernel lanes.old }
+    ensures learn { LearnAll lanes.old lanes.new }
+    ensures sees { SeesFirst one (length lanes.old) lanes.new }
+    ensures first { FirstSeeAll one lanes.old → FirstSeeAll one lanes.new }
+{
+    for other in 0..lanes.len() {
+        if other != one {
+            meet_two(lanes, one, other);
+        }
+    }
+}
+
+/// Lets the seat of every lane meet that of every other lane in turn: each has then seen what any has.
+pub fn meet_all<'a, R, W>(lanes: &mut [Lane<'_, Watched<'a, R, W>>])
+    requires kernel { SameKernel lanes.old }
+    ensures learn { LearnAll lanes.old lanes.new }
+    ensures all { FirstSeeAll (length lanes.old) lanes.new }
+{
+    for one in 0..lanes.len() {
+        meet_others(lanes, one);
+    }
+}
