@@ -10,6 +10,7 @@ use Rattle.ix_model.specs.declared.views.ObjView.{ObjView}
 use Rattle.ix_model.specs.declared.views.ProcView.{ProcView}
 use Rattle.ix_label.specs.Spelling.{spelling}
 use Rattle.ix_script.specs.texts.Spellings.{state_text}
+use Rattle.ix_report.specs.declared.totals.Totals.{Totals}
 use Rattle.ix_report.specs.Words.{kind_text, life_text}
 use Rattle.ix_report.specs.CallText.{call_text}
 use Rattle.ix_report.specs.ReplyText.{reply_text, audit_text}
@@ -44,3 +45,13 @@ audit_line line = audit_text line ++ codes "\n"
 -- the last line: how many entries and audit lines there are
 unfoldable pub tail_line : ℕ → ℕ → List ℕ
 tail_line entries lines = codes "end " ++ decimal entries ++ codes " " ++ decimal lines ++ codes "\n"
+
+-- a number after its word
+abbrev pub counted : List ℕ → ℕ → List ℕ
+counted word n = word ++ decimal n
+
+-- the one line of a summary: how many commands the script was made of, and what its history comes to
+unfoldable pub totals_line : ℕ → Totals → List ℕ
+totals_line commands t =
+    counted (codes "gen ") commands ++ counted (codes " entries ") t.entries ++ counted (codes " refused ") t.refused ++ counted (codes " read ") t.read
+    ++ counted (codes " written ") t.written ++ counted (codes " log ") t.lines ++ codes "\n"

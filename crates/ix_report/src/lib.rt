@@ -8,6 +8,8 @@ mod pieces;
 mod refusals;
 mod replies;
 mod report;
+mod totals;
 mod words;
 
 pub use report::{audit_line, entry_line, head, object_line, process_line, tail};
+pub use totals::{Totals, totals_line};

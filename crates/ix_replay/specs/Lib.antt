@@ -1,0 +1,3 @@
+pub mod report
+pub mod Summary
+pub mod Tallying
