@@ -1,7 +1,6 @@
 -- The lines of low entries are the same in the reports of two runs that agree.
-use Rattle.std.proofs.Common.{◌≡◌, ℕ, zero, suc, ◌+◌, List, [], ◌∷◌, take, Option, Some, None, refl, sym, ap, ◌∙◌, arith, subst, slice_get}
+use Rattle.std.proofs.Common.{◌≡◌, ℕ, zero, suc, ◌+◌, List, [], ◌∷◌, take, Some, ap, ◌∙◌, arith, subst, slice_get}
 use Rattle.std.proofs.Common.{option_map}
-use Rattle.std.specs.Prelude.{IfSome}
 use Rattle.ix_label.specs.Category.{Categories}
 use Rattle.ix_model.specs.world.World.{World, Process, at}
 use Rattle.ix_model.specs.history.Step.{step_of, run}
@@ -12,23 +11,12 @@ use Rattle.ix_iso.proofs.Counts.{shape_frames}
 use Rattle.ix_iso.proofs.Steps.{alike_events}
 use Rattle.ix_iso.proofs.Histories.{shape_events}
 use Rattle.ix_iso.proofs.Lowerings.{low_is_same}
-use Rattle.ix_iso.proofs.Hiding.{alike_runs, hides}
+use Rattle.ix_iso.proofs.Hiding.{alike_runs}
 use Rattle.ix_report.specs.LineText.{entry_line}
 use Rattle.ix_script.specs.lines.Before.{lanes_of}
-use Rattle.ix_script.specs.lines.Faults.{fault_of}
 use Rattle.ix_script.specs.declared.line.Line.{Line}
-use Rattle.ix_host.specs.declared.asked.command.Command.{Command}
-use Rattle.ix_host.specs.declared.asked.command.Command.TheVariants as command
-use Rattle.ix_host.specs.declared.status.Status.{Status}
-use Rattle.ix_host.specs.declared.status.Status.TheVariants as status
-use Rattle.ix_host.specs.serial.Built.{unbuilt_line}
-use Rattle.ix_host.specs.Hiding.{HidesLines, IsHidingReport, TakesHidingReport, world_opened}
-use Rattle.ix_host.specs.run.Outcome.{Outcome, outcome_of, outcome_for, text_for, text_of, script_in}
-use Rattle.ix_host.specs.run.Outcome as outcome
-use Rattle.ix_host.specs.report.Report.{lane_name, entry_text, entry_lines, report_of}
-use Rattle.ix_host.specs.run.Run.{IsAnswer, IsEndOf, WritesFor, called_for, wanted_for, status_of}
-use Rattle.ix_lanes.specs.histories.Serial.{serial}
-use Rattle.ix_host.proofs.comes_to.Verdicts.{WasRead, is_called_for}
+use Rattle.ix_host.specs.Hiding.{HidesLines, world_opened}
+use Rattle.ix_replay.specs.report.Report.{lane_name, entry_text, entry_lines}
 
 -- ---- one line
 module _ (l : Categories) (lanes : List (List ℕ)) where
@@ -55,45 +43,8 @@ module _ (l : Categories) (lanes : List (List ℕ)) where
       let rest = lines_along (step_of v place a).world (step_of w place b).world (suc place) events others ((alike_events l v w place a b alike agree.0 agree.1).worlds none.0) agree.2 n e is none.1 (subst (λ (k : ℕ). Low l there k e) later low) in
       subst (λ (k : ℕ). slice_get (entry_lines lanes k (step_of v place a).world events) n ≡ slice_get (entry_lines lanes k (step_of w place b).world others) n) next rest
 
-pub low_lines : (s : List Line) → HidesLines s
-low_lines s l t lanes agree n e is none low =
-    let both = alike_runs l (world_opened s) (world_opened t) (serial s) (serial t) agree in
-    lines_along l (lanes_of s) (world_opened s) (world_opened t) 1 (serial s) (serial t) both.0 both.1 n e is none low
-    ∙ ap (λ names. slice_get (entry_lines names 1 (world_opened t) (serial t)) n) lanes
-
--- ---- runs
--- a script that was run to its end has no fault and no form that isn't built, so its text is the report
-done_text : (bytes : List ℕ) → status.Done ≡ status_of (outcome_of command.Run bytes) → text_of (outcome_of command.Run bytes) ≡ report_of (script_in bytes) (serial (script_in bytes))
-unfolding outcome_of outcome_for text_for
-done_text bytes is = by_fault (fault_of bytes) is
-  where
-    s : List Line
-    s = script_in bytes
-
-    by_form : (o : Option ℕ) → status.Done ≡ status_of (elim o [ Some k ↦ outcome.Refused k 0 | None ↦ outcome.Whole (report_of s (serial s)) ]) → text_of (elim o [ Some k ↦ outcome.Refused k 0 | None ↦ outcome.Whole (report_of s (serial s)) ]) ≡ report_of s (serial s)
-    by_form None h = refl
-    by_form (Some k) h = cc
-
-    by_fault : (o : Option (ℕ × ℕ)) → status.Done ≡ status_of (elim o [ Some fault ↦ outcome.Refused fault.0 fault.1 | None ↦ outcome_for command.Run s ]) → text_of (elim o [ Some fault ↦ outcome.Refused fault.0 fault.1 | None ↦ outcome_for command.Run s ]) ≡ report_of s (serial s)
-    by_fault None h = by_form (unbuilt_line command.Run s) h
-    by_fault (Some fault) h = cc
-
-pub hiding_run : (c : Option Command) (bytes : List ℕ) → status.Done ≡ called_for c bytes → c ≡ Some command.Run → IsHidingReport (script_in bytes) (wanted_for c bytes)
-unfolding called_for wanted_for
-hiding_run c bytes done run =
-    record {
-      report = ap (λ f. wanted_for f bytes) run ∙ done_text bytes (done ∙ ap (λ f. called_for f bytes) run);
-      history = hides (world_opened (script_in bytes)) (serial (script_in bytes));
-      lines = low_lines (script_in bytes);
-    }
-
-pub hides_run : (c : Command) (found : Option Command) (end : Status) (first left taken after : Option (List ℕ)) (read : List ℕ) → Some c ≡ found → IsEndOf (outcome_of c read) end → WasRead first left read
-    → IfSome first (λ bytes. IfSome taken (λ t. WritesFor end (wanted_for found bytes) t after))
-    → end ≡ status.Done → found ≡ Some command.Run → IfSome first (λ bytes. IfSome taken (λ t. TakesHidingReport (script_in bytes) t after))
-hides_run c found end None left taken after read is h w went done run = tt
-hides_run c found end (Some bytes) left None after read is h w went done run = tt
-hides_run c found end (Some bytes) left (Some t) after read is h w went done run = record {
-  text = wanted_for found bytes;
-  went_out = subst (λ (e : Status). WritesFor e (wanted_for found bytes) t after) done went;
-  hides = hiding_run found bytes (sym done ∙ is_called_for c found end (Some bytes) left read is h w (subst IsAnswer (sym done) tt)) run;
-}
+pub low_lines : (s : List Line) (history : List Event) → HidesLines s history
+low_lines s history l t others lanes agree n e is none low =
+    let both = alike_runs l (world_opened s) (world_opened t) history others agree in
+    lines_along l (lanes_of s) (world_opened s) (world_opened t) 1 history others both.0 both.1 n e is none low
+    ∙ ap (λ names. slice_get (entry_lines names 1 (world_opened t) others) n) lanes

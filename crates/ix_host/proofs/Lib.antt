@@ -1,6 +1,5 @@
 pub mod piecewise
-pub mod serially
+pub mod ScriptLines
 pub mod words_in
-pub mod comes_to
 pub mod Hiding
-pub mod report
+pub mod comes_to

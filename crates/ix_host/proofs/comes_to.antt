@@ -1,3 +1,5 @@
 pub mod LaterRules
 pub mod Outcomes
+pub mod Preparing
 pub mod Verdicts
+pub mod OnlyRun

@@ -1,5 +1,6 @@
 pub mod command
-pub mod serial
+pub mod Built
 pub mod report
 pub mod Hiding
+pub mod Laws
 pub mod run

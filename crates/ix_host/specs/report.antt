@@ -1,4 +1,1 @@
 pub mod Rules
-pub mod Report
-pub mod Telling
-pub mod Fixed

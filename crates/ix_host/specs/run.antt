@@ -1,3 +1,4 @@
 pub mod Outcome
 pub mod Whole
 pub mod Run
+pub mod Tasks

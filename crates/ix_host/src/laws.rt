@@ -1,22 +1,10 @@
 //! What holds of the reports of scripts. These functions do nothing: each states a law, which is proved.
-ghost use Rattle.ix_host.specs.report.Fixed.{OneHistory, ScriptsNamed};
-ghost use Rattle.ix_host.specs.serial.Laws.{LowLinesAreEqual};
+ghost use Rattle.ix_host.specs.Laws.{LowLinesAreEqual};
 
-use ix_script::laws::line_stays;
+pub use ix_replay::laws::one_history;
 
-/// Where the runs of two scripts of the same lanes agree at a label, each line of the report whose process ends at or below
-/// that label is the same in both reports, as long as no entry before it lets something down across the label.
+/// Where the runs of two histories of scripts of the same lanes agree at a label, each line of the report whose process ends at or
+/// below that label is the same in both reports, as long as no entry before it lets something down across the label.
 pub fn low_lines_are_equal()
     ensures equal { LowLinesAreEqual }
 {}
-
-/// A report fixes its history: of two histories of a script that each hold the calls of its lanes, in whatever order the
-/// lanes take turns, the reports are the same text only where the histories are the same. The lanes of each script that is
-/// read have the names that this asks for.
-pub fn one_history()
-    ensures names { ScriptsNamed }
-    ensures one { OneHistory }
-{
-    // The proof of `names` rests on this law.
-    line_stays();
-}

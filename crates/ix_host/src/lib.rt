@@ -1,16 +1,22 @@
-//! The top call of the programs: command words and a script in, a report or the canonical text and a status out.
+//! The top calls of the programs: command words and a script in, a report, the canonical text or a summary and a status out.
 #![tactic(auto)]
 
 mod asked;
+mod built;
+mod concluding;
+mod lanes;
 pub mod laws;
+mod preparing;
 mod run;
-mod running;
 mod status;
 mod streams;
+mod task;
 mod telling;
 
 pub use asked::words::Words;
 pub use ix_io as io;
 pub use ix_model::NoMemory;
+pub use ix_parallel::{NoWatch, Watch};
+pub use lanes::run_lanes;
 pub use run::run_serial;
 pub use status::Status;

@@ -1,6 +1,6 @@
 //! What is read to its end, and what is written.
 
-pub mod closing;
+pub mod input;
 pub mod sending;
 pub mod stream;
 pub mod text;

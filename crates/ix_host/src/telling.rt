@@ -1,6 +1,3 @@
-//! The text that is written: a report, or what is said to a script.
+//! What is said to a script that breaks a rule.
 
-pub mod entry_text;
-pub mod replay;
-pub mod report;
 pub mod rules;

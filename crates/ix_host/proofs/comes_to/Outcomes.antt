@@ -1,31 +1,49 @@
 -- What a command comes to.
-use Rattle.std.proofs.Common.{◌≡◌, ℕ, Bool, true, false, List, [], length, Option, Some, None, is_none, refl, sym, ap, ◌∙◌, subst, if◌then◌else◌, unwrap_or, nat_lt}
+use Rattle.std.proofs.Common.{◌≡◌, ℕ, suc, true, false, List, [], ◌∷◌, length, Option, Some, None, is_none, refl, sym, ap, ◌∙◌, if◌then◌else◌, unwrap_or, nat_lt}
+use Rattle.std.specs.Option.{option_map, option_or}
+use Rattle.ix_model.specs.history.Events.{Event}
 use Rattle.ix_script.specs.lines.Faults.{fault_of}
 use Rattle.ix_script.specs.texts.Lines.{lines_of}
 use Rattle.ix_script.specs.scripts.Scripts.{script_of, lines_said}
 use Rattle.ix_script.specs.declared.line.Line.{Line}
 use Rattle.ix_host.specs.declared.asked.command.Command.{Command}
-use Rattle.ix_host.specs.declared.status.Status.{Status}
-use Rattle.ix_host.specs.serial.Built.{unbuilt_line}
-use Rattle.ix_host.specs.run.Outcome.{Outcome, outcome_for, outcome_of, text_for}
+use Rattle.ix_host.specs.declared.asked.command.Command.TheVariants as command
+use Rattle.ix_host.specs.declared.status.Status.TheVariants as status
+use Rattle.ix_host.specs.Built.{unbuilt_from, unbuilt_line}
+use Rattle.ix_host.specs.run.Outcome.{IsReadable, Outcome, outcome_for, outcome_in, outcome_of, reads_source, refusal_of, refused_by, script_in, status_of, text_for, text_of, unbuilt_refusal, unless_refused}
 use Rattle.ix_host.specs.run.Outcome as outcome
-use Rattle.ix_host.specs.run.Run.{Ends}
+use Rattle.ix_host.specs.run.Run.{called_for, unless_done}
+use Rattle.ix_replay.specs.report.Report.{report_of}
+use Rattle.ix_host.specs.report.Rules.{refusal_line}
 use Rattle.ix_host.proofs.comes_to.LaterRules.{not_rule_one}
 
+-- ---- a script
+-- under `gen` all forms are built
+built_from : (n i : ℕ) (s : List Line) → unbuilt_from (command.Gen n) i s ≡ None
+built_from n i [] = refl
+built_from n i (l ∷ s) = built_from n (suc i) s
+
+always_built : (n : ℕ) (s : List Line) → unbuilt_line (command.Gen n) s ≡ None
+unfolding unbuilt_line
+always_built n s = built_from n 1 s
+
 -- a form that isn't built
-pub outcome_unbuilt : (c : Command) (s : List Line) (n : ℕ) → unbuilt_line c s ≡ Some n → outcome.Refused n 0 ≡ outcome_for c s
+pub outcome_unbuilt : (c : Command) (s : List Line) (n : ℕ) (history : List Event) → unbuilt_line c s ≡ Some n → outcome.Refused n 0 ≡ outcome_for c s history
 unfolding outcome_for
-outcome_unbuilt c s n is = rw (outcome_for, is) refl
+outcome_unbuilt c s n history is = rw (outcome_for, is) refl
 
 -- a script all of whose forms are built
-pub outcome_built : (c : Command) (s : List Line) → unbuilt_line c s ≡ None → outcome.Whole (text_for c s) ≡ outcome_for c s
+pub outcome_built : (c : Command) (s : List Line) (history : List Event) → unbuilt_line c s ≡ None → outcome.Whole (text_for c s history) ≡ outcome_for c s history
 unfolding outcome_for
-outcome_built c s is = rw (outcome_for, is) refl
+outcome_built c s history is = rw (outcome_for, is) refl
 
--- an input with a fault
-pub outcome_fault : (c : Command) (bytes : List ℕ) (line rule : ℕ) → fault_of bytes ≡ Some (line, rule) → outcome.Refused line rule ≡ outcome_of c bytes
-unfolding outcome_of
-outcome_fault c bytes line rule is = rw (outcome_of, is) refl
+-- ---- an input
+-- one with a fault
+pub outcome_fault : (c : Command) (bytes : List ℕ) (line rule : ℕ) (history : List Event) → IsReadable c bytes → fault_of bytes ≡ Some (line, rule) → outcome.Refused line rule ≡ outcome_in c bytes history
+unfolding outcome_in refusal_of
+outcome_fault command.Run bytes line rule history readable is = rw (outcome_in, is) refl
+outcome_fault command.Print bytes line rule history readable is = rw (outcome_in, is) refl
+outcome_fault (command.Gen n) bytes line rule history readable is = cc
 
 no_fault : (o : Option (ℕ × ℕ)) (p : Option (List Line)) (s : List Line) → (if is_none o then p else None) ≡ Some s → (o ≡ None) × (p ≡ Some s)
 no_fault None p s h = (refl, h)
@@ -35,32 +53,93 @@ without_fault : (bytes : List ℕ) (s : List Line) → script_of bytes ≡ Some 
 unfolding script_of
 without_fault bytes s h = (no_fault (fault_of bytes) (lines_said (lines_of bytes)) s h).0
 
--- an input that is a script
-pub outcome_script : (c : Command) (bytes : List ℕ) (s : List Line) → script_of bytes ≡ Some s → outcome_for c s ≡ outcome_of c bytes
-unfolding outcome_of
-outcome_script c bytes s is = rw (outcome_of, without_fault bytes s is, is) refl
+pub in_script : (bytes : List ℕ) (s : List Line) → script_of bytes ≡ Some s → s ≡ script_in bytes
+in_script bytes s is = ap (λ (o : Option (List Line)). unwrap_or o []) (sym is)
 
--- an input that isn't too long is refused by another rule than that
-pub not_too_long : (c : Command) (bytes : List ℕ) (n : ℕ) → nat_lt 16777216 (length bytes) ≡ false → outcome_of c bytes ≡ outcome.Refused n 1 → ⊥
-unfolding outcome_of outcome_for
-not_too_long c bytes n short h =
-    by_fault (fault_of bytes) refl h
+-- one that is a script
+pub outcome_script : (c : Command) (bytes : List ℕ) (s : List Line) (history : List Event) → script_of bytes ≡ Some s → outcome_for c s history ≡ outcome_in c bytes history
+unfolding outcome_for outcome_in refusal_of
+outcome_script command.Run bytes s history is = rw (outcome_in, without_fault bytes s is, is) refl
+outcome_script command.Print bytes s history is = rw (outcome_in, without_fault bytes s is, is) refl
+outcome_script (command.Gen n) bytes s history is = rw (outcome_for, always_built n s, is) refl
+
+-- one that is too long
+readable : (c : Command) (bytes : List ℕ) → reads_source (Some c) ≡ true → IsReadable c bytes
+readable command.Run bytes is = tt
+readable command.Print bytes is = tt
+readable (command.Gen n) bytes is = cc
+
+pub outcome_too_long : (c : Command) (bytes : List ℕ) (history : List Event) → reads_source (Some c) ≡ true → nat_lt 16777216 (length bytes) ≡ true → outcome.Refused 1 1 ≡ outcome_in c bytes history
+unfolding fault_of
+outcome_too_long c bytes history reads long = outcome_fault c bytes 1 1 history (readable c bytes reads) (rw long refl)
+
+-- ---- statuses
+pub status_is : (usage : List ℕ) (asked : Option Command) (bytes : List ℕ) (history : List Event) → status_of (outcome_of usage asked bytes history) ≡ called_for asked bytes
+unfolding outcome_in called_for
+status_is usage None bytes history = refl
+status_is usage (Some c) bytes history = go (refusal_of c bytes) (text_for c (script_in bytes) history)
   where
-    by_form : (o : Option ℕ) (text : List ℕ) → elim o [ Some k ↦ outcome.Refused k 0 | None ↦ outcome.Whole text ] ≡ outcome.Refused n 1 → ⊥
-    by_form None text k = cc
-    by_form (Some m) text k = cc
+    go : (o : Option (ℕ × ℕ)) (text : List ℕ) → status_of (unless_refused o text) ≡ unless_done o
+    go None text = refl
+    go (Some refusal) text = refl
 
-    by_fault : (o : Option (ℕ × ℕ)) → fault_of bytes ≡ o → elim o [ Some fault ↦ outcome.Refused fault.0 fault.1 | None ↦ outcome_for c (unwrap_or (script_of bytes) []) ] ≡ outcome.Refused n 1 → ⊥
-    by_fault None is k = by_form (unbuilt_line c (unwrap_or (script_of bytes) [])) (text_for c (unwrap_or (script_of bytes) [])) k
-    by_fault (Some fault) is k =
+no_usage : (o : Option (ℕ × ℕ)) → status.Usage ≡ unless_done o → ⊥
+no_usage None h = cc
+no_usage (Some refusal) h = cc
+
+-- no command calls for the usage line
+pub never_usage : (c : Command) (bytes : List ℕ) → status.Usage ≡ called_for (Some c) bytes → ⊥
+unfolding called_for
+never_usage c bytes h = no_usage (refusal_of c bytes) h
+
+-- without a command that line alone is called for
+pub usage_called : (bytes : List ℕ) → called_for None bytes ≡ status.Usage
+unfolding called_for
+usage_called bytes = refl
+
+-- `gen` calls for no other status
+pub made_done : (n : ℕ) (bytes : List ℕ) → called_for (Some (command.Gen n)) bytes ≡ status.Done
+unfolding called_for refusal_of
+made_done n bytes = refl
+
+-- a refusal by the first rule is one of an input that is too long
+pub first_rule : (c : Command) (bytes : List ℕ) (n : ℕ) → nat_lt 16777216 (length bytes) ≡ false → status.Script n 1 ≡ called_for (Some c) bytes → ⊥
+unfolding called_for refusal_of
+first_rule c bytes n short h = by_command c h
+  where
+    later : (o : Option ℕ) → status.Script n 1 ≡ unless_done (option_map (λ k. (k, 0)) o) → ⊥
+    later None k = cc
+    later (Some m) k = cc
+
+    of_fault : (d : Command) (o : Option (ℕ × ℕ)) → fault_of bytes ≡ o → status.Script n 1 ≡ unless_done (option_or o (unbuilt_refusal d (script_in bytes))) → ⊥
+    of_fault d None is k = later (unbuilt_line d (script_in bytes)) k
+    of_fault d (Some fault) is k =
         let one : fault.1 ≡ 1 = cc in
         not_rule_one bytes fault.0 short (is ∙ ap (λ r. Some (fault.0, r)) one)
 
--- an end with an outcome is one with an equal outcome
-pub ends_as : (o p : Outcome) (end : Status) (taken after : Option (List ℕ)) (done : Bool) (before now : ℕ) → o ≡ p → Ends o end taken after done before now → Ends p end taken after done before now
-ends_as o p end taken after done before now is e = subst (λ x. Ends x end taken after done before now) is e
+    by_command : (d : Command) → status.Script n 1 ≡ unless_done (refusal_of d bytes) → ⊥
+    by_command command.Run k = of_fault command.Run (fault_of bytes) refl k
+    by_command command.Print k = of_fault command.Print (fault_of bytes) refl k
+    by_command (command.Gen m) k = cc
 
--- an input that is too long is refused by that rule, at line 1
-pub outcome_too_long : (c : Command) (bytes : List ℕ) → nat_lt 16777216 (length bytes) ≡ true → outcome_of c bytes ≡ outcome.Refused 1 1
-unfolding fault_of
-outcome_too_long c bytes long = sym (outcome_fault c bytes 1 1 (rw long refl))
+-- ---- texts
+-- the one line of a refusal
+pub refusal_text : (o : Outcome) (line rule : ℕ) → status.Script line rule ≡ status_of o → text_of o ≡ refusal_line line rule
+refusal_text (outcome.Whole text) line rule is = cc
+refusal_text (outcome.Refused l r) line rule is =
+    let same_line : l ≡ line = cc in
+    let same_rule : r ≡ rule = cc in
+    λ i. refusal_line (same_line i) (same_rule i)
+refusal_text (outcome.Usage text) line rule is = cc
+
+-- a run that is done was refused nothing
+pub done_text : (bytes : List ℕ) (history : List Event) → status.Done ≡ status_of (outcome_in command.Run bytes history) → text_of (outcome_in command.Run bytes history) ≡ report_of (script_in bytes) history
+unfolding outcome_in text_for
+done_text bytes history is = go (refusal_of command.Run bytes) is
+  where
+    text : List ℕ
+    text = report_of (script_in bytes) history
+
+    go : (o : Option (ℕ × ℕ)) → status.Done ≡ status_of (unless_refused o text) → text_of (unless_refused o text) ≡ text
+    go None h = refl
+    go (Some refusal) h = cc

@@ -1,144 +1,285 @@
--- What the top call comes to, once a command came to an end.
-use Rattle.std.proofs.Common.{◌≡◌, ℕ, ◌+◌, ◌<◌, ◌≤◌, false, List, [], ◌++◌, length, drop, Option, Some, None, refl, sym, ap, ◌∙◌, arith, subst, inl, inr, nat_lt, ◌⊎◌}
+-- What the top calls promise of a run that came to an end.
+use Rattle.std.proofs.Common.{◌≡◌, ℕ, ◌<◌, Bool, true, List, [], ◌++◌, length, Option, Some, None, is_none, refl, sym, ap, ◌∙◌, subst, inl, inr, nat_lt, ◌⊎◌}
 use Rattle.std.specs.Prelude.{IfSome}
-use Rattle.std.proofs.lemmas.List.{drop_all}
-use Rattle.std.proofs.lemmas.Bool.{lt-ltb}
+use Rattle.std.proofs.lemmas.Bool.{cases_Bool, ltb-true}
 use Rattle.ix_io.specs.Streams.{Rose}
+use Rattle.ix_iso.proofs.Hiding.{hides}
+use Rattle.ix_model.specs.history.Events.{Event}
+use Rattle.ix_lanes.specs.histories.Serial.{serial}
+use Rattle.ix_script.specs.declared.line.Line.{Line}
 use Rattle.ix_host.specs.declared.asked.command.Command.{Command}
+use Rattle.ix_host.specs.declared.asked.command.Command.TheVariants as command
 use Rattle.ix_host.specs.declared.status.Status.{Status}
 use Rattle.ix_host.specs.declared.status.Status.TheVariants as status
-use Rattle.ix_host.specs.command.Command.{usage_line}
-use Rattle.ix_host.specs.run.Outcome.{Outcome, outcome_of, text_of}
+use Rattle.ix_host.specs.Hiding.{TakesHidingReport, world_opened}
+use Rattle.ix_host.specs.declared.task.Task.TheVariants as task
+use Rattle.ix_host.specs.declared.task.Telling.{Telling}
+use Rattle.ix_host.specs.run.Tasks.{Prepares, text_told}
 use Rattle.ix_host.specs.run.Outcome as outcome
-use Rattle.ix_host.specs.report.Rules.{refusal_line}
-use Rattle.ix_host.specs.run.Run.{IsEndOf, IsAnswer, FitsCommand, ReadsOut, WritesFor, WritesLine, wanted_for, called_for, status_of}
+use Rattle.ix_host.specs.run.Outcome.{Outcome, input_of, outcome_in, outcome_of, reads_source, script_in, status_of, text_for, text_of}
+use Rattle.ix_host.specs.run.Run.{Ends, FitsCommand, ForOne, IsAnswer, IsEndOf, ReadsOut, WritesFor, WritesLine, called_for}
 use Rattle.ix_host.specs.run.Whole.{script_max}
-use Rattle.ix_host.proofs.comes_to.Outcomes.{not_too_long, outcome_too_long}
+use Rattle.ix_host.proofs.Hiding.{low_lines}
+use Rattle.ix_host.proofs.comes_to.Preparing.{ends_as, unwritten}
+use Rattle.ix_host.proofs.comes_to.Outcomes.{done_text, first_rule, made_done, never_usage, refusal_text, status_is, usage_called}
 
--- the input was read to its end
-abbrev pub WasRead : Option (List ℕ) → Option (List ℕ) → List ℕ → Type 0
-WasRead first left read = IfSome first (λ bytes. (read ≡ bytes) × (left ≡ Some []) × (length bytes ≤ script_max))
-
-line_written : (o : Outcome) (l r : ℕ) (t : List ℕ) (after : Option (List ℕ)) → status.Script l r ≡ status_of o → after ≡ Some (t ++ text_of o) → after ≡ Some (t ++ refusal_line l r)
-line_written (outcome.Whole text) l r t after is h = cc
-line_written (outcome.Refused line rule) l r t after is h =
-    let same_line : line ≡ l = cc in
-    let same_rule : rule ≡ r = cc in
-    h ∙ (λ i. Some (t ++ refusal_line (same_line i) (same_rule i)))
-
-pub line_of_end : (o : Outcome) (end : Status) (taken after : Option (List ℕ)) → IsEndOf o end → IfSome taken (λ t. WritesFor end (text_of o) t after) → IfSome taken (λ t. WritesLine end t after)
-line_of_end o end None after h w = tt
-line_of_end o status.Done (Some t) after h w = tt
-line_of_end o status.Usage (Some t) after h w = absurd h
-line_of_end o (status.Script l r) (Some t) after h w = line_written o l r t after h w
-line_of_end o status.ReadFault (Some t) after h w = absurd h
-line_of_end o status.WriteFault (Some t) after h w = tt
-line_of_end o status.NoMemory (Some t) after h w = tt
-
-pub read_out : (o : Outcome) (end : Status) (first left : Option (List ℕ)) (read : List ℕ) → IsEndOf o end → WasRead first left read → IfSome first (λ bytes. ReadsOut end bytes left)
-read_out o end None left read h w = tt
-read_out o status.Done (Some bytes) left read h w = w.1
-read_out o status.Usage (Some bytes) left read h w = absurd h
-read_out o (status.Script l r) (Some bytes) left read h w = w.1 ∙ ap Some (sym (drop_all (script_max + 1) bytes (omega (arith, w.2))))
-read_out o status.ReadFault (Some bytes) left read h w = absurd h
-read_out o status.WriteFault (Some bytes) left read h w = tt
-read_out o status.NoMemory (Some bytes) left read h w = tt
-
-pub fits_command : (o : Outcome) (end : Status) (found : Option Command) (c : Command) → Some c ≡ found → IsEndOf o end → FitsCommand end found
-fits_command o end found c is h = subst (FitsCommand end) is (fits o end c h)
-  where
-    fits : (o : Outcome) (end : Status) (c : Command) → IsEndOf o end → FitsCommand end (Some c)
-    fits o status.Done c h = refl
-    fits o status.Usage c h = absurd h
-    fits o (status.Script l r) c h = refl
-    fits o status.ReadFault c h = absurd h
-    fits o status.WriteFault c h = tt
-    fits o status.NoMemory c h = tt
-
+-- ---- an end with an outcome
 -- the status of an answer is the outcome's
 of_answer : (o : Outcome) (end : Status) → IsEndOf o end → IsAnswer end → end ≡ status_of o
 of_answer o status.Done h a = h
-of_answer o status.Usage h a = absurd h
+of_answer o status.Usage h a = h
 of_answer o (status.Script l r) h a = h
 of_answer o status.ReadFault h a = absurd h
 of_answer o status.WriteFault h a = absurd a
 of_answer o status.NoMemory h a = absurd a
 
-pub is_called_for : (c : Command) (found : Option Command) (end : Status) (first left : Option (List ℕ)) (read : List ℕ) → Some c ≡ found → IsEndOf (outcome_of c read) end → WasRead first left read
-    → IsAnswer end → IfSome first (λ bytes. end ≡ called_for found bytes)
+-- and where no write failed there is none else but that memory ran out
+or_memory : (o : Outcome) (end : Status) → IsEndOf o end → (end ≡ status.WriteFault → ⊥) → (end ≡ status_of o) ⊎ (end ≡ status.NoMemory)
+or_memory o status.Done h f = inl h
+or_memory o status.Usage h f = inl h
+or_memory o (status.Script l r) h f = inl h
+or_memory o status.ReadFault h f = absurd h
+or_memory o status.WriteFault h f = absurd (f refl)
+or_memory o status.NoMemory h f = inr refl
+
+-- ---- the command
+-- the statuses of answers fit the command that was asked for
+fits_asked : (asked : Option Command) (bytes : List ℕ) (end : Status) → (IsAnswer end → end ≡ called_for asked bytes) → (end ≡ status.ReadFault → reads_source asked ≡ true) → FitsCommand end asked
 unfolding called_for
-is_called_for c found end None left read is h w a = tt
-is_called_for c found end (Some bytes) left read is h w a = of_answer (outcome_of c read) end h a ∙ ap (λ b. status_of (outcome_of c b)) w.0 ∙ ap (λ f. called_for f bytes) is
+fits_asked None bytes status.Done h f = let no : status.Done ≡ status.Usage = h tt in cc
+fits_asked (Some c) bytes status.Done h f = refl
+fits_asked None bytes status.Usage h f = refl
+fits_asked (Some c) bytes status.Usage h f = absurd (never_usage c bytes (h tt))
+fits_asked None bytes (status.Script l r) h f = let no : status.Script l r ≡ status.Usage = h tt in cc
+fits_asked (Some command.Run) bytes (status.Script l r) h f = refl
+fits_asked (Some command.Print) bytes (status.Script l r) h f = refl
+fits_asked (Some (command.Gen n)) bytes (status.Script l r) h f = let no : status.Script l r ≡ status.Done = h tt ∙ made_done n bytes in cc
+fits_asked asked bytes status.ReadFault h f = f refl
+fits_asked asked bytes status.WriteFault h f = tt
+fits_asked asked bytes status.NoMemory h f = tt
 
-pub is_wanted : (c : Command) (found : Option Command) (end : Status) (first left taken after : Option (List ℕ)) (read : List ℕ) → Some c ≡ found → WasRead first left read
-    → IfSome taken (λ t. WritesFor end (text_of (outcome_of c read)) t after) → IfSome first (λ bytes. IfSome taken (λ t. WritesFor end (wanted_for found bytes) t after))
-unfolding wanted_for
-is_wanted c found end None left taken after read is w h = tt
-is_wanted c found end (Some bytes) left taken after read is w h =
-    subst (λ f. IfSome taken (λ t. WritesFor end (wanted_for f bytes) t after)) is
-    (subst (λ b. IfSome taken (λ t. WritesFor end (text_of (outcome_of c b)) t after)) w.0 h)
+-- ---- the input
+-- what holds of the input holds of the one that is told
+of_input : (o : Option (List ℕ)) (b : List ℕ) (P : List ℕ → Type 0) → IfSome o (λ input. b ≡ input) → P b → IfSome o P
+of_input None b P told h = tt
+of_input (Some input) b P told h = subst P told h
 
-pub never_too_long : (c : Command) (end : Status) (first left : Option (List ℕ)) (read : List ℕ) → IsEndOf (outcome_of c read) end → WasRead first left read
-    → end ≡ status.Script 1 1 → IfSome first (λ bytes. script_max < length bytes)
-never_too_long c end None left read h w is = tt
-never_too_long c end (Some bytes) left read h w is =
-    let short : nat_lt script_max (length read) ≡ false = grind (arith, ap length w.0, w.2) in
-    absurd (refused_by_one (outcome_of c read) refl (of_script (outcome_of c read) end h is))
+-- one that is refused by the first rule is too long
+long : (c : Command) (b : List ℕ) → status.Script 1 1 ≡ called_for (Some c) b → script_max < length b
+long c b h = elim (cases_Bool (nat_lt script_max (length b))) [
+  | inl is ↦ ltb-true script_max (length b) is
+  | inr is ↦ absurd (first_rule c b 1 is h)
+]
+
+long_input : (asked : Option Command) (left : Option (List ℕ)) (b : List ℕ) → IfSome (input_of asked left) (λ input. b ≡ input) → status.Script 1 1 ≡ called_for asked b → IfSome left (λ bytes. script_max < length bytes)
+unfolding called_for
+long_input None left b told h = cc
+long_input (Some command.Run) left b told h = of_input left b (λ bytes. script_max < length bytes) told (long command.Run b h)
+long_input (Some command.Print) left b told h = of_input left b (λ bytes. script_max < length bytes) told (long command.Print b h)
+long_input (Some (command.Gen n)) left b told h = let no : status.Script 1 1 ≡ status.Done = h ∙ made_done n b in cc
+
+-- ---- what is written
+-- usage and a refusal write their one line
+line_of : (usage : List ℕ) (asked : Option Command) (b : List ℕ) (history : List Event) (end : Status) (t : List ℕ) (after : Option (List ℕ)) → IsEndOf (outcome_of usage asked b history) end
+    → WritesFor end (text_of (outcome_of usage asked b history)) t after → WritesLine usage end t after
+line_of usage asked b history status.Done t after is h = tt
+line_of usage None b history status.Usage t after is h = h
+line_of usage (Some c) b history status.Usage t after is h = absurd (never_usage c b (is ∙ status_is usage (Some c) b history))
+line_of usage asked b history (status.Script line rule) t after is h = h ∙ ap (λ text. Some (t ++ text)) (refusal_text (outcome_of usage asked b history) line rule is)
+line_of usage asked b history status.ReadFault t after is h = absurd is
+line_of usage asked b history status.WriteFault t after is h = tt
+line_of usage asked b history status.NoMemory t after is h = tt
+
+-- the text that went out is that of one history
+text_of_one : (Is : List Event → Type 0) (of : List Event → Outcome) (end : Status) (taken after : Option (List ℕ)) (history : List Event) → Is history
+    → IfSome taken (λ t. WritesFor end (text_of (of history)) t after) → IfSome taken (λ t. ForOne Is (λ h. WritesFor end (text_of (of h)) t after))
+text_of_one Is of end None after history is w = tt
+text_of_one Is of end (Some t) after history is w = record { history = history; is = is; holds = w }
+
+-- the report that went out hides what is high
+hiding_one : (Is : List Event → Type 0) (b : List ℕ) (end : Status) (taken after : Option (List ℕ)) (history : List Event) → Is history → end ≡ status.Done
+    → IsEndOf (outcome_in command.Run b history) end → IfSome taken (λ t. WritesFor end (text_of (outcome_in command.Run b history)) t after)
+    → IfSome taken (λ t. ForOne Is (λ h. TakesHidingReport (script_in b) h t after))
+hiding_one Is b end None after history is done f w = tt
+hiding_one Is b end (Some t) after history is done f w =
+    let o = outcome_in command.Run b history in
+    let fits_done : status.Done ≡ status_of o = subst (IsEndOf o) done f in
+    let went : after ≡ Some (t ++ text_of o) = subst (λ (x : Status). WritesFor x (text_of o) t after) done w in
+    record {
+      history = history;
+      is = is;
+      holds = record {
+        went_out = went ∙ ap (λ text. Some (t ++ text)) (done_text b history fits_done);
+        history = hides (world_opened (script_in b)) history;
+        lines = low_lines (script_in b) history;
+      };
+    }
+
+-- nothing went out
+nothing_of_one : (Is : List Event → Type 0) (of : List Event → Outcome) (taken : Option (List ℕ)) (history : List Event) → Is history
+    → IfSome taken (λ t. ForOne Is (λ h. WritesFor status.ReadFault (text_of (of h)) t taken))
+nothing_of_one Is of None history is = tt
+nothing_of_one Is of (Some t) history is = record { history = history; is = is; holds = refl }
+
+no_line : (usage : List ℕ) (taken : Option (List ℕ)) → IfSome taken (λ t. WritesLine usage status.ReadFault t taken)
+no_line usage None = tt
+no_line usage (Some t) = tt
+
+-- what holds of all holds where one is told
+of_any : (o : Option (List ℕ)) (P : List ℕ → Type 0) → ((b : List ℕ) → P b) → IfSome o P
+of_any None P h = tt
+of_any (Some b) P h = h b
+
+lines_of : (usage : List ℕ) (asked : Option Command) (b : List ℕ) (history : List Event) (end : Status) (taken after : Option (List ℕ)) → IsEndOf (outcome_of usage asked b history) end
+    → IfSome taken (λ t. WritesFor end (text_of (outcome_of usage asked b history)) t after) → IfSome taken (λ t. WritesLine usage end t after)
+lines_of usage asked b history end None after is w = tt
+lines_of usage asked b history end (Some t) after is w = line_of usage asked b history end t after is w
+
+none_is : (asked : Option Command) → is_none asked ≡ true → asked ≡ None
+none_is None h = refl
+none_is (Some c) h = cc
+
+-- ---- the verdict
+-- What was asked for came to an end with this status, by a history to which the lanes of the script can come.
+pub record CameTo (Comes : List Line → List Event → Type 0) (usage : List ℕ) (asked : Option Command) (left : Option (List ℕ)) (end : Status) (taken after : Option (List ℕ)) (done : Bool) (before now : ℕ) : Type 0 where
+  pub bytes : List ℕ
+  pub told : IfSome (input_of asked left) (λ input. bytes ≡ input)
+  pub history : List Event
+  pub is : Comes (script_in bytes) history
+  pub ends : Ends (outcome_of usage asked bytes history) end taken after done before now
+
+-- what is promised where no read failed, and where one did
+pub record Verdict (Comes : List Line → List Event → Type 0) (usage : List ℕ) (asked : Option Command) (left : Option (List ℕ)) (end : Status) (taken after : Option (List ℕ)) (done : Bool) (before now : ℕ) : Type 0 where
+  pub written : IfSome (input_of asked left) (λ bytes. IfSome taken (λ t. ForOne (Comes (script_in bytes)) (λ history. WritesFor end (text_of (outcome_of usage asked bytes history)) t after)))
+  pub line : IfSome taken (λ t. WritesLine usage end t after)
+  pub finished : IsAnswer end → done ≡ true
+  pub hides : end ≡ status.Done → asked ≡ Some command.Run → IfSome left (λ bytes. IfSome taken (λ t. ForOne (Comes (script_in bytes)) (λ history. TakesHidingReport (script_in bytes) history t after)))
+  pub fits : FitsCommand end asked
+  pub answer : IsAnswer end → IfSome (input_of asked left) (λ bytes. end ≡ called_for asked bytes)
+  pub kept : IsAnswer end → now ≡ before
+  pub too_long : end ≡ status.Script 1 1 → IfSome left (λ bytes. script_max < length bytes)
+  pub write_fault : end ≡ status.WriteFault → Rose before now
+  pub usage_only : is_none asked ≡ true → (Rose before now → ⊥) → (end ≡ status.Usage) ⊎ (end ≡ status.NoMemory)
+  pub made : (n : ℕ) → asked ≡ Some (command.Gen n) → (Rose before now → ⊥) → (end ≡ status.Done) ⊎ (end ≡ status.NoMemory)
+  pub complete : (end ≡ status.ReadFault → ⊥) → (Rose before now → ⊥) → IfSome (input_of asked left) (λ bytes. (end ≡ called_for asked bytes) ⊎ (end ≡ status.NoMemory))
+
+module _ {Comes : List Line → List Event → Type 0} {usage : List ℕ} {asked : Option Command} {left : Option (List ℕ)} {end : Status} {taken after : Option (List ℕ)} {done : Bool} {before now : ℕ} where
+  came : CameTo Comes usage asked left end taken after done before now → Verdict Comes usage asked left end taken after done before now
+  came c =
+      let b = c.bytes in
+      let h = c.history in
+      let e = c.ends in
+      let o = outcome_of usage asked b h in
+      let answers : IsAnswer end → end ≡ called_for asked b = λ a. of_answer o end e.fits a ∙ status_is usage asked b h in
+      let never : (end ≡ status.ReadFault → ⊥) = λ is. subst (IsEndOf o) is e.fits in
+      let called : (Rose before now → ⊥) → (end ≡ called_for asked b) ⊎ (end ≡ status.NoMemory) = λ f. elim (or_memory o end e.fits (λ is. f (e.fault is))) [
+        | inl is ↦ inl (is ∙ status_is usage asked b h)
+        | inr is ↦ inr is
+      ] in
+      record {
+        written = of_input (input_of asked left) b _ c.told (text_of_one (Comes (script_in b)) (λ k. outcome_of usage asked b k) end taken after h c.is e.text);
+        line = lines_of usage asked b h end taken after e.fits e.text;
+        finished = e.finished;
+        hides = λ is run. of_input left b _ (subst (λ a. IfSome (input_of a left) (λ input. b ≡ input)) run c.told)
+            (hiding_one (Comes (script_in b)) b end taken after h c.is is (subst (λ a. IsEndOf (outcome_of usage a b h) end) run e.fits)
+            (subst (λ a. IfSome taken (λ t. WritesFor end (text_of (outcome_of usage a b h)) t after)) run e.text));
+        fits = fits_asked asked b end answers (λ is. absurd (never is));
+        answer = λ a. of_input (input_of asked left) b _ c.told (answers a);
+        kept = e.kept;
+        too_long = λ is. long_input asked left b c.told (sym is ∙ answers (subst IsAnswer (sym is) tt));
+        write_fault = e.fault;
+        usage_only = λ none f. elim (called f) [
+          | inl is ↦ inl (is ∙ ap (λ a. called_for a b) (none_is asked none) ∙ usage_called b)
+          | inr is ↦ inr is
+        ];
+        made = λ n is f. elim (called f) [
+          | inl k ↦ inl (k ∙ ap (λ a. called_for a b) is ∙ made_done n b)
+          | inr k ↦ inr k
+        ];
+        complete = λ _ f. of_input (input_of asked left) b _ c.told (called f);
+      }
+
+-- a read failed, and nothing was written
+faulted : (Comes : List Line → List Event → Type 0) → ((s : List Line) → Comes s (serial s)) → (usage : List ℕ) (asked : Option Command) (left taken : Option (List ℕ)) (done : Bool) (before now : ℕ) → reads_source asked ≡ true
+    → Verdict Comes usage asked left status.ReadFault taken taken done before now
+faulted Comes serials usage asked left taken done before now reads = record {
+  written = of_any (input_of asked left) _ (λ b. nothing_of_one (Comes (script_in b)) (λ k. outcome_of usage asked b k) taken (serial (script_in b)) (serials (script_in b)));
+  line = no_line usage taken;
+  finished = λ a. absurd a;
+  hides = λ is run. cc;
+  fits = reads;
+  answer = λ a. absurd a;
+  kept = λ a. absurd a;
+  too_long = λ is. cc;
+  write_fault = λ is. cc;
+  usage_only = λ none f. let no : reads_source None ≡ true = subst (λ a. reads_source a ≡ true) (none_is asked none) reads in cc;
+  made = λ n is f. let no : reads_source (Some (command.Gen n)) ≡ true = subst (λ a. reads_source a ≡ true) is reads in cc;
+  complete = λ never f. absurd (never refl);
+}
+
+-- of what ended before the lanes were run
+pub verdict_ended : (Comes : List Line → List Event → Type 0) → ((s : List Line) → Comes s (serial s)) → (usage : List ℕ) (asked : Option Command) (left : Option (List ℕ)) (end : Status) (taken after : Option (List ℕ)) (done : Bool) (before now : ℕ)
+    → (end ≡ status.ReadFault → reads_source asked ≡ true) → (end ≡ status.ReadFault → after ≡ taken)
+    → ((end ≡ status.ReadFault → ⊥) → Prepares usage asked left (task.Ended end) taken after done before now) → Verdict Comes usage asked left end taken after done before now
+verdict_ended Comes serials usage asked left end taken after done before now reads none prepared = elim (is_fault end) [
+  | inl is ↦
+      let nothing : Verdict Comes usage asked left status.ReadFault taken taken done before now = faulted Comes serials usage asked left taken done before now (reads is) in
+      subst (λ (x : Status). Verdict Comes usage asked left x taken after done before now) (sym is)
+      (subst (λ (o : Option (List ℕ)). Verdict Comes usage asked left status.ReadFault taken o done before now) (sym (none is)) nothing)
+  | inr not ↦ let p = prepared not in came (record { bytes = p.bytes; told = p.told; history = serial (script_in p.bytes); is = serials (script_in p.bytes); ends = p.leads (serial (script_in p.bytes)) })
+]
   where
-    of_script : (o : Outcome) (end : Status) → IsEndOf o end → end ≡ status.Script 1 1 → status.Script 1 1 ≡ status_of o
-    of_script o end h is = sym is ∙ of_answer o end h (subst IsAnswer (sym is) tt)
+    is_fault : (s : Status) → (s ≡ status.ReadFault) ⊎ (s ≡ status.ReadFault → ⊥)
+    is_fault status.Done = inr (λ is. cc)
+    is_fault status.Usage = inr (λ is. cc)
+    is_fault (status.Script line rule) = inr (λ is. cc)
+    is_fault status.ReadFault = inl refl
+    is_fault status.WriteFault = inr (λ is. cc)
+    is_fault status.NoMemory = inr (λ is. cc)
 
-    refused_by_one : (o : Outcome) → outcome_of c read ≡ o → status.Script 1 1 ≡ status_of o → ⊥
-    refused_by_one (outcome.Whole text) e k = cc
-    refused_by_one (outcome.Refused line rule) e k =
-        let one : rule ≡ 1 = cc in
-        not_too_long c read line (grind (arith, ap length w.0, w.2)) (e ∙ ap (outcome.Refused line) one)
+-- of what was told once they were run
+pub verdict_told : {Comes : List Line → List Event → Type 0} {usage : List ℕ} {asked : Option Command} {left : Option (List ℕ)} {told : Telling} {s : List Line} {end : Status} {taken between after : Option (List ℕ)} {done waiting : Bool} {before then now : ℕ} (history : List Event)
+    → Prepares usage asked left (task.Run told s) taken between waiting before then → Comes s history → Ends (outcome.Whole (text_told told s history)) end taken after done before now
+    → Verdict Comes usage asked left end taken after done before now
+verdict_told {Comes} history p is e = came (record {
+  bytes = p.bytes;
+  told = p.told;
+  history = history;
+  is = subst (λ t. Comes t history) p.leads.0 is;
+  ends = ends_as (sym (p.leads.2 history)) e;
+})
 
-pub is_complete : (c : Command) (found : Option Command) (end : Status) (first left : Option (List ℕ)) (read : List ℕ) (before now : ℕ) → Some c ≡ found → IsEndOf (outcome_of c read) end → WasRead first left read
-    → (end ≡ status.WriteFault → Rose before now) → (Rose before now → ⊥) → IfSome first (λ bytes. (end ≡ called_for found bytes) ⊎ (end ≡ status.NoMemory))
-is_complete c found end None left read before now is h w f never = tt
-is_complete c found status.Done (Some bytes) left read before now is h w f never = inl (is_called_for c found status.Done (Some bytes) left read is h w tt)
-is_complete c found status.Usage (Some bytes) left read before now is h w f never = absurd h
-is_complete c found (status.Script l r) (Some bytes) left read before now is h w f never = inl (is_called_for c found (status.Script l r) (Some bytes) left read is h w tt)
-is_complete c found status.ReadFault (Some bytes) left read before now is h w f never = absurd h
-is_complete c found status.WriteFault (Some bytes) left read before now is h w f never = absurd (never (f refl))
-is_complete c found status.NoMemory (Some bytes) left read before now is h w f never = inr refl
+-- ---- single promises
+-- after an answer no read failed
+pub answer_read : (end : Status) → IsAnswer end → task.Ended end ≡ task.Ended status.ReadFault → ⊥
+answer_read end a is = let fault : end ≡ status.ReadFault = cc in subst IsAnswer fault a
 
--- ---- other words
-pub usage_wanted : (P : List ℕ → List ℕ → Type 0) (found : Option Command) (first taken : Option (List ℕ)) → found ≡ None → IfSome taken (λ t. P t usage_line)
-    → IfSome first (λ bytes. IfSome taken (λ t. P t (wanted_for found bytes)))
-unfolding wanted_for
-usage_wanted P found None taken is h = tt
-usage_wanted P found (Some bytes) taken is h = subst (λ f. IfSome taken (λ t. P t (wanted_for f bytes))) (sym is) h
+-- nor after lanes were run
+pub told_read : (text : List ℕ) (end : Status) → IsEndOf (outcome.Whole text) end → end ≡ status.ReadFault → ⊥
+told_read text end h is = subst (IsEndOf (outcome.Whole text)) is h
 
-pub usage_called : (found : Option Command) (first : Option (List ℕ)) → found ≡ None → IfSome first (λ bytes. status.Usage ≡ called_for found bytes)
-unfolding called_for
-usage_called found None is = tt
-usage_called found (Some bytes) is = ap (λ f. called_for f bytes) (sym is)
+-- then the source was read to its end
+pub told_read_out : (text : List ℕ) (end : Status) (first left : Option (List ℕ)) → IsEndOf (outcome.Whole text) end → IfSome first (λ bytes. left ≡ Some []) → IfSome first (λ bytes. ReadsOut end bytes left)
+told_read_out text end None left h w = tt
+told_read_out text status.Done (Some bytes) left h w = w
+told_read_out text status.Usage (Some bytes) left h w = tt
+told_read_out text (status.Script line rule) (Some bytes) left h w = cc
+told_read_out text status.ReadFault (Some bytes) left h w = tt
+told_read_out text status.WriteFault (Some bytes) left h w = tt
+told_read_out text status.NoMemory (Some bytes) left h w = tt
 
-pub usage_complete : (found : Option Command) (first : Option (List ℕ)) → found ≡ None → IfSome first (λ bytes. (status.Usage ≡ called_for found bytes) ⊎ (status.Usage ≡ status.NoMemory))
-unfolding called_for
-usage_complete found None is = tt
-usage_complete found (Some bytes) is = inl (ap (λ f. called_for f bytes) (sym is))
+-- where the serial history is the only one, what holds of one history holds of that
+pub at_serial : (first taken : Option (List ℕ)) (P : List ℕ → List ℕ → List Event → Type 0) → IfSome first (λ bytes. IfSome taken (λ t. ForOne (λ history. history ≡ serial (script_in bytes)) (λ history. P bytes t history)))
+    → IfSome first (λ bytes. IfSome taken (λ t. P bytes t (serial (script_in bytes))))
+at_serial None taken P h = tt
+at_serial (Some bytes) None P h = tt
+at_serial (Some bytes) (Some t) P h = subst (P bytes t) h.is h.holds
 
--- ---- an input that is too long
-abbrev pub WasLong : Option (List ℕ) → Option (List ℕ) → Type 0
-WasLong first left = IfSome first (λ bytes. (script_max < length bytes) × (left ≡ Some (drop (script_max + 1) bytes)))
-
-pub long_wanted : (P : List ℕ → List ℕ → Type 0) (c : Command) (found : Option Command) (first left taken : Option (List ℕ)) (text : List ℕ) → Some c ≡ found → WasLong first left → text ≡ refusal_line 1 1
-    → IfSome taken (λ t. P t text) → IfSome first (λ bytes. IfSome taken (λ t. P t (wanted_for found bytes)))
-unfolding wanted_for
-long_wanted P c found None left taken text is w said h = tt
-long_wanted P c found (Some bytes) left taken text is w said h =
-    subst (λ f. IfSome taken (λ t. P t (wanted_for f bytes))) is
-    (subst (λ o. IfSome taken (λ t. P t (text_of o))) (sym (outcome_too_long c bytes (lt-ltb _ _ w.0))) (subst (λ u. IfSome taken (λ t. P t u)) said h))
-
-pub long_called : (c : Command) (found : Option Command) (first left : Option (List ℕ)) → Some c ≡ found → WasLong first left → IfSome first (λ bytes. status.Script 1 1 ≡ called_for found bytes)
-unfolding called_for
-long_called c found None left is w = tt
-long_called c found (Some bytes) left is w = ap status_of (sym (outcome_too_long c bytes (lt-ltb _ _ w.0))) ∙ ap (λ f. called_for f bytes) is
-
-pub long_complete : (c : Command) (found : Option Command) (first left : Option (List ℕ)) → Some c ≡ found → WasLong first left
-    → IfSome first (λ bytes. (status.Script 1 1 ≡ called_for found bytes) ⊎ (status.Script 1 1 ≡ status.NoMemory))
-long_complete c found None left is w = tt
-long_complete c found (Some bytes) left is w = inl (long_called c found (Some bytes) left is w)
+-- nothing is written where memory ran out
+pub memory_written : (Comes : List Line → List Event → Type 0) → ((s : List Line) → Comes s (serial s)) → (text : List ℕ → List Event → List ℕ) (first taken : Option (List ℕ))
+    → IfSome first (λ bytes. IfSome taken (λ t. ForOne (Comes (script_in bytes)) (λ history. WritesFor status.NoMemory (text bytes history) t taken)))
+memory_written Comes serials text None taken = tt
+memory_written Comes serials text (Some bytes) None = tt
+memory_written Comes serials text (Some bytes) (Some t) =
+    let history = serial (script_in bytes) in
+    record { history = history; is = serials (script_in bytes); holds = unwritten (Some t) (text bytes history) }

@@ -1,5 +1,7 @@
 -- What clap makes of the command words, a word at a time.
-use Rattle.std.proofs.Common.{◌≡◌, ℕ, Bool, true, false, List, [], ◌∷◌, length, fold, Option, Some, None, is_some, refl, subst, ap, ap₂, ◌∙◌, inl, inr, codes, slice_get, if◌then◌else◌}
+use Rattle.std.proofs.Common.{◌≡◌, ℕ, ◌==◌, Bool, true, false, List, [], ◌∷◌, length, fold, Option, Some, None, is_some, refl, sym, subst, ap, ap₂, ◌∙◌, arith, inl, inr, codes, slice_get, if◌then◌else◌}
+use Rattle.std.proofs.lemmas.Bool.{cases_Bool}
+use Rattle.std.proofs.lemmas.Bool.Decides.{nat_tests}
 use Rattle.std.specs.Option.{option_map_or}
 use Rattle.std.specs.Str.{bytes_eq, chars}
 use Rattle.std.proofs.lemmas.Slice.Eq.{bytes_eq-Decides}
@@ -13,11 +15,13 @@ use Rattle.clap.specs.Walk.{Held, Outcome, Step, Walk, after_flag, after_step, a
 use Rattle.clap.specs.Simple.{built, entered, matches_of}
 use Rattle.clap.specs.Kinds.{or_else}
 use Rattle.clap.specs.Faults.{bundle_fault, bundle_step_fault, check_fault, defaults_fault, entered_fault, fault_of, flag_word_fault, flags_fault, settle_fault, step_fault, walk_fault, word_fault}
-use Rattle.clap.specs.Lexer.{long_of, short_of}
+use Rattle.std.specs.Prelude.{option_and_then}
+use Rattle.clap.specs.Lexer.{long_of, short_of, short_of_rest, strip_byte}
 use Rattle.clap.proofs.OnLiterals.{clap_on_literals}
 use Rattle.ix_host.specs.declared.asked.command.Command.{Command}
-use Rattle.ix_host.specs.command.Command.{command_of, left_out, named_command, only_command}
-use Rattle.ix_host.specs.command.CommandLine.{command_line, read_alone}
+use Rattle.ix_script.specs.texts.Words.{is_digit, is_numeral, number_of}
+use Rattle.ix_host.specs.command.Command.{command_of, count_of, left_out, whole_command}
+use Rattle.ix_host.specs.command.CommandLine.{command_line, read_values}
 
 -- ---- what a parse comes to from where a walk stands
 abbrev line : App
@@ -35,7 +39,7 @@ abbrev fault_from : Walk → List Text → Kinds
 fault_from w words = or_else (walk_fault line.top [] w words) (end_fault (fold (walked rules []) w words))
 
 abbrev pub read_rows : List Row → Option Command
-read_rows rows = read_alone (first_of (codes "command") rows) (first_of (codes "count") rows)
+read_rows rows = read_values (first_of (codes "command") rows) (first_of (codes "count") rows)
 
 abbrev read_from : Walk → List Text → Option Command
 read_from w words = read_rows (finished rules (fold (walked rules []) w words).held)
@@ -60,17 +64,17 @@ abbrev at_two : Bool → Text → Text → Walk
 at_two is_trailing a b = taken (at_one is_trailing a) b
 
 -- ---- after a word `--`
-after_two : (a b : Text) (words : List Text) → Fits (fault_from (at_two true a b) words) (read_from (at_two true a b) words) None
+after_two : (a b : Text) (words : List Text) → Fits (fault_from (at_two true a b) words) (read_from (at_two true a b) words) (whole_command (a ∷ b ∷ words))
 unfolding clap_on_literals
 after_two a b [] = refl
 after_two a b (c ∷ words) = refl
 
-after_one : (a : Text) (words : List Text) → Fits (fault_from (at_one true a) words) (read_from (at_one true a) words) (only_command (a ∷ words))
+after_one : (a : Text) (words : List Text) → Fits (fault_from (at_one true a) words) (read_from (at_one true a) words) (whole_command (a ∷ words))
 unfolding clap_on_literals
 after_one a [] = refl
 after_one a (b ∷ words) = after_two a b words
 
-after_none : (words : List Text) → Fits (fault_from (at_none true) words) (read_from (at_none true) words) (only_command words)
+after_none : (words : List Text) → Fits (fault_from (at_none true) words) (read_from (at_none true) words) (whole_command words)
 unfolding clap_on_literals
 after_none [] = refl
 after_none (a ∷ words) = after_one a words
@@ -122,11 +126,12 @@ module _ (word : Text) (rows : List Row) (pending : Option (Text × List Text)) 
         | false ↦ by_long (long_of word) (P false) refused taken
       ]
 
--- a word that is refused is neither of these
-abbrev first_fault : Text → Kinds
-first_fault word = word_fault line.top [] false idle word nothing_held
+-- what is refused of a word
+abbrev fault_in : Text → List Row → Option (Text × List Text) → Kinds
+fault_in word rows pending = word_fault line.top [] false idle word (held rows pending)
 
-other_than : (word name : Text) (k : ErrorKind) (ks : Kinds) → first_fault name ≡ [] → first_fault word ≡ k ∷ ks → bytes_eq word name ≡ false
+-- a word that is refused is none of these
+other_than : (word name : Text) (k : ErrorKind) (ks : Kinds) → fault_in name [] None ≡ [] → fault_in word [] None ≡ k ∷ ks → bytes_eq word name ≡ false
 other_than word name k ks clean refused =
     elim (bytes_eq word name) as (λ b. bytes_eq word name ≡ b → b ≡ false) [
       | true ↦ λ is.
@@ -136,8 +141,35 @@ other_than word name k ks clean refused =
       | false ↦ λ is. refl
     ] refl
 
-none_named : (word : Text) (k : ErrorKind) (ks : Kinds) → first_fault word ≡ k ∷ ks → named_command word ≡ None
-none_named word k ks refused = rw (other_than word (codes "run") k ks refl refused, other_than word (codes "print") k ks refl refused) refl
+-- so it is no command
+none_whole : (word : Text) (words : List Text) (k : ErrorKind) (ks : Kinds) → fault_in word [] None ≡ k ∷ ks → whole_command (word ∷ words) ≡ None
+none_whole word [] k ks refused = rw (other_than word (codes "run") k ks refl refused, other_than word (codes "print") k ks refl refused) refl
+none_whole word (count ∷ []) k ks refused = rw (other_than word (codes "gen") k ks refl refused) refl
+none_whole word (count ∷ more ∷ words) k ks refused = refl
+
+-- one that begins with a digit is never refused
+digit_is_free : (b : ℕ) (word : Text) (rows : List Row) (pending : Option (Text × List Text)) → is_digit b ≡ true → fault_in (b ∷ word) rows pending ≡ []
+digit_is_free b word rows pending is =
+    let other : (b == 45) ≡ false = grind (arith, nat_tests, is) in
+    let stripped : strip_byte 45 (b ∷ word) ≡ None = rw other refl in
+    rw other (ap (λ o. option_map_or (λ flags. bundle_fault rules false flags (held rows pending)) (option_and_then short_of_rest o) []) stripped)
+
+-- so one that is refused is no count
+none_counted : (word : Text) (rows : List Row) (pending : Option (Text × List Text)) (k : ErrorKind) (ks : Kinds) → fault_in word rows pending ≡ k ∷ ks → count_of word ≡ None
+unfolding number_of is_numeral
+none_counted [] rows pending k ks refused = refl
+none_counted (b ∷ word) rows pending k ks refused = elim (cases_Bool (is_digit b)) [
+  | inl is ↦ let none : [] ≡ k ∷ ks = sym (digit_is_free b word rows pending is) ∙ refused in cc
+  | inr is ↦ rw is refl
+]
+
+no_count : (a count : Text) (words : List Text) → count_of count ≡ None → whole_command (a ∷ count ∷ words) ≡ None
+no_count a count [] none = rw none (if_same (bytes_eq a (codes "gen")))
+  where
+    if_same : (b : Bool) → ◌≡◌ {A = Option Command} (if b then None else None) None
+    if_same true = refl
+    if_same false = refl
+no_count a count (more ∷ words) none = refl
 
 -- ---- from the start
 -- the fault and the reading from where a walk stands, by what the next word is
@@ -149,35 +181,34 @@ fault_at w word words refusal met =
 abbrev read_at : Walk → Text → List Text → Held × Step → Option Command
 read_at w word words met = read_from (after_step rules word w met.0 met.1) words
 
-from_two : (a b : Text) (words : List Text) → Fits (fault_from (at_two false a b) words) (read_from (at_two false a b) words) None
+from_two : (a b : Text) (words : List Text) → Fits (fault_from (at_two false a b) words) (read_from (at_two false a b) words) (whole_command (a ∷ b ∷ left_out words))
 unfolding clap_on_literals
 from_two a b [] = refl
 from_two a b (word ∷ words) =
     by_word word (at_two false a b).held.rows (at_two false a b).held.pending 3
-    (λ dash refusal met. Fits (fault_at (at_two false a b) word words refusal met) (read_at (at_two false a b) word words met) None)
+    (λ dash refusal met. Fits (fault_at (at_two false a b) word words refusal met) (read_at (at_two false a b) word words met)
+    (whole_command (a ∷ b ∷ (if dash then words else word ∷ left_out words))))
     (after_two a b words) (λ k ks m. refl) refl
 
-from_one : (a : Text) (words : List Text) → Fits (fault_from (at_one false a) words) (read_from (at_one false a) words) (only_command (a ∷ left_out words))
+from_one : (a : Text) (words : List Text) → Fits (fault_from (at_one false a) words) (read_from (at_one false a) words) (whole_command (a ∷ left_out words))
 unfolding clap_on_literals
 from_one a [] = refl
 from_one a (word ∷ words) =
-    by_word word (at_one false a).held.rows (at_one false a).held.pending 2
-    (λ dash refusal met. Fits (fault_at (at_one false a) word words refusal met) (read_at (at_one false a) word words met)
-    (only_command (a ∷ (if dash then words else word ∷ left_out words))))
-    (after_one a words) (λ k ks m. refl) (from_two a word words)
+    let rows = (at_one false a).held.rows in
+    let pending = (at_one false a).held.pending in
+    by_word word rows pending 2
+    (λ dash refusal met. fault_in word rows pending ≡ refusal
+    → Fits (fault_at (at_one false a) word words refusal met) (read_at (at_one false a) word words met) (whole_command (a ∷ (if dash then words else word ∷ left_out words))))
+    (λ is. after_one a words) (λ k ks m is. no_count a word (left_out words) (none_counted word rows pending k ks is)) (λ is. from_two a word words) refl
 
-no_command : (word : Text) (words : List Text) → named_command word ≡ None → only_command (word ∷ words) ≡ None
-no_command word [] none = none
-no_command word (more ∷ words) none = refl
-
-from_none : (words : List Text) → Fits (fault_from (at_none false) words) (read_from (at_none false) words) (only_command (left_out words))
+from_none : (words : List Text) → Fits (fault_from (at_none false) words) (read_from (at_none false) words) (whole_command (left_out words))
 unfolding clap_on_literals
 from_none [] = refl
 from_none (word ∷ words) =
     by_word word [] None 1
-    (λ dash refusal met. first_fault word ≡ refusal
-    → Fits (fault_at (at_none false) word words refusal met) (read_at (at_none false) word words met) (only_command (if dash then words else word ∷ left_out words)))
-    (λ is. after_none words) (λ k ks m is. no_command word (left_out words) (none_named word k ks is)) (λ is. from_one word words) refl
+    (λ dash refusal met. fault_in word [] None ≡ refusal
+    → Fits (fault_at (at_none false) word words refusal met) (read_at (at_none false) word words met) (whole_command (if dash then words else word ∷ left_out words)))
+    (λ is. after_none words) (λ k ks m is. none_whole word (left_out words) k ks is) (λ is. from_one word words) refl
 
 -- What clap makes of the words is the command that they are.
 pub line_fits : (words : List Text) → Fits (fault_of command_line words) (read_rows (matches_of command_line words)) (command_of words)
@@ -190,10 +221,10 @@ is_free = refl
 
 -- where it gives matches they are read as the command
 pub line_reads : (words : List Text) (m : ArgMatches) → fault_of command_line words ≡ [] → HasMatchesOf command_line words m
-    → read_alone (first_value (found_of m) (codes "command")) (first_value (found_of m) (codes "count")) ≡ command_of words
+    → read_values (first_value (found_of m) (codes "command")) (first_value (found_of m) (codes "count")) ≡ command_of words
 line_reads words m no_fault matches =
     let rows = (matches refl).0 in
-    ap₂ read_alone (first_value-rows (found_of m) (codes "command") ∙ ap (first_of (codes "command")) rows)
+    ap₂ read_values (first_value-rows (found_of m) (codes "command") ∙ ap (first_of (codes "command")) rows)
     (first_value-rows (found_of m) (codes "count") ∙ ap (first_of (codes "count")) rows)
     ∙ subst (λ (k : Kinds). Fits k (read_rows (matches_of command_line words)) (command_of words)) no_fault (line_fits words)
 

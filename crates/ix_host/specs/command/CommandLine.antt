@@ -4,7 +4,7 @@ use Rattle.clap.specs.Words.{App, Rule, Text, new_app, new_rule, with_rule}
 use Rattle.clap.specs.Simple.{on_top}
 use Rattle.clap.specs.declared.builder.action.ArgAction.TheVariants.{Set}
 use Rattle.ix_host.specs.declared.asked.command.Command.{Command}
-use Rattle.ix_host.specs.command.Command.{named_command}
+use Rattle.ix_host.specs.command.Command.{counted_command, named_command}
 
 -- a value that need not be there
 abbrev pub value : Text → Rule
@@ -22,7 +22,8 @@ bare_line = on_top (λ s. record s {
 abbrev pub command_line : App
 command_line = with_rule (with_rule bare_line (value (codes "command"))) (value (codes "count"))
 
--- the command of the first value, where there is no second
-abbrev pub read_alone : Option Text → Option Text → Option Command
-read_alone (Some word) None = named_command word
-read_alone _ _ = None
+-- the command of the values that are there
+abbrev pub read_values : Option Text → Option Text → Option Command
+read_values (Some word) None = named_command word
+read_values (Some word) (Some count) = counted_command word count
+read_values None count = None

@@ -1,5 +1,7 @@
 -- What reading all of an input and writing all of a text give.
-use Rattle.std.specs.Prelude.{◌≡◌, ℕ, ◌+◌, ◌<◌, ◌≤◌, List, [], ◌++◌, length, take, drop, Option, Some, Result, Ok, Err}
+use Rattle.std.specs.Prelude.{◌≡◌, ℕ, ◌+◌, ◌<◌, ◌≤◌, true, List, [], ◌++◌, length, take, drop, Option, Some, Result, Ok, Err}
+use Rattle.ix_host.specs.declared.asked.command.Command.{Command}
+use Rattle.ix_host.specs.run.Outcome.{IsReadable, reads_source}
 use Rattle.ix_host.specs.declared.streams.stream.Input.{Input}
 use Rattle.ix_host.specs.declared.streams.stream.Input.TheVariants as input
 use Rattle.ix_host.specs.declared.streams.stream.Piece.{Piece}
@@ -21,6 +23,20 @@ Gathers bytes after (input.Whole read) = (read.items ≡ bytes) × (after ≡ So
 Gathers bytes after input.TooLong = (script_max < length bytes) × (after ≡ Some (drop (script_max + 1) bytes))
 Gathers bytes after input.Fault = Unit {0}
 Gathers bytes after input.NoMemory = Unit {0}
+
+-- The whole input, or that it is too long.
+abbrev pub IsInput : List ℕ → Input → Type 0
+IsInput bytes (input.Whole read) = read.items ≡ bytes
+IsInput bytes input.TooLong = script_max < length bytes
+IsInput bytes input.Fault = Unit {0}
+IsInput bytes input.NoMemory = Unit {0}
+
+-- What a command reads: it may fail, or be too long, only where the command reads the source.
+abbrev pub IsReadFor : Command → Input → Type 0
+IsReadFor c (input.Whole read) = IsReadable c read.items
+IsReadFor c input.TooLong = reads_source (Some c) ≡ true
+IsReadFor c input.Fault = reads_source (Some c) ≡ true
+IsReadFor c input.NoMemory = Unit {0}
 
 -- Of what was read to its end there is no more than a script may have.
 abbrev pub IsShort : Input → Type 0

@@ -5,4 +5,6 @@ pub enum Command {
     Run,
     /// The canonical text of a script.
     Print,
+    /// The summary of a made session with so many commands.
+    Gen(u32),
 }

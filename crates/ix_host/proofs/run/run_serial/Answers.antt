@@ -1,71 +1,89 @@
-use Rattle.std.proofs.Common.{◌≡◌, ◌++◌, ◌∙◌, Some, sym}
-use Rattle.ix_host.specs.command.Command.{command_of}
-use Rattle.ix_host.specs.run.Whole.{WritesFront}
-use Rattle.ix_host.proofs.Hiding.{hides_run}
-use Rattle.ix_host.proofs.comes_to.Verdicts.{read_out, is_called_for, is_wanted, never_too_long, is_complete, usage_wanted, usage_called, usage_complete, long_wanted, long_called, long_complete}
+use Rattle.std.proofs.Common.{◌≡◌, ◌∙◌, refl, subst, sym, ap, List, ℕ}
+use Rattle.ix_lanes.proofs.serially.Needs.{whole_fits}
+use Rattle.ix_lanes.proofs.serially.SerialHistories.{serial_serial}
+use Rattle.ix_lanes.specs.histories.Serial.{serial}
+use Rattle.ix_model.specs.history.Events.{Event}
+use Rattle.ix_host.specs.Hiding.{TakesHidingReport}
+use Rattle.ix_host.specs.command.Command.{IsCounted, command_of, usage_line}
+use Rattle.ix_host.specs.declared.status.Status.TheVariants as status
+use Rattle.ix_host.specs.declared.task.Task.TheVariants as task
+use Rattle.ix_host.specs.run.Outcome.{input_of, outcome_of, reads_source, script_in, text_of}
+use Rattle.ix_host.specs.run.Run.{WritesFor}
+use Rattle.ix_host.specs.run.Tasks.{text_told}
+use Rattle.ix_host.proofs.comes_to.Verdicts.{Verdict, answer_read, at_serial, memory_written, told_read, told_read_out, verdict_ended, verdict_told}
+use Rattle.ix_host.proofs.words_in.Counts.{command_counted}
+use Rattle.std.specs.Prelude.{IfSome}
 use Rattle.ix_host.proofs.run.run_serial.Goals as goal
 
-pub returns-in-Ok-write_all-clause-written : goal.returns-in-Ok-write_all-clause-written
-returns-in-Ok-write_all-clause-written g c =
-    usage_wanted (λ t text. g.K.Sink.taken c.write_all.new.sink ≡ Some (t ++ text)) (command_of c.args.words.now) (g.S.Source.left c.args.source.now) (g.K.Sink.taken c.args.sink.now)
-    (sym c.in-Ok.ensures ∙ c.in_default-command.is) c.in-Ok-write_all.ensures.told
+pub prepare-requires : goal.prepare-requires
+prepare-requires g c = subst (λ a. IfSome a IsCounted) (sym c.in-Ok.ensures) (command_counted c.args.words.now)
 
-pub returns-in-Ok-write_all-clause-answer : goal.returns-in-Ok-write_all-clause-answer
-returns-in-Ok-write_all-clause-answer g c = λ a. usage_called (command_of c.args.words.now) (g.S.Source.left c.args.source.now) (sym c.in-Ok.ensures ∙ c.in_default-command.is)
-
-pub returns-in-Ok-write_all-clause-complete : goal.returns-in-Ok-write_all-clause-complete
-returns-in-Ok-write_all-clause-complete g c = λ a b. usage_complete (command_of c.args.words.now) (g.S.Source.left c.args.source.now) (sym c.in-Ok.ensures ∙ c.in_default-command.is)
+pub conclude-requires-clause-fits : goal.conclude-requires-clause-fits
+conclude-requires-clause-fits g c =
+    let s = c.in-Run.script in
+    rw c.in-Ok-run_history.ensures.serial (whole_fits s (serial s) (serial_serial s).lanes)
 
 pub returns-in-Err-clause-written : goal.returns-in-Err-clause-written
 returns-in-Err-clause-written g c =
-    usage_wanted (λ t text. WritesFront t (g.K.Sink.taken c.write_all.new.sink) text) (command_of c.args.words.now) (g.S.Source.left c.args.source.now) (g.K.Sink.taken c.args.sink.now)
-    (sym c.in-Ok.ensures ∙ c.in_default-command.is) c.in-Err.ensures.told
+    let text = λ (bytes : List ℕ) (history : List Event). text_of (outcome_of usage_line (command_of c.args.words.now) bytes history) in
+    let input = input_of (command_of c.args.words.now) (g.S.Source.left c.args.source.now) in
+    let taken = g.K.Sink.taken c.args.sink.now in
+    rw c.in-Run.ensures.untouched
+    (at_serial input taken (λ bytes t history. WritesFor status.NoMemory (text bytes history) t taken) (memory_written (λ s history. history ≡ serial s) (λ s. refl) text input taken))
 
-pub returns-in-Whole-clause-read_out : goal.returns-in-Whole-clause-read_out
-returns-in-Whole-clause-read_out g c = let e = rw c.as_slice.ensures.value at c.answer.ensures in
-    read_out _ c.answer.result (g.S.Source.left c.args.source.now) (g.S.Source.left c.read_all.new.source) c.in-Whole.bytes.items e.fits c.in-Whole.ensures.told
+pub returns-in-Ended : goal.returns-in-Ended
+returns-in-Ended g c =
+    let e = c.in-Ended.ensures in
+    let left = g.S.Source.left c.args.source.now in
+    let taken = g.K.Sink.taken c.args.sink.now in
+    let v = subst (λ a. Verdict (λ s history. history ≡ serial s) usage_line a left c.in-Ended.status taken (g.K.Sink.taken c.prepare.new.sink) (g.K.Sink.finished c.prepare.new.sink) (g.K.Sink.faults c.args.sink.now) (g.K.Sink.faults c.prepare.new.sink)) c.in-Ok.ensures
+    (verdict_ended (λ s history. history ≡ serial s) (λ s. refl) usage_line c.in-Ok.asked left c.in-Ended.status taken (g.K.Sink.taken c.prepare.new.sink) (g.K.Sink.finished c.prepare.new.sink) (g.K.Sink.faults c.args.sink.now) (g.K.Sink.faults c.prepare.new.sink)
+    (λ is. (e.fault (ap task.Ended is)).1) (λ is. ap g.K.Sink.taken (e.fault (ap task.Ended is)).2) (λ other. e.prepared (λ is. other cc))) in
+    record {
+      bounded = e.bounded;
+      read_out = λ reads. e.read_out (ap reads_source c.in-Ok.ensures ∙ reads);
+      not_read = λ reads. e.not_read (ap reads_source c.in-Ok.ensures ∙ reads);
+      written = at_serial (input_of (command_of c.args.words.now) left) taken (λ bytes t history. WritesFor c.in-Ended.status (text_of (outcome_of usage_line (command_of c.args.words.now) bytes history)) t (g.K.Sink.taken c.prepare.new.sink)) v.written;
+      line = v.line;
+      finished = v.finished;
+      hides = λ is run. at_serial left taken (λ bytes t history. TakesHidingReport (script_in bytes) history t (g.K.Sink.taken c.prepare.new.sink)) (v.hides is run);
+      not_written = λ is. (e.fault (ap task.Ended is)).2;
+      command = v.fits;
+      answer = v.answer;
+      quiet = λ a. (e.kept (answer_read c.in-Ended.status a), v.kept a);
+      too_long = v.too_long;
+      read_fault = λ is. (e.fault (ap task.Ended is)).0;
+      write_fault = v.write_fault;
+      usage = v.usage_only;
+      made = v.made;
+      complete = λ read wrote. v.complete (λ is. read (e.fault (ap task.Ended is)).0) wrote;
+    }
 
-pub returns-in-Whole-clause-written : goal.returns-in-Whole-clause-written
-returns-in-Whole-clause-written g c = let e = rw c.as_slice.ensures.value at c.answer.ensures in
-    is_wanted c.in-Some.command (command_of c.args.words.now) c.answer.result (g.S.Source.left c.args.source.now) (g.S.Source.left c.read_all.new.source) (g.K.Sink.taken c.args.sink.now)
-    (g.K.Sink.taken c.answer.new.sink) c.in-Whole.bytes.items (sym c.in-Some.is ∙ c.in-Ok.ensures) c.in-Whole.ensures.told e.text
-
-pub returns-in-Whole-clause-hides : goal.returns-in-Whole-clause-hides
-returns-in-Whole-clause-hides g c = let e = rw c.as_slice.ensures.value at c.answer.ensures in λ a b.
-    hides_run c.in-Some.command (command_of c.args.words.now) c.answer.result (g.S.Source.left c.args.source.now) (g.S.Source.left c.read_all.new.source) (g.K.Sink.taken c.args.sink.now)
-    (g.K.Sink.taken c.answer.new.sink) c.in-Whole.bytes.items (sym c.in-Some.is ∙ c.in-Ok.ensures) e.fits c.in-Whole.ensures.told
-    (is_wanted c.in-Some.command (command_of c.args.words.now) c.answer.result (g.S.Source.left c.args.source.now) (g.S.Source.left c.read_all.new.source) (g.K.Sink.taken c.args.sink.now)
-    (g.K.Sink.taken c.answer.new.sink) c.in-Whole.bytes.items (sym c.in-Some.is ∙ c.in-Ok.ensures) c.in-Whole.ensures.told e.text)
-    a b
-
-pub returns-in-Whole-clause-answer : goal.returns-in-Whole-clause-answer
-returns-in-Whole-clause-answer g c = let e = rw c.as_slice.ensures.value at c.answer.ensures in
-    is_called_for c.in-Some.command (command_of c.args.words.now) c.answer.result (g.S.Source.left c.args.source.now) (g.S.Source.left c.read_all.new.source) c.in-Whole.bytes.items
-    (sym c.in-Some.is ∙ c.in-Ok.ensures) e.fits c.in-Whole.ensures.told
-
-pub returns-in-Whole-clause-too_long : goal.returns-in-Whole-clause-too_long
-returns-in-Whole-clause-too_long g c = let e = rw c.as_slice.ensures.value at c.answer.ensures in
-    never_too_long c.in-Some.command c.answer.result (g.S.Source.left c.args.source.now) (g.S.Source.left c.read_all.new.source) c.in-Whole.bytes.items e.fits c.in-Whole.ensures.told
-
-pub returns-in-Whole-clause-complete : goal.returns-in-Whole-clause-complete
-returns-in-Whole-clause-complete g c = let e = rw c.as_slice.ensures.value at c.answer.ensures in λ a b.
-    is_complete c.in-Some.command (command_of c.args.words.now) c.answer.result (g.S.Source.left c.args.source.now) (g.S.Source.left c.read_all.new.source) c.in-Whole.bytes.items
-    (g.K.Sink.faults c.args.sink.now) (g.K.Sink.faults c.answer.new.sink) (sym c.in-Some.is ∙ c.in-Ok.ensures) e.fits c.in-Whole.ensures.told e.fault b
-
-pub returns-in-Ok-write_all-2-clause-written : goal.returns-in-Ok-write_all-2-clause-written
-returns-in-Ok-write_all-2-clause-written g c =
-    long_wanted (λ t text. g.K.Sink.taken c.write_all-in-TooLong.new.sink ≡ Some (t ++ text)) c.in-Some.command (command_of c.args.words.now) (g.S.Source.left c.args.source.now)
-    (g.S.Source.left c.read_all.new.source) (g.K.Sink.taken c.args.sink.now) c.too_long_line.result.now (sym c.in-Some.is ∙ c.in-Ok.ensures) c.in-TooLong.ensures.told c.too_long_line.ensures c.in-Ok-write_all-2.ensures.told
-
-pub returns-in-Ok-write_all-2-clause-answer : goal.returns-in-Ok-write_all-2-clause-answer
-returns-in-Ok-write_all-2-clause-answer g c = λ a.
-    long_called c.in-Some.command (command_of c.args.words.now) (g.S.Source.left c.args.source.now) (g.S.Source.left c.read_all.new.source) (sym c.in-Some.is ∙ c.in-Ok.ensures) c.in-TooLong.ensures.told
-
-pub returns-in-Ok-write_all-2-clause-complete : goal.returns-in-Ok-write_all-2-clause-complete
-returns-in-Ok-write_all-2-clause-complete g c = λ a b.
-    long_complete c.in-Some.command (command_of c.args.words.now) (g.S.Source.left c.args.source.now) (g.S.Source.left c.read_all.new.source) (sym c.in-Some.is ∙ c.in-Ok.ensures) c.in-TooLong.ensures.told
-
-pub returns-in-Err-write_all-clause-written : goal.returns-in-Err-write_all-clause-written
-returns-in-Err-write_all-clause-written g c =
-    long_wanted (λ t text. WritesFront t (g.K.Sink.taken c.write_all-in-TooLong.new.sink) text) c.in-Some.command (command_of c.args.words.now) (g.S.Source.left c.args.source.now)
-    (g.S.Source.left c.read_all.new.source) (g.K.Sink.taken c.args.sink.now) c.too_long_line.result.now (sym c.in-Some.is ∙ c.in-Ok.ensures) c.in-TooLong.ensures.told c.too_long_line.ensures c.in-Err-write_all.ensures.told
+pub returns-in-Ok-run_history : goal.returns-in-Ok-run_history
+returns-in-Ok-run_history g c =
+    let p = c.in-Run.ensures in
+    let left = g.S.Source.left c.args.source.now in
+    let taken = g.K.Sink.taken c.args.sink.now in
+    let text = text_told c.in-Run.telling c.in-Run.script c.in-Ok-run_history.history.events in
+    let e = rw p.untouched at c.conclude.ensures in
+    let v = subst (λ a. Verdict (λ s history. history ≡ serial s) usage_line a left c.conclude.result taken (g.K.Sink.taken c.conclude.new.sink) (g.K.Sink.finished c.conclude.new.sink) (g.K.Sink.faults c.args.sink.now) (g.K.Sink.faults c.conclude.new.sink)) c.in-Ok.ensures
+    (verdict_told {Comes = λ s history. history ≡ serial s} c.in-Ok-run_history.history.events (p.prepared (λ is. cc)) c.in-Ok-run_history.ensures.serial e) in
+    record {
+      bounded = p.bounded;
+      read_out = λ reads. told_read_out text c.conclude.result left (g.S.Source.left c.prepare.new.source) e.fits (p.read_out (ap reads_source c.in-Ok.ensures ∙ reads));
+      not_read = λ reads. p.not_read (ap reads_source c.in-Ok.ensures ∙ reads);
+      written = at_serial (input_of (command_of c.args.words.now) left) taken (λ bytes t history. WritesFor c.conclude.result (text_of (outcome_of usage_line (command_of c.args.words.now) bytes history)) t (g.K.Sink.taken c.conclude.new.sink)) v.written;
+      line = v.line;
+      finished = v.finished;
+      hides = λ is run. at_serial left taken (λ bytes t history. TakesHidingReport (script_in bytes) history t (g.K.Sink.taken c.conclude.new.sink)) (v.hides is run);
+      not_written = λ is. absurd (told_read text c.conclude.result e.fits is);
+      command = v.fits;
+      answer = v.answer;
+      quiet = λ a. (p.kept (λ is. cc), v.kept a);
+      too_long = v.too_long;
+      read_fault = λ is. absurd (told_read text c.conclude.result e.fits is);
+      write_fault = v.write_fault;
+      usage = v.usage_only;
+      made = v.made;
+      complete = λ read wrote. v.complete (told_read text c.conclude.result e.fits) wrote;
+    }

@@ -1,5 +1,5 @@
 use Rattle.std.proofs.Common.{◌≡◌, ◌++◌, true, is_ok, is_err, not, sym, ap, ◌∙◌}
-use Rattle.ix_host.specs.report.Telling.{left_of}
+use Rattle.ix_replay.specs.report.Telling.{left_of}
 use Rattle.ix_lanes.proofs.found.Oks.{from_ok, from_err}
 use Rattle.ix_host.proofs.piecewise.Outlets.{sent_failed}
 use Rattle.ix_host.proofs.streams.sending.send.Goals as goal

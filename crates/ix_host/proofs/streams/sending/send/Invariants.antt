@@ -1,6 +1,6 @@
 use Rattle.std.proofs.Common.{◌≡◌}
 use Rattle.std.specs.Prelude.{IfSome}
-use Rattle.ix_host.specs.report.Telling.{IsTold, left_of, pieces_of}
+use Rattle.ix_replay.specs.report.Telling.{IsTold, left_of, pieces_of}
 use Rattle.ix_host.proofs.piecewise.Outlets.{Sent}
 use Rattle.ix_host.proofs.streams.sending.send.Given as goal
 

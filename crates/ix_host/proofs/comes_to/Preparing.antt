@@ -1,0 +1,115 @@
+-- What was asked for is done up to the run of lanes.
+use Rattle.std.proofs.Common.{◌≡◌, ℕ, ◌+◌, ◌<◌, ◌≤◌, Bool, true, List, [], length, drop, Option, Some, None, refl, sym, ap, ◌∙◌, subst, arith, append-nil, replicate, unwrap_or}
+use Rattle.std.specs.Prelude.{IfSome}
+use Rattle.std.proofs.lemmas.Bool.{lt-ltb}
+use Rattle.std.proofs.lemmas.List.{drop_all, length-replicate}
+use Rattle.ix_model.specs.history.Events.{Event}
+use Rattle.ix_script.specs.declared.line.Line.{Line}
+use Rattle.ix_host.specs.declared.asked.command.Command.{Command}
+use Rattle.ix_host.specs.declared.status.Status.{Status}
+use Rattle.ix_host.specs.declared.status.Status.TheVariants as status
+use Rattle.ix_host.specs.declared.task.Task.{Task}
+use Rattle.ix_host.specs.declared.task.Task.TheVariants as task
+use Rattle.ix_host.specs.run.Outcome.{Outcome, input_of, outcome_in, outcome_of, reads_source, script_in, text_of}
+use Rattle.ix_host.specs.run.Outcome as outcome
+use Rattle.ix_host.specs.run.Run.{Ends, IsEndOf, ReadsOut, WritesFor}
+use Rattle.ix_host.specs.run.Tasks.{LeadsTo, Prepares, TaskReadsOut}
+use Rattle.ix_host.specs.run.Whole.{script_max}
+use Rattle.ix_host.proofs.comes_to.Outcomes.{outcome_too_long}
+
+-- ---- ends
+-- an end with an outcome is one with an equal outcome
+pub ends_as : {end : Status} {taken after : Option (List ℕ)} {done : Bool} {before now : ℕ} {o p : Outcome} → o ≡ p → Ends o end taken after done before now → Ends p end taken after done before now
+ends_as {end} {taken} {after} {done} {before} {now} is e = subst (λ x. Ends x end taken after done before now) is e
+
+-- nothing was written where memory ran out
+pub unwritten : (taken : Option (List ℕ)) (text : List ℕ) → IfSome taken (λ t. WritesFor status.NoMemory text t taken)
+unwritten None text = tt
+unwritten (Some t) text = record { gone = []; left = text; whole = refl; front = ap Some (sym (append-nil t)) }
+
+pub ends_without_memory : (o : Outcome) (taken : Option (List ℕ)) (done : Bool) (now : ℕ) → Ends o status.NoMemory taken taken done now now
+ends_without_memory o taken done now = record { fits = tt; text = unwritten taken (text_of o); finished = λ a. absurd a; kept = λ a. absurd a; fault = λ e. cc }
+
+-- ---- tasks
+-- what leads to outcomes leads to equal ones
+pub leads_as : (of to : List Event → Outcome) (s t : List Line) (job : Task) (taken after : Option (List ℕ)) (done : Bool) (before now : ℕ) → ((history : List Event) → of history ≡ to history) → s ≡ t
+    → LeadsTo of s job taken after done before now → LeadsTo to t job taken after done before now
+leads_as of to s t (task.Ended end) taken after done before now same is h = λ history. ends_as (same history) (h history)
+leads_as of to s t (task.Run told script) taken after done before now same is h = (h.0 ∙ is, h.1, λ history. sym (same history) ∙ h.2 history)
+
+-- no read failed
+pub ends_somewhere : {o : Outcome} {end : Status} {taken after : Option (List ℕ)} {done : Bool} {before now : ℕ} → Ends o end taken after done before now → task.Ended end ≡ task.Ended status.ReadFault → ⊥
+ends_somewhere {o} {end} {taken} {after} {done} {before} {now} e is =
+    let fault : end ≡ status.ReadFault = cc in
+    (subst (λ (x : Status). Ends o x taken after done before now) fault e).fits
+
+pub leads_somewhere : (of : List Event → Outcome) (s : List Line) (job : Task) (taken after : Option (List ℕ)) (done : Bool) (before now : ℕ) → LeadsTo of s job taken after done before now → job ≡ task.Ended status.ReadFault → ⊥
+leads_somewhere of s (task.Ended end) taken after done before now h is = ends_somewhere (h []) is
+leads_somewhere of s (task.Run told script) taken after done before now h is = cc
+
+-- ---- the source
+-- it was read to its end
+pub whole_read_out : (job : Task) (first left : Option (List ℕ)) (read : List ℕ) → IfSome first (λ bytes. (read ≡ bytes) × (left ≡ Some []) × (length bytes ≤ script_max)) → IfSome first (λ bytes. TaskReadsOut job bytes left)
+whole_read_out job None left read w = tt
+whole_read_out (task.Run told script) (Some bytes) left read w = w.1
+whole_read_out (task.Ended status.Done) (Some bytes) left read w = w.1
+whole_read_out (task.Ended status.Usage) (Some bytes) left read w = tt
+whole_read_out (task.Ended (status.Script line rule)) (Some bytes) left read w = w.1 ∙ ap Some (sym (drop_all (script_max + 1) bytes (omega (arith, w.2))))
+whole_read_out (task.Ended status.ReadFault) (Some bytes) left read w = tt
+whole_read_out (task.Ended status.WriteFault) (Some bytes) left read w = tt
+whole_read_out (task.Ended status.NoMemory) (Some bytes) left read w = tt
+
+-- or to one byte more than a script may have
+pub long_read_out : (end : Status) (first left : Option (List ℕ)) → IsEndOf (outcome.Refused 1 1) end → IfSome first (λ bytes. (script_max < length bytes) × (left ≡ Some (drop (script_max + 1) bytes)))
+    → IfSome first (λ bytes. ReadsOut end bytes left)
+long_read_out end None left is w = tt
+long_read_out status.Done (Some bytes) left is w = cc
+long_read_out status.Usage (Some bytes) left is w = tt
+long_read_out (status.Script line rule) (Some bytes) left is w = w.1
+long_read_out status.ReadFault (Some bytes) left is w = tt
+long_read_out status.WriteFault (Some bytes) left is w = tt
+long_read_out status.NoMemory (Some bytes) left is w = tt
+
+-- ---- what is asked for
+-- what is told, or else this
+told_or : (o : Option (List ℕ)) (d : List ℕ) → IfSome o (λ input. unwrap_or o d ≡ input)
+told_or None d = tt
+told_or (Some b) d = refl
+
+-- some list that is longer than this
+longer : (n : ℕ) → (l : List ℕ) × (n < length l)
+longer n = (replicate (n + 1) 0, omega (arith, length-replicate {A = ℕ} (n + 1) 0))
+
+long_or : (n : ℕ) (o : Option (List ℕ)) (d : List ℕ) → n < length d → IfSome o (λ bytes. n < length bytes) → n < length (unwrap_or o d)
+long_or n None d low h = low
+long_or n (Some b) d low h = h
+
+module _ (usage : List ℕ) (asked : Option Command) (left taken : Option (List ℕ)) where
+  -- nothing was asked for
+  pub usage_prepared : (end : Status) (after : Option (List ℕ)) (done : Bool) (before now : ℕ) → asked ≡ None → Ends (outcome.Usage usage) end taken after done before now
+      → Prepares usage asked left (task.Ended end) taken after done before now
+  usage_prepared end after done before now is e =
+      subst (λ a. Prepares usage a left (task.Ended end) taken after done before now) (sym is) (record { bytes = unwrap_or left []; told = told_or left []; leads = λ history. e })
+
+  -- memory ran out
+  pub memory_prepared : (done : Bool) (now : ℕ) → Prepares usage asked left (task.Ended status.NoMemory) taken taken done now now
+  memory_prepared done now =
+      let b = unwrap_or (input_of asked left) [] in
+      record { bytes = b; told = told_or (input_of asked left) []; leads = λ history. ends_without_memory (outcome_of usage asked b history) taken done now }
+
+  -- the input was too long
+  pub long_prepared : (c : Command) (end : Status) (after : Option (List ℕ)) (done : Bool) (before now : ℕ) → asked ≡ Some c → reads_source (Some c) ≡ true
+      → IfSome (input_of (Some c) left) (λ bytes. script_max < length bytes) → Ends (outcome.Refused 1 1) end taken after done before now
+      → Prepares usage asked left (task.Ended end) taken after done before now
+  long_prepared c end after done before now is reads long e =
+      let d = longer script_max in
+      let b = unwrap_or (input_of (Some c) left) d.0 in
+      let over : script_max < length b = long_or script_max (input_of (Some c) left) d.0 d.1 long in
+      subst (λ a. Prepares usage a left (task.Ended end) taken after done before now) (sym is)
+      (record { bytes = b; told = told_or (input_of (Some c) left) d.0; leads = λ history. ends_as (outcome_too_long c b history reads (lt-ltb _ _ over)) e })
+
+  -- the input was read whole
+  pub whole_prepared : (c : Command) (job : Task) (after : Option (List ℕ)) (done : Bool) (before now : ℕ) (read : List ℕ) → asked ≡ Some c → IfSome (input_of (Some c) left) (λ bytes. read ≡ bytes)
+      → LeadsTo (λ history. outcome_in c read history) (script_in read) job taken after done before now → Prepares usage asked left job taken after done before now
+  whole_prepared c job after done before now read is told h =
+      subst (λ a. Prepares usage a left job taken after done before now) (sym is) (record { bytes = read; told = told; leads = h })

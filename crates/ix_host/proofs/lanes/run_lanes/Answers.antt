@@ -1,0 +1,86 @@
+use Rattle.std.proofs.Common.{◌∙◌, subst, sym, ap}
+use Rattle.ix_lanes.proofs.serially.Needs.{whole_fits}
+use Rattle.ix_parallel.proofs.together.Whole.{serial_history}
+use Rattle.ix_parallel.specs.History.{IsHistory}
+use Rattle.ix_host.specs.command.Command.{IsCounted, lanes_command_of, lanes_usage_line}
+use Rattle.ix_host.specs.declared.task.Task.TheVariants as task
+use Rattle.ix_host.specs.run.Outcome.{outcome_of, reads_source, text_of}
+use Rattle.ix_host.specs.run.Run.{FitsCommand}
+use Rattle.ix_host.specs.run.Tasks.{text_told}
+use Rattle.ix_host.proofs.comes_to.OnlyRun.{lanes_input, lanes_read_out, lanes_run, none_reads}
+use Rattle.ix_host.proofs.comes_to.Verdicts.{Verdict, answer_read, memory_written, told_read, told_read_out, verdict_ended, verdict_told}
+use Rattle.ix_host.proofs.words_in.Counts.{lanes_counted}
+use Rattle.std.specs.Prelude.{IfSome}
+use Rattle.ix_host.proofs.lanes.run_lanes.Goals as goal
+
+pub prepare-requires : goal.prepare-requires
+prepare-requires g c = subst (λ a. IfSome a IsCounted) (sym c.in-Ok.ensures) (lanes_counted c.args.words.now)
+
+pub conclude-requires-clause-fits : goal.conclude-requires-clause-fits
+conclude-requires-clause-fits g c = whole_fits c.in-Run.script c.in-Ok-run_history.history.events c.in-Ok-run_history.ensures.history.lanes
+
+pub returns-in_default-clause-written : goal.returns-in_default-clause-written
+returns-in_default-clause-written g c =
+    memory_written IsHistory serial_history (λ bytes history. text_of (outcome_of lanes_usage_line (lanes_command_of c.args.words.now) bytes history)) (g.S.Source.left c.args.source.now) (g.K.Sink.taken c.args.sink.now)
+
+pub returns-in-Err-clause-written : goal.returns-in-Err-clause-written
+returns-in-Err-clause-written g c =
+    rw c.in-Run.ensures.untouched
+    (memory_written IsHistory serial_history (λ bytes history. text_of (outcome_of lanes_usage_line (lanes_command_of c.args.words.now) bytes history)) (g.S.Source.left c.args.source.now) (g.K.Sink.taken c.args.sink.now))
+
+pub returns-in-Ended : goal.returns-in-Ended
+returns-in-Ended g c =
+    let e = c.in-Ended.ensures in
+    let words = c.args.words.now in
+    let left = g.S.Source.left c.args.source.now in
+    let taken = g.K.Sink.taken c.args.sink.now in
+    let v = subst (λ a. Verdict IsHistory lanes_usage_line a left c.in-Ended.status taken (g.K.Sink.taken c.prepare.new.sink) (g.K.Sink.finished c.prepare.new.sink) (g.K.Sink.faults c.args.sink.now) (g.K.Sink.faults c.prepare.new.sink)) c.in-Ok.ensures
+    (verdict_ended IsHistory serial_history lanes_usage_line c.in-Ok.asked left c.in-Ended.status taken (g.K.Sink.taken c.prepare.new.sink) (g.K.Sink.finished c.prepare.new.sink) (g.K.Sink.faults c.args.sink.now) (g.K.Sink.faults c.prepare.new.sink)
+    (λ is. (e.fault (ap task.Ended is)).1) (λ is. ap g.K.Sink.taken (e.fault (ap task.Ended is)).2) (λ other. e.prepared (λ is. other cc))) in
+    record {
+      bounded = e.bounded;
+      read_out = lanes_read_out words c.in-Ended.status left (g.S.Source.left c.prepare.new.source) v.fits (λ reads. e.read_out (ap reads_source c.in-Ok.ensures ∙ reads));
+      not_read = λ none. e.not_read (ap reads_source c.in-Ok.ensures ∙ none_reads (lanes_command_of words) none);
+      written = rw (lanes_input words left) at v.written;
+      line = v.line;
+      finished = v.finished;
+      hides = λ is. v.hides is (lanes_run words (subst (λ x. FitsCommand x (lanes_command_of words)) is v.fits));
+      not_written = λ is. (e.fault (ap task.Ended is)).2;
+      command = v.fits;
+      answer = rw (lanes_input words left) at v.answer;
+      quiet = λ a. (e.kept (answer_read c.in-Ended.status a), v.kept a);
+      too_long = v.too_long;
+      read_fault = λ is. (e.fault (ap task.Ended is)).0;
+      write_fault = v.write_fault;
+      usage = v.usage_only;
+      complete = λ read wrote. rw (lanes_input words left) at (v.complete (λ is. read (e.fault (ap task.Ended is)).0) wrote);
+    }
+
+pub returns-in-Ok-run_history : goal.returns-in-Ok-run_history
+returns-in-Ok-run_history g c =
+    let p = c.in-Run.ensures in
+    let words = c.args.words.now in
+    let left = g.S.Source.left c.args.source.now in
+    let taken = g.K.Sink.taken c.args.sink.now in
+    let text = text_told c.in-Run.telling c.in-Run.script c.in-Ok-run_history.history.events in
+    let e = rw p.untouched at c.conclude.ensures in
+    let v = subst (λ a. Verdict IsHistory lanes_usage_line a left c.conclude.result taken (g.K.Sink.taken c.conclude.new.sink) (g.K.Sink.finished c.conclude.new.sink) (g.K.Sink.faults c.args.sink.now) (g.K.Sink.faults c.conclude.new.sink)) c.in-Ok.ensures
+    (verdict_told {Comes = IsHistory} c.in-Ok-run_history.history.events (p.prepared (λ is. cc)) c.in-Ok-run_history.ensures.history e) in
+    record {
+      bounded = p.bounded;
+      read_out = lanes_read_out words c.conclude.result left (g.S.Source.left c.prepare.new.source) v.fits (λ reads. told_read_out text c.conclude.result left (g.S.Source.left c.prepare.new.source) e.fits (p.read_out (ap reads_source c.in-Ok.ensures ∙ reads)));
+      not_read = λ none. p.not_read (ap reads_source c.in-Ok.ensures ∙ none_reads (lanes_command_of words) none);
+      written = rw (lanes_input words left) at v.written;
+      line = v.line;
+      finished = v.finished;
+      hides = λ is. v.hides is (lanes_run words (subst (λ x. FitsCommand x (lanes_command_of words)) is v.fits));
+      not_written = λ is. absurd (told_read text c.conclude.result e.fits is);
+      command = v.fits;
+      answer = rw (lanes_input words left) at v.answer;
+      quiet = λ a. (p.kept (λ is. cc), v.kept a);
+      too_long = v.too_long;
+      read_fault = λ is. absurd (told_read text c.conclude.result e.fits is);
+      write_fault = v.write_fault;
+      usage = v.usage_only;
+      complete = λ read wrote. rw (lanes_input words left) at (v.complete (told_read text c.conclude.result e.fits) wrote);
+    }

@@ -1,6 +1,0 @@
-use Rattle.ix_host.proofs.report.Fixed.{one_history}
-use Rattle.ix_host.proofs.report.ReadLanes.{scripts_named}
-use Rattle.ix_host.proofs.laws.one_history.Goals as goal
-
-pub returns : goal.returns
-returns c = record { names = scripts_named c.line_stays.ensures; one = one_history }

@@ -1,3 +1,0 @@
-pub mod ScriptLines
-pub mod Shown
-pub mod Going

@@ -1,3 +1,0 @@
-pub mod Built
-pub mod Running
-pub mod Laws

@@ -1,0 +1,91 @@
+//! The top call of the program that runs the lanes of a phase side by side.
+ghost use Rattle.std.specs.Prelude.{◌≡◌, ◌<◌, ◌⊎◌, true, is_none, length, IfOk, IfSome};
+ghost use Rattle.ix_io.specs.Streams.{Rose};
+ghost use Rattle.ix_parallel.specs.History.{IsHistory};
+ghost use Rattle.ix_host.specs.Hiding.{TakesHidingReport};
+ghost use Rattle.ix_host.specs.command.Command.{lanes_command_of, lanes_usage_line, only_run};
+ghost use Rattle.ix_host.specs.run.Outcome.{script_in};
+ghost use Rattle.ix_host.specs.run.Whole.{TakesFew, script_max};
+ghost use Rattle.ix_host.specs.run.Run.{FitsCommand, ForOne, IsAnswer, ReadsOut, WritesFor, WritesLine, called_for, wanted_with};
+
+use crate::asked::command::Command;
+use crate::asked::words::Words;
+use crate::concluding::conclude;
+use crate::preparing::prepare;
+use crate::status::Status;
+use crate::task::Task;
+use ix_io::{Sink, Source};
+use ix_model::NoMemory;
+use ix_parallel::{Watch, run_history};
+use std::alloc::Global;
+use std::sync::Wait;
+use std::thread::Threads;
+
+/// The one command that there is, where it is asked for.
+fn only_run(asked: Option<Command>) -> Option<Command>
+    ensures { result ≡ only_run asked }
+{
+    match asked {
+        Some(Command::Run) => Some(Command::Run),
+        _ => None,
+    }
+}
+
+/// The command that the words are.
+#[tactic(auto, unfolding(crate::specs::command::Command::lanes_command_of))]
+fn lanes_command(alloc: Global, words: &Words) -> Result<Option<Command>, NoMemory>
+    ensures { IfOk result (λ asked. asked ≡ lanes_command_of words.now) }
+{
+    Ok(only_run(words.command(alloc)?))
+}
+
+/// Does what the words ask: `run` reads a script from the source, runs it, and writes the report of the history that came about to
+/// the sink. The lanes of a phase run side by side, where threads can be started, and the next phase begins when all of them have
+/// ended. All else is answered by the usage line. It waits for the lanes, and may so never return.
+pub fn run_lanes<S: Source, K: Sink, W: Watch, R: Threads + Wait + Sync>(
+    rt: &R,
+    alloc: Global,
+    words: &Words,
+    source: &mut S,
+    sink: &mut K,
+    watch: &W,
+) -> Status
+    // What is taken from the source, where that tells its bytes.
+    ensures bounded { IfSome (S.left source.old) (λ bytes. TakesFew bytes (S.left source.new)) }
+    ensures read_out { IfSome (S.left source.old) (λ bytes. ReadsOut result bytes (S.left source.new)) }
+    ensures not_read { is_none (lanes_command_of words.now) ≡ true → source.new ≡ source.old }
+
+    // What is written, where the sink tells its bytes.
+    ensures written { IfSome (S.left source.old) (λ bytes. IfSome (K.taken sink.old) (λ taken.
+        ForOne (IsHistory (script_in bytes)) (λ history. WritesFor result (wanted_with words.now bytes history) taken (K.taken sink.new)))) }
+    ensures line { IfSome (K.taken sink.old) (λ taken. WritesLine lanes_usage_line result taken (K.taken sink.new)) }
+    ensures finished { IsAnswer result → K.finished sink.new ≡ true }
+    ensures hides { result ≡ Status.Done → IfSome (S.left source.old) (λ bytes. IfSome (K.taken sink.old) (λ taken.
+        ForOne (IsHistory (script_in bytes)) (λ history. TakesHidingReport (script_in bytes) history taken (K.taken sink.new)))) }
+    ensures not_written { result ≡ Status.ReadFault → sink.new ≡ sink.old }
+
+    // When each status comes.
+    ensures command { FitsCommand result (lanes_command_of words.now) }
+    ensures answer { IsAnswer result → IfSome (S.left source.old) (λ bytes. result ≡ called_for (lanes_command_of words.now) bytes) }
+    ensures quiet { IsAnswer result → (S.faults source.new ≡ S.faults source.old) × (K.faults sink.new ≡ K.faults sink.old) }
+    ensures too_long { result ≡ Status.Script 1 1 → IfSome (S.left source.old) (λ bytes. script_max < length bytes) }
+    ensures read_fault { result ≡ Status.ReadFault → Rose (S.faults source.old) (S.faults source.new) }
+    ensures write_fault { result ≡ Status.WriteFault → Rose (K.faults sink.old) (K.faults sink.new) }
+
+    // Where nothing failed, the status is the one that is called for, unless memory ran out.
+    ensures usage { is_none (lanes_command_of words.now) ≡ true → ¬ Rose (K.faults sink.old) (K.faults sink.new)
+        → (result ≡ Status.Usage) ⊎ (result ≡ Status.NoMemory) }
+    ensures complete { ¬ Rose (S.faults source.old) (S.faults source.new) → ¬ Rose (K.faults sink.old) (K.faults sink.new)
+        → IfSome (S.left source.old) (λ bytes. (result ≡ called_for (lanes_command_of words.now) bytes) ⊎ (result ≡ Status.NoMemory)) }
+{
+    let Ok(asked) = lanes_command(alloc, words) else {
+        return Status::NoMemory;
+    };
+    match prepare(alloc, b"usage: ixrun run\n", asked, source, sink) {
+        Task::Ended(status) => status,
+        Task::Run(telling, script) => match run_history(rt, alloc, &script, watch) {
+            Ok(history) => conclude(alloc, sink, telling, script, history),
+            Err(NoMemory) => Status::NoMemory,
+        },
+    }
+}

@@ -1,0 +1,124 @@
+//! What comes before the lanes of a script are run, and in the place of that.
+ghost use Rattle.std.specs.Prelude.{◌≡◌, IfSome, true, false};
+ghost use Rattle.ix_io.specs.Streams.{Rose};
+ghost use Rattle.ix_script.specs.scripts.Canonical.{canonical};
+ghost use Rattle.ix_host.specs.command.Command.{IsCounted};
+ghost use Rattle.ix_host.specs.run.Outcome.{IsReadable, outcome_for, outcome_in, reads_source, script_in, text_for};
+ghost use Rattle.ix_host.specs.run.Outcome as outcome;
+ghost use Rattle.ix_host.specs.run.Tasks.{IsRunnable, LeadsTo, OnRun, Prepares, TaskReadsOut};
+ghost use Rattle.ix_host.specs.run.Whole.{TakesFew};
+ghost use Rattle.ix_host.specs.run.Run.{Ends};
+
+use crate::asked::command::Command;
+use crate::built::unbuilt_line;
+use crate::status::Status;
+use crate::streams::input::input_for;
+use crate::streams::sending::tell;
+use crate::streams::stream::Input;
+use crate::task::{Task, Telling};
+use crate::telling::rules::{refusal, too_long_line};
+use ix_io::{Sink, Source};
+use ix_model::NoMemory;
+use ix_script::{ReadFail, Script, read, write};
+use std::alloc::Global;
+
+/// Writes the one line of a refusal.
+fn refuse<K: Sink>(alloc: Global, sink: &mut K, line: u32, rule: u8) -> Status
+    ensures { Ends (outcome.Refused line rule) result (K.taken sink.old) (K.taken sink.new) (K.finished sink.new)
+        (K.faults sink.old) (K.faults sink.new) }
+{
+    match refusal(alloc, line, rule) {
+        Ok(text) => tell(sink, text.as_slice(), Status::Script { line, rule }),
+        Err(NoMemory) => Status::NoMemory,
+    }
+}
+
+/// Writes the canonical text of a script.
+fn print<K: Sink>(alloc: Global, sink: &mut K, script: &Script) -> Status
+    ensures { Ends (outcome.Whole (canonical script.now)) result (K.taken sink.old) (K.taken sink.new) (K.finished sink.new)
+        (K.faults sink.old) (K.faults sink.new) }
+{
+    match write(alloc, script) {
+        Ok(text) => tell(sink, text.as_slice(), Status::Done),
+        Err(NoMemory) => Status::NoMemory,
+    }
+}
+
+/// What a command asks with a script all of whose forms are built under it.
+fn script_task<K: Sink>(alloc: Global, sink: &mut K, command: Command, script: Script) -> Task
+    requires { IsRunnable script }
+    ensures leads { LeadsTo (λ history. outcome.Whole (text_for command script history)) script result (K.taken sink.old) (K.taken sink.new)
+        (K.finished sink.new) (K.faults sink.old) (K.faults sink.new) }
+    ensures untouched { OnRun result (sink.new ≡ sink.old) }
+{
+    match command {
+        Command::Run => Task::Run(Telling::Report, script),
+        Command::Print => Task::Ended(print(alloc, sink, &script)),
+        Command::Gen(count) => Task::Run(Telling::Summary(count), script),
+    }
+}
+
+/// What a command asks with a script.
+fn built_task<K: Sink>(alloc: Global, sink: &mut K, command: Command, script: Script) -> Task
+    requires { IsRunnable script }
+    ensures leads { LeadsTo (λ history. outcome_for command script history) script result (K.taken sink.old) (K.taken sink.new) (K.finished sink.new)
+        (K.faults sink.old) (K.faults sink.new) }
+    ensures untouched { OnRun result (sink.new ≡ sink.old) }
+{
+    match unbuilt_line(command, &script) {
+        Some(line) => Task::Ended(refuse(alloc, sink, line, 0)),
+        None => script_task(alloc, sink, command, script),
+    }
+}
+
+/// What a command asks with an input.
+fn input_task<K: Sink>(alloc: Global, sink: &mut K, command: Command, bytes: &[u8]) -> Task
+    requires { IsReadable command bytes.now }
+    ensures leads { LeadsTo (λ history. outcome_in command bytes.now history) (script_in bytes.now) result (K.taken sink.old) (K.taken sink.new)
+        (K.finished sink.new) (K.faults sink.old) (K.faults sink.new) }
+    ensures untouched { OnRun result (sink.new ≡ sink.old) }
+{
+    match read(alloc, bytes) {
+        Ok(script) => built_task(alloc, sink, command, script),
+        Err(ReadFail::Fault(fault)) => Task::Ended(refuse(alloc, sink, fault.line, fault.rule)),
+        Err(ReadFail::NoMemory) => Task::Ended(Status::NoMemory),
+    }
+}
+
+/// Does what is asked for up to the run of lanes, where there is to be one, and writes the usage line where nothing is asked for.
+pub fn prepare<S: Source, K: Sink>(
+    alloc: Global,
+    usage: &[u8],
+    asked: Option<Command>,
+    source: &mut S,
+    sink: &mut K,
+) -> Task
+    requires { IfSome asked IsCounted }
+    // What is read.
+    ensures bounded { IfSome (S.left source.old) (λ bytes. TakesFew bytes (S.left source.new)) }
+    ensures read_out { reads_source asked ≡ true → IfSome (S.left source.old) (λ bytes. TaskReadsOut result bytes (S.left source.new)) }
+    ensures not_read { reads_source asked ≡ false → source.new ≡ source.old }
+    ensures kept { ¬ (result ≡ Task.Ended Status.ReadFault) → S.faults source.new ≡ S.faults source.old }
+
+    // Where a read failed.
+    ensures fault { result ≡ Task.Ended Status.ReadFault → Rose (S.faults source.old) (S.faults source.new) × (reads_source asked ≡ true)
+        × (sink.new ≡ sink.old) }
+
+    // And where none did.
+    ensures prepared { ¬ (result ≡ Task.Ended Status.ReadFault) → Prepares usage.now asked (S.left source.old) result (K.taken sink.old) (K.taken sink.new)
+        (K.finished sink.new) (K.faults sink.old) (K.faults sink.new) }
+    ensures untouched { OnRun result (sink.new ≡ sink.old) }
+{
+    let Some(command) = asked else {
+        return Task::Ended(tell(sink, usage, Status::Usage));
+    };
+    match input_for(alloc, command, source) {
+        Input::Whole(bytes) => input_task(alloc, sink, command, bytes.as_slice()),
+        Input::TooLong => {
+            let status = Status::Script { line: 1, rule: 1 };
+            Task::Ended(tell(sink, too_long_line(), status))
+        }
+        Input::Fault => Task::Ended(Status::ReadFault),
+        Input::NoMemory => Task::Ended(Status::NoMemory),
+    }
+}
