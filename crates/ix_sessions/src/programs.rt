@@ -1,7 +1,9 @@
+mod apart;
 mod copies;
 mod faults;
 mod floats;
 mod lanes;
+mod made;
 mod refusals;
 mod words;
 
@@ -10,6 +12,9 @@ use ix_io::{MemSink, MemSource};
 use std::alloc::Global;
 use std::process::Abort;
 use std::test::Fail;
+
+/// What is written where the words are no command.
+const USAGE: &[u8] = b"usage: ixone run | print | gen COUNT\n";
 
 /// The status of a run, and the sink that it wrote to.
 fn run(

@@ -1,9 +1,7 @@
-use crate::programs::run;
+use crate::programs::{USAGE, run};
 use ix_host::Status;
 use ix_io::{MemSink, MemSource};
 use std::test::Fail;
-
-const USAGE: &[u8] = b"usage: ixone run | print\n";
 
 #[test]
 fn a_read_that_fails_writes_nothing(rt: HostRuntime) -> Result<(), Fail> {
@@ -18,7 +16,7 @@ fn a_read_that_fails_writes_nothing(rt: HostRuntime) -> Result<(), Fail> {
 #[test]
 fn a_write_that_fails_leaves_a_front(rt: HostRuntime) -> Result<(), Fail> {
     let alloc = rt.alloc();
-    for (fails, room, took) in [([0], 100, 0), ([1], 100, 25), ([9], 3, 3)] {
+    for (fails, room, took) in [([0], 100, 0), ([1], 100, 37), ([9], 3, 3)] {
         let source = MemSource::new(alloc, b"", &[])?;
         let (status, sink) = run(alloc, &["help"], source, MemSink::new(alloc, room, &fails)?)?;
         assert_eq!(rt; status, Status::WriteFault);

@@ -1,9 +1,7 @@
-use crate::programs::run;
+use crate::programs::{USAGE, run};
 use ix_host::Status;
 use ix_io::{MemSink, MemSource};
 use std::test::Fail;
-
-const USAGE: &[u8] = b"usage: ixone run | print\n";
 
 #[test]
 fn other_words_are_answered_by_the_usage_line(rt: HostRuntime) -> Result<(), Fail> {
@@ -19,6 +17,18 @@ fn other_words_are_answered_by_the_usage_line(rt: HostRuntime) -> Result<(), Fai
         &["run", ""],
         &[""],
         &["-"],
+        &["5", "gen"],
+        // A count is a number from 1 to 100,000, in its one spelling.
+        &["gen"],
+        &["gen", ""],
+        &["gen", "0"],
+        &["gen", "007"],
+        &["gen", "100001"],
+        &["gen", "4294967297"],
+        &["gen", "+1"],
+        &["gen", "-1"],
+        &["gen", "1x"],
+        &["gen", "1", "2"],
         // A flag is no word of a command, whatever it says.
         &["--help"],
         &["-h"],
