@@ -6,6 +6,7 @@ ghost use Rattle.ix_blocks.specs.Files.{used, bytes_of, with_bytes, all_empty, l
 use crate::rows::SIZE;
 use crate::store::Store;
 use ix_links::NoMemory;
+use ix_model::blocks_for;
 use std::alloc::Global;
 use std::marker::Model;
 
@@ -174,11 +175,4 @@ impl Blocks {
     {
         self.store.put(file, place, bytes);
     }
-}
-
-/// The blocks that so many bytes use.
-fn blocks_for(len: usize) -> usize
-    ensures { result ≡ blocks_for len }
-{
-    len.div_ceil(SIZE)
 }

@@ -108,13 +108,21 @@ fn two_seats<R: Wait>(rt: &R, alloc: Global, journal: u64) -> Result<(Answer, An
     Ok(make_twice(rt, kernel, first, second))
 }
 
+/// The seat that made the entry at a place.
+fn seat_at(core: &Core, place: u32) -> Option<u32> {
+    match core.entry(place) {
+        Some(entry) => Some(entry.seat),
+        None => None,
+    }
+}
+
 #[test]
 fn two_seats_share_one_history(rt: HostRuntime) -> Result<(), Fail> {
     let (made, again, core) = two_seats(&rt, rt.alloc(), 1000)?;
     assert!(rt; is_number(&made, 1));
     assert!(rt; is_refused(&again, Refusal::Exists));
     assert_eq!(rt; core.len(), 2);
-    assert!(rt; matches!(core.entry(2), Some(entry) if entry.seat == 1));
+    assert_eq!(rt; seat_at(&core, 2), Some(1));
     Ok(())
 }
 
@@ -302,15 +310,6 @@ fn cost_of(count: u32) -> u64 {
     u64::from(count) * u64::from(CALLS) * 130
 }
 
-fn open(alloc: Global, count: u32) -> Result<(Kernel, Vec<KSeat>), Fail>
-    requires { (0 < count) × (count ≤ 64) }
-    ensures ready { IfOk result (λ r. All (λ s. s.gate ≡ r.0.id) r.1.items) }
-    ensures all { IfOk result (λ r. (n : ℕ) → n < r.0.seats → Contains (map (λ s. s.number) r.1.items) n) }
-{
-    let core = boot(alloc, cost_of(count))?;
-    Ok(Kernel::new(alloc, core, count)?)
-}
-
 /// The core that is left when so many seats have made their calls side by side.
 fn run_seats<R: Threads + Wait + Sync>(
     rt: &R,
@@ -320,7 +319,8 @@ fn run_seats<R: Threads + Wait + Sync>(
 ) -> Result<Core, Fail>
     requires { (0 < count) × (count ≤ 64) }
 {
-    let (kernel, seats) = open(alloc, count)?;
+    let core = boot(alloc, cost_of(count))?;
+    let (kernel, seats) = Kernel::new(alloc, core, count)?;
     match run_all(rt, kernel, seats, told) {
         Some(core) => Ok(core),
         None => Err(Fail::new("a seat is missing")),

@@ -29,6 +29,13 @@ impl Bytes {
         }
     }
 
+    /// The bytes of a vector. None of them is copied.
+    pub fn from_vec(items: Vec<u8>) -> Bytes
+        ensures { result ≡ items.items }
+    {
+        Bytes { items }
+    }
+
     /// How many bytes it has.
     pub fn len(&self) -> usize
         ensures { result ≡ length self.now }

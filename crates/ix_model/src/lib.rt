@@ -2,6 +2,7 @@
 #![tactic(auto)]
 
 mod audit;
+mod blocks;
 mod bytes;
 mod call;
 mod config;
@@ -10,6 +11,7 @@ mod ids;
 pub mod laws;
 mod list;
 mod memory;
+mod mounts;
 mod name;
 mod path;
 mod privs;
@@ -20,6 +22,7 @@ mod valid;
 mod views;
 
 pub use audit::{Act, AuditLine};
+pub use blocks::blocks_for;
 pub use bytes::Bytes;
 pub use call::{Buf, Call, Keep, Mode};
 pub use config::{Config, FsSpec, Limits, ObjSpec, ProcSpec};
@@ -27,6 +30,7 @@ pub use entry::{Entry, Kept};
 pub use ids::{Fd, Obj, Pid};
 pub use list::List;
 pub use memory::NoMemory;
+pub use mounts::{fs_of, is_mount};
 pub use name::Name;
 pub use path::Path;
 pub use privs::PrivSet;

@@ -4,17 +4,16 @@ ghost use Rattle.ix_label.specs.Category.{leq};
 ghost use Rattle.ix_model.specs.world.World.{fs_at};
 ghost use Rattle.ix_model.specs.world.Naming.{same_bytes, same_names};
 ghost use Rattle.ix_model.specs.rows.Telling.{blocks_for};
-ghost use Rattle.ix_model.specs.opening.Valid.{fs_fits, fss_fit, all_differ, limits_fit, procs_fit, mount_of, fs_of, is_mount, is_well_formed, is_taken, has_directory, lying_on, blocks_taken, has_room, object_fits, objects_fit, is_valid};
+ghost use Rattle.ix_model.specs.opening.Valid.{fs_fits, fss_fit, all_differ, limits_fit, procs_fit, fs_of, is_mount, is_well_formed, is_taken, has_directory, lying_on, blocks_taken, has_room, object_fits, objects_fit, is_valid};
 
+use crate::blocks::blocks_for;
 use crate::config::{Config, FsSpec, Limits, ObjSpec, ProcSpec};
+use crate::mounts::{fs_of, is_mount};
 use crate::name::Name;
 use crate::path::Path;
 use bitflags::Flags;
 use ix_label::Steps;
 use std::sync::ledger::{Blank, Ledger};
-
-/// The bytes of a block.
-const BLOCK: usize = 512;
 
 /// The most bytes that a file has.
 const FILE_MAX: usize = 1_048_576;
@@ -113,41 +112,6 @@ fn procs_fit<L: Ledger>(limits: &Limits, procs: &[ProcSpec], steps: &mut Steps<L
 
 // ---- where a path leads
 
-/// The place of that name among the further file systems, from 0.
-fn mount_of(fss: &[FsSpec], name: &Name) -> Option<usize>
-    ensures mount { result ≡ mount_of fss.now name.now }
-    ensures within { IfSome result (λ k. k + 1 < length fss.now) }
-{
-    fss.iter().skip(1).position(|s| s.name.same(name))
-}
-
-/// The place of the file system on which a path lies.
-fn fs_of(fss: &[FsSpec], path: &Path) -> usize
-    ensures fs { result ≡ fs_of fss.now path.now.names }
-    ensures within { 0 < length fss.now → result < length fss.now }
-{
-    let Some(name) = path.name(0) else {
-        return 0;
-    };
-    match mount_of(fss, &name) {
-        Some(k) => k + 1,
-        None => 0,
-    }
-}
-
-/// Whether a path has that one name.
-fn is_just(path: &Path, name: &Name) -> bool
-    ensures { result ≡ same_names (name.now ∷ []) path.now.names }
-{
-    path.len() == 1 && path.name(0).is_some_and(|first| name.same(&first))
-}
-
-fn is_mount(fss: &[FsSpec], path: &Path) -> bool
-    ensures { result ≡ is_mount fss.now path.now.names }
-{
-    fss.iter().skip(1).any(|s| is_just(path, &s.name))
-}
-
 fn is_made(before: &[ObjSpec], path: &Path) -> bool
     ensures { result ≡ list_any (λ b. same_names b.path.names path.now.names) before.now }
 {
@@ -205,13 +169,6 @@ fn count_on(fss: &[FsSpec], k: usize, lines: &[ObjSpec]) -> usize
     ensures few { result ≤ length lines.now }
 {
     lines.iter().filter(|b| fs_of(fss, &b.path) == k).count()
-}
-
-/// The blocks of a file that is so long.
-fn blocks_for(len: usize) -> usize
-    ensures { result ≡ blocks_for len }
-{
-    len.div_ceil(BLOCK)
 }
 
 fn has_blocks(fss: &[FsSpec], k: usize, before: &[ObjSpec], object: &ObjSpec) -> bool
