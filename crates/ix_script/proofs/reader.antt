@@ -13,3 +13,4 @@ pub mod Planning
 pub mod Told
 pub mod Packing
 pub mod Walking
+pub mod Summing

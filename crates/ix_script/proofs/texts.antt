@@ -8,3 +8,4 @@ pub mod AllLabels
 pub mod Further
 pub mod Cuts
 pub mod Words
+pub mod Made

@@ -4,3 +4,5 @@ pub mod Before
 pub mod Rules
 pub mod Said
 pub mod Faults
+pub mod Roles
+pub mod RuleTexts

@@ -4,7 +4,6 @@ pub mod body;
 pub mod by_bytes;
 pub mod by_names;
 pub mod draft;
-pub mod fss;
 pub mod given;
 pub mod header;
 pub mod known;

@@ -1,10 +1,9 @@
-ghost use Rattle.std.specs.Prelude.{◌≡◌, ◌≤◌, if◌then◌else◌};
+ghost use Rattle.std.specs.Prelude.{◌≡◌, if◌then◌else◌};
 ghost use Rattle.ix_script.specs.lines.Before.{is_command};
-ghost use Rattle.ix_script.specs.scripts.Need.{cost_of_line, need};
+ghost use Rattle.ix_script.specs.scripts.Need.{cost_of_line};
 
 use crate::before::body::is_command;
 use crate::line::Line;
-use crate::packed::Lines;
 
 /// What an entry costs besides its words.
 const ENTRY: u64 = 128;
@@ -17,7 +16,7 @@ const LOGIN: u64 = 1168;
 
 /// What the entries of a line cost, at the most.
 #[tactic(auto, unfolding(crate::specs::scripts::Need::cost_of_line))]
-fn cost_of_line(line: &Line<'_>) -> u64
+pub(crate) fn cost_of_line(line: &Line<'_>) -> u64
     ensures { result ≡ cost_of_line line.now }
 {
     match line {
@@ -49,19 +48,4 @@ fn cost_of_plain(line: &Line<'_>) -> u64
     ensures { result ≡ (if is_command line.now then 128 else 0) }
 {
     if is_command(line) { ENTRY } else { 0 }
-}
-
-/// What the entries of these lines cost, at the most.
-pub(crate) fn cost_of_lines(lines: &Lines) -> u64
-    requires { need lines.now ≤ 870400000 }
-    ensures { result ≡ need lines.now }
-{
-    let mut cost = 0;
-    'lines: for index in 0..lines.len() {
-        let Some(line) = lines.get(index) else {
-            return cost;
-        };
-        cost += cost_of_line(&line);
-    }
-    cost
 }

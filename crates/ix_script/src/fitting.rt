@@ -7,15 +7,18 @@ ghost use Rattle.ix_model.specs.opening.Valid.{fs_of, is_mount, is_taken, has_di
 ghost use Rattle.ix_model.specs.declared.config.ObjSpec.{ObjSpec};
 ghost use Rattle.ix_script.specs.lines.Before.{fss_of, objects_of, lanes_of, is_known};
 ghost use Rattle.ix_script.specs.lines.Rules.{is_above, object_misfits, misfits, object_crowds, crowds, is_out_of_order, is_one_too_many, lacks_policy};
+ghost use Rattle.ix_script.specs.reader.Indexed.{names_in};
 ghost use Rattle.ix_script.specs.reader.Told.{DraftTold};
 
 use crate::before::body::is_command;
+use crate::before::by_names::ByNames;
 use crate::before::draft::Draft;
-use crate::before::fss::{blocks_for, fs_of, is_mount};
 use crate::before::known::is_known;
+use crate::before::tree::{names_of, parent_of};
 use crate::line::Line;
+use crate::values::paths::MadePath;
 use ix_label::{Label, Steps};
-use ix_model::{FsSpec, Path};
+use ix_model::{FsSpec, Path, blocks_for, fs_of, is_mount};
 use std::sync::ledger::Ledger;
 
 fn has_inode(fss: &[FsSpec], k: usize, count: usize) -> bool
@@ -56,34 +59,38 @@ fn is_above_fs<L: Ledger>(fss: &[FsSpec], path: &Path, label: &Label, steps: &mu
 }
 
 /// Rules 22 to 26, and 28: what fits the lines before.
-impl Draft {
-    fn is_taken(&self, path: &Path) -> bool
+impl<'a> Draft<'a> {
+    fn is_taken(&self, path: &Path, names: ByNames<'a>) -> bool
         requires told { DraftTold self.now }
+        requires names { names_in names ≡ path.now.names }
         ensures { result ≡ is_taken (fss_of self.now.lines) (objects_of self.now.lines) path.now.names }
     {
-        is_mount(self.header.fss.as_slice(), path) || self.header.made.has(path)
+        is_mount(self.header.fss.as_slice(), path) || self.header.made.has(names)
     }
 
     /// Whether a directory beside the root is there.
-    fn is_further_dir(&self, path: &Path) -> bool
+    fn is_further_dir(&self, path: &Path, names: ByNames<'a>) -> bool
         requires told { DraftTold self.now }
+        requires names { names_in names ≡ path.now.names }
         ensures { result ≡ (is_mount (fss_of self.now.lines) path.now.names || list_any (λ b. b.dir && same_names b.path.names path.now.names) (objects_of self.now.lines)) }
     {
-        is_mount(self.header.fss.as_slice(), path) || self.header.made.has_dir(path)
+        is_mount(self.header.fss.as_slice(), path) || self.header.made.has_dir(names)
     }
 
-    fn has_directory(&self, path: &Path) -> bool
+    fn has_directory(&self, path: &Path, names: ByNames<'a>) -> bool
         requires told { DraftTold self.now }
+        requires names { names_in names ≡ path.now.names }
         ensures { result ≡ has_directory (fss_of self.now.lines) (objects_of self.now.lines) path.now.names }
     {
-        path.len() == 0 || self.is_further_dir(path)
+        path.len() == 0 || self.is_further_dir(path, names)
     }
 
-    fn misfits_tree(&self, path: &Path) -> bool
+    fn misfits_tree(&self, made: &MadePath<'a>) -> bool
         requires told { DraftTold self.now }
-        ensures { (o : ObjSpec) → o.path ≡ path.now → result ≡ object_misfits self.now.lines o }
+        ensures { (o : ObjSpec) → o.path ≡ made.now → result ≡ object_misfits self.now.lines o }
     {
-        self.is_taken(path) || !self.has_directory(&path.parent())
+        let path = made.path();
+        self.is_taken(&path, names_of(made)) || !self.has_directory(&path.parent(), parent_of(made))
     }
 
     fn lacks_room(&self, path: &Path, len: usize) -> bool
@@ -92,13 +99,13 @@ impl Draft {
     {
         let fss = self.header.fss.as_slice();
         let k = fs_of(fss, path);
-        !has_name(fss.len(), self.header.made.len(), self.header.limits.names)
+        !has_name(fss.len(), self.header.made.count, self.header.limits.names)
             || !has_inode(fss, k, self.header.taken.counts[k])
             || !has_blocks(fss, k, self.header.taken.blocks[k], blocks_for(len))
     }
 
     /// Whether a label is not below its ceiling.
-    pub fn is_above<L: Ledger>(&self, line: &Line<'_>, steps: &mut Steps<L>) -> bool
+    pub fn is_above<L: Ledger>(&self, line: &Line<'a>, steps: &mut Steps<L>) -> bool
         requires told { DraftTold self.now }
         ensures { result ≡ is_above self.now.lines line.now }
     {
@@ -112,24 +119,24 @@ impl Draft {
     }
 
     /// Whether a path does not fit the tree.
-    pub fn misfits(&self, line: &Line<'_>) -> bool
+    pub fn misfits(&self, line: &Line<'a>) -> bool
         requires told { DraftTold self.now }
         ensures { result ≡ misfits self.now.lines line.now }
     {
         match line {
-            Line::Dir { path, .. } => self.misfits_tree(&path.path()),
-            Line::File { path, .. } => self.misfits_tree(&path.path()),
+            Line::Dir { path, .. } => self.misfits_tree(path),
+            Line::File { path, .. } => self.misfits_tree(path),
             _ => false,
         }
     }
 
     /// Whether there is no room.
-    pub fn crowds(&self, line: &Line<'_>) -> bool
+    pub fn crowds(&self, line: &Line<'a>) -> bool
         requires told { DraftTold self.now }
         ensures { result ≡ crowds self.now.lines line.now }
     {
         match line {
-            Line::Proc { .. } => self.header.procs.len() >= self.header.limits.procs as usize,
+            Line::Proc { .. } => self.header.procs.count >= self.header.limits.procs as usize,
             Line::Dir { path, .. } => self.lacks_room(&path.path(), 0),
             Line::File { path, bytes, .. } => self.lacks_room(&path.path(), bytes.len()),
             _ => false,
@@ -137,7 +144,7 @@ impl Draft {
     }
 
     /// Whether a header line is out of order.
-    pub fn is_out_of_order(&self, line: &Line<'_>) -> bool
+    pub fn is_out_of_order(&self, line: &Line<'a>) -> bool
         requires told { DraftTold self.now }
         ensures { result ≡ is_out_of_order self.now.lines line.now }
     {
@@ -148,7 +155,7 @@ impl Draft {
         }
     }
 
-    fn has_all_lanes(&self, word: &[u8]) -> bool
+    fn has_all_lanes(&self, word: &'a [u8]) -> bool
         requires told { DraftTold self.now }
         ensures { result ≡ (not (is_known word.now (lanes_of self.now.lines)) && nat_le 64 (length (lanes_of self.now.lines))) }
     {
@@ -156,7 +163,7 @@ impl Draft {
     }
 
     /// Whether there are too many.
-    pub fn is_one_too_many(&self, line: &Line<'_>) -> bool
+    pub fn is_one_too_many(&self, line: &Line<'a>) -> bool
         requires told { DraftTold self.now }
         ensures { result ≡ is_one_too_many self.now.lines line.now }
     {
@@ -168,7 +175,7 @@ impl Draft {
     }
 
     /// Whether there is no policy.
-    pub fn lacks_policy(&self, line: &Line<'_>) -> bool
+    pub fn lacks_policy(&self, line: &Line<'a>) -> bool
         requires told { DraftTold self.now }
         ensures { result ≡ lacks_policy self.now.lines line.now }
     {

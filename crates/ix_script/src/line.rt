@@ -1,8 +1,9 @@
-use crate::values::paths::PathWord;
+use crate::cutting::words::NameWord;
+use crate::values::paths::{MadePath, PathWord};
 use crate::values::payload::Payload;
 use crate::values::policy::PolicyText;
 use ix_label::Label;
-use ix_model::{Mode, Name, PrivSet};
+use ix_model::{Mode, PrivSet};
 
 /// What a `limit` line limits.
 #[derive(Clone, Copy, Debug, PartialEq, Eq)]
@@ -15,19 +16,19 @@ pub enum What {
 }
 
 /// A descriptor, as a script says it.
-#[derive(Clone, Copy)]
-pub enum FdWord {
+#[derive(Drop)]
+pub enum FdWord<'a> {
     Number(u8),
     /// The name that stands after `as` on an earlier line of the lane.
-    Named(Name),
+    Named(NameWord<'a>),
 }
 
 /// Which descriptors a child gets, as a script says it.
-#[derive(Clone, Copy)]
-pub enum KeepWord {
+#[derive(Drop)]
+pub enum KeepWord<'a> {
     All,
     Nothing,
-    One(FdWord),
+    One(FdWord<'a>),
 }
 
 /// A line of a script, which borrows the script's text. A `named` is what stands after `as`.
@@ -42,25 +43,25 @@ pub enum Line<'a> {
         number: u32,
     },
     Fs {
-        name: Name,
+        name: NameWord<'a>,
         ceiling: Label,
         blocks: u32,
         inodes: u32,
     },
     Proc {
-        name: Name,
+        name: NameWord<'a>,
         label: Label,
         ceiling: Label,
         cap: PrivSet,
         lic: PrivSet,
     },
     Dir {
-        path: PathWord<'a>,
+        path: MadePath<'a>,
         label: Label,
         frozen: bool,
     },
     File {
-        path: PathWord<'a>,
+        path: MadePath<'a>,
         label: Label,
         frozen: bool,
         cap: PrivSet,
@@ -72,175 +73,175 @@ pub enum Line<'a> {
     },
     Phase,
     Lane {
-        name: Name,
+        name: NameWord<'a>,
     },
     Create {
-        proc: Name,
+        proc: NameWord<'a>,
         path: PathWord<'a>,
     },
     Open {
-        proc: Name,
+        proc: NameWord<'a>,
         path: PathWord<'a>,
         mode: Mode,
-        named: Option<Name>,
+        named: Option<NameWord<'a>>,
     },
     Read {
-        proc: Name,
-        fd: FdWord,
+        proc: NameWord<'a>,
+        fd: FdWord<'a>,
         count: u32,
     },
     Write {
-        proc: Name,
-        fd: FdWord,
+        proc: NameWord<'a>,
+        fd: FdWord<'a>,
         bytes: Payload<'a, 4096>,
     },
     Cut {
-        proc: Name,
-        fd: FdWord,
+        proc: NameWord<'a>,
+        fd: FdWord<'a>,
         len: u32,
     },
     Seek {
-        proc: Name,
-        fd: FdWord,
+        proc: NameWord<'a>,
+        fd: FdWord<'a>,
         at: u32,
     },
     Dup {
-        proc: Name,
-        fd: FdWord,
-        named: Option<Name>,
+        proc: NameWord<'a>,
+        fd: FdWord<'a>,
+        named: Option<NameWord<'a>>,
     },
     Close {
-        proc: Name,
-        fd: FdWord,
+        proc: NameWord<'a>,
+        fd: FdWord<'a>,
     },
     Pipe {
-        proc: Name,
-        named: Option<(Name, Name)>,
+        proc: NameWord<'a>,
+        named: Option<(NameWord<'a>, NameWord<'a>)>,
     },
     Mkdir {
-        proc: Name,
+        proc: NameWord<'a>,
         path: PathWord<'a>,
     },
     Link {
-        proc: Name,
+        proc: NameWord<'a>,
         target: PathWord<'a>,
         path: PathWord<'a>,
     },
     Unlink {
-        proc: Name,
+        proc: NameWord<'a>,
         path: PathWord<'a>,
     },
     Rmdir {
-        proc: Name,
+        proc: NameWord<'a>,
         path: PathWord<'a>,
     },
     Chdir {
-        proc: Name,
+        proc: NameWord<'a>,
         path: PathWord<'a>,
     },
     Stat {
-        proc: Name,
+        proc: NameWord<'a>,
         path: PathWord<'a>,
     },
     List {
-        proc: Name,
+        proc: NameWord<'a>,
         path: PathWord<'a>,
         index: u32,
     },
     Fork {
-        proc: Name,
-        keep: KeepWord,
-        named: Option<Name>,
+        proc: NameWord<'a>,
+        keep: KeepWord<'a>,
+        named: Option<NameWord<'a>>,
     },
     Exec {
-        proc: Name,
+        proc: NameWord<'a>,
         path: PathWord<'a>,
     },
     Exit {
-        proc: Name,
+        proc: NameWord<'a>,
         status: u32,
     },
     Wait {
-        proc: Name,
+        proc: NameWord<'a>,
     },
     Labelof {
-        proc: Name,
+        proc: NameWord<'a>,
         path: PathWord<'a>,
     },
     Self_ {
-        proc: Name,
+        proc: NameWord<'a>,
     },
     Setlabel {
-        proc: Name,
+        proc: NameWord<'a>,
         path: PathWord<'a>,
         label: Label,
     },
     Setself {
-        proc: Name,
+        proc: NameWord<'a>,
         label: Label,
     },
     Freeze {
-        proc: Name,
+        proc: NameWord<'a>,
         path: PathWord<'a>,
     },
     Freezeself {
-        proc: Name,
+        proc: NameWord<'a>,
     },
     Thaw {
-        proc: Name,
+        proc: NameWord<'a>,
         path: PathWord<'a>,
     },
     Thawself {
-        proc: Name,
+        proc: NameWord<'a>,
     },
     Setpriv {
-        proc: Name,
+        proc: NameWord<'a>,
         path: PathWord<'a>,
         cap: PrivSet,
         lic: PrivSet,
     },
     Droplic {
-        proc: Name,
+        proc: NameWord<'a>,
         set: PrivSet,
     },
     Grant {
-        proc: Name,
-        to: Name,
+        proc: NameWord<'a>,
+        to: NameWord<'a>,
         set: PrivSet,
     },
     Ceiling {
-        proc: Name,
-        of: Name,
+        proc: NameWord<'a>,
+        of: NameWord<'a>,
         label: Label,
     },
     Pex {
-        proc: Name,
-        fd: FdWord,
+        proc: NameWord<'a>,
+        fd: FdWord<'a>,
     },
     Unpex {
-        proc: Name,
-        fd: FdWord,
+        proc: NameWord<'a>,
+        fd: FdWord<'a>,
     },
     Readlog {
-        proc: Name,
+        proc: NameWord<'a>,
         index: u32,
     },
     Copy {
-        proc: Name,
-        from: FdWord,
-        to: FdWord,
+        proc: NameWord<'a>,
+        from: FdWord<'a>,
+        to: FdWord<'a>,
         count: u32,
     },
     /// A privilege server serves one request.
     Priv {
-        proc: Name,
-        fd: FdWord,
+        proc: NameWord<'a>,
+        fd: FdWord<'a>,
     },
     /// A session server serves one request.
     Login {
-        proc: Name,
-        fd: FdWord,
-        hand: FdWord,
-        named: Option<Name>,
+        proc: NameWord<'a>,
+        fd: FdWord<'a>,
+        hand: FdWord<'a>,
+        named: Option<NameWord<'a>>,
     },
 }

@@ -2,15 +2,20 @@ ghost use Rattle.std.specs.Prelude.{◌≡◌, ◌++◌, ◌∷◌, ◌+◌, ◌
 ghost use Rattle.ix_script.specs.lines.Forms.{form_of, places};
 ghost use Rattle.ix_script.specs.lines.Kinds.{places_fault};
 ghost use Rattle.ix_script.specs.lines.Said.{line_of, said_by_words};
+ghost use Rattle.std.proofs.Common.{option_map};
+ghost use Rattle.ix_script.specs.lines.Roles.{header_only, role_of};
+ghost use Rattle.ix_script.specs.scripts.Need.{need};
 ghost use Rattle.ix_script.specs.scripts.Packed.{IsLine, IsSaid, begin_at, between, line_in};
 ghost use Rattle.ix_script.specs.texts.Cutting.{policy_text};
 ghost use Rattle.ix_script.specs.declared.line.Line.TheVariants as line;
 
+use crate::cost::cost_of_line;
 use crate::cutting::cut::Words;
 use crate::cutting::first_word::form_of;
 use crate::cutting::words::is;
 use crate::forms::line_by_form::line_by_form;
 use crate::line::Line;
+use crate::role::{Role, role_of};
 use crate::rules::{is_policy_line, is_skipped};
 use crate::values::policy::PolicyText;
 use ix_model::NoMemory;
@@ -24,13 +29,17 @@ pub(crate) struct Lines {
     text: Vec<u8>,
     /// Where in it the text of each line ends.
     ends: Vec<u32>,
+    /// What each line is for.
+    roles: Vec<Role>,
+    /// What the entries of all lines cost, at the most.
+    need: u64,
 }
 
 impl Model for Lines {
     ghost use Rattle.std.specs.Prelude.{List};
     ghost use Rattle.std.specs.Coded.{codes};
     ghost use Rattle.ix_label.specs.contracts.label.Label as label_type;
-    ghost use Rattle.ix_script.specs.scripts.Packed.{AreLines, held};
+    ghost use Rattle.ix_script.specs.scripts.Packed.{AreLines, AreSummed, held};
     ghost use Rattle.ix_script.specs.declared.line.Line.{Line};
 
     ghost Value = { List Line };
@@ -39,7 +48,7 @@ impl Model for Lines {
 
     ghost view = { λ l. held 0 l.text.items l.ends.items };
 
-    ghost invariant = { λ l. AreLines 0 l.text.items l.ends.items };
+    ghost invariant = { λ l. AreLines 0 l.text.items l.ends.items × AreSummed (held 0 l.text.items l.ends.items) l.roles.items l.need };
 }
 
 /// What a policy's line says.
@@ -123,7 +132,15 @@ impl Lines {
         let Ok(ends) = Vec::with_capacity(alloc, feeds + 1) else {
             return Err(NoMemory);
         };
-        Ok(Lines { text, ends })
+        let Ok(roles) = Vec::with_capacity(alloc, feeds + 1) else {
+            return Err(NoMemory);
+        };
+        Ok(Lines {
+            text,
+            ends,
+            roles,
+            need: 0,
+        })
     }
 
     pub fn len(&self) -> usize
@@ -153,10 +170,36 @@ impl Lines {
         Some(said(text))
     }
 
+    /// What the line at an index from 0 is for; `None` exactly past the end. The line isn't made for it.
+    pub fn role(&self, i: usize) -> Option<Role>
+        ensures { result ≡ option_map role_of (slice_get self.now i) }
+    {
+        self.roles.as_slice().get(i).copied()
+    }
+
+    /// The line at an index from 0, where it stands in the header. No other line is made.
+    pub fn header_line(&self, i: usize) -> Option<Line<'_>>
+        ensures { result ≡ header_only (slice_get self.now i) }
+    {
+        match self.role(i) {
+            Some(Role::Header) => self.get(i),
+            _ => None,
+        }
+    }
+
+    /// What the entries of all lines cost, at the most.
+    pub fn need(&self) -> u64
+        ensures { result ≡ need self.now }
+    {
+        self.need
+    }
+
     /// One line more, which the text says. After `NoMemory` the lines are as they were.
-    pub fn push(&mut self, text: &[u8]) -> Result<(), NoMemory>
-        requires { IsLine text.now }
-        ensures { OnOk result (self.new ≡ self.old ++ line_in text.now ∷ []) }
+    pub fn push(&mut self, text: &[u8], line: &Line<'_>) -> Result<(), NoMemory>
+        requires faultless { IsLine text.now }
+        requires said { line_in text.now ≡ line.now }
+        requires few { length self.old + 1 < 2 ^ 32 }
+        ensures { OnOk result (self.new ≡ self.old ++ line.now ∷ []) }
     {
         let Ok(end) = u32::try_from(self.text.as_slice().len() + text.len()) else {
             return Err(NoMemory);
@@ -164,10 +207,16 @@ impl Lines {
         let Ok(()) = self.ends.push(end) else {
             return Err(NoMemory);
         };
-        let Ok(()) = self.text.extend_from_slice(text) else {
+        let Ok(()) = self.roles.push(role_of(line)) else {
             self.ends.pop();
             return Err(NoMemory);
         };
+        let Ok(()) = self.text.extend_from_slice(text) else {
+            self.roles.pop();
+            self.ends.pop();
+            return Err(NoMemory);
+        };
+        self.need += cost_of_line(line);
         Ok(())
     }
 }

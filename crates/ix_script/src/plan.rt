@@ -1,12 +1,10 @@
-ghost use Rattle.std.specs.Prelude.{◌≡◌, ◌++◌, ◌∷◌, [], List, OnOk, IfOk, ◌≤◌};
+ghost use Rattle.std.specs.Prelude.{◌≡◌, ◌++◌, ◌∷◌, ◌+◌, ◌<◌, [], List, length, take, OnOk, IfOk};
 ghost use Rattle.ix_script.specs.lines.Before.{fs_told, proc_told, object_told, or_default};
 ghost use Rattle.ix_script.specs.scripts.Held.{IsPlan};
-ghost use Rattle.ix_script.specs.scripts.Need.{need};
 ghost use Rattle.ix_script.specs.scripts.Scripts.{config_of};
 ghost use Rattle.ix_script.specs.declared.line.Line.{Line};
 
 use crate::before::header::{default_fs, default_limits, limits_after};
-use crate::cost::cost_of_lines;
 use crate::line::Line;
 use crate::packed::Lines;
 use crate::values::payload::Payload;
@@ -33,7 +31,7 @@ fn add_fs(fss: &mut List<FsSpec>, line: &Line<'_>) -> Result<(), NoMemory>
             blocks,
             inodes,
         } => fss.push(FsSpec {
-            name: *name,
+            name: name.name(),
             ceiling: *ceiling,
             blocks: *blocks,
             inodes: *inodes,
@@ -66,12 +64,16 @@ fn add_proc(procs: &mut List<ProcSpec>, line: &Line<'_>) -> Result<(), NoMemory>
 fn decoded(alloc: Global, payload: &Payload<'_, 1_048_576>) -> Result<Bytes, NoMemory>
     ensures { IfOk result (λ bytes. bytes ≡ payload.now) }
 {
-    let mut bytes = Bytes::new(alloc);
+    let Ok(mut bytes) = Vec::with_capacity(alloc, payload.len()) else {
+        return Err(NoMemory);
+    };
     let mut left = payload.bytes();
     'bytes: while let Some(byte) = left.next() {
-        bytes.push(byte)?;
+        if bytes.push(byte).is_err() {
+            return Err(NoMemory);
+        }
     }
-    Ok(bytes)
+    Ok(Bytes::from_vec(bytes))
 }
 
 fn add_object(alloc: Global, objects: &mut List<ObjSpec>, line: &Line<'_>) -> Result<(), NoMemory>
@@ -149,16 +151,24 @@ impl Plan {
         Ok(())
     }
 
+    /// One line more, by its place, where it stands in the header: no other tells anything. After an error the plan isn't used.
+    fn add_at(&mut self, alloc: Global, lines: &Lines, index: usize) -> Result<(), NoMemory>
+        requires { index < length lines.now }
+        ensures { OnOk result (IsPlan self.old (take index lines.now) → IsPlan self.new (take (index + 1) lines.now)) }
+    {
+        match lines.header_line(index) {
+            Some(line) => self.add(alloc, &line),
+            None => Ok(()),
+        }
+    }
+
     /// What all lines tell.
     fn of(alloc: Global, lines: &Lines) -> Result<Plan, NoMemory>
         ensures { IfOk result (λ p. IsPlan p lines.now) }
     {
         let mut plan = Plan::new(alloc);
         'lines: for index in 0..lines.len() {
-            let Some(line) = lines.get(index) else {
-                return Err(NoMemory);
-            };
-            plan.add(alloc, &line)?;
+            plan.add_at(alloc, lines, index)?;
         }
         Ok(plan)
     }
@@ -167,7 +177,6 @@ impl Plan {
 /// What a machine starts from by these lines.
 #[tactic(auto, unfolding(crate::specs::scripts::Scripts::config_of))]
 pub(crate) fn config(alloc: Global, lines: &Lines) -> Result<Config, NoMemory>
-    requires { need lines.now ≤ 870400000 }
     ensures { IfOk result (λ c. c ≡ config_of lines.now) }
 {
     let plan = Plan::of(alloc, lines)?;
@@ -176,6 +185,6 @@ pub(crate) fn config(alloc: Global, lines: &Lines) -> Result<Config, NoMemory>
         limits: plan.limits,
         procs: plan.procs,
         objects: plan.objects,
-        journal: cost_of_lines(lines),
+        journal: lines.need(),
     })
 }

@@ -29,7 +29,11 @@ fn first_line(bytes: &[u8]) -> (&[u8], &[u8])
     }
 }
 
-fn draft_of<L: Ledger>(alloc: Global, bytes: &[u8], steps: &mut Steps<L>) -> Result<Draft, ReadFail>
+fn draft_of<'a, L: Ledger>(
+    alloc: Global,
+    bytes: &'a [u8],
+    steps: &mut Steps<L>,
+) -> Result<Draft<'a>, ReadFail>
     requires some { 0 < length bytes.now }
     requires few { length bytes.now ≤ 16777216 }
     ensures told { IfOk result (λ d. DraftTold d) }

@@ -93,10 +93,10 @@ fn first_line(text: &[u8]) -> Result<Line<'_>, Rule>
     }
 }
 
-impl Draft {
+impl<'a> Draft<'a> {
     /// Rules 8 to 10.
     #[tactic(auto, unfolding(crate::specs::lines::Faults::stand_fault))]
-    fn check_stand(&self, form: Form, words: &Words<'_>) -> Result<(), Rule>
+    fn check_stand(&self, form: Form, words: &Words<'a>) -> Result<(), Rule>
         requires told { DraftTold self.now }
         ensures { Finds result (stand_fault self.now.lines form words.now) }
     {
@@ -114,7 +114,7 @@ impl Draft {
 
     /// Rules 20 and 21.
     #[tactic(auto, unfolding(crate::specs::lines::Faults::names_fault))]
-    fn check_names(&self, form: Form, words: &Words<'_>) -> Result<(), Rule>
+    fn check_names(&self, form: Form, words: &Words<'a>) -> Result<(), Rule>
         requires told { DraftTold self.now }
         ensures { Finds result (names_fault self.now.lines form words.now) }
     {
@@ -129,7 +129,7 @@ impl Draft {
 
     /// Rules 22 to 26, and 28.
     #[tactic(auto, unfolding(crate::specs::lines::Faults::said_fault))]
-    fn check_said<L: Ledger>(&self, line: &Line<'_>, steps: &mut Steps<L>) -> Result<(), Rule>
+    fn check_said<L: Ledger>(&self, line: &Line<'a>, steps: &mut Steps<L>) -> Result<(), Rule>
         requires told { DraftTold self.now }
         ensures { Finds result (said_fault self.now.lines line.now) }
     {
@@ -156,7 +156,7 @@ impl Draft {
 
     /// A line of a form: the rules from 8 on.
     #[tactic(auto, unfolding(crate::specs::lines::Faults::form_fault))]
-    fn form_line<'a, L: Ledger>(
+    fn form_line<L: Ledger>(
         &self,
         form: Form,
         words: &Words<'a>,
@@ -174,7 +174,7 @@ impl Draft {
 
     /// A line that is cut into words: the rules from 4 on.
     #[tactic(auto, unfolding(crate::specs::lines::Faults::command_fault))]
-    fn command_line<'a, L: Ledger>(
+    fn command_line<L: Ledger>(
         &self,
         words: &Words<'a>,
         steps: &mut Steps<L>,
@@ -191,7 +191,7 @@ impl Draft {
 
     /// The policy: it stands in the header, has a text, and stands once.
     #[tactic(auto, unfolding(crate::specs::lines::Faults::policy_fault))]
-    fn policy_line<'a>(&self, text: &'a [u8]) -> Result<Line<'a>, Rule>
+    fn policy_line(&self, text: &'a [u8]) -> Result<Line<'a>, Rule>
         requires told { DraftTold self.now }
         ensures { Tells self.now.lines result (policy_fault self.now.lines text.now) (Some (line.Policy (policy_text text.now))) }
     {
@@ -212,11 +212,7 @@ impl Draft {
 
     /// A line by where it stands and how it begins: the rules from 4 on.
     #[tactic(auto, unfolding(crate::specs::lines::Faults::body_fault))]
-    fn body_line<'a, L: Ledger>(
-        &self,
-        text: &'a [u8],
-        steps: &mut Steps<L>,
-    ) -> Result<Line<'a>, Rule>
+    fn body_line<L: Ledger>(&self, text: &'a [u8], steps: &mut Steps<L>) -> Result<Line<'a>, Rule>
         requires told { DraftTold self.now }
         ensures { Tells self.now.lines result (body_fault self.now.lines text.now) (line_of text.now) }
     {
@@ -234,7 +230,7 @@ impl Draft {
 
     /// What the next line says; else the first rule that it breaks.
     #[tactic(auto, unfolding(crate::specs::lines::Faults::line_fault))]
-    pub fn next_line<'a, L: Ledger>(
+    pub fn next_line<L: Ledger>(
         &self,
         text: &'a [u8],
         steps: &mut Steps<L>,

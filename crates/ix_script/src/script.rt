@@ -1,16 +1,18 @@
-ghost use Rattle.std.specs.Prelude.{◌≡◌, ◌≤◌, ◌-◌, ◌<◌, ◌==◌, length, position, slice_get, IfSome, true, None, if◌then◌else◌, IfOk, IsTrue};
+ghost use Rattle.std.specs.Prelude.{◌≡◌, ◌≤◌, ◌-◌, ◌<◌, ◌==◌, length, position, slice_get, IfSome, true, None, if◌then◌else◌, IfOk, IsTrue, false};
 ghost use Rattle.ix_model.specs.opening.Valid.{is_valid};
 ghost use Rattle.std.proofs.Common.{option_map};
+ghost use Rattle.std.specs.Option.{option_map_or};
 ghost use Rattle.ix_script.specs.lines.Before.{lanes_of, commands, is_policy};
+ghost use Rattle.ix_script.specs.lines.Roles.{role_of};
 ghost use Rattle.ix_script.specs.scripts.Need.{need};
 ghost use Rattle.ix_script.specs.scripts.Scripts.{config_of, policy_told, policy_of};
 ghost use Rattle.ix_script.specs.reader.Told.{DraftTold};
 
 use crate::before::draft::Draft;
-use crate::cost::cost_of_lines;
 use crate::line::Line;
 use crate::packed::Lines;
 use crate::plan::config;
+use crate::role::Role;
 use ix_model::{Config, List, Name, NoMemory};
 use std::alloc::Global;
 use std::marker::Model;
@@ -41,12 +43,12 @@ impl Model for Script {
 
 impl Script {
     /// The script of a draft.
-    pub(crate) fn of(draft: Draft) -> Script
+    pub(crate) fn of(draft: Draft<'_>) -> Script
         requires told { DraftTold draft }
         requires valid { is_valid (config_of draft.lines) ≡ true }
         requires few { length draft.lines ≤ 16777216 }
         requires few_commands { commands draft.lines ≤ 200000 }
-        ensures { result ≡ draft.lines }
+        ensures { result ≡ draft.entry.lines }
     {
         let lanes = draft.body.into_lanes();
         Script {
@@ -69,6 +71,13 @@ impl Script {
         self.lines.get((number as usize).checked_sub(1)?)
     }
 
+    /// What the line of a number from 1 is for; `None` exactly where there is none. The line isn't made for it.
+    pub fn role(&self, number: u32) -> Option<Role>
+        ensures { result ≡ option_map role_of (if number == 0 then None else slice_get self.now (number - 1)) }
+    {
+        self.lines.role((number as usize).checked_sub(1)?)
+    }
+
     /// The name of a lane; `None` exactly past the last.
     pub fn lane(&self, seat: u32) -> Option<&[u8]>
         ensures { option_map (λ name. name.now) result ≡ slice_get (lanes_of self.now) seat }
@@ -88,7 +97,6 @@ impl Script {
     }
 
     /// What a machine starts from: it is valid.
-    #[tactic(auto, using(crate::proofs::reader::Validity::need_fits))]
     pub fn config(&self, alloc: Global) -> Result<Config, NoMemory>
         ensures config { IfOk result (λ c. c ≡ config_of self.now) }
         ensures valid { IfOk result (λ c. IsTrue (is_valid c)) }
@@ -106,11 +114,10 @@ impl Script {
 
 /// What the entries of a script's commands cost a journal, at the most: of a command that is one call the call's cost, of
 /// `copy` two entries and the bytes that it carries, of `priv` 656 and of `login` 1,168. It is at most 870,400,000.
-#[tactic(auto, using(crate::proofs::reader::Validity::need_fits))]
 pub fn need(script: &Script) -> u64
     ensures { result ≡ need script.now }
 {
-    cost_of_lines(&script.lines)
+    script.lines.need()
 }
 
 fn is_policy(line: &Line<'_>) -> bool
@@ -119,14 +126,23 @@ fn is_policy(line: &Line<'_>) -> bool
     matches!(line, Line::Policy { .. })
 }
 
+/// Whether the line at a place is the policy. No line is made but those of the header.
+fn is_policy_at(lines: &Lines, index: usize) -> bool
+    ensures { result ≡ option_map_or is_policy (slice_get lines.now index) false }
+{
+    match lines.header_line(index) {
+        Some(line) => is_policy(&line),
+        None => false,
+    }
+}
+
 /// The place of the policy.
 fn policy_place(lines: &Lines) -> Option<usize>
     ensures place { result ≡ position is_policy lines.now }
     ensures within { IfSome result (λ k. k < length lines.now) }
 {
     'lines: for index in 0..lines.len() {
-        let line = lines.get(index)?;
-        if is_policy(&line) {
+        if is_policy_at(lines, index) {
             return Some(index);
         }
     }

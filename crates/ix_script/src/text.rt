@@ -3,8 +3,10 @@
 ghost use Rattle.std.specs.Prelude.{◌≡◌, ◌++◌, ◌+◌, ◌<◌, ◌≤◌};
 ghost use Rattle.arrayvec.specs.ArrayVec.{array_vec_len};
 ghost use Rattle.ix_label.specs.Spelling.{spelling};
+ghost use Rattle.ix_script.specs.lines.Before.{what_text};
 ghost use Rattle.ix_script.specs.texts.Spellings.{hex_pair, letter_in, mode_text, privs_text, state_text};
 
+use crate::line::What;
 use arrayvec::ArrayVec;
 use bitflags::Flags;
 use ix_label::{Label, LabelText, Steps};
@@ -77,6 +79,19 @@ pub fn state_word(frozen: bool) -> &'static [u8]
     ensures { result.now ≡ state_text frozen }
 {
     if frozen { b"frozen" } else { b"free" }
+}
+
+/// What a `limit` line limits.
+pub(crate) fn what_word(what: What) -> &'static [u8]
+    ensures { result.now ≡ what_text what }
+{
+    match what {
+        What::Procs => b"procs",
+        What::Opens => b"opens",
+        What::Pipes => b"pipes",
+        What::Names => b"names",
+        What::Log => b"log",
+    }
 }
 
 /// A byte as two small hexadecimal digits, the higher one first.

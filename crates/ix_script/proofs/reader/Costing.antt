@@ -1,9 +1,9 @@
 -- What lines cost: at most 4,352 for each command, and nothing for another line.
-use Rattle.std.proofs.Common.{◌≡◌, ℕ, ◌+◌, ◌*◌, ◌<◌, ◌≤◌, ◌&&◌, nat_le, Bool, true, false, cond, not, List, [], ◌∷◌, ◌++◌, length, drop, Option, Some, None, option_map, codes, get_or, refl, ap, ◌∙◌, subst, arith, inl, inr}
+use Rattle.std.proofs.Common.{◌≡◌, ℕ, ◌+◌, ◌*◌, ◌≤◌, ◌&&◌, nat_le, Bool, true, false, cond, not, List, [], ◌∷◌, ◌++◌, length, drop, Option, Some, None, option_map, codes, refl, ap, ◌∙◌, subst, arith, inl, inr}
 use Rattle.std.specs.List.{list_all, sum_by}
 use Rattle.std.proofs.lemmas.Bool.{leb-true}
 use Rattle.std.proofs.lemmas.Option.{none-some, same_Some}
-use Rattle.std.proofs.lemmas.List.Sums.{sum_by-cons, sum_by_push, sum_by-drop_more, sum-map}
+use Rattle.std.proofs.lemmas.List.Sums.{sum_by-cons, sum_by_push, sum-map}
 use Rattle.ix_model.specs.world.Naming.{PathOf, is_name, same_bytes}
 use Rattle.ix_model.specs.history.Cost.{cost_of_path}
 use Rattle.ix_script.specs.texts.Cutting.{begins, is_empty, is_skipped, is_policy_line, policy_text, words_of, word_at}
@@ -157,7 +157,7 @@ form_cheap form.Ceiling words l h = made_by (λ x. line.Ceiling x.0 x.1.0 x.1.1)
 form_cheap form.Readlog words l h = made_by (λ x. line.Readlog x.0 x.1) _ l (λ x e. omega arith) h
 form_cheap form.Login words l h = made_by (λ x. line.Login x.0 x.1.0 x.1.1.0 x.1.1.1) _ l (λ x e. omega arith) h
 
-line_cheap : (text : List ℕ) (l : Line) → line_of text ≡ Some l → Cheap l
+pub line_cheap : (text : List ℕ) (l : Line) → line_of text ≡ Some l → Cheap l
 unfolding line_of cost_of_line
 line_cheap text l h =
     let words = said_by_words (words_of text) in
@@ -177,12 +177,11 @@ line_cheap text l h =
     ]
 
 -- ---- line after line
-pub need_first : (lines : List Line) (i : ℕ) (l : Line) → i < length lines → l ≡ get_or lines i l → need (drop i lines) ≡ cost_of_line l + need (drop (i + 1) lines)
+pub need_next : (l : Line) (lines : List Line) → need (l ∷ lines) ≡ cost_of_line l + need lines
 unfolding need
-need_first lines i l low is =
-    omega (arith, sum-map cost_of_line (drop i lines), sum-map cost_of_line (drop (i + 1) lines), sum_by-drop_more cost_of_line lines i l low, ap cost_of_line is)
+need_next l lines = omega (arith, sum-map cost_of_line (l ∷ lines), sum-map cost_of_line lines, sum_by-cons cost_of_line l lines)
 
-need_push : (lines : List Line) (l : Line) → need (lines ++ l ∷ []) ≡ need lines + cost_of_line l
+pub need_push : (lines : List Line) (l : Line) → need (lines ++ l ∷ []) ≡ need lines + cost_of_line l
 unfolding need
 need_push lines l = omega (arith, sum-map cost_of_line (lines ++ l ∷ []), sum-map cost_of_line lines, sum_by_push cost_of_line lines l)
 

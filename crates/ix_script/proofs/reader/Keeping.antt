@@ -1,17 +1,18 @@
 -- What is kept of the header holds with one line more.
-use Rattle.std.proofs.Common.{◌≡◌, ℕ, suc, ◌+◌, ◌<◌, ◌≤◌, ◌==◌, nat_le, nat_lt, Bool, true, false, ◌||◌, not, cond, List, [], ◌∷◌, ◌++◌, length, map, max, slice_index, refl, sym, ap, ◌∙◌, subst, arith, length-append, inl, inr}
-use Rattle.std.specs.List.{list_all}
+use Rattle.std.proofs.Common.{◌≡◌, ℕ, suc, ◌+◌, ◌<◌, ◌≤◌, ◌==◌, nat_le, nat_lt, Bool, true, false, ◌||◌, not, cond, List, [], ◌∷◌, ◌++◌, length, max, slice_index, refl, sym, ap, ◌∙◌, subst, arith, length-append, inl, inr}
+use Rattle.std.specs.List.{flat_map, list_all}
 use Rattle.std.proofs.lemmas.Bool.{cases_eq, eq-eqb, ne_eqb, leb-true}
 use Rattle.std.proofs.lemmas.Bool.Decides.{nat_tests}
-use Rattle.std.proofs.lemmas.List.{append-nil, map-append}
+use Rattle.std.proofs.lemmas.List.{append-nil}
 use Rattle.ix_model.specs.world.World.{fs_at}
 use Rattle.ix_model.specs.rows.Telling.{blocks_for}
 use Rattle.ix_model.specs.opening.Valid.{fs_fits, fs_of, lying_on, blocks_taken, has_room}
 use Rattle.ix_model.specs.declared.config.FsSpec.{FsSpec}
 use Rattle.ix_model.specs.declared.config.Limits.{Limits}
 use Rattle.ix_model.specs.declared.config.ObjSpec.{ObjSpec}
-use Rattle.ix_script.specs.lines.Before.{fs_told, or_default, fss_told, fss_of, what_told, limits_after, limits_of, proc_name_told, object_told, objects_of, is_policy, group}
-use Rattle.ix_script.specs.reader.Told.{made_of, HeaderTold, TakenOne, Takes, fss_after}
+use Rattle.ix_script.specs.lines.Before.{fs_told, or_default, fss_told, fss_of, what_told, limits_after, limits_of, proc_name_told, proc_names, object_told, objects_of, is_policy, group}
+use Rattle.ix_script.specs.reader.Indexed.{AreNames, AreSites}
+use Rattle.ix_script.specs.reader.Told.{HeaderTold, MakesMore, NamesMore, TakenOne, Takes, fss_after}
 use Rattle.ix_script.specs.declared.before.header.Header.{Header}
 use Rattle.ix_script.specs.declared.before.taken.Taken.{Taken}
 use Rattle.ix_script.specs.declared.line.Line.{Line}
@@ -124,10 +125,32 @@ counted_next before (line.Fs name ceiling blocks inodes) old new some few fit f 
     counted_same (fss_of (After before x)) [] old new (fss_of (After before x)) (objects_of (After before x)) (nothing_lies (fss_of before) old (fss_of (After before x)) nothing) takes refl (same_objects before x refl ∙ none)
 counted_next before x old new some few fit f was takes = counted_same (fss_of before) (objects_of before) old new (fss_of (After before x)) (objects_of (After before x)) was takes (same_fss before x refl) (same_objects before x refl)
 
+-- ---- no line tells more than one object, or one name
+few_told : {A : Type 0} (f : Line → List A) → ((x : Line) → length (f x) ≤ 1) → (lines : List Line) → length (flat_map f lines) ≤ length lines
+few_told f one [] = omega arith
+few_told f one (x ∷ lines) = omega (arith, length-append (f x) (flat_map f lines), one x, few_told f one lines)
+
+one_object : (x : Line) → length (object_told x) ≤ 1
+one_object (line.Dir path label frozen) = omega arith
+one_object (line.File path label frozen cap lic bytes) = omega arith
+one_object _ = omega arith
+
+one_name : (x : Line) → length (proc_name_told x) ≤ 1
+one_name (line.Proc name label ceiling cap lic) = omega arith
+one_name _ = omega arith
+
+pub few_objects : (lines : List Line) → length (objects_of lines) ≤ length lines
+unfolding objects_of
+few_objects lines = few_told object_told one_object lines
+
+pub few_names : (lines : List Line) → length (proc_names lines) ≤ length lines
+unfolding proc_names
+few_names lines = few_told proc_name_told one_name lines
+
 -- ---- the whole
 pub header_next : (h n : Header) (before : List Line) (x : Line) → HeaderTold h before → list_all fs_fits (fss_of before) ≡ true → Follows before x
-    → n.told ≡ h.told + length (fs_told x) → n.fss ≡ fss_after h.told h.fss (fs_told x) → n.limits ≡ limits_after h.limits x → n.whats ≡ h.whats ++ what_told x → n.procs ≡ h.procs ++ proc_name_told x
-    → n.made ≡ h.made ++ map made_of (object_told x) → Takes h.fss (object_told x) h.taken n.taken → n.latest ≡ max h.latest (group x) → n.policy ≡ (h.policy || is_policy x) → HeaderTold n (After before x)
+    → n.told ≡ h.told + length (fs_told x) → n.fss ≡ fss_after h.told h.fss (fs_told x) → n.limits ≡ limits_after h.limits x → n.whats ≡ h.whats ++ what_told x → NamesMore (proc_name_told x) h.procs n.procs
+    → MakesMore (object_told x) h.made n.made → Takes h.fss (object_told x) h.taken n.taken → n.latest ≡ max h.latest (group x) → n.policy ≡ (h.policy || is_policy x) → HeaderTold n (After before x)
 header_next h n before x was fit f told fss limits whats procs made takes latest policy =
     let told_is : length (fss_told before) ≤ 16 = told_few (fss_told before) (subst (λ (fs : List FsSpec). length fs ≤ 16) was.fss was.few) in
     let fss_is : n.fss ≡ fss_of (After before x) = fss_kept h.told h.fss n.fss (fss_told before) x was.told was.fss fss ∙ ap or_default (sym (fss_push before x)) in
@@ -141,8 +164,10 @@ header_next h n before x was fit f told fss limits whats procs made takes latest
       few = subst (λ (fs : List FsSpec). length fs ≤ 16) (sym fss_is) few;
       limits = limits ∙ ap (λ l. limits_after l x) was.limits ∙ sym (limits_push before x);
       whats = whats ∙ ap (λ ws. ws ++ what_told x) was.whats ∙ sym (whats_push before x);
-      procs = procs ∙ ap (λ names. names ++ proc_name_told x) was.procs ∙ sym (proc_names_push before x);
-      made = made ∙ ap (λ ms. ms ++ map made_of (object_told x)) was.made ∙ sym (ap (map made_of) (objects_push before x) ∙ map-append made_of (objects_of before) (object_told x));
+      procs = subst (λ (names : List (List ℕ)). AreNames n.procs.index names) (sym (proc_names_push before x)) (procs.names (proc_names before) was.procs);
+      proc_count = procs.count ∙ ap (λ k. k + length (proc_name_told x)) was.proc_count ∙ sym (ap length (proc_names_push before x) ∙ length-append (proc_names before) (proc_name_told x));
+      made = subst (λ (os : List ObjSpec). AreSites n.made.index os) (sym (objects_push before x)) (made.sites (objects_of before) was.made);
+      objects = made.count ∙ ap (λ k. k + length (object_told x)) was.objects ∙ sym (ap length (objects_push before x) ∙ length-append (objects_of before) (object_told x));
       counts = counted.counts;
       blocks = counted.blocks;
       latest = λ g. latest_push g h.latest before x (was.latest g) ∙ ap (nat_lt g) (sym latest);

@@ -1,7 +1,7 @@
 -- The parts of a valid config.
 use Rattle.std.proofs.Common.{◌≡◌, ◌≤◌, true, ◌&&◌, List, [], length, map, refl}
 use Rattle.std.specs.List.{list_all}
-use Rattle.std.proofs.lemmas.Bool.{leb-true, le-leb}
+use Rattle.std.proofs.lemmas.Bool.{le-leb}
 use Rattle.ix_model.specs.opening.Valid.{is_within, all_differ, fs_fits, fss_fit, limits_fit, procs_fit, objects_fit, is_valid}
 use Rattle.ix_model.specs.declared.config.FsSpec.{FsSpec}
 use Rattle.ix_script.specs.lines.Before.{fss_of, limits_of, procs_of, objects_of}
@@ -24,11 +24,6 @@ parts_of lines h =
     let c = both _ _ b.0 in
     let d = both _ _ c.0 in
     record { fss = d.0; limits = d.1; procs = c.1; objects = b.1 }
-
--- what lines need is what the journal may cost
-pub need_fits : (lines : List Line) → is_valid (config_of lines) ≡ true → need lines ≤ 870400000
-unfolding is_valid config_of
-need_fits lines h = leb-true (need lines) 870400000 (both _ _ h).1
 
 pub valid_by : (lines : List Line) → Parts lines → need lines ≤ 870400000 → is_valid (config_of lines) ≡ true
 unfolding is_valid config_of

@@ -8,7 +8,7 @@ use Rattle.ix_script.specs.texts.Lines.{with_front}
 use Rattle.ix_script.specs.texts.Words.{between_slashes}
 use Rattle.std.proofs.lemmas.Bool.{eq-eqb, ne_eqb}
 use Rattle.std.proofs.lemmas.List.{drop_all}
-use Rattle.ix_script.specs.texts.Cutting.{pieces, parts_words, after_byte, closes, is_closed, is_empty}
+use Rattle.ix_script.specs.texts.Cutting.{begins, pieces, parts_words, after_byte, closes, is_closed, is_empty}
 use Rattle.ix_script.specs.declared.cutting.spot.Spot.{Spot}
 use Rattle.ix_script.specs.declared.cutting.spot.Spot.TheVariants as spot
 
@@ -69,6 +69,12 @@ cut_at_gap at (b ∷ text) =
       | true ↦ refl
       | false ↦ ap (with_front b) (cut_at_gap (after_byte at b) text) ∙ later b text (gap_from (after_byte at b) text)
     ]
+
+-- where no quote begins a text its first word is plain
+pub plain_front : (text : List ℕ) → begins 34 text ≡ false → pieces spot.Front text ≡ pieces spot.Plain text
+unfolding pieces
+plain_front [] h = refl
+plain_front (b ∷ text) h = rw h refl
 
 -- ---- walks along a text
 pub gap_found : (all : Option ℕ) (at : Spot) (text : List ℕ) (i : ℕ) → i < length text → parts_words at (get_or text i 0) ≡ true → all ≡ option_map (λ k. i + k) (gap_from at (drop i text)) → all ≡ Some i

@@ -1,7 +1,7 @@
 -- What the reader keeps of the lines before.
-use Rattle.std.specs.Prelude.{◌≡◌, ℕ, ◌+◌, ◌^◌, ◌<◌, ◌≤◌, ◌==◌, ◌&&◌, nat_lt, Bool, List, [], ◌∷◌, ◌++◌, length, map, slice_index, if◌then◌else◌}
+use Rattle.std.specs.Prelude.{◌≡◌, ℕ, ◌+◌, ◌^◌, ◌<◌, ◌≤◌, ◌==◌, nat_lt, List, [], ◌∷◌, ◌++◌, length, slice_index, if◌then◌else◌}
 use Rattle.std.specs.List.{list_any}
-use Rattle.ix_model.specs.world.Naming.{same_names}
+use Rattle.std.proofs.Common.{option_map}
 use Rattle.ix_model.specs.rows.Telling.{blocks_for}
 use Rattle.ix_model.specs.opening.Valid.{fs_of, lying_on, blocks_taken}
 use Rattle.ix_model.specs.declared.config.FsSpec.{FsSpec}
@@ -12,18 +12,9 @@ use Rattle.ix_script.specs.declared.before.body.Body.{Body}
 use Rattle.ix_script.specs.declared.before.draft.Draft.{Draft}
 use Rattle.ix_script.specs.declared.before.header.Header.{Header}
 use Rattle.ix_script.specs.declared.before.taken.Taken.{Taken}
-use Rattle.ix_script.specs.declared.before.tree.Made.{Made}
-
--- what is kept of an object
-abbrev pub made_of : ObjSpec → Made
-made_of o = record { path = o.path; dir = o.dir }
-
--- something, and a directory, was made under the names
-abbrev pub made_there : List Made → List (List ℕ) → Bool
-made_there made names = list_any (λ m. same_names m.path.names names) made
-
-abbrev pub made_dir_there : List Made → List (List ℕ) → Bool
-made_dir_there made names = list_any (λ m. m.dir && same_names m.path.names names) made
+use Rattle.ix_script.specs.declared.before.names.Names.{Names}
+use Rattle.ix_script.specs.declared.before.tree.Tree.{Tree}
+use Rattle.ix_script.specs.reader.Indexed.{AreIndexed, AreNames, AreSites}
 
 -- file systems, limits, processes, objects with what they take, and the policy
 pub record HeaderTold (h : Header) (lines : List Line) : Type 0 where
@@ -32,8 +23,10 @@ pub record HeaderTold (h : Header) (lines : List Line) : Type 0 where
   pub few : length h.fss ≤ 16
   pub limits : h.limits ≡ limits_of lines
   pub whats : h.whats ≡ whats_told lines
-  pub procs : h.procs ≡ proc_names lines
-  pub made : h.made ≡ map made_of (objects_of lines)
+  pub procs : AreNames h.procs.index (proc_names lines)
+  pub proc_count : h.procs.count ≡ length (proc_names lines)
+  pub made : AreSites h.made.index (objects_of lines)
+  pub objects : h.made.count ≡ length (objects_of lines)
   pub counts : (k : ℕ) → k < 16 → slice_index h.taken.counts k ≡ length (lying_on (fss_of lines) k (objects_of lines))
   pub blocks : (k : ℕ) → k < 16 → slice_index h.taken.blocks k ≡ blocks_taken (fss_of lines) k (objects_of lines)
   pub latest : (g : ℕ) → list_any (λ b. nat_lt g (group b)) lines ≡ nat_lt g h.latest
@@ -42,11 +35,11 @@ pub record HeaderTold (h : Header) (lines : List Line) : Type 0 where
 -- phases, lanes and commands
 pub record BodyTold (b : Body) (lines : List Line) : Type 0 where
   pub started : b.started ≡ in_body lines
-  pub lane : b.lane ≡ lane_now lines
+  pub lane : option_map (λ s. s.now) b.lane ≡ lane_now lines
   pub phase_lanes : b.phase_lanes ≡ phase_lanes lines
   pub lanes : b.lanes ≡ lanes_of lines
-  pub fds : b.fds ≡ fds_given lines
-  pub procs : b.procs ≡ procs_given lines
+  pub fds : AreIndexed b.fds.index (fds_given lines)
+  pub procs : AreIndexed b.procs.index (procs_given lines)
   pub commands : b.commands ≡ commands lines
 
 -- ---- changes
@@ -59,6 +52,16 @@ pub record TakenOne (fss : List FsSpec) (names : List (List ℕ)) (len : ℕ) (o
 abbrev pub Takes : List FsSpec → List ObjSpec → Taken → Taken → Type 0
 Takes fss [] old new = new ≡ old
 Takes fss (o ∷ os) old new = TakenOne fss o.path.names (length o.bytes) old new
+
+-- objects more, in the index and in their number
+pub record MakesMore (more : List ObjSpec) (old new : Tree) : Type 0 where
+  pub sites : (objects : List ObjSpec) → AreSites old.index objects → AreSites new.index (objects ++ more)
+  pub count : new.count ≡ old.count + length more
+
+-- names more, in the index and in their number
+pub record NamesMore (more : List (List ℕ)) (old new : Names) : Type 0 where
+  pub names : (names : List (List ℕ)) → AreNames old.index names → AreNames new.index (names ++ more)
+  pub count : new.count ≡ old.count + length more
 
 -- a file system more in place of the one that is there where none is told
 abbrev pub fss_after : ℕ → List FsSpec → List FsSpec → List FsSpec

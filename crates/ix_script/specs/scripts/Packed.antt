@@ -1,13 +1,16 @@
 -- Lines that are held as their texts.
-use Rattle.std.specs.Prelude.{◌≡◌, ℕ, zero, suc, ◌-◌, ◌≤◌, List, [], ◌∷◌, length, take, drop, Some, None, unwrap_or}
+use Rattle.std.specs.Prelude.{◌≡◌, ℕ, zero, suc, ◌-◌, ◌≤◌, List, [], ◌∷◌, length, take, drop, map, Some, None, unwrap_or}
 use Rattle.ix_script.specs.texts.Cutting.{word_at}
 use Rattle.ix_script.specs.lines.Kinds.{places_fault}
 use Rattle.ix_script.specs.lines.Forms.{form_of, places}
 use Rattle.ix_script.specs.lines.Said.{line_of}
 use Rattle.ix_script.specs.lines.Faults.{line_fault}
+use Rattle.ix_script.specs.lines.Roles.{role_of}
+use Rattle.ix_script.specs.scripts.Need.{need}
 use Rattle.ix_script.specs.declared.cutting.form.Form.{Form}
 use Rattle.ix_script.specs.declared.line.Line.{Line}
 use Rattle.ix_script.specs.declared.line.Line.TheVariants as line
+use Rattle.ix_script.specs.declared.role.Role.{Role}
 
 -- what a text says
 abbrev pub line_in : List ℕ → Line
@@ -44,3 +47,8 @@ begin_at from (end ∷ ends) (suc i) = begin_at end ends i
 abbrev pub AreLines : ℕ → List ℕ → List ℕ → Type 0
 AreLines from text [] = from ≡ length text
 AreLines from text (end ∷ ends) = (from ≤ end) × (end ≤ length text) × IsLine (between from end text) × AreLines end text ends
+
+-- beside the lines stand their roles, and what they cost together
+pub record AreSummed (lines : List Line) (roles : List Role) (cost : ℕ) : Type 0 where
+  pub by_role : roles ≡ map role_of lines
+  pub total : cost ≡ need lines

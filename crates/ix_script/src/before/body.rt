@@ -1,29 +1,32 @@
-ghost use Rattle.std.specs.Prelude.{◌≡◌, ◌++◌, ◌∷◌, ◌+◌, ◌<◌, ◌^◌, ◌||◌, [], List, OnOk, if◌then◌else◌};
+ghost use Rattle.std.specs.Prelude.{◌≡◌, ◌++◌, ◌∷◌, ◌+◌, ◌<◌, ◌^◌, ◌||◌, [], List, ℕ, OnOk, if◌then◌else◌};
 ghost use Rattle.ix_script.specs.lines.Before.{is_phase, is_command, lane_after, phase_lanes_after, lanes_after, in_lane, new_fds, new_procs, is_known};
+ghost use Rattle.std.proofs.Common.{option_map};
+ghost use Rattle.ix_script.specs.reader.Indexed.{AreIndexed};
 ghost use Rattle.ix_script.specs.reader.Told.{BodyTold};
 ghost use Rattle.ix_script.specs.declared.line.Line.{Line};
 
 use crate::before::given::Given;
 use crate::before::known::is_known;
+use crate::cutting::words::NameWord;
 use crate::line::Line;
 use ix_model::{List, Name, NoMemory};
 use std::alloc::Global;
 
 /// What the lines so far tell of phases and lanes.
 #[derive(Drop)]
-pub(crate) struct Body {
+pub(crate) struct Body<'a> {
     /// Whether a phase has begun.
     pub started: bool,
     /// The lane in which the next line stands.
-    pub lane: Option<Name>,
+    pub lane: Option<&'a [u8]>,
     /// The lanes of the phase so far.
     pub phase_lanes: List<Name>,
     /// The lanes of the script, in the order in which they first appear.
     pub lanes: List<Name>,
     /// The names of descriptors that stand after `as`.
-    pub fds: Given,
+    pub fds: Given<'a>,
     /// The names of processes that stand after `as`.
-    pub procs: Given,
+    pub procs: Given<'a>,
     pub commands: u32,
 }
 
@@ -65,13 +68,13 @@ fn commands_after(commands: u32, line: &Line<'_>) -> u32
     }
 }
 
-fn lane_after(lane: &Option<Name>, line: &Line<'_>) -> Option<Name>
-    ensures { result ≡ lane_after lane.now line.now }
+fn lane_after<'a>(lane: Option<&'a [u8]>, line: &Line<'a>) -> Option<&'a [u8]>
+    ensures { option_map (λ s. s.now) result ≡ lane_after (option_map (λ s. s.now) lane.entry) line.now }
 {
     match line {
         Line::Phase => None,
-        Line::Lane { name } => Some(*name),
-        _ => *lane,
+        Line::Lane { name } => Some(name.as_bytes()),
+        _ => lane,
     }
 }
 
@@ -83,18 +86,18 @@ fn add_phase_lane(alloc: Global, lanes: &mut List<Name>, line: &Line<'_>) -> Res
             *lanes = List::new(alloc);
             Ok(())
         }
-        Line::Lane { name } => lanes.push(*name),
+        Line::Lane { name } => lanes.push(name.name()),
         _ => Ok(()),
     }
 }
 
-fn add_name(lanes: &mut List<Name>, name: &Name) -> Result<(), NoMemory>
+fn add_name(lanes: &mut List<Name>, name: &NameWord<'_>) -> Result<(), NoMemory>
     ensures { OnOk result (lanes.new ≡ (if is_known name.now lanes.old then lanes.old else lanes.old ++ name.now ∷ [])) }
 {
     if is_known(name.as_bytes(), lanes.as_slice()) {
         Ok(())
     } else {
-        lanes.push(*name)
+        lanes.push(name.name())
     }
 }
 
@@ -107,8 +110,8 @@ fn add_lane(lanes: &mut List<Name>, line: &Line<'_>) -> Result<(), NoMemory>
     }
 }
 
-fn add_fds(fds: &mut Given, lane: &Option<Name>, line: &Line<'_>) -> Result<(), NoMemory>
-    ensures { OnOk result (fds.new ≡ fds.old ++ in_lane lane.now (new_fds line.now)) }
+fn add_fds<'a>(fds: &mut Given<'a>, lane: Option<&'a [u8]>, line: &Line<'a>) -> Result<(), NoMemory>
+    ensures { OnOk result ((items : List (List ℕ × List ℕ)) → AreIndexed fds.old.index items → AreIndexed fds.new.index (items ++ in_lane (option_map (λ s. s.now) lane.entry) (new_fds line.now))) }
 {
     match line {
         Line::Open { named, .. } => fds.add_any(lane, named),
@@ -118,8 +121,12 @@ fn add_fds(fds: &mut Given, lane: &Option<Name>, line: &Line<'_>) -> Result<(), 
     }
 }
 
-fn add_procs(procs: &mut Given, lane: &Option<Name>, line: &Line<'_>) -> Result<(), NoMemory>
-    ensures { OnOk result (procs.new ≡ procs.old ++ in_lane lane.now (new_procs line.now)) }
+fn add_procs<'a>(
+    procs: &mut Given<'a>,
+    lane: Option<&'a [u8]>,
+    line: &Line<'a>,
+) -> Result<(), NoMemory>
+    ensures { OnOk result ((items : List (List ℕ × List ℕ)) → AreIndexed procs.old.index items → AreIndexed procs.new.index (items ++ in_lane (option_map (λ s. s.now) lane.entry) (new_procs line.now))) }
 {
     match line {
         Line::Fork { named, .. } => procs.add_any(lane, named),
@@ -128,9 +135,9 @@ fn add_procs(procs: &mut Given, lane: &Option<Name>, line: &Line<'_>) -> Result<
     }
 }
 
-impl Body {
+impl<'a> Body<'a> {
     #[tactic(auto, unfolding(crate::specs::lines::Before::in_body, crate::specs::lines::Before::lane_now, crate::specs::lines::Before::phase_lanes, crate::specs::lines::Before::lanes_of, crate::specs::lines::Before::fds_given, crate::specs::lines::Before::procs_given, crate::specs::lines::Before::commands))]
-    pub fn new(alloc: Global) -> Body
+    pub fn new(alloc: Global) -> Body<'a>
         ensures { BodyTold result [] }
     {
         Body {
@@ -146,22 +153,22 @@ impl Body {
 
     /// The lanes.
     pub fn into_lanes(self) -> List<Name>
-        ensures { result ≡ self.lanes }
+        ensures { result ≡ self.entry.lanes }
     {
         self.lanes
     }
 
     /// One line more. After an error the body isn't used.
-    pub fn add(&mut self, alloc: Global, line: &Line<'_>) -> Result<(), NoMemory>
+    pub fn add(&mut self, alloc: Global, line: &Line<'a>) -> Result<(), NoMemory>
         requires { self.old.commands + 1 < 2 ^ 32 }
         ensures { OnOk result ((lines : List Line) → BodyTold self.old lines → BodyTold self.new (lines ++ line.now ∷ [])) }
     {
-        add_fds(&mut self.fds, &self.lane, line)?;
-        add_procs(&mut self.procs, &self.lane, line)?;
+        add_fds(&mut self.fds, self.lane, line)?;
+        add_procs(&mut self.procs, self.lane, line)?;
         add_phase_lane(alloc, &mut self.phase_lanes, line)?;
         add_lane(&mut self.lanes, line)?;
         self.started = started_after(self.started, line);
-        self.lane = lane_after(&self.lane, line);
+        self.lane = lane_after(self.lane, line);
         self.commands = commands_after(self.commands, line);
         Ok(())
     }

@@ -3,13 +3,12 @@ ghost use Rattle.std.specs.Cmp.{on_equiv, on_per, on_po, on_total, partial_equiv
 ghost use Rattle.std.specs.Cmp.Lexicographic.{nat_list_cmp_total, nat_list_eq_equiv, pointwise, slice_cmp, texts_po, texts_ties};
 ghost use Rattle.std.specs.Ordering.{nat_cmp};
 
-use ix_model::Name;
 use std::cmp::Ordering;
 
-/// A name in the order of its bytes.
+/// A name of a script in the order of its bytes.
 #[derive(Clone, Copy)]
-pub(crate) struct ByBytes {
-    pub name: Name,
+pub(crate) struct ByBytes<'a> {
+    pub name: &'a [u8],
 }
 
 /// The order of bytes.
@@ -19,40 +18,40 @@ pub(crate) fn order<'x>(a: &'x [u8], b: &'x [u8]) -> Ordering
     Ord::cmp(&a, &b)
 }
 
-impl PartialEq for ByBytes {
-    ghost eq = { λ a b. pointwise nat_eq a.name b.name };
+impl<'a> PartialEq for ByBytes<'a> {
+    ghost eq = { λ a b. pointwise nat_eq a.name.now b.name.now };
 
-    ghost laws = { on_per (λ s. s.name) (partial_equiv_from_equiv nat_list_eq_equiv) };
+    ghost laws = { on_per (λ s. s.name.now) (partial_equiv_from_equiv nat_list_eq_equiv) };
 
-    fn eq(&self, other: &ByBytes) -> bool {
-        self.name.same(&other.name)
+    fn eq(&self, other: &ByBytes<'a>) -> bool {
+        self.name == other.name
     }
 }
 
-impl Eq for ByBytes {
-    ghost laws = { on_equiv (λ s. s.name) nat_list_eq_equiv };
+impl<'a> Eq for ByBytes<'a> {
+    ghost laws = { on_equiv (λ s. s.name.now) nat_list_eq_equiv };
 }
 
-impl PartialOrd for ByBytes {
-    ghost partial_cmp = { λ a b. Some (slice_cmp nat_cmp a.name b.name) };
+impl<'a> PartialOrd for ByBytes<'a> {
+    ghost partial_cmp = { λ a b. Some (slice_cmp nat_cmp a.name.now b.name.now) };
 
-    ghost laws = { on_po (λ s. s.name) texts_po };
+    ghost laws = { on_po (λ s. s.name.now) texts_po };
 
-    fn partial_cmp(&self, other: &ByBytes) -> Option<Ordering> {
+    fn partial_cmp(&self, other: &ByBytes<'a>) -> Option<Ordering> {
         Some(self.cmp(other))
     }
 }
 
-impl Ord for ByBytes {
-    ghost cmp = { λ a b. slice_cmp nat_cmp a.name b.name };
+impl<'a> Ord for ByBytes<'a> {
+    ghost cmp = { λ a b. slice_cmp nat_cmp a.name.now b.name.now };
 
-    ghost total = { on_total (λ s. s.name) nat_list_cmp_total };
+    ghost total = { on_total (λ s. s.name.now) nat_list_cmp_total };
 
     ghost matches_partial_cmp = { λ a b. refl };
 
-    ghost matches_eq = { λ a b. texts_ties a.name b.name };
+    ghost matches_eq = { λ a b. texts_ties a.name.now b.name.now };
 
-    fn cmp(&self, other: &ByBytes) -> Ordering {
-        order(self.name.as_bytes(), other.name.as_bytes())
+    fn cmp(&self, other: &ByBytes<'a>) -> Ordering {
+        order(self.name, other.name)
     }
 }

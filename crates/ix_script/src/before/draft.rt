@@ -15,15 +15,15 @@ use std::alloc::Global;
 
 /// The lines so far, and what they tell.
 #[derive(Drop)]
-pub(crate) struct Draft {
+pub(crate) struct Draft<'a> {
     pub lines: Lines,
-    pub header: Header,
-    pub body: Body,
+    pub header: Header<'a>,
+    pub body: Body<'a>,
 }
 
-impl Draft {
+impl<'a> Draft<'a> {
     /// Before any line, with room for those of an input.
-    pub fn new(alloc: Global, bytes: &[u8]) -> Result<Draft, NoMemory>
+    pub fn new(alloc: Global, bytes: &[u8]) -> Result<Draft<'a>, NoMemory>
         ensures told { IfOk result (λ d. DraftTold d) }
         ensures none { IfOk result (λ d. d.lines ≡ []) }
     {
@@ -35,7 +35,7 @@ impl Draft {
     }
 
     /// One line more, which the text says. After an error the draft isn't used.
-    pub fn add(&mut self, alloc: Global, text: &[u8], line: &Line<'_>) -> Result<(), NoMemory>
+    pub fn add(&mut self, alloc: Global, text: &[u8], line: &Line<'a>) -> Result<(), NoMemory>
         requires told { DraftTold self.old }
         requires valid { is_valid (config_of self.old.lines) ≡ true }
         requires right { LineRight self.old.lines line.now (line_fault self.old.lines text.now) (line_of text.now) }
@@ -45,7 +45,7 @@ impl Draft {
     {
         self.header.add(alloc, line)?;
         self.body.add(alloc, line)?;
-        self.lines.push(text)?;
+        self.lines.push(text, line)?;
         Ok(())
     }
 }

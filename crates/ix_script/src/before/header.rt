@@ -1,25 +1,24 @@
-ghost use Rattle.std.specs.Prelude.{◌≡◌, ◌++◌, ◌∷◌, ◌+◌, ◌<◌, ◌≤◌, ◌||◌, ◌&&◌, not, [], ◌==◌, true, None, List, length, map, max, false, OnOk, OnErr, IfOk, nat_le, nat_lt, if◌then◌else◌, codes};
+ghost use Rattle.std.specs.Prelude.{◌≡◌, ◌++◌, ◌∷◌, ◌+◌, ◌<◌, ◌≤◌, ◌^◌, ◌||◌, ◌&&◌, not, [], ◌==◌, true, None, List, length, map, max, false, OnOk, OnErr, IfOk, nat_le, nat_lt, if◌then◌else◌, codes};
 ghost use Rattle.ix_label.specs.Category.{leq};
 ghost use Rattle.ix_script.specs.lines.Before.{fs_told, or_default, default_fs, default_limits, limits_after, with_limit, what_told, what_text, proc_name_told, object_told, is_policy, group, is_known};
-ghost use Rattle.ix_script.specs.reader.Told.{made_of, HeaderTold, TakenOne, Takes, fss_after};
+ghost use Rattle.ix_script.specs.reader.Told.{HeaderTold, MakesMore, NamesMore, TakenOne, Takes, fss_after};
 ghost use Rattle.ix_model.specs.opening.Valid.{is_valid};
 ghost use Rattle.ix_script.specs.lines.Faults.{said_fault};
 ghost use Rattle.ix_script.specs.scripts.Scripts.{config_of};
 ghost use Rattle.ix_script.specs.declared.line.Line.{Line};
 
-use crate::before::fss::{blocks_for, fs_of};
 use crate::before::names::Names;
 use crate::before::taken::Taken;
-use crate::before::tree::{Made, Tree};
+use crate::before::tree::{Tree, names_of};
 use crate::cutting::words::is;
 use crate::line::{Line, What};
 use ix_label::Label;
-use ix_model::{FsSpec, Limits, List, Name, NoMemory, Path};
+use ix_model::{FsSpec, Limits, List, Name, NoMemory, Path, blocks_for, fs_of};
 use std::alloc::Global;
 
 /// What the lines so far tell of the machine.
 #[derive(Drop)]
-pub(crate) struct Header {
+pub(crate) struct Header<'a> {
     /// How many lines told a file system.
     pub told: usize,
     /// These, or the one that is there where none is told.
@@ -28,9 +27,9 @@ pub(crate) struct Header {
     /// What lines limited.
     pub whats: List<What>,
     /// The names of processes.
-    pub procs: Names,
+    pub procs: Names<'a>,
     /// The directories and files.
-    pub made: Tree,
+    pub made: Tree<'a>,
     pub taken: Taken,
     /// The last of the groups of lines so far.
     pub latest: u8,
@@ -96,27 +95,23 @@ fn add_what(whats: &mut List<What>, line: &Line<'_>) -> Result<(), NoMemory>
     }
 }
 
-fn add_proc(procs: &mut Names, line: &Line<'_>) -> Result<(), NoMemory>
-    ensures { OnOk result (procs.new ≡ procs.old ++ proc_name_told line.now) }
+fn add_proc<'a>(procs: &mut Names<'a>, line: &Line<'a>) -> Result<(), NoMemory>
+    requires { procs.old.count + 1 < 2 ^ 64 }
+    ensures { OnOk result (NamesMore (proc_name_told line.now) procs.old procs.new) }
 {
     match line {
-        Line::Proc { name, .. } => procs.push(*name),
+        Line::Proc { name, .. } => procs.push(name.as_bytes()),
         _ => Ok(()),
     }
 }
 
-fn add_made(made: &mut Tree, line: &Line<'_>) -> Result<(), NoMemory>
-    ensures { OnOk result (made.new ≡ made.old ++ map made_of (object_told line.now)) }
+fn add_made<'a>(made: &mut Tree<'a>, line: &Line<'a>) -> Result<(), NoMemory>
+    requires { made.old.count + 1 < 2 ^ 64 }
+    ensures { OnOk result (MakesMore (object_told line.now) made.old made.new) }
 {
     match line {
-        Line::Dir { path, .. } => made.push(Made {
-            path: path.path(),
-            dir: true,
-        }),
-        Line::File { path, .. } => made.push(Made {
-            path: path.path(),
-            dir: false,
-        }),
+        Line::Dir { path, .. } => made.push(names_of(path), true),
+        Line::File { path, .. } => made.push(names_of(path), false),
         _ => Ok(()),
     }
 }
@@ -185,7 +180,7 @@ fn add_fs(
             told,
             fss,
             FsSpec {
-                name: *name,
+                name: name.name(),
                 ceiling: *ceiling,
                 blocks: *blocks,
                 inodes: *inodes,
@@ -226,10 +221,10 @@ fn take(taken: &mut Taken, fss: &[FsSpec], line: &Line<'_>)
     }
 }
 
-impl Header {
+impl<'a> Header<'a> {
     /// Before any line.
     #[tactic(auto, unfolding(crate::specs::lines::Before::fss_told, crate::specs::lines::Before::limits_of, crate::specs::lines::Before::whats_told, crate::specs::lines::Before::proc_names, crate::specs::lines::Before::objects_of, crate::specs::lines::Before::has_policy))]
-    pub fn new(alloc: Global) -> Result<Header, NoMemory>
+    pub fn new(alloc: Global) -> Result<Header<'a>, NoMemory>
         ensures { IfOk result (λ h. HeaderTold h []) }
     {
         let mut fss = List::new(alloc);
@@ -248,10 +243,12 @@ impl Header {
     }
 
     /// One line more. After an error the header isn't used.
-    pub fn add(&mut self, alloc: Global, line: &Line<'_>) -> Result<(), NoMemory>
+    pub fn add(&mut self, alloc: Global, line: &Line<'a>) -> Result<(), NoMemory>
         requires told { self.old.told ≤ 16 }
         requires some { 0 < length self.old.fss }
         requires few { length self.old.fss ≤ 16 }
+        requires objects { self.old.made.count + 1 < 2 ^ 64 }
+        requires procs { self.old.procs.count + 1 < 2 ^ 64 }
         ensures { OnOk result ((lines : List Line) → HeaderTold self.old lines → is_valid (config_of lines) ≡ true → said_fault lines line.now ≡ None → HeaderTold self.new (lines ++ line.now ∷ [])) }
     {
         take(&mut self.taken, self.fss.as_slice(), line);

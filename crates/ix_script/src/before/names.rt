@@ -1,69 +1,48 @@
-ghost use Rattle.std.specs.Prelude.{◌≡◌, ◌++◌, ◌∷◌, [], OnOk, length};
+ghost use Rattle.std.specs.Prelude.{◌≡◌, ◌++◌, ◌∷◌, ◌+◌, ◌<◌, ◌^◌, [], List, ℕ, OnOk};
 ghost use Rattle.ix_script.specs.lines.Before.{is_known};
+ghost use Rattle.ix_script.specs.reader.Indexed.{AreNames};
 
 use crate::before::by_bytes::ByBytes;
-use crate::before::known::is_known;
-use ix_model::{Name, NoMemory};
+use ix_model::NoMemory;
 use std::alloc::Global;
 use std::collections::BTreeSet;
-use std::marker::Model;
 
-/// Names that lines tell. The index finds a name by its bytes.
+/// Names that lines tell: an index of the list of them, and how many they are.
 #[derive(Drop)]
-pub(crate) struct Names {
-    items: Vec<Name>,
-    index: BTreeSet<ByBytes>,
+pub(crate) struct Names<'a> {
+    pub index: BTreeSet<ByBytes<'a>>,
+    pub count: usize,
 }
 
-impl Model for Names {
-    ghost use Rattle.std.specs.Prelude.{List, ℕ};
-    ghost use Rattle.ix_script.specs.reader.Indexed.{AreNames};
-
-    ghost Value = { List (List ℕ) };
-
-    ghost view = { λ g. g.items.items };
-
-    ghost invariant = { λ g. AreNames g.index g.items.items };
-}
-
-impl Names {
-    pub fn new(alloc: Global) -> Names
-        ensures { result ≡ [] }
+impl<'a> Names<'a> {
+    /// No names.
+    pub fn new(alloc: Global) -> Names<'a>
+        ensures names { AreNames result.index [] }
+        ensures none { result.count ≡ 0 }
     {
         Names {
-            items: Vec::new(alloc),
             index: BTreeSet::new(alloc),
+            count: 0,
         }
     }
 
-    /// Whether the word is one of the names. Only a word that is no name is compared to each, and the first such ends a script.
-    pub fn has(&self, word: &[u8]) -> bool
-        ensures { result ≡ is_known word.now self.now }
+    /// Whether the word is one of the names.
+    pub fn has(&self, word: &'a [u8]) -> bool
+        ensures { (names : List (List ℕ)) → AreNames self.now.index names → result ≡ is_known word.now names }
     {
-        match Name::read(word) {
-            Some(name) => self.index.contains(&ByBytes { name }),
-            None => is_known(word, self.items.as_slice()),
-        }
+        self.index.contains(&ByBytes { name: word })
     }
 
-    /// How many names there are.
-    pub fn len(&self) -> usize
-        ensures { result ≡ length self.now }
+    /// One name more. After an error the names aren't used.
+    pub fn push(&mut self, name: &'a [u8]) -> Result<(), NoMemory>
+        requires { self.old.count + 1 < 2 ^ 64 }
+        ensures names { OnOk result ((names : List (List ℕ)) → AreNames self.old.index names → AreNames self.new.index (names ++ name.now ∷ [])) }
+        ensures count { OnOk result (self.new.count ≡ self.old.count + 1) }
     {
-        self.items.len()
-    }
-
-    /// One name more. After `NoMemory` the names are as they were.
-    pub fn push(&mut self, name: Name) -> Result<(), NoMemory>
-        ensures { OnOk result (self.new ≡ self.old ++ name ∷ []) }
-    {
-        let Ok(()) = self.items.push(name) else {
-            return Err(NoMemory);
-        };
         let Ok(_) = self.index.insert(ByBytes { name }) else {
-            self.items.pop();
             return Err(NoMemory);
         };
+        self.count += 1;
         Ok(())
     }
 }

@@ -12,20 +12,8 @@ use crate::cutting::cut::Words;
 use crate::cutting::form::Form;
 use crate::cutting::words::{begins_with_digit, is};
 use crate::line::What;
+use crate::text::what_word;
 use ix_model::FsSpec;
-
-/// The spelling of a WHAT.
-fn what_text(what: What) -> &'static [u8]
-    ensures { result.now ≡ what_text what }
-{
-    match what {
-        What::Procs => b"procs",
-        What::Opens => b"opens",
-        What::Pipes => b"pipes",
-        What::Names => b"names",
-        What::Log => b"log",
-    }
-}
 
 fn is_named(word: &[u8], fss: &[FsSpec]) -> bool
     ensures { result ≡ list_any (λ s. same_bytes word.now s.name) fss.now }
@@ -36,11 +24,11 @@ fn is_named(word: &[u8], fss: &[FsSpec]) -> bool
 fn is_limited(word: &[u8], whats: &[What]) -> bool
     ensures { result ≡ list_any (λ w. same_bytes word.now (what_text w)) whats.now }
 {
-    whats.iter().any(|what| is(word, what_text(*what)))
+    whats.iter().any(|what| is(word, what_word(*what)))
 }
 
 /// Rules 8, 9, 20 and 21: where a line stands, and its names.
-impl Draft {
+impl<'a> Draft<'a> {
     /// Whether a header line stands after a phase.
     pub fn is_late(&self, form: Form) -> bool
         requires told { DraftTold self.now }
@@ -60,28 +48,28 @@ impl Draft {
         }
     }
 
-    fn tells_fs(&self, word: &[u8]) -> bool
+    fn tells_fs(&self, word: &'a [u8]) -> bool
         requires told { DraftTold self.now }
         ensures { result ≡ is_known word.now (map (λ s. s.name) (fss_told self.now.lines)) }
     {
         self.header.told > 0 && is_named(word, self.header.fss.as_slice())
     }
 
-    fn limits(&self, word: &[u8]) -> bool
+    fn limits(&self, word: &'a [u8]) -> bool
         requires told { DraftTold self.now }
         ensures { result ≡ is_known word.now (map what_text (whats_told self.now.lines)) }
     {
         is_limited(word, self.header.whats.as_slice())
     }
 
-    fn tells_proc(&self, word: &[u8]) -> bool
+    fn tells_proc(&self, word: &'a [u8]) -> bool
         requires told { DraftTold self.now }
         ensures { result ≡ is_known word.now (proc_names self.now.lines) }
     {
         self.header.procs.has(word)
     }
 
-    fn opens_lane(&self, word: &[u8]) -> bool
+    fn opens_lane(&self, word: &'a [u8]) -> bool
         requires told { DraftTold self.now }
         ensures { result ≡ is_known word.now (phase_lanes self.now.lines) }
     {
@@ -89,7 +77,7 @@ impl Draft {
     }
 
     /// Whether a name is given twice.
-    pub fn gives_twice(&self, form: Form, words: &Words<'_>) -> bool
+    pub fn gives_twice(&self, form: Form, words: &Words<'a>) -> bool
         requires told { DraftTold self.now }
         ensures { result ≡ is_given_twice self.now.lines form words.now }
     {
@@ -105,21 +93,21 @@ impl Draft {
         }
     }
 
-    fn lacks_proc(&self, word: &[u8]) -> bool
+    fn lacks_proc(&self, word: &'a [u8]) -> bool
         requires told { DraftTold self.now }
         ensures { result ≡ is_unknown self.now.lines (kind.Proc, word.now) }
     {
-        !self.tells_proc(word) && !self.body.procs.has(&self.body.lane, word)
+        !self.tells_proc(word) && !self.body.procs.has(self.body.lane, word)
     }
 
-    fn lacks_fd(&self, word: &[u8]) -> bool
+    fn lacks_fd(&self, word: &'a [u8]) -> bool
         requires told { DraftTold self.now }
         ensures { result ≡ is_unknown self.now.lines (kind.Fd, word.now) }
     {
-        !begins_with_digit(word) && !self.body.fds.has(&self.body.lane, word)
+        !begins_with_digit(word) && !self.body.fds.has(self.body.lane, word)
     }
 
-    fn lacks_kept(&self, word: &[u8]) -> bool
+    fn lacks_kept(&self, word: &'a [u8]) -> bool
         requires told { DraftTold self.now }
         ensures { result ≡ is_unknown self.now.lines (kind.Keep, word.now) }
     {
@@ -127,7 +115,7 @@ impl Draft {
     }
 
     /// Whether a process or a descriptor is unknown.
-    pub fn is_unknown(&self, form: Form, words: &Words<'_>) -> bool
+    pub fn is_unknown(&self, form: Form, words: &Words<'a>) -> bool
         requires told { DraftTold self.now }
         ensures { result ≡ names_unknown self.now.lines form words.now }
     {

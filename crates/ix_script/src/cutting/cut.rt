@@ -34,8 +34,21 @@ impl<'a> Model for Words<'a> {
     ghost invariant = { λ w. AreWords (words_of w.text.now) (map (λ s. s.now) w.first.items) w.count w.has_empty w.has_open };
 }
 
-/// The place of the space that ends the first word.
-fn end_of_word(text: &[u8]) -> Option<usize>
+/// The place of the space that ends the first word, where no quotes begin it.
+fn end_of_plain(text: &[u8]) -> Option<usize>
+    ensures pieces { pieces spot.Plain text.now ≡ option_map_or (λ k. take k text.now ∷ pieces spot.Front (drop (k + 1) text.now)) result (text.now ∷ []) }
+    ensures within { IfSome result (λ k. k + 1 ≤ length text.now) }
+{
+    'bytes: for (i, b) in text.iter().enumerate() {
+        if *b == b' ' {
+            return Some(i);
+        }
+    }
+    None
+}
+
+/// The place of the space that ends the first word, where quotes may begin it.
+fn end_of_quoted(text: &[u8]) -> Option<usize>
     ensures pieces { pieces spot.Front text.now ≡ option_map_or (λ k. take k text.now ∷ pieces spot.Front (drop (k + 1) text.now)) result (text.now ∷ []) }
     ensures within { IfSome result (λ k. k + 1 ≤ length text.now) }
 {
@@ -47,6 +60,18 @@ fn end_of_word(text: &[u8]) -> Option<usize>
         at = at.after(*b);
     }
     None
+}
+
+/// The place of the space that ends the first word.
+fn end_of_word(text: &[u8]) -> Option<usize>
+    ensures pieces { pieces spot.Front text.now ≡ option_map_or (λ k. take k text.now ∷ pieces spot.Front (drop (k + 1) text.now)) result (text.now ∷ []) }
+    ensures within { IfSome result (λ k. k + 1 ≤ length text.now) }
+{
+    if begins(b'"', text) {
+        end_of_quoted(text)
+    } else {
+        end_of_plain(text)
+    }
 }
 
 /// The first word, and what stands after the space that ends it.

@@ -9,12 +9,23 @@ ghost use Rattle.ix_script.specs.texts.Words.{is_letter, is_digit, begins_with, 
 
 use crate::rule::Rule;
 use ix_model::Name;
+use std::marker::Model;
 
-/// Whether the two are the same bytes.
+/// Whether the two are the same bytes. It is inlined, so that a text that is known costs a comparison or two where the word is
+/// another.
+#[inline(always)]
 pub(crate) fn is(word: &[u8], text: &[u8]) -> bool
     ensures { result ≡ same_bytes word.now text.now }
 {
-    word == text
+    if word.len() != text.len() {
+        return false;
+    }
+    'bytes: for i in 0..text.len() {
+        if word[i] != text[i] {
+            return false;
+        }
+    }
+    true
 }
 
 /// Whether the word begins with the byte.
@@ -83,9 +94,46 @@ fn is_script_name(word: &[u8]) -> bool
     begins_with_letter(word) && word.len() <= 16 && all_in_name(word) && !is_reserved(word)
 }
 
+/// The name of a file system, a process, a lane or a descriptor, as a word of a script. It borrows the word, and contracts see
+/// its bytes.
+#[derive(Drop)]
+pub struct NameWord<'a> {
+    word: &'a [u8],
+}
+
+impl<'a> Model for NameWord<'a> {
+    ghost use Rattle.std.specs.Prelude.{List, ℕ, IsTrue};
+    ghost use Rattle.ix_model.specs.world.Naming.{is_name};
+
+    ghost Value = { List ℕ };
+
+    ghost view = { λ n. n.word.now };
+
+    ghost invariant = { λ n. IsTrue (is_name n.word.now) };
+}
+
+impl<'a> NameWord<'a> {
+    /// Its bytes.
+    pub fn as_bytes(&self) -> &'a [u8]
+        ensures { result.now ≡ self.now }
+    {
+        self.word
+    }
+
+    /// The name.
+    pub fn name(&self) -> Name
+        ensures { result ≡ self.now }
+    {
+        match Name::read(self.word) {
+            Some(name) => name,
+            None => unreachable!(),
+        }
+    }
+}
+
 /// The name of a file system, a process, a lane or a descriptor.
 #[tactic(auto, unfolding(crate::specs::texts::Words::name_of, crate::specs::lines::Kinds::places_fault, crate::specs::lines::Kinds::first_broken))]
-pub(crate) fn name(word: &[u8]) -> Result<Name, Rule>
+pub(crate) fn name(word: &[u8]) -> Result<NameWord<'_>, Rule>
     ensures own { Reads (λ x. x) result ((kind.Own, word.now) ∷ []) (name_of word.now) }
     ensures proc { Reads (λ x. x) result ((kind.Proc, word.now) ∷ []) (name_of word.now) }
     ensures new_proc { Reads (λ x. x) result ((kind.NewProc, word.now) ∷ []) (name_of word.now) }
@@ -94,8 +142,5 @@ pub(crate) fn name(word: &[u8]) -> Result<Name, Rule>
     if !is_script_name(word) {
         return Err(Rule::BAD_NAME);
     }
-    match Name::read(word) {
-        Some(name) => Ok(name),
-        None => unreachable!(),
-    }
+    Ok(NameWord { word })
 }

@@ -6,14 +6,14 @@ ghost use Rattle.std.specs.Prelude.{◌≡◌};
 
 use crate::cutting::cut::Words;
 use crate::cutting::form::{Counted, OnFd, OnPath, Plain};
+use crate::cutting::words::NameWord;
 use crate::forms::both::both;
 use crate::line::{FdWord, Line};
 use crate::rule::Rule;
 use crate::values::paths::PathWord;
-use ix_model::Name;
 
-fn plain_line<'a>(command: Plain, proc: Name) -> Line<'a>
-    ensures { result ≡ plain_line command proc }
+fn plain_line<'a>(command: Plain, proc: NameWord<'a>) -> Line<'a>
+    ensures { result ≡ plain_line command proc.entry }
 {
     match command {
         Plain::Wait => Line::Wait { proc },
@@ -23,8 +23,8 @@ fn plain_line<'a>(command: Plain, proc: Name) -> Line<'a>
     }
 }
 
-fn path_line<'a>(command: OnPath, proc: Name, path: PathWord<'a>) -> Line<'a>
-    ensures { result ≡ path_line command proc path.entry }
+fn path_line<'a>(command: OnPath, proc: NameWord<'a>, path: PathWord<'a>) -> Line<'a>
+    ensures { result ≡ path_line command proc.entry path.entry }
 {
     match command {
         OnPath::Create => Line::Create { proc, path },
@@ -40,8 +40,8 @@ fn path_line<'a>(command: OnPath, proc: Name, path: PathWord<'a>) -> Line<'a>
     }
 }
 
-fn fd_line<'a>(command: OnFd, proc: Name, fd: FdWord) -> Line<'a>
-    ensures { result ≡ fd_line command proc fd }
+fn fd_line<'a>(command: OnFd, proc: NameWord<'a>, fd: FdWord<'a>) -> Line<'a>
+    ensures { result ≡ fd_line command proc.entry fd.entry }
 {
     match command {
         OnFd::Close => Line::Close { proc, fd },
@@ -51,8 +51,8 @@ fn fd_line<'a>(command: OnFd, proc: Name, fd: FdWord) -> Line<'a>
     }
 }
 
-fn counted_line<'a>(command: Counted, proc: Name, fd: FdWord, n: u32) -> Line<'a>
-    ensures { result ≡ counted_line command proc fd n }
+fn counted_line<'a>(command: Counted, proc: NameWord<'a>, fd: FdWord<'a>, n: u32) -> Line<'a>
+    ensures { result ≡ counted_line command proc.entry fd.entry n }
 {
     match command {
         Counted::Read => Line::Read { proc, fd, count: n },

@@ -86,7 +86,7 @@ pub(crate) fn bound(what: &[u8], word: &[u8]) -> Result<u32, Rule>
 
 /// A number up to 255, or a name.
 #[tactic(auto, unfolding(crate::specs::texts::Words::fd_of, crate::specs::lines::Kinds::places_fault, crate::specs::lines::Kinds::first_broken))]
-pub(crate) fn fd(word: &[u8]) -> Result<FdWord, Rule>
+pub(crate) fn fd(word: &[u8]) -> Result<FdWord<'_>, Rule>
     ensures { Reads (λ x. x) result ((kind.Fd, word.now) ∷ []) (fd_of word.now) }
 {
     if begins_with_digit(word) {
@@ -99,7 +99,7 @@ pub(crate) fn fd(word: &[u8]) -> Result<FdWord, Rule>
 
 /// `all`, `none`, or a descriptor.
 #[tactic(auto, unfolding(crate::specs::texts::Words::keep_of, crate::specs::lines::Kinds::places_fault, crate::specs::lines::Kinds::first_broken))]
-pub(crate) fn keep(word: &[u8]) -> Result<KeepWord, Rule>
+pub(crate) fn keep(word: &[u8]) -> Result<KeepWord<'_>, Rule>
     ensures { Reads (λ x. x) result ((kind.Keep, word.now) ∷ []) (keep_of word.now) }
 {
     if is(word, b"all") {

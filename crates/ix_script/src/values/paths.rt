@@ -1,4 +1,4 @@
-ghost use Rattle.std.specs.Prelude.{◌≡◌, ℕ, ◌≤◌, ◌<◌, ◌+◌, ◌==◌, [], ◌∷◌, length, position, Some, None, IfSome};
+ghost use Rattle.std.specs.Prelude.{◌≡◌, ℕ, ◌≤◌, ◌<◌, ◌+◌, ◌==◌, [], ◌∷◌, length, take, position, Some, None, IfSome, MatchOption};
 ghost use Rattle.std.specs.Option.{option_map_or};
 ghost use Rattle.std.specs.List.{list_all};
 ghost use Rattle.std.proofs.Common.{option_map};
@@ -134,16 +134,102 @@ pub(crate) fn path(word: &[u8]) -> Result<PathWord<'_>, Rule>
     }
 }
 
+/// An absolute path with a name, as a word of a script spells it. It borrows the word, and contracts see the path.
+#[derive(Drop)]
+pub struct MadePath<'a> {
+    word: &'a [u8],
+}
+
+impl<'a> Model for MadePath<'a> {
+    ghost use Rattle.std.specs.Prelude.{◌≡◌, Some};
+    ghost use Rattle.ix_model.specs.world.Naming.{PathOf};
+    ghost use Rattle.ix_script.specs.texts.Words.{made_path_of, path_in};
+
+    ghost Value = { PathOf };
+
+    ghost view = { λ p. path_in p.word.now };
+
+    ghost invariant = { λ p. made_path_of p.word.now ≡ Some (path_in p.word.now) };
+}
+
+impl<'a> MadePath<'a> {
+    /// The path.
+    pub fn path(&self) -> Path
+        ensures { result ≡ self.now }
+    {
+        match path_by_word(self.word) {
+            Some(path) => path,
+            None => unreachable!(),
+        }
+    }
+
+    /// Its text, which is the word.
+    pub fn as_bytes(&self) -> &'a [u8]
+        ensures { result.now ≡ path_text self.now }
+    {
+        self.word
+    }
+
+    /// The text of its names, with a slash between each two.
+    pub(crate) fn names(&self) -> &'a [u8]
+        ensures { between_slashes result.now ≡ self.now.names }
+    {
+        let (_, names) = self.word.split_at(self.word.len().min(1));
+        names
+    }
+}
+
+/// The first names of a text with a slash between each two, one after the other. Contracts see those that are left.
+#[derive(Drop)]
+pub(crate) struct PathNames<'a> {
+    rest: Option<&'a [u8]>,
+    left: usize,
+}
+
+impl<'a> Model for PathNames<'a> {
+    ghost use Rattle.std.specs.Prelude.{List, ℕ, [], take};
+    ghost use Rattle.std.specs.Option.{option_map_or};
+    ghost use Rattle.ix_script.specs.texts.Words.{between_slashes};
+
+    ghost Value = { List (List ℕ) };
+
+    ghost view = { λ n. take n.left (option_map_or (λ text. between_slashes text.now) n.rest []) };
+}
+
+impl<'a> PathNames<'a> {
+    /// The first so many.
+    pub fn first(text: &'a [u8], count: usize) -> PathNames<'a>
+        ensures { result ≡ take count (between_slashes text.now) }
+    {
+        PathNames {
+            rest: Some(text),
+            left: count,
+        }
+    }
+
+    /// The next name; `None` exactly where there is none left.
+    pub fn next(&mut self) -> Option<&'a [u8]>
+        ensures { MatchOption result (self.old ≡ []) (λ name. self.old ≡ name.now ∷ self.new) }
+    {
+        let left = self.left.checked_sub(1)?;
+        let text = self.rest?;
+        let (name, more) = first_piece(text);
+        self.rest = more;
+        self.left = left;
+        Some(name)
+    }
+}
+
 /// An absolute path with a name.
 #[tactic(auto, unfolding(crate::specs::texts::Words::made_path_of, crate::specs::lines::Kinds::places_fault, crate::specs::lines::Kinds::first_broken))]
-pub(crate) fn made_path(word: &[u8]) -> Result<PathWord<'_>, Rule>
+pub(crate) fn made_path(word: &[u8]) -> Result<MadePath<'_>, Rule>
     ensures { Reads (λ x. x) result ((kind.MadePath, word.now) ∷ []) (made_path_of word.now) }
 {
     if !begins(b'/', word) || word.len() == 1 {
         return Err(Rule::BAD_PATH);
     }
     if path_by_word(word).is_some() {
-        Ok(PathWord { word })
+        Ok(MadePath { word })
     } else {
         Err(Rule::BAD_PATH)
     }

@@ -9,22 +9,22 @@ ghost use Rattle.ix_script.specs.lines.Said.{payload_within, name_after, two_nam
 ghost use Rattle.ix_script.specs.texts.Words.{name_of, number_of, privs_of, path_of, made_path_of, mode_of, state_of, what_of, fd_of, keep_of};
 
 use crate::cutting::cut::Words;
-use crate::cutting::words::name;
+use crate::cutting::words::{NameWord, name};
 use crate::forms::both::both;
 use crate::line::{FdWord, KeepWord, What};
 use crate::rule::Rule;
 use crate::values::choices::{mode, state, what};
 use crate::values::labels::label;
 use crate::values::numbers::{bound, fd, keep, number};
-use crate::values::paths::{PathWord, made_path, path};
+use crate::values::paths::{MadePath, PathWord, made_path, path};
 use crate::values::payload::{Payload, payload_of};
 use crate::values::privs::privs;
 use ix_label::Label;
-use ix_model::{Mode, Name, PrivSet};
+use ix_model::{Mode, PrivSet};
 
 /// What stands at a place, counted from 0, with the command's word at 0.
 impl<'a> Words<'a> {
-    pub fn name(&self, i: usize) -> Result<Name, Rule>
+    pub fn name(&self, i: usize) -> Result<NameWord<'a>, Rule>
         requires { i < 8 }
         ensures own { Reads (λ x. x) result ((kind.Own, word_at self.now i) ∷ []) (name_of (word_at self.now i)) }
         ensures proc { Reads (λ x. x) result ((kind.Proc, word_at self.now i) ∷ []) (name_of (word_at self.now i)) }
@@ -41,7 +41,7 @@ impl<'a> Words<'a> {
         path(self.get(i))
     }
 
-    pub fn made_path(&self, i: usize) -> Result<PathWord<'a>, Rule>
+    pub fn made_path(&self, i: usize) -> Result<MadePath<'a>, Rule>
         requires { i < 8 }
         ensures { Reads (λ x. x) result ((kind.MadePath, word_at self.now i) ∷ []) (made_path_of (word_at self.now i)) }
     {
@@ -83,14 +83,14 @@ impl<'a> Words<'a> {
         what(self.get(i))
     }
 
-    pub fn fd(&self, i: usize) -> Result<FdWord, Rule>
+    pub fn fd(&self, i: usize) -> Result<FdWord<'a>, Rule>
         requires { i < 8 }
         ensures { Reads (λ x. x) result ((kind.Fd, word_at self.now i) ∷ []) (fd_of (word_at self.now i)) }
     {
         fd(self.get(i))
     }
 
-    pub fn keep(&self, i: usize) -> Result<KeepWord, Rule>
+    pub fn keep(&self, i: usize) -> Result<KeepWord<'a>, Rule>
         requires { i < 8 }
         ensures { Reads (λ x. x) result ((kind.Keep, word_at self.now i) ∷ []) (keep_of (word_at self.now i)) }
     {
@@ -129,7 +129,7 @@ impl<'a> Words<'a> {
 
     /// The name behind `as` at that place, where the line goes on to it.
     #[tactic(auto, unfolding(crate::specs::lines::Kinds::places_fault, crate::specs::lines::Kinds::first_broken))]
-    pub fn name_after(&self, n: usize) -> Result<Option<Name>, Rule>
+    pub fn name_after(&self, n: usize) -> Result<Option<NameWord<'a>>, Rule>
         requires { n < 7 }
         ensures new_fd { Reads (λ x. x) result (tail_places (kind.NewFd ∷ []) n self.now) (name_after n self.now) }
         ensures new_proc { Reads (λ x. x) result (tail_places (kind.NewProc ∷ []) n self.now) (name_after n self.now) }
@@ -143,7 +143,7 @@ impl<'a> Words<'a> {
 
     /// The two names behind `as` at place 2, where the line goes on to them.
     #[tactic(auto, unfolding(crate::specs::lines::Kinds::places_fault, crate::specs::lines::Kinds::first_broken))]
-    pub fn two_names_after(&self) -> Result<Option<(Name, Name)>, Rule>
+    pub fn two_names_after(&self) -> Result<Option<(NameWord<'a>, NameWord<'a>)>, Rule>
         ensures { Reads (λ x. x) result (tail_places (kind.NewFd ∷ kind.NewFd ∷ []) 2 self.now) (two_names_after 2 self.now) }
     {
         if self.len() <= 2 {

@@ -4,12 +4,13 @@ ghost use Rattle.ix_label.specs.Spelling.{spelling};
 ghost use Rattle.ix_script.specs.lines.Before.{what_text};
 ghost use Rattle.ix_script.specs.texts.Spellings.{further, privs_text, path_text, mode_text, state_text, fd_text, keep_text, as_name, as_names};
 
+use crate::cutting::words::NameWord;
 use crate::line::{FdWord, KeepWord, What};
-use crate::text::{label_text, mode_word, privs_text, state_word};
-use crate::values::paths::PathWord;
+use crate::text::{label_text, mode_word, privs_text, state_word, what_word};
+use crate::values::paths::{MadePath, PathWord};
 use itoa::Buffer;
 use ix_label::Label;
-use ix_model::{Mode, Name, NoMemory, PrivSet};
+use ix_model::{Mode, NoMemory, PrivSet};
 
 /// Bytes at the end.
 pub(crate) fn push(out: &mut Vec<u8>, bytes: &[u8]) -> Result<(), NoMemory>
@@ -25,7 +26,9 @@ pub(crate) fn push(out: &mut Vec<u8>, bytes: &[u8]) -> Result<(), NoMemory>
 pub(crate) fn word(out: &mut Vec<u8>, word: &[u8]) -> Result<(), NoMemory>
     ensures { OnOk result (out.new.items ≡ out.old.items ++ 32 ∷ word.now) }
 {
-    push(out, b" ")?;
+    let Ok(()) = out.push(b' ') else {
+        return Err(NoMemory);
+    };
     push(out, word)
 }
 
@@ -38,7 +41,7 @@ pub(crate) fn number(out: &mut Vec<u8>, n: u32) -> Result<(), NoMemory>
 }
 
 /// A space and a name.
-pub(crate) fn name(out: &mut Vec<u8>, name: &Name) -> Result<(), NoMemory>
+pub(crate) fn name(out: &mut Vec<u8>, name: &NameWord<'_>) -> Result<(), NoMemory>
     ensures { OnOk result (out.new.items ≡ out.old.items ++ 32 ∷ name.now) }
 {
     word(out, name.as_bytes())
@@ -65,6 +68,13 @@ pub(crate) fn path(out: &mut Vec<u8>, path: &PathWord<'_>) -> Result<(), NoMemor
     word(out, path.as_bytes())
 }
 
+/// A space and a path of the header.
+pub(crate) fn made_path(out: &mut Vec<u8>, path: &MadePath<'_>) -> Result<(), NoMemory>
+    ensures { OnOk result (out.new.items ≡ out.old.items ++ 32 ∷ path_text path.now) }
+{
+    word(out, path.as_bytes())
+}
+
 /// A space and a mode.
 pub(crate) fn mode(out: &mut Vec<u8>, mode: Mode) -> Result<(), NoMemory>
     ensures { OnOk result (out.new.items ≡ out.old.items ++ 32 ∷ mode_text mode) }
@@ -79,18 +89,6 @@ pub(crate) fn state(out: &mut Vec<u8>, frozen: bool) -> Result<(), NoMemory>
     word(out, state_word(frozen))
 }
 
-fn what_word(what: What) -> &'static [u8]
-    ensures { result.now ≡ what_text what }
-{
-    match what {
-        What::Procs => b"procs",
-        What::Opens => b"opens",
-        What::Pipes => b"pipes",
-        What::Names => b"names",
-        What::Log => b"log",
-    }
-}
-
 /// A space and what is limited.
 pub(crate) fn what(out: &mut Vec<u8>, what: What) -> Result<(), NoMemory>
     ensures { OnOk result (out.new.items ≡ out.old.items ++ 32 ∷ what_text what) }
@@ -99,7 +97,7 @@ pub(crate) fn what(out: &mut Vec<u8>, what: What) -> Result<(), NoMemory>
 }
 
 /// A space and a descriptor.
-pub(crate) fn fd(out: &mut Vec<u8>, fd: &FdWord) -> Result<(), NoMemory>
+pub(crate) fn fd(out: &mut Vec<u8>, fd: &FdWord<'_>) -> Result<(), NoMemory>
     ensures { OnOk result (out.new.items ≡ out.old.items ++ 32 ∷ fd_text fd.now) }
 {
     match fd {
@@ -109,7 +107,7 @@ pub(crate) fn fd(out: &mut Vec<u8>, fd: &FdWord) -> Result<(), NoMemory>
 }
 
 /// A space and which descriptors are kept.
-pub(crate) fn keep(out: &mut Vec<u8>, keep: &KeepWord) -> Result<(), NoMemory>
+pub(crate) fn keep(out: &mut Vec<u8>, keep: &KeepWord<'_>) -> Result<(), NoMemory>
     ensures { OnOk result (out.new.items ≡ out.old.items ++ 32 ∷ keep_text keep.now) }
 {
     match keep {
@@ -120,7 +118,7 @@ pub(crate) fn keep(out: &mut Vec<u8>, keep: &KeepWord) -> Result<(), NoMemory>
 }
 
 /// `as` and a name, where there is one.
-pub(crate) fn named(out: &mut Vec<u8>, named: &Option<Name>) -> Result<(), NoMemory>
+pub(crate) fn named(out: &mut Vec<u8>, named: &Option<NameWord<'_>>) -> Result<(), NoMemory>
     ensures { OnOk result (out.new.items ≡ out.old.items ++ further 32 (as_name named.now)) }
 {
     let Some(given) = named else {
@@ -131,7 +129,10 @@ pub(crate) fn named(out: &mut Vec<u8>, named: &Option<Name>) -> Result<(), NoMem
 }
 
 /// `as` and two names, where there are some.
-pub(crate) fn both_named(out: &mut Vec<u8>, named: &Option<(Name, Name)>) -> Result<(), NoMemory>
+pub(crate) fn both_named(
+    out: &mut Vec<u8>,
+    named: &Option<(NameWord<'_>, NameWord<'_>)>,
+) -> Result<(), NoMemory>
     ensures { OnOk result (out.new.items ≡ out.old.items ++ further 32 (as_names named.now)) }
 {
     let Some((first, second)) = named else {

@@ -5,17 +5,19 @@ ghost use Rattle.ix_script.specs.lines.Before.{what_text};
 ghost use Rattle.ix_script.specs.texts.Spellings.{joined, privs_text, path_text, mode_text, state_text, fd_text, keep_text, as_name, as_names, payload_text};
 ghost use Rattle.ix_script.specs.scripts.Canonical.{line_text, canonical};
 
+use crate::cutting::words::NameWord;
 use crate::line::{FdWord, KeepWord, Line, What};
 use crate::packed::Lines;
 use crate::script::Script;
-use crate::values::paths::PathWord;
+use crate::values::paths::{MadePath, PathWord};
 use crate::values::payload::Payload;
 use crate::written::append::{
-    both_named, fd, keep, label, mode, name, named, number, path, privs, push, state, what,
+    both_named, fd, keep, label, made_path, mode, name, named, number, path, privs, push, state,
+    what,
 };
 use crate::written::payload_text::payload;
 use ix_label::Label;
-use ix_model::{Mode, Name, NoMemory, PrivSet};
+use ix_model::{Mode, NoMemory, PrivSet};
 use std::alloc::Global;
 
 fn limit(out: &mut Vec<u8>, w: What, n: u32) -> Result<(), NoMemory>
@@ -28,7 +30,7 @@ fn limit(out: &mut Vec<u8>, w: What, n: u32) -> Result<(), NoMemory>
 
 fn fs(
     out: &mut Vec<u8>,
-    called: &Name,
+    called: &NameWord<'_>,
     ceiling: &Label,
     blocks: u32,
     inodes: u32,
@@ -45,7 +47,7 @@ fn fs(
 
 fn proc(
     out: &mut Vec<u8>,
-    called: &Name,
+    called: &NameWord<'_>,
     own: &Label,
     ceiling: &Label,
     cap: PrivSet,
@@ -62,12 +64,12 @@ fn proc(
     privs(out, lic)
 }
 
-fn dir(out: &mut Vec<u8>, at: &PathWord<'_>, own: &Label, frozen: bool) -> Result<(), NoMemory>
+fn dir(out: &mut Vec<u8>, at: &MadePath<'_>, own: &Label, frozen: bool) -> Result<(), NoMemory>
     ensures { OnOk result (out.new.items ≡ out.old.items
         ++ joined 32 (codes "dir" ∷ path_text at.now ∷ spelling own.now ∷ state_text frozen ∷ [])) }
 {
     push(out, b"dir")?;
-    path(out, at)?;
+    made_path(out, at)?;
     label(out, own)?;
     state(out, frozen)
 }
@@ -75,7 +77,7 @@ fn dir(out: &mut Vec<u8>, at: &PathWord<'_>, own: &Label, frozen: bool) -> Resul
 fn file(
     out: &mut Vec<u8>,
     buffer: &mut Vec<u8>,
-    at: &PathWord<'_>,
+    at: &MadePath<'_>,
     own: &Label,
     frozen: bool,
     cap: PrivSet,
@@ -87,7 +89,7 @@ fn file(
         ∷ privs_text cap ∷ privs_text lic ∷ payload_text bytes.now ∷ [])) }
 {
     push(out, b"file")?;
-    path(out, at)?;
+    made_path(out, at)?;
     label(out, own)?;
     state(out, frozen)?;
     privs(out, cap)?;
@@ -103,7 +105,7 @@ fn policy(out: &mut Vec<u8>, text: &[u8]) -> Result<(), NoMemory>
 }
 
 /// A first word, and a name.
-fn with_name(out: &mut Vec<u8>, word: &[u8], called: &Name) -> Result<(), NoMemory>
+fn with_name(out: &mut Vec<u8>, word: &[u8], called: &NameWord<'_>) -> Result<(), NoMemory>
     ensures { OnOk result (out.new.items ≡ out.old.items ++ joined 32 (word.now ∷ called.now ∷ [])) }
 {
     push(out, word)?;
@@ -111,7 +113,12 @@ fn with_name(out: &mut Vec<u8>, word: &[u8], called: &Name) -> Result<(), NoMemo
 }
 
 /// A command with a path.
-fn with_path(out: &mut Vec<u8>, word: &[u8], proc: &Name, at: &PathWord<'_>) -> Result<(), NoMemory>
+fn with_path(
+    out: &mut Vec<u8>,
+    word: &[u8],
+    proc: &NameWord<'_>,
+    at: &PathWord<'_>,
+) -> Result<(), NoMemory>
     ensures { OnOk result (out.new.items ≡ out.old.items ++ joined 32 (word.now ∷ proc.now ∷ path_text at.now ∷ [])) }
 {
     with_name(out, word, proc)?;
@@ -119,7 +126,12 @@ fn with_path(out: &mut Vec<u8>, word: &[u8], proc: &Name, at: &PathWord<'_>) -> 
 }
 
 /// A command with a descriptor.
-fn with_fd(out: &mut Vec<u8>, word: &[u8], proc: &Name, at: &FdWord) -> Result<(), NoMemory>
+fn with_fd(
+    out: &mut Vec<u8>,
+    word: &[u8],
+    proc: &NameWord<'_>,
+    at: &FdWord<'_>,
+) -> Result<(), NoMemory>
     ensures { OnOk result (out.new.items ≡ out.old.items ++ joined 32 (word.now ∷ proc.now ∷ fd_text at.now ∷ [])) }
 {
     with_name(out, word, proc)?;
@@ -130,8 +142,8 @@ fn with_fd(out: &mut Vec<u8>, word: &[u8], proc: &Name, at: &FdWord) -> Result<(
 fn with_fd_number(
     out: &mut Vec<u8>,
     word: &[u8],
-    proc: &Name,
-    at: &FdWord,
+    proc: &NameWord<'_>,
+    at: &FdWord<'_>,
     n: u32,
 ) -> Result<(), NoMemory>
     ensures { OnOk result (out.new.items ≡ out.old.items
@@ -142,7 +154,7 @@ fn with_fd_number(
 }
 
 /// A command with a number.
-fn with_number(out: &mut Vec<u8>, word: &[u8], proc: &Name, n: u32) -> Result<(), NoMemory>
+fn with_number(out: &mut Vec<u8>, word: &[u8], proc: &NameWord<'_>, n: u32) -> Result<(), NoMemory>
     ensures { OnOk result (out.new.items ≡ out.old.items ++ joined 32 (word.now ∷ proc.now ∷ decimal n ∷ [])) }
 {
     with_name(out, word, proc)?;
@@ -151,10 +163,10 @@ fn with_number(out: &mut Vec<u8>, word: &[u8], proc: &Name, n: u32) -> Result<()
 
 fn open(
     out: &mut Vec<u8>,
-    proc: &Name,
+    proc: &NameWord<'_>,
     at: &PathWord<'_>,
     way: Mode,
-    tail: &Option<Name>,
+    tail: &Option<NameWord<'_>>,
 ) -> Result<(), NoMemory>
     ensures { OnOk result (out.new.items ≡ out.old.items
         ++ joined 32 (codes "open" ∷ proc.now ∷ path_text at.now ∷ mode_text way ∷ as_name tail.now)) }
@@ -167,8 +179,8 @@ fn open(
 fn write_fd(
     out: &mut Vec<u8>,
     buffer: &mut Vec<u8>,
-    proc: &Name,
-    at: &FdWord,
+    proc: &NameWord<'_>,
+    at: &FdWord<'_>,
     bytes: &Payload<'_, 4096>,
 ) -> Result<(), NoMemory>
     ensures { OnOk result (out.new.items ≡ out.old.items
@@ -178,7 +190,12 @@ fn write_fd(
     payload(out, buffer, bytes)
 }
 
-fn dup(out: &mut Vec<u8>, proc: &Name, at: &FdWord, tail: &Option<Name>) -> Result<(), NoMemory>
+fn dup(
+    out: &mut Vec<u8>,
+    proc: &NameWord<'_>,
+    at: &FdWord<'_>,
+    tail: &Option<NameWord<'_>>,
+) -> Result<(), NoMemory>
     ensures { OnOk result (out.new.items ≡ out.old.items
         ++ joined 32 (codes "dup" ∷ proc.now ∷ fd_text at.now ∷ as_name tail.now)) }
 {
@@ -186,7 +203,11 @@ fn dup(out: &mut Vec<u8>, proc: &Name, at: &FdWord, tail: &Option<Name>) -> Resu
     named(out, tail)
 }
 
-fn pipe(out: &mut Vec<u8>, proc: &Name, tail: &Option<(Name, Name)>) -> Result<(), NoMemory>
+fn pipe(
+    out: &mut Vec<u8>,
+    proc: &NameWord<'_>,
+    tail: &Option<(NameWord<'_>, NameWord<'_>)>,
+) -> Result<(), NoMemory>
     ensures { OnOk result (out.new.items ≡ out.old.items ++ joined 32 (codes "pipe" ∷ proc.now ∷ as_names tail.now)) }
 {
     with_name(out, b"pipe", proc)?;
@@ -195,7 +216,7 @@ fn pipe(out: &mut Vec<u8>, proc: &Name, tail: &Option<(Name, Name)>) -> Result<(
 
 fn link(
     out: &mut Vec<u8>,
-    proc: &Name,
+    proc: &NameWord<'_>,
     target: &PathWord<'_>,
     at: &PathWord<'_>,
 ) -> Result<(), NoMemory>
@@ -206,7 +227,12 @@ fn link(
     path(out, at)
 }
 
-fn list(out: &mut Vec<u8>, proc: &Name, at: &PathWord<'_>, index: u32) -> Result<(), NoMemory>
+fn list(
+    out: &mut Vec<u8>,
+    proc: &NameWord<'_>,
+    at: &PathWord<'_>,
+    index: u32,
+) -> Result<(), NoMemory>
     ensures { OnOk result (out.new.items ≡ out.old.items
         ++ joined 32 (codes "list" ∷ proc.now ∷ path_text at.now ∷ decimal index ∷ [])) }
 {
@@ -216,9 +242,9 @@ fn list(out: &mut Vec<u8>, proc: &Name, at: &PathWord<'_>, index: u32) -> Result
 
 fn fork(
     out: &mut Vec<u8>,
-    proc: &Name,
-    kept: &KeepWord,
-    tail: &Option<Name>,
+    proc: &NameWord<'_>,
+    kept: &KeepWord<'_>,
+    tail: &Option<NameWord<'_>>,
 ) -> Result<(), NoMemory>
     ensures { OnOk result (out.new.items ≡ out.old.items
         ++ joined 32 (codes "fork" ∷ proc.now ∷ keep_text kept.now ∷ as_name tail.now)) }
@@ -228,7 +254,12 @@ fn fork(
     named(out, tail)
 }
 
-fn set_label(out: &mut Vec<u8>, proc: &Name, at: &PathWord<'_>, new: &Label) -> Result<(), NoMemory>
+fn set_label(
+    out: &mut Vec<u8>,
+    proc: &NameWord<'_>,
+    at: &PathWord<'_>,
+    new: &Label,
+) -> Result<(), NoMemory>
     ensures { OnOk result (out.new.items ≡ out.old.items
         ++ joined 32 (codes "setlabel" ∷ proc.now ∷ path_text at.now ∷ spelling new.now ∷ [])) }
 {
@@ -236,7 +267,7 @@ fn set_label(out: &mut Vec<u8>, proc: &Name, at: &PathWord<'_>, new: &Label) -> 
     label(out, new)
 }
 
-fn set_self(out: &mut Vec<u8>, proc: &Name, new: &Label) -> Result<(), NoMemory>
+fn set_self(out: &mut Vec<u8>, proc: &NameWord<'_>, new: &Label) -> Result<(), NoMemory>
     ensures { OnOk result (out.new.items ≡ out.old.items ++ joined 32 (codes "setself" ∷ proc.now ∷ spelling new.now ∷ [])) }
 {
     with_name(out, b"setself", proc)?;
@@ -245,7 +276,7 @@ fn set_self(out: &mut Vec<u8>, proc: &Name, new: &Label) -> Result<(), NoMemory>
 
 fn set_priv(
     out: &mut Vec<u8>,
-    proc: &Name,
+    proc: &NameWord<'_>,
     at: &PathWord<'_>,
     cap: PrivSet,
     lic: PrivSet,
@@ -258,14 +289,19 @@ fn set_priv(
     privs(out, lic)
 }
 
-fn drop_lic(out: &mut Vec<u8>, proc: &Name, set: PrivSet) -> Result<(), NoMemory>
+fn drop_lic(out: &mut Vec<u8>, proc: &NameWord<'_>, set: PrivSet) -> Result<(), NoMemory>
     ensures { OnOk result (out.new.items ≡ out.old.items ++ joined 32 (codes "droplic" ∷ proc.now ∷ privs_text set ∷ [])) }
 {
     with_name(out, b"droplic", proc)?;
     privs(out, set)
 }
 
-fn grant(out: &mut Vec<u8>, proc: &Name, to: &Name, set: PrivSet) -> Result<(), NoMemory>
+fn grant(
+    out: &mut Vec<u8>,
+    proc: &NameWord<'_>,
+    to: &NameWord<'_>,
+    set: PrivSet,
+) -> Result<(), NoMemory>
     ensures { OnOk result (out.new.items ≡ out.old.items
         ++ joined 32 (codes "grant" ∷ proc.now ∷ to.now ∷ privs_text set ∷ [])) }
 {
@@ -274,7 +310,12 @@ fn grant(out: &mut Vec<u8>, proc: &Name, to: &Name, set: PrivSet) -> Result<(), 
     privs(out, set)
 }
 
-fn ceiling(out: &mut Vec<u8>, proc: &Name, of: &Name, new: &Label) -> Result<(), NoMemory>
+fn ceiling(
+    out: &mut Vec<u8>,
+    proc: &NameWord<'_>,
+    of: &NameWord<'_>,
+    new: &Label,
+) -> Result<(), NoMemory>
     ensures { OnOk result (out.new.items ≡ out.old.items
         ++ joined 32 (codes "ceiling" ∷ proc.now ∷ of.now ∷ spelling new.now ∷ [])) }
 {
@@ -285,9 +326,9 @@ fn ceiling(out: &mut Vec<u8>, proc: &Name, of: &Name, new: &Label) -> Result<(),
 
 fn copy(
     out: &mut Vec<u8>,
-    proc: &Name,
-    from: &FdWord,
-    to: &FdWord,
+    proc: &NameWord<'_>,
+    from: &FdWord<'_>,
+    to: &FdWord<'_>,
     count: u32,
 ) -> Result<(), NoMemory>
     ensures { OnOk result (out.new.items ≡ out.old.items
@@ -300,10 +341,10 @@ fn copy(
 
 fn login(
     out: &mut Vec<u8>,
-    proc: &Name,
-    at: &FdWord,
-    hand: &FdWord,
-    tail: &Option<Name>,
+    proc: &NameWord<'_>,
+    at: &FdWord<'_>,
+    hand: &FdWord<'_>,
+    tail: &Option<NameWord<'_>>,
 ) -> Result<(), NoMemory>
     ensures { OnOk result (out.new.items ≡ out.old.items
         ++ joined 32 (codes "login" ∷ proc.now ∷ fd_text at.now ∷ fd_text hand.now ∷ as_name tail.now)) }

@@ -8,11 +8,11 @@ use Rattle.ix_script.proofs.script.policy_place.Goals as goal
 
 pub lines-preserved : goal.lines-preserved
 lines-preserved c =
-    sym (policy_later c.args.lines.now c.lines.index c.in_ok-line.line (sym c.get.ensures ∙ c.in_ok-line.was) (sym c.is_policy.ensures ∙ c.if-is_policy.false)) ∙ c.lines.invariant
+    sym (policy_later c.args.lines.now c.lines.index (omega (arith, c.lines-test.true, c.len-index-end.ensures)) (sym c.is_policy_at.ensures ∙ c.if-is_policy_at.false)) ∙ c.lines.invariant
 
-pub returns-then-is_policy-clause-place : goal.returns-then-is_policy-clause-place
-returns-then-is_policy-clause-place c =
-    sym (policy_here c.args.lines.now c.lines.index c.in_ok-line.line (sym c.get.ensures ∙ c.in_ok-line.was) (sym c.is_policy.ensures ∙ c.if-is_policy.true)) ∙ c.lines.invariant ∙ sym (position_from-zero is_policy c.args.lines.now)
+pub returns-then-is_policy_at-clause-place : goal.returns-then-is_policy_at-clause-place
+returns-then-is_policy_at-clause-place c =
+    sym (policy_here c.args.lines.now c.lines.index (sym c.is_policy_at.ensures ∙ c.if-is_policy_at.true)) ∙ c.lines.invariant ∙ sym (position_from-zero is_policy c.args.lines.now)
 
 pub returns-clause-place : goal.returns-clause-place
 returns-clause-place c =

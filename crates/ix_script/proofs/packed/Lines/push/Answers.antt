@@ -1,16 +1,36 @@
-use Rattle.std.proofs.Common.{◌≡◌, ◌+◌, ◌++◌, ◌∷◌, [], List, length, ap, ◌∙◌, arith}
-use Rattle.ix_script.specs.scripts.Packed.{line_in}
+use Rattle.std.proofs.Common.{◌≡◌, ℕ, ◌+◌, ◌≤◌, ◌++◌, ◌∷◌, [], List, length, refl, ap, ◌∙◌, arith}
+use Rattle.ix_script.specs.lines.Roles.{role_of}
+use Rattle.ix_script.specs.scripts.Need.{cost_of_line}
+use Rattle.ix_script.specs.scripts.Packed.{held}
 use Rattle.ix_script.specs.declared.line.Line.{Line}
-use Rattle.ix_script.proofs.reader.Packing.{lines_after, held_after}
+use Rattle.ix_script.proofs.reader.Packing.{lines_after, held_after, length-held}
+use Rattle.ix_script.proofs.reader.Summing.{costs_little, need_little, summed_after}
 use Rattle.ix_script.proofs.packed.Lines.push.Goals as goal
 
-pub invariant_of-self-in-Ok-extend_from_slice : goal.invariant_of-self-in-Ok-extend_from_slice
-invariant_of-self-in-Ok-extend_from_slice c =
-    let long : c.in-Ok.end ≡ length c.self.inside.text.items + length c.args.text.now = omega (arith, c.in-Ok.ensures, ap length c.as_slice.ensures.value) in
-    lines_after c.self.inside.text.items c.args.text.now c.self.inside.ends.items c.extend_from_slice.new.self.items c.push.new.self.items c.in-Ok.end c.in-Ok-extend_from_slice.ensures.items c.in-Ok-push.ensures.items long c.self.invariant c.requires
+pub overflow_add-self : goal.overflow_add-self
+overflow_add-self c =
+    let text : List ℕ = c.self.inside.text.items in
+    let ends : List ℕ = c.self.inside.ends.items in
+    let little : cost_of_line c.args.line.now ≤ 4352 = omega (arith, costs_little c.args.text.now c.requires.faultless, ap cost_of_line c.requires.said) in
+    omega (arith, c.self.invariant.1.total, need_little 0 text ends c.self.invariant.0, length-held 0 text ends, ap length c.self.view_is, c.requires.few, little, c.cost_of_line.ensures)
+
+pub invariant_of-self-2 : goal.invariant_of-self-2
+invariant_of-self-2 c =
+    let text : List ℕ = c.self.inside.text.items in
+    let ends : List ℕ = c.self.inside.ends.items in
+    let long : c.in-Ok.end ≡ length text + length c.args.text.now = omega (arith, c.in-Ok.ensures, ap length c.as_slice.ensures.value) in
+    let more : held 0 c.extend_from_slice.new.self.items c.push.new.self.items ≡ held 0 text ends ++ c.args.line.now ∷ [] =
+    held_after text c.args.text.now ends c.extend_from_slice.new.self.items c.push.new.self.items c.in-Ok.end c.in-Ok-extend_from_slice.ensures.items c.in-Ok-push.ensures.items long c.self.invariant.0
+    ∙ ap (λ (l : Line). held 0 text ends ++ l ∷ []) c.requires.said in
+    let role : c.push-2.new.self.items ≡ c.self.inside.roles.items ++ role_of c.args.line.now ∷ [] = rw (c.in-Ok-push-2.ensures.items, c.role_of.ensures) refl in (
+      lines_after text c.args.text.now ends c.extend_from_slice.new.self.items c.push.new.self.items c.in-Ok.end c.in-Ok-extend_from_slice.ensures.items c.in-Ok-push.ensures.items long c.self.invariant.0 c.requires.faultless,
+      summed_after (held 0 text ends) _ c.args.line.now c.self.inside.roles.items _ c.self.inside.need _ more role (ap (λ (n : ℕ). c.self.inside.need + n) c.cost_of_line.ensures) c.self.invariant.1,
+    )
 
 pub returns : goal.returns
 returns c =
-    let long : c.in-Ok.end ≡ length c.self.inside.text.items + length c.args.text.now = omega (arith, c.in-Ok.ensures, ap length c.as_slice.ensures.value) in
-    held_after c.self.inside.text.items c.args.text.now c.self.inside.ends.items c.extend_from_slice.new.self.items c.push.new.self.items c.in-Ok.end c.in-Ok-extend_from_slice.ensures.items c.in-Ok-push.ensures.items long c.self.invariant
-    ∙ ap (λ (ls : List Line). ls ++ line_in c.args.text.now ∷ []) c.self.view_is
+    let text : List ℕ = c.self.inside.text.items in
+    let ends : List ℕ = c.self.inside.ends.items in
+    let long : c.in-Ok.end ≡ length text + length c.args.text.now = omega (arith, c.in-Ok.ensures, ap length c.as_slice.ensures.value) in
+    held_after text c.args.text.now ends c.extend_from_slice.new.self.items c.push.new.self.items c.in-Ok.end c.in-Ok-extend_from_slice.ensures.items c.in-Ok-push.ensures.items long c.self.invariant.0
+    ∙ (λ i. c.self.view_is i ++ c.requires.said i ∷ [])

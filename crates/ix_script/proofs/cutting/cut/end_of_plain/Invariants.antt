@@ -1,0 +1,7 @@
+use Rattle.std.proofs.Common.{◌≡◌, ◌+◌, drop, option_map}
+use Rattle.ix_script.specs.declared.cutting.spot.Spot.TheVariants as spot
+use Rattle.ix_script.proofs.texts.Pieces.{gap_from}
+use Rattle.ix_script.proofs.cutting.cut.end_of_plain.Given as goal
+
+abbrev pub invariant-bytes : goal.invariant-bytes
+invariant-bytes l = gap_from spot.Plain l.text ≡ option_map (λ k. l.i + k) (gap_from spot.Plain (drop l.i l.text))

@@ -1,0 +1,34 @@
+-- What is kept beside the lines: what each is for, and what they cost together.
+use Rattle.std.proofs.Common.{◌≡◌, ℕ, ◌+◌, ◌*◌, ◌≤◌, Bool, true, false, cond, List, [], ◌∷◌, ◌++◌, length, map, refl, sym, ap, ◌∙◌, arith}
+use Rattle.std.proofs.lemmas.List.{map-append}
+use Rattle.ix_script.specs.lines.Before.{is_command}
+use Rattle.ix_script.specs.lines.Roles.{role_of}
+use Rattle.ix_script.specs.scripts.Need.{cost_of_line, need}
+use Rattle.ix_script.specs.scripts.Packed.{IsLine, AreLines, AreSummed, line_in, between, held}
+use Rattle.ix_script.specs.declared.line.Line.{Line}
+use Rattle.ix_script.specs.declared.role.Role.{Role}
+use Rattle.ix_script.proofs.reader.Costing.{line_cheap, need_none, need_next, need_push}
+
+-- ---- the sum stays small
+at_most : (command : Bool) (cost : ℕ) → cost ≤ cond command 4352 0 → cost ≤ 4352
+at_most true cost h = h
+at_most false cost h = omega (arith, h)
+
+pub costs_little : (text : List ℕ) → IsLine text → cost_of_line (line_in text) ≤ 4352
+costs_little text l = at_most (is_command (line_in text)) (cost_of_line (line_in text)) (line_cheap text (line_in text) l.said)
+
+pub need_little : (from : ℕ) (text ends : List ℕ) → AreLines from text ends → need (held from text ends) ≤ 4352 * length ends
+need_little from text [] h = omega (arith, need_none)
+need_little from text (end ∷ ends) h =
+    omega (arith, need_next (line_in (between from end text)) (held end text ends), costs_little (between from end text) h.2, need_little end text ends h.3)
+
+-- ---- line after line
+pub summed_none : AreSummed [] [] 0
+summed_none = record { by_role = refl; total = sym need_none }
+
+pub summed_after : (lines lines2 : List Line) (l : Line) (roles roles2 : List Role) (cost cost2 : ℕ) → lines2 ≡ lines ++ l ∷ [] → roles2 ≡ roles ++ role_of l ∷ [] → cost2 ≡ cost + cost_of_line l → AreSummed lines roles cost → AreSummed lines2 roles2 cost2
+summed_after lines lines2 l roles roles2 cost cost2 more role sum was =
+    record {
+      by_role = role ∙ ap (λ (rs : List Role). rs ++ role_of l ∷ []) was.by_role ∙ sym (map-append role_of lines (l ∷ [])) ∙ ap (map role_of) (sym more);
+      total = omega (arith, sum, was.total, need_push lines l, ap need more);
+    }
