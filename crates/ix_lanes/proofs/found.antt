@@ -5,3 +5,4 @@ pub mod Indexed
 pub mod LaneCount
 pub mod SeatSearch
 pub mod Numbering
+pub mod Roles

@@ -1,3 +1,4 @@
 pub mod Serial
+pub mod Indexed
 pub mod Lanes
 pub mod Laws

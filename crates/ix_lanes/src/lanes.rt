@@ -1,12 +1,14 @@
 ghost use Rattle.std.specs.Prelude.{◌≡◌, ◌+◌, ◌<◌, ◌≤◌, IfOk, OnOk, length};
 ghost use Rattle.ix_model.specs.world.Naming.{same_bytes};
 ghost use Rattle.ix_script.specs.lines.Before.{lanes_of, proc_name_told};
+ghost use Rattle.ix_script.specs.lines.Roles.{role_of};
+ghost use Rattle.ix_lanes.specs.histories.Indexed.{line_in};
 ghost use Rattle.ix_lanes.specs.histories.Serial.{header_of, numbered, seat_from, seat_after};
 
 use crate::asking::numbers::Numbers;
-use crate::lines::line_at;
-use ix_model::{Name, NoMemory};
-use ix_script::{Line, Script};
+use crate::lines::{line_at, role_at};
+use ix_model::NoMemory;
+use ix_script::{Line, NameWord, Role, Script};
 use std::alloc::Global;
 
 /// Lets the name of a `proc` line stand for the pid after so many.
@@ -24,6 +26,28 @@ fn add_proc(header: &mut Numbers<u32>, count: u32, line: &Line<'_>) -> Result<u3
     }
 }
 
+/// Lets the name of the line at an index, where that is a `proc` line, stand for the pid after so many. The line is made only where
+/// it stands in the header.
+fn add_proc_at(
+    header: &mut Numbers<u32>,
+    count: u32,
+    script: &Script,
+    index: u32,
+) -> Result<u32, NoMemory>
+    requires few { count < 4294967295 }
+    requires within { index < length script.now }
+    ensures header { OnOk result (header.new ≡ numbered (count + 1) (proc_name_told (line_in script.now index)) header.old) }
+    ensures count { IfOk result (λ n. (n ≡ count + length (proc_name_told (line_in script.now index))) × (n ≤ count + 1)) }
+{
+    match role_at(script, index) {
+        Role::Header => match line_at(script, index) {
+            Some(line) => add_proc(header, count, &line),
+            None => Err(NoMemory),
+        },
+        _ => Ok(count),
+    }
+}
+
 /// The processes of the header, by their names: they have pids 1, 2 and so on, in order.
 pub fn header_of(alloc: Global, script: &Script) -> Result<Numbers<u32>, NoMemory>
     ensures { IfOk result (λ header. header ≡ header_of script.now) }
@@ -31,23 +55,20 @@ pub fn header_of(alloc: Global, script: &Script) -> Result<Numbers<u32>, NoMemor
     let mut header = Numbers::new(alloc);
     let mut count = 0;
     for index in 0..script.len() {
-        let Some(line) = line_at(script, index) else {
-            return Err(NoMemory);
-        };
-        count = add_proc(&mut header, count, &line)?;
+        count = add_proc_at(&mut header, count, script, index)?;
     }
     Ok(header)
 }
 
 /// Whether these are the bytes of the name.
-fn is_named(name: &Name, bytes: &[u8]) -> bool
+fn is_named(name: &NameWord<'_>, bytes: &[u8]) -> bool
     ensures { result ≡ same_bytes name.now bytes.now }
 {
     name.as_bytes() == bytes
 }
 
 /// The seat of the lane of a name.
-fn seat_of(script: &Script, name: &Name) -> Option<u32>
+fn seat_of(script: &Script, name: &NameWord<'_>) -> Option<u32>
     ensures { result ≡ seat_from 0 name.now (lanes_of script.now) }
 {
     for seat in 0..script.len() {
@@ -62,12 +83,29 @@ fn seat_of(script: &Script, name: &Name) -> Option<u32>
 }
 
 /// The seat of the lane in which the next line stands.
-pub fn seat_after(script: &Script, seat: Option<u32>, line: &Line<'_>) -> Option<u32>
+fn seat_after(script: &Script, seat: Option<u32>, line: &Line<'_>) -> Option<u32>
     ensures { result ≡ seat_after (lanes_of script.now) seat line.now }
 {
     match line {
         Line::Phase => None,
         Line::Lane { name } => seat_of(script, name),
+        _ => seat,
+    }
+}
+
+/// The seat of the lane in which the line after the one at an index stands. Of the lines only one that begins a lane's part of a phase is
+/// made for it.
+pub fn seat_past(script: &Script, seat: Option<u32>, index: u32, role: Role) -> Option<u32>
+    requires within { index < length script.now }
+    requires role { role ≡ role_of (line_in script.now index) }
+    ensures { result ≡ seat_after (lanes_of script.now) seat (line_in script.now index) }
+{
+    match role {
+        Role::Phase => None,
+        Role::Lane => match line_at(script, index) {
+            Some(line) => seat_after(script, seat, &line),
+            None => seat,
+        },
         _ => seat,
     }
 }

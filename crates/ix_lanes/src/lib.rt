@@ -8,8 +8,8 @@ mod lines;
 mod running;
 
 pub use asking::calls::count_in;
-pub use lanes::{lanes_in, seat_after};
-pub use lines::line_at;
+pub use lanes::{lanes_in, seat_past};
+pub use lines::{line_at, role_at};
 pub use running::lane_run::LaneRun;
 pub use running::phases::phases_in;
 pub use running::side_by_side::{Lane, run_phase};

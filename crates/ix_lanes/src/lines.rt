@@ -1,6 +1,8 @@
 ghost use Rattle.std.specs.Prelude.{◌≡◌, ◌<◌, length, slice_get};
+ghost use Rattle.ix_script.specs.lines.Roles.{role_of};
+ghost use Rattle.ix_lanes.specs.histories.Indexed.{line_in};
 
-use ix_script::{Line, Script};
+use ix_script::{Line, Role, Script};
 
 /// The line at an index from 0. It takes no memory.
 pub fn line_at(script: &Script, index: u32) -> Option<Line<'_>>
@@ -9,4 +11,13 @@ pub fn line_at(script: &Script, index: u32) -> Option<Line<'_>>
 {
     let _count = script.len();
     script.line(index + 1)
+}
+
+/// What the line at an index from 0 is for. The line isn't made for it.
+pub fn role_at(script: &Script, index: u32) -> Role
+    requires { index < length script.now }
+    ensures { result ≡ role_of (line_in script.now index) }
+{
+    let _count = script.len();
+    script.role(index + 1).unwrap_or(Role::Aside)
 }

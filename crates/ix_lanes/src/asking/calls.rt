@@ -9,8 +9,8 @@ ghost use Rattle.ix_lanes.specs.histories.Serial.{entry_of};
 
 use crate::asking::numbers::Numbers;
 use crate::asking::places::{Places, fill};
-use ix_model::{Buf, Call, Entry, Name, Reply};
-use ix_script::Line;
+use ix_model::{Buf, Call, Entry, Reply};
+use ix_script::{Line, NameWord};
 
 /// Puts the bytes that a line writes, where it is a `write` line, at the front of a buffer, and answers how many they are.
 pub fn put_written(line: &Line<'_>, buf: &mut Buf) -> usize
@@ -285,7 +285,7 @@ fn fds_in(reply: &Reply) -> (u8, u8)
 }
 
 /// Lets a name, if there is one, stand for the descriptor that the reply says.
-fn bind_fd(fds: &mut Numbers<Option<u8>>, name: &Option<Name>, reply: &Reply)
+fn bind_fd(fds: &mut Numbers<Option<u8>>, name: &Option<NameWord<'_>>, reply: &Reply)
     requires { has_all fds.old (listed name.now) ≡ true }
     ensures set { given fds.new ≡ bound name.now (number_in 255 255 reply.now) (given fds.old) }
     ensures keeps { KeepsNames fds.old fds.new }
@@ -296,7 +296,7 @@ fn bind_fd(fds: &mut Numbers<Option<u8>>, name: &Option<Name>, reply: &Reply)
 }
 
 /// Lets a name, if there is one, stand for the pid that the reply says.
-fn bind_proc(procs: &mut Numbers<Option<u32>>, name: &Option<Name>, reply: &Reply)
+fn bind_proc(procs: &mut Numbers<Option<u32>>, name: &Option<NameWord<'_>>, reply: &Reply)
     requires { has_all procs.old (listed name.now) ≡ true }
     ensures set { given procs.new ≡ bound name.now (number_in 4294967295 0 reply.now) (given procs.old) }
     ensures keeps { KeepsNames procs.old procs.new }
@@ -307,7 +307,11 @@ fn bind_proc(procs: &mut Numbers<Option<u32>>, name: &Option<Name>, reply: &Repl
 }
 
 /// Lets the names of both ends of a pipe, if there are any, stand for what the reply says.
-fn bind_both(fds: &mut Numbers<Option<u8>>, two: &Option<(Name, Name)>, reply: &Reply)
+fn bind_both(
+    fds: &mut Numbers<Option<u8>>,
+    two: &Option<(NameWord<'_>, NameWord<'_>)>,
+    reply: &Reply,
+)
     requires { has_all fds.old (listed_two two.now) ≡ true }
     ensures set { given fds.new ≡ both_bound two.now reply.now (given fds.old) }
     ensures keeps { KeepsNames fds.old fds.new }

@@ -1,4 +1,5 @@
-use ix_model::{Name, NoMemory};
+use ix_model::NoMemory;
+use ix_script::NameWord;
 use std::alloc::Global;
 use std::collections::BTreeMap;
 use std::marker::Model;
@@ -39,14 +40,14 @@ impl<N: Copy> Numbers<N> {
     }
 
     /// What a name stands for.
-    pub fn get(&self, name: &Name) -> Option<N>
+    pub fn get(&self, name: &NameWord<'_>) -> Option<N>
         ensures { result ≡ map.get self.now name.now }
     {
         self.numbers.get(name.as_bytes()).copied()
     }
 
     /// Lets a name stand for a number from now on. After `NoMemory` all names stand for what they stood for.
-    pub fn set(&mut self, name: &Name, number: N) -> Result<(), NoMemory>
+    pub fn set(&mut self, name: &NameWord<'_>, number: N) -> Result<(), NoMemory>
         ensures ok { OnOk result (self.new ≡ map.insert self.old name.now number) }
         ensures err { OnErr result (self.new ≡ self.old) }
     {
@@ -60,14 +61,14 @@ impl<N: Copy> Numbers<N> {
     }
 
     /// Whether it has the name.
-    pub fn has(&self, name: &Name) -> bool
+    pub fn has(&self, name: &NameWord<'_>) -> bool
         ensures { result ≡ map.contains_key self.now name.now }
     {
         self.get(name).is_some()
     }
 
     /// Lets a name that it has stand for a number from now on. It takes no memory.
-    pub fn put(&mut self, name: &Name, number: N)
+    pub fn put(&mut self, name: &NameWord<'_>, number: N)
         requires { map.contains_key self.old name.now ≡ true }
         ensures { self.new ≡ map.insert self.old name.now number }
     {

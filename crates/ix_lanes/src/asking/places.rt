@@ -4,8 +4,8 @@ ghost use Rattle.ix_script.specs.lines.Before.{listed, listed_two};
 ghost use Rattle.ix_lanes.specs.asking.Places.{given, has_all, KeepsNames};
 
 use crate::asking::numbers::Numbers;
-use ix_model::{Fd, Keep, Name, NoMemory, Pid};
-use ix_script::{FdWord, KeepWord, Line};
+use ix_model::{Fd, Keep, NoMemory, Pid};
+use ix_script::{FdWord, KeepWord, Line, NameWord};
 use std::alloc::Global;
 
 /// What the names of a lane stand for. Each name has a place, which is found beforehand, and in which a number stands once a line
@@ -17,7 +17,7 @@ pub struct Places {
 }
 
 /// What stands in a name's place.
-fn number_of<N: Copy>(names: &Numbers<Option<N>>, name: &Name) -> Option<N>
+fn number_of<N: Copy>(names: &Numbers<Option<N>>, name: &NameWord<'_>) -> Option<N>
     ensures { result ≡ map.get (given names.now) name.now }
 {
     match names.get(name) {
@@ -27,7 +27,7 @@ fn number_of<N: Copy>(names: &Numbers<Option<N>>, name: &Name) -> Option<N>
 }
 
 /// Finds a name its place, if it has none yet.
-fn add_name<N: Copy>(names: &mut Numbers<Option<N>>, name: &Name) -> Result<(), NoMemory>
+fn add_name<N: Copy>(names: &mut Numbers<Option<N>>, name: &NameWord<'_>) -> Result<(), NoMemory>
     ensures same { given names.new ≡ given names.old }
     ensures place { OnOk result (map.contains_key names.new name.now ≡ true) }
     ensures keeps { KeepsNames names.old names.new }
@@ -39,7 +39,10 @@ fn add_name<N: Copy>(names: &mut Numbers<Option<N>>, name: &Name) -> Result<(), 
 }
 
 /// Finds a name, if there is one, its place.
-fn add_one<N: Copy>(names: &mut Numbers<Option<N>>, name: &Option<Name>) -> Result<(), NoMemory>
+fn add_one<N: Copy>(
+    names: &mut Numbers<Option<N>>,
+    name: &Option<NameWord<'_>>,
+) -> Result<(), NoMemory>
     ensures same { given names.new ≡ given names.old }
     ensures place { OnOk result (has_all names.new (listed name.now) ≡ true) }
     ensures keeps { KeepsNames names.old names.new }
@@ -53,7 +56,7 @@ fn add_one<N: Copy>(names: &mut Numbers<Option<N>>, name: &Option<Name>) -> Resu
 /// Finds two names, if they are there, their places.
 fn add_two<N: Copy>(
     names: &mut Numbers<Option<N>>,
-    two: &Option<(Name, Name)>,
+    two: &Option<(NameWord<'_>, NameWord<'_>)>,
 ) -> Result<(), NoMemory>
     ensures same { given names.new ≡ given names.old }
     ensures place { OnOk result (has_all names.new (listed_two two.now) ≡ true) }
@@ -67,7 +70,7 @@ fn add_two<N: Copy>(
 }
 
 /// Puts a number in a name's place.
-pub fn fill<N: Copy>(names: &mut Numbers<Option<N>>, name: &Name, number: N)
+pub fn fill<N: Copy>(names: &mut Numbers<Option<N>>, name: &NameWord<'_>, number: N)
     requires { map.contains_key names.old name.now ≡ true }
     ensures set { given names.new ≡ map.insert (given names.old) name.now number }
     ensures keeps { KeepsNames names.old names.new }
@@ -108,7 +111,7 @@ impl Places {
     }
 
     /// The process of a name: one of the header, or one that the lane gave.
-    pub fn pid_of(&self, header: &Numbers<u32>, name: &Name) -> Pid
+    pub fn pid_of(&self, header: &Numbers<u32>, name: &NameWord<'_>) -> Pid
         ensures { result.0 ≡ pid_of header.now (standing self.now) name.now }
     {
         match number_of(&self.procs, name) {
@@ -118,7 +121,7 @@ impl Places {
     }
 
     /// The descriptor that a word says.
-    pub fn fd_of(&self, word: &FdWord) -> Fd
+    pub fn fd_of(&self, word: &FdWord<'_>) -> Fd
         ensures { result.0 ≡ fd_of (standing self.now) word.now }
     {
         match word {
@@ -128,7 +131,7 @@ impl Places {
     }
 
     /// Which descriptors a child gets.
-    pub fn keep_of(&self, word: &KeepWord) -> Keep
+    pub fn keep_of(&self, word: &KeepWord<'_>) -> Keep
         ensures { result ≡ keep_of (standing self.now) word.now }
     {
         match word {

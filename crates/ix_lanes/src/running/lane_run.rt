@@ -1,8 +1,10 @@
-ghost use Rattle.std.specs.Prelude.{◌≡◌, ◌≤◌, ◌<◌, suc, List, true, length, take, IfOk, IfErr, OnErr};
+ghost use Rattle.std.specs.Prelude.{◌≡◌, ◌≤◌, ◌<◌, suc, List, true, length, take, IfOk, IfErr, OnOk, OnErr};
 ghost use Rattle.ix_model.specs.history.Made.{Made};
 ghost use Rattle.ix_script.specs.lines.Before.{lanes_of};
+ghost use Rattle.ix_script.specs.lines.Roles.{role_of};
 ghost use Rattle.ix_lanes.specs.asking.Asked.{no_names};
-ghost use Rattle.ix_lanes.specs.asking.Places.{KeepsPlaces, standing};
+ghost use Rattle.ix_lanes.specs.asking.Places.{has_places, KeepsPlaces, standing};
+ghost use Rattle.ix_lanes.specs.histories.Indexed.{line_in};
 ghost use Rattle.ix_lanes.specs.histories.Lanes.{is_seat};
 ghost use Rattle.ix_lanes.specs.running.Fields.{all_placed};
 ghost use Rattle.ix_lanes.specs.running.Lines.{LinesCut, LinesDone, Makes, Stops};
@@ -10,12 +12,12 @@ ghost use Rattle.ix_lanes.specs.running.Phases.{lane_among, seat_at};
 
 use crate::asking::numbers::Numbers;
 use crate::asking::places::Places;
-use crate::lanes::{header_of, seat_after};
-use crate::lines::line_at;
+use crate::lanes::{header_of, seat_past};
+use crate::lines::{line_at, role_at};
 use crate::running::line::run_line;
 use crate::running::phases::phase_end;
 use ix_model::{Answer, NoMemory, Sys};
-use ix_script::Script;
+use ix_script::{Role, Script};
 use std::alloc::Global;
 use std::marker::Model;
 
@@ -29,6 +31,23 @@ fn is_lane(seat: Option<u32>, lane: u32) -> bool
     }
 }
 
+/// Finds the names that the line at an index gives their places. The line is made only where it may give any.
+fn add_names(places: &mut Places, script: &Script, index: u32, role: Role) -> Result<(), NoMemory>
+    requires within { index < length script.now }
+    requires role { role ≡ role_of (line_in script.now index) }
+    ensures same { standing places.new ≡ standing places.old }
+    ensures places { OnOk result (has_places places.new (line_in script.now index) ≡ true) }
+    ensures keeps { KeepsPlaces places.old places.new }
+{
+    match role {
+        Role::Naming | Role::Server => match line_at(script, index) {
+            Some(line) => places.add(&line),
+            None => Err(NoMemory),
+        },
+        _ => Ok(()),
+    }
+}
+
 /// The places of all names that the lines of a lane give.
 fn places_of(alloc: Global, script: &Script, lane: u32) -> Result<Places, NoMemory>
     ensures none { IfOk result (λ places. standing places ≡ no_names) }
@@ -37,13 +56,11 @@ fn places_of(alloc: Global, script: &Script, lane: u32) -> Result<Places, NoMemo
     let mut places = Places::new(alloc);
     let mut seat = None;
     for index in 0..script.len() {
-        let Some(line) = line_at(script, index) else {
-            return Err(NoMemory);
-        };
+        let role = role_at(script, index);
         if is_lane(seat, lane) {
-            places.add(&line)?;
+            add_names(&mut places, script, index, role)?;
         }
-        seat = seat_after(script, seat, &line);
+        seat = seat_past(script, seat, index, role);
     }
     Ok(places)
 }
@@ -76,10 +93,11 @@ fn run_lines<S: Sys>(
     let mut payload = [0; 4096];
     let mut buf = [0; 4096];
     for index in first..end {
-        let Some(line) = line_at(script, index) else {
-            return Ok(seat);
-        };
+        let role = role_at(script, index);
         if is_lane(seat, lane) {
+            let Some(line) = line_at(script, index) else {
+                return Ok(seat);
+            };
             run_line(
                 sys,
                 header,
@@ -91,7 +109,7 @@ fn run_lines<S: Sys>(
                 &mut buf,
             )?;
         }
-        seat = seat_after(script, seat, &line);
+        seat = seat_past(script, seat, index, role);
     }
     Ok(seat)
 }

@@ -1,14 +1,16 @@
-ghost use Rattle.std.specs.Prelude.{◌≡◌, suc, length};
+ghost use Rattle.std.specs.Prelude.{◌≡◌, ◌<◌, suc, length};
+ghost use Rattle.ix_lanes.specs.histories.Indexed.{line_in};
 ghost use Rattle.ix_lanes.specs.running.Phases.{is_phase, lines_before, phases};
 
-use crate::lines::line_at;
-use ix_script::{Line, Script};
+use crate::lines::role_at;
+use ix_script::{Role, Script};
 
-/// Whether a line is a `phase` line.
-fn is_phase(line: &Line<'_>) -> bool
-    ensures { result ≡ is_phase line.now }
+/// Whether the line at an index is a `phase` line.
+fn is_phase_at(script: &Script, index: u32) -> bool
+    requires { index < length script.now }
+    ensures { result ≡ is_phase (line_in script.now index) }
 {
-    matches!(line, Line::Phase)
+    matches!(role_at(script, index), Role::Phase)
 }
 
 /// How many phases a script has: one at least.
@@ -18,10 +20,7 @@ pub fn phases_in(script: &Script) -> u32
 {
     let mut count = 0;
     for index in 0..script.len() {
-        let Some(line) = line_at(script, index) else {
-            return 1;
-        };
-        if is_phase(&line) {
+        if is_phase_at(script, index) {
             count += 1;
         }
     }
@@ -35,10 +34,7 @@ pub fn phase_end(script: &Script, first: u32, phase: u32) -> u32
 {
     let mut passed = false;
     for index in first..script.len() {
-        let Some(line) = line_at(script, index) else {
-            return script.len();
-        };
-        if is_phase(&line) {
+        if is_phase_at(script, index) {
             if passed {
                 return index;
             }

@@ -1,6 +1,8 @@
-use Rattle.std.proofs.Common.{sym, ◌∙◌, arith, refl}
+use Rattle.std.proofs.Common.{◌∙◌, arith, refl}
+use Rattle.ix_lanes.specs.histories.Indexed.{line_in}
 use Rattle.ix_lanes.specs.histories.Serial.{header_of}
 use Rattle.ix_lanes.proofs.found.Numbering.{numbered_on, numbered_end}
+use Rattle.ix_lanes.proofs.found.Roles.{line-there}
 use Rattle.ix_lanes.proofs.lanes.header_of.Goals as goal
 
 pub loop-index-init : goal.loop-index-init
@@ -8,11 +10,13 @@ unfolding header_of
 loop-index-init c = record { names = rw (c.new-header.ensures) refl; few = omega arith }
 
 pub loop-index-preserved : goal.loop-index-preserved
-loop-index-preserved c = record {
-  names = rw (c.in_ok-count.ensures.header) (numbered_on c.loop-index.count c.in_ok-count.count c.args.script.now c.loop-index.index c.in-Some.line c.loop-index.header (sym c.in-Some.ensures) c.in_ok-count.ensures.count.0
-      ∙ c.loop-index.invariant.names);
-  few = omega (arith, c.in_ok-count.ensures.count.1, c.loop-index.invariant.few);
-}
+loop-index-preserved c =
+    let at = line-there c.args.script.now c.loop-index.index (omega (arith, c.len-index-end.ensures.len, c.loop-index-test.true)) in
+    record {
+      names = rw (c.in_ok-count.ensures.header) (numbered_on c.loop-index.count c.in_ok-count.count c.args.script.now c.loop-index.index (line_in c.args.script.now c.loop-index.index) c.loop-index.header at c.in_ok-count.ensures.count.0
+          ∙ c.loop-index.invariant.names);
+      few = omega (arith, c.in_ok-count.ensures.count.1, c.loop-index.invariant.few);
+    }
 
 pub returns : goal.returns
 returns c = numbered_end c.loop-index.count c.args.script.now c.loop-index.index c.loop-index.header _ (omega (arith, c.len-index-end.ensures.len, c.loop-index-test.false)) c.loop-index.invariant.names

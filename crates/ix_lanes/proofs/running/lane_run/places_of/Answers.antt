@@ -1,35 +1,37 @@
-use Rattle.std.proofs.Common.{◌+◌, List, take, sym, ap, ◌∙◌, arith}
-use Rattle.std.proofs.lemmas.Option.{slice_get_within}
+use Rattle.std.proofs.Common.{◌+◌, ◌<◌, List, length, take, sym, ap, ◌∙◌, arith}
 use Rattle.ix_script.specs.declared.line.Line.{Line}
 use Rattle.ix_script.specs.lines.Before.{lanes_of}
 use Rattle.ix_lanes.specs.asking.Places.{standing}
+use Rattle.ix_lanes.specs.histories.Indexed.{line_in}
 use Rattle.ix_lanes.specs.histories.Lanes.{is_seat}
 use Rattle.ix_lanes.specs.histories.Serial.{seat_after}
 use Rattle.ix_lanes.specs.running.Fields.{all_placed}
 use Rattle.ix_lanes.specs.running.Phases.{lane_among}
+use Rattle.ix_lanes.proofs.found.Roles.{line-there}
 use Rattle.ix_lanes.proofs.phased.LaneLines.{seat_one_more}
 use Rattle.ix_lanes.proofs.phased.OneMore.{placed-here, placed-not}
-use Rattle.ix_lanes.proofs.running.lane_run.places_of.Goals.{then-is_lane+in_ok-add, else-is_lane}
+use Rattle.ix_lanes.proofs.running.lane_run.places_of.Goals.{then-is_lane+in_ok-add_names, else-is_lane}
 use Rattle.ix_lanes.proofs.running.lane_run.places_of.Goals as goal
 
 pub loop-index-preserved : goal.loop-index-preserved
 loop-index-preserved c =
     let s : List Line = c.args.script.now in
     let i = c.loop-index.index in
-    let l : Line = c.in-Some.line in
-    let at = sym c.in-Some.ensures in
+    let within : i < length s = omega (arith, c.len-index-end.ensures.len, c.loop-index-test.true) in
+    let l : Line = line_in s i in
+    let at = line-there s i within in
     let seat = sym (ap (is_seat c.args.lane) c.loop-index.invariant.seat) ∙ sym c.is_lane.ensures in
     record {
       none = elim c.if-is_lane.branch [
-        | then-is_lane+in_ok-add w ↦ ap standing w.places-is ∙ w.add.ensures.same ∙ c.loop-index.invariant.none
+        | then-is_lane+in_ok-add_names w ↦ ap standing w.places-is ∙ w.add_names.ensures.same ∙ c.loop-index.invariant.none
         | else-is_lane w ↦ ap standing w.places-is ∙ c.loop-index.invariant.none
       ];
       all = elim c.if-is_lane.branch [
-        | then-is_lane+in_ok-add w ↦ ap (λ p. all_placed p (lane_among s c.args.lane (take (i + 1) s))) w.places-is
-            ∙ placed-here s c.args.lane i l at c.loop-index.places w.add.new.self (seat ∙ w.if-is_lane.true) c.loop-index.invariant.all w.add.ensures.keeps w.in_ok-add.ensures.places
+        | then-is_lane+in_ok-add_names w ↦ ap (λ p. all_placed p (lane_among s c.args.lane (take (i + 1) s))) w.places-is
+            ∙ placed-here s c.args.lane i l at c.loop-index.places w.add_names.new.places (seat ∙ w.if-is_lane.true) c.loop-index.invariant.all w.add_names.ensures.keeps w.in_ok-add_names.ensures.places
         | else-is_lane w ↦ ap (λ p. all_placed p (lane_among s c.args.lane (take (i + 1) s))) w.places-is
             ∙ placed-not s c.args.lane i l at c.loop-index.places (seat ∙ w.if-is_lane.false) c.loop-index.invariant.all
       ];
-      seat = c.seat_after-seat.ensures ∙ ap (λ a. seat_after (lanes_of s) a l) c.loop-index.invariant.seat ∙ sym (seat_one_more s i l at);
-      within = omega (arith, slice_get_within s i _ at);
+      seat = c.seat_past-seat.ensures ∙ ap (λ a. seat_after (lanes_of s) a l) c.loop-index.invariant.seat ∙ sym (seat_one_more s i l at);
+      within = omega (arith, within);
     }

@@ -3,13 +3,15 @@ use Rattle.ix_script.specs.declared.line.Line.{Line}
 use Rattle.ix_script.specs.lines.Before.{lanes_of}
 use Rattle.ix_lanes.specs.asking.Asked.{no_names}
 use Rattle.ix_lanes.specs.asking.Places.{standing}
+use Rattle.ix_lanes.specs.histories.Indexed.{line_in}
 use Rattle.ix_lanes.specs.histories.Lanes.{is_seat}
 use Rattle.ix_lanes.specs.histories.Serial.{seat_after}
 use Rattle.ix_lanes.specs.running.Lines.{LinesCut, Stops}
 use Rattle.ix_lanes.specs.running.Phases.{lane_among}
+use Rattle.ix_lanes.proofs.found.Roles.{line-there}
 use Rattle.ix_lanes.proofs.phased.LaneLines.{seat_one_more}
 use Rattle.ix_lanes.proofs.phased.OneMore.{keeps-lines, line-cut, line-here, line-not, makes-then, placed-line, stops-then}
-use Rattle.ix_lanes.proofs.running.lane_run.run_lines.Goals.{then-is_lane+in_ok-run_line, else-is_lane}
+use Rattle.ix_lanes.proofs.running.lane_run.run_lines.Goals.{then-is_lane+in-Some+in_ok-run_line, else-is_lane}
 use Rattle.ix_lanes.proofs.running.lane_run.run_lines.Goals as goal
 
 pub run_line-requires-clause-places : goal.run_line-requires-clause-places
@@ -44,13 +46,13 @@ loop-index-preserved g c =
     let s : List Line = c.args.script.now in
     let lane = c.args.lane in
     let i = c.loop-index.index in
-    let l : Line = c.in-Some.line in
-    let at = sym c.in-Some.ensures in
+    let l : Line = line_in s i in
+    let at = line-there s i (omega (arith, c.loop-index-test.true, c.requires.within.1)) in
     let seat = sym (ap (is_seat lane) c.loop-index.invariant.seat) ∙ sym c.is_lane.ensures in
     record {
       within = omega (arith, c.loop-index-test.true);
       made = elim c.if-is_lane.branch [
-        | then-is_lane+in_ok-run_line w ↦
+        | then-is_lane+in-Some+in_ok-run_line w ↦
             let one = w.in_ok-run_line.ensures.done in (
               c.loop-index.invariant.made.0 ++ one.0,
               rw w.sys-is (makes-then g.S.Sys.seat g.S.Sys.made g.S.Sys.stops g.S.Sys.follows g.S.Sys.transitive _ _ _ _ _ c.loop-index.invariant.made.1 one.1),
@@ -58,17 +60,17 @@ loop-index-preserved g c =
         | else-is_lane w ↦ rw w.sys-is c.loop-index.invariant.made
       ];
       done = elim c.if-is_lane.branch [
-        | then-is_lane+in_ok-run_line w ↦
+        | then-is_lane+in-Some+in_ok-run_line w ↦
             let one = w.in_ok-run_line.ensures.done in
             rw (w.sys-is, w.places-is, one.1.made)
-            (line-here s lane i l at c.args.header.now no_names (standing c.loop-index.places) (standing w.run_line.new.places) (g.S.Sys.made c.loop-index.sys) one.0 (seat ∙ w.if-is_lane.true) c.loop-index.invariant.done one.2)
+            (line-here s lane i w.in-Some.line (sym w.in-Some.ensures) c.args.header.now no_names (standing c.loop-index.places) (standing w.run_line.new.places) (g.S.Sys.made c.loop-index.sys) one.0 (seat ∙ w.if-is_lane.true) c.loop-index.invariant.done one.2)
         | else-is_lane w ↦
             rw (w.sys-is, w.places-is)
             (line-not s lane i l at c.args.header.now no_names (standing c.loop-index.places) (g.S.Sys.made c.loop-index.sys) (seat ∙ w.if-is_lane.false) c.loop-index.invariant.done)
       ];
-      seat = c.seat_after-seat.ensures ∙ ap (λ a. seat_after (lanes_of s) a l) c.loop-index.invariant.seat ∙ sym (seat_one_more s i l at);
+      seat = c.seat_past-seat.ensures ∙ ap (λ a. seat_after (lanes_of s) a l) c.loop-index.invariant.seat ∙ sym (seat_one_more s i l at);
       keeps = elim c.if-is_lane.branch [
-        | then-is_lane+in_ok-run_line w ↦ rw w.places-is (λ m h. w.run_line.ensures.keeps m (c.loop-index.invariant.keeps m h))
+        | then-is_lane+in-Some+in_ok-run_line w ↦ rw w.places-is (λ m h. w.run_line.ensures.keeps m (c.loop-index.invariant.keeps m h))
         | else-is_lane w ↦ rw w.places-is c.loop-index.invariant.keeps
       ];
     }

@@ -13,7 +13,7 @@ returns g c =
           rw (w.self-inside-is, ← c.self.view_is)
           (map-put c.args.name.now c.args.number c.self.inside.numbers.entries (c.get_mut.follows.lender c.args.number).entries there
           ((c.get_mut.follows.holds c.args.number).0
-          ∙ ap (λ (q : List ℕ). with_value q c.self.inside.numbers.entries c.args.number) c.as_bytes.ensures.bytes))
+          ∙ ap (λ (q : List ℕ). with_value q c.self.inside.numbers.entries c.args.number) c.as_bytes.ensures))
       | in_default w ↦ absurd (not_there c.args.name.now c.self.inside.numbers.entries
-          (rw c.as_bytes.ensures.bytes at (sym c.get_mut.ensures.value ∙ ap option_copied_mut w.in_default.is)) there)
+          (rw c.as_bytes.ensures at (sym c.get_mut.ensures.value ∙ ap option_copied_mut w.in_default.is)) there)
     ]

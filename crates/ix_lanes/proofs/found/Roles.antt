@@ -1,0 +1,70 @@
+-- What follows of a line from what it is for.
+use Rattle.std.proofs.Common.{◌≡◌, ℕ, ◌<◌, true, false, List, [], length, Option, Some, None, refl, sym, slice_get}
+use Rattle.std.proofs.lemmas.Option.{get_or_from_slice_get, slice_get-get_or}
+use Rattle.ix_script.specs.declared.line.Line.{Line}
+use Rattle.ix_script.specs.declared.line.Line.TheVariants as line
+use Rattle.ix_script.specs.declared.role.Role.TheVariants as role
+use Rattle.ix_script.specs.lines.Before.{new_fds, new_procs, proc_name_told}
+use Rattle.ix_script.specs.lines.Roles.{role_of}
+use Rattle.ix_lanes.specs.declared.asking.places.Places.{Places}
+use Rattle.ix_lanes.specs.asking.Places.{has_places}
+use Rattle.ix_lanes.specs.histories.Indexed.{line_in}
+use Rattle.ix_lanes.specs.histories.Serial.{seat_after}
+use Rattle.ix_lanes.specs.running.Phases.{is_phase}
+
+-- ---- the line at an index
+pub line-there : (s : List Line) (i : ℕ) → i < length s → slice_get s i ≡ Some (line_in s i)
+line-there s i within = slice_get-get_or s i line.Skipped within
+
+pub line-is : (s : List Line) (i : ℕ) (l : Line) → slice_get s i ≡ Some l → l ≡ line_in s i
+line-is s i l at = sym (get_or_from_slice_get s i l line.Skipped at)
+
+-- ---- phases
+pub phase-role : (l : Line) → role_of l ≡ role.Phase → is_phase l ≡ true
+unfolding role_of
+phase-role line.Phase is = refl
+phase-role _ is = cc
+
+pub no-phase : (l : Line) → (role_of l ≡ role.Phase → ⊥) → is_phase l ≡ false
+unfolding role_of
+no-phase line.Phase not = absurd (not refl)
+no-phase _ not = refl
+
+-- ---- seats
+-- a phase begins in no lane
+pub seat-begun : (lanes : List (List ℕ)) (at : Option ℕ) (l : Line) → role_of l ≡ role.Phase → seat_after lanes at l ≡ None
+unfolding role_of
+seat-begun lanes at line.Phase is = refl
+seat-begun lanes at _ is = cc
+
+-- a line that begins neither a phase nor a lane's part of it leaves the seat
+pub seat-left : (lanes : List (List ℕ)) (at : Option ℕ) (l : Line) → (role_of l ≡ role.Phase → ⊥) → (role_of l ≡ role.Lane → ⊥) → seat_after lanes at l ≡ at
+unfolding role_of
+seat-left lanes at line.Phase no_phase no_lane = absurd (no_phase refl)
+seat-left lanes at (line.Lane name) no_phase no_lane = absurd (no_lane refl)
+seat-left lanes at _ no_phase no_lane = refl
+
+-- ---- names
+-- a line that doesn't stand in the header names no process of it
+pub no-proc : (l : Line) → (role_of l ≡ role.Header → ⊥) → proc_name_told l ≡ []
+unfolding role_of
+no-proc (line.Proc name label ceiling cap lic) not = absurd (not refl)
+no-proc _ not = refl
+
+no-fds : (l : Line) → (role_of l ≡ role.Naming → ⊥) → new_fds l ≡ []
+unfolding role_of
+no-fds (line.Open proc path mode named) not = absurd (not refl)
+no-fds (line.Dup proc fd named) not = absurd (not refl)
+no-fds (line.Pipe proc named) not = absurd (not refl)
+no-fds _ not = refl
+
+no-procs : (l : Line) → (role_of l ≡ role.Naming → ⊥) → (role_of l ≡ role.Server → ⊥) → new_procs l ≡ []
+unfolding role_of
+no-procs (line.Fork proc keep named) not no_server = absurd (not refl)
+no-procs (line.Login proc fd hand named) not no_server = absurd (no_server refl)
+no-procs _ not no_server = refl
+
+-- a line that gives no name needs no place
+pub no-places : (places : Places) (l : Line) → (role_of l ≡ role.Naming → ⊥) → (role_of l ≡ role.Server → ⊥) → has_places places l ≡ true
+unfolding has_places
+no-places places l not no_server = rw (no-fds l not, no-procs l not no_server) refl
