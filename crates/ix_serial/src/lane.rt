@@ -1,13 +1,14 @@
 ghost use Rattle.std.specs.Prelude.{◌≡◌, ◌+◌, ◌≤◌, ◌<◌, length, IfOk};
-ghost use Rattle.ix_model.specs.history.Seats.{GoesOn};
 ghost use Rattle.ix_script.specs.lines.Before.{lanes_of};
 ghost use Rattle.ix_lanes.specs.running.Phases.{phases};
+ghost use Rattle.ix_witness.specs.Seen.{GoesSeen};
 ghost use Rattle.ix_serial.specs.Running.{HasRoom, IsLane, lane_at_first};
 
-use ix_core::{Core, CoreSys};
+use ix_core::Core;
 use ix_lanes::LaneRun;
 use ix_model::NoMemory;
 use ix_script::Script;
+use ix_witness::{SeenSys, Witness};
 use std::alloc::Global;
 
 /// A lane of a script, as it is run on a core, and how many phases it has done.
@@ -28,34 +29,34 @@ impl<'a> SerialLane<'a> {
         Ok(SerialLane { run, seat, done: 0 })
     }
 
-    /// Runs the lane's next phase.
-    fn run_phase(&mut self, core: &mut Core)
+    /// Runs the lane's next phase before a witness.
+    fn run_phase<W: Witness>(&mut self, core: &mut Core, witness: &mut W)
         requires few { self.old.done < 4294967295 }
         requires phase { self.old.done < phases self.old.run.script }
         requires is { IsLane self.old.run.script self.old.seat core.old self.old }
         requires room { HasRoom self.old.run.script self.old.seat core.old }
         ensures done { self.new.done ≡ self.old.done + 1 }
         ensures is { IsLane self.old.run.script self.old.seat core.new self.new }
-        ensures on { GoesOn self.old.seat core.old core.new }
+        ensures on { GoesSeen W.knows self.old.seat core.old witness.old core.new witness.new }
     {
-        let mut sys = CoreSys::new(core, self.seat);
+        let mut sys = SeenSys::new(core, self.seat, witness);
         match self.run.phase(&mut sys, self.done) {
             None => self.done += 1,
             Some(_) => unreachable!(),
         }
     }
 
-    /// Runs the phases of the lane that it hasn't done, up to so many.
-    pub fn run_to(&mut self, core: &mut Core, end: u32)
+    /// Runs the phases of the lane that it hasn't done, up to so many, before a witness.
+    pub fn run_to<W: Witness>(&mut self, core: &mut Core, witness: &mut W, end: u32)
         requires within { end ≤ phases self.old.run.script }
         requires is { IsLane self.old.run.script self.old.seat core.old self.old }
         requires room { HasRoom self.old.run.script self.old.seat core.old }
         ensures done { self.old.done ≤ end → self.new.done ≡ end }
         ensures is { IsLane self.old.run.script self.old.seat core.new self.new }
-        ensures on { GoesOn self.old.seat core.old core.new }
+        ensures on { GoesSeen W.knows self.old.seat core.old witness.old core.new witness.new }
     {
         for _ in self.done..end {
-            self.run_phase(core);
+            self.run_phase(core, witness);
         }
     }
 }

@@ -1,14 +1,18 @@
-ghost use Rattle.std.specs.Prelude.{◌≡◌, ◌<◌, [], true, IfOk, OnOk};
+ghost use Rattle.std.specs.Prelude.{◌≡◌, ◌<◌, [], true, IfOk, OnErr, OnOk};
+ghost use Rattle.ix_script.specs.lines.Roles.{role_of};
+ghost use Rattle.ix_script.specs.declared.line.Line.{Line};
 ghost use Rattle.ix_script.specs.scripts.Scripts.{config_of};
 ghost use Rattle.ix_lanes.specs.histories.Serial.{serial};
+ghost use Rattle.ix_witness.specs.Seen.{KnowsOn};
 ghost use Rattle.ix_serial.specs.Running.{AreAtFirst, begun_after};
 ghost use Rattle.ix_serial.specs.Sections.{has_placed_lanes};
 
 use crate::lane::SerialLane;
 use ix_core::Core;
-use ix_lanes::{line_at, seat_after};
+use ix_lanes::{role_at, seat_past};
 use ix_model::NoMemory;
-use ix_script::{Line, Script};
+use ix_script::{Role, Script};
+use ix_witness::Witness;
 use std::alloc::Global;
 
 /// The lanes of a script, none of whose phases is done.
@@ -28,46 +32,58 @@ fn first_lanes(alloc: Global, script: &Script) -> Result<Vec<SerialLane<'_>>, No
     Ok(lanes)
 }
 
-/// How many phases have begun after a line, where so many have begun before it.
-fn begun_after(begun: u32, line: &Line) -> u32
+/// How many phases have begun after a line of a role, where so many have begun before it.
+fn begun_after(begun: u32, role: Role) -> u32
     requires { begun < 4294967295 }
-    ensures { result ≡ begun_after begun line.now }
+    ensures { (line : Line) → role ≡ role_of line → result ≡ begun_after begun line }
 {
-    match line {
-        Line::Phase => begun + 1,
+    match role {
+        Role::Phase => begun + 1,
         _ => begun,
     }
 }
 
-/// Runs the lanes of a script phase by phase, in each phase in the order in which they are written. The journal has room for
-/// all: `NoMemory` is of the lanes' runs alone, and nothing was run then.
-fn run_lines(alloc: Global, core: &mut Core, script: &Script) -> Result<(), NoMemory>
+/// Runs the lanes of a script phase by phase, in each phase in the order in which they are written, before a witness. The journal
+/// has room for all: `NoMemory` is of the lanes' runs alone, and nothing was run then.
+fn run_lines<W: Witness>(
+    alloc: Global,
+    core: &mut Core,
+    script: &Script,
+    witness: &mut W,
+) -> Result<(), NoMemory>
     requires new { core.old ≡ record { config = config_of script.now; events = [] } }
     requires lanes { has_placed_lanes script.now ≡ true }
-    ensures { OnOk result (core.new ≡ record { config = config_of script.now; events = serial script.now }) }
+    ensures serial { OnOk result (core.new ≡ record { config = config_of script.now; events = serial script.now }) }
+    ensures seen { OnOk result (KnowsOn W.knows core.old witness.old core.new witness.new) }
+    ensures unseen { OnErr result (witness.new ≡ witness.old) }
 {
     let mut lanes = first_lanes(alloc, script)?;
     let mut begun = 0;
     for index in 0..script.len() {
-        let Some(line) = line_at(script, index) else {
-            unreachable!();
-        };
-        begun = begun_after(begun, &line);
-        if let Some(seat) = seat_after(script, None, &line) {
-            lanes[seat as usize].run_to(core, begun);
+        let role = role_at(script, index);
+        begun = begun_after(begun, role);
+        if let Some(seat) = seat_past(script, None, index, role) {
+            lanes[seat as usize].run_to(core, witness, begun);
         }
     }
     Ok(())
 }
 
-/// Runs the lanes of a script on a new core: phase by phase, and in each phase in the order in which they are written. It has
-/// the script's serial history then. The journal has room for all: `NoMemory` is of the core and of the lanes' runs alone.
-pub fn run_history(alloc: Global, script: &Script) -> Result<Core, NoMemory>
+/// Runs the lanes of a script on a new core, before a witness: phase by phase, and in each phase in the order in which they are
+/// written. The core has the script's serial history then, and of that the witness knows. The journal has room for all: `NoMemory` is
+/// of the core and of the lanes' runs alone, and then the witness has seen nothing.
+pub fn run_history<W: Witness>(
+    alloc: Global,
+    script: &Script,
+    witness: &mut W,
+) -> Result<Core, NoMemory>
     requires { has_placed_lanes script.now ≡ true }
     ensures config { IfOk result (λ core. core.config ≡ config_of script.now) }
     ensures serial { IfOk result (λ core. core.events ≡ serial script.now) }
+    ensures seen { IfOk result (λ core. KnowsOn W.knows (record { config = config_of script.now; events = [] }) witness.old core witness.new) }
+    ensures unseen { OnErr result (witness.new ≡ witness.old) }
 {
     let mut core = Core::boot(alloc, script.config(alloc)?)?;
-    run_lines(alloc, &mut core, script)?;
+    run_lines(alloc, &mut core, script, witness)?;
     Ok(core)
 }

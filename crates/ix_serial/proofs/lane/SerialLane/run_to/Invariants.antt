@@ -1,12 +1,12 @@
 use Rattle.std.proofs.Common.{◌≡◌, ◌≤◌}
-use Rattle.ix_model.specs.history.Seats.{GoesOn}
+use Rattle.ix_witness.specs.Seen.{GoesSeen}
 use Rattle.ix_serial.specs.Running.{IsLane}
 use Rattle.ix_serial.proofs.lane.SerialLane.run_to.Given as goal
 
 abbrev pub invariant-loop : goal.invariant-loop
-invariant-loop l = record {
+invariant-loop g l = record {
   done : l.self.done ≡ l.counter;
   within : l.fn.self.done ≤ l.end → l.counter ≤ l.end;
   is : IsLane l.fn.self.run.script l.fn.self.seat l.core l.self;
-  on : GoesOn l.fn.self.seat l.fn.core l.core;
+  on : GoesSeen g.W.Witness.knows l.fn.self.seat l.fn.core l.fn.witness l.core l.witness;
 }

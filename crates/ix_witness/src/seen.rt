@@ -1,0 +1,136 @@
+ghost use Rattle.std.specs.Prelude.{◌≡◌, ◌<◌, ◌≤◌};
+ghost use Rattle.ix_model.specs.history.Calls.{op_of};
+ghost use Rattle.ix_model.specs.history.Cost.{cost_of_history};
+ghost use Rattle.ix_model.specs.history.Made.{entry};
+ghost use Rattle.ix_model.specs.history.Seats.{made_by, GoesOn};
+ghost use Rattle.ix_model.specs.history.Shown.{AreShown};
+ghost use Rattle.ix_model.specs.history.Systems.{bytes_in, made_after, FullFor, Fits, LeavesRest};
+ghost use Rattle.ix_core.specs.Stops.{FilledUp, StopsWhereFull};
+ghost use Rattle.ix_witness.specs.Seen.{MakesNext};
+
+use crate::witness::Witness;
+use ix_core::Core;
+use ix_label::Steps;
+use ix_model::{Answer, Buf, Call, Pid, Reply, Sys};
+use std::marker::Brand;
+use std::sync::ledger::{Blank, Ledger};
+
+/// What makes calls on a core as one seat, on one thread, before a witness, which sees each entry as it is made. It borrows both.
+///
+/// It means the entries of its seat in the core's history, each with the reply and the bytes that the history's run gives. A
+/// full journal alone stops its calls; the witness sees nothing of these.
+#[derive(Drop)]
+pub struct SeenSys<'a, W: Witness> {
+    core: &'a mut Core,
+    seat: u32,
+    witness: &'a mut W,
+    /// How many calls stopped, at most 2^64 - 1.
+    stops: u64,
+    /// What the last stop told; zeros where there was none.
+    used: u64,
+    need: u64,
+    cap: u64,
+    ghost last: { 0 < stops → FilledUp used cap core.now },
+}
+
+impl<'a, W: Witness> SeenSys<'a, W> {
+    /// A seat's system over a core, before a witness. It has the entries that the seat has made there, and no stops.
+    pub fn new(core: &'a mut Core, seat: u32, witness: &'a mut W) -> SeenSys<'a, W>
+        ensures core { (result.core.ghost_name ≡ core.entry.ghost_name) × (result.core.now ≡ core.old) }
+        ensures witness { (result.witness.ghost_name ≡ witness.entry.ghost_name) × (result.witness.now ≡ witness.old) }
+        ensures seat { result.seat ≡ seat }
+        ensures fresh { result.stops ≡ 0 }
+    {
+        SeenSys {
+            core,
+            seat,
+            witness,
+            stops: 0,
+            used: 0,
+            need: 0,
+            cap: 0,
+        }
+    }
+}
+
+impl<W: Witness> Sys for SeenSys<'_, W> {
+    ghost use Rattle.std.specs.Prelude.{refl};
+    ghost use Rattle.std.proofs.Common.{◌∙◌};
+    ghost use Rattle.ix_model.specs.declared.reply.Answer.TheVariants.{JournalFull};
+    ghost use Rattle.ix_witness.specs.Seen.{GoesSeen, goes_seen_not, goes_seen_further};
+
+    ghost seat = { λ s. s.seat };
+
+    ghost made = { λ s. made_by s.seat s.core.now };
+
+    ghost stops = { λ s. s.stops };
+
+    ghost stopped = { λ s. JournalFull s.used s.need s.cap };
+
+    ghost follows = { λ s t. (t.core.ghost_name ≡ s.core.ghost_name) × (t.witness.ghost_name ≡ s.witness.ghost_name) × (t.seat ≡ s.seat)
+        × GoesSeen W.knows s.seat s.core.now s.witness.now t.core.now t.witness.now };
+
+    ghost reflexive = { λ s. (refl, refl, refl, goes_seen_not W.knows s.seat s.core.now s.witness.now) };
+
+    ghost transitive = { λ s t u p q. (
+      q.0 ∙ p.0,
+      q.1 ∙ p.1,
+      q.2 ∙ p.2,
+      goes_seen_further W.knows s.seat t.seat s.core.now s.witness.now t.core.now t.witness.now u.core.now u.witness.now p.2 p.3 q.3,
+    ) };
+
+    fn call(&mut self, line: u32, pid: Pid, call: &Call<'_>, buf: &mut Buf) -> Answer {
+        match make::<Brand>(self.core, self.seat, line, pid, call, buf, Blank::new(1)) {
+            Answer::Given(reply) => {
+                let (core, seat, bytes) = (&*self.core, self.seat, read_by(&reply, buf));
+                self.witness.see(core, line, pid, seat, call, &reply, bytes);
+                Answer::Given(reply)
+            }
+            Answer::JournalFull { used, need, cap } => {
+                self.stops = self.stops.saturating_add(1);
+                self.used = used;
+                self.need = need;
+                self.cap = cap;
+                Answer::JournalFull { used, need, cap }
+            }
+            Answer::NoMemory => Answer::NoMemory,
+        }
+    }
+}
+
+/// The bytes that a reply says were read, at the front of the buffer.
+fn read_by<'b>(reply: &Reply, buf: &'b Buf) -> &'b [u8]
+    requires { AreShown reply.now (bytes_in reply.now buf.now) }
+    ensures { result.now ≡ bytes_in reply.now buf.now }
+{
+    match reply {
+        Reply::Bytes(count) => &buf[..*count as usize],
+        _ => &[],
+    }
+}
+
+/// A seat's call on a core, whose looks at labels nobody counts. The ledger of the steps is the caller's choice.
+fn make<L: Ledger>(
+    core: &mut Core,
+    seat: u32,
+    line: u32,
+    pid: Pid,
+    call: &Call<'_>,
+    buf: &mut Buf,
+    blank: Blank,
+) -> Answer
+    requires name { blank.name ≡ L.name }
+    requires parts { blank.parts ≡ L.parts }
+    requires some { 0 < L.parts }
+    ensures next { MakesNext result core.old core.new (entry seat line pid (op_of call.now)) buf.new }
+    ensures made { made_by seat core.new ≡ made_after result (entry seat line pid (op_of call.now)) buf.new (made_by seat core.old) }
+    ensures on { GoesOn seat core.old core.new }
+    ensures full { FullFor (op_of call.now) result }
+    ensures fits { Fits (op_of call.now) result }
+    ensures rest { LeavesRest result buf.old buf.new }
+    ensures stops { StopsWhereFull result core.new }
+    ensures costs { cost_of_history core.old.events ≤ cost_of_history core.new.events }
+{
+    let mut steps = Steps::<L>::new(blank);
+    core.step(seat, line, pid, call, buf, &mut steps)
+}

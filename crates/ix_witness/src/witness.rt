@@ -1,0 +1,51 @@
+ghost use Rattle.std.specs.Prelude.{◌≡◌};
+ghost use Rattle.ix_model.specs.history.Calls.{op_of};
+ghost use Rattle.ix_model.specs.history.Made.{entry};
+ghost use Rattle.ix_model.specs.history.Shown.{AreShown};
+ghost use Rattle.ix_witness.specs.Seen.{IsNext};
+
+use ix_core::Core;
+use ix_model::{Call, Pid, Reply};
+
+/// What sees the entries of a core as they are made, one after the other.
+pub trait Witness {
+    ghost use Rattle.ix_model.specs.history.History.{History};
+
+    /// What a witness knows of a history whose entries it has seen since it was the first.
+    ghost knows: { Self → History → Self → Type 0 };
+
+    /// Sees an entry that was just made: the core after it, the line of the script that it comes from, the calling process, the
+    /// seat, the call, the reply, and the bytes that were read. Of a history of which it knew before, it knows with that entry.
+    fn see(
+        &mut self,
+        core: &Core,
+        line: u32,
+        pid: Pid,
+        seat: u32,
+        call: &Call<'_>,
+        reply: &Reply,
+        bytes: &[u8],
+    )
+        requires shown { AreShown reply.now bytes.now }
+        ensures knows { (first : Self) (before : History) → IsNext before core.now (entry seat line pid (op_of call.now)) reply.now bytes.now
+            → knows first before self.old → knows first core.now self.new };
+}
+
+/// A witness that looks away. It knows nothing.
+#[derive(Clone, Copy, Debug, PartialEq, Eq)]
+pub struct Nobody;
+
+impl Witness for Nobody {
+    ghost knows = { λ _ _ _. Unit {0} };
+
+    fn see(
+        &mut self,
+        _core: &Core,
+        _line: u32,
+        _pid: Pid,
+        _seat: u32,
+        _call: &Call<'_>,
+        _reply: &Reply,
+        _bytes: &[u8],
+    ) {}
+}
