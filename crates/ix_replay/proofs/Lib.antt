@@ -1,3 +1,4 @@
 pub mod report
 pub mod piecewise
+pub mod Remade
 pub mod Summed

@@ -1,5 +1,5 @@
 -- The entries of a history are added up while they are made once more.
-use Rattle.std.proofs.Common.{◌≡◌, ℕ, suc, ◌+◌, ◌*◌, ◌≤◌, Bool, true, false, not, List, [], ◌∷◌, ◌++◌, length, drop, Option, Some, None, is_some, slice_get, refl, ap, ◌∙◌, subst, arith, add-one, length-append, if◌then◌else◌}
+use Rattle.std.proofs.Common.{◌≡◌, ℕ, suc, ◌+◌, ◌*◌, ◌≤◌, Bool, true, false, not, List, [], ◌∷◌, ◌++◌, length, drop, Option, Some, None, is_some, slice_get, refl, ap, ◌∙◌, subst, arith, add-one, if◌then◌else◌}
 use Rattle.std.specs.List.{sum_by}
 use Rattle.std.proofs.lemmas.Bool.Decides.{nat_tests}
 use Rattle.std.proofs.lemmas.List.{drop_all}
@@ -30,10 +30,10 @@ use Rattle.ix_report.specs.LineText.{totals_line}
 use Rattle.ix_report.specs.declared.totals.Totals.{Totals}
 use Rattle.ix_lanes.specs.asking.Replies.{count_in}
 use Rattle.ix_lanes.proofs.found.Indexed.{rest_is}
-use Rattle.ix_lanes.proofs.serially.Costs.{cost-cons, cost-none, cost-push}
 use Rattle.ix_replay.specs.Summary.{is_refused, bytes_written, refused_in, read_in, written_in, totals_of, summary_line}
 use Rattle.ix_replay.specs.Tallying.{IsSmall, tally_of, with_reply}
 use Rattle.ix_replay.specs.declared.tally.Tally.{Tally}
+use Rattle.ix_replay.proofs.Remade.{Remade, remade_next, remade_none, remade_room}
 
 -- ---- one entry comes to little
 few_shown : (r : Reply) (bytes : List ℕ) → AreShown r bytes → count_in r ≤ 4096
@@ -145,28 +145,23 @@ made_later replay told history = replied (world_of replay) (told + 1) (drop told
 
 -- a core has made so many entries of a history, and they were added up
 pub record SoFar (history replay : History) (told : ℕ) (t : Tally) : Type 0 where
-  pub count : length replay.events ≡ told
-  pub fits : cost_of_history replay.events + cost_of_history (drop told history.events) ≤ replay.config.journal
+  pub made : Remade history replay told
   pub sums : AddsUp t (made_later replay told history) (made_in history)
 
 pub so_far_none : (history : History) → cost_of_history history.events ≤ history.config.journal
     → SoFar history (record { config = history.config; events = [] }) 0 (record { refused = 0; read = 0; written = 0 })
 so_far_none history fits = record {
-  count = refl;
-  fits = omega (arith, fits, cost-none);
+  made = remade_none history fits;
   sums = rw (world_of-none history.config) (adds_none (made_in history));
 }
 
 module _ (history replay : History) (told : ℕ) (t : Tally) (e : Event) (so : SoFar history replay told t) (is : slice_get history.events told ≡ Some e) where
   later : made_later replay told history ≡ made_of e (next replay e) ∷ replied (next replay e).world (told + 1 + 1) (drop (told + 1) history.events)
-  later = rw (rest_is history.events told e is, so.count, add-one (told + 1)) refl
+  later = rw (rest_is history.events told e is, so.made.count, add-one (told + 1)) refl
 
   -- there is room for the next one
   pub so_far_room : cost_of_history replay.events + cost_of e.op ≤ replay.config.journal
-  so_far_room =
-      let left : cost_of_history (drop told history.events) ≡ cost_of e.op + cost_of_history (drop (told + 1) history.events) =
-      ap cost_of_history (rest_is history.events told e is) ∙ cost-cons e (drop (told + 1) history.events) in
-      omega (arith, so.fits, left)
+  so_far_room = remade_room history replay told e so.made is
 
   -- and the tally has room for it
   pub so_far_small : (r : Reply) → r ≡ (next replay e).reply → length history.events ≤ 6800000 → IsSmall (with_reply t e.op r)
@@ -177,11 +172,8 @@ module _ (history replay : History) (told : ℕ) (t : Tally) (e : Event) (so : S
   one_more : SoFar history (with_entry replay e) (told + 1) (with_reply t e.op (next replay e).reply)
   one_more =
       let P : List Made → Type 0 = λ l. AddsUp t l (made_in history) in
-      let left : cost_of_history (drop told history.events) ≡ cost_of e.op + cost_of_history (drop (told + 1) history.events) =
-      ap cost_of_history (rest_is history.events told e is) ∙ cost-cons e (drop (told + 1) history.events) in
       record {
-        count = omega (arith, so.count, length-append replay.events (e ∷ []));
-        fits = omega (arith, so.fits, left, cost-push replay.events e);
+        made = remade_next history replay told e so.made is;
         sums = rw (world_of-push replay e) (adds_next t (made_of e (next replay e)) _ (made_in history) (subst P later so.sums));
       }
 

@@ -1,5 +1,5 @@
-//! The report of a history of a script, told piece by piece while a second core replays it, and a summary of the history in
-//! one line.
+//! The report of a history of a script: the line of each entry as it is made, and what closes it, piece by piece; a history that is
+//! made once more before a witness; and a summary of the history in one line.
 #![tactic(auto)]
 
 pub mod laws;
@@ -7,4 +7,6 @@ mod tally;
 mod telling;
 
 pub use tally::summary;
-pub use telling::report::Report;
+pub use telling::closing::Closing;
+pub use telling::entry::push_entry;
+pub use telling::replay::replay;

@@ -1,6 +1,7 @@
-ghost use Rattle.std.specs.Prelude.{◌≡◌, ◌++◌, OnOk, OnErr};
+ghost use Rattle.std.specs.Prelude.{◌≡◌, ℕ, ◌++◌, OnOk, OnErr};
 ghost use Rattle.std.specs.Option.{option_copied};
-ghost use Rattle.ix_model.specs.history.Calls.{event_of};
+ghost use Rattle.ix_model.specs.history.Calls.{op_of};
+ghost use Rattle.ix_model.specs.history.Made.{entry};
 ghost use Rattle.ix_report.specs.ReplyText.{AreBytesOf};
 ghost use Rattle.ix_report.specs.LineText.{audit_line, entry_line, head_line, object_line, process_line, seen_text, tail_line};
 
@@ -11,7 +12,7 @@ use crate::pieces::push_number;
 use crate::replies::{push_audit, push_reply};
 use crate::words::{kind_word, life_word};
 use ix_label::Label;
-use ix_model::{AuditLine, Entry, NoMemory, ObjView, Pid, ProcView, Reply};
+use ix_model::{AuditLine, Call, NoMemory, ObjView, Pid, ProcView, Reply};
 use ix_script::text::state_word;
 
 /// Appends the first line. After `NoMemory` the bytes are as they were.
@@ -25,26 +26,30 @@ pub fn head(out: &mut Vec<u8>) -> Result<(), NoMemory>
     line.end(out, written)
 }
 
-/// Appends the line of an entry: its place in the history, the name of its lane, its line of the script, the
-/// call and the reply, and the label of the caller's record after the entry, where there is one. `bytes` are those
+/// Appends the line of an entry, whatever its seat: its place in the history, the name of its lane, its line of the script, who
+/// calls, the call and the reply, and the label of the caller's record after the entry, where there is one. `bytes` are those
 /// that were read, where the reply says that some were; else they don't matter. After `NoMemory` the bytes of
 /// `out` are as they were.
 pub fn entry_line(
     out: &mut Vec<u8>,
     place: u32,
     lane: &[u8],
-    entry: &Entry<'_>,
+    number: u32,
+    pid: Pid,
+    call: &Call<'_>,
     reply: &Reply,
     bytes: &[u8],
     label: Option<&Label>,
 ) -> Result<(), NoMemory>
     requires { AreBytesOf reply.now bytes.now }
-    ensures ok { OnOk result (out.new.items ≡ out.old.items
-        ++ entry_line place lane.now (event_of entry.now) reply.now bytes.now (option_copied label.entry)) }
+    ensures ok { (seat : ℕ) → OnOk result (out.new.items ≡ out.old.items
+        ++ entry_line place lane.now (entry seat number pid (op_of call.now)) reply.now bytes.now (option_copied label.entry)) }
     ensures err { OnErr result (out.new.items ≡ out.old.items) }
 {
     let mut line = Line::begin(out);
-    let written = push_entry(&mut line, place, lane, entry, reply, bytes, label);
+    let written = push_entry(
+        &mut line, place, lane, number, pid, call, reply, bytes, label,
+    );
     line.end(out, written)
 }
 
@@ -105,22 +110,24 @@ fn push_entry(
     line: &mut Line,
     place: u32,
     lane: &[u8],
-    entry: &Entry<'_>,
+    number: u32,
+    pid: Pid,
+    call: &Call<'_>,
     reply: &Reply,
     bytes: &[u8],
     label: Option<&Label>,
 ) -> Result<(), NoMemory>
     ensures stays { line.new.before ≡ line.old.before }
-    ensures text { OnOk result (line.new.text ≡ line.old.text
-        ++ entry_line place lane.now (event_of entry.now) reply.now bytes.now (option_copied label.entry)) }
+    ensures text { (seat : ℕ) → OnOk result (line.new.text ≡ line.old.text
+        ++ entry_line place lane.now (entry seat number pid (op_of call.now)) reply.now bytes.now (option_copied label.entry)) }
 {
     push_number(line, u64::from(place))?;
     line.push_byte(b' ')?;
     line.push(lane)?;
     line.push_byte(b' ')?;
-    push_number(line, u64::from(entry.line))?;
+    push_number(line, u64::from(number))?;
     line.push_byte(b' ')?;
-    push_call(line, entry.pid, &entry.call)?;
+    push_call(line, pid, call)?;
     line.push(b" = ")?;
     push_reply(line, reply, bytes)?;
     line.push(b" @ ")?;

@@ -1,4 +1,4 @@
--- One piece more of a report.
+-- One piece more of what closes a report.
 use Rattle.std.proofs.Common.{◌≡◌, ℕ, suc, ◌+◌, ◌-◌, ◌<◌, ◌≤◌, List, [], ◌∷◌, ◌++◌, length, drop, Some, None, refl, sym, ap, ◌∙◌, arith, slice_get, append_assoc, length-append}
 use Rattle.std.specs.Prelude.{codes}
 use Rattle.std.specs.List.{flat_map}
@@ -11,9 +11,9 @@ use Rattle.ix_model.proofs.words.Runs.{world_of-push}
 use Rattle.ix_script.specs.lines.Before.{lanes_of}
 use Rattle.ix_report.specs.LineText.{head_line, audit_line, tail_line}
 use Rattle.ix_replay.specs.report.Report.{entries_text, entry_text, object_text, process_text, texts_from, objects_text, processes_text, closing_text}
-use Rattle.ix_replay.specs.report.Telling.{IsTold, Tells, left_of, entries_left, objects_left, processes_left, log_left, last_world, pieces_of}
-use Rattle.ix_replay.specs.declared.telling.report.Next.TheVariants as stage
-use Rattle.ix_replay.specs.declared.telling.report.Report.{Report}
+use Rattle.ix_replay.specs.report.Telling.{Tells, left_of, objects_left, processes_left, log_left, last_world, pieces_of}
+use Rattle.ix_replay.specs.declared.telling.closing.Next.TheVariants as stage
+use Rattle.ix_replay.specs.declared.telling.closing.Closing.{Closing}
 use Rattle.ix_model.specs.declared.audit.AuditLine.{AuditLine}
 use Rattle.ix_lanes.proofs.serially.Costs.{cost-cons, cost-push}
 use Rattle.ix_lanes.proofs.found.Indexed.{rest_is, none_left}
@@ -40,61 +40,29 @@ all_join : (a b c d e f g : List ℕ) → a ++ ((b ++ c) ++ (d ++ ((e ++ f) ++ g
 all_join a b c d e f g = texts_join a b c (d ++ ((e ++ f) ++ g)) ∙ sym (append_assoc ((a ++ b) ++ c) d ((e ++ f) ++ g)) ∙ texts_join (((a ++ b) ++ c) ++ d) e f g
 
 -- what closes a report, after its entries
-closing_is : (r : Report) → codes "objects\n" ++ objects_left r 0 ≡ closing_text (last_world r) (length r.history.events)
+pub closing_is : (r : Closing) → codes "objects\n" ++ objects_left r 0 ≡ closing_text (last_world r) (length r.history.now.events)
 unfolding objects_left processes_left closing_text objects_text processes_text
 closing_is r =
     let objects = texts_all (object_text (last_world r).frame.objects) (length (last_world r).frame.objects) in
     let processes = texts_all (process_text (last_world r).frame.processes) (length (last_world r).frame.processes) in
     (λ i. codes "objects\n" ++ ((objects i ++ codes "processes\n") ++ (processes i ++ (codes "log\n" ++ log_left r 0))))
     ∙ ap (λ t. codes "objects\n" ++ ((texts_from (object_text (last_world r).frame.objects) 0 (length (last_world r).frame.objects) ++ codes "processes\n") ++ (texts_from (process_text (last_world r).frame.processes) 0 (length (last_world r).frame.processes) ++ t)))
-    (sym (append_assoc (codes "log\n") (flat_map audit_line (last_world r).frame.log) (tail_line (length r.history.events) (length (last_world r).frame.log))))
+    (sym (append_assoc (codes "log\n") (flat_map audit_line (last_world r).frame.log) (tail_line (length r.history.now.events) (length (last_world r).frame.log))))
     ∙ all_join (codes "objects\n") (texts_from (object_text (last_world r).frame.objects) 0 (length (last_world r).frame.objects)) (codes "processes\n")
     (texts_from (process_text (last_world r).frame.processes) 0 (length (last_world r).frame.processes)) (codes "log\n") (flat_map audit_line (last_world r).frame.log)
-    (tail_line (length r.history.events) (length (last_world r).frame.log))
+    (tail_line (length r.history.now.events) (length (last_world r).frame.log))
 
 -- a report can't go on after its end
-pub ended : (r : Report) → r.next ≡ stage.End → 0 < pieces_of r → ⊥
+pub ended : (r : Closing) → r.next ≡ stage.End → 0 < pieces_of r → ⊥
 unfolding pieces_of
 ended r is h = let none : 0 < 0 = rw is at h in absurd (omega (arith, none))
 
--- two pieces one after the other
-pub tells_more : (a b c : Report) (x y z : List ℕ) → Tells a b x y → Tells b c y z → Tells a c x z
-tells_more a b c x y z h k = record {
-  text = k.text ∙ h.text;
-  history = k.history ∙ h.history;
-  fits = λ told. k.fits (h.fits told);
-  fewer = omega (arith, h.fewer, k.fewer);
-}
-
-pub still_told : (a b : Report) (x y : List ℕ) → IsTold a → Tells a b x y → IsTold b
-still_told a b x y h t = t.fits h
-
--- the journal has room for what is left of the history, so for the next entry of it
-pub next_fits : (r : Report) (e : Event) → IsTold r → slice_get r.history.events (length r.replay.events) ≡ Some e → cost_of_history r.replay.events + cost_of e.op ≤ r.replay.config.journal
-next_fits r e told at =
-    let left : cost_of_history (drop (length r.replay.events) r.history.events) ≡ cost_of e.op + cost_of_history (drop (length r.replay.events + 1) r.history.events) =
-    ap cost_of_history (rest_is r.history.events (length r.replay.events) e at) ∙ cost-cons e (drop (length r.replay.events + 1) r.history.events) in
-    omega (arith, told.fits, left)
-
-module _ (r : Report) (before after : List ℕ) where
-  pub head_told : r.next ≡ stage.Head → after ≡ before ++ head_line → Tells r (record r { next = stage.Entry }) before after
-  unfolding left_of entries_left pieces_of
+module _ (r : Closing) (before after : List ℕ) where
+  -- the heading of the objects
+  pub head_told : r.next ≡ stage.Head → after ≡ before ++ codes "objects\n" → Tells r (record r { next = stage.Object 0 }) before after
+  unfolding left_of objects_left processes_left pieces_of
   head_told is e = record {
-    text = rw (e, is) (append_assoc before head_line _);
-    history = refl;
-    fits = λ told. record { fits = told.fits };
-    fewer = rw is (omega arith);
-  }
-
-  -- the heading of the objects, after the last entry
-  pub entries_told : r.next ≡ stage.Entry → length r.history.events ≤ length r.replay.events → after ≡ before ++ codes "objects\n"
-      → Tells r (record r { next = stage.Object 0 }) before after
-  unfolding left_of entries_left pieces_of
-  entries_told is past e = record {
-    text = rw (e, is, drop_all (length r.replay.events) r.history.events past)
-        (append_assoc before (codes "objects\n") (objects_left (record r { next = stage.Object 0 }) 0) ∙ ap (λ t. before ++ t) (closing_is (record r { next = stage.Object 0 })));
-    history = refl;
-    fits = λ told. record { fits = told.fits };
+    text = rw (e, is) (append_assoc before (codes "objects\n") (objects_left (record r { next = stage.Object 0 }) 0));
     fewer = rw is (omega arith);
   }
 
@@ -108,8 +76,6 @@ module _ (r : Report) (before after : List ℕ) where
         ((texts_from (object_text (last_world r).frame.objects) (n + 1) (length (last_world r).frame.objects - (n + 1)) ++ codes "processes\n") ++ processes_left r 0)
         ∙ ap (λ t. before ++ t) (texts_join (object_text (last_world r).frame.objects n) (texts_from (object_text (last_world r).frame.objects) (n + 1) (length (last_world r).frame.objects - (n + 1)))
         (codes "processes\n") (processes_left r 0)));
-    history = refl;
-    fits = λ told. record { fits = told.fits };
     fewer = rw is (omega (arith, within));
   }
 
@@ -119,8 +85,6 @@ module _ (r : Report) (before after : List ℕ) where
   unfolding left_of objects_left processes_left pieces_of
   objects_told n is past e = record {
     text = rw (e, is, texts_past (object_text (last_world r).frame.objects) n (length (last_world r).frame.objects) past) (append_assoc before (codes "processes\n") _);
-    history = refl;
-    fits = λ told. record { fits = told.fits };
     fewer = rw is (omega (arith, past));
   }
 
@@ -131,8 +95,6 @@ module _ (r : Report) (before after : List ℕ) where
   process_told pid is within e = record {
     text = rw (e, is, texts_next (process_text (last_world r).frame.processes) pid (length (last_world r).frame.processes) within)
         (append_assoc before (process_text (last_world r).frame.processes pid) _ ∙ ap (λ t. before ++ t) (sym (append_assoc (process_text (last_world r).frame.processes pid) _ _)));
-    history = refl;
-    fits = λ told. record { fits = told.fits };
     fewer = rw is (omega (arith, within));
   }
 
@@ -142,8 +104,6 @@ module _ (r : Report) (before after : List ℕ) where
   unfolding left_of processes_left pieces_of
   processes_told pid is past e = record {
     text = rw (e, is, texts_past (process_text (last_world r).frame.processes) pid (length (last_world r).frame.processes) past) (append_assoc before (codes "log\n") _);
-    history = refl;
-    fits = λ told. record { fits = told.fits };
     fewer = rw is (omega arith);
   }
 
@@ -154,45 +114,14 @@ module _ (r : Report) (before after : List ℕ) where
   line_told n line is at e = record {
     text = rw (e, is, rest_is (last_world r).frame.log n line at)
         (append_assoc before (audit_line line) _ ∙ ap (λ t. before ++ t) (sym (append_assoc (audit_line line) (flat_map audit_line (drop (n + 1) (last_world r).frame.log)) _)));
-    history = refl;
-    fits = λ told. record { fits = told.fits };
     fewer = let within : n < length (last_world r).frame.log = slice_get_within (last_world r).frame.log n line at in rw is (omega (arith, within));
   }
 
   -- the last line of all
-  pub log_told : (n : ℕ) → r.next ≡ stage.Log n → slice_get (last_world r).frame.log n ≡ None → after ≡ before ++ tail_line (length r.history.events) (length (last_world r).frame.log)
+  pub log_told : (n : ℕ) → r.next ≡ stage.Log n → slice_get (last_world r).frame.log n ≡ None → after ≡ before ++ tail_line (length r.history.now.events) (length (last_world r).frame.log)
       → Tells r (record r { next = stage.End }) before after
   unfolding left_of pieces_of
   log_told n is at e = record {
     text = rw (e, is, none_left (last_world r).frame.log n at) (append-nil _);
-    history = refl;
-    fits = λ told. record { fits = told.fits };
     fewer = rw is (omega arith);
   }
-
--- an entry
-pub entry_told : (r : Report) (k : History) (e : Event) (before after : List ℕ) → r.next ≡ stage.Entry → slice_get r.history.events (length r.replay.events) ≡ Some e
-    → k ≡ with_entry r.replay e → after ≡ before ++ entry_text (lanes_of r.script) (length r.replay.events + 1) (world_of r.replay) e
-    → Tells r (record r { replay = k }) before after
-unfolding left_of entries_left pieces_of
-entry_told r k e before after is at grown said =
-    let longer : length (r.replay.events ++ e ∷ []) ≡ length r.replay.events + 1 = length-append r.replay.events (e ∷ []) in
-    let rest : List Event = drop (length r.replay.events + 1) r.history.events in
-    let closing : List ℕ = closing_text (last_world r) (length r.history.events) in
-    record {
-      text = rw (said, grown, is, rest_is r.history.events (length r.replay.events) e at)
-          ((λ i. (before ++ entry_text (lanes_of r.script) (length r.replay.events + 1) (world_of r.replay) e)
-          ++ (entries_text (lanes_of r.script) (longer i + 1) (world_of-push r.replay e i) (drop (longer i) r.history.events) ++ closing))
-          ∙ append_assoc before (entry_text (lanes_of r.script) (length r.replay.events + 1) (world_of r.replay) e) _
-          ∙ ap (λ t. before ++ t) (sym (append_assoc (entry_text (lanes_of r.script) (length r.replay.events + 1) (world_of r.replay) e)
-          (entries_text (lanes_of r.script) (length r.replay.events + 1 + 1) (next r.replay e).world rest) closing)));
-      history = refl;
-      fits = λ told. record {
-        fits =
-            let left : cost_of_history (drop (length r.replay.events) r.history.events) ≡ cost_of e.op + cost_of_history rest =
-            ap cost_of_history (rest_is r.history.events (length r.replay.events) e at) ∙ cost-cons e rest in
-            let more : cost_of_history (r.replay.events ++ e ∷ []) ≡ cost_of_history r.replay.events + cost_of e.op = cost-push r.replay.events e in
-            rw (grown, longer) (omega (arith, told.fits, left, more));
-      };
-      fewer = let within : length r.replay.events < length r.history.events = slice_get_within r.history.events (length r.replay.events) e at in rw (is, grown) (omega (arith, within, longer));
-    }

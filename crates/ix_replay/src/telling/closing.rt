@@ -1,34 +1,128 @@
-ghost use Rattle.std.specs.Prelude.{◌≡◌, ◌++◌, OnOk};
+ghost use Rattle.std.specs.Prelude.{◌≡◌, ◌<◌, [], false, true, length, OnOk};
 ghost use Rattle.ix_model.specs.history.History.{world_of};
-ghost use Rattle.ix_replay.specs.report.Report.{object_text, process_text};
+ghost use Rattle.ix_replay.specs.report.Report.{closing_text};
+ghost use Rattle.ix_replay.specs.report.Telling.{Tells, left_of, pieces_of};
+ghost use Rattle.ix_replay.specs.declared.telling.closing.Next.TheVariants as next;
 
+use crate::telling::pieces::{push_heading, push_object, push_process};
 use ix_core::Core;
-use ix_model::{NoMemory, Pid};
-use ix_report::{object_line, process_line};
+use ix_model::NoMemory;
+use ix_report::{audit_line, tail};
 
-/// A heading.
-pub fn push_heading(out: &mut Vec<u8>, text: &[u8]) -> Result<(), NoMemory>
-    ensures { OnOk result (out.new.items ≡ out.old.items ++ text.now) }
-{
-    out.extend_from_slice(text).map_err(|_| NoMemory)
+/// What is told next.
+#[derive(Clone, Copy, Debug, PartialEq, Eq)]
+pub enum Next {
+    /// The heading of the objects.
+    Head,
+    /// The object of a number, or the heading after the last one.
+    Object(u32),
+    /// The process of a pid, or the heading after the last one.
+    Process(u32),
+    /// The line of the audit log at an index, or the last line of all.
+    Log(u32),
+    End,
 }
 
-/// The object of a number, where there is one.
-pub fn push_object(out: &mut Vec<u8>, core: &Core, n: u32) -> Result<(), NoMemory>
-    ensures { OnOk result (out.new.items ≡ out.old.items ++ object_text (world_of core.now).frame.objects n) }
-{
-    match core.object(n) {
-        Some(view) => object_line(out, n, &view),
-        None => Ok(()),
+/// What closes a report, told piece by piece: the history, and what comes next.
+#[derive(Drop)]
+pub struct Closing<'a> {
+    history: &'a Core,
+    next: Next,
+}
+
+impl<'a> Closing<'a> {
+    /// What closes the report of the history that a core has, of which nothing was told.
+    pub fn new(history: &'a Core) -> Closing<'a>
+        ensures { left_of result ≡ closing_text (world_of history.now) (length history.now.events) }
+    {
+        Closing {
+            history,
+            next: Next::Head,
+        }
     }
-}
 
-/// The process of a pid, where there is one.
-pub fn push_process(out: &mut Vec<u8>, core: &Core, pid: u32) -> Result<(), NoMemory>
-    ensures { OnOk result (out.new.items ≡ out.old.items ++ process_text (world_of core.now).frame.processes pid) }
-{
-    match core.process(Pid(pid)) {
-        Some(view) => process_line(out, Pid(pid), &view),
-        None => Ok(()),
+    /// Whether all was told.
+    #[tactic(auto, unfolding(crate::specs::report::Telling::left_of, crate::specs::report::Telling::pieces_of))]
+    pub fn is_told(&self) -> bool
+        ensures told { result ≡ true → left_of self.now ≡ [] }
+        ensures going { result ≡ false → 0 < pieces_of self.now }
+    {
+        match self.next {
+            Next::Head => false,
+            Next::Object(_) => false,
+            Next::Process(_) => false,
+            Next::Log(_) => false,
+            Next::End => true,
+        }
+    }
+
+    /// Tells the heading of the objects.
+    fn tell_head(&mut self, out: &mut Vec<u8>) -> Result<(), NoMemory>
+        requires { self.old.next ≡ next.Head }
+        ensures { OnOk result (Tells self.old self.new out.old.items out.new.items) }
+    {
+        push_heading(out, b"objects\n")?;
+        self.next = Next::Object(0);
+        Ok(())
+    }
+
+    /// Tells the object of a number, or the heading after the last one.
+    fn tell_object(&mut self, out: &mut Vec<u8>, n: u32) -> Result<(), NoMemory>
+        requires { self.old.next ≡ next.Object n }
+        ensures { OnOk result (Tells self.old self.new out.old.items out.new.items) }
+    {
+        if n >= self.history.objects() {
+            push_heading(out, b"processes\n")?;
+            self.next = Next::Process(0);
+            return Ok(());
+        }
+        push_object(out, self.history, n)?;
+        self.next = Next::Object(n + 1);
+        Ok(())
+    }
+
+    /// Tells the process of a pid, or the heading after the last one.
+    fn tell_process(&mut self, out: &mut Vec<u8>, pid: u32) -> Result<(), NoMemory>
+        requires { self.old.next ≡ next.Process pid }
+        ensures { OnOk result (Tells self.old self.new out.old.items out.new.items) }
+    {
+        if pid >= self.history.next_pid().0 {
+            push_heading(out, b"log\n")?;
+            self.next = Next::Log(0);
+            return Ok(());
+        }
+        push_process(out, self.history, pid)?;
+        self.next = Next::Process(pid + 1);
+        Ok(())
+    }
+
+    /// Tells the line of the audit log at an index, or the last line of all.
+    fn tell_log(&mut self, out: &mut Vec<u8>, n: u32) -> Result<(), NoMemory>
+        requires { self.old.next ≡ next.Log n }
+        ensures { OnOk result (Tells self.old self.new out.old.items out.new.items) }
+    {
+        let lines = self.history.log_len();
+        let Some(line) = self.history.log_line(n) else {
+            tail(out, self.history.len(), lines)?;
+            self.next = Next::End;
+            return Ok(());
+        };
+        audit_line(out, &line)?;
+        self.next = Next::Log(n + 1);
+        Ok(())
+    }
+
+    /// Tells the next piece. After `NoMemory` some of it may have been told.
+    pub fn tell(&mut self, out: &mut Vec<u8>) -> Result<(), NoMemory>
+        requires { 0 < pieces_of self.old }
+        ensures { OnOk result (Tells self.old self.new out.old.items out.new.items) }
+    {
+        match self.next {
+            Next::Head => self.tell_head(out),
+            Next::Object(n) => self.tell_object(out, n),
+            Next::Process(pid) => self.tell_process(out, pid),
+            Next::Log(n) => self.tell_log(out, n),
+            Next::End => Ok(()),
+        }
     }
 }

@@ -1,18 +1,21 @@
-ghost use Rattle.std.specs.Prelude.{◌≡◌, ◌++◌, ◌+◌, ◌≤◌, None, Some, OnOk, length, take};
+ghost use Rattle.std.specs.Prelude.{◌≡◌, ◌+◌, ◌<◌, ◌≤◌, [], OnErr, OnOk, take};
 ghost use Rattle.ix_model.specs.history.Calls.{event_of};
 ghost use Rattle.ix_model.specs.history.Cost.{cost_of, cost_of_history};
-ghost use Rattle.ix_model.specs.history.History.{next, world_of, with_entry};
-ghost use Rattle.ix_script.specs.lines.Before.{lanes_of};
+ghost use Rattle.ix_model.specs.history.History.{next, with_entry};
+ghost use Rattle.ix_script.specs.scripts.Need.{need};
+ghost use Rattle.ix_script.specs.scripts.Scripts.{config_of};
+ghost use Rattle.ix_witness.specs.Seen.{KnowsOn};
 ghost use Rattle.ix_lanes.specs.asking.Replies.{count_in};
-ghost use Rattle.ix_replay.specs.report.Report.{entry_text, lane_name};
 
-use crate::telling::entry_text::push_entry;
 use ix_core::Core;
 use ix_label::Steps;
 use ix_lanes::count_in;
 use ix_model::{Answer, Buf, Entry, NoMemory, Reply};
 use ix_script::Script;
-use std::sync::ledger::Ledger;
+use ix_witness::Witness;
+use std::alloc::Global;
+use std::marker::Brand;
+use std::sync::ledger::{Blank, Ledger};
 
 /// Makes an entry for which the journal has room.
 pub fn make<L: Ledger>(
@@ -34,40 +37,70 @@ pub fn make<L: Ledger>(
     }
 }
 
-/// The name of a seat's lane.
-fn lane_name(script: &Script, seat: u32) -> &[u8]
-    ensures { result.now ≡ lane_name (lanes_of script.now) seat }
+/// Makes the entries of a history once more, on a core that has none, before a witness.
+fn replay_on<W: Witness, L: Ledger>(
+    history: &Core,
+    replay: &mut Core,
+    witness: &mut W,
+    steps: &mut Steps<L>,
+)
+    requires bare { replay.old ≡ record { config = history.now.config; events = [] } }
+    requires fits { cost_of_history history.now.events ≤ history.now.config.journal }
+    ensures { KnowsOn W.knows replay.old witness.old history.now witness.new }
 {
-    match script.lane(seat) {
-        Some(name) => name,
-        None => &[],
+    let mut buf = [0; 4096];
+    for made in 0..history.len() {
+        let Some(entry) = history.entry(made + 1) else {
+            unreachable!()
+        };
+        let reply = make(replay, &entry, &mut buf, steps);
+        let bytes = &buf[..count_in(&reply)];
+        witness.see(
+            replay,
+            entry.line,
+            entry.pid,
+            entry.seat,
+            &entry.call,
+            &reply,
+            bytes,
+        );
     }
 }
 
-/// Makes an entry once more, for which the journal has room, and appends its line.
-pub fn replay_entry<L: Ledger>(
+/// The same on a second core, with the looks at labels counted under a ledger.
+fn replay_anew<W: Witness, L: Ledger>(
+    alloc: Global,
     script: &Script,
-    core: &mut Core,
-    entry: &Entry<'_>,
-    out: &mut Vec<u8>,
-    buf: &mut Buf,
-    steps: &mut Steps<L>,
+    history: &Core,
+    witness: &mut W,
+    blank: Blank,
 ) -> Result<(), NoMemory>
-    requires { cost_of_history core.old.events + cost_of (event_of entry.now).op ≤ core.old.config.journal }
-    ensures core { core.new ≡ with_entry core.old (event_of entry.now) }
-    ensures text { OnOk result (out.new.items ≡ out.old.items
-        ++ entry_text (lanes_of script.now) (length core.old.events + 1) (world_of core.old) (event_of entry.now)) }
+    requires name { blank.name ≡ L.name }
+    requires parts { blank.parts ≡ L.parts }
+    requires some { 0 < L.parts }
+    requires config { history.now.config ≡ config_of script.now }
+    requires fits { cost_of_history history.now.events ≤ need script.now }
+    ensures seen { OnOk result (KnowsOn W.knows (record { config = config_of script.now; events = [] }) witness.old history.now witness.new) }
+    ensures unseen { OnErr result (witness.new ≡ witness.old) }
 {
-    let reply = make(core, entry, buf, steps);
-    let bytes = &buf[..count_in(&reply)];
-    let caller = core.process(entry.pid);
-    push_entry(
-        out,
-        core.len(),
-        lane_name(script, entry.seat),
-        entry,
-        &reply,
-        bytes,
-        caller,
-    )
+    let mut core = Core::boot(alloc, script.config(alloc)?)?;
+    let mut steps = Steps::<L>::new(blank);
+    replay_on(history, &mut core, witness, &mut steps);
+    Ok(())
+}
+
+/// Makes the history that a core of a script's config has once more, before a witness, which knows of all of it then. It takes
+/// the memory of a second core; after `NoMemory` the witness has seen nothing.
+pub fn replay<W: Witness>(
+    alloc: Global,
+    script: &Script,
+    history: &Core,
+    witness: &mut W,
+) -> Result<(), NoMemory>
+    requires config { history.now.config ≡ config_of script.now }
+    requires fits { cost_of_history history.now.events ≤ need script.now }
+    ensures seen { OnOk result (KnowsOn W.knows (record { config = config_of script.now; events = [] }) witness.old history.now witness.new) }
+    ensures unseen { OnErr result (witness.new ≡ witness.old) }
+{
+    replay_anew::<W, Brand>(alloc, script, history, witness, Blank::new(1))
 }

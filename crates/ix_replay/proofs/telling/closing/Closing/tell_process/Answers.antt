@@ -1,6 +1,6 @@
 use Rattle.std.proofs.Common.{arith}
 use Rattle.ix_replay.proofs.piecewise.Pieces.{process_told, processes_told}
-use Rattle.ix_replay.proofs.telling.report.Report.tell_process.Goals as goal
+use Rattle.ix_replay.proofs.telling.closing.Closing.tell_process.Goals as goal
 
 pub returns-then-pid-next_pid : goal.returns-then-pid-next_pid
 returns-then-pid-next_pid c =

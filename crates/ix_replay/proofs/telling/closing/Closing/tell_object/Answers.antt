@@ -1,6 +1,6 @@
 use Rattle.std.proofs.Common.{arith}
 use Rattle.ix_replay.proofs.piecewise.Pieces.{object_told, objects_told}
-use Rattle.ix_replay.proofs.telling.report.Report.tell_object.Goals as goal
+use Rattle.ix_replay.proofs.telling.closing.Closing.tell_object.Goals as goal
 
 pub returns-then-n-objects : goal.returns-then-n-objects
 returns-then-n-objects c =

@@ -1,0 +1,18 @@
+use Rattle.std.proofs.Common.{◌≡◌, ◌++◌, List, ℕ, ap, ◌∙◌, subst, OnOk}
+use Rattle.std.specs.Option.{option_map}
+use Rattle.ix_model.specs.history.Calls.{op_of}
+use Rattle.ix_model.specs.history.Made.{entry}
+use Rattle.ix_model.specs.declared.views.ProcView.{ProcView}
+use Rattle.ix_script.specs.lines.Before.{lanes_of}
+use Rattle.ix_replay.proofs.piecewise.Shown.{bytes_of_shown, label_shown, line_of_next}
+use Rattle.ix_replay.proofs.telling.entry.push_entry.Goals as goal
+
+pub push_line-requires : goal.push_line-requires
+push_line-requires c = bytes_of_shown c.args.reply.now c.args.bytes.now c.requires
+
+pub returns : goal.returns
+returns c before is =
+    let e = entry c.args.seat c.args.line c.args.pid (op_of c.args.call.now) in
+    let P : List ℕ → Type 0 = λ t. OnOk c.push_line.result (c.push_line.new.out.items ≡ c.args.out.now.items ++ t) in
+    let label = ap (λ o. option_map (λ (v : ProcView). v.label) o) c.process-caller.ensures ∙ label_shown _ in
+    subst P (line_of_next (lanes_of c.args.script.now) before c.args.core.now e c.args.reply.now c.args.bytes.now c.lane_name-lane.result.now c.len.result _ is c.len.ensures.len c.lane_name-lane.ensures label) (c.push_line.ensures c.args.seat)

@@ -1,0 +1,74 @@
+ghost use Rattle.std.specs.Prelude.{◌≡◌, ℕ, ◌++◌, ◌+◌, OnOk, length};
+ghost use Rattle.std.specs.Option.{option_map};
+ghost use Rattle.ix_model.specs.history.Calls.{op_of};
+ghost use Rattle.ix_model.specs.history.History.{History, world_of};
+ghost use Rattle.ix_model.specs.history.Made.{entry};
+ghost use Rattle.ix_model.specs.history.Shown.{AreShown};
+ghost use Rattle.ix_script.specs.lines.Before.{lanes_of};
+ghost use Rattle.ix_report.specs.LineText.{entry_line};
+ghost use Rattle.ix_report.specs.ReplyText.{AreBytesOf};
+ghost use Rattle.ix_witness.specs.Seen.{IsNext};
+ghost use Rattle.ix_replay.specs.report.Report.{entry_text, lane_name};
+
+use ix_core::Core;
+use ix_model::{Call, NoMemory, Pid, ProcView, Reply};
+use ix_report::entry_line;
+use ix_script::Script;
+
+/// The name of a seat's lane.
+fn lane_name(script: &Script, seat: u32) -> &[u8]
+    ensures { result.now ≡ lane_name (lanes_of script.now) seat }
+{
+    match script.lane(seat) {
+        Some(name) => name,
+        None => &[],
+    }
+}
+
+/// Appends the line of an entry, whatever its seat, with the label of the caller's record after it.
+fn push_line(
+    out: &mut Vec<u8>,
+    place: u32,
+    lane: &[u8],
+    line: u32,
+    pid: Pid,
+    call: &Call<'_>,
+    reply: &Reply,
+    bytes: &[u8],
+    caller: Option<ProcView>,
+) -> Result<(), NoMemory>
+    requires { AreBytesOf reply.now bytes.now }
+    ensures { (seat : ℕ) → OnOk result (out.new.items ≡ out.old.items
+        ++ entry_line place lane.now (entry seat line pid (op_of call.now)) reply.now bytes.now (option_map (λ v. v.label) caller)) }
+{
+    match caller {
+        Some(view) => {
+            let label = Some(&view.label);
+            entry_line(out, place, lane, line, pid, call, reply, bytes, label)
+        }
+        None => entry_line(out, place, lane, line, pid, call, reply, bytes, None),
+    }
+}
+
+/// Appends the line of an entry that a core has just made: the line of the script that it comes from, the calling process, the
+/// seat, the call, the reply, and the bytes that were read.
+pub fn push_entry(
+    out: &mut Vec<u8>,
+    script: &Script,
+    core: &Core,
+    line: u32,
+    pid: Pid,
+    seat: u32,
+    call: &Call<'_>,
+    reply: &Reply,
+    bytes: &[u8],
+) -> Result<(), NoMemory>
+    requires { AreShown reply.now bytes.now }
+    ensures { (before : History) → IsNext before core.now (entry seat line pid (op_of call.now)) reply.now bytes.now
+        → OnOk result (out.new.items ≡ out.old.items
+        ++ entry_text (lanes_of script.now) (length before.events + 1) (world_of before) (entry seat line pid (op_of call.now))) }
+{
+    let lane = lane_name(script, seat);
+    let caller = core.process(pid);
+    push_line(out, core.len(), lane, line, pid, call, reply, bytes, caller)
+}
