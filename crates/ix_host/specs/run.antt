@@ -1,4 +1,5 @@
 pub mod Outcome
 pub mod Whole
+pub mod Teller
 pub mod Run
 pub mod Tasks

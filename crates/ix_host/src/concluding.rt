@@ -1,49 +1,27 @@
 //! What is told of the history to which the lanes of a script came.
-ghost use Rattle.std.specs.Prelude.{◌≡◌, ◌<◌, ◌≤◌};
+ghost use Rattle.std.specs.Prelude.{◌≡◌, ◌≤◌, true};
 ghost use Rattle.ix_model.specs.history.Cost.{cost_of_history};
+ghost use Rattle.ix_lanes.specs.histories.Serial.{serial};
 ghost use Rattle.ix_script.specs.scripts.Need.{need};
 ghost use Rattle.ix_script.specs.scripts.Scripts.{config_of};
+ghost use Rattle.ix_serial.specs.Sections.{has_placed_lanes};
 ghost use Rattle.ix_replay.specs.Summary.{summary_line};
-ghost use Rattle.ix_replay.specs.report.Report.{report_of};
 ghost use Rattle.ix_host.specs.run.Outcome as outcome;
 ghost use Rattle.ix_host.specs.run.Run.{Ends};
 ghost use Rattle.ix_host.specs.run.Tasks.{text_told};
 
 use crate::status::Status;
-use crate::streams::sending::{send, tell};
+use crate::streams::sending::tell;
+use crate::streams::teller::{report, report_serial};
 use crate::task::Telling;
 use ix_core::Core;
 use ix_io::Sink;
-use ix_label::Steps;
 use ix_model::NoMemory;
-use ix_replay::{Report, summary};
+use ix_replay::summary;
 use ix_script::Script;
+use ix_serial::run_history;
+use ix_witness::Nobody;
 use std::alloc::Global;
-use std::marker::Brand;
-use std::sync::ledger::{Blank, Ledger};
-
-/// Writes the report of a history of a script.
-fn report<K: Sink, L: Ledger>(
-    alloc: Global,
-    sink: &mut K,
-    script: Script,
-    history: Core,
-    blank: Blank,
-) -> Status
-    requires config { history.config ≡ config_of script }
-    requires fits { cost_of_history history.events ≤ need script }
-    requires name { blank.name ≡ L.name }
-    requires parts { blank.parts ≡ L.parts }
-    requires some { 0 < L.parts }
-    ensures { Ends (outcome.Whole (report_of script history.events)) result (K.taken sink.old) (K.taken sink.new) (K.finished sink.new)
-        (K.faults sink.old) (K.faults sink.new) }
-{
-    let mut steps = Steps::<L>::new(blank);
-    match Report::new(alloc, script, history) {
-        Ok(mut report) => send(alloc, sink, &mut report, &mut steps),
-        Err(NoMemory) => Status::NoMemory,
-    }
-}
 
 /// Writes the summary of a history of a made script with so many commands.
 fn sum_up<K: Sink>(
@@ -64,21 +42,50 @@ fn sum_up<K: Sink>(
     }
 }
 
-/// Tells what is to be told of a history of a script.
+/// Runs the lanes of a script one after the other on one core, before nobody, and writes the summary of that.
+fn sum_up_serial<K: Sink>(alloc: Global, sink: &mut K, count: u32, script: &Script) -> Status
+    requires { has_placed_lanes script.now ≡ true }
+    ensures { Ends (outcome.Whole (summary_line count script.now (serial script.now))) result (K.taken sink.old) (K.taken sink.new)
+        (K.finished sink.new) (K.faults sink.old) (K.faults sink.new) }
+{
+    match run_history(alloc, script, &mut Nobody) {
+        Ok(history) => sum_up(alloc, sink, count, script, &history),
+        Err(NoMemory) => Status::NoMemory,
+    }
+}
+
+/// Runs the lanes of a script one after the other, and tells what is to be told of the serial history to which they come.
+pub fn tell_serial<K: Sink>(
+    alloc: Global,
+    sink: &mut K,
+    telling: Telling,
+    script: &Script,
+) -> Status
+    requires { has_placed_lanes script.now ≡ true }
+    ensures { Ends (outcome.Whole (text_told telling script.now (serial script.now))) result (K.taken sink.old) (K.taken sink.new)
+        (K.finished sink.new) (K.faults sink.old) (K.faults sink.new) }
+{
+    match telling {
+        Telling::Report => report_serial(alloc, sink, script),
+        Telling::Summary(count) => sum_up_serial(alloc, sink, count, script),
+    }
+}
+
+/// Tells what is to be told of a history of a script that came about elsewhere.
 pub fn conclude<K: Sink>(
     alloc: Global,
     sink: &mut K,
     telling: Telling,
-    script: Script,
-    history: Core,
+    script: &Script,
+    history: &Core,
 ) -> Status
-    requires config { history.config ≡ config_of script }
-    requires fits { cost_of_history history.events ≤ need script }
-    ensures { Ends (outcome.Whole (text_told telling script history.events)) result (K.taken sink.old) (K.taken sink.new) (K.finished sink.new)
+    requires config { history.now.config ≡ config_of script.now }
+    requires fits { cost_of_history history.now.events ≤ need script.now }
+    ensures { Ends (outcome.Whole (text_told telling script.now history.now.events)) result (K.taken sink.old) (K.taken sink.new) (K.finished sink.new)
         (K.faults sink.old) (K.faults sink.new) }
 {
     match telling {
-        Telling::Report => report::<K, Brand>(alloc, sink, script, history, Blank::new(1)),
-        Telling::Summary(count) => sum_up(alloc, sink, count, &script, &history),
+        Telling::Report => report(alloc, sink, script, history),
+        Telling::Summary(count) => sum_up(alloc, sink, count, script, history),
     }
 }

@@ -10,13 +10,11 @@ ghost use Rattle.ix_host.specs.run.Run.{FitsCommand, IsAnswer, ReadsOut, WritesF
 
 use crate::asked::command::Command;
 use crate::asked::words::Words;
-use crate::concluding::conclude;
+use crate::concluding::tell_serial;
 use crate::preparing::prepare;
 use crate::status::Status;
 use crate::task::Task;
 use ix_io::{Sink, Source};
-use ix_model::NoMemory;
-use ix_serial::run_history;
 use std::alloc::Global;
 
 /// Does what the words ask: `run` reads a script from the source, runs it, and writes its report to the sink; `print` writes
@@ -66,9 +64,6 @@ pub fn run_serial<S: Source, K: Sink>(
     let usage = b"usage: ixone run | print | gen COUNT\n";
     match prepare(alloc, usage, asked, source, sink) {
         Task::Ended(status) => status,
-        Task::Run(telling, script) => match run_history(alloc, &script) {
-            Ok(history) => conclude(alloc, sink, telling, script, history),
-            Err(NoMemory) => Status::NoMemory,
-        },
+        Task::Run(telling, script) => tell_serial(alloc, sink, telling, &script),
     }
 }

@@ -3,4 +3,5 @@
 pub mod input;
 pub mod sending;
 pub mod stream;
+pub mod teller;
 pub mod text;

@@ -2,13 +2,7 @@
 use Rattle.std.proofs.Common.{◌≡◌, ℕ, List, [], ◌++◌, Option, Some, None, Result, Ok, Err, is_err, true, refl, sym, ap, ◌∙◌, append_assoc, subst}
 use Rattle.std.specs.Prelude.{IfSome}
 use Rattle.std.proofs.lemmas.List.{append-nil}
-use Rattle.ix_host.specs.run.Whole.{Writes, WritesFront}
-
--- Of a whole text some front went out, and this is left.
-pub record Sent (taken : List ℕ) (after : Option (List ℕ)) (left text : List ℕ) : Type 0 where
-  pub gone : List ℕ
-  pub whole : gone ++ left ≡ text
-  pub front : after ≡ Some (taken ++ gone)
+use Rattle.ix_host.specs.run.Whole.{Sent, Writes, WritesFront}
 
 -- nothing went out yet
 pub sent_none : (o : Option (List ℕ)) (text : List ℕ) → IfSome o (λ t. Sent t o text text)

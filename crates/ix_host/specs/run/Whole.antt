@@ -58,6 +58,12 @@ GoesOn all read after piece.End = (read ≡ all) × (after ≡ Some [])
 GoesOn all read after piece.Fault = Unit {0}
 GoesOn all read after piece.NoMemory = Unit {0}
 
+-- Of a whole text some front went out, and this is left.
+pub record Sent (taken : List ℕ) (after : Option (List ℕ)) (left text : List ℕ) : Type 0 where
+  pub gone : List ℕ
+  pub whole : gone ++ left ≡ text
+  pub front : after ≡ Some (taken ++ gone)
+
 -- Some front of the text went out, and not what is left of it.
 pub record WritesFront (taken : List ℕ) (after : Option (List ℕ)) (text : List ℕ) : Type 0 where
   pub gone : List ℕ

@@ -1,11 +1,14 @@
-ghost use Rattle.std.specs.Prelude.{◌≡◌, ◌++◌, ◌∷◌, [], OnOk, OnErr, IfOk, slice_get};
+ghost use Rattle.std.specs.Prelude.{◌≡◌, ◌++◌, ◌∷◌, [], OnOk, OnErr, IfOk, drop, map, slice_get, string_bytes};
 ghost use Rattle.std.specs.Option.{option_copied};
 ghost use Rattle.ix_host.specs.command.Command.{command_of};
+ghost use Rattle.ix_host.specs.command.Given.{words_of};
 
 use crate::asked::command::Command;
 use crate::asked::command_line::read_command;
 use ix_model::NoMemory;
 use std::alloc::Global;
+use std::env::Args;
+use std::io;
 use std::marker::Model;
 
 /// The words of a command line, in order. Contracts see the list of their texts.
@@ -30,6 +33,33 @@ impl Words {
         Words {
             words: Vec::new(alloc),
         }
+    }
+
+    /// The words that a program is called with, as `std::env::args` tells them: all but the first, which is its name. Where one of
+    /// them is not text there are none, which is no command either.
+    pub fn of_program(alloc: Global, args: io::Result<Args>) -> Result<Words, NoMemory>
+        ensures { IfOk result (λ words. words ≡ words_of args) }
+    {
+        match args {
+            Ok(args) => Words::behind_first(alloc, args),
+            Err(error) if error.kind() == io::ErrorKind::OutOfMemory => Err(NoMemory),
+            Err(_) => Ok(Words::new(alloc)),
+        }
+    }
+
+    /// All words but the first.
+    fn behind_first(alloc: Global, args: Args) -> Result<Words, NoMemory>
+        ensures { IfOk result (λ words. words ≡ map string_bytes (drop 1 args.rest.items)) }
+    {
+        let mut words = Vec::new(alloc);
+        let mut rest = args;
+        rest.next();
+        for word in rest {
+            if words.push(word).is_err() {
+                return Err(NoMemory);
+            }
+        }
+        Ok(Words { words })
     }
 
     /// Puts a word at the end. Where there is no memory for it the words stay as they were.

@@ -23,8 +23,8 @@ pub returns-in_default-clause-written : goal.returns-in_default-clause-written
 returns-in_default-clause-written g c =
     memory_written IsHistory serial_history (λ bytes history. text_of (outcome_of lanes_usage_line (lanes_command_of c.args.words.now) bytes history)) (g.S.Source.left c.args.source.now) (g.K.Sink.taken c.args.sink.now)
 
-pub returns-in-Err-clause-written : goal.returns-in-Err-clause-written
-returns-in-Err-clause-written g c =
+pub returns-clause-written : goal.returns-clause-written
+returns-clause-written g c =
     rw c.in-Run.ensures.untouched
     (memory_written IsHistory serial_history (λ bytes history. text_of (outcome_of lanes_usage_line (lanes_command_of c.args.words.now) bytes history)) (g.S.Source.left c.args.source.now) (g.K.Sink.taken c.args.sink.now))
 

@@ -1,6 +1,4 @@
 use Rattle.std.proofs.Common.{◌≡◌, ◌∙◌, refl, subst, sym, ap, List, ℕ}
-use Rattle.ix_lanes.proofs.serially.Needs.{whole_fits}
-use Rattle.ix_lanes.proofs.serially.SerialHistories.{serial_serial}
 use Rattle.ix_lanes.specs.histories.Serial.{serial}
 use Rattle.ix_model.specs.history.Events.{Event}
 use Rattle.ix_host.specs.Hiding.{TakesHidingReport}
@@ -17,19 +15,6 @@ use Rattle.ix_host.proofs.run.run_serial.Goals as goal
 
 pub prepare-requires : goal.prepare-requires
 prepare-requires g c = subst (λ a. IfSome a IsCounted) (sym c.in-Ok.ensures) (command_counted c.args.words.now)
-
-pub conclude-requires-clause-fits : goal.conclude-requires-clause-fits
-conclude-requires-clause-fits g c =
-    let s = c.in-Run.script in
-    rw c.in-Ok-run_history.ensures.serial (whole_fits s (serial s) (serial_serial s).lanes)
-
-pub returns-in-Err-clause-written : goal.returns-in-Err-clause-written
-returns-in-Err-clause-written g c =
-    let text = λ (bytes : List ℕ) (history : List Event). text_of (outcome_of usage_line (command_of c.args.words.now) bytes history) in
-    let input = input_of (command_of c.args.words.now) (g.S.Source.left c.args.source.now) in
-    let taken = g.K.Sink.taken c.args.sink.now in
-    rw c.in-Run.ensures.untouched
-    (at_serial input taken (λ bytes t history. WritesFor status.NoMemory (text bytes history) t taken) (memory_written (λ s history. history ≡ serial s) (λ s. refl) text input taken))
 
 pub returns-in-Ended : goal.returns-in-Ended
 returns-in-Ended g c =
@@ -59,31 +44,31 @@ returns-in-Ended g c =
       complete = λ read wrote. v.complete (λ is. read (e.fault (ap task.Ended is)).0) wrote;
     }
 
-pub returns-in-Ok-run_history : goal.returns-in-Ok-run_history
-returns-in-Ok-run_history g c =
+pub returns-in-Run : goal.returns-in-Run
+returns-in-Run g c =
     let p = c.in-Run.ensures in
     let left = g.S.Source.left c.args.source.now in
     let taken = g.K.Sink.taken c.args.sink.now in
-    let text = text_told c.in-Run.telling c.in-Run.script c.in-Ok-run_history.history.events in
-    let e = rw p.untouched at c.conclude.ensures in
-    let v = subst (λ a. Verdict (λ s history. history ≡ serial s) usage_line a left c.conclude.result taken (g.K.Sink.taken c.conclude.new.sink) (g.K.Sink.finished c.conclude.new.sink) (g.K.Sink.faults c.args.sink.now) (g.K.Sink.faults c.conclude.new.sink)) c.in-Ok.ensures
-    (verdict_told {Comes = λ s history. history ≡ serial s} c.in-Ok-run_history.history.events (p.prepared (λ is. cc)) c.in-Ok-run_history.ensures.serial e) in
+    let text = text_told c.in-Run.telling c.in-Run.script (serial c.in-Run.script) in
+    let e = rw p.untouched at c.tell_serial.ensures in
+    let v = subst (λ a. Verdict (λ s history. history ≡ serial s) usage_line a left c.tell_serial.result taken (g.K.Sink.taken c.tell_serial.new.sink) (g.K.Sink.finished c.tell_serial.new.sink) (g.K.Sink.faults c.args.sink.now) (g.K.Sink.faults c.tell_serial.new.sink)) c.in-Ok.ensures
+    (verdict_told {Comes = λ s history. history ≡ serial s} (serial c.in-Run.script) (p.prepared (λ is. cc)) refl e) in
     record {
       bounded = p.bounded;
-      read_out = λ reads. told_read_out text c.conclude.result left (g.S.Source.left c.prepare.new.source) e.fits (p.read_out (ap reads_source c.in-Ok.ensures ∙ reads));
+      read_out = λ reads. told_read_out text c.tell_serial.result left (g.S.Source.left c.prepare.new.source) e.fits (p.read_out (ap reads_source c.in-Ok.ensures ∙ reads));
       not_read = λ reads. p.not_read (ap reads_source c.in-Ok.ensures ∙ reads);
-      written = at_serial (input_of (command_of c.args.words.now) left) taken (λ bytes t history. WritesFor c.conclude.result (text_of (outcome_of usage_line (command_of c.args.words.now) bytes history)) t (g.K.Sink.taken c.conclude.new.sink)) v.written;
+      written = at_serial (input_of (command_of c.args.words.now) left) taken (λ bytes t history. WritesFor c.tell_serial.result (text_of (outcome_of usage_line (command_of c.args.words.now) bytes history)) t (g.K.Sink.taken c.tell_serial.new.sink)) v.written;
       line = v.line;
       finished = v.finished;
-      hides = λ is run. at_serial left taken (λ bytes t history. TakesHidingReport (script_in bytes) history t (g.K.Sink.taken c.conclude.new.sink)) (v.hides is run);
-      not_written = λ is. absurd (told_read text c.conclude.result e.fits is);
+      hides = λ is run. at_serial left taken (λ bytes t history. TakesHidingReport (script_in bytes) history t (g.K.Sink.taken c.tell_serial.new.sink)) (v.hides is run);
+      not_written = λ is. absurd (told_read text c.tell_serial.result e.fits is);
       command = v.fits;
       answer = v.answer;
       quiet = λ a. (p.kept (λ is. cc), v.kept a);
       too_long = v.too_long;
-      read_fault = λ is. absurd (told_read text c.conclude.result e.fits is);
+      read_fault = λ is. absurd (told_read text c.tell_serial.result e.fits is);
       write_fault = v.write_fault;
       usage = v.usage_only;
       made = v.made;
-      complete = λ read wrote. v.complete (told_read text c.conclude.result e.fits) wrote;
+      complete = λ read wrote. v.complete (told_read text c.tell_serial.result e.fits) wrote;
     }

@@ -1,4 +1,0 @@
-use Rattle.ix_host.proofs.concluding.conclude.Given as goal
-
-abbrev pub ghosts-report : goal.ghosts-report
-ghosts-report g a = record { name = a.blank.name; parts = a.blank.parts }

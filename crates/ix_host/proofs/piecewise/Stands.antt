@@ -1,0 +1,133 @@
+-- How a report stands that is on its way out: at first, as it grows, and as what waits is written.
+use Rattle.std.proofs.Common.{◌≡◌, ℕ, Bool, true, false, is_some, ◌+◌, List, [], ◌∷◌, ◌++◌, length, Option, Some, None, Result, Ok, Err, refl, sym, ap, ◌∙◌, append_assoc, subst, OnOk, OnErr}
+use Rattle.std.specs.Prelude.{IfSome}
+use Rattle.std.proofs.lemmas.List.{append-nil}
+use Rattle.ix_io.specs.Streams.{HasCause, Rose}
+use Rattle.ix_model.specs.history.Events.{Event}
+use Rattle.ix_model.specs.history.History.{History, world_of, with_entry}
+use Rattle.ix_model.specs.opening.Opening.{opening_world}
+use Rattle.ix_script.specs.lines.Before.{lanes_of}
+use Rattle.ix_script.specs.scripts.Scripts.{config_of}
+use Rattle.ix_script.specs.declared.line.Line.{Line}
+use Rattle.ix_report.specs.LineText.{head_line}
+use Rattle.ix_replay.specs.report.Report.{closing_text, entries_text, entry_text, report_of}
+use Rattle.ix_replay.proofs.piecewise.Shown.{history_entries}
+use Rattle.ix_host.specs.declared.status.Status.TheVariants as status
+use Rattle.ix_host.specs.declared.streams.teller.Failure.{Failure}
+use Rattle.ix_host.specs.declared.streams.teller.Failure.TheVariants as failure
+use Rattle.ix_host.specs.run.Outcome as outcome
+use Rattle.ix_host.specs.run.Run.{Ends}
+use Rattle.ix_host.specs.run.Teller.{FrontIsOut, StandsAt, failed_as, told_of}
+use Rattle.ix_host.specs.run.Whole.{Sent, Writes, WritesFront}
+use Rattle.ix_host.proofs.piecewise.Outlets.{sent_all, sent_front, sent_less, sent_more, sent_none}
+
+-- ---- fronts
+-- a front of a text is one of a longer text
+front_longer : (o after : Option (List ℕ)) (text more : List ℕ) → FrontIsOut o after text → FrontIsOut o after (text ++ more)
+front_longer None after text more f = tt
+front_longer (Some t) after text more f = record { gone = f.gone; left = f.left ++ more; whole = sym (append_assoc f.gone f.left more) ∙ ap (λ x. x ++ more) f.whole; front = f.front }
+
+-- of each text nothing is a front
+pub front_none : (o : Option (List ℕ)) (text : List ℕ) → FrontIsOut o o text
+front_none None text = tt
+front_none (Some t) text = record { gone = []; left = text; whole = refl; front = ap Some (sym (append-nil t)) }
+
+-- what is left of a text and more is left of the text with more
+sent_longer : (o after : Option (List ℕ)) (left text more : List ℕ) → IfSome o (λ t. Sent t after left text) → IfSome o (λ t. Sent t after (left ++ more) (text ++ more))
+sent_longer None after left text more s = tt
+sent_longer (Some t) after left text more s = record { gone = s.gone; whole = sym (append_assoc s.gone left more) ∙ ap (λ x. x ++ more) s.whole; front = s.front }
+
+-- ---- as it stands
+-- at first all of it waits
+pub stands_first : (o : Option (List ℕ)) (text : List ℕ) (n : ℕ) → StandsAt None o o text (text ++ []) n n
+stands_first o text n = subst (λ (t : List ℕ). StandsAt None o o text t n n) (sym (append-nil text)) (sent_none o text, refl)
+
+module _ (o after : Option (List ℕ)) (before now : ℕ) where
+  -- with more to come
+  pub stands_more : (why : Option Failure) (waiting text more : List ℕ) → StandsAt why o after waiting text before now → StandsAt why o after (waiting ++ more) (text ++ more) before now
+  stands_more None waiting text more s = (sent_longer o after waiting text more s.0, s.1)
+  stands_more (Some failure.Write) waiting text more s = (front_longer o after text more s.0, s.1)
+  stands_more (Some failure.Memory) waiting text more s = front_longer o after text more s
+
+  -- after a failure it doesn't matter what waits
+  pub stands_silent : (why : Option Failure) (waiting other text : List ℕ) → is_some why ≡ true → StandsAt why o after waiting text before now → StandsAt why o after other text before now
+  stands_silent None waiting other text is s = cc
+  stands_silent (Some failure.Write) waiting other text is s = s
+  stands_silent (Some failure.Memory) waiting other text is s = s
+
+  -- where nothing more comes
+  pub stands_end : (why : Option Failure) (waiting none text : List ℕ) → none ≡ [] → StandsAt why o after (waiting ++ none) text before now → StandsAt why o after waiting text before now
+  stands_end why waiting none text is s = subst (λ (w : List ℕ). StandsAt why o after w text before now) (ap (λ l. waiting ++ l) is ∙ append-nil waiting) s
+
+  pub stands_whole : (why : Option Failure) (waiting text : List ℕ) → StandsAt why o after waiting text before now → StandsAt why o after (waiting ++ []) text before now
+  stands_whole why waiting text s = subst (λ (w : List ℕ). StandsAt why o after w text before now) (sym (append-nil waiting)) s
+
+  -- whatever waits, some front is out
+  pub stands_front : (waiting text : List ℕ) → StandsAt None o after waiting text before now → FrontIsOut o after text
+  stands_front waiting text s = sent_front o after waiting text s.0
+
+  -- what is written of it, with a rest that doesn't wait yet
+  module _ {E : Type 0} (later : Option (List ℕ)) (then : ℕ) (piece rest text : List ℕ) (s : StandsAt None o after (piece ++ rest) text before now) where
+    pub stands_written : (done : Unit {0}) → IfSome after (λ t. Writes {E = E} t later piece (Ok done)) → HasCause {E = E} now then (Ok done) → StandsAt None o later rest text before then
+    stands_written done w h = (sent_more E o after later piece (piece ++ rest) rest text (Ok done) done refl refl s.0 w, h.kept ∙ s.1)
+
+    pub stands_failed : (e : E) (waiting : List ℕ) → IfSome after (λ t. Writes {E = E} t later piece (Err e)) → HasCause {T = Unit {0}} {E = E} now then (Err e) → StandsAt (Some failure.Write) o later waiting text before then
+    stands_failed e waiting w h = (sent_less E o after later piece (piece ++ rest) rest text (Err e) e refl refl s.0 w, subst (λ (k : ℕ). Rose k then) s.1 h.failed)
+
+-- ---- as it ends
+module _ (o after : Option (List ℕ)) (text : List ℕ) (done : Bool) (before now : ℕ) where
+  pub ends_done : StandsAt None o after [] text before now → done ≡ true → Ends (outcome.Whole text) status.Done o after done before now
+  ends_done s finished = record {
+    fits = refl;
+    text = sent_all o after [] text refl s.0;
+    finished = λ _. finished;
+    kept = λ _. s.1;
+    fault = λ is. cc;
+  }
+
+  pub ends_failed : (waiting : List ℕ) → StandsAt (Some failure.Write) o after waiting text before now → Ends (outcome.Whole text) status.WriteFault o after done before now
+  ends_failed waiting s = record { fits = tt; text = s.0; finished = λ a. absurd a; kept = λ a. absurd a; fault = λ _. s.1 }
+
+  pub ends_out : FrontIsOut o after text → Ends (outcome.Whole text) status.NoMemory o after done before now
+  ends_out s = record { fits = tt; text = s; finished = λ a. absurd a; kept = λ a. absurd a; fault = λ is. cc }
+
+  pub ends_stopped : (why : Failure) (waiting : List ℕ) → StandsAt (Some why) o after waiting text before now → Ends (outcome.Whole text) (failed_as why) o after done before now
+  ends_stopped failure.Write waiting s = ends_failed waiting s
+  ends_stopped failure.Memory waiting s = ends_out s
+
+-- ---- the lines of a history
+-- what was told of a history, with the line of one entry more
+pub told_next : (s : List Line) (begun : List ℕ) (h k : History) (e : Event) → k ≡ with_entry h e → told_of s begun h ++ entry_text (lanes_of s) (length h.events + 1) (world_of h) e ≡ told_of s begun k
+told_next s begun h k e is =
+    append_assoc begun (entries_text (lanes_of s) 1 (opening_world h.config) h.events) _
+    ∙ ap (λ t. begun ++ t) (sym (history_entries (lanes_of s) h e)) ∙ ap (told_of s begun) (sym is)
+
+-- all of a report
+pub report_told : (s : List Line) (begun : List ℕ) (h : History) → h.config ≡ config_of s → begun ≡ head_line → told_of s begun h ++ closing_text (world_of h) (length h.events) ≡ report_of s h.events
+unfolding report_of world_of
+report_told s begun h config at = rw (at, config) refl
+
+-- ---- an entry more
+module _ (o after : Option (List ℕ)) (before now : ℕ) (s : List Line) (begun : List ℕ) (h k : History) (e : Event) (is : k ≡ with_entry h e) where
+  abbrev line : List ℕ
+  line = entry_text (lanes_of s) (length h.events + 1) (world_of h) e
+
+  longer : (why : Option Failure) (waiting : List ℕ) → StandsAt why o after waiting (told_of s begun h) before now → StandsAt why o after (waiting ++ line) (told_of s begun k) before now
+  longer why waiting stands = subst (λ (t : List ℕ). StandsAt why o after (waiting ++ line) t before now) (told_next s begun h k e is) (stands_more o after before now why waiting (told_of s begun h) line stands)
+
+  -- its line comes to what waits
+  pub line_waits : (waiting out : List ℕ) → out ≡ waiting ++ line → StandsAt None o after waiting (told_of s begun h) before now → StandsAt None o after (out ++ []) (told_of s begun k) before now
+  line_waits waiting out grown stands = subst (λ (w : List ℕ). StandsAt None o after w (told_of s begun k) before now) (sym grown ∙ sym (append-nil out)) (longer None waiting stands)
+
+  -- nothing is said of it after a failure
+  pub line_missed : (why : Option Failure) (waiting : List ℕ) → is_some why ≡ true → StandsAt why o after waiting (told_of s begun h) before now → StandsAt why o after waiting (told_of s begun k) before now
+  line_missed why waiting failed stands = stands_silent o after before now why (waiting ++ line) waiting (told_of s begun k) failed (longer why waiting stands)
+
+  -- there is no memory for it
+  pub line_lost : (waiting : List ℕ) → StandsAt None o after waiting (told_of s begun h) before now → FrontIsOut o after (told_of s begun k)
+  line_lost waiting stands = stands_front o after before now (waiting ++ line) (told_of s begun k) (longer None waiting stands)
+
+-- none where there is none
+pub none_is : {A : Type 0} (o : Option A) → is_some o ≡ false → o ≡ None
+none_is None is = refl
+none_is (Some x) is = cc

@@ -1,0 +1,227 @@
+//! A report on its way out.
+ghost use Rattle.std.specs.Prelude.{◌≡◌, ℕ, ◌≤◌, ◌++◌, List, Option, None, IfOk, length, true};
+ghost use Rattle.ix_model.specs.history.Cost.{cost_of_history};
+ghost use Rattle.ix_model.specs.history.History.{world_of};
+ghost use Rattle.ix_lanes.specs.histories.Serial.{serial};
+ghost use Rattle.ix_script.specs.scripts.Need.{need};
+ghost use Rattle.ix_script.specs.scripts.Scripts.{config_of};
+ghost use Rattle.ix_serial.specs.Sections.{has_placed_lanes};
+ghost use Rattle.ix_report.specs.LineText.{head_line};
+ghost use Rattle.ix_replay.specs.report.Report.{closing_text, report_of};
+ghost use Rattle.ix_host.specs.run.Outcome as outcome;
+ghost use Rattle.ix_host.specs.run.Run.{Ends};
+ghost use Rattle.ix_host.specs.run.Teller.{StandsAt, failed_as};
+
+use crate::status::Status;
+use crate::streams::stream::{write_all, write_piece};
+use ix_core::Core;
+use ix_io::{Failed, Sink};
+use ix_model::{Call, NoMemory, Pid, Reply};
+use ix_replay::{Closing, push_entry, replay};
+use ix_report::head;
+use ix_script::Script;
+use ix_serial::run_history;
+use ix_witness::Witness;
+use std::alloc::Global;
+
+/// How many bytes are gathered before they are written.
+const PIECE: usize = 65_536;
+
+/// How much room there is for the line that comes last in a piece; a longer one takes more memory.
+const LAST_LINE: usize = 16_384;
+
+/// What keeps a report from being told further.
+#[derive(Clone, Copy, Debug, PartialEq, Eq)]
+enum Failure {
+    /// A write failed.
+    Write,
+    /// There was no memory for a line.
+    Memory,
+}
+
+impl Failure {
+    /// How a run ends after it.
+    fn status(self) -> Status
+        ensures { result ≡ failed_as self }
+    {
+        match self {
+            Failure::Write => Status::WriteFault,
+            Failure::Memory => Status::NoMemory,
+        }
+    }
+}
+
+/// What tells the report of a script to a sink while its entries are made: it gathers their lines, and writes them once they are
+/// enough. After a failure it is silent.
+#[derive(Drop)]
+struct Teller<'a, K: Sink> {
+    script: &'a Script,
+    sink: &'a mut K,
+    /// What was told and isn't written yet.
+    waiting: &'a mut Vec<u8>,
+    failure: Option<Failure>,
+}
+
+/// The first line of a report, in memory that has room for what is gathered.
+fn begun(alloc: Global) -> Result<Vec<u8>, NoMemory>
+    ensures { IfOk result (λ waiting. waiting.items ≡ head_line) }
+{
+    let Ok(mut waiting) = Vec::with_capacity(alloc, PIECE + LAST_LINE) else {
+        return Err(NoMemory);
+    };
+    head(&mut waiting)?;
+    Ok(waiting)
+}
+
+impl<K: Sink> Teller<'_, K> {
+    /// Writes what waits, where that is enough.
+    fn write_full(&mut self)
+        requires { self.old.failure ≡ None }
+        ensures same { (self.new.sink.ghost_name ≡ self.old.sink.ghost_name) × (self.new.script.now ≡ self.old.script.now) }
+        ensures stands { (first : Option (List ℕ)) (rest text : List ℕ) (before : ℕ)
+            → StandsAt None first (K.taken self.old.sink.now) (self.old.waiting.now.items ++ rest) text before (K.faults self.old.sink.now)
+            → StandsAt self.new.failure first (K.taken self.new.sink.now) (self.new.waiting.now.items ++ rest) text before (K.faults self.new.sink.now) }
+    {
+        if self.waiting.len() < PIECE {
+            return;
+        }
+        match write_piece(self.sink, self.waiting.as_slice()) {
+            Ok(()) => self.waiting.clear(),
+            Err(Failed) => self.failure = Some(Failure::Write),
+        }
+    }
+
+    /// Writes what waits, and finishes.
+    fn finish(&mut self) -> Status
+        ensures same { self.new.sink.ghost_name ≡ self.old.sink.ghost_name }
+        ensures ends { (first : Option (List ℕ)) (text : List ℕ) (before : ℕ)
+            → StandsAt self.old.failure first (K.taken self.old.sink.now) self.old.waiting.now.items text before (K.faults self.old.sink.now)
+            → Ends (outcome.Whole text) result first (K.taken self.new.sink.now) (K.finished self.new.sink.now) before (K.faults self.new.sink.now) }
+    {
+        match self.failure {
+            Some(failure) => failure.status(),
+            None => match write_all(self.sink, self.waiting.as_slice()) {
+                Ok(()) => Status::Done,
+                Err(Failed) => Status::WriteFault,
+            },
+        }
+    }
+
+    /// Tells what closes the report of a history, and finishes.
+    fn close(&mut self, history: &Core) -> Status
+        ensures same { self.new.sink.ghost_name ≡ self.old.sink.ghost_name }
+        ensures ends { (first : Option (List ℕ)) (told : List ℕ) (before : ℕ)
+            → StandsAt self.old.failure first (K.taken self.old.sink.now) self.old.waiting.now.items told before (K.faults self.old.sink.now)
+            → Ends (outcome.Whole (told ++ closing_text (world_of history.now) (length history.now.events))) result first (K.taken self.new.sink.now)
+            (K.finished self.new.sink.now) before (K.faults self.new.sink.now) }
+    {
+        let mut closing = Closing::new(history);
+        'pieces: while !closing.is_told() {
+            if self.failure.is_some() {
+                return self.finish();
+            }
+            if closing.tell(self.waiting).is_err() {
+                return Status::NoMemory;
+            }
+            self.write_full();
+        }
+        self.finish()
+    }
+
+    /// Runs the lanes of the script one after the other, and tells the report of that while it is made.
+    fn tell_serial(&mut self, alloc: Global) -> Status
+        requires begun { (self.old.failure ≡ None) × (self.old.waiting.now.items ≡ head_line) }
+        requires placed { has_placed_lanes self.old.script.now ≡ true }
+        ensures same { self.new.sink.ghost_name ≡ self.old.sink.ghost_name }
+        ensures ends { Ends (outcome.Whole (report_of self.old.script.now (serial self.old.script.now))) result (K.taken self.old.sink.now) (K.taken self.new.sink.now)
+            (K.finished self.new.sink.now) (K.faults self.old.sink.now) (K.faults self.new.sink.now) }
+    {
+        let script = self.script;
+        match run_history(alloc, script, self) {
+            Ok(history) => self.close(&history),
+            Err(NoMemory) => Status::NoMemory,
+        }
+    }
+
+    /// Has a history of the script made once more, and tells the report of it.
+    fn tell_again(&mut self, alloc: Global, history: &Core) -> Status
+        requires begun { (self.old.failure ≡ None) × (self.old.waiting.now.items ≡ head_line) }
+        requires config { history.now.config ≡ config_of self.old.script.now }
+        requires fits { cost_of_history history.now.events ≤ need self.old.script.now }
+        ensures same { self.new.sink.ghost_name ≡ self.old.sink.ghost_name }
+        ensures ends { Ends (outcome.Whole (report_of self.old.script.now history.now.events)) result (K.taken self.old.sink.now) (K.taken self.new.sink.now)
+            (K.finished self.new.sink.now) (K.faults self.old.sink.now) (K.faults self.new.sink.now) }
+    {
+        let script = self.script;
+        match replay(alloc, script, history, self) {
+            Ok(()) => self.close(history),
+            Err(NoMemory) => Status::NoMemory,
+        }
+    }
+}
+
+impl<K: Sink> Witness for Teller<'_, K> {
+    ghost use Rattle.ix_host.specs.run.Teller.{HasTold};
+
+    ghost knows = { λ first h t. (t.sink.ghost_name ≡ first.sink.ghost_name) × (t.script.now ≡ first.script.now)
+        × HasTold first.script.now first.waiting.now.items h t.failure (K.taken first.sink.now) (K.taken t.sink.now) t.waiting.now.items (K.faults first.sink.now) (K.faults t.sink.now) };
+
+    fn see(
+        &mut self,
+        core: &Core,
+        line: u32,
+        pid: Pid,
+        seat: u32,
+        call: &Call<'_>,
+        reply: &Reply,
+        bytes: &[u8],
+    ) {
+        if self.failure.is_some() {
+            return;
+        }
+        let (out, script) = (&mut *self.waiting, self.script);
+        let told = push_entry(out, script, core, line, pid, seat, call, reply, bytes);
+        if told.is_err() {
+            self.failure = Some(Failure::Memory);
+            return;
+        }
+        self.write_full();
+    }
+}
+
+/// Runs the lanes of a script one after the other, and writes the report of that while it is made.
+pub fn report_serial<K: Sink>(alloc: Global, sink: &mut K, script: &Script) -> Status
+    requires { has_placed_lanes script.now ≡ true }
+    ensures { Ends (outcome.Whole (report_of script.now (serial script.now))) result (K.taken sink.old) (K.taken sink.new)
+        (K.finished sink.new) (K.faults sink.old) (K.faults sink.new) }
+{
+    let Ok(mut waiting) = begun(alloc) else {
+        return Status::NoMemory;
+    };
+    let mut teller = Teller {
+        script,
+        sink,
+        waiting: &mut waiting,
+        failure: None,
+    };
+    teller.tell_serial(alloc)
+}
+
+/// Writes the report of a history of a script, which is made once more for that.
+pub fn report<K: Sink>(alloc: Global, sink: &mut K, script: &Script, history: &Core) -> Status
+    requires config { history.now.config ≡ config_of script.now }
+    requires fits { cost_of_history history.now.events ≤ need script.now }
+    ensures { Ends (outcome.Whole (report_of script.now history.now.events)) result (K.taken sink.old) (K.taken sink.new)
+        (K.finished sink.new) (K.faults sink.old) (K.faults sink.new) }
+{
+    let Ok(mut waiting) = begun(alloc) else {
+        return Status::NoMemory;
+    };
+    let mut teller = Teller {
+        script,
+        sink,
+        waiting: &mut waiting,
+        failure: None,
+    };
+    teller.tell_again(alloc, history)
+}
