@@ -4,8 +4,8 @@ ghost use Rattle.ix_report.specs.ReplyText.{AreBytesOf};
 use bitflags::Flags;
 use ix_label::Label;
 use ix_model::{
-    Act, AuditLine, Call, Entry, Fd, Keep, Kind, Mode, Name, NoMemory, Obj, ObjView, Path, Pid,
-    PrivSet, ProcView, Refusal, Reply,
+    Act, AuditLine, Call, Fd, Keep, Kind, Mode, Name, NoMemory, Obj, ObjView, Path, Pid, PrivSet,
+    ProcView, Refusal, Reply,
 };
 use ix_report::{audit_line, entry_line, head, object_line, process_line, tail};
 use std::test::Fail;
@@ -14,14 +14,9 @@ use std::test::Fail;
 fn prints_each_kind_of_line(rt: HostRuntime) -> Result<(), Fail> {
     let mut out = Vec::new(rt.alloc());
     let three = Label::bottom().with(3);
-    let read = Entry {
-        seat: 0,
-        line: 7,
-        pid: Pid(1),
-        call: Call::ReadFd {
-            fd: Fd(0),
-            count: 8,
-        },
+    let read = Call::ReadFd {
+        fd: Fd(0),
+        count: 8,
     };
     let audit = AuditLine {
         place: 3,
@@ -38,6 +33,8 @@ fn prints_each_kind_of_line(rt: HostRuntime) -> Result<(), Fail> {
         &mut out,
         2,
         b"m",
+        7,
+        Pid(1),
         &read,
         &Reply::Bytes(2),
         b"hi",
@@ -47,6 +44,8 @@ fn prints_each_kind_of_line(rt: HostRuntime) -> Result<(), Fail> {
         &mut out,
         2,
         b"m",
+        7,
+        Pid(1),
         &read,
         &Reply::No(Refusal::ProcCeiling),
         b"",
@@ -56,6 +55,8 @@ fn prints_each_kind_of_line(rt: HostRuntime) -> Result<(), Fail> {
         &mut out,
         3,
         b"m",
+        7,
+        Pid(1),
         &read,
         &Reply::No(Refusal::NoProcess),
         b"",
@@ -96,13 +97,8 @@ fn prints_each_kind_of_line(rt: HostRuntime) -> Result<(), Fail> {
 fn answer(out: &mut Vec<u8>, reply: &Reply) -> Result<(), NoMemory>
     requires { AreBytesOf reply.now [] }
 {
-    let entry = Entry {
-        seat: 0,
-        line: 7,
-        pid: Pid(1),
-        call: Call::SelfLabel,
-    };
-    entry_line(out, 1, b"m", &entry, reply, b"", None)
+    let call = Call::SelfLabel;
+    entry_line(out, 1, b"m", 7, Pid(1), &call, reply, b"", None)
 }
 
 #[test]
@@ -181,64 +177,33 @@ fn prints_arguments(rt: HostRuntime) -> Result<(), Fail> {
     let mut path = Path::new(false);
     assert!(rt; path.push(two));
     assert!(rt; path.push(two));
-    let (seat, line, pid) = (0, 7, Pid(1));
-    let entries = [
-        Entry {
-            seat,
-            line,
-            pid,
-            call: Call::OpenAt {
-                path: rooted,
-                mode: Mode::Both,
-            },
+    let calls = [
+        Call::OpenAt {
+            path: rooted,
+            mode: Mode::Both,
         },
-        Entry {
-            seat,
-            line,
-            pid,
-            call: Call::WriteFd {
-                fd: Fd(1),
-                bytes: b"\x00\xfa",
-            },
+        Call::WriteFd {
+            fd: Fd(1),
+            bytes: b"\x00\xfa",
         },
-        Entry {
-            seat,
-            line,
-            pid,
-            call: Call::LinkAt {
-                target: path,
-                path: Path::new(true),
-            },
+        Call::LinkAt {
+            target: path,
+            path: Path::new(true),
         },
-        Entry {
-            seat,
-            line,
-            pid,
-            call: Call::ListAt {
-                path: Path::new(false),
-                index: 4,
-            },
+        Call::ListAt {
+            path: Path::new(false),
+            index: 4,
         },
-        Entry {
-            seat,
-            line,
-            pid,
-            call: Call::Fork {
-                keep: Keep::One(Fd(3)),
-            },
+        Call::Fork {
+            keep: Keep::One(Fd(3)),
         },
-        Entry {
-            seat,
-            line,
-            pid,
-            call: Call::SetCeiling {
-                pid: Pid(2),
-                label: Label::top(),
-            },
+        Call::SetCeiling {
+            pid: Pid(2),
+            label: Label::top(),
         },
     ];
-    for entry in &entries {
-        entry_line(&mut out, 1, b"m", entry, &Reply::Done, b"", None)?;
+    for call in &calls {
+        entry_line(&mut out, 1, b"m", 7, Pid(1), call, &Reply::Done, b"", None)?;
     }
     let text = b"1 m 7 open p1 /a\\x5c\\x7f/!~ rw = done @ none\n\
         1 m 7 write p1 1 x00fa = done @ none\n\

@@ -1,7 +1,47 @@
 use crate::programs::{USAGE, run};
-use ix_host::Status;
+use ix_host::{Status, Words};
 use ix_io::{MemSink, MemSource};
+use std::env;
+use std::env::{Env, FillError};
 use std::test::Fail;
+
+/// A command line of the program's name and one word.
+#[derive(Drop)]
+struct OneWord(&'static [u8]);
+
+impl Env for OneWord {
+    fn arg(&self, i: usize, buf: &mut [u8]) -> Result<usize, FillError> {
+        let word = match i {
+            0 => b"ixone",
+            1 => self.0,
+            _ => return Err(FillError::NotPresent),
+        };
+        if buf.len() < word.len() {
+            return Err(FillError::TooLong);
+        }
+        buf[..word.len()].copy_from_slice(word);
+        Ok(word.len())
+    }
+
+    fn var(&self, _name: &str, _buf: &mut [u8]) -> Result<usize, FillError> {
+        Err(FillError::NotPresent)
+    }
+
+    fn var_at(&self, _i: usize, _buf: &mut [u8]) -> Result<usize, FillError> {
+        Err(FillError::NotPresent)
+    }
+}
+
+#[test]
+fn words_stand_behind_the_name_and_are_text(rt: HostRuntime) -> Result<(), Fail> {
+    for (word, want) in [(b"run".as_slice(), Some("run")), (b"r\xFFn", None)] {
+        let args = env::args(&(OneWord(word), rt.alloc()));
+        let words = Words::of_program(rt.alloc(), args)?;
+        assert_eq!(rt; words.get(0), want);
+        assert_eq!(rt; words.get(1), None);
+    }
+    Ok(())
+}
 
 #[test]
 fn other_words_are_answered_by_the_usage_line(rt: HostRuntime) -> Result<(), Fail> {
