@@ -1,5 +1,5 @@
 -- A block put at the end of a chain, and one given back.
-use Rattle.std.proofs.Common.{◌≡◌, ℕ, suc, ◌+◌, ◌-◌, ◌<◌, List, ◌∷◌, length, set, replicate, Some, None, sym, ap, ◌∙◌, arith, slice_get}
+use Rattle.std.proofs.Common.{◌≡◌, ℕ, suc, ◌+◌, ◌-◌, ◌*◌, ◌<◌, List, ◌∷◌, length, set, replicate, Some, None, sym, ap, ◌∙◌, arith, slice_get}
 use Rattle.std.specs.List.{last_or}
 use Rattle.std.proofs.lemmas.List.{length-replicate}
 use Rattle.ix_links.specs.Chains.{Chains, pool, chain_of, pushed_back, back_moved, removed}
@@ -8,7 +8,7 @@ use Rattle.ix_links.proofs.Held.{free_below, pool-pushed_back, pool-removed}
 use Rattle.ix_blocks.specs.Wholes.{Wholes, whole_of, blocks_added, blocks_dropped}
 use Rattle.ix_blocks.specs.Stored.{flat, flats, held_in, AreRows}
 use Rattle.ix_blocks.proofs.Storing.{flats-length, flats-at, added, dropped, first_parts, none_last, last_held, last_below}
-use Rattle.ix_blocks.proofs.Rowed.{rows_set}
+use Rattle.ix_blocks.proofs.Rowed.{rows_set, chain_held}
 
 -- the bytes and the number of free blocks of chains
 held_is : (v : Chains) (blocks wholes : List (List ℕ)) (free : ℕ) → flats blocks v.chains ≡ wholes → length v.free ≡ free → held_in v blocks ≡ record { wholes = wholes; free = free }
@@ -20,6 +20,10 @@ pushed_free f v b rest is = ap (λ xs. length (back_moved f xs v.chains).free) i
 module _ (v : Chains) (blocks : List (List ℕ)) (rows : AreRows v blocks) (w : Wholes) (is : held_in v blocks ≡ w) (f : ℕ) (file : f < length w.wholes) where
   chain_there : f < length v.chains
   chain_there = omega (arith, file, ap (λ (x : Wholes). length x.wholes) is, flats-length blocks v.chains)
+
+  -- a chain has as many blocks as its bytes fill
+  pub held_of : (n : ℕ) → length (whole_of f w) ≡ 512 * n → length (chain_of f v) ≡ n
+  held_of n long = chain_held v blocks rows f chain_there n (ap length (sym (flats-at blocks v.chains f)) ∙ ap (λ (x : Wholes). length (whole_of f x)) is ∙ long)
 
   pub free_within : (b : ℕ) → slice_get v.free 0 ≡ Some b → b < length blocks
   free_within b first = omega (arith, rows.each, free_below v 0 b rows.law first)

@@ -1,10 +1,11 @@
 -- Bytes of a file, block after block.
 use Rattle.std.proofs.Common.{◌≡◌, ℕ, zero, suc, ◌+◌, ◌-◌, ◌*◌, ◌/◌, ◌%◌, ◌<◌, ◌≤◌, List, [], ◌∷◌, ◌++◌, length, take, drop, set, get_or, Some, None, refl, sym, ap, ◌∙◌, arith, append_assoc, append-nil, length-append, length-set, length-drop, length-take, slice_get, inl, inr, ◌^◌, min}
+use Rattle.std.specs.List.{last_or}
 use Rattle.std.proofs.lemmas.List.{get_or-set_other, get_or-set_same, set-set, take-append-le, drop-append-le, drop-drop, length-take-le, take_at, drop_at}
 use Rattle.std.proofs.lemmas.Bool.{cases_eq}
 use Rattle.std.proofs.lemmas.Option.{slice_get-get_or}
 use Rattle.std.proofs.Math.Seq.{take-add, drop-append-add}
-use Rattle.ix_links.specs.Chains.{Chains, chain_of}
+use Rattle.ix_links.specs.Chains.{Chains, before, chain_of}
 use Rattle.ix_links.proofs.Held.{held_below}
 use Rattle.ix_links.proofs.Listing.{part-le-total}
 use Rattle.ix_blocks.specs.Files.{laid_over}
@@ -38,6 +39,24 @@ none_after [] n e = refl
 none_after (x ∷ xs) zero e = absurd (cc e)
 none_after (x ∷ xs) (suc n) e = ap (slice_get (x ∷ xs)) (let e : suc n + 1 ≡ suc (n + 1) = omega arith in e) ∙ none_after xs n e
 
+-- the last of a list stands at its last place
+pub last_at : (xs : List ℕ) → 0 < length xs → last_or None xs ≡ slice_get xs (length xs - 1)
+last_at [] some = absurd (omega (arith, some))
+last_at (x ∷ []) some = refl
+last_at (x ∷ y ∷ xs) some =
+    let place : length (x ∷ y ∷ xs) - 1 ≡ suc (length (y ∷ xs) - 1) = omega arith in
+    last_at (y ∷ xs) (omega arith) ∙ ap (slice_get (x ∷ y ∷ xs)) (sym place)
+
+-- what stands before a place counted from the end
+pub before_at : (xs : List ℕ) (n : ℕ) → n + 1 < length xs → before xs (length xs - 1 - n) ≡ slice_get xs (length xs - 1 - (n + 1))
+before_at xs n more = ap (before xs) (let e : length xs - 1 - n ≡ suc (length xs - 1 - (n + 1)) = omega (arith, more) in e)
+
+-- a place of a list isn't empty
+pub none_there : (xs : List ℕ) (n : ℕ) → n < length xs → slice_get xs n ≡ None → ⊥
+none_there xs n there none =
+    let some : slice_get xs n ≡ Some (get_or xs n 0) = slice_get-get_or xs n 0 there in
+    cc
+
 -- another block of that size
 pub rows_set : (v : Chains) (ds : List (List ℕ)) → AreRows v ds → (b : ℕ) (x : List ℕ) → length x ≡ 512 → AreRows v (set ds b x)
 rows_set v ds rows b x long = record {
@@ -57,6 +76,10 @@ module _ (v : Chains) (ds : List (List ℕ)) (rows : AreRows v ds) (f : ℕ) (lo
   chain_long : length (flat ds (chain_of f v)) ≡ 512 * length (chain_of f v)
   chain_long = part_long (chain_of f v) [] (sym (append-nil (chain_of f v)))
 
+  -- as many blocks as their bytes fill
+  pub chain_held : (n : ℕ) → length (flat ds (chain_of f v)) ≡ 512 * n → length (chain_of f v) ≡ n
+  chain_held n long = omega (arith, chain_long, long)
+
   -- they are far fewer than a word counts
   pub few_bytes : length (flat ds (chain_of f v)) < 2 ^ 64
   few_bytes = omega (arith, chain_long, rows.law.few, part-le-total length v.chains f low)
@@ -64,8 +87,7 @@ module _ (v : Chains) (ds : List (List ℕ)) (rows : AreRows v ds) (f : ℕ) (lo
   -- a byte that is there lies in a block
   pub block_there : (n : ℕ) → n < length (flat ds (chain_of f v)) → slice_get (chain_of f v) (n / 512) ≡ None → ⊥
   block_there n there none =
-      let some : slice_get (chain_of f v) (n / 512) ≡ Some (get_or (chain_of f v) (n / 512) 0) = slice_get-get_or (chain_of f v) (n / 512) 0 (omega (arith, there, chain_long)) in
-      cc
+      none_there (chain_of f v) (n / 512) (omega (arith, there, chain_long)) none
 
   pub block_below : (q b : ℕ) → slice_get (chain_of f v) q ≡ Some b → b < length ds
   block_below q b at = omega (arith, rows.each, held_below v f q b rows.law at)

@@ -107,6 +107,10 @@ module _ (s : Inside) (v : Files) (is : blocks_view s ≡ v) (filled : IsBlocks 
   pub bytes_long : length (bytes_of f v) ≡ get_or s.lengths.items f 0
   bytes_long = ap length bytes_are ∙ length-take-le (get_or s.lengths.items f 0) (whole_of f s.store) (omega (arith, whole_long))
 
+  -- as many whole blocks as the bytes need
+  pub held_by : (len held : ℕ) → len ≡ length (bytes_of f v) → held ≡ blocks_for len → length (whole_of f s.store) ≡ 512 * held
+  held_by len held is_len is_held = whole_long ∙ ap (λ n. 512 * blocks_for n) (sym (is_len ∙ bytes_long)) ∙ ap (λ n. 512 * n) (sym is_held)
+
   -- bytes of a file are those that its blocks have there
   pub front_of_bytes : (at n : ℕ) → at + n ≤ length (bytes_of f v) → take n (drop at (whole_of f s.store)) ≡ take n (drop at (bytes_of f v))
   front_of_bytes at n within =

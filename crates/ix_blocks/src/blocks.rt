@@ -17,8 +17,8 @@ pub struct NoSpace;
 /// The bytes of files, which lie in blocks of 512 bytes of one pool.
 ///
 /// A file has the blocks that its bytes fill, the last one in part, and no more. Contracts see the
-/// bytes of each file and the number of blocks. The blocks of a file are a chain, so `read`, `write`
-/// and a `cut` that grows the file go from its first block to the first that they touch.
+/// bytes of each file and the number of blocks. The blocks of a file are a chain, so `read` and
+/// `write` go to the first block that they touch from the end of the chain that is nearer.
 #[derive(Drop)]
 pub struct Blocks {
     store: Store,
@@ -67,7 +67,7 @@ impl Blocks {
 
     /// Copies the bytes of a file from `at` on into the front of `out`, as many as there are and it
     /// holds, and answers their number; the rest of `out` stays. The cost is that of the bytes
-    /// copied, and a step for each block of the file before them.
+    /// copied, and a step for each block of the file before them, or behind the first of them, whichever are fewer.
     pub fn read(&self, file: u32, at: u64, out: &mut [u8]) -> usize
         requires { file < length self.now.files }
         ensures count { result ≡ min (length out.old) (length (drop at (bytes_of file self.now))) }
@@ -78,7 +78,8 @@ impl Blocks {
             return 0;
         }
         let count = out.len().min((len - at) as usize);
-        self.store.get(file, at as usize, &mut out[..count]);
+        let held = blocks_for(len as usize);
+        self.store.get(file, held, at as usize, &mut out[..count]);
         count
     }
 
@@ -87,7 +88,7 @@ impl Blocks {
     ///
     /// [`NoSpace`], and nothing has changed, exactly where the file would need more blocks than it
     /// has and are free. The cost is that of the bytes and of the gap, and a step for each block of
-    /// the file before them.
+    /// the file before them, or behind the first of them, whichever are fewer.
     pub fn write(&mut self, file: u32, at: u64, bytes: &[u8]) -> Result<(), NoSpace>
         requires file { file < length self.old.files }
         requires most { length_after file at bytes.now self.old ≤ most }
@@ -107,8 +108,7 @@ impl Blocks {
     /// more are free at once; where the file grows it has zeros.
     ///
     /// [`NoSpace`], and nothing has changed, exactly where the file would need more blocks than it
-    /// has and are free. The cost is that of the blocks taken or given back, and where the file
-    /// grows a step for each block that it had.
+    /// has and are free. The cost is that of the blocks taken or given back.
     pub fn cut(&mut self, file: u32, len: u64) -> Result<(), NoSpace>
         requires file { file < length self.old.files }
         requires most { len ≤ most }
@@ -147,7 +147,7 @@ impl Blocks {
         if more > self.free() as usize {
             return Err(NoSpace);
         }
-        self.store.clear(file, old, held * SIZE - old);
+        self.store.clear(file, held, old, held * SIZE - old);
         self.store.grow(file, more);
         self.lengths[file as usize] = len as u32;
         Ok(())
@@ -173,6 +173,7 @@ impl Blocks {
         requires within { place + length bytes.now ≤ length (bytes_of file self.old) }
         ensures { self.new ≡ with_bytes file (laid_over place bytes.now (bytes_of file self.old)) self.old }
     {
-        self.store.put(file, place, bytes);
+        let held = blocks_for(self.len(file) as usize);
+        self.store.put(file, held, place, bytes);
     }
 }

@@ -71,32 +71,42 @@ impl Store {
         }
     }
 
-    /// Lays bytes over those of a file from a place on.
-    pub(crate) fn put(&mut self, file: u32, place: usize, bytes: &[u8])
+    /// Lays bytes over those of a file of so many blocks from a place on.
+    pub(crate) fn put(&mut self, file: u32, held: usize, place: usize, bytes: &[u8])
         requires file { file < length self.old.wholes }
+        requires held { length (whole_of file self.old) ≡ 512 * held }
         requires within { place + length bytes.now ≤ length (whole_of file self.old) }
         ensures { self.new ≡ with_laid_over file place bytes.now self.old }
     {
-        rows::lay(&self.links, self.blocks.as_mut_slice(), file, place, bytes);
+        rows::lay(
+            &self.links,
+            self.blocks.as_mut_slice(),
+            file,
+            held,
+            place,
+            bytes,
+        );
     }
 
-    /// Lays zeros over so many bytes of a file, at most a block's, from a place on.
-    pub(crate) fn clear(&mut self, file: u32, place: usize, count: usize)
+    /// Lays zeros over so many bytes of a file of so many blocks, at most a block's, from a place on.
+    pub(crate) fn clear(&mut self, file: u32, held: usize, place: usize, count: usize)
         requires file { file < length self.old.wholes }
+        requires held { length (whole_of file self.old) ≡ 512 * held }
         requires few { count ≤ 512 }
         requires within { place + count ≤ length (whole_of file self.old) }
         ensures { self.new ≡ with_laid_over file place (replicate count 0) self.old }
     {
-        self.put(file, place, &[0; SIZE][..count]);
+        self.put(file, held, place, &[0; SIZE][..count]);
     }
 
-    /// Copies the bytes of a file from a place on, as many as fill `out`.
-    pub(crate) fn get(&self, file: u32, place: usize, out: &mut [u8])
+    /// Copies the bytes of a file of so many blocks from a place on, as many as fill `out`.
+    pub(crate) fn get(&self, file: u32, held: usize, place: usize, out: &mut [u8])
         requires file { file < length self.now.wholes }
+        requires held { length (whole_of file self.now) ≡ 512 * held }
         requires within { place + length out.old ≤ length (whole_of file self.now) }
         ensures { out.new ≡ take (length out.old) (drop place (whole_of file self.now)) }
     {
-        rows::fetch(&self.links, self.blocks.as_slice(), file, place, out);
+        rows::fetch(&self.links, self.blocks.as_slice(), file, held, place, out);
     }
 
     /// Puts a free block, of zeros, at the end of a file.

@@ -1,10 +1,13 @@
 use Rattle.std.proofs.Common.{◌*◌, ◌-◌, replicate, arith}
-use Rattle.ix_blocks.proofs.Showing.{file_below, file_held, bytes_long, whole_long, held_laid, free_is, leaves_grown}
+use Rattle.ix_blocks.proofs.Showing.{file_below, file_held, bytes_long, whole_long, held_by, held_laid, free_is, leaves_grown}
 use Rattle.ix_blocks.proofs.Editing.{room_some}
 use Rattle.ix_blocks.proofs.blocks.Blocks.grow.Goals as goal
 
 pub clear-requires-clause-file : goal.clear-requires-clause-file
 clear-requires-clause-file c = file_held c.self.inside c.args.self.now c.self.view_is c.self.invariant c.args.file c.requires.file
+
+pub clear-requires-clause-held : goal.clear-requires-clause-held
+clear-requires-clause-held c = held_by c.self.inside c.args.self.now c.self.view_is c.self.invariant c.args.file c.requires.file c.len-old.result c.blocks_for-held.result c.len-old.ensures c.blocks_for-held.ensures
 
 pub clear-requires-clause-within : goal.clear-requires-clause-within
 clear-requires-clause-within c = omega (arith, c.blocks_for-held.ensures, c.len-old.ensures, bytes_long c.self.inside c.args.self.now c.self.view_is c.self.invariant c.args.file c.requires.file, whole_long c.self.inside c.args.self.now c.self.view_is c.self.invariant c.args.file c.requires.file)
