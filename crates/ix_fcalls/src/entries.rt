@@ -19,10 +19,7 @@ impl Files {
     pub(crate) fn is_on_pipe(&self, e: &Behind) -> bool
         ensures { result ≡ option_map_or is_pipe (at self.now.objects e.now.object) false }
     {
-        match self.tables.object(e.object) {
-            Some(x) => x.is_pipe(),
-            None => false,
-        }
+        self.tables.is_pipe(e.object)
     }
 
     /// Whether a process other than the caller has claimed the end that an open entry is on.

@@ -1,12 +1,14 @@
 -- What is told of the objects that inodes and pipes make.
-use Rattle.std.proofs.Common.{◌≡◌, ◌+◌, ◌-◌, ◌<◌, false, IfSome, ℕ, List, length, Option, Some, None, is_some, option_map, unwrap_or, refl, sym, ap, subst, ◌∙◌, arith}
+use Rattle.std.proofs.Common.{◌≡◌, ◌+◌, ◌-◌, ◌<◌, true, false, Bool, IfSome, ℕ, List, length, Option, Some, None, is_some, option_map, unwrap_or, refl, sym, ap, subst, ◌∙◌, arith}
+use Rattle.std.specs.Option.{option_map_or}
 use Rattle.ix_label.specs.Category.{Categories, top}
 use Rattle.ix_model.proofs.tables.Finds.{in_table}
-use Rattle.ix_model.specs.world.World.{Object, at}
+use Rattle.ix_model.specs.world.World.{Object, at, is_pipe}
 use Rattle.ix_model.specs.rows.Walks.{node, nothing}
 use Rattle.ix_model.specs.declared.reply.Kind.TheVariants as kind
 use Rattle.ix_model.specs.declared.privs.PrivSet.{PrivSet}
 use Rattle.ix_inode.specs.Nodes.{Nodes, told_at}
+use Rattle.ix_inode.specs.Shown.{kind_of}
 use Rattle.ix_inode.specs.declared.node.Inode.{Inode}
 use Rattle.ix_inode.specs.declared.node.Node.{Node}
 use Rattle.ix_name.specs.Directories.{Directories, names_of}
@@ -68,3 +70,22 @@ module _ (nodes : Nodes) (names : Directories) (pipes : List (Option Pipe)) (obj
       go : (x : Option Pipe) → is_some x ≡ false → option_map object_of_pipe x ≡ None
       go None h = refl
       go (Some q) h = cc
+
+  -- no inode is a pipe, and behind the inodes there are pipes alone
+  pub inode_no_pipe : (n : ℕ) → n < length nodes.nodes → option_map_or is_pipe (at objects n) false ≡ false
+  inode_no_pipe n low = ap (λ t. option_map_or is_pipe (at t n) false) (sym view) ∙ ap (λ (o : Option Object). option_map_or is_pipe o false) (at_inode nodes names pipes n low) ∙ go (at nodes.nodes n)
+    where
+      go : (x : Option Node) → option_map_or is_pipe (option_map (object_of (names_of names n)) x) false ≡ false
+      go None = refl
+      go (Some x) = by_kind x.dir
+        where
+          by_kind : (dir : Bool) → is_pipe (record (object_of (names_of names n) x) { kind = kind_of dir }) ≡ false
+          by_kind true = refl
+          by_kind false = refl
+
+  pub pipe_is_pipe : (p : ℕ) → option_map_or is_pipe (at objects (length nodes.nodes + p)) false ≡ is_some (at pipes p)
+  pipe_is_pipe p = ap (λ (o : Option Object). option_map_or is_pipe o false) (behind p) ∙ go (at pipes p)
+    where
+      go : (x : Option Pipe) → option_map_or is_pipe (option_map object_of_pipe x) false ≡ is_some x
+      go None = refl
+      go (Some q) = refl

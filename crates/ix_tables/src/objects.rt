@@ -1,4 +1,5 @@
 ghost use Rattle.std.specs.Prelude.{◌≡◌, ◌+◌, ◌<◌, ◌==◌, ◌^◌, length, is_some, IfSome, IsTrue, Some, true, false, if◌then◌else◌};
+ghost use Rattle.std.specs.Option.{option_map_or};
 ghost use Rattle.ix_label.specs.Category.{leq};
 ghost use Rattle.ix_model.specs.world.World.{at, change, ceiling_of, is_dir, is_pipe};
 ghost use Rattle.ix_model.specs.world.Numbers.{first_inode, first_pipe};
@@ -47,6 +48,16 @@ impl Tables {
             Some(x) => x.is_dir(),
             None => false,
         }
+    }
+
+    /// Whether a pipe is there. It takes one step, and looks no inode up.
+    pub fn is_pipe(&self, n: u32) -> bool
+        ensures { result ≡ option_map_or is_pipe (at self.now.objects n) false }
+    {
+        if n < self.first_pipe {
+            return false;
+        }
+        self.pipes.lives(n - self.first_pipe)
     }
 
     /// The label of an object, bottom where there is none.
