@@ -6,7 +6,7 @@ use Rattle.ix_model.specs.history.History.{History, world_of, next}
 use Rattle.ix_model.specs.history.Made.{Made, entry}
 use Rattle.ix_model.specs.history.Seats.{made_of, made_by, GoesOn}
 use Rattle.ix_model.specs.history.Shown.{AreShown}
-use Rattle.ix_model.specs.history.Step.{put_front}
+use Rattle.ix_model.specs.history.Step.{Given, put_front}
 use Rattle.ix_model.specs.history.Systems.{bytes_in, made_after}
 use Rattle.ix_model.specs.declared.ids.Pid.{Pid}
 use Rattle.ix_model.specs.declared.reply.Reply.{Reply}
@@ -16,7 +16,7 @@ use Rattle.ix_model.specs.declared.reply.Answer.TheVariants as answer
 use Rattle.ix_model.proofs.words.Seats.{made_by-push, goes_on_not, goes_on_once}
 use Rattle.ix_journal.proofs.Growing.{cost_more}
 use Rattle.ix_model.proofs.clean.Showing.{shown_step}
-use Rattle.ix_core.specs.Stepping.{StepsTo}
+use Rattle.ix_core.specs.Stepping.{StepsTo, MakesNext}
 use Rattle.ix_core.proofs.Standing.{shows}
 
 -- the bytes in the buffer are those that the reply gives
@@ -28,13 +28,26 @@ module _ (old new : History) (before after : List ℕ) (seat line : ℕ) (pid : 
   abbrev Steps : Answer → Type 0
   Steps a = StepsTo a old new before after (entry seat line pid o)
 
-  made_next : (r : Reply) → r ≡ (next old (entry seat line pid o)).reply → after ≡ put_front (next old (entry seat line pid o)).bytes before → made_of (entry seat line pid o) (next old (entry seat line pid o)) ≡ record { event = entry seat line pid o; reply = r; bytes = bytes_in r after }
-  made_next r said put =
-      let e = entry seat line pid o in
-      let given = next old e in
-      let shown : AreShown r given.bytes = subst (λ (x : Reply). AreShown x given.bytes) (sym said) (shown_step (world_of old) (length old.events + 1) pid.0 o) in
-      let bytes : bytes_in r after ≡ given.bytes = gives_bytes r given.bytes before after shown put in
-      λ i. record { event = e; reply = sym said i; bytes = sym bytes i }
+  -- what the machine gives
+  abbrev given : Given
+  given = next old (entry seat line pid o)
+
+  are_shown : (r : Reply) → r ≡ given.reply → AreShown r given.bytes
+  are_shown r said = subst (λ (x : Reply). AreShown x given.bytes) (sym said) (shown_step (world_of old) (length old.events + 1) pid.0 o)
+
+  are_read : (r : Reply) → r ≡ given.reply → after ≡ put_front given.bytes before → bytes_in r after ≡ given.bytes
+  are_read r said put = gives_bytes r given.bytes before after (are_shown r said) put
+
+  made_next : (r : Reply) → r ≡ given.reply → after ≡ put_front given.bytes before → made_of (entry seat line pid o) given ≡ record { event = entry seat line pid o; reply = r; bytes = bytes_in r after }
+  made_next r said put = λ i. record { event = entry seat line pid o; reply = sym said i; bytes = sym (are_read r said put) i }
+
+  pub makes_next : (a : Answer) → Steps a → MakesNext a old new (entry seat line pid o) after
+  makes_next (answer.Given r) h = (
+    record { history = h.0; reply = h.1; bytes = are_read r h.1 h.2 },
+    subst (λ (b : List ℕ). AreShown r b) (sym (are_read r h.1 h.2)) (are_shown r h.1),
+  )
+  makes_next (answer.JournalFull used need cap) h = h.4
+  makes_next answer.NoMemory h = absurd h
 
   pub makes : (a : Answer) → Steps a → made_by seat new ≡ made_after a (entry seat line pid o) after (made_by seat old)
   makes (answer.Given r) h = ap (made_by seat) h.0 ∙ made_by-push seat old (entry seat line pid o) refl ∙ ap (λ (m : Made). made_by seat old ++ m ∷ []) (made_next r h.1 h.2)

@@ -10,11 +10,14 @@ use Rattle.ix_model.specs.history.Cost.{cost_of, cost_of_history}
 use Rattle.ix_model.specs.history.Events.{Event}
 use Rattle.ix_journal.specs.Entries.{Entries}
 use Rattle.ix_model.specs.history.History.{History, world_of, next, with_entry}
+use Rattle.ix_model.specs.history.Shown.{AreShown}
+use Rattle.ix_model.specs.history.Systems.{bytes_in, Fits, LeavesRest}
+use Rattle.ix_model.specs.declared.reply.Reply.{Reply}
 use Rattle.ix_model.specs.declared.reply.Reply.TheVariants as reply
 use Rattle.ix_model.specs.declared.reply.Answer.{Answer}
 use Rattle.ix_model.specs.declared.reply.Answer.TheVariants as answer
 use Rattle.ix_iso.specs.Laws.{NoneCrosses}
-use Rattle.ix_iso.specs.Hiding.{RunsAgree}
+use Rattle.ix_iso.specs.Hiding.{HidesWhatIsHigh, RunsAgree}
 
 -- The machine's world is the run of the history from the opening world of a valid config, whose journal has the history's
 -- entries and is as large as the config says.
@@ -49,3 +52,23 @@ AnswersAlike (answer.Given r) old e before after =
     let there = step_of (run v 1 others) (length old.events + 1) f in (r ≡ there.reply) × (after ≡ put_front there.bytes before)
 AnswersAlike (answer.JournalFull used need cap) old e before after = Unit {0}
 AnswersAlike answer.NoMemory old e before after = Unit {0}
+
+-- All that a core says of a step: what it does, what it shows and leaves, and what it hides.
+pub record StepsAs (a : Answer) (old new : History) (e : Event) (before after : List ℕ) : Type 0 where
+  pub step : StepsTo a old new before after e
+  pub shown : Shows a after (next old e).bytes
+  pub fits : Fits e.op a
+  pub rest : LeavesRest a before after
+  pub alike : AnswersAlike a old e before after
+  pub hides : HidesWhatIsHigh (opening_world new.config) new.events
+
+-- The history has one entry more, to which this reply and these bytes are what the machine gives.
+pub record IsNext (old new : History) (e : Event) (r : Reply) (read : List ℕ) : Type 0 where
+  pub history : new ≡ with_entry old e
+  pub reply : r ≡ (next old e).reply
+  pub bytes : read ≡ (next old e).bytes
+
+-- An answer that has a reply made the next entry, with the bytes in the buffer; any other left the history as it was.
+abbrev pub MakesNext : Answer → History → History → Event → List ℕ → Type 0
+MakesNext (answer.Given r) old new e buf = IsNext old new e r (bytes_in r buf) × AreShown r (bytes_in r buf)
+MakesNext _ old new e buf = new ≡ old

@@ -1,9 +1,12 @@
-ghost use Rattle.std.specs.Prelude.{◌≡◌, [], length, ◌==◌, ◌-◌, ◌≤◌, IfOk, IsTrue, None, if◌then◌else◌, slice_get};
+ghost use Rattle.std.specs.Prelude.{◌≡◌, [], length, ◌==◌, ◌-◌, ◌≤◌, ◌<◌, IfOk, IsTrue, None, if◌then◌else◌, slice_get};
 ghost use Rattle.std.specs.Option.{option_map};
 ghost use Rattle.ix_model.specs.history.AuditLog.{audit_log};
 ghost use Rattle.ix_model.specs.history.Calls.{op_of, event_of};
+ghost use Rattle.ix_model.specs.history.Cost.{cost_of_history};
 ghost use Rattle.ix_model.specs.history.History.{world_of, next};
-ghost use Rattle.ix_model.specs.history.Systems.{Fits, LeavesRest};
+ghost use Rattle.ix_model.specs.history.Made.{entry};
+ghost use Rattle.ix_model.specs.history.Seats.{made_by, GoesOn};
+ghost use Rattle.ix_model.specs.history.Systems.{made_after, FullFor, Fits, LeavesRest};
 ghost use Rattle.ix_model.specs.laws.Sound.{Sound};
 ghost use Rattle.ix_model.specs.opening.Opening.{opening_world};
 ghost use Rattle.ix_model.specs.opening.Valid.{is_valid};
@@ -12,7 +15,8 @@ ghost use Rattle.ix_iso.specs.Hiding.{HidesWhatIsHigh};
 ghost use Rattle.ix_model.specs.history.Views.{view_of, shown_of};
 ghost use Rattle.ix_model.specs.history.Freshness.{is_fresh};
 ghost use Rattle.ix_core.specs.Marking.{way_of, goes_fresh};
-ghost use Rattle.ix_core.specs.Stepping.{StepsTo, Shows, AnswersAlike};
+ghost use Rattle.ix_core.specs.Stepping.{StepsTo, Shows, AnswersAlike, StepsAs, MakesNext};
+ghost use Rattle.ix_core.specs.Stops.{StopsWhereFull};
 
 use crate::marking::turn;
 use ix_float::Way;
@@ -22,8 +26,8 @@ use ix_machine::Machine;
 use ix_marks::Marks;
 use ix_model::{Answer, AuditLine, Buf, Call, Config, Entry, Fd, NoMemory, ObjView, Pid, ProcView};
 use std::alloc::Global;
-use std::marker::Model;
-use std::sync::ledger::Ledger;
+use std::marker::{Brand, Model};
+use std::sync::ledger::{Blank, Ledger};
 
 /// A machine with the config that it started from, the journal of the history that led to it, and the marks of the descriptors
 /// that are fresh after it.
@@ -114,6 +118,22 @@ impl Core {
         Answer::Given(reply)
     }
 
+    /// Makes a call as [`step`](Core::step) does, and nobody counts its looks at labels.
+    ///
+    /// The seat has then made one entry more, with the reply and the bytes in the buffer, where there is a reply; the history
+    /// goes on by its entries alone. A full journal alone stops the call, and says what it costs.
+    pub fn call(&mut self, seat: u32, line: u32, pid: Pid, call: &Call<'_>, buf: &mut Buf) -> Answer
+        ensures step { StepsAs result self.old self.new (entry seat line pid (op_of call.now)) buf.old buf.new }
+        ensures next { MakesNext result self.old self.new (entry seat line pid (op_of call.now)) buf.new }
+        ensures made { made_by seat self.new ≡ made_after result (entry seat line pid (op_of call.now)) buf.new (made_by seat self.old) }
+        ensures on { GoesOn seat self.old self.new }
+        ensures full { FullFor (op_of call.now) result }
+        ensures stops { StopsWhereFull result self.new }
+        ensures costs { cost_of_history self.old.events ≤ cost_of_history self.new.events }
+    {
+        step_counted::<Brand>(self, seat, line, pid, call, buf, Blank::new(1))
+    }
+
     /// Whether a descriptor of a process is fresh for that way: the process read through it and was given bytes, or wrote
     /// through it and was told how many, and since then neither did a call close it, nor change the label of the process, of
     /// the object behind it or of its open entry. `false` where the process or the descriptor is none. It looks for the
@@ -182,4 +202,23 @@ impl Core {
     {
         self.machine.log_len()
     }
+}
+
+/// A step, with the looks counted under a ledger of the caller's choice, who is not told how many they were.
+fn step_counted<L: Ledger>(
+    core: &mut Core,
+    seat: u32,
+    line: u32,
+    pid: Pid,
+    call: &Call<'_>,
+    buf: &mut Buf,
+    blank: Blank,
+) -> Answer
+    requires name { blank.name ≡ L.name }
+    requires parts { blank.parts ≡ L.parts }
+    requires some { 0 < L.parts }
+    ensures { StepsAs result core.old core.new (entry seat line pid (op_of call.now)) buf.old buf.new }
+{
+    let mut steps = Steps::<L>::new(blank);
+    core.step(seat, line, pid, call, buf, &mut steps)
 }

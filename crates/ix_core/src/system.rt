@@ -1,16 +1,9 @@
-ghost use Rattle.std.specs.Prelude.{◌≡◌, ◌≤◌, ◌<◌};
-ghost use Rattle.ix_model.specs.history.Calls.{op_of};
-ghost use Rattle.ix_model.specs.history.Cost.{cost_of_history};
-ghost use Rattle.ix_model.specs.history.Made.{entry};
+ghost use Rattle.std.specs.Prelude.{◌≡◌, ◌<◌};
 ghost use Rattle.ix_model.specs.history.Seats.{made_by, GoesOn};
-ghost use Rattle.ix_model.specs.history.Systems.{made_after, FullFor, Fits, LeavesRest};
-ghost use Rattle.ix_core.specs.Stops.{FilledUp, StopsWhereFull};
+ghost use Rattle.ix_core.specs.Stops.{FilledUp};
 
 use crate::keeper::Core;
-use ix_label::Steps;
 use ix_model::{Answer, Buf, Call, Pid, Sys};
-use std::marker::Brand;
-use std::sync::ledger::{Blank, Ledger};
 
 /// What makes calls on a core as one seat, on one thread. It borrows the core.
 ///
@@ -78,7 +71,7 @@ impl Sys for CoreSys<'_> {
     ) };
 
     fn call(&mut self, line: u32, pid: Pid, call: &Call<'_>, buf: &mut Buf) -> Answer {
-        let answer = step_as::<Brand>(self.core, self.seat, line, pid, call, buf, Blank::new(1));
+        let answer = self.core.call(self.seat, line, pid, call, buf);
         if let Answer::JournalFull { used, need, cap } = answer {
             self.stops = self.stops.saturating_add(1);
             self.used = used;
@@ -87,29 +80,4 @@ impl Sys for CoreSys<'_> {
         }
         answer
     }
-}
-
-/// A seat's step on a core, whose looks at labels nobody counts. The ledger of the steps is the caller's choice.
-fn step_as<L: Ledger>(
-    core: &mut Core,
-    seat: u32,
-    line: u32,
-    pid: Pid,
-    call: &Call<'_>,
-    buf: &mut Buf,
-    blank: Blank,
-) -> Answer
-    requires name { blank.name ≡ L.name }
-    requires parts { blank.parts ≡ L.parts }
-    requires some { 0 < L.parts }
-    ensures made { made_by seat core.new ≡ made_after result (entry seat line pid (op_of call.now)) buf.new (made_by seat core.old) }
-    ensures on { GoesOn seat core.old core.new }
-    ensures full { FullFor (op_of call.now) result }
-    ensures fits { Fits (op_of call.now) result }
-    ensures rest { LeavesRest result buf.old buf.new }
-    ensures stops { StopsWhereFull result core.new }
-    ensures costs { cost_of_history core.old.events ≤ cost_of_history core.new.events }
-{
-    let mut steps = Steps::<L>::new(blank);
-    core.step(seat, line, pid, call, buf, &mut steps)
 }

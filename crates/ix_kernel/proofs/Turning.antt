@@ -5,7 +5,7 @@ use Rattle.std.proofs.lemmas.List.Elements.{filter-append}
 use Rattle.ix_gate.specs.History.{entries_of, Grows, KeepsEnded}
 use Rattle.ix_gate.specs.Seat.{after_take, after_give, LearnsServed}
 use Rattle.ix_gate.proofs.Entries.{entries_of-own, grows_prefix}
-use Rattle.ix_core.specs.Stepping.{StepsTo}
+use Rattle.ix_core.specs.Stepping.{StepsTo, StepsAs}
 use Rattle.ix_iso.specs.Hiding.{HidesWhatIsHigh}
 use Rattle.ix_journal.proofs.Growing.{cost_more}
 use Rattle.ix_model.specs.opening.Opening.{opening_world}
@@ -16,7 +16,7 @@ use Rattle.ix_model.specs.declared.config.Config.{Config}
 use Rattle.ix_model.specs.declared.reply.Answer.{Answer}
 use Rattle.ix_model.specs.declared.reply.Answer.TheVariants as answer
 use Rattle.ix_kernel.specs.Seen.{KSeatState, seat_of, own, own_after, after_turn}
-use Rattle.ix_kernel.specs.Turns.{StepsAs, InTurn, HasRoom, SeenHides}
+use Rattle.ix_kernel.specs.Turns.{InTurn, HasRoom, SeenHides}
 
 -- ---- a step
 pub step_grows : (a : Answer) (old new : History) (e : Event) (before after : List ℕ) → StepsTo a old new before after e → Grows seat_of e.seat old.events new.events

@@ -9,20 +9,10 @@ use Rattle.ix_model.specs.opening.Opening.{opening_world}
 use Rattle.ix_model.specs.history.Cost.{cost_of, cost_of_history}
 use Rattle.ix_model.specs.history.Events.{Op, Event}
 use Rattle.ix_model.specs.history.History.{History, next}
-use Rattle.ix_model.specs.history.Systems.{Fits, LeavesRest}
 use Rattle.ix_model.specs.declared.config.Config.{Config}
 use Rattle.ix_model.specs.declared.reply.Answer.{Answer}
 use Rattle.ix_model.specs.declared.reply.Answer.TheVariants as answer
 use Rattle.ix_kernel.specs.Seen.{KSeatState, seat_of, own}
-
--- all that a core says of a step: what it does, what it shows and leaves, and what it hides
-pub record StepsAs (a : Answer) (old new : History) (e : Event) (before after : List ℕ) : Type 0 where
-  pub step : StepsTo a old new before after e
-  pub shown : Shows a after (next old e).bytes
-  pub fits : Fits e.op a
-  pub rest : LeavesRest a before after
-  pub alike : AnswersAlike a old e before after
-  pub hides : HidesWhatIsHigh (opening_world new.config) new.events
 
 -- A call in its turn. The turn found a history of the seat's config that begins with all that the seat had seen, and that has
 -- just the seat's entries under its number; the last look found the turn's ticket. There the call was answered as a core answers it,

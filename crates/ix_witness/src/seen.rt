@@ -1,19 +1,12 @@
-ghost use Rattle.std.specs.Prelude.{◌≡◌, ◌<◌, ◌≤◌};
-ghost use Rattle.ix_model.specs.history.Calls.{op_of};
-ghost use Rattle.ix_model.specs.history.Cost.{cost_of_history};
-ghost use Rattle.ix_model.specs.history.Made.{entry};
-ghost use Rattle.ix_model.specs.history.Seats.{made_by, GoesOn};
+ghost use Rattle.std.specs.Prelude.{◌≡◌, ◌<◌};
+ghost use Rattle.ix_model.specs.history.Seats.{made_by};
 ghost use Rattle.ix_model.specs.history.Shown.{AreShown};
-ghost use Rattle.ix_model.specs.history.Systems.{bytes_in, made_after, FullFor, Fits, LeavesRest};
-ghost use Rattle.ix_core.specs.Stops.{FilledUp, StopsWhereFull};
-ghost use Rattle.ix_witness.specs.Seen.{MakesNext};
+ghost use Rattle.ix_model.specs.history.Systems.{bytes_in};
+ghost use Rattle.ix_core.specs.Stops.{FilledUp};
 
 use crate::witness::Witness;
 use ix_core::Core;
-use ix_label::Steps;
 use ix_model::{Answer, Buf, Call, Pid, Reply, Sys};
-use std::marker::Brand;
-use std::sync::ledger::{Blank, Ledger};
 
 /// What makes calls on a core as one seat, on one thread, before a witness, which sees each entry as it is made. It borrows both.
 ///
@@ -80,7 +73,7 @@ impl<W: Witness> Sys for SeenSys<'_, W> {
     ) };
 
     fn call(&mut self, line: u32, pid: Pid, call: &Call<'_>, buf: &mut Buf) -> Answer {
-        match make::<Brand>(self.core, self.seat, line, pid, call, buf, Blank::new(1)) {
+        match self.core.call(self.seat, line, pid, call, buf) {
             Answer::Given(reply) => {
                 let (core, seat, bytes) = (&*self.core, self.seat, read_by(&reply, buf));
                 self.witness.see(core, line, pid, seat, call, &reply, bytes);
@@ -107,30 +100,4 @@ fn read_by<'b>(reply: &Reply, buf: &'b Buf) -> &'b [u8]
         Reply::Bytes(count) => &buf[..*count as usize],
         _ => &[],
     }
-}
-
-/// A seat's call on a core, whose looks at labels nobody counts. The ledger of the steps is the caller's choice.
-fn make<L: Ledger>(
-    core: &mut Core,
-    seat: u32,
-    line: u32,
-    pid: Pid,
-    call: &Call<'_>,
-    buf: &mut Buf,
-    blank: Blank,
-) -> Answer
-    requires name { blank.name ≡ L.name }
-    requires parts { blank.parts ≡ L.parts }
-    requires some { 0 < L.parts }
-    ensures next { MakesNext result core.old core.new (entry seat line pid (op_of call.now)) buf.new }
-    ensures made { made_by seat core.new ≡ made_after result (entry seat line pid (op_of call.now)) buf.new (made_by seat core.old) }
-    ensures on { GoesOn seat core.old core.new }
-    ensures full { FullFor (op_of call.now) result }
-    ensures fits { Fits (op_of call.now) result }
-    ensures rest { LeavesRest result buf.old buf.new }
-    ensures stops { StopsWhereFull result core.new }
-    ensures costs { cost_of_history core.old.events ≤ cost_of_history core.new.events }
-{
-    let mut steps = Steps::<L>::new(blank);
-    core.step(seat, line, pid, call, buf, &mut steps)
 }

@@ -2,7 +2,7 @@ ghost use Rattle.std.specs.Prelude.{◌≡◌};
 ghost use Rattle.ix_model.specs.history.Calls.{op_of};
 ghost use Rattle.ix_model.specs.history.Made.{entry};
 ghost use Rattle.ix_model.specs.history.Shown.{AreShown};
-ghost use Rattle.ix_witness.specs.Seen.{IsNext};
+ghost use Rattle.ix_core.specs.Stepping.{IsNext};
 
 use ix_core::Core;
 use ix_model::{Call, Pid, Reply};

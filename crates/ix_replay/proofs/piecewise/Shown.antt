@@ -9,7 +9,7 @@ use Rattle.ix_model.specs.history.Shown.{AreShown}
 use Rattle.ix_model.proofs.words.Runs.{world_of-push}
 use Rattle.ix_report.specs.LineText.{entry_line}
 use Rattle.ix_report.specs.ReplyText.{AreBytesOf}
-use Rattle.ix_witness.specs.Seen.{IsNext}
+use Rattle.ix_core.specs.Stepping.{IsNext}
 use Rattle.ix_model.specs.history.Step.{run, step_of}
 use Rattle.ix_model.specs.opening.Opening.{opening_world}
 use Rattle.ix_replay.specs.report.Report.{entries_text, entry_text, lane_name}

@@ -7,7 +7,7 @@ ghost use Rattle.ix_model.specs.history.Shown.{AreShown};
 ghost use Rattle.ix_script.specs.lines.Before.{lanes_of};
 ghost use Rattle.ix_report.specs.LineText.{entry_line};
 ghost use Rattle.ix_report.specs.ReplyText.{AreBytesOf};
-ghost use Rattle.ix_witness.specs.Seen.{IsNext};
+ghost use Rattle.ix_core.specs.Stepping.{IsNext};
 ghost use Rattle.ix_replay.specs.report.Report.{entry_text, lane_name};
 
 use ix_core::Core;
