@@ -4,8 +4,10 @@ pub mod Pieces
 pub mod Feeds
 pub mod Joined
 pub mod Spelling
+pub mod Decoding
 pub mod AllLabels
 pub mod Further
 pub mod Cuts
 pub mod Words
 pub mod Made
+pub mod Orders

@@ -50,11 +50,18 @@ fn has_name(fss: usize, made: usize, names: u32) -> bool
     }
 }
 
-fn is_above_fs<L: Ledger>(fss: &[FsSpec], path: &Path, label: &Label, steps: &mut Steps<L>) -> bool
+/// Whether a label is above the ceiling of the file system that the path leads to. The path is made here, since a place for it
+/// is cleared wherever one may be made.
+fn is_above_fs<L: Ledger>(
+    fss: &[FsSpec],
+    path: &MadePath<'_>,
+    label: &Label,
+    steps: &mut Steps<L>,
+) -> bool
     requires { 0 < length fss.now }
     ensures { result ≡ not (leq label.now (fs_at fss.now (fs_of fss.now path.now.names)).ceiling) }
 {
-    let k = fs_of(fss, path);
+    let k = fs_of(fss, &path.path());
     !label.leq(&fss[k].ceiling, steps)
 }
 
@@ -93,12 +100,12 @@ impl<'a> Draft<'a> {
         self.is_taken(&path, names_of(made)) || !self.has_directory(&path.parent(), parent_of(made))
     }
 
-    fn lacks_room(&self, path: &Path, len: usize) -> bool
+    fn lacks_room(&self, path: &MadePath<'a>, len: usize) -> bool
         requires told { DraftTold self.now }
         ensures { (o : ObjSpec) → o.path ≡ path.now → length o.bytes ≡ len → result ≡ object_crowds self.now.lines o }
     {
         let fss = self.header.fss.as_slice();
-        let k = fs_of(fss, path);
+        let k = fs_of(fss, &path.path());
         !has_name(fss.len(), self.header.made.count, self.header.limits.names)
             || !has_inode(fss, k, self.header.taken.counts[k])
             || !has_blocks(fss, k, self.header.taken.blocks[k], blocks_for(len))
@@ -112,8 +119,8 @@ impl<'a> Draft<'a> {
         let fss = self.header.fss.as_slice();
         match line {
             Line::Proc { label, ceiling, .. } => !label.leq(ceiling, steps),
-            Line::Dir { path, label, .. } => is_above_fs(fss, &path.path(), label, steps),
-            Line::File { path, label, .. } => is_above_fs(fss, &path.path(), label, steps),
+            Line::Dir { path, label, .. } => is_above_fs(fss, path, label, steps),
+            Line::File { path, label, .. } => is_above_fs(fss, path, label, steps),
             _ => false,
         }
     }
@@ -137,8 +144,8 @@ impl<'a> Draft<'a> {
     {
         match line {
             Line::Proc { .. } => self.header.procs.count >= self.header.limits.procs as usize,
-            Line::Dir { path, .. } => self.lacks_room(&path.path(), 0),
-            Line::File { path, bytes, .. } => self.lacks_room(&path.path(), bytes.len()),
+            Line::Dir { path, .. } => self.lacks_room(path, 0),
+            Line::File { path, bytes, .. } => self.lacks_room(path, bytes.len()),
             _ => false,
         }
     }

@@ -1,4 +1,6 @@
-ghost use Rattle.std.specs.Prelude.{◌≡◌, ◌++◌, ◌∷◌, ◌+◌, ◌<◌, ◌≤◌, ◌^◌, [], Some, length, slice_get, OnOk, IfOk};
+ghost use Rattle.std.specs.Prelude.{◌≡◌, ◌++◌, ◌∷◌, ◌+◌, ◌<◌, ◌≤◌, ◌^◌, [], Some, None, length, take, slice_get, OnOk, IfOk, IfSome, MatchOption};
+ghost use Rattle.ix_model.specs.world.Naming.{same_bytes};
+ghost use Rattle.ix_script.specs.scripts.Canonical.{has_one_spelling, line_text};
 ghost use Rattle.ix_script.specs.lines.Forms.{form_of, places};
 ghost use Rattle.ix_script.specs.lines.Kinds.{places_fault};
 ghost use Rattle.ix_script.specs.lines.Said.{line_of, said_by_words};
@@ -90,14 +92,36 @@ fn said(text: &[u8]) -> Line<'_>
     if is(text, b"ix 1") {
         return Line::Version;
     }
-    said_by_words(&Words::cut(text))
+    let mut words = Words::none();
+    words.cut(text);
+    said_by_words(&words)
+}
+
+/// Whether the text begins with that one.
+fn begins_with(front: &[u8], text: &[u8]) -> bool
+    ensures { result ≡ same_bytes (take (length front.now) text.now) front.now }
+{
+    is(&text[..text.len().min(front.len())], front)
+}
+
+/// Whether a line of that text has no other spelling: only a skipped line and one with a payload may have one.
+#[tactic(auto, unfolding(crate::specs::scripts::Canonical::has_one_spelling))]
+fn has_one_spelling(text: &[u8]) -> bool
+    ensures { result ≡ has_one_spelling text.now }
+{
+    !is_skipped(text) && !begins_with(b"write", text) && !begins_with(b"file", text)
 }
 
 /// How many line feeds there are.
 fn feeds_in(bytes: &[u8]) -> usize
     ensures { result ≤ length bytes.now }
 {
-    bytes.iter().filter(|b| **b == b'\n').count()
+    // A plain sum: so many bytes are looked at at once.
+    let mut feeds = 0;
+    for b in bytes {
+        feeds += usize::from(*b == b'\n');
+    }
+    feeds
 }
 
 /// Where the text of a line begins.
@@ -154,20 +178,36 @@ impl Lines {
         self.text.len().saturating_add(self.ends.len())
     }
 
-    /// The line at an index from 0; `None` exactly past the end. It takes no memory.
-    pub fn get(&self, i: usize) -> Option<Line<'_>>
-        ensures { result ≡ slice_get self.now i }
+    /// The text of the line at an index from 0; `None` exactly past the end.
+    fn text_at(&self, i: usize) -> Option<&[u8]>
+        ensures { MatchOption result (slice_get self.now i ≡ None) (λ text. IsLine text.now × (slice_get self.now i ≡ Some (line_in text.now))) }
     {
         let ends = self.ends.as_slice();
         if i >= ends.len() {
             return None;
         }
-        let text = part(
-            self.text.as_slice(),
-            begin(ends, i) as usize,
-            ends[i] as usize,
-        );
+        let begin = begin(ends, i) as usize;
+        Some(part(self.text.as_slice(), begin, ends[i] as usize))
+    }
+
+    /// The line at an index from 0; `None` exactly past the end. It takes no memory.
+    pub fn get(&self, i: usize) -> Option<Line<'_>>
+        ensures { result ≡ slice_get self.now i }
+    {
+        let text = self.text_at(i)?;
         Some(said(text))
+    }
+
+    /// The canonical text of the line at an index from 0, where it is the text that was read. The line isn't made for it.
+    pub fn canonical_text(&self, i: usize) -> Option<&[u8]>
+        ensures { IfSome result (λ text. option_map line_text (slice_get self.now i) ≡ Some text.now) }
+    {
+        let text = self.text_at(i)?;
+        if has_one_spelling(text) {
+            Some(text)
+        } else {
+            None
+        }
     }
 
     /// What the line at an index from 0 is for; `None` exactly past the end. The line isn't made for it.

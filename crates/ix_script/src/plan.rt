@@ -64,15 +64,11 @@ fn add_proc(procs: &mut List<ProcSpec>, line: &Line<'_>) -> Result<(), NoMemory>
 fn decoded(alloc: Global, payload: &Payload<'_, 1_048_576>) -> Result<Bytes, NoMemory>
     ensures { IfOk result (λ bytes. bytes ≡ payload.now) }
 {
-    let Ok(mut bytes) = Vec::with_capacity(alloc, payload.len()) else {
+    let mut bytes = Vec::new(alloc);
+    let Ok(()) = bytes.resize(payload.len(), 0) else {
         return Err(NoMemory);
     };
-    let mut left = payload.bytes();
-    'bytes: while let Some(byte) = left.next() {
-        if bytes.push(byte).is_err() {
-            return Err(NoMemory);
-        }
-    }
+    payload.decode(bytes.as_mut_slice());
     Ok(Bytes::from_vec(bytes))
 }
 

@@ -49,8 +49,9 @@ fn draft_of<'a, L: Ledger>(
     'lines: while !rest.is_empty() {
         let (text, more) = first_line(rest);
         let line = draft.lines.len() as u32 + 1;
-        match draft.next_line(text, steps) {
-            Ok(said) => draft.add(alloc, text, &said)?,
+        let said = draft.next_line(text, steps);
+        match &said {
+            Ok(said) => draft.add(alloc, text, said)?,
             Err(rule) => {
                 return Err(ReadFail::Fault(ScriptFault { line, rule: rule.0 }));
             }

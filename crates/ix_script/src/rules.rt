@@ -23,7 +23,12 @@ use std::sync::ledger::Ledger;
 fn all_printable(text: &[u8]) -> bool
     ensures { result ≡ list_all (is_within 32 126) text.now }
 {
-    text.iter().all(|b| *b >= 32 && *b <= 126)
+    // No early end: so many bytes are looked at at once.
+    let mut all = true;
+    for b in text {
+        all &= *b >= 32 && *b <= 126;
+    }
+    all
 }
 
 /// Rules 2 and 3.
@@ -77,7 +82,9 @@ fn check_first_words(text: &[u8]) -> Result<(), Rule>
     if is_policy_line(text) {
         return Ok(());
     }
-    check_words(&Words::cut(text))
+    let mut words = Words::none();
+    words.cut(text);
+    check_words(&words)
 }
 
 /// Line 1: rules 4 to 6.
@@ -166,10 +173,12 @@ impl<'a> Draft<'a> {
         ensures { Tells self.now.lines result (form_fault self.now.lines form words.now) (said form words.now) }
     {
         self.check_stand(form, words)?;
-        let line = line_by_form(form, words)?;
-        self.check_names(form, words)?;
-        self.check_said(&line, steps)?;
-        Ok(line)
+        let said = line_by_form(form, words);
+        if let Ok(line) = &said {
+            self.check_names(form, words)?;
+            self.check_said(line, steps)?;
+        }
+        said
     }
 
     /// A line that is cut into words: the rules from 4 on.
@@ -225,7 +234,9 @@ impl<'a> Draft<'a> {
         if is_policy_line(text) {
             return self.policy_line(text);
         }
-        self.command_line(&Words::cut(text), steps)
+        let mut words = Words::none();
+        words.cut(text);
+        self.command_line(&words, steps)
     }
 
     /// What the next line says; else the first rule that it breaks.

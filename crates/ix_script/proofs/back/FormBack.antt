@@ -1,5 +1,5 @@
 -- The canonical text of a line of each form.
-use Rattle.std.proofs.Common.{◌≡◌, ℕ, true, ◌==◌, List, [], ◌∷◌, ◌++◌, length, Some, None, refl, sym, ap, ◌∙◌, arith}
+use Rattle.std.proofs.Common.{◌≡◌, ℕ, true, ◌==◌, List, [], ◌∷◌, ◌++◌, length, Some, None, ◌⊎◌, inl, inr, refl, sym, ap, ◌∙◌, arith}
 use Rattle.std.specs.Prelude.{codes}
 use Rattle.std.specs.List.{list_all}
 use Rattle.std.specs.Option.{option_or, option_map_or}
@@ -26,7 +26,7 @@ use Rattle.ix_script.proofs.lines.FirstWords.{form_word}
 use Rattle.ix_script.proofs.lines.FormWords.{words_from, exactly, same, no_tail, of_3, of_6, limit_again, fs_again, proc_again, dir_again, lane_again, open_again, dup_again, pipe_again, link_again, list_again, copy_again, setlabel_again, setpriv_again, fork_again, exit_again, setself_again, droplic_again, grant_again, ceiling_again, readlog_again, login_again, phase_again, plain_again, on_path_again, on_fd_again, counted_again}
 use Rattle.ix_script.proofs.texts.Cuts.{words_joined}
 use Rattle.ix_script.proofs.lines.Faultless.{text_parts, payload_alike}
-use Rattle.ix_script.proofs.back.LineBack.{Back, Formed, right_count, spelled, fitting, last_printable, file_begins, write_begins, payload_back}
+use Rattle.ix_script.proofs.back.LineBack.{Back, Respelled, Formed, right_count, front_of, write_several, file_several, fitting, last_printable, file_begins, write_begins, payload_back}
 
 -- the text of a line without a fault is printable
 printable_line : (before : List Line) (text : List ℕ) → line_fault before text ≡ None → list_all (is_within 32 126) text ≡ true
@@ -94,35 +94,36 @@ file_back before text l k =
     (ap line_words (sym m.12) ∙ same refl (same (made_path_spelled a m.0 m.6) (same (label_spelled b m.1 m.7) (same (state_spelled c m.2 m.8) (same (privs_spelled d m.3 m.9) (same (privs_spelled e m.4 m.10) refl))))))
 
 -- ---- each form
-again : (before : List Line) (text : List ℕ) (f : Form) (l : Line) → Formed before text f l → ((words : List (List ℕ)) (l : Line) → form_word f ≡ word_at words 0 → has_right_count f words ≡ true → said f words ≡ Some l → line_words l ≡ words) → Back before text (line_text l) l
-again before text f l k words_are = spelled before text f l k (words_are (words_of text) l k.first (right_count before f (words_of text) k.fits) k.tells)
+again : (before : List Line) (text : List ℕ) (f : Form) (l : Line) → Formed before text f l → ((words : List (List ℕ)) (l : Line) → form_word f ≡ word_at words 0 → has_right_count f words ≡ true → said f words ≡ Some l → line_words l ≡ words) → (line_text l ≡ text) ⊎ Respelled before text l
+again before text f l k words_are = inl (ap (joined 32) (words_are (words_of text) l k.first (right_count before f (words_of text) k.fits) k.tells) ∙ words_joined text)
 
-pub form_back : (before : List Line) (text : List ℕ) (f : Form) (l : Line) → Formed before text f l → Back before text (line_text l) l
-form_back before text form.Limit l k = again before text form.Limit l k limit_again
-form_back before text form.Fs l k = again before text form.Fs l k fs_again
-form_back before text form.Proc l k = again before text form.Proc l k proc_again
-form_back before text form.Dir l k = again before text form.Dir l k dir_again
-form_back before text form.Phase l k = again before text form.Phase l k phase_again
-form_back before text form.Lane l k = again before text form.Lane l k lane_again
-form_back before text form.Open l k = again before text form.Open l k open_again
-form_back before text form.Dup l k = again before text form.Dup l k dup_again
-form_back before text form.Pipe l k = again before text form.Pipe l k pipe_again
-form_back before text form.Link l k = again before text form.Link l k link_again
-form_back before text form.List l k = again before text form.List l k list_again
-form_back before text form.Copy l k = again before text form.Copy l k copy_again
-form_back before text form.Setlabel l k = again before text form.Setlabel l k setlabel_again
-form_back before text form.Setpriv l k = again before text form.Setpriv l k setpriv_again
-form_back before text form.Fork l k = again before text form.Fork l k fork_again
-form_back before text form.Exit l k = again before text form.Exit l k exit_again
-form_back before text form.Setself l k = again before text form.Setself l k setself_again
-form_back before text form.Droplic l k = again before text form.Droplic l k droplic_again
-form_back before text form.Grant l k = again before text form.Grant l k grant_again
-form_back before text form.Ceiling l k = again before text form.Ceiling l k ceiling_again
-form_back before text form.Readlog l k = again before text form.Readlog l k readlog_again
-form_back before text form.Login l k = again before text form.Login l k login_again
-form_back before text (form.Plain c) l k = again before text (form.Plain c) l k (plain_again c)
-form_back before text (form.OnPath c) l k = again before text (form.OnPath c) l k (on_path_again c)
-form_back before text (form.OnFd c) l k = again before text (form.OnFd c) l k (on_fd_again c)
-form_back before text (form.Counted c) l k = again before text (form.Counted c) l k (counted_again c)
-form_back before text form.Write l k = write_back before text l k
-form_back before text form.File l k = file_back before text l k
+-- the text of a line of a form is the one that was read, but where the line has a payload
+pub form_spelled_again : (before : List Line) (text : List ℕ) (f : Form) (l : Line) → Formed before text f l → (line_text l ≡ text) ⊎ Respelled before text l
+form_spelled_again before text form.Limit l k = again before text form.Limit l k limit_again
+form_spelled_again before text form.Fs l k = again before text form.Fs l k fs_again
+form_spelled_again before text form.Proc l k = again before text form.Proc l k proc_again
+form_spelled_again before text form.Dir l k = again before text form.Dir l k dir_again
+form_spelled_again before text form.Phase l k = again before text form.Phase l k phase_again
+form_spelled_again before text form.Lane l k = again before text form.Lane l k lane_again
+form_spelled_again before text form.Open l k = again before text form.Open l k open_again
+form_spelled_again before text form.Dup l k = again before text form.Dup l k dup_again
+form_spelled_again before text form.Pipe l k = again before text form.Pipe l k pipe_again
+form_spelled_again before text form.Link l k = again before text form.Link l k link_again
+form_spelled_again before text form.List l k = again before text form.List l k list_again
+form_spelled_again before text form.Copy l k = again before text form.Copy l k copy_again
+form_spelled_again before text form.Setlabel l k = again before text form.Setlabel l k setlabel_again
+form_spelled_again before text form.Setpriv l k = again before text form.Setpriv l k setpriv_again
+form_spelled_again before text form.Fork l k = again before text form.Fork l k fork_again
+form_spelled_again before text form.Exit l k = again before text form.Exit l k exit_again
+form_spelled_again before text form.Setself l k = again before text form.Setself l k setself_again
+form_spelled_again before text form.Droplic l k = again before text form.Droplic l k droplic_again
+form_spelled_again before text form.Grant l k = again before text form.Grant l k grant_again
+form_spelled_again before text form.Ceiling l k = again before text form.Ceiling l k ceiling_again
+form_spelled_again before text form.Readlog l k = again before text form.Readlog l k readlog_again
+form_spelled_again before text form.Login l k = again before text form.Login l k login_again
+form_spelled_again before text (form.Plain c) l k = again before text (form.Plain c) l k (plain_again c)
+form_spelled_again before text (form.OnPath c) l k = again before text (form.OnPath c) l k (on_path_again c)
+form_spelled_again before text (form.OnFd c) l k = again before text (form.OnFd c) l k (on_fd_again c)
+form_spelled_again before text (form.Counted c) l k = again before text (form.Counted c) l k (counted_again c)
+form_spelled_again before text form.Write l k = inr (record { several = write_several text (front_of (words_of text) text (codes "write") refl k.first (words_joined text)); back = write_back before text l k })
+form_spelled_again before text form.File l k = inr (record { several = file_several text (front_of (words_of text) text (codes "file") refl k.first (words_joined text)); back = file_back before text l k })

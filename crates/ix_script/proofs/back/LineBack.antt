@@ -1,9 +1,10 @@
 -- The canonical text of a line that was read is read as the same line, has no fault, and is no longer.
-use Rattle.std.proofs.Common.{◌≡◌, ℕ, ◌^◌, ◌<◌, ◌≤◌, true, false, not, nat_le, List, [], ◌∷◌, ◌++◌, length, Some, None, refl, sym, ap, ◌∙◌, subst, arith}
+use Rattle.std.proofs.Common.{◌≡◌, ℕ, ◌^◌, ◌<◌, ◌≤◌, true, false, not, nat_le, List, [], ◌∷◌, ◌++◌, length, take, Some, None, inl, inr, refl, sym, ap, ◌∙◌, subst, arith}
+use Rattle.std.proofs.Math.Seq.{take-append_seam}
 use Rattle.std.specs.Prelude.{codes, if◌then◌else◌}
 use Rattle.std.specs.List.{list_all}
 use Rattle.std.specs.Option.{option_or, option_map_or}
-use Rattle.std.proofs.lemmas.Bool.{not-false, leb-true}
+use Rattle.std.proofs.lemmas.Bool.{cases_Bool, false≢true, not-false, leb-true}
 use Rattle.std.proofs.lemmas.List.{length-append}
 use Rattle.std.proofs.lemmas.List.Folds.{list_all-append}
 use Rattle.std.proofs.lemmas.Option.{cond_some}
@@ -17,7 +18,7 @@ use Rattle.ix_script.specs.lines.Rules.{is_late, is_outside}
 use Rattle.ix_script.specs.lines.Said.{payload_within, said, line_of}
 use Rattle.ix_script.specs.lines.Faults.{text_fault, words_fault, stand_fault, names_fault, said_fault, form_fault, command_fault, line_fault, body_fault}
 use Rattle.ix_script.specs.texts.Spellings.{further, joined, payload_text}
-use Rattle.ix_script.specs.scripts.Canonical.{line_words, line_text}
+use Rattle.ix_script.specs.scripts.Canonical.{line_words, line_text, has_one_spelling}
 use Rattle.ix_script.specs.declared.line.Line.{Line}
 use Rattle.ix_script.specs.declared.cutting.form.Form.{Form}
 use Rattle.ix_script.specs.declared.cutting.form.Form.TheVariants as form
@@ -36,6 +37,11 @@ pub record Back (before : List Line) (text again : List ℕ) (l : Line) : Type 0
   pub means : line_of again ≡ Some l
   pub sound : line_fault before again ≡ None
   pub short : length again ≤ length text
+
+-- a line whose text may have another spelling
+pub record Respelled (before : List Line) (text : List ℕ) (l : Line) : Type 0 where
+  pub several : has_one_spelling text ≡ false
+  pub back : Back before text (line_text l) l
 
 -- what is known of a line of a form
 pub record Formed (before : List Line) (text : List ℕ) (f : Form) (l : Line) : Type 0 where
@@ -66,8 +72,33 @@ right_count before f words h =
     let count = one_kept 10 (not (has_right_count f words)) [] outside.1 in
     not-false (has_right_count f words) count.0
 
-pub spelled : (before : List Line) (text : List ℕ) (f : Form) (l : Line) → Formed before text f l → line_words l ≡ words_of text → Back before text (line_text l) l
-spelled before text f l k e = itself before text (line_text l) l (sym (ap (joined 32) e ∙ words_joined text)) k.means k.sound
+-- ---- a line that has several spellings
+-- a text begins with its first word
+pub front_of : (words : List (List ℕ)) (text first : List ℕ) → is_empty first ≡ false → first ≡ word_at words 0 → joined 32 words ≡ text → take (length first) text ≡ first
+front_of [] text first some h whole = absurd (false≢true (sym some ∙ ap is_empty h))
+front_of (word ∷ words) text first some h whole =
+    ap (take (length first)) (sym whole) ∙ ap (λ w. take (length first) (w ++ further 32 words)) (sym h) ∙ take-append_seam first (further 32 words)
+
+pub skipped_several : (text : List ℕ) → is_skipped text ≡ true → has_one_spelling text ≡ false
+unfolding has_one_spelling
+skipped_several text h = rw h refl
+
+pub write_several : (text : List ℕ) → take 5 text ≡ codes "write" → has_one_spelling text ≡ false
+unfolding has_one_spelling
+write_several text h = elim (cases_Bool (is_skipped text)) [
+  | inl e ↦ rw e refl
+  | inr e ↦ rw (e, h) refl
+]
+
+pub file_several : (text : List ℕ) → take 4 text ≡ codes "file" → has_one_spelling text ≡ false
+unfolding has_one_spelling
+file_several text h = elim (cases_Bool (is_skipped text)) [
+  | inl e ↦ rw e refl
+  | inr e ↦ elim (cases_Bool (same_bytes (take 5 text) (codes "write"))) [
+    | inl w ↦ rw (e, w) refl
+    | inr w ↦ rw (e, w, h) refl
+  ]
+]
 
 -- ---- a payload
 -- a payload that fits, and its shortest spelling

@@ -1,5 +1,5 @@
 -- The shortest spelling of a payload, by the lengths of its spellings.
-use Rattle.std.proofs.Common.{◌≡◌, ℕ, zero, suc, ◌+◌, ◌*◌, ◌<◌, ◌≤◌, ◌==◌, Bool, true, false, ◌||◌, cond, codes, replicate, ap, List, [], ◌∷◌, ◌++◌, length, drop, get_or, Some, None, refl, sym, ◌∙◌, arith}
+use Rattle.std.proofs.Common.{◌≡◌, ℕ, zero, suc, ◌+◌, ◌*◌, ◌<◌, ◌≤◌, ◌==◌, Bool, true, false, ◌&&◌, ◌||◌, cond, codes, replicate, ap, List, [], ◌∷◌, ◌++◌, length, drop, get_or, Some, None, refl, sym, ◌∙◌, arith}
 use Rattle.std.specs.Prelude.{if◌then◌else◌}
 use Rattle.std.specs.List.{flat_map, list_all}
 use Rattle.std.specs.Fmt.{decimal}
@@ -69,6 +69,29 @@ module _ (bytes : List ℕ) (pairs quoted : ℕ) (p : pairs ≡ length bytes * 2
   pub pairs_of_three : (b times : ℕ) → once bytes ≡ Some b → times ≡ length (times_text (length bytes) b) → pairs ≤ times → pairs ≤ quoted → pairs_text bytes ≡ payload_text bytes
   pairs_of_three b times e t first second =
       sym (some_for b e ∙ of_three_first (pairs_text bytes) (times_text (length bytes) b) (quoted_text bytes) (omega (arith, length-pairs bytes)) ∙ of_two_first (pairs_text bytes) (quoted_text bytes) (omega (arith, length-pairs bytes)))
+
+-- ---- bytes that each stand in quotes as they are
+first_of_both : (p q : Bool) → (p && q) ≡ true → p ≡ true
+first_of_both true q h = refl
+first_of_both false q h = h
+
+second_of_both : (p q : Bool) → (p && q) ≡ true → q ≡ true
+second_of_both true q h = h
+second_of_both false q h = let k : false ≡ true = h in absurd (cc)
+
+quoted_plain : (bytes : List ℕ) → list_all stands_quoted bytes ≡ true → flat_map quoted_byte bytes ≡ bytes
+unfolding quoted_byte
+quoted_plain [] h = refl
+quoted_plain (b ∷ bytes) h =
+    rw (first_of_both (stands_quoted b) (list_all stands_quoted bytes) h) (ap (λ bs. b ∷ bs) (quoted_plain bytes (second_of_both (stands_quoted b) (list_all stands_quoted bytes) h)))
+
+plain_length : (bytes : List ℕ) → list_all stands_quoted bytes ≡ true → length (quoted_text bytes) ≡ length bytes + 2
+plain_length bytes h = rw (quoted_plain bytes h) (omega (arith, length-append bytes (codes "\"")))
+
+pub plain_quotes : (bytes : List ℕ) → once bytes ≡ None → 2 ≤ length bytes → list_all stands_quoted bytes ≡ true → codes "\"" ++ (bytes ++ codes "\"") ≡ payload_text bytes
+plain_quotes bytes e long h =
+    ap (λ (bs : List ℕ). codes "\"" ++ (bs ++ codes "\"")) (sym (quoted_plain bytes h))
+    ∙ quotes_of_two bytes _ _ refl refl e (omega (arith, plain_length bytes h))
 
 -- ---- one byte over and over
 by_cases : (p q r : Bool) (w x y z : List ℕ) → 1 ≤ length w → 1 ≤ length x → 1 ≤ length y → 1 ≤ length z → 1 ≤ length (cond p w (cond q x (cond r y z)))

@@ -1,5 +1,5 @@
 -- The canonical text of any line.
-use Rattle.std.proofs.Common.{◌≡◌, ℕ, true, false, not, ◌||◌, cond, List, [], ◌∷◌, ◌++◌, take, drop, Option, Some, None, inl, inr, refl, sym, ap, ◌∙◌, subst, arith}
+use Rattle.std.proofs.Common.{◌≡◌, ℕ, true, false, not, ◌||◌, cond, List, [], ◌∷◌, ◌++◌, take, drop, Option, Some, None, ◌⊎◌, inl, inr, refl, sym, ap, ◌∙◌, subst, arith}
 use Rattle.std.specs.Prelude.{codes}
 use Rattle.std.specs.Option.{option_map_or}
 use Rattle.std.specs.Cmp.Lexicographic.{same_text}
@@ -13,15 +13,15 @@ use Rattle.ix_script.specs.lines.Before.{has_policy, in_body}
 use Rattle.ix_script.specs.lines.Rules.{first_of, is_too_long, is_unprintable}
 use Rattle.ix_script.specs.lines.Said.{said, said_by_words, line_of}
 use Rattle.ix_script.specs.lines.Faults.{text_fault, words_fault, form_fault, command_fault, policy_fault, first_line_fault, body_fault, line_fault}
-use Rattle.ix_script.specs.scripts.Canonical.{line_words, line_text}
+use Rattle.ix_script.specs.scripts.Canonical.{line_words, line_text, has_one_spelling}
 use Rattle.ix_script.specs.declared.line.Line.{Line}
 use Rattle.ix_script.specs.declared.line.Line.TheVariants as line
 use Rattle.ix_script.specs.declared.cutting.form.Form.{Form}
 use Rattle.ix_script.proofs.reader.Told.{either, bound, neither}
 use Rattle.ix_script.proofs.lines.FirstWords.{form_spelled}
 use Rattle.ix_script.proofs.lines.Faultless.{one_kept}
-use Rattle.ix_script.proofs.back.LineBack.{Back, itself}
-use Rattle.ix_script.proofs.back.FormBack.{form_back}
+use Rattle.ix_script.proofs.back.LineBack.{Back, Respelled, itself, skipped_several}
+use Rattle.ix_script.proofs.back.FormBack.{form_spelled_again}
 
 -- ---- where a line stands
 -- the first line is `ix 1`
@@ -102,11 +102,11 @@ command_parts before words f h sound =
     let k = neither (words_fault words) (option_map_or (λ g. form_fault before g words) (form_of (word_at words 0)) (Some 7)) sound in
     (k.0, ap (λ o. option_map_or (λ g. form_fault before g words) o (Some 7)) (sym h) ∙ k.1)
 
-formed : (before : List Line) (text : List ℕ) (l : Line) → line_of text ≡ Some l → line_fault before text ≡ None → is_empty before ≡ false → is_skipped text ≡ false → is_policy_line text ≡ false → said_by_words (words_of text) ≡ Some l → Back before text (line_text l) l
+formed : (before : List Line) (text : List ℕ) (l : Line) → line_of text ≡ Some l → line_fault before text ≡ None → is_empty before ≡ false → is_skipped text ≡ false → is_policy_line text ≡ false → said_by_words (words_of text) ≡ Some l → (line_text l ≡ text) ⊎ Respelled before text l
 formed before text l means sound later seen other h =
     let m = bound (form_of (word_at (words_of text) 0)) (λ f. said f (words_of text)) l h in
     let k = command_parts before (words_of text) m.0 m.1 (command_sound before text later seen other (body_sound before text sound)) in
-    form_back before text m.0 l (record {
+    form_spelled_again before text m.0 l (record {
       means = means;
       sound = sound;
       some = some_text text seen;
@@ -118,20 +118,37 @@ formed before text l means sound later seen other h =
     })
 
 -- ---- any line
-pub line_back : (before : List Line) (text : List ℕ) (l : Line) → line_of text ≡ Some l → line_fault before text ≡ None → Back before text (line_text l) l
+-- its text is the one that was read, but where it may have another
+spelled_again : (before : List Line) (text : List ℕ) (l : Line) → line_of text ≡ Some l → line_fault before text ≡ None → (line_text l ≡ text) ⊎ Respelled before text l
 unfolding line_of
-line_back before text l means sound =
+spelled_again before text l means sound =
     let by_words : Option Line = said_by_words (words_of text) in
     let version : Option Line = cond (same_bytes text (codes "ix 1")) (Some line.Version) by_words in
     elim (either (is_skipped text) (Some line.Skipped) (cond (is_policy_line text) (Some (line.Policy (policy_text text))) version) l means) [
-      | inl p ↦ subst (λ (k : Line). Back before text (line_text k) k) (same_Some line.Skipped l p.1) (skipped_back before text (later_of before text (not_version text p.0) sound))
+      | inl p ↦ inr (record {
+        several = skipped_several text p.0;
+        back = subst (λ (k : Line). Back before text (line_text k) k) (same_Some line.Skipped l p.1) (skipped_back before text (later_of before text (not_version text p.0) sound));
+      })
       | inr p ↦ elim (either (is_policy_line text) (Some (line.Policy (policy_text text))) version l p.1) [
         | inl q ↦
             let there = policy_stands before text (later_of before text (policy_no_version text q.0) sound) p.0 q.0 (body_sound before text sound) in
-            itself before text (line_text l) l (policy_spelled text q.0 there ∙ ap line_text (same_Some (line.Policy (policy_text text)) l q.1)) means sound
+            inl (sym (policy_spelled text q.0 there ∙ ap line_text (same_Some (line.Policy (policy_text text)) l q.1)))
         | inr q ↦ elim (either (same_bytes text (codes "ix 1")) (Some line.Version) by_words l q.1) [
-          | inl r ↦ itself before text (line_text l) l (version_spelled text r.0 ∙ ap line_text (same_Some line.Version l r.1)) means sound
+          | inl r ↦ inl (sym (version_spelled text r.0 ∙ ap line_text (same_Some line.Version l r.1)))
           | inr r ↦ formed before text l means sound (later_of before text r.0 sound) p.0 q.0 r.1
         ]
       ]
     ]
+
+pub line_back : (before : List Line) (text : List ℕ) (l : Line) → line_of text ≡ Some l → line_fault before text ≡ None → Back before text (line_text l) l
+line_back before text l means sound = elim (spelled_again before text l means sound) [
+  | inl e ↦ itself before text (line_text l) l (sym e) means sound
+  | inr p ↦ p.back
+]
+
+-- where it has no other spelling, it is the canonical text
+pub one_text : (before : List Line) (text : List ℕ) (l : Line) → line_of text ≡ Some l → line_fault before text ≡ None → has_one_spelling text ≡ true → line_text l ≡ text
+one_text before text l means sound one = elim (spelled_again before text l means sound) [
+  | inl e ↦ e
+  | inr p ↦ absurd (false≢true (sym p.several ∙ one))
+]

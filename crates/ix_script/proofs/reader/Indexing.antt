@@ -22,8 +22,15 @@ use Rattle.ix_script.proofs.reader.Pushed.{any_push}
 pub equal_bytes : (xs ys : List ℕ) → is_eq (slice_cmp nat_cmp xs ys) ≡ same_bytes ys xs
 equal_bytes xs ys = is_eq-slice_cmp xs ys ∙ nat_list_eq_equiv.symm xs ys
 
+swapped : (a b : Bool) → (a && b) ≡ (b && a)
+swapped true true = refl
+swapped true false = refl
+swapped false true = refl
+swapped false false = refl
+
 equal_places : (p q : Place) → is_at (place_cmp p) q ≡ is_place q (p.lane.name.now, p.name.name.now)
-equal_places p q = sym (tied_then (slice_cmp nat_cmp p.lane.name.now q.lane.name.now) (slice_cmp nat_cmp p.name.name.now q.name.name.now))
+equal_places p q = sym (tied_then (slice_cmp nat_cmp p.name.name.now q.name.name.now) (slice_cmp nat_cmp p.lane.name.now q.lane.name.now))
+    ∙ swapped (is_eq (slice_cmp nat_cmp p.name.name.now q.name.name.now)) (is_eq (slice_cmp nat_cmp p.lane.name.now q.lane.name.now))
     ∙ (λ i. equal_bytes p.lane.name.now q.lane.name.now i && equal_bytes p.name.name.now q.name.name.now i)
 
 -- what is new, or was there
@@ -59,12 +66,6 @@ equal_kinds true true = refl
 equal_kinds true false = refl
 equal_kinds false true = refl
 equal_kinds false false = refl
-
-swapped : (a b : Bool) → (a && b) ≡ (b && a)
-swapped true true = refl
-swapped true false = refl
-swapped false true = refl
-swapped false false = refl
 
 equal_sites : (s t : Site) (m : ObjSpec) → m.path.names ≡ (names_in s.path) → m.dir ≡ s.dir → is_at (site_cmp s) t ≡ is_site t m
 equal_sites s t m names dir = sym (tied_then (names_cmp (names_in s.path) (names_in t.path)) (bool_cmp s.dir t.dir))

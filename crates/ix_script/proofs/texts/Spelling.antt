@@ -1,10 +1,11 @@
 -- Reading a payload piece by piece, as loops do.
-use Rattle.std.proofs.Common.{◌≡◌, ℕ, suc, ◌+◌, ◌<◌, ◌≤◌, ◌==◌, true, false, List, [], ◌∷◌, ◌++◌, length, drop, get_or, Option, Some, None, refl, sym, ◌∙◌, ap, append_assoc, arith, add-one, drop-cons, length-drop, length-append}
-use Rattle.std.proofs.lemmas.Bool.{eqb-true}
+use Rattle.std.proofs.Common.{◌≡◌, ℕ, zero, suc, ◌+◌, ◌*◌, ◌<◌, ◌≤◌, ◌==◌, Bool, true, false, ◌&&◌, List, [], ◌∷◌, ◌++◌, length, drop, get_or, Option, Some, None, refl, sym, ◌∙◌, ap, append_assoc, arith, add-one, drop-cons, length-drop, length-append}
+use Rattle.std.specs.Prelude.{is_some}
+use Rattle.std.specs.List.{list_all}
 use Rattle.std.proofs.lemmas.List.{append-nil, drop_all}
 use Rattle.ix_script.specs.texts.Cutting.{is_empty}
-use Rattle.ix_script.specs.texts.Payloads.{◌>>=◌, pair_of, pairs_of, after_bytes, bytes_of, escape_step, ends, quoted_from}
-use Rattle.ix_script.specs.texts.Spelled.{spelling_fault}
+use Rattle.ix_script.specs.texts.Payloads.{◌>>=◌, digit_of, pair_of, pairs_of, after_bytes, bytes_of, escape_step, ends, quoted_from}
+use Rattle.ix_script.specs.texts.Spelled.{HasCount, spelling_fault}
 use Rattle.ix_script.specs.declared.values.escape.Escape.{Escape}
 use Rattle.ix_script.specs.declared.values.escape.Escape.TheVariants as escape
 use Rattle.ix_script.proofs.texts.Pieces.{last_place}
@@ -29,31 +30,79 @@ none_after : (front : List ℕ) (total : Option (List ℕ)) → after_bytes fron
 none_after front total h = sym h
 
 -- ---- pairs of digits
-next_pair : (rest : List ℕ) → 2 ≤ length rest → pairs_of rest ≡ (pair_of (get_or rest 0 0) (get_or rest 1 0) >>= λ byte. after_bytes (byte ∷ []) (pairs_of (drop 2 rest)))
+abbrev is_hex : ℕ → Bool
+is_hex b = is_some (digit_of b)
+
+both_some : (o p : Option ℕ) → is_some o ≡ true → is_some p ≡ true → (byte : ℕ) × ((o >>= λ high. (p >>= λ low. Some (high * 16 + low))) ≡ Some byte)
+both_some None p h k = let e : false ≡ true = h in absurd (cc)
+both_some (Some x) None h k = let e : false ≡ true = k in absurd (cc)
+both_some (Some x) (Some y) h k = (x * 16 + y, refl)
+
+none_is : (o : Option ℕ) → is_some o ≡ false → o ≡ None
+none_is None h = refl
+none_is (Some x) h = let k : true ≡ false = h in absurd (cc)
+
+none_then : (o : Option ℕ) → (o >>= λ byte. after_bytes (byte ∷ []) None) ≡ None
+none_then None = refl
+none_then (Some x) = refl
+
+no_low : (o p : Option ℕ) → p ≡ None → (o >>= λ high. (p >>= λ low. Some (high * 16 + low))) ≡ None
+no_low None p h = refl
+no_low (Some x) p h = rw h refl
+
+two_digits_are : (a b : ℕ) → is_hex a ≡ true → is_hex b ≡ true → (byte : ℕ) × (pair_of a b ≡ Some byte)
+unfolding pair_of
+two_digits_are a b ha hb = both_some (digit_of a) (digit_of b) ha hb
+
+no_high_digit : (a b : ℕ) → is_hex a ≡ false → pair_of a b ≡ None
+unfolding pair_of
+no_high_digit a b h = rw (none_is (digit_of a) h) refl
+
+no_low_digit : (a b : ℕ) → is_hex b ≡ false → pair_of a b ≡ None
+unfolding pair_of
+no_low_digit a b h = no_low (digit_of a) (digit_of b) (none_is (digit_of b) h)
+
+one_of_three : (X : Type 0) (p q r : Bool) → (p && (q && r)) ≡ false → (p ≡ false → X) → (q ≡ false → X) → (r ≡ false → X) → X
+one_of_three X false q r h f g k = f refl
+one_of_three X true false r h f g k = g refl
+one_of_three X true true r h f g k = k h
+
+first_of_both : (p q : Bool) → (p && q) ≡ true → p ≡ true
+first_of_both true q h = refl
+first_of_both false q h = h
+
+second_of_both : (p q : Bool) → (p && q) ≡ true → q ≡ true
+second_of_both true q h = h
+second_of_both false q h = let k : false ≡ true = h in absurd (cc)
+
+pub pairs_odd : (n : ℕ) (text : List ℕ) → length text ≡ n * 2 + 1 → pairs_of text ≡ None
 unfolding pairs_of
-next_pair [] h = absurd (omega arith)
-next_pair (a ∷ []) h = absurd (omega arith)
-next_pair (a ∷ b ∷ rest) h = refl
+pairs_odd n [] h = absurd (omega arith)
+pairs_odd n (a ∷ []) h = refl
+pairs_odd zero (a ∷ b ∷ text) h = absurd (omega arith)
+pairs_odd (suc n) (a ∷ b ∷ text) h = rw (pairs_odd n text (omega arith)) (none_then (pair_of a b))
 
-pub pair_read : (front rest : List ℕ) (byte : ℕ) (total : Option (List ℕ)) → 2 ≤ length rest → pair_of (get_or rest 0 0) (get_or rest 1 0) ≡ Some byte
-    → after_bytes front (pairs_of rest) ≡ total → after_bytes (front ++ byte ∷ []) (pairs_of (drop 2 rest)) ≡ total
-pair_read front rest byte total long h so_far =
-    let one : after_bytes front (pairs_of rest) ≡ after_bytes (front ++ byte ∷ []) (pairs_of (drop 2 rest)) = rw (next_pair rest long, h) (regroup front (byte ∷ []) (pairs_of (drop 2 rest))) in
-    sym one ∙ so_far
-
-pub pair_broken : (front rest : List ℕ) (total : Option (List ℕ)) → 2 ≤ length rest → pair_of (get_or rest 0 0) (get_or rest 1 0) ≡ None → after_bytes front (pairs_of rest) ≡ total → total ≡ None
-pair_broken front rest total long h so_far = let one : after_bytes front (pairs_of rest) ≡ None = rw (next_pair rest long, h) refl in sym so_far ∙ one
-
-pub one_left : (front rest : List ℕ) (total : Option (List ℕ)) → length rest < 2 → (length rest == 0) ≡ false → after_bytes front (pairs_of rest) ≡ total → total ≡ None
+pub pairs_bad : (text : List ℕ) → list_all is_hex text ≡ false → pairs_of text ≡ None
 unfolding pairs_of
-one_left front [] total short h so_far = let k : true ≡ false = h in absurd (cc)
-one_left front (a ∷ []) total short h so_far = sym so_far
-one_left front (a ∷ b ∷ rest) total short h so_far = absurd (omega arith)
+pairs_bad [] h = let k : true ≡ false = h in absurd (cc)
+pairs_bad (a ∷ []) h = refl
+pairs_bad (a ∷ b ∷ text) h =
+    one_of_three (pairs_of (a ∷ b ∷ text) ≡ None) (is_hex a) (is_hex b) (list_all is_hex text) h
+    (λ e. rw (no_high_digit a b e) refl)
+    (λ e. rw (no_low_digit a b e) refl)
+    (λ e. rw (pairs_bad text e) (none_then (pair_of a b)))
 
-pub none_left : (front rest : List ℕ) (total : Option (List ℕ)) → (length rest == 0) ≡ true → after_bytes front (pairs_of rest) ≡ total → total ≡ Some front
+pub pairs_even : (n : ℕ) (text : List ℕ) → length text ≡ n * 2 → list_all is_hex text ≡ true → HasCount n (pairs_of text)
 unfolding pairs_of
-none_left front [] total h so_far = sym so_far ∙ ap (λ (bs : List ℕ). Some bs) (append-nil front)
-none_left front (a ∷ rest) total h so_far = let k : suc (length rest) ≡ 0 = eqb-true (suc (length rest)) 0 h in absurd (omega arith)
+pairs_even zero [] h d = record { bytes = []; spelled = refl; count = refl }
+pairs_even zero (a ∷ text) h d = absurd (omega arith)
+pairs_even (suc n) [] h d = absurd (omega arith)
+pairs_even (suc n) (a ∷ []) h d = absurd (omega arith)
+pairs_even (suc n) (a ∷ b ∷ text) h d =
+    let later = second_of_both (is_hex a) (is_hex b && list_all is_hex text) d in
+    let byte = two_digits_are a b (first_of_both (is_hex a) (is_hex b && list_all is_hex text) d) (first_of_both (is_hex b) (list_all is_hex text) later) in
+    let rest = pairs_even n text (omega arith) (second_of_both (is_hex b) (list_all is_hex text) later) in
+    record { bytes = byte.0 ∷ rest.bytes; spelled = rw (byte.1, rest.spelled) refl; count = omega (arith, rest.count) }
 
 pub no_digits : (text : List ℕ) → length text < 2 → quoted_from escape.High text ≡ None
 unfolding quoted_from escape_step
@@ -106,15 +155,6 @@ at_most_one None = omega arith
 at_most_one (Some byte) = omega arith
 
 module _ (all : Option (List ℕ)) where
-  pub pair_counted : (n total : ℕ) (rest : List ℕ) (byte : ℕ) → 2 ≤ length rest → pair_of (get_or rest 0 0) (get_or rest 1 0) ≡ Some byte
-      → Counted n total (length rest) (pairs_of rest) all → Counted (n + 1) total (length (drop 2 rest)) (pairs_of (drop 2 rest)) all
-  pair_counted n total rest byte long h c = record {
-    front = c.front ++ byte ∷ [];
-    whole = pair_read c.front rest byte all long h c.whole;
-    count = omega (arith, length-append c.front (byte ∷ []), c.count);
-    few = omega (arith, length-drop 2 rest, c.few);
-  }
-
   pub quoted_counted : (n : ℕ) (text : List ℕ) (at next : Escape) (byte : Option ℕ) (i : ℕ) → i < length text → ends at (get_or text i 0) ≡ false
       → escape_step at (get_or text i 0) ≡ Some (next, byte) → Counted n i 0 (quoted_from at (drop i text)) all → Counted (n + length (bytes_of byte)) (i + 1) 0 (quoted_from next (drop (i + 1) text)) all
   quoted_counted n text at next byte i h t s c = record {

@@ -13,9 +13,9 @@ use Rattle.ix_script.specs.declared.before.by_names.ByNames.{ByNames}
 use Rattle.ix_script.specs.declared.before.given.Place.{Place}
 use Rattle.ix_script.specs.declared.before.tree.Site.{Site}
 
--- by the lane, and then by the name
+-- by the name, and then by the lane
 abbrev pub place_cmp : Place → Place → Ordering
-place_cmp a b = ordering_then (slice_cmp nat_cmp a.lane.name.now b.lane.name.now) (slice_cmp nat_cmp a.name.name.now b.name.name.now)
+place_cmp a b = ordering_then (slice_cmp nat_cmp a.name.name.now b.name.name.now) (slice_cmp nat_cmp a.lane.name.now b.lane.name.now)
 
 -- a name of the list in its lane
 abbrev pub is_place : Place → List ℕ × List ℕ → Bool

@@ -15,7 +15,13 @@ pub(crate) struct ByBytes<'a> {
 pub(crate) fn order<'x>(a: &'x [u8], b: &'x [u8]) -> Ordering
     ensures { result ≡ slice_cmp nat_cmp a.now b.now }
 {
-    Ord::cmp(&a, &b)
+    // Names are short: byte by byte takes less than the comparison of whole slices does.
+    'bytes: for i in 0..a.len().min(b.len()) {
+        if a[i] != b[i] {
+            return a[i].cmp(&b[i]);
+        }
+    }
+    a.len().cmp(&b.len())
 }
 
 impl<'a> PartialEq for ByBytes<'a> {

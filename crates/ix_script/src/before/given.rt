@@ -9,11 +9,11 @@ use ix_model::NoMemory;
 use std::alloc::Global;
 use std::collections::BTreeSet;
 
-/// A name in its lane.
+/// A name in its lane. Names come first in the order, since most are of one lane.
 #[derive(Clone, Copy, PartialEq, Eq, PartialOrd, Ord)]
 pub(crate) struct Place<'a> {
-    lane: ByBytes<'a>,
     name: ByBytes<'a>,
+    lane: ByBytes<'a>,
 }
 
 /// Names that lines give, each with the lane of its line: an index of the list of them.
@@ -27,8 +27,8 @@ fn place_of<'a>(lane: &'a [u8], name: &'a [u8]) -> Place<'a>
     ensures name { result.name.name.now ≡ name.now }
 {
     Place {
-        lane: ByBytes { name: lane },
         name: ByBytes { name },
+        lane: ByBytes { name: lane },
     }
 }
 

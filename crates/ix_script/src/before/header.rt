@@ -12,8 +12,9 @@ use crate::before::taken::Taken;
 use crate::before::tree::{Tree, names_of};
 use crate::cutting::words::is;
 use crate::line::{Line, What};
+use crate::values::paths::MadePath;
 use ix_label::Label;
-use ix_model::{FsSpec, Limits, List, Name, NoMemory, Path, blocks_for, fs_of};
+use ix_model::{FsSpec, Limits, List, Name, NoMemory, blocks_for, fs_of};
 use std::alloc::Global;
 
 /// What the lines so far tell of the machine.
@@ -200,12 +201,12 @@ fn told_after(told: usize, line: &Line<'_>) -> usize
     }
 }
 
-fn take_object(taken: &mut Taken, fss: &[FsSpec], path: &Path, len: usize)
+fn take_object(taken: &mut Taken, fss: &[FsSpec], path: &MadePath<'_>, len: usize)
     requires some { 0 < length fss.now }
     requires few { length fss.now ≤ 16 }
     ensures { TakenOne fss.now path.now.names len taken.old taken.new }
 {
-    let k = fs_of(fss, path);
+    let k = fs_of(fss, &path.path());
     taken.add(k, blocks_for(len));
 }
 
@@ -215,8 +216,8 @@ fn take(taken: &mut Taken, fss: &[FsSpec], line: &Line<'_>)
     ensures { Takes fss.now (object_told line.now) taken.old taken.new }
 {
     match line {
-        Line::Dir { path, .. } => take_object(taken, fss, &path.path(), 0),
-        Line::File { path, bytes, .. } => take_object(taken, fss, &path.path(), bytes.len()),
+        Line::Dir { path, .. } => take_object(taken, fss, path, 0),
+        Line::File { path, bytes, .. } => take_object(taken, fss, path, bytes.len()),
         _ => {}
     }
 }

@@ -2,6 +2,7 @@ ghost use Rattle.std.specs.Prelude.{◌≡◌, ℕ, ◌≤◌, ◌<◌, ◌+◌,
 ghost use Rattle.std.specs.Option.{option_map_or};
 ghost use Rattle.ix_script.specs.texts.Cutting.{pieces, words_of, word_at, is_closed, is_open, is_empty};
 ghost use Rattle.ix_script.specs.lines.Rules.{has_empty_word, has_open_quote};
+ghost use Rattle.ix_script.specs.reader.Cut.{AreWords};
 ghost use Rattle.ix_script.specs.declared.cutting.spot.Spot.TheVariants as spot;
 
 use crate::cutting::spot::Spot;
@@ -12,14 +13,20 @@ use std::marker::Model;
 /// How many words are kept: no line has more that are read.
 const KEPT: usize = 8;
 
+/// How many words a line has, and whether one is empty or has an open quote.
+#[derive(Clone, Copy)]
+struct Seen {
+    count: usize,
+    has_empty: bool,
+    has_open: bool,
+}
+
 /// The words of a line. The first eight are kept; of the others it is known how many there are, and whether they are well formed.
 #[derive(Drop)]
 pub(crate) struct Words<'a> {
     text: &'a [u8],
     first: ArrayVec<&'a [u8], 8>,
-    count: usize,
-    has_empty: bool,
-    has_open: bool,
+    seen: Seen,
 }
 
 impl<'a> Model for Words<'a> {
@@ -31,7 +38,7 @@ impl<'a> Model for Words<'a> {
 
     ghost view = { λ w. words_of w.text.now };
 
-    ghost invariant = { λ w. AreWords (words_of w.text.now) (map (λ s. s.now) w.first.items) w.count w.has_empty w.has_open };
+    ghost invariant = { λ w. AreWords (words_of w.text.now) (map (λ s. s.now) w.first.items) w.seen.count w.seen.has_empty w.seen.has_open };
 }
 
 /// The place of the space that ends the first word, where no quotes begin it.
@@ -144,37 +151,59 @@ fn keep<'a>(first: &mut ArrayVec<&'a [u8], 8>, word: &'a [u8])
     }
 }
 
+/// Keeps the first eight words of a line, in a place that has none yet, and tells of all.
+fn cut_into<'a>(text: &'a [u8], first: &mut ArrayVec<&'a [u8], 8>) -> Seen
+    requires { first.old.items ≡ [] }
+    ensures { AreWords (words_of text.now) (map (λ s. s.now) first.new.items) result.count result.has_empty result.has_open }
+{
+    let mut count = 0;
+    let mut has_empty = false;
+    let mut has_open = false;
+    let mut rest = if_any(text);
+    'words: while let Some(front) = rest {
+        let (word, more) = first_word(front);
+        keep(first, word);
+        count += 1;
+        has_empty |= is_empty(word);
+        has_open |= is_open(word);
+        rest = more;
+    }
+    Seen {
+        count,
+        has_empty,
+        has_open,
+    }
+}
+
 impl<'a> Words<'a> {
-    /// The words of a line.
-    pub fn cut(text: &'a [u8]) -> Words<'a>
-        ensures { result ≡ words_of text.now }
+    /// No words yet.
+    pub fn none() -> Words<'a>
+        ensures { result ≡ [] }
     {
-        let mut first = ArrayVec::new();
-        let mut count = 0;
-        let mut has_empty = false;
-        let mut has_open = false;
-        let mut rest = if_any(text);
-        'words: while let Some(front) = rest {
-            let (word, more) = first_word(front);
-            keep(&mut first, word);
-            count += 1;
-            has_empty |= is_empty(word);
-            has_open |= is_open(word);
-            rest = more;
-        }
         Words {
-            text,
-            first,
-            count,
-            has_empty,
-            has_open,
+            text: &[],
+            first: ArrayVec::new(),
+            seen: Seen {
+                count: 0,
+                has_empty: false,
+                has_open: false,
+            },
         }
+    }
+
+    /// Cuts a line into its words. They are put in their place, since to hand them out would copy them.
+    pub fn cut(&mut self, text: &'a [u8])
+        ensures { self.new ≡ words_of text.now }
+    {
+        self.first.clear();
+        self.seen = cut_into(text, &mut self.first);
+        self.text = text;
     }
 
     pub fn len(&self) -> usize
         ensures { result ≡ length self.now }
     {
-        self.count
+        self.seen.count
     }
 
     /// The word at a place from 0; no bytes where there is none.
@@ -188,12 +217,12 @@ impl<'a> Words<'a> {
     pub fn has_empty(&self) -> bool
         ensures { result ≡ has_empty_word self.now }
     {
-        self.has_empty
+        self.seen.has_empty
     }
 
     pub fn has_open_quote(&self) -> bool
         ensures { result ≡ has_open_quote self.now }
     {
-        self.has_open
+        self.seen.has_open
     }
 }

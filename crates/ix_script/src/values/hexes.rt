@@ -1,4 +1,4 @@
-ghost use Rattle.std.specs.Prelude.{◌≡◌, ◌<◌, IfSome};
+ghost use Rattle.std.specs.Prelude.{◌≡◌, ◌<◌, Some, IfSome, IsSome, is_some};
 ghost use Rattle.ix_script.specs.texts.Payloads.{digit_of, pair_of, two_digits};
 
 use crate::cutting::words::is_digit;
@@ -28,6 +28,33 @@ pub(crate) fn pair(high: u8, low: u8) -> Option<u8>
     let high = digit(high)?;
     let low = digit(low)?;
     Some(high * 16 + low)
+}
+
+/// Whether it is a hexadecimal digit.
+#[tactic(auto, unfolding(crate::specs::texts::Payloads::digit_of))]
+pub(crate) fn is_hex_digit(b: u8) -> bool
+    ensures { result ≡ is_some (digit_of b) }
+{
+    is_digit(b) || b >= b'a' && b <= b'f' || b >= b'A' && b <= b'F'
+}
+
+/// The value of a digit that is known to be one. It needs no branch: a letter's low bits say how far it is from the letter before `a`.
+#[tactic(auto, unfolding(crate::specs::texts::Payloads::digit_of))]
+fn known_digit(b: u8) -> u8
+    requires { IsSome (digit_of b) }
+    ensures value { digit_of b ≡ Some result }
+    ensures low { result < 16 }
+{
+    b % 16 + 9 * (b / 64)
+}
+
+/// The byte of two digits that are known to be digits.
+#[tactic(auto, unfolding(crate::specs::texts::Payloads::pair_of))]
+pub(crate) fn known_pair(high: u8, low: u8) -> u8
+    requires { IsSome (pair_of high low) }
+    ensures { pair_of high low ≡ Some result }
+{
+    known_digit(high) * 16 + known_digit(low)
 }
 
 /// The byte of a text of two digits.

@@ -1,6 +1,7 @@
-ghost use Rattle.std.specs.Prelude.{◌≡◌, ℕ, ◌<◌, ◌≤◌, ◌+◌, ◌^◌, ◌==◌, ◌∷◌, [], length, position, IfSome, Some, None, take, replicate};
+ghost use Rattle.std.specs.Prelude.{◌≡◌, ℕ, ◌<◌, ◌≤◌, ◌+◌, ◌^◌, ◌==◌, ◌∷◌, [], is_some, length, position, IfSome, Some, None, take, replicate};
+ghost use Rattle.std.specs.List.{list_all};
 ghost use Rattle.ix_script.specs.lines.Kinds as kind;
-ghost use Rattle.ix_script.specs.texts.Payloads.{bytes_of, pairs_of, quoted_from, times_from, times_of, payload_of};
+ghost use Rattle.ix_script.specs.texts.Payloads.{bytes_of, digit_of, pairs_of, quoted_from, times_from, times_of, payload_of};
 ghost use Rattle.ix_script.specs.reader.Readers.{Reads};
 ghost use Rattle.ix_script.specs.lines.Said.{payload_within};
 ghost use Rattle.ix_script.specs.texts.Spelled.{Counts, Spells};
@@ -9,7 +10,7 @@ ghost use Rattle.ix_script.specs.declared.values.escape.Escape.TheVariants as es
 use crate::cutting::words::begins;
 use crate::rule::Rule;
 use crate::values::escape::Escape;
-use crate::values::hexes::{pair, two_digits};
+use crate::values::hexes::{is_hex_digit, two_digits};
 use crate::values::numbers::{is_numeral, value};
 use crate::values::spelling::{PayloadBytes, Spelling};
 use std::marker::Model;
@@ -32,22 +33,27 @@ impl<'a, const MOST: u32> Model for Payload<'a, MOST> {
     ghost invariant = { λ p. IsPayload MOST p.spelling p.len };
 }
 
+/// Whether each is a hexadecimal digit. Each is looked at, also after one that is none, so that many are looked at at once.
+#[tactic(auto, using(std::proofs::lemmas::List::Folds::list_all_more))]
+fn are_digits(text: &[u8]) -> bool
+    ensures { result ≡ list_all (λ b. is_some (digit_of b)) text.now }
+{
+    let mut all = true;
+    for b in text {
+        all &= is_hex_digit(*b);
+    }
+    all
+}
+
 /// How many bytes pairs of digits spell.
 fn count_of_pairs(text: &[u8]) -> Result<usize, Rule>
     ensures { (most : ℕ) → Counts most result (pairs_of text.now) }
 {
-    let mut count = 0;
-    let mut rest = text;
-    'pairs: while rest.len() >= 2 {
-        let (_, more) = rest.split_at(2);
-        let Some(_byte) = pair(rest[0], rest[1]) else {
-            return Err(Rule::BAD_PAYLOAD);
-        };
-        count += 1;
-        rest = more;
+    if text.len() % 2 != 0 {
+        return Err(Rule::BAD_PAYLOAD);
     }
-    if rest.is_empty() {
-        Ok(count)
+    if are_digits(text) {
+        Ok(text.len() / 2)
     } else {
         Err(Rule::BAD_PAYLOAD)
     }
@@ -205,12 +211,6 @@ impl<'a, const MOST: u32> Payload<'a, MOST> {
         ensures front { take (length self.now) buf.new ≡ self.now }
         ensures len { length buf.new ≡ length buf.old }
     {
-        let mut bytes = self.bytes();
-        'bytes: for i in 0..self.len() {
-            let Some(byte) = bytes.next() else {
-                return;
-            };
-            buf[i] = byte;
-        }
+        self.spelling.decode(self.len(), buf)
     }
 }

@@ -1,11 +1,11 @@
-ghost use Rattle.std.specs.Prelude.{◌≡◌, ◌∷◌, [], Some, None, IsSome, MatchOption};
+ghost use Rattle.std.specs.Prelude.{◌≡◌, ◌≤◌, ◌∷◌, [], length, take, unwrap_or, Some, None, IsSome, MatchOption};
 ghost use Rattle.std.specs.Option.{option_map_or};
 ghost use Rattle.ix_script.specs.texts.Payloads.{after_bytes, pairs_of, quoted_from};
 ghost use Rattle.ix_script.specs.texts.PayloadBytes.{bytes_in, spelled_by};
 ghost use Rattle.ix_script.specs.declared.values.escape.Escape.TheVariants as escape;
 
 use crate::values::escape::escaped;
-use crate::values::hexes::pair;
+use crate::values::hexes::{known_pair, pair};
 use std::marker::Model;
 
 /// How bytes are spelled.
@@ -28,8 +28,7 @@ fn first_of_pairs(text: &[u8]) -> Option<(u8, &[u8])>
     let [high, low, more @ ..] = text else {
         return None;
     };
-    let byte = pair(*high, *low)?;
-    Some((byte, more))
+    Some((known_pair(*high, *low), more))
 }
 
 /// The byte of the two digits behind a backslash and an `x`, and the text after them.
@@ -81,7 +80,53 @@ fn first_of_quoted(text: &[u8]) -> Option<(u8, &[u8])>
     }
 }
 
+/// Puts the bytes that pairs of digits spell, which are so many, at the front of a buffer.
+fn decode_pairs(text: &[u8], count: usize, buf: &mut [u8])
+    requires spelled { IsSome (pairs_of text.now) }
+    requires count { count ≡ length (unwrap_or (pairs_of text.now) []) }
+    requires room { count ≤ length buf.old }
+    ensures front { take count buf.new ≡ unwrap_or (pairs_of text.now) [] }
+    ensures len { length buf.new ≡ length buf.old }
+{
+    'bytes: for i in 0..count {
+        buf[i] = known_pair(text[2 * i], text[2 * i + 1]);
+    }
+}
+
+/// Puts the bytes that stand in quotes, which are so many, at the front of a buffer.
+fn decode_quoted(text: &[u8], count: usize, buf: &mut [u8])
+    requires spelled { IsSome (quoted_from escape.Plain text.now) }
+    requires count { count ≡ length (unwrap_or (quoted_from escape.Plain text.now) []) }
+    requires room { count ≤ length buf.old }
+    ensures front { take count buf.new ≡ unwrap_or (quoted_from escape.Plain text.now) [] }
+    ensures len { length buf.new ≡ length buf.old }
+{
+    let mut rest = text;
+    'bytes: for i in 0..count {
+        let Some((byte, more)) = first_of_quoted(rest) else {
+            return;
+        };
+        buf[i] = byte;
+        rest = more;
+    }
+}
+
 impl<'a> Spelling<'a> {
+    /// Puts the bytes, which are so many, at the front of a buffer.
+    pub(crate) fn decode(self, count: usize, buf: &mut [u8])
+        requires spelled { spelled_by self ≡ Some (bytes_in self) }
+        requires count { count ≡ length (bytes_in self) }
+        requires room { count ≤ length buf.old }
+        ensures front { take count buf.new ≡ bytes_in self.entry }
+        ensures len { length buf.new ≡ length buf.old }
+    {
+        match self {
+            Spelling::Pairs(text) => decode_pairs(text, count, buf),
+            Spelling::Quoted(text) => decode_quoted(text, count, buf),
+            Spelling::Times(_, byte) => buf[..count].fill(byte),
+        }
+    }
+
     /// The first byte that is spelled, and how the bytes after it are; `None` exactly where there is none.
     fn first(self) -> Option<(u8, Spelling<'a>)>
         requires { IsSome (spelled_by self) }

@@ -1,6 +1,6 @@
-ghost use Rattle.std.specs.Prelude.{◌≡◌, ◌++◌, ◌∷◌, ◌≤◌, ◌==◌, length, replicate, OnOk, IsTrue};
+ghost use Rattle.std.specs.Prelude.{◌≡◌, ◌++◌, ◌∷◌, ◌≤◌, ◌==◌, codes, length, replicate, OnOk, IsTrue};
 ghost use Rattle.std.specs.List.{list_all};
-ghost use Rattle.ix_script.specs.texts.Spellings.{hex_pair, pairs_text, times_text, quoted_byte, quoted_text, once, payload_text};
+ghost use Rattle.ix_script.specs.texts.Spellings.{hex_pair, pairs_text, times_text, stands_quoted, quoted_byte, quoted_text, once, payload_text};
 ghost use Rattle.ix_script.specs.texts.PayloadForms.{text_in};
 
 use crate::text::hex_pair;
@@ -31,13 +31,23 @@ fn times(out: &mut Vec<u8>, n: usize, byte: u8) -> Result<(), NoMemory>
     push(out, &hex_pair(byte))
 }
 
+/// Whether a byte stands in quotes as it is.
+fn stands_quoted(byte: u8) -> bool
+    ensures { result ≡ stands_quoted byte }
+{
+    (b' '..=b'~').contains(&byte) && byte != b'"' && byte != b'\\'
+}
+
 /// A byte in quotes.
 #[tactic(auto, unfolding(crate::specs::texts::Spellings::quoted_byte))]
 fn quoted_byte(out: &mut Vec<u8>, byte: u8) -> Result<(), NoMemory>
     ensures { OnOk result (out.new.items ≡ out.old.items ++ quoted_byte byte) }
 {
-    if (b' '..=b'~').contains(&byte) && byte != b'"' && byte != b'\\' {
-        return push(out, &[byte]);
+    if stands_quoted(byte) {
+        return match out.push(byte) {
+            Ok(()) => Ok(()),
+            Err(_) => Err(NoMemory),
+        };
     }
     if byte == b'"' || byte == b'\\' {
         return push(out, &[b'\\', byte]);
@@ -66,7 +76,7 @@ fn quoted_byte_len(byte: u8) -> u8
     ensures len { result ≡ length (quoted_byte byte) }
     ensures few { result ≤ 4 }
 {
-    if (b' '..=b'~').contains(&byte) && byte != b'"' && byte != b'\\' {
+    if stands_quoted(byte) {
         return 1;
     }
     if byte == b'"' || byte == b'\\' || byte == b'\n' {
@@ -143,10 +153,35 @@ fn shortest(bytes: &[u8]) -> PayloadForm
     PayloadForm::Pairs
 }
 
+/// Whether each stands in quotes as it is. Each is looked at, also after one that doesn't, so that many are looked at at once.
+#[tactic(auto, using(std::proofs::lemmas::List::Folds::list_all_more))]
+fn are_plain(bytes: &[u8]) -> bool
+    ensures { result ≡ list_all stands_quoted bytes.now }
+{
+    let mut all = true;
+    for byte in bytes {
+        all &= stands_quoted(*byte);
+    }
+    all
+}
+
+/// Whether the quotes are the shortest spelling, and the bytes stand there as they are.
+#[tactic(auto, using(crate::proofs::back::Shortest::plain_quotes))]
+fn are_plainly_quoted(bytes: &[u8]) -> bool
+    ensures { IsTrue result → codes "\"" ++ (bytes.now ++ codes "\"") ≡ payload_text bytes.now }
+{
+    bytes.len() >= 2 && repeated(bytes).is_none() && are_plain(bytes)
+}
+
 /// The bytes in their shortest spelling.
 fn shortest_text(out: &mut Vec<u8>, bytes: &[u8]) -> Result<(), NoMemory>
     ensures { OnOk result (out.new.items ≡ out.old.items ++ payload_text bytes.now) }
 {
+    if are_plainly_quoted(bytes) {
+        push(out, b"\"")?;
+        push(out, bytes)?;
+        return push(out, b"\"");
+    }
     match shortest(bytes) {
         PayloadForm::Pairs => pairs(out, bytes),
         PayloadForm::Times(byte) => times(out, bytes.len(), byte),
@@ -169,13 +204,10 @@ fn decode<const MOST: u32>(
 ) -> Result<(), NoMemory>
     ensures { OnOk result (buffer.new.items ≡ payload.now) }
 {
-    buffer.clear();
-    let mut left = payload.bytes();
-    'bytes: while let Some(byte) = left.next() {
-        if buffer.push(byte).is_err() {
-            return Err(NoMemory);
-        }
-    }
+    let Ok(()) = buffer.resize(payload.len(), 0) else {
+        return Err(NoMemory);
+    };
+    payload.decode(buffer.as_mut_slice());
     Ok(())
 }
 

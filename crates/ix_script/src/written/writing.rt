@@ -1,4 +1,5 @@
-ghost use Rattle.std.specs.Prelude.{◌≡◌, ◌++◌, ◌∷◌, [], OnOk, IfOk, codes};
+ghost use Rattle.std.specs.Prelude.{◌≡◌, ◌++◌, ◌∷◌, [], Some, slice_get, OnOk, IfOk, codes};
+ghost use Rattle.std.proofs.Common.{option_map};
 ghost use Rattle.std.specs.Fmt.{decimal};
 ghost use Rattle.ix_label.specs.Spelling.{spelling};
 ghost use Rattle.ix_script.specs.lines.Before.{what_text};
@@ -453,12 +454,34 @@ fn write_line(out: &mut Vec<u8>, buffer: &mut Vec<u8>, line: &Line<'_>) -> Resul
     }
 }
 
-/// A line's text and a line feed.
-fn write_ended(out: &mut Vec<u8>, buffer: &mut Vec<u8>, line: &Line<'_>) -> Result<(), NoMemory>
-    ensures { OnOk result (out.new.items ≡ out.old.items ++ (line_text line.now ++ codes "\n")) }
+/// A line feed at the end.
+fn end_line(out: &mut Vec<u8>) -> Result<(), NoMemory>
+    ensures { OnOk result (out.new.items ≡ out.old.items ++ codes "\n") }
 {
-    write_line(out, buffer, line)?;
-    push(out, b"\n")
+    match out.push(b'\n') {
+        Ok(()) => Ok(()),
+        Err(_) => Err(NoMemory),
+    }
+}
+
+/// The text of the line at an index and a line feed. A line is made only where its text isn't the one that was read.
+fn write_ended(
+    out: &mut Vec<u8>,
+    buffer: &mut Vec<u8>,
+    lines: &Lines,
+    index: usize,
+) -> Result<(), NoMemory>
+    ensures { OnOk result (option_map (λ l. out.old.items ++ (line_text l ++ codes "\n")) (slice_get lines.now index) ≡ Some out.new.items) }
+{
+    if let Some(text) = lines.canonical_text(index) {
+        push(out, text)?;
+    } else {
+        let Some(line) = lines.get(index) else {
+            return Err(NoMemory);
+        };
+        write_line(out, buffer, &line)?;
+    }
+    end_line(out)
 }
 
 /// The canonical text of lines.
@@ -466,10 +489,7 @@ fn write_lines(out: &mut Vec<u8>, buffer: &mut Vec<u8>, lines: &Lines) -> Result
     ensures { OnOk result (out.new.items ≡ out.old.items ++ canonical lines.now) }
 {
     for index in 0..lines.len() {
-        let Some(line) = lines.get(index) else {
-            return Err(NoMemory);
-        };
-        write_ended(out, buffer, &line)?;
+        write_ended(out, buffer, lines, index)?;
     }
     Ok(())
 }

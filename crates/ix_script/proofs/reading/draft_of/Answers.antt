@@ -14,12 +14,12 @@ lines-init g c = start c.args.bytes.now c.in_ok-draft.draft c.in_ok-draft.ensure
 pub lines-preserved : goal.lines-preserved
 lines-preserved g c =
     goes_on (cut c.args.bytes.now) (length c.args.bytes.now) c.lines.rest.now c.lines.draft c.add.new.self c.first_line.result.0.now c.first_line.result.1.now c.in-Ok.said c.lines.invariant
-    c.first_line.ensures.lines c.first_line.ensures.fewer c.in-Ok.ensures c.in_ok-add-in-Ok.ensures.told c.in_ok-add-in-Ok.ensures.lines
+    c.first_line.ensures.lines c.first_line.ensures.fewer (rw c.in-Ok.is at c.next_line-said.ensures) c.in_ok-add-in-Ok.ensures.told c.in_ok-add-in-Ok.ensures.lines
 
 pub returns-in-Err-clause-fail : goal.returns-in-Err-clause-fail
 returns-in-Err-clause-fail g c =
     rw (c.len.ensures, lines_cut c.args.bytes.now c.requires.some)
-    (stops (cut c.args.bytes.now) (length c.args.bytes.now) c.lines.rest.now c.lines.draft c.first_line.result.0.now c.first_line.result.1.now c.in-Err.rule.0 c.lines.invariant c.first_line.ensures.lines c.in-Err.ensures)
+    (stops (cut c.args.bytes.now) (length c.args.bytes.now) c.lines.rest.now c.lines.draft c.first_line.result.0.now c.first_line.result.1.now c.in-Err.rule.0 c.lines.invariant c.first_line.ensures.lines (rw c.in-Err.is at c.next_line-said.ensures))
 
 pub returns-clause-faultless : goal.returns-clause-faultless
 returns-clause-faultless g c =

@@ -1,23 +1,13 @@
-use Rattle.std.proofs.Common.{◌∙◌, sym}
+use Rattle.std.proofs.Common.{◌∙◌, ◌/◌, length, sym, arith}
 use Rattle.ix_script.specs.texts.Payloads.{pairs_of}
-use Rattle.ix_script.proofs.texts.Spelling.{no_spelling, pair_broken, pair_counted, one_left, none_left}
+use Rattle.ix_script.proofs.texts.Spelling.{no_spelling, pairs_odd, pairs_bad, pairs_even}
 use Rattle.ix_script.proofs.values.payload.count_of_pairs.Goals as goal
 
-pub returns-in_default : goal.returns-in_default
-returns-in_default c =
-    λ most. no_spelling most (pairs_of c.args.text.now) (pair_broken c.pairs.invariant.front c.pairs.rest.now (pairs_of c.args.text.now) c.pairs-test.true (sym c.pair.ensures ∙ c.in_default.is) c.pairs.invariant.whole)
+pub returns-then-text-ne0 : goal.returns-then-text-ne0
+returns-then-text-ne0 c = λ most. no_spelling most (pairs_of c.args.text.now) (pairs_odd (length c.args.text.now / 2) c.args.text.now (omega arith))
 
-pub pairs-preserved : goal.pairs-preserved
-pairs-preserved c =
-    rw c.split_at.ensures.back (pair_counted (pairs_of c.args.text.now) _ _ c.pairs.rest.now c.in-Some._byte c.pairs-test.true (sym c.pair.ensures ∙ c.in-Some.is) c.pairs.invariant)
+pub returns-then-are_digits : goal.returns-then-are_digits
+returns-then-are_digits c = λ most. pairs_even (length c.args.text.now / 2) c.args.text.now (omega arith) (sym c.are_digits.ensures ∙ c.if-are_digits.true)
 
-pub returns-then-is_empty : goal.returns-then-is_empty
-returns-then-is_empty c = λ most. record {
-  bytes = c.pairs.invariant.front;
-  spelled = none_left c.pairs.invariant.front c.pairs.rest.now (pairs_of c.args.text.now) (sym c.is_empty.ensures ∙ c.if-is_empty.true) c.pairs.invariant.whole;
-  count = c.pairs.invariant.count;
-}
-
-pub returns-else-is_empty : goal.returns-else-is_empty
-returns-else-is_empty c =
-    λ most. no_spelling most (pairs_of c.args.text.now) (one_left c.pairs.invariant.front c.pairs.rest.now (pairs_of c.args.text.now) c.pairs-test.false (sym c.is_empty.ensures ∙ c.if-is_empty.false) c.pairs.invariant.whole)
+pub returns-else-are_digits : goal.returns-else-are_digits
+returns-else-are_digits c = λ most. no_spelling most (pairs_of c.args.text.now) (pairs_bad c.args.text.now (sym c.are_digits.ensures ∙ c.if-are_digits.false))

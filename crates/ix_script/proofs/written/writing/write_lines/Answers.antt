@@ -1,6 +1,9 @@
 use Rattle.std.proofs.Common.{List, ℕ, ◌+◌, ◌++◌, drop, sym, ap, ◌∙◌, append_assoc}
+use Rattle.std.specs.List.{slice_get}
 use Rattle.std.specs.Prelude.{codes}
 use Rattle.ix_script.specs.scripts.Canonical.{line_text, canonical}
+use Rattle.ix_script.specs.declared.line.Line.{Line}
+use Rattle.ix_script.proofs.reader.Told.{mapped}
 use Rattle.ix_script.proofs.reader.Walking.{next_line}
 use Rattle.ix_script.proofs.written.writing.write_lines.Goals as goal
 
@@ -8,5 +11,6 @@ pub loop-index-preserved : goal.loop-index-preserved
 loop-index-preserved c =
     let out : List ℕ = c.loop-index.out.items in
     let more : List ℕ = canonical (drop (c.loop-index.index + 1) c.args.lines.now) in
-    ap (λ t. t ++ more) c.in_ok-write_ended.ensures ∙ append_assoc out (line_text c.in-Some.line ++ codes "\n") more
-    ∙ ap (λ t. out ++ t) (sym (ap canonical (next_line c.args.lines.now c.loop-index.index c.in-Some.line (sym c.get.ensures ∙ c.in-Some.is)))) ∙ c.loop-index.invariant
+    let m = mapped (λ (l : Line). out ++ (line_text l ++ codes "\n")) (slice_get c.args.lines.now c.loop-index.index) _ c.in_ok-write_ended.ensures in
+    ap (λ t. t ++ more) (sym m.2) ∙ append_assoc out (line_text m.0 ++ codes "\n") more
+    ∙ ap (λ t. out ++ t) (sym (ap canonical (next_line c.args.lines.now c.loop-index.index m.0 m.1))) ∙ c.loop-index.invariant

@@ -3,7 +3,7 @@ use Rattle.std.specs.Option.{option_map_or}
 use Rattle.ix_script.specs.texts.Cutting.{pieces, words_of}
 use Rattle.ix_script.specs.declared.cutting.spot.Spot.TheVariants as spot
 use Rattle.ix_script.proofs.texts.Words.{Cutting}
-use Rattle.ix_script.proofs.cutting.cut.Words.cut.Given as goal
+use Rattle.ix_script.proofs.cutting.cut.cut_into.Given as goal
 
 abbrev pub invariant-words : goal.invariant-words
 invariant-words l = Cutting (words_of l.text) (map (λ s. s.now) l.first.items) l.count l.has_empty l.has_open (option_map_or (λ front. pieces spot.Front front.now) l.rest [])

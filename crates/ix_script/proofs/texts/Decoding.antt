@@ -1,0 +1,87 @@
+-- Decoding pairs of digits, each at its place.
+use Rattle.std.proofs.Common.{◌≡◌, ℕ, zero, suc, ◌+◌, ◌*◌, ◌<◌, ◌≤◌, true, false, List, [], ◌∷◌, ◌++◌, length, take, drop, set, get_or, unwrap_or, Option, Some, None, refl, sym, ◌∙◌, ap, subst, append_assoc, arith}
+use Rattle.std.specs.Prelude.{IsSome}
+use Rattle.std.proofs.lemmas.List.{take_more_set, length-set}
+use Rattle.ix_script.specs.texts.Payloads.{◌>>=◌, pair_of, pairs_of, after_bytes}
+
+-- the bytes that pairs spell
+abbrev pub bytes_at : ℕ → List ℕ → List ℕ
+bytes_at k text = unwrap_or (pairs_of (drop k text)) []
+
+-- ---- two digits for each byte
+twice_of : (byte : Option ℕ) (rest : Option (List ℕ)) (n : ℕ) → (IsSome rest → n ≡ length (unwrap_or rest []) * 2) → IsSome (byte >>= λ x. after_bytes (x ∷ []) rest)
+    → suc (suc n) ≡ length (unwrap_or (byte >>= λ x. after_bytes (x ∷ []) rest) []) * 2
+twice_of None rest n f h = let k : false ≡ true = h in absurd (cc)
+twice_of (Some x) None n f h = let k : false ≡ true = h in absurd (cc)
+twice_of (Some x) (Some rest) n f h = omega (arith, f refl)
+
+pub pairs_twice : (text : List ℕ) → IsSome (pairs_of text) → length text ≡ length (unwrap_or (pairs_of text) []) * 2
+unfolding pairs_of
+pairs_twice [] h = refl
+pairs_twice (a ∷ []) h = let k : false ≡ true = h in absurd (cc)
+pairs_twice (a ∷ b ∷ text) h = twice_of (pair_of a b) (pairs_of text) (length text) (pairs_twice text) h
+
+-- ---- one byte more
+first_some : (byte : Option ℕ) (rest : Option (List ℕ)) → IsSome (byte >>= λ x. after_bytes (x ∷ []) rest) → IsSome byte
+first_some None rest h = h
+first_some (Some x) rest h = refl
+
+rest_some : (found : Option ℕ) (rest : Option (List ℕ)) (byte : ℕ) → found ≡ Some byte → IsSome (found >>= λ x. after_bytes (x ∷ []) rest)
+    → IsSome rest × (unwrap_or (found >>= λ x. after_bytes (x ∷ []) rest) [] ≡ byte ∷ unwrap_or rest [])
+rest_some None rest byte e h = let k : false ≡ true = h in absurd (cc)
+rest_some (Some x) None byte e h = let k : false ≡ true = h in absurd (cc)
+rest_some (Some x) (Some rest) byte e h = (refl, ap (λ o. unwrap_or o 0 ∷ rest) e)
+
+digits_from : (k : ℕ) (text : List ℕ) → k + 2 ≤ length text → IsSome (pairs_of (drop k text)) → IsSome (pair_of (get_or text k 0) (get_or text (suc k) 0))
+unfolding pairs_of
+digits_from k [] n h = absurd (omega arith)
+digits_from zero (a ∷ []) n h = absurd (omega arith)
+digits_from zero (a ∷ b ∷ text) n h = first_some (pair_of a b) (pairs_of text) h
+digits_from (suc k) (a ∷ text) n h = digits_from k text (omega arith) h
+
+pub digits_at : (k : ℕ) (text : List ℕ) → k + 2 ≤ length text → IsSome (pairs_of (drop k text)) → IsSome (pair_of (get_or text k 0) (get_or text (k + 1) 0))
+digits_at k text n h =
+    let one : suc k ≡ k + 1 = omega arith in
+    subst (λ j. IsSome (pair_of (get_or text k 0) (get_or text j 0))) one (digits_from k text n h)
+
+byte_from : (k : ℕ) (text : List ℕ) (byte : ℕ) → k + 2 ≤ length text → IsSome (pairs_of (drop k text)) → pair_of (get_or text k 0) (get_or text (suc k) 0) ≡ Some byte
+    → IsSome (pairs_of (drop (suc (suc k)) text)) × (bytes_at k text ≡ byte ∷ bytes_at (suc (suc k)) text)
+unfolding pairs_of
+byte_from k [] byte n h e = absurd (omega arith)
+byte_from zero (a ∷ []) byte n h e = absurd (omega arith)
+byte_from zero (a ∷ b ∷ text) byte n h e = rest_some (pair_of a b) (pairs_of text) byte e h
+byte_from (suc k) (a ∷ text) byte n h e = byte_from k text byte (omega arith) h e
+
+byte_at : (k : ℕ) (text : List ℕ) (byte : ℕ) → k + 2 ≤ length text → IsSome (pairs_of (drop k text)) → pair_of (get_or text k 0) (get_or text (k + 1) 0) ≡ Some byte
+    → IsSome (pairs_of (drop (k + 2) text)) × (bytes_at k text ≡ byte ∷ bytes_at (k + 2) text)
+byte_at k text byte n h e =
+    let one : suc k ≡ k + 1 = omega arith in
+    let two : suc (suc k) ≡ k + 2 = omega arith in
+    subst (λ j. IsSome (pairs_of (drop j text)) × (bytes_at k text ≡ byte ∷ bytes_at j text)) two
+    (byte_from k text byte n h (subst (λ j. pair_of (get_or text k 0) (get_or text j 0) ≡ Some byte) (sym one) e))
+
+-- ---- the loop
+-- i bytes are in the buffer, and what is left spells the others
+pub record Decoded (text buf : List ℕ) (i count n : ℕ) : Type 0 where
+  pub twice : length text ≡ count * 2
+  pub some : IsSome (pairs_of (drop (2 * i) text))
+  pub front : take i buf ++ bytes_at (2 * i) text ≡ unwrap_or (pairs_of text) []
+  pub len : length buf ≡ n
+
+pub begin : (text buf : List ℕ) (count : ℕ) → IsSome (pairs_of text) → count ≡ length (unwrap_or (pairs_of text) []) → Decoded text buf 0 count (length buf)
+begin text buf count h c = record { twice = omega (arith, pairs_twice text h, c); some = h; front = refl; len = refl }
+
+pub more : (text buf : List ℕ) (i count n byte : ℕ) → i < count → count ≤ n → pair_of (get_or text (2 * i) 0) (get_or text (2 * i + 1) 0) ≡ Some byte → Decoded text buf i count n
+    → Decoded text (set buf i byte) (i + 1) count n
+more text buf i count n byte h room e d =
+    let next = byte_at (2 * i) text byte (omega (arith, d.twice)) d.some e in
+    let place : 2 * i + 2 ≡ 2 * (i + 1) = omega arith in
+    record {
+      twice = d.twice;
+      some = subst (λ k. IsSome (pairs_of (drop k text))) place next.0;
+      front = ap (λ k. take (i + 1) (set buf i byte) ++ bytes_at k text) (sym place)
+          ∙ (ap (λ bs. bs ++ bytes_at (2 * i + 2) text) (take_more_set buf i byte (omega (arith, d.len)))
+          ∙ (append_assoc (take i buf) (byte ∷ []) (bytes_at (2 * i + 2) text)
+          ∙ (ap (λ bs. take i buf ++ bs) (sym next.1) ∙ d.front)));
+      len = length-set buf i byte ∙ d.len;
+    }
