@@ -1,5 +1,5 @@
 -- What the lines of a lane make on a system.
-use Rattle.std.specs.Prelude.{◌≡◌, ℕ, List, [], ◌∷◌, ◌++◌, Option, Some, None}
+use Rattle.std.specs.Prelude.{◌≡◌, ℕ, List, [], ◌∷◌, ◌++◌, Option, Some, None, take}
 use Rattle.ix_model.specs.history.Events.{Event}
 use Rattle.ix_model.specs.history.Made.{Made}
 use Rattle.ix_model.specs.history.Systems.{FullFor, one_more}
@@ -7,6 +7,7 @@ use Rattle.ix_model.specs.declared.reply.Answer.{Answer}
 use Rattle.ix_model.specs.declared.reply.Reply.{Reply}
 use Rattle.ix_script.specs.declared.line.Line.{Line}
 use Rattle.ix_lanes.specs.asking.Asked.{Names, Numbers}
+use Rattle.ix_lanes.specs.asking.Replies.{count_in}
 use Rattle.ix_lanes.specs.histories.Lanes.{Numbered, calls_from}
 use Rattle.ix_lanes.specs.running.Phases.{names_from}
 use Rattle.ix_lanes.specs.running.Runs.{MadeAll, MadeSome, answers_of}
@@ -37,6 +38,12 @@ made_so e r bytes = record { event = e; reply = r; bytes = bytes }
 abbrev pub MakesIt : Option Event → List Made → Type 0
 MakesIt None more = more ≡ []
 MakesIt (Some e) more = (m : Made) × (m.event ≡ e) × (more ≡ m ∷ [])
+
+-- an entry, if there is one, was made and answered so, with the bytes at the front of a buffer
+abbrev pub AnswersIt : Option Event → Option Reply → List ℕ → List Made → Type 0
+AnswersIt None r buf more = (r ≡ None) × (more ≡ [])
+AnswersIt (Some e) None buf more = ⊥
+AnswersIt (Some e) (Some r) buf more = more ≡ made_so e r (take (count_in r) buf) ∷ []
 
 -- there is an entry, and this stop is the answer to it
 abbrev pub StopsAt : Option Event → Answer → Type 0

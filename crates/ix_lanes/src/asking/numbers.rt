@@ -40,6 +40,7 @@ impl<N: Copy> Numbers<N> {
     }
 
     /// What a name stands for.
+    #[inline(always)]
     pub fn get(&self, name: &NameWord<'_>) -> Option<N>
         ensures { result ≡ map.get self.now name.now }
     {

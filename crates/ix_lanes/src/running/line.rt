@@ -9,29 +9,16 @@ ghost use Rattle.ix_lanes.specs.asking.Replies.{count_in};
 ghost use Rattle.ix_lanes.specs.histories.Serial.{entry_of};
 ghost use Rattle.ix_lanes.specs.running.Lines.{alone, LinesCut, LinesDone, Makes, MakesIt, Stops, StopsAt, made_so};
 
-use crate::asking::calls::{bind, entry_asked, entry_then, put_written};
+use crate::asking::calls::{bind, entry_then, put_written};
 use crate::asking::numbers::Numbers;
 use crate::asking::places::Places;
-use ix_model::{Answer, Buf, Entry, Reply, Sys};
+use crate::running::making::{make, make_first};
+use ix_model::{Answer, Buf, Reply, Sys};
 use ix_script::Line;
 
-/// Makes a call of the system's seat. `Err` is a stop.
-fn make<S: Sys>(sys: &mut S, entry: &Entry<'_>, buf: &mut Buf) -> Result<Reply, Answer>
-    requires { S.seat sys.old ≡ entry.now.seat }
-    ensures given { IfOk result (λ r. Makes S.seat S.made S.stops S.follows sys.old sys.new (made_so (event_of entry.now) r (take (count_in r) buf.new) ∷ [])) }
-    ensures few { IfOk result (λ r. count_in r ≤ 4096) }
-    ensures stop { IfErr result (λ stop. Stops S.seat S.made S.stops S.stopped S.follows sys.old sys.new [] stop) }
-    ensures full { IfErr result (λ stop. FullFor (event_of entry.now).op stop) }
-{
-    match sys.call(entry.line, entry.pid, &entry.call, buf) {
-        Answer::Given(reply) => Ok(reply),
-        Answer::JournalFull { used, need, cap } => Err(Answer::JournalFull { used, need, cap }),
-        Answer::NoMemory => Err(Answer::NoMemory),
-    }
-}
-
 /// Makes the second call of a line of a seat's lane, if it asks for one once its first call was answered, with the bytes at
-/// the front of the buffer.
+/// the front of the buffer. It is kept out of its caller, as few lines ask for two.
+#[inline(never)]
 fn make_second<S: Sys>(
     sys: &mut S,
     header: &Numbers<u32>,
@@ -55,8 +42,36 @@ fn make_second<S: Sys>(
         return Ok(());
     };
     let mut spare = [0; 4096];
-    make(sys, &entry, &mut spare)?;
+    make(sys, entry.line, entry.pid, &entry.call, &mut spare)?;
     Ok(())
+}
+
+/// Makes the second call of a line of a seat's lane, if it asks for one once its first call was answered, with the bytes at
+/// the front of the buffer.
+#[tactic(auto, unfolding(crate::specs::asking::Asked::asked_then))]
+fn make_then<S: Sys>(
+    sys: &mut S,
+    header: &Numbers<u32>,
+    places: &Places,
+    seat: u32,
+    number: u32,
+    line: &Line<'_>,
+    reply: &Reply,
+    buf: &Buf,
+) -> Result<(), Answer>
+    requires seat { S.seat sys.old ≡ seat }
+    requires few { count_in reply.now ≤ 4096 }
+    ensures done { OnOk result ((more : List Made) × Makes S.seat S.made S.stops S.follows sys.old sys.new more
+        × MakesIt (option_map (entry_of seat number) (asked_then header.now (standing places.now) line.now
+        (record { reply = reply.now; bytes = take (count_in reply.now) buf.now }))) more) }
+    ensures stop { IfErr result (λ stop. Stops S.seat S.made S.stops S.stopped S.follows sys.old sys.new [] stop) }
+    ensures at { IfErr result (λ stop. StopsAt (option_map (entry_of seat number) (asked_then header.now (standing places.now) line.now
+        (record { reply = reply.now; bytes = take (count_in reply.now) buf.now }))) stop) }
+{
+    match line {
+        Line::Copy { .. } => make_second(sys, header, places, seat, number, line, reply, buf),
+        _ => Ok(()),
+    }
 }
 
 /// Makes the calls of a line of a seat's lane, if it asks for any, and binds the names that it gives. What the line writes is put
@@ -80,11 +95,20 @@ pub fn run_line<S: Sys>(
     ensures keeps { KeepsPlaces places.old places.new }
 {
     let count = put_written(line, payload);
-    let Some(entry) = entry_asked(header, places, seat, number, line, &payload[..count]) else {
+    let first = make_first(
+        sys,
+        header,
+        places,
+        seat,
+        number,
+        line,
+        &payload[..count],
+        buf,
+    )?;
+    let Some(reply) = first else {
         return Ok(());
     };
-    let reply = make(sys, &entry, buf)?;
-    make_second(sys, header, places, seat, number, line, &reply, buf)?;
+    make_then(sys, header, places, seat, number, line, &reply, buf)?;
     bind(places, line, &reply);
     Ok(())
 }

@@ -1,22 +1,11 @@
-use Rattle.std.proofs.Common.{List, sym, ap, ◌∙◌}
-use Rattle.ix_script.specs.declared.line.Line.{Line}
+use Rattle.std.proofs.Common.{sym, ◌∙◌}
 use Rattle.ix_script.specs.lines.Before.{lanes_of}
 use Rattle.ix_lanes.specs.histories.Indexed.{line_in}
-use Rattle.ix_lanes.specs.histories.Serial.{seat_after}
-use Rattle.ix_lanes.proofs.found.Indexed.{is_there}
-use Rattle.ix_lanes.proofs.found.Roles.{line-is, seat-begun, seat-left}
+use Rattle.ix_lanes.proofs.found.Roles.{seat-begun, seat-left}
 use Rattle.ix_lanes.proofs.lanes.seat_past.Goals as goal
 
 pub returns-in-Phase : goal.returns-in-Phase
 returns-in-Phase c = sym (seat-begun (lanes_of c.args.script.now) c.args.seat (line_in c.args.script.now c.args.index) (sym c.requires.role ∙ c.in-Phase.is))
-
-pub returns-in-Some : goal.returns-in-Some
-returns-in-Some c =
-    let s : List Line = c.args.script.now in
-    c.seat_after.ensures ∙ ap (λ l. seat_after (lanes_of s) c.args.seat l) (line-is s c.args.index c.in-Some.line (sym c.in-Some.ensures))
-
-pub returns-in-None : goal.returns-in-None
-returns-in-None c = absurd (is_there c.args.script.now c.args.index c.requires.within (sym c.line_at.ensures ∙ c.in-None.is))
 
 pub returns-in_default : goal.returns-in_default
 returns-in_default c =
