@@ -1,8 +1,10 @@
--- Bytes as pairs of digits.
-use Rattle.std.proofs.Common.{◌≡◌, ℕ, suc, ◌+◌, ◌<◌, List, [], ◌∷◌, ◌++◌, length, take, drop, refl, sym, ap, ◌∙◌, arith, append_assoc}
+-- Bytes and numbers as pairs of digits.
+use Rattle.std.proofs.Common.{◌≡◌, ℕ, suc, ◌+◌, ◌/◌, ◌%◌, ◌<◌, ◌≤◌, ◌^◌, List, [], ◌∷◌, ◌++◌, length, take, drop, refl, sym, ap, ◌∙◌, arith, append_assoc}
 use Rattle.std.proofs.Math.ListN.{set, length-set}
 use Rattle.std.proofs.Math.Seq.{take-suc-set}
 use Rattle.std.proofs.lemmas.List.{take-append-drop}
+use Rattle.std.proofs.lemmas.Fmt.{decimal_digit, decimal_step, length-decimal-le}
+use Rattle.std.specs.Fmt.{decimal}
 use Rattle.std.proofs.lemmas.Grind.{flat_map-append}
 use Rattle.ix_script.specs.texts.Spellings.{hex_pair}
 use Rattle.ix_report.specs.Hex.{hex}
@@ -17,3 +19,11 @@ take_two xs n a b h =
 -- the first bytes, and the others
 pub parts_hex : (bytes : List ℕ) (n : ℕ) → hex (take n bytes) ++ hex (drop n bytes) ≡ hex bytes
 parts_hex bytes n = sym (flat_map-append hex_pair (take n bytes) (drop n bytes)) ∙ ap hex (take-append-drop n bytes)
+
+-- a number of two digits
+pub decimal_two : (n : ℕ) → 10 ≤ n → n < 100 → decimal n ≡ (48 + n / 10) ∷ (48 + n % 10) ∷ []
+decimal_two n h l = decimal_step n h (omega arith) ∙ ap (λ ds. ds ++ (48 + n % 10) ∷ []) (decimal_digit (n / 10) (omega arith))
+
+-- a number of 64 bits has at most 20 digits
+pub decimal_fits : (n : ℕ) → n < 2 ^ 64 → length (decimal n) ≤ 20
+decimal_fits n h = length-decimal-le 20 n (omega arith) (omega arith) h

@@ -16,6 +16,7 @@ use ix_model::{Call, Fd, Keep, Mode, NoMemory, Path, Pid, PrivSet};
 use ix_script::text::mode_word;
 
 /// A command's word, and the caller. The word ends with the `p` of the pid.
+#[inline(always)]
 fn push_command(line: &mut Line, word: &[u8], pid: Pid) -> Result<(), NoMemory>
     ensures stays { line.new.before ≡ line.old.before }
     ensures text { OnOk result (line.new.text ≡ line.old.text ++ (word.now ++ decimal pid.0)) }

@@ -35,6 +35,7 @@ impl Line {
     }
 
     /// Writes the bytes at the line's end. After `NoMemory` what stood before the line is still there.
+    #[inline(always)]
     pub fn push(&mut self, bytes: &[u8]) -> Result<(), NoMemory>
         ensures stays { self.new.before ≡ self.old.before }
         ensures text { OnOk result (self.new.text ≡ self.old.text ++ bytes.now) }
@@ -46,6 +47,7 @@ impl Line {
     }
 
     /// Writes one byte at the line's end, as `push` does.
+    #[inline(always)]
     pub fn push_byte(&mut self, byte: u8) -> Result<(), NoMemory>
         ensures stays { self.new.before ≡ self.old.before }
         ensures text { OnOk result (self.new.text ≡ self.old.text ++ byte ∷ []) }

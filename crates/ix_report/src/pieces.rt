@@ -5,11 +5,12 @@ ghost use Rattle.ix_report.specs.Hex.{hex};
 ghost use Rattle.ix_report.specs.Names.{name_byte, name_text, names_text, path_text};
 
 use crate::line::Line;
-use itoa::Buffer;
+use itoa::{Buffer, write_digits};
 use ix_model::{Name, NoMemory, Path, PrivSet};
 use ix_script::text::{hex_pair, privs_text};
 
-/// A number in decimal. One of a single digit takes a short way.
+/// A number in decimal. One of a single digit takes a short way, which stands where it is called.
+#[inline(always)]
 #[tactic(auto, using(std::proofs::lemmas::Fmt::decimal_digit))]
 pub fn push_number(line: &mut Line, n: u64) -> Result<(), NoMemory>
     ensures stays { line.new.before ≡ line.old.before }
@@ -18,8 +19,34 @@ pub fn push_number(line: &mut Line, n: u64) -> Result<(), NoMemory>
     if n < 10 {
         return line.push_byte(b'0' + n as u8);
     }
+    push_digits(line, n)
+}
+
+/// A number of two digits or more.
+#[inline(never)]
+#[tactic(auto, using(crate::proofs::Pairs::decimal_two))]
+fn push_digits(line: &mut Line, n: u64) -> Result<(), NoMemory>
+    requires { 10 ≤ n }
+    ensures stays { line.new.before ≡ line.old.before }
+    ensures text { OnOk result (line.new.text ≡ line.old.text ++ decimal n) }
+{
+    if n < 100 {
+        let (tens, ones) = (n as u8 / 10, n as u8 % 10);
+        return line.push(&[b'0' + tens, b'0' + ones]);
+    }
     let mut digits = Buffer::new();
     line.push(digits.format(n).as_bytes())
+}
+
+/// A number in decimal and a space after it, written at once.
+#[tactic(auto, using(crate::proofs::Pairs::decimal_fits))]
+pub fn push_spaced(line: &mut Line, n: u64) -> Result<(), NoMemory>
+    ensures stays { line.new.before ≡ line.old.before }
+    ensures text { OnOk result (line.new.text ≡ line.old.text ++ (decimal n ++ codes " ")) }
+{
+    let mut room = [b' '; 21];
+    let start = write_digits(n, &mut room, 20);
+    line.push(&room[start..])
 }
 
 /// Bytes as pairs of small hexadecimal digits, 32 bytes at a time.

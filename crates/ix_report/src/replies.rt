@@ -19,6 +19,7 @@ use ix_model::{AuditLine, Fd, Kind, Name, NoMemory, Obj, Pid, PrivSet, Refusal, 
 use ix_script::text::state_word;
 
 /// A word, which ends with its space, and a number.
+#[inline(always)]
 fn push_word_number(line: &mut Line, word: &[u8], n: u64) -> Result<(), NoMemory>
     ensures stays { line.new.before ≡ line.old.before }
     ensures text { OnOk result (line.new.text ≡ line.old.text ++ (word.now ++ decimal n)) }
@@ -41,18 +42,18 @@ fn push_both_privs(line: &mut Line, cap: PrivSet, lic: PrivSet) -> Result<(), No
 /// The descriptors of a pipe's two ends.
 fn push_two(line: &mut Line, first: Fd, second: Fd) -> Result<(), NoMemory>
     ensures stays { line.new.before ≡ line.old.before }
-    ensures text { OnOk result (line.new.text ≡ line.old.text ++ (codes "two " ++ decimal first.0 ++ codes " " ++ decimal second.0)) }
+    ensures text { OnOk result (line.new.text ≡ line.old.text ++ (codes " = two " ++ decimal first.0 ++ codes " " ++ decimal second.0)) }
 {
-    push_word_number(line, b"two ", u64::from(first.0))?;
+    push_word_number(line, b" = two ", u64::from(first.0))?;
     push_word_number(line, b" ", u64::from(second.0))
 }
 
 /// How many bytes were read, and the bytes.
 fn push_bytes(line: &mut Line, count: u32, bytes: &[u8]) -> Result<(), NoMemory>
     ensures stays { line.new.before ≡ line.old.before }
-    ensures text { OnOk result (line.new.text ≡ line.old.text ++ (codes "bytes " ++ decimal count ++ codes " x" ++ hex bytes.now)) }
+    ensures text { OnOk result (line.new.text ≡ line.old.text ++ (codes " = bytes " ++ decimal count ++ codes " x" ++ hex bytes.now)) }
 {
-    push_word_number(line, b"bytes ", u64::from(count))?;
+    push_word_number(line, b" = bytes ", u64::from(count))?;
     line.push(b" x")?;
     push_hex(line, bytes)
 }
@@ -67,9 +68,9 @@ fn push_object_size(
 ) -> Result<(), NoMemory>
     ensures stays { line.new.before ≡ line.old.before }
     ensures text { OnOk result (line.new.text ≡ line.old.text
-        ++ (codes "stat " ++ decimal obj.0 ++ codes " " ++ kind_text kind ++ codes " " ++ decimal size ++ codes " " ++ decimal links)) }
+        ++ (codes " = stat " ++ decimal obj.0 ++ codes " " ++ kind_text kind ++ codes " " ++ decimal size ++ codes " " ++ decimal links)) }
 {
-    push_word_number(line, b"stat ", u64::from(obj.0))?;
+    push_word_number(line, b" = stat ", u64::from(obj.0))?;
     line.push_byte(b' ')?;
     line.push(kind_word(kind))?;
     push_word_number(line, b" ", size)?;
@@ -90,9 +91,9 @@ fn push_state(line: &mut Line, frozen: bool, cap: PrivSet, lic: PrivSet) -> Resu
 /// An entry of a directory.
 fn push_named(line: &mut Line, name: &Name, obj: Obj) -> Result<(), NoMemory>
     ensures stays { line.new.before ≡ line.old.before }
-    ensures text { OnOk result (line.new.text ≡ line.old.text ++ (codes "entry " ++ name_text name.now ++ codes " " ++ decimal obj.0)) }
+    ensures text { OnOk result (line.new.text ≡ line.old.text ++ (codes " = entry " ++ name_text name.now ++ codes " " ++ decimal obj.0)) }
 {
-    line.push(b"entry ")?;
+    line.push(b" = entry ")?;
     push_name(line, name)?;
     push_word_number(line, b" ", u64::from(obj.0))
 }
@@ -101,9 +102,9 @@ fn push_named(line: &mut Line, name: &Name, obj: Obj) -> Result<(), NoMemory>
 fn push_whole(line: &mut Line, pid: Pid, label: &Label, lic: PrivSet) -> Result<(), NoMemory>
     ensures stays { line.new.before ≡ line.old.before }
     ensures text { OnOk result (line.new.text ≡ line.old.text
-        ++ (codes "whole p" ++ decimal pid.0 ++ codes " " ++ spelling label.now ++ codes " " ++ privs_text lic)) }
+        ++ (codes " = whole p" ++ decimal pid.0 ++ codes " " ++ spelling label.now ++ codes " " ++ privs_text lic)) }
 {
-    push_word_number(line, b"whole p", u64::from(pid.0))?;
+    push_word_number(line, b" = whole p", u64::from(pid.0))?;
     line.push_byte(b' ')?;
     push_label(line, label)?;
     line.push_byte(b' ')?;
@@ -113,18 +114,18 @@ fn push_whole(line: &mut Line, pid: Pid, label: &Label, lic: PrivSet) -> Result<
 /// A child that has ended.
 fn push_child(line: &mut Line, pid: Pid, status: u8) -> Result<(), NoMemory>
     ensures stays { line.new.before ≡ line.old.before }
-    ensures text { OnOk result (line.new.text ≡ line.old.text ++ (codes "child p" ++ decimal pid.0 ++ codes " " ++ decimal status)) }
+    ensures text { OnOk result (line.new.text ≡ line.old.text ++ (codes " = child p" ++ decimal pid.0 ++ codes " " ++ decimal status)) }
 {
-    push_word_number(line, b"child p", u64::from(pid.0))?;
+    push_word_number(line, b" = child p", u64::from(pid.0))?;
     push_word_number(line, b" ", u64::from(status))
 }
 
 /// A refusal: its number and its name.
 fn push_refusal(line: &mut Line, why: Refusal) -> Result<(), NoMemory>
     ensures stays { line.new.before ≡ line.old.before }
-    ensures text { OnOk result (line.new.text ≡ line.old.text ++ (codes "no " ++ decimal (number_of why) ++ codes " " ++ refusal_text why)) }
+    ensures text { OnOk result (line.new.text ≡ line.old.text ++ (codes " = no " ++ decimal (number_of why) ++ codes " " ++ refusal_text why)) }
 {
-    push_word_number(line, b"no ", u64::from(why.number()))?;
+    push_word_number(line, b" = no ", u64::from(why.number()))?;
     line.push_byte(b' ')?;
     line.push(name_of(why))
 }
@@ -157,15 +158,15 @@ pub fn push_audit(line: &mut Line, audit: &AuditLine) -> Result<(), NoMemory>
     push_both_privs(line, audit.cap, audit.lic)
 }
 
-/// A reply; of one that so many bytes were read, with these bytes.
+/// A reply after its sign; of one that so many bytes were read, with these bytes.
 #[tactic(auto, unfolding(crate::specs::ReplyText::reply_text))]
 pub fn push_reply(line: &mut Line, reply: &Reply, bytes: &[u8]) -> Result<(), NoMemory>
     ensures stays { line.new.before ≡ line.old.before }
-    ensures text { OnOk result (line.new.text ≡ line.old.text ++ reply_text reply.now bytes.now) }
+    ensures text { OnOk result (line.new.text ≡ line.old.text ++ (codes " = " ++ reply_text reply.now bytes.now)) }
 {
     match reply {
-        Reply::Done => line.push(b"done"),
-        Reply::Number(n) => push_word_number(line, b"number ", *n),
+        Reply::Done => line.push(b" = done"),
+        Reply::Number(n) => push_word_number(line, b" = number ", *n),
         Reply::Two(first, second) => push_two(line, *first, *second),
         Reply::Bytes(count) => push_bytes(line, *count, bytes),
         Reply::Stat {
@@ -181,14 +182,14 @@ pub fn push_reply(line: &mut Line, reply: &Reply, bytes: &[u8]) -> Result<(), No
             push_state(line, *frozen, *cap, *lic)
         }
         Reply::Lab(label) => {
-            line.push(b"label ")?;
+            line.push(b" = label ")?;
             push_label(line, label)
         }
         Reply::Named { name, obj } => push_named(line, name, *obj),
-        Reply::Half => line.push(b"half"),
+        Reply::Half => line.push(b" = half"),
         Reply::Whole { pid, label, lic } => push_whole(line, *pid, label, *lic),
         Reply::LogLine(audit) => {
-            line.push(b"log ")?;
+            line.push(b" = log ")?;
             push_audit(line, audit)
         }
         Reply::Child { pid, status } => push_child(line, *pid, *status),

@@ -8,7 +8,7 @@ ghost use Rattle.ix_report.specs.LineText.{audit_line, entry_line, head_line, ob
 use crate::calls::push_call;
 use crate::labels::push_label;
 use crate::line::Line;
-use crate::pieces::push_number;
+use crate::pieces::{push_number, push_spaced};
 use crate::replies::{push_audit, push_reply};
 use crate::words::{kind_word, life_word};
 use ix_label::Label;
@@ -121,14 +121,11 @@ fn push_entry(
     ensures text { (seat : ℕ) → OnOk result (line.new.text ≡ line.old.text
         ++ entry_line place lane.now (entry seat number pid (op_of call.now)) reply.now bytes.now (option_copied label.entry)) }
 {
-    push_number(line, u64::from(place))?;
-    line.push_byte(b' ')?;
+    push_spaced(line, u64::from(place))?;
     line.push(lane)?;
     line.push_byte(b' ')?;
-    push_number(line, u64::from(number))?;
-    line.push_byte(b' ')?;
+    push_spaced(line, u64::from(number))?;
     push_call(line, pid, call)?;
-    line.push(b" = ")?;
     push_reply(line, reply, bytes)?;
     line.push(b" @ ")?;
     push_seen(line, label)?;
