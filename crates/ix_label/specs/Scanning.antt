@@ -21,6 +21,11 @@ pub record RunsTo (s : Categories) (first last : ℕ) : Type 0 where
   pub small : last < 256
   pub end : last + 1 < 256 → has s (last + 1) ≡ false
 
+-- the first run of categories at or above a place, if there is one: its first and its last
+abbrev pub RunFrom : Categories → ℕ → Option (ℕ × ℕ) → Type 0
+RunFrom s from (Some (first, last)) = IsFirstFrom s from first × RunsTo s first last
+RunFrom s from None = (q : ℕ) → from ≤ q → q < 256 → has s q ≡ false
+
 -- what stands before one more item: the text and, where there is any, a comma
 unfoldable pub comma_after : List ℕ → List ℕ
 comma_after [] = []

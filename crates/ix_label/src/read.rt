@@ -1,9 +1,9 @@
-ghost use Rattle.std.specs.Prelude.{◌≡◌, ◌+◌, ◌<◌, ◌≤◌, ◌&&◌, ◌||◌, ◌↔◌, ℕ, true, IsTrue, slice_get, nat_le, length, IfOk, MatchOption, codes, false};
+ghost use Rattle.std.specs.Prelude.{◌≡◌, ◌+◌, ◌<◌, ◌≤◌, ◌↔◌, ℕ, true, IsTrue, slice_get, length, IfOk, MatchOption, codes, false};
 ghost use Rattle.std.specs.List.{list_all, prefix_len};
 ghost use Rattle.std.specs.Result.{result_err};
 ghost use Rattle.std.specs.Char.{is_ascii_digit};
 ghost use Rattle.std.specs.Str.Parse.{digits_value};
-ghost use Rattle.ix_label.specs.Category.{Categories, IsLabel, has};
+ghost use Rattle.ix_label.specs.Category.{Categories, IsLabel};
 ghost use Rattle.ix_label.specs.Spelling.{spelling};
 ghost use Rattle.ix_label.specs.Faults.{digits, is_bad, is_text, fault_of};
 ghost use Rattle.ix_label.specs.Reading.{NumberRead, BeginsItem, ItemRead, ItemsRead, order_fault, IsByteOf};
@@ -47,18 +47,6 @@ impl Label {
         } else {
             read_items(text)
         }
-    }
-
-    /// This label and the categories from `first` to `last`.
-    fn with_run(self, first: u8, last: u8) -> Label
-        requires { first ≤ last }
-        ensures { (q : ℕ) → has result q ≡ (has self q || (nat_le first q && nat_le q last)) }
-    {
-        let mut label = self;
-        for cat in first..last {
-            label = label.with(cat);
-        }
-        label.with(last)
     }
 }
 

@@ -1,7 +1,7 @@
 ghost use Rattle.std.specs.Prelude.{◌≡◌, ◌+◌, ◌≤◌, [], length, true};
 ghost use Rattle.ix_label.specs.Category.{has};
 ghost use Rattle.ix_label.specs.Spelling.{spelling, items, runs};
-ghost use Rattle.ix_label.specs.Scanning.{FirstFrom, RunsTo};
+ghost use Rattle.ix_label.specs.Scanning.{FirstFrom, RunsTo, RunFrom};
 
 use crate::label::Label;
 use crate::steps::Steps;
@@ -30,6 +30,23 @@ impl Label {
         }
     }
 
+    /// The first run of categories at or above `from`, as its first and its last category; `None` where there is none.
+    pub fn run_from<L: Ledger>(&self, from: u16, steps: &mut Steps<L>) -> Option<(u8, u8)>
+        ensures run { RunFrom self.now from result }
+        ensures cost { steps.new ≡ steps.old + 1 }
+    {
+        steps.tick();
+        self.next_run(from)
+    }
+
+    /// What [`run_from`](Label::run_from) answers, with no step.
+    fn next_run(&self, from: u16) -> Option<(u8, u8)>
+        ensures { RunFrom self.now from result }
+    {
+        let first = self.first_from(from)?;
+        Some((first, self.last_of_run(first)))
+    }
+
     /// Writes the items of the longest runs.
     fn push_runs(&self, out: &mut LabelText)
         requires { out.old ≡ [] }
@@ -38,8 +55,7 @@ impl Label {
     {
         self.is_label();
         let mut from = 0;
-        while let Some(first) = self.first_from(from) {
-            let last = self.last_of_run(first);
+        while let Some((first, last)) = self.next_run(from) {
             out.push_item(first, last);
             from = last as u16 + 1;
         }

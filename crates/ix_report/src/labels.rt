@@ -1,7 +1,5 @@
-ghost use Rattle.std.specs.Prelude.{◌≡◌, ℕ, ◌≤◌, ◌<◌, ◌++◌, ◌&&◌, ◌||◌, nat_le, true, OnOk};
-ghost use Rattle.ix_label.specs.Category.{has};
+ghost use Rattle.std.specs.Prelude.{◌≡◌, ◌<◌, ◌++◌, OnOk};
 ghost use Rattle.ix_label.specs.Spelling.{spelling, item, items, runs};
-ghost use Rattle.ix_label.specs.Scanning.{FirstFrom, RunsTo};
 ghost use Rattle.ix_report.specs.Items.{separator};
 
 use crate::line::Line;
@@ -51,12 +49,11 @@ fn push_runs<L: Ledger>(
     let mut told = Label::bottom();
     let mut from = 0;
     'runs: while !told.same(label, steps) {
-        let Some(first) = first_from(label, from, steps) else {
+        let Some((first, last)) = label.run_from(from, steps) else {
             return Ok(());
         };
-        let last = last_of_run(label, first, steps);
         push_item(line, from, first, last)?;
-        told = with_run(told, first, last);
+        told = told.with_run(first, last);
         from = last as u16 + 1;
     }
     Ok(())
@@ -85,41 +82,4 @@ fn push_run(line: &mut Line, first: u8, last: u8) -> Result<(), NoMemory>
     }
     line.push_byte(b'-')?;
     push_number(line, u64::from(last))
-}
-
-/// The first category of the label that is at or above `from`.
-fn first_from<L: Ledger>(label: &Label, from: u16, steps: &mut Steps<L>) -> Option<u8>
-    ensures { FirstFrom label.now from result }
-{
-    for cat in from..256 {
-        if label.has(cat as u8, steps) {
-            return Some(cat as u8);
-        }
-    }
-    None
-}
-
-/// The last category of the run that `first` is in.
-fn last_of_run<L: Ledger>(label: &Label, first: u8, steps: &mut Steps<L>) -> u8
-    requires { has label.now first ≡ true }
-    ensures { RunsTo label.now first result }
-{
-    for cat in first..255 {
-        if !label.has(cat + 1, steps) {
-            return cat;
-        }
-    }
-    255
-}
-
-/// The label and a run of categories more.
-fn with_run(label: Label, first: u8, last: u8) -> Label
-    requires { first ≤ last }
-    ensures { (q : ℕ) → has result q ≡ (has label q || (nat_le first q && nat_le q last)) }
-{
-    let mut more = label;
-    for cat in first..last {
-        more = more.with(cat);
-    }
-    more.with(last)
 }
