@@ -158,7 +158,8 @@ impl Inodes {
     }
 
     /// Copies the bytes of a file from `at` on into the front of `out`, as many as there are and it holds, and answers
-    /// their number; the rest of `out` stays. The cost is that of the bytes, and a step for each block before them.
+    /// their number; the rest of `out` stays. The cost is that of the bytes, and a step for each block between them and the nearer
+    /// end of the file.
     pub fn read(&self, obj: Obj, at: u64, out: &mut [u8]) -> usize
         requires { IsTrue (is_file_at obj.0 self.now) }
         ensures count { result ≡ min (length out.old) (length (drop at (bytes_at obj.0 self.now))) }
@@ -183,7 +184,7 @@ impl Inodes {
     /// 1,048,576 bytes, and a gap before them reads as zeros. A write of no bytes changes nothing.
     ///
     /// `NoSpace`, with no change, exactly where the file would need more blocks than it has and are free on its file
-    /// system. The cost is that of the bytes and the gap, and a step for each block before them.
+    /// system. The cost is that of the bytes and the gap, and a step for each block between them and the nearer end of the file.
     pub fn write(&mut self, obj: Obj, at: u64, bytes: &[u8]) -> Result<(), NoSpace>
         requires file { IsTrue (is_file_at obj.0 self.old) }
         requires most { length_after obj.0 at (length bytes.now) self.old ≤ most }
