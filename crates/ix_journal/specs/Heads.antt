@@ -1,11 +1,14 @@
 -- How a call lies in a journal: a head of fixed size, and its words, which are the names of its paths or the bytes that it writes.
-use Rattle.std.specs.Prelude.{ℕ, ◌≤◌, IsTrue, List, [], ◌∷◌, ◌++◌, length}
+use Rattle.std.specs.Prelude.{◌≡◌, ℕ, ◌+◌, ◌≤◌, IsTrue, List, [], ◌∷◌, ◌++◌, length}
 use Rattle.std.specs.List.{list_all}
 use Rattle.ix_model.specs.world.Naming.{PathOf, is_name}
 use Rattle.ix_model.specs.laws.Looked.{paths_of}
 use Rattle.ix_model.specs.history.Events.{Op}
 use Rattle.ix_model.specs.history.Events as op
+use Rattle.ix_model.specs.history.Cost.{cost_of_path, cost_of_words}
 use Rattle.ix_journal.specs.Names.{packed, past, path_at, IsPathAt}
+use Rattle.ix_journal.specs.declared.words.Words.{Words}
+use Rattle.ix_journal.specs.declared.words.Words.TheVariants as words
 use Rattle.ix_journal.specs.declared.record.Shape.{Shape}
 use Rattle.ix_journal.specs.declared.record.OnPath.{OnPath}
 use Rattle.ix_journal.specs.declared.record.OnPath.TheVariants as on
@@ -25,6 +28,19 @@ names_of (path ∷ next ∷ paths) = packed path.names ++ names_of (next ∷ pat
 abbrev pub words_of : Op → List ℕ
 words_of (op.WriteFd fd bytes) = bytes
 words_of o = names_of (paths_of o)
+
+-- what the words of a call cost, what they are packed as, and the paths in them
+pub record HasWords (o : Op) (n : ℕ) (bytes : List ℕ) (ps : List PathOf) : Type 0 where
+  pub cost : cost_of_words o ≡ n
+  pub words : words_of o ≡ bytes
+  pub paths : paths_of o ≡ ps
+
+-- these are the words of a call
+abbrev pub AreWordsOf : Op → Words → Type 0
+AreWordsOf o words.None = HasWords o 0 [] []
+AreWordsOf o (words.Bytes bytes) = HasWords o (length bytes.now) bytes.now []
+AreWordsOf o (words.Path path) = HasWords o (cost_of_path path.now) (packed path.now.names) (path.now ∷ [])
+AreWordsOf o (words.Paths first second) = HasWords o (cost_of_path first.now + cost_of_path second.now) (packed first.now.names ++ packed second.now.names) (first.now ∷ second.now ∷ [])
 
 -- ---- heads
 abbrev pub shape_of : PathOf → Shape

@@ -2,6 +2,7 @@ ghost use Rattle.std.specs.Prelude.{◌≡◌, ◌≤◌};
 ghost use Rattle.ix_model.specs.history.Calls.{op_of};
 ghost use Rattle.ix_model.specs.history.Cost.{cost_of, cost_of_words};
 
+use crate::words::{Words, words_in};
 use ix_model::Call;
 
 /// What an entry costs besides its words.
@@ -20,23 +21,10 @@ fn cost_of_words(call: &Call<'_>) -> u64
     ensures cost { result ≡ cost_of_words (op_of call.now) }
     ensures fits { result ≤ 9223372036854775807 }
 {
-    match call {
-        Call::WriteFd { bytes, .. } => bytes.len() as u64,
-        Call::LinkAt { target, path } => target.cost() + path.cost(),
-        Call::CreateAt { path }
-        | Call::OpenAt { path, .. }
-        | Call::MakeDir { path }
-        | Call::UnlinkAt { path }
-        | Call::RemoveDir { path }
-        | Call::ChangeDir { path }
-        | Call::StatAt { path }
-        | Call::ListAt { path, .. }
-        | Call::Exec { path }
-        | Call::LabelOf { path }
-        | Call::SetLabel { path, .. }
-        | Call::Freeze { path }
-        | Call::Thaw { path }
-        | Call::SetPriv { path, .. } => path.cost(),
-        _ => 0,
+    match words_in(call) {
+        Words::None => 0,
+        Words::Bytes(bytes) => bytes.len() as u64,
+        Words::Path(path) => path.cost(),
+        Words::Paths(first, second) => first.cost() + second.cost(),
     }
 }

@@ -7,5 +7,6 @@ mod names;
 mod packing;
 mod record;
 mod unpacking;
+mod words;
 
 pub use journal::Journal;

@@ -6,6 +6,7 @@ ghost use Rattle.ix_journal.specs.Heads.{head_of, shape_of, words_of, AreNamed};
 
 use crate::names::{put, put_path, put_paths};
 use crate::record::{Alone, Head, OnPath, Shape};
+use crate::words::{Words, words_in};
 use ix_model::{Call, Path};
 
 /// A path without its names.
@@ -89,23 +90,10 @@ pub fn put_words(words: &mut Vec<u8>, call: &Call<'_>)
     ensures room { vec_capacity words.old ≤ vec_capacity words.new }
     ensures named { AreNamed (paths_of (op_of call.now)) }
 {
-    match call {
-        Call::WriteFd { bytes, .. } => put(words, bytes),
-        Call::LinkAt { target, path } => put_paths(words, target, path),
-        Call::CreateAt { path }
-        | Call::OpenAt { path, .. }
-        | Call::MakeDir { path }
-        | Call::UnlinkAt { path }
-        | Call::RemoveDir { path }
-        | Call::ChangeDir { path }
-        | Call::StatAt { path }
-        | Call::ListAt { path, .. }
-        | Call::Exec { path }
-        | Call::LabelOf { path }
-        | Call::SetLabel { path, .. }
-        | Call::Freeze { path }
-        | Call::Thaw { path }
-        | Call::SetPriv { path, .. } => put_path(words, path),
-        _ => {}
+    match words_in(call) {
+        Words::None => {}
+        Words::Bytes(bytes) => put(words, bytes),
+        Words::Path(path) => put_path(words, path),
+        Words::Paths(first, second) => put_paths(words, first, second),
     }
 }

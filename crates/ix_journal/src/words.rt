@@ -1,0 +1,39 @@
+ghost use Rattle.std.specs.Prelude.{◌≡◌};
+ghost use Rattle.ix_model.specs.history.Calls.{op_of};
+ghost use Rattle.ix_journal.specs.Heads.{AreWordsOf};
+
+use ix_model::{Call, Path};
+
+/// The words of a call: the bytes that it writes, or the paths that it names.
+pub enum Words<'c> {
+    None,
+    Bytes(&'c [u8]),
+    Path(&'c Path),
+    Paths(&'c Path, &'c Path),
+}
+
+/// The words of a call.
+pub fn words_in<'c>(call: &'c Call<'_>) -> Words<'c>
+    ensures { AreWordsOf (op_of call.now) result }
+{
+    match call {
+        Call::WriteFd { bytes, .. } => return Words::Bytes(bytes),
+        Call::LinkAt { target, path } => return Words::Paths(target, path),
+        Call::CreateAt { path }
+        | Call::OpenAt { path, .. }
+        | Call::MakeDir { path }
+        | Call::UnlinkAt { path }
+        | Call::RemoveDir { path }
+        | Call::ChangeDir { path }
+        | Call::StatAt { path }
+        | Call::ListAt { path, .. }
+        | Call::Exec { path }
+        | Call::LabelOf { path }
+        | Call::SetLabel { path, .. }
+        | Call::Freeze { path }
+        | Call::Thaw { path }
+        | Call::SetPriv { path, .. } => return Words::Path(path),
+        _ => {}
+    }
+    Words::None
+}
