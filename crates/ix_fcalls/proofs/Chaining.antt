@@ -1,5 +1,5 @@
 -- Rows whose words pass, one after another.
-use Rattle.std.proofs.Common.{◌≡◌, ◌==◌, ℕ, Bool, true, false, not, length, slice_get, Option, Some, None, refl, sym, ap, ◌∙◌}
+use Rattle.std.proofs.Common.{◌≡◌, ◌==◌, ℕ, Bool, true, false, not, List, length, slice_get, Option, Some, None, refl, sym, ap, ◌∙◌}
 use Rattle.std.specs.List.{list_any}
 use Rattle.ix_label.specs.Category.{bottom}
 use Rattle.ix_model.specs.world.World.{Frame, Object, at, put, change, is_dir}
@@ -172,3 +172,14 @@ list_ends pid index path f m l o x led there dir seen past =
     ∙ then_is (need (is_dir x) refusal.NotDir) _ m m tt (need_is _ _ m dir)
     ∙ then_is (observe pid x.label) _ m l tt seen
     ∙ bind_refused (some (slice_get x.names index) refusal.EndOfList) _ l l refusal.EndOfList (none_is _ _ l past)
+
+-- at a name
+pub list_is : (pid index : ℕ) (path : PathOf) (f m l : Frame) (o : ℕ) (x : Object) (n : List ℕ × ℕ) → object_at pid path f ≡ Pass o m → at m.objects o ≡ Some x → is_dir x ≡ true → observe pid x.label m ≡ Pass tt l → slice_get x.names index ≡ Some n → list_at pid path index f ≡ Pass (reply.Named n.0 (record { 0 = n.1 })) l
+unfolding list_at
+list_is pid index path f m l o x n led there dir seen named =
+    bind_is (object_at pid path) _ f m o led
+    ∙ bind_is (object o) _ m m x (object_is m o x there)
+    ∙ then_is (need (is_dir x) refusal.NotDir) _ m m tt (need_is _ _ m dir)
+    ∙ then_is (observe pid x.label) _ m l tt seen
+    ∙ bind_is (some (slice_get x.names index) refusal.EndOfList) _ l l n (some_is _ _ l n named)
+    ∙ pass_is _ l l refl

@@ -31,4 +31,5 @@ pub mod KnownRow
 pub mod KnownSteps
 pub mod Chaining
 pub mod Leading
+pub mod Standing
 pub mod Unnaming

@@ -85,10 +85,7 @@ impl Files {
     pub(crate) fn is_pipe(&self, n: u32) -> bool
         ensures { result ≡ is_pipe (node self.now.objects n) }
     {
-        match self.tables.object(n) {
-            Some(x) => x.is_pipe(),
-            None => false,
-        }
+        self.tables.is_pipe(n)
     }
 
     /// Whether the caller has a descriptor on an end.

@@ -32,10 +32,7 @@ impl Files {
         ensures back { OnErr result (self.new ≡ self.old) }
         ensures kept { Keeps self.old self.new }
     {
-        let dir = self.object_at(who, path, steps)?;
-        let Some(x) = self.tables.object(dir) else {
-            return Err(Refusal::BadFd);
-        };
+        let (dir, x) = self.object_row_at(who, path, steps)?;
         if !matches!(x.kind, Kind::Dir) {
             return Err(Refusal::NotDir);
         }

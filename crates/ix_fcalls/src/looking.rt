@@ -28,10 +28,7 @@ impl Files {
         ensures back { OnErr result (self.new ≡ self.old) }
         ensures kept { Keeps self.old self.new }
     {
-        let object = self.object_at(who, path, steps)?;
-        let Some(x) = self.tables.object(object) else {
-            return Err(Refusal::BadFd);
-        };
+        let (object, x) = self.object_row_at(who, path, steps)?;
         self.observe(who, &x.float.label, steps)?;
         Ok(Reply::Stat {
             obj: Obj(object),
@@ -61,10 +58,7 @@ impl Files {
         ensures back { OnErr result (self.new ≡ self.old) }
         ensures kept { Keeps self.old self.new }
     {
-        let object = self.object_at(who, path, steps)?;
-        let Some(x) = self.tables.object(object) else {
-            return Err(Refusal::BadFd);
-        };
+        let (object, x) = self.object_row_at(who, path, steps)?;
         let Kind::Dir = x.kind else {
             return Err(Refusal::NotDir);
         };

@@ -66,10 +66,7 @@ impl Files {
         ensures back { OnErr result (self.new ≡ self.old) }
         ensures kept { Keeps self.old self.new }
     {
-        let object = self.object_at(who, path, steps)?;
-        let Some(x) = self.tables.object(object) else {
-            return Err(Refusal::BadFd);
-        };
+        let (object, x) = self.object_row_at(who, path, steps)?;
         if matches!(x.kind, Kind::Dir) {
             return Err(Refusal::IsDir);
         }

@@ -1,7 +1,10 @@
-ghost use Rattle.std.specs.Prelude.{◌≡◌, ℕ, IsSome, ◌+◌, ◌<◌, drop, length, OnOk, IfOk};
+ghost use Rattle.std.specs.Prelude.{◌≡◌, ℕ, Some, IsSome, ◌+◌, ◌<◌, drop, length, OnOk, IfOk};
+ghost use Rattle.ix_model.specs.laws.Sound.{Sound};
+ghost use Rattle.ix_model.specs.rows.OnPaths.{links_of};
 ghost use Rattle.ix_model.specs.rows.Outcomes.{RowIs, RowMeans};
-ghost use Rattle.ix_model.specs.rows.Walks.{walk, walked_to, found_object, vacant, object_at, spot_at, missing, lacking};
-ghost use Rattle.ix_fcalls.specs.Around.{frame_of};
+ghost use Rattle.ix_model.specs.rows.Walks.{walk, walked_to, node, found_object, vacant, object_at, spot_at, missing, lacking};
+ghost use Rattle.ix_tables.specs.Meanings.{Shows, frame_alone, object_by};
+ghost use Rattle.ix_fcalls.specs.Around.{frame_of, world_of};
 ghost use Rattle.ix_fcalls.specs.Counted.{IsCounted};
 ghost use Rattle.ix_fcalls.specs.Meanings.{NamedWell, sought_of, spot_of, seen_of, seen_in};
 
@@ -9,6 +12,7 @@ use crate::files::Files;
 use crate::who::{Rest, Who};
 use ix_label::{Label, Steps};
 use ix_model::{Caller, Obj, Path, Refusal};
+use ix_tables::ObjectRow;
 use std::sync::ledger::Ledger;
 
 /// Where a walk ends.
@@ -109,6 +113,30 @@ impl Files {
     {
         let walked = self.walked_to(who, path, steps)?;
         self.found_object(who, walked)
+    }
+
+    /// The number of the object of a path, which must be there, and what is told of it. In a sound world one stands
+    /// wherever a walk ends.
+    #[tactic(auto, using(crate::proofs::Standing::stands_found))]
+    pub(crate) fn object_row_at<R: Rest, L: Ledger>(
+        &self,
+        who: &mut Who<R>,
+        path: &Path,
+        steps: &mut Steps<L>,
+    ) -> Result<(u32, ObjectRow), Refusal>
+        requires sound { Sound (world_of R.rest self.now who.old) }
+        requires counted { IsCounted self.now who.old }
+        ensures row { RowMeans (λ r. r.0) result (frame_of R.rest self.now who.new) (object_at R.rest.pid path.now (frame_of R.rest self.now who.old)) }
+        ensures object { IfOk result (λ r. Shows self.now.objects r.0 (Some r.1)) }
+        ensures links { IfOk result (λ r. r.1.links ≡ links_of (frame_alone self.now) r.0 (object_by (node self.now.objects r.0) r.1)) }
+        ensures within { IfOk result (λ r. r.0 < length self.now.objects) }
+        ensures counted { IsCounted self.now who.new }
+    {
+        let object = self.object_at(who, path, steps)?;
+        let Some(x) = self.tables.object(object) else {
+            return Err(Refusal::BadFd);
+        };
+        Ok((object, x))
     }
 
     /// The object of a path, which must be there, with the directory in which its last name stands.

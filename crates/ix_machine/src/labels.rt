@@ -32,10 +32,7 @@ impl Machine {
         ensures content { self.new.content ≡ self.old.content }
         ensures back { OnErr result (Restores self.old.frame self.new.frame pid.0) }
     {
-        let obj = self.object_at(pid, path, steps)?;
-        let Some(x) = self.object(obj) else {
-            return Err(Refusal::BadFd);
-        };
+        let (_, x) = self.object_row_at(pid, path, steps)?;
         Ok(Reply::Lab(x.float.label))
     }
 
@@ -113,10 +110,7 @@ impl Machine {
         ensures content { self.new.content ≡ self.old.content }
         ensures back { OnErr result (Restores self.old.frame self.new.frame pid.0) }
     {
-        let obj = self.object_at(pid, path, steps)?;
-        let Some(x) = self.object(obj) else {
-            return Err(Refusal::BadFd);
-        };
+        let (obj, x) = self.object_row_at(pid, path, steps)?;
         self.allowed(pid, &x.float.label, label, steps)?;
         self.movable(obj, &x, label, steps)?;
         let lowers = !x.float.label.leq(label, steps);

@@ -27,10 +27,7 @@ impl Machine {
         ensures content { self.new.content ≡ self.old.content }
         ensures back { OnErr result (Restores self.old.frame self.new.frame pid.0) }
     {
-        let obj = self.object_at(pid, path, steps)?;
-        let Some(x) = self.object(obj) else {
-            return Err(Refusal::BadFd);
-        };
+        let (obj, x) = self.object_row_at(pid, path, steps)?;
         if matches!(x.kind, Kind::Dir) {
             return Err(Refusal::IsDir);
         }

@@ -1,19 +1,30 @@
-use Rattle.std.proofs.Common.{◌∙◌, sym, ap}
-use Rattle.ix_model.specs.world.World.{Object, at, is_dir}
+use Rattle.std.proofs.Common.{◌∙◌, sym, ap, slice_get, arith}
+use Rattle.ix_model.specs.world.World.{Object, is_dir}
 use Rattle.ix_model.specs.rows.Walks.{node, nothing}
 use Rattle.ix_model.specs.declared.reply.Kind.{Kind}
 use Rattle.ix_tables.specs.Parts.{Parts}
 use Rattle.ix_tables.specs.Meanings.{object_by}
 use Rattle.ix_fcalls.specs.Around.{frame_of}
-use Rattle.ix_fcalls.proofs.Chaining.{list_ends}
+use Rattle.ix_fcalls.proofs.Chaining.{list_ends, list_is}
 use Rattle.ix_fcalls.proofs.files.Files.list_at.Goals as goal
 
 pub returns-in_default-name_at-clause-row : goal.returns-in_default-name_at-clause-row
 returns-in_default-name_at-clause-row g c =
-    let x : Object = object_by (node c.self.inside.tables.objects c.in_ok-object.object) c.in-Some.x in
-    list_ends g.R.Rest.rest.pid c.args.index c.args.path.now (frame_of g.R.Rest.rest c.args.self.now c.args.who.now) (frame_of g.R.Rest.rest c.args.self.now c.object_at.new.who) (frame_of g.R.Rest.rest c.args.self.now c.observe.new.who) c.in_ok-object.object x
+    let x : Object = object_by (node c.args.self.now.objects c.in_ok-object.object) c.in_ok-object.x in
+    list_ends g.R.Rest.rest.pid c.args.index c.args.path.now (frame_of g.R.Rest.rest c.args.self.now c.args.who.now) (frame_of g.R.Rest.rest c.args.self.now c.object_row_at.new.who) (frame_of g.R.Rest.rest c.args.self.now c.observe.new.who) c.in_ok-object.object x
     c.in_ok-object.ensures.row
-    (ap (λ (v : Parts). at v.objects c.in_ok-object.object) (sym c.self.view_is) ∙ c.in-Some.ensures.object)
+    c.in_ok-object.ensures.object
     (ap (λ (k : Kind). is_dir (record nothing { kind = k })) c.in-Dir.is)
     c.in_ok-observe.ensures.row
-    (sym c.name_at.ensures ∙ c.in_default-name_at.is)
+    (ap (λ (v : Parts). slice_get (node v.objects c.in_ok-object.object).names c.args.index) (sym c.self.view_is) ∙ sym c.name_at.ensures ∙ c.in_default-name_at.is)
+
+pub returns-clause-row : goal.returns-clause-row
+returns-clause-row g c =
+    let x : Object = object_by (node c.args.self.now.objects c.in_ok-object.object) c.in_ok-object.x in
+    let whole = list_is g.R.Rest.rest.pid c.args.index c.args.path.now (frame_of g.R.Rest.rest c.args.self.now c.args.who.now) (frame_of g.R.Rest.rest c.args.self.now c.object_row_at.new.who) (frame_of g.R.Rest.rest c.args.self.now c.observe.new.who) c.in_ok-object.object x _
+    c.in_ok-object.ensures.row
+    c.in_ok-object.ensures.object
+    (ap (λ (k : Kind). is_dir (record nothing { kind = k })) c.in-Dir.is)
+    c.in_ok-observe.ensures.row
+    (ap (λ (v : Parts). slice_get (node v.objects c.in_ok-object.object).names c.args.index) (sym c.self.view_is) ∙ sym c.name_at.ensures ∙ c.in-Some.is) in
+    grind (arith, whole, c.in-Some.name-is, c.in-Some.obj-is)
