@@ -22,11 +22,11 @@ made_of s = made_by s.seat s.core.now
 
 -- how many of its calls stopped
 abbrev pub stops_of : CoreSys → ℕ
-stops_of s = s.stops
+stops_of s = s.stops.count
 
 -- the last stop: a full journal, and what it told
 abbrev pub stopped_of : CoreSys → Answer
-stopped_of s = answer.JournalFull s.used s.need s.cap
+stopped_of s = answer.JournalFull s.stops.used s.stops.need s.stops.cap
 
 -- the same core is borrowed for the same seat, and its history goes on by that seat alone
 abbrev pub Onward : CoreSys → CoreSys → Type 0

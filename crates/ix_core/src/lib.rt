@@ -3,7 +3,9 @@
 
 mod keeper;
 mod marking;
+mod stops;
 mod system;
 
 pub use keeper::Core;
+pub use stops::Stops;
 pub use system::CoreSys;

@@ -3,6 +3,7 @@ ghost use Rattle.ix_model.specs.history.Seats.{made_by, GoesOn};
 ghost use Rattle.ix_core.specs.Stops.{FilledUp};
 
 use crate::keeper::Core;
+use crate::stops::Stops;
 use ix_model::{Answer, Buf, Call, Pid, Sys};
 
 /// What makes calls on a core as one seat, on one thread. It borrows the core.
@@ -14,13 +15,8 @@ use ix_model::{Answer, Buf, Call, Pid, Sys};
 pub struct CoreSys<'a> {
     core: &'a mut Core,
     seat: u32,
-    /// How many calls stopped, at most 2^64 - 1.
-    stops: u64,
-    /// What the last stop told; zeros where there was none.
-    used: u64,
-    need: u64,
-    cap: u64,
-    ghost last: { 0 < stops → FilledUp used cap core.now },
+    stops: Stops,
+    ghost last: { 0 < stops.count → FilledUp stops.used stops.cap core.now },
 }
 
 impl<'a> CoreSys<'a> {
@@ -37,10 +33,7 @@ impl<'a> CoreSys<'a> {
         CoreSys {
             core,
             seat,
-            stops: 0,
-            used: 0,
-            need: 0,
-            cap: 0,
+            stops: Stops::none(),
         }
     }
 }
@@ -73,10 +66,7 @@ impl Sys for CoreSys<'_> {
     fn call(&mut self, line: u32, pid: Pid, call: &Call<'_>, buf: &mut Buf) -> Answer {
         let answer = self.core.call(self.seat, line, pid, call, buf);
         if let Answer::JournalFull { used, need, cap } = answer {
-            self.stops = self.stops.saturating_add(1);
-            self.used = used;
-            self.need = need;
-            self.cap = cap;
+            self.stops.note(used, need, cap);
         }
         answer
     }

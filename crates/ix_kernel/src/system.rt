@@ -2,10 +2,11 @@
 ghost use Rattle.std.specs.Prelude.{◌≡◌, ◌<◌};
 ghost use mathlib.Core.List.{IsPrefix};
 ghost use Rattle.ix_gate.specs.Seat.{after_meeting};
-ghost use Rattle.ix_kernel.specs.Systems.{FilledUp, made_at, GoesOn};
+ghost use Rattle.ix_kernel.specs.Systems.{FilledUp, made_at};
 
 use crate::kernel::Kernel;
 use crate::seat::KSeat;
+use ix_core::Stops;
 use ix_model::{Answer, Buf, Call, Pid, Sys};
 use std::marker::Model;
 use std::sync::Wait;
@@ -19,12 +20,7 @@ pub struct SeatSys<'a, R> {
     kernel: &'a Kernel,
     seat: KSeat,
     rt: &'a R,
-    /// How many calls stopped, at most 2^64 - 1.
-    stops: u64,
-    /// What the last stop told; noughts where there was none.
-    used: u64,
-    need: u64,
-    cap: u64,
+    stops: Stops,
 }
 
 impl<'a, R> Model for SeatSys<'a, R> {
@@ -39,13 +35,13 @@ impl<'a, R> Model for SeatSys<'a, R> {
     ghost view = { λ s. record {
       kernel = s.kernel.now;
       seat = s.seat;
-      stops = s.stops;
-      used = s.used;
-      need = s.need;
-      cap = s.cap;
+      stops = s.stops.count;
+      used = s.stops.used;
+      need = s.stops.need;
+      cap = s.stops.cap;
     } };
 
-    ghost invariant = { λ s. Sits (record { kernel = s.kernel.now; seat = s.seat; stops = s.stops; used = s.used; need = s.need; cap = s.cap }) };
+    ghost invariant = { λ s. Sits (record { kernel = s.kernel.now; seat = s.seat; stops = s.stops.count; used = s.stops.used; need = s.stops.need; cap = s.stops.cap }) };
 }
 
 impl<'a, R> SeatSys<'a, R> {
@@ -58,10 +54,7 @@ impl<'a, R> SeatSys<'a, R> {
             kernel,
             seat,
             rt,
-            stops: 0,
-            used: 0,
-            need: 0,
-            cap: 0,
+            stops: Stops::none(),
         }
     }
 
@@ -89,32 +82,26 @@ impl<'a, R> SeatSys<'a, R> {
 }
 
 impl<R: Wait> Sys for SeatSys<'_, R> {
-    ghost use Rattle.std.specs.Prelude.{refl};
-    ghost use Rattle.std.proofs.Common.{◌∙◌};
-    ghost use Rattle.ix_model.specs.declared.reply.Answer.TheVariants as answer;
-    ghost use Rattle.ix_kernel.specs.Systems.{seat_goes_on_not, seat_goes_on_further};
+    ghost use Rattle.ix_kernel.specs.Systems.{seat_of, made_of, stopped_of, GoesOn, goes_on_not, goes_on_further};
 
-    ghost seat = { λ s. s.seat.number };
+    ghost seat = { seat_of };
 
-    ghost made = { λ s. made_at s.seat };
+    ghost made = { made_of };
 
     ghost stops = { λ s. s.stops };
 
-    ghost stopped = { λ s. answer.JournalFull s.used s.need s.cap };
+    ghost stopped = { stopped_of };
 
-    ghost follows = { λ s t. GoesOn s t };
+    ghost follows = { GoesOn };
 
-    ghost reflexive = { λ s. (refl, seat_goes_on_not s.seat) };
+    ghost reflexive = { goes_on_not };
 
-    ghost transitive = { λ s t u p q. (q.0 ∙ p.0, seat_goes_on_further s.seat t.seat u.seat p.1 q.1) };
+    ghost transitive = { goes_on_further };
 
     fn call(&mut self, line: u32, pid: Pid, call: &Call<'_>, buf: &mut Buf) -> Answer {
         let answer = self.seat.call(self.rt, self.kernel, line, pid, call, buf);
         if let Answer::JournalFull { used, need, cap } = answer {
-            self.stops = self.stops.saturating_add(1);
-            self.used = used;
-            self.need = need;
-            self.cap = cap;
+            self.stops.note(used, need, cap);
         }
         answer
     }

@@ -5,7 +5,7 @@ ghost use Rattle.ix_model.specs.history.Systems.{bytes_in};
 ghost use Rattle.ix_core.specs.Stops.{FilledUp};
 
 use crate::witness::Witness;
-use ix_core::Core;
+use ix_core::{Core, Stops};
 use ix_model::{Answer, Buf, Call, Pid, Reply, Sys};
 
 /// What makes calls on a core as one seat, on one thread, before a witness, which sees each entry as it is made. It borrows both.
@@ -17,13 +17,8 @@ pub struct SeenSys<'a, W: Witness> {
     core: &'a mut Core,
     seat: u32,
     witness: &'a mut W,
-    /// How many calls stopped, at most 2^64 - 1.
-    stops: u64,
-    /// What the last stop told; zeros where there was none.
-    used: u64,
-    need: u64,
-    cap: u64,
-    ghost last: { 0 < stops → FilledUp used cap core.now },
+    stops: Stops,
+    ghost last: { 0 < stops.count → FilledUp stops.used stops.cap core.now },
 }
 
 impl<'a, W: Witness> SeenSys<'a, W> {
@@ -32,16 +27,13 @@ impl<'a, W: Witness> SeenSys<'a, W> {
         ensures core { (result.core.ghost_name ≡ core.entry.ghost_name) × (result.core.now ≡ core.old) }
         ensures witness { (result.witness.ghost_name ≡ witness.entry.ghost_name) × (result.witness.now ≡ witness.old) }
         ensures seat { result.seat ≡ seat }
-        ensures fresh { result.stops ≡ 0 }
+        ensures fresh { result.stops.count ≡ 0 }
     {
         SeenSys {
             core,
             seat,
             witness,
-            stops: 0,
-            used: 0,
-            need: 0,
-            cap: 0,
+            stops: Stops::none(),
         }
     }
 }
@@ -56,9 +48,9 @@ impl<W: Witness> Sys for SeenSys<'_, W> {
 
     ghost made = { λ s. made_by s.seat s.core.now };
 
-    ghost stops = { λ s. s.stops };
+    ghost stops = { λ s. s.stops.count };
 
-    ghost stopped = { λ s. JournalFull s.used s.need s.cap };
+    ghost stopped = { λ s. JournalFull s.stops.used s.stops.need s.stops.cap };
 
     ghost follows = { λ s t. (t.core.ghost_name ≡ s.core.ghost_name) × (t.witness.ghost_name ≡ s.witness.ghost_name) × (t.seat ≡ s.seat)
         × GoesSeen W.knows s.seat s.core.now s.witness.now t.core.now t.witness.now };
@@ -80,10 +72,7 @@ impl<W: Witness> Sys for SeenSys<'_, W> {
                 Answer::Given(reply)
             }
             Answer::JournalFull { used, need, cap } => {
-                self.stops = self.stops.saturating_add(1);
-                self.used = used;
-                self.need = need;
-                self.cap = cap;
+                self.stops.note(used, need, cap);
                 Answer::JournalFull { used, need, cap }
             }
             Answer::NoMemory => Answer::NoMemory,
