@@ -8,6 +8,8 @@ use Rattle.ix_model.specs.history.Cost.{cost_of_history}
 use Rattle.ix_model.specs.history.Made.{Made}
 use Rattle.ix_model.specs.history.Seats.{made_by}
 use Rattle.ix_model.specs.declared.config.Config.{Config}
+use Rattle.ix_model.specs.declared.reply.Answer.{Answer}
+use Rattle.ix_model.specs.declared.reply.Answer.TheVariants as answer
 use Rattle.ix_kernel.specs.Seen.{KSeatState}
 
 -- what contracts see of a seat's system: its kernel and its seat; how many of its calls stopped, and what the last stop told
@@ -31,7 +33,7 @@ pub record SeatGoesOn (old new : KSeatState) : Type 0 where
   pub ended : new.ended ≡ old.ended
   pub seen : IsPrefix old.seen new.seen
 
-pub seat_goes_on_not : (k : KSeatState) → SeatGoesOn k k
+seat_goes_on_not : (k : KSeatState) → SeatGoesOn k k
 seat_goes_on_not k = record { gate = refl; base = refl; number = refl; ended = refl; seen = ([], append-nil k.seen) }
 
 pub seat_goes_on_further : (k l m : KSeatState) → SeatGoesOn k l → SeatGoesOn l m → SeatGoesOn k m
@@ -43,9 +45,25 @@ seat_goes_on_further k l m p q = record {
   seen = (p.seen.0 ++ q.seen.0, sym (append_assoc k.seen p.seen.0 q.seen.0) ∙ ap (λ es. es ++ q.seen.0) p.seen.1 ∙ q.seen.1);
 }
 
--- a system: how it goes on
+-- a system as what makes calls: its seat, what that has made, and the last stop, which is a full journal and what it told
+abbrev pub seat_of : SystemState → ℕ
+seat_of s = s.seat.number
+
+abbrev pub made_of : SystemState → List Made
+made_of s = made_at s.seat
+
+abbrev pub stopped_of : SystemState → Answer
+stopped_of s = answer.JournalFull s.used s.need s.cap
+
+-- and how it goes on
 abbrev pub GoesOn : SystemState → SystemState → Type 0
 GoesOn s t = (t.kernel ≡ s.kernel) × SeatGoesOn s.seat t.seat
+
+pub goes_on_not : (s : SystemState) → GoesOn s s
+goes_on_not s = (refl, seat_goes_on_not s.seat)
+
+pub goes_on_further : (s t u : SystemState) → GoesOn s t → GoesOn t u → GoesOn s u
+goes_on_further s t u p q = (q.0 ∙ p.0, seat_goes_on_further s.seat t.seat u.seat p.1 q.1)
 
 -- What a full journal told fits what a seat has seen since: what was used is at most what that costs, and the journal's room
 -- is its config's.

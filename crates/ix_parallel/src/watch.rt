@@ -90,24 +90,21 @@ impl<'a, R, W> Watched<'a, R, W> {
 }
 
 impl<R: Wait, W: Watch> Sys for Watched<'_, R, W> {
-    ghost use Rattle.std.specs.Prelude.{refl};
-    ghost use Rattle.std.proofs.Common.{◌∙◌};
-    ghost use Rattle.ix_model.specs.declared.reply.Answer.TheVariants as answer;
-    ghost use Rattle.ix_kernel.specs.Systems.{made_at, GoesOn, seat_goes_on_not, seat_goes_on_further};
+    ghost use Rattle.ix_kernel.specs.Systems.{seat_of, made_of, stopped_of, GoesOn, goes_on_not, goes_on_further};
 
-    ghost seat = { λ s. s.seat.number };
+    ghost seat = { seat_of };
 
-    ghost made = { λ s. made_at s.seat };
+    ghost made = { made_of };
 
     ghost stops = { λ s. s.stops };
 
-    ghost stopped = { λ s. answer.JournalFull s.used s.need s.cap };
+    ghost stopped = { stopped_of };
 
-    ghost follows = { λ s t. GoesOn s t };
+    ghost follows = { GoesOn };
 
-    ghost reflexive = { λ s. (refl, seat_goes_on_not s.seat) };
+    ghost reflexive = { goes_on_not };
 
-    ghost transitive = { λ s t u p q. (q.0 ∙ p.0, seat_goes_on_further s.seat t.seat u.seat p.1 q.1) };
+    ghost transitive = { goes_on_further };
 
     fn call(&mut self, line: u32, pid: Pid, call: &Call<'_>, buf: &mut Buf) -> Answer {
         self.watch.before(self.number, line);

@@ -2,7 +2,7 @@
 use Rattle.std.proofs.Common.{◌≡◌, ℕ, suc, ◌<◌, List, Option, Some, None, sym, ap, ◌∙◌, subst, arith}
 use mathlib.Core.List.{IsPrefix}
 use Rattle.ix_gate.specs.Gate.{GateState}
-use Rattle.ix_kernel.specs.Systems.{GoesOn, SeatGoesOn, SystemState, made_at, seat_goes_on_further}
+use Rattle.ix_kernel.specs.Systems.{GoesOn, SeatGoesOn, SystemState, made_of, made_at, seat_of, stopped_of, seat_goes_on_further}
 use Rattle.ix_model.specs.history.Events.{Event}
 use Rattle.ix_model.specs.history.Made.{Made}
 use Rattle.ix_model.specs.history.Seats.{made_by}
@@ -24,7 +24,7 @@ use Rattle.ix_parallel.proofs.together.Seen.{made_sees, sees_further}
 
 -- a lane with its seat runs a phase
 abbrev pub RunsSeated : Seated → Seated → Option Answer → Type 0
-RunsSeated old new stop = RunsPhase (λ (x : SystemState). x.seat.number) (λ (x : SystemState). made_at x.seat) (λ (x : SystemState). x.stops) (λ (x : SystemState). answer.JournalFull x.used x.need x.cap) GoesOn old new stop
+RunsSeated old new stop = RunsPhase seat_of made_of (λ (x : SystemState). x.stops) stopped_of GoesOn old new stop
 
 -- what was made, as what a history has
 pub comes_as_made : (s : List Line) (k : ℕ) (history : List Event) (n : ℕ) (made : List Made) (next : Option Event) → made ≡ made_by n (record { config = config_of s; events = history })
