@@ -1,5 +1,4 @@
-ghost use Rattle.std.specs.Prelude.{◌≡◌, ◌++◌, ◌∷◌, ◌+◌, ◌<◌, ◌≤◌, ◌^◌, [], Some, None, length, take, slice_get, OnOk, IfOk, IfSome, MatchOption};
-ghost use Rattle.ix_model.specs.world.Naming.{same_bytes};
+ghost use Rattle.std.specs.Prelude.{◌≡◌, ◌++◌, ◌∷◌, ◌+◌, ◌<◌, ◌≤◌, ◌^◌, [], Some, None, length, slice_get, OnOk, IfOk, IfSome, MatchOption};
 ghost use Rattle.ix_script.specs.scripts.Canonical.{has_one_spelling, line_text};
 ghost use Rattle.ix_script.specs.lines.Forms.{form_of, places};
 ghost use Rattle.ix_script.specs.lines.Kinds.{places_fault};
@@ -8,13 +7,11 @@ ghost use Rattle.std.proofs.Common.{option_map};
 ghost use Rattle.ix_script.specs.lines.Roles.{header_only, role_of};
 ghost use Rattle.ix_script.specs.scripts.Need.{need};
 ghost use Rattle.ix_script.specs.scripts.Packed.{IsLine, IsSaid, begin_at, between, line_in};
-ghost use Rattle.ix_script.specs.texts.Cutting.{policy_text};
-ghost use Rattle.ix_script.specs.declared.line.Line.TheVariants as line;
 
 use crate::cost::cost_of_line;
 use crate::cutting::cut::Words;
 use crate::cutting::first_word::form_of;
-use crate::cutting::words::is;
+use crate::cutting::words::{begins_with_text, is};
 use crate::forms::line_by_form::line_by_form;
 use crate::line::Line;
 use crate::role::{Role, role_of};
@@ -53,16 +50,6 @@ impl Model for Lines {
     ghost invariant = { λ l. AreLines 0 l.text.items l.ends.items × AreSummed (held 0 l.text.items l.ends.items) l.roles.items l.need };
 }
 
-/// What a policy's line says.
-fn policy_said(text: &[u8]) -> Line<'_>
-    ensures { result ≡ line.Policy (policy_text text.now) }
-{
-    let (_, rest) = text.split_at(text.len().min(7));
-    Line::Policy {
-        text: PolicyText::new(rest),
-    }
-}
-
 /// What the words of a line say that breaks no rule.
 fn said_by_words<'a>(words: &Words<'a>) -> Line<'a>
     requires { IsSaid words.now }
@@ -87,7 +74,9 @@ fn said(text: &[u8]) -> Line<'_>
         return Line::Skipped;
     }
     if is_policy_line(text) {
-        return policy_said(text);
+        return Line::Policy {
+            text: PolicyText::of_line(text),
+        };
     }
     if is(text, b"ix 1") {
         return Line::Version;
@@ -97,19 +86,12 @@ fn said(text: &[u8]) -> Line<'_>
     said_by_words(&words)
 }
 
-/// Whether the text begins with that one.
-fn begins_with(front: &[u8], text: &[u8]) -> bool
-    ensures { result ≡ same_bytes (take (length front.now) text.now) front.now }
-{
-    is(&text[..text.len().min(front.len())], front)
-}
-
 /// Whether a line of that text has no other spelling: only a skipped line and one with a payload may have one.
 #[tactic(auto, unfolding(crate::specs::scripts::Canonical::has_one_spelling))]
 fn has_one_spelling(text: &[u8]) -> bool
     ensures { result ≡ has_one_spelling text.now }
 {
-    !is_skipped(text) && !begins_with(b"write", text) && !begins_with(b"file", text)
+    !is_skipped(text) && !begins_with_text(b"write", text) && !begins_with_text(b"file", text)
 }
 
 /// How many line feeds there are.

@@ -4,7 +4,7 @@ ghost use Rattle.ix_script.specs.scripts.Held.{IsPlan};
 ghost use Rattle.ix_script.specs.scripts.Scripts.{config_of};
 ghost use Rattle.ix_script.specs.declared.line.Line.{Line};
 
-use crate::before::header::{default_fs, default_limits, limits_after};
+use crate::before::header::{default_fs, default_limits, fs_spec, limits_after};
 use crate::line::Line;
 use crate::packed::Lines;
 use crate::values::payload::Payload;
@@ -24,19 +24,9 @@ pub(crate) struct Plan {
 fn add_fs(fss: &mut List<FsSpec>, line: &Line<'_>) -> Result<(), NoMemory>
     ensures { OnOk result (fss.new ≡ fss.old ++ fs_told line.now) }
 {
-    match line {
-        Line::Fs {
-            name,
-            ceiling,
-            blocks,
-            inodes,
-        } => fss.push(FsSpec {
-            name: name.name(),
-            ceiling: *ceiling,
-            blocks: *blocks,
-            inodes: *inodes,
-        }),
-        _ => Ok(()),
+    match fs_spec(line) {
+        Some(fs) => fss.push(fs),
+        None => Ok(()),
     }
 }
 
@@ -65,10 +55,7 @@ fn decoded(alloc: Global, payload: &Payload<'_, 1_048_576>) -> Result<Bytes, NoM
     ensures { IfOk result (λ bytes. bytes ≡ payload.now) }
 {
     let mut bytes = Vec::new(alloc);
-    let Ok(()) = bytes.resize(payload.len(), 0) else {
-        return Err(NoMemory);
-    };
-    payload.decode(bytes.as_mut_slice());
+    payload.decode_into(&mut bytes)?;
     Ok(Bytes::from_vec(bytes))
 }
 
@@ -112,15 +99,14 @@ fn add_object(alloc: Global, objects: &mut List<ObjSpec>, line: &Line<'_>) -> Re
     }
 }
 
-/// The file systems, or the one that is there where none is told.
-fn fss_or_default(fss: List<FsSpec>) -> Result<List<FsSpec>, NoMemory>
-    ensures { IfOk result (λ all. all ≡ or_default fss) }
+/// Adds the file system that is there where none is told.
+fn add_default(fss: &mut List<FsSpec>) -> Result<(), NoMemory>
+    ensures { OnOk result (fss.new ≡ or_default fss.old) }
 {
-    let mut fss = fss;
     if fss.len() == 0 {
         fss.push(default_fs())?;
     }
-    Ok(fss)
+    Ok(())
 }
 
 impl Plan {
@@ -175,9 +161,10 @@ impl Plan {
 pub(crate) fn config(alloc: Global, lines: &Lines) -> Result<Config, NoMemory>
     ensures { IfOk result (λ c. c ≡ config_of lines.now) }
 {
-    let plan = Plan::of(alloc, lines)?;
+    let mut plan = Plan::of(alloc, lines)?;
+    add_default(&mut plan.fss)?;
     Ok(Config {
-        fss: fss_or_default(plan.fss)?,
+        fss: plan.fss,
         limits: plan.limits,
         procs: plan.procs,
         objects: plan.objects,

@@ -1,9 +1,10 @@
-ghost use Rattle.std.specs.Prelude.{◌≡◌, ◌<◌, ◌≤◌, ◌∷◌, [], true, None, Some, length, IfOk, IfErr};
+ghost use Rattle.std.specs.Prelude.{◌≡◌, ◌<◌, ◌≤◌, ◌+◌, ◌^◌, ◌∷◌, [], true, None, Some, length, IfOk, IfErr, OnOk};
+ghost use Rattle.std.proofs.Common.{option_map};
 ghost use Rattle.ix_model.specs.opening.Valid.{is_valid};
 ghost use Rattle.ix_script.specs.lines.Before.{commands};
-ghost use Rattle.ix_script.specs.lines.Faults.{fault_from, fault_of};
+ghost use Rattle.ix_script.specs.lines.Faults.{fault_from, fault_of, line_fault};
 ghost use Rattle.ix_script.specs.texts.Lines.{cut, lines_of};
-ghost use Rattle.ix_script.specs.reader.Readers.{HasCause};
+ghost use Rattle.ix_script.specs.reader.Readers.{HasCause, LineMore};
 ghost use Rattle.ix_script.specs.scripts.Scripts.{lines_said, script_of, config_of};
 ghost use Rattle.ix_script.specs.reader.Told.{DraftTold};
 
@@ -29,6 +30,30 @@ fn first_line(bytes: &[u8]) -> (&[u8], &[u8])
     }
 }
 
+/// One line more in a draft, which the text says; else its fault. After an error the draft isn't used.
+fn add_line<'a, L: Ledger>(
+    alloc: Global,
+    draft: &mut Draft<'a>,
+    text: &'a [u8],
+    steps: &mut Steps<L>,
+) -> Result<(), ReadFail>
+    requires told { DraftTold draft.old }
+    requires valid { is_valid (config_of draft.old.lines) ≡ true }
+    requires few { length draft.old.lines + 1 < 2 ^ 32 }
+    ensures told { OnOk result (DraftTold draft.new) }
+    ensures line { OnOk result (LineMore draft.old.lines draft.new.lines text.now) }
+    ensures fail { IfErr result (λ e. HasCause e (option_map (λ rule. (length draft.old.lines + 1, rule)) (line_fault draft.old.lines text.now))) }
+{
+    let line = draft.lines.len() as u32 + 1;
+    match draft.next_line(text, steps) {
+        Ok(said) => {
+            draft.add(alloc, text, &said)?;
+            Ok(())
+        }
+        Err(rule) => Err(ReadFail::Fault(ScriptFault { line, rule: rule.0 })),
+    }
+}
+
 fn draft_of<'a, L: Ledger>(
     alloc: Global,
     bytes: &'a [u8],
@@ -48,14 +73,7 @@ fn draft_of<'a, L: Ledger>(
     let mut rest = bytes;
     'lines: while !rest.is_empty() {
         let (text, more) = first_line(rest);
-        let line = draft.lines.len() as u32 + 1;
-        let said = draft.next_line(text, steps);
-        match &said {
-            Ok(said) => draft.add(alloc, text, said)?,
-            Err(rule) => {
-                return Err(ReadFail::Fault(ScriptFault { line, rule: rule.0 }));
-            }
-        }
+        add_line(alloc, &mut draft, text, steps)?;
         rest = more;
     }
     Ok(draft)

@@ -2,7 +2,7 @@ ghost use Rattle.std.specs.Prelude.{◌≡◌};
 ghost use Rattle.ix_script.specs.lines.RuleTexts.{first_rule_text, last_rule_text, rule_text, word_rule_text};
 
 /// A rule of scripts, by its number. Of the rules that a line breaks the least is told.
-#[derive(Clone, Copy, Debug, PartialEq, Eq)]
+#[derive(Clone, Copy)]
 pub(crate) struct Rule(pub u8);
 
 impl Rule {

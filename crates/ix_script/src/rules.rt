@@ -12,7 +12,7 @@ use crate::before::draft::Draft;
 use crate::cutting::cut::Words;
 use crate::cutting::first_word::form_of;
 use crate::cutting::form::Form;
-use crate::cutting::words::{begins, is};
+use crate::cutting::words::{begins_with_text, is};
 use crate::forms::line_by_form::line_by_form;
 use crate::line::Line;
 use crate::rule::Rule;
@@ -72,7 +72,7 @@ pub(crate) fn is_skipped(text: &[u8]) -> bool
 pub(crate) fn is_policy_line(text: &[u8]) -> bool
     ensures { result ≡ is_policy_line text.now }
 {
-    is(text, b"policy") || is(&text[..text.len().min(7)], b"policy ")
+    is(text, b"policy") || begins_with_text(b"policy ", text)
 }
 
 /// Rules 4 and 5 of the first line, where it isn't a policy.
@@ -213,9 +213,8 @@ impl<'a> Draft<'a> {
         if self.header.policy {
             return Err(Rule::GIVEN_TWICE);
         }
-        let (_, rest) = text.split_at(7);
         Ok(Line::Policy {
-            text: PolicyText::new(rest),
+            text: PolicyText::of_line(text),
         })
     }
 

@@ -201,6 +201,10 @@ made_path_spelled word path h = elim (either (begins 47 word && not (is_empty (d
   | inr p ↦ absurd (none-some path p.1)
 ]
 
+-- its text spells an absolute path with a name again
+pub made_again : (word : List ℕ) (path : PathOf) → made_path_of word ≡ Some path → made_path_of (path_text path) ≡ Some path
+made_again word path h = rw (made_path_spelled word path h) h
+
 -- ---- words of a few spellings
 -- a word that is one of several: it is this one, or one of the others
 pub choose : {A : Type 0} (spell : A → List ℕ) (word text : List ℕ) (x : A) (others : Option A) → text ≡ spell x → ((y : A) → others ≡ Some y → spell y ≡ word) → (y : A) → cond (same_bytes word text) (Some x) others ≡ Some y → spell y ≡ word

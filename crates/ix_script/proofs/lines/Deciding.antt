@@ -52,11 +52,11 @@ pub skipped_right : (before : List Line) (text : List ℕ) → is_empty before �
 unfolding body_fault line_of
 skipped_right before text h k = record { faultless = rw (h, k) refl; meant = rw k refl; fits = skipped_fits before }
 
-pub policy_read : (before : List Line) (text bytes rest : List ℕ) → in_body before ≡ false → 7 < length text → has_policy before ≡ false → bytes ≡ rest → rest ≡ drop 7 text
+pub policy_read : (before : List Line) (text bytes : List ℕ) → in_body before ≡ false → 7 < length text → has_policy before ≡ false → bytes ≡ policy_text text
     → LineRight before (line.Policy bytes) (policy_fault before text) (Some (line.Policy (policy_text text)))
 unfolding policy_fault
-policy_read before text bytes rest early some once e f =
-    record { faultless = rw (early, more_than 7 text some, once) refl; meant = ap (λ (t : List ℕ). Some (line.Policy t)) (sym (e ∙ f)); fits = policy_fits before bytes }
+policy_read before text bytes early some once e =
+    record { faultless = rw (early, more_than 7 text some, once) refl; meant = ap (λ (t : List ℕ). Some (line.Policy t)) (sym e); fits = policy_fits before bytes }
 
 told_as : (before : List Line) (r : Result Line Rule) (f g : Option ℕ) (m n : Option Line) → g ≡ f → n ≡ m → Tells before r f m → Tells before r g n
 told_as before r f g m n e d h = subst (λ (x : Option Line). Tells before r g x) (sym d) (subst (λ (x : Option ℕ). Tells before r x m) (sym e) h)

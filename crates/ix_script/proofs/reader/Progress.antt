@@ -8,13 +8,16 @@ use Rattle.ix_script.specs.lines.Said.{both, line_of}
 use Rattle.ix_script.specs.lines.Faults.{line_fault, fault_from}
 use Rattle.ix_script.specs.scripts.Need.{need}
 use Rattle.ix_script.specs.scripts.Scripts.{lines_said, config_of}
-use Rattle.ix_script.specs.reader.Readers.{LineRight}
+use Rattle.ix_script.specs.reader.Readers.{HasCause, LineRight}
 use Rattle.ix_script.specs.reader.Told.{DraftTold}
 use Rattle.ix_script.specs.declared.before.draft.Draft.{Draft}
+use Rattle.ix_script.specs.declared.fail.ReadFail.{ReadFail}
+use Rattle.ix_script.specs.declared.fail.ReadFail.TheVariants as fail
 use Rattle.ix_script.specs.declared.line.Line.{Line}
 use Rattle.ix_script.proofs.reader.Costing.{cheap_none, cheap_next}
 use Rattle.ix_script.proofs.reader.Counting.{no_commands, commands_stay_few}
 use Rattle.ix_script.proofs.reader.Staying.{valid_next}
+use Rattle.ix_script.proofs.reader.Told.{mapped}
 
 abbrev pub after : List Line → Option (List Line) → Option (List Line)
 after front more = option_map (λ lines. front ++ lines) more
@@ -62,8 +65,12 @@ fault_here : (before : List Line) (text : List ℕ) (texts : List (List ℕ)) (n
 unfolding fault_from
 fault_here before text texts n h = rw h refl
 
-pub stops : (texts : List (List ℕ)) (total : ℕ) (rest : List ℕ) (d : Draft) (text more : List ℕ) (n : ℕ) → Reading texts total rest d → cut rest ≡ text ∷ cut more → line_fault d.lines text ≡ Some n → fault_from [] texts ≡ Some (length d.lines + 1, n)
-stops texts total rest d text more n r first h = sym r.fault ∙ ap (fault_from d.lines) first ∙ fault_here d.lines text (cut more) n h
+pub stops : (texts : List (List ℕ)) (total : ℕ) (rest : List ℕ) (d : Draft) (text more : List ℕ) (e : ReadFail) → Reading texts total rest d → cut rest ≡ text ∷ cut more
+    → HasCause e (option_map (λ rule. (length d.lines + 1, rule)) (line_fault d.lines text)) → HasCause e (fault_from [] texts)
+stops texts total rest d text more (fail.Fault f) r first h =
+    let m = mapped (λ (rule : ℕ). (length d.lines + 1, rule)) (line_fault d.lines text) (f.line, f.rule) h in
+    sym r.fault ∙ ap (fault_from d.lines) first ∙ fault_here d.lines text (cut more) m.0 m.1 ∙ ap (λ (p : ℕ × ℕ). Some p) m.2
+stops texts total rest d text more fail.NoMemory r first h = h
 
 -- ---- no line more
 pub faultless : (texts : List (List ℕ)) (total : ℕ) (d : Draft) → Reading texts total [] d → fault_from [] texts ≡ None

@@ -1,4 +1,5 @@
 ghost use Rattle.std.specs.Prelude.{◌≡◌, ◌++◌, ◌∷◌, ◌+◌, ◌<◌, ◌≤◌, ◌^◌, ◌||◌, ◌&&◌, not, [], ◌==◌, true, None, List, length, map, max, false, OnOk, OnErr, IfOk, nat_le, nat_lt, if◌then◌else◌, codes};
+ghost use Rattle.std.specs.Option.{option_map_or};
 ghost use Rattle.ix_label.specs.Category.{leq};
 ghost use Rattle.ix_script.specs.lines.Before.{fs_told, or_default, default_fs, default_limits, limits_after, with_limit, what_told, what_text, proc_name_told, object_told, is_policy, group, is_known};
 ghost use Rattle.ix_script.specs.reader.Told.{HeaderTold, MakesMore, NamesMore, TakenOne, Takes, fss_after};
@@ -162,6 +163,26 @@ fn push_fs(alloc: Global, told: usize, fss: &mut List<FsSpec>, fs: FsSpec) -> Re
     fss.push(fs)
 }
 
+/// The file system that a line tells.
+pub(crate) fn fs_spec(line: &Line<'_>) -> Option<FsSpec>
+    ensures { fs_told line.now ≡ option_map_or (λ fs. fs ∷ []) result [] }
+{
+    match line {
+        Line::Fs {
+            name,
+            ceiling,
+            blocks,
+            inodes,
+        } => Some(FsSpec {
+            name: name.name(),
+            ceiling: *ceiling,
+            blocks: *blocks,
+            inodes: *inodes,
+        }),
+        _ => None,
+    }
+}
+
 fn add_fs(
     alloc: Global,
     told: usize,
@@ -170,24 +191,9 @@ fn add_fs(
 ) -> Result<(), NoMemory>
     ensures { OnOk result (fss.new ≡ fss_after told fss.old (fs_told line.now)) }
 {
-    match line {
-        Line::Fs {
-            name,
-            ceiling,
-            blocks,
-            inodes,
-        } => push_fs(
-            alloc,
-            told,
-            fss,
-            FsSpec {
-                name: name.name(),
-                ceiling: *ceiling,
-                blocks: *blocks,
-                inodes: *inodes,
-            },
-        ),
-        _ => Ok(()),
+    match fs_spec(line) {
+        Some(fs) => push_fs(alloc, told, fss, fs),
+        None => Ok(()),
     }
 }
 

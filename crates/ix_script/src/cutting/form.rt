@@ -5,7 +5,7 @@ use crate::cutting::cut::Words;
 use crate::cutting::words::is;
 
 /// A command that takes a process alone.
-#[derive(Clone, Copy, Debug, PartialEq, Eq)]
+#[derive(Clone, Copy)]
 pub(crate) enum Plain {
     Wait,
     Self_,
@@ -14,7 +14,7 @@ pub(crate) enum Plain {
 }
 
 /// A command that takes a process and a path.
-#[derive(Clone, Copy, Debug, PartialEq, Eq)]
+#[derive(Clone, Copy)]
 pub(crate) enum OnPath {
     Create,
     Mkdir,
@@ -29,7 +29,7 @@ pub(crate) enum OnPath {
 }
 
 /// A command that takes a process and a descriptor.
-#[derive(Clone, Copy, Debug, PartialEq, Eq)]
+#[derive(Clone, Copy)]
 pub(crate) enum OnFd {
     Close,
     Pex,
@@ -38,7 +38,7 @@ pub(crate) enum OnFd {
 }
 
 /// A command that takes a process, a descriptor and a number.
-#[derive(Clone, Copy, Debug, PartialEq, Eq)]
+#[derive(Clone, Copy)]
 pub(crate) enum Counted {
     Read,
     Cut,
@@ -46,7 +46,7 @@ pub(crate) enum Counted {
 }
 
 /// The form of a line, by its first word.
-#[derive(Clone, Copy, Debug, PartialEq, Eq)]
+#[derive(Clone, Copy)]
 pub(crate) enum Form {
     Limit,
     Fs,

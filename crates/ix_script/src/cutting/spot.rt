@@ -2,7 +2,7 @@ ghost use Rattle.std.specs.Prelude.{◌≡◌};
 ghost use Rattle.ix_script.specs.texts.Cutting.{after_byte, is_quoted, parts_words, closes};
 
 /// Where in a line a byte stands.
-#[derive(Clone, Copy, Debug, PartialEq, Eq)]
+#[derive(Clone, Copy)]
 pub(crate) enum Spot {
     /// At the front of a word.
     Front,

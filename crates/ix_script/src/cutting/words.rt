@@ -1,4 +1,4 @@
-ghost use Rattle.std.specs.Prelude.{◌≡◌, ℕ, ◌≤◌, [], ◌∷◌, ◌==◌, length, not, ◌&&◌, IfOk};
+ghost use Rattle.std.specs.Prelude.{◌≡◌, ℕ, ◌≤◌, ◌+◌, [], ◌∷◌, ◌==◌, length, position, take, not, ◌&&◌, IfOk, IfSome};
 ghost use Rattle.std.specs.List.{list_all};
 ghost use Rattle.ix_model.specs.world.Naming.{same_bytes};
 ghost use Rattle.ix_model.specs.opening.Valid.{is_within};
@@ -36,6 +36,22 @@ pub(crate) fn begins(byte: u8, word: &[u8]) -> bool
         [] => false,
         [b, ..] => *b == byte,
     }
+}
+
+/// Whether the word begins with that text. It is inlined as `is` is.
+#[inline(always)]
+pub(crate) fn begins_with_text(text: &[u8], word: &[u8]) -> bool
+    ensures { result ≡ same_bytes (take (length text.now) word.now) text.now }
+{
+    is(&word[..word.len().min(text.len())], text)
+}
+
+/// The place of the first such byte.
+pub(crate) fn place_of(byte: u8, text: &[u8]) -> Option<usize>
+    ensures place { result ≡ position (λ b. b == byte) text.now }
+    ensures within { IfSome result (λ k. k + 1 ≤ length text.now) }
+{
+    text.iter().position(|b| *b == byte)
 }
 
 fn is_letter(b: u8) -> bool

@@ -4,7 +4,7 @@ ghost use Rattle.ix_script.specs.texts.Payloads.{escape_step, ends, escaped_byte
 use crate::values::hexes::pair;
 
 /// Where in quotes a byte stands.
-#[derive(Clone, Copy, Debug, PartialEq, Eq)]
+#[derive(Clone, Copy)]
 pub(crate) enum Escape {
     /// Where it stands for itself.
     Plain,

@@ -1,4 +1,4 @@
-ghost use Rattle.std.specs.Prelude.{◌≡◌, ℕ, ◌≤◌, ◌<◌, ◌+◌, ◌==◌, [], ◌∷◌, length, take, position, Some, None, IfSome, MatchOption};
+ghost use Rattle.std.specs.Prelude.{◌≡◌, ℕ, ◌<◌, [], ◌∷◌, length, take, Some, None, IfSome, MatchOption};
 ghost use Rattle.std.specs.Option.{option_map_or};
 ghost use Rattle.std.specs.List.{list_all};
 ghost use Rattle.std.proofs.Common.{option_map};
@@ -7,24 +7,17 @@ ghost use Rattle.ix_script.specs.reader.Readers.{Reads};
 ghost use Rattle.ix_script.specs.texts.Spellings.{path_text};
 ghost use Rattle.ix_script.specs.texts.Words.{may_stand_in_path, between_slashes, names_of, path_from, absolute_path, relative_path, path_of, made_path_of};
 
-use crate::cutting::words::begins;
+use crate::cutting::words::{begins, place_of};
 use crate::rule::Rule;
 use ix_model::{Name, Path};
 use std::marker::Model;
-
-fn slash(text: &[u8]) -> Option<usize>
-    ensures place { result ≡ position (λ b. b == 47) text.now }
-    ensures within { IfSome result (λ k. k + 1 ≤ length text.now) }
-{
-    text.iter().position(|b| *b == b'/')
-}
 
 /// What stands before the first slash, and what stands after it.
 fn first_piece(text: &[u8]) -> (&[u8], Option<&[u8]>)
     ensures pieces { between_slashes text.now ≡ result.0.now ∷ option_map_or (λ more. between_slashes more.now) result.1 [] }
     ensures fewer { IfSome result.1 (λ more. length more.now < length text.now) }
 {
-    match slash(text) {
+    match place_of(b'/', text) {
         Some(k) => {
             let (_, more) = text.split_at(k + 1);
             (&text[..k], Some(more))
@@ -137,19 +130,20 @@ pub(crate) fn path(word: &[u8]) -> Result<PathWord<'_>, Rule>
 /// An absolute path with a name, as a word of a script spells it. It borrows the word, and contracts see the path.
 #[derive(Drop)]
 pub struct MadePath<'a> {
-    word: &'a [u8],
+    path: PathWord<'a>,
 }
 
 impl<'a> Model for MadePath<'a> {
     ghost use Rattle.std.specs.Prelude.{◌≡◌, Some};
     ghost use Rattle.ix_model.specs.world.Naming.{PathOf};
-    ghost use Rattle.ix_script.specs.texts.Words.{made_path_of, path_in};
+    ghost use Rattle.ix_script.specs.texts.Spellings.{path_text};
+    ghost use Rattle.ix_script.specs.texts.Words.{made_path_of};
 
     ghost Value = { PathOf };
 
-    ghost view = { λ p. path_in p.word.now };
+    ghost view = { λ p. p.path };
 
-    ghost invariant = { λ p. made_path_of p.word.now ≡ Some (path_in p.word.now) };
+    ghost invariant = { λ p. made_path_of (path_text p.path) ≡ Some p.path };
 }
 
 impl<'a> MadePath<'a> {
@@ -157,24 +151,22 @@ impl<'a> MadePath<'a> {
     pub fn path(&self) -> Path
         ensures { result ≡ self.now }
     {
-        match path_by_word(self.word) {
-            Some(path) => path,
-            None => unreachable!(),
-        }
+        self.path.path()
     }
 
     /// Its text, which is the word.
     pub fn as_bytes(&self) -> &'a [u8]
         ensures { result.now ≡ path_text self.now }
     {
-        self.word
+        self.path.as_bytes()
     }
 
     /// The text of its names, with a slash between each two.
     pub(crate) fn names(&self) -> &'a [u8]
         ensures { between_slashes result.now ≡ self.now.names }
     {
-        let (_, names) = self.word.split_at(self.word.len().min(1));
+        let text = self.path.as_bytes();
+        let (_, names) = text.split_at(text.len().min(1));
         names
     }
 }
@@ -228,9 +220,6 @@ pub(crate) fn made_path(word: &[u8]) -> Result<MadePath<'_>, Rule>
     if !begins(b'/', word) || word.len() == 1 {
         return Err(Rule::BAD_PATH);
     }
-    if path_by_word(word).is_some() {
-        Ok(MadePath { word })
-    } else {
-        Err(Rule::BAD_PATH)
-    }
+    let path = path(word)?;
+    Ok(MadePath { path })
 }

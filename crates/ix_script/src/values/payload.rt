@@ -1,4 +1,4 @@
-ghost use Rattle.std.specs.Prelude.{◌≡◌, ℕ, ◌<◌, ◌≤◌, ◌+◌, ◌^◌, ◌==◌, ◌∷◌, [], is_some, length, position, IfSome, Some, None, take, replicate};
+ghost use Rattle.std.specs.Prelude.{◌≡◌, ℕ, ◌<◌, ◌≤◌, ◌+◌, ◌^◌, ◌∷◌, [], is_some, length, IfSome, Some, None, take, replicate, OnOk};
 ghost use Rattle.std.specs.List.{list_all};
 ghost use Rattle.ix_script.specs.lines.Kinds as kind;
 ghost use Rattle.ix_script.specs.texts.Payloads.{bytes_of, digit_of, pairs_of, quoted_from, times_from, times_of, payload_of};
@@ -7,12 +7,13 @@ ghost use Rattle.ix_script.specs.lines.Said.{payload_within};
 ghost use Rattle.ix_script.specs.texts.Spelled.{Counts, Spells};
 ghost use Rattle.ix_script.specs.declared.values.escape.Escape.TheVariants as escape;
 
-use crate::cutting::words::begins;
+use crate::cutting::words::{begins, place_of};
 use crate::rule::Rule;
 use crate::values::escape::Escape;
 use crate::values::hexes::{is_hex_digit, two_digits};
 use crate::values::numbers::{is_numeral, value};
 use crate::values::spelling::{PayloadBytes, Spelling};
+use ix_model::NoMemory;
 use std::marker::Model;
 
 /// The bytes that a word of a script spells, at most so many. It borrows the word, and contracts see the list of the bytes.
@@ -92,13 +93,6 @@ fn count_of_quoted(text: &[u8]) -> Result<usize, Rule>
     Err(Rule::BAD_PAYLOAD)
 }
 
-fn star(word: &[u8]) -> Option<usize>
-    ensures place { result ≡ position (λ b. b == 42) word.now }
-    ensures within { IfSome result (λ k. k + 1 ≤ length word.now) }
-{
-    word.iter().position(|b| *b == b'*')
-}
-
 /// A byte so often as a number says, at most so often.
 #[tactic(auto, unfolding(crate::specs::texts::Payloads::times_from, crate::specs::texts::Spelled::spelling_fault))]
 fn times<'a>(most: u32, count: &[u8], digits: &[u8]) -> Result<(Spelling<'a>, usize), Rule>
@@ -123,7 +117,7 @@ fn times<'a>(most: u32, count: &[u8], digits: &[u8]) -> Result<(Spelling<'a>, us
 fn times_by_word<'a>(most: u32, word: &[u8]) -> Result<(Spelling<'a>, usize), Rule>
     ensures { Spells most result (times_of word.now) }
 {
-    match star(word) {
+    match place_of(b'*', word) {
         Some(k) => {
             let (_, digits) = word.split_at(k + 1);
             times(most, &word[..k], digits)
@@ -212,5 +206,16 @@ impl<'a, const MOST: u32> Payload<'a, MOST> {
         ensures len { length buf.new ≡ length buf.old }
     {
         self.spelling.decode(self.len(), buf)
+    }
+
+    /// Puts all bytes into a buffer, in place of those that it has.
+    pub(crate) fn decode_into(&self, buffer: &mut Vec<u8>) -> Result<(), NoMemory>
+        ensures { OnOk result (buffer.new.items ≡ self.now) }
+    {
+        let Ok(()) = buffer.resize(self.len(), 0) else {
+            return Err(NoMemory);
+        };
+        self.decode(buffer.as_mut_slice());
+        Ok(())
     }
 }

@@ -1,5 +1,5 @@
 /// A form of a payload.
-#[derive(Clone, Copy, Debug, PartialEq, Eq)]
+#[derive(Clone, Copy)]
 pub(crate) enum PayloadForm {
     /// `x` and pairs of digits.
     Pairs,

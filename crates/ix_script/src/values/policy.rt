@@ -1,4 +1,5 @@
 ghost use Rattle.std.specs.Prelude.{◌≡◌};
+ghost use Rattle.ix_script.specs.texts.Cutting.{policy_text};
 
 use std::marker::Model;
 
@@ -17,9 +18,11 @@ impl<'a> Model for PolicyText<'a> {
 }
 
 impl<'a> PolicyText<'a> {
-    pub(crate) fn new(text: &'a [u8]) -> PolicyText<'a>
-        ensures { result ≡ text.now }
+    /// What a policy's line says, behind its word and a space.
+    pub(crate) fn of_line(line: &'a [u8]) -> PolicyText<'a>
+        ensures { result ≡ policy_text line.now }
     {
+        let (_, text) = line.split_at(line.len().min(7));
         PolicyText { text }
     }
 

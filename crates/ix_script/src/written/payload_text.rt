@@ -6,7 +6,7 @@ ghost use Rattle.ix_script.specs.texts.PayloadForms.{text_in};
 use crate::text::hex_pair;
 use crate::values::payload::Payload;
 use crate::values::payload_form::PayloadForm;
-use crate::written::append::push;
+use crate::written::append::{push, push_byte};
 use itoa::Buffer;
 use ix_model::NoMemory;
 
@@ -44,10 +44,7 @@ fn quoted_byte(out: &mut Vec<u8>, byte: u8) -> Result<(), NoMemory>
     ensures { OnOk result (out.new.items ≡ out.old.items ++ quoted_byte byte) }
 {
     if stands_quoted(byte) {
-        return match out.push(byte) {
-            Ok(()) => Ok(()),
-            Err(_) => Err(NoMemory),
-        };
+        return push_byte(out, byte);
     }
     if byte == b'"' || byte == b'\\' {
         return push(out, &[b'\\', byte]);
@@ -197,20 +194,6 @@ fn are_times_shortest(n: usize, byte: u8) -> bool
     len < n as u128 * 2 + 1 && len <= n as u128 + 2
 }
 
-/// Puts all bytes of a payload into a buffer.
-fn decode<const MOST: u32>(
-    buffer: &mut Vec<u8>,
-    payload: &Payload<'_, MOST>,
-) -> Result<(), NoMemory>
-    ensures { OnOk result (buffer.new.items ≡ payload.now) }
-{
-    let Ok(()) = buffer.resize(payload.len(), 0) else {
-        return Err(NoMemory);
-    };
-    payload.decode(buffer.as_mut_slice());
-    Ok(())
-}
-
 /// A space and a payload in its shortest spelling. A byte over and over is never put into the buffer but once.
 pub(crate) fn payload<const MOST: u32>(
     out: &mut Vec<u8>,
@@ -225,6 +208,6 @@ pub(crate) fn payload<const MOST: u32>(
             return times(out, n, byte);
         }
     }
-    decode(buffer, payload)?;
+    payload.decode_into(buffer)?;
     shortest_text(out, buffer.as_slice())
 }

@@ -1,10 +1,10 @@
-ghost use Rattle.std.specs.Prelude.{◌≡◌, ◌++◌, ◌∷◌, [], Some, slice_get, OnOk, IfOk, codes};
+ghost use Rattle.std.specs.Prelude.{◌≡◌, ◌++◌, ◌∷◌, [], Some, drop, slice_get, OnOk, IfOk, codes};
 ghost use Rattle.std.proofs.Common.{option_map};
 ghost use Rattle.std.specs.Fmt.{decimal};
 ghost use Rattle.ix_label.specs.Spelling.{spelling};
 ghost use Rattle.ix_script.specs.lines.Before.{what_text};
-ghost use Rattle.ix_script.specs.texts.Spellings.{joined, privs_text, path_text, mode_text, state_text, fd_text, keep_text, as_name, as_names, payload_text};
-ghost use Rattle.ix_script.specs.scripts.Canonical.{line_text, canonical};
+ghost use Rattle.ix_script.specs.texts.Spellings.{further, privs_text, path_text, mode_text, state_text, fd_text, keep_text, as_name, as_names, payload_text};
+ghost use Rattle.ix_script.specs.scripts.Canonical.{line_text, line_words, canonical};
 
 use crate::cutting::words::NameWord;
 use crate::line::{FdWord, KeepWord, Line, What};
@@ -13,18 +13,18 @@ use crate::script::Script;
 use crate::values::paths::{MadePath, PathWord};
 use crate::values::payload::Payload;
 use crate::written::append::{
-    both_named, fd, keep, label, made_path, mode, name, named, number, path, privs, push, state,
-    what,
+    both_named, fd, keep, label, made_path, mode, name, named, number, path, privs, push,
+    push_byte, state, what, word,
 };
+use crate::written::first_words::first_word;
 use crate::written::payload_text::payload;
 use ix_label::Label;
 use ix_model::{Mode, NoMemory, PrivSet};
 use std::alloc::Global;
 
 fn limit(out: &mut Vec<u8>, w: What, n: u32) -> Result<(), NoMemory>
-    ensures { OnOk result (out.new.items ≡ out.old.items ++ joined 32 (codes "limit" ∷ what_text w ∷ decimal n ∷ [])) }
+    ensures { OnOk result (out.new.items ≡ out.old.items ++ further 32 (what_text w ∷ decimal n ∷ [])) }
 {
-    push(out, b"limit")?;
     what(out, w)?;
     number(out, n)
 }
@@ -36,10 +36,8 @@ fn fs(
     blocks: u32,
     inodes: u32,
 ) -> Result<(), NoMemory>
-    ensures { OnOk result (out.new.items ≡ out.old.items
-        ++ joined 32 (codes "fs" ∷ called.now ∷ spelling ceiling.now ∷ decimal blocks ∷ decimal inodes ∷ [])) }
+    ensures { OnOk result (out.new.items ≡ out.old.items ++ further 32 (called.now ∷ spelling ceiling.now ∷ decimal blocks ∷ decimal inodes ∷ [])) }
 {
-    push(out, b"fs")?;
     name(out, called)?;
     label(out, ceiling)?;
     number(out, blocks)?;
@@ -54,10 +52,8 @@ fn proc(
     cap: PrivSet,
     lic: PrivSet,
 ) -> Result<(), NoMemory>
-    ensures { OnOk result (out.new.items ≡ out.old.items
-        ++ joined 32 (codes "proc" ∷ called.now ∷ spelling own.now ∷ spelling ceiling.now ∷ privs_text cap ∷ privs_text lic ∷ [])) }
+    ensures { OnOk result (out.new.items ≡ out.old.items ++ further 32 (called.now ∷ spelling own.now ∷ spelling ceiling.now ∷ privs_text cap ∷ privs_text lic ∷ [])) }
 {
-    push(out, b"proc")?;
     name(out, called)?;
     label(out, own)?;
     label(out, ceiling)?;
@@ -66,10 +62,8 @@ fn proc(
 }
 
 fn dir(out: &mut Vec<u8>, at: &MadePath<'_>, own: &Label, frozen: bool) -> Result<(), NoMemory>
-    ensures { OnOk result (out.new.items ≡ out.old.items
-        ++ joined 32 (codes "dir" ∷ path_text at.now ∷ spelling own.now ∷ state_text frozen ∷ [])) }
+    ensures { OnOk result (out.new.items ≡ out.old.items ++ further 32 (path_text at.now ∷ spelling own.now ∷ state_text frozen ∷ [])) }
 {
-    push(out, b"dir")?;
     made_path(out, at)?;
     label(out, own)?;
     state(out, frozen)
@@ -85,80 +79,49 @@ fn file(
     lic: PrivSet,
     bytes: &Payload<'_, 1_048_576>,
 ) -> Result<(), NoMemory>
-    ensures { OnOk result (out.new.items ≡ out.old.items
-        ++ joined 32 (codes "file" ∷ path_text at.now ∷ spelling own.now ∷ state_text frozen
+    ensures { OnOk result (out.new.items ≡ out.old.items ++ further 32 (path_text at.now ∷ spelling own.now ∷ state_text frozen
         ∷ privs_text cap ∷ privs_text lic ∷ payload_text bytes.now ∷ [])) }
 {
-    push(out, b"file")?;
-    made_path(out, at)?;
-    label(out, own)?;
-    state(out, frozen)?;
+    dir(out, at, own, frozen)?;
     privs(out, cap)?;
     privs(out, lic)?;
     payload(out, buffer, bytes)
 }
 
-fn policy(out: &mut Vec<u8>, text: &[u8]) -> Result<(), NoMemory>
-    ensures { OnOk result (out.new.items ≡ out.old.items ++ joined 32 (codes "policy" ∷ text.now ∷ [])) }
+/// A process and a path.
+fn with_path(out: &mut Vec<u8>, proc: &NameWord<'_>, at: &PathWord<'_>) -> Result<(), NoMemory>
+    ensures { OnOk result (out.new.items ≡ out.old.items ++ further 32 (proc.now ∷ path_text at.now ∷ [])) }
 {
-    push(out, b"policy ")?;
-    push(out, text)
-}
-
-/// A first word, and a name.
-fn with_name(out: &mut Vec<u8>, word: &[u8], called: &NameWord<'_>) -> Result<(), NoMemory>
-    ensures { OnOk result (out.new.items ≡ out.old.items ++ joined 32 (word.now ∷ called.now ∷ [])) }
-{
-    push(out, word)?;
-    name(out, called)
-}
-
-/// A command with a path.
-fn with_path(
-    out: &mut Vec<u8>,
-    word: &[u8],
-    proc: &NameWord<'_>,
-    at: &PathWord<'_>,
-) -> Result<(), NoMemory>
-    ensures { OnOk result (out.new.items ≡ out.old.items ++ joined 32 (word.now ∷ proc.now ∷ path_text at.now ∷ [])) }
-{
-    with_name(out, word, proc)?;
+    name(out, proc)?;
     path(out, at)
 }
 
-/// A command with a descriptor.
-fn with_fd(
-    out: &mut Vec<u8>,
-    word: &[u8],
-    proc: &NameWord<'_>,
-    at: &FdWord<'_>,
-) -> Result<(), NoMemory>
-    ensures { OnOk result (out.new.items ≡ out.old.items ++ joined 32 (word.now ∷ proc.now ∷ fd_text at.now ∷ [])) }
+/// A process and a descriptor.
+fn with_fd(out: &mut Vec<u8>, proc: &NameWord<'_>, at: &FdWord<'_>) -> Result<(), NoMemory>
+    ensures { OnOk result (out.new.items ≡ out.old.items ++ further 32 (proc.now ∷ fd_text at.now ∷ [])) }
 {
-    with_name(out, word, proc)?;
+    name(out, proc)?;
     fd(out, at)
 }
 
-/// A command with a descriptor and a number.
+/// A process, a descriptor and a number.
 fn with_fd_number(
     out: &mut Vec<u8>,
-    word: &[u8],
     proc: &NameWord<'_>,
     at: &FdWord<'_>,
     n: u32,
 ) -> Result<(), NoMemory>
-    ensures { OnOk result (out.new.items ≡ out.old.items
-        ++ joined 32 (word.now ∷ proc.now ∷ fd_text at.now ∷ decimal n ∷ [])) }
+    ensures { OnOk result (out.new.items ≡ out.old.items ++ further 32 (proc.now ∷ fd_text at.now ∷ decimal n ∷ [])) }
 {
-    with_fd(out, word, proc, at)?;
+    with_fd(out, proc, at)?;
     number(out, n)
 }
 
-/// A command with a number.
-fn with_number(out: &mut Vec<u8>, word: &[u8], proc: &NameWord<'_>, n: u32) -> Result<(), NoMemory>
-    ensures { OnOk result (out.new.items ≡ out.old.items ++ joined 32 (word.now ∷ proc.now ∷ decimal n ∷ [])) }
+/// A process and a number.
+fn with_number(out: &mut Vec<u8>, proc: &NameWord<'_>, n: u32) -> Result<(), NoMemory>
+    ensures { OnOk result (out.new.items ≡ out.old.items ++ further 32 (proc.now ∷ decimal n ∷ [])) }
 {
-    with_name(out, word, proc)?;
+    name(out, proc)?;
     number(out, n)
 }
 
@@ -169,10 +132,9 @@ fn open(
     way: Mode,
     tail: &Option<NameWord<'_>>,
 ) -> Result<(), NoMemory>
-    ensures { OnOk result (out.new.items ≡ out.old.items
-        ++ joined 32 (codes "open" ∷ proc.now ∷ path_text at.now ∷ mode_text way ∷ as_name tail.now)) }
+    ensures { OnOk result (out.new.items ≡ out.old.items ++ further 32 (proc.now ∷ path_text at.now ∷ mode_text way ∷ as_name tail.now)) }
 {
-    with_path(out, b"open", proc, at)?;
+    with_path(out, proc, at)?;
     mode(out, way)?;
     named(out, tail)
 }
@@ -184,10 +146,9 @@ fn write_fd(
     at: &FdWord<'_>,
     bytes: &Payload<'_, 4096>,
 ) -> Result<(), NoMemory>
-    ensures { OnOk result (out.new.items ≡ out.old.items
-        ++ joined 32 (codes "write" ∷ proc.now ∷ fd_text at.now ∷ payload_text bytes.now ∷ [])) }
+    ensures { OnOk result (out.new.items ≡ out.old.items ++ further 32 (proc.now ∷ fd_text at.now ∷ payload_text bytes.now ∷ [])) }
 {
-    with_fd(out, b"write", proc, at)?;
+    with_fd(out, proc, at)?;
     payload(out, buffer, bytes)
 }
 
@@ -197,10 +158,9 @@ fn dup(
     at: &FdWord<'_>,
     tail: &Option<NameWord<'_>>,
 ) -> Result<(), NoMemory>
-    ensures { OnOk result (out.new.items ≡ out.old.items
-        ++ joined 32 (codes "dup" ∷ proc.now ∷ fd_text at.now ∷ as_name tail.now)) }
+    ensures { OnOk result (out.new.items ≡ out.old.items ++ further 32 (proc.now ∷ fd_text at.now ∷ as_name tail.now)) }
 {
-    with_fd(out, b"dup", proc, at)?;
+    with_fd(out, proc, at)?;
     named(out, tail)
 }
 
@@ -209,9 +169,9 @@ fn pipe(
     proc: &NameWord<'_>,
     tail: &Option<(NameWord<'_>, NameWord<'_>)>,
 ) -> Result<(), NoMemory>
-    ensures { OnOk result (out.new.items ≡ out.old.items ++ joined 32 (codes "pipe" ∷ proc.now ∷ as_names tail.now)) }
+    ensures { OnOk result (out.new.items ≡ out.old.items ++ further 32 (proc.now ∷ as_names tail.now)) }
 {
-    with_name(out, b"pipe", proc)?;
+    name(out, proc)?;
     both_named(out, tail)
 }
 
@@ -221,10 +181,9 @@ fn link(
     target: &PathWord<'_>,
     at: &PathWord<'_>,
 ) -> Result<(), NoMemory>
-    ensures { OnOk result (out.new.items ≡ out.old.items
-        ++ joined 32 (codes "link" ∷ proc.now ∷ path_text target.now ∷ path_text at.now ∷ [])) }
+    ensures { OnOk result (out.new.items ≡ out.old.items ++ further 32 (proc.now ∷ path_text target.now ∷ path_text at.now ∷ [])) }
 {
-    with_path(out, b"link", proc, target)?;
+    with_path(out, proc, target)?;
     path(out, at)
 }
 
@@ -234,10 +193,9 @@ fn list(
     at: &PathWord<'_>,
     index: u32,
 ) -> Result<(), NoMemory>
-    ensures { OnOk result (out.new.items ≡ out.old.items
-        ++ joined 32 (codes "list" ∷ proc.now ∷ path_text at.now ∷ decimal index ∷ [])) }
+    ensures { OnOk result (out.new.items ≡ out.old.items ++ further 32 (proc.now ∷ path_text at.now ∷ decimal index ∷ [])) }
 {
-    with_path(out, b"list", proc, at)?;
+    with_path(out, proc, at)?;
     number(out, index)
 }
 
@@ -247,10 +205,9 @@ fn fork(
     kept: &KeepWord<'_>,
     tail: &Option<NameWord<'_>>,
 ) -> Result<(), NoMemory>
-    ensures { OnOk result (out.new.items ≡ out.old.items
-        ++ joined 32 (codes "fork" ∷ proc.now ∷ keep_text kept.now ∷ as_name tail.now)) }
+    ensures { OnOk result (out.new.items ≡ out.old.items ++ further 32 (proc.now ∷ keep_text kept.now ∷ as_name tail.now)) }
 {
-    with_name(out, b"fork", proc)?;
+    name(out, proc)?;
     keep(out, kept)?;
     named(out, tail)
 }
@@ -261,17 +218,16 @@ fn set_label(
     at: &PathWord<'_>,
     new: &Label,
 ) -> Result<(), NoMemory>
-    ensures { OnOk result (out.new.items ≡ out.old.items
-        ++ joined 32 (codes "setlabel" ∷ proc.now ∷ path_text at.now ∷ spelling new.now ∷ [])) }
+    ensures { OnOk result (out.new.items ≡ out.old.items ++ further 32 (proc.now ∷ path_text at.now ∷ spelling new.now ∷ [])) }
 {
-    with_path(out, b"setlabel", proc, at)?;
+    with_path(out, proc, at)?;
     label(out, new)
 }
 
 fn set_self(out: &mut Vec<u8>, proc: &NameWord<'_>, new: &Label) -> Result<(), NoMemory>
-    ensures { OnOk result (out.new.items ≡ out.old.items ++ joined 32 (codes "setself" ∷ proc.now ∷ spelling new.now ∷ [])) }
+    ensures { OnOk result (out.new.items ≡ out.old.items ++ further 32 (proc.now ∷ spelling new.now ∷ [])) }
 {
-    with_name(out, b"setself", proc)?;
+    name(out, proc)?;
     label(out, new)
 }
 
@@ -282,18 +238,17 @@ fn set_priv(
     cap: PrivSet,
     lic: PrivSet,
 ) -> Result<(), NoMemory>
-    ensures { OnOk result (out.new.items ≡ out.old.items
-        ++ joined 32 (codes "setpriv" ∷ proc.now ∷ path_text at.now ∷ privs_text cap ∷ privs_text lic ∷ [])) }
+    ensures { OnOk result (out.new.items ≡ out.old.items ++ further 32 (proc.now ∷ path_text at.now ∷ privs_text cap ∷ privs_text lic ∷ [])) }
 {
-    with_path(out, b"setpriv", proc, at)?;
+    with_path(out, proc, at)?;
     privs(out, cap)?;
     privs(out, lic)
 }
 
 fn drop_lic(out: &mut Vec<u8>, proc: &NameWord<'_>, set: PrivSet) -> Result<(), NoMemory>
-    ensures { OnOk result (out.new.items ≡ out.old.items ++ joined 32 (codes "droplic" ∷ proc.now ∷ privs_text set ∷ [])) }
+    ensures { OnOk result (out.new.items ≡ out.old.items ++ further 32 (proc.now ∷ privs_text set ∷ [])) }
 {
-    with_name(out, b"droplic", proc)?;
+    name(out, proc)?;
     privs(out, set)
 }
 
@@ -303,10 +258,9 @@ fn grant(
     to: &NameWord<'_>,
     set: PrivSet,
 ) -> Result<(), NoMemory>
-    ensures { OnOk result (out.new.items ≡ out.old.items
-        ++ joined 32 (codes "grant" ∷ proc.now ∷ to.now ∷ privs_text set ∷ [])) }
+    ensures { OnOk result (out.new.items ≡ out.old.items ++ further 32 (proc.now ∷ to.now ∷ privs_text set ∷ [])) }
 {
-    with_name(out, b"grant", proc)?;
+    name(out, proc)?;
     name(out, to)?;
     privs(out, set)
 }
@@ -317,10 +271,9 @@ fn ceiling(
     of: &NameWord<'_>,
     new: &Label,
 ) -> Result<(), NoMemory>
-    ensures { OnOk result (out.new.items ≡ out.old.items
-        ++ joined 32 (codes "ceiling" ∷ proc.now ∷ of.now ∷ spelling new.now ∷ [])) }
+    ensures { OnOk result (out.new.items ≡ out.old.items ++ further 32 (proc.now ∷ of.now ∷ spelling new.now ∷ [])) }
 {
-    with_name(out, b"ceiling", proc)?;
+    name(out, proc)?;
     name(out, of)?;
     label(out, new)
 }
@@ -332,10 +285,9 @@ fn copy(
     to: &FdWord<'_>,
     count: u32,
 ) -> Result<(), NoMemory>
-    ensures { OnOk result (out.new.items ≡ out.old.items
-        ++ joined 32 (codes "copy" ∷ proc.now ∷ fd_text from.now ∷ fd_text to.now ∷ decimal count ∷ [])) }
+    ensures { OnOk result (out.new.items ≡ out.old.items ++ further 32 (proc.now ∷ fd_text from.now ∷ fd_text to.now ∷ decimal count ∷ [])) }
 {
-    with_fd(out, b"copy", proc, from)?;
+    with_fd(out, proc, from)?;
     fd(out, to)?;
     number(out, count)
 }
@@ -347,22 +299,21 @@ fn login(
     hand: &FdWord<'_>,
     tail: &Option<NameWord<'_>>,
 ) -> Result<(), NoMemory>
-    ensures { OnOk result (out.new.items ≡ out.old.items
-        ++ joined 32 (codes "login" ∷ proc.now ∷ fd_text at.now ∷ fd_text hand.now ∷ as_name tail.now)) }
+    ensures { OnOk result (out.new.items ≡ out.old.items ++ further 32 (proc.now ∷ fd_text at.now ∷ fd_text hand.now ∷ as_name tail.now)) }
 {
-    with_fd(out, b"login", proc, at)?;
+    with_fd(out, proc, at)?;
     fd(out, hand)?;
     named(out, tail)
 }
 
-/// A line's text, without a line feed.
+/// The words of a line behind the first, each after a space.
 #[tactic(auto, unfolding(crate::specs::scripts::Canonical::line_words))]
-fn write_line(out: &mut Vec<u8>, buffer: &mut Vec<u8>, line: &Line<'_>) -> Result<(), NoMemory>
-    ensures { OnOk result (out.new.items ≡ out.old.items ++ line_text line.now) }
+fn write_further(out: &mut Vec<u8>, buffer: &mut Vec<u8>, line: &Line<'_>) -> Result<(), NoMemory>
+    ensures { OnOk result (out.new.items ≡ out.old.items ++ further 32 (drop 1 (line_words line.now))) }
 {
     match line {
-        Line::Skipped => Ok(()),
-        Line::Version => push(out, b"ix 1"),
+        Line::Skipped | Line::Phase => Ok(()),
+        Line::Version => word(out, b"1"),
         Line::Limit { what, number } => limit(out, *what, *number),
         Line::Fs {
             name,
@@ -390,42 +341,46 @@ fn write_line(out: &mut Vec<u8>, buffer: &mut Vec<u8>, line: &Line<'_>) -> Resul
             lic,
             bytes,
         } => file(out, buffer, path, label, *frozen, *cap, *lic, bytes),
-        Line::Policy { text } => policy(out, text.as_bytes()),
-        Line::Phase => push(out, b"phase"),
-        Line::Lane { name } => with_name(out, b"lane", name),
-        Line::Create { proc, path } => with_path(out, b"create", proc, path),
+        Line::Policy { text } => word(out, text.as_bytes()),
+        Line::Lane { name: one }
+        | Line::Wait { proc: one }
+        | Line::Self_ { proc: one }
+        | Line::Freezeself { proc: one }
+        | Line::Thawself { proc: one } => name(out, one),
+        Line::Create { proc, path }
+        | Line::Mkdir { proc, path }
+        | Line::Unlink { proc, path }
+        | Line::Rmdir { proc, path }
+        | Line::Chdir { proc, path }
+        | Line::Stat { proc, path }
+        | Line::Exec { proc, path }
+        | Line::Labelof { proc, path }
+        | Line::Freeze { proc, path }
+        | Line::Thaw { proc, path } => with_path(out, proc, path),
+        Line::Close { proc, fd }
+        | Line::Pex { proc, fd }
+        | Line::Unpex { proc, fd }
+        | Line::Priv { proc, fd } => with_fd(out, proc, fd),
+        Line::Read { proc, fd, count: n }
+        | Line::Cut { proc, fd, len: n }
+        | Line::Seek { proc, fd, at: n } => with_fd_number(out, proc, fd, *n),
+        Line::Exit { proc, status: n } | Line::Readlog { proc, index: n } => {
+            with_number(out, proc, *n)
+        }
         Line::Open {
             proc,
             path,
             mode,
             named,
         } => open(out, proc, path, *mode, named),
-        Line::Read { proc, fd, count } => with_fd_number(out, b"read", proc, fd, *count),
         Line::Write { proc, fd, bytes } => write_fd(out, buffer, proc, fd, bytes),
-        Line::Cut { proc, fd, len } => with_fd_number(out, b"cut", proc, fd, *len),
-        Line::Seek { proc, fd, at } => with_fd_number(out, b"seek", proc, fd, *at),
         Line::Dup { proc, fd, named } => dup(out, proc, fd, named),
-        Line::Close { proc, fd } => with_fd(out, b"close", proc, fd),
         Line::Pipe { proc, named } => pipe(out, proc, named),
-        Line::Mkdir { proc, path } => with_path(out, b"mkdir", proc, path),
         Line::Link { proc, target, path } => link(out, proc, target, path),
-        Line::Unlink { proc, path } => with_path(out, b"unlink", proc, path),
-        Line::Rmdir { proc, path } => with_path(out, b"rmdir", proc, path),
-        Line::Chdir { proc, path } => with_path(out, b"chdir", proc, path),
-        Line::Stat { proc, path } => with_path(out, b"stat", proc, path),
         Line::List { proc, path, index } => list(out, proc, path, *index),
         Line::Fork { proc, keep, named } => fork(out, proc, keep, named),
-        Line::Exec { proc, path } => with_path(out, b"exec", proc, path),
-        Line::Exit { proc, status } => with_number(out, b"exit", proc, *status),
-        Line::Wait { proc } => with_name(out, b"wait", proc),
-        Line::Labelof { proc, path } => with_path(out, b"labelof", proc, path),
-        Line::Self_ { proc } => with_name(out, b"self", proc),
         Line::Setlabel { proc, path, label } => set_label(out, proc, path, label),
         Line::Setself { proc, label } => set_self(out, proc, label),
-        Line::Freeze { proc, path } => with_path(out, b"freeze", proc, path),
-        Line::Freezeself { proc } => with_name(out, b"freezeself", proc),
-        Line::Thaw { proc, path } => with_path(out, b"thaw", proc, path),
-        Line::Thawself { proc } => with_name(out, b"thawself", proc),
         Line::Setpriv {
             proc,
             path,
@@ -435,16 +390,12 @@ fn write_line(out: &mut Vec<u8>, buffer: &mut Vec<u8>, line: &Line<'_>) -> Resul
         Line::Droplic { proc, set } => drop_lic(out, proc, *set),
         Line::Grant { proc, to, set } => grant(out, proc, to, *set),
         Line::Ceiling { proc, of, label } => ceiling(out, proc, of, label),
-        Line::Pex { proc, fd } => with_fd(out, b"pex", proc, fd),
-        Line::Unpex { proc, fd } => with_fd(out, b"unpex", proc, fd),
-        Line::Readlog { proc, index } => with_number(out, b"readlog", proc, *index),
         Line::Copy {
             proc,
             from,
             to,
             count,
         } => copy(out, proc, from, to, *count),
-        Line::Priv { proc, fd } => with_fd(out, b"priv", proc, fd),
         Line::Login {
             proc,
             fd,
@@ -454,14 +405,12 @@ fn write_line(out: &mut Vec<u8>, buffer: &mut Vec<u8>, line: &Line<'_>) -> Resul
     }
 }
 
-/// A line feed at the end.
-fn end_line(out: &mut Vec<u8>) -> Result<(), NoMemory>
-    ensures { OnOk result (out.new.items ≡ out.old.items ++ codes "\n") }
+/// A line's text, without a line feed.
+fn write_line(out: &mut Vec<u8>, buffer: &mut Vec<u8>, line: &Line<'_>) -> Result<(), NoMemory>
+    ensures { OnOk result (out.new.items ≡ out.old.items ++ line_text line.now) }
 {
-    match out.push(b'\n') {
-        Ok(()) => Ok(()),
-        Err(_) => Err(NoMemory),
-    }
+    push(out, first_word(line))?;
+    write_further(out, buffer, line)
 }
 
 /// The text of the line at an index and a line feed. A line is made only where its text isn't the one that was read.
@@ -481,7 +430,7 @@ fn write_ended(
         };
         write_line(out, buffer, &line)?;
     }
-    end_line(out)
+    push_byte(out, b'\n')
 }
 
 /// The canonical text of lines.

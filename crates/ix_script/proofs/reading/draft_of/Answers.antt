@@ -1,6 +1,7 @@
 use Rattle.std.proofs.Common.{◌≡◌, ℕ, List, [], length, sym, ◌∙◌, ap, subst}
 use Rattle.std.proofs.lemmas.Bool.{eqb-true}
 use Rattle.std.proofs.lemmas.List.{nil_from_length}
+use Rattle.std.proofs.lemmas.Result.{err_from_is_err_and}
 use Rattle.ix_script.specs.texts.Lines.{cut}
 use Rattle.ix_script.specs.lines.Faults.{fault_from}
 use Rattle.ix_script.specs.scripts.Scripts.{lines_said}
@@ -13,13 +14,15 @@ lines-init g c = start c.args.bytes.now c.in_ok-draft.draft c.in_ok-draft.ensure
 
 pub lines-preserved : goal.lines-preserved
 lines-preserved g c =
-    goes_on (cut c.args.bytes.now) (length c.args.bytes.now) c.lines.rest.now c.lines.draft c.add.new.self c.first_line.result.0.now c.first_line.result.1.now c.in-Ok.said c.lines.invariant
-    c.first_line.ensures.lines c.first_line.ensures.fewer (rw c.in-Ok.is at c.next_line-said.ensures) c.in_ok-add-in-Ok.ensures.told c.in_ok-add-in-Ok.ensures.lines
+    let more = c.in_ok-add_line.ensures.line in
+    goes_on (cut c.args.bytes.now) (length c.args.bytes.now) c.lines.rest.now c.lines.draft c.add_line.new.draft c.first_line.result.0.now c.first_line.result.1.now more.line c.lines.invariant
+    c.first_line.ensures.lines c.first_line.ensures.fewer more.right c.in_ok-add_line.ensures.told more.added
 
-pub returns-in-Err-clause-fail : goal.returns-in-Err-clause-fail
-returns-in-Err-clause-fail g c =
-    rw (c.len.ensures, lines_cut c.args.bytes.now c.requires.some)
-    (stops (cut c.args.bytes.now) (length c.args.bytes.now) c.lines.rest.now c.lines.draft c.first_line.result.0.now c.first_line.result.1.now c.in-Err.rule.0 c.lines.invariant c.first_line.ensures.lines (rw c.in-Err.is at c.next_line-said.ensures))
+pub returns-in_err-add_line-clause-fail : goal.returns-in_err-add_line-clause-fail
+returns-in_err-add_line-clause-fail g c =
+    let p = err_from_is_err_and c.from_residual-in_err-add_line.result c.from_residual-in_err-add_line.ensures.1 in
+    rw (p.1, p.2, lines_cut c.args.bytes.now c.requires.some)
+    (stops (cut c.args.bytes.now) (length c.args.bytes.now) c.lines.rest.now c.lines.draft c.first_line.result.0.now c.first_line.result.1.now c.in_err-add_line.field-0.0 c.lines.invariant c.first_line.ensures.lines c.in_err-add_line.ensures.fail)
 
 pub returns-clause-faultless : goal.returns-clause-faultless
 returns-clause-faultless g c =

@@ -4,5 +4,5 @@ use Rattle.ix_script.proofs.before.draft.Draft.policy_line.Goals as goal
 
 pub returns : goal.returns
 returns c =
-    policy_read c.args.self.now.lines c.args.text.now c.new.result c.split_at.result.1.now (sym c.requires.told.body.started ∙ c.if-self.false) c.if-text-le7.false
-    (sym c.requires.told.header.policy ∙ c.if-self-2.false) c.new.ensures c.split_at.ensures.back
+    policy_read c.args.self.now.lines c.args.text.now c.of_line.result (sym c.requires.told.body.started ∙ c.if-self.false) c.if-text-le7.false
+    (sym c.requires.told.header.policy ∙ c.if-self-2.false) c.of_line.ensures
