@@ -1,5 +1,5 @@
 -- How a report stands that is on its way out: at first, as it grows, and as what waits is written.
-use Rattle.std.proofs.Common.{◌≡◌, ℕ, Bool, true, false, is_some, ◌+◌, List, [], ◌∷◌, ◌++◌, length, Option, Some, None, Result, Ok, Err, refl, sym, ap, ◌∙◌, append_assoc, subst, OnOk, OnErr}
+use Rattle.std.proofs.Common.{◌≡◌, ℕ, Bool, true, false, is_some, ◌+◌, List, [], ◌++◌, length, Option, Some, None, Ok, Err, refl, sym, ap, ◌∙◌, append_assoc, subst}
 use Rattle.std.specs.Prelude.{IfSome}
 use Rattle.std.proofs.lemmas.List.{append-nil}
 use Rattle.ix_io.specs.Streams.{HasCause, Rose}
@@ -18,7 +18,7 @@ use Rattle.ix_host.specs.declared.streams.teller.Failure.TheVariants as failure
 use Rattle.ix_host.specs.run.Outcome as outcome
 use Rattle.ix_host.specs.run.Run.{Ends}
 use Rattle.ix_host.specs.run.Teller.{FrontIsOut, StandsAt, failed_as, told_of}
-use Rattle.ix_host.specs.run.Whole.{Sent, Writes, WritesFront}
+use Rattle.ix_host.specs.run.Whole.{Sent, Writes}
 use Rattle.ix_host.proofs.piecewise.Outlets.{sent_all, sent_front, sent_less, sent_more, sent_none}
 
 -- ---- fronts

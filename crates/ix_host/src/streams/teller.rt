@@ -73,6 +73,23 @@ fn begun(alloc: Global) -> Result<Vec<u8>, NoMemory>
     Ok(waiting)
 }
 
+impl<'a, K: Sink> Teller<'a, K> {
+    /// One to which nothing has happened yet, of what waits to be written.
+    fn new(script: &'a Script, sink: &'a mut K, waiting: &'a mut Vec<u8>) -> Teller<'a, K>
+        ensures script { result.script.now ≡ script.now }
+        ensures sink { (result.sink.ghost_name ≡ sink.entry.ghost_name) × (result.sink.now ≡ sink.old) }
+        ensures waiting { (result.waiting.ghost_name ≡ waiting.entry.ghost_name) × (result.waiting.now.items ≡ waiting.old.items) }
+        ensures begun { result.failure ≡ None }
+    {
+        Teller {
+            script,
+            sink,
+            waiting,
+            failure: None,
+        }
+    }
+}
+
 impl<K: Sink> Teller<'_, K> {
     /// Writes what waits, where that is enough.
     fn write_full(&mut self)
@@ -198,13 +215,7 @@ pub fn report_serial<K: Sink>(alloc: Global, sink: &mut K, script: &Script) -> S
     let Ok(mut waiting) = begun(alloc) else {
         return Status::NoMemory;
     };
-    let mut teller = Teller {
-        script,
-        sink,
-        waiting: &mut waiting,
-        failure: None,
-    };
-    teller.tell_serial(alloc)
+    Teller::new(script, sink, &mut waiting).tell_serial(alloc)
 }
 
 /// Writes the report of a history of a script, which is made once more for that.
@@ -217,11 +228,5 @@ pub fn report<K: Sink>(alloc: Global, sink: &mut K, script: &Script, history: &C
     let Ok(mut waiting) = begun(alloc) else {
         return Status::NoMemory;
     };
-    let mut teller = Teller {
-        script,
-        sink,
-        waiting: &mut waiting,
-        failure: None,
-    };
-    teller.tell_again(alloc, history)
+    Teller::new(script, sink, &mut waiting).tell_again(alloc, history)
 }

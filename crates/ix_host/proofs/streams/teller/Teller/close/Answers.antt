@@ -1,4 +1,4 @@
-use Rattle.std.proofs.Common.{◌≡◌, ◌++◌, ℕ, List, Option, None, true, is_ok, is_err, not, length, refl, sym, ap, ◌∙◌, subst}
+use Rattle.std.proofs.Common.{◌≡◌, ◌++◌, ℕ, List, Option, None, true, is_ok, not, length, refl, sym, ap, ◌∙◌, subst}
 use Rattle.ix_lanes.proofs.found.Oks.{from_ok}
 use Rattle.ix_model.specs.history.History.{world_of}
 use Rattle.ix_replay.specs.report.Report.{closing_text}

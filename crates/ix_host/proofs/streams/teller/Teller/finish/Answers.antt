@@ -1,4 +1,4 @@
-use Rattle.std.proofs.Common.{[], List, ℕ, None, sym, subst}
+use Rattle.std.proofs.Common.{[], None, sym, subst}
 use Rattle.ix_host.specs.declared.status.Status.{Status}
 use Rattle.ix_host.specs.run.Outcome as outcome
 use Rattle.ix_host.specs.run.Run.{Ends}

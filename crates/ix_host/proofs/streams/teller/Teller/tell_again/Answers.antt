@@ -1,5 +1,4 @@
-use Rattle.std.proofs.Common.{◌≡◌, ◌++◌, [], ℕ, List, Option, None, refl, sym, ap, ◌∙◌, subst}
-use Rattle.ix_lanes.specs.histories.Serial.{serial}
+use Rattle.std.proofs.Common.{[], ℕ, List, Option, refl, sym, ◌∙◌, subst}
 use Rattle.ix_model.specs.history.History.{History}
 use Rattle.ix_script.specs.scripts.Scripts.{config_of}
 use Rattle.ix_replay.specs.report.Report.{report_of}

@@ -1,4 +1,4 @@
-use Rattle.std.proofs.Common.{◌≡◌, ◌++◌, [], ℕ, List, Option, None, refl, sym, ap, ◌∙◌, subst}
+use Rattle.std.proofs.Common.{[], ℕ, List, Option, refl, sym, ap, ◌∙◌, subst}
 use Rattle.ix_lanes.specs.histories.Serial.{serial}
 use Rattle.ix_model.specs.history.History.{History}
 use Rattle.ix_script.specs.scripts.Scripts.{config_of}

@@ -1,4 +1,4 @@
-use Rattle.std.proofs.Common.{◌≡◌, ◌+◌, ◌++◌, [], ℕ, List, None, is_some, true, is_ok, not, length, refl, sym, ap, ◌∙◌, subst}
+use Rattle.std.proofs.Common.{◌≡◌, ◌+◌, ◌++◌, [], List, None, is_some, true, is_ok, not, length, refl, sym, ap, ◌∙◌}
 use Rattle.ix_lanes.proofs.found.Oks.{from_ok}
 use Rattle.ix_model.specs.history.Calls.{op_of}
 use Rattle.ix_model.specs.history.History.{world_of}
