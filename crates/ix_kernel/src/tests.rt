@@ -96,8 +96,19 @@ fn make_twice<R: Wait>(
     (made, again, kernel.close(first))
 }
 
-/// What two seats of a kernel with this journal are told, and the core that is left.
-fn two_seats<R: Wait>(rt: &R, alloc: Global, journal: u64) -> Result<(Answer, Answer, Core), Fail> {
+/// What came of the turns of two seats that made the same file: whether the first one made it, whether the second was told
+/// that it is there, or that the journal is full at 130 bytes, how many entries there are then, and whose the second is.
+#[derive(Clone, Copy)]
+struct Turns {
+    made: bool,
+    exists: bool,
+    full: bool,
+    entries: u32,
+    second: Option<u32>,
+}
+
+/// The turns of two seats of a kernel with this journal.
+fn two_seats<R: Wait>(rt: &R, alloc: Global, journal: u64) -> Result<Turns, Fail> {
     let core = boot(alloc, journal)?;
     let (kernel, mut seats) = Kernel::new(alloc, core, 2)?;
     let second = seats.pop();
@@ -105,7 +116,14 @@ fn two_seats<R: Wait>(rt: &R, alloc: Global, journal: u64) -> Result<(Answer, An
     let (Some(first), Some(second)) = (first, second) else {
         return Err(Fail::new("a seat is missing"));
     };
-    Ok(make_twice(rt, kernel, first, second))
+    let (made, again, core) = make_twice(rt, kernel, first, second);
+    Ok(Turns {
+        made: is_number(&made, 1),
+        exists: is_refused(&again, Refusal::Exists),
+        full: is_full(&again, (130, 130, 130)),
+        entries: core.len(),
+        second: seat_at(&core, 2),
+    })
 }
 
 /// The seat that made the entry at a place.
@@ -118,20 +136,18 @@ fn seat_at(core: &Core, place: u32) -> Option<u32> {
 
 #[test]
 fn two_seats_share_one_history(rt: HostRuntime) -> Result<(), Fail> {
-    let (made, again, core) = two_seats(&rt, rt.alloc(), 1000)?;
-    assert!(rt; is_number(&made, 1));
-    assert!(rt; is_refused(&again, Refusal::Exists));
-    assert_eq!(rt; core.len(), 2);
-    assert_eq!(rt; seat_at(&core, 2), Some(1));
+    let turns = two_seats(&rt, rt.alloc(), 1000)?;
+    assert!(rt; turns.made && turns.exists);
+    assert_eq!(rt; turns.entries, 2);
+    assert_eq!(rt; turns.second, Some(1));
     Ok(())
 }
 
 #[test]
 fn a_full_journal_is_told(rt: HostRuntime) -> Result<(), Fail> {
-    let (made, again, core) = two_seats(&rt, rt.alloc(), 130)?;
-    assert!(rt; is_number(&made, 1));
-    assert!(rt; is_full(&again, (130, 130, 130)));
-    assert_eq!(rt; core.len(), 1);
+    let turns = two_seats(&rt, rt.alloc(), 130)?;
+    assert!(rt; turns.made && turns.full);
+    assert_eq!(rt; turns.entries, 1);
     Ok(())
 }
 
@@ -149,18 +165,22 @@ fn try_twice(kernel: &Kernel, seat: &mut KSeat) -> Option<(Answer, Answer)>
     Some((made, full))
 }
 
-#[test]
-fn one_seat_is_never_busy(rt: HostRuntime) -> Result<(), Fail> {
-    let core = boot(rt.alloc(), 200)?;
-    let (kernel, mut seats) = Kernel::new(rt.alloc(), core, 1)?;
+/// Whether the one seat of a kernel makes the file `/a` at its first try, and is told at its second that the journal is full.
+fn one_seat(alloc: Global) -> Result<bool, Fail> {
+    let core = boot(alloc, 200)?;
+    let (kernel, mut seats) = Kernel::new(alloc, core, 1)?;
     let Some(mut seat) = seats.pop() else {
         return Err(Fail::new("the seat is missing"));
     };
-    let Some((made, full)) = try_twice(&kernel, &mut seat) else {
-        return Err(Fail::new("the kernel was busy"));
-    };
-    assert!(rt; is_number(&made, 1));
-    assert!(rt; is_full(&full, (130, 130, 200)));
+    match try_twice(&kernel, &mut seat) {
+        Some((made, full)) => Ok(is_number(&made, 1) && is_full(&full, (130, 130, 200))),
+        None => Err(Fail::new("the kernel was busy")),
+    }
+}
+
+#[test]
+fn one_seat_is_never_busy(rt: HostRuntime) -> Result<(), Fail> {
+    assert!(rt; one_seat(rt.alloc())?);
     Ok(())
 }
 
@@ -263,10 +283,9 @@ fn is_same(a: &Answer, b: &Answer) -> bool {
     }
 }
 
-fn was_told(told: &[Told], entry: &Entry<'_>, answer: &Answer) -> bool {
-    told.iter().any(|t| t.seat == entry.seat as usize
-        && t.line == entry.line
-        && is_same(&t.answer, answer))
+/// Whether a seat was told this at one of its lines.
+fn was_told(told: &[Told], seat: u32, line: u32, answer: &Answer) -> bool {
+    told.iter().any(|t| t.seat == seat as usize && t.line == line && is_same(&t.answer, answer))
 }
 
 fn answer_again(core: &mut Core, entry: &Entry<'_>) -> Answer {
@@ -281,7 +300,7 @@ fn replays(core: &Core, again: &mut Core, told: &[Told]) -> bool {
             return false;
         };
         let answer = answer_again(again, &entry);
-        if !was_told(told, &entry, &answer) {
+        if !was_told(told, entry.seat, entry.line, &answer) {
             return false;
         }
     }

@@ -50,16 +50,18 @@ fn empty_file(alloc: Global, text: &[u8]) -> Result<ObjSpec, Fail> {
     })
 }
 
+/// Whether such a config is valid.
+fn is_valid(alloc: Global, file_systems: [&[u8]; 2], files: [&[u8]; 2]) -> Result<bool, Fail> {
+    let config = config(alloc, file_systems, files)?;
+    Ok(config.valid())
+}
+
 #[test]
 fn names_stand_once(rt: HostRuntime) -> Result<(), Fail> {
     let alloc = rt.alloc();
-    let small = config(alloc, [b"disk", b"more"], [b"a", b"b"])?;
-    assert!(rt; small.valid());
-    let one_name = config(alloc, [b"disk", b"disk"], [b"a", b"b"])?;
-    assert!(rt; !one_name.valid());
-    let one_path = config(alloc, [b"disk", b"more"], [b"a", b"a"])?;
-    assert!(rt; !one_path.valid());
-    let root_of_more = config(alloc, [b"disk", b"more"], [b"a", b"more"])?;
-    assert!(rt; !root_of_more.valid());
+    assert!(rt; is_valid(alloc, [b"disk", b"more"], [b"a", b"b"])?);
+    assert!(rt; !is_valid(alloc, [b"disk", b"disk"], [b"a", b"b"])?);
+    assert!(rt; !is_valid(alloc, [b"disk", b"more"], [b"a", b"a"])?);
+    assert!(rt; !is_valid(alloc, [b"disk", b"more"], [b"a", b"more"])?);
     Ok(())
 }
