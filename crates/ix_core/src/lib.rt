@@ -3,9 +3,13 @@
 
 mod keeper;
 mod marking;
+mod seen;
 mod stops;
 mod system;
+mod witness;
 
 pub use keeper::Core;
+pub use seen::SeenSys;
 pub use stops::Stops;
 pub use system::CoreSys;
+pub use witness::{Nobody, Witness};

@@ -1,6 +1,2 @@
-pub mod Reading
-pub mod Labels
-pub mod Commands
-pub mod Beginning
-pub mod Whole
+pub mod Lengths
 pub mod Told

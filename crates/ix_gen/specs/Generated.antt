@@ -1,7 +1,6 @@
 -- The text of the generator.
-use Rattle.std.specs.Prelude.{◌≡◌, ℕ, ◌≤◌, ◌%◌, ◌==◌, List, ◌++◌, None, codes, if◌then◌else◌}
+use Rattle.std.specs.Prelude.{ℕ, ◌%◌, ◌==◌, List, ◌++◌, codes, if◌then◌else◌}
 use Rattle.std.specs.List.{flat_map, range_with_len}
-use Rattle.ix_script.specs.lines.Faults.{fault_of}
 
 -- what every text begins with: three processes, two files, and one lane that opens a file for each process
 unfoldable pub beginning : List ℕ
@@ -32,7 +31,3 @@ line_at k =
 -- the text of n commands: the beginning, and then line k for k from 1 to n
 unfoldable pub generated : ℕ → List ℕ
 generated n = beginning ++ flat_map line_at (range_with_len 1 n)
-
--- each text of 1 to 100,000 commands has no fault
-abbrev pub Readable : Type 0
-Readable = (n : ℕ) → 1 ≤ n → n ≤ 100000 → fault_of (generated n) ≡ None

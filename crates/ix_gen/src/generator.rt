@@ -50,7 +50,7 @@ fn push(out: &mut Vec<u8>, bytes: &[u8]) -> Result<(), NoMemory>
 
 /// The script of the generator with so many commands, 1 to 100,000, after its beginning: at most 16,777,216 bytes. Only
 /// where memory is wanting it answers `NoMemory`.
-#[tactic(auto, using(crate::proofs::Told::next_line, crate::proofs::Told::all_lines, crate::proofs::Told::no_line, crate::proofs::Whole::short_text))]
+#[tactic(auto, using(crate::proofs::Told::next_line, crate::proofs::Told::all_lines, crate::proofs::Told::no_line, crate::proofs::Lengths::short_text))]
 pub fn text(alloc: Global, count: u32) -> Result<Vec<u8>, NoMemory>
     requires some { 1 ≤ count }
     requires few { count ≤ 100000 }

@@ -2,7 +2,6 @@
 #![tactic(auto)]
 
 mod generator;
-pub mod laws;
 #[cfg(test)]
 mod tests;
 

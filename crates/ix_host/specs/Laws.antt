@@ -1,9 +1,15 @@
--- The laws of reports.
-use Rattle.std.specs.Prelude.{List}
+-- The laws of reports, and of made sessions.
+use Rattle.std.specs.Prelude.{◌≡◌, ℕ, ◌≤◌, List, None}
 use Rattle.ix_model.specs.history.Events.{Event}
 use Rattle.ix_script.specs.declared.line.Line.{Line}
+use Rattle.ix_script.specs.lines.Faults.{fault_of}
+use Rattle.ix_gen.specs.Generated.{generated}
 use Rattle.ix_host.specs.Hiding.{HidesLines}
 
 -- the report of each history of each script hides what is high
 abbrev pub LowLinesAreEqual : Type 0
 LowLinesAreEqual = (s : List Line) (history : List Event) → HidesLines s history
+
+-- each text of the generator, of 1 to 100,000 commands, has no fault
+abbrev pub Readable : Type 0
+Readable = (n : ℕ) → 1 ≤ n → n ≤ 100000 → fault_of (generated n) ≡ None

@@ -14,13 +14,12 @@ use crate::status::Status;
 use crate::streams::sending::tell;
 use crate::streams::teller::{report, report_serial};
 use crate::task::Telling;
-use ix_core::Core;
+use ix_core::{Core, Nobody};
 use ix_io::Sink;
 use ix_model::NoMemory;
 use ix_replay::summary;
 use ix_script::Script;
 use ix_serial::run_history;
-use ix_witness::Nobody;
 use std::alloc::Global;
 
 /// Writes the summary of a history of a made script with so many commands.

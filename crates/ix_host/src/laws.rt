@@ -1,5 +1,7 @@
-//! What holds of the reports of scripts. These functions do nothing: each states a law, which is proved.
-ghost use Rattle.ix_host.specs.Laws.{LowLinesAreEqual};
+//! What holds of the reports of scripts, and of made sessions. These functions do nothing: each states a law, which is proved.
+ghost use Rattle.ix_host.specs.Laws.{LowLinesAreEqual, Readable};
+
+use ix_label::laws::spelled_or_faulty;
 
 pub use ix_replay::laws::one_history;
 
@@ -8,3 +10,12 @@ pub use ix_replay::laws::one_history;
 pub fn low_lines_are_equal()
     ensures equal { LowLinesAreEqual }
 {}
+
+/// Each text of the generator, of 1 to 100,000 commands, has no fault, so it is a script.
+pub fn readable()
+    ensures { Readable }
+{
+    spelled_or_faulty(b"0-7");
+    spelled_or_faulty(b"3");
+    spelled_or_faulty(b"5");
+}

@@ -3,8 +3,8 @@ use Rattle.std.proofs.Common.{◌≡◌, ℕ, ◌+◌, List, ◌++◌, drop, map
 use Rattle.std.specs.Prelude.{codes, option_map}
 use Rattle.std.proofs.lemmas.List.{drop-map}
 use Rattle.std.proofs.lemmas.Option.{slice_get-map}
-use Rattle.ix_script.specs.texts.Spellings.{further}
-use Rattle.ix_script.proofs.texts.Further as texts
+use Rattle.ix_text.specs.Spellings.{further}
+use Rattle.ix_text.proofs.Further as texts
 use Rattle.ix_report.specs.Names.{name_text}
 
 -- what is written with the next name, and what is left after it

@@ -6,7 +6,7 @@ use Rattle.std.proofs.lemmas.List.{take-append-drop}
 use Rattle.std.proofs.lemmas.Fmt.{decimal_digit, decimal_step, length-decimal-le}
 use Rattle.std.specs.Fmt.{decimal}
 use Rattle.std.proofs.lemmas.Grind.{flat_map-append}
-use Rattle.ix_script.specs.texts.Spellings.{hex_pair}
+use Rattle.ix_text.specs.Spellings.{hex_pair}
 use Rattle.ix_report.specs.Hex.{hex}
 
 -- two stores, one after the other

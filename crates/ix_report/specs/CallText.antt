@@ -6,7 +6,7 @@ use Rattle.ix_model.specs.history.Events as op
 use Rattle.ix_label.specs.Spelling.{spelling}
 use Rattle.ix_report.specs.Hex.{hex}
 use Rattle.ix_report.specs.Names.{path_text}
-use Rattle.ix_script.specs.texts.Spellings.{mode_text, privs_text}
+use Rattle.ix_text.specs.Spellings.{mode_text, privs_text}
 use Rattle.ix_report.specs.Words.{keep_text}
 
 -- a call of a process

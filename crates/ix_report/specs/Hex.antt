@@ -1,7 +1,7 @@
 -- Bytes in hexadecimal digits.
 use Rattle.std.specs.Prelude.{ℕ, List}
 use Rattle.std.specs.List.{flat_map}
-use Rattle.ix_script.specs.texts.Spellings.{hex_pair}
+use Rattle.ix_text.specs.Spellings.{hex_pair}
 
 -- each byte as two small digits
 abbrev pub hex : List ℕ → List ℕ

@@ -9,7 +9,7 @@ use Rattle.ix_model.specs.declared.audit.AuditLine.{AuditLine}
 use Rattle.ix_model.specs.declared.views.ObjView.{ObjView}
 use Rattle.ix_model.specs.declared.views.ProcView.{ProcView}
 use Rattle.ix_label.specs.Spelling.{spelling}
-use Rattle.ix_script.specs.texts.Spellings.{state_text}
+use Rattle.ix_text.specs.Spellings.{state_text}
 use Rattle.ix_report.specs.declared.totals.Totals.{Totals}
 use Rattle.ix_report.specs.Words.{kind_text, life_text}
 use Rattle.ix_report.specs.CallText.{call_text}

@@ -2,7 +2,7 @@
 use Rattle.std.specs.Prelude.{ℕ, Bool, ◌&&◌, not, List, [], ◌∷◌, ◌++◌, codes, ◌==◌, nat_le, if◌then◌else◌, map}
 use Rattle.std.specs.List.{flat_map}
 use Rattle.ix_model.specs.world.Naming.{PathOf}
-use Rattle.ix_script.specs.texts.Spellings.{hex_pair, joined}
+use Rattle.ix_text.specs.Spellings.{hex_pair, joined}
 
 -- the bytes '"' and '\'
 abbrev pub quote : ℕ

@@ -9,7 +9,7 @@ use Rattle.ix_label.specs.Spelling.{spelling}
 use Rattle.ix_report.specs.Hex.{hex}
 use Rattle.ix_report.specs.Names.{name_text}
 use Rattle.ix_report.specs.RefusalText.{refusal_text}
-use Rattle.ix_script.specs.texts.Spellings.{privs_text, state_text}
+use Rattle.ix_text.specs.Spellings.{privs_text, state_text}
 use Rattle.ix_report.specs.Words.{act_text, kind_text}
 
 -- an audit line, without its line feed

@@ -4,7 +4,7 @@ ghost use Rattle.ix_model.specs.history.Calls.{op_of};
 ghost use Rattle.ix_label.specs.Spelling.{spelling};
 ghost use Rattle.ix_report.specs.Hex.{hex};
 ghost use Rattle.ix_report.specs.Names.{path_text};
-ghost use Rattle.ix_script.specs.texts.Spellings.{mode_text, privs_text};
+ghost use Rattle.ix_text.specs.Spellings.{mode_text, privs_text};
 ghost use Rattle.ix_report.specs.Words.{keep_text};
 ghost use Rattle.ix_report.specs.CallText.{call_text};
 
@@ -13,7 +13,7 @@ use crate::line::Line;
 use crate::pieces::{push_hex, push_number, push_path, push_privs};
 use ix_label::Label;
 use ix_model::{Call, Fd, Keep, Mode, NoMemory, Path, Pid, PrivSet};
-use ix_script::text::mode_word;
+use ix_text::mode_word;
 
 /// A command's word, and the caller. The word ends with the `p` of the pid.
 #[inline(always)]

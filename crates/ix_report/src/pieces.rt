@@ -1,13 +1,13 @@
 ghost use Rattle.std.specs.Prelude.{◌≡◌, ◌*◌, ◌≤◌, ◌++◌, length, take, OnOk, codes};
 ghost use Rattle.std.specs.Fmt.{decimal};
-ghost use Rattle.ix_script.specs.texts.Spellings.{hex_pair, privs_text};
+ghost use Rattle.ix_text.specs.Spellings.{hex_pair, privs_text};
 ghost use Rattle.ix_report.specs.Hex.{hex};
 ghost use Rattle.ix_report.specs.Names.{name_byte, name_text, names_text, path_text};
 
 use crate::line::Line;
 use itoa::{Buffer, write_digits};
 use ix_model::{Name, NoMemory, Path, PrivSet};
-use ix_script::text::{hex_pair, privs_text};
+use ix_text::{hex_pair, privs_text};
 
 /// A number in decimal. One of a single digit takes a short way, which stands where it is called.
 #[inline(always)]

@@ -5,7 +5,7 @@ ghost use Rattle.ix_label.specs.Spelling.{spelling};
 ghost use Rattle.ix_report.specs.Hex.{hex};
 ghost use Rattle.ix_report.specs.Names.{name_text};
 ghost use Rattle.ix_report.specs.RefusalText.{refusal_text};
-ghost use Rattle.ix_script.specs.texts.Spellings.{privs_text, state_text};
+ghost use Rattle.ix_text.specs.Spellings.{privs_text, state_text};
 ghost use Rattle.ix_report.specs.Words.{act_text, kind_text};
 ghost use Rattle.ix_report.specs.ReplyText.{audit_text, reply_text};
 
@@ -16,7 +16,7 @@ use crate::refusals::name_of;
 use crate::words::{act_word, kind_word};
 use ix_label::Label;
 use ix_model::{AuditLine, Fd, Kind, Name, NoMemory, Obj, Pid, PrivSet, Refusal, Reply};
-use ix_script::text::state_word;
+use ix_text::state_word;
 
 /// A word, which ends with its space, and a number.
 #[inline(always)]

@@ -13,7 +13,7 @@ use crate::replies::{push_audit, push_reply};
 use crate::words::{kind_word, life_word};
 use ix_label::Label;
 use ix_model::{AuditLine, Call, NoMemory, ObjView, Pid, ProcView, Reply};
-use ix_script::text::state_word;
+use ix_text::state_word;
 
 /// Appends the first line. After `NoMemory` the bytes are as they were.
 #[tactic(auto, unfolding(crate::specs::LineText::head_line))]

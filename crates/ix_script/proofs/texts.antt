@@ -6,7 +6,6 @@ pub mod Joined
 pub mod Spelling
 pub mod Decoding
 pub mod AllLabels
-pub mod Further
 pub mod Cuts
 pub mod Words
 pub mod Made

@@ -16,7 +16,6 @@ mod role;
 mod rule;
 mod rules;
 mod script;
-pub mod text;
 mod values;
 mod written;
 

@@ -1,5 +1,5 @@
-ghost use Rattle.std.specs.Prelude.{◌≡◌, ◌++◌, ◌∷◌, ◌+◌, ◌<◌, ◌≤◌, ◌^◌, [], Some, None, length, slice_get, OnOk, IfOk, IfSome, MatchOption};
-ghost use Rattle.ix_script.specs.scripts.Canonical.{has_one_spelling, line_text};
+ghost use Rattle.std.specs.Prelude.{◌≡◌, ◌++◌, ◌∷◌, ◌+◌, ◌<◌, ◌≤◌, ◌^◌, [], Some, None, false, length, slice_get, OnOk, IfOk, IfSome, MatchOption};
+ghost use Rattle.ix_script.specs.scripts.Canonical.{has_one_spelling, line_text, may_be_respelled};
 ghost use Rattle.ix_script.specs.lines.Forms.{form_of, places};
 ghost use Rattle.ix_script.specs.lines.Kinds.{places_fault};
 ghost use Rattle.ix_script.specs.lines.Said.{line_of, said_by_words};
@@ -190,6 +190,16 @@ impl Lines {
         } else {
             None
         }
+    }
+
+    /// The line at an index from 0, and the text that was read; `None` exactly past the end. That text is the canonical one, but
+    /// for skipped lines and those with a payload.
+    pub fn text_and_line(&self, i: usize) -> Option<(&[u8], Line<'_>)>
+        ensures line { option_map (λ p. p.1) result ≡ slice_get self.now i }
+        ensures text { IfSome result (λ p. may_be_respelled p.1 ≡ false → line_text p.1 ≡ p.0.now) }
+    {
+        let text = self.text_at(i)?;
+        Some((text, said(text)))
     }
 
     /// What the line at an index from 0 is for; `None` exactly past the end. The line isn't made for it.

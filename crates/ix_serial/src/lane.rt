@@ -1,14 +1,13 @@
 ghost use Rattle.std.specs.Prelude.{◌≡◌, ◌+◌, ◌≤◌, ◌<◌, length, IfOk};
 ghost use Rattle.ix_script.specs.lines.Before.{lanes_of};
 ghost use Rattle.ix_lanes.specs.running.Phases.{phases};
-ghost use Rattle.ix_witness.specs.Seen.{GoesSeen};
+ghost use Rattle.ix_core.specs.Seen.{GoesSeen};
 ghost use Rattle.ix_serial.specs.Running.{HasRoom, IsLane, lane_at_first};
 
-use ix_core::Core;
+use ix_core::{Core, SeenSys, Witness};
 use ix_lanes::LaneRun;
 use ix_model::NoMemory;
 use ix_script::Script;
-use ix_witness::{SeenSys, Witness};
 use std::alloc::Global;
 
 /// A lane of a script, as it is run on a core, and how many phases it has done.

@@ -3,16 +3,15 @@ ghost use Rattle.ix_script.specs.lines.Roles.{role_of};
 ghost use Rattle.ix_script.specs.declared.line.Line.{Line};
 ghost use Rattle.ix_script.specs.scripts.Scripts.{config_of};
 ghost use Rattle.ix_lanes.specs.histories.Serial.{serial};
-ghost use Rattle.ix_witness.specs.Seen.{KnowsOn};
+ghost use Rattle.ix_core.specs.Seen.{KnowsOn};
 ghost use Rattle.ix_serial.specs.Running.{AreAtFirst, begun_after};
 ghost use Rattle.ix_serial.specs.Sections.{has_placed_lanes};
 
 use crate::lane::SerialLane;
-use ix_core::Core;
+use ix_core::{Core, Witness};
 use ix_lanes::{role_at, seat_past};
 use ix_model::NoMemory;
 use ix_script::{Role, Script};
-use ix_witness::Witness;
 use std::alloc::Global;
 
 /// The lanes of a script, none of whose phases is done.

@@ -7,8 +7,8 @@ ghost use Rattle.ix_host.specs.run.Outcome.{input_of, reads_source};
 ghost use Rattle.ix_host.specs.run.Whole.{Gathers, IsInput, IsReadFor, TakesFew};
 
 use crate::asked::command::Command;
+use crate::laws::readable;
 use crate::streams::stream::{Input, read_all};
-use ix_gen::laws::readable;
 use ix_gen::text;
 use ix_io::Source;
 use ix_model::NoMemory;

@@ -14,14 +14,13 @@ ghost use Rattle.ix_host.specs.run.Teller.{StandsAt, failed_as};
 
 use crate::status::Status;
 use crate::streams::stream::{write_all, write_piece};
-use ix_core::Core;
+use ix_core::{Core, Witness};
 use ix_io::{Failed, Sink};
 use ix_model::{Call, NoMemory, Pid, Reply};
 use ix_replay::{Closing, push_entry, replay};
 use ix_report::head;
 use ix_script::Script;
 use ix_serial::run_history;
-use ix_witness::Witness;
 use std::alloc::Global;
 
 /// How many bytes are gathered before they are written.

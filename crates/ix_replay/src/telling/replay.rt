@@ -4,15 +4,14 @@ ghost use Rattle.ix_model.specs.history.Cost.{cost_of, cost_of_history};
 ghost use Rattle.ix_model.specs.history.History.{next, with_entry};
 ghost use Rattle.ix_script.specs.scripts.Need.{need};
 ghost use Rattle.ix_script.specs.scripts.Scripts.{config_of};
-ghost use Rattle.ix_witness.specs.Seen.{KnowsOn};
+ghost use Rattle.ix_core.specs.Seen.{KnowsOn};
 ghost use Rattle.ix_lanes.specs.asking.Replies.{count_in};
 
-use ix_core::Core;
+use ix_core::{Core, Witness};
 use ix_label::Steps;
 use ix_lanes::count_in;
 use ix_model::{Answer, Buf, Entry, NoMemory, Reply};
 use ix_script::Script;
-use ix_witness::Witness;
 use std::alloc::Global;
 use std::marker::Brand;
 use std::sync::ledger::{Blank, Ledger};

@@ -14,8 +14,9 @@ use Rattle.ix_script.specs.lines.Kinds as kind
 use Rattle.ix_script.specs.lines.Forms.{has_right_count, places}
 use Rattle.ix_script.specs.lines.Said.{payload_within, said}
 use Rattle.ix_script.specs.lines.Faults.{line_fault, text_fault, body_fault, stand_fault, names_fault, said_fault, form_fault}
-use Rattle.ix_script.specs.texts.Spellings.{joined, payload_text}
-use Rattle.ix_script.specs.scripts.Canonical.{line_words, line_text}
+use Rattle.ix_text.specs.Spellings.{joined}
+use Rattle.ix_script.specs.texts.Spellings.{payload_text}
+use Rattle.ix_script.specs.scripts.Canonical.{line_words, line_text, may_be_respelled}
 use Rattle.ix_script.specs.declared.line.Line.{Line}
 use Rattle.ix_script.specs.declared.line.Line.TheVariants as line
 use Rattle.ix_script.specs.declared.cutting.form.Form.{Form}
@@ -51,8 +52,8 @@ write_fits before w x f p q read tells =
     ap (λ o. option_or stand (option_or o (option_or names (option_map_or (said_fault before) (said form.Write (w ∷ x ∷ f ∷ p ∷ [])) None)))) alike
     ∙ ap (λ o. option_or stand (option_or (places_fault (places form.Write (w ∷ x ∷ f ∷ q ∷ []))) (option_or names (option_map_or (said_fault before) o None)))) tells
 
-write_back : (before : List Line) (text : List ℕ) (l : Line) → Formed before text form.Write l → Back before text (line_text l) l
-unfolding line_words
+write_back : (before : List Line) (text : List ℕ) (l : Line) → Formed before text form.Write l → Respelled before text l
+unfolding line_words may_be_respelled
 write_back before text l k =
     let words : List (List ℕ) = words_of text in
     let n : length words ≡ 4 = eqb-true (length words) 4 (no_tail (length words == 4) (right_count before form.Write words k.fits)) in
@@ -61,9 +62,13 @@ write_back before text l k =
     let m = of_3 (λ a b c. line.Write a b c) (name_of x) (fd_of f) (payload_within 4096 p) l k.tells in
     let s = fitting 4096 p m.2 (omega arith) (printable_word before text (word_at words 0 ∷ x ∷ f ∷ []) p k.sound cut) m.5 in
     let tells = write_said (codes "write") x f p (payload_text m.2) s.within in
-    payload_back before text form.Write l 4096 (codes "write") (x ∷ f ∷ []) p m.2 write_begins k s
-    (sym cut ∙ ap (λ w. w ∷ x ∷ f ∷ p ∷ []) (sym k.first)) (write_fits before (codes "write") x f p (payload_text m.2) s.alike tells) tells
-    (ap line_words (sym m.6) ∙ same refl (same (name_spelled x m.0 m.3) (same (fd_spelled f m.1 m.4) refl)))
+    record {
+      several = write_several text (front_of words text (codes "write") refl k.first (words_joined text));
+      respelled = ap may_be_respelled (sym m.6);
+      back = payload_back before text form.Write l 4096 (codes "write") (x ∷ f ∷ []) p m.2 write_begins k s
+          (sym cut ∙ ap (λ w. w ∷ x ∷ f ∷ p ∷ []) (sym k.first)) (write_fits before (codes "write") x f p (payload_text m.2) s.alike tells) tells
+          (ap line_words (sym m.6) ∙ same refl (same (name_spelled x m.0 m.3) (same (fd_spelled f m.1 m.4) refl)));
+    }
 
 -- ---- `file`
 file_said : (w a b c d e p q : List ℕ) → payload_within 1048576 p ≡ payload_within 1048576 q → said form.File (w ∷ a ∷ b ∷ c ∷ d ∷ e ∷ p ∷ []) ≡ said form.File (w ∷ a ∷ b ∷ c ∷ d ∷ e ∷ q ∷ [])
@@ -78,8 +83,8 @@ file_fits before w a b c d e p q read tells =
     ap (λ o. option_or stand (option_or o (option_or names (option_map_or (said_fault before) (said form.File (w ∷ a ∷ b ∷ c ∷ d ∷ e ∷ p ∷ [])) None)))) alike
     ∙ ap (λ o. option_or stand (option_or (places_fault (places form.File (w ∷ a ∷ b ∷ c ∷ d ∷ e ∷ q ∷ []))) (option_or names (option_map_or (said_fault before) o None)))) tells
 
-file_back : (before : List Line) (text : List ℕ) (l : Line) → Formed before text form.File l → Back before text (line_text l) l
-unfolding line_words
+file_back : (before : List Line) (text : List ℕ) (l : Line) → Formed before text form.File l → Respelled before text l
+unfolding line_words may_be_respelled
 file_back before text l k =
     let words : List (List ℕ) = words_of text in
     let n : length words ≡ 7 = eqb-true (length words) 7 (no_tail (length words == 7) (right_count before form.File words k.fits)) in
@@ -89,9 +94,13 @@ file_back before text l k =
     let m = of_6 (λ t u v x y z. line.File t u v x y z) (made_path_of a) (label_of b) (state_of c) (privs_of d) (privs_of e) (payload_within 1048576 p) l k.tells in
     let s = fitting 1048576 p m.5 (omega arith) (printable_word before text (word_at words 0 ∷ a ∷ b ∷ c ∷ d ∷ e ∷ []) p k.sound cut) m.11 in
     let tells = file_said (codes "file") a b c d e p (payload_text m.5) s.within in
-    payload_back before text form.File l 1048576 (codes "file") (a ∷ b ∷ c ∷ d ∷ e ∷ []) p m.5 file_begins k s
-    (sym cut ∙ ap (λ w. w ∷ a ∷ b ∷ c ∷ d ∷ e ∷ p ∷ []) (sym k.first)) (file_fits before (codes "file") a b c d e p (payload_text m.5) s.alike tells) tells
-    (ap line_words (sym m.12) ∙ same refl (same (made_path_spelled a m.0 m.6) (same (label_spelled b m.1 m.7) (same (state_spelled c m.2 m.8) (same (privs_spelled d m.3 m.9) (same (privs_spelled e m.4 m.10) refl))))))
+    record {
+      several = file_several text (front_of words text (codes "file") refl k.first (words_joined text));
+      respelled = ap may_be_respelled (sym m.12);
+      back = payload_back before text form.File l 1048576 (codes "file") (a ∷ b ∷ c ∷ d ∷ e ∷ []) p m.5 file_begins k s
+          (sym cut ∙ ap (λ w. w ∷ a ∷ b ∷ c ∷ d ∷ e ∷ p ∷ []) (sym k.first)) (file_fits before (codes "file") a b c d e p (payload_text m.5) s.alike tells) tells
+          (ap line_words (sym m.12) ∙ same refl (same (made_path_spelled a m.0 m.6) (same (label_spelled b m.1 m.7) (same (state_spelled c m.2 m.8) (same (privs_spelled d m.3 m.9) (same (privs_spelled e m.4 m.10) refl))))));
+    }
 
 -- ---- each form
 again : (before : List Line) (text : List ℕ) (f : Form) (l : Line) → Formed before text f l → ((words : List (List ℕ)) (l : Line) → form_word f ≡ word_at words 0 → has_right_count f words ≡ true → said f words ≡ Some l → line_words l ≡ words) → (line_text l ≡ text) ⊎ Respelled before text l
@@ -125,5 +134,5 @@ form_spelled_again before text (form.Plain c) l k = again before text (form.Plai
 form_spelled_again before text (form.OnPath c) l k = again before text (form.OnPath c) l k (on_path_again c)
 form_spelled_again before text (form.OnFd c) l k = again before text (form.OnFd c) l k (on_fd_again c)
 form_spelled_again before text (form.Counted c) l k = again before text (form.Counted c) l k (counted_again c)
-form_spelled_again before text form.Write l k = inr (record { several = write_several text (front_of (words_of text) text (codes "write") refl k.first (words_joined text)); back = write_back before text l k })
-form_spelled_again before text form.File l k = inr (record { several = file_several text (front_of (words_of text) text (codes "file") refl k.first (words_joined text)); back = file_back before text l k })
+form_spelled_again before text form.Write l k = inr (write_back before text l k)
+form_spelled_again before text form.File l k = inr (file_back before text l k)

@@ -17,8 +17,9 @@ use Rattle.ix_script.specs.lines.Forms.{form_of, frame_form, group_form, plain_o
 use Rattle.ix_script.specs.lines.Rules.{is_late, is_outside}
 use Rattle.ix_script.specs.lines.Said.{payload_within, said, line_of}
 use Rattle.ix_script.specs.lines.Faults.{text_fault, words_fault, stand_fault, names_fault, said_fault, form_fault, command_fault, line_fault, body_fault}
-use Rattle.ix_script.specs.texts.Spellings.{further, joined, payload_text}
-use Rattle.ix_script.specs.scripts.Canonical.{line_words, line_text, has_one_spelling}
+use Rattle.ix_text.specs.Spellings.{further, joined}
+use Rattle.ix_script.specs.texts.Spellings.{payload_text}
+use Rattle.ix_script.specs.scripts.Canonical.{line_words, line_text, has_one_spelling, may_be_respelled}
 use Rattle.ix_script.specs.declared.line.Line.{Line}
 use Rattle.ix_script.specs.declared.cutting.form.Form.{Form}
 use Rattle.ix_script.specs.declared.cutting.form.Form.TheVariants as form
@@ -41,6 +42,7 @@ pub record Back (before : List Line) (text again : List ℕ) (l : Line) : Type 0
 -- a line whose text may have another spelling
 pub record Respelled (before : List Line) (text : List ℕ) (l : Line) : Type 0 where
   pub several : has_one_spelling text ≡ false
+  pub respelled : may_be_respelled l ≡ true
   pub back : Back before text (line_text l) l
 
 -- what is known of a line of a form

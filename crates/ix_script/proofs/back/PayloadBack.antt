@@ -12,7 +12,8 @@ use Rattle.ix_model.specs.opening.Valid.{is_within}
 use Rattle.ix_script.specs.texts.Cutting.{begins, is_empty, pieces, is_open}
 use Rattle.ix_script.specs.texts.Words.{is_digit, begins_with, is_numeral, value}
 use Rattle.ix_script.specs.texts.Payloads.{◌>>=◌, times_from, times_of, payload_of}
-use Rattle.ix_script.specs.texts.Spellings.{hex_pair, pairs_text, times_text}
+use Rattle.ix_text.specs.Spellings.{hex_pair}
+use Rattle.ix_script.specs.texts.Spellings.{pairs_text, times_text}
 use Rattle.ix_script.specs.declared.cutting.spot.Spot.TheVariants as spot
 use Rattle.ix_script.proofs.texts.Names.{both, join_tests, list_all_weaker}
 use Rattle.ix_script.proofs.back.OneSpelling.{numerals}

@@ -9,7 +9,8 @@ use Rattle.std.proofs.lemmas.Option.{cond_some, none-some}
 use Rattle.ix_model.specs.opening.Valid.{is_within}
 use Rattle.ix_script.specs.texts.Cutting.{pieces, is_closed}
 use Rattle.ix_script.specs.texts.Payloads.{escaped_byte, quoted_from, payload_of, pair_of, escape_step}
-use Rattle.ix_script.specs.texts.Spellings.{hex_digit, pairs_text, times_text, stands_quoted, quoted_byte, quoted_text, once, times_texts, shortest, payload_text}
+use Rattle.ix_text.specs.Spellings.{hex_digit}
+use Rattle.ix_script.specs.texts.Spellings.{pairs_text, times_text, stands_quoted, quoted_byte, quoted_text, once, times_texts, shortest, payload_text}
 use Rattle.ix_script.specs.declared.cutting.spot.Spot.TheVariants as spot
 use Rattle.ix_script.specs.declared.values.escape.Escape.TheVariants as escape
 use Rattle.ix_script.proofs.texts.Names.{both, join_tests}

@@ -12,7 +12,8 @@ use Rattle.ix_script.specs.texts.Cutting.{begins, is_empty}
 use Rattle.ix_script.specs.texts.Words.{is_numeral, value}
 use Rattle.ix_script.specs.texts.Payloads.{◌>>=◌, after_bytes, pair_of, pairs_of, escaped_byte, escape_step, ends, bytes_of, quoted_from, two_digits, times_from, times_of, payload_of}
 use Rattle.ix_script.specs.lines.Said.{payload_within}
-use Rattle.ix_script.specs.texts.Spellings.{hex_pair, pairs_text, times_text, stands_quoted, quoted_byte, quoted_text, once, times_texts, shortest, payload_text}
+use Rattle.ix_text.specs.Spellings.{hex_pair}
+use Rattle.ix_script.specs.texts.Spellings.{pairs_text, times_text, stands_quoted, quoted_byte, quoted_text, once, times_texts, shortest, payload_text}
 use Rattle.ix_script.specs.declared.values.escape.Escape.{Escape}
 use Rattle.ix_script.specs.declared.values.escape.Escape.TheVariants as escape
 use Rattle.ix_script.proofs.texts.Names.{both, join_tests}

@@ -5,7 +5,8 @@ use Rattle.std.specs.List.{flat_map, list_all}
 use Rattle.std.specs.Fmt.{decimal}
 use Rattle.std.proofs.lemmas.Bool.{lt-ltb, le-ltb, eq-eqb}
 use Rattle.std.proofs.lemmas.List.{at_drop_more, length-append, length-replicate}
-use Rattle.ix_script.specs.texts.Spellings.{hex_pair, pairs_text, times_text, stands_quoted, quoted_byte, quoted_text, once, shortest, payload_text}
+use Rattle.ix_text.specs.Spellings.{hex_pair}
+use Rattle.ix_script.specs.texts.Spellings.{pairs_text, times_text, stands_quoted, quoted_byte, quoted_text, once, shortest, payload_text}
 
 -- the first byte and the others, tested against it
 pub once_first : (bytes : List ℕ) → 0 < length bytes → once bytes ≡ (if list_all (λ c. c == get_or bytes 0 0) (drop 1 bytes) then Some (get_or bytes 0 0) else None)

@@ -13,7 +13,7 @@ use Rattle.ix_script.specs.lines.Before.{has_policy, in_body}
 use Rattle.ix_script.specs.lines.Rules.{first_of, is_too_long, is_unprintable}
 use Rattle.ix_script.specs.lines.Said.{said, said_by_words, line_of}
 use Rattle.ix_script.specs.lines.Faults.{text_fault, words_fault, form_fault, command_fault, policy_fault, first_line_fault, body_fault, line_fault}
-use Rattle.ix_script.specs.scripts.Canonical.{line_words, line_text, has_one_spelling}
+use Rattle.ix_script.specs.scripts.Canonical.{line_words, line_text, has_one_spelling, may_be_respelled}
 use Rattle.ix_script.specs.declared.line.Line.{Line}
 use Rattle.ix_script.specs.declared.line.Line.TheVariants as line
 use Rattle.ix_script.specs.declared.cutting.form.Form.{Form}
@@ -120,13 +120,14 @@ formed before text l means sound later seen other h =
 -- ---- any line
 -- its text is the one that was read, but where it may have another
 spelled_again : (before : List Line) (text : List ℕ) (l : Line) → line_of text ≡ Some l → line_fault before text ≡ None → (line_text l ≡ text) ⊎ Respelled before text l
-unfolding line_of
+unfolding line_of may_be_respelled
 spelled_again before text l means sound =
     let by_words : Option Line = said_by_words (words_of text) in
     let version : Option Line = cond (same_bytes text (codes "ix 1")) (Some line.Version) by_words in
     elim (either (is_skipped text) (Some line.Skipped) (cond (is_policy_line text) (Some (line.Policy (policy_text text))) version) l means) [
       | inl p ↦ inr (record {
         several = skipped_several text p.0;
+        respelled = ap may_be_respelled (sym (same_Some line.Skipped l p.1));
         back = subst (λ (k : Line). Back before text (line_text k) k) (same_Some line.Skipped l p.1) (skipped_back before text (later_of before text (not_version text p.0) sound));
       })
       | inr p ↦ elim (either (is_policy_line text) (Some (line.Policy (policy_text text))) version l p.1) [
@@ -151,4 +152,11 @@ pub one_text : (before : List Line) (text : List ℕ) (l : Line) → line_of tex
 one_text before text l means sound one = elim (spelled_again before text l means sound) [
   | inl e ↦ e
   | inr p ↦ absurd (false≢true (sym p.several ∙ one))
+]
+
+-- and so is that of each line which isn't skipped and has no payload
+pub own_text : (before : List Line) (text : List ℕ) (l : Line) → line_of text ≡ Some l → line_fault before text ≡ None → may_be_respelled l ≡ false → line_text l ≡ text
+own_text before text l means sound one = elim (spelled_again before text l means sound) [
+  | inl e ↦ e
+  | inr p ↦ absurd (false≢true (sym one ∙ p.respelled))
 ]

@@ -1,12 +1,13 @@
 -- The canonical text of a script.
-use Rattle.std.specs.Prelude.{ℕ, Bool, not, ◌&&◌, List, [], ◌∷◌, ◌++◌, take, codes}
+use Rattle.std.specs.Prelude.{ℕ, Bool, true, false, not, ◌&&◌, List, [], ◌∷◌, ◌++◌, take, codes}
 use Rattle.std.specs.List.{flat_map}
 use Rattle.std.specs.Fmt.{decimal}
 use Rattle.ix_label.specs.Spelling.{spelling}
 use Rattle.ix_model.specs.world.Naming.{same_bytes}
 use Rattle.ix_script.specs.texts.Cutting.{is_skipped}
 use Rattle.ix_script.specs.lines.Before.{what_text}
-use Rattle.ix_script.specs.texts.Spellings.{joined, privs_text, path_text, mode_text, state_text, fd_text, keep_text, as_name, as_names, payload_text}
+use Rattle.ix_text.specs.Spellings.{joined, privs_text, mode_text, state_text}
+use Rattle.ix_script.specs.texts.Spellings.{path_text, fd_text, keep_text, as_name, as_names, payload_text}
 use Rattle.ix_script.specs.declared.line.Line.{Line}
 use Rattle.ix_script.specs.declared.line.Line.TheVariants as line
 
@@ -65,6 +66,13 @@ line_words (line.Login proc fd hand named) = codes "login" ∷ proc ∷ fd_text 
 -- the text of a line: its words with a space between each two; a skipped line is empty
 abbrev pub line_text : Line → List ℕ
 line_text l = joined 32 (line_words l)
+
+-- whether a line may be spelled in another way than its text: it is skipped, or has a payload
+unfoldable pub may_be_respelled : Line → Bool
+may_be_respelled line.Skipped = true
+may_be_respelled (line.File path label frozen cap lic bytes) = true
+may_be_respelled (line.Write proc fd bytes) = true
+may_be_respelled _ = false
 
 -- a line of this text has no other: it isn't skipped, and doesn't begin as the two do that have a payload
 unfoldable pub has_one_spelling : List ℕ → Bool

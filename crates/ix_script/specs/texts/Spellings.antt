@@ -1,52 +1,20 @@
 -- How the words of a line are spelled.
-use Rattle.std.specs.Prelude.{ℕ, ◌/◌, ◌%◌, ◌==◌, nat_lt, Bool, not, ◌&&◌, ◌||◌, List, [], ◌∷◌, ◌++◌, length, Option, Some, None, if◌then◌else◌, codes, slice_index, bit_and}
+use Rattle.std.specs.Prelude.{ℕ, ◌==◌, nat_lt, Bool, not, ◌&&◌, ◌||◌, List, [], ◌∷◌, ◌++◌, length, Option, Some, None, if◌then◌else◌, codes}
 use Rattle.std.specs.List.{list_all, flat_map}
 use Rattle.std.specs.Option.{option_map_or}
 use Rattle.std.specs.Fmt.{decimal}
 use Rattle.ix_model.specs.world.Naming.{PathOf}
-use Rattle.ix_model.specs.world.Privs.{is_empty}
 use Rattle.ix_model.specs.opening.Valid.{is_within}
-use Rattle.ix_model.specs.declared.call.Mode.{Mode}
-use Rattle.ix_model.specs.declared.call.Mode.TheVariants as mode
-use Rattle.ix_model.specs.declared.privs.PrivSet.{PrivSet}
-use Rattle.ix_script.specs.texts.Words.{letters}
+use Rattle.ix_text.specs.Spellings.{hex_pair, joined}
 use Rattle.ix_script.specs.declared.line.FdWord.{FdWord}
 use Rattle.ix_script.specs.declared.line.FdWord.TheVariants as fd
 use Rattle.ix_script.specs.declared.line.KeepWord.{KeepWord}
 use Rattle.ix_script.specs.declared.line.KeepWord.TheVariants as keep
 
--- ---- texts in a row
--- each text after that byte
-abbrev pub further : ℕ → List (List ℕ) → List ℕ
-further byte texts = flat_map (λ text. byte ∷ text) texts
-
--- texts with that byte between each two
-abbrev pub joined : ℕ → List (List ℕ) → List ℕ
-joined byte [] = []
-joined byte (text ∷ texts) = text ++ further byte texts
-
--- ---- sets and paths
--- a privilege's letter, where the set has the privilege
-abbrev pub letter_in : PrivSet → ℕ × ℕ → List ℕ
-letter_in set (letter, bit) = if bit_and set.0 bit == bit then letter ∷ [] else []
-
--- a dash for the empty set, else its letters in their order
-unfoldable pub privs_text : PrivSet → List ℕ
-privs_text set = if is_empty set then codes "-" else flat_map (letter_in set) letters
-
+-- ---- paths
 -- names joined by slashes, after one where the path is absolute
 unfoldable pub path_text : PathOf → List ℕ
 path_text path = (if path.absolute then codes "/" else []) ++ joined 47 path.names
-
--- ---- words of a few spellings
-abbrev pub mode_text : Mode → List ℕ
-mode_text mode.Read = codes "r"
-mode_text mode.Write = codes "w"
-mode_text mode.Both = codes "rw"
-
--- whether it is frozen
-abbrev pub state_text : Bool → List ℕ
-state_text frozen = if frozen then codes "frozen" else codes "free"
 
 -- ---- descriptors
 abbrev pub fd_text : FdWord → List ℕ
@@ -68,14 +36,6 @@ as_names None = []
 as_names (Some names) = codes "as" ∷ names.0 ∷ names.1 ∷ []
 
 -- ---- payloads
--- a digit below 16, small
-abbrev pub hex_digit : ℕ → ℕ
-hex_digit n = slice_index (codes "0123456789abcdef") n
-
--- a byte as two digits, the higher one first
-abbrev pub hex_pair : ℕ → List ℕ
-hex_pair b = hex_digit (b / 16) ∷ hex_digit (b % 16) ∷ []
-
 -- `x` and the pair of each byte
 abbrev pub pairs_text : List ℕ → List ℕ
 pairs_text bytes = codes "x" ++ flat_map hex_pair bytes

@@ -7,6 +7,7 @@ use Rattle.ix_model.specs.opening.Valid.{is_within}
 use Rattle.ix_model.specs.declared.call.Mode.{Mode}
 use Rattle.ix_model.specs.declared.call.Mode.TheVariants as mode
 use Rattle.ix_model.specs.declared.privs.PrivSet.{PrivSet}
+use Rattle.ix_text.specs.Spellings.{letters}
 use Rattle.ix_script.specs.texts.Lines.{with_front}
 use Rattle.ix_script.specs.texts.Cutting.{begins, is_empty}
 use Rattle.ix_script.specs.declared.line.What.{What}
@@ -69,10 +70,6 @@ number_of low high word = if is_numeral word && is_within low high (value word) 
 abbrev pub bits_from : ℕ → List (ℕ × ℕ) → List ℕ → Option ℕ
 bits_from bits [] word = if is_empty word then Some bits else None
 bits_from bits ((letter, bit) ∷ letters) word = if begins letter word then bits_from (bits + bit) letters (drop 1 word) else bits_from bits letters word
-
--- D, P, C, T, L
-abbrev pub letters : List (ℕ × ℕ)
-letters = (68, 1) ∷ (80, 2) ∷ (67, 4) ∷ (84, 8) ∷ (76, 16) ∷ []
 
 -- a set without privileges is `-`, another is its letters
 unfoldable pub privs_of : List ℕ → Option PrivSet

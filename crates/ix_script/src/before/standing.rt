@@ -12,13 +12,25 @@ use crate::cutting::cut::Words;
 use crate::cutting::form::Form;
 use crate::cutting::words::{begins_with_digit, is};
 use crate::line::What;
-use crate::text::what_word;
 use ix_model::FsSpec;
 
 fn is_named(word: &[u8], fss: &[FsSpec]) -> bool
     ensures { result ≡ list_any (λ s. same_bytes word.now s.name) fss.now }
 {
     fss.iter().any(|fs| is(word, fs.name.as_bytes()))
+}
+
+/// What a `limit` line limits.
+fn what_word(what: What) -> &'static [u8]
+    ensures { result.now ≡ what_text what }
+{
+    match what {
+        What::Procs => b"procs",
+        What::Opens => b"opens",
+        What::Pipes => b"pipes",
+        What::Names => b"names",
+        What::Log => b"log",
+    }
 }
 
 fn is_limited(word: &[u8], whats: &[What]) -> bool

@@ -1,7 +1,8 @@
 ghost use Rattle.std.specs.Prelude.{◌≡◌, ℕ, ◌≤◌, ◌<◌, ◌+◌, List, [], ◌∷◌};
 ghost use Rattle.ix_script.specs.lines.Kinds as kind;
 ghost use Rattle.ix_script.specs.reader.Readers.{Reads};
-ghost use Rattle.ix_script.specs.texts.Words.{bits_from, letters, privs_of};
+ghost use Rattle.ix_text.specs.Spellings.{letters};
+ghost use Rattle.ix_script.specs.texts.Words.{bits_from, privs_of};
 
 use crate::cutting::words::{begins, is};
 use crate::rule::Rule;

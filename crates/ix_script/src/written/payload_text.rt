@@ -1,14 +1,15 @@
 ghost use Rattle.std.specs.Prelude.{◌≡◌, ◌++◌, ◌∷◌, ◌≤◌, ◌==◌, codes, length, replicate, OnOk, IsTrue};
 ghost use Rattle.std.specs.List.{list_all};
-ghost use Rattle.ix_script.specs.texts.Spellings.{hex_pair, pairs_text, times_text, stands_quoted, quoted_byte, quoted_text, once, payload_text};
+ghost use Rattle.ix_text.specs.Spellings.{hex_pair};
+ghost use Rattle.ix_script.specs.texts.Spellings.{pairs_text, times_text, stands_quoted, quoted_byte, quoted_text, once, payload_text};
 ghost use Rattle.ix_script.specs.texts.PayloadForms.{text_in};
 
-use crate::text::hex_pair;
 use crate::values::payload::Payload;
 use crate::values::payload_form::PayloadForm;
 use crate::written::append::{push, push_byte};
 use itoa::Buffer;
 use ix_model::NoMemory;
+use ix_text::hex_pair;
 
 /// `x` and pairs of digits.
 fn pairs(out: &mut Vec<u8>, bytes: &[u8]) -> Result<(), NoMemory>

@@ -1,5 +1,5 @@
 use Rattle.std.proofs.Common.{◌≡◌, ◌++◌, drop, map}
-use Rattle.ix_script.specs.texts.Spellings.{further}
+use Rattle.ix_text.specs.Spellings.{further}
 use Rattle.ix_report.specs.Names.{name_text, names_text}
 use Rattle.ix_report.proofs.pieces.push_joined.Given as goal
 

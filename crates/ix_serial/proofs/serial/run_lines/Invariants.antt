@@ -1,6 +1,6 @@
 use Rattle.std.proofs.Common.{◌≤◌, ◌<◌, ℕ, length}
 use Rattle.ix_script.specs.lines.Before.{lanes_of}
-use Rattle.ix_witness.specs.Seen.{KnowsOn}
+use Rattle.ix_core.specs.Seen.{KnowsOn}
 use Rattle.ix_serial.specs.Running.{lane_at}
 use Rattle.ix_serial.proofs.serially.Sections.{Begun, high_at, up_to}
 use Rattle.ix_serial.proofs.serially.Walked.{Counted, PlacedFrom, Walked}

@@ -1,4 +1,4 @@
-use Rattle.ix_witness.specs.Seen.{KnowsOn}
+use Rattle.ix_core.specs.Seen.{KnowsOn}
 use Rattle.ix_replay.proofs.Remade.{Remade}
 use Rattle.ix_replay.proofs.telling.replay.replay_on.Given as goal
 

@@ -1,6 +1,7 @@
 use Rattle.std.proofs.Common.{◌≡◌, ◌++◌, drop}
 use Rattle.std.specs.List.{flat_map}
-use Rattle.ix_script.specs.texts.Spellings.{hex_pair, pairs_text}
+use Rattle.ix_text.specs.Spellings.{hex_pair}
+use Rattle.ix_script.specs.texts.Spellings.{pairs_text}
 use Rattle.ix_script.proofs.written.payload_text.pairs.Given as goal
 
 abbrev pub invariant-loop-byte : goal.invariant-loop-byte

@@ -1,5 +1,5 @@
 use Rattle.std.proofs.Common.{ℕ, List, refl, sym, subst, arith}
-use Rattle.ix_witness.specs.Seen.{goes_seen_further, goes_seen_not}
+use Rattle.ix_core.specs.Seen.{goes_seen_further, goes_seen_not}
 use Rattle.ix_script.specs.declared.line.Line.{Line}
 use Rattle.ix_serial.specs.Running.{HasRoom, IsLane}
 use Rattle.ix_serial.proofs.serially.Holding.{room_stays}

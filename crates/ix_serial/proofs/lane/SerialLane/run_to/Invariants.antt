@@ -1,5 +1,5 @@
 use Rattle.std.proofs.Common.{◌≡◌, ◌≤◌}
-use Rattle.ix_witness.specs.Seen.{GoesSeen}
+use Rattle.ix_core.specs.Seen.{GoesSeen}
 use Rattle.ix_serial.specs.Running.{IsLane}
 use Rattle.ix_serial.proofs.lane.SerialLane.run_to.Given as goal
 

@@ -4,8 +4,9 @@ ghost use Rattle.ix_model.specs.history.Shown.{AreShown};
 ghost use Rattle.ix_model.specs.history.Systems.{bytes_in};
 ghost use Rattle.ix_core.specs.Stops.{FilledUp};
 
+use crate::keeper::Core;
+use crate::stops::Stops;
 use crate::witness::Witness;
-use ix_core::{Core, Stops};
 use ix_model::{Answer, Buf, Call, Pid, Reply, Sys};
 
 /// What makes calls on a core as one seat, on one thread, before a witness, which sees each entry as it is made. It borrows both.
@@ -42,7 +43,7 @@ impl<W: Witness> Sys for SeenSys<'_, W> {
     ghost use Rattle.std.specs.Prelude.{refl};
     ghost use Rattle.std.proofs.Common.{◌∙◌};
     ghost use Rattle.ix_model.specs.declared.reply.Answer.TheVariants.{JournalFull};
-    ghost use Rattle.ix_witness.specs.Seen.{GoesSeen, goes_seen_not, goes_seen_further};
+    ghost use Rattle.ix_core.specs.Seen.{GoesSeen, goes_seen_not, goes_seen_further};
 
     ghost seat = { λ s. s.seat };
 

@@ -2,8 +2,7 @@
 use Rattle.std.proofs.Common.{◌≡◌, ℕ, ◌+◌, ◌<◌, List, [], ◌∷◌, ◌++◌, drop, length, Some, refl, add-one, slice_get, append_assoc, ap, sym, ◌∙◌}
 use Rattle.std.proofs.Math.Seq.{drop-cons}
 use Rattle.std.proofs.lemmas.Option.{slice_get_within, get_or_from_slice_get}
-use Rattle.ix_script.specs.texts.Cutting.{word_at}
-use Rattle.ix_script.specs.texts.Spellings.{further, joined}
+use Rattle.ix_text.specs.Spellings.{further}
 
 -- the texts from one on are that one and those after it
 further_from : (byte : ℕ) (texts : List (List ℕ)) (i : ℕ) (text : List ℕ) → slice_get texts i ≡ Some text → further byte (drop i texts) ≡ (byte ∷ text) ++ further byte (drop (i + 1) texts)
@@ -14,8 +13,3 @@ further_from byte texts i text h =
 -- what is written with the next text, and what is left after it
 pub further_next : (byte : ℕ) (out : List ℕ) (texts : List (List ℕ)) (i : ℕ) (text : List ℕ) → slice_get texts i ≡ Some text → (out ++ byte ∷ text) ++ further byte (drop (i + 1) texts) ≡ out ++ further byte (drop i texts)
 further_next byte out texts i text h = append_assoc out (byte ∷ text) (further byte (drop (i + 1) texts)) ∙ ap (λ t. out ++ t) (sym (further_from byte texts i text h))
-
--- the first text, and the others after it
-pub first_and_further : (byte : ℕ) (texts : List (List ℕ)) → word_at texts 0 ++ further byte (drop 1 texts) ≡ joined byte texts
-first_and_further byte [] = refl
-first_and_further byte (text ∷ texts) = refl

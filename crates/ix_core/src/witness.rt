@@ -4,7 +4,7 @@ ghost use Rattle.ix_model.specs.history.Made.{entry};
 ghost use Rattle.ix_model.specs.history.Shown.{AreShown};
 ghost use Rattle.ix_core.specs.Stepping.{IsNext};
 
-use ix_core::Core;
+use crate::keeper::Core;
 use ix_model::{Call, Pid, Reply};
 
 /// What sees the entries of a core as they are made, one after the other.

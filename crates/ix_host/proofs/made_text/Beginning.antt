@@ -11,9 +11,9 @@ use Rattle.ix_script.specs.lines.Faults.{or_next, line_fault, fault_from}
 use Rattle.ix_script.specs.declared.line.Line.{Line}
 use Rattle.ix_script.specs.declared.line.Line.TheVariants as line
 use Rattle.ix_script.specs.declared.line.What.TheVariants as what
-use Rattle.ix_gen.proofs.Reading.{judging, telling}
-use Rattle.ix_gen.proofs.Labels.{IsWord, bottom_word, top_word}
-use Rattle.ix_gen.proofs.Commands.{Ready, IsCommand, ready_next, opens_a, opens_b, opens_c}
+use Rattle.ix_host.proofs.made_text.Reading.{judging, telling}
+use Rattle.ix_host.proofs.made_text.Labels.{IsWord, bottom_word, top_word}
+use Rattle.ix_host.proofs.made_text.Commands.{Ready, IsCommand, ready_next, opens_a, opens_b, opens_c}
 
 -- ---- one line
 no_fault : (o : Option ℕ) (n : ℕ) (later : Option (ℕ × ℕ)) → o ≡ None → later ≡ None → or_next o n later ≡ None

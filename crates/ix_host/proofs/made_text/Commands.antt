@@ -16,7 +16,7 @@ use Rattle.ix_script.specs.declared.line.Line.{Line}
 use Rattle.ix_script.specs.declared.line.Line.TheVariants as line
 use Rattle.ix_script.specs.declared.line.FdWord.TheVariants as fd
 use Rattle.ix_gen.specs.Generated.{line_at}
-use Rattle.ix_gen.proofs.Reading.{judging}
+use Rattle.ix_host.proofs.made_text.Reading.{judging}
 
 -- ---- lines before a command
 -- the lane g has begun, the processes are a, b and c, and there are n commands

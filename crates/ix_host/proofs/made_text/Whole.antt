@@ -9,29 +9,12 @@ use Rattle.ix_script.specs.texts.Lines.{cut, lines_of}
 use Rattle.ix_script.specs.lines.Faults.{fault_from, fault_of}
 use Rattle.ix_script.specs.declared.line.Line.{Line}
 use Rattle.ix_script.proofs.texts.Names.{both}
-use Rattle.ix_gen.specs.Generated.{beginning, line_at, generated, Readable}
-use Rattle.ix_gen.proofs.Labels.{low_eight, three, five}
-use Rattle.ix_gen.proofs.Commands.{Ready, ready_next, Numbered, numbered}
-use Rattle.ix_gen.proofs.Beginning.{command_line, begins}
-
--- ---- lengths
-short_line : (k : ℕ) → length (line_at k) ≤ 15
-short_line k = let c = numbered k in omega (arith, ap length c.ends, length-append c.text (codes "\n"), c.command.short)
-
-short_lines : (k n : ℕ) → length (flat_map line_at (range_with_len k n)) ≤ 15 * n
-short_lines k zero = omega arith
-short_lines k (suc n) =
-    let rest = short_lines (k + 1) n in
-    let one = short_line k in
-    omega (arith, rest, one, length-append (line_at k) (flat_map line_at (range_with_len (k + 1) n)))
-
-length_beginning : length beginning ≡ 164
-unfolding beginning
-length_beginning = refl
-
-pub short_text : (n : ℕ) → n ≤ 100000 → length (generated n) ≤ 16777216
-unfolding generated
-short_text n few = omega (arith, short_lines 1 n, length_beginning, length-append beginning (flat_map line_at (range_with_len 1 n)))
+use Rattle.ix_gen.specs.Generated.{beginning, line_at, generated}
+use Rattle.ix_gen.proofs.Lengths.{short_text}
+use Rattle.ix_host.specs.Laws.{Readable}
+use Rattle.ix_host.proofs.made_text.Labels.{low_eight, three, five}
+use Rattle.ix_host.proofs.made_text.Commands.{Ready, ready_next, Numbered, numbered}
+use Rattle.ix_host.proofs.made_text.Beginning.{command_line, begins}
 
 -- ---- cutting
 one_cut : (text rest : List ℕ) → list_all (λ b. not (b == 10)) text ≡ true → cut (text ++ 10 ∷ rest) ≡ text ∷ cut rest

@@ -1,0 +1,5 @@
+mod Reading
+mod Labels
+mod Commands
+mod Beginning
+pub mod Whole
