@@ -113,7 +113,7 @@ fn close(script: &Script, kernel: Kernel, seat: KSeat, stop: Option<Answer>) -> 
 /// the next phase once all of them have ended. The core that is left has the history that came about.
 ///
 /// Each lane tells the watch of each of its calls before it makes it, and holds no turn then. `NoMemory`: there is no memory for the core,
-/// the kernel or the runs of the lanes, and no call was made. A script that was read has at most 64 lanes.
+/// the kernel or the runs of the lanes, and no core is handed back. A script that was read has at most 64 lanes.
 pub fn run_history<W: Watch, R: Threads + Wait + Sync>(
     rt: &R,
     alloc: Global,
