@@ -1,3 +1,5 @@
+ghost use Rattle.std.specs.Prelude.{◌≤◌};
+
 use ix_gen::text;
 use std::alloc::Global;
 use std::process::Abort;
@@ -39,7 +41,9 @@ const SEVEN: &[u8] = b"ix 1\n\
       seek a 0 0\n";
 
 /// Whether the text of so many commands is as long as this, and ends so.
-fn is_text(alloc: Global, commands: u32, length: usize, end: &[u8]) -> bool {
+fn is_text(alloc: Global, commands: u32, length: usize, end: &[u8]) -> bool
+    requires { (1 ≤ commands) × (commands ≤ 100000) }
+{
     match text(alloc, commands) {
         Ok(text) => text.len() == length && text.as_slice().ends_with(end),
         Err(_) => false,
@@ -48,11 +52,7 @@ fn is_text(alloc: Global, commands: u32, length: usize, end: &[u8]) -> bool {
 
 #[test]
 fn texts_are_told_whole(rt: HostRuntime) {
-    for (commands, length, end) in [
-        (1, ONE.len(), ONE),
-        (7, SEVEN.len(), SEVEN),
-        (100_000, 1_183_499, b"read b 0 16\n"),
-    ] {
-        assert!(rt; is_text(rt.alloc(), commands, length, end), "{commands}");
-    }
+    assert!(rt; is_text(rt.alloc(), 1, ONE.len(), ONE));
+    assert!(rt; is_text(rt.alloc(), 7, SEVEN.len(), SEVEN));
+    assert!(rt; is_text(rt.alloc(), 100_000, 1_183_499, b"read b 0 16\n"));
 }
