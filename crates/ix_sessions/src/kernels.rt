@@ -1,4 +1,4 @@
-ghost use Rattle.std.specs.Prelude.{◌≡◌, ℕ, ◌<◌, ◌≤◌, All, Contains, IfSome, map};
+ghost use Rattle.std.specs.Prelude.{◌≡◌, ℕ, ◌<◌, ◌≤◌, [], All, Contains, IfSome, map};
 ghost use Rattle.ix_gate.specs.Seat.{StandsFor};
 
 use crate::cores::{boot, path};
