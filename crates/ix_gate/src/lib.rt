@@ -11,6 +11,3 @@ mod view;
 pub use gate::{Gate, NoMemory};
 pub use machine::Machine;
 pub use seat::{Busy, Seat};
-
-#[cfg(test)]
-mod tests;

@@ -2,7 +2,5 @@
 #![tactic(auto)]
 
 mod generator;
-#[cfg(test)]
-mod tests;
 
 pub use generator::text;

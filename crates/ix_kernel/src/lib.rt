@@ -10,6 +10,3 @@ pub use ix_gate::Busy;
 pub use kernel::Kernel;
 pub use seat::KSeat;
 pub use system::SeatSys;
-
-#[cfg(test)]
-mod tests;

@@ -2,24 +2,51 @@ use bitflags::Flags;
 use ix_label::Label;
 use ix_model::{Bytes, Config, FsSpec, Limits, List, Name, ObjSpec, Path, PrivSet};
 use std::alloc::Global;
-use std::test::Fail;
+use std::process::Abort;
 
-/// A config of two file systems with these names, and two files in the root with those.
-fn config(alloc: Global, file_systems: [&[u8]; 2], files: [&[u8]; 2]) -> Result<Config, Fail> {
-    let mut fss = List::new(alloc);
-    for text in file_systems {
-        fss.push(FsSpec {
-            name: Name::read(text).ok_or("no name")?,
+/// File systems of these names.
+fn file_systems(alloc: Global, names: [&[u8]; 2]) -> Option<List<FsSpec>> {
+    let mut all = List::new(alloc);
+    for name in names {
+        all.push(FsSpec {
+            name: Name::read(name)?,
             ceiling: Label::top(),
             blocks: 1,
             inodes: 3,
-        })?;
+        })
+        .ok()?;
     }
-    let mut objects = List::new(alloc);
-    for text in files {
-        objects.push(empty_file(alloc, text)?)?;
+    Some(all)
+}
+
+/// The path of a name in the root.
+fn path(name: &[u8]) -> Option<Path> {
+    let mut path = Path::new(true);
+    path.push(Name::read(name)?);
+    Some(path)
+}
+
+/// Empty files of these names.
+fn files(alloc: Global, names: [&[u8]; 2]) -> Option<List<ObjSpec>> {
+    let mut all = List::new(alloc);
+    for name in names {
+        all.push(ObjSpec {
+            path: path(name)?,
+            dir: false,
+            label: Label::bottom(),
+            frozen: false,
+            cap: PrivSet::empty(),
+            lic: PrivSet::empty(),
+            bytes: Bytes::new(alloc),
+        })
+        .ok()?;
     }
-    Ok(Config {
+    Some(all)
+}
+
+/// Whether a config of these file systems, and these files in the root, is valid.
+fn is_valid(alloc: Global, fss: List<FsSpec>, objects: List<ObjSpec>) -> bool {
+    let config = Config {
         fss,
         limits: Limits {
             procs: 1,
@@ -31,37 +58,25 @@ fn config(alloc: Global, file_systems: [&[u8]; 2], files: [&[u8]; 2]) -> Result<
         procs: List::new(alloc),
         objects,
         journal: 1,
-    })
+    };
+    config.valid()
 }
 
-fn empty_file(alloc: Global, text: &[u8]) -> Result<ObjSpec, Fail> {
-    let mut path = Path::new(true);
-    if !path.push(Name::read(text).ok_or("no name")?) {
-        return Err(Fail::from("no room in the path"));
-    }
-    Ok(ObjSpec {
-        path,
-        dir: false,
-        label: Label::bottom(),
-        frozen: false,
-        cap: PrivSet::empty(),
-        lic: PrivSet::empty(),
-        bytes: Bytes::new(alloc),
-    })
-}
-
-/// Whether such a config is valid.
-fn is_valid(alloc: Global, file_systems: [&[u8]; 2], files: [&[u8]; 2]) -> Result<bool, Fail> {
-    let config = config(alloc, file_systems, files)?;
-    Ok(config.valid())
+/// Whether names of file systems and of files may stand together; `None` where memory ran out.
+fn may_stand(alloc: Global, fss: [&[u8]; 2], names: [&[u8]; 2]) -> Option<bool> {
+    let fss = file_systems(alloc, fss)?;
+    let objects = files(alloc, names)?;
+    Some(is_valid(alloc, fss, objects))
 }
 
 #[test]
-fn names_stand_once(rt: HostRuntime) -> Result<(), Fail> {
-    let alloc = rt.alloc();
-    assert!(rt; is_valid(alloc, [b"disk", b"more"], [b"a", b"b"])?);
-    assert!(rt; !is_valid(alloc, [b"disk", b"disk"], [b"a", b"b"])?);
-    assert!(rt; !is_valid(alloc, [b"disk", b"more"], [b"a", b"a"])?);
-    assert!(rt; !is_valid(alloc, [b"disk", b"more"], [b"a", b"more"])?);
-    Ok(())
+fn names_stand_once(rt: HostRuntime) {
+    for (fss, names, valid) in [
+        ([b"disk".as_slice(), b"more"], [b"a".as_slice(), b"b"], true),
+        ([b"disk", b"disk"], [b"a", b"b"], false),
+        ([b"disk", b"more"], [b"a", b"a"], false),
+        ([b"disk", b"more"], [b"a", b"more"], false),
+    ] {
+        assert!(rt; may_stand(rt.alloc(), fss, names) == Some(valid));
+    }
 }

@@ -1,4 +1,4 @@
-//! Tests of the layers under the calls, each by itself.
+//! Tests of the layers under the calls and of the gate, each by itself.
 #![tactic(auto)]
 
 #[cfg(test)]
@@ -8,15 +8,13 @@ mod blocks;
 #[cfg(test)]
 mod configs;
 #[cfg(test)]
-mod floats;
+mod gates;
 #[cfg(test)]
 mod inodes;
 #[cfg(test)]
 mod journals;
 #[cfg(test)]
 mod labels;
-#[cfg(test)]
-mod licences;
 #[cfg(test)]
 mod links;
 #[cfg(test)]

@@ -1,29 +1,20 @@
 use ix_numbers::Numbers;
-use std::test::Fail;
+use std::alloc::Global;
+use std::process::Abort;
 
-#[test]
-fn the_lowest_free_number_is_given_out(rt: HostRuntime) -> Result<(), Fail> {
-    let Ok(mut numbers) = Numbers::new(rt.alloc(), 3) else {
-        return Err(Fail::from("no memory"));
-    };
-    assert_eq!(rt; numbers.free(), 3);
-    assert_eq!(rt; numbers.take(), Some(0));
-    assert_eq!(rt; numbers.take(), Some(1));
-    assert_eq!(rt; numbers.take(), Some(2));
-    assert_eq!(rt; numbers.take(), None);
-    assert_eq!(rt; numbers.first(), None);
-    Ok(())
+/// What is given out of two numbers, and which is free once the first was given back.
+fn given(alloc: Global) -> Option<[Option<u32>; 4]> {
+    let mut numbers = Numbers::new(alloc, 2).ok()?;
+    let first = numbers.take();
+    let second = numbers.take();
+    let none = numbers.take();
+    if first == Some(0) {
+        numbers.give(0);
+    }
+    Some([first, second, none, numbers.first()])
 }
 
 #[test]
-fn a_number_given_back_is_free(rt: HostRuntime) -> Result<(), Fail> {
-    let Ok(mut numbers) = Numbers::new(rt.alloc(), 2) else {
-        return Err(Fail::from("no memory"));
-    };
-    assert_eq!(rt; numbers.take(), Some(0));
-    assert_eq!(rt; numbers.take(), Some(1));
-    numbers.give(0);
-    assert_eq!(rt; numbers.first(), Some(0));
-    assert_eq!(rt; numbers.free(), 1);
-    Ok(())
+fn the_lowest_free_number_is_given_out(rt: HostRuntime) {
+    assert!(rt; given(rt.alloc()) == Some([Some(0), Some(1), None, Some(0)]));
 }

@@ -1,35 +1,28 @@
+ghost use Rattle.std.specs.Prelude.{◌≡◌};
+
 use ix_model::{Mode, Obj};
 use ix_open::Opens;
-use std::test::Fail;
+use std::alloc::Global;
+use std::process::Abort;
+
+/// Lets an open entry go by one owner, where it stands.
+fn release(opens: &mut Opens, id: u32) -> bool
+    ensures { opens.new.objects ≡ opens.old.objects }
+{
+    opens.get(id).is_some() && opens.release(id)
+}
+
+/// What open entries are numbered, in two numbers, and after the first has gone.
+fn numbered(alloc: Global) -> Option<[Option<u32>; 4]> {
+    let mut opens = Opens::new(alloc, 2, 8).ok()?;
+    let first = opens.open(Obj(7), 0, Mode::Both);
+    let second = opens.open(Obj(5), 1, Mode::Read);
+    let none = opens.open(Obj(5), 0, Mode::Read);
+    release(&mut opens, 0);
+    Some([first, second, none, opens.open(Obj(5), 0, Mode::Read)])
+}
 
 #[test]
-fn a_number_is_free_again_once_its_last_owner_went(rt: HostRuntime) -> Result<(), Fail> {
-    let Ok(mut opens) = Opens::new(rt.alloc(), 2, 8) else {
-        return Err(Fail::from("no memory"));
-    };
-    assert_eq!(rt; opens.open(Obj(7), 0, Mode::Both), Some(0));
-    assert_eq!(rt; opens.open(Obj(5), 1, Mode::Read), Some(1));
-    assert_eq!(rt; opens.open(Obj(5), 0, Mode::Read), None);
-    assert_eq!(rt; opens.free(), 0);
-    assert!(rt;
-        opens
-            .get(0)
-            .is_some_and(|e| e.obj == Obj(7) && e.owners == 1)
-    );
-    if opens.get(0).is_some_and(|e| e.owners < 9) {
-        opens.share(0);
-        opens.seek(0, 6);
-    }
-    assert!(rt; opens.get(0).is_some_and(|e| e.at == 6 && e.owners == 2));
-    if opens.get(0).is_some() {
-        assert!(rt; !opens.release(0));
-    }
-    assert!(rt; opens.held(Obj(7), 0));
-    if opens.get(0).is_some() {
-        assert!(rt; opens.release(0));
-    }
-    assert!(rt; !opens.held(Obj(7), 0));
-    assert_eq!(rt; opens.free(), 1);
-    assert_eq!(rt; opens.open(Obj(5), 0, Mode::Read), Some(0));
-    Ok(())
+fn a_number_is_free_again_once_its_last_owner_went(rt: HostRuntime) {
+    assert!(rt; numbered(rt.alloc()) == Some([Some(0), Some(1), None, Some(0)]));
 }

@@ -1,7 +1,8 @@
-use ix_io::{Failed, MemSink, MemSource, QuietSink, QuietSource, Sink, Source, StdSink, StdSource};
+use ix_io::{Failed, QuietSink, QuietSource, Sink, Source, StdSink, StdSource};
+use std::alloc::Global;
 use std::io;
 use std::io::Read;
-use std::test::Fail;
+use std::process::Abort;
 
 /// Gives one byte, fails, gives one more, and ends.
 #[derive(Drop)]
@@ -22,58 +23,53 @@ impl Read for Halting {
     }
 }
 
-#[test]
-fn source_hands_on_bytes_and_faults(rt: HostRuntime) {
+/// What the reads of such a source answer, and the last byte that they gave.
+fn reads() -> ([Result<usize, Failed>; 4], u8) {
     let mut source = StdSource::new(Halting(0));
     let mut buf = [0; 4];
-    for want in [Ok(1), Err(Failed), Ok(1), Ok(0)] {
-        assert_eq!(rt; source.read(&mut buf), want);
-    }
-    assert_eq!(rt; buf[0], b'c');
+    let first = source.read(&mut buf);
+    let second = source.read(&mut buf);
+    let third = source.read(&mut buf);
+    let last = source.read(&mut buf);
+    ([first, second, third, last], buf[0])
+}
+
+#[test]
+fn source_hands_on_bytes_and_faults(rt: HostRuntime) {
+    let (answers, byte) = reads();
+    assert!(rt; answers == [Ok(1), Err(Failed), Ok(1), Ok(0)]);
+    assert!(rt; byte == b'c');
+}
+
+/// What the writes to a sink with room for three bytes answer.
+fn writes(room: &mut [u8]) -> [Result<usize, Failed>; 3] {
+    let mut sink = StdSink::new(room);
+    let first = sink.write(b"ab");
+    let second = sink.write(b"cd");
+    let none = sink.write(b"d");
+    let _done = sink.finish();
+    [first, second, none]
 }
 
 #[test]
 fn sink_hands_on_bytes_and_faults(rt: HostRuntime) {
     let mut room = [0; 3];
-    let mut sink = StdSink::new(room.as_mut_slice());
-    assert_eq!(rt; sink.write(b"ab"), Ok(2));
-    assert_eq!(rt; sink.write(b"cd"), Ok(1));
-    assert_eq!(rt; sink.write(b"d"), Err(Failed), "it takes nothing");
-    assert_eq!(rt; sink.finish(), Ok(()));
-    assert_eq!(rt; room, *b"abc");
+    let answers = writes(room.as_mut_slice());
+    assert!(rt; answers == [Ok(2), Ok(1), Err(Failed)]);
+    assert!(rt; room == *b"abc");
 }
 
-#[test]
-fn quiet_streams_hand_on_all(rt: HostRuntime) -> Result<(), Fail> {
-    let mut source = QuietSource::new(rt.alloc(), b"abc")?;
+/// What is read of a source without faults, and how much a sink without faults has taken of it then.
+fn handed_on(alloc: Global) -> Option<([u8; 3], u64)> {
+    let mut source = QuietSource::new(alloc, b"abc").ok()?;
     let mut sink = QuietSink::new();
-    let mut buf = [0; 2];
-    for want in [2, 1, 0] {
-        assert_eq!(rt; source.read(&mut buf), Ok(want));
-        assert_eq!(rt; sink.write(&buf[..want]), Ok(want));
-    }
-    assert_eq!(rt; sink.taken(), 3);
-    Ok(())
+    let mut buf = [0; 3];
+    let _read = source.read(&mut buf);
+    let _written = sink.write(&buf);
+    Some((buf, sink.taken()))
 }
 
 #[test]
-fn source_gives_all_but_at_planned_faults(rt: HostRuntime) -> Result<(), Fail> {
-    let mut source = MemSource::new(rt.alloc(), b"abc", &[1])?;
-    let mut buf = [0; 2];
-    for want in [Ok(2), Err(Failed), Ok(1), Ok(0)] {
-        assert_eq!(rt; source.read(&mut buf), want);
-    }
-    assert_eq!(rt; buf, *b"cb");
-    Ok(())
-}
-
-#[test]
-fn sink_takes_what_it_has_room_for(rt: HostRuntime) -> Result<(), Fail> {
-    let mut sink = MemSink::new(rt.alloc(), 3, &[1])?;
-    for want in [Ok(2), Err(Failed), Ok(1), Err(Failed)] {
-        assert_eq!(rt; sink.write(b"ab"), want);
-    }
-    assert_eq!(rt; sink.finish(), Ok(()));
-    assert_eq!(rt; sink.as_slice(), b"aba".as_slice());
-    Ok(())
+fn quiet_streams_hand_on_all(rt: HostRuntime) {
+    assert!(rt; handed_on(rt.alloc()) == Some((*b"abc", 3)));
 }

@@ -1,36 +1,45 @@
-ghost use Rattle.std.specs.Prelude.{◌≡◌, ◌<◌};
+ghost use Rattle.std.specs.Prelude.{◌≡◌, ◌<◌, [], IfSome};
 
 use ix_core::Core;
 use ix_float::Way;
 use ix_label::Steps;
-use ix_model::{Answer, Buf, Call, Fd, Mode, Name, Path, Pid, Refusal, Reply};
+use ix_model::{Answer, Buf, Call, Config, Fd, Mode, Name, Path, Pid, Refusal, Reply};
 use ix_script::read;
 use std::alloc::Global;
 use std::marker::Brand;
 use std::process::Abort;
 use std::sync::ledger::{Blank, Ledger};
-use std::test::Fail;
 
-/// A low process with nothing above it, a high one, and a low file. The config's journal has room for the calls.
-const TWO_LEVELS: &[u8] =
-    b"ix 1\nproc l - - - -\nproc h 7 * - -\nfile /d - free - - \"xy\"\nphase\nlane m\nopen h /d w as f\nopen l /d r as g\nread l g 1\nread l g 1\nwrite h f \"Z\"\nread l g 1\n";
+/// A low process with nothing above it, a high one, and a low file.
+const TWO_LEVELS: &[u8] = b"ix 1\nproc l - - - -\nproc h 7 * - -\nfile /d - free - - \"xy\"\n";
 
-fn boot(alloc: Global) -> Result<Core, Fail> {
-    let script = read(alloc, TWO_LEVELS).ok().ok_or("a script")?;
-    let config = script.config(alloc)?;
-    if !config.valid() {
-        return Err("the config is not valid".into());
-    }
-    Ok(Core::boot(alloc, config)?)
+/// The config of a script, but with this journal.
+fn config_of(alloc: Global, text: &[u8], journal: u64) -> Option<Config> {
+    let script = read(alloc, text).ok()?;
+    let mut config = script.config(alloc).ok()?;
+    config.journal = journal;
+    Some(config)
 }
 
-/// The call that opens the file.
-fn open(mode: Mode) -> Call<'static> {
+/// A core of the config of a script, but with this journal.
+pub fn boot(alloc: Global, text: &[u8], journal: u64) -> Option<Core>
+    ensures { IfSome result (λ c. c.events ≡ []) }
+{
+    let config = config_of(alloc, text, journal)?;
+    if config.valid() {
+        Core::boot(alloc, config).ok()
+    } else {
+        None
+    }
+}
+
+/// The path of a name of one letter in the root.
+pub fn path(letter: u8) -> Path {
     let mut path = Path::new(true);
-    if let Some(name) = Name::read(b"d") {
+    if let Some(name) = Name::read(&[letter]) {
         path.push(name);
     }
-    Call::OpenAt { path, mode }
+    path
 }
 
 /// Reads a byte through a descriptor that is fresh for reading, and looks at no label; `false` where it isn't fresh, or the
@@ -48,51 +57,76 @@ fn reads_fresh<L: Ledger>(
         return false;
     }
     let read = core.step(0, 4, pid, &Call::ReadFd { fd, count: 1 }, buf, steps);
-    is_bytes(&read, 1)
+    matches!(read, Answer::Given(Reply::Bytes(1)))
 }
 
-fn is_bytes(answer: &Answer, count: u32) -> bool {
-    matches!(answer, Answer::Given(Reply::Bytes(n)) if *n == count)
+/// Opens the file of the session; whether its process has it under descriptor 0 then.
+fn opens<L: Ledger>(core: &mut Core, pid: Pid, mode: Mode, steps: &mut Steps<L>) -> bool {
+    let mut buf = [0; 4096];
+    let open = Call::OpenAt {
+        path: path(b'd'),
+        mode,
+    };
+    let opened = core.step(0, 1, pid, &open, &mut buf, steps);
+    matches!(opened, Answer::Given(Reply::Number(0)))
 }
 
-fn is_number(answer: &Answer, number: u64) -> bool {
-    matches!(answer, Answer::Given(Reply::Number(n)) if *n == number)
+/// The first read of the low process, after which its descriptor is fresh, and the second.
+fn reads_twice<L: Ledger>(core: &mut Core, steps: &mut Steps<L>) -> [u8; 2] {
+    let (low, fd) = (Pid(1), Fd(0));
+    let mut first = [0; 4096];
+    let mut second = [0; 4096];
+    core.step(0, 3, low, &Call::ReadFd { fd, count: 1 }, &mut first, steps);
+    if reads_fresh(core, low, fd, &mut second, steps) {
+        [first[0], second[0]]
+    } else {
+        [0, 0]
+    }
 }
 
-fn is_refused(answer: &Answer, why: Refusal) -> bool {
-    matches!(answer, Answer::Given(Reply::No(no)) if *no == why)
+/// What the low process is told at a read once the high one has written to the file, where its descriptor isn't fresh any more.
+fn reads_stale<L: Ledger>(core: &mut Core, steps: &mut Steps<L>) -> Option<Answer> {
+    let (low, high, fd) = (Pid(1), Pid(2), Fd(0));
+    let mut buf = [0; 4096];
+    core.step(
+        0,
+        5,
+        high,
+        &Call::WriteFd { fd, bytes: b"Z" },
+        &mut buf,
+        steps,
+    );
+    if core.fresh(low, fd, Way::Reading) {
+        return None;
+    }
+    Some(core.step(0, 6, low, &Call::ReadFd { fd, count: 1 }, &mut buf, steps))
 }
 
-/// The session, whose looks at labels are counted in a ledger.
-fn session<R: Abort, L: Ledger>(rt: &R, core: &mut Core, blank: Blank)
+/// Whether a session goes as it should, whose looks at labels are counted in a ledger.
+fn goes<L: Ledger>(core: &mut Core, blank: Blank) -> bool
     requires name { blank.name ≡ L.name }
     requires parts { blank.parts ≡ L.parts }
     requires some { 0 < L.parts }
 {
-    let (low, high, fd) = (Pid(1), Pid(2), Fd(0));
-    let reading = Call::ReadFd { fd, count: 1 };
-    let writing = Call::WriteFd { fd, bytes: b"Z" };
-    let mut buf = [0; 4096];
     let mut steps = Steps::<L>::new(blank);
-    let opened = core.step(0, 1, high, &open(Mode::Write), &mut buf, &mut steps);
-    assert!(rt; is_number(&opened, 0));
-    let opened = core.step(0, 2, low, &open(Mode::Read), &mut buf, &mut steps);
-    assert!(rt; is_number(&opened, 0) && !core.fresh(low, fd, Way::Reading));
-    let first = core.step(0, 3, low, &reading, &mut buf, &mut steps);
-    assert!(rt; is_bytes(&first, 1) && buf[0] == b'x');
-    assert!(rt; reads_fresh(core, low, fd, &mut buf, &mut steps) && buf[0] == b'y');
-    assert!(rt; core.fresh(low, fd, Way::Reading) && !core.fresh(low, fd, Way::Writing));
-    let written = core.step(0, 5, high, &writing, &mut buf, &mut steps);
-    assert!(rt; is_number(&written, 1) && core.fresh(high, fd, Way::Writing));
-    // The write has raised the file's label above the reader's ceiling.
-    assert!(rt; !core.fresh(low, fd, Way::Reading));
-    let third = core.step(0, 6, low, &reading, &mut buf, &mut steps);
-    assert!(rt; is_refused(&third, Refusal::ProcCeiling));
+    let opened = opens(core, Pid(2), Mode::Write, &mut steps)
+        && opens(core, Pid(1), Mode::Read, &mut steps);
+    let read = reads_twice(core, &mut steps);
+    let stale = reads_stale(core, &mut steps);
+    opened
+        && read == *b"xy"
+        && matches!(stale, Some(Answer::Given(Reply::No(Refusal::ProcCeiling))))
+}
+
+/// Whether it does so on a new core.
+fn goes_anew(alloc: Global) -> bool {
+    match boot(alloc, TWO_LEVELS, 1_000) {
+        Some(mut core) => goes::<Brand>(&mut core, Blank::new(1)),
+        None => false,
+    }
 }
 
 #[test]
-fn a_second_read_looks_at_no_label(rt: HostRuntime) -> Result<(), Fail> {
-    let mut core = boot(rt.alloc())?;
-    session::<HostRuntime, Brand>(&rt, &mut core, Blank::new(1));
-    Ok(())
+fn a_second_read_looks_at_no_label(rt: HostRuntime) {
+    assert!(rt; goes_anew(rt.alloc()));
 }

@@ -4,6 +4,10 @@
 #[cfg(test)]
 mod cores;
 #[cfg(test)]
+mod gens;
+#[cfg(test)]
+mod kernels;
+#[cfg(test)]
 mod programs;
 #[cfg(test)]
 mod reports;

@@ -8,11 +8,11 @@ use ix_model::{
     ProcView, Refusal, Reply,
 };
 use ix_report::{audit_line, entry_line, head, object_line, process_line, tail};
-use std::test::Fail;
+use std::alloc::Global;
+use std::process::Abort;
 
-#[test]
-fn prints_each_kind_of_line(rt: HostRuntime) -> Result<(), Fail> {
-    let mut out = Vec::new(rt.alloc());
+/// A line of each kind.
+fn lines(out: &mut Vec<u8>) -> Result<(), NoMemory> {
     let three = Label::bottom().with(3);
     let read = Call::ReadFd {
         fd: Fd(0),
@@ -28,9 +28,9 @@ fn prints_each_kind_of_line(rt: HostRuntime) -> Result<(), Fail> {
         cap: PrivSet::empty(),
         lic: PrivSet::empty(),
     };
-    head(&mut out)?;
+    head(out)?;
     entry_line(
-        &mut out,
+        out,
         2,
         b"m",
         7,
@@ -41,7 +41,7 @@ fn prints_each_kind_of_line(rt: HostRuntime) -> Result<(), Fail> {
         Some(&three),
     )?;
     entry_line(
-        &mut out,
+        out,
         2,
         b"m",
         7,
@@ -52,7 +52,7 @@ fn prints_each_kind_of_line(rt: HostRuntime) -> Result<(), Fail> {
         Some(&Label::bottom()),
     )?;
     entry_line(
-        &mut out,
+        out,
         3,
         b"m",
         7,
@@ -63,7 +63,7 @@ fn prints_each_kind_of_line(rt: HostRuntime) -> Result<(), Fail> {
         None,
     )?;
     object_line(
-        &mut out,
+        out,
         1,
         &ObjView {
             kind: Kind::File,
@@ -72,26 +72,25 @@ fn prints_each_kind_of_line(rt: HostRuntime) -> Result<(), Fail> {
         },
     )?;
     process_line(
-        &mut out,
+        out,
         Pid(1),
         &ProcView {
             label: three,
             ended: false,
         },
     )?;
-    audit_line(&mut out, &audit)?;
-    tail(&mut out, 3, 0)?;
-    let text = b"ix 1 report\n\
-        2 m 7 read p1 0 8 = bytes 2 x6869 @ 3\n\
-        2 m 7 read p1 0 8 = no 12 ProcCeiling @ -\n\
-        3 m 7 read p1 0 8 = no 1 NoProcess @ none\n\
-        1 file 3 free\n\
-        p1 3 live\n\
-        3 p3 downfile 1 3 - - -\n\
-        end 3 0\n";
-    assert_eq!(rt; out.as_slice(), text.as_slice());
-    Ok(())
+    audit_line(out, &audit)?;
+    tail(out, 3, 0)
 }
+
+const LINES: &[u8] = b"ix 1 report\n\
+    2 m 7 read p1 0 8 = bytes 2 x6869 @ 3\n\
+    2 m 7 read p1 0 8 = no 12 ProcCeiling @ -\n\
+    3 m 7 read p1 0 8 = no 1 NoProcess @ none\n\
+    1 file 3 free\n\
+    p1 3 live\n\
+    3 p3 downfile 1 3 - - -\n\
+    end 3 0\n";
 
 /// The line of a reply that no bytes go with.
 fn answer(out: &mut Vec<u8>, reply: &Reply) -> Result<(), NoMemory>
@@ -101,11 +100,9 @@ fn answer(out: &mut Vec<u8>, reply: &Reply) -> Result<(), NoMemory>
     entry_line(out, 1, b"m", 7, Pid(1), &call, reply, b"", None)
 }
 
-#[test]
-fn prints_each_reply(rt: HostRuntime) -> Result<(), Fail> {
-    let mut out = Vec::new(rt.alloc());
+/// A line with each reply that no bytes go with.
+fn replies(out: &mut Vec<u8>, name: Name) -> Result<(), NoMemory> {
     let high = Label::bottom().with(2).with(5).with(6);
-    let name = Name::read(b"a\"b").ok_or("no name")?;
     let audit = AuditLine {
         place: 13,
         pid: Pid(1),
@@ -125,61 +122,59 @@ fn prints_each_reply(rt: HostRuntime) -> Result<(), Fail> {
         cap: PrivSet::DOWN | PrivSet::THAW,
         lic: PrivSet::empty(),
     };
-    answer(&mut out, &Reply::Done)?;
-    answer(&mut out, &Reply::Number(18446744073709551615))?;
-    answer(&mut out, &Reply::Two(Fd(0), Fd(31)))?;
-    answer(&mut out, &Reply::Bytes(0))?;
-    answer(&mut out, &stat)?;
-    answer(&mut out, &Reply::Lab(high))?;
-    answer(&mut out, &Reply::Named { name, obj: Obj(9) })?;
-    answer(&mut out, &Reply::Half)?;
+    answer(out, &Reply::Done)?;
+    answer(out, &Reply::Number(18446744073709551615))?;
+    answer(out, &Reply::Two(Fd(0), Fd(31)))?;
+    answer(out, &Reply::Bytes(0))?;
+    answer(out, &stat)?;
+    answer(out, &Reply::Lab(high))?;
+    answer(out, &Reply::Named { name, obj: Obj(9) })?;
+    answer(out, &Reply::Half)?;
     answer(
-        &mut out,
+        out,
         &Reply::Whole {
             pid: Pid(3),
             label: high,
             lic: PrivSet::all(),
         },
     )?;
-    answer(&mut out, &Reply::LogLine(audit))?;
+    answer(out, &Reply::LogLine(audit))?;
     answer(
-        &mut out,
+        out,
         &Reply::Child {
             pid: Pid(2),
             status: 255,
         },
     )?;
-    answer(&mut out, &Reply::No(Refusal::InUse))?;
-    let text = b"1 m 7 self p1 = done @ none\n\
-        1 m 7 self p1 = number 18446744073709551615 @ none\n\
-        1 m 7 self p1 = two 0 31 @ none\n\
-        1 m 7 self p1 = bytes 0 x @ none\n\
-        1 m 7 self p1 = stat 4 pipe 70000 2 frozen DT - @ none\n\
-        1 m 7 self p1 = label 2,5-6 @ none\n\
-        1 m 7 self p1 = entry a\\x22b 9 @ none\n\
-        1 m 7 self p1 = half @ none\n\
-        1 m 7 self p1 = whole p3 2,5-6 DPCTL @ none\n\
-        1 m 7 self p1 = log 13 p1 grant 3 - * - L @ none\n\
-        1 m 7 self p1 = child p2 255 @ none\n\
-        1 m 7 self p1 = no 38 InUse @ none\n";
-    assert_eq!(rt; out.as_slice(), text.as_slice());
-    Ok(())
+    answer(out, &Reply::No(Refusal::InUse))
 }
 
-#[test]
-fn prints_arguments(rt: HostRuntime) -> Result<(), Fail> {
-    let mut out = Vec::new(rt.alloc());
-    let one = Name::read(b"a\\\x7f").ok_or("no name")?;
-    let two = Name::read(b"!~").ok_or("no name")?;
-    let mut rooted = Path::new(true);
-    assert!(rt; rooted.push(one));
-    assert!(rt; rooted.push(two));
-    let mut path = Path::new(false);
-    assert!(rt; path.push(two));
-    assert!(rt; path.push(two));
+const REPLIES: &[u8] = b"1 m 7 self p1 = done @ none\n\
+    1 m 7 self p1 = number 18446744073709551615 @ none\n\
+    1 m 7 self p1 = two 0 31 @ none\n\
+    1 m 7 self p1 = bytes 0 x @ none\n\
+    1 m 7 self p1 = stat 4 pipe 70000 2 frozen DT - @ none\n\
+    1 m 7 self p1 = label 2,5-6 @ none\n\
+    1 m 7 self p1 = entry a\\x22b 9 @ none\n\
+    1 m 7 self p1 = half @ none\n\
+    1 m 7 self p1 = whole p3 2,5-6 DPCTL @ none\n\
+    1 m 7 self p1 = log 13 p1 grant 3 - * - L @ none\n\
+    1 m 7 self p1 = child p2 255 @ none\n\
+    1 m 7 self p1 = no 38 InUse @ none\n";
+
+/// A path of two names.
+fn path(absolute: bool, first: Name, second: Name) -> Path {
+    let mut path = Path::new(absolute);
+    path.push(first);
+    path.push(second);
+    path
+}
+
+/// A line with each kind of argument.
+fn arguments(out: &mut Vec<u8>, one: Name, two: Name) -> Result<(), NoMemory> {
     let calls = [
         Call::OpenAt {
-            path: rooted,
+            path: path(true, one, two),
             mode: Mode::Both,
         },
         Call::WriteFd {
@@ -187,7 +182,7 @@ fn prints_arguments(rt: HostRuntime) -> Result<(), Fail> {
             bytes: b"\x00\xfa",
         },
         Call::LinkAt {
-            target: path,
+            target: path(false, two, two),
             path: Path::new(true),
         },
         Call::ListAt {
@@ -203,14 +198,32 @@ fn prints_arguments(rt: HostRuntime) -> Result<(), Fail> {
         },
     ];
     for call in &calls {
-        entry_line(&mut out, 1, b"m", 7, Pid(1), call, &Reply::Done, b"", None)?;
+        entry_line(out, 1, b"m", 7, Pid(1), call, &Reply::Done, b"", None)?;
     }
-    let text = b"1 m 7 open p1 /a\\x5c\\x7f/!~ rw = done @ none\n\
-        1 m 7 write p1 1 x00fa = done @ none\n\
-        1 m 7 link p1 !~/!~ / = done @ none\n\
-        1 m 7 list p1 . 4 = done @ none\n\
-        1 m 7 fork p1 3 = done @ none\n\
-        1 m 7 ceiling p1 p2 * = done @ none\n";
-    assert_eq!(rt; out.as_slice(), text.as_slice());
     Ok(())
+}
+
+const ARGUMENTS: &[u8] = b"1 m 7 open p1 /a\\x5c\\x7f/!~ rw = done @ none\n\
+    1 m 7 write p1 1 x00fa = done @ none\n\
+    1 m 7 link p1 !~/!~ / = done @ none\n\
+    1 m 7 list p1 . 4 = done @ none\n\
+    1 m 7 fork p1 3 = done @ none\n\
+    1 m 7 ceiling p1 p2 * = done @ none\n";
+
+/// Whether the lines, the replies and the arguments are written so.
+fn are_written(alloc: Global) -> Option<[bool; 3]> {
+    let name = Name::read(b"a\"b")?;
+    let (one, two) = (Name::read(b"a\\\x7f")?, Name::read(b"!~")?);
+    let mut out = Vec::new(alloc);
+    let all = lines(&mut out).is_ok() && out.as_slice() == LINES;
+    out.clear();
+    let each = replies(&mut out, name).is_ok() && out.as_slice() == REPLIES;
+    out.clear();
+    let kinds = arguments(&mut out, one, two).is_ok() && out.as_slice() == ARGUMENTS;
+    Some([all, each, kinds])
+}
+
+#[test]
+fn prints_lines_replies_and_arguments(rt: HostRuntime) {
+    assert!(rt; are_written(rt.alloc()) == Some([true; 3]));
 }

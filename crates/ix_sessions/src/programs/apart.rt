@@ -1,16 +1,16 @@
 ghost use Rattle.std.specs.Prelude.{◌<◌};
 
-use ix_host::{NoWatch, Status, Watch, Words, run_lanes};
+use super::command;
+use ix_host::{NoWatch, Status, Watch, run_lanes};
 use ix_io::{MemSink, MemSource};
 use std::alloc::Global;
 use std::process::Abort;
 use std::sync::Wait;
 use std::sync::atomic::{AtomicU64, Ordering};
-use std::test::Fail;
 use std::thread;
 use std::thread::Threads;
 
-// Two lanes of one phase, each with a file of its own; then the first one reads the other's.
+/// Two lanes of one phase, each with a file of its own; then the first one reads the other's.
 const SCRIPT: &[u8] = b"ix 1\n\
     proc a - * - -\n\
     proc b 4 * - -\n\
@@ -28,14 +28,23 @@ const SCRIPT: &[u8] = b"ix 1\n\
     open a /y r as g\n\
     read a g 1\n";
 
-const ONE: [&[u8]; 2] = [
-    b" one 8 open p1 /x rw = number 0 @ -\n",
-    b" one 9 write p1 0 x31 = number 1 @ -\n",
-];
+/// The lines of the first phase, without their numbers.
+const ONE_OPENS: &[u8] = b" one 8 open p1 /x rw = number 0 @ -\n";
 
-const TWO: [&[u8]; 2] = [
-    b" two 11 open p2 /y rw = number 0 @ 4\n",
-    b" two 12 write p2 0 x32 = number 1 @ 4\n",
+const ONE_WRITES: &[u8] = b" one 9 write p1 0 x31 = number 1 @ -\n";
+
+const TWO_OPENS: &[u8] = b" two 11 open p2 /y rw = number 0 @ 4\n";
+
+const TWO_WRITES: &[u8] = b" two 12 write p2 0 x32 = number 1 @ 4\n";
+
+/// The orders in which they may come.
+const ORDERS: [[&[u8]; 4]; 6] = [
+    [ONE_OPENS, ONE_WRITES, TWO_OPENS, TWO_WRITES],
+    [ONE_OPENS, TWO_OPENS, ONE_WRITES, TWO_WRITES],
+    [ONE_OPENS, TWO_OPENS, TWO_WRITES, ONE_WRITES],
+    [TWO_OPENS, ONE_OPENS, ONE_WRITES, TWO_WRITES],
+    [TWO_OPENS, ONE_OPENS, TWO_WRITES, ONE_WRITES],
+    [TWO_OPENS, TWO_WRITES, ONE_OPENS, ONE_WRITES],
 ];
 
 const REST: &[u8] = b"5 one 15 open p1 /y r = number 1 @ -\n\
@@ -50,61 +59,104 @@ const REST: &[u8] = b"5 one 15 open p1 /y r = number 1 @ -\n\
     log\n\
     end 6 0\n";
 
-// In which order the lanes may come to their calls, lane one's named by `false`.
-const ORDERS: [[bool; 4]; 6] = [
-    [false, false, true, true],
-    [false, true, false, true],
-    [false, true, true, false],
-    [true, false, false, true],
-    [true, false, true, false],
-    [true, true, false, false],
-];
-
-/// The report where the lanes came to their calls in this order.
-fn report(alloc: Global, order: &[bool; 4]) -> Result<Vec<u8>, Fail> {
-    let mut text = Vec::from_slice(alloc, b"ix 1 report\n")?;
-    let mut one = ONE.iter();
-    let mut two = TWO.iter();
-    let mut place = b'1';
-    for of_two in order {
-        let line = if *of_two { two.next() } else { one.next() };
-        text.push(place)?;
-        text.extend_from_slice(line.ok_or("an order has a call too many")?)?;
-        place = place.saturating_add(1);
+/// What stands behind these lines at the front of a report, which are numbered from 1; `None` where others stand there.
+fn behind<'a>(report: &'a [u8], lines: &[&[u8]; 4]) -> Option<&'a [u8]> {
+    let mut rest = report.strip_prefix(b"ix 1 report\n".as_slice())?;
+    let mut number = b'1';
+    for line in lines {
+        rest = rest.strip_prefix([number].as_slice())?.strip_prefix(*line)?;
+        number = number.saturating_add(1);
     }
-    text.extend_from_slice(REST)?;
-    Ok(text)
+    Some(rest)
 }
 
 /// Whether the text is the report in one of the orders.
-fn is_report(alloc: Global, text: &[u8]) -> Result<bool, Fail> {
-    for order in &ORDERS {
-        if report(alloc, order)?.as_slice() == text {
-            return Ok(true);
+fn is_report(text: &[u8]) -> bool {
+    for lines in &ORDERS {
+        if behind(text, lines) == Some(REST) {
+            return true;
         }
     }
-    Ok(false)
+    false
 }
 
-/// Runs the lanes, and compares the report.
-fn prints_apart<W: Watch, R: Threads + Wait + Abort + Sync>(
+/// What is written of the lanes of a script.
+fn report<W: Watch, R: Threads + Wait + Sync>(
     rt: &R,
     alloc: Global,
+    script: &[u8],
     watch: &W,
-) -> Result<(), Fail> {
-    let mut words = Words::new(alloc);
-    words.push("run")?;
-    let mut source = MemSource::new(alloc, SCRIPT, &[])?;
-    let mut sink = MemSink::new(alloc, 4096, &[])?;
-    let status = run_lanes(rt, alloc, &words, &mut source, &mut sink, watch);
-    assert_eq!(rt; status, Status::Done);
-    assert!(rt; is_report(alloc, sink.as_slice())?);
-    Ok(())
+) -> Option<MemSink> {
+    let words = command(alloc, &["run"])?;
+    let mut source = MemSource::new(alloc, script, &[]).ok()?;
+    let mut sink = MemSink::new(alloc, 4096, &[]).ok()?;
+    if run_lanes(rt, alloc, &words, &mut source, &mut sink, watch) == Status::Done {
+        Some(sink)
+    } else {
+        None
+    }
+}
+
+/// Whether the lanes are reported in one of the orders.
+fn is_reported<W: Watch, R: Threads + Wait + Sync>(rt: &R, alloc: Global, watch: &W) -> bool {
+    match report(rt, alloc, SCRIPT, watch) {
+        Some(sink) => is_report(sink.as_slice()),
+        None => false,
+    }
 }
 
 #[test]
-fn lanes_of_a_phase_run_in_any_order(rt: HostRuntime) -> Result<(), Fail> {
-    prints_apart(&rt, rt.alloc(), &NoWatch)
+fn lanes_of_a_phase_run_in_any_order(rt: HostRuntime) {
+    assert!(rt; is_reported(&rt, rt.alloc(), &NoWatch));
+}
+
+/// Two lanes of one phase that make the same file.
+const SAME_FILE: &[u8] = b"ix 1\n\
+    proc a - * - -\n\
+    proc b - * - -\n\
+    phase\n\
+    lane one\n\
+    create a /x\n\
+    lane two\n\
+    create b /x\n";
+
+/// The reports where lane one made the file, and where lane two did.
+const MADE_ONCE: [&[u8]; 2] = [
+    b"ix 1 report\n\
+      1 one 6 create p1 /x = number 1 @ -\n\
+      2 two 8 create p2 /x = no 8 Exists @ -\n\
+      objects\n\
+      0 dir - free\n\
+      1 file - free\n\
+      processes\n\
+      p1 - live\n\
+      p2 - live\n\
+      log\n\
+      end 2 0\n",
+    b"ix 1 report\n\
+      1 two 8 create p2 /x = number 1 @ -\n\
+      2 one 6 create p1 /x = no 8 Exists @ -\n\
+      objects\n\
+      0 dir - free\n\
+      1 file - free\n\
+      processes\n\
+      p1 - live\n\
+      p2 - live\n\
+      log\n\
+      end 2 0\n",
+];
+
+/// Whether just one of two lanes is told that it made the file.
+fn is_made_once<R: Threads + Wait + Sync>(rt: &R, alloc: Global) -> bool {
+    match report(rt, alloc, SAME_FILE, &NoWatch) {
+        Some(sink) => sink.as_slice() == MADE_ONCE[0] || sink.as_slice() == MADE_ONCE[1],
+        None => false,
+    }
+}
+
+#[test]
+fn no_core_for_each_lane(rt: HostRuntime) {
+    assert!(rt; is_made_once(&rt, rt.alloc()));
 }
 
 /// Flags that the lanes raise before their calls of the first phase, and how many waits for one gave up.
@@ -152,8 +204,8 @@ impl Watch for Meeting {
     }
 }
 
-#[test]
-fn two_lanes_meet(rt: HostRuntime) -> Result<(), Fail> {
+/// Whether two lanes that each wait for the other are reported, and no wait gave up.
+fn meet<R: Threads + Wait + Sync>(rt: &R, alloc: Global) -> bool {
     let meeting = Meeting {
         flags: [
             AtomicU64::new(0),
@@ -163,7 +215,10 @@ fn two_lanes_meet(rt: HostRuntime) -> Result<(), Fail> {
         ],
         gave_up: AtomicU64::new(0),
     };
-    prints_apart(&rt, rt.alloc(), &meeting)?;
-    assert!(rt; meeting.is_held());
-    Ok(())
+    is_reported(rt, alloc, &meeting) && meeting.is_held()
+}
+
+#[test]
+fn two_lanes_meet(rt: HostRuntime) {
+    assert!(rt; meet(&rt, rt.alloc()));
 }

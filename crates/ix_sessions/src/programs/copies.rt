@@ -1,10 +1,9 @@
-use crate::programs::prints;
-use std::test::Fail;
+use super::{Session, walk};
+use std::process::Abort;
 
-#[test]
-fn what_is_copied_is_read_and_written(rt: HostRuntime) -> Result<(), Fail> {
-    prints(
-        &rt,
+const SESSIONS: &[Session] = &[
+    (
+        "what is copied is read and written",
         b"ix 1\n\
           proc a - * - -\n\
           file /s - free - - \"hi\"\n\
@@ -31,13 +30,9 @@ fn what_is_copied_is_read_and_written(rt: HostRuntime) -> Result<(), Fail> {
           p1 - live\n\
           log\n\
           end 6 0\n",
-    )
-}
-
-#[test]
-fn a_copy_floats_on_both_sides(rt: HostRuntime) -> Result<(), Fail> {
-    prints(
-        &rt,
+    ),
+    (
+        "a copy floats on both sides",
         b"ix 1\n\
           proc a - * - -\n\
           file /s 3 free - - \"hi\"\n\
@@ -60,5 +55,10 @@ fn a_copy_floats_on_both_sides(rt: HostRuntime) -> Result<(), Fail> {
           p1 3 live\n\
           log\n\
           end 4 0\n",
-    )
+    ),
+];
+
+#[test]
+fn copies_read_and_write(rt: HostRuntime) {
+    walk(&rt, rt.alloc(), SESSIONS);
 }

@@ -1,13 +1,9 @@
-use crate::programs::{prints, run};
-use ix_host::Status;
-use ix_io::{MemSink, MemSource};
+use super::{Session, walk};
 use std::process::Abort;
-use std::test::Fail;
 
-#[test]
-fn a_reader_floats_to_what_it_reads(rt: HostRuntime) -> Result<(), Fail> {
-    prints(
-        &rt,
+const SESSIONS: &[Session] = &[
+    (
+        "a reader floats to what it reads",
         b"ix 1\n\
           proc a - 3 - -\n\
           file /s 3 free - - \"hi\"\n\
@@ -27,13 +23,9 @@ fn a_reader_floats_to_what_it_reads(rt: HostRuntime) -> Result<(), Fail> {
           p1 3 live\n\
           log\n\
           end 3 0\n",
-    )
-}
-
-#[test]
-fn a_reader_stops_below_its_ceiling(rt: HostRuntime) -> Result<(), Fail> {
-    prints(
-        &rt,
+    ),
+    (
+        "a reader stops below its ceiling",
         b"ix 1\n\
           proc a - 3 - -\n\
           file /s 3,5 free - - \"hi\"\n\
@@ -53,13 +45,9 @@ fn a_reader_stops_below_its_ceiling(rt: HostRuntime) -> Result<(), Fail> {
           p1 - live\n\
           log\n\
           end 3 0\n",
-    )
-}
-
-#[test]
-fn a_file_stops_below_its_ceiling(rt: HostRuntime) -> Result<(), Fail> {
-    prints(
-        &rt,
+    ),
+    (
+        "a file stops below its ceiling",
         b"ix 1\n\
           fs root 5 64 16\n\
           proc a 3 * - -\n\
@@ -80,13 +68,11 @@ fn a_file_stops_below_its_ceiling(rt: HostRuntime) -> Result<(), Fail> {
           p1 3 live\n\
           log\n\
           end 3 0\n",
-    )
-}
-
-#[test]
-fn high_bytes_raise_their_reader(rt: HostRuntime) -> Result<(), Fail> {
-    prints(
-        &rt,
+    ),
+    // What is written high shows in high lines alone: these three reports differ in the fourth entry, which is the write, and in the
+    // sixth, the read that raises its reader.
+    (
+        "high bytes raise their reader",
         b"ix 1\n\
           proc l - * - -\n\
           proc h 7 * - -\n\
@@ -116,13 +102,73 @@ fn high_bytes_raise_their_reader(rt: HostRuntime) -> Result<(), Fail> {
           p2 7 live\n\
           log\n\
           end 6 0\n",
-    )
-}
-
-#[test]
-fn a_label_moves_under_an_open_entry(rt: HostRuntime) -> Result<(), Fail> {
-    prints(
-        &rt,
+    ),
+    (
+        "as many other high bytes",
+        b"ix 1\n\
+          proc l - * - -\n\
+          proc h 7 * - -\n\
+          file /d - free - - x00\n\
+          file /e - free - - \"ok\"\n\
+          phase\n\
+          lane m\n\
+          open h /d w as f\n\
+          open l /d r as g\n\
+          open l /e r as k\n\
+          write h f \"BB\"\n\
+          read l k 2\n\
+          read l g 2\n",
+        b"ix 1 report\n\
+          1 m 8 open p2 /d w = number 0 @ 7\n\
+          2 m 9 open p1 /d r = number 0 @ -\n\
+          3 m 10 open p1 /e r = number 1 @ -\n\
+          4 m 11 write p2 0 x4242 = number 2 @ 7\n\
+          5 m 12 read p1 1 2 = bytes 2 x6f6b @ -\n\
+          6 m 13 read p1 0 2 = bytes 2 x4242 @ 7\n\
+          objects\n\
+          0 dir - free\n\
+          1 file 7 free\n\
+          2 file - free\n\
+          processes\n\
+          p1 7 live\n\
+          p2 7 live\n\
+          log\n\
+          end 6 0\n",
+    ),
+    (
+        "more high bytes",
+        b"ix 1\n\
+          proc l - * - -\n\
+          proc h 7 * - -\n\
+          file /d - free - - x00\n\
+          file /e - free - - \"ok\"\n\
+          phase\n\
+          lane m\n\
+          open h /d w as f\n\
+          open l /d r as g\n\
+          open l /e r as k\n\
+          write h f \"ABC\"\n\
+          read l k 2\n\
+          read l g 2\n",
+        b"ix 1 report\n\
+          1 m 8 open p2 /d w = number 0 @ 7\n\
+          2 m 9 open p1 /d r = number 0 @ -\n\
+          3 m 10 open p1 /e r = number 1 @ -\n\
+          4 m 11 write p2 0 x414243 = number 3 @ 7\n\
+          5 m 12 read p1 1 2 = bytes 2 x6f6b @ -\n\
+          6 m 13 read p1 0 2 = bytes 2 x4142 @ 7\n\
+          objects\n\
+          0 dir - free\n\
+          1 file 7 free\n\
+          2 file - free\n\
+          processes\n\
+          p1 7 live\n\
+          p2 7 live\n\
+          log\n\
+          end 6 0\n",
+    ),
+    (
+        "a label moves under an open entry",
         b"ix 1\n\
           proc l - - - -\n\
           proc h 7 * - -\n\
@@ -148,63 +194,10 @@ fn a_label_moves_under_an_open_entry(rt: HostRuntime) -> Result<(), Fail> {
           p2 7 live\n\
           log\n\
           end 5 0\n",
-    )
-}
-
-/// What is printed of a session in which a high process writes this.
-fn report_of<R: AllocGlobal + Abort>(rt: &R, payload: &str) -> Result<MemSink, Fail> {
-    let alloc = rt.alloc();
-    let script = format!(in alloc;
-        "ix 1\n\
-         proc l - * - -\n\
-         proc h 7 * - -\n\
-         file /d - free - - x00\n\
-         file /e - free - - \"ok\"\n\
-         phase\n\
-         lane m\n\
-         open h /d w as f\n\
-         open l /d r as g\n\
-         open l /e r as k\n\
-         write h f \"{payload}\"\n\
-         read l k 2\n\
-         read l g 2\n"
-    )?;
-    let source = MemSource::new(alloc, script.as_bytes(), &[])?;
-    let (status, sink) = run(alloc, &["run"], source, MemSink::new(alloc, 4096, &[])?)?;
-    assert_eq!(rt; status, Status::Done);
-    Ok(sink)
-}
-
-/// A line of a report, counted from 0.
-fn line(report: &MemSink, number: usize) -> &[u8] {
-    let mut lines = report.as_slice().split(|byte| *byte == b'\n');
-    lines.nth(number).unwrap_or(&[])
-}
+    ),
+];
 
 #[test]
-fn what_is_written_high_shows_in_high_lines_alone(rt: HostRuntime) -> Result<(), Fail> {
-    let first = report_of(&rt, "AA")?;
-    // As many bytes, and more.
-    for (payload, written, read) in [
-        (
-            "BB",
-            b"4 m 11 write p2 0 x4242 = number 2 @ 7".as_slice(),
-            b"6 m 13 read p1 0 2 = bytes 2 x4242 @ 7".as_slice(),
-        ),
-        (
-            "ABC",
-            b"4 m 11 write p2 0 x414243 = number 3 @ 7",
-            b"6 m 13 read p1 0 2 = bytes 2 x4142 @ 7",
-        ),
-    ] {
-        let other = report_of(&rt, payload)?;
-        assert_eq!(rt; line(&other, 4), written);
-        assert_eq!(rt; line(&other, 6), read);
-        for number in 0..16 {
-            // The fourth entry is the write, and the sixth the read that raises its reader.
-            let differs = number == 4 || number == 6;
-            assert!(rt; (line(&first, number) != line(&other, number)) == differs);
-        }
-    }
-    Ok(())
+fn labels_float_as_far_as_ceilings_allow(rt: HostRuntime) {
+    walk(&rt, rt.alloc(), SESSIONS);
 }

@@ -1,12 +1,10 @@
-use crate::programs::{prints, run};
+use super::{NO_FAULTS, Session, comes_to, walk};
 use ix_host::Status;
-use ix_io::{MemSink, MemSource};
-use std::test::Fail;
+use std::process::Abort;
 
-#[test]
-fn without_commands_the_world_is_told(rt: HostRuntime) -> Result<(), Fail> {
-    prints(
-        &rt,
+const SESSIONS: &[Session] = &[
+    (
+        "without commands the world is told",
         b"ix 1\n",
         b"ix 1 report\n\
           objects\n\
@@ -14,13 +12,9 @@ fn without_commands_the_world_is_told(rt: HostRuntime) -> Result<(), Fail> {
           processes\n\
           log\n\
           end 0 0\n",
-    )
-}
-
-#[test]
-fn a_name_stands_for_what_it_was_last_bound_to(rt: HostRuntime) -> Result<(), Fail> {
-    prints(
-        &rt,
+    ),
+    (
+        "a name stands for what it was last bound to",
         b"ix 1\n\
           proc a - * - -\n\
           file /s - free - - \"hi\"\n\
@@ -46,13 +40,9 @@ fn a_name_stands_for_what_it_was_last_bound_to(rt: HostRuntime) -> Result<(), Fa
           p1 - live\n\
           log\n\
           end 6 0\n",
-    )
-}
-
-#[test]
-fn each_lane_has_names_of_its_own(rt: HostRuntime) -> Result<(), Fail> {
-    prints(
-        &rt,
+    ),
+    (
+        "each lane has names of its own",
         b"ix 1\n\
           proc a - * - -\n\
           file /s - free - - \"hi\"\n\
@@ -78,18 +68,26 @@ fn each_lane_has_names_of_its_own(rt: HostRuntime) -> Result<(), Fail> {
           p1 - live\n\
           log\n\
           end 4 0\n",
-    )
+    ),
+];
+
+#[test]
+fn lanes_are_reported(rt: HostRuntime) {
+    walk(&rt, rt.alloc(), SESSIONS);
 }
 
 #[test]
-fn a_script_is_printed_in_its_shortest_spelling(rt: HostRuntime) -> Result<(), Fail> {
-    let alloc = rt.alloc();
+fn a_script_is_printed_in_its_shortest_spelling(rt: HostRuntime) {
     let script = b"ix 1\n# note\nfile /s 3 free - - x6869\nfile /z - free - - 1048576*00\n";
     let text = b"ix 1\n\nfile /s 3 free - - \"hi\"\nfile /z - free - - 1048576*00\n";
-    let source = MemSource::new(alloc, script, &[])?;
-    let (status, sink) = run(alloc, &["print"], source, MemSink::new(alloc, 4096, &[])?)?;
-    assert!(rt; text.starts_with(sink.as_slice()));
-    assert_eq!(rt; status, Status::Done);
-    assert_eq!(rt; sink.as_slice(), text.as_slice());
-    Ok(())
+    assert!(rt;
+        comes_to(
+            rt.alloc(),
+            &["print"],
+            script,
+            NO_FAULTS,
+            Status::Done,
+            text
+        )
+    );
 }

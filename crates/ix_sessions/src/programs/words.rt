@@ -1,9 +1,9 @@
-use crate::programs::{USAGE, run};
+use super::{NO_FAULTS, USAGE, comes_to};
 use ix_host::{Status, Words};
-use ix_io::{MemSink, MemSource};
+use std::alloc::Global;
 use std::env;
 use std::env::{Env, FillError};
-use std::test::Fail;
+use std::process::Abort;
 
 /// A command line of the program's name and one word.
 #[derive(Drop)]
@@ -32,75 +32,90 @@ impl Env for OneWord {
     }
 }
 
-#[test]
-fn words_stand_behind_the_name_and_are_text(rt: HostRuntime) -> Result<(), Fail> {
-    for (word, want) in [(b"run".as_slice(), Some("run")), (b"r\xFFn", None)] {
-        let args = env::args(&(OneWord(word), rt.alloc()));
-        let words = Words::of_program(rt.alloc(), args)?;
-        assert_eq!(rt; words.get(0), want);
-        assert_eq!(rt; words.get(1), None);
+/// Whether this is the first word of a program that was called with one, and there is no second; `None`: there is no first either.
+fn is_word(alloc: Global, word: &'static [u8], first: Option<&str>) -> bool {
+    match Words::of_program(alloc, env::args(&(OneWord(word), alloc))) {
+        Ok(words) => words.get(0) == first && words.get(1).is_none(),
+        Err(_) => false,
     }
-    Ok(())
 }
 
 #[test]
-fn other_words_are_answered_by_the_usage_line(rt: HostRuntime) -> Result<(), Fail> {
-    let alloc = rt.alloc();
-    for words in [
-        [].as_slice(),
-        &["help"],
-        &["run", "run"],
-        &["Run"],
-        &["run", "print"],
-        &["print", "run"],
-        &["run", "5"],
-        &["run", ""],
-        &[""],
-        &["-"],
-        &["5", "gen"],
-        // A count is a number from 1 to 100,000, in its one spelling.
-        &["gen"],
-        &["gen", ""],
-        &["gen", "0"],
-        &["gen", "007"],
-        &["gen", "100001"],
-        &["gen", "4294967297"],
-        &["gen", "+1"],
-        &["gen", "-1"],
-        &["gen", "1x"],
-        &["gen", "1", "2"],
-        // A flag is no word of a command, whatever it says.
-        &["--help"],
-        &["-h"],
-        &["--version"],
-        &["--run"],
-        &["-r"],
-        &["run", "--print"],
-        &["-- run"],
-        // Only one word `--` is left out.
-        &["--"],
-        &["--", "--"],
-        &["--", "run", "--"],
-        &["run", "--", "--"],
-        &["--", "--", "run"],
-        &["--", "run", "x"],
-    ] {
-        let source = MemSource::new(alloc, b"ix 1\n", &[])?;
-        let (status, sink) = run(alloc, words, source, MemSink::new(alloc, 100, &[])?)?;
-        assert_eq!(rt; status, Status::Usage);
-        assert_eq!(rt; sink.as_slice(), USAGE);
+fn words_stand_behind_the_name_and_are_text(rt: HostRuntime) {
+    assert!(rt; is_word(rt.alloc(), b"run", Some("run")));
+    assert!(rt; is_word(rt.alloc(), b"r\xFFn", None));
+}
+
+/// Words that are no command.
+const NO_COMMANDS: &[&[&str]] = &[
+    &[],
+    &["help"],
+    &["run", "run"],
+    &["Run"],
+    &["run", "print"],
+    &["print", "run"],
+    &["run", "5"],
+    &["run", ""],
+    &[""],
+    &["-"],
+    &["5", "gen"],
+    // A count is a number from 1 to 100,000, in its one spelling.
+    &["gen"],
+    &["gen", ""],
+    &["gen", "0"],
+    &["gen", "007"],
+    &["gen", "100001"],
+    &["gen", "4294967297"],
+    &["gen", "+1"],
+    &["gen", "-1"],
+    &["gen", "1x"],
+    &["gen", "1", "2"],
+    // A flag is no word of a command, whatever it says.
+    &["--help"],
+    &["-h"],
+    &["--version"],
+    &["--run"],
+    &["-r"],
+    &["run", "--print"],
+    &["-- run"],
+    // Only one word `--` is left out.
+    &["--"],
+    &["--", "--"],
+    &["--", "run", "--"],
+    &["run", "--", "--"],
+    &["--", "--", "run"],
+    &["--", "run", "x"],
+];
+
+#[test]
+fn other_words_are_answered_by_the_usage_line(rt: HostRuntime) {
+    for words in NO_COMMANDS {
+        assert!(rt;
+            comes_to(
+                rt.alloc(),
+                words,
+                b"ix 1\n",
+                NO_FAULTS,
+                Status::Usage,
+                USAGE
+            ),
+            "{words:?}"
+        );
     }
-    Ok(())
 }
 
 #[test]
-fn one_word_of_two_dashes_is_left_out(rt: HostRuntime) -> Result<(), Fail> {
-    let alloc = rt.alloc();
+fn one_word_of_two_dashes_is_left_out(rt: HostRuntime) {
     for words in [["--", "print"], ["print", "--"]] {
-        let source = MemSource::new(alloc, b"ix 1\n", &[])?;
-        let (status, sink) = run(alloc, &words, source, MemSink::new(alloc, 100, &[])?)?;
-        assert_eq!(rt; status, Status::Done);
-        assert_eq!(rt; sink.as_slice(), b"ix 1\n".as_slice());
+        assert!(rt;
+            comes_to(
+                rt.alloc(),
+                &words,
+                b"ix 1\n",
+                NO_FAULTS,
+                Status::Done,
+                b"ix 1\n"
+            )
+        );
     }
-    Ok(())
 }

@@ -1,64 +1,71 @@
 use super::fault;
 use itoa::Buffer;
-use std::alloc::Global;
-use std::test::Fail;
+use std::alloc::{AllocError, Global};
+use std::process::Abort;
 
-fn add(bytes: &mut Vec<u8>, text: &str) -> Result<(), Fail> {
-    for b in text.as_bytes() {
-        bytes.push(*b)?;
+/// Adds so many lines, and another text after them; in each line its number from 0 stands between the two texts.
+fn add_numbered(
+    bytes: &mut Vec<u8>,
+    line: (&str, &str),
+    count: u32,
+    end: &str,
+) -> Result<(), AllocError> {
+    let mut digits = Buffer::new();
+    for i in 0..count {
+        bytes.extend_from_slice(line.0.as_bytes())?;
+        bytes.extend_from_slice(digits.format(i).as_bytes())?;
+        bytes.extend_from_slice(line.1.as_bytes())?;
     }
-    Ok(())
+    bytes.extend_from_slice(end.as_bytes())
 }
 
-/// So many lines after the front, and another text after them; in each line its number from 0 stands between the two texts.
-fn numbered(
+/// The fault of a script of numbered lines behind a front.
+fn fault_of_numbered(
     alloc: Global,
     front: &str,
     line: (&str, &str),
     count: u32,
     end: &str,
-) -> Result<Vec<u8>, Fail> {
-    let mut bytes = Vec::new(alloc);
-    let mut digits = Buffer::new();
-    add(&mut bytes, front)?;
-    for i in 0..count {
-        add(&mut bytes, line.0)?;
-        add(&mut bytes, digits.format(i))?;
-        add(&mut bytes, line.1)?;
+) -> Option<(u32, u8)> {
+    let mut bytes = Vec::from_slice(alloc, front.as_bytes()).ok()?;
+    match add_numbered(&mut bytes, line, count, end) {
+        Ok(()) => Some(fault(alloc, bytes.as_slice())),
+        Err(_) => None,
     }
-    add(&mut bytes, end)?;
-    Ok(bytes)
 }
 
-/// A line of so many `#` after the front, and another text after it.
-fn long(alloc: Global, front: &str, count: u32, end: &str) -> Result<Vec<u8>, Fail> {
-    let mut bytes = Vec::new(alloc);
-    add(&mut bytes, front)?;
-    for _i in 0..count {
+/// Adds a line of so many `#`, and another text after it.
+fn add_long(bytes: &mut Vec<u8>, count: usize, end: &str) -> Result<(), AllocError> {
+    for _ in 0..count {
         bytes.push(b'#')?;
     }
-    add(&mut bytes, end)?;
-    Ok(bytes)
+    bytes.extend_from_slice(end.as_bytes())
+}
+
+/// The fault of a script of a line of so many `#` behind a front.
+fn fault_of_long(alloc: Global, front: &str, count: usize, end: &str) -> Option<(u32, u8)> {
+    let mut bytes = Vec::from_slice(alloc, front.as_bytes()).ok()?;
+    match add_long(&mut bytes, count, end) {
+        Ok(()) => Some(fault(alloc, bytes.as_slice())),
+        Err(_) => None,
+    }
 }
 
 /// Rule 1 is of the whole input and is said of line 1: nothing stands before it, and no line is looked at.
 #[test]
-fn an_input_of_a_byte_too_many(rt: HostRuntime) -> Result<(), Fail> {
-    let alloc = rt.alloc();
+fn an_input_of_a_byte_too_many(rt: HostRuntime) {
     for (count, want) in [(16_777_211, (2, 2)), (16_777_212, (1, 1))] {
-        let script = long(alloc, "ix 1\n", count, "")?;
-        assert_eq!(rt; fault(alloc, script.as_slice()), want, "{count}");
+        assert!(rt;
+            fault_of_long(rt.alloc(), "ix 1\n", count, "") == Some(want),
+            "{count}"
+        );
     }
-    let feeds = vec![in alloc; b'\n'; 16_777_217]?;
-    assert_eq!(rt; fault(alloc, feeds.as_slice()), (1, 1));
-    Ok(())
 }
 
 /// Rule 2, alone and with rule 3 on the same line; no line can break a lesser rule behind it. Rule 3, with rule 2 broken
 /// behind it.
 #[test]
-fn lines_of_a_byte_too_many(rt: HostRuntime) -> Result<(), Fail> {
-    let alloc = rt.alloc();
+fn lines_of_a_byte_too_many(rt: HostRuntime) {
     for (front, count, end, want) in [
         ("", 65_536, "", (1, 6)),
         ("", 65_537, "", (1, 2)),
@@ -72,14 +79,11 @@ fn lines_of_a_byte_too_many(rt: HostRuntime) -> Result<(), Fail> {
         ("ix 1\n\né\n", 65_537, "", (3, 3)),
         ("ix 1\r\n", 65_537, "", (1, 3)),
     ] {
-        let script = long(alloc, front, count, end)?;
-        assert_eq!(rt;
-            fault(alloc, script.as_slice()),
-            want,
+        assert!(rt;
+            fault_of_long(rt.alloc(), front, count, end) == Some(want),
             "{front:?} {count} {end:?}"
         );
     }
-    Ok(())
 }
 
 /// The front of scripts of one lane, and a command of it.
@@ -89,8 +93,7 @@ const COMMAND: (&str, &str) = ("read a 0 ", "\n");
 
 /// Rule 26, of file systems and of lanes, with a rule of 20 to 25 broken behind it or on the same line.
 #[test]
-fn file_systems_and_lanes_too_many(rt: HostRuntime) -> Result<(), Fail> {
-    let alloc = rt.alloc();
+fn file_systems_and_lanes_too_many(rt: HostRuntime) {
     let fss = ("fs f", " * 1 2\n");
     let lanes = ("lane m", "\n");
     for (front, line, count, end, want) in [
@@ -110,31 +113,23 @@ fn file_systems_and_lanes_too_many(rt: HostRuntime) -> Result<(), Fail> {
         ),
         ("ix 1\nphase\n", lanes, 64, "lane m63", (67, 20)),
     ] {
-        let script = numbered(alloc, front, line, count, end)?;
-        assert_eq!(rt;
-            fault(alloc, script.as_slice()),
-            want,
+        assert!(rt;
+            fault_of_numbered(rt.alloc(), front, line, count, end) == Some(want),
             "{front:?} {count} {end:?}"
         );
     }
-    Ok(())
 }
 
-/// Rule 26, of commands, with rule 21 broken behind it.
+/// Rule 26, of commands, with rule 21 broken behind it; and before rule 28, where 200,000 commands aren't too many.
 #[test]
-fn a_command_too_many(rt: HostRuntime) -> Result<(), Fail> {
-    let alloc = rt.alloc();
-    let script = numbered(alloc, LANE, COMMAND, 200_001, "self q")?;
-    assert_eq!(rt; fault(alloc, script.as_slice()), (200_005, 26));
-    Ok(())
-}
-
-/// Rule 26 stands before rule 28, and 200,000 commands aren't too many.
-#[test]
-fn a_command_too_many_without_a_policy(rt: HostRuntime) -> Result<(), Fail> {
-    let alloc = rt.alloc();
-    let end = "phase\nlane n\n\npriv a 0\nself q";
-    let script = numbered(alloc, LANE, COMMAND, 200_000, end)?;
-    assert_eq!(rt; fault(alloc, script.as_slice()), (200_008, 26));
-    Ok(())
+fn a_command_too_many(rt: HostRuntime) {
+    for (count, end, line) in [
+        (200_001, "self q", 200_005),
+        (200_000, "phase\nlane n\n\npriv a 0\nself q", 200_008),
+    ] {
+        assert!(rt;
+            fault_of_numbered(rt.alloc(), LANE, COMMAND, count, end) == Some((line, 26)),
+            "{count}"
+        );
+    }
 }

@@ -1,11 +1,16 @@
 use ix_script::{read, write};
-use std::alloc::Global;
-use std::test::Fail;
+use std::alloc::{AllocError, Global};
+use std::process::Abort;
 
-/// The canonical text of these bytes.
-fn spelled(alloc: Global, script: &str) -> Result<Vec<u8>, Fail> {
-    let script = read(alloc, script.as_bytes())?;
-    Ok(write(alloc, &script)?)
+/// Whether this is the canonical text of a script.
+fn is_spelled(alloc: Global, script: &[u8], text: &[u8]) -> bool {
+    let Ok(script) = read(alloc, script) else {
+        return false;
+    };
+    match write(alloc, &script) {
+        Ok(written) => written.as_slice() == text,
+        Err(_) => false,
+    }
 }
 
 /// A script with every form of line, in its canonical text.
@@ -83,24 +88,19 @@ self u
 ";
 
 #[test]
-fn every_form_is_written_as_it_was_read(rt: HostRuntime) -> Result<(), Fail> {
-    let text = spelled(rt.alloc(), EVERY_FORM)?;
-    assert_eq!(rt; text.as_slice(), EVERY_FORM.as_bytes());
-    Ok(())
+fn every_form_is_written_as_it_was_read(rt: HostRuntime) {
+    let text = EVERY_FORM.as_bytes();
+    assert!(rt; is_spelled(rt.alloc(), text, text));
 }
 
 #[test]
-fn skipped_lines_are_written_empty(rt: HostRuntime) -> Result<(), Fail> {
-    let text = spelled(rt.alloc(), "ix 1\n# a \"  line\n\n#\npolicy  x\nphase")?;
-    assert_eq!(rt;
-        text.as_slice(),
-        b"ix 1\n\n\n\npolicy  x\nphase\n".as_slice()
-    );
-    Ok(())
+fn skipped_lines_are_written_empty(rt: HostRuntime) {
+    let script = b"ix 1\n# a \"  line\n\n#\npolicy  x\nphase";
+    assert!(rt; is_spelled(rt.alloc(), script, b"ix 1\n\n\n\npolicy  x\nphase\n"));
 }
 
 /// Payloads and their shortest spellings; of equally short ones `x` comes first, then the number of times, then the quotes.
-const PAYLOADS: [(&str, &str); 24] = [
+const PAYLOADS: &[(&str, &str)] = &[
     ("x", "x"),
     ("\"\"", "x"),
     ("0*41", "x"),
@@ -127,14 +127,31 @@ const PAYLOADS: [(&str, &str); 24] = [
     ("\"\\\"\\\\\\x00ab\"", "x225c006162"),
 ];
 
-#[test]
-fn payloads_are_written_short(rt: HostRuntime) -> Result<(), Fail> {
-    let alloc = rt.alloc();
-    for (payload, want) in PAYLOADS {
-        let script = format!(in alloc; "ix 1\nfile /x - free - - {payload}")?;
-        let text = spelled(alloc, script.as_str())?;
-        let wanted = format!(in alloc; "ix 1\nfile /x - free - - {want}\n")?;
-        assert_eq!(rt; text.as_slice(), wanted.as_bytes(), "{payload}");
+/// A script of a file with this payload.
+fn file(alloc: Global, payload: &str) -> Result<Vec<u8>, AllocError> {
+    let mut script = Vec::from_slice(alloc, b"ix 1\nfile /x - free - - ")?;
+    match script.extend_from_slice(payload.as_bytes()) {
+        Ok(()) => Ok(script),
+        Err(fail) => Err(fail),
     }
-    Ok(())
+}
+
+/// Whether a payload is spelled so.
+fn is_payload(alloc: Global, payload: &str, spelling: &str) -> bool {
+    let Ok(script) = file(alloc, payload) else {
+        return false;
+    };
+    match file(alloc, spelling) {
+        Ok(mut text) => {
+            text.push(b'\n').is_ok() && is_spelled(alloc, script.as_slice(), text.as_slice())
+        }
+        Err(_) => false,
+    }
+}
+
+#[test]
+fn payloads_are_written_short(rt: HostRuntime) {
+    for (payload, spelling) in PAYLOADS {
+        assert!(rt; is_payload(rt.alloc(), payload, spelling), "{payload}");
+    }
 }
