@@ -2,7 +2,6 @@
 ghost use Rattle.ix_host.specs.Laws.{LowLinesAreEqual, Readable};
 
 use ix_label::laws::spelled_or_faulty;
-
 pub use ix_replay::laws::one_history;
 
 /// Where the runs of two histories of scripts of the same lanes agree at a label, each line of the report whose process ends at or

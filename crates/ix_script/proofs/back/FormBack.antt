@@ -27,7 +27,7 @@ use Rattle.ix_script.proofs.lines.FirstWords.{form_word}
 use Rattle.ix_script.proofs.lines.FormWords.{words_from, exactly, same, no_tail, of_3, of_6, limit_again, fs_again, proc_again, dir_again, lane_again, open_again, dup_again, pipe_again, link_again, list_again, copy_again, setlabel_again, setpriv_again, fork_again, exit_again, setself_again, droplic_again, grant_again, ceiling_again, readlog_again, login_again, phase_again, plain_again, on_path_again, on_fd_again, counted_again}
 use Rattle.ix_script.proofs.texts.Cuts.{words_joined}
 use Rattle.ix_script.proofs.lines.Faultless.{text_parts, payload_alike}
-use Rattle.ix_script.proofs.back.LineBack.{Back, Respelled, Formed, right_count, front_of, write_several, file_several, fitting, last_printable, file_begins, write_begins, payload_back}
+use Rattle.ix_script.proofs.back.LineBack.{Respelled, Formed, right_count, front_of, write_several, file_several, fitting, last_printable, file_begins, write_begins, payload_back}
 
 -- the text of a line without a fault is printable
 printable_line : (before : List Line) (text : List ℕ) → line_fault before text ≡ None → list_all (is_within 32 126) text ≡ true
