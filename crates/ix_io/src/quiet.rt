@@ -75,6 +75,7 @@ impl Model for QuietSink {
 }
 
 impl QuietSink {
+    /// A sink that has taken nothing and isn't finished.
     pub fn new() -> QuietSink
         ensures { result ≡ record { taken = 0; finished = false } }
     {

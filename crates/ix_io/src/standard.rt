@@ -24,6 +24,7 @@ impl<R: Read> Model for StdSource<R> {
 }
 
 impl<R: Read> StdSource<R> {
+    /// A source over a reader, without a fault so far.
     pub fn new(inner: R) -> StdSource<R>
         ensures { result ≡ 0 }
     {
@@ -68,6 +69,7 @@ impl<W: Write> Model for StdSink<W> {
 }
 
 impl<W: Write> StdSink<W> {
+    /// A sink over a writer, without a fault so far and not finished.
     pub fn new(inner: W) -> StdSink<W>
         ensures { result ≡ record { faults = 0; finished = false } }
     {
