@@ -1,4 +1,4 @@
 use Rattle.ix_sessions.proofs.cores.goes_anew.Given as goal
 
 abbrev pub ghosts-goes : goal.ghosts-goes
-ghosts-goes g a = record { name = a.blank.name; parts = a.blank.parts }
+ghosts-goes a = record { name = a.blank.name; parts = a.blank.parts }
