@@ -1,10 +1,13 @@
 -- The spelling of a label has no fault.
-use Rattle.std.proofs.Common.{◌≡◌, ℕ, ◌+◌, ◌<◌, ◌≤◌, false, true≢false, List, [], ◌∷◌, ◌++◌, length, drop, refl, sym, ◌∙◌, ap, subst, arith, append_assoc, length-append, length-drop, Option, None, Some, inl, inr, codes}
+use Rattle.std.proofs.Common.{◌≡◌, ℕ, ◌+◌, ◌<◌, ◌≤◌, false, true≢false, List, [], ◌∷◌, ◌++◌, length, drop, refl, sym, ◌∙◌, ap, subst}
+use Rattle.std.proofs.Common.{arith, append_assoc, length-append, length-drop, Option, None, Some, inl, inr}
 use Rattle.std.specs.List.{slice_get}
 use Rattle.std.specs.Fmt.{decimal}
 use Rattle.std.proofs.lemmas.Bool.{cases_lt}
 use Rattle.std.proofs.lemmas.List.{drop-drop, drop_at}
 use Rattle.std.proofs.lemmas.Option.{slice_get_within}
+use Rattle.ix_label.specs.declared.form.Form.{Form}
+use Rattle.ix_label.specs.Forms.{greatest, whole_run}
 use Rattle.ix_label.specs.Spelling.{item, items, comma, dash}
 use Rattle.ix_label.specs.Faults.{at_digit, at_dash, at_comma, last_number, is_text}
 use Rattle.ix_label.specs.Reading.{fault_from, IsNumberAt, BeginsItem, IsItemAt}
@@ -42,68 +45,73 @@ no_dash_next : (text q : List ℕ) (at : ℕ) → drop at text ≡ q → Stops q
 unfolding at_dash
 no_dash_next text q at h stops next = true≢false (ap at_dash (sym (drop-next text at dash next) ∙ h) ∙ stops.dash)
 
--- a number that is written at a place
-number_written : (text q : List ℕ) (at value : ℕ) → at ≤ length text → value < 256 → drop at text ≡ decimal value ++ q → at_digit q ≡ false → IsNumberAt text at value (at + length (decimal value))
-number_written text q at value low small h ended =
-    let after : drop (at + length (decimal value)) text ≡ q = drop-more text (decimal value) q at h in
-    record {
-      small = small;
-      within = within-more text (decimal value) q at low h;
-      written = rw after h;
-      ended = rw after ended;
-    }
+-- ---- a number or an item
 
--- an item is written at the place, and then what follows
-abbrev IsItemThen : List ℕ → ℕ → Option ℕ → ℕ → ℕ → List ℕ → Type 0
-IsItemThen text at last a b q = (end : ℕ) × IsItemAt text at last a b end × (drop end text ≡ q)
+module _ (form : Form) where
+  -- a number that is written at a place
+  number_written : (text q : List ℕ) (at value : ℕ) → at ≤ length text → value ≤ greatest form → drop at text ≡ decimal value ++ q → at_digit q ≡ false
+      → IsNumberAt form text at value (at + length (decimal value))
+  number_written text q at value low small h ended =
+      let after : drop (at + length (decimal value)) text ≡ q = drop-more text (decimal value) q at h in
+      record {
+        small = small;
+        within = within-more text (decimal value) q at low h;
+        written = rw after h;
+        ended = rw after ended;
+      }
 
-module _ (text : List ℕ) (at : ℕ) (last : Option ℕ) (q : List ℕ) (not_all : is_text text (codes "0-255") ≡ false) (begins : BeginsItem text at last) (stops : Stops q) where
-  single_written : (a : ℕ) → IsLink last a a → drop at text ≡ item (a, a) ++ q → IsItemThen text at last a a q
-  single_written a link h =
-      let is : drop at text ≡ decimal a ++ q = rw item_one at h in
-      let end : ℕ = at + length (decimal a) in
-      let after : drop end text ≡ q = drop-more text (decimal a) q at is in
-      let n : IsNumberAt text at a end = number_written text q at a begins.within link.small is stops.digit in
-      (end, item_single text at a end last not_all begins n (order_above last a at link.above) (no_dash_next text q end after stops), after)
+  -- an item is written at the place, and then what follows
+  abbrev IsItemThen : List ℕ → ℕ → Option ℕ → ℕ → ℕ → List ℕ → Type 0
+  IsItemThen text at last a b q = (end : ℕ) × IsItemAt form text at last a b end × (drop end text ≡ q)
 
-  range_written : (a b : ℕ) → a < b → IsLink last a b → drop at text ≡ item (a, b) ++ q → IsItemThen text at last a b q
-  range_written a b up link h =
-      let small : b < 256 = link.small in
-      let is : drop at text ≡ decimal a ++ dash ∷ (decimal b ++ q) = rw (item_more a b up, append_assoc) at h in
-      let end : ℕ = at + length (decimal a) in
-      let n : IsNumberAt text at a end = number_written text (dash ∷ (decimal b ++ q)) at a begins.within (omega arith) is (no_digit_dash (decimal b ++ q)) in
-      let next : (slice_get text end ≡ Some dash) × (drop (end + 1) text ≡ decimal b ++ q) = at_next text (decimal b ++ q) end dash (drop-more text (decimal a) (dash ∷ (decimal b ++ q)) at is) in
-      let low : end < length text = slice_get_within text end dash next.0 in
-      let n2 : IsNumberAt text (end + 1) b (end + 1 + length (decimal b)) = number_written text q (end + 1) b (omega arith) small next.1 stops.digit in (
-        end + 1 + length (decimal b),
-        item_range text at a end last not_all begins n (order_above last a at link.above) next.0 b (end + 1 + length (decimal b)) n2 up,
-        drop-more text (decimal b) q (end + 1) next.1,
-      )
+  module _ (text : List ℕ) (at : ℕ) (last : Option ℕ) (q : List ℕ) (not_all : is_text text (whole_run form) ≡ false) (begins : BeginsItem text at last) (stops : Stops q) where
+    single_written : (a : ℕ) → IsLink form last a a → drop at text ≡ item (a, a) ++ q → IsItemThen text at last a a q
+    single_written a link h =
+        let is : drop at text ≡ decimal a ++ q = rw item_one at h in
+        let end : ℕ = at + length (decimal a) in
+        let after : drop end text ≡ q = drop-more text (decimal a) q at is in
+        let n : IsNumberAt form text at a end = number_written text q at a begins.within link.small is stops.digit in
+        (end, item_single form text at a end last not_all begins n (order_above last a at link.above) (no_dash_next text q end after stops), after)
 
-  item_written : (a b : ℕ) → IsLink last a b → drop at text ≡ item (a, b) ++ q → IsItemThen text at last a b q
-  item_written a b link h =
-      let order : a ≤ b = link.order in
-      elim (cases_lt a b) [
-        | inl up ↦ range_written a b up link h
-        | inr down ↦
-            let e : a ≡ b = omega arith in
-            let P : ℕ → Type 0 = λ x. IsItemThen text at last a x q in
-            subst P e (single_written a (rw (← e) at link) (rw (← e) at h))
-      ]
+    range_written : (a b : ℕ) → a < b → IsLink form last a b → drop at text ≡ item (a, b) ++ q → IsItemThen text at last a b q
+    range_written a b up link h =
+        let small : b ≤ greatest form = link.small in
+        let is : drop at text ≡ decimal a ++ dash ∷ (decimal b ++ q) = rw (item_more a b up, append_assoc) at h in
+        let end : ℕ = at + length (decimal a) in
+        let n : IsNumberAt form text at a end = number_written text (dash ∷ (decimal b ++ q)) at a begins.within (omega arith) is (no_digit_dash (decimal b ++ q)) in
+        let next : (slice_get text end ≡ Some dash) × (drop (end + 1) text ≡ decimal b ++ q) = at_next text (decimal b ++ q) end dash (drop-more text (decimal a) (dash ∷ (decimal b ++ q)) at is) in
+        let low : end < length text = slice_get_within text end dash next.0 in
+        let n2 : IsNumberAt form text (end + 1) b (end + 1 + length (decimal b)) = number_written text q (end + 1) b (omega arith) small next.1 stops.digit in (
+          end + 1 + length (decimal b),
+          item_range form text at a end last not_all begins n (order_above last a at link.above) next.0 b (end + 1 + length (decimal b)) n2 up,
+          drop-more text (decimal b) q (end + 1) next.1,
+        )
 
-begins_next : (text : List ℕ) (at : ℕ) (last : Option ℕ) (a b end : ℕ) → IsItemAt text at last a b end → slice_get text end ≡ Some comma → BeginsItem text (end + 1) (Some b)
-unfolding at_comma last_number
-begins_next text at last a b end i next =
-    let low : end < length text = slice_get_within text end comma next in
-    record { within = omega arith; after = rw (back-next text end comma next) (refl, i.number) }
+    item_written : (a b : ℕ) → IsLink form last a b → drop at text ≡ item (a, b) ++ q → IsItemThen text at last a b q
+    item_written a b link h =
+        let order : a ≤ b = link.order in
+        elim (cases_lt a b) [
+          | inl up ↦ range_written a b up link h
+          | inr down ↦
+              let e : a ≡ b = omega arith in
+              let P : ℕ → Type 0 = λ x. IsItemThen text at last a x q in
+              subst P e (single_written a (rw (← e) at link) (rw (← e) at h))
+        ]
 
--- a chain of items, from the place where its first stands
-pub chain_faultless : (rs : List (ℕ × ℕ)) (a b : ℕ) (text : List ℕ) (at : ℕ) (last : Option ℕ) → is_text text (codes "0-255") ≡ false → BeginsItem text at last → Chain last ((a, b) ∷ rs) → drop at text ≡ item (a, b) ++ after_item rs → fault_from text at ≡ None
-unfolding after_item
-chain_faultless [] a b text at last not_all begins chain h =
-    let i : IsItemThen text at last a b [] = item_written text at last [] not_all begins (after_item_Stops []) a b chain.0 h in
-    i.1.passed ∙ rw (at_end text i.0 i.2) refl
-chain_faultless ((c, d) ∷ ts) a b text at last not_all begins chain h =
-    let i : IsItemThen text at last a b (comma ∷ items ((c, d) ∷ ts)) = item_written text at last _ not_all begins (after_item_Stops ((c, d) ∷ ts)) a b chain.0 h in
-    let next : (slice_get text i.0 ≡ Some comma) × (drop (i.0 + 1) text ≡ items ((c, d) ∷ ts)) = at_next text (items ((c, d) ∷ ts)) i.0 comma i.2 in
-    i.1.passed ∙ rw next.0 (chain_faultless ts c d text (i.0 + 1) (Some b) not_all (begins_next text at last a b i.0 i.1 next.0) chain.1 (next.1 ∙ items_are (c, d) ts))
+  begins_next : (text : List ℕ) (at : ℕ) (last : Option ℕ) (a b end : ℕ) → IsItemAt form text at last a b end → slice_get text end ≡ Some comma → BeginsItem text (end + 1) (Some b)
+  unfolding at_comma last_number
+  begins_next text at last a b end i next =
+      let low : end < length text = slice_get_within text end comma next in
+      record { within = omega arith; after = rw (back-next text end comma next) (refl, i.number) }
+
+  -- a chain of items, from the place where its first stands
+  pub chain_faultless : (rs : List (ℕ × ℕ)) (a b : ℕ) (text : List ℕ) (at : ℕ) (last : Option ℕ) → is_text text (whole_run form) ≡ false → BeginsItem text at last → Chain form last ((a, b) ∷ rs)
+      → drop at text ≡ item (a, b) ++ after_item rs → fault_from form text at ≡ None
+  unfolding after_item
+  chain_faultless [] a b text at last not_all begins chain h =
+      let i : IsItemThen text at last a b [] = item_written text at last [] not_all begins (after_item_Stops []) a b chain.0 h in
+      i.1.passed ∙ rw (at_end text i.0 i.2) refl
+  chain_faultless ((c, d) ∷ ts) a b text at last not_all begins chain h =
+      let i : IsItemThen text at last a b (comma ∷ items ((c, d) ∷ ts)) = item_written text at last _ not_all begins (after_item_Stops ((c, d) ∷ ts)) a b chain.0 h in
+      let next : (slice_get text i.0 ≡ Some comma) × (drop (i.0 + 1) text ≡ items ((c, d) ∷ ts)) = at_next text (items ((c, d) ∷ ts)) i.0 comma i.2 in
+      i.1.passed ∙ rw next.0 (chain_faultless ts c d text (i.0 + 1) (Some b) not_all (begins_next text at last a b i.0 i.1 next.0) chain.1 (next.1 ∙ items_are (c, d) ts))

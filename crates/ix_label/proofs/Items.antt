@@ -1,9 +1,12 @@
 -- The loop over the items of a text: what it has read up to a place.
-use Rattle.std.proofs.Common.{◌≡◌, ℕ, ◌+◌, ◌-◌, ◌<◌, ◌≤◌, nat_le, true, true≢false, ◌&&◌, ◌||◌, List, [], ◌∷◌, length, get_or, take, drop, refl, sym, ◌∙◌, ap, arith, length-append, length-drop, Option, None, Some, inl, inr}
+use Rattle.std.proofs.Common.{◌≡◌, ℕ, ◌+◌, ◌-◌, ◌<◌, ◌≤◌, nat_le, true, true≢false, ◌&&◌, ◌||◌, List, [], ◌∷◌, length, get_or, take, drop, refl, sym}
+use Rattle.std.proofs.Common.{◌∙◌, ap, arith, length-append, length-drop, Option, None, Some, inl, inr}
 use Rattle.std.specs.List.{slice_get}
 use Rattle.std.proofs.lemmas.Bool.{or_cases, or_right, and_parts, leb-true, le-leb, ne_eqb, cases_order}
 use Rattle.std.proofs.lemmas.List.{take_all}
 use Rattle.std.proofs.lemmas.Option.{slice_get_within, slice_get-get_or, slice_get_past}
+use Rattle.ix_label.specs.declared.form.Form.{Form}
+use Rattle.ix_label.specs.Forms.{greatest}
 use Rattle.ix_label.specs.declared.fault.LabelFault.TheVariants.{BadNumber}
 use Rattle.ix_label.specs.Category.{Categories, has, bottom}
 use Rattle.ix_label.specs.Members.{has-bottom}
@@ -12,6 +15,7 @@ use Rattle.ix_label.specs.Scanning.{comma_after}
 use Rattle.ix_label.specs.Faults.{at_comma, last_number}
 use Rattle.ix_label.specs.Reading.{back_from, fault_from, BeginsItem, IsAbove, IsItemAt, fault_after_item, IsRead}
 use Rattle.ix_label.proofs.Runs.{AddsRun, runs-AddsRun, runs-bottom}
+use Rattle.ix_label.proofs.Numbers.{greatest-below}
 use Rattle.ix_label.proofs.Texts.{items-push, items_none, comma_after_none, comma_after_some, item_some}
 use Rattle.ix_label.proofs.Reading.{drop-next, take-written, back-next}
 
@@ -21,15 +25,15 @@ IsUpTo None s = s ≡ bottom
 IsUpTo (Some last) s = (q : ℕ) → has s q ≡ true → q ≤ last
 
 -- the text before the place has no fault, and spells the label
-pub record IsReadTo (text : List ℕ) (at : ℕ) (last : Option ℕ) (s : Categories) : Type 0 where
+pub record IsReadTo (form : Form) (text : List ℕ) (at : ℕ) (last : Option ℕ) (s : Categories) : Type 0 where
   pub begins : BeginsItem text at last
-  pub passed : fault_from text 0 ≡ fault_from text at
+  pub passed : fault_from form text 0 ≡ fault_from form text at
   pub written : take at text ≡ comma_after (items (runs s))
   pub up_to : IsUpTo last s
 
-pub IsReadTo-start : (text : List ℕ) → IsReadTo text 0 None bottom
+pub IsReadTo-start : (form : Form) (text : List ℕ) → IsReadTo form text 0 None bottom
 unfolding back_from
-IsReadTo-start text = record {
+IsReadTo-start form text = record {
   begins = record { within = omega arith; after = refl };
   passed = refl;
   written = rw (runs-bottom, items_none, comma_after_none) refl;
@@ -40,11 +44,12 @@ apart_from : (last : Option ℕ) (s : Categories) (a q : ℕ) → IsUpTo last s 
 apart_from None s a q up_to above one = absurd (true≢false (sym one ∙ (λ i. has (up_to i) q) ∙ has-bottom q))
 apart_from (Some last) s a q up_to above one = let le : q ≤ last = up_to q one in omega arith
 
-module _ (text : List ℕ) (at : ℕ) (last : Option ℕ) (s t : Categories) (first most end : ℕ) (so_far : IsReadTo text at last s) (i : IsItemAt text at last first most end) (grown : (q : ℕ) → has t q ≡ (has s q || (nat_le first q && nat_le q most))) where
+module _ (form : Form) (text : List ℕ) (at : ℕ) (last : Option ℕ) (s t : Categories) (first most end : ℕ) (so_far : IsReadTo form text at last s) (i : IsItemAt form text at last first most end)
+    (grown : (q : ℕ) → has t q ≡ (has s q || (nat_le first q && nat_le q most))) where
   adds : AddsRun s t first most
   adds = record {
     order = i.order;
-    small = i.small;
+    small = omega (arith, i.small, greatest-below form);
     apart = λ q one. apart_from last s first q so_far.up_to i.above one;
     members = grown;
   }
@@ -73,7 +78,7 @@ module _ (text : List ℕ) (at : ℕ) (last : Option ℕ) (s t : Categories) (fi
     | inr new ↦ let parts : (nat_le first q ≡ true) × (nat_le q most ≡ true) = and_parts _ _ new in leb-true q most parts.1
   ]
 
-  pub IsReadTo-more : slice_get text end ≡ Some comma → IsReadTo text (end + 1) (Some most) t
+  pub IsReadTo-more : slice_get text end ≡ Some comma → IsReadTo form text (end + 1) (Some most) t
   unfolding at_comma last_number
   IsReadTo-more next =
       let low : end < length text = slice_get_within text end comma next in
@@ -88,20 +93,20 @@ module _ (text : List ℕ) (at : ℕ) (last : Option ℕ) (s t : Categories) (fi
       }
 
   -- what is at the end of the item, if it is not the text's, is a byte, and no comma
-  wrong_byte : (o : Option ℕ) → slice_get text end ≡ o → end < length text → (slice_get text end ≡ Some comma → ⊥) → fault_after_item text end o ≡ Some (BadNumber end)
+  wrong_byte : (o : Option ℕ) → slice_get text end ≡ o → end < length text → (slice_get text end ≡ Some comma → ⊥) → fault_after_item form text end o ≡ Some (BadNumber end)
   wrong_byte None next low other = let found : slice_get text end ≡ Some (get_or text end 0) = slice_get-get_or text end 0 low in cc
   wrong_byte (Some b) next low other = rw (ne_eqb b comma (λ e. other (next ∙ ap Some e))) refl
 
-  pub bad_follower : (end ≡ length text → ⊥) → (slice_get text end ≡ Some comma → ⊥) → fault_from text 0 ≡ Some (BadNumber end)
+  pub bad_follower : (end ≡ length text → ⊥) → (slice_get text end ≡ Some comma → ⊥) → fault_from form text 0 ≡ Some (BadNumber end)
   bad_follower more other = let low : end < length text = elim (cases_order end (length text)) [
     | inl e ↦ absurd (more e)
     | inr (inl lt) ↦ lt
     | inr (inr gt) ↦ let within : end ≤ length text = i.within in absurd (omega arith)
   ] in so_far.passed ∙ i.passed ∙ wrong_byte (slice_get text end) refl low other
 
-  pub all_read : end ≡ length text → IsRead text t
+  pub all_read : end ≡ length text → IsRead form text t
   all_read whole = record {
-    label = record { below = λ q one. let low : q ≤ most = up_to_most q one in let small : most < 256 = i.small in omega arith };
+    within = record { below = λ q one. let low : q ≤ most = up_to_most q one in let small : most ≤ greatest form = i.small in omega arith };
     some = λ e. true≢false (sym has_most ∙ (λ k. has (e k) most) ∙ has-bottom most);
     written = sym (take_all end text (omega arith)) ∙ written_to_end;
     faultless = so_far.passed ∙ i.passed ∙ rw (slice_get_past text end (omega arith)) refl;

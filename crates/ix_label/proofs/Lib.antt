@@ -4,6 +4,7 @@ pub mod Texts
 pub mod Walk
 pub mod Places
 pub mod Numbers
+pub mod Fitting
 pub mod Reading
 pub mod Items
 pub mod Chains

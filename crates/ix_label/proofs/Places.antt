@@ -1,5 +1,6 @@
 -- How the first fault of a text is found, number by number.
-use Rattle.std.proofs.Common.{◌≡◌, ℕ, suc, ◌+◌, ◌<◌, ◌==◌, Bool, true, false, true≢false, not, ◌&&◌, cond, List, [], ◌∷◌, ◌++◌, length, reverse, drop, refl, sym, ◌∙◌, ap, arith, append_assoc, None, Some}
+use Rattle.std.proofs.Common.{◌≡◌, ℕ, suc, ◌+◌, ◌<◌, ◌==◌, Bool, true, false, true≢false, not, ◌&&◌, cond, List, [], ◌∷◌, ◌++◌, length}
+use Rattle.std.proofs.Common.{reverse, drop, refl, sym, ◌∙◌, ap, arith, append_assoc, None, Some}
 use Rattle.std.specs.List.{list_all, prefix_len}
 use Rattle.std.specs.Char.{is_ascii_digit}
 use Rattle.std.specs.Str.Parse.{digits_value}
@@ -7,6 +8,7 @@ use Rattle.std.proofs.lemmas.List.{take_at, drop_at, reverse-append, reverse-rev
 use Rattle.std.proofs.lemmas.List.Sums.{take_while-cons}
 use Rattle.std.proofs.lemmas.List.Folds.{list_all-append}
 use Rattle.std.proofs.lemmas.Bool.{and_parts, ne_eqb, false_from_ne_true}
+use Rattle.ix_label.specs.declared.form.Form.{Form}
 use Rattle.ix_label.specs.declared.fault.LabelFault.{LabelFault}
 use Rattle.ix_label.specs.declared.fault.LabelFault.TheVariants.{BadNumber}
 use Rattle.ix_label.specs.Spelling.{comma, dash}
@@ -69,55 +71,6 @@ unfolding at_digit
 due_no_digit [] h = refl
 due_no_digit (b ∷ back) h = false_from_ne_true _ (λ one. true≢false (sym h ∙ digit_not_due b back one))
 
-pub fault_due : (back ahead : List ℕ) → is_due back ≡ true → fault_here back ahead ≡ number_fault back ahead
-unfolding fault_here
-fault_due back ahead h = rw h refl
-
-fault_inside : (b d : ℕ) (back ahead : List ℕ) → is_ascii_digit b ≡ true → is_ascii_digit d ≡ true → fault_here (b ∷ back) (d ∷ ahead) ≡ None
-unfolding fault_here at_digit
-fault_inside b d back ahead h k = rw (digit_not_due b back h, h, k) refl
-
-fault_after : (back ahead : List ℕ) → is_due back ≡ false → at_digit back ≡ true → at_digit ahead ≡ false → fault_here back ahead ≡ follower_fault back ahead
-unfolding fault_here
-fault_after back ahead due behind before = rw (due, behind, before) refl
-
--- ---- from a place on
-
-pub first_fault-some : (back ahead : List ℕ) (f : LabelFault) → fault_here back ahead ≡ Some f → first_fault back ahead ≡ Some f
-unfolding first_fault
-first_fault-some back [] f h = h
-first_fault-some back (b ∷ ahead) f h = rw h refl
-
-first_fault-none : (back : List ℕ) (b : ℕ) (ahead : List ℕ) → fault_here back (b ∷ ahead) ≡ None → first_fault back (b ∷ ahead) ≡ first_fault (b ∷ back) ahead
-unfolding first_fault
-first_fault-none back b ahead h = rw h refl
-
-first_fault-end : (back : List ℕ) → first_fault back [] ≡ fault_here back []
-unfolding first_fault
-first_fault-end back = refl
-
-reverse_onto : (d : ℕ) (ds back : List ℕ) → reverse ds ++ d ∷ back ≡ reverse (d ∷ ds) ++ back
-reverse_onto d ds back = rw (reverse-append (d ∷ []) ds, append_assoc) refl
-
-over_digits : (ds : List ℕ) (b : ℕ) (back q : List ℕ) → is_ascii_digit b ≡ true → list_all is_ascii_digit ds ≡ true → first_fault (b ∷ back) (ds ++ q) ≡ first_fault (reverse ds ++ b ∷ back) q
-over_digits [] b back q h all = refl
-over_digits (d ∷ ds) b back q h all =
-    let parts : (is_ascii_digit d ≡ true) × (list_all is_ascii_digit ds ≡ true) = and_parts _ _ all in
-    first_fault-none (b ∷ back) d (ds ++ q) (fault_inside b d back (ds ++ q) h parts.0)
-    ∙ over_digits ds d (b ∷ back) q parts.0 parts.1
-    ∙ ap (λ x. first_fault x q) (reverse_onto d ds (b ∷ back))
-
--- over a number that is due and has no fault
-pub over_number : (back ds q : List ℕ) → is_due back ≡ true → 0 < length ds → list_all is_ascii_digit ds ≡ true → number_fault back (ds ++ q) ≡ None → first_fault back (ds ++ q) ≡ first_fault (reverse ds ++ back) q
-over_number back [] q due some all h = absurd (omega arith)
-over_number back (d ∷ ds) q due some all h =
-    let parts : (is_ascii_digit d ≡ true) × (list_all is_ascii_digit ds ≡ true) = and_parts _ _ all in
-    first_fault-none back d (ds ++ q) (fault_due back (d ∷ (ds ++ q)) due ∙ h)
-    ∙ over_digits ds d back q parts.0 parts.1
-    ∙ ap (λ x. first_fault x q) (reverse_onto d ds back)
-
--- ---- after a number
-
 pub begins_with_digit : (ds back : List ℕ) → 0 < length ds → list_all is_ascii_digit ds ≡ true → (at_digit (ds ++ back) ≡ true) × (is_due (ds ++ back) ≡ false)
 unfolding at_digit
 begins_with_digit [] back some all = absurd (omega arith)
@@ -125,32 +78,85 @@ begins_with_digit (d ∷ ds) back some all =
     let parts : (is_ascii_digit d ≡ true) × (list_all is_ascii_digit ds ≡ true) = and_parts _ _ all in
     (parts.0, digit_not_due d (ds ++ back) parts.0)
 
-module _ (back ds : List ℕ) (due : is_due back ≡ true) (some : 0 < length ds) (all : list_all is_ascii_digit ds ≡ true) where
-  behind : (at_digit (reverse ds ++ back) ≡ true) × (is_due (reverse ds ++ back) ≡ false)
-  behind = begins_with_digit (reverse ds) back (rw length-reverse some) (list_all-reverse is_ascii_digit ds all)
+module _ (form : Form) where
+  pub fault_due : (back ahead : List ℕ) → is_due back ≡ true → fault_here form back ahead ≡ number_fault form back ahead
+  unfolding fault_here
+  fault_due back ahead h = rw h refl
 
-  pub number_back-number : number_back (reverse ds ++ back) ≡ digits_value 10 ds
-  unfolding number_back
-  number_back-number = rw (digits-append (reverse ds) back (list_all-reverse is_ascii_digit ds all) (due_no_digit back due), reverse-reverse ds) refl
+  fault_inside : (b d : ℕ) (back ahead : List ℕ) → is_ascii_digit b ≡ true → is_ascii_digit d ≡ true → fault_here form (b ∷ back) (d ∷ ahead) ≡ None
+  unfolding fault_here at_digit
+  fault_inside b d back ahead h k = rw (digit_not_due b back h, h, k) refl
 
-  after_number : after_digits (reverse ds ++ back) ≡ back
-  after_number = after_digits-append (reverse ds) back (list_all-reverse is_ascii_digit ds all) (due_no_digit back due)
+  fault_after : (back ahead : List ℕ) → is_due back ≡ false → at_digit back ≡ true → at_digit ahead ≡ false → fault_here form back ahead ≡ follower_fault back ahead
+  unfolding fault_here
+  fault_after back ahead due behind before = rw (due, behind, before) refl
 
-  -- the end and a comma may follow
-  pub end_follows : first_fault (reverse ds ++ back) [] ≡ None
-  unfolding at_digit follower_fault may_follow
-  end_follows = first_fault-end _ ∙ fault_after _ [] behind.1 behind.0 refl
+  -- ---- from a place on
 
-  pub comma_follows : (q : List ℕ) → first_fault (reverse ds ++ back) (comma ∷ q) ≡ first_fault (comma ∷ (reverse ds ++ back)) q
-  unfolding at_digit follower_fault may_follow
-  comma_follows q = first_fault-none _ comma q (fault_after _ (comma ∷ q) behind.1 behind.0 refl)
+  pub first_fault-some : (back ahead : List ℕ) (f : LabelFault) → fault_here form back ahead ≡ Some f → first_fault form back ahead ≡ Some f
+  unfolding first_fault
+  first_fault-some back [] f h = h
+  first_fault-some back (b ∷ ahead) f h = rw h refl
 
-  -- a dash may, if the number is not the second of a range
-  pub dash_follows : (q : List ℕ) → at_dash back ≡ false → first_fault (reverse ds ++ back) (dash ∷ q) ≡ first_fault (dash ∷ (reverse ds ++ back)) q
-  unfolding at_digit follower_fault may_follow
-  dash_follows q first = first_fault-none _ dash q (fault_after _ (dash ∷ q) behind.1 behind.0 refl ∙ rw (after_number, first) refl)
+  first_fault-none : (back : List ℕ) (b : ℕ) (ahead : List ℕ) → fault_here form back (b ∷ ahead) ≡ None → first_fault form back (b ∷ ahead) ≡ first_fault form (b ∷ back) ahead
+  unfolding first_fault
+  first_fault-none back b ahead h = rw h refl
 
-  -- and nothing else
-  pub other_follows : (b : ℕ) (q : List ℕ) → is_ascii_digit b ≡ false → (b == comma) ≡ false → (b == dash && not (at_dash back)) ≡ false → first_fault (reverse ds ++ back) (b ∷ q) ≡ Some (BadNumber (length (reverse ds ++ back)))
-  unfolding at_digit follower_fault may_follow
-  other_follows b q digit no_comma no_dash = first_fault-some _ (b ∷ q) _ (fault_after _ (b ∷ q) behind.1 behind.0 digit ∙ rw (no_comma, after_number, no_dash) refl)
+  first_fault-end : (back : List ℕ) → first_fault form back [] ≡ fault_here form back []
+  unfolding first_fault
+  first_fault-end back = refl
+
+  reverse_onto : (d : ℕ) (ds back : List ℕ) → reverse ds ++ d ∷ back ≡ reverse (d ∷ ds) ++ back
+  reverse_onto d ds back = rw (reverse-append (d ∷ []) ds, append_assoc) refl
+
+  over_digits : (ds : List ℕ) (b : ℕ) (back q : List ℕ) → is_ascii_digit b ≡ true → list_all is_ascii_digit ds ≡ true
+      → first_fault form (b ∷ back) (ds ++ q) ≡ first_fault form (reverse ds ++ b ∷ back) q
+  over_digits [] b back q h all = refl
+  over_digits (d ∷ ds) b back q h all =
+      let parts : (is_ascii_digit d ≡ true) × (list_all is_ascii_digit ds ≡ true) = and_parts _ _ all in
+      first_fault-none (b ∷ back) d (ds ++ q) (fault_inside b d back (ds ++ q) h parts.0)
+      ∙ over_digits ds d (b ∷ back) q parts.0 parts.1
+      ∙ ap (λ x. first_fault form x q) (reverse_onto d ds (b ∷ back))
+
+  -- over a number that is due and has no fault
+  pub over_number : (back ds q : List ℕ) → is_due back ≡ true → 0 < length ds → list_all is_ascii_digit ds ≡ true → number_fault form back (ds ++ q) ≡ None
+      → first_fault form back (ds ++ q) ≡ first_fault form (reverse ds ++ back) q
+  over_number back [] q due some all h = absurd (omega arith)
+  over_number back (d ∷ ds) q due some all h =
+      let parts : (is_ascii_digit d ≡ true) × (list_all is_ascii_digit ds ≡ true) = and_parts _ _ all in
+      first_fault-none back d (ds ++ q) (fault_due back (d ∷ (ds ++ q)) due ∙ h)
+      ∙ over_digits ds d back q parts.0 parts.1
+      ∙ ap (λ x. first_fault form x q) (reverse_onto d ds back)
+
+  -- ---- after a number
+
+  module _ (back ds : List ℕ) (due : is_due back ≡ true) (some : 0 < length ds) (all : list_all is_ascii_digit ds ≡ true) where
+    behind : (at_digit (reverse ds ++ back) ≡ true) × (is_due (reverse ds ++ back) ≡ false)
+    behind = begins_with_digit (reverse ds) back (rw length-reverse some) (list_all-reverse is_ascii_digit ds all)
+
+    pub number_back-number : number_back (reverse ds ++ back) ≡ digits_value 10 ds
+    unfolding number_back
+    number_back-number = rw (digits-append (reverse ds) back (list_all-reverse is_ascii_digit ds all) (due_no_digit back due), reverse-reverse ds) refl
+
+    after_number : after_digits (reverse ds ++ back) ≡ back
+    after_number = after_digits-append (reverse ds) back (list_all-reverse is_ascii_digit ds all) (due_no_digit back due)
+
+    -- the end and a comma may follow
+    pub end_follows : first_fault form (reverse ds ++ back) [] ≡ None
+    unfolding at_digit follower_fault may_follow
+    end_follows = first_fault-end _ ∙ fault_after _ [] behind.1 behind.0 refl
+
+    pub comma_follows : (q : List ℕ) → first_fault form (reverse ds ++ back) (comma ∷ q) ≡ first_fault form (comma ∷ (reverse ds ++ back)) q
+    unfolding at_digit follower_fault may_follow
+    comma_follows q = first_fault-none _ comma q (fault_after _ (comma ∷ q) behind.1 behind.0 refl)
+
+    -- a dash may, if the number is not the second of a range
+    pub dash_follows : (q : List ℕ) → at_dash back ≡ false → first_fault form (reverse ds ++ back) (dash ∷ q) ≡ first_fault form (dash ∷ (reverse ds ++ back)) q
+    unfolding at_digit follower_fault may_follow
+    dash_follows q first = first_fault-none _ dash q (fault_after _ (dash ∷ q) behind.1 behind.0 refl ∙ rw (after_number, first) refl)
+
+    -- and nothing else
+    pub other_follows : (b : ℕ) (q : List ℕ) → is_ascii_digit b ≡ false → (b == comma) ≡ false → (b == dash && not (at_dash back)) ≡ false
+        → first_fault form (reverse ds ++ back) (b ∷ q) ≡ Some (BadNumber (length (reverse ds ++ back)))
+    unfolding at_digit follower_fault may_follow
+    other_follows b q digit no_comma no_dash = first_fault-some _ (b ∷ q) _ (fault_after _ (b ∷ q) behind.1 behind.0 digit ∙ rw (no_comma, after_number, no_dash) refl)

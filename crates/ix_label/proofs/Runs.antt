@@ -1,5 +1,6 @@
 -- The longest runs of a label that gains one run above all that it has.
-use Rattle.std.proofs.Common.{◌≡◌, ℕ, zero, suc, ◌+◌, ◌<◌, ◌≤◌, nat_le, Bool, true, false, not, ◌&&◌, ◌||◌, cond, add-zero, zero-add, add-one, List, [], ◌∷◌, ◌++◌, length, refl, ◌∙◌, ap, arith, inl, inr}
+use Rattle.std.proofs.Common.{◌≡◌, ℕ, zero, suc, ◌+◌, ◌<◌, ◌≤◌, nat_le, Bool, true, false, not, ◌&&◌, ◌||◌, cond, add-zero, zero-add, add-one, List}
+use Rattle.std.proofs.Common.{[], ◌∷◌, ◌++◌, length, refl, ◌∙◌, ap, arith, inl, inr}
 use Rattle.std.specs.List.{range_with_len, zip, filter}
 use Rattle.std.proofs.lemmas.Bool.{cases_lt, cases_Bool, false_from_ne_true, le-leb, lt-leb}
 use Rattle.std.proofs.Math.Bool.{and-false, or-false}
@@ -88,7 +89,8 @@ length_kept false k xs = omega arith
 balanced : (s : Categories) (k n : ℕ) → length (filter (begins s) (range_with_len k n)) + count (open_at s k) ≡ length (filter (ends s) (range_with_len k n)) + count (open_at s (k + n))
 balanced s k zero = rw add-zero refl
 balanced s k (suc n) =
-    let rest : length (filter (begins s) (range_with_len (k + 1) n)) + count (open_at s (k + 1)) ≡ length (filter (ends s) (range_with_len (k + 1) n)) + count (open_at s (k + 1 + n)) = balanced s (k + 1) n in
+    let rest : length (filter (begins s) (range_with_len (k + 1) n)) + count (open_at s (k + 1)) ≡ length (filter (ends s) (range_with_len (k + 1) n)) + count (open_at s (k + 1 + n)) = balanced s
+    (k + 1) n in
     let place : k + 1 + n ≡ k + suc n = omega arith in
     rw (length_kept (begins s k), length_kept (ends s k), ← place) (omega (arith, starts s k, stops s k, rest))
 
@@ -97,19 +99,19 @@ balanced_below s n below e none =
     let all : length (filter (begins s) (range_with_len 0 n)) + count (open_at s 0) ≡ length (filter (ends s) (range_with_len 0 n)) + count (open_at s n) = rw zero-add at (balanced s 0 n) in
     rw e (omega (arith, all, closed_first s, closed_at s n none))
 
-pub are_below : categories ≡ range_with_len 0 256
+pub are_below : categories ≡ range_with_len 0 512
 unfolding categories
 are_below = refl
 
-pub as_many_begin_as_end : (s : Categories) → has s 256 ≡ false → length (filter (begins s) categories) ≡ length (filter (ends s) categories)
-as_many_begin_as_end s none = balanced_below s 256 categories are_below none
+pub as_many_begin_as_end : (s : Categories) → has s 512 ≡ false → length (filter (begins s) categories) ≡ length (filter (ends s) categories)
+as_many_begin_as_end s none = balanced_below s 512 categories are_below none
 
 -- ---- one run more
 
 -- t is s and the categories from a to b, which are above all of s and not next to them
 pub record AddsRun (s t : Categories) (a b : ℕ) : Type 0 where
   pub order : a ≤ b
-  pub small : b < 256
+  pub small : b < 512
   pub apart : (q : ℕ) → has s q ≡ true → q + 1 < a
   pub members : (q : ℕ) → has t q ≡ (has s q || (nat_le a q && nat_le q b))
 
@@ -172,8 +174,8 @@ module _ {s t : Categories} {a b : ℕ} (h : AddsRun s t a b) where
     none = λ q le. let order : a ≤ b = h.order in rw (absent q (omega arith)) refl;
   }
 
-filter_categories : (p r : ℕ → Bool) (c : ℕ) → Marks p r c → c < 256 → filter p categories ≡ filter r categories ++ c ∷ []
-filter_categories p r c m low = go 256 categories are_below low
+filter_categories : (p r : ℕ → Bool) (c : ℕ) → Marks p r c → c < 512 → filter p categories ≡ filter r categories ++ c ∷ []
+filter_categories p r c m low = go 512 categories are_below low
   where
     go : (n : ℕ) (below : List ℕ) → below ≡ range_with_len 0 n → c < n → filter p below ≡ filter r below ++ c ∷ []
     go n below e low = rw e (filter_marks p r c 0 n m (omega arith) (omega arith))
@@ -183,13 +185,13 @@ pub runs-AddsRun : (s t : Categories) (a b : ℕ) → AddsRun s t a b → runs t
 unfolding runs
 runs-AddsRun s t a b h =
     let order : a ≤ b = h.order in
-    let small : b < 256 = h.small in
-    let none : has s 256 ≡ false = absent h 256 (omega arith) in
+    let small : b < 512 = h.small in
+    let none : has s 512 ≡ false = absent h 512 (omega arith) in
     rw (filter_categories _ _ a (marks_begin h) (omega arith), filter_categories _ _ b (marks_end h) small)
     (zip_push _ _ a b (as_many_begin_as_end s none))
 
 filter_none : (p : ℕ → Bool) → ((q : ℕ) → p q ≡ false) → filter p categories ≡ []
-filter_none p h = go 256 categories are_below
+filter_none p h = go 512 categories are_below
   where
     go : (n : ℕ) (below : List ℕ) → below ≡ range_with_len 0 n → filter p below ≡ []
     go n below e = rw e (none_pass p 0 n (λ q le. h q))

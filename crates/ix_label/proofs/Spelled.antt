@@ -1,5 +1,5 @@
 -- A text is a label's spelling exactly where it has no fault, and then of that label alone.
-use Rattle.std.proofs.Common.{◌≡◌, ℕ, ◌<◌, ◌≤◌, ◌==◌, true, false, true≢false, ◌&&◌, ◌||◌, List, [], ◌∷◌, length, refl, sym, ◌∙◌, ap, arith, None, Some, Result, Ok, Err, inl, inr, codes, nat_le}
+use Rattle.std.proofs.Common.{◌≡◌, ℕ, ◌+◌, ◌<◌, ◌≤◌, ◌==◌, true, false, true≢false, ◌&&◌, ◌||◌, List, [], ◌∷◌, length, refl, sym, ◌∙◌, ap, arith, None, Some, Result, Ok, Err, inl, inr, codes, nat_le}
 use Rattle.std.specs.Bool.{Decides}
 use Rattle.std.specs.Fmt.{decimal, digits as radix_digits}
 use Rattle.std.specs.Result.{result_err, IfOk}
@@ -7,25 +7,26 @@ use Rattle.std.specs.Cmp.Lexicographic.{bytes_decides}
 use Rattle.std.proofs.lemmas.Bool.{cases_Bool, cases_lt, eqb-true, eqb-false, false_from_ne_true, le-leb, lt-leb}
 use Rattle.ix_label.specs.declared.fault.LabelFault.{LabelFault}
 use Rattle.ix_label.specs.declared.fault.LabelFault.TheVariants.{Empty, NotLongest}
-use Rattle.ix_label.specs.Category.{Categories, IsLabel, has, bottom, top, same}
-use Rattle.ix_label.specs.Members.{has-bottom, has-top, has-top_past}
-use Rattle.ix_label.specs.Lattice.{same-decides, IsLabel-bottom, IsLabel-top}
+use Rattle.ix_label.specs.declared.form.Form.{Form}
+use Rattle.ix_label.specs.declared.form.Form.TheVariants.{One, Two}
+use Rattle.ix_label.specs.Category.{Categories, IsLabel, has, bottom, same}
+use Rattle.ix_label.specs.Forms.{greatest, all_of, whole_run, Fits, IsWithin}
+use Rattle.ix_label.specs.Members.{has-bottom, has-all_below, has-all_below_past}
+use Rattle.ix_label.specs.Lattice.{same-decides, IsLabel-bottom}
 use Rattle.ix_label.specs.Spelling.{spelling, items, item, runs}
-use Rattle.ix_label.specs.Faults.{is_text, fault_of, first_fault, fault_here, is_due, number_fault, is_bad, number_ahead, number_back, is_not_ascending, is_not_longest, at_dash, at_comma, at_digit, last_number, follower_fault, may_follow}
+use Rattle.ix_label.specs.Faults.{is_text, fault_of, first_fault, fault_here, is_due, number_fault, is_bad, number_ahead, number_back, is_not_ascending, is_not_longest}
+use Rattle.ix_label.specs.Faults.{at_dash, at_comma, at_digit, last_number, follower_fault, may_follow}
 use Rattle.ix_label.specs.Reading.{back_from, fault_from, ItemsRead, BeginsItem}
 use Rattle.ix_label.proofs.Runs.{runs-AddsRun, runs-bottom}
 use Rattle.ix_label.proofs.Chains.{Chain, runs-Chain}
 use Rattle.ix_label.proofs.Places.{begins_with_digit}
-use Rattle.ix_label.proofs.Numbers.{decimal-digits}
+use Rattle.ix_label.proofs.Numbers.{decimal-digits, greatest-below}
+use Rattle.ix_label.proofs.Fitting.{fits-within, within-fits, within-label, within-bottom, within-all_of}
 use Rattle.ix_label.proofs.Texts.{items_some, decimal_some}
 use Rattle.ix_label.proofs.Unique.{items_injective, runs_injective, items_are, after_item, after_first, item_parts}
 use Rattle.ix_label.proofs.Faultless.{chain_faultless}
 
--- ---- the three forms of a spelling
-
-pub spelling-bottom : spelling bottom ≡ codes "-"
-unfolding spelling
-spelling-bottom = rw ((same-decides bottom bottom).1 refl) refl
+-- ---- sets and texts that are compared
 
 not_same : (a b : Categories) → (a ≡ b → ⊥) → same a b ≡ false
 not_same a b h = false_from_ne_true _ (λ is. h ((same-decides a b).0 is))
@@ -33,205 +34,235 @@ not_same a b h = false_from_ne_true _ (λ is. h ((same-decides a b).0 is))
 differs : (a b : Categories) → same a b ≡ false → a ≡ b → ⊥
 differs a b h e = true≢false (sym ((same-decides a b).1 e) ∙ h)
 
-top_not_bottom : top ≡ bottom → ⊥
-top_not_bottom e = true≢false (sym (has-top 0 (omega arith)) ∙ (λ i. has (e i) 0) ∙ has-bottom 0)
-
-pub spelling-top : spelling top ≡ codes "*"
-unfolding spelling
-spelling-top = rw (not_same top bottom top_not_bottom, (same-decides top top).1 refl) refl
-
-pub spelling-items : (s : Categories) → (s ≡ bottom → ⊥) → (s ≡ top → ⊥) → spelling s ≡ items (runs s)
-unfolding spelling
-spelling-items s some lacks = rw (not_same s bottom some, not_same s top lacks) refl
-
--- ---- the text `0-255` is no spelling
-
-has-top_run : (q : ℕ) → has top q ≡ (has bottom q || (nat_le 0 q && nat_le q 255))
-has-top_run q = elim (cases_lt q 256) [
-  | inl low ↦ has-top q low ∙ rw (has-bottom q, le-leb 0 q (omega arith), le-leb q 255 (omega arith)) refl
-  | inr past ↦ has-top_past q past ∙ rw (has-bottom q, le-leb 0 q (omega arith), lt-leb q 255 (omega arith)) refl
-]
-
-runs-top : runs top ≡ (0, 255) ∷ []
-runs-top = runs-AddsRun bottom top 0 255 (record {
-  order = omega arith;
-  small = omega arith;
-  apart = λ q one. absurd (true≢false (sym one ∙ has-bottom q));
-  members = has-top_run;
-}) ∙ rw runs-bottom refl
-
-items_of_all : items ((0, 255) ∷ []) ≡ codes "0-255"
-unfolding items item radix_digits
-items_of_all = refl
-
 is_text-decides : (text wanted : List ℕ) → Decides (is_text text wanted) (text ≡ wanted)
 is_text-decides text wanted = bytes_decides text wanted
-
--- ---- bytes that are no items
-
-fault_of-none : fault_of [] ≡ Some Empty
-unfolding fault_of
-fault_of-none = refl
-
-fault_of-dash : fault_of (codes "-") ≡ None
-unfolding fault_of
-fault_of-dash = refl
-
-fault_of-star : fault_of (codes "*") ≡ None
-unfolding fault_of
-fault_of-star = refl
-
-fault_of-all : fault_of (codes "0-255") ≡ Some (NotLongest 0)
-unfolding fault_of first_fault fault_here is_due number_fault is_bad number_ahead number_back is_not_ascending is_not_longest at_dash at_comma at_digit last_number follower_fault may_follow
-fault_of-all = refl
-
-fault_of-items : (text : List ℕ) → 0 < length text → is_text text (codes "-") ≡ false → is_text text (codes "*") ≡ false → fault_of text ≡ fault_from text 0
-unfolding fault_of fault_from back_from
-fault_of-items [] some no_dash no_star = absurd (omega arith)
-fault_of-items (b ∷ text) some no_dash no_star = rw (no_dash, no_star) refl
-
--- a text of items without a fault has none, whether it is one of the two bytes or not
-fault_of-clean : (text : List ℕ) → 0 < length text → fault_from text 0 ≡ None → fault_of text ≡ None
-fault_of-clean text some clean = elim (cases_Bool (is_text text (codes "-"))) [
-  | inl dash ↦ rw ((is_text-decides text _).0 dash) fault_of-dash
-  | inr no_dash ↦ elim (cases_Bool (is_text text (codes "*"))) [
-    | inl star ↦ rw ((is_text-decides text _).0 star) fault_of-star
-    | inr no_star ↦ fault_of-items text some no_dash no_star ∙ clean
-  ]
-]
-
--- ---- a spelling has no fault
-
-no_runs : (s : Categories) → IsLabel s → runs s ≡ [] → s ≡ bottom
-no_runs s h e = runs_injective s bottom h IsLabel-bottom (e ∙ sym runs-bottom)
-
-not_all_text : (s : Categories) → IsLabel s → (s ≡ top → ⊥) → is_text (items (runs s)) (codes "0-255") ≡ false
-not_all_text s h lacks = false_from_ne_true _ (λ is.
-    let same_text : items (runs s) ≡ items (runs top) = (is_text-decides _ _).0 is ∙ sym (ap items runs-top ∙ items_of_all) in
-    lacks (runs_injective s top h IsLabel-top (items_injective None None _ _ (runs-Chain s h) (runs-Chain top IsLabel-top) same_text)))
 
 begins_text : (text : List ℕ) → BeginsItem text 0 None
 unfolding back_from
 begins_text text = record { within = omega arith; after = refl }
 
-runs_faultless : (rs : List (ℕ × ℕ)) → (rs ≡ [] → ⊥) → Chain None rs → is_text (items rs) (codes "0-255") ≡ false → fault_of (items rs) ≡ None
-runs_faultless [] some chain not_all = absurd (some refl)
-runs_faultless ((a, b) ∷ rs) some chain not_all =
-    fault_of-clean _ (items_some (a, b) rs) (chain_faultless rs a b _ 0 None not_all (begins_text _) chain (items_are (a, b) rs))
+no_runs : (s : Categories) → IsLabel s → runs s ≡ [] → s ≡ bottom
+no_runs s h e = runs_injective s bottom h IsLabel-bottom (e ∙ sym runs-bottom)
 
-pub spelling_faultless : (s : Categories) → IsLabel s → fault_of (spelling s) ≡ None
-spelling_faultless s h = elim (cases_Bool (same s bottom)) [
-  | inl none ↦ rw ((same-decides s bottom).0 none, spelling-bottom) fault_of-dash
-  | inr some ↦ elim (cases_Bool (same s top)) [
-    | inl all ↦ rw ((same-decides s top).0 all, spelling-top) fault_of-star
-    | inr lacks ↦
-        rw (spelling-items s (differs s bottom some) (differs s top lacks))
-        (runs_faultless (runs s) (λ e. differs s bottom some (no_runs s h e)) (runs-Chain s h) (not_all_text s h (differs s top lacks)))
-  ]
-]
+-- each label is within form Two
+within-two : (s : Categories) → IsLabel s → IsWithin Two s
+within-two s h = fits-within Two s h tt
 
--- ---- a spelling has one label
+-- the three shapes of a label, of which one is spelled `*`
+data Shape (all s : Categories) : Type 0 where
+  is_bottom : s ≡ bottom → Shape all s
+  is_all : s ≡ all → Shape all s
+  is_else : (s ≡ bottom → ⊥) → (s ≡ all → ⊥) → Shape all s
 
-items_at_digit : (rs : List (ℕ × ℕ)) → (rs ≡ [] → ⊥) → Chain None rs → at_digit (items rs) ≡ true
-items_at_digit [] some chain = absurd (some refl)
-items_at_digit ((a, b) ∷ rs) some chain =
-    let order : a ≤ b = chain.0.order in
-    let small : b < 256 = chain.0.small in
-    rw (items_are (a, b) rs, item_parts a b (after_item rs)) (begins_with_digit (decimal a) (after_first a b (after_item rs)) (decimal_some a) (decimal-digits a (omega arith))).0
-
--- each form has a first byte of its own
-no_digit_bottom : at_digit (spelling bottom) ≡ false
-unfolding at_digit
-no_digit_bottom = rw spelling-bottom refl
-
-no_digit_top : at_digit (spelling top) ≡ false
-unfolding at_digit
-no_digit_top = rw spelling-top refl
-
-digit_items : (s : Categories) → IsLabel s → (s ≡ bottom → ⊥) → (s ≡ top → ⊥) → at_digit (spelling s) ≡ true
-digit_items s h some lacks = rw (spelling-items s some lacks) (items_at_digit (runs s) (λ e. some (no_runs s h e)) (runs-Chain s h))
-
-bottom_not_top : spelling bottom ≡ spelling top → ⊥
-bottom_not_top e = let bytes : codes "-" ≡ codes "*" = sym spelling-bottom ∙ e ∙ spelling-top in cc
-
--- the three forms of a label
-data Form (s : Categories) : Type 0 where
-  is_bottom : s ≡ bottom → Form s
-  is_top : s ≡ top → Form s
-  is_else : (s ≡ bottom → ⊥) → (s ≡ top → ⊥) → Form s
-
-form_of : (s : Categories) → Form s
-form_of s = elim (cases_Bool (same s bottom)) [
+shape_of : (all s : Categories) → Shape all s
+shape_of all s = elim (cases_Bool (same s bottom)) [
   | inl none ↦ is_bottom ((same-decides s bottom).0 none)
-  | inr some ↦ elim (cases_Bool (same s top)) [
-    | inl all ↦ is_top ((same-decides s top).0 all)
-    | inr lacks ↦ is_else (differs s bottom some) (differs s top lacks)
+  | inr some ↦ elim (cases_Bool (same s all)) [
+    | inl is ↦ is_all ((same-decides s all).0 is)
+    | inr lacks ↦ is_else (differs s bottom some) (differs s all lacks)
   ]
 ]
-
-same_form : (s t : Categories) → Form s → Form t → IsLabel s → IsLabel t → spelling s ≡ spelling t → s ≡ t
-same_form s t (is_bottom e) (is_bottom f) h k same = e ∙ sym f
-same_form s t (is_bottom e) (is_top f) h k same = absurd (bottom_not_top (ap spelling (sym e) ∙ same ∙ ap spelling f))
-same_form s t (is_bottom e) (is_else some lacks) h k same = absurd (true≢false (sym (digit_items t k some lacks) ∙ ap at_digit (sym same ∙ ap spelling e) ∙ no_digit_bottom))
-same_form s t (is_top e) (is_bottom f) h k same = absurd (bottom_not_top (ap spelling (sym f) ∙ sym same ∙ ap spelling e))
-same_form s t (is_top e) (is_top f) h k same = e ∙ sym f
-same_form s t (is_top e) (is_else some lacks) h k same = absurd (true≢false (sym (digit_items t k some lacks) ∙ ap at_digit (sym same ∙ ap spelling e) ∙ no_digit_top))
-same_form s t (is_else some lacks) (is_bottom f) h k same = absurd (true≢false (sym (digit_items s h some lacks) ∙ ap at_digit (same ∙ ap spelling f) ∙ no_digit_bottom))
-same_form s t (is_else some lacks) (is_top f) h k same = absurd (true≢false (sym (digit_items s h some lacks) ∙ ap at_digit (same ∙ ap spelling f) ∙ no_digit_top))
-same_form s t (is_else some lacks) (is_else some2 lacks2) h k same =
-    let texts : items (runs s) ≡ items (runs t) = sym (spelling-items s some lacks) ∙ same ∙ spelling-items t some2 lacks2 in
-    runs_injective s t h k (items_injective None None _ _ (runs-Chain s h) (runs-Chain t k) texts)
-
-pub spelling_injective : (s t : Categories) → IsLabel s → IsLabel t → spelling s ≡ spelling t → s ≡ t
-spelling_injective s t h k same = same_form s t (form_of s) (form_of t) h k same
-
--- ---- what the reading of a text gives
 
 -- the result is the label that the text spells, or the text's first fault
-abbrev IsLabelOrFault : List ℕ → Result Categories LabelFault → Type 0
-IsLabelOrFault text (Ok s) = IsLabel s × (text ≡ spelling s)
-IsLabelOrFault text (Err f) = fault_of text ≡ Some f
+abbrev IsLabelOrFault : Form → List ℕ → Result Categories LabelFault → Type 0
+IsLabelOrFault form text (Ok s) = IsWithin form s × (text ≡ spelling form s)
+IsLabelOrFault form text (Err f) = fault_of form text ≡ Some f
 
 -- the clauses of `read`
-pub record Reads (text : List ℕ) (r : Result Categories LabelFault) : Type 0 where
-  pub fault : result_err r ≡ fault_of text
-  pub ok : IfOk r (λ s. text ≡ spelling s)
-  pub spelled : (s : Categories) → IsLabel s → text ≡ spelling s → r ≡ Ok s
+pub record Reads (form : Form) (text : List ℕ) (r : Result Categories LabelFault) : Type 0 where
+  pub fault : result_err r ≡ fault_of form text
+  pub fits : IfOk r (λ s. Fits form s)
+  pub ok : IfOk r (λ s. text ≡ spelling form s)
+  pub spelled : (s : Categories) → IsLabel s → Fits form s → text ≡ spelling form s → r ≡ Ok s
 
-reads : (text : List ℕ) (r : Result Categories LabelFault) → IsLabelOrFault text r → Reads text r
-reads text (Ok l) h = record {
-  fault = rw h.1 (sym (spelling_faultless l h.0));
-  ok = h.1;
-  spelled = λ s label e. ap Ok (spelling_injective l s h.0 label (sym h.1 ∙ e));
-}
-reads text (Err f) h = record {
-  fault = sym h;
-  ok = tt;
-  spelled = λ s label e. let clean : fault_of text ≡ None = rw e (spelling_faultless s label) in cc;
-}
+-- ---- all numbers of a form
 
-pub Reads-none : (text : List ℕ) → (length text == 0) ≡ true → Reads text (Err Empty)
-Reads-none [] is = reads [] (Err Empty) fault_of-none
-Reads-none (b ∷ text) is = let none : length (b ∷ text) ≡ 0 = eqb-true _ _ is in absurd (omega arith)
+module _ (form : Form) where
+  has-all : (q : ℕ) → q ≤ greatest form → has (all_of form) q ≡ true
+  unfolding all_of
+  has-all q h = has-all_below (greatest form + 1) q (omega arith)
 
-pub Reads-bottom : (text : List ℕ) → is_text text (codes "-") ≡ true → Reads text (Ok bottom)
-Reads-bottom text is = reads text (Ok bottom) (IsLabel-bottom, (is_text-decides text _).0 is ∙ sym spelling-bottom)
+  has-all_past : (q : ℕ) → greatest form < q → has (all_of form) q ≡ false
+  unfolding all_of
+  has-all_past q h = has-all_below_past (greatest form + 1) q (omega arith)
 
-pub Reads-top : (text : List ℕ) → is_text text (codes "*") ≡ true → Reads text (Ok top)
-Reads-top text is = reads text (Ok top) (IsLabel-top, (is_text-decides text _).0 is ∙ sym spelling-top)
+  has-all_run : (q : ℕ) → has (all_of form) q ≡ (has bottom q || (nat_le 0 q && nat_le q (greatest form)))
+  has-all_run q = elim (cases_lt (greatest form) q) [
+    | inl past ↦ has-all_past q past ∙ rw (has-bottom q, le-leb 0 q (omega arith), lt-leb q (greatest form) past) refl
+    | inr low ↦ has-all q low ∙ rw (has-bottom q, le-leb 0 q (omega arith), le-leb q (greatest form) low) refl
+  ]
 
-pub Reads-all : (text : List ℕ) → is_text text (codes "0-255") ≡ true → Reads text (Err (NotLongest 0))
-Reads-all text is = reads text (Err (NotLongest 0)) (rw ((is_text-decides text _).0 is) fault_of-all)
+  all_not_bottom : all_of form ≡ bottom → ⊥
+  all_not_bottom e = true≢false (sym (has-all 0 (omega arith)) ∙ (λ i. has (e i) 0) ∙ has-bottom 0)
 
-not_top : (text : List ℕ) (s : Categories) → is_text text (codes "0-255") ≡ false → text ≡ items (runs s) → s ≡ top → ⊥
-not_top text s not_all written e = true≢false (sym ((is_text-decides text _).1 (written ∙ ap (λ l. items (runs l)) e ∙ ap items runs-top ∙ items_of_all)) ∙ not_all)
+items_of_all : (form : Form) → items ((0, greatest form) ∷ []) ≡ whole_run form
+unfolding items item radix_digits greatest whole_run
+items_of_all One = refl
+items_of_all Two = refl
 
-pub Reads-items : (text : List ℕ) (r : Result Categories LabelFault) → (length text == 0) ≡ false → is_text text (codes "-") ≡ false → is_text text (codes "*") ≡ false → is_text text (codes "0-255") ≡ false → ItemsRead text r → Reads text r
-Reads-items text (Ok s) some no_dash no_star not_all h =
-    reads text (Ok s) (h.label, h.written ∙ sym (spelling-items s h.some (not_top text s not_all h.written)))
-Reads-items text (Err f) some no_dash no_star not_all h =
-    let bytes : 0 < length text = elim (cases_lt 0 (length text)) [
-      | inl low ↦ low
-      | inr none ↦ absurd (eqb-false _ _ some (omega arith))
-    ] in
-    reads text (Err f) (fault_of-items text bytes no_dash no_star ∙ h)
+fault_of-all : (form : Form) → fault_of form (whole_run form) ≡ Some (NotLongest 0)
+unfolding greatest whole_run fault_of first_fault fault_here is_due number_fault is_bad number_ahead is_not_ascending is_not_longest at_dash at_comma
+fault_of-all One = refl
+fault_of-all Two = refl
+
+module _ (form : Form) where
+  -- ---- the three shapes of a spelling
+
+  pub spelling-bottom : spelling form bottom ≡ codes "-"
+  unfolding spelling
+  spelling-bottom = rw ((same-decides bottom bottom).1 refl) refl
+
+  pub spelling-all : spelling form (all_of form) ≡ codes "*"
+  unfolding spelling
+  spelling-all = rw (not_same (all_of form) bottom (all_not_bottom form), (same-decides (all_of form) (all_of form)).1 refl) refl
+
+  pub spelling-items : (s : Categories) → (s ≡ bottom → ⊥) → (s ≡ all_of form → ⊥) → spelling form s ≡ items (runs s)
+  unfolding spelling
+  spelling-items s some lacks = rw (not_same s bottom some, not_same s (all_of form) lacks) refl
+
+  -- ---- all numbers as one run are no spelling
+
+  runs-all : runs (all_of form) ≡ (0, greatest form) ∷ []
+  runs-all = runs-AddsRun bottom (all_of form) 0 (greatest form) (record {
+    order = omega arith;
+    small = greatest-below form;
+    apart = λ q one. absurd (true≢false (sym one ∙ has-bottom q));
+    members = has-all_run form;
+  }) ∙ rw runs-bottom refl
+
+  -- ---- bytes that are no items
+
+  fault_of-none : fault_of form [] ≡ Some Empty
+  unfolding fault_of
+  fault_of-none = refl
+
+  fault_of-dash : fault_of form (codes "-") ≡ None
+  unfolding fault_of
+  fault_of-dash = refl
+
+  fault_of-star : fault_of form (codes "*") ≡ None
+  unfolding fault_of
+  fault_of-star = refl
+
+  fault_of-items : (text : List ℕ) → 0 < length text → is_text text (codes "-") ≡ false → is_text text (codes "*") ≡ false → fault_of form text ≡ fault_from form text 0
+  unfolding fault_of fault_from back_from
+  fault_of-items [] some no_dash no_star = absurd (omega arith)
+  fault_of-items (b ∷ text) some no_dash no_star = rw (no_dash, no_star) refl
+
+  -- a text of items without a fault has none, whether it is one of the two bytes or not
+  fault_of-clean : (text : List ℕ) → 0 < length text → fault_from form text 0 ≡ None → fault_of form text ≡ None
+  fault_of-clean text some clean = elim (cases_Bool (is_text text (codes "-"))) [
+    | inl dash ↦ rw ((is_text-decides text _).0 dash) fault_of-dash
+    | inr no_dash ↦ elim (cases_Bool (is_text text (codes "*"))) [
+      | inl star ↦ rw ((is_text-decides text _).0 star) fault_of-star
+      | inr no_star ↦ fault_of-items text some no_dash no_star ∙ clean
+    ]
+  ]
+
+  -- ---- a spelling has no fault
+
+  not_all_text : (s : Categories) → IsWithin form s → (s ≡ all_of form → ⊥) → is_text (items (runs s)) (whole_run form) ≡ false
+  not_all_text s h lacks = false_from_ne_true _ (λ is.
+      let same_text : items (runs s) ≡ items (runs (all_of form)) = (is_text-decides _ _).0 is ∙ sym (ap items runs-all ∙ items_of_all form) in
+      let same_runs : runs s ≡ runs (all_of form) = items_injective form None None _ _ (runs-Chain form s h) (runs-Chain form (all_of form) (within-all_of form)) same_text in
+      lacks (runs_injective s (all_of form) (within-label form s h) (within-label form _ (within-all_of form)) same_runs))
+
+  runs_faultless : (rs : List (ℕ × ℕ)) → (rs ≡ [] → ⊥) → Chain form None rs → is_text (items rs) (whole_run form) ≡ false → fault_of form (items rs) ≡ None
+  runs_faultless [] some chain not_all = absurd (some refl)
+  runs_faultless ((a, b) ∷ rs) some chain not_all =
+      fault_of-clean _ (items_some (a, b) rs) (chain_faultless form rs a b _ 0 None not_all (begins_text _) chain (items_are (a, b) rs))
+
+  pub spelling_faultless : (s : Categories) → IsWithin form s → fault_of form (spelling form s) ≡ None
+  spelling_faultless s h = elim (cases_Bool (same s bottom)) [
+    | inl none ↦ rw ((same-decides s bottom).0 none, spelling-bottom) fault_of-dash
+    | inr some ↦ elim (cases_Bool (same s (all_of form))) [
+      | inl all ↦ rw ((same-decides s (all_of form)).0 all, spelling-all) fault_of-star
+      | inr lacks ↦
+          rw (spelling-items s (differs s bottom some) (differs s (all_of form) lacks))
+          (runs_faultless (runs s) (λ e. differs s bottom some (no_runs s (within-label form s h) e)) (runs-Chain form s h) (not_all_text s h (differs s (all_of form) lacks)))
+    ]
+  ]
+
+  -- ---- a spelling has one label
+
+  items_at_digit : (rs : List (ℕ × ℕ)) → (rs ≡ [] → ⊥) → Chain Two None rs → at_digit (items rs) ≡ true
+  items_at_digit [] some chain = absurd (some refl)
+  items_at_digit ((a, b) ∷ rs) some chain =
+      let order : a ≤ b = chain.0.order in
+      let small : b ≤ greatest Two = chain.0.small in
+      rw (items_are (a, b) rs, item_parts a b (after_item rs)) (begins_with_digit (decimal a) (after_first a b (after_item rs)) (decimal_some a)
+      (decimal-digits a (omega (arith, greatest-below Two)))).0
+
+  -- each shape has a first byte of its own
+  no_digit_bottom : at_digit (spelling form bottom) ≡ false
+  unfolding at_digit
+  no_digit_bottom = rw spelling-bottom refl
+
+  no_digit_all : at_digit (spelling form (all_of form)) ≡ false
+  unfolding at_digit
+  no_digit_all = rw spelling-all refl
+
+  digit_items : (s : Categories) → IsLabel s → (s ≡ bottom → ⊥) → (s ≡ all_of form → ⊥) → at_digit (spelling form s) ≡ true
+  digit_items s h some lacks = rw (spelling-items s some lacks) (items_at_digit (runs s) (λ e. some (no_runs s h e)) (runs-Chain Two s (within-two s h)))
+
+  bottom_not_all : spelling form bottom ≡ spelling form (all_of form) → ⊥
+  bottom_not_all e = let bytes : codes "-" ≡ codes "*" = sym spelling-bottom ∙ e ∙ spelling-all in cc
+
+  same_shape : (s t : Categories) → Shape (all_of form) s → Shape (all_of form) t → IsLabel s → IsLabel t → spelling form s ≡ spelling form t → s ≡ t
+  same_shape s t (is_bottom e) (is_bottom f) h k same = e ∙ sym f
+  same_shape s t (is_bottom e) (is_all f) h k same = absurd (bottom_not_all (ap (spelling form) (sym e) ∙ same ∙ ap (spelling form) f))
+  same_shape s t (is_bottom e) (is_else some lacks) h k same = absurd (true≢false (sym (digit_items t k some lacks) ∙ ap at_digit (sym same ∙ ap (spelling form) e) ∙ no_digit_bottom))
+  same_shape s t (is_all e) (is_bottom f) h k same = absurd (bottom_not_all (ap (spelling form) (sym f) ∙ sym same ∙ ap (spelling form) e))
+  same_shape s t (is_all e) (is_all f) h k same = e ∙ sym f
+  same_shape s t (is_all e) (is_else some lacks) h k same = absurd (true≢false (sym (digit_items t k some lacks) ∙ ap at_digit (sym same ∙ ap (spelling form) e) ∙ no_digit_all))
+  same_shape s t (is_else some lacks) (is_bottom f) h k same = absurd (true≢false (sym (digit_items s h some lacks) ∙ ap at_digit (same ∙ ap (spelling form) f) ∙ no_digit_bottom))
+  same_shape s t (is_else some lacks) (is_all f) h k same = absurd (true≢false (sym (digit_items s h some lacks) ∙ ap at_digit (same ∙ ap (spelling form) f) ∙ no_digit_all))
+  same_shape s t (is_else some lacks) (is_else some2 lacks2) h k same =
+      let texts : items (runs s) ≡ items (runs t) = sym (spelling-items s some lacks) ∙ same ∙ spelling-items t some2 lacks2 in
+      runs_injective s t h k (items_injective Two None None _ _ (runs-Chain Two s (within-two s h)) (runs-Chain Two t (within-two t k)) texts)
+
+  pub spelling_injective : (s t : Categories) → IsLabel s → IsLabel t → spelling form s ≡ spelling form t → s ≡ t
+  spelling_injective s t h k same = same_shape s t (shape_of (all_of form) s) (shape_of (all_of form) t) h k same
+
+  -- ---- what the reading of a text gives
+
+  reads : (text : List ℕ) (r : Result Categories LabelFault) → IsLabelOrFault form text r → Reads form text r
+  reads text (Ok l) h = record {
+    fault = rw h.1 (sym (spelling_faultless l h.0));
+    fits = within-fits form l h.0;
+    ok = h.1;
+    spelled = λ s label fits e. ap Ok (spelling_injective l s (within-label form l h.0) label (sym h.1 ∙ e));
+  }
+  reads text (Err f) h = record {
+    fault = sym h;
+    fits = tt;
+    ok = tt;
+    spelled = λ s label fits e. let clean : fault_of form text ≡ None = rw e (spelling_faultless s (fits-within form s label fits)) in cc;
+  }
+
+  pub Reads-none : (text : List ℕ) → (length text == 0) ≡ true → Reads form text (Err Empty)
+  Reads-none [] is = reads [] (Err Empty) fault_of-none
+  Reads-none (b ∷ text) is = let none : length (b ∷ text) ≡ 0 = eqb-true _ _ is in absurd (omega arith)
+
+  pub Reads-bottom : (text : List ℕ) → is_text text (codes "-") ≡ true → Reads form text (Ok bottom)
+  Reads-bottom text is = reads text (Ok bottom) (within-bottom form, (is_text-decides text _).0 is ∙ sym spelling-bottom)
+
+  pub Reads-star : (text : List ℕ) → is_text text (codes "*") ≡ true → Reads form text (Ok (all_of form))
+  Reads-star text is = reads text (Ok (all_of form)) (within-all_of form, (is_text-decides text _).0 is ∙ sym spelling-all)
+
+  pub Reads-all : (text : List ℕ) → is_text text (whole_run form) ≡ true → Reads form text (Err (NotLongest 0))
+  Reads-all text is = reads text (Err (NotLongest 0)) (rw ((is_text-decides text _).0 is) (fault_of-all form))
+
+  not_all_of : (text : List ℕ) (s : Categories) → is_text text (whole_run form) ≡ false → text ≡ items (runs s) → s ≡ all_of form → ⊥
+  not_all_of text s not_all written e = true≢false (sym ((is_text-decides text _).1 (written ∙ ap (λ l. items (runs l)) e ∙ ap items runs-all ∙ items_of_all form)) ∙ not_all)
+
+  pub Reads-items : (text : List ℕ) (r : Result Categories LabelFault) → (length text == 0) ≡ false → is_text text (codes "-") ≡ false → is_text text (codes "*") ≡ false
+      → is_text text (whole_run form) ≡ false → ItemsRead form text r → Reads form text r
+  Reads-items text (Ok s) some no_dash no_star not_all h =
+      reads text (Ok s) (h.within, h.written ∙ sym (spelling-items s h.some (not_all_of text s not_all h.written)))
+  Reads-items text (Err f) some no_dash no_star not_all h =
+      let bytes : 0 < length text = elim (cases_lt 0 (length text)) [
+        | inl low ↦ low
+        | inr none ↦ absurd (eqb-false _ _ some (omega arith))
+      ] in
+      reads text (Err f) (fault_of-items text bytes no_dash no_star ∙ h)

@@ -1,5 +1,6 @@
 -- The items of runs, as they are written one after another.
-use Rattle.std.proofs.Common.{◌≡◌, ℕ, zero, suc, ◌+◌, ◌*◌, ◌/◌, ◌%◌, ◌<◌, ◌≤◌, ◌==◌, nat_eq, Bool, true, false, cond, List, [], ◌∷◌, ◌++◌, length, map, refl, sym, ◌∙◌, ap, arith, append_assoc, length-append, ◌-◌, inl, inr}
+use Rattle.std.proofs.Common.{◌≡◌, ℕ, zero, suc, ◌+◌, ◌*◌, ◌/◌, ◌%◌, ◌<◌, ◌≤◌, ◌==◌, nat_eq, Bool, true, false, cond, List, [], ◌∷◌, ◌++◌, length}
+use Rattle.std.proofs.Common.{map, refl, sym, ◌∙◌, ap, arith, append_assoc, length-append, ◌-◌, inl, inr}
 use Rattle.std.specs.List.{join_with_byte}
 use Rattle.std.specs.Fmt.{decimal, digits, digits_onto, digit_glyph}
 use Rattle.std.proofs.lemmas.Fmt.{length-decimal-le, decimal_digit, decimal_step}
@@ -68,7 +69,7 @@ items-push (t ∷ u ∷ rs) r = rw (items_more t u rs, items_more t u (rs ++ r �
 
 -- ---- lengths
 
-length-decimal : (n : ℕ) → n < 256 → length (decimal n) ≤ 3
+length-decimal : (n : ℕ) → n < 512 → length (decimal n) ≤ 3
 length-decimal n h = length-decimal-le 3 n (omega arith) (omega arith) (omega arith)
 
 length-comma_after : (xs : List ℕ) → length (comma_after xs) ≤ length xs + 1
@@ -77,7 +78,7 @@ length-comma_after [] = omega arith
 length-comma_after (x ∷ xs) = simp length-append (omega arith)
 
 -- an item and its comma take at most four bytes for each category of the run
-pub length-item : (a b : ℕ) → a ≤ b → b < 256 → length (item (a, b)) + 1 ≤ 4 * (b + 1 - a)
+pub length-item : (a b : ℕ) → a ≤ b → b < 512 → length (item (a, b)) + 1 ≤ 4 * (b + 1 - a)
 unfolding item
 length-item a b order small = elim (eqb_tells a b) [
   | inl one ↦ rw one.0 (omega (arith, one.1, length-decimal a (omega arith)))
@@ -86,7 +87,7 @@ length-item a b order small = elim (eqb_tells a b) [
       rw (more.0, length-append) (omega (arith, length-decimal a (omega arith), length-decimal b small))
 ]
 
-pub length-more : (text : List ℕ) (a b from : ℕ) → length text ≤ 4 * from → from ≤ a → a ≤ b → b < 256 → length (comma_after text ++ item (a, b)) ≤ 4 * (b + 1)
+pub length-more : (text : List ℕ) (a b from : ℕ) → length text ≤ 4 * from → from ≤ a → a ≤ b → b < 512 → length (comma_after text ++ item (a, b)) ≤ 4 * (b + 1)
 length-more text a b from room start order small = rw length-append (omega (arith, length-comma_after text, length-item a b order small))
 
 pub ruleset decimals = (decimal_digit, decimal_step, length-append, append_assoc)

@@ -1,17 +1,20 @@
 -- No two labels have one spelling.
-use Rattle.std.proofs.Common.{◌≡◌, ℕ, zero, suc, ◌+◌, ◌<◌, ◌≤◌, ◌==◌, nat_eq, Bool, true, false, true≢false, not, ◌&&◌, ◌||◌, List, [], ◌∷◌, ◌++◌, length, refl, sym, ◌∙◌, ap, arith, add-one, append_assoc, append-nil, cond, Option, Some, inl, inr}
+use Rattle.std.proofs.Common.{◌≡◌, ℕ, zero, suc, ◌+◌, ◌<◌, ◌≤◌, ◌==◌, nat_eq, Bool, true, false, true≢false, not, ◌&&◌, ◌||◌, List, [], ◌∷◌, ◌++◌, length, refl}
+use Rattle.std.proofs.Common.{sym, ◌∙◌, ap, arith, add-one, append_assoc, append-nil, cond, Option, Some, inl, inr}
 use Rattle.std.specs.List.{range_with_len, zip, filter, list_any}
 use Rattle.std.specs.Fmt.{decimal}
 use Rattle.std.proofs.lemmas.Fmt.{decimal_injective}
 use Rattle.std.proofs.lemmas.Bool.{cases_Bool, cases_lt, eqb-true, eq-eqb, ne_eqb, false_from_ne_true}
 use Rattle.std.proofs.Math.Bool.{and-true}
+use Rattle.ix_label.specs.declared.form.Form.{Form}
+use Rattle.ix_label.specs.Forms.{greatest}
 use Rattle.ix_label.specs.Category.{Categories, IsLabel, has}
 use Rattle.ix_label.specs.Members.{same_members}
 use Rattle.ix_label.specs.Spelling.{categories, has_before, begins, ends, runs, item, items, comma, dash}
 use Rattle.ix_label.specs.Faults.{digits, after_digits, at_digit, at_dash}
 use Rattle.ix_label.proofs.Runs.{are_below, as_many_begin_as_end}
 use Rattle.ix_label.proofs.Chains.{Chain}
-use Rattle.ix_label.proofs.Numbers.{decimal-digits}
+use Rattle.ix_label.proofs.Numbers.{decimal-digits, greatest-below}
 use Rattle.ix_label.proofs.Places.{digits-append, after_digits-append}
 use Rattle.ix_label.proofs.Texts.{items_none, items_one, items_more, items_some}
 
@@ -28,9 +31,10 @@ items_are r [] = items_one r ∙ sym (append-nil (item r))
 items_are r (t ∷ rs) = items_more r t rs
 
 -- numbers are read back
-same_number : (a c : ℕ) (q u : List ℕ) → a < 256 → c < 256 → at_digit q ≡ false → at_digit u ≡ false → decimal a ++ q ≡ decimal c ++ u → (a ≡ c) × (q ≡ u)
+same_number : (a c : ℕ) (q u : List ℕ) → a < 512 → c < 512 → at_digit q ≡ false → at_digit u ≡ false → decimal a ++ q ≡ decimal c ++ u → (a ≡ c) × (q ≡ u)
 same_number a c q u small small2 ended ended2 e = (
-  decimal_injective a c (omega arith) (omega arith) (sym (digits-append (decimal a) q (decimal-digits a small) ended) ∙ ap (λ x. digits x) e ∙ digits-append (decimal c) u (decimal-digits c small2) ended2),
+  decimal_injective a c (omega arith) (omega arith) (sym (digits-append (decimal a) q (decimal-digits a small) ended) ∙ ap (λ x. digits x) e
+      ∙ digits-append (decimal c) u (decimal-digits c small2) ended2),
   sym (after_digits-append (decimal a) q (decimal-digits a small) ended) ∙ ap (λ x. after_digits x) e ∙ after_digits-append (decimal c) u (decimal-digits c small2) ended2,
 )
 
@@ -66,7 +70,7 @@ unfolding after_item at_digit at_dash
 after_item_Stops [] = record { digit = refl; dash = refl }
 after_item_Stops (r ∷ rs) = record { digit = refl; dash = refl }
 
-same_last : (a b d : ℕ) (q u : List ℕ) → b < 256 → d < 256 → Stops q → Stops u → after_first a b q ≡ after_first a d u → (b ≡ d) × (q ≡ u)
+same_last : (a b d : ℕ) (q u : List ℕ) → b < 512 → d < 512 → Stops q → Stops u → after_first a b q ≡ after_first a d u → (b ≡ d) × (q ≡ u)
 unfolding after_first
 same_last a b d q u small small2 stops stops2 e = elim (cases_Bool (a == b)) [
   | inl one ↦ elim (cases_Bool (a == d)) [
@@ -81,9 +85,10 @@ same_last a b d q u small small2 stops stops2 e = elim (cases_Bool (a == b)) [
   ]
 ]
 
-same_item : (a b c d : ℕ) (q u : List ℕ) → a ≤ b → b < 256 → c ≤ d → d < 256 → Stops q → Stops u → item (a, b) ++ q ≡ item (c, d) ++ u → (a ≡ c) × (b ≡ d) × (q ≡ u)
+same_item : (a b c d : ℕ) (q u : List ℕ) → a ≤ b → b < 512 → c ≤ d → d < 512 → Stops q → Stops u → item (a, b) ++ q ≡ item (c, d) ++ u → (a ≡ c) × (b ≡ d) × (q ≡ u)
 same_item a b c d q u order small order2 small2 stops stops2 e =
-    let both : (a ≡ c) × (after_first a b q ≡ after_first c d u) = same_number a c _ _ (omega arith) (omega arith) (after_first_ends a b q stops.digit) (after_first_ends c d u stops2.digit) (sym (item_parts a b q) ∙ e ∙ item_parts c d u) in
+    let both : (a ≡ c) × (after_first a b q ≡ after_first c d u) = same_number a c _ _ (omega arith) (omega arith) (after_first_ends a b q stops.digit) (after_first_ends c d u stops2.digit)
+    (sym (item_parts a b q) ∙ e ∙ item_parts c d u) in
     let rest : after_first a b q ≡ after_first a d u = both.1 ∙ (λ i. after_first (sym both.0 i) d u) in
     let last : (b ≡ d) × (q ≡ u) = same_last a b d q u small small2 stops stops2 rest in
     (both.0, last.0, last.1)
@@ -98,14 +103,18 @@ after_item_items (r ∷ rs) (t ∷ ts) e = cc
 nothing_is_some : (r : ℕ × ℕ) (rs : List (ℕ × ℕ)) → items (r ∷ rs) ≡ items [] → ⊥
 nothing_is_some r rs e = let none : length (items (r ∷ rs)) ≡ 0 = ap length (e ∙ items_none) in omega (arith, items_some r rs)
 
+number_of : (form : Form) (b : ℕ) → b ≤ greatest form → b < 512
+number_of form b h = omega (arith, greatest-below form)
+
 -- two chains of runs with one text are equal
-pub items_injective : (last last2 : Option ℕ) (rs ts : List (ℕ × ℕ)) → Chain last rs → Chain last2 ts → items rs ≡ items ts → rs ≡ ts
-items_injective last last2 [] [] h k e = refl
-items_injective last last2 [] (t ∷ ts) h k e = absurd (nothing_is_some t ts (sym e))
-items_injective last last2 (r ∷ rs) [] h k e = absurd (nothing_is_some r rs e)
-items_injective last last2 ((a, b) ∷ rs) ((c, d) ∷ ts) h k e =
-    let parts : (a ≡ c) × (b ≡ d) × (after_item rs ≡ after_item ts) = same_item a b c d _ _ h.0.order h.0.small k.0.order k.0.small (after_item_Stops rs) (after_item_Stops ts) (sym (items_are (a, b) rs) ∙ e ∙ items_are (c, d) ts) in
-    let rest : rs ≡ ts = items_injective (Some b) (Some d) rs ts h.1 k.1 (after_item_items rs ts parts.2) in
+pub items_injective : (form : Form) (last last2 : Option ℕ) (rs ts : List (ℕ × ℕ)) → Chain form last rs → Chain form last2 ts → items rs ≡ items ts → rs ≡ ts
+items_injective form last last2 [] [] h k e = refl
+items_injective form last last2 [] (t ∷ ts) h k e = absurd (nothing_is_some t ts (sym e))
+items_injective form last last2 (r ∷ rs) [] h k e = absurd (nothing_is_some r rs e)
+items_injective form last last2 ((a, b) ∷ rs) ((c, d) ∷ ts) h k e =
+    let parts : (a ≡ c) × (b ≡ d) × (after_item rs ≡ after_item ts) = same_item a b c d _ _ h.0.order (number_of form b h.0.small) k.0.order (number_of form d k.0.small) (after_item_Stops rs)
+    (after_item_Stops ts) (sym (items_are (a, b) rs) ∙ e ∙ items_are (c, d) ts) in
+    let rest : rs ≡ ts = items_injective form (Some b) (Some d) rs ts h.1 k.1 (after_item_items rs ts parts.2) in
     λ i. (parts.0 i, parts.1 i) ∷ rest i
 
 -- ---- runs
@@ -172,8 +181,8 @@ has-next : (s : Categories) (q : ℕ) → has s (q + 1) ≡ (begins s (q + 1) ||
 unfolding begins ends has_before
 has-next s q = rw add-one (goes_on _ _)
 
-module _ (s t : Categories) (same_begins : (q : ℕ) → q < 256 → begins s q ≡ begins t q) (same_ends : (q : ℕ) → q < 256 → ends s q ≡ ends t q) where
-  same_has : (q : ℕ) → q < 256 → has s q ≡ has t q
+module _ (s t : Categories) (same_begins : (q : ℕ) → q < 512 → begins s q ≡ begins t q) (same_ends : (q : ℕ) → q < 512 → ends s q ≡ ends t q) where
+  same_has : (q : ℕ) → q < 512 → has s q ≡ has t q
   same_has zero low = has-first s ∙ same_begins 0 low ∙ sym (has-first t)
   same_has (suc q) low =
       let before : has s q ≡ has t q = same_has q (omega arith) in
@@ -181,15 +190,15 @@ module _ (s t : Categories) (same_begins : (q : ℕ) → q < 256 → begins s q 
       has-next s q ∙ (λ i. same_begins (q + 1) (omega arith) i || (before i && not (same_ends q (omega arith) i))) ∙ sym (has-next t q) in
       rw add-one at next
 
-none_past : (s : Categories) → IsLabel s → (q : ℕ) → 256 ≤ q → has s q ≡ false
-none_past s h q past = false_from_ne_true _ (λ one. let low : q < 256 = h.below q one in absurd (omega arith))
+none_past : (s : Categories) → IsLabel s → (q : ℕ) → 512 ≤ q → has s q ≡ false
+none_past s h q past = false_from_ne_true _ (λ one. let low : q < 512 = h.below q one in absurd (omega arith))
 
 pub runs_injective : (s t : Categories) → IsLabel s → IsLabel t → runs s ≡ runs t → s ≡ t
 unfolding runs
 runs_injective s t h k e =
     let both : (filter (begins s) categories ≡ filter (begins t) categories) × (filter (ends s) categories ≡ filter (ends t) categories) =
-    zip_same _ _ _ _ (as_many_begin_as_end s (none_past s h 256 (omega arith))) (as_many_begin_as_end t (none_past t k 256 (omega arith))) e in
-    same_members s t (λ q. elim (cases_lt q 256) [
-      | inl low ↦ same_has s t (filter_same _ _ 256 categories are_below both.0) (filter_same _ _ 256 categories are_below both.1) q low
+    zip_same _ _ _ _ (as_many_begin_as_end s (none_past s h 512 (omega arith))) (as_many_begin_as_end t (none_past t k 512 (omega arith))) e in
+    same_members s t (λ q. elim (cases_lt q 512) [
+      | inl low ↦ same_has s t (filter_same _ _ 512 categories are_below both.0) (filter_same _ _ 512 categories are_below both.1) q low
       | inr past ↦ none_past s h q past ∙ sym (none_past t k q past)
     ])

@@ -2,10 +2,10 @@
 use Rattle.std.proofs.Common.{◌≡◌, ℕ, ◌+◌, ◌*◌, ◌<◌, ◌≤◌, ◌==◌, nat_le, nat_lt, Bool, true, false, true≢false, ◌&&◌, ◌||◌, List, [], ◌++◌, length, refl, sym, ◌∙◌, subst, arith, inl, inr}
 use Rattle.std.proofs.lemmas.Bool.{cases_lt, cases_order, ltb-true, and_parts, lt-ltb, le-ltb, le-leb, lt-leb, eq-eqb, ne_eqb, false_from_ne_true}
 use Rattle.std.proofs.Math.Bool.{or-false, or-true, and-true, and-false}
-use Rattle.ix_label.specs.Category.{Categories, IsLabel, has, bottom, with, meet, all_below}
+use Rattle.ix_label.specs.Category.{Categories, has, bottom, with, meet, all_below}
 use Rattle.ix_label.specs.Members.{same_members, has-bottom, has-with, has-meet, has-all_below, has-all_below_past}
 use Rattle.ix_label.specs.Spelling.{item, items, runs}
-use Rattle.ix_label.specs.Scanning.{IsFirstFrom, RunsTo, comma_after}
+use Rattle.ix_label.specs.Scanning.{IsFirstFrom, RunsTo, comma_after, left_from}
 use Rattle.ix_label.proofs.Runs.{AddsRun, runs-AddsRun, runs-bottom}
 use Rattle.ix_label.proofs.Texts.{items-push, items_none, length-more}
 
@@ -34,8 +34,8 @@ below-all s n none = same_members _ _ (λ q. has-below s n q ∙ elim (cases_lt 
 pub record IsSpelledBelow (s : Categories) (from : ℕ) (out : List ℕ) : Type 0 where
   pub text : out ≡ items (runs (below s from))
   pub room : length out ≤ 4 * from
-  pub within : from ≤ 256
-  pub apart : 0 < from → from < 256 → has s from ≡ false
+  pub within : from ≤ 512
+  pub apart : 0 < from → has s from ≡ false
 
 pub IsSpelledBelow-none : (s : Categories) → IsSpelledBelow s 0 []
 IsSpelledBelow-none s = record {
@@ -45,8 +45,8 @@ IsSpelledBelow-none s = record {
   apart = λ h. absurd (omega arith);
 }
 
-run_apart : (s : Categories) (from first q : ℕ) → (0 < from → from < 256 → has s from ≡ false) → IsFirstFrom s from first → first < 256 → has (below s from) q ≡ true → q + 1 < first
-run_apart s from first q apart next small one =
+run_apart : (s : Categories) (from first q : ℕ) → (0 < from → has s from ≡ false) → IsFirstFrom s from first → has (below s from) q ≡ true → q + 1 < first
+run_apart s from first q apart next one =
     let parts : (has s q ≡ true) × (nat_lt q from ≡ true) = and_parts _ _ (sym (has-below s from q) ∙ one) in
     let low : q < from = ltb-true q from parts.1 in
     let start : from ≤ first = next.start in
@@ -54,12 +54,13 @@ run_apart s from first q apart next small one =
       | inl e ↦
           let same : from ≡ first = omega arith in
           let P : ℕ → Type 0 = λ k. has s k ≡ true in
-          absurd (true≢false (sym (subst P (sym same) next.found) ∙ apart (omega arith) (omega arith)))
+          absurd (true≢false (sym (subst P (sym same) next.found) ∙ apart (omega arith)))
       | inr (inl lt) ↦ lt
       | inr (inr gt) ↦ absurd (omega arith)
     ]
 
-run_members : (s : Categories) (from first last q : ℕ) → IsFirstFrom s from first → RunsTo s first last → (has s q && nat_lt q (last + 1)) ≡ ((has s q && nat_lt q from) || (nat_le first q && nat_le q last))
+run_members : (s : Categories) (from first last q : ℕ) → IsFirstFrom s from first → RunsTo s first last
+    → (has s q && nat_lt q (last + 1)) ≡ ((has s q && nat_lt q from) || (nat_le first q && nat_le q last))
 run_members s from first last q next run =
     let start : from ≤ first = next.start in
     let order : first ≤ last = run.order in
@@ -74,31 +75,37 @@ run_members s from first last q next run =
       ]
     ]
 
-adds_run : (s : Categories) (from first last : ℕ) → (0 < from → from < 256 → has s from ≡ false) → IsFirstFrom s from first → RunsTo s first last → AddsRun (below s from) (below s (last + 1)) first last
+adds_run : (s : Categories) (from first last : ℕ) → (0 < from → has s from ≡ false) → IsFirstFrom s from first → RunsTo s first last → AddsRun (below s from) (below s (last + 1)) first last
 adds_run s from first last apart next run =
     let order : first ≤ last = run.order in
-    let small : last < 256 = run.small in
+    let small : last < 512 = run.small in
     record {
       order = order;
       small = small;
-      apart = λ q one. run_apart s from first q apart next (omega arith) one;
+      apart = λ q one. run_apart s from first q apart next one;
       members = λ q. has-below s (last + 1) q ∙ run_members s from first last q next run ∙ (λ i. sym (has-below s from q) i || (nat_le first q && nat_le q last));
     }
 
-pub IsSpelledBelow-more : (s : Categories) (from first last : ℕ) (out : List ℕ) → IsSpelledBelow s from out → IsFirstFrom s from first → RunsTo s first last → IsSpelledBelow s (last + 1) (comma_after out ++ item (first, last))
+pub IsSpelledBelow-more : (s : Categories) (from first last : ℕ) (out : List ℕ) → IsSpelledBelow s from out → IsFirstFrom s from first → RunsTo s first last
+    → IsSpelledBelow s (last + 1) (comma_after out ++ item (first, last))
 IsSpelledBelow-more s from first last out h next run = record {
   text = rw (runs-AddsRun _ _ first last (adds_run s from first last h.apart next run), items-push, h.text) refl;
   room = length-more out first last from h.room next.start run.order run.small;
-  within = let small : last < 256 = run.small in omega arith;
-  apart = λ some within. run.end within;
+  within = let small : last < 512 = run.small in omega arith;
+  apart = λ some. run.end;
 }
 
-pub IsSpelledBelow-all : (s : Categories) (from : ℕ) (out : List ℕ) → IsLabel s → IsSpelledBelow s from out → ((q : ℕ) → from ≤ q → q < 256 → has s q ≡ false) → out ≡ items (runs s)
-IsSpelledBelow-all s from out small h none =
-    rw (below-all s from (λ q le. elim (cases_lt q 256) [
-      | inl low ↦ none q le low
-      | inr high ↦ false_from_ne_true _ (λ one. let low : q < 256 = small.below q one in absurd (omega arith))
-    ])) at h.text
+pub IsSpelledBelow-all : (s : Categories) (from : ℕ) (out : List ℕ) → IsSpelledBelow s from out → ((q : ℕ) → from ≤ q → has s q ≡ false) → out ≡ items (runs s)
+IsSpelledBelow-all s from out h none = rw (below-all s from none) at h.text
+
+-- fewer are left after a run
+pub left-falls : (s : Categories) (from first last : ℕ) → IsFirstFrom s from first → RunsTo s first last → left_from (last + 1) < left_from from
+unfolding left_from
+left-falls s from first last next run =
+    let start : from ≤ first = next.start in
+    let order : first ≤ last = run.order in
+    let small : last < 512 = run.small in
+    omega arith
 
 -- ---- a run, category by category
 

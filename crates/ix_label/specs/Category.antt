@@ -19,13 +19,13 @@ bottom = set.empty
 unfoldable pub all_below : ℕ → Categories
 all_below n = set.from_list (range_with_len 0 n)
 
--- every category: there are 256
+-- every category: there are 512
 unfoldable pub top : Categories
-top = all_below 256
+top = all_below 512
 
--- the set is a label: each of its categories is one of the 256
+-- the set is a label: each of its categories is one of the 512
 pub record IsLabel (s : Categories) : Type 0 where
-  pub below : (q : ℕ) → has s q ≡ true → q < 256
+  pub below : (q : ℕ) → has s q ≡ true → q < 512
 
 -- the set with one category more
 unfoldable pub with : Categories → ℕ → Categories

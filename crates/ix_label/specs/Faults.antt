@@ -1,4 +1,4 @@
--- The first fault of a text that spells no label. A place of the text is given by `back`, the bytes
+-- The first fault of a text that spells no label in a form. A place of the text is given by `back`, the bytes
 -- that stand before it, the nearest first, and `ahead`, those that follow; it is counted by the
 -- length of `back`. Where no earlier place has a fault, the bytes round a place tell what is due
 -- there, and so whether it has one.
@@ -8,6 +8,8 @@ use Rattle.std.specs.Char.{is_ascii_digit}
 use Rattle.std.specs.Cmp.Lexicographic.{pointwise}
 use Rattle.std.specs.Option.{option_or}
 use Rattle.std.specs.Str.Parse.{digits_value}
+use Rattle.ix_label.specs.declared.form.Form.{Form}
+use Rattle.ix_label.specs.Forms.{greatest, whole_run}
 use Rattle.ix_label.specs.declared.fault.LabelFault.{LabelFault}
 use Rattle.ix_label.specs.declared.fault.LabelFault.TheVariants.{Empty, BadNumber, OutOfRange, NotAscending, NotLongest}
 use Rattle.ix_label.specs.Spelling.{dash, comma}
@@ -62,19 +64,19 @@ is_bad ds = length ds == 0 || (nat_lt 1 (length ds) && slice_index ds 0 == 48)
 unfoldable pub is_not_ascending : List ℕ → List ℕ → Bool
 is_not_ascending back ahead = (at_dash back || at_comma back) && nat_le (number_ahead ahead) (last_number back)
 
--- the number is the first of a later item and the last before it plus one, or all is `0-255`
-unfoldable pub is_not_longest : List ℕ → List ℕ → Bool
-is_not_longest back ahead =
+-- the number is the first of a later item and the last before it plus one, or all is the form's whole run
+unfoldable pub is_not_longest : Form → List ℕ → List ℕ → Bool
+is_not_longest form back ahead =
     (at_comma back && number_ahead ahead == last_number back + 1)
-    || (length back == 0 && is_text ahead (codes "0-255"))
+    || (length back == 0 && is_text ahead (whole_run form))
 
 -- the fault of the number that is due here
-unfoldable pub number_fault : List ℕ → List ℕ → Option LabelFault
-number_fault back ahead =
+unfoldable pub number_fault : Form → List ℕ → List ℕ → Option LabelFault
+number_fault form back ahead =
     if is_bad (digits ahead) then Some (BadNumber (length back))
-    else if nat_lt 255 (number_ahead ahead) then Some (OutOfRange (length back))
+    else if nat_lt (greatest form) (number_ahead ahead) then Some (OutOfRange (length back))
     else if is_not_ascending back ahead then Some (NotAscending (length back))
-    else if is_not_longest back ahead then Some (NotLongest (length back))
+    else if is_not_longest form back ahead then Some (NotLongest (length back))
     else None
 
 -- after a number stand the end, a comma or, if it is not the second of a range, a dash
@@ -87,20 +89,20 @@ unfoldable pub follower_fault : List ℕ → List ℕ → Option LabelFault
 follower_fault back ahead = if may_follow back ahead then None else Some (BadNumber (length back))
 
 -- the fault at one place
-unfoldable pub fault_here : List ℕ → List ℕ → Option LabelFault
-fault_here back ahead =
-    if is_due back then number_fault back ahead
+unfoldable pub fault_here : Form → List ℕ → List ℕ → Option LabelFault
+fault_here form back ahead =
+    if is_due back then number_fault form back ahead
     else if at_digit back && not (at_digit ahead) then follower_fault back ahead
     else None
 
 -- the first fault from a place on, to the end of the text
-unfoldable pub first_fault : List ℕ → List ℕ → Option LabelFault
-first_fault back [] = fault_here back []
-first_fault back (b ∷ ahead) = option_or (fault_here back (b ∷ ahead)) (first_fault (b ∷ back) ahead)
+unfoldable pub first_fault : Form → List ℕ → List ℕ → Option LabelFault
+first_fault form back [] = fault_here form back []
+first_fault form back (b ∷ ahead) = option_or (fault_here form back (b ∷ ahead)) (first_fault form (b ∷ back) ahead)
 
 -- the fault of a text; `-` and `*` have none
-unfoldable pub fault_of : List ℕ → Option LabelFault
-fault_of [] = Some Empty
-fault_of (b ∷ text) =
+unfoldable pub fault_of : Form → List ℕ → Option LabelFault
+fault_of form [] = Some Empty
+fault_of form (b ∷ text) =
     if is_text (b ∷ text) (codes "-") || is_text (b ∷ text) (codes "*") then None
-    else first_fault [] (b ∷ text)
+    else first_fault form [] (b ∷ text)

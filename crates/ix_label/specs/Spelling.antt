@@ -1,8 +1,10 @@
--- The one spelling of a label.
+-- The one spelling of a label in each form.
 use Rattle.std.specs.Prelude.{ℕ, zero, suc, ◌+◌, ◌==◌, Bool, false, not, ◌&&◌, List, [], ◌∷◌, ◌++◌, map, filter, if◌then◌else◌}
 use Rattle.std.specs.List.{range_with_len, zip, join_with_byte}
 use Rattle.std.specs.Fmt.{decimal}
-use Rattle.ix_label.specs.Category.{Categories, has, bottom, top, same}
+use Rattle.ix_label.specs.declared.form.Form.{Form}
+use Rattle.ix_label.specs.Category.{Categories, has, bottom, same}
+use Rattle.ix_label.specs.Forms.{all_of}
 
 -- the bytes that are no digits: '-', ',' and '*'
 abbrev pub dash : ℕ
@@ -16,7 +18,7 @@ star = 42
 
 -- all categories in ascending order
 unfoldable pub categories : List ℕ
-categories = range_with_len 0 256
+categories = range_with_len 0 512
 
 -- whether the label has the category before this one
 unfoldable pub has_before : Categories → ℕ → Bool
@@ -43,6 +45,6 @@ item (a, b) = if a == b then decimal a else decimal a ++ dash ∷ decimal b
 unfoldable pub items : List (ℕ × ℕ) → List ℕ
 items rs = join_with_byte comma (map item rs)
 
--- `-` for bottom, `*` for top, and else the items of the longest runs
-unfoldable pub spelling : Categories → List ℕ
-spelling s = if same s bottom then dash ∷ [] else if same s top then star ∷ [] else items (runs s)
+-- `-` for bottom, `*` for all numbers of the form, and else the items of the longest runs
+unfoldable pub spelling : Form → Categories → List ℕ
+spelling form s = if same s bottom then dash ∷ [] else if same s (all_of form) then star ∷ [] else items (runs s)

@@ -1,5 +1,6 @@
--- Four words of 64 bits, and the label whose categories are the bits that are 1.
-use Rattle.std.proofs.Common.{◌≡◌, ℕ, zero, suc, ◌+◌, ◌*◌, add-one, ◌^◌, ◌/◌, ◌%◌, ◌<◌, ◌≤◌, ◌==◌, Bool, false, List, length, map, slice_index, get_or, refl, sym, ◌∙◌, ap, arith, cond, inl, inr, if◌then◌else◌}
+-- Eight words of 64 bits, and the label whose categories are the bits that are 1.
+use Rattle.std.proofs.Common.{◌≡◌, ℕ, zero, suc, ◌+◌, ◌*◌, add-one, ◌^◌, ◌/◌, ◌%◌, ◌<◌, ◌≤◌, ◌==◌, Bool, false, List, length, map, slice_index}
+use Rattle.std.proofs.Common.{get_or, refl, sym, ◌∙◌, ap, arith, cond, inl, inr, if◌then◌else◌}
 use Rattle.std.specs.List.{range_with_len}
 use Rattle.std.specs.Ordering.{nat_cmp}
 use Rattle.std.specs.declared.cmp.Ordering.TheVariants.{Equal}
@@ -23,9 +24,9 @@ has_bit words q = bit_at (slice_index words (q / 64)) (q % 64) == 1
 unfoldable pub members : List ℕ → Categories
 members words = set.retain (all_below (64 * length words)) (has_bit words)
 
--- four words of 64 bits
+-- eight words of 64 bits
 pub record AreWords (words : List ℕ) : Type 0 where
-  pub count : length words ≡ 4
+  pub count : length words ≡ 8
   pub fit : (k : ℕ) → slice_index words k < 2 ^ 64
 
 -- the number whose lowest n bits the test gives
@@ -33,12 +34,12 @@ unfoldable pub from_bits : (ℕ → Bool) → ℕ → ℕ
 from_bits f zero = 0
 from_bits f (suc n) = (if f 0 then 1 else 0) + 2 * from_bits (λ i. f (i + 1)) n
 
--- the word whose lowest bit is that category, and all four words
+-- the word whose lowest bit is that category, and all eight words
 unfoldable pub word_of : Categories → ℕ → ℕ
 word_of s first = from_bits (λ i. has s (first + i)) 64
 
 unfoldable pub words_of : Categories → List ℕ
-words_of s = map (λ k. word_of s (64 * k)) (range_with_len 0 4)
+words_of s = map (λ k. word_of s (64 * k)) (range_with_len 0 8)
 
 pub has_bit_past : (words : List ℕ) (q : ℕ) → 64 * length words ≤ q → has_bit words q ≡ false
 unfolding has_bit
@@ -79,7 +80,7 @@ from_bits-bit_at (suc n) w h =
     let high : from_bits (λ i. bit_at w (i + 1) == 1) n ≡ w / 2 = from_bits_same n _ (λ i. bit_at (w / 2) i == 1) (λ i _. rw (add-one, bit_at-suc) refl) ∙ from_bits-bit_at n (w / 2) half in
     rw (low, high) (omega arith)
 
-word_of-members : (words : List ℕ) (k : ℕ) → AreWords words → k < 4 → word_of (members words) (64 * k) ≡ get_or words k 0
+word_of-members : (words : List ℕ) (k : ℕ) → AreWords words → k < 8 → word_of (members words) (64 * k) ≡ get_or words k 0
 unfolding word_of has_bit
 word_of-members words k h low =
     from_bits_same 64 _ (λ i. bit_at (get_or words k 0) i == 1) (λ i below.
@@ -91,4 +92,4 @@ word_of-members words k h low =
 -- a label's words come back from its categories
 pub words_of-members : (words : List ℕ) → AreWords words → words_of (members words) ≡ words
 unfolding words_of
-words_of-members words h = sym (fill_by_all (λ k. word_of (members words) (64 * k)) words 4 0 h.count (λ k low. sym (word_of-members words k h low)))
+words_of-members words h = sym (fill_by_all (λ k. word_of (members words) (64 * k)) words 8 0 h.count (λ k low. sym (word_of-members words k h low)))

@@ -4,62 +4,65 @@ ghost use Rattle.std.specs.Result.{result_err};
 ghost use Rattle.std.specs.Char.{is_ascii_digit};
 ghost use Rattle.std.specs.Str.Parse.{digits_value};
 ghost use Rattle.ix_label.specs.Category.{Categories, IsLabel};
+ghost use Rattle.ix_label.specs.Forms.{Fits, greatest, whole_run};
 ghost use Rattle.ix_label.specs.Spelling.{spelling};
 ghost use Rattle.ix_label.specs.Faults.{digits, is_bad, is_text, fault_of};
-ghost use Rattle.ix_label.specs.Reading.{NumberRead, BeginsItem, ItemRead, ItemsRead, order_fault, IsByteOf};
+ghost use Rattle.ix_label.specs.Reading.{NumberRead, BeginsItem, ItemRead, ItemsRead, order_fault, IsValueOf};
 
 use crate::fault::LabelFault;
+use crate::form::Form;
 use crate::label::Label;
 
 /// A number of a text, and the place after its last digit.
 #[derive(Clone, Copy)]
 struct Number {
-    value: u8,
+    value: u16,
     end: usize,
 }
 
 /// An item of a text: the first and the last category of its run, and the place after it.
 #[derive(Clone, Copy)]
 struct Item {
-    first: u8,
-    last: u8,
+    first: u16,
+    last: u16,
     end: usize,
 }
 
 impl Label {
-    /// The label that the text spells, or the text's first fault.
+    /// The label that the text spells in the form, or the text's first fault.
     ///
-    /// Each label has one spelling, the text that [`text_into`](Label::text_into) writes, and
+    /// Each label has at most one spelling in a form, the text that [`text_into`](Label::text_into) writes, and
     /// only that is read.
-    pub fn read(text: &[u8]) -> Result<Label, LabelFault>
-        ensures fault { result_err result ≡ fault_of text.now }
-        ensures ok { IfOk result (λ l. text.now ≡ spelling l) }
-        ensures spelled { (s : Categories) → IsLabel s → text.now ≡ spelling s → result ≡ Ok s }
+    pub fn read(form: Form, text: &[u8]) -> Result<Label, LabelFault>
+        ensures fault { result_err result ≡ fault_of form text.now }
+        ensures fits { IfOk result (λ l. Fits form l) }
+        ensures ok { IfOk result (λ l. text.now ≡ spelling form l) }
+        ensures spelled { (s : Categories) → IsLabel s → Fits form s → text.now ≡ spelling form s → result ≡ Ok s }
     {
         if text.is_empty() {
             Err(LabelFault::Empty)
         } else if text == b"-".as_slice() {
             Ok(Label::bottom())
         } else if text == b"*".as_slice() {
-            Ok(Label::top())
-        } else if text == b"0-255".as_slice() {
+            Ok(Label::all_of(form))
+        } else if form.is_whole_run(text) {
             Err(LabelFault::NotLongest { at: 0 })
         } else {
-            read_items(text)
+            read_items(form, text)
         }
     }
 }
 
 /// Reads the items of a text that is none of the four that [`Label::read`] knows.
-fn read_items(text: &[u8]) -> Result<Label, LabelFault>
-    requires { is_text text.now (codes "0-255") ≡ false }
-    ensures { ItemsRead text.now result }
+fn read_items(form: Form, text: &[u8]) -> Result<Label, LabelFault>
+    requires { is_text text.now (whole_run form) ≡ false }
+    ensures { ItemsRead form text.now result }
 {
     let mut label = Label::bottom();
     let mut last = None;
     let mut at = 0;
     'items: loop {
-        let item = read_item(text, at, last)?;
+        let item = read_item(form, text, at, last)?;
         label = label.with_run(item.first, item.last);
         if item.end == text.len() {
             return Ok(label);
@@ -73,12 +76,12 @@ fn read_items(text: &[u8]) -> Result<Label, LabelFault>
 }
 
 /// Reads the item that begins at `at`, after an item that ended with the number `last`.
-fn read_item(text: &[u8], at: usize, last: Option<u8>) -> Result<Item, LabelFault>
+fn read_item(form: Form, text: &[u8], at: usize, last: Option<u16>) -> Result<Item, LabelFault>
     requires place { BeginsItem text.now at last }
-    requires not_all { is_text text.now (codes "0-255") ≡ false }
-    ensures { ItemRead text.now at last result }
+    requires not_all { is_text text.now (whole_run form) ≡ false }
+    ensures { ItemRead form text.now at last result }
 {
-    let first = read_number(text, at)?;
+    let first = read_number(form, text, at)?;
     check_order(last, first.value, at)?;
     if !stands_at(text, first.end, b'-') {
         return Ok(Item {
@@ -87,7 +90,7 @@ fn read_item(text: &[u8], at: usize, last: Option<u8>) -> Result<Item, LabelFaul
             end: first.end,
         });
     }
-    let second = read_number(text, first.end + 1)?;
+    let second = read_number(form, text, first.end + 1)?;
     if second.value <= first.value {
         return Err(LabelFault::NotAscending { at: first.end + 1 });
     }
@@ -107,7 +110,7 @@ fn stands_at(text: &[u8], at: usize, byte: u8) -> bool
 
 /// Whether an item may begin with `first` at `at`, after an item that ended with `last`.
 #[tactic(auto, unfolding(crate::specs::Reading::order_fault))]
-fn check_order(last: Option<u8>, first: u8, at: usize) -> Result<(), LabelFault>
+fn check_order(last: Option<u16>, first: u16, at: usize) -> Result<(), LabelFault>
     ensures { result_err result ≡ order_fault last first at }
 {
     match last {
@@ -125,16 +128,16 @@ fn check_order(last: Option<u8>, first: u8, at: usize) -> Result<(), LabelFault>
 }
 
 /// Reads the number that is due at `at`.
-fn read_number(text: &[u8], at: usize) -> Result<Number, LabelFault>
+fn read_number(form: Form, text: &[u8], at: usize) -> Result<Number, LabelFault>
     requires { at ≤ length text.now }
-    ensures { NumberRead text.now at result }
+    ensures { NumberRead form text.now at result }
 {
     let (_, ahead) = text.split_at(at);
     let digits = leading_digits(ahead);
     if is_bad(digits) {
         return Err(LabelFault::BadNumber { at });
     }
-    match value_of(digits) {
+    match value_of(form, digits) {
         Some(value) => Ok(Number {
             value,
             end: at + digits.len(),
@@ -166,17 +169,18 @@ fn digit_count(bytes: &[u8]) -> usize
     bytes.iter().take_while(|b| b.is_ascii_digit()).count()
 }
 
-/// The number that the digits write, if it is at most 255.
-fn value_of(digits: &[u8]) -> Option<u8>
+/// The number that the digits write, if it is not above the form's greatest.
+fn value_of(form: Form, digits: &[u8]) -> Option<u16>
     requires { list_all is_ascii_digit digits.now ≡ true }
-    ensures { MatchOption result (255 < digits_value 10 digits.now) (IsByteOf digits.now) }
+    ensures { MatchOption result (greatest form < digits_value 10 digits.now) (IsValueOf form digits.now) }
 {
-    let mut value: u16 = 0;
+    let greatest = form.greatest();
+    let mut value = 0;
     for digit in digits {
         value = value * 10 + (digit - b'0') as u16;
-        if value > 255 {
+        if value > greatest {
             return None;
         }
     }
-    Some(value as u8)
+    Some(value)
 }

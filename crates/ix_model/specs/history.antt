@@ -10,4 +10,5 @@ pub mod Shown
 pub mod Views
 pub mod Made
 pub mod Seats
+pub mod Spelled
 pub mod Systems

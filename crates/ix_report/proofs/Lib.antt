@@ -1,3 +1,2 @@
 pub mod Further
-pub mod Items
 pub mod Pairs

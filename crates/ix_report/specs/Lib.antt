@@ -6,4 +6,3 @@ pub mod RefusalText
 pub mod CallText
 pub mod ReplyText
 pub mod LineText
-pub mod Items

@@ -1,6 +1,8 @@
 ghost use Rattle.std.specs.Prelude.{◌≡◌, ◌++◌, OnOk, codes};
 ghost use Rattle.std.specs.Fmt.{decimal};
 ghost use Rattle.ix_model.specs.history.Calls.{op_of};
+ghost use Rattle.ix_label.specs.Forms.{Fits};
+ghost use Rattle.ix_model.specs.history.Spelled.{CallFits};
 ghost use Rattle.ix_label.specs.Spelling.{spelling};
 ghost use Rattle.ix_report.specs.Hex.{hex};
 ghost use Rattle.ix_report.specs.Names.{path_text};
@@ -8,10 +10,9 @@ ghost use Rattle.ix_text.specs.Spellings.{mode_text, privs_text};
 ghost use Rattle.ix_report.specs.Words.{keep_text};
 ghost use Rattle.ix_report.specs.CallText.{call_text};
 
-use crate::labels::push_label;
 use crate::line::Line;
 use crate::pieces::{push_hex, push_number, push_path, push_privs};
-use ix_label::Label;
+use ix_label::{Form, Label};
 use ix_model::{Call, Fd, Keep, Mode, NoMemory, Path, Pid, PrivSet};
 use ix_text::mode_word;
 
@@ -71,13 +72,20 @@ fn push_with_path(line: &mut Line, word: &[u8], pid: Pid, path: &Path) -> Result
 }
 
 /// A command with a label.
-fn push_with_label(line: &mut Line, word: &[u8], pid: Pid, label: &Label) -> Result<(), NoMemory>
+fn push_with_label(
+    line: &mut Line,
+    form: Form,
+    word: &[u8],
+    pid: Pid,
+    label: &Label,
+) -> Result<(), NoMemory>
+    requires { Fits form label.now }
     ensures stays { line.new.before ≡ line.old.before }
-    ensures text { OnOk result (line.new.text ≡ line.old.text ++ (word.now ++ decimal pid.0 ++ codes " " ++ spelling label.now)) }
+    ensures text { OnOk result (line.new.text ≡ line.old.text ++ (word.now ++ decimal pid.0 ++ codes " " ++ spelling form label.now)) }
 {
     push_command(line, word, pid)?;
     line.push_byte(b' ')?;
-    push_label(line, label)
+    line.push_label(form, label)
 }
 
 /// A command with a set of privileges.
@@ -161,14 +169,21 @@ fn push_fork(line: &mut Line, pid: Pid, keep: Keep) -> Result<(), NoMemory>
 }
 
 /// The setting of an object's label.
-fn push_set_label(line: &mut Line, pid: Pid, path: &Path, label: &Label) -> Result<(), NoMemory>
+fn push_set_label(
+    line: &mut Line,
+    form: Form,
+    pid: Pid,
+    path: &Path,
+    label: &Label,
+) -> Result<(), NoMemory>
+    requires { Fits form label.now }
     ensures stays { line.new.before ≡ line.old.before }
     ensures text { OnOk result (line.new.text ≡ line.old.text
-        ++ (codes "setlabel p" ++ decimal pid.0 ++ codes " " ++ path_text path.now ++ codes " " ++ spelling label.now)) }
+        ++ (codes "setlabel p" ++ decimal pid.0 ++ codes " " ++ path_text path.now ++ codes " " ++ spelling form label.now)) }
 {
     push_with_path(line, b"setlabel p", pid, path)?;
     line.push_byte(b' ')?;
-    push_label(line, label)
+    line.push_label(form, label)
 }
 
 /// The setting of a file's privileges.
@@ -203,21 +218,29 @@ fn push_grant(line: &mut Line, pid: Pid, target: Pid, set: PrivSet) -> Result<()
 }
 
 /// The setting of a process's ceiling.
-fn push_ceiling(line: &mut Line, pid: Pid, target: Pid, label: &Label) -> Result<(), NoMemory>
+fn push_ceiling(
+    line: &mut Line,
+    form: Form,
+    pid: Pid,
+    target: Pid,
+    label: &Label,
+) -> Result<(), NoMemory>
+    requires { Fits form label.now }
     ensures stays { line.new.before ≡ line.old.before }
     ensures text { OnOk result (line.new.text ≡ line.old.text
-        ++ (codes "ceiling p" ++ decimal pid.0 ++ codes " p" ++ decimal target.0 ++ codes " " ++ spelling label.now)) }
+        ++ (codes "ceiling p" ++ decimal pid.0 ++ codes " p" ++ decimal target.0 ++ codes " " ++ spelling form label.now)) }
 {
     push_with_process(line, b"ceiling p", pid, target)?;
     line.push_byte(b' ')?;
-    push_label(line, label)
+    line.push_label(form, label)
 }
 
 /// A call: the command's word, the caller, and the arguments in the command's order.
 #[tactic(auto, unfolding(crate::specs::CallText::call_text))]
-pub fn push_call(line: &mut Line, pid: Pid, call: &Call<'_>) -> Result<(), NoMemory>
+pub fn push_call(line: &mut Line, form: Form, pid: Pid, call: &Call<'_>) -> Result<(), NoMemory>
+    requires { CallFits form (op_of call.now) }
     ensures stays { line.new.before ≡ line.old.before }
-    ensures text { OnOk result (line.new.text ≡ line.old.text ++ call_text pid.0 (op_of call.now)) }
+    ensures text { OnOk result (line.new.text ≡ line.old.text ++ call_text form pid.0 (op_of call.now)) }
 {
     match call {
         Call::CreateAt { path } => push_with_path(line, b"create p", pid, path),
@@ -242,8 +265,8 @@ pub fn push_call(line: &mut Line, pid: Pid, call: &Call<'_>) -> Result<(), NoMem
         Call::WaitChild => push_command(line, b"wait p", pid),
         Call::LabelOf { path } => push_with_path(line, b"labelof p", pid, path),
         Call::SelfLabel => push_command(line, b"self p", pid),
-        Call::SetLabel { path, label } => push_set_label(line, pid, path, label),
-        Call::SetSelf { label } => push_with_label(line, b"setself p", pid, label),
+        Call::SetLabel { path, label } => push_set_label(line, form, pid, path, label),
+        Call::SetSelf { label } => push_with_label(line, form, b"setself p", pid, label),
         Call::Freeze { path } => push_with_path(line, b"freeze p", pid, path),
         Call::FreezeSelf => push_command(line, b"freezeself p", pid),
         Call::Thaw { path } => push_with_path(line, b"thaw p", pid, path),
@@ -251,7 +274,7 @@ pub fn push_call(line: &mut Line, pid: Pid, call: &Call<'_>) -> Result<(), NoMem
         Call::SetPriv { path, cap, lic } => push_set_priv(line, pid, path, *cap, *lic),
         Call::DropLic { set } => push_with_privs(line, b"droplic p", pid, *set),
         Call::GrantLic { pid: target, set } => push_grant(line, pid, *target, *set),
-        Call::SetCeiling { pid: target, label } => push_ceiling(line, pid, *target, label),
+        Call::SetCeiling { pid: target, label } => push_ceiling(line, form, pid, *target, label),
         Call::Pex { fd } => push_with_fd(line, b"pex p", pid, *fd),
         Call::Unpex { fd } => push_with_fd(line, b"unpex p", pid, *fd),
         Call::ReadLog { index } => push_with_number(line, b"readlog p", pid, *index),

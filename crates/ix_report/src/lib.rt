@@ -2,7 +2,6 @@
 #![tactic(auto)]
 
 mod calls;
-mod labels;
 mod line;
 mod pieces;
 mod refusals;

@@ -1,5 +1,8 @@
+ghost use Rattle.ix_label.specs.Forms.{Fits};
+ghost use Rattle.ix_label.specs.Spelling.{spelling};
 ghost use Rattle.std.specs.Prelude.{◌≡◌, ◌++◌, [], ◌∷◌, OnOk, OnErr};
 
+use ix_label::{Form, Label};
 use ix_model::NoMemory;
 use std::marker::Model;
 use std::mem;
@@ -56,6 +59,15 @@ impl Line {
             Ok(()) => Ok(()),
             Err(_) => Err(NoMemory),
         }
+    }
+
+    /// Writes a label at the line's end, in its one spelling of the form.
+    pub fn push_label(&mut self, form: Form, label: &Label) -> Result<(), NoMemory>
+        requires { Fits form label.now }
+        ensures stays { self.new.before ≡ self.old.before }
+        ensures text { OnOk result (self.new.text ≡ self.old.text ++ spelling form label.now) }
+    {
+        ix_text::push_label(&mut self.bytes, form, label)
     }
 
     /// Gives the bytes back to `out`: with the line where it was written, and without any of it where it wasn't.

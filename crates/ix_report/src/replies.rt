@@ -1,6 +1,8 @@
 ghost use Rattle.std.specs.Prelude.{◌≡◌, ◌++◌, OnOk, codes};
 ghost use Rattle.std.specs.Fmt.{decimal};
 ghost use Rattle.ix_model.specs.rows.Refusals.{number_of};
+ghost use Rattle.ix_label.specs.Forms.{Fits};
+ghost use Rattle.ix_model.specs.history.Spelled.{AuditFits, ReplyFits};
 ghost use Rattle.ix_label.specs.Spelling.{spelling};
 ghost use Rattle.ix_report.specs.Hex.{hex};
 ghost use Rattle.ix_report.specs.Names.{name_text};
@@ -9,12 +11,11 @@ ghost use Rattle.ix_text.specs.Spellings.{privs_text, state_text};
 ghost use Rattle.ix_report.specs.Words.{act_text, kind_text};
 ghost use Rattle.ix_report.specs.ReplyText.{audit_text, reply_text};
 
-use crate::labels::push_label;
 use crate::line::Line;
 use crate::pieces::{push_hex, push_name, push_number, push_privs};
 use crate::refusals::name_of;
 use crate::words::{act_word, kind_word};
-use ix_label::Label;
+use ix_label::{Form, Label};
 use ix_model::{AuditLine, Fd, Kind, Name, NoMemory, Obj, Pid, PrivSet, Refusal, Reply};
 use ix_text::state_word;
 
@@ -99,14 +100,21 @@ fn push_named(line: &mut Line, name: &Name, obj: Obj) -> Result<(), NoMemory>
 }
 
 /// Who has claimed the other end.
-fn push_whole(line: &mut Line, pid: Pid, label: &Label, lic: PrivSet) -> Result<(), NoMemory>
+fn push_whole(
+    line: &mut Line,
+    form: Form,
+    pid: Pid,
+    label: &Label,
+    lic: PrivSet,
+) -> Result<(), NoMemory>
+    requires { Fits form label.now }
     ensures stays { line.new.before ≡ line.old.before }
     ensures text { OnOk result (line.new.text ≡ line.old.text
-        ++ (codes " = whole p" ++ decimal pid.0 ++ codes " " ++ spelling label.now ++ codes " " ++ privs_text lic)) }
+        ++ (codes " = whole p" ++ decimal pid.0 ++ codes " " ++ spelling form label.now ++ codes " " ++ privs_text lic)) }
 {
     push_word_number(line, b" = whole p", u64::from(pid.0))?;
     line.push_byte(b' ')?;
-    push_label(line, label)?;
+    line.push_label(form, label)?;
     line.push_byte(b' ')?;
     push_privs(line, lic)
 }
@@ -146,23 +154,25 @@ fn push_act(line: &mut Line, audit: &AuditLine) -> Result<(), NoMemory>
 
 /// An audit line, without its line feed.
 #[tactic(auto, unfolding(crate::specs::ReplyText::audit_text))]
-pub fn push_audit(line: &mut Line, audit: &AuditLine) -> Result<(), NoMemory>
+pub fn push_audit(line: &mut Line, form: Form, audit: &AuditLine) -> Result<(), NoMemory>
+    requires { AuditFits form audit.now }
     ensures stays { line.new.before ≡ line.old.before }
-    ensures text { OnOk result (line.new.text ≡ line.old.text ++ audit_text audit.entry.now) }
+    ensures text { OnOk result (line.new.text ≡ line.old.text ++ audit_text form audit.entry.now) }
 {
     push_act(line, audit)?;
     line.push_byte(b' ')?;
-    push_label(line, &audit.was)?;
+    line.push_label(form, &audit.was)?;
     line.push_byte(b' ')?;
-    push_label(line, &audit.now)?;
+    line.push_label(form, &audit.now)?;
     push_both_privs(line, audit.cap, audit.lic)
 }
 
 /// A reply after its sign; of one that so many bytes were read, with these bytes.
 #[tactic(auto, unfolding(crate::specs::ReplyText::reply_text))]
-pub fn push_reply(line: &mut Line, reply: &Reply, bytes: &[u8]) -> Result<(), NoMemory>
+pub fn push_reply(line: &mut Line, form: Form, reply: &Reply, bytes: &[u8]) -> Result<(), NoMemory>
+    requires { ReplyFits form reply.now }
     ensures stays { line.new.before ≡ line.old.before }
-    ensures text { OnOk result (line.new.text ≡ line.old.text ++ (codes " = " ++ reply_text reply.now bytes.now)) }
+    ensures text { OnOk result (line.new.text ≡ line.old.text ++ (codes " = " ++ reply_text form reply.now bytes.now)) }
 {
     match reply {
         Reply::Done => line.push(b" = done"),
@@ -183,14 +193,14 @@ pub fn push_reply(line: &mut Line, reply: &Reply, bytes: &[u8]) -> Result<(), No
         }
         Reply::Lab(label) => {
             line.push(b" = label ")?;
-            push_label(line, label)
+            line.push_label(form, label)
         }
         Reply::Named { name, obj } => push_named(line, name, *obj),
         Reply::Half => line.push(b" = half"),
-        Reply::Whole { pid, label, lic } => push_whole(line, *pid, label, *lic),
+        Reply::Whole { pid, label, lic } => push_whole(line, form, *pid, label, *lic),
         Reply::LogLine(audit) => {
             line.push(b" = log ")?;
-            push_audit(line, audit)
+            push_audit(line, form, audit)
         }
         Reply::Child { pid, status } => push_child(line, *pid, *status),
         Reply::No(why) => push_refusal(line, *why),

@@ -1,28 +1,32 @@
 ghost use Rattle.std.specs.Prelude.{◌≡◌, ℕ, ◌++◌, OnOk, OnErr};
 ghost use Rattle.std.specs.Option.{option_copied};
 ghost use Rattle.ix_model.specs.history.Calls.{op_of};
+ghost use Rattle.ix_label.specs.Forms.{Fits};
+ghost use Rattle.ix_model.specs.history.Spelled.{AuditFits, CallFits, ReplyFits, SeenFits};
 ghost use Rattle.ix_model.specs.history.Made.{entry};
 ghost use Rattle.ix_report.specs.ReplyText.{AreBytesOf};
 ghost use Rattle.ix_report.specs.LineText.{audit_line, entry_line, head_line, object_line, process_line, seen_text, tail_line};
 
 use crate::calls::push_call;
-use crate::labels::push_label;
 use crate::line::Line;
 use crate::pieces::{push_number, push_spaced};
 use crate::replies::{push_audit, push_reply};
 use crate::words::{kind_word, life_word};
-use ix_label::Label;
+use ix_label::{Form, Label};
 use ix_model::{AuditLine, Call, NoMemory, ObjView, Pid, ProcView, Reply};
 use ix_text::state_word;
 
 /// Appends the first line. After `NoMemory` the bytes are as they were.
 #[tactic(auto, unfolding(crate::specs::LineText::head_line))]
-pub fn head(out: &mut Vec<u8>) -> Result<(), NoMemory>
-    ensures ok { OnOk result (out.new.items ≡ out.old.items ++ head_line) }
+pub fn head(out: &mut Vec<u8>, form: Form) -> Result<(), NoMemory>
+    ensures ok { OnOk result (out.new.items ≡ out.old.items ++ head_line form) }
     ensures err { OnErr result (out.new.items ≡ out.old.items) }
 {
     let mut line = Line::begin(out);
-    let written = line.push(b"ix 1 report\n");
+    let written = match form {
+        Form::One => line.push(b"ix 1 report\n"),
+        Form::Two => line.push(b"ix 2 report\n"),
+    };
     line.end(out, written)
 }
 
@@ -32,6 +36,7 @@ pub fn head(out: &mut Vec<u8>) -> Result<(), NoMemory>
 /// `out` are as they were.
 pub fn entry_line(
     out: &mut Vec<u8>,
+    form: Form,
     place: u32,
     lane: &[u8],
     number: u32,
@@ -41,65 +46,83 @@ pub fn entry_line(
     bytes: &[u8],
     label: Option<&Label>,
 ) -> Result<(), NoMemory>
-    requires { AreBytesOf reply.now bytes.now }
+    requires bytes { AreBytesOf reply.now bytes.now }
+    requires call { CallFits form (op_of call.now) }
+    requires reply { ReplyFits form reply.now }
+    requires label { SeenFits form (option_copied label) }
     ensures ok { (seat : ℕ) → OnOk result (out.new.items ≡ out.old.items
-        ++ entry_line place lane.now (entry seat number pid (op_of call.now)) reply.now bytes.now (option_copied label.entry)) }
+        ++ entry_line form place lane.now (entry seat number pid (op_of call.now)) reply.now bytes.now (option_copied label.entry)) }
     ensures err { OnErr result (out.new.items ≡ out.old.items) }
 {
     let mut line = Line::begin(out);
     let written = push_entry(
-        &mut line, place, lane, number, pid, call, reply, bytes, label,
+        &mut line, form, place, lane, number, pid, call, reply, bytes, label,
     );
     line.end(out, written)
 }
 
 /// Appends the line of an object. After `NoMemory` the bytes are as they were.
-pub fn object_line(out: &mut Vec<u8>, number: u32, view: &ObjView) -> Result<(), NoMemory>
-    ensures ok { OnOk result (out.new.items ≡ out.old.items ++ object_line number view.now) }
+pub fn object_line(
+    out: &mut Vec<u8>,
+    form: Form,
+    number: u32,
+    view: &ObjView,
+) -> Result<(), NoMemory>
+    requires { Fits form view.now.label }
+    ensures ok { OnOk result (out.new.items ≡ out.old.items ++ object_line form number view.now) }
     ensures err { OnErr result (out.new.items ≡ out.old.items) }
 {
     let mut line = Line::begin(out);
-    let written = push_object(&mut line, number, view);
+    let written = push_object(&mut line, form, number, view);
     line.end(out, written)
 }
 
 /// Appends the line of a process. After `NoMemory` the bytes are as they were.
-pub fn process_line(out: &mut Vec<u8>, pid: Pid, view: &ProcView) -> Result<(), NoMemory>
-    ensures ok { OnOk result (out.new.items ≡ out.old.items ++ process_line pid.0 view.now) }
+pub fn process_line(
+    out: &mut Vec<u8>,
+    form: Form,
+    pid: Pid,
+    view: &ProcView,
+) -> Result<(), NoMemory>
+    requires { Fits form view.now.label }
+    ensures ok { OnOk result (out.new.items ≡ out.old.items ++ process_line form pid.0 view.now) }
     ensures err { OnErr result (out.new.items ≡ out.old.items) }
 {
     let mut line = Line::begin(out);
-    let written = push_process(&mut line, pid, view);
+    let written = push_process(&mut line, form, pid, view);
     line.end(out, written)
 }
 
 /// Appends a line of the audit log. After `NoMemory` the bytes are as they were.
-pub fn audit_line(out: &mut Vec<u8>, line: &AuditLine) -> Result<(), NoMemory>
-    ensures ok { OnOk result (out.new.items ≡ out.old.items ++ audit_line line.entry.now) }
+pub fn audit_line(out: &mut Vec<u8>, form: Form, line: &AuditLine) -> Result<(), NoMemory>
+    requires { AuditFits form line.now }
+    ensures ok { OnOk result (out.new.items ≡ out.old.items ++ audit_line form line.entry.now) }
     ensures err { OnErr result (out.new.items ≡ out.old.items) }
 {
     let mut text = Line::begin(out);
-    let written = push_audit_line(&mut text, line);
+    let written = push_audit_line(&mut text, form, line);
     text.end(out, written)
 }
 
 /// Appends the last line: how many entries and audit lines there are. After `NoMemory` the bytes are as they were.
-pub fn tail(out: &mut Vec<u8>, entries: u32, lines: u32) -> Result<(), NoMemory>
+pub fn tail(out: &mut Vec<u8>, form: Form, entries: u32, lines: u32) -> Result<(), NoMemory>
     ensures ok { OnOk result (out.new.items ≡ out.old.items ++ tail_line entries lines) }
     ensures err { OnErr result (out.new.items ≡ out.old.items) }
 {
+    let _ = form;
     let mut line = Line::begin(out);
     let written = push_tail(&mut line, entries, lines);
     line.end(out, written)
 }
 
 /// The label of the caller's record, or that there is none.
-fn push_seen(line: &mut Line, label: Option<&Label>) -> Result<(), NoMemory>
+fn push_seen(line: &mut Line, form: Form, label: Option<&Label>) -> Result<(), NoMemory>
+    requires { SeenFits form (option_copied label) }
     ensures stays { line.new.before ≡ line.old.before }
-    ensures text { OnOk result (line.new.text ≡ line.old.text ++ seen_text (option_copied label.entry)) }
+    ensures text { OnOk result (line.new.text ≡ line.old.text ++ seen_text form (option_copied label.entry)) }
 {
     match label {
-        Some(label) => push_label(line, label),
+        Some(label) => line.push_label(form, label),
         None => line.push(b"none"),
     }
 }
@@ -108,6 +131,7 @@ fn push_seen(line: &mut Line, label: Option<&Label>) -> Result<(), NoMemory>
 #[tactic(auto, unfolding(crate::specs::LineText::entry_line))]
 fn push_entry(
     line: &mut Line,
+    form: Form,
     place: u32,
     lane: &[u8],
     number: u32,
@@ -117,32 +141,36 @@ fn push_entry(
     bytes: &[u8],
     label: Option<&Label>,
 ) -> Result<(), NoMemory>
+    requires call { CallFits form (op_of call.now) }
+    requires reply { ReplyFits form reply.now }
+    requires label { SeenFits form (option_copied label) }
     ensures stays { line.new.before ≡ line.old.before }
     ensures text { (seat : ℕ) → OnOk result (line.new.text ≡ line.old.text
-        ++ entry_line place lane.now (entry seat number pid (op_of call.now)) reply.now bytes.now (option_copied label.entry)) }
+        ++ entry_line form place lane.now (entry seat number pid (op_of call.now)) reply.now bytes.now (option_copied label.entry)) }
 {
     push_spaced(line, u64::from(place))?;
     line.push(lane)?;
     line.push_byte(b' ')?;
     push_spaced(line, u64::from(number))?;
-    push_call(line, pid, call)?;
-    push_reply(line, reply, bytes)?;
+    push_call(line, form, pid, call)?;
+    push_reply(line, form, reply, bytes)?;
     line.push(b" @ ")?;
-    push_seen(line, label)?;
+    push_seen(line, form, label)?;
     line.push_byte(b'\n')
 }
 
 /// The line of an object.
 #[tactic(auto, unfolding(crate::specs::LineText::object_line))]
-fn push_object(line: &mut Line, number: u32, view: &ObjView) -> Result<(), NoMemory>
+fn push_object(line: &mut Line, form: Form, number: u32, view: &ObjView) -> Result<(), NoMemory>
+    requires { Fits form view.now.label }
     ensures stays { line.new.before ≡ line.old.before }
-    ensures text { OnOk result (line.new.text ≡ line.old.text ++ object_line number view.now) }
+    ensures text { OnOk result (line.new.text ≡ line.old.text ++ object_line form number view.now) }
 {
     push_number(line, u64::from(number))?;
     line.push_byte(b' ')?;
     line.push(kind_word(view.kind))?;
     line.push_byte(b' ')?;
-    push_label(line, &view.label)?;
+    line.push_label(form, &view.label)?;
     line.push_byte(b' ')?;
     line.push(state_word(view.frozen))?;
     line.push_byte(b'\n')
@@ -150,14 +178,15 @@ fn push_object(line: &mut Line, number: u32, view: &ObjView) -> Result<(), NoMem
 
 /// The line of a process.
 #[tactic(auto, unfolding(crate::specs::LineText::process_line))]
-fn push_process(line: &mut Line, pid: Pid, view: &ProcView) -> Result<(), NoMemory>
+fn push_process(line: &mut Line, form: Form, pid: Pid, view: &ProcView) -> Result<(), NoMemory>
+    requires { Fits form view.now.label }
     ensures stays { line.new.before ≡ line.old.before }
-    ensures text { OnOk result (line.new.text ≡ line.old.text ++ process_line pid.0 view.now) }
+    ensures text { OnOk result (line.new.text ≡ line.old.text ++ process_line form pid.0 view.now) }
 {
     line.push_byte(b'p')?;
     push_number(line, u64::from(pid.0))?;
     line.push_byte(b' ')?;
-    push_label(line, &view.label)?;
+    line.push_label(form, &view.label)?;
     line.push_byte(b' ')?;
     line.push(life_word(view.ended))?;
     line.push_byte(b'\n')
@@ -165,11 +194,12 @@ fn push_process(line: &mut Line, pid: Pid, view: &ProcView) -> Result<(), NoMemo
 
 /// A line of the audit log.
 #[tactic(auto, unfolding(crate::specs::LineText::audit_line))]
-fn push_audit_line(line: &mut Line, audit: &AuditLine) -> Result<(), NoMemory>
+fn push_audit_line(line: &mut Line, form: Form, audit: &AuditLine) -> Result<(), NoMemory>
+    requires { AuditFits form audit.now }
     ensures stays { line.new.before ≡ line.old.before }
-    ensures text { OnOk result (line.new.text ≡ line.old.text ++ audit_line audit.entry.now) }
+    ensures text { OnOk result (line.new.text ≡ line.old.text ++ audit_line form audit.entry.now) }
 {
-    push_audit(line, audit)?;
+    push_audit(line, form, audit)?;
     line.push_byte(b'\n')
 }
 

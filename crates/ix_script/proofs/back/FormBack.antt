@@ -5,6 +5,7 @@ use Rattle.std.specs.List.{list_all}
 use Rattle.std.specs.Option.{option_or, option_map_or}
 use Rattle.std.proofs.lemmas.Bool.{eqb-true}
 use Rattle.ix_model.specs.opening.Valid.{is_within}
+use Rattle.ix_label.specs.declared.form.Form.TheVariants.{One}
 use Rattle.ix_script.specs.texts.Cutting.{words_of, word_at}
 use Rattle.ix_script.specs.texts.Labels.{label_of}
 use Rattle.ix_script.specs.texts.Words.{name_of, privs_of, made_path_of, state_of, fd_of}
@@ -99,7 +100,7 @@ file_back before text l k =
       respelled = ap may_be_respelled (sym m.12);
       back = payload_back before text form.File l 1048576 (codes "file") (a ∷ b ∷ c ∷ d ∷ e ∷ []) p m.5 file_begins k s
           (sym cut ∙ ap (λ w. w ∷ a ∷ b ∷ c ∷ d ∷ e ∷ p ∷ []) (sym k.first)) (file_fits before (codes "file") a b c d e p (payload_text m.5) s.alike tells) tells
-          (ap line_words (sym m.12) ∙ same refl (same (made_path_spelled a m.0 m.6) (same (label_spelled b m.1 m.7) (same (state_spelled c m.2 m.8) (same (privs_spelled d m.3 m.9) (same (privs_spelled e m.4 m.10) refl))))));
+          (ap line_words (sym m.12) ∙ same refl (same (made_path_spelled a m.0 m.6) (same (label_spelled One b m.1 m.7) (same (state_spelled c m.2 m.8) (same (privs_spelled d m.3 m.9) (same (privs_spelled e m.4 m.10) refl))))));
     }
 
 -- ---- each form

@@ -9,6 +9,8 @@ use Rattle.std.proofs.lemmas.Fmt.{decimal-digits_value}
 use Rattle.std.proofs.lemmas.List.Folds.{list_all-append, list_all-map}
 use Rattle.std.proofs.lemmas.Option.{cond_some, none-some}
 use Rattle.std.proofs.lemmas.Str.Parse.{IsDigitsTest, IsNumeralModel, numerals_by_fold}
+use Rattle.ix_label.specs.declared.form.Form.{Form}
+use Rattle.ix_label.specs.Forms.{greatest}
 use Rattle.ix_label.specs.Category.{Categories}
 use Rattle.ix_label.specs.Spelling.{spelling}
 use Rattle.ix_model.specs.world.Naming.{PathOf, same_bytes, is_name}
@@ -17,7 +19,7 @@ use Rattle.ix_model.specs.declared.call.Mode.TheVariants as mode
 use Rattle.ix_model.specs.declared.privs.PrivSet.{PrivSet}
 use Rattle.ix_script.specs.texts.Lines.{with_front}
 use Rattle.ix_script.specs.texts.Cutting.{begins, is_empty}
-use Rattle.ix_script.specs.texts.Labels.{label_of, labels_below, is_spelled}
+use Rattle.ix_script.specs.texts.Labels.{label_in, labels_below, is_spelled}
 use Rattle.ix_text.specs.Spellings.{letters}
 use Rattle.ix_script.specs.texts.Words.{is_digit, begins_with, is_script_name, name_of, is_numeral, value, value_from, number_of, bits_from, privs_of, may_stand_in_path, between_slashes, names_of, path_from, absolute_path, relative_path, path_of, made_path_of, mode_of, state_of, what_of, numbered, named, fd_of, keep_of}
 use Rattle.ix_script.specs.lines.Before.{what_text}
@@ -37,9 +39,9 @@ pub name_spelled : (word name : List ℕ) → name_of word ≡ Some name → nam
 unfolding name_of
 name_spelled word name h = sym (cond_some (is_script_name word) word name h).1
 
-pub label_spelled : (word : List ℕ) (s : Categories) → label_of word ≡ Some s → spelling s ≡ word
-unfolding label_of
-label_spelled word s h = same_text (spelling s) word (sym (found (is_spelled word) (labels_below 256) s h))
+pub label_spelled : (form : Form) (word : List ℕ) (s : Categories) → label_in form word ≡ Some s → spelling form s ≡ word
+unfolding label_in
+label_spelled form word s h = same_text (spelling form s) word (sym (found (is_spelled form word) (labels_below (greatest form + 1)) s h))
 
 -- ---- numbers
 digits_test : IsDigitsTest (λ ds. list_all is_digit ds ≡ true)

@@ -7,6 +7,7 @@ use Rattle.std.proofs.lemmas.Option.{same_Some}
 use Rattle.std.specs.Fmt.{decimal}
 use Rattle.std.specs.Cmp.Lexicographic.{same_text}
 use Rattle.ix_model.specs.world.Naming.{PathOf, same_bytes}
+use Rattle.ix_label.specs.declared.form.Form.TheVariants.{One}
 use Rattle.ix_script.specs.texts.Cutting.{word_at}
 use Rattle.ix_script.specs.texts.Labels.{label_of}
 use Rattle.ix_script.specs.texts.Words.{name_of, number_of, privs_of, path_of, made_path_of, mode_of, state_of, what_of, fd_of, keep_of}
@@ -164,21 +165,21 @@ unfolding line_words
 fs_again words l first count h =
     let m = of_4 (λ a b c d. line.Fs a b c d) (name_of (word_at words 1)) (label_of (word_at words 2)) (number_of 1 65536 (word_at words 3)) (number_of 1 65536 (word_at words 4)) l h in
     let n : length words ≡ 5 = eqb-true (length words) 5 (no_tail (length words == 5) count) in
-    ap line_words (sym m.8) ∙ same first (same (name_spelled (word_at words 1) m.0 m.4) (same (label_spelled (word_at words 2) m.1 m.5) (same (number_spelled 1 65536 (word_at words 3) m.2 (omega arith) m.6) (same (number_spelled 1 65536 (word_at words 4) m.3 (omega arith) m.7) refl)))) ∙ exactly 5 words n
+    ap line_words (sym m.8) ∙ same first (same (name_spelled (word_at words 1) m.0 m.4) (same (label_spelled One (word_at words 2) m.1 m.5) (same (number_spelled 1 65536 (word_at words 3) m.2 (omega arith) m.6) (same (number_spelled 1 65536 (word_at words 4) m.3 (omega arith) m.7) refl)))) ∙ exactly 5 words n
 
 pub proc_again : (words : List (List ℕ)) (l : Line) → codes "proc" ≡ word_at words 0 → has_right_count form.Proc words ≡ true → said form.Proc words ≡ Some l → line_words l ≡ words
 unfolding line_words
 proc_again words l first count h =
     let m = of_5 (λ a b c d e. line.Proc a b c d e) (name_of (word_at words 1)) (label_of (word_at words 2)) (label_of (word_at words 3)) (privs_of (word_at words 4)) (privs_of (word_at words 5)) l h in
     let n : length words ≡ 6 = eqb-true (length words) 6 (no_tail (length words == 6) count) in
-    ap line_words (sym m.10) ∙ same first (same (name_spelled (word_at words 1) m.0 m.5) (same (label_spelled (word_at words 2) m.1 m.6) (same (label_spelled (word_at words 3) m.2 m.7) (same (privs_spelled (word_at words 4) m.3 m.8) (same (privs_spelled (word_at words 5) m.4 m.9) refl))))) ∙ exactly 6 words n
+    ap line_words (sym m.10) ∙ same first (same (name_spelled (word_at words 1) m.0 m.5) (same (label_spelled One (word_at words 2) m.1 m.6) (same (label_spelled One (word_at words 3) m.2 m.7) (same (privs_spelled (word_at words 4) m.3 m.8) (same (privs_spelled (word_at words 5) m.4 m.9) refl))))) ∙ exactly 6 words n
 
 pub dir_again : (words : List (List ℕ)) (l : Line) → codes "dir" ≡ word_at words 0 → has_right_count form.Dir words ≡ true → said form.Dir words ≡ Some l → line_words l ≡ words
 unfolding line_words
 dir_again words l first count h =
     let m = of_3 (λ a b c. line.Dir a b c) (made_path_of (word_at words 1)) (label_of (word_at words 2)) (state_of (word_at words 3)) l h in
     let n : length words ≡ 4 = eqb-true (length words) 4 (no_tail (length words == 4) count) in
-    ap line_words (sym m.6) ∙ same first (same (made_path_spelled (word_at words 1) m.0 m.3) (same (label_spelled (word_at words 2) m.1 m.4) (same (state_spelled (word_at words 3) m.2 m.5) refl))) ∙ exactly 4 words n
+    ap line_words (sym m.6) ∙ same first (same (made_path_spelled (word_at words 1) m.0 m.3) (same (label_spelled One (word_at words 2) m.1 m.4) (same (state_spelled (word_at words 3) m.2 m.5) refl))) ∙ exactly 4 words n
 
 pub lane_again : (words : List (List ℕ)) (l : Line) → codes "lane" ≡ word_at words 0 → has_right_count form.Lane words ≡ true → said form.Lane words ≡ Some l → line_words l ≡ words
 unfolding line_words
@@ -240,7 +241,7 @@ unfolding line_words
 setlabel_again words l first count h =
     let m = of_3 (λ a b c. line.Setlabel a b c) (name_of (word_at words 1)) (path_of (word_at words 2)) (label_of (word_at words 3)) l h in
     let n : length words ≡ 4 = eqb-true (length words) 4 (no_tail (length words == 4) count) in
-    ap line_words (sym m.6) ∙ same first (same (name_spelled (word_at words 1) m.0 m.3) (same (path_spelled (word_at words 2) m.1 m.4) (same (label_spelled (word_at words 3) m.2 m.5) refl))) ∙ exactly 4 words n
+    ap line_words (sym m.6) ∙ same first (same (name_spelled (word_at words 1) m.0 m.3) (same (path_spelled (word_at words 2) m.1 m.4) (same (label_spelled One (word_at words 3) m.2 m.5) refl))) ∙ exactly 4 words n
 
 pub setpriv_again : (words : List (List ℕ)) (l : Line) → codes "setpriv" ≡ word_at words 0 → has_right_count form.Setpriv words ≡ true → said form.Setpriv words ≡ Some l → line_words l ≡ words
 unfolding line_words
@@ -270,7 +271,7 @@ unfolding line_words
 setself_again words l first count h =
     let m = of_2 (λ a b. line.Setself a b) (name_of (word_at words 1)) (label_of (word_at words 2)) l h in
     let n : length words ≡ 3 = eqb-true (length words) 3 (no_tail (length words == 3) count) in
-    ap line_words (sym m.4) ∙ same first (same (name_spelled (word_at words 1) m.0 m.2) (same (label_spelled (word_at words 2) m.1 m.3) refl)) ∙ exactly 3 words n
+    ap line_words (sym m.4) ∙ same first (same (name_spelled (word_at words 1) m.0 m.2) (same (label_spelled One (word_at words 2) m.1 m.3) refl)) ∙ exactly 3 words n
 
 pub droplic_again : (words : List (List ℕ)) (l : Line) → codes "droplic" ≡ word_at words 0 → has_right_count form.Droplic words ≡ true → said form.Droplic words ≡ Some l → line_words l ≡ words
 unfolding line_words
@@ -291,7 +292,7 @@ unfolding line_words
 ceiling_again words l first count h =
     let m = of_3 (λ a b c. line.Ceiling a b c) (name_of (word_at words 1)) (name_of (word_at words 2)) (label_of (word_at words 3)) l h in
     let n : length words ≡ 4 = eqb-true (length words) 4 (no_tail (length words == 4) count) in
-    ap line_words (sym m.6) ∙ same first (same (name_spelled (word_at words 1) m.0 m.3) (same (name_spelled (word_at words 2) m.1 m.4) (same (label_spelled (word_at words 3) m.2 m.5) refl))) ∙ exactly 4 words n
+    ap line_words (sym m.6) ∙ same first (same (name_spelled (word_at words 1) m.0 m.3) (same (name_spelled (word_at words 2) m.1 m.4) (same (label_spelled One (word_at words 3) m.2 m.5) refl))) ∙ exactly 4 words n
 
 pub readlog_again : (words : List (List ℕ)) (l : Line) → codes "readlog" ≡ word_at words 0 → has_right_count form.Readlog words ≡ true → said form.Readlog words ≡ Some l → line_words l ≡ words
 unfolding line_words

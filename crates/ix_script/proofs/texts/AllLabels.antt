@@ -1,15 +1,17 @@
 -- The one label of a spelling is found among all labels.
-use Rattle.std.proofs.Common.{◌≡◌, ◌≢◌, ℕ, zero, suc, ◌<◌, Bool, true, false, not, ◌&&◌, ◌||◌, ◌==◌, List, [], ◌∷◌, ◌++◌, map, find, Some, None, ◌⊎◌, inl, inr, refl, sym, ap, ◌∙◌, subst, arith}
+use Rattle.std.proofs.Common.{◌≡◌, ◌≢◌, ℕ, zero, suc, ◌+◌, ◌<◌, Bool, true, false, not, ◌&&◌, ◌||◌, ◌==◌, List, [], ◌∷◌, ◌++◌, map, find, Some, None, ◌⊎◌, inl, inr, refl, sym, ap, ◌∙◌, subst, arith}
 use Rattle.std.specs.FinSet as set
 use Rattle.std.specs.FinSet.{contains-remove}
 use Rattle.std.specs.Cmp.{nat_cmp_total, unsigned_tied}
 use Rattle.std.proofs.lemmas.Bool.{eq-eqb, ne_eqb, cases_eq}
 use Rattle.std.specs.Cmp.Lexicographic.{same_text}
-use Rattle.ix_label.specs.Category.{Categories, IsLabel, has, bottom, with}
+use Rattle.ix_label.specs.declared.form.Form.{Form}
+use Rattle.ix_label.specs.Forms.{greatest, IsWithin}
+use Rattle.ix_label.specs.Category.{Categories, has, bottom, with}
 use Rattle.ix_label.specs.Members.{same_members, has-bottom, has-with}
 use Rattle.ix_label.specs.Spelling.{spelling}
 use Rattle.ix_model.specs.world.Naming.{same_bytes}
-use Rattle.ix_script.specs.texts.Labels.{labels_below, is_spelled, label_of}
+use Rattle.ix_script.specs.texts.Labels.{labels_below, is_spelled, label_in}
 use Rattle.ix_model.proofs.tables.Alike.{bytes_itself}
 use Rattle.ix_script.proofs.texts.Names.{both}
 
@@ -125,12 +127,17 @@ find_none test (l ∷ ls) none = elim (bool_cases (test l)) [
 ]
 
 -- the label of a spelling that no other has
-pub label_found : (word : List ℕ) (s : Categories) → IsLabel s → spelling s ≡ word → ((l : Categories) → IsLabel l → spelling l ≡ word → l ≡ s) → label_of word ≡ Some s
-unfolding label_of
-label_found word s small is only =
-    find_one (is_spelled word) s (labels_below 256) (all_there 256 s small.below) (ap (λ t. same_bytes t word) is ∙ bytes_itself word) (λ l a t. only l (record { below = below 256 l a }) (same_text (spelling l) word (sym t)))
+pub label_found : (form : Form) (word : List ℕ) (s : Categories) → IsWithin form s → spelling form s ≡ word
+    → ((l : Categories) → IsWithin form l → spelling form l ≡ word → l ≡ s) → label_in form word ≡ Some s
+unfolding label_in
+label_found form word s small is only =
+    find_one (is_spelled form word) s (labels_below (greatest form + 1)) (all_there (greatest form + 1) s (λ q one. omega (arith, small.below q one)))
+    (ap (λ t. same_bytes t word) is ∙ bytes_itself word)
+    (λ l a t. only l (record { below = λ q one. omega (arith, below (greatest form + 1) l a q one) }) (same_text (spelling form l) word (sym t)))
 
 -- a word that spells no label
-pub label_missing : (word : List ℕ) → ((l : Categories) → IsLabel l → spelling l ≡ word → ⊥) → label_of word ≡ None
-unfolding label_of
-label_missing word none = find_none (is_spelled word) (labels_below 256) (λ l a t. none l (record { below = below 256 l a }) (same_text (spelling l) word (sym t)))
+pub label_missing : (form : Form) (word : List ℕ) → ((l : Categories) → IsWithin form l → spelling form l ≡ word → ⊥) → label_in form word ≡ None
+unfolding label_in
+label_missing form word none =
+    find_none (is_spelled form word) (labels_below (greatest form + 1))
+    (λ l a t. none l (record { below = λ q one. omega (arith, below (greatest form + 1) l a q one) }) (same_text (spelling form l) word (sym t)))

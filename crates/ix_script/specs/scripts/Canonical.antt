@@ -2,6 +2,7 @@
 use Rattle.std.specs.Prelude.{ℕ, Bool, true, false, not, ◌&&◌, List, [], ◌∷◌, ◌++◌, take, codes}
 use Rattle.std.specs.List.{flat_map}
 use Rattle.std.specs.Fmt.{decimal}
+use Rattle.ix_label.specs.declared.form.Form.TheVariants.{One}
 use Rattle.ix_label.specs.Spelling.{spelling}
 use Rattle.ix_model.specs.world.Naming.{same_bytes}
 use Rattle.ix_script.specs.texts.Cutting.{is_skipped}
@@ -16,11 +17,11 @@ unfoldable pub line_words : Line → List (List ℕ)
 line_words line.Skipped = []
 line_words line.Version = codes "ix" ∷ codes "1" ∷ []
 line_words (line.Limit what number) = codes "limit" ∷ what_text what ∷ decimal number ∷ []
-line_words (line.Fs name ceiling blocks inodes) = codes "fs" ∷ name ∷ spelling ceiling ∷ decimal blocks ∷ decimal inodes ∷ []
-line_words (line.Proc name label ceiling cap lic) = codes "proc" ∷ name ∷ spelling label ∷ spelling ceiling ∷ privs_text cap ∷ privs_text lic ∷ []
-line_words (line.Dir path label frozen) = codes "dir" ∷ path_text path ∷ spelling label ∷ state_text frozen ∷ []
+line_words (line.Fs name ceiling blocks inodes) = codes "fs" ∷ name ∷ spelling One ceiling ∷ decimal blocks ∷ decimal inodes ∷ []
+line_words (line.Proc name label ceiling cap lic) = codes "proc" ∷ name ∷ spelling One label ∷ spelling One ceiling ∷ privs_text cap ∷ privs_text lic ∷ []
+line_words (line.Dir path label frozen) = codes "dir" ∷ path_text path ∷ spelling One label ∷ state_text frozen ∷ []
 line_words (line.File path label frozen cap lic bytes) =
-    codes "file" ∷ path_text path ∷ spelling label ∷ state_text frozen ∷ privs_text cap ∷ privs_text lic ∷ payload_text bytes ∷ []
+    codes "file" ∷ path_text path ∷ spelling One label ∷ state_text frozen ∷ privs_text cap ∷ privs_text lic ∷ payload_text bytes ∷ []
 line_words (line.Policy text) = codes "policy" ∷ text ∷ []
 line_words line.Phase = codes "phase" ∷ []
 line_words (line.Lane name) = codes "lane" ∷ name ∷ []
@@ -46,8 +47,8 @@ line_words (line.Exit proc status) = codes "exit" ∷ proc ∷ decimal status �
 line_words (line.Wait proc) = codes "wait" ∷ proc ∷ []
 line_words (line.Labelof proc path) = codes "labelof" ∷ proc ∷ path_text path ∷ []
 line_words (line.Self_ proc) = codes "self" ∷ proc ∷ []
-line_words (line.Setlabel proc path label) = codes "setlabel" ∷ proc ∷ path_text path ∷ spelling label ∷ []
-line_words (line.Setself proc label) = codes "setself" ∷ proc ∷ spelling label ∷ []
+line_words (line.Setlabel proc path label) = codes "setlabel" ∷ proc ∷ path_text path ∷ spelling One label ∷ []
+line_words (line.Setself proc label) = codes "setself" ∷ proc ∷ spelling One label ∷ []
 line_words (line.Freeze proc path) = codes "freeze" ∷ proc ∷ path_text path ∷ []
 line_words (line.Freezeself proc) = codes "freezeself" ∷ proc ∷ []
 line_words (line.Thaw proc path) = codes "thaw" ∷ proc ∷ path_text path ∷ []
@@ -55,7 +56,7 @@ line_words (line.Thawself proc) = codes "thawself" ∷ proc ∷ []
 line_words (line.Setpriv proc path cap lic) = codes "setpriv" ∷ proc ∷ path_text path ∷ privs_text cap ∷ privs_text lic ∷ []
 line_words (line.Droplic proc set) = codes "droplic" ∷ proc ∷ privs_text set ∷ []
 line_words (line.Grant proc to set) = codes "grant" ∷ proc ∷ to ∷ privs_text set ∷ []
-line_words (line.Ceiling proc of_proc label) = codes "ceiling" ∷ proc ∷ of_proc ∷ spelling label ∷ []
+line_words (line.Ceiling proc of_proc label) = codes "ceiling" ∷ proc ∷ of_proc ∷ spelling One label ∷ []
 line_words (line.Pex proc fd) = codes "pex" ∷ proc ∷ fd_text fd ∷ []
 line_words (line.Unpex proc fd) = codes "unpex" ∷ proc ∷ fd_text fd ∷ []
 line_words (line.Readlog proc index) = codes "readlog" ∷ proc ∷ decimal index ∷ []

@@ -1,5 +1,8 @@
 -- The label that a word spells.
-use Rattle.std.specs.Prelude.{ℕ, zero, suc, Bool, List, [], ◌∷◌, ◌++◌, map, find, Option}
+use Rattle.std.specs.Prelude.{ℕ, zero, suc, ◌+◌, Bool, List, [], ◌∷◌, ◌++◌, map, find, Option}
+use Rattle.ix_label.specs.declared.form.Form.{Form}
+use Rattle.ix_label.specs.declared.form.Form.TheVariants.{One}
+use Rattle.ix_label.specs.Forms.{greatest}
 use Rattle.ix_label.specs.Category.{Categories, bottom, with}
 use Rattle.ix_label.specs.Spelling.{spelling}
 use Rattle.ix_model.specs.world.Naming.{same_bytes}
@@ -9,10 +12,14 @@ unfoldable pub labels_below : ℕ → List Categories
 labels_below zero = bottom ∷ []
 labels_below (suc n) = labels_below n ++ map (λ l. with l n) (labels_below n)
 
--- whether the label has that spelling
-abbrev pub is_spelled : List ℕ → Categories → Bool
-is_spelled word l = same_bytes (spelling l) word
+-- whether the label has that spelling in the form
+abbrev pub is_spelled : Form → List ℕ → Categories → Bool
+is_spelled form word l = same_bytes (spelling form l) word
 
--- among all labels, the one of that spelling; it is said so, and never searched
-unfoldable pub label_of : List ℕ → Option Categories
-label_of word = find (is_spelled word) (labels_below 256)
+-- among all labels of the form, the one of that spelling; it is said so, and never searched
+unfoldable pub label_in : Form → List ℕ → Option Categories
+label_in form word = find (is_spelled form word) (labels_below (greatest form + 1))
+
+-- the label of a word: scripts have form One
+abbrev pub label_of : List ℕ → Option Categories
+label_of word = label_in One word

@@ -4,13 +4,13 @@ ghost use Rattle.ix_script.specs.texts.Labels.{label_of};
 ghost use Rattle.ix_script.specs.reader.Readers.{Reads};
 
 use crate::rule::Rule;
-use ix_label::Label;
+use ix_label::{Form, Label};
 
 /// The label of that spelling.
 pub(crate) fn label(word: &[u8]) -> Result<Label, Rule>
     ensures { Reads (λ x. x) result ((kind.Label, word.now) ∷ []) (label_of word.now) }
 {
-    match Label::read(word) {
+    match Label::read(Form::One, word) {
         Ok(label) => {
             label.is_label();
             Ok(label)

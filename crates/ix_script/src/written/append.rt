@@ -1,13 +1,13 @@
-ghost use Rattle.std.specs.Prelude.{◌≡◌, ◌++◌, ◌∷◌, ◌<◌, [], OnOk};
+ghost use Rattle.std.specs.Prelude.{◌≡◌, ◌++◌, ◌∷◌, [], OnOk};
+ghost use Rattle.ix_label.specs.declared.form.Form.TheVariants.{One};
 ghost use Rattle.ix_label.specs.Spelling.{spelling};
 ghost use Rattle.ix_script.specs.texts.Spellings.{fd_text};
 
 use crate::line::FdWord;
 use itoa::Buffer;
-use ix_label::{Label, LabelText, Steps};
+use ix_label::{Form, Label};
 use ix_model::NoMemory;
-use std::marker::Brand;
-use std::sync::ledger::{Blank, Ledger};
+use ix_text::push_label;
 
 /// Bytes at the end.
 pub(crate) fn push(out: &mut Vec<u8>, bytes: &[u8]) -> Result<(), NoMemory>
@@ -47,22 +47,10 @@ pub(crate) fn fd(out: &mut Vec<u8>, fd: &FdWord<'_>) -> Result<(), NoMemory>
     }
 }
 
-/// A label in its one spelling. No looks at labels are counted.
-pub(crate) fn label_text(label: &Label) -> LabelText
-    ensures { result ≡ spelling label.now }
+/// A space and a label in its one spelling.
+pub(crate) fn label_word(out: &mut Vec<u8>, label: &Label) -> Result<(), NoMemory>
+    ensures { OnOk result (out.new.items ≡ out.old.items ++ 32 ∷ spelling One label.now) }
 {
-    spell::<Brand>(label, Blank::new(1))
-}
-
-/// The same, with a counter of its own.
-fn spell<L: Ledger>(label: &Label, blank: Blank) -> LabelText
-    requires name { blank.name ≡ L.name }
-    requires parts { blank.parts ≡ L.parts }
-    requires some { 0 < L.parts }
-    ensures { result ≡ spelling label.now }
-{
-    let mut steps = Steps::<L>::new(blank);
-    let mut text = LabelText::new();
-    label.text_into(&mut text, &mut steps);
-    text
+    push_byte(out, b' ')?;
+    push_label(out, Form::One, label)
 }

@@ -1,5 +1,6 @@
 ghost use Rattle.std.specs.Prelude.{◌≡◌, ◌++◌, ◌∷◌, [], Some, false, slice_get, OnOk, IfOk, codes};
 ghost use Rattle.std.proofs.Common.{option_map};
+ghost use Rattle.ix_label.specs.declared.form.Form.TheVariants.{One};
 ghost use Rattle.ix_label.specs.Spelling.{spelling};
 ghost use Rattle.ix_text.specs.Spellings.{further, privs_text, state_text};
 ghost use Rattle.ix_script.specs.texts.Spellings.{path_text, fd_text, payload_text};
@@ -11,7 +12,7 @@ use crate::packed::Lines;
 use crate::script::Script;
 use crate::values::paths::MadePath;
 use crate::values::payload::Payload;
-use crate::written::append::{fd, label_text, push, push_byte, word};
+use crate::written::append::{fd, label_word, push, push_byte, word};
 use crate::written::payload_text::payload;
 use ix_label::Label;
 use ix_model::{NoMemory, PrivSet};
@@ -29,12 +30,12 @@ fn file(
     lic: PrivSet,
     bytes: &Payload<'_, 1_048_576>,
 ) -> Result<(), NoMemory>
-    ensures { OnOk result (out.new.items ≡ out.old.items ++ (codes "file" ++ further 32 (path_text path.now ∷ spelling label.now ∷ state_text frozen
+    ensures { OnOk result (out.new.items ≡ out.old.items ++ (codes "file" ++ further 32 (path_text path.now ∷ spelling One label.now ∷ state_text frozen
         ∷ privs_text cap ∷ privs_text lic ∷ payload_text bytes.now ∷ []))) }
 {
     push(out, b"file")?;
     word(out, path.as_bytes())?;
-    word(out, label_text(label).as_bytes())?;
+    label_word(out, label)?;
     word(out, state_word(frozen))?;
     word(out, privs_text(cap).as_slice())?;
     word(out, privs_text(lic).as_slice())?;

@@ -6,4 +6,4 @@ abbrev pub invariant-loop-first : goal.invariant-loop-first
 invariant-loop-first l = IsSpelledBelow l.self l.from l.out
 
 abbrev pub decreases-loop-first : goal.decreases-loop-first
-decreases-loop-first l = 256 - l.from
+decreases-loop-first l = 512 - l.from
