@@ -14,3 +14,4 @@ mod InLength
 mod ByShape
 mod Opened
 pub mod Hiding
+pub mod forms

@@ -1,3 +1,4 @@
 pub mod Laws
 pub mod Configs
 pub mod Hiding
+pub mod Forms

@@ -7,6 +7,7 @@ ghost use Rattle.ix_model.specs.declared.call.Mode.{Mode};
 ghost use Rattle.ix_model.specs.declared.call.Keep.{Keep};
 ghost use Rattle.ix_model.specs.declared.privs.PrivSet.{PrivSet};
 ghost use Rattle.ix_iso.specs.Configs.{ConfigsOpenAlike};
+ghost use Rattle.ix_iso.specs.Forms.{FormsStay};
 ghost use Rattle.ix_iso.specs.Laws.{KeepShape, KeepAlike, Isolation, LoweringsAreLogged, OutlinesDecideKinds, IsolationInLength, MostCallsGoByShape};
 
 // ---- equal shapes
@@ -478,4 +479,12 @@ pub fn isolation_in_length()
 /// bytes are as many in both, all lengths are equal.
 pub fn configs_alike()
     ensures alike { ConfigsOpenAlike }
+{}
+
+// ---- the form of labels
+
+/// A history stays in the form of its config and its calls: where these have no category above 255, neither has any label or
+/// ceiling after it, nor any that a reply or a line of the log tells.
+pub fn form_one()
+    ensures stays { FormsStay }
 {}
