@@ -1,6 +1,7 @@
 -- The lines of low entries are the same in the reports of two runs that agree.
 use Rattle.std.proofs.Common.{◌≡◌, ℕ, zero, suc, ◌+◌, List, [], ◌∷◌, take, Some, ap, ◌∙◌, arith, subst, slice_get}
 use Rattle.std.proofs.Common.{option_map}
+use Rattle.ix_label.specs.declared.form.Form.{Form}
 use Rattle.ix_label.specs.Category.{Categories}
 use Rattle.ix_model.specs.world.World.{World, Process, at}
 use Rattle.ix_model.specs.history.Step.{step_of, run}
@@ -19,17 +20,17 @@ use Rattle.ix_host.specs.Hiding.{HidesLines, world_opened}
 use Rattle.ix_replay.specs.report.Report.{lane_name, entry_text, entry_lines}
 
 -- ---- one line
-module _ (l : Categories) (lanes : List (List ℕ)) where
-  one_line : (v w : World) (place : ℕ) (e f : Event) → Alike l v w → Agree l v w place (e ∷ []) (f ∷ []) → Low l v place e → entry_text lanes place v e ≡ entry_text lanes place w f
+module _ (l : Categories) (form : Form) (lanes : List (List ℕ)) where
+  one_line : (v w : World) (place : ℕ) (e f : Event) → Alike l v w → Agree l v w place (e ∷ []) (f ∷ []) → Low l v place e → entry_text form lanes place v e ≡ entry_text form lanes place w f
   one_line v w place e f alike agree low =
       let same = low_is_same l v place e f agree.0 low in
       let told = (alike_events l v w place e f alike agree.0 agree.1).replies low in
       let frames = shape_frames _ _ (shape_events l v w place e f alike.shapes agree.0 agree.1).shapes in
-      λ i. entry_line place (lane_name lanes (same i).seat) (same i) (told.0 i) (told.1 i) (option_map (λ (p : Process). p.label) (at (frames i).processes (same i).pid))
+      λ i. entry_line form place (lane_name lanes (same i).seat) (same i) (told.0 i) (told.1 i) (option_map (λ (p : Process). p.label) (at (frames i).processes (same i).pid))
 
   -- ---- all lines
   lines_along : (v w : World) (place : ℕ) (events others : List Event) → Alike l v w → Agree l v w place events others → (n : ℕ) (e : Event) → slice_get events n ≡ Some e → NoneCrosses l v place (take n events) → Low l (run v place (take n events)) (place + n) e
-      → slice_get (entry_lines lanes place v events) n ≡ slice_get (entry_lines lanes place w others) n
+      → slice_get (entry_lines form lanes place v events) n ≡ slice_get (entry_lines form lanes place w others) n
   lines_along v w place [] others alike agree n e is none low = cc
   lines_along v w place (a ∷ events) [] alike agree n e is none low = absurd agree
   lines_along v w place (a ∷ events) (b ∷ others) alike agree zero e is none low =
@@ -41,10 +42,10 @@ module _ (l : Categories) (lanes : List (List ℕ)) where
       let later : place + suc n ≡ suc place + n = omega arith in
       let there = run (step_of v place a).world (suc place) (take n events) in
       let rest = lines_along (step_of v place a).world (step_of w place b).world (suc place) events others ((alike_events l v w place a b alike agree.0 agree.1).worlds none.0) agree.2 n e is none.1 (subst (λ (k : ℕ). Low l there k e) later low) in
-      subst (λ (k : ℕ). slice_get (entry_lines lanes k (step_of v place a).world events) n ≡ slice_get (entry_lines lanes k (step_of w place b).world others) n) next rest
+      subst (λ (k : ℕ). slice_get (entry_lines form lanes k (step_of v place a).world events) n ≡ slice_get (entry_lines form lanes k (step_of w place b).world others) n) next rest
 
 pub low_lines : (s : List Line) (history : List Event) → HidesLines s history
-low_lines s history l t others lanes agree n e is none low =
+low_lines s history l t others lanes agree n e is none low form =
     let both = alike_runs l (world_opened s) (world_opened t) history others agree in
-    lines_along l (lanes_of s) (world_opened s) (world_opened t) 1 history others both.0 both.1 n e is none low
-    ∙ ap (λ names. slice_get (entry_lines names 1 (world_opened t) others) n) lanes
+    lines_along l form (lanes_of s) (world_opened s) (world_opened t) 1 history others both.0 both.1 n e is none low
+    ∙ ap (λ names. slice_get (entry_lines form names 1 (world_opened t) others) n) lanes

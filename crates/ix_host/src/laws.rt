@@ -1,6 +1,7 @@
 //! What holds of the reports of scripts, and of made sessions. These functions do nothing: each states a law, which is proved.
 ghost use Rattle.ix_host.specs.Laws.{LowLinesAreEqual, Readable};
 
+use ix_label::Form;
 use ix_label::laws::spelled_or_faulty;
 pub use ix_replay::laws::one_history;
 
@@ -14,7 +15,7 @@ pub fn low_lines_are_equal()
 pub fn readable()
     ensures { Readable }
 {
-    spelled_or_faulty(b"0-7");
-    spelled_or_faulty(b"3");
-    spelled_or_faulty(b"5");
+    spelled_or_faulty(Form::One, b"0-7");
+    spelled_or_faulty(Form::One, b"3");
+    spelled_or_faulty(Form::One, b"5");
 }

@@ -4,3 +4,4 @@ pub mod OneEntry
 pub mod Remains
 pub mod SerialHistories
 pub mod Needs
+pub mod Fitted

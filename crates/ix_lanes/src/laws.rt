@@ -1,5 +1,5 @@
 //! What holds of the histories of scripts. These functions do nothing: each states a law, which is proved.
-ghost use Rattle.ix_lanes.specs.histories.Laws.{SerialOne, SerialIsSerial, NeedFits, NeedFitsSoFar};
+ghost use Rattle.ix_lanes.specs.histories.Laws.{SerialOne, SerialIsSerial, HistoriesFit, NeedFits, NeedFitsSoFar};
 ghost use Rattle.ix_lanes.specs.running.Laws.{PhasesAreAll};
 
 /// No script has two serial histories. A history is serial where each entry is of a lane, each lane's entries are those
@@ -21,6 +21,11 @@ pub fn serial_is_serial()
 pub fn need_fits()
     ensures whole { NeedFits }
     ensures so_far { NeedFitsSoFar }
+{}
+
+/// Where the labels of a script's lines fit a form, so do those of the calls of each history that holds its lanes' calls.
+pub fn histories_fit()
+    ensures fit { HistoriesFit }
 {}
 
 /// In all phases of a script together a lane asks for what all its lines ask for.

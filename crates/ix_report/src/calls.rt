@@ -1,8 +1,6 @@
 ghost use Rattle.std.specs.Prelude.{◌≡◌, ◌++◌, OnOk, codes};
 ghost use Rattle.std.specs.Fmt.{decimal};
 ghost use Rattle.ix_model.specs.history.Calls.{op_of};
-ghost use Rattle.ix_label.specs.Forms.{Fits};
-ghost use Rattle.ix_model.specs.history.Spelled.{CallFits};
 ghost use Rattle.ix_label.specs.Spelling.{spelling};
 ghost use Rattle.ix_report.specs.Hex.{hex};
 ghost use Rattle.ix_report.specs.Names.{path_text};
@@ -79,7 +77,6 @@ fn push_with_label(
     pid: Pid,
     label: &Label,
 ) -> Result<(), NoMemory>
-    requires { Fits form label.now }
     ensures stays { line.new.before ≡ line.old.before }
     ensures text { OnOk result (line.new.text ≡ line.old.text ++ (word.now ++ decimal pid.0 ++ codes " " ++ spelling form label.now)) }
 {
@@ -176,7 +173,6 @@ fn push_set_label(
     path: &Path,
     label: &Label,
 ) -> Result<(), NoMemory>
-    requires { Fits form label.now }
     ensures stays { line.new.before ≡ line.old.before }
     ensures text { OnOk result (line.new.text ≡ line.old.text
         ++ (codes "setlabel p" ++ decimal pid.0 ++ codes " " ++ path_text path.now ++ codes " " ++ spelling form label.now)) }
@@ -225,7 +221,6 @@ fn push_ceiling(
     target: Pid,
     label: &Label,
 ) -> Result<(), NoMemory>
-    requires { Fits form label.now }
     ensures stays { line.new.before ≡ line.old.before }
     ensures text { OnOk result (line.new.text ≡ line.old.text
         ++ (codes "ceiling p" ++ decimal pid.0 ++ codes " p" ++ decimal target.0 ++ codes " " ++ spelling form label.now)) }
@@ -238,7 +233,6 @@ fn push_ceiling(
 /// A call: the command's word, the caller, and the arguments in the command's order.
 #[tactic(auto, unfolding(crate::specs::CallText::call_text))]
 pub fn push_call(line: &mut Line, form: Form, pid: Pid, call: &Call<'_>) -> Result<(), NoMemory>
-    requires { CallFits form (op_of call.now) }
     ensures stays { line.new.before ≡ line.old.before }
     ensures text { OnOk result (line.new.text ≡ line.old.text ++ call_text form pid.0 (op_of call.now)) }
 {

@@ -1,4 +1,3 @@
-ghost use Rattle.ix_label.specs.Forms.{Fits};
 ghost use Rattle.ix_label.specs.Spelling.{spelling};
 ghost use Rattle.std.specs.Prelude.{◌≡◌, ◌++◌, [], ◌∷◌, OnOk, OnErr};
 
@@ -63,7 +62,6 @@ impl Line {
 
     /// Writes a label at the line's end, in its one spelling of the form.
     pub fn push_label(&mut self, form: Form, label: &Label) -> Result<(), NoMemory>
-        requires { Fits form label.now }
         ensures stays { self.new.before ≡ self.old.before }
         ensures text { OnOk result (self.new.text ≡ self.old.text ++ spelling form label.now) }
     {

@@ -1,8 +1,6 @@
 ghost use Rattle.std.specs.Prelude.{◌≡◌, ◌++◌, OnOk, codes};
 ghost use Rattle.std.specs.Fmt.{decimal};
 ghost use Rattle.ix_model.specs.rows.Refusals.{number_of};
-ghost use Rattle.ix_label.specs.Forms.{Fits};
-ghost use Rattle.ix_model.specs.history.Spelled.{AuditFits, ReplyFits};
 ghost use Rattle.ix_label.specs.Spelling.{spelling};
 ghost use Rattle.ix_report.specs.Hex.{hex};
 ghost use Rattle.ix_report.specs.Names.{name_text};
@@ -107,7 +105,6 @@ fn push_whole(
     label: &Label,
     lic: PrivSet,
 ) -> Result<(), NoMemory>
-    requires { Fits form label.now }
     ensures stays { line.new.before ≡ line.old.before }
     ensures text { OnOk result (line.new.text ≡ line.old.text
         ++ (codes " = whole p" ++ decimal pid.0 ++ codes " " ++ spelling form label.now ++ codes " " ++ privs_text lic)) }
@@ -155,7 +152,6 @@ fn push_act(line: &mut Line, audit: &AuditLine) -> Result<(), NoMemory>
 /// An audit line, without its line feed.
 #[tactic(auto, unfolding(crate::specs::ReplyText::audit_text))]
 pub fn push_audit(line: &mut Line, form: Form, audit: &AuditLine) -> Result<(), NoMemory>
-    requires { AuditFits form audit.now }
     ensures stays { line.new.before ≡ line.old.before }
     ensures text { OnOk result (line.new.text ≡ line.old.text ++ audit_text form audit.entry.now) }
 {
@@ -170,7 +166,6 @@ pub fn push_audit(line: &mut Line, form: Form, audit: &AuditLine) -> Result<(), 
 /// A reply after its sign; of one that so many bytes were read, with these bytes.
 #[tactic(auto, unfolding(crate::specs::ReplyText::reply_text))]
 pub fn push_reply(line: &mut Line, form: Form, reply: &Reply, bytes: &[u8]) -> Result<(), NoMemory>
-    requires { ReplyFits form reply.now }
     ensures stays { line.new.before ≡ line.old.before }
     ensures text { OnOk result (line.new.text ≡ line.old.text ++ (codes " = " ++ reply_text form reply.now bytes.now)) }
 {

@@ -1,8 +1,6 @@
 ghost use Rattle.std.specs.Prelude.{◌≡◌, ℕ, ◌++◌, OnOk, OnErr};
 ghost use Rattle.std.specs.Option.{option_copied};
 ghost use Rattle.ix_model.specs.history.Calls.{op_of};
-ghost use Rattle.ix_label.specs.Forms.{Fits};
-ghost use Rattle.ix_model.specs.history.Spelled.{AuditFits, CallFits, ReplyFits, SeenFits};
 ghost use Rattle.ix_model.specs.history.Made.{entry};
 ghost use Rattle.ix_report.specs.ReplyText.{AreBytesOf};
 ghost use Rattle.ix_report.specs.LineText.{audit_line, entry_line, head_line, object_line, process_line, seen_text, tail_line};
@@ -47,9 +45,6 @@ pub fn entry_line(
     label: Option<&Label>,
 ) -> Result<(), NoMemory>
     requires bytes { AreBytesOf reply.now bytes.now }
-    requires call { CallFits form (op_of call.now) }
-    requires reply { ReplyFits form reply.now }
-    requires label { SeenFits form (option_copied label) }
     ensures ok { (seat : ℕ) → OnOk result (out.new.items ≡ out.old.items
         ++ entry_line form place lane.now (entry seat number pid (op_of call.now)) reply.now bytes.now (option_copied label.entry)) }
     ensures err { OnErr result (out.new.items ≡ out.old.items) }
@@ -68,7 +63,6 @@ pub fn object_line(
     number: u32,
     view: &ObjView,
 ) -> Result<(), NoMemory>
-    requires { Fits form view.now.label }
     ensures ok { OnOk result (out.new.items ≡ out.old.items ++ object_line form number view.now) }
     ensures err { OnErr result (out.new.items ≡ out.old.items) }
 {
@@ -84,7 +78,6 @@ pub fn process_line(
     pid: Pid,
     view: &ProcView,
 ) -> Result<(), NoMemory>
-    requires { Fits form view.now.label }
     ensures ok { OnOk result (out.new.items ≡ out.old.items ++ process_line form pid.0 view.now) }
     ensures err { OnErr result (out.new.items ≡ out.old.items) }
 {
@@ -95,7 +88,6 @@ pub fn process_line(
 
 /// Appends a line of the audit log. After `NoMemory` the bytes are as they were.
 pub fn audit_line(out: &mut Vec<u8>, form: Form, line: &AuditLine) -> Result<(), NoMemory>
-    requires { AuditFits form line.now }
     ensures ok { OnOk result (out.new.items ≡ out.old.items ++ audit_line form line.entry.now) }
     ensures err { OnErr result (out.new.items ≡ out.old.items) }
 {
@@ -117,7 +109,6 @@ pub fn tail(out: &mut Vec<u8>, form: Form, entries: u32, lines: u32) -> Result<(
 
 /// The label of the caller's record, or that there is none.
 fn push_seen(line: &mut Line, form: Form, label: Option<&Label>) -> Result<(), NoMemory>
-    requires { SeenFits form (option_copied label) }
     ensures stays { line.new.before ≡ line.old.before }
     ensures text { OnOk result (line.new.text ≡ line.old.text ++ seen_text form (option_copied label.entry)) }
 {
@@ -141,9 +132,6 @@ fn push_entry(
     bytes: &[u8],
     label: Option<&Label>,
 ) -> Result<(), NoMemory>
-    requires call { CallFits form (op_of call.now) }
-    requires reply { ReplyFits form reply.now }
-    requires label { SeenFits form (option_copied label) }
     ensures stays { line.new.before ≡ line.old.before }
     ensures text { (seat : ℕ) → OnOk result (line.new.text ≡ line.old.text
         ++ entry_line form place lane.now (entry seat number pid (op_of call.now)) reply.now bytes.now (option_copied label.entry)) }
@@ -162,7 +150,6 @@ fn push_entry(
 /// The line of an object.
 #[tactic(auto, unfolding(crate::specs::LineText::object_line))]
 fn push_object(line: &mut Line, form: Form, number: u32, view: &ObjView) -> Result<(), NoMemory>
-    requires { Fits form view.now.label }
     ensures stays { line.new.before ≡ line.old.before }
     ensures text { OnOk result (line.new.text ≡ line.old.text ++ object_line form number view.now) }
 {
@@ -179,7 +166,6 @@ fn push_object(line: &mut Line, form: Form, number: u32, view: &ObjView) -> Resu
 /// The line of a process.
 #[tactic(auto, unfolding(crate::specs::LineText::process_line))]
 fn push_process(line: &mut Line, form: Form, pid: Pid, view: &ProcView) -> Result<(), NoMemory>
-    requires { Fits form view.now.label }
     ensures stays { line.new.before ≡ line.old.before }
     ensures text { OnOk result (line.new.text ≡ line.old.text ++ process_line form pid.0 view.now) }
 {
@@ -195,7 +181,6 @@ fn push_process(line: &mut Line, form: Form, pid: Pid, view: &ProcView) -> Resul
 /// A line of the audit log.
 #[tactic(auto, unfolding(crate::specs::LineText::audit_line))]
 fn push_audit_line(line: &mut Line, form: Form, audit: &AuditLine) -> Result<(), NoMemory>
-    requires { AuditFits form audit.now }
     ensures stays { line.new.before ≡ line.old.before }
     ensures text { OnOk result (line.new.text ≡ line.old.text ++ audit_line form audit.entry.now) }
 {

@@ -7,3 +7,5 @@ pub mod Readings
 pub mod FirstWords
 pub mod FormWords
 pub mod Faultless
+pub mod Fitting
+pub mod EachLine

@@ -14,3 +14,4 @@ pub mod Told
 pub mod Packing
 pub mod Walking
 pub mod Summing
+pub mod Fitted

@@ -3,6 +3,7 @@ pub mod Forms
 pub mod Before
 pub mod Rules
 pub mod Said
+pub mod Fits
 pub mod Faults
 pub mod Roles
 pub mod RuleTexts

@@ -1,6 +1,6 @@
-//! Laws of the canonical text, each a contract of its own.
+//! Laws of scripts and of their canonical text, each a contract of its own.
 
-ghost use Rattle.ix_script.specs.scripts.Laws.{ReadsBack, OneByteMore, LineStays, NoShorterPayload};
+ghost use Rattle.ix_script.specs.scripts.Laws.{ReadsBack, OneByteMore, LineStays, ScriptsFit, NoShorterPayload};
 
 /// Does nothing: its contract is the law that the canonical text of a script that was read is
 /// read as the same script, where it has at most 16,777,216 bytes.
@@ -24,4 +24,10 @@ pub fn line_stays()
 /// shortest one.
 pub fn no_shorter_payload()
     ensures { NoShorterPayload }
+{}
+
+/// Does nothing: its contract is the law that the labels of a script that was read fit its form, as
+/// do the labels and ceilings of its config.
+pub fn scripts_fit()
+    ensures { ScriptsFit }
 {}

@@ -2,7 +2,7 @@ use crate::cutting::words::NameWord;
 use crate::values::paths::{MadePath, PathWord};
 use crate::values::payload::Payload;
 use crate::values::policy::PolicyText;
-use ix_label::Label;
+use ix_label::{Form, Label};
 use ix_model::{Mode, PrivSet};
 
 /// What a `limit` line limits.
@@ -36,8 +36,10 @@ pub enum KeepWord<'a> {
 pub enum Line<'a> {
     /// An empty line, or one that begins with `#`.
     Skipped,
-    /// `ix 1`
-    Version,
+    /// `ix 1` or `ix 2`: the form in which labels are spelled.
+    Version {
+        form: Form,
+    },
     Limit {
         what: What,
         number: u32,

@@ -2,21 +2,24 @@ ghost use Rattle.std.specs.Prelude.{◌≡◌, ◌++◌, ◌∷◌, ◌+◌, ◌
 ghost use Rattle.ix_script.specs.scripts.Canonical.{has_one_spelling, line_text, may_be_respelled};
 ghost use Rattle.ix_script.specs.lines.Forms.{form_of, places};
 ghost use Rattle.ix_script.specs.lines.Kinds.{places_fault};
+ghost use Rattle.ix_script.specs.lines.Before.{form_told};
 ghost use Rattle.ix_script.specs.lines.Said.{line_of, said_by_words};
 ghost use Rattle.std.proofs.Common.{option_map};
 ghost use Rattle.ix_script.specs.lines.Roles.{header_only, role_of};
 ghost use Rattle.ix_script.specs.scripts.Need.{need};
 ghost use Rattle.ix_script.specs.scripts.Packed.{IsLine, IsSaid, begin_at, between, line_in};
 
+use crate::before::header::form_by;
 use crate::cost::cost_of_line;
 use crate::cutting::cut::Words;
 use crate::cutting::first_word::form_of;
-use crate::cutting::words::{begins_with_text, is};
+use crate::cutting::words::begins_with_text;
 use crate::forms::line_by_form::line_by_form;
 use crate::line::Line;
 use crate::role::{Role, role_of};
-use crate::rules::{is_policy_line, is_skipped};
+use crate::rules::{is_policy_line, is_skipped, version_of};
 use crate::values::policy::PolicyText;
+use ix_label::Form as LabelForm;
 use ix_model::NoMemory;
 use std::alloc::Global;
 use std::marker::Model;
@@ -24,6 +27,8 @@ use std::marker::Model;
 /// Lines, each of which breaks no rule. Their texts are kept, and contracts see what they say.
 #[derive(Drop)]
 pub(crate) struct Lines {
+    /// The form in which their labels are spelled.
+    form: LabelForm,
     /// The texts of all lines in order, without line feeds.
     text: Vec<u8>,
     /// Where in it the text of each line ends.
@@ -38,6 +43,8 @@ impl Model for Lines {
     ghost use Rattle.std.specs.Prelude.{List};
     ghost use Rattle.std.specs.Coded.{codes};
     ghost use Rattle.ix_label.specs.contracts.label.Label as label_type;
+    ghost use Rattle.std.specs.Prelude.{◌≡◌};
+    ghost use Rattle.ix_script.specs.lines.Before.{form_told};
     ghost use Rattle.ix_script.specs.scripts.Packed.{AreLines, AreSummed, held};
     ghost use Rattle.ix_script.specs.declared.line.Line.{Line};
 
@@ -45,20 +52,21 @@ impl Model for Lines {
 
     ghost coded = { Prim.hlevel (codes, label_type.the_row.coded) };
 
-    ghost view = { λ l. held 0 l.text.items l.ends.items };
+    ghost view = { λ l. held l.form 0 l.text.items l.ends.items };
 
-    ghost invariant = { λ l. AreLines 0 l.text.items l.ends.items × AreSummed (held 0 l.text.items l.ends.items) l.roles.items l.need };
+    ghost invariant = { λ l. AreLines l.form 0 l.text.items l.ends.items × AreSummed (held l.form 0 l.text.items l.ends.items) l.roles.items l.need
+        × (l.form ≡ form_told (held l.form 0 l.text.items l.ends.items)) };
 }
 
 /// What the words of a line say that breaks no rule.
-fn said_by_words<'a>(words: &Words<'a>) -> Line<'a>
-    requires { IsSaid words.now }
-    ensures { said_by_words words.now ≡ Some result }
+fn said_by_words<'a>(labels: LabelForm, words: &Words<'a>) -> Line<'a>
+    requires { IsSaid labels words.now }
+    ensures { said_by_words labels words.now ≡ Some result }
 {
     let Some(form) = form_of(words.get(0)) else {
         unreachable!();
     };
-    match line_by_form(form, words) {
+    match line_by_form(labels, form, words) {
         Ok(line) => line,
         Err(_) => unreachable!(),
     }
@@ -66,9 +74,9 @@ fn said_by_words<'a>(words: &Words<'a>) -> Line<'a>
 
 /// What a text says that breaks no rule.
 #[tactic(auto, unfolding(crate::specs::lines::Said::line_of))]
-fn said(text: &[u8]) -> Line<'_>
-    requires { IsLine text.now }
-    ensures { line_of text.now ≡ Some result }
+fn said(labels: LabelForm, text: &[u8]) -> Line<'_>
+    requires { IsLine labels text.now }
+    ensures { line_of labels text.now ≡ Some result }
 {
     if is_skipped(text) {
         return Line::Skipped;
@@ -78,12 +86,14 @@ fn said(text: &[u8]) -> Line<'_>
             text: PolicyText::of_line(text),
         };
     }
-    if is(text, b"ix 1") {
-        return Line::Version;
+    match version_of(text) {
+        Some(form) => Line::Version { form },
+        None => {
+            let mut words = Words::none();
+            words.cut(text);
+            said_by_words(labels, &words)
+        }
     }
-    let mut words = Words::none();
-    words.cut(text);
-    said_by_words(&words)
 }
 
 /// Whether a line of that text has no other spelling: only a skipped line and one with a payload may have one.
@@ -142,6 +152,7 @@ impl Lines {
             return Err(NoMemory);
         };
         Ok(Lines {
+            form: LabelForm::One,
             text,
             ends,
             roles,
@@ -155,6 +166,24 @@ impl Lines {
         self.ends.as_slice().len()
     }
 
+    /// The form in which their labels are spelled: the first line tells it.
+    pub fn form(&self) -> LabelForm
+        ensures { result ≡ form_told self.now }
+    {
+        self.form
+    }
+
+    /// The same with a line more at the end.
+    fn form_with(&self, line: &Line<'_>) -> LabelForm
+        ensures { result ≡ form_told (self.now ++ line.now ∷ []) }
+    {
+        if self.len() == 0 {
+            form_by(line)
+        } else {
+            self.form
+        }
+    }
+
     /// How many bytes the texts have, with a line feed each: no fewer than the canonical text has.
     pub fn room(&self) -> usize {
         self.text.len().saturating_add(self.ends.len())
@@ -162,7 +191,7 @@ impl Lines {
 
     /// The text of the line at an index from 0; `None` exactly past the end.
     fn text_at(&self, i: usize) -> Option<&[u8]>
-        ensures { MatchOption result (slice_get self.now i ≡ None) (λ text. IsLine text.now × (slice_get self.now i ≡ Some (line_in text.now))) }
+        ensures { MatchOption result (slice_get self.now i ≡ None) (λ text. IsLine (form_told self.now) text.now × (slice_get self.now i ≡ Some (line_in (form_told self.now) text.now))) }
     {
         let ends = self.ends.as_slice();
         if i >= ends.len() {
@@ -177,12 +206,12 @@ impl Lines {
         ensures { result ≡ slice_get self.now i }
     {
         let text = self.text_at(i)?;
-        Some(said(text))
+        Some(said(self.form, text))
     }
 
     /// The canonical text of the line at an index from 0, where it is the text that was read. The line isn't made for it.
     pub fn canonical_text(&self, i: usize) -> Option<&[u8]>
-        ensures { IfSome result (λ text. option_map line_text (slice_get self.now i) ≡ Some text.now) }
+        ensures { IfSome result (λ text. option_map (line_text (form_told self.now)) (slice_get self.now i) ≡ Some text.now) }
     {
         let text = self.text_at(i)?;
         if has_one_spelling(text) {
@@ -196,10 +225,10 @@ impl Lines {
     /// for skipped lines and those with a payload.
     pub fn text_and_line(&self, i: usize) -> Option<(&[u8], Line<'_>)>
         ensures line { option_map (λ p. p.1) result ≡ slice_get self.now i }
-        ensures text { IfSome result (λ p. may_be_respelled p.1 ≡ false → line_text p.1 ≡ p.0.now) }
+        ensures text { IfSome result (λ p. may_be_respelled p.1 ≡ false → line_text (form_told self.now) p.1 ≡ p.0.now) }
     {
         let text = self.text_at(i)?;
-        Some((text, said(text)))
+        Some((text, said(self.form, text)))
     }
 
     /// What the line at an index from 0 is for; `None` exactly past the end. The line isn't made for it.
@@ -228,11 +257,12 @@ impl Lines {
 
     /// One line more, which the text says. After `NoMemory` the lines are as they were.
     pub fn push(&mut self, text: &[u8], line: &Line<'_>) -> Result<(), NoMemory>
-        requires faultless { IsLine text.now }
-        requires said { line_in text.now ≡ line.now }
+        requires faultless { IsLine (form_told (self.old ++ line.now ∷ [])) text.now }
+        requires said { line_in (form_told (self.old ++ line.now ∷ [])) text.now ≡ line.now }
         requires few { length self.old + 1 < 2 ^ 32 }
         ensures { OnOk result (self.new ≡ self.old ++ line.now ∷ []) }
     {
+        let form = self.form_with(line);
         let Ok(end) = u32::try_from(self.text.as_slice().len() + text.len()) else {
             return Err(NoMemory);
         };
@@ -249,6 +279,7 @@ impl Lines {
             return Err(NoMemory);
         };
         self.need += cost_of_line(line);
+        self.form = form;
         Ok(())
     }
 }

@@ -9,6 +9,7 @@ use crate::line::Line;
 use crate::packed::Lines;
 use crate::values::payload::Payload;
 use bitflags::Flags;
+use ix_label::Form;
 use ix_model::{Bytes, Config, FsSpec, Limits, List, NoMemory, ObjSpec, PrivSet, ProcSpec};
 use std::alloc::Global;
 
@@ -100,11 +101,11 @@ fn add_object(alloc: Global, objects: &mut List<ObjSpec>, line: &Line<'_>) -> Re
 }
 
 /// Adds the file system that is there where none is told.
-fn add_default(fss: &mut List<FsSpec>) -> Result<(), NoMemory>
-    ensures { OnOk result (fss.new ≡ or_default fss.old) }
+fn add_default(form: Form, fss: &mut List<FsSpec>) -> Result<(), NoMemory>
+    ensures { OnOk result (fss.new ≡ or_default form fss.old) }
 {
     if fss.len() == 0 {
-        fss.push(default_fs())?;
+        fss.push(default_fs(form))?;
     }
     Ok(())
 }
@@ -162,7 +163,7 @@ pub(crate) fn config(alloc: Global, lines: &Lines) -> Result<Config, NoMemory>
     ensures { IfOk result (λ c. c ≡ config_of lines.now) }
 {
     let mut plan = Plan::of(alloc, lines)?;
-    add_default(&mut plan.fss)?;
+    add_default(lines.form(), &mut plan.fss)?;
     Ok(Config {
         fss: plan.fss,
         limits: plan.limits,

@@ -5,7 +5,7 @@ ghost use Rattle.ix_script.specs.lines.Before.{commands};
 ghost use Rattle.ix_script.specs.lines.Faults.{fault_from, fault_of, line_fault};
 ghost use Rattle.ix_script.specs.texts.Lines.{cut, lines_of};
 ghost use Rattle.ix_script.specs.reader.Readers.{HasCause, LineMore};
-ghost use Rattle.ix_script.specs.scripts.Scripts.{lines_said, script_of, config_of};
+ghost use Rattle.ix_script.specs.scripts.Scripts.{form_in, lines_said, script_of, config_of};
 ghost use Rattle.ix_script.specs.reader.Told.{DraftTold};
 
 use crate::before::draft::Draft;
@@ -64,7 +64,7 @@ fn draft_of<'a, L: Ledger>(
     ensures told { IfOk result (λ d. DraftTold d) }
     ensures valid { IfOk result (λ d. is_valid (config_of d.lines) ≡ true) }
     ensures faultless { IfOk result (λ d. fault_from [] (lines_of bytes.now) ≡ None) }
-    ensures said { IfOk result (λ d. lines_said (lines_of bytes.now) ≡ Some d.lines) }
+    ensures said { IfOk result (λ d. lines_said (form_in (lines_of bytes.now)) (lines_of bytes.now) ≡ Some d.lines) }
     ensures few { IfOk result (λ d. length d.lines ≤ 16777216) }
     ensures few_commands { IfOk result (λ d. commands d.lines ≤ 200000) }
     ensures fail { IfErr result (λ e. HasCause e (fault_from [] (lines_of bytes.now))) }

@@ -16,7 +16,7 @@ impl Rule {
     pub const EMPTY_WORD: Rule = Rule(4);
     /// A quote is not closed.
     pub const OPEN_QUOTE: Rule = Rule(5);
-    /// The first line is not `ix 1`.
+    /// The first line is not `ix 1` or `ix 2`.
     pub const NO_VERSION: Rule = Rule(6);
     /// The command is unknown.
     pub const UNKNOWN_COMMAND: Rule = Rule(7);
@@ -74,7 +74,7 @@ fn first_rule_text(rule: u8) -> &'static [u8]
         3 => b"a byte is not printable",
         4 => b"a word is empty",
         5 => b"a quote is not closed",
-        6 => b"the first line is not ix 1",
+        6 => b"the first line is not ix 1 or ix 2",
         7 => b"the command is unknown",
         8 => b"a header line stands after a phase",
         _ => b"a line stands outside a lane",

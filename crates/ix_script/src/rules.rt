@@ -4,7 +4,9 @@ ghost use Rattle.ix_model.specs.opening.Valid.{is_within};
 ghost use Rattle.ix_script.specs.texts.Cutting.{words_of, is_skipped, is_policy_line, policy_text};
 ghost use Rattle.ix_script.specs.lines.Faults.{text_fault, words_fault, stand_fault, names_fault, said_fault, form_fault, command_fault, policy_fault, first_line_fault, body_fault, line_fault};
 ghost use Rattle.ix_script.specs.reader.Readers.{Finds, Tells};
-ghost use Rattle.ix_script.specs.lines.Said.{said, said_by_words, line_of};
+ghost use Rattle.ix_script.specs.lines.Before.{form_told};
+ghost use Rattle.ix_script.specs.lines.Said.{said, said_by_words, version_of, line_of};
+ghost use Rattle.ix_label.specs.declared.form.Form.TheVariants.{One};
 ghost use Rattle.ix_script.specs.reader.Told.{DraftTold};
 ghost use Rattle.ix_script.specs.declared.line.Line.TheVariants as line;
 
@@ -17,7 +19,7 @@ use crate::forms::line_by_form::line_by_form;
 use crate::line::Line;
 use crate::rule::Rule;
 use crate::values::policy::PolicyText;
-use ix_label::Steps;
+use ix_label::{Form as LabelForm, Steps};
 use std::sync::ledger::Ledger;
 
 fn all_printable(text: &[u8]) -> bool
@@ -87,16 +89,29 @@ fn check_first_words(text: &[u8]) -> Result<(), Rule>
     check_words(&words)
 }
 
+/// `ix 1` and `ix 2`: the form in which the labels of a script are spelled. `None` exactly for other texts.
+#[tactic(auto, unfolding(crate::specs::lines::Said::version_of))]
+pub(crate) fn version_of(text: &[u8]) -> Option<LabelForm>
+    ensures { result ≡ version_of text.now }
+{
+    if is(text, b"ix 1") {
+        Some(LabelForm::One)
+    } else if is(text, b"ix 2") {
+        Some(LabelForm::Two)
+    } else {
+        None
+    }
+}
+
 /// Line 1: rules 4 to 6.
 #[tactic(auto, unfolding(crate::specs::lines::Faults::first_line_fault))]
 fn first_line(text: &[u8]) -> Result<Line<'_>, Rule>
-    ensures { Tells [] result (first_line_fault text.now) (line_of text.now) }
+    ensures { Tells [] result (first_line_fault text.now) (line_of One text.now) }
 {
     check_first_words(text)?;
-    if is(text, b"ix 1") {
-        Ok(Line::Version)
-    } else {
-        Err(Rule::NO_VERSION)
+    match version_of(text) {
+        Some(form) => Ok(Line::Version { form }),
+        None => Err(Rule::NO_VERSION),
     }
 }
 
@@ -170,10 +185,10 @@ impl<'a> Draft<'a> {
         steps: &mut Steps<L>,
     ) -> Result<Line<'a>, Rule>
         requires told { DraftTold self.now }
-        ensures { Tells self.now.lines result (form_fault self.now.lines form words.now) (said form words.now) }
+        ensures { Tells self.now.lines result (form_fault self.now.lines form words.now) (said (form_told self.now.lines) form words.now) }
     {
         self.check_stand(form, words)?;
-        let said = line_by_form(form, words);
+        let said = line_by_form(self.lines.form(), form, words);
         if let Ok(line) = &said {
             self.check_names(form, words)?;
             self.check_said(line, steps)?;
@@ -189,7 +204,7 @@ impl<'a> Draft<'a> {
         steps: &mut Steps<L>,
     ) -> Result<Line<'a>, Rule>
         requires told { DraftTold self.now }
-        ensures { Tells self.now.lines result (command_fault self.now.lines words.now) (said_by_words words.now) }
+        ensures { Tells self.now.lines result (command_fault self.now.lines words.now) (said_by_words (form_told self.now.lines) words.now) }
     {
         check_words(words)?;
         match form_of(words.get(0)) {
@@ -222,7 +237,7 @@ impl<'a> Draft<'a> {
     #[tactic(auto, unfolding(crate::specs::lines::Faults::body_fault))]
     fn body_line<L: Ledger>(&self, text: &'a [u8], steps: &mut Steps<L>) -> Result<Line<'a>, Rule>
         requires told { DraftTold self.now }
-        ensures { Tells self.now.lines result (body_fault self.now.lines text.now) (line_of text.now) }
+        ensures { Tells self.now.lines result (body_fault self.now.lines text.now) (line_of (form_told self.now.lines) text.now) }
     {
         if self.lines.len() == 0 {
             return first_line(text);
@@ -246,7 +261,7 @@ impl<'a> Draft<'a> {
         steps: &mut Steps<L>,
     ) -> Result<Line<'a>, Rule>
         requires told { DraftTold self.now }
-        ensures { Tells self.now.lines result (line_fault self.now.lines text.now) (line_of text.now) }
+        ensures { Tells self.now.lines result (line_fault self.now.lines text.now) (line_of (form_told self.now.lines) text.now) }
     {
         check_text(text)?;
         self.body_line(text, steps)

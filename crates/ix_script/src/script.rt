@@ -2,7 +2,7 @@ ghost use Rattle.std.specs.Prelude.{◌≡◌, ◌≤◌, ◌-◌, ◌<◌, ◌=
 ghost use Rattle.ix_model.specs.opening.Valid.{is_valid};
 ghost use Rattle.std.proofs.Common.{option_map};
 ghost use Rattle.std.specs.Option.{option_map_or};
-ghost use Rattle.ix_script.specs.lines.Before.{lanes_of, commands, is_policy};
+ghost use Rattle.ix_script.specs.lines.Before.{form_told, lanes_of, commands, is_policy};
 ghost use Rattle.ix_script.specs.lines.Roles.{role_of};
 ghost use Rattle.ix_script.specs.scripts.Need.{need};
 ghost use Rattle.ix_script.specs.scripts.Scripts.{config_of, policy_told, policy_of};
@@ -13,6 +13,7 @@ use crate::line::Line;
 use crate::packed::Lines;
 use crate::plan::config;
 use crate::role::Role;
+use ix_label::Form;
 use ix_model::{Config, List, Name, NoMemory};
 use std::alloc::Global;
 use std::marker::Model;
@@ -86,6 +87,13 @@ impl Script {
             Some(name) => Some(name.as_bytes()),
             None => None,
         }
+    }
+
+    /// The form in which its labels are spelled: line 1 tells it.
+    pub fn form(&self) -> Form
+        ensures { result ≡ form_told self.now }
+    {
+        self.lines.form()
     }
 
     /// How many lines it has: at most 200,000 of them are commands.

@@ -1,15 +1,14 @@
 -- A line never breaks rule 1, that a script isn't too long: this is said of the whole input.
-use Rattle.std.proofs.Common.{◌≡◌, ℕ, ◌+◌, ◌==◌, not, Bool, true, false, List, [], ◌∷◌, ◌++◌, length, Option, Some, None, refl, sym, ap, ◌∙◌, if◌then◌else◌, unwrap_or, nat_lt, codes}
+use Rattle.std.proofs.Common.{◌≡◌, ℕ, ◌+◌, ◌==◌, not, Bool, true, false, List, [], ◌∷◌, ◌++◌, length, Option, Some, None, is_none, refl, sym, ap, ◌∙◌, if◌then◌else◌, unwrap_or, nat_lt}
 use Rattle.std.specs.List.{list_all, list_any}
 use Rattle.std.specs.Option.{option_or, option_map_or}
 use Rattle.std.proofs.lemmas.Bool.{and_parts, not-true}
-use Rattle.ix_model.specs.world.Naming.{same_bytes}
 use Rattle.ix_script.specs.texts.Cutting.{is_empty, words_of, word_at, is_skipped, is_policy_line, policy_text}
 use Rattle.ix_script.specs.lines.Kinds.{Kind, Place, place_rules, first_broken, places_fault}
 use Rattle.ix_script.specs.lines.Forms.{form_of, places, has_right_count}
-use Rattle.ix_script.specs.lines.Before.{has_policy, in_body}
+use Rattle.ix_script.specs.lines.Before.{form_told, has_policy, in_body}
 use Rattle.ix_script.specs.lines.Rules.{first_of, is_too_long, is_unprintable, has_empty_word, has_open_quote, is_late, is_outside, is_given_twice, names_unknown, is_above, misfits, crowds, is_out_of_order, is_one_too_many, lacks_policy}
-use Rattle.ix_script.specs.lines.Said.{said, line_of}
+use Rattle.ix_script.specs.lines.Said.{said, version_of, line_of}
 use Rattle.ix_script.specs.texts.Lines.{lines_of}
 use Rattle.ix_script.specs.lines.Faults.{text_fault, words_fault, stand_fault, names_fault, said_fault, form_fault, command_fault, policy_fault, first_line_fault, body_fault, line_fault, or_next, fault_from, fault_of}
 use Rattle.ix_script.specs.declared.line.Line.{Line}
@@ -68,21 +67,21 @@ places_one ps = broken_one place_rules ps refl
 first_line_one : (text : List ℕ) → is_one (first_line_fault text) ≡ false
 unfolding first_line_fault
 first_line_one text =
-    or_one (if is_policy_line text then None else words_fault (words_of text)) (first_of ((6, not (same_bytes text (codes "ix 1"))) ∷ []))
+    or_one (if is_policy_line text then None else words_fault (words_of text)) (first_of ((6, is_none (version_of text)) ∷ []))
     (if_one (is_policy_line text) None (words_fault (words_of text)) refl (words_one (words_of text)))
-    (first_one ((6, not (same_bytes text (codes "ix 1"))) ∷ []) refl)
+    (first_one ((6, is_none (version_of text)) ∷ []) refl)
 
 command_one : (before : List Line) (words : List (List ℕ)) → is_one (command_fault before words) ≡ false
 unfolding command_fault form_fault stand_fault names_fault
 command_one before words =
     or_one (words_fault words) (option_map_or (λ f. form_fault before f words) (form_of (word_at words 0)) (Some 7)) (words_one words)
     (map_one (λ f. form_fault before f words) (form_of (word_at words 0)) (Some 7)
-    (λ f. or_one (stand_fault before f words) (option_or (places_fault (places f words)) (option_or (names_fault before f words) (option_map_or (said_fault before) (said f words) None)))
+    (λ f. or_one (stand_fault before f words) (option_or (places_fault (places (form_told before) f words)) (option_or (names_fault before f words) (option_map_or (said_fault before) (said (form_told before) f words) None)))
     (first_one ((8, is_late before f) ∷ (9, is_outside before f) ∷ (10, not (has_right_count f words)) ∷ []) refl)
-    (or_one (places_fault (places f words)) (option_or (names_fault before f words) (option_map_or (said_fault before) (said f words) None)) (places_one (places f words))
-    (or_one (names_fault before f words) (option_map_or (said_fault before) (said f words) None)
+    (or_one (places_fault (places (form_told before) f words)) (option_or (names_fault before f words) (option_map_or (said_fault before) (said (form_told before) f words) None)) (places_one (places (form_told before) f words))
+    (or_one (names_fault before f words) (option_map_or (said_fault before) (said (form_told before) f words) None)
     (first_one ((20, is_given_twice before f words) ∷ (21, names_unknown before f words) ∷ []) refl)
-    (map_one (said_fault before) (said f words) None (said_one before) refl))))
+    (map_one (said_fault before) (said (form_told before) f words) None (said_one before) refl))))
     refl)
 
 line_one : (before : List Line) (text : List ℕ) → is_one (line_fault before text) ≡ false
@@ -108,8 +107,8 @@ from_one : (before : List Line) (texts : List (List ℕ)) (n : ℕ) → fault_fr
 unfolding fault_from
 from_one before [] n h = cc
 from_one before (text ∷ texts) n h =
-    from_case (line_fault before text) (length before + 1) (fault_from (before ++ unwrap_or (line_of text) line.Skipped ∷ []) texts) n (line_one before text)
-    (from_one (before ++ unwrap_or (line_of text) line.Skipped ∷ []) texts n) h
+    from_case (line_fault before text) (length before + 1) (fault_from (before ++ unwrap_or (line_of (form_told before) text) line.Skipped ∷ []) texts) n (line_one before text)
+    (from_one (before ++ unwrap_or (line_of (form_told before) text) line.Skipped ∷ []) texts n) h
 
 -- an input that isn't too long breaks another rule
 pub not_rule_one : (bytes : List ℕ) (n : ℕ) → nat_lt 16777216 (length bytes) ≡ false → fault_of bytes ≡ Some (n, 1) → ⊥

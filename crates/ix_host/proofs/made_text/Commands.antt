@@ -7,6 +7,7 @@ use Rattle.std.proofs.lemmas.List.{append-nil}
 use Rattle.std.proofs.lemmas.List.Sums.{fold-append, sum_by-append}
 use Rattle.std.proofs.lemmas.Grind.{flat_map-append}
 use Rattle.ix_model.specs.declared.call.Mode.TheVariants as mode
+use Rattle.ix_label.specs.declared.form.Form.{Form}
 use Rattle.ix_script.specs.texts.Cutting.{is_empty}
 use Rattle.ix_script.specs.texts.Words.{path_from}
 use Rattle.ix_script.specs.lines.Before.{proc_name_told, proc_names, lane_after, lane_now, is_command, commands}
@@ -28,7 +29,7 @@ pub record Ready (before : List Line) (n : ℕ) : Type 0 where
 
 -- a text, without its line feed, that is a command of one of them
 pub record IsCommand (text : List ℕ) (l : Line) : Type 0 where
-  pub means : line_of text ≡ Some l
+  pub means : (labels : Form) → line_of labels text ≡ Some l
   pub short : length text ≤ 14
   pub plain : list_all (λ b. not (b == 10)) text ≡ true
   pub names : proc_name_told l ≡ []
@@ -71,7 +72,7 @@ room before n r h = lt-leb 200000 (commands before) (omega (arith, r.number))
 pub opens_a : IsCommand (codes "open a /x rw") (line.Open (codes "a") (path_from true (codes "x" ∷ [])) mode.Both None)
 unfolding judging
 opens_a = record {
-  means = refl;
+  means = λ labels. refl;
   short = omega arith;
   plain = refl;
   names = refl;
@@ -83,7 +84,7 @@ opens_a = record {
 pub opens_b : IsCommand (codes "open b /y r") (line.Open (codes "b") (path_from true (codes "y" ∷ [])) mode.Read None)
 unfolding judging
 opens_b = record {
-  means = refl;
+  means = λ labels. refl;
   short = omega arith;
   plain = refl;
   names = refl;
@@ -95,7 +96,7 @@ opens_b = record {
 pub opens_c : IsCommand (codes "open c /y r") (line.Open (codes "c") (path_from true (codes "y" ∷ [])) mode.Read None)
 unfolding judging
 opens_c = record {
-  means = refl;
+  means = λ labels. refl;
   short = omega arith;
   plain = refl;
   names = refl;
@@ -107,7 +108,7 @@ opens_c = record {
 pub seeks_a : IsCommand (codes "seek a 0 0") (line.Seek (codes "a") (fd.Number 0) 0)
 unfolding judging
 seeks_a = record {
-  means = refl;
+  means = λ labels. refl;
   short = omega arith;
   plain = refl;
   names = refl;
@@ -119,7 +120,7 @@ seeks_a = record {
 pub writes_a : IsCommand (codes "write a 0 8*41") (line.Write (codes "a") (fd.Number 0) (replicate 8 65))
 unfolding judging
 writes_a = record {
-  means = refl;
+  means = λ labels. refl;
   short = omega arith;
   plain = refl;
   names = refl;
@@ -131,7 +132,7 @@ writes_a = record {
 pub seeks_b : IsCommand (codes "seek b 0 0") (line.Seek (codes "b") (fd.Number 0) 0)
 unfolding judging
 seeks_b = record {
-  means = refl;
+  means = λ labels. refl;
   short = omega arith;
   plain = refl;
   names = refl;
@@ -143,7 +144,7 @@ seeks_b = record {
 pub reads_b : IsCommand (codes "read b 0 16") (line.Read (codes "b") (fd.Number 0) 16)
 unfolding judging
 reads_b = record {
-  means = refl;
+  means = λ labels. refl;
   short = omega arith;
   plain = refl;
   names = refl;
@@ -155,7 +156,7 @@ reads_b = record {
 pub reads_a : IsCommand (codes "read a 0 4") (line.Read (codes "a") (fd.Number 0) 4)
 unfolding judging
 reads_a = record {
-  means = refl;
+  means = λ labels. refl;
   short = omega arith;
   plain = refl;
   names = refl;
@@ -167,7 +168,7 @@ reads_a = record {
 pub reads_c : IsCommand (codes "read c 0 8") (line.Read (codes "c") (fd.Number 0) 8)
 unfolding judging
 reads_c = record {
-  means = refl;
+  means = λ labels. refl;
   short = omega arith;
   plain = refl;
   names = refl;

@@ -4,6 +4,7 @@ use Rattle.std.specs.Prelude.{codes}
 use Rattle.std.specs.List.{list_all, flat_map, range_with_len}
 use Rattle.std.proofs.lemmas.Bool.{not-true, le-ltb}
 use Rattle.std.proofs.lemmas.List.{length-append}
+use Rattle.ix_label.specs.declared.form.Form.TheVariants.{One}
 use Rattle.ix_label.specs.Laws.{SpelledOrFaulty}
 use Rattle.ix_script.specs.texts.Lines.{cut, lines_of}
 use Rattle.ix_script.specs.lines.Faults.{fault_from, fault_of}
@@ -45,7 +46,7 @@ lines_are : (rest : List ℕ) → lines_of (beginning ++ rest)
 unfolding lines_of cut beginning
 lines_are rest = refl
 
-pub readable : SpelledOrFaulty (codes "0-7") → SpelledOrFaulty (codes "3") → SpelledOrFaulty (codes "5") → Readable
+pub readable : SpelledOrFaulty One (codes "0-7") → SpelledOrFaulty One (codes "3") → SpelledOrFaulty One (codes "5") → Readable
 unfolding fault_of generated
 readable for_eight for_three for_five n some few =
     let s = low_eight for_eight in

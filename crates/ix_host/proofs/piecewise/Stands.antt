@@ -6,7 +6,7 @@ use Rattle.ix_io.specs.Streams.{HasCause, Rose}
 use Rattle.ix_model.specs.history.Events.{Event}
 use Rattle.ix_model.specs.history.History.{History, world_of, with_entry}
 use Rattle.ix_model.specs.opening.Opening.{opening_world}
-use Rattle.ix_script.specs.lines.Before.{lanes_of}
+use Rattle.ix_script.specs.lines.Before.{form_told, lanes_of}
 use Rattle.ix_script.specs.scripts.Scripts.{config_of}
 use Rattle.ix_script.specs.declared.line.Line.{Line}
 use Rattle.ix_report.specs.LineText.{head_line}
@@ -97,20 +97,20 @@ module _ (o after : Option (List ℕ)) (text : List ℕ) (done : Bool) (before n
 
 -- ---- the lines of a history
 -- what was told of a history, with the line of one entry more
-pub told_next : (s : List Line) (begun : List ℕ) (h k : History) (e : Event) → k ≡ with_entry h e → told_of s begun h ++ entry_text (lanes_of s) (length h.events + 1) (world_of h) e ≡ told_of s begun k
+pub told_next : (s : List Line) (begun : List ℕ) (h k : History) (e : Event) → k ≡ with_entry h e → told_of s begun h ++ entry_text (form_told s) (lanes_of s) (length h.events + 1) (world_of h) e ≡ told_of s begun k
 told_next s begun h k e is =
-    append_assoc begun (entries_text (lanes_of s) 1 (opening_world h.config) h.events) _
-    ∙ ap (λ t. begun ++ t) (sym (history_entries (lanes_of s) h e)) ∙ ap (told_of s begun) (sym is)
+    append_assoc begun (entries_text (form_told s) (lanes_of s) 1 (opening_world h.config) h.events) _
+    ∙ ap (λ t. begun ++ t) (sym (history_entries (form_told s) (lanes_of s) h e)) ∙ ap (told_of s begun) (sym is)
 
 -- all of a report
-pub report_told : (s : List Line) (begun : List ℕ) (h : History) → h.config ≡ config_of s → begun ≡ head_line → told_of s begun h ++ closing_text (world_of h) (length h.events) ≡ report_of s h.events
+pub report_told : (s : List Line) (begun : List ℕ) (h : History) → h.config ≡ config_of s → begun ≡ head_line (form_told s) → told_of s begun h ++ closing_text (form_told s) (world_of h) (length h.events) ≡ report_of s h.events
 unfolding report_of world_of
 report_told s begun h config at = rw (at, config) refl
 
 -- ---- an entry more
 module _ (o after : Option (List ℕ)) (before now : ℕ) (s : List Line) (begun : List ℕ) (h k : History) (e : Event) (is : k ≡ with_entry h e) where
   abbrev line : List ℕ
-  line = entry_text (lanes_of s) (length h.events + 1) (world_of h) e
+  line = entry_text (form_told s) (lanes_of s) (length h.events + 1) (world_of h) e
 
   longer : (why : Option Failure) (waiting : List ℕ) → StandsAt why o after waiting (told_of s begun h) before now → StandsAt why o after (waiting ++ line) (told_of s begun k) before now
   longer why waiting stands = subst (λ (t : List ℕ). StandsAt why o after (waiting ++ line) t before now) (told_next s begun h k e is) (stands_more o after before now why waiting (told_of s begun h) line stands)

@@ -3,7 +3,7 @@ use Rattle.std.specs.Prelude.{◌≡◌, ℕ, List, ◌++◌, Option, Some, None
 use Rattle.ix_io.specs.Streams.{Rose}
 use Rattle.ix_model.specs.history.History.{History}
 use Rattle.ix_model.specs.opening.Opening.{opening_world}
-use Rattle.ix_script.specs.lines.Before.{lanes_of}
+use Rattle.ix_script.specs.lines.Before.{form_told, lanes_of}
 use Rattle.ix_script.specs.declared.line.Line.{Line}
 use Rattle.ix_replay.specs.report.Report.{entries_text}
 use Rattle.ix_host.specs.run.Whole.{Sent, WritesFront}
@@ -29,7 +29,7 @@ StandsAt (Some failure.Memory) first after waiting text before now = FrontIsOut 
 
 -- what was told at first, and then the lines of the entries of a history of a script
 abbrev pub told_of : List Line → List ℕ → History → List ℕ
-told_of s begun h = begun ++ entries_text (lanes_of s) 1 (opening_world h.config) h.events
+told_of s begun h = begun ++ entries_text (form_told s) (lanes_of s) 1 (opening_world h.config) h.events
 
 -- Of a history of a script all lines were told, unless there was a failure.
 pub record HasTold (s : List Line) (begun : List ℕ) (h : History) (why : Option Failure) (first after : Option (List ℕ)) (waiting : List ℕ) (before now : ℕ) : Type 0 where

@@ -3,6 +3,7 @@ ghost use Rattle.std.specs.Prelude.{◌≡◌, ℕ, ◌≤◌, ◌++◌, List, O
 ghost use Rattle.ix_model.specs.history.Cost.{cost_of_history};
 ghost use Rattle.ix_model.specs.history.History.{world_of};
 ghost use Rattle.ix_lanes.specs.histories.Serial.{serial};
+ghost use Rattle.ix_script.specs.lines.Before.{form_told};
 ghost use Rattle.ix_script.specs.scripts.Need.{need};
 ghost use Rattle.ix_script.specs.scripts.Scripts.{config_of};
 ghost use Rattle.ix_serial.specs.Sections.{has_placed_lanes};
@@ -16,6 +17,7 @@ use crate::status::Status;
 use crate::streams::stream::{write_all, write_piece};
 use ix_core::{Core, Witness};
 use ix_io::{Failed, Sink};
+use ix_label::Form;
 use ix_model::{Call, NoMemory, Pid, Reply};
 use ix_replay::{Closing, push_entry, replay};
 use ix_report::head;
@@ -61,14 +63,14 @@ struct Teller<'a, K: Sink> {
     failure: Option<Failure>,
 }
 
-/// The first line of a report, in memory that has room for what is gathered.
-fn begun(alloc: Global) -> Result<Vec<u8>, NoMemory>
-    ensures { IfOk result (λ waiting. waiting.items ≡ head_line) }
+/// The first line of a report in the form, in memory that has room for what is gathered.
+fn begun(alloc: Global, form: Form) -> Result<Vec<u8>, NoMemory>
+    ensures { IfOk result (λ waiting. waiting.items ≡ head_line form) }
 {
     let Ok(mut waiting) = Vec::with_capacity(alloc, PIECE + LAST_LINE) else {
         return Err(NoMemory);
     };
-    head(&mut waiting)?;
+    head(&mut waiting, form)?;
     Ok(waiting)
 }
 
@@ -128,10 +130,10 @@ impl<K: Sink> Teller<'_, K> {
         ensures same { self.new.sink.ghost_name ≡ self.old.sink.ghost_name }
         ensures ends { (first : Option (List ℕ)) (told : List ℕ) (before : ℕ)
             → StandsAt self.old.failure first (K.taken self.old.sink.now) self.old.waiting.now.items told before (K.faults self.old.sink.now)
-            → Ends (outcome.Whole (told ++ closing_text (world_of history.now) (length history.now.events))) result first (K.taken self.new.sink.now)
+            → Ends (outcome.Whole (told ++ closing_text (form_told self.old.script.now) (world_of history.now) (length history.now.events))) result first (K.taken self.new.sink.now)
             (K.finished self.new.sink.now) before (K.faults self.new.sink.now) }
     {
-        let mut closing = Closing::new(history);
+        let mut closing = Closing::new(self.script.form(), history);
         'pieces: while !closing.is_told() {
             if self.failure.is_some() {
                 return self.finish();
@@ -146,7 +148,7 @@ impl<K: Sink> Teller<'_, K> {
 
     /// Runs the lanes of the script one after the other, and tells the report of that while it is made.
     fn tell_serial(&mut self, alloc: Global) -> Status
-        requires begun { (self.old.failure ≡ None) × (self.old.waiting.now.items ≡ head_line) }
+        requires begun { (self.old.failure ≡ None) × (self.old.waiting.now.items ≡ head_line (form_told self.old.script.now)) }
         requires placed { has_placed_lanes self.old.script.now ≡ true }
         ensures same { self.new.sink.ghost_name ≡ self.old.sink.ghost_name }
         ensures ends { Ends (outcome.Whole (report_of self.old.script.now (serial self.old.script.now))) result (K.taken self.old.sink.now) (K.taken self.new.sink.now)
@@ -161,7 +163,7 @@ impl<K: Sink> Teller<'_, K> {
 
     /// Has a history of the script made once more, and tells the report of it.
     fn tell_again(&mut self, alloc: Global, history: &Core) -> Status
-        requires begun { (self.old.failure ≡ None) × (self.old.waiting.now.items ≡ head_line) }
+        requires begun { (self.old.failure ≡ None) × (self.old.waiting.now.items ≡ head_line (form_told self.old.script.now)) }
         requires config { history.now.config ≡ config_of self.old.script.now }
         requires fits { cost_of_history history.now.events ≤ need self.old.script.now }
         ensures same { self.new.sink.ghost_name ≡ self.old.sink.ghost_name }
@@ -211,7 +213,7 @@ pub fn report_serial<K: Sink>(alloc: Global, sink: &mut K, script: &Script) -> S
     ensures { Ends (outcome.Whole (report_of script.now (serial script.now))) result (K.taken sink.old) (K.taken sink.new)
         (K.finished sink.new) (K.faults sink.old) (K.faults sink.new) }
 {
-    let Ok(mut waiting) = begun(alloc) else {
+    let Ok(mut waiting) = begun(alloc, script.form()) else {
         return Status::NoMemory;
     };
     Teller::new(script, sink, &mut waiting).tell_serial(alloc)
@@ -224,7 +226,7 @@ pub fn report<K: Sink>(alloc: Global, sink: &mut K, script: &Script, history: &C
     ensures { Ends (outcome.Whole (report_of script.now history.now.events)) result (K.taken sink.old) (K.taken sink.new)
         (K.finished sink.new) (K.faults sink.old) (K.faults sink.new) }
 {
-    let Ok(mut waiting) = begun(alloc) else {
+    let Ok(mut waiting) = begun(alloc, script.form()) else {
         return Status::NoMemory;
     };
     Teller::new(script, sink, &mut waiting).tell_again(alloc, history)

@@ -16,7 +16,7 @@ use Rattle.ix_model.specs.rows.Telling.{told}
 use Rattle.ix_model.specs.rows.Walks.{Behind, node, behind}
 use Rattle.ix_model.specs.history.Events.{Op, Event}
 use Rattle.ix_model.specs.history.Events as op
-use Rattle.ix_model.specs.history.Spelled.{AuditFits, CallFits, ReplyFits}
+use Rattle.ix_model.specs.history.Spelled.{AuditFits, CallFits, ConfigFits, EventsFit, ReplyFits}
 use Rattle.ix_model.specs.history.Step.{plainly, read_answer, write_answer, cut_answer, seek_answer, stat_answer, exit_answer, wait_answer, pex_answer, answer, step, step_of, run}
 use Rattle.ix_model.specs.declared.audit.AuditLine.{AuditLine}
 use Rattle.ix_model.specs.declared.config.Config.{Config}
@@ -28,7 +28,7 @@ use Rattle.ix_model.specs.declared.reply.Kind.TheVariants as kind
 use Rattle.ix_model.specs.declared.reply.Reply.{Reply}
 use Rattle.ix_model.specs.declared.reply.Reply.TheVariants as reply
 use Rattle.ix_model.proofs.words.Answered.{step_frame}
-use Rattle.ix_iso.specs.Forms.{ConfigFits, EventsFit, FrameFits, KeepsForm, FormsStay}
+use Rattle.ix_iso.specs.Forms.{FrameFits, FormsStay}
 use Rattle.ix_iso.specs.Laws.{given_after}
 use Rattle.ix_iso.proofs.forms.Frames.{AllAt, fits-bottom, all_put, all_changed, all_get}
 use Rattle.ix_iso.proofs.forms.Rows.{Fit, fit_row}
@@ -198,6 +198,6 @@ module _ (form : Form) where
 -- ---- the law
 pub forms_stay : FormsStay
 forms_stay form c events config calls = record {
-  frame = run_fits form (opening_world c) 1 events calls (opening_fits form c config);
+  frames = λ n. run_fits form (opening_world c) 1 (take n events) (All-take (λ (e : Event). CallFits form e.op) n events calls) (opening_fits form c config);
   replies = given_fits form (opening_world c) 1 events calls (opening_fits form c config);
 }

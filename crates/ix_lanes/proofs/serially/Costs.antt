@@ -92,7 +92,7 @@ few_bytes w place e = few_by w place e.pid e.op
 cost_asked : (header : Numbers) (names : Names) (l : Line) → IfSome (asked header names l) (λ a. cost_of a.op ≤ cost_of_line l)
 unfolding asked cost_of cost_of_line
 cost_asked header names line.Skipped = tt
-cost_asked header names line.Version = tt
+cost_asked header names (line.Version form) = tt
 cost_asked header names (line.Limit w n) = tt
 cost_asked header names (line.Fs name ceiling blocks inodes) = tt
 cost_asked header names (line.Proc name label ceiling cap lic) = tt

@@ -40,16 +40,16 @@ all_join : (a b c d e f g : List ℕ) → a ++ ((b ++ c) ++ (d ++ ((e ++ f) ++ g
 all_join a b c d e f g = texts_join a b c (d ++ ((e ++ f) ++ g)) ∙ sym (append_assoc ((a ++ b) ++ c) d ((e ++ f) ++ g)) ∙ texts_join (((a ++ b) ++ c) ++ d) e f g
 
 -- what closes a report, after its entries
-pub closing_is : (r : Closing) → codes "objects\n" ++ objects_left r 0 ≡ closing_text (last_world r) (length r.history.now.events)
+pub closing_is : (r : Closing) → codes "objects\n" ++ objects_left r 0 ≡ closing_text r.form (last_world r) (length r.history.now.events)
 unfolding objects_left processes_left closing_text objects_text processes_text
 closing_is r =
-    let objects = texts_all (object_text (last_world r).frame.objects) (length (last_world r).frame.objects) in
-    let processes = texts_all (process_text (last_world r).frame.processes) (length (last_world r).frame.processes) in
+    let objects = texts_all (object_text r.form (last_world r).frame.objects) (length (last_world r).frame.objects) in
+    let processes = texts_all (process_text r.form (last_world r).frame.processes) (length (last_world r).frame.processes) in
     (λ i. codes "objects\n" ++ ((objects i ++ codes "processes\n") ++ (processes i ++ (codes "log\n" ++ log_left r 0))))
-    ∙ ap (λ t. codes "objects\n" ++ ((texts_from (object_text (last_world r).frame.objects) 0 (length (last_world r).frame.objects) ++ codes "processes\n") ++ (texts_from (process_text (last_world r).frame.processes) 0 (length (last_world r).frame.processes) ++ t)))
-    (sym (append_assoc (codes "log\n") (flat_map audit_line (last_world r).frame.log) (tail_line (length r.history.now.events) (length (last_world r).frame.log))))
-    ∙ all_join (codes "objects\n") (texts_from (object_text (last_world r).frame.objects) 0 (length (last_world r).frame.objects)) (codes "processes\n")
-    (texts_from (process_text (last_world r).frame.processes) 0 (length (last_world r).frame.processes)) (codes "log\n") (flat_map audit_line (last_world r).frame.log)
+    ∙ ap (λ t. codes "objects\n" ++ ((texts_from (object_text r.form (last_world r).frame.objects) 0 (length (last_world r).frame.objects) ++ codes "processes\n") ++ (texts_from (process_text r.form (last_world r).frame.processes) 0 (length (last_world r).frame.processes) ++ t)))
+    (sym (append_assoc (codes "log\n") (flat_map (audit_line r.form) (last_world r).frame.log) (tail_line (length r.history.now.events) (length (last_world r).frame.log))))
+    ∙ all_join (codes "objects\n") (texts_from (object_text r.form (last_world r).frame.objects) 0 (length (last_world r).frame.objects)) (codes "processes\n")
+    (texts_from (process_text r.form (last_world r).frame.processes) 0 (length (last_world r).frame.processes)) (codes "log\n") (flat_map (audit_line r.form) (last_world r).frame.log)
     (tail_line (length r.history.now.events) (length (last_world r).frame.log))
 
 -- a report can't go on after its end
@@ -67,14 +67,14 @@ module _ (r : Closing) (before after : List ℕ) where
   }
 
   -- an object
-  pub object_told : (n : ℕ) → r.next ≡ stage.Object n → n < length (last_world r).frame.objects → after ≡ before ++ object_text (last_world r).frame.objects n
+  pub object_told : (n : ℕ) → r.next ≡ stage.Object n → n < length (last_world r).frame.objects → after ≡ before ++ object_text r.form (last_world r).frame.objects n
       → Tells r (record r { next = stage.Object (n + 1) }) before after
   unfolding left_of objects_left processes_left pieces_of
   object_told n is within e = record {
-    text = rw (e, is, texts_next (object_text (last_world r).frame.objects) n (length (last_world r).frame.objects) within)
-        (append_assoc before (object_text (last_world r).frame.objects n)
-        ((texts_from (object_text (last_world r).frame.objects) (n + 1) (length (last_world r).frame.objects - (n + 1)) ++ codes "processes\n") ++ processes_left r 0)
-        ∙ ap (λ t. before ++ t) (texts_join (object_text (last_world r).frame.objects n) (texts_from (object_text (last_world r).frame.objects) (n + 1) (length (last_world r).frame.objects - (n + 1)))
+    text = rw (e, is, texts_next (object_text r.form (last_world r).frame.objects) n (length (last_world r).frame.objects) within)
+        (append_assoc before (object_text r.form (last_world r).frame.objects n)
+        ((texts_from (object_text r.form (last_world r).frame.objects) (n + 1) (length (last_world r).frame.objects - (n + 1)) ++ codes "processes\n") ++ processes_left r 0)
+        ∙ ap (λ t. before ++ t) (texts_join (object_text r.form (last_world r).frame.objects n) (texts_from (object_text r.form (last_world r).frame.objects) (n + 1) (length (last_world r).frame.objects - (n + 1)))
         (codes "processes\n") (processes_left r 0)));
     fewer = rw is (omega (arith, within));
   }
@@ -84,17 +84,17 @@ module _ (r : Closing) (before after : List ℕ) where
       → Tells r (record r { next = stage.Process 0 }) before after
   unfolding left_of objects_left processes_left pieces_of
   objects_told n is past e = record {
-    text = rw (e, is, texts_past (object_text (last_world r).frame.objects) n (length (last_world r).frame.objects) past) (append_assoc before (codes "processes\n") _);
+    text = rw (e, is, texts_past (object_text r.form (last_world r).frame.objects) n (length (last_world r).frame.objects) past) (append_assoc before (codes "processes\n") _);
     fewer = rw is (omega (arith, past));
   }
 
   -- a process
-  pub process_told : (pid : ℕ) → r.next ≡ stage.Process pid → pid < length (last_world r).frame.processes → after ≡ before ++ process_text (last_world r).frame.processes pid
+  pub process_told : (pid : ℕ) → r.next ≡ stage.Process pid → pid < length (last_world r).frame.processes → after ≡ before ++ process_text r.form (last_world r).frame.processes pid
       → Tells r (record r { next = stage.Process (pid + 1) }) before after
   unfolding left_of processes_left pieces_of
   process_told pid is within e = record {
-    text = rw (e, is, texts_next (process_text (last_world r).frame.processes) pid (length (last_world r).frame.processes) within)
-        (append_assoc before (process_text (last_world r).frame.processes pid) _ ∙ ap (λ t. before ++ t) (sym (append_assoc (process_text (last_world r).frame.processes pid) _ _)));
+    text = rw (e, is, texts_next (process_text r.form (last_world r).frame.processes) pid (length (last_world r).frame.processes) within)
+        (append_assoc before (process_text r.form (last_world r).frame.processes pid) _ ∙ ap (λ t. before ++ t) (sym (append_assoc (process_text r.form (last_world r).frame.processes pid) _ _)));
     fewer = rw is (omega (arith, within));
   }
 
@@ -103,17 +103,17 @@ module _ (r : Closing) (before after : List ℕ) where
       → Tells r (record r { next = stage.Log 0 }) before after
   unfolding left_of processes_left pieces_of
   processes_told pid is past e = record {
-    text = rw (e, is, texts_past (process_text (last_world r).frame.processes) pid (length (last_world r).frame.processes) past) (append_assoc before (codes "log\n") _);
+    text = rw (e, is, texts_past (process_text r.form (last_world r).frame.processes) pid (length (last_world r).frame.processes) past) (append_assoc before (codes "log\n") _);
     fewer = rw is (omega arith);
   }
 
   -- a line of the log
-  pub line_told : (n : ℕ) (line : AuditLine) → r.next ≡ stage.Log n → slice_get (last_world r).frame.log n ≡ Some line → after ≡ before ++ audit_line line
+  pub line_told : (n : ℕ) (line : AuditLine) → r.next ≡ stage.Log n → slice_get (last_world r).frame.log n ≡ Some line → after ≡ before ++ audit_line r.form line
       → Tells r (record r { next = stage.Log (n + 1) }) before after
   unfolding left_of pieces_of
   line_told n line is at e = record {
     text = rw (e, is, rest_is (last_world r).frame.log n line at)
-        (append_assoc before (audit_line line) _ ∙ ap (λ t. before ++ t) (sym (append_assoc (audit_line line) (flat_map audit_line (drop (n + 1) (last_world r).frame.log)) _)));
+        (append_assoc before (audit_line r.form line) _ ∙ ap (λ t. before ++ t) (sym (append_assoc (audit_line r.form line) (flat_map (audit_line r.form) (drop (n + 1) (last_world r).frame.log)) _)));
     fewer = let within : n < length (last_world r).frame.log = slice_get_within (last_world r).frame.log n line at in rw is (omega (arith, within));
   }
 

@@ -1,6 +1,7 @@
 -- What the core shows of an entry that it made.
 use Rattle.std.proofs.Common.{◌≡◌, ℕ, ◌+◌, ◌++◌, ◌∷◌, List, [], length, Option, Some, None, take, refl, sym, ap, ◌∙◌, arith, add-one, append_assoc, append-nil, length-append}
 use Rattle.std.specs.Option.{option_map}
+use Rattle.ix_label.specs.declared.form.Form.{Form}
 use Rattle.ix_label.specs.Category.{Categories}
 use Rattle.ix_model.specs.world.World.{World, Process, at}
 use Rattle.ix_model.specs.history.Events.{Event}
@@ -47,31 +48,31 @@ bytes_of_shown (reply.Bytes k) bytes a = a.0
 bytes_of_shown _ bytes a = tt
 
 -- the line of the entry that was just made
-pub line_of_next : (lanes : List (List ℕ)) (old new : History) (e : Event) (r : Reply) (bytes lane : List ℕ) (place : ℕ) (label : Option Categories) → IsNext old new e r bytes
+pub line_of_next : (form : Form) (lanes : List (List ℕ)) (old new : History) (e : Event) (r : Reply) (bytes lane : List ℕ) (place : ℕ) (label : Option Categories) → IsNext old new e r bytes
     → place ≡ length new.events → lane ≡ lane_name lanes e.seat → label ≡ option_map (λ (p : Process). p.label) (at (world_of new).frame.processes e.pid)
-    → entry_line place lane e r bytes label ≡ entry_text lanes (length old.events + 1) (world_of old) e
-line_of_next lanes old new e r bytes lane place label is at_place in_lane labelled =
+    → entry_line form place lane e r bytes label ≡ entry_text form lanes (length old.events + 1) (world_of old) e
+line_of_next form lanes old new e r bytes lane place label is at_place in_lane labelled =
     let here : place ≡ length old.events + 1 = at_place ∙ ap (λ (h : History). length h.events) is.history ∙ length-append old.events (e ∷ []) in
     let world : world_of new ≡ (next old e).world = ap world_of is.history ∙ world_of-push old e in
     let seen = labelled ∙ ap (λ (w : World). option_map (λ (p : Process). p.label) (at w.frame.processes e.pid)) world in
-    λ i. entry_line (here i) (in_lane i) e (is.reply i) (is.bytes i) (seen i)
+    λ i. entry_line form (here i) (in_lane i) e (is.reply i) (is.bytes i) (seen i)
 
 -- ---- the lines of entries
 -- one entry more
-entries_push : (lanes : List (List ℕ)) (place : ℕ) (w : World) (events : List Event) (e : Event)
-    → entries_text lanes place w (events ++ e ∷ []) ≡ entries_text lanes place w events ++ entry_text lanes (length events + place) (run w place events) e
-entries_push lanes place w [] e = let here : place ≡ 0 + place = omega arith in append-nil (entry_text lanes place w e) ∙ ap (λ n. entry_text lanes n w e) here
-entries_push lanes place w (x ∷ events) e =
+entries_push : (form : Form) (lanes : List (List ℕ)) (place : ℕ) (w : World) (events : List Event) (e : Event)
+    → entries_text form lanes place w (events ++ e ∷ []) ≡ entries_text form lanes place w events ++ entry_text form lanes (length events + place) (run w place events) e
+entries_push form lanes place w [] e = let here : place ≡ 0 + place = omega arith in append-nil (entry_text form lanes place w e) ∙ ap (λ n. entry_text form lanes n w e) here
+entries_push form lanes place w (x ∷ events) e =
     let there : World = (step_of w place x).world in
-    let first : List ℕ = entry_text lanes place w x in
-    let rest : List ℕ = entries_text lanes (place + 1) there events in
+    let first : List ℕ = entry_text form lanes place w x in
+    let rest : List ℕ = entries_text form lanes (place + 1) there events in
     let at : length events + (place + 1) ≡ length (x ∷ events) + place = omega arith in
-    ap (λ t. first ++ t) (entries_push lanes (place + 1) there events e)
-    ∙ sym (append_assoc first rest (entry_text lanes (length events + (place + 1)) (run there (place + 1) events) e))
-    ∙ (λ i. (first ++ rest) ++ entry_text lanes (at i) (run there (add-one place i) events) e)
+    ap (λ t. first ++ t) (entries_push form lanes (place + 1) there events e)
+    ∙ sym (append_assoc first rest (entry_text form lanes (length events + (place + 1)) (run there (place + 1) events) e))
+    ∙ (λ i. (first ++ rest) ++ entry_text form lanes (at i) (run there (add-one place i) events) e)
 
 -- the lines of a history with one entry more
-pub history_entries : (lanes : List (List ℕ)) (h : History) (e : Event)
-    → entries_text lanes 1 (opening_world h.config) (h.events ++ e ∷ []) ≡ entries_text lanes 1 (opening_world h.config) h.events ++ entry_text lanes (length h.events + 1) (world_of h) e
+pub history_entries : (form : Form) (lanes : List (List ℕ)) (h : History) (e : Event)
+    → entries_text form lanes 1 (opening_world h.config) (h.events ++ e ∷ []) ≡ entries_text form lanes 1 (opening_world h.config) h.events ++ entry_text form lanes (length h.events + 1) (world_of h) e
 unfolding world_of
-history_entries lanes h e = entries_push lanes 1 (opening_world h.config) h.events e
+history_entries form lanes h e = entries_push form lanes 1 (opening_world h.config) h.events e

@@ -8,7 +8,8 @@ use Rattle.ix_model.specs.opening.Opening.{opening_world}
 use Rattle.ix_model.specs.history.Step.{step_of, run}
 use Rattle.ix_model.specs.history.Events.{Event}
 use Rattle.ix_model.specs.history.Views.{view_of, shown_of}
-use Rattle.ix_script.specs.lines.Before.{lanes_of}
+use Rattle.ix_label.specs.declared.form.Form.{Form}
+use Rattle.ix_script.specs.lines.Before.{form_told, lanes_of}
 use Rattle.ix_script.specs.scripts.Scripts.{config_of}
 use Rattle.ix_script.specs.declared.line.Line.{Line}
 use Rattle.ix_report.specs.LineText.{head_line, entry_line, object_line, process_line, audit_line, tail_line}
@@ -18,48 +19,49 @@ abbrev pub lane_name : List (List ℕ) → ℕ → List ℕ
 lane_name lanes seat = slice_index_or lanes seat []
 
 -- an entry that is made in a world: its lane, the call, what it gives, and the label of its caller after it
-abbrev pub entry_text : List (List ℕ) → ℕ → World → Event → List ℕ
-entry_text lanes place w e =
+abbrev pub entry_text : Form → List (List ℕ) → ℕ → World → Event → List ℕ
+entry_text form lanes place w e =
     let given = step_of w place e in
-    entry_line place (lane_name lanes e.seat) e given.reply given.bytes (option_map (λ (p : Process). p.label) (at given.world.frame.processes e.pid))
+    entry_line form place (lane_name lanes e.seat) e given.reply given.bytes (option_map (λ (p : Process). p.label) (at given.world.frame.processes e.pid))
 
 -- the lines of entries, each by itself
-abbrev pub entry_lines : List (List ℕ) → ℕ → World → List Event → List (List ℕ)
-entry_lines lanes place w [] = []
-entry_lines lanes place w (e ∷ events) = entry_text lanes place w e ∷ entry_lines lanes (place + 1) (step_of w place e).world events
+abbrev pub entry_lines : Form → List (List ℕ) → ℕ → World → List Event → List (List ℕ)
+entry_lines form lanes place w [] = []
+entry_lines form lanes place w (e ∷ events) = entry_text form lanes place w e ∷ entry_lines form lanes (place + 1) (step_of w place e).world events
 
 -- entries, one after the other
-abbrev pub entries_text : List (List ℕ) → ℕ → World → List Event → List ℕ
-entries_text lanes place w events = flat_map (λ line. line) (entry_lines lanes place w events)
+abbrev pub entries_text : Form → List (List ℕ) → ℕ → World → List Event → List ℕ
+entries_text form lanes place w events = flat_map (λ line. line) (entry_lines form lanes place w events)
 
 -- the object of a number, where there is one
-abbrev pub object_text : List (Option Object) → ℕ → List ℕ
-object_text objects n = option_map_or (λ o. object_line n (view_of o)) (at objects n) []
+abbrev pub object_text : Form → List (Option Object) → ℕ → List ℕ
+object_text form objects n = option_map_or (λ o. object_line form n (view_of o)) (at objects n) []
 
 -- the process of a pid, where there is one
-abbrev pub process_text : List (Option Process) → ℕ → List ℕ
-process_text processes pid = option_map_or (λ p. process_line pid (shown_of p)) (at processes pid) []
+abbrev pub process_text : Form → List (Option Process) → ℕ → List ℕ
+process_text form processes pid = option_map_or (λ p. process_line form pid (shown_of p)) (at processes pid) []
 
 -- the texts of so many numbers from a first one on
 abbrev pub texts_from : (ℕ → List ℕ) → ℕ → ℕ → List ℕ
 texts_from text first count = flat_map text (range_with_len first count)
 
 -- all objects by their numbers
-unfoldable pub objects_text : World → List ℕ
-objects_text w = texts_from (object_text w.frame.objects) 0 (length w.frame.objects)
+unfoldable pub objects_text : Form → World → List ℕ
+objects_text form w = texts_from (object_text form w.frame.objects) 0 (length w.frame.objects)
 
 -- all processes by their pids
-unfoldable pub processes_text : World → List ℕ
-processes_text w = texts_from (process_text w.frame.processes) 0 (length w.frame.processes)
+unfoldable pub processes_text : Form → World → List ℕ
+processes_text form w = texts_from (process_text form w.frame.processes) 0 (length w.frame.processes)
 
 -- what a report says of a world after so many entries: all labels, and the audit log
-unfoldable pub closing_text : World → ℕ → List ℕ
-closing_text w count =
-    codes "objects\n" ++ objects_text w ++ codes "processes\n" ++ processes_text w
-    ++ codes "log\n" ++ flat_map audit_line w.frame.log ++ tail_line count (length w.frame.log)
+unfoldable pub closing_text : Form → World → ℕ → List ℕ
+closing_text form w count =
+    codes "objects\n" ++ objects_text form w ++ codes "processes\n" ++ processes_text form w
+    ++ codes "log\n" ++ flat_map (audit_line form) w.frame.log ++ tail_line count (length w.frame.log)
 
--- the report of a history of a script: each entry, then the world to which they lead
+-- the report of a history of a script, in the script's form: each entry, then the world to which they lead
 unfoldable pub report_of : List Line → List Event → List ℕ
 report_of s events =
+    let form = form_told s in
     let first = opening_world (config_of s) in
-    head_line ++ entries_text (lanes_of s) 1 first events ++ closing_text (run first 1 events) (length events)
+    head_line form ++ entries_text form (lanes_of s) 1 first events ++ closing_text form (run first 1 events) (length events)

@@ -16,15 +16,15 @@ last_world r = world_of r.history.now
 -- ---- what is left to tell
 -- the lines of the audit log from an index on, and the last line
 abbrev pub log_left : Closing → ℕ → List ℕ
-log_left r n = flat_map audit_line (drop n (last_world r).frame.log) ++ tail_line (length r.history.now.events) (length (last_world r).frame.log)
+log_left r n = flat_map (audit_line r.form) (drop n (last_world r).frame.log) ++ tail_line (length r.history.now.events) (length (last_world r).frame.log)
 
 -- the processes from a pid on
 unfoldable pub processes_left : Closing → ℕ → List ℕ
-processes_left r pid = texts_from (process_text (last_world r).frame.processes) pid (length (last_world r).frame.processes - pid) ++ (codes "log\n" ++ log_left r 0)
+processes_left r pid = texts_from (process_text r.form (last_world r).frame.processes) pid (length (last_world r).frame.processes - pid) ++ (codes "log\n" ++ log_left r 0)
 
 -- the objects from a number on
 unfoldable pub objects_left : Closing → ℕ → List ℕ
-objects_left r n = texts_from (object_text (last_world r).frame.objects) n (length (last_world r).frame.objects - n) ++ codes "processes\n" ++ processes_left r 0
+objects_left r n = texts_from (object_text r.form (last_world r).frame.objects) n (length (last_world r).frame.objects - n) ++ codes "processes\n" ++ processes_left r 0
 
 -- the text that is left
 abbrev pub text_left : Next → Closing → List ℕ

@@ -6,6 +6,7 @@ ghost use Rattle.ix_replay.specs.declared.telling.closing.Next.TheVariants as ne
 
 use crate::telling::pieces::{push_heading, push_object, push_process};
 use ix_core::Core;
+use ix_label::Form;
 use ix_model::NoMemory;
 use ix_report::{audit_line, tail};
 
@@ -26,16 +27,19 @@ pub enum Next {
 /// What closes a report, told piece by piece: the history, and what comes next.
 #[derive(Drop)]
 pub struct Closing<'a> {
+    /// The form in which labels are spelled.
+    form: Form,
     history: &'a Core,
     next: Next,
 }
 
 impl<'a> Closing<'a> {
-    /// What closes the report of the history that a core has, of which nothing was told.
-    pub fn new(history: &'a Core) -> Closing<'a>
-        ensures { left_of result ≡ closing_text (world_of history.now) (length history.now.events) }
+    /// What closes the report of the history that a core has, in the form, of which nothing was told.
+    pub fn new(form: Form, history: &'a Core) -> Closing<'a>
+        ensures { left_of result ≡ closing_text form (world_of history.now) (length history.now.events) }
     {
         Closing {
+            form,
             history,
             next: Next::Head,
         }
@@ -76,7 +80,7 @@ impl<'a> Closing<'a> {
             self.next = Next::Process(0);
             return Ok(());
         }
-        push_object(out, self.history, n)?;
+        push_object(out, self.form, self.history, n)?;
         self.next = Next::Object(n + 1);
         Ok(())
     }
@@ -91,7 +95,7 @@ impl<'a> Closing<'a> {
             self.next = Next::Log(0);
             return Ok(());
         }
-        push_process(out, self.history, pid)?;
+        push_process(out, self.form, self.history, pid)?;
         self.next = Next::Process(pid + 1);
         Ok(())
     }
@@ -103,11 +107,11 @@ impl<'a> Closing<'a> {
     {
         let lines = self.history.log_len();
         let Some(line) = self.history.log_line(n) else {
-            tail(out, self.history.len(), lines)?;
+            tail(out, self.form, self.history.len(), lines)?;
             self.next = Next::End;
             return Ok(());
         };
-        audit_line(out, &line)?;
+        audit_line(out, self.form, &line)?;
         self.next = Next::Log(n + 1);
         Ok(())
     }

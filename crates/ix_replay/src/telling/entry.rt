@@ -4,13 +4,14 @@ ghost use Rattle.ix_model.specs.history.Calls.{op_of};
 ghost use Rattle.ix_model.specs.history.History.{History, world_of};
 ghost use Rattle.ix_model.specs.history.Made.{entry};
 ghost use Rattle.ix_model.specs.history.Shown.{AreShown};
-ghost use Rattle.ix_script.specs.lines.Before.{lanes_of};
+ghost use Rattle.ix_script.specs.lines.Before.{form_told, lanes_of};
 ghost use Rattle.ix_report.specs.LineText.{entry_line};
 ghost use Rattle.ix_report.specs.ReplyText.{AreBytesOf};
 ghost use Rattle.ix_core.specs.Stepping.{IsNext};
 ghost use Rattle.ix_replay.specs.report.Report.{entry_text, lane_name};
 
 use ix_core::Core;
+use ix_label::Form;
 use ix_model::{Call, NoMemory, Pid, ProcView, Reply};
 use ix_report::entry_line;
 use ix_script::Script;
@@ -25,9 +26,10 @@ fn lane_name(script: &Script, seat: u32) -> &[u8]
     }
 }
 
-/// Appends the line of an entry, whatever its seat, with the label of the caller's record after it.
+/// Appends the line of an entry in the form, whatever its seat, with the label of the caller's record after it.
 fn push_line(
     out: &mut Vec<u8>,
+    form: Form,
     place: u32,
     lane: &[u8],
     line: u32,
@@ -39,18 +41,22 @@ fn push_line(
 ) -> Result<(), NoMemory>
     requires { AreBytesOf reply.now bytes.now }
     ensures { (seat : ℕ) → OnOk result (out.new.items ≡ out.old.items
-        ++ entry_line place lane.now (entry seat line pid (op_of call.now)) reply.now bytes.now (option_map (λ v. v.label) caller)) }
+        ++ entry_line form place lane.now (entry seat line pid (op_of call.now)) reply.now bytes.now (option_map (λ v. v.label) caller)) }
 {
     match caller {
         Some(view) => {
             let label = Some(&view.label);
-            entry_line(out, place, lane, line, pid, call, reply, bytes, label)
+            entry_line(
+                out, form, place, lane, line, pid, call, reply, bytes, label,
+            )
         }
-        None => entry_line(out, place, lane, line, pid, call, reply, bytes, None),
+        None => entry_line(
+            out, form, place, lane, line, pid, call, reply, bytes, None,
+        ),
     }
 }
 
-/// Appends the line of an entry that a core has just made: the line of the script that it comes from, the calling process, the
+/// Appends the line of an entry that a core has just made, in the form of the script: the line of the script that it comes from, the calling process, the
 /// seat, the call, the reply, and the bytes that were read.
 pub fn push_entry(
     out: &mut Vec<u8>,
@@ -66,9 +72,20 @@ pub fn push_entry(
     requires { AreShown reply.now bytes.now }
     ensures { (before : History) → IsNext before core.now (entry seat line pid (op_of call.now)) reply.now bytes.now
         → OnOk result (out.new.items ≡ out.old.items
-        ++ entry_text (lanes_of script.now) (length before.events + 1) (world_of before) (entry seat line pid (op_of call.now))) }
+        ++ entry_text (form_told script.now) (lanes_of script.now) (length before.events + 1) (world_of before) (entry seat line pid (op_of call.now))) }
 {
     let lane = lane_name(script, seat);
     let caller = core.process(pid);
-    push_line(out, core.len(), lane, line, pid, call, reply, bytes, caller)
+    push_line(
+        out,
+        script.form(),
+        core.len(),
+        lane,
+        line,
+        pid,
+        call,
+        reply,
+        bytes,
+        caller,
+    )
 }

@@ -10,12 +10,14 @@ use Rattle.std.proofs.lemmas.List.Folds.{list_all-append}
 use Rattle.std.proofs.lemmas.Option.{cond_some}
 use Rattle.ix_model.specs.world.Naming.{same_bytes}
 use Rattle.ix_model.specs.opening.Valid.{is_within}
+use Rattle.ix_label.specs.declared.form.Form as spelled
+use Rattle.ix_script.specs.lines.Before.{form_told}
 use Rattle.ix_script.specs.texts.Cutting.{is_empty, begins, is_skipped, is_policy_line, pieces, words_of, word_at}
 use Rattle.ix_script.specs.texts.Payloads.{◌>>=◌, payload_of}
 use Rattle.ix_script.specs.lines.Kinds.{places_fault}
 use Rattle.ix_script.specs.lines.Forms.{form_of, frame_form, group_form, plain_of, on_path_of, on_fd_of, counted_of, file_form, has_right_count, places}
 use Rattle.ix_script.specs.lines.Rules.{is_late, is_outside}
-use Rattle.ix_script.specs.lines.Said.{payload_within, said, line_of}
+use Rattle.ix_script.specs.lines.Said.{payload_within, said, version_of, line_of}
 use Rattle.ix_script.specs.lines.Faults.{text_fault, words_fault, stand_fault, names_fault, said_fault, form_fault, command_fault, line_fault, body_fault}
 use Rattle.ix_text.specs.Spellings.{further, joined}
 use Rattle.ix_script.specs.texts.Spellings.{payload_text}
@@ -35,7 +37,7 @@ use Rattle.ix_script.proofs.lines.Faultless.{one_kept, text_parts, text_from, wo
 
 -- a text that stands for another
 pub record Back (before : List Line) (text again : List ℕ) (l : Line) : Type 0 where
-  pub means : line_of again ≡ Some l
+  pub means : line_of (form_told before) again ≡ Some l
   pub sound : line_fault before again ≡ None
   pub short : length again ≤ length text
 
@@ -43,23 +45,23 @@ pub record Back (before : List Line) (text again : List ℕ) (l : Line) : Type 0
 pub record Respelled (before : List Line) (text : List ℕ) (l : Line) : Type 0 where
   pub several : has_one_spelling text ≡ false
   pub respelled : may_be_respelled l ≡ true
-  pub back : Back before text (line_text l) l
+  pub back : Back before text (line_text (form_told before) l) l
 
 -- what is known of a line of a form
 pub record Formed (before : List Line) (text : List ℕ) (f : Form) (l : Line) : Type 0 where
-  pub means : line_of text ≡ Some l
+  pub means : line_of (form_told before) text ≡ Some l
   pub sound : line_fault before text ≡ None
   pub some : is_empty text ≡ false
   pub later : is_empty before ≡ false
   pub first : form_word f ≡ word_at (words_of text) 0
-  pub tells : said f (words_of text) ≡ Some l
+  pub tells : said (form_told before) f (words_of text) ≡ Some l
   pub whole : words_fault (words_of text) ≡ None
   pub fits : form_fault before f (words_of text) ≡ None
 
 -- the same text
-pub itself : (before : List Line) (text again : List ℕ) (l : Line) → text ≡ again → line_of text ≡ Some l → line_fault before text ≡ None → Back before text again l
+pub itself : (before : List Line) (text again : List ℕ) (l : Line) → text ≡ again → line_of (form_told before) text ≡ Some l → line_fault before text ≡ None → Back before text again l
 itself before text again l e means sound = record {
-  means = ap line_of (sym e) ∙ means;
+  means = ap (line_of (form_told before)) (sym e) ∙ means;
   sound = ap (line_fault before) (sym e) ∙ sound;
   short = omega (arith, ap length e);
 }
@@ -68,7 +70,7 @@ itself before text again l e means sound = record {
 pub right_count : (before : List Line) (f : Form) (words : List (List ℕ)) → form_fault before f words ≡ None → has_right_count f words ≡ true
 unfolding form_fault stand_fault
 right_count before f words h =
-    let stand = (neither (stand_fault before f words) (option_or (places_fault (places f words)) (option_or (names_fault before f words) (option_map_or (said_fault before) (said f words) None))) h).0 in
+    let stand = (neither (stand_fault before f words) (option_or (places_fault (places (form_told before) f words)) (option_or (names_fault before f words) (option_map_or (said_fault before) (said (form_told before) f words) None))) h).0 in
     let late = one_kept 8 (is_late before f) ((9, is_outside before f) ∷ (10, not (has_right_count f words)) ∷ []) stand in
     let outside = one_kept 9 (is_outside before f) ((10, not (has_right_count f words)) ∷ []) late.1 in
     let count = one_kept 10 (not (has_right_count f words)) [] outside.1 in
@@ -164,21 +166,21 @@ pub record Begins (first : List ℕ) (f : Form) : Type 0 where
   form : form_of first ≡ Some f
   some : (rest : List (List ℕ)) → is_empty (joined 32 (first ∷ rest)) ≡ false
   not_skipped : (rest : List (List ℕ)) → is_skipped (joined 32 (first ∷ rest)) ≡ false
-  not_version : (rest : List (List ℕ)) → same_bytes (joined 32 (first ∷ rest)) (codes "ix 1") ≡ false
+  not_version : (rest : List (List ℕ)) → version_of (joined 32 (first ∷ rest)) ≡ None
   not_policy : (rest : List (List ℕ)) → is_policy_line (joined 32 (first ∷ rest)) ≡ false
 
 pub file_begins : Begins (codes "file") form.File
-unfolding form_of frame_form is_policy_line
+unfolding form_of frame_form is_policy_line version_of
 file_begins = record { form = refl; some = λ rest. refl; not_skipped = λ rest. refl; not_version = λ rest. refl; not_policy = λ rest. refl }
 
 pub write_begins : Begins (codes "write") form.Write
-unfolding form_of frame_form group_form plain_of on_path_of on_fd_of counted_of file_form is_policy_line
+unfolding form_of frame_form group_form plain_of on_path_of on_fd_of counted_of file_form is_policy_line version_of
 write_begins = record { form = refl; some = λ rest. refl; not_skipped = λ rest. refl; not_version = λ rest. refl; not_policy = λ rest. refl }
 
-means_by_words : (first : List ℕ) (rest : List (List ℕ)) (f : Form) → Begins first f → words_of (joined 32 (first ∷ rest)) ≡ first ∷ rest → line_of (joined 32 (first ∷ rest)) ≡ said f (first ∷ rest)
+means_by_words : (labels : spelled.Form) (first : List ℕ) (rest : List (List ℕ)) (f : Form) → Begins first f → words_of (joined 32 (first ∷ rest)) ≡ first ∷ rest → line_of labels (joined 32 (first ∷ rest)) ≡ said labels f (first ∷ rest)
 unfolding line_of
-means_by_words first rest f k cut =
-    rw (k.not_skipped rest, k.not_version rest, k.not_policy rest, cut) (ap (λ o. o >>= λ g. said g (first ∷ rest)) k.form)
+means_by_words labels first rest f k cut =
+    rw (k.not_skipped rest, k.not_version rest, k.not_policy rest, cut) (ap (λ o. o >>= λ g. said labels g (first ∷ rest)) k.form)
 
 sound_by_words : (before : List Line) (first : List ℕ) (rest : List (List ℕ)) (f : Form) → Begins first f → words_of (joined 32 (first ∷ rest)) ≡ first ∷ rest → is_empty before ≡ false → text_fault (joined 32 (first ∷ rest)) ≡ None → words_fault (first ∷ rest) ≡ None → form_fault before f (first ∷ rest) ≡ None → line_fault before (joined 32 (first ∷ rest)) ≡ None
 unfolding line_fault body_fault command_fault
@@ -189,8 +191,8 @@ sound_by_words before first rest f k cut later fine whole fits =
 pub payload_back : (before : List Line) (text : List ℕ) (f : Form) (l : Line) (most : ℕ) (first : List ℕ) (front : List (List ℕ)) (p bytes : List ℕ)
     → Begins first f → Formed before text f l → Shortest most p bytes → words_of text ≡ first ∷ (front ++ p ∷ [])
     → form_fault before f (first ∷ (front ++ p ∷ [])) ≡ form_fault before f (first ∷ (front ++ payload_text bytes ∷ []))
-    → said f (first ∷ (front ++ p ∷ [])) ≡ said f (first ∷ (front ++ payload_text bytes ∷ []))
-    → line_words l ≡ first ∷ (front ++ payload_text bytes ∷ []) → Back before text (line_text l) l
+    → said (form_told before) f (first ∷ (front ++ p ∷ [])) ≡ said (form_told before) f (first ∷ (front ++ payload_text bytes ∷ []))
+    → line_words (form_told before) l ≡ first ∷ (front ++ payload_text bytes ∷ []) → Back before text (line_text (form_told before) l) l
 unfolding line_fault
 payload_back before text f l most first front p bytes begins k s cut fits tells words =
     let q : List ℕ = payload_text bytes in
@@ -201,8 +203,8 @@ payload_back before text f l most first front p bytes begins k s cut fits tells 
     let pieces_are : pieces spot.Front (joined 32 (first ∷ (front ++ p ∷ []))) ≡ first ∷ (front ++ p ∷ []) = ap (pieces spot.Front) whole ∙ sym (words_some text k.some) ∙ cut in
     let again : words_of (joined 32 (first ∷ (front ++ q ∷ []))) ≡ first ∷ (front ++ q ∷ []) =
     words_some (joined 32 (first ∷ (front ++ q ∷ []))) (begins.some (front ++ q ∷ [])) ∙ cut_again (first ∷ front) p q pieces_are s.spells.whole in
-    let means : line_of (joined 32 (first ∷ (front ++ q ∷ []))) ≡ Some l =
-    means_by_words first (front ++ q ∷ []) f begins again ∙ sym tells ∙ ap (said f) (sym cut) ∙ k.tells in
+    let means : line_of (form_told before) (joined 32 (first ∷ (front ++ q ∷ []))) ≡ Some l =
+    means_by_words (form_told before) first (front ++ q ∷ []) f begins again ∙ sym tells ∙ ap (said (form_told before) f) (sym cut) ∙ k.tells in
     let fine_text : text_fault (joined 32 (first ∷ (front ++ q ∷ []))) ≡ None = text_from (joined 32 (first ∷ (front ++ q ∷ []))) (omega (arith, fine.0, other.0)) other.1 in
     let whole_words : words_fault (first ∷ (front ++ q ∷ [])) ≡ None = words_again (first ∷ front) p q (ap words_fault (sym cut) ∙ k.whole) s.spells.some s.spells.closed in
     let fits_again : form_fault before f (first ∷ (front ++ q ∷ [])) ≡ None = sym fits ∙ ap (form_fault before f) (sym cut) ∙ k.fits in

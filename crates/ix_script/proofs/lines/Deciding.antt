@@ -1,26 +1,32 @@
 -- Which rules look at a line, by where it stands and how it begins.
-use Rattle.std.proofs.Common.{◌≡◌, ◌≢◌, ℕ, zero, suc, ◌<◌, true, false, List, [], ◌∷◌, length, drop, Option, Some, None, Result, Ok, Err, codes, refl, sym, ap, ◌∙◌, subst, arith, inl, inr}
+use Rattle.std.proofs.Common.{◌≡◌, ◌≢◌, ℕ, zero, suc, ◌<◌, true, false, true≢false, cond, List, [], ◌∷◌, length, drop, Option, Some, None, Result, Ok, Err, codes, refl, sym, ap, ◌∙◌, subst, arith, inl, inr}
 use Rattle.std.specs.Cmp.Lexicographic.{same_text}
+use Rattle.std.specs.Option.{is_none}
+use Rattle.std.proofs.lemmas.Option.{same_Some, none-some}
+use Rattle.ix_label.specs.declared.form.Form.{Form}
+use Rattle.ix_label.specs.declared.form.Form.TheVariants.{One, Two}
 use Rattle.ix_model.specs.world.Naming.{same_bytes}
-use Rattle.ix_script.specs.lines.Before.{in_body, has_policy}
+use Rattle.ix_script.specs.lines.Before.{form_told, in_body, has_policy}
 use Rattle.ix_script.specs.texts.Cutting.{is_empty, pieces, words_of, is_closed, is_skipped, is_policy_line, policy_text}
 use Rattle.ix_script.specs.lines.Forms.{plain_of, on_path_of, on_fd_of, counted_of, frame_form, group_form, file_form, process_form, form_of}
-use Rattle.ix_script.specs.lines.Rules.{has_empty_word, has_open_quote}
-use Rattle.ix_script.specs.lines.Faults.{words_fault, said_fault, command_fault, policy_fault, first_line_fault, body_fault}
-use Rattle.ix_script.specs.lines.Said.{said_by_words, line_of}
+use Rattle.ix_script.specs.lines.Rules.{first_of, has_empty_word, has_open_quote}
+use Rattle.ix_script.specs.lines.Faults.{text_fault, line_fault, words_fault, said_fault, command_fault, policy_fault, first_line_fault, body_fault}
+use Rattle.ix_script.specs.lines.Said.{said_by_words, version_of, line_of}
 use Rattle.ix_script.specs.reader.Readers.{LineRight, Tells}
 use Rattle.ix_script.specs.declared.rule.Rule.{Rule}
 use Rattle.ix_script.specs.declared.line.Line.{Line}
 use Rattle.ix_script.specs.declared.line.Line.TheVariants as line
 use Rattle.ix_script.proofs.texts.AllLabels.{bool_cases}
+use Rattle.ix_script.proofs.lines.Faultless.{one_kept}
+use Rattle.ix_script.proofs.reader.Told.{neither}
 
 pub skipped_fits : (before : List Line) → said_fault before line.Skipped ≡ None
 unfolding said_fault
 skipped_fits before = refl
 
-version_fits : (before : List Line) → said_fault before line.Version ≡ None
+pub version_fits : (before : List Line) (form : Form) → said_fault before (line.Version form) ≡ None
 unfolding said_fault
-version_fits before = refl
+version_fits before form = refl
 
 policy_fits : (before : List Line) (text : List ℕ) → said_fault before (line.Policy text) ≡ None
 unfolding said_fault
@@ -40,15 +46,58 @@ more_than zero (b ∷ text) h = refl
 more_than (suc n) (b ∷ text) h = more_than n text (omega arith)
 
 -- ---- the first line
-pub first_is : LineRight [] line.Version (first_line_fault (codes "ix 1")) (line_of (codes "ix 1"))
-unfolding first_line_fault line_of is_policy_line words_fault has_empty_word has_open_quote words_of pieces is_closed
-first_is = record { faultless = refl; meant = refl; fits = version_fits [] }
+abbrev pub version_text : Form → List ℕ
+version_text One = codes "ix 1"
+version_text Two = codes "ix 2"
 
-pub first_right : (text : List ℕ) → same_bytes text (codes "ix 1") ≡ true → LineRight [] line.Version (first_line_fault text) (line_of text)
-first_right text h = subst (λ (t : List ℕ). LineRight [] line.Version (first_line_fault t) (line_of t)) (sym (same_text text (codes "ix 1") (sym h))) first_is
+-- only that text tells that form
+pub version_is : (text : List ℕ) (form : Form) → version_of text ≡ Some form → text ≡ version_text form
+unfolding version_of
+version_is text form h = elim (bool_cases (same_bytes text (codes "ix 1"))) [
+  | inl t ↦
+      let is : Some One ≡ Some form = rw t at h in
+      subst (λ (f : Form). text ≡ version_text f) (same_Some One form is) (same_text text (codes "ix 1") (sym t))
+  | inr f ↦ elim (bool_cases (same_bytes text (codes "ix 2"))) [
+      | inl t ↦
+          let is : Some Two ≡ Some form = rw (f, t) at h in
+          subst (λ (f : Form). text ≡ version_text f) (same_Some Two form is) (same_text text (codes "ix 2") (sym t))
+      | inr g ↦ let none : ◌≡◌ {A = Option Form} None (Some form) = rw (f, g) at h in cc
+    ]
+]
+
+first_is : (form : Form) → LineRight [] (line.Version form) (first_line_fault (version_text form)) (line_of One (version_text form))
+unfolding first_line_fault line_of version_of is_policy_line words_fault has_empty_word has_open_quote words_of pieces is_closed
+first_is One = record { faultless = refl; meant = refl; fits = version_fits [] One }
+first_is Two = record { faultless = refl; meant = refl; fits = version_fits [] Two }
+
+pub first_right : (text : List ℕ) (form : Form) → version_of text ≡ Some form → LineRight [] (line.Version form) (first_line_fault text) (line_of One text)
+first_right text form h = subst (λ (t : List ℕ). LineRight [] (line.Version form) (first_line_fault t) (line_of One t)) (sym (version_is text form h)) (first_is form)
+
+some_form : (o : Option Form) → is_none o ≡ false → (form : Form) × (o ≡ Some form)
+some_form None h = absurd (true≢false h)
+some_form (Some form) h = (form, refl)
+
+-- a first line without a fault tells a form
+pub first_version : (text : List ℕ) → first_line_fault text ≡ None → (form : Form) × (version_of text ≡ Some form)
+unfolding first_line_fault
+first_version text h =
+    let p = neither (cond (is_policy_line text) None (words_fault (words_of text))) (first_of ((6, is_none (version_of text)) ∷ [])) h in
+    some_form (version_of text) (one_kept 6 (is_none (version_of text)) [] p.1).0
+
+pub first_faultless : (text : List ℕ) → line_fault [] text ≡ None → first_line_fault text ≡ None
+unfolding line_fault body_fault
+first_faultless text h = (neither (text_fault text) (first_line_fault text) h).1
+
+-- what the first line says is the same in both forms
+pub version_said : (labels : Form) (text : List ℕ) (form : Form) → version_of text ≡ Some form → line_of labels text ≡ Some (line.Version form)
+version_said labels text form h = subst (λ (t : List ℕ). line_of labels t ≡ Some (line.Version form)) (sym (version_is text form h)) (said_so form)
+  where
+    said_so : (f : Form) → line_of labels (version_text f) ≡ Some (line.Version f)
+    said_so One = refl
+    said_so Two = refl
 
 -- ---- lines that are skipped, and the policy
-pub skipped_right : (before : List Line) (text : List ℕ) → is_empty before ≡ false → is_skipped text ≡ true → LineRight before line.Skipped (body_fault before text) (line_of text)
+pub skipped_right : (before : List Line) (text : List ℕ) → is_empty before ≡ false → is_skipped text ≡ true → LineRight before line.Skipped (body_fault before text) (line_of (form_told before) text)
 unfolding body_fault line_of
 skipped_right before text h k = record { faultless = rw (h, k) refl; meant = rw k refl; fits = skipped_fits before }
 
@@ -62,31 +111,32 @@ told_as : (before : List Line) (r : Result Line Rule) (f g : Option ℕ) (m n : 
 told_as before r f g m n e d h = subst (λ (x : Option Line). Tells before r g x) (sym d) (subst (λ (x : Option ℕ). Tells before r x m) (sym e) h)
 
 pub policy_right : (before : List Line) (text : List ℕ) (r : Result Line Rule) → is_empty before ≡ false → is_skipped text ≡ false → is_policy_line text ≡ true
-    → Tells before r (policy_fault before text) (Some (line.Policy (policy_text text))) → Tells before r (body_fault before text) (line_of text)
+    → Tells before r (policy_fault before text) (Some (line.Policy (policy_text text))) → Tells before r (body_fault before text) (line_of (form_told before) text)
 unfolding body_fault line_of
 policy_right before text r h k p t = told_as before r (policy_fault before text) _ (Some (line.Policy (policy_text text))) _ (rw (h, k, p) refl) (rw (k, p) refl) t
 
--- ---- other lines: `ix 1` is no form
-ix_is_unknown : (before : List Line) → command_fault before (words_of (codes "ix 1")) ≡ Some 7
+-- ---- other lines: `ix 1` and `ix 2` begin as no form does
+ix_is_unknown : (before : List Line) (form : Form) → command_fault before (words_of (version_text form)) ≡ Some 7
 unfolding command_fault words_fault has_empty_word has_open_quote words_of pieces is_closed form_of frame_form group_form plain_of on_path_of on_fd_of counted_of file_form process_form
-ix_is_unknown before = refl
+ix_is_unknown before One = refl
+ix_is_unknown before Two = refl
 
-not_ix : (before : List Line) (text : List ℕ) → command_fault before (words_of text) ≡ None → same_bytes text (codes "ix 1") ≡ false
-not_ix before text h = elim (bool_cases (same_bytes text (codes "ix 1"))) [
-  | inl t ↦
-      let e : text ≡ codes "ix 1" = same_text text (codes "ix 1") (sym t) in
-      let f : command_fault before (words_of text) ≡ Some 7 = ap (λ (x : List ℕ). command_fault before (words_of x)) e ∙ ix_is_unknown before in
-      absurd (cc (h, f))
-  | inr f ↦ f
-]
+pub not_ix : (before : List Line) (text : List ℕ) → command_fault before (words_of text) ≡ None → version_of text ≡ None
+not_ix before text h = go (version_of text) refl
+  where
+    go : (o : Option Form) → version_of text ≡ o → o ≡ None
+    go None is = refl
+    go (Some form) is =
+        let f : command_fault before (words_of text) ≡ Some 7 = ap (λ (x : List ℕ). command_fault before (words_of x)) (version_is text form is) ∙ ix_is_unknown before form in
+        absurd (none-some 7 (sym h ∙ f))
 
-command_meant : (before : List Line) (text : List ℕ) (r : Result Line Rule) → is_skipped text ≡ false → is_policy_line text ≡ false
-    → Tells before r (command_fault before (words_of text)) (said_by_words (words_of text)) → Tells before r (command_fault before (words_of text)) (line_of text)
+command_meant : (labels : Form) (before : List Line) (text : List ℕ) (r : Result Line Rule) → is_skipped text ≡ false → is_policy_line text ≡ false
+    → Tells before r (command_fault before (words_of text)) (said_by_words labels (words_of text)) → Tells before r (command_fault before (words_of text)) (line_of labels text)
 unfolding line_of
-command_meant before text (Ok l) k p t = record { faultless = t.faultless; meant = rw (k, p, not_ix before text t.faultless) t.meant; fits = t.fits }
-command_meant before text (Err e) k p t = t
+command_meant labels before text (Ok l) k p t = record { faultless = t.faultless; meant = rw (k, p, not_ix before text t.faultless) t.meant; fits = t.fits }
+command_meant labels before text (Err e) k p t = t
 
 pub command_right : (before : List Line) (text : List ℕ) (r : Result Line Rule) → is_empty before ≡ false → is_skipped text ≡ false → is_policy_line text ≡ false
-    → Tells before r (command_fault before (words_of text)) (said_by_words (words_of text)) → Tells before r (body_fault before text) (line_of text)
+    → Tells before r (command_fault before (words_of text)) (said_by_words (form_told before) (words_of text)) → Tells before r (body_fault before text) (line_of (form_told before) text)
 unfolding body_fault
-command_right before text r h k p t = told_as before r (command_fault before (words_of text)) _ (line_of text) (line_of text) (rw (h, k, p) refl) refl (command_meant before text r k p t)
+command_right before text r h k p t = told_as before r (command_fault before (words_of text)) _ (line_of (form_told before) text) (line_of (form_told before) text) (rw (h, k, p) refl) refl (command_meant (form_told before) before text r k p t)

@@ -9,10 +9,11 @@ use Rattle.ix_model.specs.declared.privs.PrivSet.{PrivSet}
 use Rattle.ix_model.specs.world.Naming.{PathOf, is_name, same_bytes}
 use Rattle.ix_model.specs.opening.Valid.{is_within}
 use Rattle.ix_script.specs.texts.Lines.{with_front}
-use Rattle.ix_script.specs.lines.Before.{is_known, fss_told}
+use Rattle.ix_label.specs.declared.form.Form as spelled
+use Rattle.ix_script.specs.lines.Before.{form_told, is_known, fss_told}
 use Rattle.ix_script.specs.texts.Cutting.{begins, is_empty, words_of, word_at, is_skipped, is_policy_line, policy_text}
 use Rattle.ix_script.specs.texts.Words.{name_of, is_numeral, value, number_of, between_slashes, names_of, path_from, may_stand_in_path, path_of, made_path_of, what_of, is_script_name, privs_of, state_of}
-use Rattle.ix_script.specs.texts.Labels.{label_of}
+use Rattle.ix_script.specs.texts.Labels.{label_in}
 use Rattle.ix_script.specs.texts.Payloads.{◌>>=◌, payload_of}
 use Rattle.ix_script.specs.lines.Kinds.{bounds_of, bounds, places_fault}
 use Rattle.ix_script.specs.lines.Forms.{form_of, places}
@@ -36,7 +37,8 @@ use Rattle.ix_script.specs.declared.line.Line.TheVariants as line
 use Rattle.ix_script.proofs.texts.Names as names
 use Rattle.ix_script.proofs.texts.AllLabels.{bool_cases}
 use Rattle.ix_script.proofs.lines.Follows.{passes}
-use Rattle.ix_script.proofs.lines.Deciding.{first_is}
+use Rattle.std.proofs.lemmas.Option.{same_Some}
+use Rattle.ix_script.proofs.lines.Deciding.{first_version, version_said, not_ix}
 
 -- numbers are within their bounds, a file system's name is new, and an object has an absolute path with a name, and few bytes
 abbrev pub HasPlace : PathOf → Type 0
@@ -175,9 +177,9 @@ limit_sound before words x h =
     let low = within (bounds (word_at words 1)).0 (bounds (word_at words 1)).1 x.1 (word_at words 2) p.second in
     subst (λ (b : ℕ × ℕ). is_within b.0 b.1 x.1 ≡ true) (bounds_are (word_at words 1) x.0 p.first) low
 
-fs_sound : (before : List Line) (words : List (List ℕ)) (x : List ℕ × (Categories × (ℕ × ℕ))) → is_known (word_at words 1) (map (λ s. s.name) (fss_told before)) ≡ false
-    → both (name_of (word_at words 1)) (both (label_of (word_at words 2)) (both (number_of 1 65536 (word_at words 3)) (number_of 1 65536 (word_at words 4)))) ≡ Some x → Sound before (line.Fs x.0 x.1.0 x.1.1.0 x.1.1.1)
-fs_sound before words x new h =
+fs_sound : (labels : spelled.Form) (before : List Line) (words : List (List ℕ)) (x : List ℕ × (Categories × (ℕ × ℕ))) → is_known (word_at words 1) (map (λ s. s.name) (fss_told before)) ≡ false
+    → both (name_of (word_at words 1)) (both (label_in labels (word_at words 2)) (both (number_of 1 65536 (word_at words 3)) (number_of 1 65536 (word_at words 4)))) ≡ Some x → Sound before (line.Fs x.0 x.1.0 x.1.1.0 x.1.1.1)
+fs_sound labels before words x new h =
     let a = apart _ _ x h in
     let b = apart _ _ x.1 a.second in
     let c = apart _ _ x.1.1 b.second in
@@ -192,10 +194,10 @@ payload_few most word bytes (Some found) h =
     let p = chosen (nat_le (length found) most) found bytes h in
     subst (λ (f : List ℕ). nat_le (length f) most ≡ true) p.1 p.0
 
-file_sound : (before : List Line) (words : List (List ℕ)) (x : PathOf × (Categories × (Bool × (PrivSet × (PrivSet × List ℕ)))))
-    → both (made_path_of (word_at words 1)) (both (label_of (word_at words 2)) (both (state_of (word_at words 3)) (both (privs_of (word_at words 4)) (both (privs_of (word_at words 5)) (payload_within 1048576 (word_at words 6)))))) ≡ Some x
+file_sound : (labels : spelled.Form) (before : List Line) (words : List (List ℕ)) (x : PathOf × (Categories × (Bool × (PrivSet × (PrivSet × List ℕ)))))
+    → both (made_path_of (word_at words 1)) (both (label_in labels (word_at words 2)) (both (state_of (word_at words 3)) (both (privs_of (word_at words 4)) (both (privs_of (word_at words 5)) (payload_within 1048576 (word_at words 6)))))) ≡ Some x
     → Sound before (line.File x.0 x.1.0 x.1.1.0 x.1.1.1.0 x.1.1.1.1.0 x.1.1.1.1.1)
-file_sound before words x h =
+file_sound labels before words x h =
     let a = apart _ _ x h in
     let b = apart _ _ x.1 a.second in
     let c = apart _ _ x.1.1 b.second in
@@ -203,35 +205,35 @@ file_sound before words x h =
     let e = apart _ _ x.1.1.1.1 d.second in
     record { place = made_place (word_at words 1) x.0 a.first; few = payload_few 1048576 (word_at words 6) x.1.1.1.1.1 (payload_of (word_at words 6)) e.second }
 
-sound_form : (before : List Line) (f : Form) (words : List (List ℕ)) (l : Line) → is_given_twice before f words ≡ false → said f words ≡ Some l → Sound before l
-sound_form before form.Limit words l new h = made_by (λ x. line.Limit x.0 x.1) before _ l (λ x e. limit_sound before words x e) h
-sound_form before form.Fs words l new h = made_by (λ x. line.Fs x.0 x.1.0 x.1.1.0 x.1.1.1) before _ l (λ x e. fs_sound before words x new e) h
-sound_form before form.Proc words l new h = made_by (λ x. line.Proc x.0 x.1.0 x.1.1.0 x.1.1.1.0 x.1.1.1.1) before _ l (λ x e. tt) h
-sound_form before form.Dir words l new h = made_by (λ x. line.Dir x.0 x.1.0 x.1.1) before _ l (λ x e. made_place (word_at words 1) x.0 (apart _ _ x e).first) h
-sound_form before form.File words l new h = made_by (λ x. line.File x.0 x.1.0 x.1.1.0 x.1.1.1.0 x.1.1.1.1.0 x.1.1.1.1.1) before _ l (λ x e. file_sound before words x e) h
-sound_form before form.Phase words l new h = let e : line.Phase ≡ l = cc in subst (λ (k : Line). Sound before k) e tt
-sound_form before form.Lane words l new h = made_by (λ x. line.Lane x) before _ l (λ x e. tt) h
-sound_form before (form.Plain c) words l new h = made_by (λ x. plain_line c x) before _ l (λ x e. plain_sound before c x) h
-sound_form before (form.OnPath c) words l new h = made_by (λ x. path_line c x.0 x.1) before _ l (λ x e. path_sound before c x.0 x.1) h
-sound_form before (form.OnFd c) words l new h = made_by (λ x. fd_line c x.0 x.1) before _ l (λ x e. fd_sound before c x.0 x.1) h
-sound_form before (form.Counted c) words l new h = made_by (λ x. counted_line c x.0 x.1.0 x.1.1) before _ l (λ x e. counted_sound before c x.0 x.1.0 x.1.1) h
-sound_form before form.Open words l new h = made_by (λ x. line.Open x.0 x.1.0 x.1.1.0 x.1.1.1) before _ l (λ x e. tt) h
-sound_form before form.Write words l new h = made_by (λ x. line.Write x.0 x.1.0 x.1.1) before _ l (λ x e. tt) h
-sound_form before form.Dup words l new h = made_by (λ x. line.Dup x.0 x.1.0 x.1.1) before _ l (λ x e. tt) h
-sound_form before form.Pipe words l new h = made_by (λ x. line.Pipe x.0 x.1) before _ l (λ x e. tt) h
-sound_form before form.Link words l new h = made_by (λ x. line.Link x.0 x.1.0 x.1.1) before _ l (λ x e. tt) h
-sound_form before form.List words l new h = made_by (λ x. line.List x.0 x.1.0 x.1.1) before _ l (λ x e. tt) h
-sound_form before form.Copy words l new h = made_by (λ x. line.Copy x.0 x.1.0 x.1.1.0 x.1.1.1) before _ l (λ x e. tt) h
-sound_form before form.Setlabel words l new h = made_by (λ x. line.Setlabel x.0 x.1.0 x.1.1) before _ l (λ x e. tt) h
-sound_form before form.Setpriv words l new h = made_by (λ x. line.Setpriv x.0 x.1.0 x.1.1.0 x.1.1.1) before _ l (λ x e. tt) h
-sound_form before form.Fork words l new h = made_by (λ x. line.Fork x.0 x.1.0 x.1.1) before _ l (λ x e. tt) h
-sound_form before form.Exit words l new h = made_by (λ x. line.Exit x.0 x.1) before _ l (λ x e. tt) h
-sound_form before form.Setself words l new h = made_by (λ x. line.Setself x.0 x.1) before _ l (λ x e. tt) h
-sound_form before form.Droplic words l new h = made_by (λ x. line.Droplic x.0 x.1) before _ l (λ x e. tt) h
-sound_form before form.Grant words l new h = made_by (λ x. line.Grant x.0 x.1.0 x.1.1) before _ l (λ x e. tt) h
-sound_form before form.Ceiling words l new h = made_by (λ x. line.Ceiling x.0 x.1.0 x.1.1) before _ l (λ x e. tt) h
-sound_form before form.Readlog words l new h = made_by (λ x. line.Readlog x.0 x.1) before _ l (λ x e. tt) h
-sound_form before form.Login words l new h = made_by (λ x. line.Login x.0 x.1.0 x.1.1.0 x.1.1.1) before _ l (λ x e. tt) h
+sound_form : (labels : spelled.Form) (before : List Line) (f : Form) (words : List (List ℕ)) (l : Line) → is_given_twice before f words ≡ false → said labels f words ≡ Some l → Sound before l
+sound_form labels before form.Limit words l new h = made_by (λ x. line.Limit x.0 x.1) before _ l (λ x e. limit_sound before words x e) h
+sound_form labels before form.Fs words l new h = made_by (λ x. line.Fs x.0 x.1.0 x.1.1.0 x.1.1.1) before _ l (λ x e. fs_sound labels before words x new e) h
+sound_form labels before form.Proc words l new h = made_by (λ x. line.Proc x.0 x.1.0 x.1.1.0 x.1.1.1.0 x.1.1.1.1) before _ l (λ x e. tt) h
+sound_form labels before form.Dir words l new h = made_by (λ x. line.Dir x.0 x.1.0 x.1.1) before _ l (λ x e. made_place (word_at words 1) x.0 (apart _ _ x e).first) h
+sound_form labels before form.File words l new h = made_by (λ x. line.File x.0 x.1.0 x.1.1.0 x.1.1.1.0 x.1.1.1.1.0 x.1.1.1.1.1) before _ l (λ x e. file_sound labels before words x e) h
+sound_form labels before form.Phase words l new h = let e : line.Phase ≡ l = cc in subst (λ (k : Line). Sound before k) e tt
+sound_form labels before form.Lane words l new h = made_by (λ x. line.Lane x) before _ l (λ x e. tt) h
+sound_form labels before (form.Plain c) words l new h = made_by (λ x. plain_line c x) before _ l (λ x e. plain_sound before c x) h
+sound_form labels before (form.OnPath c) words l new h = made_by (λ x. path_line c x.0 x.1) before _ l (λ x e. path_sound before c x.0 x.1) h
+sound_form labels before (form.OnFd c) words l new h = made_by (λ x. fd_line c x.0 x.1) before _ l (λ x e. fd_sound before c x.0 x.1) h
+sound_form labels before (form.Counted c) words l new h = made_by (λ x. counted_line c x.0 x.1.0 x.1.1) before _ l (λ x e. counted_sound before c x.0 x.1.0 x.1.1) h
+sound_form labels before form.Open words l new h = made_by (λ x. line.Open x.0 x.1.0 x.1.1.0 x.1.1.1) before _ l (λ x e. tt) h
+sound_form labels before form.Write words l new h = made_by (λ x. line.Write x.0 x.1.0 x.1.1) before _ l (λ x e. tt) h
+sound_form labels before form.Dup words l new h = made_by (λ x. line.Dup x.0 x.1.0 x.1.1) before _ l (λ x e. tt) h
+sound_form labels before form.Pipe words l new h = made_by (λ x. line.Pipe x.0 x.1) before _ l (λ x e. tt) h
+sound_form labels before form.Link words l new h = made_by (λ x. line.Link x.0 x.1.0 x.1.1) before _ l (λ x e. tt) h
+sound_form labels before form.List words l new h = made_by (λ x. line.List x.0 x.1.0 x.1.1) before _ l (λ x e. tt) h
+sound_form labels before form.Copy words l new h = made_by (λ x. line.Copy x.0 x.1.0 x.1.1.0 x.1.1.1) before _ l (λ x e. tt) h
+sound_form labels before form.Setlabel words l new h = made_by (λ x. line.Setlabel x.0 x.1.0 x.1.1) before _ l (λ x e. tt) h
+sound_form labels before form.Setpriv words l new h = made_by (λ x. line.Setpriv x.0 x.1.0 x.1.1.0 x.1.1.1) before _ l (λ x e. tt) h
+sound_form labels before form.Fork words l new h = made_by (λ x. line.Fork x.0 x.1.0 x.1.1) before _ l (λ x e. tt) h
+sound_form labels before form.Exit words l new h = made_by (λ x. line.Exit x.0 x.1) before _ l (λ x e. tt) h
+sound_form labels before form.Setself words l new h = made_by (λ x. line.Setself x.0 x.1) before _ l (λ x e. tt) h
+sound_form labels before form.Droplic words l new h = made_by (λ x. line.Droplic x.0 x.1) before _ l (λ x e. tt) h
+sound_form labels before form.Grant words l new h = made_by (λ x. line.Grant x.0 x.1.0 x.1.1) before _ l (λ x e. tt) h
+sound_form labels before form.Ceiling words l new h = made_by (λ x. line.Ceiling x.0 x.1.0 x.1.1) before _ l (λ x e. tt) h
+sound_form labels before form.Readlog words l new h = made_by (λ x. line.Readlog x.0 x.1) before _ l (λ x e. tt) h
+sound_form labels before form.Login words l new h = made_by (λ x. line.Login x.0 x.1.0 x.1.1.0 x.1.1.1) before _ l (λ x e. tt) h
 
 -- ---- the rules that were passed
 neither : {A : Type 0} (a b : Option A) → option_or a b ≡ None → (a ≡ None) × (b ≡ None)
@@ -242,47 +244,38 @@ new_names : (before : List Line) (f : Form) (words : List (List ℕ)) → form_f
 unfolding form_fault names_fault
 new_names before f words h =
     let one = neither (stand_fault before f words) _ h in
-    let two = neither (places_fault (places f words)) _ one.1 in
+    let two = neither (places_fault (places (form_told before) f words)) _ one.1 in
     let three = neither (cond (is_given_twice before f words) (Some 20) (cond (names_unknown before f words) (Some 21) None)) _ two.1 in
     (passes (is_given_twice before f words) 20 _ three.0).0
 
-sound_words : (before : List Line) (words : List (List ℕ)) (o : Option Form) (l : Line) → option_map_or (λ f. form_fault before f words) o (Some 7) ≡ None → (o >>= λ f. said f words) ≡ Some l → Sound before l
-sound_words before words None l h m = cc
-sound_words before words (Some f) l h m = sound_form before f words l (new_names before f words h) m
+sound_words : (labels : spelled.Form) (before : List Line) (words : List (List ℕ)) (o : Option Form) (l : Line) → option_map_or (λ f. form_fault before f words) o (Some 7) ≡ None → (o >>= λ f. said labels f words) ≡ Some l → Sound before l
+sound_words labels before words None l h m = cc
+sound_words labels before words (Some f) l h m = sound_form labels before f words l (new_names before f words h) m
 
 -- ---- a line that breaks no rule
-first_sound : (text : List ℕ) (l : Line) → first_line_fault text ≡ None → line_of text ≡ Some l → Sound [] l
-unfolding first_line_fault
-first_sound text l h m =
-    let one = neither _ (cond (not (same_bytes text (codes "ix 1"))) (Some 6) None) h in
-    let two = passes (not (same_bytes text (codes "ix 1"))) 6 None one.1 in
-    let is : same_bytes text (codes "ix 1") ≡ true = not_false (same_bytes text (codes "ix 1")) two.0 in
-    let e : text ≡ codes "ix 1" = same_text text (codes "ix 1") (sym is) in
-    let k : Some l ≡ Some line.Version = sym m ∙ ap line_of e ∙ first_is.meant in
-    let same : line.Version ≡ l = cc in
-    subst (λ (x : Line). Sound [] x) same tt
+first_sound : (labels : spelled.Form) (text : List ℕ) (l : Line) → first_line_fault text ≡ None → line_of labels text ≡ Some l → Sound [] l
+first_sound labels text l h m =
+    let v = first_version text h in
+    subst (λ (x : Line). Sound [] x) (same_Some (line.Version v.0) l (sym (version_said labels text v.0 v.1) ∙ m)) tt
 
-later_sound : (before : List Line) (text : List ℕ) (l : Line) → is_empty before ≡ false → body_fault before text ≡ None → line_of text ≡ Some l → Sound before l
+later_sound : (labels : spelled.Form) (before : List Line) (text : List ℕ) (l : Line) → is_empty before ≡ false → body_fault before text ≡ None → line_of labels text ≡ Some l → Sound before l
 unfolding body_fault line_of command_fault
-later_sound before text l some h m = elim (bool_cases (is_skipped text)) [
+later_sound labels before text l some h m = elim (bool_cases (is_skipped text)) [
   | inl t ↦ let k : Some line.Skipped ≡ Some l = rw t at m in let same : line.Skipped ≡ l = cc in subst (λ (x : Line). Sound before x) same tt
   | inr f ↦ elim (bool_cases (is_policy_line text)) [
     | inl p ↦ let k : Some (line.Policy (policy_text text)) ≡ Some l = rw (f, p) at m in let same : line.Policy (policy_text text) ≡ l = cc in subst (λ (x : Line). Sound before x) same tt
-    | inr q ↦ elim (bool_cases (same_bytes text (codes "ix 1"))) [
-      | inl v ↦ let k : Some line.Version ≡ Some l = rw (f, q, v) at m in let same : line.Version ≡ l = cc in subst (λ (x : Line). Sound before x) same tt
-      | inr w ↦
-          let k : said_by_words (words_of text) ≡ Some l = rw (f, q, w) at m in
-          let g : option_or (words_fault (words_of text)) (option_map_or (λ x. form_fault before x (words_of text)) (form_of (word_at (words_of text) 0)) (Some 7)) ≡ None = rw (some, f, q) at h in
-          sound_words before (words_of text) (form_of (word_at (words_of text) 0)) l (neither _ _ g).1 k
-    ]
+    | inr q ↦
+        let g : command_fault before (words_of text) ≡ None = rw (some, f, q) at h in
+        let k : said_by_words labels (words_of text) ≡ Some l = rw (f, q, not_ix before text g) at m in
+        sound_words labels before (words_of text) (form_of (word_at (words_of text) 0)) l (neither _ _ g).1 k
   ]
 ]
 
-by_start : (before : List Line) (text : List ℕ) (l : Line) → body_fault before text ≡ None → line_of text ≡ Some l → Sound before l
+by_start : (labels : spelled.Form) (before : List Line) (text : List ℕ) (l : Line) → body_fault before text ≡ None → line_of labels text ≡ Some l → Sound before l
 unfolding body_fault
-by_start [] text l h m = first_sound text l h m
-by_start (b ∷ before) text l h m = later_sound (b ∷ before) text l refl h m
+by_start labels [] text l h m = first_sound labels text l h m
+by_start labels (b ∷ before) text l h m = later_sound labels (b ∷ before) text l refl h m
 
-pub sound : (before : List Line) (text : List ℕ) (l : Line) → line_fault before text ≡ None → line_of text ≡ Some l → Sound before l
+pub sound : (labels : spelled.Form) (before : List Line) (text : List ℕ) (l : Line) → line_fault before text ≡ None → line_of labels text ≡ Some l → Sound before l
 unfolding line_fault
-sound before text l h m = by_start before text l (neither (text_fault text) _ h).1 m
+sound labels before text l h m = by_start labels before text l (neither (text_fault text) _ h).1 m

@@ -1,18 +1,20 @@
 -- What lines cost: at most 4,352 for each command, and nothing for another line.
 use Rattle.std.proofs.Common.{◌≡◌, ℕ, ◌+◌, ◌*◌, ◌≤◌, ◌&&◌, nat_le, Bool, true, false, cond, not, List, [], ◌∷◌, ◌++◌, length, drop, Option, Some, None, option_map, codes, refl, ap, ◌∙◌, subst, arith, inl, inr}
 use Rattle.std.specs.List.{list_all, sum_by}
+use Rattle.std.specs.Option.{option_or}
 use Rattle.std.proofs.lemmas.Bool.{leb-true}
 use Rattle.std.proofs.lemmas.Option.{none-some, same_Some}
 use Rattle.std.proofs.lemmas.List.Sums.{sum_by-cons, sum_by_push, sum-map}
-use Rattle.ix_model.specs.world.Naming.{PathOf, is_name, same_bytes}
+use Rattle.ix_model.specs.world.Naming.{PathOf, is_name}
 use Rattle.ix_model.specs.history.Cost.{cost_of_path}
 use Rattle.ix_script.specs.texts.Cutting.{begins, is_empty, is_skipped, is_policy_line, policy_text, words_of, word_at}
 use Rattle.ix_script.specs.texts.Words.{between_slashes, names_of, path_from, may_stand_in_path, absolute_path, relative_path, path_of}
 use Rattle.ix_script.specs.texts.Payloads.{payload_of}
 use Rattle.ix_script.specs.lines.Forms.{form_of}
 use Rattle.ix_script.specs.lines.Before.{is_command, commands}
-use Rattle.ix_script.specs.lines.Said.{payload_within, plain_line, path_line, fd_line, counted_line, said, said_by_words, line_of}
+use Rattle.ix_script.specs.lines.Said.{payload_within, plain_line, path_line, fd_line, counted_line, said, said_by_words, version_of, line_of}
 use Rattle.ix_script.specs.scripts.Need.{cost_of_line, need}
+use Rattle.ix_label.specs.declared.form.Form as spelled
 use Rattle.ix_script.specs.declared.cutting.form.Form.{Form}
 use Rattle.ix_script.specs.declared.cutting.form.Form.TheVariants as form
 use Rattle.ix_script.specs.declared.cutting.form.Plain.{Plain}
@@ -119,62 +121,59 @@ payload_few word bytes h =
       | inr p ↦ absurd (none-some bytes p.1)
     ]
 
-form_cheap : (f : Form) (words : List (List ℕ)) (l : Line) → said f words ≡ Some l → Cheap l
+form_cheap : (labels : spelled.Form) (f : Form) (words : List (List ℕ)) (l : Line) → said labels f words ≡ Some l → Cheap l
 unfolding cost_of_line
-form_cheap form.Limit words l h = made_by (λ x. line.Limit x.0 x.1) _ l (λ x e. omega arith) h
-form_cheap form.Fs words l h = made_by (λ x. line.Fs x.0 x.1.0 x.1.1.0 x.1.1.1) _ l (λ x e. omega arith) h
-form_cheap form.Proc words l h = made_by (λ x. line.Proc x.0 x.1.0 x.1.1.0 x.1.1.1.0 x.1.1.1.1) _ l (λ x e. omega arith) h
-form_cheap form.Dir words l h = made_by (λ x. line.Dir x.0 x.1.0 x.1.1) _ l (λ x e. omega arith) h
-form_cheap form.File words l h = made_by (λ x. line.File x.0 x.1.0 x.1.1.0 x.1.1.1.0 x.1.1.1.1.0 x.1.1.1.1.1) _ l (λ x e. omega arith) h
-form_cheap form.Phase words l h = subst Cheap (same_Some line.Phase l h) (omega arith)
-form_cheap form.Lane words l h = made_by (λ x. line.Lane x) _ l (λ x e. omega arith) h
-form_cheap (form.Plain c) words l h = made_by (λ x. plain_line c x) _ l (λ x e. plain_cheap c x) h
-form_cheap (form.OnPath c) words l h = made_by (λ x. path_line c x.0 x.1) _ l (λ x e. on_path_cheap c x.0 x.1 (path_cheap (word_at words 2) x.1 (paired _ _ x e).1)) h
-form_cheap (form.OnFd c) words l h = made_by (λ x. fd_line c x.0 x.1) _ l (λ x e. on_fd_cheap c x.0 x.1) h
-form_cheap (form.Counted c) words l h = made_by (λ x. counted_line c x.0 x.1.0 x.1.1) _ l (λ x e. counted_cheap c x.0 x.1.0 x.1.1) h
-form_cheap form.Open words l h =
+form_cheap labels form.Limit words l h = made_by (λ x. line.Limit x.0 x.1) _ l (λ x e. omega arith) h
+form_cheap labels form.Fs words l h = made_by (λ x. line.Fs x.0 x.1.0 x.1.1.0 x.1.1.1) _ l (λ x e. omega arith) h
+form_cheap labels form.Proc words l h = made_by (λ x. line.Proc x.0 x.1.0 x.1.1.0 x.1.1.1.0 x.1.1.1.1) _ l (λ x e. omega arith) h
+form_cheap labels form.Dir words l h = made_by (λ x. line.Dir x.0 x.1.0 x.1.1) _ l (λ x e. omega arith) h
+form_cheap labels form.File words l h = made_by (λ x. line.File x.0 x.1.0 x.1.1.0 x.1.1.1.0 x.1.1.1.1.0 x.1.1.1.1.1) _ l (λ x e. omega arith) h
+form_cheap labels form.Phase words l h = subst Cheap (same_Some line.Phase l h) (omega arith)
+form_cheap labels form.Lane words l h = made_by (λ x. line.Lane x) _ l (λ x e. omega arith) h
+form_cheap labels (form.Plain c) words l h = made_by (λ x. plain_line c x) _ l (λ x e. plain_cheap c x) h
+form_cheap labels (form.OnPath c) words l h = made_by (λ x. path_line c x.0 x.1) _ l (λ x e. on_path_cheap c x.0 x.1 (path_cheap (word_at words 2) x.1 (paired _ _ x e).1)) h
+form_cheap labels (form.OnFd c) words l h = made_by (λ x. fd_line c x.0 x.1) _ l (λ x e. on_fd_cheap c x.0 x.1) h
+form_cheap labels (form.Counted c) words l h = made_by (λ x. counted_line c x.0 x.1.0 x.1.1) _ l (λ x e. counted_cheap c x.0 x.1.0 x.1.1) h
+form_cheap labels form.Open words l h =
     made_by (λ x. line.Open x.0 x.1.0 x.1.1.0 x.1.1.1) _ l (λ x e. omega (arith, path_cheap (word_at words 2) x.1.0 (paired _ _ x.1 (paired _ _ x e).1).0)) h
-form_cheap form.Write words l h =
+form_cheap labels form.Write words l h =
     made_by (λ x. line.Write x.0 x.1.0 x.1.1) _ l (λ x e. omega (arith, payload_few (word_at words 3) x.1.1 (paired _ _ x.1 (paired _ _ x e).1).1)) h
-form_cheap form.Dup words l h = made_by (λ x. line.Dup x.0 x.1.0 x.1.1) _ l (λ x e. omega arith) h
-form_cheap form.Pipe words l h = made_by (λ x. line.Pipe x.0 x.1) _ l (λ x e. omega arith) h
-form_cheap form.Link words l h =
+form_cheap labels form.Dup words l h = made_by (λ x. line.Dup x.0 x.1.0 x.1.1) _ l (λ x e. omega arith) h
+form_cheap labels form.Pipe words l h = made_by (λ x. line.Pipe x.0 x.1) _ l (λ x e. omega arith) h
+form_cheap labels form.Link words l h =
     made_by (λ x. line.Link x.0 x.1.0 x.1.1) _ l
     (λ x e. let p = paired _ _ x.1 (paired _ _ x e).1 in omega (arith, path_cheap (word_at words 2) x.1.0 p.0, path_cheap (word_at words 3) x.1.1 p.1)) h
-form_cheap form.List words l h =
+form_cheap labels form.List words l h =
     made_by (λ x. line.List x.0 x.1.0 x.1.1) _ l (λ x e. omega (arith, path_cheap (word_at words 2) x.1.0 (paired _ _ x.1 (paired _ _ x e).1).0)) h
-form_cheap form.Copy words l h = made_by (λ x. line.Copy x.0 x.1.0 x.1.1.0 x.1.1.1) _ l (λ x e. omega arith) h
-form_cheap form.Setlabel words l h =
+form_cheap labels form.Copy words l h = made_by (λ x. line.Copy x.0 x.1.0 x.1.1.0 x.1.1.1) _ l (λ x e. omega arith) h
+form_cheap labels form.Setlabel words l h =
     made_by (λ x. line.Setlabel x.0 x.1.0 x.1.1) _ l (λ x e. omega (arith, path_cheap (word_at words 2) x.1.0 (paired _ _ x.1 (paired _ _ x e).1).0)) h
-form_cheap form.Setpriv words l h =
+form_cheap labels form.Setpriv words l h =
     made_by (λ x. line.Setpriv x.0 x.1.0 x.1.1.0 x.1.1.1) _ l (λ x e. omega (arith, path_cheap (word_at words 2) x.1.0 (paired _ _ x.1 (paired _ _ x e).1).0)) h
-form_cheap form.Fork words l h = made_by (λ x. line.Fork x.0 x.1.0 x.1.1) _ l (λ x e. omega arith) h
-form_cheap form.Exit words l h = made_by (λ x. line.Exit x.0 x.1) _ l (λ x e. omega arith) h
-form_cheap form.Setself words l h = made_by (λ x. line.Setself x.0 x.1) _ l (λ x e. omega arith) h
-form_cheap form.Droplic words l h = made_by (λ x. line.Droplic x.0 x.1) _ l (λ x e. omega arith) h
-form_cheap form.Grant words l h = made_by (λ x. line.Grant x.0 x.1.0 x.1.1) _ l (λ x e. omega arith) h
-form_cheap form.Ceiling words l h = made_by (λ x. line.Ceiling x.0 x.1.0 x.1.1) _ l (λ x e. omega arith) h
-form_cheap form.Readlog words l h = made_by (λ x. line.Readlog x.0 x.1) _ l (λ x e. omega arith) h
-form_cheap form.Login words l h = made_by (λ x. line.Login x.0 x.1.0 x.1.1.0 x.1.1.1) _ l (λ x e. omega arith) h
+form_cheap labels form.Fork words l h = made_by (λ x. line.Fork x.0 x.1.0 x.1.1) _ l (λ x e. omega arith) h
+form_cheap labels form.Exit words l h = made_by (λ x. line.Exit x.0 x.1) _ l (λ x e. omega arith) h
+form_cheap labels form.Setself words l h = made_by (λ x. line.Setself x.0 x.1) _ l (λ x e. omega arith) h
+form_cheap labels form.Droplic words l h = made_by (λ x. line.Droplic x.0 x.1) _ l (λ x e. omega arith) h
+form_cheap labels form.Grant words l h = made_by (λ x. line.Grant x.0 x.1.0 x.1.1) _ l (λ x e. omega arith) h
+form_cheap labels form.Ceiling words l h = made_by (λ x. line.Ceiling x.0 x.1.0 x.1.1) _ l (λ x e. omega arith) h
+form_cheap labels form.Readlog words l h = made_by (λ x. line.Readlog x.0 x.1) _ l (λ x e. omega arith) h
+form_cheap labels form.Login words l h = made_by (λ x. line.Login x.0 x.1.0 x.1.1.0 x.1.1.1) _ l (λ x e. omega arith) h
 
-pub line_cheap : (text : List ℕ) (l : Line) → line_of text ≡ Some l → Cheap l
+pub line_cheap : (labels : spelled.Form) (text : List ℕ) (l : Line) → line_of labels text ≡ Some l → Cheap l
 unfolding line_of cost_of_line
-line_cheap text l h =
-    let words = said_by_words (words_of text) in
-    let version = cond (same_bytes text (codes "ix 1")) (Some line.Version) words in
-    let policy = cond (is_policy_line text) (Some (line.Policy (policy_text text))) version in
-    elim (either (is_skipped text) (Some line.Skipped) policy l h) [
+line_cheap labels text l h =
+    let rest : Option Line = option_or (option_map (λ form. line.Version form) (version_of text)) (said_by_words labels (words_of text)) in
+    elim (either (is_skipped text) (Some line.Skipped) (cond (is_policy_line text) (Some (line.Policy (policy_text text))) rest) l h) [
       | inl p ↦ subst Cheap (same_Some line.Skipped l p.1) (omega arith)
-      | inr p ↦ elim (either (is_policy_line text) (Some (line.Policy (policy_text text))) version l p.1) [
+      | inr p ↦ elim (either (is_policy_line text) (Some (line.Policy (policy_text text))) rest l p.1) [
         | inl q ↦ subst Cheap (same_Some (line.Policy (policy_text text)) l q.1) (omega arith)
-        | inr q ↦ elim (either (same_bytes text (codes "ix 1")) (Some line.Version) words l q.1) [
-          | inl v ↦ subst Cheap (same_Some line.Version l v.1) (omega arith)
-          | inr v ↦
-              let b = bound (form_of (word_at (words_of text) 0)) (λ f. said f (words_of text)) l v.1 in
-              form_cheap b.0 (words_of text) l b.2
-        ]
+        | inr q ↦ by_version (version_of text) q.1
       ]
     ]
+  where
+    by_version : (o : Option spelled.Form) → option_or (option_map (λ form. line.Version form) o) (said_by_words labels (words_of text)) ≡ Some l → Cheap l
+    by_version None k = let b = bound (form_of (word_at (words_of text) 0)) (λ f. said labels f (words_of text)) l k in form_cheap labels b.0 (words_of text) l b.2
+    by_version (Some form) k = subst Cheap (same_Some (line.Version form) l k) (omega arith)
 
 -- ---- line after line
 pub need_next : (l : Line) (lines : List Line) → need (l ∷ lines) ≡ cost_of_line l + need lines
@@ -197,5 +196,5 @@ one_more false cost n m h few = omega (arith, h, few)
 pub cheap_none : need [] ≤ 4352 * commands []
 cheap_none = omega (arith, need_none)
 
-pub cheap_next : (before : List Line) (text : List ℕ) (l : Line) → line_of text ≡ Some l → need before ≤ 4352 * commands before → need (before ++ l ∷ []) ≤ 4352 * commands (before ++ l ∷ [])
-cheap_next before text l m few = rw (need_push before l, commands_push before l) (one_more (is_command l) (cost_of_line l) (need before) (commands before) (line_cheap text l m) few)
+pub cheap_next : (labels : spelled.Form) (before : List Line) (text : List ℕ) (l : Line) → line_of labels text ≡ Some l → need before ≤ 4352 * commands before → need (before ++ l ∷ []) ≤ 4352 * commands (before ++ l ∷ [])
+cheap_next labels before text l m few = rw (need_push before l, commands_push before l) (one_more (is_command l) (cost_of_line l) (need before) (commands before) (line_cheap labels text l m) few)

@@ -10,7 +10,10 @@ use Rattle.ix_model.specs.opening.Valid.{fs_fits, fs_of, lying_on, blocks_taken,
 use Rattle.ix_model.specs.declared.config.FsSpec.{FsSpec}
 use Rattle.ix_model.specs.declared.config.Limits.{Limits}
 use Rattle.ix_model.specs.declared.config.ObjSpec.{ObjSpec}
-use Rattle.ix_script.specs.lines.Before.{fs_told, or_default, fss_told, fss_of, what_told, limits_after, limits_of, proc_name_told, proc_names, object_told, objects_of, is_policy, group}
+use Rattle.ix_label.specs.declared.form.Form.{Form}
+use Rattle.ix_label.specs.declared.form.Form.TheVariants.{One}
+use Rattle.ix_script.specs.texts.Cutting.{is_empty}
+use Rattle.ix_script.specs.lines.Before.{form_by, form_told, fs_told, or_default, fss_told, fss_of, what_told, limits_after, limits_of, proc_name_told, proc_names, object_told, objects_of, is_policy, group}
 use Rattle.ix_script.specs.reader.Indexed.{AreNames, AreSites}
 use Rattle.ix_script.specs.reader.Told.{HeaderTold, MakesMore, NamesMore, TakenOne, Takes, fss_after}
 use Rattle.ix_script.specs.declared.before.header.Header.{Header}
@@ -24,30 +27,40 @@ use Rattle.ix_script.proofs.lines.Ordered.{no_objects, latest_push}
 use Rattle.ix_script.proofs.reader.Pushed.{fss_push, whats_push, limits_push, proc_names_push, objects_push, policy_push}
 
 -- ---- file systems
-pub some_fs : (fss : List FsSpec) → 0 < length (or_default fss)
-some_fs [] = omega arith
-some_fs (fs ∷ fss) = omega arith
+pub some_fs : (form : Form) (fss : List FsSpec) → 0 < length (or_default form fss)
+some_fs form [] = omega arith
+some_fs form (fs ∷ fss) = omega arith
 
-pub told_is : (told : List FsSpec) → 0 < length told → or_default told ≡ told
-told_is [] h = absurd (omega arith)
-told_is (fs ∷ told) h = refl
+pub told_is : (form : Form) (told : List FsSpec) → 0 < length told → or_default form told ≡ told
+told_is form [] h = absurd (omega arith)
+told_is form (fs ∷ told) h = refl
 
-pub told_few : (fss : List FsSpec) → length (or_default fss) ≤ 16 → length fss ≤ 16
-told_few [] h = omega arith
-told_few (fs ∷ fss) h = h
+pub told_few : (form : Form) (fss : List FsSpec) → length (or_default form fss) ≤ 16 → length fss ≤ 16
+told_few form [] h = omega arith
+told_few form (fs ∷ fss) h = h
 
-one_more : (told : List FsSpec) (more : List FsSpec) → length more ≤ 1 → fss_after (length told) (or_default told) more ≡ or_default (told ++ more)
-one_more told [] h = ap or_default (sym (append-nil told))
-one_more [] (fs ∷ []) h = refl
-one_more (t ∷ told) (fs ∷ []) h = rw (ne_eqb (suc (length told)) 0 (λ e. let k : suc (length told) ≡ 0 = e in absurd (omega arith))) refl
-one_more told (fs ∷ f ∷ more) h = absurd (omega arith)
+-- the first line
+first_one : (form : Form) (fss more : List FsSpec) → length more ≤ 1 → fss_after true 0 fss form more ≡ or_default form more
+first_one form fss [] h = refl
+first_one form fss (fs ∷ []) h = refl
+first_one form fss (fs ∷ f ∷ more) h = absurd (omega arith)
+
+-- a later one
+one_more : (form by : Form) (told : List FsSpec) (more : List FsSpec) → length more ≤ 1 → fss_after false (length told) (or_default form told) by more ≡ or_default form (told ++ more)
+one_more form by told [] h = ap (or_default form) (sym (append-nil told))
+one_more form by [] (fs ∷ []) h = refl
+one_more form by (t ∷ told) (fs ∷ []) h = rw (ne_eqb (suc (length told)) 0 (λ e. let k : suc (length told) ≡ 0 = e in absurd (omega arith))) refl
+one_more form by told (fs ∷ f ∷ more) h = absurd (omega arith)
 
 one_told : (x : Line) → length (fs_told x) ≤ 1
 one_told (line.Fs name ceiling blocks inodes) = omega arith
 one_told _ = omega arith
 
-fss_kept : (n : ℕ) (old new : List FsSpec) (told : List FsSpec) (x : Line) → n ≡ length told → old ≡ or_default told → new ≡ fss_after n old (fs_told x) → new ≡ or_default (told ++ fs_told x)
-fss_kept n old new told x hn ho h = h ∙ (λ i. fss_after (hn i) (ho i) (fs_told x)) ∙ one_more told (fs_told x) (one_told x)
+fss_kept : (first : Bool) (n : ℕ) (old new : List FsSpec) (before : List Line) (x : Line) → first ≡ is_empty before → n ≡ length (fss_told before) → old ≡ fss_of before → new ≡ fss_after first n old (form_by x) (fs_told x)
+    → new ≡ or_default (form_told (before ++ x ∷ [])) (fss_told before ++ fs_told x)
+unfolding fss_told
+fss_kept first n old new [] x hf hn ho h = h ∙ (λ i. fss_after (hf i) (hn i) old (form_by x) (fs_told x)) ∙ first_one (form_by x) old (fs_told x) (one_told x)
+fss_kept first n old new (y ∷ before) x hf hn ho h = h ∙ (λ i. fss_after (hf i) (hn i) (ho i) (form_by x) (fs_told x)) ∙ one_more (form_by y) (form_by x) (fss_told (y ∷ before)) (fs_told x) (one_told x)
 
 room_for_fs : (before : List Line) (x : Line) → Follows before x → length (fss_told before) ≤ 16 → length (fss_told before) + length (fs_told x) ≤ 16
 room_for_fs before (line.Fs name ceiling blocks inodes) f few =
@@ -55,9 +68,9 @@ room_for_fs before (line.Fs name ceiling blocks inodes) f few =
     grind (arith, nat_tests)
 room_for_fs before _ f few = omega arith
 
-few_after : (fss : List FsSpec) → length fss ≤ 16 → length (or_default fss) ≤ 16
-few_after [] h = omega arith
-few_after (fs ∷ fss) h = h
+few_after : (form : Form) (fss : List FsSpec) → length fss ≤ 16 → length (or_default form fss) ≤ 16
+few_after form [] h = omega arith
+few_after form (fs ∷ fss) h = h
 
 -- ---- what objects take
 pub record Counted (fss : List FsSpec) (os : List ObjSpec) (taken : Taken) : Type 0 where
@@ -102,28 +115,49 @@ counted_same fss os old new gss ps was e f g =
 abbrev pub After : List Line → Line → List Line
 After before x = before ++ x ∷ []
 
-pub same_fss : (before : List Line) (x : Line) → fs_told x ≡ [] → fss_of (After before x) ≡ fss_of before
-same_fss before x h = ap or_default (fss_push before x ∙ ap (λ more. fss_told before ++ more) h ∙ append-nil (fss_told before))
+-- a line that tells no form, and a line that isn't the first
+pub same_form : (before : List Line) (x : Line) → form_by x ≡ One → form_told (After before x) ≡ form_told before
+same_form [] x h = h
+same_form (y ∷ before) x h = refl
+
+same_told : (before : List Line) (x : Line) → fs_told x ≡ [] → fss_told (After before x) ≡ fss_told before
+same_told before x h = fss_push before x ∙ ap (λ more. fss_told before ++ more) h ∙ append-nil (fss_told before)
+
+pub same_fss : (before : List Line) (x : Line) → fs_told x ≡ [] → form_by x ≡ One → fss_of (After before x) ≡ fss_of before
+same_fss before x h one = λ i. or_default (same_form before x one i) (same_told before x h i)
+
+pub later_fss : (y : Line) (before : List Line) (x : Line) → fs_told x ≡ [] → fss_of (After (y ∷ before) x) ≡ fss_of (y ∷ before)
+later_fss y before x h = ap (or_default (form_by y)) (same_told (y ∷ before) x h)
 
 pub same_objects : (before : List Line) (x : Line) → object_told x ≡ [] → objects_of (After before x) ≡ objects_of before
 same_objects before x h = objects_push before x ∙ ap (λ more. objects_of before ++ more) h ∙ append-nil (objects_of before)
 
-counted_object : (before : List Line) (x : Line) (o : ObjSpec) (old new : Taken) → 0 < length (fss_of before) → length (fss_of before) ≤ 16 → list_all fs_fits (fss_of before) ≡ true → fs_told x ≡ [] → object_told x ≡ o ∷ []
+counted_object : (before : List Line) (x : Line) (o : ObjSpec) (old new : Taken) → 0 < length (fss_of before) → length (fss_of before) ≤ 16 → list_all fs_fits (fss_of before) ≡ true → fs_told x ≡ [] → form_by x ≡ One → object_told x ≡ o ∷ []
     → not (has_room (fss_of before) (limits_of before) (objects_of before) o) ≡ false → Counted (fss_of before) (objects_of before) old → TakenOne (fss_of before) o.path.names (length o.bytes) old new → Counted (fss_of (After before x)) (objects_of (After before x)) new
-counted_object before x o old new some few fit no_fs told room was taken =
+counted_object before x o old new some few fit no_fs no_form told room was taken =
     let one : Counted (fss_of before) (objects_of before ++ o ∷ []) new = counted_one (fss_of before) (limits_of before) (objects_of before) o old new some few fit (not_false _ room) was taken in
-    counted_same (fss_of before) (objects_of before ++ o ∷ []) new new (fss_of (After before x)) (objects_of (After before x)) one refl (same_fss before x no_fs) (objects_push before x ∙ ap (λ more. objects_of before ++ more) told)
+    counted_same (fss_of before) (objects_of before ++ o ∷ []) new new (fss_of (After before x)) (objects_of (After before x)) one refl (same_fss before x no_fs no_form) (objects_push before x ∙ ap (λ more. objects_of before ++ more) told)
+
+counted_version : (before : List Line) (form : Form) (old new : Taken) → Counted (fss_of before) (objects_of before) old → new ≡ old → Counted (fss_of (After before (line.Version form))) (objects_of (After before (line.Version form))) new
+unfolding objects_of
+counted_version [] form old new was e =
+    let x : Line = line.Version form in
+    counted_same (fss_of (After [] x)) [] old new (fss_of (After [] x)) (objects_of (After [] x)) (nothing_lies (fss_of []) old (fss_of (After [] x)) was) e refl (same_objects [] x refl)
+counted_version (y ∷ before) form old new was e =
+    let x : Line = line.Version form in
+    counted_same (fss_of (y ∷ before)) (objects_of (y ∷ before)) old new (fss_of (After (y ∷ before) x)) (objects_of (After (y ∷ before) x)) was e (later_fss y before x refl) (same_objects (y ∷ before) x refl)
 
 counted_next : (before : List Line) (x : Line) (old new : Taken) → 0 < length (fss_of before) → length (fss_of before) ≤ 16 → list_all fs_fits (fss_of before) ≡ true → Follows before x
     → Counted (fss_of before) (objects_of before) old → Takes (fss_of before) (object_told x) old new → Counted (fss_of (After before x)) (objects_of (After before x)) new
-counted_next before (line.Dir path label frozen) old new some few fit f was takes = counted_object before (line.Dir path label frozen) _ old new some few fit refl refl f.crowds was takes
-counted_next before (line.File path label frozen cap lic bytes) old new some few fit f was takes = counted_object before (line.File path label frozen cap lic bytes) _ old new some few fit refl refl f.crowds was takes
+counted_next before (line.Dir path label frozen) old new some few fit f was takes = counted_object before (line.Dir path label frozen) _ old new some few fit refl refl refl f.crowds was takes
+counted_next before (line.File path label frozen cap lic bytes) old new some few fit f was takes = counted_object before (line.File path label frozen cap lic bytes) _ old new some few fit refl refl refl f.crowds was takes
 counted_next before (line.Fs name ceiling blocks inodes) old new some few fit f was takes =
     let x : Line = line.Fs name ceiling blocks inodes in
     let none : objects_of before ≡ [] = no_objects before f.order in
     let nothing : Counted (fss_of before) [] old = subst (λ (os : List ObjSpec). Counted (fss_of before) os old) none was in
     counted_same (fss_of (After before x)) [] old new (fss_of (After before x)) (objects_of (After before x)) (nothing_lies (fss_of before) old (fss_of (After before x)) nothing) takes refl (same_objects before x refl ∙ none)
-counted_next before x old new some few fit f was takes = counted_same (fss_of before) (objects_of before) old new (fss_of (After before x)) (objects_of (After before x)) was takes (same_fss before x refl) (same_objects before x refl)
+counted_next before (line.Version form) old new some few fit f was takes = counted_version before form old new was takes
+counted_next before x old new some few fit f was takes = counted_same (fss_of before) (objects_of before) old new (fss_of (After before x)) (objects_of (After before x)) was takes (same_fss before x refl refl) (same_objects before x refl)
 
 -- ---- no line tells more than one object, or one name
 few_told : {A : Type 0} (f : Line → List A) → ((x : Line) → length (f x) ≤ 1) → (lines : List Line) → length (flat_map f lines) ≤ length lines
@@ -148,16 +182,16 @@ unfolding proc_names
 few_names lines = few_told proc_name_told one_name lines
 
 -- ---- the whole
-pub header_next : (h n : Header) (before : List Line) (x : Line) → HeaderTold h before → list_all fs_fits (fss_of before) ≡ true → Follows before x
-    → n.told ≡ h.told + length (fs_told x) → n.fss ≡ fss_after h.told h.fss (fs_told x) → n.limits ≡ limits_after h.limits x → n.whats ≡ h.whats ++ what_told x → NamesMore (proc_name_told x) h.procs n.procs
+pub header_next : (h n : Header) (first : Bool) (before : List Line) (x : Line) → first ≡ is_empty before → HeaderTold h before → list_all fs_fits (fss_of before) ≡ true → Follows before x
+    → n.told ≡ h.told + length (fs_told x) → n.fss ≡ fss_after first h.told h.fss (form_by x) (fs_told x) → n.limits ≡ limits_after h.limits x → n.whats ≡ h.whats ++ what_told x → NamesMore (proc_name_told x) h.procs n.procs
     → MakesMore (object_told x) h.made n.made → Takes h.fss (object_told x) h.taken n.taken → n.latest ≡ max h.latest (group x) → n.policy ≡ (h.policy || is_policy x) → HeaderTold n (After before x)
-header_next h n before x was fit f told fss limits whats procs made takes latest policy =
-    let told_is : length (fss_told before) ≤ 16 = told_few (fss_told before) (subst (λ (fs : List FsSpec). length fs ≤ 16) was.fss was.few) in
-    let fss_is : n.fss ≡ fss_of (After before x) = fss_kept h.told h.fss n.fss (fss_told before) x was.told was.fss fss ∙ ap or_default (sym (fss_push before x)) in
+header_next h n first before x is_first was fit f told fss limits whats procs made takes latest policy =
+    let told_is : length (fss_told before) ≤ 16 = told_few (form_told before) (fss_told before) (subst (λ (fs : List FsSpec). length fs ≤ 16) was.fss was.few) in
+    let fss_is : n.fss ≡ fss_of (After before x) = fss_kept first h.told h.fss n.fss before x is_first was.told was.fss fss ∙ ap (or_default (form_told (After before x))) (sym (fss_push before x)) in
     let count : length (fss_told (After before x)) ≡ length (fss_told before) + length (fs_told x) = ap length (fss_push before x) ∙ length-append (fss_told before) (fs_told x) in
-    let few : length (fss_of (After before x)) ≤ 16 = few_after (fss_told (After before x)) (omega (arith, room_for_fs before x f told_is)) in
+    let few : length (fss_of (After before x)) ≤ 16 = few_after (form_told (After before x)) (fss_told (After before x)) (omega (arith, room_for_fs before x f told_is)) in
     let counted : Counted (fss_of (After before x)) (objects_of (After before x)) n.taken =
-    counted_next before x h.taken n.taken (some_fs (fss_told before)) (subst (λ (fs : List FsSpec). length fs ≤ 16) was.fss was.few) fit f (record { counts = was.counts; blocks = was.blocks }) (subst (λ (fs : List FsSpec). Takes fs (object_told x) h.taken n.taken) was.fss takes) in
+    counted_next before x h.taken n.taken (some_fs (form_told before) (fss_told before)) (subst (λ (fs : List FsSpec). length fs ≤ 16) was.fss was.few) fit f (record { counts = was.counts; blocks = was.blocks }) (subst (λ (fs : List FsSpec). Takes fs (object_told x) h.taken n.taken) was.fss takes) in
     record {
       told = told ∙ ap (λ k. k + length (fs_told x)) was.told ∙ sym count;
       fss = fss_is;

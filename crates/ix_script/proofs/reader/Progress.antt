@@ -1,19 +1,26 @@
 -- Reading line after line.
-use Rattle.std.proofs.Common.{◌≡◌, ℕ, ◌+◌, ◌*◌, ◌<◌, ◌≤◌, true, List, [], ◌∷◌, ◌++◌, length, Option, Some, None, option_map, refl, sym, ap, ◌∙◌, subst, arith, append_assoc, length-append}
+use Rattle.std.proofs.Common.{◌≡◌, ℕ, ◌+◌, ◌*◌, ◌<◌, ◌≤◌, true, false, true≢false, List, [], ◌∷◌, ◌++◌, length, Option, Some, None, option_map, refl, sym, ap, ◌∙◌, subst, arith, append_assoc, length-append}
 use Rattle.std.proofs.lemmas.List.{append-nil}
 use Rattle.ix_model.specs.opening.Valid.{is_valid}
-use Rattle.ix_script.specs.lines.Before.{commands}
+use Rattle.ix_script.specs.lines.Before.{form_by, form_told, commands}
+use Rattle.std.specs.Prelude.{unwrap_or}
+use Rattle.std.proofs.lemmas.Option.{same_Some}
+use Rattle.ix_label.specs.declared.form.Form.{Form}
+use Rattle.ix_label.specs.declared.form.Form.TheVariants.{One}
+use Rattle.ix_script.specs.texts.Cutting.{is_empty}
 use Rattle.ix_script.specs.texts.Lines.{cut, lines_of}
 use Rattle.ix_script.specs.lines.Said.{both, line_of}
 use Rattle.ix_script.specs.lines.Faults.{line_fault, fault_from}
 use Rattle.ix_script.specs.scripts.Need.{need}
-use Rattle.ix_script.specs.scripts.Scripts.{lines_said, config_of}
+use Rattle.ix_script.specs.scripts.Scripts.{form_in, lines_said, config_of}
 use Rattle.ix_script.specs.reader.Readers.{HasCause, LineRight}
 use Rattle.ix_script.specs.reader.Told.{DraftTold}
 use Rattle.ix_script.specs.declared.before.draft.Draft.{Draft}
 use Rattle.ix_script.specs.declared.fail.ReadFail.{ReadFail}
 use Rattle.ix_script.specs.declared.fail.ReadFail.TheVariants as fail
 use Rattle.ix_script.specs.declared.line.Line.{Line}
+use Rattle.ix_script.specs.declared.line.Line.TheVariants as line
+use Rattle.ix_script.proofs.lines.Deciding.{version_said, first_version, first_faultless}
 use Rattle.ix_script.proofs.reader.Costing.{cheap_none, cheap_next}
 use Rattle.ix_script.proofs.reader.Counting.{no_commands, commands_stay_few}
 use Rattle.ix_script.proofs.reader.Staying.{valid_next}
@@ -27,13 +34,15 @@ pub record Reading (texts : List (List ℕ)) (total : ℕ) (rest : List ℕ) (d 
   pub told : DraftTold d
   pub valid : is_valid (config_of d.lines) ≡ true
   pub fault : fault_from d.lines (cut rest) ≡ fault_from [] texts
-  pub said : after d.lines (lines_said (cut rest)) ≡ lines_said texts
+  pub said : after d.lines (lines_said (form_in texts) (cut rest)) ≡ lines_said (form_in texts) texts
+  pub later : is_empty d.lines ≡ false → form_told d.lines ≡ form_in texts
+  pub first : is_empty d.lines ≡ true → cut rest ≡ texts
   pub short : length d.lines + length rest ≤ total
   pub few_commands : commands d.lines ≤ 200000
   pub cheap : need d.lines ≤ 4352 * commands d.lines
 
 -- ---- a line without a fault
-fault_later : (before : List Line) (text : List ℕ) (texts : List (List ℕ)) (l : Line) → line_fault before text ≡ None → line_of text ≡ Some l → fault_from before (text ∷ texts) ≡ fault_from (before ++ l ∷ []) texts
+fault_later : (before : List Line) (text : List ℕ) (texts : List (List ℕ)) (l : Line) → line_fault before text ≡ None → line_of (form_told before) text ≡ Some l → fault_from before (text ∷ texts) ≡ fault_from (before ++ l ∷ []) texts
 unfolding fault_from
 fault_later before text texts l h m = rw (h, m) refl
 
@@ -41,20 +50,39 @@ regroup : (front : List Line) (l : Line) (more : Option (List Line)) → after f
 regroup front l None = refl
 regroup front l (Some lines) = ap (λ (ls : List Line). Some ls) (sym (append_assoc front (l ∷ []) lines))
 
-said_later : (before : List Line) (text : List ℕ) (texts : List (List ℕ)) (l : Line) → line_of text ≡ Some l → after before (lines_said (text ∷ texts)) ≡ after (before ++ l ∷ []) (lines_said texts)
+said_later : (labels : Form) (before : List Line) (text : List ℕ) (texts : List (List ℕ)) (l : Line) → line_of labels text ≡ Some l → after before (lines_said labels (text ∷ texts)) ≡ after (before ++ l ∷ []) (lines_said labels texts)
 unfolding lines_said
-said_later before text texts l m = rw m (regroup before l (lines_said texts))
+said_later labels before text texts l m = rw m (regroup before l (lines_said labels texts))
+
+-- the first line tells the form, in which the later ones are read
+said_in : (texts more : List (List ℕ)) (before : List Line) (text : List ℕ) (l : Line) → (is_empty before ≡ false → form_told before ≡ form_in texts) → (is_empty before ≡ true → text ∷ more ≡ texts)
+    → line_fault before text ≡ None → line_of (form_told before) text ≡ Some l → (line_of (form_in texts) text ≡ Some l) × (form_told (before ++ l ∷ []) ≡ form_in texts)
+unfolding form_in
+said_in texts more [] text l later first fault meant =
+    let v = first_version text (first_faultless text fault) in
+    let is : line.Version v.0 ≡ l = same_Some (line.Version v.0) l (sym (version_said One text v.0 v.1) ∙ meant) in
+    let form : v.0 ≡ form_in texts = sym (ap (λ o. unwrap_or o One) v.1) ∙ ap form_in (first refl) in
+    (version_said (form_in texts) text v.0 v.1 ∙ ap (λ (x : Line). Some x) is, ap form_by (sym is) ∙ form)
+said_in texts more (b ∷ before) text l later first fault meant = (subst (λ (f : Form). line_of f text ≡ Some l) (later refl) meant, later refl)
+
+some_pushed : (before : List Line) (l : Line) → is_empty (before ++ l ∷ []) ≡ false
+some_pushed [] l = refl
+some_pushed (b ∷ before) l = refl
 
 pub goes_on : (texts : List (List ℕ)) (total : ℕ) (rest : List ℕ) (d e : Draft) (text more : List ℕ) (l : Line) → Reading texts total rest d → cut rest ≡ text ∷ cut more → length more < length rest
-    → LineRight d.lines l (line_fault d.lines text) (line_of text) → DraftTold e → e.lines ≡ d.lines ++ l ∷ [] → Reading texts total more e
+    → LineRight d.lines l (line_fault d.lines text) (line_of (form_told d.lines) text) → DraftTold e → e.lines ≡ d.lines ++ l ∷ [] → Reading texts total more e
 goes_on texts total rest d e text more l r first fewer right told is =
     let few = commands_stay_few d.lines l right.fits r.few_commands in
-    let cheap = cheap_next d.lines text l right.meant r.cheap in
+    let cheap = cheap_next (form_told d.lines) d.lines text l right.meant r.cheap in
+    let labels : Form = form_in texts in
+    let in_form = said_in texts (cut more) d.lines text l r.later (λ none. sym first ∙ r.first none) right.faultless right.meant in
     record {
       told = told;
       valid = subst (λ (ls : List Line). is_valid (config_of ls) ≡ true) (sym is) (valid_next d.lines text l r.valid right.faultless right.meant right.fits (omega (arith, few, cheap)));
       fault = ap (λ (ls : List Line). fault_from ls (cut more)) is ∙ sym (fault_later d.lines text (cut more) l right.faultless right.meant) ∙ ap (fault_from d.lines) (sym first) ∙ r.fault;
-      said = ap (λ (ls : List Line). after ls (lines_said (cut more))) is ∙ sym (said_later d.lines text (cut more) l right.meant) ∙ ap (λ (ts : List (List ℕ)). after d.lines (lines_said ts)) (sym first) ∙ r.said;
+      said = ap (λ (ls : List Line). after ls (lines_said labels (cut more))) is ∙ sym (said_later labels d.lines text (cut more) l in_form.0) ∙ ap (λ (ts : List (List ℕ)). after d.lines (lines_said labels ts)) (sym first) ∙ r.said;
+      later = λ some. ap form_told is ∙ in_form.1;
+      first = λ none. let some : is_empty e.lines ≡ false = ap is_empty is ∙ some_pushed d.lines l in absurd (true≢false (sym none ∙ some));
       short = let long : length e.lines ≡ length d.lines + 1 = ap length is ∙ length-append d.lines (l ∷ []) in let s = r.short in omega arith;
       few_commands = subst (λ (ls : List Line). commands ls ≤ 200000) (sym is) few;
       cheap = subst (λ (ls : List Line). need ls ≤ 4352 * commands ls) (sym is) cheap;
@@ -77,7 +105,7 @@ pub faultless : (texts : List (List ℕ)) (total : ℕ) (d : Draft) → Reading 
 unfolding fault_from cut
 faultless texts total d r = sym r.fault
 
-pub all_said : (texts : List (List ℕ)) (total : ℕ) (d : Draft) → Reading texts total [] d → lines_said texts ≡ Some d.lines
+pub all_said : (texts : List (List ℕ)) (total : ℕ) (d : Draft) → Reading texts total [] d → lines_said (form_in texts) texts ≡ Some d.lines
 unfolding lines_said cut
 all_said texts total d r = sym r.said ∙ ap (λ (ls : List Line). Some ls) (append-nil d.lines)
 
@@ -92,7 +120,9 @@ start bytes d told none valid =
       told = told;
       valid = subst (λ (ls : List Line). is_valid (config_of ls) ≡ true) (sym none) valid;
       fault = ap (λ (ls : List Line). fault_from ls (cut bytes)) none;
-      said = ap (λ (ls : List Line). after ls (lines_said (cut bytes))) none ∙ after_none (lines_said (cut bytes));
+      said = ap (λ (ls : List Line). after ls (lines_said (form_in (cut bytes)) (cut bytes))) none ∙ after_none (lines_said (form_in (cut bytes)) (cut bytes));
+      later = λ some. let no : is_empty d.lines ≡ true = ap is_empty none in absurd (true≢false (sym no ∙ some));
+      first = λ no. refl;
       short = let long : length d.lines ≡ 0 = ap length none in omega arith;
       few_commands = subst (λ (ls : List Line). commands ls ≤ 200000) (sym none) no_commands;
       cheap = subst (λ (ls : List Line). need ls ≤ 4352 * commands ls) (sym none) cheap_none;

@@ -13,7 +13,9 @@ use Rattle.ix_model.specs.declared.config.FsSpec.{FsSpec}
 use Rattle.ix_model.specs.declared.config.Limits.{Limits}
 use Rattle.ix_model.specs.declared.config.ProcSpec.{ProcSpec}
 use Rattle.ix_model.specs.declared.config.ObjSpec.{ObjSpec}
-use Rattle.ix_script.specs.lines.Before.{fs_told, fss_told, or_default, fss_of, default_fs, is_known, with_limit, limits_after, limits_of, default_limits, proc_told, proc_name_told, procs_of, proc_names, object_told, objects_of, dir_spec, file_spec}
+use Rattle.ix_label.specs.declared.form.Form.{Form}
+use Rattle.ix_label.specs.declared.form.Form.TheVariants.{One}
+use Rattle.ix_script.specs.lines.Before.{form_by, form_told, fs_told, fss_told, or_default, fss_of, default_fs, is_known, with_limit, limits_after, limits_of, default_limits, proc_told, proc_name_told, procs_of, proc_names, object_told, objects_of, dir_spec, file_spec}
 use Rattle.ix_script.specs.lines.Kinds.{bounds_of}
 use Rattle.ix_script.specs.lines.Said.{line_of}
 use Rattle.ix_script.specs.lines.Faults.{said_fault, line_fault}
@@ -27,7 +29,7 @@ use Rattle.ix_script.proofs.texts.Names.{both, join_tests}
 use Rattle.ix_script.proofs.lines.Follows.{Follows, follows}
 use Rattle.ix_script.proofs.lines.Ordered.{neither, no_objects, no_procs, earlier}
 use Rattle.ix_script.proofs.reader.Pushed.{fss_push, limits_push, procs_push, objects_push}
-use Rattle.ix_script.proofs.reader.Keeping.{After, same_fss, same_objects}
+use Rattle.ix_script.proofs.reader.Keeping.{After, same_form, same_fss, later_fss, same_objects}
 use Rattle.ix_script.proofs.reader.Validity.{Parts, parts_of, valid_by}
 use Rattle.ix_script.proofs.lines.Sound.{Sound, sound}
 
@@ -83,9 +85,9 @@ fss_push_fit fss fs h fit few new =
     let names : all_differ (map (λ s. s.name) (fss ++ fs ∷ [])) ≡ true = ap all_differ (map-append (λ (s : FsSpec). s.name) fss (fs ∷ [])) ∙ differ_push (map (λ s. s.name) fss) fs.name one.1 new in
     join_tests _ _ (join_tests _ _ within (all_push fs_fits fss fs two.1 fit)) names
 
-told_fit : (told : List FsSpec) (fs : FsSpec) → fss_fit (or_default told) ≡ true → fs_fits fs ≡ true → length told < 16 → is_known fs.name (map (λ s. s.name) told) ≡ false → fss_fit (or_default (told ++ fs ∷ [])) ≡ true
-told_fit [] fs h fit few new = first_fits fs fit
-told_fit (t ∷ told) fs h fit few new = fss_push_fit (t ∷ told) fs h fit few new
+told_fit : (form : Form) (told : List FsSpec) (fs : FsSpec) → fss_fit (or_default form told) ≡ true → fs_fits fs ≡ true → length told < 16 → is_known fs.name (map (λ s. s.name) told) ≡ false → fss_fit (or_default form (told ++ fs ∷ [])) ≡ true
+told_fit form [] fs h fit few new = first_fits fs fit
+told_fit form (t ∷ told) fs h fit few new = fss_push_fit (t ∷ told) fs h fit few new
 
 -- ---- limits
 limit_fits : (l : Limits) (w : What) (n : ℕ) → limits_fit l ≡ true → is_within (bounds_of w).0 (bounds_of w).1 n ≡ true → limits_fit (with_limit l w n) ≡ true
@@ -160,10 +162,10 @@ parts_same before after f l p o was =
 same_procs : (before : List Line) (x : Line) → proc_told x ≡ [] → procs_of (After before x) ≡ procs_of before
 same_procs before x h = procs_push before x ∙ ap (λ more. procs_of before ++ more) h ∙ append-nil (procs_of before)
 
-object_next : (before : List Line) (x : Line) (o : ObjSpec) → fs_told x ≡ [] → limits_after (limits_of before) x ≡ limits_of before → proc_told x ≡ [] → object_told x ≡ o ∷ []
+object_next : (before : List Line) (x : Line) (o : ObjSpec) → fs_told x ≡ [] → form_by x ≡ One → limits_after (limits_of before) x ≡ limits_of before → proc_told x ≡ [] → object_told x ≡ o ∷ []
     → object_fits (fss_of before) (limits_of before) (objects_of before) o ≡ true → Parts before → Parts (After before x)
-object_next before x o f l p told fit was =
-    let fs = same_fss before x f in
+object_next before x o f v l p told fit was =
+    let fs = same_fss before x f v in
     let limits = limits_push before x ∙ l in
     let objects = objects_push before x ∙ ap (λ more. objects_of before ++ more) told in
     record {
@@ -173,10 +175,30 @@ object_next before x o f l p told fit was =
       objects = (λ i. objects_fit (fs i) (limits i) [] (objects i)) ∙ fit_push (fss_of before) (limits_of before) [] (objects_of before) o was.objects fit;
     }
 
+-- the file system that is there where none is told
+default_fits : (form : Form) → fss_fit (default_fs form ∷ []) ≡ true
+unfolding fss_fit default_fs
+default_fits form = refl
+
+parts_version : (before : List Line) (form : Form) → Parts before → Parts (After before (line.Version form))
+unfolding fss_told objects_of
+parts_version [] form was =
+    let x : Line = line.Version form in
+    let limits = limits_push [] x in
+    record {
+      fss = default_fits form;
+      limits = ap limits_fit limits ∙ was.limits;
+      procs = (λ i. procs_fit (limits i) (same_procs [] x refl i)) ∙ was.procs;
+      objects = refl;
+    }
+parts_version (y ∷ before) form was =
+    let x : Line = line.Version form in
+    parts_same (y ∷ before) (After (y ∷ before) x) (later_fss y before x refl) (limits_push (y ∷ before) x) (same_procs (y ∷ before) x refl) (same_objects (y ∷ before) x refl) was
+
 parts_next : (before : List Line) (x : Line) → Parts before → Follows before x → Sound before x → Parts (After before x)
 parts_next before (line.Limit w n) was f s =
     let x : Line = line.Limit w n in
-    let fs = same_fss before x refl in
+    let fs = same_fss before x refl refl in
     let limits = limits_push before x in
     let procs : procs_of (After before x) ≡ [] = same_procs before x refl ∙ no_procs before (earlier before f.order) in
     let objects : objects_of (After before x) ≡ [] = same_objects before x refl ∙ no_objects before (earlier before f.order) in
@@ -188,18 +210,18 @@ parts_next before (line.Limit w n) was f s =
     }
 parts_next before (line.Fs name ceiling blocks inodes) was f s =
     let x : Line = line.Fs name ceiling blocks inodes in
-    let fs = ap or_default (fss_push before x) in
+    let fs : fss_of (After before x) ≡ or_default (form_told before) (fss_told before ++ fs_told x) = λ i. or_default (same_form before x refl i) (fss_push before x i) in
     let limits = limits_push before x in
     let objects : objects_of (After before x) ≡ [] = same_objects before x refl ∙ no_objects before f.order in
     record {
-      fss = ap fss_fit fs ∙ told_fit (fss_told before) (record { name = name; ceiling = ceiling; blocks = blocks; inodes = inodes }) was.fss s.fits (below_is_less 16 (length (fss_told before)) f.many) s.new;
+      fss = ap fss_fit fs ∙ told_fit (form_told before) (fss_told before) (record { name = name; ceiling = ceiling; blocks = blocks; inodes = inodes }) was.fss s.fits (below_is_less 16 (length (fss_told before)) f.many) s.new;
       limits = ap limits_fit limits ∙ was.limits;
       procs = (λ i. procs_fit (limits i) (same_procs before x refl i)) ∙ was.procs;
       objects = λ i. objects_fit (fs i) (limits i) [] (objects i);
     }
 parts_next before (line.Proc name label ceiling cap lic) was f s =
     let x : Line = line.Proc name label ceiling cap lic in
-    let fs = same_fss before x refl in
+    let fs = same_fss before x refl refl in
     let limits = limits_push before x in
     let few : length (proc_names before) < (limits_of before).procs = below_is_less (limits_of before).procs (length (proc_names before)) f.crowds in
     record {
@@ -209,16 +231,17 @@ parts_next before (line.Proc name label ceiling cap lic) was f s =
       objects = (λ i. objects_fit (fs i) (limits i) [] (same_objects before x refl i)) ∙ was.objects;
     }
 parts_next before (line.Dir path label frozen) was f s =
-    object_next before (line.Dir path label frozen) (dir_spec path label frozen) refl refl refl refl
+    object_next before (line.Dir path label frozen) (dir_spec path label frozen) refl refl refl refl refl
     (object_fit (fss_of before) (limits_of before) (objects_of before) (dir_spec path label frozen) (join_tests _ _ (join_tests _ _ s refl) refl) f.above f.misfits f.crowds) was
 parts_next before (line.File path label frozen cap lic bytes) was f s =
-    object_next before (line.File path label frozen cap lic bytes) (file_spec path label frozen cap lic bytes) refl refl refl refl
+    object_next before (line.File path label frozen cap lic bytes) (file_spec path label frozen cap lic bytes) refl refl refl refl refl
     (object_fit (fss_of before) (limits_of before) (objects_of before) (file_spec path label frozen cap lic bytes) (join_tests _ _ (join_tests _ _ s.place s.few) refl) f.above f.misfits f.crowds) was
-parts_next before x was f s = parts_same before (After before x) (same_fss before x refl) (limits_push before x) (same_procs before x refl) (same_objects before x refl) was
+parts_next before (line.Version form) was f s = parts_version before form was
+parts_next before x was f s = parts_same before (After before x) (same_fss before x refl refl) (limits_push before x) (same_procs before x refl) (same_objects before x refl) was
 
 pub valid_none : is_valid (config_of []) ≡ true
 unfolding is_valid config_of fss_fit limits_fit procs_fit fss_told default_fs limits_of default_limits procs_of objects_of need
 valid_none = refl
 
-pub valid_next : (before : List Line) (text : List ℕ) (l : Line) → is_valid (config_of before) ≡ true → line_fault before text ≡ None → line_of text ≡ Some l → said_fault before l ≡ None → need (before ++ l ∷ []) ≤ 870400000 → is_valid (config_of (before ++ l ∷ [])) ≡ true
-valid_next before text l h f m fits few = valid_by (before ++ l ∷ []) (parts_next before l (parts_of before h) (follows before l fits) (sound before text l f m)) few
+pub valid_next : (before : List Line) (text : List ℕ) (l : Line) → is_valid (config_of before) ≡ true → line_fault before text ≡ None → line_of (form_told before) text ≡ Some l → said_fault before l ≡ None → need (before ++ l ∷ []) ≤ 870400000 → is_valid (config_of (before ++ l ∷ [])) ≡ true
+valid_next before text l h f m fits few = valid_by (before ++ l ∷ []) (parts_next before l (parts_of before h) (follows before l fits) (sound (form_told before) before text l f m)) few

@@ -1,6 +1,7 @@
 -- What is kept beside the lines: what each is for, and what they cost together.
 use Rattle.std.proofs.Common.{◌≡◌, ℕ, ◌+◌, ◌*◌, ◌≤◌, Bool, true, false, cond, List, [], ◌∷◌, ◌++◌, length, map, refl, sym, ap, ◌∙◌, arith}
 use Rattle.std.proofs.lemmas.List.{map-append}
+use Rattle.ix_label.specs.declared.form.Form.{Form}
 use Rattle.ix_script.specs.lines.Before.{is_command}
 use Rattle.ix_script.specs.lines.Roles.{role_of}
 use Rattle.ix_script.specs.scripts.Need.{cost_of_line, need}
@@ -14,13 +15,13 @@ at_most : (command : Bool) (cost : ℕ) → cost ≤ cond command 4352 0 → cos
 at_most true cost h = h
 at_most false cost h = omega (arith, h)
 
-pub costs_little : (text : List ℕ) → IsLine text → cost_of_line (line_in text) ≤ 4352
-costs_little text l = at_most (is_command (line_in text)) (cost_of_line (line_in text)) (line_cheap text (line_in text) l.said)
+pub costs_little : (labels : Form) (text : List ℕ) → IsLine labels text → cost_of_line (line_in labels text) ≤ 4352
+costs_little labels text l = at_most (is_command (line_in labels text)) (cost_of_line (line_in labels text)) (line_cheap labels text (line_in labels text) l.said)
 
-pub need_little : (from : ℕ) (text ends : List ℕ) → AreLines from text ends → need (held from text ends) ≤ 4352 * length ends
-need_little from text [] h = omega (arith, need_none)
-need_little from text (end ∷ ends) h =
-    omega (arith, need_next (line_in (between from end text)) (held end text ends), costs_little (between from end text) h.2, need_little end text ends h.3)
+pub need_little : (labels : Form) (from : ℕ) (text ends : List ℕ) → AreLines labels from text ends → need (held labels from text ends) ≤ 4352 * length ends
+need_little labels from text [] h = omega (arith, need_none)
+need_little labels from text (end ∷ ends) h =
+    omega (arith, need_next (line_in labels (between from end text)) (held labels end text ends), costs_little labels (between from end text) h.2, need_little labels end text ends h.3)
 
 -- ---- line after line
 pub summed_none : AreSummed [] [] 0

@@ -5,7 +5,7 @@ use Rattle.ix_script.specs.texts.Lines.{lines_of}
 use Rattle.ix_script.specs.texts.Cutting.{words_of, is_policy_line}
 use Rattle.ix_script.specs.lines.Rules.{is_too_long, is_unprintable, has_empty_word, has_open_quote}
 use Rattle.ix_script.specs.lines.Faults.{text_fault, words_fault, first_line_fault, body_fault, line_fault, fault_from, fault_of}
-use Rattle.ix_script.specs.scripts.Scripts.{lines_said, script_of}
+use Rattle.ix_script.specs.scripts.Scripts.{form_in, lines_said, script_of}
 use Rattle.ix_script.specs.reader.Readers.{HasCause}
 use Rattle.ix_script.specs.declared.fail.ReadFail.{ReadFail}
 use Rattle.ix_script.specs.declared.line.Line.{Line}
@@ -28,6 +28,6 @@ no_bytes bytes h = ap fault_of h ∙ no_byte
 pub has_cause : (e : ReadFail) (bytes : List ℕ) → length bytes ≤ 16777216 → HasCause e (fault_from [] (lines_of bytes)) → HasCause e (fault_of bytes)
 has_cause e bytes few h = subst (λ (f : Option (ℕ × ℕ)). HasCause e f) (sym (by_lines bytes few)) h
 
-pub script_is : (bytes : List ℕ) (lines : List Line) → length bytes ≤ 16777216 → fault_from [] (lines_of bytes) ≡ None → lines_said (lines_of bytes) ≡ Some lines → script_of bytes ≡ Some lines
+pub script_is : (bytes : List ℕ) (lines : List Line) → length bytes ≤ 16777216 → fault_from [] (lines_of bytes) ≡ None → lines_said (form_in (lines_of bytes)) (lines_of bytes) ≡ Some lines → script_of bytes ≡ Some lines
 unfolding script_of
 script_is bytes lines few h said = rw (by_lines bytes few ∙ h) said

@@ -6,7 +6,9 @@ use Rattle.std.specs.Cmp.{nat_cmp_total, unsigned_tied}
 use Rattle.std.proofs.lemmas.Bool.{eq-eqb, ne_eqb, cases_eq}
 use Rattle.std.specs.Cmp.Lexicographic.{same_text}
 use Rattle.ix_label.specs.declared.form.Form.{Form}
-use Rattle.ix_label.specs.Forms.{greatest, IsWithin}
+use Rattle.std.proofs.lemmas.Option.{same_Some}
+use Rattle.ix_label.specs.Forms.{greatest, Fits, IsWithin}
+use Rattle.ix_label.proofs.Fitting.{within-fits}
 use Rattle.ix_label.specs.Category.{Categories, has, bottom, with}
 use Rattle.ix_label.specs.Members.{same_members, has-bottom, has-with}
 use Rattle.ix_label.specs.Spelling.{spelling}
@@ -141,3 +143,17 @@ unfolding label_in
 label_missing form word none =
     find_none (is_spelled form word) (labels_below (greatest form + 1))
     (λ l a t. none l (record { below = λ q one. omega (arith, below (greatest form + 1) l a q one) }) (same_text (spelling form l) word (sym t)))
+
+-- ---- what is found is a label of the form
+find_among : (test : Categories → Bool) (ls : List Categories) (s : Categories) → find test ls ≡ Some s → Among s ls
+find_among test [] s h = cc
+find_among test (l ∷ ls) s h = elim (bool_cases (test l)) [
+  | inl t ↦ let is : Some l ≡ Some s = rw t at h in inl (same_Some l s is)
+  | inr f ↦ let later : find test ls ≡ Some s = rw f at h in inr (find_among test ls s later)
+]
+
+pub label_fits : (form : Form) (word : List ℕ) (s : Categories) → label_in form word ≡ Some s → Fits form s
+unfolding label_in
+label_fits form word s h =
+    let among = find_among (is_spelled form word) (labels_below (greatest form + 1)) s h in
+    within-fits form s (record { below = λ q one. omega (arith, below (greatest form + 1) s among q one) })

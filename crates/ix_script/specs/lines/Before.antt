@@ -1,7 +1,10 @@
 -- What the lines before a line tell.
 use Rattle.std.specs.Prelude.{ℕ, ◌==◌, Bool, true, false, ◌&&◌, ◌||◌, List, [], ◌∷◌, ◌++◌, map, count_by, Option, Some, None, if◌then◌else◌, codes}
 use Rattle.std.specs.List.{list_any, flat_map, fold}
-use Rattle.ix_label.specs.Category.{Categories, top}
+use Rattle.ix_label.specs.declared.form.Form.{Form}
+use Rattle.ix_label.specs.declared.form.Form.TheVariants.{One}
+use Rattle.ix_label.specs.Category.{Categories}
+use Rattle.ix_label.specs.Forms.{all_of}
 use Rattle.ix_model.specs.world.Naming.{PathOf, same_bytes}
 use Rattle.ix_model.specs.declared.privs.PrivSet.{PrivSet}
 use Rattle.ix_model.specs.world.Privs.{no_privileges}
@@ -19,6 +22,16 @@ abbrev pub is_known : List ℕ → List (List ℕ) → Bool
 is_known name names = list_any (same_bytes name) names
 
 -- ---- the header
+-- the form that a line tells, if it is `ix 1` or `ix 2`
+abbrev pub form_by : Line → Form
+form_by (line.Version form) = form
+form_by _ = One
+
+-- the form in which labels are spelled: the first line tells it
+abbrev pub form_told : List Line → Form
+form_told [] = One
+form_told (l ∷ lines) = form_by l
+
 -- the file system that a line tells
 abbrev pub fs_told : Line → List FsSpec
 fs_told (line.Fs name ceiling blocks inodes) = (record { name = name; ceiling = ceiling; blocks = blocks; inodes = inodes }) ∷ []
@@ -28,18 +41,18 @@ fs_told _ = []
 unfoldable pub fss_told : List Line → List FsSpec
 fss_told lines = flat_map fs_told lines
 
--- the file system of a script that tells none
-unfoldable pub default_fs : FsSpec
-default_fs = record { name = codes "root"; ceiling = top; blocks = 4096; inodes = 256 }
+-- the file system of a script that tells none: its ceiling is `*`
+unfoldable pub default_fs : Form → FsSpec
+default_fs form = record { name = codes "root"; ceiling = all_of form; blocks = 4096; inodes = 256 }
 
 -- these, or the one that is there where none is told
-abbrev pub or_default : List FsSpec → List FsSpec
-or_default [] = default_fs ∷ []
-or_default (fs ∷ fss) = fs ∷ fss
+abbrev pub or_default : Form → List FsSpec → List FsSpec
+or_default form [] = default_fs form ∷ []
+or_default form (fs ∷ fss) = fs ∷ fss
 
 -- the file systems of a script
 abbrev pub fss_of : List Line → List FsSpec
-fss_of lines = or_default (fss_told lines)
+fss_of lines = or_default (form_told lines) (fss_told lines)
 
 -- what a `limit` line limits
 abbrev pub what_told : Line → List What
@@ -123,7 +136,7 @@ has_policy lines = list_any is_policy lines
 -- skipped line anywhere
 abbrev pub group : Line → ℕ
 group line.Skipped = 0
-group line.Version = 1
+group (line.Version form) = 1
 group (line.Limit w n) = 2
 group (line.Fs name ceiling blocks inodes) = 3
 group (line.Proc name label ceiling cap lic) = 4

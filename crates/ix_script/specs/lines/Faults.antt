@@ -1,14 +1,13 @@
 -- The first rule that a line breaks, and the fault of an input.
-use Rattle.std.specs.Prelude.{ℕ, ◌+◌, nat_lt, not, List, [], ◌∷◌, ◌++◌, length, Option, Some, None, codes, if◌then◌else◌, unwrap_or}
+use Rattle.std.specs.Prelude.{ℕ, ◌+◌, nat_lt, not, List, [], ◌∷◌, ◌++◌, length, Option, Some, None, is_none, if◌then◌else◌, unwrap_or}
 use Rattle.std.specs.Option.{option_or, option_map_or}
-use Rattle.ix_model.specs.world.Naming.{same_bytes}
 use Rattle.ix_script.specs.texts.Lines.{lines_of}
 use Rattle.ix_script.specs.texts.Cutting.{is_empty, words_of, word_at, is_skipped, is_policy_line, policy_text}
 use Rattle.ix_script.specs.lines.Kinds.{places_fault}
 use Rattle.ix_script.specs.lines.Forms.{form_of, places, has_right_count}
-use Rattle.ix_script.specs.lines.Before.{has_policy, in_body}
+use Rattle.ix_script.specs.lines.Before.{form_told, has_policy, in_body}
 use Rattle.ix_script.specs.lines.Rules.{first_of, is_too_long, is_unprintable, has_empty_word, has_open_quote, is_late, is_outside, is_given_twice, names_unknown, is_above, misfits, crowds, is_out_of_order, is_one_too_many, lacks_policy}
-use Rattle.ix_script.specs.lines.Said.{said, line_of}
+use Rattle.ix_script.specs.lines.Said.{said, version_of, line_of}
 use Rattle.ix_script.specs.declared.cutting.form.Form.{Form}
 use Rattle.ix_script.specs.declared.line.Line.{Line}
 use Rattle.ix_script.specs.declared.line.Line.TheVariants as line
@@ -40,8 +39,8 @@ said_fault before l =
 unfoldable pub form_fault : List Line → Form → List (List ℕ) → Option ℕ
 form_fault before f words =
     option_or (stand_fault before f words)
-    (option_or (places_fault (places f words))
-    (option_or (names_fault before f words) (option_map_or (said_fault before) (said f words) None)))
+    (option_or (places_fault (places (form_told before) f words))
+    (option_or (names_fault before f words) (option_map_or (said_fault before) (said (form_told before) f words) None)))
 
 -- a line that is cut into words: rules 4 and 5, then rule 7 where its first word is that of no form
 unfoldable pub command_fault : List Line → List (List ℕ) → Option ℕ
@@ -55,7 +54,7 @@ policy_fault before text = first_of ((8, in_body before) ∷ (10, is_empty (poli
 -- line 1: rules 4 and 5, then rule 6
 unfoldable pub first_line_fault : List ℕ → Option ℕ
 first_line_fault text =
-    option_or (if is_policy_line text then None else words_fault (words_of text)) (first_of ((6, not (same_bytes text (codes "ix 1"))) ∷ []))
+    option_or (if is_policy_line text then None else words_fault (words_of text)) (first_of ((6, is_none (version_of text)) ∷ []))
 
 -- a line, by where it stands and how it begins
 unfoldable pub body_fault : List Line → List ℕ → Option ℕ
@@ -78,7 +77,7 @@ or_next None number next = next
 -- the fault of the first line that has one, with these lines before, and that line's number
 unfoldable pub fault_from : List Line → List (List ℕ) → Option (ℕ × ℕ)
 fault_from before [] = None
-fault_from before (text ∷ texts) = or_next (line_fault before text) (length before + 1) (fault_from (before ++ unwrap_or (line_of text) line.Skipped ∷ []) texts)
+fault_from before (text ∷ texts) = or_next (line_fault before text) (length before + 1) (fault_from (before ++ unwrap_or (line_of (form_told before) text) line.Skipped ∷ []) texts)
 
 -- the line and the rule: rule 1 stands before all
 unfoldable pub fault_of : List ℕ → Option (ℕ × ℕ)

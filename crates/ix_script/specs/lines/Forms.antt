@@ -2,6 +2,8 @@
 use Rattle.std.specs.Prelude.{ℕ, suc, ◌+◌, ◌==◌, nat_le, Bool, true, false, not, ◌&&◌, ◌||◌, List, [], ◌∷◌, ◌++◌, length, Option, Some, None, if◌then◌else◌, codes}
 use Rattle.std.specs.Option.{option_or}
 use Rattle.std.proofs.Common.{option_map}
+use Rattle.ix_label.specs.declared.form.Form as spelled
+use Rattle.ix_label.specs.declared.form.Form.TheVariants.{One}
 use Rattle.ix_model.specs.world.Naming.{same_bytes}
 use Rattle.ix_script.specs.texts.Cutting.{is_empty, word_at}
 use Rattle.ix_script.specs.lines.Kinds.{Kind, Place}
@@ -110,36 +112,40 @@ unfoldable pub form_of : List ℕ → Option Form
 form_of word = option_or (frame_form word) (option_or (group_form word) (option_or (file_form word) (process_form word)))
 
 -- ---- places
--- what may stand after the first word
-abbrev pub kinds : Form → List (List ℕ) → List Kind
-kinds form.Limit words = kind.Limited ∷ (kind.Bound (word_at words 1)) ∷ []
-kinds form.Fs words = kind.Own ∷ kind.Label ∷ (kind.Number 1 65536) ∷ (kind.Number 1 65536) ∷ []
-kinds form.Proc words = kind.Own ∷ kind.Label ∷ kind.Label ∷ kind.Privs ∷ kind.Privs ∷ []
-kinds form.Dir words = kind.MadePath ∷ kind.Label ∷ kind.State ∷ []
-kinds form.File words = kind.MadePath ∷ kind.Label ∷ kind.State ∷ kind.Privs ∷ kind.Privs ∷ (kind.Payload 1048576) ∷ []
-kinds form.Phase words = []
-kinds form.Lane words = kind.Own ∷ []
-kinds (form.Plain c) words = kind.Proc ∷ []
-kinds (form.OnPath c) words = kind.Proc ∷ kind.AnyPath ∷ []
-kinds (form.OnFd c) words = kind.Proc ∷ kind.Fd ∷ []
-kinds (form.Counted c) words = kind.Proc ∷ kind.Fd ∷ (kind.Number 0 4294967295) ∷ []
-kinds form.Open words = kind.Proc ∷ kind.AnyPath ∷ kind.Mode ∷ []
-kinds form.Write words = kind.Proc ∷ kind.Fd ∷ (kind.Payload 4096) ∷ []
-kinds form.Dup words = kind.Proc ∷ kind.Fd ∷ []
-kinds form.Pipe words = kind.Proc ∷ []
-kinds form.Link words = kind.Proc ∷ kind.AnyPath ∷ kind.AnyPath ∷ []
-kinds form.List words = kind.Proc ∷ kind.AnyPath ∷ (kind.Number 0 4294967295) ∷ []
-kinds form.Copy words = kind.Proc ∷ kind.Fd ∷ kind.Fd ∷ (kind.Number 0 4294967295) ∷ []
-kinds form.Setlabel words = kind.Proc ∷ kind.AnyPath ∷ kind.Label ∷ []
-kinds form.Setpriv words = kind.Proc ∷ kind.AnyPath ∷ kind.Privs ∷ kind.Privs ∷ []
-kinds form.Fork words = kind.Proc ∷ kind.Keep ∷ []
-kinds form.Exit words = kind.Proc ∷ (kind.Number 0 255) ∷ []
-kinds form.Setself words = kind.Proc ∷ kind.Label ∷ []
-kinds form.Droplic words = kind.Proc ∷ kind.Privs ∷ []
-kinds form.Grant words = kind.Proc ∷ kind.Proc ∷ kind.Privs ∷ []
-kinds form.Ceiling words = kind.Proc ∷ kind.Proc ∷ kind.Label ∷ []
-kinds form.Readlog words = kind.Proc ∷ (kind.Number 0 4294967295) ∷ []
-kinds form.Login words = kind.Proc ∷ kind.Fd ∷ kind.Fd ∷ []
+-- what may stand after the first word; labels are spelled in that form
+abbrev pub kinds : spelled.Form → Form → List (List ℕ) → List Kind
+kinds labels form.Limit words = kind.Limited ∷ (kind.Bound (word_at words 1)) ∷ []
+kinds labels form.Fs words = kind.Own ∷ (kind.Label labels) ∷ (kind.Number 1 65536) ∷ (kind.Number 1 65536) ∷ []
+kinds labels form.Proc words = kind.Own ∷ (kind.Label labels) ∷ (kind.Label labels) ∷ kind.Privs ∷ kind.Privs ∷ []
+kinds labels form.Dir words = kind.MadePath ∷ (kind.Label labels) ∷ kind.State ∷ []
+kinds labels form.File words = kind.MadePath ∷ (kind.Label labels) ∷ kind.State ∷ kind.Privs ∷ kind.Privs ∷ (kind.Payload 1048576) ∷ []
+kinds labels form.Phase words = []
+kinds labels form.Lane words = kind.Own ∷ []
+kinds labels (form.Plain c) words = kind.Proc ∷ []
+kinds labels (form.OnPath c) words = kind.Proc ∷ kind.AnyPath ∷ []
+kinds labels (form.OnFd c) words = kind.Proc ∷ kind.Fd ∷ []
+kinds labels (form.Counted c) words = kind.Proc ∷ kind.Fd ∷ (kind.Number 0 4294967295) ∷ []
+kinds labels form.Open words = kind.Proc ∷ kind.AnyPath ∷ kind.Mode ∷ []
+kinds labels form.Write words = kind.Proc ∷ kind.Fd ∷ (kind.Payload 4096) ∷ []
+kinds labels form.Dup words = kind.Proc ∷ kind.Fd ∷ []
+kinds labels form.Pipe words = kind.Proc ∷ []
+kinds labels form.Link words = kind.Proc ∷ kind.AnyPath ∷ kind.AnyPath ∷ []
+kinds labels form.List words = kind.Proc ∷ kind.AnyPath ∷ (kind.Number 0 4294967295) ∷ []
+kinds labels form.Copy words = kind.Proc ∷ kind.Fd ∷ kind.Fd ∷ (kind.Number 0 4294967295) ∷ []
+kinds labels form.Setlabel words = kind.Proc ∷ kind.AnyPath ∷ (kind.Label labels) ∷ []
+kinds labels form.Setpriv words = kind.Proc ∷ kind.AnyPath ∷ kind.Privs ∷ kind.Privs ∷ []
+kinds labels form.Fork words = kind.Proc ∷ kind.Keep ∷ []
+kinds labels form.Exit words = kind.Proc ∷ (kind.Number 0 255) ∷ []
+kinds labels form.Setself words = kind.Proc ∷ (kind.Label labels) ∷ []
+kinds labels form.Droplic words = kind.Proc ∷ kind.Privs ∷ []
+kinds labels form.Grant words = kind.Proc ∷ kind.Proc ∷ kind.Privs ∷ []
+kinds labels form.Ceiling words = kind.Proc ∷ kind.Proc ∷ (kind.Label labels) ∷ []
+kinds labels form.Readlog words = kind.Proc ∷ (kind.Number 0 4294967295) ∷ []
+kinds labels form.Login words = kind.Proc ∷ kind.Fd ∷ kind.Fd ∷ []
+
+-- how many words stand there, in whichever form labels are spelled
+abbrev pub arity : Form → List (List ℕ) → ℕ
+arity f words = length (kinds One f words)
 
 -- the names that may stand after `as`
 abbrev pub tail_of : Form → List Kind
@@ -156,8 +162,8 @@ places_from i [] words = []
 places_from i (k ∷ ks) words = (k, word_at words i) ∷ places_from (suc i) ks words
 
 -- the places of a form's own words
-abbrev pub own_places : Form → List (List ℕ) → List Place
-own_places f words = places_from 1 (kinds f words) words
+abbrev pub own_places : spelled.Form → Form → List (List ℕ) → List Place
+own_places labels f words = places_from 1 (kinds labels f words) words
 
 -- the places of names after `as`, which is the word at that place; where the line ends before it there are none
 abbrev pub tail_places : List Kind → ℕ → List (List ℕ) → List Place
@@ -165,17 +171,17 @@ tail_places [] n words = []
 tail_places (k ∷ ks) n words = if nat_le (length words) n then [] else places_from (n + 1) (k ∷ ks) words
 
 abbrev pub named_places : Form → List (List ℕ) → List Place
-named_places f words = tail_places (tail_of f) (1 + length (kinds f words)) words
+named_places f words = tail_places (tail_of f) (1 + arity f words) words
 
 -- all places of a line
-abbrev pub places : Form → List (List ℕ) → List Place
-places f words = own_places f words ++ named_places f words
+abbrev pub places : spelled.Form → Form → List (List ℕ) → List Place
+places labels f words = own_places labels f words ++ named_places f words
 
 -- the words of the form, and no others but `as` with its names
 abbrev pub has_right_count : Form → List (List ℕ) → Bool
 has_right_count f words =
-    length words == 1 + length (kinds f words)
-    || (not (is_empty (tail_of f)) && length words == 2 + length (kinds f words) + length (tail_of f) && same_bytes (word_at words (1 + length (kinds f words))) (codes "as"))
+    length words == 1 + arity f words
+    || (not (is_empty (tail_of f)) && length words == 2 + arity f words + length (tail_of f) && same_bytes (word_at words (1 + arity f words)) (codes "as"))
 
 -- ---- where a form may stand
 -- a line of the header

@@ -4,7 +4,8 @@ use Rattle.std.specs.Option.{option_map_or}
 use Rattle.std.specs.List.{list_any}
 use Rattle.ix_model.specs.world.Naming.{same_bytes}
 use Rattle.ix_model.specs.opening.Valid.{is_within}
-use Rattle.ix_script.specs.texts.Labels.{label_of}
+use Rattle.ix_label.specs.declared.form.Form as spelled
+use Rattle.ix_script.specs.texts.Labels.{label_in}
 use Rattle.ix_script.specs.texts.Words.{is_digit, begins_with, is_script_name, is_numeral, value, privs_of, path_of, made_path_of, mode_of, state_of, what_of}
 use Rattle.ix_script.specs.texts.Payloads.{payload_of}
 use Rattle.ix_script.specs.declared.line.What.{What}
@@ -12,7 +13,7 @@ use Rattle.ix_script.specs.declared.line.What.TheVariants as what
 
 -- What may stand at a place: the name of a file system, process or lane that the line makes; a process; a name that
 -- stands after `as` for a process or for a descriptor; a number within bounds; a number within those of that WHAT; a
--- label; a set of privileges; a path; an absolute path with a name; a mode; a state; a WHAT; at most so many bytes;
+-- label, in that form; a set of privileges; a path; an absolute path with a name; a mode; a state; a WHAT; at most so many bytes;
 -- a descriptor; which descriptors are kept.
 pub data Kind : Type 0 where
   Own : Kind
@@ -21,7 +22,7 @@ pub data Kind : Type 0 where
   NewFd : Kind
   Number : ℕ → ℕ → Kind
   Bound : List ℕ → Kind
-  Label : Kind
+  Label : spelled.Form → Kind
   Privs : Kind
   AnyPath : Kind
   MadePath : Kind
@@ -82,7 +83,7 @@ is_out_of_range _ word = false
 
 -- a label is not well formed
 abbrev pub is_bad_label : Kind → List ℕ → Bool
-is_bad_label Label word = is_none (label_of word)
+is_bad_label (Label form) word = is_none (label_in form word)
 is_bad_label _ word = false
 
 -- a set of privileges is not well formed

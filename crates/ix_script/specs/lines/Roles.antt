@@ -9,7 +9,7 @@ use Rattle.ix_script.specs.declared.role.Role.TheVariants as role
 -- serves, and all others
 unfoldable pub role_of : Line → Role
 role_of line.Skipped = role.Aside
-role_of line.Version = role.Header
+role_of (line.Version form) = role.Header
 role_of (line.Limit w n) = role.Header
 role_of (line.Fs name ceiling blocks inodes) = role.Header
 role_of (line.Proc name label ceiling cap lic) = role.Header

@@ -10,7 +10,7 @@ first_rule_text rule =
     else if rule == 3 then codes "a byte is not printable"
     else if rule == 4 then codes "a word is empty"
     else if rule == 5 then codes "a quote is not closed"
-    else if rule == 6 then codes "the first line is not ix 1"
+    else if rule == 6 then codes "the first line is not ix 1 or ix 2"
     else if rule == 7 then codes "the command is unknown"
     else if rule == 8 then codes "a header line stands after a phase"
     else codes "a line stands outside a lane"

@@ -1,6 +1,7 @@
 -- What a reader of the code tells of what it was given.
 use Rattle.std.specs.Prelude.{◌≡◌, ℕ, List, [], ◌∷◌, ◌++◌, Option, Some, None, Result, Ok, Err}
 use Rattle.ix_script.specs.lines.Kinds.{Place, places_fault}
+use Rattle.ix_script.specs.lines.Before.{form_told}
 use Rattle.ix_script.specs.lines.Faults.{said_fault, line_fault}
 use Rattle.ix_script.specs.lines.Said.{line_of}
 use Rattle.ix_script.specs.declared.fail.ReadFail.{ReadFail}
@@ -35,7 +36,7 @@ pub record LineRight (before : List Line) (l : Line) (fault : Option ℕ) (meani
 -- a line more, which the text says
 pub record LineMore (before after : List Line) (text : List ℕ) : Type 0 where
   pub line : Line
-  pub right : LineRight before line (line_fault before text) (line_of text)
+  pub right : LineRight before line (line_fault before text) (line_of (form_told before) text)
   pub added : after ≡ before ++ line ∷ []
 
 abbrev pub Tells : List Line → Result Line Rule → Option ℕ → Option Line → Type 0

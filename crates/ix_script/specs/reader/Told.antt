@@ -1,12 +1,13 @@
 -- What the reader keeps of the lines before.
-use Rattle.std.specs.Prelude.{◌≡◌, ℕ, ◌+◌, ◌^◌, ◌<◌, ◌≤◌, ◌==◌, nat_lt, List, [], ◌∷◌, ◌++◌, length, slice_index, if◌then◌else◌}
+use Rattle.std.specs.Prelude.{◌≡◌, ℕ, ◌+◌, ◌^◌, ◌<◌, ◌≤◌, ◌==◌, nat_lt, Bool, List, [], ◌∷◌, ◌++◌, length, slice_index, if◌then◌else◌}
 use Rattle.std.specs.List.{list_any}
 use Rattle.std.proofs.Common.{option_map}
 use Rattle.ix_model.specs.rows.Telling.{blocks_for}
 use Rattle.ix_model.specs.opening.Valid.{fs_of, lying_on, blocks_taken}
 use Rattle.ix_model.specs.declared.config.FsSpec.{FsSpec}
 use Rattle.ix_model.specs.declared.config.ObjSpec.{ObjSpec}
-use Rattle.ix_script.specs.lines.Before.{fss_told, fss_of, limits_of, whats_told, proc_names, objects_of, group, has_policy, in_body, lane_now, phase_lanes, lanes_of, fds_given, procs_given, commands}
+use Rattle.ix_script.specs.lines.Before.{default_fs, fss_told, fss_of, limits_of, whats_told, proc_names, objects_of, group, has_policy, in_body, lane_now, phase_lanes, lanes_of, fds_given, procs_given, commands}
+use Rattle.ix_label.specs.declared.form.Form.{Form}
 use Rattle.ix_script.specs.declared.line.Line.{Line}
 use Rattle.ix_script.specs.declared.before.body.Body.{Body}
 use Rattle.ix_script.specs.declared.before.draft.Draft.{Draft}
@@ -63,10 +64,10 @@ pub record NamesMore (more : List (List ℕ)) (old new : Names) : Type 0 where
   pub names : (names : List (List ℕ)) → AreNames old.index names → AreNames new.index (names ++ more)
   pub count : new.count ≡ old.count + length more
 
--- a file system more in place of the one that is there where none is told
-abbrev pub fss_after : ℕ → List FsSpec → List FsSpec → List FsSpec
-fss_after told fss [] = fss
-fss_after told fss (fs ∷ more) = if told == 0 then fs ∷ [] else fss ++ fs ∷ []
+-- a file system more in place of the one that is there where none is told; that one goes by the form of the first line
+abbrev pub fss_after : Bool → ℕ → List FsSpec → Form → List FsSpec → List FsSpec
+fss_after first told fss form [] = if first then default_fs form ∷ [] else fss
+fss_after first told fss form (fs ∷ more) = if told == 0 then fs ∷ [] else fss ++ fs ∷ []
 
 -- all that is kept
 pub record DraftTold (d : Draft) : Type 0 where

@@ -1,6 +1,8 @@
 -- Lines that are held as their texts.
-use Rattle.std.specs.Prelude.{◌≡◌, ℕ, zero, suc, ◌-◌, ◌≤◌, List, [], ◌∷◌, length, take, drop, map, Some, None, unwrap_or}
-use Rattle.ix_script.specs.texts.Cutting.{word_at}
+use Rattle.std.specs.Prelude.{◌≡◌, ℕ, zero, suc, ◌-◌, ◌≤◌, false, List, [], ◌∷◌, length, take, drop, map, Some, None, unwrap_or}
+use Rattle.ix_label.specs.declared.form.Form as spelled
+use Rattle.ix_script.specs.texts.Cutting.{is_empty, word_at}
+use Rattle.ix_script.specs.lines.Before.{form_told}
 use Rattle.ix_script.specs.lines.Kinds.{places_fault}
 use Rattle.ix_script.specs.lines.Forms.{form_of, places}
 use Rattle.ix_script.specs.lines.Said.{line_of}
@@ -12,30 +14,31 @@ use Rattle.ix_script.specs.declared.line.Line.{Line}
 use Rattle.ix_script.specs.declared.line.Line.TheVariants as line
 use Rattle.ix_script.specs.declared.role.Role.{Role}
 
--- what a text says
-abbrev pub line_in : List ℕ → Line
-line_in text = unwrap_or (line_of text) line.Skipped
+-- what a text says, whose labels are spelled in that form
+abbrev pub line_in : spelled.Form → List ℕ → Line
+line_in labels text = unwrap_or (line_of labels text) line.Skipped
 
--- it says something, and breaks no rule where some lines stand before it
-pub record IsLine (text : List ℕ) : Type 0 where
-  pub said : line_of text ≡ Some (line_in text)
+-- it says something, and breaks no rule where some lines stand before it, which tell that form
+pub record IsLine (labels : spelled.Form) (text : List ℕ) : Type 0 where
+  pub said : line_of labels text ≡ Some (line_in labels text)
   pub before : List Line
+  pub told : is_empty before ≡ false → form_told before ≡ labels
   pub faultless : line_fault before text ≡ None
 
 -- the first word is that of a form, and no word breaks a rule by itself
-pub record IsSaid (words : List (List ℕ)) : Type 0 where
+pub record IsSaid (labels : spelled.Form) (words : List (List ℕ)) : Type 0 where
   pub form : Form
   pub first : form_of (word_at words 0) ≡ Some form
-  pub faultless : places_fault (places form words) ≡ None
+  pub faultless : places_fault (places labels form words) ≡ None
 
 -- the text from one place to another
 abbrev pub between : ℕ → ℕ → List ℕ → List ℕ
 between from end text = take (end - from) (drop from text)
 
 -- what the texts say that end at these places; the first begins at `from`
-abbrev pub held : ℕ → List ℕ → List ℕ → List Line
-held from text [] = []
-held from text (end ∷ ends) = line_in (between from end text) ∷ held end text ends
+abbrev pub held : spelled.Form → ℕ → List ℕ → List ℕ → List Line
+held labels from text [] = []
+held labels from text (end ∷ ends) = line_in labels (between from end text) ∷ held labels end text ends
 
 -- where the text of a line begins
 abbrev pub begin_at : ℕ → List ℕ → ℕ → ℕ
@@ -44,9 +47,9 @@ begin_at from [] (suc i) = from
 begin_at from (end ∷ ends) (suc i) = begin_at end ends i
 
 -- they follow one another up to the end, and each is a line
-abbrev pub AreLines : ℕ → List ℕ → List ℕ → Type 0
-AreLines from text [] = from ≡ length text
-AreLines from text (end ∷ ends) = (from ≤ end) × (end ≤ length text) × IsLine (between from end text) × AreLines end text ends
+abbrev pub AreLines : spelled.Form → ℕ → List ℕ → List ℕ → Type 0
+AreLines labels from text [] = from ≡ length text
+AreLines labels from text (end ∷ ends) = (from ≤ end) × (end ≤ length text) × IsLine labels (between from end text) × AreLines labels end text ends
 
 -- beside the lines stand their roles, and what they cost together
 pub record AreSummed (lines : List Line) (roles : List Role) (cost : ℕ) : Type 0 where

@@ -1,24 +1,31 @@
 -- Scripts, and what they describe.
-use Rattle.std.specs.Prelude.{ℕ, ◌+◌, List, [], ◌∷◌, position, Option, Some, None, is_none, if◌then◌else◌, slice_get}
+use Rattle.std.specs.Prelude.{ℕ, ◌+◌, List, [], ◌∷◌, position, Option, Some, None, is_none, if◌then◌else◌, slice_get, unwrap_or}
 use Rattle.std.proofs.Common.{option_map}
+use Rattle.ix_label.specs.declared.form.Form.{Form}
+use Rattle.ix_label.specs.declared.form.Form.TheVariants.{One}
 use Rattle.ix_model.specs.declared.config.Config.{Config}
 use Rattle.ix_script.specs.texts.Lines.{lines_of}
 use Rattle.ix_script.specs.texts.Payloads.{◌>>=◌}
 use Rattle.ix_script.specs.lines.Before.{fss_of, limits_of, procs_of, objects_of, is_policy}
-use Rattle.ix_script.specs.lines.Said.{both, line_of}
+use Rattle.ix_script.specs.lines.Said.{both, version_of, line_of}
 use Rattle.ix_script.specs.lines.Faults.{fault_of}
 use Rattle.ix_script.specs.scripts.Need.{need}
 use Rattle.ix_script.specs.declared.line.Line.{Line}
 use Rattle.ix_script.specs.declared.line.Line.TheVariants as line
 
 -- what lines say, where each says something
-unfoldable pub lines_said : List (List ℕ) → Option (List Line)
-lines_said [] = Some []
-lines_said (text ∷ texts) = option_map (λ (x : Line × List Line). x.0 ∷ x.1) (both (line_of text) (lines_said texts))
+unfoldable pub lines_said : Form → List (List ℕ) → Option (List Line)
+lines_said form [] = Some []
+lines_said form (text ∷ texts) = option_map (λ (x : Line × List Line). x.0 ∷ x.1) (both (line_of form text) (lines_said form texts))
+
+-- the form that the first of these lines tells
+unfoldable pub form_in : List (List ℕ) → Form
+form_in [] = One
+form_in (text ∷ texts) = unwrap_or (version_of text) One
 
 -- the script that an input is: what its lines say, where it has no fault
 unfoldable pub script_of : List ℕ → Option (List Line)
-script_of bytes = if is_none (fault_of bytes) then lines_said (lines_of bytes) else None
+script_of bytes = if is_none (fault_of bytes) then lines_said (form_in (lines_of bytes)) (lines_of bytes) else None
 
 -- what a machine starts from
 unfoldable pub config_of : List Line → Config

@@ -1,7 +1,6 @@
 -- The label that a word spells.
 use Rattle.std.specs.Prelude.{ℕ, zero, suc, ◌+◌, Bool, List, [], ◌∷◌, ◌++◌, map, find, Option}
 use Rattle.ix_label.specs.declared.form.Form.{Form}
-use Rattle.ix_label.specs.declared.form.Form.TheVariants.{One}
 use Rattle.ix_label.specs.Forms.{greatest}
 use Rattle.ix_label.specs.Category.{Categories, bottom, with}
 use Rattle.ix_label.specs.Spelling.{spelling}
@@ -19,7 +18,3 @@ is_spelled form word l = same_bytes (spelling form l) word
 -- among all labels of the form, the one of that spelling; it is said so, and never searched
 unfoldable pub label_in : Form → List ℕ → Option Categories
 label_in form word = find (is_spelled form word) (labels_below (greatest form + 1))
-
--- the label of a word: scripts have form One
-abbrev pub label_of : List ℕ → Option Categories
-label_of word = label_in One word

@@ -46,7 +46,7 @@ pub(crate) fn is_command(line: &Line<'_>) -> bool
     ensures { result ≡ is_command line.now }
 {
     match line {
-        Line::Skipped | Line::Version | Line::Limit { .. } | Line::Fs { .. } | Line::Proc { .. } =>
+        Line::Skipped | Line::Version { .. } | Line::Limit { .. } | Line::Fs { .. } | Line::Proc { .. } =>
             false,
         Line::Dir { .. }
         | Line::File { .. }

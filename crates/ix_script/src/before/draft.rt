@@ -1,6 +1,7 @@
 ghost use Rattle.std.specs.Prelude.{◌≡◌, ◌++◌, ◌∷◌, ◌+◌, ◌<◌, ◌^◌, [], true, None, length, OnOk, IfOk};
 ghost use Rattle.ix_model.specs.opening.Valid.{is_valid};
 ghost use Rattle.ix_script.specs.lines.Faults.{line_fault};
+ghost use Rattle.ix_script.specs.lines.Before.{form_told};
 ghost use Rattle.ix_script.specs.lines.Said.{line_of};
 ghost use Rattle.ix_script.specs.reader.Readers.{LineRight};
 ghost use Rattle.ix_script.specs.scripts.Scripts.{config_of};
@@ -38,12 +39,13 @@ impl<'a> Draft<'a> {
     pub fn add(&mut self, alloc: Global, text: &[u8], line: &Line<'a>) -> Result<(), NoMemory>
         requires told { DraftTold self.old }
         requires valid { is_valid (config_of self.old.lines) ≡ true }
-        requires right { LineRight self.old.lines line.now (line_fault self.old.lines text.now) (line_of text.now) }
+        requires right { LineRight self.old.lines line.now (line_fault self.old.lines text.now) (line_of (form_told self.old.lines) text.now) }
         requires few { length self.old.lines + 1 < 2 ^ 32 }
         ensures told { OnOk result (DraftTold self.new) }
         ensures lines { OnOk result (self.new.lines ≡ self.old.lines ++ line.now ∷ []) }
     {
-        self.header.add(alloc, line)?;
+        let first = self.lines.len() == 0;
+        self.header.add(alloc, first, line)?;
         self.body.add(alloc, line)?;
         self.lines.push(text, line)?;
         Ok(())

@@ -1,10 +1,11 @@
 ghost use Rattle.std.specs.Prelude.{◌≡◌, ◌++◌, ◌∷◌, ◌+◌, ◌<◌, ◌≤◌, ◌^◌, ◌||◌, ◌&&◌, not, [], ◌==◌, true, None, List, length, map, max, false, OnOk, OnErr, IfOk, nat_le, nat_lt, if◌then◌else◌, codes};
 ghost use Rattle.std.specs.Option.{option_map_or};
 ghost use Rattle.ix_label.specs.Category.{leq};
-ghost use Rattle.ix_script.specs.lines.Before.{fs_told, or_default, default_fs, default_limits, limits_after, with_limit, what_told, what_text, proc_name_told, object_told, is_policy, group, is_known};
+ghost use Rattle.ix_script.specs.lines.Before.{form_by, fs_told, or_default, default_fs, default_limits, limits_after, with_limit, what_told, what_text, proc_name_told, object_told, is_policy, group, is_known};
 ghost use Rattle.ix_script.specs.reader.Told.{HeaderTold, MakesMore, NamesMore, TakenOne, Takes, fss_after};
 ghost use Rattle.ix_model.specs.opening.Valid.{is_valid};
 ghost use Rattle.ix_script.specs.lines.Faults.{said_fault};
+ghost use Rattle.ix_script.specs.texts.Cutting.{is_empty};
 ghost use Rattle.ix_script.specs.scripts.Scripts.{config_of};
 ghost use Rattle.ix_script.specs.declared.line.Line.{Line};
 
@@ -14,7 +15,7 @@ use crate::before::tree::{Tree, names_of};
 use crate::cutting::words::is;
 use crate::line::{Line, What};
 use crate::values::paths::MadePath;
-use ix_label::Label;
+use ix_label::{Form, Label};
 use ix_model::{FsSpec, Limits, List, Name, NoMemory, blocks_for, fs_of};
 use std::alloc::Global;
 
@@ -45,7 +46,7 @@ fn group(line: &Line<'_>) -> u8
 {
     match line {
         Line::Skipped => 0,
-        Line::Version => 1,
+        Line::Version { .. } => 1,
         Line::Limit { .. } => 2,
         Line::Fs { .. } => 3,
         Line::Proc { .. } | Line::Dir { .. } | Line::File { .. } | Line::Policy { .. } => 4,
@@ -118,14 +119,24 @@ fn add_made<'a>(made: &mut Tree<'a>, line: &Line<'a>) -> Result<(), NoMemory>
     }
 }
 
-/// The file system of a script that tells none.
+/// The form that a line tells, if it is `ix 1` or `ix 2`.
+pub(crate) fn form_by(line: &Line<'_>) -> Form
+    ensures { result ≡ form_by line.now }
+{
+    match line {
+        Line::Version { form } => *form,
+        _ => Form::One,
+    }
+}
+
+/// The file system of a script that tells none, in the script's form.
 #[tactic(auto, unfolding(crate::specs::lines::Before::default_fs))]
-pub(crate) fn default_fs() -> FsSpec
-    ensures { result ≡ default_fs }
+pub(crate) fn default_fs(form: Form) -> FsSpec
+    ensures { result ≡ default_fs form }
 {
     FsSpec {
         name: root_name(),
-        ceiling: Label::top(),
+        ceiling: Label::all_of(form),
         blocks: 4096,
         inodes: 256,
     }
@@ -183,16 +194,19 @@ pub(crate) fn fs_spec(line: &Line<'_>) -> Option<FsSpec>
     }
 }
 
+/// The file system that a line tells more; or, where the first line tells none, the one that is there then.
 fn add_fs(
     alloc: Global,
+    first: bool,
     told: usize,
     fss: &mut List<FsSpec>,
     line: &Line<'_>,
 ) -> Result<(), NoMemory>
-    ensures { OnOk result (fss.new ≡ fss_after told fss.old (fs_told line.now)) }
+    ensures { OnOk result (fss.new ≡ fss_after first told fss.old (form_by line.now) (fs_told line.now)) }
 {
     match fs_spec(line) {
         Some(fs) => push_fs(alloc, told, fss, fs),
+        None if first => push_fs(alloc, 0, fss, default_fs(form_by(line))),
         None => Ok(()),
     }
 }
@@ -235,7 +249,7 @@ impl<'a> Header<'a> {
         ensures { IfOk result (λ h. HeaderTold h []) }
     {
         let mut fss = List::new(alloc);
-        fss.push(default_fs())?;
+        fss.push(default_fs(Form::One))?;
         Ok(Header {
             told: 0,
             fss,
@@ -249,17 +263,17 @@ impl<'a> Header<'a> {
         })
     }
 
-    /// One line more. After an error the header isn't used.
-    pub fn add(&mut self, alloc: Global, line: &Line<'a>) -> Result<(), NoMemory>
+    /// One line more, which may be the first. After an error the header isn't used.
+    pub fn add(&mut self, alloc: Global, first: bool, line: &Line<'a>) -> Result<(), NoMemory>
         requires told { self.old.told ≤ 16 }
         requires some { 0 < length self.old.fss }
         requires few { length self.old.fss ≤ 16 }
         requires objects { self.old.made.count + 1 < 2 ^ 64 }
         requires procs { self.old.procs.count + 1 < 2 ^ 64 }
-        ensures { OnOk result ((lines : List Line) → HeaderTold self.old lines → is_valid (config_of lines) ≡ true → said_fault lines line.now ≡ None → HeaderTold self.new (lines ++ line.now ∷ [])) }
+        ensures { OnOk result ((lines : List Line) → first ≡ is_empty lines → HeaderTold self.old lines → is_valid (config_of lines) ≡ true → said_fault lines line.now ≡ None → HeaderTold self.new (lines ++ line.now ∷ [])) }
     {
         take(&mut self.taken, self.fss.as_slice(), line);
-        add_fs(alloc, self.told, &mut self.fss, line)?;
+        add_fs(alloc, first, self.told, &mut self.fss, line)?;
         self.told = told_after(self.told, line);
         self.limits = limits_after(&self.limits, line);
         add_what(&mut self.whats, line)?;

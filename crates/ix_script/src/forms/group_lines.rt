@@ -1,3 +1,4 @@
+ghost use Rattle.ix_label.specs.declared.form.Form.TheVariants.{One};
 ghost use Rattle.ix_script.specs.lines.Forms.{places};
 ghost use Rattle.ix_script.specs.reader.Readers.{Reads};
 ghost use Rattle.ix_script.specs.lines.Said.{said, plain_line, path_line, fd_line, counted_line};
@@ -62,28 +63,28 @@ fn counted_line<'a>(command: Counted, proc: NameWord<'a>, fd: FdWord<'a>, n: u32
 }
 
 pub(crate) fn plain<'a>(command: Plain, words: &Words<'a>) -> Result<Line<'a>, Rule>
-    ensures { Reads (λ x. x) result (places (form.Plain command) words.now) (said (form.Plain command) words.now) }
+    ensures { Reads (λ x. x) result (places One (form.Plain command) words.now) (said One (form.Plain command) words.now) }
 {
     let proc = words.name(1)?;
     Ok(plain_line(command, proc))
 }
 
 pub(crate) fn on_path<'a>(command: OnPath, words: &Words<'a>) -> Result<Line<'a>, Rule>
-    ensures { Reads (λ x. x) result (places (form.OnPath command) words.now) (said (form.OnPath command) words.now) }
+    ensures { Reads (λ x. x) result (places One (form.OnPath command) words.now) (said One (form.OnPath command) words.now) }
 {
     let (proc, path) = both(words.name(1), words.path(2))?;
     Ok(path_line(command, proc, path))
 }
 
 pub(crate) fn on_fd<'a>(command: OnFd, words: &Words<'a>) -> Result<Line<'a>, Rule>
-    ensures { Reads (λ x. x) result (places (form.OnFd command) words.now) (said (form.OnFd command) words.now) }
+    ensures { Reads (λ x. x) result (places One (form.OnFd command) words.now) (said One (form.OnFd command) words.now) }
 {
     let (proc, fd) = both(words.name(1), words.fd(2))?;
     Ok(fd_line(command, proc, fd))
 }
 
 pub(crate) fn counted<'a>(command: Counted, words: &Words<'a>) -> Result<Line<'a>, Rule>
-    ensures { Reads (λ x. x) result (places (form.Counted command) words.now) (said (form.Counted command) words.now) }
+    ensures { Reads (λ x. x) result (places One (form.Counted command) words.now) (said One (form.Counted command) words.now) }
 {
     let (proc, (fd, n)) = both(words.name(1), both(words.fd(2), words.any_number(3)))?;
     Ok(counted_line(command, proc, fd, n))

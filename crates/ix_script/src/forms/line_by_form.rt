@@ -10,18 +10,19 @@ use crate::forms::header_lines::{dir, file, fs, lane, limit, proc};
 use crate::forms::process_lines::{ceiling, droplic, exit, fork, grant, login, readlog, setself};
 use crate::line::Line;
 use crate::rule::Rule;
+use ix_label::Form as LabelForm;
 
-/// What a line of that form says, by rules 11 to 19: those that a word can break by itself.
+/// What a line of that form says, whose labels are spelled so, by rules 11 to 19: those that a word can break by itself.
 #[tactic(auto, unfolding(crate::specs::lines::Kinds::places_fault, crate::specs::lines::Kinds::first_broken))]
-pub(crate) fn line_by_form<'a>(form: Form, words: &Words<'a>) -> Result<Line<'a>, Rule>
-    ensures { Reads (λ x. x) result (places form words.now) (said form words.now) }
+pub(crate) fn line_by_form<'a>(labels: LabelForm, form: Form, words: &Words<'a>) -> Result<Line<'a>, Rule>
+    ensures { Reads (λ x. x) result (places labels form words.now) (said labels form words.now) }
 {
     match form {
         Form::Limit => limit(words),
-        Form::Fs => fs(words),
-        Form::Proc => proc(words),
-        Form::Dir => dir(words),
-        Form::File => file(words),
+        Form::Fs => fs(labels, words),
+        Form::Proc => proc(labels, words),
+        Form::Dir => dir(labels, words),
+        Form::File => file(labels, words),
         Form::Phase => Ok(Line::Phase),
         Form::Lane => lane(words),
         Form::Plain(command) => plain(command, words),
@@ -35,14 +36,14 @@ pub(crate) fn line_by_form<'a>(form: Form, words: &Words<'a>) -> Result<Line<'a>
         Form::Link => link(words),
         Form::List => list(words),
         Form::Copy => copy(words),
-        Form::Setlabel => setlabel(words),
+        Form::Setlabel => setlabel(labels, words),
         Form::Setpriv => setpriv(words),
         Form::Fork => fork(words),
         Form::Exit => exit(words),
-        Form::Setself => setself(words),
+        Form::Setself => setself(labels, words),
         Form::Droplic => droplic(words),
         Form::Grant => grant(words),
-        Form::Ceiling => ceiling(words),
+        Form::Ceiling => ceiling(labels, words),
         Form::Readlog => readlog(words),
         Form::Login => login(words),
     }

@@ -3,7 +3,7 @@ ghost use Rattle.ix_script.specs.texts.Cutting.{word_at};
 ghost use Rattle.ix_script.specs.lines.Forms.{tail_places};
 ghost use Rattle.ix_script.specs.lines.Kinds as kind;
 ghost use Rattle.ix_script.specs.lines.Kinds.{bounds};
-ghost use Rattle.ix_script.specs.texts.Labels.{label_of};
+ghost use Rattle.ix_script.specs.texts.Labels.{label_in};
 ghost use Rattle.ix_script.specs.reader.Readers.{Reads};
 ghost use Rattle.ix_script.specs.lines.Said.{payload_within, name_after, two_names_after};
 ghost use Rattle.ix_script.specs.texts.Words.{name_of, number_of, privs_of, path_of, made_path_of, mode_of, state_of, what_of, fd_of, keep_of};
@@ -19,7 +19,7 @@ use crate::values::numbers::{bound, fd, keep, number};
 use crate::values::paths::{MadePath, PathWord, made_path, path};
 use crate::values::payload::{Payload, payload_of};
 use crate::values::privs::privs;
-use ix_label::Label;
+use ix_label::{Form, Label};
 use ix_model::{Mode, PrivSet};
 
 /// What stands at a place, counted from 0, with the command's word at 0.
@@ -48,11 +48,11 @@ impl<'a> Words<'a> {
         made_path(self.get(i))
     }
 
-    pub fn label(&self, i: usize) -> Result<Label, Rule>
+    pub fn label(&self, form: Form, i: usize) -> Result<Label, Rule>
         requires { i < 8 }
-        ensures { Reads (λ x. x) result ((kind.Label, word_at self.now i) ∷ []) (label_of (word_at self.now i)) }
+        ensures { Reads (λ x. x) result ((kind.Label form, word_at self.now i) ∷ []) (label_in form (word_at self.now i)) }
     {
-        label(self.get(i))
+        label(form, self.get(i))
     }
 
     pub fn privs(&self, i: usize) -> Result<PrivSet, Rule>

@@ -1,5 +1,4 @@
 ghost use Rattle.std.specs.Prelude.{◌≡◌, ◌++◌, ◌∷◌, [], OnOk};
-ghost use Rattle.ix_label.specs.declared.form.Form.TheVariants.{One};
 ghost use Rattle.ix_label.specs.Spelling.{spelling};
 ghost use Rattle.ix_script.specs.texts.Spellings.{fd_text};
 
@@ -47,10 +46,10 @@ pub(crate) fn fd(out: &mut Vec<u8>, fd: &FdWord<'_>) -> Result<(), NoMemory>
     }
 }
 
-/// A space and a label in its one spelling.
-pub(crate) fn label_word(out: &mut Vec<u8>, label: &Label) -> Result<(), NoMemory>
-    ensures { OnOk result (out.new.items ≡ out.old.items ++ 32 ∷ spelling One label.now) }
+/// A space and a label in its one spelling in the form.
+pub(crate) fn label_word(out: &mut Vec<u8>, form: Form, label: &Label) -> Result<(), NoMemory>
+    ensures { OnOk result (out.new.items ≡ out.old.items ++ 32 ∷ spelling form label.now) }
 {
     push_byte(out, b' ')?;
-    push_label(out, Form::One, label)
+    push_label(out, form, label)
 }

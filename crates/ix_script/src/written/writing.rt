@@ -1,10 +1,10 @@
 ghost use Rattle.std.specs.Prelude.{◌≡◌, ◌++◌, ◌∷◌, [], Some, false, slice_get, OnOk, IfOk, codes};
 ghost use Rattle.std.proofs.Common.{option_map};
-ghost use Rattle.ix_label.specs.declared.form.Form.TheVariants.{One};
 ghost use Rattle.ix_label.specs.Spelling.{spelling};
 ghost use Rattle.ix_text.specs.Spellings.{further, privs_text, state_text};
 ghost use Rattle.ix_script.specs.texts.Spellings.{path_text, fd_text, payload_text};
 ghost use Rattle.ix_script.specs.scripts.Canonical.{line_text, may_be_respelled, canonical};
+ghost use Rattle.ix_script.specs.lines.Before.{form_told};
 
 use crate::cutting::words::NameWord;
 use crate::line::{FdWord, Line};
@@ -14,15 +14,16 @@ use crate::values::paths::MadePath;
 use crate::values::payload::Payload;
 use crate::written::append::{fd, label_word, push, push_byte, word};
 use crate::written::payload_text::payload;
-use ix_label::Label;
+use ix_label::{Form, Label};
 use ix_model::{NoMemory, PrivSet};
 use ix_text::{privs_text, state_word};
 use std::alloc::Global;
 
-/// A `file` line.
+/// A `file` line, whose label is spelled in the form.
 fn file(
     out: &mut Vec<u8>,
     buffer: &mut Vec<u8>,
+    form: Form,
     path: &MadePath<'_>,
     label: &Label,
     frozen: bool,
@@ -30,12 +31,12 @@ fn file(
     lic: PrivSet,
     bytes: &Payload<'_, 1_048_576>,
 ) -> Result<(), NoMemory>
-    ensures { OnOk result (out.new.items ≡ out.old.items ++ (codes "file" ++ further 32 (path_text path.now ∷ spelling One label.now ∷ state_text frozen
+    ensures { OnOk result (out.new.items ≡ out.old.items ++ (codes "file" ++ further 32 (path_text path.now ∷ spelling form label.now ∷ state_text frozen
         ∷ privs_text cap ∷ privs_text lic ∷ payload_text bytes.now ∷ []))) }
 {
     push(out, b"file")?;
     word(out, path.as_bytes())?;
-    label_word(out, label)?;
+    label_word(out, form, label)?;
     word(out, state_word(frozen))?;
     word(out, privs_text(cap).as_slice())?;
     word(out, privs_text(lic).as_slice())?;
@@ -63,11 +64,12 @@ fn write_fd(
 fn write_line(
     out: &mut Vec<u8>,
     buffer: &mut Vec<u8>,
+    form: Form,
     text: &[u8],
     line: &Line<'_>,
 ) -> Result<(), NoMemory>
-    requires { may_be_respelled line.now ≡ false → line_text line.now ≡ text.now }
-    ensures { OnOk result (out.new.items ≡ out.old.items ++ line_text line.now) }
+    requires { may_be_respelled line.now ≡ false → line_text form line.now ≡ text.now }
+    ensures { OnOk result (out.new.items ≡ out.old.items ++ line_text form line.now) }
 {
     match line {
         Line::Skipped => Ok(()),
@@ -78,7 +80,7 @@ fn write_line(
             cap,
             lic,
             bytes,
-        } => file(out, buffer, path, label, *frozen, *cap, *lic, bytes),
+        } => file(out, buffer, form, path, label, *frozen, *cap, *lic, bytes),
         Line::Write { proc, fd, bytes } => write_fd(out, buffer, proc, fd, bytes),
         _ => push(out, text),
     }
@@ -91,7 +93,7 @@ fn write_ended(
     lines: &Lines,
     index: usize,
 ) -> Result<(), NoMemory>
-    ensures { OnOk result (option_map (λ l. out.old.items ++ (line_text l ++ codes "\n")) (slice_get lines.now index) ≡ Some out.new.items) }
+    ensures { OnOk result (option_map (λ l. out.old.items ++ (line_text (form_told lines.now) l ++ codes "\n")) (slice_get lines.now index) ≡ Some out.new.items) }
 {
     if let Some(text) = lines.canonical_text(index) {
         push(out, text)?;
@@ -99,7 +101,7 @@ fn write_ended(
         let Some((text, line)) = lines.text_and_line(index) else {
             return Err(NoMemory);
         };
-        write_line(out, buffer, text, &line)?;
+        write_line(out, buffer, lines.form(), text, &line)?;
     }
     push_byte(out, b'\n')
 }

@@ -1,25 +1,24 @@
 -- In a script that was read no lane is misplaced.
-use Rattle.std.proofs.Common.{◌≡◌, ℕ, ◌+◌, Bool, true, false, not, ◌||◌, List, [], ◌∷◌, ◌++◌, length, Option, Some, None, option_map, is_none, refl, sym, ap, ◌∙◌, subst, if◌then◌else◌}
-use Rattle.std.specs.Prelude.{nat_lt, unwrap_or}
+use Rattle.std.proofs.Common.{◌≡◌, ℕ, Bool, true, false, not, ◌||◌, List, [], ◌∷◌, ◌++◌, Option, Some, None, option_map, refl, sym, ap, ◌∙◌, subst, if◌then◌else◌}
 use Rattle.std.specs.Option.{option_or, option_map_or}
 use Rattle.std.specs.List.{list_any}
 use Rattle.std.proofs.Math.Bool.{or-false}
 use Rattle.std.proofs.lemmas.Bool.{and_from, not-false}
 use Rattle.std.proofs.lemmas.List.Folds.{list_any-append}
 use Rattle.std.proofs.lemmas.List.Sums.{fold-append}
-use Rattle.ix_script.specs.texts.Lines.{lines_of}
 use Rattle.ix_script.specs.texts.Cutting.{is_empty, is_policy_line, pieces, words_of, word_at}
 use Rattle.ix_script.specs.texts.Words.{is_script_name, name_of}
-use Rattle.ix_script.specs.lines.Before.{in_body, is_known, is_phase, phase_lanes, phase_lanes_after}
+use Rattle.ix_script.specs.lines.Before.{form_told, in_body, is_known, is_phase, phase_lanes, phase_lanes_after}
 use Rattle.ix_script.specs.lines.Kinds.{places_fault}
 use Rattle.ix_script.specs.lines.Rules.{first_of, is_given_twice, is_late, is_outside, names_unknown}
 use Rattle.ix_script.specs.lines.Forms.{form_of, frame_form, has_right_count, places}
-use Rattle.ix_script.specs.lines.Said.{both, line_of, said}
-use Rattle.ix_script.specs.lines.Faults.{body_fault, command_fault, fault_from, fault_of, first_line_fault, form_fault, line_fault, names_fault, or_next, said_fault, stand_fault, text_fault, words_fault}
+use Rattle.ix_script.specs.lines.Said.{line_of, version_of, said}
+use Rattle.ix_script.specs.lines.Faults.{body_fault, command_fault, first_line_fault, form_fault, line_fault, names_fault, said_fault, stand_fault, text_fault, words_fault}
 use Rattle.ix_script.specs.scripts.Canonical.{line_text, line_words}
-use Rattle.ix_script.specs.scripts.Scripts.{lines_said, script_of}
+use Rattle.ix_script.specs.scripts.Scripts.{script_of}
 use Rattle.ix_script.specs.declared.line.Line.{Line}
 use Rattle.ix_script.specs.declared.line.Line.TheVariants as line
+use Rattle.ix_script.proofs.lines.EachLine.{Along, along}
 use Rattle.ix_script.proofs.back.TextBack.{line_back}
 use Rattle.ix_serial.specs.Sections.{has_placed_lanes, is_misplaced, places_lanes}
 
@@ -53,9 +52,9 @@ command_passed before words fault =
     elim (form_of (word_at words 0)) as (λ o. option_map_or (λ f. form_fault before f words) o (Some 7) ≡ None → (option_map_or (is_outside before) o false ≡ false) × (option_map_or (λ f. is_given_twice before f words) o false ≡ false)) [
       | None ↦ λ h. cc
       | Some f ↦ λ h.
-          let stand = neither (stand_fault before f words) (option_or (places_fault (places f words)) (option_or (names_fault before f words) (option_map_or (said_fault before) (said f words) None))) h in
-          let rest = neither (places_fault (places f words)) (option_or (names_fault before f words) (option_map_or (said_fault before) (said f words) None)) stand.1 in
-          let names = neither (names_fault before f words) (option_map_or (said_fault before) (said f words) None) rest.1 in
+          let stand = neither (stand_fault before f words) (option_or (places_fault (places (form_told before) f words)) (option_or (names_fault before f words) (option_map_or (said_fault before) (said (form_told before) f words) None))) h in
+          let rest = neither (places_fault (places (form_told before) f words)) (option_or (names_fault before f words) (option_map_or (said_fault before) (said (form_told before) f words) None)) stand.1 in
+          let names = neither (names_fault before f words) (option_map_or (said_fault before) (said (form_told before) f words) None) rest.1 in
           let late = rule_parts 8 (is_late before f) ((9, is_outside before f) ∷ (10, not (has_right_count f words)) ∷ []) stand.0 in
           let outside = rule_parts 9 (is_outside before f) ((10, not (has_right_count f words)) ∷ []) late.1 in
           let twice = rule_parts 20 (is_given_twice before f words) ((21, names_unknown before f words) ∷ []) names.0 in
@@ -64,11 +63,14 @@ command_passed before words fault =
 
 -- Of a `lane` line the canonical text, which means the same and has no fault either, tells more than what was read.
 module _ (before : List Line) (x : List ℕ) where
-  abbrev words : List (List ℕ)
-  words = words_of (line_text (line.Lane x))
+  abbrev again : List ℕ
+  again = line_text (form_told before) (line.Lane x)
 
-  name_is : line_of (line_text (line.Lane x)) ≡ Some (line.Lane x) → word_at words 1 ≡ x
-  unfolding line_of line_words words_of pieces form_of frame_form is_policy_line
+  abbrev words : List (List ℕ)
+  words = words_of again
+
+  name_is : line_of (form_told before) again ≡ Some (line.Lane x) → word_at words 1 ≡ x
+  unfolding line_of version_of line_words words_of pieces form_of frame_form is_policy_line
   name_is means = named (word_at words 1) x means
 
   command_stands : word_at words 1 ≡ x → command_fault before words ≡ None → Stands before x
@@ -77,22 +79,25 @@ module _ (before : List Line) (x : List ℕ) where
       let passed = command_passed before words h in
       (not-false (in_body before) passed.0, subst (λ (y : List ℕ). is_known y (phase_lanes before) ≡ false) name passed.1)
 
-  body_stands : word_at words 1 ≡ x → body_fault before (line_text (line.Lane x)) ≡ None → Stands before x
-  unfolding body_fault first_line_fault line_words is_policy_line
+  body_stands : word_at words 1 ≡ x → body_fault before again ≡ None → Stands before x
+  unfolding body_fault first_line_fault version_of line_words is_policy_line
   body_stands name h = go (is_empty before) h
     where
-      go : (b : Bool) → (if b then first_line_fault (line_text (line.Lane x)) else command_fault before words) ≡ None → Stands before x
+      go : (b : Bool) → (if b then first_line_fault again else command_fault before words) ≡ None → Stands before x
       go true none = let later = neither (words_fault words) (Some 6) none in cc
       go false none = command_stands name none
 
-line_stands : (before : List Line) (x text : List ℕ) → line_of text ≡ Some (line.Lane x) → line_fault before text ≡ None → Stands before x
+line_stands : (before : List Line) (x text : List ℕ) → line_of (form_told before) text ≡ Some (line.Lane x) → line_fault before text ≡ None → Stands before x
 unfolding line_fault
 line_stands before x text is none =
     let back = line_back before text (line.Lane x) is none in
-    body_stands before x (name_is before x back.means) (neither (text_fault (line_text (line.Lane x))) _ back.sound).1
+    body_stands before x (name_is before x back.means) (neither (text_fault (line_text (form_told before) (line.Lane x))) _ back.sound).1
 
 -- a line that has no fault isn't misplaced
-well_placed : (before : List Line) (text : List ℕ) (l : Line) → line_of text ≡ Some l → line_fault before text ≡ None → not (is_misplaced (in_body before) (phase_lanes before) l) ≡ true
+abbrev WellPlaced : List Line → Line → Type 0
+WellPlaced before l = not (is_misplaced (in_body before) (phase_lanes before) l) ≡ true
+
+well_placed : (before : List Line) (text : List ℕ) (l : Line) → line_of (form_told before) text ≡ Some l → line_fault before text ≡ None → WellPlaced before l
 well_placed before text (line.Lane x) is none =
     let stands = line_stands before x text is none in
     ap (λ b. not (not b || is_known x (phase_lanes before))) stands.0 ∙ ap (λ b. not b) stands.1
@@ -107,65 +112,14 @@ phase_lanes-push : (before : List Line) (l : Line) → phase_lanes (before ++ l 
 unfolding phase_lanes
 phase_lanes-push before l = fold-append phase_lanes_after [] before (l ∷ [])
 
--- a text and what it says, and the others
-record Saying (text : List ℕ) (texts : List (List ℕ)) (lines : List Line) : Type 0 where
-  pub first : Line
-  pub rest : List Line
-  pub says : line_of text ≡ Some first
-  pub later : lines_said texts ≡ Some rest
-  pub lines_are : first ∷ rest ≡ lines
-
-saying : (text : List ℕ) (texts : List (List ℕ)) (lines : List Line) → lines_said (text ∷ texts) ≡ Some lines → Saying text texts lines
-unfolding lines_said
-saying text texts lines h = go (line_of text) (lines_said texts) refl refl h
-  where
-    go : (a : Option Line) (b : Option (List Line)) → line_of text ≡ a → lines_said texts ≡ b → option_map (λ (x : Line × List Line). x.0 ∷ x.1) (both a b) ≡ Some lines → Saying text texts lines
-    go None b is so some = cc
-    go (Some l) None is so some = cc
-    go (Some l) (Some ls) is so some = let all : l ∷ ls ≡ lines = cc in record { first = l; rest = ls; says = is; later = so; lines_are = all }
-
-none_said : (lines : List Line) → lines_said [] ≡ Some lines → [] ≡ lines
-unfolding lines_said
-none_said lines h = cc
-
-next_parts : (o : Option ℕ) (n : ℕ) (next : Option (ℕ × ℕ)) → or_next o n next ≡ None → (o ≡ None) × (next ≡ None)
-next_parts None n next h = (refl, h)
-next_parts (Some rule) n next h = cc
-
-faults_from : (before : List Line) (text : List ℕ) (texts : List (List ℕ)) → fault_from before (text ∷ texts) ≡ None
-    → (line_fault before text ≡ None) × (fault_from (before ++ unwrap_or (line_of text) line.Skipped ∷ []) texts ≡ None)
-unfolding fault_from
-faults_from before text texts h = next_parts (line_fault before text) (length before + 1) _ h
-
-placed_from : (before : List Line) (texts : List (List ℕ)) (lines : List Line) → fault_from before texts ≡ None → lines_said texts ≡ Some lines → places_lanes (in_body before) (phase_lanes before) lines ≡ true
-placed_from before [] lines none said_so = subst (λ (ls : List Line). places_lanes (in_body before) (phase_lanes before) ls ≡ true) (none_said lines said_so) refl
-placed_from before (text ∷ texts) lines none said_so =
-    let all = saying text texts lines said_so in
-    let parts = faults_from before text texts none in
-    let next : fault_from (before ++ all.first ∷ []) texts ≡ None = ap (λ (o : Option Line). fault_from (before ++ unwrap_or o line.Skipped ∷ []) texts) (sym all.says) ∙ parts.1 in
-    let rest = placed_from (before ++ all.first ∷ []) texts all.rest next all.later in
-    let here : places_lanes (in_body before || is_phase all.first) (phase_lanes_after (phase_lanes before) all.first) all.rest ≡ true =
-    (λ i. places_lanes (sym (in_body-push before all.first) i) (sym (phase_lanes-push before all.first) i) all.rest) ∙ rest in
-    subst (λ (ls : List Line). places_lanes (in_body before) (phase_lanes before) ls ≡ true) all.lines_are
-    (and_from (not (is_misplaced (in_body before) (phase_lanes before) all.first)) _ (well_placed before text all.first all.says parts.0) here)
+placed_along : (before lines : List Line) → Along WellPlaced before lines → places_lanes (in_body before) (phase_lanes before) lines ≡ true
+placed_along before [] h = refl
+placed_along before (l ∷ lines) h =
+    let here : places_lanes (in_body before || is_phase l) (phase_lanes_after (phase_lanes before) l) lines ≡ true =
+    (λ i. places_lanes (sym (in_body-push before l) i) (sym (phase_lanes-push before l) i) lines) ∙ placed_along (before ++ l ∷ []) lines h.1 in
+    and_from (not (is_misplaced (in_body before) (phase_lanes before) l)) _ h.0 here
 
 -- ---- a script that was read
-none_is : {A : Type 0} (o : Option A) → is_none o ≡ true → o ≡ None
-none_is None h = refl
-none_is (Some x) h = cc
-
-no_fault : (bytes : List ℕ) → fault_of bytes ≡ None → fault_from [] (lines_of bytes) ≡ None
-unfolding fault_of
-no_fault bytes h = go (nat_lt 16777216 (length bytes)) h
-  where
-    go : (b : Bool) → (if b then Some (1, 1) else fault_from [] (lines_of bytes)) ≡ None → fault_from [] (lines_of bytes) ≡ None
-    go true is = cc
-    go false is = is
-
 pub placed_read : (bytes : List ℕ) (s : List Line) → script_of bytes ≡ Some s → has_placed_lanes s ≡ true
-unfolding script_of has_placed_lanes in_body phase_lanes
-placed_read bytes s h = go (is_none (fault_of bytes)) refl h
-  where
-    go : (b : Bool) → is_none (fault_of bytes) ≡ b → (if b then lines_said (lines_of bytes) else None) ≡ Some s → places_lanes false [] s ≡ true
-    go true is some = placed_from [] (lines_of bytes) s (no_fault bytes (none_is (fault_of bytes) is)) some
-    go false is some = cc
+unfolding has_placed_lanes in_body phase_lanes
+placed_read bytes s h = placed_along [] s (along WellPlaced well_placed bytes s h)

@@ -4,7 +4,7 @@ use Rattle.std.proofs.lemmas.List.{nil_from_length}
 use Rattle.std.proofs.lemmas.Result.{err_from_is_err_and}
 use Rattle.ix_script.specs.texts.Lines.{cut}
 use Rattle.ix_script.specs.lines.Faults.{fault_from}
-use Rattle.ix_script.specs.scripts.Scripts.{lines_said}
+use Rattle.ix_script.specs.scripts.Scripts.{form_in, lines_said}
 use Rattle.ix_script.proofs.reader.Progress.{Reading, start, goes_on, stops, faultless, all_said, lines_cut}
 use Rattle.ix_script.proofs.reader.Staying.{valid_none}
 use Rattle.ix_script.proofs.reading.draft_of.Goals as goal
@@ -35,5 +35,5 @@ pub returns-clause-said : goal.returns-clause-said
 returns-clause-said g c =
     let bytes : List ℕ = c.args.bytes.now in
     let none : c.lines.rest.now ≡ [] = nil_from_length c.lines.rest.now (eqb-true _ 0 (sym c.is_empty.ensures ∙ c.lines-test.false)) in
-    ap lines_said (lines_cut bytes c.requires.some)
+    ap (λ texts. lines_said (form_in texts) texts) (lines_cut bytes c.requires.some)
     ∙ all_said (cut bytes) (length bytes) c.lines.draft (subst (λ (rest : List ℕ). Reading (cut bytes) (length bytes) rest c.lines.draft) none c.lines.invariant)

@@ -1,6 +1,6 @@
-use Rattle.std.proofs.Common.{sym, ◌∙◌}
+use Rattle.std.proofs.Common.{sym, ap, ◌∙◌}
 use Rattle.ix_script.proofs.lines.Deciding.{first_right}
 use Rattle.ix_script.proofs.rules.first_line.Goals as goal
 
-pub returns-then-is : goal.returns-then-is
-returns-then-is c = first_right c.args.text.now (sym c.is.ensures ∙ c.if-is.true)
+pub returns-in-Some : goal.returns-in-Some
+returns-in-Some c = first_right c.args.text.now c.in-Some.form (sym c.version_of.ensures ∙ c.in-Some.is)

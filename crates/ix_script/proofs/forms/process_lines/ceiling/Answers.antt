@@ -3,7 +3,7 @@ use Rattle.std.proofs.lemmas.Result.{err_from_is_err_and}
 use Rattle.ix_script.specs.texts.Cutting.{word_at}
 use Rattle.ix_script.specs.lines.Kinds as kind
 use Rattle.ix_script.specs.lines.Kinds.{bounds}
-use Rattle.ix_script.specs.texts.Labels.{label_of}
+use Rattle.ix_script.specs.texts.Labels.{label_in}
 use Rattle.ix_script.specs.lines.Said.{both}
 use Rattle.ix_script.specs.texts.Words.{name_of}
 use Rattle.ix_script.specs.declared.line.Line.TheVariants as line
@@ -13,8 +13,8 @@ use Rattle.ix_script.proofs.forms.process_lines.ceiling.Goals as goal
 pub returns-in_err-proc : goal.returns-in_err-proc
 returns-in_err-proc c =
     let p = err_from_is_err_and c.from_residual.result c.from_residual.ensures.1 in
-    rw (p.1, p.2) (line_refused c.both-2.result c.in_err-proc.field-0.0 ((kind.Proc, word_at c.args.words.now 1) ∷ ((kind.Proc, word_at c.args.words.now 2) ∷ ((kind.Label, word_at c.args.words.now 3) ∷ []))) (both (name_of (word_at c.args.words.now 1)) (both (name_of (word_at c.args.words.now 2)) (label_of (word_at c.args.words.now 3)))) (both_reads (kind.Proc, word_at c.args.words.now 1) ((kind.Proc, word_at c.args.words.now 2) ∷ ((kind.Label, word_at c.args.words.now 3) ∷ [])) c.name.result c.both.result c.both-2.result (name_of (word_at c.args.words.now 1)) (both (name_of (word_at c.args.words.now 2)) (label_of (word_at c.args.words.now 3))) c.both-2.ensures c.name.ensures.proc (both_reads (kind.Proc, word_at c.args.words.now 2) ((kind.Label, word_at c.args.words.now 3) ∷ []) c.name-2.result c.label.result c.both.result (name_of (word_at c.args.words.now 2)) (label_of (word_at c.args.words.now 3)) c.both.ensures c.name-2.ensures.proc c.label.ensures)) c.in_err-proc.was)
+    rw (p.1, p.2) (line_refused c.both-2.result c.in_err-proc.field-0.0 ((kind.Proc, word_at c.args.words.now 1) ∷ ((kind.Proc, word_at c.args.words.now 2) ∷ ((kind.Label c.args.labels, word_at c.args.words.now 3) ∷ []))) (both (name_of (word_at c.args.words.now 1)) (both (name_of (word_at c.args.words.now 2)) (label_in c.args.labels (word_at c.args.words.now 3)))) (both_reads (kind.Proc, word_at c.args.words.now 1) ((kind.Proc, word_at c.args.words.now 2) ∷ ((kind.Label c.args.labels, word_at c.args.words.now 3) ∷ [])) c.name.result c.both.result c.both-2.result (name_of (word_at c.args.words.now 1)) (both (name_of (word_at c.args.words.now 2)) (label_in c.args.labels (word_at c.args.words.now 3))) c.both-2.ensures c.name.ensures.proc (both_reads (kind.Proc, word_at c.args.words.now 2) ((kind.Label c.args.labels, word_at c.args.words.now 3) ∷ []) c.name-2.result c.label.result c.both.result (name_of (word_at c.args.words.now 2)) (label_in c.args.labels (word_at c.args.words.now 3)) c.both.ensures c.name-2.ensures.proc c.label.ensures)) c.in_err-proc.was)
 
 pub returns : goal.returns
 returns c =
-    line_read (λ x. line.Ceiling x.0 x.1.0 x.1.1) c.both-2.result (c.in_ok-proc.proc, (c.in_ok-proc.of, c.in_ok-proc.label)) ((kind.Proc, word_at c.args.words.now 1) ∷ ((kind.Proc, word_at c.args.words.now 2) ∷ ((kind.Label, word_at c.args.words.now 3) ∷ []))) (both (name_of (word_at c.args.words.now 1)) (both (name_of (word_at c.args.words.now 2)) (label_of (word_at c.args.words.now 3)))) (both_reads (kind.Proc, word_at c.args.words.now 1) ((kind.Proc, word_at c.args.words.now 2) ∷ ((kind.Label, word_at c.args.words.now 3) ∷ [])) c.name.result c.both.result c.both-2.result (name_of (word_at c.args.words.now 1)) (both (name_of (word_at c.args.words.now 2)) (label_of (word_at c.args.words.now 3))) c.both-2.ensures c.name.ensures.proc (both_reads (kind.Proc, word_at c.args.words.now 2) ((kind.Label, word_at c.args.words.now 3) ∷ []) c.name-2.result c.label.result c.both.result (name_of (word_at c.args.words.now 2)) (label_of (word_at c.args.words.now 3)) c.both.ensures c.name-2.ensures.proc c.label.ensures)) c.in_ok-proc.was
+    line_read (λ x. line.Ceiling x.0 x.1.0 x.1.1) c.both-2.result (c.in_ok-proc.proc, (c.in_ok-proc.of, c.in_ok-proc.label)) ((kind.Proc, word_at c.args.words.now 1) ∷ ((kind.Proc, word_at c.args.words.now 2) ∷ ((kind.Label c.args.labels, word_at c.args.words.now 3) ∷ []))) (both (name_of (word_at c.args.words.now 1)) (both (name_of (word_at c.args.words.now 2)) (label_in c.args.labels (word_at c.args.words.now 3)))) (both_reads (kind.Proc, word_at c.args.words.now 1) ((kind.Proc, word_at c.args.words.now 2) ∷ ((kind.Label c.args.labels, word_at c.args.words.now 3) ∷ [])) c.name.result c.both.result c.both-2.result (name_of (word_at c.args.words.now 1)) (both (name_of (word_at c.args.words.now 2)) (label_in c.args.labels (word_at c.args.words.now 3))) c.both-2.ensures c.name.ensures.proc (both_reads (kind.Proc, word_at c.args.words.now 2) ((kind.Label c.args.labels, word_at c.args.words.now 3) ∷ []) c.name-2.result c.label.result c.both.result (name_of (word_at c.args.words.now 2)) (label_in c.args.labels (word_at c.args.words.now 3)) c.both.ensures c.name-2.ensures.proc c.label.ensures)) c.in_ok-proc.was

@@ -1,6 +1,8 @@
 use Rattle.std.proofs.Common.{◌≡◌, List, ℕ, length, get_or, Some, refl, sym, ap, ◌∙◌, subst, arith}
 use Rattle.std.specs.List.{slice_get}
 use Rattle.std.proofs.lemmas.Option.{slice_get_past}
+use Rattle.ix_label.specs.declared.form.Form.{Form}
+use Rattle.ix_script.specs.lines.Before.{form_told}
 use Rattle.ix_script.specs.scripts.Packed.{IsLine, begin_at, between, held, line_in}
 use Rattle.ix_script.specs.declared.line.Line.{Line}
 use Rattle.ix_script.proofs.reader.Packing.{length-held, line_at}
@@ -10,24 +12,26 @@ pub returns-then-i-ends : goal.returns-then-i-ends
 returns-then-i-ends c =
     let text : List ℕ = c.self.inside.text.items in
     let ends : List ℕ = c.self.inside.ends.items in
-    ap (λ (ls : List Line). slice_get ls c.args.i) (sym c.self.view_is) ∙ slice_get_past (held 0 text ends) c.args.i (omega (arith, length-held 0 text ends, ap length c.as_slice-ends.ensures.value, c.if-i-ends.true))
+    ap (λ (ls : List Line). slice_get ls c.args.i) (sym c.self.view_is) ∙ slice_get_past (held c.self.inside.form 0 text ends) c.args.i (omega (arith, length-held c.self.inside.form 0 text ends, ap length c.as_slice-ends.ensures.value, c.if-i-ends.true))
 
 pub part-requires-clause-low : goal.part-requires-clause-low
 part-requires-clause-low c =
-    let at = line_at 0 c.self.inside.text.items c.self.inside.ends.items c.args.i c.self.invariant.0 (omega (arith, ap length c.as_slice-ends.ensures.value, c.if-i-ends.false)) in
+    let at = line_at c.self.inside.form 0 c.self.inside.text.items c.self.inside.ends.items c.args.i c.self.invariant.0 (omega (arith, ap length c.as_slice-ends.ensures.value, c.if-i-ends.false)) in
     rw (c.begin-begin.ensures, c.as_slice-ends.ensures.value) at.low
 
 pub part-requires-clause-high : goal.part-requires-clause-high
 part-requires-clause-high c =
-    let at = line_at 0 c.self.inside.text.items c.self.inside.ends.items c.args.i c.self.invariant.0 (omega (arith, ap length c.as_slice-ends.ensures.value, c.if-i-ends.false)) in
+    let at = line_at c.self.inside.form 0 c.self.inside.text.items c.self.inside.ends.items c.args.i c.self.invariant.0 (omega (arith, ap length c.as_slice-ends.ensures.value, c.if-i-ends.false)) in
     rw (c.as_slice-ends.ensures.value, c.as_slice.ensures.value) at.high
 
 pub returns : goal.returns
 returns c =
     let text : List ℕ = c.self.inside.text.items in
     let ends : List ℕ = c.self.inside.ends.items in
-    let at = line_at 0 text ends c.args.i c.self.invariant.0 (omega (arith, ap length c.as_slice-ends.ensures.value, c.if-i-ends.false)) in
+    let labels : Form = c.self.inside.form in
+    let told = c.self.invariant.2 ∙ ap form_told c.self.view_is in
+    let at = line_at labels 0 text ends c.args.i c.self.invariant.0 (omega (arith, ap length c.as_slice-ends.ensures.value, c.if-i-ends.false)) in
     let part : c.part.result.now ≡ between (begin_at 0 ends c.args.i) (get_or ends c.args.i 0) text = rw (c.part.ensures, c.begin-begin.ensures, c.as_slice-ends.ensures.value, c.as_slice.ensures.value) refl in (
-      subst IsLine (sym part) at.line,
-      ap (λ (ls : List Line). slice_get ls c.args.i) (sym c.self.view_is) ∙ at.is ∙ ap (λ (t : List ℕ). Some (line_in t)) (sym part),
+      subst (λ (f : Form). IsLine f c.part.result.now) told (subst (IsLine labels) (sym part) at.line),
+      ap (λ (ls : List Line). slice_get ls c.args.i) (sym c.self.view_is) ∙ at.is ∙ ap (λ (t : List ℕ). Some (line_in labels t)) (sym part) ∙ ap (λ (f : Form). Some (line_in f c.part.result.now)) told,
     )

@@ -1,6 +1,8 @@
 use Rattle.std.proofs.Common.{◌≡◌, ◌++◌, ℕ, List, Option, None, true, is_ok, not, length, refl, sym, ap, ◌∙◌, subst}
 use Rattle.ix_lanes.proofs.found.Oks.{from_ok}
 use Rattle.ix_model.specs.history.History.{world_of}
+use Rattle.ix_label.specs.declared.form.Form.{Form}
+use Rattle.ix_script.specs.lines.Before.{form_told}
 use Rattle.ix_replay.specs.report.Report.{closing_text}
 use Rattle.ix_replay.specs.report.Telling.{left_of}
 use Rattle.ix_host.specs.declared.streams.teller.Failure.{Failure}
@@ -16,7 +18,7 @@ pieces-init g c = record {
       let after = g.K.Sink.taken old.sink.now in
       let now = g.K.Sink.faults old.sink.now in
       let left = left_of c.new-closing.result in
-      subst (λ (t : List ℕ). StandsAt old.failure first after (old.waiting.now.items ++ left) (told ++ t) before now) c.new-closing.ensures (stands_more first after before now old.failure old.waiting.now.items told left s);
+      subst (λ (t : List ℕ). StandsAt old.failure first after (old.waiting.now.items ++ left) (told ++ t) before now) (c.new-closing.ensures ∙ ap (λ (f : Form). closing_text f (world_of c.args.history.now) (length c.args.history.now.events)) c.form.ensures) (stands_more first after before now old.failure old.waiting.now.items told left s);
 }
 
 pub write_full-requires : goal.write_full-requires
@@ -30,7 +32,7 @@ pieces-preserved g c =
     record {
       same = c.write_full.ensures.same.0 ∙ c.pieces.invariant.same;
       stands = λ first before_told before s.
-          let whole = before_told ++ closing_text (world_of c.args.history.now) (length c.args.history.now.events) in
+          let whole = before_told ++ closing_text (form_told c.args.self.now.script.now) (world_of c.args.history.now) (length c.args.history.now.events) in
           let stands = c.pieces.invariant.stands first before_told before s in
           let going = subst (λ (f : Option Failure). StandsAt f first (g.K.Sink.taken c.pieces.self.sink.now) (c.pieces.self.waiting.now.items ++ left_of c.pieces.closing) whole before (g.K.Sink.faults c.pieces.self.sink.now)) none stands in
           c.write_full.ensures.stands first (left_of c.tell.new.self) whole before
@@ -39,14 +41,14 @@ pieces-preserved g c =
 
 pub returns-then-is_some-clause-ends : goal.returns-then-is_some-clause-ends
 returns-then-is_some-clause-ends g c first told before s =
-    let whole = told ++ closing_text (world_of c.args.history.now) (length c.args.history.now.events) in
+    let whole = told ++ closing_text (form_told c.args.self.now.script.now) (world_of c.args.history.now) (length c.args.history.now.events) in
     let at = c.pieces.self in
     c.finish.ensures.ends first whole before
     (stands_silent first (g.K.Sink.taken at.sink.now) before (g.K.Sink.faults at.sink.now) at.failure (at.waiting.now.items ++ left_of c.pieces.closing) at.waiting.now.items whole (sym c.is_some.ensures ∙ c.if-is_some.true) (c.pieces.invariant.stands first told before s))
 
 pub returns-then-is_err-clause-ends : goal.returns-then-is_err-clause-ends
 returns-then-is_err-clause-ends g c first told before s =
-    let whole = told ++ closing_text (world_of c.args.history.now) (length c.args.history.now.events) in
+    let whole = told ++ closing_text (form_told c.args.self.now.script.now) (world_of c.args.history.now) (length c.args.history.now.events) in
     let at = c.pieces.self in
     let none : at.failure ≡ None = none_is at.failure (sym c.is_some.ensures ∙ c.if-is_some.false) in
     let stands = rw none at (c.pieces.invariant.stands first told before s) in
@@ -54,7 +56,7 @@ returns-then-is_err-clause-ends g c first told before s =
 
 pub returns-clause-ends : goal.returns-clause-ends
 returns-clause-ends g c first told before s =
-    let whole = told ++ closing_text (world_of c.args.history.now) (length c.args.history.now.events) in
+    let whole = told ++ closing_text (form_told c.args.self.now.script.now) (world_of c.args.history.now) (length c.args.history.now.events) in
     let at = c.pieces.self in
     c.finish-2.ensures.ends first whole before
     (stands_end first (g.K.Sink.taken at.sink.now) before (g.K.Sink.faults at.sink.now) at.failure at.waiting.now.items (left_of c.pieces.closing) whole (c.is_told.ensures.told c.pieces-test.false) (c.pieces.invariant.stands first told before s))

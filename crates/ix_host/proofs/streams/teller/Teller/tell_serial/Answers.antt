@@ -1,8 +1,10 @@
-use Rattle.std.proofs.Common.{[], ℕ, List, Option, refl, sym, ap, ◌∙◌, subst}
+use Rattle.std.proofs.Common.{[], ℕ, ◌++◌, length, List, Option, refl, sym, ap, ◌∙◌, subst}
 use Rattle.ix_lanes.specs.histories.Serial.{serial}
-use Rattle.ix_model.specs.history.History.{History}
+use Rattle.ix_model.specs.history.History.{History, world_of}
+use Rattle.ix_script.specs.declared.line.Line.{Line}
+use Rattle.ix_script.specs.lines.Before.{form_told}
 use Rattle.ix_script.specs.scripts.Scripts.{config_of}
-use Rattle.ix_replay.specs.report.Report.{report_of}
+use Rattle.ix_replay.specs.report.Report.{closing_text, report_of}
 use Rattle.ix_host.specs.declared.streams.teller.Failure.{Failure}
 use Rattle.ix_host.specs.run.Outcome as outcome
 use Rattle.ix_host.specs.run.Run.{Ends}
@@ -20,10 +22,11 @@ returns-in-Ok g c =
     let bare : History = record { config = config_of s; events = [] } in
     let begun = subst (λ (why : Option Failure). StandsAt why first first old.waiting.now.items (told_of s old.waiting.now.items bare) n n) (sym c.requires.begun.0) (stands_first first old.waiting.now.items n) in
     let known = c.in-Ok.ensures.seen old (refl, refl, record { stands = begun }) in
+    let in_form = ap (λ (ls : List Line). told_of s old.waiting.now.items c.in-Ok.history ++ closing_text (form_told ls) (world_of c.in-Ok.history) (length c.in-Ok.history.events)) known.1 in
     let all = report_told s old.waiting.now.items c.in-Ok.history c.in-Ok.ensures.config c.requires.begun.1 ∙ ap (report_of s) c.in-Ok.ensures.serial in
     record {
       same = c.close.ensures.same ∙ known.0;
-      ends = subst (λ (t : List ℕ). Ends (outcome.Whole t) c.close.result first (g.K.Sink.taken new.sink.now) (g.K.Sink.finished new.sink.now) n (g.K.Sink.faults new.sink.now)) all
+      ends = subst (λ (t : List ℕ). Ends (outcome.Whole t) c.close.result first (g.K.Sink.taken new.sink.now) (g.K.Sink.finished new.sink.now) n (g.K.Sink.faults new.sink.now)) (in_form ∙ all)
           (c.close.ensures.ends first (told_of s old.waiting.now.items c.in-Ok.history) n known.2.stands);
     }
 

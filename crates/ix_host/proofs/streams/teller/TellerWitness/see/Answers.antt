@@ -3,7 +3,7 @@ use Rattle.ix_lanes.proofs.found.Oks.{from_ok}
 use Rattle.ix_model.specs.history.Calls.{op_of}
 use Rattle.ix_model.specs.history.History.{world_of}
 use Rattle.ix_model.specs.history.Made.{entry}
-use Rattle.ix_script.specs.lines.Before.{lanes_of}
+use Rattle.ix_script.specs.lines.Before.{form_told, lanes_of}
 use Rattle.ix_script.specs.declared.line.Line.{Line}
 use Rattle.ix_replay.specs.report.Report.{entry_text}
 use Rattle.ix_host.specs.run.Teller.{told_of}
@@ -42,8 +42,8 @@ returns g c = record {
       let none : old.failure ≡ None = none_is old.failure (sym c.is_some.ensures ∙ c.if-is_some.false) in
       let went : is_ok c.push_entry-told.result ≡ true = c.is_err.ensures.negation ∙ ap not c.if-is_err.false in
       let grown = from_ok c.push_entry-told.result went (c.push_entry-told.ensures before is) in
-      let in_lanes : c.push_entry-told.new.out.items ≡ old.waiting.now.items ++ entry_text (lanes_of first.script.now) (length before.events + 1) (world_of before) e =
-      grown ∙ ap (λ (s : List Line). old.waiting.now.items ++ entry_text (lanes_of s) (length before.events + 1) (world_of before) e) known.1 in
+      let in_lanes : c.push_entry-told.new.out.items ≡ old.waiting.now.items ++ entry_text (form_told first.script.now) (lanes_of first.script.now) (length before.events + 1) (world_of before) e =
+      grown ∙ ap (λ (s : List Line). old.waiting.now.items ++ entry_text (form_told s) (lanes_of s) (length before.events + 1) (world_of before) e) known.1 in
       let waits = line_waits (g.K.Sink.taken first.sink.now) (g.K.Sink.taken old.sink.now) (g.K.Sink.faults first.sink.now) (g.K.Sink.faults old.sink.now) first.script.now first.waiting.now.items before c.args.core.now e is.history old.waiting.now.items c.push_entry-told.new.out.items in_lanes (rw none at known.2.stands) in
       let text = told_of first.script.now first.waiting.now.items c.args.core.now in (
         c.write_full.ensures.same.0 ∙ known.0,
