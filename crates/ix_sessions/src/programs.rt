@@ -1,6 +1,7 @@
 mod apart;
 mod copies;
 mod floats;
+mod forms;
 mod lanes;
 mod statuses;
 mod words;

@@ -13,6 +13,12 @@ fn a_script_is_refused_by_one_line(rt: HostRuntime) {
             b"script:2: the command is unknown\n".as_slice(),
         ),
         (
+            b"ix 3\n",
+            1,
+            6,
+            b"script:1: the first line is not ix 1 or ix 2\n",
+        ),
+        (
             b"ix 1\npolicy x\n",
             2,
             0,

@@ -62,6 +62,22 @@ const LABELS: &[Case] = &[
     ("ix 1\nphase\nlane m\nsetself a 7-\nexit a 256", 4, 14),
 ];
 
+/// Rule 14, with rule 13 broken behind it: labels that have no text in the form of line 1.
+const LABELS_BY_FORM: &[Case] = &[
+    ("ix 1\nfs root 0-255 1 1\nlimit procs 0", 2, 14),
+    ("ix 1\nproc a - 3,256 - -\nlimit procs 0", 2, 14),
+    ("ix 1\nfile /a 255-256 free - - x\nlimit procs 0", 2, 14),
+    ("ix 1\nphase\nlane m\nsetself a 256\nexit a 256", 4, 14),
+    ("ix 2\nfs root 0-511 1 1\nlimit procs 0", 2, 14),
+    ("ix 2\nproc a 512 * - -\nlimit procs 0", 2, 14),
+    ("ix 2\n\nproc a - 300,512 - -\nlimit procs 0", 3, 14),
+    ("ix 2\ndir /a 255,256 free\nlimit procs 0", 2, 14),
+    ("ix 2\nfile /a 300-512 free - - x\nlimit procs 0", 2, 14),
+    ("ix 2\nphase\nlane m\nsetlabel a /x 512\nexit a 256", 4, 14),
+    ("ix 2\nphase\nlane m\nsetself a 0-511\nexit a 256", 4, 14),
+    ("ix 2\nphase\nlane m\nceiling a a 0512\nexit a 256", 4, 14),
+];
+
 /// Rule 15, with rule 14 broken behind it.
 const SETS: &[Case] = &[
     ("ix 1\nproc a - - PD -\nproc b 9,7 - - -", 2, 15),
@@ -150,6 +166,7 @@ fn faults_of_names_and_numbers(rt: HostRuntime) {
 #[test]
 fn faults_of_labels_and_sets(rt: HostRuntime) {
     walk(&rt, rt.alloc(), LABELS);
+    walk(&rt, rt.alloc(), LABELS_BY_FORM);
     walk(&rt, rt.alloc(), SETS);
 }
 
@@ -183,6 +200,16 @@ fn what_may_stand_at_the_bounds(rt: HostRuntime) {
             ),
             (
                 "ix 1\nproc abcdefghijklmnop 0-254 * DPCTL DPCTL\nproc a_1 - - - -",
+                0,
+                0,
+            ),
+            (
+                "ix 2\nfs a 0-510 9 9\nproc a 256 1-511 - -\nproc b 0-255 * - -\ndir /d 0-255 free\nfile /x 0-255,300 frozen - - x",
+                0,
+                0,
+            ),
+            (
+                "ix 2\nproc a - * - -\nphase\nlane m\nsetlabel a /x 511\nsetself a 256-511\nceiling a a 0-255",
                 0,
                 0,
             ),

@@ -5,6 +5,9 @@ const EMPTY_WORDS: &[Case] = &[
     (" ix 1\n\x01", 1, 4),
     ("ix 1 \n\x01", 1, 4),
     ("ix  1\n\x01", 1, 4),
+    (" ix 2\n\x01", 1, 4),
+    ("ix 2 \n\x01", 1, 4),
+    ("ix  2\n\x01", 1, 4),
     ("ix 1\nproc  a - - - -\n\x01", 2, 4),
     ("ix 1\nproc a - - - - \n\x01", 2, 4),
     ("ix 1\n#  \n \n\x01", 3, 4),
@@ -28,8 +31,14 @@ const FIRST_LINES: &[Case] = &[
     ("", 1, 6),
     ("\n\"", 1, 6),
     ("ix\n\"", 1, 6),
-    ("ix 2\n\"", 1, 6),
+    ("ix 0\n\"", 1, 6),
+    ("ix 3\n\"", 1, 6),
+    ("ix 12\n\x01", 1, 6),
+    ("ix 02\n\"", 1, 6),
+    ("Ix 2\n ", 1, 6),
     ("ix 1 1\n ", 1, 6),
+    ("ix 2 2\n ", 1, 6),
+    ("ix 2 report\n ", 1, 6),
     ("# ix 1\n\x01", 1, 6),
     ("policy  \"\n ", 1, 6),
 ];
@@ -41,6 +50,8 @@ const UNKNOWN_COMMANDS: &[Case] = &[
     ("ix 1\npolicyx\n ", 2, 7),
     ("ix 1\n\"policy\" x\n ", 2, 7),
     ("ix 1\n\nix 1\n ", 3, 7),
+    ("ix 1\nix 2\n ", 2, 7),
+    ("ix 2\nix 2\n ", 2, 7),
     ("ix 1\nphase\nlane m\nSelf a\n\"", 4, 7),
 ];
 
@@ -121,6 +132,8 @@ fn what_words_may_be(rt: HostRuntime) {
         &[
             ("ix 1", 0, 0),
             ("ix 1\n", 0, 0),
+            ("ix 2", 0, 0),
+            ("ix 2\n", 0, 0),
             ("ix 1\n\n# \"  \n#", 0, 0),
             ("ix 1\npolicy  \" x ", 0, 0),
             ("ix 1\npolicy  ", 0, 0),

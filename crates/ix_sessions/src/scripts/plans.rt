@@ -23,6 +23,12 @@ const ABOVE: &[Case] = &[
         5,
         22,
     ),
+    ("ix 2\nproc a 0-256 0-255 - -\nphase\nlane m\nself q", 2, 22),
+    (
+        "ix 2\nfs root 0-255 9 9\nfile /a 300 free - - x\nphase\nlane m\nself q",
+        3,
+        22,
+    ),
 ];
 
 /// Rule 23, with rule 22 broken behind it.
@@ -145,6 +151,9 @@ fn what_fits(rt: HostRuntime) {
         rt.alloc(),
         &[
             ("ix 1\nlimit procs 2\nproc a 3 3 - -\nproc b - * DP D", 0, 0),
+            // Without an `fs` line the ceiling is `*` of the form.
+            ("ix 1\nproc a * * - -\nfile /a * free - - x", 0, 0),
+            ("ix 2\nproc a * * - -\nfile /a * free - - x", 0, 0),
             (
                 "ix 1\nfs root 3 1 3\nfile /a 3 free - - 512*41\ndir /b - frozen",
                 0,

@@ -87,10 +87,26 @@ login a f g as u
 self u
 ";
 
+/// A script of form Two with each line that has a label, in its canonical text.
+const WIDE_LABELS: &str = "ix 2
+fs root * 64 16
+fs far 0-255 8 8
+proc a 256 1-511 - -
+dir /d 511 free
+file /d/x 0-255,300 free - - x
+phase
+lane m
+setlabel a /d/x 255-256
+setself a 0-510
+ceiling a a 0,2-511
+";
+
 #[test]
 fn every_form_is_written_as_it_was_read(rt: HostRuntime) {
-    let text = EVERY_FORM.as_bytes();
-    assert!(rt; is_spelled(rt.alloc(), text, text));
+    for script in [EVERY_FORM, WIDE_LABELS] {
+        let text = script.as_bytes();
+        assert!(rt; is_spelled(rt.alloc(), text, text));
+    }
 }
 
 #[test]
