@@ -1,7 +1,4 @@
 ghost use Rattle.std.specs.Prelude.{[]};
-ghost use Rattle.ix_label.specs.declared.form.Form.TheVariants.{Two};
-ghost use Rattle.ix_model.specs.history.Calls.{op_of};
-ghost use Rattle.ix_model.specs.history.Spelled.{CallFits, ReplyFits};
 ghost use Rattle.ix_report.specs.ReplyText.{AreBytesOf};
 
 use bitflags::Flags;
@@ -102,16 +99,17 @@ const LINES: &[u8] = b"ix 2 report\n\
 
 /// The line of a reply that no bytes go with.
 fn answer(out: &mut Vec<u8>, reply: &Reply) -> Result<(), NoMemory>
-    requires bytes { AreBytesOf reply.now [] }
-    requires fits { ReplyFits Two reply.now }
+    requires { AreBytesOf reply.now [] }
 {
     let call = Call::SelfLabel;
-    entry_line(out, Form::Two, 1, b"m", 7, Pid(1), &call, reply, b"", None)
+    entry_line(
+        out, Form::Two, 1, b"m", 7, Pid(1), &call, reply, b"", None,
+    )
 }
 
 /// A line with each reply that no bytes go with.
 fn replies(out: &mut Vec<u8>, name: Name) -> Result<(), NoMemory> {
-    let high = Label::bottom().with(2).with(5).with(6).with(300);
+    let high = Label::bottom().with(2).with(5).with(6);
     let audit = AuditLine {
         place: 13,
         pid: Pid(1),
@@ -163,10 +161,10 @@ const REPLIES: &[u8] = b"1 m 7 self p1 = done @ none\n\
     1 m 7 self p1 = two 0 31 @ none\n\
     1 m 7 self p1 = bytes 0 x @ none\n\
     1 m 7 self p1 = stat 4 pipe 70000 2 frozen DT - @ none\n\
-    1 m 7 self p1 = label 2,5-6,300 @ none\n\
+    1 m 7 self p1 = label 2,5-6 @ none\n\
     1 m 7 self p1 = entry a\\x22b 9 @ none\n\
     1 m 7 self p1 = half @ none\n\
-    1 m 7 self p1 = whole p3 2,5-6,300 DPCTL @ none\n\
+    1 m 7 self p1 = whole p3 2,5-6 DPCTL @ none\n\
     1 m 7 self p1 = log 13 p1 grant 3 - * - L @ none\n\
     1 m 7 self p1 = child p2 255 @ none\n\
     1 m 7 self p1 = no 38 InUse @ none\n";
@@ -179,67 +177,39 @@ fn path(absolute: bool, first: Name, second: Name) -> Path {
     path
 }
 
-/// The line of a call that is done.
-fn done(out: &mut Vec<u8>, call: &Call<'_>) -> Result<(), NoMemory>
-    requires { CallFits Two (op_of call.now) }
-{
-    entry_line(
-        out,
-        Form::Two,
-        1,
-        b"m",
-        7,
-        Pid(1),
-        call,
-        &Reply::Done,
-        b"",
-        None,
-    )
-}
-
 /// A line with each kind of argument.
 fn arguments(out: &mut Vec<u8>, one: Name, two: Name) -> Result<(), NoMemory> {
-    done(
-        out,
-        &Call::OpenAt {
+    let calls = [
+        Call::OpenAt {
             path: path(true, one, two),
             mode: Mode::Both,
         },
-    )?;
-    done(
-        out,
-        &Call::WriteFd {
+        Call::WriteFd {
             fd: Fd(1),
             bytes: b"\x00\xfa",
         },
-    )?;
-    done(
-        out,
-        &Call::LinkAt {
+        Call::LinkAt {
             target: path(false, two, two),
             path: Path::new(true),
         },
-    )?;
-    done(
-        out,
-        &Call::ListAt {
+        Call::ListAt {
             path: Path::new(false),
             index: 4,
         },
-    )?;
-    done(
-        out,
-        &Call::Fork {
+        Call::Fork {
             keep: Keep::One(Fd(3)),
         },
-    )?;
-    done(
-        out,
-        &Call::SetCeiling {
+        Call::SetCeiling {
             pid: Pid(2),
             label: Label::top(),
         },
-    )
+    ];
+    for call in &calls {
+        entry_line(
+            out, Form::Two, 1, b"m", 7, Pid(1), call, &Reply::Done, b"", None,
+        )?;
+    }
+    Ok(())
 }
 
 const ARGUMENTS: &[u8] = b"1 m 7 open p1 /a\\x5c\\x7f/!~ rw = done @ none\n\
