@@ -10,7 +10,7 @@ use Rattle.ix_iso.specs.Hiding.{RunsAgree, InKind, InLength, HidesWhatIsHigh}
 use Rattle.ix_iso.proofs.Steps.{alike_events}
 use Rattle.ix_iso.proofs.Histories.{isolated}
 use Rattle.ix_iso.proofs.InLength.{agree_from, alike_from}
-use Rattle.ix_iso.proofs.Lowerings.{lowerings_logged}
+use Rattle.ix_iso.proofs.Lowerings.{lowerings_stay}
 
 -- runs of equal lengths agree in kind too
 pub alike_runs : (l : Categories) (v w : World) (events others : List Event) → RunsAgree l v w events others → Alike l v w × Agree l v w 1 events others
@@ -20,7 +20,7 @@ alike_runs l v w events others (InLength alike agree) = (alike_from l v w alike,
 pub hides : (w : World) (events : List Event) → HidesWhatIsHigh w events
 hides w events = record {
   isolated = λ l v others agree. let both = alike_runs l w v events others agree in isolated l w v 1 events others both.0 both.1;
-  lowerings = λ n e here lowered. lowerings_logged (run w 1 (take n events)) (1 + n) e lowered;
+  lowerings = lowerings_stay w 1 events;
 }
 
 -- ---- the last entry

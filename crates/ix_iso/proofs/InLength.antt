@@ -1,14 +1,15 @@
--- Worlds of one outline stay so, and give replies of one kind; so runs with equal lengths agree.
-use Rattle.std.proofs.Common.{◌≡◌, ℕ, zero, suc, Bool, true, false, not, ◌&&◌, List, [], ◌∷◌, length, take, Option, Some, None, if◌then◌else◌, refl, sym, ap, ◌∙◌, subst, inl, inr}
+-- Worlds of one outline stay so, and give equal replies but for a status; so runs with equal lengths agree.
+use Rattle.std.proofs.Common.{◌≡◌, ℕ, zero, suc, ◌+◌, Bool, true, false, not, ◌&&◌, List, [], ◌∷◌, length, take, Option, Some, None, if◌then◌else◌, refl, sym, ap, ◌∙◌, subst, inl, inr, arith}
+use Rattle.std.specs.Prelude.{slice_get}
 use Rattle.std.proofs.lemmas.List.{length-map}
 use Rattle.ix_label.specs.Category.{Categories}
 use Rattle.ix_model.specs.world.World.{World, Frame, Content}
 use Rattle.ix_model.specs.rows.Walks.{Behind, behind}
-use Rattle.ix_model.specs.world.Contents.{carried, readable, after_read, after_write, after_cut, after_seek, after_exit, emptied}
+use Rattle.ix_model.specs.world.Contents.{carried, holding_of, readable, after_read, after_write, after_cut, after_seek, after_exit, emptied}
 use Rattle.ix_model.specs.rows.Table.{Decision, verdict}
 use Rattle.ix_model.specs.rows.Telling.{told, told_of_read, told_of_write, told_of_cut}
 use Rattle.ix_model.specs.history.Step.{Given, plainly, read_answer, write_answer, cut_answer, seek_answer, stat_answer, exit_answer, wait_answer, pex_answer, is_whole, answer, step, step_of, run}
-use Rattle.ix_model.specs.two_runs.TwoRuns.{shape, Alike, Agree, AgreeAt, Replaced, is_one_kind}
+use Rattle.ix_model.specs.two_runs.TwoRuns.{shape, Alike, Agree, AgreeAt, Replaced}
 use Rattle.ix_model.specs.two_runs.TwoRuns as two
 use Rattle.ix_model.specs.two_runs.EqualLengths.{zeros, zeroed, outline, AlikeInLength, AgreeInLength, AgreeInLengthAt, ReplacedInLength, Same, Other, Written, Exited}
 use Rattle.ix_model.specs.history.Events.{Op, Event}
@@ -17,12 +18,12 @@ use Rattle.ix_model.specs.declared.reply.Kind.TheVariants as kind
 use Rattle.ix_model.specs.declared.reply.Reply.{Reply}
 use Rattle.ix_model.specs.declared.reply.Reply.TheVariants as reply
 use Rattle.ix_model.proofs.words.Answered.{step_frame}
-use Rattle.ix_iso.specs.Laws.{AreLikeInLength, OneOutline, IsolatedInLength}
-use Rattle.ix_iso.proofs.OneKind.{kind_number, equal_kinds}
-use Rattle.ix_iso.proofs.Counts.{SameCounts, shape_from, told_answer}
+use Rattle.ix_iso.specs.Laws.{AreLikeInLength, but_status, OneOutline, IsolatedInLength}
+use Rattle.ix_iso.proofs.OneKind.{one_kind}
+use Rattle.ix_iso.proofs.Counts.{SameCounts, shape_from}
 use Rattle.ix_iso.proofs.Shapes.{Twins, twins_itself, twins_replaced}
 use Rattle.ix_iso.proofs.Histories.{isolated}
-use Rattle.ix_iso.proofs.Zeroed.{zero_content, take_zeros, length_zeros, same_zeros, readable_zero, carried_zero, read_zero, write_zero, cut_zero, seek_zero, exit_zero, emptied_zero, told_read_zero, told_write_zero, told_cut_zero}
+use Rattle.ix_iso.proofs.Zeroed.{zero_content, take_zeros, length_zeros, first_length, same_zeros, readable_zero, carried_zero, read_zero, write_zero, cut_zero, seek_zero, exit_zero, emptied_zero, told_read_zero, told_write_zero, told_cut_zero}
 
 -- ---- outlines
 pub outline_from : (v w : World) → v.frame ≡ w.frame → zero_content v.content ≡ zero_content w.content → outline v ≡ outline w
@@ -136,6 +137,71 @@ module _ (f : Frame) (c d : Content) (same : zero_content c ≡ zero_content d) 
   like_outline pid o p e (inl equal) = subst (λ (q : Op). Zeroed (answer one pid o e) (answer other pid q e)) equal (answer_outline pid o e)
   like_outline pid o p e (inr replaced) = replaced_outline pid o p e replaced
 
+  -- ---- replies
+  abbrev Told : Given → Given → Type 0
+  Told a b = but_status a.reply ≡ but_status b.reply
+
+  read_replies : (count : ℕ) (b : Option Behind) (r : Reply) (g : Frame) → Told (read_answer one count b r g) (read_answer other count b r g)
+  unfolding read_answer plainly
+  read_replies count (Some e) (reply.Bytes k) g = ap (λ n. reply.Bytes n) (read_length c count e ∙ ap (λ x. length (take count (readable f x e))) same ∙ sym (read_length d count e))
+  read_replies count _ r g = refl
+
+  write_replies : (m n : List ℕ) → length m ≡ length n → (b : Option Behind) (r : Reply) (g : Frame) → Told (write_answer one m b r g) (write_answer other n b r g)
+  unfolding write_answer plainly
+  write_replies m n equal (Some e) (reply.Number k) g = ap (λ n. reply.Number n) equal
+  write_replies m n equal _ r g = refl
+
+  cut_replies : (len : ℕ) (b : Option Behind) (r : Reply) (g : Frame) → Told (cut_answer one len b r g) (cut_answer other len b r g)
+  unfolding cut_answer plainly
+  cut_replies len (Some e) reply.Done g = refl
+  cut_replies len _ r g = refl
+
+  seek_replies : (offset : ℕ) (b : Option Behind) (r : Reply) (g : Frame) → Told (seek_answer one offset b r g) (seek_answer other offset b r g)
+  unfolding seek_answer plainly
+  seek_replies offset (Some e) reply.Done g = refl
+  seek_replies offset _ r g = refl
+
+  stat_replies : (r : Reply) (g : Frame) → Told (stat_answer one r g) (stat_answer other r g)
+  unfolding stat_answer plainly
+  stat_replies (reply.Stat o kind.File size links frozen x y) g = ap (λ n. reply.Stat o kind.File n links frozen x y) (sym (first_length c o.0) ∙ ap (λ (t : Content). length (holding_of t o.0).first) same ∙ first_length d o.0)
+  stat_replies r g = refl
+
+  exit_replies : (pid s t : ℕ) (r : Reply) (g : Frame) → Told (exit_answer one pid s r g) (exit_answer other pid t r g)
+  unfolding exit_answer plainly
+  exit_replies pid s t reply.Done g = refl
+  exit_replies pid s t r g = refl
+
+  wait_replies : (r : Reply) (g : Frame) → Told (wait_answer one r g) (wait_answer other r g)
+  unfolding wait_answer plainly
+  wait_replies (reply.Child p status) g = refl
+  wait_replies r g = refl
+
+  pex_replies : (b : Option Behind) (r : Reply) (g : Frame) → Told (pex_answer one b r g) (pex_answer other b r g)
+  unfolding pex_answer plainly
+  pex_replies (Some e) r g = refl
+  pex_replies None r g = refl
+
+  answer_replies : (pid : ℕ) (o : Op) (e : Decision) → Told (answer one pid o e) (answer other pid o e)
+  unfolding answer plainly
+  answer_replies pid (op.ReadFd fd count) e = read_replies count (behind f pid fd) _ _
+  answer_replies pid (op.WriteFd fd bytes) e = write_replies bytes bytes refl (behind f pid fd) _ _
+  answer_replies pid (op.CutFd fd len) e = cut_replies len (behind f pid fd) _ _
+  answer_replies pid (op.SeekFd fd offset) e = seek_replies offset (behind f pid fd) _ _
+  answer_replies pid (op.StatAt path) e = stat_replies _ _
+  answer_replies pid (op.Exit status) e = exit_replies pid status status _ _
+  answer_replies pid op.WaitChild e = wait_replies _ _
+  answer_replies pid (op.Pex fd) e = pex_replies (behind f pid fd) _ _
+  answer_replies pid o e = refl
+
+  replaced_replies : (pid : ℕ) (o p : Op) (e : Decision) → ReplacedInLength o p → Told (answer one pid o e) (answer other pid p e)
+  unfolding answer plainly
+  replaced_replies pid _ _ e (Written {fd = fd} {a = a} {b = b} long) = write_replies a b long (behind f pid fd) _ _
+  replaced_replies pid _ _ e (Exited {s = s} {t = t}) = exit_replies pid s t _ _
+
+  like_replies : (pid : ℕ) (o p : Op) (e : Decision) → AreLikeInLength o p → Told (answer one pid o e) (answer other pid p e)
+  like_replies pid o p e (inl equal) = subst (λ (q : Op). Told (answer one pid o e) (answer other pid q e)) equal (answer_replies pid o e)
+  like_replies pid o p e (inr replaced) = replaced_replies pid o p e replaced
+
   -- ---- what is told
   told_same : (pid : ℕ) (o : Op) → told one pid o ≡ told other pid o
   unfolding told
@@ -175,7 +241,7 @@ at_one_frame f c d place pid o p same like =
     let one : left ≡ right = ap (λ t. verdict t place pid o f) told_one ∙ (like_twins o p like).verdicts (told w pid p) place pid f in
     let contents : zero_content (step v place pid o).world.content ≡ zero_content (step w place pid p).world.content = like_outline f c d same pid o p left like ∙ ap (λ (e : Decision). zero_content (answer w pid p e).world.content) one in
     record {
-      kinds = equal_kinds _ _ ((told_answer v pid o left).kind ∙ ap (λ (e : Decision). kind_number e.reply) one ∙ sym (told_answer w pid p right).kind);
+      replies = like_replies f c d same pid o p left like ∙ ap (λ (e : Decision). but_status (answer w pid p e).reply) one;
       outlines = outline_from _ _ (step_frame v place pid o ∙ ap (λ (e : Decision). e.frame) one ∙ sym (step_frame w place pid p)) contents;
     }
 
@@ -192,14 +258,14 @@ agree_at : (l : Categories) (f : Frame) (a b : Event) → AgreeInLengthAt l f a 
 agree_at l f _ _ Same = two.Same
 agree_at l f _ _ (Other {a = a} {b = b} high replaced) = two.Other high (in_length a b replaced)
 
--- with equal lengths the replies are of one kind, so the histories agree
+-- so the replies are of one kind, and the histories agree
 pub agree_from : (l : Categories) (v w : World) (place : ℕ) (events others : List Event) → outline v ≡ outline w → AgreeInLength l v place events others → Agree l v w place events others
 agree_from l v w place [] [] outlines agree = tt
 agree_from l v w place [] (f ∷ others) outlines agree = absurd agree
 agree_from l v w place (e ∷ events) [] outlines agree = absurd agree
 agree_from l v w place (e ∷ events) (f ∷ others) outlines agree =
     let here = events_outline l v w place e f outlines agree.0 in
-    (agree_at l v.frame e f agree.0, here.kinds, agree_from l (step_of v place e).world (step_of w place f).world (suc place) events others here.outlines agree.1)
+    (agree_at l v.frame e f agree.0, one_kind _ _ here.replies, agree_from l (step_of v place e).world (step_of w place f).world (suc place) events others here.outlines agree.1)
 
 outlines_along : (l : Categories) (v w : World) (place : ℕ) (events others : List Event) → outline v ≡ outline w → AgreeInLength l v place events others → (n : ℕ) → outline (run v place (take n events)) ≡ outline (run w place (take n others))
 outlines_along l v w place events others outlines agree zero = outlines
@@ -209,6 +275,19 @@ outlines_along l v w place (e ∷ events) [] outlines agree (suc n) = absurd agr
 outlines_along l v w place (e ∷ events) (f ∷ others) outlines agree (suc n) =
     outlines_along l (step_of v place e).world (step_of w place f).world (suc place) events others (events_outline l v w place e f outlines agree.0).outlines agree.1 n
 
+-- at each place the replies are equal but for a status
+replies_along : (l : Categories) (v w : World) (place k : ℕ) (events others : List Event) → outline v ≡ outline w → AgreeInLength l v place events others → (n : ℕ) (e f : Event) → k ≡ place + n → slice_get events n ≡ Some e → slice_get others n ≡ Some f →
+    but_status (step_of (run v place (take n events)) k e).reply ≡ but_status (step_of (run w place (take n others)) k f).reply
+replies_along l v w place k [] others outlines agree n e f there is here = cc
+replies_along l v w place k (a ∷ events) [] outlines agree n e f there is here = absurd agree
+replies_along l v w place k (a ∷ events) (b ∷ others) outlines agree zero e f there is here =
+    let at_k : place ≡ k = omega (arith, there) in
+    let i : a ≡ e = cc in
+    let j : b ≡ f = cc in
+    (λ t. but_status (step_of v (sym at_k t) (sym i t)).reply) ∙ (events_outline l v w place a b outlines agree.0).replies ∙ (λ t. but_status (step_of w (at_k t) (j t)).reply)
+replies_along l v w place k (a ∷ events) (b ∷ others) outlines agree (suc n) e f there is here =
+    replies_along l (step_of v place a).world (step_of w place b).world (suc place) k events others (events_outline l v w place a b outlines agree.0).outlines agree.1 n e f (omega (arith, there)) is here
+
 -- worlds that are alike in length are alike
 pub alike_from : (l : Categories) (v w : World) → AlikeInLength l v w → Alike l v w
 alike_from l v w alike = record { shapes = outline_shape v w alike.outlines; inside = alike.inside }
@@ -217,4 +296,5 @@ pub isolated_in_length : (l : Categories) (v w : World) (place : ℕ) (events ot
 isolated_in_length l v w place events others alike agree = record {
   isolated = isolated l v w place events others (alike_from l v w alike) (agree_from l v w place events others alike.outlines agree);
   outlines = λ n. outlines_along l v w place events others alike.outlines agree n;
+  replies = λ n e f is here. replies_along l v w place (place + n) events others alike.outlines agree n e f refl is here;
 }

@@ -1,5 +1,6 @@
 -- What is lowered is logged: of the two calls that set a label, each that lowers one has its line.
-use Rattle.std.proofs.Common.{◌≡◌, ℕ, Bool, true, false, true≢false, not, List, [], ◌∷◌, ◌++◌, Some, if◌then◌else◌, refl, sym, ap, ◌∙◌, subst, inl, inr, append-nil}
+use Rattle.std.proofs.Common.{◌≡◌, ℕ, zero, suc, ◌+◌, Bool, true, false, true≢false, not, List, [], ◌∷◌, ◌++◌, length, take, Some, if◌then◌else◌, refl, sym, ap, ◌∙◌, subst, inl, inr, append-nil, arith}
+use Rattle.std.specs.Prelude.{slice_get}
 use Rattle.std.specs.Option.{option_map_or}
 use Rattle.std.proofs.lemmas.Bool.{not-false, false_from_ne_true}
 use Rattle.std.proofs.Math.Bool.{and-false}
@@ -17,7 +18,7 @@ use Rattle.ix_model.specs.rows.OnLabels.{set_label, set_self}
 use Rattle.ix_model.specs.rows.OnDescriptors.{Told}
 use Rattle.ix_model.specs.rows.Table.{row}
 use Rattle.ix_model.specs.rows.Telling.{told}
-use Rattle.ix_model.specs.history.Step.{step, step_of}
+use Rattle.ix_model.specs.history.Step.{step, step_of, run}
 use Rattle.ix_model.specs.history.Lowering.{Lowered}
 use Rattle.ix_model.specs.history.Lowering as low
 use Rattle.ix_model.specs.two_runs.TwoRuns.{Low, AgreeAt, Same, Other, Replaced, Written, Exited}
@@ -40,7 +41,7 @@ use Rattle.ix_model.proofs.told.Logs.{logged_run}
 use Rattle.ix_model.proofs.words.Rowwise.{moved_found}
 use Rattle.ix_model.proofs.words.Turns.{holds_more}
 use Rattle.ix_model.proofs.words.Answered.{step_frame}
-use Rattle.ix_iso.specs.Laws.{line_of_lowering, IsLogged}
+use Rattle.ix_iso.specs.Laws.{line_of_lowering, IsLogged, LowersUnderLog}
 use Rattle.ix_iso.proofs.Facts.{Looking, looking_found}
 use Rattle.ix_iso.proofs.Rising.{Risen, risen_itself, rising, no_lowering, risen_row}
 
@@ -162,6 +163,31 @@ by_its_line w place e line h =
 pub lowerings_logged : (w : World) (place : ℕ) (e : Event) (lowered : Lowered w.frame (step_of w place e).world.frame) → IsLogged w place e (line_of_lowering place e.pid lowered)
 lowerings_logged w place e (low.OfObject o x y is here falls) = by_its_line w place e _ ((tells_step w place e.pid e.op).objects o x y is here falls)
 lowerings_logged w place e (low.OfProcess p x y is here falls) = by_its_line w place e _ ((tells_step w place e.pid e.op).processes p x y is here falls)
+
+-- ---- the log at the end
+-- what stands behind a list stands at its length in what goes on from there
+at_seam : {A : Type 0} (xs : List A) (y : A) (zs : List A) → slice_get ((xs ++ y ∷ []) ++ zs) (length xs) ≡ Some y
+at_seam [] y zs = refl
+at_seam (x ∷ xs) y zs = at_seam xs y zs
+
+-- where the entry behind the first n is this one, and gives the log this line, the line stays where it is
+stands_along : (w : World) (place k : ℕ) (events : List Event) (n : ℕ) (e : Event) (line : AuditLine) → k ≡ place + n → slice_get events n ≡ Some e →
+    (step_of (run w place (take n events)) k e).world.frame.log ≡ (run w place (take n events)).frame.log ++ line ∷ [] →
+    slice_get (run w place events).frame.log (length (run w place (take n events)).frame.log) ≡ Some line
+stands_along w place k [] n e line there is log = cc
+stands_along w place k (a ∷ events) zero e line there is log =
+    let here : place ≡ k = omega (arith, there) in
+    let one : a ≡ e = cc in
+    let added : (step_of w place a).world.frame.log ≡ w.frame.log ++ line ∷ [] = (λ i. (step_of w (here i) (one i)).world.frame.log) ∙ log in
+    let last : (run w place (a ∷ events)).frame.log ≡ (w.frame.log ++ line ∷ []) ++ audit_log (step_of w place a).world (suc place) events =
+    logged_run (step_of w place a).world (suc place) events ∙ ap (λ t. t ++ audit_log (step_of w place a).world (suc place) events) added in
+    ap (λ t. slice_get t (length w.frame.log)) last ∙ at_seam w.frame.log line (audit_log (step_of w place a).world (suc place) events)
+stands_along w place k (a ∷ events) (suc n) e line there is log = stands_along (step_of w place a).world (suc place) k events n e line (omega (arith, there)) is log
+
+pub lowerings_stay : (w : World) (place : ℕ) (events : List Event) → LowersUnderLog w place events
+lowerings_stay w place events n e is lowered =
+    let logged = lowerings_logged (run w place (take n events)) (place + n) e lowered in
+    record { logged = logged; stands = stands_along w place (place + n) events n e (line_of_lowering (place + n) e.pid lowered) refl is logged.log }
 
 -- ---- replaced entries
 -- a label that isn't at or below L isn't at or below one that is

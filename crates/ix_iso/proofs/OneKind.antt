@@ -8,6 +8,7 @@ use Rattle.ix_model.specs.declared.refusal.Refusal.{Refusal}
 use Rattle.ix_model.specs.declared.refusal.Refusal.TheVariants as refusal
 use Rattle.ix_model.specs.declared.reply.Reply.{Reply}
 use Rattle.ix_model.specs.declared.reply.Reply.TheVariants as reply
+use Rattle.ix_iso.specs.Laws.{but_status}
 
 -- ---- refusals
 -- the refusals by their numbers
@@ -102,3 +103,21 @@ equal_kinds (reply.Whole p a x) (reply.Whole q b y) h = refl
 equal_kinds (reply.LogLine x) (reply.LogLine y) h = refl
 equal_kinds (reply.Child p x) (reply.Child q y) h = refl
 equal_kinds a b h = absurd (omega (arith, h))
+
+-- replies that are equal but for a status are of one kind
+kind_but_status : (r : Reply) → kind_number (but_status r) ≡ kind_number r
+kind_but_status (reply.Child p x) = refl
+kind_but_status reply.Done = refl
+kind_but_status (reply.Number n) = refl
+kind_but_status (reply.Two a b) = refl
+kind_but_status (reply.Bytes k) = refl
+kind_but_status (reply.Stat o kind size links frozen x y) = refl
+kind_but_status (reply.Lab a) = refl
+kind_but_status (reply.Named name o) = refl
+kind_but_status reply.Half = refl
+kind_but_status (reply.Whole p a x) = refl
+kind_but_status (reply.LogLine x) = refl
+kind_but_status (reply.No why) = refl
+
+pub one_kind : (a b : Reply) → but_status a ≡ but_status b → is_one_kind a b ≡ true
+one_kind a b h = equal_kinds a b (sym (kind_but_status a) ∙ ap kind_number h ∙ kind_but_status b)

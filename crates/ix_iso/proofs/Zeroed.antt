@@ -103,6 +103,9 @@ with_side_zero end bytes h = go (end == 0)
 holding_side : (c : Content) (o end : ℕ) → side end (holding_of (zero_content c) o) ≡ zeros (side end (holding_of c o))
 holding_side c o end = ap (side end) (holding_zero c o) ∙ side_zero end (holding_of c o)
 
+pub first_length : (c : Content) (o : ℕ) → length (holding_of (zero_content c) o).first ≡ length (holding_of c o).first
+first_length c o = ap (λ (h : Holding). length h.first) (holding_zero c o) ∙ length_zeros (holding_of c o).first
+
 side_length : (c : Content) (o end : ℕ) → length (side end (holding_of (zero_content c) o)) ≡ length (side end (holding_of c o))
 side_length c o end = ap length (holding_side c o end) ∙ length_zeros (side end (holding_of c o))
 

@@ -1,13 +1,11 @@
 -- What a history hides of what was written high, and what its entries let down.
-use Rattle.std.specs.Prelude.{◌≡◌, ℕ, ◌+◌, List, take, Some, slice_get}
+use Rattle.std.specs.Prelude.{List}
 use Rattle.ix_label.specs.Category.{Categories}
 use Rattle.ix_model.specs.world.World.{World}
-use Rattle.ix_model.specs.history.Step.{run}
-use Rattle.ix_model.specs.history.Lowering.{Lowered}
 use Rattle.ix_model.specs.two_runs.TwoRuns.{Alike, Agree}
 use Rattle.ix_model.specs.two_runs.EqualLengths.{AlikeInLength, AgreeInLength}
 use Rattle.ix_model.specs.history.Events.{Event}
-use Rattle.ix_iso.specs.Laws.{given_after, Isolated, line_of_lowering, IsLogged}
+use Rattle.ix_iso.specs.Laws.{Isolated, LowersUnderLog}
 
 -- Two runs agree at L where bytes and statuses alone differ, and only above L. The lengths may differ where the replies are
 -- of the same kinds; where they are equal, nothing is asked of the replies.
@@ -19,6 +17,5 @@ pub data RunsAgree (l : Categories) (v w : World) (events others : List Event) :
 pub record HidesWhatIsHigh (w : World) (events : List Event) : Type 0 where
   -- each run that agrees with it at a label is isolated from it there: a low process is told the same in both
   pub isolated : (l : Categories) (v : World) (others : List Event) → RunsAgree l w v events others → Isolated l w v 1 events others
-  -- what lets something down is licensed and logged: each entry that lowered a label
-  pub lowerings : (n : ℕ) (e : Event) → slice_get events n ≡ Some e → (lowered : Lowered (run w 1 (take n events)).frame (given_after w 1 events n e).world.frame) →
-      IsLogged (run w 1 (take n events)) (1 + n) e (line_of_lowering (1 + n) e.pid lowered)
+  -- what lets something down is licensed and logged, and its line stands in the log at the end: each entry that lowered a label
+  pub lowerings : LowersUnderLog w 1 events

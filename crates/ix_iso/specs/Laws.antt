@@ -1,5 +1,5 @@
 -- The laws of isolation: what two runs that agree at a label have in common.
-use Rattle.std.specs.Prelude.{◌≡◌, ◌⊎◌, ℕ, ◌+◌, suc, Bool, true, false, List, [], ◌∷◌, ◌++◌, take, Some, None, is_some, slice_get}
+use Rattle.std.specs.Prelude.{◌≡◌, ◌⊎◌, ℕ, ◌+◌, suc, Bool, true, false, List, [], ◌∷◌, ◌++◌, length, take, Some, None, is_some, slice_get}
 use Rattle.ix_label.specs.Category.{Categories, bottom}
 use Rattle.ix_model.specs.world.World.{World, Frame, Open, at, is_ended}
 use Rattle.ix_model.specs.world.Contents.{holding_of, offset_of, status_of, holds_nothing}
@@ -130,24 +130,47 @@ pub record IsLogged (w : World) (place : ℕ) (e : Event) (line : AuditLine) : T
 abbrev pub LoweringsAreLogged : Type 0
 LoweringsAreLogged = (w : World) (place : ℕ) (e : Event) → (lowered : Lowered w.frame (step_of w place e).world.frame) → IsLogged w place e (line_of_lowering place e.pid lowered)
 
+-- an entry of a history is licensed and logged, and its line stands in the log at the end of the history, behind all that the
+-- log held before the entry
+pub record StaysLogged (w : World) (place : ℕ) (events : List Event) (n : ℕ) (e : Event) (line : AuditLine) : Type 0 where
+  pub logged : IsLogged (run w place (take n events)) (place + n) e line
+  pub stands : slice_get (run w place events).frame.log (length (run w place (take n events)).frame.log) ≡ Some line
+
+-- so is each entry of this history that lowered a label
+abbrev pub LowersUnderLog : World → ℕ → List Event → Type 0
+LowersUnderLog w place events = (n : ℕ) (e : Event) → slice_get events n ≡ Some e → (lowered : Lowered (run w place (take n events)).frame (given_after w place events n e).world.frame) →
+    StaysLogged w place events n e (line_of_lowering (place + n) e.pid lowered)
+
+-- and of every other
+abbrev pub LoweringsStayLogged : Type 0
+LoweringsStayLogged = (w : World) (place : ℕ) (events : List Event) → LowersUnderLog w place events
+
 -- ---- equal lengths
 -- two calls are one, or write bytes of one length, or give statuses
 abbrev pub AreLikeInLength : Op → Op → Type 0
 AreLikeInLength o p = (o ≡ p) ⊎ ReplacedInLength o p
 
--- their replies are of one kind, and they leave worlds of one outline
+-- a reply but for the status in Child; that of a read tells how many bytes it gave, and not which
+abbrev pub but_status : Reply → Reply
+but_status (reply.Child p status) = reply.Child p 0
+but_status r = r
+
+-- their replies are equal but for the bytes of a read and the status in Child, and they leave worlds of one outline
 pub record OneOutline (a b : Given) : Type 0 where
-  pub kinds : is_one_kind a.reply b.reply ≡ true
+  pub replies : but_status a.reply ≡ but_status b.reply
   pub outlines : outline a.world ≡ outline b.world
 
 -- so it is from worlds of one outline: no row sees more of the bytes than four tests on lengths, nor of the call
-abbrev pub OutlinesDecideKinds : Type 0
-OutlinesDecideKinds = (v w : World) (place pid : ℕ) (o p : Op) → outline v ≡ outline w → AreLikeInLength o p → OneOutline (step v place pid o) (step w place pid p)
+abbrev pub OutlinesDecideReplies : Type 0
+OutlinesDecideReplies = (v w : World) (place pid : ℕ) (o p : Op) → outline v ≡ outline w → AreLikeInLength o p → OneOutline (step v place pid o) (step w place pid p)
 
 -- what two histories have in common that agree at L in length, from worlds alike at L in length
 pub record IsolatedInLength (l : Categories) (v w : World) (place : ℕ) (events others : List Event) : Type 0 where
   pub isolated : Isolated l v w place events others
+  -- after each prefix lengths and offsets are equal
   pub outlines : (n : ℕ) → outline (run v place (take n events)) ≡ outline (run w place (take n others))
+  -- at each place the replies are equal but for the bytes of a read and the status in Child
+  pub replies : (n : ℕ) (e f : Event) → slice_get events n ≡ Some e → slice_get others n ≡ Some f → but_status (given_after v place events n e).reply ≡ but_status (given_after w place others n f).reply
 
 -- whatever the label, the worlds and the histories are; nothing is asked of replies
 abbrev pub IsolationInLength : Type 0

@@ -8,7 +8,7 @@ ghost use Rattle.ix_model.specs.declared.call.Keep.{Keep};
 ghost use Rattle.ix_model.specs.declared.privs.PrivSet.{PrivSet};
 ghost use Rattle.ix_iso.specs.Configs.{ConfigsOpenAlike};
 ghost use Rattle.ix_iso.specs.Forms.{FormsStay};
-ghost use Rattle.ix_iso.specs.Laws.{KeepShape, KeepAlike, Isolation, LoweringsAreLogged, OutlinesDecideKinds, IsolationInLength, MostCallsGoByShape};
+ghost use Rattle.ix_iso.specs.Laws.{KeepShape, KeepAlike, Isolation, LoweringsAreLogged, LoweringsStayLogged, OutlinesDecideReplies, IsolationInLength, MostCallsGoByShape};
 
 // ---- equal shapes
 
@@ -459,16 +459,22 @@ pub fn lowered_step()
     ensures logged { LoweringsAreLogged }
 {}
 
+/// In every history, each entry that lowered a label is licensed, and its line stands in the log at the end of the history,
+/// behind all that the log held before the entry.
+pub fn lowerings_stay_logged()
+    ensures stand { LoweringsStayLogged }
+{}
+
 // ---- with equal lengths
 
 /// From worlds in which bytes and statuses alone differ, two calls that differ in bytes of one length or in a status alone
-/// have replies of one kind, and leave such worlds.
-pub fn outlines_decide_kinds()
-    ensures one { OutlinesDecideKinds }
+/// have equal replies but for the bytes of ReadFd and the status in Child, and leave such worlds.
+pub fn outlines_decide_replies()
+    ensures one { OutlinesDecideReplies }
 {}
 
-/// The law of `isolation` where all lengths and offsets are equal: nothing is asked of the replies, and lengths and offsets
-/// stay equal.
+/// The law of `isolation` where all lengths and offsets are equal: nothing is asked of the replies, lengths and offsets stay
+/// equal, and at each place the replies are equal but for the bytes of ReadFd and the status in Child.
 pub fn isolation_in_length()
     ensures isolated { IsolationInLength }
 {}
