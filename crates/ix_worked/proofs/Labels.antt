@@ -26,10 +26,10 @@ same-refl a = (same-decides a a).1 refl
 pub same-with_bottom : (s : Categories) (q : ℕ) → same (with s q) bottom ≡ false
 same-with_bottom s q = false_from_ne_true _ (λ h. true≢false (sym (has-added s q) ∙ ap (λ l. has l q) ((same-decides (with s q) bottom).0 h) ∙ has-bottom q))
 
-pub leq-one_top : (q : ℕ) → q < 256 → leq (with bottom q) top ≡ true
+pub leq-one_top : (q : ℕ) → q < 512 → leq (with bottom q) top ≡ true
 leq-one_top q low = leq-top _ (IsLabel-with bottom q IsLabel-bottom low)
 
-pub leq-two_top : (q p : ℕ) → q < 256 → p < 256 → leq (with (with bottom q) p) top ≡ true
+pub leq-two_top : (q p : ℕ) → q < 512 → p < 512 → leq (with (with bottom q) p) top ≡ true
 leq-two_top q p low lower = leq-top _ (IsLabel-with _ p (IsLabel-with bottom q IsLabel-bottom low) lower)
 
 -- a set with one category more is above it, and another
