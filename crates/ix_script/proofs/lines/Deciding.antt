@@ -28,7 +28,7 @@ pub version_fits : (before : List Line) (form : Form) → said_fault before (lin
 unfolding said_fault
 version_fits before form = refl
 
-policy_fits : (before : List Line) (text : List ℕ) → said_fault before (line.Policy text) ≡ None
+pub policy_fits : (before : List Line) (text : List ℕ) → said_fault before (line.Policy text) ≡ None
 unfolding said_fault
 policy_fits before text = refl
 
@@ -90,6 +90,7 @@ first_faultless text h = (neither (text_fault text) (first_line_fault text) h).1
 
 -- what the first line says is the same in both forms
 pub version_said : (labels : Form) (text : List ℕ) (form : Form) → version_of text ≡ Some form → line_of labels text ≡ Some (line.Version form)
+unfolding line_of is_policy_line version_of
 version_said labels text form h = subst (λ (t : List ℕ). line_of labels t ≡ Some (line.Version form)) (sym (version_is text form h)) (said_so form)
   where
     said_so : (f : Form) → line_of labels (version_text f) ≡ Some (line.Version f)

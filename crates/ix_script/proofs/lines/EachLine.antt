@@ -1,8 +1,8 @@
 -- What holds of each line that is read without a fault holds along a script.
-use Rattle.std.proofs.Common.{◌≡◌, ℕ, ◌+◌, true, false, false≢true, nat_lt, List, [], ◌∷◌, ◌++◌, length, Option, Some, None, option_map, inl, inr, refl, sym, ap, ◌∙◌, subst}
+use Rattle.std.proofs.Common.{◌≡◌, ℕ, ◌+◌, true, false, nat_lt, List, [], ◌∷◌, ◌++◌, length, Option, Some, None, option_map, inl, inr, refl, sym, ap, ◌∙◌, subst}
 use Rattle.std.specs.Prelude.{unwrap_or}
 use Rattle.std.specs.Option.{is_none, option_map_or, option_or}
-use Rattle.std.proofs.lemmas.Bool.{cases_Bool}
+use Rattle.std.proofs.lemmas.Bool.{cases_Bool, false≢true}
 use Rattle.std.proofs.lemmas.Option.{none-some, same_Some}
 use Rattle.ix_label.specs.declared.form.Form as spelled
 use Rattle.ix_label.specs.declared.form.Form.TheVariants.{One}
