@@ -58,11 +58,11 @@ version_is text form h = elim (bool_cases (same_bytes text (codes "ix 1"))) [
       let is : Some One ≡ Some form = rw t at h in
       subst (λ (f : Form). text ≡ version_text f) (same_Some One form is) (same_text text (codes "ix 1") (sym t))
   | inr f ↦ elim (bool_cases (same_bytes text (codes "ix 2"))) [
-      | inl t ↦
-          let is : Some Two ≡ Some form = rw (f, t) at h in
-          subst (λ (f : Form). text ≡ version_text f) (same_Some Two form is) (same_text text (codes "ix 2") (sym t))
-      | inr g ↦ let none : ◌≡◌ {A = Option Form} None (Some form) = rw (f, g) at h in cc
-    ]
+    | inl t ↦
+        let is : Some Two ≡ Some form = rw (f, t) at h in
+        subst (λ (f : Form). text ≡ version_text f) (same_Some Two form is) (same_text text (codes "ix 2") (sym t))
+    | inr g ↦ let none : ◌≡◌ {A = Option Form} None (Some form) = rw (f, g) at h in cc
+  ]
 ]
 
 first_is : (form : Form) → LineRight [] (line.Version form) (first_line_fault (version_text form)) (line_of One (version_text form))

@@ -13,7 +13,7 @@ use Rattle.ix_script.specs.lines.Before.{form_by, form_told}
 use Rattle.ix_script.specs.lines.Said.{version_of, line_of}
 use Rattle.ix_script.specs.lines.Kinds.{places_fault}
 use Rattle.ix_script.specs.lines.Forms.{form_of, places}
-use Rattle.ix_script.specs.lines.Faults.{text_fault, words_fault, stand_fault, form_fault, command_fault, first_line_fault, body_fault, line_fault}
+use Rattle.ix_script.specs.lines.Faults.{text_fault, words_fault, stand_fault, form_fault, command_fault, body_fault, line_fault}
 use Rattle.ix_script.proofs.lines.Deciding.{first_version, first_faultless, version_said}
 use Rattle.ix_script.proofs.reader.Told.{neither}
 use Rattle.ix_script.specs.scripts.Packed.{IsLine, IsSaid, line_in, begin_at, between, held, AreLines}
