@@ -1,5 +1,5 @@
 -- Each history hides what is high, and so does its last entry.
-use Rattle.std.proofs.Common.{◌≡◌, ℕ, suc, ◌+◌, List, [], ◌∷◌, ◌++◌, length, take, refl, arith, subst}
+use Rattle.std.proofs.Common.{◌≡◌, ℕ, suc, ◌+◌, List, [], ◌∷◌, ◌++◌, length, refl, arith, subst}
 use Rattle.ix_label.specs.Category.{Categories}
 use Rattle.ix_model.specs.world.World.{World}
 use Rattle.ix_model.specs.history.Step.{step_of, run}

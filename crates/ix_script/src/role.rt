@@ -29,7 +29,8 @@ pub(crate) fn role_of(line: &Line<'_>) -> Role
 {
     match line {
         Line::Skipped => Role::Aside,
-        Line::Version { .. } | Line::Limit { .. } | Line::Fs { .. } | Line::Proc { .. } => Role::Header,
+        Line::Version { .. } | Line::Limit { .. } | Line::Fs { .. } | Line::Proc { .. } =>
+            Role::Header,
         Line::Dir { .. } | Line::File { .. } | Line::Policy { .. } => Role::Header,
         Line::Phase => Role::Phase,
         Line::Lane { .. } => Role::Lane,

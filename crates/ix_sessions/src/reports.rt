@@ -102,9 +102,7 @@ fn answer(out: &mut Vec<u8>, reply: &Reply) -> Result<(), NoMemory>
     requires { AreBytesOf reply.now [] }
 {
     let call = Call::SelfLabel;
-    entry_line(
-        out, Form::Two, 1, b"m", 7, Pid(1), &call, reply, b"", None,
-    )
+    entry_line(out, Form::Two, 1, b"m", 7, Pid(1), &call, reply, b"", None)
 }
 
 /// A line with each reply that no bytes go with.
@@ -206,7 +204,16 @@ fn arguments(out: &mut Vec<u8>, one: Name, two: Name) -> Result<(), NoMemory> {
     ];
     for call in &calls {
         entry_line(
-            out, Form::Two, 1, b"m", 7, Pid(1), call, &Reply::Done, b"", None,
+            out,
+            Form::Two,
+            1,
+            b"m",
+            7,
+            Pid(1),
+            call,
+            &Reply::Done,
+            b"",
+            None,
         )?;
     }
     Ok(())

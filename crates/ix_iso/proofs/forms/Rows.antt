@@ -7,9 +7,9 @@ use Rattle.ix_label.specs.declared.form.Form.{Form}
 use Rattle.ix_label.specs.Category.{Categories, bottom, join}
 use Rattle.ix_label.specs.Forms.{Fits}
 use Rattle.ix_model.specs.world.Naming.{PathOf}
-use Rattle.ix_model.specs.world.World.{Frame, Object, Process, Open, at, put, living, is_dir, is_pipe}
+use Rattle.ix_model.specs.world.World.{Frame, Object, Process, Open, at, living, is_dir, is_pipe}
 use Rattle.ix_model.specs.rows.Outcomes.{Outcome, Row, Refuse, Pass}
-use Rattle.ix_model.specs.rows.Rows.{◌>>=◌, ◌>>◌, on_pass, pass, refuse, need, some, only_if, frame, process, object, record_of, change_object, change_process, change_open, put_object, put_open, put_process, add_process, observe, affect}
+use Rattle.ix_model.specs.rows.Rows.{◌>>=◌, ◌>>◌, on_pass, pass, refuse, some, frame, process, object, record_of, change_object, change_process, change_open, put_object, put_open, put_process, add_process, observe, affect}
 use Rattle.ix_model.specs.rows.Walks.{Behind, NotDir, nothing, node, child, behind, behind_of, entry_at, join_all, looking_into, lacking, walk, walk_from, walked_to, object_at, spot_at, missing, opened}
 use Rattle.ix_model.specs.rows.Lifetimes.{let_go_object, let_go_open, let_go_claim, let_go, let_go_if_held, let_go_each, let_go_all, has_lost}
 use Rattle.ix_model.specs.rows.Auditing.{logged}

@@ -1,13 +1,13 @@
 -- A step keeps to a form, and so does a run from the opening world of a config that fits.
-use Rattle.std.proofs.Common.{◌≡◌, ℕ, zero, suc, ◌-◌, Bool, true, false, List, [], ◌∷◌, ◌++◌, map, drop, replicate, take, Option, Some, None, refl, sym, subst, arith, if◌then◌else◌}
+use Rattle.std.proofs.Common.{◌≡◌, ℕ, zero, suc, ◌-◌, Bool, true, false, List, [], ◌∷◌, ◌++◌, map, replicate, take, Option, Some, None, sym, subst, arith, if◌then◌else◌}
 use Rattle.std.specs.Prelude.{All, slice_get, unwrap_or}
 use Rattle.std.specs.Option.{option_map_or}
 use Rattle.std.proofs.lemmas.List.Elements.{All-nil, All-tail, All-take}
 use Rattle.ix_label.specs.declared.form.Form.{Form}
 use Rattle.ix_label.specs.Forms.{Fits}
-use Rattle.ix_model.specs.world.World.{Frame, World, Object, Process, Open, at, lives}
-use Rattle.ix_model.specs.world.Numbers.{free_inode, first_inode}
-use Rattle.ix_model.specs.opening.Opening.{root_of, bare, mounts, bare_objects, process_of, directory_of, object_of, placed, with_object, with_objects, bare_world, opening_world}
+use Rattle.ix_model.specs.world.World.{Frame, World, Object, Process, Open, lives}
+use Rattle.ix_model.specs.world.Numbers.{free_inode}
+use Rattle.ix_model.specs.opening.Opening.{root_of, bare, bare_objects, process_of, directory_of, object_of, placed, with_object, with_objects, bare_world, opening_world}
 use Rattle.ix_model.specs.rows.Outcomes.{Outcome, Refuse, Pass}
 use Rattle.ix_model.specs.rows.OnDescriptors.{Told}
 use Rattle.ix_model.specs.rows.Refusals.{keeps_label}
@@ -22,7 +22,6 @@ use Rattle.ix_model.specs.declared.audit.AuditLine.{AuditLine}
 use Rattle.ix_model.specs.declared.config.Config.{Config}
 use Rattle.ix_model.specs.declared.config.FsSpec.{FsSpec}
 use Rattle.ix_model.specs.declared.config.ObjSpec.{ObjSpec}
-use Rattle.ix_model.specs.declared.config.ProcSpec.{ProcSpec}
 use Rattle.ix_model.specs.declared.refusal.Refusal.TheVariants as refusal
 use Rattle.ix_model.specs.declared.reply.Kind.TheVariants as kind
 use Rattle.ix_model.specs.declared.reply.Reply.{Reply}

@@ -46,13 +46,9 @@ fn push_line(
     match caller {
         Some(view) => {
             let label = Some(&view.label);
-            entry_line(
-                out, form, place, lane, line, pid, call, reply, bytes, label,
-            )
+            entry_line(out, form, place, lane, line, pid, call, reply, bytes, label)
         }
-        None => entry_line(
-            out, form, place, lane, line, pid, call, reply, bytes, None,
-        ),
+        None => entry_line(out, form, place, lane, line, pid, call, reply, bytes, None),
     }
 }
 

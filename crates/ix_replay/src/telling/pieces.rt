@@ -25,12 +25,7 @@ pub fn push_object(out: &mut Vec<u8>, form: Form, core: &Core, n: u32) -> Result
 }
 
 /// The process of a pid, where there is one, with its label in the form.
-pub fn push_process(
-    out: &mut Vec<u8>,
-    form: Form,
-    core: &Core,
-    pid: u32,
-) -> Result<(), NoMemory>
+pub fn push_process(out: &mut Vec<u8>, form: Form, core: &Core, pid: u32) -> Result<(), NoMemory>
     ensures { OnOk result (out.new.items ≡ out.old.items ++ process_text form (world_of core.now).frame.processes pid) }
 {
     match core.process(Pid(pid)) {

@@ -1,9 +1,8 @@
 -- The canonical text of a script is read back.
-use Rattle.std.proofs.Common.{◌≡◌, ℕ, suc, ◌+◌, ◌<◌, ◌≤◌, Bool, true, not, ◌==◌, nat_lt, List, [], ◌∷◌, ◌++◌, length, map, Option, Some, None, inl, inr, refl, sym, ap, ◌∙◌, subst, arith}
+use Rattle.std.proofs.Common.{◌≡◌, ℕ, suc, ◌+◌, ◌<◌, ◌≤◌, Bool, true, not, ◌==◌, List, [], ◌∷◌, ◌++◌, length, map, Option, Some, None, inl, inr, refl, sym, ap, ◌∙◌, subst, arith}
 use Rattle.std.specs.Prelude.{unwrap_or}
-use Rattle.std.specs.Option.{is_none}
 use Rattle.std.specs.List.{list_all, flat_map}
-use Rattle.std.proofs.lemmas.Bool.{cases_Bool, false≢true, le-ltb, not-true}
+use Rattle.std.proofs.lemmas.Bool.{cases_Bool, le-ltb, not-true}
 use Rattle.std.proofs.lemmas.List.{append_assoc, length-append}
 use Rattle.std.proofs.lemmas.Option.{none-some, same_Some}
 use Rattle.std.proofs.lemmas.Bool.Decides.{nat_tests}
@@ -19,7 +18,7 @@ use Rattle.ix_script.specs.scripts.Canonical.{line_text, canonical_in, canonical
 use Rattle.ix_script.specs.declared.line.Line.{Line}
 use Rattle.ix_script.specs.declared.line.Line.TheVariants as line
 use Rattle.ix_script.proofs.texts.Names.{both as both_true, join_tests, list_all_weaker}
-use Rattle.ix_script.proofs.reader.Told.{mapped, paired, either, neither}
+use Rattle.ix_script.proofs.reader.Told.{mapped, paired, neither}
 use Rattle.ix_script.proofs.lines.Faultless.{text_parts}
 use Rattle.ix_script.proofs.lines.Deciding.{version_is, version_said, first_version, first_faultless}
 use Rattle.ix_script.proofs.lines.EachLine.{no_fault_from, read_parts, first_told}

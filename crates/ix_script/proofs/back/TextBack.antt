@@ -1,9 +1,9 @@
 -- The canonical text of any line.
-use Rattle.std.proofs.Common.{◌≡◌, ℕ, Bool, true, false, not, ◌||◌, cond, List, [], ◌∷◌, ◌++◌, take, drop, Option, Some, None, option_map, ◌⊎◌, inl, inr, refl, sym, ap, ◌∙◌, subst, arith}
+use Rattle.std.proofs.Common.{◌≡◌, ℕ, Bool, true, false, cond, List, [], ◌∷◌, ◌++◌, take, drop, Option, Some, None, option_map, ◌⊎◌, inl, inr, refl, sym, ap, ◌∙◌, subst, arith}
 use Rattle.std.specs.Prelude.{codes}
 use Rattle.std.specs.Option.{option_map_or, option_or}
 use Rattle.std.specs.Cmp.Lexicographic.{same_text}
-use Rattle.std.proofs.lemmas.Bool.{cases_Bool, not-false, false≢true, or_cases, or_parts}
+use Rattle.std.proofs.lemmas.Bool.{false≢true, or_cases, or_parts}
 use Rattle.std.proofs.lemmas.List.{append-nil, take-append-drop}
 use Rattle.std.proofs.lemmas.Option.{same_Some, none-some}
 use Rattle.ix_model.specs.world.Naming.{same_bytes}
@@ -12,9 +12,9 @@ use Rattle.ix_script.specs.lines.Forms.{form_of}
 use Rattle.ix_label.specs.declared.form.Form as spelled
 use Rattle.ix_label.specs.declared.form.Form.TheVariants.{One, Two}
 use Rattle.ix_script.specs.lines.Before.{form_told, has_policy, in_body}
-use Rattle.ix_script.specs.lines.Rules.{first_of, is_too_long, is_unprintable}
+use Rattle.ix_script.specs.lines.Rules.{is_too_long, is_unprintable}
 use Rattle.ix_script.specs.lines.Said.{said, said_by_words, version_of, line_of}
-use Rattle.ix_script.specs.lines.Faults.{text_fault, words_fault, form_fault, command_fault, policy_fault, first_line_fault, body_fault, line_fault}
+use Rattle.ix_script.specs.lines.Faults.{text_fault, words_fault, form_fault, command_fault, policy_fault, body_fault, line_fault}
 use Rattle.ix_script.specs.scripts.Canonical.{line_words, line_text, has_one_spelling, may_be_respelled}
 use Rattle.ix_script.specs.declared.line.Line.{Line}
 use Rattle.ix_script.specs.declared.line.Line.TheVariants as line

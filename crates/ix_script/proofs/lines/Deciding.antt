@@ -28,7 +28,7 @@ pub version_fits : (before : List Line) (form : Form) → said_fault before (lin
 unfolding said_fault
 version_fits before form = refl
 
-policy_fits : (before : List Line) (text : List ℕ) → said_fault before (line.Policy text) ≡ None
+pub policy_fits : (before : List Line) (text : List ℕ) → said_fault before (line.Policy text) ≡ None
 unfolding said_fault
 policy_fits before text = refl
 
@@ -58,11 +58,11 @@ version_is text form h = elim (bool_cases (same_bytes text (codes "ix 1"))) [
       let is : Some One ≡ Some form = rw t at h in
       subst (λ (f : Form). text ≡ version_text f) (same_Some One form is) (same_text text (codes "ix 1") (sym t))
   | inr f ↦ elim (bool_cases (same_bytes text (codes "ix 2"))) [
-      | inl t ↦
-          let is : Some Two ≡ Some form = rw (f, t) at h in
-          subst (λ (f : Form). text ≡ version_text f) (same_Some Two form is) (same_text text (codes "ix 2") (sym t))
-      | inr g ↦ let none : ◌≡◌ {A = Option Form} None (Some form) = rw (f, g) at h in cc
-    ]
+    | inl t ↦
+        let is : Some Two ≡ Some form = rw (f, t) at h in
+        subst (λ (f : Form). text ≡ version_text f) (same_Some Two form is) (same_text text (codes "ix 2") (sym t))
+    | inr g ↦ let none : ◌≡◌ {A = Option Form} None (Some form) = rw (f, g) at h in cc
+  ]
 ]
 
 first_is : (form : Form) → LineRight [] (line.Version form) (first_line_fault (version_text form)) (line_of One (version_text form))
@@ -90,6 +90,7 @@ first_faultless text h = (neither (text_fault text) (first_line_fault text) h).1
 
 -- what the first line says is the same in both forms
 pub version_said : (labels : Form) (text : List ℕ) (form : Form) → version_of text ≡ Some form → line_of labels text ≡ Some (line.Version form)
+unfolding line_of is_policy_line version_of
 version_said labels text form h = subst (λ (t : List ℕ). line_of labels t ≡ Some (line.Version form)) (sym (version_is text form h)) (said_so form)
   where
     said_so : (f : Form) → line_of labels (version_text f) ≡ Some (line.Version f)

@@ -1,13 +1,10 @@
 -- The labels of a line that was read in a form fit that form.
-use Rattle.std.proofs.Common.{◌≡◌, ℕ, false, List, [], ◌∷◌, Option, Some, None, option_map, inl, inr, subst}
+use Rattle.std.proofs.Common.{◌≡◌, ℕ, List, Option, Some, None, option_map, inl, inr, subst}
 use Rattle.std.specs.Option.{option_or}
 use Rattle.std.proofs.lemmas.Option.{same_Some}
 use Rattle.ix_label.specs.declared.form.Form as spelled
-use Rattle.ix_label.specs.Category.{Categories}
 use Rattle.ix_model.specs.world.Naming.{PathOf}
-use Rattle.ix_model.specs.declared.privs.PrivSet.{PrivSet}
 use Rattle.ix_script.specs.texts.Cutting.{is_skipped, is_policy_line, policy_text, words_of, word_at}
-use Rattle.ix_script.specs.texts.Labels.{label_in}
 use Rattle.ix_script.specs.lines.Forms.{form_of}
 use Rattle.ix_script.specs.lines.Said.{plain_line, path_line, fd_line, counted_line, said, said_by_words, version_of, line_of}
 use Rattle.ix_script.specs.lines.Fits.{LineFits}

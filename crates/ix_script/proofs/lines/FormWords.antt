@@ -317,7 +317,7 @@ module _ (labels : Form) where
       let n : length words ≡ 1 = eqb-true (length words) 1 (no_tail (length words == 1) count) in
       ap (line_words labels) (sym (same_Some line.Phase l h)) ∙ same first refl ∙ exactly 1 words n
 
-  plain_line_words : (c : Plain) (x : List ℕ) → line_words (plain_line c x) ≡ plain_word c ∷ x ∷ []
+  plain_line_words : (c : Plain) (x : List ℕ) → line_words labels (plain_line c x) ≡ plain_word c ∷ x ∷ []
   unfolding line_words
   plain_line_words plain.Wait x = refl
   plain_line_words plain.Self_ x = refl
@@ -331,7 +331,7 @@ module _ (labels : Form) where
       let n : length words ≡ 2 = eqb-true (length words) 2 (no_tail (length words == 2) count) in
       ap (line_words labels) (sym m.2) ∙ plain_line_words c m.0 ∙ same first (same (name_spelled (word_at words 1) m.0 m.1) refl) ∙ exactly 2 words n
 
-  path_line_words : (c : OnPath) (x : List ℕ) (p : PathOf) → line_words (path_line c x p) ≡ on_path_word c ∷ x ∷ path_text p ∷ []
+  path_line_words : (c : OnPath) (x : List ℕ) (p : PathOf) → line_words labels (path_line c x p) ≡ on_path_word c ∷ x ∷ path_text p ∷ []
   unfolding line_words
   path_line_words on_path.Create x p = refl
   path_line_words on_path.Mkdir x p = refl
@@ -351,7 +351,7 @@ module _ (labels : Form) where
       let n : length words ≡ 3 = eqb-true (length words) 3 (no_tail (length words == 3) count) in
       ap (line_words labels) (sym m.4) ∙ path_line_words c m.0 m.1 ∙ same first (same (name_spelled (word_at words 1) m.0 m.2) (same (path_spelled (word_at words 2) m.1 m.3) refl)) ∙ exactly 3 words n
 
-  fd_line_words : (c : OnFd) (x : List ℕ) (f : FdWord) → line_words (fd_line c x f) ≡ on_fd_word c ∷ x ∷ fd_text f ∷ []
+  fd_line_words : (c : OnFd) (x : List ℕ) (f : FdWord) → line_words labels (fd_line c x f) ≡ on_fd_word c ∷ x ∷ fd_text f ∷ []
   unfolding line_words
   fd_line_words on_fd.Close x f = refl
   fd_line_words on_fd.Pex x f = refl
@@ -365,7 +365,7 @@ module _ (labels : Form) where
       let n : length words ≡ 3 = eqb-true (length words) 3 (no_tail (length words == 3) count) in
       ap (line_words labels) (sym m.4) ∙ fd_line_words c m.0 m.1 ∙ same first (same (name_spelled (word_at words 1) m.0 m.2) (same (fd_spelled (word_at words 2) m.1 m.3) refl)) ∙ exactly 3 words n
 
-  counted_line_words : (c : Counted) (x : List ℕ) (f : FdWord) (n : ℕ) → line_words (counted_line c x f n) ≡ counted_word c ∷ x ∷ fd_text f ∷ decimal n ∷ []
+  counted_line_words : (c : Counted) (x : List ℕ) (f : FdWord) (n : ℕ) → line_words labels (counted_line c x f n) ≡ counted_word c ∷ x ∷ fd_text f ∷ decimal n ∷ []
   unfolding line_words
   counted_line_words counted.Read x f n = refl
   counted_line_words counted.Cut x f n = refl

@@ -1,12 +1,11 @@
 -- What holds of a line that breaks no rule.
-use Rattle.std.proofs.Common.{◌≡◌, ℕ, ◌≤◌, ◌==◌, nat_le, Bool, true, false, ◌&&◌, not, cond, List, [], ◌∷◌, length, map, drop, Option, if◌then◌else◌, Some, None, option_map, codes, refl, sym, ap, ◌∙◌, subst, arith, inl, inr}
+use Rattle.std.proofs.Common.{◌≡◌, ℕ, ◌≤◌, ◌==◌, nat_le, Bool, true, false, ◌&&◌, not, cond, List, [], ◌∷◌, length, map, drop, Option, if◌then◌else◌, Some, None, option_map, refl, sym, ap, ◌∙◌, subst, arith, inl, inr}
 use Rattle.std.specs.Option.{option_or, option_map_or}
-use Rattle.std.specs.Cmp.Lexicographic.{same_text}
 use Rattle.std.proofs.lemmas.Bool.{le-leb}
 use Rattle.std.specs.List.{list_all}
 use Rattle.ix_label.specs.Category.{Categories}
 use Rattle.ix_model.specs.declared.privs.PrivSet.{PrivSet}
-use Rattle.ix_model.specs.world.Naming.{PathOf, is_name, same_bytes}
+use Rattle.ix_model.specs.world.Naming.{PathOf, is_name}
 use Rattle.ix_model.specs.opening.Valid.{is_within}
 use Rattle.ix_script.specs.texts.Lines.{with_front}
 use Rattle.ix_label.specs.declared.form.Form as spelled
@@ -19,7 +18,7 @@ use Rattle.ix_script.specs.lines.Kinds.{bounds_of, bounds, places_fault}
 use Rattle.ix_script.specs.lines.Forms.{form_of, places}
 use Rattle.ix_script.specs.lines.Said.{both, payload_within, said, said_by_words, line_of, plain_line, path_line, fd_line, counted_line}
 use Rattle.ix_script.specs.lines.Rules.{is_given_twice, names_unknown}
-use Rattle.ix_script.specs.lines.Faults.{text_fault, words_fault, stand_fault, names_fault, form_fault, command_fault, first_line_fault, body_fault, line_fault}
+use Rattle.ix_script.specs.lines.Faults.{text_fault, stand_fault, names_fault, form_fault, command_fault, first_line_fault, body_fault, line_fault}
 use Rattle.ix_script.specs.declared.cutting.form.Form.{Form}
 use Rattle.ix_script.specs.declared.cutting.form.Form.TheVariants as form
 use Rattle.ix_script.specs.declared.cutting.form.Plain.{Plain}

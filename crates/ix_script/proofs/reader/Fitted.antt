@@ -11,7 +11,7 @@ use Rattle.ix_model.specs.history.Spelled.{ConfigFits}
 use Rattle.ix_model.specs.declared.config.FsSpec.{FsSpec}
 use Rattle.ix_model.specs.declared.config.ObjSpec.{ObjSpec}
 use Rattle.ix_model.specs.declared.config.ProcSpec.{ProcSpec}
-use Rattle.ix_script.specs.lines.Before.{form_by, form_told, fs_told, fss_told, default_fs, or_default, fss_of, proc_told, procs_of, object_told, objects_of}
+use Rattle.ix_script.specs.lines.Before.{form_by, form_told, fs_told, fss_told, default_fs, or_default, proc_told, procs_of, object_told, objects_of}
 use Rattle.ix_script.specs.lines.Fits.{LineFits}
 use Rattle.ix_script.specs.lines.Said.{line_of}
 use Rattle.ix_script.specs.lines.Faults.{line_fault}

@@ -1,21 +1,25 @@
 -- Lines that are held as their texts.
-use Rattle.std.proofs.Common.{◌≡◌, ℕ, zero, suc, ◌+◌, ◌-◌, ◌<◌, ◌≤◌, List, [], ◌∷◌, ◌++◌, length, take, drop, get_or, Some, None, false, refl, sym, ap, ◌∙◌, subst, arith, length-append, length-drop}
+use Rattle.std.proofs.Common.{◌≡◌, ℕ, zero, suc, ◌+◌, ◌-◌, ◌<◌, ◌≤◌, List, [], ◌∷◌, ◌++◌, length, take, drop, get_or, Some, None, false, true≢false, refl, sym, ap, ◌∙◌, subst, arith, length-append, length-drop}
 use Rattle.std.specs.List.{slice_get}
 use Rattle.std.proofs.Math.Seq.{take-length, drop-append_seam}
 use Rattle.std.proofs.lemmas.List.{take-append-le, drop-append-le}
+use Rattle.std.specs.Prelude.{unwrap_or}
 use Rattle.std.specs.Option.{option_map_or}
-use Rattle.std.proofs.lemmas.Option.{none-some}
+use Rattle.std.proofs.lemmas.Option.{none-some, same_Some}
 use Rattle.ix_label.specs.declared.form.Form as spelled
+use Rattle.ix_label.specs.declared.form.Form.TheVariants.{One}
 use Rattle.ix_script.specs.texts.Cutting.{is_empty, word_at, words_of, is_skipped, is_policy_line}
-use Rattle.ix_script.specs.lines.Before.{form_told}
-use Rattle.ix_script.specs.lines.Said.{version_of}
+use Rattle.ix_script.specs.lines.Before.{form_by, form_told}
+use Rattle.ix_script.specs.lines.Said.{version_of, line_of}
 use Rattle.ix_script.specs.lines.Kinds.{places_fault}
 use Rattle.ix_script.specs.lines.Forms.{form_of, places}
-use Rattle.ix_script.specs.lines.Faults.{text_fault, words_fault, stand_fault, form_fault, command_fault, first_line_fault, body_fault, line_fault}
-use Rattle.ix_script.proofs.lines.Deciding.{first_version}
+use Rattle.ix_script.specs.lines.Faults.{text_fault, words_fault, stand_fault, form_fault, command_fault, body_fault, line_fault}
+use Rattle.ix_script.proofs.lines.Deciding.{first_version, first_faultless, version_said}
 use Rattle.ix_script.proofs.reader.Told.{neither}
 use Rattle.ix_script.specs.scripts.Packed.{IsLine, IsSaid, line_in, begin_at, between, held, AreLines}
+use Rattle.ix_script.specs.reader.Readers.{LineRight}
 use Rattle.ix_script.specs.declared.line.Line.{Line}
+use Rattle.ix_script.specs.declared.line.Line.TheVariants as line
 
 between-append : (from end : ℕ) (text more : List ℕ) → from ≤ end → end ≤ length text → between from end (text ++ more) ≡ between from end text
 between-append from end text more low high =
@@ -59,6 +63,21 @@ module _ (old labels : spelled.Form) (l : Line) (text more ends text2 ends2 : Li
 
   pub held_after : held labels 0 text2 ends2 ≡ held old 0 text ends ++ line_in labels more ∷ []
   held_after = rw (t, e, long) (pushed labels 0 text more ends was) ∙ ap (λ ls. ls ++ line_in labels more ∷ []) (form_stays old labels text ends l told is lines).1
+
+-- a line that is read breaks no rule, and means what was read, in the form that the lines tell with it
+is_said : (labels : spelled.Form) (text : List ℕ) (l : Line) → line_of labels text ≡ Some l → (line_of labels text ≡ Some (line_in labels text)) × (line_in labels text ≡ l)
+is_said labels text l means = let is : line_in labels text ≡ l = ap (λ o. unwrap_or o line.Skipped) means in (means ∙ ap (λ x. Some x) (sym is), is)
+
+pub right_line : (before : List Line) (l : Line) (text : List ℕ) → LineRight before l (line_fault before text) (line_of (form_told before) text)
+    → IsLine (form_told (before ++ l ∷ [])) text × (line_in (form_told (before ++ l ∷ [])) text ≡ l)
+right_line [] l text right =
+    let v = first_version text (first_faultless text right.faultless) in
+    let is : line.Version v.0 ≡ l = same_Some (line.Version v.0) l (sym (version_said One text v.0 v.1) ∙ right.meant) in
+    let s = is_said (form_by l) text l (version_said (form_by l) text v.0 v.1 ∙ ap (λ x. Some x) is) in
+    (record { said = s.0; before = []; told = λ some. absurd (true≢false some); faultless = right.faultless }, s.1)
+right_line (b ∷ before) l text right =
+    let s = is_said (form_by b) text l right.meant in
+    (record { said = s.0; before = b ∷ before; told = λ some. refl; faultless = right.faultless }, s.1)
 
 -- ---- a line by its number
 pub length-held : (labels : spelled.Form) (from : ℕ) (text ends : List ℕ) → length (held labels from text ends) ≡ length ends

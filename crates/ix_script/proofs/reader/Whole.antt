@@ -4,6 +4,7 @@ use Rattle.std.proofs.lemmas.Bool.{lt-ltb, le-ltb}
 use Rattle.ix_script.specs.texts.Lines.{lines_of}
 use Rattle.ix_script.specs.texts.Cutting.{words_of, is_policy_line}
 use Rattle.ix_script.specs.lines.Rules.{is_too_long, is_unprintable, has_empty_word, has_open_quote}
+use Rattle.ix_script.specs.lines.Said.{version_of}
 use Rattle.ix_script.specs.lines.Faults.{text_fault, words_fault, first_line_fault, body_fault, line_fault, fault_from, fault_of}
 use Rattle.ix_script.specs.scripts.Scripts.{form_in, lines_said, script_of}
 use Rattle.ix_script.specs.reader.Readers.{HasCause}
@@ -19,7 +20,7 @@ unfolding fault_of
 by_lines bytes h = rw (le-ltb 16777216 (length bytes) h) refl
 
 no_byte : fault_of [] ≡ Some (1, 6)
-unfolding fault_of lines_of fault_from line_fault text_fault is_too_long is_unprintable body_fault first_line_fault words_fault words_of has_empty_word has_open_quote is_policy_line
+unfolding fault_of lines_of fault_from line_fault text_fault is_too_long is_unprintable body_fault first_line_fault words_fault words_of has_empty_word has_open_quote is_policy_line version_of
 no_byte = refl
 
 pub no_bytes : (bytes : List ℕ) → bytes ≡ [] → fault_of bytes ≡ Some (1, 6)

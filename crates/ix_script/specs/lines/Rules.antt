@@ -10,7 +10,7 @@ use Rattle.ix_script.specs.texts.Cutting.{is_empty, is_open, word_at}
 use Rattle.ix_script.specs.lines.Kinds.{Place, is_number_of_fd, is_all_or_none}
 use Rattle.ix_script.specs.lines.Kinds as kind
 use Rattle.ix_script.specs.lines.Forms.{own_places, is_header, is_command_form}
-use Rattle.ix_script.specs.lines.Before.{is_known, fss_told, fss_of, whats_told, what_text, limits_of, proc_names, dir_spec, file_spec, objects_of, has_policy, group, in_body, lane_now, phase_lanes, lanes_of, is_command, commands, knows_fd, knows_proc}
+use Rattle.ix_script.specs.lines.Before.{form_told, is_known, fss_told, fss_of, whats_told, what_text, limits_of, proc_names, dir_spec, file_spec, objects_of, has_policy, group, in_body, lane_now, phase_lanes, lanes_of, is_command, commands, knows_fd, knows_proc}
 use Rattle.ix_script.specs.declared.cutting.form.Form.{Form}
 use Rattle.ix_script.specs.declared.cutting.form.Form.TheVariants as form
 use Rattle.ix_script.specs.declared.line.Line.{Line}
@@ -69,7 +69,7 @@ is_unknown before (kind.Keep, word) = not (is_all_or_none word) && not (is_numbe
 is_unknown before _ = false
 
 abbrev pub names_unknown : List Line → Form → List (List ℕ) → Bool
-names_unknown before f words = list_any (is_unknown before) (own_places f words)
+names_unknown before f words = list_any (is_unknown before) (own_places (form_told before) f words)
 
 -- ---- 22 to 26, and 28: what fits
 -- a label is not below its ceiling

@@ -46,8 +46,11 @@ pub(crate) fn is_command(line: &Line<'_>) -> bool
     ensures { result ≡ is_command line.now }
 {
     match line {
-        Line::Skipped | Line::Version { .. } | Line::Limit { .. } | Line::Fs { .. } | Line::Proc { .. } =>
-            false,
+        Line::Skipped
+        | Line::Version { .. }
+        | Line::Limit { .. }
+        | Line::Fs { .. }
+        | Line::Proc { .. } => false,
         Line::Dir { .. }
         | Line::File { .. }
         | Line::Policy { .. }

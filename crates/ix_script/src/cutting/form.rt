@@ -1,5 +1,5 @@
 ghost use Rattle.std.specs.Prelude.{◌≡◌, ℕ, ◌≤◌, List, length};
-ghost use Rattle.ix_script.specs.lines.Forms.{kinds, tail_of, is_header, is_command_form, has_right_count};
+ghost use Rattle.ix_script.specs.lines.Forms.{arity, tail_of, is_header, is_command_form, has_right_count};
 
 use crate::cutting::cut::Words;
 use crate::cutting::words::is;
@@ -100,7 +100,7 @@ impl Form {
 
     /// How many words stand after the first.
     fn count(self) -> usize
-        ensures count { (words : List (List ℕ)) → result ≡ length (kinds self words) }
+        ensures count { (words : List (List ℕ)) → result ≡ arity self words }
         ensures few { result ≤ 6 }
     {
         match self {

@@ -57,7 +57,10 @@ pub(crate) fn proc<'a>(labels: Form, words: &Words<'a>) -> Result<Line<'a>, Rule
 pub(crate) fn dir<'a>(labels: Form, words: &Words<'a>) -> Result<Line<'a>, Rule>
     ensures { Reads (λ x. x) result (places labels form.Dir words.now) (said labels form.Dir words.now) }
 {
-    let (path, (label, frozen)) = both(words.made_path(1), both(words.label(labels, 2), words.state(3)))?;
+    let (path, (label, frozen)) = both(
+        words.made_path(1),
+        both(words.label(labels, 2), words.state(3)),
+    )?;
     Ok(Line::Dir {
         path,
         label,

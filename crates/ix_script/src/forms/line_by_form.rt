@@ -14,7 +14,11 @@ use ix_label::Form as LabelForm;
 
 /// What a line of that form says, whose labels are spelled so, by rules 11 to 19: those that a word can break by itself.
 #[tactic(auto, unfolding(crate::specs::lines::Kinds::places_fault, crate::specs::lines::Kinds::first_broken))]
-pub(crate) fn line_by_form<'a>(labels: LabelForm, form: Form, words: &Words<'a>) -> Result<Line<'a>, Rule>
+pub(crate) fn line_by_form<'a>(
+    labels: LabelForm,
+    form: Form,
+    words: &Words<'a>,
+) -> Result<Line<'a>, Rule>
     ensures { Reads (λ x. x) result (places labels form words.now) (said labels form words.now) }
 {
     match form {

@@ -1,4 +1,4 @@
-use Rattle.std.proofs.Common.{sym, ap, ◌∙◌}
+use Rattle.std.proofs.Common.{sym, ◌∙◌}
 use Rattle.ix_script.proofs.lines.Deciding.{first_right}
 use Rattle.ix_script.proofs.rules.first_line.Goals as goal
 

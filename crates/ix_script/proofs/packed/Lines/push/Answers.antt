@@ -20,19 +20,19 @@ overflow_add-self c =
 pub invariant_of-self-2 : goal.invariant_of-self-2
 invariant_of-self-2 c =
     let old : Form = c.self.inside.form in
-    let form : Form = c.form_with.result in
+    let form : Form = c.form_with-form.result in
     let line : Line = c.args.line.now in
     let text : List ℕ = c.self.inside.text.items in
     let ends : List ℕ = c.self.inside.ends.items in
     let long : c.in-Ok.end ≡ length text + length c.args.text.now = omega (arith, c.in-Ok.ensures, ap length c.as_slice.ensures.value) in
-    let is : form ≡ form_told (held old 0 text ends ++ line ∷ []) = c.form_with.ensures ∙ ap (λ (ls : List Line). form_told (ls ++ line ∷ [])) (sym c.self.view_is) in
-    let said : line_in form c.args.text.now ≡ line = ap (λ (f : Form). line_in f c.args.text.now) c.form_with.ensures ∙ c.requires.said in
+    let is : form ≡ form_told (held old 0 text ends ++ line ∷ []) = c.form_with-form.ensures ∙ ap (λ (ls : List Line). form_told (ls ++ line ∷ [])) (sym c.self.view_is) in
+    let said : line_in form c.args.text.now ≡ line = ap (λ (f : Form). line_in f c.args.text.now) c.form_with-form.ensures ∙ c.requires.said in
     let more : held form 0 c.extend_from_slice.new.self.items c.push.new.self.items ≡ held old 0 text ends ++ line ∷ [] =
     held_after old form line text c.args.text.now ends c.extend_from_slice.new.self.items c.push.new.self.items c.in-Ok.end c.in-Ok-extend_from_slice.ensures.items c.in-Ok-push.ensures.items long c.self.invariant.2 is c.self.invariant.0
     ∙ ap (λ (l : Line). held old 0 text ends ++ l ∷ []) said in
     let role : c.push-2.new.self.items ≡ c.self.inside.roles.items ++ role_of line ∷ [] = rw (c.in-Ok-push-2.ensures.items, c.role_of.ensures) refl in (
       lines_after old form line text c.args.text.now ends c.extend_from_slice.new.self.items c.push.new.self.items c.in-Ok.end c.in-Ok-extend_from_slice.ensures.items c.in-Ok-push.ensures.items long c.self.invariant.2 is c.self.invariant.0
-          (subst (λ (f : Form). IsLine f c.args.text.now) (sym c.form_with.ensures) c.requires.faultless),
+          (subst (λ (f : Form). IsLine f c.args.text.now) (sym c.form_with-form.ensures) c.requires.faultless),
       summed_after (held old 0 text ends) _ line c.self.inside.roles.items _ c.self.inside.need _ more role (ap (λ (n : ℕ). c.self.inside.need + n) c.cost_of_line.ensures) c.self.invariant.1,
       is ∙ ap form_told (sym more),
     )
@@ -40,12 +40,12 @@ invariant_of-self-2 c =
 pub returns : goal.returns
 returns c =
     let old : Form = c.self.inside.form in
-    let form : Form = c.form_with.result in
+    let form : Form = c.form_with-form.result in
     let line : Line = c.args.line.now in
     let text : List ℕ = c.self.inside.text.items in
     let ends : List ℕ = c.self.inside.ends.items in
     let long : c.in-Ok.end ≡ length text + length c.args.text.now = omega (arith, c.in-Ok.ensures, ap length c.as_slice.ensures.value) in
-    let is : form ≡ form_told (held old 0 text ends ++ line ∷ []) = c.form_with.ensures ∙ ap (λ (ls : List Line). form_told (ls ++ line ∷ [])) (sym c.self.view_is) in
-    let said : line_in form c.args.text.now ≡ line = ap (λ (f : Form). line_in f c.args.text.now) c.form_with.ensures ∙ c.requires.said in
+    let is : form ≡ form_told (held old 0 text ends ++ line ∷ []) = c.form_with-form.ensures ∙ ap (λ (ls : List Line). form_told (ls ++ line ∷ [])) (sym c.self.view_is) in
+    let said : line_in form c.args.text.now ≡ line = ap (λ (f : Form). line_in f c.args.text.now) c.form_with-form.ensures ∙ c.requires.said in
     held_after old form line text c.args.text.now ends c.extend_from_slice.new.self.items c.push.new.self.items c.in-Ok.end c.in-Ok-extend_from_slice.ensures.items c.in-Ok-push.ensures.items long c.self.invariant.2 is c.self.invariant.0
     ∙ (λ i. c.self.view_is i ++ said i ∷ [])

@@ -1,4 +1,4 @@
-use Rattle.std.proofs.Common.{◌≡◌, Some, sym, ap, ◌∙◌}
+use Rattle.std.proofs.Common.{sym, ap, ◌∙◌}
 use Rattle.ix_label.specs.declared.form.Form.{Form}
 use Rattle.ix_script.specs.lines.Before.{form_told}
 use Rattle.ix_script.specs.lines.Said.{line_of}
