@@ -86,7 +86,6 @@ impl Core {
     ///
     /// What a process at or below a label is told is the same in each run whose history agrees with the core's own at that
     /// label, from the config's opening world or one alike to it, as long as no entry lets something down across the label.
-    #[tactic(auto, using(ix_iso::proofs::Hiding::hides))]
     pub fn step<L: Ledger>(
         &mut self,
         seat: u32,
