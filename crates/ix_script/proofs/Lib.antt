@@ -1,4 +1,4 @@
 mod reader
 pub mod texts
-mod lines
+pub mod lines
 pub mod back
