@@ -52,8 +52,8 @@ fn push_line(
     }
 }
 
-/// Appends the line of an entry that a core has just made, in the form of the script: the line of the script that it comes from, the calling process, the
-/// seat, the call, the reply, and the bytes that were read.
+/// Appends the line of an entry that a core has just made, in the form of the script: the line of the script that it comes
+/// from, the calling process, the seat, the call, the reply, and the bytes that were read.
 pub fn push_entry(
     out: &mut Vec<u8>,
     script: &Script,
