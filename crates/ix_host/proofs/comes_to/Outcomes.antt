@@ -4,7 +4,7 @@ use Rattle.std.specs.Option.{option_map, option_or}
 use Rattle.ix_model.specs.history.Events.{Event}
 use Rattle.ix_script.specs.lines.Faults.{fault_of}
 use Rattle.ix_script.specs.texts.Lines.{lines_of}
-use Rattle.ix_script.specs.scripts.Scripts.{script_of, lines_said}
+use Rattle.ix_script.specs.scripts.Scripts.{form_in, script_of, lines_said}
 use Rattle.ix_script.specs.declared.line.Line.{Line}
 use Rattle.ix_host.specs.declared.asked.command.Command.{Command}
 use Rattle.ix_host.specs.declared.asked.command.Command.TheVariants as command
@@ -51,7 +51,7 @@ no_fault (Some f) p s h = cc
 
 without_fault : (bytes : List ℕ) (s : List Line) → script_of bytes ≡ Some s → fault_of bytes ≡ None
 unfolding script_of
-without_fault bytes s h = (no_fault (fault_of bytes) (lines_said (lines_of bytes)) s h).0
+without_fault bytes s h = (no_fault (fault_of bytes) (lines_said (form_in (lines_of bytes)) (lines_of bytes)) s h).0
 
 pub in_script : (bytes : List ℕ) (s : List Line) → script_of bytes ≡ Some s → s ≡ script_in bytes
 in_script bytes s is = ap (λ (o : Option (List Line)). unwrap_or o []) (sym is)
