@@ -1,9 +1,8 @@
 -- Each text of the generator has no fault.
-use Rattle.std.proofs.Common.{◌≡◌, ℕ, zero, suc, ◌+◌, ◌*◌, ◌≤◌, ◌==◌, true, not, List, [], ◌∷◌, ◌++◌, length, None, refl, ap, ◌∙◌, arith, append_assoc}
+use Rattle.std.proofs.Common.{◌≡◌, ℕ, zero, suc, ◌+◌, ◌≤◌, ◌==◌, true, not, List, [], ◌∷◌, ◌++◌, length, None, refl, ap, ◌∙◌, arith, append_assoc}
 use Rattle.std.specs.Prelude.{codes}
 use Rattle.std.specs.List.{list_all, flat_map, range_with_len}
 use Rattle.std.proofs.lemmas.Bool.{not-true, le-ltb}
-use Rattle.std.proofs.lemmas.List.{length-append}
 use Rattle.ix_label.specs.declared.form.Form.TheVariants.{One}
 use Rattle.ix_label.specs.Laws.{SpelledOrFaulty}
 use Rattle.ix_script.specs.texts.Lines.{cut, lines_of}

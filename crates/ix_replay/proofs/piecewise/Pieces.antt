@@ -1,21 +1,15 @@
 -- One piece more of what closes a report.
-use Rattle.std.proofs.Common.{◌≡◌, ℕ, suc, ◌+◌, ◌-◌, ◌<◌, ◌≤◌, List, [], ◌∷◌, ◌++◌, length, drop, Some, None, refl, sym, ap, ◌∙◌, arith, slice_get, append_assoc, length-append}
+use Rattle.std.proofs.Common.{◌≡◌, ℕ, suc, ◌+◌, ◌-◌, ◌<◌, ◌≤◌, List, [], ◌++◌, length, drop, Some, None, refl, sym, ap, ◌∙◌, arith, slice_get, append_assoc}
 use Rattle.std.specs.Prelude.{codes}
 use Rattle.std.specs.List.{flat_map}
-use Rattle.std.proofs.lemmas.List.{drop_all, append-nil}
+use Rattle.std.proofs.lemmas.List.{append-nil}
 use Rattle.std.proofs.lemmas.Option.{slice_get_within}
-use Rattle.ix_model.specs.history.Cost.{cost_of, cost_of_history}
-use Rattle.ix_model.specs.history.Events.{Event}
-use Rattle.ix_model.specs.history.History.{History, world_of, with_entry, next}
-use Rattle.ix_model.proofs.words.Runs.{world_of-push}
-use Rattle.ix_script.specs.lines.Before.{lanes_of}
-use Rattle.ix_report.specs.LineText.{head_line, audit_line, tail_line}
-use Rattle.ix_replay.specs.report.Report.{entries_text, entry_text, object_text, process_text, texts_from, objects_text, processes_text, closing_text}
+use Rattle.ix_report.specs.LineText.{audit_line, tail_line}
+use Rattle.ix_replay.specs.report.Report.{object_text, process_text, texts_from, objects_text, processes_text, closing_text}
 use Rattle.ix_replay.specs.report.Telling.{Tells, left_of, objects_left, processes_left, log_left, last_world, pieces_of}
 use Rattle.ix_replay.specs.declared.telling.closing.Next.TheVariants as stage
 use Rattle.ix_replay.specs.declared.telling.closing.Closing.{Closing}
 use Rattle.ix_model.specs.declared.audit.AuditLine.{AuditLine}
-use Rattle.ix_lanes.proofs.serially.Costs.{cost-cons, cost-push}
 use Rattle.ix_lanes.proofs.found.Indexed.{rest_is, none_left}
 
 -- one text more was written of those that are left

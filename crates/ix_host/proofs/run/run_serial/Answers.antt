@@ -1,14 +1,12 @@
-use Rattle.std.proofs.Common.{◌≡◌, ◌∙◌, refl, subst, sym, ap, List, ℕ}
+use Rattle.std.proofs.Common.{◌≡◌, ◌∙◌, refl, subst, sym, ap}
 use Rattle.ix_lanes.specs.histories.Serial.{serial}
-use Rattle.ix_model.specs.history.Events.{Event}
 use Rattle.ix_host.specs.Hiding.{TakesHidingReport}
 use Rattle.ix_host.specs.command.Command.{IsCounted, command_of, usage_line}
-use Rattle.ix_host.specs.declared.status.Status.TheVariants as status
 use Rattle.ix_host.specs.declared.task.Task.TheVariants as task
 use Rattle.ix_host.specs.run.Outcome.{input_of, outcome_of, reads_source, script_in, text_of}
 use Rattle.ix_host.specs.run.Run.{WritesFor}
 use Rattle.ix_host.specs.run.Tasks.{text_told}
-use Rattle.ix_host.proofs.comes_to.Verdicts.{Verdict, answer_read, at_serial, memory_written, told_read, told_read_out, verdict_ended, verdict_told}
+use Rattle.ix_host.proofs.comes_to.Verdicts.{Verdict, answer_read, at_serial, told_read, told_read_out, verdict_ended, verdict_told}
 use Rattle.ix_host.proofs.words_in.Counts.{command_counted}
 use Rattle.std.specs.Prelude.{IfSome}
 use Rattle.ix_host.proofs.run.run_serial.Goals as goal
