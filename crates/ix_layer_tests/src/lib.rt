@@ -1,4 +1,4 @@
-//! Tests of the layers under the calls and of the gate, each by itself.
+//! Tests of the layers under the calls, of the gate and of the kernel, each by itself.
 #![tactic(auto)]
 
 #[cfg(test)]
@@ -13,6 +13,8 @@ mod gates;
 mod inodes;
 #[cfg(test)]
 mod journals;
+#[cfg(test)]
+mod kernels;
 #[cfg(test)]
 mod labels;
 #[cfg(test)]

@@ -22,7 +22,7 @@ fn config_of(alloc: Global, text: &[u8], journal: u64) -> Option<Config> {
 }
 
 /// A core of the config of a script, but with this journal.
-pub fn boot(alloc: Global, text: &[u8], journal: u64) -> Option<Core>
+fn boot(alloc: Global, text: &[u8], journal: u64) -> Option<Core>
     ensures { IfSome result (λ c. c.events ≡ []) }
 {
     let config = config_of(alloc, text, journal)?;
@@ -34,7 +34,7 @@ pub fn boot(alloc: Global, text: &[u8], journal: u64) -> Option<Core>
 }
 
 /// The path of a name of one letter in the root.
-pub fn path(letter: u8) -> Path {
+fn path(letter: u8) -> Path {
     let mut path = Path::new(true);
     if let Some(name) = Name::read(&[letter]) {
         path.push(name);

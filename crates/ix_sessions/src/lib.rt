@@ -6,8 +6,6 @@ mod cores;
 #[cfg(test)]
 mod gens;
 #[cfg(test)]
-mod kernels;
-#[cfg(test)]
 mod programs;
 #[cfg(test)]
 mod reports;

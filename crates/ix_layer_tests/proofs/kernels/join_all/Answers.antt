@@ -6,7 +6,7 @@ use Rattle.ix_model.specs.history.Events.{Event}
 use Rattle.ix_gate.specs.Seat.{StandsFor}
 use Rattle.ix_kernel.specs.Seen.{KSeatState, own}
 use Rattle.ix_gate.proofs.Joining.{still_stands, stands_too}
-use Rattle.ix_sessions.proofs.kernels.join_all.Goals as goal
+use Rattle.ix_layer_tests.proofs.kernels.join_all.Goals as goal
 
 pub loop-other-init : goal.loop-other-init
 loop-other-init c =

@@ -2,7 +2,7 @@ use Rattle.std.proofs.Common.{◌≡◌, List, ◌++◌}
 use Rattle.std.specs.Prelude.{All}
 use Rattle.ix_gate.specs.Seat.{StandsFor}
 use Rattle.ix_kernel.specs.Seen.{KSeatState}
-use Rattle.ix_sessions.proofs.kernels.join_all.Given as goal
+use Rattle.ix_layer_tests.proofs.kernels.join_all.Given as goal
 
 abbrev pub invariant-loop-other : goal.invariant-loop-other
 invariant-loop-other l =
