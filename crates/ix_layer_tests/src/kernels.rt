@@ -6,8 +6,8 @@ use ix_core::Core;
 use ix_kernel::{KSeat, Kernel};
 use ix_label::Label;
 use ix_model::{
-    Answer, Call, Config, Entry, FsSpec, Limits, List, Name, Path, Pid, PrivSet, ProcSpec, Refusal,
-    Reply,
+    Answer, Call, Config, Entry, FsSpec, Limits, List, Name, NoMemory, Path, Pid, PrivSet,
+    ProcSpec, Refusal, Reply,
 };
 use std::alloc::Global;
 use std::process::Abort;
@@ -79,8 +79,8 @@ fn path(letter: u8) -> Path {
     path
 }
 
-/// How many calls a seat makes on its thread, before the seats meet and once more afterwards.
-const CALLS: u32 = 4;
+/// How many calls each seat makes.
+const CALLS: u32 = 8;
 
 /// What a call that makes a file costs.
 const COST: u64 = 130;
@@ -104,7 +104,7 @@ fn made(answer: &Answer) -> Option<u64> {
 /// The call that a seat makes at a line: all seats try to make the same files, in one order.
 fn create(line: u32) -> Call<'static> {
     Call::CreateAt {
-        path: path(b'a' + (line % (2 * CALLS)) as u8),
+        path: path(b'a' + (line % CALLS) as u8),
     }
 }
 
@@ -131,29 +131,27 @@ fn make_call<R: Wait>(
     );
 }
 
-/// Makes the calls of a seat from a line on, one after the other.
+/// Makes the calls of a seat, one after the other, whose lines are 0, 1, 2 and so on.
 fn make_calls<R: Wait>(
     rt: &R,
     kernel: &Kernel,
     seat: &mut KSeat,
     number: usize,
-    first: u32,
     told: &Mutex<Vec<Told>>,
 )
     requires { seat.old.gate ≡ kernel.now.id }
     ensures { (seat.new.gate ≡ seat.old.gate) × (seat.new.number ≡ seat.old.number) }
 {
-    for call in 0..CALLS {
-        make_call(rt, kernel, seat, number, first.saturating_add(call), told);
+    for line in 0..CALLS {
+        make_call(rt, kernel, seat, number, line, told);
     }
 }
 
-/// All seats make their calls from a line on, each on a thread of its own.
+/// All seats make their calls, each on a thread of its own.
 fn call_all<R: Threads + Wait + Sync>(
     rt: &R,
     kernel: &Kernel,
     seats: &mut [KSeat],
-    first: u32,
     told: &Mutex<Vec<Told>>,
 )
     requires { All (λ s. s.gate ≡ kernel.now.id) seats.old }
@@ -164,54 +162,11 @@ fn call_all<R: Threads + Wait + Sync>(
         rt,
         seats,
         64,
-        &|i, seat| make_calls(rt, kernel, seat, i, first, told),
+        &|i, seat| make_calls(rt, kernel, seat, i, told),
     );
 }
 
-/// A seat meets each of these, and each of these meets it.
-fn meet_each(kernel: &Kernel, seat: &mut KSeat, others: &mut [KSeat])
-    requires seat { seat.old.gate ≡ kernel.now.id }
-    requires others { All (λ s. s.gate ≡ kernel.now.id) others.old }
-    ensures seat { (seat.new.gate ≡ seat.old.gate) × (seat.new.number ≡ seat.old.number) }
-    ensures ready { All (λ s. s.gate ≡ kernel.now.id) others.new }
-    ensures numbers { map (λ s. s.number) others.new ≡ map (λ s. s.number) others.old }
-{
-    if let Some((other, rest)) = others.split_first_mut() {
-        seat.meet(kernel, other);
-        other.meet(kernel, seat);
-        meet_each(kernel, seat, rest);
-    }
-}
-
-/// Each of these seats meets each other.
-fn meet_all(kernel: &Kernel, seats: &mut [KSeat])
-    requires { All (λ s. s.gate ≡ kernel.now.id) seats.old }
-    ensures ready { All (λ s. s.gate ≡ kernel.now.id) seats.new }
-    ensures numbers { map (λ s. s.number) seats.new ≡ map (λ s. s.number) seats.old }
-{
-    if let Some((first, rest)) = seats.split_first_mut() {
-        meet_each(kernel, first, rest);
-        meet_all(kernel, rest);
-    }
-}
-
-/// All seats make their calls side by side, meet, and make as many once more.
-fn call_twice<R: Threads + Wait + Sync>(
-    rt: &R,
-    kernel: &Kernel,
-    seats: &mut [KSeat],
-    told: &Mutex<Vec<Told>>,
-)
-    requires { All (λ s. s.gate ≡ kernel.now.id) seats.old }
-    ensures ready { All (λ s. s.gate ≡ kernel.now.id) seats.new }
-    ensures numbers { map (λ s. s.number) seats.new ≡ map (λ s. s.number) seats.old }
-{
-    call_all(rt, kernel, seats, 0, told);
-    meet_all(kernel, seats);
-    call_all(rt, kernel, seats, CALLS, told);
-}
-
-/// All seats are joined into the first one; `None` where there is none.
+/// All seats meet the first one, and are joined into it; `None` where there is none.
 fn join_all(kernel: &Kernel, seats: Vec<KSeat>) -> Option<KSeat>
     requires ready { All (λ s. s.gate ≡ kernel.now.id) seats.items }
     ensures ready { IfSome result (λ r. r.gate ≡ kernel.now.id) }
@@ -220,13 +175,14 @@ fn join_all(kernel: &Kernel, seats: Vec<KSeat>) -> Option<KSeat>
 {
     let mut rest = seats.into_iter();
     let mut first = rest.next()?;
-    for other in rest {
+    for mut other in rest {
+        first.meet(kernel, &mut other);
         first.join(kernel, other);
     }
     Some(first)
 }
 
-/// All seats make their calls, meeting in between. Then they are joined, and the kernel is closed.
+/// All seats make their calls side by side. Then they are joined, and the kernel is closed.
 fn run_all<R: Threads + Wait + Sync>(
     rt: &R,
     kernel: Kernel,
@@ -237,7 +193,7 @@ fn run_all<R: Threads + Wait + Sync>(
     requires all { (n : ℕ) → n < kernel.seats → Contains (map (λ s. s.number) seats.items) n }
     requires some { 0 < length seats.items }
 {
-    call_twice(rt, &kernel, seats.as_mut_slice(), told);
+    call_all(rt, &kernel, seats.as_mut_slice(), told);
     match join_all(&kernel, seats) {
         Some(first) => kernel.close(first),
         None => unreachable!(),
@@ -248,23 +204,22 @@ fn run_all<R: Threads + Wait + Sync>(
 fn boot_for(alloc: Global, seats: u32) -> Option<Core>
     ensures { IfSome result (λ c. c.events ≡ []) }
 {
-    boot(alloc, u64::from(seats) * u64::from(2 * CALLS) * COST)
+    boot(alloc, u64::from(seats) * u64::from(CALLS) * COST)
 }
 
-/// The core that is left when so many seats have made their calls.
+/// The core that is left when so many seats of a new kernel have made their calls.
 fn run_seats<R: Threads + Wait + Sync>(
     rt: &R,
     alloc: Global,
+    core: Core,
     count: u32,
     told: &Mutex<Vec<Told>>,
-) -> Option<Core>
-    requires { (0 < count) × (count ≤ 64) }
+) -> Result<Core, NoMemory>
+    requires empty { core.events ≡ [] }
+    requires count { (0 < count) × (count ≤ 64) }
 {
-    let core = boot_for(alloc, count)?;
-    match Kernel::new(alloc, core, count) {
-        Ok((kernel, seats)) => Some(run_all(rt, kernel, seats, told)),
-        Err(_) => None,
-    }
+    let (kernel, seats) = Kernel::new(alloc, core, count)?;
+    Ok(run_all(rt, kernel, seats, told))
 }
 
 /// Whether the entries of a seat are its calls, once and in order.
@@ -281,7 +236,7 @@ fn has_calls_of(core: &Core, seat: u32) -> bool {
             line = line.saturating_add(1);
         }
     }
-    line == 2 * CALLS
+    line == CALLS
 }
 
 /// The number of the file that the core makes in answer to an entry of another's history.
@@ -312,7 +267,7 @@ fn replays(core: &Core, again: &mut Core, told: &[Told]) -> bool {
 /// Whether the history has all calls of so many seats, with what each was told, and each file was made by one of them.
 fn accounts_for(core: &Core, again: &mut Core, told: &[Told], seats: u32) -> bool {
     let made = told.iter().filter(|told| told.made.is_some()).count();
-    made == 2 * CALLS as usize
+    made == CALLS as usize
         && (0..seats).all(|seat| has_calls_of(core, seat))
         && replays(core, again, told)
 }
@@ -325,13 +280,24 @@ fn is_accounted_for(alloc: Global, core: &Core, told: &[Told], seats: u32) -> bo
     }
 }
 
-/// Whether so many seats shared one core.
+/// Whether so many seats share this core.
+fn share_core<R: Threads + Wait + Sync>(rt: &R, alloc: Global, core: Core, count: u32) -> bool
+    requires empty { core.events ≡ [] }
+    requires count { (0 < count) × (count ≤ 64) }
+{
+    let told = Mutex::new(Vec::new(alloc));
+    match run_seats(rt, alloc, core, count, &told) {
+        Ok(core) => is_accounted_for(alloc, &core, told.into_inner().as_slice(), count),
+        Err(_) => false,
+    }
+}
+
+/// Whether so many seats share a new core.
 fn share<R: Threads + Wait + Sync>(rt: &R, alloc: Global, count: u32) -> bool
     requires { (0 < count) × (count ≤ 64) }
 {
-    let told = Mutex::new(Vec::new(alloc));
-    match run_seats(rt, alloc, count, &told) {
-        Some(core) => is_accounted_for(alloc, &core, told.into_inner().as_slice(), count),
+    match boot_for(alloc, count) {
+        Some(core) => share_core(rt, alloc, core, count),
         None => false,
     }
 }
@@ -343,7 +309,7 @@ fn no_seat_answers_from_a_copy(rt: HostRuntime) {
     }
 }
 
-/// What two seats of a kernel are told that make the same file, the first without waiting.
+/// What two seats of a kernel are told that make the same file: the first without waiting, the second once it has met the first.
 fn make_twice<R: Wait>(
     rt: &R,
     kernel: &Kernel,
@@ -358,6 +324,7 @@ fn make_twice<R: Wait>(
         Ok(answer) => made(&answer),
         Err(_) => None,
     };
+    second.meet(kernel, first);
     (
         number,
         second.call(rt, kernel, 2, Pid(1), &create(1), &mut buf),

@@ -27,20 +27,21 @@ loop-other-preserved c =
     let step = c.in-Some.ensures.steps.0 in
     let Here : KSeatState → Type 0 = λ s. s.gate ≡ c.args.kernel.now.id in
     let here : All Here (c.in-Some.other ∷ c.next-in-loop-other.new.self.rest.items) = subst (All Here) step inv.3 in
-    let ended : List (ℕ × List Event) = (c.in-Some.other.number, own c.in-Some.other) ∷ c.in-Some.other.ended in
-    let number : c.join.new.self.number ≡ c.loop-other.first.number = ap (λ (k : KSeatState). k.number) c.join.ensures.seat in
-    let more : c.join.new.self.ended ≡ c.loop-other.first.ended ++ ended = ap (λ (k : KSeatState). k.ended) c.join.ensures.seat in
-    let too : StandsFor c.join.new.self c.in-Some.other.number = stands_too c.loop-other.first c.join.new.self ended number more c.in-Some.other.number (own c.in-Some.other) (0, omega arith, refl) in (
+    let ended : List (ℕ × List Event) = (c.meet.new.other.number, own c.meet.new.other) ∷ c.meet.new.other.ended in
+    let number : c.join.new.self.number ≡ c.loop-other.first.number = ap (λ (k : KSeatState). k.number) c.join.ensures.seat ∙ ap (λ (k : KSeatState). k.number) c.meet.ensures.seat in
+    let more : c.join.new.self.ended ≡ c.loop-other.first.ended ++ ended = ap (λ (k : KSeatState). k.ended) c.join.ensures.seat ∙ ap (λ (k : KSeatState). k.ended ++ ended) c.meet.ensures.seat in
+    let other : c.meet.new.other.number ≡ c.in-Some.other.number = ap (λ (k : KSeatState). k.number) c.meet.ensures.other in
+    let too : StandsFor c.join.new.self c.meet.new.other.number = stands_too c.loop-other.first c.join.new.self ended number more c.meet.new.other.number (own c.meet.new.other) (0, omega arith, refl) in (
       tt,
       tt,
-      ap (λ (k : KSeatState). k.gate) c.join.ensures.seat ∙ inv.2,
+      ap (λ (k : KSeatState). k.gate) c.join.ensures.seat ∙ ap (λ (k : KSeatState). k.gate) c.meet.ensures.seat ∙ inv.2,
       All-tail Here _ _ here,
       (
         inv.4.0 ++ c.in-Some.other ∷ [],
         inv.4.1 ∙ ap (λ l. inv.4.0 ++ l) step ∙ sym (append_assoc inv.4.0 (c.in-Some.other ∷ []) c.next-in-loop-other.new.self.rest.items),
         All-push (λ s. StandsFor c.join.new.self s.number) inv.4.0 c.in-Some.other
             (All-weaker (λ s. StandsFor c.loop-other.first s.number) (λ s. StandsFor c.join.new.self s.number) (λ s. still_stands c.loop-other.first c.join.new.self ended number more s.number) inv.4.0 inv.4.2)
-            too,
+            (subst (StandsFor c.join.new.self) other too),
       ),
     )
 
