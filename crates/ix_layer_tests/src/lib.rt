@@ -1,4 +1,4 @@
-//! Tests of the layers under the calls, of the gate and of the kernel, each by itself.
+//! Tests of the layers under the calls, of the gate, of the kernel and of policies, each by itself.
 #![tactic(auto)]
 
 #[cfg(test)]
@@ -31,6 +31,8 @@ mod numbers;
 mod opens;
 #[cfg(test)]
 mod pipes;
+#[cfg(test)]
+mod policies;
 #[cfg(test)]
 mod procs;
 #[cfg(test)]

@@ -1,11 +1,9 @@
-pub mod Names
 pub mod Digits
 pub mod Pieces
 pub mod Feeds
 pub mod Joined
 pub mod Spelling
 pub mod Decoding
-pub mod AllLabels
 pub mod Cuts
 pub mod Words
 pub mod Made

@@ -1,6 +1,5 @@
 pub mod Lines
 pub mod Cutting
-pub mod Labels
 pub mod Words
 pub mod Payloads
 pub mod Spellings

@@ -14,12 +14,13 @@ use crate::before::draft::Draft;
 use crate::cutting::cut::Words;
 use crate::cutting::first_word::form_of;
 use crate::cutting::form::Form;
-use crate::cutting::words::{begins_with_text, is};
+use crate::cutting::words::begins_with_text;
 use crate::forms::line_by_form::line_by_form;
 use crate::line::Line;
 use crate::rule::Rule;
 use crate::values::policy::PolicyText;
 use ix_label::{Form as LabelForm, Steps};
+use ix_text::is;
 use std::sync::ledger::Ledger;
 
 fn all_printable(text: &[u8]) -> bool

@@ -1,2 +1,6 @@
 pub mod Further
 pub mod Items
+pub mod Tests
+pub mod ScriptNames
+pub mod Letters
+pub mod AllLabels

@@ -2,12 +2,26 @@ ghost use Rattle.std.specs.Prelude.{◌≡◌, ◌+◌, ◌<◌, ◌++◌, ◌�
 ghost use Rattle.std.specs.Fmt.{decimal};
 ghost use Rattle.ix_label.specs.Spelling.{spelling, item, items, runs};
 ghost use Rattle.ix_text.specs.Items.{separator};
+ghost use Rattle.ix_text.specs.Labels.{label_in};
 
 use itoa::Buffer;
 use ix_label::{Form, Label, Steps};
 use ix_model::NoMemory;
 use std::marker::Brand;
 use std::sync::ledger::{Blank, Ledger};
+
+/// The label that the word spells in the form; `None` exactly where it spells none.
+pub fn label_in(form: Form, word: &[u8]) -> Option<Label>
+    ensures { result ≡ label_in form word.now }
+{
+    match Label::read(form, word) {
+        Ok(label) => {
+            label.is_label();
+            Some(label)
+        }
+        Err(_) => None,
+    }
+}
 
 /// Writes a label at the end, in its one spelling of the form. No looks at labels are counted.
 /// In form One that of a narrow label alone can be read again.

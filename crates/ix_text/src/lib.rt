@@ -1,8 +1,14 @@
-//! How values are spelled: labels, sets of privileges, modes, states and bytes, in scripts and in reports alike.
+//! How values are spelled, in scripts, policies and reports alike, and which name, label or set of privileges a word is.
 #![tactic(auto)]
 
+mod bytes;
 mod labels;
+mod names;
+mod privs;
 mod spelling;
 
-pub use labels::push_label;
+pub use bytes::{begins, is, is_digit};
+pub use labels::{label_in, push_label};
+pub use names::{is_script_name, name_of};
+pub use privs::privs_of;
 pub use spelling::{hex_pair, mode_word, privs_text, state_word};

@@ -3,7 +3,8 @@ use Rattle.std.proofs.Common.{◌≡◌, ℕ, ◌+◌, ◌==◌, not, Bool, true
 use Rattle.std.specs.List.{list_all, list_any}
 use Rattle.std.specs.Option.{option_or, option_map_or}
 use Rattle.std.proofs.lemmas.Bool.{and_parts, not-true}
-use Rattle.ix_script.specs.texts.Cutting.{is_empty, words_of, word_at, is_skipped, is_policy_line, policy_text}
+use Rattle.ix_script.specs.texts.Cutting.{words_of, word_at, is_skipped, is_policy_line, policy_text}
+use Rattle.ix_text.specs.Bytes.{is_empty}
 use Rattle.ix_script.specs.lines.Kinds.{Kind, Place, place_rules, first_broken, places_fault}
 use Rattle.ix_script.specs.lines.Forms.{form_of, places, has_right_count}
 use Rattle.ix_script.specs.lines.Before.{form_told, has_policy, in_body}

@@ -8,7 +8,7 @@ use Rattle.std.proofs.lemmas.List.Sums.{fold-append, sum_by-append}
 use Rattle.std.proofs.lemmas.Grind.{flat_map-append}
 use Rattle.ix_model.specs.declared.call.Mode.TheVariants as mode
 use Rattle.ix_label.specs.declared.form.Form.{Form}
-use Rattle.ix_script.specs.texts.Cutting.{is_empty}
+use Rattle.ix_text.specs.Bytes.{is_empty}
 use Rattle.ix_script.specs.texts.Words.{path_from}
 use Rattle.ix_script.specs.lines.Before.{proc_name_told, proc_names, lane_after, lane_now, is_command, commands}
 use Rattle.ix_script.specs.lines.Said.{line_of}

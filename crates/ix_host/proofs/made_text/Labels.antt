@@ -9,8 +9,8 @@ use Rattle.ix_label.specs.Faults.{fault_of, first_fault, fault_here, is_due, num
 use Rattle.ix_label.specs.Laws.{SpelledOrFaulty}
 use Rattle.ix_label.proofs.Fitting.{within-fits, fits-within, within-label, within-bottom, within-all_of}
 use Rattle.ix_label.proofs.Spelled.{spelling-bottom, spelling-all, spelling_injective}
-use Rattle.ix_script.specs.texts.Labels.{label_in}
-use Rattle.ix_script.proofs.texts.AllLabels.{label_found}
+use Rattle.ix_text.specs.Labels.{label_in}
+use Rattle.ix_text.proofs.AllLabels.{label_found}
 
 -- a label of form One, and its spelling
 pub record IsWord (word : List ℕ) (s : Categories) : Type 0 where

@@ -2,7 +2,9 @@
 use Rattle.std.proofs.Common.{ℕ}
 use Rattle.ix_model.specs.world.Naming.{is_name}
 use Rattle.ix_script.specs.texts.Cutting.{pieces, words_of, is_closed, is_policy_line}
-use Rattle.ix_script.specs.texts.Words.{is_script_name, name_of, value, is_numeral, number_of, privs_of, between_slashes, names_of, path_of, made_path_of, mode_of, state_of, what_of, fd_of, keep_of}
+use Rattle.ix_script.specs.texts.Words.{value, is_numeral, number_of, between_slashes, names_of, path_of, made_path_of, mode_of, state_of, what_of, fd_of, keep_of}
+use Rattle.ix_text.specs.Names.{is_script_name, name_of}
+use Rattle.ix_text.specs.Privs.{privs_of}
 use Rattle.ix_script.specs.texts.Payloads.{digit_of, pair_of, pairs_of, escaped_byte, escape_step, quoted_from, times_from, times_of, payload_of}
 use Rattle.ix_script.specs.lines.Kinds.{bounds, first_broken, places_fault}
 use Rattle.ix_script.specs.lines.Forms.{plain_of, on_path_of, on_fd_of, counted_of, frame_form, group_form, file_form, process_form, form_of}

@@ -8,7 +8,7 @@ use Rattle.ix_label.specs.Laws.{SpelledOrFaulty}
 use Rattle.ix_script.specs.texts.Lines.{cut, lines_of}
 use Rattle.ix_script.specs.lines.Faults.{fault_from, fault_of}
 use Rattle.ix_script.specs.declared.line.Line.{Line}
-use Rattle.ix_script.proofs.texts.Names.{both}
+use Rattle.ix_text.proofs.Tests.{both}
 use Rattle.ix_gen.specs.Generated.{beginning, line_at, generated}
 use Rattle.ix_gen.proofs.Lengths.{short_text}
 use Rattle.ix_host.specs.Laws.{Readable}

@@ -9,7 +9,8 @@ use Rattle.std.proofs.lemmas.Bool.Decides.{nat_tests}
 use Rattle.std.proofs.lemmas.Str.Parse.{IsDigitsTest, IsNumeralModel, numerals_by_fold, parse_plain}
 use Rattle.ix_model.specs.opening.Valid.{is_within}
 use Rattle.ix_model.specs.world.Naming.{same_bytes}
-use Rattle.ix_script.specs.texts.Words.{begins_with, is_digit, is_numeral, number_of, value, value_from}
+use Rattle.ix_script.specs.texts.Words.{is_numeral, number_of, value, value_from}
+use Rattle.ix_text.specs.Bytes.{begins_with, is_digit}
 use Rattle.ix_host.specs.declared.asked.command.Command.{Command}
 use Rattle.ix_host.specs.declared.asked.command.Command.TheVariants as command
 use Rattle.ix_host.specs.command.Command.{IsCounted, command_of, count_of, lanes_command_of, left_out, only_run, whole_command}

@@ -19,7 +19,8 @@ use Rattle.std.specs.Prelude.{option_and_then}
 use Rattle.clap.specs.Lexer.{long_of, short_of, short_of_rest, strip_byte}
 use Rattle.clap.proofs.OnLiterals.{clap_on_literals}
 use Rattle.ix_host.specs.declared.asked.command.Command.{Command}
-use Rattle.ix_script.specs.texts.Words.{is_digit, is_numeral, number_of}
+use Rattle.ix_script.specs.texts.Words.{is_numeral, number_of}
+use Rattle.ix_text.specs.Bytes.{is_digit}
 use Rattle.ix_host.specs.command.Command.{command_of, count_of, left_out, whole_command}
 use Rattle.ix_host.specs.command.CommandLine.{command_line, read_values}
 

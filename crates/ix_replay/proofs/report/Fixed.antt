@@ -12,7 +12,7 @@ use Rattle.ix_model.specs.history.Step.{run, step_of}
 use Rattle.ix_model.specs.history.Events.{Event}
 use Rattle.ix_script.specs.lines.Before.{form_told, lanes_of}
 use Rattle.ix_script.specs.scripts.Scripts.{config_of}
-use Rattle.ix_script.specs.texts.Words.{is_script_name}
+use Rattle.ix_text.specs.Names.{is_script_name}
 use Rattle.ix_script.specs.declared.line.Line.{Line}
 use Rattle.ix_report.specs.CallText.{call_text}
 use Rattle.ix_report.specs.LineText.{entry_line, head_line, seen_text}

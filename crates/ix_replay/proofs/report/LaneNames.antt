@@ -9,10 +9,10 @@ use Rattle.std.proofs.lemmas.Bool.Decides.{nat_tests}
 use Rattle.std.proofs.lemmas.List.Folds.{list_any_at}
 use Rattle.ix_model.specs.world.Naming.{same_bytes}
 use Rattle.ix_script.specs.lines.Before.{is_known, lanes_after, lanes_of}
-use Rattle.ix_script.specs.texts.Words.{is_reserved, is_script_name, may_stand_in_script_name}
+use Rattle.ix_text.specs.Names.{is_reserved, is_script_name, may_stand_in_script_name}
 use Rattle.ix_script.specs.declared.line.Line.{Line}
 use Rattle.ix_script.specs.declared.line.Line.TheVariants as line
-use Rattle.ix_script.proofs.texts.Names.{both, list_all_weaker}
+use Rattle.ix_text.proofs.Tests.{both, list_all_weaker}
 use Rattle.ix_replay.specs.report.Report.{lane_name}
 use Rattle.ix_replay.proofs.report.Beginnings.{no_space}
 

@@ -11,7 +11,7 @@ use Rattle.ix_script.specs.scripts.Canonical.{line_text, line_words}
 use Rattle.ix_script.specs.scripts.Laws.{LineStays}
 use Rattle.ix_script.specs.scripts.Scripts.{script_of}
 use Rattle.ix_script.specs.texts.Cutting.{is_policy_line, pieces, word_at, words_of}
-use Rattle.ix_script.specs.texts.Words.{is_script_name, name_of}
+use Rattle.ix_text.specs.Names.{is_script_name, name_of}
 use Rattle.ix_script.specs.declared.line.Line.{Line}
 use Rattle.ix_script.specs.declared.line.Line.TheVariants as line
 use Rattle.ix_script.proofs.lines.EachLine.{Along, along}

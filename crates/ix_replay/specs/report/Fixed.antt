@@ -4,7 +4,7 @@ use Rattle.std.specs.List.{list_all}
 use Rattle.ix_model.specs.history.Events.{Event}
 use Rattle.ix_script.specs.lines.Before.{lanes_of}
 use Rattle.ix_script.specs.scripts.Scripts.{script_of}
-use Rattle.ix_script.specs.texts.Words.{is_script_name}
+use Rattle.ix_text.specs.Names.{is_script_name}
 use Rattle.ix_script.specs.declared.line.Line.{Line}
 use Rattle.ix_lanes.specs.histories.Lanes.{Lanes}
 use Rattle.ix_replay.specs.report.Report.{report_of}

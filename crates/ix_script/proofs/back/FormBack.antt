@@ -8,8 +8,10 @@ use Rattle.ix_model.specs.opening.Valid.{is_within}
 use Rattle.ix_label.specs.declared.form.Form as spelled
 use Rattle.ix_script.specs.lines.Before.{form_told}
 use Rattle.ix_script.specs.texts.Cutting.{words_of, word_at}
-use Rattle.ix_script.specs.texts.Labels.{label_in}
-use Rattle.ix_script.specs.texts.Words.{name_of, privs_of, made_path_of, state_of, fd_of}
+use Rattle.ix_text.specs.Labels.{label_in}
+use Rattle.ix_script.specs.texts.Words.{made_path_of, state_of, fd_of}
+use Rattle.ix_text.specs.Names.{name_of}
+use Rattle.ix_text.specs.Privs.{privs_of}
 use Rattle.ix_script.specs.texts.Payloads.{payload_of}
 use Rattle.ix_script.specs.lines.Kinds.{Place, places_fault}
 use Rattle.ix_script.specs.lines.Kinds as kind

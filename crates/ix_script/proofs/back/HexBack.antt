@@ -6,10 +6,10 @@ use Rattle.std.proofs.lemmas.Bool.{agree_below_at, eqb-true, false≢true}
 use Rattle.std.proofs.lemmas.Bool.Decides.{nat_tests}
 use Rattle.std.proofs.lemmas.Option.{none-some, cond_some}
 use Rattle.ix_model.specs.opening.Valid.{is_within}
-use Rattle.ix_script.specs.texts.Words.{is_digit}
+use Rattle.ix_text.specs.Bytes.{is_digit}
 use Rattle.ix_script.specs.texts.Payloads.{◌>>=◌, after_bytes, digit_of, pair_of, pairs_of}
 use Rattle.ix_text.specs.Spellings.{hex_digit, hex_pair}
-use Rattle.ix_script.proofs.texts.Names.{join_tests}
+use Rattle.ix_text.proofs.Tests.{join_tests}
 use Rattle.ix_script.proofs.reader.Told.{bound, mapped, chosen}
 
 -- a byte that may stand in a word outside quotes

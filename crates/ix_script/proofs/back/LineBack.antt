@@ -12,7 +12,8 @@ use Rattle.ix_model.specs.world.Naming.{same_bytes}
 use Rattle.ix_model.specs.opening.Valid.{is_within}
 use Rattle.ix_label.specs.declared.form.Form as spelled
 use Rattle.ix_script.specs.lines.Before.{form_told}
-use Rattle.ix_script.specs.texts.Cutting.{is_empty, begins, is_skipped, is_policy_line, pieces, words_of, word_at}
+use Rattle.ix_script.specs.texts.Cutting.{is_skipped, is_policy_line, pieces, words_of, word_at}
+use Rattle.ix_text.specs.Bytes.{is_empty, begins}
 use Rattle.ix_script.specs.texts.Payloads.{◌>>=◌, payload_of}
 use Rattle.ix_script.specs.lines.Kinds.{places_fault}
 use Rattle.ix_script.specs.lines.Forms.{form_of, frame_form, group_form, plain_of, on_path_of, on_fd_of, counted_of, file_form, has_right_count, places}
@@ -26,7 +27,8 @@ use Rattle.ix_script.specs.declared.line.Line.{Line}
 use Rattle.ix_script.specs.declared.cutting.form.Form.{Form}
 use Rattle.ix_script.specs.declared.cutting.form.Form.TheVariants as form
 use Rattle.ix_script.specs.declared.cutting.spot.Spot.TheVariants as spot
-use Rattle.ix_script.proofs.texts.Names.{both as both_true, join_tests}
+use Rattle.ix_text.proofs.Tests.{both as both_true}
+use Rattle.ix_text.proofs.Tests.{join_tests}
 use Rattle.ix_script.proofs.reader.Told.{bound, neither, neither_from}
 use Rattle.ix_script.proofs.lines.FirstWords.{form_word}
 use Rattle.ix_script.proofs.texts.Cuts.{words_joined, words_some, cut_again}

@@ -18,12 +18,13 @@ use Rattle.ix_model.specs.declared.call.Mode.{Mode}
 use Rattle.ix_model.specs.declared.call.Mode.TheVariants as mode
 use Rattle.ix_model.specs.declared.privs.PrivSet.{PrivSet}
 use Rattle.ix_script.specs.texts.Lines.{with_front}
-use Rattle.ix_script.specs.texts.Cutting.{begins, is_empty}
-use Rattle.ix_script.specs.texts.Labels.{label_in, labels_below, is_spelled}
-use Rattle.ix_text.specs.Spellings.{letters}
-use Rattle.ix_script.specs.texts.Words.{is_digit, begins_with, is_script_name, name_of, is_numeral, value, value_from, number_of, bits_from, privs_of, may_stand_in_path, between_slashes, names_of, path_from, absolute_path, relative_path, path_of, made_path_of, mode_of, state_of, what_of, numbered, named, fd_of, keep_of}
+use Rattle.ix_text.specs.Bytes.{begins, is_empty, is_digit, begins_with}
+use Rattle.ix_text.specs.Labels.{label_in, labels_below, is_spelled}
+use Rattle.ix_text.specs.Spellings.{letters, joined, letter_in, privs_text, mode_text, state_text}
+use Rattle.ix_script.specs.texts.Words.{is_numeral, value, value_from, number_of, may_stand_in_path, between_slashes, names_of, path_from, absolute_path, relative_path, path_of, made_path_of, mode_of, state_of, what_of, numbered, named, fd_of, keep_of}
+use Rattle.ix_text.specs.Names.{is_script_name, name_of}
+use Rattle.ix_text.specs.Privs.{bits_from, privs_of}
 use Rattle.ix_script.specs.lines.Before.{what_text}
-use Rattle.ix_text.specs.Spellings.{joined, letter_in, privs_text, mode_text, state_text}
 use Rattle.ix_script.specs.texts.Spellings.{path_text, fd_text, keep_text}
 use Rattle.ix_script.specs.declared.line.What.{What}
 use Rattle.ix_script.specs.declared.line.What.TheVariants as what
@@ -31,7 +32,7 @@ use Rattle.ix_script.specs.declared.line.FdWord.{FdWord}
 use Rattle.ix_script.specs.declared.line.FdWord.TheVariants as fd
 use Rattle.ix_script.specs.declared.line.KeepWord.{KeepWord}
 use Rattle.ix_script.specs.declared.line.KeepWord.TheVariants as keep
-use Rattle.ix_script.proofs.texts.Names.{both, join_tests}
+use Rattle.ix_text.proofs.Tests.{both, join_tests}
 use Rattle.ix_script.proofs.reader.Told.{mapped, chosen, either, found}
 
 -- ---- names and labels

@@ -9,13 +9,14 @@ use Rattle.std.proofs.lemmas.List.{length-append}
 use Rattle.std.proofs.lemmas.List.Folds.{list_all-append}
 use Rattle.std.proofs.Math.Seq.{take-append_seam, drop-append-add}
 use Rattle.ix_model.specs.opening.Valid.{is_within}
-use Rattle.ix_script.specs.texts.Cutting.{begins, is_empty, pieces, is_open}
-use Rattle.ix_script.specs.texts.Words.{is_digit, begins_with, is_numeral, value}
+use Rattle.ix_script.specs.texts.Cutting.{pieces, is_open}
+use Rattle.ix_text.specs.Bytes.{begins, is_empty, is_digit, begins_with}
+use Rattle.ix_script.specs.texts.Words.{is_numeral, value}
 use Rattle.ix_script.specs.texts.Payloads.{◌>>=◌, times_from, times_of, payload_of}
 use Rattle.ix_text.specs.Spellings.{hex_pair}
 use Rattle.ix_script.specs.texts.Spellings.{pairs_text, times_text}
 use Rattle.ix_script.specs.declared.cutting.spot.Spot.TheVariants as spot
-use Rattle.ix_script.proofs.texts.Names.{both, join_tests, list_all_weaker}
+use Rattle.ix_text.proofs.Tests.{both, join_tests, list_all_weaker}
 use Rattle.ix_script.proofs.back.OneSpelling.{numerals}
 use Rattle.ix_script.proofs.back.HexBack.{is_tame, Small, pair_back, pairs_back, pairs_tame}
 

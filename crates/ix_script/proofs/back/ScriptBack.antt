@@ -17,7 +17,8 @@ use Rattle.ix_script.specs.scripts.Scripts.{form_in, lines_said, script_of}
 use Rattle.ix_script.specs.scripts.Canonical.{line_text, canonical_in, canonical}
 use Rattle.ix_script.specs.declared.line.Line.{Line}
 use Rattle.ix_script.specs.declared.line.Line.TheVariants as line
-use Rattle.ix_script.proofs.texts.Names.{both as both_true, join_tests, list_all_weaker}
+use Rattle.ix_text.proofs.Tests.{both as both_true}
+use Rattle.ix_text.proofs.Tests.{join_tests, list_all_weaker}
 use Rattle.ix_script.proofs.reader.Told.{mapped, paired, neither}
 use Rattle.ix_script.proofs.lines.Faultless.{text_parts}
 use Rattle.ix_script.proofs.lines.Deciding.{version_is, version_said, first_version, first_faultless}

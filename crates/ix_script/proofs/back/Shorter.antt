@@ -8,7 +8,7 @@ use Rattle.std.proofs.lemmas.List.{length-append, length-replicate}
 use Rattle.std.proofs.lemmas.List.Sums.{split_at_first}
 use Rattle.std.proofs.lemmas.Option.{cond_some, none-some, same_Some}
 use Rattle.ix_model.specs.opening.Valid.{is_within}
-use Rattle.ix_script.specs.texts.Cutting.{begins, is_empty}
+use Rattle.ix_text.specs.Bytes.{begins, is_empty}
 use Rattle.ix_script.specs.texts.Words.{is_numeral, value}
 use Rattle.ix_script.specs.texts.Payloads.{◌>>=◌, after_bytes, pair_of, pairs_of, escaped_byte, escape_step, ends, bytes_of, quoted_from, two_digits, times_from, times_of, payload_of}
 use Rattle.ix_script.specs.lines.Said.{payload_within}
@@ -16,7 +16,7 @@ use Rattle.ix_text.specs.Spellings.{hex_pair}
 use Rattle.ix_script.specs.texts.Spellings.{pairs_text, times_text, stands_quoted, quoted_byte, quoted_text, once, times_texts, shortest, payload_text}
 use Rattle.ix_script.specs.declared.values.escape.Escape.{Escape}
 use Rattle.ix_script.specs.declared.values.escape.Escape.TheVariants as escape
-use Rattle.ix_script.proofs.texts.Names.{both, join_tests}
+use Rattle.ix_text.proofs.Tests.{both, join_tests}
 use Rattle.ix_script.proofs.reader.Told.{bound, mapped, chosen, either}
 use Rattle.ix_script.proofs.back.OneSpelling.{decimal_of_value, begun}
 use Rattle.ix_script.proofs.back.HexBack.{Small, pair_small, pairs_long}

@@ -7,7 +7,8 @@ use Rattle.std.proofs.lemmas.Bool.{false≢true, or_cases, or_parts}
 use Rattle.std.proofs.lemmas.List.{append-nil, take-append-drop}
 use Rattle.std.proofs.lemmas.Option.{same_Some, none-some}
 use Rattle.ix_model.specs.world.Naming.{same_bytes}
-use Rattle.ix_script.specs.texts.Cutting.{is_empty, begins, is_skipped, is_policy_line, policy_text, words_of, word_at}
+use Rattle.ix_script.specs.texts.Cutting.{is_skipped, is_policy_line, policy_text, words_of, word_at}
+use Rattle.ix_text.specs.Bytes.{is_empty, begins}
 use Rattle.ix_script.specs.lines.Forms.{form_of}
 use Rattle.ix_label.specs.declared.form.Form as spelled
 use Rattle.ix_label.specs.declared.form.Form.TheVariants.{One, Two}

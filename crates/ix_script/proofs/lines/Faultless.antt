@@ -6,7 +6,8 @@ use Rattle.std.proofs.lemmas.Bool.{not-false, ltb-false, le-ltb, or_parts, or_fr
 use Rattle.std.proofs.lemmas.List.Folds.{list_any-append}
 use Rattle.std.proofs.lemmas.Option.{none-some}
 use Rattle.ix_model.specs.opening.Valid.{is_within}
-use Rattle.ix_script.specs.texts.Cutting.{is_empty, is_open}
+use Rattle.ix_script.specs.texts.Cutting.{is_open}
+use Rattle.ix_text.specs.Bytes.{is_empty}
 use Rattle.ix_script.specs.lines.Kinds.{Kind, Place, is_bad_name, is_bad_number, is_out_of_range, is_bad_label, is_bad_set, is_bad_path, is_unknown_word, is_bad_payload, is_long_payload, place_rules, first_broken, places_fault}
 use Rattle.ix_script.specs.lines.Kinds as kind
 use Rattle.ix_script.specs.texts.Payloads.{payload_of}

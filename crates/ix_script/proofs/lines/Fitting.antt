@@ -22,7 +22,7 @@ use Rattle.ix_script.specs.declared.line.FdWord.{FdWord}
 use Rattle.ix_script.specs.declared.line.Line.{Line}
 use Rattle.ix_script.specs.declared.line.Line.TheVariants as line
 use Rattle.ix_script.proofs.reader.Told.{mapped, paired, bound, either}
-use Rattle.ix_script.proofs.texts.AllLabels.{label_fits}
+use Rattle.ix_text.proofs.AllLabels.{label_fits}
 
 module _ (labels : spelled.Form) where
   made_by : {X : Type 0} (g : X → Line) (m : Option X) (l : Line) → ((x : X) → m ≡ Some x → LineFits labels (g x)) → option_map g m ≡ Some l → LineFits labels l

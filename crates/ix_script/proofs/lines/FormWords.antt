@@ -9,8 +9,10 @@ use Rattle.std.specs.Cmp.Lexicographic.{same_text}
 use Rattle.ix_model.specs.world.Naming.{PathOf, same_bytes}
 use Rattle.ix_label.specs.declared.form.Form.{Form}
 use Rattle.ix_script.specs.texts.Cutting.{word_at}
-use Rattle.ix_script.specs.texts.Labels.{label_in}
-use Rattle.ix_script.specs.texts.Words.{name_of, number_of, privs_of, path_of, made_path_of, mode_of, state_of, what_of, fd_of, keep_of}
+use Rattle.ix_text.specs.Labels.{label_in}
+use Rattle.ix_script.specs.texts.Words.{number_of, path_of, made_path_of, mode_of, state_of, what_of, fd_of, keep_of}
+use Rattle.ix_text.specs.Names.{name_of}
+use Rattle.ix_text.specs.Privs.{privs_of}
 use Rattle.ix_script.specs.lines.Kinds.{bounds, bounds_of}
 use Rattle.ix_script.specs.lines.Forms.{has_right_count}
 use Rattle.ix_script.specs.lines.Said.{both, any_number, name_after, two_names_after, plain_line, path_line, fd_line, counted_line, said}
@@ -30,7 +32,7 @@ use Rattle.ix_script.specs.declared.cutting.form.OnFd.{OnFd}
 use Rattle.ix_script.specs.declared.cutting.form.OnFd.TheVariants as on_fd
 use Rattle.ix_script.specs.declared.cutting.form.Counted.{Counted}
 use Rattle.ix_script.specs.declared.cutting.form.Counted.TheVariants as counted
-use Rattle.ix_script.proofs.texts.Names.{both as both_true}
+use Rattle.ix_text.proofs.Tests.{both as both_true}
 use Rattle.ix_script.proofs.reader.Told.{mapped, paired, chosen}
 use Rattle.ix_script.proofs.back.OneSpelling.{name_spelled, label_spelled, number_spelled, privs_spelled, path_spelled, made_path_spelled, mode_spelled, state_spelled, what_spelled, fd_spelled, keep_spelled}
 use Rattle.ix_script.proofs.lines.FirstWords.{plain_word, on_path_word, on_fd_word, counted_word}

@@ -13,7 +13,7 @@ use Rattle.ix_model.specs.rows.Telling.{blocks_for}
 use Rattle.ix_model.specs.opening.Valid.{is_within, fs_fits, mount_of, fs_of, lying_on, blocks_taken}
 use Rattle.ix_model.specs.declared.config.FsSpec.{FsSpec}
 use Rattle.ix_model.specs.declared.config.ObjSpec.{ObjSpec}
-use Rattle.ix_script.proofs.texts.Names.{both}
+use Rattle.ix_text.proofs.Tests.{both}
 
 -- ---- a path lies on one of the file systems
 mount_within : (fss : List FsSpec) (name : List ℕ) (o : Option ℕ) → 0 < length fss → mount_of fss name ≡ o → option_map_or suc o 0 < length fss

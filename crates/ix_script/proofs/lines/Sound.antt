@@ -10,9 +10,12 @@ use Rattle.ix_model.specs.opening.Valid.{is_within}
 use Rattle.ix_script.specs.texts.Lines.{with_front}
 use Rattle.ix_label.specs.declared.form.Form as spelled
 use Rattle.ix_script.specs.lines.Before.{form_told, is_known, fss_told}
-use Rattle.ix_script.specs.texts.Cutting.{begins, is_empty, words_of, word_at, is_skipped, is_policy_line, policy_text}
-use Rattle.ix_script.specs.texts.Words.{name_of, is_numeral, value, number_of, between_slashes, names_of, path_from, may_stand_in_path, path_of, made_path_of, what_of, is_script_name, privs_of, state_of}
-use Rattle.ix_script.specs.texts.Labels.{label_in}
+use Rattle.ix_script.specs.texts.Cutting.{words_of, word_at, is_skipped, is_policy_line, policy_text}
+use Rattle.ix_text.specs.Bytes.{begins, is_empty}
+use Rattle.ix_script.specs.texts.Words.{is_numeral, value, number_of, between_slashes, names_of, path_from, may_stand_in_path, path_of, made_path_of, what_of, state_of}
+use Rattle.ix_text.specs.Names.{name_of, is_script_name}
+use Rattle.ix_text.specs.Privs.{privs_of}
+use Rattle.ix_text.specs.Labels.{label_in}
 use Rattle.ix_script.specs.texts.Payloads.{◌>>=◌, payload_of}
 use Rattle.ix_script.specs.lines.Kinds.{bounds_of, bounds, places_fault}
 use Rattle.ix_script.specs.lines.Forms.{form_of, places}
@@ -33,8 +36,8 @@ use Rattle.ix_script.specs.declared.line.FdWord.{FdWord}
 use Rattle.ix_script.specs.declared.line.What.{What}
 use Rattle.ix_script.specs.declared.line.Line.{Line}
 use Rattle.ix_script.specs.declared.line.Line.TheVariants as line
-use Rattle.ix_script.proofs.texts.Names as names
-use Rattle.ix_script.proofs.texts.AllLabels.{bool_cases}
+use Rattle.ix_text.proofs.Tests as names
+use Rattle.ix_text.proofs.Tests.{bool_cases}
 use Rattle.ix_script.proofs.lines.Follows.{passes}
 use Rattle.std.proofs.lemmas.Option.{same_Some}
 use Rattle.ix_script.proofs.lines.Deciding.{first_version, version_said, not_ix}

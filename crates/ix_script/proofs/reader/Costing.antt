@@ -7,7 +7,8 @@ use Rattle.std.proofs.lemmas.Option.{none-some, same_Some}
 use Rattle.std.proofs.lemmas.List.Sums.{sum_by-cons, sum_by_push, sum-map}
 use Rattle.ix_model.specs.world.Naming.{PathOf, is_name}
 use Rattle.ix_model.specs.history.Cost.{cost_of_path}
-use Rattle.ix_script.specs.texts.Cutting.{begins, is_empty, is_skipped, is_policy_line, policy_text, words_of, word_at}
+use Rattle.ix_script.specs.texts.Cutting.{is_skipped, is_policy_line, policy_text, words_of, word_at}
+use Rattle.ix_text.specs.Bytes.{begins, is_empty}
 use Rattle.ix_script.specs.texts.Words.{between_slashes, names_of, path_from, may_stand_in_path, absolute_path, relative_path, path_of}
 use Rattle.ix_script.specs.texts.Payloads.{payload_of}
 use Rattle.ix_script.specs.lines.Forms.{form_of}
@@ -28,7 +29,7 @@ use Rattle.ix_script.specs.declared.cutting.form.Counted.TheVariants as counted
 use Rattle.ix_script.specs.declared.line.FdWord.{FdWord}
 use Rattle.ix_script.specs.declared.line.Line.{Line}
 use Rattle.ix_script.specs.declared.line.Line.TheVariants as line
-use Rattle.ix_script.proofs.texts.Names.{both as both_true}
+use Rattle.ix_text.proofs.Tests.{both as both_true}
 use Rattle.ix_script.proofs.reader.Told.{mapped, paired, bound, either}
 use Rattle.ix_script.proofs.reader.Pushed.{commands_push}
 

@@ -12,7 +12,7 @@ use Rattle.ix_model.specs.declared.config.Limits.{Limits}
 use Rattle.ix_model.specs.declared.config.ObjSpec.{ObjSpec}
 use Rattle.ix_label.specs.declared.form.Form.{Form}
 use Rattle.ix_label.specs.declared.form.Form.TheVariants.{One}
-use Rattle.ix_script.specs.texts.Cutting.{is_empty}
+use Rattle.ix_text.specs.Bytes.{is_empty}
 use Rattle.ix_script.specs.lines.Before.{form_by, form_told, fs_told, or_default, fss_told, fss_of, what_told, limits_after, limits_of, proc_name_told, proc_names, object_told, objects_of, is_policy, group}
 use Rattle.ix_script.specs.reader.Indexed.{AreNames, AreSites}
 use Rattle.ix_script.specs.reader.Told.{HeaderTold, MakesMore, NamesMore, TakenOne, Takes, fss_after}
@@ -20,7 +20,7 @@ use Rattle.ix_script.specs.declared.before.header.Header.{Header}
 use Rattle.ix_script.specs.declared.before.taken.Taken.{Taken}
 use Rattle.ix_script.specs.declared.line.Line.{Line}
 use Rattle.ix_script.specs.declared.line.Line.TheVariants as line
-use Rattle.ix_script.proofs.texts.Names.{both}
+use Rattle.ix_text.proofs.Tests.{both}
 use Rattle.ix_script.proofs.lines.Follows.{Follows}
 use Rattle.ix_script.proofs.lines.Lying.{fs_within, few_inodes, few_blocks, count_here, count_else, blocks_here, blocks_else}
 use Rattle.ix_script.proofs.lines.Ordered.{no_objects, latest_push}

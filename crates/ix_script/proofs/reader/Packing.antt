@@ -8,7 +8,8 @@ use Rattle.std.specs.Option.{option_map_or}
 use Rattle.std.proofs.lemmas.Option.{none-some, same_Some}
 use Rattle.ix_label.specs.declared.form.Form as spelled
 use Rattle.ix_label.specs.declared.form.Form.TheVariants.{One}
-use Rattle.ix_script.specs.texts.Cutting.{is_empty, word_at, words_of, is_skipped, is_policy_line}
+use Rattle.ix_script.specs.texts.Cutting.{word_at, words_of, is_skipped, is_policy_line}
+use Rattle.ix_text.specs.Bytes.{is_empty}
 use Rattle.ix_script.specs.lines.Before.{form_by, form_told}
 use Rattle.ix_script.specs.lines.Said.{version_of, line_of}
 use Rattle.ix_script.specs.lines.Kinds.{places_fault}

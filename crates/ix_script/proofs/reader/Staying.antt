@@ -25,7 +25,7 @@ use Rattle.ix_script.specs.declared.line.What.{What}
 use Rattle.ix_script.specs.declared.line.What.TheVariants as what
 use Rattle.ix_script.specs.declared.line.Line.{Line}
 use Rattle.ix_script.specs.declared.line.Line.TheVariants as line
-use Rattle.ix_script.proofs.texts.Names.{both, join_tests}
+use Rattle.ix_text.proofs.Tests.{both, join_tests}
 use Rattle.ix_script.proofs.lines.Follows.{Follows, follows}
 use Rattle.ix_script.proofs.lines.Ordered.{neither, no_objects, no_procs, earlier}
 use Rattle.ix_script.proofs.reader.Pushed.{fss_push, limits_push, procs_push, objects_push}

@@ -8,7 +8,7 @@ use Rattle.ix_script.specs.lines.Before.{fss_of, limits_of, procs_of, objects_of
 use Rattle.ix_script.specs.scripts.Need.{need}
 use Rattle.ix_script.specs.scripts.Scripts.{config_of}
 use Rattle.ix_script.specs.declared.line.Line.{Line}
-use Rattle.ix_script.proofs.texts.Names.{both}
+use Rattle.ix_text.proofs.Tests.{both}
 
 pub record Parts (lines : List Line) : Type 0 where
   pub fss : fss_fit (fss_of lines) ≡ true

@@ -3,11 +3,12 @@ use Rattle.std.proofs.Common.{◌≡◌, ℕ, false, not, ◌==◌, List, [], �
 use Rattle.std.proofs.lemmas.Bool.{cases_Bool, eqb-true, false≢true}
 use Rattle.std.proofs.lemmas.List.{append-nil}
 use Rattle.ix_script.specs.texts.Lines.{with_front}
-use Rattle.ix_script.specs.texts.Cutting.{is_empty, after_byte, is_quoted, parts_words, pieces, words_of}
+use Rattle.ix_script.specs.texts.Cutting.{after_byte, is_quoted, parts_words, pieces, words_of}
+use Rattle.ix_text.specs.Bytes.{is_empty}
 use Rattle.ix_text.specs.Spellings.{further, joined}
 use Rattle.ix_script.specs.declared.cutting.spot.Spot.{Spot}
 use Rattle.ix_script.specs.declared.cutting.spot.Spot.TheVariants as spot
-use Rattle.ix_script.proofs.texts.Names.{both}
+use Rattle.ix_text.proofs.Tests.{both}
 use Rattle.ix_script.proofs.back.OneSpelling.{joined_front}
 
 some_piece : (at : Spot) (text : List ℕ) → (x : List ℕ) × (xs : List (List ℕ)) × (pieces at text ≡ x ∷ xs)

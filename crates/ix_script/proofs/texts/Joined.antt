@@ -6,8 +6,7 @@ use Rattle.std.proofs.lemmas.Bool.Decides.{nat_tests}
 use Rattle.std.proofs.lemmas.List.Folds.{list_all-append}
 use Rattle.ix_model.specs.world.Naming.{is_name}
 use Rattle.ix_script.specs.texts.Words.{between_slashes, names_of, path_from}
-use Rattle.ix_script.proofs.texts.Names.{join_tests}
-use Rattle.ix_script.proofs.texts.AllLabels.{bool_cases}
+use Rattle.ix_text.proofs.Tests.{join_tests, bool_cases}
 
 false_left : (a b : Bool) → a ≡ false → (a && b) ≡ false
 false_left true b h = cc

@@ -4,9 +4,9 @@ use Rattle.std.specs.List.{list_all}
 use Rattle.std.proofs.lemmas.Bool.{not-true}
 use Rattle.std.proofs.lemmas.Option.{none-some, same_Some}
 use Rattle.ix_model.specs.world.Naming.{PathOf, is_name}
-use Rattle.ix_script.specs.texts.Cutting.{begins, is_empty}
+use Rattle.ix_text.specs.Bytes.{begins, is_empty}
 use Rattle.ix_script.specs.texts.Words.{between_slashes, names_of, path_from, may_stand_in_path, absolute_path, relative_path, path_of, made_path_of}
-use Rattle.ix_script.proofs.texts.Names.{both}
+use Rattle.ix_text.proofs.Tests.{both}
 use Rattle.ix_script.proofs.reader.Told.{either, mapped}
 
 pub record MadeParts (word : List ℕ) (p : PathOf) : Type 0 where

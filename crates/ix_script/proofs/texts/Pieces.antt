@@ -8,7 +8,8 @@ use Rattle.ix_script.specs.texts.Lines.{with_front}
 use Rattle.ix_script.specs.texts.Words.{between_slashes}
 use Rattle.std.proofs.lemmas.Bool.{eq-eqb, ne_eqb}
 use Rattle.std.proofs.lemmas.List.{drop_all}
-use Rattle.ix_script.specs.texts.Cutting.{begins, pieces, parts_words, after_byte, closes, is_closed, is_empty}
+use Rattle.ix_script.specs.texts.Cutting.{pieces, parts_words, after_byte, closes, is_closed}
+use Rattle.ix_text.specs.Bytes.{begins, is_empty}
 use Rattle.ix_script.specs.declared.cutting.spot.Spot.{Spot}
 use Rattle.ix_script.specs.declared.cutting.spot.Spot.TheVariants as spot
 

@@ -3,7 +3,8 @@ use Rattle.std.proofs.Common.{◌≡◌, ℕ, zero, suc, ◌+◌, ◌≤◌, Boo
 use Rattle.std.specs.List.{list_any}
 use Rattle.std.proofs.lemmas.List.{append-nil, take-append-le, take_all}
 use Rattle.ix_script.specs.texts.Lines.{with_front}
-use Rattle.ix_script.specs.texts.Cutting.{is_empty, is_open, pieces, parts_words, after_byte, words_of}
+use Rattle.ix_script.specs.texts.Cutting.{is_open, pieces, parts_words, after_byte, words_of}
+use Rattle.ix_text.specs.Bytes.{is_empty}
 use Rattle.ix_script.specs.lines.Rules.{has_empty_word, has_open_quote}
 use Rattle.ix_script.specs.declared.cutting.spot.Spot.{Spot}
 use Rattle.ix_script.specs.declared.cutting.spot.Spot.TheVariants as spot

@@ -2,7 +2,8 @@
 use Rattle.std.specs.Prelude.{ℕ, ◌+◌, nat_lt, not, List, [], ◌∷◌, ◌++◌, length, Option, Some, None, is_none, if◌then◌else◌, unwrap_or}
 use Rattle.std.specs.Option.{option_or, option_map_or}
 use Rattle.ix_script.specs.texts.Lines.{lines_of}
-use Rattle.ix_script.specs.texts.Cutting.{is_empty, words_of, word_at, is_skipped, is_policy_line, policy_text}
+use Rattle.ix_script.specs.texts.Cutting.{words_of, word_at, is_skipped, is_policy_line, policy_text}
+use Rattle.ix_text.specs.Bytes.{is_empty}
 use Rattle.ix_script.specs.lines.Kinds.{places_fault}
 use Rattle.ix_script.specs.lines.Forms.{form_of, places, has_right_count}
 use Rattle.ix_script.specs.lines.Before.{form_told, has_policy, in_body}

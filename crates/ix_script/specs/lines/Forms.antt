@@ -5,7 +5,8 @@ use Rattle.std.proofs.Common.{option_map}
 use Rattle.ix_label.specs.declared.form.Form as spelled
 use Rattle.ix_label.specs.declared.form.Form.TheVariants.{One}
 use Rattle.ix_model.specs.world.Naming.{same_bytes}
-use Rattle.ix_script.specs.texts.Cutting.{is_empty, word_at}
+use Rattle.ix_script.specs.texts.Cutting.{word_at}
+use Rattle.ix_text.specs.Bytes.{is_empty}
 use Rattle.ix_script.specs.lines.Kinds.{Kind, Place}
 use Rattle.ix_script.specs.lines.Kinds as kind
 use Rattle.ix_script.specs.declared.cutting.form.Form.{Form}

@@ -5,8 +5,11 @@ use Rattle.std.specs.List.{list_any}
 use Rattle.ix_model.specs.world.Naming.{same_bytes}
 use Rattle.ix_model.specs.opening.Valid.{is_within}
 use Rattle.ix_label.specs.declared.form.Form as spelled
-use Rattle.ix_script.specs.texts.Labels.{label_in}
-use Rattle.ix_script.specs.texts.Words.{is_digit, begins_with, is_script_name, is_numeral, value, privs_of, path_of, made_path_of, mode_of, state_of, what_of}
+use Rattle.ix_text.specs.Labels.{label_in}
+use Rattle.ix_script.specs.texts.Words.{is_numeral, value, path_of, made_path_of, mode_of, state_of, what_of}
+use Rattle.ix_text.specs.Bytes.{is_digit, begins_with}
+use Rattle.ix_text.specs.Names.{is_script_name}
+use Rattle.ix_text.specs.Privs.{privs_of}
 use Rattle.ix_script.specs.texts.Payloads.{payload_of}
 use Rattle.ix_script.specs.declared.line.What.{What}
 use Rattle.ix_script.specs.declared.line.What.TheVariants as what

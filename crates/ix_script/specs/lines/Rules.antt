@@ -6,7 +6,8 @@ use Rattle.ix_model.specs.world.World.{fs_at}
 use Rattle.ix_model.specs.world.Naming.{same_bytes}
 use Rattle.ix_model.specs.opening.Valid.{is_within, fs_of, is_taken, has_directory, has_room}
 use Rattle.ix_model.specs.declared.config.ObjSpec.{ObjSpec}
-use Rattle.ix_script.specs.texts.Cutting.{is_empty, is_open, word_at}
+use Rattle.ix_script.specs.texts.Cutting.{is_open, word_at}
+use Rattle.ix_text.specs.Bytes.{is_empty}
 use Rattle.ix_script.specs.lines.Kinds.{Place, is_number_of_fd, is_all_or_none}
 use Rattle.ix_script.specs.lines.Kinds as kind
 use Rattle.ix_script.specs.lines.Forms.{own_places, is_header, is_command_form}

@@ -6,8 +6,10 @@ use Rattle.ix_model.specs.world.Naming.{PathOf, same_bytes}
 use Rattle.ix_script.specs.texts.Cutting.{words_of, word_at, is_skipped, is_policy_line, policy_text}
 use Rattle.ix_label.specs.declared.form.Form as spelled
 use Rattle.ix_label.specs.declared.form.Form.TheVariants.{One, Two}
-use Rattle.ix_script.specs.texts.Labels.{label_in}
-use Rattle.ix_script.specs.texts.Words.{name_of, number_of, privs_of, path_of, made_path_of, mode_of, state_of, what_of, fd_of, keep_of}
+use Rattle.ix_text.specs.Labels.{label_in}
+use Rattle.ix_script.specs.texts.Words.{number_of, path_of, made_path_of, mode_of, state_of, what_of, fd_of, keep_of}
+use Rattle.ix_text.specs.Names.{name_of}
+use Rattle.ix_text.specs.Privs.{privs_of}
 use Rattle.ix_script.specs.texts.Payloads.{◌>>=◌, payload_of}
 use Rattle.ix_script.specs.lines.Kinds.{bounds}
 use Rattle.ix_script.specs.lines.Forms.{form_of}

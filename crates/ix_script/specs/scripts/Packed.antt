@@ -1,7 +1,8 @@
 -- Lines that are held as their texts.
 use Rattle.std.specs.Prelude.{◌≡◌, ℕ, zero, suc, ◌-◌, ◌≤◌, false, List, [], ◌∷◌, length, take, drop, map, Some, None, unwrap_or}
 use Rattle.ix_label.specs.declared.form.Form as spelled
-use Rattle.ix_script.specs.texts.Cutting.{is_empty, word_at}
+use Rattle.ix_script.specs.texts.Cutting.{word_at}
+use Rattle.ix_text.specs.Bytes.{is_empty}
 use Rattle.ix_script.specs.lines.Before.{form_told}
 use Rattle.ix_script.specs.lines.Kinds.{places_fault}
 use Rattle.ix_script.specs.lines.Forms.{form_of, places}

@@ -2,14 +2,10 @@
 use Rattle.std.specs.Prelude.{ℕ, ◌==◌, Bool, true, false, not, ◌&&◌, ◌||◌, List, [], ◌∷◌, drop, take, codes, if◌then◌else◌}
 use Rattle.std.specs.List.{slice_index_or}
 use Rattle.ix_model.specs.world.Naming.{same_bytes}
+use Rattle.ix_text.specs.Bytes.{begins, is_empty}
 use Rattle.ix_script.specs.texts.Lines.{with_front}
 use Rattle.ix_script.specs.declared.cutting.spot.Spot.{Spot}
 use Rattle.ix_script.specs.declared.cutting.spot.Spot.TheVariants as spot
-
--- whether there is none
-abbrev pub is_empty : {A : Type 0} → List A → Bool
-is_empty [] = true
-is_empty (x ∷ xs) = false
 
 -- where the byte after this one stands: a word that begins with a quote is inside quotes up to the quote that closes it,
 -- and there a backslash takes the byte after it along, whatever it is
@@ -44,10 +40,6 @@ abbrev pub word_at : List (List ℕ) → ℕ → List ℕ
 word_at words i = slice_index_or words i []
 
 -- ---- what the first rules ask of words
--- whether the first byte is this one
-abbrev pub begins : ℕ → List ℕ → Bool
-begins byte [] = false
-begins byte (b ∷ text) = b == byte
 
 -- a quote inside quotes, with no backslash before it, closes them
 abbrev pub closes : Spot → ℕ → Bool

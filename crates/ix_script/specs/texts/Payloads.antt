@@ -2,8 +2,8 @@
 use Rattle.std.specs.Prelude.{ℕ, ◌+◌, ◌*◌, ◌-◌, ◌==◌, Bool, false, ◌||◌, List, [], ◌∷◌, ◌++◌, take, drop, position, replicate, Option, Some, None, if◌then◌else◌}
 use Rattle.std.proofs.Common.{option_map, option_and_then}
 use Rattle.ix_model.specs.opening.Valid.{is_within}
-use Rattle.ix_script.specs.texts.Cutting.{begins, is_empty}
-use Rattle.ix_script.specs.texts.Words.{is_digit, is_numeral, value}
+use Rattle.ix_text.specs.Bytes.{begins, is_empty, is_digit}
+use Rattle.ix_script.specs.texts.Words.{is_numeral, value}
 use Rattle.ix_script.specs.declared.values.escape.Escape.{Escape}
 use Rattle.ix_script.specs.declared.values.escape.Escape.TheVariants as escape
 

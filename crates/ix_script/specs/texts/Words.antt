@@ -1,4 +1,4 @@
--- The words of a script: names, numbers, sets of privileges, paths, modes, states and descriptors.
+-- The words of a script: numbers, paths, modes, states and descriptors.
 use Rattle.std.specs.Prelude.{ℕ, ◌+◌, ◌*◌, ◌-◌, ◌==◌, nat_le, Bool, true, false, not, ◌&&◌, ◌||◌, List, [], ◌∷◌, length, drop, Option, Some, None, if◌then◌else◌, unwrap_or, codes}
 use Rattle.std.specs.List.{list_all}
 use Rattle.std.proofs.Common.{option_map}
@@ -6,46 +6,15 @@ use Rattle.ix_model.specs.world.Naming.{PathOf, is_name, same_bytes}
 use Rattle.ix_model.specs.opening.Valid.{is_within}
 use Rattle.ix_model.specs.declared.call.Mode.{Mode}
 use Rattle.ix_model.specs.declared.call.Mode.TheVariants as mode
-use Rattle.ix_model.specs.declared.privs.PrivSet.{PrivSet}
-use Rattle.ix_text.specs.Spellings.{letters}
+use Rattle.ix_text.specs.Names.{name_of}
 use Rattle.ix_script.specs.texts.Lines.{with_front}
-use Rattle.ix_script.specs.texts.Cutting.{begins, is_empty}
+use Rattle.ix_text.specs.Bytes.{begins, begins_with, is_digit, is_empty}
 use Rattle.ix_script.specs.declared.line.What.{What}
 use Rattle.ix_script.specs.declared.line.What.TheVariants as what
 use Rattle.ix_script.specs.declared.line.FdWord.{FdWord}
 use Rattle.ix_script.specs.declared.line.FdWord.TheVariants as fd
 use Rattle.ix_script.specs.declared.line.KeepWord.{KeepWord}
 use Rattle.ix_script.specs.declared.line.KeepWord.TheVariants as keep
-
--- ---- names
--- a small letter
-abbrev pub is_letter : ℕ → Bool
-is_letter b = is_within 97 122 b
-
--- a decimal digit
-abbrev pub is_digit : ℕ → Bool
-is_digit b = is_within 48 57 b
-
--- a small letter, a digit or `_`
-abbrev pub may_stand_in_script_name : ℕ → Bool
-may_stand_in_script_name b = is_letter b || is_digit b || b == 95
-
--- whether the first byte passes the test
-abbrev pub begins_with : (ℕ → Bool) → List ℕ → Bool
-begins_with test [] = false
-begins_with test (b ∷ word) = test b
-
--- words with another meaning in a name's place
-abbrev pub is_reserved : List ℕ → Bool
-is_reserved word = same_bytes word (codes "all") || same_bytes word (codes "none") || same_bytes word (codes "as")
-
--- a small letter, then at most 15 small letters, digits or `_`
-unfoldable pub is_script_name : List ℕ → Bool
-is_script_name word = begins_with is_letter word && nat_le (length word) 16 && list_all may_stand_in_script_name word && not (is_reserved word)
-
--- the name of a file system, a process, a lane or a descriptor
-unfoldable pub name_of : List ℕ → Option (List ℕ)
-name_of word = if is_script_name word then Some word else None
 
 -- ---- numbers
 -- the number of these digits after the digits of n
@@ -64,19 +33,6 @@ is_numeral word = begins_with is_digit word && list_all is_digit word && (length
 -- a decimal number within bounds
 unfoldable pub number_of : ℕ → ℕ → List ℕ → Option ℕ
 number_of low high word = if is_numeral word && is_within low high (value word) then Some (value word) else None
-
--- ---- sets of privileges
--- these bits and those of a word's letters, each of which stands at most once, and in this order
-abbrev pub bits_from : ℕ → List (ℕ × ℕ) → List ℕ → Option ℕ
-bits_from bits [] word = if is_empty word then Some bits else None
-bits_from bits ((letter, bit) ∷ letters) word = if begins letter word then bits_from (bits + bit) letters (drop 1 word) else bits_from bits letters word
-
--- a set without privileges is `-`, another is its letters
-unfoldable pub privs_of : List ℕ → Option PrivSet
-privs_of word =
-    if same_bytes word (codes "-") then Some (record { 0 = 0 })
-    else if is_empty word then None
-    else option_map (λ bits. record { 0 = bits }) (bits_from 0 letters word)
 
 -- ---- paths
 -- printable and no space, quote or backslash

@@ -5,18 +5,18 @@ ghost use Rattle.ix_script.specs.lines.Before.{form_by, fs_told, or_default, def
 ghost use Rattle.ix_script.specs.reader.Told.{HeaderTold, MakesMore, NamesMore, TakenOne, Takes, fss_after};
 ghost use Rattle.ix_model.specs.opening.Valid.{is_valid};
 ghost use Rattle.ix_script.specs.lines.Faults.{said_fault};
-ghost use Rattle.ix_script.specs.texts.Cutting.{is_empty};
+ghost use Rattle.ix_text.specs.Bytes.{is_empty};
 ghost use Rattle.ix_script.specs.scripts.Scripts.{config_of};
 ghost use Rattle.ix_script.specs.declared.line.Line.{Line};
 
 use crate::before::names::Names;
 use crate::before::taken::Taken;
 use crate::before::tree::{Tree, names_of};
-use crate::cutting::words::is;
 use crate::line::{Line, What};
 use crate::values::paths::MadePath;
 use ix_label::{Form, Label};
 use ix_model::{FsSpec, Limits, List, Name, NoMemory, blocks_for, fs_of};
+use ix_text::is;
 use std::alloc::Global;
 
 /// What the lines so far tell of the machine.

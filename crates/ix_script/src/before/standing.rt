@@ -10,9 +10,10 @@ use crate::before::draft::Draft;
 use crate::before::known::is_known;
 use crate::cutting::cut::Words;
 use crate::cutting::form::Form;
-use crate::cutting::words::{begins_with_digit, is};
+use crate::cutting::words::begins_with_digit;
 use crate::line::What;
 use ix_model::FsSpec;
+use ix_text::is;
 
 fn is_named(word: &[u8], fss: &[FsSpec]) -> bool
     ensures { result ≡ list_any (λ s. same_bytes word.now s.name) fss.now }

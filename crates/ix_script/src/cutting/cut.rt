@@ -1,13 +1,14 @@
 ghost use Rattle.std.specs.Prelude.{◌≡◌, ℕ, ◌≤◌, ◌<◌, ◌+◌, ◌^◌, ◌∷◌, ◌++◌, [], length, take, drop, IfSome, Some, None, map};
 ghost use Rattle.std.specs.Option.{option_map_or};
-ghost use Rattle.ix_script.specs.texts.Cutting.{pieces, words_of, word_at, is_closed, is_open, is_empty};
+ghost use Rattle.ix_script.specs.texts.Cutting.{pieces, words_of, word_at, is_closed, is_open};
+ghost use Rattle.ix_text.specs.Bytes.{is_empty};
 ghost use Rattle.ix_script.specs.lines.Rules.{has_empty_word, has_open_quote};
 ghost use Rattle.ix_script.specs.reader.Cut.{AreWords};
 ghost use Rattle.ix_script.specs.declared.cutting.spot.Spot.TheVariants as spot;
 
 use crate::cutting::spot::Spot;
-use crate::cutting::words::begins;
 use arrayvec::ArrayVec;
+use ix_text::begins;
 use std::marker::Model;
 
 /// How many words are kept: no line has more that are read.

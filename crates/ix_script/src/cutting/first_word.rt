@@ -2,7 +2,7 @@ ghost use Rattle.std.specs.Prelude.{◌≡◌, ◌+◌, ◌==◌, length, List, 
 ghost use Rattle.ix_script.specs.lines.Forms.{plain_of, on_path_of, on_fd_of, counted_of, frame_form, group_form, file_form, process_form, form_of};
 
 use crate::cutting::form::{Counted, Form, OnFd, OnPath, Plain};
-use crate::cutting::words::is;
+use ix_text::is;
 
 /// Commands that take a process alone.
 #[tactic(auto, unfolding(crate::specs::lines::Forms::plain_of))]

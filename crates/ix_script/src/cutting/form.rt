@@ -2,7 +2,7 @@ ghost use Rattle.std.specs.Prelude.{◌≡◌, ℕ, ◌≤◌, List, length};
 ghost use Rattle.ix_script.specs.lines.Forms.{arity, tail_of, is_header, is_command_form, has_right_count};
 
 use crate::cutting::cut::Words;
-use crate::cutting::words::is;
+use ix_text::is;
 
 /// A command that takes a process alone.
 #[derive(Clone, Copy)]

@@ -2,41 +2,16 @@ ghost use Rattle.std.specs.Prelude.{◌≡◌, ℕ, ◌≤◌, ◌+◌, [], ◌�
 ghost use Rattle.std.specs.List.{list_all};
 ghost use Rattle.ix_model.specs.world.Naming.{same_bytes};
 ghost use Rattle.ix_model.specs.opening.Valid.{is_within};
-ghost use Rattle.ix_script.specs.texts.Cutting.{begins};
+ghost use Rattle.ix_text.specs.Bytes.{begins, is_letter, is_digit, begins_with};
 ghost use Rattle.ix_script.specs.lines.Kinds as kind;
 ghost use Rattle.ix_script.specs.reader.Readers.{Reads};
-ghost use Rattle.ix_script.specs.texts.Words.{is_letter, is_digit, begins_with, may_stand_in_script_name, is_reserved, is_script_name, name_of, is_numeral, value, number_of};
+ghost use Rattle.ix_script.specs.texts.Words.{is_numeral, value, number_of};
+ghost use Rattle.ix_text.specs.Names.{may_stand_in_script_name, is_reserved, is_script_name, name_of};
 
 use crate::rule::Rule;
 use ix_model::Name;
+use ix_text::{is, is_digit, is_script_name};
 use std::marker::Model;
-
-/// Whether the two are the same bytes. It is inlined, so that a text that is known costs a comparison or two where the word is
-/// another.
-#[inline(always)]
-pub(crate) fn is(word: &[u8], text: &[u8]) -> bool
-    ensures { result ≡ same_bytes word.now text.now }
-{
-    if word.len() != text.len() {
-        return false;
-    }
-    'bytes: for i in 0..text.len() {
-        if word[i] != text[i] {
-            return false;
-        }
-    }
-    true
-}
-
-/// Whether the word begins with the byte.
-pub(crate) fn begins(byte: u8, word: &[u8]) -> bool
-    ensures { result ≡ begins byte word.now }
-{
-    match word {
-        [] => false,
-        [b, ..] => *b == byte,
-    }
-}
 
 /// Whether the word begins with that text. It is inlined as `is` is.
 #[inline(always)]
@@ -54,27 +29,6 @@ pub(crate) fn place_of(byte: u8, text: &[u8]) -> Option<usize>
     text.iter().position(|b| *b == byte)
 }
 
-fn is_letter(b: u8) -> bool
-    ensures { result ≡ is_letter b }
-{
-    b >= b'a' && b <= b'z'
-}
-
-pub(crate) fn is_digit(b: u8) -> bool
-    ensures { result ≡ is_digit b }
-{
-    b >= b'0' && b <= b'9'
-}
-
-fn begins_with_letter(word: &[u8]) -> bool
-    ensures { result ≡ begins_with is_letter word.now }
-{
-    match word {
-        [] => false,
-        [b, ..] => is_letter(*b),
-    }
-}
-
 pub(crate) fn begins_with_digit(word: &[u8]) -> bool
     ensures { result ≡ begins_with is_digit word.now }
 {
@@ -88,26 +42,6 @@ pub(crate) fn all_digits(word: &[u8]) -> bool
     ensures { result ≡ list_all is_digit word.now }
 {
     word.iter().all(|b| is_digit(*b))
-}
-
-fn all_in_name(word: &[u8]) -> bool
-    ensures { result ≡ list_all may_stand_in_script_name word.now }
-{
-    word.iter()
-        .all(|b| is_letter(*b) || is_digit(*b) || *b == b'_')
-}
-
-fn is_reserved(word: &[u8]) -> bool
-    ensures { result ≡ is_reserved word.now }
-{
-    is(word, b"all") || is(word, b"none") || is(word, b"as")
-}
-
-#[tactic(auto, unfolding(crate::specs::texts::Words::is_script_name))]
-fn is_script_name(word: &[u8]) -> bool
-    ensures { result ≡ is_script_name word.now }
-{
-    begins_with_letter(word) && word.len() <= 16 && all_in_name(word) && !is_reserved(word)
 }
 
 /// The name of a file system, a process, a lane or a descriptor, as a word of a script. It borrows the word, and contracts see
@@ -148,7 +82,7 @@ impl<'a> NameWord<'a> {
 }
 
 /// The name of a file system, a process, a lane or a descriptor.
-#[tactic(auto, unfolding(crate::specs::texts::Words::name_of, crate::specs::lines::Kinds::places_fault, crate::specs::lines::Kinds::first_broken))]
+#[tactic(auto, unfolding(ix_text::specs::Names::name_of, crate::specs::lines::Kinds::places_fault, crate::specs::lines::Kinds::first_broken))]
 pub(crate) fn name(word: &[u8]) -> Result<NameWord<'_>, Rule>
     ensures own { Reads (λ x. x) result ((kind.Own, word.now) ∷ []) (name_of word.now) }
     ensures proc { Reads (λ x. x) result ((kind.Proc, word.now) ∷ []) (name_of word.now) }

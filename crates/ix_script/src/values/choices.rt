@@ -3,10 +3,10 @@ ghost use Rattle.ix_script.specs.lines.Kinds as kind;
 ghost use Rattle.ix_script.specs.reader.Readers.{Reads};
 ghost use Rattle.ix_script.specs.texts.Words.{mode_of, state_of, what_of};
 
-use crate::cutting::words::is;
 use crate::line::What;
 use crate::rule::Rule;
 use ix_model::Mode;
+use ix_text::is;
 
 /// `r`, `w` or `rw`.
 #[tactic(auto, unfolding(crate::specs::texts::Words::mode_of, crate::specs::lines::Kinds::places_fault, crate::specs::lines::Kinds::first_broken))]

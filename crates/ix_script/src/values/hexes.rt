@@ -1,7 +1,7 @@
 ghost use Rattle.std.specs.Prelude.{◌≡◌, ◌<◌, Some, IfSome, IsSome, is_some};
 ghost use Rattle.ix_script.specs.texts.Payloads.{digit_of, pair_of, two_digits};
 
-use crate::cutting::words::is_digit;
+use ix_text::is_digit;
 
 /// The value of a hexadecimal digit.
 #[tactic(auto, unfolding(crate::specs::texts::Payloads::digit_of))]

@@ -6,10 +6,11 @@ ghost use Rattle.ix_script.specs.lines.Kinds.{bounds, bounds_of};
 ghost use Rattle.ix_script.specs.reader.Readers.{Reads};
 ghost use Rattle.ix_script.specs.texts.Words.{is_numeral, value, number_of, fd_of, keep_of};
 
-use crate::cutting::words::{all_digits, begins, begins_with_digit, is, name};
+use crate::cutting::words::{all_digits, begins_with_digit, name};
 use crate::line::{FdWord, KeepWord, What};
 use crate::rule::Rule;
 use crate::values::choices::what_by_name;
+use ix_text::{begins, is};
 
 #[tactic(auto, unfolding(crate::specs::texts::Words::is_numeral))]
 pub(crate) fn is_numeral(word: &[u8]) -> bool

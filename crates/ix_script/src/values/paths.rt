@@ -7,9 +7,10 @@ ghost use Rattle.ix_script.specs.reader.Readers.{Reads};
 ghost use Rattle.ix_script.specs.texts.Spellings.{path_text};
 ghost use Rattle.ix_script.specs.texts.Words.{may_stand_in_path, between_slashes, names_of, path_from, absolute_path, relative_path, path_of, made_path_of};
 
-use crate::cutting::words::{begins, place_of};
+use crate::cutting::words::place_of;
 use crate::rule::Rule;
 use ix_model::{Name, Path};
+use ix_text::begins;
 use std::marker::Model;
 
 /// What stands before the first slash, and what stands after it.

@@ -7,13 +7,14 @@ ghost use Rattle.ix_script.specs.lines.Said.{payload_within};
 ghost use Rattle.ix_script.specs.texts.Spelled.{Counts, Spells};
 ghost use Rattle.ix_script.specs.declared.values.escape.Escape.TheVariants as escape;
 
-use crate::cutting::words::{begins, place_of};
+use crate::cutting::words::place_of;
 use crate::rule::Rule;
 use crate::values::escape::Escape;
 use crate::values::hexes::{is_hex_digit, two_digits};
 use crate::values::numbers::{is_numeral, value};
 use crate::values::spelling::{PayloadBytes, Spelling};
 use ix_model::NoMemory;
+use ix_text::begins;
 use std::marker::Model;
 
 /// The bytes that a word of a script spells, at most so many. It borrows the word, and contracts see the list of the bytes.

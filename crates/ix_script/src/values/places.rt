@@ -3,10 +3,12 @@ ghost use Rattle.ix_script.specs.texts.Cutting.{word_at};
 ghost use Rattle.ix_script.specs.lines.Forms.{tail_places};
 ghost use Rattle.ix_script.specs.lines.Kinds as kind;
 ghost use Rattle.ix_script.specs.lines.Kinds.{bounds};
-ghost use Rattle.ix_script.specs.texts.Labels.{label_in};
+ghost use Rattle.ix_text.specs.Labels.{label_in};
 ghost use Rattle.ix_script.specs.reader.Readers.{Reads};
 ghost use Rattle.ix_script.specs.lines.Said.{payload_within, name_after, two_names_after};
-ghost use Rattle.ix_script.specs.texts.Words.{name_of, number_of, privs_of, path_of, made_path_of, mode_of, state_of, what_of, fd_of, keep_of};
+ghost use Rattle.ix_script.specs.texts.Words.{number_of, path_of, made_path_of, mode_of, state_of, what_of, fd_of, keep_of};
+ghost use Rattle.ix_text.specs.Names.{name_of};
+ghost use Rattle.ix_text.specs.Privs.{privs_of};
 
 use crate::cutting::cut::Words;
 use crate::cutting::words::{NameWord, name};

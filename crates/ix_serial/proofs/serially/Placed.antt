@@ -6,8 +6,9 @@ use Rattle.std.proofs.Math.Bool.{or-false}
 use Rattle.std.proofs.lemmas.Bool.{and_from, not-false}
 use Rattle.std.proofs.lemmas.List.Folds.{list_any-append}
 use Rattle.std.proofs.lemmas.List.Sums.{fold-append}
-use Rattle.ix_script.specs.texts.Cutting.{is_empty, is_policy_line, pieces, words_of, word_at}
-use Rattle.ix_script.specs.texts.Words.{is_script_name, name_of}
+use Rattle.ix_script.specs.texts.Cutting.{is_policy_line, pieces, words_of, word_at}
+use Rattle.ix_text.specs.Bytes.{is_empty}
+use Rattle.ix_text.specs.Names.{is_script_name, name_of}
 use Rattle.ix_script.specs.lines.Before.{form_told, in_body, is_known, is_phase, phase_lanes, phase_lanes_after}
 use Rattle.ix_script.specs.lines.Kinds.{places_fault}
 use Rattle.ix_script.specs.lines.Rules.{first_of, is_given_twice, is_late, is_outside, names_unknown}

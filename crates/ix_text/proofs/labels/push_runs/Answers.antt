@@ -1,4 +1,3 @@
-use Rattle.std.proofs.Common.{◌≡◌, length, take}
 use Rattle.ix_label.proofs.Walk.{left-falls}
 use Rattle.ix_text.proofs.Items.{none_told, more_told, all_told, stays_twice, stays_whole}
 use Rattle.ix_text.proofs.labels.push_runs.Goals as goal

@@ -1,6 +1,6 @@
 use Rattle.std.proofs.Common.{◌∙◌, sym, ap}
 use Rattle.ix_model.specs.opening.Valid.{is_within}
-use Rattle.ix_script.specs.texts.Words.{begins_with}
+use Rattle.ix_text.specs.Bytes.{begins_with}
 use Rattle.ix_host.proofs.words_in.Counts.{no_count, parsed_count, parsed_many, parsed_none}
 use Rattle.ix_host.proofs.asked.command_line.count_of.Goals as goal
 

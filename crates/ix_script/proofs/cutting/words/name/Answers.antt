@@ -1,5 +1,5 @@
 use Rattle.std.proofs.Common.{sym, ◌∙◌}
-use Rattle.ix_script.proofs.texts.Names.{script_name_is_name}
+use Rattle.ix_text.proofs.ScriptNames.{script_name_is_name}
 use Rattle.ix_script.proofs.cutting.words.name.Goals as goal
 
 pub invariant_of-result : goal.invariant_of-result

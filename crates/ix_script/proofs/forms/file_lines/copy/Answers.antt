@@ -4,7 +4,8 @@ use Rattle.ix_script.specs.texts.Cutting.{word_at}
 use Rattle.ix_script.specs.lines.Kinds as kind
 use Rattle.ix_script.specs.lines.Kinds.{bounds}
 use Rattle.ix_script.specs.lines.Said.{both}
-use Rattle.ix_script.specs.texts.Words.{name_of, number_of, fd_of}
+use Rattle.ix_script.specs.texts.Words.{number_of, fd_of}
+use Rattle.ix_text.specs.Names.{name_of}
 use Rattle.ix_script.specs.declared.line.Line.TheVariants as line
 use Rattle.ix_script.proofs.lines.Readings.{both_reads, line_read, line_refused}
 use Rattle.ix_script.proofs.forms.file_lines.copy.Goals as goal

@@ -5,7 +5,7 @@ use Rattle.ix_script.specs.lines.Forms.{tail_places}
 use Rattle.ix_script.specs.lines.Kinds as kind
 use Rattle.ix_script.specs.lines.Kinds.{bounds}
 use Rattle.ix_script.specs.lines.Said.{both, two_names_after}
-use Rattle.ix_script.specs.texts.Words.{name_of}
+use Rattle.ix_text.specs.Names.{name_of}
 use Rattle.ix_script.specs.declared.line.Line.TheVariants as line
 use Rattle.ix_script.proofs.lines.Readings.{both_reads, line_read, line_refused}
 use Rattle.ix_script.proofs.forms.file_lines.pipe.Goals as goal

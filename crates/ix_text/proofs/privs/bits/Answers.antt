@@ -1,6 +1,6 @@
 use Rattle.std.proofs.Common.{[], ◌∷◌, ◌∙◌, sym}
-use Rattle.ix_script.proofs.reader.Verdicts.{no_bytes_left, bytes_left}
-use Rattle.ix_script.proofs.values.privs.bits.Goals as goal
+use Rattle.ix_text.proofs.Letters.{no_bytes_left, bytes_left}
+use Rattle.ix_text.proofs.privs.bits.Goals as goal
 
 pub returns-then-is_empty : goal.returns-then-is_empty
 returns-then-is_empty c =

@@ -1,24 +1,12 @@
--- Script names are names of the kernel.
-use Rattle.std.proofs.Common.{◌≡◌, ℕ, Bool, true, false, ◌&&◌, not, ◌==◌, nat_le, nat_lt, List, [], ◌∷◌, length, refl, arith}
+-- Names of scripts are names of the machine.
+use Rattle.std.proofs.Common.{◌≡◌, ℕ, true, false, ◌&&◌, not, ◌==◌, nat_le, nat_lt, List, [], ◌∷◌, length, refl, arith}
 use Rattle.std.specs.List.{list_all}
 use Rattle.std.proofs.lemmas.Bool.Decides.{nat_tests}
 use Rattle.std.proofs.lemmas.Bool.{lt-ltb}
 use Rattle.ix_model.specs.world.Naming.{is_name, may_stand_in_name, same_bytes}
-use Rattle.ix_script.specs.texts.Words.{is_letter, may_stand_in_script_name, is_reserved, is_script_name}
-
-pub both : (a b : Bool) → (a && b) ≡ true → (a ≡ true) × (b ≡ true)
-both true b h = (refl, h)
-both false b h = cc
-
-pub list_all_weaker : (p q : ℕ → Bool) → ((b : ℕ) → p b ≡ true → q b ≡ true) → (xs : List ℕ) → list_all p xs ≡ true → list_all q xs ≡ true
-list_all_weaker p q weaker [] h = refl
-list_all_weaker p q weaker (x ∷ xs) h =
-    let parts : (p x ≡ true) × (list_all p xs ≡ true) = both (p x) (list_all p xs) h in
-    rw (weaker x parts.0) (list_all_weaker p q weaker xs parts.1)
-
-pub join_tests : (a b : Bool) → a ≡ true → b ≡ true → (a && b) ≡ true
-join_tests true b h k = k
-join_tests false b h k = cc
+use Rattle.ix_text.specs.Bytes.{is_letter}
+use Rattle.ix_text.specs.Names.{may_stand_in_script_name, is_reserved, is_script_name}
+use Rattle.ix_text.proofs.Tests.{both, join_tests, list_all_weaker}
 
 unlike : (b c : ℕ) (bytes text : List ℕ) → (b == c) ≡ false → not (same_bytes (b ∷ bytes) (c ∷ text)) ≡ true
 unlike b c bytes text h = rw h refl

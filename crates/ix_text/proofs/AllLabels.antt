@@ -1,25 +1,20 @@
 -- The one label of a spelling is found among all labels.
-use Rattle.std.proofs.Common.{◌≡◌, ◌≢◌, ℕ, zero, suc, ◌+◌, ◌<◌, Bool, true, false, not, ◌&&◌, ◌||◌, ◌==◌, List, [], ◌∷◌, ◌++◌, map, find, Some, None, ◌⊎◌, inl, inr, refl, sym, ap, ◌∙◌, subst, arith}
+use Rattle.std.proofs.Common.{◌≡◌, ◌≢◌, ℕ, zero, suc, ◌+◌, ◌<◌, Bool, true, false, not, ◌&&◌, ◌||◌, ◌==◌, List, [], ◌∷◌, ◌++◌, map, find, cond, Option, Some, None, ◌⊎◌, inl, inr, refl, sym, ap, ◌∙◌, subst, arith}
 use Rattle.std.specs.FinSet as set
 use Rattle.std.specs.FinSet.{contains-remove}
 use Rattle.std.specs.Cmp.{nat_cmp_total, unsigned_tied}
 use Rattle.std.proofs.lemmas.Bool.{eq-eqb, ne_eqb, cases_eq}
 use Rattle.std.specs.Cmp.Lexicographic.{same_text}
 use Rattle.ix_label.specs.declared.form.Form.{Form}
-use Rattle.std.proofs.lemmas.Option.{same_Some}
 use Rattle.ix_label.specs.Forms.{greatest, Fits, IsWithin}
-use Rattle.ix_label.proofs.Fitting.{within-fits}
 use Rattle.ix_label.specs.Category.{Categories, has, bottom, with}
 use Rattle.ix_label.specs.Members.{same_members, has-bottom, has-with}
 use Rattle.ix_label.specs.Spelling.{spelling}
+use Rattle.ix_label.proofs.Fitting.{within-fits}
 use Rattle.ix_model.specs.world.Naming.{same_bytes}
-use Rattle.ix_script.specs.texts.Labels.{labels_below, is_spelled, label_in}
+use Rattle.ix_text.specs.Labels.{labels_below, is_spelled, label_in}
 use Rattle.ix_model.proofs.tables.Alike.{bytes_itself}
-use Rattle.ix_script.proofs.texts.Names.{both}
-
-pub bool_cases : (b : Bool) → (b ≡ true) ⊎ (b ≡ false)
-bool_cases true = inl refl
-bool_cases false = inr refl
+use Rattle.ix_text.proofs.Tests.{both, bool_cases}
 
 -- ---- every label is there
 abbrev Among : Categories → List Categories → Type 0
@@ -144,16 +139,20 @@ label_missing form word none =
     find_none (is_spelled form word) (labels_below (greatest form + 1))
     (λ l a t. none l (record { below = λ q one. omega (arith, below (greatest form + 1) l a q one) }) (same_text (spelling form l) word (sym t)))
 
--- ---- what is found is a label of the form
-find_among : (test : Categories → Bool) (ls : List Categories) (s : Categories) → find test ls ≡ Some s → Among s ls
-find_among test [] s h = cc
-find_among test (l ∷ ls) s h = elim (bool_cases (test l)) [
-  | inl t ↦ let is : Some l ≡ Some s = rw t at h in inl (same_Some l s is)
-  | inr f ↦ let later : find test ls ≡ Some s = rw f at h in inr (find_among test ls s later)
+-- what is found is among those that are looked through
+found_among : (test : Categories → Bool) (s : Categories) (ls : List Categories) → find test ls ≡ Some s → Among s ls
+found_among test s [] h = cc
+found_among test s (l ∷ ls) h = elim (bool_cases (test l)) [
+  | inl t ↦ let found : ◌≡◌ {A = Option Categories} (Some l) (Some s) = ap (λ b. cond b (Some l) (find test ls)) (sym t) ∙ h in inl (cc)
+  | inr f ↦ inr (found_among test s ls (ap (λ b. cond b (Some l) (find test ls)) (sym f) ∙ h))
 ]
 
-pub label_fits : (form : Form) (word : List ℕ) (s : Categories) → label_in form word ≡ Some s → Fits form s
+-- the label that a word spells in a form is within it
+pub label_within : (form : Form) (word : List ℕ) (s : Categories) → label_in form word ≡ Some s → IsWithin form s
 unfolding label_in
-label_fits form word s h =
-    let among = find_among (is_spelled form word) (labels_below (greatest form + 1)) s h in
-    within-fits form s (record { below = λ q one. omega (arith, below (greatest form + 1) s among q one) })
+label_within form word s h =
+    record { below = λ q one. omega (arith, below (greatest form + 1) s (found_among (is_spelled form word) s (labels_below (greatest form + 1)) h) q one) }
+
+-- and so the form has a text for it
+pub label_fits : (form : Form) (word : List ℕ) (s : Categories) → label_in form word ≡ Some s → Fits form s
+label_fits form word s h = within-fits form s (label_within form word s h)

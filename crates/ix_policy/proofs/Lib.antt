@@ -1,0 +1,5 @@
+pub mod Walking
+pub mod Values
+pub mod Fitting
+pub mod Numbering
+pub mod Examples
