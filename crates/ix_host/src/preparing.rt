@@ -10,7 +10,7 @@ ghost use Rattle.ix_host.specs.run.Whole.{TakesFew};
 ghost use Rattle.ix_host.specs.run.Run.{Ends};
 
 use crate::asked::command::Command;
-use crate::built::unbuilt_line;
+use crate::refusing::script_refusal;
 use crate::status::Status;
 use crate::streams::input::input_for;
 use crate::streams::sending::tell;
@@ -44,8 +44,8 @@ fn print<K: Sink>(alloc: Global, sink: &mut K, script: &Script) -> Status
     }
 }
 
-/// What a command asks with a script all of whose forms are built under it.
-fn script_task<K: Sink>(alloc: Global, sink: &mut K, command: Command, script: Script) -> Task
+/// What a command asks with a script that it doesn't refuse.
+fn accepted_task<K: Sink>(alloc: Global, sink: &mut K, command: Command, script: Script) -> Task
     requires { IsRunnable script }
     ensures leads { LeadsTo (λ history. outcome.Whole (text_for command script history)) script result (K.taken sink.old) (K.taken sink.new)
         (K.finished sink.new) (K.faults sink.old) (K.faults sink.new) }
@@ -59,15 +59,16 @@ fn script_task<K: Sink>(alloc: Global, sink: &mut K, command: Command, script: S
 }
 
 /// What a command asks with a script.
-fn built_task<K: Sink>(alloc: Global, sink: &mut K, command: Command, script: Script) -> Task
+fn script_task<K: Sink>(alloc: Global, sink: &mut K, command: Command, script: Script) -> Task
     requires { IsRunnable script }
-    ensures leads { LeadsTo (λ history. outcome_for command script history) script result (K.taken sink.old) (K.taken sink.new) (K.finished sink.new)
-        (K.faults sink.old) (K.faults sink.new) }
+    ensures leads { LeadsTo (λ history. outcome_for command script history) script result (K.taken sink.old) (K.taken sink.new)
+        (K.finished sink.new) (K.faults sink.old) (K.faults sink.new) }
     ensures untouched { OnRun result (sink.new ≡ sink.old) }
 {
-    match unbuilt_line(command, &script) {
-        Some(line) => Task::Ended(refuse(alloc, sink, line, 0)),
-        None => script_task(alloc, sink, command, script),
+    match script_refusal(alloc, command, &script) {
+        Ok(None) => accepted_task(alloc, sink, command, script),
+        Ok(Some((line, rule))) => Task::Ended(refuse(alloc, sink, line, rule)),
+        Err(NoMemory) => Task::Ended(Status::NoMemory),
     }
 }
 
@@ -79,7 +80,7 @@ fn input_task<K: Sink>(alloc: Global, sink: &mut K, command: Command, bytes: &[u
     ensures untouched { OnRun result (sink.new ≡ sink.old) }
 {
     match read(alloc, bytes) {
-        Ok(script) => built_task(alloc, sink, command, script),
+        Ok(script) => script_task(alloc, sink, command, script),
         Err(ReadFail::Fault(fault)) => Task::Ended(refuse(alloc, sink, fault.line, fault.rule)),
         Err(ReadFail::NoMemory) => Task::Ended(Status::NoMemory),
     }

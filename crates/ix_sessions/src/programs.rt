@@ -3,6 +3,7 @@ mod copies;
 mod floats;
 mod forms;
 mod lanes;
+mod policies;
 mod statuses;
 mod words;
 

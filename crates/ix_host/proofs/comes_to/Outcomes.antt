@@ -1,16 +1,21 @@
 -- What a command comes to.
-use Rattle.std.proofs.Common.{◌≡◌, ℕ, suc, true, false, List, [], ◌∷◌, length, Option, Some, None, is_none, refl, sym, ap, ◌∙◌, if◌then◌else◌, unwrap_or, nat_lt}
-use Rattle.std.specs.Option.{option_map, option_or}
+use Rattle.std.proofs.Common.{◌≡◌, ℕ, Bool, true, false, List, [], length, Option, Some, None, is_none, refl, sym, ap, ◌∙◌, if◌then◌else◌, unwrap_or, nat_lt}
+use Rattle.std.specs.Option.{option_and_then, option_map, option_or}
+use Rattle.std.specs.Result.{is_err}
+use Rattle.ix_label.specs.declared.form.Form.{Form}
 use Rattle.ix_model.specs.history.Events.{Event}
+use Rattle.ix_policy.specs.Policies.{policy}
+use Rattle.ix_script.specs.lines.Before.{form_told}
 use Rattle.ix_script.specs.lines.Faults.{fault_of}
 use Rattle.ix_script.specs.texts.Lines.{lines_of}
-use Rattle.ix_script.specs.scripts.Scripts.{form_in, script_of, lines_said}
+use Rattle.ix_script.specs.scripts.Scripts.{form_in, policy_of, script_of, lines_said}
 use Rattle.ix_script.specs.declared.line.Line.{Line}
 use Rattle.ix_host.specs.declared.asked.command.Command.{Command}
 use Rattle.ix_host.specs.declared.asked.command.Command.TheVariants as command
 use Rattle.ix_host.specs.declared.status.Status.TheVariants as status
-use Rattle.ix_host.specs.Built.{unbuilt_from, unbuilt_line}
-use Rattle.ix_host.specs.run.Outcome.{IsReadable, Outcome, outcome_for, outcome_in, outcome_of, reads_source, refusal_of, refused_by, script_in, status_of, text_for, text_of, unbuilt_refusal, unless_refused}
+use Rattle.ix_host.specs.Built.{unbuilt_line}
+use Rattle.ix_host.specs.Policies.{policy_refusal, refused_policy}
+use Rattle.ix_host.specs.run.Outcome.{IsReadable, Outcome, outcome_for, outcome_in, outcome_of, reads_source, refusal_of, refused_by, script_in, script_refusal, status_of, text_for, text_of, unbuilt_refusal, unless_refused}
 use Rattle.ix_host.specs.run.Outcome as outcome
 use Rattle.ix_host.specs.run.Run.{called_for, unless_done}
 use Rattle.ix_replay.specs.report.Report.{report_of}
@@ -18,24 +23,15 @@ use Rattle.ix_host.specs.report.Rules.{refusal_line}
 use Rattle.ix_host.proofs.comes_to.LaterRules.{not_rule_one}
 
 -- ---- a script
--- under `gen` all forms are built
-built_from : (n i : ℕ) (s : List Line) → unbuilt_from (command.Gen n) i s ≡ None
-built_from n i [] = refl
-built_from n i (l ∷ s) = built_from n (suc i) s
-
-always_built : (n : ℕ) (s : List Line) → unbuilt_line (command.Gen n) s ≡ None
-unfolding unbuilt_line
-always_built n s = built_from n 1 s
-
--- a form that isn't built
-pub outcome_unbuilt : (c : Command) (s : List Line) (n : ℕ) (history : List Event) → unbuilt_line c s ≡ Some n → outcome.Refused n 0 ≡ outcome_for c s history
+-- one that is refused
+pub outcome_refused : (c : Command) (s : List Line) (line rule : ℕ) (history : List Event) → script_refusal c s ≡ Some (line, rule) → outcome.Refused line rule ≡ outcome_for c s history
 unfolding outcome_for
-outcome_unbuilt c s n history is = rw (outcome_for, is) refl
+outcome_refused c s line rule history is = rw (outcome_for, is) refl
 
--- a script all of whose forms are built
-pub outcome_built : (c : Command) (s : List Line) (history : List Event) → unbuilt_line c s ≡ None → outcome.Whole (text_for c s history) ≡ outcome_for c s history
+-- one that isn't
+pub outcome_accepted : (c : Command) (s : List Line) (history : List Event) → script_refusal c s ≡ None → outcome.Whole (text_for c s history) ≡ outcome_for c s history
 unfolding outcome_for
-outcome_built c s history is = rw (outcome_for, is) refl
+outcome_accepted c s history is = rw (outcome_for, is) refl
 
 -- ---- an input
 -- one with a fault
@@ -58,10 +54,10 @@ in_script bytes s is = ap (λ (o : Option (List Line)). unwrap_or o []) (sym is)
 
 -- one that is a script
 pub outcome_script : (c : Command) (bytes : List ℕ) (s : List Line) (history : List Event) → script_of bytes ≡ Some s → outcome_for c s history ≡ outcome_in c bytes history
-unfolding outcome_for outcome_in refusal_of
+unfolding outcome_for outcome_in refusal_of script_refusal
 outcome_script command.Run bytes s history is = rw (outcome_in, without_fault bytes s is, is) refl
 outcome_script command.Print bytes s history is = rw (outcome_in, without_fault bytes s is, is) refl
-outcome_script (command.Gen n) bytes s history is = rw (outcome_for, always_built n s, is) refl
+outcome_script (command.Gen n) bytes s history is = rw (outcome_for, is) refl
 
 -- one that is too long
 readable : (c : Command) (bytes : List ℕ) → reads_source (Some c) ≡ true → IsReadable c bytes
@@ -102,17 +98,41 @@ pub made_done : (n : ℕ) (bytes : List ℕ) → called_for (Some (command.Gen n
 unfolding called_for refusal_of
 made_done n bytes = refl
 
--- a refusal by the first rule is one of an input that is too long
+-- what isn't a refusal by the first rule
+abbrev IsLater : Option (ℕ × ℕ) → Type 0
+IsLater o = (n : ℕ) → status.Script n 1 ≡ unless_done o → ⊥
+
+or_later : (a b : Option (ℕ × ℕ)) → IsLater a → IsLater b → IsLater (option_or a b)
+or_later None b f g = g
+or_later (Some refusal) b f g = f
+
+-- that of a policy isn't
+policy_later : (form : Form) (p : Option (ℕ × List ℕ)) → IsLater (option_and_then (refused_policy form) p)
+policy_later form None n h = cc
+policy_later form (Some p) n h = by_test (is_err (policy form p.1)) h
+  where
+    by_test : (b : Bool) → status.Script n 1 ≡ unless_done (if b then Some (p.0, 27) else None) → ⊥
+    by_test true k = cc
+    by_test false k = cc
+
+-- nor is that of a form that isn't built
+unbuilt_later : (line : Option ℕ) → IsLater (option_map (λ n. (n, 0)) line)
+unbuilt_later None n h = cc
+unbuilt_later (Some line) n h = cc
+
+script_later : (c : Command) (s : List Line) → IsLater (script_refusal c s)
+unfolding script_refusal policy_refusal
+script_later command.Run s = or_later (policy_refusal s) (unbuilt_refusal s) (policy_later (form_told s) (policy_of s)) (unbuilt_later (unbuilt_line s))
+script_later command.Print s = policy_later (form_told s) (policy_of s)
+script_later (command.Gen n) s m h = cc
+
+-- a refusal by it is one of an input that is too long
 pub first_rule : (c : Command) (bytes : List ℕ) (n : ℕ) → nat_lt 16777216 (length bytes) ≡ false → status.Script n 1 ≡ called_for (Some c) bytes → ⊥
 unfolding called_for refusal_of
 first_rule c bytes n short h = by_command c h
   where
-    later : (o : Option ℕ) → status.Script n 1 ≡ unless_done (option_map (λ k. (k, 0)) o) → ⊥
-    later None k = cc
-    later (Some m) k = cc
-
-    of_fault : (d : Command) (o : Option (ℕ × ℕ)) → fault_of bytes ≡ o → status.Script n 1 ≡ unless_done (option_or o (unbuilt_refusal d (script_in bytes))) → ⊥
-    of_fault d None is k = later (unbuilt_line d (script_in bytes)) k
+    of_fault : (d : Command) (o : Option (ℕ × ℕ)) → fault_of bytes ≡ o → status.Script n 1 ≡ unless_done (option_or o (script_refusal d (script_in bytes))) → ⊥
+    of_fault d None is k = script_later d (script_in bytes) n k
     of_fault d (Some fault) is k =
         let one : fault.1 ≡ 1 = cc in
         not_rule_one bytes fault.0 short (is ∙ ap (λ r. Some (fault.0, r)) one)

@@ -14,6 +14,7 @@ use Rattle.ix_host.specs.declared.asked.command.Command.TheVariants as command
 use Rattle.ix_host.specs.declared.status.Status.{Status}
 use Rattle.ix_host.specs.declared.status.Status.TheVariants as status
 use Rattle.ix_host.specs.Built.{unbuilt_line}
+use Rattle.ix_host.specs.Policies.{policy_refusal}
 use Rattle.ix_host.specs.report.Rules.{refusal_line}
 
 -- a whole text, the line and the rule of a refusal, or the usage line
@@ -47,13 +48,19 @@ abbrev pub script_in : List ℕ → List Line
 script_in bytes = unwrap_or (script_of bytes) []
 
 -- ---- the outcome
--- the line of the first form of a script that isn't built yet, which is rule 0
-abbrev pub unbuilt_refusal : Command → List Line → Option (ℕ × ℕ)
-unbuilt_refusal c s = option_map (λ n. (n, 0)) (unbuilt_line c s)
+-- the line of the first form of a script that isn't built yet, and rule 0
+abbrev pub unbuilt_refusal : List Line → Option (ℕ × ℕ)
+unbuilt_refusal s = option_map (λ n. (n, 0)) (unbuilt_line s)
+
+-- the line and the rule by which a script without a fault is refused: by its policy, and else under `run` by a form that isn't built
+unfoldable pub script_refusal : Command → List Line → Option (ℕ × ℕ)
+script_refusal command.Run s = option_or (policy_refusal s) (unbuilt_refusal s)
+script_refusal command.Print s = policy_refusal s
+script_refusal (command.Gen n) s = None
 
 -- the line and the rule by which an input is refused: its fault stands before all else
 abbrev pub refused_by : Command → List ℕ → Option (ℕ × ℕ)
-refused_by c bytes = option_or (fault_of bytes) (unbuilt_refusal c (script_in bytes))
+refused_by c bytes = option_or (fault_of bytes) (script_refusal c (script_in bytes))
 
 -- the same of all commands: what `gen` reads is never refused
 unfoldable pub refusal_of : Command → List ℕ → Option (ℕ × ℕ)
@@ -74,7 +81,7 @@ unless_refused (Some refusal) text = Refused refusal.0 refusal.1
 
 -- what a command comes to with a script
 unfoldable pub outcome_for : Command → List Line → List Event → Outcome
-outcome_for c s history = unless_refused (unbuilt_refusal c s) (text_for c s history)
+outcome_for c s history = unless_refused (script_refusal c s) (text_for c s history)
 
 -- what a command comes to with an input
 unfoldable pub outcome_in : Command → List ℕ → List Event → Outcome

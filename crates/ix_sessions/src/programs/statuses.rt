@@ -18,19 +18,6 @@ fn a_script_is_refused_by_one_line(rt: HostRuntime) {
             6,
             b"script:1: the first line is not ix 1 or ix 2\n",
         ),
-        (
-            b"ix 1\npolicy x\n",
-            2,
-            0,
-            b"script:2: the form is not built yet\n",
-        ),
-        // A fault on a later line stands before a form that isn't built.
-        (
-            b"ix 1\npolicy x\nix 1\n",
-            3,
-            7,
-            b"script:3: the command is unknown\n",
-        ),
     ] {
         let status = Status::Script { line, rule };
         assert!(rt; comes_to(rt.alloc(), &["run"], script, NO_FAULTS, status, text));

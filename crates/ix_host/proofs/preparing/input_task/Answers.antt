@@ -5,16 +5,16 @@ use Rattle.ix_host.proofs.comes_to.Outcomes.{in_script, outcome_fault, outcome_s
 use Rattle.ix_host.proofs.comes_to.Preparing.{ends_as, leads_as}
 use Rattle.ix_host.proofs.preparing.input_task.Goals as goal
 
-pub built_task-requires : goal.built_task-requires
-built_task-requires g c = record {
+pub script_task-requires : goal.script_task-requires
+script_task-requires g c = record {
   placed = placed_read c.args.bytes.now c.in-Ok.script c.in-Ok.ensures.script;
   few = few_lanes c.args.bytes.now c.in-Ok.script c.in-Ok.ensures.script;
 }
 
 pub returns-in-Ok-clause-leads : goal.returns-in-Ok-clause-leads
 returns-in-Ok-clause-leads g c =
-    leads_as (λ history. outcome_for c.args.command c.in-Ok.script history) (λ history. outcome_in c.args.command c.args.bytes.now history) c.in-Ok.script (script_in c.args.bytes.now) c.built_task.result _ _ _ _ _
-    (λ history. outcome_script c.args.command c.args.bytes.now c.in-Ok.script history c.in-Ok.ensures.script) (in_script c.args.bytes.now c.in-Ok.script c.in-Ok.ensures.script) c.built_task.ensures.leads
+    leads_as (λ history. outcome_for c.args.command c.in-Ok.script history) (λ history. outcome_in c.args.command c.args.bytes.now history) c.in-Ok.script (script_in c.args.bytes.now) c.script_task.result _ _ _ _ _
+    (λ history. outcome_script c.args.command c.args.bytes.now c.in-Ok.script history c.in-Ok.ensures.script) (in_script c.args.bytes.now c.in-Ok.script c.in-Ok.ensures.script) c.script_task.ensures.leads
 
 pub returns-in-Err-Fault-clause-leads : goal.returns-in-Err-Fault-clause-leads
 returns-in-Err-Fault-clause-leads g c = λ history.

@@ -1,17 +1,15 @@
-use Rattle.std.proofs.Common.{refl, ap, sym}
-use Rattle.ix_host.specs.run.Outcome.{text_for}
+use Rattle.std.proofs.Common.{◌∙◌, refl, sym}
 use Rattle.ix_host.specs.run.Outcome as outcome
-use Rattle.ix_host.proofs.comes_to.Preparing.{ends_as}
+use Rattle.ix_host.specs.run.Outcome.{outcome_for, text_for}
+use Rattle.ix_host.proofs.comes_to.Outcomes.{outcome_accepted, outcome_refused}
+use Rattle.ix_host.proofs.comes_to.Preparing.{ends_as, leads_as}
 use Rattle.ix_host.proofs.preparing.script_task.Goals as goal
 
-pub returns-in-Run-clause-leads : goal.returns-in-Run-clause-leads
-unfolding text_for
-returns-in-Run-clause-leads g c = (refl, c.requires, λ history. ap (λ k. outcome.Whole (text_for k c.args.script history)) c.in-Run.is)
+pub returns-in-Ok-None-clause-leads : goal.returns-in-Ok-None-clause-leads
+returns-in-Ok-None-clause-leads g c =
+    leads_as (λ history. outcome.Whole (text_for c.args.command c.args.script history)) (λ history. outcome_for c.args.command c.args.script history) c.args.script c.args.script c.accepted_task.result _ _ _ _ _
+    (λ history. outcome_accepted c.args.command c.args.script history (sym c.in-Ok-None.ensures)) refl c.accepted_task.ensures.leads
 
-pub returns-in-Print-clause-leads : goal.returns-in-Print-clause-leads
-unfolding text_for
-returns-in-Print-clause-leads g c = λ history. ends_as (ap (λ k. outcome.Whole (text_for k c.args.script history)) (sym c.in-Print.is)) c.print.ensures
-
-pub returns-in-Gen-clause-leads : goal.returns-in-Gen-clause-leads
-unfolding text_for
-returns-in-Gen-clause-leads g c = (refl, c.requires, λ history. ap (λ k. outcome.Whole (text_for k c.args.script history)) c.in-Gen.is)
+pub returns-in-Ok-Some-clause-leads : goal.returns-in-Ok-Some-clause-leads
+returns-in-Ok-Some-clause-leads g c = λ history.
+    ends_as (outcome_refused c.args.command c.args.script c.in-Ok-Some.line c.in-Ok-Some.rule history (sym c.in-Ok-Some.ensures)) c.refuse.ensures
