@@ -75,6 +75,22 @@ fn front(text: &[u8]) -> &[u8]
     }
 }
 
+/// The last name.
+fn last_piece(text: &[u8]) -> &[u8]
+    requires some { 0 < length text.now }
+    requires names { IsTrue (is_path_text text.now) }
+    ensures last { Some result.now ≡ slice_get (names_in text.now) (length (names_in text.now) - 1) }
+    ensures name { IsTrue (is_name result.now) }
+{
+    match last_slash(text) {
+        Some(k) => {
+            let (_, last) = text.split_at(k + 1);
+            last
+        }
+        None => text,
+    }
+}
+
 /// The first name, and the text of those behind it.
 fn first_name(text: &[u8]) -> (NameRef<'_>, &[u8])
     requires some { 0 < length text.now }
@@ -189,6 +205,16 @@ impl<'a> Path<'a> {
         names.next()
     }
 
+    /// The last name; `None` exactly where there are no names.
+    pub fn last_name(&self) -> Option<NameRef<'a>>
+        ensures { option_map name_of result ≡ slice_get (path_of self.now).names (length (path_of self.now).names - 1) }
+    {
+        if self.text.is_empty() {
+            return None;
+        }
+        Some(NameRef::of(last_piece(self.text)))
+    }
+
     /// What it costs a journal: the length of each name and one more, at most 464.
     pub fn cost(&self) -> u64
         ensures cost { result ≡ cost_of_path (path_of self.now) }
@@ -216,6 +242,17 @@ impl<'a> Path<'a> {
         ensures { result ≡ same_names (path_of self.now).names (path_of other.now).names }
     {
         self.text == other.text
+    }
+}
+
+impl<'a> Names<'a> {
+    ghost use Rattle.ix_model.specs.world.Paths.{names_left};
+
+    /// Whether none is left.
+    pub fn is_empty(&self) -> bool
+        ensures { result ≡ (length (names_left self.now) == 0) }
+    {
+        self.rest.is_empty()
     }
 }
 

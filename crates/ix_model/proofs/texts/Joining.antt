@@ -1,7 +1,7 @@
 -- Texts of names, joined and compared.
 use Rattle.std.proofs.Common.{◌≡◌, ℕ, suc, ◌+◌, ◌*◌, ◌-◌, ◌≤◌, ◌<◌, ◌==◌, Bool, true, false, not, ◌&&◌, nat_eq, nat_lt, nat_le, List, [], ◌∷◌, ◌++◌, length, take, map, inl, inr, refl, sym, ap, ◌∙◌, arith, length-append, Bor, Option, Some, None}
 use Rattle.std.specs.Option.{option_map_or}
-use Rattle.std.specs.List.{list_all, sum, sum_by}
+use Rattle.std.specs.List.{list_all, slice_get, sum, sum_by}
 use Rattle.std.proofs.lemmas.Bool.{cases_Bool, le-leb, leb-true}
 use Rattle.std.proofs.lemmas.Bool.Decides.{nat_tests}
 use Rattle.std.proofs.lemmas.List.{take-append-le, take_all}
@@ -293,3 +293,38 @@ grows text name word count h k same counted few =
 -- a text whose only name is this one is that name
 pub same_just : (name text : List ℕ) → is_name name ≡ true → same_names (name ∷ []) (names_in text) ≡ same_bytes name text
 same_just name text h = ap (λ ps. same_names ps (names_in text)) (sym (names_with [] name h)) ∙ same_text name text
+
+-- the last name
+behind : (xs : List (List ℕ)) (x : List ℕ) → slice_get (xs ++ x ∷ []) (length xs) ≡ Some x
+behind [] x = refl
+behind (y ∷ xs) x = behind xs x
+
+last_of : (xs : List (List ℕ)) (x : List ℕ) → slice_get (xs ++ x ∷ []) (length (xs ++ x ∷ []) - 1) ≡ Some x
+last_of xs x =
+    let long : length (xs ++ x ∷ []) - 1 ≡ length xs = let l = length-append xs (x ∷ []) in omega arith in
+    ap (slice_get (xs ++ x ∷ [])) long ∙ behind xs x
+
+pub record Last (text last : List ℕ) : Type 0 where
+  pub at : Some last ≡ slice_get (names_in text) (length (names_in text) - 1)
+  pub is_named : is_name last ≡ true
+
+pub last_piece : (text last : List ℕ) (names : List (List ℕ)) → 0 < length text → is_path_text text ≡ true
+    → between_slashes text ≡ names ++ last ∷ [] → Last text last
+last_piece [] last names some h k = absurd (omega arith)
+last_piece (b ∷ text) last names some h k =
+    let p = of_path (b ∷ text) h in
+    let all : (list_all is_name names && list_all is_name (last ∷ [])) ≡ true =
+    sym (list_all-append is_name names (last ∷ [])) ∙ ap (list_all is_name) (sym k) ∙ p.all in
+    record {
+      at = sym (ap (λ (ps : List (List ℕ)). slice_get ps (length ps - 1)) k ∙ last_of names last);
+      is_named = (both (is_name last) true (both _ _ all).1).0;
+    }
+
+-- no names are left exactly where no text is
+pub none_left : (text : List ℕ) → (length text == 0) ≡ (length (names_in text) == 0)
+none_left [] = refl
+none_left (b ∷ text) =
+    let k = some_piece (b ∷ text) in
+    let here : (length (b ∷ text) == 0) ≡ false = grind (arith, nat_tests) in
+    let there : (length (k.0 ∷ k.1) == 0) ≡ false = grind (arith, nat_tests) in
+    here ∙ sym (ap (λ (ps : List (List ℕ)). length ps == 0) k.2 ∙ there)
