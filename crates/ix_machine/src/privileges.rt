@@ -8,6 +8,7 @@ ghost use Rattle.ix_model.specs.rows.OnLabels.{drop_lic, grant_lic, needs_to_set
 ghost use Rattle.ix_fcalls.specs.Around.{no_process};
 ghost use Rattle.ix_model.specs.world.Callers.{with_caller};
 ghost use Rattle.ix_machine.specs.Restoring.{Restores};
+ghost use Rattle.ix_model.specs.world.Paths.{path_of};
 
 use crate::exercise::audit_line;
 use crate::machine::Machine;
@@ -25,14 +26,14 @@ impl Machine {
         &mut self,
         place: u32,
         pid: Pid,
-        path: &Path,
+        path: &Path<'_>,
         cap: PrivSet,
         lic: PrivSet,
         steps: &mut Steps<L>,
     ) -> Result<Reply, Refusal>
         requires sound { Sound self.old }
         requires lives { lives self.old.frame pid.0 ≡ true }
-        ensures row { RowIs result self.new.frame (set_priv place pid.0 path.now cap lic self.old.frame) }
+        ensures row { RowIs result self.new.frame (set_priv place pid.0 (path_of path.now) cap lic self.old.frame) }
         ensures content { self.new.content ≡ self.old.content }
         ensures back { OnErr result (Restores self.old.frame self.new.frame pid.0) }
     {
