@@ -10,7 +10,9 @@ use crate::packed::Lines;
 use crate::values::payload::Payload;
 use bitflags::Flags;
 use ix_label::Form;
-use ix_model::{Bytes, Config, FsSpec, Limits, List, NoMemory, ObjSpec, PathBuf, PrivSet, ProcSpec};
+use ix_model::{
+    Bytes, Config, FsSpec, Limits, List, NoMemory, ObjSpec, PathBuf, PrivSet, ProcSpec,
+};
 use std::alloc::Global;
 
 /// What lines tell of the machine that starts.

@@ -159,7 +159,10 @@ slashes_joined : (text : List ℕ) → joined 47 (between_slashes text) ≡ text
 unfolding between_slashes
 slashes_joined [] = refl
 slashes_joined (b ∷ text) = elim (cases_Bool (b == 47)) [
-  | inl e ↦ let k = some_piece text in let same = slashes_joined text in rw (e, k.2) (ap (λ c. c ∷ joined 47 (k.0 ∷ k.1)) (sym (eqb-true b 47 e)) ∙ ap (λ t. b ∷ t) (ap (joined 47) (sym k.2) ∙ same))
+  | inl e ↦
+      let k = some_piece text in
+      let same = slashes_joined text in
+      rw (e, k.2) (ap (λ c. c ∷ joined 47 (k.0 ∷ k.1)) (sym (eqb-true b 47 e)) ∙ ap (λ t. b ∷ t) (ap (joined 47) (sym k.2) ∙ same))
   | inr e ↦ rw e (joined_front 47 b (between_slashes text) ∙ ap (λ t. b ∷ t) (slashes_joined text))
 ]
 

@@ -1,11 +1,10 @@
 -- What holds of a line that breaks no rule.
-use Rattle.std.proofs.Common.{◌≡◌, ℕ, ◌≤◌, ◌==◌, nat_le, Bool, true, false, ◌&&◌, not, cond, List, [], ◌∷◌, length, map, drop, Option, if◌then◌else◌, Some, None, option_map, refl, sym, ap, ◌∙◌, subst, arith, inl, inr}
+use Rattle.std.proofs.Common.{◌≡◌, ℕ, nat_le, Bool, true, false, ◌&&◌, not, cond, List, [], ◌∷◌, length, map, drop, Option, if◌then◌else◌, Some, None, option_map, refl, sym, ap, ◌∙◌, subst, arith, inl, inr}
 use Rattle.std.specs.Option.{option_or, option_map_or}
 use Rattle.std.proofs.lemmas.Bool.{le-leb, not-true}
-use Rattle.std.specs.List.{list_all}
 use Rattle.ix_label.specs.Category.{Categories}
 use Rattle.ix_model.specs.declared.privs.PrivSet.{PrivSet}
-use Rattle.ix_model.specs.world.Naming.{PathOf, is_name}
+use Rattle.ix_model.specs.world.Naming.{PathOf}
 use Rattle.ix_model.specs.opening.Valid.{is_within}
 use Rattle.ix_model.specs.world.Texts.{names_in}
 use Rattle.ix_model.proofs.texts.Joining.{some_piece}

@@ -1,14 +1,12 @@
 -- What lines cost: at most 4,352 for each command, and nothing for another line.
-use Rattle.std.proofs.Common.{◌≡◌, ℕ, ◌+◌, ◌*◌, ◌≤◌, ◌&&◌, nat_le, Bool, true, false, cond, not, List, [], ◌∷◌, ◌++◌, length, drop, Option, Some, None, option_map, refl, ap, ◌∙◌, subst, arith, inl, inr}
-use Rattle.std.specs.List.{list_all, sum_by}
+use Rattle.std.proofs.Common.{◌≡◌, ℕ, ◌+◌, ◌*◌, ◌≤◌, nat_le, Bool, true, false, cond, List, [], ◌∷◌, ◌++◌, length, Option, Some, None, option_map, refl, subst, arith, inl, inr}
 use Rattle.std.specs.Option.{option_or}
 use Rattle.std.proofs.lemmas.Bool.{leb-true}
 use Rattle.std.proofs.lemmas.Option.{none-some, same_Some}
 use Rattle.std.proofs.lemmas.List.Sums.{sum_by-cons, sum_by_push, sum-map}
-use Rattle.ix_model.specs.world.Naming.{PathOf, is_name}
+use Rattle.ix_model.specs.world.Naming.{PathOf}
 use Rattle.ix_model.specs.history.Cost.{cost_of_path}
 use Rattle.ix_script.specs.texts.Cutting.{is_skipped, is_policy_line, policy_text, words_of, word_at}
-use Rattle.ix_text.specs.Bytes.{begins, is_empty}
 use Rattle.ix_script.specs.texts.Payloads.{payload_of}
 use Rattle.ix_script.specs.lines.Forms.{form_of}
 use Rattle.ix_script.specs.lines.Before.{is_command, commands}
@@ -28,7 +26,6 @@ use Rattle.ix_script.specs.declared.cutting.form.Counted.TheVariants as counted
 use Rattle.ix_script.specs.declared.line.FdWord.{FdWord}
 use Rattle.ix_script.specs.declared.line.Line.{Line}
 use Rattle.ix_script.specs.declared.line.Line.TheVariants as line
-use Rattle.ix_text.proofs.Tests.{both as both_true}
 use Rattle.ix_script.proofs.reader.Told.{mapped, paired, bound, either}
 use Rattle.ix_script.proofs.reader.Pushed.{commands_push}
 use Rattle.ix_script.proofs.texts.Paths.{path_cheap}

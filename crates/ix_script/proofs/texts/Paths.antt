@@ -1,14 +1,13 @@
 -- Words that spell paths.
-use Rattle.std.proofs.Common.{◌≡◌, ℕ, ◌≤◌, ◌<◌, ◌+◌, ◌&&◌, true, false, not, List, [], ◌∷◌, ◌++◌, length, map, drop, Some, cond, inl, inr, refl, sym, ap, ◌∙◌, subst, arith}
+use Rattle.std.proofs.Common.{◌≡◌, ℕ, ◌≤◌, ◌+◌, ◌&&◌, true, not, List, [], ◌∷◌, length, map, Some, subst, arith}
 use Rattle.std.specs.List.{list_all, sum}
-use Rattle.std.proofs.lemmas.Bool.{cases_Bool, eqb-true, not-true}
 use Rattle.std.proofs.lemmas.Option.{cond_some}
 use Rattle.ix_model.specs.world.Naming.{PathOf}
-use Rattle.ix_model.specs.world.Texts.{between_slashes, is_path_text, names_in}
+use Rattle.ix_model.specs.world.Texts.{is_path_text, names_in}
 use Rattle.ix_model.specs.history.Cost.{cost_of_path}
-use Rattle.ix_model.proofs.texts.Joining.{some_piece, text_cost, text_fits}
-use Rattle.ix_text.specs.Bytes.{begins, is_empty}
-use Rattle.ix_script.specs.texts.Words.{may_stand_in_path, names_text, is_path_word, path_in, path_of, made_path_of}
+use Rattle.ix_model.proofs.texts.Joining.{text_cost, text_fits}
+use Rattle.ix_text.specs.Bytes.{is_empty}
+use Rattle.ix_script.specs.texts.Words.{may_stand_in_path, names_text, is_path_word, path_in, path_of}
 use Rattle.ix_text.proofs.Tests.{both}
 
 -- what stands behind a slash at the front of a word that is a path is the text of a path, and so is such a word without one

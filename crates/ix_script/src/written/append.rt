@@ -48,7 +48,11 @@ pub(crate) fn fd(out: &mut Vec<u8>, fd: &FdWord<'_>) -> Result<(), NoMemory>
 }
 
 /// A space and a label in its one spelling in the form.
-pub(crate) fn label_word(out: &mut Vec<u8>, form: Form, label: &LabelWord<'_>) -> Result<(), NoMemory>
+pub(crate) fn label_word(
+    out: &mut Vec<u8>,
+    form: Form,
+    label: &LabelWord<'_>,
+) -> Result<(), NoMemory>
     ensures { OnOk result (out.new.items ≡ out.old.items ++ 32 ∷ spelling form label.now) }
 {
     push_byte(out, b' ')?;

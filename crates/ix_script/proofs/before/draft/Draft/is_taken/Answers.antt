@@ -6,5 +6,6 @@ use Rattle.ix_script.proofs.before.draft.Draft.is_taken.Goals as goal
 
 pub returns-else-is_mount : goal.returns-else-is_mount
 returns-else-is_mount c =
-    rw (not_mount c.is_mount.result _ _ (path_of c.args.path.now).names c.is_mount.ensures c.if-is_mount.false (c.as_slice.ensures ∙ c.requires.told.header.fss))
+    let fss = c.as_slice.ensures ∙ c.requires.told.header.fss in
+    rw (not_mount c.is_mount.result _ _ (path_of c.args.path.now).names c.is_mount.ensures c.if-is_mount.false fss)
     (c.has.ensures (objects_of c.args.self.now.lines) c.requires.told.header.made)
