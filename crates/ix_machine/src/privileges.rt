@@ -75,7 +75,7 @@ impl Machine {
             own: who.own,
         };
         let now = dropped(was, set);
-        self.procs.put(Caller {
+        self.procs.put(&Caller {
             cap: now.cap,
             lic: now.lic,
             own: now.own,
@@ -116,7 +116,7 @@ impl Machine {
     {
         let who = *self.who(pid);
         let lic = either_of(who.lic, set);
-        self.procs.put(Caller { lic, ..who });
+        self.procs.put(&Caller { lic, ..who });
     }
 
     /// Whether CEIL is needed: for a ceiling that isn't at or below the old one, and for that of a process that is neither

@@ -50,7 +50,7 @@ impl Machine {
             own: who.own,
         };
         let now = after_exec(was, cap, lic);
-        self.procs.put(Caller {
+        self.procs.put(&Caller {
             cap: now.cap,
             lic: now.lic,
             own: now.own,
