@@ -6,6 +6,7 @@ ghost use Rattle.ix_model.specs.world.World.{Process, at, change, living};
 ghost use Rattle.ix_tables.specs.Parts.{homes_of};
 ghost use Rattle.ix_fcalls.specs.Around.{frame_of, world_of};
 ghost use Rattle.ix_fcalls.specs.Counted.{IsCounted, Keeps};
+ghost use Rattle.ix_model.specs.world.Paths.{path_of};
 
 use crate::files::Files;
 use crate::who::{Rest, Who};
@@ -21,13 +22,13 @@ impl Files {
     pub(crate) fn change_dir<R: Rest, L: Ledger>(
         &mut self,
         who: &mut Who<R>,
-        path: &Path,
+        path: &Path<'_>,
         steps: &mut Steps<L>,
     ) -> Result<Reply, Refusal>
         requires sound { Sound (world_of R.rest self.old who.old) }
         requires counted { IsCounted self.old who.old }
         requires few { self.old.limits.procs ≤ 1024 }
-        ensures row { RowIs result (frame_of R.rest self.new who.new) (change_dir R.rest.pid path.now (frame_of R.rest self.old who.old)) }
+        ensures row { RowIs result (frame_of R.rest self.new who.new) (change_dir R.rest.pid (path_of path.now) (frame_of R.rest self.old who.old)) }
         ensures counted { IsCounted self.new who.new }
         ensures back { OnErr result (self.new ≡ self.old) }
         ensures kept { Keeps self.old self.new }

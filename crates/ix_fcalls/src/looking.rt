@@ -4,6 +4,7 @@ ghost use Rattle.ix_model.specs.rows.OnPaths.{stat_at, list_at};
 ghost use Rattle.ix_model.specs.rows.Outcomes.{RowIs};
 ghost use Rattle.ix_fcalls.specs.Around.{frame_of, world_of};
 ghost use Rattle.ix_fcalls.specs.Counted.{IsCounted, Keeps};
+ghost use Rattle.ix_model.specs.world.Paths.{path_of};
 
 use crate::files::Files;
 use crate::who::{Rest, Who};
@@ -18,12 +19,12 @@ impl Files {
     pub(crate) fn stat_at<R: Rest, L: Ledger>(
         &mut self,
         who: &mut Who<R>,
-        path: &Path,
+        path: &Path<'_>,
         steps: &mut Steps<L>,
     ) -> Result<Reply, Refusal>
         requires sound { Sound (world_of R.rest self.old who.old) }
         requires counted { IsCounted self.old who.old }
-        ensures row { RowIs result (frame_of R.rest self.new who.new) (stat_at R.rest.pid path.now (frame_of R.rest self.old who.old)) }
+        ensures row { RowIs result (frame_of R.rest self.new who.new) (stat_at R.rest.pid (path_of path.now) (frame_of R.rest self.old who.old)) }
         ensures counted { IsCounted self.new who.new }
         ensures back { OnErr result (self.new ≡ self.old) }
         ensures kept { Keeps self.old self.new }
@@ -47,13 +48,13 @@ impl Files {
     pub(crate) fn list_at<R: Rest, L: Ledger>(
         &mut self,
         who: &mut Who<R>,
-        path: &Path,
+        path: &Path<'_>,
         index: u32,
         steps: &mut Steps<L>,
     ) -> Result<Reply, Refusal>
         requires sound { Sound (world_of R.rest self.old who.old) }
         requires counted { IsCounted self.old who.old }
-        ensures row { RowIs result (frame_of R.rest self.new who.new) (list_at R.rest.pid path.now index (frame_of R.rest self.old who.old)) }
+        ensures row { RowIs result (frame_of R.rest self.new who.new) (list_at R.rest.pid (path_of path.now) index (frame_of R.rest self.old who.old)) }
         ensures counted { IsCounted self.new who.new }
         ensures back { OnErr result (self.new ≡ self.old) }
         ensures kept { Keeps self.old self.new }

@@ -13,11 +13,13 @@ ghost use Rattle.ix_model.specs.rows.Walks.{node, child, nothing};
 ghost use Rattle.ix_tables.specs.Meanings.{object_by, vacant_inode};
 ghost use Rattle.ix_fcalls.specs.Around.{frame_of, world_of};
 ghost use Rattle.ix_fcalls.specs.Counted.{IsCounted, Keeps};
+ghost use Rattle.ix_model.specs.world.NameRefs.{name_of};
+ghost use Rattle.ix_model.specs.world.Paths.{path_of};
 
 use crate::files::Files;
 use crate::who::{Rest, Who};
 use ix_label::{Label, Steps};
-use ix_model::{Kind, Name, Path, Refusal, Reply};
+use ix_model::{Kind, NameRef, Path, Refusal, Reply};
 use ix_tables::ObjectRow;
 use std::sync::ledger::Ledger;
 
@@ -29,14 +31,14 @@ impl Files {
     pub(crate) fn make<R: Rest, L: Ledger>(
         &mut self,
         who: &mut Who<R>,
-        path: &Path,
+        path: &Path<'_>,
         kind: Kind,
         steps: &mut Steps<L>,
     ) -> Result<Reply, Refusal>
         requires kind { is_pipe (new_object kind None) ≡ false }
         requires sound { Sound (world_of R.rest self.old who.old) }
         requires counted { IsCounted self.old who.old }
-        ensures row { RowIs result (frame_of R.rest self.new who.new) (make R.rest.pid path.now kind (frame_of R.rest self.old who.old)) }
+        ensures row { RowIs result (frame_of R.rest self.new who.new) (make R.rest.pid (path_of path.now) kind (frame_of R.rest self.old who.old)) }
         ensures counted { IsCounted self.new who.new }
         ensures back { OnErr result (self.new ≡ self.old) }
         ensures kept { Keeps self.old self.new }
@@ -53,7 +55,7 @@ impl Files {
             return Err(Refusal::NoEntry);
         }
         self.affect(who, dir, &Label::bottom(), steps)?;
-        self.put_named(dir, last_name(path), n, fs, kind);
+        self.put_named(dir, &last_name(path), n, fs, kind);
         Ok(Reply::Number(n as u64))
     }
 
@@ -63,13 +65,13 @@ impl Files {
     pub(crate) fn link_at<R: Rest, L: Ledger>(
         &mut self,
         who: &mut Who<R>,
-        target: &Path,
-        path: &Path,
+        target: &Path<'_>,
+        path: &Path<'_>,
         steps: &mut Steps<L>,
     ) -> Result<Reply, Refusal>
         requires sound { Sound (world_of R.rest self.old who.old) }
         requires counted { IsCounted self.old who.old }
-        ensures row { RowIs result (frame_of R.rest self.new who.new) (link_at R.rest.pid target.now path.now (frame_of R.rest self.old who.old)) }
+        ensures row { RowIs result (frame_of R.rest self.new who.new) (link_at R.rest.pid (path_of target.now) (path_of path.now) (frame_of R.rest self.old who.old)) }
         ensures counted { IsCounted self.new who.new }
         ensures back { OnErr result (self.new ≡ self.old) }
         ensures kept { Keeps self.old self.new }
@@ -94,34 +96,34 @@ impl Files {
             return Err(Refusal::NoEntry);
         }
         self.affect(who, dir, &Label::bottom(), steps)?;
-        self.add_name(dir, last_name(path), object);
+        self.add_name(dir, &last_name(path), object);
         Ok(Reply::Done)
     }
 
     /// One name more for a file, in a directory that hasn't it.
-    fn add_name(&mut self, dir: u32, name: Name, n: u32)
+    fn add_name(&mut self, dir: u32, name: &NameRef<'_>, n: u32)
         requires dir { is_dir (node self.old.objects dir) ≡ true }
-        requires absent { child (node self.old.objects dir) name ≡ None }
+        requires absent { child (node self.old.objects dir) (name_of name.now) ≡ None }
         requires room { nat_lt (names_in_all self.old.objects) self.old.limits.names ≡ true }
         requires file { option_map_or is_file (at self.old.objects n) false ≡ true }
-        ensures { self.new ≡ record self.old { objects = change self.old.objects dir (with_name name n) } }
+        ensures { self.new ≡ record self.old { objects = change self.old.objects dir (with_name (name_of name.now) n) } }
     {
-        self.tables.link(dir, name, n);
+        self.tables.link(dir, name.to_name(), n);
     }
 
     /// A new file or directory under the lowest free number of a file system, and a name that a directory hasn't.
-    fn put_named(&mut self, dir: u32, name: Name, n: u32, fs: u32, kind: Kind)
+    fn put_named(&mut self, dir: u32, name: &NameRef<'_>, n: u32, fs: u32, kind: Kind)
         requires dir { is_dir (node self.old.objects dir) ≡ true }
-        requires absent { child (node self.old.objects dir) name ≡ None }
+        requires absent { child (node self.old.objects dir) (name_of name.now) ≡ None }
         requires room { nat_lt (names_in_all self.old.objects) self.old.limits.names ≡ true }
         requires fs { fs < length self.old.fss }
         requires vacant { vacant_inode self.old.fss self.old.objects fs ≡ Some n }
         requires kind { is_pipe (new_object kind None) ≡ false }
-        ensures { self.new ≡ record self.old { objects = change (put self.old.objects n (Some (new_object kind (Some fs)))) dir (with_name name n); holdings = slice_set self.old.holdings n holds_nothing } }
+        ensures { self.new ≡ record self.old { objects = change (put self.old.objects n (Some (new_object kind (Some fs)))) dir (with_name (name_of name.now) n); holdings = slice_set self.old.holdings n holds_nothing } }
     {
         match kind {
-            Kind::File => self.tables.make(dir, name, n, fs, Kind::File),
-            Kind::Dir => self.tables.make(dir, name, n, fs, Kind::Dir),
+            Kind::File => self.tables.make(dir, name.to_name(), n, fs, Kind::File),
+            Kind::Dir => self.tables.make(dir, name.to_name(), n, fs, Kind::Dir),
             Kind::Pipe => unreachable!(),
         }
     }
@@ -138,11 +140,11 @@ pub(crate) fn fs_number(x: &ObjectRow) -> u32
 }
 
 /// The last name of a path that has one.
-pub(crate) fn last_name(path: &Path) -> Name
-    requires { 0 < length path.now.names }
-    ensures { result ≡ last_name path.now.names }
+pub(crate) fn last_name<'a>(path: &Path<'a>) -> NameRef<'a>
+    requires { 0 < length (path_of path.now).names }
+    ensures { name_of result ≡ last_name (path_of path.now).names }
 {
-    match path.name(path.len() - 1) {
+    match path.last_name() {
         Some(name) => name,
         None => unreachable!(),
     }

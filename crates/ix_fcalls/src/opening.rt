@@ -7,6 +7,7 @@ ghost use Rattle.ix_model.specs.rows.Outcomes.{RowIs};
 ghost use Rattle.ix_model.specs.world.World.{at, put, change, living, lowest_free};
 ghost use Rattle.ix_fcalls.specs.Around.{frame_of, world_of};
 ghost use Rattle.ix_fcalls.specs.Counted.{IsCounted, IsClear, Keeps, has_free, free_beside};
+ghost use Rattle.ix_model.specs.world.Paths.{path_of};
 
 use crate::files::Files;
 use crate::who::{Rest, Who, free_fd};
@@ -55,13 +56,13 @@ impl Files {
     pub(crate) fn open_at<R: Rest, L: Ledger>(
         &mut self,
         who: &mut Who<R>,
-        path: &Path,
+        path: &Path<'_>,
         mode: Mode,
         steps: &mut Steps<L>,
     ) -> Result<Reply, Refusal>
         requires sound { Sound (world_of R.rest self.old who.old) }
         requires counted { IsCounted self.old who.old }
-        ensures row { RowIs result (frame_of R.rest self.new who.new) (open_at R.rest.pid path.now mode (frame_of R.rest self.old who.old)) }
+        ensures row { RowIs result (frame_of R.rest self.new who.new) (open_at R.rest.pid (path_of path.now) mode (frame_of R.rest self.old who.old)) }
         ensures counted { IsCounted self.new who.new }
         ensures back { OnErr result (self.new ≡ self.old) }
         ensures kept { Keeps self.old self.new }

@@ -10,12 +10,14 @@ ghost use Rattle.ix_model.specs.world.World.{change, put, is_dir, is_file};
 ghost use Rattle.ix_tables.specs.Meanings.{object_let_go};
 ghost use Rattle.ix_fcalls.specs.Around.{frame_of, world_of};
 ghost use Rattle.ix_fcalls.specs.Counted.{IsCounted};
+ghost use Rattle.ix_model.specs.world.NameRefs.{name_of};
+ghost use Rattle.ix_model.specs.world.Paths.{path_of};
 
 use crate::files::Files;
 use crate::making::{fs_number, last_name};
 use crate::who::{Rest, Who};
 use ix_label::{Label, Steps};
-use ix_model::{Kind, Name, Path, Refusal, Reply};
+use ix_model::{Kind, NameRef, Path, Refusal, Reply};
 use std::sync::ledger::Ledger;
 
 /// Names that go, and what goes with them.
@@ -26,12 +28,12 @@ impl Files {
     pub(crate) fn unlink_at<R: Rest, L: Ledger>(
         &mut self,
         who: &mut Who<R>,
-        path: &Path,
+        path: &Path<'_>,
         steps: &mut Steps<L>,
     ) -> Result<Reply, Refusal>
         requires sound { Sound (world_of R.rest self.old who.old) }
         requires counted { IsCounted self.old who.old }
-        ensures row { RowIs result (frame_of R.rest self.new who.new) (unlink_at R.rest.pid path.now (frame_of R.rest self.old who.old)) }
+        ensures row { RowIs result (frame_of R.rest self.new who.new) (unlink_at R.rest.pid (path_of path.now) (frame_of R.rest self.old who.old)) }
         ensures counted { IsCounted self.new who.new }
         ensures back { OnErr result (self.new ≡ self.old) }
         ensures content { OnOk result ((world_of R.rest self.new who.new).content ≡ carried (frame_of R.rest self.old who.old) (frame_of R.rest self.new who.new) (world_of R.rest self.old who.old).content) }
@@ -52,11 +54,11 @@ impl Files {
     }
 
     /// One name of a file fewer; without a name and an open entry the file is gone.
-    fn drop_name(&mut self, dir: u32, name: &Name, n: u32)
+    fn drop_name(&mut self, dir: u32, name: &NameRef<'_>, n: u32)
         requires dir { is_dir (node self.old.objects dir) ≡ true }
-        requires child { child (node self.old.objects dir) name.now ≡ Some n }
+        requires child { child (node self.old.objects dir) (name_of name.now) ≡ Some n }
         requires file { is_file (node self.old.objects n) ≡ true }
-        ensures { self.new ≡ object_let_go n (record self.old { objects = change self.old.objects dir (without_name name.now) }) }
+        ensures { self.new ≡ object_let_go n (record self.old { objects = change self.old.objects dir (without_name (name_of name.now)) }) }
     {
         self.tables.unlink(dir, name, n);
         self.tables.let_go_object(n);
@@ -68,12 +70,12 @@ impl Files {
     pub(crate) fn remove_dir<R: Rest, L: Ledger>(
         &mut self,
         who: &mut Who<R>,
-        path: &Path,
+        path: &Path<'_>,
         steps: &mut Steps<L>,
     ) -> Result<Reply, Refusal>
         requires sound { Sound (world_of R.rest self.old who.old) }
         requires counted { IsCounted self.old who.old }
-        ensures row { RowIs result (frame_of R.rest self.new who.new) (remove_dir R.rest.pid path.now (frame_of R.rest self.old who.old)) }
+        ensures row { RowIs result (frame_of R.rest self.new who.new) (remove_dir R.rest.pid (path_of path.now) (frame_of R.rest self.old who.old)) }
         ensures counted { IsCounted self.new who.new }
         ensures back { OnErr result (self.new ≡ self.old) }
         ensures content { OnOk result ((world_of R.rest self.new who.new).content ≡ carried (frame_of R.rest self.old who.old) (frame_of R.rest self.new who.new) (world_of R.rest self.old who.old).content) }
@@ -105,12 +107,12 @@ impl Files {
     }
 
     /// An empty directory goes, and with it its name.
-    fn drop_dir(&mut self, dir: u32, name: &Name, n: u32)
+    fn drop_dir(&mut self, dir: u32, name: &NameRef<'_>, n: u32)
         requires dir { is_dir (node self.old.objects dir) ≡ true }
-        requires child { child (node self.old.objects dir) name.now ≡ Some n }
+        requires child { child (node self.old.objects dir) (name_of name.now) ≡ Some n }
         requires bare { (node self.old.objects n).names ≡ [] }
         requires is_dir { is_dir (node self.old.objects n) ≡ true }
-        ensures { self.new ≡ record self.old { objects = put (change self.old.objects dir (without_name name.now)) n None; holdings = slice_set self.old.holdings n holds_nothing } }
+        ensures { self.new ≡ record self.old { objects = put (change self.old.objects dir (without_name (name_of name.now))) n None; holdings = slice_set self.old.holdings n holds_nothing } }
     {
         self.tables.remove_dir(dir, name, n);
     }

@@ -1,4 +1,4 @@
-ghost use Rattle.std.specs.Prelude.{◌≡◌, ℕ, Some, IsSome, ◌+◌, ◌<◌, drop, length, OnOk, IfOk};
+ghost use Rattle.std.specs.Prelude.{◌≡◌, ℕ, Some, IsSome, ◌<◌, length, OnOk, IfOk};
 ghost use Rattle.ix_model.specs.laws.Sound.{Sound};
 ghost use Rattle.ix_model.specs.rows.OnPaths.{links_of};
 ghost use Rattle.ix_model.specs.rows.Outcomes.{RowIs, RowMeans};
@@ -7,11 +7,12 @@ ghost use Rattle.ix_tables.specs.Meanings.{Shows, frame_alone, object_by};
 ghost use Rattle.ix_fcalls.specs.Around.{frame_of, world_of};
 ghost use Rattle.ix_fcalls.specs.Counted.{IsCounted};
 ghost use Rattle.ix_fcalls.specs.Meanings.{NamedWell, sought_of, spot_of, seen_of, seen_in};
+ghost use Rattle.ix_model.specs.world.Paths.{names_left, path_of};
 
 use crate::files::Files;
 use crate::who::{Rest, Who};
 use ix_label::{Label, Steps};
-use ix_model::{Caller, Obj, Path, Refusal};
+use ix_model::{Caller, Names, Obj, Path, Refusal};
 use ix_tables::ObjectRow;
 use std::sync::ledger::Ledger;
 
@@ -45,20 +46,15 @@ pub(crate) struct Spot {
 impl Files {
     /// Goes along a path, and joins the labels of the directories that it looks into.
     #[tactic(auto, using(crate::proofs::Walking::steps))]
-    pub fn walk<L: Ledger>(&self, who: &Caller, path: &Path, steps: &mut Steps<L>) -> Walked
-        ensures named { NamedWell result.outcome (length path.now.names) }
-        ensures walk { (p : _) → p.cwd ≡ who.now.cwd.0 → seen_of result ≡ seen_in (walk self.now.objects p path.now) }
+    pub fn walk<L: Ledger>(&self, who: &Caller, path: &Path<'_>, steps: &mut Steps<L>) -> Walked
+        ensures named { NamedWell result.outcome (length (path_of path.now).names) }
+        ensures walk { (p : _) → p.cwd ≡ who.now.cwd.0 → seen_of result ≡ seen_in (walk self.now.objects p (path_of path.now)) }
     {
         let mut at = if path.absolute() { 0 } else { who.cwd.0 };
         let mut dir = None;
         let mut seen = Label::bottom();
-        for i in 0..path.len() {
-            let Some(name) = path.name(i) else {
-                return Walked {
-                    outcome: Outcome::Found { obj: Obj(at), dir },
-                    seen,
-                };
-            };
+        let mut left = path.names();
+        'names: while let Some(name) = left.next() {
             if !self.tables.is_dir(at) {
                 return Walked {
                     outcome: Outcome::NotDir,
@@ -68,7 +64,7 @@ impl Files {
             seen = seen.join(&self.tables.label_of(at), steps);
             let Some(next) = self.tables.child(at, &name) else {
                 return Walked {
-                    outcome: lacking(path, i, at),
+                    outcome: lacking(&left, at),
                     seen,
                 };
             };
@@ -86,12 +82,12 @@ impl Files {
     pub(crate) fn walked_to<R: Rest, L: Ledger>(
         &self,
         who: &mut Who<R>,
-        path: &Path,
+        path: &Path<'_>,
         steps: &mut Steps<L>,
     ) -> Result<Outcome, Refusal>
         requires counted { IsCounted self.now who.old }
-        ensures named { IfOk result (λ o. NamedWell o (length path.now.names)) }
-        ensures row { RowMeans sought_of result (frame_of R.rest self.now who.new) (walked_to R.rest.pid path.now (frame_of R.rest self.now who.old)) }
+        ensures named { IfOk result (λ o. NamedWell o (length (path_of path.now).names)) }
+        ensures row { RowMeans sought_of result (frame_of R.rest self.now who.new) (walked_to R.rest.pid (path_of path.now) (frame_of R.rest self.now who.old)) }
         ensures counted { IsCounted self.now who.new }
     {
         let walked = self.walk(who.caller(), path, steps);
@@ -104,11 +100,11 @@ impl Files {
     pub(crate) fn object_at<R: Rest, L: Ledger>(
         &self,
         who: &mut Who<R>,
-        path: &Path,
+        path: &Path<'_>,
         steps: &mut Steps<L>,
     ) -> Result<u32, Refusal>
         requires counted { IsCounted self.now who.old }
-        ensures row { RowIs result (frame_of R.rest self.now who.new) (object_at R.rest.pid path.now (frame_of R.rest self.now who.old)) }
+        ensures row { RowIs result (frame_of R.rest self.now who.new) (object_at R.rest.pid (path_of path.now) (frame_of R.rest self.now who.old)) }
         ensures counted { IsCounted self.now who.new }
     {
         let walked = self.walked_to(who, path, steps)?;
@@ -121,12 +117,12 @@ impl Files {
     pub(crate) fn object_row_at<R: Rest, L: Ledger>(
         &self,
         who: &mut Who<R>,
-        path: &Path,
+        path: &Path<'_>,
         steps: &mut Steps<L>,
     ) -> Result<(u32, ObjectRow), Refusal>
         requires sound { Sound (world_of R.rest self.now who.old) }
         requires counted { IsCounted self.now who.old }
-        ensures row { RowMeans (λ r. r.0) result (frame_of R.rest self.now who.new) (object_at R.rest.pid path.now (frame_of R.rest self.now who.old)) }
+        ensures row { RowMeans (λ r. r.0) result (frame_of R.rest self.now who.new) (object_at R.rest.pid (path_of path.now) (frame_of R.rest self.now who.old)) }
         ensures object { IfOk result (λ r. Shows self.now.objects r.0 (Some r.1)) }
         ensures links { IfOk result (λ r. r.1.links ≡ links_of (frame_alone self.now) r.0 (object_by (node self.now.objects r.0) r.1)) }
         ensures within { IfOk result (λ r. r.0 < length self.now.objects) }
@@ -144,12 +140,12 @@ impl Files {
     pub(crate) fn spot_at<R: Rest, L: Ledger>(
         &self,
         who: &mut Who<R>,
-        path: &Path,
+        path: &Path<'_>,
         steps: &mut Steps<L>,
     ) -> Result<Spot, Refusal>
         requires counted { IsCounted self.now who.old }
-        ensures row { RowMeans spot_of result (frame_of R.rest self.now who.new) (spot_at R.rest.pid path.now (frame_of R.rest self.now who.old)) }
-        ensures named { IfOk result (λ s. IsSome s.dir → 0 < length path.now.names) }
+        ensures row { RowMeans spot_of result (frame_of R.rest self.now who.new) (spot_at R.rest.pid (path_of path.now) (frame_of R.rest self.now who.old)) }
+        ensures named { IfOk result (λ s. IsSome s.dir → 0 < length (path_of path.now).names) }
         ensures counted { IsCounted self.now who.new }
     {
         match self.walked_to(who, path, steps)? {
@@ -175,12 +171,12 @@ impl Files {
     pub(crate) fn missing<R: Rest, L: Ledger>(
         &self,
         who: &mut Who<R>,
-        path: &Path,
+        path: &Path<'_>,
         steps: &mut Steps<L>,
     ) -> Result<u32, Refusal>
         requires counted { IsCounted self.now who.old }
-        ensures named { OnOk result (0 < length path.now.names) }
-        ensures row { RowIs result (frame_of R.rest self.now who.new) (missing R.rest.pid path.now (frame_of R.rest self.now who.old)) }
+        ensures named { OnOk result (0 < length (path_of path.now).names) }
+        ensures row { RowIs result (frame_of R.rest self.now who.new) (missing R.rest.pid (path_of path.now) (frame_of R.rest self.now who.old)) }
         ensures counted { IsCounted self.now who.new }
     {
         let walked = self.walked_to(who, path, steps)?;
@@ -222,16 +218,13 @@ impl Files {
 }
 
 /// A missing name: the last one, or one before it.
-#[tactic(auto, using(crate::proofs::Walking::ends))]
-fn lacking(path: &Path, i: usize, at: u32) -> Outcome
-    requires few { i < 16 }
-    requires here { i < length path.now.names }
-    ensures named { NamedWell result (length path.now.names) }
-    ensures lacking { sought_of result ≡ (lacking at (drop (i + 1) path.now.names)).outcome }
+fn lacking(left: &Names<'_>, at: u32) -> Outcome
+    ensures named { (n : ℕ) → 0 < n → NamedWell result n }
+    ensures lacking { sought_of result ≡ (lacking at (names_left left.now)).outcome }
 {
-    if i + 1 < path.len() {
-        Outcome::NotFound
-    } else {
+    if left.is_empty() {
         Outcome::Missing { dir: Obj(at) }
+    } else {
+        Outcome::NotFound
     }
 }

@@ -1,3 +1,2 @@
-pub mod Packed
 pub mod Coding
 pub mod Growing

@@ -4,6 +4,7 @@ use Rattle.std.specs.List.{All, slice_range}
 use Rattle.ix_model.specs.history.Events.{Event}
 use Rattle.ix_model.specs.history.Cost.{cost_of, cost_of_history}
 use Rattle.ix_journal.specs.Heads.{head_of, op_in, IsPacked}
+use Rattle.ix_model.specs.declared.call.Call.{Call}
 use Rattle.ix_journal.specs.Recorded.{Recorded}
 
 -- the entries, in order, and what they may cost together
@@ -27,20 +28,21 @@ words_in words r = slice_range words r.start (r.start + r.len)
 abbrev pub event_in : List ℕ → Recorded → Event
 event_in words r = record { seat = r.seat; line = r.line; pid = r.pid; op = op_in r.head (words_in words r) }
 
--- the record of an entry whose words begin there, and take so many bytes
-abbrev pub record_of : Event → ℕ → ℕ → Recorded
-record_of e start len = record { seat = e.seat; line = e.line; pid = e.pid; start = start; len = len; head = head_of e.op }
+-- the record of an entry of a call whose words begin there, and take so many bytes
+abbrev pub record_of : Event → Call → ℕ → ℕ → Recorded
+record_of e c start len = record { seat = e.seat; line = e.line; pid = e.pid; start = start; len = len; head = head_of c }
 
 -- all of an entry is there
 pub record IsWhole (words : List ℕ) (r : Recorded) : Type 0 where
   pub within : r.start + r.len ≤ length words
   pub packed : IsPacked r.head (words_in words r)
 
--- Records and words, with the room for each that was reserved. An entry's cost is 128 and its words.
-pub record AreEntries (cap records_room words_room : ℕ) (records : List Recorded) (words : List ℕ) : Type 0 where
+-- Records and words, what the entries cost together, and the room for each that was reserved. An entry costs 128, and its words no less than they are long.
+pub record AreEntries (cap used records_room words_room : ℕ) (records : List Recorded) (words : List ℕ) : Type 0 where
   pub small : cap ≤ 870400000
-  pub within : 128 * length records + length words ≤ cap
-  pub cost : cost_of_history (map (event_in words) records) ≡ 128 * length records + length words
+  pub cost : cost_of_history (map (event_in words) records) ≡ used
+  pub within : used ≤ cap
+  pub held : 128 * length records + length words ≤ used
   pub whole : All (IsWhole words) records
   pub records_fit : cap / 128 ≤ records_room
   pub words_fit : cap ≤ words_room

@@ -1,15 +1,16 @@
--- How a call lies in a journal: a head of fixed size, and its words, which are the names of its paths or the bytes that it writes.
-use Rattle.std.specs.Prelude.{◌≡◌, ℕ, ◌+◌, ◌≤◌, IsTrue, List, [], ◌∷◌, ◌++◌, length}
-use Rattle.std.specs.List.{list_all}
-use Rattle.ix_model.specs.world.Naming.{PathOf, is_name}
-use Rattle.ix_model.specs.laws.Looked.{paths_of}
+-- How a call lies in a journal: a head of fixed size, and its words, which are the texts of its paths or the bytes that it writes.
+use Rattle.std.specs.Prelude.{◌≡◌, ℕ, ◌+◌, ◌≤◌, IsTrue, List, [], ◌++◌, length, take, drop}
+use Rattle.ix_model.specs.world.Naming.{PathOf}
+use Rattle.ix_model.specs.world.Texts.{is_path_text}
+use Rattle.ix_model.specs.world.Paths.{path_from, path_of}
+use Rattle.ix_model.specs.history.Calls.{op_of}
 use Rattle.ix_model.specs.history.Events.{Op}
 use Rattle.ix_model.specs.history.Events as op
 use Rattle.ix_model.specs.history.Cost.{cost_of_path, cost_of_words}
-use Rattle.ix_journal.specs.Names.{packed, past, path_at, IsPathAt}
+use Rattle.ix_model.specs.declared.call.Call.{Call}
+use Rattle.ix_model.specs.declared.call.Call.TheVariants as call
 use Rattle.ix_journal.specs.declared.words.Words.{Words}
 use Rattle.ix_journal.specs.declared.words.Words.TheVariants as words
-use Rattle.ix_journal.specs.declared.record.Shape.{Shape}
 use Rattle.ix_journal.specs.declared.record.OnPath.{OnPath}
 use Rattle.ix_journal.specs.declared.record.OnPath.TheVariants as on
 use Rattle.ix_journal.specs.declared.record.Alone.{Alone}
@@ -18,70 +19,76 @@ use Rattle.ix_journal.specs.declared.record.Head.{Head}
 use Rattle.ix_journal.specs.declared.record.Head.TheVariants as head
 
 -- ---- words
--- the names of paths, one after another
-abbrev pub names_of : List PathOf → List ℕ
-names_of [] = []
-names_of (path ∷ []) = packed path.names
-names_of (path ∷ next ∷ paths) = packed path.names ++ names_of (next ∷ paths)
+-- the words of a call: the bytes that it writes, or the texts of its paths, one after another
+abbrev pub words_of : Call → List ℕ
+words_of (call.CreateAt path) = path.text.now
+words_of (call.OpenAt path mode) = path.text.now
+words_of (call.WriteFd fd bytes) = bytes.now
+words_of (call.MakeDir path) = path.text.now
+words_of (call.LinkAt target path) = target.text.now ++ path.text.now
+words_of (call.UnlinkAt path) = path.text.now
+words_of (call.RemoveDir path) = path.text.now
+words_of (call.ChangeDir path) = path.text.now
+words_of (call.StatAt path) = path.text.now
+words_of (call.ListAt path index) = path.text.now
+words_of (call.Exec path) = path.text.now
+words_of (call.LabelOf path) = path.text.now
+words_of (call.SetLabel path label) = path.text.now
+words_of (call.Freeze path) = path.text.now
+words_of (call.Thaw path) = path.text.now
+words_of (call.SetPriv path cap lic) = path.text.now
+words_of _ = []
 
--- the words of a call
-abbrev pub words_of : Op → List ℕ
-words_of (op.WriteFd fd bytes) = bytes
-words_of o = names_of (paths_of o)
-
--- what the words of a call cost, what they are packed as, and the paths in them
-pub record HasWords (o : Op) (n : ℕ) (bytes : List ℕ) (ps : List PathOf) : Type 0 where
-  pub cost : cost_of_words o ≡ n
-  pub words : words_of o ≡ bytes
-  pub paths : paths_of o ≡ ps
+-- what the words of a call cost, and what they are
+pub record HasWords (c : Call) (n : ℕ) (bytes : List ℕ) : Type 0 where
+  pub cost : cost_of_words (op_of c) ≡ n
+  pub words : words_of c ≡ bytes
 
 -- these are the words of a call
-abbrev pub AreWordsOf : Op → Words → Type 0
-AreWordsOf o words.None = HasWords o 0 [] []
-AreWordsOf o (words.Bytes bytes) = HasWords o (length bytes.now) bytes.now []
-AreWordsOf o (words.Path path) = HasWords o (cost_of_path path.now) (packed path.now.names) (path.now ∷ [])
-AreWordsOf o (words.Paths first second) = HasWords o (cost_of_path first.now + cost_of_path second.now) (packed first.now.names ++ packed second.now.names) (first.now ∷ second.now ∷ [])
+abbrev pub AreWordsOf : Call → Words → Type 0
+AreWordsOf c words.None = HasWords c 0 []
+AreWordsOf c (words.Bytes bytes) = HasWords c (length bytes.now) bytes.now
+AreWordsOf c (words.Path path) = HasWords c (cost_of_path (path_of path)) path.text.now
+AreWordsOf c (words.Paths first second) = HasWords c (cost_of_path (path_of first) + cost_of_path (path_of second)) (first.text.now ++ second.text.now)
 
 -- ---- heads
-abbrev pub shape_of : PathOf → Shape
-shape_of path = record { absolute = path.absolute; count = length path.names }
-
-abbrev pub head_of : Op → Head
-head_of (op.CreateAt path) = head.Path (shape_of path) on.CreateAt
-head_of (op.OpenAt path mode) = head.Path (shape_of path) (on.OpenAt mode)
-head_of (op.ReadFd fd count) = head.Plain (alone.ReadFd (record { 0 = fd }) count)
-head_of (op.WriteFd fd bytes) = head.Write (record { 0 = fd })
-head_of (op.CutFd fd len) = head.Plain (alone.CutFd (record { 0 = fd }) len)
-head_of (op.SeekFd fd at) = head.Plain (alone.SeekFd (record { 0 = fd }) at)
-head_of (op.DupFd fd) = head.Plain (alone.DupFd (record { 0 = fd }))
-head_of (op.CloseFd fd) = head.Plain (alone.CloseFd (record { 0 = fd }))
-head_of op.MakePipe = head.Plain alone.MakePipe
-head_of (op.MakeDir path) = head.Path (shape_of path) on.MakeDir
-head_of (op.LinkAt target path) = head.Link (shape_of target) (shape_of path)
-head_of (op.UnlinkAt path) = head.Path (shape_of path) on.UnlinkAt
-head_of (op.RemoveDir path) = head.Path (shape_of path) on.RemoveDir
-head_of (op.ChangeDir path) = head.Path (shape_of path) on.ChangeDir
-head_of (op.StatAt path) = head.Path (shape_of path) on.StatAt
-head_of (op.ListAt path index) = head.Path (shape_of path) (on.ListAt index)
-head_of (op.Fork keep) = head.Plain (alone.Fork keep)
-head_of (op.Exec path) = head.Path (shape_of path) on.Exec
-head_of (op.Exit status) = head.Plain (alone.Exit status)
-head_of op.WaitChild = head.Plain alone.WaitChild
-head_of (op.LabelOf path) = head.Path (shape_of path) on.LabelOf
-head_of op.SelfLabel = head.Plain alone.SelfLabel
-head_of (op.SetLabel path label) = head.Path (shape_of path) (on.SetLabel label)
-head_of (op.SetSelf label) = head.Plain (alone.SetSelf label)
-head_of (op.Freeze path) = head.Path (shape_of path) on.Freeze
-head_of op.FreezeSelf = head.Plain alone.FreezeSelf
-head_of (op.Thaw path) = head.Path (shape_of path) on.Thaw
-head_of op.ThawSelf = head.Plain alone.ThawSelf
-head_of (op.SetPriv path cap lic) = head.Path (shape_of path) (on.SetPriv cap lic)
-head_of (op.DropLic set) = head.Plain (alone.DropLic set)
-head_of (op.GrantLic pid set) = head.Plain (alone.GrantLic (record { 0 = pid }) set)
-head_of (op.SetCeiling pid label) = head.Plain (alone.SetCeiling (record { 0 = pid }) label)
-head_of (op.Pex fd) = head.Plain (alone.Pex (record { 0 = fd }))
-head_of (op.Unpex fd) = head.Plain (alone.Unpex (record { 0 = fd }))
-head_of (op.ReadLog index) = head.Plain (alone.ReadLog index)
+-- a call without its words
+abbrev pub head_of : Call → Head
+head_of (call.CreateAt path) = head.Path path.absolute on.CreateAt
+head_of (call.OpenAt path mode) = head.Path path.absolute (on.OpenAt mode)
+head_of (call.ReadFd fd count) = head.Plain (alone.ReadFd fd count)
+head_of (call.WriteFd fd bytes) = head.Write fd
+head_of (call.CutFd fd len) = head.Plain (alone.CutFd fd len)
+head_of (call.SeekFd fd at) = head.Plain (alone.SeekFd fd at)
+head_of (call.DupFd fd) = head.Plain (alone.DupFd fd)
+head_of (call.CloseFd fd) = head.Plain (alone.CloseFd fd)
+head_of call.MakePipe = head.Plain alone.MakePipe
+head_of (call.MakeDir path) = head.Path path.absolute on.MakeDir
+head_of (call.LinkAt target path) = head.Link target.absolute (length target.text.now) path.absolute
+head_of (call.UnlinkAt path) = head.Path path.absolute on.UnlinkAt
+head_of (call.RemoveDir path) = head.Path path.absolute on.RemoveDir
+head_of (call.ChangeDir path) = head.Path path.absolute on.ChangeDir
+head_of (call.StatAt path) = head.Path path.absolute on.StatAt
+head_of (call.ListAt path index) = head.Path path.absolute (on.ListAt index)
+head_of (call.Fork keep) = head.Plain (alone.Fork keep)
+head_of (call.Exec path) = head.Path path.absolute on.Exec
+head_of (call.Exit status) = head.Plain (alone.Exit status)
+head_of call.WaitChild = head.Plain alone.WaitChild
+head_of (call.LabelOf path) = head.Path path.absolute on.LabelOf
+head_of call.SelfLabel = head.Plain alone.SelfLabel
+head_of (call.SetLabel path label) = head.Path path.absolute (on.SetLabel label)
+head_of (call.SetSelf label) = head.Plain (alone.SetSelf label)
+head_of (call.Freeze path) = head.Path path.absolute on.Freeze
+head_of call.FreezeSelf = head.Plain alone.FreezeSelf
+head_of (call.Thaw path) = head.Path path.absolute on.Thaw
+head_of call.ThawSelf = head.Plain alone.ThawSelf
+head_of (call.SetPriv path cap lic) = head.Path path.absolute (on.SetPriv cap lic)
+head_of (call.DropLic set) = head.Plain (alone.DropLic set)
+head_of (call.GrantLic pid set) = head.Plain (alone.GrantLic pid set)
+head_of (call.SetCeiling pid label) = head.Plain (alone.SetCeiling pid label)
+head_of (call.Pex fd) = head.Plain (alone.Pex fd)
+head_of (call.Unpex fd) = head.Plain (alone.Unpex fd)
+head_of (call.ReadLog index) = head.Plain (alone.ReadLog index)
 
 -- ---- back
 -- the call on a path
@@ -126,22 +133,12 @@ op_alone (alone.ReadLog index) = op.ReadLog index
 -- the call of a head with those words
 abbrev pub op_in : Head → List ℕ → Op
 op_in (head.Plain plain) words = op_alone plain
-op_in (head.Path shape call) words = op_on call (path_at shape words)
-op_in (head.Link target path) words = op.LinkAt (path_at target words) (path_at path (past target.count words))
+op_in (head.Path absolute call) words = op_on call (path_from absolute words)
+op_in (head.Link target split path) words = op.LinkAt (path_from target (take split words)) (path_from path (drop split words))
 op_in (head.Write fd) words = op.WriteFd fd.0 words
 
--- the names of a head's paths lie there
+-- the texts of a head's paths lie there
 abbrev pub IsPacked : Head → List ℕ → Type 0
-IsPacked (head.Path shape call) words = IsPathAt shape words
-IsPacked (head.Link target path) words = IsPathAt target words × IsPathAt path (past target.count words)
+IsPacked (head.Path absolute call) words = IsTrue (is_path_text words)
+IsPacked (head.Link target split path) words = (split ≤ length words) × IsTrue (is_path_text (take split words)) × IsTrue (is_path_text (drop split words))
 IsPacked _ words = Unit {0}
-
--- ---- paths of names
--- each of a path's names is one, and it has at most 16
-pub record IsNamed (path : PathOf) : Type 0 where
-  pub few : length path.names ≤ 16
-  pub named : IsTrue (list_all is_name path.names)
-
-abbrev pub AreNamed : List PathOf → Type 0
-AreNamed [] = Unit {0}
-AreNamed (path ∷ paths) = IsNamed path × AreNamed paths

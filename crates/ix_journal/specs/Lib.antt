@@ -1,4 +1,3 @@
 pub mod Recorded
-pub mod Names
 pub mod Heads
 pub mod Entries

@@ -14,13 +14,15 @@ use std::marker::Model;
 
 /// The entries of a history, which cost at most `cap` together.
 ///
-/// An entry is kept as a record of fixed size, at most 128 bytes, and its words: the bytes that it writes, or the names of
-/// its paths, each with a byte for its length before it. So the memory that entries touch is at most what they cost.
+/// An entry is kept as a record of fixed size, at most 128 bytes, and its words: the bytes that it writes, or the texts of
+/// its paths. So the memory that entries touch is at most what they cost.
 ///
 /// Contracts see the entries and the cap.
 #[derive(Drop)]
 pub struct Journal {
     cap: u64,
+    /// What the entries cost together.
+    used: u64,
     records: Vec<Record>,
     words: Vec<u8>,
 }
@@ -37,13 +39,13 @@ impl Model for Journal {
 
     ghost view = { λ j. record { cap = j.cap; events = map (event_in j.words.items) j.records.items } };
 
-    ghost invariant = { λ j. AreEntries j.cap (vec_capacity j.records) (vec_capacity j.words) j.records.items j.words.items };
+    ghost invariant = { λ j. AreEntries j.cap j.used (vec_capacity j.records) (vec_capacity j.words) j.records.items j.words.items };
 }
 
 impl Journal {
     /// A journal without entries, of a cap in bytes, at most 870,400,000. It reserves whatever entries of that cost may
-    /// take, and touches none of it: `cap` bytes for words, and for each 128 of them a record, which has 72 bytes as labels
-    /// are now. Where that isn't there it answers `NoMemory`. No other call takes memory.
+    /// take, and touches none of it: `cap` bytes for words, and for each 128 of them a record of at most
+    /// 128 bytes. Where that isn't there it answers `NoMemory`. No other call takes memory.
     pub fn new(alloc: Global, cap: u64) -> Result<Journal, NoMemory>
         requires { cap ≤ 870400000 }
         ensures { IfOk result (λ j. j ≡ record { cap = cap; events = [] }) }
@@ -56,6 +58,7 @@ impl Journal {
         };
         Ok(Journal {
             cap,
+            used: 0,
             records,
             words,
         })
@@ -73,7 +76,7 @@ impl Journal {
         ensures used { result ≡ cost_of_history self.now.events }
         ensures within { result ≤ self.now.cap }
     {
-        ENTRY * self.records.len() as u64 + self.words.len() as u64
+        self.used
     }
 
     /// What the entries may cost together, at most 870,400,000.
@@ -95,10 +98,10 @@ impl Journal {
     pub fn takes(&self, call: &Call<'_>) -> bool
         ensures { IsTrue result ↔ (cost_of_history self.now.events + cost_of (op_of call.now) ≤ self.now.cap) }
     {
-        cost_of(call) <= self.cap - self.used()
+        cost_of(call) <= self.cap - self.used
     }
 
-    /// One entry more, at the end, which has to fit. Its bytes and names are copied, into memory that was reserved.
+    /// One entry more, at the end, which has to fit. Its bytes and the texts of its paths are copied, into memory that was reserved.
     pub fn push(&mut self, entry: &Entry<'_>)
         requires { Fits self.old (event_of entry.now) }
         ensures { self.new ≡ with_event (event_of entry.now) self.old }
@@ -114,6 +117,7 @@ impl Journal {
         let start = self.words.len();
         put_words(&mut self.words, call);
         let len = self.words.len() - start;
+        self.used += cost_of(call);
         self.records.push_reserved(Record {
             seat,
             line,
@@ -131,7 +135,8 @@ impl Journal {
         self.records.len() as u32
     }
 
-    /// The entry at a place, from 1; `None` exactly at 0 and past the last. The bytes that it writes are lent, not copied.
+    /// The entry at a place, from 1; `None` exactly at 0 and past the last. What it writes and its paths are
+    /// lent, not copied.
     pub fn entry(&self, place: u32) -> Option<Entry<'_>>
         ensures { option_map event_of result ≡ (if place == 0 then None else slice_get self.now.events (place - 1)) }
     {

@@ -3,7 +3,6 @@
 
 mod cost;
 mod journal;
-mod names;
 mod packing;
 mod record;
 mod unpacking;

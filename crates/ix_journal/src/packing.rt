@@ -1,31 +1,17 @@
-ghost use Rattle.std.specs.Prelude.{◌≡◌, ◌+◌, ◌≤◌, ◌++◌, [], vec_capacity, vec_len};
-ghost use Rattle.ix_model.specs.history.Calls.{op_of};
-ghost use Rattle.ix_model.specs.history.Cost.{cost_of_words};
-ghost use Rattle.ix_model.specs.laws.Looked.{paths_of};
-ghost use Rattle.ix_journal.specs.Heads.{head_of, shape_of, words_of, AreNamed};
+ghost use Rattle.std.specs.Prelude.{◌≡◌, ◌+◌, ◌≤◌, ◌++◌, length, vec_capacity, vec_len};
+ghost use Rattle.ix_journal.specs.Heads.{head_of, words_of};
 
-use crate::names::{put, put_path, put_paths};
-use crate::record::{Alone, Head, OnPath, Shape};
+use crate::record::{Alone, Head, OnPath};
 use crate::words::{Words, words_in};
-use ix_model::{Call, Path};
-
-/// A path without its names.
-fn shape_of(path: &Path) -> Shape
-    ensures { result ≡ shape_of path.now }
-{
-    Shape {
-        absolute: path.absolute(),
-        count: path.len() as u8,
-    }
-}
+use ix_model::Call;
 
 /// A call without its words.
 pub fn head_of(call: &Call<'_>) -> Head
-    ensures { result ≡ head_of (op_of call.now) }
+    ensures { result ≡ head_of call.now }
 {
     match call {
-        Call::CreateAt { path } => Head::Path(shape_of(path), OnPath::CreateAt),
-        Call::OpenAt { path, mode } => Head::Path(shape_of(path), OnPath::OpenAt { mode: *mode }),
+        Call::CreateAt { path } => Head::Path(path.absolute(), OnPath::CreateAt),
+        Call::OpenAt { path, mode } => Head::Path(path.absolute(), OnPath::OpenAt { mode: *mode }),
         Call::ReadFd { fd, count } => Head::Plain(Alone::ReadFd {
             fd: *fd,
             count: *count,
@@ -36,33 +22,37 @@ pub fn head_of(call: &Call<'_>) -> Head
         Call::DupFd { fd } => Head::Plain(Alone::DupFd { fd: *fd }),
         Call::CloseFd { fd } => Head::Plain(Alone::CloseFd { fd: *fd }),
         Call::MakePipe => Head::Plain(Alone::MakePipe),
-        Call::MakeDir { path } => Head::Path(shape_of(path), OnPath::MakeDir),
-        Call::LinkAt { target, path } => Head::Link(shape_of(target), shape_of(path)),
-        Call::UnlinkAt { path } => Head::Path(shape_of(path), OnPath::UnlinkAt),
-        Call::RemoveDir { path } => Head::Path(shape_of(path), OnPath::RemoveDir),
-        Call::ChangeDir { path } => Head::Path(shape_of(path), OnPath::ChangeDir),
-        Call::StatAt { path } => Head::Path(shape_of(path), OnPath::StatAt),
+        Call::MakeDir { path } => Head::Path(path.absolute(), OnPath::MakeDir),
+        Call::LinkAt { target, path } => Head::Link {
+            target: target.absolute(),
+            split: target.text().len() as u32,
+            path: path.absolute(),
+        },
+        Call::UnlinkAt { path } => Head::Path(path.absolute(), OnPath::UnlinkAt),
+        Call::RemoveDir { path } => Head::Path(path.absolute(), OnPath::RemoveDir),
+        Call::ChangeDir { path } => Head::Path(path.absolute(), OnPath::ChangeDir),
+        Call::StatAt { path } => Head::Path(path.absolute(), OnPath::StatAt),
         Call::ListAt { path, index } => Head::Path(
-            shape_of(path),
+            path.absolute(),
             OnPath::ListAt { index: *index },
         ),
         Call::Fork { keep } => Head::Plain(Alone::Fork { keep: *keep }),
-        Call::Exec { path } => Head::Path(shape_of(path), OnPath::Exec),
+        Call::Exec { path } => Head::Path(path.absolute(), OnPath::Exec),
         Call::Exit { status } => Head::Plain(Alone::Exit { status: *status }),
         Call::WaitChild => Head::Plain(Alone::WaitChild),
-        Call::LabelOf { path } => Head::Path(shape_of(path), OnPath::LabelOf),
+        Call::LabelOf { path } => Head::Path(path.absolute(), OnPath::LabelOf),
         Call::SelfLabel => Head::Plain(Alone::SelfLabel),
         Call::SetLabel { path, label } => Head::Path(
-            shape_of(path),
+            path.absolute(),
             OnPath::SetLabel { label: *label },
         ),
         Call::SetSelf { label } => Head::Plain(Alone::SetSelf { label: *label }),
-        Call::Freeze { path } => Head::Path(shape_of(path), OnPath::Freeze),
+        Call::Freeze { path } => Head::Path(path.absolute(), OnPath::Freeze),
         Call::FreezeSelf => Head::Plain(Alone::FreezeSelf),
-        Call::Thaw { path } => Head::Path(shape_of(path), OnPath::Thaw),
+        Call::Thaw { path } => Head::Path(path.absolute(), OnPath::Thaw),
         Call::ThawSelf => Head::Plain(Alone::ThawSelf),
         Call::SetPriv { path, cap, lic } => Head::Path(
-            shape_of(path),
+            path.absolute(),
             OnPath::SetPriv {
                 cap: *cap,
                 lic: *lic,
@@ -83,17 +73,31 @@ pub fn head_of(call: &Call<'_>) -> Head
     }
 }
 
+/// Writes bytes at the end, where there is room.
+fn put(words: &mut Vec<u8>, bytes: &[u8])
+    requires { vec_len words.old + length bytes.now ≤ vec_capacity words.old }
+    ensures items { words.new.items ≡ words.old.items ++ bytes.now }
+    ensures room { vec_capacity words.old ≤ vec_capacity words.new }
+{
+    match words.extend_from_slice(bytes) {
+        Ok(()) => {}
+        Err(_) => unreachable!(),
+    }
+}
+
 /// Writes the words of a call at the end.
 pub fn put_words(words: &mut Vec<u8>, call: &Call<'_>)
-    requires { vec_len words.old + cost_of_words (op_of call.now) ≤ vec_capacity words.old }
-    ensures items { words.new.items ≡ words.old.items ++ words_of (op_of call.now) }
+    requires { vec_len words.old + length (words_of call.now) ≤ vec_capacity words.old }
+    ensures items { words.new.items ≡ words.old.items ++ words_of call.now }
     ensures room { vec_capacity words.old ≤ vec_capacity words.new }
-    ensures named { AreNamed (paths_of (op_of call.now)) }
 {
     match words_in(call) {
         Words::None => {}
         Words::Bytes(bytes) => put(words, bytes),
-        Words::Path(path) => put_path(words, path),
-        Words::Paths(first, second) => put_paths(words, first, second),
+        Words::Path(path) => put(words, path.text()),
+        Words::Paths(first, second) => {
+            put(words, first.text());
+            put(words, second.text());
+        }
     }
 }

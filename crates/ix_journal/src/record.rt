@@ -3,14 +3,6 @@ use ix_model::{Fd, Keep, Mode, Pid, PrivSet};
 use std::marker::Model;
 use std::mem::size_of;
 
-/// A path without its names, which lie among the words.
-#[derive(Clone, Copy)]
-pub struct Shape {
-    pub absolute: bool,
-    /// How many names it has, at most 16.
-    pub count: u8,
-}
-
 /// A call on one path, without the path.
 #[derive(Clone, Copy)]
 pub enum OnPath {
@@ -54,12 +46,18 @@ pub enum Alone {
     ReadLog { index: u32 },
 }
 
-/// A call without its words: the names of its paths, or the bytes that it writes.
+/// A call without its words: the texts of its paths, or the bytes that it writes.
 #[derive(Clone, Copy)]
 pub enum Head {
     Plain(Alone),
-    Path(Shape, OnPath),
-    Link(Shape, Shape),
+    /// Whether its path is absolute.
+    Path(bool, OnPath),
+    /// Whether both paths are absolute, and how long the target's text is, which lies before the path's.
+    Link {
+        target: bool,
+        split: u32,
+        path: bool,
+    },
     Write(Fd),
 }
 

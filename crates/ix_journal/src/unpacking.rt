@@ -1,34 +1,37 @@
 ghost use Rattle.std.specs.Prelude.{◌≡◌};
 ghost use Rattle.ix_model.specs.history.Calls.{op_of};
+ghost use Rattle.ix_model.specs.world.Paths.{path_of};
 ghost use Rattle.ix_journal.specs.Heads.{op_alone, op_on, op_in, IsPacked};
 
-use crate::names::take_path;
 use crate::record::{Alone, Head, OnPath};
 use ix_model::{Call, Path};
 
-/// The call of a head, with those words: the names of its paths, or the bytes that it writes.
+/// The call of a head, with those words: the texts of its paths, or the bytes that it writes. It borrows them.
 pub fn call_in<'a>(head: &Head, words: &'a [u8]) -> Call<'a>
     requires { IsPacked head.now words.now }
     ensures { op_of result ≡ op_in head.now words.now }
 {
     match *head {
         Head::Plain(plain) => call_alone(plain),
-        Head::Path(shape, call) => {
-            let (path, _) = take_path(shape, words);
-            call_on(call, path)
-        }
-        Head::Link(target, path) => {
-            let (target, rest) = take_path(target, words);
-            let (path, _) = take_path(path, rest);
-            Call::LinkAt { target, path }
+        Head::Path(absolute, call) => call_on(call, Path::from_text(absolute, words)),
+        Head::Link {
+            target,
+            split,
+            path,
+        } => {
+            let (first, second) = words.split_at(split as usize);
+            Call::LinkAt {
+                target: Path::from_text(target, first),
+                path: Path::from_text(path, second),
+            }
         }
         Head::Write(fd) => Call::WriteFd { fd, bytes: words },
     }
 }
 
 /// The call on that path.
-fn call_on<'a>(call: OnPath, path: Path) -> Call<'a>
-    ensures { op_of result ≡ op_on call path }
+fn call_on<'a>(call: OnPath, path: Path<'a>) -> Call<'a>
+    ensures { op_of result ≡ op_on call (path_of path.entry) }
 {
     match call {
         OnPath::CreateAt => Call::CreateAt { path },

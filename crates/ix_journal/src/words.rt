@@ -1,5 +1,3 @@
-ghost use Rattle.std.specs.Prelude.{◌≡◌};
-ghost use Rattle.ix_model.specs.history.Calls.{op_of};
 ghost use Rattle.ix_journal.specs.Heads.{AreWordsOf};
 
 use ix_model::{Call, Path};
@@ -8,17 +6,17 @@ use ix_model::{Call, Path};
 pub enum Words<'c> {
     None,
     Bytes(&'c [u8]),
-    Path(&'c Path),
-    Paths(&'c Path, &'c Path),
+    Path(Path<'c>),
+    Paths(Path<'c>, Path<'c>),
 }
 
 /// The words of a call.
-pub fn words_in<'c>(call: &'c Call<'_>) -> Words<'c>
-    ensures { AreWordsOf (op_of call.now) result }
+pub fn words_in<'c>(call: &Call<'c>) -> Words<'c>
+    ensures { AreWordsOf call.now result }
 {
     match call {
         Call::WriteFd { bytes, .. } => return Words::Bytes(bytes),
-        Call::LinkAt { target, path } => return Words::Paths(target, path),
+        Call::LinkAt { target, path } => return Words::Paths(*target, *path),
         Call::CreateAt { path }
         | Call::OpenAt { path, .. }
         | Call::MakeDir { path }
@@ -32,7 +30,7 @@ pub fn words_in<'c>(call: &'c Call<'_>) -> Words<'c>
         | Call::SetLabel { path, .. }
         | Call::Freeze { path }
         | Call::Thaw { path }
-        | Call::SetPriv { path, .. } => return Words::Path(path),
+        | Call::SetPriv { path, .. } => return Words::Path(*path),
         _ => {}
     }
     Words::None

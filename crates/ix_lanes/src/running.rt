@@ -2,6 +2,5 @@
 
 pub mod lane_run;
 pub mod line;
-pub mod making;
 pub mod phases;
 pub mod side_by_side;

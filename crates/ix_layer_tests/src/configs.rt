@@ -1,6 +1,6 @@
 use bitflags::Flags;
 use ix_label::Label;
-use ix_model::{Bytes, Config, FsSpec, Limits, List, Name, ObjSpec, Path, PrivSet};
+use ix_model::{Bytes, Config, FsSpec, Limits, List, Name, NameRef, ObjSpec, PathBuf, PrivSet};
 use std::alloc::Global;
 use std::process::Abort;
 
@@ -20,9 +20,9 @@ fn file_systems(alloc: Global, names: [&[u8]; 2]) -> Option<List<FsSpec>> {
 }
 
 /// The path of a name in the root.
-fn path(name: &[u8]) -> Option<Path> {
-    let mut path = Path::new(true);
-    path.push(Name::read(name)?);
+fn path(name: &[u8]) -> Option<PathBuf> {
+    let mut path = PathBuf::new(true);
+    path.push(NameRef::read(name)?);
     Some(path)
 }
 

@@ -1,5 +1,5 @@
 use ix_journal::Journal;
-use ix_model::{Call, Entry, Fd, Pid};
+use ix_model::{Call, Entry, Fd, NameRef, Path, PathBuf, Pid};
 use std::alloc::Global;
 use std::process::Abort;
 
@@ -44,4 +44,60 @@ fn keeps_one(alloc: Global) -> bool {
 #[test]
 fn an_entry_comes_back_and_none_fits_behind_it(rt: HostRuntime) {
     assert!(rt; keeps_one(rt.alloc()));
+}
+
+/// A path of so many names, each of the greatest length.
+fn path_of(absolute: bool, names: usize) -> Option<PathBuf> {
+    let name = NameRef::read(b"abcdefghijklmnopqrstuvwxyz01")?;
+    let mut path = PathBuf::new(absolute);
+    for _ in 0..names {
+        if !path.push(name) {
+            return None;
+        }
+    }
+    Some(path)
+}
+
+/// Whether the two are one path.
+fn same(one: &Path<'_>, other: &Path<'_>) -> bool {
+    one.absolute() == other.absolute() && one.len() == other.len() && one.same_names(other)
+}
+
+/// Whether a call links these two paths.
+fn links(call: &Call<'_>, wanted: &Path<'_>, to: &Path<'_>) -> bool {
+    match call {
+        Call::LinkAt { target, path } => same(target, wanted) && same(path, to),
+        _ => false,
+    }
+}
+
+/// Whether an entry that links a path of so many names to one of as many less than sixteen comes back as it was.
+fn comes_back(alloc: Global, names: usize) -> Option<bool> {
+    let (target, path) = (path_of(true, names)?, path_of(false, 16 - names)?);
+    let (target, path) = (target.as_path(), path.as_path());
+    let entry = Entry {
+        seat: 0,
+        line: 1,
+        pid: Pid(1),
+        call: Call::LinkAt { target, path },
+    };
+    let mut journal = Journal::new(alloc, 592).ok()?;
+    if !journal.fits(&entry) {
+        return None;
+    }
+    journal.push(&entry);
+    let kept = journal.entry(1)?;
+    Some(links(&kept.call, &target, &path) && journal.used() == 592)
+}
+
+#[test]
+fn paths_of_every_length_come_back(rt: HostRuntime) {
+    for names in 0..17 {
+        assert!(rt; comes_back(rt.alloc(), names) == Some(true));
+    }
+}
+
+#[test]
+fn no_path_has_seventeen_names(rt: HostRuntime) {
+    assert!(rt; path_of(true, 16).is_some() && path_of(true, 17).is_none());
 }

@@ -70,17 +70,16 @@ fn boot(alloc: Global, journal: u64) -> Option<Core>
     }
 }
 
-/// The path of a name of one letter in the root.
-fn path(letter: u8) -> Path {
-    let mut path = Path::new(true);
-    if let Some(name) = Name::read(&[letter]) {
-        path.push(name);
-    }
-    path
+/// The path of a name in the root, or the root's.
+fn path(name: &[u8]) -> Path<'_> {
+    Path::read(true, name).unwrap_or(Path::new(true))
 }
 
 /// How many calls each seat makes.
 const CALLS: u32 = 8;
+
+/// The names of the files that they make, of one letter each.
+const NAMES: &[u8] = b"abcdefgh";
 
 /// What a call that makes a file costs.
 const COST: u64 = 130;
@@ -103,8 +102,9 @@ fn made(answer: &Answer) -> Option<u64> {
 
 /// The call that a seat makes at a line: all seats try to make the same files, in one order.
 fn create(line: u32) -> Call<'static> {
+    let at = (line % CALLS) as usize;
     Call::CreateAt {
-        path: path(b'a' + (line % CALLS) as u8),
+        path: path(&NAMES[at..at + 1]),
     }
 }
 

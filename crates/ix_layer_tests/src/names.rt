@@ -10,7 +10,7 @@ fn add(names: &mut Names, dir: Obj, name: Name, obj: Obj) -> bool
     requires { dir.0 < length names.old.lists }
     ensures { length names.new.lists ≡ length names.old.lists }
 {
-    names.find(dir, &name).is_none() && names.add(dir, name, obj).is_ok()
+    names.find(dir, &name.as_ref()).is_none() && names.add(dir, name, obj).is_ok()
 }
 
 /// What two names of directories of three stand for, once another of the first has gone.
@@ -20,8 +20,12 @@ fn found(alloc: Global) -> Option<[Option<Obj>; 3]> {
     add(&mut names, Obj(7), a, Obj(4));
     add(&mut names, Obj(7), b, Obj(5));
     add(&mut names, Obj(2), a, Obj(6));
-    let gone = names.remove(Obj(7), &a);
-    Some([gone, names.find(Obj(7), &b), names.find(Obj(2), &a)])
+    let gone = names.remove(Obj(7), &a.as_ref());
+    Some([
+        gone,
+        names.find(Obj(7), &b.as_ref()),
+        names.find(Obj(2), &a.as_ref()),
+    ])
 }
 
 #[test]

@@ -93,7 +93,7 @@ impl Machine {
         let _ = place;
         let mut who = *self.who(pid);
         let reply = self.files.call(&mut who, call, buf, steps);
-        self.procs.put(who);
+        self.procs.put(&who);
         reply
     }
 

@@ -44,7 +44,7 @@ impl Machine {
     {
         let mut who = *self.who(pid);
         self.files.let_go(&mut who);
-        self.procs.put(who);
+        self.procs.put(&who);
         self.procs.end(pid, status);
     }
 

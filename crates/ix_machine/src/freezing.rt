@@ -4,6 +4,7 @@ ghost use Rattle.ix_model.specs.world.World.{lives};
 ghost use Rattle.ix_model.specs.rows.Outcomes.{RowIs};
 ghost use Rattle.ix_model.specs.rows.OnLabels.{freeze, freeze_self, thaw, thaw_self};
 ghost use Rattle.ix_machine.specs.Restoring.{Restores};
+ghost use Rattle.ix_model.specs.world.Paths.{path_of};
 
 use crate::exercise::audit_line;
 use crate::machine::Machine;
@@ -18,12 +19,12 @@ impl Machine {
     pub(crate) fn freeze<L: Ledger>(
         &mut self,
         pid: Pid,
-        path: &Path,
+        path: &Path<'_>,
         steps: &mut Steps<L>,
     ) -> Result<Reply, Refusal>
         requires sound { Sound self.old }
         requires lives { lives self.old.frame pid.0 ≡ true }
-        ensures row { RowIs result self.new.frame (freeze pid.0 path.now self.old.frame) }
+        ensures row { RowIs result self.new.frame (freeze pid.0 (path_of path.now) self.old.frame) }
         ensures content { self.new.content ≡ self.old.content }
         ensures back { OnErr result (Restores self.old.frame self.new.frame pid.0) }
     {
@@ -51,12 +52,12 @@ impl Machine {
         &mut self,
         place: u32,
         pid: Pid,
-        path: &Path,
+        path: &Path<'_>,
         steps: &mut Steps<L>,
     ) -> Result<Reply, Refusal>
         requires sound { Sound self.old }
         requires lives { lives self.old.frame pid.0 ≡ true }
-        ensures row { RowIs result self.new.frame (thaw place pid.0 path.now self.old.frame) }
+        ensures row { RowIs result self.new.frame (thaw place pid.0 (path_of path.now) self.old.frame) }
         ensures content { self.new.content ≡ self.old.content }
         ensures back { OnErr result (Restores self.old.frame self.new.frame pid.0) }
     {

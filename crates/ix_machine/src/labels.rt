@@ -8,6 +8,7 @@ ghost use Rattle.ix_model.specs.rows.Walks.{node};
 ghost use Rattle.ix_tables.specs.Meanings.{object_by};
 ghost use Rattle.ix_machine.specs.OwnCalls.{self_movable};
 ghost use Rattle.ix_machine.specs.Restoring.{Restores};
+ghost use Rattle.ix_model.specs.world.Paths.{path_of};
 
 use crate::exercise::audit_line;
 use crate::machine::Machine;
@@ -23,12 +24,12 @@ impl Machine {
     pub(crate) fn label_of<L: Ledger>(
         &mut self,
         pid: Pid,
-        path: &Path,
+        path: &Path<'_>,
         steps: &mut Steps<L>,
     ) -> Result<Reply, Refusal>
         requires sound { Sound self.old }
         requires lives { lives self.old.frame pid.0 ≡ true }
-        ensures row { RowIs result self.new.frame (label_of pid.0 path.now self.old.frame) }
+        ensures row { RowIs result self.new.frame (label_of pid.0 (path_of path.now) self.old.frame) }
         ensures content { self.new.content ≡ self.old.content }
         ensures back { OnErr result (Restores self.old.frame self.new.frame pid.0) }
     {
@@ -100,13 +101,13 @@ impl Machine {
         &mut self,
         place: u32,
         pid: Pid,
-        path: &Path,
+        path: &Path<'_>,
         label: &Label,
         steps: &mut Steps<L>,
     ) -> Result<Reply, Refusal>
         requires sound { Sound self.old }
         requires lives { lives self.old.frame pid.0 ≡ true }
-        ensures row { RowIs result self.new.frame (set_label place pid.0 path.now label.now self.old.frame) }
+        ensures row { RowIs result self.new.frame (set_label place pid.0 (path_of path.now) label.now self.old.frame) }
         ensures content { self.new.content ≡ self.old.content }
         ensures back { OnErr result (Restores self.old.frame self.new.frame pid.0) }
     {

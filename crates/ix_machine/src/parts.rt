@@ -46,7 +46,7 @@ impl Machine {
         ensures { self.new ≡ record self.old { frame = record self.old.frame { processes = change self.old.frame.processes pid.0 (λ q. record q { label = label }) } } }
     {
         let who = *self.who(pid);
-        self.procs.put(Caller {
+        self.procs.put(&Caller {
             float: Floating { label, ..who.float },
             ..who
         });
@@ -59,7 +59,7 @@ impl Machine {
         ensures { self.new ≡ record self.old { frame = record self.old.frame { processes = change self.old.frame.processes pid.0 (λ q. record q { frozen = on }) } } }
     {
         let who = *self.who(pid);
-        self.procs.put(Caller {
+        self.procs.put(&Caller {
             float: Floating {
                 frozen: on,
                 ..who.float
@@ -75,7 +75,7 @@ impl Machine {
         ensures { self.new ≡ record self.old { frame = record self.old.frame { processes = change self.old.frame.processes pid.0 (λ q. record q { ceiling = ceiling }) } } }
     {
         let who = *self.who(pid);
-        self.procs.put(Caller {
+        self.procs.put(&Caller {
             float: Floating {
                 ceiling,
                 ..who.float

@@ -8,6 +8,7 @@ ghost use Rattle.ix_model.specs.rows.OnLabels.{drop_lic, grant_lic, needs_to_set
 ghost use Rattle.ix_fcalls.specs.Around.{no_process};
 ghost use Rattle.ix_model.specs.world.Callers.{with_caller};
 ghost use Rattle.ix_machine.specs.Restoring.{Restores};
+ghost use Rattle.ix_model.specs.world.Paths.{path_of};
 
 use crate::exercise::audit_line;
 use crate::machine::Machine;
@@ -25,14 +26,14 @@ impl Machine {
         &mut self,
         place: u32,
         pid: Pid,
-        path: &Path,
+        path: &Path<'_>,
         cap: PrivSet,
         lic: PrivSet,
         steps: &mut Steps<L>,
     ) -> Result<Reply, Refusal>
         requires sound { Sound self.old }
         requires lives { lives self.old.frame pid.0 ≡ true }
-        ensures row { RowIs result self.new.frame (set_priv place pid.0 path.now cap lic self.old.frame) }
+        ensures row { RowIs result self.new.frame (set_priv place pid.0 (path_of path.now) cap lic self.old.frame) }
         ensures content { self.new.content ≡ self.old.content }
         ensures back { OnErr result (Restores self.old.frame self.new.frame pid.0) }
     {
@@ -74,7 +75,7 @@ impl Machine {
             own: who.own,
         };
         let now = dropped(was, set);
-        self.procs.put(Caller {
+        self.procs.put(&Caller {
             cap: now.cap,
             lic: now.lic,
             own: now.own,
@@ -115,7 +116,7 @@ impl Machine {
     {
         let who = *self.who(pid);
         let lic = either_of(who.lic, set);
-        self.procs.put(Caller { lic, ..who });
+        self.procs.put(&Caller { lic, ..who });
     }
 
     /// Whether CEIL is needed: for a ceiling that isn't at or below the old one, and for that of a process that is neither

@@ -4,6 +4,7 @@ ghost use Rattle.ix_model.specs.rows.OnProcesses.{exec};
 ghost use Rattle.ix_model.specs.rows.Outcomes.{RowIs};
 ghost use Rattle.ix_model.specs.world.World.{change, lives};
 ghost use Rattle.ix_machine.specs.Restoring.{Restores};
+ghost use Rattle.ix_model.specs.world.Paths.{path_of};
 
 use crate::machine::Machine;
 use ix_label::Steps;
@@ -18,12 +19,12 @@ impl Machine {
     pub(crate) fn exec<L: Ledger>(
         &mut self,
         pid: Pid,
-        path: &Path,
+        path: &Path<'_>,
         steps: &mut Steps<L>,
     ) -> Result<Reply, Refusal>
         requires sound { Sound self.old }
         requires lives { lives self.old.frame pid.0 ≡ true }
-        ensures row { RowIs result self.new.frame (exec pid.0 path.now self.old.frame) }
+        ensures row { RowIs result self.new.frame (exec pid.0 (path_of path.now) self.old.frame) }
         ensures content { self.new.content ≡ self.old.content }
         ensures back { OnErr result (Restores self.old.frame self.new.frame pid.0) }
     {
@@ -49,7 +50,7 @@ impl Machine {
             own: who.own,
         };
         let now = after_exec(was, cap, lic);
-        self.procs.put(Caller {
+        self.procs.put(&Caller {
             cap: now.cap,
             lic: now.lic,
             own: now.own,

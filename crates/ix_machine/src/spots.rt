@@ -6,6 +6,7 @@ ghost use Rattle.ix_model.specs.history.Calls.{op_of};
 ghost use Rattle.ix_fresh.specs.Laws.{spot_behind};
 ghost use Rattle.ix_fresh.specs.Touched.{entry_behind, entry_target, label_of_entry, object_behind, target};
 ghost use Rattle.ix_fcalls.specs.Spots.{spot_in};
+ghost use Rattle.ix_model.specs.world.Paths.{path_of};
 
 use crate::machine::Machine;
 use ix_fcalls::Outcome;
@@ -99,8 +100,13 @@ impl Machine {
     }
 
     /// The object that a path of a living process leads to, if it leads to one. No label floats.
-    fn object_of_path<L: Ledger>(&self, pid: Pid, path: &Path, steps: &mut Steps<L>) -> Option<Obj>
-        ensures { option_map (λ o. o.0) result ≡ object_of_path self.now.frame pid.0 path.now }
+    fn object_of_path<L: Ledger>(
+        &self,
+        pid: Pid,
+        path: &Path<'_>,
+        steps: &mut Steps<L>,
+    ) -> Option<Obj>
+        ensures { option_map (λ o. o.0) result ≡ object_of_path self.now.frame pid.0 (path_of path.now) }
     {
         if !self.lives(pid) {
             return None;

@@ -7,6 +7,7 @@ ghost use Rattle.ix_tables.specs.Meanings.{Shows, object_by};
 ghost use Rattle.ix_fcalls.specs.Meanings.{sought_of};
 ghost use Rattle.ix_machine.specs.Meanings.{is_inode};
 ghost use Rattle.ix_machine.specs.Restoring.{Restores};
+ghost use Rattle.ix_model.specs.world.Paths.{path_of};
 
 use crate::machine::Machine;
 use ix_fcalls::Outcome;
@@ -21,11 +22,11 @@ impl Machine {
     fn walked_to<L: Ledger>(
         &mut self,
         pid: Pid,
-        path: &Path,
+        path: &Path<'_>,
         steps: &mut Steps<L>,
     ) -> Result<Outcome, Refusal>
         requires { lives self.old.frame pid.0 ≡ true }
-        ensures row { RowMeans sought_of result self.new.frame (walked_to pid.0 path.now self.old.frame) }
+        ensures row { RowMeans sought_of result self.new.frame (walked_to pid.0 (path_of path.now) self.old.frame) }
         ensures rest { self.new ≡ record self.old { frame = record self.old.frame { processes = self.new.frame.processes } } }
         ensures alive { lives self.new.frame pid.0 ≡ true }
         ensures back { Restores self.old.frame self.new.frame pid.0 }
@@ -40,12 +41,12 @@ impl Machine {
     pub(crate) fn object_at<L: Ledger>(
         &mut self,
         pid: Pid,
-        path: &Path,
+        path: &Path<'_>,
         steps: &mut Steps<L>,
     ) -> Result<u32, Refusal>
         requires sound { Sound self.old }
         requires lives { lives self.old.frame pid.0 ≡ true }
-        ensures row { RowIs result self.new.frame (object_at pid.0 path.now self.old.frame) }
+        ensures row { RowIs result self.new.frame (object_at pid.0 (path_of path.now) self.old.frame) }
         ensures rest { self.new ≡ record self.old { frame = record self.old.frame { processes = self.new.frame.processes } } }
         ensures inode { IfOk result (λ o. is_inode (at self.new.frame.objects o) ≡ true) }
         ensures alive { lives self.new.frame pid.0 ≡ true }
@@ -64,12 +65,12 @@ impl Machine {
     pub(crate) fn object_row_at<L: Ledger>(
         &mut self,
         pid: Pid,
-        path: &Path,
+        path: &Path<'_>,
         steps: &mut Steps<L>,
     ) -> Result<(u32, ObjectRow), Refusal>
         requires sound { Sound self.old }
         requires lives { lives self.old.frame pid.0 ≡ true }
-        ensures row { RowMeans (λ r. r.0) result self.new.frame (object_at pid.0 path.now self.old.frame) }
+        ensures row { RowMeans (λ r. r.0) result self.new.frame (object_at pid.0 (path_of path.now) self.old.frame) }
         ensures rest { self.new ≡ record self.old { frame = record self.old.frame { processes = self.new.frame.processes } } }
         ensures object { IfOk result (λ r. Shows self.new.frame.objects r.0 (Some r.1)) }
         ensures ceiling { IfOk result (λ r. r.1.float.ceiling ≡ ceiling_of self.new.frame.fss (object_by (node self.new.frame.objects r.0) r.1)) }

@@ -1,4 +1,7 @@
 pub mod Naming
+pub mod Texts
+pub mod NameRefs
+pub mod Paths
 pub mod Privs
 pub mod World
 pub mod Callers

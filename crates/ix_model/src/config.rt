@@ -1,7 +1,7 @@
 use crate::bytes::Bytes;
 use crate::list::List;
 use crate::name::Name;
-use crate::path::Path;
+use crate::path_buf::PathBuf;
 use crate::privs::PrivSet;
 use crate::valid::is_valid;
 use ix_label::Label;
@@ -50,7 +50,7 @@ pub struct ProcSpec {
 #[derive(Drop)]
 pub struct ObjSpec {
     /// Absolute, with a name at least.
-    pub path: Path,
+    pub path: PathBuf,
     /// Whether it is a directory.
     pub dir: bool,
     pub label: Label,

@@ -1,10 +1,8 @@
-ghost use Rattle.std.specs.Prelude.{◌≡◌, ℕ, ◌≤◌, length, IsTrue, MatchOption};
-ghost use Rattle.std.specs.List.{list_all};
-ghost use Rattle.ix_model.specs.world.Naming.{is_name, may_stand_in_name, same_bytes};
+ghost use Rattle.std.specs.Prelude.{◌≡◌, ◌≤◌, length, IsTrue, MatchOption};
+ghost use Rattle.ix_model.specs.world.Naming.{is_name};
 
+use crate::name_ref::{NameRef, is_name};
 use std::marker::Model;
-
-const NAME_MAX: usize = 28;
 
 /// The name of a file or a directory: 1 to 28 bytes, none of them `/` or zero, and neither `.` nor `..`.
 #[derive(Clone, Copy)]
@@ -28,40 +26,32 @@ impl Model for Name {
     ghost inverse_ok = { λ n h i. record { bytes = h.0.padding i; len = h.0.long i } };
 }
 
-#[tactic(auto, unfolding(crate::specs::world::Naming::is_name))]
-fn is_name(bytes: &[u8]) -> bool
-    ensures is { result ≡ is_name bytes.now }
-    ensures fits { IsTrue result → length bytes.now ≤ 28 }
-{
-    if bytes.is_empty() || bytes.len() > NAME_MAX {
-        return false;
-    }
-    if bytes == b".".as_slice() || bytes == b"..".as_slice() {
-        return false;
-    }
-    all_plain(bytes)
-}
-
-fn all_plain(bytes: &[u8]) -> bool
-    ensures { result ≡ list_all may_stand_in_name bytes.now }
-{
-    bytes.iter().all(|b| *b != b'/' && *b != 0)
-}
-
 impl Name {
+    ghost use Rattle.ix_model.specs.world.NameRefs.{name_of};
+
     /// The name of these bytes; `None` exactly where they are no name.
     pub fn read(bytes: &[u8]) -> Option<Name>
         ensures { MatchOption result (IsTrue (is_name bytes.now) → ⊥) (λ n. (n ≡ bytes.now) × IsTrue (is_name bytes.now)) }
     {
-        if !is_name(bytes) {
-            return None;
+        if is_name(bytes) {
+            Some(Name::of(bytes))
+        } else {
+            None
         }
+    }
+
+    /// The name of bytes that are known to be one.
+    pub(crate) fn of(bytes: &[u8]) -> Name
+        requires name { IsTrue (is_name bytes.now) }
+        requires few { length bytes.now ≤ 28 }
+        ensures { result ≡ bytes.now }
+    {
         let mut kept = [0; 28];
         kept[..bytes.len()].copy_from_slice(bytes);
-        Some(Name {
+        Name {
             bytes: kept,
             len: bytes.len() as u8,
-        })
+        }
     }
 
     /// Its bytes.
@@ -73,10 +63,10 @@ impl Name {
         &self.bytes[..self.len as usize]
     }
 
-    /// Whether the two are one name, byte for byte.
-    pub fn same(&self, other: &Name) -> bool
-        ensures { result ≡ same_bytes self.now other.now }
+    /// The same name, lent.
+    pub fn as_ref(&self) -> NameRef<'_>
+        ensures { name_of result ≡ self.now }
     {
-        self.as_bytes() == other.as_bytes()
+        NameRef::of(self.as_bytes())
     }
 }

@@ -73,3 +73,6 @@ pub enum Answer {
     /// There is no memory for the call. Nothing has changed.
     NoMemory,
 }
+
+// A line of the audit log has two labels.
+const _: () = prove!(std::mem::size_of::<Answer>() <= 200);

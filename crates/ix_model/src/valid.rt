@@ -3,6 +3,7 @@ ghost use Rattle.std.specs.List.{list_all, list_any};
 ghost use Rattle.ix_label.specs.Category.{leq};
 ghost use Rattle.ix_model.specs.world.World.{fs_at};
 ghost use Rattle.ix_model.specs.world.Naming.{same_bytes, same_names};
+ghost use Rattle.ix_model.specs.world.Paths.{path_of};
 ghost use Rattle.ix_model.specs.rows.Telling.{blocks_for};
 ghost use Rattle.ix_model.specs.opening.Valid.{fs_fits, fss_fit, all_differ, limits_fit, procs_fit, fs_of, is_mount, is_well_formed, is_taken, has_directory, lying_on, blocks_taken, has_room, object_fits, objects_fit, is_valid};
 
@@ -59,7 +60,8 @@ fn each_fits(fss: &[FsSpec]) -> bool
 fn is_named(fss: &[FsSpec], name: &Name) -> bool
     ensures { result ≡ list_any (λ s. same_bytes name.now s.name) fss.now }
 {
-    fss.iter().any(|s| name.same(&s.name))
+    let name = name.as_ref();
+    fss.iter().any(|s| name.same(&s.name.as_ref()))
 }
 
 fn all_differ(fss: &[FsSpec]) -> bool
@@ -112,26 +114,28 @@ fn procs_fit<L: Ledger>(limits: &Limits, procs: &[ProcSpec], steps: &mut Steps<L
 
 // ---- where a path leads
 
-fn is_made(before: &[ObjSpec], path: &Path) -> bool
-    ensures { result ≡ list_any (λ b. same_names b.path.names path.now.names) before.now }
+fn is_made(before: &[ObjSpec], path: &Path<'_>) -> bool
+    ensures { result ≡ list_any (λ b. same_names b.path.names (path_of path.now).names) before.now }
 {
-    before.iter().any(|b| b.path.same_names(path))
+    before.iter().any(|b| b.path.as_path().same_names(path))
 }
 
-fn is_taken(fss: &[FsSpec], before: &[ObjSpec], path: &Path) -> bool
-    ensures { result ≡ is_taken fss.now before.now path.now.names }
+fn is_taken(fss: &[FsSpec], before: &[ObjSpec], path: &Path<'_>) -> bool
+    ensures { result ≡ is_taken fss.now before.now (path_of path.now).names }
 {
     is_mount(fss, path) || is_made(before, path)
 }
 
-fn is_made_dir(before: &[ObjSpec], path: &Path) -> bool
-    ensures { result ≡ list_any (λ b. b.dir && same_names b.path.names path.now.names) before.now }
+fn is_made_dir(before: &[ObjSpec], path: &Path<'_>) -> bool
+    ensures { result ≡ list_any (λ b. b.dir && same_names b.path.names (path_of path.now).names) before.now }
 {
-    before.iter().any(|b| b.dir && b.path.same_names(path))
+    before
+        .iter()
+        .any(|b| b.dir && b.path.as_path().same_names(path))
 }
 
-fn has_directory(fss: &[FsSpec], before: &[ObjSpec], path: &Path) -> bool
-    ensures { result ≡ has_directory fss.now before.now path.now.names }
+fn has_directory(fss: &[FsSpec], before: &[ObjSpec], path: &Path<'_>) -> bool
+    ensures { result ≡ has_directory fss.now before.now (path_of path.now).names }
 {
     path.len() == 0 || is_mount(fss, path) || is_made_dir(before, path)
 }
@@ -141,8 +145,8 @@ fn has_directory(fss: &[FsSpec], before: &[ObjSpec], path: &Path) -> bool
 fn is_well_formed(object: &ObjSpec) -> bool
     ensures { result ≡ is_well_formed object.now }
 {
-    object.path.absolute()
-        && object.path.len() >= 1
+    object.path.as_path().absolute()
+        && object.path.as_path().len() >= 1
         && object.bytes.len() <= FILE_MAX
         && (!object.dir
             || (object.cap.is_empty() && object.lic.is_empty() && object.bytes.len() == 0))
@@ -152,7 +156,7 @@ fn is_below_ceiling<L: Ledger>(fss: &[FsSpec], object: &ObjSpec, steps: &mut Ste
     requires { 0 < length fss.now }
     ensures { result ≡ leq object.now.label (fs_at fss.now (fs_of fss.now object.now.path.names)).ceiling }
 {
-    let k = fs_of(fss, &object.path);
+    let k = fs_of(fss, &object.path.as_path());
     object.label.leq(&fss[k].ceiling, steps)
 }
 
@@ -168,7 +172,10 @@ fn count_on(fss: &[FsSpec], k: usize, lines: &[ObjSpec]) -> usize
     ensures count { result ≡ length (lying_on fss.now k lines.now) }
     ensures few { result ≤ length lines.now }
 {
-    lines.iter().filter(|b| fs_of(fss, &b.path) == k).count()
+    lines
+        .iter()
+        .filter(|b| fs_of(fss, &b.path.as_path()) == k)
+        .count()
 }
 
 fn has_blocks(fss: &[FsSpec], k: usize, before: &[ObjSpec], object: &ObjSpec) -> bool
@@ -178,7 +185,7 @@ fn has_blocks(fss: &[FsSpec], k: usize, before: &[ObjSpec], object: &ObjSpec) ->
 {
     let mut left = fss[k].blocks as usize;
     for b in before {
-        if fs_of(fss, &b.path) == k {
+        if fs_of(fss, &b.path.as_path()) == k {
             let needed = blocks_for(b.bytes.len());
             if needed > left {
                 return false;
@@ -193,7 +200,7 @@ fn has_room(fss: &[FsSpec], limits: &Limits, before: &[ObjSpec], object: &ObjSpe
     requires { 0 < length fss.now }
     ensures { result ≡ has_room fss.now limits.now before.now object.now }
 {
-    let k = fs_of(fss, &object.path);
+    let k = fs_of(fss, &object.path.as_path());
     fss.len() + before.len() <= limits.names as usize
         && has_inode(fss, k, before)
         && has_blocks(fss, k, before, object)
@@ -212,8 +219,8 @@ fn object_fits<L: Ledger>(
 {
     is_well_formed(object)
         && is_below_ceiling(fss, object, steps)
-        && !is_taken(fss, before, &object.path)
-        && has_directory(fss, before, &object.path.parent())
+        && !is_taken(fss, before, &object.path.as_path())
+        && has_directory(fss, before, &object.path.as_path().parent())
         && has_room(fss, limits, before, object)
 }
 

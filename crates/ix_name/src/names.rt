@@ -1,12 +1,13 @@
 ghost use Rattle.std.specs.Prelude.{◌≡◌, ◌<◌, length, nat_lt, slice_get, [], None, IfOk, replicate, if◌then◌else◌};
 ghost use Rattle.std.proofs.Common.{option_map};
 ghost use Rattle.ix_name.specs.Directories.{names_of, under, with_more, removed, AreDifferent};
+ghost use Rattle.ix_model.specs.world.NameRefs.{name_of};
 
 use crate::buckets::bucket_of;
 use crate::entry::{Entry, NoEntry};
 use crate::walk::{index_at, index_of};
 use ix_links::Links;
-use ix_model::{Name, NoMemory, Obj};
+use ix_model::{Name, NameRef, NoMemory, Obj};
 use std::alloc::Global;
 use std::marker::Model;
 
@@ -77,8 +78,8 @@ impl Names {
     /// The object that a directory has under a name; `None` exactly where it has none.
     ///
     /// It costs a walk over the entries of one bucket, however many names the directory has.
-    pub fn find(&self, dir: Obj, name: &Name) -> Option<Obj>
-        ensures { option_map (λ o. o.0) result ≡ under name.now (names_of self.now dir.0) }
+    pub fn find(&self, dir: Obj, name: &NameRef<'_>) -> Option<Obj>
+        ensures { option_map (λ o. o.0) result ≡ under (name_of name.now) (names_of self.now dir.0) }
     {
         let bucket = bucket_of(dir.0, name, self.width);
         let index = index_of(&self.buckets, bucket, &self.entries, dir.0, name)?;
@@ -96,7 +97,7 @@ impl Names {
     {
         self.dirs.is_pool();
         self.buckets.is_pool();
-        let bucket = bucket_of(dir.0, &name, self.width);
+        let bucket = bucket_of(dir.0, &name.as_ref(), self.width);
         let Some(index) = self.dirs.push_back(dir.0) else {
             return Err(NoEntry);
         };
@@ -112,9 +113,9 @@ impl Names {
 
     /// Takes a name from a directory, and answers its object; those after it close up, and its entry is free. `None`,
     /// with no change, exactly where the directory hasn't the name. As dear as [`find`](Names::find).
-    pub fn remove(&mut self, dir: Obj, name: &Name) -> Option<Obj>
-        ensures found { option_map (λ o. o.0) result ≡ under name.now (names_of self.old dir.0) }
-        ensures left { self.new ≡ removed (under name.now (names_of self.old dir.0)) dir.0 name.now self.old }
+    pub fn remove(&mut self, dir: Obj, name: &NameRef<'_>) -> Option<Obj>
+        ensures found { option_map (λ o. o.0) result ≡ under (name_of name.now) (names_of self.old dir.0) }
+        ensures left { self.new ≡ removed (under (name_of name.now) (names_of self.old dir.0)) dir.0 (name_of name.now) self.old }
     {
         self.dirs.is_pool();
         self.buckets.is_pool();

@@ -1,10 +1,11 @@
 ghost use Rattle.std.specs.Prelude.{◌≡◌, ◌<◌, length, find, slice_get};
 ghost use Rattle.ix_links.specs.Chains.{chain_of, pool};
 ghost use Rattle.ix_name.specs.Entries.{is_at};
+ghost use Rattle.ix_model.specs.world.NameRefs.{name_of};
 
 use crate::entry::Entry;
 use ix_links::Links;
-use ix_model::Name;
+use ix_model::NameRef;
 
 /// The index at a place of a chain; `None` past the last. A walk from the chain's first.
 pub fn index_at(links: &Links, chain: u32, place: u32) -> Option<u32>
@@ -26,11 +27,11 @@ pub fn index_of(
     chain: u32,
     entries: &[Option<Entry>],
     dir: u32,
-    name: &Name,
+    name: &NameRef<'_>,
 ) -> Option<u32>
     requires chain { chain < length links.now.chains }
     requires entries { length entries.now ≡ pool links.now }
-    ensures { result ≡ find (is_at entries.now dir name.now) (chain_of chain links.now) }
+    ensures { result ≡ find (is_at entries.now dir (name_of name.now)) (chain_of chain links.now) }
 {
     links.is_pool();
     let mut next = links.first(chain);
@@ -45,9 +46,9 @@ pub fn index_of(
 }
 
 /// Whether an entry of that directory and name stands at an index.
-fn is_at(entries: &[Option<Entry>], index: u32, dir: u32, name: &Name) -> bool
+fn is_at(entries: &[Option<Entry>], index: u32, dir: u32, name: &NameRef<'_>) -> bool
     requires { index < length entries.now }
-    ensures { result ≡ is_at entries.now dir name.now index }
+    ensures { result ≡ is_at entries.now dir (name_of name.now) index }
 {
     match &entries[index as usize] {
         Some(entry) => entry.is_of(dir, name),

@@ -137,15 +137,19 @@ impl Procs {
     }
 
     /// Puts a living process in the place of itself: the one of `who.pid`, whose parent stays. All else stays too.
-    pub fn put(&mut self, who: Caller)
-        requires { IsTrue (is_some (living (at self.old.processes who.pid.0))) }
-        ensures { self.new ≡ record self.old { processes = change self.old.processes who.pid.0 (with_caller who) } }
+    pub fn put(&mut self, who: &Caller)
+        requires { IsTrue (is_some (living (at self.old.processes who.now.pid.0))) }
+        ensures { self.new ≡ record self.old { processes = change self.old.processes who.now.pid.0 (with_caller who.now) } }
     {
         let Some(record) = self.record(who.pid) else {
             unreachable!()
         };
-        let record = *record;
-        self.set(Record { who, ..record });
+        let (parent, ended) = (record.parent, record.ended);
+        self.set(&Record {
+            who: *who,
+            parent,
+            ended,
+        });
     }
 
     /// The process ends. Its record stays, with the status, until its parent collects it; where it has no parent the
@@ -162,11 +166,11 @@ impl Procs {
             self.remove(pid);
             return;
         }
-        let record = *record;
-        self.set(Record {
+        let ended = Record {
             ended: Some(status),
-            ..record
-        });
+            ..*record
+        };
+        self.set(&ended);
     }
 
     /// The parent of a process, living or ended; `None` exactly where it has none, or no record.
@@ -269,17 +273,17 @@ impl Procs {
     }
 
     /// Puts a record in the place of that of its pid. The parent stays, and a process that ends has no child.
-    fn set(&mut self, new: Record)
-        requires there { IsTrue (is_some (at self.old.processes new.who.pid.0)) }
-        requires parent { option_and_then (λ p. p.parent) (at self.old.processes new.who.pid.0) ≡ option_map number_of new.parent }
-        requires childless { IsTrue (is_some new.ended) → list_any (is_child new.who.pid.0) self.old.processes ≡ false }
-        ensures { self.new ≡ with_record new self.old }
+    fn set(&mut self, new: &Record)
+        requires there { IsTrue (is_some (at self.old.processes new.now.who.pid.0)) }
+        requires parent { option_and_then (λ p. p.parent) (at self.old.processes new.now.who.pid.0) ≡ option_map number_of new.now.parent }
+        requires childless { IsTrue (is_some new.now.ended) → list_any (is_child new.now.who.pid.0) self.old.processes ≡ false }
+        ensures { self.new ≡ with_record new.now self.old }
     {
         let Some(k) = place_of(self.slots.as_slice(), new.who.pid.0) else {
             unreachable!()
         };
         let link = self.slots[k].link;
-        self.records[link as usize] = new;
+        self.records[link as usize] = *new;
     }
 
     /// The record of a pid goes. A process that lives has no child then; one that has ended has none anyway.

@@ -1,10 +1,9 @@
 pub mod Digits
 pub mod Pieces
 pub mod Feeds
-pub mod Joined
 pub mod Spelling
 pub mod Decoding
 pub mod Cuts
 pub mod Words
-pub mod Made
+pub mod Paths
 pub mod Orders

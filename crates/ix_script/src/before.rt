@@ -2,7 +2,6 @@
 
 pub mod body;
 pub mod by_bytes;
-pub mod by_names;
 pub mod draft;
 pub mod given;
 pub mod header;

@@ -1,11 +1,9 @@
-ghost use Rattle.std.specs.Prelude.{◌≡◌, ◌≤◌, if◌then◌else◌};
-ghost use Rattle.ix_model.specs.history.Cost.{cost_of_path};
+ghost use Rattle.std.specs.Prelude.{◌≡◌, if◌then◌else◌};
 ghost use Rattle.ix_script.specs.lines.Before.{is_command};
 ghost use Rattle.ix_script.specs.scripts.Need.{cost_of_line};
 
 use crate::before::body::is_command;
 use crate::line::Line;
-use crate::values::paths::PathWord;
 
 /// What an entry costs besides its words.
 const ENTRY: u64 = 128;
@@ -16,14 +14,6 @@ const PRIV: u64 = 656;
 /// What a `login` line costs: nine entries and 16 bytes.
 const LOGIN: u64 = 1168;
 
-/// What a path costs. The path is made here, since a place for it is cleared wherever one may be made.
-fn cost_of_path(path: &PathWord<'_>) -> u64
-    ensures cost { result ≡ cost_of_path path.now }
-    ensures few { result ≤ 464 }
-{
-    path.path().cost()
-}
-
 /// What the entries of a line cost, at the most.
 #[tactic(auto, unfolding(crate::specs::scripts::Need::cost_of_line))]
 pub(crate) fn cost_of_line(line: &Line<'_>) -> u64
@@ -31,7 +21,7 @@ pub(crate) fn cost_of_line(line: &Line<'_>) -> u64
 {
     match line {
         Line::Write { bytes, .. } => ENTRY + bytes.len() as u64,
-        Line::Link { target, path, .. } => ENTRY + (cost_of_path(target) + cost_of_path(path)),
+        Line::Link { target, path, .. } => ENTRY + (target.path().cost() + path.path().cost()),
         Line::Create { path, .. }
         | Line::Open { path, .. }
         | Line::Mkdir { path, .. }
@@ -45,7 +35,7 @@ pub(crate) fn cost_of_line(line: &Line<'_>) -> u64
         | Line::Setlabel { path, .. }
         | Line::Freeze { path, .. }
         | Line::Thaw { path, .. }
-        | Line::Setpriv { path, .. } => ENTRY + cost_of_path(path),
+        | Line::Setpriv { path, .. } => ENTRY + path.path().cost(),
         Line::Copy { count, .. } => 2 * ENTRY + (*count).min(4096) as u64,
         Line::Priv { .. } => PRIV,
         Line::Login { .. } => LOGIN,

@@ -3,21 +3,20 @@ ghost use Rattle.std.specs.List.{list_any};
 ghost use Rattle.ix_label.specs.Category.{leq};
 ghost use Rattle.ix_model.specs.world.World.{fs_at};
 ghost use Rattle.ix_model.specs.world.Naming.{same_names};
+ghost use Rattle.ix_model.specs.world.Paths.{path_of};
 ghost use Rattle.ix_model.specs.opening.Valid.{fs_of, is_mount, is_taken, has_directory};
 ghost use Rattle.ix_model.specs.declared.config.ObjSpec.{ObjSpec};
 ghost use Rattle.ix_script.specs.lines.Before.{fss_of, objects_of, lanes_of, is_known};
 ghost use Rattle.ix_script.specs.lines.Rules.{is_above, object_misfits, misfits, object_crowds, crowds, is_out_of_order, is_one_too_many, lacks_policy};
-ghost use Rattle.ix_script.specs.reader.Indexed.{names_in};
 ghost use Rattle.ix_script.specs.reader.Told.{DraftTold};
 
 use crate::before::body::is_command;
-use crate::before::by_names::ByNames;
 use crate::before::draft::Draft;
 use crate::before::known::is_known;
-use crate::before::tree::{names_of, parent_of};
 use crate::line::Line;
+use crate::values::labels::LabelWord;
 use crate::values::paths::MadePath;
-use ix_label::{Label, Steps};
+use ix_label::Steps;
 use ix_model::{FsSpec, Path, blocks_for, fs_of, is_mount};
 use std::sync::ledger::Ledger;
 
@@ -50,54 +49,49 @@ fn has_name(fss: usize, made: usize, names: u32) -> bool
     }
 }
 
-/// Whether a label is above the ceiling of the file system that the path leads to. The path is made here, since a place for it
-/// is cleared wherever one may be made.
+/// Whether a label is above the ceiling of the file system that the path leads to.
 fn is_above_fs<L: Ledger>(
     fss: &[FsSpec],
     path: &MadePath<'_>,
-    label: &Label,
+    label: &LabelWord<'_>,
     steps: &mut Steps<L>,
 ) -> bool
     requires { 0 < length fss.now }
     ensures { result ≡ not (leq label.now (fs_at fss.now (fs_of fss.now path.now.names)).ceiling) }
 {
     let k = fs_of(fss, &path.path());
-    !label.leq(&fss[k].ceiling, steps)
+    !label.label().leq(&fss[k].ceiling, steps)
 }
 
 /// Rules 22 to 26, and 28: what fits the lines before.
 impl<'a> Draft<'a> {
-    fn is_taken(&self, path: &Path, names: ByNames<'a>) -> bool
+    fn is_taken(&self, path: &Path<'a>) -> bool
         requires told { DraftTold self.now }
-        requires names { names_in names ≡ path.now.names }
-        ensures { result ≡ is_taken (fss_of self.now.lines) (objects_of self.now.lines) path.now.names }
+        ensures { result ≡ is_taken (fss_of self.now.lines) (objects_of self.now.lines) (path_of path.now).names }
     {
-        is_mount(self.header.fss.as_slice(), path) || self.header.made.has(names)
+        is_mount(self.header.fss.as_slice(), path) || self.header.made.has(path)
     }
 
     /// Whether a directory beside the root is there.
-    fn is_further_dir(&self, path: &Path, names: ByNames<'a>) -> bool
+    fn is_further_dir(&self, path: &Path<'a>) -> bool
         requires told { DraftTold self.now }
-        requires names { names_in names ≡ path.now.names }
-        ensures { result ≡ (is_mount (fss_of self.now.lines) path.now.names || list_any (λ b. b.dir && same_names b.path.names path.now.names) (objects_of self.now.lines)) }
+        ensures { result ≡ (is_mount (fss_of self.now.lines) (path_of path.now).names || list_any (λ b. b.dir && same_names b.path.names (path_of path.now).names) (objects_of self.now.lines)) }
     {
-        is_mount(self.header.fss.as_slice(), path) || self.header.made.has_dir(names)
+        is_mount(self.header.fss.as_slice(), path) || self.header.made.has_dir(path)
     }
 
-    fn has_directory(&self, path: &Path, names: ByNames<'a>) -> bool
+    fn has_directory(&self, path: &Path<'a>) -> bool
         requires told { DraftTold self.now }
-        requires names { names_in names ≡ path.now.names }
-        ensures { result ≡ has_directory (fss_of self.now.lines) (objects_of self.now.lines) path.now.names }
+        ensures { result ≡ has_directory (fss_of self.now.lines) (objects_of self.now.lines) (path_of path.now).names }
     {
-        path.len() == 0 || self.is_further_dir(path, names)
+        path.len() == 0 || self.is_further_dir(path)
     }
 
-    fn misfits_tree(&self, made: &MadePath<'a>) -> bool
+    fn misfits_tree(&self, path: &Path<'a>) -> bool
         requires told { DraftTold self.now }
-        ensures { (o : ObjSpec) → o.path ≡ made.now → result ≡ object_misfits self.now.lines o }
+        ensures { (o : ObjSpec) → o.path ≡ path_of path.now → result ≡ object_misfits self.now.lines o }
     {
-        let path = made.path();
-        self.is_taken(&path, names_of(made)) || !self.has_directory(&path.parent(), parent_of(made))
+        self.is_taken(path) || !self.has_directory(&path.parent())
     }
 
     fn lacks_room(&self, path: &MadePath<'a>, len: usize) -> bool
@@ -118,7 +112,7 @@ impl<'a> Draft<'a> {
     {
         let fss = self.header.fss.as_slice();
         match line {
-            Line::Proc { label, ceiling, .. } => !label.leq(ceiling, steps),
+            Line::Proc { label, ceiling, .. } => !label.label().leq(&ceiling.label(), steps),
             Line::Dir { path, label, .. } => is_above_fs(fss, path, label, steps),
             Line::File { path, label, .. } => is_above_fs(fss, path, label, steps),
             _ => false,
@@ -131,8 +125,8 @@ impl<'a> Draft<'a> {
         ensures { result ≡ misfits self.now.lines line.now }
     {
         match line {
-            Line::Dir { path, .. } => self.misfits_tree(path),
-            Line::File { path, .. } => self.misfits_tree(path),
+            Line::Dir { path, .. } => self.misfits_tree(&path.path()),
+            Line::File { path, .. } => self.misfits_tree(&path.path()),
             _ => false,
         }
     }

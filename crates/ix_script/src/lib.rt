@@ -26,6 +26,7 @@ pub use reading::read;
 pub use role::Role;
 pub use rule::rule_text;
 pub use script::{Script, need};
+pub use values::labels::LabelWord;
 pub use values::paths::{MadePath, PathWord};
 pub use values::payload::Payload;
 pub use values::policy::PolicyText;

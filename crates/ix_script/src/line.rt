@@ -1,8 +1,9 @@
 use crate::cutting::words::NameWord;
+use crate::values::labels::LabelWord;
 use crate::values::paths::{MadePath, PathWord};
 use crate::values::payload::Payload;
 use crate::values::policy::PolicyText;
-use ix_label::{Form, Label};
+use ix_label::Form;
 use ix_model::{Mode, PrivSet};
 
 /// What a `limit` line limits.
@@ -46,25 +47,25 @@ pub enum Line<'a> {
     },
     Fs {
         name: NameWord<'a>,
-        ceiling: Label,
+        ceiling: LabelWord<'a>,
         blocks: u32,
         inodes: u32,
     },
     Proc {
         name: NameWord<'a>,
-        label: Label,
-        ceiling: Label,
+        label: LabelWord<'a>,
+        ceiling: LabelWord<'a>,
         cap: PrivSet,
         lic: PrivSet,
     },
     Dir {
         path: MadePath<'a>,
-        label: Label,
+        label: LabelWord<'a>,
         frozen: bool,
     },
     File {
         path: MadePath<'a>,
-        label: Label,
+        label: LabelWord<'a>,
         frozen: bool,
         cap: PrivSet,
         lic: PrivSet,
@@ -176,11 +177,11 @@ pub enum Line<'a> {
     Setlabel {
         proc: NameWord<'a>,
         path: PathWord<'a>,
-        label: Label,
+        label: LabelWord<'a>,
     },
     Setself {
         proc: NameWord<'a>,
-        label: Label,
+        label: LabelWord<'a>,
     },
     Freeze {
         proc: NameWord<'a>,
@@ -214,7 +215,7 @@ pub enum Line<'a> {
     Ceiling {
         proc: NameWord<'a>,
         of: NameWord<'a>,
-        label: Label,
+        label: LabelWord<'a>,
     },
     Pex {
         proc: NameWord<'a>,
@@ -247,3 +248,6 @@ pub enum Line<'a> {
         named: Option<NameWord<'a>>,
     },
 }
+
+// A `login` line takes all of them, and a `file` line 88.
+const _: () = prove!(std::mem::size_of::<Line<'static>>() <= 96);

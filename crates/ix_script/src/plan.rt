@@ -10,7 +10,9 @@ use crate::packed::Lines;
 use crate::values::payload::Payload;
 use bitflags::Flags;
 use ix_label::Form;
-use ix_model::{Bytes, Config, FsSpec, Limits, List, NoMemory, ObjSpec, PrivSet, ProcSpec};
+use ix_model::{
+    Bytes, Config, FsSpec, Limits, List, NoMemory, ObjSpec, PathBuf, PrivSet, ProcSpec,
+};
 use std::alloc::Global;
 
 /// What lines tell of the machine that starts.
@@ -42,8 +44,8 @@ fn add_proc(procs: &mut List<ProcSpec>, line: &Line<'_>) -> Result<(), NoMemory>
             lic,
             ..
         } => procs.push(ProcSpec {
-            label: *label,
-            ceiling: *ceiling,
+            label: label.label(),
+            ceiling: ceiling.label(),
             cap: *cap,
             lic: *lic,
         }),
@@ -69,9 +71,9 @@ fn add_object(alloc: Global, objects: &mut List<ObjSpec>, line: &Line<'_>) -> Re
             label,
             frozen,
         } => objects.push(ObjSpec {
-            path: path.path(),
+            path: PathBuf::from_path(&path.path()),
             dir: true,
-            label: *label,
+            label: label.label(),
             frozen: *frozen,
             cap: PrivSet::from_bits_retain(0),
             lic: PrivSet::from_bits_retain(0),
@@ -87,9 +89,9 @@ fn add_object(alloc: Global, objects: &mut List<ObjSpec>, line: &Line<'_>) -> Re
         } => {
             let bytes = decoded(alloc, bytes)?;
             objects.push(ObjSpec {
-                path: path.path(),
+                path: PathBuf::from_path(&path.path()),
                 dir: false,
-                label: *label,
+                label: label.label(),
                 frozen: *frozen,
                 cap: *cap,
                 lic: *lic,

@@ -3,7 +3,7 @@ ghost use Rattle.std.specs.Prelude.{◌≡◌, ◌<◌, [], IfSome};
 use ix_core::Core;
 use ix_float::Way;
 use ix_label::Steps;
-use ix_model::{Answer, Buf, Call, Config, Fd, Mode, Name, Path, Pid, Refusal, Reply};
+use ix_model::{Answer, Buf, Call, Config, Fd, Mode, Path, Pid, Refusal, Reply};
 use ix_script::read;
 use std::alloc::Global;
 use std::marker::Brand;
@@ -33,13 +33,9 @@ fn boot(alloc: Global, text: &[u8], journal: u64) -> Option<Core>
     }
 }
 
-/// The path of a name of one letter in the root.
-fn path(letter: u8) -> Path {
-    let mut path = Path::new(true);
-    if let Some(name) = Name::read(&[letter]) {
-        path.push(name);
-    }
-    path
+/// The path of a name in the root, or the root's.
+fn path(name: &[u8]) -> Path<'_> {
+    Path::read(true, name).unwrap_or(Path::new(true))
 }
 
 /// Reads a byte through a descriptor that is fresh for reading, and looks at no label; `false` where it isn't fresh, or the
@@ -64,7 +60,7 @@ fn reads_fresh<L: Ledger>(
 fn opens<L: Ledger>(core: &mut Core, pid: Pid, mode: Mode, steps: &mut Steps<L>) -> bool {
     let mut buf = [0; 4096];
     let open = Call::OpenAt {
-        path: path(b'd'),
+        path: path(b"d"),
         mode,
     };
     let opened = core.step(0, 1, pid, &open, &mut buf, steps);

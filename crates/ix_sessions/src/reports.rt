@@ -167,19 +167,11 @@ const REPLIES: &[u8] = b"1 m 7 self p1 = done @ none\n\
     1 m 7 self p1 = child p2 255 @ none\n\
     1 m 7 self p1 = no 38 InUse @ none\n";
 
-/// A path of two names.
-fn path(absolute: bool, first: Name, second: Name) -> Path {
-    let mut path = Path::new(absolute);
-    path.push(first);
-    path.push(second);
-    path
-}
-
 /// A line with each kind of argument.
-fn arguments(out: &mut Vec<u8>, one: Name, two: Name) -> Result<(), NoMemory> {
+fn arguments(out: &mut Vec<u8>, one: Path<'_>, two: Path<'_>) -> Result<(), NoMemory> {
     let calls = [
         Call::OpenAt {
-            path: path(true, one, two),
+            path: one,
             mode: Mode::Both,
         },
         Call::WriteFd {
@@ -187,7 +179,7 @@ fn arguments(out: &mut Vec<u8>, one: Name, two: Name) -> Result<(), NoMemory> {
             bytes: b"\x00\xfa",
         },
         Call::LinkAt {
-            target: path(false, two, two),
+            target: two,
             path: Path::new(true),
         },
         Call::ListAt {
@@ -229,7 +221,10 @@ const ARGUMENTS: &[u8] = b"1 m 7 open p1 /a\\x5c\\x7f/!~ rw = done @ none\n\
 /// Whether the lines, the replies and the arguments are written so.
 fn are_written(alloc: Global) -> Option<[bool; 3]> {
     let name = Name::read(b"a\"b")?;
-    let (one, two) = (Name::read(b"a\\\x7f")?, Name::read(b"!~")?);
+    let (one, two) = (
+        Path::read(true, b"a\\\x7f/!~")?,
+        Path::read(false, b"!~/!~")?,
+    );
     let mut out = Vec::new(alloc);
     let all = lines(&mut out).is_ok() && out.as_slice() == LINES;
     out.clear();

@@ -6,6 +6,7 @@ ghost use Rattle.ix_model.specs.world.Numbers.{first_pipe};
 ghost use Rattle.ix_model.specs.world.World.{at, put, change, is_dir, is_file, held};
 ghost use Rattle.ix_model.specs.world.Directories.{with_name, without_name};
 ghost use Rattle.ix_model.specs.world.Contents.{holds_nothing};
+ghost use Rattle.ix_model.specs.world.NameRefs.{name_of};
 ghost use Rattle.ix_model.specs.world.Owners.{names_in_all, times_named};
 ghost use Rattle.ix_model.specs.rows.OnPaths.{new_object};
 ghost use Rattle.ix_model.specs.rows.Walks.{node, child};
@@ -14,15 +15,15 @@ ghost use Rattle.ix_name.specs.Directories.{names_of, under, with_more};
 ghost use Rattle.ix_tables.specs.Meanings.{vacant_inode, frame_alone, object_let_go};
 
 use crate::tables::Tables;
-use ix_model::{Kind, Name, Obj};
+use ix_model::{Kind, Name, NameRef, Obj};
 use ix_name::Names;
 
 /// Names of directories, and the files and directories that come and go by them.
 impl Tables {
     /// The object that a directory has under a name; `None` exactly where it has none.
-    pub fn child(&self, dir: u32, name: &Name) -> Option<u32>
+    pub fn child(&self, dir: u32, name: &NameRef<'_>) -> Option<u32>
         requires { is_dir (node self.now.objects dir) ≡ true }
-        ensures { result ≡ child (node self.now.objects dir) name.now }
+        ensures { result ≡ child (node self.now.objects dir) (name_of name.now) }
     {
         match self.names.find(Obj(dir), name) {
             Some(obj) => Some(obj.0),
@@ -100,11 +101,11 @@ impl Tables {
     }
 
     /// One name of a file fewer.
-    pub fn unlink(&mut self, dir: u32, name: &Name, n: u32)
+    pub fn unlink(&mut self, dir: u32, name: &NameRef<'_>, n: u32)
         requires dir { is_dir (node self.old.objects dir) ≡ true }
-        requires child { child (node self.old.objects dir) name.now ≡ Some n }
+        requires child { child (node self.old.objects dir) (name_of name.now) ≡ Some n }
         requires file { is_file (node self.old.objects n) ≡ true }
-        ensures { self.new ≡ record self.old { objects = change self.old.objects dir (without_name name.now) } }
+        ensures { self.new ≡ record self.old { objects = change self.old.objects dir (without_name (name_of name.now)) } }
     {
         self.names.different(Obj(dir));
         self.names.remove(Obj(dir), name);
@@ -114,12 +115,12 @@ impl Tables {
     }
 
     /// An empty directory goes, and with it its name.
-    pub fn remove_dir(&mut self, dir: u32, name: &Name, n: u32)
+    pub fn remove_dir(&mut self, dir: u32, name: &NameRef<'_>, n: u32)
         requires dir { is_dir (node self.old.objects dir) ≡ true }
-        requires child { child (node self.old.objects dir) name.now ≡ Some n }
+        requires child { child (node self.old.objects dir) (name_of name.now) ≡ Some n }
         requires bare { (node self.old.objects n).names ≡ [] }
         requires is_dir { is_dir (node self.old.objects n) ≡ true }
-        ensures { self.new ≡ record self.old { objects = put (change self.old.objects dir (without_name name.now)) n None; holdings = slice_set self.old.holdings n holds_nothing } }
+        ensures { self.new ≡ record self.old { objects = put (change self.old.objects dir (without_name (name_of name.now))) n None; holdings = slice_set self.old.holdings n holds_nothing } }
     {
         self.names.different(Obj(dir));
         self.names.remove(Obj(dir), name);

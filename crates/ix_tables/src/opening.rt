@@ -11,11 +11,13 @@ ghost use Rattle.ix_inode.specs.Nodes.{are_within};
 ghost use Rattle.ix_tables.specs.Parts.{parts_of};
 ghost use Rattle.ix_tables.specs.Meanings.{has_room};
 ghost use Rattle.ix_tables.specs.Opening.{roots_named, homes_at_first, opening_after, Leads, kind_said, as_said, with_line, HasPlace};
+ghost use Rattle.ix_model.specs.world.NameRefs.{name_of};
+ghost use Rattle.ix_model.specs.world.Paths.{path_of};
 
 use crate::names::enter;
 use crate::tables::Tables;
 use ix_inode::Inodes;
-use ix_model::{Config, FsSpec, Kind, Name, NoMemory, ObjSpec, Path};
+use ix_model::{Config, FsSpec, Kind, NameRef, NoMemory, ObjSpec, Path};
 use ix_name::Names;
 use ix_open::Opens;
 use ix_pipe::Pipes;
@@ -66,7 +68,7 @@ impl Tables {
         let Some(spec) = config.objects.get(i) else {
             unreachable!();
         };
-        let dir = self.directory_of(&spec.path);
+        let dir = self.directory_of(&spec.path.as_path());
         let fs = self.fs_of(dir);
         match self.vacant_inode(fs) {
             Some(n) => self.place(spec, dir, fs, n),
@@ -75,9 +77,9 @@ impl Tables {
     }
 
     /// The directory of a path: where all names but the last lead.
-    fn directory_of(&self, path: &Path) -> u32
-        requires { Leads self.now.objects 0 path.now.names }
-        ensures { result ≡ directory_of self.now.objects 0 path.now.names }
+    fn directory_of(&self, path: &Path<'_>) -> u32
+        requires { Leads self.now.objects 0 (path_of path.now).names }
+        ensures { result ≡ directory_of self.now.objects 0 (path_of path.now).names }
     {
         let mut dir = 0;
         for i in 1..path.len() {
@@ -90,9 +92,9 @@ impl Tables {
     }
 
     /// The object that a directory has under a name, or else the directory.
-    fn step(&self, dir: u32, name: &Name) -> u32
+    fn step(&self, dir: u32, name: &NameRef<'_>) -> u32
         requires { is_dir (node self.now.objects dir) ≡ true }
-        ensures { result ≡ unwrap_or (child (node self.now.objects dir) name.now) dir }
+        ensures { result ≡ unwrap_or (child (node self.now.objects dir) (name_of name.now)) dir }
     {
         match self.child(dir, name) {
             Some(n) => n,
@@ -115,10 +117,10 @@ impl Tables {
         requires { HasPlace spec.now dir fs n self.old }
         ensures { self.new ≡ with_line spec.now dir fs n self.old }
     {
-        let Some(name) = spec.path.name(spec.path.len() - 1) else {
+        let Some(name) = spec.path.as_path().last_name() else {
             unreachable!();
         };
-        self.make(dir, name, n, fs, kind_said(spec));
+        self.make(dir, name.to_name(), n, fs, kind_said(spec));
         self.set_as_said(n, spec);
         if !spec.dir {
             self.fill(n, spec.bytes.as_slice());

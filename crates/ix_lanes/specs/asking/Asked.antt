@@ -6,7 +6,6 @@ use Rattle.std.specs.Ordering.{nat_cmp}
 use Rattle.std.specs.Cmp.Lexicographic.{slice_cmp}
 use Rattle.ix_model.specs.history.Events.{Op}
 use Rattle.ix_model.specs.history.Events as op
-use Rattle.ix_model.specs.world.Naming.{PathOf}
 use Rattle.ix_model.specs.declared.call.Keep.{Keep}
 use Rattle.ix_model.specs.declared.call.Keep.TheVariants as keep
 use Rattle.ix_model.specs.declared.reply.Reply.{Reply}
@@ -100,58 +99,6 @@ asked header names (line.Unpex proc fd) = by header names proc (op.Unpex (fd_of 
 asked header names (line.Readlog proc index) = by header names proc (op.ReadLog index)
 asked header names (line.Copy proc from to count) = by header names proc (op.ReadFd (fd_of names from) count)
 asked header names _ = None
-
--- the process and the descriptor of a command that names a descriptor; of the two that a `copy` names it is the first
-unfoldable pub fd_told : Line → Option (List ℕ × FdWord)
-fd_told (line.Read proc fd count) = Some (proc, fd)
-fd_told (line.Write proc fd bytes) = Some (proc, fd)
-fd_told (line.Cut proc fd len) = Some (proc, fd)
-fd_told (line.Seek proc fd offset) = Some (proc, fd)
-fd_told (line.Dup proc fd named) = Some (proc, fd)
-fd_told (line.Close proc fd) = Some (proc, fd)
-fd_told (line.Pex proc fd) = Some (proc, fd)
-fd_told (line.Unpex proc fd) = Some (proc, fd)
-fd_told (line.Copy proc from to count) = Some (proc, from)
-fd_told _ = None
-
--- the process and the path of a command that names a path; of the two that a `link` names it is the later
-unfoldable pub path_told : Line → Option (List ℕ × PathOf)
-path_told (line.Create proc path) = Some (proc, path)
-path_told (line.Open proc path mode named) = Some (proc, path)
-path_told (line.Mkdir proc path) = Some (proc, path)
-path_told (line.Link proc target path) = Some (proc, path)
-path_told (line.Unlink proc path) = Some (proc, path)
-path_told (line.Rmdir proc path) = Some (proc, path)
-path_told (line.Chdir proc path) = Some (proc, path)
-path_told (line.Stat proc path) = Some (proc, path)
-path_told (line.List proc path index) = Some (proc, path)
-path_told (line.Exec proc path) = Some (proc, path)
-path_told (line.Labelof proc path) = Some (proc, path)
-path_told (line.Setlabel proc path label) = Some (proc, path)
-path_told (line.Freeze proc path) = Some (proc, path)
-path_told (line.Thaw proc path) = Some (proc, path)
-path_told (line.Setpriv proc path cap lic) = Some (proc, path)
-path_told _ = None
-
--- whether a command says a label or privileges, and names neither a descriptor nor a path
-unfoldable pub says_label : Line → Bool
-says_label (line.Setself proc label) = true
-says_label (line.Droplic proc set) = true
-says_label (line.Grant proc to set) = true
-says_label (line.Ceiling proc of_proc label) = true
-says_label _ = false
-
--- the process of a command that names neither a descriptor nor a path, and says neither a label nor privileges
-unfoldable pub proc_told : Line → Option (List ℕ)
-proc_told (line.Pipe proc named) = Some proc
-proc_told (line.Fork proc keeps named) = Some proc
-proc_told (line.Exit proc status) = Some proc
-proc_told (line.Wait proc) = Some proc
-proc_told (line.Self_ proc) = Some proc
-proc_told (line.Freezeself proc) = Some proc
-proc_told (line.Thawself proc) = Some proc
-proc_told (line.Readlog proc index) = Some proc
-proc_told _ = None
 
 -- the bytes that a line writes
 abbrev pub written : Line → List ℕ

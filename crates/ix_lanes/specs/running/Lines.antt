@@ -34,22 +34,6 @@ module _ {S : Type 0} (seat_of : S → ℕ) (made_of : S → List Made) (stops_o
 abbrev pub made_so : Event → Reply → List ℕ → Made
 made_so e r bytes = record { event = e; reply = r; bytes = bytes }
 
--- an entry, if there is one, was made
-abbrev pub MakesIt : Option Event → List Made → Type 0
-MakesIt None more = more ≡ []
-MakesIt (Some e) more = (m : Made) × (m.event ≡ e) × (more ≡ m ∷ [])
-
--- an entry, if there is one, was made and answered so, with the bytes at the front of a buffer
-abbrev pub AnswersIt : Option Event → Option Reply → List ℕ → List Made → Type 0
-AnswersIt None r buf more = (r ≡ None) × (more ≡ [])
-AnswersIt (Some e) None buf more = ⊥
-AnswersIt (Some e) (Some r) buf more = more ≡ made_so e r (take (count_in r) buf) ∷ []
-
--- there is an entry, and this stop is the answer to it
-abbrev pub StopsAt : Option Event → Answer → Type 0
-StopsAt None stop = ⊥
-StopsAt (Some e) stop = FullFor e.op stop
-
 -- ---- lines
 -- Lines are done: the entries are those that they ask for, where they are answered so, and the names stand for what the replies give.
 pub record LinesDone (header : Numbers) (seat : ℕ) (first : Names) (lines : List Numbered) (made : List Made) (after : Names) : Type 0 where

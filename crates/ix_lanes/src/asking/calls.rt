@@ -1,7 +1,7 @@
 ghost use Rattle.std.specs.Prelude.{◌≡◌, ◌≤◌, take, true};
 ghost use Rattle.std.specs.Option.{option_map};
 ghost use Rattle.ix_model.specs.history.Calls.{event_of};
-ghost use Rattle.ix_lanes.specs.asking.Asked.{asked_then, both_bound, bound, fd_told, first_in, named, number_in, path_told, second_in, written};
+ghost use Rattle.ix_lanes.specs.asking.Asked.{asked, asked_then, both_bound, bound, first_in, named, number_in, second_in, written};
 ghost use Rattle.ix_script.specs.lines.Before.{listed, listed_two};
 ghost use Rattle.ix_lanes.specs.asking.Places.{given, has_all, has_places, KeepsNames, KeepsPlaces, standing};
 ghost use Rattle.ix_lanes.specs.asking.Replies.{count_in};
@@ -10,7 +10,7 @@ ghost use Rattle.ix_lanes.specs.histories.Serial.{entry_of};
 use crate::asking::numbers::Numbers;
 use crate::asking::places::{Places, fill};
 use ix_model::{Buf, Call, Entry, Reply};
-use ix_script::{FdWord, Line, NameWord, PathWord};
+use ix_script::{Line, NameWord};
 
 /// Puts the bytes that a line writes, where it is a `write` line, at the front of a buffer, and answers how many they are.
 pub fn put_written(line: &Line<'_>, buf: &mut Buf) -> usize
@@ -27,48 +27,188 @@ pub fn put_written(line: &Line<'_>, buf: &mut Buf) -> usize
     }
 }
 
-/// The process and the descriptor of a command that names a descriptor. Of the two that a `copy` names it is the first.
-#[tactic(auto, unfolding(crate::specs::asking::Asked::fd_told))]
-pub fn fd_told<'a, 'l>(line: &'a Line<'l>) -> Option<(&'a NameWord<'l>, &'a FdWord<'l>)>
-    ensures { option_map (λ told. (told.0.now, told.1.now)) result ≡ fd_told line.now }
+/// The entry of the first call that a line of a seat's lane asks for, if it asks for one. It borrows the script's text and these bytes,
+/// which are those that the line writes: nothing is copied.
+#[tactic(auto, unfolding(crate::specs::asking::Asked::asked))]
+pub fn call_of<'a>(
+    header: &Numbers<u32>,
+    places: &Places,
+    seat: u32,
+    number: u32,
+    line: &Line<'a>,
+    bytes: &'a [u8],
+) -> Option<Entry<'a>>
+    requires { bytes.now ≡ written line.now }
+    ensures { option_map event_of result ≡ option_map (entry_of seat number) (asked header.now (standing places.now) line.now) }
 {
-    match line {
-        Line::Read { proc, fd, .. }
-        | Line::Write { proc, fd, .. }
-        | Line::Cut { proc, fd, .. }
-        | Line::Seek { proc, fd, .. }
-        | Line::Dup { proc, fd, .. }
-        | Line::Close { proc, fd }
-        | Line::Pex { proc, fd }
-        | Line::Unpex { proc, fd }
-        | Line::Copy { proc, from: fd, .. } => Some((proc, fd)),
-        _ => None,
-    }
-}
-
-/// The process and the path of a command that names a path. Of the two that a `link` names it is the later.
-#[tactic(auto, unfolding(crate::specs::asking::Asked::path_told))]
-pub fn path_told<'a, 'l>(line: &'a Line<'l>) -> Option<(&'a NameWord<'l>, &'a PathWord<'l>)>
-    ensures { option_map (λ told. (told.0.now, told.1.now)) result ≡ path_told line.now }
-{
-    match line {
-        Line::Create { proc, path }
-        | Line::Open { proc, path, .. }
-        | Line::Mkdir { proc, path }
-        | Line::Link { proc, path, .. }
-        | Line::Unlink { proc, path }
-        | Line::Rmdir { proc, path }
-        | Line::Chdir { proc, path }
-        | Line::Stat { proc, path }
-        | Line::List { proc, path, .. }
-        | Line::Exec { proc, path }
-        | Line::Labelof { proc, path }
-        | Line::Setlabel { proc, path, .. }
-        | Line::Freeze { proc, path }
-        | Line::Thaw { proc, path }
-        | Line::Setpriv { proc, path, .. } => Some((proc, path)),
-        _ => None,
-    }
+    let (proc, call) = match line {
+        Line::Create { proc, path } => (proc, Call::CreateAt { path: path.path() }),
+        Line::Open {
+            proc,
+            path,
+            mode,
+            ..
+        } => (
+            proc,
+            Call::OpenAt {
+                path: path.path(),
+                mode: *mode,
+            },
+        ),
+        Line::Read { proc, fd, count } => (
+            proc,
+            Call::ReadFd {
+                fd: places.fd_of(fd),
+                count: *count,
+            },
+        ),
+        Line::Write { proc, fd, .. } => (
+            proc,
+            Call::WriteFd {
+                fd: places.fd_of(fd),
+                bytes,
+            },
+        ),
+        Line::Cut { proc, fd, len } => (
+            proc,
+            Call::CutFd {
+                fd: places.fd_of(fd),
+                len: *len,
+            },
+        ),
+        Line::Seek { proc, fd, at } => (
+            proc,
+            Call::SeekFd {
+                fd: places.fd_of(fd),
+                at: *at,
+            },
+        ),
+        Line::Dup { proc, fd, .. } => (
+            proc,
+            Call::DupFd {
+                fd: places.fd_of(fd),
+            },
+        ),
+        Line::Close { proc, fd } => (
+            proc,
+            Call::CloseFd {
+                fd: places.fd_of(fd),
+            },
+        ),
+        Line::Pipe { proc, .. } => (proc, Call::MakePipe),
+        Line::Mkdir { proc, path } => (proc, Call::MakeDir { path: path.path() }),
+        Line::Link { proc, target, path } => (
+            proc,
+            Call::LinkAt {
+                target: target.path(),
+                path: path.path(),
+            },
+        ),
+        Line::Unlink { proc, path } => (proc, Call::UnlinkAt { path: path.path() }),
+        Line::Rmdir { proc, path } => (proc, Call::RemoveDir { path: path.path() }),
+        Line::Chdir { proc, path } => (proc, Call::ChangeDir { path: path.path() }),
+        Line::Stat { proc, path } => (proc, Call::StatAt { path: path.path() }),
+        Line::List { proc, path, index } => (
+            proc,
+            Call::ListAt {
+                path: path.path(),
+                index: *index,
+            },
+        ),
+        Line::Fork { proc, keep, .. } => (
+            proc,
+            Call::Fork {
+                keep: places.keep_of(keep),
+            },
+        ),
+        Line::Exec { proc, path } => (proc, Call::Exec { path: path.path() }),
+        Line::Exit { proc, status } => (
+            proc,
+            Call::Exit {
+                status: (*status).min(255) as u8,
+            },
+        ),
+        Line::Wait { proc } => (proc, Call::WaitChild),
+        Line::Labelof { proc, path } => (proc, Call::LabelOf { path: path.path() }),
+        Line::Self_ { proc } => (proc, Call::SelfLabel),
+        Line::Setlabel { proc, path, label } => (
+            proc,
+            Call::SetLabel {
+                path: path.path(),
+                label: label.label(),
+            },
+        ),
+        Line::Setself { proc, label } => (
+            proc,
+            Call::SetSelf {
+                label: label.label(),
+            },
+        ),
+        Line::Freeze { proc, path } => (proc, Call::Freeze { path: path.path() }),
+        Line::Freezeself { proc } => (proc, Call::FreezeSelf),
+        Line::Thaw { proc, path } => (proc, Call::Thaw { path: path.path() }),
+        Line::Thawself { proc } => (proc, Call::ThawSelf),
+        Line::Setpriv {
+            proc,
+            path,
+            cap,
+            lic,
+        } => (
+            proc,
+            Call::SetPriv {
+                path: path.path(),
+                cap: *cap,
+                lic: *lic,
+            },
+        ),
+        Line::Droplic { proc, set } => (proc, Call::DropLic { set: *set }),
+        Line::Grant { proc, to, set } => (
+            proc,
+            Call::GrantLic {
+                pid: places.pid_of(header, to),
+                set: *set,
+            },
+        ),
+        Line::Ceiling { proc, of, label } => (
+            proc,
+            Call::SetCeiling {
+                pid: places.pid_of(header, of),
+                label: label.label(),
+            },
+        ),
+        Line::Pex { proc, fd } => (
+            proc,
+            Call::Pex {
+                fd: places.fd_of(fd),
+            },
+        ),
+        Line::Unpex { proc, fd } => (
+            proc,
+            Call::Unpex {
+                fd: places.fd_of(fd),
+            },
+        ),
+        Line::Readlog { proc, index } => (proc, Call::ReadLog { index: *index }),
+        Line::Copy {
+            proc,
+            from,
+            count,
+            ..
+        } => (
+            proc,
+            Call::ReadFd {
+                fd: places.fd_of(from),
+                count: *count,
+            },
+        ),
+        _ => return None,
+    };
+    Some(Entry {
+        seat,
+        line: number,
+        pid: places.pid_of(header, proc),
+        call,
+    })
 }
 
 /// How many bytes a reply says were read.
@@ -81,10 +221,10 @@ pub fn count_in(reply: &Reply) -> usize
     }
 }
 
-/// The second entry that a line of a seat's lane asks for, once its first one was answered and the bytes that it gave are
-/// at the front of a buffer.
+/// The entry of the second call that a line of a seat's lane asks for, if it asks for one once its first call was answered and the
+/// bytes that it gave are at the front of a buffer.
 #[tactic(auto, unfolding(crate::specs::asking::Asked::asked_then))]
-pub fn entry_then<'a>(
+pub fn call_then<'a>(
     header: &Numbers<u32>,
     places: &Places,
     seat: u32,

@@ -9,16 +9,6 @@ use Rattle.ix_model.specs.opening.Valid.{all_differ, fs_of, lying_on, blocks_tak
 use Rattle.ix_model.specs.declared.config.FsSpec.{FsSpec}
 use Rattle.ix_model.specs.declared.config.ObjSpec.{ObjSpec}
 
-same_from : (a b : List (List ℕ)) (i : ℕ) (x y : List ℕ) (same : Bool) → slice_get a i ≡ Some x → slice_get b i ≡ Some y → same ≡ same_bytes x y → same_names (drop i a) (drop i b) ≡ (same && same_names (drop (suc i) a) (drop (suc i) b))
-same_from [] b i x y same h k is = cc
-same_from (v ∷ a) [] i x y same h k is = cc
-same_from (v ∷ a) (w ∷ b) zero x y same h k is = cc
-same_from (v ∷ a) (w ∷ b) (suc i) x y same h k is = same_from a b i x y same h k is
-
--- two lists of names are one from a place on where the names there are one, and the rests are
-pub same_names_step : (a b : List (List ℕ)) (i : ℕ) (x y : List ℕ) (same : Bool) → slice_get a i ≡ Some x → slice_get b i ≡ Some y → same ≡ same_bytes x y → same_names (drop i a) (drop i b) ≡ (same && same_names (drop (i + 1) a) (drop (i + 1) b))
-same_names_step a b i x y same h k is = rw add-one (same_from a b i x y same h k is)
-
 list_any-map : {X Y : Type 0} (p : Y → Bool) (h : X → Y) (xs : List X) → list_any p (map h xs) ≡ list_any (λ x. p (h x)) xs
 list_any-map p h [] = refl
 list_any-map p h (x ∷ xs) = rw (list_any-map p h xs) refl

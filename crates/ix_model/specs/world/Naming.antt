@@ -1,5 +1,5 @@
 -- Names and paths.
-use Rattle.std.specs.Prelude.{◌≡◌, ℕ, ◌-◌, ◌≤◌, Bool, ◌&&◌, not, List, [], ◌∷◌, ◌++◌, length, take, map, replicate, nat_eq, nat_lt, nat_le, ◌==◌, Option, Some, None, slice_index_or}
+use Rattle.std.specs.Prelude.{◌≡◌, ℕ, ◌-◌, ◌≤◌, Bool, ◌&&◌, not, List, [], ◌∷◌, ◌++◌, length, take, map, replicate, nat_eq, nat_lt, nat_le, ◌==◌, slice_index_or}
 use Rattle.std.specs.List.{list_all}
 use Rattle.std.specs.Cmp.Lexicographic.{pointwise}
 
@@ -44,19 +44,3 @@ pub record IsNameInside (bytes : List ℕ) (len : ℕ) : Type 0 where
   pub fits : len ≤ 28
   pub long : length (take len bytes) ≡ len
   pub padding : padded 28 (take len bytes) ≡ bytes
-
--- the names in the slots of a path
-abbrev pub names_in : List (Option (List ℕ)) → List (List ℕ)
-names_in [] = []
-names_in (None ∷ slots) = []
-names_in (Some name ∷ slots) = name ∷ names_in slots
-
--- the slots of names
-abbrev pub slots_of : List (List ℕ) → List (Option (List ℕ))
-slots_of names = map Some names ++ replicate (16 - length names) None
-
--- how the names of a path lie in 16 slots
-pub record IsPathInside (slots : List (Option (List ℕ))) (count : ℕ) : Type 0 where
-  pub fits : count ≤ 16
-  pub long : length (names_in slots) ≡ count
-  pub filled : slots_of (names_in slots) ≡ slots

@@ -13,15 +13,16 @@ use Rattle.ix_label.specs.declared.form.Form.{Form}
 use Rattle.ix_label.specs.Forms.{greatest}
 use Rattle.ix_label.specs.Category.{Categories}
 use Rattle.ix_label.specs.Spelling.{spelling}
-use Rattle.ix_model.specs.world.Naming.{PathOf, same_bytes, is_name}
+use Rattle.ix_model.specs.world.Naming.{PathOf, same_bytes}
 use Rattle.ix_model.specs.declared.call.Mode.{Mode}
 use Rattle.ix_model.specs.declared.call.Mode.TheVariants as mode
 use Rattle.ix_model.specs.declared.privs.PrivSet.{PrivSet}
-use Rattle.ix_script.specs.texts.Lines.{with_front}
+use Rattle.ix_model.specs.world.Texts.{with_front, between_slashes, names_in}
+use Rattle.ix_model.proofs.texts.Joining.{some_piece}
 use Rattle.ix_text.specs.Bytes.{begins, is_empty, is_digit, begins_with}
 use Rattle.ix_text.specs.Labels.{label_in, labels_below, is_spelled}
 use Rattle.ix_text.specs.Spellings.{letters, joined, letter_in, privs_text, mode_text, state_text}
-use Rattle.ix_script.specs.texts.Words.{is_numeral, value, value_from, number_of, may_stand_in_path, between_slashes, names_of, path_from, absolute_path, relative_path, path_of, made_path_of, mode_of, state_of, what_of, numbered, named, fd_of, keep_of}
+use Rattle.ix_script.specs.texts.Words.{is_numeral, value, value_from, number_of, is_path_word, path_in, path_of, made_path_of, mode_of, state_of, what_of, numbered, named, fd_of, keep_of}
 use Rattle.ix_text.specs.Names.{is_script_name, name_of}
 use Rattle.ix_text.specs.Privs.{bits_from, privs_of}
 use Rattle.ix_script.specs.lines.Before.{what_text}
@@ -154,50 +155,31 @@ pub joined_front : (byte b : ℕ) (texts : List (List ℕ)) → joined byte (wit
 joined_front byte b [] = refl
 joined_front byte b (text ∷ texts) = refl
 
-some_between : (text : List ℕ) → (x : List ℕ) × (xs : List (List ℕ)) × (between_slashes text ≡ x ∷ xs)
-unfolding between_slashes
-some_between [] = ([], [], refl)
-some_between (b ∷ text) = elim (cases_Bool (b == 47)) [
-  | inl e ↦ ([], between_slashes text, rw e refl)
-  | inr e ↦ let k = some_between text in (b ∷ k.0, k.1, rw (e, k.2) refl)
-]
-
 slashes_joined : (text : List ℕ) → joined 47 (between_slashes text) ≡ text
 unfolding between_slashes
 slashes_joined [] = refl
 slashes_joined (b ∷ text) = elim (cases_Bool (b == 47)) [
-  | inl e ↦ let k = some_between text in let same = slashes_joined text in rw (e, k.2) (ap (λ c. c ∷ joined 47 (k.0 ∷ k.1)) (sym (eqb-true b 47 e)) ∙ ap (λ t. b ∷ t) (ap (joined 47) (sym k.2) ∙ same))
+  | inl e ↦
+      let k = some_piece text in
+      let same = slashes_joined text in
+      rw (e, k.2) (ap (λ c. c ∷ joined 47 (k.0 ∷ k.1)) (sym (eqb-true b 47 e)) ∙ ap (λ t. b ∷ t) (ap (joined 47) (sym k.2) ∙ same))
   | inr e ↦ rw e (joined_front 47 b (between_slashes text) ∙ ap (λ t. b ∷ t) (slashes_joined text))
 ]
 
-names_spelled : (text : List ℕ) (names : List (List ℕ)) → names_of text ≡ Some names → joined 47 names ≡ text
-unfolding names_of
-names_spelled text names h = ap (joined 47) (sym (cond_some (list_all is_name (between_slashes text) && nat_le (length (between_slashes text)) 16) (between_slashes text) names h).1) ∙ slashes_joined text
+names_joined : (text : List ℕ) → joined 47 (names_in text) ≡ text
+names_joined [] = refl
+names_joined (b ∷ text) = slashes_joined (b ∷ text)
 
-absolute_spelled : (text : List ℕ) (path : PathOf) → absolute_path text ≡ Some path → path_text path ≡ 47 ∷ text
+pub in_spelled : (word : List ℕ) → path_text (path_in word) ≡ word
 unfolding path_text
-absolute_spelled text path h = elim (chosen (is_empty text) (path_from true []) (option_map (path_from true) (names_of text)) path h) [
-  | inl p ↦ subst (λ (q : PathOf). path_text q ≡ 47 ∷ text) p.1 (ap (λ t. 47 ∷ t) (sym (empty_word text p.0)))
-  | inr k ↦
-      let m = mapped (path_from true) (names_of text) path k in
-      subst (λ (q : PathOf). path_text q ≡ 47 ∷ text) m.2 (ap (λ t. 47 ∷ t) (names_spelled text m.0 m.1))
+in_spelled word = elim (cases_Bool (begins 47 word)) [
+  | inl e ↦ rw e (ap (λ t. 47 ∷ t) (names_joined (drop 1 word)) ∙ sym (begun 47 word e))
+  | inr e ↦ rw e (names_joined word)
 ]
-
-relative_spelled : (text : List ℕ) (path : PathOf) → relative_path text ≡ Some path → path_text path ≡ text
-unfolding path_text
-relative_spelled text path h =
-    let m = mapped (path_from false) (names_of text) path h in
-    subst (λ (q : PathOf). path_text q ≡ text) m.2 (names_spelled text m.0 m.1)
 
 pub path_spelled : (word : List ℕ) (path : PathOf) → path_of word ≡ Some path → path_text path ≡ word
 unfolding path_of
-path_spelled word path h = elim (either (not (list_all may_stand_in_path word)) None (cond (begins 47 word) (absolute_path (drop 1 word)) (relative_path word)) path h) [
-  | inl p ↦ absurd (none-some path p.1)
-  | inr k ↦ elim (either (begins 47 word) (absolute_path (drop 1 word)) (relative_path word) path k.1) [
-    | inl p ↦ absolute_spelled (drop 1 word) path p.1 ∙ sym (begun 47 word p.0)
-    | inr p ↦ relative_spelled word path p.1
-  ]
-]
+path_spelled word path h = ap path_text (sym (cond_some (is_path_word word) (path_in word) path h).1) ∙ in_spelled word
 
 pub made_path_spelled : (word : List ℕ) (path : PathOf) → made_path_of word ≡ Some path → path_text path ≡ word
 unfolding made_path_of

@@ -9,7 +9,8 @@ use Rattle.std.proofs.lemmas.Bool.Decides.{nat_tests}
 use Rattle.ix_model.specs.opening.Valid.{is_within}
 use Rattle.ix_label.specs.declared.form.Form.{Form}
 use Rattle.ix_label.specs.declared.form.Form.TheVariants.{One}
-use Rattle.ix_script.specs.texts.Lines.{with_front, cut, lines_of}
+use Rattle.ix_model.specs.world.Texts.{with_front}
+use Rattle.ix_script.specs.texts.Lines.{cut, lines_of}
 use Rattle.ix_script.specs.lines.Before.{form_by, form_told}
 use Rattle.ix_script.specs.lines.Said.{both, version_of, line_of}
 use Rattle.ix_script.specs.lines.Faults.{or_next, text_fault, body_fault, line_fault, fault_from, fault_of}

@@ -1,18 +1,18 @@
 -- What holds of a line that breaks no rule.
-use Rattle.std.proofs.Common.{◌≡◌, ℕ, ◌≤◌, ◌==◌, nat_le, Bool, true, false, ◌&&◌, not, cond, List, [], ◌∷◌, length, map, drop, Option, if◌then◌else◌, Some, None, option_map, refl, sym, ap, ◌∙◌, subst, arith, inl, inr}
+use Rattle.std.proofs.Common.{◌≡◌, ℕ, nat_le, Bool, true, false, ◌&&◌, not, cond, List, [], ◌∷◌, length, map, drop, Option, if◌then◌else◌, Some, None, option_map, refl, sym, ap, ◌∙◌, subst, arith, inl, inr}
 use Rattle.std.specs.Option.{option_or, option_map_or}
-use Rattle.std.proofs.lemmas.Bool.{le-leb}
-use Rattle.std.specs.List.{list_all}
+use Rattle.std.proofs.lemmas.Bool.{le-leb, not-true}
 use Rattle.ix_label.specs.Category.{Categories}
 use Rattle.ix_model.specs.declared.privs.PrivSet.{PrivSet}
-use Rattle.ix_model.specs.world.Naming.{PathOf, is_name}
+use Rattle.ix_model.specs.world.Naming.{PathOf}
 use Rattle.ix_model.specs.opening.Valid.{is_within}
-use Rattle.ix_script.specs.texts.Lines.{with_front}
+use Rattle.ix_model.specs.world.Texts.{names_in}
+use Rattle.ix_model.proofs.texts.Joining.{some_piece}
 use Rattle.ix_label.specs.declared.form.Form as spelled
 use Rattle.ix_script.specs.lines.Before.{form_told, is_known, fss_told}
 use Rattle.ix_script.specs.texts.Cutting.{words_of, word_at, is_skipped, is_policy_line, policy_text}
 use Rattle.ix_text.specs.Bytes.{begins, is_empty}
-use Rattle.ix_script.specs.texts.Words.{is_numeral, value, number_of, between_slashes, names_of, path_from, may_stand_in_path, path_of, made_path_of, what_of, state_of}
+use Rattle.ix_script.specs.texts.Words.{is_numeral, value, number_of, is_path_word, path_in, path_of, made_path_of, what_of, state_of}
 use Rattle.ix_text.specs.Names.{name_of, is_script_name}
 use Rattle.ix_text.specs.Privs.{privs_of}
 use Rattle.ix_text.specs.Labels.{label_in}
@@ -94,54 +94,22 @@ unfolding name_of
 named word name h = (chosen (is_script_name word) word name h).1
 
 -- ---- paths
-front_some : (b : ℕ) (pieces : List (List ℕ)) → 1 ≤ length (with_front b pieces)
-front_some b [] = omega arith
-front_some b (p ∷ pieces) = omega arith
-
-pieces_some : (text : List ℕ) → 1 ≤ length (between_slashes text)
-unfolding between_slashes
-pieces_some [] = omega arith
-pieces_some (b ∷ text) =
-    elim (b == 47) as (λ t. 1 ≤ length (cond t ([] ∷ between_slashes text) (with_front b (between_slashes text)))) [
-      | true ↦ omega arith
-      | false ↦ front_some b (between_slashes text)
-    ]
-
-names_some : (text : List ℕ) (found : List (List ℕ)) → names_of text ≡ Some found → nat_le 1 (length found) ≡ true
-unfolding names_of
-names_some text found h =
-    let p = chosen (list_all is_name (between_slashes text) && nat_le (length (between_slashes text)) 16) (between_slashes text) found h in
-    subst (λ (fs : List (List ℕ)). nat_le 1 (length fs) ≡ true) p.1 (le-leb 1 (length (between_slashes text)) (pieces_some text))
-
-taken : {A : Type 0} (b : Bool) (o : Option A) (y : A) → cond b o None ≡ Some y → (b ≡ true) × (o ≡ Some y)
-taken true o y h = (refl, h)
-taken false o y h = cc
-
-untaken : {A : Type 0} (b : Bool) (o : Option A) (y : A) → cond b None o ≡ Some y → (b ≡ false) × (o ≡ Some y)
-untaken true o y h = cc
-untaken false o y h = (refl, h)
-
-not_false : (b : Bool) → not b ≡ false → b ≡ true
-not_false true h = refl
-not_false false h = cc
-
-not_true : (b : Bool) → not b ≡ true → b ≡ false
-not_true true h = cc
-not_true false h = refl
-
-from_names : (m : Option (List (List ℕ))) (path : PathOf) → ((found : List (List ℕ)) → m ≡ Some found → nat_le 1 (length found) ≡ true) → option_map (path_from true) m ≡ Some path → HasPlace path
-from_names None path right h = cc
-from_names (Some found) path right h = let e : path_from true found ≡ path = cc in subst HasPlace e (right found refl)
+some_names : (text : List ℕ) → is_empty text ≡ false → nat_le 1 (length (names_in text)) ≡ true
+some_names [] h = cc
+some_names (b ∷ text) h = let k = some_piece (b ∷ text) in rw k.2 (le-leb 1 (length (k.0 ∷ k.1)) (omega arith))
 
 made_place : (word : List ℕ) (path : PathOf) → made_path_of word ≡ Some path → HasPlace path
 unfolding made_path_of path_of
 made_place word path h =
-    let one = taken (begins 47 word && not (is_empty (drop 1 word))) _ path h in
+    let one = taken (begins 47 word && not (is_empty (drop 1 word))) (path_of word) path h in
     let start = names.both (begins 47 word) (not (is_empty (drop 1 word))) one.0 in
-    let two = untaken (not (list_all may_stand_in_path word)) _ path one.1 in
-    let some : is_empty (drop 1 word) ≡ false = not_true (is_empty (drop 1 word)) start.1 in
-    let three : option_map (path_from true) (names_of (drop 1 word)) ≡ Some path = rw (start.0, some) at two.1 in
-    from_names (names_of (drop 1 word)) path (λ found e. names_some (drop 1 word) found e) three
+    let two = chosen (is_path_word word) (path_in word) path one.1 in
+    let place : HasPlace (path_in word) = rw start.0 (some_names (drop 1 word) (not-true (is_empty (drop 1 word)) start.1)) in
+    subst HasPlace two.1 place
+  where
+    taken : (b : Bool) (o : Option PathOf) (y : PathOf) → cond b o None ≡ Some y → (b ≡ true) × (o ≡ Some y)
+    taken true o y h = (refl, h)
+    taken false o y h = cc
 
 -- ---- what each form says is sound
 plain_sound : (before : List Line) (c : Plain) (proc : List ℕ) → Sound before (plain_line c proc)

@@ -1,15 +1,12 @@
 -- What lines cost: at most 4,352 for each command, and nothing for another line.
-use Rattle.std.proofs.Common.{◌≡◌, ℕ, ◌+◌, ◌*◌, ◌≤◌, ◌&&◌, nat_le, Bool, true, false, cond, not, List, [], ◌∷◌, ◌++◌, length, drop, Option, Some, None, option_map, refl, ap, ◌∙◌, subst, arith, inl, inr}
-use Rattle.std.specs.List.{list_all, sum_by}
+use Rattle.std.proofs.Common.{◌≡◌, ℕ, ◌+◌, ◌*◌, ◌≤◌, nat_le, Bool, true, false, cond, List, [], ◌∷◌, ◌++◌, length, Option, Some, None, option_map, refl, subst, arith, inl, inr}
 use Rattle.std.specs.Option.{option_or}
 use Rattle.std.proofs.lemmas.Bool.{leb-true}
 use Rattle.std.proofs.lemmas.Option.{none-some, same_Some}
 use Rattle.std.proofs.lemmas.List.Sums.{sum_by-cons, sum_by_push, sum-map}
-use Rattle.ix_model.specs.world.Naming.{PathOf, is_name}
+use Rattle.ix_model.specs.world.Naming.{PathOf}
 use Rattle.ix_model.specs.history.Cost.{cost_of_path}
 use Rattle.ix_script.specs.texts.Cutting.{is_skipped, is_policy_line, policy_text, words_of, word_at}
-use Rattle.ix_text.specs.Bytes.{begins, is_empty}
-use Rattle.ix_script.specs.texts.Words.{between_slashes, names_of, path_from, may_stand_in_path, absolute_path, relative_path, path_of}
 use Rattle.ix_script.specs.texts.Payloads.{payload_of}
 use Rattle.ix_script.specs.lines.Forms.{form_of}
 use Rattle.ix_script.specs.lines.Before.{is_command, commands}
@@ -29,50 +26,9 @@ use Rattle.ix_script.specs.declared.cutting.form.Counted.TheVariants as counted
 use Rattle.ix_script.specs.declared.line.FdWord.{FdWord}
 use Rattle.ix_script.specs.declared.line.Line.{Line}
 use Rattle.ix_script.specs.declared.line.Line.TheVariants as line
-use Rattle.ix_text.proofs.Tests.{both as both_true}
 use Rattle.ix_script.proofs.reader.Told.{mapped, paired, bound, either}
 use Rattle.ix_script.proofs.reader.Pushed.{commands_push}
-
--- ---- paths
-name_short : (name : List ℕ) → is_name name ≡ true → length name ≤ 28
-unfolding is_name
-name_short name h = leb-true (length name) 28 (both_true _ _ (both_true _ _ (both_true _ _ (both_true _ _ h).0).0).0).1
-
-names_short : (names : List (List ℕ)) → list_all is_name names ≡ true → sum_by (λ n. length n + 1) names ≤ 29 * length names
-names_short [] h = omega arith
-names_short (name ∷ names) h =
-    let parts = both_true (is_name name) (list_all is_name names) h in
-    omega (arith, sum_by-cons (λ (n : List ℕ). length n + 1) name names, name_short name parts.0, names_short names parts.1)
-
-named_cheap : (absolute : Bool) (text : List ℕ) (path : PathOf) → option_map (path_from absolute) (names_of text) ≡ Some path → cost_of_path path ≤ 464
-unfolding names_of
-named_cheap absolute text path h =
-    let m = mapped (path_from absolute) (names_of text) path h in
-    elim (either (list_all is_name (between_slashes text) && nat_le (length (between_slashes text)) 16) (Some (between_slashes text)) None m.0 m.1) [
-      | inl p ↦
-          let parts = both_true (list_all is_name (between_slashes text)) (nat_le (length (between_slashes text)) 16) p.0 in
-          let few : length (between_slashes text) ≤ 16 = leb-true _ _ parts.1 in
-          let same : between_slashes text ≡ m.0 = same_Some (between_slashes text) m.0 p.1 in
-          let cost : cost_of_path (path_from absolute (between_slashes text)) ≤ 464 = omega (arith, few, names_short (between_slashes text) parts.0, sum-map (λ (n : List ℕ). length n + 1) (between_slashes text)) in
-          subst (λ (p : PathOf). cost_of_path p ≤ 464) (ap (path_from absolute) same ∙ m.2) cost
-      | inr p ↦ absurd (none-some m.0 p.1)
-    ]
-
-absolute_cheap : (text : List ℕ) (path : PathOf) → absolute_path text ≡ Some path → cost_of_path path ≤ 464
-absolute_cheap text path h = elim (either (is_empty text) (Some (path_from true [])) (option_map (path_from true) (names_of text)) path h) [
-  | inl p ↦ subst (λ (p : PathOf). cost_of_path p ≤ 464) (same_Some (path_from true []) path p.1) (omega arith)
-  | inr p ↦ named_cheap true text path p.1
-]
-
-path_cheap : (word : List ℕ) (path : PathOf) → path_of word ≡ Some path → cost_of_path path ≤ 464
-unfolding path_of
-path_cheap word path h = elim (either (not (list_all may_stand_in_path word)) None (cond (begins 47 word) (absolute_path (drop 1 word)) (relative_path word)) path h) [
-  | inl p ↦ absurd (none-some path p.1)
-  | inr p ↦ elim (either (begins 47 word) (absolute_path (drop 1 word)) (relative_path word) path p.1) [
-    | inl q ↦ absolute_cheap (drop 1 word) path q.1
-    | inr q ↦ named_cheap false word path q.1
-  ]
-]
+use Rattle.ix_script.proofs.texts.Paths.{path_cheap}
 
 -- ---- a line
 abbrev Cheap : Line → Type 0

@@ -9,7 +9,9 @@ use Rattle.std.specs.Ordering.{bool_cmp, is_eq, nat_cmp}
 use Rattle.std.proofs.lemmas.Cmp.{nat_list_eq_equiv}
 use Rattle.std.proofs.lemmas.Map.Text.{is_eq-slice_cmp}
 use Rattle.ix_model.specs.world.Naming.{same_bytes, same_names}
-use Rattle.ix_script.specs.reader.Indexed.{bytes_cmp, AreNames, place_cmp, is_place, AreIndexed, names_cmp, names_in, site_cmp, is_site, AreSites, is_there, dir_there, file_there}
+use Rattle.ix_model.specs.world.Texts.{names_in}
+use Rattle.ix_model.proofs.texts.Joining.{same_text}
+use Rattle.ix_script.specs.reader.Indexed.{bytes_cmp, AreNames, place_cmp, is_place, AreIndexed, site_cmp, is_site, AreSites, is_there, dir_there, file_there}
 use Rattle.ix_script.specs.declared.before.by_bytes.ByBytes.{ByBytes}
 use Rattle.ix_script.specs.declared.before.given.Place.{Place}
 use Rattle.ix_model.specs.declared.config.ObjSpec.{ObjSpec}
@@ -55,11 +57,8 @@ place_indexed p old new items more was = λ q.
 
 -- ---- paths
 -- equal in their order means the same names
-pub equal_names : (xs ys : List (List ℕ)) → is_eq (names_cmp xs ys) ≡ same_names xs ys
-equal_names [] [] = refl
-equal_names [] (y ∷ ys) = refl
-equal_names (x ∷ xs) [] = refl
-equal_names (x ∷ xs) (y ∷ ys) = sym (tied_then (slice_cmp nat_cmp x y) (names_cmp xs ys)) ∙ (λ i. is_eq-slice_cmp x y i && equal_names xs ys i)
+equal_texts : (a b : List ℕ) → is_eq (slice_cmp nat_cmp a b) ≡ same_names (names_in a) (names_in b)
+equal_texts a b = is_eq-slice_cmp a b ∙ sym (same_text a b)
 
 equal_kinds : (a b : Bool) → is_eq (bool_cmp a b) ≡ cond b a (not a)
 equal_kinds true true = refl
@@ -67,14 +66,14 @@ equal_kinds true false = refl
 equal_kinds false true = refl
 equal_kinds false false = refl
 
-equal_sites : (s t : Site) (m : ObjSpec) → m.path.names ≡ (names_in s.path) → m.dir ≡ s.dir → is_at (site_cmp s) t ≡ is_site t m
-equal_sites s t m names dir = sym (tied_then (names_cmp (names_in s.path) (names_in t.path)) (bool_cmp s.dir t.dir))
-    ∙ swapped (is_eq (names_cmp (names_in s.path) (names_in t.path))) (is_eq (bool_cmp s.dir t.dir))
-    ∙ (λ i. equal_kinds s.dir t.dir i && is_eq (names_cmp (names_in s.path) (names_in t.path)))
-    ∙ (λ i. cond t.dir (sym dir i) (not (sym dir i)) && (equal_names (names_in s.path) (names_in t.path) ∙ ap (λ ns. same_names ns (names_in t.path)) (sym names)) i)
+equal_sites : (s t : Site) (m : ObjSpec) → m.path.names ≡ names_in s.names.name.now → m.dir ≡ s.dir → is_at (site_cmp s) t ≡ is_site t m
+equal_sites s t m names dir = sym (tied_then (slice_cmp nat_cmp s.names.name.now t.names.name.now) (bool_cmp s.dir t.dir))
+    ∙ swapped (is_eq (slice_cmp nat_cmp s.names.name.now t.names.name.now)) (is_eq (bool_cmp s.dir t.dir))
+    ∙ (λ i. equal_kinds s.dir t.dir i && equal_texts s.names.name.now t.names.name.now i)
+    ∙ (λ i. cond t.dir (sym dir i) (not (sym dir i)) && same_names (sym names i) (names_in t.names.name.now))
 
 -- a site more in both
-pub site_indexed : (s : Site) (m : ObjSpec) (old new : BTreeSet Site) (made : List ObjSpec) → m.path.names ≡ (names_in s.path) → m.dir ≡ s.dir
+pub site_indexed : (s : Site) (m : ObjSpec) (old new : BTreeSet Site) (made : List ObjSpec) → m.path.names ≡ names_in s.names.name.now → m.dir ≡ s.dir
     → Updates site_cmp old new s true → AreSites old made → AreSites new (made ++ m ∷ [])
 site_indexed s m old new made names dir more was = λ t.
     more.0 t ∙ (λ i. cond (equal_sites s t m names dir i) true (was t i)) ∙ new_or_there (is_site t m) (list_any (is_site t) made) ∙ sym (any_push (is_site t) made m)

@@ -2,7 +2,7 @@
 use Rattle.std.proofs.Common.{◌≡◌, ℕ, false, not, ◌==◌, List, [], ◌∷◌, ◌++◌, drop, inl, inr, refl, sym, ap, ◌∙◌}
 use Rattle.std.proofs.lemmas.Bool.{cases_Bool, eqb-true, false≢true}
 use Rattle.std.proofs.lemmas.List.{append-nil}
-use Rattle.ix_script.specs.texts.Lines.{with_front}
+use Rattle.ix_model.specs.world.Texts.{with_front}
 use Rattle.ix_script.specs.texts.Cutting.{after_byte, is_quoted, parts_words, pieces, words_of}
 use Rattle.ix_text.specs.Bytes.{is_empty}
 use Rattle.ix_text.specs.Spellings.{further, joined}

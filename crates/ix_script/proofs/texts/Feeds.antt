@@ -4,7 +4,8 @@ use Rattle.std.specs.Option.{option_map_or}
 use Rattle.std.proofs.lemmas.Bool.{cases_eq, eq-eqb, ne_eqb, le-leb}
 use Rattle.std.proofs.lemmas.Bool.Decides.{nat_tests}
 use Rattle.bstr.specs.Find.{first_of, matches_from, matches, occurs_at}
-use Rattle.ix_script.specs.texts.Lines.{with_front, cut}
+use Rattle.ix_model.specs.world.Texts.{with_front}
+use Rattle.ix_script.specs.texts.Lines.{cut}
 
 -- the place of the first line feed
 abbrev feed_in : List ℕ → Option ℕ

@@ -2,7 +2,7 @@
 use Rattle.std.proofs.Common.{◌≡◌, ℕ, zero, suc, ◌+◌, ◌≤◌, Bool, true, false, ◌||◌, cond, List, [], ◌∷◌, ◌++◌, length, take, refl, sym, ap, ◌∙◌, append_assoc, length-append, arith}
 use Rattle.std.specs.List.{list_any}
 use Rattle.std.proofs.lemmas.List.{append-nil, take-append-le, take_all}
-use Rattle.ix_script.specs.texts.Lines.{with_front}
+use Rattle.ix_model.specs.world.Texts.{with_front}
 use Rattle.ix_script.specs.texts.Cutting.{is_open, pieces, parts_words, after_byte, words_of}
 use Rattle.ix_text.specs.Bytes.{is_empty}
 use Rattle.ix_script.specs.lines.Rules.{has_empty_word, has_open_quote}

@@ -1,5 +1,5 @@
 -- What an index beside a list holds.
-use Rattle.std.specs.Prelude.{◌≡◌, ℕ, Bool, ◌&&◌, not, if◌then◌else◌, List, take}
+use Rattle.std.specs.Prelude.{◌≡◌, ℕ, Bool, ◌&&◌, not, if◌then◌else◌, List}
 use Rattle.std.specs.BTreeSet.{BTreeSet, contains}
 use Rattle.std.specs.Cmp.Lexicographic.{slice_cmp}
 use Rattle.std.specs.List.{list_any}
@@ -7,9 +7,8 @@ use Rattle.std.specs.Ordering.{bool_cmp, nat_cmp, ordering_then}
 use Rattle.std.specs.declared.cmp.Ordering.{Ordering}
 use Rattle.ix_model.specs.world.Naming.{same_bytes, same_names}
 use Rattle.ix_model.specs.declared.config.ObjSpec.{ObjSpec}
-use Rattle.ix_script.specs.texts.Words.{between_slashes}
+use Rattle.ix_model.specs.world.Texts.{names_in}
 use Rattle.ix_script.specs.declared.before.by_bytes.ByBytes.{ByBytes}
-use Rattle.ix_script.specs.declared.before.by_names.ByNames.{ByNames}
 use Rattle.ix_script.specs.declared.before.given.Place.{Place}
 use Rattle.ix_script.specs.declared.before.tree.Site.{Site}
 
@@ -33,21 +32,13 @@ AreNames index items = (n : ByBytes) → contains bytes_cmp index n ≡ list_any
 abbrev pub AreIndexed : BTreeSet Place → List (List ℕ × List ℕ) → Type 0
 AreIndexed index items = (p : Place) → contains place_cmp index p ≡ list_any (is_place p) items
 
--- by the first name that differs
-abbrev pub names_cmp : List (List ℕ) → List (List ℕ) → Ordering
-names_cmp a b = slice_cmp (slice_cmp nat_cmp) a b
-
--- so many names of a text
-abbrev pub names_in : ByNames → List (List ℕ)
-names_in p = take p.count (between_slashes p.text.now)
-
--- by the names, and then files before directories
+-- by the text of the names, and then files before directories
 abbrev pub site_cmp : Site → Site → Ordering
-site_cmp a b = ordering_then (names_cmp (names_in a.path) (names_in b.path)) (bool_cmp a.dir b.dir)
+site_cmp a b = ordering_then (slice_cmp nat_cmp a.names.name.now b.names.name.now) (bool_cmp a.dir b.dir)
 
 -- made there, as a directory or as a file
 abbrev pub is_site : Site → ObjSpec → Bool
-is_site s o = (if s.dir then o.dir else not o.dir) && same_names o.path.names (names_in s.path)
+is_site s o = (if s.dir then o.dir else not o.dir) && same_names o.path.names (names_in s.names.name.now)
 
 -- the index has the sites of the list, and no other
 abbrev pub AreSites : BTreeSet Site → List ObjSpec → Type 0

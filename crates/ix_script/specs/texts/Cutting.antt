@@ -3,7 +3,7 @@ use Rattle.std.specs.Prelude.{ℕ, ◌==◌, Bool, true, false, not, ◌&&◌, �
 use Rattle.std.specs.List.{slice_index_or}
 use Rattle.ix_model.specs.world.Naming.{same_bytes}
 use Rattle.ix_text.specs.Bytes.{begins, is_empty}
-use Rattle.ix_script.specs.texts.Lines.{with_front}
+use Rattle.ix_model.specs.world.Texts.{with_front}
 use Rattle.ix_script.specs.declared.cutting.spot.Spot.{Spot}
 use Rattle.ix_script.specs.declared.cutting.spot.Spot.TheVariants as spot
 

@@ -1,10 +1,6 @@
 -- The lines of an input.
 use Rattle.std.specs.Prelude.{ℕ, ◌==◌, List, [], ◌∷◌, if◌then◌else◌}
-
--- lines, the first of which has one byte more at its front
-abbrev pub with_front : ℕ → List (List ℕ) → List (List ℕ)
-with_front b [] = (b ∷ []) ∷ []
-with_front b (line ∷ lines) = (b ∷ line) ∷ lines
+use Rattle.ix_model.specs.world.Texts.{with_front}
 
 -- Bytes are cut at line feeds. What follows the last one is a line where it isn't empty.
 unfoldable pub cut : List ℕ → List (List ℕ)

@@ -1,13 +1,17 @@
 -- The words of a script: numbers, paths, modes, states and descriptors.
-use Rattle.std.specs.Prelude.{ℕ, ◌+◌, ◌*◌, ◌-◌, ◌==◌, nat_le, Bool, true, false, not, ◌&&◌, ◌||◌, List, [], ◌∷◌, length, drop, Option, Some, None, if◌then◌else◌, unwrap_or, codes}
+use Rattle.std.specs.Prelude.{ℕ, ◌+◌, ◌*◌, ◌-◌, ◌==◌, Bool, true, false, not, ◌&&◌, ◌||◌, List, [], ◌∷◌, length, drop, Option, Some, None, if◌then◌else◌, unwrap_or, codes}
 use Rattle.std.specs.List.{list_all}
 use Rattle.std.proofs.Common.{option_map}
-use Rattle.ix_model.specs.world.Naming.{PathOf, is_name, same_bytes}
+use Rattle.ix_label.specs.Category.{Categories, bottom}
+use Rattle.ix_label.specs.declared.form.Form.{Form}
+use Rattle.ix_model.specs.world.Naming.{PathOf, same_bytes}
+use Rattle.ix_model.specs.world.Paths.{path_from}
+use Rattle.ix_model.specs.world.Texts.{is_path_text}
 use Rattle.ix_model.specs.opening.Valid.{is_within}
 use Rattle.ix_model.specs.declared.call.Mode.{Mode}
 use Rattle.ix_model.specs.declared.call.Mode.TheVariants as mode
+use Rattle.ix_text.specs.Labels.{label_in}
 use Rattle.ix_text.specs.Names.{name_of}
-use Rattle.ix_script.specs.texts.Lines.{with_front}
 use Rattle.ix_text.specs.Bytes.{begins, begins_with, is_digit, is_empty}
 use Rattle.ix_script.specs.declared.line.What.{What}
 use Rattle.ix_script.specs.declared.line.What.TheVariants as what
@@ -39,39 +43,30 @@ number_of low high word = if is_numeral word && is_within low high (value word) 
 abbrev pub may_stand_in_path : ℕ → Bool
 may_stand_in_path b = is_within 33 126 b && not (b == 34) && not (b == 92)
 
--- what stands between slashes
-unfoldable pub between_slashes : List ℕ → List (List ℕ)
-between_slashes [] = [] ∷ []
-between_slashes (b ∷ text) = if b == 47 then [] ∷ between_slashes text else with_front b (between_slashes text)
+-- the text of a word's names: what stands behind a slash at its front
+abbrev pub names_text : List ℕ → List ℕ
+names_text word = if begins 47 word then drop 1 word else word
 
--- 1 to 16 names joined by slashes
-unfoldable pub names_of : List ℕ → Option (List (List ℕ))
-names_of text = if list_all is_name (between_slashes text) && nat_le (length (between_slashes text)) 16 then Some (between_slashes text) else None
-
-abbrev pub path_from : Bool → List (List ℕ) → PathOf
-path_from absolute names = record { absolute = absolute; names = names }
-
--- a path that begins with a slash, and one that doesn't
-abbrev pub absolute_path : List ℕ → Option PathOf
-absolute_path text = if is_empty text then Some (path_from true []) else option_map (path_from true) (names_of text)
-
-abbrev pub relative_path : List ℕ → Option PathOf
-relative_path text = option_map (path_from false) (names_of text)
-
--- `/`, or names joined by slashes, with or without one slash before them
-unfoldable pub path_of : List ℕ → Option PathOf
-path_of word =
-    if not (list_all may_stand_in_path word) then None
-    else if begins 47 word then absolute_path (drop 1 word)
-    else relative_path word
+-- `/`, or 1 to 16 names joined by slashes, with or without one slash before them
+unfoldable pub is_path_word : List ℕ → Bool
+is_path_word word = list_all may_stand_in_path word && not (is_empty word) && is_path_text (names_text word)
 
 -- the path that a word spells
 abbrev pub path_in : List ℕ → PathOf
-path_in word = unwrap_or (path_of word) (path_from false [])
+path_in word = path_from (begins 47 word) (names_text word)
+
+-- and the path, where it spells one
+unfoldable pub path_of : List ℕ → Option PathOf
+path_of word = if is_path_word word then Some (path_in word) else None
 
 -- an absolute path with a name
 unfoldable pub made_path_of : List ℕ → Option PathOf
 made_path_of word = if begins 47 word && not (is_empty (drop 1 word)) then path_of word else None
+
+-- ---- labels
+-- the label that a word spells in the form
+abbrev pub spelled_label : Form → List ℕ → Categories
+spelled_label form word = unwrap_or (label_in form word) bottom
 
 -- ---- words of a few spellings
 -- `r`, `w` or `rw`

@@ -11,7 +11,7 @@ ghost use Rattle.ix_script.specs.declared.line.Line.{Line};
 
 use crate::before::names::Names;
 use crate::before::taken::Taken;
-use crate::before::tree::{Tree, names_of};
+use crate::before::tree::Tree;
 use crate::line::{Line, What};
 use crate::values::paths::MadePath;
 use ix_label::{Form, Label};
@@ -113,8 +113,8 @@ fn add_made<'a>(made: &mut Tree<'a>, line: &Line<'a>) -> Result<(), NoMemory>
     ensures { OnOk result (MakesMore (object_told line.now) made.old made.new) }
 {
     match line {
-        Line::Dir { path, .. } => made.push(names_of(path), true),
-        Line::File { path, .. } => made.push(names_of(path), false),
+        Line::Dir { path, .. } => made.push(&path.path(), true),
+        Line::File { path, .. } => made.push(&path.path(), false),
         _ => Ok(()),
     }
 }
@@ -186,7 +186,7 @@ pub(crate) fn fs_spec(line: &Line<'_>) -> Option<FsSpec>
             inodes,
         } => Some(FsSpec {
             name: name.name(),
-            ceiling: *ceiling,
+            ceiling: ceiling.label(),
             blocks: *blocks,
             inodes: *inodes,
         }),

@@ -16,12 +16,12 @@ use crate::forms::both::both;
 use crate::line::{FdWord, KeepWord, What};
 use crate::rule::Rule;
 use crate::values::choices::{mode, state, what};
-use crate::values::labels::label;
+use crate::values::labels::{LabelWord, label};
 use crate::values::numbers::{bound, fd, keep, number};
 use crate::values::paths::{MadePath, PathWord, made_path, path};
 use crate::values::payload::{Payload, payload_of};
 use crate::values::privs::privs;
-use ix_label::{Form, Label};
+use ix_label::Form;
 use ix_model::{Mode, PrivSet};
 
 /// What stands at a place, counted from 0, with the command's word at 0.
@@ -50,7 +50,7 @@ impl<'a> Words<'a> {
         made_path(self.get(i))
     }
 
-    pub fn label(&self, form: Form, i: usize) -> Result<Label, Rule>
+    pub fn label(&self, form: Form, i: usize) -> Result<LabelWord<'a>, Rule>
         requires { i < 8 }
         ensures { Reads (λ x. x) result ((kind.Label form, word_at self.now i) ∷ []) (label_in form (word_at self.now i)) }
     {

@@ -3,8 +3,9 @@ ghost use Rattle.ix_label.specs.Spelling.{spelling};
 ghost use Rattle.ix_script.specs.texts.Spellings.{fd_text};
 
 use crate::line::FdWord;
+use crate::values::labels::LabelWord;
 use itoa::Buffer;
-use ix_label::{Form, Label};
+use ix_label::Form;
 use ix_model::NoMemory;
 use ix_text::push_label;
 
@@ -47,9 +48,13 @@ pub(crate) fn fd(out: &mut Vec<u8>, fd: &FdWord<'_>) -> Result<(), NoMemory>
 }
 
 /// A space and a label in its one spelling in the form.
-pub(crate) fn label_word(out: &mut Vec<u8>, form: Form, label: &Label) -> Result<(), NoMemory>
+pub(crate) fn label_word(
+    out: &mut Vec<u8>,
+    form: Form,
+    label: &LabelWord<'_>,
+) -> Result<(), NoMemory>
     ensures { OnOk result (out.new.items ≡ out.old.items ++ 32 ∷ spelling form label.now) }
 {
     push_byte(out, b' ')?;
-    push_label(out, form, label)
+    push_label(out, form, &label.label())
 }

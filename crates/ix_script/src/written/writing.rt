@@ -10,11 +10,12 @@ use crate::cutting::words::NameWord;
 use crate::line::{FdWord, Line};
 use crate::packed::Lines;
 use crate::script::Script;
+use crate::values::labels::LabelWord;
 use crate::values::paths::MadePath;
 use crate::values::payload::Payload;
 use crate::written::append::{fd, label_word, push, push_byte, word};
 use crate::written::payload_text::payload;
-use ix_label::{Form, Label};
+use ix_label::Form;
 use ix_model::{NoMemory, PrivSet};
 use ix_text::{privs_text, state_word};
 use std::alloc::Global;
@@ -25,7 +26,7 @@ fn file(
     buffer: &mut Vec<u8>,
     form: Form,
     path: &MadePath<'_>,
-    label: &Label,
+    label: &LabelWord<'_>,
     frozen: bool,
     cap: PrivSet,
     lic: PrivSet,

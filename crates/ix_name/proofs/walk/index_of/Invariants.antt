@@ -6,4 +6,4 @@ use Rattle.ix_name.proofs.walk.index_of.Given as goal
 abbrev pub invariant-loop : goal.invariant-loop
 invariant-loop l =
     (l.next ≡ slice_get (chain_of l.chain l.links) l.counter)
-    × (find (is_at l.entries l.dir l.name) (drop l.counter (chain_of l.chain l.links)) ≡ find (is_at l.entries l.dir l.name) (chain_of l.chain l.links))
+    × (find (is_at l.entries l.dir l.name.bytes.now) (drop l.counter (chain_of l.chain l.links)) ≡ find (is_at l.entries l.dir l.name.bytes.now) (chain_of l.chain l.links))

@@ -13,24 +13,25 @@ use Rattle.ix_tables.specs.Meanings.{object_by, vacant_inode}
 use Rattle.ix_fcalls.specs.Around.{frame_of}
 use Rattle.ix_fcalls.proofs.Chaining.{make_is}
 use Rattle.ix_fcalls.proofs.Leading.{fs_missing, dir_missing, absent_missing, dir_still, child_still, room_still, fs_still, vacant_still, counted_made, kept_made, free_is, room_is}
+use Rattle.ix_model.specs.world.Paths.{path_of}
 use Rattle.ix_fcalls.proofs.files.Files.make.Goals as goal
 
 pub vacant_inode-requires : goal.vacant_inode-requires
 vacant_inode-requires g c =
     subst (λ (v : Parts). c.fs_number-fs.result < length v.fss) (sym c.self.view_is)
     (subst (λ (k : ℕ). k < length c.args.self.now.fss) (sym c.fs_number-fs.ensures)
-    (fs_missing g.R.Rest.rest c.args.self.now c.args.who.now c.missing.new.who c.args.path.now c.requires.sound c.in_ok-dir.dir c.in_ok-dir.ensures.row _ (ap (λ (v : Parts). at v.objects c.in_ok-dir.dir) (sym c.self.view_is) ∙ c.in-Some.ensures.object)))
+    (fs_missing g.R.Rest.rest c.args.self.now c.args.who.now c.missing.new.who (path_of c.args.path.now) c.requires.sound c.in_ok-dir.dir c.in_ok-dir.ensures.row _ (ap (λ (v : Parts). at v.objects c.in_ok-dir.dir) (sym c.self.view_is) ∙ c.in-Some.ensures.object)))
 
 pub put_named-requires-clause-dir : goal.put_named-requires-clause-dir
 put_named-requires-clause-dir g c =
     dir_still g.R.Rest.rest c.args.self.now c.affect.new.self c.missing.new.who c.in_ok-dir.dir _ c.in_ok-affect.ensures.row c.in_ok-dir.dir
-    (dir_missing g.R.Rest.rest c.args.self.now c.args.who.now c.missing.new.who c.args.path.now c.requires.sound c.in_ok-dir.dir c.in_ok-dir.ensures.row)
+    (dir_missing g.R.Rest.rest c.args.self.now c.args.who.now c.missing.new.who (path_of c.args.path.now) c.requires.sound c.in_ok-dir.dir c.in_ok-dir.ensures.row)
 
 pub put_named-requires-clause-absent : goal.put_named-requires-clause-absent
 put_named-requires-clause-absent g c =
     ap (child (node c.affect.new.self.objects c.in_ok-dir.dir)) c.last_name.ensures
-    ∙ child_still g.R.Rest.rest c.args.self.now c.affect.new.self c.missing.new.who c.in_ok-dir.dir _ c.in_ok-affect.ensures.row c.in_ok-dir.dir (last_name c.args.path.now.names) None
-    (absent_missing g.R.Rest.rest c.args.self.now c.args.who.now c.missing.new.who c.args.path.now c.requires.sound c.in_ok-dir.dir c.in_ok-dir.ensures.row)
+    ∙ child_still g.R.Rest.rest c.args.self.now c.affect.new.self c.missing.new.who c.in_ok-dir.dir _ c.in_ok-affect.ensures.row c.in_ok-dir.dir (last_name (path_of c.args.path.now).names) None
+    (absent_missing g.R.Rest.rest c.args.self.now c.args.who.now c.missing.new.who (path_of c.args.path.now) c.requires.sound c.in_ok-dir.dir c.in_ok-dir.ensures.row)
 
 pub put_named-requires-clause-room : goal.put_named-requires-clause-room
 put_named-requires-clause-room g c =
@@ -41,7 +42,7 @@ pub put_named-requires-clause-fs : goal.put_named-requires-clause-fs
 put_named-requires-clause-fs g c =
     subst (λ (n : ℕ). c.fs_number-fs.result < n) (sym (fs_still g.R.Rest.rest c.args.self.now c.affect.new.self c.missing.new.who c.in_ok-dir.dir _ c.in_ok-affect.ensures.row))
     (subst (λ (k : ℕ). k < length c.args.self.now.fss) (sym c.fs_number-fs.ensures)
-    (fs_missing g.R.Rest.rest c.args.self.now c.args.who.now c.missing.new.who c.args.path.now c.requires.sound c.in_ok-dir.dir c.in_ok-dir.ensures.row _ (ap (λ (v : Parts). at v.objects c.in_ok-dir.dir) (sym c.self.view_is) ∙ c.in-Some.ensures.object)))
+    (fs_missing g.R.Rest.rest c.args.self.now c.args.who.now c.missing.new.who (path_of c.args.path.now) c.requires.sound c.in_ok-dir.dir c.in_ok-dir.ensures.row _ (ap (λ (v : Parts). at v.objects c.in_ok-dir.dir) (sym c.self.view_is) ∙ c.in-Some.ensures.object)))
 
 pub put_named-requires-clause-vacant : goal.put_named-requires-clause-vacant
 put_named-requires-clause-vacant g c =
@@ -53,7 +54,7 @@ returns-clause-row g c =
     let m : Frame = frame_of g.R.Rest.rest c.args.self.now c.missing.new.who in
     let h : Frame = frame_of g.R.Rest.rest c.affect.new.self c.missing.new.who in
     let x : Object = object_by (node c.self.inside.tables.objects c.in_ok-dir.dir) c.in-Some.x in
-    make_is g.R.Rest.rest.pid c.args.path.now c.args.kind (frame_of g.R.Rest.rest c.args.self.now c.args.who.now) m h (frame_of g.R.Rest.rest c.put_named.new.self c.missing.new.who) c.in_ok-dir.dir c.in-Some-vacant_inode.n x
+    make_is g.R.Rest.rest.pid (path_of c.args.path.now) c.args.kind (frame_of g.R.Rest.rest c.args.self.now c.args.who.now) m h (frame_of g.R.Rest.rest c.put_named.new.self c.missing.new.who) c.in_ok-dir.dir c.in-Some-vacant_inode.n x
     c.in_ok-dir.ensures.row
     (ap (λ (v : Parts). at v.objects c.in_ok-dir.dir) (sym c.self.view_is) ∙ c.in-Some.ensures.object)
     (free_is m (fs_number x) ∙ ap (λ (k : ℕ). vacant_inode c.args.self.now.fss c.args.self.now.objects k) (sym c.fs_number-fs.ensures)

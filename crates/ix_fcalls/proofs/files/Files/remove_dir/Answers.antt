@@ -16,6 +16,8 @@ use Rattle.ix_fcalls.specs.Meanings.{spot_of}
 use Rattle.ix_fcalls.proofs.Chaining.{remove_is}
 use Rattle.ix_fcalls.proofs.Leading.{dir_spot, child_spot, processes_spot, dir_still, child_still, fs_of_dir}
 use Rattle.ix_fcalls.proofs.Unnaming.{counted_left, content_left, processes_seen, processes_twice}
+use Rattle.ix_model.specs.world.NameRefs.{name_of}
+use Rattle.ix_model.specs.world.Paths.{path_of}
 use Rattle.ix_fcalls.proofs.files.Files.remove_dir.Goals as goal
 
 pub is_root-requires : goal.is_root-requires
@@ -35,13 +37,13 @@ is_home-requires-clause-within g c = subst (λ (v : Parts). c.in_ok-spot.spot.ob
 pub drop_dir-requires-clause-dir : goal.drop_dir-requires-clause-dir
 drop_dir-requires-clause-dir g c =
     dir_still g.R.Rest.rest c.args.self.now c.affect.new.self c.observe.new.who c.in-Some-dir.dir _ c.in_ok-affect.ensures.row c.in-Some-dir.dir
-    (dir_spot g.R.Rest.rest c.args.self.now c.args.who.now c.spot_at.new.who c.args.path.now c.requires.sound (spot_of c.in_ok-spot.spot) c.in-Some-dir.dir c.in_ok-spot.ensures.row c.in-Some-dir.is)
+    (dir_spot g.R.Rest.rest c.args.self.now c.args.who.now c.spot_at.new.who (path_of c.args.path.now) c.requires.sound (spot_of c.in_ok-spot.spot) c.in-Some-dir.dir c.in_ok-spot.ensures.row c.in-Some-dir.is)
 
 pub drop_dir-requires-clause-child : goal.drop_dir-requires-clause-child
 drop_dir-requires-clause-child g c =
     ap (child (node c.affect.new.self.objects c.in-Some-dir.dir)) c.last_name.ensures
-    ∙ child_still g.R.Rest.rest c.args.self.now c.affect.new.self c.observe.new.who c.in-Some-dir.dir _ c.in_ok-affect.ensures.row c.in-Some-dir.dir (last_name c.args.path.now.names) (Some c.in_ok-spot.spot.object)
-    (child_spot g.R.Rest.rest c.args.self.now c.args.who.now c.spot_at.new.who c.args.path.now c.requires.sound (spot_of c.in_ok-spot.spot) c.in-Some-dir.dir c.in_ok-spot.ensures.row c.in-Some-dir.is)
+    ∙ child_still g.R.Rest.rest c.args.self.now c.affect.new.self c.observe.new.who c.in-Some-dir.dir _ c.in_ok-affect.ensures.row c.in-Some-dir.dir (last_name (path_of c.args.path.now).names) (Some c.in_ok-spot.spot.object)
+    (child_spot g.R.Rest.rest c.args.self.now c.args.who.now c.spot_at.new.who (path_of c.args.path.now) c.requires.sound (spot_of c.in_ok-spot.spot) c.in-Some-dir.dir c.in_ok-spot.ensures.row c.in-Some-dir.is)
 
 pub drop_dir-requires-clause-bare : goal.drop_dir-requires-clause-bare
 drop_dir-requires-clause-bare g c =
@@ -61,7 +63,7 @@ returns-clause-row g c =
     let l : Frame = frame_of g.R.Rest.rest c.args.self.now c.observe.new.who in
     let h : Frame = frame_of g.R.Rest.rest c.affect.new.self c.observe.new.who in
     let x : Object = object_by (node c.self.inside.tables.objects c.in_ok-spot.spot.object) c.in-Some.x in
-    remove_is g.R.Rest.rest.pid c.args.path.now (frame_of g.R.Rest.rest c.args.self.now c.args.who.now) m l h (frame_of g.R.Rest.rest c.drop_dir.new.self c.observe.new.who) (spot_of c.in_ok-spot.spot) c.in-Some-dir.dir x
+    remove_is g.R.Rest.rest.pid (path_of c.args.path.now) (frame_of g.R.Rest.rest c.args.self.now c.args.who.now) m l h (frame_of g.R.Rest.rest c.drop_dir.new.self c.observe.new.who) (spot_of c.in_ok-spot.spot) c.in-Some-dir.dir x
     c.in_ok-spot.ensures.row
     (ap (λ (v : Parts). at v.objects n) (sym c.self.view_is) ∙ c.in-Some.ensures.object)
     (ap (λ (k : Kind). is_dir (record nothing { kind = k })) c.in-Dir.is)
@@ -75,12 +77,12 @@ returns-clause-row g c =
     ∙ (λ i. let k : Frame = record h { objects = put (change h.objects c.in-Some-dir.dir (without_name (c.last_name.ensures i))) n None } in k))
 
 pub returns-clause-counted : goal.returns-clause-counted
-returns-clause-counted g c = counted_left c.affect.new.self c.drop_dir.new.self c.observe.new.who true c.in-Some-dir.dir c.in_ok-spot.spot.object (without_name c.last_name.result) _ c.in_ok-affect.ensures.counted c.drop_dir.ensures
+returns-clause-counted g c = counted_left c.affect.new.self c.drop_dir.new.self c.observe.new.who true c.in-Some-dir.dir c.in_ok-spot.spot.object (without_name (name_of c.last_name.result)) _ c.in_ok-affect.ensures.counted c.drop_dir.ensures
 
 pub returns-clause-content : goal.returns-clause-content
 returns-clause-content g c =
     content_left g.R.Rest.rest c.args.self.now c.affect.new.self c.args.who.now c.observe.new.who c.requires.sound
     (processes_twice c.args.who.now c.spot_at.new.who c.observe.new.who
-    (processes_spot g.R.Rest.rest c.args.self.now c.args.who.now c.spot_at.new.who c.args.path.now c.requires.sound (spot_of c.in_ok-spot.spot) c.in_ok-spot.ensures.row)
+    (processes_spot g.R.Rest.rest c.args.self.now c.args.who.now c.spot_at.new.who (path_of c.args.path.now) c.requires.sound (spot_of c.in_ok-spot.spot) c.in_ok-spot.ensures.row)
     (processes_seen g.R.Rest.rest c.args.self.now c.spot_at.new.who c.observe.new.who _ c.in_ok-observe.ensures.row))
-    c.in-Some-dir.dir _ c.in_ok-affect.ensures.row c.in_ok-affect.ensures.kept c.in_ok-affect.ensures.limits.2 true c.in_ok-spot.spot.object (without_name c.last_name.result) c.drop_dir.new.self c.drop_dir.ensures
+    c.in-Some-dir.dir _ c.in_ok-affect.ensures.row c.in_ok-affect.ensures.kept c.in_ok-affect.ensures.limits.2 true c.in_ok-spot.spot.object (without_name (name_of c.last_name.result)) c.drop_dir.new.self c.drop_dir.ensures

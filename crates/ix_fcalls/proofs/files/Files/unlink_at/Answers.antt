@@ -12,24 +12,26 @@ use Rattle.ix_fcalls.specs.Meanings.{spot_of}
 use Rattle.ix_fcalls.proofs.Chaining.{unlink_is}
 use Rattle.ix_fcalls.proofs.Leading.{dir_spot, child_spot, file_spot, processes_spot, dir_still, child_still, file_still, no_dir}
 use Rattle.ix_fcalls.proofs.Unnaming.{letting_go, counted_left, content_left, let_go_after}
+use Rattle.ix_model.specs.world.NameRefs.{name_of}
+use Rattle.ix_model.specs.world.Paths.{path_of}
 use Rattle.ix_fcalls.proofs.files.Files.unlink_at.Goals as goal
 
 pub drop_name-requires-clause-dir : goal.drop_name-requires-clause-dir
 drop_name-requires-clause-dir g c =
     dir_still g.R.Rest.rest c.args.self.now c.affect.new.self c.spot_at.new.who c.in-Some-dir.dir _ c.in_ok-affect.ensures.row c.in-Some-dir.dir
-    (dir_spot g.R.Rest.rest c.args.self.now c.args.who.now c.spot_at.new.who c.args.path.now c.requires.sound (spot_of c.in_ok-spot.spot) c.in-Some-dir.dir c.in_ok-spot.ensures.row c.in-Some-dir.is)
+    (dir_spot g.R.Rest.rest c.args.self.now c.args.who.now c.spot_at.new.who (path_of c.args.path.now) c.requires.sound (spot_of c.in_ok-spot.spot) c.in-Some-dir.dir c.in_ok-spot.ensures.row c.in-Some-dir.is)
 
 pub drop_name-requires-clause-child : goal.drop_name-requires-clause-child
 drop_name-requires-clause-child g c =
     ap (child (node c.affect.new.self.objects c.in-Some-dir.dir)) c.last_name.ensures
-    ∙ child_still g.R.Rest.rest c.args.self.now c.affect.new.self c.spot_at.new.who c.in-Some-dir.dir _ c.in_ok-affect.ensures.row c.in-Some-dir.dir (last_name c.args.path.now.names) (Some c.in_ok-spot.spot.object)
-    (child_spot g.R.Rest.rest c.args.self.now c.args.who.now c.spot_at.new.who c.args.path.now c.requires.sound (spot_of c.in_ok-spot.spot) c.in-Some-dir.dir c.in_ok-spot.ensures.row c.in-Some-dir.is)
+    ∙ child_still g.R.Rest.rest c.args.self.now c.affect.new.self c.spot_at.new.who c.in-Some-dir.dir _ c.in_ok-affect.ensures.row c.in-Some-dir.dir (last_name (path_of c.args.path.now).names) (Some c.in_ok-spot.spot.object)
+    (child_spot g.R.Rest.rest c.args.self.now c.args.who.now c.spot_at.new.who (path_of c.args.path.now) c.requires.sound (spot_of c.in_ok-spot.spot) c.in-Some-dir.dir c.in_ok-spot.ensures.row c.in-Some-dir.is)
 
 pub drop_name-requires-clause-file : goal.drop_name-requires-clause-file
 drop_name-requires-clause-file g c =
     let x : Object = object_by (node c.self.inside.tables.objects c.in_ok-spot.spot.object) c.in-Some.x in
     let there : at c.args.self.now.objects c.in_ok-spot.spot.object ≡ Some x = ap (λ (v : Parts). at v.objects c.in_ok-spot.spot.object) (sym c.self.view_is) ∙ c.in-Some.ensures.object in
-    let file : is_file x ≡ true = file_spot g.R.Rest.rest c.args.self.now c.args.who.now c.spot_at.new.who c.args.path.now c.requires.sound (spot_of c.in_ok-spot.spot) x c.in_ok-spot.ensures.row there (no_dir c.in-Some.x.kind c.in_default-kind.not-Dir) in
+    let file : is_file x ≡ true = file_spot g.R.Rest.rest c.args.self.now c.args.who.now c.spot_at.new.who (path_of c.args.path.now) c.requires.sound (spot_of c.in_ok-spot.spot) x c.in_ok-spot.ensures.row there (no_dir c.in-Some.x.kind c.in_default-kind.not-Dir) in
     file_still g.R.Rest.rest c.args.self.now c.affect.new.self c.spot_at.new.who c.in-Some-dir.dir _ c.in_ok-affect.ensures.row c.in_ok-spot.spot.object
     (ap (λ o. is_file (unwrap_or o nothing)) there ∙ file)
 
@@ -37,9 +39,9 @@ pub returns-clause-row : goal.returns-clause-row
 returns-clause-row g c =
     let m : Frame = frame_of g.R.Rest.rest c.args.self.now c.spot_at.new.who in
     let h : Frame = frame_of g.R.Rest.rest c.affect.new.self c.spot_at.new.who in
-    let t : Parts = record c.affect.new.self { objects = change c.affect.new.self.objects c.in-Some-dir.dir (without_name (last_name c.args.path.now.names)) } in
+    let t : Parts = record c.affect.new.self { objects = change c.affect.new.self.objects c.in-Some-dir.dir (without_name (last_name (path_of c.args.path.now).names)) } in
     let x : Object = object_by (node c.self.inside.tables.objects c.in_ok-spot.spot.object) c.in-Some.x in
-    unlink_is g.R.Rest.rest.pid c.args.path.now (frame_of g.R.Rest.rest c.args.self.now c.args.who.now) m h (frame_of g.R.Rest.rest c.drop_name.new.self c.spot_at.new.who) (spot_of c.in_ok-spot.spot) c.in-Some-dir.dir x
+    unlink_is g.R.Rest.rest.pid (path_of c.args.path.now) (frame_of g.R.Rest.rest c.args.self.now c.args.who.now) m h (frame_of g.R.Rest.rest c.drop_name.new.self c.spot_at.new.who) (spot_of c.in_ok-spot.spot) c.in-Some-dir.dir x
     c.in_ok-spot.ensures.row
     (ap (λ (v : Parts). at v.objects c.in_ok-spot.spot.object) (sym c.self.view_is) ∙ c.in-Some.ensures.object)
     (no_dir c.in-Some.x.kind c.in_default-kind.not-Dir)
@@ -50,12 +52,12 @@ returns-clause-row g c =
 
 pub returns-clause-counted : goal.returns-clause-counted
 returns-clause-counted g c =
-    counted_left c.affect.new.self c.drop_name.new.self c.spot_at.new.who _ c.in-Some-dir.dir c.in_ok-spot.spot.object (without_name c.last_name.result) _ c.in_ok-affect.ensures.counted
-    (let_go_after c.affect.new.self c.drop_name.new.self c.in-Some-dir.dir c.in_ok-spot.spot.object (without_name c.last_name.result) c.drop_name.ensures)
+    counted_left c.affect.new.self c.drop_name.new.self c.spot_at.new.who _ c.in-Some-dir.dir c.in_ok-spot.spot.object (without_name (name_of c.last_name.result)) _ c.in_ok-affect.ensures.counted
+    (let_go_after c.affect.new.self c.drop_name.new.self c.in-Some-dir.dir c.in_ok-spot.spot.object (without_name (name_of c.last_name.result)) c.drop_name.ensures)
 
 pub returns-clause-content : goal.returns-clause-content
 returns-clause-content g c =
     content_left g.R.Rest.rest c.args.self.now c.affect.new.self c.args.who.now c.spot_at.new.who c.requires.sound
-    (processes_spot g.R.Rest.rest c.args.self.now c.args.who.now c.spot_at.new.who c.args.path.now c.requires.sound (spot_of c.in_ok-spot.spot) c.in_ok-spot.ensures.row)
-    c.in-Some-dir.dir _ c.in_ok-affect.ensures.row c.in_ok-affect.ensures.kept c.in_ok-affect.ensures.limits.2 _ c.in_ok-spot.spot.object (without_name c.last_name.result) c.drop_name.new.self
-    (let_go_after c.affect.new.self c.drop_name.new.self c.in-Some-dir.dir c.in_ok-spot.spot.object (without_name c.last_name.result) c.drop_name.ensures)
+    (processes_spot g.R.Rest.rest c.args.self.now c.args.who.now c.spot_at.new.who (path_of c.args.path.now) c.requires.sound (spot_of c.in_ok-spot.spot) c.in_ok-spot.ensures.row)
+    c.in-Some-dir.dir _ c.in_ok-affect.ensures.row c.in_ok-affect.ensures.kept c.in_ok-affect.ensures.limits.2 _ c.in_ok-spot.spot.object (without_name (name_of c.last_name.result)) c.drop_name.new.self
+    (let_go_after c.affect.new.self c.drop_name.new.self c.in-Some-dir.dir c.in_ok-spot.spot.object (without_name (name_of c.last_name.result)) c.drop_name.ensures)

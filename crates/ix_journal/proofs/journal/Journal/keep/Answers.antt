@@ -1,51 +1,64 @@
-use Rattle.std.proofs.Common.{rules, arith, ℕ, ◌-◌, ◌∷◌, ◌++◌, [], List, length, ap, ◌∙◌, length-append}
+use Rattle.std.proofs.Common.{rules, arith, ℕ, ◌-◌, ◌+◌, ◌∷◌, ◌++◌, [], List, length, refl, ap, ◌∙◌, length-append}
 use Rattle.std.specs.Vec.{vec_capacity}
 use Rattle.ix_model.specs.history.Calls.{op_of}
-use Rattle.ix_model.specs.history.Events.{Op, Event}
+use Rattle.ix_model.specs.history.Cost.{cost_of}
+use Rattle.ix_model.specs.history.Events.{Event}
+use Rattle.ix_model.specs.declared.call.Call.{Call}
 use Rattle.ix_journal.specs.Heads.{words_of}
 use Rattle.ix_journal.specs.Recorded.{Recorded}
 use Rattle.ix_journal.specs.declared.record.Head.{Head}
-use Rattle.ix_journal.proofs.Coding.{packs}
 use Rattle.ix_journal.proofs.Growing.{room_for, Grows, grows_for, seen_after}
 use Rattle.ix_journal.proofs.journal.Journal.keep.Goals as goal
 use Rattle.ix_journal.proofs.journal.Journal.keep.Goals.{After-push_reserved}
 
-abbrev made : ℕ → ℕ → ℕ → Op → Event
-made seat line pid o = record { seat = seat; line = line; pid = pid; op = o }
+abbrev made : ℕ → ℕ → ℕ → Call → Event
+made seat line pid c = record { seat = seat; line = line; pid = pid; op = op_of c }
 
 pub put_words-requires : goal.put_words-requires
 put_words-requires c =
     let j = c.self.inside in
-    let room = room_for j.cap (vec_capacity j.records) (vec_capacity j.words) j.records.items j.words.items c.args.self.now (made c.args.seat c.args.line c.args.pid.0 (op_of c.args.call.now)) c.self.invariant c.self.view_is c.requires in
+    let e = made c.args.seat c.args.line c.args.pid.0 c.args.call.now in
+    let room = room_for j.cap j.used (vec_capacity j.records) (vec_capacity j.words) j.records.items j.words.items c.args.self.now e c.args.call.now refl
+      c.self.invariant c.self.view_is c.requires in
     omega (arith, room.words_fit)
 
 pub overflow_cast-len : goal.overflow_cast-len
 overflow_cast-len c =
     let j = c.self.inside in
-    let room = room_for j.cap (vec_capacity j.records) (vec_capacity j.words) j.records.items j.words.items c.args.self.now (made c.args.seat c.args.line c.args.pid.0 (op_of c.args.call.now)) c.self.invariant c.self.view_is c.requires in
-    let long = ap length c.put_words.ensures.items ∙ length-append j.words.items (words_of (op_of c.args.call.now)) in
-    omega (arith, room.end, long, (packs (op_of c.args.call.now)).cost, c.len.ensures, c.len-start.ensures)
+    let e = made c.args.seat c.args.line c.args.pid.0 c.args.call.now in
+    let room = room_for j.cap j.used (vec_capacity j.records) (vec_capacity j.words) j.records.items j.words.items c.args.self.now e c.args.call.now refl
+      c.self.invariant c.self.view_is c.requires in
+    let long = ap length c.put_words.ensures.items ∙ length-append j.words.items (words_of c.args.call.now) in
+    omega (arith, room.end, long, c.len.ensures, c.len-start.ensures)
 
 pub push_reserved-requires : goal.push_reserved-requires
 push_reserved-requires c =
     let j = c.self.inside in
-    let room = room_for j.cap (vec_capacity j.records) (vec_capacity j.words) j.records.items j.words.items c.args.self.now (made c.args.seat c.args.line c.args.pid.0 (op_of c.args.call.now)) c.self.invariant c.self.view_is c.requires in
+    let e = made c.args.seat c.args.line c.args.pid.0 c.args.call.now in
+    let room = room_for j.cap j.used (vec_capacity j.records) (vec_capacity j.words) j.records.items j.words.items c.args.self.now e c.args.call.now refl
+      c.self.invariant c.self.view_is c.requires in
     omega (arith, room.record_fits)
 
-grown : (c : After-push_reserved) → Grows c.self.inside.cap (vec_capacity c.push_reserved.new.self) (vec_capacity c.put_words.new.words) c.self.inside.records.items c.self.inside.words.items (made c.args.seat c.args.line c.args.pid.0 (op_of c.args.call.now)) c.push_reserved.new.self.items c.put_words.new.words.items
+grown : (c : After-push_reserved) → Grows c.self.inside.cap (c.self.inside.used + c.cost_of.result) (vec_capacity c.push_reserved.new.self)
+    (vec_capacity c.put_words.new.words) c.self.inside.records.items c.self.inside.words.items
+    (made c.args.seat c.args.line c.args.pid.0 c.args.call.now) c.push_reserved.new.self.items c.put_words.new.words.items
 grown c =
     let j = c.self.inside in
-    let long = ap length c.put_words.ensures.items ∙ length-append j.words.items (words_of (op_of c.args.call.now)) in
-    let add : Head → List Recorded = λ h. j.records.items ++ record { seat = c.args.seat; line = c.args.line; pid = c.args.pid.0; start = c.len-start.result; len = c.len.result - c.len-start.result; head = h } ∷ [] in
-    grows_for j.cap (vec_capacity j.records) (vec_capacity j.words) (vec_capacity c.push_reserved.new.self) (vec_capacity c.put_words.new.words)
-    j.records.items c.push_reserved.new.self.items j.words.items c.put_words.new.words.items c.args.self.now (made c.args.seat c.args.line c.args.pid.0 (op_of c.args.call.now)) c.len-start.result _
-    c.self.invariant c.self.view_is c.requires c.put_words.ensures.named
-    (omega (arith, c.push_reserved.ensures.capacity)) c.put_words.ensures.room
-    c.put_words.ensures.items (c.push_reserved.ensures.items ∙ ap add c.head_of.ensures)
+    let e = made c.args.seat c.args.line c.args.pid.0 c.args.call.now in
+    let long = ap length c.put_words.ensures.items ∙ length-append j.words.items (words_of c.args.call.now) in
+    let one : Head → Recorded = λ h. record {
+      seat = e.seat; line = e.line; pid = e.pid; start = c.len-start.result; len = c.len.result - c.len-start.result; head = h;
+    } in
+    grows_for j.cap j.used (vec_capacity j.records) (vec_capacity j.words) j.records.items j.words.items c.args.self.now e c.args.call.now refl
+    c.self.invariant c.self.view_is c.requires (c.self.inside.used + c.cost_of.result) (vec_capacity c.push_reserved.new.self)
+    (vec_capacity c.put_words.new.words) c.push_reserved.new.self.items c.put_words.new.words.items c.len-start.result _
+    (ap (λ n. j.used + n) c.cost_of.ensures) (omega (arith, c.push_reserved.ensures.capacity)) c.put_words.ensures.room
+    c.put_words.ensures.items (c.push_reserved.ensures.items ∙ ap (λ h. j.records.items ++ one h ∷ []) c.head_of.ensures)
     (search rules) (omega (arith, long, c.len.ensures, c.len-start.ensures))
 
 pub invariant_of-self : goal.invariant_of-self
 invariant_of-self c = (grown c).entries
 
 pub returns : goal.returns
-returns c = seen_after c.self.inside.cap _ _ c.args.self.now (made c.args.seat c.args.line c.args.pid.0 (op_of c.args.call.now)) c.self.view_is (grown c).events
+returns c =
+    seen_after c.self.inside.cap _ _ c.args.self.now (made c.args.seat c.args.line c.args.pid.0 c.args.call.now) c.self.view_is (grown c).events

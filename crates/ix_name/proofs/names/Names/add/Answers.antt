@@ -1,4 +1,5 @@
-use Rattle.std.proofs.Common.{sym, arith}
+use Rattle.std.proofs.Common.{sym, ap, ◌∙◌, arith}
+use Rattle.ix_name.specs.Buckets.{bucket_of}
 use Rattle.ix_name.specs.declared.entry.Entry.{Entry}
 use Rattle.ix_name.proofs.Indexed.{index_within, count_fits, indexed_more, shown_more}
 use Rattle.ix_name.proofs.names.Names.add.Goals as goal
@@ -15,7 +16,7 @@ pub invariant_of-self-2 : goal.invariant_of-self-2
 invariant_of-self-2 c =
     let e : Entry = record { dir = c.args.dir.0; name = c.args.name; obj = c.args.obj } in
     indexed_more _ _ _ _ _ c.self.invariant c.is_pool.ensures c.is_pool-2.ensures _ c.self.view_is c.in-Some.index c.index_mut-2.result.now e (sym c.in-Some.ensures.moved) c.requires.dir c.index_mut-2.ensures.value
-    c.bucket_of-bucket.result c.push_back.new.self c.push_back-2.new.self c.bucket_of-bucket.ensures.bucket c.push_back.ensures.pushed c.push_back-2.ensures.pushed c.requires.absent
+    c.bucket_of-bucket.result c.push_back.new.self c.push_back-2.new.self (c.bucket_of-bucket.ensures.bucket ∙ ap (bucket_of c.self.inside.width c.args.dir.0) c.as_ref.ensures) c.push_back.ensures.pushed c.push_back-2.ensures.pushed c.requires.absent
 
 pub returns-clause-add : goal.returns-clause-add
 returns-clause-add c =

@@ -1,4 +1,6 @@
-use Rattle.std.proofs.Common.{◌-◌, ℕ, List, [], length, slice_index_or, slice_set, ap, sym, ◌∙◌}
+use Rattle.std.proofs.Common.{◌≡◌, ◌-◌, ℕ, List, [], length, slice_get, slice_set, Some, option_map, ap, sym, ◌∙◌}
+use Rattle.ix_model.specs.world.Naming.{PathOf}
+use Rattle.ix_model.specs.world.NameRefs.{name_of}
 use Rattle.ix_tables.specs.Parts.{Parts}
 use Rattle.ix_tables.specs.Meanings.{has_room}
 use Rattle.ix_tables.proofs.OpeningLines.{name_at, made_empty, filled_line, bare_line, room_for_line}
@@ -6,19 +8,31 @@ use Rattle.ix_tables.proofs.tables.Tables.place.Goals as goal
 
 pub fill-requires-clause-room : goal.fill-requires-clause-room
 fill-requires-clause-room c =
-    let last = name_at c.args.spec.now.path.names (c.len.result - 1) c.in-Some.name (sym c.name.ensures ∙ c.in-Some.is) ∙ ap (λ (k : ℕ). slice_index_or c.args.spec.now.path.names (k - 1) []) c.len.ensures.len in
-    let empty = made_empty c.args.spec.now c.args.dir c.args.fs c.args.n c.args.self.now c.requires c.make.new.self c.set_as_said.new.self c.in-Some.name c.kind_said.result last c.kind_said.ensures c.make.ensures c.set_as_said.ensures in
+    let names = c.args.spec.now.path.names in
+    let at : slice_get names (length names - 1) ≡ Some (name_of c.in-Some.name) =
+    ap (λ (p : PathOf). slice_get p.names (length p.names - 1)) (sym c.as_path.ensures) ∙ sym c.last_name.ensures
+    ∙ ap (option_map name_of) c.in-Some.is in
+    let last = c.to_name.ensures ∙ name_at names (length names - 1) (name_of c.in-Some.name) at in
+    let empty = made_empty c.args.spec.now c.args.dir c.args.fs c.args.n c.args.self.now c.requires c.make.new.self c.set_as_said.new.self c.to_name.result c.kind_said.result last c.kind_said.ensures c.make.ensures c.set_as_said.ensures in
     ap (λ (bs : List ℕ). has_room c.args.n (length bs) c.set_as_said.new.self) c.as_slice.ensures ∙ room_for_line c.args.spec.now c.args.dir c.args.fs c.args.n c.args.self.now c.requires c.set_as_said.new.self empty
 
 pub returns-then-not-spec : goal.returns-then-not-spec
 returns-then-not-spec c =
-    let last = name_at c.args.spec.now.path.names (c.len.result - 1) c.in-Some.name (sym c.name.ensures ∙ c.in-Some.is) ∙ ap (λ (k : ℕ). slice_index_or c.args.spec.now.path.names (k - 1) []) c.len.ensures.len in
-    let empty = made_empty c.args.spec.now c.args.dir c.args.fs c.args.n c.args.self.now c.requires c.make.new.self c.set_as_said.new.self c.in-Some.name c.kind_said.result last c.kind_said.ensures c.make.ensures c.set_as_said.ensures in
+    let names = c.args.spec.now.path.names in
+    let at : slice_get names (length names - 1) ≡ Some (name_of c.in-Some.name) =
+    ap (λ (p : PathOf). slice_get p.names (length p.names - 1)) (sym c.as_path.ensures) ∙ sym c.last_name.ensures
+    ∙ ap (option_map name_of) c.in-Some.is in
+    let last = c.to_name.ensures ∙ name_at names (length names - 1) (name_of c.in-Some.name) at in
+    let empty = made_empty c.args.spec.now c.args.dir c.args.fs c.args.n c.args.self.now c.requires c.make.new.self c.set_as_said.new.self c.to_name.result c.kind_said.result last c.kind_said.ensures c.make.ensures c.set_as_said.ensures in
     let filled = ap (λ (bs : List ℕ). let t : Parts = record c.set_as_said.new.self { holdings = slice_set c.set_as_said.new.self.holdings c.args.n (record { first = bs; second = [] }) } in t) c.as_slice.ensures in
     filled_line c.args.spec.now c.args.dir c.args.fs c.args.n c.args.self.now c.requires c.set_as_said.new.self c.fill.new.self empty (c.fill.ensures ∙ filled)
 
 pub returns-else-not-spec : goal.returns-else-not-spec
 returns-else-not-spec c =
-    let last = name_at c.args.spec.now.path.names (c.len.result - 1) c.in-Some.name (sym c.name.ensures ∙ c.in-Some.is) ∙ ap (λ (k : ℕ). slice_index_or c.args.spec.now.path.names (k - 1) []) c.len.ensures.len in
-    let empty = made_empty c.args.spec.now c.args.dir c.args.fs c.args.n c.args.self.now c.requires c.make.new.self c.set_as_said.new.self c.in-Some.name c.kind_said.result last c.kind_said.ensures c.make.ensures c.set_as_said.ensures in
+    let names = c.args.spec.now.path.names in
+    let at : slice_get names (length names - 1) ≡ Some (name_of c.in-Some.name) =
+    ap (λ (p : PathOf). slice_get p.names (length p.names - 1)) (sym c.as_path.ensures) ∙ sym c.last_name.ensures
+    ∙ ap (option_map name_of) c.in-Some.is in
+    let last = c.to_name.ensures ∙ name_at names (length names - 1) (name_of c.in-Some.name) at in
+    let empty = made_empty c.args.spec.now c.args.dir c.args.fs c.args.n c.args.self.now c.requires c.make.new.self c.set_as_said.new.self c.to_name.result c.kind_said.result last c.kind_said.ensures c.make.ensures c.set_as_said.ensures in
     bare_line c.args.spec.now c.args.dir c.args.fs c.args.n c.args.self.now c.requires c.set_as_said.new.self empty c.if-not-spec.false

@@ -1,7 +1,7 @@
-use Rattle.std.proofs.Common.{Some, sym, ap, ◌∙◌}
-use Rattle.ix_model.specs.world.Naming.{PathOf}
-use Rattle.ix_script.proofs.back.OneSpelling.{path_spelled}
+use Rattle.std.proofs.Common.{sym, ap, ◌∙◌}
+use Rattle.ix_script.specs.texts.Spellings.{path_text}
+use Rattle.ix_script.proofs.back.OneSpelling.{in_spelled}
 use Rattle.ix_script.proofs.values.paths.PathWord.as_bytes.Goals as goal
 
 pub returns : goal.returns
-returns c = sym (path_spelled c.self.inside.word.now c.args.self.now (c.self.invariant ∙ ap (λ (p : PathOf). Some p) c.self.view_is))
+returns c = sym (in_spelled c.self.inside.word.now) ∙ ap path_text c.self.view_is
