@@ -1,6 +1,7 @@
 ghost use Rattle.std.specs.Prelude.{◌≡◌, ◌++◌, OnOk, codes};
 ghost use Rattle.std.specs.Fmt.{decimal};
 ghost use Rattle.ix_model.specs.history.Calls.{op_of};
+ghost use Rattle.ix_model.specs.world.Paths.{path_of};
 ghost use Rattle.ix_label.specs.Spelling.{spelling};
 ghost use Rattle.ix_report.specs.Hex.{hex};
 ghost use Rattle.ix_report.specs.Names.{path_text};
@@ -60,9 +61,9 @@ fn push_with_fd_number(
 }
 
 /// A command with a path.
-fn push_with_path(line: &mut Line, word: &[u8], pid: Pid, path: &Path) -> Result<(), NoMemory>
+fn push_with_path(line: &mut Line, word: &[u8], pid: Pid, path: &Path<'_>) -> Result<(), NoMemory>
     ensures stays { line.new.before ≡ line.old.before }
-    ensures text { OnOk result (line.new.text ≡ line.old.text ++ (word.now ++ decimal pid.0 ++ codes " " ++ path_text path.now)) }
+    ensures text { OnOk result (line.new.text ≡ line.old.text ++ (word.now ++ decimal pid.0 ++ codes " " ++ path_text (path_of path.now))) }
 {
     push_command(line, word, pid)?;
     line.push_byte(b' ')?;
@@ -106,10 +107,10 @@ fn push_with_process(line: &mut Line, word: &[u8], pid: Pid, target: Pid) -> Res
 }
 
 /// The opening of a path.
-fn push_open(line: &mut Line, pid: Pid, path: &Path, mode: Mode) -> Result<(), NoMemory>
+fn push_open(line: &mut Line, pid: Pid, path: &Path<'_>, mode: Mode) -> Result<(), NoMemory>
     ensures stays { line.new.before ≡ line.old.before }
     ensures text { OnOk result (line.new.text ≡ line.old.text
-        ++ (codes "open p" ++ decimal pid.0 ++ codes " " ++ path_text path.now ++ codes " " ++ mode_text mode)) }
+        ++ (codes "open p" ++ decimal pid.0 ++ codes " " ++ path_text (path_of path.now) ++ codes " " ++ mode_text mode)) }
 {
     push_with_path(line, b"open p", pid, path)?;
     line.push_byte(b' ')?;
@@ -128,10 +129,10 @@ fn push_write(line: &mut Line, pid: Pid, fd: Fd, bytes: &[u8]) -> Result<(), NoM
 }
 
 /// The making of a second name.
-fn push_link(line: &mut Line, pid: Pid, target: &Path, path: &Path) -> Result<(), NoMemory>
+fn push_link(line: &mut Line, pid: Pid, target: &Path<'_>, path: &Path<'_>) -> Result<(), NoMemory>
     ensures stays { line.new.before ≡ line.old.before }
     ensures text { OnOk result (line.new.text ≡ line.old.text
-        ++ (codes "link p" ++ decimal pid.0 ++ codes " " ++ path_text target.now ++ codes " " ++ path_text path.now)) }
+        ++ (codes "link p" ++ decimal pid.0 ++ codes " " ++ path_text (path_of target.now) ++ codes " " ++ path_text (path_of path.now))) }
 {
     push_with_path(line, b"link p", pid, target)?;
     line.push_byte(b' ')?;
@@ -139,10 +140,10 @@ fn push_link(line: &mut Line, pid: Pid, target: &Path, path: &Path) -> Result<()
 }
 
 /// The telling of a directory's name.
-fn push_list(line: &mut Line, pid: Pid, path: &Path, index: u32) -> Result<(), NoMemory>
+fn push_list(line: &mut Line, pid: Pid, path: &Path<'_>, index: u32) -> Result<(), NoMemory>
     ensures stays { line.new.before ≡ line.old.before }
     ensures text { OnOk result (line.new.text ≡ line.old.text
-        ++ (codes "list p" ++ decimal pid.0 ++ codes " " ++ path_text path.now ++ codes " " ++ decimal index)) }
+        ++ (codes "list p" ++ decimal pid.0 ++ codes " " ++ path_text (path_of path.now) ++ codes " " ++ decimal index)) }
 {
     push_with_path(line, b"list p", pid, path)?;
     line.push_byte(b' ')?;
@@ -170,12 +171,12 @@ fn push_set_label(
     line: &mut Line,
     form: Form,
     pid: Pid,
-    path: &Path,
+    path: &Path<'_>,
     label: &Label,
 ) -> Result<(), NoMemory>
     ensures stays { line.new.before ≡ line.old.before }
     ensures text { OnOk result (line.new.text ≡ line.old.text
-        ++ (codes "setlabel p" ++ decimal pid.0 ++ codes " " ++ path_text path.now ++ codes " " ++ spelling form label.now)) }
+        ++ (codes "setlabel p" ++ decimal pid.0 ++ codes " " ++ path_text (path_of path.now) ++ codes " " ++ spelling form label.now)) }
 {
     push_with_path(line, b"setlabel p", pid, path)?;
     line.push_byte(b' ')?;
@@ -186,13 +187,13 @@ fn push_set_label(
 fn push_set_priv(
     line: &mut Line,
     pid: Pid,
-    path: &Path,
+    path: &Path<'_>,
     cap: PrivSet,
     lic: PrivSet,
 ) -> Result<(), NoMemory>
     ensures stays { line.new.before ≡ line.old.before }
     ensures text { OnOk result (line.new.text ≡ line.old.text
-        ++ (codes "setpriv p" ++ decimal pid.0 ++ codes " " ++ path_text path.now
+        ++ (codes "setpriv p" ++ decimal pid.0 ++ codes " " ++ path_text (path_of path.now)
         ++ codes " " ++ privs_text cap ++ codes " " ++ privs_text lic)) }
 {
     push_with_path(line, b"setpriv p", pid, path)?;

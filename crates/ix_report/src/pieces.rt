@@ -1,12 +1,13 @@
 ghost use Rattle.std.specs.Prelude.{◌≡◌, ◌*◌, ◌≤◌, ◌++◌, length, take, OnOk, codes};
 ghost use Rattle.std.specs.Fmt.{decimal};
+ghost use Rattle.ix_model.specs.world.Paths.{path_of};
 ghost use Rattle.ix_text.specs.Spellings.{hex_pair, privs_text};
 ghost use Rattle.ix_report.specs.Hex.{hex};
 ghost use Rattle.ix_report.specs.Names.{name_byte, name_text, names_text, path_text};
 
 use crate::line::Line;
 use itoa::{Buffer, write_digits};
-use ix_model::{Name, NoMemory, Path, PrivSet};
+use ix_model::{NoMemory, Path, PrivSet};
 use ix_text::{hex_pair, privs_text};
 
 /// A number in decimal. One of a single digit takes a short way, which stands where it is called.
@@ -93,56 +94,37 @@ fn push_name_byte(line: &mut Line, byte: u8) -> Result<(), NoMemory>
     line.push(&hex_pair(byte))
 }
 
-/// A name, with the bytes escaped that don't stand in a path as they are.
-pub fn push_name(line: &mut Line, name: &Name) -> Result<(), NoMemory>
+/// The bytes of a name, or of names with a slash between each two: those are escaped that don't stand in a path as they are.
+pub fn push_escaped(line: &mut Line, text: &[u8]) -> Result<(), NoMemory>
     ensures stays { line.new.before ≡ line.old.before }
-    ensures text { OnOk result (line.new.text ≡ line.old.text ++ name_text name.now) }
+    ensures text { OnOk result (line.new.text ≡ line.old.text ++ name_text text.now) }
 {
-    for byte in name.as_bytes() {
+    for byte in text {
         push_name_byte(line, *byte)?;
     }
     Ok(())
 }
 
-/// A further name of a path, after a slash.
-fn push_further(line: &mut Line, name: &Name) -> Result<(), NoMemory>
-    ensures stays { line.new.before ≡ line.old.before }
-    ensures text { OnOk result (line.new.text ≡ line.old.text ++ (codes "/" ++ name_text name.now)) }
-{
-    line.push_byte(b'/')?;
-    push_name(line, name)
-}
-
 /// The names of a path with a slash between each two.
-#[tactic(auto, using(crate::proofs::Further::further_next))]
-fn push_joined(line: &mut Line, path: &Path) -> Result<(), NoMemory>
+#[tactic(auto, using(crate::proofs::Names::names_written))]
+fn push_joined(line: &mut Line, path: &Path<'_>) -> Result<(), NoMemory>
     ensures stays { line.new.before ≡ line.old.before }
-    ensures text { OnOk result (line.new.text ≡ line.old.text ++ names_text path.now.names) }
+    ensures text { OnOk result (line.new.text ≡ line.old.text ++ names_text (path_of path.now).names) }
 {
-    let Some(first) = path.name(0) else {
-        return Ok(());
-    };
-    push_name(line, &first)?;
-    for i in 1..path.len() {
-        let Some(name) = path.name(i) else {
-            return Ok(());
-        };
-        push_further(line, &name)?;
-    }
-    Ok(())
+    push_escaped(line, path.text())
 }
 
 /// A path. The root is a slash, and the relative path of no names a dot.
-#[tactic(auto, unfolding(crate::specs::Names::path_text))]
-pub fn push_path(line: &mut Line, path: &Path) -> Result<(), NoMemory>
+#[tactic(auto, using(crate::proofs::Names::some_names), unfolding(crate::specs::Names::path_text))]
+pub fn push_path(line: &mut Line, path: &Path<'_>) -> Result<(), NoMemory>
     ensures stays { line.new.before ≡ line.old.before }
-    ensures text { OnOk result (line.new.text ≡ line.old.text ++ path_text path.now) }
+    ensures text { OnOk result (line.new.text ≡ line.old.text ++ path_text (path_of path.now)) }
 {
     if path.absolute() {
         line.push_byte(b'/')?;
         return push_joined(line, path);
     }
-    if path.len() == 0 {
+    if path.text().is_empty() {
         return line.push_byte(b'.');
     }
     push_joined(line, path)

@@ -10,7 +10,7 @@ ghost use Rattle.ix_report.specs.Words.{act_text, kind_text};
 ghost use Rattle.ix_report.specs.ReplyText.{audit_text, reply_text};
 
 use crate::line::Line;
-use crate::pieces::{push_hex, push_name, push_number, push_privs};
+use crate::pieces::{push_escaped, push_hex, push_number, push_privs};
 use crate::refusals::name_of;
 use crate::words::{act_word, kind_word};
 use ix_label::{Form, Label};
@@ -93,7 +93,7 @@ fn push_named(line: &mut Line, name: &Name, obj: Obj) -> Result<(), NoMemory>
     ensures text { OnOk result (line.new.text ≡ line.old.text ++ (codes " = entry " ++ name_text name.now ++ codes " " ++ decimal obj.0)) }
 {
     line.push(b" = entry ")?;
-    push_name(line, name)?;
+    push_escaped(line, name.as_bytes())?;
     push_word_number(line, b" ", u64::from(obj.0))
 }
 

@@ -1,4 +1,3 @@
-pub mod Further
 pub mod Items
 pub mod Tests
 pub mod ScriptNames

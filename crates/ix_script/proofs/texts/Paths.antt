@@ -10,7 +10,7 @@ use Rattle.ix_text.specs.Bytes.{is_empty}
 use Rattle.ix_script.specs.texts.Words.{may_stand_in_path, names_text, is_path_word, path_in, path_of}
 use Rattle.ix_text.proofs.Tests.{both}
 
--- what stands behind a slash at the front of a word that is a path is the text of a path, and so is such a word without one
+-- a word that is read as a path has the text of at most 16 names, behind the slash at its front or as it is
 pub text_of : (word : List ℕ) → is_path_word word ≡ true → is_path_text (names_text word) ≡ true
 unfolding is_path_word
 text_of word h = (both (list_all may_stand_in_path word && not (is_empty word)) (is_path_text (names_text word)) h).1

@@ -5,7 +5,7 @@ ghost use Rattle.std.specs.Ordering.{nat_cmp};
 
 use std::cmp::Ordering;
 
-/// A name of a script in the order of its bytes.
+/// A name of a script, or the text of the names of a path, in the order of its bytes.
 #[derive(Clone, Copy)]
 pub(crate) struct ByBytes<'a> {
     pub name: &'a [u8],

@@ -1,6 +1,7 @@
 ghost use Rattle.std.specs.Prelude.{◌≡◌, ◌++◌, ◌∷◌, ◌+◌, ◌<◌, ◌^◌, [], List, OnOk};
 ghost use Rattle.ix_model.specs.declared.config.ObjSpec.{ObjSpec};
 ghost use Rattle.ix_model.specs.world.Paths.{path_of};
+ghost use Rattle.ix_model.specs.world.Texts.{names_in};
 ghost use Rattle.ix_script.specs.reader.Indexed.{AreSites, dir_there, file_there, is_there};
 
 use crate::before::by_bytes::ByBytes;
@@ -16,7 +17,7 @@ pub(crate) struct Site<'a> {
 }
 
 fn site_of<'a>(path: &Path<'a>, dir: bool) -> Site<'a>
-    ensures names { result.names.name.now ≡ path.now.text.now }
+    ensures names { names_in result.names.name.now ≡ (path_of path.now).names }
     ensures dir { result.dir ≡ dir }
 {
     Site {

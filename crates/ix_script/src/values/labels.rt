@@ -54,3 +54,5 @@ pub(crate) fn label(form: Form, word: &[u8]) -> Result<LabelWord<'_>, Rule>
         Err(Rule::BAD_LABEL)
     }
 }
+
+const _: () = prove!(std::mem::size_of::<LabelWord<'static>>() <= 24);
