@@ -7,7 +7,7 @@ use Rattle.ix_label.specs.Category.{Categories, bottom}
 use Rattle.ix_label.specs.Forms.{all_of}
 use Rattle.ix_label.specs.Lattice.{bottom-leq}
 use Rattle.ix_model.specs.world.Privs.{no_privileges}
-use Rattle.ix_script.specs.texts.Words.{path_from}
+use Rattle.ix_model.specs.world.Paths.{path_from}
 use Rattle.ix_script.specs.lines.Before.{form_told}
 use Rattle.ix_script.specs.lines.Said.{line_of}
 use Rattle.ix_script.specs.lines.Faults.{or_next, line_fault, fault_from}
@@ -50,10 +50,10 @@ module _ (s t u : Categories) (low_eight : IsWord (codes "0-7") s) (three : IsWo
   of_c = line.Proc (codes "c") bottom bottom no_privileges no_privileges
 
   abbrev file_x : Line
-  file_x = line.File (path_from true (codes "x" ∷ [])) bottom false no_privileges no_privileges (replicate 64 0)
+  file_x = line.File (path_from true (codes "x")) bottom false no_privileges no_privileges (replicate 64 0)
 
   abbrev file_y : Line
-  file_y = line.File (path_from true (codes "y" ∷ [])) u false no_privileges no_privileges (replicate 64 0)
+  file_y = line.File (path_from true (codes "y")) u false no_privileges no_privileges (replicate 64 0)
 
   abbrev header : List Line
   header = line.Version One ∷ line.Limit what.Log 0 ∷ of_a ∷ of_b ∷ of_c ∷ file_x ∷ file_y ∷ line.Phase ∷ line.Lane (codes "g") ∷ []

@@ -9,7 +9,7 @@ use Rattle.std.proofs.lemmas.Grind.{flat_map-append}
 use Rattle.ix_model.specs.declared.call.Mode.TheVariants as mode
 use Rattle.ix_label.specs.declared.form.Form.{Form}
 use Rattle.ix_text.specs.Bytes.{is_empty}
-use Rattle.ix_script.specs.texts.Words.{path_from}
+use Rattle.ix_model.specs.world.Paths.{path_from}
 use Rattle.ix_script.specs.lines.Before.{proc_name_told, proc_names, lane_after, lane_now, is_command, commands}
 use Rattle.ix_script.specs.lines.Said.{line_of}
 use Rattle.ix_script.specs.lines.Faults.{line_fault}
@@ -69,7 +69,7 @@ ready_next before n text l r k = record {
 room : (before : List Line) (n : ℕ) → Ready before n → n < 200000 → nat_le 200000 (commands before) ≡ false
 room before n r h = lt-leb 200000 (commands before) (omega (arith, r.number))
 
-pub opens_a : IsCommand (codes "open a /x rw") (line.Open (codes "a") (path_from true (codes "x" ∷ [])) mode.Both None)
+pub opens_a : IsCommand (codes "open a /x rw") (line.Open (codes "a") (path_from true (codes "x")) mode.Both None)
 unfolding judging
 opens_a = record {
   means = λ labels. refl;
@@ -81,7 +81,7 @@ opens_a = record {
   sound = λ before n r h. rw (r.some, r.lane, r.procs, room before n r h) refl;
 }
 
-pub opens_b : IsCommand (codes "open b /y r") (line.Open (codes "b") (path_from true (codes "y" ∷ [])) mode.Read None)
+pub opens_b : IsCommand (codes "open b /y r") (line.Open (codes "b") (path_from true (codes "y")) mode.Read None)
 unfolding judging
 opens_b = record {
   means = λ labels. refl;
@@ -93,7 +93,7 @@ opens_b = record {
   sound = λ before n r h. rw (r.some, r.lane, r.procs, room before n r h) refl;
 }
 
-pub opens_c : IsCommand (codes "open c /y r") (line.Open (codes "c") (path_from true (codes "y" ∷ [])) mode.Read None)
+pub opens_c : IsCommand (codes "open c /y r") (line.Open (codes "c") (path_from true (codes "y")) mode.Read None)
 unfolding judging
 opens_c = record {
   means = λ labels. refl;

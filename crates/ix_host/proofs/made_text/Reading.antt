@@ -1,8 +1,9 @@
 -- The words that a line is read through. Those on labels, and those on the lines before, stay closed.
 use Rattle.std.proofs.Common.{ℕ}
 use Rattle.ix_model.specs.world.Naming.{is_name}
+use Rattle.ix_model.specs.world.Texts.{between_slashes, is_path_text}
 use Rattle.ix_script.specs.texts.Cutting.{pieces, words_of, is_closed, is_policy_line}
-use Rattle.ix_script.specs.texts.Words.{value, is_numeral, number_of, between_slashes, names_of, path_of, made_path_of, mode_of, state_of, what_of, fd_of, keep_of}
+use Rattle.ix_script.specs.texts.Words.{value, is_numeral, number_of, is_path_word, path_of, made_path_of, mode_of, state_of, what_of, fd_of, keep_of}
 use Rattle.ix_text.specs.Names.{is_script_name, name_of}
 use Rattle.ix_text.specs.Privs.{privs_of}
 use Rattle.ix_script.specs.texts.Payloads.{digit_of, pair_of, pairs_of, escaped_byte, escape_step, quoted_from, times_from, times_of, payload_of}
@@ -17,7 +18,7 @@ use Rattle.ix_script.specs.lines.Faults.{text_fault, words_fault, stand_fault, n
 -- what a line says
 unfoldable pub saying : ℕ
 unfolding is_name pieces words_of is_closed is_policy_line is_script_name name_of value is_numeral number_of privs_of
-    between_slashes names_of path_of made_path_of mode_of state_of what_of fd_of keep_of digit_of pair_of pairs_of
+    between_slashes is_path_text is_path_word path_of made_path_of mode_of state_of what_of fd_of keep_of digit_of pair_of pairs_of
     escaped_byte escape_step quoted_from times_from times_of payload_of bounds plain_of on_path_of on_fd_of counted_of frame_form
     group_form file_form process_form form_of version_of line_of
 saying = 0
