@@ -40,10 +40,7 @@ fn add_proc_at(
     ensures count { IfOk result (λ n. (n ≡ count + length (proc_name_told (line_in script.now index))) × (n ≤ count + 1)) }
 {
     match role_at(script, index) {
-        Role::Header => match line_at(script, index) {
-            Some(line) => add_proc(header, count, &line),
-            None => Err(NoMemory),
-        },
+        Role::Header => add_proc(header, count, &line_at(script, index)),
         _ => Ok(count),
     }
 }
@@ -93,22 +90,8 @@ fn seat_after(script: &Script, seat: Option<u32>, line: &Line<'_>) -> Option<u32
     }
 }
 
-/// The seat of the lane in which the line after the one at an index stands. The line is made for it. It is kept out of its caller,
-/// which clears the place of a line only where it makes one.
-#[inline(never)]
-fn seat_past_made(script: &Script, seat: Option<u32>, index: u32) -> Option<u32>
-    requires { index < length script.now }
-    ensures { result ≡ seat_after (lanes_of script.now) seat (line_in script.now index) }
-{
-    match line_at(script, index) {
-        Some(line) => seat_after(script, seat, &line),
-        None => seat,
-    }
-}
-
 /// The seat of the lane in which the line after the one at an index stands. Of the lines only one that begins a lane's part of a phase is
-/// made for it. It is asked of each line, and is a few words of code.
-#[inline(always)]
+/// made for it.
 pub fn seat_past(script: &Script, seat: Option<u32>, index: u32, role: Role) -> Option<u32>
     requires within { index < length script.now }
     requires role { role ≡ role_of (line_in script.now index) }
@@ -116,7 +99,7 @@ pub fn seat_past(script: &Script, seat: Option<u32>, index: u32, role: Role) -> 
 {
     match role {
         Role::Phase => None,
-        Role::Lane => seat_past_made(script, seat, index),
+        Role::Lane => seat_after(script, seat, &line_at(script, index)),
         _ => seat,
     }
 }

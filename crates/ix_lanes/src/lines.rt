@@ -1,16 +1,19 @@
-ghost use Rattle.std.specs.Prelude.{◌≡◌, ◌<◌, length, slice_get};
+ghost use Rattle.std.specs.Prelude.{◌≡◌, ◌<◌, length};
 ghost use Rattle.ix_script.specs.lines.Roles.{role_of};
 ghost use Rattle.ix_lanes.specs.histories.Indexed.{line_in};
 
 use ix_script::{Line, Role, Script};
 
 /// The line at an index from 0. It takes no memory.
-pub fn line_at(script: &Script, index: u32) -> Option<Line<'_>>
+pub fn line_at(script: &Script, index: u32) -> Line<'_>
     requires { index < length script.now }
-    ensures { result ≡ slice_get script.now index }
+    ensures { result ≡ line_in script.now index }
 {
     let _count = script.len();
-    script.line(index + 1)
+    match script.line(index + 1) {
+        Some(line) => line,
+        None => unreachable!(),
+    }
 }
 
 /// What the line at an index from 0 is for. The line isn't made for it.

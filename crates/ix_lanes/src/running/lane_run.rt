@@ -40,10 +40,7 @@ fn add_names(places: &mut Places, script: &Script, index: u32, role: Role) -> Re
     ensures keeps { KeepsPlaces places.old places.new }
 {
     match role {
-        Role::Naming | Role::Server => match line_at(script, index) {
-            Some(line) => places.add(&line),
-            None => Err(NoMemory),
-        },
+        Role::Naming | Role::Server => places.add(&line_at(script, index)),
         _ => Ok(()),
     }
 }
@@ -95,9 +92,7 @@ fn run_lines<S: Sys>(
     for index in first..end {
         let role = role_at(script, index);
         if is_lane(seat, lane) {
-            let Some(line) = line_at(script, index) else {
-                return Ok(seat);
-            };
+            let line = line_at(script, index);
             run_line(
                 sys,
                 header,
