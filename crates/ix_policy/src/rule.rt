@@ -89,7 +89,7 @@ impl Rule {
     {
         match &self.user {
             None => true,
-            Some(own) => own.same(user),
+            Some(own) => own.as_ref().same(&user.as_ref()),
         }
     }
 }
