@@ -4,3 +4,4 @@ pub mod Appended
 pub mod OneMore
 pub mod PhaseRuns
 pub mod SideBySide
+pub mod OneLine

@@ -89,6 +89,7 @@ fn run_lines<S: Sys>(
     let mut seat = first_seat;
     let mut payload = [0; 4096];
     let mut buf = [0; 4096];
+    let mut spare = [0; 4096];
     for index in first..end {
         let role = role_at(script, index);
         if is_lane(seat, lane) {
@@ -102,6 +103,7 @@ fn run_lines<S: Sys>(
                 &line,
                 &mut payload,
                 &mut buf,
+                &mut spare,
             )?;
         }
         seat = seat_past(script, seat, index, role);

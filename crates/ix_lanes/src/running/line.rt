@@ -28,16 +28,17 @@ fn make<S: Sys>(sys: &mut S, entry: &Entry<'_>, buf: &mut Buf) -> Result<Reply, 
 }
 
 /// Makes the calls of a line of a seat's lane, if it asks for any, and binds the names that it gives. What the line writes is put
-/// into the first buffer, and what its first call reads into the second.
-pub fn run_line<S: Sys>(
+/// into the first buffer, what its first call reads into the second, and the third one is for its second call.
+pub fn run_line<'a, S: Sys>(
     sys: &mut S,
     header: &Numbers<u32>,
     places: &mut Places,
     seat: u32,
     number: u32,
-    line: &Line<'_>,
-    payload: &mut Buf,
+    line: &Line<'a>,
+    payload: &'a mut Buf,
     buf: &mut Buf,
+    spare: &mut Buf,
 ) -> Result<(), Answer>
     requires seat { S.seat sys.old ≡ seat }
     requires places { has_places places.old line.now ≡ true }
@@ -53,7 +54,7 @@ pub fn run_line<S: Sys>(
     };
     let reply = make(sys, &first, buf)?;
     if let Some(second) = call_then(header, places, seat, number, line, &reply, buf) {
-        make(sys, &second, payload)?;
+        make(sys, &second, spare)?;
     }
     bind(places, line, &reply);
     Ok(())
