@@ -85,7 +85,7 @@ cost_more events e =
 -- ---- together
 events_more : (words : List ℕ) (records : List Recorded) (e : Event) (c : Call) → op_of c ≡ e.op → All (IsWhole words) records
     → map (event_in (words ++ words_of c)) (records ++ record_of e c (length words) (length (words_of c)) ∷ [])
-      ≡ map (event_in words) records ++ e ∷ []
+    ≡ map (event_in words) records ++ e ∷ []
 events_more words records e c same h =
     let one = record_of e c (length words) (length (words_of c)) in
     map-append (event_in (words ++ words_of c)) records (one ∷ [])
@@ -126,7 +126,7 @@ module _ (cap used records_room words_room more_records more_words : ℕ) (recor
     (h : cost_of_history (map (event_in words) records) + cost_of e.op ≤ cap)
     (r : records_room ≤ more_records) (w : words_room ≤ more_words) where
   grown : Grows cap (used + cost_of e.op) more_records more_words records words e
-    (records ++ record_of e c (length words) (length (words_of c)) ∷ []) (words ++ words_of c)
+      (records ++ record_of e c (length words) (length (words_of c)) ∷ []) (words ++ words_of c)
   grown =
       let one = record_of e c (length words) (length (words_of c)) in
       let shown = events_more words records e c same j.whole in
@@ -142,7 +142,7 @@ module _ (cap used records_room words_room more_records more_words : ℕ) (recor
           within = omega (arith, j.cost, h);
           held = omega (arith, j.held, price, held, words_cost, long, many);
           whole = All-append (IsWhole (words ++ words_of c)) records (one ∷ []) (all_stay words (words_of c) records j.whole)
-            (All-cons (IsWhole (words ++ words_of c)) one [] (whole_comes words e c) (All-nil (IsWhole (words ++ words_of c))));
+              (All-cons (IsWhole (words ++ words_of c)) one [] (whole_comes words e c) (All-nil (IsWhole (words ++ words_of c))));
           records_fit = omega (arith, j.records_fit, r);
           words_fit = omega (arith, j.words_fit, w);
         };

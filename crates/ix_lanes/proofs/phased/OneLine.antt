@@ -10,7 +10,6 @@ use Rattle.ix_lanes.specs.histories.Lanes.{Calls, calls_from}
 use Rattle.ix_lanes.specs.histories.Serial.{entry_of}
 use Rattle.ix_lanes.specs.running.Lines.{alone, LinesCut, LinesDone, made_so}
 use Rattle.ix_lanes.specs.running.Phases.{names_from}
-use Rattle.ix_lanes.specs.running.Runs.{answers_of}
 
 module _ (header : Numbers) (seat n : ℕ) (names : Names) (l : Line) (e : Event) (r : Reply) (bytes : List ℕ) where
   abbrev answer : Answered

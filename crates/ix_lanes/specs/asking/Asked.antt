@@ -1,5 +1,5 @@
 -- The system calls that the commands of a lane ask for.
-use Rattle.std.specs.Prelude.{refl, ℕ, Bool, true, false, nat_lt, ◌==◌, min, List, [], Option, Some, None, if◌then◌else◌, unwrap_or}
+use Rattle.std.specs.Prelude.{refl, ℕ, nat_lt, ◌==◌, min, List, [], Option, Some, None, if◌then◌else◌, unwrap_or}
 use Rattle.std.specs.FinMap as map
 use Rattle.std.specs.Coded.{Coded, code_by, coded×, coded_list, coded_ℕ}
 use Rattle.std.specs.Ordering.{nat_cmp}

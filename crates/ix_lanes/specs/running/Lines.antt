@@ -1,13 +1,12 @@
 -- What the lines of a lane make on a system.
-use Rattle.std.specs.Prelude.{◌≡◌, ℕ, List, [], ◌∷◌, ◌++◌, Option, Some, None, take}
+use Rattle.std.specs.Prelude.{◌≡◌, ℕ, List, [], ◌∷◌, ◌++◌}
 use Rattle.ix_model.specs.history.Events.{Event}
 use Rattle.ix_model.specs.history.Made.{Made}
-use Rattle.ix_model.specs.history.Systems.{FullFor, one_more}
+use Rattle.ix_model.specs.history.Systems.{one_more}
 use Rattle.ix_model.specs.declared.reply.Answer.{Answer}
 use Rattle.ix_model.specs.declared.reply.Reply.{Reply}
 use Rattle.ix_script.specs.declared.line.Line.{Line}
 use Rattle.ix_lanes.specs.asking.Asked.{Names, Numbers}
-use Rattle.ix_lanes.specs.asking.Replies.{count_in}
 use Rattle.ix_lanes.specs.histories.Lanes.{Numbered, calls_from}
 use Rattle.ix_lanes.specs.running.Phases.{names_from}
 use Rattle.ix_lanes.specs.running.Runs.{MadeAll, MadeSome, answers_of}

@@ -1,4 +1,4 @@
-use Rattle.std.proofs.Common.{arith, []}
+use Rattle.std.proofs.Common.{[]}
 use Rattle.ix_model.proofs.texts.Joining.{last_piece}
 use Rattle.ix_model.proofs.path.last_piece.Goals as goal
 

@@ -1,7 +1,6 @@
-use Rattle.std.proofs.Common.{rules, arith, ℕ, ◌-◌, ◌+◌, ◌∷◌, ◌++◌, [], List, length, refl, ap, ◌∙◌, length-append}
+use Rattle.std.proofs.Common.{rules, arith, ℕ, ◌-◌, ◌+◌, ◌∷◌, ◌++◌, [], length, refl, ap, ◌∙◌, length-append}
 use Rattle.std.specs.Vec.{vec_capacity}
 use Rattle.ix_model.specs.history.Calls.{op_of}
-use Rattle.ix_model.specs.history.Cost.{cost_of}
 use Rattle.ix_model.specs.history.Events.{Event}
 use Rattle.ix_model.specs.declared.call.Call.{Call}
 use Rattle.ix_journal.specs.Heads.{words_of}
@@ -19,7 +18,7 @@ put_words-requires c =
     let j = c.self.inside in
     let e = made c.args.seat c.args.line c.args.pid.0 c.args.call.now in
     let room = room_for j.cap j.used (vec_capacity j.records) (vec_capacity j.words) j.records.items j.words.items c.args.self.now e c.args.call.now refl
-      c.self.invariant c.self.view_is c.requires in
+    c.self.invariant c.self.view_is c.requires in
     omega (arith, room.words_fit)
 
 pub overflow_cast-len : goal.overflow_cast-len
@@ -27,7 +26,7 @@ overflow_cast-len c =
     let j = c.self.inside in
     let e = made c.args.seat c.args.line c.args.pid.0 c.args.call.now in
     let room = room_for j.cap j.used (vec_capacity j.records) (vec_capacity j.words) j.records.items j.words.items c.args.self.now e c.args.call.now refl
-      c.self.invariant c.self.view_is c.requires in
+    c.self.invariant c.self.view_is c.requires in
     let long = ap length c.put_words.ensures.items ∙ length-append j.words.items (words_of c.args.call.now) in
     omega (arith, room.end, long, c.len.ensures, c.len-start.ensures)
 
@@ -36,7 +35,7 @@ push_reserved-requires c =
     let j = c.self.inside in
     let e = made c.args.seat c.args.line c.args.pid.0 c.args.call.now in
     let room = room_for j.cap j.used (vec_capacity j.records) (vec_capacity j.words) j.records.items j.words.items c.args.self.now e c.args.call.now refl
-      c.self.invariant c.self.view_is c.requires in
+    c.self.invariant c.self.view_is c.requires in
     omega (arith, room.record_fits)
 
 grown : (c : After-push_reserved) → Grows c.self.inside.cap (c.self.inside.used + c.cost_of.result) (vec_capacity c.push_reserved.new.self)
@@ -47,7 +46,12 @@ grown c =
     let e = made c.args.seat c.args.line c.args.pid.0 c.args.call.now in
     let long = ap length c.put_words.ensures.items ∙ length-append j.words.items (words_of c.args.call.now) in
     let one : Head → Recorded = λ h. record {
-      seat = e.seat; line = e.line; pid = e.pid; start = c.len-start.result; len = c.len.result - c.len-start.result; head = h;
+      seat = e.seat;
+      line = e.line;
+      pid = e.pid;
+      start = c.len-start.result;
+      len = c.len.result - c.len-start.result;
+      head = h;
     } in
     grows_for j.cap j.used (vec_capacity j.records) (vec_capacity j.words) j.records.items j.words.items c.args.self.now e c.args.call.now refl
     c.self.invariant c.self.view_is c.requires (c.self.inside.used + c.cost_of.result) (vec_capacity c.push_reserved.new.self)

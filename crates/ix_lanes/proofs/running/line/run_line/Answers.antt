@@ -1,8 +1,8 @@
-use Rattle.std.proofs.Common.{rules, ◌≡◌, ◌∷◌, [], List, ℕ, Some, None, option_map, ap, sym, ◌∙◌, take}
+use Rattle.std.proofs.Common.{rules, ◌∷◌, [], List, ℕ, option_map, ap, sym, ◌∙◌, take}
 use Rattle.ix_model.specs.history.Calls.{event_of}
 use Rattle.ix_lanes.specs.asking.Places.{standing}
 use Rattle.ix_lanes.specs.asking.Replies.{count_in}
-use Rattle.ix_lanes.specs.running.Lines.{LinesCut, Stops, alone, made_so}
+use Rattle.ix_lanes.specs.running.Lines.{LinesCut, alone, made_so}
 use Rattle.ix_lanes.proofs.phased.OneLine.{one_made, two_made, second_stops}
 use Rattle.ix_lanes.proofs.phased.OneMore.{makes-then, stops-then}
 use Rattle.ix_lanes.proofs.running.line.run_line.Goals.{in-Some-call_then+in_ok-make, in_default-call_then}
