@@ -122,8 +122,8 @@ unbuilt_later (Some line) n h = cc
 
 script_later : (c : Command) (s : List Line) → IsLater (script_refusal c s)
 unfolding script_refusal policy_refusal
-script_later command.Run s = or_later (policy_refusal s) (unbuilt_refusal s) (policy_later (form_told s) (policy_of s)) (unbuilt_later (unbuilt_line s))
-script_later command.Print s = policy_later (form_told s) (policy_of s)
+script_later command.Run s n h = or_later (policy_refusal s) (unbuilt_refusal s) (policy_later (form_told s) (policy_of s)) (unbuilt_later (unbuilt_line s)) n h
+script_later command.Print s n h = policy_later (form_told s) (policy_of s) n h
 script_later (command.Gen n) s m h = cc
 
 -- a refusal by it is one of an input that is too long
