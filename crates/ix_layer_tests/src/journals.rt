@@ -1,3 +1,5 @@
+ghost use Rattle.std.specs.Prelude.{◌≤◌};
+
 use ix_journal::Journal;
 use ix_model::{Call, Entry, Fd, NameRef, Path, PathBuf, Pid};
 use std::alloc::Global;
@@ -72,7 +74,9 @@ fn links(call: &Call<'_>, wanted: &Path<'_>, to: &Path<'_>) -> bool {
 }
 
 /// Whether an entry that links a path of so many names to one of as many less than sixteen comes back as it was.
-fn comes_back(alloc: Global, names: usize) -> Option<bool> {
+fn comes_back(alloc: Global, names: usize) -> Option<bool>
+    requires { names ≤ 16 }
+{
     let (target, path) = (path_of(true, names)?, path_of(false, 16 - names)?);
     let (target, path) = (target.as_path(), path.as_path());
     let entry = Entry {
@@ -86,8 +90,11 @@ fn comes_back(alloc: Global, names: usize) -> Option<bool> {
         return None;
     }
     journal.push(&entry);
-    let kept = journal.entry(1)?;
-    Some(links(&kept.call, &target, &path) && journal.used() == 592)
+    let back = match journal.entry(1) {
+        Some(kept) => links(&kept.call, &target, &path),
+        None => false,
+    };
+    Some(back && journal.used() == 592)
 }
 
 #[test]
