@@ -15,7 +15,8 @@ use Rattle.ix_host.specs.declared.asked.command.Command.TheVariants as command
 use Rattle.ix_host.specs.declared.status.Status.TheVariants as status
 use Rattle.ix_host.specs.Built.{unbuilt_line}
 use Rattle.ix_host.specs.Policies.{policy_refusal, refused_policy}
-use Rattle.ix_host.specs.run.Outcome.{IsReadable, Outcome, outcome_for, outcome_in, outcome_of, reads_source, refusal_of, refused_by, script_in, script_refusal, status_of, text_for, text_of, unbuilt_refusal, unless_refused}
+use Rattle.ix_host.specs.run.Outcome.{IsReadable, Outcome, outcome_for, outcome_in, outcome_of, reads_source, refusal_of, refused_by, script_in}
+use Rattle.ix_host.specs.run.Outcome.{script_refusal, status_of, text_for, text_of, unbuilt_refusal, unless_refused}
 use Rattle.ix_host.specs.run.Outcome as outcome
 use Rattle.ix_host.specs.run.Run.{called_for, unless_done}
 use Rattle.ix_replay.specs.report.Report.{report_of}
@@ -24,12 +25,14 @@ use Rattle.ix_host.proofs.comes_to.LaterRules.{not_rule_one}
 
 -- ---- a script
 -- one that is refused
-pub outcome_refused : (c : Command) (s : List Line) (line rule : ℕ) (history : List Event) → script_refusal c s ≡ Some (line, rule) → outcome.Refused line rule ≡ outcome_for c s history
+pub outcome_refused : (c : Command) (s : List Line) (line rule : ℕ) (history : List Event)
+    → script_refusal c s ≡ Some (line, rule) → outcome.Refused line rule ≡ outcome_for c s history
 unfolding outcome_for
 outcome_refused c s line rule history is = rw (outcome_for, is) refl
 
 -- one that isn't
-pub outcome_accepted : (c : Command) (s : List Line) (history : List Event) → script_refusal c s ≡ None → outcome.Whole (text_for c s history) ≡ outcome_for c s history
+pub outcome_accepted : (c : Command) (s : List Line) (history : List Event)
+    → script_refusal c s ≡ None → outcome.Whole (text_for c s history) ≡ outcome_for c s history
 unfolding outcome_for
 outcome_accepted c s history is = rw (outcome_for, is) refl
 
@@ -122,7 +125,8 @@ unbuilt_later (Some line) n h = cc
 
 script_later : (c : Command) (s : List Line) → IsLater (script_refusal c s)
 unfolding script_refusal policy_refusal
-script_later command.Run s n h = or_later (policy_refusal s) (unbuilt_refusal s) (policy_later (form_told s) (policy_of s)) (unbuilt_later (unbuilt_line s)) n h
+script_later command.Run s n h =
+    or_later (policy_refusal s) (unbuilt_refusal s) (policy_later (form_told s) (policy_of s)) (unbuilt_later (unbuilt_line s)) n h
 script_later command.Print s n h = policy_later (form_told s) (policy_of s) n h
 script_later (command.Gen n) s m h = cc
 

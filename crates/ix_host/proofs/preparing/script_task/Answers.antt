@@ -7,9 +7,13 @@ use Rattle.ix_host.proofs.preparing.script_task.Goals as goal
 
 pub returns-in-Ok-None-clause-leads : goal.returns-in-Ok-None-clause-leads
 returns-in-Ok-None-clause-leads g c =
-    leads_as (λ history. outcome.Whole (text_for c.args.command c.args.script history)) (λ history. outcome_for c.args.command c.args.script history) c.args.script c.args.script c.accepted_task.result _ _ _ _ _
-    (λ history. outcome_accepted c.args.command c.args.script history (sym c.in-Ok-None.ensures ∙ c.in-Ok-None.field-0-is)) refl c.accepted_task.ensures.leads
+    let s = c.args.script in
+    leads_as (λ history. outcome.Whole (text_for c.args.command s history)) (λ history. outcome_for c.args.command s history) s s
+    c.accepted_task.result _ _ _ _ _
+    (λ history. outcome_accepted c.args.command s history (sym c.in-Ok-None.ensures ∙ c.in-Ok-None.field-0-is)) refl
+    c.accepted_task.ensures.leads
 
 pub returns-in-Ok-Some-clause-leads : goal.returns-in-Ok-Some-clause-leads
 returns-in-Ok-Some-clause-leads g c = λ history.
-    ends_as (outcome_refused c.args.command c.args.script c.in-Ok-Some.line c.in-Ok-Some.rule history (sym c.in-Ok-Some.ensures ∙ c.in-Ok-Some.field-0-is)) c.refuse.ensures
+    let refused = sym c.in-Ok-Some.ensures ∙ c.in-Ok-Some.field-0-is in
+    ends_as (outcome_refused c.args.command c.args.script c.in-Ok-Some.line c.in-Ok-Some.rule history refused) c.refuse.ensures
