@@ -167,11 +167,16 @@ const REPLIES: &[u8] = b"1 m 7 self p1 = done @ none\n\
     1 m 7 self p1 = child p2 255 @ none\n\
     1 m 7 self p1 = no 38 InUse @ none\n";
 
+/// The path with this text of its names, or one of no names.
+fn path(absolute: bool, text: &'static [u8]) -> Path<'static> {
+    Path::read(absolute, text).unwrap_or(Path::new(absolute))
+}
+
 /// A line with each kind of argument.
-fn arguments(out: &mut Vec<u8>, one: Path<'_>, two: Path<'_>) -> Result<(), NoMemory> {
+fn arguments(out: &mut Vec<u8>) -> Result<(), NoMemory> {
     let calls = [
         Call::OpenAt {
-            path: one,
+            path: path(true, b"a\\\x7f/!~"),
             mode: Mode::Both,
         },
         Call::WriteFd {
@@ -179,7 +184,7 @@ fn arguments(out: &mut Vec<u8>, one: Path<'_>, two: Path<'_>) -> Result<(), NoMe
             bytes: b"\x00\xfa",
         },
         Call::LinkAt {
-            target: two,
+            target: path(false, b"!~/!~"),
             path: Path::new(true),
         },
         Call::ListAt {
@@ -221,16 +226,12 @@ const ARGUMENTS: &[u8] = b"1 m 7 open p1 /a\\x5c\\x7f/!~ rw = done @ none\n\
 /// Whether the lines, the replies and the arguments are written so.
 fn are_written(alloc: Global) -> Option<[bool; 3]> {
     let name = Name::read(b"a\"b")?;
-    let (one, two) = (
-        Path::read(true, b"a\\\x7f/!~")?,
-        Path::read(false, b"!~/!~")?,
-    );
     let mut out = Vec::new(alloc);
     let all = lines(&mut out).is_ok() && out.as_slice() == LINES;
     out.clear();
     let each = replies(&mut out, name).is_ok() && out.as_slice() == REPLIES;
     out.clear();
-    let kinds = arguments(&mut out, one, two).is_ok() && out.as_slice() == ARGUMENTS;
+    let kinds = arguments(&mut out).is_ok() && out.as_slice() == ARGUMENTS;
     Some([all, each, kinds])
 }
 
