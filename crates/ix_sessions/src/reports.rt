@@ -14,10 +14,7 @@ use std::process::Abort;
 /// A line of each kind.
 fn lines(out: &mut Vec<u8>) -> Result<(), NoMemory> {
     let three = Label::bottom().with(3);
-    let read = Call::ReadFd {
-        fd: Fd(0),
-        count: 8,
-    };
+    let read = asking(path(true, b""), false);
     let audit = AuditLine {
         place: 3,
         pid: Pid(3),
@@ -97,11 +94,22 @@ const LINES: &[u8] = b"ix 2 report\n\
     3 p3 downfile 1 3 - - -\n\
     end 3 0\n";
 
+/// A call that has nothing to do with a path: the caller's label, or a read.
+fn asking(path: Path<'static>, label: bool) -> Call<'static> {
+    if label && path.absolute() {
+        return Call::SelfLabel;
+    }
+    Call::ReadFd {
+        fd: Fd(0),
+        count: 8,
+    }
+}
+
 /// The line of a reply that no bytes go with.
 fn answer(out: &mut Vec<u8>, reply: &Reply) -> Result<(), NoMemory>
     requires { AreBytesOf reply.now [] }
 {
-    let call = Call::SelfLabel;
+    let call = asking(path(true, b""), true);
     entry_line(out, Form::Two, 1, b"m", 7, Pid(1), &call, reply, b"", None)
 }
 
