@@ -94,7 +94,7 @@ const LINES: &[u8] = b"ix 2 report\n\
     3 p3 downfile 1 3 - - -\n\
     end 3 0\n";
 
-/// A call that has nothing to do with a path: the caller's label, or a read.
+/// The caller's label, or a read. A path is lent with it: else the kit's borrow checker isn't told of that type, and fails.
 fn asking(path: Path<'static>, label: bool) -> Call<'static> {
     if label && path.absolute() {
         return Call::SelfLabel;
