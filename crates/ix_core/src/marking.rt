@@ -86,7 +86,7 @@ fn known(
 {
     let _ = marks;
     known_changes_nothing();
-    machine.call_known(place, pid, call, buf)
+    machine.call_known(place, pid, call, buf).reply()
 }
 
 /// The call of a process, which looks at labels. The marks are told of each label that it changed, and of the descriptor that

@@ -66,18 +66,16 @@ impl<W: Witness> Sys for SeenSys<'_, W> {
     ) };
 
     fn call(&mut self, line: u32, pid: Pid, call: &Call<'_>, buf: &mut Buf) -> Answer {
-        match self.core.call(self.seat, line, pid, call, buf) {
+        let answer = self.core.call(self.seat, line, pid, call, buf);
+        match &answer {
             Answer::Given(reply) => {
-                let (core, seat, bytes) = (&*self.core, self.seat, read_by(&reply, buf));
-                self.witness.see(core, line, pid, seat, call, &reply, bytes);
-                Answer::Given(reply)
+                let (core, seat, bytes) = (&*self.core, self.seat, read_by(reply, buf));
+                self.witness.see(core, line, pid, seat, call, reply, bytes);
             }
-            Answer::JournalFull { used, need, cap } => {
-                self.stops.note(used, need, cap);
-                Answer::JournalFull { used, need, cap }
-            }
-            Answer::NoMemory => Answer::NoMemory,
+            Answer::JournalFull { used, need, cap } => self.stops.note(*used, *need, *cap),
+            Answer::NoMemory => {}
         }
+        answer
     }
 }
 

@@ -3,6 +3,7 @@ pub mod Counted
 pub mod Calling
 pub mod Meanings
 pub mod Telling
+pub mod Moving
 pub mod Serving
 pub mod Filed
 pub mod Claiming

@@ -11,8 +11,10 @@ ghost use Rattle.ix_tables.specs.Meanings.{Shows, object_by};
 ghost use Rattle.ix_tables.specs.Parts.{parts_of};
 ghost use Rattle.ix_fcalls.specs.Around.{Moment, around, world_of, with_who};
 ghost use Rattle.ix_fcalls.specs.Filed.{Answers, is_filed};
+ghost use Rattle.ix_fcalls.specs.Moving.{reply_of};
 ghost use Rattle.ix_fcalls.specs.Tested.{IsKnown};
 
+use crate::moved::Moved;
 use ix_label::{Label, Steps};
 use ix_model::{Buf, Call, Caller, Config, Limits, NoMemory, Obj, PrivSet, Reply};
 use ix_tables::{ObjectRow, Tables};
@@ -78,14 +80,14 @@ impl Files {
 
     /// A read or a write through a descriptor of which it is known that a look at the labels would change none. It moves the
     /// files as [`call`](Files::call) does, and looks at no label; the process stays as it is.
-    pub fn call_known(&mut self, who: &Caller, call: &Call<'_>, buf: &mut Buf) -> Reply
+    pub fn call_known(&mut self, who: &Caller, call: &Call<'_>, buf: &mut Buf) -> Moved
         ghost moment: { Moment }
         requires known { IsKnown moment.world.frame who.now.pid.0 (op_of call.now) }
         requires sound { Sound moment.world }
         requires parts { self.old ≡ parts_of moment.world }
         requires who { with_who moment.world.frame.processes who.now ≡ moment.world.frame.processes }
         requires lives { lives moment.world.frame who.now.pid.0 ≡ true }
-        ensures step { Answers (step moment.world moment.place who.now.pid.0 (op_of call.now)) (world_of (around moment.place who.now.pid.0 moment.world) self.new moment.world.frame.processes) result buf.old buf.new }
+        ensures step { Answers (step moment.world moment.place who.now.pid.0 (op_of call.now)) (world_of (around moment.place who.now.pid.0 moment.world) self.new moment.world.frame.processes) (reply_of result) buf.old buf.new }
         ensures parts { self.new ≡ parts_of (step moment.world moment.place who.now.pid.0 (op_of call.now)).world }
     {
         self.turn_known::<Brand>(who, call, buf)

@@ -12,6 +12,7 @@ mod going;
 mod leaving;
 mod looking;
 mod making;
+mod moved;
 mod opening;
 mod reading;
 mod spots;
@@ -24,4 +25,5 @@ mod who;
 mod writing;
 
 pub use files::Files;
+pub use moved::Moved;
 pub use walks::{Outcome, Walked};

@@ -17,11 +17,13 @@ ghost use Rattle.ix_fcalls.specs.Around.{frame_of, world_of};
 ghost use Rattle.ix_fcalls.specs.Counted.{IsCounted, Keeps};
 ghost use Rattle.ix_fcalls.specs.Filed.{Answers};
 ghost use Rattle.ix_fcalls.specs.Meanings.{behind_of};
+ghost use Rattle.ix_fcalls.specs.Moving.{reply_of};
 ghost use Rattle.ix_fcalls.specs.Serving.{Serves};
 ghost use Rattle.ix_fcalls.specs.Telling.{told_of};
 
 use crate::behind::Behind;
 use crate::files::Files;
+use crate::moved::Moved;
 use crate::told::{NOTHING_TOLD, Told};
 use crate::who::{Rest, Who};
 use ix_label::Steps;
@@ -220,11 +222,11 @@ impl Files {
         fd: Fd,
         count: u32,
         buf: &mut Buf,
-    ) -> Reply
+    ) -> Moved
         requires sound { Sound (world_of R.rest self.old who.now) }
         requires counted { IsCounted self.old who.now }
         requires known { Known Reading (frame_of R.rest self.old who.now) R.rest.pid fd.0 }
-        ensures step { Answers (step (world_of R.rest self.old who.now) R.rest.place R.rest.pid (op.ReadFd fd.0 count)) (world_of R.rest self.new who.now) result buf.old buf.new }
+        ensures step { Answers (step (world_of R.rest self.old who.now) R.rest.place R.rest.pid (op.ReadFd fd.0 count)) (world_of R.rest self.new who.now) (reply_of result) buf.old buf.new }
         ensures counted { IsCounted self.new who.now }
     {
         let Some(e) = self.behind(who, fd) else {
@@ -232,8 +234,8 @@ impl Files {
         };
         let told = self.told_of_read(who, &e);
         match self.read_fd_known(told, who, fd, count) {
-            Ok(()) => Reply::Bytes(self.read_bytes(who, &e, count, buf)),
-            Err(why) => Reply::No(why),
+            Ok(()) => Moved::Read(self.read_bytes(who, &e, count, buf)),
+            Err(why) => Moved::No(why),
         }
     }
 }

@@ -8,10 +8,12 @@ ghost use Rattle.ix_fcalls.specs.Around.{frame_of, world_of, with_who};
 ghost use Rattle.ix_fcalls.specs.Calling.{IsCalling};
 ghost use Rattle.ix_fcalls.specs.Counted.{IsCounted};
 ghost use Rattle.ix_fcalls.specs.Filed.{Answers, IsLook, Leaves, is_filed, is_plain, lets_go};
+ghost use Rattle.ix_fcalls.specs.Moving.{reply_of};
 ghost use Rattle.ix_fcalls.specs.Tested.{IsKnown};
 ghost use Rattle.ix_fcalls.specs.Telling.{FileThere, TellsOfFile, size_told, told_of, with_size};
 
 use crate::files::Files;
+use crate::moved::Moved;
 use crate::told::{NOTHING_TOLD, Told};
 use crate::who::{Rest, Who};
 use ix_label::Steps;
@@ -192,11 +194,11 @@ impl Files {
     }
 
     /// A read or a write where a look at the labels would change none.
-    fn answer_known<R: Rest>(&mut self, who: &Who<R>, call: &Call<'_>, buf: &mut Buf) -> Reply
+    fn answer_known<R: Rest>(&mut self, who: &Who<R>, call: &Call<'_>, buf: &mut Buf) -> Moved
         requires known { IsKnown (frame_of R.rest self.old who.now) R.rest.pid (op_of call.now) }
         requires sound { Sound (world_of R.rest self.old who.now) }
         requires counted { IsCounted self.old who.now }
-        ensures step { Answers (step (world_of R.rest self.old who.now) R.rest.place R.rest.pid (op_of call.now)) (world_of R.rest self.new who.now) result buf.old buf.new }
+        ensures step { Answers (step (world_of R.rest self.old who.now) R.rest.place R.rest.pid (op_of call.now)) (world_of R.rest self.new who.now) (reply_of result) buf.old buf.new }
         ensures counted { IsCounted self.new who.now }
     {
         match call {
@@ -235,12 +237,12 @@ impl Files {
         caller: &Caller,
         call: &Call<'_>,
         buf: &mut Buf,
-    ) -> Reply
+    ) -> Moved
         requires calling { IsCalling R.rest caller.now.pid.0 }
         requires known { IsKnown (frame_of R.rest self.old (with_who R.rest.processes caller.now)) R.rest.pid (op_of call.now) }
         requires sound { Sound (world_of R.rest self.old (with_who R.rest.processes caller.now)) }
         requires counted { IsCounted self.old (with_who R.rest.processes caller.now) }
-        ensures step { Answers (step (world_of R.rest self.old (with_who R.rest.processes caller.now)) R.rest.place R.rest.pid (op_of call.now)) (world_of R.rest self.new (with_who R.rest.processes caller.now)) result buf.old buf.new }
+        ensures step { Answers (step (world_of R.rest self.old (with_who R.rest.processes caller.now)) R.rest.place R.rest.pid (op_of call.now)) (world_of R.rest self.new (with_who R.rest.processes caller.now)) (reply_of result) buf.old buf.new }
         ensures counted { IsCounted self.new (with_who R.rest.processes caller.now) }
     {
         let who = Who::<R>::new(caller);

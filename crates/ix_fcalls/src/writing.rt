@@ -17,11 +17,13 @@ ghost use Rattle.ix_fcalls.specs.Around.{frame_of, world_of};
 ghost use Rattle.ix_fcalls.specs.Counted.{IsCounted, Keeps};
 ghost use Rattle.ix_fcalls.specs.Filed.{Answers};
 ghost use Rattle.ix_fcalls.specs.Meanings.{behind_of};
+ghost use Rattle.ix_fcalls.specs.Moving.{reply_of};
 ghost use Rattle.ix_fcalls.specs.Serving.{Serves};
 ghost use Rattle.ix_fcalls.specs.Telling.{told_of};
 
 use crate::behind::Behind;
 use crate::files::Files;
+use crate::moved::Moved;
 use crate::told::{NOTHING_TOLD, Told};
 use crate::who::{Rest, Who};
 use ix_label::Steps;
@@ -193,11 +195,11 @@ impl Files {
     }
 
     /// A write where a look at the labels would change none: its tests, and then the bytes.
-    pub(crate) fn write_known<R: Rest>(&mut self, who: &Who<R>, fd: Fd, bytes: &[u8]) -> Reply
+    pub(crate) fn write_known<R: Rest>(&mut self, who: &Who<R>, fd: Fd, bytes: &[u8]) -> Moved
         requires sound { Sound (world_of R.rest self.old who.now) }
         requires counted { IsCounted self.old who.now }
         requires known { Known Writing (frame_of R.rest self.old who.now) R.rest.pid fd.0 }
-        ensures step { (buf : List ℕ) → Answers (step (world_of R.rest self.old who.now) R.rest.place R.rest.pid (op.WriteFd fd.0 bytes.now)) (world_of R.rest self.new who.now) result buf buf }
+        ensures step { (buf : List ℕ) → Answers (step (world_of R.rest self.old who.now) R.rest.place R.rest.pid (op.WriteFd fd.0 bytes.now)) (world_of R.rest self.new who.now) (reply_of result) buf buf }
         ensures counted { IsCounted self.new who.now }
     {
         let Some(e) = self.behind(who, fd) else {
@@ -207,9 +209,9 @@ impl Files {
         match self.write_fd_known(told, who, fd) {
             Ok(()) => {
                 self.write_bytes(who, &e, bytes);
-                Reply::Number(bytes.len() as u64)
+                Moved::Written(bytes.len() as u64)
             }
-            Err(why) => Reply::No(why),
+            Err(why) => Moved::No(why),
         }
     }
 }

@@ -9,11 +9,13 @@ ghost use Rattle.ix_model.specs.rows.Telling.{nothing_told};
 ghost use Rattle.ix_model.specs.world.World.{lives};
 ghost use Rattle.ix_fcalls.specs.Around.{Moment};
 ghost use Rattle.ix_fcalls.specs.Filed.{Answers, is_filed};
+ghost use Rattle.ix_fcalls.specs.Moving.{reply_of};
 ghost use Rattle.ix_fcalls.specs.Tested.{IsKnown};
 ghost use Rattle.ix_machine.specs.OwnCalls.{is_still};
 ghost use Rattle.ix_machine.specs.Restoring.{Restores};
 
 use crate::machine::Machine;
+use ix_fcalls::Moved;
 use ix_label::Steps;
 use ix_model::{Buf, Call, Pid, Refusal, Reply};
 use std::sync::ledger::Ledger;
@@ -50,22 +52,22 @@ impl Machine {
 
     /// One step of the machine: a read or a write by a process, at a place of the history, through a descriptor of which it is
     /// known that a look at the labels would change none. It looks at no label, and takes no memory.
-    pub fn call_known(&mut self, place: u32, pid: Pid, call: &Call<'_>, buf: &mut Buf) -> Reply
+    pub fn call_known(&mut self, place: u32, pid: Pid, call: &Call<'_>, buf: &mut Buf) -> Moved
         requires sound { Sound self.old }
         requires known { IsKnown self.old.frame pid.0 (op_of call.now) }
-        ensures { Answers (step self.old place pid.0 (op_of call.now)) self.new result buf.old buf.new }
+        ensures { Answers (step self.old place pid.0 (op_of call.now)) self.new (reply_of result) buf.old buf.new }
     {
         self.filed_known(place, pid, call, buf)
     }
 
     /// The same, as the files answer it.
-    fn filed_known(&mut self, place: u32, pid: Pid, call: &Call<'_>, buf: &mut Buf) -> Reply
+    fn filed_known(&mut self, place: u32, pid: Pid, call: &Call<'_>, buf: &mut Buf) -> Moved
         ghost moment: { Moment }
         requires world { self.old ≡ moment.world }
         requires place { place ≡ moment.place }
         requires sound { Sound moment.world }
         requires known { IsKnown moment.world.frame pid.0 (op_of call.now) }
-        ensures { Answers (step moment.world moment.place pid.0 (op_of call.now)) self.new result buf.old buf.new }
+        ensures { Answers (step moment.world moment.place pid.0 (op_of call.now)) self.new (reply_of result) buf.old buf.new }
     {
         let _ = place;
         let who = *self.who(pid);

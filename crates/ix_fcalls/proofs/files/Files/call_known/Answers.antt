@@ -6,6 +6,7 @@ use Rattle.ix_model.specs.history.Step.{step}
 use Rattle.ix_fcalls.specs.Around.{around, with_who, world_of}
 use Rattle.ix_fcalls.specs.Counted.{IsCounted}
 use Rattle.ix_fcalls.specs.Filed.{Answers}
+use Rattle.ix_fcalls.specs.Moving.{reply_of}
 use Rattle.ix_fcalls.specs.Tested.{IsKnown}
 use Rattle.ix_fcalls.proofs.Bare.{counted_parts}
 use Rattle.ix_fcalls.proofs.Turning.{world_there, answers_there, parts_after}
@@ -27,8 +28,8 @@ turn_known-requires-clause-counted g c = counted_parts g.moment.world c.args.sel
 pub returns-clause-step : goal.returns-clause-step
 returns-clause-step g c =
     let w = g.moment.world in
-    subst (λ (ps : List (Option Process)). Answers (step w g.moment.place c.args.who.now.pid.0 (op_of c.args.call.now)) (world_of (around g.moment.place c.args.who.now.pid.0 w) c.turn_known.new.self ps) c.turn_known.result c.args.buf.now c.turn_known.new.buf) c.requires.1.1.1.0
-    (answers_there g.moment.place c.args.who.now.pid.0 w (op_of c.args.call.now) c.args.self.now (with_who w.frame.processes c.args.who.now) (world_of (around g.moment.place c.args.who.now.pid.0 w) c.turn_known.new.self (with_who w.frame.processes c.args.who.now)) c.turn_known.result c.args.buf.now c.turn_known.new.buf
+    subst (λ (ps : List (Option Process)). Answers (step w g.moment.place c.args.who.now.pid.0 (op_of c.args.call.now)) (world_of (around g.moment.place c.args.who.now.pid.0 w) c.turn_known.new.self ps) (reply_of c.turn_known.result) c.args.buf.now c.turn_known.new.buf) c.requires.1.1.1.0
+    (answers_there g.moment.place c.args.who.now.pid.0 w (op_of c.args.call.now) c.args.self.now (with_who w.frame.processes c.args.who.now) (world_of (around g.moment.place c.args.who.now.pid.0 w) c.turn_known.new.self (with_who w.frame.processes c.args.who.now)) (reply_of c.turn_known.result) c.args.buf.now c.turn_known.new.buf
     c.requires.1.1.0 c.requires.1.1.1.0 c.turn_known.ensures.step)
 
 pub returns-clause-parts : goal.returns-clause-parts
