@@ -26,7 +26,8 @@ use Rattle.ix_model.proofs.words.Lasts.{lets_nothing_go}
 use Rattle.ix_fcalls.specs.Around.{no_process}
 use Rattle.ix_model.specs.world.Callers.{with_caller}
 use Rattle.ix_fcalls.specs.Filed.{Answers}
-use Rattle.ix_machine.specs.OwnCalls.{is_still}
+use Rattle.ix_model.specs.rows.OnLabels.{self_label}
+use Rattle.ix_machine.specs.OwnCalls.{is_still, is_tested}
 
 pub answers : (given : Given) (w : World) (r : Reply) (buf : List ℕ) → given ≡ record { world = w; reply = r; bytes = [] } → Answers given w r buf buf
 answers given w r buf is = record {
@@ -130,6 +131,24 @@ still_step w place pid (op.Unpex fd) still = refl
 still_step w place pid (op.ReadLog index) still = refl
 still_step w place pid _ still = cc
 
+pub tested_still : (c : Op) → is_tested c ≡ true → is_still c ≡ true
+tested_still (op.Exec path) tested = refl
+tested_still (op.LabelOf path) tested = refl
+tested_still op.SelfLabel tested = refl
+tested_still (op.SetLabel path label) tested = refl
+tested_still (op.SetSelf label) tested = refl
+tested_still (op.Freeze path) tested = refl
+tested_still op.FreezeSelf tested = refl
+tested_still (op.Thaw path) tested = refl
+tested_still op.ThawSelf tested = refl
+tested_still (op.SetPriv path cap lic) tested = refl
+tested_still (op.DropLic set) tested = refl
+tested_still (op.GrantLic target set) tested = refl
+tested_still (op.SetCeiling target label) tested = refl
+tested_still (op.Unpex fd) tested = refl
+tested_still (op.ReadLog index) tested = refl
+tested_still _ tested = cc
+
 still_stays : (c : Op) → is_still c ≡ true → lets_nothing_go c ≡ true
 still_stays (op.Exec path) still = refl
 still_stays (op.LabelOf path) still = refl
@@ -156,6 +175,13 @@ plainly_still w u place pid c r still clean said stands same = λ i. record { wo
 pub still_answers : (w u : World) (place pid : ℕ) (c : Op) (r : Reply) (buf : List ℕ) → is_still c ≡ true → IsClean w → r ≡ (verdict nothing_told place pid c w.frame).reply → u.frame ≡ (verdict nothing_told place pid c w.frame).frame → u.content ≡ w.content
     → Answers (step w place pid c) u r buf buf
 still_answers w u place pid c r buf still clean said stands same = answers _ u r buf (still_step w place pid c still ∙ plainly_still w u place pid c r still clean said stands same)
+
+-- SelfLabel tells the caller's label, and all stands
+pub label_step : (w : World) (place pid : ℕ) (r : Reply) (buf : List ℕ) → IsClean w → lives w.frame pid ≡ true → self_label pid w.frame ≡ Pass r w.frame → Answers (step w place pid op.SelfLabel) w r buf buf
+unfolding row
+label_step w place pid r buf clean alive passes =
+    let told = passed_verdict nothing_told place pid op.SelfLabel w.frame w.frame r alive passes in
+    still_answers w w place pid op.SelfLabel r buf refl clean (sym (ap (λ d. d.reply) told)) (sym (ap (λ d. d.frame) told)) refl
 
 -- ---- a row's refusal, as it is settled
 -- one that keeps no label leaves the frame as it was

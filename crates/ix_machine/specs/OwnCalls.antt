@@ -31,6 +31,11 @@ is_still (op.Unpex fd) = true
 is_still (op.ReadLog index) = true
 is_still _ = false
 
+-- those of them that may be refused: SelfLabel alone never is
+abbrev pub is_tested : Op → Bool
+is_tested op.SelfLabel = false
+is_tested o = is_still o
+
 -- what the row of a wait answers to a child and its status, which the content fills in
 abbrev pub child_passed : Pid × ℕ → Reply
 child_passed c = wait_passed c.0.0

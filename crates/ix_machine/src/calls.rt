@@ -1,4 +1,4 @@
-ghost use Rattle.std.specs.Prelude.{◌≡◌, ◌<◌, ◌-◌, ◌^◌, IsTrue, OnErr, length, true};
+ghost use Rattle.std.specs.Prelude.{◌≡◌, ◌<◌, ◌-◌, ◌^◌, ℕ, List, IsTrue, OnErr, length, true};
 ghost use Rattle.ix_model.specs.history.Calls.{op_of};
 ghost use Rattle.ix_model.specs.history.Events as op;
 ghost use Rattle.ix_model.specs.history.Step.{step};
@@ -11,7 +11,7 @@ ghost use Rattle.ix_fcalls.specs.Around.{Moment};
 ghost use Rattle.ix_fcalls.specs.Filed.{Answers, is_filed};
 ghost use Rattle.ix_fcalls.specs.Moving.{reply_of};
 ghost use Rattle.ix_fcalls.specs.Tested.{IsKnown};
-ghost use Rattle.ix_machine.specs.OwnCalls.{is_still};
+ghost use Rattle.ix_machine.specs.OwnCalls.{is_tested};
 ghost use Rattle.ix_machine.specs.Restoring.{Restores};
 
 use crate::machine::Machine;
@@ -46,6 +46,7 @@ impl Machine {
             Call::Exit { status } => self.exited(place, pid, *status, buf),
             Call::WaitChild => self.waited(place, pid, buf, steps),
             Call::Pex { fd } => self.pexed(place, pid, *fd, buf),
+            Call::SelfLabel => self.told_label(pid),
             _ => self.own(place, pid, call, buf, steps),
         }
     }
@@ -99,7 +100,16 @@ impl Machine {
         reply
     }
 
-    /// A call that leaves what the world holds.
+    /// SelfLabel, by which the world stays as it is.
+    fn told_label(&self, pid: Pid) -> Reply
+        requires sound { Sound self.now }
+        requires lives { lives self.now.frame pid.0 ≡ true }
+        ensures { (place : ℕ) (buf : List ℕ) → Answers (step self.now place pid.0 op.SelfLabel) self.now result buf buf }
+    {
+        self.self_label(pid)
+    }
+
+    /// A call that leaves what the world holds, and may be refused.
     #[tactic(auto, using(crate::proofs::Stepped::still_answers))]
     fn own<L: Ledger>(
         &mut self,
@@ -110,7 +120,7 @@ impl Machine {
         steps: &mut Steps<L>,
     ) -> Reply
         requires sound { Sound self.old }
-        requires still { IsTrue (is_still (op_of call.now)) }
+        requires tested { IsTrue (is_tested (op_of call.now)) }
         requires lives { lives self.old.frame pid.0 ≡ true }
         ensures { Answers (step self.old place pid.0 (op_of call.now)) self.new result buf.now buf.now }
     {
@@ -128,7 +138,7 @@ impl Machine {
         steps: &mut Steps<L>,
     ) -> Reply
         requires sound { Sound self.old }
-        requires still { IsTrue (is_still (op_of call.now)) }
+        requires tested { IsTrue (is_tested (op_of call.now)) }
         requires lives { lives self.old.frame pid.0 ≡ true }
         ensures reply { result ≡ (verdict nothing_told place pid.0 (op_of call.now) self.old.frame).reply }
         ensures frame { self.new.frame ≡ (verdict nothing_told place pid.0 (op_of call.now) self.old.frame).frame }
@@ -157,7 +167,7 @@ impl Machine {
         steps: &mut Steps<L>,
     ) -> Result<Reply, Refusal>
         requires sound { Sound self.old }
-        requires still { IsTrue (is_still (op_of call.now)) }
+        requires tested { IsTrue (is_tested (op_of call.now)) }
         requires lives { lives self.old.frame pid.0 ≡ true }
         ensures row { RowIs result self.new.frame (row nothing_told place pid.0 (op_of call.now) self.old.frame) }
         ensures content { self.new.content ≡ self.old.content }
@@ -166,7 +176,6 @@ impl Machine {
         match call {
             Call::Exec { path } => self.exec(pid, path, steps),
             Call::LabelOf { path } => self.label_of(pid, path, steps),
-            Call::SelfLabel => Ok(self.self_label(pid)),
             Call::SetLabel { path, label } => self.set_label(place, pid, path, label, steps),
             Call::SetSelf { label } => self.set_self(place, pid, label, steps),
             Call::Freeze { path } => self.freeze(pid, path, steps),
