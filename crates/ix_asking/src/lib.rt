@@ -1,0 +1,10 @@
+//! Calls that are asked for one at a time, each by the answers to those before it, and what makes them on a system.
+#![tactic(auto)]
+
+mod asks;
+mod making;
+mod stop;
+
+pub use asks::{Asks, Step};
+pub use making::{count_in, make_next, run};
+pub use stop::Stop;
