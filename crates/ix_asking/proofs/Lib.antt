@@ -1,1 +1,3 @@
 mod OneMore
+mod Lines
+mod Joined

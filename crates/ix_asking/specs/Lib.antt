@@ -1,3 +1,6 @@
 pub mod Asking
 pub mod Steps
 pub mod Runs
+pub mod Lines
+pub mod Copies
+pub mod Copying

@@ -2,9 +2,14 @@
 #![tactic(auto)]
 
 mod asks;
+mod copying;
+mod held;
+mod holding;
+pub mod laws;
 mod making;
 mod stop;
 
 pub use asks::{Asks, Step};
+pub use copying::Copying;
 pub use making::{count_in, make_next, run};
 pub use stop::Stop;
