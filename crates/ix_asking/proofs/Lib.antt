@@ -1,3 +1,4 @@
 mod OneMore
 mod Lines
 mod Joined
+mod Texts

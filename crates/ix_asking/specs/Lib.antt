@@ -4,3 +4,4 @@ pub mod Runs
 pub mod Lines
 pub mod Copies
 pub mod Copying
+pub mod serving

@@ -7,6 +7,7 @@ mod held;
 mod holding;
 pub mod laws;
 mod making;
+pub mod serving;
 mod stop;
 
 pub use asks::{Asks, Step};

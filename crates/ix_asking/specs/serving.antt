@@ -1,0 +1,5 @@
+pub mod Serving
+pub mod Texts
+pub mod Telling
+pub mod Serveds
+pub mod Privately
