@@ -1,4 +1,5 @@
-mod OneMore
-mod Lines
-mod Joined
-mod Texts
+pub mod OneMore
+pub mod Lines
+pub mod Joined
+pub mod Texts
+pub mod Fronts

@@ -1,4 +1,5 @@
 pub mod Serving
+pub mod Messages
 pub mod Texts
 pub mod Telling
 pub mod Serveds
