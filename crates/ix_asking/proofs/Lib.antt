@@ -3,3 +3,4 @@ pub mod Lines
 pub mod Joined
 pub mod Texts
 pub mod Fronts
+pub mod Words
