@@ -2,6 +2,7 @@
 //! the policy's rule that allows it.
 #![tactic(auto)]
 
+pub mod laws;
 mod message;
 mod server;
 mod serving;
