@@ -4,3 +4,4 @@ pub mod Joined
 pub mod Texts
 pub mod Fronts
 pub mod Words
+pub mod Privacy
