@@ -1,2 +1,4 @@
 pub mod Users
 pub mod Requests
+pub mod Privacy
+pub mod Rules
