@@ -7,6 +7,7 @@ ghost use Rattle.ix_asking.specs.serving.Serving.{Server};
 ghost use Rattle.ix_privserv.specs.Messages.{wanted};
 ghost use Rattle.ix_privserv.specs.Requests.{IsRead};
 ghost use Rattle.ix_privserv.specs.Serving.{serves};
+ghost use Rattle.ix_privserv.specs.Worked.{WantsDown};
 
 /// A set is read from a message exactly where the message is a request for it. Of any other message the place that is told is the
 /// length of its longest front that some request begins with.
@@ -17,4 +18,9 @@ pub fn messages_are_read()
 /// Under a first answer that fits a claim, `NotPrivate` comes of serving exactly where that answer is half a claim.
 pub fn private_at_half()
     ensures { (rules : List Rule) (s : Server) → NotPrivateAtHalf s (serves rules s) }
+{}
+
+/// One request, worked out.
+pub fn worked()
+    ensures { WantsDown }
 {}

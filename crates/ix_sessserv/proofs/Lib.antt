@@ -2,3 +2,4 @@ pub mod Users
 pub mod Requests
 pub mod Privacy
 pub mod Rules
+pub mod Worked

@@ -10,6 +10,7 @@ ghost use Rattle.ix_asking.specs.serving.Serving.{Server};
 ghost use Rattle.ix_sessserv.specs.Messages.{user_in};
 ghost use Rattle.ix_sessserv.specs.Requests.{IsRead};
 ghost use Rattle.ix_sessserv.specs.Serving.{serves};
+ghost use Rattle.ix_sessserv.specs.Worked.{GrantIsRefused};
 
 /// A user is read from a message exactly where the message asks for a session of that user. Of any other message the place that is
 /// told is the length of its longest front that some request begins with.
@@ -26,4 +27,9 @@ pub fn private_at_half()
 pub fn allowing_rules_are_there()
     ensures { (rules : List Rule) (q : Request) → (decide rules q).allow ≡ true
         → (r : Rule) × (numbered rules (decide rules q).rule ≡ Some r) × (r.allow ≡ true) }
+{}
+
+/// One request, worked out.
+pub fn worked()
+    ensures { GrantIsRefused }
 {}
