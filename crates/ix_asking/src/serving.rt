@@ -10,4 +10,4 @@ mod text;
 pub use deciding::decided;
 pub use ended::served;
 pub use outcome::Outcome;
-pub use telling::{Telling, tell};
+pub use telling::{Telling, tell, untold};

@@ -3,7 +3,6 @@
 
 pub mod laws;
 mod message;
-
 mod server;
 mod serving;
 

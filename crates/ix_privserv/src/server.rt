@@ -7,7 +7,7 @@ ghost use Rattle.ix_privserv.specs.Places.{asks_at, most_at};
 ghost use Rattle.ix_privserv.specs.Serving.{on_message};
 
 use crate::message::{bad_at, wanted};
-use ix_asking::serving::{Outcome, Telling, decided, tell};
+use ix_asking::serving::{Outcome, Telling, decided, tell, untold};
 use ix_asking::{Asks, Step};
 use ix_label::Label;
 use ix_model::{Call, Fd, Pid, PrivSet, Reply};
@@ -45,16 +45,12 @@ fn on_claim(reply: &Reply) -> At
     ensures fewer { most_at result < 5 }
 {
     match reply {
-        Reply::No(why) => At::Tell(Telling::Done {
-            outcome: Outcome::Refused { why: *why, step: 1 },
-        }),
+        Reply::No(why) => At::Tell(untold(Outcome::Refused { why: *why, step: 1 })),
         Reply::Whole { pid, label, .. } => At::Read {
             client: *pid,
             label: *label,
         },
-        _ => At::Tell(Telling::Done {
-            outcome: Outcome::NotPrivate,
-        }),
+        _ => At::Tell(untold(Outcome::NotPrivate)),
     }
 }
 
@@ -110,9 +106,7 @@ impl At {
         match self {
             At::Claim => on_claim(reply),
             At::Read { client, label } => match reply {
-                Reply::No(why) => At::Tell(Telling::Done {
-                    outcome: Outcome::Refused { why: *why, step: 2 },
-                }),
+                Reply::No(why) => At::Tell(untold(Outcome::Refused { why: *why, step: 2 })),
                 _ => on_message(policy, *client, *label, bytes),
             },
             At::Grant { client, rule, .. } => At::Tell(on_grant(*client, *rule, reply)),

@@ -8,7 +8,7 @@ ghost use Rattle.ix_sessserv.specs.Serving.{all_five, child_in, clear_of, drop_a
 
 use crate::message::{bad_at, user_in};
 use bitflags::Flags;
-use ix_asking::serving::{Outcome, Telling, decided, tell};
+use ix_asking::serving::{Outcome, Telling, decided, tell, untold};
 use ix_asking::{Asks, Step};
 use ix_label::Label;
 use ix_model::{Call, Fd, Keep, Pid, PrivSet, Refusal, Reply};
@@ -89,16 +89,12 @@ fn on_claim(reply: &Reply) -> At
     ensures fewer { most_at result < 9 }
 {
     match reply {
-        Reply::No(why) => At::Tell(Telling::Done {
-            outcome: Outcome::Refused { why: *why, step: 1 },
-        }),
+        Reply::No(why) => At::Tell(untold(Outcome::Refused { why: *why, step: 1 })),
         Reply::Whole { pid, label, .. } => At::Read {
             client: *pid,
             label: *label,
         },
-        _ => At::Tell(Telling::Done {
-            outcome: Outcome::NotPrivate,
-        }),
+        _ => At::Tell(untold(Outcome::NotPrivate)),
     }
 }
 
@@ -211,9 +207,7 @@ impl At {
         match self {
             At::Claim => on_claim(reply),
             At::Read { client, label } => match reply {
-                Reply::No(why) => At::Tell(Telling::Done {
-                    outcome: Outcome::Refused { why: *why, step: 2 },
-                }),
+                Reply::No(why) => At::Tell(untold(Outcome::Refused { why: *why, step: 2 })),
                 _ => on_message(policy, *client, *label, bytes),
             },
             At::Fork { rule } => on_fork(*rule, reply),
@@ -263,12 +257,7 @@ impl Asks for SessServer<'_> {
                     keep: Keep::One(self.hand),
                 },
             ),
-            At::Drop { child, .. } => (
-                *child,
-                Call::DropLic {
-                    set: all_five(),
-                },
-            ),
+            At::Drop { child, .. } => (*child, Call::DropLic { set: all_five() }),
             At::Ceiling { child, rule } => (
                 server,
                 Call::SetCeiling {

@@ -29,5 +29,9 @@ pub fn serve<S: Sys>(
         × (length more ≤ 9)
         × Ends S.stops S.stopped (next (serves policy.now (record { line = line; pid = server.0; fd = fd.0 }) hand) (answers_of more)) sys.old sys.new (end_of result) }
 {
-    served(run(sys, &mut SessServer::new(line, server, fd, hand, policy), buf))
+    served(run(
+        sys,
+        &mut SessServer::new(line, server, fd, hand, policy),
+        buf,
+    ))
 }

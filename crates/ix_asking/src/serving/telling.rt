@@ -55,6 +55,13 @@ pub fn tell(outcome: Outcome) -> Telling
     }
 }
 
+/// Comes out so, and the client isn't told.
+pub fn untold(outcome: Outcome) -> Telling
+    ensures { result ≡ Telling.Done outcome }
+{
+    Telling::Done { outcome }
+}
+
 impl Telling {
     /// What stands next, where the server with this end of a pipe serves in that line.
     pub fn next(&self, line: u32, server: Pid, fd: Fd) -> Step<'_, Outcome>
