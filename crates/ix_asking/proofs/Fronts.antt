@@ -1,5 +1,5 @@
 -- The longest front of a text that passes a test.
-use Rattle.std.proofs.Common.{◌≡◌, ℕ, suc, zero, ◌-◌, ◌+◌, ◌<◌, ◌≤◌, Bool, true, false, cond, List, [], ◌∷◌, length, take, refl, arith, ap, subst, sym, ◌∙◌}
+use Rattle.std.proofs.Common.{◌≡◌, ℕ, suc, zero, ◌-◌, ◌<◌, ◌≤◌, Bool, true, false, cond, List, [], length, take, refl, arith, ap, sym, ◌∙◌}
 use Rattle.std.proofs.Math.Arith.{le_of_le-suc-ne}
 use Rattle.ix_asking.specs.serving.Messages.{longest_front, longest_up_to}
 use Rattle.ix_asking.specs.serving.Requests.{Begins, IsLongest}

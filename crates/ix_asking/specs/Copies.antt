@@ -1,5 +1,5 @@
 -- The line `copy`.
-use Rattle.std.specs.Prelude.{ℕ, List, [], ◌∷◌, take}
+use Rattle.std.specs.Prelude.{ℕ, List, [], ◌∷◌}
 use Rattle.ix_model.specs.history.Events as op
 use Rattle.ix_model.specs.declared.ids.Fd.{Fd}
 use Rattle.ix_model.specs.declared.ids.Pid.{Pid}

@@ -1,5 +1,5 @@
 -- Nothing private comes of half a claim alone.
-use Rattle.std.proofs.Common.{◌≡◌, ℕ, List, Option, Some, None}
+use Rattle.std.proofs.Common.{ℕ, List, Option, Some, None}
 use Rattle.ix_label.specs.Category.{Categories}
 use Rattle.ix_model.specs.declared.ids.Pid.{Pid}
 use Rattle.ix_model.specs.declared.privs.PrivSet.{PrivSet}

@@ -1,6 +1,6 @@
 -- The worked request.
 use Rattle.std.proofs.Common.{◌≡◌, true, codes, Some, refl}
-use Rattle.ix_label.specs.Category.{bottom, leq}
+use Rattle.ix_label.specs.Category.{bottom}
 use Rattle.ix_label.specs.Lattice.{bottom-leq}
 use Rattle.ix_model.specs.world.Privs.{has_all}
 use Rattle.ix_model.specs.declared.privs.PrivSet.{PrivSet}

@@ -1,5 +1,5 @@
 -- Nothing private comes of half a claim alone.
-use Rattle.std.proofs.Common.{◌≡◌, ℕ, Bool, true, false, List, Option, Some, None, if◌then◌else◌}
+use Rattle.std.proofs.Common.{ℕ, Bool, true, false, List, Option, Some, None, if◌then◌else◌}
 use Rattle.ix_label.specs.Category.{Categories}
 use Rattle.ix_model.specs.world.Privs.{is_empty}
 use Rattle.ix_model.specs.declared.ids.Fd.{Fd}

@@ -1,5 +1,5 @@
 -- The rule that allows.
-use Rattle.std.proofs.Common.{◌≡◌, ℕ, suc, ◌+◌, Bool, true, false, List, [], ◌∷◌, Option, Some, None, refl, ap, sym, ◌∙◌, arith, slice_get, if◌then◌else◌}
+use Rattle.std.proofs.Common.{◌≡◌, ℕ, suc, ◌+◌, Bool, true, false, List, [], ◌∷◌, Some, refl, ap, ◌∙◌, arith, slice_get, if◌then◌else◌}
 use Rattle.ix_policy.specs.Deciding.{decide, decide_from, matches, numbered}
 use Rattle.ix_policy.specs.declared.request.Request.{Request}
 use Rattle.ix_policy.specs.declared.request.Verdict.{Verdict}

@@ -1,6 +1,6 @@
 -- The worked request.
 use Rattle.std.proofs.Common.{◌≡◌, true, codes, Some, refl}
-use Rattle.ix_label.specs.Category.{bottom, leq}
+use Rattle.ix_label.specs.Category.{bottom}
 use Rattle.ix_label.specs.Lattice.{bottom-leq}
 use Rattle.ix_text.specs.Names.{is_script_name, name_of}
 use Rattle.ix_policy.specs.Deciding.{decide, decide_from, matches}

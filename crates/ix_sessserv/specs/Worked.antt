@@ -1,5 +1,5 @@
 -- One request to the session server, worked out: what is asked for under these answers, and what comes of it.
-use Rattle.std.specs.Prelude.{◌≡◌, ℕ, true, List, [], ◌∷◌, ◌++◌, Some, None, codes}
+use Rattle.std.specs.Prelude.{◌≡◌, true, List, [], ◌∷◌, ◌++◌, Some, None, codes}
 use Rattle.std.specs.Fmt.{decimal}
 use Rattle.ix_label.specs.Category.{bottom}
 use Rattle.ix_model.specs.history.Events.{Op}
