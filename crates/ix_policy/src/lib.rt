@@ -7,8 +7,10 @@ mod policy;
 mod reading;
 mod request;
 mod rule;
+mod served;
 
 pub use fault::{Field, PolicyFault};
 pub use policy::Policy;
 pub use request::{Request, Verdict};
 pub use rule::{Act, Rule};
+pub use served::Served;

@@ -22,7 +22,8 @@ fn all_in_name(word: &[u8]) -> bool
         .all(|b| is_letter(*b) || is_digit(*b) || *b == b'_')
 }
 
-fn is_reserved(word: &[u8]) -> bool
+/// Whether the word is `all`, `none` or `as`, which are no names.
+pub fn is_reserved(word: &[u8]) -> bool
     ensures { result ≡ is_reserved word.now }
 {
     is(word, b"all") || is(word, b"none") || is(word, b"as")

@@ -1,0 +1,16 @@
+//! Calls that are asked for one at a time, each by the answers to those before it, and what makes them on a system.
+#![tactic(auto)]
+
+mod asks;
+mod copying;
+mod held;
+mod holding;
+pub mod laws;
+mod making;
+pub mod serving;
+mod stop;
+
+pub use asks::{Asks, Step};
+pub use copying::Copying;
+pub use making::{count_in, make_next, run};
+pub use stop::Stop;

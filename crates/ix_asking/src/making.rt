@@ -1,0 +1,61 @@
+ghost use Rattle.std.specs.Prelude.{◌≡◌, ◌≤◌, ◌+◌, List, length};
+ghost use Rattle.ix_model.specs.history.Made.{Made};
+ghost use Rattle.ix_asking.specs.Asking.{all_heard, first, next};
+ghost use Rattle.ix_asking.specs.Runs.{answers_of, count_in, Ends, Makes, Turn};
+
+use crate::asks::{Asks, Step};
+use crate::stop::Stop;
+use ix_model::{Answer, Buf, Reply, Sys};
+
+/// How many bytes a reply says were read.
+pub fn count_in(reply: &Reply) -> usize
+    ensures { result ≡ count_in reply.now }
+{
+    match reply {
+        Reply::Bytes(k) => *k as usize,
+        _ => 0,
+    }
+}
+
+/// Makes the call that stands next on the system of its seat, and lets what asked for it hear the answer: `Ok(None)`. Where none
+/// stands next it is `Ok(Some(..))` of what came of all, and nothing is called. After a stop both are as they were, but for the
+/// count of stops.
+pub fn make_next<S: Sys, A: Asks>(
+    sys: &mut S,
+    asks: &mut A,
+    buf: &mut Buf,
+) -> Result<Option<A::Came>, Stop>
+    ensures { (more : List Made) × Makes S.seat S.made S.follows (A.asking asks.old) sys.old sys.new more
+        × (A.asking asks.new ≡ all_heard (A.asking asks.old) (answers_of more))
+        × (length more + A.most asks.new ≤ A.most asks.old)
+        × Turn S.stops S.stopped (first (A.asking asks.old)) sys.old sys.new more result }
+{
+    let answer = match asks.next() {
+        Step::Came(came) => return Ok(Some(came)),
+        Step::Call { line, pid, call } => sys.call(line, pid, &call, buf),
+    };
+    match answer {
+        Answer::Given(reply) => {
+            asks.hear(&reply, &buf[..count_in(&reply)]);
+            Ok(None)
+        }
+        Answer::JournalFull { used, need, cap } => Err(Stop::Full { used, need, cap }),
+        Answer::NoMemory => Err(Stop::NoMemory),
+    }
+}
+
+/// Makes the calls that are asked for, each once the one before it is answered, until nothing more is asked for, and answers what
+/// came of all. After a stop no more is called.
+pub fn run<S: Sys, A: Asks>(sys: &mut S, asks: &mut A, buf: &mut Buf) -> Result<A::Came, Stop>
+    ensures { (more : List Made) × Makes S.seat S.made S.follows (A.asking asks.old) sys.old sys.new more
+        × (A.asking asks.new ≡ all_heard (A.asking asks.old) (answers_of more))
+        × (length more + A.most asks.new ≤ A.most asks.old)
+        × Ends S.stops S.stopped (next (A.asking asks.old) (answers_of more)) sys.old sys.new result }
+{
+    'turns: loop {
+        match make_next(sys, asks, buf)? {
+            Some(came) => return Ok(came),
+            None => {}
+        }
+    }
+}

@@ -1,0 +1,4 @@
+pub mod Letters
+pub mod Requests
+pub mod Privacy
+pub mod Worked

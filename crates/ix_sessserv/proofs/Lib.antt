@@ -1,0 +1,5 @@
+pub mod Users
+pub mod Requests
+pub mod Privacy
+pub mod Rules
+pub mod Worked

@@ -1,0 +1,37 @@
+ghost use Rattle.std.specs.Prelude.{◌≡◌, ◌≤◌, List, length};
+ghost use Rattle.ix_model.specs.history.Made.{Made};
+ghost use Rattle.ix_asking.specs.Asking.{next};
+ghost use Rattle.ix_asking.specs.Runs.{answers_of, Ends, Makes};
+ghost use Rattle.ix_asking.specs.serving.Serveds.{end_of};
+ghost use Rattle.ix_sessserv.specs.Serving.{serves};
+
+use crate::server::SessServer;
+use ix_asking::run;
+use ix_asking::serving::served;
+use ix_model::{Buf, Fd, Pid, Sys};
+use ix_policy::{Policy, Served};
+
+/// Serves one request for a session: the server, with this end of a pipe, makes a child for the user that the process at the other
+/// end names, where the policy allows it. The child gets the descriptor `hand` alone, the ceiling of the rule and its privileges.
+///
+/// The calls that are made, at most nine, are those that the server asks for as they are answered, and the answer is what comes of
+/// them. It is `Full` or `NoMemory` exactly where the next call stopped; then nothing more is called. It takes no memory.
+pub fn serve<S: Sys>(
+    sys: &mut S,
+    line: u32,
+    server: Pid,
+    fd: Fd,
+    hand: Fd,
+    policy: &Policy,
+    buf: &mut Buf,
+) -> Served
+    ensures { (more : List Made) × Makes S.seat S.made S.follows (serves policy.now (record { line = line; pid = server.0; fd = fd.0 }) hand) sys.old sys.new more
+        × (length more ≤ 9)
+        × Ends S.stops S.stopped (next (serves policy.now (record { line = line; pid = server.0; fd = fd.0 }) hand) (answers_of more)) sys.old sys.new (end_of result) }
+{
+    served(run(
+        sys,
+        &mut SessServer::new(line, server, fd, hand, policy),
+        buf,
+    ))
+}
