@@ -1,4 +1,6 @@
 pub mod Pairs
-pub mod Replies
+pub mod Handing
 pub mod Asked
+pub mod LineAsks
+pub mod Ruled
 pub mod Places

@@ -1,5 +1,6 @@
 //! The calls that lines ask for, and the names that stand in them.
 
 pub mod calls;
+pub mod handed;
 pub mod numbers;
 pub mod places;

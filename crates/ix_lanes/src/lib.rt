@@ -7,7 +7,6 @@ pub mod laws;
 mod lines;
 mod running;
 
-pub use asking::calls::count_in;
 pub use lanes::{lanes_in, seat_past};
 pub use lines::{line_at, role_at};
 pub use running::lane_run::LaneRun;

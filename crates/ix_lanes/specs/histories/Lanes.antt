@@ -1,5 +1,5 @@
 -- The histories of a script: those that hold each lane's calls in order, and among them the one whose lines never go back.
-use Rattle.std.specs.Prelude.{◌≡◌, ℕ, suc, ◌+◌, ◌<◌, ◌==◌, nat_lt, nat_le, Bool, true, false, ◌&&◌, List, [], ◌∷◌, length, filter, Option, Some, None, if◌then◌else◌}
+use Rattle.std.specs.Prelude.{◌≡◌, ℕ, suc, ◌+◌, ◌<◌, ◌==◌, nat_lt, nat_le, Bool, true, false, ◌&&◌, List, [], ◌∷◌, length, filter, Option, None, if◌then◌else◌}
 use Rattle.std.specs.Option.{option_map_or}
 use Rattle.std.specs.List.{list_all}
 use Rattle.ix_model.specs.world.World.{World}
@@ -9,15 +9,14 @@ use Rattle.ix_model.specs.history.Events.{Event}
 use Rattle.ix_script.specs.lines.Before.{lanes_of}
 use Rattle.ix_script.specs.scripts.Scripts.{config_of}
 use Rattle.ix_script.specs.declared.line.Line.{Line}
-use Rattle.ix_lanes.specs.asking.Asked.{Answered, Names, Numbers, asked, asked_then, named, no_names}
-use Rattle.ix_lanes.specs.histories.Serial.{answered, entry_of, header_of, seat_after}
+use Rattle.ix_asking.specs.Asking.{Answered, Asking}
+use Rattle.ix_asking.specs.Lines.{Calls, calls_then, no_calls}
+use Rattle.ix_lanes.specs.asking.Asked.{Names, no_names}
+use Rattle.ix_lanes.specs.asking.LineAsks.{Numbered, lines_ask}
+use Rattle.ix_lanes.specs.asking.Ruled.{rules_told}
+use Rattle.ix_lanes.specs.histories.Serial.{answered, header_of, seat_after}
 
 -- ---- what a lane asks for
--- a line with its number
-pub record Numbered : Type 0 where
-  pub number : ℕ
-  pub said : Line
-
 abbrev pub is_seat : ℕ → Option ℕ → Bool
 is_seat seat at = option_map_or (λ s. s == seat) at false
 
@@ -28,34 +27,13 @@ lines_of_seat lanes seat n at (l ∷ lines) =
     if is_seat seat at then (record { number = n; said = l }) ∷ lines_of_seat lanes seat (suc n) (seat_after lanes at l) lines
     else lines_of_seat lanes seat (suc n) (seat_after lanes at l) lines
 
--- entries, and the one that is asked for after them
-pub record Calls : Type 0 where
-  pub entries : List Event
-  pub next : Option Event
-
-abbrev pub with_entry_first : Event → Calls → Calls
-with_entry_first e calls = record calls { entries = e ∷ calls.entries }
-
--- an entry that is asked for, and where there is an answer to it what comes after that
-abbrev pub asks_for : Event → List Answered → (Answered → List Answered → Calls) → Calls
-asks_for e [] more = record { entries = []; next = Some e }
-asks_for e (r ∷ answers) more = with_entry_first e (more r answers)
-
--- what lines ask for when they are answered so, in order
-abbrev pub calls_from : Numbers → ℕ → Names → List Numbered → List Answered → Calls
-calls_from header seat names [] answers = record { entries = []; next = None }
-calls_from header seat names (l ∷ lines) answers =
-    elim (asked header names l.said) [
-      | None ↦ calls_from header seat names lines answers
-      | Some a ↦ asks_for (entry_of seat l.number a) answers (λ r rest. elim (asked_then header names l.said r) [
-        | None ↦ calls_from header seat (named names l.said r.reply) lines rest
-        | Some b ↦ asks_for (entry_of seat l.number b) rest (λ q later. calls_from header seat (named names l.said r.reply) lines later)
-      ])
-    ]
+-- what all lines of a seat's lane ask for
+unfoldable pub lane_asks : List Line → ℕ → Asking Names
+lane_asks s seat = lines_ask (rules_told s) (header_of s) no_names (lines_of_seat (lanes_of s) seat 1 None s)
 
 -- the entries that the lines of a seat's lane make when they are answered so, in order, and the one that is asked for after them
-unfoldable pub calls_of : List Line → ℕ → List Answered → Calls
-calls_of s seat answers = calls_from (header_of s) seat no_names (lines_of_seat (lanes_of s) seat 1 None s) answers
+abbrev pub calls_of : List Line → ℕ → List Answered → Calls
+calls_of s seat answers = calls_then seat (lane_asks s seat) answers no_calls
 
 -- ---- histories
 -- the entries of a seat

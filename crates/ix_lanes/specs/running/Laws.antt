@@ -1,7 +1,7 @@
 -- The law of phases.
 use Rattle.std.specs.Prelude.{◌≡◌, ℕ, List}
 use Rattle.ix_script.specs.declared.line.Line.{Line}
-use Rattle.ix_lanes.specs.asking.Asked.{Answered}
+use Rattle.ix_asking.specs.Asking.{Answered}
 use Rattle.ix_lanes.specs.histories.Lanes.{calls_of}
 use Rattle.ix_lanes.specs.running.Phases.{phases, calls_before}
 

@@ -1,15 +1,15 @@
 ghost use Rattle.std.specs.Prelude.{◌≡◌, ◌≤◌, take, true};
 ghost use Rattle.std.specs.Option.{option_map};
 ghost use Rattle.ix_model.specs.history.Calls.{event_of};
-ghost use Rattle.ix_lanes.specs.asking.Asked.{asked, asked_then, both_bound, bound, first_in, named, number_in, second_in, written};
+ghost use Rattle.ix_lanes.specs.asking.Asked.{asked, both_bound, bound, first_in, named, number_in, second_in, written};
 ghost use Rattle.ix_script.specs.lines.Before.{listed, listed_two};
 ghost use Rattle.ix_lanes.specs.asking.Places.{given, has_all, has_places, KeepsNames, KeepsPlaces, standing};
-ghost use Rattle.ix_lanes.specs.asking.Replies.{count_in};
-ghost use Rattle.ix_lanes.specs.histories.Serial.{entry_of};
+ghost use Rattle.ix_asking.specs.Runs.{entry_of};
 
+use crate::asking::handed::Handed;
 use crate::asking::numbers::Numbers;
 use crate::asking::places::{Places, fill};
-use ix_model::{Buf, Call, Entry, Reply};
+use ix_model::{Buf, Call, Entry};
 use ix_script::{Line, NameWord};
 
 /// Puts the bytes that a line writes, where it is a `write` line, at the front of a buffer, and answers how many they are.
@@ -27,7 +27,7 @@ pub fn put_written(line: &Line<'_>, buf: &mut Buf) -> usize
     }
 }
 
-/// The entry of the first call that a line of a seat's lane asks for, if it asks for one. It borrows the script's text and these bytes,
+/// The entry of the call that a line of a seat's lane asks for, if it is a command of one call. It borrows the script's text and these bytes,
 /// which are those that the line writes: nothing is copied.
 #[tactic(auto, unfolding(crate::specs::asking::Asked::asked))]
 pub fn call_of<'a>(
@@ -39,7 +39,7 @@ pub fn call_of<'a>(
     bytes: &'a [u8],
 ) -> Option<Entry<'a>>
     requires { bytes.now ≡ written line.now }
-    ensures { option_map event_of result ≡ option_map (entry_of seat number) (asked header.now (standing places.now) line.now) }
+    ensures { option_map event_of result ≡ option_map (entry_of seat) (asked header.now (standing places.now) number line.now) }
 {
     let (proc, call) = match line {
         Line::Create { proc, path } => (proc, Call::CreateAt { path: path.path() }),
@@ -189,18 +189,6 @@ pub fn call_of<'a>(
             },
         ),
         Line::Readlog { proc, index } => (proc, Call::ReadLog { index: *index }),
-        Line::Copy {
-            proc,
-            from,
-            count,
-            ..
-        } => (
-            proc,
-            Call::ReadFd {
-                fd: places.fd_of(from),
-                count: *count,
-            },
-        ),
         _ => return None,
     };
     Some(Entry {
@@ -211,132 +199,89 @@ pub fn call_of<'a>(
     })
 }
 
-/// How many bytes a reply says were read.
-pub fn count_in(reply: &Reply) -> usize
-    ensures { result ≡ count_in reply.now }
+/// The descriptor that is handed, or one that no process has.
+fn fd_in(handed: &Handed) -> u8
+    ensures { result ≡ number_in 255 255 handed.now }
 {
-    match reply {
-        Reply::Bytes(k) => *k as usize,
-        _ => 0,
-    }
-}
-
-/// The entry of the second call that a line of a seat's lane asks for, if it asks for one once its first call was answered and the
-/// bytes that it gave are at the front of a buffer.
-#[tactic(auto, unfolding(crate::specs::asking::Asked::asked_then))]
-pub fn call_then<'a>(
-    header: &Numbers<u32>,
-    places: &Places,
-    seat: u32,
-    number: u32,
-    line: &Line<'_>,
-    reply: &Reply,
-    buf: &'a Buf,
-) -> Option<Entry<'a>>
-    requires { count_in reply.now ≤ 4096 }
-    ensures { option_map event_of result ≡ option_map (entry_of seat number)
-        (asked_then header.now (standing places.now) line.now (record { reply = reply.now; bytes = take (count_in reply.now) buf.now })) }
-{
-    let Line::Copy { proc, to, .. } = line else {
-        return None;
-    };
-    let count = count_in(reply);
-    if count == 0 {
-        return None;
-    }
-    Some(Entry {
-        seat,
-        line: number,
-        pid: places.pid_of(header, proc),
-        call: Call::WriteFd {
-            fd: places.fd_of(to),
-            bytes: &buf[..count],
-        },
-    })
-}
-
-/// The descriptor that a reply says, or one that no process has.
-fn fd_in(reply: &Reply) -> u8
-    ensures { result ≡ number_in 255 255 reply.now }
-{
-    match reply {
-        Reply::Number(n) => { if *n > 255 { 255 } else { *n as u8 } }
+    match handed {
+        Handed::Number(n) => { if *n > 255 { 255 } else { *n as u8 } }
         _ => 255,
     }
 }
 
-/// The pid that a reply says, or one that no process has.
-fn pid_in(reply: &Reply) -> u32
-    ensures { result ≡ number_in 4294967295 0 reply.now }
+/// The pid that is handed, or one that no process has.
+fn pid_in(handed: &Handed) -> u32
+    ensures { result ≡ number_in 4294967295 0 handed.now }
 {
-    match reply {
-        Reply::Number(n) => { if *n > 4294967295 { 0 } else { *n as u32 } }
+    match handed {
+        Handed::Number(n) => { if *n > 4294967295 { 0 } else { *n as u32 } }
         _ => 0,
     }
 }
 
-/// The descriptors of both ends that a reply says, or twice one that no process has.
-fn fds_in(reply: &Reply) -> (u8, u8)
-    ensures first { result.0 ≡ first_in reply.now }
-    ensures second { result.1 ≡ second_in reply.now }
+/// The descriptors of both ends that are handed, or twice one that no process has.
+fn fds_in(handed: &Handed) -> (u8, u8)
+    ensures first { result.0 ≡ first_in handed.now }
+    ensures second { result.1 ≡ second_in handed.now }
 {
-    match reply {
-        Reply::Two(first, second) => (first.0, second.0),
+    match handed {
+        Handed::Two(first, second) => (first.0, second.0),
         _ => (255, 255),
     }
 }
 
-/// Lets a name, if there is one, stand for the descriptor that the reply says.
-fn bind_fd(fds: &mut Numbers<Option<u8>>, name: &Option<NameWord<'_>>, reply: &Reply)
+/// Lets a name, if there is one, stand for the descriptor that is handed.
+fn bind_fd(fds: &mut Numbers<Option<u8>>, name: &Option<NameWord<'_>>, handed: &Handed)
     requires { has_all fds.old (listed name.now) ≡ true }
-    ensures set { given fds.new ≡ bound name.now (number_in 255 255 reply.now) (given fds.old) }
+    ensures set { given fds.new ≡ bound name.now (number_in 255 255 handed.now) (given fds.old) }
     ensures keeps { KeepsNames fds.old fds.new }
 {
     if let Some(name) = name {
-        fill(fds, name, fd_in(reply));
+        fill(fds, name, fd_in(handed));
     }
 }
 
-/// Lets a name, if there is one, stand for the pid that the reply says.
-fn bind_proc(procs: &mut Numbers<Option<u32>>, name: &Option<NameWord<'_>>, reply: &Reply)
+/// Lets a name, if there is one, stand for the pid that is handed.
+fn bind_proc(procs: &mut Numbers<Option<u32>>, name: &Option<NameWord<'_>>, handed: &Handed)
     requires { has_all procs.old (listed name.now) ≡ true }
-    ensures set { given procs.new ≡ bound name.now (number_in 4294967295 0 reply.now) (given procs.old) }
+    ensures set { given procs.new ≡ bound name.now (number_in 4294967295 0 handed.now) (given procs.old) }
     ensures keeps { KeepsNames procs.old procs.new }
 {
     if let Some(name) = name {
-        fill(procs, name, pid_in(reply));
+        fill(procs, name, pid_in(handed));
     }
 }
 
-/// Lets the names of both ends of a pipe, if there are any, stand for what the reply says.
+/// Lets the names of both ends of a pipe, if there are any, stand for what is handed.
 fn bind_both(
     fds: &mut Numbers<Option<u8>>,
     two: &Option<(NameWord<'_>, NameWord<'_>)>,
-    reply: &Reply,
+    handed: &Handed,
 )
     requires { has_all fds.old (listed_two two.now) ≡ true }
-    ensures set { given fds.new ≡ both_bound two.now reply.now (given fds.old) }
+    ensures set { given fds.new ≡ both_bound two.now handed.now (given fds.old) }
     ensures keeps { KeepsNames fds.old fds.new }
 {
     if let Some((first_name, second_name)) = two {
-        let (first, second) = fds_in(reply);
+        let (first, second) = fds_in(handed);
         fill(fds, first_name, first);
         fill(fds, second_name, second);
     }
 }
 
-/// Lets the names that stand after `as`, if any do, stand for what the reply says.
+/// Lets the names that stand after `as`, if any do, stand for what is handed.
 #[tactic(auto, unfolding(crate::specs::asking::Asked::named, crate::specs::asking::Places::has_places))]
-pub fn bind(places: &mut Places, line: &Line<'_>, reply: &Reply)
+pub fn bind(places: &mut Places, line: &Line<'_>, handed: &Handed)
     requires { has_places places.old line.now ≡ true }
-    ensures set { standing places.new ≡ named (standing places.old) line.now reply.now }
+    ensures set { standing places.new ≡ named (standing places.old) line.now handed.now }
     ensures keeps { KeepsPlaces places.old places.new }
 {
     match line {
-        Line::Open { named, .. } => bind_fd(&mut places.fds, named, reply),
-        Line::Dup { named, .. } => bind_fd(&mut places.fds, named, reply),
-        Line::Pipe { named, .. } => bind_both(&mut places.fds, named, reply),
-        Line::Fork { named, .. } => bind_proc(&mut places.procs, named, reply),
+        Line::Open { named, .. } => bind_fd(&mut places.fds, named, handed),
+        Line::Dup { named, .. } => bind_fd(&mut places.fds, named, handed),
+        Line::Pipe { named, .. } => bind_both(&mut places.fds, named, handed),
+        Line::Fork { named, .. } => bind_proc(&mut places.procs, named, handed),
+        Line::Login { named, .. } => bind_proc(&mut places.procs, named, handed),
         _ => {}
     }
 }

@@ -1,5 +1,5 @@
 ghost use Rattle.std.specs.Prelude.{◌≡◌, ◌≤◌, ◌<◌, suc, List, true, length, take, IfOk, IfErr, OnOk, OnErr};
-ghost use Rattle.ix_model.specs.history.Made.{Made};
+ghost use Rattle.std.proofs.Common.{option_map};
 ghost use Rattle.ix_script.specs.lines.Before.{lanes_of};
 ghost use Rattle.ix_script.specs.lines.Roles.{role_of};
 ghost use Rattle.ix_lanes.specs.asking.Asked.{no_names};
@@ -7,8 +7,9 @@ ghost use Rattle.ix_lanes.specs.asking.Places.{has_places, KeepsPlaces, standing
 ghost use Rattle.ix_lanes.specs.histories.Indexed.{line_in};
 ghost use Rattle.ix_lanes.specs.histories.Lanes.{is_seat};
 ghost use Rattle.ix_lanes.specs.running.Fields.{all_placed};
-ghost use Rattle.ix_lanes.specs.running.Lines.{LinesCut, LinesDone, Makes, Stops};
-ghost use Rattle.ix_lanes.specs.running.Phases.{lane_among, seat_at};
+ghost use Rattle.ix_lanes.specs.asking.LineAsks.{lines_ask};
+ghost use Rattle.ix_lanes.specs.running.Lines.{Cut, Done};
+ghost use Rattle.ix_lanes.specs.running.Phases.{lane_among, lane_between, seat_at};
 
 use crate::asking::numbers::Numbers;
 use crate::asking::places::Places;
@@ -16,7 +17,9 @@ use crate::lanes::{header_of, seat_past};
 use crate::lines::{line_at, role_at};
 use crate::running::line::run_line;
 use crate::running::phases::phase_end;
+use ix_asking::Stop;
 use ix_model::{Answer, NoMemory, Sys};
+use ix_policy::Policy;
 use ix_script::{Role, Script};
 use std::alloc::Global;
 use std::marker::Model;
@@ -62,48 +65,45 @@ fn places_of(alloc: Global, script: &Script, lane: u32) -> Result<Places, NoMemo
     Ok(places)
 }
 
-/// Runs the lines of a lane from one index to another, where those before are done, and answers the seat of the lane in which
-/// the next line stands.
+/// Runs the lines of a lane from one index to another, and answers the seat of the lane in which the next line stands.
 fn run_lines<S: Sys>(
     script: &Script,
     lane: u32,
+    policy: Option<&Policy>,
     header: &Numbers<u32>,
     places: &mut Places,
     sys: &mut S,
     first_seat: Option<u32>,
     first: u32,
     end: u32,
-) -> Result<Option<u32>, Answer>
+) -> Result<Option<u32>, Stop>
     requires within { (first ≤ end) × (end ≤ length script.now) }
     requires at { first_seat ≡ seat_at script.now (take first script.now) }
     requires seat { S.seat sys.old ≡ lane }
     requires places { all_placed places.old (lane_among script.now lane script.now) ≡ true }
-    requires so_far { LinesDone header.now lane no_names (lane_among script.now lane (take first script.now)) (S.made sys.old) (standing places.old) }
     ensures at { IfOk result (λ after. after ≡ seat_at script.now (take end script.now)) }
-    ensures made { IfOk result (λ after. (more : List Made) × Makes S.seat S.made S.stops S.follows sys.old sys.new more) }
-    ensures done { IfOk result (λ after. LinesDone header.now lane no_names (lane_among script.now lane (take end script.now)) (S.made sys.new) (standing places.new)) }
-    ensures stop { IfErr result (λ stop. (more : List Made) × Stops S.seat S.made S.stops S.stopped S.follows sys.old sys.new more stop) }
-    ensures cut { IfErr result (λ stop. LinesCut header.now lane no_names (lane_among script.now lane (take end script.now)) (S.made sys.new) stop) }
+    ensures done { IfOk result (λ after. Done S.seat S.made S.stops S.stopped S.follows
+        (lines_ask (option_map (λ p. p.now) policy.entry) header.now (standing places.old) (lane_between script.now lane first end)) sys.old sys.new (standing places.new)) }
+    ensures cut { IfErr result (λ stop. Cut S.seat S.made S.stops S.stopped S.follows
+        (lines_ask (option_map (λ p. p.now) policy.entry) header.now (standing places.old) (lane_between script.now lane first end)) sys.old sys.new stop) }
     ensures keeps { KeepsPlaces places.old places.new }
 {
     let mut seat = first_seat;
     let mut payload = [0; 4096];
     let mut buf = [0; 4096];
-    let mut spare = [0; 4096];
     for index in first..end {
         let role = role_at(script, index);
         if is_lane(seat, lane) {
-            let line = line_at(script, index);
             run_line(
                 sys,
+                policy,
                 header,
                 places,
                 lane,
                 index + 1,
-                &line,
+                &line_at(script, index),
                 &mut payload,
                 &mut buf,
-                &mut spare,
             )?;
         }
         seat = seat_past(script, seat, index, role);
@@ -116,6 +116,7 @@ fn run_lines<S: Sys>(
 #[derive(Drop)]
 pub struct LaneRun<'a> {
     script: &'a Script,
+    policy: Option<&'a Policy>,
     lane: u32,
     done: u32,
     /// The index of the first line that isn't done.
@@ -131,6 +132,7 @@ impl<'a> Model for LaneRun<'a> {
     ghost use Rattle.ix_label.specs.contracts.label.Label as label_type;
     ghost use Rattle.ix_lanes.specs.asking.Asked.{names_code};
     ghost use Rattle.ix_lanes.specs.asking.Places.{standing};
+    ghost use Rattle.std.proofs.Common.{option_map};
     ghost use Rattle.ix_lanes.specs.running.Fields.{IsRun};
     ghost use Rattle.ix_lanes.specs.running.Runs.{Ran};
 
@@ -140,7 +142,7 @@ impl<'a> Model for LaneRun<'a> {
 
     ghost view = { λ r. record { script = r.script.now; lane = r.lane; done = r.done; names = standing r.places } };
 
-    ghost invariant = { λ r. IsRun r.script.now r.lane r.done r.next r.seat r.header r.places };
+    ghost invariant = { λ r. IsRun r.script.now r.lane r.done r.next r.seat r.header r.places (option_map (λ p. p.now) r.policy) };
 }
 
 impl<'a> LaneRun<'a> {
@@ -148,13 +150,22 @@ impl<'a> LaneRun<'a> {
     ghost use mathlib.Core.List.{IsPrefix};
     ghost use Rattle.ix_model.specs.history.Systems.{one_more};
     ghost use Rattle.ix_script.specs.lines.Before.{lanes_of};
+    ghost use Rattle.std.proofs.Common.{option_map};
     ghost use Rattle.ix_lanes.specs.asking.Asked.{no_names};
+    ghost use Rattle.ix_lanes.specs.asking.Ruled.{rules_told};
     ghost use Rattle.ix_lanes.specs.running.Phases.{phases};
     ghost use Rattle.ix_lanes.specs.running.Runs.{CutOff, StandsFor};
 
-    /// A run of the lane of a number, which has done no phase. It takes all the memory that the run needs.
-    pub fn new(alloc: Global, script: &'a Script, lane: u32) -> Result<LaneRun<'a>, NoMemory>
-        requires { lane < length (lanes_of script.now) }
+    /// A run of the lane of a number, which has done no phase, by the script's policy, if it has one. It takes all the memory that the
+    /// run needs.
+    pub fn new(
+        alloc: Global,
+        script: &'a Script,
+        lane: u32,
+        policy: Option<&'a Policy>,
+    ) -> Result<LaneRun<'a>, NoMemory>
+        requires lane { lane < length (lanes_of script.now) }
+        requires policy { option_map (λ p. p.now) policy ≡ rules_told script.now }
         ensures new { IfOk result (λ run. run ≡ record { script = script.now; lane = lane; done = 0; names = no_names }) }
         ensures stands { IfOk result (λ run. StandsFor run []) }
     {
@@ -162,6 +173,7 @@ impl<'a> LaneRun<'a> {
         let places = places_of(alloc, script, lane)?;
         Ok(LaneRun {
             script,
+            policy,
             lane,
             done: 0,
             next: 0,
@@ -192,6 +204,7 @@ impl<'a> LaneRun<'a> {
         let ran = run_lines(
             self.script,
             self.lane,
+            self.policy,
             &self.header,
             &mut self.places,
             sys,
@@ -206,7 +219,7 @@ impl<'a> LaneRun<'a> {
                 self.seat = seat;
                 None
             }
-            Err(stop) => Some(stop),
+            Err(stop) => Some(stop.answer()),
         }
     }
 }
