@@ -1,7 +1,9 @@
 pub mod LaneLines
 pub mod PhaseLines
-pub mod Appended
+pub mod Making
+pub mod Between
 pub mod OneMore
+pub mod Placed
+pub mod Served
 pub mod PhaseRuns
 pub mod SideBySide
-pub mod OneLine

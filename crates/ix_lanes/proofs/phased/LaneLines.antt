@@ -6,7 +6,8 @@ use Rattle.std.proofs.lemmas.Option.{slice_get_within, get_or_from_slice_get}
 use Rattle.ix_script.specs.lines.Before.{lanes_of}
 use Rattle.ix_script.specs.declared.line.Line.{Line}
 use Rattle.ix_lanes.specs.histories.Serial.{seat_after}
-use Rattle.ix_lanes.specs.histories.Lanes.{Numbered, is_seat, lines_of_seat}
+use Rattle.ix_lanes.specs.asking.LineAsks.{Numbered}
+use Rattle.ix_lanes.specs.histories.Lanes.{is_seat, lines_of_seat}
 use Rattle.ix_lanes.specs.running.Phases.{lane_among, seat_at}
 
 -- one line, where it stands in the lane
@@ -29,7 +30,7 @@ lane-append lanes seat n at (l ∷ xs) ys = go (lane-append lanes seat (suc n) (
     go later true is = rw is (ap (λ ls. (record { number = n; said = l }) ∷ ls) later)
     go later false is = rw is later
 
-one_of : (lanes : List (List ℕ)) (seat n : ℕ) (at : Option ℕ) (l : Line) → lines_of_seat lanes seat n at (l ∷ []) ≡ mine seat n at l
+pub one_of : (lanes : List (List ℕ)) (seat n : ℕ) (at : Option ℕ) (l : Line) → lines_of_seat lanes seat n at (l ∷ []) ≡ mine seat n at l
 one_of lanes seat n at l = go (is_seat seat at) refl
   where
     go : (b : Bool) → is_seat seat at ≡ b → lines_of_seat lanes seat n at (l ∷ []) ≡ mine seat n at l
@@ -53,3 +54,10 @@ lane_one_more s seat i l at =
 
 pub seat_one_more : (s : List Line) (i : ℕ) (l : Line) → slice_get s i ≡ Some l → seat_at s (take (i + 1) s) ≡ seat_after (lanes_of s) (seat_at s (take i s)) l
 seat_one_more s i l at = ap (seat_at s) (one_more s i l at) ∙ fold-append (seat_after (lanes_of s)) None (take i s) (l ∷ [])
+
+-- a line of the lane, and one of no lane or of another
+pub mine-here : (seat n : ℕ) (at : Option ℕ) (l : Line) → is_seat seat at ≡ true → mine seat n at l ≡ (record { number = n; said = l }) ∷ []
+mine-here seat n at l is = rw is refl
+
+pub mine-not : (seat n : ℕ) (at : Option ℕ) (l : Line) → is_seat seat at ≡ false → mine seat n at l ≡ []
+mine-not seat n at l is = rw is refl

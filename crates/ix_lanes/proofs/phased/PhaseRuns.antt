@@ -1,34 +1,73 @@
--- What a run stands for, by its lines.
-use Rattle.std.proofs.Common.{◌≡◌, ℕ, suc, List, [], None, refl, sym, ap}
+-- What a run stands for, phase by phase.
+use Rattle.std.proofs.Common.{◌≡◌, ℕ, suc, List, [], ◌++◌, length, None, refl, sym, ap, ◌∙◌, subst}
 use Rattle.ix_model.specs.history.Made.{Made}
 use Rattle.ix_model.specs.declared.reply.Answer.{Answer}
-use Rattle.ix_script.specs.declared.line.Line.{Line}
-use Rattle.ix_lanes.specs.asking.Asked.{Answered, Names, no_names}
-use Rattle.ix_lanes.specs.histories.Serial.{header_of}
-use Rattle.ix_lanes.specs.histories.Lanes.{calls_of, calls_from, lines_of_seat}
 use Rattle.ix_script.specs.lines.Before.{lanes_of}
-use Rattle.ix_lanes.specs.running.Phases.{calls_before, lane_before, names_before, phases}
-use Rattle.ix_lanes.specs.running.Lines.{LinesCut, LinesDone}
-use Rattle.ix_lanes.specs.running.Runs.{CutOff, Ran, StandsFor}
-use Rattle.ix_lanes.proofs.phased.PhaseLines.{before-all}
+use Rattle.ix_script.specs.declared.line.Line.{Line}
+use Rattle.ix_asking.specs.declared.stop.Stop.{Stop}
+use Rattle.ix_asking.specs.Asking.{Answered, Asking, Next, Came, Due, all_heard, first, followed, next}
+use Rattle.ix_asking.specs.Lines.{calls_then, no_calls}
+use Rattle.ix_asking.specs.Runs.{answer_at, answers_of, AsAsked, StopsAt}
+use Rattle.ix_asking.proofs.OneMore.{asked_after, heard_after}
+use Rattle.ix_lanes.specs.asking.Asked.{Names, no_names}
+use Rattle.ix_lanes.specs.asking.LineAsks.{Numbered, lines_ask}
+use Rattle.ix_lanes.specs.asking.Ruled.{rules_told}
+use Rattle.ix_lanes.specs.histories.Serial.{header_of}
+use Rattle.ix_lanes.specs.histories.Lanes.{calls_of, lane_asks, lines_of_seat}
+use Rattle.ix_lanes.specs.running.Phases.{asks_before, calls_before, lane_before, lane_between, lines_before, phases}
+use Rattle.ix_lanes.specs.running.Runs.{CutOff, IsStoppedBy, Ran, StandsFor}
+use Rattle.ix_lanes.proofs.phased.Between.{asks_append, between_split}
+use Rattle.ix_lanes.proofs.phased.Making.{asked_followed, heard_followed}
+use Rattle.ix_lanes.proofs.phased.PhaseLines.{before-all, before-few, before-grows, before-taken, first-lines}
 
 pub stands_first : (s : List Line) (lane : ℕ) (names : Names) → names ≡ no_names → StandsFor (record { script = s; lane = lane; done = 0; names = names }) []
-unfolding calls_before names_before
-stands_first s lane names is = record { calls = refl; names = sym is }
-
-pub from_stands : (run : Ran) (made : List Made) → StandsFor run made → LinesDone (header_of run.script) run.lane no_names (lane_before run.script run.lane run.done) made run.names
-unfolding calls_before names_before
-from_stands run made h = record { calls = h.calls; names = h.names }
-
-pub to_stands : (run : Ran) (made : List Made) → LinesDone (header_of run.script) run.lane no_names (lane_before run.script run.lane run.done) made run.names → StandsFor run made
-unfolding calls_before names_before
-to_stands run made h = record { calls = h.calls; names = h.names }
-
-pub to_cut : (run : Ran) (made : List Made) (stop : Answer) → LinesCut (header_of run.script) run.lane no_names (lane_before run.script run.lane (suc run.done)) made stop → CutOff run made stop
-unfolding calls_before
-to_cut run made stop h = record { next = h.next; calls = h.calls; full = h.full }
+unfolding asks_before
+stands_first s lane names is = record { asked = tt; came = ap Came (sym is) }
 
 -- all phases have all lines
+pub all_asks : (s : List Line) (seat : ℕ) → asks_before s seat (phases s) ≡ lane_asks s seat
+unfolding asks_before lane_asks
+all_asks s seat = ap (λ lines. lines_ask (rules_told s) (header_of s) no_names (lines_of_seat (lanes_of s) seat 1 None lines)) (before-all s)
+
 pub all_phases : (s : List Line) (seat : ℕ) (answers : List Answered) → calls_before s seat (phases s) answers ≡ calls_of s seat answers
-unfolding calls_before calls_of
-all_phases s seat answers = ap (λ lines. calls_from (header_of s) seat no_names (lines_of_seat (lanes_of s) seat 1 None lines) answers) (before-all s)
+all_phases s seat answers = ap (λ p. calls_then seat p answers no_calls) (all_asks s seat)
+
+-- ---- one phase more
+-- what the lane asks for in the next phase, with these names at its beginning
+abbrev pub next_asks : List Line → ℕ → ℕ → Names → Asking Names
+next_asks s lane k names = lines_ask (rules_told s) (header_of s) names (lane_between s lane (length (lines_before k s)) (length (lines_before (suc k) s)))
+
+module _ (s : List Line) (lane k : ℕ) where
+  -- in one phase more it asks for that besides
+  phase_asks : asks_before s lane (suc k) ≡ followed (asks_before s lane k) (next_asks s lane k)
+  unfolding asks_before
+  phase_asks =
+      let i = length (lines_before k s) in
+      let j = length (lines_before (suc k) s) in
+      ap (λ ls. lines_ask (rules_told s) (header_of s) no_names (lines_of_seat (lanes_of s) lane 1 None ls)) (before-taken s (suc k))
+      ∙ ap (lines_ask (rules_told s) (header_of s) no_names) (between_split s lane i j (before-grows s k) (before-few s (suc k)))
+      ∙ ap (λ ls. lines_ask (rules_told s) (header_of s) no_names (lines_of_seat (lanes_of s) lane 1 None ls ++ lane_between s lane i j)) (sym (before-taken s k))
+      ∙ asks_append (rules_told s) (header_of s) (lane_before s lane k) (lane_between s lane i j) no_names
+
+  module _ (names : Names) (made more : List Made) (h : StandsFor (record { script = s; lane = lane; done = k; names = names }) made) (asked : AsAsked lane (next_asks s lane k names) more) where
+    left : all_heard (asks_before s lane (suc k)) (answers_of made) ≡ next_asks s lane k names
+    left = ap (λ p. all_heard p (answers_of made)) phase_asks ∙ heard_followed (next_asks s lane k) lane (asks_before s lane k) made names h.asked h.came
+
+    asked_both : AsAsked lane (asks_before s lane (suc k)) (made ++ more)
+    asked_both =
+        asked_after lane (asks_before s lane (suc k)) made more
+        (subst (λ (p : Asking Names). AsAsked lane p made) (sym phase_asks) (asked_followed (next_asks s lane k) lane (asks_before s lane k) made h.asked))
+        (subst (λ (p : Asking Names). AsAsked lane p more) (sym left) asked)
+
+    next_both : next (asks_before s lane (suc k)) (answers_of (made ++ more)) ≡ next (next_asks s lane k names) (answers_of more)
+    next_both = ap first (heard_after (asks_before s lane (suc k)) made more ∙ ap (λ p. all_heard p (answers_of more)) left)
+
+    pub stands_next : (after : Names) → next (next_asks s lane k names) (answers_of more) ≡ Came after → StandsFor (record { script = s; lane = lane; done = suc k; names = after }) (made ++ more)
+    stands_next after is = record { asked = asked_both; came = next_both ∙ is }
+
+    pub cut_next : (stop : Stop) → StopsAt (next (next_asks s lane k names) (answers_of more)) stop → CutOff (record { script = s; lane = lane; done = k; names = names }) (made ++ more) (answer_at stop)
+    cut_next stop is = record { asked = asked_both; stopped = subst (λ (n : Next Names). IsStoppedBy n (answer_at stop)) (sym next_both) (stopped_by (next (next_asks s lane k names) (answers_of more)) stop is) }
+      where
+        stopped_by : (n : Next Names) (stop : Stop) → StopsAt n stop → IsStoppedBy n (answer_at stop)
+        stopped_by (Came r) stop h = absurd h
+        stopped_by (Due a) stop h = h

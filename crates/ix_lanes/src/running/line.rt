@@ -1,9 +1,14 @@
 ghost use Rattle.std.specs.Prelude.{◌≡◌, true, IfOk, IfErr, Some};
 ghost use Rattle.std.proofs.Common.{option_map};
 ghost use Rattle.ix_model.specs.history.Calls.{event_of};
+ghost use Rattle.ix_asking.specs.Asking.{mapped};
+ghost use Rattle.ix_asking.specs.Copies.{copies};
+ghost use Rattle.ix_privserv.specs.Serving as privileges;
+ghost use Rattle.ix_sessserv.specs.Serving as sessions;
 ghost use Rattle.ix_lanes.specs.asking.Asked.{asked, named};
+ghost use Rattle.ix_lanes.specs.asking.Handing.{who_in};
 ghost use Rattle.ix_lanes.specs.declared.asking.handed.Handed.{Handed};
-ghost use Rattle.ix_lanes.specs.asking.LineAsks.{asked_by, line_asks, one_call};
+ghost use Rattle.ix_lanes.specs.asking.LineAsks.{asked_by, by_rules, gives_nothing, line_asks, one_call};
 ghost use Rattle.ix_lanes.specs.asking.Places.{has_places, KeepsPlaces, standing};
 ghost use Rattle.ix_lanes.specs.running.Lines.{Cut, Done};
 
@@ -11,8 +16,8 @@ use crate::asking::calls::{bind, call_of, put_written};
 use crate::asking::handed::{Handed, handed_in, who_in};
 use crate::asking::numbers::Numbers;
 use crate::asking::places::Places;
-use ix_asking::{Copying, Stop, run};
-use ix_model::{Answer, Buf, Entry, Sys};
+use ix_asking::{Asks, Copying, Stop, run};
+use ix_model::{Answer, Buf, Entry, Fd, Pid, Sys};
 use ix_policy::Policy;
 use ix_privserv::PrivServer;
 use ix_script::Line;
@@ -57,9 +62,79 @@ fn run_command<'a, S: Sys>(
     }
 }
 
+/// Makes all calls that are asked for, each once the one before it is answered, and answers what came of them.
+fn make_all<S: Sys, A: Asks>(sys: &mut S, asks: &mut A, buf: &mut Buf) -> Result<A::Came, Stop>
+    ensures done { IfOk result (λ came. Done S.seat S.made S.stops S.stopped S.follows (A.asking asks.old) sys.old sys.new came) }
+    ensures cut { IfErr result (λ stop. Cut S.seat S.made S.stops S.stopped S.follows (A.asking asks.old) sys.old sys.new stop) }
+{
+    run(sys, asks, buf)
+}
+
+/// A `copy`, which holds what it has read in the first buffer.
+fn copy<S: Sys>(
+    sys: &mut S,
+    number: u32,
+    pid: Pid,
+    from: Fd,
+    to: Fd,
+    count: u32,
+    held: &mut Buf,
+    buf: &mut Buf,
+) -> Result<Handed, Stop>
+    ensures done { IfOk result (λ handed. Done S.seat S.made S.stops S.stopped S.follows (gives_nothing (copies number pid from to count)) sys.old sys.new handed) }
+    ensures cut { IfErr result (λ stop. Cut S.seat S.made S.stops S.stopped S.follows (gives_nothing (copies number pid from to count)) sys.old sys.new stop) }
+{
+    match make_all(sys, &mut Copying::new(number, pid, from, to, count, held), buf) {
+        Ok(_) => Ok(Handed::Nothing),
+        Err(stop) => Err(stop),
+    }
+}
+
+/// The privilege server serves one request by the policy, where there is one.
+fn serve_privileges<S: Sys>(
+    sys: &mut S,
+    policy: Option<&Policy>,
+    number: u32,
+    server: Pid,
+    fd: Fd,
+    buf: &mut Buf,
+) -> Result<Handed, Stop>
+    ensures done { IfOk result (λ handed. Done S.seat S.made S.stops S.stopped S.follows (by_rules (option_map (λ p. p.now) policy.entry) (λ r. gives_nothing (privileges.serves r (record { line = number; pid = server.0; fd = fd.0 })))) sys.old sys.new handed) }
+    ensures cut { IfErr result (λ stop. Cut S.seat S.made S.stops S.stopped S.follows (by_rules (option_map (λ p. p.now) policy.entry) (λ r. gives_nothing (privileges.serves r (record { line = number; pid = server.0; fd = fd.0 })))) sys.old sys.new stop) }
+{
+    let Some(policy) = policy else {
+        return Ok(Handed::Nothing);
+    };
+    match make_all(sys, &mut PrivServer::new(number, server, fd, policy), buf) {
+        Ok(_) => Ok(Handed::Nothing),
+        Err(stop) => Err(stop),
+    }
+}
+
+/// The session server serves one request by the policy, where there is one. The child gets the descriptor `hand` alone.
+fn serve_session<S: Sys>(
+    sys: &mut S,
+    policy: Option<&Policy>,
+    number: u32,
+    server: Pid,
+    fd: Fd,
+    hand: Fd,
+    buf: &mut Buf,
+) -> Result<Handed, Stop>
+    ensures done { IfOk result (λ handed. Done S.seat S.made S.stops S.stopped S.follows (by_rules (option_map (λ p. p.now) policy.entry) (λ r. mapped who_in (sessions.serves r (record { line = number; pid = server.0; fd = fd.0 }) hand))) sys.old sys.new handed) }
+    ensures cut { IfErr result (λ stop. Cut S.seat S.made S.stops S.stopped S.follows (by_rules (option_map (λ p. p.now) policy.entry) (λ r. mapped who_in (sessions.serves r (record { line = number; pid = server.0; fd = fd.0 }) hand))) sys.old sys.new stop) }
+{
+    let Some(policy) = policy else {
+        return Ok(Handed::Nothing);
+    };
+    match make_all(sys, &mut SessServer::new(number, server, fd, hand, policy), buf) {
+        Ok(outcome) => Ok(who_in(&outcome)),
+        Err(stop) => Err(stop),
+    }
+}
+
 /// Makes the calls of a line, if it asks for any, and answers what comes of it for its names. What the line writes, or a `copy` has
 /// read, is put into the first buffer.
-#[tactic(auto, unfolding(crate::specs::asking::LineAsks::line_asks))]
 fn make_calls<'a, S: Sys>(
     sys: &mut S,
     policy: Option<&Policy>,
@@ -79,41 +154,20 @@ fn make_calls<'a, S: Sys>(
         Line::Copy {
             proc,
             from,
-            count,
             to,
+            count,
         } => {
             let pid = places.pid_of(header, proc);
             let (from, to) = (places.fd_of(from), places.fd_of(to));
-            run(
-                sys,
-                &mut Copying::new(number, pid, from, to, *count, payload),
-                buf,
-            )?;
-            Ok(Handed::Nothing)
+            copy(sys, number, pid, from, to, *count, payload, buf)
         }
         Line::Priv { proc, fd } => {
-            let Some(policy) = policy else {
-                return Ok(Handed::Nothing);
-            };
-            let (pid, fd) = (places.pid_of(header, proc), places.fd_of(fd));
-            run(sys, &mut PrivServer::new(number, pid, fd, policy), buf)?;
-            Ok(Handed::Nothing)
+            let (server, fd) = (places.pid_of(header, proc), places.fd_of(fd));
+            serve_privileges(sys, policy, number, server, fd, buf)
         }
         Line::Login { proc, fd, hand, .. } => {
-            let Some(policy) = policy else {
-                return Ok(Handed::Nothing);
-            };
-            let (pid, fd, hand) = (
-                places.pid_of(header, proc),
-                places.fd_of(fd),
-                places.fd_of(hand),
-            );
-            let outcome = run(
-                sys,
-                &mut SessServer::new(number, pid, fd, hand, policy),
-                buf,
-            )?;
-            Ok(who_in(&outcome))
+            let (server, fd) = (places.pid_of(header, proc), places.fd_of(fd));
+            serve_session(sys, policy, number, server, fd, places.fd_of(hand), buf)
         }
         _ => run_command(sys, header, places, seat, number, line, payload, buf),
     }

@@ -9,7 +9,7 @@ use Rattle.ix_lanes.specs.running.Fields.{all_placed}
 use Rattle.ix_lanes.specs.running.Phases.{lane_among}
 use Rattle.ix_lanes.proofs.found.Roles.{line-there}
 use Rattle.ix_lanes.proofs.phased.LaneLines.{seat_one_more}
-use Rattle.ix_lanes.proofs.phased.OneMore.{placed-here, placed-not}
+use Rattle.ix_lanes.proofs.phased.Placed.{placed-here, placed-not}
 use Rattle.ix_lanes.proofs.running.lane_run.places_of.Goals.{then-is_lane+in_ok-add_names, else-is_lane}
 use Rattle.ix_lanes.proofs.running.lane_run.places_of.Goals as goal
 

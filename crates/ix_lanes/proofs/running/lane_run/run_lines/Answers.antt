@@ -1,25 +1,36 @@
-use Rattle.std.proofs.Common.{rules, ◌++◌, List, take, Some, sym, ap, ◌∙◌, arith}
+use Rattle.std.proofs.Common.{rules, ◌++◌, List, take, Some, option_map, sym, ap, ◌∙◌, arith}
 use Rattle.ix_script.specs.declared.line.Line.{Line}
 use Rattle.ix_script.specs.lines.Before.{lanes_of}
-use Rattle.ix_lanes.specs.asking.Asked.{no_names}
+use Rattle.ix_lanes.specs.asking.LineAsks.{lines_ask}
 use Rattle.ix_lanes.specs.asking.Places.{standing}
 use Rattle.ix_lanes.specs.histories.Indexed.{line_in}
 use Rattle.ix_lanes.specs.histories.Lanes.{is_seat}
 use Rattle.ix_lanes.specs.histories.Serial.{seat_after}
-use Rattle.ix_lanes.specs.running.Lines.{LinesCut, Stops}
-use Rattle.ix_lanes.specs.running.Phases.{lane_among}
+use Rattle.ix_lanes.specs.running.Lines.{Cut}
+use Rattle.ix_lanes.specs.running.Phases.{lane_among, lane_between}
 use Rattle.ix_lanes.proofs.found.Roles.{line-there}
 use Rattle.ix_lanes.proofs.phased.LaneLines.{seat_one_more}
-use Rattle.ix_lanes.proofs.phased.OneMore.{keeps-lines, line-cut, line-here, line-not, makes-then, placed-line, stops-then}
+use Rattle.ix_lanes.proofs.phased.OneMore.{line_cut, line_here, line_not, lines_none}
+use Rattle.ix_lanes.proofs.phased.Placed.{keeps-lines, placed-line}
 use Rattle.ix_lanes.proofs.running.lane_run.run_lines.Goals.{then-is_lane+in_ok-run_line, else-is_lane}
 use Rattle.ix_lanes.proofs.running.lane_run.run_lines.Goals as goal
+
+pub loop-index-init : goal.loop-index-init
+loop-index-init g c = record {
+  from = omega arith;
+  within = c.requires.within.0;
+  done = lines_none g.S.Sys.seat g.S.Sys.made g.S.Sys.stops g.S.Sys.stopped g.S.Sys.follows g.S.Sys.reflexive g.S.Sys.transitive
+      (option_map (λ p. p.now) c.args.policy) c.args.header.now c.args.script.now c.args.lane c.args.first (standing c.args.places.now) (omega (arith, c.requires.within.0, c.requires.within.1)) c.args.sys.now;
+  seat = c.requires.at;
+  keeps = λ l h. h;
+}
 
 pub run_line-requires-clause-places : goal.run_line-requires-clause-places
 run_line-requires-clause-places g c =
     let s : List Line = c.args.script.now in
-    let at = line-there s c.loop-index.index (omega (arith, c.loop-index-test.true, c.requires.within.1)) ∙ ap Some (sym c.line_at-line.ensures) in
+    let at = line-there s c.loop-index.index (omega (arith, c.loop-index-test.true, c.requires.within.1)) ∙ ap Some (sym c.line_at.ensures) in
     let seat = sym (ap (is_seat c.args.lane) c.loop-index.invariant.seat) ∙ sym c.is_lane.ensures in
-    placed-line s c.args.lane c.loop-index.index c.line_at-line.result at c.loop-index.places (seat ∙ c.if-is_lane.true)
+    placed-line s c.args.lane c.loop-index.index c.line_at.result at c.loop-index.places (seat ∙ c.if-is_lane.true)
     (keeps-lines c.args.places.now c.loop-index.places c.loop-index.invariant.keeps (lane_among s c.args.lane s) c.requires.places)
 
 pub returns-in_err-run_line-clause-cut : goal.returns-in_err-run_line-clause-cut
@@ -27,21 +38,15 @@ returns-in_err-run_line-clause-cut g c =
     let s : List Line = c.args.script.now in
     let lane = c.args.lane in
     let i = c.loop-index.index in
+    let at = line-there s i (omega (arith, c.loop-index-test.true, c.requires.within.1)) ∙ ap Some (sym c.line_at.ensures) in
     let seat = sym (ap (is_seat lane) c.loop-index.invariant.seat) ∙ sym c.is_lane.ensures in
-    let one = c.in_err-run_line.ensures.cut in
-    let at = line-there s i (omega (arith, c.loop-index-test.true, c.requires.within.1)) ∙ ap Some (sym c.line_at-line.ensures) in
-    let cut : LinesCut c.args.header.now lane no_names (lane_among s lane (take c.args.end s)) (g.S.Sys.made c.run_line.new.sys) c.in_err-run_line.field-0.0 =
-    rw one.1.made (line-cut s lane i c.line_at-line.result at c.args.header.now no_names (standing c.loop-index.places) (g.S.Sys.made c.loop-index.sys) one.0
-    c.in_err-run_line.field-0.0 c.args.end (seat ∙ c.if-is_lane.true) (omega (arith, c.loop-index-test.true)) c.loop-index.invariant.done one.2) in
+    let cut : Cut g.S.Sys.seat g.S.Sys.made g.S.Sys.stops g.S.Sys.stopped g.S.Sys.follows
+        (lines_ask (option_map (λ p. p.now) c.args.policy) c.args.header.now (standing c.args.places.now) (lane_between s lane c.args.first c.args.end)) c.args.sys.now c.run_line.new.sys c.in_err-run_line.field-0.0 =
+    line_cut g.S.Sys.seat g.S.Sys.made g.S.Sys.stops g.S.Sys.stopped g.S.Sys.follows g.S.Sys.reflexive g.S.Sys.transitive
+    (option_map (λ p. p.now) c.args.policy) c.args.header.now s lane c.args.first (standing c.args.places.now) i c.line_at.result c.loop-index.invariant.from at c.args.end
+    (omega (arith, c.loop-index-test.true)) c.requires.within.1 c.args.sys.now c.loop-index.sys c.run_line.new.sys (standing c.loop-index.places) c.in_err-run_line.field-0.0
+    (seat ∙ c.if-is_lane.true) c.loop-index.invariant.done c.in_err-run_line.ensures.cut in
     search (rules, cut)
-
-pub returns-in_err-run_line-clause-stop : goal.returns-in_err-run_line-clause-stop
-returns-in_err-run_line-clause-stop g c =
-    let one = c.in_err-run_line.ensures.cut in
-    let made = c.loop-index.invariant.made in
-    let stop : Stops g.S.Sys.seat g.S.Sys.made g.S.Sys.stops g.S.Sys.stopped g.S.Sys.follows c.args.sys.now c.run_line.new.sys (made.0 ++ one.0) c.in_err-run_line.field-0.0 =
-    stops-then g.S.Sys.seat g.S.Sys.made g.S.Sys.stops g.S.Sys.stopped g.S.Sys.follows g.S.Sys.transitive c.args.sys.now c.loop-index.sys c.run_line.new.sys made.0 one.0 c.in_err-run_line.field-0.0 made.1 one.1 in
-    search (rules, stop)
 
 pub loop-index-preserved : goal.loop-index-preserved
 loop-index-preserved g c =
@@ -52,23 +57,21 @@ loop-index-preserved g c =
     let at = line-there s i (omega (arith, c.loop-index-test.true, c.requires.within.1)) in
     let seat = sym (ap (is_seat lane) c.loop-index.invariant.seat) ∙ sym c.is_lane.ensures in
     record {
+      from = omega (arith, c.loop-index.invariant.from);
       within = omega (arith, c.loop-index-test.true);
-      made = elim c.if-is_lane.branch [
-        | then-is_lane+in_ok-run_line w ↦
-            let one = w.in_ok-run_line.ensures.done in (
-              c.loop-index.invariant.made.0 ++ one.0,
-              rw w.sys-is (makes-then g.S.Sys.seat g.S.Sys.made g.S.Sys.stops g.S.Sys.follows g.S.Sys.transitive _ _ _ _ _ c.loop-index.invariant.made.1 one.1),
-            )
-        | else-is_lane w ↦ rw w.sys-is c.loop-index.invariant.made
-      ];
       done = elim c.if-is_lane.branch [
         | then-is_lane+in_ok-run_line w ↦
             let one = w.in_ok-run_line.ensures.done in
-            rw (w.sys-is, w.places-is, one.1.made)
-            (line-here s lane i w.line_at-line.result (at ∙ ap Some (sym w.line_at-line.ensures)) c.args.header.now no_names (standing c.loop-index.places) (standing w.run_line.new.places) (g.S.Sys.made c.loop-index.sys) one.0 (seat ∙ w.if-is_lane.true) c.loop-index.invariant.done one.2)
+            rw (w.sys-is, w.places-is)
+            (line_here g.S.Sys.seat g.S.Sys.made g.S.Sys.stops g.S.Sys.stopped g.S.Sys.follows g.S.Sys.reflexive g.S.Sys.transitive
+            (option_map (λ p. p.now) c.args.policy) c.args.header.now s lane c.args.first (standing c.args.places.now) i w.line_at.result c.loop-index.invariant.from
+            (at ∙ ap Some (sym w.line_at.ensures)) c.args.sys.now c.loop-index.sys w.run_line.new.sys (standing c.loop-index.places) (standing w.run_line.new.places) one.0
+            (seat ∙ w.if-is_lane.true) c.loop-index.invariant.done one.1 one.2)
         | else-is_lane w ↦
             rw (w.sys-is, w.places-is)
-            (line-not s lane i l at c.args.header.now no_names (standing c.loop-index.places) (g.S.Sys.made c.loop-index.sys) (seat ∙ w.if-is_lane.false) c.loop-index.invariant.done)
+            (line_not g.S.Sys.seat g.S.Sys.made g.S.Sys.stops g.S.Sys.stopped g.S.Sys.follows g.S.Sys.reflexive g.S.Sys.transitive
+            (option_map (λ p. p.now) c.args.policy) c.args.header.now s lane c.args.first (standing c.args.places.now) i l c.loop-index.invariant.from at
+            c.args.sys.now c.loop-index.sys (standing c.loop-index.places) (seat ∙ w.if-is_lane.false) c.loop-index.invariant.done)
       ];
       seat = c.seat_past-seat.ensures ∙ ap (λ a. seat_after (lanes_of s) a l) c.loop-index.invariant.seat ∙ sym (seat_one_more s i l at);
       keeps = elim c.if-is_lane.branch [
