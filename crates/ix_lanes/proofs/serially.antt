@@ -1,5 +1,6 @@
 pub mod Costs
 pub mod LaneSteps
+pub mod LineCalls
 pub mod OneEntry
 pub mod Remains
 pub mod SerialHistories
