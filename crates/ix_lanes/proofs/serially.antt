@@ -4,5 +4,6 @@ pub mod LineCalls
 pub mod OneEntry
 pub mod Remains
 pub mod SerialHistories
+pub mod Told
 pub mod Needs
 pub mod Fitted
