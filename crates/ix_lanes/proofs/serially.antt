@@ -7,3 +7,4 @@ pub mod SerialHistories
 pub mod Told
 pub mod Needs
 pub mod Fitted
+pub mod AllPhases

@@ -9,7 +9,7 @@ use Rattle.ix_model.specs.history.Events.{Event}
 use Rattle.ix_script.specs.lines.Before.{lanes_of}
 use Rattle.ix_script.specs.scripts.Scripts.{config_of}
 use Rattle.ix_script.specs.declared.line.Line.{Line}
-use Rattle.ix_asking.specs.Asking.{Asked, Answered, Asking, Done, Ask}
+use Rattle.ix_asking.specs.Asking.{Answered, Asking, Done, Ask}
 use Rattle.ix_asking.specs.Lines.{Calls}
 use Rattle.ix_asking.specs.Runs.{entry_of}
 use Rattle.ix_asking.proofs.Every.{AllOf}

@@ -1,5 +1,5 @@
 -- The rules by which a script's servers serve.
-use Rattle.std.proofs.Common.{◌≡◌, ℕ, zero, suc, ◌≤◌, List, length, Option, Some, None, Result, Ok, Err, option_and_then, refl, slice_get, sym, subst}
+use Rattle.std.proofs.Common.{◌≡◌, ℕ, zero, suc, ◌≤◌, List, length, Option, Some, None, Result, Ok, Err, option_and_then, refl, slice_get, subst}
 use Rattle.std.specs.Prelude.{IfSome}
 use Rattle.std.specs.Option.{option_map_or}
 use Rattle.std.proofs.lemmas.List.Elements.{All-get_or}
@@ -8,7 +8,6 @@ use Rattle.ix_label.specs.declared.form.Form.{Form}
 use Rattle.ix_label.specs.Category.{bottom}
 use Rattle.ix_label.specs.Forms.{Fits}
 use Rattle.ix_label.proofs.Fitting.{within-bottom, within-fits}
-use Rattle.ix_policy.specs.Deciding.{numbered}
 use Rattle.ix_policy.specs.Policies.{RulesFit, policy}
 use Rattle.ix_policy.specs.declared.fault.PolicyFault.{PolicyFault}
 use Rattle.ix_policy.specs.declared.rule.Rule.{Rule}
