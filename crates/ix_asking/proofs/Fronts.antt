@@ -14,9 +14,9 @@ within_step : (n m : ℕ) (v : Bool) → m ≤ n → cond v (suc n) m ≤ suc n
 within_step n m false h = omega (arith, h)
 within_step n m true h = omega arith
 
-within : (test : List ℕ → Bool) (text : List ℕ) (n : ℕ) → longest_up_to n test text ≤ n
-within test text zero = omega arith
-within test text (suc n) = within_step n (longest_up_to n test text) (test (take (suc n) text)) (within test text n)
+pub longest-within : (test : List ℕ → Bool) (text : List ℕ) (n : ℕ) → longest_up_to n test text ≤ n
+longest-within test text zero = omega arith
+longest-within test text (suc n) = within_step n (longest_up_to n test text) (test (take (suc n) text)) (longest-within test text n)
 
 passes_step : (test : List ℕ → Bool) (text : List ℕ) (n m : ℕ) (v : Bool) → test (take (suc n) text) ≡ v → test (take m text) ≡ true
     → test (take (cond v (suc n) m) text) ≡ true
@@ -43,7 +43,7 @@ pub longest-is : (IsRequest : List ℕ → Type 0) (test : List ℕ → Bool) (m
     → ((text : List ℕ) → test text ≡ true → Begins IsRequest text) → ((text : List ℕ) → Begins IsRequest text → test text ≡ true)
     → test [] ≡ true → IsLongest IsRequest message (longest_front test message)
 longest-is IsRequest test message begins passing none = record {
-  fits = within test message (length message);
+  fits = longest-within test message (length message);
   begins = begins _ (passes test message (length message) none);
   longest = λ k h b. longest test message (length message) k h (passing (take k message) b);
 }

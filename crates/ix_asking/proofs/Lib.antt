@@ -5,3 +5,6 @@ pub mod Texts
 pub mod Fronts
 pub mod Words
 pub mod Privacy
+pub mod Every
+pub mod Serves
+pub mod Costs

@@ -1,7 +1,10 @@
 pub mod Costs
 pub mod LaneSteps
+pub mod LineCalls
 pub mod OneEntry
 pub mod Remains
 pub mod SerialHistories
+pub mod Told
 pub mod Needs
 pub mod Fitted
+pub mod AllPhases

@@ -3,3 +3,4 @@ pub mod Values
 pub mod Fitting
 pub mod Numbering
 pub mod Examples
+pub mod Counting

@@ -2,3 +2,4 @@ pub mod Letters
 pub mod Requests
 pub mod Privacy
 pub mod Worked
+pub mod Asked

@@ -1,5 +1,5 @@
 -- What entries cost, and what the lines need that they come from.
-use Rattle.std.proofs.Common.{◌≡◌, ℕ, ◌+◌, ◌≤◌, ◌==◌, List, [], ◌∷◌, ◌++◌, length, Option, Some, None, refl, subst, arith, if◌then◌else◌, Bool, true, false, min}
+use Rattle.std.proofs.Common.{◌≡◌, ℕ, ◌+◌, ◌≤◌, List, [], ◌∷◌, ◌++◌, length, Option, Some, None, refl, arith, min}
 use Rattle.std.specs.Prelude.{IfSome}
 use Rattle.std.proofs.lemmas.List.Sums.{sum_by-cons, sum_by-append, sum-map}
 use Rattle.std.proofs.lemmas.List.{length-take}
@@ -19,8 +19,21 @@ use Rattle.ix_model.specs.declared.reply.Reply.TheVariants as reply
 use Rattle.ix_script.specs.scripts.Need.{cost_of_line, need}
 use Rattle.ix_script.specs.declared.line.Line.{Line}
 use Rattle.ix_script.specs.declared.line.Line.TheVariants as line
-use Rattle.ix_lanes.specs.asking.Asked.{Answered, Asked, Names, Numbers, asked, asked_then}
-use Rattle.ix_lanes.specs.asking.Replies.{count_in}
+use Rattle.ix_script.specs.declared.line.FdWord.{FdWord}
+use Rattle.ix_policy.specs.declared.rule.Rule.{Rule}
+use Rattle.ix_asking.specs.declared.serving.outcome.Outcome.{Outcome}
+use Rattle.ix_asking.specs.Asking.{Asked, Asking}
+use Rattle.ix_asking.specs.Copies.{copies}
+use Rattle.ix_asking.proofs.Costs.{AreFew, Costs, copy-costs, costs-mapped}
+use Rattle.ix_privserv.specs.Serving as privileges
+use Rattle.ix_privserv.proofs.Asked as privileges_asked
+use Rattle.ix_sessserv.specs.Serving as sessions
+use Rattle.ix_sessserv.proofs.Asked as sessions_asked
+use Rattle.ix_lanes.specs.declared.asking.handed.Handed.{Handed}
+use Rattle.ix_lanes.specs.declared.asking.handed.Handed.TheVariants as handed
+use Rattle.ix_lanes.specs.asking.Asked.{Names, Numbers, asked, fd_of, pid_of}
+use Rattle.ix_lanes.specs.asking.Handing.{who_in}
+use Rattle.ix_lanes.specs.asking.LineAsks.{by_rules, line_asks, one_call, server_of}
 
 -- ---- sums
 pub cost-none : cost_of_history [] ≡ 0
@@ -50,12 +63,7 @@ pub need-cons : (l : Line) (lines : List Line) → need (l ∷ lines) ≡ cost_o
 unfolding need
 need-cons l lines = omega (arith, sum-map cost_of_line (l ∷ lines), sum-map cost_of_line lines, sum_by-cons cost_of_line l lines)
 
--- ---- one line
--- so many bytes are no more than a read may give
-abbrev pub AreFew : Op → ℕ → Type 0
-AreFew (op.ReadFd fd count) n = n ≤ min count 4096
-AreFew _ n = Unit {0}
-
+-- ---- one entry
 read_few : (w : World) (count : ℕ) (b : Option Behind) (r : Reply) (g : Frame) → length (read_answer w count b r g).bytes ≤ count
 unfolding read_answer plainly
 read_few w count (Some e) (reply.Bytes k) g = omega (arith, length-take count (readable w.frame w.content e))
@@ -89,44 +97,56 @@ few_by w place pid _ = tt
 pub few_bytes : (w : World) (place : ℕ) (e : Event) → AreFew e.op (length (step_of w place e).bytes)
 few_bytes w place e = few_by w place e.pid e.op
 
-cost_asked : (header : Numbers) (names : Names) (l : Line) → IfSome (asked header names l) (λ a. cost_of a.op ≤ cost_of_line l)
+-- ---- one line
+cost_asked : (header : Numbers) (names : Names) (n : ℕ) (l : Line) → IfSome (asked header names n l) (λ a. cost_of a.op ≤ cost_of_line l)
 unfolding asked cost_of cost_of_line
-cost_asked header names line.Skipped = tt
-cost_asked header names (line.Version form) = tt
-cost_asked header names (line.Limit w n) = tt
-cost_asked header names (line.Fs name ceiling blocks inodes) = tt
-cost_asked header names (line.Proc name label ceiling cap lic) = tt
-cost_asked header names (line.Dir path label frozen) = tt
-cost_asked header names (line.File path label frozen cap lic bytes) = tt
-cost_asked header names (line.Policy text) = tt
-cost_asked header names line.Phase = tt
-cost_asked header names (line.Lane name) = tt
-cost_asked header names (line.Priv proc fd) = tt
-cost_asked header names (line.Login proc fd hand named) = tt
-cost_asked header names _ = omega arith
+cost_asked header names n line.Skipped = tt
+cost_asked header names n (line.Version form) = tt
+cost_asked header names n (line.Limit w k) = tt
+cost_asked header names n (line.Fs name ceiling blocks inodes) = tt
+cost_asked header names n (line.Proc name label ceiling cap lic) = tt
+cost_asked header names n (line.Dir path label frozen) = tt
+cost_asked header names n (line.File path label frozen cap lic bytes) = tt
+cost_asked header names n (line.Policy text) = tt
+cost_asked header names n line.Phase = tt
+cost_asked header names n (line.Lane name) = tt
+cost_asked header names n (line.Copy proc from to count) = tt
+cost_asked header names n (line.Priv proc fd) = tt
+cost_asked header names n (line.Login proc fd hand named) = tt
+cost_asked header names n _ = omega arith
 
--- what a line asks for first costs no more than the line
-pub first_cost : (header : Numbers) (names : Names) (l : Line) (a : Asked) → asked header names l ≡ Some a → cost_of a.op ≤ cost_of_line l
-first_cost header names l a is = subst (λ o. IfSome o (λ (x : Asked). cost_of x.op ≤ cost_of_line l)) is (cost_asked header names l)
+one_costs : (o : Option Asked) (m : ℕ) → IfSome o (λ a. cost_of a.op ≤ m) → Costs m (one_call o)
+one_costs None m h = tt
+one_costs (Some a) m h = (0, omega (arith, h), λ x few. tt)
 
-write_cost : (b : Bool) (o : Option Asked) (n m : ℕ) → IfSome o (λ a. cost_of a.op + n ≤ m) → IfSome (if b then None else o) (λ a. cost_of a.op + n ≤ m)
-write_cost true o n m h = tt
-write_cost false o n m h = h
+ruled_costs : (rules : Option (List Rule)) (m : ℕ) (serves : List Rule → Asking Handed) → ((r : List Rule) → rules ≡ Some r → Costs m (serves r)) → Costs m (by_rules rules serves)
+ruled_costs None m serves h = tt
+ruled_costs (Some r) m serves h = h r refl
 
-no_second : (o : Option Asked) (n : ℕ) → IfSome o (λ a. AreFew a.op n → Unit {0})
-no_second None n = tt
-no_second (Some a) n = λ few. tt
+module _ (rules : Option (List Rule)) (few : (r : List Rule) → rules ≡ Some r → length r ≤ 256) (header : Numbers) (names : Names) (n : ℕ) where
+  copies_cost : (proc : List ℕ) (from to : FdWord) (count : ℕ) → Costs (cost_of_line (line.Copy proc from to count)) (line_asks rules header names n (line.Copy proc from to count))
+  unfolding line_asks cost_of_line
+  copies_cost proc from to count =
+      costs-mapped (Unit {0}) Handed (λ r. handed.Nothing) (256 + min count 4096)
+      (copies n (record { 0 = pid_of header names proc }) (record { 0 = fd_of names from }) (record { 0 = fd_of names to }) count)
+      (copy-costs n (record { 0 = pid_of header names proc }) (record { 0 = fd_of names from }) (record { 0 = fd_of names to }) count)
 
-cost_then : (header : Numbers) (names : Names) (l : Line) (r : Answered)
-    → IfSome (asked header names l) (λ a. AreFew a.op (length r.bytes) → IfSome (asked_then header names l r) (λ b. cost_of b.op + cost_of a.op ≤ cost_of_line l))
-unfolding asked asked_then cost_of cost_of_line
-cost_then header names (line.Copy proc from to count) r = λ few. write_cost (count_in r.reply == 0) _ _ _ (omega (arith, few))
-cost_then header names l r = no_second (asked header names l) (length r.bytes)
+  priv_costs : (proc : List ℕ) (fd : FdWord) → Costs (cost_of_line (line.Priv proc fd)) (line_asks rules header names n (line.Priv proc fd))
+  unfolding line_asks cost_of_line
+  priv_costs proc fd =
+      ruled_costs rules 656 _ (λ r is. costs-mapped Outcome Handed (λ o. handed.Nothing) 656 (privileges.serves r (server_of header names n proc fd))
+      (privileges_asked.serve-costs r (few r is) (server_of header names n proc fd)))
 
--- both of its calls together cost no more than the line
-pub second_cost : (header : Numbers) (names : Names) (l : Line) (a b : Asked) (r : Answered) → asked header names l ≡ Some a → AreFew a.op (length r.bytes)
-    → asked_then header names l r ≡ Some b → cost_of b.op + cost_of a.op ≤ cost_of_line l
-second_cost header names l a b r is few so =
-    let both : AreFew a.op (length r.bytes) → IfSome (asked_then header names l r) (λ (x : Asked). cost_of x.op + cost_of a.op ≤ cost_of_line l) =
-    subst (λ o. IfSome o (λ (y : Asked). AreFew y.op (length r.bytes) → IfSome (asked_then header names l r) (λ (x : Asked). cost_of x.op + cost_of y.op ≤ cost_of_line l))) is (cost_then header names l r) in
-    subst (λ o. IfSome o (λ (x : Asked). cost_of x.op + cost_of a.op ≤ cost_of_line l)) so (both few)
+  login_costs : (proc : List ℕ) (fd hand : FdWord) (q : Option (List ℕ)) → Costs (cost_of_line (line.Login proc fd hand q)) (line_asks rules header names n (line.Login proc fd hand q))
+  unfolding line_asks cost_of_line
+  login_costs proc fd hand q =
+      ruled_costs rules 1168 _ (λ r is. costs-mapped Outcome Handed who_in 1168 (sessions.serves r (server_of header names n proc fd) (record { 0 = fd_of names hand }))
+      (sessions_asked.serve-costs r (few r is) (server_of header names n proc fd) (record { 0 = fd_of names hand })))
+
+  -- what a line asks for costs no more than the line
+  pub line-costs : (l : Line) → Costs (cost_of_line l) (line_asks rules header names n l)
+  unfolding line_asks
+  line-costs (line.Copy proc from to count) = copies_cost proc from to count
+  line-costs (line.Priv proc fd) = priv_costs proc fd
+  line-costs (line.Login proc fd hand q) = login_costs proc fd hand q
+  line-costs l = one_costs (asked header names n l) (cost_of_line l) (cost_asked header names n l)

@@ -1,5 +1,5 @@
--- What lanes ask for, what they are answered, and the serial history, a line or an entry at a time.
-use Rattle.std.proofs.Common.{◌≡◌, ℕ, suc, ◌+◌, ◌<◌, true, false, List, [], ◌∷◌, length, Option, Some, None, refl, sym, ap, arith, if◌then◌else◌}
+-- What lanes ask for, what they are answered, and their names, a line or an entry at a time.
+use Rattle.std.proofs.Common.{◌≡◌, ℕ, suc, ◌+◌, ◌<◌, true, false, List, [], ◌∷◌, length, Option, Some, refl, sym, arith, if◌then◌else◌}
 use Rattle.std.specs.Prelude.{IfSome}
 use Rattle.std.proofs.lemmas.Bool.{eq-eqb, ne_eqb}
 use Rattle.std.proofs.lemmas.List.{get_or-set_same, get_or-set_other, length-set}
@@ -7,13 +7,17 @@ use Rattle.ix_model.specs.world.Naming.{same_bytes}
 use Rattle.ix_model.specs.world.World.{World}
 use Rattle.ix_model.specs.history.Step.{step_of}
 use Rattle.ix_model.specs.history.Events.{Event}
-use Rattle.ix_model.specs.declared.reply.Reply.{Reply}
-use Rattle.ix_script.specs.lines.Before.{lanes_of}
+use Rattle.ix_policy.specs.declared.rule.Rule.{Rule}
 use Rattle.ix_script.specs.declared.line.Line.{Line}
 use Rattle.ix_script.specs.declared.line.Line.TheVariants as line
-use Rattle.ix_lanes.specs.asking.Asked.{Answered, Asked, Names, Numbers, asked, asked_then, named, no_names}
-use Rattle.ix_lanes.specs.histories.Serial.{answered, entry_of, entry_then, entry_at, header_of, names_of, renamed, seat_after, seat_from, serial_from}
-use Rattle.ix_lanes.specs.histories.Lanes.{Calls, Numbered, asks_for, calls_from, entries_of, lines_of_seat, replies_from, with_entry_first}
+use Rattle.ix_asking.specs.Asking.{Answered}
+use Rattle.ix_asking.specs.Lines.{Calls, calls_then, no_calls}
+use Rattle.ix_asking.proofs.Lines.{calls-followed}
+use Rattle.ix_lanes.specs.declared.asking.handed.Handed.{Handed}
+use Rattle.ix_lanes.specs.asking.Asked.{Names, Numbers, named, no_names}
+use Rattle.ix_lanes.specs.asking.LineAsks.{Numbered, line_asks, lines_ask}
+use Rattle.ix_lanes.specs.histories.Serial.{answered, names_of, renamed, seat_after, seat_from}
+use Rattle.ix_lanes.specs.histories.Lanes.{entries_of, lines_of_seat, replies_from}
 use Rattle.ix_lanes.proofs.found.Indexed.{if_some_below}
 
 -- ---- the lines of a seat's lane
@@ -25,29 +29,17 @@ pub lines-other : (lanes : List (List ℕ)) (k j n : ℕ) (l : Line) (lines : Li
     → lines_of_seat lanes k n (Some j) (l ∷ lines) ≡ lines_of_seat lanes k (suc n) (seat_after lanes (Some j) l) lines
 lines-other lanes k j n l lines apart = rw (ne_eqb j k apart) refl
 
--- ---- what a line asks for
--- what comes after the first answer to a line: its second call, where it asks for one, and the lines after it
-abbrev pub after_first : Numbers → ℕ → ℕ → Names → List Numbered → Option Asked → List Answered → Calls
-after_first header k n names lines None answers = calls_from header k names lines answers
-after_first header k n names lines (Some b) answers = asks_for (entry_of k n b) answers (λ q later. calls_from header k names lines later)
+-- ---- what lines ask for
+-- the calls of lines, from the first of them on
+abbrev pub calls_from : Option (List Rule) → Numbers → ℕ → Names → List Numbered → List Answered → Calls
+calls_from rules header k names lines answers = calls_then k (lines_ask rules header names lines) answers no_calls
 
-pub calls-none : (header : Numbers) (k n : ℕ) (names : Names) (l : Line) (lines : List Numbered) (answers : List Answered) → asked header names l ≡ None
-    → calls_from header k names ((record { number = n; said = l }) ∷ lines) answers ≡ calls_from header k names lines answers
-calls-none header k n names l lines answers is = rw (is, calls_from) refl
-
-same_after : (header : Numbers) (k n : ℕ) (names : Names) (l : Line) (r : Answered) (lines : List Numbered) (answers : List Answered) (o : Option Asked)
-    → elim o [
-      | None ↦ calls_from header k (named names l r.reply) lines answers
-      | Some b ↦ asks_for (entry_of k n b) answers (λ q later. calls_from header k (named names l r.reply) lines later)
-    ] ≡ after_first header k n (named names l r.reply) lines o answers
-same_after header k n names l r lines answers None = refl
-same_after header k n names l r lines answers (Some b) = refl
-
-pub calls-some : (header : Numbers) (k n : ℕ) (names : Names) (l : Line) (lines : List Numbered) (a : Asked) (answers : List Answered) → asked header names l ≡ Some a
-    → calls_from header k names ((record { number = n; said = l }) ∷ lines) answers
-    ≡ asks_for (entry_of k n a) answers (λ r rest. after_first header k n (named names l r.reply) lines (asked_then header names l r) rest)
-calls-some header k n names l lines a [] is = rw (is, calls_from) refl
-calls-some header k n names l lines a (r ∷ answers) is = rw (is, calls_from) (ap (λ c. with_entry_first (entry_of k n a) c) (same_after header k n names l r lines answers (asked_then header names l r)))
+-- those of the first line, and then those of the others
+pub calls-line : (rules : Option (List Rule)) (header : Numbers) (k : ℕ) (names : Names) (l : Numbered) (lines : List Numbered) (answers : List Answered)
+    → calls_from rules header k names (l ∷ lines) answers
+    ≡ calls_then k (line_asks rules header names l.number l.said) answers (λ g rest. calls_from rules header k (named names l.said g) lines rest)
+calls-line rules header k names l lines answers =
+    calls-followed Handed Names k (line_asks rules header names l.number l.said) (λ g. lines_ask rules header (named names l.said g) lines) answers no_calls
 
 -- ---- the entries of a seat, and the replies to them
 pub entries-mine : (k : ℕ) (e : Event) (events : List Event) → e.seat ≡ k → entries_of k (e ∷ events) ≡ e ∷ entries_of k events
@@ -65,35 +57,14 @@ pub replies-other : (w : World) (place k : ℕ) (e : Event) (events : List Event
 replies-other w place k e events apart = rw (ne_eqb e.seat k apart) refl
 
 -- ---- names
-pub names-mine : (names : List Names) (k : ℕ) (l : Line) (r : Reply) → k < length names → names_of (renamed names k l r) k ≡ named (names_of names k) l r
-names-mine names k l r within = get_or-set_same names k (named (names_of names k) l r) no_names within
+pub names-mine : (names : List Names) (k : ℕ) (l : Line) (g : Handed) → k < length names → names_of (renamed names k l g) k ≡ named (names_of names k) l g
+names-mine names k l g within = get_or-set_same names k (named (names_of names k) l g) no_names within
 
-pub names-other : (names : List Names) (j k : ℕ) (l : Line) (r : Reply) → (j ≡ k → ⊥) → names_of (renamed names j l r) k ≡ names_of names k
-names-other names j k l r apart = get_or-set_other names j k (named (names_of names j) l r) no_names (λ e. apart (sym e))
+pub names-other : (names : List Names) (j k : ℕ) (l : Line) (g : Handed) → (j ≡ k → ⊥) → names_of (renamed names j l g) k ≡ names_of names k
+names-other names j k l g apart = get_or-set_other names j k (named (names_of names j) l g) no_names (λ e. apart (sym e))
 
-pub length-renamed : (names : List Names) (k : ℕ) (l : Line) (r : Reply) → length (renamed names k l r) ≡ length names
-length-renamed names k l r = length-set names k (named (names_of names k) l r)
-
--- ---- the serial history
-pub entry-none : (s : List Line) (names : List Names) (k n : ℕ) (l : Line) → asked (header_of s) (names_of names k) l ≡ None → entry_at s names (Some k) n l ≡ None
-entry-none s names k n l is = rw is refl
-
-pub entry-some : (s : List Line) (names : List Names) (k n : ℕ) (l : Line) (a : Asked) → asked (header_of s) (names_of names k) l ≡ Some a → entry_at s names (Some k) n l ≡ Some (entry_of k n a)
-entry-some s names k n l a is = rw is refl
-
-pub serial-none : (s : List Line) (w : World) (place : ℕ) (names : List Names) (seat : Option ℕ) (n : ℕ) (l : Line) (lines : List Line) → entry_at s names seat n l ≡ None
-    → serial_from s w place names seat n (l ∷ lines) ≡ serial_from s w place names (seat_after (lanes_of s) seat l) (suc n) lines
-serial-none s w place names seat n l lines is = rw (is, serial_from) refl
-
-pub serial-one : (s : List Line) (w : World) (place : ℕ) (names : List Names) (seat : Option ℕ) (n : ℕ) (l : Line) (lines : List Line) (e : Event) → entry_at s names seat n l ≡ Some e
-    → entry_then s names l e (answered (step_of w place e)) ≡ None
-    → serial_from s w place names seat n (l ∷ lines) ≡ e ∷ serial_from s (step_of w place e).world (place + 1) (renamed names e.seat l (step_of w place e).reply) (seat_after (lanes_of s) seat l) (suc n) lines
-serial-one s w place names seat n l lines e is so = rw (is, serial_from, so) refl
-
-pub serial-two : (s : List Line) (w : World) (place : ℕ) (names : List Names) (seat : Option ℕ) (n : ℕ) (l : Line) (lines : List Line) (e f : Event) → entry_at s names seat n l ≡ Some e
-    → entry_then s names l e (answered (step_of w place e)) ≡ Some f
-    → serial_from s w place names seat n (l ∷ lines) ≡ e ∷ f ∷ serial_from s (step_of (step_of w place e).world (place + 1) f).world (place + 1 + 1) (renamed names e.seat l (step_of w place e).reply) (seat_after (lanes_of s) seat l) (suc n) lines
-serial-two s w place names seat n l lines e f is so = rw (is, serial_from, so) refl
+pub length-renamed : (names : List Names) (k : ℕ) (l : Line) (g : Handed) → length (renamed names k l g) ≡ length names
+length-renamed names k l g = length-set names k (named (names_of names k) l g)
 
 -- ---- seats
 seat_found : (n : ℕ) (name : List ℕ) (lanes : List (List ℕ)) → IfSome (seat_from n name lanes) (λ s. s < n + length lanes)

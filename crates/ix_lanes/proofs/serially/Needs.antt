@@ -12,11 +12,20 @@ use Rattle.ix_script.specs.lines.Before.{lanes_of}
 use Rattle.ix_script.specs.scripts.Need.{cost_of_line, need}
 use Rattle.ix_script.specs.scripts.Scripts.{config_of}
 use Rattle.ix_script.specs.declared.line.Line.{Line}
-use Rattle.ix_lanes.specs.asking.Asked.{Answered, Asked, Names, Numbers, asked, asked_then, named, no_names}
-use Rattle.ix_lanes.specs.histories.Serial.{entry_of, header_of, seat_after}
-use Rattle.ix_lanes.specs.histories.Lanes.{Calls, Lanes, LanesSoFar, Numbered, calls_from, calls_of, entries_of, lines_of_seat, replies_from, replies_of}
-use Rattle.ix_lanes.proofs.serially.Costs.{AreFew, cost-none, cost-cons, cost-push, need-cons, few_bytes, first_cost, second_cost}
-use Rattle.ix_lanes.proofs.serially.LaneSteps.{after_first, calls-none, calls-some, entries-mine, entries-other, replies-mine, replies-other, lines-mine, lines-other}
+use Rattle.ix_policy.specs.declared.rule.Rule.{Rule}
+use Rattle.ix_asking.specs.Asking.{Answered, Asking, Done, Ask}
+use Rattle.ix_asking.specs.Lines.{Calls, calls_then}
+use Rattle.ix_asking.specs.Runs.{entry_of}
+use Rattle.ix_asking.proofs.Costs.{AreFew, Costs}
+use Rattle.ix_lanes.specs.declared.asking.handed.Handed.{Handed}
+use Rattle.ix_lanes.specs.asking.Asked.{Names, Numbers, named, no_names}
+use Rattle.ix_lanes.specs.asking.LineAsks.{Numbered, line_asks}
+use Rattle.ix_lanes.specs.asking.Ruled.{rules_told}
+use Rattle.ix_lanes.specs.histories.Serial.{header_of, seat_after}
+use Rattle.ix_lanes.specs.histories.Lanes.{Lanes, LanesSoFar, calls_of, entries_of, lane_asks, lines_of_seat, replies_from, replies_of}
+use Rattle.ix_lanes.proofs.serially.Costs.{cost-none, cost-cons, cost-push, need-cons, few_bytes, line-costs}
+use Rattle.ix_lanes.proofs.serially.LaneSteps.{calls_from, calls-line, entries-mine, entries-other, replies-mine, replies-other, lines-mine, lines-other}
+use Rattle.ix_lanes.proofs.serially.Told.{rules-few}
 use Rattle.ix_lanes.proofs.serially.OneEntry.{first_seat}
 
 -- ---- sums over seats
@@ -148,38 +157,30 @@ calls_cost c = cost_of_history c.entries + next_cost c.next
 abbrev Within : Calls → List Answered → ℕ → Type 0
 Within c answers n = Answers c.entries answers → calls_cost c ≤ n
 
-second_within : (header : Numbers) (k : ℕ) (names after : Names) (l : Numbered) (lines : List Numbered) (a : Asked) (r : Answered) (answers : List Answered) → asked header names l.said ≡ Some a → AreFew a.op (length r.bytes)
-    → ((rest : List Answered) → Within (calls_from header k after lines rest) rest (need_of lines))
-    → (o : Option Asked) → asked_then header names l.said r ≡ o → Answers (after_first header k l.number after lines o answers).entries answers
-    → cost_of a.op + calls_cost (after_first header k l.number after lines o answers) ≤ cost_of_line l.said + need_of lines
-second_within header k names after l lines a r answers is few later None so h = omega (arith, later answers h, first_cost header names l.said a is)
-second_within header k names after l lines a r [] is few later (Some b) so h = omega (arith, second_cost header names l.said a b r is few so, cost-none)
-second_within header k names after l lines a r (q ∷ answers) is few later (Some b) so h =
-    omega (arith, second_cost header names l.said a b r is few so, later answers h.1, cost-cons (entry_of k l.number b) (calls_from header k after lines answers).entries)
+then_within : (R : Type 0) (k m n : ℕ) (p : Asking R) (after : R → List Answered → Calls) → Costs m p → ((r : R) (rest : List Answered) → Within (after r rest) rest n)
+    → (answers : List Answered) → Within (calls_then k p answers after) answers (m + n)
+then_within R k m n (Done r) after costs later answers = λ h. omega (arith, later r answers h)
+then_within R k m n (Ask a more) after costs later [] = λ h. omega (arith, costs.1, cost-none)
+then_within R k m n (Ask a more) after costs later (x ∷ answers) = λ h.
+    let rest = then_within R k costs.0 n (more x) after (costs.2 x h.0) later answers h.1 in
+    omega (arith, rest, costs.1, cost-cons (entry_of k a) (calls_then k (more x) answers after).entries)
 
-first_within : (header : Numbers) (k : ℕ) (names : Names) (l : Numbered) (lines : List Numbered) → ((after : Names) (rest : List Answered) → Within (calls_from header k after lines rest) rest (need_of lines))
-    → (answers : List Answered) (o : Option Asked) → asked header names l.said ≡ o → Within (calls_from header k names (l ∷ lines) answers) answers (cost_of_line l.said + need_of lines)
-first_within header k names l lines later answers None is =
-    subst (λ (c : Calls). Within c answers (cost_of_line l.said + need_of lines)) (sym (calls-none header k l.number names l.said lines answers is)) (λ h. let rest = later names answers h in omega (arith, rest))
-first_within header k names l lines later [] (Some a) is =
-    subst (λ (c : Calls). Within c [] (cost_of_line l.said + need_of lines)) (sym (calls-some header k l.number names l.said lines a [] is)) (λ h. omega (arith, first_cost header names l.said a is, cost-none))
-first_within header k names l lines later (r ∷ answers) (Some a) is =
-    subst (λ (c : Calls). Within c (r ∷ answers) (cost_of_line l.said + need_of lines)) (sym (calls-some header k l.number names l.said lines a (r ∷ answers) is))
-    (λ h. let both = second_within header k names (named names l.said r.reply) l lines a r answers is h.0 (later (named names l.said r.reply)) (asked_then header names l.said r) refl h.1 in
-    omega (arith, both, cost-cons (entry_of k l.number a) (after_first header k l.number (named names l.said r.reply) lines (asked_then header names l.said r) answers).entries))
-
-lane_within : (header : Numbers) (k : ℕ) (names : Names) (lines : List Numbered) (answers : List Answered) → Within (calls_from header k names lines answers) answers (need_of lines)
-lane_within header k names [] answers = λ h. omega (arith, cost-none)
-lane_within header k names (l ∷ lines) answers = first_within header k names l lines (λ after rest. lane_within header k after lines rest) answers (asked header names l.said) refl
+lane_within : (rules : Option (List Rule)) → ((r : List Rule) → rules ≡ Some r → length r ≤ 256) → (header : Numbers) (k : ℕ) (names : Names) (lines : List Numbered) (answers : List Answered)
+    → Within (calls_from rules header k names lines answers) answers (need_of lines)
+lane_within rules few header k names [] answers = λ h. omega (arith, cost-none)
+lane_within rules few header k names (l ∷ lines) answers =
+    subst (λ (c : Calls). Within c answers (cost_of_line l.said + need_of lines)) (sym (calls-line rules header k names l lines answers))
+    (then_within Handed k (cost_of_line l.said) (need_of lines) (line_asks rules header names l.number l.said) (λ g rest. calls_from rules header k (named names l.said g) lines rest)
+    (line-costs rules few header names l.number l.said) (λ g rest. lane_within rules few header k (named names l.said g) lines rest) answers)
 
 -- ---- all lanes
 module _ (s : List Line) (events : List Event) (so_far : LanesSoFar s events) where
   lane : (k : ℕ) → k < length (lanes_of s) → cost_of_history (entries_of k events) + next_cost (calls_of s k (replies_of s k events)).next ≤ need_of (lines_of_seat (lanes_of s) k 1 None s)
-  unfolding calls_of replies_of
+  unfolding lane_asks replies_of
   lane k low =
       let entries = so_far.calls k low in
       let few : Answers (calls_of s k (replies_of s k events)).entries (replies_of s k events) = subst (λ (es : List Event). Answers es (replies_of s k events)) (sym entries) (few_answers (opening_world (config_of s)) 1 k events) in
-      let within = lane_within (header_of s) k no_names (lines_of_seat (lanes_of s) k 1 None s) (replies_of s k events) few in
+      let within = lane_within (rules_told s) (rules-few s) (header_of s) k no_names (lines_of_seat (lanes_of s) k 1 None s) (replies_of s k events) few in
       let same : cost_of_history (calls_of s k (replies_of s k events)).entries ≡ cost_of_history (entries_of k events) = ap cost_of_history entries in
       omega (arith, within, same)
 

@@ -5,9 +5,11 @@ use Rattle.std.proofs.lemmas.Bool.{and_parts, and_from, cases_eq, le-leb, leb-tr
 use Rattle.ix_model.specs.world.World.{World}
 use Rattle.ix_model.specs.history.Step.{step_of}
 use Rattle.ix_model.specs.history.Events.{Event}
-use Rattle.ix_lanes.specs.asking.Asked.{Answered}
+use Rattle.ix_asking.specs.Asking.{Asked, Answered, Asking, Ask}
+use Rattle.ix_asking.specs.Lines.{Calls, calls_then, with_entry_first}
+use Rattle.ix_asking.specs.Runs.{entry_of}
 use Rattle.ix_lanes.specs.histories.Serial.{answered}
-use Rattle.ix_lanes.specs.histories.Lanes.{Calls, asks_for, entries_of, never_falls, replies_from, with_entry_first}
+use Rattle.ix_lanes.specs.histories.Lanes.{entries_of, never_falls, replies_from}
 use Rattle.ix_lanes.proofs.serially.LaneSteps.{entries-mine, entries-other, replies-mine, replies-other}
 
 -- ---- numbers of lines along entries
@@ -28,15 +30,26 @@ first_is_least k e f (g ∷ events) later h has =
 
 -- ---- what lanes ask for
 -- what the lane of each seat asks for, as it is answered
-abbrev pub Asking : Type 0
-Asking = ℕ → List Answered → Calls
+abbrev pub LanesAsk : Type 0
+LanesAsk = ℕ → List Answered → Calls
+
+-- an entry is asked for, and what comes after the answer to it
+abbrev pub asks_for : Event → List Answered → (Answered → List Answered → Calls) → Calls
+asks_for e [] more = record { entries = []; next = Some e }
+asks_for e (r ∷ answers) more = with_entry_first e (more r answers)
+
+-- where a call stands next, it is asked for
+pub ask-for : {R : Type 0} (k : ℕ) (a : Asked) (later : Answered → Asking R) (answers : List Answered) (after : R → List Answered → Calls)
+    → calls_then k (Ask a later) answers after ≡ asks_for (entry_of k a) answers (λ r rest. calls_then k (later r) rest after)
+ask-for k a later [] after = refl
+ask-for k a later (r ∷ answers) after = refl
 
 -- entries after which no further call is asked for
 abbrev pub all_answered : List Event → Calls
 all_answered events = record { entries = events; next = None }
 
 -- the entries are those of so many lanes in which all that is asked for is answered, where the machine has come to a world and a place
-pub record Going (count : ℕ) (asking : Asking) (w : World) (place : ℕ) (events : List Event) : Type 0 where
+pub record Going (count : ℕ) (asking : LanesAsk) (w : World) (place : ℕ) (events : List Event) : Type 0 where
   pub seats : list_all (λ e. nat_lt e.seat count) events ≡ true
   pub calls : (k : ℕ) → k < count → asking k (replies_from w place k events) ≡ all_answered (entries_of k events)
   pub order : never_falls events ≡ true
@@ -68,7 +81,7 @@ is_among e [] more events h = let none : Some e ≡ None = ap (λ (x : Calls). x
 is_among e (r ∷ answers) more events h = (_, sym (ap (λ (x : Calls). x.entries) h))
 
 -- Before, one lane asks for an entry first. After, it goes on from the answer to that, and the others are where they were.
-module _ (count : ℕ) (before after : Asking) (w : World) (place : ℕ) (e : Event) (more : Answered → List Answered → Calls) where
+module _ (count : ℕ) (before after : LanesAsk) (w : World) (place : ℕ) (e : Event) (more : Answered → List Answered → Calls) where
   pub record Answers : Type 0 where
     pub first : (answers : List Answered) → before e.seat answers ≡ asks_for e answers more
     pub mine : (answers : List Answered) → after e.seat answers ≡ more (answered (step_of w place e)) answers

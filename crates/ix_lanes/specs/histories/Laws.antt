@@ -1,9 +1,8 @@
 -- The laws of serial histories.
 use Rattle.std.specs.Prelude.{◌≡◌, ℕ, ◌≤◌, ◌<◌, List, [], ◌∷◌, ◌++◌, length, All, IfSome}
 use Rattle.ix_model.specs.history.Cost.{cost_of_history}
-use Rattle.ix_label.specs.declared.form.Form.{Form}
 use Rattle.ix_model.specs.history.Spelled.{EventsFit}
-use Rattle.ix_script.specs.lines.Before.{lanes_of}
+use Rattle.ix_script.specs.lines.Before.{form_told, lanes_of}
 use Rattle.ix_script.specs.lines.Fits.{LineFits}
 use Rattle.ix_script.specs.scripts.Need.{need}
 use Rattle.ix_model.specs.history.Events.{Event}
@@ -19,9 +18,9 @@ SerialOne = (s : List Line) (g h : List Event) → IsSerial s g → IsSerial s h
 abbrev pub SerialIsSerial : Type 0
 SerialIsSerial = (s : List Line) → IsSerial s (serial s)
 
--- the calls of a history fit a form of labels, where the lines of its script do
+-- the calls of a history fit the form of labels that its script tells, where the lines of the script do
 abbrev pub HistoriesFit : Type 0
-HistoriesFit = (form : Form) (s : List Line) (events : List Event) → All (λ (l : Line). LineFits form l) s → Lanes s events → EventsFit form events
+HistoriesFit = (s : List Line) (events : List Event) → All (λ (l : Line). LineFits (form_told s) l) s → Lanes s events → EventsFit (form_told s) events
 
 -- what the calls of a script cost is no more than it needs, where all is answered
 abbrev pub NeedFits : Type 0

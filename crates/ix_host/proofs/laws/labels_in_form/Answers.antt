@@ -6,5 +6,5 @@ pub returns : goal.returns
 returns c = record {
   fit = λ bytes s events is lanes.
       let fits = c.scripts_fit.ensures bytes s is in
-      c.form_one.ensures.stays (form_told s) (config_of s) events fits.config (c.histories_fit.ensures.fit (form_told s) s events fits.lines lanes);
+      c.form_one.ensures.stays (form_told s) (config_of s) events fits.config (c.histories_fit.ensures.fit s events fits.lines lanes);
 }
