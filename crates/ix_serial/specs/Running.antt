@@ -9,7 +9,9 @@ use Rattle.ix_script.specs.declared.line.Line.{Line}
 use Rattle.ix_script.specs.declared.line.Line.TheVariants as line
 use Rattle.ix_lanes.specs.asking.Asked.{no_names}
 use Rattle.ix_lanes.specs.running.Phases.{calls_before}
-use Rattle.ix_lanes.specs.running.Runs.{answers_of, events_of, StandsFor}
+use Rattle.ix_asking.specs.Runs.{answers_of}
+use Rattle.ix_asking.specs.Lines.{events_of}
+use Rattle.ix_lanes.specs.running.Runs.{StandsFor}
 use Rattle.ix_serial.specs.declared.lane.SerialLane.{SerialLane}
 
 -- A lane of a script, with its run, which stands for what its seat has made of a history.

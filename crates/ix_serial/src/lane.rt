@@ -1,5 +1,7 @@
 ghost use Rattle.std.specs.Prelude.{◌≡◌, ◌+◌, ◌≤◌, ◌<◌, length, IfOk};
+ghost use Rattle.std.proofs.Common.{option_map};
 ghost use Rattle.ix_script.specs.lines.Before.{lanes_of};
+ghost use Rattle.ix_lanes.specs.asking.Ruled.{rules_told};
 ghost use Rattle.ix_lanes.specs.running.Phases.{phases};
 ghost use Rattle.ix_core.specs.Seen.{GoesSeen};
 ghost use Rattle.ix_serial.specs.Running.{HasRoom, IsLane, lane_at_first};
@@ -7,6 +9,7 @@ ghost use Rattle.ix_serial.specs.Running.{HasRoom, IsLane, lane_at_first};
 use ix_core::{Core, SeenSys, Witness};
 use ix_lanes::LaneRun;
 use ix_model::NoMemory;
+use ix_policy::Policy;
 use ix_script::Script;
 use std::alloc::Global;
 
@@ -19,12 +22,18 @@ pub struct SerialLane<'a> {
 }
 
 impl<'a> SerialLane<'a> {
-    /// The lane of a seat, which has done no phase. It takes all the memory that the run needs.
-    pub fn new(alloc: Global, script: &'a Script, seat: u32) -> Result<SerialLane<'a>, NoMemory>
-        requires { seat < length (lanes_of script.now) }
+    /// The lane of a seat, which has done no phase, by the script's policy, if it has one. It takes all the memory that the run needs.
+    pub fn new(
+        alloc: Global,
+        script: &'a Script,
+        policy: Option<&'a Policy>,
+        seat: u32,
+    ) -> Result<SerialLane<'a>, NoMemory>
+        requires seat { seat < length (lanes_of script.now) }
+        requires policy { option_map (λ p. p.now) policy ≡ rules_told script.now }
         ensures { IfOk result (λ lane. lane ≡ lane_at_first script.now seat) }
     {
-        let run = LaneRun::new(alloc, script, seat)?;
+        let run = LaneRun::new(alloc, script, seat, policy)?;
         Ok(SerialLane { run, seat, done: 0 })
     }
 

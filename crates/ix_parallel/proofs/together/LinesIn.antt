@@ -3,9 +3,12 @@ use Rattle.std.proofs.Common.{◌≡◌, ℕ, suc, ◌+◌, ◌≤◌, ◌<◌, 
 use Rattle.std.proofs.lemmas.Bool.{cases_eq}
 use Rattle.ix_model.specs.history.Events.{Event}
 use Rattle.ix_script.specs.declared.line.Line.{Line}
-use Rattle.ix_lanes.specs.asking.Asked.{Answered, Asked, Names, Numbers, asked, asked_then, named}
+use Rattle.ix_asking.specs.Asking.{Answered}
+use Rattle.ix_lanes.specs.asking.Asked.{Asked, Names, Numbers, asked, asked_then, named}
 use Rattle.ix_lanes.specs.histories.Serial.{seat_after}
-use Rattle.ix_lanes.specs.histories.Lanes.{Calls, Numbered, calls_from, entries_of, is_seat, lines_of_seat}
+use Rattle.ix_asking.specs.Lines.{Calls}
+use Rattle.ix_lanes.specs.asking.LineAsks.{Numbered}
+use Rattle.ix_lanes.specs.histories.Lanes.{calls_from, entries_of, is_seat, lines_of_seat}
 use Rattle.ix_lanes.proofs.serially.LaneSteps.{after_first, calls-none, calls-some, entries-mine, entries-other}
 
 -- what holds of the number of each line

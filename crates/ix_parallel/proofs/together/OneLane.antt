@@ -13,7 +13,9 @@ use Rattle.ix_script.specs.scripts.Scripts.{config_of}
 use Rattle.ix_script.specs.declared.line.Line.{Line}
 use Rattle.ix_lanes.specs.histories.Lanes.{entries_of, replies_of}
 use Rattle.ix_lanes.specs.running.Phases.{calls_before}
-use Rattle.ix_lanes.specs.running.Runs.{Ran, answers_of, events_of}
+use Rattle.ix_asking.specs.Runs.{answers_of}
+use Rattle.ix_asking.specs.Lines.{events_of}
+use Rattle.ix_lanes.specs.running.Runs.{Ran}
 use Rattle.ix_lanes.specs.running.Runs as runs
 use Rattle.ix_lanes.specs.running.SideBySide.{RunsPhase}
 use Rattle.ix_parallel.specs.Meeting.{Learns}

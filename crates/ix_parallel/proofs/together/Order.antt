@@ -10,9 +10,12 @@ use Rattle.ix_model.specs.history.Events.{Event}
 use Rattle.ix_script.specs.lines.Before.{lanes_of}
 use Rattle.ix_script.specs.scripts.Scripts.{config_of}
 use Rattle.ix_script.specs.declared.line.Line.{Line}
-use Rattle.ix_lanes.specs.asking.Asked.{Answered, Names, no_names}
+use Rattle.ix_asking.specs.Asking.{Answered}
+use Rattle.ix_lanes.specs.asking.Asked.{Names, no_names}
 use Rattle.ix_lanes.specs.histories.Serial.{header_of, seat_after}
-use Rattle.ix_lanes.specs.histories.Lanes.{Calls, Numbered, calls_from, entries_of, lines_of_seat, replies_from, replies_of}
+use Rattle.ix_asking.specs.Lines.{Calls}
+use Rattle.ix_lanes.specs.asking.LineAsks.{Numbered}
+use Rattle.ix_lanes.specs.histories.Lanes.{calls_from, entries_of, lines_of_seat, replies_from, replies_of}
 use Rattle.ix_lanes.specs.running.Phases.{calls_before, lane_among, lane_before, lines_before, names_from}
 use Rattle.ix_parallel.specs.History.{phase_of, phases_never_fall}
 use Rattle.ix_parallel.specs.Stages.{ComesTo, LanesTo, Stages}

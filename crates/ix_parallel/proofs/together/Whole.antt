@@ -4,7 +4,8 @@ use Rattle.std.specs.List.{list_all}
 use Rattle.ix_model.specs.history.Events.{Event}
 use Rattle.ix_script.specs.lines.Before.{lanes_of}
 use Rattle.ix_script.specs.declared.line.Line.{Line}
-use Rattle.ix_lanes.specs.asking.Asked.{Answered, no_names}
+use Rattle.ix_asking.specs.Asking.{Answered}
+use Rattle.ix_lanes.specs.asking.Asked.{no_names}
 use Rattle.ix_lanes.specs.histories.Serial.{header_of, serial}
 use Rattle.ix_lanes.specs.histories.Lanes.{calls_from, calls_of, lines_of_seat, replies_of}
 use Rattle.ix_lanes.specs.running.Phases.{calls_before, phases}

@@ -6,9 +6,13 @@ use Rattle.ix_model.specs.world.World.{World}
 use Rattle.ix_model.specs.history.Step.{step_of}
 use Rattle.ix_model.specs.history.Events.{Event}
 use Rattle.ix_lanes.specs.asking.Asked.{Names}
-use Rattle.ix_lanes.specs.asking.Asked.{Answered, Asked, Numbers, asked, asked_then, named}
-use Rattle.ix_lanes.specs.histories.Serial.{answered, entry_of}
-use Rattle.ix_lanes.specs.histories.Lanes.{Calls, Numbered, asks_for, calls_from, entries_of, replies_from, with_entry_first}
+use Rattle.ix_asking.specs.Asking.{Answered}
+use Rattle.ix_lanes.specs.asking.Asked.{Asked, Numbers, asked, asked_then, named}
+use Rattle.ix_asking.specs.Runs.{entry_of}
+use Rattle.ix_lanes.specs.histories.Serial.{answered}
+use Rattle.ix_asking.specs.Lines.{Calls, with_entry_first}
+use Rattle.ix_lanes.specs.asking.LineAsks.{Numbered}
+use Rattle.ix_lanes.specs.histories.Lanes.{asks_for, calls_from, entries_of, replies_from}
 use Rattle.ix_lanes.proofs.serially.LaneSteps.{after_first, calls-none, calls-some, entries-mine, entries-other, replies-mine, replies-other}
 use Rattle.ix_lanes.proofs.serially.OneEntry.{all_answered, first_seat}
 

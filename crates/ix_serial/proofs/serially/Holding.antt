@@ -15,11 +15,16 @@ use Rattle.ix_script.specs.lines.Before.{lanes_of}
 use Rattle.ix_script.specs.declared.line.Line.{Line}
 use Rattle.ix_script.specs.scripts.Need.{need}
 use Rattle.ix_script.specs.scripts.Scripts.{config_of}
-use Rattle.ix_lanes.specs.asking.Asked.{Answered, Asked, Names, Numbers, asked, no_names}
+use Rattle.ix_asking.specs.Asking.{Answered}
+use Rattle.ix_lanes.specs.asking.Asked.{Asked, Names, Numbers, asked, no_names}
 use Rattle.ix_lanes.specs.histories.Serial.{header_of}
-use Rattle.ix_lanes.specs.histories.Lanes.{Calls, LanesSoFar, Numbered, calls_from, calls_of, entries_of, replies_of}
+use Rattle.ix_asking.specs.Lines.{Calls}
+use Rattle.ix_lanes.specs.asking.LineAsks.{Numbered}
+use Rattle.ix_lanes.specs.histories.Lanes.{LanesSoFar, calls_from, calls_of, entries_of, replies_of}
 use Rattle.ix_lanes.specs.running.Phases.{calls_before, lane_among, lane_before, lines_before}
-use Rattle.ix_lanes.specs.running.Runs.{answers_of, events_of, StandsFor}
+use Rattle.ix_asking.specs.Runs.{answers_of}
+use Rattle.ix_asking.specs.Lines.{events_of}
+use Rattle.ix_lanes.specs.running.Runs.{StandsFor}
 use Rattle.ix_lanes.proofs.serially.Costs.{cost-push}
 use Rattle.ix_lanes.proofs.serially.LaneSteps.{calls-none, calls-some}
 use Rattle.ix_lanes.proofs.serially.Needs.{next_fits}

@@ -12,10 +12,11 @@ use Rattle.ix_model.specs.history.Made.{Made}
 use Rattle.ix_model.specs.history.Seats.{made_of, replied, made_by, GoesOn}
 use Rattle.ix_script.specs.declared.line.Line.{Line}
 use Rattle.ix_script.specs.scripts.Scripts.{config_of}
-use Rattle.ix_lanes.specs.asking.Asked.{Answered}
+use Rattle.ix_asking.specs.Asking.{Answered}
 use Rattle.ix_lanes.specs.histories.Serial.{answered}
 use Rattle.ix_lanes.specs.histories.Lanes.{entries_of, replies_from, replies_of}
-use Rattle.ix_lanes.specs.running.Runs.{answers_of, events_of}
+use Rattle.ix_asking.specs.Runs.{answers_of}
+use Rattle.ix_asking.specs.Lines.{events_of}
 
 abbrev by : ℕ → Made → Bool
 by seat m = m.event.seat == seat

@@ -9,11 +9,16 @@ use Rattle.ix_model.specs.history.Made.{Made}
 use Rattle.ix_model.specs.history.Seats.{replied, made_by, GoesOn}
 use Rattle.ix_script.specs.declared.line.Line.{Line}
 use Rattle.ix_script.specs.declared.line.Line.TheVariants as line
-use Rattle.ix_lanes.specs.asking.Asked.{Answered, Asked, Names, Numbers, asked, asked_then, named, no_names}
-use Rattle.ix_lanes.specs.histories.Serial.{entry_of, header_of}
-use Rattle.ix_lanes.specs.histories.Lanes.{Calls, Numbered, calls_from, never_falls, with_entry_first}
+use Rattle.ix_asking.specs.Asking.{Answered}
+use Rattle.ix_lanes.specs.asking.Asked.{Asked, Names, Numbers, asked, asked_then, named, no_names}
+use Rattle.ix_asking.specs.Runs.{entry_of}
+use Rattle.ix_lanes.specs.histories.Serial.{header_of}
+use Rattle.ix_asking.specs.Lines.{Calls, with_entry_first}
+use Rattle.ix_lanes.specs.asking.LineAsks.{Numbered}
+use Rattle.ix_lanes.specs.histories.Lanes.{calls_from, never_falls}
 use Rattle.ix_lanes.specs.running.Phases.{calls_before, lane_before, names_from}
-use Rattle.ix_lanes.specs.running.Runs.{answers_of, events_of}
+use Rattle.ix_asking.specs.Runs.{answers_of}
+use Rattle.ix_asking.specs.Lines.{events_of}
 use Rattle.ix_lanes.proofs.serially.LaneSteps.{after_first, calls-none, calls-some}
 use Rattle.ix_lanes.proofs.serially.OneEntry.{all_answered}
 use Rattle.ix_lanes.proofs.phased.Appended.{appended}

@@ -11,7 +11,8 @@ use Rattle.ix_script.specs.lines.Before.{is_known, lanes_of, phase_lanes_after}
 use Rattle.ix_script.specs.declared.line.Line.{Line}
 use Rattle.ix_script.specs.declared.line.Line.TheVariants as line
 use Rattle.ix_lanes.specs.histories.Serial.{seat_after, seat_from}
-use Rattle.ix_lanes.specs.histories.Lanes.{Numbered, is_seat, lines_of_seat}
+use Rattle.ix_lanes.specs.asking.LineAsks.{Numbered}
+use Rattle.ix_lanes.specs.histories.Lanes.{is_seat, lines_of_seat}
 use Rattle.ix_lanes.specs.running.Phases.{is_phase, lane_among, lines_to, seat_at}
 use Rattle.ix_lanes.proofs.found.Indexed.{rest_is}
 use Rattle.ix_lanes.proofs.phased.LaneLines.{lane-append, lane_one_more, mine, one_more, seat_one_more}

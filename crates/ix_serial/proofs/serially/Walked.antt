@@ -16,9 +16,11 @@ use Rattle.ix_script.specs.lines.Before.{is_known, lanes_of}
 use Rattle.ix_script.specs.declared.line.Line.{Line}
 use Rattle.ix_script.specs.declared.line.Line.TheVariants as line
 use Rattle.ix_script.specs.scripts.Scripts.{config_of}
-use Rattle.ix_lanes.specs.asking.Asked.{Answered, no_names}
+use Rattle.ix_asking.specs.Asking.{Answered}
+use Rattle.ix_lanes.specs.asking.Asked.{no_names}
 use Rattle.ix_lanes.specs.histories.Serial.{header_of, seat_after, seat_from, serial}
-use Rattle.ix_lanes.specs.histories.Lanes.{Lanes, Numbered, calls_from, calls_of, is_seat, replies_of}
+use Rattle.ix_lanes.specs.asking.LineAsks.{Numbered}
+use Rattle.ix_lanes.specs.histories.Lanes.{Lanes, calls_from, calls_of, is_seat, replies_of}
 use Rattle.ix_lanes.specs.running.Phases.{calls_before, is_phase, lane_among, lane_before, lines_before, lines_to, phases, seat_at}
 use Rattle.ix_lanes.specs.running.Runs.{StandsFor}
 use Rattle.ix_lanes.proofs.found.Indexed.{rest_is}
