@@ -6,4 +6,5 @@ pub mod OneMore
 pub mod Placed
 pub mod Served
 pub mod PhaseRuns
+pub mod Standing
 pub mod SideBySide

@@ -15,37 +15,29 @@ use Rattle.ix_script.specs.lines.Before.{lanes_of}
 use Rattle.ix_script.specs.declared.line.Line.{Line}
 use Rattle.ix_script.specs.scripts.Need.{need}
 use Rattle.ix_script.specs.scripts.Scripts.{config_of}
-use Rattle.ix_asking.specs.Asking.{Answered}
-use Rattle.ix_lanes.specs.asking.Asked.{Asked, Names, Numbers, asked, no_names}
+use Rattle.ix_asking.specs.Asking.{Answered, Asking, Came, followed, next}
+use Rattle.ix_asking.specs.Lines.{Calls, calls_then, events_of, no_calls}
+use Rattle.ix_asking.specs.Runs.{answers_of, AsAsked}
+use Rattle.ix_lanes.specs.asking.Asked.{Names, no_names}
+use Rattle.ix_lanes.specs.asking.LineAsks.{Numbered, lines_ask}
+use Rattle.ix_lanes.specs.asking.Ruled.{rules_told}
 use Rattle.ix_lanes.specs.histories.Serial.{header_of}
-use Rattle.ix_asking.specs.Lines.{Calls}
-use Rattle.ix_lanes.specs.asking.LineAsks.{Numbered}
-use Rattle.ix_lanes.specs.histories.Lanes.{LanesSoFar, calls_from, calls_of, entries_of, replies_of}
-use Rattle.ix_lanes.specs.running.Phases.{calls_before, lane_among, lane_before, lines_before}
-use Rattle.ix_asking.specs.Runs.{answers_of}
-use Rattle.ix_asking.specs.Lines.{events_of}
+use Rattle.ix_lanes.specs.histories.Lanes.{LanesSoFar, calls_of, entries_of, lane_asks, replies_of}
+use Rattle.ix_lanes.specs.running.Phases.{asks_before, calls_before, lane_among, lane_before, lines_before}
 use Rattle.ix_lanes.specs.running.Runs.{StandsFor}
 use Rattle.ix_lanes.proofs.serially.Costs.{cost-push}
-use Rattle.ix_lanes.proofs.serially.LaneSteps.{calls-none, calls-some}
 use Rattle.ix_lanes.proofs.serially.Needs.{next_fits}
 use Rattle.ix_lanes.proofs.serially.OneEntry.{all_answered}
-use Rattle.ix_lanes.proofs.phased.Appended.{appended, stays_cut}
+use Rattle.ix_lanes.proofs.phased.Between.{asks_append}
 use Rattle.ix_lanes.proofs.phased.LaneLines.{lane-append}
+use Rattle.ix_lanes.proofs.phased.Making.{asked_followed}
 use Rattle.ix_lanes.proofs.phased.PhaseLines.{before-taken}
+use Rattle.ix_lanes.proofs.phased.Standing.{asked_entries, calls_all, stays_cut}
 use Rattle.ix_serial.specs.declared.lane.SerialLane.{SerialLane}
 use Rattle.ix_serial.specs.Running.{HasRoom, IsLane, lane_at}
 use Rattle.ix_serial.proofs.serially.Replied.{made_answers, made_by-others, made_entries, own_parts}
 
 -- ---- a part of what a lane asks for
--- lines that are answered nothing make nothing
-calls-empty : (header : Numbers) (k : ℕ) (names : Names) (lines : List Numbered) → (calls_from header k names lines []).entries ≡ []
-calls-empty header k names [] = refl
-calls-empty header k names (l ∷ lines) = go (calls-empty header k names lines) (asked header names l.said) refl
-  where
-    go : (calls_from header k names lines []).entries ≡ [] → (o : Option Asked) → asked header names l.said ≡ o → (calls_from header k names (l ∷ lines) []).entries ≡ []
-    go later None is = ap (λ (c : Calls). c.entries) (calls-none header k l.number names l.said lines [] is) ∙ later
-    go later (Some a) is = ap (λ (c : Calls). c.entries) (calls-some header k l.number names l.said lines a [] is)
-
 -- all lines of a lane are those of so many phases, and others
 lane_parts : (s : List Line) (k n : ℕ) → (ls : List Numbered) × (lane_among s k s ≡ lane_before s k n ++ ls)
 lane_parts s k n =
@@ -53,38 +45,42 @@ lane_parts s k n =
     let parts : s ≡ lines_before n s ++ drop m s = sym (take-append-drop m s) ∙ ap (λ ls. ls ++ drop m s) (sym (before-taken s n)) in
     (_, ap (lane_among s k) parts ∙ lane-append (lanes_of s) k 1 None (lines_before n s) (drop m s))
 
-pub same_long : (made : List Made) → length (events_of made) ≡ length (answers_of made)
-same_long [] = refl
-same_long (m ∷ made) = ap suc (same_long made)
-
--- where all is answered in some phases, in all phases the lane makes the same so far
-pub calls_so_far : (s : List Line) (k n : ℕ) (made : List Made) → calls_before s k n (answers_of made) ≡ all_answered (events_of made) → (calls_of s k (answers_of made)).entries ≡ events_of made
-unfolding calls_of calls_before
-calls_so_far s k n made is =
+-- in all phases a lane asks for what it asks for in so many, and for more after that
+asks_parts : (s : List Line) (k n : ℕ) → (more : Names → Asking Names) × (lane_asks s k ≡ followed (asks_before s k n) more)
+unfolding lane_asks asks_before
+asks_parts s k n =
     let rest = lane_parts s k n in
-    ap (λ (c : Calls). c.entries) (
-    (λ i. calls_from (header_of s) k no_names (rest.1 i) (sym (append-nil (answers_of made)) i))
-    ∙ (appended (header_of s) k rest.0 (lane_before s k n) no_names (answers_of made) [] (events_of made) (same_long made) is).calls
-    )
-    ∙ ap (λ es. events_of made ++ es) (calls-empty (header_of s) k _ rest.0) ∙ append-nil (events_of made)
+    (_, ap (lines_ask (rules_told s) (header_of s) no_names) rest.1 ∙ asks_append (rules_told s) (header_of s) (lane_before s k n) rest.0 no_names)
+
+-- what was made in some phases is what the lane makes so far in all
+pub calls_so_far : (s : List Line) (k n : ℕ) (made : List Made) → AsAsked k (asks_before s k n) made → (calls_of s k (answers_of made)).entries ≡ events_of made
+calls_so_far s k n made asked =
+    let rest = asks_parts s k n in
+    asked_entries k (lane_asks s k) made (subst (λ (p : Asking Names). AsAsked k p made) (sym rest.1) (asked_followed rest.0 k (asks_before s k n) made asked))
 
 -- where a call isn't answered, it isn't in all phases
 pub calls_cut : (s : List Line) (k n : ℕ) (answers : List Answered) (es : List Event) (e : Event) → calls_before s k n answers ≡ record { entries = es; next = Some e } → calls_of s k answers ≡ record { entries = es; next = Some e }
-unfolding calls_of calls_before
 calls_cut s k n answers es e is =
-    let rest = lane_parts s k n in
-    ap (λ ls. calls_from (header_of s) k no_names ls answers) rest.1
-    ∙ stays_cut (header_of s) k rest.0 (lane_before s k n) no_names answers e (ap (λ (c : Calls). c.next) is) ∙ is
+    let rest = asks_parts s k n in
+    ap (λ p. calls_then k p answers no_calls) rest.1 ∙ stays_cut k (asks_before s k n) rest.0 answers e (ap (λ (c : Calls). c.next) is) ∙ is
 
 -- ---- a lane that stands
 module _ (s : List Line) (k : ℕ) (h : History) (l : SerialLane) (is : IsLane s k h l) where
+  pub asked_all : AsAsked k (asks_before s k l.done) (made_by k h)
+  asked_all =
+      let same : asks_before l.run.script l.run.lane l.run.done ≡ asks_before s k l.done = (λ i. asks_before (is.script i) (is.lane i) (is.done i)) in
+      subst (λ (p : Asking Names). AsAsked k p (made_by k h)) same (subst (λ (n : ℕ). AsAsked n (asks_before l.run.script l.run.lane l.run.done) (made_by k h)) is.lane is.stands.asked)
+
+  pub came_all : next (asks_before s k l.done) (answers_of (made_by k h)) ≡ Came l.run.names
+  came_all = (λ i. next (asks_before (sym is.script i) (sym is.lane i) (sym is.done i)) (answers_of (made_by k h))) ∙ is.stands.came
+
   pub made_all : calls_before s k l.done (answers_of (made_by k h)) ≡ all_answered (events_of (made_by k h))
-  made_all = (λ i. calls_before (sym is.script i) (sym is.lane i) (sym is.done i) (answers_of (made_by k h))) ∙ is.stands.calls
+  made_all = calls_all k (asks_before s k l.done) (made_by k h) l.run.names asked_all came_all
 
   pub lane_entries : h.config ≡ config_of s → (calls_of s k (replies_of s k h.events)).entries ≡ entries_of k h.events
   lane_entries config =
       ap (λ rs. (calls_of s k rs).entries) (sym (made_answers s k h config))
-      ∙ calls_so_far s k l.done (made_by k h) made_all ∙ made_entries k h
+      ∙ calls_so_far s k l.done (made_by k h) asked_all ∙ made_entries k h
 
   -- another seat goes on
   pub stays_lane : (seat : ℕ) (new : History) → GoesOn seat h new → (seat ≡ k → ⊥) → IsLane s k new l

@@ -9,23 +9,27 @@ use Rattle.ix_model.specs.history.Made.{Made}
 use Rattle.ix_model.specs.history.Seats.{replied, made_by, GoesOn}
 use Rattle.ix_script.specs.declared.line.Line.{Line}
 use Rattle.ix_script.specs.declared.line.Line.TheVariants as line
-use Rattle.ix_asking.specs.Asking.{Answered}
-use Rattle.ix_lanes.specs.asking.Asked.{Asked, Names, Numbers, asked, asked_then, named, no_names}
-use Rattle.ix_asking.specs.Runs.{entry_of}
-use Rattle.ix_lanes.specs.histories.Serial.{header_of}
-use Rattle.ix_asking.specs.Lines.{Calls, with_entry_first}
-use Rattle.ix_lanes.specs.asking.LineAsks.{Numbered}
-use Rattle.ix_lanes.specs.histories.Lanes.{calls_from, never_falls}
-use Rattle.ix_lanes.specs.running.Phases.{calls_before, lane_before, names_from}
-use Rattle.ix_asking.specs.Runs.{answers_of}
+use Rattle.ix_policy.specs.declared.rule.Rule.{Rule}
+use Rattle.ix_asking.specs.Asking.{Asking, Ask, all_heard, followed}
+use Rattle.ix_asking.specs.Asking as asking
 use Rattle.ix_asking.specs.Lines.{events_of}
-use Rattle.ix_lanes.proofs.serially.LaneSteps.{after_first, calls-none, calls-some}
-use Rattle.ix_lanes.proofs.serially.OneEntry.{all_answered}
-use Rattle.ix_lanes.proofs.phased.Appended.{appended}
+use Rattle.ix_asking.specs.Runs.{answer_of, answers_of, AsAsked}
+use Rattle.ix_asking.proofs.Every.{AllOf}
+use Rattle.ix_lanes.specs.declared.asking.handed.Handed.TheVariants as handed
+use Rattle.ix_lanes.specs.asking.Asked.{Names, Numbers, asked, named, no_names}
+use Rattle.ix_lanes.specs.asking.LineAsks.{Numbered, line_asks, lines_ask}
+use Rattle.ix_lanes.specs.asking.Ruled.{rules_told}
+use Rattle.ix_lanes.specs.histories.Serial.{header_of}
+use Rattle.ix_lanes.specs.histories.Lanes.{never_falls}
+use Rattle.ix_lanes.specs.running.Phases.{asks_before, lane_before}
+use Rattle.ix_lanes.proofs.serially.LineCalls.{OfLine, all-numbered}
+use Rattle.ix_lanes.proofs.phased.Between.{asks_append}
+use Rattle.ix_lanes.proofs.phased.Making.{heard_followed}
+use Rattle.ix_lanes.proofs.phased.Standing.{asked_rest}
 use Rattle.ix_serial.specs.declared.lane.SerialLane.{SerialLane}
 use Rattle.ix_serial.specs.Running.{IsLane}
 use Rattle.ix_serial.proofs.serially.Replied.{events_replied, made_by-on}
-use Rattle.ix_serial.proofs.serially.Holding.{made_all, same_long}
+use Rattle.ix_serial.proofs.serially.Holding.{asked_all, came_all}
 
 -- ---- entries
 -- the lines of entries don't fall, and lie between two numbers
@@ -60,29 +64,24 @@ spans_le : (low high : ℕ) (ls : List Numbered) → Spans low high ls → low �
 spans_le low high [] h = h
 spans_le low high (l ∷ ls) h = let first = h.0 in let rest = spans_le l.number high ls h.1 in omega (arith, first, rest)
 
+-- what was made of what a line asks for, and then of others, rises from the line's number
+rises_then : {A B : Type 0} (k n high : ℕ) (p : Asking A) (more : A → Asking B) (made : List Made) → n ≤ high → AllOf (OfLine n) p
+    → ((r : A) (later : List Made) → AsAsked k (more r) later → Rises n high (events_of later)) → AsAsked k (followed p more) made → Rises n high (events_of made)
+rises_then k n high (asking.Done r) more made le all later h = later r made h
+rises_then k n high (Ask a rest) more [] le all later h = le
+rises_then k n high (Ask a rest) more (m ∷ made) le all later h =
+    let number : m.event.line ≡ n = ap (λ (e : Event). e.line) h.0 ∙ all.0 in
+    (omega (arith, number), subst (λ (x : ℕ). Rises x high (events_of made)) (sym number) (rises_then k n high (rest (answer_of m)) more made le (all.1 (answer_of m)) later h.1))
+
 -- what lines ask for is numbered as they are
-abbrev IsRising : Numbers → ℕ → List Numbered → Type 0
-IsRising header k ls = (names : Names) (answers : List Answered) (low high : ℕ) → Spans low high ls → Rises low high (calls_from header k names ls answers).entries
-
-module _ (header : Numbers) (k : ℕ) (l : Numbered) (ls : List Numbered) (later : IsRising header k ls) (high : ℕ) (h : Spans l.number high ls) where
-  second_rises : (names : Names) (o : Option Asked) (answers : List Answered) → Rises l.number high (after_first header k l.number names ls o answers).entries
-  second_rises names None answers = later names answers l.number high h
-  second_rises names (Some b) [] = spans_le l.number high ls h
-  second_rises names (Some b) (q ∷ answers) = (omega arith, later names answers l.number high h)
-
-  line_rises : (names : Names) (answers : List Answered) (o : Option Asked) → asked header names l.said ≡ o → Rises l.number high (calls_from header k names (l ∷ ls) answers).entries
-  line_rises names answers None is =
-      subst (λ (c : Calls). Rises l.number high c.entries) (sym (calls-none header k l.number names l.said ls answers is)) (later names answers l.number high h)
-  line_rises names [] (Some a) is =
-      subst (λ (c : Calls). Rises l.number high c.entries) (sym (calls-some header k l.number names l.said ls a [] is)) (spans_le l.number high ls h)
-  line_rises names (r ∷ answers) (Some a) is =
-      subst (λ (c : Calls). Rises l.number high c.entries) (sym (calls-some header k l.number names l.said ls a (r ∷ answers) is))
-      (omega arith, second_rises (named names l.said r.reply) (asked_then header names l.said r) answers)
-
-pub rises_calls : (header : Numbers) (k : ℕ) (ls : List Numbered) → IsRising header k ls
-rises_calls header k [] names answers low high h = h
-rises_calls header k (l ∷ ls) names answers low high h =
-    rises_from low l.number high (calls_from header k names (l ∷ ls) answers).entries h.0 (line_rises header k l ls (rises_calls header k ls) high h.1 names answers (asked header names l.said) refl)
+pub rises_asked : (rules : Option (List Rule)) (header : Numbers) (k : ℕ) (ls : List Numbered) (names : Names) (low high : ℕ) (made : List Made) → Spans low high ls
+    → AsAsked k (lines_ask rules header names ls) made → Rises low high (events_of made)
+rises_asked rules header k [] names low high [] h asked = h
+rises_asked rules header k [] names low high (m ∷ made) h asked = absurd asked
+rises_asked rules header k (l ∷ ls) names low high made h asked =
+    rises_from low l.number high (events_of made) h.0
+    (rises_then k l.number high (line_asks rules header names l.number l.said) _ made (spans_le l.number high ls h.1) (all-numbered rules header names l.number l.said)
+    (λ g later. rises_asked rules header k ls (named names l.said g) l.number high later h.1) asked)
 
 -- ---- lines that ask for something
 -- whether a line begins a phase, or a lane in one: it asks for nothing
@@ -94,11 +93,17 @@ is_head _ = false
 abbrev pub loud : List Numbered → List Numbered
 loud ls = filter (λ (l : Numbered). not (is_head l.said)) ls
 
-head_asks : (header : Numbers) (names : Names) (l : Line) → is_head l ≡ true → asked header names l ≡ None
-unfolding asked
-head_asks header names line.Phase is = refl
-head_asks header names (line.Lane name) is = refl
-head_asks header names _ is = cc
+head_asks : (rules : Option (List Rule)) (header : Numbers) (names : Names) (n : ℕ) (l : Line) → is_head l ≡ true → line_asks rules header names n l ≡ asking.Done handed.Nothing
+unfolding line_asks asked
+head_asks rules header names n line.Phase is = refl
+head_asks rules header names n (line.Lane name) is = refl
+head_asks rules header names n _ is = cc
+
+head_names : (names : Names) (l : Line) → is_head l ≡ true → named names l handed.Nothing ≡ names
+unfolding named
+head_names names line.Phase is = refl
+head_names names (line.Lane name) is = refl
+head_names names _ is = cc
 
 pub loud-head : (l : Numbered) (ls : List Numbered) → is_head l.said ≡ true → loud (l ∷ ls) ≡ loud ls
 loud-head l ls is = rw is refl
@@ -106,33 +111,23 @@ loud-head l ls is = rw is refl
 pub loud-line : (l : Numbered) (ls : List Numbered) → is_head l.said ≡ false → loud (l ∷ ls) ≡ l ∷ loud ls
 loud-line l ls is = rw is refl
 
-abbrev IsLoud : Numbers → ℕ → List Numbered → Type 0
-IsLoud header k ls = (names : Names) (answers : List Answered) → calls_from header k names (loud ls) answers ≡ calls_from header k names ls answers
+module _ (rules : Option (List Rule)) (header : Numbers) where
+  head_left : (names : Names) (l : Numbered) (ls : List Numbered) → is_head l.said ≡ true → lines_ask rules header names (l ∷ ls) ≡ lines_ask rules header names ls
+  head_left names l ls is =
+      (λ i. followed (head_asks rules header names l.number l.said is i) (λ g. lines_ask rules header (named names l.said g) ls))
+      ∙ ap (λ n. lines_ask rules header n ls) (head_names names l.said is)
 
-module _ (header : Numbers) (k : ℕ) (l : Numbered) (ls : List Numbered) (later : IsLoud header k ls) where
-  second_loud : (names : Names) (o : Option Asked) (answers : List Answered) → after_first header k l.number names (loud ls) o answers ≡ after_first header k l.number names ls o answers
-  second_loud names None answers = later names answers
-  second_loud names (Some b) [] = refl
-  second_loud names (Some b) (q ∷ answers) = ap (with_entry_first (entry_of k l.number b)) (later names answers)
+  line_loud : (l : Numbered) (ls : List Numbered) → ((names : Names) → lines_ask rules header names (loud ls) ≡ lines_ask rules header names ls) → (b : Bool) → is_head l.said ≡ b
+      → (names : Names) → lines_ask rules header names (loud (l ∷ ls)) ≡ lines_ask rules header names (l ∷ ls)
+  line_loud l ls later true is names = ap (lines_ask rules header names) (loud-head l ls is) ∙ later names ∙ sym (head_left names l ls is)
+  line_loud l ls later false is names =
+      ap (lines_ask rules header names) (loud-line l ls is)
+      ∙ (λ i. followed (line_asks rules header names l.number l.said) (λ g. later (named names l.said g) i))
 
-  asked_loud : (names : Names) (answers : List Answered) (o : Option Asked) → asked header names l.said ≡ o → calls_from header k names (l ∷ loud ls) answers ≡ calls_from header k names (l ∷ ls) answers
-  asked_loud names answers None is =
-      calls-none header k l.number names l.said (loud ls) answers is ∙ later names answers ∙ sym (calls-none header k l.number names l.said ls answers is)
-  asked_loud names [] (Some a) is = calls-some header k l.number names l.said (loud ls) a [] is ∙ sym (calls-some header k l.number names l.said ls a [] is)
-  asked_loud names (r ∷ answers) (Some a) is =
-      calls-some header k l.number names l.said (loud ls) a (r ∷ answers) is
-      ∙ ap (with_entry_first (entry_of k l.number a)) (second_loud (named names l.said r.reply) (asked_then header names l.said r) answers)
-      ∙ sym (calls-some header k l.number names l.said ls a (r ∷ answers) is)
-
-  line_loud : (names : Names) (answers : List Answered) (b : Bool) → is_head l.said ≡ b → calls_from header k names (loud (l ∷ ls)) answers ≡ calls_from header k names (l ∷ ls) answers
-  line_loud names answers true is =
-      ap (λ xs. calls_from header k names xs answers) (loud-head l ls is) ∙ later names answers
-      ∙ sym (calls-none header k l.number names l.said ls answers (head_asks header names l.said is))
-  line_loud names answers false is = ap (λ xs. calls_from header k names xs answers) (loud-line l ls is) ∙ asked_loud names answers (asked header names l.said) refl
-
-pub calls_loud : (header : Numbers) (k : ℕ) (ls : List Numbered) → IsLoud header k ls
-calls_loud header k [] names answers = refl
-calls_loud header k (l ∷ ls) names answers = line_loud header k l ls (calls_loud header k ls) names answers (is_head l.said) refl
+  -- lines that ask for nothing may be left out
+  pub asks_loud : (ls : List Numbered) (names : Names) → lines_ask rules header names (loud ls) ≡ lines_ask rules header names ls
+  asks_loud [] names = refl
+  asks_loud (l ∷ ls) names = line_loud l ls (asks_loud ls) (is_head l.said) refl names
 
 -- ---- what a lane makes more
 module _ (s : List Line) (k : ℕ) (old new : History) (l m : SerialLane) (before : IsLane s k old l) (after : IsLane s k new m) (on : GoesOn k old new) (ys : List Numbered) (lines : loud (lane_before s k m.done) ≡ loud (lane_before s k l.done) ++ ys) where
@@ -142,26 +137,24 @@ module _ (s : List Line) (k : ℕ) (old new : History) (l m : SerialLane) (befor
   abbrev more : List Made
   more = replied (world_of old) (length old.events + 1) on.more
 
-  calls_then : calls_from (header_of s) k no_names (loud (lane_before s k l.done)) (answers_of made) ≡ all_answered (events_of made)
-  unfolding calls_before
-  calls_then = calls_loud (header_of s) k (lane_before s k l.done) no_names (answers_of made) ∙ made_all s k old l before
+  -- in the phases that are done later it asks for what these lines ask for besides
+  asks_more : asks_before s k m.done ≡ followed (asks_before s k l.done) (λ n. lines_ask (rules_told s) (header_of s) n ys)
+  unfolding asks_before
+  asks_more =
+      sym (asks_loud (rules_told s) (header_of s) (lane_before s k m.done) no_names)
+      ∙ ap (lines_ask (rules_told s) (header_of s) no_names) lines
+      ∙ asks_append (rules_told s) (header_of s) (loud (lane_before s k l.done)) ys no_names
+      ∙ ap (λ p. followed p (λ n. lines_ask (rules_told s) (header_of s) n ys)) (asks_loud (rules_told s) (header_of s) (lane_before s k l.done) no_names)
 
-  calls_now : calls_from (header_of s) k no_names (loud (lane_before s k l.done) ++ ys) (answers_of made ++ answers_of more) ≡ all_answered (events_of made ++ events_of more)
-  unfolding calls_before
-  calls_now =
-      (λ i. calls_from (header_of s) k no_names (sym lines i) (sym (map-append (λ (x : Made). record { reply = x.reply; bytes = x.bytes }) made more) i))
-      ∙ calls_loud (header_of s) k (lane_before s k m.done) no_names (answers_of (made ++ more))
-      ∙ ap (λ ms. calls_from (header_of s) k no_names (lane_before s k m.done) (answers_of ms)) (sym (made_by-on k old new on))
-      ∙ made_all s k new m after
-      ∙ ap (λ ms. all_answered (events_of ms)) (made_by-on k old new on)
-      ∙ ap all_answered (map-append (λ (x : Made). x.event) made more)
-
-  asked_for : (calls_from (header_of s) k (names_from (header_of s) no_names (loud (lane_before s k l.done)) (answers_of made)) ys (answers_of more)).entries ≡ on.more
-  asked_for =
-      append_cancel_left (events_of made) _ _ (
-      ap (λ (c : Calls). c.entries) (sym (appended (header_of s) k ys (loud (lane_before s k l.done)) no_names (answers_of made) (answers_of more) (events_of made) (same_long made) calls_then).calls ∙ calls_now)
-      ∙ ap (λ es. events_of made ++ es) (events_replied (world_of old) (length old.events + 1) on.more)
-      )
+  asked_more : AsAsked k (lines_ask (rules_told s) (header_of s) l.run.names ys) more
+  asked_more =
+      let all : AsAsked k (asks_before s k m.done) (made ++ more) = subst (λ (ms : List Made). AsAsked k (asks_before s k m.done) ms) (made_by-on k old new on) (asked_all s k new m after) in
+      let rest : AsAsked k (all_heard (followed (asks_before s k l.done) (λ n. lines_ask (rules_told s) (header_of s) n ys)) (answers_of made)) more =
+      asked_rest k _ made more (subst (λ (p : Asking Names). AsAsked k p (made ++ more)) asks_more all) in
+      subst (λ (p : Asking Names). AsAsked k p more)
+      (heard_followed (λ n. lines_ask (rules_told s) (header_of s) n ys) k (asks_before s k l.done) made l.run.names (asked_all s k old l before) (came_all s k old l before)) rest
 
   pub more_rises : (low high : ℕ) → Spans low high ys → Rises low high on.more
-  more_rises low high h = subst (λ (es : List Event). Rises low high es) asked_for (rises_calls (header_of s) k ys (names_from (header_of s) no_names (loud (lane_before s k l.done)) (answers_of made)) (answers_of more) low high h)
+  more_rises low high h =
+      subst (λ (es : List Event). Rises low high es) (events_replied (world_of old) (length old.events + 1) on.more)
+      (rises_asked (rules_told s) (header_of s) k ys l.run.names low high more h asked_more)

@@ -17,11 +17,13 @@ use Rattle.ix_script.specs.declared.line.Line.{Line}
 use Rattle.ix_script.specs.declared.line.Line.TheVariants as line
 use Rattle.ix_script.specs.scripts.Scripts.{config_of}
 use Rattle.ix_asking.specs.Asking.{Answered}
+use Rattle.ix_asking.specs.Lines.{calls_then, no_calls}
 use Rattle.ix_lanes.specs.asking.Asked.{no_names}
 use Rattle.ix_lanes.specs.histories.Serial.{header_of, seat_after, seat_from, serial}
-use Rattle.ix_lanes.specs.asking.LineAsks.{Numbered}
-use Rattle.ix_lanes.specs.histories.Lanes.{Lanes, calls_from, calls_of, is_seat, replies_of}
-use Rattle.ix_lanes.specs.running.Phases.{calls_before, is_phase, lane_among, lane_before, lines_before, lines_to, phases, seat_at}
+use Rattle.ix_lanes.specs.asking.LineAsks.{Numbered, lines_ask}
+use Rattle.ix_lanes.specs.asking.Ruled.{rules_told}
+use Rattle.ix_lanes.specs.histories.Lanes.{Lanes, calls_of, is_seat, lane_asks, replies_of}
+use Rattle.ix_lanes.specs.running.Phases.{asks_before, calls_before, is_phase, lane_among, lane_before, lines_before, lines_to, phases, seat_at}
 use Rattle.ix_lanes.specs.running.Runs.{StandsFor}
 use Rattle.ix_lanes.proofs.found.Indexed.{rest_is}
 use Rattle.ix_lanes.proofs.serially.OneEntry.{all_answered}
@@ -32,7 +34,7 @@ use Rattle.ix_serial.specs.Running.{AreAtFirst, IsLane, begun_after, lane_at, la
 use Rattle.ix_serial.specs.Sections.{has_placed_lanes, places_lanes}
 use Rattle.ix_serial.proofs.serially.Replied.{made_answers, made_entries}
 use Rattle.ix_serial.proofs.serially.Holding.{AreLanes, made_all, seats_stay, stays_lane}
-use Rattle.ix_serial.proofs.serially.Rising.{Rises, Spans, calls_loud, is_head, more_rises, never_fall, rises_both, rises_to}
+use Rattle.ix_serial.proofs.serially.Rising.{Rises, Spans, asks_loud, is_head, more_rises, never_fall, rises_both, rises_to}
 use Rattle.ix_serial.proofs.serially.Sections.{Begun, begun-line, begun-phase, front, high_at, high-head, high-line, loud-behind, loud_in, misplaced-line, phase_rest, rest_of, section_apart, section_spans, up_to, up_to-line}
 
 -- The lanes stand for what the core's history has of them; what asks for something in the phases that a lane has done is what does so among
@@ -140,12 +142,15 @@ module _ (s : List Line) (i : ℕ) (l : Line) (at : slice_get s i ≡ Some l) (l
 -- ---- at the end
 module _ (s : List Line) (high : ℕ) (lanes : List SerialLane) (h : History) (w : Walked s s high lanes h) where
   -- a lane asks for nothing in phases in which it doesn't stand
+  all_asks : (k : ℕ) → k < length (lanes_of s) → lane_asks s k ≡ asks_before s k (lane_at lanes k).done
+  unfolding lane_asks asks_before
+  all_asks k within =
+      sym (asks_loud (rules_told s) (header_of s) (lane_among s k s) no_names)
+      ∙ ap (lines_ask (rules_told s) (header_of s) no_names) (sym (w.lines k within))
+      ∙ asks_loud (rules_told s) (header_of s) (lane_before s k (lane_at lanes k).done) no_names
+
   all_asked : (k : ℕ) → k < length (lanes_of s) → (answers : List Answered) → calls_of s k answers ≡ calls_before s k (lane_at lanes k).done answers
-  unfolding calls_of calls_before
-  all_asked k within answers =
-      sym (calls_loud (header_of s) k (lane_among s k s) no_names answers)
-      ∙ ap (λ ls. calls_from (header_of s) k no_names ls answers) (sym (w.lines k within))
-      ∙ calls_loud (header_of s) k (lane_before s k (lane_at lanes k).done) no_names answers
+  all_asked k within answers = ap (λ p. calls_then k p answers no_calls) (all_asks k within)
 
   all_made : Lanes s h.events
   all_made = record {
