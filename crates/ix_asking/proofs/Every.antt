@@ -15,7 +15,8 @@ pub all-mapped : (A B : Type 0) (P : Asked → Type 0) (f : A → B) (p : Asking
 all-mapped A B P f (Done r) h = tt
 all-mapped A B P f (Ask a later) h = (h.0, λ x. all-mapped A B P f (later x) (h.1 x))
 
-pub all-followed : (A B : Type 0) (P : Asked → Type 0) (p : Asking A) (more : A → Asking B) → AllOf P p → ((r : A) → AllOf P (more r)) → AllOf P (followed p more)
+pub all-followed : (A B : Type 0) (P : Asked → Type 0) (p : Asking A) (more : A → Asking B) → AllOf P p → ((r : A) → AllOf P (more r))
+    → AllOf P (followed p more)
 all-followed A B P (Done r) more h k = k r
 all-followed A B P (Ask a later) more h k = (h.0, λ x. all-followed A B P (later x) more (h.1 x) k)
 
