@@ -29,7 +29,8 @@ AreFew _ n = Unit {0}
 -- together the calls cost so much at the most
 abbrev pub Costs : {R : Type 0} → ℕ → Asking R → Type 0
 Costs most (Done r) = Unit {0}
-Costs most (Ask a later) = (rest : ℕ) × (cost_of a.op + rest ≤ most) × ((x : Answered) → AreFew a.op (length x.bytes) → Costs rest (later x))
+Costs most (Ask a later) =
+    (rest : ℕ) × (cost_of a.op + rest ≤ most) × ((x : Answered) → AreFew a.op (length x.bytes) → Costs rest (later x))
 
 pub costs-more : (R : Type 0) (m n : ℕ) (p : Asking R) → m ≤ n → Costs m p → Costs n p
 costs-more R m n (Done r) h c = tt
@@ -40,7 +41,8 @@ costs-mapped A B f m (Done r) c = tt
 costs-mapped A B f m (Ask a later) c = (c.0, c.1, λ x few. costs-mapped A B f c.0 (later x) (c.2 x few))
 
 -- whether a call is refused or not
-pub costs-refused : (A : Type 0) (m : ℕ) (r : Reply) (refused : Refusal → Asking A) (passed : Asking A) → ((why : Refusal) → Costs m (refused why)) → Costs m passed
+pub costs-refused : (A : Type 0) (m : ℕ) (r : Reply) (refused : Refusal → Asking A) (passed : Asking A)
+    → ((why : Refusal) → Costs m (refused why)) → Costs m passed
     → Costs m (if_refused r refused passed)
 costs-refused A m (reply.No why) refused passed h k = h why
 costs-refused A m _ refused passed h k = k
@@ -57,7 +59,8 @@ write_costs line pid to m (b ∷ bytes) h = (0, omega (arith, h), λ x few. tt)
 
 pub copy-costs : (line : ℕ) (pid : Pid) (from to : Fd) (count : ℕ) → Costs (256 + min count 4096) (copies line pid from to count)
 unfolding cost_of
-copy-costs line pid from to count = (128 + min count 4096, omega arith, λ x few. write_costs line pid to (128 + min count 4096) x.bytes (omega (arith, few)))
+copy-costs line pid from to count =
+    (128 + min count 4096, omega arith, λ x few. write_costs line pid to (128 + min count 4096) x.bytes (omega (arith, few)))
 
 -- ---- what servers tell
 -- a word of at most eight letters and a number of at most eight digits
@@ -86,20 +89,28 @@ module _ (s : Server) where
   unfolding cost_of
   tell-costs o h = (128, omega (arith, h), λ a few. (0, omega arith, λ b few. tt))
 
-  pub verdict-costs : (allowed : ℕ → Asking Outcome) (verdict : Verdict) (m : ℕ) → 272 ≤ m → verdict.rule < 10 ^ 8 → Costs m (allowed verdict.rule) → Costs m (on_verdict s allowed verdict)
+  pub verdict-costs : (allowed : ℕ → Asking Outcome) (verdict : Verdict) (m : ℕ) → 272 ≤ m → verdict.rule < 10 ^ 8
+      → Costs m (allowed verdict.rule) → Costs m (on_verdict s allowed verdict)
   verdict-costs allowed verdict m h k c =
-      costs-either Outcome m verdict.allow _ _ c (costs-more Outcome 272 m (tell s (outcome.Denied verdict.rule false)) h (tell-costs (outcome.Denied verdict.rule false) (denied-few verdict.rule false k)))
+      costs-either Outcome m verdict.allow _ _ c
+      (costs-more Outcome 272 m (tell s (outcome.Denied verdict.rule false)) h (tell-costs (outcome.Denied verdict.rule false) (denied-few verdict.rule false k)))
 
-  read_costs : (on : OnMessage) (client : Pid) (label : Categories) (m : ℕ) → ((message : List ℕ) → length message ≤ 64 → Costs m (on client label message)) → Costs (128 + m) (read s on client label)
+  read_costs : (on : OnMessage) (client : Pid) (label : Categories) (m : ℕ)
+      → ((message : List ℕ) → length message ≤ 64 → Costs m (on client label message)) → Costs (128 + m) (read s on client label)
   unfolding cost_of
-  read_costs on client label m h = (m, omega arith, λ a few. costs-refused Outcome m a.reply _ _ (λ why. tt) (h a.bytes (omega (arith, few))))
+  read_costs on client label m h =
+      (m, omega arith, λ a few. costs-refused Outcome m a.reply _ _ (λ why. tt) (h a.bytes (omega (arith, few))))
 
-  on_reply : (on : OnMessage) (r : Reply) (m : ℕ) → ((client : Pid) (label : Categories) (message : List ℕ) → length message ≤ 64 → Costs m (on client label message)) → Costs (128 + m) (on_claim s on r)
+  on_reply : (on : OnMessage) (r : Reply) (m : ℕ)
+      → ((client : Pid) (label : Categories) (message : List ℕ) → length message ≤ 64 → Costs m (on client label message))
+      → Costs (128 + m) (on_claim s on r)
   on_reply on (reply.No why) m h = tt
   on_reply on (reply.Whole client label lic) m h = read_costs on client label m (h client label)
   on_reply on _ m h = tt
 
   -- the claim and the read are two entries
-  pub claim-costs : (on : OnMessage) (m : ℕ) → ((client : Pid) (label : Categories) (message : List ℕ) → length message ≤ 64 → Costs m (on client label message)) → Costs (256 + m) (claim s on)
+  pub claim-costs : (on : OnMessage) (m : ℕ)
+      → ((client : Pid) (label : Categories) (message : List ℕ) → length message ≤ 64 → Costs m (on client label message))
+      → Costs (256 + m) (claim s on)
   unfolding cost_of
   claim-costs on m h = (128 + m, omega arith, λ a few. on_reply on a.reply m h)

@@ -16,7 +16,8 @@ use Rattle.ix_policy.specs.declared.request.Verdict.{Verdict}
 use Rattle.ix_policy.specs.declared.rule.Rule.{Rule}
 
 -- ---- a verdict
-decided_step : (n most : ℕ) (allow b : Bool) (later : Verdict) → n + 1 ≤ most → later.rule ≤ most → (if b then record { rule = n + 1; allow = allow } else later).rule ≤ most
+decided_step : (n most : ℕ) (allow b : Bool) (later : Verdict) → n + 1 ≤ most → later.rule ≤ most
+    → (if b then record { rule = n + 1; allow = allow } else later).rule ≤ most
 decided_step n most allow true later h k = h
 decided_step n most allow false later h k = k
 
@@ -24,7 +25,8 @@ decided_from : (n : ℕ) (rules : List Rule) (q : Request) → (decide_from n ru
 unfolding decide_from
 decided_from n [] q = omega arith
 decided_from n (r ∷ rules) q =
-    decided_step n (n + length (r ∷ rules)) r.allow (matches r q) (decide_from (n + 1) rules q) (omega arith) (omega (arith, decided_from (n + 1) rules q))
+    decided_step n (n + length (r ∷ rules)) r.allow (matches r q) (decide_from (n + 1) rules q) (omega arith)
+    (omega (arith, decided_from (n + 1) rules q))
 
 -- a verdict's number is at most that of the last rule
 pub decided-few : (rules : List Rule) (q : Request) → (decide rules q).rule ≤ length rules
@@ -49,23 +51,29 @@ after_of : (form : Form) (ds : Items) (next : Result (List Rule) PolicyFault) (a
 after_of form ds (Ok more) all n rest h = rest more refl h
 after_of form ds (Err e) all n rest h = cc
 
-after_counted : (form : Form) (rules all : List Rule) (ds : Items) → rules_after form rules ds ≡ Ok all → length all ≡ length rules + items_len ds
+after_counted : (form : Form) (rules all : List Rule) (ds : Items) → rules_after form rules ds ≡ Ok all
+    → length all ≡ length rules + items_len ds
 unfolding rules_after
-after_counted form rules all no_items h = let same : rules ≡ all = cc in let none : length all ≡ length rules = ap length (sym same) in omega (arith, none)
+after_counted form rules all no_items h =
+    let same : rules ≡ all = cc in let none : length all ≡ length rules = ap length (sym same) in omega (arith, none)
 after_counted form rules all (item d ds) h =
     after_of form ds (next_rules form rules d) all (length rules + items_len (item d ds))
-    (λ more is rest. let one = next_counted form rules more d is in let others = after_counted form more all ds rest in omega (arith, one, others)) h
+    (λ more is rest. let one =
+        next_counted form rules more d is in let others = after_counted form more all ds rest in omega (arith, one, others)) h
 
-few : (form : Form) (b : Bool) (ds : Items) (all : List Rule) → nat_le (items_len ds) 256 ≡ b → cond b (rules_after form [] ds) (Err fault.TooMany) ≡ Ok all → length all ≤ 256
+few : (form : Form) (b : Bool) (ds : Items) (all : List Rule) → nat_le (items_len ds) 256 ≡ b
+    → cond b (rules_after form [] ds) (Err fault.TooMany) ≡ Ok all → length all ≤ 256
 few form true ds all is h = let counted = after_counted form [] all ds h in omega (arith, counted, leb-true (items_len ds) 256 is)
 few form false ds all is h = cc
 
-elements_few : (form : Form) (found : Option Items) (all : List Rule) → option_map_or (rules_of form) found (Err fault.Shape) ≡ Ok all → length all ≤ 256
+elements_few : (form : Form) (found : Option Items) (all : List Rule) → option_map_or (rules_of form) found (Err fault.Shape) ≡ Ok all
+    → length all ≤ 256
 unfolding rules_of
 elements_few form None all h = cc
 elements_few form (Some ds) all h = few form (nat_le (items_len ds) 256) ds all refl h
 
-value_few : (form : Form) (value : Option Data) (all : List Rule) → option_map_or (rules_in form) value (Err fault.Syntax) ≡ Ok all → length all ≤ 256
+value_few : (form : Form) (value : Option Data) (all : List Rule) → option_map_or (rules_in form) value (Err fault.Syntax) ≡ Ok all
+    → length all ≤ 256
 unfolding rules_in
 value_few form None all h = cc
 value_few form (Some d) all h = elements_few form (elements d) all h

@@ -24,14 +24,18 @@ use Rattle.ix_privserv.specs.Serving.{grant, on_want, on_message, serves}
 module _ (P : Asked → Type 0) (s : Server) (each : HoldsOfLine P s) where
   all_granted : (client : Pid) (want : PrivSet) (rule : ℕ) → AllOf P (grant s client want rule)
   all_granted client want rule =
-      (each s.pid (op.GrantLic client.0 want) tt, λ a. all-refused Outcome P a.reply _ _ (λ why. all-told P s each (outcome.Refused why 4)) (all-told P s each (outcome.Granted rule client false)))
+      (each s.pid (op.GrantLic client.0 want) tt, λ a. all-refused Outcome P a.reply _ _
+      (λ why. all-told P s each (outcome.Refused why 4)) (all-told P s each (outcome.Granted rule client false)))
 
-  all_wanted : (rules : List Rule) (client : Pid) (label : Categories) (message : List ℕ) (found : Option PrivSet) → AllOf P (on_want rules s client label message found)
+  all_wanted : (rules : List Rule) (client : Pid) (label : Categories) (message : List ℕ) (found : Option PrivSet)
+      → AllOf P (on_want rules s client label message found)
   all_wanted rules client label message None = all-told P s each (outcome.BadRequest (bad_at message) false)
-  all_wanted rules client label message (Some want) = all-decided P s each (grant s client want) (decide rules (request.Grant label want)) (all_granted client want)
+  all_wanted rules client label message (Some want) =
+      all-decided P s each (grant s client want) (decide rules (request.Grant label want)) (all_granted client want)
 
   pub all-served : (rules : List Rule) → AllOf P (serves rules s)
-  all-served rules = all-claimed P s each (on_message rules s) (λ client label message. all_wanted rules client label message (wanted message))
+  all-served rules =
+      all-claimed P s each (on_message rules s) (λ client label message. all_wanted rules client label message (wanted message))
 
 -- ---- what they cost
 module _ (rules : List Rule) (few : length rules ≤ 256) (s : Server) where
@@ -41,10 +45,12 @@ module _ (rules : List Rule) (few : length rules ≤ 256) (s : Server) where
       (272, omega arith, λ a read. costs-refused Outcome 272 a.reply _ _ (λ why. tell-costs s (outcome.Refused why 4) (refused-few why 4))
       (tell-costs s (outcome.Granted rule client false) (granted-few rule client false (omega (arith, low)))))
 
-  want_costs : (client : Pid) (label : Categories) (message : List ℕ) (found : Option PrivSet) → length message ≤ 64 → Costs 400 (on_want rules s client label message found)
+  want_costs : (client : Pid) (label : Categories) (message : List ℕ) (found : Option PrivSet) → length message ≤ 64
+      → Costs 400 (on_want rules s client label message found)
   want_costs client label message None short =
       costs-more Outcome 272 400 (tell s (outcome.BadRequest (bad_at message) false)) (omega arith)
-      (tell-costs s (outcome.BadRequest (bad_at message) false) (bad-few (bad_at message) false (omega (arith, short, longest-within begins_request message (length message)))))
+      (tell-costs s (outcome.BadRequest (bad_at message) false)
+      (bad-few (bad_at message) false (omega (arith, short, longest-within begins_request message (length message)))))
   want_costs client label message (Some want) short =
       let low = decided-few rules (request.Grant label want) in
       verdict-costs s (grant s client want) (decide rules (request.Grant label want)) 400 (omega arith) (omega (arith, low, few))
@@ -52,4 +58,5 @@ module _ (rules : List Rule) (few : length rules ≤ 256) (s : Server) where
 
   -- five entries with 16 bytes
   pub serve-costs : Costs 656 (serves rules s)
-  serve-costs = claim-costs s (on_message rules s) 400 (λ client label message short. want_costs client label message (wanted message) short)
+  serve-costs =
+      claim-costs s (on_message rules s) 400 (λ client label message short. want_costs client label message (wanted message) short)

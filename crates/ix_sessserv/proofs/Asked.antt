@@ -34,24 +34,31 @@ module _ (P : Asked → Type 0) (s : Server) (each : HoldsOfLine P s) (rules : L
 
   all_rest : (child : Pid) (rule : ℕ) → AllOf P (grant_rest rules s child rule)
   all_rest child rule =
-      (each s.pid (op.GrantLic child.0 (privs_of rules rule)) tt, λ a. all-refused Outcome P a.reply _ _ (λ why. all_given_up child why 7) (all-told P s each (outcome.Granted rule child false)))
+      (each s.pid (op.GrantLic child.0 (privs_of rules rule)) tt, λ a. all-refused Outcome P a.reply _ _
+      (λ why. all_given_up child why 7) (all-told P s each (outcome.Granted rule child false)))
 
   all_any : (child : Pid) (rule : ℕ) → AllOf P (grant_if_any rules s child rule)
-  all_any child rule = all-either Outcome P (is_empty (privs_of rules rule)) _ _ (all-told P s each (outcome.Granted rule child false)) (all_rest child rule)
+  all_any child rule =
+      all-either Outcome P (is_empty (privs_of rules rule)) _ _ (all-told P s each (outcome.Granted rule child false)) (all_rest child rule)
 
   all_ceiling : (child : Pid) (rule : ℕ) → AllOf P (set_ceiling rules s child rule)
-  all_ceiling child rule = (ceilings child.0 rule, λ a. all-refused Outcome P a.reply _ _ (λ why. all_given_up child why 6) (all_any child rule))
+  all_ceiling child rule =
+      (ceilings child.0 rule, λ a. all-refused Outcome P a.reply _ _ (λ why. all_given_up child why 6) (all_any child rule))
 
   all_dropped : (child : Pid) (rule : ℕ) → AllOf P (drop_all rules s child rule)
-  all_dropped child rule = (each child.0 (op.DropLic all_five) tt, λ a. all-refused Outcome P a.reply _ _ (λ why. all_given_up child why 5) (all_ceiling child rule))
+  all_dropped child rule =
+      (each child.0 (op.DropLic all_five) tt, λ a. all-refused Outcome P a.reply _ _ (λ why. all_given_up child why 5) (all_ceiling child rule))
 
   all_forked : (hand : Fd) (rule : ℕ) → AllOf P (fork rules s hand rule)
   all_forked hand rule =
-      (each s.pid (op.Fork (keep.One hand)) tt, λ a. all-refused Outcome P a.reply _ _ (λ why. all-told P s each (outcome.Refused why 4)) (all_dropped (child_in a.reply) rule))
+      (each s.pid (op.Fork (keep.One hand)) tt, λ a. all-refused Outcome P a.reply _ _
+      (λ why. all-told P s each (outcome.Refused why 4)) (all_dropped (child_in a.reply) rule))
 
-  all_user : (hand : Fd) (label : Categories) (message : List ℕ) (found : Option (List ℕ)) → AllOf P (on_user rules s hand label message found)
+  all_user : (hand : Fd) (label : Categories) (message : List ℕ) (found : Option (List ℕ))
+      → AllOf P (on_user rules s hand label message found)
   all_user hand label message None = all-told P s each (outcome.BadRequest (bad_at message) false)
-  all_user hand label message (Some user) = all-decided P s each (fork rules s hand) (decide rules (request.Session user label)) (all_forked hand)
+  all_user hand label message (Some user) =
+      all-decided P s each (fork rules s hand) (decide rules (request.Session user label)) (all_forked hand)
 
   pub all-served : (hand : Fd) → AllOf P (serves rules s hand)
   all-served hand = all-claimed P s each (on_message rules s hand) (λ client label message. all_user hand label message (user_in message))
@@ -64,7 +71,8 @@ module _ (rules : List Rule) (few : length rules ≤ 256) (s : Server) where
 
   success_costs : (child : Pid) (rule m : ℕ) → rule ≤ 256 → 272 ≤ m → Costs m (succeed s child rule)
   success_costs child rule m low h =
-      costs-more Outcome 272 m (tell s (outcome.Granted rule child false)) h (tell-costs s (outcome.Granted rule child false) (granted-few rule child false (omega (arith, low))))
+      costs-more Outcome 272 m (tell s (outcome.Granted rule child false)) h
+      (tell-costs s (outcome.Granted rule child false) (granted-few rule child false (omega (arith, low))))
 
   rest_costs : (child : Pid) (rule : ℕ) → rule ≤ 256 → Costs 528 (grant_rest rules s child rule)
   unfolding cost_of
@@ -73,28 +81,34 @@ module _ (rules : List Rule) (few : length rules ≤ 256) (s : Server) where
 
   any_costs : (child : Pid) (rule : ℕ) → rule ≤ 256 → Costs 528 (grant_if_any rules s child rule)
   any_costs child rule low =
-      costs-either Outcome 528 (is_empty (privs_of rules rule)) (succeed s child rule) (grant_rest rules s child rule) (success_costs child rule 528 low (omega arith)) (rest_costs child rule low)
+      costs-either Outcome 528 (is_empty (privs_of rules rule)) (succeed s child rule) (grant_rest rules s child rule)
+      (success_costs child rule 528 low (omega arith)) (rest_costs child rule low)
 
   ceiling_costs : (child : Pid) (rule : ℕ) → rule ≤ 256 → Costs 656 (set_ceiling rules s child rule)
   unfolding cost_of
   ceiling_costs child rule low =
-      (528, omega arith, λ a read. costs-refused Outcome 528 a.reply _ _ (λ why. costs-more Outcome 400 528 (give_up s child why 6) (omega arith) (given_up_costs child why 6)) (any_costs child rule low))
+      (528, omega arith, λ a read. costs-refused Outcome 528 a.reply _ _
+      (λ why. costs-more Outcome 400 528 (give_up s child why 6) (omega arith) (given_up_costs child why 6)) (any_costs child rule low))
 
   dropped_costs : (child : Pid) (rule : ℕ) → rule ≤ 256 → Costs 784 (drop_all rules s child rule)
   unfolding cost_of
   dropped_costs child rule low =
-      (656, omega arith, λ a read. costs-refused Outcome 656 a.reply _ _ (λ why. costs-more Outcome 400 656 (give_up s child why 5) (omega arith) (given_up_costs child why 5)) (ceiling_costs child rule low))
+      (656, omega arith, λ a read. costs-refused Outcome 656 a.reply _ _
+      (λ why. costs-more Outcome 400 656 (give_up s child why 5) (omega arith) (given_up_costs child why 5)) (ceiling_costs child rule low))
 
   fork_costs : (hand : Fd) (rule : ℕ) → rule ≤ 256 → Costs 912 (fork rules s hand rule)
   unfolding cost_of
   fork_costs hand rule low =
       (784, omega arith, λ a read. costs-refused Outcome 784 a.reply _ _
-      (λ why. costs-more Outcome 272 784 (tell s (outcome.Refused why 4)) (omega arith) (tell-costs s (outcome.Refused why 4) (refused-few why 4))) (dropped_costs (child_in a.reply) rule low))
+      (λ why. costs-more Outcome 272 784 (tell s (outcome.Refused why 4)) (omega arith) (tell-costs s (outcome.Refused why 4) (refused-few why 4)))
+      (dropped_costs (child_in a.reply) rule low))
 
-  user_costs : (hand : Fd) (label : Categories) (message : List ℕ) (found : Option (List ℕ)) → length message ≤ 64 → Costs 912 (on_user rules s hand label message found)
+  user_costs : (hand : Fd) (label : Categories) (message : List ℕ) (found : Option (List ℕ)) → length message ≤ 64
+      → Costs 912 (on_user rules s hand label message found)
   user_costs hand label message None short =
       costs-more Outcome 272 912 (tell s (outcome.BadRequest (bad_at message) false)) (omega arith)
-      (tell-costs s (outcome.BadRequest (bad_at message) false) (bad-few (bad_at message) false (omega (arith, short, longest-within begins_request message (length message)))))
+      (tell-costs s (outcome.BadRequest (bad_at message) false)
+      (bad-few (bad_at message) false (omega (arith, short, longest-within begins_request message (length message)))))
   user_costs hand label message (Some user) short =
       let low = decided-few rules (request.Session user label) in
       verdict-costs s (fork rules s hand) (decide rules (request.Session user label)) 912 (omega arith) (omega (arith, low, few))
@@ -102,4 +116,5 @@ module _ (rules : List Rule) (few : length rules ≤ 256) (s : Server) where
 
   -- nine entries with 16 bytes
   pub serve-costs : (hand : Fd) → Costs 1168 (serves rules s hand)
-  serve-costs hand = claim-costs s (on_message rules s hand) 912 (λ client label message short. user_costs hand label message (user_in message) short)
+  serve-costs hand =
+      claim-costs s (on_message rules s hand) 912 (λ client label message short. user_costs hand label message (user_in message) short)

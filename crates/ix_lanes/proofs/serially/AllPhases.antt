@@ -15,7 +15,8 @@ use Rattle.ix_lanes.proofs.phased.PhaseLines.{before-all}
 -- all phases have all lines
 pub all-asked : (s : List Line) (seat : ℕ) → asks_before s seat (phases s) ≡ lane_asks s seat
 unfolding asks_before lane_asks
-all-asked s seat = ap (λ lines. lines_ask (rules_told s) (header_of s) no_names (lines_of_seat (lanes_of s) seat 1 None lines)) (before-all s)
+all-asked s seat =
+    ap (λ lines. lines_ask (rules_told s) (header_of s) no_names (lines_of_seat (lanes_of s) seat 1 None lines)) (before-all s)
 
 pub all_phases : (s : List Line) (seat : ℕ) (answers : List Answered) → calls_before s seat (phases s) answers ≡ calls_of s seat answers
 all_phases s seat answers = ap (λ p. calls_then seat p answers no_calls) (all-asked s seat)

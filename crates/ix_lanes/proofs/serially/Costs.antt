@@ -119,12 +119,14 @@ one_costs : (o : Option Asked) (m : ℕ) → IfSome o (λ a. cost_of a.op ≤ m)
 one_costs None m h = tt
 one_costs (Some a) m h = (0, omega (arith, h), λ x few. tt)
 
-ruled_costs : (rules : Option (List Rule)) (m : ℕ) (serves : List Rule → Asking Handed) → ((r : List Rule) → rules ≡ Some r → Costs m (serves r)) → Costs m (by_rules rules serves)
+ruled_costs : (rules : Option (List Rule)) (m : ℕ) (serves : List Rule → Asking Handed)
+    → ((r : List Rule) → rules ≡ Some r → Costs m (serves r)) → Costs m (by_rules rules serves)
 ruled_costs None m serves h = tt
 ruled_costs (Some r) m serves h = h r refl
 
 module _ (rules : Option (List Rule)) (few : (r : List Rule) → rules ≡ Some r → length r ≤ 256) (header : Numbers) (names : Names) (n : ℕ) where
-  copies_cost : (proc : List ℕ) (from to : FdWord) (count : ℕ) → Costs (cost_of_line (line.Copy proc from to count)) (line_asks rules header names n (line.Copy proc from to count))
+  copies_cost : (proc : List ℕ) (from to : FdWord) (count : ℕ)
+      → Costs (cost_of_line (line.Copy proc from to count)) (line_asks rules header names n (line.Copy proc from to count))
   unfolding line_asks cost_of_line
   copies_cost proc from to count =
       costs-mapped (Unit {0}) Handed (λ r. handed.Nothing) (256 + min count 4096)
@@ -134,13 +136,16 @@ module _ (rules : Option (List Rule)) (few : (r : List Rule) → rules ≡ Some 
   priv_costs : (proc : List ℕ) (fd : FdWord) → Costs (cost_of_line (line.Priv proc fd)) (line_asks rules header names n (line.Priv proc fd))
   unfolding line_asks cost_of_line
   priv_costs proc fd =
-      ruled_costs rules 656 _ (λ r is. costs-mapped Outcome Handed (λ o. handed.Nothing) 656 (privileges.serves r (server_of header names n proc fd))
+      ruled_costs rules 656 _
+      (λ r is. costs-mapped Outcome Handed (λ o. handed.Nothing) 656 (privileges.serves r (server_of header names n proc fd))
       (privileges_asked.serve-costs r (few r is) (server_of header names n proc fd)))
 
-  login_costs : (proc : List ℕ) (fd hand : FdWord) (q : Option (List ℕ)) → Costs (cost_of_line (line.Login proc fd hand q)) (line_asks rules header names n (line.Login proc fd hand q))
+  login_costs : (proc : List ℕ) (fd hand : FdWord) (q : Option (List ℕ))
+      → Costs (cost_of_line (line.Login proc fd hand q)) (line_asks rules header names n (line.Login proc fd hand q))
   unfolding line_asks cost_of_line
   login_costs proc fd hand q =
-      ruled_costs rules 1168 _ (λ r is. costs-mapped Outcome Handed who_in 1168 (sessions.serves r (server_of header names n proc fd) (record { 0 = fd_of names hand }))
+      ruled_costs rules 1168 _
+      (λ r is. costs-mapped Outcome Handed who_in 1168 (sessions.serves r (server_of header names n proc fd) (record { 0 = fd_of names hand }))
       (sessions_asked.serve-costs r (few r is) (server_of header names n proc fd) (record { 0 = fd_of names hand })))
 
   -- what a line asks for costs no more than the line

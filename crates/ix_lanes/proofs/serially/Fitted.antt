@@ -56,35 +56,43 @@ module _ (form : Form) where
   AllIn [] = Unit {0}
   AllIn (l ∷ lines) = LineFits form l.said × AllIn lines
 
-  fits_then : (R : Type 0) (k : ℕ) (p : Asking R) (after : R → List Answered → Calls) → AllOf AskedFits p → ((r : R) (rest : List Answered) → All Fit (after r rest).entries)
+  fits_then : (R : Type 0) (k : ℕ) (p : Asking R) (after : R → List Answered → Calls) → AllOf AskedFits p
+      → ((r : R) (rest : List Answered) → All Fit (after r rest).entries)
       → (answers : List Answered) → All Fit (calls_then k p answers after).entries
   fits_then R k (Done r) after fits later answers = later r answers
   fits_then R k (Ask a more) after fits later [] = All-nil Fit
-  fits_then R k (Ask a more) after fits later (x ∷ answers) = All-cons Fit (entry_of k a) _ fits.0 (fits_then R k (more x) after (fits.1 x) later answers)
+  fits_then R k (Ask a more) after fits later (x ∷ answers) =
+      All-cons Fit (entry_of k a) _ fits.0 (fits_then R k (more x) after (fits.1 x) later answers)
 
   module _ (rules : Option (List Rule)) (clear : (r : List Rule) → rules ≡ Some r → (rule : ℕ) → Fits form (clear_of r rule)) (header : Numbers) where
     line_fits : (names : Names) (n : ℕ) (l : Line) → LineFits form l → AllOf AskedFits (line_asks rules header names n l)
     line_fits names n l h =
-        all-of-line AskedFits rules header names n l (asked_fits header names n l h) (λ pid o plain. plain_fits o plain) (λ r is pid target rule. clear r is rule)
+        all-of-line AskedFits rules header names n l (asked_fits header names n l h) (λ pid o plain. plain_fits o plain)
+        (λ r is pid target rule. clear r is rule)
 
-    calls_fit : (k : ℕ) (lines : List Numbered) → AllIn lines → (names : Names) (answers : List Answered) → All Fit (calls_from rules header k names lines answers).entries
+    calls_fit : (k : ℕ) (lines : List Numbered) → AllIn lines → (names : Names) (answers : List Answered)
+        → All Fit (calls_from rules header k names lines answers).entries
     calls_fit k [] h names answers = All-nil Fit
     calls_fit k (l ∷ lines) h names answers =
         subst (λ (c : Calls). All Fit c.entries) (sym (calls-line rules header k names l lines answers))
         (fits_then Handed k (line_asks rules header names l.number l.said) (λ g rest. calls_from rules header k (named names l.said g) lines rest)
         (line_fits names l.number l.said h.0) (λ g rest. calls_fit k lines h.1 (named names l.said g) rest) answers)
 
-  lines_in : (lanes : List (List ℕ)) (seat n : ℕ) (at : Option ℕ) (lines : List Line) → All (λ (l : Line). LineFits form l) lines → AllIn (lines_of_seat lanes seat n at lines)
+  lines_in : (lanes : List (List ℕ)) (seat n : ℕ) (at : Option ℕ) (lines : List Line) → All (λ (l : Line). LineFits form l) lines
+      → AllIn (lines_of_seat lanes seat n at lines)
   lines_in lanes seat n at [] h = tt
-  lines_in lanes seat n at (l ∷ lines) h = go (lines_in lanes seat (suc n) (seat_after lanes at l) lines (All-tail (λ (l : Line). LineFits form l) l lines h)) (is_seat seat at)
+  lines_in lanes seat n at (l ∷ lines) h =
+      go (lines_in lanes seat (suc n) (seat_after lanes at l) lines (All-tail (λ (l : Line). LineFits form l) l lines h)) (is_seat seat at)
     where
       go : AllIn (lines_of_seat lanes seat (suc n) (seat_after lanes at l) lines) → (b : Bool)
-          → AllIn (if b then (record { number = n; said = l }) ∷ lines_of_seat lanes seat (suc n) (seat_after lanes at l) lines else lines_of_seat lanes seat (suc n) (seat_after lanes at l) lines)
+          → AllIn (if b then (record { number = n; said = l }) ∷ lines_of_seat lanes seat (suc n) (seat_after lanes at l) lines
+          else lines_of_seat lanes seat (suc n) (seat_after lanes at l) lines)
       go more true = (h 0 l (omega arith), more)
       go more false = more
 
   -- ---- all lanes
-  by_seats : (n : ℕ) (events : List Event) → list_all (λ (e : Event). nat_lt e.seat n) events ≡ true → ((seat : ℕ) → seat < n → All Fit (entries_of seat events)) → All Fit events
+  by_seats : (n : ℕ) (events : List Event) → list_all (λ (e : Event). nat_lt e.seat n) events ≡ true
+      → ((seat : ℕ) → seat < n → All Fit (entries_of seat events)) → All Fit events
   by_seats n [] low each = All-nil Fit
   by_seats n (e ∷ events) low each =
       let parts = and_parts (nat_lt e.seat n) (list_all (λ (e : Event). nat_lt e.seat n) events) low in
@@ -95,11 +103,15 @@ module _ (form : Form) where
       ]))
 
 -- ---- a script
-seat_fits : (s : List Line) → All (λ (l : Line). LineFits (form_told s) l) s → (seat : ℕ) (answers : List Answered) → All (Fit (form_told s)) (calls_of s seat answers).entries
+seat_fits : (s : List Line) → All (λ (l : Line). LineFits (form_told s) l) s → (seat : ℕ) (answers : List Answered)
+    → All (Fit (form_told s)) (calls_of s seat answers).entries
 unfolding lane_asks
 seat_fits s h seat answers =
-    calls_fit (form_told s) (rules_told s) (told-clear s) (header_of s) seat (lines_of_seat (lanes_of s) seat 1 None s) (lines_in (form_told s) (lanes_of s) seat 1 None s h) no_names answers
+    calls_fit (form_told s) (rules_told s) (told-clear s) (header_of s) seat (lines_of_seat (lanes_of s) seat 1 None s)
+    (lines_in (form_told s) (lanes_of s) seat 1 None s h) no_names answers
 
-pub history_fits : (s : List Line) (events : List Event) → All (λ (l : Line). LineFits (form_told s) l) s → Lanes s events → EventsFit (form_told s) events
+pub history_fits : (s : List Line) (events : List Event) → All (λ (l : Line). LineFits (form_told s) l) s → Lanes s events
+    → EventsFit (form_told s) events
 history_fits s events h lanes =
-    by_seats (form_told s) (length (lanes_of s)) events lanes.seats (λ seat below. subst (All (Fit (form_told s))) (ap (λ (c : Calls). c.entries) (lanes.calls seat below)) (seat_fits s h seat (replies_of s seat events)))
+    by_seats (form_told s) (length (lanes_of s)) events lanes.seats
+    (λ seat below. subst (All (Fit (form_told s))) (ap (λ (c : Calls). c.entries) (lanes.calls seat below)) (seat_fits s h seat (replies_of s seat events)))

@@ -39,7 +39,8 @@ pub calls-line : (rules : Option (List Rule)) (header : Numbers) (k : ℕ) (name
     → calls_from rules header k names (l ∷ lines) answers
     ≡ calls_then k (line_asks rules header names l.number l.said) answers (λ g rest. calls_from rules header k (named names l.said g) lines rest)
 calls-line rules header k names l lines answers =
-    calls-followed Handed Names k (line_asks rules header names l.number l.said) (λ g. lines_ask rules header (named names l.said g) lines) answers no_calls
+    calls-followed Handed Names k (line_asks rules header names l.number l.said) (λ g. lines_ask rules header (named names l.said g) lines)
+    answers no_calls
 
 -- ---- the entries of a seat, and the replies to them
 pub entries-mine : (k : ℕ) (e : Event) (events : List Event) → e.seat ≡ k → entries_of k (e ∷ events) ≡ e ∷ entries_of k events
@@ -57,7 +58,8 @@ pub replies-other : (w : World) (place k : ℕ) (e : Event) (events : List Event
 replies-other w place k e events apart = rw (ne_eqb e.seat k apart) refl
 
 -- ---- names
-pub names-mine : (names : List Names) (k : ℕ) (l : Line) (g : Handed) → k < length names → names_of (renamed names k l g) k ≡ named (names_of names k) l g
+pub names-mine : (names : List Names) (k : ℕ) (l : Line) (g : Handed) → k < length names
+    → names_of (renamed names k l g) k ≡ named (names_of names k) l g
 names-mine names k l g within = get_or-set_same names k (named (names_of names k) l g) no_names within
 
 pub names-other : (names : List Names) (j k : ℕ) (l : Line) (g : Handed) → (j ≡ k → ⊥) → names_of (renamed names j l g) k ≡ names_of names k
@@ -69,13 +71,16 @@ length-renamed names k l g = length-set names k (named (names_of names k) l g)
 -- ---- seats
 seat_found : (n : ℕ) (name : List ℕ) (lanes : List (List ℕ)) → IfSome (seat_from n name lanes) (λ s. s < n + length lanes)
 seat_found n name [] = tt
-seat_found n name (lane ∷ lanes) = elim (same_bytes name lane) as (λ b. IfSome (if b then Some n else seat_from (suc n) name lanes) (λ s. s < n + suc (length lanes))) [
+seat_found n name (lane ∷ lanes) =
+    elim (same_bytes name lane) as (λ b. IfSome (if b then Some n else seat_from (suc n) name lanes) (λ s. s < n + suc (length lanes))) [
   | true ↦ omega arith
   | false ↦ if_some_below (seat_from (suc n) name lanes) (suc n + length lanes) (n + suc (length lanes)) (omega arith) (seat_found (suc n) name lanes)
 ]
 
 -- the lane in which the next line stands is one of the script
-pub seat_within : (lanes : List (List ℕ)) (seat : Option ℕ) (l : Line) (n : ℕ) → n ≡ length lanes → IfSome seat (λ s. s < n) → IfSome (seat_after lanes seat l) (λ s. s < n)
+pub seat_within : (lanes : List (List ℕ)) (seat : Option ℕ) (l : Line) (n : ℕ) → n ≡ length lanes → IfSome seat (λ s. s < n)
+    → IfSome (seat_after lanes seat l) (λ s. s < n)
 seat_within lanes seat line.Phase n is h = tt
-seat_within lanes seat (line.Lane name) n is h = if_some_below (seat_from 0 name lanes) (0 + length lanes) n (omega (arith, is)) (seat_found 0 name lanes)
+seat_within lanes seat (line.Lane name) n is h =
+    if_some_below (seat_from 0 name lanes) (0 + length lanes) n (omega (arith, is)) (seat_found 0 name lanes)
 seat_within lanes seat _ n is h = h

@@ -28,7 +28,9 @@ module _ (P : Asked → Type 0) (rules : Option (List Rule)) (header : Numbers) 
 
   -- and of those that set a ceiling to the label of a rule
   abbrev pub OfCeilings : Type 0
-  OfCeilings = (r : List Rule) → rules ≡ Some r → (pid target rule : ℕ) → P (record { line = n; pid = pid; op = op.SetCeiling target (clear_of r rule) })
+  OfCeilings =
+      (r : List Rule) → rules ≡ Some r → (pid target rule : ℕ) → P
+      (record { line = n; pid = pid; op = op.SetCeiling target (clear_of r rule) })
 
   all_one : (o : Option Asked) → IfSome o P → AllOf P (one_call o)
   all_one None h = tt
@@ -41,7 +43,8 @@ module _ (P : Asked → Type 0) (rules : Option (List Rule)) (header : Numbers) 
   all_copied : (pid from to count : ℕ) → OfPlain → AllOf P (copies n (record { 0 = pid }) (record { 0 = from }) (record { 0 = to }) count)
   all_copied pid from to count each = (each pid (op.ReadFd from count) tt, λ x. all_written pid to x.bytes each)
 
-  all_ruled : (told : Option (List Rule)) (serves : List Rule → Asking Handed) → ((r : List Rule) → told ≡ Some r → AllOf P (serves r)) → AllOf P (by_rules told serves)
+  all_ruled : (told : Option (List Rule)) (serves : List Rule → Asking Handed) → ((r : List Rule) → told ≡ Some r → AllOf P (serves r))
+      → AllOf P (by_rules told serves)
   all_ruled None serves h = tt
   all_ruled (Some r) serves h = h r refl
 
@@ -49,12 +52,14 @@ module _ (P : Asked → Type 0) (rules : Option (List Rule)) (header : Numbers) 
   unfolding line_asks
   all-of-line (line.Copy proc from to count) one each ceilings =
       all-mapped (Unit {0}) Handed P (λ r. handed.Nothing)
-      (copies n (record { 0 = pid_of header names proc }) (record { 0 = fd_of names from }) (record { 0 = fd_of names to }) count) (all_copied (pid_of header names proc) (fd_of names from) (fd_of names to) count each)
+      (copies n (record { 0 = pid_of header names proc }) (record { 0 = fd_of names from }) (record { 0 = fd_of names to }) count)
+      (all_copied (pid_of header names proc) (fd_of names from) (fd_of names to) count each)
   all-of-line (line.Priv proc fd) one each ceilings =
       all_ruled rules _ (λ r is. all-mapped Outcome Handed P (λ o. handed.Nothing) (privileges.serves r (server_of header names n proc fd))
       (privileges_asked.all-served P (server_of header names n proc fd) each r))
   all-of-line (line.Login proc fd hand named) one each ceilings =
-      all_ruled rules _ (λ r is. all-mapped Outcome Handed P who_in (sessions.serves r (server_of header names n proc fd) (record { 0 = fd_of names hand }))
+      all_ruled rules _
+      (λ r is. all-mapped Outcome Handed P who_in (sessions.serves r (server_of header names n proc fd) (record { 0 = fd_of names hand }))
       (sessions_asked.all-served P (server_of header names n proc fd) each r (ceilings r is (pid_of header names proc)) (record { 0 = fd_of names hand })))
   all-of-line l one each ceilings = all_one (asked header names n l) one
 
@@ -81,6 +86,7 @@ asked_of_line header names n (line.Login proc fd hand named) = tt
 asked_of_line header names n _ = refl
 
 -- each call that a line asks for has its number
-pub all-numbered : (rules : Option (List Rule)) (header : Numbers) (names : Names) (n : ℕ) (l : Line) → AllOf (OfLine n) (line_asks rules header names n l)
+pub all-numbered : (rules : Option (List Rule)) (header : Numbers) (names : Names) (n : ℕ) (l : Line)
+    → AllOf (OfLine n) (line_asks rules header names n l)
 all-numbered rules header names n l =
     all-of-line (OfLine n) rules header names n l (asked_of_line header names n l) (λ pid o plain. refl) (λ r is pid target rule. refl)

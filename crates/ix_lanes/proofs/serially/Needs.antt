@@ -91,23 +91,29 @@ below-spare f g j c n h low spare =
     omega (arith, all, below-add f (alone j c) n, below-alone j c n low)
 
 -- ---- entries, by their seats
-entry_cost : (k : ℕ) (e : Event) (events : List Event) → cost_of_history (entries_of k (e ∷ events)) ≡ alone e.seat (cost_of e.op) k + cost_of_history (entries_of k events)
+entry_cost : (k : ℕ) (e : Event) (events : List Event)
+    → cost_of_history (entries_of k (e ∷ events)) ≡ alone e.seat (cost_of e.op) k + cost_of_history (entries_of k events)
 entry_cost k e events = elim (cases_eq e.seat k) [
   | inl mine ↦
-      let here : cost_of_history (entries_of k (e ∷ events)) ≡ cost_of e.op + cost_of_history (entries_of k events) = ap cost_of_history (entries-mine k e events mine) ∙ cost-cons e (entries_of k events) in
+      let here : cost_of_history (entries_of k (e ∷ events)) ≡ cost_of e.op + cost_of_history (entries_of k events) =
+      ap cost_of_history (entries-mine k e events mine) ∙ cost-cons e (entries_of k events) in
       omega (arith, here, alone-here e.seat (cost_of e.op) k mine)
   | inr apart ↦
       let elsewhere : cost_of_history (entries_of k (e ∷ events)) ≡ cost_of_history (entries_of k events) = ap cost_of_history (entries-other k e events apart) in
       omega (arith, elsewhere, alone-else e.seat (cost_of e.op) k apart)
 ]
 
-by_seats : (count : ℕ) (events : List Event) → list_all (λ e. nat_lt e.seat count) events ≡ true → cost_of_history events ≡ below (λ k. cost_of_history (entries_of k events)) count
+by_seats : (count : ℕ) (events : List Event) → list_all (λ e. nat_lt e.seat count) events ≡ true
+    → cost_of_history events ≡ below (λ k. cost_of_history (entries_of k events)) count
 by_seats count [] h = cost-none ∙ sym (below-nothing (λ k. cost_of_history []) count (λ k. cost-none))
 by_seats count (e ∷ events) h =
     let seats = first_seat count e events h in
     let split : below (λ k. cost_of_history (entries_of k (e ∷ events))) count ≡ below (λ k. alone e.seat (cost_of e.op) k + cost_of_history (entries_of k events)) count =
-    below-same (λ k. cost_of_history (entries_of k (e ∷ events))) (λ k. alone e.seat (cost_of e.op) k + cost_of_history (entries_of k events)) count (λ k. entry_cost k e events) in
-    omega (arith, split, below-add (alone e.seat (cost_of e.op)) (λ k. cost_of_history (entries_of k events)) count, below-alone e.seat (cost_of e.op) count seats.0, by_seats count events seats.1, cost-cons e events)
+    below-same (λ k. cost_of_history (entries_of k (e ∷ events)))
+    (λ k. alone e.seat (cost_of e.op) k + cost_of_history (entries_of k events)) count (λ k. entry_cost k e events) in
+    omega
+    (arith, split, below-add (alone e.seat (cost_of e.op)) (λ k. cost_of_history (entries_of k events)) count, below-alone e.seat (cost_of e.op) count seats.0,
+    by_seats count events seats.1, cost-cons e events)
 
 -- ---- lines, by the seats of their lanes
 -- what numbered lines need
@@ -122,14 +128,21 @@ line_need lanes k j n l lines = elim (cases_eq j k) [
   | inr apart ↦ let elsewhere = ap need_of (lines-other lanes k j n l lines apart) in omega (arith, elsewhere, alone-else j (cost_of_line l) k apart)
 ]
 
-lines_need : (lanes : List (List ℕ)) (count n : ℕ) (at : Option ℕ) (lines : List Line) → below (λ k. need_of (lines_of_seat lanes k n at lines)) count ≤ need lines
-lines_need lanes count n at [] = let none : below (λ k. need_of (lines_of_seat lanes k n at [])) count ≡ 0 = below-nothing (λ k. need_of (lines_of_seat lanes k n at [])) count (λ k. refl) in omega (arith, none)
+lines_need : (lanes : List (List ℕ)) (count n : ℕ) (at : Option ℕ) (lines : List Line)
+    → below (λ k. need_of (lines_of_seat lanes k n at lines)) count ≤ need lines
+lines_need lanes count n at [] =
+    let none : below (λ k. need_of (lines_of_seat lanes k n at [])) count ≡ 0 =
+    below-nothing (λ k. need_of (lines_of_seat lanes k n at [])) count (λ k. refl) in
+    omega (arith, none)
 lines_need lanes count n None (l ∷ lines) = omega (arith, lines_need lanes count (suc n) (seat_after lanes None l) lines, need-cons l lines)
 lines_need lanes count n (Some j) (l ∷ lines) =
     let rest : ℕ → ℕ = λ k. need_of (lines_of_seat lanes k (suc n) (seat_after lanes (Some j) l) lines) in
     let split : below (λ k. need_of (lines_of_seat lanes k n (Some j) (l ∷ lines))) count ≡ below (λ k. alone j (cost_of_line l) k + rest k) count =
-    below-same (λ k. need_of (lines_of_seat lanes k n (Some j) (l ∷ lines))) (λ k. alone j (cost_of_line l) k + rest k) count (λ k. line_need lanes k j n l lines) in
-    omega (arith, split, below-add (alone j (cost_of_line l)) rest count, below-most j (cost_of_line l) count, lines_need lanes count (suc n) (seat_after lanes (Some j) l) lines, need-cons l lines)
+    below-same (λ k. need_of (lines_of_seat lanes k n (Some j) (l ∷ lines))) (λ k. alone j (cost_of_line l) k + rest k) count
+    (λ k. line_need lanes k j n l lines) in
+    omega
+    (arith, split, below-add (alone j (cost_of_line l)) rest count, below-most j (cost_of_line l) count,
+    lines_need lanes count (suc n) (seat_after lanes (Some j) l) lines, need-cons l lines)
 
 -- ---- one lane
 -- none of the entries is answered more bytes than it asks for
@@ -141,7 +154,8 @@ Answers (e ∷ events) (r ∷ answers) = AreFew e.op (length r.bytes) × Answers
 few_answers : (w : World) (place k : ℕ) (events : List Event) → Answers (entries_of k events) (replies_from w place k events)
 few_answers w place k [] = tt
 few_answers w place k (e ∷ events) = elim (cases_eq e.seat k) [
-  | inl mine ↦ rw (entries-mine k e events mine, replies-mine w place k e events mine) (few_bytes w place e, few_answers (step_of w place e).world (place + 1) k events)
+  | inl mine ↦ rw (entries-mine k e events mine, replies-mine w place k e events mine)
+      (few_bytes w place e, few_answers (step_of w place e).world (place + 1) k events)
   | inr apart ↦ rw (entries-other k e events apart, replies-other w place k e events apart) (few_answers (step_of w place e).world (place + 1) k events)
 ]
 
@@ -157,7 +171,8 @@ calls_cost c = cost_of_history c.entries + next_cost c.next
 abbrev Within : Calls → List Answered → ℕ → Type 0
 Within c answers n = Answers c.entries answers → calls_cost c ≤ n
 
-then_within : (R : Type 0) (k m n : ℕ) (p : Asking R) (after : R → List Answered → Calls) → Costs m p → ((r : R) (rest : List Answered) → Within (after r rest) rest n)
+then_within : (R : Type 0) (k m n : ℕ) (p : Asking R) (after : R → List Answered → Calls) → Costs m p
+    → ((r : R) (rest : List Answered) → Within (after r rest) rest n)
     → (answers : List Answered) → Within (calls_then k p answers after) answers (m + n)
 then_within R k m n (Done r) after costs later answers = λ h. omega (arith, later r answers h)
 then_within R k m n (Ask a more) after costs later [] = λ h. omega (arith, costs.1, cost-none)
@@ -165,38 +180,48 @@ then_within R k m n (Ask a more) after costs later (x ∷ answers) = λ h.
     let rest = then_within R k costs.0 n (more x) after (costs.2 x h.0) later answers h.1 in
     omega (arith, rest, costs.1, cost-cons (entry_of k a) (calls_then k (more x) answers after).entries)
 
-lane_within : (rules : Option (List Rule)) → ((r : List Rule) → rules ≡ Some r → length r ≤ 256) → (header : Numbers) (k : ℕ) (names : Names) (lines : List Numbered) (answers : List Answered)
+lane_within : (rules : Option (List Rule)) → ((r : List Rule) → rules ≡ Some r → length r ≤ 256)
+    → (header : Numbers) (k : ℕ) (names : Names) (lines : List Numbered) (answers : List Answered)
     → Within (calls_from rules header k names lines answers) answers (need_of lines)
 lane_within rules few header k names [] answers = λ h. omega (arith, cost-none)
 lane_within rules few header k names (l ∷ lines) answers =
     subst (λ (c : Calls). Within c answers (cost_of_line l.said + need_of lines)) (sym (calls-line rules header k names l lines answers))
-    (then_within Handed k (cost_of_line l.said) (need_of lines) (line_asks rules header names l.number l.said) (λ g rest. calls_from rules header k (named names l.said g) lines rest)
-    (line-costs rules few header names l.number l.said) (λ g rest. lane_within rules few header k (named names l.said g) lines rest) answers)
+    (then_within Handed k (cost_of_line l.said) (need_of lines) (line_asks rules header names l.number l.said)
+    (λ g rest. calls_from rules header k (named names l.said g) lines rest)
+    (line-costs rules few header names l.number l.said) (λ g rest. lane_within rules few header k (named names l.said g) lines rest)
+    answers)
 
 -- ---- all lanes
 module _ (s : List Line) (events : List Event) (so_far : LanesSoFar s events) where
-  lane : (k : ℕ) → k < length (lanes_of s) → cost_of_history (entries_of k events) + next_cost (calls_of s k (replies_of s k events)).next ≤ need_of (lines_of_seat (lanes_of s) k 1 None s)
+  lane : (k : ℕ) → k < length (lanes_of s)
+      → cost_of_history (entries_of k events) + next_cost (calls_of s k (replies_of s k events)).next ≤ need_of (lines_of_seat (lanes_of s) k 1 None s)
   unfolding lane_asks replies_of
   lane k low =
       let entries = so_far.calls k low in
-      let few : Answers (calls_of s k (replies_of s k events)).entries (replies_of s k events) = subst (λ (es : List Event). Answers es (replies_of s k events)) (sym entries) (few_answers (opening_world (config_of s)) 1 k events) in
+      let few : Answers (calls_of s k (replies_of s k events)).entries (replies_of s k events) =
+      subst (λ (es : List Event). Answers es (replies_of s k events)) (sym entries) (few_answers (opening_world (config_of s)) 1 k events) in
       let within = lane_within (rules_told s) (rules-few s) (header_of s) k no_names (lines_of_seat (lanes_of s) k 1 None s) (replies_of s k events) few in
       let same : cost_of_history (calls_of s k (replies_of s k events)).entries ≡ cost_of_history (entries_of k events) = ap cost_of_history entries in
       omega (arith, within, same)
 
   pub so_far_fits : cost_of_history events ≤ need s
   so_far_fits =
-      let all = below-le (λ k. cost_of_history (entries_of k events)) (λ k. need_of (lines_of_seat (lanes_of s) k 1 None s)) (length (lanes_of s)) (λ k low. let one = lane k low in omega (arith, one)) in
+      let all = below-le (λ k. cost_of_history (entries_of k events)) (λ k. need_of (lines_of_seat (lanes_of s) k 1 None s)) (length (lanes_of s))
+      (λ k low. let one = lane k low in omega (arith, one)) in
       omega (arith, by_seats (length (lanes_of s)) events so_far.seats, all, lines_need (lanes_of s) (length (lanes_of s)) 1 None s)
 
-  pub next_fits : (k : ℕ) → k < length (lanes_of s) → IfSome (calls_of s k (replies_of s k events)).next (λ e. cost_of_history (events ++ e ∷ []) ≤ need s)
+  pub next_fits : (k : ℕ) → k < length (lanes_of s)
+      → IfSome (calls_of s k (replies_of s k events)).next (λ e. cost_of_history (events ++ e ∷ []) ≤ need s)
   next_fits k low = go (calls_of s k (replies_of s k events)).next (lane k low)
     where
-      go : (o : Option Event) → cost_of_history (entries_of k events) + next_cost o ≤ need_of (lines_of_seat (lanes_of s) k 1 None s) → IfSome o (λ e. cost_of_history (events ++ e ∷ []) ≤ need s)
+      go : (o : Option Event) → cost_of_history (entries_of k events) + next_cost o ≤ need_of (lines_of_seat (lanes_of s) k 1 None s)
+          → IfSome o (λ e. cost_of_history (events ++ e ∷ []) ≤ need s)
       go None h = tt
       go (Some e) h =
-          let all = below-spare (λ j. cost_of_history (entries_of j events)) (λ j. need_of (lines_of_seat (lanes_of s) j 1 None s)) k (cost_of e.op) (length (lanes_of s)) (λ j j_low. let one = lane j j_low in omega (arith, one)) low h in
-          omega (arith, cost-push events e, by_seats (length (lanes_of s)) events so_far.seats, all, lines_need (lanes_of s) (length (lanes_of s)) 1 None s)
+          let all = below-spare (λ j. cost_of_history (entries_of j events)) (λ j. need_of (lines_of_seat (lanes_of s) j 1 None s)) k (cost_of e.op)
+          (length (lanes_of s)) (λ j j_low. let one = lane j j_low in omega (arith, one)) low h in
+          omega
+          (arith, cost-push events e, by_seats (length (lanes_of s)) events so_far.seats, all, lines_need (lanes_of s) (length (lanes_of s)) 1 None s)
 
 -- a whole history costs no more either
 pub whole_fits : (s : List Line) (events : List Event) → Lanes s events → cost_of_history events ≤ need s

@@ -18,7 +18,8 @@ tail_rises e [] h = refl
 tail_rises e (f ∷ events) h = (and_parts (nat_le e.line f.line) (never_falls (f ∷ events)) h).1
 
 -- no entry of a seat lies before the first entry
-pub first_is_least : (k : ℕ) (e f : Event) (events later : List Event) → never_falls (e ∷ events) ≡ true → entries_of k events ≡ f ∷ later → e.line ≤ f.line
+pub first_is_least : (k : ℕ) (e f : Event) (events later : List Event) → never_falls (e ∷ events) ≡ true → entries_of k events ≡ f ∷ later
+    → e.line ≤ f.line
 first_is_least k e f [] later h has = cc
 first_is_least k e f (g ∷ events) later h has =
     let parts = and_parts (nat_le e.line g.line) (never_falls (g ∷ events)) h in
@@ -76,7 +77,8 @@ first_entry e f c events h =
     (first, λ i. record { entries = later i; next = next i })
 
 -- what is asked for is among the entries
-is_among : (e : Event) (answers : List Answered) (more : Answered → List Answered → Calls) (events : List Event) → asks_for e answers more ≡ all_answered events → (later : List Event) × (events ≡ e ∷ later)
+is_among : (e : Event) (answers : List Answered) (more : Answered → List Answered → Calls) (events : List Event)
+    → asks_for e answers more ≡ all_answered events → (later : List Event) × (events ≡ e ∷ later)
 is_among e [] more events h = let none : Some e ≡ None = ap (λ (x : Calls). x.next) h in cc
 is_among e (r ∷ answers) more events h = (_, sym (ap (λ (x : Calls). x.entries) h))
 
@@ -89,16 +91,19 @@ module _ (count : ℕ) (before after : LanesAsk) (w : World) (place : ℕ) (e : 
     pub within : e.seat < count
 
   -- what the entry's lane asks for, once it is answered
-  goes_on : Answers → (events : List Event) → before e.seat (replies_from w place e.seat (e ∷ events)) ≡ with_entry_first e (after e.seat (replies_from (step_of w place e).world (place + 1) e.seat events))
+  goes_on : Answers → (events : List Event)
+      → before e.seat (replies_from w place e.seat (e ∷ events)) ≡ with_entry_first e (after e.seat (replies_from (step_of w place e).world (place + 1) e.seat events))
   goes_on a events =
       ap (before e.seat) (replies-mine w place e.seat e events refl) ∙ a.first _
       ∙ ap (with_entry_first e) (sym (a.mine (replies_from (step_of w place e).world (place + 1) e.seat events)))
 
   -- what another lane asks for stays
-  stays : Answers → (events : List Event) (k : ℕ) → (e.seat ≡ k → ⊥) → before k (replies_from w place k (e ∷ events)) ≡ after k (replies_from (step_of w place e).world (place + 1) k events)
+  stays : Answers → (events : List Event) (k : ℕ) → (e.seat ≡ k → ⊥)
+      → before k (replies_from w place k (e ∷ events)) ≡ after k (replies_from (step_of w place e).world (place + 1) k events)
   stays a events k apart = ap (before k) (replies-other w place k e events apart) ∙ sym (a.others k apart _)
 
-  rises : ((k : ℕ) → StartsAt e.line (after k)) → (v : World) (next_place : ℕ) (events : List Event) → Going count after v next_place events → never_falls (e ∷ events) ≡ true
+  rises : ((k : ℕ) → StartsAt e.line (after k)) → (v : World) (next_place : ℕ) (events : List Event) → Going count after v next_place events
+      → never_falls (e ∷ events) ≡ true
   rises starts v p [] g = refl
   rises starts v p (f ∷ events) g =
       let later = starts f.seat (replies_from v p f.seat (f ∷ events)) f (entries_of f.seat events)
@@ -106,7 +111,8 @@ module _ (count : ℕ) (before after : LanesAsk) (w : World) (place : ℕ) (e : 
       and_from (nat_le e.line f.line) (never_falls (f ∷ events)) (le-leb e.line f.line later) g.order
 
   -- the entry comes before what is asked for later
-  pub one_before : Answers → ((k : ℕ) → StartsAt e.line (after k)) → (events : List Event) → Going count after (step_of w place e).world (place + 1) events → Going count before w place (e ∷ events)
+  pub one_before : Answers → ((k : ℕ) → StartsAt e.line (after k)) → (events : List Event)
+      → Going count after (step_of w place e).world (place + 1) events → Going count before w place (e ∷ events)
   one_before a starts events g = record {
     seats = and_from (nat_lt e.seat count) (list_all (λ x. nat_lt x.seat count) events) (lt-ltb e.seat count a.within) g.seats;
     calls = λ k k_within. elim (cases_eq e.seat k) [
@@ -118,7 +124,8 @@ module _ (count : ℕ) (before after : LanesAsk) (w : World) (place : ℕ) (e : 
   }
 
   -- what is left after the entry
-  left_after : Answers → (events : List Event) → Going count before w place (e ∷ events) → Going count after (step_of w place e).world (place + 1) events
+  left_after : Answers → (events : List Event) → Going count before w place (e ∷ events)
+      → Going count after (step_of w place e).world (place + 1) events
   left_after a events g = record {
     seats = (first_seat count e events g.seats).1;
     calls = λ k k_within. elim (cases_eq e.seat k) [
@@ -131,9 +138,11 @@ module _ (count : ℕ) (before after : LanesAsk) (w : World) (place : ℕ) (e : 
   }
 
   -- the first entry of all is that one
-  is_first : Answers → ((k : ℕ) → (e.seat ≡ k → ⊥) → StartsAt (e.line + 1) (before k)) → (f : Event) (events : List Event) → Going count before w place (f ∷ events) → e ≡ f
+  is_first : Answers → ((k : ℕ) → (e.seat ≡ k → ⊥) → StartsAt (e.line + 1) (before k)) → (f : Event) (events : List Event)
+      → Going count before w place (f ∷ events) → e ≡ f
   is_first a later f events g =
-      let asked : asks_for e (replies_from w place e.seat (f ∷ events)) more ≡ all_answered (entries_of e.seat (f ∷ events)) = sym (a.first _) ∙ g.calls e.seat a.within in
+      let asked : asks_for e (replies_from w place e.seat (f ∷ events)) more ≡ all_answered (entries_of e.seat (f ∷ events)) =
+      sym (a.first _) ∙ g.calls e.seat a.within in
       let among = is_among e (replies_from w place e.seat (f ∷ events)) more (entries_of e.seat (f ∷ events)) asked in
       elim (cases_eq e.seat f.seat) [
         | inl mine ↦ let has : f ∷ entries_of e.seat events ≡ e ∷ among.0 = sym (entries-mine e.seat f events (sym mine)) ∙ among.1 in cc
@@ -146,7 +155,8 @@ module _ (count : ℕ) (before after : LanesAsk) (w : World) (place : ℕ) (e : 
       ]
 
   -- the entry is the first one, and what is left comes after it
-  pub one_after : Answers → ((k : ℕ) → (e.seat ≡ k → ⊥) → StartsAt (e.line + 1) (before k)) → (events : List Event) → Going count before w place events
+  pub one_after : Answers → ((k : ℕ) → (e.seat ≡ k → ⊥) → StartsAt (e.line + 1) (before k)) → (events : List Event)
+      → Going count before w place events
       → (rest : List Event) × (events ≡ e ∷ rest) × Going count after (step_of w place e).world (place + 1) rest
   one_after a later [] g =
       let among = is_among e [] more [] (sym (a.first []) ∙ g.calls e.seat a.within) in

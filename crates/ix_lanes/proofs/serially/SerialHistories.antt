@@ -32,17 +32,20 @@ Remains s w place names at n lines events = Going (length (lanes_of s)) (lane_ca
 -- from a line on, there is no serial history but that one
 abbrev IsOne : List Line → ℕ → List Line → Type 0
 IsOne s n lines =
-    (w : World) (place : ℕ) (names : List Names) (at : Option ℕ) (h : List Event) → length names ≡ length (lanes_of s) → IfSome at (λ k. k < length (lanes_of s))
+    (w : World) (place : ℕ) (names : List Names) (at : Option ℕ) (h : List Event) → length names ≡ length (lanes_of s) → IfSome at
+    (λ k. k < length (lanes_of s))
     → Remains s w place names at n lines h → h ≡ serial_from s w place names at n lines
 
 -- and that one is a serial history
 abbrev IsThere : List Line → ℕ → List Line → Type 0
 IsThere s n lines =
-    (w : World) (place : ℕ) (names : List Names) (at : Option ℕ) → length names ≡ length (lanes_of s) → IfSome at (λ k. k < length (lanes_of s))
+    (w : World) (place : ℕ) (names : List Names) (at : Option ℕ) → length names ≡ length (lanes_of s) → IfSome at
+    (λ k. k < length (lanes_of s))
     → Remains s w place names at n lines (serial_from s w place names at n lines)
 
 -- ---- within one line
-module _ (s : List Line) (n j : ℕ) (l : Line) (lines : List Line) (names : List Names) (long : length names ≡ length (lanes_of s)) (within : j < length (lanes_of s)) where
+module _ (s : List Line) (n j : ℕ) (l : Line) (lines : List Line) (names : List Names)
+    (long : length names ≡ length (lanes_of s)) (within : j < length (lanes_of s)) where
   abbrev after : World → ℕ → Handed → List Event
   after v place g = serial_from s v place (renamed names j l g) (next_seat s names j n l lines) (suc n) lines
 
@@ -56,7 +59,8 @@ module _ (s : List Line) (n j : ℕ) (l : Line) (lines : List Line) (names : Lis
   still_within : IfSome (next_seat s names j n l lines) (λ k. k < length (lanes_of s))
   still_within = seat_within (lanes_of s) (Some j) l _ refl within
 
-  rest_one : IsOne s (suc n) lines → (p : Asking Handed) → AllOf (OfLine n) p → (w : World) (place : ℕ) (h : List Event) → RemainsOf p w place h → h ≡ made_then j w place p after
+  rest_one : IsOne s (suc n) lines → (p : Asking Handed) → AllOf (OfLine n) p → (w : World) (place : ℕ) (h : List Event)
+      → RemainsOf p w place h → h ≡ made_then j w place p after
   rest_one later (Done g) numbered w place h r =
       later w place (renamed names j l g) (next_seat s names j n l lines) h (same_length g) still_within
       (record { seats = r.seats; calls = λ k k_within. sym (past_line s names j n l lines g k (replies_from w place k h)) ∙ r.calls k k_within; order = r.order })
@@ -64,20 +68,27 @@ module _ (s : List Line) (n j : ℕ) (l : Line) (lines : List Line) (names : Lis
       let e : Event = entry_of j a in
       let x : Answered = answered (step_of w place e) in
       let starts : (k : ℕ) → (j ≡ k → ⊥) → StartsAt (a.line + 1) (pending s names j n l lines (Ask a more) k) =
-      λ k apart. subst (λ (m : ℕ). StartsAt (m + 1) (pending s names j n l lines (Ask a more) k)) (sym numbered.0) (others_later s names j n l lines (Ask a more) k apart) in
+      λ k apart. subst (λ (m : ℕ). StartsAt (m + 1) (pending s names j n l lines (Ask a more) k)) (sym numbered.0)
+      (others_later s names j n l lines (Ask a more) k apart) in
       let first = one_after (length (lanes_of s)) _ _ w place e _ (call_answers s names j n l lines (length (lanes_of s)) a more w place within) starts h r in
       first.1 ∙ ap (λ es. e ∷ es) (rest_one later (more x) (numbered.1 x) (step_of w place e).world (place + 1) first.0 first.2)
 
-  rest_there : IsThere s (suc n) lines → (p : Asking Handed) → AllOf (OfLine n) p → (w : World) (place : ℕ) → RemainsOf p w place (made_then j w place p after)
+  rest_there : IsThere s (suc n) lines → (p : Asking Handed) → AllOf (OfLine n) p → (w : World) (place : ℕ)
+      → RemainsOf p w place (made_then j w place p after)
   rest_there later (Done g) numbered w place =
       let r = later w place (renamed names j l g) (next_seat s names j n l lines) (same_length g) still_within in
-      record { seats = r.seats; calls = λ k k_within. past_line s names j n l lines g k (replies_from w place k (after w place g)) ∙ r.calls k k_within; order = r.order }
+      record {
+        seats = r.seats;
+        calls = λ k k_within. past_line s names j n l lines g k (replies_from w place k (after w place g)) ∙ r.calls k k_within;
+        order = r.order;
+      }
   rest_there later (Ask a more) numbered w place =
       let e : Event = entry_of j a in
       let x : Answered = answered (step_of w place e) in
       let starts : (k : ℕ) → StartsAt a.line (pending s names j n l lines (more x) k) =
       λ k. subst (λ (m : ℕ). StartsAt m (pending s names j n l lines (more x) k)) (sym numbered.0) (rest_starts s names j n l lines (more x) (numbered.1 x) k) in
-      one_before (length (lanes_of s)) _ _ w place e _ (call_answers s names j n l lines (length (lanes_of s)) a more w place within) starts _
+      one_before (length (lanes_of s)) _ _ w place e _ (call_answers s names j n l lines (length (lanes_of s)) a more w place within) starts
+      _
       (rest_there later (more x) (numbered.1 x) (step_of w place e).world (place + 1))
 
   abbrev whole : Asking Handed
@@ -89,24 +100,32 @@ module _ (s : List Line) (n j : ℕ) (l : Line) (lines : List Line) (names : Lis
   enough : j < length names
   enough = omega (arith, long, within)
 
-  mine_one : IsOne s (suc n) lines → (w : World) (place : ℕ) (h : List Event) → Remains s w place names (Some j) n (l ∷ lines) h → h ≡ serial_from s w place names (Some j) n (l ∷ lines)
+  mine_one : IsOne s (suc n) lines → (w : World) (place : ℕ) (h : List Event) → Remains s w place names (Some j) n (l ∷ lines) h
+      → h ≡ serial_from s w place names (Some j) n (l ∷ lines)
   mine_one later w place h r = rest_one later whole numbered_whole w place h
       (record { seats = r.seats; calls = λ k k_within. sym (at_line s names j n l lines enough k (replies_from w place k h)) ∙ r.calls k k_within; order = r.order })
 
-  mine_there : IsThere s (suc n) lines → (w : World) (place : ℕ) → Remains s w place names (Some j) n (l ∷ lines) (serial_from s w place names (Some j) n (l ∷ lines))
+  mine_there : IsThere s (suc n) lines → (w : World) (place : ℕ)
+      → Remains s w place names (Some j) n (l ∷ lines) (serial_from s w place names (Some j) n (l ∷ lines))
   mine_there later w place =
       let r = rest_there later whole numbered_whole w place in
-      record { seats = r.seats; calls = λ k k_within. at_line s names j n l lines enough k (replies_from w place k (made_then j w place whole after)) ∙ r.calls k k_within; order = r.order }
+      record {
+        seats = r.seats;
+        calls = λ k k_within. at_line s names j n l lines enough k (replies_from w place k (made_then j w place whole after)) ∙ r.calls k k_within;
+        order = r.order;
+      }
 
 -- ---- line by line
 none_remain : (s : List Line) (n : ℕ) → IsOne s n []
 none_remain s n w place names at [] long within r = refl
 none_remain s n w place names at (e ∷ events) long within r =
-    let none : [] ≡ e ∷ entries_of e.seat events = ap (λ (x : Calls). x.entries) (r.calls e.seat (first_seat (length (lanes_of s)) e events r.seats).0) ∙ entries-mine e.seat e events refl in cc
+    let within_seat = (first_seat (length (lanes_of s)) e events r.seats).0 in
+    let none : [] ≡ e ∷ entries_of e.seat events = ap (λ (x : Calls). x.entries) (r.calls e.seat within_seat) ∙ entries-mine e.seat e events refl in cc
 
 line_one : (s : List Line) (n : ℕ) (l : Line) (lines : List Line) → IsOne s (suc n) lines → IsOne s n (l ∷ lines)
 line_one s n l lines later w place names None h long within r =
-    later w place names (seat_after (lanes_of s) None l) h long (seat_within (lanes_of s) None l _ refl tt) (record { seats = r.seats; calls = r.calls; order = r.order })
+    later w place names (seat_after (lanes_of s) None l) h long (seat_within (lanes_of s) None l _ refl tt)
+    (record { seats = r.seats; calls = r.calls; order = r.order })
 line_one s n l lines later w place names (Some j) h long within r = mine_one s n j l lines names long within later w place h r
 
 one_remains : (s : List Line) (n : ℕ) (lines : List Line) → IsOne s n lines
@@ -136,7 +155,9 @@ unfolding serial lane_asks replies_of
 serial_is s h is =
     one_remains s 1 s (opening_world (config_of s)) 1 (first_names s) None h (length-replicate (length (lanes_of s)) no_names) tt (record {
       seats = is.lanes.seats;
-      calls = λ k within. ap (λ ns. calls_from (rules_told s) (header_of s) k ns (lines_of_seat (lanes_of s) k 1 None s) (replies_from (opening_world (config_of s)) 1 k h)) (no_names_at_first s k within) ∙ is.lanes.calls k within;
+      calls =
+          λ k within. ap (λ ns. calls_from (rules_told s) (header_of s) k ns (lines_of_seat (lanes_of s) k 1 None s)
+          (replies_from (opening_world (config_of s)) 1 k h)) (no_names_at_first s k within) ∙ is.lanes.calls k within;
       order = is.order;
     })
 
@@ -152,7 +173,9 @@ serial_serial s =
     record {
       lanes = record {
         seats = r.seats;
-        calls = λ k within. ap (λ ns. calls_from (rules_told s) (header_of s) k ns (lines_of_seat (lanes_of s) k 1 None s) (replies_of s k (serial s))) (sym (no_names_at_first s k within)) ∙ r.calls k within;
+        calls =
+            λ k within. ap (λ ns. calls_from (rules_told s) (header_of s) k ns (lines_of_seat (lanes_of s) k 1 None s) (replies_of s k (serial s)))
+            (sym (no_names_at_first s k within)) ∙ r.calls k within;
       };
       order = r.order;
     }

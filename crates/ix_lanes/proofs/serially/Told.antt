@@ -45,7 +45,8 @@ rules_fit : (s : List Line) (rules : List Rule) → rules_told s ≡ Some rules 
 rules_fit s = told-all (λ rules. RulesFit (form_told s) rules) s (λ text rules is. policy_fits (form_told s) text rules is)
 
 -- ---- the label of a rule
-clear_there : (form : Form) (rules : List Rule) (i : ℕ) (found : Option Rule) → slice_get rules i ≡ found → RulesFit form rules → Fits form (option_map_or (λ (r : Rule). r.clear) found bottom)
+clear_there : (form : Form) (rules : List Rule) (i : ℕ) (found : Option Rule) → slice_get rules i ≡ found → RulesFit form rules
+    → Fits form (option_map_or (λ (r : Rule). r.clear) found bottom)
 clear_there form rules i None is fit = within-fits form bottom (within-bottom form)
 clear_there form rules i (Some r) is fit =
     let P : Rule → Type 0 = λ x. Fits form x.clear in
