@@ -1,5 +1,4 @@
 pub mod piecewise
-pub mod ScriptLines
 pub mod words_in
 pub mod Hiding
 pub mod comes_to

@@ -1,5 +1,4 @@
 pub mod command
-pub mod Built
 pub mod Policies
 pub mod report
 pub mod Hiding

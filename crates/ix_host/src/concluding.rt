@@ -1,6 +1,8 @@
 //! What is told of the history to which the lanes of a script came.
 ghost use Rattle.std.specs.Prelude.{◌≡◌, ◌≤◌, true};
 ghost use Rattle.ix_model.specs.history.Cost.{cost_of_history};
+ghost use Rattle.std.proofs.Common.{option_map};
+ghost use Rattle.ix_lanes.specs.asking.Ruled.{rules_told};
 ghost use Rattle.ix_lanes.specs.histories.Serial.{serial};
 ghost use Rattle.ix_script.specs.scripts.Need.{need};
 ghost use Rattle.ix_script.specs.scripts.Scripts.{config_of};
@@ -17,6 +19,7 @@ use crate::task::Telling;
 use ix_core::{Core, Nobody};
 use ix_io::Sink;
 use ix_model::NoMemory;
+use ix_policy::Policy;
 use ix_replay::summary;
 use ix_script::Script;
 use ix_serial::run_history;
@@ -42,12 +45,19 @@ fn sum_up<K: Sink>(
 }
 
 /// Runs the lanes of a script one after the other on one core, before nobody, and writes the summary of that.
-fn sum_up_serial<K: Sink>(alloc: Global, sink: &mut K, count: u32, script: &Script) -> Status
-    requires { has_placed_lanes script.now ≡ true }
+fn sum_up_serial<K: Sink>(
+    alloc: Global,
+    sink: &mut K,
+    count: u32,
+    script: &Script,
+    policy: Option<&Policy>,
+) -> Status
+    requires lanes { has_placed_lanes script.now ≡ true }
+    requires policy { option_map (λ p. p.now) policy ≡ rules_told script.now }
     ensures { Ends (outcome.Whole (summary_line count script.now (serial script.now))) result (K.taken sink.old) (K.taken sink.new)
         (K.finished sink.new) (K.faults sink.old) (K.faults sink.new) }
 {
-    match run_history(alloc, script, &mut Nobody) {
+    match run_history(alloc, script, policy, &mut Nobody) {
         Ok(history) => sum_up(alloc, sink, count, script, &history),
         Err(NoMemory) => Status::NoMemory,
     }
@@ -59,14 +69,16 @@ pub fn tell_serial<K: Sink>(
     sink: &mut K,
     telling: Telling,
     script: &Script,
+    policy: Option<&Policy>,
 ) -> Status
-    requires { has_placed_lanes script.now ≡ true }
+    requires lanes { has_placed_lanes script.now ≡ true }
+    requires policy { option_map (λ p. p.now) policy ≡ rules_told script.now }
     ensures { Ends (outcome.Whole (text_told telling script.now (serial script.now))) result (K.taken sink.old) (K.taken sink.new)
         (K.finished sink.new) (K.faults sink.old) (K.faults sink.new) }
 {
     match telling {
-        Telling::Report => report_serial(alloc, sink, script),
-        Telling::Summary(count) => sum_up_serial(alloc, sink, count, script),
+        Telling::Report => report_serial(alloc, sink, script, policy),
+        Telling::Summary(count) => sum_up_serial(alloc, sink, count, script, policy),
     }
 }
 

@@ -83,9 +83,11 @@ pub fn run_lanes<S: Source, K: Sink, W: Watch, R: Threads + Wait + Sync>(
     };
     match prepare(alloc, b"usage: ixrun run\n", asked, source, sink) {
         Task::Ended(status) => status,
-        Task::Run(telling, script) => match run_history(rt, alloc, &script, watch) {
-            Ok(history) => conclude(alloc, sink, telling, &script, &history),
-            Err(NoMemory) => Status::NoMemory,
-        },
+        Task::Run(telling, script, policy) => {
+            match run_history(rt, alloc, &script, policy.as_ref(), watch) {
+                Ok(history) => conclude(alloc, sink, telling, &script, &history),
+                Err(NoMemory) => Status::NoMemory,
+            }
+        }
     }
 }

@@ -2,13 +2,11 @@
 #![tactic(auto)]
 
 mod asked;
-mod built;
 mod concluding;
 mod lanes;
 pub mod laws;
 mod policies;
 mod preparing;
-mod refusing;
 mod run;
 mod status;
 mod streams;

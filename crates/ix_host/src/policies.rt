@@ -1,23 +1,31 @@
-//! Rule 27, that a policy is refused.
+//! The policy of a script.
 ghost use Rattle.std.specs.Prelude.{◌≡◌, IfOk};
-ghost use Rattle.ix_host.specs.Policies.{policy_refusal};
+ghost use Rattle.ix_host.specs.Policies.{IsPolicy};
 
 use ix_model::NoMemory;
 use ix_policy::{Policy, PolicyFault};
 use ix_script::Script;
 use std::alloc::Global;
 
-/// The line of a script's policy and rule 27, where the policy has a fault.
-#[tactic(auto, unfolding(crate::specs::Policies::policy_refusal))]
-pub fn policy_refusal(alloc: Global, script: &Script) -> Result<Option<(u32, u8)>, NoMemory>
-    ensures { IfOk result (λ refusal. refusal ≡ policy_refusal script.now) }
+/// What the policy of a script comes to.
+#[derive(Drop)]
+pub enum ScriptPolicy {
+    /// Its rules; `None` where the script has no policy.
+    Rules(Option<Policy>),
+    /// It is refused. This is the number of its line.
+    Refused(u32),
+}
+
+/// Reads the policy of a script, if it has one.
+pub fn policy_of(alloc: Global, script: &Script) -> Result<ScriptPolicy, NoMemory>
+    ensures { IfOk result (λ policy. IsPolicy script.now policy) }
 {
     let Some((line, text)) = script.policy() else {
-        return Ok(None);
+        return Ok(ScriptPolicy::Rules(None));
     };
     match Policy::read(alloc, script.form(), text) {
-        Ok(_) => Ok(None),
+        Ok(policy) => Ok(ScriptPolicy::Rules(Some(policy))),
         Err(PolicyFault::NoMemory) => Err(NoMemory),
-        Err(_) => Ok(Some((line, 27))),
+        Err(_) => Ok(ScriptPolicy::Refused(line)),
     }
 }

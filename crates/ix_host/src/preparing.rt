@@ -1,7 +1,9 @@
 //! What comes before the lanes of a script are run, and in the place of that.
-ghost use Rattle.std.specs.Prelude.{◌≡◌, IfSome, true, false};
+ghost use Rattle.std.specs.Prelude.{◌≡◌, IfSome, Some, None, true, false};
 ghost use Rattle.ix_io.specs.Streams.{Rose};
 ghost use Rattle.ix_script.specs.scripts.Canonical.{canonical};
+ghost use Rattle.ix_lanes.specs.asking.Ruled.{rules_told};
+ghost use Rattle.ix_host.specs.Policies.{policy_refusal};
 ghost use Rattle.ix_host.specs.command.Command.{IsCounted};
 ghost use Rattle.ix_host.specs.run.Outcome.{IsReadable, outcome_for, outcome_in, reads_source, script_in, text_for};
 ghost use Rattle.ix_host.specs.run.Outcome as outcome;
@@ -10,7 +12,7 @@ ghost use Rattle.ix_host.specs.run.Whole.{TakesFew};
 ghost use Rattle.ix_host.specs.run.Run.{Ends};
 
 use crate::asked::command::Command;
-use crate::refusing::script_refusal;
+use crate::policies::{ScriptPolicy, policy_of};
 use crate::status::Status;
 use crate::streams::input::input_for;
 use crate::streams::sending::tell;
@@ -19,6 +21,7 @@ use crate::task::{Task, Telling};
 use crate::telling::rules::{refusal, too_long_line};
 use ix_io::{Sink, Source};
 use ix_model::NoMemory;
+use ix_policy::Policy;
 use ix_script::{ReadFail, Script, read, write};
 use std::alloc::Global;
 
@@ -45,16 +48,45 @@ fn print<K: Sink>(alloc: Global, sink: &mut K, script: &Script) -> Status
 }
 
 /// What a command asks with a script that it doesn't refuse.
-fn accepted_task<K: Sink>(alloc: Global, sink: &mut K, command: Command, script: Script) -> Task
-    requires { IsRunnable script }
+fn accepted_task<K: Sink>(
+    alloc: Global,
+    sink: &mut K,
+    command: Command,
+    script: Script,
+    policy: Option<Policy>,
+) -> Task
+    requires runnable { IsRunnable script }
+    requires policy { policy ≡ rules_told script }
     ensures leads { LeadsTo (λ history. outcome.Whole (text_for command script history)) script result (K.taken sink.old) (K.taken sink.new)
         (K.finished sink.new) (K.faults sink.old) (K.faults sink.new) }
     ensures untouched { OnRun result (sink.new ≡ sink.old) }
 {
     match command {
-        Command::Run => Task::Run(Telling::Report, script),
+        Command::Run => Task::Run(Telling::Report, script, policy),
         Command::Print => Task::Ended(print(alloc, sink, &script)),
-        Command::Gen(count) => Task::Run(Telling::Summary(count), script),
+        Command::Gen(count) => Task::Run(Telling::Summary(count), script, policy),
+    }
+}
+
+/// What a command asks with a script whose policy, on that line, is refused. A made script has none.
+fn refused_task<K: Sink>(
+    alloc: Global,
+    sink: &mut K,
+    command: Command,
+    script: Script,
+    line: u32,
+) -> Task
+    requires runnable { IsRunnable script }
+    requires policy { rules_told script ≡ None }
+    requires refusal { policy_refusal script ≡ Some (line, 27) }
+    ensures leads { LeadsTo (λ history. outcome_for command script history) script result (K.taken sink.old) (K.taken sink.new)
+        (K.finished sink.new) (K.faults sink.old) (K.faults sink.new) }
+    ensures untouched { OnRun result (sink.new ≡ sink.old) }
+{
+    match command {
+        Command::Run => Task::Ended(refuse(alloc, sink, line, 27)),
+        Command::Print => Task::Ended(refuse(alloc, sink, line, 27)),
+        Command::Gen(count) => Task::Run(Telling::Summary(count), script, None),
     }
 }
 
@@ -65,9 +97,9 @@ fn script_task<K: Sink>(alloc: Global, sink: &mut K, command: Command, script: S
         (K.finished sink.new) (K.faults sink.old) (K.faults sink.new) }
     ensures untouched { OnRun result (sink.new ≡ sink.old) }
 {
-    match script_refusal(alloc, command, &script) {
-        Ok(None) => accepted_task(alloc, sink, command, script),
-        Ok(Some((line, rule))) => Task::Ended(refuse(alloc, sink, line, rule)),
+    match policy_of(alloc, &script) {
+        Ok(ScriptPolicy::Rules(policy)) => accepted_task(alloc, sink, command, script, policy),
+        Ok(ScriptPolicy::Refused(line)) => refused_task(alloc, sink, command, script, line),
         Err(NoMemory) => Task::Ended(Status::NoMemory),
     }
 }

@@ -64,6 +64,8 @@ pub fn run_serial<S: Source, K: Sink>(
     let usage = b"usage: ixone run | print | gen COUNT\n";
     match prepare(alloc, usage, asked, source, sink) {
         Task::Ended(status) => status,
-        Task::Run(telling, script) => tell_serial(alloc, sink, telling, &script),
+        Task::Run(telling, script, policy) => {
+            tell_serial(alloc, sink, telling, &script, policy.as_ref())
+        }
     }
 }

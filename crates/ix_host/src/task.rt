@@ -1,4 +1,5 @@
 use crate::status::Status;
+use ix_policy::Policy;
 use ix_script::Script;
 
 /// What is told of a history.
@@ -15,6 +16,6 @@ pub enum Telling {
 pub enum Task {
     /// Nothing: it came to an end with this status.
     Ended(Status),
-    /// The lanes of a script are to be run, and this is to be told of the history to which they come.
-    Run(Telling, Script),
+    /// The lanes of a script are to be run by its policy, if it has one, and this is to be told of the history to which they come.
+    Run(Telling, Script, Option<Policy>),
 }

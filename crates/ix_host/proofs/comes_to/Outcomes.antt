@@ -13,10 +13,9 @@ use Rattle.ix_script.specs.declared.line.Line.{Line}
 use Rattle.ix_host.specs.declared.asked.command.Command.{Command}
 use Rattle.ix_host.specs.declared.asked.command.Command.TheVariants as command
 use Rattle.ix_host.specs.declared.status.Status.TheVariants as status
-use Rattle.ix_host.specs.Built.{unbuilt_line}
 use Rattle.ix_host.specs.Policies.{policy_refusal, refused_policy}
 use Rattle.ix_host.specs.run.Outcome.{IsReadable, Outcome, outcome_for, outcome_in, outcome_of, reads_source, refusal_of, refused_by, script_in}
-use Rattle.ix_host.specs.run.Outcome.{script_refusal, status_of, text_for, text_of, unbuilt_refusal, unless_refused}
+use Rattle.ix_host.specs.run.Outcome.{script_refusal, status_of, text_for, text_of, unless_refused}
 use Rattle.ix_host.specs.run.Outcome as outcome
 use Rattle.ix_host.specs.run.Run.{called_for, unless_done}
 use Rattle.ix_replay.specs.report.Report.{report_of}
@@ -24,6 +23,13 @@ use Rattle.ix_host.specs.report.Rules.{refusal_line}
 use Rattle.ix_host.proofs.comes_to.LaterRules.{not_rule_one}
 
 -- ---- a script
+-- one whose policy isn't refused is not refused
+pub accepted : (c : Command) (s : List Line) → policy_refusal s ≡ None → script_refusal c s ≡ None
+unfolding script_refusal
+accepted command.Run s h = h
+accepted command.Print s h = h
+accepted (command.Gen n) s h = refl
+
 -- one that is refused
 pub outcome_refused : (c : Command) (s : List Line) (line rule : ℕ) (history : List Event)
     → script_refusal c s ≡ Some (line, rule) → outcome.Refused line rule ≡ outcome_for c s history
@@ -118,15 +124,9 @@ policy_later form (Some p) n h = by_test (is_err (policy form p.1)) h
     by_test true k = cc
     by_test false k = cc
 
--- nor is that of a form that isn't built
-unbuilt_later : (line : Option ℕ) → IsLater (option_map (λ n. (n, 0)) line)
-unbuilt_later None n h = cc
-unbuilt_later (Some line) n h = cc
-
 script_later : (c : Command) (s : List Line) → IsLater (script_refusal c s)
 unfolding script_refusal policy_refusal
-script_later command.Run s n h =
-    or_later (policy_refusal s) (unbuilt_refusal s) (policy_later (form_told s) (policy_of s)) (unbuilt_later (unbuilt_line s)) n h
+script_later command.Run s n h = policy_later (form_told s) (policy_of s) n h
 script_later command.Print s n h = policy_later (form_told s) (policy_of s) n h
 script_later (command.Gen n) s m h = cc
 

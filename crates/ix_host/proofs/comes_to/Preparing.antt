@@ -35,7 +35,7 @@ ends_without_memory o taken done now = record { fits = tt; text = unwritten take
 pub leads_as : (of to : List Event → Outcome) (s t : List Line) (job : Task) (taken after : Option (List ℕ)) (done : Bool) (before now : ℕ) → ((history : List Event) → of history ≡ to history) → s ≡ t
     → LeadsTo of s job taken after done before now → LeadsTo to t job taken after done before now
 leads_as of to s t (task.Ended end) taken after done before now same is h = λ history. ends_as (same history) (h history)
-leads_as of to s t (task.Run told script) taken after done before now same is h = (h.0 ∙ is, h.1, λ history. sym (same history) ∙ h.2 history)
+leads_as of to s t (task.Run told script policy) taken after done before now same is h = (h.0 ∙ is, h.1, h.2, λ history. sym (same history) ∙ h.3 history)
 
 -- no read failed
 pub ends_somewhere : {o : Outcome} {end : Status} {taken after : Option (List ℕ)} {done : Bool} {before now : ℕ} → Ends o end taken after done before now → task.Ended end ≡ task.Ended status.ReadFault → ⊥
@@ -45,13 +45,13 @@ ends_somewhere {o} {end} {taken} {after} {done} {before} {now} e is =
 
 pub leads_somewhere : (of : List Event → Outcome) (s : List Line) (job : Task) (taken after : Option (List ℕ)) (done : Bool) (before now : ℕ) → LeadsTo of s job taken after done before now → job ≡ task.Ended status.ReadFault → ⊥
 leads_somewhere of s (task.Ended end) taken after done before now h is = ends_somewhere (h []) is
-leads_somewhere of s (task.Run told script) taken after done before now h is = cc
+leads_somewhere of s (task.Run told script policy) taken after done before now h is = cc
 
 -- ---- the source
 -- it was read to its end
 pub whole_read_out : (job : Task) (first left : Option (List ℕ)) (read : List ℕ) → IfSome first (λ bytes. (read ≡ bytes) × (left ≡ Some []) × (length bytes ≤ script_max)) → IfSome first (λ bytes. TaskReadsOut job bytes left)
 whole_read_out job None left read w = tt
-whole_read_out (task.Run told script) (Some bytes) left read w = w.1
+whole_read_out (task.Run told script policy) (Some bytes) left read w = w.1
 whole_read_out (task.Ended status.Done) (Some bytes) left read w = w.1
 whole_read_out (task.Ended status.Usage) (Some bytes) left read w = tt
 whole_read_out (task.Ended (status.Script line rule)) (Some bytes) left read w = w.1 ∙ ap Some (sym (drop_all (script_max + 1) bytes (omega (arith, w.2))))

@@ -6,6 +6,7 @@ use Rattle.ix_io.specs.Streams.{Rose}
 use Rattle.ix_iso.proofs.Hiding.{hides}
 use Rattle.ix_model.specs.history.Events.{Event}
 use Rattle.ix_lanes.specs.histories.Serial.{serial}
+use Rattle.ix_policy.specs.declared.rule.Rule.{Rule}
 use Rattle.ix_script.specs.declared.line.Line.{Line}
 use Rattle.ix_host.specs.declared.asked.command.Command.{Command}
 use Rattle.ix_host.specs.declared.asked.command.Command.TheVariants as command
@@ -238,15 +239,15 @@ verdict_ended Comes serials usage asked left end taken after done before now rea
     is_fault status.NoMemory = inr (λ is. cc)
 
 -- of what was told once they were run
-pub verdict_told : {Comes : List Line → List Event → Type 0} {usage : List ℕ} {asked : Option Command} {left : Option (List ℕ)} {told : Telling} {s : List Line} {end : Status} {taken between after : Option (List ℕ)} {done waiting : Bool} {before then now : ℕ} (history : List Event)
-    → Prepares usage asked left (task.Run told s) taken between waiting before then → Comes s history → Ends (outcome.Whole (text_told told s history)) end taken after done before now
+pub verdict_told : {Comes : List Line → List Event → Type 0} {usage : List ℕ} {asked : Option Command} {left : Option (List ℕ)} {told : Telling} {s : List Line} {policy : Option (List Rule)} {end : Status} {taken between after : Option (List ℕ)} {done waiting : Bool} {before then now : ℕ} (history : List Event)
+    → Prepares usage asked left (task.Run told s policy) taken between waiting before then → Comes s history → Ends (outcome.Whole (text_told told s history)) end taken after done before now
     → Verdict Comes usage asked left end taken after done before now
 verdict_told {Comes} history p is e = came (record {
   bytes = p.bytes;
   told = p.told;
   history = history;
   is = subst (λ t. Comes t history) p.leads.0 is;
-  ends = ends_as (sym (p.leads.2 history)) e;
+  ends = ends_as (sym (p.leads.3 history)) e;
 })
 
 -- ---- single promises

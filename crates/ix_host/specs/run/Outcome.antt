@@ -1,6 +1,6 @@
 -- What is asked for comes to, with an input and a history of the script that the input is: a text, a refusal, or the usage line.
 use Rattle.std.specs.Prelude.{◌≡◌, ℕ, Bool, true, false, List, [], Option, Some, None, unwrap_or}
-use Rattle.std.specs.Option.{option_map, option_or}
+use Rattle.std.specs.Option.{option_or}
 use Rattle.ix_model.specs.history.Events.{Event}
 use Rattle.ix_script.specs.scripts.Canonical.{canonical}
 use Rattle.ix_script.specs.lines.Faults.{fault_of}
@@ -13,7 +13,6 @@ use Rattle.ix_host.specs.declared.asked.command.Command.{Command}
 use Rattle.ix_host.specs.declared.asked.command.Command.TheVariants as command
 use Rattle.ix_host.specs.declared.status.Status.{Status}
 use Rattle.ix_host.specs.declared.status.Status.TheVariants as status
-use Rattle.ix_host.specs.Built.{unbuilt_line}
 use Rattle.ix_host.specs.Policies.{policy_refusal}
 use Rattle.ix_host.specs.report.Rules.{refusal_line}
 
@@ -48,13 +47,9 @@ abbrev pub script_in : List ℕ → List Line
 script_in bytes = unwrap_or (script_of bytes) []
 
 -- ---- the outcome
--- the line of the first form of a script that isn't built yet, and rule 0
-abbrev pub unbuilt_refusal : List Line → Option (ℕ × ℕ)
-unbuilt_refusal s = option_map (λ n. (n, 0)) (unbuilt_line s)
-
--- the line and the rule by which a script without a fault is refused: by its policy, and else under `run` by a form that isn't built
+-- the line and the rule by which a script without a fault is refused: by its policy
 unfoldable pub script_refusal : Command → List Line → Option (ℕ × ℕ)
-script_refusal command.Run s = option_or (policy_refusal s) (unbuilt_refusal s)
+script_refusal command.Run s = policy_refusal s
 script_refusal command.Print s = policy_refusal s
 script_refusal (command.Gen n) s = None
 

@@ -3,6 +3,7 @@ use Rattle.std.specs.Prelude.{◌≡◌, ℕ, ◌≤◌, Bool, true, List, [], l
 use Rattle.ix_model.specs.history.Events.{Event}
 use Rattle.ix_script.specs.lines.Before.{lanes_of}
 use Rattle.ix_script.specs.declared.line.Line.{Line}
+use Rattle.ix_lanes.specs.asking.Ruled.{rules_told}
 use Rattle.ix_serial.specs.Sections.{has_placed_lanes}
 use Rattle.ix_replay.specs.report.Report.{report_of}
 use Rattle.ix_replay.specs.Summary.{summary_line}
@@ -28,17 +29,18 @@ pub record IsRunnable (s : List Line) : Type 0 where
 -- this holds where lanes are to be run
 abbrev pub OnRun : Task → Type 0 → Type 0
 OnRun (task.Ended end) P = Unit {0}
-OnRun (task.Run told script) P = P
+OnRun (task.Run told script policy) P = P
 
 -- How far the source was read: as the status says, or to its end where lanes are to be run.
 abbrev pub TaskReadsOut : Task → List ℕ → Option (List ℕ) → Type 0
 TaskReadsOut (task.Ended end) bytes after = ReadsOut end bytes after
-TaskReadsOut (task.Run told script) bytes after = after ≡ Some []
+TaskReadsOut (task.Run told script policy) bytes after = after ≡ Some []
 
 -- With each history of a script the outcome is this one: that of a run which came to its end, or the text that is told once the lanes of the script have run.
 abbrev pub LeadsTo : (List Event → Outcome) → List Line → Task → Option (List ℕ) → Option (List ℕ) → Bool → ℕ → ℕ → Type 0
 LeadsTo of s (task.Ended end) taken after done before now = (history : List Event) → Ends (of history) end taken after done before now
-LeadsTo of s (task.Run told script) taken after done before now = (script ≡ s) × IsRunnable script × ((history : List Event) → of history ≡ outcome.Whole (text_told told script history))
+LeadsTo of s (task.Run told script policy) taken after done before now =
+    (script ≡ s) × IsRunnable script × (policy ≡ rules_told script) × ((history : List Event) → of history ≡ outcome.Whole (text_told told script history))
 
 -- What was asked for was done up to the run of lanes. The input is the one that is told, or some one where none is told.
 pub record Prepares (usage : List ℕ) (asked : Option Command) (left : Option (List ℕ)) (task : Task) (taken after : Option (List ℕ)) (done : Bool) (before now : ℕ) : Type 0 where

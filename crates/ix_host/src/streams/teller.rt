@@ -2,6 +2,8 @@
 ghost use Rattle.std.specs.Prelude.{◌≡◌, ℕ, ◌≤◌, ◌++◌, List, Option, None, IfOk, length, true};
 ghost use Rattle.ix_model.specs.history.Cost.{cost_of_history};
 ghost use Rattle.ix_model.specs.history.History.{world_of};
+ghost use Rattle.std.proofs.Common.{option_map};
+ghost use Rattle.ix_lanes.specs.asking.Ruled.{rules_told};
 ghost use Rattle.ix_lanes.specs.histories.Serial.{serial};
 ghost use Rattle.ix_script.specs.lines.Before.{form_told};
 ghost use Rattle.ix_script.specs.scripts.Need.{need};
@@ -19,6 +21,7 @@ use ix_core::{Core, Witness};
 use ix_io::{Failed, Sink};
 use ix_label::Form;
 use ix_model::{Call, NoMemory, Pid, Reply};
+use ix_policy::Policy;
 use ix_replay::{Closing, push_entry, replay};
 use ix_report::head;
 use ix_script::Script;
@@ -147,15 +150,16 @@ impl<K: Sink> Teller<'_, K> {
     }
 
     /// Runs the lanes of the script one after the other, and tells the report of that while it is made.
-    fn tell_serial(&mut self, alloc: Global) -> Status
+    fn tell_serial(&mut self, alloc: Global, policy: Option<&Policy>) -> Status
         requires begun { (self.old.failure ≡ None) × (self.old.waiting.now.items ≡ head_line (form_told self.old.script.now)) }
         requires placed { has_placed_lanes self.old.script.now ≡ true }
+        requires policy { option_map (λ p. p.now) policy ≡ rules_told self.old.script.now }
         ensures same { self.new.sink.ghost_name ≡ self.old.sink.ghost_name }
         ensures ends { Ends (outcome.Whole (report_of self.old.script.now (serial self.old.script.now))) result (K.taken self.old.sink.now) (K.taken self.new.sink.now)
             (K.finished self.new.sink.now) (K.faults self.old.sink.now) (K.faults self.new.sink.now) }
     {
         let script = self.script;
-        match run_history(alloc, script, self) {
+        match run_history(alloc, script, policy, self) {
             Ok(history) => self.close(&history),
             Err(NoMemory) => Status::NoMemory,
         }
@@ -208,15 +212,21 @@ impl<K: Sink> Witness for Teller<'_, K> {
 }
 
 /// Runs the lanes of a script one after the other, and writes the report of that while it is made.
-pub fn report_serial<K: Sink>(alloc: Global, sink: &mut K, script: &Script) -> Status
-    requires { has_placed_lanes script.now ≡ true }
+pub fn report_serial<K: Sink>(
+    alloc: Global,
+    sink: &mut K,
+    script: &Script,
+    policy: Option<&Policy>,
+) -> Status
+    requires lanes { has_placed_lanes script.now ≡ true }
+    requires policy { option_map (λ p. p.now) policy ≡ rules_told script.now }
     ensures { Ends (outcome.Whole (report_of script.now (serial script.now))) result (K.taken sink.old) (K.taken sink.new)
         (K.finished sink.new) (K.faults sink.old) (K.faults sink.new) }
 {
     let Ok(mut waiting) = begun(alloc, script.form()) else {
         return Status::NoMemory;
     };
-    Teller::new(script, sink, &mut waiting).tell_serial(alloc)
+    Teller::new(script, sink, &mut waiting).tell_serial(alloc, policy)
 }
 
 /// Writes the report of a history of a script, which is made once more for that.

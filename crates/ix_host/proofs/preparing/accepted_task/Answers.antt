@@ -6,7 +6,7 @@ use Rattle.ix_host.proofs.preparing.accepted_task.Goals as goal
 
 pub returns-in-Run-clause-leads : goal.returns-in-Run-clause-leads
 unfolding text_for
-returns-in-Run-clause-leads g c = (refl, c.requires, λ history. ap (λ k. outcome.Whole (text_for k c.args.script history)) c.in-Run.is)
+returns-in-Run-clause-leads g c = (refl, c.requires.runnable, c.requires.policy, λ history. ap (λ k. outcome.Whole (text_for k c.args.script history)) c.in-Run.is)
 
 pub returns-in-Print-clause-leads : goal.returns-in-Print-clause-leads
 unfolding text_for
@@ -14,4 +14,4 @@ returns-in-Print-clause-leads g c = λ history. ends_as (ap (λ k. outcome.Whole
 
 pub returns-in-Gen-clause-leads : goal.returns-in-Gen-clause-leads
 unfolding text_for
-returns-in-Gen-clause-leads g c = (refl, c.requires, λ history. ap (λ k. outcome.Whole (text_for k c.args.script history)) c.in-Gen.is)
+returns-in-Gen-clause-leads g c = (refl, c.requires.runnable, c.requires.policy, λ history. ap (λ k. outcome.Whole (text_for k c.args.script history)) c.in-Gen.is)

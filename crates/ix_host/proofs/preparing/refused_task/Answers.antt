@@ -1,0 +1,22 @@
+use Rattle.std.proofs.Common.{refl, sym, ap, ◌∙◌}
+use Rattle.ix_host.specs.run.Outcome.{outcome_for, script_refusal, text_for}
+use Rattle.ix_host.specs.run.Outcome as outcome
+use Rattle.ix_host.proofs.comes_to.Outcomes.{outcome_accepted, outcome_refused}
+use Rattle.ix_host.proofs.comes_to.Preparing.{ends_as}
+use Rattle.ix_host.proofs.preparing.refused_task.Goals as goal
+
+pub returns-in-Run-clause-leads : goal.returns-in-Run-clause-leads
+unfolding script_refusal
+returns-in-Run-clause-leads g c = λ history.
+    ends_as (outcome_refused c.args.command c.args.script c.args.line 27 history (ap (λ k. script_refusal k c.args.script) c.in-Run.is ∙ c.requires.refusal)) c.refuse.ensures
+
+pub returns-in-Print-clause-leads : goal.returns-in-Print-clause-leads
+unfolding script_refusal
+returns-in-Print-clause-leads g c = λ history.
+    ends_as (outcome_refused c.args.command c.args.script c.args.line 27 history (ap (λ k. script_refusal k c.args.script) c.in-Print.is ∙ c.requires.refusal)) c.refuse-in-Print.ensures
+
+pub returns-in-Gen-clause-leads : goal.returns-in-Gen-clause-leads
+unfolding script_refusal text_for
+returns-in-Gen-clause-leads g c =
+    (refl, c.requires.runnable, sym c.requires.policy, λ history.
+    sym (outcome_accepted c.args.command c.args.script history (ap (λ k. script_refusal k c.args.script) c.in-Gen.is)) ∙ ap (λ k. outcome.Whole (text_for k c.args.script history)) c.in-Gen.is)
