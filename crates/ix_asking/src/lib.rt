@@ -13,4 +13,4 @@ mod stop;
 pub use asks::{Asks, Step};
 pub use copying::Copying;
 pub use making::{count_in, make_next, run};
-pub use stop::Stop;
+pub use stop::{Stop, given};

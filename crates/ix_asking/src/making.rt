@@ -4,8 +4,8 @@ ghost use Rattle.ix_asking.specs.Asking.{all_heard, first, next};
 ghost use Rattle.ix_asking.specs.Runs.{answers_of, count_in, Ends, Makes, Turn};
 
 use crate::asks::{Asks, Step};
-use crate::stop::Stop;
-use ix_model::{Answer, Buf, Reply, Sys};
+use crate::stop::{Stop, given};
+use ix_model::{Buf, Reply, Sys};
 
 /// How many bytes a reply says were read.
 pub fn count_in(reply: &Reply) -> usize
@@ -34,13 +34,12 @@ pub fn make_next<S: Sys, A: Asks>(
         Step::Came(came) => return Ok(Some(came)),
         Step::Call { line, pid, call } => sys.call(line, pid, &call, buf),
     };
-    match answer {
-        Answer::Given(reply) => {
-            asks.hear(&reply, &buf[..count_in(&reply)]);
+    match given(&answer) {
+        Ok(reply) => {
+            asks.hear(reply, &buf[..count_in(reply)]);
             Ok(None)
         }
-        Answer::JournalFull { used, need, cap } => Err(Stop::Full { used, need, cap }),
-        Answer::NoMemory => Err(Stop::NoMemory),
+        Err(stop) => Err(stop),
     }
 }
 

@@ -1,7 +1,8 @@
-ghost use Rattle.std.specs.Prelude.{◌≡◌};
+ghost use Rattle.std.specs.Prelude.{◌≡◌, IfOk, IfErr};
+ghost use Rattle.ix_model.specs.declared.reply.Answer.TheVariants as AnswerOf;
 ghost use Rattle.ix_asking.specs.Runs.{answer_at};
 
-use ix_model::Answer;
+use ix_model::{Answer, Reply};
 
 /// Why a call wasn't made. Nothing has changed.
 #[derive(Clone, Copy)]
@@ -21,5 +22,21 @@ impl Stop {
             Stop::Full { used, need, cap } => Answer::JournalFull { used, need, cap },
             Stop::NoMemory => Answer::NoMemory,
         }
+    }
+}
+
+/// The reply of an answer that gives one, or why the call wasn't made.
+pub fn given(answer: &Answer) -> Result<&Reply, Stop>
+    ensures given { IfOk result (λ reply. answer.now ≡ AnswerOf.Given reply.now) }
+    ensures stop { IfErr result (λ stop. answer.now ≡ answer_at stop) }
+{
+    match answer {
+        Answer::Given(reply) => Ok(reply),
+        Answer::JournalFull { used, need, cap } => Err(Stop::Full {
+            used: *used,
+            need: *need,
+            cap: *cap,
+        }),
+        Answer::NoMemory => Err(Stop::NoMemory),
     }
 }

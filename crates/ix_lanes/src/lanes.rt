@@ -1,5 +1,4 @@
 ghost use Rattle.std.specs.Prelude.{◌≡◌, ◌+◌, ◌<◌, ◌≤◌, IfOk, OnOk, length};
-ghost use Rattle.ix_model.specs.world.Naming.{same_bytes};
 ghost use Rattle.ix_script.specs.lines.Before.{lanes_of, proc_name_told};
 ghost use Rattle.ix_script.specs.lines.Roles.{role_of};
 ghost use Rattle.ix_lanes.specs.histories.Indexed.{line_in};
@@ -11,24 +10,9 @@ use ix_model::NoMemory;
 use ix_script::{Line, NameWord, Role, Script};
 use std::alloc::Global;
 
-/// Lets the name of a `proc` line stand for the pid after so many.
-fn add_proc(header: &mut Numbers<u32>, count: u32, line: &Line<'_>) -> Result<u32, NoMemory>
-    requires { count < 4294967295 }
-    ensures header { OnOk result (header.new ≡ numbered (count + 1) (proc_name_told line.now) header.old) }
-    ensures count { IfOk result (λ n. (n ≡ count + length (proc_name_told line.now)) × (n ≤ count + 1)) }
-{
-    match line {
-        Line::Proc { name, .. } => {
-            header.set(name, count + 1)?;
-            Ok(count + 1)
-        }
-        _ => Ok(count),
-    }
-}
-
 /// Lets the name of the line at an index, where that is a `proc` line, stand for the pid after so many. The line is made only where
 /// it stands in the header.
-fn add_proc_at(
+fn add_proc(
     header: &mut Numbers<u32>,
     count: u32,
     script: &Script,
@@ -39,10 +23,14 @@ fn add_proc_at(
     ensures header { OnOk result (header.new ≡ numbered (count + 1) (proc_name_told (line_in script.now index)) header.old) }
     ensures count { IfOk result (λ n. (n ≡ count + length (proc_name_told (line_in script.now index))) × (n ≤ count + 1)) }
 {
-    match role_at(script, index) {
-        Role::Header => add_proc(header, count, &line_at(script, index)),
-        _ => Ok(count),
-    }
+    let Role::Header = role_at(script, index) else {
+        return Ok(count);
+    };
+    let Line::Proc { name, .. } = &line_at(script, index) else {
+        return Ok(count);
+    };
+    header.set(name, count + 1)?;
+    Ok(count + 1)
 }
 
 /// The processes of the header, by their names: they have pids 1, 2 and so on, in order.
@@ -52,16 +40,9 @@ pub fn header_of(alloc: Global, script: &Script) -> Result<Numbers<u32>, NoMemor
     let mut header = Numbers::new(alloc);
     let mut count = 0;
     for index in 0..script.len() {
-        count = add_proc_at(&mut header, count, script, index)?;
+        count = add_proc(&mut header, count, script, index)?;
     }
     Ok(header)
-}
-
-/// Whether these are the bytes of the name.
-fn is_named(name: &NameWord<'_>, bytes: &[u8]) -> bool
-    ensures { result ≡ same_bytes name.now bytes.now }
-{
-    name.as_bytes() == bytes
 }
 
 /// The seat of the lane of a name.
@@ -72,7 +53,7 @@ fn seat_of(script: &Script, name: &NameWord<'_>) -> Option<u32>
         let Some(lane) = script.lane(seat) else {
             return None;
         };
-        if is_named(name, lane) {
+        if name.as_bytes() == lane {
             return Some(seat);
         }
     }

@@ -1,7 +1,9 @@
 -- The seat of a lane, as lanes are gone through.
-use Rattle.std.proofs.Common.{◌≡◌, ℕ, suc, ◌+◌, ◌≤◌, true, false, List, length, drop, Option, Some, None, ap, ◌∙◌, slice_get, add-one}
+use Rattle.std.proofs.Common.{◌≡◌, ℕ, suc, ◌+◌, ◌≤◌, true, false, List, length, drop, Option, Some, None, ap, refl, ◌==◌, ◌∙◌, slice_get, add-one}
 use Rattle.std.proofs.lemmas.List.{drop_all}
+use Rattle.std.specs.Option.{option_eq}
 use Rattle.ix_model.specs.world.Naming.{same_bytes}
+use Rattle.ix_lanes.specs.histories.Lanes.{is_seat}
 use Rattle.ix_lanes.specs.histories.Serial.{seat_from}
 use Rattle.ix_lanes.proofs.found.Indexed.{rest_is, none_left}
 
@@ -20,3 +22,8 @@ module _ (name : List ℕ) (lanes : List (List ℕ)) (first : Option ℕ) where
 
   pub seat_past : (i : ℕ) → slice_get lanes i ≡ None → seat_from i name (drop i lanes) ≡ first → None ≡ first
   seat_past i none h = rw (none_left lanes i none) at h
+
+-- whether a seat is that one, as code compares them
+pub same-seat : (seat : Option ℕ) (lane : ℕ) → option_eq (λ a b. a == b) seat (Some lane) ≡ is_seat lane seat
+same-seat None lane = refl
+same-seat (Some s) lane = refl

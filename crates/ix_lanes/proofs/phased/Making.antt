@@ -1,12 +1,12 @@
 -- Lines that are made one after the other on a system.
-use Rattle.std.proofs.Common.{◌≡◌, ℕ, List, [], ◌∷◌, ◌++◌, refl, sym, ap, ◌∙◌, subst, append_assoc}
+use Rattle.std.proofs.Common.{◌≡◌, ℕ, Ok, Err, List, [], ◌∷◌, ◌++◌, refl, sym, ap, ◌∙◌, subst, append_assoc}
 use Rattle.ix_model.specs.history.Made.{Made}
 use Rattle.ix_model.specs.history.Systems.{one_more}
 use Rattle.ix_model.specs.declared.reply.Answer.{Answer}
 use Rattle.ix_asking.specs.declared.stop.Stop.{Stop}
 use Rattle.ix_asking.specs.Asking.{Asked, Asking, Ask, Answered, Next, Came, Due, all_heard, first, followed, heard, mapped, next}
 use Rattle.ix_asking.specs.Asking as asking
-use Rattle.ix_asking.specs.Runs.{answer_of, answers_of, AsAsked, Makes, StopsAt}
+use Rattle.ix_asking.specs.Runs.{answer_of, answers_of, AsAsked, Ends, Makes, StopsAt}
 use Rattle.ix_asking.proofs.OneMore.{asked_after, heard_after, makes-after}
 use Rattle.ix_lanes.specs.running.Lines.{Cut, Done}
 
@@ -51,6 +51,16 @@ stops_followed more seat (Ask a later) (m ∷ made) stop h k = stops_followed mo
 
 -- ---- on a system
 module _ {S : Type 0} (seat_of : S → ℕ) (made_of : S → List Made) (stops_of : S → ℕ) (stopped_of : S → Answer) (follows_of : S → S → Type 0) where
+  -- all calls were made, or one stopped, as `run` says it
+  pub done_run : {R : Type 0} (p q : Asking R) (old new : S) (r : R) {most : List Made → Type 0}
+      → ((more : List Made) × Makes seat_of made_of follows_of p old new more × (q ≡ all_heard p (answers_of more)) × most more × Ends stops_of stopped_of (next p (answers_of more)) old new (Ok r))
+      → Done seat_of made_of stops_of stopped_of follows_of p old new r
+  done_run p q old new r h = record { more = h.0; makes = h.1; came = h.4.0; stops = h.4.1 }
+
+  pub cut_run : {R : Type 0} (p q : Asking R) (old new : S) (stop : Stop) {most : List Made → Type 0}
+      → ((more : List Made) × Makes seat_of made_of follows_of p old new more × (q ≡ all_heard p (answers_of more)) × most more × Ends stops_of stopped_of (next p (answers_of more)) old new (Err stop))
+      → Cut seat_of made_of stops_of stopped_of follows_of p old new stop
+  cut_run p q old new stop h = record { more = h.0; makes = h.1; stopped = h.4.0; stops = h.4.1; last = h.4.2 }
 
   pub done_mapped : {A B : Type 0} (f : A → B) (p : Asking A) (old new : S) (r : A) → Done seat_of made_of stops_of stopped_of follows_of p old new r
       → Done seat_of made_of stops_of stopped_of follows_of (mapped f p) old new (f r)

@@ -21,7 +21,7 @@ use Rattle.ix_lanes.proofs.phased.Making.{cut_after, cut_before, done_after}
 module _ {S : Type 0} (seat_of : S → ℕ) (made_of : S → List Made) (stops_of : S → ℕ) (stopped_of : S → Answer) (follows_of : S → S → Type 0)
     (reflexive : (s : S) → follows_of s s) (transitive : (s t u : S) → follows_of s t → follows_of t u → follows_of s u) where
   -- nothing is asked for, and nothing made
-  nothing_done : {R : Type 0} (r : R) (sys : S) → Done seat_of made_of stops_of stopped_of follows_of (asking.Done r) sys sys r
+  pub nothing_done : {R : Type 0} (r : R) (sys : S) → Done seat_of made_of stops_of stopped_of follows_of (asking.Done r) sys sys r
   nothing_done r sys = record {
     more = [];
     makes = record { seat = refl; made = sym (append-nil (made_of sys)); asked = tt; follows = reflexive sys };

@@ -1,7 +1,8 @@
 -- What the lines ask for that make more calls than one.
-use Rattle.std.proofs.Common.{◌≡◌, ℕ, List, Option, refl, ap, sym, ◌∙◌}
+use Rattle.std.proofs.Common.{◌≡◌, ℕ, List, Option, None, refl, ap, sym, ◌∙◌}
 use Rattle.ix_policy.specs.declared.rule.Rule.{Rule}
 use Rattle.ix_asking.specs.Asking.{mapped}
+use Rattle.ix_asking.specs.Asking as asking
 use Rattle.ix_asking.specs.Copies.{copies}
 use Rattle.ix_asking.specs.serving.Serving.{Server}
 use Rattle.ix_privserv.specs.Serving as privileges
@@ -10,6 +11,7 @@ use Rattle.ix_script.specs.declared.line.Line.{Line}
 use Rattle.ix_script.specs.declared.line.Line.TheVariants as line
 use Rattle.ix_script.specs.declared.line.FdWord.{FdWord}
 use Rattle.ix_lanes.specs.asking.Asked.{Names, Numbers, asked, fd_of, pid_of}
+use Rattle.ix_lanes.specs.declared.asking.handed.Handed.TheVariants as handed
 use Rattle.ix_lanes.specs.asking.Handing.{who_in}
 use Rattle.ix_lanes.specs.asking.LineAsks.{by_rules, gives_nothing, line_asks, one_call}
 
@@ -43,3 +45,11 @@ module _ (rules : Option (List Rule)) (header : Numbers) (names : Names) (n : �
   login_asks proc fd hand q pid end gives is by at to =
       ap (line_asks rules header names n) is ∙ (λ i. by_rules rules (λ r. mapped who_in (sessions.serves r (record { line = n; pid = sym by i; fd = sym at i }) (record { 0 = sym to i }))))
 
+  -- without a policy neither is served
+  pub priv_none : (proc : List ℕ) (fd : FdWord) → l ≡ line.Priv proc fd → rules ≡ None → line_asks rules header names n l ≡ asking.Done handed.Nothing
+  priv_none proc fd is none = priv_asks proc fd _ _ is refl refl
+      ∙ ap (λ o. by_rules o (λ r. gives_nothing (privileges.serves r (record { line = n; pid = pid_of header names proc; fd = fd_of names fd })))) none
+
+  pub login_none : (proc : List ℕ) (fd hand : FdWord) (q : Option (List ℕ)) → l ≡ line.Login proc fd hand q → rules ≡ None → line_asks rules header names n l ≡ asking.Done handed.Nothing
+  login_none proc fd hand q is none = login_asks proc fd hand q _ _ _ is refl refl refl
+      ∙ ap (λ o. by_rules o (λ r. mapped who_in (sessions.serves r (record { line = n; pid = pid_of header names proc; fd = fd_of names fd }) (record { 0 = fd_of names hand })))) none

@@ -73,9 +73,9 @@ seat_found : (n : ℕ) (name : List ℕ) (lanes : List (List ℕ)) → IfSome (s
 seat_found n name [] = tt
 seat_found n name (lane ∷ lanes) =
     elim (same_bytes name lane) as (λ b. IfSome (if b then Some n else seat_from (suc n) name lanes) (λ s. s < n + suc (length lanes))) [
-  | true ↦ omega arith
-  | false ↦ if_some_below (seat_from (suc n) name lanes) (suc n + length lanes) (n + suc (length lanes)) (omega arith) (seat_found (suc n) name lanes)
-]
+      | true ↦ omega arith
+      | false ↦ if_some_below (seat_from (suc n) name lanes) (suc n + length lanes) (n + suc (length lanes)) (omega arith) (seat_found (suc n) name lanes)
+    ]
 
 -- the lane in which the next line stands is one of the script
 pub seat_within : (lanes : List (List ℕ)) (seat : Option ℕ) (l : Line) (n : ℕ) → n ≡ length lanes → IfSome seat (λ s. s < n)

@@ -111,9 +111,14 @@ by_seats count (e ∷ events) h =
     let split : below (λ k. cost_of_history (entries_of k (e ∷ events))) count ≡ below (λ k. alone e.seat (cost_of e.op) k + cost_of_history (entries_of k events)) count =
     below-same (λ k. cost_of_history (entries_of k (e ∷ events)))
     (λ k. alone e.seat (cost_of e.op) k + cost_of_history (entries_of k events)) count (λ k. entry_cost k e events) in
-    omega
-    (arith, split, below-add (alone e.seat (cost_of e.op)) (λ k. cost_of_history (entries_of k events)) count, below-alone e.seat (cost_of e.op) count seats.0,
-    by_seats count events seats.1, cost-cons e events)
+    omega (
+      arith,
+      split,
+      below-add (alone e.seat (cost_of e.op)) (λ k. cost_of_history (entries_of k events)) count,
+      below-alone e.seat (cost_of e.op) count seats.0,
+      by_seats count events seats.1,
+      cost-cons e events,
+    )
 
 -- ---- lines, by the seats of their lanes
 -- what numbered lines need
@@ -140,9 +145,14 @@ lines_need lanes count n (Some j) (l ∷ lines) =
     let split : below (λ k. need_of (lines_of_seat lanes k n (Some j) (l ∷ lines))) count ≡ below (λ k. alone j (cost_of_line l) k + rest k) count =
     below-same (λ k. need_of (lines_of_seat lanes k n (Some j) (l ∷ lines))) (λ k. alone j (cost_of_line l) k + rest k) count
     (λ k. line_need lanes k j n l lines) in
-    omega
-    (arith, split, below-add (alone j (cost_of_line l)) rest count, below-most j (cost_of_line l) count,
-    lines_need lanes count (suc n) (seat_after lanes (Some j) l) lines, need-cons l lines)
+    omega (
+      arith,
+      split,
+      below-add (alone j (cost_of_line l)) rest count,
+      below-most j (cost_of_line l) count,
+      lines_need lanes count (suc n) (seat_after lanes (Some j) l) lines,
+      need-cons l lines,
+    )
 
 -- ---- one lane
 -- none of the entries is answered more bytes than it asks for

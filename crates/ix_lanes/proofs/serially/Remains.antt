@@ -52,8 +52,8 @@ asks_later rules header lanes k n names (Some j) (l ∷ lines) answers e events 
       starts-then Handed n k (line_asks rules header names n l) (λ g later. calls_from rules header k (named names l g) rest later)
       (all-numbered rules header names n l)
       (λ g later f others is. let more =
-          asks_later rules header lanes k (suc n) (named names l g) (seat_after lanes (Some j) l) lines later f others is in omega
-          (arith, more))
+      asks_later rules header lanes k (suc n) (named names l g) (seat_after lanes (Some j) l) lines later f others is in omega
+      (arith, more))
       answers e events
       (ap (λ (c : Calls). c.entries) (sym (ap (λ ls. calls_from rules header k names ls answers) (lines-mine lanes k j n l lines mine)
       ∙ calls-line rules header k names (record { number = n; said = l }) rest answers)) ∙ h)
@@ -92,7 +92,7 @@ module _ (s : List Line) (names : List Names) (j n : ℕ) (l : Line) (lines : Li
         ∙ calls-line (rules_told s) (header_of s) j (names_of names j) (record { number = n; said = l })
         (lines_of_seat (lanes_of s) j (suc n) next_seat lines) answers
         ∙ (λ i. calls_then j (line_asks (rules_told s) (header_of s) (names_of names j) n l) answers
-          (λ g rest. calls_from (rules_told s) (header_of s) j (sym (names-mine names j l g within) i) (lines_of_seat (lanes_of s) j (suc n) next_seat lines) rest))
+        (λ g rest. calls_from (rules_told s) (header_of s) j (sym (names-mine names j l g within) i) (lines_of_seat (lanes_of s) j (suc n) next_seat lines) rest))
         ∙ sym (pending-mine (line_asks (rules_told s) (header_of s) (names_of names j) n l) answers))
     | inr apart ↦
         ap (λ ls. calls_from (rules_told s) (header_of s) k (names_of names k) ls answers) (lines-other (lanes_of s) k j n l lines apart)
@@ -134,8 +134,8 @@ module _ (s : List Line) (names : List Names) (j n : ℕ) (l : Line) (lines : Li
     | inl mine ↦
         starts-then Handed n j p after_line numbered
         (λ g rest f others is. let more =
-            asks_later (rules_told s) (header_of s) (lanes_of s) j (suc n) (names_of (renamed names j l g) j) next_seat lines rest f others
-            is in omega (arith, more))
+        asks_later (rules_told s) (header_of s) (lanes_of s) j (suc n) (names_of (renamed names j l g) j) next_seat lines rest f others
+        is in omega (arith, more))
         answers e events
         (ap (λ (c : Calls). c.entries) (sym (pending-mine p answers)) ∙ ap (λ m. (pending p m answers).entries) mine ∙ h)
     | inr apart ↦ let more = others_later p k apart answers e events h in omega (arith, more)

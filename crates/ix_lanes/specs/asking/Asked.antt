@@ -114,7 +114,7 @@ second_in (handed.Two f g) = g.0
 second_in _ = 255
 
 -- a name in its place, where a line gives one
-abbrev pub bound : Option (List ℕ) → ℕ → Numbers → Numbers
+abbrev pub bound : {X : Type 0} → Option (List ℕ) → X → map.FinMap (slice_cmp nat_cmp) X → map.FinMap (slice_cmp nat_cmp) X
 bound None n numbers = numbers
 bound (Some name) n numbers = map.insert numbers name n
 

@@ -8,7 +8,7 @@ ghost use Rattle.ix_asking.specs.Runs.{entry_of};
 
 use crate::asking::handed::Handed;
 use crate::asking::numbers::Numbers;
-use crate::asking::places::{Places, fill};
+use crate::asking::places::Places;
 use ix_model::{Buf, Call, Entry};
 use ix_script::{Line, NameWord};
 
@@ -48,102 +48,62 @@ pub fn call_of<'a>(
             path,
             mode,
             ..
-        } => (
-            proc,
-            Call::OpenAt {
-                path: path.path(),
-                mode: *mode,
-            },
-        ),
-        Line::Read { proc, fd, count } => (
-            proc,
-            Call::ReadFd {
-                fd: places.fd_of(fd),
-                count: *count,
-            },
-        ),
-        Line::Write { proc, fd, .. } => (
-            proc,
-            Call::WriteFd {
-                fd: places.fd_of(fd),
-                bytes,
-            },
-        ),
-        Line::Cut { proc, fd, len } => (
-            proc,
-            Call::CutFd {
-                fd: places.fd_of(fd),
-                len: *len,
-            },
-        ),
-        Line::Seek { proc, fd, at } => (
-            proc,
-            Call::SeekFd {
-                fd: places.fd_of(fd),
-                at: *at,
-            },
-        ),
-        Line::Dup { proc, fd, .. } => (
-            proc,
-            Call::DupFd {
-                fd: places.fd_of(fd),
-            },
-        ),
-        Line::Close { proc, fd } => (
-            proc,
-            Call::CloseFd {
-                fd: places.fd_of(fd),
-            },
-        ),
+        } => {
+            let (path, mode) = (path.path(), *mode);
+            (proc, Call::OpenAt { path, mode })
+        }
+        Line::Read { proc, fd, count } => {
+            let (fd, count) = (places.fd(fd), *count);
+            (proc, Call::ReadFd { fd, count })
+        }
+        Line::Write { proc, fd, .. } => {
+            let fd = places.fd(fd);
+            (proc, Call::WriteFd { fd, bytes })
+        }
+        Line::Cut { proc, fd, len } => {
+            let (fd, len) = (places.fd(fd), *len);
+            (proc, Call::CutFd { fd, len })
+        }
+        Line::Seek { proc, fd, at } => {
+            let (fd, at) = (places.fd(fd), *at);
+            (proc, Call::SeekFd { fd, at })
+        }
+        Line::Dup { proc, fd, .. } => (proc, Call::DupFd { fd: places.fd(fd) }),
+        Line::Close { proc, fd } => (proc, Call::CloseFd { fd: places.fd(fd) }),
         Line::Pipe { proc, .. } => (proc, Call::MakePipe),
         Line::Mkdir { proc, path } => (proc, Call::MakeDir { path: path.path() }),
-        Line::Link { proc, target, path } => (
-            proc,
-            Call::LinkAt {
-                target: target.path(),
-                path: path.path(),
-            },
-        ),
+        Line::Link { proc, target, path } => {
+            let (target, path) = (target.path(), path.path());
+            (proc, Call::LinkAt { target, path })
+        }
         Line::Unlink { proc, path } => (proc, Call::UnlinkAt { path: path.path() }),
         Line::Rmdir { proc, path } => (proc, Call::RemoveDir { path: path.path() }),
         Line::Chdir { proc, path } => (proc, Call::ChangeDir { path: path.path() }),
         Line::Stat { proc, path } => (proc, Call::StatAt { path: path.path() }),
-        Line::List { proc, path, index } => (
-            proc,
-            Call::ListAt {
-                path: path.path(),
-                index: *index,
-            },
-        ),
-        Line::Fork { proc, keep, .. } => (
-            proc,
-            Call::Fork {
-                keep: places.keep_of(keep),
-            },
-        ),
+        Line::List { proc, path, index } => {
+            let (path, index) = (path.path(), *index);
+            (proc, Call::ListAt { path, index })
+        }
+        Line::Fork { proc, keep, .. } => {
+            let keep = places.keep(keep);
+            (proc, Call::Fork { keep })
+        }
         Line::Exec { proc, path } => (proc, Call::Exec { path: path.path() }),
-        Line::Exit { proc, status } => (
-            proc,
-            Call::Exit {
-                status: (*status).min(255) as u8,
-            },
-        ),
+        Line::Exit { proc, status } => {
+            let status = (*status).min(255) as u8;
+            (proc, Call::Exit { status })
+        }
         Line::Wait { proc } => (proc, Call::WaitChild),
         Line::Labelof { proc, path } => (proc, Call::LabelOf { path: path.path() }),
         Line::Self_ { proc } => (proc, Call::SelfLabel),
-        Line::Setlabel { proc, path, label } => (
-            proc,
-            Call::SetLabel {
-                path: path.path(),
-                label: label.label(),
-            },
-        ),
-        Line::Setself { proc, label } => (
-            proc,
-            Call::SetSelf {
-                label: label.label(),
-            },
-        ),
+        Line::Setlabel { proc, path, label } => {
+            let (path, label) = (path.path(), label.label());
+            (proc, Call::SetLabel { path, label })
+        }
+        Line::Setself { proc, label } => {
+            let label = label.label();
+            (proc, Call::SetSelf { label })
+        }
         Line::Freeze { proc, path } => (proc, Call::Freeze { path: path.path() }),
         Line::Freezeself { proc } => (proc, Call::FreezeSelf),
         Line::Thaw { proc, path } => (proc, Call::Thaw { path: path.path() }),
@@ -153,48 +113,28 @@ pub fn call_of<'a>(
             path,
             cap,
             lic,
-        } => (
-            proc,
-            Call::SetPriv {
-                path: path.path(),
-                cap: *cap,
-                lic: *lic,
-            },
-        ),
+        } => {
+            let (path, cap, lic) = (path.path(), *cap, *lic);
+            (proc, Call::SetPriv { path, cap, lic })
+        }
         Line::Droplic { proc, set } => (proc, Call::DropLic { set: *set }),
-        Line::Grant { proc, to, set } => (
-            proc,
-            Call::GrantLic {
-                pid: places.pid_of(header, to),
-                set: *set,
-            },
-        ),
-        Line::Ceiling { proc, of, label } => (
-            proc,
-            Call::SetCeiling {
-                pid: places.pid_of(header, of),
-                label: label.label(),
-            },
-        ),
-        Line::Pex { proc, fd } => (
-            proc,
-            Call::Pex {
-                fd: places.fd_of(fd),
-            },
-        ),
-        Line::Unpex { proc, fd } => (
-            proc,
-            Call::Unpex {
-                fd: places.fd_of(fd),
-            },
-        ),
+        Line::Grant { proc, to, set } => {
+            let (pid, set) = (places.pid(header, to), *set);
+            (proc, Call::GrantLic { pid, set })
+        }
+        Line::Ceiling { proc, of, label } => {
+            let (pid, label) = (places.pid(header, of), label.label());
+            (proc, Call::SetCeiling { pid, label })
+        }
+        Line::Pex { proc, fd } => (proc, Call::Pex { fd: places.fd(fd) }),
+        Line::Unpex { proc, fd } => (proc, Call::Unpex { fd: places.fd(fd) }),
         Line::Readlog { proc, index } => (proc, Call::ReadLog { index: *index }),
         _ => return None,
     };
     Some(Entry {
         seat,
         line: number,
-        pid: places.pid_of(header, proc),
+        pid: places.pid(header, proc),
         call,
     })
 }
@@ -230,25 +170,14 @@ fn fds_in(handed: &Handed) -> (u8, u8)
     }
 }
 
-/// Lets a name, if there is one, stand for the descriptor that is handed.
-fn bind_fd(fds: &mut Numbers<Option<u8>>, name: &Option<NameWord<'_>>, handed: &Handed)
-    requires { has_all fds.old (listed name.now) ≡ true }
-    ensures set { given fds.new ≡ bound name.now (number_in 255 255 handed.now) (given fds.old) }
-    ensures keeps { KeepsNames fds.old fds.new }
+/// Lets a name, if there is one, stand for a number.
+fn bind_one<N: Copy>(names: &mut Numbers<Option<N>>, name: &Option<NameWord<'_>>, number: N)
+    requires { has_all names.old (listed name.now) ≡ true }
+    ensures set { given names.new ≡ bound name.now number (given names.old) }
+    ensures keeps { KeepsNames names.old names.new }
 {
     if let Some(name) = name {
-        fill(fds, name, fd_in(handed));
-    }
-}
-
-/// Lets a name, if there is one, stand for the pid that is handed.
-fn bind_proc(procs: &mut Numbers<Option<u32>>, name: &Option<NameWord<'_>>, handed: &Handed)
-    requires { has_all procs.old (listed name.now) ≡ true }
-    ensures set { given procs.new ≡ bound name.now (number_in 4294967295 0 handed.now) (given procs.old) }
-    ensures keeps { KeepsNames procs.old procs.new }
-{
-    if let Some(name) = name {
-        fill(procs, name, pid_in(handed));
+        names.put(name, Some(number));
     }
 }
 
@@ -264,8 +193,8 @@ fn bind_both(
 {
     if let Some((first_name, second_name)) = two {
         let (first, second) = fds_in(handed);
-        fill(fds, first_name, first);
-        fill(fds, second_name, second);
+        fds.put(first_name, Some(first));
+        fds.put(second_name, Some(second));
     }
 }
 
@@ -277,11 +206,11 @@ pub fn bind(places: &mut Places, line: &Line<'_>, handed: &Handed)
     ensures keeps { KeepsPlaces places.old places.new }
 {
     match line {
-        Line::Open { named, .. } => bind_fd(&mut places.fds, named, handed),
-        Line::Dup { named, .. } => bind_fd(&mut places.fds, named, handed),
+        Line::Open { named, .. } => bind_one(&mut places.fds, named, fd_in(handed)),
+        Line::Dup { named, .. } => bind_one(&mut places.fds, named, fd_in(handed)),
         Line::Pipe { named, .. } => bind_both(&mut places.fds, named, handed),
-        Line::Fork { named, .. } => bind_proc(&mut places.procs, named, handed),
-        Line::Login { named, .. } => bind_proc(&mut places.procs, named, handed),
+        Line::Fork { named, .. } => bind_one(&mut places.procs, named, pid_in(handed)),
+        Line::Login { named, .. } => bind_one(&mut places.procs, named, pid_in(handed)),
         _ => {}
     }
 }

@@ -1,3 +1,6 @@
+ghost use Rattle.std.specs.Prelude.{◌≡◌, OnOk, OnErr, true};
+ghost use Rattle.std.specs.FinMap as map;
+
 use ix_model::NoMemory;
 use ix_script::NameWord;
 use std::alloc::Global;
@@ -26,9 +29,6 @@ impl<N> Model for Numbers<N> {
 }
 
 impl<N: Copy> Numbers<N> {
-    ghost use Rattle.std.specs.Prelude.{◌≡◌, OnOk, OnErr, true};
-    ghost use Rattle.std.specs.FinMap as map;
-
     /// No names.
     pub fn new(alloc: Global) -> Numbers<N>
         ensures { result ≡ map.empty }
@@ -59,13 +59,6 @@ impl<N: Copy> Numbers<N> {
             return Err(NoMemory);
         }
         Ok(())
-    }
-
-    /// Whether it has the name.
-    pub fn has(&self, name: &NameWord<'_>) -> bool
-        ensures { result ≡ map.contains_key self.now name.now }
-    {
-        self.get(name).is_some()
     }
 
     /// Lets a name that it has stand for a number from now on. It takes no memory.

@@ -1,7 +1,8 @@
 ghost use Rattle.std.specs.Prelude.{◌≡◌, OnOk, true};
 ghost use Rattle.std.specs.FinMap as map;
 ghost use Rattle.ix_script.specs.lines.Before.{listed, listed_two};
-ghost use Rattle.ix_lanes.specs.asking.Places.{given, has_all, KeepsNames};
+ghost use Rattle.ix_lanes.specs.asking.Asked.{fd_of, keep_of, no_names, pid_of};
+ghost use Rattle.ix_lanes.specs.asking.Places.{given, has_all, has_places, KeepsNames, KeepsPlaces, standing};
 
 use crate::asking::numbers::Numbers;
 use ix_model::{Fd, Keep, NoMemory, Pid};
@@ -16,23 +17,13 @@ pub struct Places {
     pub fds: Numbers<Option<u8>>,
 }
 
-/// What stands in a name's place.
-fn number_of<N: Copy>(names: &Numbers<Option<N>>, name: &NameWord<'_>) -> Option<N>
-    ensures { result ≡ map.get (given names.now) name.now }
-{
-    match names.get(name) {
-        Some(number) => number,
-        None => None,
-    }
-}
-
 /// Finds a name its place, if it has none yet.
 fn add_name<N: Copy>(names: &mut Numbers<Option<N>>, name: &NameWord<'_>) -> Result<(), NoMemory>
     ensures same { given names.new ≡ given names.old }
     ensures place { OnOk result (map.contains_key names.new name.now ≡ true) }
     ensures keeps { KeepsNames names.old names.new }
 {
-    if names.has(name) {
+    if names.get(name).is_some() {
         return Ok(());
     }
     names.set(name, None)
@@ -69,20 +60,7 @@ fn add_two<N: Copy>(
     add_name(names, second)
 }
 
-/// Puts a number in a name's place.
-pub fn fill<N: Copy>(names: &mut Numbers<Option<N>>, name: &NameWord<'_>, number: N)
-    requires { map.contains_key names.old name.now ≡ true }
-    ensures set { given names.new ≡ map.insert (given names.old) name.now number }
-    ensures keeps { KeepsNames names.old names.new }
-{
-    names.put(name, Some(number));
-}
-
 impl Places {
-    ghost use Rattle.std.specs.Prelude.{◌≡◌, OnOk, true};
-    ghost use Rattle.ix_lanes.specs.asking.Asked.{fd_of, keep_of, no_names, pid_of};
-    ghost use Rattle.ix_lanes.specs.asking.Places.{has_places, KeepsPlaces, standing};
-
     /// No names.
     pub fn new(alloc: Global) -> Places
         ensures { standing result ≡ no_names }
@@ -111,33 +89,33 @@ impl Places {
     }
 
     /// The process of a name: one of the header, or one that the lane gave.
-    pub fn pid_of(&self, header: &Numbers<u32>, name: &NameWord<'_>) -> Pid
+    pub fn pid(&self, header: &Numbers<u32>, name: &NameWord<'_>) -> Pid
         ensures { result.0 ≡ pid_of header.now (standing self.now) name.now }
     {
-        match number_of(&self.procs, name) {
+        match self.procs.get(name).flatten() {
             Some(pid) => Pid(pid),
             None => Pid(header.get(name).unwrap_or(0)),
         }
     }
 
     /// The descriptor that a word says.
-    pub fn fd_of(&self, word: &FdWord<'_>) -> Fd
+    pub fn fd(&self, word: &FdWord<'_>) -> Fd
         ensures { result.0 ≡ fd_of (standing self.now) word.now }
     {
         match word {
             FdWord::Number(n) => Fd(*n),
-            FdWord::Named(name) => Fd(number_of(&self.fds, name).unwrap_or(255)),
+            FdWord::Named(name) => Fd(self.fds.get(name).flatten().unwrap_or(255)),
         }
     }
 
     /// Which descriptors a child gets.
-    pub fn keep_of(&self, word: &KeepWord<'_>) -> Keep
+    pub fn keep(&self, word: &KeepWord<'_>) -> Keep
         ensures { result ≡ keep_of (standing self.now) word.now }
     {
         match word {
             KeepWord::All => Keep::All,
             KeepWord::Nothing => Keep::Nothing,
-            KeepWord::One(fd) => Keep::One(self.fd_of(fd)),
+            KeepWord::One(fd) => Keep::One(self.fd(fd)),
         }
     }
 }

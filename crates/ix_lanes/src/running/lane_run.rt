@@ -11,6 +11,7 @@ ghost use Rattle.ix_lanes.specs.asking.LineAsks.{lines_ask};
 ghost use Rattle.ix_lanes.specs.running.Lines.{Cut, Done};
 ghost use Rattle.ix_lanes.specs.running.Phases.{lane_among, lane_between, seat_at};
 
+use crate::asking::calls::bind;
 use crate::asking::numbers::Numbers;
 use crate::asking::places::Places;
 use crate::lanes::{header_of, seat_past};
@@ -23,16 +24,6 @@ use ix_policy::Policy;
 use ix_script::{Role, Script};
 use std::alloc::Global;
 use std::marker::Model;
-
-/// Whether the lane of a seat is that lane.
-fn is_lane(seat: Option<u32>, lane: u32) -> bool
-    ensures { result ≡ is_seat lane seat }
-{
-    match seat {
-        Some(seat) => seat == lane,
-        None => false,
-    }
-}
 
 /// Finds the names that the line at an index gives their places. The line is made only where it may give any.
 fn add_names(places: &mut Places, script: &Script, index: u32, role: Role) -> Result<(), NoMemory>
@@ -57,7 +48,7 @@ fn places_of(alloc: Global, script: &Script, lane: u32) -> Result<Places, NoMemo
     let mut seat = None;
     for index in 0..script.len() {
         let role = role_at(script, index);
-        if is_lane(seat, lane) {
+        if seat == Some(lane) {
             add_names(&mut places, script, index, role)?;
         }
         seat = seat_past(script, seat, index, role);
@@ -93,18 +84,20 @@ fn run_lines<S: Sys>(
     let mut buf = [0; 4096];
     for index in first..end {
         let role = role_at(script, index);
-        if is_lane(seat, lane) {
-            run_line(
+        if seat == Some(lane) {
+            let line = line_at(script, index);
+            let handed = run_line(
                 sys,
                 policy,
                 header,
                 places,
                 lane,
                 index + 1,
-                &line_at(script, index),
+                &line,
                 &mut payload,
                 &mut buf,
             )?;
+            bind(places, &line, &handed);
         }
         seat = seat_past(script, seat, index, role);
     }

@@ -1,19 +1,20 @@
-use Rattle.std.proofs.Common.{sym, ◌∙◌, arith}
+use Rattle.std.proofs.Common.{sym, ap, ◌∙◌, arith}
+use Rattle.ix_model.specs.world.Naming.{same_bytes}
 use Rattle.ix_script.specs.lines.Before.{lanes_of}
 use Rattle.ix_lanes.proofs.found.Indexed.{none_mapped}
 use Rattle.ix_lanes.proofs.found.LaneCount.{lanes_few}
 use Rattle.ix_lanes.proofs.found.SeatSearch.{seat_here, seat_later, seat_none, seat_past}
 use Rattle.ix_lanes.proofs.lanes.seat_of.Goals as goal
 
-pub returns-then-is_named : goal.returns-then-is_named
-returns-then-is_named c =
+pub returns-then-eq : goal.returns-then-eq
+returns-then-eq c =
     seat_here c.args.name.now (lanes_of c.args.script.now) _ c.loop-seat.seat c.in-Some.lane.now
-    (sym c.in-Some.ensures) (sym c.is_named.ensures ∙ c.if-is_named.true) c.loop-seat.invariant
+    (sym c.in-Some.ensures) (ap (λ bytes. same_bytes bytes c.in-Some.lane.now) (sym c.as_bytes.ensures) ∙ sym c.eq.ensures ∙ c.if-eq.true) c.loop-seat.invariant
 
 pub loop-seat-preserved : goal.loop-seat-preserved
 loop-seat-preserved c =
     seat_later c.args.name.now (lanes_of c.args.script.now) _ c.loop-seat.seat c.in-Some.lane.now
-    (sym c.in-Some.ensures) (sym c.is_named.ensures ∙ c.if-is_named.false) c.loop-seat.invariant
+    (sym c.in-Some.ensures) (ap (λ bytes. same_bytes bytes c.in-Some.lane.now) (sym c.as_bytes.ensures) ∙ sym c.eq.ensures ∙ c.if-eq.false) c.loop-seat.invariant
 
 pub returns : goal.returns
 returns c =

@@ -8,9 +8,10 @@ use Rattle.ix_lanes.specs.histories.Serial.{seat_after}
 use Rattle.ix_lanes.specs.running.Fields.{all_placed}
 use Rattle.ix_lanes.specs.running.Phases.{lane_among}
 use Rattle.ix_lanes.proofs.found.Roles.{line-there}
+use Rattle.ix_lanes.proofs.found.SeatSearch.{same-seat}
 use Rattle.ix_lanes.proofs.phased.LaneLines.{seat_one_more}
 use Rattle.ix_lanes.proofs.phased.Placed.{placed-here, placed-not}
-use Rattle.ix_lanes.proofs.running.lane_run.places_of.Goals.{then-is_lane+in_ok-add_names, else-is_lane}
+use Rattle.ix_lanes.proofs.running.lane_run.places_of.Goals.{then-eq+in_ok-add_names, else-eq}
 use Rattle.ix_lanes.proofs.running.lane_run.places_of.Goals as goal
 
 pub loop-index-preserved : goal.loop-index-preserved
@@ -20,17 +21,17 @@ loop-index-preserved c =
     let within : i < length s = omega (arith, c.len-index-end.ensures.len, c.loop-index-test.true) in
     let l : Line = line_in s i in
     let at = line-there s i within in
-    let seat = sym (ap (is_seat c.args.lane) c.loop-index.invariant.seat) ∙ sym c.is_lane.ensures in
+    let seat = sym (ap (is_seat c.args.lane) c.loop-index.invariant.seat) ∙ sym (same-seat c.loop-index.seat c.args.lane) ∙ sym c.eq.ensures in
     record {
-      none = elim c.if-is_lane.branch [
-        | then-is_lane+in_ok-add_names w ↦ ap standing w.places-is ∙ w.add_names.ensures.same ∙ c.loop-index.invariant.none
-        | else-is_lane w ↦ ap standing w.places-is ∙ c.loop-index.invariant.none
+      none = elim c.if-eq.branch [
+        | then-eq+in_ok-add_names w ↦ ap standing w.places-is ∙ w.add_names.ensures.same ∙ c.loop-index.invariant.none
+        | else-eq w ↦ ap standing w.places-is ∙ c.loop-index.invariant.none
       ];
-      all = elim c.if-is_lane.branch [
-        | then-is_lane+in_ok-add_names w ↦ ap (λ p. all_placed p (lane_among s c.args.lane (take (i + 1) s))) w.places-is
-            ∙ placed-here s c.args.lane i l at c.loop-index.places w.add_names.new.places (seat ∙ w.if-is_lane.true) c.loop-index.invariant.all w.add_names.ensures.keeps w.in_ok-add_names.ensures.places
-        | else-is_lane w ↦ ap (λ p. all_placed p (lane_among s c.args.lane (take (i + 1) s))) w.places-is
-            ∙ placed-not s c.args.lane i l at c.loop-index.places (seat ∙ w.if-is_lane.false) c.loop-index.invariant.all
+      all = elim c.if-eq.branch [
+        | then-eq+in_ok-add_names w ↦ ap (λ p. all_placed p (lane_among s c.args.lane (take (i + 1) s))) w.places-is
+            ∙ placed-here s c.args.lane i l at c.loop-index.places w.add_names.new.places (seat ∙ w.if-eq.true) c.loop-index.invariant.all w.add_names.ensures.keeps w.in_ok-add_names.ensures.places
+        | else-eq w ↦ ap (λ p. all_placed p (lane_among s c.args.lane (take (i + 1) s))) w.places-is
+            ∙ placed-not s c.args.lane i l at c.loop-index.places (seat ∙ w.if-eq.false) c.loop-index.invariant.all
       ];
       seat = c.seat_past-seat.ensures ∙ ap (λ a. seat_after (lanes_of s) a l) c.loop-index.invariant.seat ∙ sym (seat_one_more s i l at);
       within = omega (arith, within);

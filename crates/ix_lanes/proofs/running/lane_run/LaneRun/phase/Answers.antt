@@ -72,11 +72,10 @@ returns-in-Ok-clause-done g c =
     let asked : AsAsked lane (next_asks s lane k names) one.more =
     subst (λ (p : Asking Names). AsAsked lane p one.more) asks (subst (λ (n : ℕ). AsAsked n (lines_ask (option_map (λ p. p.now) c.self.inside.policy) c.self.inside.header names (lane_between s lane c.self.inside.next c.phase_end-end.result)) one.more) seat one.makes.asked) in
     let came = ap (λ p. next p (answers_of one.more)) (sym asks) ∙ one.came in
-    let both = stands_next s lane k names old one.more stands asked after came in
-    (
+    let both = stands_next s lane k names old one.more stands asked after came in (
       add-one c.args.phase ∙ ap suc c.requires.next,
       subst (λ (n : ℕ). StandsFor (record { script = s; lane = lane; done = n; names = after }) (g.S.Sys.made c.run_lines-ran.new.sys)) (ap suc (sym phase) ∙ sym (add-one c.args.phase))
-      (subst (λ (made : List Made). StandsFor (record { script = s; lane = lane; done = suc k; names = after }) made) (sym one.makes.made) both),
+          (subst (λ (made : List Made). StandsFor (record { script = s; lane = lane; done = suc k; names = after }) made) (sym one.makes.made) both),
     )
 
 pub returns-in-Err-clause-cut : goal.returns-in-Err-clause-cut

@@ -2,7 +2,7 @@ use Rattle.std.proofs.Common.{◌≡◌, [], refl, ◌∙◌, arith}
 use Rattle.ix_script.specs.lines.Before.{proc_name_told}
 use Rattle.ix_lanes.specs.histories.Indexed.{line_in}
 use Rattle.ix_lanes.proofs.found.Roles.{no-proc}
-use Rattle.ix_lanes.proofs.lanes.add_proc_at.Goals as goal
+use Rattle.ix_lanes.proofs.lanes.add_proc.Goals as goal
 
 pub returns-in_default : goal.returns-in_default
 returns-in_default c =
