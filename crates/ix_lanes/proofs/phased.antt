@@ -7,3 +7,5 @@ pub mod Placed
 pub mod Served
 pub mod PhaseRuns
 pub mod SideBySide
+pub mod Standing
+pub mod Appended
