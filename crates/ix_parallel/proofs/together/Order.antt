@@ -49,7 +49,8 @@ lane_further s seat k =
     let few : length rest ≤ length (lines_before (suc k) s) - length front = omega (arith, length-take (length (lines_before (suc k) s) - length front) (drop (length front) s)) in (
       lines_of_seat (lanes_of s) seat (1 + length front) (fold (seat_after (lanes_of s)) None front) rest,
       ap (lane_among s seat) lines ∙ lane-append (lanes_of s) seat 1 None front rest,
-      each_in_lane (λ n. phase_of s n ≡ k) (lanes_of s) seat (1 + length front) (fold (seat_after (lanes_of s)) None front) rest (λ m low high. phase_at s k m (omega (arith, low)) (omega (arith, high, few, far))),
+      each_in_lane (λ n. phase_of s n ≡ k) (lanes_of s) seat (1 + length front) (fold (seat_after (lanes_of s)) None front) rest
+          (λ m low high. phase_at s k m (omega (arith, low)) (omega (arith, high, few, far))),
     )
 
 -- what the lane asks for then, behind what it asks for before
@@ -59,7 +60,8 @@ unfolding asks_before
 asks_further s seat k more is = ap (lines_ask (rules_told s) (header_of s) no_names) is ∙ asks_append (rules_told s) (header_of s) (lane_before s seat k) more no_names
 
 -- the entries that a lane makes then
-next_entries : (s : List Line) (seat k : ℕ) (before more : List Event) → ComesTo s k before seat None → ComesTo s (suc k) (before ++ more) seat None → EachLine (λ n. phase_of s n ≡ k) (entries_of seat more)
+next_entries : (s : List Line) (seat k : ℕ) (before more : List Event) → ComesTo s k before seat None → ComesTo s (suc k) (before ++ more) seat None
+    → EachLine (λ n. phase_of s n ≡ k) (entries_of seat more)
 next_entries s seat k before more was is =
     let P : ℕ → Type 0 = λ n. phase_of s n ≡ k in
     let lines = lane_further s seat k in

@@ -52,7 +52,8 @@ module _ (count : ℕ) (askers : Askers) (w : World) (place : ℕ) (e : Event) (
   seat_low = (first_seat count e events f.seats).0
 
   here : (k : ℕ) → k < count → e.seat ≡ k
-      → (next_of k (askers k) ≡ Some e) × (calls_then k (heard (askers k) (answered (step_of w place e))) (replies_from (step_of w place e).world (place + 1) k events) no_calls ≡ all_answered (entries_of k events))
+      → (next_of k (askers k) ≡ Some e)
+      × (calls_then k (heard (askers k) (answered (step_of w place e))) (replies_from (step_of w place e).world (place + 1) k events) no_calls ≡ all_answered (entries_of k events))
   here k low mine =
       first_call k (askers k) (answered (step_of w place e)) (replies_from (step_of w place e).world (place + 1) k events) e (entries_of k events)
       (ap (λ answers. calls_then k (askers k) answers no_calls) (sym (replies-mine w place k e events mine)) ∙ f.calls k low ∙ ap all_answered (entries-mine k e events mine))

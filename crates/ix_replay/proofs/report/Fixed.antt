@@ -98,7 +98,8 @@ unfolding closing_text
 closes form w n = (_, refl)
 
 -- a report is its first line, the lines of its entries, and what begins with the letter o
-report_parts : (s : List Line) (events : List Event) → (rest : List ℕ) × (report_of s events ≡ head_line (form_told s) ++ (entries_text (form_told s) (lanes_of s) 1 (opening_world (config_of s)) events ++ 111 ∷ rest))
+report_parts : (s : List Line) (events : List Event)
+    → (rest : List ℕ) × (report_of s events ≡ head_line (form_told s) ++ (entries_text (form_told s) (lanes_of s) 1 (opening_world (config_of s)) events ++ 111 ∷ rest))
 unfolding report_of
 report_parts s events =
     let form : Form = form_told s in
