@@ -7,4 +7,5 @@ pub mod Placed
 pub mod Served
 pub mod PhaseRuns
 pub mod Standing
+pub mod Appended
 pub mod SideBySide

@@ -1,6 +1,8 @@
 //! The one history to which the lanes of a script come.
 ghost use Rattle.std.specs.Prelude.{◌≡◌, ◌<◌, ◌≤◌, List, length, IfOk, IfSome, IfNone};
+ghost use Rattle.std.proofs.Common.{option_map};
 ghost use Rattle.ix_kernel.specs.Systems.{FilledUp};
+ghost use Rattle.ix_lanes.specs.asking.Ruled.{rules_told};
 ghost use Rattle.ix_model.specs.history.Events.{Event};
 ghost use Rattle.ix_script.specs.lines.Before.{lanes_of};
 ghost use Rattle.ix_script.specs.scripts.Scripts.{config_of};
@@ -15,20 +17,23 @@ use ix_core::Core;
 use ix_kernel::{KSeat, Kernel};
 use ix_lanes::{Lane, LaneRun, lanes_in};
 use ix_model::{Answer, NoMemory};
+use ix_policy::Policy;
 use ix_script::Script;
 use std::alloc::Global;
 use std::sync::Wait;
 use std::thread::Threads;
 
-/// A run of each lane, with the seat of the lane's number.
+/// A run of each lane by the script's policy, with the seat of the lane's number.
 fn seated<'a, W, R>(
     rt: &'a R,
     alloc: Global,
     script: &'a Script,
+    policy: Option<&'a Policy>,
     kernel: &'a Kernel,
     seats: Vec<KSeat>,
     watch: &'a W,
 ) -> Result<Vec<Lane<'a, Watched<'a, R, W>>>, NoMemory>
+    requires policy { option_map (λ p. p.now) policy ≡ rules_told script.now }
     requires some { 0 < length (lanes_of script.now) }
     requires few { length (lanes_of script.now) ≤ 64 }
     requires seats { AreNew kernel.now (config_of script.now) (length (lanes_of script.now)) seats.items }
@@ -37,7 +42,7 @@ fn seated<'a, W, R>(
     let mut lanes = Vec::new(alloc);
     let mut number = 0;
     for seat in seats {
-        let run = LaneRun::new(alloc, script, number)?;
+        let run = LaneRun::new(alloc, script, number, policy)?;
         let sys = Watched::new(kernel, seat, number, rt, watch);
         if lanes.push(Lane { run, sys }).is_err() {
             return Err(NoMemory);
@@ -78,17 +83,19 @@ fn run_seats<W: Watch, R: Threads + Wait + Sync>(
     rt: &R,
     alloc: Global,
     script: &Script,
+    policy: Option<&Policy>,
     kernel: &Kernel,
     seats: Vec<KSeat>,
     watch: &W,
 ) -> Result<(KSeat, Option<Answer>), NoMemory>
+    requires policy { option_map (λ p. p.now) policy ≡ rules_told script.now }
     requires some { 0 < length (lanes_of script.now) }
     requires few { length (lanes_of script.now) ≤ 64 }
     requires kernel { kernel.now.seats ≡ length (lanes_of script.now) }
     requires seats { AreNew kernel.now (config_of script.now) (length (lanes_of script.now)) seats.items }
     ensures { IfOk result (λ r. StandsForAll script.now kernel.now r.0 r.1) }
 {
-    let mut lanes = seated(rt, alloc, script, kernel, seats, watch)?;
+    let mut lanes = seated(rt, alloc, script, policy, kernel, seats, watch)?;
     let stop = run_phases(rt, script, lanes.as_mut_slice());
     match join_all(kernel, lanes) {
         Some(seat) => Ok((seat, stop)),
@@ -109,8 +116,8 @@ fn close(script: &Script, kernel: Kernel, seat: KSeat, stop: Option<Answer>) -> 
     core
 }
 
-/// Runs the lanes of a script, each with a seat of its own at one kernel: those of a phase side by side where threads can be started, and
-/// the next phase once all of them have ended. The core that is left has the history that came about.
+/// Runs the lanes of a script by its policy, if it has one, each with a seat of its own at one kernel: those of a phase side by side
+/// where threads can be started, and the next phase once all of them have ended. The core that is left has the history that came about.
 ///
 /// Each lane tells the watch of each of its calls before it makes it, and holds no turn then. `NoMemory`: there is no memory for the core,
 /// the kernel or the runs of the lanes, and no core is handed back. A script that was read has at most 64 lanes.
@@ -118,9 +125,11 @@ pub fn run_history<W: Watch, R: Threads + Wait + Sync>(
     rt: &R,
     alloc: Global,
     script: &Script,
+    policy: Option<&Policy>,
     watch: &W,
 ) -> Result<Core, NoMemory>
-    requires { length (lanes_of script.now) ≤ 64 }
+    requires few { length (lanes_of script.now) ≤ 64 }
+    requires policy { option_map (λ p. p.now) policy ≡ rules_told script.now }
     ensures config { IfOk result (λ core. core.config ≡ config_of script.now) }
     ensures history { IfOk result (λ core. IsHistory script.now core.events) }
 {
@@ -130,6 +139,6 @@ pub fn run_history<W: Watch, R: Threads + Wait + Sync>(
         return Ok(core);
     }
     let (kernel, seats) = Kernel::new(alloc, core, count)?;
-    let (seat, stop) = run_seats(rt, alloc, script, &kernel, seats, watch)?;
+    let (seat, stop) = run_seats(rt, alloc, script, policy, &kernel, seats, watch)?;
     Ok(close(script, kernel, seat, stop))
 }

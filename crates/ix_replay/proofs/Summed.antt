@@ -28,7 +28,7 @@ use Rattle.ix_script.specs.scripts.Scripts.{config_of}
 use Rattle.ix_script.specs.declared.line.Line.{Line}
 use Rattle.ix_report.specs.LineText.{totals_line}
 use Rattle.ix_report.specs.declared.totals.Totals.{Totals}
-use Rattle.ix_lanes.specs.asking.Replies.{count_in}
+use Rattle.ix_asking.specs.Runs.{count_in}
 use Rattle.ix_lanes.proofs.found.Indexed.{rest_is}
 use Rattle.ix_replay.specs.Summary.{is_refused, bytes_written, refused_in, read_in, written_in, totals_of, summary_line}
 use Rattle.ix_replay.specs.Tallying.{IsSmall, tally_of, with_reply}

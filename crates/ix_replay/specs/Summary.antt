@@ -12,7 +12,7 @@ use Rattle.ix_model.specs.declared.reply.Reply.{Reply}
 use Rattle.ix_model.specs.declared.reply.Reply.TheVariants as reply
 use Rattle.ix_script.specs.scripts.Scripts.{config_of}
 use Rattle.ix_script.specs.declared.line.Line.{Line}
-use Rattle.ix_lanes.specs.asking.Replies.{count_in}
+use Rattle.ix_asking.specs.Runs.{count_in}
 use Rattle.ix_report.specs.LineText.{totals_line}
 use Rattle.ix_report.specs.declared.totals.Totals.{Totals}
 

@@ -3,7 +3,7 @@ use Rattle.std.specs.Prelude.{◌+◌, ◌<◌, ◌^◌, List, if◌then◌else�
 use Rattle.ix_model.specs.history.Events.{Op}
 use Rattle.ix_model.specs.history.Made.{Made}
 use Rattle.ix_model.specs.declared.reply.Reply.{Reply}
-use Rattle.ix_lanes.specs.asking.Replies.{count_in}
+use Rattle.ix_asking.specs.Runs.{count_in}
 use Rattle.ix_replay.specs.Summary.{is_refused, bytes_written, refused_in, read_in, written_in}
 use Rattle.ix_replay.specs.declared.tally.Tally.{Tally}
 

@@ -24,14 +24,6 @@ pub stands_first : (s : List Line) (lane : ℕ) (names : Names) → names ≡ no
 unfolding asks_before
 stands_first s lane names is = record { asked = tt; came = ap Came (sym is) }
 
--- all phases have all lines
-pub all_asks : (s : List Line) (seat : ℕ) → asks_before s seat (phases s) ≡ lane_asks s seat
-unfolding asks_before lane_asks
-all_asks s seat = ap (λ lines. lines_ask (rules_told s) (header_of s) no_names (lines_of_seat (lanes_of s) seat 1 None lines)) (before-all s)
-
-pub all_phases : (s : List Line) (seat : ℕ) (answers : List Answered) → calls_before s seat (phases s) answers ≡ calls_of s seat answers
-all_phases s seat answers = ap (λ p. calls_then seat p answers no_calls) (all_asks s seat)
-
 -- ---- one phase more
 -- what the lane asks for in the next phase, with these names at its beginning
 abbrev pub next_asks : List Line → ℕ → ℕ → Names → Asking Names

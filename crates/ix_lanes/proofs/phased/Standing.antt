@@ -1,12 +1,12 @@
 -- What a run that stands for entries has asked for, as calls.
-use Rattle.std.proofs.Common.{◌≡◌, ℕ, suc, List, [], ◌∷◌, ◌++◌, Option, Some, None, refl, sym, ap, ◌∙◌, append-nil}
+use Rattle.std.proofs.Common.{◌≡◌, ℕ, suc, List, [], ◌∷◌, ◌++◌, Some, None, refl, sym, ap, ◌∙◌, append-nil}
 use Rattle.ix_model.specs.history.Events.{Event}
 use Rattle.ix_model.specs.history.Made.{Made}
 use Rattle.ix_model.specs.history.Systems.{FullFor}
 use Rattle.ix_model.specs.declared.reply.Answer.{Answer}
-use Rattle.ix_asking.specs.Asking.{Asking, Ask, Answered, Asked, Next, Came, Due, first, all_heard, heard, followed, next}
+use Rattle.ix_asking.specs.Asking.{Asking, Ask, Asked, Next, Came, Due, all_heard, next}
 use Rattle.ix_asking.specs.Asking as asking
-use Rattle.ix_asking.specs.Lines.{Calls, calls_then, events_of, no_calls, with_entries_first, with_entry_first}
+use Rattle.ix_asking.specs.Lines.{calls_then, events_of, no_calls}
 use Rattle.ix_asking.specs.Runs.{answer_of, answers_of, AsAsked, entry_of}
 use Rattle.ix_asking.proofs.Lines.{calls-cut, calls-done}
 use Rattle.ix_lanes.specs.running.Phases.{asks_before, calls_before}
@@ -42,13 +42,6 @@ asked_entries seat (asking.Done r) (m ∷ made) h = absurd h
 asked_entries seat (Ask a later) [] h = refl
 asked_entries seat (Ask a later) (m ∷ made) h =
     (λ i. sym h.0 i ∷ asked_entries seat (later (answer_of m)) made h.1 i)
-
--- where a further call is asked for, it is so whatever follows
-pub stays_cut : {A B : Type 0} (seat : ℕ) (p : Asking A) (more : A → Asking B) (answers : List Answered) (e : Event) → (calls_then seat p answers no_calls).next ≡ Some e
-    → calls_then seat (followed p more) answers no_calls ≡ calls_then seat p answers no_calls
-stays_cut seat (asking.Done r) more answers e h = cc
-stays_cut seat (Ask a later) more [] e h = refl
-stays_cut seat (Ask a later) more (x ∷ answers) e h = ap (with_entry_first (entry_of seat a)) (stays_cut seat (later x) more answers e h)
 
 -- what was made after other entries is what is asked for after them
 pub asked_rest : {R : Type 0} (seat : ℕ) (p : Asking R) (made more : List Made) → AsAsked seat p (made ++ more) → AsAsked seat (all_heard p (answers_of made)) more

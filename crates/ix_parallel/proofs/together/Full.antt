@@ -3,38 +3,33 @@ use Rattle.std.proofs.Common.{◌≡◌, ℕ, ◌+◌, ◌≤◌, nat_lt, true, 
 use Rattle.std.specs.Prelude.{IfSome}
 use Rattle.std.specs.List.{list_all}
 use Rattle.std.proofs.lemmas.List.{take-append-drop}
-use Rattle.ix_model.specs.opening.Opening.{opening_world}
 use Rattle.ix_model.specs.history.Cost.{cost_of_history}
 use Rattle.ix_model.specs.history.Events.{Event}
 use Rattle.ix_script.specs.lines.Before.{lanes_of}
 use Rattle.ix_script.specs.scripts.Need.{need}
-use Rattle.ix_script.specs.scripts.Scripts.{config_of}
 use Rattle.ix_script.specs.declared.line.Line.{Line}
-use Rattle.ix_asking.specs.Asking.{Answered}
-use Rattle.ix_lanes.specs.asking.Asked.{Asked, Names, Numbers, asked, no_names}
+use Rattle.ix_asking.specs.Asking.{Answered, Asking, Done, Ask, followed}
+use Rattle.ix_asking.specs.Lines.{Calls, calls_then, no_calls}
+use Rattle.ix_lanes.specs.asking.Asked.{Names, no_names}
+use Rattle.ix_lanes.specs.asking.LineAsks.{Numbered, lines_ask}
+use Rattle.ix_lanes.specs.asking.Ruled.{rules_told}
 use Rattle.ix_lanes.specs.histories.Serial.{header_of, seat_after}
-use Rattle.ix_asking.specs.Lines.{Calls}
-use Rattle.ix_lanes.specs.asking.LineAsks.{Numbered}
-use Rattle.ix_lanes.specs.histories.Lanes.{LanesSoFar, calls_from, calls_of, entries_of, lines_of_seat, replies_from, replies_of}
-use Rattle.ix_lanes.specs.running.Phases.{calls_before, lane_among, lane_before, lines_before, names_from}
+use Rattle.ix_lanes.specs.histories.Lanes.{LanesSoFar, calls_of, entries_of, lane_asks, lines_of_seat, replies_of}
+use Rattle.ix_lanes.specs.running.Phases.{asks_before, lane_among, lane_before, lines_before}
 use Rattle.ix_parallel.specs.Joining.{IsFull}
 use Rattle.ix_parallel.specs.Stages.{ComesTo}
 use Rattle.ix_lanes.proofs.serially.Costs.{cost-push}
-use Rattle.ix_lanes.proofs.serially.LaneSteps.{calls-none, calls-some}
 use Rattle.ix_lanes.proofs.serially.Needs.{next_fits}
 use Rattle.ix_lanes.proofs.phased.Appended.{appended, stays_cut}
+use Rattle.ix_lanes.proofs.phased.Between.{asks_append}
 use Rattle.ix_lanes.proofs.phased.LaneLines.{lane-append}
 use Rattle.ix_lanes.proofs.phased.PhaseLines.{before-taken}
 use Rattle.ix_parallel.proofs.together.MadeIn.{one_reply_each}
 
 -- what isn't answered is no entry
-none_without : (header : Numbers) (k : ℕ) (names : Names) (lines : List Numbered) → (calls_from header k names lines []).entries ≡ []
-none_without header k names [] = refl
-none_without header k names (l ∷ lines) = by_first (none_without header k names lines) (asked header names l.said) refl
-  where
-    by_first : (calls_from header k names lines []).entries ≡ [] → (o : Option Asked) → asked header names l.said ≡ o → (calls_from header k names (l ∷ lines) []).entries ≡ []
-    by_first later None is = ap (λ (c : Calls). c.entries) (calls-none header k l.number names l.said lines [] is) ∙ later
-    by_first later (Some a) is = ap (λ (c : Calls). c.entries) (calls-some header k l.number names l.said lines a [] is)
+none_without : {R : Type 0} (seat : ℕ) (p : Asking R) → (calls_then seat p [] no_calls).entries ≡ []
+none_without seat (Done r) = refl
+none_without seat (Ask a later) = refl
 
 -- the lines of a lane behind some phases
 lane_behind : (s : List Line) (seat k : ℕ) → (more : List Numbered) × (lines_of_seat (lanes_of s) seat 1 None s ≡ lane_before s seat k ++ more)
@@ -46,28 +41,35 @@ lane_behind s seat k =
       ap (lane_among s seat) lines ∙ lane-append (lanes_of s) seat 1 None front rest,
     )
 
+-- what a lane asks for in all: first what it asks for in some phases, and then what these lines do
+asks_behind : (s : List Line) (seat k : ℕ) → (more : Names → Asking Names) × (lane_asks s seat ≡ followed (asks_before s seat k) more)
+unfolding asks_before lane_asks
+asks_behind s seat k =
+    let lines = lane_behind s seat k in (
+      λ names. lines_ask (rules_told s) (header_of s) names lines.0,
+      ap (lines_ask (rules_told s) (header_of s) no_names) lines.1 ∙ asks_append (rules_told s) (header_of s) (lane_before s seat k) lines.0 no_names,
+    )
+
 -- of all that a lane asks for, what it made in some phases comes first, and what it was to make next
 pub comes_so_far : (s : List Line) (k : ℕ) (events : List Event) (seat : ℕ) (next : Option Event) → ComesTo s k events seat next
     → ((calls_of s seat (replies_of s seat events)).entries ≡ entries_of seat events) × IfSome next (λ e. (calls_of s seat (replies_of s seat events)).next ≡ Some e)
-unfolding calls_before calls_of replies_of
 comes_so_far s k events seat None h =
-    let lines = lane_behind s seat k in
-    let replies : List Answered = replies_from (opening_world (config_of s)) 1 seat events in
-    let names : Names = names_from (header_of s) no_names (lane_before s seat k) replies in
-    let both = appended (header_of s) seat lines.0 (lane_before s seat k) no_names replies [] (entries_of seat events) (one_reply_each seat (opening_world (config_of s)) 1 events) h in (
-      ap (λ ls. (calls_from (header_of s) seat no_names ls replies).entries) lines.1
-          ∙ ap (λ rs. (calls_from (header_of s) seat no_names (lane_before s seat k ++ lines.0) rs).entries) (sym (append-nil replies))
-          ∙ ap (λ (c : Calls). c.entries) both.calls
-          ∙ ap (λ es. entries_of seat events ++ es) (none_without (header_of s) seat names lines.0)
+    let asks = asks_behind s seat k in
+    let replies : List Answered = replies_of s seat events in
+    let both = appended seat asks.0 (asks_before s seat k) replies (entries_of seat events) (one_reply_each s seat events) h in (
+      ap (λ p. (calls_then seat p replies no_calls).entries) asks.1
+          ∙ ap (λ rs. (calls_then seat (followed (asks_before s seat k) asks.0) rs no_calls).entries) (sym (append-nil replies))
+          ∙ ap (λ (c : Calls). c.entries) (both.1 [])
+          ∙ ap (λ es. entries_of seat events ++ es) (none_without seat (asks.0 both.0))
           ∙ append-nil (entries_of seat events),
       tt,
     )
 comes_so_far s k events seat (Some e) h =
-    let lines = lane_behind s seat k in
-    let replies : List Answered = replies_from (opening_world (config_of s)) 1 seat events in
-    let whole : calls_from (header_of s) seat no_names (lines_of_seat (lanes_of s) seat 1 None s) replies ≡ record { entries = entries_of seat events; next = Some e } =
-    ap (λ ls. calls_from (header_of s) seat no_names ls replies) lines.1
-    ∙ stays_cut (header_of s) seat lines.0 (lane_before s seat k) no_names replies e (ap (λ (c : Calls). c.next) h) ∙ h in
+    let asks = asks_behind s seat k in
+    let replies : List Answered = replies_of s seat events in
+    let whole : calls_of s seat replies ≡ record { entries = entries_of seat events; next = Some e } =
+    ap (λ p. calls_then seat p replies no_calls) asks.1
+    ∙ stays_cut seat asks.0 (asks_before s seat k) replies e (ap (λ (c : Calls). c.next) h) ∙ h in
     (ap (λ (c : Calls). c.entries) whole, ap (λ (c : Calls). c.next) whole)
 
 -- So a full journal that is told of no more than what was made contradicts what the script needs.

@@ -1,15 +1,19 @@
 -- The lines from which entries come.
-use Rattle.std.proofs.Common.{◌≡◌, ℕ, suc, ◌+◌, ◌≤◌, ◌<◌, true, false, List, [], ◌∷◌, ◌++◌, length, Option, Some, None, refl, sym, subst, arith, inl, inr, if◌then◌else◌}
+use Rattle.std.proofs.Common.{ℕ, suc, ◌+◌, ◌≤◌, ◌<◌, true, false, List, [], ◌∷◌, ◌++◌, length, Option, refl, sym, subst, arith, inl, inr, if◌then◌else◌}
 use Rattle.std.proofs.lemmas.Bool.{cases_eq}
 use Rattle.ix_model.specs.history.Events.{Event}
+use Rattle.ix_policy.specs.declared.rule.Rule.{Rule}
 use Rattle.ix_script.specs.declared.line.Line.{Line}
-use Rattle.ix_asking.specs.Asking.{Answered}
-use Rattle.ix_lanes.specs.asking.Asked.{Asked, Names, Numbers, asked, asked_then, named}
+use Rattle.ix_asking.specs.Asking.{Answered, Asking, Done, Ask}
+use Rattle.ix_asking.specs.Lines.{calls_then, no_calls}
+use Rattle.ix_asking.proofs.Every.{AllOf, all-followed, all-weaker}
+use Rattle.ix_lanes.specs.declared.asking.handed.Handed.{Handed}
+use Rattle.ix_lanes.specs.asking.Asked.{Names, Numbers, named}
+use Rattle.ix_lanes.specs.asking.LineAsks.{Numbered, line_asks, lines_ask}
 use Rattle.ix_lanes.specs.histories.Serial.{seat_after}
-use Rattle.ix_asking.specs.Lines.{Calls}
-use Rattle.ix_lanes.specs.asking.LineAsks.{Numbered}
-use Rattle.ix_lanes.specs.histories.Lanes.{calls_from, entries_of, is_seat, lines_of_seat}
-use Rattle.ix_lanes.proofs.serially.LaneSteps.{after_first, calls-none, calls-some, entries-mine, entries-other}
+use Rattle.ix_lanes.specs.histories.Lanes.{entries_of, is_seat, lines_of_seat}
+use Rattle.ix_lanes.proofs.serially.LaneSteps.{calls_from, entries-mine, entries-other}
+use Rattle.ix_lanes.proofs.serially.LineCalls.{OfLine, all-numbered}
 
 -- what holds of the number of each line
 abbrev pub EachNumber : (ℕ → Type 0) → List Numbered → Type 0
@@ -38,29 +42,23 @@ module _ (P : ℕ → Type 0) where
       ]
 
   -- ---- what lines ask for
-  abbrev Asks : List Numbered → Type 0
-  Asks lines = (header : Numbers) (k : ℕ) (names : Names) (answers : List Answered) → EachLine P (calls_from header k names lines answers).entries
+  -- each call that they ask for comes from one of them
+  lines_asked : (rules : Option (List Rule)) (header : Numbers) (lines : List Numbered) → EachNumber P lines → (names : Names) → AllOf (λ a. P a.line) (lines_ask rules header names lines)
+  lines_asked rules header [] h names = tt
+  lines_asked rules header (l ∷ lines) h names =
+      all-followed Handed Names (λ a. P a.line) (line_asks rules header names l.number l.said) (λ g. lines_ask rules header (named names l.said g) lines)
+      (all-weaker Handed (OfLine l.number) (λ a. P a.line) (line_asks rules header names l.number l.said) (λ a is. subst P (sym is) h.0) (all-numbered rules header names l.number l.said))
+      (λ g. lines_asked rules header lines h.1 (named names l.said g))
 
-  then_lines : (l : Numbered) (lines : List Numbered) → P l.number → Asks lines → (header : Numbers) (k : ℕ) (names : Names) (o : Option Asked) (answers : List Answered)
-      → EachLine P (after_first header k l.number names lines o answers).entries
-  then_lines l lines here later header k names None answers = later header k names answers
-  then_lines l lines here later header k names (Some b) [] = tt
-  then_lines l lines here later header k names (Some b) (q ∷ answers) = (here, later header k names answers)
-
-  line_asks : (l : Numbered) (lines : List Numbered) → P l.number → Asks lines → (header : Numbers) (k : ℕ) (names : Names) (answers : List Answered) (o : Option Asked) → asked header names l.said ≡ o
-      → EachLine P (calls_from header k names (l ∷ lines) answers).entries
-  line_asks l lines here later header k names answers None is =
-      subst (λ (c : Calls). EachLine P c.entries) (sym (calls-none header k l.number names l.said lines answers is)) (later header k names answers)
-  line_asks l lines here later header k names [] (Some a) is =
-      subst (λ (c : Calls). EachLine P c.entries) (sym (calls-some header k l.number names l.said lines a [] is)) tt
-  line_asks l lines here later header k names (r ∷ answers) (Some a) is =
-      subst (λ (c : Calls). EachLine P c.entries) (sym (calls-some header k l.number names l.said lines a (r ∷ answers) is))
-      (here, then_lines l lines here later header k (named names l.said r.reply) (asked_then header names l.said r) answers)
+  each_asked : {R : Type 0} (k : ℕ) (p : Asking R) (answers : List Answered) → AllOf (λ a. P a.line) p → EachLine P (calls_then k p answers no_calls).entries
+  each_asked k (Done r) answers h = tt
+  each_asked k (Ask a later) [] h = tt
+  each_asked k (Ask a later) (x ∷ answers) h = (h.0, each_asked k (later x) answers (h.1 x))
 
   -- the entries that lines ask for come from these lines
-  pub lines_ask : (lines : List Numbered) → EachNumber P lines → Asks lines
-  lines_ask [] h header k names answers = tt
-  lines_ask (l ∷ lines) h header k names answers = line_asks l lines h.0 (lines_ask lines h.1) header k names answers (asked header names l.said) refl
+  pub each_of_lines : (lines : List Numbered) → EachNumber P lines → (rules : Option (List Rule)) (header : Numbers) (k : ℕ) (names : Names) (answers : List Answered)
+      → EachLine P (calls_from rules header k names lines answers).entries
+  each_of_lines lines h rules header k names answers = each_asked k (lines_ask rules header names lines) answers (lines_asked rules header lines h names)
 
   -- ---- lists of entries
   pub each_append : (xs ys : List Event) → EachLine P xs → EachLine P ys → EachLine P (xs ++ ys)

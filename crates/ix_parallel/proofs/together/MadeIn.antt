@@ -44,10 +44,10 @@ module _ (k : ℕ) where
       ]
 
   -- the replies to the first entries stay where more entries are made
-  pub more_replies : (w : World) (place : ℕ) (xs ys : List Event) → (more : List Answered) × (replies_from w place k (xs ++ ys) ≡ replies_from w place k xs ++ more)
-  more_replies w place [] ys = (replies_from w place k ys, refl)
-  more_replies w place (x ∷ xs) ys =
-      let later = more_replies (step_of w place x).world (place + 1) xs ys in
+  replies_further : (w : World) (place : ℕ) (xs ys : List Event) → (more : List Answered) × (replies_from w place k (xs ++ ys) ≡ replies_from w place k xs ++ more)
+  replies_further w place [] ys = (replies_from w place k ys, refl)
+  replies_further w place (x ∷ xs) ys =
+      let later = replies_further (step_of w place x).world (place + 1) xs ys in
       let first : Answered = answered (step_of w place x) in
       let whole : List Answered = replies_from (step_of w place x).world (place + 1) k (xs ++ ys) in
       let front : List Answered = replies_from (step_of w place x).world (place + 1) k xs in (
@@ -59,10 +59,10 @@ module _ (k : ℕ) where
       )
 
   -- each entry has one reply
-  pub one_reply_each : (w : World) (place : ℕ) (events : List Event) → length (entries_of k events) ≡ length (replies_from w place k events)
-  one_reply_each w place [] = refl
-  one_reply_each w place (e ∷ events) =
-      let later = one_reply_each (step_of w place e).world (place + 1) events in
+  reply_each : (w : World) (place : ℕ) (events : List Event) → length (entries_of k events) ≡ length (replies_from w place k events)
+  reply_each w place [] = refl
+  reply_each w place (e ∷ events) =
+      let later = reply_each (step_of w place e).world (place + 1) events in
       let replies : List Answered = replies_from (step_of w place e).world (place + 1) k events in
       elim (e.seat == k) as (λ b. length (if b then e ∷ entries_of k events else entries_of k events) ≡ length (if b then answered (step_of w place e) ∷ replies else replies)) [
         | true ↦ ap suc later
@@ -77,3 +77,11 @@ module _ (s : List Line) (k : ℕ) (events : List Event) where
   pub made_replies : answers_of (made_by k (record { config = config_of s; events = events })) ≡ replies_of s k events
   unfolding made_by replies_of
   made_replies = answers_replied k (opening_world (config_of s)) 1 events
+
+  pub one_reply_each : length (entries_of k events) ≡ length (replies_of s k events)
+  unfolding replies_of
+  one_reply_each = reply_each k (opening_world (config_of s)) 1 events
+
+  pub more_replies : (later : List Event) → (more : List Answered) × (replies_of s k (events ++ later) ≡ replies_of s k events ++ more)
+  unfolding replies_of
+  more_replies later = replies_further k (opening_world (config_of s)) 1 events later

@@ -18,6 +18,7 @@ use Rattle.ix_asking.specs.Lines.{events_of}
 use Rattle.ix_lanes.specs.running.Runs.{Ran}
 use Rattle.ix_lanes.specs.running.Runs as runs
 use Rattle.ix_lanes.specs.running.SideBySide.{RunsPhase}
+use Rattle.ix_lanes.proofs.phased.Standing.{cut_calls, stands_calls}
 use Rattle.ix_parallel.specs.Meeting.{Learns}
 use Rattle.ix_parallel.specs.Seats.{Seated, Sees, Stands}
 use Rattle.ix_parallel.specs.Stages.{ComesTo}
@@ -59,7 +60,7 @@ module _ (s : List Line) (kernel : GateState) (k n : ℕ) (before history : List
       let lane : new.run.lane ≡ n = r.lane ∙ stood.lane in
       let done : new.run.done ≡ suc k = r.done.0 ∙ ap suc stood.done in
       comes_as_made s (suc k) history n (made_at new.sys.seat) None (made_is None r)
-      ((λ i. calls_before (sym script i) (sym lane i) (sym done i) (answers_of (made_at new.sys.seat))) ∙ r.done.1.calls)
+      ((λ i. calls_before (sym script i) (sym lane i) (sym done i) (answers_of (made_at new.sys.seat))) ∙ stands_calls new.run (made_at new.sys.seat) r.done.1)
 
   pub lane_stands : RunsSeated old new None → Stands s kernel (suc k) history n after
   lane_stands r = record {
@@ -75,15 +76,16 @@ module _ (s : List Line) (kernel : GateState) (k n : ℕ) (before history : List
   pub lane_cut : (stop : Answer) → RunsSeated old new (Some stop)
       → (next : Event) × ComesTo s (suc k) history n (Some next) × (0 < after.sys.stops) × FullFor next.op (answer.JournalFull after.sys.used after.sys.need after.sys.cap)
   lane_cut stop r =
-      let calls : calls_before s n (suc k) (answers_of (made_at new.sys.seat)) ≡ record { entries = events_of (made_at new.sys.seat); next = Some r.cut.next } =
-      (λ i. calls_before (sym stood.script i) (sym stood.lane i) (suc (sym stood.done i)) (answers_of (made_at new.sys.seat))) ∙ r.cut.calls in
+      let cut = cut_calls old.run (made_at new.sys.seat) stop r.cut in
+      let calls : calls_before s n (suc k) (answers_of (made_at new.sys.seat)) ≡ record { entries = events_of (made_at new.sys.seat); next = Some cut.0 } =
+      (λ i. calls_before (sym stood.script i) (sym stood.lane i) (suc (sym stood.done i)) (answers_of (made_at new.sys.seat))) ∙ cut.1 in
       let rose = r.stop.0 in
       let same : after.sys.stops ≡ new.sys.stops = ap (λ (x : SystemState). x.stops) learns.system in
       let last : answer.JournalFull after.sys.used after.sys.need after.sys.cap ≡ answer.JournalFull new.sys.used new.sys.need new.sys.cap = ap (λ (x : SystemState). answer.JournalFull x.used x.need x.cap) learns.system in (
-        r.cut.next,
-        comes_as_made s (suc k) history n (made_at new.sys.seat) (Some r.cut.next) (made_is (Some stop) r) calls,
+        cut.0,
+        comes_as_made s (suc k) history n (made_at new.sys.seat) (Some cut.0) (made_is (Some stop) r) calls,
         omega (arith, rose, same),
-        subst (FullFor r.cut.next.op) (r.stop.1 ∙ sym last) r.cut.full,
+        subst (FullFor cut.0.op) (r.stop.1 ∙ sym last) cut.2,
       )
 
   -- either way

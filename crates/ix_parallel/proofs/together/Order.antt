@@ -5,27 +5,27 @@ use Rattle.std.proofs.Math.Seq.{take-add}
 use Rattle.std.proofs.lemmas.List.{append_cancel_left, length-take}
 use Rattle.std.proofs.lemmas.List.Elements.{filter-append}
 use Rattle.std.proofs.lemmas.Bool.{and_parts, and_from, le-leb}
-use Rattle.ix_model.specs.opening.Opening.{opening_world}
 use Rattle.ix_model.specs.history.Events.{Event}
 use Rattle.ix_script.specs.lines.Before.{lanes_of}
-use Rattle.ix_script.specs.scripts.Scripts.{config_of}
 use Rattle.ix_script.specs.declared.line.Line.{Line}
-use Rattle.ix_asking.specs.Asking.{Answered}
+use Rattle.ix_asking.specs.Asking.{Asking, followed}
+use Rattle.ix_asking.specs.Lines.{Calls, calls_then, no_calls}
 use Rattle.ix_lanes.specs.asking.Asked.{Names, no_names}
+use Rattle.ix_lanes.specs.asking.LineAsks.{Numbered, lines_ask}
+use Rattle.ix_lanes.specs.asking.Ruled.{rules_told}
 use Rattle.ix_lanes.specs.histories.Serial.{header_of, seat_after}
-use Rattle.ix_asking.specs.Lines.{Calls}
-use Rattle.ix_lanes.specs.asking.LineAsks.{Numbered}
-use Rattle.ix_lanes.specs.histories.Lanes.{calls_from, entries_of, lines_of_seat, replies_from, replies_of}
-use Rattle.ix_lanes.specs.running.Phases.{calls_before, lane_among, lane_before, lines_before, names_from}
+use Rattle.ix_lanes.specs.histories.Lanes.{entries_of, lines_of_seat, replies_of}
+use Rattle.ix_lanes.specs.running.Phases.{asks_before, calls_before, lane_among, lane_before, lines_before}
 use Rattle.ix_parallel.specs.History.{phase_of, phases_never_fall}
 use Rattle.ix_parallel.specs.Stages.{ComesTo, LanesTo, Stages}
 use Rattle.ix_lanes.proofs.serially.OneEntry.{first_seat}
 use Rattle.ix_lanes.proofs.phased.Appended.{appended}
+use Rattle.ix_lanes.proofs.phased.Between.{asks_append}
 use Rattle.ix_lanes.proofs.phased.LaneLines.{lane-append}
 use Rattle.ix_lanes.proofs.phased.PhaseLines.{before-taken}
 use Rattle.ix_parallel.proofs.together.MadeIn.{more_replies, one_reply_each}
 use Rattle.ix_parallel.proofs.together.PhaseOf.{before_further, phase_at}
-use Rattle.ix_parallel.proofs.together.LinesIn.{EachLine, EachNumber, Within, each_append, each_in_lane, each_of_seats, each_weaker, lines_ask}
+use Rattle.ix_parallel.proofs.together.LinesIn.{EachLine, EachNumber, Within, each_append, each_in_lane, each_of_seats, each_of_lines, each_weaker}
 
 -- ---- seats
 pub all_within : (count : ℕ) (events : List Event) → list_all (λ e. nat_lt e.seat count) events ≡ true → Within count events
@@ -49,30 +49,34 @@ lane_further s seat k =
     let few : length rest ≤ length (lines_before (suc k) s) - length front = omega (arith, length-take (length (lines_before (suc k) s) - length front) (drop (length front) s)) in (
       lines_of_seat (lanes_of s) seat (1 + length front) (fold (seat_after (lanes_of s)) None front) rest,
       ap (lane_among s seat) lines ∙ lane-append (lanes_of s) seat 1 None front rest,
-      each_in_lane (λ n. phase_of s n ≡ k) (lanes_of s) seat (1 + length front) (fold (seat_after (lanes_of s)) None front) rest (λ m low high. phase_at s k m (omega (arith, low)) (omega (arith, high, few, far))),
+      each_in_lane (λ n. phase_of s n ≡ k) (lanes_of s) seat (1 + length front) (fold (seat_after (lanes_of s)) None front) rest
+          (λ m low high. phase_at s k m (omega (arith, low)) (omega (arith, high, few, far))),
     )
 
+-- what the lane asks for then, behind what it asks for before
+asks_further : (s : List Line) (seat k : ℕ) (more : List Numbered) → lane_before s seat (suc k) ≡ lane_before s seat k ++ more
+    → asks_before s seat (suc k) ≡ followed (asks_before s seat k) (λ names. lines_ask (rules_told s) (header_of s) names more)
+unfolding asks_before
+asks_further s seat k more is = ap (lines_ask (rules_told s) (header_of s) no_names) is ∙ asks_append (rules_told s) (header_of s) (lane_before s seat k) more no_names
+
 -- the entries that a lane makes then
-next_entries : (s : List Line) (seat k : ℕ) (before more : List Event) → ComesTo s k before seat None → ComesTo s (suc k) (before ++ more) seat None → EachLine (λ n. phase_of s n ≡ k) (entries_of seat more)
-unfolding calls_before replies_of
+next_entries : (s : List Line) (seat k : ℕ) (before more : List Event) → ComesTo s k before seat None → ComesTo s (suc k) (before ++ more) seat None
+    → EachLine (λ n. phase_of s n ≡ k) (entries_of seat more)
 next_entries s seat k before more was is =
     let P : ℕ → Type 0 = λ n. phase_of s n ≡ k in
     let lines = lane_further s seat k in
-    let first : List Answered = replies_from (opening_world (config_of s)) 1 seat before in
-    let replies = more_replies seat (opening_world (config_of s)) 1 before more in
-    let names : Names = names_from (header_of s) no_names (lane_before s seat k) first in
-    let both = appended (header_of s) seat lines.0 (lane_before s seat k) no_names first replies.0 (entries_of seat before) (one_reply_each seat (opening_world (config_of s)) 1 before) was in
-    let whole : calls_from (header_of s) seat no_names (lane_before s seat (suc k)) (replies_from (opening_world (config_of s)) 1 seat (before ++ more))
-    ≡ calls_from (header_of s) seat no_names (lane_before s seat k ++ lines.0) (first ++ replies.0) =
-    ap (λ ls. calls_from (header_of s) seat no_names ls (replies_from (opening_world (config_of s)) 1 seat (before ++ more))) lines.1
-    ∙ ap (λ rs. calls_from (header_of s) seat no_names (lane_before s seat k ++ lines.0) rs) replies.1 in
-    let made : entries_of seat before ++ (calls_from (header_of s) seat names lines.0 replies.0).entries ≡ entries_of seat before ++ entries_of seat more =
-    ap (λ (c : Calls). c.entries) (sym both.calls ∙ sym whole ∙ is) ∙ filter-append (λ (e : Event). e.seat == seat) before more in
-    subst (EachLine P) (append_cancel_left (entries_of seat before) _ _ made) (lines_ask P lines.0 lines.2 (header_of s) seat names replies.0)
+    let asks : Names → Asking Names = λ names. lines_ask (rules_told s) (header_of s) names lines.0 in
+    let replies = more_replies s seat before more in
+    let both = appended seat asks (asks_before s seat k) (replies_of s seat before) (entries_of seat before) (one_reply_each s seat before) was in
+    let whole : calls_before s seat (suc k) (replies_of s seat (before ++ more)) ≡ calls_then seat (followed (asks_before s seat k) asks) (replies_of s seat before ++ replies.0) no_calls =
+    (λ i. calls_then seat (asks_further s seat k lines.0 lines.1 i) (replies.1 i) no_calls) in
+    let made : entries_of seat before ++ (calls_then seat (asks both.0) replies.0 no_calls).entries ≡ entries_of seat before ++ entries_of seat more =
+    ap (λ (c : Calls). c.entries) (sym (both.1 replies.0) ∙ sym whole ∙ is) ∙ filter-append (λ (e : Event). e.seat == seat) before more in
+    subst (EachLine P) (append_cancel_left (entries_of seat before) _ _ made) (each_of_lines P lines.0 lines.2 (rules_told s) (header_of s) seat both.0 replies.0)
 
 -- ---- all phases
 lanes_at_first : (s : List Line) → LanesTo s 0 []
-unfolding calls_before replies_of
+unfolding asks_before replies_of
 lanes_at_first s = λ seat low. refl
 
 pub lanes_come_to : (s : List Line) (k : ℕ) (events : List Event) → Stages s k events → LanesTo s k events

@@ -1,30 +1,24 @@
 -- What the lanes made in all phases is a history of the script.
-use Rattle.std.proofs.Common.{◌≡◌, ℕ, nat_lt, true, List, length, sym, ap, ◌∙◌, None}
+use Rattle.std.proofs.Common.{◌≡◌, nat_lt, true, List, length, sym, ◌∙◌}
 use Rattle.std.specs.List.{list_all}
 use Rattle.ix_model.specs.history.Events.{Event}
 use Rattle.ix_script.specs.lines.Before.{lanes_of}
 use Rattle.ix_script.specs.declared.line.Line.{Line}
-use Rattle.ix_asking.specs.Asking.{Answered}
-use Rattle.ix_lanes.specs.asking.Asked.{no_names}
-use Rattle.ix_lanes.specs.histories.Serial.{header_of, serial}
-use Rattle.ix_lanes.specs.histories.Lanes.{calls_from, calls_of, lines_of_seat, replies_of}
-use Rattle.ix_lanes.specs.running.Phases.{calls_before, phases}
+use Rattle.ix_lanes.specs.histories.Serial.{serial}
+use Rattle.ix_lanes.specs.histories.Lanes.{replies_of}
+use Rattle.ix_lanes.specs.running.Phases.{phases}
 use Rattle.ix_parallel.specs.History.{IsHistory}
 use Rattle.ix_parallel.specs.Stages.{Stages}
+use Rattle.ix_lanes.proofs.serially.AllPhases.{all_phases}
 use Rattle.ix_lanes.proofs.serially.SerialHistories.{serial_serial}
-use Rattle.ix_lanes.proofs.phased.PhaseLines.{before-all}
 use Rattle.ix_parallel.proofs.together.PhaseOf.{by_lines}
 use Rattle.ix_parallel.proofs.together.Order.{all_within, lanes_come_to, stages_in_order}
-
-phases_are_all : (s : List Line) (seat : ℕ) (answers : List Answered) → calls_before s seat (phases s) answers ≡ calls_of s seat answers
-unfolding calls_before calls_of
-phases_are_all s seat answers = ap (λ ls. calls_from (header_of s) seat no_names (lines_of_seat (lanes_of s) seat 1 None ls) answers) (before-all s)
 
 pub stages_make : (s : List Line) (events : List Event) → Stages s (phases s) events → list_all (λ e. nat_lt e.seat (length (lanes_of s))) events ≡ true → IsHistory s events
 stages_make s events h seats = record {
   lanes = record {
     seats = seats;
-    calls = λ seat low. sym (phases_are_all s seat (replies_of s seat events)) ∙ lanes_come_to s (phases s) events h seat low;
+    calls = λ seat low. sym (all_phases s seat (replies_of s seat events)) ∙ lanes_come_to s (phases s) events h seat low;
   };
   order = (stages_in_order s (phases s) events h (all_within (length (lanes_of s)) events seats)).1;
 }

@@ -20,7 +20,7 @@ use Rattle.ix_model.specs.declared.reply.Answer.TheVariants as answer
 use Rattle.ix_model.specs.declared.views.ProcView.{ProcView}
 use Rattle.ix_core.specs.Stepping.{Shows}
 use Rattle.ix_model.specs.history.Views.{shown_of}
-use Rattle.ix_lanes.specs.asking.Replies.{count_in}
+use Rattle.ix_asking.specs.Runs.{count_in}
 
 -- the bytes at the front of the buffer are those that the call gives
 pub shown_is : (r : Reply) (after bytes : List ℕ) → Shows (answer.Given r) after bytes → AreShown r bytes → take (count_in r) after ≡ bytes

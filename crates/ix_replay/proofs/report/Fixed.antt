@@ -1,5 +1,5 @@
 -- A report fixes its history.
-use Rattle.std.proofs.Common.{◌≡◌, ℕ, ◌+◌, true, List, [], ◌∷◌, ◌++◌, length, codes, Option, None, refl, sym, ap, ◌∙◌, subst, append_assoc}
+use Rattle.std.proofs.Common.{◌≡◌, ℕ, ◌+◌, true, List, [], ◌∷◌, ◌++◌, length, codes, Option, refl, sym, ap, ◌∙◌, subst, append_assoc}
 use Rattle.std.specs.List.{list_all}
 use Rattle.std.specs.Fmt.{decimal}
 use Rattle.std.proofs.lemmas.List.{append_cancel_left}
@@ -19,10 +19,9 @@ use Rattle.ix_report.specs.LineText.{entry_line, head_line, seen_text}
 use Rattle.ix_report.specs.ReplyText.{reply_text}
 use Rattle.ix_label.specs.declared.form.Form.{Form}
 use Rattle.ix_replay.specs.report.Report.{closing_text, entries_text, entry_text, lane_name, report_of}
-use Rattle.ix_lanes.specs.asking.Asked.{no_names}
-use Rattle.ix_lanes.specs.histories.Serial.{answered, header_of}
-use Rattle.ix_lanes.specs.histories.Lanes.{Lanes, calls_of, lines_of_seat, replies_from, replies_of}
-use Rattle.ix_replay.proofs.report.Askers.{Asker, Follows, asker_calls, asker_from, follow, is_next, moved, next_of, seat_low}
+use Rattle.ix_lanes.specs.histories.Serial.{answered}
+use Rattle.ix_lanes.specs.histories.Lanes.{Lanes, lane_asks, replies_of}
+use Rattle.ix_replay.proofs.report.Askers.{Askers, Follows, follow, is_next, moved, next_of, seat_low}
 use Rattle.ix_replay.proofs.report.Beginnings.{no_number, no_space, same_word}
 use Rattle.ix_replay.proofs.report.LaneNames.{Differ, lane_no_space, lanes_differ}
 
@@ -61,16 +60,16 @@ module _ (form : Form) (lanes : List (List ℕ)) (place : ℕ) (w : World) where
 -- ---- two histories
 module _ (form : Form) (lanes : List (List ℕ)) (differ : Differ lanes) (named : list_all is_script_name lanes ≡ true) where
   -- entries whose lanes ask alike are one where the texts are the same
-  one_entry : (askers : ℕ → Asker) (w : World) (place : ℕ) (e f : Event) (g h : List Event) (x y : List ℕ) → Follows (length lanes) askers w place (e ∷ g) → Follows (length lanes) askers w place (f ∷ h)
+  one_entry : (askers : Askers) (w : World) (place : ℕ) (e f : Event) (g h : List Event) (x y : List ℕ) → Follows (length lanes) askers w place (e ∷ g) → Follows (length lanes) askers w place (f ∷ h)
       → entry_text form lanes place w e ++ x ≡ entry_text form lanes place w f ++ y → e ≡ f
   one_entry askers w place e f g h x y this that same =
       let e_low = seat_low (length lanes) askers w place e g this in
       let f_low = seat_low (length lanes) askers w place f h that in
       let name = one_name form lanes place w e f x y (lane_no_space lanes e.seat named e_low) (lane_no_space lanes f.seat named f_low) same in
       let seat : e.seat ≡ f.seat = differ e.seat f.seat e_low f_low name in
-      same_Some e f (sym (is_next (length lanes) askers w place e g this) ∙ ap (λ n. next_of (askers n)) seat ∙ is_next (length lanes) askers w place f h that)
+      same_Some e f (sym (is_next (length lanes) askers w place e g this) ∙ ap (λ n. next_of n (askers n)) seat ∙ is_next (length lanes) askers w place f h that)
 
-  one_from : (askers : ℕ → Asker) (w : World) (place : ℕ) (g h : List Event) (x y : List ℕ) → Follows (length lanes) askers w place g → Follows (length lanes) askers w place h
+  one_from : (askers : Askers) (w : World) (place : ℕ) (g h : List Event) (x y : List ℕ) → Follows (length lanes) askers w place g → Follows (length lanes) askers w place h
       → entries_text form lanes place w g ++ 111 ∷ x ≡ entries_text form lanes place w h ++ 111 ∷ y → g ≡ h
   one_from askers w place [] [] x y this that same = refl
   one_from askers w place [] (f ∷ h) x y this that same =
@@ -89,16 +88,9 @@ module _ (form : Form) (lanes : List (List ℕ)) (differ : Differ lanes) (named 
       λ i. first i ∷ later i
 
 -- ---- scripts
--- what each lane of a script asks for
-abbrev askers_of : List Line → ℕ → Asker
-askers_of s k = asker_from (header_of s) k no_names (lines_of_seat (lanes_of s) k 1 None s)
-
-follows : (s : List Line) (events : List Event) → Lanes s events → Follows (length (lanes_of s)) (askers_of s) (opening_world (config_of s)) 1 events
-unfolding calls_of replies_of
-follows s events lanes = record {
-  seats = lanes.seats;
-  calls = λ k low. sym (asker_calls (header_of s) k no_names (lines_of_seat (lanes_of s) k 1 None s) (replies_from (opening_world (config_of s)) 1 k events)) ∙ lanes.calls k low;
-}
+follows : (s : List Line) (events : List Event) → Lanes s events → Follows (length (lanes_of s)) (lane_asks s) (opening_world (config_of s)) 1 events
+unfolding replies_of
+follows s events lanes = record { seats = lanes.seats; calls = lanes.calls }
 
 -- what closes a report begins with the letter o
 closes : (form : Form) (w : World) (n : ℕ) → (rest : List ℕ) × (closing_text form w n ≡ 111 ∷ rest)
@@ -106,7 +98,8 @@ unfolding closing_text
 closes form w n = (_, refl)
 
 -- a report is its first line, the lines of its entries, and what begins with the letter o
-report_parts : (s : List Line) (events : List Event) → (rest : List ℕ) × (report_of s events ≡ head_line (form_told s) ++ (entries_text (form_told s) (lanes_of s) 1 (opening_world (config_of s)) events ++ 111 ∷ rest))
+report_parts : (s : List Line) (events : List Event)
+    → (rest : List ℕ) × (report_of s events ≡ head_line (form_told s) ++ (entries_text (form_told s) (lanes_of s) 1 (opening_world (config_of s)) events ++ 111 ∷ rest))
 unfolding report_of
 report_parts s events =
     let form : Form = form_told s in
@@ -119,5 +112,5 @@ pub one_history : (s : List Line) → list_all is_script_name (lanes_of s) ≡ t
 one_history s named g h this that same =
     let a = report_parts s g in
     let b = report_parts s h in
-    one_from (form_told s) (lanes_of s) (lanes_differ s) named (askers_of s) (opening_world (config_of s)) 1 g h a.0 b.0 (follows s g this) (follows s h that)
+    one_from (form_told s) (lanes_of s) (lanes_differ s) named (lane_asks s) (opening_world (config_of s)) 1 g h a.0 b.0 (follows s g this) (follows s h that)
     (append_cancel_left (head_line (form_told s)) _ _ (sym a.1 ∙ same ∙ b.1))

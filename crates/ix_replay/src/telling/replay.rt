@@ -5,11 +5,11 @@ ghost use Rattle.ix_model.specs.history.History.{next, with_entry};
 ghost use Rattle.ix_script.specs.scripts.Need.{need};
 ghost use Rattle.ix_script.specs.scripts.Scripts.{config_of};
 ghost use Rattle.ix_core.specs.Seen.{KnowsOn};
-ghost use Rattle.ix_lanes.specs.asking.Replies.{count_in};
+ghost use Rattle.ix_asking.specs.Runs.{count_in};
 
+use ix_asking::count_in;
 use ix_core::{Core, Witness};
 use ix_label::Steps;
-use ix_lanes::count_in;
 use ix_model::{Answer, Buf, Entry, NoMemory, Reply};
 use ix_script::Script;
 use std::alloc::Global;

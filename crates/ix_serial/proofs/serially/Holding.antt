@@ -32,7 +32,8 @@ use Rattle.ix_lanes.proofs.phased.Between.{asks_append}
 use Rattle.ix_lanes.proofs.phased.LaneLines.{lane-append}
 use Rattle.ix_lanes.proofs.phased.Making.{asked_followed}
 use Rattle.ix_lanes.proofs.phased.PhaseLines.{before-taken}
-use Rattle.ix_lanes.proofs.phased.Standing.{asked_entries, calls_all, stays_cut}
+use Rattle.ix_lanes.proofs.phased.Appended.{stays_cut}
+use Rattle.ix_lanes.proofs.phased.Standing.{asked_entries, calls_all}
 use Rattle.ix_serial.specs.declared.lane.SerialLane.{SerialLane}
 use Rattle.ix_serial.specs.Running.{HasRoom, IsLane, lane_at}
 use Rattle.ix_serial.proofs.serially.Replied.{made_answers, made_by-others, made_entries, own_parts}
@@ -62,7 +63,7 @@ calls_so_far s k n made asked =
 pub calls_cut : (s : List Line) (k n : ℕ) (answers : List Answered) (es : List Event) (e : Event) → calls_before s k n answers ≡ record { entries = es; next = Some e } → calls_of s k answers ≡ record { entries = es; next = Some e }
 calls_cut s k n answers es e is =
     let rest = asks_parts s k n in
-    ap (λ p. calls_then k p answers no_calls) rest.1 ∙ stays_cut k (asks_before s k n) rest.0 answers e (ap (λ (c : Calls). c.next) is) ∙ is
+    ap (λ p. calls_then k p answers no_calls) rest.1 ∙ stays_cut k rest.0 (asks_before s k n) answers e (ap (λ (c : Calls). c.next) is) ∙ is
 
 -- ---- a lane that stands
 module _ (s : List Line) (k : ℕ) (h : History) (l : SerialLane) (is : IsLane s k h l) where

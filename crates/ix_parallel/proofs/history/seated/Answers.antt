@@ -10,8 +10,8 @@ use Rattle.ix_parallel.proofs.history.seated.Goals as goal
 pub loop-seat-init : goal.loop-seat-init
 loop-seat-init g c = (tt, tt, none_seated c.args.script.now c.args.kernel.now c.args.seats.items c.into_iter-seat-iterator.result.rest.items c.new-lanes.result.items c.into_iter-seat-iterator.ensures.into_iter_gives.0 c.new-lanes.ensures.items)
 
-pub new-requires : goal.new-requires
-new-requires g c = (next_is_new c.args.script.now c.args.kernel.now c.args.seats.items c.loop-seat.seat-iterator.rest.items c.loop-seat.number c.loop-seat.lanes.items c.in-Some.seat c.next.new.self.rest.items
+pub new-requires-clause-lane : goal.new-requires-clause-lane
+new-requires-clause-lane g c = (next_is_new c.args.script.now c.args.kernel.now c.args.seats.items c.loop-seat.seat-iterator.rest.items c.loop-seat.number c.loop-seat.lanes.items c.in-Some.seat c.next.new.self.rest.items
     c.requires.seats c.loop-seat.invariant.2 c.in-Some.ensures.steps.0).0
 
 pub new-sys-requires-clause-number : goal.new-sys-requires-clause-number
