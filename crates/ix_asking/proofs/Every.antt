@@ -3,7 +3,7 @@ use Rattle.std.proofs.Common.{Bool, true, false, if◌then◌else◌}
 use Rattle.ix_model.specs.declared.refusal.Refusal.{Refusal}
 use Rattle.ix_model.specs.declared.reply.Reply.{Reply}
 use Rattle.ix_model.specs.declared.reply.Reply.TheVariants as reply
-use Rattle.ix_asking.specs.Asking.{Asked, Answered, Asking, Done, Ask, mapped}
+use Rattle.ix_asking.specs.Asking.{Asked, Answered, Asking, Done, Ask, followed, mapped}
 use Rattle.ix_asking.specs.serving.Serving.{if_refused}
 
 -- each call that is asked for is such a call
@@ -14,6 +14,14 @@ AllOf P (Ask a later) = P a × ((x : Answered) → AllOf P (later x))
 pub all-mapped : (A B : Type 0) (P : Asked → Type 0) (f : A → B) (p : Asking A) → AllOf P p → AllOf P (mapped f p)
 all-mapped A B P f (Done r) h = tt
 all-mapped A B P f (Ask a later) h = (h.0, λ x. all-mapped A B P f (later x) (h.1 x))
+
+pub all-followed : (A B : Type 0) (P : Asked → Type 0) (p : Asking A) (more : A → Asking B) → AllOf P p → ((r : A) → AllOf P (more r)) → AllOf P (followed p more)
+all-followed A B P (Done r) more h k = k r
+all-followed A B P (Ask a later) more h k = (h.0, λ x. all-followed A B P (later x) more (h.1 x) k)
+
+pub all-weaker : (A : Type 0) (P Q : Asked → Type 0) (p : Asking A) → ((a : Asked) → P a → Q a) → AllOf P p → AllOf Q p
+all-weaker A P Q (Done r) w h = tt
+all-weaker A P Q (Ask a later) w h = (w a h.0, λ x. all-weaker A P Q (later x) w (h.1 x))
 
 -- of what comes whether a call is refused or not
 pub all-refused : (A : Type 0) (P : Asked → Type 0) (r : Reply) (refused : Refusal → Asking A) (passed : Asking A)
