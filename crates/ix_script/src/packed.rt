@@ -63,13 +63,7 @@ fn said_by_words<'a>(labels: LabelForm, words: &Words<'a>) -> Line<'a>
     requires { IsSaid labels words.now }
     ensures { said_by_words labels words.now ≡ Some result }
 {
-    let Some(form) = form_of(words.get(0)) else {
-        unreachable!();
-    };
-    match line_by_form(labels, form, words) {
-        Ok(line) => line,
-        Err(_) => unreachable!(),
-    }
+    line_by_form(labels, form_of(words.get(0)).unwrap(), words)
 }
 
 /// What a text says that breaks no rule.

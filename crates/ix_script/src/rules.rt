@@ -16,6 +16,7 @@ use crate::cutting::first_word::form_of;
 use crate::cutting::form::Form;
 use crate::cutting::words::begins_with_text;
 use crate::forms::line_by_form::line_by_form;
+use crate::forms::places::places_fault;
 use crate::line::Line;
 use crate::rule::Rule;
 use crate::values::policy::PolicyText;
@@ -189,12 +190,14 @@ impl<'a> Draft<'a> {
         ensures { Tells self.now.lines result (form_fault self.now.lines form words.now) (said (form_told self.now.lines) form words.now) }
     {
         self.check_stand(form, words)?;
-        let said = line_by_form(self.lines.form(), form, words);
-        if let Ok(line) = &said {
-            self.check_names(form, words)?;
-            self.check_said(line, steps)?;
+        let labels = self.lines.form();
+        if let Some(rule) = places_fault(labels, form, words) {
+            return Err(rule);
         }
-        said
+        self.check_names(form, words)?;
+        let line = line_by_form(labels, form, words);
+        self.check_said(&line, steps)?;
+        Ok(line)
     }
 
     /// A line that is cut into words: the rules from 4 on.

@@ -1,11 +1,17 @@
 -- Reading a payload piece by piece, as loops do.
-use Rattle.std.proofs.Common.{◌≡◌, ℕ, zero, suc, ◌+◌, ◌*◌, ◌<◌, ◌≤◌, ◌==◌, Bool, true, false, ◌&&◌, List, [], ◌∷◌, ◌++◌, length, drop, get_or, Option, Some, None, refl, sym, ◌∙◌, ap, append_assoc, arith, add-one, drop-cons, length-drop, length-append}
+use Rattle.std.proofs.Common.{◌≡◌, ℕ, zero, suc, ◌+◌, ◌*◌, ◌<◌, ◌≤◌, ◌==◌, Bool, true, false, ◌&&◌, List, [], ◌∷◌, ◌++◌, length, drop, get_or, Option, Some, None, refl, sym, ◌∙◌, ap, append_assoc, arith, nat_le, nat_lt, cond, if◌then◌else◌, IsSome, Result, Ok, Err, add-one, drop-cons, length-drop, length-append}
 use Rattle.std.specs.Prelude.{is_some}
+use Rattle.std.specs.Result.{IsOk}
+use Rattle.std.proofs.lemmas.Option.{none-some}
+use Rattle.std.proofs.lemmas.Bool.{le-ltb, leb-true}
 use Rattle.std.specs.List.{list_all}
 use Rattle.std.proofs.lemmas.List.{append-nil, drop_all}
 use Rattle.ix_text.specs.Bytes.{is_empty}
 use Rattle.ix_script.specs.texts.Payloads.{◌>>=◌, digit_of, pair_of, pairs_of, after_bytes, bytes_of, escape_step, ends, quoted_from}
-use Rattle.ix_script.specs.texts.Spelled.{HasCount, spelling_fault}
+use Rattle.ix_script.specs.texts.Spelled.{HasCount, Spells, spelling_fault}
+use Rattle.ix_script.specs.reader.Readers.{Refuses}
+use Rattle.ix_script.specs.declared.rule.Rule.{Rule}
+use Rattle.ix_script.specs.declared.values.spelling.Spelling.{Spelling}
 use Rattle.ix_script.specs.declared.values.escape.Escape.{Escape}
 use Rattle.ix_script.specs.declared.values.escape.Escape.TheVariants as escape
 use Rattle.ix_script.proofs.texts.Pieces.{last_place}
@@ -163,3 +169,14 @@ module _ (all : Option (List ℕ)) where
     count = omega (arith, length-append c.front (bytes_of byte), c.count);
     few = omega (arith, at_most_one byte, c.few);
   }
+
+-- where bytes are spelled that aren't too many, no rule is told
+few_spelled : (most : ℕ) (r : Rule) (bytes : List ℕ) (b : Bool) → Refuses r (spelling_fault most (Some bytes)) → nat_le (length bytes) most ≡ b → IsSome (cond b (Some bytes) None) → ⊥
+unfolding spelling_fault
+few_spelled most r bytes true h e some = none-some r.0 (rw (le-ltb most (length bytes) (leb-true (length bytes) most e)) at h)
+few_spelled most r bytes false h e some = cc
+
+pub spelled_right : (most : ℕ) (r : Result (Spelling × ℕ) Rule) (meaning : Option (List ℕ)) → Spells most r meaning → IsSome (meaning >>= λ bytes. if nat_le (length bytes) most then Some bytes else None) → IsOk r
+spelled_right most (Ok x) meaning h some = refl
+spelled_right most (Err r) None h some = cc
+spelled_right most (Err r) (Some bytes) h some = absurd (few_spelled most r bytes (nat_le (length bytes) most) h refl some)

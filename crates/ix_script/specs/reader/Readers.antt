@@ -1,5 +1,6 @@
 -- What a reader of the code tells of what it was given.
 use Rattle.std.specs.Prelude.{◌≡◌, ℕ, List, [], ◌∷◌, ◌++◌, Option, Some, None, Result, Ok, Err}
+use Rattle.std.proofs.Common.{option_map}
 use Rattle.ix_script.specs.lines.Kinds.{Place, places_fault}
 use Rattle.ix_script.specs.lines.Before.{form_told}
 use Rattle.ix_script.specs.lines.Faults.{said_fault, line_fault}
@@ -18,14 +19,9 @@ abbrev pub Finds : {X : Type 0} → Result X Rule → Option ℕ → Type 0
 Finds (Ok x) fault = fault ≡ None
 Finds (Err e) fault = Refuses e fault
 
--- what is read, seen by the view, is what the words mean, and they break no rule by themselves
-pub record ReadRight {X Y : Type 0} (view : X → Y) (x : X) (places : List Place) (meaning : Option Y) : Type 0 where
-  pub faultless : places_fault places ≡ None
-  pub meant : meaning ≡ Some (view x)
-
-abbrev pub Reads : {X Y : Type 0} → (X → Y) → Result X Rule → List Place → Option Y → Type 0
-Reads view (Ok x) places meaning = ReadRight view x places meaning
-Reads view (Err e) places meaning = Refuses e (places_fault places)
+-- the first of the rules that words break at these places, if any
+abbrev pub IsFault : Option Rule → List Place → Type 0
+IsFault broken places = places_fault places ≡ option_map (λ r. r.0) broken
 
 -- a line that is read breaks no rule and says this, and it fits the lines before by the rules on what it says
 pub record LineRight (before : List Line) (l : Line) (fault : Option ℕ) (meaning : Option Line) : Type 0 where

@@ -103,29 +103,15 @@ impl Form {
         ensures count { (words : List (List ℕ)) → result ≡ arity self words }
         ensures few { result ≤ 6 }
     {
-        match self {
-            Form::Phase => 0,
-            Form::Lane | Form::Plain(_) | Form::Pipe => 1,
-            Form::Limit | Form::OnPath(_) | Form::OnFd(_) | Form::Dup => 2,
-            Form::Fork | Form::Exit | Form::Setself | Form::Droplic | Form::Readlog => 2,
-            Form::Dir | Form::Counted(_) | Form::Open | Form::Write | Form::Link => 3,
-            Form::List | Form::Setlabel | Form::Grant | Form::Ceiling | Form::Login => 3,
-            Form::Fs | Form::Copy | Form::Setpriv => 4,
-            Form::Proc => 5,
-            Form::File => 6,
-        }
+        self.kinds().len()
     }
 
     /// How many names may stand after `as`.
     fn names_after_as(self) -> usize
         ensures names { result ≡ length (tail_of self) }
-        ensures few { result ≤ 2 }
+        ensures few { result ≤ 6 }
     {
-        match self {
-            Form::Open | Form::Dup | Form::Fork | Form::Login => 1,
-            Form::Pipe => 2,
-            _ => 0,
-        }
+        self.tail().len()
     }
 
     /// Whether the line has the words of the form, and no others but `as` with its names.

@@ -1,8 +1,8 @@
-ghost use Rattle.std.specs.Prelude.{◌≡◌, ℕ, ◌<◌, ◌≤◌, ◌+◌, ◌^◌, ◌∷◌, [], is_some, length, IfSome, Some, None, take, replicate, OnOk};
+ghost use Rattle.std.specs.Prelude.{◌≡◌, ℕ, ◌<◌, ◌≤◌, ◌+◌, ◌^◌, ◌∷◌, [], is_some, length, IfSome, IsSome, Some, None, take, replicate, OnOk};
 ghost use Rattle.std.specs.List.{list_all};
 ghost use Rattle.ix_script.specs.lines.Kinds as kind;
 ghost use Rattle.ix_script.specs.texts.Payloads.{bytes_of, digit_of, pairs_of, quoted_from, times_from, times_of, payload_of};
-ghost use Rattle.ix_script.specs.reader.Readers.{Reads};
+ghost use Rattle.ix_script.specs.reader.Readers.{IsFault};
 ghost use Rattle.ix_script.specs.lines.Said.{payload_within};
 ghost use Rattle.ix_script.specs.texts.Spelled.{Counts, Spells};
 ghost use Rattle.ix_script.specs.declared.values.escape.Escape.TheVariants as escape;
@@ -159,22 +159,31 @@ fn spelled<'a>(most: u32, word: &'a [u8]) -> Result<(Spelling<'a>, usize), Rule>
     }
 }
 
-/// The bytes of a payload, at most so many.
+/// The bytes of a payload, at most so many: the first rule that it breaks.
 #[tactic(auto, unfolding(crate::specs::texts::Spelled::spelling_fault, crate::specs::lines::Kinds::places_fault, crate::specs::lines::Kinds::first_broken))]
-pub(crate) fn payload_of<'a, const MOST: u32>(word: &'a [u8]) -> Result<Payload<'a, MOST>, Rule>
-    ensures { Reads (λ x. x) result ((kind.Payload MOST, word.now) ∷ []) (payload_within MOST word.now) }
+pub(crate) fn payload_fault(most: u32, word: &[u8]) -> Option<Rule>
+    ensures { IsFault result ((kind.Payload most, word.now) ∷ []) }
 {
-    let (spelling, len) = spelled(MOST, word)?;
-    if len > MOST as usize {
-        return Err(Rule::LONG_PAYLOAD);
+    match spelled(most, word) {
+        Ok((_, len)) if len > most as usize => Some(Rule::LONG_PAYLOAD),
+        Ok(_) => None,
+        Err(rule) => Some(rule),
     }
-    Ok(Payload {
-        spelling,
-        len: len as u32,
-    })
 }
 
 impl<'a, const MOST: u32> Payload<'a, MOST> {
+    /// The bytes of a payload.
+    pub(crate) fn of(word: &'a [u8]) -> Payload<'a, MOST>
+        requires { IsSome (payload_within MOST word.now) }
+        ensures { payload_within MOST word.now ≡ Some result }
+    {
+        let (spelling, len) = spelled(MOST, word).unwrap();
+        Payload {
+            spelling,
+            len: len as u32,
+        }
+    }
+
     /// How many bytes there are.
     pub fn len(&self) -> usize
         ensures len { result ≡ length self.now }
