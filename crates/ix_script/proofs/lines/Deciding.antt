@@ -7,12 +7,13 @@ use Rattle.ix_label.specs.declared.form.Form.{Form}
 use Rattle.ix_label.specs.declared.form.Form.TheVariants.{One, Two}
 use Rattle.ix_model.specs.world.Naming.{same_bytes}
 use Rattle.ix_script.specs.lines.Before.{form_told, in_body, has_policy}
-use Rattle.ix_script.specs.texts.Cutting.{pieces, words_of, is_closed, is_skipped, is_policy_line, policy_text}
+use Rattle.ix_script.specs.declared.cutting.form.Form as of_words
+use Rattle.ix_script.specs.texts.Cutting.{pieces, words_of, word_at, is_closed, is_skipped, is_policy_line, policy_text}
 use Rattle.ix_text.specs.Bytes.{is_empty}
 use Rattle.ix_script.specs.lines.Forms.{plain_of, on_path_of, on_fd_of, counted_of, frame_form, group_form, file_form, process_form, form_of}
 use Rattle.ix_script.specs.lines.Rules.{first_of, has_empty_word, has_open_quote}
 use Rattle.ix_script.specs.lines.Faults.{text_fault, line_fault, words_fault, said_fault, command_fault, policy_fault, first_line_fault, body_fault}
-use Rattle.ix_script.specs.lines.Said.{said_by_words, version_of, line_of}
+use Rattle.ix_script.specs.lines.Said.{said, said_by_words, version_of, line_of}
 use Rattle.ix_script.specs.reader.Readers.{LineRight, Tells}
 use Rattle.ix_script.specs.declared.rule.Rule.{Rule}
 use Rattle.ix_script.specs.declared.line.Line.{Line}
@@ -142,3 +143,32 @@ pub command_right : (before : List Line) (text : List ℕ) (r : Result Line Rule
     → Tells before r (command_fault before (words_of text)) (said_by_words (form_told before) (words_of text)) → Tells before r (body_fault before text) (line_of (form_told before) text)
 unfolding body_fault
 command_right before text r h k p t = told_as before r (command_fault before (words_of text)) _ (line_of (form_told before) text) (line_of (form_told before) text) (rw (h, k, p) refl) refl (command_meant (form_told before) before text r k p t)
+
+-- ---- the fault of a line, by its text and by its words
+pub whole_fault : (before : List Line) (text : List ℕ) → text_fault text ≡ None → line_fault before text ≡ body_fault before text
+unfolding line_fault
+whole_fault before text h = rw h refl
+
+pub text_broken : (before : List Line) (text : List ℕ) (n : ℕ) → text_fault text ≡ Some n → line_fault before text ≡ Some n
+unfolding line_fault
+text_broken before text n h = rw h refl
+
+pub by_words : (before : List Line) (text : List ℕ) → text_fault text ≡ None → is_empty before ≡ false → is_skipped text ≡ false → is_policy_line text ≡ false → line_fault before text ≡ command_fault before (words_of text)
+unfolding line_fault body_fault
+by_words before text h some k p = rw (h, some, k, p) refl
+
+no_version_word : (form : Form) → form_of (word_at (words_of (version_text form)) 0) ≡ None
+unfolding words_of pieces is_closed form_of frame_form group_form plain_of on_path_of on_fd_of counted_of file_form process_form
+no_version_word One = refl
+no_version_word Two = refl
+
+no_version : (text : List ℕ) (f : of_words.Form) → form_of (word_at (words_of text) 0) ≡ Some f → version_of text ≡ None
+no_version text f h = go (version_of text) refl
+  where
+    go : (o : Option Form) → version_of text ≡ o → o ≡ None
+    go None is = refl
+    go (Some form) is = absurd (none-some f (sym (no_version_word form) ∙ ap (λ (x : List ℕ). form_of (word_at (words_of x) 0)) (sym (version_is text form is)) ∙ h))
+
+pub said_by_form : (labels : Form) (text : List ℕ) (f : of_words.Form) (l : Line) → is_skipped text ≡ false → is_policy_line text ≡ false → form_of (word_at (words_of text) 0) ≡ Some f → said labels f (words_of text) ≡ Some l → line_of labels text ≡ Some l
+unfolding line_of
+said_by_form labels text f l k p first h = rw (k, p, no_version text f first, first) h

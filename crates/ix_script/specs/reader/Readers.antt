@@ -1,9 +1,16 @@
 -- What a reader of the code tells of what it was given.
-use Rattle.std.specs.Prelude.{◌≡◌, ℕ, List, [], ◌∷◌, ◌++◌, Option, Some, None, Result, Ok, Err}
+use Rattle.std.specs.Prelude.{◌≡◌, ℕ, ◌==◌, Bool, ◌||◌, List, [], ◌∷◌, ◌++◌, Option, Some, None, Result, Ok, Err}
+use Rattle.std.specs.Option.{option_map_or}
+use Rattle.ix_model.specs.opening.Valid.{is_within}
+use Rattle.ix_text.specs.Bytes.{is_empty}
+use Rattle.ix_script.specs.texts.Cutting.{word_at, is_skipped, is_policy_line}
+use Rattle.ix_script.specs.lines.Forms.{form_of, places}
+use Rattle.ix_script.specs.lines.Said.{said}
+use Rattle.ix_script.specs.declared.cutting.form.Form.{Form}
 use Rattle.std.proofs.Common.{option_map}
 use Rattle.ix_script.specs.lines.Kinds.{Place, places_fault}
 use Rattle.ix_script.specs.lines.Before.{form_told}
-use Rattle.ix_script.specs.lines.Faults.{said_fault, line_fault}
+use Rattle.ix_script.specs.lines.Faults.{said_fault, command_fault, line_fault}
 use Rattle.ix_script.specs.lines.Said.{line_of}
 use Rattle.ix_script.specs.declared.fail.ReadFail.{ReadFail}
 use Rattle.ix_script.specs.declared.fail.ReadFail.TheVariants as fail
@@ -22,6 +29,24 @@ Finds (Err e) fault = Refuses e fault
 -- the first of the rules that words break at these places, if any
 abbrev pub IsFault : Option Rule → List Place → Type 0
 IsFault broken places = places_fault places ≡ option_map (λ r. r.0) broken
+
+-- a line that isn't cut into words: the first one, a skipped one and the policy
+abbrev pub is_whole : List Line → List ℕ → Bool
+is_whole before text = is_empty before || is_skipped text || is_policy_line text
+
+-- a byte of an input whose lines are printable
+abbrev pub in_printable_lines : ℕ → Bool
+in_printable_lines b = is_within 32 126 b || b == 10
+
+-- the words are a line of that form, and break no rule but those on what a line says
+pub record FormRight (before : List Line) (f : Form) (words : List (List ℕ)) : Type 0 where
+  pub first : form_of (word_at words 0) ≡ Some f
+  pub faultless : places_fault (places (form_told before) f words) ≡ None
+  pub fault : command_fault before words ≡ option_map_or (said_fault before) (said (form_told before) f words) None
+
+abbrev pub TellsForm : List Line → Result Form Rule → List (List ℕ) → Type 0
+TellsForm before (Ok f) words = FormRight before f words
+TellsForm before (Err e) words = Refuses e (command_fault before words)
 
 -- a line that is read breaks no rule and says this, and it fits the lines before by the rules on what it says
 pub record LineRight (before : List Line) (l : Line) (fault : Option ℕ) (meaning : Option Line) : Type 0 where

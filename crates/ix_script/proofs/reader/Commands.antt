@@ -1,0 +1,132 @@
+-- A command that gives no name and is no server's tells nothing but that it is one.
+use Rattle.std.proofs.Common.{◌≡◌, ℕ, ◌+◌, ◌≤◌, nat_le, Bool, true, false, ◌&&◌, ◌||◌, cond, List, [], ◌∷◌, ◌++◌, length, max, Option, Some, None, option_map, refl, sym, ap, ◌∙◌, subst, arith}
+use Rattle.std.specs.List.{list_all}
+use Rattle.std.specs.BTreeSet.{BTreeSet}
+use Rattle.std.proofs.lemmas.Bool.{le-leb, lt-leb}
+use Rattle.std.proofs.lemmas.List.{append-nil}
+use Rattle.ix_model.specs.opening.Valid.{is_valid, fs_fits}
+use Rattle.ix_model.specs.declared.config.FsSpec.{FsSpec}
+use Rattle.ix_model.specs.declared.config.Limits.{Limits}
+use Rattle.ix_model.specs.declared.config.ObjSpec.{ObjSpec}
+use Rattle.ix_text.specs.Bytes.{is_empty}
+use Rattle.ix_script.specs.lines.Before.{form_by, fs_told, limits_after, what_told, proc_name_told, object_told, objects_of, proc_names, is_policy, group, is_phase, lane_after, phase_lanes_after, lanes_after, new_fds, new_procs, fds_given, procs_given, in_lane, in_body, lane_now, phase_lanes, lanes_of, is_command, commands}
+use Rattle.ix_script.specs.lines.Roles.{role_of}
+use Rattle.ix_script.specs.lines.Rules.{first_of, is_above, misfits, crowds, is_out_of_order, is_one_too_many, lacks_policy}
+use Rattle.ix_script.specs.lines.Faults.{said_fault}
+use Rattle.ix_script.specs.reader.Indexed.{AreIndexed, AreNames, AreSites}
+use Rattle.ix_script.specs.reader.Told.{HeaderTold, BodyTold, MakesMore, NamesMore, Takes, fss_after}
+use Rattle.ix_script.specs.scripts.Scripts.{config_of}
+use Rattle.ix_script.specs.declared.before.header.Header.{Header}
+use Rattle.ix_script.specs.declared.before.body.Body.{Body}
+use Rattle.ix_script.specs.declared.before.names.Names.{Names}
+use Rattle.ix_script.specs.declared.before.tree.Tree.{Tree}
+use Rattle.ix_script.specs.declared.before.given.Place.{Place}
+use Rattle.ix_script.specs.declared.line.Line.{Line}
+use Rattle.ix_script.specs.declared.line.Line.TheVariants as line
+use Rattle.ix_script.specs.declared.role.Role.TheVariants as role
+use Rattle.ix_script.proofs.lines.Follows.{follows}
+use Rattle.ix_script.proofs.reader.Keeping.{header_next}
+use Rattle.ix_script.proofs.reader.Validity.{fits_of}
+use Rattle.ix_script.proofs.reader.Pushed.{body_push, lane_push, phase_lanes_push, lanes_push, fds_push, procs_given_push, commands_push}
+
+pub record Quiet (l : Line) : Type 0 where
+  pub fs : fs_told l ≡ []
+  pub limits : (ls : Limits) → limits_after ls l ≡ ls
+  pub whats : what_told l ≡ []
+  pub names : proc_name_told l ≡ []
+  pub objects : object_told l ≡ []
+  pub policy : is_policy l ≡ false
+  pub group_is : group l ≡ 5
+  pub phase : is_phase l ≡ false
+  pub lane : (at : Option (List ℕ)) → lane_after at l ≡ at
+  pub phase_lanes : (names : List (List ℕ)) → phase_lanes_after names l ≡ names
+  pub lanes : (names : List (List ℕ)) → lanes_after names l ≡ names
+  pub fds : new_fds l ≡ []
+  pub procs : new_procs l ≡ []
+  pub command : is_command l ≡ true
+  pub fault : (before : List Line) → said_fault before l ≡ cond (nat_le 200000 (commands before)) (Some 26) None
+
+pub quiet : (l : Line) → role_of l ≡ role.Command → Quiet l
+unfolding role_of said_fault
+quiet line.Skipped h = cc
+quiet (line.Version form) h = cc
+quiet (line.Limit w n) h = cc
+quiet (line.Fs name ceiling blocks inodes) h = cc
+quiet (line.Proc name label ceiling cap lic) h = cc
+quiet (line.Dir path label frozen) h = cc
+quiet (line.File path label frozen cap lic bytes) h = cc
+quiet (line.Policy text) h = cc
+quiet line.Phase h = cc
+quiet (line.Lane name) h = cc
+quiet (line.Open proc path mode named) h = cc
+quiet (line.Dup proc fd named) h = cc
+quiet (line.Pipe proc named) h = cc
+quiet (line.Fork proc keep named) h = cc
+quiet (line.Priv proc fd) h = cc
+quiet (line.Login proc fd hand named) h = cc
+quiet _ h =
+    record {
+      fs = refl;
+      limits = λ ls. refl;
+      whats = refl;
+      names = refl;
+      objects = refl;
+      policy = refl;
+      group_is = refl;
+      phase = refl;
+      lane = λ at. refl;
+      phase_lanes = λ names. refl;
+      lanes = λ names. refl;
+      fds = refl;
+      procs = refl;
+      command = refl;
+      fault = λ before. refl;
+    }
+
+pub too_many : (before : List Line) (l : Line) → role_of l ≡ role.Command → 200000 ≤ commands before → said_fault before l ≡ Some 26
+too_many before l role many = (quiet l role).fault before ∙ rw (le-leb 200000 (commands before) many) refl
+
+pub few_enough : (before : List Line) (l : Line) → role_of l ≡ role.Command → commands before + 1 ≤ 200000 → said_fault before l ≡ None
+few_enough before l role few = (quiet l role).fault before ∙ rw (lt-leb 200000 (commands before) (omega arith)) refl
+
+same_names : (names : Names) (more : List (List ℕ)) → more ≡ [] → NamesMore more names names
+same_names names more none =
+    rw none record { names = λ known h. subst (λ (ks : List (List ℕ)). AreNames names.index ks) (sym (append-nil known)) h; count = omega arith }
+
+same_sites : (made : Tree) (more : List ObjSpec) → more ≡ [] → MakesMore more made made
+same_sites made more none =
+    rw none record { sites = λ known h. subst (λ (os : List ObjSpec). AreSites made.index os) (sym (append-nil known)) h; count = omega arith }
+
+or_false : (b : Bool) → (b || false) ≡ b
+or_false true = refl
+or_false false = refl
+
+pub header_quiet : (h n : Header) (before : List Line) (l : Line) → role_of l ≡ role.Command → is_empty before ≡ false → HeaderTold h before → is_valid (config_of before) ≡ true → said_fault before l ≡ None
+    → n ≡ record h { latest = max h.latest 5 } → HeaderTold n (before ++ l ∷ [])
+header_quiet h n before l role later was valid fault is =
+    let q = quiet l role in
+    let new : Header = record h { latest = max h.latest 5 } in
+    let told : HeaderTold new (before ++ l ∷ []) =
+    header_next h new false before l (sym later) was (fits_of before valid) (follows before l fault) (rw q.fs (omega arith)) (rw q.fs refl) (sym (q.limits h.limits)) (rw q.whats (sym (append-nil h.whats)))
+    (same_names h.procs (proc_name_told l) q.names) (same_sites h.made (object_told l) q.objects) (rw q.objects refl) (rw q.group_is refl) (rw q.policy (sym (or_false h.policy))) in
+    subst (λ (m : Header). HeaderTold m (before ++ l ∷ [])) (sym is) told
+
+no_more : (index : BTreeSet Place) (items more : List (List ℕ × List ℕ)) (at : Option (List ℕ)) (names : List (List ℕ)) → names ≡ [] → more ≡ items ++ in_lane at names → AreIndexed index items → AreIndexed index more
+no_more index items more None names none is h = subst (λ (xs : List (List ℕ × List ℕ)). AreIndexed index xs) (sym (append-nil items) ∙ sym is) h
+no_more index items more (Some lane) names none is h =
+    let same : more ≡ items = is ∙ ap (λ ns. items ++ in_lane (Some lane) ns) none ∙ append-nil items in
+    subst (λ (xs : List (List ℕ × List ℕ)). AreIndexed index xs) (sym same) h
+
+pub body_quiet : (b n : Body) (before : List Line) (l : Line) → role_of l ≡ role.Command → BodyTold b before → n ≡ record b { commands = b.commands + 1 } → BodyTold n (before ++ l ∷ [])
+body_quiet b n before l role was is =
+    let q = quiet l role in
+    let told : BodyTold (record b { commands = b.commands + 1 }) (before ++ l ∷ []) = record {
+      started = was.started ∙ sym (body_push before l ∙ ap (λ (p : Bool). in_body before || p) q.phase ∙ or_false (in_body before));
+      lane = was.lane ∙ sym (lane_push before l ∙ q.lane (lane_now before));
+      phase_lanes = was.phase_lanes ∙ sym (phase_lanes_push before l ∙ q.phase_lanes (phase_lanes before));
+      lanes = was.lanes ∙ sym (lanes_push before l ∙ q.lanes (lanes_of before));
+      fds = no_more b.fds.index (fds_given before) (fds_given (before ++ l ∷ [])) (lane_now before) (new_fds l) q.fds (fds_push before l) was.fds;
+      procs = no_more b.procs.index (procs_given before) (procs_given (before ++ l ∷ [])) (lane_now before) (new_procs l) q.procs (procs_given_push before l) was.procs;
+      commands = ap (λ (n : ℕ). n + 1) was.commands ∙ sym (commands_push before l ∙ ap (λ (c : Bool). cond c (commands before + 1) (commands before)) q.command);
+    } in
+    subst (λ (m : Body). BodyTold m (before ++ l ∷ [])) (sym is) told
