@@ -6,17 +6,16 @@ ghost use Rattle.ix_script.specs.lines.Before.{form_told};
 ghost use Rattle.ix_script.specs.lines.Said.{line_of, said_by_words};
 ghost use Rattle.std.proofs.Common.{option_map};
 ghost use Rattle.ix_script.specs.lines.Roles.{header_only, role_of};
-ghost use Rattle.ix_script.specs.scripts.Need.{need};
+ghost use Rattle.ix_script.specs.scripts.Need.{cost_of_line, need};
 ghost use Rattle.ix_script.specs.scripts.Packed.{IsLine, IsSaid, begin_at, between, line_in};
 
 use crate::before::header::form_by;
-use crate::cost::cost_of_line;
 use crate::cutting::cut::Words;
 use crate::cutting::first_word::form_of;
 use crate::cutting::words::begins_with_text;
 use crate::forms::line_by_form::line_by_form;
 use crate::line::Line;
-use crate::role::{Role, role_of};
+use crate::role::Role;
 use crate::rules::{is_policy_line, is_skipped, version_of};
 use crate::values::policy::PolicyText;
 use ix_label::Form as LabelForm;
@@ -182,7 +181,7 @@ impl Lines {
     }
 
     /// The same with a line more at the end.
-    fn form_with(&self, line: &Line<'_>) -> LabelForm
+    pub fn form_with(&self, line: &Line<'_>) -> LabelForm
         ensures { result ≡ form_told (self.now ++ line.now ∷ []) }
     {
         if self.len() == 0 {
@@ -263,21 +262,29 @@ impl Lines {
         self.need
     }
 
-    /// One line more, which the text says. After `NoMemory` the lines are as they were.
-    pub fn push(&mut self, text: &[u8], line: &Line<'_>) -> Result<(), NoMemory>
-        requires faultless { IsLine (form_told (self.old ++ line.now ∷ [])) text.now }
-        requires said { line_in (form_told (self.old ++ line.now ∷ [])) text.now ≡ line.now }
+    /// One line more, which the text says in that form; it is for that, and costs so much. After `NoMemory` the lines are as they
+    /// were.
+    pub fn push(
+        &mut self,
+        form: LabelForm,
+        text: &[u8],
+        role: Role,
+        cost: u64,
+    ) -> Result<(), NoMemory>
+        requires faultless { IsLine form text.now }
+        requires form { form_told (self.old ++ line_in form text.now ∷ []) ≡ form }
+        requires role { role_of (line_in form text.now) ≡ role }
+        requires cost { cost_of_line (line_in form text.now) ≡ cost }
         requires few { length self.old + 1 < 2 ^ 32 }
-        ensures { OnOk result (self.new ≡ self.old ++ line.now ∷ []) }
+        ensures { OnOk result (self.new ≡ self.old ++ line_in form text.now ∷ []) }
     {
-        let form = self.form_with(line);
         let Ok(end) = u32::try_from(self.text.as_slice().len() + text.len()) else {
             return Err(NoMemory);
         };
         let Ok(()) = self.ends.push(end) else {
             return Err(NoMemory);
         };
-        let Ok(()) = self.roles.push(role_of(line)) else {
+        let Ok(()) = self.roles.push(role) else {
             self.ends.pop();
             return Err(NoMemory);
         };
@@ -286,7 +293,7 @@ impl Lines {
             self.ends.pop();
             return Err(NoMemory);
         };
-        self.need += cost_of_line(line);
+        self.need += cost;
         self.form = form;
         Ok(())
     }

@@ -1,7 +1,8 @@
 -- Which rules look at a line, by where it stands and how it begins.
-use Rattle.std.proofs.Common.{◌≡◌, ◌≢◌, ℕ, zero, suc, ◌<◌, true, false, true≢false, cond, List, [], ◌∷◌, length, drop, Option, Some, None, Result, Ok, Err, codes, refl, sym, ap, ◌∙◌, subst, arith, inl, inr}
+use Rattle.std.proofs.Common.{◌≡◌, ◌≢◌, ℕ, zero, suc, ◌<◌, ◌==◌, true, false, true≢false, cond, List, [], ◌∷◌, length, drop, Option, Some, None, Result, Ok, Err, codes, refl, sym, ap, ◌∙◌, subst, arith, inl, inr}
 use Rattle.std.specs.Cmp.Lexicographic.{same_text}
 use Rattle.std.specs.Option.{is_none}
+use Rattle.std.proofs.lemmas.Bool.{ne_eqb}
 use Rattle.std.proofs.lemmas.Option.{same_Some, none-some}
 use Rattle.ix_label.specs.declared.form.Form.{Form}
 use Rattle.ix_label.specs.declared.form.Form.TheVariants.{One, Two}
@@ -41,6 +42,10 @@ some_lines (l ∷ lines) n h ne = refl
 pub no_lines : {A : Type 0} (lines : List A) (n : ℕ) → n ≡ length lines → n ≡ 0 → lines ≡ []
 no_lines [] n h e = refl
 no_lines (l ∷ lines) n h e = let k : suc (length lines) ≡ 0 = sym h ∙ e in absurd (omega arith)
+
+pub none_there : {A : Type 0} (n : ℕ) (lines : List A) → n ≡ length lines → (n == 0) ≡ is_empty lines
+none_there n [] h = rw h refl
+none_there n (l ∷ lines) h = ne_eqb n 0 (λ e. let k : suc (length lines) ≡ 0 = sym h ∙ e in absurd (omega arith))
 
 more_than : (n : ℕ) (text : List ℕ) → n < length text → is_empty (drop n text) ≡ false
 more_than n [] h = absurd (omega arith)

@@ -2,6 +2,26 @@
 use Rattle.std.proofs.Common.{◌≡◌, ℕ, ◌+◌, ◌≤◌, nat_le, Bool, true, false, ◌&&◌, ◌||◌, cond, List, [], ◌∷◌, ◌++◌, length, max, Option, Some, None, option_map, refl, sym, ap, ◌∙◌, subst, arith}
 use Rattle.std.specs.List.{list_all}
 use Rattle.std.specs.BTreeSet.{BTreeSet}
+use Rattle.std.specs.Option.{IsSome}
+use Rattle.ix_label.specs.declared.form.Form as spelled
+use Rattle.ix_text.specs.Names.{name_of}
+use Rattle.ix_script.specs.texts.Cutting.{word_at}
+use Rattle.ix_script.specs.texts.Words.{number_of, fd_of}
+use Rattle.ix_script.specs.lines.Kinds.{places_fault}
+use Rattle.ix_script.specs.lines.Forms.{places}
+use Rattle.ix_script.specs.lines.Said.{both, said, plain_line, fd_line, counted_line}
+use Rattle.ix_script.specs.scripts.Need.{cost_of_line}
+use Rattle.ix_script.specs.reader.Placing.{is_entry}
+use Rattle.ix_script.specs.declared.cutting.form.Form.{Form}
+use Rattle.ix_script.specs.declared.cutting.form.Form.TheVariants as form
+use Rattle.ix_script.specs.declared.cutting.form.Plain.{Plain}
+use Rattle.ix_script.specs.declared.cutting.form.Plain.TheVariants as plain
+use Rattle.ix_script.specs.declared.cutting.form.OnFd.{OnFd}
+use Rattle.ix_script.specs.declared.cutting.form.OnFd.TheVariants as on_fd
+use Rattle.ix_script.specs.declared.cutting.form.Counted.{Counted}
+use Rattle.ix_script.specs.declared.cutting.form.Counted.TheVariants as counted
+use Rattle.ix_script.specs.declared.line.FdWord.{FdWord}
+use Rattle.ix_script.proofs.lines.Readings.{stand}
 use Rattle.std.proofs.lemmas.Bool.{le-leb, lt-leb}
 use Rattle.std.proofs.lemmas.List.{append-nil}
 use Rattle.ix_model.specs.opening.Valid.{is_valid, fs_fits}
@@ -9,7 +29,7 @@ use Rattle.ix_model.specs.declared.config.FsSpec.{FsSpec}
 use Rattle.ix_model.specs.declared.config.Limits.{Limits}
 use Rattle.ix_model.specs.declared.config.ObjSpec.{ObjSpec}
 use Rattle.ix_text.specs.Bytes.{is_empty}
-use Rattle.ix_script.specs.lines.Before.{form_by, fs_told, limits_after, what_told, proc_name_told, object_told, objects_of, proc_names, is_policy, group, is_phase, lane_after, phase_lanes_after, lanes_after, new_fds, new_procs, fds_given, procs_given, in_lane, in_body, lane_now, phase_lanes, lanes_of, is_command, commands}
+use Rattle.ix_script.specs.lines.Before.{form_by, form_told, fs_told, limits_after, what_told, proc_name_told, object_told, objects_of, proc_names, is_policy, group, is_phase, lane_after, phase_lanes_after, lanes_after, new_fds, new_procs, fds_given, procs_given, in_lane, in_body, lane_now, phase_lanes, lanes_of, is_command, commands}
 use Rattle.ix_script.specs.lines.Roles.{role_of}
 use Rattle.ix_script.specs.lines.Rules.{first_of, is_above, misfits, crowds, is_out_of_order, is_one_too_many, lacks_policy}
 use Rattle.ix_script.specs.lines.Faults.{said_fault}
@@ -130,3 +150,63 @@ body_quiet b n before l role was is =
       commands = ap (λ (n : ℕ). n + 1) was.commands ∙ sym (commands_push before l ∙ ap (λ (c : Bool). cond c (commands before + 1) (commands before)) q.command);
     } in
     subst (λ (m : Body). BodyTold m (before ++ l ∷ [])) (sym is) told
+
+-- the first line tells the form
+pub later_form : (before : List Line) (l : Line) → is_empty before ≡ false → form_told (before ++ l ∷ []) ≡ form_told before
+later_form [] l later = cc
+later_form (b ∷ before) l later = refl
+
+-- ---- commands that cost an entry
+pub record EntrySaid (labels : spelled.Form) (f : Form) (words : List (List ℕ)) : Type 0 where
+  pub line : Line
+  pub says : said labels f words ≡ Some line
+  pub is_command : role_of line ≡ role.Command
+  pub costs : cost_of_line line ≡ 128
+
+plain_kind : (c : Plain) (proc : List ℕ) → (role_of (plain_line c proc) ≡ role.Command) × (cost_of_line (plain_line c proc) ≡ 128)
+unfolding role_of cost_of_line
+plain_kind plain.Wait proc = (refl, refl)
+plain_kind plain.Self_ proc = (refl, refl)
+plain_kind plain.Freezeself proc = (refl, refl)
+plain_kind plain.Thawself proc = (refl, refl)
+
+counted_kind : (c : Counted) (proc : List ℕ) (fd : FdWord) (n : ℕ) → (role_of (counted_line c proc fd n) ≡ role.Command) × (cost_of_line (counted_line c proc fd n) ≡ 128)
+unfolding role_of cost_of_line
+counted_kind counted.Read proc fd n = (refl, refl)
+counted_kind counted.Cut proc fd n = (refl, refl)
+counted_kind counted.Seek proc fd n = (refl, refl)
+
+fd_kind : (c : OnFd) (proc : List ℕ) (fd : FdWord) → is_entry (form.OnFd c) ≡ true → (role_of (fd_line c proc fd) ≡ role.Command) × (cost_of_line (fd_line c proc fd) ≡ 128)
+unfolding role_of cost_of_line
+fd_kind on_fd.Close proc fd h = (refl, refl)
+fd_kind on_fd.Pex proc fd h = (refl, refl)
+fd_kind on_fd.Unpex proc fd h = (refl, refl)
+fd_kind on_fd.Priv proc fd h = cc
+
+there : {A : Type 0} (o : Option A) → IsSome o → (x : A) × (o ≡ Some x)
+there None h = cc
+there (Some x) h = (x, refl)
+
+both_there : {A B : Type 0} {a : Option A} {b : Option B} {x : A} {y : B} → a ≡ Some x → b ≡ Some y → both a b ≡ Some (x, y)
+both_there h k = λ i. both (h i) (k i)
+
+pub entry_said : (labels : spelled.Form) (f : Form) (words : List (List ℕ)) → is_entry f ≡ true → places_fault (places labels f words) ≡ None → EntrySaid labels f words
+entry_said labels (form.Plain c) words h broken =
+    let s = stand (places labels (form.Plain c) words) broken in
+    let name = there (name_of (word_at words 1)) s.0 in
+    let k = plain_kind c name.0 in
+    record { line = plain_line c name.0; says = ap (λ (o : Option (List ℕ)). option_map (λ x. plain_line c x) o) name.1; is_command = k.0; costs = k.1 }
+entry_said labels (form.Counted c) words h broken =
+    let s = stand (places labels (form.Counted c) words) broken in
+    let name = there (name_of (word_at words 1)) s.0 in
+    let fd = there (fd_of (word_at words 2)) s.1.0 in
+    let number = there (number_of 0 4294967295 (word_at words 3)) s.1.1.0 in
+    let k = counted_kind c name.0 fd.0 number.0 in
+    record { line = counted_line c name.0 fd.0 number.0; says = ap (option_map (λ x. counted_line c x.0 x.1.0 x.1.1)) (both_there name.1 (both_there fd.1 number.1)); is_command = k.0; costs = k.1 }
+entry_said labels (form.OnFd c) words h broken =
+    let s = stand (places labels (form.OnFd c) words) broken in
+    let name = there (name_of (word_at words 1)) s.0 in
+    let fd = there (fd_of (word_at words 2)) s.1.0 in
+    let k = fd_kind c name.0 fd.0 h in
+    record { line = fd_line c name.0 fd.0; says = ap (option_map (λ x. fd_line c x.0 x.1)) (both_there name.1 fd.1); is_command = k.0; costs = k.1 }
+entry_said labels _ words h broken = cc

@@ -1,5 +1,5 @@
 -- What may stand at the places of a line, as the reader has it.
-use Rattle.std.specs.Prelude.{ℕ, List, [], ◌∷◌, Option, Some, None, min}
+use Rattle.std.specs.Prelude.{ℕ, Bool, true, false, List, [], ◌∷◌, Option, Some, None, min}
 use Rattle.std.specs.Option.{IsSome}
 use Rattle.ix_label.specs.declared.form.Form as spelled
 use Rattle.ix_text.specs.Labels.{label_in}
@@ -12,6 +12,9 @@ use Rattle.ix_script.specs.lines.Kinds as kind
 use Rattle.ix_script.specs.lines.Said.{payload_within}
 use Rattle.ix_script.specs.declared.forms.kind.Kind as made
 use Rattle.ix_script.specs.declared.forms.kind.Kind.TheVariants as has
+use Rattle.ix_script.specs.declared.cutting.form.Form.{Form}
+use Rattle.ix_script.specs.declared.cutting.form.Form.TheVariants as form
+use Rattle.ix_script.specs.declared.cutting.form.OnFd.TheVariants as on_fd
 use Rattle.ix_script.specs.declared.rule.Rule.{Rule}
 
 -- what may stand at a place, by the table of the forms: labels are spelled in that form, and the bounds of a WHAT are those of word 1
@@ -62,3 +65,13 @@ Stands kind.Keep word = IsSome (keep_of word)
 abbrev pub Stand : List Place → Type 0
 Stand [] = Unit {0}
 Stand (p ∷ places) = Stands p.0 p.1 × Stand places
+
+-- commands that cost an entry and give no name: those of a process alone, those of a descriptor that no server serves, and those
+-- with a number besides
+abbrev pub is_entry : Form → Bool
+is_entry (form.Plain c) = true
+is_entry (form.Counted c) = true
+is_entry (form.OnFd on_fd.Close) = true
+is_entry (form.OnFd on_fd.Pex) = true
+is_entry (form.OnFd on_fd.Unpex) = true
+is_entry _ = false

@@ -6,6 +6,9 @@ use Rattle.ix_text.specs.Bytes.{is_empty}
 use Rattle.ix_script.specs.texts.Cutting.{word_at, is_skipped, is_policy_line}
 use Rattle.ix_script.specs.lines.Forms.{form_of, places}
 use Rattle.ix_script.specs.lines.Said.{said}
+use Rattle.ix_script.specs.lines.Roles.{role_of}
+use Rattle.ix_script.specs.scripts.Need.{cost_of_line}
+use Rattle.ix_script.specs.declared.role.Role.TheVariants as role
 use Rattle.ix_script.specs.declared.cutting.form.Form.{Form}
 use Rattle.std.proofs.Common.{option_map}
 use Rattle.ix_script.specs.lines.Kinds.{Place, places_fault}
@@ -53,6 +56,14 @@ pub record LineRight (before : List Line) (l : Line) (fault : Option ℕ) (meani
   pub faultless : fault ≡ None
   pub meant : meaning ≡ Some l
   pub fits : said_fault before l ≡ None
+
+-- a command that gives no name and is no server's: the text says it, it costs so much, and breaks none but the last rules
+pub record IsPlain (before : List Line) (text : List ℕ) (cost : ℕ) : Type 0 where
+  pub line : Line
+  pub meant : line_of (form_told before) text ≡ Some line
+  pub fault : line_fault before text ≡ said_fault before line
+  pub is_command : role_of line ≡ role.Command
+  pub costs : cost_of_line line ≡ cost
 
 -- a line more, which the text says
 pub record LineMore (before after : List Line) (text : List ℕ) : Type 0 where

@@ -7,13 +7,13 @@ ghost use Rattle.ix_script.specs.lines.Faults.{text_fault, said_fault, line_faul
 ghost use Rattle.ix_script.specs.lines.Before.{form_told};
 ghost use Rattle.ix_script.specs.lines.Said.{line_of};
 ghost use Rattle.ix_script.specs.lines.Roles.{role_of};
-ghost use Rattle.ix_script.specs.reader.Readers.{HasCause, LineMore, LineRight, is_whole};
+ghost use Rattle.ix_script.specs.reader.Readers.{HasCause, IsPlain, LineMore, LineRight, is_whole};
 ghost use Rattle.ix_script.specs.scripts.Scripts.{config_of};
 ghost use Rattle.ix_script.specs.reader.Told.{DraftTold};
-ghost use Rattle.ix_script.specs.declared.role.Role.TheVariants as role;
 
 use crate::before::body::Body;
 use crate::before::header::Header;
+use crate::cost::{ENTRY, cost_of_line};
 use crate::cutting::cut::Words;
 use crate::fail::{ReadFail, ScriptFault};
 use crate::forms::line_by_form::line_by_form;
@@ -58,9 +58,11 @@ impl<'a> Draft<'a> {
         ensures lines { OnOk result (self.new.lines ≡ self.old.lines ++ line.now ∷ []) }
     {
         let first = self.lines.len() == 0;
+        let form = self.lines.form_with(line);
         self.header.add(alloc, first, line)?;
         self.body.add(alloc, line)?;
-        self.lines.push(text, line)?;
+        self.lines
+            .push(form, text, role_of(line), cost_of_line(line))?;
         Ok(())
     }
 
@@ -75,15 +77,13 @@ impl<'a> Draft<'a> {
         })
     }
 
-    /// A command more that gives no name and is no server's: nothing is kept of it but its text and that it is one.
-    fn add_command(&mut self, text: &[u8], line: &Line<'a>) -> Result<(), ReadFail>
+    /// A command more that gives no name and is no server's: nothing is kept of it but its text and what it costs.
+    fn add_command(&mut self, text: &[u8], cost: u64) -> Result<(), ReadFail>
         requires told { DraftTold self.old }
         requires valid { is_valid (config_of self.old.lines) ≡ true }
         requires few { length self.old.lines + 1 < 2 ^ 32 }
         requires later { is_empty self.old.lines ≡ false }
-        requires fault { line_fault self.old.lines text.now ≡ said_fault self.old.lines line.now }
-        requires meant { line_of (form_told self.old.lines) text.now ≡ Some line.now }
-        requires role { role_of line.now ≡ role.Command }
+        requires plain { IsPlain self.old.lines text.now cost }
         ensures told { OnOk result (DraftTold self.new) }
         ensures line { OnOk result (LineMore self.old.lines self.new.lines text.now) }
         ensures fail { IfErr result (λ e. HasCause e (option_map (λ rule. (length self.old.lines + 1, rule)) (line_fault self.old.lines text.now))) }
@@ -93,7 +93,8 @@ impl<'a> Draft<'a> {
         }
         self.header.latest = self.header.latest.max(5);
         self.body.commands += 1;
-        self.lines.push(text, line)?;
+        self.lines
+            .push(self.lines.form(), text, Role::Command, cost)?;
         Ok(())
     }
 
@@ -116,7 +117,7 @@ impl<'a> Draft<'a> {
         ensures fail { IfErr result (λ e. HasCause e (option_map (λ rule. (length self.old.lines + 1, rule)) (line_fault self.old.lines text.now))) }
     {
         if let Role::Command = role_of(line) {
-            return self.add_command(text, line);
+            return self.add_command(text, cost_of_line(line));
         }
         if let Err(rule) = self.check_said(line, steps) {
             return Err(self.fault(rule));
@@ -171,6 +172,7 @@ impl<'a> Draft<'a> {
         }
         words.cut(text);
         match self.form_by_words(words) {
+            Ok(form) if form.is_entry() => self.add_command(text, ENTRY),
             Ok(form) => {
                 let line = line_by_form(self.lines.form(), form, words);
                 self.add_said(alloc, text, &line, steps)

@@ -1,4 +1,5 @@
 ghost use Rattle.std.specs.Prelude.{◌≡◌, ℕ, ◌≤◌, List, length};
+ghost use Rattle.ix_script.specs.reader.Placing.{is_entry};
 ghost use Rattle.ix_script.specs.lines.Forms.{arity, tail_of, is_header, is_command_form, has_right_count};
 
 use crate::cutting::cut::Words;
@@ -96,6 +97,17 @@ impl Form {
             self,
             Form::Limit | Form::Fs | Form::Proc | Form::Dir | Form::File | Form::Phase | Form::Lane
         )
+    }
+
+    /// Whether it is, beyond doubt, a command of one call that costs no more than an entry and gives no name.
+    pub fn is_entry(self) -> bool
+        ensures { result ≡ is_entry self }
+    {
+        match self {
+            Form::Plain(_) | Form::Counted(_) => true,
+            Form::OnFd(OnFd::Close | OnFd::Pex | OnFd::Unpex) => true,
+            _ => false,
+        }
     }
 
     /// How many words stand after the first.
