@@ -3,8 +3,8 @@ ghost use Rattle.std.specs.List.{list_all};
 ghost use Rattle.ix_script.specs.lines.Kinds as kind;
 ghost use Rattle.ix_script.specs.texts.Payloads.{bytes_of, digit_of, pairs_of, quoted_from, times_from, times_of, payload_of};
 ghost use Rattle.ix_script.specs.reader.Readers.{IsFault};
-ghost use Rattle.ix_script.specs.lines.Said.{payload_within};
-ghost use Rattle.ix_script.specs.texts.Spelled.{Counts, Spells};
+ghost use Rattle.ix_script.specs.lines.Said.{payload_within, within};
+ghost use Rattle.ix_script.specs.texts.Spelled.{Counts, Spells, SpellsRight};
 ghost use Rattle.ix_script.specs.declared.values.escape.Escape.TheVariants as escape;
 
 use crate::cutting::words::place_of;
@@ -159,6 +159,48 @@ fn spelled<'a>(most: u32, word: &'a [u8]) -> Result<(Spelling<'a>, usize), Rule>
     }
 }
 
+/// The byte of n*HH, and how often it stands, in a word that is known to spell so, at most so often.
+#[tactic(auto, unfolding(crate::specs::texts::Payloads::times_of, crate::specs::texts::Payloads::times_from))]
+fn known_times<const MOST: u32>(word: &[u8]) -> (u32, u8)
+    requires { IsSome (within MOST (times_of word.now)) }
+    ensures { times_of word.now ≡ Some (replicate result.0 result.1) }
+{
+    let star = place_of(b'*', word).unwrap();
+    let (_, digits) = word.split_at(star + 1);
+    let n = value(&word[..star]).unwrap();
+    (n, two_digits(digits).unwrap())
+}
+
+fn known_pairs(text: &[u8]) -> (Spelling<'_>, usize)
+    requires { IsSome (pairs_of text.now) }
+    ensures { SpellsRight result.0 result.1 (pairs_of text.now) }
+{
+    (Spelling::Pairs(text), text.len() / 2)
+}
+
+fn known_quoted(text: &[u8]) -> (Spelling<'_>, usize)
+    requires { IsSome (quoted_from escape.Plain text.now) }
+    ensures { SpellsRight result.0 result.1 (quoted_from escape.Plain text.now) }
+{
+    (Spelling::Quoted(text), count_of_quoted(text).unwrap())
+}
+
+/// How a word spells bytes that is known to spell some, at most so many, and how many.
+#[tactic(auto, unfolding(crate::specs::texts::Payloads::payload_of))]
+fn known<const MOST: u32>(word: &[u8]) -> (Spelling<'_>, usize)
+    requires { IsSome (payload_within MOST word.now) }
+    ensures { SpellsRight result.0 result.1 (payload_of word.now) }
+{
+    if begins(b'"', word) {
+        known_quoted(&word[1..])
+    } else if begins(b'x', word) {
+        known_pairs(&word[1..])
+    } else {
+        let (n, byte) = known_times::<MOST>(word);
+        (Spelling::Times(n, byte), n as usize)
+    }
+}
+
 /// The bytes of a payload, at most so many: the first rule that it breaks.
 #[tactic(auto, unfolding(crate::specs::texts::Spelled::spelling_fault, crate::specs::lines::Kinds::places_fault, crate::specs::lines::Kinds::first_broken))]
 pub(crate) fn payload_fault(most: u32, word: &[u8]) -> Option<Rule>
@@ -177,7 +219,7 @@ impl<'a, const MOST: u32> Payload<'a, MOST> {
         requires { IsSome (payload_within MOST word.now) }
         ensures { payload_within MOST word.now ≡ Some result }
     {
-        let (spelling, len) = spelled(MOST, word).unwrap();
+        let (spelling, len) = known::<MOST>(word);
         Payload {
             spelling,
             len: len as u32,
