@@ -4,7 +4,7 @@ ghost use Rattle.ix_script.specs.lines.Kinds as kind;
 ghost use Rattle.ix_script.specs.texts.Payloads.{bytes_of, digit_of, pairs_of, quoted_from, times_from, times_of, payload_of};
 ghost use Rattle.ix_script.specs.reader.Readers.{IsFault};
 ghost use Rattle.ix_script.specs.lines.Said.{payload_within, within};
-ghost use Rattle.ix_script.specs.texts.Spelled.{Counts, Spells, SpellsRight};
+ghost use Rattle.ix_script.specs.texts.Spelled.{Counts, SpellsRight};
 ghost use Rattle.ix_script.specs.declared.values.escape.Escape.TheVariants as escape;
 
 use crate::cutting::words::place_of;
@@ -12,7 +12,7 @@ use crate::rule::Rule;
 use crate::values::escape::Escape;
 use crate::values::hexes::{is_hex_digit, two_digits};
 use crate::values::numbers::{is_numeral, value};
-use crate::values::spelling::{PayloadBytes, Spelling};
+use crate::values::spelling::Spelling;
 use ix_model::NoMemory;
 use ix_text::begins;
 use std::marker::Model;
@@ -94,68 +94,37 @@ fn count_of_quoted(text: &[u8]) -> Result<usize, Rule>
     Err(Rule::BAD_PAYLOAD)
 }
 
-/// A byte so often as a number says, at most so often.
+/// How often a byte stands that stands as often as a number says, at most so often.
 #[tactic(auto, unfolding(crate::specs::texts::Payloads::times_from, crate::specs::texts::Spelled::spelling_fault))]
-fn times<'a>(most: u32, count: &[u8], digits: &[u8]) -> Result<(Spelling<'a>, usize), Rule>
-    ensures { Spells most result (times_from count.now digits.now) }
+fn count_of_times(most: u32, count: &[u8], digits: &[u8]) -> Result<usize, Rule>
+    ensures { Counts most result (times_from count.now digits.now) }
 {
-    if !is_numeral(count) {
+    if !is_numeral(count) || two_digits(digits).is_none() {
         return Err(Rule::BAD_PAYLOAD);
     }
-    let Some(byte) = two_digits(digits) else {
-        return Err(Rule::BAD_PAYLOAD);
-    };
-    let Some(n) = value(count) else {
-        return Err(Rule::LONG_PAYLOAD);
-    };
-    if n > most {
-        return Err(Rule::LONG_PAYLOAD);
-    }
-    Ok((Spelling::Times(n, byte), n as usize))
-}
-
-#[tactic(auto, unfolding(crate::specs::texts::Payloads::times_of, crate::specs::texts::Spelled::spelling_fault))]
-fn times_by_word<'a>(most: u32, word: &[u8]) -> Result<(Spelling<'a>, usize), Rule>
-    ensures { Spells most result (times_of word.now) }
-{
-    match place_of(b'*', word) {
-        Some(k) => {
-            let (_, digits) = word.split_at(k + 1);
-            times(most, &word[..k], digits)
-        }
-        None => Err(Rule::BAD_PAYLOAD),
+    match value(count) {
+        Some(n) if n <= most => Ok(n as usize),
+        _ => Err(Rule::LONG_PAYLOAD),
     }
 }
 
-fn pairs(text: &[u8]) -> Result<(Spelling<'_>, usize), Rule>
-    ensures { (most : ℕ) → Spells most result (pairs_of text.now) }
-{
-    match count_of_pairs(text) {
-        Ok(count) => Ok((Spelling::Pairs(text), count)),
-        Err(rule) => Err(rule),
-    }
-}
-
-fn quoted(text: &[u8]) -> Result<(Spelling<'_>, usize), Rule>
-    ensures { (most : ℕ) → Spells most result (quoted_from escape.Plain text.now) }
-{
-    match count_of_quoted(text) {
-        Ok(count) => Ok((Spelling::Quoted(text), count)),
-        Err(rule) => Err(rule),
-    }
-}
-
-/// How a word spells bytes, and how many.
-#[tactic(auto, unfolding(crate::specs::texts::Payloads::payload_of))]
-fn spelled<'a>(most: u32, word: &'a [u8]) -> Result<(Spelling<'a>, usize), Rule>
-    ensures { Spells most result (payload_of word.now) }
+/// How many bytes a word spells.
+#[tactic(auto, unfolding(crate::specs::texts::Payloads::payload_of, crate::specs::texts::Payloads::times_of, crate::specs::texts::Spelled::spelling_fault))]
+fn count_of(most: u32, word: &[u8]) -> Result<usize, Rule>
+    ensures { Counts most result (payload_of word.now) }
 {
     if begins(b'"', word) {
-        quoted(&word[1..])
-    } else if begins(b'x', word) {
-        pairs(&word[1..])
-    } else {
-        times_by_word(most, word)
+        return count_of_quoted(&word[1..]);
+    }
+    if begins(b'x', word) {
+        return count_of_pairs(&word[1..]);
+    }
+    match place_of(b'*', word) {
+        Some(star) => {
+            let (_, digits) = word.split_at(star + 1);
+            count_of_times(most, &word[..star], digits)
+        }
+        None => Err(Rule::BAD_PAYLOAD),
     }
 }
 
@@ -206,8 +175,8 @@ fn known<const MOST: u32>(word: &[u8]) -> (Spelling<'_>, usize)
 pub(crate) fn payload_fault(most: u32, word: &[u8]) -> Option<Rule>
     ensures { IsFault result ((kind.Payload most, word.now) ∷ []) }
 {
-    match spelled(most, word) {
-        Ok((_, len)) if len > most as usize => Some(Rule::LONG_PAYLOAD),
+    match count_of(most, word) {
+        Ok(len) if len > most as usize => Some(Rule::LONG_PAYLOAD),
         Ok(_) => None,
         Err(rule) => Some(rule),
     }
@@ -242,13 +211,6 @@ impl<'a, const MOST: u32> Payload<'a, MOST> {
             Spelling::Times(n, byte) => Some((n as usize, byte)),
             _ => None,
         }
-    }
-
-    /// The bytes, one after the other.
-    pub fn bytes(&self) -> PayloadBytes<'a>
-        ensures { result ≡ self.now }
-    {
-        PayloadBytes::new(self.spelling)
     }
 
     /// Puts the bytes at the front of a buffer.
