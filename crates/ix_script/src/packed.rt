@@ -1,5 +1,5 @@
 ghost use Rattle.std.specs.Prelude.{◌≡◌, ◌++◌, ◌∷◌, ◌+◌, ◌<◌, ◌≤◌, ◌^◌, [], Some, None, false, length, slice_get, OnOk, IfOk, IfSome, MatchOption};
-ghost use Rattle.ix_script.specs.scripts.Canonical.{has_one_spelling, line_text, may_be_respelled};
+ghost use Rattle.ix_script.specs.scripts.Canonical.{has_one_spelling};
 ghost use Rattle.ix_script.specs.lines.Forms.{form_of, places};
 ghost use Rattle.ix_script.specs.lines.Kinds.{places_fault};
 ghost use Rattle.ix_script.specs.lines.Before.{form_told};
@@ -91,7 +91,7 @@ fn said(labels: LabelForm, text: &[u8]) -> Line<'_>
 
 /// Whether a line of that text has no other spelling: only a skipped line and one with a payload may have one.
 #[tactic(auto, unfolding(crate::specs::scripts::Canonical::has_one_spelling))]
-fn has_one_spelling(text: &[u8]) -> bool
+pub(crate) fn has_one_spelling(text: &[u8]) -> bool
     ensures { result ≡ has_one_spelling text.now }
 {
     !is_skipped(text) && !begins_with_text(b"write", text) && !begins_with_text(b"file", text)
@@ -197,7 +197,7 @@ impl Lines {
     }
 
     /// The text of the line at an index from 0; `None` exactly past the end.
-    fn text_at(&self, i: usize) -> Option<&[u8]>
+    pub fn text_at(&self, i: usize) -> Option<&[u8]>
         ensures { MatchOption result (slice_get self.now i ≡ None) (λ text. IsLine (form_told self.now) text.now × (slice_get self.now i ≡ Some (line_in (form_told self.now) text.now))) }
     {
         let ends = self.ends.as_slice();
@@ -214,28 +214,6 @@ impl Lines {
     {
         let text = self.text_at(i)?;
         Some(said(self.form, text))
-    }
-
-    /// The canonical text of the line at an index from 0, where it is the text that was read. The line isn't made for it.
-    pub fn canonical_text(&self, i: usize) -> Option<&[u8]>
-        ensures { IfSome result (λ text. option_map (line_text (form_told self.now)) (slice_get self.now i) ≡ Some text.now) }
-    {
-        let text = self.text_at(i)?;
-        if has_one_spelling(text) {
-            Some(text)
-        } else {
-            None
-        }
-    }
-
-    /// The line at an index from 0, and the text that was read; `None` exactly past the end. That text is the canonical one, but
-    /// for skipped lines and those with a payload.
-    pub fn text_and_line(&self, i: usize) -> Option<(&[u8], Line<'_>)>
-        ensures line { option_map (λ p. p.1) result ≡ slice_get self.now i }
-        ensures text { IfSome result (λ p. may_be_respelled p.1 ≡ false → line_text (form_told self.now) p.1 ≡ p.0.now) }
-    {
-        let text = self.text_at(i)?;
-        Some((text, said(self.form, text)))
     }
 
     /// What the line at an index from 0 is for; `None` exactly past the end. The line isn't made for it.

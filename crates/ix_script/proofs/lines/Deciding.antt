@@ -167,13 +167,16 @@ unfolding words_of pieces is_closed form_of frame_form group_form plain_of on_pa
 no_version_word One = refl
 no_version_word Two = refl
 
-no_version : (text : List ℕ) (f : of_words.Form) → form_of (word_at (words_of text) 0) ≡ Some f → version_of text ≡ None
+pub no_version : (text : List ℕ) (f : of_words.Form) → form_of (word_at (words_of text) 0) ≡ Some f → version_of text ≡ None
 no_version text f h = go (version_of text) refl
   where
     go : (o : Option Form) → version_of text ≡ o → o ≡ None
     go None is = refl
     go (Some form) is = absurd (none-some f (sym (no_version_word form) ∙ ap (λ (x : List ℕ). form_of (word_at (words_of x) 0)) (sym (version_is text form is)) ∙ h))
 
-pub said_by_form : (labels : Form) (text : List ℕ) (f : of_words.Form) (l : Line) → is_skipped text ≡ false → is_policy_line text ≡ false → form_of (word_at (words_of text) 0) ≡ Some f → said labels f (words_of text) ≡ Some l → line_of labels text ≡ Some l
+pub said_is : (labels : Form) (text : List ℕ) (f : of_words.Form) → is_skipped text ≡ false → is_policy_line text ≡ false → form_of (word_at (words_of text) 0) ≡ Some f → line_of labels text ≡ said labels f (words_of text)
 unfolding line_of
-said_by_form labels text f l k p first h = rw (k, p, no_version text f first, first) h
+said_is labels text f k p first = rw (k, p, no_version text f first, first) refl
+
+pub said_by_form : (labels : Form) (text : List ℕ) (f : of_words.Form) (l : Line) → is_skipped text ≡ false → is_policy_line text ≡ false → form_of (word_at (words_of text) 0) ≡ Some f → said labels f (words_of text) ≡ Some l → line_of labels text ≡ Some l
+said_by_form labels text f l k p first h = said_is labels text f k p first ∙ h

@@ -1,5 +1,5 @@
-ghost use Rattle.std.specs.Prelude.{◌≡◌, ℕ, ◌≤◌, List, length};
-ghost use Rattle.ix_script.specs.reader.Placing.{is_entry};
+ghost use Rattle.std.specs.Prelude.{◌≡◌, ℕ, ◌<◌, ◌≤◌, List, length};
+ghost use Rattle.ix_script.specs.reader.Placing.{is_entry, payload_place};
 ghost use Rattle.ix_script.specs.lines.Forms.{arity, tail_of, is_header, is_command_form, has_right_count};
 
 use crate::cutting::cut::Words;
@@ -107,6 +107,18 @@ impl Form {
             Form::Plain(_) | Form::Counted(_) => true,
             Form::OnFd(OnFd::Close | OnFd::Pex | OnFd::Unpex) => true,
             _ => false,
+        }
+    }
+
+    /// The place of its payload; 0 where it has none.
+    pub fn payload_place(self) -> usize
+        ensures place { result ≡ payload_place self }
+        ensures few { result < 8 }
+    {
+        match self {
+            Form::Write => 3,
+            Form::File => 6,
+            _ => 0,
         }
     }
 

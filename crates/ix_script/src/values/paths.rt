@@ -2,7 +2,6 @@ ghost use Rattle.std.specs.Prelude.{◌≡◌, Some, IsSome, is_some};
 ghost use Rattle.std.specs.List.{list_all};
 ghost use Rattle.ix_model.specs.world.Paths.{path_of};
 ghost use Rattle.ix_text.specs.Bytes.{begins};
-ghost use Rattle.ix_script.specs.texts.Spellings.{path_text};
 ghost use Rattle.ix_script.specs.texts.Words as words;
 ghost use Rattle.ix_script.specs.texts.Words.{may_stand_in_path, is_path_word, made_path_of, names_text};
 
@@ -82,13 +81,6 @@ impl<'a> PathWord<'a> {
         let (absolute, text) = parts(self.word);
         Path::from_text(absolute, text)
     }
-
-    /// Its text, which is the word.
-    pub fn as_bytes(&self) -> &'a [u8]
-        ensures { result.now ≡ path_text self.now }
-    {
-        self.word
-    }
 }
 
 /// An absolute path with a name, as a word of a script spells it. It borrows the word, and contracts see the path.
@@ -126,12 +118,5 @@ impl<'a> MadePath<'a> {
         ensures { path_of result ≡ self.now }
     {
         self.path.path()
-    }
-
-    /// Its text, which is the word.
-    pub fn as_bytes(&self) -> &'a [u8]
-        ensures { result.now ≡ path_text self.now }
-    {
-        self.path.as_bytes()
     }
 }
