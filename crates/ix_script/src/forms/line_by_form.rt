@@ -7,8 +7,13 @@ use crate::cutting::cut::Words;
 use crate::cutting::form::{Counted, Form, OnFd, OnPath, Plain};
 use crate::cutting::words::NameWord;
 use crate::line::{FdWord, Line};
-use crate::values::paths::PathWord;
+use crate::values::choices::{mode_of, state_of, what_of};
+use crate::values::labels::LabelWord;
+use crate::values::numbers::{fd, keep, number};
+use crate::values::paths::{MadePath, PathWord};
+use crate::values::payload::Payload;
 use ix_label::Form as LabelForm;
+use ix_text::privs_of;
 
 fn plain_line<'a>(command: Plain, proc: NameWord<'a>) -> Line<'a>
     ensures { result ≡ plain_line command proc.entry }
@@ -67,129 +72,137 @@ pub(crate) fn line_by_form<'a>(labels: LabelForm, form: Form, words: &Words<'a>)
     match form {
         Form::Phase => return Line::Phase,
         Form::Limit => return Line::Limit {
-            what: words.what(1),
+            what: what_of(words.get(1)).unwrap(),
             number: words.bound(),
         },
         Form::Fs => return Line::Fs {
-            name: words.name(1),
-            ceiling: words.label(labels, 2),
-            blocks: words.number(1, 65_536, 3),
-            inodes: words.number(1, 65_536, 4),
+            name: NameWord::of(words.get(1)),
+            ceiling: LabelWord::of(labels, words.get(2)),
+            blocks: number(1, 65_536, words.get(3)),
+            inodes: number(1, 65_536, words.get(4)),
         },
         Form::Proc => return Line::Proc {
-            name: words.name(1),
-            label: words.label(labels, 2),
-            ceiling: words.label(labels, 3),
-            cap: words.privs(4),
-            lic: words.privs(5),
+            name: NameWord::of(words.get(1)),
+            label: LabelWord::of(labels, words.get(2)),
+            ceiling: LabelWord::of(labels, words.get(3)),
+            cap: privs_of(words.get(4)).unwrap(),
+            lic: privs_of(words.get(5)).unwrap(),
         },
         Form::Dir => return Line::Dir {
-            path: words.made_path(1),
-            label: words.label(labels, 2),
-            frozen: words.state(3),
+            path: MadePath::of(words.get(1)),
+            label: LabelWord::of(labels, words.get(2)),
+            frozen: state_of(words.get(3)).unwrap(),
         },
         Form::File => return Line::File {
-            path: words.made_path(1),
-            label: words.label(labels, 2),
-            frozen: words.state(3),
-            cap: words.privs(4),
-            lic: words.privs(5),
-            bytes: words.payload(6),
+            path: MadePath::of(words.get(1)),
+            label: LabelWord::of(labels, words.get(2)),
+            frozen: state_of(words.get(3)).unwrap(),
+            cap: privs_of(words.get(4)).unwrap(),
+            lic: privs_of(words.get(5)).unwrap(),
+            bytes: Payload::of(words.get(6)),
         },
         Form::Lane => return Line::Lane {
-            name: words.name(1),
+            name: NameWord::of(words.get(1)),
         },
-        Form::Plain(command) => return plain_line(command, words.name(1)),
-        Form::OnPath(command) => return path_line(command, words.name(1), words.path(2)),
-        Form::OnFd(command) => return fd_line(command, words.name(1), words.fd(2)),
+        Form::Plain(command) => return plain_line(command, NameWord::of(words.get(1))),
+        Form::OnPath(command) => return path_line(
+            command,
+            NameWord::of(words.get(1)),
+            PathWord::of(words.get(2)),
+        ),
+        Form::OnFd(command) => return fd_line(
+            command,
+            NameWord::of(words.get(1)),
+            fd(words.get(2)),
+        ),
         Form::Counted(command) => return counted_line(
             command,
-            words.name(1),
-            words.fd(2),
-            words.any_number(3),
+            NameWord::of(words.get(1)),
+            fd(words.get(2)),
+            number(0, 4_294_967_295, words.get(3)),
         ),
         Form::Open => return Line::Open {
-            proc: words.name(1),
-            path: words.path(2),
-            mode: words.mode(3),
+            proc: NameWord::of(words.get(1)),
+            path: PathWord::of(words.get(2)),
+            mode: mode_of(words.get(3)).unwrap(),
             named: words.name_after(4),
         },
         Form::Write => return Line::Write {
-            proc: words.name(1),
-            fd: words.fd(2),
-            bytes: words.payload(3),
+            proc: NameWord::of(words.get(1)),
+            fd: fd(words.get(2)),
+            bytes: Payload::of(words.get(3)),
         },
         Form::Dup => return Line::Dup {
-            proc: words.name(1),
-            fd: words.fd(2),
+            proc: NameWord::of(words.get(1)),
+            fd: fd(words.get(2)),
             named: words.name_after(3),
         },
         Form::Pipe => return Line::Pipe {
-            proc: words.name(1),
+            proc: NameWord::of(words.get(1)),
             named: words.two_names_after(),
         },
         Form::Link => return Line::Link {
-            proc: words.name(1),
-            target: words.path(2),
-            path: words.path(3),
+            proc: NameWord::of(words.get(1)),
+            target: PathWord::of(words.get(2)),
+            path: PathWord::of(words.get(3)),
         },
         Form::List => return Line::List {
-            proc: words.name(1),
-            path: words.path(2),
-            index: words.any_number(3),
+            proc: NameWord::of(words.get(1)),
+            path: PathWord::of(words.get(2)),
+            index: number(0, 4_294_967_295, words.get(3)),
         },
         Form::Copy => return Line::Copy {
-            proc: words.name(1),
-            from: words.fd(2),
-            to: words.fd(3),
-            count: words.any_number(4),
+            proc: NameWord::of(words.get(1)),
+            from: fd(words.get(2)),
+            to: fd(words.get(3)),
+            count: number(0, 4_294_967_295, words.get(4)),
         },
         Form::Setlabel => return Line::Setlabel {
-            proc: words.name(1),
-            path: words.path(2),
-            label: words.label(labels, 3),
+            proc: NameWord::of(words.get(1)),
+            path: PathWord::of(words.get(2)),
+            label: LabelWord::of(labels, words.get(3)),
         },
         Form::Setpriv => return Line::Setpriv {
-            proc: words.name(1),
-            path: words.path(2),
-            cap: words.privs(3),
-            lic: words.privs(4),
+            proc: NameWord::of(words.get(1)),
+            path: PathWord::of(words.get(2)),
+            cap: privs_of(words.get(3)).unwrap(),
+            lic: privs_of(words.get(4)).unwrap(),
         },
         Form::Fork => return Line::Fork {
-            proc: words.name(1),
-            keep: words.keep(2),
+            proc: NameWord::of(words.get(1)),
+            keep: keep(words.get(2)),
             named: words.name_after(3),
         },
         Form::Exit => return Line::Exit {
-            proc: words.name(1),
-            status: words.number(0, 255, 2),
+            proc: NameWord::of(words.get(1)),
+            status: number(0, 255, words.get(2)),
         },
         Form::Setself => return Line::Setself {
-            proc: words.name(1),
-            label: words.label(labels, 2),
+            proc: NameWord::of(words.get(1)),
+            label: LabelWord::of(labels, words.get(2)),
         },
         Form::Droplic => return Line::Droplic {
-            proc: words.name(1),
-            set: words.privs(2),
+            proc: NameWord::of(words.get(1)),
+            set: privs_of(words.get(2)).unwrap(),
         },
         Form::Grant => return Line::Grant {
-            proc: words.name(1),
-            to: words.name(2),
-            set: words.privs(3),
+            proc: NameWord::of(words.get(1)),
+            to: NameWord::of(words.get(2)),
+            set: privs_of(words.get(3)).unwrap(),
         },
         Form::Ceiling => return Line::Ceiling {
-            proc: words.name(1),
-            of: words.name(2),
-            label: words.label(labels, 3),
+            proc: NameWord::of(words.get(1)),
+            of: NameWord::of(words.get(2)),
+            label: LabelWord::of(labels, words.get(3)),
         },
         Form::Readlog => return Line::Readlog {
-            proc: words.name(1),
-            index: words.any_number(2),
+            proc: NameWord::of(words.get(1)),
+            index: number(0, 4_294_967_295, words.get(2)),
         },
         Form::Login => return Line::Login {
-            proc: words.name(1),
-            fd: words.fd(2),
-            hand: words.fd(3),
+            proc: NameWord::of(words.get(1)),
+            fd: fd(words.get(2)),
+            hand: fd(words.get(3)),
             named: words.name_after(4),
         },
     }

@@ -11,6 +11,7 @@ use crate::cutting::first_word::form_of;
 use crate::packed::{Lines, has_one_spelling};
 use crate::rules::is_skipped;
 use crate::script::Script;
+use crate::values::payload::Payload;
 use crate::written::append::{push, push_byte};
 use crate::written::payload_text::payload;
 use ix_label::Form as LabelForm;
@@ -45,7 +46,7 @@ fn write_words(
         return push(out, text);
     }
     push(out, before_word(text, words.get(place)))?;
-    payload(out, buffer, &words.payload::<1_048_576>(place))
+    payload(out, buffer, &Payload::<1_048_576>::of(words.get(place)))
 }
 
 /// The canonical text of a line of that text, without a line feed, whose labels are spelled in the form.

@@ -31,20 +31,20 @@ before_word-requires c =
     let p = payload_words c.args.labels text c.unwrap.result c.requires.line c.requires.some c.requires.words first (λ e. c.if-place-eq0.false (c.payload_place-place.ensures.place ∙ e)) in
     rw (c.get-2.ensures, c.cut.ensures, c.payload_place-place.ensures.place) p.within_text
 
-pub payload-requires : goal.payload-requires
-payload-requires c =
+pub of-requires : goal.of-requires
+of-requires c =
     let text : List ℕ = c.args.text.now in
     let first : form_of (word_at (words_of text) 0) ≡ Some c.unwrap.result = rw (c.form_of.ensures, c.get.ensures, c.cut.ensures) at c.unwrap.ensures in
     let p = payload_words c.args.labels text c.unwrap.result c.requires.line c.requires.some c.requires.words first (λ e. c.if-place-eq0.false (c.payload_place-place.ensures.place ∙ e)) in
-    (omega arith, (c.payload_place-place.ensures.few, rw (c.cut.ensures, c.payload_place-place.ensures.place, p.read) refl))
+    (omega arith, rw (c.get-3.ensures, c.cut.ensures, c.payload_place-place.ensures.place, p.read) refl)
 
 pub returns : goal.returns
 returns c =
     let text : List ℕ = c.args.text.now in
     let first : form_of (word_at (words_of text) 0) ≡ Some c.unwrap.result = rw (c.form_of.ensures, c.get.ensures, c.cut.ensures) at c.unwrap.ensures in
     let p = payload_words c.args.labels text c.unwrap.result c.requires.line c.requires.some c.requires.words first (λ e. c.if-place-eq0.false (c.payload_place-place.ensures.place ∙ e)) in
-    let bytes : c.payload.result ≡ p.bytes = same_Some c.payload.result p.bytes (sym (rw (c.cut.ensures, c.payload_place-place.ensures.place) at c.payload.ensures) ∙ p.read) in
+    let bytes : c.of.result ≡ p.bytes = same_Some c.of.result p.bytes (sym (rw (c.get-3.ensures, c.cut.ensures, c.payload_place-place.ensures.place) at c.of.ensures) ∙ p.read) in
     let front : c.push-2.new.out.items ≡ c.args.out.now.items ++ take (length text - length (word_at (words_of text) (payload_place c.unwrap.result))) text =
     rw (c.before_word.ensures, c.get-2.ensures, c.cut.ensures, c.payload_place-place.ensures.place) at c.in_ok-push.ensures in
-    let whole : c.push-2.new.out.items ++ payload_text c.payload.result ≡ c.args.out.now.items ++ line_text c.args.labels (line_in c.args.labels text) = rw (front, bytes, p.spelled_so) (append_assoc c.args.out.now.items (take (length text - length (word_at (words_of text) (payload_place c.unwrap.result))) text) (payload_text p.bytes)) in
-    subst (λ (t : List ℕ). OnOk c.payload-2.result (c.payload-2.new.out.items ≡ t)) whole c.payload-2.ensures
+    let whole : c.push-2.new.out.items ++ payload_text c.of.result ≡ c.args.out.now.items ++ line_text c.args.labels (line_in c.args.labels text) = rw (front, bytes, p.spelled_so) (append_assoc c.args.out.now.items (take (length text - length (word_at (words_of text) (payload_place c.unwrap.result))) text) (payload_text p.bytes)) in
+    subst (λ (t : List ℕ). OnOk c.payload.result (c.payload.new.out.items ≡ t)) whole c.payload.ensures
