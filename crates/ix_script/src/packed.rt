@@ -3,11 +3,11 @@ ghost use Rattle.ix_script.specs.scripts.Canonical.{has_one_spelling};
 ghost use Rattle.ix_script.specs.lines.Forms.{form_of, places};
 ghost use Rattle.ix_script.specs.lines.Kinds.{places_fault};
 ghost use Rattle.ix_script.specs.lines.Before.{form_told};
-ghost use Rattle.ix_script.specs.lines.Said.{line_of, said_by_words};
+ghost use Rattle.ix_script.specs.lines.Said.{line_of};
 ghost use Rattle.std.proofs.Common.{option_map};
 ghost use Rattle.ix_script.specs.lines.Roles.{header_only, role_of};
 ghost use Rattle.ix_script.specs.scripts.Need.{cost_of_line, need};
-ghost use Rattle.ix_script.specs.scripts.Packed.{IsLine, IsSaid, begin_at, between, line_in};
+ghost use Rattle.ix_script.specs.scripts.Packed.{IsLine, begin_at, between, line_in};
 
 use crate::before::header::form_by;
 use crate::cutting::cut::Words;
@@ -57,15 +57,7 @@ impl Model for Lines {
         × (l.form ≡ form_told (held l.form 0 l.text.items l.ends.items)) };
 }
 
-/// What the words of a line say that breaks no rule.
-fn said_by_words<'a>(labels: LabelForm, words: &Words<'a>) -> Line<'a>
-    requires { IsSaid labels words.now }
-    ensures { said_by_words labels words.now ≡ Some result }
-{
-    line_by_form(labels, form_of(words.get(0)).unwrap(), words)
-}
-
-/// What a text says that breaks no rule.
+/// What a text says that breaks no rule. Each way out returns, as in `line_by_form`.
 #[tactic(auto, unfolding(crate::specs::lines::Said::line_of))]
 fn said(labels: LabelForm, text: &[u8]) -> Line<'_>
     requires { IsLine labels text.now }
@@ -79,14 +71,13 @@ fn said(labels: LabelForm, text: &[u8]) -> Line<'_>
             text: PolicyText::of_line(text),
         };
     }
-    match version_of(text) {
-        Some(form) => Line::Version { form },
-        None => {
-            let mut words = Words::none();
-            words.cut(text);
-            said_by_words(labels, &words)
-        }
+    if let Some(form) = version_of(text) {
+        return Line::Version { form };
     }
+    let mut words = Words::none();
+    words.cut(text);
+    let form = form_of(words.get(0)).unwrap();
+    line_by_form(labels, form, &words)
 }
 
 /// Whether a line of that text has no other spelling: only a skipped line and one with a payload may have one.
