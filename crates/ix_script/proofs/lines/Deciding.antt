@@ -39,10 +39,6 @@ pub some_lines : {A : Type 0} (lines : List A) (n : ℕ) → n ≡ length lines 
 some_lines [] n h ne = absurd (ne h)
 some_lines (l ∷ lines) n h ne = refl
 
-pub no_lines : {A : Type 0} (lines : List A) (n : ℕ) → n ≡ length lines → n ≡ 0 → lines ≡ []
-no_lines [] n h e = refl
-no_lines (l ∷ lines) n h e = let k : suc (length lines) ≡ 0 = sym h ∙ e in absurd (omega arith)
-
 pub none_there : {A : Type 0} (n : ℕ) (lines : List A) → n ≡ length lines → (n == 0) ≡ is_empty lines
 none_there n [] h = rw h refl
 none_there n (l ∷ lines) h = ne_eqb n 0 (λ e. let k : suc (length lines) ≡ 0 = sym h ∙ e in absurd (omega arith))
@@ -137,17 +133,6 @@ not_ix before text h = go (version_of text) refl
     go (Some form) is =
         let f : command_fault before (words_of text) ≡ Some 7 = ap (λ (x : List ℕ). command_fault before (words_of x)) (version_is text form is) ∙ ix_is_unknown before form in
         absurd (none-some 7 (sym h ∙ f))
-
-command_meant : (labels : Form) (before : List Line) (text : List ℕ) (r : Result Line Rule) → is_skipped text ≡ false → is_policy_line text ≡ false
-    → Tells before r (command_fault before (words_of text)) (said_by_words labels (words_of text)) → Tells before r (command_fault before (words_of text)) (line_of labels text)
-unfolding line_of
-command_meant labels before text (Ok l) k p t = record { faultless = t.faultless; meant = rw (k, p, not_ix before text t.faultless) t.meant; fits = t.fits }
-command_meant labels before text (Err e) k p t = t
-
-pub command_right : (before : List Line) (text : List ℕ) (r : Result Line Rule) → is_empty before ≡ false → is_skipped text ≡ false → is_policy_line text ≡ false
-    → Tells before r (command_fault before (words_of text)) (said_by_words (form_told before) (words_of text)) → Tells before r (body_fault before text) (line_of (form_told before) text)
-unfolding body_fault
-command_right before text r h k p t = told_as before r (command_fault before (words_of text)) _ (line_of (form_told before) text) (line_of (form_told before) text) (rw (h, k, p) refl) refl (command_meant (form_told before) before text r k p t)
 
 -- ---- the fault of a line, by its text and by its words
 pub whole_fault : (before : List Line) (text : List ℕ) → text_fault text ≡ None → line_fault before text ≡ body_fault before text

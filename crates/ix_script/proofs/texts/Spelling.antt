@@ -31,9 +31,6 @@ regroup : (front mid : List ℕ) (more : Option (List ℕ)) → after_bytes fron
 regroup front mid None = refl
 regroup front mid (Some more) = ap (λ (bytes : List ℕ). Some bytes) (sym (append_assoc front mid more))
 
-none_after : (front : List ℕ) (total : Option (List ℕ)) → after_bytes front None ≡ total → total ≡ None
-none_after front total h = sym h
-
 -- ---- pairs of digits
 abbrev is_hex : ℕ → Bool
 is_hex b = is_some (digit_of b)
