@@ -1,8 +1,10 @@
 -- A command that gives no name and is no server's tells nothing but that it is one.
-use Rattle.std.proofs.Common.{◌≡◌, ℕ, ◌+◌, ◌≤◌, nat_le, Bool, true, false, ◌&&◌, ◌||◌, cond, List, [], ◌∷◌, ◌++◌, length, max, Option, Some, None, option_map, refl, sym, ap, ◌∙◌, subst, arith}
+use Rattle.std.proofs.Common.{◌≡◌, ℕ, ◌+◌, ◌≤◌, nat_le, Bool, true, false, ◌&&◌, ◌||◌, cond, List, [], ◌∷◌, ◌++◌, length, max, Option, Some, None, option_map, Result, Ok, Err, refl, sym, ap, ◌∙◌, subst, arith}
 use Rattle.std.specs.List.{list_all}
+use mir.Val.{bool_byte}
 use Rattle.std.specs.BTreeSet.{BTreeSet}
 use Rattle.std.specs.Option.{IsSome}
+use Rattle.std.specs.Result.{OnOk}
 use Rattle.ix_label.specs.declared.form.Form as spelled
 use Rattle.ix_text.specs.Names.{name_of}
 use Rattle.ix_script.specs.texts.Cutting.{word_at}
@@ -21,6 +23,9 @@ use Rattle.ix_script.specs.declared.cutting.form.OnFd.TheVariants as on_fd
 use Rattle.ix_script.specs.declared.cutting.form.Counted.{Counted}
 use Rattle.ix_script.specs.declared.cutting.form.Counted.TheVariants as counted
 use Rattle.ix_script.specs.declared.line.FdWord.{FdWord}
+use Rattle.ix_script.specs.declared.line.KeepWord.{KeepWord}
+use Rattle.ix_model.specs.declared.call.Mode.{Mode}
+use Rattle.ix_model.specs.world.Naming.{PathOf}
 use Rattle.ix_script.proofs.lines.Readings.{stand}
 use Rattle.std.proofs.lemmas.Bool.{le-leb, lt-leb}
 use Rattle.std.proofs.lemmas.List.{append-nil}
@@ -117,7 +122,11 @@ same_sites : (made : Tree) (more : List ObjSpec) → more ≡ [] → MakesMore m
 same_sites made more none =
     rw none record { sites = λ known h. subst (λ (os : List ObjSpec). AreSites made.index os) (sym (append-nil known)) h; count = omega arith }
 
-or_false : (b : Bool) → (b || false) ≡ b
+pub or_true : (b : Bool) → (b || true) ≡ true
+or_true true = refl
+or_true false = refl
+
+pub or_false : (b : Bool) → (b || false) ≡ b
 or_false true = refl
 or_false false = refl
 
@@ -131,24 +140,62 @@ header_quiet h n before l role later was valid fault is =
     (same_names h.procs (proc_name_told l) q.names) (same_sites h.made (object_told l) q.objects) (rw q.objects refl) (rw q.group_is refl) (rw q.policy (sym (or_false h.policy))) in
     subst (λ (m : Header). HeaderTold m (before ++ l ∷ [])) (sym is) told
 
-no_more : (index : BTreeSet Place) (items more : List (List ℕ × List ℕ)) (at : Option (List ℕ)) (names : List (List ℕ)) → names ≡ [] → more ≡ items ++ in_lane at names → AreIndexed index items → AreIndexed index more
+pub no_more : (index : BTreeSet Place) (items more : List (List ℕ × List ℕ)) (at : Option (List ℕ)) (names : List (List ℕ)) → names ≡ [] → more ≡ items ++ in_lane at names → AreIndexed index items → AreIndexed index more
 no_more index items more None names none is h = subst (λ (xs : List (List ℕ × List ℕ)). AreIndexed index xs) (sym (append-nil items) ∙ sym is) h
 no_more index items more (Some lane) names none is h =
     let same : more ≡ items = is ∙ ap (λ ns. items ++ in_lane (Some lane) ns) none ∙ append-nil items in
     subst (λ (xs : List (List ℕ × List ℕ)). AreIndexed index xs) (sym same) h
 
+pub on_ok : {X E P Q : Type 0} (r : Result X E) → (P → Q) → OnOk r P → OnOk r Q
+on_ok (Ok x) f h = f h
+on_ok (Err e) f h = h
+
+pub one_counted : (n k : ℕ) (b c : Bool) → k ≡ bool_byte b → b ≡ c → n + k ≡ cond c (n + 1) n
+one_counted n k true c h e = rw (sym e) (omega (arith, h))
+one_counted n k false c h e = rw (sym e) (omega (arith, h))
+
+-- a line that begins no phase and no lane, and gives no name
+pub record Still (l : Line) : Type 0 where
+  pub phase : is_phase l ≡ false
+  pub lane : (at : Option (List ℕ)) → lane_after at l ≡ at
+  pub phase_lanes : (names : List (List ℕ)) → phase_lanes_after names l ≡ names
+  pub lanes : (names : List (List ℕ)) → lanes_after names l ≡ names
+  pub fds : new_fds l ≡ []
+  pub procs : new_procs l ≡ []
+
+pub still : (l : Line) → (l ≡ line.Phase → ⊥) → ((name : List ℕ) → l ≡ line.Lane name → ⊥) → ((proc : List ℕ) (path : PathOf) (mode : Mode) (named : Option (List ℕ)) → l ≡ line.Open proc path mode named → ⊥) → ((proc : List ℕ) (fd : FdWord) (named : Option (List ℕ)) → l ≡ line.Dup proc fd named → ⊥)
+    → ((proc : List ℕ) (named : Option (List ℕ × List ℕ)) → l ≡ line.Pipe proc named → ⊥) → ((proc : List ℕ) (kept : KeepWord) (named : Option (List ℕ)) → l ≡ line.Fork proc kept named → ⊥) → ((proc : List ℕ) (fd hand : FdWord) (named : Option (List ℕ)) → l ≡ line.Login proc fd hand named → ⊥) → Still l
+still line.Phase a b c d e f g = absurd (a refl)
+still (line.Lane name) a b c d e f g = absurd (b name refl)
+still (line.Open proc path mode named) a b c d e f g = absurd (c proc path mode named refl)
+still (line.Dup proc fd named) a b c d e f g = absurd (d proc fd named refl)
+still (line.Pipe proc named) a b c d e f g = absurd (e proc named refl)
+still (line.Fork proc kept named) a b c d e f g = absurd (f proc kept named refl)
+still (line.Login proc fd hand named) a b c d e f g = absurd (g proc fd hand named refl)
+still _ a b c d e f g = record { phase = refl; lane = λ at. refl; phase_lanes = λ names. refl; lanes = λ names. refl; fds = refl; procs = refl }
+
+-- what is kept of the body, with one line more
+pub body_next : (b n : Body) (before : List Line) (x : Line) → BodyTold b before → n.started ≡ (b.started || is_phase x) → option_map (λ s. s.now) n.lane ≡ lane_after (option_map (λ s. s.now) b.lane) x → n.phase_lanes ≡ phase_lanes_after b.phase_lanes x
+    → n.lanes ≡ lanes_after b.lanes x → ((items : List (List ℕ × List ℕ)) → AreIndexed b.fds.index items → AreIndexed n.fds.index (items ++ in_lane (option_map (λ s. s.now) b.lane) (new_fds x)))
+    → ((items : List (List ℕ × List ℕ)) → AreIndexed b.procs.index items → AreIndexed n.procs.index (items ++ in_lane (option_map (λ s. s.now) b.lane) (new_procs x))) → n.commands ≡ cond (is_command x) (b.commands + 1) b.commands → BodyTold n (before ++ x ∷ [])
+body_next b n before x told started lane phase_lanes_are lanes_are fds procs count =
+    record {
+      started = started ∙ ap (λ (s : Bool). s || is_phase x) told.started ∙ sym (body_push before x);
+      lane = lane ∙ ap (λ (at : Option (List ℕ)). lane_after at x) told.lane ∙ sym (lane_push before x);
+      phase_lanes = phase_lanes_are ∙ ap (λ (names : List (List ℕ)). phase_lanes_after names x) told.phase_lanes ∙ sym (phase_lanes_push before x);
+      lanes = lanes_are ∙ ap (λ (names : List (List ℕ)). lanes_after names x) told.lanes ∙ sym (lanes_push before x);
+      fds = subst (λ (items : List (List ℕ × List ℕ)). AreIndexed n.fds.index items) (ap (λ at. fds_given before ++ in_lane at (new_fds x)) told.lane ∙ sym (fds_push before x)) (fds (fds_given before) told.fds);
+      procs = subst (λ (items : List (List ℕ × List ℕ)). AreIndexed n.procs.index items) (ap (λ at. procs_given before ++ in_lane at (new_procs x)) told.lane ∙ sym (procs_given_push before x)) (procs (procs_given before) told.procs);
+      commands = count ∙ ap (λ (n : ℕ). cond (is_command x) (n + 1) n) told.commands ∙ sym (commands_push before x);
+    }
+
 pub body_quiet : (b n : Body) (before : List Line) (l : Line) → role_of l ≡ role.Command → BodyTold b before → n ≡ record b { commands = b.commands + 1 } → BodyTold n (before ++ l ∷ [])
 body_quiet b n before l role was is =
     let q = quiet l role in
-    let told : BodyTold (record b { commands = b.commands + 1 }) (before ++ l ∷ []) = record {
-      started = was.started ∙ sym (body_push before l ∙ ap (λ (p : Bool). in_body before || p) q.phase ∙ or_false (in_body before));
-      lane = was.lane ∙ sym (lane_push before l ∙ q.lane (lane_now before));
-      phase_lanes = was.phase_lanes ∙ sym (phase_lanes_push before l ∙ q.phase_lanes (phase_lanes before));
-      lanes = was.lanes ∙ sym (lanes_push before l ∙ q.lanes (lanes_of before));
-      fds = no_more b.fds.index (fds_given before) (fds_given (before ++ l ∷ [])) (lane_now before) (new_fds l) q.fds (fds_push before l) was.fds;
-      procs = no_more b.procs.index (procs_given before) (procs_given (before ++ l ∷ [])) (lane_now before) (new_procs l) q.procs (procs_given_push before l) was.procs;
-      commands = ap (λ (n : ℕ). n + 1) was.commands ∙ sym (commands_push before l ∙ ap (λ (c : Bool). cond c (commands before + 1) (commands before)) q.command);
-    } in
+    let at : Option (List ℕ) = option_map (λ s. s.now) b.lane in
+    let told : BodyTold (record b { commands = b.commands + 1 }) (before ++ l ∷ []) =
+    body_next b (record b { commands = b.commands + 1 }) before l was (rw q.phase (sym (or_false b.started))) (sym (q.lane at)) (sym (q.phase_lanes b.phase_lanes)) (sym (q.lanes b.lanes))
+    (λ items h. no_more b.fds.index items (items ++ in_lane at (new_fds l)) at (new_fds l) q.fds refl h) (λ items h. no_more b.procs.index items (items ++ in_lane at (new_procs l)) at (new_procs l) q.procs refl h) (rw q.command refl) in
     subst (λ (m : Body). BodyTold m (before ++ l ∷ [])) (sym is) told
 
 -- the first line tells the form
