@@ -1,6 +1,5 @@
 -- The text of a line, where it has a payload and where it has none.
-use Rattle.std.proofs.Common.{◌≡◌, ℕ, ◌+◌, ◌-◌, ◌≤◌, ◌==◌, nat_le, Bool, true, false, not, ◌&&◌, cond, ◌⊎◌, drop, List, [], ◌∷◌, ◌++◌, length, take, Option, Some, None, option_map, codes, if◌then◌else◌, inl, inr, refl, sym, ap, ◌∙◌, subst, arith, length-append, append_assoc}
-use Rattle.std.specs.Option.{IsSome}
+use Rattle.std.proofs.Common.{◌≡◌, ℕ, ◌+◌, ◌-◌, ◌≤◌, ◌==◌, nat_le, Bool, true, false, not, ◌&&◌, ◌⊎◌, drop, List, [], ◌∷◌, ◌++◌, length, take, Option, Some, None, option_map, codes, if◌then◌else◌, inl, inr, refl, sym, ap, ◌∙◌, subst, arith, length-append, append_assoc}
 use Rattle.std.proofs.lemmas.Bool.{eqb-true, le-leb, leb-true}
 use Rattle.std.proofs.lemmas.List.{append-nil, take_at, take-append-drop}
 use Rattle.std.specs.Cmp.Lexicographic.{same_text}
@@ -13,9 +12,9 @@ use Rattle.ix_text.specs.Privs.{privs_of}
 use Rattle.ix_text.specs.Bytes.{is_empty}
 use Rattle.ix_text.specs.Spellings.{further, joined}
 use Rattle.ix_script.specs.texts.Cutting.{words_of, word_at, is_skipped, is_policy_line}
-use Rattle.ix_script.specs.texts.Payloads.{◌>>=◌, payload_of}
+use Rattle.ix_script.specs.texts.Payloads.{payload_of}
 use Rattle.ix_script.specs.texts.Spellings.{payload_text}
-use Rattle.ix_script.specs.texts.Words.{number_of, path_of, made_path_of, mode_of, state_of, what_of, fd_of, keep_of}
+use Rattle.ix_script.specs.texts.Words.{made_path_of, state_of, fd_of}
 use Rattle.ix_script.specs.lines.Before.{form_told}
 use Rattle.ix_script.specs.lines.Forms.{form_of}
 use Rattle.ix_script.specs.lines.Said.{within, payload_within, said, version_of, line_of, plain_line, path_line, fd_line, counted_line}

@@ -1,5 +1,5 @@
 -- Which rules look at a line, by where it stands and how it begins.
-use Rattle.std.proofs.Common.{◌≡◌, ◌≢◌, ℕ, zero, suc, ◌<◌, ◌==◌, true, false, true≢false, cond, List, [], ◌∷◌, length, drop, Option, Some, None, Result, Ok, Err, codes, refl, sym, ap, ◌∙◌, subst, arith, inl, inr}
+use Rattle.std.proofs.Common.{◌≡◌, ◌≢◌, ℕ, zero, suc, ◌<◌, ◌==◌, true, false, true≢false, cond, List, [], ◌∷◌, length, drop, Option, Some, None, Result, codes, refl, sym, ap, ◌∙◌, subst, arith, inl, inr}
 use Rattle.std.specs.Cmp.Lexicographic.{same_text}
 use Rattle.std.specs.Option.{is_none}
 use Rattle.std.proofs.lemmas.Bool.{ne_eqb}
@@ -14,7 +14,7 @@ use Rattle.ix_text.specs.Bytes.{is_empty}
 use Rattle.ix_script.specs.lines.Forms.{plain_of, on_path_of, on_fd_of, counted_of, frame_form, group_form, file_form, process_form, form_of}
 use Rattle.ix_script.specs.lines.Rules.{first_of, has_empty_word, has_open_quote}
 use Rattle.ix_script.specs.lines.Faults.{text_fault, line_fault, words_fault, said_fault, command_fault, policy_fault, first_line_fault, body_fault}
-use Rattle.ix_script.specs.lines.Said.{said, said_by_words, version_of, line_of}
+use Rattle.ix_script.specs.lines.Said.{said, version_of, line_of}
 use Rattle.ix_script.specs.reader.Readers.{LineRight, Tells}
 use Rattle.ix_script.specs.declared.rule.Rule.{Rule}
 use Rattle.ix_script.specs.declared.line.Line.{Line}

@@ -1,6 +1,5 @@
 -- A command that gives no name and is no server's tells nothing but that it is one.
-use Rattle.std.proofs.Common.{◌≡◌, ℕ, ◌+◌, ◌≤◌, nat_le, Bool, true, false, ◌&&◌, ◌||◌, cond, List, [], ◌∷◌, ◌++◌, length, max, Option, Some, None, option_map, Result, Ok, Err, refl, sym, ap, ◌∙◌, subst, arith}
-use Rattle.std.specs.List.{list_all}
+use Rattle.std.proofs.Common.{◌≡◌, ℕ, ◌+◌, ◌≤◌, nat_le, Bool, true, false, ◌||◌, cond, List, [], ◌∷◌, ◌++◌, max, Option, Some, None, option_map, Result, Ok, Err, refl, sym, ap, ◌∙◌, subst, arith}
 use mir.Val.{bool_byte}
 use Rattle.std.specs.BTreeSet.{BTreeSet}
 use Rattle.std.specs.Option.{IsSome}
@@ -29,17 +28,15 @@ use Rattle.ix_model.specs.world.Naming.{PathOf}
 use Rattle.ix_script.proofs.lines.Readings.{stand}
 use Rattle.std.proofs.lemmas.Bool.{le-leb, lt-leb}
 use Rattle.std.proofs.lemmas.List.{append-nil}
-use Rattle.ix_model.specs.opening.Valid.{is_valid, fs_fits}
-use Rattle.ix_model.specs.declared.config.FsSpec.{FsSpec}
+use Rattle.ix_model.specs.opening.Valid.{is_valid}
 use Rattle.ix_model.specs.declared.config.Limits.{Limits}
 use Rattle.ix_model.specs.declared.config.ObjSpec.{ObjSpec}
 use Rattle.ix_text.specs.Bytes.{is_empty}
-use Rattle.ix_script.specs.lines.Before.{form_by, form_told, fs_told, limits_after, what_told, proc_name_told, object_told, objects_of, proc_names, is_policy, group, is_phase, lane_after, phase_lanes_after, lanes_after, new_fds, new_procs, fds_given, procs_given, in_lane, in_body, lane_now, phase_lanes, lanes_of, is_command, commands}
+use Rattle.ix_script.specs.lines.Before.{form_told, fs_told, limits_after, what_told, proc_name_told, object_told, is_policy, group, is_phase, lane_after, phase_lanes_after, lanes_after, new_fds, new_procs, fds_given, procs_given, in_lane, is_command, commands}
 use Rattle.ix_script.specs.lines.Roles.{role_of}
-use Rattle.ix_script.specs.lines.Rules.{first_of, is_above, misfits, crowds, is_out_of_order, is_one_too_many, lacks_policy}
 use Rattle.ix_script.specs.lines.Faults.{said_fault}
 use Rattle.ix_script.specs.reader.Indexed.{AreIndexed, AreNames, AreSites}
-use Rattle.ix_script.specs.reader.Told.{HeaderTold, BodyTold, MakesMore, NamesMore, Takes, fss_after}
+use Rattle.ix_script.specs.reader.Told.{HeaderTold, BodyTold, MakesMore, NamesMore}
 use Rattle.ix_script.specs.scripts.Scripts.{config_of}
 use Rattle.ix_script.specs.declared.before.header.Header.{Header}
 use Rattle.ix_script.specs.declared.before.body.Body.{Body}

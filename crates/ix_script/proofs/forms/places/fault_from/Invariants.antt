@@ -1,4 +1,4 @@
-use Rattle.std.proofs.Common.{◌≡◌, ℕ, ◌+◌, drop, map, option_map}
+use Rattle.std.proofs.Common.{◌≡◌, ◌+◌, drop, map, option_map}
 use Rattle.ix_script.specs.lines.Kinds.{places_fault}
 use Rattle.ix_script.specs.lines.Forms.{places_from}
 use Rattle.ix_script.specs.reader.Placing.{kind_in}

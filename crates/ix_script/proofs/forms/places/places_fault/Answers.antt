@@ -1,8 +1,8 @@
-use Rattle.std.proofs.Common.{◌≡◌, ℕ, List, ◌+◌, ◌++◌, length, map, nat_le, false, sym, ap, ◌∙◌, subst, arith}
+use Rattle.std.proofs.Common.{◌≡◌, ℕ, List, ◌+◌, length, nat_le, false, sym, ap, ◌∙◌, subst, arith}
 use Rattle.std.proofs.lemmas.List.{length-map}
 use Rattle.std.proofs.lemmas.Bool.{lt-leb}
 use Rattle.ix_label.specs.declared.form.Form.TheVariants.{One}
-use Rattle.ix_script.specs.lines.Forms.{arity, kinds, own_places, places_from, tail_of, tail_places}
+use Rattle.ix_script.specs.lines.Forms.{arity, own_places, places_from, tail_of}
 use Rattle.ix_script.specs.lines.Kinds.{Kind}
 use Rattle.ix_script.specs.reader.Placing.{kind_in}
 use Rattle.ix_script.specs.reader.Readers.{IsFault}

@@ -1,9 +1,8 @@
-use Rattle.std.proofs.Common.{◌≡◌, ℕ, ◌+◌, ◌≤◌, ◌++◌, ◌∷◌, [], List, length, refl, sym, ap, ◌∙◌, subst, arith}
+use Rattle.std.proofs.Common.{◌≡◌, ℕ, ◌+◌, ◌++◌, ◌∷◌, [], List, length, refl, sym, ap, ◌∙◌, arith}
 use Rattle.ix_label.specs.declared.form.Form.{Form}
 use Rattle.ix_script.specs.lines.Before.{form_told}
 use Rattle.ix_script.specs.lines.Roles.{role_of}
-use Rattle.ix_script.specs.scripts.Need.{cost_of_line}
-use Rattle.ix_script.specs.scripts.Packed.{IsLine, held, line_in}
+use Rattle.ix_script.specs.scripts.Packed.{held, line_in}
 use Rattle.ix_script.specs.declared.line.Line.{Line}
 use Rattle.ix_script.proofs.reader.Packing.{lines_after, held_after, length-held}
 use Rattle.ix_script.proofs.reader.Summing.{costs_little, need_little, summed_after}

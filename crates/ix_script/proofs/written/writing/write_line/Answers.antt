@@ -1,7 +1,5 @@
-use Rattle.std.proofs.Common.{◌≡◌, sym, ap, ◌∙◌, false}
+use Rattle.std.proofs.Common.{sym, ◌∙◌}
 use Rattle.std.proofs.lemmas.List.{append-nil}
-use Rattle.ix_script.specs.texts.Cutting.{is_skipped}
-use Rattle.ix_script.specs.scripts.Canonical.{has_one_spelling}
 use Rattle.ix_script.specs.scripts.Packed.{line_in}
 use Rattle.ix_script.proofs.back.Respelling.{skipped_text, no_policy, no_version_there}
 use Rattle.ix_script.proofs.back.TextBack.{one_text}

@@ -1,6 +1,5 @@
-use Rattle.std.proofs.Common.{◌≡◌, ℕ, List, Some, ◌++◌, ◌-◌, length, take, refl, sym, ap, ◌∙◌, subst, append_assoc, arith}
+use Rattle.std.proofs.Common.{◌≡◌, ℕ, List, Some, ◌++◌, ◌-◌, length, take, refl, sym, ◌∙◌, subst, append_assoc, arith}
 use Rattle.std.specs.Result.{OnOk}
-use Rattle.std.proofs.lemmas.Bool.{eqb-true}
 use Rattle.std.proofs.lemmas.Option.{same_Some}
 use Rattle.ix_script.specs.texts.Cutting.{words_of, word_at}
 use Rattle.ix_script.specs.texts.Spellings.{payload_text}
@@ -9,7 +8,7 @@ use Rattle.ix_script.specs.scripts.Canonical.{line_text}
 use Rattle.ix_script.specs.scripts.Packed.{line_in}
 use Rattle.ix_script.specs.reader.Placing.{payload_place}
 use Rattle.ix_script.proofs.reader.Packing.{said_words}
-use Rattle.ix_script.proofs.back.Respelling.{HasPayload, own_words, payload_words}
+use Rattle.ix_script.proofs.back.Respelling.{own_words, payload_words}
 use Rattle.ix_script.proofs.written.writing.write_words.Goals as goal
 
 pub unwrap-requires : goal.unwrap-requires

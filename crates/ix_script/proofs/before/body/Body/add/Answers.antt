@@ -1,4 +1,4 @@
-use Rattle.std.proofs.Common.{◌≡◌, [], ◌∷◌, ℕ, ◌+◌, ◌++◌, ◌||◌, cond, List, Option, option_map, Some, sym, ap, ◌∙◌, refl}
+use Rattle.std.proofs.Common.{[], ◌∷◌, ℕ, ◌++◌, List, Option, option_map, Some, sym, ap, ◌∙◌, refl}
 use Rattle.ix_script.specs.lines.Before.{is_command, in_lane, new_fds, new_procs}
 use Rattle.ix_script.proofs.reader.Commands.{still, on_ok, one_counted, or_true, or_false, body_next, no_more}
 use Rattle.ix_script.proofs.before.body.Body.add.Goals as goal

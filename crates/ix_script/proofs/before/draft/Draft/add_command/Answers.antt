@@ -1,10 +1,8 @@
 use Rattle.std.proofs.Common.{◌≡◌, List, [], ◌∷◌, ◌++◌, None, refl, sym, ap, ◌∙◌, arith}
 use Rattle.ix_script.specs.lines.Before.{form_told}
 use Rattle.ix_script.specs.lines.Faults.{said_fault, line_fault}
-use Rattle.ix_script.specs.lines.Roles.{role_of}
 use Rattle.ix_script.specs.lines.Said.{line_of}
-use Rattle.ix_script.specs.scripts.Need.{cost_of_line}
-use Rattle.ix_script.specs.scripts.Packed.{IsLine, line_in}
+use Rattle.ix_script.specs.scripts.Packed.{line_in}
 use Rattle.ix_script.specs.reader.Readers.{LineRight}
 use Rattle.ix_script.specs.declared.line.Line.{Line}
 use Rattle.ix_script.proofs.reader.Commands.{too_many, few_enough, later_form, header_quiet, body_quiet}

@@ -1,4 +1,3 @@
-use Rattle.std.proofs.Common.{◌≡◌, ◌∙◌}
 use Rattle.ix_script.specs.lines.Before.{form_told}
 use Rattle.ix_script.specs.lines.Faults.{line_fault}
 use Rattle.ix_script.specs.lines.Said.{line_of}

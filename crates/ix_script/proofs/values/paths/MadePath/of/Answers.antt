@@ -1,4 +1,4 @@
-use Rattle.std.proofs.Common.{◌∙◌, sym}
+use Rattle.std.proofs.Common.{◌∙◌}
 use Rattle.ix_script.proofs.back.OneSpelling.{made_again, made_from}
 use Rattle.ix_script.proofs.values.paths.MadePath.of.Goals as goal
 
