@@ -3,11 +3,12 @@ ghost use Rattle.std.specs.Option.{option_map_or};
 ghost use Rattle.ix_script.specs.texts.Cutting.{pieces, words_of, word_at, is_closed, is_open};
 ghost use Rattle.ix_text.specs.Bytes.{is_empty};
 ghost use Rattle.ix_script.specs.lines.Rules.{has_empty_word, has_open_quote};
-ghost use Rattle.ix_script.specs.reader.Cut.{AreWords};
+ghost use Rattle.ix_script.specs.reader.Cut.{AreWords, gap_from};
 ghost use Rattle.ix_script.specs.declared.cutting.spot.Spot.TheVariants as spot;
 
 use crate::cutting::spot::Spot;
 use ix_text::begins;
+use memchr::memchr;
 use std::marker::Model;
 
 /// How many words a line has, and whether one is empty or has an open quote.
@@ -29,7 +30,7 @@ pub(crate) struct Words<'a> {
 impl<'a> Model for Words<'a> {
     ghost use Rattle.std.specs.Prelude.{List, ℕ, map};
     ghost use Rattle.ix_script.specs.texts.Cutting.{words_of};
-    ghost use Rattle.ix_script.specs.reader.Cut.{AreWords};
+    ghost use Rattle.ix_script.specs.reader.Cut.{AreWords, gap_from};
 
     ghost Value = { List (List ℕ) };
 
@@ -38,17 +39,30 @@ impl<'a> Model for Words<'a> {
     ghost invariant = { λ w. AreWords (words_of w.text.now) (map (λ s. s.now) w.first) w.seen.count w.seen.has_empty w.seen.has_open };
 }
 
-/// The place of the space that ends the first word, where no quotes begin it.
+/// The place of the first space in a text of any length, many bytes at a time.
+fn far_space(text: &[u8]) -> Option<usize>
+    ensures place { result ≡ gap_from spot.Plain text.now }
+    ensures within { IfSome result (λ k. k + 1 ≤ length text.now) }
+{
+    memchr(b' ', text)
+}
+
+/// The place of the space that ends the first word, where no quotes begin it. Most words are short: a search for many bytes at a
+/// time costs more than they do.
 fn end_of_plain(text: &[u8]) -> Option<usize>
     ensures pieces { pieces spot.Plain text.now ≡ option_map_or (λ k. take k text.now ∷ pieces spot.Front (drop (k + 1) text.now)) result (text.now ∷ []) }
     ensures within { IfSome result (λ k. k + 1 ≤ length text.now) }
 {
-    'bytes: for (i, b) in text.iter().enumerate() {
-        if *b == b' ' {
+    let near = text.len().min(16);
+    'bytes: for i in 0..near {
+        if text[i] == b' ' {
             return Some(i);
         }
     }
-    None
+    match far_space(&text[near..]) {
+        Some(far) => Some(near + far),
+        None => None,
+    }
 }
 
 /// The place of the space that ends the first word, where quotes may begin it.
