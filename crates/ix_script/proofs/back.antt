@@ -8,3 +8,4 @@ mod LineBack
 mod FormBack
 pub mod TextBack
 pub mod ScriptBack
+pub mod Respelling

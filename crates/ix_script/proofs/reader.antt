@@ -15,3 +15,4 @@ pub mod Packing
 pub mod Walking
 pub mod Summing
 pub mod Fitted
+pub mod Commands

@@ -1,5 +1,5 @@
 pub mod Readers
-pub mod Least
+pub mod Placing
 pub mod Told
 pub mod Indexed
 pub mod Cut

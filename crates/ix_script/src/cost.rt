@@ -6,7 +6,7 @@ use crate::before::body::is_command;
 use crate::line::Line;
 
 /// What an entry costs besides its words.
-const ENTRY: u64 = 128;
+pub(crate) const ENTRY: u64 = 128;
 
 /// What a `priv` line costs: five entries and 16 bytes.
 const PRIV: u64 = 656;

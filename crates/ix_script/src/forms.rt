@@ -1,8 +1,5 @@
 //! What a line says, by its form.
 
-pub mod both;
-pub mod file_lines;
-pub mod group_lines;
-pub mod header_lines;
+pub mod kind;
 pub mod line_by_form;
-pub mod process_lines;
+pub mod places;

@@ -30,5 +30,4 @@ pub use values::labels::LabelWord;
 pub use values::paths::{MadePath, PathWord};
 pub use values::payload::Payload;
 pub use values::policy::PolicyText;
-pub use values::spelling::PayloadBytes;
 pub use written::writing::write;

@@ -1,22 +1,21 @@
 ghost use Rattle.std.specs.Prelude.{◌≡◌, ◌++◌, ◌∷◌, ◌+◌, ◌<◌, ◌≤◌, ◌^◌, [], Some, None, false, length, slice_get, OnOk, IfOk, IfSome, MatchOption};
-ghost use Rattle.ix_script.specs.scripts.Canonical.{has_one_spelling, line_text, may_be_respelled};
+ghost use Rattle.ix_script.specs.scripts.Canonical.{has_one_spelling};
 ghost use Rattle.ix_script.specs.lines.Forms.{form_of, places};
 ghost use Rattle.ix_script.specs.lines.Kinds.{places_fault};
 ghost use Rattle.ix_script.specs.lines.Before.{form_told};
-ghost use Rattle.ix_script.specs.lines.Said.{line_of, said_by_words};
+ghost use Rattle.ix_script.specs.lines.Said.{line_of};
 ghost use Rattle.std.proofs.Common.{option_map};
 ghost use Rattle.ix_script.specs.lines.Roles.{header_only, role_of};
-ghost use Rattle.ix_script.specs.scripts.Need.{need};
-ghost use Rattle.ix_script.specs.scripts.Packed.{IsLine, IsSaid, begin_at, between, line_in};
+ghost use Rattle.ix_script.specs.scripts.Need.{cost_of_line, need};
+ghost use Rattle.ix_script.specs.scripts.Packed.{IsLine, begin_at, between, line_in};
 
 use crate::before::header::form_by;
-use crate::cost::cost_of_line;
 use crate::cutting::cut::Words;
 use crate::cutting::first_word::form_of;
 use crate::cutting::words::begins_with_text;
 use crate::forms::line_by_form::line_by_form;
 use crate::line::Line;
-use crate::role::{Role, role_of};
+use crate::role::Role;
 use crate::rules::{is_policy_line, is_skipped, version_of};
 use crate::values::policy::PolicyText;
 use ix_label::Form as LabelForm;
@@ -58,21 +57,7 @@ impl Model for Lines {
         × (l.form ≡ form_told (held l.form 0 l.text.items l.ends.items)) };
 }
 
-/// What the words of a line say that breaks no rule.
-fn said_by_words<'a>(labels: LabelForm, words: &Words<'a>) -> Line<'a>
-    requires { IsSaid labels words.now }
-    ensures { said_by_words labels words.now ≡ Some result }
-{
-    let Some(form) = form_of(words.get(0)) else {
-        unreachable!();
-    };
-    match line_by_form(labels, form, words) {
-        Ok(line) => line,
-        Err(_) => unreachable!(),
-    }
-}
-
-/// What a text says that breaks no rule.
+/// What a text says that breaks no rule. Each way out returns, as in `line_by_form`.
 #[tactic(auto, unfolding(crate::specs::lines::Said::line_of))]
 fn said(labels: LabelForm, text: &[u8]) -> Line<'_>
     requires { IsLine labels text.now }
@@ -86,34 +71,47 @@ fn said(labels: LabelForm, text: &[u8]) -> Line<'_>
             text: PolicyText::of_line(text),
         };
     }
-    match version_of(text) {
-        Some(form) => Line::Version { form },
-        None => {
-            let mut words = Words::none();
-            words.cut(text);
-            said_by_words(labels, &words)
-        }
+    if let Some(form) = version_of(text) {
+        return Line::Version { form };
     }
+    let mut words = Words::none();
+    words.cut(text);
+    let form = form_of(words.get(0)).unwrap();
+    line_by_form(labels, form, &words)
 }
 
 /// Whether a line of that text has no other spelling: only a skipped line and one with a payload may have one.
 #[tactic(auto, unfolding(crate::specs::scripts::Canonical::has_one_spelling))]
-fn has_one_spelling(text: &[u8]) -> bool
+pub(crate) fn has_one_spelling(text: &[u8]) -> bool
     ensures { result ≡ has_one_spelling text.now }
 {
     !is_skipped(text) && !begins_with_text(b"write", text) && !begins_with_text(b"file", text)
+}
+
+/// How many line feeds there are in a few bytes. A small sum: so many of them are looked at at once.
+fn feeds_in_few(bytes: &[u8]) -> u8
+    requires { length bytes.now ≤ 255 }
+    ensures { result ≤ length bytes.now }
+{
+    let mut feeds = 0;
+    for b in bytes {
+        feeds += u8::from(*b == b'\n');
+    }
+    feeds
 }
 
 /// How many line feeds there are.
 fn feeds_in(bytes: &[u8]) -> usize
     ensures { result ≤ length bytes.now }
 {
-    // A plain sum: so many bytes are looked at at once.
     let mut feeds = 0;
-    for b in bytes {
-        feeds += usize::from(*b == b'\n');
+    let mut rest = bytes;
+    'parts: while rest.len() > 255 {
+        let (part, more) = rest.split_at(255);
+        feeds += usize::from(feeds_in_few(part));
+        rest = more;
     }
-    feeds
+    feeds + usize::from(feeds_in_few(rest))
 }
 
 /// Where the text of a line begins.
@@ -174,7 +172,7 @@ impl Lines {
     }
 
     /// The same with a line more at the end.
-    fn form_with(&self, line: &Line<'_>) -> LabelForm
+    pub fn form_with(&self, line: &Line<'_>) -> LabelForm
         ensures { result ≡ form_told (self.now ++ line.now ∷ []) }
     {
         if self.len() == 0 {
@@ -190,7 +188,7 @@ impl Lines {
     }
 
     /// The text of the line at an index from 0; `None` exactly past the end.
-    fn text_at(&self, i: usize) -> Option<&[u8]>
+    pub fn text_at(&self, i: usize) -> Option<&[u8]>
         ensures { MatchOption result (slice_get self.now i ≡ None) (λ text. IsLine (form_told self.now) text.now × (slice_get self.now i ≡ Some (line_in (form_told self.now) text.now))) }
     {
         let ends = self.ends.as_slice();
@@ -207,28 +205,6 @@ impl Lines {
     {
         let text = self.text_at(i)?;
         Some(said(self.form, text))
-    }
-
-    /// The canonical text of the line at an index from 0, where it is the text that was read. The line isn't made for it.
-    pub fn canonical_text(&self, i: usize) -> Option<&[u8]>
-        ensures { IfSome result (λ text. option_map (line_text (form_told self.now)) (slice_get self.now i) ≡ Some text.now) }
-    {
-        let text = self.text_at(i)?;
-        if has_one_spelling(text) {
-            Some(text)
-        } else {
-            None
-        }
-    }
-
-    /// The line at an index from 0, and the text that was read; `None` exactly past the end. That text is the canonical one, but
-    /// for skipped lines and those with a payload.
-    pub fn text_and_line(&self, i: usize) -> Option<(&[u8], Line<'_>)>
-        ensures line { option_map (λ p. p.1) result ≡ slice_get self.now i }
-        ensures text { IfSome result (λ p. may_be_respelled p.1 ≡ false → line_text (form_told self.now) p.1 ≡ p.0.now) }
-    {
-        let text = self.text_at(i)?;
-        Some((text, said(self.form, text)))
     }
 
     /// What the line at an index from 0 is for; `None` exactly past the end. The line isn't made for it.
@@ -255,21 +231,29 @@ impl Lines {
         self.need
     }
 
-    /// One line more, which the text says. After `NoMemory` the lines are as they were.
-    pub fn push(&mut self, text: &[u8], line: &Line<'_>) -> Result<(), NoMemory>
-        requires faultless { IsLine (form_told (self.old ++ line.now ∷ [])) text.now }
-        requires said { line_in (form_told (self.old ++ line.now ∷ [])) text.now ≡ line.now }
+    /// One line more, which the text says in that form; it is for that, and costs so much. After `NoMemory` the lines are as they
+    /// were.
+    pub fn push(
+        &mut self,
+        form: LabelForm,
+        text: &[u8],
+        role: Role,
+        cost: u64,
+    ) -> Result<(), NoMemory>
+        requires faultless { IsLine form text.now }
+        requires form { form_told (self.old ++ line_in form text.now ∷ []) ≡ form }
+        requires role { role_of (line_in form text.now) ≡ role }
+        requires cost { cost_of_line (line_in form text.now) ≡ cost }
         requires few { length self.old + 1 < 2 ^ 32 }
-        ensures { OnOk result (self.new ≡ self.old ++ line.now ∷ []) }
+        ensures { OnOk result (self.new ≡ self.old ++ line_in form text.now ∷ []) }
     {
-        let form = self.form_with(line);
         let Ok(end) = u32::try_from(self.text.as_slice().len() + text.len()) else {
             return Err(NoMemory);
         };
         let Ok(()) = self.ends.push(end) else {
             return Err(NoMemory);
         };
-        let Ok(()) = self.roles.push(role_of(line)) else {
+        let Ok(()) = self.roles.push(role) else {
             self.ends.pop();
             return Err(NoMemory);
         };
@@ -278,7 +262,7 @@ impl Lines {
             self.ends.pop();
             return Err(NoMemory);
         };
-        self.need += cost_of_line(line);
+        self.need += cost;
         self.form = form;
         Ok(())
     }

@@ -1,14 +1,15 @@
-ghost use Rattle.std.specs.Prelude.{◌≡◌, ◌<◌, ◌≤◌, ◌+◌, ◌^◌, ◌∷◌, [], true, None, Some, length, IfOk, IfErr, OnOk};
-ghost use Rattle.std.proofs.Common.{option_map};
+ghost use Rattle.std.specs.Prelude.{◌≡◌, ◌<◌, ◌≤◌, ◌∷◌, [], true, None, Some, length, IfOk, IfErr};
+ghost use Rattle.std.specs.List.{list_all};
 ghost use Rattle.ix_model.specs.opening.Valid.{is_valid};
 ghost use Rattle.ix_script.specs.lines.Before.{commands};
-ghost use Rattle.ix_script.specs.lines.Faults.{fault_from, fault_of, line_fault};
+ghost use Rattle.ix_script.specs.lines.Faults.{fault_from, fault_of};
 ghost use Rattle.ix_script.specs.texts.Lines.{cut, lines_of};
-ghost use Rattle.ix_script.specs.reader.Readers.{HasCause, LineMore};
+ghost use Rattle.ix_script.specs.reader.Readers.{HasCause, in_printable_lines};
 ghost use Rattle.ix_script.specs.scripts.Scripts.{form_in, lines_said, script_of, config_of};
 ghost use Rattle.ix_script.specs.reader.Told.{DraftTold};
 
 use crate::before::draft::Draft;
+use crate::cutting::cut::Words;
 use crate::fail::{ReadFail, ScriptFault};
 use crate::rule::Rule;
 use crate::script::Script;
@@ -30,28 +31,16 @@ fn first_line(bytes: &[u8]) -> (&[u8], &[u8])
     }
 }
 
-/// One line more in a draft, which the text says; else its fault. After an error the draft isn't used.
-fn add_line<'a, L: Ledger>(
-    alloc: Global,
-    draft: &mut Draft<'a>,
-    text: &'a [u8],
-    steps: &mut Steps<L>,
-) -> Result<(), ReadFail>
-    requires told { DraftTold draft.old }
-    requires valid { is_valid (config_of draft.old.lines) ≡ true }
-    requires few { length draft.old.lines + 1 < 2 ^ 32 }
-    ensures told { OnOk result (DraftTold draft.new) }
-    ensures line { OnOk result (LineMore draft.old.lines draft.new.lines text.now) }
-    ensures fail { IfErr result (λ e. HasCause e (option_map (λ rule. (length draft.old.lines + 1, rule)) (line_fault draft.old.lines text.now))) }
+/// Whether each byte is printable or a line feed.
+fn all_printable_lines(bytes: &[u8]) -> bool
+    ensures { result ≡ list_all in_printable_lines bytes.now }
 {
-    let line = draft.lines.len() as u32 + 1;
-    match draft.next_line(text, steps) {
-        Ok(said) => {
-            draft.add(alloc, text, &said)?;
-            Ok(())
-        }
-        Err(rule) => Err(ReadFail::Fault(ScriptFault { line, rule: rule.0 })),
+    // No early end: so many bytes are looked at at once.
+    let mut all = true;
+    for b in bytes {
+        all &= *b >= 32 && *b <= 126 || *b == b'\n';
     }
+    all
 }
 
 fn draft_of<'a, L: Ledger>(
@@ -69,11 +58,13 @@ fn draft_of<'a, L: Ledger>(
     ensures few_commands { IfOk result (λ d. commands d.lines ≤ 200000) }
     ensures fail { IfErr result (λ e. HasCause e (fault_from [] (lines_of bytes.now))) }
 {
+    let printable = all_printable_lines(bytes);
     let mut draft = Draft::new(alloc, bytes)?;
+    let mut words = Words::none();
     let mut rest = bytes;
     'lines: while !rest.is_empty() {
         let (text, more) = first_line(rest);
-        add_line(alloc, &mut draft, text, steps)?;
+        draft.add_line(alloc, printable, text, &mut words, steps)?;
         rest = more;
     }
     Ok(draft)

@@ -1,5 +1,5 @@
 ghost use Rattle.std.specs.Prelude.{◌≡◌};
-ghost use Rattle.ix_script.specs.lines.RuleTexts.{first_rule_text, last_rule_text, rule_text, word_rule_text};
+ghost use Rattle.ix_script.specs.lines.RuleTexts.{rule_text};
 
 /// A rule of scripts, by its number. Of the rules that a line breaks the least is told.
 #[derive(Clone, Copy)]
@@ -62,10 +62,10 @@ impl Rule {
     pub const NO_POLICY: Rule = Rule(28);
 }
 
-/// What is said to the rules on the words of a line, and those before them.
-#[tactic(auto, unfolding(crate::specs::lines::RuleTexts::first_rule_text))]
-fn first_rule_text(rule: u8) -> &'static [u8]
-    ensures { result.now ≡ first_rule_text rule }
+/// What is said to a script that breaks a rule, by the rule's number; rule 0 is that a form isn't built yet.
+#[tactic(auto, unfolding(crate::specs::lines::RuleTexts::rule_text, crate::specs::lines::RuleTexts::first_rule_text, crate::specs::lines::RuleTexts::word_rule_text, crate::specs::lines::RuleTexts::last_rule_text))]
+pub fn rule_text(rule: u8) -> &'static [u8]
+    ensures { result.now ≡ rule_text rule }
 {
     match rule {
         0 => b"the form is not built yet",
@@ -77,16 +77,7 @@ fn first_rule_text(rule: u8) -> &'static [u8]
         6 => b"the first line is not ix 1 or ix 2",
         7 => b"the command is unknown",
         8 => b"a header line stands after a phase",
-        _ => b"a line stands outside a lane",
-    }
-}
-
-/// What is said to the rules that a word can break.
-#[tactic(auto, unfolding(crate::specs::lines::RuleTexts::word_rule_text))]
-fn word_rule_text(rule: u8) -> &'static [u8]
-    ensures { result.now ≡ word_rule_text rule }
-{
-    match rule {
+        9 => b"a line stands outside a lane",
         10 => b"the number of words is wrong",
         11 => b"a name is not well formed",
         12 => b"a number is not well formed",
@@ -96,16 +87,7 @@ fn word_rule_text(rule: u8) -> &'static [u8]
         16 => b"a path is not well formed",
         17 => b"a mode or state is unknown",
         18 => b"a payload is not well formed",
-        _ => b"a payload is too long",
-    }
-}
-
-/// What is said to the rules on a line among others.
-#[tactic(auto, unfolding(crate::specs::lines::RuleTexts::last_rule_text))]
-fn last_rule_text(rule: u8) -> &'static [u8]
-    ensures { result.now ≡ last_rule_text rule }
-{
-    match rule {
+        19 => b"a payload is too long",
         20 => b"a name is given twice",
         21 => b"a name is unknown",
         22 => b"a label is not below its ceiling",
@@ -115,19 +97,5 @@ fn last_rule_text(rule: u8) -> &'static [u8]
         26 => b"there are too many",
         27 => b"the policy is refused",
         _ => b"there is no policy",
-    }
-}
-
-/// What is said to a script that breaks a rule, by the rule's number; rule 0 is that a form isn't built yet.
-#[tactic(auto, unfolding(crate::specs::lines::RuleTexts::rule_text))]
-pub fn rule_text(rule: u8) -> &'static [u8]
-    ensures { result.now ≡ rule_text rule }
-{
-    if rule < 10 {
-        first_rule_text(rule)
-    } else if rule < 20 {
-        word_rule_text(rule)
-    } else {
-        last_rule_text(rule)
     }
 }

@@ -1,9 +1,9 @@
-ghost use Rattle.std.specs.Prelude.{◌≡◌, Some, None, [], if◌then◌else◌};
+ghost use Rattle.std.specs.Prelude.{◌≡◌, Some, None, [], true, if◌then◌else◌, IsTrue};
 ghost use Rattle.std.specs.List.{list_all};
 ghost use Rattle.ix_model.specs.opening.Valid.{is_within};
 ghost use Rattle.ix_script.specs.texts.Cutting.{words_of, is_skipped, is_policy_line, policy_text};
 ghost use Rattle.ix_script.specs.lines.Faults.{text_fault, words_fault, stand_fault, names_fault, said_fault, form_fault, command_fault, policy_fault, first_line_fault, body_fault, line_fault};
-ghost use Rattle.ix_script.specs.reader.Readers.{Finds, Tells};
+ghost use Rattle.ix_script.specs.reader.Readers.{Finds, Tells, TellsForm, is_whole};
 ghost use Rattle.ix_script.specs.lines.Before.{form_told};
 ghost use Rattle.ix_script.specs.lines.Said.{said, said_by_words, version_of, line_of};
 ghost use Rattle.ix_label.specs.declared.form.Form.TheVariants.{One};
@@ -15,7 +15,7 @@ use crate::cutting::cut::Words;
 use crate::cutting::first_word::form_of;
 use crate::cutting::form::Form;
 use crate::cutting::words::begins_with_text;
-use crate::forms::line_by_form::line_by_form;
+use crate::forms::places::places_fault;
 use crate::line::Line;
 use crate::rule::Rule;
 use crate::values::policy::PolicyText;
@@ -34,15 +34,16 @@ fn all_printable(text: &[u8]) -> bool
     all
 }
 
-/// Rules 2 and 3.
+/// Rules 2 and 3. Of a line that is known to be printable no byte is looked at.
 #[tactic(auto, unfolding(crate::specs::lines::Faults::text_fault, crate::specs::lines::Rules::is_too_long, crate::specs::lines::Rules::is_unprintable))]
-fn check_text(text: &[u8]) -> Result<(), Rule>
+pub(crate) fn check_text(printable: bool, text: &[u8]) -> Result<(), Rule>
+    requires { IsTrue printable → list_all (is_within 32 126) text.now ≡ true }
     ensures { Finds result (text_fault text.now) }
 {
     if text.len() > 65_536 {
         return Err(Rule::LONG_LINE);
     }
-    if !all_printable(text) {
+    if !printable && !all_printable(text) {
         return Err(Rule::UNPRINTABLE);
     }
     Ok(())
@@ -150,9 +151,27 @@ impl<'a> Draft<'a> {
         Ok(())
     }
 
+    /// The form of a line that is cut into words, by rules 4 to 21.
+    #[tactic(auto, unfolding(crate::specs::lines::Faults::command_fault, crate::specs::lines::Faults::form_fault))]
+    pub fn form_by_words(&self, words: &Words<'a>) -> Result<Form, Rule>
+        requires told { DraftTold self.now }
+        ensures { TellsForm self.now.lines result words.now }
+    {
+        check_words(words)?;
+        let Some(form) = form_of(words.get(0)) else {
+            return Err(Rule::UNKNOWN_COMMAND);
+        };
+        self.check_stand(form, words)?;
+        if let Some(rule) = places_fault(self.lines.form(), form, words) {
+            return Err(rule);
+        }
+        self.check_names(form, words)?;
+        Ok(form)
+    }
+
     /// Rules 22 to 26, and 28.
     #[tactic(auto, unfolding(crate::specs::lines::Faults::said_fault))]
-    fn check_said<L: Ledger>(&self, line: &Line<'a>, steps: &mut Steps<L>) -> Result<(), Rule>
+    pub fn check_said<L: Ledger>(&self, line: &Line<'a>, steps: &mut Steps<L>) -> Result<(), Rule>
         requires told { DraftTold self.now }
         ensures { Finds result (said_fault self.now.lines line.now) }
     {
@@ -177,43 +196,6 @@ impl<'a> Draft<'a> {
         Ok(())
     }
 
-    /// A line of a form: the rules from 8 on.
-    #[tactic(auto, unfolding(crate::specs::lines::Faults::form_fault))]
-    fn form_line<L: Ledger>(
-        &self,
-        form: Form,
-        words: &Words<'a>,
-        steps: &mut Steps<L>,
-    ) -> Result<Line<'a>, Rule>
-        requires told { DraftTold self.now }
-        ensures { Tells self.now.lines result (form_fault self.now.lines form words.now) (said (form_told self.now.lines) form words.now) }
-    {
-        self.check_stand(form, words)?;
-        let said = line_by_form(self.lines.form(), form, words);
-        if let Ok(line) = &said {
-            self.check_names(form, words)?;
-            self.check_said(line, steps)?;
-        }
-        said
-    }
-
-    /// A line that is cut into words: the rules from 4 on.
-    #[tactic(auto, unfolding(crate::specs::lines::Faults::command_fault))]
-    fn command_line<L: Ledger>(
-        &self,
-        words: &Words<'a>,
-        steps: &mut Steps<L>,
-    ) -> Result<Line<'a>, Rule>
-        requires told { DraftTold self.now }
-        ensures { Tells self.now.lines result (command_fault self.now.lines words.now) (said_by_words (form_told self.now.lines) words.now) }
-    {
-        check_words(words)?;
-        match form_of(words.get(0)) {
-            Some(form) => self.form_line(form, words, steps),
-            None => Err(Rule::UNKNOWN_COMMAND),
-        }
-    }
-
     /// The policy: it stands in the header, has a text, and stands once.
     #[tactic(auto, unfolding(crate::specs::lines::Faults::policy_fault))]
     fn policy_line(&self, text: &'a [u8]) -> Result<Line<'a>, Rule>
@@ -234,10 +216,11 @@ impl<'a> Draft<'a> {
         })
     }
 
-    /// A line by where it stands and how it begins: the rules from 4 on.
+    /// A line that isn't cut into words: the first one, a skipped one and the policy, by the rules from 4 on.
     #[tactic(auto, unfolding(crate::specs::lines::Faults::body_fault))]
-    fn body_line<L: Ledger>(&self, text: &'a [u8], steps: &mut Steps<L>) -> Result<Line<'a>, Rule>
+    pub fn whole_line(&self, text: &'a [u8]) -> Result<Line<'a>, Rule>
         requires told { DraftTold self.now }
+        requires whole { is_whole self.now.lines text.now ≡ true }
         ensures { Tells self.now.lines result (body_fault self.now.lines text.now) (line_of (form_told self.now.lines) text.now) }
     {
         if self.lines.len() == 0 {
@@ -246,25 +229,6 @@ impl<'a> Draft<'a> {
         if is_skipped(text) {
             return Ok(Line::Skipped);
         }
-        if is_policy_line(text) {
-            return self.policy_line(text);
-        }
-        let mut words = Words::none();
-        words.cut(text);
-        self.command_line(&words, steps)
-    }
-
-    /// What the next line says; else the first rule that it breaks.
-    #[tactic(auto, unfolding(crate::specs::lines::Faults::line_fault))]
-    pub fn next_line<L: Ledger>(
-        &self,
-        text: &'a [u8],
-        steps: &mut Steps<L>,
-    ) -> Result<Line<'a>, Rule>
-        requires told { DraftTold self.now }
-        ensures { Tells self.now.lines result (line_fault self.now.lines text.now) (line_of (form_told self.now.lines) text.now) }
-    {
-        check_text(text)?;
-        self.body_line(text, steps)
+        self.policy_line(text)
     }
 }

@@ -10,5 +10,4 @@ pub mod payload;
 pub mod payload_form;
 pub mod places;
 pub mod policy;
-pub mod privs;
 pub mod spelling;

@@ -39,7 +39,7 @@ unfolding line_fault
 printable_line before text h = (text_parts text (neither (text_fault text) (body_fault before text) h).0).1
 
 -- and so is its last word
-printable_word : (before : List Line) (text : List ℕ) (front : List (List ℕ)) (p : List ℕ) → line_fault before text ≡ None → front ++ p ∷ [] ≡ words_of text → list_all (is_within 32 126) p ≡ true
+pub printable_word : (before : List Line) (text : List ℕ) (front : List (List ℕ)) (p : List ℕ) → line_fault before text ≡ None → front ++ p ∷ [] ≡ words_of text → list_all (is_within 32 126) p ≡ true
 printable_word before text front p sound cut =
     last_printable front p (ap (list_all (is_within 32 126)) (ap (joined 32) cut ∙ words_joined text) ∙ printable_line before text sound)
 

@@ -1,5 +1,5 @@
 -- A word that is read has one spelling: that of what was read.
-use Rattle.std.proofs.Common.{◌≡◌, ℕ, ◌+◌, ◌^◌, ◌<◌, ◌≤◌, Bool, true, false, not, ◌&&◌, ◌||◌, ◌==◌, nat_le, cond, List, [], ◌∷◌, ◌++◌, length, get_or, map, drop, Option, Some, None, inl, inr, refl, sym, ap, ◌∙◌, option_map, subst, arith}
+use Rattle.std.proofs.Common.{◌≡◌, ℕ, ◌+◌, ◌^◌, ◌<◌, ◌≤◌, Bool, true, false, not, ◌&&◌, ◌||◌, ◌==◌, nat_le, cond, List, [], ◌∷◌, ◌++◌, length, get_or, map, drop, Option, Some, None, inl, inr, refl, sym, ap, ◌∙◌, option_map, IsSome, subst, arith}
 use Rattle.std.specs.Prelude.{codes}
 use Rattle.std.specs.List.{list_all, flat_map}
 use Rattle.std.specs.Fmt.{decimal}
@@ -191,6 +191,15 @@ made_path_spelled word path h = elim (either (begins 47 word && not (is_empty (d
 -- its text spells an absolute path with a name again
 pub made_again : (word : List ℕ) (path : PathOf) → made_path_of word ≡ Some path → made_path_of (path_text path) ≡ Some path
 made_again word path h = rw (made_path_spelled word path h) h
+
+made_where : (b : Bool) (o : Option PathOf) → IsSome (cond b o None) → IsSome o × (cond b o None ≡ o)
+made_where true o h = (h, refl)
+made_where false o h = cc
+
+-- it is the path that its word spells
+pub made_from : (word : List ℕ) → IsSome (made_path_of word) → IsSome (path_of word) × (made_path_of word ≡ path_of word)
+unfolding made_path_of
+made_from word h = made_where (begins 47 word && not (is_empty (drop 1 word))) (path_of word) h
 
 -- ---- words of a few spellings
 -- a word that is one of several: it is this one, or one of the others

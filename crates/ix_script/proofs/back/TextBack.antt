@@ -28,12 +28,12 @@ use Rattle.ix_script.proofs.back.LineBack.{Back, Respelled, itself, skipped_seve
 use Rattle.ix_script.proofs.back.FormBack.{form_spelled_again}
 
 -- ---- where a line stands
-body_sound : (before : List Line) (text : List ℕ) → line_fault before text ≡ None → body_fault before text ≡ None
+pub body_sound : (before : List Line) (text : List ℕ) → line_fault before text ≡ None → body_fault before text ≡ None
 unfolding line_fault
 body_sound before text h = (neither (text_fault text) (body_fault before text) h).1
 
 -- a line that tells no form stands later
-later_of : (before : List Line) (text : List ℕ) → version_of text ≡ None → line_fault before text ≡ None → is_empty before ≡ false
+pub later_of : (before : List Line) (text : List ℕ) → version_of text ≡ None → line_fault before text ≡ None → is_empty before ≡ false
 unfolding body_fault
 later_of [] text other h = let v = first_version text (body_sound [] text h) in absurd (none-some v.0 (sym other ∙ v.1))
 later_of (l ∷ before) text other h = refl
@@ -95,14 +95,14 @@ policy_spelled labels text h some = elim (or_cases (same_bytes text (codes "poli
 ]
 
 -- ---- a line of a form
-some_text : (text : List ℕ) → is_skipped text ≡ false → is_empty text ≡ false
+pub some_text : (text : List ℕ) → is_skipped text ≡ false → is_empty text ≡ false
 some_text text h = (or_parts (is_empty text) (begins 35 text) h).0
 
-command_sound : (before : List Line) (text : List ℕ) → is_empty before ≡ false → is_skipped text ≡ false → is_policy_line text ≡ false → body_fault before text ≡ None → command_fault before (words_of text) ≡ None
+pub command_sound : (before : List Line) (text : List ℕ) → is_empty before ≡ false → is_skipped text ≡ false → is_policy_line text ≡ false → body_fault before text ≡ None → command_fault before (words_of text) ≡ None
 unfolding body_fault
 command_sound before text later seen other h = rw (later, seen, other) at h
 
-command_parts : (before : List Line) (words : List (List ℕ)) (f : Form) → form_of (word_at words 0) ≡ Some f → command_fault before words ≡ None → (words_fault words ≡ None) × (form_fault before f words ≡ None)
+pub command_parts : (before : List Line) (words : List (List ℕ)) (f : Form) → form_of (word_at words 0) ≡ Some f → command_fault before words ≡ None → (words_fault words ≡ None) × (form_fault before f words ≡ None)
 unfolding command_fault
 command_parts before words f h sound =
     let k = neither (words_fault words) (option_map_or (λ g. form_fault before g words) (form_of (word_at words 0)) (Some 7)) sound in

@@ -1,18 +1,20 @@
 -- Which rules look at a line, by where it stands and how it begins.
-use Rattle.std.proofs.Common.{◌≡◌, ◌≢◌, ℕ, zero, suc, ◌<◌, true, false, true≢false, cond, List, [], ◌∷◌, length, drop, Option, Some, None, Result, Ok, Err, codes, refl, sym, ap, ◌∙◌, subst, arith, inl, inr}
+use Rattle.std.proofs.Common.{◌≡◌, ◌≢◌, ℕ, zero, suc, ◌<◌, ◌==◌, true, false, true≢false, cond, List, [], ◌∷◌, length, drop, Option, Some, None, Result, codes, refl, sym, ap, ◌∙◌, subst, arith, inl, inr}
 use Rattle.std.specs.Cmp.Lexicographic.{same_text}
 use Rattle.std.specs.Option.{is_none}
+use Rattle.std.proofs.lemmas.Bool.{ne_eqb}
 use Rattle.std.proofs.lemmas.Option.{same_Some, none-some}
 use Rattle.ix_label.specs.declared.form.Form.{Form}
 use Rattle.ix_label.specs.declared.form.Form.TheVariants.{One, Two}
 use Rattle.ix_model.specs.world.Naming.{same_bytes}
 use Rattle.ix_script.specs.lines.Before.{form_told, in_body, has_policy}
-use Rattle.ix_script.specs.texts.Cutting.{pieces, words_of, is_closed, is_skipped, is_policy_line, policy_text}
+use Rattle.ix_script.specs.declared.cutting.form.Form as of_words
+use Rattle.ix_script.specs.texts.Cutting.{pieces, words_of, word_at, is_closed, is_skipped, is_policy_line, policy_text}
 use Rattle.ix_text.specs.Bytes.{is_empty}
 use Rattle.ix_script.specs.lines.Forms.{plain_of, on_path_of, on_fd_of, counted_of, frame_form, group_form, file_form, process_form, form_of}
 use Rattle.ix_script.specs.lines.Rules.{first_of, has_empty_word, has_open_quote}
 use Rattle.ix_script.specs.lines.Faults.{text_fault, line_fault, words_fault, said_fault, command_fault, policy_fault, first_line_fault, body_fault}
-use Rattle.ix_script.specs.lines.Said.{said_by_words, version_of, line_of}
+use Rattle.ix_script.specs.lines.Said.{said, version_of, line_of}
 use Rattle.ix_script.specs.reader.Readers.{LineRight, Tells}
 use Rattle.ix_script.specs.declared.rule.Rule.{Rule}
 use Rattle.ix_script.specs.declared.line.Line.{Line}
@@ -37,9 +39,9 @@ pub some_lines : {A : Type 0} (lines : List A) (n : ℕ) → n ≡ length lines 
 some_lines [] n h ne = absurd (ne h)
 some_lines (l ∷ lines) n h ne = refl
 
-pub no_lines : {A : Type 0} (lines : List A) (n : ℕ) → n ≡ length lines → n ≡ 0 → lines ≡ []
-no_lines [] n h e = refl
-no_lines (l ∷ lines) n h e = let k : suc (length lines) ≡ 0 = sym h ∙ e in absurd (omega arith)
+pub none_there : {A : Type 0} (n : ℕ) (lines : List A) → n ≡ length lines → (n == 0) ≡ is_empty lines
+none_there n [] h = rw h refl
+none_there n (l ∷ lines) h = ne_eqb n 0 (λ e. let k : suc (length lines) ≡ 0 = sym h ∙ e in absurd (omega arith))
 
 more_than : (n : ℕ) (text : List ℕ) → n < length text → is_empty (drop n text) ≡ false
 more_than n [] h = absurd (omega arith)
@@ -132,13 +134,34 @@ not_ix before text h = go (version_of text) refl
         let f : command_fault before (words_of text) ≡ Some 7 = ap (λ (x : List ℕ). command_fault before (words_of x)) (version_is text form is) ∙ ix_is_unknown before form in
         absurd (none-some 7 (sym h ∙ f))
 
-command_meant : (labels : Form) (before : List Line) (text : List ℕ) (r : Result Line Rule) → is_skipped text ≡ false → is_policy_line text ≡ false
-    → Tells before r (command_fault before (words_of text)) (said_by_words labels (words_of text)) → Tells before r (command_fault before (words_of text)) (line_of labels text)
-unfolding line_of
-command_meant labels before text (Ok l) k p t = record { faultless = t.faultless; meant = rw (k, p, not_ix before text t.faultless) t.meant; fits = t.fits }
-command_meant labels before text (Err e) k p t = t
+-- ---- the fault of a line, by its text and by its words
+pub whole_fault : (before : List Line) (text : List ℕ) → text_fault text ≡ None → line_fault before text ≡ body_fault before text
+unfolding line_fault
+whole_fault before text h = rw h refl
 
-pub command_right : (before : List Line) (text : List ℕ) (r : Result Line Rule) → is_empty before ≡ false → is_skipped text ≡ false → is_policy_line text ≡ false
-    → Tells before r (command_fault before (words_of text)) (said_by_words (form_told before) (words_of text)) → Tells before r (body_fault before text) (line_of (form_told before) text)
-unfolding body_fault
-command_right before text r h k p t = told_as before r (command_fault before (words_of text)) _ (line_of (form_told before) text) (line_of (form_told before) text) (rw (h, k, p) refl) refl (command_meant (form_told before) before text r k p t)
+pub text_broken : (before : List Line) (text : List ℕ) (n : ℕ) → text_fault text ≡ Some n → line_fault before text ≡ Some n
+unfolding line_fault
+text_broken before text n h = rw h refl
+
+pub by_words : (before : List Line) (text : List ℕ) → text_fault text ≡ None → is_empty before ≡ false → is_skipped text ≡ false → is_policy_line text ≡ false → line_fault before text ≡ command_fault before (words_of text)
+unfolding line_fault body_fault
+by_words before text h some k p = rw (h, some, k, p) refl
+
+no_version_word : (form : Form) → form_of (word_at (words_of (version_text form)) 0) ≡ None
+unfolding words_of pieces is_closed form_of frame_form group_form plain_of on_path_of on_fd_of counted_of file_form process_form
+no_version_word One = refl
+no_version_word Two = refl
+
+pub no_version : (text : List ℕ) (f : of_words.Form) → form_of (word_at (words_of text) 0) ≡ Some f → version_of text ≡ None
+no_version text f h = go (version_of text) refl
+  where
+    go : (o : Option Form) → version_of text ≡ o → o ≡ None
+    go None is = refl
+    go (Some form) is = absurd (none-some f (sym (no_version_word form) ∙ ap (λ (x : List ℕ). form_of (word_at (words_of x) 0)) (sym (version_is text form is)) ∙ h))
+
+pub said_is : (labels : Form) (text : List ℕ) (f : of_words.Form) → is_skipped text ≡ false → is_policy_line text ≡ false → form_of (word_at (words_of text) 0) ≡ Some f → line_of labels text ≡ said labels f (words_of text)
+unfolding line_of
+said_is labels text f k p first = rw (k, p, no_version text f first, first) refl
+
+pub said_by_form : (labels : Form) (text : List ℕ) (f : of_words.Form) (l : Line) → is_skipped text ≡ false → is_policy_line text ≡ false → form_of (word_at (words_of text) 0) ≡ Some f → said labels f (words_of text) ≡ Some l → line_of labels text ≡ Some l
+said_by_form labels text f l k p first h = said_is labels text f k p first ∙ h

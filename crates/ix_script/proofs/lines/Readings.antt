@@ -1,10 +1,29 @@
--- Two readings together are a reading of both.
-use Rattle.std.proofs.Common.{◌≡◌, ℕ, ◌<◌, Bool, true, false, ◌||◌, cond, List, [], ◌∷◌, Option, Some, None, option_map, Result, Ok, Err, min, refl, sym, ap, ◌∙◌, subst, arith}
+-- The rules that words break by themselves, place by place.
+use Rattle.std.proofs.Common.{◌≡◌, ℕ, ◌<◌, nat_le, nat_lt, Bool, true, false, ◌||◌, ◌&&◌, not, cond, List, [], ◌∷◌, ◌++◌, length, map, drop, get_or, suc, ◌+◌, ◌≤◌, Option, Some, None, option_map, min, codes, if◌then◌else◌, inl, inr, refl, sym, ap, ◌∙◌, arith}
 use Rattle.std.specs.List.{list_any}
-use Rattle.ix_script.specs.lines.Kinds.{Kind, Place, place_rules, first_broken, places_fault}
-use Rattle.ix_script.specs.lines.Said.{both}
-use Rattle.ix_script.specs.reader.Readers.{Refuses, ReadRight, Reads}
-use Rattle.ix_script.specs.reader.Least.{joined}
+use Rattle.std.specs.Option.{IsSome, is_none, option_map_or}
+use Rattle.std.proofs.lemmas.Bool.{ltb-false, le-leb}
+use Rattle.std.proofs.lemmas.Option.{none-some}
+use Rattle.std.proofs.lemmas.List.{at_drop_more, at_drop_all}
+use Rattle.ix_label.specs.declared.form.Form as spelled
+use Rattle.ix_model.specs.opening.Valid.{is_within}
+use Rattle.ix_model.specs.world.Naming.{same_bytes}
+use Rattle.ix_text.proofs.Tests.{bool_cases}
+use Rattle.ix_text.specs.Labels.{label_in}
+use Rattle.ix_text.specs.Names.{is_script_name, name_of}
+use Rattle.ix_text.specs.Privs.{privs_of}
+use Rattle.ix_script.specs.texts.Words.{is_numeral, value, number_of, path_of, made_path_of, mode_of, state_of, what_of, fd_of, keep_of}
+use Rattle.ix_script.specs.texts.Payloads.{◌>>=◌, payload_of}
+use Rattle.ix_script.specs.lines.Kinds.{Kind, Place, bounds, is_number_of_fd, place_rules, first_broken, places_fault}
+use Rattle.ix_script.specs.lines.Kinds as kind
+use Rattle.ix_script.specs.texts.Cutting.{word_at}
+use Rattle.ix_script.specs.lines.Forms.{places_from, tail_places}
+use Rattle.ix_script.specs.reader.Placing.{kind_in, least, Stands, Stand}
+use Rattle.ix_script.specs.declared.forms.kind.Kind as made
+use Rattle.ix_script.specs.declared.forms.kind.Kind.TheVariants as has
+use Rattle.ix_script.specs.reader.Readers.{IsFault}
+use Rattle.ix_script.specs.declared.line.FdWord.TheVariants as fd
+use Rattle.ix_script.specs.declared.line.KeepWord.TheVariants as keep
 use Rattle.ix_script.specs.declared.rule.Rule.{Rule}
 
 abbrev Rules : Type 0
@@ -15,7 +34,7 @@ abbrev Rise : ℕ → Rules → Type 0
 Rise n [] = Unit {0}
 Rise n (r ∷ rules) = (n < r.0) × Rise r.0 rules
 
-abbrev lesser : Option ℕ → Option ℕ → Option ℕ
+abbrev pub lesser : Option ℕ → Option ℕ → Option ℕ
 lesser None b = b
 lesser (Some m) None = Some m
 lesser (Some m) (Some n) = Some (min m n)
@@ -65,25 +84,155 @@ pub least_fault : (p : Place) (places : List Place) → places_fault (p ∷ plac
 unfolding places_fault
 least_fault p places = least_broken 0 place_rules p places rules_rise
 
--- the reading of one place, and of those after it
-pub both_read : {X Y A B : Type 0} (v : X → A) (u : Y → B) (p : Place) (places : List Place) (a : Result X Rule) (b : Result Y Rule) (ma : Option A) (mb : Option B)
-    → Reads v a (p ∷ []) ma → Reads u b places mb → Reads (λ x. (v x.0, u x.1)) (joined a b) (p ∷ places) (both ma mb)
-both_read v u p places (Ok x) (Ok y) ma mb h k =
-    record { faultless = least_fault p places ∙ rw (h.faultless, k.faultless) refl; meant = rw (h.meant, k.meant) refl }
-both_read v u p places (Ok x) (Err n) ma mb h k = least_fault p places ∙ rw (h.faultless, k) refl
-both_read v u p places (Err m) (Ok y) ma mb h k = least_fault p places ∙ rw (h, k.faultless) refl
-both_read v u p places (Err m) (Err n) ma mb h k = least_fault p places ∙ rw (h, k) refl
+pub none_broken : places_fault [] ≡ None
+unfolding places_fault first_broken
+none_broken = refl
 
-pub both_reads : {X Y : Type 0} (p : Place) (places : List Place) (a : Result X Rule) (b : Result Y Rule) (r : Result (X × Y) Rule) (ma : Option X) (mb : Option Y)
-    → r ≡ joined a b → Reads (λ x. x) a (p ∷ []) ma → Reads (λ x. x) b places mb → Reads (λ x. x) r (p ∷ places) (both ma mb)
-both_reads p places a b r ma mb e h k = subst (λ q. Reads (λ x. x) q (p ∷ places) (both ma mb)) (sym e) (both_read (λ x. x) (λ x. x) p places a b ma mb h k)
+-- ---- places in a row
+pub lesser_none : (a : Option ℕ) → lesser a None ≡ a
+lesser_none None = refl
+lesser_none (Some m) = refl
 
--- what is made of what was read
-pub line_read : {X Y : Type 0} (f : X → Y) (r : Result X Rule) (x : X) (places : List Place) (m : Option X) → Reads (λ z. z) r places m → r ≡ Ok x → ReadRight (λ z. z) (f x) places (option_map f m)
-line_read f (Ok y) x places m h e = let same : y ≡ x = cc in record { faultless = h.faultless; meant = rw h.meant (ap (λ z. Some (f z)) same) }
-line_read f (Err y) x places m h e = cc
+pub regroup : (a b c : Option ℕ) → lesser a (lesser b c) ≡ lesser (lesser a b) c
+regroup None b c = refl
+regroup (Some m) None c = refl
+regroup (Some m) (Some n) None = refl
+regroup (Some m) (Some n) (Some k) = ap (λ (x : ℕ). Some x) (omega arith)
 
--- what is refused
-pub line_refused : {X : Type 0} (r : Result X Rule) (e : Rule) (places : List Place) (m : Option X) → Reads (λ z. z) r places m → r ≡ Err e → Refuses e (places_fault places)
-line_refused (Ok y) e places m h is = cc
-line_refused (Err y) e places m h is = let same : y ≡ e = cc in subst (λ (z : Rule). Refuses z (places_fault places)) same h
+pub faults_append : (ps qs : List Place) → places_fault (ps ++ qs) ≡ lesser (places_fault ps) (places_fault qs)
+faults_append [] qs = rw none_broken refl
+faults_append (p ∷ ps) qs =
+    least_fault p (ps ++ qs) ∙ ap (lesser (places_fault (p ∷ []))) (faults_append ps qs) ∙ regroup (places_fault (p ∷ [])) (places_fault ps) (places_fault qs)
+    ∙ ap (λ o. lesser o (places_fault qs)) (sym (least_fault p ps))
+
+neither : (a b : Option ℕ) → lesser a b ≡ None → (a ≡ None) × (b ≡ None)
+neither None b h = (refl, h)
+neither (Some m) None h = cc
+neither (Some m) (Some n) h = cc
+
+-- ---- words that break no rule mean what may stand there
+holds : (n : ℕ) (b : Bool) → cond {A = Option ℕ} (not b || false) (Some n) None ≡ None → b ≡ true
+holds n true h = refl
+holds n false h = cc
+
+is_there : {A : Type 0} (n : ℕ) (o : Option A) → cond {A = Option ℕ} (is_none o || false) (Some n) None ≡ None → IsSome o
+is_there n None h = absurd (none-some n (sym h))
+is_there n (Some x) h = refl
+
+pub some_where : {A : Type 0} (b : Bool) (x : A) → b ≡ true → IsSome (cond b (Some x) None)
+some_where b x h = rw h refl
+
+both_kept : {A : Type 0} (m n : ℕ) (a b : Bool) (x : A) → cond {A = Option ℕ} (not a || false) (Some m) (cond {A = Option ℕ} (not b || false) (Some n) None) ≡ None → IsSome (cond (a && b) (Some x) None)
+both_kept m n true true x h = refl
+both_kept m n true false x h = absurd (none-some n (sym h))
+both_kept m n false b x h = absurd (none-some m (sym h))
+
+pub where_some : {A : Type 0} (b : Bool) (x : A) → IsSome (cond b (Some x) None) → b ≡ true
+where_some true x h = refl
+where_some false x h = cc
+
+name_stands : (word : List ℕ) → is_script_name word ≡ true → IsSome (name_of word)
+unfolding name_of
+name_stands word h = some_where (is_script_name word) word h
+
+number_stands : (low high : ℕ) (word : List ℕ) → cond {A = Option ℕ} (not (is_numeral word) || false) (Some 12) (cond {A = Option ℕ} (not (is_within low high (value word)) || false) (Some 13) None) ≡ None → IsSome (number_of low high word)
+unfolding number_of
+number_stands low high word h = both_kept 12 13 (is_numeral word) (is_within low high (value word)) (value word) h
+
+some_mapped : {A B : Type 0} (f : A → B) (o : Option A) → IsSome o → IsSome (option_map f o)
+some_mapped f None h = h
+some_mapped f (Some x) h = refl
+
+fd_parts : (d s : Bool) (numbers : Option ℕ) (word : List ℕ) → cond {A = Option ℕ} ((not d && not s) || false) (Some 11) (cond {A = Option ℕ} ((d && not (is_numeral word)) || false) (Some 12) (cond {A = Option ℕ} ((d && not (is_within 0 255 (value word))) || false) (Some 13) None)) ≡ None
+    → is_script_name word ≡ s → IsSome (cond d (option_map (λ n. fd.Number n) (number_of 0 255 word)) (option_map (λ name. fd.Named name) (name_of word)))
+fd_parts true s numbers word h e = some_mapped (λ n. fd.Number n) (number_of 0 255 word) (number_stands 0 255 word h)
+fd_parts false true numbers word h e = some_mapped (λ name. fd.Named name) (name_of word) (name_stands word e)
+fd_parts false false numbers word h e = absurd (none-some 11 (sym h))
+
+keep_parts : (a n : Bool) (word : List ℕ) → cond {A = Option ℕ} ((not (a || n) && not (is_number_of_fd word) && not (is_script_name word)) || false) (Some 11) (cond {A = Option ℕ} ((is_number_of_fd word && not (is_numeral word)) || false) (Some 12) (cond {A = Option ℕ} ((is_number_of_fd word && not (is_within 0 255 (value word))) || false) (Some 13) None)) ≡ None
+    → IsSome (cond a (Some keep.All) (cond n (Some keep.Nothing) (option_map (λ one. keep.One one) (fd_of word))))
+unfolding fd_of
+keep_parts true n word h = refl
+keep_parts false true word h = refl
+keep_parts false false word h = some_mapped (λ one. keep.One one) (fd_of word) (fd_parts (is_number_of_fd word) (is_script_name word) None word h refl)
+
+few : (n most : ℕ) → cond {A = Option ℕ} (nat_lt most n || false) (Some 19) None ≡ None → nat_le n most ≡ true
+few n most h = elim (bool_cases (nat_lt most n)) [
+  | inl t ↦ let bad : cond {A = Option ℕ} (true || false) (Some 19) None ≡ None = rw t at h in absurd (none-some 19 (sym bad))
+  | inr f ↦ le-leb n most (ltb-false most n f)
+]
+
+payload_parts : (most : ℕ) (o : Option (List ℕ)) → cond {A = Option ℕ} (is_none o || false) (Some 18) (cond {A = Option ℕ} (option_map_or (λ bytes. nat_lt most (length bytes)) o false || false) (Some 19) None) ≡ None
+    → IsSome (o >>= λ bytes. if nat_le (length bytes) most then Some bytes else None)
+payload_parts most None h = absurd (none-some 18 (sym h))
+payload_parts most (Some bytes) h = some_where (nat_le (length bytes) most) bytes (few (length bytes) most h)
+
+stands : (k : Kind) (word : List ℕ) → places_fault ((k, word) ∷ []) ≡ None → Stands k word
+unfolding places_fault first_broken fd_of keep_of
+stands kind.Own word h = name_stands word (holds 11 (is_script_name word) h)
+stands kind.Proc word h = name_stands word (holds 11 (is_script_name word) h)
+stands kind.NewProc word h = name_stands word (holds 11 (is_script_name word) h)
+stands kind.NewFd word h = name_stands word (holds 11 (is_script_name word) h)
+stands (kind.Number low high) word h = number_stands low high word h
+stands (kind.Bound of_what) word h = number_stands (bounds of_what).0 (bounds of_what).1 word h
+stands (kind.Label labels) word h = is_there 14 (label_in labels word) h
+stands kind.Privs word h = is_there 15 (privs_of word) h
+stands kind.AnyPath word h = is_there 16 (path_of word) h
+stands kind.MadePath word h = is_there 16 (made_path_of word) h
+stands kind.Mode word h = is_there 17 (mode_of word) h
+stands kind.State word h = is_there 17 (state_of word) h
+stands kind.Limited word h = is_there 17 (what_of word) h
+stands (kind.Payload most) word h = payload_parts most (payload_of word) h
+stands kind.Fd word h = fd_parts (is_number_of_fd word) (is_script_name word) None word h refl
+stands kind.Keep word h = keep_parts (same_bytes word (codes "all")) (same_bytes word (codes "none")) word h
+
+pub stand : (places : List Place) → places_fault places ≡ None → Stand places
+stand [] h = tt
+stand (p ∷ places) h =
+    let n = neither (places_fault (p ∷ [])) (places_fault places) (sym (least_fault p places) ∙ h) in
+    (stands p.0 p.1 n.0, stand places n.1)
+
+-- ---- along a table
+abbrev number : Option Rule → Option ℕ
+number broken = option_map (λ (r : Rule). r.0) broken
+
+told_least : (a b : Option Rule) → lesser (number a) (number b) ≡ number (least a b)
+told_least None b = refl
+told_least (Some m) None = refl
+told_least (Some m) (Some n) = refl
+
+-- the table's next kind
+pub along : (labels : spelled.Form) (words : List (List ℕ)) (from i : ℕ) (kinds : List made.Kind) (broken more : Option Rule) → i < length kinds
+    → IsFault more ((kind_in labels words (get_or kinds i has.Own), word_at words (from + i)) ∷ [])
+    → lesser (number broken) (places_fault (places_from (from + i) (map (kind_in labels words) (drop i kinds)) words))
+    ≡ lesser (number (least broken more)) (places_fault (places_from (from + (i + 1)) (map (kind_in labels words) (drop (i + 1) kinds)) words))
+along labels words from i kinds broken more low h =
+    let at : Place = (kind_in labels words (get_or kinds i has.Own), word_at words (from + i)) in
+    let later : List Kind = map (kind_in labels words) (drop (i + 1) kinds) in
+    let next : suc (from + i) ≡ from + (i + 1) = omega arith in
+    at_drop_more (λ ks. lesser (number broken) (places_fault (places_from (from + i) (map (kind_in labels words) ks) words))) kinds i has.Own low
+    ∙ ap (λ n. lesser (number broken) (places_fault (at ∷ places_from n later words))) next
+    ∙ ap (lesser (number broken)) (least_fault at (places_from (from + (i + 1)) later words) ∙ ap (λ o. lesser o (places_fault (places_from (from + (i + 1)) later words))) h)
+    ∙ regroup (number broken) (number more) (places_fault (places_from (from + (i + 1)) later words)) ∙ ap (λ o. lesser o (places_fault (places_from (from + (i + 1)) later words))) (told_least broken more)
+
+-- its end
+pub along_all : (labels : spelled.Form) (words : List (List ℕ)) (from i : ℕ) (kinds : List made.Kind) (broken : Option Rule) → length kinds ≤ i
+    → lesser (number broken) (places_fault (places_from (from + i) (map (kind_in labels words) (drop i kinds)) words)) ≡ number broken
+along_all labels words from i kinds broken high =
+    at_drop_all (λ ks. lesser (number broken) (places_fault (places_from (from + i) (map (kind_in labels words) ks) words))) kinds i high ∙ ap (lesser (number broken)) none_broken ∙ lesser_none (number broken)
+
+-- a form's own words, and the names after `as`
+pub both_faults : (a b : Option Rule) (ps qs : List Place) → IsFault a ps → IsFault b qs → IsFault (least a b) (ps ++ qs)
+both_faults a b ps qs h k = faults_append ps qs ∙ (λ i. lesser (h i) (k i)) ∙ told_least a b
+
+pub tail_there : (kinds : List Kind) (n : ℕ) (words : List (List ℕ)) → nat_le (length words) n ≡ false → tail_places kinds n words ≡ places_from (n + 1) kinds words
+tail_there [] n words h = refl
+tail_there (k ∷ kinds) n words h = rw h refl
+
+pub no_tail : (kinds : List Kind) (n : ℕ) (words : List (List ℕ)) → nat_le (length words) n ≡ true → tail_places kinds n words ≡ []
+no_tail [] n words h = refl
+no_tail (k ∷ kinds) n words h = rw h refl
+
+pub none_left : {A : Type 0} (o : Option A) → ((x : A) → o ≡ Some x → ⊥) → o ≡ None
+none_left None h = refl
+none_left (Some x) h = absurd (h x refl)

@@ -1,6 +1,10 @@
 -- Cutting the first line off, by the match of a line feed.
-use Rattle.std.proofs.Common.{◌≡◌, ℕ, zero, suc, ◌+◌, ◌<◌, ◌≤◌, ◌==◌, nat_le, Bool, true, false, ◌&&◌, cond, List, [], ◌∷◌, length, take, drop, Option, Some, None, option_map, refl, sym, ap, ◌∙◌, arith, add-one, add-zero, inl, inr}
+use Rattle.std.proofs.Common.{◌≡◌, ℕ, zero, suc, ◌+◌, ◌<◌, ◌≤◌, ◌==◌, nat_le, Bool, true, false, ◌&&◌, ◌||◌, cond, List, [], ◌∷◌, length, take, drop, Option, Some, None, option_map, refl, sym, ap, ◌∙◌, arith, add-one, add-zero, inl, inr}
 use Rattle.std.specs.Option.{option_map_or}
+use Rattle.std.specs.List.{list_all}
+use Rattle.ix_model.specs.opening.Valid.{is_within}
+use Rattle.ix_text.proofs.Tests.{both}
+use Rattle.ix_script.specs.reader.Readers.{in_printable_lines}
 use Rattle.std.proofs.lemmas.Bool.{cases_eq, eq-eqb, ne_eqb, le-leb}
 use Rattle.std.proofs.lemmas.Bool.Decides.{nat_tests}
 use Rattle.bstr.specs.Find.{first_of, matches_from, matches, occurs_at}
@@ -74,3 +78,26 @@ feed_at (b ∷ bytes) k some h = cut_feed b bytes ∙ ap (cut_by (b ∷ bytes)) 
 pub no_feed : (bytes : List ℕ) → 0 < length bytes → first_of (matches bytes (10 ∷ []) 0) ≡ None → cut bytes ≡ bytes ∷ []
 no_feed [] some h = absurd (omega arith)
 no_feed (b ∷ bytes) some h = cut_feed b bytes ∙ ap (cut_by (b ∷ bytes)) (sym (found (b ∷ bytes)) ∙ h)
+
+-- ---- inputs whose lines are printable
+printable_front : (b : ℕ) (lines : List (List ℕ)) → is_within 32 126 b ≡ true → list_all (list_all (is_within 32 126)) lines ≡ true → list_all (list_all (is_within 32 126)) (with_front b lines) ≡ true
+printable_front b [] h k = rw h refl
+printable_front b (l ∷ lines) h k = rw h k
+
+pub cut_printable : (bytes : List ℕ) → list_all in_printable_lines bytes ≡ true → list_all (list_all (is_within 32 126)) (cut bytes) ≡ true
+unfolding cut
+cut_printable [] h = refl
+cut_printable (b ∷ bytes) h =
+    let parts = both (in_printable_lines b) (list_all in_printable_lines bytes) h in
+    let later : list_all (list_all (is_within 32 126)) (cut bytes) ≡ true = cut_printable bytes parts.1 in
+    elim (b == 10) as (λ t. (is_within 32 126 b || t) ≡ true → list_all (list_all (is_within 32 126)) (cond t ([] ∷ cut bytes) (with_front b (cut bytes))) ≡ true) [
+      | true ↦ λ q. later
+      | false ↦ λ q. printable_front b (cut bytes) (or_false (is_within 32 126 b) q) later
+    ] parts.0
+  where
+    or_false : (t : Bool) → (t || false) ≡ true → t ≡ true
+    or_false true q = refl
+    or_false false q = cc
+
+pub first_printable : (rest text : List ℕ) (lines : List (List ℕ)) → cut rest ≡ text ∷ lines → list_all (list_all (is_within 32 126)) (cut rest) ≡ true → (list_all (is_within 32 126) text ≡ true) × (list_all (list_all (is_within 32 126)) lines ≡ true)
+first_printable rest text lines first h = both (list_all (is_within 32 126) text) (list_all (list_all (is_within 32 126)) lines) (rw first at h)

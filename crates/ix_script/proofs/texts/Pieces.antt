@@ -1,20 +1,17 @@
 -- Cutting the first word off.
-use Rattle.std.proofs.Common.{◌≡◌, ℕ, suc, ◌+◌, ◌<◌, ◌≤◌, ◌==◌, true, false, cond, List, [], ◌∷◌, length, take, drop, get_or, Option, Some, None, option_map, refl, ap, ◌∙◌, arith, add-one, add-zero, drop-cons, length-drop}
+use Rattle.std.proofs.Common.{◌≡◌, ℕ, zero, suc, ◌+◌, ◌<◌, ◌≤◌, ◌==◌, Bool, true, false, slice_index, sym, cond, List, [], ◌∷◌, length, take, drop, get_or, Option, Some, None, option_map, refl, ap, ◌∙◌, arith, add-one, add-zero, drop-cons, length-drop}
 use Rattle.std.specs.Option.{option_map_or}
+use Rattle.memchr.specs.Find.{IsFirstByte, is_byte}
 use Rattle.ix_model.specs.world.Texts.{with_front}
 use Rattle.std.proofs.lemmas.Bool.{eq-eqb, ne_eqb}
 use Rattle.std.proofs.lemmas.List.{drop_all}
 use Rattle.ix_script.specs.texts.Cutting.{pieces, parts_words, after_byte, closes, is_closed}
 use Rattle.ix_text.specs.Bytes.{begins, is_empty}
+use Rattle.ix_script.specs.reader.Cut.{gap_from}
 use Rattle.ix_script.specs.declared.cutting.spot.Spot.{Spot}
 use Rattle.ix_script.specs.declared.cutting.spot.Spot.TheVariants as spot
 
 -- ---- words
--- the place of the first space between words
-abbrev pub gap_from : Spot → List ℕ → Option ℕ
-gap_from at [] = None
-gap_from at (b ∷ text) = cond (parts_words at b) (Some 0) (option_map suc (gap_from (after_byte at b) text))
-
 -- what is cut off up to there
 abbrev pub cut_at : List ℕ → Option ℕ → List (List ℕ)
 cut_at text gap = option_map_or (λ k. take k text ∷ pieces spot.Front (drop (k + 1) text)) gap (text ∷ [])
@@ -31,6 +28,30 @@ cut_at_gap at (b ∷ text) =
       | true ↦ refl
       | false ↦ ap (with_front b) (cut_at_gap (after_byte at b) text) ∙ later b text (gap_from (after_byte at b) text)
     ]
+
+-- by a search for the first space
+false_of : (b : Bool) → (b ≡ true → ⊥) → b ≡ false
+false_of true h = absurd (h refl)
+false_of false h = refl
+
+no_space : (text : List ℕ) → ((k : ℕ) → 0 ≤ k → k < length text → (slice_index text k == 32) ≡ true → ⊥) → gap_from spot.Plain text ≡ None
+no_space [] h = refl
+no_space (b ∷ text) h =
+    let here : (b == 32) ≡ false = false_of (b == 32) (h 0 (omega arith) (omega arith)) in
+    let more : gap_from spot.Plain text ≡ None = no_space text (λ k low high. h (suc k) (omega arith) (omega arith)) in
+    rw (here, more) refl
+
+first_space : (text : List ℕ) (i : ℕ) → i < length text → (slice_index text i == 32) ≡ true → ((k : ℕ) → 0 ≤ k → k < i → (slice_index text k == 32) ≡ true → ⊥) → gap_from spot.Plain text ≡ Some i
+first_space [] i low t before = absurd (omega arith)
+first_space (b ∷ text) zero low t before = rw t refl
+first_space (b ∷ text) (suc i) low t before =
+    let here : (b == 32) ≡ false = false_of (b == 32) (before 0 (omega arith) (omega arith)) in
+    let more : gap_from spot.Plain text ≡ Some i = first_space text i (omega arith) t (λ k least high. before (suc k) (omega arith) (omega arith)) in
+    rw (here, more) refl
+
+pub by_search : (text : List ℕ) (found : Option ℕ) → IsFirstByte (is_byte 32) text found → found ≡ gap_from spot.Plain text
+by_search text None h = sym (no_space text h)
+by_search text (Some i) h = sym (first_space text i h.0.high h.1 h.0.before)
 
 -- where no quote begins a text its first word is plain
 pub plain_front : (text : List ℕ) → begins 34 text ≡ false → pieces spot.Front text ≡ pieces spot.Plain text

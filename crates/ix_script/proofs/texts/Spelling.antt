@@ -1,11 +1,16 @@
 -- Reading a payload piece by piece, as loops do.
-use Rattle.std.proofs.Common.{◌≡◌, ℕ, zero, suc, ◌+◌, ◌*◌, ◌<◌, ◌≤◌, ◌==◌, Bool, true, false, ◌&&◌, List, [], ◌∷◌, ◌++◌, length, drop, get_or, Option, Some, None, refl, sym, ◌∙◌, ap, append_assoc, arith, add-one, drop-cons, length-drop, length-append}
+use Rattle.std.proofs.Common.{◌≡◌, ℕ, zero, suc, ◌+◌, ◌*◌, ◌/◌, ◌⊎◌, inl, inr, subst, ◌<◌, ◌≤◌, ◌==◌, Bool, true, false, ◌&&◌, List, [], ◌∷◌, ◌++◌, length, drop, get_or, Option, Some, None, refl, sym, ◌∙◌, ap, append_assoc, arith, IsSome, Result, Ok, Err, add-one, drop-cons, length-drop, length-append}
 use Rattle.std.specs.Prelude.{is_some}
+use Rattle.std.specs.Result.{IsOk}
+use Rattle.std.proofs.lemmas.Option.{none-some}
+use Rattle.std.proofs.lemmas.Bool.{le-ltb}
 use Rattle.std.specs.List.{list_all}
 use Rattle.std.proofs.lemmas.List.{append-nil, drop_all}
 use Rattle.ix_text.specs.Bytes.{is_empty}
 use Rattle.ix_script.specs.texts.Payloads.{◌>>=◌, digit_of, pair_of, pairs_of, after_bytes, bytes_of, escape_step, ends, quoted_from}
-use Rattle.ix_script.specs.texts.Spelled.{HasCount, spelling_fault}
+use Rattle.ix_script.specs.texts.Spelled.{HasCount, Counts, spelling_fault}
+use Rattle.ix_script.specs.reader.Readers.{Refuses}
+use Rattle.ix_script.specs.declared.rule.Rule.{Rule}
 use Rattle.ix_script.specs.declared.values.escape.Escape.{Escape}
 use Rattle.ix_script.specs.declared.values.escape.Escape.TheVariants as escape
 use Rattle.ix_script.proofs.texts.Pieces.{last_place}
@@ -25,9 +30,6 @@ pub record Counted (n total left : ℕ) (rest all : Option (List ℕ)) : Type 0 
 regroup : (front mid : List ℕ) (more : Option (List ℕ)) → after_bytes front (after_bytes mid more) ≡ after_bytes (front ++ mid) more
 regroup front mid None = refl
 regroup front mid (Some more) = ap (λ (bytes : List ℕ). Some bytes) (sym (append_assoc front mid more))
-
-none_after : (front : List ℕ) (total : Option (List ℕ)) → after_bytes front None ≡ total → total ≡ None
-none_after front total h = sym h
 
 -- ---- pairs of digits
 abbrev is_hex : ℕ → Bool
@@ -163,3 +165,37 @@ module _ (all : Option (List ℕ)) where
     count = omega (arith, length-append c.front (bytes_of byte), c.count);
     few = omega (arith, at_most_one byte, c.few);
   }
+
+-- ---- what is known to spell bytes
+abbrev pub is_even : ℕ → Type 0
+is_even n = (half : ℕ) × (n ≡ half * 2)
+
+halved : (n : ℕ) → is_even n ⊎ ((half : ℕ) × (n ≡ half * 2 + 1))
+halved zero = inl (0, refl)
+halved (suc n) = elim (halved n) [
+  | inl e ↦ inr (e.0, omega (arith, e.1))
+  | inr o ↦ inl (suc o.0, omega (arith, o.1))
+]
+
+counted_pairs : (text : List ℕ) (half : ℕ) → length text ≡ half * 2 → (b : Bool) → list_all is_hex text ≡ b → IsSome (pairs_of text) → HasCount half (pairs_of text)
+counted_pairs text half long true e some = pairs_even half text long e
+counted_pairs text half long false e some = let none : IsSome {T = List ℕ} None = rw (pairs_bad text e) at some in cc
+
+pub known_pairs : (text : List ℕ) → IsSome (pairs_of text) → HasCount (length text / 2) (pairs_of text)
+known_pairs text some = elim (halved (length text)) [
+  | inl e ↦ subst (λ (n : ℕ). HasCount n (pairs_of text)) (omega (arith, e.1)) (counted_pairs text e.0 e.1 (list_all is_hex text) refl some)
+  | inr o ↦ let none : IsSome {T = List ℕ} None = rw (pairs_odd o.0 text o.1) at some in cc
+]
+
+few_counted : (r : Rule) (bytes : List ℕ) → ((most : ℕ) → Refuses r (spelling_fault most (Some bytes))) → ⊥
+unfolding spelling_fault
+few_counted r bytes h = none-some r.0 (rw (le-ltb (length bytes) (length bytes) (omega arith)) at (h (length bytes)))
+
+pub counted_right : (r : Result ℕ Rule) (meaning : Option (List ℕ)) → ((most : ℕ) → Counts most r meaning) → IsSome meaning → IsOk r
+counted_right (Ok n) meaning h some = refl
+counted_right (Err e) None h some = cc
+counted_right (Err e) (Some bytes) h some = absurd (few_counted e bytes h)
+
+pub counts_of : (r : Result ℕ Rule) (n : ℕ) (meaning : Option (List ℕ)) → ((most : ℕ) → Counts most r meaning) → r ≡ Ok n → HasCount n meaning
+counts_of (Ok m) n meaning h is = let same : m ≡ n = cc in subst (λ (k : ℕ). HasCount k meaning) same (h 0)
+counts_of (Err e) n meaning h is = cc

@@ -34,8 +34,11 @@ both (Some x) None = None
 both (Some x) (Some y) = Some (x, y)
 
 -- at most so many bytes
+abbrev pub within : ℕ → Option (List ℕ) → Option (List ℕ)
+within most meaning = meaning >>= λ bytes. if nat_le (length bytes) most then Some bytes else None
+
 abbrev pub payload_within : ℕ → List ℕ → Option (List ℕ)
-payload_within most word = payload_of word >>= λ bytes. if nat_le (length bytes) most then Some bytes else None
+payload_within most word = within most (payload_of word)
 
 -- any number
 abbrev pub any_number : List ℕ → Option ℕ

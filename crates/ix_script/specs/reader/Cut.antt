@@ -1,10 +1,19 @@
 -- What is kept of the words of a line.
-use Rattle.std.specs.Prelude.{◌≡◌, ℕ, Bool, List, length, take}
+use Rattle.std.specs.Prelude.{◌≡◌, ◌<◌, ℕ, suc, Bool, List, [], ◌∷◌, length, Option, Some, None, if◌then◌else◌}
+use Rattle.std.proofs.Common.{option_map}
+use Rattle.ix_script.specs.texts.Cutting.{word_at, parts_words, after_byte}
+use Rattle.ix_script.specs.declared.cutting.spot.Spot.{Spot}
 use Rattle.ix_script.specs.lines.Rules.{has_empty_word, has_open_quote}
 
--- the first eight of the words are kept, their number, and whether one is empty or open
+-- the place of the first space between words
+abbrev pub gap_from : Spot → List ℕ → Option ℕ
+gap_from at [] = None
+gap_from at (b ∷ text) = if parts_words at b then Some 0 else option_map suc (gap_from (after_byte at b) text)
+
+-- eight words are kept, the first ones, with no bytes where there is none, their number, and whether one is empty or open
 pub record AreWords (words kept : List (List ℕ)) (n : ℕ) (some_empty some_open : Bool) : Type 0 where
-  pub first : kept ≡ take 8 words
+  pub eight : length kept ≡ 8
+  pub first : (i : ℕ) → i < 8 → word_at kept i ≡ word_at words i
   pub count : n ≡ length words
   pub has_empty : some_empty ≡ has_empty_word words
   pub has_open : some_open ≡ has_open_quote words

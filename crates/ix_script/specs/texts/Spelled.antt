@@ -28,7 +28,3 @@ pub record SpellsRight (s : Spelling) (n : ℕ) (meaning : Option (List ℕ)) : 
   pub meant : meaning ≡ Some bytes
   pub spelled : spelled_by s ≡ Some bytes
   pub count : n ≡ length bytes
-
-abbrev pub Spells : ℕ → Result (Spelling × ℕ) Rule → Option (List ℕ) → Type 0
-Spells most (Ok x) meaning = SpellsRight x.0 x.1 meaning
-Spells most (Err e) meaning = Refuses e (spelling_fault most meaning)

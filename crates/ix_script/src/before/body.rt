@@ -1,7 +1,5 @@
-ghost use Rattle.std.specs.Prelude.{◌≡◌, ◌++◌, ◌∷◌, ◌+◌, ◌<◌, ◌^◌, ◌||◌, [], List, ℕ, OnOk, if◌then◌else◌};
-ghost use Rattle.ix_script.specs.lines.Before.{is_phase, is_command, lane_after, phase_lanes_after, lanes_after, in_lane, new_fds, new_procs, is_known};
-ghost use Rattle.std.proofs.Common.{option_map};
-ghost use Rattle.ix_script.specs.reader.Indexed.{AreIndexed};
+ghost use Rattle.std.specs.Prelude.{◌≡◌, ◌++◌, ◌∷◌, ◌+◌, ◌<◌, ◌^◌, [], List, OnOk, if◌then◌else◌};
+ghost use Rattle.ix_script.specs.lines.Before.{is_command, is_known};
 ghost use Rattle.ix_script.specs.reader.Told.{BodyTold};
 ghost use Rattle.ix_script.specs.declared.line.Line.{Line};
 
@@ -30,18 +28,6 @@ pub(crate) struct Body<'a> {
     pub commands: u32,
 }
 
-fn is_phase(line: &Line<'_>) -> bool
-    ensures { result ≡ is_phase line.now }
-{
-    matches!(line, Line::Phase)
-}
-
-fn started_after(started: bool, line: &Line<'_>) -> bool
-    ensures { result ≡ (started || is_phase line.now) }
-{
-    started || is_phase(line)
-}
-
 pub(crate) fn is_command(line: &Line<'_>) -> bool
     ensures { result ≡ is_command line.now }
 {
@@ -60,40 +46,6 @@ pub(crate) fn is_command(line: &Line<'_>) -> bool
     }
 }
 
-fn commands_after(commands: u32, line: &Line<'_>) -> u32
-    requires { commands + 1 < 2 ^ 32 }
-    ensures { result ≡ (if is_command line.now then commands + 1 else commands) }
-{
-    if is_command(line) {
-        commands + 1
-    } else {
-        commands
-    }
-}
-
-fn lane_after<'a>(lane: Option<&'a [u8]>, line: &Line<'a>) -> Option<&'a [u8]>
-    ensures { option_map (λ s. s.now) result ≡ lane_after (option_map (λ s. s.now) lane.entry) line.now }
-{
-    match line {
-        Line::Phase => None,
-        Line::Lane { name } => Some(name.as_bytes()),
-        _ => lane,
-    }
-}
-
-fn add_phase_lane(alloc: Global, lanes: &mut List<Name>, line: &Line<'_>) -> Result<(), NoMemory>
-    ensures { OnOk result (lanes.new ≡ phase_lanes_after lanes.old line.now) }
-{
-    match line {
-        Line::Phase => {
-            *lanes = List::new(alloc);
-            Ok(())
-        }
-        Line::Lane { name } => lanes.push(name.name()),
-        _ => Ok(()),
-    }
-}
-
 fn add_name(lanes: &mut List<Name>, name: &NameWord<'_>) -> Result<(), NoMemory>
     ensures { OnOk result (lanes.new ≡ (if is_known name.now lanes.old then lanes.old else lanes.old ++ name.now ∷ [])) }
 {
@@ -101,40 +53,6 @@ fn add_name(lanes: &mut List<Name>, name: &NameWord<'_>) -> Result<(), NoMemory>
         Ok(())
     } else {
         lanes.push(name.name())
-    }
-}
-
-fn add_lane(lanes: &mut List<Name>, line: &Line<'_>) -> Result<(), NoMemory>
-    ensures { OnOk result (lanes.new ≡ lanes_after lanes.old line.now) }
-{
-    match line {
-        Line::Lane { name } => add_name(lanes, name),
-        _ => Ok(()),
-    }
-}
-
-fn add_fds<'a>(fds: &mut Given<'a>, lane: Option<&'a [u8]>, line: &Line<'a>) -> Result<(), NoMemory>
-    ensures { OnOk result ((items : List (List ℕ × List ℕ)) → AreIndexed fds.old.index items → AreIndexed fds.new.index (items ++ in_lane (option_map (λ s. s.now) lane.entry) (new_fds line.now))) }
-{
-    match line {
-        Line::Open { named, .. } => fds.add_any(lane, named),
-        Line::Dup { named, .. } => fds.add_any(lane, named),
-        Line::Pipe { named, .. } => fds.add_two(lane, named),
-        _ => Ok(()),
-    }
-}
-
-fn add_procs<'a>(
-    procs: &mut Given<'a>,
-    lane: Option<&'a [u8]>,
-    line: &Line<'a>,
-) -> Result<(), NoMemory>
-    ensures { OnOk result ((items : List (List ℕ × List ℕ)) → AreIndexed procs.old.index items → AreIndexed procs.new.index (items ++ in_lane (option_map (λ s. s.now) lane.entry) (new_procs line.now))) }
-{
-    match line {
-        Line::Fork { named, .. } => procs.add_any(lane, named),
-        Line::Login { named, .. } => procs.add_any(lane, named),
-        _ => Ok(()),
     }
 }
 
@@ -166,13 +84,25 @@ impl<'a> Body<'a> {
         requires { self.old.commands + 1 < 2 ^ 32 }
         ensures { OnOk result ((lines : List Line) → BodyTold self.old lines → BodyTold self.new (lines ++ line.now ∷ [])) }
     {
-        add_fds(&mut self.fds, self.lane, line)?;
-        add_procs(&mut self.procs, self.lane, line)?;
-        add_phase_lane(alloc, &mut self.phase_lanes, line)?;
-        add_lane(&mut self.lanes, line)?;
-        self.started = started_after(self.started, line);
-        self.lane = lane_after(self.lane, line);
-        self.commands = commands_after(self.commands, line);
-        Ok(())
+        self.commands += u32::from(is_command(line));
+        match line {
+            Line::Phase => {
+                self.started = true;
+                self.lane = None;
+                self.phase_lanes = List::new(alloc);
+                Ok(())
+            }
+            Line::Lane { name } => {
+                self.lane = Some(name.as_bytes());
+                self.phase_lanes.push(name.name())?;
+                add_name(&mut self.lanes, name)
+            }
+            Line::Open { named, .. } => self.fds.add_any(self.lane, named),
+            Line::Dup { named, .. } => self.fds.add_any(self.lane, named),
+            Line::Pipe { named, .. } => self.fds.add_two(self.lane, named),
+            Line::Fork { named, .. } => self.procs.add_any(self.lane, named),
+            Line::Login { named, .. } => self.procs.add_any(self.lane, named),
+            _ => Ok(()),
+        }
     }
 }

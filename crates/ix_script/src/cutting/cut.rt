@@ -1,18 +1,15 @@
-ghost use Rattle.std.specs.Prelude.{◌≡◌, ℕ, ◌≤◌, ◌<◌, ◌+◌, ◌^◌, ◌∷◌, ◌++◌, [], length, take, drop, IfSome, Some, None, map};
+ghost use Rattle.std.specs.Prelude.{◌≡◌, ℕ, ◌≤◌, ◌<◌, ◌+◌, ◌^◌, ◌∷◌, [], length, take, drop, IfSome, Some, None, map, nat_lt, set, replicate, if◌then◌else◌};
 ghost use Rattle.std.specs.Option.{option_map_or};
 ghost use Rattle.ix_script.specs.texts.Cutting.{pieces, words_of, word_at, is_closed, is_open};
 ghost use Rattle.ix_text.specs.Bytes.{is_empty};
 ghost use Rattle.ix_script.specs.lines.Rules.{has_empty_word, has_open_quote};
-ghost use Rattle.ix_script.specs.reader.Cut.{AreWords};
+ghost use Rattle.ix_script.specs.reader.Cut.{AreWords, gap_from};
 ghost use Rattle.ix_script.specs.declared.cutting.spot.Spot.TheVariants as spot;
 
 use crate::cutting::spot::Spot;
-use arrayvec::ArrayVec;
 use ix_text::begins;
+use memchr::memchr;
 use std::marker::Model;
-
-/// How many words are kept: no line has more that are read.
-const KEPT: usize = 8;
 
 /// How many words a line has, and whether one is empty or has an open quote.
 #[derive(Clone, Copy)]
@@ -26,33 +23,46 @@ struct Seen {
 #[derive(Drop)]
 pub(crate) struct Words<'a> {
     text: &'a [u8],
-    first: ArrayVec<&'a [u8], 8>,
+    first: [&'a [u8]; 8],
     seen: Seen,
 }
 
 impl<'a> Model for Words<'a> {
     ghost use Rattle.std.specs.Prelude.{List, ℕ, map};
     ghost use Rattle.ix_script.specs.texts.Cutting.{words_of};
-    ghost use Rattle.ix_script.specs.reader.Cut.{AreWords};
+    ghost use Rattle.ix_script.specs.reader.Cut.{AreWords, gap_from};
 
     ghost Value = { List (List ℕ) };
 
     ghost view = { λ w. words_of w.text.now };
 
-    ghost invariant = { λ w. AreWords (words_of w.text.now) (map (λ s. s.now) w.first.items) w.seen.count w.seen.has_empty w.seen.has_open };
+    ghost invariant = { λ w. AreWords (words_of w.text.now) (map (λ s. s.now) w.first) w.seen.count w.seen.has_empty w.seen.has_open };
 }
 
-/// The place of the space that ends the first word, where no quotes begin it.
+/// The place of the first space in a text of any length, many bytes at a time.
+fn far_space(text: &[u8]) -> Option<usize>
+    ensures place { result ≡ gap_from spot.Plain text.now }
+    ensures within { IfSome result (λ k. k + 1 ≤ length text.now) }
+{
+    memchr(b' ', text)
+}
+
+/// The place of the space that ends the first word, where no quotes begin it. Most words are short: a search for many bytes at a
+/// time costs more than they do.
 fn end_of_plain(text: &[u8]) -> Option<usize>
     ensures pieces { pieces spot.Plain text.now ≡ option_map_or (λ k. take k text.now ∷ pieces spot.Front (drop (k + 1) text.now)) result (text.now ∷ []) }
     ensures within { IfSome result (λ k. k + 1 ≤ length text.now) }
 {
-    'bytes: for (i, b) in text.iter().enumerate() {
-        if *b == b' ' {
+    let near = text.len().min(16);
+    'bytes: for i in 0..near {
+        if text[i] == b' ' {
             return Some(i);
         }
     }
-    None
+    match far_space(&text[near..]) {
+        Some(far) => Some(near + far),
+        None => None,
+    }
 }
 
 /// The place of the space that ends the first word, where quotes may begin it.
@@ -134,28 +144,19 @@ fn is_empty(word: &[u8]) -> bool
     }
 }
 
-fn word_at<'a>(words: &[&'a [u8]], i: usize) -> &'a [u8]
-    ensures { result.now ≡ word_at (map (λ s. s.now) words.now) i }
+/// Keeps a word at its place, where there is one for it.
+fn keep<'a>(first: &mut [&'a [u8]; 8], place: usize, word: &'a [u8])
+    ensures { map (λ s. s.now) first.new ≡ (if nat_lt place 8 then set (map (λ s. s.now) first.old) place word.now else map (λ s. s.now) first.old) }
 {
-    match words.get(i) {
-        Some(word) => word,
-        None => &[],
+    if place < 8 {
+        first[place] = word;
     }
 }
 
-/// Keeps a word, where there is room.
-fn keep<'a>(first: &mut ArrayVec<&'a [u8], 8>, word: &'a [u8])
-    ensures { map (λ s. s.now) first.new.items ≡ take 8 (map (λ s. s.now) first.old.items ++ word.now ∷ []) }
-{
-    if first.len() < KEPT {
-        first.push(word);
-    }
-}
-
-/// Keeps the first eight words of a line, in a place that has none yet, and tells of all.
-fn cut_into<'a>(text: &'a [u8], first: &mut ArrayVec<&'a [u8], 8>) -> Seen
-    requires { first.old.items ≡ [] }
-    ensures { AreWords (words_of text.now) (map (λ s. s.now) first.new.items) result.count result.has_empty result.has_open }
+/// Keeps the first eight words of a line, in places that have no bytes yet, and tells of all.
+fn cut_into<'a>(text: &'a [u8], first: &mut [&'a [u8]; 8]) -> Seen
+    requires { map (λ s. s.now) first.old ≡ replicate 8 [] }
+    ensures { AreWords (words_of text.now) (map (λ s. s.now) first.new) result.count result.has_empty result.has_open }
 {
     let mut count = 0;
     let mut has_empty = false;
@@ -163,7 +164,7 @@ fn cut_into<'a>(text: &'a [u8], first: &mut ArrayVec<&'a [u8], 8>) -> Seen
     let mut rest = if_any(text);
     'words: while let Some(front) = rest {
         let (word, more) = first_word(front);
-        keep(first, word);
+        keep(first, count, word);
         count += 1;
         has_empty |= is_empty(word);
         has_open |= is_open(word);
@@ -183,7 +184,7 @@ impl<'a> Words<'a> {
     {
         Words {
             text: &[],
-            first: ArrayVec::new(),
+            first: [&[]; 8],
             seen: Seen {
                 count: 0,
                 has_empty: false,
@@ -196,7 +197,7 @@ impl<'a> Words<'a> {
     pub fn cut(&mut self, text: &'a [u8])
         ensures { self.new ≡ words_of text.now }
     {
-        self.first.clear();
+        self.first = [&[]; 8];
         self.seen = cut_into(text, &mut self.first);
         self.text = text;
     }
@@ -212,7 +213,7 @@ impl<'a> Words<'a> {
         requires { i < 8 }
         ensures { result.now ≡ word_at self.now i }
     {
-        word_at(self.first.as_slice(), i)
+        self.first[i]
     }
 
     pub fn has_empty(&self) -> bool

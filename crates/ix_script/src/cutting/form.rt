@@ -1,4 +1,5 @@
-ghost use Rattle.std.specs.Prelude.{◌≡◌, ℕ, ◌≤◌, List, length};
+ghost use Rattle.std.specs.Prelude.{◌≡◌, ℕ, ◌<◌, ◌≤◌, List, length};
+ghost use Rattle.ix_script.specs.reader.Placing.{is_entry, payload_place};
 ghost use Rattle.ix_script.specs.lines.Forms.{arity, tail_of, is_header, is_command_form, has_right_count};
 
 use crate::cutting::cut::Words;
@@ -98,34 +99,43 @@ impl Form {
         )
     }
 
+    /// Whether it is, beyond doubt, a command of one call that costs no more than an entry and gives no name.
+    pub fn is_entry(self) -> bool
+        ensures { result ≡ is_entry self }
+    {
+        match self {
+            Form::Plain(_) | Form::Counted(_) => true,
+            Form::OnFd(OnFd::Close | OnFd::Pex | OnFd::Unpex) => true,
+            _ => false,
+        }
+    }
+
+    /// The place of its payload; 0 where it has none.
+    pub fn payload_place(self) -> usize
+        ensures place { result ≡ payload_place self }
+        ensures few { result < 8 }
+    {
+        match self {
+            Form::Write => 3,
+            Form::File => 6,
+            _ => 0,
+        }
+    }
+
     /// How many words stand after the first.
     fn count(self) -> usize
         ensures count { (words : List (List ℕ)) → result ≡ arity self words }
         ensures few { result ≤ 6 }
     {
-        match self {
-            Form::Phase => 0,
-            Form::Lane | Form::Plain(_) | Form::Pipe => 1,
-            Form::Limit | Form::OnPath(_) | Form::OnFd(_) | Form::Dup => 2,
-            Form::Fork | Form::Exit | Form::Setself | Form::Droplic | Form::Readlog => 2,
-            Form::Dir | Form::Counted(_) | Form::Open | Form::Write | Form::Link => 3,
-            Form::List | Form::Setlabel | Form::Grant | Form::Ceiling | Form::Login => 3,
-            Form::Fs | Form::Copy | Form::Setpriv => 4,
-            Form::Proc => 5,
-            Form::File => 6,
-        }
+        self.kinds().len()
     }
 
     /// How many names may stand after `as`.
     fn names_after_as(self) -> usize
         ensures names { result ≡ length (tail_of self) }
-        ensures few { result ≤ 2 }
+        ensures few { result ≤ 6 }
     {
-        match self {
-            Form::Open | Form::Dup | Form::Fork | Form::Login => 1,
-            Form::Pipe => 2,
-            _ => 0,
-        }
+        self.tail().len()
     }
 
     /// Whether the line has the words of the form, and no others but `as` with its names.

@@ -1,16 +1,11 @@
-ghost use Rattle.std.specs.Prelude.{◌≡◌, ℕ, ◌≤◌, ◌+◌, [], ◌∷◌, ◌==◌, length, position, take, not, ◌&&◌, IfOk, IfSome};
+ghost use Rattle.std.specs.Prelude.{◌≡◌, ◌≤◌, ◌+◌, ◌==◌, Some, IsSome, length, position, take, IfSome};
 ghost use Rattle.std.specs.List.{list_all};
 ghost use Rattle.ix_model.specs.world.Naming.{same_bytes};
-ghost use Rattle.ix_model.specs.opening.Valid.{is_within};
-ghost use Rattle.ix_text.specs.Bytes.{begins, is_letter, is_digit, begins_with};
-ghost use Rattle.ix_script.specs.lines.Kinds as kind;
-ghost use Rattle.ix_script.specs.reader.Readers.{Reads};
-ghost use Rattle.ix_script.specs.texts.Words.{is_numeral, value, number_of};
-ghost use Rattle.ix_text.specs.Names.{may_stand_in_script_name, is_reserved, is_script_name, name_of};
+ghost use Rattle.ix_text.specs.Bytes.{is_digit, begins_with};
+ghost use Rattle.ix_text.specs.Names.{name_of};
 
-use crate::rule::Rule;
 use ix_model::Name;
-use ix_text::{is, is_digit, is_script_name};
+use ix_text::{is, is_digit};
 use std::marker::Model;
 
 /// Whether the word begins with that text. It is inlined as `is` is.
@@ -63,6 +58,15 @@ impl<'a> Model for NameWord<'a> {
 }
 
 impl<'a> NameWord<'a> {
+    /// The name that a word is.
+    #[tactic(auto, unfolding(ix_text::specs::Names::name_of))]
+    pub(crate) fn of(word: &'a [u8]) -> NameWord<'a>
+        requires { IsSome (name_of word.now) }
+        ensures { name_of word.now ≡ Some result }
+    {
+        NameWord { word }
+    }
+
     /// Its bytes.
     pub fn as_bytes(&self) -> &'a [u8]
         ensures { result.now ≡ self.now }
@@ -79,18 +83,4 @@ impl<'a> NameWord<'a> {
             None => unreachable!(),
         }
     }
-}
-
-/// The name of a file system, a process, a lane or a descriptor.
-#[tactic(auto, unfolding(ix_text::specs::Names::name_of, crate::specs::lines::Kinds::places_fault, crate::specs::lines::Kinds::first_broken))]
-pub(crate) fn name(word: &[u8]) -> Result<NameWord<'_>, Rule>
-    ensures own { Reads (λ x. x) result ((kind.Own, word.now) ∷ []) (name_of word.now) }
-    ensures proc { Reads (λ x. x) result ((kind.Proc, word.now) ∷ []) (name_of word.now) }
-    ensures new_proc { Reads (λ x. x) result ((kind.NewProc, word.now) ∷ []) (name_of word.now) }
-    ensures new_fd { Reads (λ x. x) result ((kind.NewFd, word.now) ∷ []) (name_of word.now) }
-{
-    if !is_script_name(word) {
-        return Err(Rule::BAD_NAME);
-    }
-    Ok(NameWord { word })
 }

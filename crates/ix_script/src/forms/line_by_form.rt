@@ -1,54 +1,209 @@
+ghost use Rattle.std.specs.Prelude.{◌≡◌, Some};
 ghost use Rattle.ix_script.specs.lines.Forms.{places};
-ghost use Rattle.ix_script.specs.reader.Readers.{Reads};
-ghost use Rattle.ix_script.specs.lines.Said.{said};
+ghost use Rattle.ix_script.specs.lines.Said.{said, plain_line, path_line, fd_line, counted_line};
+ghost use Rattle.ix_script.specs.reader.Placing.{Stand};
 
 use crate::cutting::cut::Words;
-use crate::cutting::form::Form;
-use crate::forms::file_lines::{copy, dup, link, list, open, pipe, setlabel, setpriv, write};
-use crate::forms::group_lines::{counted, on_fd, on_path, plain};
-use crate::forms::header_lines::{dir, file, fs, lane, limit, proc};
-use crate::forms::process_lines::{ceiling, droplic, exit, fork, grant, login, readlog, setself};
-use crate::line::Line;
-use crate::rule::Rule;
+use crate::cutting::form::{Counted, Form, OnFd, OnPath, Plain};
+use crate::cutting::words::NameWord;
+use crate::line::{FdWord, Line};
+use crate::values::choices::{mode_of, state_of, what_of};
+use crate::values::labels::LabelWord;
+use crate::values::numbers::{fd, keep, number};
+use crate::values::paths::{MadePath, PathWord};
+use crate::values::payload::Payload;
 use ix_label::Form as LabelForm;
+use ix_text::privs_of;
 
-/// What a line of that form says, whose labels are spelled so, by rules 11 to 19: those that a word can break by itself.
-#[tactic(auto, unfolding(crate::specs::lines::Kinds::places_fault, crate::specs::lines::Kinds::first_broken))]
-pub(crate) fn line_by_form<'a>(
-    labels: LabelForm,
-    form: Form,
-    words: &Words<'a>,
-) -> Result<Line<'a>, Rule>
-    ensures { Reads (λ x. x) result (places labels form words.now) (said labels form words.now) }
+fn plain_line<'a>(command: Plain, proc: NameWord<'a>) -> Line<'a>
+    ensures { result ≡ plain_line command proc.entry }
+{
+    match command {
+        Plain::Wait => return Line::Wait { proc },
+        Plain::Self_ => return Line::Self_ { proc },
+        Plain::Freezeself => return Line::Freezeself { proc },
+        Plain::Thawself => return Line::Thawself { proc },
+    }
+}
+
+fn path_line<'a>(command: OnPath, proc: NameWord<'a>, path: PathWord<'a>) -> Line<'a>
+    ensures { result ≡ path_line command proc.entry path.entry }
+{
+    match command {
+        OnPath::Create => return Line::Create { proc, path },
+        OnPath::Mkdir => return Line::Mkdir { proc, path },
+        OnPath::Unlink => return Line::Unlink { proc, path },
+        OnPath::Rmdir => return Line::Rmdir { proc, path },
+        OnPath::Chdir => return Line::Chdir { proc, path },
+        OnPath::Stat => return Line::Stat { proc, path },
+        OnPath::Exec => return Line::Exec { proc, path },
+        OnPath::Labelof => return Line::Labelof { proc, path },
+        OnPath::Freeze => return Line::Freeze { proc, path },
+        OnPath::Thaw => return Line::Thaw { proc, path },
+    }
+}
+
+fn fd_line<'a>(command: OnFd, proc: NameWord<'a>, fd: FdWord<'a>) -> Line<'a>
+    ensures { result ≡ fd_line command proc.entry fd.entry }
+{
+    match command {
+        OnFd::Close => return Line::Close { proc, fd },
+        OnFd::Pex => return Line::Pex { proc, fd },
+        OnFd::Unpex => return Line::Unpex { proc, fd },
+        OnFd::Priv => return Line::Priv { proc, fd },
+    }
+}
+
+fn counted_line<'a>(command: Counted, proc: NameWord<'a>, fd: FdWord<'a>, n: u32) -> Line<'a>
+    ensures { result ≡ counted_line command proc.entry fd.entry n }
+{
+    match command {
+        Counted::Read => return Line::Read { proc, fd, count: n },
+        Counted::Cut => return Line::Cut { proc, fd, len: n },
+        Counted::Seek => return Line::Seek { proc, fd, at: n },
+    }
+}
+
+/// What a line of that form says, whose labels are spelled so, and whose words break no rule by themselves.
+pub(crate) fn line_by_form<'a>(labels: LabelForm, form: Form, words: &Words<'a>) -> Line<'a>
+    requires { Stand (places labels form words.now) }
+    ensures { said labels form words.now ≡ Some result }
 {
     match form {
-        Form::Limit => limit(words),
-        Form::Fs => fs(labels, words),
-        Form::Proc => proc(labels, words),
-        Form::Dir => dir(labels, words),
-        Form::File => file(labels, words),
-        Form::Phase => Ok(Line::Phase),
-        Form::Lane => lane(words),
-        Form::Plain(command) => plain(command, words),
-        Form::OnPath(command) => on_path(command, words),
-        Form::OnFd(command) => on_fd(command, words),
-        Form::Counted(command) => counted(command, words),
-        Form::Open => open(words),
-        Form::Write => write(words),
-        Form::Dup => dup(words),
-        Form::Pipe => pipe(words),
-        Form::Link => link(words),
-        Form::List => list(words),
-        Form::Copy => copy(words),
-        Form::Setlabel => setlabel(labels, words),
-        Form::Setpriv => setpriv(words),
-        Form::Fork => fork(words),
-        Form::Exit => exit(words),
-        Form::Setself => setself(labels, words),
-        Form::Droplic => droplic(words),
-        Form::Grant => grant(words),
-        Form::Ceiling => ceiling(labels, words),
-        Form::Readlog => readlog(words),
-        Form::Login => login(words),
+        Form::Phase => return Line::Phase,
+        Form::Limit => return Line::Limit {
+            what: what_of(words.get(1)).unwrap(),
+            number: words.bound(),
+        },
+        Form::Fs => return Line::Fs {
+            name: NameWord::of(words.get(1)),
+            ceiling: LabelWord::of(labels, words.get(2)),
+            blocks: number(1, 65_536, words.get(3)),
+            inodes: number(1, 65_536, words.get(4)),
+        },
+        Form::Proc => return Line::Proc {
+            name: NameWord::of(words.get(1)),
+            label: LabelWord::of(labels, words.get(2)),
+            ceiling: LabelWord::of(labels, words.get(3)),
+            cap: privs_of(words.get(4)).unwrap(),
+            lic: privs_of(words.get(5)).unwrap(),
+        },
+        Form::Dir => return Line::Dir {
+            path: MadePath::of(words.get(1)),
+            label: LabelWord::of(labels, words.get(2)),
+            frozen: state_of(words.get(3)).unwrap(),
+        },
+        Form::File => return Line::File {
+            path: MadePath::of(words.get(1)),
+            label: LabelWord::of(labels, words.get(2)),
+            frozen: state_of(words.get(3)).unwrap(),
+            cap: privs_of(words.get(4)).unwrap(),
+            lic: privs_of(words.get(5)).unwrap(),
+            bytes: Payload::of(words.get(6)),
+        },
+        Form::Lane => return Line::Lane {
+            name: NameWord::of(words.get(1)),
+        },
+        Form::Plain(command) => return plain_line(command, NameWord::of(words.get(1))),
+        Form::OnPath(command) => return path_line(
+            command,
+            NameWord::of(words.get(1)),
+            PathWord::of(words.get(2)),
+        ),
+        Form::OnFd(command) => return fd_line(
+            command,
+            NameWord::of(words.get(1)),
+            fd(words.get(2)),
+        ),
+        Form::Counted(command) => return counted_line(
+            command,
+            NameWord::of(words.get(1)),
+            fd(words.get(2)),
+            number(0, 4_294_967_295, words.get(3)),
+        ),
+        Form::Open => return Line::Open {
+            proc: NameWord::of(words.get(1)),
+            path: PathWord::of(words.get(2)),
+            mode: mode_of(words.get(3)).unwrap(),
+            named: words.name_after(4),
+        },
+        Form::Write => return Line::Write {
+            proc: NameWord::of(words.get(1)),
+            fd: fd(words.get(2)),
+            bytes: Payload::of(words.get(3)),
+        },
+        Form::Dup => return Line::Dup {
+            proc: NameWord::of(words.get(1)),
+            fd: fd(words.get(2)),
+            named: words.name_after(3),
+        },
+        Form::Pipe => return Line::Pipe {
+            proc: NameWord::of(words.get(1)),
+            named: words.two_names_after(),
+        },
+        Form::Link => return Line::Link {
+            proc: NameWord::of(words.get(1)),
+            target: PathWord::of(words.get(2)),
+            path: PathWord::of(words.get(3)),
+        },
+        Form::List => return Line::List {
+            proc: NameWord::of(words.get(1)),
+            path: PathWord::of(words.get(2)),
+            index: number(0, 4_294_967_295, words.get(3)),
+        },
+        Form::Copy => return Line::Copy {
+            proc: NameWord::of(words.get(1)),
+            from: fd(words.get(2)),
+            to: fd(words.get(3)),
+            count: number(0, 4_294_967_295, words.get(4)),
+        },
+        Form::Setlabel => return Line::Setlabel {
+            proc: NameWord::of(words.get(1)),
+            path: PathWord::of(words.get(2)),
+            label: LabelWord::of(labels, words.get(3)),
+        },
+        Form::Setpriv => return Line::Setpriv {
+            proc: NameWord::of(words.get(1)),
+            path: PathWord::of(words.get(2)),
+            cap: privs_of(words.get(3)).unwrap(),
+            lic: privs_of(words.get(4)).unwrap(),
+        },
+        Form::Fork => return Line::Fork {
+            proc: NameWord::of(words.get(1)),
+            keep: keep(words.get(2)),
+            named: words.name_after(3),
+        },
+        Form::Exit => return Line::Exit {
+            proc: NameWord::of(words.get(1)),
+            status: number(0, 255, words.get(2)),
+        },
+        Form::Setself => return Line::Setself {
+            proc: NameWord::of(words.get(1)),
+            label: LabelWord::of(labels, words.get(2)),
+        },
+        Form::Droplic => return Line::Droplic {
+            proc: NameWord::of(words.get(1)),
+            set: privs_of(words.get(2)).unwrap(),
+        },
+        Form::Grant => return Line::Grant {
+            proc: NameWord::of(words.get(1)),
+            to: NameWord::of(words.get(2)),
+            set: privs_of(words.get(3)).unwrap(),
+        },
+        Form::Ceiling => return Line::Ceiling {
+            proc: NameWord::of(words.get(1)),
+            of: NameWord::of(words.get(2)),
+            label: LabelWord::of(labels, words.get(3)),
+        },
+        Form::Readlog => return Line::Readlog {
+            proc: NameWord::of(words.get(1)),
+            index: number(0, 4_294_967_295, words.get(2)),
+        },
+        Form::Login => return Line::Login {
+            proc: NameWord::of(words.get(1)),
+            fd: fd(words.get(2)),
+            hand: fd(words.get(3)),
+            named: words.name_after(4),
+        },
     }
 }

@@ -1,45 +1,43 @@
-ghost use Rattle.std.specs.Prelude.{◌≡◌, [], ◌∷◌};
-ghost use Rattle.ix_script.specs.lines.Kinds as kind;
-ghost use Rattle.ix_script.specs.reader.Readers.{Reads};
+ghost use Rattle.std.specs.Prelude.{◌≡◌};
 ghost use Rattle.ix_script.specs.texts.Words.{mode_of, state_of, what_of};
 
 use crate::line::What;
-use crate::rule::Rule;
 use ix_model::Mode;
 use ix_text::is;
 
 /// `r`, `w` or `rw`.
-#[tactic(auto, unfolding(crate::specs::texts::Words::mode_of, crate::specs::lines::Kinds::places_fault, crate::specs::lines::Kinds::first_broken))]
-pub(crate) fn mode(word: &[u8]) -> Result<Mode, Rule>
-    ensures { Reads (λ x. x) result ((kind.Mode, word.now) ∷ []) (mode_of word.now) }
+#[tactic(auto, unfolding(crate::specs::texts::Words::mode_of))]
+pub(crate) fn mode_of(word: &[u8]) -> Option<Mode>
+    ensures { result ≡ mode_of word.now }
 {
     if is(word, b"r") {
-        Ok(Mode::Read)
+        Some(Mode::Read)
     } else if is(word, b"w") {
-        Ok(Mode::Write)
+        Some(Mode::Write)
     } else if is(word, b"rw") {
-        Ok(Mode::Both)
+        Some(Mode::Both)
     } else {
-        Err(Rule::UNKNOWN_WORD)
+        None
     }
 }
 
 /// Whether a state is frozen.
-#[tactic(auto, unfolding(crate::specs::texts::Words::state_of, crate::specs::lines::Kinds::places_fault, crate::specs::lines::Kinds::first_broken))]
-pub(crate) fn state(word: &[u8]) -> Result<bool, Rule>
-    ensures { Reads (λ x. x) result ((kind.State, word.now) ∷ []) (state_of word.now) }
+#[tactic(auto, unfolding(crate::specs::texts::Words::state_of))]
+pub(crate) fn state_of(word: &[u8]) -> Option<bool>
+    ensures { result ≡ state_of word.now }
 {
     if is(word, b"free") {
-        Ok(false)
+        Some(false)
     } else if is(word, b"frozen") {
-        Ok(true)
+        Some(true)
     } else {
-        Err(Rule::UNKNOWN_WORD)
+        None
     }
 }
 
+/// What a `limit` line limits.
 #[tactic(auto, unfolding(crate::specs::texts::Words::what_of))]
-pub(crate) fn what_by_name(word: &[u8]) -> Option<What>
+pub(crate) fn what_of(word: &[u8]) -> Option<What>
     ensures { result ≡ what_of word.now }
 {
     if is(word, b"procs") {
@@ -54,16 +52,5 @@ pub(crate) fn what_by_name(word: &[u8]) -> Option<What>
         Some(What::Log)
     } else {
         None
-    }
-}
-
-/// What a `limit` line limits.
-#[tactic(auto, unfolding(crate::specs::lines::Kinds::places_fault, crate::specs::lines::Kinds::first_broken))]
-pub(crate) fn what(word: &[u8]) -> Result<What, Rule>
-    ensures { Reads (λ x. x) result ((kind.Limited, word.now) ∷ []) (what_of word.now) }
-{
-    match what_by_name(word) {
-        Some(what) => Ok(what),
-        None => Err(Rule::UNKNOWN_WORD),
     }
 }

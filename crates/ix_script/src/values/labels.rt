@@ -1,9 +1,6 @@
-ghost use Rattle.std.specs.Prelude.{◌≡◌, [], ◌∷◌};
-ghost use Rattle.ix_script.specs.lines.Kinds as kind;
+ghost use Rattle.std.specs.Prelude.{◌≡◌, Some, IsSome};
 ghost use Rattle.ix_text.specs.Labels.{label_in};
-ghost use Rattle.ix_script.specs.reader.Readers.{Reads};
 
-use crate::rule::Rule;
 use ix_label::{Form, Label};
 use ix_text::label_in;
 use std::marker::Model;
@@ -32,26 +29,19 @@ impl<'a> Model for LabelWord<'a> {
 }
 
 impl<'a> LabelWord<'a> {
+    /// The label of a word in the form.
+    pub(crate) fn of(form: Form, word: &'a [u8]) -> LabelWord<'a>
+        requires { IsSome (label_in form word.now) }
+        ensures { label_in form word.now ≡ Some result }
+    {
+        LabelWord { word, form }
+    }
+
     /// The label. The word is read again.
     pub fn label(&self) -> Label
         ensures { result ≡ self.now }
     {
-        match label_in(self.form, self.word) {
-            Some(label) => label,
-            None => unreachable!(),
-        }
-    }
-}
-
-/// The label of that spelling in the form.
-#[tactic(auto, unfolding(crate::specs::lines::Kinds::places_fault, crate::specs::lines::Kinds::first_broken))]
-pub(crate) fn label(form: Form, word: &[u8]) -> Result<LabelWord<'_>, Rule>
-    ensures { Reads (λ x. x) result ((kind.Label form, word.now) ∷ []) (label_in form word.now) }
-{
-    if label_in(form, word).is_some() {
-        Ok(LabelWord { word, form })
-    } else {
-        Err(Rule::BAD_LABEL)
+        label_in(self.form, self.word).unwrap()
     }
 }
 

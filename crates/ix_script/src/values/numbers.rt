@@ -1,16 +1,14 @@
-ghost use Rattle.std.specs.Prelude.{◌≡◌, ℕ, ◌≤◌, ◌<◌, [], ◌∷◌, ◌==◌, Some, IfSome, MatchOption, IfOk, not, IsTrue};
-ghost use Rattle.std.specs.Bool.{OnFalse};
-ghost use Rattle.ix_model.specs.opening.Valid.{is_within};
+ghost use Rattle.std.specs.Prelude.{◌≡◌, ◌≤◌, ◌<◌, [], ◌∷◌, Some, IsSome, MatchOption};
 ghost use Rattle.ix_script.specs.lines.Kinds as kind;
 ghost use Rattle.ix_script.specs.lines.Kinds.{bounds, bounds_of};
-ghost use Rattle.ix_script.specs.reader.Readers.{Reads};
+ghost use Rattle.ix_script.specs.reader.Readers.{IsFault};
 ghost use Rattle.ix_script.specs.texts.Words.{is_numeral, value, number_of, fd_of, keep_of};
 
-use crate::cutting::words::{all_digits, begins_with_digit, name};
+use crate::cutting::words::{NameWord, all_digits, begins_with_digit};
 use crate::line::{FdWord, KeepWord, What};
 use crate::rule::Rule;
-use crate::values::choices::what_by_name;
-use ix_text::{begins, is};
+use crate::values::choices::what_of;
+use ix_text::{begins, is, is_script_name};
 
 #[tactic(auto, unfolding(crate::specs::texts::Words::is_numeral))]
 pub(crate) fn is_numeral(word: &[u8]) -> bool
@@ -34,23 +32,28 @@ pub(crate) fn value(word: &[u8]) -> Option<u32>
     Some(value as u32)
 }
 
-/// A decimal number without leading zeros, within bounds.
-#[tactic(auto, unfolding(crate::specs::texts::Words::number_of, crate::specs::lines::Kinds::places_fault, crate::specs::lines::Kinds::first_broken))]
-pub(crate) fn number(low: u32, high: u32, word: &[u8]) -> Result<u32, Rule>
-    ensures number { Reads (λ x. x) result ((kind.Number low high, word.now) ∷ []) (number_of low high word.now) }
-    ensures within { IfOk result (λ n. n ≤ high) }
+/// A decimal number without leading zeros, within bounds: the first rule that it breaks.
+#[tactic(auto, unfolding(crate::specs::lines::Kinds::places_fault, crate::specs::lines::Kinds::first_broken))]
+pub(crate) fn number_fault(low: u32, high: u32, word: &[u8]) -> Option<Rule>
+    ensures { IsFault result ((kind.Number low high, word.now) ∷ []) }
 {
     if !is_numeral(word) {
-        return Err(Rule::BAD_NUMBER);
+        return Some(Rule::BAD_NUMBER);
     }
-    let Some(n) = value(word) else {
-        return Err(Rule::OUT_OF_RANGE);
-    };
-    if low <= n && n <= high {
-        Ok(n)
-    } else {
-        Err(Rule::OUT_OF_RANGE)
+    match value(word) {
+        Some(n) if low <= n && n <= high => None,
+        _ => Some(Rule::OUT_OF_RANGE),
     }
+}
+
+/// A decimal number without leading zeros, within bounds.
+#[tactic(auto, unfolding(crate::specs::texts::Words::number_of))]
+pub(crate) fn number(low: u32, high: u32, word: &[u8]) -> u32
+    requires { IsSome (number_of low high word.now) }
+    ensures number { number_of low high word.now ≡ Some result }
+    ensures within { result ≤ high }
+{
+    value(word).unwrap()
 }
 
 /// The least and the greatest number to which that may be limited.
@@ -66,48 +69,67 @@ fn bounds_of(what: What) -> (u32, u32)
     }
 }
 
+/// The bounds of the number of a `limit` line for that word.
 #[tactic(auto, unfolding(crate::specs::lines::Kinds::bounds))]
-fn bounds(word: &[u8]) -> (u32, u32)
+pub(crate) fn bounds(word: &[u8]) -> (u32, u32)
     ensures { result ≡ bounds word.now }
 {
-    match what_by_name(word) {
+    match what_of(word) {
         Some(what) => bounds_of(what),
         None => (0, 4_294_967_295),
     }
 }
 
-/// The number of a `limit` line for that word.
+/// A number up to 255, or a name: the first rule that it breaks.
 #[tactic(auto, unfolding(crate::specs::lines::Kinds::places_fault, crate::specs::lines::Kinds::first_broken))]
-pub(crate) fn bound(what: &[u8], word: &[u8]) -> Result<u32, Rule>
-    ensures { Reads (λ x. x) result ((kind.Bound what.now, word.now) ∷ []) (number_of (bounds what.now).0 (bounds what.now).1 word.now) }
+pub(crate) fn fd_fault(word: &[u8]) -> Option<Rule>
+    ensures { IsFault result ((kind.Fd, word.now) ∷ []) }
 {
-    let (low, high) = bounds(what);
-    number(low, high, word)
+    if begins_with_digit(word) {
+        number_fault(0, 255, word)
+    } else if is_script_name(word) {
+        None
+    } else {
+        Some(Rule::BAD_NAME)
+    }
+}
+
+/// `all`, `none`, or a descriptor: the first rule that it breaks.
+#[tactic(auto, unfolding(crate::specs::lines::Kinds::places_fault, crate::specs::lines::Kinds::first_broken))]
+pub(crate) fn keep_fault(word: &[u8]) -> Option<Rule>
+    ensures { IsFault result ((kind.Keep, word.now) ∷ []) }
+{
+    if is(word, b"all") || is(word, b"none") {
+        None
+    } else {
+        fd_fault(word)
+    }
 }
 
 /// A number up to 255, or a name.
-#[tactic(auto, unfolding(crate::specs::texts::Words::fd_of, crate::specs::lines::Kinds::places_fault, crate::specs::lines::Kinds::first_broken))]
-pub(crate) fn fd(word: &[u8]) -> Result<FdWord<'_>, Rule>
-    ensures { Reads (λ x. x) result ((kind.Fd, word.now) ∷ []) (fd_of word.now) }
+#[tactic(auto, unfolding(crate::specs::texts::Words::fd_of))]
+pub(crate) fn fd(word: &[u8]) -> FdWord<'_>
+    requires { IsSome (fd_of word.now) }
+    ensures { fd_of word.now ≡ Some result }
 {
     if begins_with_digit(word) {
-        let n = number(0, 255, word)?;
-        Ok(FdWord::Number(n as u8))
+        FdWord::Number(number(0, 255, word) as u8)
     } else {
-        Ok(FdWord::Named(name(word)?))
+        FdWord::Named(NameWord::of(word))
     }
 }
 
 /// `all`, `none`, or a descriptor.
-#[tactic(auto, unfolding(crate::specs::texts::Words::keep_of, crate::specs::lines::Kinds::places_fault, crate::specs::lines::Kinds::first_broken))]
-pub(crate) fn keep(word: &[u8]) -> Result<KeepWord<'_>, Rule>
-    ensures { Reads (λ x. x) result ((kind.Keep, word.now) ∷ []) (keep_of word.now) }
+#[tactic(auto, unfolding(crate::specs::texts::Words::keep_of))]
+pub(crate) fn keep(word: &[u8]) -> KeepWord<'_>
+    requires { IsSome (keep_of word.now) }
+    ensures { keep_of word.now ≡ Some result }
 {
     if is(word, b"all") {
-        Ok(KeepWord::All)
+        KeepWord::All
     } else if is(word, b"none") {
-        Ok(KeepWord::Nothing)
+        KeepWord::Nothing
     } else {
-        Ok(KeepWord::One(fd(word)?))
+        KeepWord::One(fd(word))
     }
 }

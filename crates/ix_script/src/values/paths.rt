@@ -1,14 +1,10 @@
-ghost use Rattle.std.specs.Prelude.{◌≡◌, [], ◌∷◌};
+ghost use Rattle.std.specs.Prelude.{◌≡◌, Some, IsSome, is_some};
 ghost use Rattle.std.specs.List.{list_all};
 ghost use Rattle.ix_model.specs.world.Paths.{path_of};
 ghost use Rattle.ix_text.specs.Bytes.{begins};
-ghost use Rattle.ix_script.specs.lines.Kinds as kind;
-ghost use Rattle.ix_script.specs.reader.Readers.{Reads};
-ghost use Rattle.ix_script.specs.texts.Spellings.{path_text};
 ghost use Rattle.ix_script.specs.texts.Words as words;
 ghost use Rattle.ix_script.specs.texts.Words.{may_stand_in_path, is_path_word, made_path_of, names_text};
 
-use crate::rule::Rule;
 use ix_model::Path;
 use ix_text::begins;
 use std::marker::Model;
@@ -32,7 +28,7 @@ fn parts(word: &[u8]) -> (bool, &[u8])
 }
 
 #[tactic(auto, unfolding(crate::specs::texts::Words::is_path_word))]
-fn is_path_word(word: &[u8]) -> bool
+pub(crate) fn is_path_word(word: &[u8]) -> bool
     ensures { result ≡ is_path_word word.now }
 {
     if word.is_empty() || !all_in_path(word) {
@@ -40,6 +36,14 @@ fn is_path_word(word: &[u8]) -> bool
     }
     let (absolute, text) = parts(word);
     Path::read(absolute, text).is_some()
+}
+
+/// Whether a word spells an absolute path with a name.
+#[tactic(auto, unfolding(crate::specs::texts::Words::made_path_of, crate::specs::texts::Words::path_of))]
+pub(crate) fn is_made_path(word: &[u8]) -> bool
+    ensures { result ≡ is_some (made_path_of word.now) }
+{
+    begins(b'/', word) && word.len() > 1 && is_path_word(word)
 }
 
 /// A path, as a word of a script spells it. It borrows the word, and contracts see the path.
@@ -61,31 +65,21 @@ impl<'a> Model for PathWord<'a> {
 }
 
 impl<'a> PathWord<'a> {
+    /// The path that a word spells.
+    #[tactic(auto, unfolding(crate::specs::texts::Words::path_of))]
+    pub(crate) fn of(word: &'a [u8]) -> PathWord<'a>
+        requires { IsSome (words.path_of word.now) }
+        ensures { words.path_of word.now ≡ Some result }
+    {
+        PathWord { word }
+    }
+
     /// The path. It borrows the word: nothing is copied, and nothing looked at but the first byte.
     pub fn path(&self) -> Path<'a>
         ensures { path_of result ≡ self.now }
     {
         let (absolute, text) = parts(self.word);
         Path::from_text(absolute, text)
-    }
-
-    /// Its text, which is the word.
-    pub fn as_bytes(&self) -> &'a [u8]
-        ensures { result.now ≡ path_text self.now }
-    {
-        self.word
-    }
-}
-
-/// A path.
-#[tactic(auto, unfolding(crate::specs::texts::Words::path_of, crate::specs::lines::Kinds::places_fault, crate::specs::lines::Kinds::first_broken))]
-pub(crate) fn path(word: &[u8]) -> Result<PathWord<'_>, Rule>
-    ensures { Reads (λ x. x) result ((kind.AnyPath, word.now) ∷ []) (words.path_of word.now) }
-{
-    if is_path_word(word) {
-        Ok(PathWord { word })
-    } else {
-        Err(Rule::BAD_PATH)
     }
 }
 
@@ -109,29 +103,20 @@ impl<'a> Model for MadePath<'a> {
 }
 
 impl<'a> MadePath<'a> {
+    /// The path that a word spells.
+    pub(crate) fn of(word: &'a [u8]) -> MadePath<'a>
+        requires { IsSome (made_path_of word.now) }
+        ensures { made_path_of word.now ≡ Some result }
+    {
+        MadePath {
+            path: PathWord::of(word),
+        }
+    }
+
     /// The path. It borrows the word.
     pub fn path(&self) -> Path<'a>
         ensures { path_of result ≡ self.now }
     {
         self.path.path()
     }
-
-    /// Its text, which is the word.
-    pub fn as_bytes(&self) -> &'a [u8]
-        ensures { result.now ≡ path_text self.now }
-    {
-        self.path.as_bytes()
-    }
-}
-
-/// An absolute path with a name.
-#[tactic(auto, unfolding(crate::specs::texts::Words::made_path_of, crate::specs::lines::Kinds::places_fault, crate::specs::lines::Kinds::first_broken))]
-pub(crate) fn made_path(word: &[u8]) -> Result<MadePath<'_>, Rule>
-    ensures { Reads (λ x. x) result ((kind.MadePath, word.now) ∷ []) (made_path_of word.now) }
-{
-    if !begins(b'/', word) || word.len() == 1 {
-        return Err(Rule::BAD_PATH);
-    }
-    let path = path(word)?;
-    Ok(MadePath { path })
 }

@@ -1,10 +1,10 @@
-ghost use Rattle.std.specs.Prelude.{◌≡◌, ℕ, ◌<◌, ◌≤◌, ◌+◌, ◌^◌, ◌∷◌, [], is_some, length, IfSome, Some, None, take, replicate, OnOk};
+ghost use Rattle.std.specs.Prelude.{◌≡◌, ℕ, ◌<◌, ◌≤◌, ◌+◌, ◌^◌, ◌∷◌, [], is_some, length, IfSome, IsSome, Some, None, take, replicate, OnOk};
 ghost use Rattle.std.specs.List.{list_all};
 ghost use Rattle.ix_script.specs.lines.Kinds as kind;
 ghost use Rattle.ix_script.specs.texts.Payloads.{bytes_of, digit_of, pairs_of, quoted_from, times_from, times_of, payload_of};
-ghost use Rattle.ix_script.specs.reader.Readers.{Reads};
-ghost use Rattle.ix_script.specs.lines.Said.{payload_within};
-ghost use Rattle.ix_script.specs.texts.Spelled.{Counts, Spells};
+ghost use Rattle.ix_script.specs.reader.Readers.{IsFault};
+ghost use Rattle.ix_script.specs.lines.Said.{payload_within, within};
+ghost use Rattle.ix_script.specs.texts.Spelled.{Counts, SpellsRight};
 ghost use Rattle.ix_script.specs.declared.values.escape.Escape.TheVariants as escape;
 
 use crate::cutting::words::place_of;
@@ -12,7 +12,7 @@ use crate::rule::Rule;
 use crate::values::escape::Escape;
 use crate::values::hexes::{is_hex_digit, two_digits};
 use crate::values::numbers::{is_numeral, value};
-use crate::values::spelling::{PayloadBytes, Spelling};
+use crate::values::spelling::Spelling;
 use ix_model::NoMemory;
 use ix_text::begins;
 use std::marker::Model;
@@ -94,87 +94,107 @@ fn count_of_quoted(text: &[u8]) -> Result<usize, Rule>
     Err(Rule::BAD_PAYLOAD)
 }
 
-/// A byte so often as a number says, at most so often.
+/// How often a byte stands that stands as often as a number says, at most so often.
 #[tactic(auto, unfolding(crate::specs::texts::Payloads::times_from, crate::specs::texts::Spelled::spelling_fault))]
-fn times<'a>(most: u32, count: &[u8], digits: &[u8]) -> Result<(Spelling<'a>, usize), Rule>
-    ensures { Spells most result (times_from count.now digits.now) }
+fn count_of_times(most: u32, count: &[u8], digits: &[u8]) -> Result<usize, Rule>
+    ensures { Counts most result (times_from count.now digits.now) }
 {
-    if !is_numeral(count) {
+    if !is_numeral(count) || two_digits(digits).is_none() {
         return Err(Rule::BAD_PAYLOAD);
     }
-    let Some(byte) = two_digits(digits) else {
-        return Err(Rule::BAD_PAYLOAD);
-    };
-    let Some(n) = value(count) else {
-        return Err(Rule::LONG_PAYLOAD);
-    };
-    if n > most {
-        return Err(Rule::LONG_PAYLOAD);
+    match value(count) {
+        Some(n) if n <= most => Ok(n as usize),
+        _ => Err(Rule::LONG_PAYLOAD),
     }
-    Ok((Spelling::Times(n, byte), n as usize))
 }
 
-#[tactic(auto, unfolding(crate::specs::texts::Payloads::times_of, crate::specs::texts::Spelled::spelling_fault))]
-fn times_by_word<'a>(most: u32, word: &[u8]) -> Result<(Spelling<'a>, usize), Rule>
-    ensures { Spells most result (times_of word.now) }
+/// How many bytes a word spells.
+#[tactic(auto, unfolding(crate::specs::texts::Payloads::payload_of, crate::specs::texts::Payloads::times_of, crate::specs::texts::Spelled::spelling_fault))]
+fn count_of(most: u32, word: &[u8]) -> Result<usize, Rule>
+    ensures { Counts most result (payload_of word.now) }
 {
+    if begins(b'"', word) {
+        return count_of_quoted(&word[1..]);
+    }
+    if begins(b'x', word) {
+        return count_of_pairs(&word[1..]);
+    }
     match place_of(b'*', word) {
-        Some(k) => {
-            let (_, digits) = word.split_at(k + 1);
-            times(most, &word[..k], digits)
+        Some(star) => {
+            let (_, digits) = word.split_at(star + 1);
+            count_of_times(most, &word[..star], digits)
         }
         None => Err(Rule::BAD_PAYLOAD),
     }
 }
 
-fn pairs(text: &[u8]) -> Result<(Spelling<'_>, usize), Rule>
-    ensures { (most : ℕ) → Spells most result (pairs_of text.now) }
+/// The byte of n*HH, and how often it stands, in a word that is known to spell so, at most so often.
+#[tactic(auto, unfolding(crate::specs::texts::Payloads::times_of, crate::specs::texts::Payloads::times_from))]
+fn known_times<const MOST: u32>(word: &[u8]) -> (u32, u8)
+    requires { IsSome (within MOST (times_of word.now)) }
+    ensures { times_of word.now ≡ Some (replicate result.0 result.1) }
 {
-    match count_of_pairs(text) {
-        Ok(count) => Ok((Spelling::Pairs(text), count)),
-        Err(rule) => Err(rule),
-    }
+    let star = place_of(b'*', word).unwrap();
+    let (_, digits) = word.split_at(star + 1);
+    let n = value(&word[..star]).unwrap();
+    (n, two_digits(digits).unwrap())
 }
 
-fn quoted(text: &[u8]) -> Result<(Spelling<'_>, usize), Rule>
-    ensures { (most : ℕ) → Spells most result (quoted_from escape.Plain text.now) }
+fn known_pairs(text: &[u8]) -> (Spelling<'_>, usize)
+    requires { IsSome (pairs_of text.now) }
+    ensures { SpellsRight result.0 result.1 (pairs_of text.now) }
 {
-    match count_of_quoted(text) {
-        Ok(count) => Ok((Spelling::Quoted(text), count)),
-        Err(rule) => Err(rule),
-    }
+    (Spelling::Pairs(text), text.len() / 2)
 }
 
-/// How a word spells bytes, and how many.
+fn known_quoted(text: &[u8]) -> (Spelling<'_>, usize)
+    requires { IsSome (quoted_from escape.Plain text.now) }
+    ensures { SpellsRight result.0 result.1 (quoted_from escape.Plain text.now) }
+{
+    (Spelling::Quoted(text), count_of_quoted(text).unwrap())
+}
+
+/// How a word spells bytes that is known to spell some, at most so many, and how many.
 #[tactic(auto, unfolding(crate::specs::texts::Payloads::payload_of))]
-fn spelled<'a>(most: u32, word: &'a [u8]) -> Result<(Spelling<'a>, usize), Rule>
-    ensures { Spells most result (payload_of word.now) }
+fn known<const MOST: u32>(word: &[u8]) -> (Spelling<'_>, usize)
+    requires { IsSome (payload_within MOST word.now) }
+    ensures { SpellsRight result.0 result.1 (payload_of word.now) }
 {
     if begins(b'"', word) {
-        quoted(&word[1..])
+        known_quoted(&word[1..])
     } else if begins(b'x', word) {
-        pairs(&word[1..])
+        known_pairs(&word[1..])
     } else {
-        times_by_word(most, word)
+        let (n, byte) = known_times::<MOST>(word);
+        (Spelling::Times(n, byte), n as usize)
     }
 }
 
-/// The bytes of a payload, at most so many.
+/// The bytes of a payload, at most so many: the first rule that it breaks.
 #[tactic(auto, unfolding(crate::specs::texts::Spelled::spelling_fault, crate::specs::lines::Kinds::places_fault, crate::specs::lines::Kinds::first_broken))]
-pub(crate) fn payload_of<'a, const MOST: u32>(word: &'a [u8]) -> Result<Payload<'a, MOST>, Rule>
-    ensures { Reads (λ x. x) result ((kind.Payload MOST, word.now) ∷ []) (payload_within MOST word.now) }
+pub(crate) fn payload_fault(most: u32, word: &[u8]) -> Option<Rule>
+    ensures { IsFault result ((kind.Payload most, word.now) ∷ []) }
 {
-    let (spelling, len) = spelled(MOST, word)?;
-    if len > MOST as usize {
-        return Err(Rule::LONG_PAYLOAD);
+    match count_of(most, word) {
+        Ok(len) if len > most as usize => Some(Rule::LONG_PAYLOAD),
+        Ok(_) => None,
+        Err(rule) => Some(rule),
     }
-    Ok(Payload {
-        spelling,
-        len: len as u32,
-    })
 }
 
 impl<'a, const MOST: u32> Payload<'a, MOST> {
+    /// The bytes of a payload.
+    pub(crate) fn of(word: &'a [u8]) -> Payload<'a, MOST>
+        requires { IsSome (payload_within MOST word.now) }
+        ensures { payload_within MOST word.now ≡ Some result }
+    {
+        let (spelling, len) = known::<MOST>(word);
+        Payload {
+            spelling,
+            len: len as u32,
+        }
+    }
+
     /// How many bytes there are.
     pub fn len(&self) -> usize
         ensures len { result ≡ length self.now }
@@ -191,13 +211,6 @@ impl<'a, const MOST: u32> Payload<'a, MOST> {
             Spelling::Times(n, byte) => Some((n as usize, byte)),
             _ => None,
         }
-    }
-
-    /// The bytes, one after the other.
-    pub fn bytes(&self) -> PayloadBytes<'a>
-        ensures { result ≡ self.now }
-    {
-        PayloadBytes::new(self.spelling)
     }
 
     /// Puts the bytes at the front of a buffer.

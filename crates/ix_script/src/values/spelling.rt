@@ -19,18 +19,6 @@ pub(crate) enum Spelling<'a> {
     Times(u32, u8),
 }
 
-/// The byte of the first pair of digits, and the pairs after it.
-#[tactic(auto, unfolding(crate::specs::texts::Payloads::pairs_of))]
-fn first_of_pairs(text: &[u8]) -> Option<(u8, &[u8])>
-    requires { IsSome (pairs_of text.now) }
-    ensures { pairs_of text.now ≡ option_map_or (λ p. after_bytes (p.0 ∷ []) (pairs_of p.1.now)) result (Some []) }
-{
-    let [high, low, more @ ..] = text else {
-        return None;
-    };
-    Some((known_pair(*high, *low), more))
-}
-
 /// The byte of the two digits behind a backslash and an `x`, and the text after them.
 #[tactic(auto, using(crate::proofs::texts::Spelling::no_digits), unfolding(crate::specs::texts::Payloads::quoted_from, crate::specs::texts::Payloads::escape_step))]
 fn first_of_digits(text: &[u8]) -> Option<(u8, &[u8])>
@@ -125,62 +113,5 @@ impl<'a> Spelling<'a> {
             Spelling::Quoted(text) => decode_quoted(text, count, buf),
             Spelling::Times(_, byte) => buf[..count].fill(byte),
         }
-    }
-
-    /// The first byte that is spelled, and how the bytes after it are; `None` exactly where there is none.
-    fn first(self) -> Option<(u8, Spelling<'a>)>
-        requires { IsSome (spelled_by self) }
-        ensures { spelled_by self.entry ≡ option_map_or (λ p. after_bytes (p.0 ∷ []) (spelled_by p.1)) result (Some []) }
-    {
-        match self {
-            Spelling::Pairs(text) => {
-                let (byte, more) = first_of_pairs(text)?;
-                Some((byte, Spelling::Pairs(more)))
-            }
-            Spelling::Quoted(text) => {
-                let (byte, more) = first_of_quoted(text)?;
-                Some((byte, Spelling::Quoted(more)))
-            }
-            Spelling::Times(n, byte) => {
-                let more = n.checked_sub(1)?;
-                Some((byte, Spelling::Times(more, byte)))
-            }
-        }
-    }
-}
-
-/// The bytes of a payload, one after the other. Contracts see those that are left.
-#[derive(Drop)]
-pub struct PayloadBytes<'a> {
-    left: Spelling<'a>,
-}
-
-impl<'a> Model for PayloadBytes<'a> {
-    ghost use Rattle.std.specs.Prelude.{◌≡◌, List, ℕ, Some};
-    ghost use Rattle.ix_script.specs.texts.PayloadBytes.{bytes_in, spelled_by};
-
-    ghost Value = { List ℕ };
-
-    ghost view = { λ b. bytes_in b.left };
-
-    ghost invariant = { λ b. spelled_by b.left ≡ Some (bytes_in b.left) };
-}
-
-impl<'a> PayloadBytes<'a> {
-    /// All that are spelled.
-    pub(crate) fn new(spelling: Spelling<'a>) -> PayloadBytes<'a>
-        requires { spelled_by spelling ≡ Some (bytes_in spelling) }
-        ensures { result ≡ bytes_in spelling.entry }
-    {
-        PayloadBytes { left: spelling }
-    }
-
-    /// The next byte; `None` exactly where there is none left.
-    pub fn next(&mut self) -> Option<u8>
-        ensures { MatchOption result (self.old ≡ []) (λ byte. self.old ≡ byte ∷ self.new) }
-    {
-        let (byte, left) = self.left.first()?;
-        self.left = left;
-        Some(byte)
     }
 }

@@ -1,4 +1,4 @@
-ghost use Rattle.std.specs.Prelude.{◌≡◌, ◌++◌, ◌∷◌, ◌≤◌, ◌==◌, codes, length, replicate, OnOk, IsTrue};
+ghost use Rattle.std.specs.Prelude.{◌≡◌, ◌++◌, ◌≤◌, ◌==◌, codes, length, replicate, OnOk, IsTrue};
 ghost use Rattle.std.specs.List.{list_all};
 ghost use Rattle.ix_text.specs.Spellings.{hex_pair};
 ghost use Rattle.ix_script.specs.texts.Spellings.{pairs_text, times_text, stands_quoted, quoted_byte, quoted_text, once, payload_text};
@@ -195,15 +195,14 @@ fn are_times_shortest(n: usize, byte: u8) -> bool
     len < n as u128 * 2 + 1 && len <= n as u128 + 2
 }
 
-/// A space and a payload in its shortest spelling. A byte over and over is never put into the buffer but once.
+/// A payload in its shortest spelling. A byte over and over is never put into the buffer but once.
 pub(crate) fn payload<const MOST: u32>(
     out: &mut Vec<u8>,
     buffer: &mut Vec<u8>,
     payload: &Payload<'_, MOST>,
 ) -> Result<(), NoMemory>
-    ensures { OnOk result (out.new.items ≡ out.old.items ++ 32 ∷ payload_text payload.now) }
+    ensures { OnOk result (out.new.items ≡ out.old.items ++ payload_text payload.now) }
 {
-    push(out, b" ")?;
     if let Some((n, byte)) = payload.times() {
         if are_times_shortest(n, byte) {
             return times(out, n, byte);

@@ -1,93 +1,74 @@
-ghost use Rattle.std.specs.Prelude.{◌≡◌, ◌++◌, ◌∷◌, [], Some, false, slice_get, OnOk, IfOk, codes};
+ghost use Rattle.std.specs.Prelude.{◌≡◌, ◌++◌, ◌-◌, ◌≤◌, Some, None, false, length, take, slice_get, OnOk, IfOk, codes};
 ghost use Rattle.std.proofs.Common.{option_map};
-ghost use Rattle.ix_label.specs.Spelling.{spelling};
-ghost use Rattle.ix_text.specs.Spellings.{further, privs_text, state_text};
-ghost use Rattle.ix_script.specs.texts.Spellings.{path_text, fd_text, payload_text};
-ghost use Rattle.ix_script.specs.scripts.Canonical.{line_text, may_be_respelled, canonical};
+ghost use Rattle.ix_script.specs.scripts.Canonical.{line_text, canonical};
+ghost use Rattle.ix_script.specs.scripts.Packed.{IsLine, line_in};
 ghost use Rattle.ix_script.specs.lines.Before.{form_told};
+ghost use Rattle.ix_script.specs.lines.Said.{version_of};
+ghost use Rattle.ix_script.specs.texts.Cutting.{is_skipped, is_policy_line};
 
-use crate::cutting::words::NameWord;
-use crate::line::{FdWord, Line};
-use crate::packed::Lines;
+use crate::cutting::cut::Words;
+use crate::cutting::first_word::form_of;
+use crate::packed::{Lines, has_one_spelling};
+use crate::rules::is_skipped;
 use crate::script::Script;
-use crate::values::labels::LabelWord;
-use crate::values::paths::MadePath;
 use crate::values::payload::Payload;
-use crate::written::append::{fd, label_word, push, push_byte, word};
+use crate::written::append::{push, push_byte};
 use crate::written::payload_text::payload;
-use ix_label::Form;
-use ix_model::{NoMemory, PrivSet};
-use ix_text::{privs_text, state_word};
+use ix_label::Form as LabelForm;
+use ix_model::NoMemory;
 use std::alloc::Global;
 
-/// A `file` line, whose label is spelled in the form.
-fn file(
-    out: &mut Vec<u8>,
-    buffer: &mut Vec<u8>,
-    form: Form,
-    path: &MadePath<'_>,
-    label: &LabelWord<'_>,
-    frozen: bool,
-    cap: PrivSet,
-    lic: PrivSet,
-    bytes: &Payload<'_, 1_048_576>,
-) -> Result<(), NoMemory>
-    ensures { OnOk result (out.new.items ≡ out.old.items ++ (codes "file" ++ further 32 (path_text path.now ∷ spelling form label.now ∷ state_text frozen
-        ∷ privs_text cap ∷ privs_text lic ∷ payload_text bytes.now ∷ []))) }
+/// What stands before the last word of a text.
+fn before_word<'a>(text: &'a [u8], word: &[u8]) -> &'a [u8]
+    requires { length word.now ≤ length text.now }
+    ensures { result.now ≡ take (length text.now - length word.now) text.now }
 {
-    push(out, b"file")?;
-    word(out, path.as_bytes())?;
-    label_word(out, form, label)?;
-    word(out, state_word(frozen))?;
-    word(out, privs_text(cap).as_slice())?;
-    word(out, privs_text(lic).as_slice())?;
-    payload(out, buffer, bytes)
+    &text[..text.len() - word.len()]
 }
 
-/// A `write` line.
-fn write_fd(
+/// The canonical text of a line that is cut into words: the text itself, but for a payload.
+fn write_words(
     out: &mut Vec<u8>,
     buffer: &mut Vec<u8>,
-    proc: &NameWord<'_>,
-    at: &FdWord<'_>,
-    bytes: &Payload<'_, 4096>,
+    labels: LabelForm,
+    text: &[u8],
 ) -> Result<(), NoMemory>
-    ensures { OnOk result (out.new.items ≡ out.old.items ++ (codes "write" ++ further 32 (proc.now ∷ fd_text at.now ∷ payload_text bytes.now ∷ []))) }
+    requires line { IsLine labels text.now }
+    requires some { is_skipped text.now ≡ false }
+    requires words { is_policy_line text.now ≡ false }
+    requires later { version_of text.now ≡ None }
+    ensures { OnOk result (out.new.items ≡ out.old.items ++ line_text labels (line_in labels text.now)) }
 {
-    push(out, b"write")?;
-    word(out, proc.as_bytes())?;
-    fd(out, at)?;
-    payload(out, buffer, bytes)
+    let mut words = Words::none();
+    words.cut(text);
+    let place = form_of(words.get(0)).unwrap().payload_place();
+    if place == 0 {
+        return push(out, text);
+    }
+    push(out, before_word(text, words.get(place)))?;
+    payload(out, buffer, &Payload::<1_048_576>::of(words.get(place)))
 }
 
-/// A line's canonical text, without a line feed: that which was read, but for skipped lines and payloads.
-#[tactic(auto, unfolding(crate::specs::scripts::Canonical::line_words, crate::specs::scripts::Canonical::may_be_respelled))]
+/// The canonical text of a line of that text, without a line feed, whose labels are spelled in the form.
 fn write_line(
     out: &mut Vec<u8>,
     buffer: &mut Vec<u8>,
-    form: Form,
+    labels: LabelForm,
     text: &[u8],
-    line: &Line<'_>,
 ) -> Result<(), NoMemory>
-    requires { may_be_respelled line.now ≡ false → line_text form line.now ≡ text.now }
-    ensures { OnOk result (out.new.items ≡ out.old.items ++ line_text form line.now) }
+    requires { IsLine labels text.now }
+    ensures { OnOk result (out.new.items ≡ out.old.items ++ line_text labels (line_in labels text.now)) }
 {
-    match line {
-        Line::Skipped => Ok(()),
-        Line::File {
-            path,
-            label,
-            frozen,
-            cap,
-            lic,
-            bytes,
-        } => file(out, buffer, form, path, label, *frozen, *cap, *lic, bytes),
-        Line::Write { proc, fd, bytes } => write_fd(out, buffer, proc, fd, bytes),
-        _ => push(out, text),
+    if has_one_spelling(text) {
+        return push(out, text);
     }
+    if is_skipped(text) {
+        return Ok(());
+    }
+    write_words(out, buffer, labels, text)
 }
 
-/// The text of the line at an index and a line feed. A line is made only where its text isn't the one that was read.
+/// The text of the line at an index and a line feed.
 fn write_ended(
     out: &mut Vec<u8>,
     buffer: &mut Vec<u8>,
@@ -96,14 +77,10 @@ fn write_ended(
 ) -> Result<(), NoMemory>
     ensures { OnOk result (option_map (λ l. out.old.items ++ (line_text (form_told lines.now) l ++ codes "\n")) (slice_get lines.now index) ≡ Some out.new.items) }
 {
-    if let Some(text) = lines.canonical_text(index) {
-        push(out, text)?;
-    } else {
-        let Some((text, line)) = lines.text_and_line(index) else {
-            return Err(NoMemory);
-        };
-        write_line(out, buffer, lines.form(), text, &line)?;
-    }
+    let Some(text) = lines.text_at(index) else {
+        return Err(NoMemory);
+    };
+    write_line(out, buffer, lines.form(), text)?;
     push_byte(out, b'\n')
 }
 

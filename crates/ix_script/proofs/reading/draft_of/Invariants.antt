@@ -1,10 +1,16 @@
-use Rattle.std.proofs.Common.{length}
+use Rattle.std.proofs.Common.{◌≡◌, true, length}
+use Rattle.std.specs.Prelude.{IsTrue}
+use Rattle.std.specs.List.{list_all}
+use Rattle.ix_model.specs.opening.Valid.{is_within}
 use Rattle.ix_script.specs.texts.Lines.{cut}
 use Rattle.ix_script.proofs.reader.Progress.{Reading}
 use Rattle.ix_script.proofs.reading.draft_of.Given as goal
 
 abbrev pub invariant-lines : goal.invariant-lines
-invariant-lines g l = Reading (cut l.bytes) (length l.bytes) l.rest l.draft
+invariant-lines g l = record {
+  reading : Reading (cut l.bytes) (length l.bytes) l.rest l.draft;
+  printable : IsTrue l.printable → list_all (list_all (is_within 32 126)) (cut l.rest) ≡ true;
+}
 
 abbrev pub decreases-lines : goal.decreases-lines
 decreases-lines g l = length l.rest

@@ -6,7 +6,7 @@ use Rattle.ix_script.proofs.texts.Words.{Cutting}
 use Rattle.ix_script.proofs.cutting.cut.cut_into.Given as goal
 
 abbrev pub invariant-words : goal.invariant-words
-invariant-words l = Cutting (words_of l.text) (map (λ s. s.now) l.first.items) l.count l.has_empty l.has_open (option_map_or (λ front. pieces spot.Front front.now) l.rest [])
+invariant-words l = Cutting (words_of l.text) (map (λ s. s.now) l.first) l.count l.has_empty l.has_open (option_map_or (λ front. pieces spot.Front front.now) l.rest [])
 
 abbrev pub decreases-words : goal.decreases-words
 decreases-words l = option_map_or (λ front. suc (length front.now)) l.rest 0

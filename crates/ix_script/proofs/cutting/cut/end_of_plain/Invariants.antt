@@ -1,7 +1,10 @@
-use Rattle.std.proofs.Common.{◌≡◌, ◌+◌, drop, option_map}
+use Rattle.std.proofs.Common.{◌≡◌, ◌+◌, ◌≤◌, drop, option_map}
+use Rattle.ix_script.specs.reader.Cut.{gap_from}
 use Rattle.ix_script.specs.declared.cutting.spot.Spot.TheVariants as spot
-use Rattle.ix_script.proofs.texts.Pieces.{gap_from}
 use Rattle.ix_script.proofs.cutting.cut.end_of_plain.Given as goal
 
 abbrev pub invariant-bytes : goal.invariant-bytes
-invariant-bytes l = gap_from spot.Plain l.text ≡ option_map (λ k. l.i + k) (gap_from spot.Plain (drop l.i l.text))
+invariant-bytes l = record {
+  low : l.i ≤ l.near;
+  gap : gap_from spot.Plain l.text ≡ option_map (λ k. l.i + k) (gap_from spot.Plain (drop l.i l.text));
+}

@@ -1,6 +1,7 @@
 use Rattle.std.proofs.Common.{◌∙◌, sym, ap}
 use Rattle.ix_script.specs.declared.cutting.spot.Spot.TheVariants as spot
-use Rattle.ix_script.proofs.texts.Pieces.{gap_from, cut_at, cut_at_gap, gap_found, gap_next, gap_none, gap_start}
+use Rattle.ix_script.specs.reader.Cut.{gap_from}
+use Rattle.ix_script.proofs.texts.Pieces.{cut_at, cut_at_gap, gap_found, gap_next, gap_none, gap_start}
 use Rattle.ix_script.proofs.cutting.cut.end_of_quoted.Goals as goal
 
 pub bytes-init : goal.bytes-init

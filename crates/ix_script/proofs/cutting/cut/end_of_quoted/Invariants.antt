@@ -1,6 +1,6 @@
 use Rattle.std.proofs.Common.{◌≡◌, ◌+◌, drop, option_map}
 use Rattle.ix_script.specs.declared.cutting.spot.Spot.TheVariants as spot
-use Rattle.ix_script.proofs.texts.Pieces.{gap_from}
+use Rattle.ix_script.specs.reader.Cut.{gap_from}
 use Rattle.ix_script.proofs.cutting.cut.end_of_quoted.Given as goal
 
 abbrev pub invariant-bytes : goal.invariant-bytes

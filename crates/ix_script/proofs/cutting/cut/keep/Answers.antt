@@ -1,7 +1,9 @@
-use Rattle.std.proofs.Common.{arith}
-use Rattle.std.proofs.lemmas.List.{length-map}
-use Rattle.ix_script.proofs.texts.Words.{full}
+use Rattle.std.proofs.Common.{◌≡◌, nat_lt, true}
+use Rattle.std.proofs.lemmas.Bool.{lt-ltb}
+use Rattle.std.proofs.lemmas.List.{map-set}
 use Rattle.ix_script.proofs.cutting.cut.keep.Goals as goal
 
-pub returns-else-len-lt-KEPT : goal.returns-else-len-lt-KEPT
-returns-else-len-lt-KEPT c = full _ _ (omega (arith, length-map c.args.first.now.items (λ s. s.now), c.len.ensures.value, c.len.ensures.fits, c.if-len-lt-KEPT.false))
+pub returns-then-place-lt8 : goal.returns-then-place-lt8
+returns-then-place-lt8 c =
+    let small : nat_lt c.args.place 8 ≡ true = lt-ltb c.args.place 8 c.if-place-lt8.true in
+    rw small (map-set (λ s. s.now) c.args.first.now c.args.place c.args.word)

@@ -1,9 +1,8 @@
-use Rattle.std.proofs.Common.{◌≡◌, ℕ, ◌+◌, ◌≤◌, ◌++◌, ◌∷◌, [], List, length, refl, sym, ap, ◌∙◌, subst, arith}
+use Rattle.std.proofs.Common.{◌≡◌, ℕ, ◌+◌, ◌++◌, ◌∷◌, [], List, length, refl, sym, ap, ◌∙◌, arith}
 use Rattle.ix_label.specs.declared.form.Form.{Form}
 use Rattle.ix_script.specs.lines.Before.{form_told}
 use Rattle.ix_script.specs.lines.Roles.{role_of}
-use Rattle.ix_script.specs.scripts.Need.{cost_of_line}
-use Rattle.ix_script.specs.scripts.Packed.{IsLine, held, line_in}
+use Rattle.ix_script.specs.scripts.Packed.{held, line_in}
 use Rattle.ix_script.specs.declared.line.Line.{Line}
 use Rattle.ix_script.proofs.reader.Packing.{lines_after, held_after, length-held}
 use Rattle.ix_script.proofs.reader.Summing.{costs_little, need_little, summed_after}
@@ -11,41 +10,36 @@ use Rattle.ix_script.proofs.packed.Lines.push.Goals as goal
 
 pub overflow_add-self : goal.overflow_add-self
 overflow_add-self c =
-    let form : Form = c.self.inside.form in
+    let old : Form = c.self.inside.form in
     let text : List ℕ = c.self.inside.text.items in
     let ends : List ℕ = c.self.inside.ends.items in
-    let little : cost_of_line c.args.line.now ≤ 4352 = omega (arith, costs_little _ c.args.text.now c.requires.faultless, ap cost_of_line c.requires.said) in
-    omega (arith, c.self.invariant.1.total, need_little form 0 text ends c.self.invariant.0, length-held form 0 text ends, ap length c.self.view_is, c.requires.few, little, c.cost_of_line.ensures)
+    omega (arith, c.self.invariant.1.total, need_little old 0 text ends c.self.invariant.0, length-held old 0 text ends, ap length c.self.view_is, c.requires.few, costs_little c.args.form c.args.text.now c.requires.faultless, c.requires.cost)
 
 pub invariant_of-self-2 : goal.invariant_of-self-2
 invariant_of-self-2 c =
     let old : Form = c.self.inside.form in
-    let form : Form = c.form_with-form.result in
-    let line : Line = c.args.line.now in
+    let form : Form = c.args.form in
+    let line : Line = line_in form c.args.text.now in
     let text : List ℕ = c.self.inside.text.items in
     let ends : List ℕ = c.self.inside.ends.items in
     let long : c.in-Ok.end ≡ length text + length c.args.text.now = omega (arith, c.in-Ok.ensures, ap length c.as_slice.ensures.value) in
-    let is : form ≡ form_told (held old 0 text ends ++ line ∷ []) = c.form_with-form.ensures ∙ ap (λ (ls : List Line). form_told (ls ++ line ∷ [])) (sym c.self.view_is) in
-    let said : line_in form c.args.text.now ≡ line = ap (λ (f : Form). line_in f c.args.text.now) c.form_with-form.ensures ∙ c.requires.said in
+    let is : form ≡ form_told (held old 0 text ends ++ line ∷ []) = sym c.requires.form ∙ ap (λ (ls : List Line). form_told (ls ++ line ∷ [])) (sym c.self.view_is) in
     let more : held form 0 c.extend_from_slice.new.self.items c.push.new.self.items ≡ held old 0 text ends ++ line ∷ [] =
-    held_after old form line text c.args.text.now ends c.extend_from_slice.new.self.items c.push.new.self.items c.in-Ok.end c.in-Ok-extend_from_slice.ensures.items c.in-Ok-push.ensures.items long c.self.invariant.2 is c.self.invariant.0
-    ∙ ap (λ (l : Line). held old 0 text ends ++ l ∷ []) said in
-    let role : c.push-2.new.self.items ≡ c.self.inside.roles.items ++ role_of line ∷ [] = rw (c.in-Ok-push-2.ensures.items, c.role_of.ensures) refl in (
-      lines_after old form line text c.args.text.now ends c.extend_from_slice.new.self.items c.push.new.self.items c.in-Ok.end c.in-Ok-extend_from_slice.ensures.items c.in-Ok-push.ensures.items long c.self.invariant.2 is c.self.invariant.0
-          (subst (λ (f : Form). IsLine f c.args.text.now) (sym c.form_with-form.ensures) c.requires.faultless),
-      summed_after (held old 0 text ends) _ line c.self.inside.roles.items _ c.self.inside.need _ more role (ap (λ (n : ℕ). c.self.inside.need + n) c.cost_of_line.ensures) c.self.invariant.1,
+    held_after old form line text c.args.text.now ends c.extend_from_slice.new.self.items c.push.new.self.items c.in-Ok.end c.in-Ok-extend_from_slice.ensures.items c.in-Ok-push.ensures.items long c.self.invariant.2 is c.self.invariant.0 in
+    let role : c.push-2.new.self.items ≡ c.self.inside.roles.items ++ role_of line ∷ [] = rw (c.in-Ok-push-2.ensures.items, c.requires.role) refl in (
+      lines_after old form line text c.args.text.now ends c.extend_from_slice.new.self.items c.push.new.self.items c.in-Ok.end c.in-Ok-extend_from_slice.ensures.items c.in-Ok-push.ensures.items long c.self.invariant.2 is c.self.invariant.0 c.requires.faultless,
+      summed_after (held old 0 text ends) _ line c.self.inside.roles.items _ c.self.inside.need _ more role (ap (λ (n : ℕ). c.self.inside.need + n) (sym c.requires.cost)) c.self.invariant.1,
       is ∙ ap form_told (sym more),
     )
 
 pub returns : goal.returns
 returns c =
     let old : Form = c.self.inside.form in
-    let form : Form = c.form_with-form.result in
-    let line : Line = c.args.line.now in
+    let form : Form = c.args.form in
+    let line : Line = line_in form c.args.text.now in
     let text : List ℕ = c.self.inside.text.items in
     let ends : List ℕ = c.self.inside.ends.items in
     let long : c.in-Ok.end ≡ length text + length c.args.text.now = omega (arith, c.in-Ok.ensures, ap length c.as_slice.ensures.value) in
-    let is : form ≡ form_told (held old 0 text ends ++ line ∷ []) = c.form_with-form.ensures ∙ ap (λ (ls : List Line). form_told (ls ++ line ∷ [])) (sym c.self.view_is) in
-    let said : line_in form c.args.text.now ≡ line = ap (λ (f : Form). line_in f c.args.text.now) c.form_with-form.ensures ∙ c.requires.said in
+    let is : form ≡ form_told (held old 0 text ends ++ line ∷ []) = sym c.requires.form ∙ ap (λ (ls : List Line). form_told (ls ++ line ∷ [])) (sym c.self.view_is) in
     held_after old form line text c.args.text.now ends c.extend_from_slice.new.self.items c.push.new.self.items c.in-Ok.end c.in-Ok-extend_from_slice.ensures.items c.in-Ok-push.ensures.items long c.self.invariant.2 is c.self.invariant.0
-    ∙ (λ i. c.self.view_is i ++ said i ∷ [])
+    ∙ ap (λ (ls : List Line). ls ++ line ∷ []) c.self.view_is

@@ -1,0 +1,256 @@
+-- A command that gives no name and is no server's tells nothing but that it is one.
+use Rattle.std.proofs.Common.{◌≡◌, ℕ, ◌+◌, ◌≤◌, nat_le, Bool, true, false, ◌||◌, cond, List, [], ◌∷◌, ◌++◌, max, Option, Some, None, option_map, Result, Ok, Err, refl, sym, ap, ◌∙◌, subst, arith}
+use mir.Val.{bool_byte}
+use Rattle.std.specs.BTreeSet.{BTreeSet}
+use Rattle.std.specs.Option.{IsSome}
+use Rattle.std.specs.Result.{OnOk}
+use Rattle.ix_label.specs.declared.form.Form as spelled
+use Rattle.ix_text.specs.Names.{name_of}
+use Rattle.ix_script.specs.texts.Cutting.{word_at}
+use Rattle.ix_script.specs.texts.Words.{number_of, fd_of}
+use Rattle.ix_script.specs.lines.Kinds.{places_fault}
+use Rattle.ix_script.specs.lines.Forms.{places}
+use Rattle.ix_script.specs.lines.Said.{both, said, plain_line, fd_line, counted_line}
+use Rattle.ix_script.specs.scripts.Need.{cost_of_line}
+use Rattle.ix_script.specs.reader.Placing.{is_entry}
+use Rattle.ix_script.specs.declared.cutting.form.Form.{Form}
+use Rattle.ix_script.specs.declared.cutting.form.Form.TheVariants as form
+use Rattle.ix_script.specs.declared.cutting.form.Plain.{Plain}
+use Rattle.ix_script.specs.declared.cutting.form.Plain.TheVariants as plain
+use Rattle.ix_script.specs.declared.cutting.form.OnFd.{OnFd}
+use Rattle.ix_script.specs.declared.cutting.form.OnFd.TheVariants as on_fd
+use Rattle.ix_script.specs.declared.cutting.form.Counted.{Counted}
+use Rattle.ix_script.specs.declared.cutting.form.Counted.TheVariants as counted
+use Rattle.ix_script.specs.declared.line.FdWord.{FdWord}
+use Rattle.ix_script.specs.declared.line.KeepWord.{KeepWord}
+use Rattle.ix_model.specs.declared.call.Mode.{Mode}
+use Rattle.ix_model.specs.world.Naming.{PathOf}
+use Rattle.ix_script.proofs.lines.Readings.{stand}
+use Rattle.std.proofs.lemmas.Bool.{le-leb, lt-leb}
+use Rattle.std.proofs.lemmas.List.{append-nil}
+use Rattle.ix_model.specs.opening.Valid.{is_valid}
+use Rattle.ix_model.specs.declared.config.Limits.{Limits}
+use Rattle.ix_model.specs.declared.config.ObjSpec.{ObjSpec}
+use Rattle.ix_text.specs.Bytes.{is_empty}
+use Rattle.ix_script.specs.lines.Before.{form_told, fs_told, limits_after, what_told, proc_name_told, object_told, is_policy, group, is_phase, lane_after, phase_lanes_after, lanes_after, new_fds, new_procs, fds_given, procs_given, in_lane, is_command, commands}
+use Rattle.ix_script.specs.lines.Roles.{role_of}
+use Rattle.ix_script.specs.lines.Faults.{said_fault}
+use Rattle.ix_script.specs.reader.Indexed.{AreIndexed, AreNames, AreSites}
+use Rattle.ix_script.specs.reader.Told.{HeaderTold, BodyTold, MakesMore, NamesMore}
+use Rattle.ix_script.specs.scripts.Scripts.{config_of}
+use Rattle.ix_script.specs.declared.before.header.Header.{Header}
+use Rattle.ix_script.specs.declared.before.body.Body.{Body}
+use Rattle.ix_script.specs.declared.before.names.Names.{Names}
+use Rattle.ix_script.specs.declared.before.tree.Tree.{Tree}
+use Rattle.ix_script.specs.declared.before.given.Place.{Place}
+use Rattle.ix_script.specs.declared.line.Line.{Line}
+use Rattle.ix_script.specs.declared.line.Line.TheVariants as line
+use Rattle.ix_script.specs.declared.role.Role.TheVariants as role
+use Rattle.ix_script.proofs.lines.Follows.{follows}
+use Rattle.ix_script.proofs.reader.Keeping.{header_next}
+use Rattle.ix_script.proofs.reader.Validity.{fits_of}
+use Rattle.ix_script.proofs.reader.Pushed.{body_push, lane_push, phase_lanes_push, lanes_push, fds_push, procs_given_push, commands_push}
+
+pub record Quiet (l : Line) : Type 0 where
+  pub fs : fs_told l ≡ []
+  pub limits : (ls : Limits) → limits_after ls l ≡ ls
+  pub whats : what_told l ≡ []
+  pub names : proc_name_told l ≡ []
+  pub objects : object_told l ≡ []
+  pub policy : is_policy l ≡ false
+  pub group_is : group l ≡ 5
+  pub phase : is_phase l ≡ false
+  pub lane : (at : Option (List ℕ)) → lane_after at l ≡ at
+  pub phase_lanes : (names : List (List ℕ)) → phase_lanes_after names l ≡ names
+  pub lanes : (names : List (List ℕ)) → lanes_after names l ≡ names
+  pub fds : new_fds l ≡ []
+  pub procs : new_procs l ≡ []
+  pub command : is_command l ≡ true
+  pub fault : (before : List Line) → said_fault before l ≡ cond (nat_le 200000 (commands before)) (Some 26) None
+
+pub quiet : (l : Line) → role_of l ≡ role.Command → Quiet l
+unfolding role_of said_fault
+quiet line.Skipped h = cc
+quiet (line.Version form) h = cc
+quiet (line.Limit w n) h = cc
+quiet (line.Fs name ceiling blocks inodes) h = cc
+quiet (line.Proc name label ceiling cap lic) h = cc
+quiet (line.Dir path label frozen) h = cc
+quiet (line.File path label frozen cap lic bytes) h = cc
+quiet (line.Policy text) h = cc
+quiet line.Phase h = cc
+quiet (line.Lane name) h = cc
+quiet (line.Open proc path mode named) h = cc
+quiet (line.Dup proc fd named) h = cc
+quiet (line.Pipe proc named) h = cc
+quiet (line.Fork proc keep named) h = cc
+quiet (line.Priv proc fd) h = cc
+quiet (line.Login proc fd hand named) h = cc
+quiet _ h =
+    record {
+      fs = refl;
+      limits = λ ls. refl;
+      whats = refl;
+      names = refl;
+      objects = refl;
+      policy = refl;
+      group_is = refl;
+      phase = refl;
+      lane = λ at. refl;
+      phase_lanes = λ names. refl;
+      lanes = λ names. refl;
+      fds = refl;
+      procs = refl;
+      command = refl;
+      fault = λ before. refl;
+    }
+
+pub too_many : (before : List Line) (l : Line) → role_of l ≡ role.Command → 200000 ≤ commands before → said_fault before l ≡ Some 26
+too_many before l role many = (quiet l role).fault before ∙ rw (le-leb 200000 (commands before) many) refl
+
+pub few_enough : (before : List Line) (l : Line) → role_of l ≡ role.Command → commands before + 1 ≤ 200000 → said_fault before l ≡ None
+few_enough before l role few = (quiet l role).fault before ∙ rw (lt-leb 200000 (commands before) (omega arith)) refl
+
+same_names : (names : Names) (more : List (List ℕ)) → more ≡ [] → NamesMore more names names
+same_names names more none =
+    rw none record { names = λ known h. subst (λ (ks : List (List ℕ)). AreNames names.index ks) (sym (append-nil known)) h; count = omega arith }
+
+same_sites : (made : Tree) (more : List ObjSpec) → more ≡ [] → MakesMore more made made
+same_sites made more none =
+    rw none record { sites = λ known h. subst (λ (os : List ObjSpec). AreSites made.index os) (sym (append-nil known)) h; count = omega arith }
+
+pub or_true : (b : Bool) → (b || true) ≡ true
+or_true true = refl
+or_true false = refl
+
+pub or_false : (b : Bool) → (b || false) ≡ b
+or_false true = refl
+or_false false = refl
+
+pub header_quiet : (h n : Header) (before : List Line) (l : Line) → role_of l ≡ role.Command → is_empty before ≡ false → HeaderTold h before → is_valid (config_of before) ≡ true → said_fault before l ≡ None
+    → n ≡ record h { latest = max h.latest 5 } → HeaderTold n (before ++ l ∷ [])
+header_quiet h n before l role later was valid fault is =
+    let q = quiet l role in
+    let new : Header = record h { latest = max h.latest 5 } in
+    let told : HeaderTold new (before ++ l ∷ []) =
+    header_next h new false before l (sym later) was (fits_of before valid) (follows before l fault) (rw q.fs (omega arith)) (rw q.fs refl) (sym (q.limits h.limits)) (rw q.whats (sym (append-nil h.whats)))
+    (same_names h.procs (proc_name_told l) q.names) (same_sites h.made (object_told l) q.objects) (rw q.objects refl) (rw q.group_is refl) (rw q.policy (sym (or_false h.policy))) in
+    subst (λ (m : Header). HeaderTold m (before ++ l ∷ [])) (sym is) told
+
+pub no_more : (index : BTreeSet Place) (items more : List (List ℕ × List ℕ)) (at : Option (List ℕ)) (names : List (List ℕ)) → names ≡ [] → more ≡ items ++ in_lane at names → AreIndexed index items → AreIndexed index more
+no_more index items more None names none is h = subst (λ (xs : List (List ℕ × List ℕ)). AreIndexed index xs) (sym (append-nil items) ∙ sym is) h
+no_more index items more (Some lane) names none is h =
+    let same : more ≡ items = is ∙ ap (λ ns. items ++ in_lane (Some lane) ns) none ∙ append-nil items in
+    subst (λ (xs : List (List ℕ × List ℕ)). AreIndexed index xs) (sym same) h
+
+pub on_ok : {X E P Q : Type 0} (r : Result X E) → (P → Q) → OnOk r P → OnOk r Q
+on_ok (Ok x) f h = f h
+on_ok (Err e) f h = h
+
+pub one_counted : (n k : ℕ) (b c : Bool) → k ≡ bool_byte b → b ≡ c → n + k ≡ cond c (n + 1) n
+one_counted n k true c h e = rw (sym e) (omega (arith, h))
+one_counted n k false c h e = rw (sym e) (omega (arith, h))
+
+-- a line that begins no phase and no lane, and gives no name
+pub record Still (l : Line) : Type 0 where
+  pub phase : is_phase l ≡ false
+  pub lane : (at : Option (List ℕ)) → lane_after at l ≡ at
+  pub phase_lanes : (names : List (List ℕ)) → phase_lanes_after names l ≡ names
+  pub lanes : (names : List (List ℕ)) → lanes_after names l ≡ names
+  pub fds : new_fds l ≡ []
+  pub procs : new_procs l ≡ []
+
+pub still : (l : Line) → (l ≡ line.Phase → ⊥) → ((name : List ℕ) → l ≡ line.Lane name → ⊥) → ((proc : List ℕ) (path : PathOf) (mode : Mode) (named : Option (List ℕ)) → l ≡ line.Open proc path mode named → ⊥) → ((proc : List ℕ) (fd : FdWord) (named : Option (List ℕ)) → l ≡ line.Dup proc fd named → ⊥)
+    → ((proc : List ℕ) (named : Option (List ℕ × List ℕ)) → l ≡ line.Pipe proc named → ⊥) → ((proc : List ℕ) (kept : KeepWord) (named : Option (List ℕ)) → l ≡ line.Fork proc kept named → ⊥) → ((proc : List ℕ) (fd hand : FdWord) (named : Option (List ℕ)) → l ≡ line.Login proc fd hand named → ⊥) → Still l
+still line.Phase a b c d e f g = absurd (a refl)
+still (line.Lane name) a b c d e f g = absurd (b name refl)
+still (line.Open proc path mode named) a b c d e f g = absurd (c proc path mode named refl)
+still (line.Dup proc fd named) a b c d e f g = absurd (d proc fd named refl)
+still (line.Pipe proc named) a b c d e f g = absurd (e proc named refl)
+still (line.Fork proc kept named) a b c d e f g = absurd (f proc kept named refl)
+still (line.Login proc fd hand named) a b c d e f g = absurd (g proc fd hand named refl)
+still _ a b c d e f g = record { phase = refl; lane = λ at. refl; phase_lanes = λ names. refl; lanes = λ names. refl; fds = refl; procs = refl }
+
+-- what is kept of the body, with one line more
+pub body_next : (b n : Body) (before : List Line) (x : Line) → BodyTold b before → n.started ≡ (b.started || is_phase x) → option_map (λ s. s.now) n.lane ≡ lane_after (option_map (λ s. s.now) b.lane) x → n.phase_lanes ≡ phase_lanes_after b.phase_lanes x
+    → n.lanes ≡ lanes_after b.lanes x → ((items : List (List ℕ × List ℕ)) → AreIndexed b.fds.index items → AreIndexed n.fds.index (items ++ in_lane (option_map (λ s. s.now) b.lane) (new_fds x)))
+    → ((items : List (List ℕ × List ℕ)) → AreIndexed b.procs.index items → AreIndexed n.procs.index (items ++ in_lane (option_map (λ s. s.now) b.lane) (new_procs x))) → n.commands ≡ cond (is_command x) (b.commands + 1) b.commands → BodyTold n (before ++ x ∷ [])
+body_next b n before x told started lane phase_lanes_are lanes_are fds procs count =
+    record {
+      started = started ∙ ap (λ (s : Bool). s || is_phase x) told.started ∙ sym (body_push before x);
+      lane = lane ∙ ap (λ (at : Option (List ℕ)). lane_after at x) told.lane ∙ sym (lane_push before x);
+      phase_lanes = phase_lanes_are ∙ ap (λ (names : List (List ℕ)). phase_lanes_after names x) told.phase_lanes ∙ sym (phase_lanes_push before x);
+      lanes = lanes_are ∙ ap (λ (names : List (List ℕ)). lanes_after names x) told.lanes ∙ sym (lanes_push before x);
+      fds = subst (λ (items : List (List ℕ × List ℕ)). AreIndexed n.fds.index items) (ap (λ at. fds_given before ++ in_lane at (new_fds x)) told.lane ∙ sym (fds_push before x)) (fds (fds_given before) told.fds);
+      procs = subst (λ (items : List (List ℕ × List ℕ)). AreIndexed n.procs.index items) (ap (λ at. procs_given before ++ in_lane at (new_procs x)) told.lane ∙ sym (procs_given_push before x)) (procs (procs_given before) told.procs);
+      commands = count ∙ ap (λ (n : ℕ). cond (is_command x) (n + 1) n) told.commands ∙ sym (commands_push before x);
+    }
+
+pub body_quiet : (b n : Body) (before : List Line) (l : Line) → role_of l ≡ role.Command → BodyTold b before → n ≡ record b { commands = b.commands + 1 } → BodyTold n (before ++ l ∷ [])
+body_quiet b n before l role was is =
+    let q = quiet l role in
+    let at : Option (List ℕ) = option_map (λ s. s.now) b.lane in
+    let told : BodyTold (record b { commands = b.commands + 1 }) (before ++ l ∷ []) =
+    body_next b (record b { commands = b.commands + 1 }) before l was (rw q.phase (sym (or_false b.started))) (sym (q.lane at)) (sym (q.phase_lanes b.phase_lanes)) (sym (q.lanes b.lanes))
+    (λ items h. no_more b.fds.index items (items ++ in_lane at (new_fds l)) at (new_fds l) q.fds refl h) (λ items h. no_more b.procs.index items (items ++ in_lane at (new_procs l)) at (new_procs l) q.procs refl h) (rw q.command refl) in
+    subst (λ (m : Body). BodyTold m (before ++ l ∷ [])) (sym is) told
+
+-- the first line tells the form
+pub later_form : (before : List Line) (l : Line) → is_empty before ≡ false → form_told (before ++ l ∷ []) ≡ form_told before
+later_form [] l later = cc
+later_form (b ∷ before) l later = refl
+
+-- ---- commands that cost an entry
+pub record EntrySaid (labels : spelled.Form) (f : Form) (words : List (List ℕ)) : Type 0 where
+  pub line : Line
+  pub says : said labels f words ≡ Some line
+  pub is_command : role_of line ≡ role.Command
+  pub costs : cost_of_line line ≡ 128
+
+plain_kind : (c : Plain) (proc : List ℕ) → (role_of (plain_line c proc) ≡ role.Command) × (cost_of_line (plain_line c proc) ≡ 128)
+unfolding role_of cost_of_line
+plain_kind plain.Wait proc = (refl, refl)
+plain_kind plain.Self_ proc = (refl, refl)
+plain_kind plain.Freezeself proc = (refl, refl)
+plain_kind plain.Thawself proc = (refl, refl)
+
+counted_kind : (c : Counted) (proc : List ℕ) (fd : FdWord) (n : ℕ) → (role_of (counted_line c proc fd n) ≡ role.Command) × (cost_of_line (counted_line c proc fd n) ≡ 128)
+unfolding role_of cost_of_line
+counted_kind counted.Read proc fd n = (refl, refl)
+counted_kind counted.Cut proc fd n = (refl, refl)
+counted_kind counted.Seek proc fd n = (refl, refl)
+
+fd_kind : (c : OnFd) (proc : List ℕ) (fd : FdWord) → is_entry (form.OnFd c) ≡ true → (role_of (fd_line c proc fd) ≡ role.Command) × (cost_of_line (fd_line c proc fd) ≡ 128)
+unfolding role_of cost_of_line
+fd_kind on_fd.Close proc fd h = (refl, refl)
+fd_kind on_fd.Pex proc fd h = (refl, refl)
+fd_kind on_fd.Unpex proc fd h = (refl, refl)
+fd_kind on_fd.Priv proc fd h = cc
+
+there : {A : Type 0} (o : Option A) → IsSome o → (x : A) × (o ≡ Some x)
+there None h = cc
+there (Some x) h = (x, refl)
+
+both_there : {A B : Type 0} {a : Option A} {b : Option B} {x : A} {y : B} → a ≡ Some x → b ≡ Some y → both a b ≡ Some (x, y)
+both_there h k = λ i. both (h i) (k i)
+
+pub entry_said : (labels : spelled.Form) (f : Form) (words : List (List ℕ)) → is_entry f ≡ true → places_fault (places labels f words) ≡ None → EntrySaid labels f words
+entry_said labels (form.Plain c) words h broken =
+    let s = stand (places labels (form.Plain c) words) broken in
+    let name = there (name_of (word_at words 1)) s.0 in
+    let k = plain_kind c name.0 in
+    record { line = plain_line c name.0; says = ap (λ (o : Option (List ℕ)). option_map (λ x. plain_line c x) o) name.1; is_command = k.0; costs = k.1 }
+entry_said labels (form.Counted c) words h broken =
+    let s = stand (places labels (form.Counted c) words) broken in
+    let name = there (name_of (word_at words 1)) s.0 in
+    let fd = there (fd_of (word_at words 2)) s.1.0 in
+    let number = there (number_of 0 4294967295 (word_at words 3)) s.1.1.0 in
+    let k = counted_kind c name.0 fd.0 number.0 in
+    record { line = counted_line c name.0 fd.0 number.0; says = ap (option_map (λ x. counted_line c x.0 x.1.0 x.1.1)) (both_there name.1 (both_there fd.1 number.1)); is_command = k.0; costs = k.1 }
+entry_said labels (form.OnFd c) words h broken =
+    let s = stand (places labels (form.OnFd c) words) broken in
+    let name = there (name_of (word_at words 1)) s.0 in
+    let fd = there (fd_of (word_at words 2)) s.1.0 in
+    let k = fd_kind c name.0 fd.0 h in
+    record { line = fd_line c name.0 fd.0; says = ap (option_map (λ x. fd_line c x.0 x.1)) (both_there name.1 fd.1); is_command = k.0; costs = k.1 }
+entry_said labels _ words h broken = cc
