@@ -97,7 +97,8 @@ fn make(sys: &mut CoreSys<'_>, pid: Pid, call: &Call<'_>) {
 }
 
 /// The server makes the pipe and forks the client, both claim their ends, and the client writes a message.
-fn send(sys: &mut CoreSys<'_>, message: &[u8]) {
+/// A path is lent with it: else the kit's borrow checker isn't told of that type, which a call may have, and fails.
+fn send(sys: &mut CoreSys<'_>, message: &[u8], _path: Path<'_>) {
     let write = Call::WriteFd {
         fd: FAR,
         bytes: message,
@@ -110,7 +111,8 @@ fn send(sys: &mut CoreSys<'_>, message: &[u8]) {
 }
 
 /// Whether the client reads that text; no bytes stand for a call that isn't answered with some.
-fn reads(sys: &mut CoreSys<'_>, text: &[u8]) -> bool {
+/// A path is lent with it, as above.
+fn reads(sys: &mut CoreSys<'_>, text: &[u8], _path: Path<'_>) -> bool {
     let mut buf = [0; 4096];
     let read = Call::ReadFd {
         fd: FAR,
@@ -139,12 +141,13 @@ fn serve(
 ) -> (Served, bool) {
     let mut sys = CoreSys::new(core, 0);
     let mut buf = [0; 4096];
-    send(&mut sys, message);
+    let path = Path::new(true);
+    send(&mut sys, message, path);
     let served = match which {
         Which::Privileges => { ix_privserv::serve(&mut sys, 7, SERVER, NEAR, policy, &mut buf) }
         Which::Sessions => { ix_sessserv::serve(&mut sys, 7, SERVER, NEAR, NEAR, policy, &mut buf) }
     };
-    (served, reads(&mut sys, text))
+    (served, reads(&mut sys, text, path))
 }
 
 /// The same on a core of its own, with how many calls were made in all.
