@@ -15,6 +15,9 @@ pub enum Step<'a, C> {
     },
 }
 
+// A call takes 96 of them.
+const _: () = prove!(std::mem::size_of::<Step<'static, ()>>() <= 112);
+
 /// What asks for calls, one at a time, and makes none itself.
 pub trait Asks {
     /// What comes of them.

@@ -7,10 +7,14 @@ mod held;
 mod holding;
 pub mod laws;
 mod making;
-pub mod serving;
+mod serving;
 mod stop;
 
 pub use asks::{Asks, Step};
 pub use copying::Copying;
 pub use making::{count_in, make_next, run};
+pub use serving::deciding::decided;
+pub use serving::ended::served;
+pub use serving::outcome::Outcome;
+pub use serving::telling::{Telling, tell, untold};
 pub use stop::{Stop, given};

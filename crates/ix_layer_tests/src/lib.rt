@@ -36,4 +36,6 @@ mod policies;
 #[cfg(test)]
 mod procs;
 #[cfg(test)]
+mod servers;
+#[cfg(test)]
 mod streams;

@@ -7,8 +7,7 @@ ghost use Rattle.ix_privserv.specs.Places.{asks_at, most_at};
 ghost use Rattle.ix_privserv.specs.Serving.{on_message};
 
 use crate::message::{bad_at, wanted};
-use ix_asking::serving::{Outcome, Telling, decided, tell, untold};
-use ix_asking::{Asks, Step};
+use ix_asking::{Asks, Outcome, Step, Telling, decided, tell, untold};
 use ix_label::Label;
 use ix_model::{Call, Fd, Pid, PrivSet, Reply};
 use ix_policy::{Policy, Request};

@@ -8,8 +8,7 @@ ghost use Rattle.ix_sessserv.specs.Serving.{all_five, child_in, clear_of, drop_a
 
 use crate::message::{bad_at, user_in};
 use bitflags::Flags;
-use ix_asking::serving::{Outcome, Telling, decided, tell, untold};
-use ix_asking::{Asks, Step};
+use ix_asking::{Asks, Outcome, Step, Telling, decided, tell, untold};
 use ix_label::Label;
 use ix_model::{Call, Fd, Keep, Pid, PrivSet, Refusal, Reply};
 use ix_policy::{Policy, Request};

@@ -6,8 +6,7 @@ ghost use Rattle.ix_asking.specs.serving.Serveds.{end_of};
 ghost use Rattle.ix_sessserv.specs.Serving.{serves};
 
 use crate::server::SessServer;
-use ix_asking::run;
-use ix_asking::serving::served;
+use ix_asking::{run, served};
 use ix_model::{Buf, Fd, Pid, Sys};
 use ix_policy::{Policy, Served};
 

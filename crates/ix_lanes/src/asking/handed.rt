@@ -1,7 +1,7 @@
 ghost use Rattle.std.specs.Prelude.{◌≡◌};
 ghost use Rattle.ix_lanes.specs.asking.Handing.{handed_in, who_in};
 
-use ix_asking::serving::Outcome;
+use ix_asking::Outcome;
 use ix_model::{Fd, Reply};
 
 /// What comes of a line for the names that it gives.
