@@ -62,13 +62,12 @@ impl Rule {
     pub const NO_POLICY: Rule = Rule(28);
 }
 
-/// What is said to a script that breaks a rule, by the rule's number; rule 0 is that a form isn't built yet.
+/// What is said to a script that breaks a rule, by the rule's number, which is 1 to 28.
 #[tactic(auto, unfolding(crate::specs::lines::RuleTexts::rule_text, crate::specs::lines::RuleTexts::first_rule_text, crate::specs::lines::RuleTexts::word_rule_text, crate::specs::lines::RuleTexts::last_rule_text))]
 pub fn rule_text(rule: u8) -> &'static [u8]
     ensures { result.now ≡ rule_text rule }
 {
     match rule {
-        0 => b"the form is not built yet",
         1 => b"the script is too long",
         2 => b"a line is too long",
         3 => b"a byte is not printable",

@@ -1,5 +1,6 @@
 mod apart;
 mod copies;
+mod failing;
 mod floats;
 mod forms;
 mod lanes;

@@ -4,8 +4,7 @@ use Rattle.std.specs.Prelude.{ℕ, ◌==◌, nat_lt, List, if◌then◌else◌, 
 -- the rules of the words of a line, and those before them
 unfoldable pub first_rule_text : ℕ → List ℕ
 first_rule_text rule =
-    if rule == 0 then codes "the form is not built yet"
-    else if rule == 1 then codes "the script is too long"
+    if rule == 1 then codes "the script is too long"
     else if rule == 2 then codes "a line is too long"
     else if rule == 3 then codes "a byte is not printable"
     else if rule == 4 then codes "a word is empty"
@@ -13,7 +12,8 @@ first_rule_text rule =
     else if rule == 6 then codes "the first line is not ix 1 or ix 2"
     else if rule == 7 then codes "the command is unknown"
     else if rule == 8 then codes "a header line stands after a phase"
-    else codes "a line stands outside a lane"
+    else if rule == 9 then codes "a line stands outside a lane"
+    else codes "there is no policy"
 
 -- the rules that a word can break
 unfoldable pub word_rule_text : ℕ → List ℕ

@@ -49,7 +49,7 @@ fn a_policy_with_a_fault_is_refused(rt: HostRuntime) {
         b"ix 1\n# of one key\npolicy {\"rules\":[],\"x\":1}\nphase\n",
         // A label that form Two alone spells.
         b"ix 1\nproc a - * - -\npolicy {\"rules\":[{\"act\":\"grant\",\"user\":\"*\",\"clear\":\"300\",\"privs\":\"D\",\"allow\":true}]}\n",
-        // It stands before a form that isn't built.
+        // A server's command doesn't stand before it.
         b"ix 1\nproc a - * - -\npolicy x\nphase\nlane m\npriv a 0\n",
     ] {
         assert!(rt; is_refused(rt.alloc(), script, 3, 27, REFUSED));
@@ -73,11 +73,30 @@ const SERVED: &[u8] = b"ix 2\n\
     priv a 0\n\
     login a 0 1\n";
 
+/// Its report: nobody is at the other end, since 0 is no descriptor.
+const SERVED_REPORT: &[u8] = b"ix 2 report\n\
+    1 m 6 self p1 = label - @ -\n\
+    2 m 7 pex p1 0 = no 2 BadFd @ -\n\
+    3 m 8 pex p1 0 = no 2 BadFd @ -\n\
+    objects\n\
+    0 dir - free\n\
+    processes\n\
+    p1 - live\n\
+    log\n\
+    end 3 0\n";
+
 #[test]
-fn a_servers_command_is_printed_and_not_built(rt: HostRuntime) {
+fn a_servers_command_is_run_and_printed(rt: HostRuntime) {
     let alloc = rt.alloc();
-    let status = Status::Script { line: 7, rule: 0 };
-    let text = b"script:7: the form is not built yet\n";
-    assert!(rt; comes_to(alloc, &["run"], SERVED, NO_FAULTS, status, text));
+    assert!(rt;
+        comes_to(
+            alloc,
+            &["run"],
+            SERVED,
+            NO_FAULTS,
+            Status::Done,
+            SERVED_REPORT
+        )
+    );
     assert!(rt; comes_to(alloc, &["print"], SERVED, NO_FAULTS, Status::Done, SERVED));
 }
