@@ -1,11 +1,7 @@
-ghost use Rattle.std.specs.Prelude.{◌≡◌, ◌≤◌, ◌<◌, suc, List, true, length, take, IfOk, IfErr, OnOk, OnErr};
+ghost use Rattle.std.specs.Prelude.{◌≡◌, ◌≤◌, true, length, take, IfOk, IfErr};
 ghost use Rattle.std.proofs.Common.{option_map};
-ghost use Rattle.ix_script.specs.lines.Before.{lanes_of};
-ghost use Rattle.ix_script.specs.lines.Roles.{role_of};
 ghost use Rattle.ix_lanes.specs.asking.Asked.{no_names};
-ghost use Rattle.ix_lanes.specs.asking.Places.{has_places, KeepsPlaces, standing};
-ghost use Rattle.ix_lanes.specs.histories.Indexed.{line_in};
-ghost use Rattle.ix_lanes.specs.histories.Lanes.{is_seat};
+ghost use Rattle.ix_lanes.specs.asking.Places.{KeepsPlaces, standing};
 ghost use Rattle.ix_lanes.specs.running.Fields.{all_placed};
 ghost use Rattle.ix_lanes.specs.asking.LineAsks.{lines_ask};
 ghost use Rattle.ix_lanes.specs.running.Lines.{Cut, Done};
