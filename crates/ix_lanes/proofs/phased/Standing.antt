@@ -1,12 +1,12 @@
 -- What a run that stands for entries has asked for, as calls.
-use Rattle.std.proofs.Common.{◌≡◌, ℕ, suc, List, [], ◌∷◌, ◌++◌, Option, Some, None, refl, sym, ap, ◌∙◌, append-nil}
+use Rattle.std.proofs.Common.{◌≡◌, ℕ, suc, List, [], ◌∷◌, ◌++◌, Some, None, refl, sym, ap, ◌∙◌, append-nil}
 use Rattle.ix_model.specs.history.Events.{Event}
 use Rattle.ix_model.specs.history.Made.{Made}
 use Rattle.ix_model.specs.history.Systems.{FullFor}
 use Rattle.ix_model.specs.declared.reply.Answer.{Answer}
 use Rattle.ix_asking.specs.Asking.{Asking, Ask, Answered, Asked, Next, Came, Due, first, all_heard, heard, followed, next}
 use Rattle.ix_asking.specs.Asking as asking
-use Rattle.ix_asking.specs.Lines.{Calls, calls_then, events_of, no_calls, with_entries_first, with_entry_first}
+use Rattle.ix_asking.specs.Lines.{calls_then, events_of, no_calls, with_entry_first}
 use Rattle.ix_asking.specs.Runs.{answer_of, answers_of, AsAsked, entry_of}
 use Rattle.ix_asking.proofs.Lines.{calls-cut, calls-done}
 use Rattle.ix_lanes.specs.running.Phases.{asks_before, calls_before}
