@@ -45,7 +45,8 @@ seat-left lanes at (line.Lane name) no_phase no_lane = absurd (no_lane refl)
 seat-left lanes at _ no_phase no_lane = refl
 
 -- a line that begins a lane's part of a phase names the lane
-pub seat-named : (lanes : List (List ℕ)) (at : Option ℕ) (l : Line) → role_of l ≡ role.Lane → ((name : List ℕ) → l ≡ line.Lane name → ⊥) → seat_after lanes at l ≡ at
+pub seat-named : (lanes : List (List ℕ)) (at : Option ℕ) (l : Line) → role_of l ≡ role.Lane → ((name : List ℕ) → l ≡ line.Lane name → ⊥)
+    → seat_after lanes at l ≡ at
 unfolding role_of
 seat-named lanes at (line.Lane name) is not = absurd (not name refl)
 seat-named lanes at _ is not = cc

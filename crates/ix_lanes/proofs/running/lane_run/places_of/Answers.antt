@@ -34,8 +34,10 @@ loop-index-preserved c =
         | else-eq w ↦ ap (λ p. all_placed p (lane_among s c.args.lane (take (i + 1) s))) w.places-is ∙ elim w.else-eq.branch [
           | else-eq-via-then-eq+else-matches v ↦ elim v.match-matches.branch [
             | in-Naming u ↦ absurd (true≢false (sym u.matches-is ∙ v.if-matches.false))
-            | in_default u ↦ placed-here s c.args.lane i l at c.loop-index.places c.loop-index.places (seat ∙ v.if-eq.true) c.loop-index.invariant.all (λ m h. h)
-                (no-places c.loop-index.places l (λ is. u.in_default.not-Naming (c.role_at-role.ensures ∙ is)) (λ is. u.in_default.not-Server (c.role_at-role.ensures ∙ is)))
+            | in_default u ↦
+                placed-here s c.args.lane i l at c.loop-index.places c.loop-index.places (seat ∙ v.if-eq.true) c.loop-index.invariant.all (λ m h. h)
+                (no-places c.loop-index.places l (λ is. u.in_default.not-Naming (c.role_at-role.ensures ∙ is))
+                (λ is. u.in_default.not-Server (c.role_at-role.ensures ∙ is)))
           ]
           | else-eq-via-else-eq v ↦ placed-not s c.args.lane i l at c.loop-index.places (seat ∙ v.if-eq.false) c.loop-index.invariant.all
         ]
