@@ -60,17 +60,6 @@ fn seat_of(script: &Script, name: &NameWord<'_>) -> Option<u32>
     None
 }
 
-/// The seat of the lane in which the next line stands.
-fn seat_after(script: &Script, seat: Option<u32>, line: &Line<'_>) -> Option<u32>
-    ensures { result ≡ seat_after (lanes_of script.now) seat line.now }
-{
-    match line {
-        Line::Phase => None,
-        Line::Lane { name } => seat_of(script, name),
-        _ => seat,
-    }
-}
-
 /// The seat of the lane in which the line after the one at an index stands. Of the lines only one that begins a lane's part of a phase is
 /// made for it.
 pub fn seat_past(script: &Script, seat: Option<u32>, index: u32, role: Role) -> Option<u32>
@@ -80,7 +69,10 @@ pub fn seat_past(script: &Script, seat: Option<u32>, index: u32, role: Role) -> 
 {
     match role {
         Role::Phase => None,
-        Role::Lane => seat_after(script, seat, &line_at(script, index)),
+        Role::Lane => match &line_at(script, index) {
+            Line::Lane { name } => seat_of(script, name),
+            _ => seat,
+        },
         _ => seat,
     }
 }

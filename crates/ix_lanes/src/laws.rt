@@ -23,7 +23,8 @@ pub fn need_fits()
     ensures so_far { NeedFitsSoFar }
 {}
 
-/// Where the labels of a script's lines fit a form, so do those of the calls of each history that holds its lanes' calls.
+/// Where the labels of a script's lines fit the form that it tells, so do those of the calls of each history that holds its lanes'
+/// calls, with those of its servers, which grant what a policy read in that form says.
 pub fn histories_fit()
     ensures fit { HistoriesFit }
 {}

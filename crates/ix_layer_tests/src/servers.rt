@@ -131,18 +131,32 @@ enum Which {
     Sessions,
 }
 
+/// The server has written these bytes, if there are any, before it serves.
+/// A path is lent with it, as above.
+fn answers_before(sys: &mut CoreSys<'_>, before: &[u8], _path: Path<'_>) {
+    let write = Call::WriteFd {
+        fd: NEAR,
+        bytes: before,
+    };
+    if !before.is_empty() {
+        make(sys, SERVER, &write);
+    }
+}
+
 /// How a server serves a message, and whether the client reads that text then.
 fn serve(
     core: &mut Core,
     which: Which,
     policy: &Policy,
     message: &[u8],
+    before: &[u8],
     text: &[u8],
 ) -> (Served, bool) {
     let mut sys = CoreSys::new(core, 0);
     let mut buf = [0; 4096];
     let path = Path::new(true);
     send(&mut sys, message, path);
+    answers_before(&mut sys, before, path);
     let served = match which {
         Which::Privileges => { ix_privserv::serve(&mut sys, 7, SERVER, NEAR, policy, &mut buf) }
         Which::Sessions => { ix_sessserv::serve(&mut sys, 7, SERVER, NEAR, NEAR, policy, &mut buf) }
@@ -158,9 +172,21 @@ fn answer(
     message: &[u8],
     text: &[u8],
 ) -> Option<(Served, bool, u32)> {
+    answer_after(alloc, which, setting, message, b"", text)
+}
+
+/// The same where the server has written these bytes before.
+fn answer_after(
+    alloc: Global,
+    which: Which,
+    setting: Setting,
+    message: &[u8],
+    before: &[u8],
+    text: &[u8],
+) -> Option<(Served, bool, u32)> {
     let policy = Policy::read(alloc, Form::One, POLICY).ok()?;
     let mut core = boot(alloc, setting)?;
-    let (served, told) = serve(&mut core, which, &policy, message, text);
+    let (served, told) = serve(&mut core, which, &policy, message, before, text);
     Some((served, told, core.len()))
 }
 
@@ -284,4 +310,28 @@ fn a_full_journal_cuts_a_server_off(rt: HostRuntime) {
     };
     let found = answer(rt.alloc(), Which::Privileges, setting, b"want D", b"");
     assert!(rt; found == Some((full, true, 8)));
+}
+
+/// All that a pipe holds.
+const FULL: &[u8] = &[b'.'; 4096];
+
+/// A rule allowed it, and the client wasn't told.
+fn granted_untold(rule: u32, who: u32) -> Served {
+    Served::Granted {
+        rule,
+        who: Pid(who),
+        told: false,
+    }
+}
+
+#[test]
+fn a_full_pipe_takes_no_answer(rt: HostRuntime) {
+    let cases: [(Which, &[u8], Served, u32); 2] = [
+        (Which::Privileges, b"want D", granted_untold(1, 2), 12),
+        (Which::Sessions, b"login ann", granted_untold(3, 3), 15),
+    ];
+    for (which, message, served, calls) in cases {
+        let found = answer_after(rt.alloc(), which, ample(), message, FULL, FULL);
+        assert!(rt; found == Some((served, true, calls)));
+    }
 }

@@ -5,6 +5,7 @@ mod floats;
 mod forms;
 mod lanes;
 mod policies;
+mod served;
 mod statuses;
 mod words;
 

@@ -44,6 +44,13 @@ seat-left lanes at line.Phase no_phase no_lane = absurd (no_phase refl)
 seat-left lanes at (line.Lane name) no_phase no_lane = absurd (no_lane refl)
 seat-left lanes at _ no_phase no_lane = refl
 
+-- a line that begins a lane's part of a phase names the lane
+pub seat-named : (lanes : List (List ℕ)) (at : Option ℕ) (l : Line) → role_of l ≡ role.Lane → ((name : List ℕ) → l ≡ line.Lane name → ⊥)
+    → seat_after lanes at l ≡ at
+unfolding role_of
+seat-named lanes at (line.Lane name) is not = absurd (not name refl)
+seat-named lanes at _ is not = cc
+
 -- ---- names
 -- a line that doesn't stand in the header names no process of it
 pub no-proc : (l : Line) → (role_of l ≡ role.Header → ⊥) → proc_name_told l ≡ []

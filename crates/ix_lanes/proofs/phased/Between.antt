@@ -11,7 +11,7 @@ use Rattle.ix_asking.specs.Asking as asking
 use Rattle.ix_lanes.specs.asking.Asked.{Names, Numbers, named}
 use Rattle.ix_lanes.specs.asking.LineAsks.{Numbered, line_asks, lines_ask}
 use Rattle.ix_lanes.specs.histories.Serial.{seat_after}
-use Rattle.ix_lanes.specs.histories.Lanes.{is_seat, lines_of_seat}
+use Rattle.ix_lanes.specs.histories.Lanes.{lines_of_seat}
 use Rattle.ix_lanes.specs.running.Phases.{lane_among, lane_between, seat_at}
 use Rattle.ix_lanes.proofs.phased.LaneLines.{lane-append, mine, one_more, one_of}
 

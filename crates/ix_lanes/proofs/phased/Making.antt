@@ -1,5 +1,5 @@
 -- Lines that are made one after the other on a system.
-use Rattle.std.proofs.Common.{◌≡◌, ℕ, Ok, Err, List, [], ◌∷◌, ◌++◌, refl, sym, ap, ◌∙◌, subst, append_assoc}
+use Rattle.std.proofs.Common.{◌≡◌, ℕ, Ok, Err, List, [], ◌∷◌, ◌++◌, sym, ap, ◌∙◌, subst}
 use Rattle.ix_model.specs.history.Made.{Made}
 use Rattle.ix_model.specs.history.Systems.{one_more}
 use Rattle.ix_model.specs.declared.reply.Answer.{Answer}
@@ -7,7 +7,7 @@ use Rattle.ix_asking.specs.declared.stop.Stop.{Stop}
 use Rattle.ix_asking.specs.Asking.{Asked, Asking, Ask, Answered, Next, Came, Due, all_heard, first, followed, heard, mapped, next}
 use Rattle.ix_asking.specs.Asking as asking
 use Rattle.ix_asking.specs.Runs.{answer_of, answers_of, AsAsked, Ends, Makes, StopsAt}
-use Rattle.ix_asking.proofs.OneMore.{asked_after, heard_after, makes-after}
+use Rattle.ix_asking.proofs.OneMore.{heard_after, makes-after}
 use Rattle.ix_lanes.specs.running.Lines.{Cut, Done}
 
 -- ---- where something else comes of the same calls

@@ -1,6 +1,5 @@
 -- One line more of a lane, on a system.
-use Rattle.std.proofs.Common.{◌≡◌, ℕ, ◌+◌, ◌≤◌, ◌<◌, true, false, List, [], ◌∷◌, ◌++◌, length, take, Option, Some, refl, sym, ap, ◌∙◌, subst, arith, slice_get, append-nil}
-use Rattle.std.proofs.lemmas.Option.{slice_get_within}
+use Rattle.std.proofs.Common.{◌≡◌, ℕ, ◌+◌, ◌≤◌, true, false, List, [], ◌∷◌, ◌++◌, length, take, Option, Some, refl, sym, ap, ◌∙◌, subst, arith, slice_get, append-nil}
 use Rattle.ix_model.specs.history.Made.{Made}
 use Rattle.ix_model.specs.declared.reply.Answer.{Answer}
 use Rattle.ix_policy.specs.declared.rule.Rule.{Rule}
@@ -15,7 +14,7 @@ use Rattle.ix_lanes.specs.histories.Lanes.{is_seat}
 use Rattle.ix_lanes.specs.running.Lines.{Cut, Done}
 use Rattle.ix_lanes.specs.running.Phases.{lane_between, seat_at}
 use Rattle.ix_lanes.proofs.phased.Between.{asks_append, between_both, between_more, between_none}
-use Rattle.ix_lanes.proofs.phased.LaneLines.{mine, mine-here, mine-not}
+use Rattle.ix_lanes.proofs.phased.LaneLines.{mine-here, mine-not}
 use Rattle.ix_lanes.proofs.phased.Making.{cut_after, cut_before, done_after}
 
 module _ {S : Type 0} (seat_of : S → ℕ) (made_of : S → List Made) (stops_of : S → ℕ) (stopped_of : S → Answer) (follows_of : S → S → Type 0)

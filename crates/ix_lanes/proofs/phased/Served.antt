@@ -4,7 +4,6 @@ use Rattle.ix_policy.specs.declared.rule.Rule.{Rule}
 use Rattle.ix_asking.specs.Asking.{mapped}
 use Rattle.ix_asking.specs.Asking as asking
 use Rattle.ix_asking.specs.Copies.{copies}
-use Rattle.ix_asking.specs.serving.Serving.{Server}
 use Rattle.ix_privserv.specs.Serving as privileges
 use Rattle.ix_sessserv.specs.Serving as sessions
 use Rattle.ix_script.specs.declared.line.Line.{Line}

@@ -1,5 +1,5 @@
 -- The policy of a script.
-use Rattle.std.specs.Prelude.{ℕ, List, Option, Some, None, option_and_then, Result, Ok, Err}
+use Rattle.std.specs.Prelude.{List, Option, Some, None, option_and_then, Result, Ok, Err}
 use Rattle.ix_policy.specs.Policies.{policy}
 use Rattle.ix_policy.specs.declared.fault.PolicyFault.{PolicyFault}
 use Rattle.ix_policy.specs.declared.rule.Rule.{Rule}

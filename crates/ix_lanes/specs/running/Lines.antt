@@ -1,10 +1,10 @@
 -- What a line of a lane made on a system.
-use Rattle.std.specs.Prelude.{◌≡◌, ℕ, List, Result, Ok, Err}
+use Rattle.std.specs.Prelude.{◌≡◌, ℕ, List}
 use Rattle.ix_model.specs.history.Made.{Made}
 use Rattle.ix_model.specs.history.Systems.{one_more}
 use Rattle.ix_model.specs.declared.reply.Answer.{Answer}
 use Rattle.ix_asking.specs.declared.stop.Stop.{Stop}
-use Rattle.ix_asking.specs.Asking.{Asking, Next, Came, next}
+use Rattle.ix_asking.specs.Asking.{Asking, Came, next}
 use Rattle.ix_asking.specs.Runs.{answer_at, answers_of, Makes, StopsAt}
 
 module _ {S : Type 0} (seat_of : S → ℕ) (made_of : S → List Made) (stops_of : S → ℕ) (stopped_of : S → Answer) (follows_of : S → S → Type 0) where

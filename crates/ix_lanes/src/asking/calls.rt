@@ -1,7 +1,7 @@
 ghost use Rattle.std.specs.Prelude.{◌≡◌, ◌≤◌, take, true};
 ghost use Rattle.std.specs.Option.{option_map};
 ghost use Rattle.ix_model.specs.history.Calls.{event_of};
-ghost use Rattle.ix_lanes.specs.asking.Asked.{asked, both_bound, bound, first_in, named, number_in, second_in, written};
+ghost use Rattle.ix_lanes.specs.asking.Asked.{asked, both_bound, bound, named, number_in, written};
 ghost use Rattle.ix_script.specs.lines.Before.{listed, listed_two};
 ghost use Rattle.ix_lanes.specs.asking.Places.{given, has_all, has_places, KeepsNames, KeepsPlaces, standing};
 ghost use Rattle.ix_asking.specs.Runs.{entry_of};
@@ -159,17 +159,6 @@ fn pid_in(handed: &Handed) -> u32
     }
 }
 
-/// The descriptors of both ends that are handed, or twice one that no process has.
-fn fds_in(handed: &Handed) -> (u8, u8)
-    ensures first { result.0 ≡ first_in handed.now }
-    ensures second { result.1 ≡ second_in handed.now }
-{
-    match handed {
-        Handed::Two(first, second) => (first.0, second.0),
-        _ => (255, 255),
-    }
-}
-
 /// Lets a name, if there is one, stand for a number.
 fn bind_one<N: Copy>(names: &mut Numbers<Option<N>>, name: &Option<NameWord<'_>>, number: N)
     requires { has_all names.old (listed name.now) ≡ true }
@@ -192,7 +181,10 @@ fn bind_both(
     ensures keeps { KeepsNames fds.old fds.new }
 {
     if let Some((first_name, second_name)) = two {
-        let (first, second) = fds_in(handed);
+        let (first, second) = match handed {
+            Handed::Two(first, second) => (first.0, second.0),
+            _ => (255, 255),
+        };
         fds.put(first_name, Some(first));
         fds.put(second_name, Some(second));
     }

@@ -1,6 +1,6 @@
 ghost use Rattle.std.specs.Prelude.{◌≡◌, OnOk, true};
 ghost use Rattle.std.specs.FinMap as map;
-ghost use Rattle.ix_script.specs.lines.Before.{listed, listed_two};
+ghost use Rattle.ix_script.specs.lines.Before.{listed};
 ghost use Rattle.ix_lanes.specs.asking.Asked.{fd_of, keep_of, no_names, pid_of};
 ghost use Rattle.ix_lanes.specs.asking.Places.{given, has_all, has_places, KeepsNames, KeepsPlaces, standing};
 
@@ -44,22 +44,6 @@ fn add_one<N: Copy>(
     }
 }
 
-/// Finds two names, if they are there, their places.
-fn add_two<N: Copy>(
-    names: &mut Numbers<Option<N>>,
-    two: &Option<(NameWord<'_>, NameWord<'_>)>,
-) -> Result<(), NoMemory>
-    ensures same { given names.new ≡ given names.old }
-    ensures place { OnOk result (has_all names.new (listed_two two.now) ≡ true) }
-    ensures keeps { KeepsNames names.old names.new }
-{
-    let Some((first, second)) = two else {
-        return Ok(());
-    };
-    add_name(names, first)?;
-    add_name(names, second)
-}
-
 impl Places {
     /// No names.
     pub fn new(alloc: Global) -> Places
@@ -81,7 +65,13 @@ impl Places {
         match line {
             Line::Open { named, .. } => add_one(&mut self.fds, named),
             Line::Dup { named, .. } => add_one(&mut self.fds, named),
-            Line::Pipe { named, .. } => add_two(&mut self.fds, named),
+            Line::Pipe {
+                named: Some((first, second)),
+                ..
+            } => {
+                add_name(&mut self.fds, first)?;
+                add_name(&mut self.fds, second)
+            }
             Line::Fork { named, .. } => add_one(&mut self.procs, named),
             Line::Login { named, .. } => add_one(&mut self.procs, named),
             _ => Ok(()),

@@ -1,11 +1,7 @@
-ghost use Rattle.std.specs.Prelude.{◌≡◌, ◌≤◌, ◌<◌, suc, List, true, length, take, IfOk, IfErr, OnOk, OnErr};
+ghost use Rattle.std.specs.Prelude.{◌≡◌, ◌≤◌, true, length, take, IfOk, IfErr};
 ghost use Rattle.std.proofs.Common.{option_map};
-ghost use Rattle.ix_script.specs.lines.Before.{lanes_of};
-ghost use Rattle.ix_script.specs.lines.Roles.{role_of};
 ghost use Rattle.ix_lanes.specs.asking.Asked.{no_names};
-ghost use Rattle.ix_lanes.specs.asking.Places.{has_places, KeepsPlaces, standing};
-ghost use Rattle.ix_lanes.specs.histories.Indexed.{line_in};
-ghost use Rattle.ix_lanes.specs.histories.Lanes.{is_seat};
+ghost use Rattle.ix_lanes.specs.asking.Places.{KeepsPlaces, standing};
 ghost use Rattle.ix_lanes.specs.running.Fields.{all_placed};
 ghost use Rattle.ix_lanes.specs.asking.LineAsks.{lines_ask};
 ghost use Rattle.ix_lanes.specs.running.Lines.{Cut, Done};
@@ -25,21 +21,7 @@ use ix_script::{Role, Script};
 use std::alloc::Global;
 use std::marker::Model;
 
-/// Finds the names that the line at an index gives their places. The line is made only where it may give any.
-fn add_names(places: &mut Places, script: &Script, index: u32, role: Role) -> Result<(), NoMemory>
-    requires within { index < length script.now }
-    requires role { role ≡ role_of (line_in script.now index) }
-    ensures same { standing places.new ≡ standing places.old }
-    ensures places { OnOk result (has_places places.new (line_in script.now index) ≡ true) }
-    ensures keeps { KeepsPlaces places.old places.new }
-{
-    match role {
-        Role::Naming | Role::Server => places.add(&line_at(script, index)),
-        _ => Ok(()),
-    }
-}
-
-/// The places of all names that the lines of a lane give.
+/// The places of all names that the lines of a lane give. Of the lines only those that may give names are made.
 fn places_of(alloc: Global, script: &Script, lane: u32) -> Result<Places, NoMemory>
     ensures none { IfOk result (λ places. standing places ≡ no_names) }
     ensures all { IfOk result (λ places. all_placed places (lane_among script.now lane script.now) ≡ true) }
@@ -48,8 +30,8 @@ fn places_of(alloc: Global, script: &Script, lane: u32) -> Result<Places, NoMemo
     let mut seat = None;
     for index in 0..script.len() {
         let role = role_at(script, index);
-        if seat == Some(lane) {
-            add_names(&mut places, script, index, role)?;
+        if seat == Some(lane) && matches!(role, Role::Naming | Role::Server) {
+            places.add(&line_at(script, index))?;
         }
         seat = seat_past(script, seat, index, role);
     }

@@ -1,4 +1,4 @@
-use Rattle.std.proofs.Common.{rules, ◌++◌, List, take, Some, option_map, sym, ap, ◌∙◌, arith}
+use Rattle.std.proofs.Common.{rules, List, Some, option_map, sym, ap, ◌∙◌, arith}
 use Rattle.ix_script.specs.declared.line.Line.{Line}
 use Rattle.ix_script.specs.lines.Before.{lanes_of}
 use Rattle.ix_lanes.specs.asking.LineAsks.{lines_ask}

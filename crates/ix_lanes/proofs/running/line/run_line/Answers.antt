@@ -1,5 +1,4 @@
-use Rattle.std.proofs.Common.{rules, refl, ap, sym, ◌∙◌, subst, IfOk, IfErr, None, option_map}
-use Rattle.ix_policy.specs.declared.rule.Rule.{Rule}
+use Rattle.std.proofs.Common.{rules, ap, sym, ◌∙◌, subst, IfOk, IfErr, option_map}
 use Rattle.ix_asking.specs.Asking.{Asking, mapped}
 use Rattle.ix_privserv.specs.Places as privileges_at
 use Rattle.ix_privserv.specs.Serving as privileges

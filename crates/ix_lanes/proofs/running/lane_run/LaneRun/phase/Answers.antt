@@ -2,7 +2,7 @@ use Rattle.std.proofs.Common.{◌≡◌, ℕ, ◌+◌, ◌<◌, ◌++◌, suc, L
 use Rattle.ix_model.specs.history.Made.{Made}
 use Rattle.ix_model.specs.declared.reply.Answer.{Answer}
 use Rattle.ix_script.specs.declared.line.Line.{Line}
-use Rattle.ix_asking.specs.Asking.{Asking, Next, next}
+use Rattle.ix_asking.specs.Asking.{Asking, next}
 use Rattle.ix_asking.specs.Runs.{answers_of, AsAsked, StopsAt}
 use Rattle.ix_lanes.specs.asking.Asked.{Names}
 use Rattle.ix_lanes.specs.asking.LineAsks.{lines_ask}
