@@ -59,7 +59,7 @@ after_counted form rules all no_items h =
 after_counted form rules all (item d ds) h =
     after_of form ds (next_rules form rules d) all (length rules + items_len (item d ds))
     (λ more is rest. let one =
-        next_counted form rules more d is in let others = after_counted form more all ds rest in omega (arith, one, others)) h
+    next_counted form rules more d is in let others = after_counted form more all ds rest in omega (arith, one, others)) h
 
 few : (form : Form) (b : Bool) (ds : Items) (all : List Rule) → nat_le (items_len ds) 256 ≡ b
     → cond b (rules_after form [] ds) (Err fault.TooMany) ≡ Ok all → length all ≤ 256

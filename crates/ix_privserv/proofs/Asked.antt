@@ -23,9 +23,11 @@ use Rattle.ix_privserv.specs.Serving.{grant, on_want, on_message, serves}
 -- ---- every call
 module _ (P : Asked → Type 0) (s : Server) (each : HoldsOfLine P s) where
   all_granted : (client : Pid) (want : PrivSet) (rule : ℕ) → AllOf P (grant s client want rule)
-  all_granted client want rule =
-      (each s.pid (op.GrantLic client.0 want) tt, λ a. all-refused Outcome P a.reply _ _
-      (λ why. all-told P s each (outcome.Refused why 4)) (all-told P s each (outcome.Granted rule client false)))
+  all_granted client want rule = (
+    each s.pid (op.GrantLic client.0 want) tt,
+    λ a. all-refused Outcome P a.reply _ _
+        (λ why. all-told P s each (outcome.Refused why 4)) (all-told P s each (outcome.Granted rule client false)),
+  )
 
   all_wanted : (rules : List Rule) (client : Pid) (label : Categories) (message : List ℕ) (found : Option PrivSet)
       → AllOf P (on_want rules s client label message found)
@@ -41,9 +43,12 @@ module _ (P : Asked → Type 0) (s : Server) (each : HoldsOfLine P s) where
 module _ (rules : List Rule) (few : length rules ≤ 256) (s : Server) where
   grant_costs : (client : Pid) (want : PrivSet) (rule : ℕ) → rule ≤ 256 → Costs 400 (grant s client want rule)
   unfolding cost_of
-  grant_costs client want rule low =
-      (272, omega arith, λ a read. costs-refused Outcome 272 a.reply _ _ (λ why. tell-costs s (outcome.Refused why 4) (refused-few why 4))
-      (tell-costs s (outcome.Granted rule client false) (granted-few rule client false (omega (arith, low)))))
+  grant_costs client want rule low = (
+    272,
+    omega arith,
+    λ a read. costs-refused Outcome 272 a.reply _ _ (λ why. tell-costs s (outcome.Refused why 4) (refused-few why 4))
+        (tell-costs s (outcome.Granted rule client false) (granted-few rule client false (omega (arith, low)))),
+  )
 
   want_costs : (client : Pid) (label : Categories) (message : List ℕ) (found : Option PrivSet) → length message ≤ 64
       → Costs 400 (on_want rules s client label message found)

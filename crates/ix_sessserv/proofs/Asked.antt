@@ -33,9 +33,11 @@ module _ (P : Asked → Type 0) (s : Server) (each : HoldsOfLine P s) (rules : L
   all_given_up child why step = (each child.0 (op.Exit 255) tt, λ a. all-told P s each (outcome.Refused why step))
 
   all_rest : (child : Pid) (rule : ℕ) → AllOf P (grant_rest rules s child rule)
-  all_rest child rule =
-      (each s.pid (op.GrantLic child.0 (privs_of rules rule)) tt, λ a. all-refused Outcome P a.reply _ _
-      (λ why. all_given_up child why 7) (all-told P s each (outcome.Granted rule child false)))
+  all_rest child rule = (
+    each s.pid (op.GrantLic child.0 (privs_of rules rule)) tt,
+    λ a. all-refused Outcome P a.reply _ _
+        (λ why. all_given_up child why 7) (all-told P s each (outcome.Granted rule child false)),
+  )
 
   all_any : (child : Pid) (rule : ℕ) → AllOf P (grant_if_any rules s child rule)
   all_any child rule =
@@ -50,9 +52,11 @@ module _ (P : Asked → Type 0) (s : Server) (each : HoldsOfLine P s) (rules : L
       (each child.0 (op.DropLic all_five) tt, λ a. all-refused Outcome P a.reply _ _ (λ why. all_given_up child why 5) (all_ceiling child rule))
 
   all_forked : (hand : Fd) (rule : ℕ) → AllOf P (fork rules s hand rule)
-  all_forked hand rule =
-      (each s.pid (op.Fork (keep.One hand)) tt, λ a. all-refused Outcome P a.reply _ _
-      (λ why. all-told P s each (outcome.Refused why 4)) (all_dropped (child_in a.reply) rule))
+  all_forked hand rule = (
+    each s.pid (op.Fork (keep.One hand)) tt,
+    λ a. all-refused Outcome P a.reply _ _
+        (λ why. all-told P s each (outcome.Refused why 4)) (all_dropped (child_in a.reply) rule),
+  )
 
   all_user : (hand : Fd) (label : Categories) (message : List ℕ) (found : Option (List ℕ))
       → AllOf P (on_user rules s hand label message found)
@@ -86,22 +90,31 @@ module _ (rules : List Rule) (few : length rules ≤ 256) (s : Server) where
 
   ceiling_costs : (child : Pid) (rule : ℕ) → rule ≤ 256 → Costs 656 (set_ceiling rules s child rule)
   unfolding cost_of
-  ceiling_costs child rule low =
-      (528, omega arith, λ a read. costs-refused Outcome 528 a.reply _ _
-      (λ why. costs-more Outcome 400 528 (give_up s child why 6) (omega arith) (given_up_costs child why 6)) (any_costs child rule low))
+  ceiling_costs child rule low = (
+    528,
+    omega arith,
+    λ a read. costs-refused Outcome 528 a.reply _ _
+        (λ why. costs-more Outcome 400 528 (give_up s child why 6) (omega arith) (given_up_costs child why 6)) (any_costs child rule low),
+  )
 
   dropped_costs : (child : Pid) (rule : ℕ) → rule ≤ 256 → Costs 784 (drop_all rules s child rule)
   unfolding cost_of
-  dropped_costs child rule low =
-      (656, omega arith, λ a read. costs-refused Outcome 656 a.reply _ _
-      (λ why. costs-more Outcome 400 656 (give_up s child why 5) (omega arith) (given_up_costs child why 5)) (ceiling_costs child rule low))
+  dropped_costs child rule low = (
+    656,
+    omega arith,
+    λ a read. costs-refused Outcome 656 a.reply _ _
+        (λ why. costs-more Outcome 400 656 (give_up s child why 5) (omega arith) (given_up_costs child why 5)) (ceiling_costs child rule low),
+  )
 
   fork_costs : (hand : Fd) (rule : ℕ) → rule ≤ 256 → Costs 912 (fork rules s hand rule)
   unfolding cost_of
-  fork_costs hand rule low =
-      (784, omega arith, λ a read. costs-refused Outcome 784 a.reply _ _
-      (λ why. costs-more Outcome 272 784 (tell s (outcome.Refused why 4)) (omega arith) (tell-costs s (outcome.Refused why 4) (refused-few why 4)))
-      (dropped_costs (child_in a.reply) rule low))
+  fork_costs hand rule low = (
+    784,
+    omega arith,
+    λ a read. costs-refused Outcome 784 a.reply _ _
+        (λ why. costs-more Outcome 272 784 (tell s (outcome.Refused why 4)) (omega arith) (tell-costs s (outcome.Refused why 4) (refused-few why 4)))
+        (dropped_costs (child_in a.reply) rule low),
+  )
 
   user_costs : (hand : Fd) (label : Categories) (message : List ℕ) (found : Option (List ℕ)) → length message ≤ 64
       → Costs 912 (on_user rules s hand label message found)

@@ -13,9 +13,14 @@ use Rattle.ix_host.specs.declared.task.Task.TheVariants as task
 use Rattle.ix_host.specs.run.Outcome.{Outcome, input_of, outcome_in, outcome_of, reads_source, script_in, text_of}
 use Rattle.ix_host.specs.run.Outcome as outcome
 use Rattle.ix_host.specs.run.Run.{Ends, IsEndOf, ReadsOut, WritesFor}
-use Rattle.ix_host.specs.run.Tasks.{LeadsTo, Prepares, TaskReadsOut}
+use Rattle.ix_host.specs.run.Tasks.{LeadsTo, OnRun, Prepares, TaskReadsOut}
 use Rattle.ix_host.specs.run.Whole.{script_max}
 use Rattle.ix_host.proofs.comes_to.Outcomes.{outcome_too_long}
+
+-- a run of lanes is no end
+pub run_is_no_end : (t : Task) (end : Status) → OnRun t (t ≡ task.Ended end → ⊥)
+run_is_no_end (task.Ended e) end = tt
+run_is_no_end (task.Run told script policy) end = λ is. cc
 
 -- ---- ends
 -- an end with an outcome is one with an equal outcome

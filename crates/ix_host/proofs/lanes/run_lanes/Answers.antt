@@ -3,10 +3,12 @@ use Rattle.ix_lanes.proofs.serially.Needs.{whole_fits}
 use Rattle.ix_parallel.proofs.together.Whole.{serial_history}
 use Rattle.ix_parallel.specs.History.{IsHistory}
 use Rattle.ix_host.specs.command.Command.{IsCounted, lanes_command_of, lanes_usage_line}
+use Rattle.ix_host.specs.declared.status.Status.TheVariants as status
 use Rattle.ix_host.specs.declared.task.Task.TheVariants as task
 use Rattle.ix_host.specs.run.Outcome.{outcome_of, reads_source, text_of}
 use Rattle.ix_host.specs.run.Run.{FitsCommand}
 use Rattle.ix_host.specs.run.Tasks.{text_told}
+use Rattle.ix_host.proofs.comes_to.Preparing.{run_is_no_end}
 use Rattle.ix_host.proofs.comes_to.OnlyRun.{lanes_input, lanes_read_out, lanes_run, none_reads}
 use Rattle.ix_host.proofs.comes_to.Verdicts.{Verdict, answer_read, memory_written, told_read, told_read_out, verdict_ended, verdict_told}
 use Rattle.ix_host.proofs.words_in.Counts.{lanes_counted}
@@ -65,7 +67,7 @@ returns-in-Ok-run_history g c =
     let text = text_told c.in-Run.telling c.in-Run.script c.in-Ok-run_history.history.events in
     let e = rw p.untouched at c.conclude.ensures in
     let v = subst (λ a. Verdict IsHistory lanes_usage_line a left c.conclude.result taken (g.K.Sink.taken c.conclude.new.sink) (g.K.Sink.finished c.conclude.new.sink) (g.K.Sink.faults c.args.sink.now) (g.K.Sink.faults c.conclude.new.sink)) c.in-Ok.ensures
-    (verdict_told {Comes = IsHistory} c.in-Ok-run_history.history.events (p.prepared (λ is. cc)) c.in-Ok-run_history.ensures.history e) in
+    (verdict_told {Comes = IsHistory} c.in-Ok-run_history.history.events (p.prepared (run_is_no_end (task.Run c.in-Run.telling c.in-Run.script c.in-Run.policy) status.ReadFault)) c.in-Ok-run_history.ensures.history e) in
     record {
       bounded = p.bounded;
       read_out = lanes_read_out words c.conclude.result left (g.S.Source.left c.prepare.new.source) v.fits (λ reads. told_read_out text c.conclude.result left (g.S.Source.left c.prepare.new.source) e.fits (p.read_out (ap reads_source c.in-Ok.ensures ∙ reads)));
@@ -77,7 +79,7 @@ returns-in-Ok-run_history g c =
       not_written = λ is. absurd (told_read text c.conclude.result e.fits is);
       command = v.fits;
       answer = rw (lanes_input words left) at v.answer;
-      quiet = λ a. (p.kept (λ is. cc), v.kept a);
+      quiet = λ a. (p.kept (run_is_no_end (task.Run c.in-Run.telling c.in-Run.script c.in-Run.policy) status.ReadFault), v.kept a);
       too_long = v.too_long;
       read_fault = λ is. absurd (told_read text c.conclude.result e.fits is);
       write_fault = v.write_fault;

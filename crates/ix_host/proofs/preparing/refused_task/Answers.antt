@@ -17,6 +17,10 @@ returns-in-Print-clause-leads g c = λ history.
 
 pub returns-in-Gen-clause-leads : goal.returns-in-Gen-clause-leads
 unfolding script_refusal text_for
-returns-in-Gen-clause-leads g c =
-    (refl, c.requires.runnable, sym c.requires.policy, λ history.
-    sym (outcome_accepted c.args.command c.args.script history (ap (λ k. script_refusal k c.args.script) c.in-Gen.is)) ∙ ap (λ k. outcome.Whole (text_for k c.args.script history)) c.in-Gen.is)
+returns-in-Gen-clause-leads g c = (
+  refl,
+  c.requires.runnable,
+  sym c.requires.policy,
+  λ history.
+      sym (outcome_accepted c.args.command c.args.script history (ap (λ k. script_refusal k c.args.script) c.in-Gen.is)) ∙ ap (λ k. outcome.Whole (text_for k c.args.script history)) c.in-Gen.is,
+)

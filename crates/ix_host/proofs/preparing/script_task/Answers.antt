@@ -1,4 +1,5 @@
-use Rattle.std.proofs.Common.{refl}
+use Rattle.std.proofs.Common.{refl, subst}
+use Rattle.ix_host.specs.Policies.{IsPolicy}
 use Rattle.ix_host.specs.run.Outcome.{outcome_for, text_for}
 use Rattle.ix_host.specs.run.Outcome as outcome
 use Rattle.ix_host.proofs.comes_to.Outcomes.{accepted, outcome_accepted}
@@ -8,7 +9,8 @@ use Rattle.ix_host.proofs.preparing.script_task.Goals as goal
 pub returns-in-Ok-Rules-clause-leads : goal.returns-in-Ok-Rules-clause-leads
 returns-in-Ok-Rules-clause-leads g c =
     let s = c.args.script in
+    let is = subst (λ a. IsPolicy s a) c.in-Ok-Rules.field-0-is c.in-Ok-Rules.ensures in
     leads_as (λ history. outcome.Whole (text_for c.args.command s history)) (λ history. outcome_for c.args.command s history) s s
     c.accepted_task.result _ _ _ _ _
-    (λ history. outcome_accepted c.args.command s history (accepted c.args.command s c.in-Ok-Rules.ensures.0)) refl
+    (λ history. outcome_accepted c.args.command s history (accepted c.args.command s is.0)) refl
     c.accepted_task.ensures.leads

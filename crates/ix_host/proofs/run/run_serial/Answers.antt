@@ -2,10 +2,12 @@ use Rattle.std.proofs.Common.{◌≡◌, ◌∙◌, refl, subst, sym, ap}
 use Rattle.ix_lanes.specs.histories.Serial.{serial}
 use Rattle.ix_host.specs.Hiding.{TakesHidingReport}
 use Rattle.ix_host.specs.command.Command.{IsCounted, command_of, usage_line}
+use Rattle.ix_host.specs.declared.status.Status.TheVariants as status
 use Rattle.ix_host.specs.declared.task.Task.TheVariants as task
 use Rattle.ix_host.specs.run.Outcome.{input_of, outcome_of, reads_source, script_in, text_of}
 use Rattle.ix_host.specs.run.Run.{WritesFor}
 use Rattle.ix_host.specs.run.Tasks.{text_told}
+use Rattle.ix_host.proofs.comes_to.Preparing.{run_is_no_end}
 use Rattle.ix_host.proofs.comes_to.Verdicts.{Verdict, answer_read, at_serial, told_read, told_read_out, verdict_ended, verdict_told}
 use Rattle.ix_host.proofs.words_in.Counts.{command_counted}
 use Rattle.std.specs.Prelude.{IfSome}
@@ -50,7 +52,7 @@ returns-in-Run g c =
     let text = text_told c.in-Run.telling c.in-Run.script (serial c.in-Run.script) in
     let e = rw p.untouched at c.tell_serial.ensures in
     let v = subst (λ a. Verdict (λ s history. history ≡ serial s) usage_line a left c.tell_serial.result taken (g.K.Sink.taken c.tell_serial.new.sink) (g.K.Sink.finished c.tell_serial.new.sink) (g.K.Sink.faults c.args.sink.now) (g.K.Sink.faults c.tell_serial.new.sink)) c.in-Ok.ensures
-    (verdict_told {Comes = λ s history. history ≡ serial s} (serial c.in-Run.script) (p.prepared (λ is. cc)) refl e) in
+    (verdict_told {Comes = λ s history. history ≡ serial s} (serial c.in-Run.script) (p.prepared (run_is_no_end (task.Run c.in-Run.telling c.in-Run.script c.in-Run.policy) status.ReadFault)) refl e) in
     record {
       bounded = p.bounded;
       read_out = λ reads. told_read_out text c.tell_serial.result left (g.S.Source.left c.prepare.new.source) e.fits (p.read_out (ap reads_source c.in-Ok.ensures ∙ reads));
@@ -62,7 +64,7 @@ returns-in-Run g c =
       not_written = λ is. absurd (told_read text c.tell_serial.result e.fits is);
       command = v.fits;
       answer = v.answer;
-      quiet = λ a. (p.kept (λ is. cc), v.kept a);
+      quiet = λ a. (p.kept (run_is_no_end (task.Run c.in-Run.telling c.in-Run.script c.in-Run.policy) status.ReadFault), v.kept a);
       too_long = v.too_long;
       read_fault = λ is. absurd (told_read text c.tell_serial.result e.fits is);
       write_fault = v.write_fault;
