@@ -1,6 +1,6 @@
 -- What a command comes to.
 use Rattle.std.proofs.Common.{◌≡◌, ℕ, Bool, true, false, List, [], length, Option, Some, None, is_none, refl, sym, ap, ◌∙◌, if◌then◌else◌, unwrap_or, nat_lt}
-use Rattle.std.specs.Option.{option_and_then, option_map, option_or}
+use Rattle.std.specs.Option.{option_and_then, option_or}
 use Rattle.std.specs.Result.{is_err}
 use Rattle.ix_label.specs.declared.form.Form.{Form}
 use Rattle.ix_model.specs.history.Events.{Event}

@@ -1,10 +1,5 @@
-use Rattle.std.proofs.Common.{◌≡◌, suc, Some, rules}
-use Rattle.ix_model.specs.history.Events.{Event}
-use Rattle.ix_model.specs.history.Seats.{made_by}
+use Rattle.std.proofs.Common.{rules}
 use Rattle.ix_model.specs.history.Systems.{FullFor}
-use Rattle.ix_asking.specs.Lines.{events_of}
-use Rattle.ix_asking.specs.Runs.{answers_of}
-use Rattle.ix_lanes.specs.running.Phases.{calls_before}
 use Rattle.ix_lanes.proofs.phased.Standing.{cut_calls}
 use Rattle.ix_serial.proofs.lane.SerialLane.run_phase.Goals as goal
 
