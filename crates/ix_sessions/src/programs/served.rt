@@ -220,5 +220,5 @@ const SESSIONS: &[Session] = &[
 
 #[test]
 fn refused_steps_of_servers(rt: HostRuntime) {
-    walk(rt, rt.alloc(), SESSIONS);
+    walk(&rt, rt.alloc(), SESSIONS);
 }
