@@ -1,0 +1,13 @@
+pub mod Stores
+pub mod Turns
+pub mod GoodRuns
+pub mod Endings
+pub mod Fronts
+pub mod Judged
+pub mod Split
+pub mod ByBytes
+pub mod PhaseRuns
+pub mod Scripts
+pub mod LaneLines
+pub mod Examples
+pub mod NamesTell

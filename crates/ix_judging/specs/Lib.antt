@@ -1,0 +1,12 @@
+pub mod Plan
+pub mod Lanes
+pub mod Runs
+pub mod Judge
+pub mod Walk
+pub mod Bytes
+pub mod Phases
+pub mod Asking
+pub mod Lines
+pub mod Example
+pub mod Names
+pub mod Laws
