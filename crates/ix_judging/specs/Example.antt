@@ -67,8 +67,8 @@ abbrev pub judges : List ℕ → Verdict
 judges bytes = judge_bytes (plan_of script) (opened script 2 0) bytes
 
 -- a line of four numbers, with its line feed, in front of others
-abbrev pub row : ℕ → ℕ → ℕ → ℕ → List ℕ → List ℕ
-row place seat said answer bytes = shown place ∷ shown seat ∷ shown said ∷ shown answer ∷ 10 ∷ bytes
+abbrev pub four : ℕ → ℕ → ℕ → ℕ → List ℕ → List ℕ
+four place seat said answer bytes = shown place ∷ shown seat ∷ shown said ∷ shown answer ∷ 10 ∷ bytes
 
 -- a line of one number
 abbrev pub one : ℕ → List ℕ → List ℕ
@@ -76,34 +76,34 @@ one n bytes = shown n ∷ 10 ∷ bytes
 
 -- two good reports: the first lane first
 abbrev pub text_a : List ℕ
-text_a = one 0 (row 1 0 1 1 (row 2 1 7 8 (row 3 1 8 16 (row 4 0 3 19 (one 19 [])))))
+text_a = one 0 (four 1 0 1 1 (four 2 1 7 8 (four 3 1 8 16 (four 4 0 3 19 (one 19 [])))))
 
 -- the second lane first
 abbrev pub text_b : List ℕ
-text_b = one 0 (row 1 1 7 7 (row 2 0 1 8 (row 3 1 7 15 (row 4 0 10 25 (one 25 [])))))
+text_b = one 0 (four 1 1 7 7 (four 2 0 1 8 (four 3 1 7 15 (four 4 0 10 25 (one 25 [])))))
 
 -- how texts are judged
 pub record Judgements : Type 0 where
   pub good_a : judges text_a ≡ Yes 4
   pub good_b : judges text_b ≡ Yes 4
   -- the second phase begins before the first has ended
-  pub early : judges (one 0 (row 1 0 1 1 (row 2 0 3 4 []))) ≡ No 3
+  pub early : judges (one 0 (four 1 0 1 1 (four 2 0 3 4 []))) ≡ No 3
   -- a wrong answer, and a call that its lane doesn't make
-  pub answer : judges (one 0 (row 1 0 1 1 (row 2 1 7 9 []))) ≡ No 3
-  pub call : judges (one 0 (row 1 0 1 1 (row 2 1 7 8 (row 3 1 7 15 [])))) ≡ No 4
+  pub answer : judges (one 0 (four 1 0 1 1 (four 2 1 7 9 []))) ≡ No 3
+  pub call : judges (one 0 (four 1 0 1 1 (four 2 1 7 8 (four 3 1 7 15 [])))) ≡ No 4
   -- a lane that isn't there, a wrong place, and a wrong head
-  pub lane : judges (one 0 (row 1 2 1 1 [])) ≡ No 2
-  pub place : judges (one 0 (row 2 0 1 1 [])) ≡ No 2
-  pub head : judges (one 1 (row 1 0 1 1 [])) ≡ No 1
+  pub lane : judges (one 0 (four 1 2 1 1 [])) ≡ No 2
+  pub place : judges (one 0 (four 2 0 1 1 [])) ≡ No 2
+  pub head : judges (one 1 (four 1 0 1 1 [])) ≡ No 1
   pub nothing : judges [] ≡ No 1
   -- the front of a good report, with the last line feed and without it
-  pub front : judges (one 0 (row 1 0 1 1 [])) ≡ No 3
+  pub front : judges (one 0 (four 1 0 1 1 [])) ≡ No 3
   pub unended : judges (one 0 (shown 1 ∷ shown 0 ∷ shown 1 ∷ shown 1 ∷ [])) ≡ No 2
   -- more behind a good report, with a line feed and without
-  pub more : judges (one 0 (row 1 0 1 1 (row 2 1 7 8 (row 3 1 8 16 (row 4 0 3 19 (one 19 (one 0 []))))))) ≡ No 7
-  pub further : judges (one 0 (row 1 0 1 1 (row 2 1 7 8 (row 3 1 8 16 (row 4 0 3 19 (one 19 (7 ∷ []))))))) ≡ No 7
+  pub more : judges (one 0 (four 1 0 1 1 (four 2 1 7 8 (four 3 1 8 16 (four 4 0 3 19 (one 19 (one 0 []))))))) ≡ No 7
+  pub further : judges (one 0 (four 1 0 1 1 (four 2 1 7 8 (four 3 1 8 16 (four 4 0 3 19 (one 19 (7 ∷ []))))))) ≡ No 7
   -- the wrong last line
-  pub last : judges (one 0 (row 1 0 1 1 (row 2 1 7 8 (row 3 1 8 16 (row 4 0 3 19 (one 20 [])))))) ≡ No 6
+  pub last : judges (one 0 (four 1 0 1 1 (four 2 1 7 8 (four 3 1 8 16 (four 4 0 3 19 (one 20 [])))))) ≡ No 6
 
 -- the example is a script, it prints lines, and these texts are judged so
 pub record IsExample : Type 0 where
