@@ -1,5 +1,4 @@
-ghost use Rattle.std.specs.Prelude.{◌≡◌, if◌then◌else◌};
-ghost use Rattle.ix_script.specs.lines.Before.{is_command};
+ghost use Rattle.std.specs.Prelude.{◌≡◌};
 ghost use Rattle.ix_script.specs.scripts.Need.{cost_of_line};
 
 use crate::before::body::is_command;
@@ -39,13 +38,7 @@ pub(crate) fn cost_of_line(line: &Line<'_>) -> u64
         Line::Copy { count, .. } => 2 * ENTRY + (*count).min(4096) as u64,
         Line::Priv { .. } => PRIV,
         Line::Login { .. } => LOGIN,
-        _ => cost_of_plain(line),
+        _ if is_command(line) => ENTRY,
+        _ => 0,
     }
-}
-
-/// What a line costs that costs no more than an entry.
-fn cost_of_plain(line: &Line<'_>) -> u64
-    ensures { result ≡ (if is_command line.now then 128 else 0) }
-{
-    if is_command(line) { ENTRY } else { 0 }
 }

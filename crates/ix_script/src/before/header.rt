@@ -1,4 +1,4 @@
-ghost use Rattle.std.specs.Prelude.{◌≡◌, ◌++◌, ◌∷◌, ◌+◌, ◌<◌, ◌≤◌, ◌^◌, ◌||◌, ◌&&◌, not, [], ◌==◌, true, None, List, length, map, max, false, OnOk, OnErr, IfOk, nat_le, nat_lt, if◌then◌else◌, codes};
+ghost use Rattle.std.specs.Prelude.{◌≡◌, ◌++◌, ◌∷◌, ◌+◌, ◌<◌, ◌≤◌, ◌^◌, ◌||◌, ◌&&◌, not, [], ◌==◌, true, None, List, length, map, false, OnOk, OnErr, IfOk, nat_le, nat_lt, if◌then◌else◌, codes};
 ghost use Rattle.std.specs.Option.{option_map_or};
 ghost use Rattle.ix_label.specs.Category.{leq};
 ghost use Rattle.ix_script.specs.lines.Before.{form_by, fs_told, or_default, default_fs, default_limits, limits_after, with_limit, what_told, what_text, proc_name_told, object_told, is_policy, group, is_known};
@@ -52,12 +52,6 @@ fn group(line: &Line<'_>) -> u8
         Line::Proc { .. } | Line::Dir { .. } | Line::File { .. } | Line::Policy { .. } => 4,
         _ => 5,
     }
-}
-
-fn latest_after(latest: u8, line: &Line<'_>) -> u8
-    ensures { result ≡ max latest (group line.now) }
-{
-    latest.max(group(line))
 }
 
 fn policy_after(policy: bool, line: &Line<'_>) -> bool
@@ -279,7 +273,7 @@ impl<'a> Header<'a> {
         add_what(&mut self.whats, line)?;
         add_proc(&mut self.procs, line)?;
         add_made(&mut self.made, line)?;
-        self.latest = latest_after(self.latest, line);
+        self.latest = self.latest.max(group(line));
         self.policy = policy_after(self.policy, line);
         Ok(())
     }
