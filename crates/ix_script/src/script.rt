@@ -1,11 +1,10 @@
-ghost use Rattle.std.specs.Prelude.{◌≡◌, ◌≤◌, ◌-◌, ◌<◌, ◌==◌, length, position, slice_get, IfSome, true, None, if◌then◌else◌, IfOk, IsTrue, false};
+ghost use Rattle.std.specs.Prelude.{◌≡◌, ◌≤◌, ◌-◌, ◌==◌, length, slice_get, true, None, if◌then◌else◌, IfOk, IsTrue};
 ghost use Rattle.ix_model.specs.opening.Valid.{is_valid};
 ghost use Rattle.std.proofs.Common.{option_map};
-ghost use Rattle.std.specs.Option.{option_map_or};
-ghost use Rattle.ix_script.specs.lines.Before.{form_told, lanes_of, commands, is_policy};
+ghost use Rattle.ix_script.specs.lines.Before.{form_told, lanes_of, commands};
 ghost use Rattle.ix_script.specs.lines.Roles.{role_of};
 ghost use Rattle.ix_script.specs.scripts.Need.{need};
-ghost use Rattle.ix_script.specs.scripts.Scripts.{config_of, policy_told, policy_of};
+ghost use Rattle.ix_script.specs.scripts.Scripts.{config_of, policy_of};
 ghost use Rattle.ix_script.specs.reader.Told.{DraftTold};
 
 use crate::before::draft::Draft;
@@ -128,51 +127,19 @@ pub fn need(script: &Script) -> u64
     script.lines.need()
 }
 
-fn is_policy(line: &Line<'_>) -> bool
-    ensures { result ≡ is_policy line.now }
-{
-    matches!(line, Line::Policy { .. })
-}
-
-/// Whether the line at a place is the policy. No line is made but those of the header.
-fn is_policy_at(lines: &Lines, index: usize) -> bool
-    ensures { result ≡ option_map_or is_policy (slice_get lines.now index) false }
-{
-    match lines.header_line(index) {
-        Some(line) => is_policy(&line),
-        None => false,
-    }
-}
-
-/// The place of the policy.
-fn policy_place(lines: &Lines) -> Option<usize>
-    ensures place { result ≡ position is_policy lines.now }
-    ensures within { IfSome result (λ k. k < length lines.now) }
-{
-    'lines: for index in 0..lines.len() {
-        if is_policy_at(lines, index) {
-            return Some(index);
-        }
-    }
-    None
-}
-
-fn policy_text<'a>(line: &Line<'a>) -> Option<&'a [u8]>
-    ensures { option_map (λ text. text.now) result ≡ policy_told line.now }
-{
-    match line {
-        Line::Policy { text } => Some(text.as_bytes()),
-        _ => None,
-    }
-}
-
-#[tactic(auto, unfolding(crate::specs::scripts::Scripts::policy_of))]
+/// The number of the policy's line and its text. No line is made but those of the header.
 fn policy(lines: &Lines) -> Option<(u32, &[u8])>
     requires { length lines.now ≤ 16777216 }
     ensures { option_map (λ p. (p.0, p.1.now)) result ≡ policy_of lines.now }
 {
-    let place = policy_place(lines)?;
-    let line = lines.get(place)?;
-    let text = policy_text(&line)?;
-    Some((place as u32 + 1, text))
+    'lines: for index in 0..lines.len() {
+        let Some(line) = lines.header_line(index) else {
+            continue;
+        };
+        match line {
+            Line::Policy { text } => return Some((index as u32 + 1, text.as_bytes())),
+            _ => continue,
+        }
+    }
+    None
 }

@@ -1,10 +1,11 @@
 -- Lines walked through by their numbers.
 use Rattle.std.proofs.Common.{◌≡◌, ℕ, zero, suc, ◌+◌, ◌<◌, true, false, List, [], ◌∷◌, length, drop, get_or, Some, None, refl, sym, ap, ◌∙◌, add-one}
-use Rattle.std.specs.List.{slice_get, position_from}
+use Rattle.std.specs.List.{slice_get, position, position_from}
 use Rattle.std.specs.Option.{option_map_or}
 use Rattle.std.proofs.lemmas.Bool.{false≢true}
 use Rattle.std.proofs.lemmas.Option.{none-some, same_Some, slice_get-get_or}
 use Rattle.ix_script.specs.lines.Before.{is_policy}
+use Rattle.ix_script.specs.scripts.Scripts.{policy_of}
 use Rattle.ix_script.specs.declared.line.Line.{Line}
 use Rattle.ix_script.specs.declared.line.Line.TheVariants as line
 
@@ -30,3 +31,15 @@ policy_later lines i low none =
     let h : slice_get lines i ≡ Some l = slice_get-get_or lines i line.Skipped low in
     let no : is_policy l ≡ false = ap (λ found. option_map_or is_policy found false) (sym h) ∙ none in
     rw (next_line lines i l h, no) refl
+
+pub not_policy : (x : Line) → ((text : List ℕ) → x ≡ line.Policy text → ⊥) → is_policy x ≡ false
+not_policy (line.Policy text) other = absurd (other text refl)
+not_policy _ other = refl
+
+pub policy_is : (lines : List Line) (i : ℕ) (text : List ℕ) → position is_policy lines ≡ Some i → slice_get lines i ≡ Some (line.Policy text) → policy_of lines ≡ Some (i + 1, text)
+unfolding policy_of
+policy_is lines i text place at = rw (place, at) refl
+
+pub policy_none : (lines : List Line) → position is_policy lines ≡ None → policy_of lines ≡ None
+unfolding policy_of
+policy_none lines place = rw place refl
