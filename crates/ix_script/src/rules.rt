@@ -5,7 +5,7 @@ ghost use Rattle.ix_script.specs.texts.Cutting.{words_of, is_skipped, is_policy_
 ghost use Rattle.ix_script.specs.lines.Faults.{text_fault, words_fault, stand_fault, names_fault, said_fault, form_fault, command_fault, policy_fault, first_line_fault, body_fault, line_fault};
 ghost use Rattle.ix_script.specs.reader.Readers.{Finds, Tells, TellsForm, is_whole};
 ghost use Rattle.ix_script.specs.lines.Before.{form_told};
-ghost use Rattle.ix_script.specs.lines.Said.{said, said_by_words, version_of, line_of};
+ghost use Rattle.ix_script.specs.lines.Said.{said, version_of, line_of};
 ghost use Rattle.ix_label.specs.declared.form.Form.TheVariants.{One};
 ghost use Rattle.ix_script.specs.reader.Told.{DraftTold};
 ghost use Rattle.ix_script.specs.declared.line.Line.TheVariants as line;

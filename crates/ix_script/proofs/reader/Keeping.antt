@@ -17,7 +17,13 @@ use Rattle.ix_script.specs.lines.Before.{form_by, form_told, fs_told, or_default
 use Rattle.ix_script.specs.reader.Indexed.{AreNames, AreSites}
 use Rattle.ix_script.specs.reader.Told.{HeaderTold, MakesMore, NamesMore, TakenOne, Takes, fss_after}
 use Rattle.ix_script.specs.declared.before.header.Header.{Header}
+use Rattle.ix_script.specs.declared.before.names.Names.{Names}
 use Rattle.ix_script.specs.declared.before.taken.Taken.{Taken}
+use Rattle.ix_script.specs.declared.before.tree.Tree.{Tree}
+use Rattle.ix_script.specs.declared.line.What.{What}
+use Rattle.ix_model.specs.world.Naming.{PathOf}
+use Rattle.ix_model.specs.declared.privs.PrivSet.{PrivSet}
+use Rattle.ix_label.specs.Category.{Categories}
 use Rattle.ix_script.specs.declared.line.Line.{Line}
 use Rattle.ix_script.specs.declared.line.Line.TheVariants as line
 use Rattle.ix_text.proofs.Tests.{both}
@@ -180,6 +186,30 @@ few_objects lines = few_told object_told one_object lines
 pub few_names : (lines : List Line) → length (proc_names lines) ≤ length lines
 unfolding proc_names
 few_names lines = few_told proc_name_told one_name lines
+
+-- ---- what tells nothing
+pub no_names : (procs : Names) → NamesMore [] procs procs
+no_names procs = record { names = λ names told. subst (λ (ns : List (List ℕ)). AreNames procs.index ns) (sym (append-nil names)) told; count = omega arith }
+
+pub nothing_made : (made : Tree) → MakesMore [] made made
+nothing_made made = record { sites = λ objects told. subst (λ (os : List ObjSpec). AreSites made.index os) (sym (append-nil objects)) told; count = omega arith }
+
+pub record Quiet (x : Line) : Type 0 where
+  pub fss : fs_told x ≡ []
+  pub whats : what_told x ≡ []
+  pub procs : proc_name_told x ≡ []
+  pub made : object_told x ≡ []
+  pub policy : is_policy x ≡ false
+
+pub quiet : (x : Line) → ((what : What) (n : ℕ) → x ≡ line.Limit what n → ⊥) → ((name : List ℕ) (ceiling : Categories) (blocks inodes : ℕ) → x ≡ line.Fs name ceiling blocks inodes → ⊥) → ((name : List ℕ) (label ceiling : Categories) (cap lic : PrivSet) → x ≡ line.Proc name label ceiling cap lic → ⊥)
+    → ((path : PathOf) (label : Categories) (frozen : Bool) → x ≡ line.Dir path label frozen → ⊥) → ((path : PathOf) (label : Categories) (frozen : Bool) (cap lic : PrivSet) (bytes : List ℕ) → x ≡ line.File path label frozen cap lic bytes → ⊥) → ((text : List ℕ) → x ≡ line.Policy text → ⊥) → Quiet x
+quiet (line.Limit what n) a b c d e f = absurd (a what n refl)
+quiet (line.Fs name ceiling blocks inodes) a b c d e f = absurd (b name ceiling blocks inodes refl)
+quiet (line.Proc name label ceiling cap lic) a b c d e f = absurd (c name label ceiling cap lic refl)
+quiet (line.Dir path label frozen) a b c d e f = absurd (d path label frozen refl)
+quiet (line.File path label frozen cap lic bytes) a b c d e f = absurd (e path label frozen cap lic bytes refl)
+quiet (line.Policy text) a b c d e f = absurd (f text refl)
+quiet _ a b c d e f = record { fss = refl; whats = refl; procs = refl; made = refl; policy = refl }
 
 -- ---- the whole
 pub header_next : (h n : Header) (first : Bool) (before : List Line) (x : Line) → first ≡ is_empty before → HeaderTold h before → list_all fs_fits (fss_of before) ≡ true → Follows before x

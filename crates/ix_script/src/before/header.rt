@@ -1,8 +1,7 @@
-ghost use Rattle.std.specs.Prelude.{◌≡◌, ◌++◌, ◌∷◌, ◌+◌, ◌<◌, ◌≤◌, ◌^◌, ◌||◌, ◌&&◌, not, [], ◌==◌, true, None, List, length, map, false, OnOk, OnErr, IfOk, nat_le, nat_lt, if◌then◌else◌, codes};
+ghost use Rattle.std.specs.Prelude.{◌≡◌, ◌++◌, ◌∷◌, ◌+◌, ◌<◌, ◌≤◌, ◌^◌, [], ◌==◌, true, None, List, length, map, false, OnOk, IfOk, if◌then◌else◌, codes};
 ghost use Rattle.std.specs.Option.{option_map_or};
-ghost use Rattle.ix_label.specs.Category.{leq};
-ghost use Rattle.ix_script.specs.lines.Before.{form_by, fs_told, or_default, default_fs, default_limits, limits_after, with_limit, what_told, what_text, proc_name_told, object_told, is_policy, group, is_known};
-ghost use Rattle.ix_script.specs.reader.Told.{HeaderTold, MakesMore, NamesMore, TakenOne, Takes, fss_after};
+ghost use Rattle.ix_script.specs.lines.Before.{form_by, fs_told, default_fs, default_limits, limits_after, with_limit, object_told, group};
+ghost use Rattle.ix_script.specs.reader.Told.{HeaderTold, TakenOne, Takes, fss_after};
 ghost use Rattle.ix_model.specs.opening.Valid.{is_valid};
 ghost use Rattle.ix_script.specs.lines.Faults.{said_fault};
 ghost use Rattle.ix_text.specs.Bytes.{is_empty};
@@ -54,12 +53,6 @@ fn group(line: &Line<'_>) -> u8
     }
 }
 
-fn policy_after(policy: bool, line: &Line<'_>) -> bool
-    ensures { result ≡ (policy || is_policy line.now) }
-{
-    policy || matches!(line, Line::Policy { .. })
-}
-
 fn with_limit(limits: &Limits, what: What, number: u32) -> Limits
     ensures { result ≡ with_limit limits.now what number }
 {
@@ -80,36 +73,6 @@ pub(crate) fn limits_after(limits: &Limits, line: &Line<'_>) -> Limits
     match line {
         Line::Limit { what, number } => with_limit(limits, *what, *number),
         _ => *limits,
-    }
-}
-
-fn add_what(whats: &mut List<What>, line: &Line<'_>) -> Result<(), NoMemory>
-    ensures { OnOk result (whats.new ≡ whats.old ++ what_told line.now) }
-{
-    match line {
-        Line::Limit { what, .. } => whats.push(*what),
-        _ => Ok(()),
-    }
-}
-
-fn add_proc<'a>(procs: &mut Names<'a>, line: &Line<'a>) -> Result<(), NoMemory>
-    requires { procs.old.count + 1 < 2 ^ 64 }
-    ensures { OnOk result (NamesMore (proc_name_told line.now) procs.old procs.new) }
-{
-    match line {
-        Line::Proc { name, .. } => procs.push(name.as_bytes()),
-        _ => Ok(()),
-    }
-}
-
-fn add_made<'a>(made: &mut Tree<'a>, line: &Line<'a>) -> Result<(), NoMemory>
-    requires { made.old.count + 1 < 2 ^ 64 }
-    ensures { OnOk result (MakesMore (object_told line.now) made.old made.new) }
-{
-    match line {
-        Line::Dir { path, .. } => made.push(&path.path(), true),
-        Line::File { path, .. } => made.push(&path.path(), false),
-        _ => Ok(()),
     }
 }
 
@@ -205,16 +168,6 @@ fn add_fs(
     }
 }
 
-fn told_after(told: usize, line: &Line<'_>) -> usize
-    requires { told ≤ 16 }
-    ensures { result ≡ told + length (fs_told line.now) }
-{
-    match line {
-        Line::Fs { .. } => told + 1,
-        _ => told,
-    }
-}
-
 fn take_object(taken: &mut Taken, fss: &[FsSpec], path: &MadePath<'_>, len: usize)
     requires some { 0 < length fss.now }
     requires few { length fss.now ≤ 16 }
@@ -268,13 +221,22 @@ impl<'a> Header<'a> {
     {
         take(&mut self.taken, self.fss.as_slice(), line);
         add_fs(alloc, first, self.told, &mut self.fss, line)?;
-        self.told = told_after(self.told, line);
         self.limits = limits_after(&self.limits, line);
-        add_what(&mut self.whats, line)?;
-        add_proc(&mut self.procs, line)?;
-        add_made(&mut self.made, line)?;
         self.latest = self.latest.max(group(line));
-        self.policy = policy_after(self.policy, line);
-        Ok(())
+        match line {
+            Line::Limit { what, .. } => self.whats.push(*what),
+            Line::Fs { .. } => {
+                self.told += 1;
+                Ok(())
+            }
+            Line::Proc { name, .. } => self.procs.push(name.as_bytes()),
+            Line::Dir { path, .. } => self.made.push(&path.path(), true),
+            Line::File { path, .. } => self.made.push(&path.path(), false),
+            Line::Policy { .. } => {
+                self.policy = true;
+                Ok(())
+            }
+            _ => Ok(()),
+        }
     }
 }

@@ -1,4 +1,4 @@
-ghost use Rattle.std.specs.Prelude.{◌≡◌, ◌+◌, ◌==◌, length, List, ℕ};
+ghost use Rattle.std.specs.Prelude.{◌≡◌, List};
 ghost use Rattle.ix_script.specs.lines.Forms.{plain_of, on_path_of, on_fd_of, counted_of, frame_form, group_form, file_form, process_form, form_of};
 
 use crate::cutting::form::{Counted, Form, OnFd, OnPath, Plain};

@@ -1,4 +1,4 @@
-ghost use Rattle.std.specs.Prelude.{◌≡◌, ◌≤◌, ◌∷◌, [], length, take, unwrap_or, Some, None, IsSome, MatchOption};
+ghost use Rattle.std.specs.Prelude.{◌≡◌, ◌≤◌, ◌∷◌, [], length, take, unwrap_or, Some, None, IsSome};
 ghost use Rattle.std.specs.Option.{option_map_or};
 ghost use Rattle.ix_script.specs.texts.Payloads.{after_bytes, pairs_of, quoted_from};
 ghost use Rattle.ix_script.specs.texts.PayloadBytes.{bytes_in, spelled_by};
