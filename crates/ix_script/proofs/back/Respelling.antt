@@ -175,11 +175,14 @@ file_payload before text l k =
       bytes = m.5;
       read = m.11;
       within_text = other.0;
-      spelled_so = ap (joined 32) (ap (line_words (form_told before)) (sym m.12) ∙ same refl (same (made_path_spelled a m.0 m.6) (same (label_spelled (form_told before) b m.1 m.7) (same (state_spelled c m.2 m.8) (same (privs_spelled d m.3 m.9) (same (privs_spelled e m.4 m.10) refl)))))) ∙ other.1;
+      spelled_so = ap (joined 32) (ap (line_words (form_told before)) (sym m.12) ∙ same refl
+          (same (made_path_spelled a m.0 m.6) (same (label_spelled (form_told before) b m.1 m.7)
+          (same (state_spelled c m.2 m.8) (same (privs_spelled d m.3 m.9) (same (privs_spelled e m.4 m.10) refl)))))) ∙ other.1;
     }
 
 -- ---- a line that is held as its text
-formed_in : (labels : spelled.Form) (text : List ℕ) (f : Form) (k : IsLine labels text) → is_skipped text ≡ false → is_policy_line text ≡ false → form_of (word_at (words_of text) 0) ≡ Some f → (form_told k.before ≡ labels) × Formed k.before text f (line_in labels text)
+formed_in : (labels : spelled.Form) (text : List ℕ) (f : Form) (k : IsLine labels text) → is_skipped text ≡ false → is_policy_line text ≡ false
+    → form_of (word_at (words_of text) 0) ≡ Some f → (form_told k.before ≡ labels) × Formed k.before text f (line_in labels text)
 formed_in labels text f k some other first =
     let later : is_empty k.before ≡ false = later_of k.before text (no_version text f first) k.faultless in
     let told : form_told k.before ≡ labels = k.told later in
@@ -197,7 +200,8 @@ formed_in labels text f k some other first =
       },
     )
 
-pub own_words : (labels : spelled.Form) (text : List ℕ) (f : Form) → IsLine labels text → is_skipped text ≡ false → is_policy_line text ≡ false → form_of (word_at (words_of text) 0) ≡ Some f → payload_place f ≡ 0 → line_text labels (line_in labels text) ≡ text
+pub own_words : (labels : spelled.Form) (text : List ℕ) (f : Form) → IsLine labels text → is_skipped text ≡ false → is_policy_line text ≡ false
+    → form_of (word_at (words_of text) 0) ≡ Some f → payload_place f ≡ 0 → line_text labels (line_in labels text) ≡ text
 own_words labels text f k some other first none =
     let formed = formed_in labels text f k some other first in
     own_text labels k.before text (line_in labels text) k.told k.said k.faultless (no_payload (form_told k.before) f (words_of text) (line_in labels text) none formed.1.tells)
@@ -207,7 +211,9 @@ has_payload before text form.Write l some k = write_payload before text l k
 has_payload before text form.File l some k = file_payload before text l k
 has_payload before text _ l some k = absurd (some refl)
 
-pub payload_words : (labels : spelled.Form) (text : List ℕ) (f : Form) → IsLine labels text → is_skipped text ≡ false → is_policy_line text ≡ false → form_of (word_at (words_of text) 0) ≡ Some f → (payload_place f ≡ 0 → ⊥) → HasPayload labels text (payload_place f) (line_in labels text)
+pub payload_words : (labels : spelled.Form) (text : List ℕ) (f : Form) → IsLine labels text → is_skipped text ≡ false
+    → is_policy_line text ≡ false → form_of (word_at (words_of text) 0) ≡ Some f → (payload_place f ≡ 0 → ⊥) → HasPayload labels text
+    (payload_place f) (line_in labels text)
 payload_words labels text f k some other first there =
     let formed = formed_in labels text f k some other first in
     subst (λ (g : spelled.Form). HasPayload g text (payload_place f) (line_in labels text)) formed.0 (has_payload k.before text f (line_in labels text) there formed.1)

@@ -98,11 +98,13 @@ policy_spelled labels text h some = elim (or_cases (same_bytes text (codes "poli
 pub some_text : (text : List ℕ) → is_skipped text ≡ false → is_empty text ≡ false
 some_text text h = (or_parts (is_empty text) (begins 35 text) h).0
 
-pub command_sound : (before : List Line) (text : List ℕ) → is_empty before ≡ false → is_skipped text ≡ false → is_policy_line text ≡ false → body_fault before text ≡ None → command_fault before (words_of text) ≡ None
+pub command_sound : (before : List Line) (text : List ℕ) → is_empty before ≡ false → is_skipped text ≡ false → is_policy_line text ≡ false
+    → body_fault before text ≡ None → command_fault before (words_of text) ≡ None
 unfolding body_fault
 command_sound before text later seen other h = rw (later, seen, other) at h
 
-pub command_parts : (before : List Line) (words : List (List ℕ)) (f : Form) → form_of (word_at words 0) ≡ Some f → command_fault before words ≡ None → (words_fault words ≡ None) × (form_fault before f words ≡ None)
+pub command_parts : (before : List Line) (words : List (List ℕ)) (f : Form) → form_of (word_at words 0) ≡ Some f
+    → command_fault before words ≡ None → (words_fault words ≡ None) × (form_fault before f words ≡ None)
 unfolding command_fault
 command_parts before words f h sound =
     let k = neither (words_fault words) (option_map_or (λ g. form_fault before g words) (form_of (word_at words 0)) (Some 7)) sound in

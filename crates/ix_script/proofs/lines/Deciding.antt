@@ -143,7 +143,8 @@ pub text_broken : (before : List Line) (text : List ℕ) (n : ℕ) → text_faul
 unfolding line_fault
 text_broken before text n h = rw h refl
 
-pub by_words : (before : List Line) (text : List ℕ) → text_fault text ≡ None → is_empty before ≡ false → is_skipped text ≡ false → is_policy_line text ≡ false → line_fault before text ≡ command_fault before (words_of text)
+pub by_words : (before : List Line) (text : List ℕ) → text_fault text ≡ None → is_empty before ≡ false → is_skipped text ≡ false
+    → is_policy_line text ≡ false → line_fault before text ≡ command_fault before (words_of text)
 unfolding line_fault body_fault
 by_words before text h some k p = rw (h, some, k, p) refl
 
@@ -159,9 +160,11 @@ no_version text f h = go (version_of text) refl
     go None is = refl
     go (Some form) is = absurd (none-some f (sym (no_version_word form) ∙ ap (λ (x : List ℕ). form_of (word_at (words_of x) 0)) (sym (version_is text form is)) ∙ h))
 
-pub said_is : (labels : Form) (text : List ℕ) (f : of_words.Form) → is_skipped text ≡ false → is_policy_line text ≡ false → form_of (word_at (words_of text) 0) ≡ Some f → line_of labels text ≡ said labels f (words_of text)
+pub said_is : (labels : Form) (text : List ℕ) (f : of_words.Form) → is_skipped text ≡ false → is_policy_line text ≡ false → form_of
+    (word_at (words_of text) 0) ≡ Some f → line_of labels text ≡ said labels f (words_of text)
 unfolding line_of
 said_is labels text f k p first = rw (k, p, no_version text f first, first) refl
 
-pub said_by_form : (labels : Form) (text : List ℕ) (f : of_words.Form) (l : Line) → is_skipped text ≡ false → is_policy_line text ≡ false → form_of (word_at (words_of text) 0) ≡ Some f → said labels f (words_of text) ≡ Some l → line_of labels text ≡ Some l
+pub said_by_form : (labels : Form) (text : List ℕ) (f : of_words.Form) (l : Line) → is_skipped text ≡ false → is_policy_line text ≡ false
+    → form_of (word_at (words_of text) 0) ≡ Some f → said labels f (words_of text) ≡ Some l → line_of labels text ≡ Some l
 said_by_form labels text f l k p first h = said_is labels text f k p first ∙ h

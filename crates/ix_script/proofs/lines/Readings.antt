@@ -122,7 +122,8 @@ is_there n (Some x) h = refl
 pub some_where : {A : Type 0} (b : Bool) (x : A) → b ≡ true → IsSome (cond b (Some x) None)
 some_where b x h = rw h refl
 
-both_kept : {A : Type 0} (m n : ℕ) (a b : Bool) (x : A) → cond {A = Option ℕ} (not a || false) (Some m) (cond {A = Option ℕ} (not b || false) (Some n) None) ≡ None → IsSome (cond (a && b) (Some x) None)
+both_kept : {A : Type 0} (m n : ℕ) (a b : Bool) (x : A) → cond {A = Option ℕ} (not a || false) (Some m)
+    (cond {A = Option ℕ} (not b || false) (Some n) None) ≡ None → IsSome (cond (a && b) (Some x) None)
 both_kept m n true true x h = refl
 both_kept m n true false x h = absurd (none-some n (sym h))
 both_kept m n false b x h = absurd (none-some m (sym h))
@@ -135,7 +136,8 @@ name_stands : (word : List ℕ) → is_script_name word ≡ true → IsSome (nam
 unfolding name_of
 name_stands word h = some_where (is_script_name word) word h
 
-number_stands : (low high : ℕ) (word : List ℕ) → cond {A = Option ℕ} (not (is_numeral word) || false) (Some 12) (cond {A = Option ℕ} (not (is_within low high (value word)) || false) (Some 13) None) ≡ None → IsSome (number_of low high word)
+number_stands : (low high : ℕ) (word : List ℕ) → cond {A = Option ℕ} (not (is_numeral word) || false) (Some 12)
+    (cond {A = Option ℕ} (not (is_within low high (value word)) || false) (Some 13) None) ≡ None → IsSome (number_of low high word)
 unfolding number_of
 number_stands low high word h = both_kept 12 13 (is_numeral word) (is_within low high (value word)) (value word) h
 
@@ -143,13 +145,18 @@ some_mapped : {A B : Type 0} (f : A → B) (o : Option A) → IsSome o → IsSom
 some_mapped f None h = h
 some_mapped f (Some x) h = refl
 
-fd_parts : (d s : Bool) (numbers : Option ℕ) (word : List ℕ) → cond {A = Option ℕ} ((not d && not s) || false) (Some 11) (cond {A = Option ℕ} ((d && not (is_numeral word)) || false) (Some 12) (cond {A = Option ℕ} ((d && not (is_within 0 255 (value word))) || false) (Some 13) None)) ≡ None
+fd_parts : (d s : Bool) (numbers : Option ℕ) (word : List ℕ) → cond {A = Option ℕ} ((not d && not s) || false) (Some 11)
+    (cond {A = Option ℕ} ((d && not (is_numeral word)) || false) (Some 12)
+    (cond {A = Option ℕ} ((d && not (is_within 0 255 (value word))) || false) (Some 13) None)) ≡ None
     → is_script_name word ≡ s → IsSome (cond d (option_map (λ n. fd.Number n) (number_of 0 255 word)) (option_map (λ name. fd.Named name) (name_of word)))
 fd_parts true s numbers word h e = some_mapped (λ n. fd.Number n) (number_of 0 255 word) (number_stands 0 255 word h)
 fd_parts false true numbers word h e = some_mapped (λ name. fd.Named name) (name_of word) (name_stands word e)
 fd_parts false false numbers word h e = absurd (none-some 11 (sym h))
 
-keep_parts : (a n : Bool) (word : List ℕ) → cond {A = Option ℕ} ((not (a || n) && not (is_number_of_fd word) && not (is_script_name word)) || false) (Some 11) (cond {A = Option ℕ} ((is_number_of_fd word && not (is_numeral word)) || false) (Some 12) (cond {A = Option ℕ} ((is_number_of_fd word && not (is_within 0 255 (value word))) || false) (Some 13) None)) ≡ None
+keep_parts : (a n : Bool) (word : List ℕ) → cond {A = Option ℕ}
+    ((not (a || n) && not (is_number_of_fd word) && not (is_script_name word)) || false) (Some 11)
+    (cond {A = Option ℕ} ((is_number_of_fd word && not (is_numeral word)) || false) (Some 12)
+    (cond {A = Option ℕ} ((is_number_of_fd word && not (is_within 0 255 (value word))) || false) (Some 13) None)) ≡ None
     → IsSome (cond a (Some keep.All) (cond n (Some keep.Nothing) (option_map (λ one. keep.One one) (fd_of word))))
 unfolding fd_of
 keep_parts true n word h = refl
@@ -162,7 +169,8 @@ few n most h = elim (bool_cases (nat_lt most n)) [
   | inr f ↦ le-leb n most (ltb-false most n f)
 ]
 
-payload_parts : (most : ℕ) (o : Option (List ℕ)) → cond {A = Option ℕ} (is_none o || false) (Some 18) (cond {A = Option ℕ} (option_map_or (λ bytes. nat_lt most (length bytes)) o false || false) (Some 19) None) ≡ None
+payload_parts : (most : ℕ) (o : Option (List ℕ)) → cond {A = Option ℕ} (is_none o || false) (Some 18)
+    (cond {A = Option ℕ} (option_map_or (λ bytes. nat_lt most (length bytes)) o false || false) (Some 19) None) ≡ None
     → IsSome (o >>= λ bytes. if nat_le (length bytes) most then Some bytes else None)
 payload_parts most None h = absurd (none-some 18 (sym h))
 payload_parts most (Some bytes) h = some_where (nat_le (length bytes) most) bytes (few (length bytes) most h)
@@ -213,13 +221,15 @@ along labels words from i kinds broken more low h =
     at_drop_more (λ ks. lesser (number broken) (places_fault (places_from (from + i) (map (kind_in labels words) ks) words))) kinds i has.Own low
     ∙ ap (λ n. lesser (number broken) (places_fault (at ∷ places_from n later words))) next
     ∙ ap (lesser (number broken)) (least_fault at (places_from (from + (i + 1)) later words) ∙ ap (λ o. lesser o (places_fault (places_from (from + (i + 1)) later words))) h)
-    ∙ regroup (number broken) (number more) (places_fault (places_from (from + (i + 1)) later words)) ∙ ap (λ o. lesser o (places_fault (places_from (from + (i + 1)) later words))) (told_least broken more)
+    ∙ regroup (number broken) (number more) (places_fault (places_from (from + (i + 1)) later words)) ∙ ap
+    (λ o. lesser o (places_fault (places_from (from + (i + 1)) later words))) (told_least broken more)
 
 -- its end
 pub along_all : (labels : spelled.Form) (words : List (List ℕ)) (from i : ℕ) (kinds : List made.Kind) (broken : Option Rule) → length kinds ≤ i
     → lesser (number broken) (places_fault (places_from (from + i) (map (kind_in labels words) (drop i kinds)) words)) ≡ number broken
 along_all labels words from i kinds broken high =
-    at_drop_all (λ ks. lesser (number broken) (places_fault (places_from (from + i) (map (kind_in labels words) ks) words))) kinds i high ∙ ap (lesser (number broken)) none_broken ∙ lesser_none (number broken)
+    at_drop_all (λ ks. lesser (number broken) (places_fault (places_from (from + i) (map (kind_in labels words) ks) words))) kinds i high ∙ ap
+    (lesser (number broken)) none_broken ∙ lesser_none (number broken)
 
 -- a form's own words, and the names after `as`
 pub both_faults : (a b : Option Rule) (ps qs : List Place) → IsFault a ps → IsFault b qs → IsFault (least a b) (ps ++ qs)

@@ -127,17 +127,20 @@ pub or_false : (b : Bool) → (b || false) ≡ b
 or_false true = refl
 or_false false = refl
 
-pub header_quiet : (h n : Header) (before : List Line) (l : Line) → role_of l ≡ role.Command → is_empty before ≡ false → HeaderTold h before → is_valid (config_of before) ≡ true → said_fault before l ≡ None
+pub header_quiet : (h n : Header) (before : List Line) (l : Line) → role_of l ≡ role.Command → is_empty before ≡ false → HeaderTold h before
+    → is_valid (config_of before) ≡ true → said_fault before l ≡ None
     → n ≡ record h { latest = max h.latest 5 } → HeaderTold n (before ++ l ∷ [])
 header_quiet h n before l role later was valid fault is =
     let q = quiet l role in
     let new : Header = record h { latest = max h.latest 5 } in
     let told : HeaderTold new (before ++ l ∷ []) =
-    header_next h new false before l (sym later) was (fits_of before valid) (follows before l fault) (rw q.fs (omega arith)) (rw q.fs refl) (sym (q.limits h.limits)) (rw q.whats (sym (append-nil h.whats)))
+    header_next h new false before l (sym later) was (fits_of before valid) (follows before l fault) (rw q.fs (omega arith)) (rw q.fs refl)
+    (sym (q.limits h.limits)) (rw q.whats (sym (append-nil h.whats)))
     (same_names h.procs (proc_name_told l) q.names) (same_sites h.made (object_told l) q.objects) (rw q.objects refl) (rw q.group_is refl) (rw q.policy (sym (or_false h.policy))) in
     subst (λ (m : Header). HeaderTold m (before ++ l ∷ [])) (sym is) told
 
-pub no_more : (index : BTreeSet Place) (items more : List (List ℕ × List ℕ)) (at : Option (List ℕ)) (names : List (List ℕ)) → names ≡ [] → more ≡ items ++ in_lane at names → AreIndexed index items → AreIndexed index more
+pub no_more : (index : BTreeSet Place) (items more : List (List ℕ × List ℕ)) (at : Option (List ℕ)) (names : List (List ℕ)) → names ≡ []
+    → more ≡ items ++ in_lane at names → AreIndexed index items → AreIndexed index more
 no_more index items more None names none is h = subst (λ (xs : List (List ℕ × List ℕ)). AreIndexed index xs) (sym (append-nil items) ∙ sym is) h
 no_more index items more (Some lane) names none is h =
     let same : more ≡ items = is ∙ ap (λ ns. items ++ in_lane (Some lane) ns) none ∙ append-nil items in
@@ -164,8 +167,12 @@ pub record Still (l : Line) : Type 0 where
   pub fds : new_fds l ≡ []
   pub procs : new_procs l ≡ []
 
-pub still : (l : Line) → (l ≡ line.Phase → ⊥) → ((name : List ℕ) → l ≡ line.Lane name → ⊥) → ((proc : List ℕ) (path : PathOf) (mode : Mode) (named : Option (List ℕ)) → l ≡ line.Open proc path mode named → ⊥) → ((proc : List ℕ) (fd : FdWord) (named : Option (List ℕ)) → l ≡ line.Dup proc fd named → ⊥)
-    → ((proc : List ℕ) (named : Option (List ℕ × List ℕ)) → l ≡ line.Pipe proc named → ⊥) → ((proc : List ℕ) (kept : KeepWord) (named : Option (List ℕ)) → l ≡ line.Fork proc kept named → ⊥) → ((proc : List ℕ) (fd hand : FdWord) (named : Option (List ℕ)) → l ≡ line.Login proc fd hand named → ⊥) → Still l
+pub still : (l : Line) → (l ≡ line.Phase → ⊥) → ((name : List ℕ) → l ≡ line.Lane name → ⊥) →
+    ((proc : List ℕ) (path : PathOf) (mode : Mode) (named : Option (List ℕ)) → l ≡ line.Open proc path mode named → ⊥) →
+    ((proc : List ℕ) (fd : FdWord) (named : Option (List ℕ)) → l ≡ line.Dup proc fd named → ⊥)
+    → ((proc : List ℕ) (named : Option (List ℕ × List ℕ)) → l ≡ line.Pipe proc named → ⊥) →
+    ((proc : List ℕ) (kept : KeepWord) (named : Option (List ℕ)) → l ≡ line.Fork proc kept named → ⊥) →
+    ((proc : List ℕ) (fd hand : FdWord) (named : Option (List ℕ)) → l ≡ line.Login proc fd hand named → ⊥) → Still l
 still line.Phase a b c d e f g = absurd (a refl)
 still (line.Lane name) a b c d e f g = absurd (b name refl)
 still (line.Open proc path mode named) a b c d e f g = absurd (c proc path mode named refl)
@@ -176,17 +183,23 @@ still (line.Login proc fd hand named) a b c d e f g = absurd (g proc fd hand nam
 still _ a b c d e f g = record { phase = refl; lane = λ at. refl; phase_lanes = λ names. refl; lanes = λ names. refl; fds = refl; procs = refl }
 
 -- what is kept of the body, with one line more
-pub body_next : (b n : Body) (before : List Line) (x : Line) → BodyTold b before → n.started ≡ (b.started || is_phase x) → option_map (λ s. s.now) n.lane ≡ lane_after (option_map (λ s. s.now) b.lane) x → n.phase_lanes ≡ phase_lanes_after b.phase_lanes x
+pub body_next : (b n : Body) (before : List Line) (x : Line) → BodyTold b before → n.started ≡ (b.started || is_phase x) → option_map
+    (λ s. s.now) n.lane ≡ lane_after (option_map (λ s. s.now) b.lane) x → n.phase_lanes ≡ phase_lanes_after b.phase_lanes x
     → n.lanes ≡ lanes_after b.lanes x → ((items : List (List ℕ × List ℕ)) → AreIndexed b.fds.index items → AreIndexed n.fds.index (items ++ in_lane (option_map (λ s. s.now) b.lane) (new_fds x)))
-    → ((items : List (List ℕ × List ℕ)) → AreIndexed b.procs.index items → AreIndexed n.procs.index (items ++ in_lane (option_map (λ s. s.now) b.lane) (new_procs x))) → n.commands ≡ cond (is_command x) (b.commands + 1) b.commands → BodyTold n (before ++ x ∷ [])
+    → ((items : List (List ℕ × List ℕ)) → AreIndexed b.procs.index items → AreIndexed n.procs.index
+    (items ++ in_lane (option_map (λ s. s.now) b.lane) (new_procs x))) → n.commands ≡ cond (is_command x) (b.commands + 1) b.commands
+    → BodyTold n (before ++ x ∷ [])
 body_next b n before x told started lane phase_lanes_are lanes_are fds procs count =
     record {
       started = started ∙ ap (λ (s : Bool). s || is_phase x) told.started ∙ sym (body_push before x);
       lane = lane ∙ ap (λ (at : Option (List ℕ)). lane_after at x) told.lane ∙ sym (lane_push before x);
       phase_lanes = phase_lanes_are ∙ ap (λ (names : List (List ℕ)). phase_lanes_after names x) told.phase_lanes ∙ sym (phase_lanes_push before x);
       lanes = lanes_are ∙ ap (λ (names : List (List ℕ)). lanes_after names x) told.lanes ∙ sym (lanes_push before x);
-      fds = subst (λ (items : List (List ℕ × List ℕ)). AreIndexed n.fds.index items) (ap (λ at. fds_given before ++ in_lane at (new_fds x)) told.lane ∙ sym (fds_push before x)) (fds (fds_given before) told.fds);
-      procs = subst (λ (items : List (List ℕ × List ℕ)). AreIndexed n.procs.index items) (ap (λ at. procs_given before ++ in_lane at (new_procs x)) told.lane ∙ sym (procs_given_push before x)) (procs (procs_given before) told.procs);
+      fds = subst (λ (items : List (List ℕ × List ℕ)). AreIndexed n.fds.index items)
+          (ap (λ at. fds_given before ++ in_lane at (new_fds x)) told.lane ∙ sym (fds_push before x)) (fds (fds_given before) told.fds);
+      procs = subst (λ (items : List (List ℕ × List ℕ)). AreIndexed n.procs.index items)
+          (ap (λ at. procs_given before ++ in_lane at (new_procs x)) told.lane ∙ sym (procs_given_push before x))
+          (procs (procs_given before) told.procs);
       commands = count ∙ ap (λ (n : ℕ). cond (is_command x) (n + 1) n) told.commands ∙ sym (commands_push before x);
     }
 
@@ -196,7 +209,8 @@ body_quiet b n before l role was is =
     let at : Option (List ℕ) = option_map (λ s. s.now) b.lane in
     let told : BodyTold (record b { commands = b.commands + 1 }) (before ++ l ∷ []) =
     body_next b (record b { commands = b.commands + 1 }) before l was (rw q.phase (sym (or_false b.started))) (sym (q.lane at)) (sym (q.phase_lanes b.phase_lanes)) (sym (q.lanes b.lanes))
-    (λ items h. no_more b.fds.index items (items ++ in_lane at (new_fds l)) at (new_fds l) q.fds refl h) (λ items h. no_more b.procs.index items (items ++ in_lane at (new_procs l)) at (new_procs l) q.procs refl h) (rw q.command refl) in
+    (λ items h. no_more b.fds.index items (items ++ in_lane at (new_fds l)) at (new_fds l) q.fds refl h)
+    (λ items h. no_more b.procs.index items (items ++ in_lane at (new_procs l)) at (new_procs l) q.procs refl h) (rw q.command refl) in
     subst (λ (m : Body). BodyTold m (before ++ l ∷ [])) (sym is) told
 
 -- the first line tells the form

@@ -201,8 +201,12 @@ pub record Quiet (x : Line) : Type 0 where
   pub made : object_told x ≡ []
   pub policy : is_policy x ≡ false
 
-pub quiet : (x : Line) → ((what : What) (n : ℕ) → x ≡ line.Limit what n → ⊥) → ((name : List ℕ) (ceiling : Categories) (blocks inodes : ℕ) → x ≡ line.Fs name ceiling blocks inodes → ⊥) → ((name : List ℕ) (label ceiling : Categories) (cap lic : PrivSet) → x ≡ line.Proc name label ceiling cap lic → ⊥)
-    → ((path : PathOf) (label : Categories) (frozen : Bool) → x ≡ line.Dir path label frozen → ⊥) → ((path : PathOf) (label : Categories) (frozen : Bool) (cap lic : PrivSet) (bytes : List ℕ) → x ≡ line.File path label frozen cap lic bytes → ⊥) → ((text : List ℕ) → x ≡ line.Policy text → ⊥) → Quiet x
+pub quiet : (x : Line) → ((what : What) (n : ℕ) → x ≡ line.Limit what n → ⊥) →
+    ((name : List ℕ) (ceiling : Categories) (blocks inodes : ℕ) → x ≡ line.Fs name ceiling blocks inodes → ⊥) →
+    ((name : List ℕ) (label ceiling : Categories) (cap lic : PrivSet) → x ≡ line.Proc name label ceiling cap lic → ⊥)
+    → ((path : PathOf) (label : Categories) (frozen : Bool) → x ≡ line.Dir path label frozen → ⊥) →
+    ((path : PathOf) (label : Categories) (frozen : Bool) (cap lic : PrivSet) (bytes : List ℕ) → x ≡ line.File path label frozen cap lic bytes
+    → ⊥) → ((text : List ℕ) → x ≡ line.Policy text → ⊥) → Quiet x
 quiet (line.Limit what n) a b c d e f = absurd (a what n refl)
 quiet (line.Fs name ceiling blocks inodes) a b c d e f = absurd (b name ceiling blocks inodes refl)
 quiet (line.Proc name label ceiling cap lic) a b c d e f = absurd (c name label ceiling cap lic refl)

@@ -99,5 +99,6 @@ cut_printable (b ∷ bytes) h =
     or_false true q = refl
     or_false false q = cc
 
-pub first_printable : (rest text : List ℕ) (lines : List (List ℕ)) → cut rest ≡ text ∷ lines → list_all (list_all (is_within 32 126)) (cut rest) ≡ true → (list_all (is_within 32 126) text ≡ true) × (list_all (list_all (is_within 32 126)) lines ≡ true)
+pub first_printable : (rest text : List ℕ) (lines : List (List ℕ)) → cut rest ≡ text ∷ lines → list_all (list_all (is_within 32 126))
+    (cut rest) ≡ true → (list_all (is_within 32 126) text ≡ true) × (list_all (list_all (is_within 32 126)) lines ≡ true)
 first_printable rest text lines first h = both (list_all (is_within 32 126) text) (list_all (list_all (is_within 32 126)) lines) (rw first at h)

@@ -28,7 +28,16 @@ none_kept (suc n) zero = refl
 none_kept (suc n) (suc i) = none_kept n i
 
 pub begin : (words kept rest : List (List ℕ)) → kept ≡ replicate 8 [] → words ≡ rest → Cutting words kept 0 false false rest
-begin words kept rest none h = record { done = []; whole = sym h; eight = ap length none; first = λ i low. ap (λ ws. word_at ws i) none ∙ none_kept 8 i; count = refl; has_empty = refl; has_open = refl }
+begin words kept rest none h = record {
+  done = [];
+  whole = sym h;
+  eight = ap length none;
+  first = λ i low. ap (λ ws. word_at ws i) none
+      ∙ none_kept 8 i;
+  count = refl;
+  has_empty = refl;
+  has_open = refl;
+}
 
 -- the word at a place, with a word more
 place_pushed : (done : List (List ℕ)) (word : List ℕ) (i : ℕ) → i ≢ length done → word_at (done ++ word ∷ []) i ≡ word_at done i
@@ -41,7 +50,8 @@ place_new : (done : List (List ℕ)) (word : List ℕ) → word_at (done ++ word
 place_new [] word = refl
 place_new (d ∷ done) word = place_new done word
 
-kept_next : (kept new done : List (List ℕ)) (n : ℕ) (word : List ℕ) (b : Bool) → nat_lt n 8 ≡ b → n ≡ length done → length kept ≡ 8 → new ≡ cond b (set kept n word) kept → ((i : ℕ) → i < 8 → word_at kept i ≡ word_at done i)
+kept_next : (kept new done : List (List ℕ)) (n : ℕ) (word : List ℕ) (b : Bool) → nat_lt n 8 ≡ b → n ≡ length done → length kept ≡ 8
+    → new ≡ cond b (set kept n word) kept → ((i : ℕ) → i < 8 → word_at kept i ≡ word_at done i)
     → (length new ≡ 8) × ((i : ℕ) → i < 8 → word_at new i ≡ word_at (done ++ word ∷ []) i)
 kept_next kept new done n word true small is long k h = (
   ap length k ∙ length-set kept n word ∙ long,
@@ -55,7 +65,8 @@ kept_next kept new done n word false large is long k h = (
   λ i low. ap (λ ws. word_at ws i) k ∙ h i low ∙ sym (place_pushed done word i (λ e. absurd (omega (arith, ltb-false n 8 large, is, e)))),
 )
 
-pub next : (words kept new : List (List ℕ)) (n : ℕ) (some_empty some_open : Bool) (rest : List (List ℕ)) (word : List ℕ) (more : List (List ℕ)) → rest ≡ word ∷ more → new ≡ cond (nat_lt n 8) (set kept n word) kept
+pub next : (words kept new : List (List ℕ)) (n : ℕ) (some_empty some_open : Bool) (rest : List (List ℕ)) (word : List ℕ) (more : List (List ℕ))
+    → rest ≡ word ∷ more → new ≡ cond (nat_lt n 8) (set kept n word) kept
     → Cutting words kept n some_empty some_open rest → Cutting words new (n + 1) (some_empty || is_empty word) (some_open || is_open word) more
 next words kept new n some_empty some_open rest word more h k c =
     let kept_is = kept_next kept new c.done n word (nat_lt n 8) refl c.count c.eight k c.first in

@@ -17,13 +17,15 @@ lines-init g c = record {
 }
 
 pub add_line-requires-clause-printable : goal.add_line-requires-clause-printable
-add_line-requires-clause-printable g c = λ all. (first_printable c.lines.rest.now c.first_line.result.0.now (cut c.first_line.result.1.now) c.first_line.ensures.lines (c.lines.invariant.printable all)).0
+add_line-requires-clause-printable g c = λ all. (first_printable c.lines.rest.now c.first_line.result.0.now
+    (cut c.first_line.result.1.now) c.first_line.ensures.lines (c.lines.invariant.printable all)).0
 
 pub lines-preserved : goal.lines-preserved
 lines-preserved g c =
     let more = c.in_ok-add_line.ensures.line in
     record {
-      reading = goes_on (cut c.args.bytes.now) (length c.args.bytes.now) c.lines.rest.now c.lines.draft c.add_line.new.self c.first_line.result.0.now c.first_line.result.1.now more.line c.lines.invariant.reading
+      reading = goes_on (cut c.args.bytes.now) (length c.args.bytes.now)
+          c.lines.rest.now c.lines.draft c.add_line.new.self c.first_line.result.0.now c.first_line.result.1.now more.line c.lines.invariant.reading
           c.first_line.ensures.lines c.first_line.ensures.fewer more.right c.in_ok-add_line.ensures.told more.added;
       printable = λ all. (first_printable c.lines.rest.now c.first_line.result.0.now (cut c.first_line.result.1.now) c.first_line.ensures.lines (c.lines.invariant.printable all)).1;
     }
@@ -32,7 +34,8 @@ pub returns-in_err-add_line-clause-fail : goal.returns-in_err-add_line-clause-fa
 returns-in_err-add_line-clause-fail g c =
     let p = err_from_is_err_and c.from_residual-in_err-add_line.result c.from_residual-in_err-add_line.ensures.1 in
     rw (p.1, p.2, lines_cut c.args.bytes.now c.requires.some)
-    (stops (cut c.args.bytes.now) (length c.args.bytes.now) c.lines.rest.now c.lines.draft c.first_line.result.0.now c.first_line.result.1.now c.in_err-add_line.field-0.0 c.lines.invariant.reading c.first_line.ensures.lines c.in_err-add_line.ensures.fail)
+    (stops (cut c.args.bytes.now) (length c.args.bytes.now) c.lines.rest.now c.lines.draft c.first_line.result.0.now c.first_line.result.1.now
+    c.in_err-add_line.field-0.0 c.lines.invariant.reading c.first_line.ensures.lines c.in_err-add_line.ensures.fail)
 
 pub returns-clause-faultless : goal.returns-clause-faultless
 returns-clause-faultless g c =

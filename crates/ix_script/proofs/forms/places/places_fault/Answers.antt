@@ -23,6 +23,13 @@ returns c =
     let count : length c.kinds-kinds.result.now ≡ arity f words = sym (length-map c.kinds-kinds.result.now (kind_in One words)) ∙ ap length (c.kinds-kinds.ensures.kinds One words) in
     let long : nat_le (length words) (1 + arity f words) ≡ false = lt-leb (length words) (1 + arity f words) (omega (arith, count, c.if-len-kinds.false, c.len.ensures)) in
     let at : 2 + length c.kinds-kinds.result.now ≡ 1 + arity f words + 1 = omega (arith, count) in
-    let own : IsFault c.fault_from-own.result (own_places labels f words) = subst (λ (ks : List Kind). IsFault c.fault_from-own.result (places_from 1 ks words)) (c.kinds-kinds.ensures.kinds labels words) c.fault_from-own.ensures in
-    let more : IsFault c.fault_from.result (places_from (1 + arity f words + 1) (tail_of f) words) = subst (λ (n : ℕ). IsFault c.fault_from.result (places_from n (tail_of f) words)) at (subst (λ (ks : List Kind). IsFault c.fault_from.result (places_from (2 + length c.kinds-kinds.result.now) ks words)) (c.tail.ensures.tail labels words) c.fault_from.ensures) in
-    rw (c.least.ensures, tail_there (tail_of f) (1 + arity f words) words long) (both_faults c.fault_from-own.result c.fault_from.result (own_places labels f words) (places_from (1 + arity f words + 1) (tail_of f) words) own more)
+    let own : IsFault c.fault_from-own.result (own_places labels f words) = subst
+    (λ (ks : List Kind). IsFault c.fault_from-own.result (places_from 1 ks words))
+    (c.kinds-kinds.ensures.kinds labels words) c.fault_from-own.ensures in
+    let more : IsFault c.fault_from.result (places_from (1 + arity f words + 1) (tail_of f) words) = subst
+    (λ (n : ℕ). IsFault c.fault_from.result (places_from n (tail_of f) words)) at
+    (subst (λ (ks : List Kind). IsFault c.fault_from.result (places_from (2 + length c.kinds-kinds.result.now) ks words))
+    (c.tail.ensures.tail labels words) c.fault_from.ensures) in
+    rw (c.least.ensures, tail_there (tail_of f) (1 + arity f words) words long)
+    (both_faults c.fault_from-own.result c.fault_from.result (own_places labels f words)
+    (places_from (1 + arity f words + 1) (tail_of f) words) own more)

@@ -45,5 +45,8 @@ returns c =
     let bytes : c.of.result ≡ p.bytes = same_Some c.of.result p.bytes (sym (rw (c.get-3.ensures, c.cut.ensures, c.payload_place-place.ensures.place) at c.of.ensures) ∙ p.read) in
     let front : c.push-2.new.out.items ≡ c.args.out.now.items ++ take (length text - length (word_at (words_of text) (payload_place c.unwrap.result))) text =
     rw (c.before_word.ensures, c.get-2.ensures, c.cut.ensures, c.payload_place-place.ensures.place) at c.in_ok-push.ensures in
-    let whole : c.push-2.new.out.items ++ payload_text c.of.result ≡ c.args.out.now.items ++ line_text c.args.labels (line_in c.args.labels text) = rw (front, bytes, p.spelled_so) (append_assoc c.args.out.now.items (take (length text - length (word_at (words_of text) (payload_place c.unwrap.result))) text) (payload_text p.bytes)) in
+    let whole : c.push-2.new.out.items ++ payload_text c.of.result ≡ c.args.out.now.items ++ line_text c.args.labels
+    (line_in c.args.labels text) = rw (front, bytes, p.spelled_so)
+    (append_assoc c.args.out.now.items (take (length text - length (word_at (words_of text) (payload_place c.unwrap.result))) text)
+    (payload_text p.bytes)) in
     subst (λ (t : List ℕ). OnOk c.payload.result (c.payload.new.out.items ≡ t)) whole c.payload.ensures

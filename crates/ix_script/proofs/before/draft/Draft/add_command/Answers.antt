@@ -18,7 +18,8 @@ pub push-requires-clause-faultless : goal.push-requires-clause-faultless
 push-requires-clause-faultless c =
     let p = c.requires.plain in
     let fits : said_fault c.args.self.now.lines p.line ≡ None = few_enough c.args.self.now.lines p.line p.is_command (omega (arith, c.requires.told.body.commands, c.if-self-ge200000.false)) in
-    let right : LineRight c.args.self.now.lines p.line (line_fault c.args.self.now.lines c.args.text.now) (line_of (form_told c.args.self.now.lines) c.args.text.now) = record { faultless = p.fault ∙ fits; meant = p.meant; fits = fits } in
+    let right : LineRight c.args.self.now.lines p.line (line_fault c.args.self.now.lines c.args.text.now)
+    (line_of (form_told c.args.self.now.lines) c.args.text.now) = record { faultless = p.fault ∙ fits; meant = p.meant; fits = fits } in
     rw (c.form.ensures, sym (later_form c.args.self.now.lines p.line c.requires.later)) (right_line c.args.self.now.lines p.line c.args.text.now right).0
 
 pub returns-clause-line : goal.returns-clause-line

@@ -26,7 +26,8 @@ add_said-requires-clause-fault g c =
     let some : is_empty before ≡ false = some_lines before c.len.result c.len.ensures c.if-len-eq0.false in
     let right : FormRight before c.in-Ok.form (words_of text) = rw c.cut.ensures at c.in-Ok.ensures in
     let line : said (form_told before) c.in-Ok.form (words_of text) ≡ Some c.line_by_form-line.result = rw (c.form.ensures, c.cut.ensures) at c.line_by_form-line.ensures in
-    by_words before text c.in_default.ensures some (sym c.is_skipped.ensures ∙ c.if-is_skipped.false) (sym c.is_policy_line.ensures ∙ c.if-is_policy_line.false) ∙ right.fault ∙ ap (λ (o : Option Line). option_map_or (said_fault before) o None) line
+    by_words before text c.in_default.ensures some (sym c.is_skipped.ensures ∙ c.if-is_skipped.false)
+    (sym c.is_policy_line.ensures ∙ c.if-is_policy_line.false) ∙ right.fault ∙ ap (λ (o : Option Line). option_map_or (said_fault before) o None) line
 
 pub add_said-requires-clause-meant : goal.add_said-requires-clause-meant
 add_said-requires-clause-meant g c =
@@ -34,7 +35,8 @@ add_said-requires-clause-meant g c =
     let text = c.args.text.now in
     let right : FormRight before c.in-Ok.form (words_of text) = rw c.cut.ensures at c.in-Ok.ensures in
     let line : said (form_told before) c.in-Ok.form (words_of text) ≡ Some c.line_by_form-line.result = rw (c.form.ensures, c.cut.ensures) at c.line_by_form-line.ensures in
-    said_by_form (form_told before) text c.in-Ok.form c.line_by_form-line.result (sym c.is_skipped.ensures ∙ c.if-is_skipped.false) (sym c.is_policy_line.ensures ∙ c.if-is_policy_line.false) right.first line
+    said_by_form (form_told before) text c.in-Ok.form c.line_by_form-line.result (sym c.is_skipped.ensures ∙ c.if-is_skipped.false)
+    (sym c.is_policy_line.ensures ∙ c.if-is_policy_line.false) right.first line
 
 pub add_command-requires-clause-plain : goal.add_command-requires-clause-plain
 add_command-requires-clause-plain g c =
