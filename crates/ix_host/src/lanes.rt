@@ -1,7 +1,7 @@
 //! The top call of the program that runs the lanes of a phase side by side.
 ghost use Rattle.std.specs.Prelude.{◌≡◌, ◌<◌, ◌⊎◌, true, is_none, length, IfOk, IfSome};
 ghost use Rattle.ix_io.specs.Streams.{Rose};
-ghost use Rattle.ix_parallel.specs.History.{IsHistory};
+ghost use Rattle.ix_lanes.specs.histories.History.{IsHistory};
 ghost use Rattle.ix_host.specs.Hiding.{TakesHidingReport};
 ghost use Rattle.ix_host.specs.command.Command.{lanes_command_of, lanes_usage_line, only_run};
 ghost use Rattle.ix_host.specs.run.Outcome.{script_in};

@@ -8,3 +8,4 @@ pub mod Told
 pub mod Needs
 pub mod Fitted
 pub mod AllPhases
+pub mod Replied

@@ -2,3 +2,4 @@ pub mod Serial
 pub mod Indexed
 pub mod Lanes
 pub mod Laws
+pub mod History

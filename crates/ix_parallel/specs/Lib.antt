@@ -1,4 +1,3 @@
-pub mod History
 pub mod Stages
 pub mod Seats
 pub mod Meeting

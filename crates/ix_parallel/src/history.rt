@@ -7,7 +7,7 @@ ghost use Rattle.ix_model.specs.history.Events.{Event};
 ghost use Rattle.ix_script.specs.lines.Before.{lanes_of};
 ghost use Rattle.ix_script.specs.scripts.Scripts.{config_of};
 ghost use Rattle.ix_script.specs.declared.line.Line.{Line};
-ghost use Rattle.ix_parallel.specs.History.{IsHistory};
+ghost use Rattle.ix_lanes.specs.histories.History.{IsHistory};
 ghost use Rattle.ix_parallel.specs.Joining.{AllFilled, AllSee, Joined, StandsForAll};
 ghost use Rattle.ix_parallel.specs.Seats.{AreNew, AtPhase};
 

@@ -1,4 +1,3 @@
-pub mod Replied
 pub mod Holding
 pub mod Rising
 pub mod Sections

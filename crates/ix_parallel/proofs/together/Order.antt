@@ -16,7 +16,7 @@ use Rattle.ix_lanes.specs.asking.Ruled.{rules_told}
 use Rattle.ix_lanes.specs.histories.Serial.{header_of, seat_after}
 use Rattle.ix_lanes.specs.histories.Lanes.{entries_of, lines_of_seat, replies_of}
 use Rattle.ix_lanes.specs.running.Phases.{asks_before, calls_before, lane_among, lane_before, lines_before}
-use Rattle.ix_parallel.specs.History.{phase_of, phases_never_fall}
+use Rattle.ix_lanes.specs.histories.History.{phase_of, phases_never_fall}
 use Rattle.ix_parallel.specs.Stages.{ComesTo, LanesTo, Stages}
 use Rattle.ix_lanes.proofs.serially.OneEntry.{first_seat}
 use Rattle.ix_lanes.proofs.phased.Appended.{appended}

@@ -36,7 +36,7 @@ use Rattle.ix_lanes.proofs.phased.Appended.{stays_cut}
 use Rattle.ix_lanes.proofs.phased.Standing.{asked_entries, calls_all}
 use Rattle.ix_serial.specs.declared.lane.SerialLane.{SerialLane}
 use Rattle.ix_serial.specs.Running.{HasRoom, IsLane, lane_at}
-use Rattle.ix_serial.proofs.serially.Replied.{made_answers, made_by-others, made_entries, own_parts}
+use Rattle.ix_lanes.proofs.serially.Replied.{made_answers, made_by-others, made_entries, own_parts}
 
 -- ---- a part of what a lane asks for
 -- all lines of a lane are those of so many phases, and others

@@ -27,7 +27,7 @@ use Rattle.ix_lanes.proofs.phased.Making.{heard_followed}
 use Rattle.ix_lanes.proofs.phased.Standing.{asked_rest}
 use Rattle.ix_serial.specs.declared.lane.SerialLane.{SerialLane}
 use Rattle.ix_serial.specs.Running.{IsLane}
-use Rattle.ix_serial.proofs.serially.Replied.{events_replied, made_by-on}
+use Rattle.ix_lanes.proofs.serially.Replied.{events_replied, made_by-on}
 use Rattle.ix_serial.proofs.serially.Holding.{asked_all, came_all}
 
 -- ---- entries

@@ -32,7 +32,7 @@ use Rattle.ix_lanes.proofs.phased.PhaseRuns.{stands_first}
 use Rattle.ix_serial.specs.declared.lane.SerialLane.{SerialLane}
 use Rattle.ix_serial.specs.Running.{AreAtFirst, IsLane, begun_after, lane_at, lane_at_first}
 use Rattle.ix_serial.specs.Sections.{has_placed_lanes, places_lanes}
-use Rattle.ix_serial.proofs.serially.Replied.{made_answers, made_entries}
+use Rattle.ix_lanes.proofs.serially.Replied.{made_answers, made_entries}
 use Rattle.ix_serial.proofs.serially.Holding.{AreLanes, made_all, seats_stay, stays_lane}
 use Rattle.ix_serial.proofs.serially.Rising.{Rises, Spans, asks_loud, is_head, more_rises, never_fall, rises_both, rises_to}
 use Rattle.ix_serial.proofs.serially.Sections.{Begun, begun-line, begun-phase, front, high_at, high-head, high-line, loud-behind, loud_in, misplaced-line, phase_rest, rest_of, section_apart, section_spans, up_to, up_to-line}

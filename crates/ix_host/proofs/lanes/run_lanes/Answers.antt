@@ -1,7 +1,7 @@
 use Rattle.std.proofs.Common.{◌∙◌, subst, sym, ap}
 use Rattle.ix_lanes.proofs.serially.Needs.{whole_fits}
 use Rattle.ix_parallel.proofs.together.Whole.{serial_history}
-use Rattle.ix_parallel.specs.History.{IsHistory}
+use Rattle.ix_lanes.specs.histories.History.{IsHistory}
 use Rattle.ix_host.specs.command.Command.{IsCounted, lanes_command_of, lanes_usage_line}
 use Rattle.ix_host.specs.declared.status.Status.TheVariants as status
 use Rattle.ix_host.specs.declared.task.Task.TheVariants as task

@@ -1,6 +1,6 @@
 use Rattle.std.proofs.Common.{sym, ap, ◌∙◌, subst}
 use Rattle.ix_model.specs.history.History.{History}
-use Rattle.ix_parallel.specs.History.{IsHistory}
+use Rattle.ix_lanes.specs.histories.History.{IsHistory}
 use Rattle.ix_parallel.proofs.together.Ending.{empty_history}
 use Rattle.ix_parallel.proofs.history.run_history.Goals as goal
 
