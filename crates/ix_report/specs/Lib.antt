@@ -6,3 +6,4 @@ pub mod RefusalText
 pub mod CallText
 pub mod ReplyText
 pub mod LineText
+pub mod Feeds

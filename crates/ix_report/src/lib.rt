@@ -2,6 +2,7 @@
 #![tactic(auto)]
 
 mod calls;
+pub mod laws;
 mod line;
 mod pieces;
 mod refusals;
