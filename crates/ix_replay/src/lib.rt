@@ -7,6 +7,6 @@ mod tally;
 mod telling;
 
 pub use tally::summary;
-pub use telling::closing::Closing;
+pub use telling::closing::{Closing, Next};
 pub use telling::entry::push_entry;
 pub use telling::replay::replay;

@@ -1,12 +1,19 @@
 -- One piece more of what closes a report.
-use Rattle.std.proofs.Common.{◌≡◌, ℕ, suc, ◌+◌, ◌-◌, ◌<◌, ◌≤◌, List, [], ◌++◌, length, drop, Some, None, refl, sym, ap, ◌∙◌, arith, slice_get, append_assoc}
+use Rattle.std.proofs.Common.{◌≡◌, ℕ, suc, ◌+◌, ◌-◌, ◌<◌, ◌≤◌, true, List, [], ◌∷◌, ◌++◌, length, drop, Option, Some, None, inl, inr, refl, sym, ap, ◌∙◌, arith}
+use Rattle.std.proofs.Common.{slice_get, append_assoc}
 use Rattle.std.specs.Prelude.{codes}
 use Rattle.std.specs.List.{flat_map}
 use Rattle.std.proofs.lemmas.List.{append-nil}
 use Rattle.std.proofs.lemmas.Option.{slice_get_within}
-use Rattle.ix_report.specs.LineText.{audit_line, tail_line}
+use Rattle.std.specs.Option.{option_map_or}
+use Rattle.ix_label.specs.declared.form.Form.{Form}
+use Rattle.ix_model.specs.world.World.{Object, Process, at}
+use Rattle.ix_model.specs.history.Views.{shown_of, view_of}
+use Rattle.ix_report.specs.Feeds.{EndsOnce, has_no_feed}
+use Rattle.ix_report.specs.LineText.{audit_line, object_line, process_line, tail_line}
+use Rattle.ix_report.proofs.feeds.Lines.{lines_end}
 use Rattle.ix_replay.specs.report.Report.{object_text, process_text, texts_from, objects_text, processes_text, closing_text}
-use Rattle.ix_replay.specs.report.Telling.{Tells, left_of, objects_left, processes_left, log_left, last_world, pieces_of}
+use Rattle.ix_replay.specs.report.Telling.{IsPiece, Tells, left_of, objects_left, processes_left, log_left, last_world, pieces_of}
 use Rattle.ix_replay.specs.declared.telling.closing.Next.TheVariants as stage
 use Rattle.ix_replay.specs.declared.telling.closing.Closing.{Closing}
 use Rattle.ix_model.specs.declared.audit.AuditLine.{AuditLine}
@@ -51,13 +58,33 @@ pub ended : (r : Closing) → r.next ≡ stage.End → 0 < pieces_of r → ⊥
 unfolding pieces_of
 ended r is h = let none : 0 < 0 = rw is at h in absurd (omega (arith, none))
 
+-- ---- pieces
+heading_ends : (front : List ℕ) → has_no_feed front ≡ true → EndsOnce (front ++ 10 ∷ [])
+heading_ends front h = (front, h, refl)
+
+object_piece : (form : Form) (objects : List (Option Object)) (n : ℕ) → IsPiece (object_text form objects n)
+object_piece form objects n = go (at objects n)
+  where
+    go : (o : Option Object) → IsPiece (option_map_or (λ x. object_line form n (view_of x)) o [])
+    go None = inl refl
+    go (Some o) = inr (lines_end.object form n (view_of o))
+
+process_piece : (form : Form) (processes : List (Option Process)) (pid : ℕ) → IsPiece (process_text form processes pid)
+process_piece form processes pid = go (at processes pid)
+  where
+    go : (o : Option Process) → IsPiece (option_map_or (λ p. process_line form pid (shown_of p)) o [])
+    go None = inl refl
+    go (Some p) = inr (lines_end.process form pid (shown_of p))
+
 module _ (r : Closing) (before after : List ℕ) where
   -- the heading of the objects
   pub head_told : r.next ≡ stage.Head → after ≡ before ++ codes "objects\n" → Tells r (record r { next = stage.Object 0 }) before after
   unfolding left_of objects_left processes_left pieces_of
   head_told is e = record {
     text = rw (e, is) (append_assoc before (codes "objects\n") (objects_left (record r { next = stage.Object 0 }) 0));
+    piece = (codes "objects\n", e, inr (heading_ends (codes "objects") refl));
     fewer = rw is (omega arith);
+    same = record { form = refl; history = refl };
   }
 
   -- an object
@@ -70,7 +97,9 @@ module _ (r : Closing) (before after : List ℕ) where
         ((texts_from (object_text r.form (last_world r).frame.objects) (n + 1) (length (last_world r).frame.objects - (n + 1)) ++ codes "processes\n") ++ processes_left r 0)
         ∙ ap (λ t. before ++ t) (texts_join (object_text r.form (last_world r).frame.objects n) (texts_from (object_text r.form (last_world r).frame.objects) (n + 1) (length (last_world r).frame.objects - (n + 1)))
         (codes "processes\n") (processes_left r 0)));
+    piece = (object_text r.form (last_world r).frame.objects n, e, object_piece r.form (last_world r).frame.objects n);
     fewer = rw is (omega (arith, within));
+    same = record { form = refl; history = refl };
   }
 
   -- the heading of the processes, after the last object
@@ -79,7 +108,9 @@ module _ (r : Closing) (before after : List ℕ) where
   unfolding left_of objects_left processes_left pieces_of
   objects_told n is past e = record {
     text = rw (e, is, texts_past (object_text r.form (last_world r).frame.objects) n (length (last_world r).frame.objects) past) (append_assoc before (codes "processes\n") _);
+    piece = (codes "processes\n", e, inr (heading_ends (codes "processes") refl));
     fewer = rw is (omega (arith, past));
+    same = record { form = refl; history = refl };
   }
 
   -- a process
@@ -89,7 +120,9 @@ module _ (r : Closing) (before after : List ℕ) where
   process_told pid is within e = record {
     text = rw (e, is, texts_next (process_text r.form (last_world r).frame.processes) pid (length (last_world r).frame.processes) within)
         (append_assoc before (process_text r.form (last_world r).frame.processes pid) _ ∙ ap (λ t. before ++ t) (sym (append_assoc (process_text r.form (last_world r).frame.processes pid) _ _)));
+    piece = (process_text r.form (last_world r).frame.processes pid, e, process_piece r.form (last_world r).frame.processes pid);
     fewer = rw is (omega (arith, within));
+    same = record { form = refl; history = refl };
   }
 
   -- the heading of the log, after the last process
@@ -98,7 +131,9 @@ module _ (r : Closing) (before after : List ℕ) where
   unfolding left_of processes_left pieces_of
   processes_told pid is past e = record {
     text = rw (e, is, texts_past (process_text r.form (last_world r).frame.processes) pid (length (last_world r).frame.processes) past) (append_assoc before (codes "log\n") _);
+    piece = (codes "log\n", e, inr (heading_ends (codes "log") refl));
     fewer = rw is (omega arith);
+    same = record { form = refl; history = refl };
   }
 
   -- a line of the log
@@ -108,7 +143,9 @@ module _ (r : Closing) (before after : List ℕ) where
   line_told n line is at e = record {
     text = rw (e, is, rest_is (last_world r).frame.log n line at)
         (append_assoc before (audit_line r.form line) _ ∙ ap (λ t. before ++ t) (sym (append_assoc (audit_line r.form line) (flat_map (audit_line r.form) (drop (n + 1) (last_world r).frame.log)) _)));
+    piece = (audit_line r.form line, e, inr (lines_end.audit r.form line));
     fewer = let within : n < length (last_world r).frame.log = slice_get_within (last_world r).frame.log n line at in rw is (omega (arith, within));
+    same = record { form = refl; history = refl };
   }
 
   -- the last line of all
@@ -117,5 +154,7 @@ module _ (r : Closing) (before after : List ℕ) where
   unfolding left_of pieces_of
   log_told n is at e = record {
     text = rw (e, is, none_left (last_world r).frame.log n at) (append-nil _);
+    piece = (tail_line (length r.history.now.events) (length (last_world r).frame.log), e, inr (lines_end.tail (length r.history.now.events) (length (last_world r).frame.log)));
     fewer = rw is (omega arith);
+    same = record { form = refl; history = refl };
   }

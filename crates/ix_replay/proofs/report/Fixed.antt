@@ -38,7 +38,7 @@ unfolding entry_line
 line_begins form place lane e r bytes label = simp append_assoc refl
 
 module _ (form : Form) (lanes : List (List ℕ)) (place : ℕ) (w : World) where
-  begins : (e : Event) (text : List ℕ) → (rest : List ℕ) × (entry_text form lanes place w e ++ text ≡ decimal place ++ 32 ∷ (lane_name lanes e.seat ++ 32 ∷ rest))
+  pub begins : (e : Event) (text : List ℕ) → (rest : List ℕ) × (entry_text form lanes place w e ++ text ≡ decimal place ++ 32 ∷ (lane_name lanes e.seat ++ 32 ∷ rest))
   begins e text =
       let b = line_begins form place (lane_name lanes e.seat) e _ _ _ in
       (_, ap (λ (line : List ℕ). line ++ text) b ∙ append_assoc (decimal place) _ text ∙ ap (λ (line : List ℕ). decimal place ++ 32 ∷ line) (append_assoc (lane_name lanes e.seat) _ text))

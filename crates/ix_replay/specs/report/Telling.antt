@@ -1,8 +1,9 @@
 -- How far the closing part of a report was told.
-use Rattle.std.specs.Prelude.{◌≡◌, ℕ, ◌+◌, ◌-◌, ◌<◌, List, [], ◌++◌, length, drop, codes}
+use Rattle.std.specs.Prelude.{◌≡◌, ℕ, ◌+◌, ◌-◌, ◌≤◌, ◌<◌, List, [], ◌++◌, length, drop, codes, ◌⊎◌}
 use Rattle.std.specs.List.{flat_map}
 use Rattle.ix_model.specs.world.World.{World}
 use Rattle.ix_model.specs.history.History.{world_of}
+use Rattle.ix_report.specs.Feeds.{EndsOnce}
 use Rattle.ix_report.specs.LineText.{audit_line, tail_line}
 use Rattle.ix_replay.specs.report.Report.{object_text, process_text, texts_from}
 use Rattle.ix_replay.specs.declared.telling.closing.Next.{Next}
@@ -48,7 +49,31 @@ pieces_left next.End r = 0
 unfoldable pub pieces_of : Closing → ℕ
 pieces_of r = pieces_left r.next r
 
+-- a piece is one line, or nothing
+abbrev pub IsPiece : List ℕ → Type 0
+IsPiece piece = (piece ≡ []) ⊎ EndsOnce piece
+
+-- what closes one history in one form, at two moments
+pub record ClosesSame (old new : Closing) : Type 0 where
+  pub form : new.form ≡ old.form
+  pub history : new.history.now ≡ old.history.now
+
 -- one piece more was told
 pub record Tells (old new : Closing) (before after : List ℕ) : Type 0 where
   pub text : after ++ left_of new ≡ before ++ left_of old
+  pub piece : (told : List ℕ) × (after ≡ before ++ told) × IsPiece told
   pub fewer : pieces_of new < pieces_of old
+  pub same : ClosesSame old new
+
+-- this line was told, or nothing yet
+pub record HasTold (old new : Closing) (before after line : List ℕ) : Type 0 where
+  pub told : after ≡ before ++ line
+  pub rest : line ++ left_of new ≡ left_of old
+  pub piece : IsPiece line
+  pub fewer : pieces_of new ≤ pieces_of old
+  pub some : EndsOnce line → pieces_of new < pieces_of old
+  pub same : ClosesSame old new
+
+-- the next line was told, or nothing where none is left
+abbrev pub TellsLine : Closing → Closing → List ℕ → List ℕ → Type 0
+TellsLine old new before after = (line : List ℕ) × HasTold old new before after line × (line ≡ [] → left_of old ≡ [])

@@ -1,7 +1,7 @@
-ghost use Rattle.std.specs.Prelude.{◌≡◌, ◌<◌, [], false, true, length, OnOk};
+ghost use Rattle.std.specs.Prelude.{◌≡◌, ◌≢◌, ◌<◌, [], false, true, length, OnOk};
 ghost use Rattle.ix_model.specs.history.History.{world_of};
 ghost use Rattle.ix_replay.specs.report.Report.{closing_text};
-ghost use Rattle.ix_replay.specs.report.Telling.{Tells, left_of, pieces_of};
+ghost use Rattle.ix_replay.specs.report.Telling.{Tells, TellsLine, left_of, pieces_of};
 ghost use Rattle.ix_replay.specs.declared.telling.closing.Next.TheVariants as next;
 
 use crate::telling::pieces::{push_heading, push_object, push_process};
@@ -45,11 +45,32 @@ impl<'a> Closing<'a> {
         }
     }
 
+    /// The same, where this is told next.
+    pub fn at(form: Form, history: &'a Core, next: Next) -> Closing<'a>
+        ensures form { result.form ≡ form }
+        ensures history { result.history.now ≡ history.now }
+        ensures next { result.next ≡ next }
+    {
+        Closing {
+            form,
+            history,
+            next,
+        }
+    }
+
+    /// What is told next.
+    pub fn next(&self) -> Next
+        ensures { result ≡ self.now.next }
+    {
+        self.next
+    }
+
     /// Whether all was told.
     #[tactic(auto, unfolding(crate::specs::report::Telling::left_of, crate::specs::report::Telling::pieces_of))]
     pub fn is_told(&self) -> bool
         ensures told { result ≡ true → left_of self.now ≡ [] }
         ensures going { result ≡ false → 0 < pieces_of self.now }
+        ensures left { result ≡ false → left_of self.now ≢ [] }
     {
         match self.next {
             Next::Head => false,
@@ -128,5 +149,16 @@ impl<'a> Closing<'a> {
             Next::Log(n) => self.tell_log(out, n),
             Next::End => Ok(()),
         }
+    }
+
+    /// Tells the next line, or nothing where none is left. After `NoMemory` some of it may have been told.
+    pub fn tell_line(&mut self, out: &mut Vec<u8>) -> Result<(), NoMemory>
+        ensures { OnOk result (TellsLine self.old self.new out.old.items out.new.items) }
+    {
+        let before = out.len();
+        'pieces: while out.len() == before && !self.is_told() {
+            self.tell(out)?;
+        }
+        Ok(())
     }
 }
