@@ -8,3 +8,4 @@ pub mod Privacy
 pub mod Every
 pub mod Serves
 pub mod Costs
+pub mod Few

@@ -1,6 +1,7 @@
 pub mod Costs
 pub mod LaneSteps
 pub mod LineCalls
+pub mod LineFew
 pub mod OneEntry
 pub mod Remains
 pub mod SerialHistories

@@ -3,3 +3,4 @@ pub mod Requests
 pub mod Privacy
 pub mod Worked
 pub mod Asked
+pub mod Few

@@ -4,3 +4,4 @@ pub mod Privacy
 pub mod Rules
 pub mod Worked
 pub mod Asked
+pub mod Few
