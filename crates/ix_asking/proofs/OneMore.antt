@@ -1,7 +1,7 @@
 -- One call, and calls after others.
 use Rattle.std.proofs.Common.{◌≡◌, ℕ, List, [], ◌∷◌, ◌++◌, refl, ap, sym, ◌∙◌, append_assoc, subst}
 use Rattle.ix_model.specs.history.Made.{Made}
-use Rattle.ix_asking.specs.Asking.{Asked, Asking, Done, Ask, Due, first, heard, all_heard}
+use Rattle.ix_asking.specs.Asking.{Asked, Asking, Done, Ask, Next, Came, Due, came_as, first, heard, all_heard}
 use Rattle.ix_asking.specs.Runs.{entry_of, answer_of, answers_of, AsAsked, Makes}
 
 pub heard_after : {R : Type 0} (p : Asking R) (made more : List Made) → all_heard p (answers_of (made ++ more)) ≡ all_heard (all_heard p (answers_of made)) (answers_of more)
@@ -40,3 +40,9 @@ module _ {S : Type 0} (seat_of : S → ℕ) (made_of : S → List Made) (follows
         (let T : ℕ → Type 0 = λ s. AsAsked s q more in subst T h.seat k.asked));
     follows = transitive old mid new h.follows k.follows;
   }
+
+-- ---- what came of all
+-- where it is told as it is, nothing changes
+pub came_same : {R : Type 0} (n : Next R) → came_as (λ r. r) n ≡ n
+came_same (Came r) = refl
+came_same (Due a) = refl

@@ -42,6 +42,11 @@ all_heard p (answer ∷ answers) = all_heard (heard p answer) answers
 abbrev pub next : {R : Type 0} → Asking R → List Answered → Next R
 next p answers = first (all_heard p answers)
 
+-- the same, where what came of all is told otherwise
+abbrev pub came_as : {A B : Type 0} → (A → B) → Next A → Next B
+came_as f (Came r) = Came (f r)
+came_as f (Due a) = Due a
+
 -- a call stands next
 abbrev pub IsDue : {R : Type 0} → Next R → Type 0
 IsDue (Came r) = ⊥

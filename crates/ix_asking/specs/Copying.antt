@@ -9,7 +9,7 @@ use Rattle.ix_asking.specs.Copies.{copies, write_all}
 
 -- the bytes that are held
 abbrev pub kept : Held → List ℕ
-kept h = take h.len h.bytes.now
+kept h = take h.len h.bytes
 
 abbrev pub part_asks : Part → Copying → Asking (Unit {0})
 part_asks part.Read c = copies c.line c.pid c.from c.to c.count

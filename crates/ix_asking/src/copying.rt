@@ -1,10 +1,11 @@
 ghost use Rattle.std.specs.Prelude.{◌≡◌};
+ghost use Rattle.ix_asking.specs.Asking.{Done};
 ghost use Rattle.ix_asking.specs.Copies.{copies};
 ghost use Rattle.ix_asking.specs.Copying.{copying_asks, copying_most};
 
 use crate::asks::{Asks, Step};
 use crate::held::Held;
-use ix_model::{Buf, Call, Fd, Pid, Reply};
+use ix_model::{Call, Fd, Pid, Reply};
 
 /// Where a `copy` stands.
 #[derive(Clone, Copy)]
@@ -14,39 +15,61 @@ enum Part {
     Done,
 }
 
-/// A `copy`: it reads at most so many bytes, and where any came it writes those.
+/// A `copy`: it reads at most so many bytes, and where any came it writes those. It holds them in a buffer of its own, and can be used for
+/// one `copy` after the other.
 #[derive(Drop)]
-pub struct Copying<'b> {
+pub struct Copying {
     line: u32,
     pid: Pid,
     from: Fd,
     to: Fd,
     count: u32,
     /// What it read.
-    held: Held<'b>,
+    held: Held,
     at: Part,
 }
 
-impl<'b> Copying<'b> {
-    /// A `copy` of a process that stands in that line, before its first call. The buffer holds what it reads until it is written.
-    pub fn new(line: u32, pid: Pid, from: Fd, to: Fd, count: u32, held: &'b mut Buf) -> Copying<'b>
-        ensures asks { copying_asks result ≡ copies line pid from to count }
-        ensures most { copying_most result ≡ 2 }
+impl Copying {
+    /// One that asks for nothing yet.
+    pub fn new() -> Copying
+        ensures { copying_asks result ≡ Done tt }
     {
+        let none = Fd(0);
         Copying {
-            line,
-            pid,
-            from,
-            to,
-            count,
-            held: Held::new(held),
-            at: Part::Read,
+            line: 0,
+            pid: Pid(0),
+            from: none,
+            to: none,
+            count: 0,
+            held: Held::new(),
+            at: Part::Done,
         }
+    }
+
+    /// Begins the `copy` of a process that stands in that line.
+    pub fn begin(&mut self, line: u32, pid: Pid, from: Fd, to: Fd, count: u32)
+        ensures asks { copying_asks self.new ≡ copies line pid from to count }
+        ensures most { copying_most self.new ≡ 2 }
+    {
+        self.line = line;
+        self.pid = pid;
+        self.from = from;
+        self.to = to;
+        self.count = count;
+        self.at = Part::Read;
     }
 }
 
-impl Asks for Copying<'_> {
+impl Asks for Copying {
     type Came = ();
+
+    ghost End = { Unit {0} };
+
+    ghost came = { λ u. u };
+
+    ghost Kept = { Unit {0} };
+
+    ghost kept = { λ c. tt };
 
     ghost asking = { copying_asks };
 

@@ -12,12 +12,15 @@ fn put_front(buf: &mut Buf, bytes: &[u8])
     buf[..bytes.len()].copy_from_slice(bytes);
 }
 
-impl<'b> Held<'b> {
-    /// No bytes, in that buffer.
-    pub(crate) fn new(bytes: &'b mut Buf) -> Held<'b>
+impl Held {
+    /// No bytes.
+    pub(crate) fn new() -> Held
         ensures { result.len ≡ 0 }
     {
-        Held { bytes, len: 0 }
+        Held {
+            bytes: [0; 4096],
+            len: 0,
+        }
     }
 
     /// Holds these bytes, and no others.
@@ -25,7 +28,7 @@ impl<'b> Held<'b> {
         requires { length bytes.now ≤ 4096 }
         ensures { kept self.new ≡ bytes.now }
     {
-        put_front(self.bytes, bytes);
+        put_front(&mut self.bytes, bytes);
         self.len = bytes.len();
     }
 

@@ -1,6 +1,6 @@
 ghost use Rattle.std.specs.Prelude.{◌≡◌, ◌≤◌, ◌+◌, List, length};
 ghost use Rattle.ix_model.specs.history.Made.{Made};
-ghost use Rattle.ix_asking.specs.Asking.{all_heard, first, next};
+ghost use Rattle.ix_asking.specs.Asking.{all_heard, came_as, first, next};
 ghost use Rattle.ix_asking.specs.Runs.{answers_of, count_in, Ends, Makes, Turn};
 
 use crate::asks::{Asks, Step};
@@ -27,8 +27,8 @@ pub fn make_next<S: Sys, A: Asks>(
 ) -> Result<Option<A::Came>, Stop>
     ensures { (more : List Made) × Makes S.seat S.made S.follows (A.asking asks.old) sys.old sys.new more
         × (A.asking asks.new ≡ all_heard (A.asking asks.old) (answers_of more))
-        × (length more + A.most asks.new ≤ A.most asks.old)
-        × Turn S.stops S.stopped (first (A.asking asks.old)) sys.old sys.new more result }
+        × (length more + A.most asks.new ≤ A.most asks.old) × (A.kept asks.new ≡ A.kept asks.old)
+        × Turn S.stops S.stopped (came_as A.came (first (A.asking asks.old))) sys.old sys.new more result }
 {
     let answer = match asks.next() {
         Step::Came(came) => return Ok(Some(came)),
@@ -48,8 +48,8 @@ pub fn make_next<S: Sys, A: Asks>(
 pub fn run<S: Sys, A: Asks>(sys: &mut S, asks: &mut A, buf: &mut Buf) -> Result<A::Came, Stop>
     ensures { (more : List Made) × Makes S.seat S.made S.follows (A.asking asks.old) sys.old sys.new more
         × (A.asking asks.new ≡ all_heard (A.asking asks.old) (answers_of more))
-        × (length more + A.most asks.new ≤ A.most asks.old)
-        × Ends S.stops S.stopped (next (A.asking asks.old) (answers_of more)) sys.old sys.new result }
+        × (length more + A.most asks.new ≤ A.most asks.old) × (A.kept asks.new ≡ A.kept asks.old)
+        × Ends S.stops S.stopped (came_as A.came (next (A.asking asks.old) (answers_of more))) sys.old sys.new result }
 {
     'turns: loop {
         match make_next(sys, asks, buf)? {

@@ -1,8 +1,8 @@
 pub mod LaneLines
+pub mod Lefts
 pub mod PhaseLines
 pub mod Making
 pub mod Between
-pub mod OneMore
 pub mod Placed
 pub mod Served
 pub mod PhaseRuns

@@ -1,6 +1,6 @@
 pub mod Phases
+pub mod Left
 pub mod Runs
-pub mod Lines
 pub mod Fields
 pub mod SideBySide
 pub mod Laws

@@ -9,6 +9,7 @@ mod running;
 
 pub use lanes::{lanes_in, seat_past};
 pub use lines::{line_at, role_at};
+pub use running::lane_calls::LaneCalls;
 pub use running::lane_run::LaneRun;
 pub use running::phases::phases_in;
 pub use running::side_by_side::{Lane, run_phase};

@@ -29,7 +29,7 @@ enum At {
 }
 
 /// The privilege server, while it serves one request: what it asks for is there one call at a time.
-#[derive(Drop)]
+#[derive(Clone, Copy)]
 pub struct PrivServer<'p> {
     line: u32,
     server: Pid,
@@ -130,7 +130,17 @@ impl<'p> PrivServer<'p> {
 }
 
 impl Asks for PrivServer<'_> {
+    ghost use Rattle.ix_asking.specs.declared.serving.outcome.Outcome as outcome_of;
+
     type Came = Outcome;
+
+    ghost End = { outcome_of.Outcome };
+
+    ghost came = { λ outcome. outcome };
+
+    ghost Kept = { Unit {0} };
+
+    ghost kept = { λ server. tt };
 
     ghost asking = { λ m. asks_at m.policy.now (record { line = m.line; pid = m.server.0; fd = m.fd.0 }) m.at };
 

@@ -1,5 +1,5 @@
 -- The lanes of a script, each with its run on one core.
-use Rattle.std.specs.Prelude.{◌≡◌, ℕ, ◌+◌, ◌≤◌, ◌<◌, List, [], length, Some, slice_index_or}
+use Rattle.std.specs.Prelude.{◌≡◌, ℕ, ◌+◌, ◌≤◌, ◌<◌, true, List, [], length, Some, slice_index_or}
 use Rattle.ix_model.specs.history.Cost.{cost_of, cost_of_history}
 use Rattle.ix_model.specs.history.Events.{Event}
 use Rattle.ix_model.specs.history.History.{History}
@@ -31,7 +31,7 @@ HasRoom s seat h =
 
 -- the lane of a seat, which has done no phase
 abbrev pub lane_at_first : List Line → ℕ → SerialLane
-lane_at_first s seat = record { run = record { script = s; lane = seat; done = 0; names = no_names }; seat = seat; done = 0 }
+lane_at_first s seat = record { run = record { script = s; lane = seat; done = 0; between = true; names = no_names }; seat = seat; done = 0 }
 
 -- the lane of a seat among these
 abbrev pub lane_at : List SerialLane → ℕ → SerialLane

@@ -1,5 +1,6 @@
 -- The lines of a lane between two indices, and what they ask for.
 use Rattle.std.proofs.Common.{◌≡◌, ℕ, ◌+◌, ◌≤◌, List, [], ◌∷◌, ◌++◌, length, take, drop, Option, Some, refl, sym, ap, ◌∙◌, arith, fold, slice_get}
+use Rattle.std.proofs.Math.Seq.{take-length}
 use Rattle.std.proofs.lemmas.List.{drop-append-le, length-append, length-take-le, take-append-drop, take-take, drop_all}
 use Rattle.std.proofs.lemmas.List.Sums.{fold-append}
 use Rattle.std.proofs.lemmas.Option.{slice_get_within}
@@ -44,6 +45,10 @@ module _ (s : List Line) (seat : ℕ) where
       ap (lane_among s seat) (sym (take_parts s i j h))
       ∙ lane-append (lanes_of s) seat 1 _ (take i s) (drop i (take j s))
       ∙ ap (λ n. lane_among s seat (take i s) ++ lines_of_seat (lanes_of s) seat n (seat_at s (take i s)) (drop i (take j s))) number
+
+  -- all of them
+  pub between_all : lane_between s seat 0 (length s) ≡ lane_among s seat s
+  between_all = ap (lane_among s seat) (take-length s)
 
   -- none yet
   pub between_none : (i : ℕ) → i ≤ length s → lane_between s seat i i ≡ []

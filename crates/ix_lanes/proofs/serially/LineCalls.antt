@@ -19,7 +19,7 @@ use Rattle.ix_lanes.specs.declared.asking.handed.Handed.{Handed}
 use Rattle.ix_lanes.specs.declared.asking.handed.Handed.TheVariants as handed
 use Rattle.ix_lanes.specs.asking.Asked.{Names, Numbers, asked, fd_of, pid_of}
 use Rattle.ix_lanes.specs.asking.Handing.{who_in}
-use Rattle.ix_lanes.specs.asking.LineAsks.{by_rules, line_asks, one_call, server_of}
+use Rattle.ix_lanes.specs.asking.LineAsks.{OfLine, by_rules, line_asks, one_call, server_of}
 
 module _ (P : Asked → Type 0) (rules : Option (List Rule)) (header : Numbers) (names : Names) (n : ℕ) where
   -- it holds of the calls of the line n that give no label
@@ -64,10 +64,6 @@ module _ (P : Asked → Type 0) (rules : Option (List Rule)) (header : Numbers) 
   all-of-line l one each ceilings = all_one (asked header names n l) one
 
 -- ---- the number of the line
--- the call is of the line n
-abbrev pub OfLine : ℕ → Asked → Type 0
-OfLine n a = a.line ≡ n
-
 asked_of_line : (header : Numbers) (names : Names) (n : ℕ) (l : Line) → IfSome (asked header names n l) (OfLine n)
 unfolding asked
 asked_of_line header names n line.Skipped = tt

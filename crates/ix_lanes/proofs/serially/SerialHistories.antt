@@ -15,12 +15,12 @@ use Rattle.ix_asking.specs.Runs.{entry_of}
 use Rattle.ix_asking.proofs.Every.{AllOf}
 use Rattle.ix_lanes.specs.declared.asking.handed.Handed.{Handed}
 use Rattle.ix_lanes.specs.asking.Asked.{Names, no_names}
-use Rattle.ix_lanes.specs.asking.LineAsks.{line_asks}
+use Rattle.ix_lanes.specs.asking.LineAsks.{OfLine, line_asks}
 use Rattle.ix_lanes.specs.asking.Ruled.{rules_told}
 use Rattle.ix_lanes.specs.histories.Serial.{answered, first_names, header_of, made_then, names_of, renamed, seat_after, serial, serial_from}
 use Rattle.ix_lanes.specs.histories.Lanes.{IsSerial, entries_of, lane_asks, lines_of_seat, replies_from, replies_of}
 use Rattle.ix_lanes.proofs.serially.LaneSteps.{calls_from, entries-mine, length-renamed, seat_within}
-use Rattle.ix_lanes.proofs.serially.LineCalls.{OfLine, all-numbered}
+use Rattle.ix_lanes.proofs.serially.LineCalls.{all-numbered}
 use Rattle.ix_lanes.proofs.serially.OneEntry.{Going, StartsAt, first_seat, one_after, one_before}
 use Rattle.ix_lanes.proofs.serially.Remains.{at_line, call_answers, lane_calls, next_seat, others_later, past_line, pending, rest_starts}
 

@@ -1,5 +1,5 @@
 -- What lines ask for.
-use Rattle.std.specs.Prelude.{ℕ, List, [], ◌∷◌, Option, Some, None}
+use Rattle.std.specs.Prelude.{◌≡◌, ℕ, List, [], ◌∷◌, Option, Some, None}
 use Rattle.ix_model.specs.history.Events.{Event}
 use Rattle.ix_policy.specs.declared.rule.Rule.{Rule}
 use Rattle.ix_asking.specs.Asking.{Asked, Asking, Done, Ask, followed, mapped}
@@ -55,3 +55,7 @@ line_asks rules header names n l = one_call (asked header names n l)
 abbrev pub lines_ask : Option (List Rule) → Numbers → Names → List Numbered → Asking Names
 lines_ask rules header names [] = Done names
 lines_ask rules header names (l ∷ lines) = followed (line_asks rules header names l.number l.said) (λ g. lines_ask rules header (named names l.said g) lines)
+
+-- the call is of the line n
+abbrev pub OfLine : ℕ → Asked → Type 0
+OfLine n a = a.line ≡ n

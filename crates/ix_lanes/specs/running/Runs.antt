@@ -1,5 +1,5 @@
 -- What a run of a lane stands for, and what a phase of it does.
-use Rattle.std.specs.Prelude.{◌≡◌, ℕ, suc, List}
+use Rattle.std.specs.Prelude.{◌≡◌, ℕ, suc, Bool, true, List}
 use Rattle.ix_model.specs.history.Made.{Made}
 use Rattle.ix_model.specs.history.Systems.{FullFor}
 use Rattle.ix_model.specs.declared.reply.Answer.{Answer}
@@ -9,16 +9,19 @@ use Rattle.ix_asking.specs.Runs.{answers_of, AsAsked}
 use Rattle.ix_lanes.specs.asking.Asked.{Names}
 use Rattle.ix_lanes.specs.running.Phases.{asks_before}
 
--- a run of a lane: its script and the lane's seat, how many phases it has done, and what each name after `as` stands for
+-- a run of a lane: its script and the lane's seat, how many phases it has done, whether it stands between two of them, and what each name after `as`
+-- stands for
 pub record Ran : Type 0 where
   pub script : List Line
   pub lane : ℕ
   pub done : ℕ
+  pub between : Bool
   pub names : Names
 
--- The entries are those that the lane's lines ask for in the phases that are done, where they are answered so. No further one is asked for, and the
--- names stand for what the replies give.
+-- It stands between two phases. The entries are those that the lane's lines ask for in the phases that are done, where they are answered so. No further
+-- one is asked for, and the names stand for what the replies give.
 pub record StandsFor (run : Ran) (made : List Made) : Type 0 where
+  pub between : run.between ≡ true
   pub asked : AsAsked run.lane (asks_before run.script run.lane run.done) made
   pub came : next (asks_before run.script run.lane run.done) (answers_of made) ≡ Came run.names
 

@@ -1,5 +1,5 @@
 -- Lanes that get their seats.
-use Rattle.std.proofs.Common.{◌≡◌, ℕ, zero, suc, ◌+◌, ◌≤◌, ◌<◌, ⊎_elim, List, [], ◌∷◌, ◌++◌, length, drop, Some, refl, sym, ap, ◌∙◌, subst, arith, slice_get, length-append, length-drop}
+use Rattle.std.proofs.Common.{◌≡◌, ℕ, zero, suc, ◌+◌, ◌≤◌, ◌<◌, ⊎_elim, true, List, [], ◌∷◌, ◌++◌, length, drop, Some, refl, sym, ap, ◌∙◌, subst, arith, slice_get, length-append, length-drop}
 use Rattle.std.proofs.lemmas.Option.{slice_get_within}
 use Rattle.ix_gate.specs.Gate.{GateState}
 use Rattle.ix_gate.specs.Seat.{new_seat}
@@ -49,7 +49,7 @@ next_is_new s kernel seats left number lanes seat rest new h is =
 
 -- a lane more
 pub seated_next : (s : List Line) (kernel : GateState) (seats left : List KSeatState) (number : ℕ) (lanes after : List Seated) (seat : KSeatState) (rest : List KSeatState) (run : Ran) → AreNew kernel (config_of s) (length (lanes_of s)) seats
-    → SeatedSoFar s kernel seats left number lanes → left ≡ seat ∷ rest → run ≡ record { script = s; lane = number; done = 0; names = no_names } → runs.StandsFor run []
+    → SeatedSoFar s kernel seats left number lanes → left ≡ seat ∷ rest → run ≡ record { script = s; lane = number; done = 0; between = true; names = no_names } → runs.StandsFor run []
     → after ≡ lanes ++ (record { run = run; sys = record { kernel = kernel; seat = seat; stops = 0; used = 0; need = 0; cap = 0 } }) ∷ [] → SeatedSoFar s kernel seats rest (number + 1) after
 seated_next s kernel seats left number lanes after seat rest run new h is ran stands more =
     let next = next_is_new s kernel seats left number lanes seat rest new h is in

@@ -16,12 +16,12 @@ use Rattle.ix_asking.specs.Runs.{answer_of, answers_of, AsAsked}
 use Rattle.ix_asking.proofs.Every.{AllOf}
 use Rattle.ix_lanes.specs.declared.asking.handed.Handed.TheVariants as handed
 use Rattle.ix_lanes.specs.asking.Asked.{Names, Numbers, asked, named, no_names}
-use Rattle.ix_lanes.specs.asking.LineAsks.{Numbered, line_asks, lines_ask}
+use Rattle.ix_lanes.specs.asking.LineAsks.{Numbered, OfLine, line_asks, lines_ask}
 use Rattle.ix_lanes.specs.asking.Ruled.{rules_told}
 use Rattle.ix_lanes.specs.histories.Serial.{header_of}
 use Rattle.ix_lanes.specs.histories.Lanes.{never_falls}
 use Rattle.ix_lanes.specs.running.Phases.{asks_before, lane_before}
-use Rattle.ix_lanes.proofs.serially.LineCalls.{OfLine, all-numbered}
+use Rattle.ix_lanes.proofs.serially.LineCalls.{all-numbered}
 use Rattle.ix_lanes.proofs.phased.Between.{asks_append}
 use Rattle.ix_lanes.proofs.phased.Making.{heard_followed}
 use Rattle.ix_lanes.proofs.phased.Standing.{asked_rest}

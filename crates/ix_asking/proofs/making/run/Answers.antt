@@ -13,5 +13,6 @@ turns-preserved g c =
       makes-after g.S.Sys.seat g.S.Sys.made g.S.Sys.follows g.S.Sys.transitive _ p (g.A.Asks.asking c.turns.asks) c.args.sys.now c.turns.sys c.make_next.new.sys made.0 one.0 made.1 made.2 one.1,
       one.2 ∙ ap (λ q. all_heard q (answers_of one.0)) made.2 ∙ sym (heard_after p made.0 one.0),
       simp length-append (omega (arith, made.3, one.3)),
-      one.4.1 ∙ made.4,
+      one.4 ∙ made.4,
+      one.5.1 ∙ made.5,
     )

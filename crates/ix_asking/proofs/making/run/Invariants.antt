@@ -9,6 +9,7 @@ invariant-turns g l =
     (made : List Made) × Makes g.S.Sys.seat g.S.Sys.made g.S.Sys.follows (g.A.Asks.asking l.initial.asks) l.initial.sys l.sys made
     × (g.A.Asks.asking l.asks ≡ all_heard (g.A.Asks.asking l.initial.asks) (answers_of made))
     × (length made + g.A.Asks.most l.asks ≤ g.A.Asks.most l.initial.asks)
+    × (g.A.Asks.kept l.asks ≡ g.A.Asks.kept l.initial.asks)
     × (g.S.Sys.stops l.sys ≡ g.S.Sys.stops l.initial.sys)
 
 abbrev pub decreases-turns : goal.decreases-turns

@@ -1,6 +1,12 @@
-use Rattle.ix_lanes.specs.asking.Places.{standing}
+use Rattle.std.proofs.Common.{[], sym, subst, refl}
+use Rattle.ix_lanes.specs.running.Left.{is_done, names_done}
+use Rattle.ix_lanes.specs.running.Runs.{StandsFor}
+use Rattle.ix_lanes.specs.asking.Asked.{Names}
+use Rattle.ix_asking.specs.Asking.{Asking}
 use Rattle.ix_lanes.proofs.phased.PhaseRuns.{stands_first}
 use Rattle.ix_lanes.proofs.running.lane_run.LaneRun.new.Goals as goal
 
 pub returns-clause-stands : goal.returns-clause-stands
-returns-clause-stands c = stands_first c.args.script.now c.args.lane (standing c.in_ok-places.places) c.in_ok-places.ensures.none
+returns-clause-stands c =
+    subst (λ (p : Asking Names). StandsFor (record { script = c.args.script.now; lane = c.in_ok-calls.calls.seat; done = 0; between = is_done p; names = names_done p }) [])
+    (sym c.in_ok-calls.ensures.asks) (stands_first c.args.script.now c.in_ok-calls.calls.seat _ refl)

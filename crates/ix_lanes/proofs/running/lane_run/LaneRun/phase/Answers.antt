@@ -1,29 +1,31 @@
-use Rattle.std.proofs.Common.{◌≡◌, ℕ, ◌+◌, ◌<◌, ◌++◌, suc, List, length, option_map, sym, ap, ◌∙◌, subst, arith, add-one}
+use Rattle.std.proofs.Common.{◌≡◌, ℕ, ◌+◌, ◌<◌, ◌++◌, suc, true, Bool, List, length, sym, ap, ◌∙◌, subst, arith, add-one}
 use Rattle.ix_model.specs.history.Made.{Made}
 use Rattle.ix_model.specs.declared.reply.Answer.{Answer}
 use Rattle.ix_script.specs.declared.line.Line.{Line}
-use Rattle.ix_asking.specs.Asking.{Asking, next}
+use Rattle.ix_asking.specs.Asking.{Asking, Next, came_as, first, next}
 use Rattle.ix_asking.specs.Runs.{answers_of, AsAsked, StopsAt}
 use Rattle.ix_lanes.specs.asking.Asked.{Names}
 use Rattle.ix_lanes.specs.asking.LineAsks.{lines_ask}
-use Rattle.ix_lanes.specs.asking.Places.{standing}
-use Rattle.ix_lanes.specs.running.Phases.{lane_between, lines_before, phases, seat_at}
+use Rattle.ix_lanes.specs.asking.Ruled.{rules_told}
+use Rattle.ix_lanes.specs.histories.Serial.{header_of}
+use Rattle.ix_lanes.specs.running.Left.{LanePlace, asks_left, is_done, names_done}
+use Rattle.ix_lanes.specs.running.Phases.{lane_between, lines_before, phases}
 use Rattle.ix_lanes.specs.running.Runs.{CutOff, Ran, StandsFor}
-use Rattle.ix_lanes.proofs.phased.PhaseLines.{before-few, before-grows, first-lines, phases-few}
-use Rattle.ix_lanes.proofs.phased.PhaseRuns.{cut_next, next_asks, stands_next}
-use Rattle.ix_lanes.proofs.phased.Placed.{keeps-lines}
+use Rattle.ix_lanes.proofs.phased.Lefts.{came_done, stops_due}
+use Rattle.ix_lanes.proofs.phased.PhaseLines.{before-few, before-grows, phases-few}
+use Rattle.ix_lanes.proofs.phased.PhaseRuns.{asks_between, cut_next, next_asks, stands_next}
 use Rattle.ix_lanes.proofs.running.lane_run.LaneRun.phase.Goals as goal
 
-pub run_lines-ran-requires-clause-within : goal.run_lines-ran-requires-clause-within
-run_lines-ran-requires-clause-within g c =
+pub ask_to-requires-clause-within : goal.ask_to-requires-clause-within
+ask_to-requires-clause-within g c =
     let s : List Line = c.self.inside.script.now in
-    let next : c.args.phase ≡ c.self.inside.done = c.requires.next ∙ sym (ap (λ (r : Ran). r.done) c.self.view_is) in
-    let end : c.phase_end-end.result ≡ length (lines_before (suc c.self.inside.done) s) = c.phase_end-end.ensures ∙ ap (λ k. length (lines_before (suc k) s)) next in
-    (omega (arith, c.self.invariant.next, end, before-grows s c.self.inside.done), omega (arith, end, before-few s (suc c.self.inside.done)))
-
-pub run_lines-ran-requires-clause-at : goal.run_lines-ran-requires-clause-at
-run_lines-ran-requires-clause-at g c =
-    c.self.invariant.seat ∙ ap (seat_at c.self.inside.script.now) (first-lines c.self.inside.script.now c.self.inside.done c.self.inside.next c.self.invariant.next)
+    let k : ℕ = c.self.inside.done in
+    let done : is_done (asks_left c.self.inside.calls) ≡ true = ap (λ (r : Ran). r.between) c.self.view_is ∙ c.requires.stands.between in
+    let phase : c.args.phase ≡ k = c.requires.next ∙ sym (ap (λ (r : Ran). r.done) c.self.view_is) in
+    let from : c.self.inside.calls.end ≡ length (lines_before k s) = c.self.invariant.end done in
+    let to : c.phase_end.result ≡ length (lines_before (suc k) s) = c.phase_end.ensures ∙ ap (λ n. length (lines_before (suc n) s)) phase in
+    let long : length c.self.inside.calls.script ≡ length s = ap length c.self.invariant.script in
+    (omega (arith, from, to, before-grows s k), omega (arith, to, long, before-few s (suc k)))
 
 pub overflow_add-self : goal.overflow_add-self
 overflow_add-self g c =
@@ -31,71 +33,66 @@ overflow_add-self g c =
     let within : c.args.phase < phases s = rw (ap (λ (r : Ran). r.script) c.self.view_is) c.requires.phase in
     omega (arith, within, phases-few s, c.len-count.ensures.len)
 
-pub invariant_of-self : goal.invariant_of-self
-invariant_of-self g c =
-    let s : List Line = c.self.inside.script.now in
-    let end : c.phase_end-end.result ≡ length (lines_before (c.args.phase + 1) s) = c.phase_end-end.ensures ∙ ap (λ k. length (lines_before k s)) (sym (add-one c.args.phase)) in
-    record {
-      header = c.self.invariant.header;
-      lane = c.self.invariant.lane;
-      next = end;
-      seat = c.in-Ok.ensures.at ∙ ap (seat_at s) (sym (first-lines s (c.args.phase + 1) c.phase_end-end.result end));
-      places = keeps-lines c.self.inside.places c.run_lines-ran.new.places c.run_lines-ran.ensures.keeps _ c.self.invariant.places;
-      ruled = c.self.invariant.ruled;
-    }
-
-pub invariant_of-self-in-Err : goal.invariant_of-self-in-Err
-invariant_of-self-in-Err g c = record {
-  header = c.self.invariant.header;
-  lane = c.self.invariant.lane;
-  next = c.self.invariant.next;
-  seat = c.self.invariant.seat;
-  places = keeps-lines c.self.inside.places c.run_lines-ran.new.places c.run_lines-ran.ensures.keeps _ c.self.invariant.places;
-  ruled = c.self.invariant.ruled;
-}
-
 pub returns-in-Ok-clause-done : goal.returns-in-Ok-clause-done
 returns-in-Ok-clause-done g c =
     let s : List Line = c.self.inside.script.now in
-    let lane : ℕ = c.self.inside.lane in
     let k : ℕ = c.self.inside.done in
-    let names : Names = standing c.self.inside.places in
-    let after : Names = standing c.run_lines-ran.new.places in
+    let lane : ℕ = c.self.inside.calls.seat in
+    let names : Names = names_done (asks_left c.self.inside.calls) in
     let old : List Made = g.S.Sys.made c.args.sys.now in
-    let one = c.in-Ok.ensures.done in
+    let one = c.in-Ok.ensures in
+    let more : List Made = one.0 in
+    let done : is_done (asks_left c.self.inside.calls) ≡ true = ap (λ (r : Ran). r.between) c.self.view_is ∙ c.requires.stands.between in
     let phase : c.args.phase ≡ k = c.requires.next ∙ sym (ap (λ (r : Ran). r.done) c.self.view_is) in
-    let end : c.phase_end-end.result ≡ length (lines_before (suc k) s) = c.phase_end-end.ensures ∙ ap (λ n. length (lines_before (suc n) s)) phase in
-    let asks : lines_ask (option_map (λ p. p.now) c.self.inside.policy) c.self.inside.header names (lane_between s lane c.self.inside.next c.phase_end-end.result) ≡ next_asks s lane k names =
-    (λ i. lines_ask (c.self.invariant.ruled i) (c.self.invariant.header i) names (lane_between s lane (c.self.invariant.next i) (end i))) in
+    let from : c.self.inside.calls.end ≡ length (lines_before k s) = c.self.invariant.end done in
+    let to : c.phase_end.result ≡ length (lines_before (suc k) s) = c.phase_end.ensures ∙ ap (λ n. length (lines_before (suc n) s)) phase in
+    let asks : asks_left c.ask_to.new.self ≡ next_asks s lane k names =
+    c.ask_to.ensures.asks ∙ ap (λ t. lines_ask (rules_told t) (header_of t) names (lane_between t lane c.self.inside.calls.end c.phase_end.result)) c.self.invariant.script
+    ∙ asks_between s lane k c.self.inside.calls.end c.phase_end.result names from to in
     let seat : g.S.Sys.seat c.args.sys.now ≡ lane = c.requires.seat ∙ sym (ap (λ (r : Ran). r.lane) c.self.view_is) in
-    let stands : StandsFor (record { script = s; lane = lane; done = k; names = names }) old = subst (λ (r : Ran). StandsFor r old) (sym c.self.view_is) c.requires.stands in
-    let asked : AsAsked lane (next_asks s lane k names) one.more =
-    subst (λ (p : Asking Names). AsAsked lane p one.more) asks (subst (λ (n : ℕ). AsAsked n (lines_ask (option_map (λ p. p.now) c.self.inside.policy) c.self.inside.header names (lane_between s lane c.self.inside.next c.phase_end-end.result)) one.more) seat one.makes.asked) in
-    let came = ap (λ p. next p (answers_of one.more)) (sym asks) ∙ one.came in
-    let both = stands_next s lane k names old one.more stands asked after came in (
+    let stands : StandsFor (record { script = s; lane = lane; done = k; between = true; names = names }) old =
+    subst (λ (b : Bool). StandsFor (record { script = s; lane = lane; done = k; between = b; names = names }) old) done
+    (subst (λ (r : Ran). StandsFor r old) (sym c.self.view_is) c.requires.stands) in
+    let asked : AsAsked lane (next_asks s lane k names) more =
+    subst (λ (p : Asking Names). AsAsked lane p more) asks (subst (λ (n : ℕ). AsAsked n (asks_left c.ask_to.new.self) more) seat one.1.asked) in
+    let end = came_done (asks_left c.run.new.asks) (ap (λ q. came_as (λ n. tt) (first q)) one.2 ∙ one.5.0) in
+    let after : Names = names_done (asks_left c.run.new.asks) in
+    let came = ap (λ p. next p (answers_of more)) (sym asks) ∙ sym (ap first one.2) ∙ end.0 in
+    let both = stands_next s lane k names old more stands asked after came in
+    let stays : c.run.new.asks.seat ≡ lane = ap (λ (p : LanePlace). p.seat) (one.4 ∙ c.ask_to.ensures.place) in
+    let further : suc k ≡ c.args.phase + 1 = ap suc (sym phase) ∙ sym (add-one c.args.phase) in (
       add-one c.args.phase ∙ ap suc c.requires.next,
-      subst (λ (n : ℕ). StandsFor (record { script = s; lane = lane; done = n; names = after }) (g.S.Sys.made c.run_lines-ran.new.sys)) (ap suc (sym phase) ∙ sym (add-one c.args.phase))
-          (subst (λ (made : List Made). StandsFor (record { script = s; lane = lane; done = suc k; names = after }) made) (sym one.makes.made) both),
+      subst (λ (made : List Made). StandsFor (record { script = s; lane = c.run.new.asks.seat; done = c.args.phase + 1; between = is_done (asks_left c.run.new.asks); names = after }) made) (sym one.1.made)
+          (subst (λ (r : Ran). StandsFor r (old ++ more)) (λ i. record { script = s; lane = sym stays i; done = further i; between = sym end.1 i; names = after }) both),
     )
 
 pub returns-in-Err-clause-cut : goal.returns-in-Err-clause-cut
 returns-in-Err-clause-cut g c =
     let s : List Line = c.self.inside.script.now in
-    let lane : ℕ = c.self.inside.lane in
     let k : ℕ = c.self.inside.done in
-    let names : Names = standing c.self.inside.places in
+    let lane : ℕ = c.self.inside.calls.seat in
+    let names : Names = names_done (asks_left c.self.inside.calls) in
     let old : List Made = g.S.Sys.made c.args.sys.now in
-    let one = c.in-Err.ensures.cut in
+    let one = c.in-Err.ensures in
+    let more : List Made = one.0 in
+    let done : is_done (asks_left c.self.inside.calls) ≡ true = ap (λ (r : Ran). r.between) c.self.view_is ∙ c.requires.stands.between in
     let phase : c.args.phase ≡ k = c.requires.next ∙ sym (ap (λ (r : Ran). r.done) c.self.view_is) in
-    let end : c.phase_end-end.result ≡ length (lines_before (suc k) s) = c.phase_end-end.ensures ∙ ap (λ n. length (lines_before (suc n) s)) phase in
-    let asks : lines_ask (option_map (λ p. p.now) c.self.inside.policy) c.self.inside.header names (lane_between s lane c.self.inside.next c.phase_end-end.result) ≡ next_asks s lane k names =
-    (λ i. lines_ask (c.self.invariant.ruled i) (c.self.invariant.header i) names (lane_between s lane (c.self.invariant.next i) (end i))) in
+    let from : c.self.inside.calls.end ≡ length (lines_before k s) = c.self.invariant.end done in
+    let to : c.phase_end.result ≡ length (lines_before (suc k) s) = c.phase_end.ensures ∙ ap (λ n. length (lines_before (suc n) s)) phase in
+    let asks : asks_left c.ask_to.new.self ≡ next_asks s lane k names =
+    c.ask_to.ensures.asks ∙ ap (λ t. lines_ask (rules_told t) (header_of t) names (lane_between t lane c.self.inside.calls.end c.phase_end.result)) c.self.invariant.script
+    ∙ asks_between s lane k c.self.inside.calls.end c.phase_end.result names from to in
     let seat : g.S.Sys.seat c.args.sys.now ≡ lane = c.requires.seat ∙ sym (ap (λ (r : Ran). r.lane) c.self.view_is) in
-    let stands : StandsFor (record { script = s; lane = lane; done = k; names = names }) old = subst (λ (r : Ran). StandsFor r old) (sym c.self.view_is) c.requires.stands in
-    let asked : AsAsked lane (next_asks s lane k names) one.more =
-    subst (λ (p : Asking Names). AsAsked lane p one.more) asks (subst (λ (n : ℕ). AsAsked n (lines_ask (option_map (λ p. p.now) c.self.inside.policy) c.self.inside.header names (lane_between s lane c.self.inside.next c.phase_end-end.result)) one.more) seat one.makes.asked) in
-    let stopped : StopsAt (next (next_asks s lane k names) (answers_of one.more)) c.in-Err.stop = subst (λ (p : Asking Names). StopsAt (next p (answers_of one.more)) c.in-Err.stop) asks one.stopped in
-    let both = cut_next s lane k names old one.more stands asked c.in-Err.stop stopped in
-    subst (λ (r : Ran). CutOff r (g.S.Sys.made c.run_lines-ran.new.sys) c.answer.result) c.self.view_is
-    (subst (λ (made : List Made). CutOff (record { script = s; lane = lane; done = k; names = names }) made c.answer.result) (sym one.makes.made)
-    (subst (λ (stop : Answer). CutOff (record { script = s; lane = lane; done = k; names = names }) (old ++ one.more) stop) (sym c.answer.ensures) both))
+    let stands : StandsFor (record { script = s; lane = lane; done = k; between = true; names = names }) old =
+    subst (λ (b : Bool). StandsFor (record { script = s; lane = lane; done = k; between = b; names = names }) old) done
+    (subst (λ (r : Ran). StandsFor r old) (sym c.self.view_is) c.requires.stands) in
+    let asked : AsAsked lane (next_asks s lane k names) more =
+    subst (λ (p : Asking Names). AsAsked lane p more) asks (subst (λ (n : ℕ). AsAsked n (asks_left c.ask_to.new.self) more) seat one.1.asked) in
+    let due = stops_due (asks_left c.run.new.asks) c.in-Err.stop (subst (λ (q : Asking Names). StopsAt (came_as (λ n. tt) (first q)) c.in-Err.stop) (sym one.2) one.5.0) in
+    let stopped : StopsAt (next (next_asks s lane k names) (answers_of more)) c.in-Err.stop =
+    subst (λ (n : Next Names). StopsAt n c.in-Err.stop) (ap first one.2 ∙ ap (λ p. next p (answers_of more)) asks) due.0 in
+    let both = cut_next s lane k names old more stands asked c.in-Err.stop stopped in
+    subst (λ (r : Ran). CutOff r (g.S.Sys.made c.run.new.sys) c.answer.result) c.self.view_is
+    (subst (λ (b : Bool). CutOff (record { script = s; lane = lane; done = k; between = b; names = names }) (g.S.Sys.made c.run.new.sys) c.answer.result) (sym done)
+    (subst (λ (made : List Made). CutOff (record { script = s; lane = lane; done = k; between = true; names = names }) made c.answer.result) (sym one.1.made)
+    (subst (λ (stop : Answer). CutOff (record { script = s; lane = lane; done = k; between = true; names = names }) (old ++ more) stop) (sym c.answer.ensures) both)))

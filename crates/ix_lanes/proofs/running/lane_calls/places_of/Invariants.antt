@@ -3,7 +3,7 @@ use Rattle.ix_lanes.specs.asking.Asked.{no_names}
 use Rattle.ix_lanes.specs.asking.Places.{standing}
 use Rattle.ix_lanes.specs.running.Fields.{all_placed}
 use Rattle.ix_lanes.specs.running.Phases.{lane_among, seat_at}
-use Rattle.ix_lanes.proofs.running.lane_run.places_of.Given as goal
+use Rattle.ix_lanes.proofs.running.lane_calls.places_of.Given as goal
 
 abbrev pub invariant-loop-index : goal.invariant-loop-index
 invariant-loop-index l = record {

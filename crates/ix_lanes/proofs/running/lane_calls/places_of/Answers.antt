@@ -11,8 +11,8 @@ use Rattle.ix_lanes.proofs.found.Roles.{line-there, no-places}
 use Rattle.ix_lanes.proofs.found.SeatSearch.{same-seat}
 use Rattle.ix_lanes.proofs.phased.LaneLines.{seat_one_more}
 use Rattle.ix_lanes.proofs.phased.Placed.{placed-here, placed-not}
-use Rattle.ix_lanes.proofs.running.lane_run.places_of.Goals.{then-eq+then-matches+in_ok-add, in-Naming, in_default, else-eq, else-eq-via-then-eq+else-matches, else-eq-via-else-eq}
-use Rattle.ix_lanes.proofs.running.lane_run.places_of.Goals as goal
+use Rattle.ix_lanes.proofs.running.lane_calls.places_of.Goals.{then-eq+then-matches+in_ok-add, in-Naming, in_default, else-eq, else-eq-via-then-eq+else-matches, else-eq-via-else-eq}
+use Rattle.ix_lanes.proofs.running.lane_calls.places_of.Goals as goal
 
 pub loop-index-preserved : goal.loop-index-preserved
 loop-index-preserved c =

@@ -1,0 +1,68 @@
+use Rattle.std.proofs.Common.{◌+◌, List, Some, sym, ap, ◌∙◌, subst, arith}
+use Rattle.ix_asking.specs.Asking.{IsDue, first, heard}
+use Rattle.ix_script.specs.declared.line.Line.{Line}
+use Rattle.ix_lanes.specs.asking.Places.{standing}
+use Rattle.ix_lanes.specs.histories.Indexed.{line_in}
+use Rattle.ix_lanes.specs.histories.Lanes.{is_seat}
+use Rattle.ix_lanes.specs.histories.Serial.{header_of}
+use Rattle.ix_lanes.specs.running.Left.{IsHeard, LaneLeft, asks_left}
+use Rattle.ix_lanes.proofs.found.Roles.{line-there}
+use Rattle.ix_lanes.proofs.phased.Lefts.{asks_on, due_left, here_pending, line_left}
+use Rattle.ix_lanes.proofs.phased.Placed.{keeps-lines, placed-line}
+use Rattle.ix_lanes.proofs.running.lane_calls.LaneCallsAsks.hear.Goals as goal
+
+pub heard-requires-clause-due : goal.heard-requires-clause-due
+heard-requires-clause-due c =
+    let i = c.self.inside in
+    let due = subst (λ (v : LaneLeft). IsDue (first (asks_left v))) (sym c.self.view_is) c.requires.call in
+    let is = due_left i.script.now i.lane i.end i.here.at (standing i.places) (line_in i.script.now i.here.at) i.copying i.part due in
+    (header_of i.script.now, standing i.places, i.here.at + 1, i.here.line, here_pending _ _ _ _ _ _ _ _ _ _ _ c.self.invariant.1 is)
+
+pub invariant_of-self : goal.invariant_of-self
+invariant_of-self c =
+    let i = c.self.inside in
+    let due = subst (λ (v : LaneLeft). IsDue (first (asks_left v))) (sym c.self.view_is) c.requires.call in
+    let is = due_left i.script.now i.lane i.end i.here.at (standing i.places) (line_in i.script.now i.here.at) i.copying i.part due in
+    let told = c.heard.ensures (header_of i.script.now) (standing i.places) (i.here.at + 1) i.here.line (here_pending _ _ _ _ _ _ _ _ _ _ _ c.self.invariant.1 is) in (
+      c.self.invariant.0,
+      (asks_on _ _ _ _ _ _ _ _ _ _ _ c.self.invariant.1 c.heard.new.copying c.heard.new.part (record { reply = c.args.reply.now; bytes = c.args.bytes.now }) is
+          (subst (IsHeard (header_of i.script.now) (standing i.places) (i.here.at + 1) i.here.line i.copying i.part c.heard.new.copying c.heard.new.part (record { reply = c.args.reply.now; bytes = c.args.bytes.now })) c.in_default.is told)).1,
+    )
+
+pub returns-in_default-clause-asking : goal.returns-in_default-clause-asking
+returns-in_default-clause-asking c =
+    let i = c.self.inside in
+    let due = subst (λ (v : LaneLeft). IsDue (first (asks_left v))) (sym c.self.view_is) c.requires.call in
+    let is = due_left i.script.now i.lane i.end i.here.at (standing i.places) (line_in i.script.now i.here.at) i.copying i.part due in
+    let told = c.heard.ensures (header_of i.script.now) (standing i.places) (i.here.at + 1) i.here.line (here_pending _ _ _ _ _ _ _ _ _ _ _ c.self.invariant.1 is) in
+    let on = asks_on _ _ _ _ _ _ _ _ _ _ _ c.self.invariant.1 c.heard.new.copying c.heard.new.part (record { reply = c.args.reply.now; bytes = c.args.bytes.now }) is
+    (subst (IsHeard (header_of i.script.now) (standing i.places) (i.here.at + 1) i.here.line i.copying i.part c.heard.new.copying c.heard.new.part (record { reply = c.args.reply.now; bytes = c.args.bytes.now })) c.in_default.is told) in
+    line_left _ _ _ _ _ _ _ _ _ _ _ on.1 ∙ on.0
+    ∙ ap (λ x. heard x (record { reply = c.args.reply.now; bytes = c.args.bytes.now })) (sym (line_left _ _ _ _ _ _ _ _ _ _ _ c.self.invariant.1))
+    ∙ ap (λ (v : LaneLeft). heard (asks_left v) (record { reply = c.args.reply.now; bytes = c.args.bytes.now })) c.self.view_is
+
+pub bind-requires : goal.bind-requires
+bind-requires c =
+    let i = c.self.inside in
+    let s : List Line = i.script.now in
+    let due = subst (λ (v : LaneLeft). IsDue (first (asks_left v))) (sym c.self.view_is) c.requires.call in
+    let is = due_left s i.lane i.end i.here.at (standing i.places) (line_in s i.here.at) i.copying i.part due in
+    let mine = c.self.invariant.1.mine is in
+    let low = mine.0 in
+    let within = c.self.invariant.1.within in
+    placed-line s i.lane i.here.at i.here.line (line-there s i.here.at (omega (arith, low, within.1)) ∙ ap Some (sym (c.self.invariant.1.line is))) i.places
+    (sym (ap (is_seat i.lane) c.self.invariant.1.in_lane) ∙ mine.1) c.self.invariant.0.places
+
+pub find-self-inside-requires-clause-places : goal.find-self-inside-requires-clause-places
+find-self-inside-requires-clause-places c = keeps-lines c.self.inside.places c.bind.new.places c.bind.ensures.keeps _ c.self.invariant.0.places
+
+pub invariant_of-self-2 : goal.invariant_of-self-2
+invariant_of-self-2 c = (
+  record {
+    header = c.self.invariant.0.header;
+    places = keeps-lines c.bind.new.places c.find-self-inside.new.places c.find-self-inside.ensures.keeps _
+        (keeps-lines c.self.inside.places c.bind.new.places c.bind.ensures.keeps _ c.self.invariant.0.places);
+    ruled = c.self.invariant.0.ruled;
+  },
+  c.find-self-inside.ensures.here,
+)
