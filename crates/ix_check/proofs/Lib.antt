@@ -16,3 +16,5 @@ pub mod Ends
 pub mod FirstLine
 pub mod WholeText
 pub mod InputParts
+pub mod FirstLanes
+pub mod OneMade

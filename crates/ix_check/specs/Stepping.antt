@@ -13,7 +13,9 @@ use Rattle.ix_asking.specs.Asking.{Answered, Asking, Came, Due, Next, first, hea
 use Rattle.ix_asking.specs.Runs.{answer_of, entry_of}
 use Rattle.ix_lanes.specs.asking.Asked.{Names}
 use Rattle.ix_lanes.specs.histories.History.{phase_of}
+use Rattle.ix_lanes.specs.histories.Lanes.{lane_asks}
 use Rattle.ix_lanes.specs.histories.Serial.{answered}
+use Rattle.ix_lanes.specs.running.Left.{LaneLeft, asks_left}
 use Rattle.ix_replay.specs.report.Report.{entry_text}
 
 -- a lane's script and seat, and what it has still to ask for
@@ -38,6 +40,14 @@ next_phase l = option_map (λ e. phase_of l.script e.line) (next_call l)
 -- the lane once that call was answered so
 abbrev pub answered_so : LaneAt → Answered → LaneAt
 answered_so l a = record l { asking = heard l.asking a }
+
+-- what a lane of the script's library is
+abbrev pub lane_now : LaneLeft → LaneAt
+lane_now l = record { script = l.script; seat = l.seat; asking = asks_left l }
+
+-- the lane of a seat before its first call
+abbrev pub first_at : List Line → ℕ → LaneAt
+first_at s seat = record { script = s; seat = seat; asking = lane_asks s seat }
 
 -- A system made the next call of a lane, and the lane heard the answer.
 pub record MakesCall (old new : LaneAt) (before after : List Made) : Type 0 where

@@ -1,4 +1,5 @@
 ghost use Rattle.std.specs.Prelude.{◌≡◌, ◌≢◌, ℕ, List, [], IfOk, OnOk, length, true, false, ◌⊎◌};
+ghost use Rattle.std.proofs.Common.{option_map};
 ghost use Rattle.ix_model.specs.world.Naming.{same_bytes};
 ghost use Rattle.ix_model.specs.world.World.{World};
 ghost use Rattle.ix_model.specs.history.History.{world_of};
@@ -9,18 +10,22 @@ ghost use Rattle.ix_judging.specs.Lanes.{State};
 ghost use Rattle.ix_judging.specs.Walk.{closed, closes, ended, makes, told_call, walked};
 ghost use Rattle.ix_judging.specs.Walk as walk;
 ghost use Rattle.ix_check.specs.Plans.{begun, judged_plan};
-ghost use Rattle.ix_check.specs.Judging.{AreFirst, AreLeft, CameTo, IsAmong, IsAt, IsCalled, Walked, verdict_of};
+ghost use Rattle.ix_lanes.specs.asking.Ruled.{rules_told};
+ghost use Rattle.ix_check.specs.Stepping.{lane_now};
+ghost use Rattle.ix_check.specs.Judging.{AreLeft, CameTo, IsAmong, IsAt, IsCalled, Walked, verdict_of};
 ghost use Rattle.ix_check.specs.Verdicts.{IsVerdict};
 ghost use Rattle.ix_check.specs.declared.stage.Stage.TheVariants as stage;
 
-use crate::lane::{LaneSteps, all_from, all_over, print_call};
+use crate::lane::{LaneSteps, all_from, all_over, first_lanes, print_call};
 use crate::lines::first_line;
 use crate::printer::Printer;
 use crate::stage::Stage;
 use crate::told::told_seat;
 use crate::verdict::Verdict;
 use ix_core::Core;
-use ix_model::NoMemory;
+use ix_lanes::LaneCalls;
+use ix_model::{Buf, NoMemory};
+use ix_policy::Policy;
 use ix_replay::{Closing, Next};
 use ix_report::head;
 use ix_script::Script;
@@ -34,28 +39,32 @@ pub struct Judge<'a, L> {
     lanes: Vec<L>,
     /// It has the script, and the line that should stand where one is looked at.
     printer: Printer<'a>,
+    /// What the calls read.
+    buf: Buf,
     stage: Stage,
 }
 
-impl<'a, L: LaneSteps + Drop> Judge<'a, L> {
-    /// One that has looked at nothing, with a core that has no entries, and the lanes of the script by seats, none of which has made a
-    /// call. It takes all the memory that a text's judging needs, but for lines longer than 32,768 bytes.
+impl<'a> Judge<'a, LaneCalls<'a>> {
+    /// One of a script, with its policy, if it has one, and a core that has no entries, which has looked at nothing. It takes all the memory
+    /// that a text's judging needs, but for lines longer than 32,768 bytes.
     pub fn new(
         alloc: Global,
         script: &'a Script,
+        policy: Option<&'a Policy>,
         core: Core,
-        lanes: Vec<L>,
-    ) -> Result<Judge<'a, L>, NoMemory>
+    ) -> Result<Judge<'a, LaneCalls<'a>>, NoMemory>
         requires named { LanesNamed script.now }
+        requires policy { option_map (λ p. p.now) policy ≡ rules_told script.now }
         requires core { core ≡ record { config = config_of script.now; events = [] } }
-        requires lanes { AreFirst L.at script.now lanes.items }
         ensures script { IfOk result (λ judge. judge.printer.script.now ≡ script.now) }
-        ensures begins { IfOk result (λ judge. IsAt L.at script.now judge walk.Begins) }
+        ensures begins { IfOk result (λ judge. IsAt lane_now script.now judge walk.Begins) }
     {
+        let lanes = first_lanes(alloc, script, policy)?;
         Ok(Judge {
             core,
             lanes,
             printer: Printer::new(alloc, script)?,
+            buf: [0; 4096],
             stage: Stage::Begins,
         })
     }
@@ -117,7 +126,8 @@ impl<L: LaneSteps> Judge<'_, L> {
             return Ok(());
         };
         let lane = &mut self.lanes[seat as usize];
-        print_call(lane, &mut self.core, seat, &mut self.printer)?;
+        let (core, printer) = (&mut self.core, &mut self.printer);
+        print_call(lane, core, seat, printer, &mut self.buf)?;
         if self.printer.line.as_slice() != line {
             self.stage = Stage::Fails(number);
         }

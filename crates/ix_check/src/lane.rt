@@ -1,12 +1,20 @@
-ghost use Rattle.std.specs.Prelude.{◌≡◌, true, is_none, is_some, OnOk};
+ghost use Rattle.std.specs.Prelude.{◌≡◌, true, is_none, is_some, IfOk, OnOk};
+ghost use Rattle.std.proofs.Common.{option_map};
 ghost use Rattle.std.specs.List.{list_all};
 ghost use Rattle.ix_model.specs.history.Seats.{made_by};
 ghost use Rattle.ix_core.specs.Seen.{GoesSeen};
-ghost use Rattle.ix_check.specs.Stepping.{HasRoom, MakesCall, PrintsCall, is_from, next_call, next_phase};
+ghost use Rattle.ix_lanes.specs.asking.Ruled.{rules_told};
+ghost use Rattle.ix_check.specs.Judging.{AreFirst};
+ghost use Rattle.ix_check.specs.Stepping.{lane_now, HasRoom, MakesCall, PrintsCall, is_from, next_call, next_phase};
 
 use crate::printer::Printer;
+use ix_asking::make_next;
 use ix_core::{Core, SeenSys, Witness};
-use ix_model::{Answer, NoMemory, Sys};
+use ix_lanes::LaneCalls;
+use ix_model::{Answer, Buf, NoMemory, Sys};
+use ix_policy::Policy;
+use ix_script::Script;
+use std::alloc::Global;
 
 /// A lane of a script that makes one call at a time, on whatever makes its calls.
 pub trait LaneSteps {
@@ -21,8 +29,8 @@ pub trait LaneSteps {
     fn phase(&self) -> Option<u32>
         ensures { result ≡ next_phase (at self.now) };
 
-    /// Makes its next call. `Some` is a stop: nothing was made.
-    fn step<S: Sys>(&mut self, sys: &mut S) -> Option<Answer>
+    /// Makes its next call, with a buffer for what is read. `Some` is a stop: nothing was made.
+    fn step<S: Sys>(&mut self, sys: &mut S, buf: &mut Buf) -> Option<Answer>
         requires call { is_some (next_call (at self.old)) ≡ true }
         requires seat { S.seat sys.old ≡ (at self.old).seat }
         ensures made { IfNone result (MakesCall (at self.old) (at self.new) (S.made sys.old) (S.made sys.new)) }
@@ -32,8 +40,53 @@ pub trait LaneSteps {
         ensures follows { S.follows sys.old sys.new };
 }
 
+impl LaneSteps for LaneCalls<'_> {
+    ghost use Rattle.ix_check.specs.Stepping.{lane_now};
+
+    ghost at = { lane_now };
+
+    fn phase(&self) -> Option<u32> {
+        self.next_phase()
+    }
+
+    fn step<S: Sys>(&mut self, sys: &mut S, buf: &mut Buf) -> Option<Answer> {
+        match make_next(sys, self, buf) {
+            Ok(_) => None,
+            Err(stop) => Some(stop.answer()),
+        }
+    }
+}
+
+/// The lanes of a script by seats, none of which has made a call, by the script's policy, if it has one.
+pub fn first_lanes<'a>(
+    alloc: Global,
+    script: &'a Script,
+    policy: Option<&'a Policy>,
+) -> Result<Vec<LaneCalls<'a>>, NoMemory>
+    requires { option_map (λ p. p.now) policy ≡ rules_told script.now }
+    ensures { IfOk result (λ lanes. AreFirst lane_now script.now lanes.items) }
+{
+    let mut lanes = Vec::new(alloc);
+    for seat in 0..script.len() {
+        let Some(_name) = script.lane(seat) else {
+            return Ok(lanes);
+        };
+        let lane = LaneCalls::whole(alloc, script, seat, policy)?;
+        if lanes.push(lane).is_err() {
+            return Err(NoMemory);
+        }
+    }
+    Ok(lanes)
+}
+
 /// Makes the next call of a lane on a core, before a witness.
-fn make_call<L: LaneSteps, W: Witness>(lane: &mut L, core: &mut Core, seat: u32, witness: &mut W)
+fn make_call<L: LaneSteps, W: Witness>(
+    lane: &mut L,
+    core: &mut Core,
+    seat: u32,
+    witness: &mut W,
+    buf: &mut Buf,
+)
     requires call { is_some (next_call (L.at lane.old)) ≡ true }
     requires seat { seat ≡ (L.at lane.old).seat }
     requires room { HasRoom (L.at lane.old) core.old }
@@ -41,7 +94,7 @@ fn make_call<L: LaneSteps, W: Witness>(lane: &mut L, core: &mut Core, seat: u32,
     ensures on { GoesSeen W.knows seat core.old witness.old core.new witness.new }
 {
     let mut sys = SeenSys::new(core, seat, witness);
-    match lane.step(&mut sys) {
+    match lane.step(&mut sys, buf) {
         None => {}
         Some(_) => unreachable!(),
     }
@@ -53,6 +106,7 @@ pub fn print_call<L: LaneSteps>(
     core: &mut Core,
     seat: u32,
     printer: &mut Printer<'_>,
+    buf: &mut Buf,
 ) -> Result<(), NoMemory>
     requires call { is_some (next_call (L.at lane.old)) ≡ true }
     requires seat { seat ≡ (L.at lane.old).seat }
@@ -61,7 +115,7 @@ pub fn print_call<L: LaneSteps>(
     ensures made { OnOk result (PrintsCall printer.old.script.now (L.at lane.old) (L.at lane.new) core.old core.new printer.new.line.items) }
 {
     printer.wait(core);
-    make_call(lane, core, seat, printer);
+    make_call(lane, core, seat, printer, buf);
     if printer.failed {
         return Err(NoMemory);
     }

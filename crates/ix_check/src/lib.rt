@@ -13,5 +13,4 @@ mod verdict;
 
 pub use input::parts;
 pub use judge::Judge;
-pub use lane::LaneSteps;
 pub use verdict::{Verdict, push_verdict};
