@@ -3,3 +3,4 @@ pub mod words_in
 pub mod Hiding
 pub mod comes_to
 pub mod made_text
+pub mod Behind

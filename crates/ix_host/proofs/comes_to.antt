@@ -3,3 +3,4 @@ pub mod Outcomes
 pub mod Preparing
 pub mod Verdicts
 pub mod OnlyRun
+pub mod Checked

@@ -1,3 +1,4 @@
+pub mod Inputs
 pub mod Outcome
 pub mod Whole
 pub mod Teller

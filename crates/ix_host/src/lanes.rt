@@ -4,8 +4,8 @@ ghost use Rattle.ix_io.specs.Streams.{Rose};
 ghost use Rattle.ix_lanes.specs.histories.History.{IsHistory};
 ghost use Rattle.ix_host.specs.Hiding.{TakesHidingReport};
 ghost use Rattle.ix_host.specs.command.Command.{lanes_command_of, lanes_usage_line, only_run};
-ghost use Rattle.ix_host.specs.run.Outcome.{script_in};
-ghost use Rattle.ix_host.specs.run.Whole.{TakesFew, script_max};
+ghost use Rattle.ix_host.specs.run.Inputs.{script_in, script_max};
+ghost use Rattle.ix_host.specs.run.Whole.{TakesFew};
 ghost use Rattle.ix_host.specs.run.Run.{FitsCommand, ForOne, IsAnswer, ReadsOut, WritesFor, WritesLine, called_for, wanted_with};
 
 use crate::asked::command::Command;
@@ -51,8 +51,8 @@ pub fn run_lanes<S: Source, K: Sink, W: Watch, R: Threads + Wait + Sync>(
     watch: &W,
 ) -> Status
     // What is taken from the source, where that tells its bytes.
-    ensures bounded { IfSome (S.left source.old) (λ bytes. TakesFew bytes (S.left source.new)) }
-    ensures read_out { IfSome (S.left source.old) (λ bytes. ReadsOut result bytes (S.left source.new)) }
+    ensures bounded { IfSome (S.left source.old) (λ bytes. TakesFew script_max bytes (S.left source.new)) }
+    ensures read_out { IfSome (S.left source.old) (λ bytes. ReadsOut script_max result bytes (S.left source.new)) }
     ensures not_read { is_none (lanes_command_of words.now) ≡ true → source.new ≡ source.old }
 
     // What is written, where the sink tells its bytes.

@@ -1,6 +1,7 @@
 //! What holds of the reports of scripts, and of made sessions. These functions do nothing: each states a law, which is proved.
-ghost use Rattle.ix_host.specs.Laws.{LabelsInForm, LowLinesAreEqual, Readable};
+ghost use Rattle.ix_host.specs.Laws.{LabelsInForm, LowLinesAreEqual, PrintedIsYes, Readable};
 
+use ix_check::laws::printed_is_judged_good;
 use ix_iso::laws::form_one;
 use ix_label::Form;
 use ix_label::laws::spelled_or_faulty;
@@ -23,6 +24,15 @@ pub fn labels_in_form()
     scripts_fit();
     histories_fit();
     form_one();
+}
+
+/// A script that is read, and behind it the report of one of its histories, is told as a report by `check`, with as many entries as the
+/// history has. So whatever a run of the lanes side by side prints, where it is done, is told so.
+pub fn printed_is_yes()
+    ensures yes { PrintedIsYes }
+{
+    printed_is_judged_good();
+    one_history();
 }
 
 /// Each text of the generator, of 1 to 100,000 commands, has no fault, so it is a script.

@@ -2,6 +2,7 @@
 #![tactic(auto)]
 
 mod asked;
+mod checking;
 mod concluding;
 mod lanes;
 pub mod laws;

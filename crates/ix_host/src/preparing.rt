@@ -1,17 +1,19 @@
 //! What comes before the lanes of a script are run, and in the place of that.
-ghost use Rattle.std.specs.Prelude.{◌≡◌, IfSome, Some, None, true, false};
+ghost use Rattle.std.specs.Prelude.{◌≡◌, ℕ, List, IfSome, Some, None, true, false};
 ghost use Rattle.ix_io.specs.Streams.{Rose};
 ghost use Rattle.ix_script.specs.scripts.Canonical.{canonical};
 ghost use Rattle.ix_lanes.specs.asking.Ruled.{rules_told};
 ghost use Rattle.ix_host.specs.Policies.{policy_refusal};
 ghost use Rattle.ix_host.specs.command.Command.{IsCounted};
-ghost use Rattle.ix_host.specs.run.Outcome.{IsReadable, outcome_for, outcome_in, reads_source, script_in, text_for};
+ghost use Rattle.ix_host.specs.run.Inputs.{IsReadable, input_max, reads_source, report_bytes, script_bytes, script_in};
+ghost use Rattle.ix_host.specs.run.Outcome.{outcome_for, outcome_in, text_for};
 ghost use Rattle.ix_host.specs.run.Outcome as outcome;
 ghost use Rattle.ix_host.specs.run.Tasks.{IsRunnable, LeadsTo, OnRun, Prepares, TaskReadsOut};
 ghost use Rattle.ix_host.specs.run.Whole.{TakesFew};
 ghost use Rattle.ix_host.specs.run.Run.{Ends};
 
 use crate::asked::command::Command;
+use crate::checking::check;
 use crate::policies::{ScriptPolicy, policy_of};
 use crate::status::Status;
 use crate::streams::input::input_for;
@@ -19,6 +21,8 @@ use crate::streams::sending::tell;
 use crate::streams::stream::Input;
 use crate::task::{Task, Telling};
 use crate::telling::rules::{refusal, too_long_line};
+use ix_check::laws::texts_are_judged;
+use ix_check::parts;
 use ix_io::{Sink, Source};
 use ix_model::NoMemory;
 use ix_policy::Policy;
@@ -47,17 +51,18 @@ fn print<K: Sink>(alloc: Global, sink: &mut K, script: &Script) -> Status
     }
 }
 
-/// What a command asks with a script that it doesn't refuse.
+/// What a command asks with a script that it doesn't refuse, and a text that claims to be its report.
 fn accepted_task<K: Sink>(
     alloc: Global,
     sink: &mut K,
     command: Command,
     script: Script,
     policy: Option<Policy>,
+    claimed: &[u8],
 ) -> Task
     requires runnable { IsRunnable script }
     requires policy { policy ≡ rules_told script }
-    ensures leads { LeadsTo (λ history. outcome.Whole (text_for command script history)) script result (K.taken sink.old) (K.taken sink.new)
+    ensures leads { LeadsTo (λ history. outcome.Whole (text_for command script claimed.now history)) script result (K.taken sink.old) (K.taken sink.new)
         (K.finished sink.new) (K.faults sink.old) (K.faults sink.new) }
     ensures untouched { OnRun result (sink.new ≡ sink.old) }
 {
@@ -65,6 +70,7 @@ fn accepted_task<K: Sink>(
         Command::Run => Task::Run(Telling::Report, script, policy),
         Command::Print => Task::Ended(print(alloc, sink, &script)),
         Command::Gen(count) => Task::Run(Telling::Summary(count), script, policy),
+        Command::Check => Task::Ended(check(alloc, sink, &script, policy.as_ref(), claimed)),
     }
 }
 
@@ -79,7 +85,7 @@ fn refused_task<K: Sink>(
     requires runnable { IsRunnable script }
     requires policy { rules_told script ≡ None }
     requires refusal { policy_refusal script ≡ Some (line, 27) }
-    ensures leads { LeadsTo (λ history. outcome_for command script history) script result (K.taken sink.old) (K.taken sink.new)
+    ensures leads { (claimed : List ℕ) → LeadsTo (λ history. outcome_for command script claimed history) script result (K.taken sink.old) (K.taken sink.new)
         (K.finished sink.new) (K.faults sink.old) (K.faults sink.new) }
     ensures untouched { OnRun result (sink.new ≡ sink.old) }
 {
@@ -87,32 +93,57 @@ fn refused_task<K: Sink>(
         Command::Run => Task::Ended(refuse(alloc, sink, line, 27)),
         Command::Print => Task::Ended(refuse(alloc, sink, line, 27)),
         Command::Gen(count) => Task::Run(Telling::Summary(count), script, None),
+        Command::Check => Task::Ended(refuse(alloc, sink, line, 27)),
     }
 }
 
-/// What a command asks with a script.
-fn script_task<K: Sink>(alloc: Global, sink: &mut K, command: Command, script: Script) -> Task
+/// What a command asks with a script, and a text that claims to be its report.
+fn script_task<K: Sink>(
+    alloc: Global,
+    sink: &mut K,
+    command: Command,
+    script: Script,
+    claimed: &[u8],
+) -> Task
     requires { IsRunnable script }
-    ensures leads { LeadsTo (λ history. outcome_for command script history) script result (K.taken sink.old) (K.taken sink.new)
+    ensures leads { LeadsTo (λ history. outcome_for command script claimed.now history) script result (K.taken sink.old) (K.taken sink.new)
         (K.finished sink.new) (K.faults sink.old) (K.faults sink.new) }
     ensures untouched { OnRun result (sink.new ≡ sink.old) }
 {
     match policy_of(alloc, &script) {
-        Ok(ScriptPolicy::Rules(policy)) => accepted_task(alloc, sink, command, script, policy),
+        Ok(ScriptPolicy::Rules(policy)) => accepted_task(
+            alloc, sink, command, script, policy, claimed,
+        ),
         Ok(ScriptPolicy::Refused(line)) => refused_task(alloc, sink, command, script, line),
         Err(NoMemory) => Task::Ended(Status::NoMemory),
+    }
+}
+
+/// The bytes of the script in an input, and behind them those of the text that claims to be its report.
+fn parts_for(command: Command, bytes: &[u8]) -> (&[u8], &[u8])
+    ensures script { result.0.now ≡ script_bytes command bytes.now }
+    ensures claimed { result.1.now ≡ report_bytes command bytes.now }
+{
+    match command {
+        Command::Run => (bytes, b""),
+        Command::Print => (bytes, b""),
+        Command::Gen(_) => (bytes, b""),
+        Command::Check => parts(bytes),
     }
 }
 
 /// What a command asks with an input.
 fn input_task<K: Sink>(alloc: Global, sink: &mut K, command: Command, bytes: &[u8]) -> Task
     requires { IsReadable command bytes.now }
-    ensures leads { LeadsTo (λ history. outcome_in command bytes.now history) (script_in bytes.now) result (K.taken sink.old) (K.taken sink.new)
+    ensures leads { LeadsTo (λ history. outcome_in command bytes.now history) (script_in (script_bytes command bytes.now)) result (K.taken sink.old) (K.taken sink.new)
         (K.finished sink.new) (K.faults sink.old) (K.faults sink.new) }
     ensures untouched { OnRun result (sink.new ≡ sink.old) }
 {
-    match read(alloc, bytes) {
-        Ok(script) => script_task(alloc, sink, command, script),
+    // That the lanes have names rests on this law.
+    texts_are_judged();
+    let (part, claimed) = parts_for(command, bytes);
+    match read(alloc, part) {
+        Ok(script) => script_task(alloc, sink, command, script, claimed),
         Err(ReadFail::Fault(fault)) => Task::Ended(refuse(alloc, sink, fault.line, fault.rule)),
         Err(ReadFail::NoMemory) => Task::Ended(Status::NoMemory),
     }
@@ -128,8 +159,8 @@ pub fn prepare<S: Source, K: Sink>(
 ) -> Task
     requires { IfSome asked IsCounted }
     // What is read.
-    ensures bounded { IfSome (S.left source.old) (λ bytes. TakesFew bytes (S.left source.new)) }
-    ensures read_out { reads_source asked ≡ true → IfSome (S.left source.old) (λ bytes. TaskReadsOut result bytes (S.left source.new)) }
+    ensures bounded { IfSome (S.left source.old) (λ bytes. TakesFew (input_max asked) bytes (S.left source.new)) }
+    ensures read_out { reads_source asked ≡ true → IfSome (S.left source.old) (λ bytes. TaskReadsOut (input_max asked) result bytes (S.left source.new)) }
     ensures not_read { reads_source asked ≡ false → source.new ≡ source.old }
     ensures kept { ¬ (result ≡ Task.Ended Status.ReadFault) → S.faults source.new ≡ S.faults source.old }
 

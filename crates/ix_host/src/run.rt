@@ -1,11 +1,13 @@
 //! The top call of the program that runs the lanes one after the other.
-ghost use Rattle.std.specs.Prelude.{◌≡◌, ℕ, ◌<◌, ◌⊎◌, Some, true, false, is_none, length, IfSome};
+ghost use Rattle.std.specs.Prelude.{◌≡◌, ℕ, ◌⊎◌, Some, true, false, is_none, IfSome};
 ghost use Rattle.ix_io.specs.Streams.{Rose};
 ghost use Rattle.ix_lanes.specs.histories.Serial.{serial};
 ghost use Rattle.ix_host.specs.Hiding.{TakesHidingReport};
 ghost use Rattle.ix_host.specs.command.Command.{command_of, usage_line};
-ghost use Rattle.ix_host.specs.run.Outcome.{input_of, reads_source, script_in};
-ghost use Rattle.ix_host.specs.run.Whole.{TakesFew, script_max};
+ghost use Rattle.ix_check.specs.Parts.{report_part, script_part};
+ghost use Rattle.ix_host.specs.Judged.{TakesVerdict};
+ghost use Rattle.ix_host.specs.run.Inputs.{IsTooLong, input_max, input_of, reads_source, script_in};
+ghost use Rattle.ix_host.specs.run.Whole.{TakesFew};
 ghost use Rattle.ix_host.specs.run.Run.{FitsCommand, IsAnswer, ReadsOut, WritesFor, WritesLine, called_for, wanted};
 
 use crate::asked::command::Command;
@@ -14,12 +16,15 @@ use crate::concluding::tell_serial;
 use crate::preparing::prepare;
 use crate::status::Status;
 use crate::task::Task;
+use ix_check::laws::texts_are_judged;
 use ix_io::{Sink, Source};
 use std::alloc::Global;
 
 /// Does what the words ask: `run` reads a script from the source, runs it, and writes its report to the sink; `print` writes
 /// the canonical text of the script; `gen` reads nothing, and runs the generator's script with the count's commands and
-/// writes the summary of that run. All else is answered by the usage line. It waits for nobody.
+/// writes the summary of that run; `check` reads a script and behind it a text, and writes whether that is the report of one of
+/// the script's histories, and where not, the first line at which no such report goes on. All else is answered by the usage line.
+/// It waits for nobody.
 pub fn run_serial<S: Source, K: Sink>(
     alloc: Global,
     words: &Words,
@@ -27,8 +32,8 @@ pub fn run_serial<S: Source, K: Sink>(
     sink: &mut K,
 ) -> Status
     // What is taken from the source, where that tells its bytes.
-    ensures bounded { IfSome (S.left source.old) (λ bytes. TakesFew bytes (S.left source.new)) }
-    ensures read_out { reads_source (command_of words.now) ≡ true → IfSome (S.left source.old) (λ bytes. ReadsOut result bytes (S.left source.new)) }
+    ensures bounded { IfSome (S.left source.old) (λ bytes. TakesFew (input_max (command_of words.now)) bytes (S.left source.new)) }
+    ensures read_out { reads_source (command_of words.now) ≡ true → IfSome (S.left source.old) (λ bytes. ReadsOut (input_max (command_of words.now)) result bytes (S.left source.new)) }
     ensures not_read { reads_source (command_of words.now) ≡ false → source.new ≡ source.old }
 
     // What is written, where the sink tells its bytes, and the source those that are read.
@@ -38,6 +43,8 @@ pub fn run_serial<S: Source, K: Sink>(
     ensures finished { IsAnswer result → K.finished sink.new ≡ true }
     ensures hides { result ≡ Status.Done → command_of words.now ≡ Some Command.Run → IfSome (S.left source.old) (λ bytes.
         IfSome (K.taken sink.old) (λ taken. TakesHidingReport (script_in bytes) (serial (script_in bytes)) taken (K.taken sink.new))) }
+    ensures judged { result ≡ Status.Done → command_of words.now ≡ Some Command.Check → IfSome (S.left source.old) (λ bytes.
+        IfSome (K.taken sink.old) (λ taken. TakesVerdict (script_in (script_part bytes)) (report_part bytes) taken (K.taken sink.new))) }
     ensures not_written { result ≡ Status.ReadFault → sink.new ≡ sink.old }
 
     // When each status comes.
@@ -45,7 +52,7 @@ pub fn run_serial<S: Source, K: Sink>(
     ensures answer { IsAnswer result → IfSome (input_of (command_of words.now) (S.left source.old)) (λ bytes.
         result ≡ called_for (command_of words.now) bytes) }
     ensures quiet { IsAnswer result → (S.faults source.new ≡ S.faults source.old) × (K.faults sink.new ≡ K.faults sink.old) }
-    ensures too_long { result ≡ Status.Script 1 1 → IfSome (S.left source.old) (λ bytes. script_max < length bytes) }
+    ensures too_long { result ≡ Status.Script 1 1 → IfSome (S.left source.old) (λ bytes. IsTooLong (command_of words.now) bytes) }
     ensures read_fault { result ≡ Status.ReadFault → Rose (S.faults source.old) (S.faults source.new) }
     ensures write_fault { result ≡ Status.WriteFault → Rose (K.faults sink.old) (K.faults sink.new) }
 
@@ -58,10 +65,12 @@ pub fn run_serial<S: Source, K: Sink>(
         → IfSome (input_of (command_of words.now) (S.left source.old)) (λ bytes.
         (result ≡ called_for (command_of words.now) bytes) ⊎ (result ≡ Status.NoMemory)) }
 {
+    // The proof of `judged` rests on this law.
+    texts_are_judged();
     let Ok(asked) = words.command(alloc) else {
         return Status::NoMemory;
     };
-    let usage = b"usage: ixone run | print | gen COUNT\n";
+    let usage = b"usage: ixone run | print | gen COUNT | check\n";
     match prepare(alloc, usage, asked, source, sink) {
         Task::Ended(status) => status,
         Task::Run(telling, script, policy) => {

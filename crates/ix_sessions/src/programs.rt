@@ -1,4 +1,5 @@
 mod apart;
+mod checks;
 mod copies;
 mod failing;
 mod floats;
@@ -15,7 +16,7 @@ use std::alloc::Global;
 use std::process::Abort;
 
 /// What is written where the words are no command.
-const USAGE: &[u8] = b"usage: ixone run | print | gen COUNT\n";
+const USAGE: &[u8] = b"usage: ixone run | print | gen COUNT | check\n";
 
 /// The calls at which a source and a sink fail, and the room of the sink.
 #[derive(Clone, Copy)]

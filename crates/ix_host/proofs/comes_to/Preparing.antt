@@ -10,11 +10,11 @@ use Rattle.ix_host.specs.declared.status.Status.{Status}
 use Rattle.ix_host.specs.declared.status.Status.TheVariants as status
 use Rattle.ix_host.specs.declared.task.Task.{Task}
 use Rattle.ix_host.specs.declared.task.Task.TheVariants as task
-use Rattle.ix_host.specs.run.Outcome.{Outcome, input_of, outcome_in, outcome_of, reads_source, script_in, text_of}
+use Rattle.ix_host.specs.run.Inputs.{input_max, input_of, reads_source, script_bytes, script_in}
+use Rattle.ix_host.specs.run.Outcome.{Outcome, outcome_in, outcome_of, text_of}
 use Rattle.ix_host.specs.run.Outcome as outcome
 use Rattle.ix_host.specs.run.Run.{Ends, IsEndOf, ReadsOut, WritesFor}
 use Rattle.ix_host.specs.run.Tasks.{LeadsTo, OnRun, Prepares, TaskReadsOut}
-use Rattle.ix_host.specs.run.Whole.{script_max}
 use Rattle.ix_host.proofs.comes_to.Outcomes.{outcome_too_long}
 
 -- a run of lanes is no end
@@ -54,26 +54,27 @@ leads_somewhere of s (task.Run told script policy) taken after done before now h
 
 -- ---- the source
 -- it was read to its end
-pub whole_read_out : (job : Task) (first left : Option (List ℕ)) (read : List ℕ) → IfSome first (λ bytes. (read ≡ bytes) × (left ≡ Some []) × (length bytes ≤ script_max)) → IfSome first (λ bytes. TaskReadsOut job bytes left)
-whole_read_out job None left read w = tt
-whole_read_out (task.Run told script policy) (Some bytes) left read w = w.1
-whole_read_out (task.Ended status.Done) (Some bytes) left read w = w.1
-whole_read_out (task.Ended status.Usage) (Some bytes) left read w = tt
-whole_read_out (task.Ended (status.Script line rule)) (Some bytes) left read w = w.1 ∙ ap Some (sym (drop_all (script_max + 1) bytes (omega (arith, w.2))))
-whole_read_out (task.Ended status.ReadFault) (Some bytes) left read w = tt
-whole_read_out (task.Ended status.WriteFault) (Some bytes) left read w = tt
-whole_read_out (task.Ended status.NoMemory) (Some bytes) left read w = tt
+pub whole_read_out : (most : ℕ) (job : Task) (first left : Option (List ℕ)) (read : List ℕ) → IfSome first (λ bytes. (read ≡ bytes) × (left ≡ Some []) × (length bytes ≤ most))
+    → IfSome first (λ bytes. TaskReadsOut most job bytes left)
+whole_read_out most job None left read w = tt
+whole_read_out most (task.Run told script policy) (Some bytes) left read w = w.1
+whole_read_out most (task.Ended status.Done) (Some bytes) left read w = w.1
+whole_read_out most (task.Ended status.Usage) (Some bytes) left read w = tt
+whole_read_out most (task.Ended (status.Script line rule)) (Some bytes) left read w = w.1 ∙ ap Some (sym (drop_all (most + 1) bytes (omega (arith, w.2))))
+whole_read_out most (task.Ended status.ReadFault) (Some bytes) left read w = tt
+whole_read_out most (task.Ended status.WriteFault) (Some bytes) left read w = tt
+whole_read_out most (task.Ended status.NoMemory) (Some bytes) left read w = tt
 
--- or to one byte more than a script may have
-pub long_read_out : (end : Status) (first left : Option (List ℕ)) → IsEndOf (outcome.Refused 1 1) end → IfSome first (λ bytes. (script_max < length bytes) × (left ≡ Some (drop (script_max + 1) bytes)))
-    → IfSome first (λ bytes. ReadsOut end bytes left)
-long_read_out end None left is w = tt
-long_read_out status.Done (Some bytes) left is w = cc
-long_read_out status.Usage (Some bytes) left is w = tt
-long_read_out (status.Script line rule) (Some bytes) left is w = w.1
-long_read_out status.ReadFault (Some bytes) left is w = tt
-long_read_out status.WriteFault (Some bytes) left is w = tt
-long_read_out status.NoMemory (Some bytes) left is w = tt
+-- or to one byte more than an input may have
+pub long_read_out : (most : ℕ) (end : Status) (first left : Option (List ℕ)) → IsEndOf (outcome.Refused 1 1) end → IfSome first (λ bytes. (most < length bytes) × (left ≡ Some (drop (most + 1) bytes)))
+    → IfSome first (λ bytes. ReadsOut most end bytes left)
+long_read_out most end None left is w = tt
+long_read_out most status.Done (Some bytes) left is w = cc
+long_read_out most status.Usage (Some bytes) left is w = tt
+long_read_out most (status.Script line rule) (Some bytes) left is w = w.1
+long_read_out most status.ReadFault (Some bytes) left is w = tt
+long_read_out most status.WriteFault (Some bytes) left is w = tt
+long_read_out most status.NoMemory (Some bytes) left is w = tt
 
 -- ---- what is asked for
 -- what is told, or else this
@@ -104,17 +105,17 @@ module _ (usage : List ℕ) (asked : Option Command) (left taken : Option (List 
 
   -- the input was too long
   pub long_prepared : (c : Command) (end : Status) (after : Option (List ℕ)) (done : Bool) (before now : ℕ) → asked ≡ Some c → reads_source (Some c) ≡ true
-      → IfSome (input_of (Some c) left) (λ bytes. script_max < length bytes) → Ends (outcome.Refused 1 1) end taken after done before now
+      → IfSome (input_of (Some c) left) (λ bytes. input_max (Some c) < length bytes) → Ends (outcome.Refused 1 1) end taken after done before now
       → Prepares usage asked left (task.Ended end) taken after done before now
   long_prepared c end after done before now is reads long e =
-      let d = longer script_max in
+      let d = longer (input_max (Some c)) in
       let b = unwrap_or (input_of (Some c) left) d.0 in
-      let over : script_max < length b = long_or script_max (input_of (Some c) left) d.0 d.1 long in
+      let over : input_max (Some c) < length b = long_or (input_max (Some c)) (input_of (Some c) left) d.0 d.1 long in
       subst (λ a. Prepares usage a left (task.Ended end) taken after done before now) (sym is)
       (record { bytes = b; told = told_or (input_of (Some c) left) d.0; leads = λ history. ends_as (outcome_too_long c b history reads (lt-ltb _ _ over)) e })
 
   -- the input was read whole
   pub whole_prepared : (c : Command) (job : Task) (after : Option (List ℕ)) (done : Bool) (before now : ℕ) (read : List ℕ) → asked ≡ Some c → IfSome (input_of (Some c) left) (λ bytes. read ≡ bytes)
-      → LeadsTo (λ history. outcome_in c read history) (script_in read) job taken after done before now → Prepares usage asked left job taken after done before now
+      → LeadsTo (λ history. outcome_in c read history) (script_in (script_bytes c read)) job taken after done before now → Prepares usage asked left job taken after done before now
   whole_prepared c job after done before now read is told h =
       subst (λ a. Prepares usage a left job taken after done before now) (sym is) (record { bytes = read; told = told; leads = h })

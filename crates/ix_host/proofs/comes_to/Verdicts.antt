@@ -1,7 +1,6 @@
 -- What the top calls promise of a run that came to an end.
-use Rattle.std.proofs.Common.{◌≡◌, ℕ, ◌<◌, Bool, true, List, [], ◌++◌, length, Option, Some, None, is_none, refl, sym, ap, ◌∙◌, subst, inl, inr, nat_lt, ◌⊎◌}
+use Rattle.std.proofs.Common.{◌≡◌, ℕ, ◌<◌, Bool, true, List, [], ◌++◌, length, Option, Some, None, is_none, refl, sym, ap, ◌∙◌, subst, inl, inr, ◌⊎◌}
 use Rattle.std.specs.Prelude.{IfSome}
-use Rattle.std.proofs.lemmas.Bool.{cases_Bool, ltb-true}
 use Rattle.ix_io.specs.Streams.{Rose}
 use Rattle.ix_iso.proofs.Hiding.{hides}
 use Rattle.ix_model.specs.history.Events.{Event}
@@ -15,11 +14,11 @@ use Rattle.ix_host.specs.declared.status.Status.TheVariants as status
 use Rattle.ix_host.specs.Hiding.{TakesHidingReport, world_opened}
 use Rattle.ix_host.specs.declared.task.Task.TheVariants as task
 use Rattle.ix_host.specs.declared.task.Telling.{Telling}
+use Rattle.ix_host.specs.run.Inputs.{IsTooLong, input_of, reads_source, script_for, script_in, script_max}
 use Rattle.ix_host.specs.run.Tasks.{Prepares, text_told}
 use Rattle.ix_host.specs.run.Outcome as outcome
-use Rattle.ix_host.specs.run.Outcome.{Outcome, input_of, outcome_in, outcome_of, reads_source, script_in, status_of, text_for, text_of}
+use Rattle.ix_host.specs.run.Outcome.{Outcome, outcome_in, outcome_of, status_of, text_for, text_of}
 use Rattle.ix_host.specs.run.Run.{Ends, FitsCommand, ForOne, IsAnswer, IsEndOf, ReadsOut, WritesFor, WritesLine, called_for}
-use Rattle.ix_host.specs.run.Whole.{script_max}
 use Rattle.ix_host.proofs.Hiding.{low_lines}
 use Rattle.ix_host.proofs.comes_to.Preparing.{ends_as, unwritten}
 use Rattle.ix_host.proofs.comes_to.Outcomes.{done_text, first_rule, made_done, never_usage, refusal_text, status_is, usage_called}
@@ -54,6 +53,7 @@ fits_asked (Some c) bytes status.Usage h f = absurd (never_usage c bytes (h tt))
 fits_asked None bytes (status.Script l r) h f = let no : status.Script l r ≡ status.Usage = h tt in cc
 fits_asked (Some command.Run) bytes (status.Script l r) h f = refl
 fits_asked (Some command.Print) bytes (status.Script l r) h f = refl
+fits_asked (Some command.Check) bytes (status.Script l r) h f = refl
 fits_asked (Some (command.Gen n)) bytes (status.Script l r) h f = let no : status.Script l r ≡ status.Done = h tt ∙ made_done n bytes in cc
 fits_asked asked bytes status.ReadFault h f = f refl
 fits_asked asked bytes status.WriteFault h f = tt
@@ -66,17 +66,12 @@ of_input None b P told h = tt
 of_input (Some input) b P told h = subst P told h
 
 -- one that is refused by the first rule is too long
-long : (c : Command) (b : List ℕ) → status.Script 1 1 ≡ called_for (Some c) b → script_max < length b
-long c b h = elim (cases_Bool (nat_lt script_max (length b))) [
-  | inl is ↦ ltb-true script_max (length b) is
-  | inr is ↦ absurd (first_rule c b 1 is h)
-]
-
-long_input : (asked : Option Command) (left : Option (List ℕ)) (b : List ℕ) → IfSome (input_of asked left) (λ input. b ≡ input) → status.Script 1 1 ≡ called_for asked b → IfSome left (λ bytes. script_max < length bytes)
+long_input : (asked : Option Command) (left : Option (List ℕ)) (b : List ℕ) → IfSome (input_of asked left) (λ input. b ≡ input) → status.Script 1 1 ≡ called_for asked b → IfSome left (λ bytes. IsTooLong asked bytes)
 unfolding called_for
 long_input None left b told h = cc
-long_input (Some command.Run) left b told h = of_input left b (λ bytes. script_max < length bytes) told (long command.Run b h)
-long_input (Some command.Print) left b told h = of_input left b (λ bytes. script_max < length bytes) told (long command.Print b h)
+long_input (Some command.Run) left b told h = of_input left b (λ bytes. script_max < length bytes) told (first_rule command.Run b h)
+long_input (Some command.Print) left b told h = of_input left b (λ bytes. script_max < length bytes) told (first_rule command.Print b h)
+long_input (Some command.Check) left b told h = of_input left b (λ bytes. IsTooLong (Some command.Check) bytes) told (first_rule command.Check b h)
 long_input (Some (command.Gen n)) left b told h = let no : status.Script 1 1 ≡ status.Done = h ∙ made_done n b in cc
 
 -- ---- what is written
@@ -146,19 +141,19 @@ pub record CameTo (Comes : List Line → List Event → Type 0) (usage : List �
   pub bytes : List ℕ
   pub told : IfSome (input_of asked left) (λ input. bytes ≡ input)
   pub history : List Event
-  pub is : Comes (script_in bytes) history
+  pub is : Comes (script_for asked bytes) history
   pub ends : Ends (outcome_of usage asked bytes history) end taken after done before now
 
 -- what is promised where no read failed, and where one did
 pub record Verdict (Comes : List Line → List Event → Type 0) (usage : List ℕ) (asked : Option Command) (left : Option (List ℕ)) (end : Status) (taken after : Option (List ℕ)) (done : Bool) (before now : ℕ) : Type 0 where
-  pub written : IfSome (input_of asked left) (λ bytes. IfSome taken (λ t. ForOne (Comes (script_in bytes)) (λ history. WritesFor end (text_of (outcome_of usage asked bytes history)) t after)))
+  pub written : IfSome (input_of asked left) (λ bytes. IfSome taken (λ t. ForOne (Comes (script_for asked bytes)) (λ history. WritesFor end (text_of (outcome_of usage asked bytes history)) t after)))
   pub line : IfSome taken (λ t. WritesLine usage end t after)
   pub finished : IsAnswer end → done ≡ true
   pub hides : end ≡ status.Done → asked ≡ Some command.Run → IfSome left (λ bytes. IfSome taken (λ t. ForOne (Comes (script_in bytes)) (λ history. TakesHidingReport (script_in bytes) history t after)))
   pub fits : FitsCommand end asked
   pub answer : IsAnswer end → IfSome (input_of asked left) (λ bytes. end ≡ called_for asked bytes)
   pub kept : IsAnswer end → now ≡ before
-  pub too_long : end ≡ status.Script 1 1 → IfSome left (λ bytes. script_max < length bytes)
+  pub too_long : end ≡ status.Script 1 1 → IfSome left (λ bytes. IsTooLong asked bytes)
   pub write_fault : end ≡ status.WriteFault → Rose before now
   pub usage_only : is_none asked ≡ true → (Rose before now → ⊥) → (end ≡ status.Usage) ⊎ (end ≡ status.NoMemory)
   pub made : (n : ℕ) → asked ≡ Some (command.Gen n) → (Rose before now → ⊥) → (end ≡ status.Done) ⊎ (end ≡ status.NoMemory)
@@ -178,11 +173,11 @@ module _ {Comes : List Line → List Event → Type 0} {usage : List ℕ} {asked
         | inr is ↦ inr is
       ] in
       record {
-        written = of_input (input_of asked left) b _ c.told (text_of_one (Comes (script_in b)) (λ k. outcome_of usage asked b k) end taken after h c.is e.text);
+        written = of_input (input_of asked left) b _ c.told (text_of_one (Comes (script_for asked b)) (λ k. outcome_of usage asked b k) end taken after h c.is e.text);
         line = lines_of usage asked b h end taken after e.fits e.text;
         finished = e.finished;
         hides = λ is run. of_input left b _ (subst (λ a. IfSome (input_of a left) (λ input. b ≡ input)) run c.told)
-            (hiding_one (Comes (script_in b)) b end taken after h c.is is (subst (λ a. IsEndOf (outcome_of usage a b h) end) run e.fits)
+            (hiding_one (Comes (script_in b)) b end taken after h (subst (λ a. Comes (script_for a b) h) run c.is) is (subst (λ a. IsEndOf (outcome_of usage a b h) end) run e.fits)
             (subst (λ a. IfSome taken (λ t. WritesFor end (text_of (outcome_of usage a b h)) t after)) run e.text));
         fits = fits_asked asked b end answers (λ is. absurd (never is));
         answer = λ a. of_input (input_of asked left) b _ c.told (answers a);
@@ -204,7 +199,7 @@ module _ {Comes : List Line → List Event → Type 0} {usage : List ℕ} {asked
 faulted : (Comes : List Line → List Event → Type 0) → ((s : List Line) → Comes s (serial s)) → (usage : List ℕ) (asked : Option Command) (left taken : Option (List ℕ)) (done : Bool) (before now : ℕ) → reads_source asked ≡ true
     → Verdict Comes usage asked left status.ReadFault taken taken done before now
 faulted Comes serials usage asked left taken done before now reads = record {
-  written = of_any (input_of asked left) _ (λ b. nothing_of_one (Comes (script_in b)) (λ k. outcome_of usage asked b k) taken (serial (script_in b)) (serials (script_in b)));
+  written = of_any (input_of asked left) _ (λ b. nothing_of_one (Comes (script_for asked b)) (λ k. outcome_of usage asked b k) taken (serial (script_for asked b)) (serials (script_for asked b)));
   line = no_line usage taken;
   finished = λ a. absurd a;
   hides = λ is run. cc;
@@ -227,7 +222,7 @@ verdict_ended Comes serials usage asked left end taken after done before now rea
       let nothing : Verdict Comes usage asked left status.ReadFault taken taken done before now = faulted Comes serials usage asked left taken done before now (reads is) in
       subst (λ (x : Status). Verdict Comes usage asked left x taken after done before now) (sym is)
       (subst (λ (o : Option (List ℕ)). Verdict Comes usage asked left status.ReadFault taken o done before now) (sym (none is)) nothing)
-  | inr not ↦ let p = prepared not in came (record { bytes = p.bytes; told = p.told; history = serial (script_in p.bytes); is = serials (script_in p.bytes); ends = p.leads (serial (script_in p.bytes)) })
+  | inr not ↦ let p = prepared not in came (record { bytes = p.bytes; told = p.told; history = serial (script_for asked p.bytes); is = serials (script_for asked p.bytes); ends = p.leads (serial (script_for asked p.bytes)) })
 ]
   where
     is_fault : (s : Status) → (s ≡ status.ReadFault) ⊎ (s ≡ status.ReadFault → ⊥)
@@ -260,21 +255,23 @@ pub told_read : (text : List ℕ) (end : Status) → IsEndOf (outcome.Whole text
 told_read text end h is = subst (IsEndOf (outcome.Whole text)) is h
 
 -- then the source was read to its end
-pub told_read_out : (text : List ℕ) (end : Status) (first left : Option (List ℕ)) → IsEndOf (outcome.Whole text) end → IfSome first (λ bytes. left ≡ Some []) → IfSome first (λ bytes. ReadsOut end bytes left)
-told_read_out text end None left h w = tt
-told_read_out text status.Done (Some bytes) left h w = w
-told_read_out text status.Usage (Some bytes) left h w = tt
-told_read_out text (status.Script line rule) (Some bytes) left h w = cc
-told_read_out text status.ReadFault (Some bytes) left h w = tt
-told_read_out text status.WriteFault (Some bytes) left h w = tt
-told_read_out text status.NoMemory (Some bytes) left h w = tt
+pub told_read_out : (most : ℕ) (text : List ℕ) (end : Status) (first left : Option (List ℕ)) → IsEndOf (outcome.Whole text) end → IfSome first (λ bytes. left ≡ Some [])
+    → IfSome first (λ bytes. ReadsOut most end bytes left)
+told_read_out most text end None left h w = tt
+told_read_out most text status.Done (Some bytes) left h w = w
+told_read_out most text status.Usage (Some bytes) left h w = tt
+told_read_out most text (status.Script line rule) (Some bytes) left h w = cc
+told_read_out most text status.ReadFault (Some bytes) left h w = tt
+told_read_out most text status.WriteFault (Some bytes) left h w = tt
+told_read_out most text status.NoMemory (Some bytes) left h w = tt
 
 -- where the serial history is the only one, what holds of one history holds of that
-pub at_serial : (first taken : Option (List ℕ)) (P : List ℕ → List ℕ → List Event → Type 0) → IfSome first (λ bytes. IfSome taken (λ t. ForOne (λ history. history ≡ serial (script_in bytes)) (λ history. P bytes t history)))
-    → IfSome first (λ bytes. IfSome taken (λ t. P bytes t (serial (script_in bytes))))
-at_serial None taken P h = tt
-at_serial (Some bytes) None P h = tt
-at_serial (Some bytes) (Some t) P h = subst (P bytes t) h.is h.holds
+pub at_serial : (script : List ℕ → List Line) (first taken : Option (List ℕ)) (P : List ℕ → List ℕ → List Event → Type 0)
+    → IfSome first (λ bytes. IfSome taken (λ t. ForOne (λ history. history ≡ serial (script bytes)) (λ history. P bytes t history)))
+    → IfSome first (λ bytes. IfSome taken (λ t. P bytes t (serial (script bytes))))
+at_serial script None taken P h = tt
+at_serial script (Some bytes) None P h = tt
+at_serial script (Some bytes) (Some t) P h = subst (P bytes t) h.is h.holds
 
 -- nothing is written where memory ran out
 pub memory_written : (Comes : List Line → List Event → Type 0) → ((s : List Line) → Comes s (serial s)) → (text : List ℕ → List Event → List ℕ) (first taken : Option (List ℕ))

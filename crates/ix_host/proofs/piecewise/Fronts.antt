@@ -3,7 +3,7 @@ use Rattle.std.proofs.Common.{◌≡◌, ℕ, ◌+◌, ◌-◌, ◌<◌, ◌≤�
 use Rattle.std.specs.Prelude.{IfSome}
 use Rattle.std.proofs.Math.Seq.{take-add}
 use Rattle.ix_io.specs.Streams.{Reads, ReadsTold, ReadsFirst, Takes}
-use Rattle.ix_host.specs.run.Whole.{IsFront, script_max}
+use Rattle.ix_host.specs.run.Whole.{IsFront}
 
 -- where a fact about what is told gives another
 pub if_some_along : {A : Type 0} (o : Option A) (P Q : A → Type 0) → ((a : A) → P a → Q a) → IfSome o P → IfSome o Q
@@ -28,10 +28,10 @@ front_grows all read left after n buf h got within =
       rest = got.rest ∙ ap Some (rw (grown, drop-drop) refl);
     }
 
--- what is left where one byte more was read than a script may have
-pub too_long : (all read : List ℕ) (left : Option (List ℕ)) → IsFront all read left → length read ≡ script_max + 1
-    → (script_max < length all) × (left ≡ Some (drop (script_max + 1) all))
-too_long all read left h n = (omega (arith, h.within), h.rest ∙ ap (λ k. Some (drop k all)) n)
+-- what is left where one byte more was read than an input may have
+pub too_long : (most : ℕ) (all read : List ℕ) (left : Option (List ℕ)) → IsFront all read left → length read ≡ most + 1
+    → (most < length all) × (left ≡ Some (drop (most + 1) all))
+too_long most all read left h n = (omega (arith, h.within), h.rest ∙ ap (λ k. Some (drop k all)) n)
 
 -- a write where some front went out already
 pub wrote_more : (E : Type 0) (first before after : Option (List ℕ)) (text : List ℕ) (at n : ℕ)

@@ -5,9 +5,10 @@ use Rattle.ix_model.specs.history.Events.{Event}
 use Rattle.ix_io.specs.Streams.{Rose}
 use Rattle.ix_lanes.specs.histories.Serial.{serial}
 use Rattle.ix_host.specs.command.Command.{command_of, lanes_command_of, lanes_usage_line, usage_line}
-use Rattle.ix_host.specs.run.Outcome.{Outcome, outcome_of, reads_source, refusal_of, script_in, status_of, text_of}
+use Rattle.ix_host.specs.run.Inputs.{reads_source, script_for}
+use Rattle.ix_host.specs.run.Outcome.{Outcome, outcome_of, refusal_of, status_of, text_of}
 use Rattle.ix_host.specs.report.Rules.{refusal_line}
-use Rattle.ix_host.specs.run.Whole.{script_max, WritesFront}
+use Rattle.ix_host.specs.run.Whole.{WritesFront}
 use Rattle.ix_host.specs.declared.asked.command.Command.{Command}
 use Rattle.ix_host.specs.declared.status.Status.{Status}
 use Rattle.ix_host.specs.declared.status.Status.TheVariants as status
@@ -15,7 +16,7 @@ use Rattle.ix_host.specs.declared.status.Status.TheVariants as status
 -- ---- what is called for
 -- the text that the words and an input call for, with the serial history of the script
 abbrev pub wanted : List (List ℕ) → List ℕ → List ℕ
-wanted words bytes = text_of (outcome_of usage_line (command_of words) bytes (serial (script_in bytes)))
+wanted words bytes = text_of (outcome_of usage_line (command_of words) bytes (serial (script_for (command_of words) bytes)))
 
 -- the text that the words of the program that runs the lanes side by side and an input call for, with a history of the script
 abbrev pub wanted_with : List (List ℕ) → List ℕ → List Event → List ℕ
@@ -61,11 +62,11 @@ FitsCommand status.WriteFault command = Unit {0}
 FitsCommand status.NoMemory command = Unit {0}
 
 -- ---- what is read and written
--- How far the source was read: to its end, or for a refusal to one byte more than a script may have.
-abbrev pub ReadsOut : Status → List ℕ → Option (List ℕ) → Type 0
-ReadsOut status.Done bytes after = after ≡ Some []
-ReadsOut (status.Script line rule) bytes after = after ≡ Some (drop (script_max + 1) bytes)
-ReadsOut _ bytes after = Unit {0}
+-- How far the source was read: to its end, or for a refusal to one byte more than the input may have.
+abbrev pub ReadsOut : ℕ → Status → List ℕ → Option (List ℕ) → Type 0
+ReadsOut most status.Done bytes after = after ≡ Some []
+ReadsOut most (status.Script line rule) bytes after = after ≡ Some (drop (most + 1) bytes)
+ReadsOut most _ bytes after = Unit {0}
 
 -- What went out: the wanted text, none of it, or some front of it.
 abbrev pub WritesFor : Status → List ℕ → List ℕ → Option (List ℕ) → Type 0

@@ -5,6 +5,7 @@ use Rattle.ix_script.specs.lines.Before.{lanes_of}
 use Rattle.ix_script.specs.declared.line.Line.{Line}
 use Rattle.ix_lanes.specs.asking.Ruled.{rules_told}
 use Rattle.ix_serial.specs.Sections.{has_placed_lanes}
+use Rattle.ix_replay.specs.report.Fixed.{LanesNamed}
 use Rattle.ix_replay.specs.report.Report.{report_of}
 use Rattle.ix_replay.specs.Summary.{summary_line}
 use Rattle.ix_host.specs.declared.asked.command.Command.{Command}
@@ -12,7 +13,8 @@ use Rattle.ix_host.specs.declared.task.Task.{Task}
 use Rattle.ix_host.specs.declared.task.Task.TheVariants as task
 use Rattle.ix_host.specs.declared.task.Telling.{Telling}
 use Rattle.ix_host.specs.declared.task.Telling.TheVariants as telling
-use Rattle.ix_host.specs.run.Outcome.{Outcome, input_of, outcome_of, script_in}
+use Rattle.ix_host.specs.run.Inputs.{input_of, script_for}
+use Rattle.ix_host.specs.run.Outcome.{Outcome, outcome_of}
 use Rattle.ix_host.specs.run.Outcome as outcome
 use Rattle.ix_host.specs.run.Run.{Ends, ReadsOut}
 
@@ -21,10 +23,12 @@ abbrev pub text_told : Telling → List Line → List Event → List ℕ
 text_told telling.Report s history = report_of s history
 text_told (telling.Summary n) s history = summary_line n s history
 
--- The lanes of a script can be run: each stands in a phase, and in none of them twice, and there are at most 64. Each script that was read is such a one.
+-- The lanes of a script can be run: each stands in a phase, and in none of them twice, there are at most 64, and they have names. Each script that was
+-- read is such a one.
 pub record IsRunnable (s : List Line) : Type 0 where
   pub placed : has_placed_lanes s ≡ true
   pub few : length (lanes_of s) ≤ 64
+  pub named : LanesNamed s
 
 -- this holds where lanes are to be run
 abbrev pub OnRun : Task → Type 0 → Type 0
@@ -32,9 +36,9 @@ OnRun (task.Ended end) P = Unit {0}
 OnRun (task.Run told script policy) P = P
 
 -- How far the source was read: as the status says, or to its end where lanes are to be run.
-abbrev pub TaskReadsOut : Task → List ℕ → Option (List ℕ) → Type 0
-TaskReadsOut (task.Ended end) bytes after = ReadsOut end bytes after
-TaskReadsOut (task.Run told script policy) bytes after = after ≡ Some []
+abbrev pub TaskReadsOut : ℕ → Task → List ℕ → Option (List ℕ) → Type 0
+TaskReadsOut most (task.Ended end) bytes after = ReadsOut most end bytes after
+TaskReadsOut most (task.Run told script policy) bytes after = after ≡ Some []
 
 -- With each history of a script the outcome is this one: that of a run which came to its end, or the text that is told once the lanes of the script have run.
 abbrev pub LeadsTo : (List Event → Outcome) → List Line → Task → Option (List ℕ) → Option (List ℕ) → Bool → ℕ → ℕ → Type 0
@@ -46,4 +50,4 @@ LeadsTo of s (task.Run told script policy) taken after done before now =
 pub record Prepares (usage : List ℕ) (asked : Option Command) (left : Option (List ℕ)) (task : Task) (taken after : Option (List ℕ)) (done : Bool) (before now : ℕ) : Type 0 where
   pub bytes : List ℕ
   pub told : IfSome (input_of asked left) (λ input. bytes ≡ input)
-  pub leads : LeadsTo (λ history. outcome_of usage asked bytes history) (script_in bytes) task taken after done before now
+  pub leads : LeadsTo (λ history. outcome_of usage asked bytes history) (script_for asked bytes) task taken after done before now

@@ -1,35 +1,31 @@
 -- What reading all of an input and writing all of a text give.
 use Rattle.std.specs.Prelude.{◌≡◌, ℕ, ◌+◌, ◌<◌, ◌≤◌, true, List, [], ◌++◌, length, take, drop, Option, Some, Result, Ok, Err}
 use Rattle.ix_host.specs.declared.asked.command.Command.{Command}
-use Rattle.ix_host.specs.run.Outcome.{IsReadable, reads_source}
+use Rattle.ix_host.specs.run.Inputs.{IsReadable, reads_source}
 use Rattle.ix_host.specs.declared.streams.stream.Input.{Input}
 use Rattle.ix_host.specs.declared.streams.stream.Input.TheVariants as input
 use Rattle.ix_host.specs.declared.streams.stream.Piece.{Piece}
 use Rattle.ix_host.specs.declared.streams.stream.Piece.TheVariants as piece
 
--- the most bytes that a script may have
-abbrev pub script_max : ℕ
-script_max = 16777216
-
--- Some first bytes were taken, at most one more than a script may have.
-pub record TakesFew (bytes : List ℕ) (after : Option (List ℕ)) : Type 0 where
+-- Some first bytes were taken, at most one more than an input may have.
+pub record TakesFew (most : ℕ) (bytes : List ℕ) (after : Option (List ℕ)) : Type 0 where
   pub count : ℕ
-  pub few : count ≤ script_max + 1
+  pub few : count ≤ most + 1
   pub rest : after ≡ Some (drop count bytes)
 
--- The whole input, or that it is too long, and what is left of it.
-abbrev pub Gathers : List ℕ → Option (List ℕ) → Input → Type 0
-Gathers bytes after (input.Whole read) = (read.items ≡ bytes) × (after ≡ Some []) × (length bytes ≤ script_max)
-Gathers bytes after input.TooLong = (script_max < length bytes) × (after ≡ Some (drop (script_max + 1) bytes))
-Gathers bytes after input.Fault = Unit {0}
-Gathers bytes after input.NoMemory = Unit {0}
+-- The whole input, or that it has more bytes than it may have, and what is left of it.
+abbrev pub Gathers : ℕ → List ℕ → Option (List ℕ) → Input → Type 0
+Gathers most bytes after (input.Whole read) = (read.items ≡ bytes) × (after ≡ Some []) × (length bytes ≤ most)
+Gathers most bytes after input.TooLong = (most < length bytes) × (after ≡ Some (drop (most + 1) bytes))
+Gathers most bytes after input.Fault = Unit {0}
+Gathers most bytes after input.NoMemory = Unit {0}
 
--- The whole input, or that it is too long.
-abbrev pub IsInput : List ℕ → Input → Type 0
-IsInput bytes (input.Whole read) = read.items ≡ bytes
-IsInput bytes input.TooLong = script_max < length bytes
-IsInput bytes input.Fault = Unit {0}
-IsInput bytes input.NoMemory = Unit {0}
+-- The whole input, or that it has more bytes than it may have.
+abbrev pub IsInput : ℕ → List ℕ → Input → Type 0
+IsInput most bytes (input.Whole read) = read.items ≡ bytes
+IsInput most bytes input.TooLong = most < length bytes
+IsInput most bytes input.Fault = Unit {0}
+IsInput most bytes input.NoMemory = Unit {0}
 
 -- What a command reads: it may fail, or be too long, only where the command reads the source.
 abbrev pub IsReadFor : Command → Input → Type 0
@@ -38,12 +34,12 @@ IsReadFor c input.TooLong = reads_source (Some c) ≡ true
 IsReadFor c input.Fault = reads_source (Some c) ≡ true
 IsReadFor c input.NoMemory = Unit {0}
 
--- Of what was read to its end there is no more than a script may have.
-abbrev pub IsShort : Input → Type 0
-IsShort (input.Whole read) = length read.items ≤ script_max
-IsShort input.TooLong = Unit {0}
-IsShort input.Fault = Unit {0}
-IsShort input.NoMemory = Unit {0}
+-- Of what was read to its end there is no more than it may have.
+abbrev pub IsShort : ℕ → Input → Type 0
+IsShort most (input.Whole read) = length read.items ≤ most
+IsShort most input.TooLong = Unit {0}
+IsShort most input.Fault = Unit {0}
+IsShort most input.NoMemory = Unit {0}
 
 -- Of these bytes, some first ones were read, and the rest is left.
 pub record IsFront (all read : List ℕ) (left : Option (List ℕ)) : Type 0 where

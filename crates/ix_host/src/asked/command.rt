@@ -7,4 +7,6 @@ pub enum Command {
     Print,
     /// The summary of a made session with so many commands.
     Gen(u32),
+    /// Whether a text is the report of a script.
+    Check,
 }

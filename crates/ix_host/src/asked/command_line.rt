@@ -58,6 +58,7 @@ fn named_command(word: &str) -> Option<Command>
     match word {
         "run" => Some(Command::Run),
         "print" => Some(Command::Print),
+        "check" => Some(Command::Check),
         _ => None,
     }
 }

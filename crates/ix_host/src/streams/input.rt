@@ -3,7 +3,7 @@ ghost use Rattle.std.specs.Prelude.{◌≡◌, Some, IfSome, true, false};
 ghost use Rattle.ix_gen.specs.Generated.{generated};
 ghost use Rattle.ix_io.specs.Streams.{Rose};
 ghost use Rattle.ix_host.specs.command.Command.{IsCounted};
-ghost use Rattle.ix_host.specs.run.Outcome.{input_of, reads_source};
+ghost use Rattle.ix_host.specs.run.Inputs.{input_max, input_of, reads_source};
 ghost use Rattle.ix_host.specs.run.Whole.{Gathers, IsInput, IsReadFor, TakesFew};
 
 use crate::asked::command::Command;
@@ -14,10 +14,16 @@ use ix_io::Source;
 use ix_model::NoMemory;
 use std::alloc::Global;
 
+/// The most bytes that a script may have.
+const SCRIPT_MAX: usize = 16_777_216;
+
+/// The most bytes that a script and the text that claims to be its report may have.
+const CHECK_MAX: usize = 134_217_728;
+
 /// The text of the generator.
 fn made(alloc: Global, count: u32) -> Input
     requires { IsCounted (Command.Gen count) }
-    ensures told { IsInput (generated count) result }
+    ensures told { IsInput (input_max (Some (Command.Gen count))) (generated count) result }
     ensures readable { IsReadFor (Command.Gen count) result }
 {
     // The proof of `readable` rests on this law.
@@ -31,17 +37,18 @@ fn made(alloc: Global, count: u32) -> Input
 /// What a command reads: for `gen` the text of the generator, and else what the source gives.
 pub fn input_for<S: Source>(alloc: Global, command: Command, source: &mut S) -> Input
     requires { IsCounted command }
-    ensures told { IfSome (input_of (Some command) (S.left source.old)) (λ bytes. IsInput bytes result) }
+    ensures told { IfSome (input_of (Some command) (S.left source.old)) (λ bytes. IsInput (input_max (Some command)) bytes result) }
     ensures readable { IsReadFor command result }
-    ensures gathers { reads_source (Some command) ≡ true → IfSome (S.left source.old) (λ bytes. Gathers bytes (S.left source.new) result) }
-    ensures few { IfSome (S.left source.old) (λ bytes. TakesFew bytes (S.left source.new)) }
+    ensures gathers { reads_source (Some command) ≡ true → IfSome (S.left source.old) (λ bytes. Gathers (input_max (Some command)) bytes (S.left source.new) result) }
+    ensures few { IfSome (S.left source.old) (λ bytes. TakesFew (input_max (Some command)) bytes (S.left source.new)) }
     ensures not_read { reads_source (Some command) ≡ false → source.new ≡ source.old }
     ensures fault { result ≡ Input.Fault → Rose (S.faults source.old) (S.faults source.new) }
     ensures kept { ¬ (result ≡ Input.Fault) → S.faults source.new ≡ S.faults source.old }
 {
     match command {
-        Command::Run => read_all(alloc, source),
-        Command::Print => read_all(alloc, source),
+        Command::Run => read_all(alloc, source, SCRIPT_MAX),
+        Command::Print => read_all(alloc, source, SCRIPT_MAX),
         Command::Gen(count) => made(alloc, count),
+        Command::Check => read_all(alloc, source, CHECK_MAX),
     }
 }

@@ -1,12 +1,10 @@
 ghost use Rattle.std.specs.Prelude.{◌≡◌, ℕ, ◌+◌, ◌≤◌, ◌<◌, List, IfSome, OnOk, true, vec_len};
 ghost use Rattle.ix_io.specs.Streams.{HasCause, Rose};
-ghost use Rattle.ix_host.specs.run.Whole.{script_max, Gathers, GoesOn, IsFront, IsShort, TakesFew, Writes};
+ghost use Rattle.ix_host.specs.run.Inputs.{check_max};
+ghost use Rattle.ix_host.specs.run.Whole.{Gathers, GoesOn, IsFront, IsShort, TakesFew, Writes};
 
 use ix_io::{Failed, Sink, Source};
 use std::alloc::Global;
-
-/// The most bytes that a script may have.
-const SCRIPT_MAX: usize = 16_777_216;
 
 /// The most bytes of one read.
 const PIECE: usize = 4096;
@@ -16,23 +14,24 @@ const PIECE: usize = 4096;
 pub enum Input {
     /// All there was, read to its end.
     Whole(Vec<u8>),
-    /// One byte more than a script may have.
+    /// One byte more than it may have.
     TooLong,
     Fault,
     NoMemory,
 }
 
-/// Reads all there is, but at most one byte more than a script may have.
-pub fn read_all<S: Source>(alloc: Global, source: &mut S) -> Input
-    ensures told { IfSome (S.left source.old) (λ bytes. Gathers bytes (S.left source.new) result) }
-    ensures few { IfSome (S.left source.old) (λ bytes. TakesFew bytes (S.left source.new)) }
-    ensures short { IsShort result }
+/// Reads all there is, but at most one byte more than an input may have.
+pub fn read_all<S: Source>(alloc: Global, source: &mut S, max: usize) -> Input
+    requires { max ≤ check_max }
+    ensures told { IfSome (S.left source.old) (λ bytes. Gathers max bytes (S.left source.new) result) }
+    ensures few { IfSome (S.left source.old) (λ bytes. TakesFew max bytes (S.left source.new)) }
+    ensures short { IsShort max result }
     ensures fault { result ≡ Input.Fault → Rose (S.faults source.old) (S.faults source.new) }
     ensures kept { ¬ (result ≡ Input.Fault) → S.faults source.new ≡ S.faults source.old }
 {
     let mut bytes = Vec::new(alloc);
-    'pieces: while bytes.len() <= SCRIPT_MAX {
-        match read_piece(source, &mut bytes) {
+    'pieces: while bytes.len() <= max {
+        match read_piece(source, &mut bytes, max) {
             Piece::More => {}
             Piece::End => return Input::Whole(bytes),
             Piece::Fault => return Input::Fault,
@@ -52,17 +51,18 @@ enum Piece {
 }
 
 /// Reads a piece, and puts it at the end of what was read.
-fn read_piece<S: Source>(source: &mut S, bytes: &mut Vec<u8>) -> Piece
-    requires { vec_len bytes.old ≤ script_max }
+fn read_piece<S: Source>(source: &mut S, bytes: &mut Vec<u8>, max: usize) -> Piece
+    requires few { max ≤ check_max }
+    requires within { vec_len bytes.old ≤ max }
     ensures told { (all : List ℕ) → IsFront all bytes.old.items (S.left source.old) → GoesOn all bytes.new.items (S.left source.new) result }
-    ensures few { (all : List ℕ) → IsFront all bytes.old.items (S.left source.old) → TakesFew all (S.left source.new) }
-    ensures more { result ≡ Piece.More → (vec_len bytes.old < vec_len bytes.new) × (vec_len bytes.new ≤ script_max + 1) }
+    ensures few { (all : List ℕ) → IsFront all bytes.old.items (S.left source.old) → TakesFew max all (S.left source.new) }
+    ensures more { result ≡ Piece.More → (vec_len bytes.old < vec_len bytes.new) × (vec_len bytes.new ≤ max + 1) }
     ensures end { result ≡ Piece.End → vec_len bytes.new ≡ vec_len bytes.old }
     ensures fault { result ≡ Piece.Fault → Rose (S.faults source.old) (S.faults source.new) }
     ensures kept { ¬ (result ≡ Piece.Fault) → S.faults source.new ≡ S.faults source.old }
 {
     let mut buf = [0; PIECE];
-    let most = PIECE.min(SCRIPT_MAX + 1 - bytes.len());
+    let most = PIECE.min(max + 1 - bytes.len());
     let piece = &mut buf[..most];
     match source.read(piece) {
         Err(Failed) => Piece::Fault,

@@ -1,7 +1,9 @@
-use super::{Session, walk};
+use super::{Faults, Session, comes_to, walk};
+use ix_host::Status;
+use std::alloc::Global;
 use std::process::Abort;
 
-/// Each step of both servers that can be refused, but for their answers' write, with the calls that are made then.
+/// Each step of both servers that can be refused, but for their answers' write (below), with the calls that are made then.
 const SESSIONS: &[Session] = &[
     (
         "steps 1 and 2 are refused, and half a claim ends it: the claim stays",
@@ -217,6 +219,99 @@ const SESSIONS: &[Session] = &[
           end 13 0\n",
     ),
 ];
+
+/// Both servers serve while their own pipe is full: the write of the answer is refused, and the client isn't told.
+const FULL_PIPE: &[u8] = b"ix 1\n\
+    proc srv - * P P\n\
+    policy {\"rules\":[{\"act\":\"grant\",\"user\":\"*\",\"clear\":\"-\",\"privs\":\"D\",\"allow\":true},{\"act\":\"session\",\"user\":\"*\",\"clear\":\"-\",\"privs\":\"-\",\"allow\":true}]}\n\
+    phase\n\
+    lane m\n\
+    pipe srv as s c\n\
+    fork srv c as t\n\
+    pex srv s\n\
+    pex t c\n\
+    write t c \"want D\"\n\
+    write srv s 4096*2e\n\
+    priv srv s\n\
+    read t c 4\n\
+    pex srv s\n\
+    write t c \"login ann\"\n\
+    write srv s 4096*2e\n\
+    login srv s c as ann\n\
+    self ann\n";
+
+/// Its report, between the bytes that fill the pipe.
+const OF_FULL_PIPE: [&[u8]; 3] = [
+    b"ix 1 report\n\
+      1 m 6 pipe p1 = two 0 1 @ -\n\
+      2 m 7 fork p1 1 = number 2 @ -\n\
+      3 m 8 pex p1 0 = half @ -\n\
+      4 m 9 pex p2 1 = whole p1 - P @ -\n\
+      5 m 10 write p2 1 x77616e742044 = number 6 @ -\n\
+      6 m 11 write p1 0 x",
+    b" = number 4096 @ -\n\
+      7 m 12 pex p1 0 = whole p2 - P @ -\n\
+      8 m 12 read p1 0 64 = bytes 6 x77616e742044 @ -\n\
+      9 m 12 grant p1 p2 D = done @ -\n\
+      10 m 12 write p1 0 x6772616e7465642031 = no 30 PipeFull @ -\n\
+      11 m 12 unpex p1 0 = done @ -\n\
+      12 m 13 read p2 1 4 = bytes 4 x2e2e2e2e @ -\n\
+      13 m 14 pex p1 0 = whole p2 - DP @ -\n\
+      14 m 15 write p2 1 x6c6f67696e20616e6e = number 9 @ -\n\
+      15 m 16 write p1 0 x",
+    b" = number 4096 @ -\n\
+      16 m 17 pex p1 0 = whole p2 - DP @ -\n\
+      17 m 17 read p1 0 64 = bytes 9 x6c6f67696e20616e6e @ -\n\
+      18 m 17 fork p1 1 = number 3 @ -\n\
+      19 m 17 droplic p3 DPCTL = done @ -\n\
+      20 m 17 ceiling p1 p3 - = done @ -\n\
+      21 m 17 write p1 0 x6772616e7465642032 = no 30 PipeFull @ -\n\
+      22 m 17 unpex p1 0 = done @ -\n\
+      23 m 18 self p3 = label - @ -\n\
+      objects\n\
+      0 dir - free\n\
+      256 pipe - free\n\
+      processes\n\
+      p1 - live\n\
+      p2 - live\n\
+      p3 - live\n\
+      log\n\
+      9 p1 grant 2 - - - D\n\
+      end 23 1\n",
+];
+
+/// That report, whole.
+fn report_of_full_pipe(alloc: Global) -> Option<Vec<u8>> {
+    let mut text = Vec::new(alloc);
+    for (part, piece) in OF_FULL_PIPE.iter().enumerate() {
+        if part > 0 {
+            for _ in 0..4096 {
+                text.extend_from_slice(b"2e").ok()?;
+            }
+        }
+        text.extend_from_slice(piece).ok()?;
+    }
+    Some(text)
+}
+
+/// Whether that script has that report.
+fn full_pipe_has_its_report(alloc: Global) -> bool {
+    let wide = Faults {
+        source: &[],
+        sink: &[],
+        room: 32_768,
+    };
+    let Some(report) = report_of_full_pipe(alloc) else {
+        return false;
+    };
+    let text = report.as_slice();
+    comes_to(alloc, &["run"], FULL_PIPE, wide, Status::Done, text)
+}
+
+#[test]
+fn a_full_pipe_refuses_the_answers_of_servers(rt: HostRuntime) {
+    assert!(rt; full_pipe_has_its_report(rt.alloc()));
+}
 
 #[test]
 fn refused_steps_of_servers(rt: HostRuntime) {

@@ -5,11 +5,13 @@ use Rattle.ix_lanes.specs.histories.History.{IsHistory}
 use Rattle.ix_host.specs.command.Command.{IsCounted, lanes_command_of, lanes_usage_line}
 use Rattle.ix_host.specs.declared.status.Status.TheVariants as status
 use Rattle.ix_host.specs.declared.task.Task.TheVariants as task
-use Rattle.ix_host.specs.run.Outcome.{outcome_of, reads_source, text_of}
-use Rattle.ix_host.specs.run.Run.{FitsCommand}
+use Rattle.ix_host.specs.run.Inputs.{input_max, reads_source}
+use Rattle.ix_host.specs.run.Outcome.{outcome_of, text_of}
+use Rattle.ix_host.specs.run.Run.{FitsCommand, ReadsOut, WritesFor}
+use Rattle.ix_host.specs.run.Whole.{TakesFew}
 use Rattle.ix_host.specs.run.Tasks.{text_told}
 use Rattle.ix_host.proofs.comes_to.Preparing.{run_is_no_end}
-use Rattle.ix_host.proofs.comes_to.OnlyRun.{lanes_input, lanes_read_out, lanes_run, none_reads}
+use Rattle.ix_host.proofs.comes_to.OnlyRun.{lanes_input, lanes_long, lanes_max, lanes_read_out, lanes_run, lanes_written, none_reads}
 use Rattle.ix_host.proofs.comes_to.Verdicts.{Verdict, answer_read, memory_written, told_read, told_read_out, verdict_ended, verdict_told}
 use Rattle.ix_host.proofs.words_in.Counts.{lanes_counted}
 use Rattle.std.specs.Prelude.{IfSome}
@@ -24,6 +26,11 @@ conclude-requires-clause-fits g c = whole_fits c.in-Run.script c.in-Ok-run_histo
 pub returns-in_default-clause-written : goal.returns-in_default-clause-written
 returns-in_default-clause-written g c =
     memory_written IsHistory serial_history (λ bytes history. text_of (outcome_of lanes_usage_line (lanes_command_of c.args.words.now) bytes history)) (g.S.Source.left c.args.source.now) (g.K.Sink.taken c.args.sink.now)
+
+pub returns-clause-bounded : goal.returns-clause-bounded
+returns-clause-bounded g c =
+    subst (λ most. IfSome (g.S.Source.left c.args.source.now) (λ bytes. TakesFew most bytes (g.S.Source.left c.prepare.new.source))) (ap input_max c.in-Ok.ensures ∙ lanes_max c.args.words.now)
+    c.in-Run.ensures.bounded
 
 pub returns-clause-written : goal.returns-clause-written
 returns-clause-written g c =
@@ -40,10 +47,12 @@ returns-in-Ended g c =
     (verdict_ended IsHistory serial_history lanes_usage_line c.in-Ok.asked left c.in-Ended.status taken (g.K.Sink.taken c.prepare.new.sink) (g.K.Sink.finished c.prepare.new.sink) (g.K.Sink.faults c.args.sink.now) (g.K.Sink.faults c.prepare.new.sink)
     (λ is. (e.fault (ap task.Ended is)).1) (λ is. ap g.K.Sink.taken (e.fault (ap task.Ended is)).2) (λ other. e.prepared (λ is. other cc))) in
     record {
-      bounded = e.bounded;
-      read_out = lanes_read_out words c.in-Ended.status left (g.S.Source.left c.prepare.new.source) v.fits (λ reads. e.read_out (ap reads_source c.in-Ok.ensures ∙ reads));
+      bounded = subst (λ most. IfSome left (λ bytes. TakesFew most bytes (g.S.Source.left c.prepare.new.source))) (ap input_max c.in-Ok.ensures ∙ lanes_max words) e.bounded;
+      read_out = lanes_read_out words c.in-Ended.status left (g.S.Source.left c.prepare.new.source) v.fits
+          (λ reads. subst (λ a. IfSome left (λ bytes. ReadsOut (input_max a) c.in-Ended.status bytes (g.S.Source.left c.prepare.new.source))) c.in-Ok.ensures (e.read_out (ap reads_source c.in-Ok.ensures ∙ reads)));
       not_read = λ none. e.not_read (ap reads_source c.in-Ok.ensures ∙ none_reads (lanes_command_of words) none);
-      written = rw (lanes_input words left) at v.written;
+      written = lanes_written words left taken (λ bytes t history. WritesFor c.in-Ended.status (text_of (outcome_of lanes_usage_line (lanes_command_of words) bytes history)) t (g.K.Sink.taken c.prepare.new.sink))
+          (rw (lanes_input words left) at v.written);
       line = v.line;
       finished = v.finished;
       hides = λ is. v.hides is (lanes_run words (subst (λ x. FitsCommand x (lanes_command_of words)) is v.fits));
@@ -51,7 +60,7 @@ returns-in-Ended g c =
       command = v.fits;
       answer = rw (lanes_input words left) at v.answer;
       quiet = λ a. (e.kept (answer_read c.in-Ended.status a), v.kept a);
-      too_long = v.too_long;
+      too_long = λ is. lanes_long words left (v.too_long is);
       read_fault = λ is. (e.fault (ap task.Ended is)).0;
       write_fault = v.write_fault;
       usage = v.usage_only;
@@ -69,10 +78,12 @@ returns-in-Ok-run_history g c =
     let v = subst (λ a. Verdict IsHistory lanes_usage_line a left c.conclude.result taken (g.K.Sink.taken c.conclude.new.sink) (g.K.Sink.finished c.conclude.new.sink) (g.K.Sink.faults c.args.sink.now) (g.K.Sink.faults c.conclude.new.sink)) c.in-Ok.ensures
     (verdict_told {Comes = IsHistory} c.in-Ok-run_history.history.events (p.prepared (run_is_no_end (task.Run c.in-Run.telling c.in-Run.script c.in-Run.policy) status.ReadFault)) c.in-Ok-run_history.ensures.history e) in
     record {
-      bounded = p.bounded;
-      read_out = lanes_read_out words c.conclude.result left (g.S.Source.left c.prepare.new.source) v.fits (λ reads. told_read_out text c.conclude.result left (g.S.Source.left c.prepare.new.source) e.fits (p.read_out (ap reads_source c.in-Ok.ensures ∙ reads)));
+      bounded = subst (λ most. IfSome left (λ bytes. TakesFew most bytes (g.S.Source.left c.prepare.new.source))) (ap input_max c.in-Ok.ensures ∙ lanes_max words) p.bounded;
+      read_out = lanes_read_out words c.conclude.result left (g.S.Source.left c.prepare.new.source) v.fits
+          (λ reads. told_read_out (input_max (lanes_command_of words)) text c.conclude.result left (g.S.Source.left c.prepare.new.source) e.fits (p.read_out (ap reads_source c.in-Ok.ensures ∙ reads)));
       not_read = λ none. p.not_read (ap reads_source c.in-Ok.ensures ∙ none_reads (lanes_command_of words) none);
-      written = rw (lanes_input words left) at v.written;
+      written = lanes_written words left taken (λ bytes t history. WritesFor c.conclude.result (text_of (outcome_of lanes_usage_line (lanes_command_of words) bytes history)) t (g.K.Sink.taken c.conclude.new.sink))
+          (rw (lanes_input words left) at v.written);
       line = v.line;
       finished = v.finished;
       hides = λ is. v.hides is (lanes_run words (subst (λ x. FitsCommand x (lanes_command_of words)) is v.fits));
@@ -80,7 +91,7 @@ returns-in-Ok-run_history g c =
       command = v.fits;
       answer = rw (lanes_input words left) at v.answer;
       quiet = λ a. (p.kept (run_is_no_end (task.Run c.in-Run.telling c.in-Run.script c.in-Run.policy) status.ReadFault), v.kept a);
-      too_long = v.too_long;
+      too_long = λ is. lanes_long words left (v.too_long is);
       read_fault = λ is. absurd (told_read text c.conclude.result e.fits is);
       write_fault = v.write_fault;
       usage = v.usage_only;

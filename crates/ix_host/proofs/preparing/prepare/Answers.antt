@@ -1,5 +1,9 @@
 use Rattle.std.proofs.Common.{◌≡◌, true, refl, subst, sym}
-use Rattle.ix_host.specs.run.Outcome.{outcome_in, reads_source, script_in}
+use Rattle.std.specs.Prelude.{IfSome}
+use Rattle.ix_host.specs.declared.streams.stream.Input.TheVariants as input
+use Rattle.ix_host.specs.run.Inputs.{input_max, reads_source, script_bytes, script_in}
+use Rattle.ix_host.specs.run.Whole.{Gathers}
+use Rattle.ix_host.specs.run.Outcome.{outcome_in}
 use Rattle.ix_host.specs.run.Outcome as outcome
 use Rattle.ix_host.proofs.comes_to.Preparing.{ends_somewhere, leads_somewhere, long_prepared, long_read_out, memory_prepared, usage_prepared, whole_prepared, whole_read_out}
 use Rattle.ix_host.proofs.preparing.prepare.Goals as goal
@@ -13,11 +17,12 @@ returns-in_default-clause-prepared g c = λ _.
 
 pub returns-in-Whole-clause-read_out : goal.returns-in-Whole-clause-read_out
 returns-in-Whole-clause-read_out g c = λ reads.
-    whole_read_out c.input_task.result (g.S.Source.left c.args.source.now) (g.S.Source.left c.input_for.new.source) c.in-Whole.bytes.items (c.in-Whole.ensures.gathers (subst (λ a. reads_source a ≡ true) c.in-Some.is reads))
+    whole_read_out (input_max c.args.asked) c.input_task.result (g.S.Source.left c.args.source.now) (g.S.Source.left c.input_for.new.source) c.in-Whole.bytes.items
+    (subst (λ a. IfSome (g.S.Source.left c.args.source.now) (λ bytes. Gathers (input_max a) bytes (g.S.Source.left c.input_for.new.source) (input.Whole c.in-Whole.bytes))) (sym c.in-Some.is) (c.in-Whole.ensures.gathers (subst (λ a. reads_source a ≡ true) c.in-Some.is reads)))
 
 pub returns-in-Whole-clause-fault : goal.returns-in-Whole-clause-fault
 returns-in-Whole-clause-fault g c = λ is. let leads = rw c.as_slice.ensures.value at c.input_task.ensures.leads in
-    absurd (leads_somewhere (λ history. outcome_in c.in-Some.command c.in-Whole.bytes.items history) (script_in c.in-Whole.bytes.items) c.input_task.result _ _ _ _ _ leads is)
+    absurd (leads_somewhere (λ history. outcome_in c.in-Some.command c.in-Whole.bytes.items history) (script_in (script_bytes c.in-Some.command c.in-Whole.bytes.items)) c.input_task.result _ _ _ _ _ leads is)
 
 pub returns-in-Whole-clause-prepared : goal.returns-in-Whole-clause-prepared
 returns-in-Whole-clause-prepared g c = λ _. let leads = rw c.as_slice.ensures.value at c.input_task.ensures.leads in
@@ -25,8 +30,8 @@ returns-in-Whole-clause-prepared g c = λ _. let leads = rw c.as_slice.ensures.v
 
 pub returns-in-TooLong-clause-read_out : goal.returns-in-TooLong-clause-read_out
 returns-in-TooLong-clause-read_out g c = λ reads.
-    long_read_out c.tell-in-TooLong.result (g.S.Source.left c.args.source.now) (g.S.Source.left c.input_for.new.source) (c.tell-in-TooLong.ensures (outcome.Refused 1 1) (sym c.too_long_line.ensures) refl).fits
-    (c.in-TooLong.ensures.gathers (subst (λ a. reads_source a ≡ true) c.in-Some.is reads))
+    long_read_out (input_max c.args.asked) c.tell-in-TooLong.result (g.S.Source.left c.args.source.now) (g.S.Source.left c.input_for.new.source) (c.tell-in-TooLong.ensures (outcome.Refused 1 1) (sym c.too_long_line.ensures) refl).fits
+    (subst (λ a. IfSome (g.S.Source.left c.args.source.now) (λ bytes. Gathers (input_max a) bytes (g.S.Source.left c.input_for.new.source) input.TooLong)) (sym c.in-Some.is) (c.in-TooLong.ensures.gathers (subst (λ a. reads_source a ≡ true) c.in-Some.is reads)))
 
 pub returns-in-TooLong-clause-fault : goal.returns-in-TooLong-clause-fault
 returns-in-TooLong-clause-fault g c = λ is. absurd (ends_somewhere (c.tell-in-TooLong.ensures (outcome.Refused 1 1) (sym c.too_long_line.ensures) refl) is)

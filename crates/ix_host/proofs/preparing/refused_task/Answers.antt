@@ -7,20 +7,25 @@ use Rattle.ix_host.proofs.preparing.refused_task.Goals as goal
 
 pub returns-in-Run-clause-leads : goal.returns-in-Run-clause-leads
 unfolding script_refusal
-returns-in-Run-clause-leads g c = λ history.
-    ends_as (outcome_refused c.args.command c.args.script c.args.line 27 history (ap (λ k. script_refusal k c.args.script) c.in-Run.is ∙ c.requires.refusal)) c.refuse.ensures
+returns-in-Run-clause-leads g c = λ claimed history.
+    ends_as (outcome_refused c.args.command c.args.script c.args.line 27 claimed history (ap (λ k. script_refusal k c.args.script) c.in-Run.is ∙ c.requires.refusal)) c.refuse.ensures
 
 pub returns-in-Print-clause-leads : goal.returns-in-Print-clause-leads
 unfolding script_refusal
-returns-in-Print-clause-leads g c = λ history.
-    ends_as (outcome_refused c.args.command c.args.script c.args.line 27 history (ap (λ k. script_refusal k c.args.script) c.in-Print.is ∙ c.requires.refusal)) c.refuse-in-Print.ensures
+returns-in-Print-clause-leads g c = λ claimed history.
+    ends_as (outcome_refused c.args.command c.args.script c.args.line 27 claimed history (ap (λ k. script_refusal k c.args.script) c.in-Print.is ∙ c.requires.refusal)) c.refuse-in-Print.ensures
 
 pub returns-in-Gen-clause-leads : goal.returns-in-Gen-clause-leads
 unfolding script_refusal text_for
-returns-in-Gen-clause-leads g c = (
+returns-in-Gen-clause-leads g c = λ claimed. (
   refl,
   c.requires.runnable,
   sym c.requires.policy,
   λ history.
-      sym (outcome_accepted c.args.command c.args.script history (ap (λ k. script_refusal k c.args.script) c.in-Gen.is)) ∙ ap (λ k. outcome.Whole (text_for k c.args.script history)) c.in-Gen.is,
+      sym (outcome_accepted c.args.command c.args.script claimed history (ap (λ k. script_refusal k c.args.script) c.in-Gen.is)) ∙ ap (λ k. outcome.Whole (text_for k c.args.script claimed history)) c.in-Gen.is,
 )
+
+pub returns-in-Check-clause-leads : goal.returns-in-Check-clause-leads
+unfolding script_refusal
+returns-in-Check-clause-leads g c = λ claimed history.
+    ends_as (outcome_refused c.args.command c.args.script c.args.line 27 claimed history (ap (λ k. script_refusal k c.args.script) c.in-Check.is ∙ c.requires.refusal)) c.refuse-in-Check.ensures

@@ -1,0 +1,82 @@
+-- What a command reads, and what parts that has.
+use Rattle.std.specs.Prelude.{◌≡◌, ℕ, ◌<◌, ◌≤◌, Bool, true, false, List, [], length, Option, Some, None, unwrap_or, ◌⊎◌}
+use Rattle.ix_script.specs.lines.Faults.{fault_of}
+use Rattle.ix_script.specs.scripts.Scripts.{script_of}
+use Rattle.ix_script.specs.declared.line.Line.{Line}
+use Rattle.ix_gen.specs.Generated.{generated}
+use Rattle.ix_check.specs.Parts.{report_part, script_part}
+use Rattle.ix_host.specs.declared.asked.command.Command.{Command}
+use Rattle.ix_host.specs.declared.asked.command.Command.TheVariants as command
+
+-- ---- how much is read
+-- the most bytes that a script may have
+abbrev pub script_max : ℕ
+script_max = 16777216
+
+-- the most bytes that a script and the text that claims to be its report may have
+abbrev pub check_max : ℕ
+check_max = 134217728
+
+-- the most bytes that the input of what is asked for may have
+abbrev pub input_max : Option Command → ℕ
+input_max None = script_max
+input_max (Some command.Run) = script_max
+input_max (Some command.Print) = script_max
+input_max (Some (command.Gen n)) = script_max
+input_max (Some command.Check) = check_max
+
+-- ---- where it is read
+-- whether what is asked for is done with what the source gives
+abbrev pub reads_source : Option Command → Bool
+reads_source None = false
+reads_source (Some command.Run) = true
+reads_source (Some command.Print) = true
+reads_source (Some (command.Gen n)) = false
+reads_source (Some command.Check) = true
+
+-- the input, where it is told: for `gen` the text of the generator, and else what the source has left
+abbrev pub input_of : Option Command → Option (List ℕ) → Option (List ℕ)
+input_of None left = left
+input_of (Some command.Run) left = left
+input_of (Some command.Print) left = left
+input_of (Some (command.Gen n)) left = Some (generated n)
+input_of (Some command.Check) left = left
+
+-- what `gen` reads has no fault, and what `check` reads is not too long
+abbrev pub IsReadable : Command → List ℕ → Type 0
+IsReadable command.Run bytes = Unit {0}
+IsReadable command.Print bytes = Unit {0}
+IsReadable (command.Gen n) bytes = fault_of bytes ≡ None
+IsReadable command.Check bytes = length bytes ≤ check_max
+
+-- ---- its parts
+-- the bytes of the script: all of them, but for `check`, whose input has a report behind the script
+abbrev pub script_bytes : Command → List ℕ → List ℕ
+script_bytes command.Run bytes = bytes
+script_bytes command.Print bytes = bytes
+script_bytes (command.Gen n) bytes = bytes
+script_bytes command.Check bytes = script_part bytes
+
+-- the text that claims to be the report
+abbrev pub report_bytes : Command → List ℕ → List ℕ
+report_bytes command.Run bytes = []
+report_bytes command.Print bytes = []
+report_bytes (command.Gen n) bytes = []
+report_bytes command.Check bytes = report_part bytes
+
+-- the script that bytes are: where they have a fault, one without lines
+abbrev pub script_in : List ℕ → List Line
+script_in bytes = unwrap_or (script_of bytes) []
+
+-- the script that the input of what is asked for has
+abbrev pub script_for : Option Command → List ℕ → List Line
+script_for None bytes = script_in bytes
+script_for (Some c) bytes = script_in (script_bytes c bytes)
+
+-- An input is too long: the script in it, or for `check` all of it.
+abbrev pub IsTooLong : Option Command → List ℕ → Type 0
+IsTooLong None bytes = script_max < length bytes
+IsTooLong (Some command.Run) bytes = script_max < length bytes
+IsTooLong (Some command.Print) bytes = script_max < length bytes
+IsTooLong (Some (command.Gen n)) bytes = script_max < length bytes
+IsTooLong (Some command.Check) bytes = (check_max < length bytes) ⊎ (script_max < length (script_part bytes))
