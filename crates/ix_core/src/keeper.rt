@@ -1,5 +1,5 @@
-ghost use Rattle.std.specs.Prelude.{◌≡◌, [], length, ◌==◌, ◌-◌, ◌≤◌, ◌<◌, IfOk, IsTrue, None, if◌then◌else◌, slice_get};
-ghost use Rattle.std.specs.Option.{option_map};
+ghost use Rattle.std.specs.Prelude.{◌≡◌, [], ◌++◌, length, take, drop, min, ◌==◌, ◌-◌, ◌≤◌, ◌<◌, IfOk, IsTrue, None, Some, if◌then◌else◌, slice_get};
+ghost use Rattle.std.specs.Option.{option_and_then, option_map};
 ghost use Rattle.ix_model.specs.history.AuditLog.{audit_log};
 ghost use Rattle.ix_model.specs.history.Calls.{op_of, event_of};
 ghost use Rattle.ix_model.specs.history.Cost.{cost_of_history};
@@ -12,7 +12,11 @@ ghost use Rattle.ix_model.specs.opening.Opening.{opening_world};
 ghost use Rattle.ix_model.specs.opening.Valid.{is_valid};
 ghost use Rattle.ix_model.specs.world.World.{at};
 ghost use Rattle.ix_iso.specs.Hiding.{HidesWhatIsHigh};
-ghost use Rattle.ix_model.specs.history.Views.{view_of, shown_of};
+ghost use Rattle.ix_model.specs.history.Views.{view_of, shown_of, size_at, bytes_inside, names_there};
+ghost use Rattle.ix_model.specs.world.Directories.{IsBehind};
+ghost use Rattle.ix_model.specs.world.NameRefs.{name_of};
+ghost use Rattle.ix_model.specs.rows.Walks.{behind};
+ghost use Rattle.ix_fcalls.specs.Spots.{view_through};
 ghost use Rattle.ix_model.specs.history.Freshness.{is_fresh};
 ghost use Rattle.ix_core.specs.Marking.{way_of, goes_fresh};
 ghost use Rattle.ix_core.specs.Stepping.{StepsTo, Shows, AnswersAlike, StepsAs, MakesNext};
@@ -24,7 +28,11 @@ use ix_journal::Journal;
 use ix_label::Steps;
 use ix_machine::Machine;
 use ix_marks::Marks;
-use ix_model::{Answer, AuditLine, Buf, Call, Config, Entry, Fd, NoMemory, ObjView, Pid, ProcView};
+use ix_model::{
+    Answer, AuditLine, Buf, Call, Config, Entry, Fd, Name, NameRef, NoMemory, Obj, ObjView, Pid,
+    PrivSet, ProcView,
+};
+use ix_open::OpenView;
 use std::alloc::Global;
 use std::marker::{Brand, Model};
 use std::sync::ledger::{Blank, Ledger};
@@ -164,6 +172,61 @@ impl Core {
         ensures { result ≡ option_map view_of (at (world_of self.now).frame.objects n) }
     {
         self.machine.object_view(n)
+    }
+
+    /// The open entry behind a descriptor of a process, with its offset; `None` exactly where the pid is of no living process
+    /// or that has no such descriptor.
+    pub fn opened(&self, pid: Pid, fd: Fd) -> Option<OpenView>
+        ensures { result ≡ option_map (view_through (world_of self.now)) (behind (world_of self.now).frame pid.0 fd.0) }
+    {
+        self.machine.opened(pid, fd)
+    }
+
+    /// How much there is at an end of an object: the length of a file, at end 0, or what that end of a pipe can read. `None`
+    /// exactly where no such file or pipe lives, or it has no such end.
+    pub fn size(&self, obj: Obj, end: u8) -> Option<u64>
+        ensures { result ≡ size_at (world_of self.now) obj.0 end }
+    {
+        self.machine.size(obj, end)
+    }
+
+    /// Copies the bytes of a file from an offset on into the front of `out`, and answers their number; none where no file
+    /// lives under that number.
+    pub fn inside(&self, obj: Obj, at: u64, out: &mut [u8]) -> usize
+        ensures count { result ≡ min (length out.old) (length (bytes_inside (world_of self.now) obj.0 at)) }
+        ensures out { out.new ≡ take result (bytes_inside (world_of self.now) obj.0 at) ++ drop result out.old }
+    {
+        self.machine.inside(obj, at, out)
+    }
+
+    /// The name at an index of a directory, from 0 in order of making, with its object; `None` exactly where no such
+    /// directory lives or the index is at or past its count. It costs a step for each name before it.
+    pub fn named(&self, dir: Obj, index: u32) -> Option<(Name, Obj)>
+        ensures { option_map (λ e. (e.0, e.1.0)) result ≡ option_and_then (λ names. slice_get names index) (names_there (world_of self.now).frame.objects dir.0) }
+    {
+        self.machine.named(dir, index)
+    }
+
+    /// The name behind one that a directory has, in order of making; `None` behind the last, and where no such directory
+    /// lives. It costs the same wherever the name stands.
+    pub fn named_after(&self, dir: Obj, name: &NameRef<'_>) -> Option<(Name, Obj)>
+        ensures { (names : _) → names_there (world_of self.now).frame.objects dir.0 ≡ Some names → IsBehind names (name_of name.now) (option_map (λ e. (e.0, e.1.0)) result) }
+    {
+        self.machine.named_after(dir, name)
+    }
+
+    /// How many names a directory has; `None` exactly where no such directory lives.
+    pub fn names(&self, dir: Obj) -> Option<u32>
+        ensures { result ≡ option_map length (names_there (world_of self.now).frame.objects dir.0) }
+    {
+        self.machine.names(dir)
+    }
+
+    /// The capabilities and the licences of an object; `None` exactly where no such object lives.
+    pub fn privs(&self, obj: Obj) -> Option<(PrivSet, PrivSet)>
+        ensures { result ≡ option_map (λ x. (x.cap, x.lic)) (at (world_of self.now).frame.objects obj.0) }
+    {
+        self.machine.privs(obj)
     }
 
     /// How many numbers of objects there are: all inodes and all pipes.

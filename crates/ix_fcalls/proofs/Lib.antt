@@ -33,3 +33,4 @@ pub mod Chaining
 pub mod Leading
 pub mod Standing
 pub mod Unnaming
+pub mod Sizes

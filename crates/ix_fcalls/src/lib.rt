@@ -20,6 +20,7 @@ mod taking;
 mod told;
 mod turn;
 mod unmaking;
+mod views;
 mod walks;
 mod who;
 mod writing;

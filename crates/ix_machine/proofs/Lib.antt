@@ -14,3 +14,4 @@ pub mod Waits
 pub mod Lowering
 pub mod Exercising
 pub mod Parents
+pub mod Viewing

@@ -16,6 +16,7 @@ mod privileges;
 mod running;
 mod spots;
 mod turns;
+mod views;
 mod walks;
 
 pub use machine::Machine;

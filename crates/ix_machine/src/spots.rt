@@ -5,13 +5,16 @@ ghost use Rattle.ix_model.specs.history.AuditLog.{label_at, object_of_path, of_p
 ghost use Rattle.ix_model.specs.history.Calls.{op_of};
 ghost use Rattle.ix_fresh.specs.Laws.{spot_behind};
 ghost use Rattle.ix_fresh.specs.Touched.{entry_behind, entry_target, label_of_entry, object_behind, target};
-ghost use Rattle.ix_fcalls.specs.Spots.{spot_in};
+ghost use Rattle.ix_fcalls.specs.Spots.{spot_in, view_through};
+ghost use Rattle.ix_model.specs.history.Views.{size_at};
+ghost use Rattle.ix_model.specs.rows.Walks.{behind};
 ghost use Rattle.ix_model.specs.world.Paths.{path_of};
 
 use crate::machine::Machine;
 use ix_fcalls::Outcome;
 use ix_label::{Label, Steps};
 use ix_model::{Call, Fd, Obj, Path, Pid};
+use ix_open::OpenView;
 use std::sync::ledger::Ledger;
 
 /// What stands behind descriptors, the labels there, and which of them a call may change. Nothing here changes the world.
@@ -25,6 +28,24 @@ impl Machine {
             return None;
         }
         self.files.spot(self.who(pid), fd)
+    }
+
+    /// The open entry behind a descriptor of a living process, with its offset; `None` exactly where there is none.
+    pub fn opened(&self, pid: Pid, fd: Fd) -> Option<OpenView>
+        ensures { result ≡ option_map (view_through self.now) (behind self.now.frame pid.0 fd.0) }
+    {
+        if !self.lives(pid) {
+            return None;
+        }
+        self.files.opened(self.who(pid), fd)
+    }
+
+    /// How much there is at an end of an object: the length of a file, at end 0, or what that end of a pipe can read.
+    /// `None` exactly where no file or pipe is there, or it has no such end.
+    pub fn size(&self, obj: Obj, end: u8) -> Option<u64>
+        ensures { result ≡ size_at self.now obj.0 end }
+    {
+        self.files.size(obj, end)
     }
 
     /// The label of a process, living or ended; bottom where the pid has no record.

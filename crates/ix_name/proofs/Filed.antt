@@ -84,7 +84,7 @@ some_within [] i a h = absurd (cc h)
 some_within (x ∷ t) zero a h = omega arith
 some_within (x ∷ t) (suc i) a h = let rest = some_within t i a h in omega (arith, rest)
 
-same_refl : (a : List ℕ) → same_bytes a a ≡ true
+pub same_refl : (a : List ℕ) → same_bytes a a ≡ true
 same_refl a = nat_list_eq_equiv.refl a
 
 same_sym : (a b : List ℕ) → same_bytes a b ≡ true → same_bytes b a ≡ true

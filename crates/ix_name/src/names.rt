@@ -1,6 +1,7 @@
 ghost use Rattle.std.specs.Prelude.{◌≡◌, ◌<◌, length, nat_lt, slice_get, [], None, IfOk, replicate, if◌then◌else◌};
 ghost use Rattle.std.proofs.Common.{option_map};
 ghost use Rattle.ix_name.specs.Directories.{names_of, under, with_more, removed, AreDifferent};
+ghost use Rattle.ix_model.specs.world.Directories.{IsBehind};
 ghost use Rattle.ix_model.specs.world.NameRefs.{name_of};
 
 use crate::buckets::bucket_of;
@@ -140,6 +141,19 @@ impl Names {
     {
         let index = index_at(&self.dirs, dir.0, place)?;
         let entry = self.entries[index as usize]?;
+        Some((entry.name, entry.obj))
+    }
+
+    /// The name behind one that a directory has, in its order of making, with its object; `None` behind the last. As dear
+    /// as [`find`](Names::find), wherever the name stands.
+    pub fn after(&self, dir: Obj, name: &NameRef<'_>) -> Option<(Name, Obj)>
+        ensures { IsBehind (names_of self.now dir.0) (name_of name.now) (option_map (λ e. (e.0, e.1.0)) result) }
+    {
+        self.dirs.is_pool();
+        let bucket = bucket_of(dir.0, name, self.width);
+        let index = index_of(&self.buckets, bucket, &self.entries, dir.0, name)?;
+        let next = self.dirs.next(index)?;
+        let entry = self.entries[next as usize]?;
         Some((entry.name, entry.obj))
     }
 

@@ -4,7 +4,7 @@ ghost use Rattle.std.specs.Option.{option_map_or};
 ghost use Rattle.ix_model.specs.rows.Lifetimes.{stays};
 ghost use Rattle.ix_model.specs.world.Numbers.{first_pipe};
 ghost use Rattle.ix_model.specs.world.World.{at, put, change, is_dir, is_file, held};
-ghost use Rattle.ix_model.specs.world.Directories.{with_name, without_name};
+ghost use Rattle.ix_model.specs.world.Directories.{IsBehind, with_name, without_name};
 ghost use Rattle.ix_model.specs.world.Contents.{holds_nothing};
 ghost use Rattle.ix_model.specs.world.NameRefs.{name_of};
 ghost use Rattle.ix_model.specs.world.Owners.{names_in_all, times_named};
@@ -43,12 +43,31 @@ impl Tables {
         }
     }
 
+    /// The name behind one that a directory has, in its order of making; `None` behind the last. It costs no walk.
+    pub fn name_after(&self, dir: u32, name: &NameRef<'_>) -> Option<(Name, u32)>
+        requires { is_dir (node self.now.objects dir) ≡ true }
+        ensures { IsBehind (node self.now.objects dir).names (name_of name.now) result }
+    {
+        match self.names.after(Obj(dir), name) {
+            Some((name, obj)) => Some((name, obj.0)),
+            None => None,
+        }
+    }
+
+    /// How many names a directory has.
+    pub fn count_names(&self, dir: u32) -> u32
+        requires { is_dir (node self.now.objects dir) ≡ true }
+        ensures { result ≡ length (node self.now.objects dir).names }
+    {
+        self.names.count(Obj(dir))
+    }
+
     /// Whether a directory has no names.
     pub fn is_bare(&self, dir: u32) -> bool
         requires { is_dir (node self.now.objects dir) ≡ true }
         ensures { result ≡ (length (node self.now.objects dir).names == 0) }
     {
-        self.names.count(Obj(dir)) == 0
+        self.count_names(dir) == 0
     }
 
     /// Whether one name more is within the limit.

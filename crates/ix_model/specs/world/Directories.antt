@@ -1,5 +1,5 @@
 -- The names of a directory.
-use Rattle.std.specs.Prelude.{ℕ, nat_lt, Bool, not, List, [], ◌∷◌, ◌++◌, filter}
+use Rattle.std.specs.Prelude.{ℕ, ◌≡◌, ◌+◌, nat_lt, Bool, not, List, [], ◌∷◌, ◌++◌, filter, Option, Some, slice_get}
 use Rattle.ix_model.specs.world.Naming.{same_bytes}
 use Rattle.ix_model.specs.world.World.{Object, Frame}
 use Rattle.ix_model.specs.world.Owners.{names_in_all}
@@ -15,3 +15,7 @@ without_name name d = record d { names = filter (λ n. not (same_bytes n.0 name)
 -- whether one name more is within the limit on all names
 unfoldable pub has_room_for_a_name : Frame → Bool
 has_room_for_a_name f = nat_lt (names_in_all f.objects) f.limits.names
+
+-- what stands behind a name that a directory has, in its order of making
+abbrev pub IsBehind : List (List ℕ × ℕ) → List ℕ → Option (List ℕ × ℕ) → Type 0
+IsBehind names name next = (place o : ℕ) → slice_get names place ≡ Some (name, o) → next ≡ slice_get names (place + 1)

@@ -56,10 +56,15 @@ pub record Frame : Type 0 where
   pub opens : List (Option Open)
   pub log : List AuditLine
 
--- What an object holds: a file its bytes, in the first list; a pipe what end 0 can read, and what end 1 can.
-pub record Holding : Type 0 where
-  pub first : List ℕ
-  pub second : List ℕ
+-- What an object holds: a file all of it in the first list; a pipe what end 0 can read, and what end 1 can. That may be
+-- anything that moves as bytes do.
+pub record HoldingOf (A : Type 0) : Type 0 where
+  pub first : List A
+  pub second : List A
+
+-- bytes
+abbrev pub Holding : Type 0
+Holding = HoldingOf ℕ
 
 -- The bytes of each object, the offset of each open entry and the exit status of each process, by the same numbers.
 pub record Content : Type 0 where
