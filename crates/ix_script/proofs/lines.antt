@@ -9,3 +9,4 @@ pub mod FormWords
 pub mod Faultless
 pub mod Fitting
 pub mod EachLine
+pub mod ByRole

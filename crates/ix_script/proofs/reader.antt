@@ -16,3 +16,6 @@ pub mod Walking
 pub mod Summing
 pub mod Fitted
 pub mod Commands
+pub mod Scheduling
+pub mod Stretched
+pub mod Once

@@ -4,3 +4,4 @@ pub mod Canonical
 pub mod Laws
 pub mod Held
 pub mod Packed
+pub mod Schedule

@@ -3,6 +3,5 @@ pub mod Cutting
 pub mod Words
 pub mod Payloads
 pub mod Spellings
-pub mod PayloadForms
 pub mod PayloadBytes
 pub mod Spelled

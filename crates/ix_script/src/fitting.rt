@@ -20,35 +20,6 @@ use ix_label::Steps;
 use ix_model::{FsSpec, Path, blocks_for, fs_of, is_mount};
 use std::sync::ledger::Ledger;
 
-fn has_inode(fss: &[FsSpec], k: usize, count: usize) -> bool
-    requires { k < length fss.now }
-    ensures { result ≡ nat_le (count + 2) (fs_at fss.now k).inodes }
-{
-    match (fss[k].inodes as usize).checked_sub(2) {
-        Some(most) => count <= most,
-        None => false,
-    }
-}
-
-fn has_blocks(fss: &[FsSpec], k: usize, taken: usize, needed: usize) -> bool
-    requires { k < length fss.now }
-    ensures { result ≡ nat_le (taken + needed) (fs_at fss.now k).blocks }
-{
-    match (fss[k].blocks as usize).checked_sub(taken) {
-        Some(left) => needed <= left,
-        None => false,
-    }
-}
-
-fn has_name(fss: usize, made: usize, names: u32) -> bool
-    ensures { result ≡ nat_le (fss + made) names }
-{
-    match (names as usize).checked_sub(fss) {
-        Some(left) => made <= left,
-        None => false,
-    }
-}
-
 /// Whether a label is above the ceiling of the file system that the path leads to.
 fn is_above_fs<L: Ledger>(
     fss: &[FsSpec],
@@ -100,9 +71,12 @@ impl<'a> Draft<'a> {
     {
         let fss = self.header.fss.as_slice();
         let k = fs_of(fss, &path.path());
-        !has_name(fss.len(), self.header.made.count, self.header.limits.names)
-            || !has_inode(fss, k, self.header.taken.counts[k])
-            || !has_blocks(fss, k, self.header.taken.blocks[k], blocks_for(len))
+        let names = fss.len().saturating_add(self.header.made.count);
+        let inodes = self.header.taken.counts[k].saturating_add(2);
+        let blocks = self.header.taken.blocks[k].saturating_add(blocks_for(len));
+        names > self.header.limits.names as usize
+            || inodes > fss[k].inodes as usize
+            || blocks > fss[k].blocks as usize
     }
 
     /// Whether a label is not below its ceiling.
@@ -156,13 +130,6 @@ impl<'a> Draft<'a> {
         }
     }
 
-    fn has_all_lanes(&self, word: &'a [u8]) -> bool
-        requires told { DraftTold self.now }
-        ensures { result ≡ (not (is_known word.now (lanes_of self.now.lines)) && nat_le 64 (length (lanes_of self.now.lines))) }
-    {
-        !is_known(word, self.body.lanes.as_slice()) && self.body.lanes.len() >= 64
-    }
-
     /// Whether there are too many.
     pub fn is_one_too_many(&self, line: &Line<'a>) -> bool
         requires told { DraftTold self.now }
@@ -170,7 +137,10 @@ impl<'a> Draft<'a> {
     {
         match line {
             Line::Fs { .. } => self.header.told >= 16,
-            Line::Lane { name } => self.has_all_lanes(name.as_bytes()),
+            Line::Lane { name } => {
+                !is_known(name.as_bytes(), self.body.lanes.as_slice())
+                    && self.body.lanes.len() >= 64
+            }
             _ => is_command(line) && self.body.commands >= 200_000,
         }
     }
@@ -181,8 +151,7 @@ impl<'a> Draft<'a> {
         ensures { result ≡ lacks_policy self.now.lines line.now }
     {
         match line {
-            Line::Priv { .. } => !self.header.policy,
-            Line::Login { .. } => !self.header.policy,
+            Line::Priv { .. } | Line::Login { .. } => !self.header.policy,
             _ => false,
         }
     }

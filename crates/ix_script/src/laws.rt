@@ -1,6 +1,7 @@
 //! Laws of scripts and of their canonical text, each a contract of its own.
 
 ghost use Rattle.ix_script.specs.scripts.Laws.{ReadsBack, OneByteMore, LineStays, ScriptsFit, NoShorterPayload};
+ghost use Rattle.ix_script.specs.scripts.Schedule.{LanesAreStretches, StretchesStand};
 
 /// Does nothing: its contract is the law that the canonical text of a script that was read is
 /// read as the same script, where it has at most 16,777,216 bytes.
@@ -30,4 +31,11 @@ pub fn no_shorter_payload()
 /// do the labels and ceilings of its config.
 pub fn scripts_fit()
     ensures { ScriptsFit }
+{}
+
+/// Does nothing: its contract is the law that the lines of a lane are those of its stretches, one
+/// after the other, and that the phase of a stretch is the last that has begun where it begins.
+pub fn lanes_are_stretches()
+    ensures lines { LanesAreStretches }
+    ensures phases { StretchesStand }
 {}

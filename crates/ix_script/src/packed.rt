@@ -87,30 +87,15 @@ pub(crate) fn has_one_spelling(text: &[u8]) -> bool
     !is_skipped(text) && !begins_with_text(b"write", text) && !begins_with_text(b"file", text)
 }
 
-/// How many line feeds there are in a few bytes. A small sum: so many of them are looked at at once.
-fn feeds_in_few(bytes: &[u8]) -> u8
-    requires { length bytes.now ≤ 255 }
-    ensures { result ≤ length bytes.now }
-{
-    let mut feeds = 0;
-    for b in bytes {
-        feeds += u8::from(*b == b'\n');
-    }
-    feeds
-}
-
 /// How many line feeds there are.
 fn feeds_in(bytes: &[u8]) -> usize
     ensures { result ≤ length bytes.now }
 {
     let mut feeds = 0;
-    let mut rest = bytes;
-    'parts: while rest.len() > 255 {
-        let (part, more) = rest.split_at(255);
-        feeds += usize::from(feeds_in_few(part));
-        rest = more;
+    for b in bytes {
+        feeds += usize::from(*b == b'\n');
     }
-    feeds + usize::from(feeds_in_few(rest))
+    feeds
 }
 
 /// Where the text of a line begins.

@@ -1,5 +1,5 @@
 ghost use Rattle.std.specs.Prelude.{◌≡◌, ◌++◌, ◌∷◌, ◌+◌, ◌<◌, [], List, length, take, OnOk, IfOk};
-ghost use Rattle.ix_script.specs.lines.Before.{fs_told, proc_told, object_told, or_default};
+ghost use Rattle.ix_script.specs.lines.Before.{fs_told, proc_told, object_told};
 ghost use Rattle.ix_script.specs.scripts.Held.{IsPlan};
 ghost use Rattle.ix_script.specs.scripts.Scripts.{config_of};
 ghost use Rattle.ix_script.specs.declared.line.Line.{Line};
@@ -7,9 +7,7 @@ ghost use Rattle.ix_script.specs.declared.line.Line.{Line};
 use crate::before::header::{default_fs, default_limits, fs_spec, limits_after};
 use crate::line::Line;
 use crate::packed::Lines;
-use crate::values::payload::Payload;
 use bitflags::Flags;
-use ix_label::Form;
 use ix_model::{
     Bytes, Config, FsSpec, Limits, List, NoMemory, ObjSpec, PathBuf, PrivSet, ProcSpec,
 };
@@ -53,15 +51,6 @@ fn add_proc(procs: &mut List<ProcSpec>, line: &Line<'_>) -> Result<(), NoMemory>
     }
 }
 
-/// The bytes of a file.
-fn decoded(alloc: Global, payload: &Payload<'_, 1_048_576>) -> Result<Bytes, NoMemory>
-    ensures { IfOk result (λ bytes. bytes ≡ payload.now) }
-{
-    let mut bytes = Vec::new(alloc);
-    payload.decode_into(&mut bytes)?;
-    Ok(Bytes::from_vec(bytes))
-}
-
 fn add_object(alloc: Global, objects: &mut List<ObjSpec>, line: &Line<'_>) -> Result<(), NoMemory>
     ensures { OnOk result (objects.new ≡ objects.old ++ object_told line.now) }
 {
@@ -87,7 +76,8 @@ fn add_object(alloc: Global, objects: &mut List<ObjSpec>, line: &Line<'_>) -> Re
             lic,
             bytes,
         } => {
-            let bytes = decoded(alloc, bytes)?;
+            let mut decoded = Vec::new(alloc);
+            bytes.decode_into(&mut decoded)?;
             objects.push(ObjSpec {
                 path: PathBuf::from_path(&path.path()),
                 dir: false,
@@ -95,21 +85,11 @@ fn add_object(alloc: Global, objects: &mut List<ObjSpec>, line: &Line<'_>) -> Re
                 frozen: *frozen,
                 cap: *cap,
                 lic: *lic,
-                bytes,
+                bytes: Bytes::from_vec(decoded),
             })
         }
         _ => Ok(()),
     }
-}
-
-/// Adds the file system that is there where none is told.
-fn add_default(form: Form, fss: &mut List<FsSpec>) -> Result<(), NoMemory>
-    ensures { OnOk result (fss.new ≡ or_default form fss.old) }
-{
-    if fss.len() == 0 {
-        fss.push(default_fs(form))?;
-    }
-    Ok(())
 }
 
 impl Plan {
@@ -165,7 +145,9 @@ pub(crate) fn config(alloc: Global, lines: &Lines) -> Result<Config, NoMemory>
     ensures { IfOk result (λ c. c ≡ config_of lines.now) }
 {
     let mut plan = Plan::of(alloc, lines)?;
-    add_default(lines.form(), &mut plan.fss)?;
+    if plan.fss.len() == 0 {
+        plan.fss.push(default_fs(lines.form()))?;
+    }
     Ok(Config {
         fss: plan.fss,
         limits: plan.limits,

@@ -1,12 +1,13 @@
 ghost use Rattle.std.specs.Prelude.{◌≡◌, ◌<◌, ◌≤◌, ◌∷◌, [], true, None, Some, length, IfOk, IfErr};
 ghost use Rattle.std.specs.List.{list_all};
 ghost use Rattle.ix_model.specs.opening.Valid.{is_valid};
-ghost use Rattle.ix_script.specs.lines.Before.{commands};
+ghost use Rattle.ix_script.specs.lines.Before.{commands, lanes_of};
 ghost use Rattle.ix_script.specs.lines.Faults.{fault_from, fault_of};
 ghost use Rattle.ix_script.specs.texts.Lines.{cut, lines_of};
 ghost use Rattle.ix_script.specs.reader.Readers.{HasCause, in_printable_lines};
 ghost use Rattle.ix_script.specs.scripts.Scripts.{form_in, lines_said, script_of, config_of};
 ghost use Rattle.ix_script.specs.reader.Told.{DraftTold};
+ghost use Rattle.ix_script.specs.scripts.Schedule.{LanesOnce};
 
 use crate::before::draft::Draft;
 use crate::cutting::cut::Words;
@@ -56,6 +57,8 @@ fn draft_of<'a, L: Ledger>(
     ensures said { IfOk result (λ d. lines_said (form_in (lines_of bytes.now)) (lines_of bytes.now) ≡ Some d.lines) }
     ensures few { IfOk result (λ d. length d.lines ≤ 16777216) }
     ensures few_commands { IfOk result (λ d. commands d.lines ≤ 200000) }
+    ensures few_lanes { IfOk result (λ d. length (lanes_of d.lines) ≤ 64) }
+    ensures once { IfOk result (λ d. LanesOnce d.lines) }
     ensures fail { IfErr result (λ e. HasCause e (fault_from [] (lines_of bytes.now))) }
 {
     let printable = all_printable_lines(bytes);
@@ -95,7 +98,8 @@ fn read_with<L: Ledger>(alloc: Global, bytes: &[u8], blank: Blank) -> Result<Scr
     }
     let mut steps = Steps::<L>::new(blank);
     let draft = draft_of(alloc, bytes, &mut steps)?;
-    Ok(Script::of(draft))
+    let script = Script::of(alloc, draft)?;
+    Ok(script)
 }
 
 /// The script that the bytes are; else the first line that breaks a rule, and the first rule that it breaks, by all rules

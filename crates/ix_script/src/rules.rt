@@ -79,18 +79,6 @@ pub(crate) fn is_policy_line(text: &[u8]) -> bool
     is(text, b"policy") || begins_with_text(b"policy ", text)
 }
 
-/// Rules 4 and 5 of the first line, where it isn't a policy.
-fn check_first_words(text: &[u8]) -> Result<(), Rule>
-    ensures { Finds result (if is_policy_line text.now then None else words_fault (words_of text.now)) }
-{
-    if is_policy_line(text) {
-        return Ok(());
-    }
-    let mut words = Words::none();
-    words.cut(text);
-    check_words(&words)
-}
-
 /// `ix 1` and `ix 2`: the form in which the labels of a script are spelled. `None` exactly for other texts.
 #[tactic(auto, unfolding(crate::specs::lines::Said::version_of))]
 pub(crate) fn version_of(text: &[u8]) -> Option<LabelForm>
@@ -105,12 +93,16 @@ pub(crate) fn version_of(text: &[u8]) -> Option<LabelForm>
     }
 }
 
-/// Line 1: rules 4 to 6.
+/// Line 1: rules 4 and 5, where it isn't a policy, and 6.
 #[tactic(auto, unfolding(crate::specs::lines::Faults::first_line_fault))]
 fn first_line(text: &[u8]) -> Result<Line<'_>, Rule>
     ensures { Tells [] result (first_line_fault text.now) (line_of One text.now) }
 {
-    check_first_words(text)?;
+    if !is_policy_line(text) {
+        let mut words = Words::none();
+        words.cut(text);
+        check_words(&words)?;
+    }
     match version_of(text) {
         Some(form) => Ok(Line::Version { form }),
         None => Err(Rule::NO_VERSION),
@@ -124,7 +116,7 @@ impl<'a> Draft<'a> {
         requires told { DraftTold self.now }
         ensures { Finds result (stand_fault self.now.lines form words.now) }
     {
-        if self.is_late(form) {
+        if form.is_header() && self.body.started {
             return Err(Rule::LATE_HEADER);
         }
         if self.is_outside(form) {

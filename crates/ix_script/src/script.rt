@@ -4,6 +4,7 @@ ghost use Rattle.std.proofs.Common.{option_map};
 ghost use Rattle.ix_script.specs.lines.Before.{form_told, lanes_of, commands};
 ghost use Rattle.ix_script.specs.lines.Roles.{role_of};
 ghost use Rattle.ix_script.specs.scripts.Need.{need};
+ghost use Rattle.ix_script.specs.scripts.Schedule.{LanesOnce, phases, stretches_of};
 ghost use Rattle.ix_script.specs.scripts.Scripts.{config_of, policy_of};
 ghost use Rattle.ix_script.specs.reader.Told.{DraftTold};
 
@@ -12,6 +13,7 @@ use crate::line::Line;
 use crate::packed::Lines;
 use crate::plan::config;
 use crate::role::Role;
+use crate::schedule::{Schedule, Stretch};
 use ix_label::Form;
 use ix_model::{Config, List, Name, NoMemory};
 use std::alloc::Global;
@@ -23,13 +25,14 @@ pub struct Script {
     lines: Lines,
     /// The names of the lanes, in the order in which they first appear.
     lanes: List<Name>,
+    schedule: Schedule,
 }
 
 impl Model for Script {
     ghost use Rattle.std.specs.Prelude.{List};
     ghost use Rattle.std.specs.Coded.{codes};
     ghost use Rattle.ix_label.specs.contracts.label.Label as label_type;
-    ghost use Rattle.ix_script.specs.scripts.Held.{IsScript};
+    ghost use Rattle.ix_script.specs.scripts.Held.{IsSchedule, IsScript};
     ghost use Rattle.ix_script.specs.declared.line.Line.{Line};
 
     ghost Value = { List Line };
@@ -38,23 +41,27 @@ impl Model for Script {
 
     ghost view = { λ s. s.lines };
 
-    ghost invariant = { λ s. IsScript s.lines s.lanes };
+    ghost invariant = { λ s. IsScript s.lines s.lanes × IsSchedule s.schedule s.lines s.lanes };
 }
 
 impl Script {
     /// The script of a draft.
-    pub(crate) fn of(draft: Draft<'_>) -> Script
+    pub(crate) fn of(alloc: Global, draft: Draft<'_>) -> Result<Script, NoMemory>
         requires told { DraftTold draft }
         requires valid { is_valid (config_of draft.lines) ≡ true }
         requires few { length draft.lines ≤ 16777216 }
         requires few_commands { commands draft.lines ≤ 200000 }
-        ensures { result ≡ draft.entry.lines }
+        requires few_lanes { length (lanes_of draft.lines) ≤ 64 }
+        requires once { LanesOnce draft.lines }
+        ensures { IfOk result (λ s. s ≡ draft.entry.lines) }
     {
         let lanes = draft.body.into_lanes();
-        Script {
+        let schedule = Schedule::of(alloc, &draft.lines, lanes.as_slice())?;
+        Ok(Script {
             lines: draft.lines,
             lanes,
-        }
+            schedule,
+        })
     }
 
     /// All lines, in order.
@@ -76,6 +83,29 @@ impl Script {
         ensures { result ≡ option_map role_of (if number == 0 then None else slice_get self.now (number - 1)) }
     {
         self.lines.role((number as usize).checked_sub(1)?)
+    }
+
+    /// How many lanes it has: each stands at most once in a phase.
+    pub fn lanes(&self) -> u32
+        ensures lanes { result ≡ length (lanes_of self.now) }
+        ensures few { result ≤ 64 }
+        ensures once { LanesOnce self.now }
+    {
+        self.lanes.len() as u32
+    }
+
+    /// How many phases it has: one at least.
+    pub fn phases(&self) -> u32
+        ensures { result ≡ phases self.now }
+    {
+        self.schedule.phases
+    }
+
+    /// The stretch of a lane at a place from 0, in the order of the lines; `None` exactly past the last.
+    pub fn stretch(&self, seat: u32, n: u32) -> Option<Stretch>
+        ensures { result ≡ slice_get (stretches_of self.now seat) n }
+    {
+        self.schedule.stretch(seat as usize, n as usize)
     }
 
     /// The name of a lane; `None` exactly past the last.

@@ -7,7 +7,6 @@ pub mod labels;
 pub mod numbers;
 pub mod paths;
 pub mod payload;
-pub mod payload_form;
 pub mod places;
 pub mod policy;
 pub mod spelling;

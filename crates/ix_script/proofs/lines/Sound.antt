@@ -9,7 +9,7 @@ use Rattle.ix_model.specs.opening.Valid.{is_within}
 use Rattle.ix_model.specs.world.Texts.{names_in}
 use Rattle.ix_model.proofs.texts.Joining.{some_piece}
 use Rattle.ix_label.specs.declared.form.Form as spelled
-use Rattle.ix_script.specs.lines.Before.{form_told, is_known, fss_told}
+use Rattle.ix_script.specs.lines.Before.{form_told, is_known, fss_told, phase_lanes}
 use Rattle.ix_script.specs.texts.Cutting.{words_of, word_at, is_skipped, is_policy_line, policy_text}
 use Rattle.ix_text.specs.Bytes.{begins, is_empty}
 use Rattle.ix_script.specs.texts.Words.{is_numeral, value, number_of, is_path_word, path_in, path_of, made_path_of, what_of, state_of}
@@ -58,6 +58,7 @@ abbrev pub Sound : List Line → Line → Type 0
 Sound before (line.Limit w n) = is_within (bounds_of w).0 (bounds_of w).1 n ≡ true
 Sound before (line.Fs name ceiling blocks inodes) = SoundFs before name blocks inodes
 Sound before (line.Dir path label frozen) = HasPlace path
+Sound before (line.Lane name) = is_known name (phase_lanes before) ≡ false
 Sound before (line.File path label frozen cap lic bytes) = SoundFile path bytes
 Sound before _ = Unit {0}
 
@@ -182,7 +183,7 @@ sound_form labels before form.Proc words l new h = made_by (λ x. line.Proc x.0 
 sound_form labels before form.Dir words l new h = made_by (λ x. line.Dir x.0 x.1.0 x.1.1) before _ l (λ x e. made_place (word_at words 1) x.0 (apart _ _ x e).first) h
 sound_form labels before form.File words l new h = made_by (λ x. line.File x.0 x.1.0 x.1.1.0 x.1.1.1.0 x.1.1.1.1.0 x.1.1.1.1.1) before _ l (λ x e. file_sound labels before words x e) h
 sound_form labels before form.Phase words l new h = let e : line.Phase ≡ l = cc in subst (λ (k : Line). Sound before k) e tt
-sound_form labels before form.Lane words l new h = made_by (λ x. line.Lane x) before _ l (λ x e. tt) h
+sound_form labels before form.Lane words l new h = made_by (λ x. line.Lane x) before _ l (λ x e. subst (λ (n : List ℕ). is_known n (phase_lanes before) ≡ false) (named (word_at words 1) x e) new) h
 sound_form labels before (form.Plain c) words l new h = made_by (λ x. plain_line c x) before _ l (λ x e. plain_sound before c x) h
 sound_form labels before (form.OnPath c) words l new h = made_by (λ x. path_line c x.0 x.1) before _ l (λ x e. path_sound before c x.0 x.1) h
 sound_form labels before (form.OnFd c) words l new h = made_by (λ x. fd_line c x.0 x.1) before _ l (λ x e. fd_sound before c x.0 x.1) h

@@ -2,7 +2,7 @@
 use Rattle.std.proofs.Common.{◌≡◌, ℕ, ◌+◌, ◌*◌, ◌<◌, ◌≤◌, true, false, true≢false, List, [], ◌∷◌, ◌++◌, length, Option, Some, None, option_map, refl, sym, ap, ◌∙◌, subst, arith, append_assoc, length-append}
 use Rattle.std.proofs.lemmas.List.{append-nil}
 use Rattle.ix_model.specs.opening.Valid.{is_valid}
-use Rattle.ix_script.specs.lines.Before.{form_by, form_told, commands}
+use Rattle.ix_script.specs.lines.Before.{form_by, form_told, lanes_of, commands}
 use Rattle.std.specs.Prelude.{unwrap_or}
 use Rattle.std.proofs.lemmas.Option.{same_Some}
 use Rattle.ix_label.specs.declared.form.Form.{Form}
@@ -22,7 +22,9 @@ use Rattle.ix_script.specs.declared.line.Line.{Line}
 use Rattle.ix_script.specs.declared.line.Line.TheVariants as line
 use Rattle.ix_script.proofs.lines.Deciding.{version_said, first_version, first_faultless}
 use Rattle.ix_script.proofs.reader.Costing.{cheap_none, cheap_next}
-use Rattle.ix_script.proofs.reader.Counting.{no_commands, commands_stay_few}
+use Rattle.ix_script.proofs.reader.Counting.{no_commands, commands_stay_few, no_lanes, lanes_stay_few}
+use Rattle.ix_script.proofs.reader.Once.{none_once, lanes_stay_once}
+use Rattle.ix_script.specs.scripts.Schedule.{LanesOnce}
 use Rattle.ix_script.proofs.reader.Staying.{valid_next}
 use Rattle.ix_script.proofs.reader.Told.{mapped}
 
@@ -39,6 +41,8 @@ pub record Reading (texts : List (List ℕ)) (total : ℕ) (rest : List ℕ) (d 
   pub first : is_empty d.lines ≡ true → cut rest ≡ texts
   pub short : length d.lines + length rest ≤ total
   pub few_commands : commands d.lines ≤ 200000
+  pub few_lanes : length (lanes_of d.lines) ≤ 64
+  pub once : LanesOnce d.lines
   pub cheap : need d.lines ≤ 4352 * commands d.lines
 
 -- ---- a line without a fault
@@ -85,6 +89,8 @@ goes_on texts total rest d e text more l r first fewer right told is =
       first = λ none. let some : is_empty e.lines ≡ false = ap is_empty is ∙ some_pushed d.lines l in absurd (true≢false (sym none ∙ some));
       short = let long : length e.lines ≡ length d.lines + 1 = ap length is ∙ length-append d.lines (l ∷ []) in let s = r.short in omega arith;
       few_commands = subst (λ (ls : List Line). commands ls ≤ 200000) (sym is) few;
+      few_lanes = subst (λ (ls : List Line). length (lanes_of ls) ≤ 64) (sym is) (lanes_stay_few d.lines l right.fits r.few_lanes);
+      once = subst (λ (ls : List Line). LanesOnce ls) (sym is) (lanes_stay_once (form_told d.lines) d.lines text l right.faultless right.meant r.once);
       cheap = subst (λ (ls : List Line). need ls ≤ 4352 * commands ls) (sym is) cheap;
     }
 
@@ -125,6 +131,8 @@ start bytes d told none valid =
       first = λ no. refl;
       short = let long : length d.lines ≡ 0 = ap length none in omega arith;
       few_commands = subst (λ (ls : List Line). commands ls ≤ 200000) (sym none) no_commands;
+      few_lanes = subst (λ (ls : List Line). length (lanes_of ls) ≤ 64) (sym none) no_lanes;
+      once = subst (λ (ls : List Line). LanesOnce ls) (sym none) none_once;
       cheap = subst (λ (ls : List Line). need ls ≤ 4352 * commands ls) (sym none) cheap_none;
     }
 

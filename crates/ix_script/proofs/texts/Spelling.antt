@@ -1,16 +1,19 @@
 -- Reading a payload piece by piece, as loops do.
-use Rattle.std.proofs.Common.{◌≡◌, ℕ, zero, suc, ◌+◌, ◌*◌, ◌/◌, ◌⊎◌, inl, inr, subst, ◌<◌, ◌≤◌, ◌==◌, Bool, true, false, ◌&&◌, List, [], ◌∷◌, ◌++◌, length, drop, get_or, Option, Some, None, refl, sym, ◌∙◌, ap, append_assoc, arith, IsSome, Result, Ok, Err, add-one, drop-cons, length-drop, length-append}
-use Rattle.std.specs.Prelude.{is_some}
+use Rattle.std.proofs.Common.{◌≡◌, ℕ, zero, suc, ◌+◌, ◌*◌, inl, inr, ◌<◌, ◌≤◌, ◌==◌, Bool, true, false, ◌&&◌, List, [], ◌∷◌, ◌++◌, length, drop, get_or, Option, Some, None, refl}
+use Rattle.std.proofs.Common.{sym, ◌∙◌, ap, append_assoc, arith, IsSome, Result, Ok, Err, add-one, drop-cons, length-drop, length-append}
+use Rattle.std.specs.Prelude.{is_some, nat_le}
 use Rattle.std.specs.Result.{IsOk}
 use Rattle.std.proofs.lemmas.Option.{none-some}
-use Rattle.std.proofs.lemmas.Bool.{le-ltb}
+use Rattle.std.proofs.lemmas.Bool.{cases_Bool, le-ltb, leb-true}
 use Rattle.std.specs.List.{list_all}
 use Rattle.std.proofs.lemmas.List.{append-nil, drop_all}
 use Rattle.ix_text.specs.Bytes.{is_empty}
-use Rattle.ix_script.specs.texts.Payloads.{◌>>=◌, digit_of, pair_of, pairs_of, after_bytes, bytes_of, escape_step, ends, quoted_from}
-use Rattle.ix_script.specs.texts.Spelled.{HasCount, Counts, spelling_fault}
+use Rattle.ix_script.specs.texts.Payloads.{◌>>=◌, digit_of, pair_of, pairs_of, after_bytes, bytes_of, escape_step, ends, quoted_from, payload_of}
+use Rattle.ix_script.specs.lines.Said.{payload_within, within}
+use Rattle.ix_script.specs.texts.Spelled.{HasCount, Spells, spelling_fault}
 use Rattle.ix_script.specs.reader.Readers.{Refuses}
 use Rattle.ix_script.specs.declared.rule.Rule.{Rule}
+use Rattle.ix_script.specs.declared.values.spelling.Spelling.{Spelling}
 use Rattle.ix_script.specs.declared.values.escape.Escape.{Escape}
 use Rattle.ix_script.specs.declared.values.escape.Escape.TheVariants as escape
 use Rattle.ix_script.proofs.texts.Pieces.{last_place}
@@ -119,9 +122,11 @@ unfolding quoted_from
 quoted_at at text i h t = rw (drop-cons text i 0, t, add-one) refl
 
 pub quoted_read : (front text : List ℕ) (at next : Escape) (byte : Option ℕ) (i : ℕ) (total : Option (List ℕ)) → i < length text → ends at (get_or text i 0) ≡ false
-    → escape_step at (get_or text i 0) ≡ Some (next, byte) → after_bytes front (quoted_from at (drop i text)) ≡ total → after_bytes (front ++ bytes_of byte) (quoted_from next (drop (i + 1) text)) ≡ total
+    → escape_step at (get_or text i 0) ≡ Some (next, byte) → after_bytes front (quoted_from at (drop i text)) ≡ total
+    → after_bytes (front ++ bytes_of byte) (quoted_from next (drop (i + 1) text)) ≡ total
 quoted_read front text at next byte i total h t s so_far =
-    let one : after_bytes front (quoted_from at (drop i text)) ≡ after_bytes (front ++ bytes_of byte) (quoted_from next (drop (i + 1) text)) = rw (quoted_at at text i h t, s) (regroup front (bytes_of byte) (quoted_from next (drop (i + 1) text))) in
+    let one : after_bytes front (quoted_from at (drop i text)) ≡ after_bytes (front ++ bytes_of byte) (quoted_from next (drop (i + 1) text)) = rw (quoted_at at text i h t, s) (regroup
+    front (bytes_of byte) (quoted_from next (drop (i + 1) text))) in
     sym one ∙ so_far
 
 pub quoted_broken : (front text : List ℕ) (at : Escape) (i : ℕ) (total : Option (List ℕ)) → i < length text → ends at (get_or text i 0) ≡ false
@@ -158,7 +163,8 @@ at_most_one (Some byte) = omega arith
 
 module _ (all : Option (List ℕ)) where
   pub quoted_counted : (n : ℕ) (text : List ℕ) (at next : Escape) (byte : Option ℕ) (i : ℕ) → i < length text → ends at (get_or text i 0) ≡ false
-      → escape_step at (get_or text i 0) ≡ Some (next, byte) → Counted n i 0 (quoted_from at (drop i text)) all → Counted (n + length (bytes_of byte)) (i + 1) 0 (quoted_from next (drop (i + 1) text)) all
+      → escape_step at (get_or text i 0) ≡ Some (next, byte) → Counted n i 0 (quoted_from at (drop i text)) all
+      → Counted (n + length (bytes_of byte)) (i + 1) 0 (quoted_from next (drop (i + 1) text)) all
   quoted_counted n text at next byte i h t s c = record {
     front = c.front ++ bytes_of byte;
     whole = quoted_read c.front text at next byte i all h t s c.whole;
@@ -167,35 +173,17 @@ module _ (all : Option (List ℕ)) where
   }
 
 -- ---- what is known to spell bytes
-abbrev pub is_even : ℕ → Type 0
-is_even n = (half : ℕ) × (n ≡ half * 2)
-
-halved : (n : ℕ) → is_even n ⊎ ((half : ℕ) × (n ≡ half * 2 + 1))
-halved zero = inl (0, refl)
-halved (suc n) = elim (halved n) [
-  | inl e ↦ inr (e.0, omega (arith, e.1))
-  | inr o ↦ inl (suc o.0, omega (arith, o.1))
-]
-
-counted_pairs : (text : List ℕ) (half : ℕ) → length text ≡ half * 2 → (b : Bool) → list_all is_hex text ≡ b → IsSome (pairs_of text) → HasCount half (pairs_of text)
-counted_pairs text half long true e some = pairs_even half text long e
-counted_pairs text half long false e some = let none : IsSome {T = List ℕ} None = rw (pairs_bad text e) at some in cc
-
-pub known_pairs : (text : List ℕ) → IsSome (pairs_of text) → HasCount (length text / 2) (pairs_of text)
-known_pairs text some = elim (halved (length text)) [
-  | inl e ↦ subst (λ (n : ℕ). HasCount n (pairs_of text)) (omega (arith, e.1)) (counted_pairs text e.0 e.1 (list_all is_hex text) refl some)
-  | inr o ↦ let none : IsSome {T = List ℕ} None = rw (pairs_odd o.0 text o.1) at some in cc
-]
-
-few_counted : (r : Rule) (bytes : List ℕ) → ((most : ℕ) → Refuses r (spelling_fault most (Some bytes))) → ⊥
+spelled_few : (most : ℕ) (e : Rule) (bytes : List ℕ) → Refuses e (spelling_fault most (Some bytes)) → IsSome (within most (Some bytes)) → ⊥
 unfolding spelling_fault
-few_counted r bytes h = none-some r.0 (rw (le-ltb (length bytes) (length bytes) (omega arith)) at (h (length bytes)))
+spelled_few most e bytes h some = elim (cases_Bool (nat_le (length bytes) most)) [
+  | inl few ↦ none-some e.0 (rw (le-ltb most (length bytes) (leb-true _ _ few)) at h)
+  | inr many ↦ let none : IsSome {T = List ℕ} None = rw many at some in cc
+]
 
-pub counted_right : (r : Result ℕ Rule) (meaning : Option (List ℕ)) → ((most : ℕ) → Counts most r meaning) → IsSome meaning → IsOk r
-counted_right (Ok n) meaning h some = refl
-counted_right (Err e) None h some = cc
-counted_right (Err e) (Some bytes) h some = absurd (few_counted e bytes h)
+spelled_other : (most : ℕ) (e : Rule) (meaning : Option (List ℕ)) → Refuses e (spelling_fault most meaning) → IsSome (within most meaning) → IsOk {T = Spelling × ℕ} (Err e)
+spelled_other most e None h some = cc
+spelled_other most e (Some bytes) h some = absurd (spelled_few most e bytes h some)
 
-pub counts_of : (r : Result ℕ Rule) (n : ℕ) (meaning : Option (List ℕ)) → ((most : ℕ) → Counts most r meaning) → r ≡ Ok n → HasCount n meaning
-counts_of (Ok m) n meaning h is = let same : m ≡ n = cc in subst (λ (k : ℕ). HasCount k meaning) same (h 0)
-counts_of (Err e) n meaning h is = cc
+pub spelled_right : (most : ℕ) (r : Result (Spelling × ℕ) Rule) (word : List ℕ) → Spells most r (payload_of word) → IsSome (payload_within most word) → IsOk r
+spelled_right most (Ok p) word h some = refl
+spelled_right most (Err e) word h some = spelled_other most e (payload_of word) h some

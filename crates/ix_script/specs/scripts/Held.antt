@@ -1,17 +1,27 @@
 -- What holds of every script.
-use Rattle.std.specs.Prelude.{◌≡◌, ℕ, ◌≤◌, true, List, length}
+use Rattle.std.specs.Prelude.{◌≡◌, ℕ, ◌≤◌, true, List, [], length, slice_index_or}
 use Rattle.ix_model.specs.opening.Valid.{is_valid}
 use Rattle.ix_script.specs.lines.Before.{lanes_of, commands, fss_told, limits_of, procs_of, objects_of}
+use Rattle.ix_script.specs.scripts.Schedule.{LanesOnce, phases, stretches_from}
 use Rattle.ix_script.specs.scripts.Scripts.{config_of}
 use Rattle.ix_script.specs.declared.line.Line.{Line}
 use Rattle.ix_script.specs.declared.plan.Plan.{Plan}
+use Rattle.ix_script.specs.declared.schedule.Schedule.{Schedule}
 
--- its lanes are kept, its config is valid, and it has at most 16,777,216 lines and 200,000 commands
+-- its lanes are kept, its config is valid, and it has at most 16,777,216 lines, 200,000 commands and 64 lanes,
+-- each at most once in a phase
 pub record IsScript (lines : List Line) (names : List (List ℕ)) : Type 0 where
   pub lanes : names ≡ lanes_of lines
   pub valid : is_valid (config_of lines) ≡ true
   pub few : length lines ≤ 16777216
   pub few_commands : commands lines ≤ 200000
+  pub few_lanes : length (lanes_of lines) ≤ 64
+  pub once : LanesOnce lines
+
+-- the schedule of lines whose lanes have these names
+pub record IsSchedule (s : Schedule) (lines : List Line) (names : List (List ℕ)) : Type 0 where
+  pub phases : s.phases ≡ phases lines
+  pub stretches : (seat : ℕ) → slice_index_or s.stretches.items seat [] ≡ stretches_from names seat 0 0 lines
 
 -- what lines tell of the machine that starts
 pub record IsPlan (p : Plan) (lines : List Line) : Type 0 where

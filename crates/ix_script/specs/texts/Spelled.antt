@@ -17,14 +17,14 @@ pub record HasCount (n : ℕ) (meaning : Option (List ℕ)) : Type 0 where
   pub spelled : meaning ≡ Some bytes
   pub count : n ≡ length bytes
 
--- what is counted is what is spelled
-abbrev pub Counts : ℕ → Result ℕ Rule → Option (List ℕ) → Type 0
-Counts most (Ok n) meaning = HasCount n meaning
-Counts most (Err e) meaning = Refuses e (spelling_fault most meaning)
-
 -- what is read is how these bytes are spelled, and how many they are
 pub record SpellsRight (s : Spelling) (n : ℕ) (meaning : Option (List ℕ)) : Type 0 where
   pub bytes : List ℕ
   pub meant : meaning ≡ Some bytes
   pub spelled : spelled_by s ≡ Some bytes
   pub count : n ≡ length bytes
+
+-- the same, where a rule may be broken
+abbrev pub Spells : ℕ → Result (Spelling × ℕ) Rule → Option (List ℕ) → Type 0
+Spells most (Ok p) meaning = SpellsRight p.0 p.1 meaning
+Spells most (Err e) meaning = Refuses e (spelling_fault most meaning)

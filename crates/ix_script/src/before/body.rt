@@ -7,6 +7,7 @@ use crate::before::given::Given;
 use crate::before::known::is_known;
 use crate::cutting::words::NameWord;
 use crate::line::Line;
+use crate::role::{Role, role_of};
 use ix_model::{List, Name, NoMemory};
 use std::alloc::Global;
 
@@ -31,19 +32,7 @@ pub(crate) struct Body<'a> {
 pub(crate) fn is_command(line: &Line<'_>) -> bool
     ensures { result ≡ is_command line.now }
 {
-    match line {
-        Line::Skipped
-        | Line::Version { .. }
-        | Line::Limit { .. }
-        | Line::Fs { .. }
-        | Line::Proc { .. } => false,
-        Line::Dir { .. }
-        | Line::File { .. }
-        | Line::Policy { .. }
-        | Line::Phase
-        | Line::Lane { .. } => false,
-        _ => true,
-    }
+    matches!(role_of(line), Role::Naming | Role::Server | Role::Command)
 }
 
 fn add_name(lanes: &mut List<Name>, name: &NameWord<'_>) -> Result<(), NoMemory>

@@ -92,19 +92,10 @@ pub(crate) fn default_fs(form: Form) -> FsSpec
     ensures { result ≡ default_fs form }
 {
     FsSpec {
-        name: root_name(),
+        name: Name::read(b"root").unwrap(),
         ceiling: Label::all_of(form),
         blocks: 4096,
         inodes: 256,
-    }
-}
-
-fn root_name() -> Name
-    ensures { result ≡ codes "root" }
-{
-    match Name::read(b"root") {
-        Some(name) => name,
-        None => unreachable!(),
     }
 }
 

@@ -1,9 +1,9 @@
 ghost use Rattle.std.specs.Prelude.{◌≡◌, map};
 ghost use Rattle.std.specs.List.{list_any};
 ghost use Rattle.ix_model.specs.world.Naming.{same_bytes};
-ghost use Rattle.ix_script.specs.lines.Before.{is_known, fss_told, whats_told, what_text, proc_names, phase_lanes};
+ghost use Rattle.ix_script.specs.lines.Before.{is_known, fss_told, whats_told, what_text, proc_names};
 ghost use Rattle.ix_script.specs.lines.Kinds as kind;
-ghost use Rattle.ix_script.specs.lines.Rules.{is_late, is_outside, is_given_twice, is_unknown, names_unknown};
+ghost use Rattle.ix_script.specs.lines.Rules.{is_outside, is_given_twice, is_unknown, names_unknown};
 ghost use Rattle.ix_script.specs.reader.Told.{DraftTold};
 
 use crate::before::draft::Draft;
@@ -40,16 +40,8 @@ fn is_limited(word: &[u8], whats: &[What]) -> bool
     whats.iter().any(|what| is(word, what_word(*what)))
 }
 
-/// Rules 8, 9, 20 and 21: where a line stands, and its names.
+/// Rules 9, 20 and 21: where a line stands, and its names.
 impl<'a> Draft<'a> {
-    /// Whether a header line stands after a phase.
-    pub fn is_late(&self, form: Form) -> bool
-        requires told { DraftTold self.now }
-        ensures { result ≡ is_late self.now.lines form }
-    {
-        form.is_header() && self.body.started
-    }
-
     /// Whether a command stands outside a lane, or a lane outside a phase.
     pub fn is_outside(&self, form: Form) -> bool
         requires told { DraftTold self.now }
@@ -82,13 +74,6 @@ impl<'a> Draft<'a> {
         self.header.procs.has(word)
     }
 
-    fn opens_lane(&self, word: &'a [u8]) -> bool
-        requires told { DraftTold self.now }
-        ensures { result ≡ is_known word.now (phase_lanes self.now.lines) }
-    {
-        is_known(word, self.body.phase_lanes.as_slice())
-    }
-
     /// Whether a name is given twice.
     pub fn gives_twice(&self, form: Form, words: &Words<'a>) -> bool
         requires told { DraftTold self.now }
@@ -98,7 +83,7 @@ impl<'a> Draft<'a> {
             Form::Fs => self.tells_fs(words.get(1)),
             Form::Limit => self.limits(words.get(1)),
             Form::Proc => self.tells_proc(words.get(1)),
-            Form::Lane => self.opens_lane(words.get(1)),
+            Form::Lane => is_known(words.get(1), self.body.phase_lanes.as_slice()),
             Form::Pipe => words.len() > 2 && is(words.get(3), words.get(4)),
             Form::Fork => words.len() > 3 && self.tells_proc(words.get(4)),
             Form::Login => words.len() > 4 && self.tells_proc(words.get(5)),

@@ -1,6 +1,6 @@
-ghost use Rattle.std.specs.Prelude.{◌≡◌, ℕ, ◌<◌, ◌≤◌, List, length};
+ghost use Rattle.std.specs.Prelude.{◌≡◌, ◌<◌};
 ghost use Rattle.ix_script.specs.reader.Placing.{is_entry, payload_place};
-ghost use Rattle.ix_script.specs.lines.Forms.{arity, tail_of, is_header, is_command_form, has_right_count};
+ghost use Rattle.ix_script.specs.lines.Forms.{is_header, is_command_form, has_right_count};
 
 use crate::cutting::cut::Words;
 use ix_text::is;
@@ -122,28 +122,12 @@ impl Form {
         }
     }
 
-    /// How many words stand after the first.
-    fn count(self) -> usize
-        ensures count { (words : List (List ℕ)) → result ≡ arity self words }
-        ensures few { result ≤ 6 }
-    {
-        self.kinds().len()
-    }
-
-    /// How many names may stand after `as`.
-    fn names_after_as(self) -> usize
-        ensures names { result ≡ length (tail_of self) }
-        ensures few { result ≤ 6 }
-    {
-        self.tail().len()
-    }
-
     /// Whether the line has the words of the form, and no others but `as` with its names.
     pub fn has_right_count(self, words: &Words<'_>) -> bool
         ensures { result ≡ has_right_count self words.now }
     {
-        let own = self.count();
-        let names = self.names_after_as();
+        let own = self.kinds().len();
+        let names = self.tail().len();
         words.len() == 1 + own
             || (names > 0 && words.len() == 2 + own + names && is(words.get(1 + own), b"as"))
     }

@@ -1,5 +1,5 @@
 ghost use Rattle.std.specs.Prelude.{◌≡◌};
-ghost use Rattle.ix_script.specs.texts.Cutting.{after_byte, is_quoted, parts_words, closes};
+ghost use Rattle.ix_script.specs.texts.Cutting.{after_byte, parts_words, closes};
 
 /// Where in a line a byte stands.
 #[derive(Clone, Copy)]
@@ -34,33 +34,17 @@ impl Spot {
         }
     }
 
-    fn is_quoted(self) -> bool
-        ensures { result ≡ is_quoted self }
-    {
-        match self {
-            Spot::Front => false,
-            Spot::Plain => false,
-            Spot::Quoted => true,
-            Spot::Escaped => true,
-        }
-    }
-
     /// Whether the byte stands between two words.
     pub fn parts_words(self, b: u8) -> bool
         ensures { result ≡ parts_words self b }
     {
-        b == b' ' && !self.is_quoted()
+        b == b' ' && !matches!(self, Spot::Quoted | Spot::Escaped)
     }
 
     /// Whether the byte closes the quotes that it stands in.
     pub fn closes(self, b: u8) -> bool
         ensures { result ≡ closes self b }
     {
-        match self {
-            Spot::Front => false,
-            Spot::Plain => false,
-            Spot::Quoted => b == b'"',
-            Spot::Escaped => false,
-        }
+        matches!(self, Spot::Quoted) && b == b'"'
     }
 }

@@ -44,6 +44,7 @@ impl Form {
     /// What may stand after the first word.
     pub fn kinds(self) -> &'static [Kind]
         ensures kinds { (labels : spelled.Form) (words : List (List ℕ)) → map (kind_in labels words) result.now ≡ kinds labels self words }
+        ensures count { (words : List (List ℕ)) → length result.now ≡ arity self words }
         ensures few { length result.now ≤ 6 }
     {
         match self {
@@ -92,6 +93,7 @@ impl Form {
     /// The names that may stand after `as`.
     pub fn tail(self) -> &'static [Kind]
         ensures tail { (labels : spelled.Form) (words : List (List ℕ)) → map (kind_in labels words) result.now ≡ tail_of self }
+        ensures names { length result.now ≡ length (tail_of self) }
         ensures few { (words : List (List ℕ)) → length result.now + arity self words ≤ 6 }
     {
         match self {

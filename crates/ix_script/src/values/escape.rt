@@ -35,12 +35,7 @@ impl Escape {
     pub fn ends(self, b: u8) -> bool
         ensures { result ≡ ends self b }
     {
-        match self {
-            Escape::Plain => b == b'"',
-            Escape::Begun => false,
-            Escape::High => false,
-            Escape::Low(_) => false,
-        }
+        matches!(self, Escape::Plain) && b == b'"'
     }
 
     /// Where the next byte stands, and the byte that is read with this one; `None` where this one may not stand.

@@ -1,6 +1,6 @@
 ghost use Rattle.std.specs.Prelude.{◌≡◌, ◌≤◌, ◌<◌, [], ◌∷◌, Some, IsSome, MatchOption};
 ghost use Rattle.ix_script.specs.lines.Kinds as kind;
-ghost use Rattle.ix_script.specs.lines.Kinds.{bounds, bounds_of};
+ghost use Rattle.ix_script.specs.lines.Kinds.{bounds};
 ghost use Rattle.ix_script.specs.reader.Readers.{IsFault};
 ghost use Rattle.ix_script.specs.texts.Words.{is_numeral, value, number_of, fd_of, keep_of};
 
@@ -56,26 +56,17 @@ pub(crate) fn number(low: u32, high: u32, word: &[u8]) -> u32
     value(word).unwrap()
 }
 
-/// The least and the greatest number to which that may be limited.
-fn bounds_of(what: What) -> (u32, u32)
-    ensures { result ≡ bounds_of what }
-{
-    match what {
-        What::Procs => (1, 1024),
-        What::Opens => (1, 4096),
-        What::Pipes => (0, 1024),
-        What::Names => (16, 65_536),
-        What::Log => (0, 65_536),
-    }
-}
-
 /// The bounds of the number of a `limit` line for that word.
 #[tactic(auto, unfolding(crate::specs::lines::Kinds::bounds))]
 pub(crate) fn bounds(word: &[u8]) -> (u32, u32)
     ensures { result ≡ bounds word.now }
 {
     match what_of(word) {
-        Some(what) => bounds_of(what),
+        Some(What::Procs) => (1, 1024),
+        Some(What::Opens) => (1, 4096),
+        Some(What::Pipes) => (0, 1024),
+        Some(What::Names) => (16, 65_536),
+        Some(What::Log) => (0, 65_536),
         None => (0, 4_294_967_295),
     }
 }

@@ -1,10 +1,10 @@
 ghost use Rattle.std.specs.Prelude.{◌≡◌, ℕ, ◌<◌, ◌≤◌, ◌+◌, ◌^◌, ◌∷◌, [], is_some, length, IfSome, IsSome, Some, None, take, replicate, OnOk};
 ghost use Rattle.std.specs.List.{list_all};
 ghost use Rattle.ix_script.specs.lines.Kinds as kind;
-ghost use Rattle.ix_script.specs.texts.Payloads.{bytes_of, digit_of, pairs_of, quoted_from, times_from, times_of, payload_of};
+ghost use Rattle.ix_script.specs.texts.Payloads.{bytes_of, digit_of, pairs_of, quoted_from, times_from, payload_of};
 ghost use Rattle.ix_script.specs.reader.Readers.{IsFault};
-ghost use Rattle.ix_script.specs.lines.Said.{payload_within, within};
-ghost use Rattle.ix_script.specs.texts.Spelled.{Counts, SpellsRight};
+ghost use Rattle.ix_script.specs.lines.Said.{payload_within};
+ghost use Rattle.ix_script.specs.texts.Spelled.{Spells};
 ghost use Rattle.ix_script.specs.declared.values.escape.Escape.TheVariants as escape;
 
 use crate::cutting::words::place_of;
@@ -47,15 +47,15 @@ fn are_digits(text: &[u8]) -> bool
     all
 }
 
-/// How many bytes pairs of digits spell.
-fn count_of_pairs(text: &[u8]) -> Result<usize, Rule>
-    ensures { (most : ℕ) → Counts most result (pairs_of text.now) }
+/// What pairs of digits spell.
+fn pairs(text: &[u8]) -> Result<(Spelling<'_>, usize), Rule>
+    ensures { (most : ℕ) → Spells most result (pairs_of text.now) }
 {
     if text.len() % 2 != 0 {
         return Err(Rule::BAD_PAYLOAD);
     }
     if are_digits(text) {
-        Ok(text.len() / 2)
+        Ok((Spelling::Pairs(text), text.len() / 2))
     } else {
         Err(Rule::BAD_PAYLOAD)
     }
@@ -71,16 +71,16 @@ fn count_after(count: usize, byte: Option<u8>) -> usize
     }
 }
 
-/// How many bytes are spelled in quotes, up to the quote that ends the text.
-fn count_of_quoted(text: &[u8]) -> Result<usize, Rule>
-    ensures { (most : ℕ) → Counts most result (quoted_from escape.Plain text.now) }
+/// What is spelled in quotes, up to the quote that ends the text.
+fn quoted(text: &[u8]) -> Result<(Spelling<'_>, usize), Rule>
+    ensures { (most : ℕ) → Spells most result (quoted_from escape.Plain text.now) }
 {
     let mut count = 0;
     let mut at = Escape::Plain;
     'bytes: for (i, b) in text.iter().enumerate() {
         if at.ends(*b) {
             return if i + 1 == text.len() {
-                Ok(count)
+                Ok((Spelling::Quoted(text), count))
             } else {
                 Err(Rule::BAD_PAYLOAD)
             };
@@ -94,79 +94,40 @@ fn count_of_quoted(text: &[u8]) -> Result<usize, Rule>
     Err(Rule::BAD_PAYLOAD)
 }
 
-/// How often a byte stands that stands as often as a number says, at most so often.
+/// A byte that stands as often as a number says, at most so often.
 #[tactic(auto, unfolding(crate::specs::texts::Payloads::times_from, crate::specs::texts::Spelled::spelling_fault))]
-fn count_of_times(most: u32, count: &[u8], digits: &[u8]) -> Result<usize, Rule>
-    ensures { Counts most result (times_from count.now digits.now) }
+fn times(most: u32, count: &[u8], digits: &[u8]) -> Result<(Spelling<'static>, usize), Rule>
+    ensures { Spells most result (times_from count.now digits.now) }
 {
-    if !is_numeral(count) || two_digits(digits).is_none() {
+    let Some(byte) = two_digits(digits) else {
+        return Err(Rule::BAD_PAYLOAD);
+    };
+    if !is_numeral(count) {
         return Err(Rule::BAD_PAYLOAD);
     }
     match value(count) {
-        Some(n) if n <= most => Ok(n as usize),
+        Some(n) if n <= most => Ok((Spelling::Times(n, byte), n as usize)),
         _ => Err(Rule::LONG_PAYLOAD),
     }
 }
 
-/// How many bytes a word spells.
+/// How a word spells bytes, and how many: at most so many where a number says it.
 #[tactic(auto, unfolding(crate::specs::texts::Payloads::payload_of, crate::specs::texts::Payloads::times_of, crate::specs::texts::Spelled::spelling_fault))]
-fn count_of(most: u32, word: &[u8]) -> Result<usize, Rule>
-    ensures { Counts most result (payload_of word.now) }
+fn spelling_of(most: u32, word: &[u8]) -> Result<(Spelling<'_>, usize), Rule>
+    ensures { Spells most result (payload_of word.now) }
 {
     if begins(b'"', word) {
-        return count_of_quoted(&word[1..]);
+        return quoted(&word[1..]);
     }
     if begins(b'x', word) {
-        return count_of_pairs(&word[1..]);
+        return pairs(&word[1..]);
     }
     match place_of(b'*', word) {
         Some(star) => {
             let (_, digits) = word.split_at(star + 1);
-            count_of_times(most, &word[..star], digits)
+            times(most, &word[..star], digits)
         }
         None => Err(Rule::BAD_PAYLOAD),
-    }
-}
-
-/// The byte of n*HH, and how often it stands, in a word that is known to spell so, at most so often.
-#[tactic(auto, unfolding(crate::specs::texts::Payloads::times_of, crate::specs::texts::Payloads::times_from))]
-fn known_times<const MOST: u32>(word: &[u8]) -> (u32, u8)
-    requires { IsSome (within MOST (times_of word.now)) }
-    ensures { times_of word.now ≡ Some (replicate result.0 result.1) }
-{
-    let star = place_of(b'*', word).unwrap();
-    let (_, digits) = word.split_at(star + 1);
-    let n = value(&word[..star]).unwrap();
-    (n, two_digits(digits).unwrap())
-}
-
-fn known_pairs(text: &[u8]) -> (Spelling<'_>, usize)
-    requires { IsSome (pairs_of text.now) }
-    ensures { SpellsRight result.0 result.1 (pairs_of text.now) }
-{
-    (Spelling::Pairs(text), text.len() / 2)
-}
-
-fn known_quoted(text: &[u8]) -> (Spelling<'_>, usize)
-    requires { IsSome (quoted_from escape.Plain text.now) }
-    ensures { SpellsRight result.0 result.1 (quoted_from escape.Plain text.now) }
-{
-    (Spelling::Quoted(text), count_of_quoted(text).unwrap())
-}
-
-/// How a word spells bytes that is known to spell some, at most so many, and how many.
-#[tactic(auto, unfolding(crate::specs::texts::Payloads::payload_of))]
-fn known<const MOST: u32>(word: &[u8]) -> (Spelling<'_>, usize)
-    requires { IsSome (payload_within MOST word.now) }
-    ensures { SpellsRight result.0 result.1 (payload_of word.now) }
-{
-    if begins(b'"', word) {
-        known_quoted(&word[1..])
-    } else if begins(b'x', word) {
-        known_pairs(&word[1..])
-    } else {
-        let (n, byte) = known_times::<MOST>(word);
-        (Spelling::Times(n, byte), n as usize)
     }
 }
 
@@ -175,8 +136,8 @@ fn known<const MOST: u32>(word: &[u8]) -> (Spelling<'_>, usize)
 pub(crate) fn payload_fault(most: u32, word: &[u8]) -> Option<Rule>
     ensures { IsFault result ((kind.Payload most, word.now) ∷ []) }
 {
-    match count_of(most, word) {
-        Ok(len) if len > most as usize => Some(Rule::LONG_PAYLOAD),
+    match spelling_of(most, word) {
+        Ok((_, len)) if len > most as usize => Some(Rule::LONG_PAYLOAD),
         Ok(_) => None,
         Err(rule) => Some(rule),
     }
@@ -188,7 +149,7 @@ impl<'a, const MOST: u32> Payload<'a, MOST> {
         requires { IsSome (payload_within MOST word.now) }
         ensures { payload_within MOST word.now ≡ Some result }
     {
-        let (spelling, len) = known::<MOST>(word);
+        let (spelling, len) = spelling_of(MOST, word).unwrap();
         Payload {
             spelling,
             len: len as u32,

@@ -2,10 +2,8 @@ ghost use Rattle.std.specs.Prelude.{◌≡◌, ◌++◌, ◌≤◌, ◌==◌, co
 ghost use Rattle.std.specs.List.{list_all};
 ghost use Rattle.ix_text.specs.Spellings.{hex_pair};
 ghost use Rattle.ix_script.specs.texts.Spellings.{pairs_text, times_text, stands_quoted, quoted_byte, quoted_text, once, payload_text};
-ghost use Rattle.ix_script.specs.texts.PayloadForms.{text_in};
 
 use crate::values::payload::Payload;
-use crate::values::payload_form::PayloadForm;
 use crate::written::append::{push, push_byte};
 use itoa::Buffer;
 use ix_model::NoMemory;
@@ -125,32 +123,6 @@ fn repeated(bytes: &[u8]) -> Option<u8>
     }
 }
 
-/// The shortest spelling; of equally short ones the pairs come first, then n*HH.
-#[tactic(auto, unfolding(crate::specs::texts::Spellings::payload_text))]
-fn shortest(bytes: &[u8]) -> PayloadForm
-    ensures { text_in result bytes.now ≡ payload_text bytes.now }
-{
-    let pairs = bytes.len() as u128 * 2 + 1;
-    let quoted = quoted_len(bytes);
-    let Some(byte) = repeated(bytes) else {
-        if quoted < pairs {
-            return PayloadForm::Quoted;
-        }
-        return PayloadForm::Pairs;
-    };
-    let times = times_len(bytes.len(), byte);
-    if times < pairs {
-        if quoted < times {
-            return PayloadForm::Quoted;
-        }
-        return PayloadForm::Times(byte);
-    }
-    if quoted < pairs {
-        return PayloadForm::Quoted;
-    }
-    PayloadForm::Pairs
-}
-
 /// Whether each stands in quotes as it is. Each is looked at, also after one that doesn't, so that many are looked at at once.
 #[tactic(auto, using(std::proofs::lemmas::List::Folds::list_all_more))]
 fn are_plain(bytes: &[u8]) -> bool
@@ -171,7 +143,7 @@ fn are_plainly_quoted(bytes: &[u8]) -> bool
     bytes.len() >= 2 && repeated(bytes).is_none() && are_plain(bytes)
 }
 
-/// The bytes in their shortest spelling.
+/// The bytes in their shortest spelling; of equally short ones the pairs come first, then n*HH.
 fn shortest_text(out: &mut Vec<u8>, bytes: &[u8]) -> Result<(), NoMemory>
     ensures { OnOk result (out.new.items ≡ out.old.items ++ payload_text bytes.now) }
 {
@@ -180,11 +152,25 @@ fn shortest_text(out: &mut Vec<u8>, bytes: &[u8]) -> Result<(), NoMemory>
         push(out, bytes)?;
         return push(out, b"\"");
     }
-    match shortest(bytes) {
-        PayloadForm::Pairs => pairs(out, bytes),
-        PayloadForm::Times(byte) => times(out, bytes.len(), byte),
-        PayloadForm::Quoted => quoted(out, bytes),
+    let by_pairs = bytes.len() as u128 * 2 + 1;
+    let in_quotes = quoted_len(bytes);
+    let Some(byte) = repeated(bytes) else {
+        if in_quotes < by_pairs {
+            return quoted(out, bytes);
+        }
+        return pairs(out, bytes);
+    };
+    let by_times = times_len(bytes.len(), byte);
+    if by_times < by_pairs {
+        if in_quotes < by_times {
+            return quoted(out, bytes);
+        }
+        return times(out, bytes.len(), byte);
     }
+    if in_quotes < by_pairs {
+        return quoted(out, bytes);
+    }
+    pairs(out, bytes)
 }
 
 /// Whether n*HH is shorter than the pairs, and no longer than the quotes, whatever the byte is.

@@ -10,7 +10,8 @@ pub returns-then-bytes-gt16777216-clause-fail : goal.returns-then-bytes-gt167772
 returns-then-bytes-gt16777216-clause-fail g c = rw (too_long c.args.bytes.now c.if-bytes-gt16777216.true) c.first_line_breaks.ensures
 
 pub returns-then-is_empty-clause-fail : goal.returns-then-is_empty-clause-fail
-returns-then-is_empty-clause-fail g c = rw (no_bytes c.args.bytes.now (nil_from_length c.args.bytes.now (eqb-true _ 0 (sym c.is_empty.ensures ∙ c.if-is_empty.true)))) c.first_line_breaks-then-is_empty.ensures
+returns-then-is_empty-clause-fail g c = rw (no_bytes c.args.bytes.now (nil_from_length c.args.bytes.now (eqb-true _ 0 (sym c.is_empty.ensures
+    ∙ c.if-is_empty.true)))) c.first_line_breaks-then-is_empty.ensures
 
 pub returns-in_err-draft-clause-fail : goal.returns-in_err-draft-clause-fail
 returns-in_err-draft-clause-fail g c =
@@ -19,4 +20,5 @@ returns-in_err-draft-clause-fail g c =
 
 pub returns-clause-script : goal.returns-clause-script
 returns-clause-script g c =
-    script_is c.args.bytes.now c.in_ok-draft.draft.lines c.if-bytes-gt16777216.false c.in_ok-draft.ensures.faultless c.in_ok-draft.ensures.said ∙ ap (λ (ls : List Line). Some ls) (sym c.of.ensures)
+    script_is c.args.bytes.now c.in_ok-draft.draft.lines c.if-bytes-gt16777216.false c.in_ok-draft.ensures.faultless c.in_ok-draft.ensures.said
+    ∙ ap (λ (ls : List Line). Some ls) (sym c.in_ok-script.ensures)

@@ -3,15 +3,13 @@ use Rattle.std.proofs.lemmas.Bool.{eq-eqb, ne_eqb}
 use Rattle.ix_script.specs.texts.Payloads.{quoted_from}
 use Rattle.ix_script.specs.declared.values.escape.Escape.TheVariants as escape
 use Rattle.ix_script.proofs.texts.Spelling.{no_spelling, quoted_counted, quoted_broken, quoted_done, quoted_early, quoted_past}
-use Rattle.ix_script.proofs.values.payload.count_of_quoted.Goals as goal
+use Rattle.ix_script.proofs.values.payload.quoted.Goals as goal
 
 pub returns-then-i-text : goal.returns-then-i-text
-returns-then-i-text c = λ most. record {
-  bytes = c.bytes.invariant.front;
-  spelled = quoted_done c.bytes.invariant.front c.args.text.now c.bytes.at c.bytes.i (quoted_from escape.Plain c.args.text.now) c.bytes-test.true (sym c.ends.ensures ∙ c.if-ends.true)
-      (eq-eqb (c.bytes.i + 1) (length c.args.text.now) (omega arith)) c.bytes.invariant.whole;
-  count = c.bytes.invariant.count;
-}
+returns-then-i-text c =
+    let whole = quoted_done c.bytes.invariant.front c.args.text.now c.bytes.at c.bytes.i (quoted_from escape.Plain c.args.text.now) c.bytes-test.true (sym c.ends.ensures ∙ c.if-ends.true)
+    (eq-eqb (c.bytes.i + 1) (length c.args.text.now) (omega arith)) c.bytes.invariant.whole in
+    λ most. record { bytes = c.bytes.invariant.front; meant = whole; spelled = whole; count = c.bytes.invariant.count }
 
 pub returns-else-i-text : goal.returns-else-i-text
 returns-else-i-text c =
@@ -27,7 +25,8 @@ returns-in_default c =
 
 pub bytes-preserved : goal.bytes-preserved
 bytes-preserved c =
-    rw c.count_after-count.ensures (quoted_counted (quoted_from escape.Plain c.args.text.now) _ c.args.text.now c.bytes.at c.in-Some.next c.in-Some.byte c.bytes.i c.bytes-test.true (sym c.ends.ensures ∙ c.if-ends.false)
+    rw c.count_after-count.ensures (quoted_counted (quoted_from escape.Plain c.args.text.now) _ c.args.text.now c.bytes.at c.in-Some.next c.in-Some.byte c.bytes.i c.bytes-test.true
+    (sym c.ends.ensures ∙ c.if-ends.false)
     (sym c.after.ensures ∙ c.in-Some.is) c.bytes.invariant)
 
 pub returns : goal.returns

@@ -1,0 +1,243 @@
+-- The schedule of lines, made line after line.
+use Rattle.std.proofs.Common.{◌≡◌, ℕ, zero, suc, ◌+◌, ◌-◌, ◌<◌, ◌≤◌, ◌==◌, Bool, true, false, ◌||◌, cond, List, [], ◌∷◌, ◌++◌, length, drop, set, get_or, max, count_by, Option}
+use Rattle.std.proofs.Common.{Some, None, option_map, refl, sym, ap, ◌∙◌, subst, ◌⊎◌, arith, append_assoc, add-one, inl, inr}
+use Rattle.std.specs.List.{slice_get}
+use Rattle.std.specs.Option.{option_map_or}
+use Rattle.std.proofs.Math.Nat.{max_comm}
+use Rattle.std.proofs.Math.Seq.{drop-cons}
+use Rattle.std.proofs.lemmas.Bool.{cases_Bool, cases_eq, eq-eqb, ne_eqb, false≢true}
+use Rattle.std.proofs.lemmas.List.{append-nil, drop_all, length-drop, get_or-set_same, get_or-set_other}
+use Rattle.std.proofs.lemmas.List.Sums.{sum_by-cons}
+use Rattle.std.proofs.lemmas.Option.{none-some, same_Some, slice_get-get_or}
+use Rattle.ix_model.specs.world.Naming.{same_bytes}
+use Rattle.ix_script.specs.lines.Before.{is_phase, lanes_of}
+use Rattle.ix_script.specs.lines.Roles.{role_of}
+use Rattle.ix_script.specs.scripts.Held.{IsSchedule}
+use Rattle.ix_script.specs.scripts.Schedule.{phases, seat_from, begins_part, part_len, stretch_by, begun_after, begun_in, stretches_from, stretch_in, stretches_of}
+use Rattle.ix_script.specs.declared.line.Line.{Line}
+use Rattle.ix_script.specs.declared.line.Line.TheVariants as line
+use Rattle.ix_script.specs.declared.role.Role.{Role}
+use Rattle.ix_script.specs.declared.role.Role.TheVariants as role
+use Rattle.ix_script.specs.declared.schedule.Schedule.{Schedule}
+use Rattle.ix_script.specs.declared.schedule.Stretch.{Stretch}
+use Rattle.ix_script.proofs.reader.Walking.{next_line}
+
+-- ---- seats
+pub seat_here : (lanes : List (List ℕ)) (i : ℕ) (name d : List ℕ) → i < length lanes → same_bytes name (get_or lanes i d) ≡ true → seat_from i name (drop i lanes) ≡ Some i
+seat_here lanes i name d low is = rw (drop-cons lanes i d low, is) refl
+
+pub seat_later : (lanes : List (List ℕ)) (i : ℕ) (name d : List ℕ) → i < length lanes → same_bytes name (get_or lanes i d) ≡ false
+    → seat_from i name (drop i lanes) ≡ seat_from (i + 1) name (drop (i + 1) lanes)
+seat_later lanes i name d low is = rw (drop-cons lanes i d low, is) (ap (λ n. seat_from n name (drop n lanes)) (sym (add-one i)))
+
+pub seat_none : (lanes : List (List ℕ)) (i : ℕ) (name : List ℕ) → length lanes ≤ i → seat_from i name (drop i lanes) ≡ None
+seat_none lanes i name past = ap (seat_from i name) (drop_all i lanes past)
+
+pub seat_low : (n : ℕ) (name : List ℕ) (lanes : List (List ℕ)) (seat : ℕ) → seat_from n name lanes ≡ Some seat → seat < n + length lanes
+seat_low n name [] seat is = absurd (none-some seat is)
+seat_low n name (lane ∷ lanes) seat is = elim (cases_Bool (same_bytes name lane)) [
+  | inl e ↦ let h : Some n ≡ Some seat = rw e at is in let k : n ≡ seat = cc in omega (arith, k)
+  | inr e ↦ let h : seat_from (suc n) name lanes ≡ Some seat = rw e at is in omega (arith, seat_low (suc n) name lanes seat h)
+]
+
+-- ---- parts
+-- whether it is the role of a `phase` line, and of a `lane` line
+abbrev pub phase_role : Role → Bool
+phase_role role.Phase = true
+phase_role _ = false
+
+abbrev pub lane_role : Role → Bool
+lane_role role.Lane = true
+lane_role _ = false
+
+abbrev pub begins_role : Role → Bool
+begins_role r = phase_role r || lane_role r
+
+pub part_role : (r : Role) → (r ≡ role.Phase) ⊎ (r ≡ role.Lane) → begins_role r ≡ true
+part_role r (inl is) = ap begins_role is
+part_role r (inr is) = ap begins_role is
+
+pub other_part : (r : Role) → (r ≡ role.Phase → ⊥) → (r ≡ role.Lane → ⊥) → begins_role r ≡ false
+other_part role.Phase h k = absurd (h refl)
+other_part role.Lane h k = absurd (k refl)
+other_part _ h k = refl
+
+part_by_role : (l : Line) → begins_role (role_of l) ≡ begins_part l
+unfolding role_of
+part_by_role line.Phase = refl
+part_by_role (line.Lane name) = refl
+part_by_role _ = refl
+
+phase_by_role : (l : Line) → phase_role (role_of l) ≡ is_phase l
+unfolding role_of
+phase_by_role line.Phase = refl
+phase_by_role _ = refl
+
+no_stretch : (lanes : List (List ℕ)) (seat begun i : ℕ) (l : Line) (later : List Line) → lane_role (role_of l) ≡ false → stretch_by lanes seat begun i l later ≡ []
+unfolding role_of
+no_stretch lanes seat begun i (line.Lane name) later h = absurd (false≢true (sym h))
+no_stretch lanes seat begun i _ later h = refl
+
+part_found : (found : Option Line) (r : Role) → option_map role_of found ≡ Some r → option_map_or begins_part found false ≡ begins_role r
+part_found None r is = absurd (none-some r is)
+part_found (Some l) r is = sym (part_by_role l) ∙ ap begins_role (same_Some (role_of l) r is)
+
+pub part_at : (found : Option Line) (r : Role) → Some r ≡ option_map role_of found → begins_role r ≡ option_map_or begins_part found false
+part_at found r is = sym (part_found found r (sym is))
+
+pub no_part : (found : Option Line) → None ≡ option_map role_of found → false ≡ option_map_or begins_part found false
+no_part None is = refl
+no_part (Some l) is = absurd (none-some (role_of l) is)
+
+at_line : (lines : List Line) (i : ℕ) → i < length lines → (l : Line) × (slice_get lines i ≡ Some l)
+at_line lines i low = (get_or lines i line.Skipped, slice_get-get_or lines i line.Skipped low)
+
+pub part_here : (lines : List Line) (i : ℕ) → option_map_or begins_part (slice_get lines i) false ≡ true → part_len (drop i lines) ≡ 0
+part_here lines i is = elim (slice_get lines i) as (λ found. slice_get lines i ≡ found → option_map_or begins_part found false ≡ true → part_len (drop i lines) ≡ 0) [
+  | Some l ↦ λ h begins. rw (next_line lines i l h, begins) refl
+  | None ↦ λ h begins. absurd (false≢true begins)
+] refl is
+
+pub part_later : (lines : List Line) (i : ℕ) → i < length lines → option_map_or begins_part (slice_get lines i) false ≡ false
+    → i + part_len (drop i lines) ≡ (i + 1) + part_len (drop (i + 1) lines)
+part_later lines i low none =
+    let at = at_line lines i low in
+    let no : begins_part at.0 ≡ false = ap (λ found. option_map_or begins_part found false) (sym at.1) ∙ none in
+    rw (next_line lines i at.0 at.1, no) (omega arith)
+
+pub part_none : (lines : List Line) (i : ℕ) → length lines ≤ i → part_len (drop i lines) ≡ 0
+part_none lines i past = ap part_len (drop_all i lines past)
+
+part_few : (lines : List Line) → part_len lines ≤ length lines
+part_few [] = omega arith
+part_few (l ∷ lines) = elim (cases_Bool (begins_part l)) [
+  | inl e ↦ rw e (omega arith)
+  | inr e ↦ rw e (omega (arith, part_few lines))
+]
+
+pub part_within : (lines : List Line) (i : ℕ) → i ≤ length lines → i + part_len (drop i lines) ≤ length lines
+part_within lines i low = omega (arith, part_few (drop i lines), length-drop i lines)
+
+-- ---- no stretches
+pub none_yet : (items : List (List Stretch)) → items ≡ [] → (seat : ℕ) → get_or items seat [] ≡ []
+none_yet items none seat = ap (λ (xs : List (List Stretch)). get_or xs seat []) none
+
+one_none : (items : List (List Stretch)) (seat : ℕ) → get_or (items ++ [] ∷ []) seat [] ≡ get_or items seat []
+one_none [] zero = refl
+one_none [] (suc seat) = refl
+one_none (x ∷ items) zero = refl
+one_none (x ∷ items) (suc seat) = one_none items seat
+
+pub none_more : (items more : List (List Stretch)) (own : List Stretch) → own ≡ [] → more ≡ items ++ own ∷ [] → ((seat : ℕ) → get_or items seat [] ≡ []) → (seat : ℕ) → get_or more seat [] ≡ []
+none_more items more own none is before seat = ap (λ (xs : List (List Stretch)). get_or xs seat []) (is ∙ ap (λ o. items ++ o ∷ []) none) ∙ one_none items seat ∙ before seat
+
+-- ---- line after line
+pub added : (items : List (List Stretch)) (at seat : ℕ) (t : Stretch) (own : List Stretch) → at < length items → own ≡ get_or items at [] ++ t ∷ []
+    → get_or (set items at own) seat [] ≡ get_or items seat [] ++ cond (at == seat) (t ∷ []) []
+added items at seat t own low is = elim (cases_eq seat at) [
+  | inl e ↦ rw (e, eq-eqb at at refl) (get_or-set_same items at own [] low ∙ is)
+  | inr ne ↦ rw (ne_eqb at seat (λ e. ne (sym e))) (get_or-set_other items at seat own [] ne ∙ sym (append-nil _))
+]
+
+pub stretch_here : (lanes : List (List ℕ)) (seat begun i at phase end : ℕ) (lines : List Line) (name : List ℕ) → slice_get lines i ≡ Some (line.Lane name) → seat_from 0 name lanes ≡ Some at
+    → phase ≡ begun - 1 → end ≡ (i + 1) + part_len (drop (i + 1) lines) → cond (at == seat) (record { phase = phase; first = i + 1; end = end } ∷ []) [] ≡ stretch_in lanes seat begun i lines
+stretch_here lanes seat begun i at phase end lines name is place in_phase up_to = rw (is, place, in_phase, up_to) refl
+
+pub stretches_next : (lanes : List (List ℕ)) (seat begun i : ℕ) (lines : List Line) → i < length lines
+    → stretches_from lanes seat begun i (drop i lines) ≡ stretch_in lanes seat begun i lines ++ stretches_from lanes seat (begun_in begun i lines) (i + 1) (drop (i + 1) lines)
+stretches_next lanes seat begun i lines low =
+    let at = at_line lines i low in
+    rw (next_line lines i at.0 at.1, at.1) refl
+
+count_cons : (l : Line) (lines : List Line) → count_by is_phase (l ∷ lines) ≡ cond (is_phase l) 1 0 + count_by is_phase lines
+count_cons l lines = sum_by-cons (λ (x : Line). cond (is_phase x) 1 0) l lines
+
+one_begun : (begun : ℕ) (l : Line) (lines : List Line) → begun + count_by is_phase (l ∷ lines) ≡ begun_after begun l + count_by is_phase lines
+one_begun begun l lines = ap (λ n. begun + n) (count_cons l lines) ∙ elim (cases_Bool (is_phase l)) [
+  | inl e ↦ rw e (omega arith)
+  | inr e ↦ rw e (omega arith)
+]
+
+pub phases_next : (begun i : ℕ) (lines : List Line) → i < length lines → begun + count_by is_phase (drop i lines) ≡ begun_in begun i lines + count_by is_phase (drop (i + 1) lines)
+phases_next begun i lines low =
+    let at = at_line lines i low in
+    rw (next_line lines i at.0 at.1, at.1) (one_begun begun at.0 (drop (i + 1) lines))
+
+-- what is made of the first lines, where the rest is still to be made
+pub record Made (names : List (List ℕ)) (lines : List Line) (made : List (List Stretch)) (begun i : ℕ) : Type 0 where
+  pub stretches : (seat : ℕ) → get_or made seat [] ++ stretches_from names seat begun i (drop i lines) ≡ stretches_from names seat 0 0 lines
+  pub phases : begun + count_by is_phase (drop i lines) ≡ count_by is_phase lines
+  pub lanes : length made ≡ length names
+  pub few : begun ≤ i
+
+begun_few : (begun i : ℕ) (lines : List Line) → begun ≤ i → begun_in begun i lines ≤ i + 1
+begun_few begun i lines few = elim (slice_get lines i) as (λ found. option_map_or (begun_after begun) found begun ≤ i + 1) [
+  | Some l ↦ elim (cases_Bool (is_phase l)) [
+    | inl e ↦ rw e (omega (arith, few))
+    | inr e ↦ rw e (omega (arith, few))
+  ]
+  | None ↦ omega (arith, few)
+]
+
+pub made_next : (lanes : List (List ℕ)) (lines : List Line) (old new : List (List Stretch)) (begun after i : ℕ) → i < length lines → after ≡ begun_in begun i lines → length new ≡ length old
+    → ((seat : ℕ) → get_or new seat [] ≡ get_or old seat [] ++ stretch_in lanes seat begun i lines) → Made lanes lines old begun i → Made lanes lines new after (i + 1)
+made_next lanes lines old new begun after i low is long more was =
+    let next : Made lanes lines new (begun_in begun i lines) (i + 1) =
+    record {
+      stretches = λ seat. rw (more seat) (append_assoc (get_or old seat []) (stretch_in lanes seat begun i lines) _)
+          ∙ ap (λ ts. get_or old seat [] ++ ts) (sym (stretches_next lanes seat begun i lines low)) ∙ was.stretches seat;
+      phases = sym (phases_next begun i lines low) ∙ was.phases;
+      lanes = long ∙ was.lanes;
+      few = begun_few begun i lines was.few;
+    } in
+    subst (λ (n : ℕ). Made lanes lines new n (i + 1)) (sym is) next
+
+-- what a line does by its role
+begun_by : (begun : ℕ) (found : Option Line) (r : Role) → Some r ≡ option_map role_of found → option_map_or (begun_after begun) found begun ≡ cond (phase_role r) (begun + 1) begun
+begun_by begun None r is = absurd (none-some r (sym is))
+begun_by begun (Some l) r is = ap (λ b. cond b (begun + 1) begun) (sym (phase_by_role l) ∙ ap phase_role (same_Some (role_of l) r (sym is)))
+
+pub begun_here : (begun i : ℕ) (lines : List Line) (r : Role) → Some r ≡ option_map role_of (slice_get lines i) → begun_in begun i lines ≡ cond (phase_role r) (begun + 1) begun
+begun_here begun i lines r is = begun_by begun (slice_get lines i) r is
+
+none_by : (lanes : List (List ℕ)) (seat begun i : ℕ) (lines : List Line) (found : Option Line) (r : Role) → Some r ≡ option_map role_of found → lane_role r ≡ false
+    → option_map_or (λ l. stretch_by lanes seat begun (i + 1) l (drop (i + 1) lines)) found [] ≡ []
+none_by lanes seat begun i lines None r is other = refl
+none_by lanes seat begun i lines (Some l) r is other = no_stretch lanes seat begun (i + 1) l (drop (i + 1) lines) (ap lane_role (same_Some (role_of l) r (sym is)) ∙ other)
+
+pub none_here : (lanes : List (List ℕ)) (seat begun i : ℕ) (lines : List Line) (r : Role) (old : List Stretch) → Some r ≡ option_map role_of (slice_get lines i) → lane_role r ≡ false
+    → old ≡ old ++ stretch_in lanes seat begun i lines
+none_here lanes seat begun i lines r old is other = sym (append-nil old) ∙ ap (λ ts. old ++ ts) (sym (none_by lanes seat begun i lines (slice_get lines i) r is other))
+
+pub other_phase : (r : Role) → (r ≡ role.Phase → ⊥) → phase_role r ≡ false
+other_phase role.Phase h = absurd (h refl)
+other_phase _ h = refl
+
+pub other_lane : (r : Role) → (r ≡ role.Lane → ⊥) → lane_role r ≡ false
+other_lane role.Lane h = absurd (h refl)
+other_lane _ h = refl
+
+pub start_made : (names : List (List ℕ)) (lines : List Line) (made : List (List Stretch)) → length made ≡ length names → ((seat : ℕ) → get_or made seat [] ≡ []) → Made names lines made 0 0
+start_made names lines made long none = record {
+  stretches = λ seat. ap (λ ts. ts ++ stretches_from names seat 0 0 lines) (none seat);
+  phases = omega arith;
+  lanes = long;
+  few = omega arith;
+}
+
+pub all_made : (names : List (List ℕ)) (lines : List Line) (s : Schedule) (begun i : ℕ) → length lines ≤ i → s.phases ≡ max begun 1 → Made names lines s.stretches.items begun i
+    → IsSchedule s lines names
+unfolding phases
+all_made names lines s begun i past count m =
+    let none : drop i lines ≡ [] = drop_all i lines past in
+    let all : begun ≡ count_by is_phase lines = let e : begun + count_by is_phase [] ≡ count_by is_phase lines = rw none at m.phases in omega (arith, e) in
+    record {
+      phases = count ∙ max_comm begun 1 ∙ ap (max 1) all;
+      stretches = λ seat. let e : get_or s.stretches.items seat [] ++ [] ≡ stretches_from names seat 0 0 lines = rw none at m.stretches seat in sym (append-nil _) ∙ e;
+    }
+
+pub stretch_at : (names : List (List ℕ)) (lines whole : List Line) (s : Schedule) (seat n : ℕ) → lines ≡ whole → names ≡ lanes_of lines → IsSchedule s lines names
+    → slice_get (get_or s.stretches.items seat []) n ≡ slice_get (stretches_of whole seat) n
+unfolding stretches_of
+stretch_at names lines whole s seat n is lanes m =
+    ap (λ ts. slice_get ts n) (m.stretches seat ∙ ap (λ ns. stretches_from ns seat 0 0 lines) lanes) ∙ ap (λ (ls : List Line). slice_get (stretches_from (lanes_of ls) seat 0 0 ls) n) is

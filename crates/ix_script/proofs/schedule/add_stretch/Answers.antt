@@ -1,0 +1,31 @@
+use Rattle.std.proofs.Common.{◌≡◌, ℕ, ◌+◌, ◌<◌, ◌++◌, ◌∷◌, [], List, length, get_or, Some, slice_get, sym, ap, ◌∙◌, arith}
+use Rattle.std.proofs.lemmas.List.{get_or_default}
+use Rattle.ix_script.specs.scripts.Schedule.{seat_from}
+use Rattle.ix_script.specs.declared.line.Line.{Line}
+use Rattle.ix_script.specs.declared.line.Line.TheVariants as line
+use Rattle.ix_script.specs.declared.schedule.Stretch.{Stretch}
+use Rattle.ix_script.proofs.reader.Commands.{on_ok}
+use Rattle.ix_script.proofs.reader.Scheduling.{seat_low, part_within, added, stretch_here}
+use Rattle.ix_script.proofs.schedule.add_stretch.Goals as goal
+
+pub index_mut-requires : goal.index_mut-requires
+index_mut-requires c = omega (arith, seat_low 0 c.as_bytes.result.now c.args.lanes.now c.in-Some.seat (sym c.seat_of.ensures ∙ c.in-Some.is), c.requires.lanes)
+
+pub overflow_cast-part_end : goal.overflow_cast-part_end
+overflow_cast-part_end c = omega (arith, c.part_end.ensures, c.requires.few, part_within c.args.lines.now (c.args.index + 1) (omega (arith, c.requires.within)))
+
+pub returns-clause-more : goal.returns-clause-more
+returns-clause-more c =
+    let items : List (List Stretch) = c.args.stretches.now.items in
+    let at : ℕ = c.in-Some.seat in
+    let own : List Stretch = c.index_mut.result.now in
+    let stretch : Stretch = record { phase = c.saturating_sub.result; first = c.args.index + 1; end = c.part_end.result } in
+    let place : seat_from 0 c.in-Some-Lane.name c.args.lanes.now ≡ Some at = rw c.as_bytes.ensures at (sym c.seat_of.ensures ∙ c.in-Some.is) in
+    let low : at < length items = omega (arith, seat_low 0 c.in-Some-Lane.name c.args.lanes.now at place, c.requires.lanes) in
+    let is : slice_get c.args.lines.now c.args.index ≡ Some (line.Lane c.in-Some-Lane.name) = sym c.get.ensures ∙ c.in-Some-Lane.is ∙ ap (λ (l : Line). Some l) c.in-Some-Lane.field-0-is in
+    let before : own ≡ get_or items at [] = c.index_mut.ensures.value ∙ get_or_default items at own [] low in
+    on_ok c.push.result (λ pushed seat.
+    added items at seat stretch c.push.new.self low (pushed ∙ ap (λ (ts : List Stretch). ts ++ stretch ∷ []) before)
+    ∙ ap (λ (ts : List Stretch). get_or items seat [] ++ ts) (stretch_here c.args.lanes.now seat c.args.begun c.args.index at _ _ c.args.lines.now c.in-Some-Lane.name is place
+    c.saturating_sub.ensures c.part_end.ensures))
+    c.push.ensures.ok

@@ -1,0 +1,161 @@
+ghost use Rattle.std.specs.Prelude.{◌≡◌, ℕ, false, ◌++◌, ◌+◌, ◌<◌, ◌≤◌, [], length, drop, slice_get, slice_index_or, OnOk, IfOk};
+ghost use Rattle.std.specs.Option.{option_map_or};
+ghost use Rattle.ix_script.specs.scripts.Held.{IsSchedule};
+ghost use Rattle.ix_script.specs.scripts.Schedule.{begins_part, begun_in, part_len, seat_from, stretch_in};
+
+use crate::line::Line;
+use crate::packed::Lines;
+use crate::role::Role;
+use ix_model::{List, Name, NoMemory};
+use ix_text::is;
+use std::alloc::Global;
+
+/// Lines of one lane in one phase that stand one behind the other.
+#[derive(Clone, Copy, Debug, PartialEq, Eq)]
+pub struct Stretch {
+    /// From 0.
+    pub phase: u32,
+    /// The index of the first line, from 0.
+    pub first: u32,
+    /// The index behind the last line.
+    pub end: u32,
+}
+
+/// Which lines are of which lane in which phase.
+#[derive(Drop)]
+pub(crate) struct Schedule {
+    /// How many phases there are.
+    pub phases: u32,
+    /// The stretches of each lane, in order.
+    pub stretches: Vec<List<Stretch>>,
+}
+
+/// So many lists of no stretch.
+fn no_stretches(alloc: Global, count: usize) -> Result<Vec<List<Stretch>>, NoMemory>
+    ensures len { IfOk result (λ lists. length lists.items ≡ count) }
+    ensures none { IfOk result (λ lists. (seat : ℕ) → slice_index_or lists.items seat [] ≡ []) }
+{
+    let mut lists = Vec::new(alloc);
+    'lists: for _ in 0..count {
+        let Ok(()) = lists.push(List::new(alloc)) else {
+            return Err(NoMemory);
+        };
+    }
+    Ok(lists)
+}
+
+/// The seat of the lane of a name.
+fn seat_of(name: &[u8], lanes: &[Name]) -> Option<usize>
+    ensures { result ≡ seat_from 0 name.now lanes.now }
+{
+    'lanes: for seat in 0..lanes.len() {
+        if is(name, lanes[seat].as_bytes()) {
+            return Some(seat);
+        }
+    }
+    None
+}
+
+/// Whether the line at an index begins a phase or a lane's part of one.
+fn begins_part(lines: &Lines, index: usize) -> bool
+    ensures { result ≡ option_map_or begins_part (slice_get lines.now index) false }
+{
+    match lines.role(index) {
+        Some(role) => matches!(role, Role::Phase | Role::Lane),
+        None => false,
+    }
+}
+
+/// The index behind the lines from one on that stand before the next that begins a part.
+fn part_end(lines: &Lines, first: usize) -> usize
+    requires { first ≤ length lines.now }
+    ensures { result ≡ first + part_len (drop first lines.now) }
+{
+    'lines: for index in first..lines.len() {
+        if begins_part(lines, index) {
+            return index;
+        }
+    }
+    lines.len()
+}
+
+/// Puts the stretch behind a `lane` line to those of its lane. The lines and the phases before it are so many.
+fn add_stretch(
+    stretches: &mut Vec<List<Stretch>>,
+    lanes: &[Name],
+    lines: &Lines,
+    index: usize,
+    begun: u32,
+) -> Result<(), NoMemory>
+    requires few { length lines.now ≤ 16777216 }
+    requires within { index < length lines.now }
+    requires lanes { length stretches.old.items ≡ length lanes.now }
+    ensures lanes { length stretches.new.items ≡ length lanes.now }
+    ensures more { OnOk result ((seat : ℕ) → slice_index_or stretches.new.items seat [] ≡ slice_index_or stretches.old.items seat [] ++ stretch_in lanes.now seat begun index lines.now) }
+{
+    let Some(Line::Lane { name }) = lines.get(index) else {
+        return Ok(());
+    };
+    let Some(seat) = seat_of(name.as_bytes(), lanes) else {
+        return Ok(());
+    };
+    stretches[seat].push(Stretch {
+        phase: begun.saturating_sub(1),
+        first: index as u32 + 1,
+        end: part_end(lines, index + 1) as u32,
+    })
+}
+
+/// Takes the line at an index, before which so many phases have begun, and answers how many have begun behind it.
+fn add_line(
+    stretches: &mut Vec<List<Stretch>>,
+    lanes: &[Name],
+    lines: &Lines,
+    index: usize,
+    begun: u32,
+) -> Result<u32, NoMemory>
+    requires few { length lines.now ≤ 16777216 }
+    requires within { index < length lines.now }
+    requires begun { begun ≤ index }
+    requires lanes { length stretches.old.items ≡ length lanes.now }
+    ensures lanes { length stretches.new.items ≡ length lanes.now }
+    ensures begun { IfOk result (λ after. after ≡ begun_in begun index lines.now) }
+    ensures more { OnOk result ((seat : ℕ) → slice_index_or stretches.new.items seat [] ≡ slice_index_or stretches.old.items seat [] ++ stretch_in lanes.now seat begun index lines.now) }
+{
+    let Some(role) = lines.role(index) else {
+        return Ok(begun);
+    };
+    match role {
+        Role::Phase => Ok(begun + 1),
+        Role::Lane => {
+            add_stretch(stretches, lanes, lines, index, begun)?;
+            Ok(begun)
+        }
+        _ => Ok(begun),
+    }
+}
+
+impl Schedule {
+    /// The schedule of lines, whose lanes have these names.
+    pub fn of(alloc: Global, lines: &Lines, lanes: &[Name]) -> Result<Schedule, NoMemory>
+        requires { length lines.now ≤ 16777216 }
+        ensures { IfOk result (λ s. IsSchedule s lines.now lanes.now) }
+    {
+        let mut stretches = no_stretches(alloc, lanes.len())?;
+        let mut begun = 0;
+        'lines: for index in 0..lines.len() {
+            begun = add_line(&mut stretches, lanes, lines, index, begun)?;
+        }
+        Ok(Schedule {
+            phases: begun.max(1),
+            stretches,
+        })
+    }
+
+    /// The stretch of a lane at a place from 0.
+    pub fn stretch(&self, seat: usize, n: usize) -> Option<Stretch>
+        ensures { result ≡ slice_get (slice_index_or self.now.stretches.items seat []) n }
+    {
+        self.stretches.get(seat)?.get(n).copied()
+    }
+}
