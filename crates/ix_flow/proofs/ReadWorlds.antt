@@ -1,0 +1,204 @@
+-- What stands behind the descriptor of a read, before and after it, and what the read gives and moves.
+use Rattle.std.proofs.Common.{◌≡◌, ◌≤◌, ◌<◌, ◌+◌, ◌==◌, ◌&&◌, ◌||◌, nat_le, ℕ, Bool, true, false, true≢false, length, set, take, drop, Option, Some, None, is_some}
+use Rattle.std.proofs.Common.{if◌then◌else◌, refl, sym, ap, ◌∙◌, arith, inl, inr}
+use Rattle.std.specs.Option.{option_map_or}
+use Rattle.std.proofs.Math.Bool.{and-false}
+use Rattle.std.proofs.lemmas.Bool.{leb-true}
+use Rattle.std.proofs.lemmas.Bool.Decides.{eqb_tells}
+use Rattle.std.proofs.lemmas.List.{get_or-set_same, length-take}
+use Rattle.ix_model.specs.laws.Clean.{IsClean}
+use Rattle.ix_model.specs.laws.Sound.{Sound}
+use Rattle.ix_model.specs.world.World.{World, Frame, Content, Object, at, is_pipe}
+use Rattle.ix_model.specs.world.Contents.{after_read, carried, change_side, readable, offset_of, on_pipe}
+use Rattle.ix_model.specs.rows.Outcomes.{Outcome, Refuse, Pass}
+use Rattle.ix_model.specs.rows.Walks.{Behind, behind}
+use Rattle.ix_model.specs.rows.Table.{row, verdict}
+use Rattle.ix_model.specs.rows.Telling.{told}
+use Rattle.ix_model.specs.rows.OnDescriptors.{Told, read_fd}
+use Rattle.ix_model.specs.history.Step.{Given, answer, step, step_of, plainly, read_answer}
+use Rattle.ix_model.specs.history.Events.{Event}
+use Rattle.ix_model.specs.history.Freshness.{closes}
+use Rattle.ix_model.specs.history.Events as op
+use Rattle.ix_model.specs.history.History.{History, world_of, next, with_entry}
+use Rattle.ix_model.specs.declared.reply.Kind.{Kind}
+use Rattle.ix_model.specs.declared.reply.Reply.{Reply}
+use Rattle.ix_model.specs.declared.reply.Reply.TheVariants as reply
+use Rattle.ix_model.proofs.clean.Carrying.{carried_decided}
+use Rattle.ix_model.proofs.sound.Carried.{there_is}
+use Rattle.ix_model.proofs.tables.Finds.{in_table}
+use Rattle.ix_model.proofs.words.Answered.{passed}
+use Rattle.ix_model.proofs.words.Ends.{Ends, Anything, ends_bind, ends_need, ends_object, ends_opened, ends_then}
+use Rattle.ix_model.proofs.words.Runs.{world_of-push}
+use Rattle.ix_model.proofs.words.Standing.{behind_is, stands}
+use Rattle.ix_fresh.proofs.Remaining.{descriptors_remain}
+use Rattle.ix_flow.proofs.Rows.{read_answers}
+
+-- ---- what stands behind the descriptor
+-- what holds anyway holds where a row passes
+pub ends_anyway : {A : Type 0} (o : Outcome A) (Q : Type 0) → Q → Ends o Anything (λ a g. Q)
+unfolding Ends
+ends_anyway (Refuse r g) Q holds = tt
+ends_anyway (Pass a g) Q holds = holds
+
+reads_behind : (t : Told) (pid fd count : ℕ) (f : Frame) → Ends (read_fd t pid fd count f) Anything (λ r g. is_some (behind f pid fd) ≡ true)
+unfolding read_fd
+reads_behind t pid fd count f = ends_bind _ _ f Anything _ (ends_opened pid fd f Anything _ (λ e is. ends_anyway _ (is_some (behind f pid fd) ≡ true) (ap is_some is)) tt)
+
+reads_few : (t : Told) (pid fd count : ℕ) (f : Frame) → Ends (read_fd t pid fd count f) Anything (λ r g. nat_le count 4096 ≡ true)
+unfolding read_fd
+reads_few t pid fd count f =
+    let Q : Reply → Frame → Type 0 = λ r g. nat_le count 4096 ≡ true in
+    ends_bind _ _ f Anything Q (ends_opened pid fd f Anything _ (λ e is.
+    ends_then _ _ f Anything Q (ends_need _ _ f Anything _ (λ may.
+    ends_bind _ _ f Anything Q (ends_object e.entry.object f Anything _ (λ x here.
+    ends_then _ _ f Anything Q (ends_need _ _ f Anything _ (λ free.
+    ends_then _ _ f Anything Q (ends_need _ _ f Anything _ (λ few. ends_anyway _ (nat_le count 4096 ≡ true) few) tt)) tt)) tt)) tt)) tt)
+
+-- a read that gives bytes has something behind its descriptor
+pub read_behind : (w : World) (place pid fd count k : ℕ) → (step w place pid (op.ReadFd fd count)).reply ≡ reply.Bytes k → (b : Behind) × (behind w.frame pid fd ≡ Some b)
+unfolding step answer row
+read_behind w place pid fd count k is =
+    let t = told w pid (op.ReadFd fd count) in
+    let d = verdict t place pid (op.ReadFd fd count) w.frame in
+    there_is (behind w.frame pid fd) (passed t place pid (op.ReadFd fd count) w.frame (λ r g. is_some (behind w.frame pid fd) ≡ true) (reads_behind t pid fd count w.frame)
+    (read_answers w count (behind w.frame pid fd) d.reply d.frame k is))
+
+-- ---- the offset
+-- what a read gives that says how much it gives, and what it leaves
+record Gave (w : World) (count : ℕ) (e : Behind) (g : Frame) (k : ℕ) (given : Given) : Type 0 where
+  content : given.world.content ≡ after_read w.frame e k (carried w.frame g w.content)
+  long : length given.bytes ≡ k
+  few : k ≤ count
+
+gave : (w : World) (count : ℕ) (b : Option Behind) (e : Behind) (r : Reply) (g : Frame) (k : ℕ) → b ≡ Some e → (read_answer w count b r g).reply ≡ reply.Bytes k
+    → Gave w count e g k (read_answer w count b r g)
+unfolding read_answer plainly
+gave w count (Some c) e (reply.Bytes n) g k is gives =
+    let bytes = take count (readable w.frame w.content c) in
+    let one : c ≡ e = cc in
+    let many : length bytes ≡ k = cc in
+    record {
+      content = ap (λ x. after_read w.frame x (length bytes) (carried w.frame g w.content)) one ∙ ap (λ m. after_read w.frame e m (carried w.frame g w.content)) many;
+      long = many;
+      few = let few = length-take count (readable w.frame w.content c) in omega (arith, many, few);
+    }
+gave w count (Some c) e reply.Done g k is gives = absurd (cc)
+gave w count (Some c) e (reply.Number n) g k is gives = absurd (cc)
+gave w count (Some c) e (reply.Two x y) g k is gives = absurd (cc)
+gave w count (Some c) e (reply.Stat o kind size links frozen cap lic) g k is gives = absurd (cc)
+gave w count (Some c) e (reply.Lab l) g k is gives = absurd (cc)
+gave w count (Some c) e (reply.Named n o) g k is gives = absurd (cc)
+gave w count (Some c) e reply.Half g k is gives = absurd (cc)
+gave w count (Some c) e (reply.Whole p l s) g k is gives = absurd (cc)
+gave w count (Some c) e (reply.LogLine l) g k is gives = absurd (cc)
+gave w count (Some c) e (reply.Child p s) g k is gives = absurd (cc)
+gave w count (Some c) e (reply.No why) g k is gives = absurd (cc)
+gave w count None e r g k is gives = absurd (cc)
+
+step_gave : (w : World) (place pid fd count k : ℕ) (e : Behind) → (step w place pid (op.ReadFd fd count)).reply ≡ reply.Bytes k → behind w.frame pid fd ≡ Some e
+    → Gave w count e (verdict (told w pid (op.ReadFd fd count)) place pid (op.ReadFd fd count) w.frame).frame k (step w place pid (op.ReadFd fd count))
+unfolding step answer
+step_gave w place pid fd count k e gives is =
+    let d = verdict (told w pid (op.ReadFd fd count)) place pid (op.ReadFd fd count) w.frame in
+    gave w count (behind w.frame pid fd) e d.reply d.frame k is gives
+
+-- a read gives 4096 bytes at most
+pub read_few : (w : World) (place pid fd count k : ℕ) (e : Behind) → (step w place pid (op.ReadFd fd count)).reply ≡ reply.Bytes k → behind w.frame pid fd ≡ Some e → k ≤ 4096
+unfolding step answer row
+read_few w place pid fd count k e is there =
+    let t = told w pid (op.ReadFd fd count) in
+    let d = verdict t place pid (op.ReadFd fd count) w.frame in
+    let asked = leb-true count 4096 (passed t place pid (op.ReadFd fd count) w.frame (λ r g. nat_le count 4096 ≡ true) (reads_few t pid fd count w.frame)
+    (read_answers w count (behind w.frame pid fd) d.reply d.frame k is)) in
+    omega (arith, asked, (step_gave w place pid fd count k e is there).few)
+
+-- the content after a read that gives bytes
+step_content : (w : World) (place pid fd count k : ℕ) (e : Behind) → IsClean w → (step w place pid (op.ReadFd fd count)).reply ≡ reply.Bytes k → behind w.frame pid fd ≡ Some e
+    → (step w place pid (op.ReadFd fd count)).world.content ≡ after_read w.frame e k w.content
+step_content w place pid fd count k e clean gives is = (step_gave w place pid fd count k e gives is).content
+    ∙ ap (after_read w.frame e k) (carried_decided w (told w pid (op.ReadFd fd count)) place pid (op.ReadFd fd count) refl clean)
+
+-- a file's offset is past what was read
+read_offset : (f : Frame) (e : Behind) (k : ℕ) (c : Content) → on_pipe f e ≡ false → e.id < length c.offsets → offset_of (after_read f e k c) e.id ≡ offset_of c e.id + k
+unfolding after_read
+read_offset f e k c file inside = go (on_pipe f e) file
+  where
+    go : (b : Bool) → b ≡ false → offset_of (if b then change_side e.entry.object e.entry.end
+        (drop k) c else record c { offsets = set c.offsets e.id (offset_of c e.id + k) }) e.id ≡ offset_of c e.id + k
+    go true is = cc
+    go false is = get_or-set_same c.offsets e.id (offset_of c e.id + k) 0 inside
+
+-- ---- both together
+pub end_near : (n : ℕ) (b : Bool) → (n == 0 || n == 1 && b) ≡ true → n < 2
+end_near n b is = elim (eqb_tells n 0) [
+  | inl none ↦ omega (arith, none.1)
+  | inr some ↦ elim (eqb_tells n 1) [
+    | inl one ↦ omega (arith, one.1)
+    | inr more ↦ absurd (true≢false (sym is ∙ (λ i. some.0 i || more.0 i && b)))
+  ]
+]
+
+pub pipe_by_kind : (x y : Object) → y.kind ≡ x.kind → is_pipe y ≡ is_pipe x
+pipe_by_kind x y same = ap (λ (k : Kind). is_pipe (record x { kind = k })) same
+
+pub pipe_of : (x y : Object) → Some x ≡ Some y → is_pipe x ≡ is_pipe y
+pipe_of x y same = let one : x ≡ y = cc in ap (λ (z : Object). is_pipe z) one
+
+-- the open entry behind the descriptor of a read that gave bytes, before and after, with its object
+pub record Reading (h : History) (e : Event) (fd k : ℕ) : Type 0 where
+  pub before : Behind
+  pub is_before : behind (world_of h).frame e.pid fd ≡ Some before
+  pub after : Behind
+  pub is_after : behind (world_of (with_entry h e)).frame e.pid fd ≡ Some after
+  pub id : after.id ≡ before.id
+  pub on : after.entry.object ≡ before.entry.object
+  pub end : after.entry.end ≡ before.entry.end
+  pub near : before.entry.end < 2
+  pub object : Object
+  pub is_object : at (world_of h).frame.objects before.entry.object ≡ Some object
+  pub inside : before.entry.object < length (world_of h).content.holdings
+  pub now : Object
+  pub is_now : at (world_of (with_entry h e)).frame.objects before.entry.object ≡ Some now
+  pub kind : is_pipe now ≡ is_pipe object
+  pub piped : on_pipe (world_of h).frame before ≡ is_pipe object
+  pub first : is_pipe object ≡ false → before.entry.end ≡ 0
+  pub long : length (next h e).bytes ≡ k
+  pub moved : is_pipe object ≡ false → offset_of (world_of (with_entry h e)).content before.id ≡ offset_of (world_of h).content before.id + k
+
+pub reading : (h : History) (e : Event) (fd count k : ℕ) → Sound (world_of h) → e.op ≡ op.ReadFd fd count → (next h e).reply ≡ reply.Bytes k → Reading h e fd k
+reading h e fd count k sound is gives =
+    let w : World = world_of h in
+    let f : Frame = w.frame in
+    let last : ℕ = length h.events + 1 in
+    let gives_there : (step w last e.pid (op.ReadFd fd count)).reply ≡ reply.Bytes k = ap (λ o. (step w last e.pid o).reply) (sym is) ∙ gives in
+    let found = read_behind w last e.pid fd count k gives_there in
+    let b : Behind = found.0 in
+    let stays = descriptors_remain w last e e.pid fd b sound found.1 (ap (λ o. e.pid == e.pid && closes fd o (step_of w last e).reply) is ∙ and-false (e.pid == e.pid)) in
+    let entry = behind_is f e.pid fd b found.1 in
+    let standing = stands f b.id b.entry sound.opens entry in
+    let same : world_of (with_entry h e) ≡ (next h e).world = world_of-push h e in
+    record {
+      before = b;
+      is_before = found.1;
+      after = stays.entry;
+      is_after = ap (λ (v : World). behind v.frame e.pid fd) same ∙ stays.is_behind;
+      id = stays.id;
+      on = stays.on;
+      end = stays.end;
+      near = end_near b.entry.end _ (sound.opens.end b.id b.entry entry);
+      object = stays.was;
+      is_object = stays.is_was;
+      inside = let there = in_table f.objects b.entry.object stays.was stays.is_was in omega (arith, there, sound.lengths.holdings);
+      now = stays.object;
+      is_now = ap (λ (v : World). at v.frame.objects b.entry.object) same ∙ stays.is_object;
+      kind = pipe_by_kind stays.was stays.object stays.kind;
+      piped = ap (λ o. option_map_or is_pipe o false) stays.is_was;
+      first = λ file. standing.at_end (pipe_of standing.object stays.was (sym standing.is_object ∙ stays.is_was) ∙ file);
+      long = ap (λ o. length (step w last e.pid o).bytes) is ∙ (step_gave w last e.pid fd count k b gives_there found.1).long;
+      moved = λ file.
+          ap (λ (v : World). offset_of v.content b.id) same
+          ∙ ap (λ o. offset_of (step w last e.pid o).world.content b.id) is
+          ∙ ap (λ (c : Content). offset_of c b.id) (step_content w last e.pid fd count k b sound.holdings.clean gives_there found.1)
+          ∙ read_offset f b k w.content (ap (λ o. option_map_or is_pipe o false) stays.is_was ∙ file)
+          (let inside = in_table f.opens b.id b.entry entry in omega (arith, inside, sound.lengths.offsets));
+    }

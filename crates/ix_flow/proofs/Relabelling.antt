@@ -1,0 +1,155 @@
+-- A call that lets an object down is told by the last line of the log.
+use Rattle.std.proofs.Common.{◌≡◌, ◌≤◌, ◌<◌, ◌+◌, ℕ, zero, suc, Bool, true, false, List, [], ◌∷◌, ◌++◌, length, Option, Some, None, option_map, if◌then◌else◌, refl, sym, ap, ◌∙◌, subst, arith}
+use Rattle.std.specs.Prelude.{slice_get}
+use Rattle.std.specs.Option.{option_map_or}
+use Rattle.std.proofs.lemmas.Bool.{not-true}
+use Rattle.ix_label.specs.Category.{Categories, leq}
+use Rattle.ix_model.specs.world.Naming.{PathOf}
+use Rattle.ix_model.specs.world.World.{World, Frame, Object, at}
+use Rattle.ix_model.specs.opening.Opening.{opening_world, placed, with_object, with_objects, bare_world}
+use Rattle.ix_model.specs.rows.Walks.{object_at}
+use Rattle.ix_model.specs.rows.Auditing.{audit_line}
+use Rattle.ix_model.specs.rows.OnLabels.{set_label}
+use Rattle.ix_model.specs.rows.Table.{row}
+use Rattle.ix_model.specs.rows.Telling.{told}
+use Rattle.ix_model.specs.history.AuditLog.{audit_log, lines_added, is_licensed, line_of_act}
+use Rattle.ix_model.specs.history.Step.{step, step_of}
+use Rattle.ix_model.specs.history.Events.{Op, Event}
+use Rattle.ix_model.specs.history.Events as op
+use Rattle.ix_model.specs.declared.config.Config.{Config}
+use Rattle.ix_model.specs.declared.config.ObjSpec.{ObjSpec}
+use Rattle.ix_model.specs.declared.audit.Act.TheVariants as act
+use Rattle.ix_model.specs.declared.audit.AuditLine.{AuditLine}
+use Rattle.ix_model.specs.declared.refusal.Refusal.{Refusal}
+use Rattle.ix_model.specs.declared.reply.Reply.{Reply}
+use Rattle.ix_model.proofs.tables.Tables.{at_changed}
+use Rattle.ix_model.proofs.words.Answered.{step_frame}
+use Rattle.ix_model.proofs.words.Ends.{Ends, ends_kept, kept_ends, ends_bind, ends_then, ends_pass, ends_only_if, ends_object, ends_change_object}
+use Rattle.ix_model.proofs.words.Keeps.{Holds}
+use Rattle.ix_model.proofs.words.Lasts.{decided}
+use Rattle.ix_model.proofs.words.RowEnds.{ends_allowed, ends_movable, ends_logged}
+use Rattle.ix_iso.proofs.Facts.{Looking, looking_found}
+
+-- ---- a label is set
+-- the log has no line more, or one for an object that was let down
+pub data Says (place pid : ℕ) (f g : Frame) : Type 0 where
+  Nothing : g.log ≡ f.log → Says place pid f g
+  LetDown : (o : ℕ) (x y : Object) → at f.objects o ≡ Some x → at g.objects o ≡ Some y → leq x.label y.label ≡ false
+      → g.log ≡ f.log ++ audit_line place pid act.DownFile o x.label y.label ∷ [] → Says place pid f g
+
+module _ (place pid : ℕ) (f : Frame) where
+  P : Refusal → Frame → Type 0
+  P r g = Says place pid f g
+
+  Q : Reply → Frame → Type 0
+  Q a g = Says place pid f g
+
+  label_says : (path : PathOf) (now : Categories) → Ends (set_label place pid path now f) P Q
+  unfolding set_label P Q
+  label_says path now =
+      ends_bind _ _ f P Q (ends_kept (Looking f) (object_at pid path f) P _ ((looking_found f pid path).led f (refl, refl)) (λ why m kept. Nothing kept.1) (λ o m kept.
+      ends_bind _ _ m P Q (ends_object o m P _ (λ x here.
+      ends_then _ _ m P Q (ends_allowed pid x.label now m P _ (λ why. Nothing kept.1) (
+      ends_then _ _ m P Q (ends_movable x now m P _ (λ why. Nothing kept.1) (
+      ends_then _ _ m P Q (ends_change_object o _ m P _ (
+      ends_then _ _ _ P Q (ends_only_if _ _ _ P _
+      (λ falls. ends_logged _ _ P _ (ends_pass _ _ P Q (LetDown o x (record x { label = now }) (ap (λ t. at t o) (sym kept.0) ∙ here)
+      (at_changed m.objects o (λ (y : Object). record y { label = now }) ∙ ap (option_map (λ (y : Object). record y { label = now })) here) (not-true _ falls)
+      (ap (λ log. log ++ audit_line place pid act.DownFile o x.label now ∷ []) kept.1))))
+      (λ rises. ends_pass _ _ P Q (Nothing kept.1))))))))))
+      (Nothing kept.1))))
+
+  says_row : (path : PathOf) (now : Categories) → Holds (set_label place pid path now f) (Says place pid f)
+  unfolding P Q
+  says_row path now = kept_ends (Says place pid f) _ (label_says path now)
+
+pub says_step : (w : World) (place pid : ℕ) (path : PathOf) (now : Categories) → Says place pid w.frame (step w place pid (op.SetLabel path now)).world.frame
+unfolding row
+says_step w place pid path now =
+    subst (λ (g : Frame). Says place pid w.frame g) (sym (step_frame w place pid (op.SetLabel path now)))
+    (decided (Says place pid w.frame) (told w pid (op.SetLabel path now)) place pid (op.SetLabel path now) w.frame (Nothing refl) (says_row place pid w.frame path now))
+
+-- ---- no other call lets an object down
+-- whether a call sets an object's label
+abbrev pub sets_label : Op → Bool
+sets_label (op.SetLabel path now) = true
+sets_label _ = false
+
+down_file : (f g : Frame) (place pid : ℕ) (c : Op) (line : AuditLine) → option_map_or (λ l. l ∷ []) (line_of_act f g place pid c) [] ≡ line ∷ [] → line.act ≡ act.DownFile → sets_label c ≡ true
+unfolding line_of_act
+down_file f g place pid (op.SetLabel path now) line is h = refl
+down_file f g place pid _ line is h = cc
+
+pub down_by_label : (w : World) (place : ℕ) (e : Event) (line : AuditLine) → lines_added w place e ≡ line ∷ [] → line.act ≡ act.DownFile → sets_label e.op ≡ true
+unfolding lines_added
+down_by_label w place e line is h = go (is_licensed w place e) is
+  where
+    go : (b : Bool) → (if b then option_map_or (λ l. l ∷ []) (line_of_act w.frame (step_of w place e).world.frame place e.pid e.op) [] else []) ≡ line ∷ [] → sets_label e.op ≡ true
+    go true is = down_file w.frame (step_of w place e).world.frame place e.pid e.op line is h
+    go false is = cc
+
+-- ---- places in the log
+-- each line of a log has a place from one number on and before another
+pub AreWithin : ℕ → ℕ → List AuditLine → Type 0
+AreWithin from to [] = Unit {0}
+AreWithin from to (l ∷ log) = ((from ≤ l.place) × (l.place < to)) × AreWithin from to log
+
+within_append : (from to : ℕ) (xs ys : List AuditLine) → AreWithin from to xs → AreWithin from to ys → AreWithin from to (xs ++ ys)
+unfolding AreWithin
+within_append from to [] ys a b = b
+within_append from to (x ∷ xs) ys a b = (a.0, within_append from to xs ys a.1 b)
+
+within_more : (from low to : ℕ) (log : List AuditLine) → from ≤ low → AreWithin low to log → AreWithin from to log
+unfolding AreWithin
+within_more from low to [] below a = tt
+within_more from low to (l ∷ log) below a = ((omega (arith, below, a.0.0), a.0.1), within_more from low to log below a.1)
+
+line_place : (f g : Frame) (place pid : ℕ) (c : Op) (line : AuditLine) → line_of_act f g place pid c ≡ Some line → line.place ≡ place
+unfolding line_of_act
+line_place f g place pid (op.SetLabel path now) line is = let e = is in cc
+line_place f g place pid (op.SetSelf now) line is = cc
+line_place f g place pid (op.Thaw path) line is = cc
+line_place f g place pid op.ThawSelf line is = cc
+line_place f g place pid (op.SetPriv path cap lic) line is = cc
+line_place f g place pid (op.GrantLic target set) line is = cc
+line_place f g place pid (op.SetCeiling target now) line is = cc
+line_place f g place pid (op.ReadLog index) line is = cc
+line_place f g place pid _ line is = cc
+
+added_within : (w : World) (place to : ℕ) (e : Event) → place < to → AreWithin place to (lines_added w place e)
+unfolding lines_added AreWithin
+added_within w place to e low = go (is_licensed w place e) (line_of_act w.frame (step_of w place e).world.frame place e.pid e.op) refl
+  where
+    go : (b : Bool) (o : Option AuditLine) → line_of_act w.frame (step_of w place e).world.frame place e.pid e.op ≡ o → AreWithin place to (if b then option_map_or (λ l. l ∷ []) o [] else [])
+    go false o is = tt
+    go true None is = tt
+    go true (Some l) is = let h = line_place w.frame (step_of w place e).world.frame place e.pid e.op l is in ((omega arith, omega arith), tt)
+
+pub log_within : (w : World) (place : ℕ) (events : List Event) (to : ℕ) → length events + place ≤ to → AreWithin place to (audit_log w place events)
+unfolding audit_log AreWithin
+log_within w place [] to low = tt
+log_within w place (e ∷ events) to low = within_append place to _ _ (added_within w place to e (omega (arith, low)))
+    (within_more place (suc place) to _ (omega arith) (log_within (step_of w place e).world (suc place) events to (omega (arith, low))))
+
+pub within_at : (from to : ℕ) (log : List AuditLine) (n : ℕ) (l : AuditLine) → AreWithin from to log → slice_get log n ≡ Some l → l.place < to
+unfolding AreWithin
+within_at from to [] n l a is = cc
+within_at from to (x ∷ log) zero l a is = let e : x ≡ l = cc in subst (λ (y : AuditLine). y.place < to) e a.0.1
+within_at from to (x ∷ log) (suc n) l a is = within_at from to log n l a.1 is
+
+-- ---- the log of no entries
+line_log : (w : World) (spec : ObjSpec) → (with_object w spec).frame.log ≡ w.frame.log
+unfolding with_object
+line_log w spec = go _ _ _
+  where
+    go : (dir k : ℕ) (free : Option ℕ) → (option_map_or (placed w spec dir k) free w).frame.log ≡ w.frame.log
+    go dir k None = refl
+    go dir k (Some o) = refl
+
+lines_log : (w : World) (specs : List ObjSpec) → (with_objects w specs).frame.log ≡ w.frame.log
+lines_log w [] = refl
+lines_log w (spec ∷ specs) = lines_log (with_object w spec) specs ∙ line_log w spec
+
+pub opening_log : (c : Config) → (opening_world c).frame.log ≡ []
+unfolding opening_world
+opening_log c = lines_log (bare_world c) c.objects

@@ -1,0 +1,89 @@
+use Rattle.std.proofs.Common.{◌≡◌, ◌≤◌, ◌-◌, ◌∙◌, ℕ, Bool, true, false, Option, Some, None, Bor, option_map, drop, if◌then◌else◌, refl, sym, ap, subst}
+use Rattle.ix_model.specs.world.Contents.{on_side}
+use Rattle.ix_model.specs.history.Made.{entry}
+use Rattle.ix_model.specs.declared.reply.Reply.TheVariants as reply
+use Rattle.ix_flow.specs.Marks.{marks_of}
+use Rattle.ix_flow.specs.Tracking.{AreSides, HasEnd}
+use Rattle.ix_flow.specs.declared.side.Side.{Side}
+use Rattle.ix_flow.specs.declared.sides.Sides.{Sides}
+use Rattle.ix_flow.specs.declared.tracks.Tracks.{Tracks}
+use Rattle.ix_flow.proofs.ReadFollowed.{followed, has_side, idle, is_opened}
+use Rattle.ix_flow.proofs.tracks.Tracks.read.Goals.{then-piped, else-piped}
+use Rattle.ix_flow.proofs.tracks.Tracks.read.Goals as goal
+
+none_given : (count k : ℕ) → count ≡ 0 → reply.Bytes count ≡ reply.Bytes k → k ≡ 0
+none_given count k none same = cc
+
+none_of : {A : Type 0} (o : Option A) → ((x : A) → o ≡ Some x → ⊥) → o ≡ None
+none_of None isnt = refl
+none_of (Some x) isnt = absurd (isnt x refl)
+
+begins : (piped : Bool) (at front first rest : ℕ) → at ≡ first → ((piped ≡ true) × (first ≡ front)) → at ≡ (if piped then front else rest)
+begins piped at front first rest is known = is ∙ known.1 ∙ ap (λ b. if b then front else rest) (sym known.0)
+
+begins_there : (piped : Bool) (at front first rest : ℕ) → at ≡ first → ((piped ≡ false) × (first ≡ rest)) → at ≡ (if piped then front else rest)
+begins_there piped at front first rest is known = is ∙ known.1 ∙ ap (λ b. if b then front else rest) (sym known.0)
+
+pub returns-in_default-clause-follows : goal.returns-in_default-clause-follows
+returns-in_default-clause-follows c = λ seat line limit before step are.
+    idle c.args.core.now before (entry seat line c.args.pid _) c.args.fd.0 limit c.args.reply.now step refl c.args.self.now are
+    (subst (λ (n : ℕ). n ≤ 6800000) c.requires.place c.requires.few) c.args.out.now.items
+    (λ k bytes. absurd (c.in_default.not-Bytes k bytes))
+
+pub returns-then-count-eq0-clause-follows : goal.returns-then-count-eq0-clause-follows
+returns-then-count-eq0-clause-follows c = λ seat line limit before step are.
+    idle c.args.core.now before (entry seat line c.args.pid _) c.args.fd.0 limit c.args.reply.now step refl c.args.self.now are
+    (subst (λ (n : ℕ). n ≤ 6800000) c.requires.place c.requires.few) c.args.out.now.items
+    (λ k bytes. none_given c.in-Bytes.count k c.if-count-eq0.true (sym c.in-Bytes.is ∙ bytes))
+
+pub returns-in_default-opened-clause-follows : goal.returns-in_default-opened-clause-follows
+returns-in_default-opened-clause-follows c = λ seat line limit before step are.
+    absurd (is_opened c.args.core.now before (entry seat line c.args.pid _) c.args.fd.0 limit c.args.reply.now step refl c.args.self.now are
+    (subst (λ (n : ℕ). n ≤ 6800000) c.requires.place c.requires.few)
+    c.in-Bytes.count c.in-Bytes.is c.if-count-eq0.false _ (sym c.opened.ensures ∙ none_of c.opened.result c.in_default-opened.not-Some))
+
+pub returns-in_default-get-clause-follows : goal.returns-in_default-get-clause-follows
+returns-in_default-get-clause-follows c = λ seat line limit before step are.
+    absurd (has_side c.args.core.now before (entry seat line c.args.pid _) c.args.fd.0 limit c.args.reply.now step refl c.args.self.now are
+    (subst (λ (n : ℕ). n ≤ 6800000) c.requires.place c.requires.few)
+    c.in-Bytes.count c.in-Bytes.is c.if-count-eq0.false _ c.in-Some.view (λ b. refl) (λ b. refl) (λ b. refl) (sym c.opened.ensures ∙ c.in-Some.is)
+    (sym c.get.ensures ∙ ap (option_map (λ (s : Bor Side). s.now)) (none_of c.get.result c.in_default-get.not-Some)))
+
+pub returns-in_ok-drain-clause-follows : goal.returns-in_ok-drain-clause-follows
+returns-in_ok-drain-clause-follows c = λ seat line limit before step are.
+    let same : c.count.new.self.sides ≡ c.args.self.now.sides = ap (λ (t : Tracks). t.sides) c.in_ok-count.ensures in
+    followed c.args.core.now before (entry seat line c.args.pid _) c.args.fd.0 limit c.args.reply.now step refl c.args.self.now are (subst (λ (n : ℕ). n ≤ 6800000) c.requires.place c.requires.few)
+    c.in-Bytes.count c.in-Bytes.is c.if-count-eq0.false _ c.in-Some.view (λ b. refl) (λ b. refl) (λ b. refl) (sym c.opened.ensures ∙ c.in-Some.is)
+    c.in-Some-get.side.now (sym c.get.ensures ∙ ap (option_map (λ (s : Bor Side). s.now)) c.in-Some-get.is) c.is_pipe-piped.result c.is_pipe-piped.ensures c.if-piped.from
+    (elim c.if-piped.branch [
+      | then-piped w ↦ begins c.is_pipe-piped.result c.if-piped.from c.in-Some-get.side.now.front w.front-from.result (c.in-Some.view.at - c.in-Bytes.count) w.from-is
+          (w.if-piped.true, w.front-from.ensures)
+      | else-piped w ↦ begins_there c.is_pipe-piped.result c.if-piped.from c.in-Some-get.side.now.front w.saturating_sub-from.result (c.in-Some.view.at - c.in-Bytes.count) w.from-is
+          (w.if-piped.false, w.saturating_sub-from.ensures)
+    ])
+    c.count.new.self c.drain.new.self c.args.place c.in_ok-lines.lines c.args.out.now.items c.tell.new.out.items c.requires.place
+    c.in_ok-lines.ensures.text c.in_ok-lines.ensures.lines c.in_ok-count.ensures
+    (λ labels past stand there.
+    let marks = marks_of past in
+    subst (λ (b : Bool). AreSides c.drain.new.self labels past (if b then on_side c.in-Some.view.obj.0 c.in-Some.view.end (drop c.in-Bytes.count) marks else marks)) (sym c.if-piped-2.true)
+    (c.in_ok-drain.ensures labels past marks (subst (λ (s : Sides). AreSides s labels past marks) (sym same) stand)
+    (subst (λ (b : Bool). HasEnd past marks c.in-Some.view.obj.0 c.in-Some.view.end b) c.if-piped-2.true there)))
+
+pub returns-else-piped-2-clause-follows : goal.returns-else-piped-2-clause-follows
+returns-else-piped-2-clause-follows c = λ seat line limit before step are.
+    let same : c.count.new.self.sides ≡ c.args.self.now.sides = ap (λ (t : Tracks). t.sides) c.in_ok-count.ensures in
+    followed c.args.core.now before (entry seat line c.args.pid _) c.args.fd.0 limit c.args.reply.now step refl c.args.self.now are (subst (λ (n : ℕ). n ≤ 6800000) c.requires.place c.requires.few)
+    c.in-Bytes.count c.in-Bytes.is c.if-count-eq0.false _ c.in-Some.view (λ b. refl) (λ b. refl) (λ b. refl) (sym c.opened.ensures ∙ c.in-Some.is)
+    c.in-Some-get.side.now (sym c.get.ensures ∙ ap (option_map (λ (s : Bor Side). s.now)) c.in-Some-get.is) c.is_pipe-piped.result c.is_pipe-piped.ensures c.if-piped.from
+    (elim c.if-piped.branch [
+      | then-piped w ↦ begins c.is_pipe-piped.result c.if-piped.from c.in-Some-get.side.now.front w.front-from.result (c.in-Some.view.at - c.in-Bytes.count) w.from-is
+          (w.if-piped.true, w.front-from.ensures)
+      | else-piped w ↦ begins_there c.is_pipe-piped.result c.if-piped.from c.in-Some-get.side.now.front w.saturating_sub-from.result (c.in-Some.view.at - c.in-Bytes.count) w.from-is
+          (w.if-piped.false, w.saturating_sub-from.ensures)
+    ])
+    c.count.new.self c.count.new.self.sides c.args.place c.in_ok-lines.lines c.args.out.now.items c.tell.new.out.items c.requires.place
+    c.in_ok-lines.ensures.text c.in_ok-lines.ensures.lines c.in_ok-count.ensures
+    (λ labels past stand there.
+    let marks = marks_of past in
+    subst (λ (b : Bool). AreSides c.count.new.self.sides labels past (if b then on_side c.in-Some.view.obj.0 c.in-Some.view.end (drop c.in-Bytes.count) marks else marks)) (sym c.if-piped-2.false)
+    (subst (λ (s : Sides). AreSides s labels past marks) (sym same) stand))

@@ -1,0 +1,10 @@
+pub mod Origins
+pub mod Moves
+pub mod Marks
+pub mod Lowerings
+pub mod Lines
+pub mod Sides
+pub mod Reads
+pub mod Tracking
+pub mod Following
+pub mod Laws
