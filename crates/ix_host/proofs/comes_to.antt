@@ -4,3 +4,4 @@ pub mod Preparing
 pub mod Verdicts
 pub mod OnlyRun
 pub mod Checked
+pub mod Followed

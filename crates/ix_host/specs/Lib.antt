@@ -4,4 +4,6 @@ pub mod report
 pub mod Hiding
 pub mod Laws
 pub mod Judged
+pub mod Traces
+pub mod Traced
 pub mod run

@@ -4,6 +4,7 @@
 mod asked;
 mod checking;
 mod concluding;
+mod following;
 mod lanes;
 pub mod laws;
 mod policies;

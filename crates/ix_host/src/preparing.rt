@@ -14,6 +14,7 @@ ghost use Rattle.ix_host.specs.run.Run.{Ends};
 
 use crate::asked::command::Command;
 use crate::checking::check;
+use crate::following::flow;
 use crate::policies::{ScriptPolicy, policy_of};
 use crate::status::Status;
 use crate::streams::input::input_for;
@@ -71,6 +72,7 @@ fn accepted_task<K: Sink>(
         Command::Print => Task::Ended(print(alloc, sink, &script)),
         Command::Gen(count) => Task::Run(Telling::Summary(count), script, policy),
         Command::Check => Task::Ended(check(alloc, sink, &script, policy.as_ref(), claimed)),
+        Command::Flow => Task::Ended(flow(alloc, sink, &script, policy.as_ref())),
     }
 }
 
@@ -94,6 +96,7 @@ fn refused_task<K: Sink>(
         Command::Print => Task::Ended(refuse(alloc, sink, line, 27)),
         Command::Gen(count) => Task::Run(Telling::Summary(count), script, None),
         Command::Check => Task::Ended(refuse(alloc, sink, line, 27)),
+        Command::Flow => Task::Ended(refuse(alloc, sink, line, 27)),
     }
 }
 
@@ -129,6 +132,7 @@ fn parts_for(command: Command, bytes: &[u8]) -> (&[u8], &[u8])
         Command::Print => (bytes, b""),
         Command::Gen(_) => (bytes, b""),
         Command::Check => parts(bytes),
+        Command::Flow => (bytes, b""),
     }
 }
 

@@ -6,6 +6,7 @@ ghost use Rattle.ix_host.specs.Hiding.{TakesHidingReport};
 ghost use Rattle.ix_host.specs.command.Command.{command_of, usage_line};
 ghost use Rattle.ix_check.specs.Parts.{report_part, script_part};
 ghost use Rattle.ix_host.specs.Judged.{TakesVerdict};
+ghost use Rattle.ix_host.specs.Traced.{TakesTraces};
 ghost use Rattle.ix_host.specs.run.Inputs.{IsTooLong, input_max, input_of, reads_source, script_in};
 ghost use Rattle.ix_host.specs.run.Whole.{TakesFew};
 ghost use Rattle.ix_host.specs.run.Run.{FitsCommand, IsAnswer, ReadsOut, WritesFor, WritesLine, called_for, wanted};
@@ -17,14 +18,15 @@ use crate::preparing::prepare;
 use crate::status::Status;
 use crate::task::Task;
 use ix_check::laws::texts_are_judged;
+use ix_flow::laws::lines_are_accounted_for;
 use ix_io::{Sink, Source};
 use std::alloc::Global;
 
 /// Does what the words ask: `run` reads a script from the source, runs it, and writes its report to the sink; `print` writes
 /// the canonical text of the script; `gen` reads nothing, and runs the generator's script with the count's commands and
 /// writes the summary of that run; `check` reads a script and behind it a text, and writes whether that is the report of one of
-/// the script's histories, and where not, the first line at which no such report goes on. All else is answered by the usage line.
-/// It waits for nobody.
+/// the script's histories, and where not, the first line at which no such report goes on; `flow` reads a script, runs it, and
+/// writes of each byte that was read where it came from. All else is answered by the usage line. It waits for nobody.
 pub fn run_serial<S: Source, K: Sink>(
     alloc: Global,
     words: &Words,
@@ -45,6 +47,8 @@ pub fn run_serial<S: Source, K: Sink>(
         IfSome (K.taken sink.old) (λ taken. TakesHidingReport (script_in bytes) (serial (script_in bytes)) taken (K.taken sink.new))) }
     ensures judged { result ≡ Status.Done → command_of words.now ≡ Some Command.Check → IfSome (S.left source.old) (λ bytes.
         IfSome (K.taken sink.old) (λ taken. TakesVerdict (script_in (script_part bytes)) (report_part bytes) taken (K.taken sink.new))) }
+    ensures traced { result ≡ Status.Done → command_of words.now ≡ Some Command.Flow → IfSome (S.left source.old) (λ bytes.
+        IfSome (K.taken sink.old) (λ taken. TakesTraces (script_in bytes) taken (K.taken sink.new))) }
     ensures not_written { result ≡ Status.ReadFault → sink.new ≡ sink.old }
 
     // When each status comes.
@@ -65,12 +69,13 @@ pub fn run_serial<S: Source, K: Sink>(
         → IfSome (input_of (command_of words.now) (S.left source.old)) (λ bytes.
         (result ≡ called_for (command_of words.now) bytes) ⊎ (result ≡ Status.NoMemory)) }
 {
-    // The proof of `judged` rests on this law.
+    // The proofs of `judged` and of `traced` rest on these laws.
     texts_are_judged();
+    lines_are_accounted_for();
     let Ok(asked) = words.command(alloc) else {
         return Status::NoMemory;
     };
-    let usage = b"usage: ixone run | print | gen COUNT | check\n";
+    let usage = b"usage: ixone run | print | gen COUNT | check | flow\n";
     match prepare(alloc, usage, asked, source, sink) {
         Task::Ended(status) => status,
         Task::Run(telling, script, policy) => {

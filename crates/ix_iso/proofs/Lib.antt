@@ -4,7 +4,7 @@ pub mod Counts
 mod Shapes
 mod Entries
 mod Inside
-mod Facts
+pub mod Facts
 pub mod Steps
 pub mod Histories
 mod Rising

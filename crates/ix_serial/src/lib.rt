@@ -4,4 +4,4 @@
 mod lane;
 mod serial;
 
-pub use serial::run_history;
+pub use serial::{run_history, run_on};

@@ -50,9 +50,9 @@ fn begun_after(begun: u32, role: Role) -> u32
     }
 }
 
-/// Runs the lanes of a script phase by phase, in each phase in the order in which they are written, before a witness. The journal
-/// has room for all: `NoMemory` is of the lanes' runs alone, and nothing was run then.
-fn run_lines<W: Witness>(
+/// Runs the lanes of a script phase by phase, in each phase in the order in which they are written, before a witness, on a core of
+/// the script's config without entries. The journal has room for all: `NoMemory` is of the lanes' runs alone, and nothing was run then.
+pub fn run_on<W: Witness>(
     alloc: Global,
     core: &mut Core,
     script: &Script,
@@ -95,6 +95,6 @@ pub fn run_history<W: Witness>(
     ensures unseen { OnErr result (witness.new ≡ witness.old) }
 {
     let mut core = Core::boot(alloc, script.config(alloc)?)?;
-    run_lines(alloc, &mut core, script, policy, witness)?;
+    run_on(alloc, &mut core, script, policy, witness)?;
     Ok(core)
 }

@@ -3,6 +3,7 @@ mod checks;
 mod copies;
 mod failing;
 mod floats;
+mod flows;
 mod forms;
 mod lanes;
 mod policies;
@@ -16,7 +17,7 @@ use std::alloc::Global;
 use std::process::Abort;
 
 /// What is written where the words are no command.
-const USAGE: &[u8] = b"usage: ixone run | print | gen COUNT | check\n";
+const USAGE: &[u8] = b"usage: ixone run | print | gen COUNT | check | flow\n";
 
 /// The calls at which a source and a sink fail, and the room of the sink.
 #[derive(Clone, Copy)]

@@ -15,6 +15,7 @@ use Rattle.ix_host.specs.declared.asked.command.Command.{Command}
 use Rattle.ix_host.specs.declared.asked.command.Command.TheVariants as command
 use Rattle.ix_host.specs.declared.status.Status.TheVariants as status
 use Rattle.ix_host.specs.Policies.{policy_refusal, refused_policy}
+use Rattle.ix_host.specs.Traces.{traces}
 use Rattle.ix_check.specs.Parts.{report_part, script_part}
 use Rattle.ix_check.specs.Plans.{found_in}
 use Rattle.ix_check.specs.Verdicts.{verdict_line}
@@ -35,6 +36,7 @@ accepted command.Run s h = h
 accepted command.Print s h = h
 accepted (command.Gen n) s h = refl
 accepted command.Check s h = h
+accepted command.Flow s h = h
 
 -- one that is refused
 pub outcome_refused : (c : Command) (s : List Line) (line rule : ℕ) (claimed : List ℕ) (history : List Event)
@@ -61,6 +63,7 @@ outcome_fault command.Run bytes line rule history readable is = rw (outcome_in, 
 outcome_fault command.Print bytes line rule history readable is = rw (outcome_in, is) refl
 outcome_fault (command.Gen n) bytes line rule history readable is = cc
 outcome_fault command.Check bytes line rule history readable is = rw (outcome_in, short bytes readable, is) refl
+outcome_fault command.Flow bytes line rule history readable is = rw (outcome_in, is) refl
 
 no_fault : (o : Option (ℕ × ℕ)) (p : Option (List Line)) (s : List Line) → (if is_none o then p else None) ≡ Some s → (o ≡ None) × (p ≡ Some s)
 no_fault None p s h = (refl, h)
@@ -81,6 +84,7 @@ outcome_script command.Run bytes s history readable is = rw (outcome_in, without
 outcome_script command.Print bytes s history readable is = rw (outcome_in, without_fault bytes s is, is) refl
 outcome_script (command.Gen n) bytes s history readable is = rw (outcome_for, is) refl
 outcome_script command.Check bytes s history readable is = rw (outcome_in, short bytes readable, without_fault (script_part bytes) s is, is) refl
+outcome_script command.Flow bytes s history readable is = rw (outcome_in, without_fault bytes s is, is) refl
 
 -- one that is too long
 pub outcome_too_long : (c : Command) (bytes : List ℕ) (history : List Event) → reads_source (Some c) ≡ true → nat_lt (input_max (Some c)) (length bytes) ≡ true
@@ -90,6 +94,7 @@ outcome_too_long command.Run bytes history reads long = rw (outcome_in, long) re
 outcome_too_long command.Print bytes history reads long = rw (outcome_in, long) refl
 outcome_too_long (command.Gen n) bytes history reads long = cc
 outcome_too_long command.Check bytes history reads long = rw (outcome_in, long) refl
+outcome_too_long command.Flow bytes history reads long = rw (outcome_in, long) refl
 
 -- ---- statuses
 pub status_is : (usage : List ℕ) (asked : Option Command) (bytes : List ℕ) (history : List Event) → status_of (outcome_of usage asked bytes history) ≡ called_for asked bytes
@@ -143,6 +148,7 @@ script_later command.Run s n h = policy_later (form_told s) (policy_of s) n h
 script_later command.Print s n h = policy_later (form_told s) (policy_of s) n h
 script_later (command.Gen n) s m h = cc
 script_later command.Check s n h = policy_later (form_told s) (policy_of s) n h
+script_later command.Flow s n h = policy_later (form_told s) (policy_of s) n h
 
 -- a script that isn't too long is refused by another rule
 by_later : (c : Command) (bytes : List ℕ) (n : ℕ) → nat_lt 16777216 (length bytes) ≡ false → status.Script n 1 ≡ unless_done (refused_by c bytes) → ⊥
@@ -166,6 +172,7 @@ unfolding called_for refusal_of
 first_rule command.Run bytes h = long_script command.Run bytes h
 first_rule command.Print bytes h = long_script command.Print bytes h
 first_rule (command.Gen n) bytes h = cc
+first_rule command.Flow bytes h = long_script command.Flow bytes h
 first_rule command.Check bytes h = by_length (nat_lt check_max (length bytes)) refl h
   where
     by_length : (b : Bool) → nat_lt check_max (length bytes) ≡ b → status.Script 1 1 ≡ unless_done (if b then Some (1, 1) else refused_by command.Check (script_part bytes))
@@ -183,27 +190,23 @@ refusal_text (outcome.Refused l r) line rule is =
     λ i. refusal_line (same_line i) (same_rule i)
 refusal_text (outcome.Usage text) line rule is = cc
 
+-- what wasn't refused is told as a whole
+whole_text : (o : Option (ℕ × ℕ)) (text : List ℕ) → status.Done ≡ status_of (unless_refused o text) → text_of (unless_refused o text) ≡ text
+whole_text None text h = refl
+whole_text (Some refusal) text h = cc
+
 -- a run that is done was refused nothing
 pub done_text : (bytes : List ℕ) (history : List Event) → status.Done ≡ status_of (outcome_in command.Run bytes history) → text_of (outcome_in command.Run bytes history) ≡ report_of (script_in bytes) history
 unfolding outcome_in text_for
-done_text bytes history is = go (refusal_of command.Run bytes) is
-  where
-    text : List ℕ
-    text = report_of (script_in bytes) history
-
-    go : (o : Option (ℕ × ℕ)) → status.Done ≡ status_of (unless_refused o text) → text_of (unless_refused o text) ≡ text
-    go None h = refl
-    go (Some refusal) h = cc
+done_text bytes history is = whole_text (refusal_of command.Run bytes) (report_of (script_in bytes) history) is
 
 -- a check that is done told what is found of the text
 pub done_answer : (bytes : List ℕ) (history : List Event) → status.Done ≡ status_of (outcome_in command.Check bytes history)
     → text_of (outcome_in command.Check bytes history) ≡ verdict_line (found_in (script_in (script_part bytes)) (report_part bytes))
 unfolding outcome_in text_for
-done_answer bytes history is = go (refusal_of command.Check bytes) is
-  where
-    text : List ℕ
-    text = verdict_line (found_in (script_in (script_part bytes)) (report_part bytes))
+done_answer bytes history is = whole_text (refusal_of command.Check bytes) (verdict_line (found_in (script_in (script_part bytes)) (report_part bytes))) is
 
-    go : (o : Option (ℕ × ℕ)) → status.Done ≡ status_of (unless_refused o text) → text_of (unless_refused o text) ≡ text
-    go None h = refl
-    go (Some refusal) h = cc
+-- and a flow that is done told where the bytes came from
+pub done_traces : (bytes : List ℕ) (history : List Event) → status.Done ≡ status_of (outcome_in command.Flow bytes history) → text_of (outcome_in command.Flow bytes history) ≡ traces (script_in bytes)
+unfolding outcome_in text_for
+done_traces bytes history is = whole_text (refusal_of command.Flow bytes) (traces (script_in bytes)) is

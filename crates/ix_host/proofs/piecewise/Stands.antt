@@ -1,6 +1,6 @@
 -- How a report stands that is on its way out: at first, as it grows, and as what waits is written.
-use Rattle.std.proofs.Common.{◌≡◌, ℕ, Bool, true, false, is_some, ◌+◌, List, [], ◌++◌, length, Option, Some, None, Ok, Err, refl, sym, ap, ◌∙◌, append_assoc, subst}
-use Rattle.std.specs.Prelude.{IfSome}
+use Rattle.std.proofs.Common.{◌≡◌, ℕ, Bool, true, false, is_some, ◌+◌, List, [], ◌++◌, length, Option, Some, None, Result, Ok, Err, refl, sym, ap, ◌∙◌, append_assoc, subst}
+use Rattle.std.specs.Prelude.{IfSome, OnOk}
 use Rattle.std.proofs.lemmas.List.{append-nil}
 use Rattle.ix_io.specs.Streams.{HasCause, Rose}
 use Rattle.ix_model.specs.history.Events.{Event}
@@ -13,11 +13,12 @@ use Rattle.ix_report.specs.LineText.{head_line}
 use Rattle.ix_replay.specs.report.Report.{closing_text, entries_text, entry_text, report_of}
 use Rattle.ix_replay.proofs.piecewise.Shown.{history_entries}
 use Rattle.ix_host.specs.declared.status.Status.TheVariants as status
-use Rattle.ix_host.specs.declared.streams.teller.Failure.{Failure}
-use Rattle.ix_host.specs.declared.streams.teller.Failure.TheVariants as failure
+use Rattle.ix_host.specs.declared.streams.outlet.Failure.{Failure}
+use Rattle.ix_host.specs.declared.streams.outlet.Failure.TheVariants as failure
 use Rattle.ix_host.specs.run.Outcome as outcome
 use Rattle.ix_host.specs.run.Run.{Ends}
-use Rattle.ix_host.specs.run.Teller.{FrontIsOut, StandsAt, failed_as, told_of}
+use Rattle.ix_host.specs.run.Outlet.{FrontIsOut, StandsAt, failed_as}
+use Rattle.ix_host.specs.run.Teller.{told_of}
 use Rattle.ix_host.specs.run.Whole.{Sent, Writes}
 use Rattle.ix_host.proofs.piecewise.Outlets.{sent_all, sent_front, sent_less, sent_more, sent_none}
 
@@ -107,25 +108,28 @@ pub report_told : (s : List Line) (begun : List ℕ) (h : History) → h.config 
 unfolding report_of world_of
 report_told s begun h config at = rw (at, config) refl
 
--- ---- an entry more
-module _ (o after : Option (List ℕ)) (before now : ℕ) (s : List Line) (begun : List ℕ) (h k : History) (e : Event) (is : k ≡ with_entry h e) where
-  abbrev line : List ℕ
-  line = entry_text (form_told s) (lanes_of s) (length h.events + 1) (world_of h) e
+-- ---- a line more
+module _ (o after : Option (List ℕ)) (before now : ℕ) (text line then : List ℕ) (is : text ++ line ≡ then) where
+  longer : (why : Option Failure) (waiting : List ℕ) → StandsAt why o after waiting text before now → StandsAt why o after (waiting ++ line) then before now
+  longer why waiting stands = subst (λ (t : List ℕ). StandsAt why o after (waiting ++ line) t before now) is (stands_more o after before now why waiting text line stands)
 
-  longer : (why : Option Failure) (waiting : List ℕ) → StandsAt why o after waiting (told_of s begun h) before now → StandsAt why o after (waiting ++ line) (told_of s begun k) before now
-  longer why waiting stands = subst (λ (t : List ℕ). StandsAt why o after (waiting ++ line) t before now) (told_next s begun h k e is) (stands_more o after before now why waiting (told_of s begun h) line stands)
-
-  -- its line comes to what waits
-  pub line_waits : (waiting out : List ℕ) → out ≡ waiting ++ line → StandsAt None o after waiting (told_of s begun h) before now → StandsAt None o after (out ++ []) (told_of s begun k) before now
-  line_waits waiting out grown stands = subst (λ (w : List ℕ). StandsAt None o after w (told_of s begun k) before now) (sym grown ∙ sym (append-nil out)) (longer None waiting stands)
+  -- it is to come behind what waits
+  pub line_comes : (waiting : List ℕ) → StandsAt None o after waiting text before now → StandsAt None o after (waiting ++ line) then before now
+  line_comes waiting stands = longer None waiting stands
 
   -- nothing is said of it after a failure
-  pub line_missed : (why : Option Failure) (waiting : List ℕ) → is_some why ≡ true → StandsAt why o after waiting (told_of s begun h) before now → StandsAt why o after waiting (told_of s begun k) before now
-  line_missed why waiting failed stands = stands_silent o after before now why (waiting ++ line) waiting (told_of s begun k) failed (longer why waiting stands)
+  pub line_missed : (why : Option Failure) (waiting : List ℕ) → is_some why ≡ true → StandsAt why o after waiting text before now → StandsAt why o after waiting then before now
+  line_missed why waiting failed stands = stands_silent o after before now why (waiting ++ line) waiting then failed (longer why waiting stands)
 
-  -- there is no memory for it
-  pub line_lost : (waiting : List ℕ) → StandsAt None o after waiting (told_of s begun h) before now → FrontIsOut o after (told_of s begun k)
-  line_lost waiting stands = stands_front o after before now (waiting ++ line) (told_of s begun k) (longer None waiting stands)
+-- what follows where it went well
+pub on_ok : {T E P Q : Type 0} (r : Result T E) → (P → Q) → OnOk r P → OnOk r Q
+on_ok (Ok x) f p = f p
+on_ok (Err e) f p = tt
+
+-- there is none where there is one
+pub no_failure : {A : Type 0} (o : Option A) → is_some o ≡ true → o ≡ None → ⊥
+no_failure None is none = cc
+no_failure (Some x) is none = cc
 
 -- none where there is none
 pub none_is : {A : Type 0} (o : Option A) → is_some o ≡ false → o ≡ None

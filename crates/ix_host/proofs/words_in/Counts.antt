@@ -144,9 +144,11 @@ counted_map (Some n) h = h
 whole_counted : (words : List (List ℕ)) → IfSome (whole_command words) IsCounted
 whole_counted [] = tt
 whole_counted (word ∷ []) =
-    let last = if same_bytes word (codes "check") then Some command.Check else None in
-    counted_if (same_bytes word (codes "run")) (Some command.Run) (if same_bytes word (codes "print") then Some command.Print else last) tt
-    (counted_if (same_bytes word (codes "print")) (Some command.Print) last tt (counted_if (same_bytes word (codes "check")) (Some command.Check) None tt tt))
+    let last = if same_bytes word (codes "flow") then Some command.Flow else None in
+    let check = if same_bytes word (codes "check") then Some command.Check else last in
+    counted_if (same_bytes word (codes "run")) (Some command.Run) (if same_bytes word (codes "print") then Some command.Print else check) tt
+    (counted_if (same_bytes word (codes "print")) (Some command.Print) check tt
+    (counted_if (same_bytes word (codes "check")) (Some command.Check) last tt (counted_if (same_bytes word (codes "flow")) (Some command.Flow) None tt tt)))
 whole_counted (word ∷ count ∷ []) =
     counted_if (same_bytes word (codes "gen")) (option_map (λ n. command.Gen n) (count_of count)) None (counted_map (count_of count) (number_bounds 1 100000 count)) tt
 whole_counted (word ∷ count ∷ more ∷ words) = tt
@@ -166,3 +168,4 @@ lanes_counted words = go (command_of words)
     go (Some command.Print) = tt
     go (Some (command.Gen n)) = tt
     go (Some command.Check) = tt
+    go (Some command.Flow) = tt

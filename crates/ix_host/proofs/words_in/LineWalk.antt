@@ -144,7 +144,7 @@ other_than word name k ks clean refused =
 
 -- so it is no command
 none_whole : (word : Text) (words : List Text) (k : ErrorKind) (ks : Kinds) → fault_in word [] None ≡ k ∷ ks → whole_command (word ∷ words) ≡ None
-none_whole word [] k ks refused = rw (other_than word (codes "run") k ks refl refused, other_than word (codes "print") k ks refl refused, other_than word (codes "check") k ks refl refused) refl
+none_whole word [] k ks refused = rw (other_than word (codes "run") k ks refl refused, other_than word (codes "print") k ks refl refused, other_than word (codes "check") k ks refl refused, other_than word (codes "flow") k ks refl refused) refl
 none_whole word (count ∷ []) k ks refused = rw (other_than word (codes "gen") k ks refl refused) refl
 none_whole word (count ∷ more ∷ words) k ks refused = refl
 

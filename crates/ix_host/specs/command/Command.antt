@@ -17,6 +17,7 @@ named_command word =
     if same_bytes word (codes "run") then Some command.Run
     else if same_bytes word (codes "print") then Some command.Print
     else if same_bytes word (codes "check") then Some command.Check
+    else if same_bytes word (codes "flow") then Some command.Flow
     else None
 
 -- the count of a word: a decimal number from 1 to 100,000, without a sign and without zeros before it
@@ -34,13 +35,13 @@ whole_command (word ∷ []) = named_command word
 whole_command (word ∷ count ∷ []) = counted_command word count
 whole_command (word ∷ count ∷ more ∷ words) = None
 
--- The words are a command where they are `run`, `print`, `check`, or `gen` and a count, once at most one word `--` is left out.
+-- The words are a command where they are `run`, `print`, `check`, `flow`, or `gen` and a count, once at most one word `--` is left out.
 unfoldable pub command_of : List (List ℕ) → Option Command
 command_of words = whole_command (left_out words)
 
 -- what is written where the words are no command
 abbrev pub usage_line : List ℕ
-usage_line = codes "usage: ixone run | print | gen COUNT | check\n"
+usage_line = codes "usage: ixone run | print | gen COUNT | check | flow\n"
 
 -- ---- the program that runs the lanes side by side
 -- `run` is its one command

@@ -24,6 +24,7 @@ input_max (Some command.Run) = script_max
 input_max (Some command.Print) = script_max
 input_max (Some (command.Gen n)) = script_max
 input_max (Some command.Check) = check_max
+input_max (Some command.Flow) = script_max
 
 -- ---- where it is read
 -- whether what is asked for is done with what the source gives
@@ -33,6 +34,7 @@ reads_source (Some command.Run) = true
 reads_source (Some command.Print) = true
 reads_source (Some (command.Gen n)) = false
 reads_source (Some command.Check) = true
+reads_source (Some command.Flow) = true
 
 -- the input, where it is told: for `gen` the text of the generator, and else what the source has left
 abbrev pub input_of : Option Command → Option (List ℕ) → Option (List ℕ)
@@ -41,6 +43,7 @@ input_of (Some command.Run) left = left
 input_of (Some command.Print) left = left
 input_of (Some (command.Gen n)) left = Some (generated n)
 input_of (Some command.Check) left = left
+input_of (Some command.Flow) left = left
 
 -- what `gen` reads has no fault, and what `check` reads is not too long
 abbrev pub IsReadable : Command → List ℕ → Type 0
@@ -48,6 +51,7 @@ IsReadable command.Run bytes = Unit {0}
 IsReadable command.Print bytes = Unit {0}
 IsReadable (command.Gen n) bytes = fault_of bytes ≡ None
 IsReadable command.Check bytes = length bytes ≤ check_max
+IsReadable command.Flow bytes = Unit {0}
 
 -- ---- its parts
 -- the bytes of the script: all of them, but for `check`, whose input has a report behind the script
@@ -56,6 +60,7 @@ script_bytes command.Run bytes = bytes
 script_bytes command.Print bytes = bytes
 script_bytes (command.Gen n) bytes = bytes
 script_bytes command.Check bytes = script_part bytes
+script_bytes command.Flow bytes = bytes
 
 -- the text that claims to be the report
 abbrev pub report_bytes : Command → List ℕ → List ℕ
@@ -63,6 +68,7 @@ report_bytes command.Run bytes = []
 report_bytes command.Print bytes = []
 report_bytes (command.Gen n) bytes = []
 report_bytes command.Check bytes = report_part bytes
+report_bytes command.Flow bytes = []
 
 -- the script that bytes are: where they have a fault, one without lines
 abbrev pub script_in : List ℕ → List Line
@@ -80,3 +86,4 @@ IsTooLong (Some command.Run) bytes = script_max < length bytes
 IsTooLong (Some command.Print) bytes = script_max < length bytes
 IsTooLong (Some (command.Gen n)) bytes = script_max < length bytes
 IsTooLong (Some command.Check) bytes = (check_max < length bytes) ⊎ (script_max < length (script_part bytes))
+IsTooLong (Some command.Flow) bytes = script_max < length bytes

@@ -14,6 +14,7 @@ use Rattle.ix_host.specs.declared.asked.command.Command.TheVariants as command
 use Rattle.ix_host.specs.declared.status.Status.{Status}
 use Rattle.ix_host.specs.declared.status.Status.TheVariants as status
 use Rattle.ix_host.specs.Policies.{policy_refusal}
+use Rattle.ix_host.specs.Traces.{traces}
 use Rattle.ix_host.specs.report.Rules.{refusal_line}
 use Rattle.ix_host.specs.run.Inputs.{check_max, report_bytes, script_bytes, script_in}
 
@@ -30,6 +31,7 @@ script_refusal command.Run s = policy_refusal s
 script_refusal command.Print s = policy_refusal s
 script_refusal (command.Gen n) s = None
 script_refusal command.Check s = policy_refusal s
+script_refusal command.Flow s = policy_refusal s
 
 -- the line and the rule by which the bytes of a script are refused: their fault stands before all else
 abbrev pub refused_by : Command → List ℕ → Option (ℕ × ℕ)
@@ -42,14 +44,16 @@ refusal_of command.Run bytes = refused_by command.Run bytes
 refusal_of command.Print bytes = refused_by command.Print bytes
 refusal_of (command.Gen n) bytes = None
 refusal_of command.Check bytes = if nat_lt check_max (length bytes) then Some (1, 1) else refused_by command.Check (script_bytes command.Check bytes)
+refusal_of command.Flow bytes = refused_by command.Flow bytes
 
 -- The text that a command gives of a script, of a text that claims to be its report, and of a history of it: the history's report, the canonical text,
--- the history's summary, or what is found of the text.
+-- the history's summary, what is found of the text, or where the bytes came from that the script's serial history reads.
 unfoldable pub text_for : Command → List Line → List ℕ → List Event → List ℕ
 text_for command.Run s claimed history = report_of s history
 text_for command.Print s claimed history = canonical s
 text_for (command.Gen n) s claimed history = summary_line n s history
 text_for command.Check s claimed history = verdict_line (found_in s claimed)
+text_for command.Flow s claimed history = traces s
 
 -- a refusal, or a whole text
 abbrev pub unless_refused : Option (ℕ × ℕ) → List ℕ → Outcome

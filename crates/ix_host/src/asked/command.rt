@@ -9,4 +9,6 @@ pub enum Command {
     Gen(u32),
     /// Whether a text is the report of a script.
     Check,
+    /// Where each byte came from that a script's processes read.
+    Flow,
 }

@@ -59,6 +59,7 @@ fn named_command(word: &str) -> Option<Command>
         "run" => Some(Command::Run),
         "print" => Some(Command::Print),
         "check" => Some(Command::Check),
+        "flow" => Some(Command::Flow),
         _ => None,
     }
 }

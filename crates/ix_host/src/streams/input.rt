@@ -50,5 +50,6 @@ pub fn input_for<S: Source>(alloc: Global, command: Command, source: &mut S) -> 
         Command::Print => read_all(alloc, source, SCRIPT_MAX),
         Command::Gen(count) => made(alloc, count),
         Command::Check => read_all(alloc, source, CHECK_MAX),
+        Command::Flow => read_all(alloc, source, SCRIPT_MAX),
     }
 }

@@ -13,12 +13,12 @@ ghost use Rattle.ix_report.specs.LineText.{head_line};
 ghost use Rattle.ix_replay.specs.report.Report.{closing_text, report_of};
 ghost use Rattle.ix_host.specs.run.Outcome as outcome;
 ghost use Rattle.ix_host.specs.run.Run.{Ends};
-ghost use Rattle.ix_host.specs.run.Teller.{StandsAt, failed_as};
+ghost use Rattle.ix_host.specs.run.Outlet.{StandsAt};
 
 use crate::status::Status;
-use crate::streams::stream::{write_all, write_piece};
+use crate::streams::outlet::{Failure, finish, room, told, write_full};
 use ix_core::{Core, Witness};
-use ix_io::{Failed, Sink};
+use ix_io::Sink;
 use ix_label::Form;
 use ix_model::{Call, NoMemory, Pid, Reply};
 use ix_policy::Policy;
@@ -28,35 +28,7 @@ use ix_script::Script;
 use ix_serial::run_history;
 use std::alloc::Global;
 
-/// How many bytes are gathered before they are written.
-const PIECE: usize = 65_536;
-
-/// How much room there is for the line that comes last in a piece; a longer one takes more memory.
-const LAST_LINE: usize = 16_384;
-
-/// What keeps a report from being told further.
-#[derive(Clone, Copy, Debug, PartialEq, Eq)]
-enum Failure {
-    /// A write failed.
-    Write,
-    /// There was no memory for a line.
-    Memory,
-}
-
-impl Failure {
-    /// How a run ends after it.
-    fn status(self) -> Status
-        ensures { result ≡ failed_as self }
-    {
-        match self {
-            Failure::Write => Status::WriteFault,
-            Failure::Memory => Status::NoMemory,
-        }
-    }
-}
-
-/// What tells the report of a script to a sink while its entries are made: it gathers their lines, and writes them once they are
-/// enough. After a failure it is silent.
+/// What tells the report of a script while its entries are made.
 #[derive(Drop)]
 struct Teller<'a, K: Sink> {
     script: &'a Script,
@@ -70,9 +42,7 @@ struct Teller<'a, K: Sink> {
 fn begun(alloc: Global, form: Form) -> Result<Vec<u8>, NoMemory>
     ensures { IfOk result (λ waiting. waiting.items ≡ head_line form) }
 {
-    let Ok(mut waiting) = Vec::with_capacity(alloc, PIECE + LAST_LINE) else {
-        return Err(NoMemory);
-    };
+    let mut waiting = room(alloc)?;
     head(&mut waiting, form)?;
     Ok(waiting)
 }
@@ -95,39 +65,6 @@ impl<'a, K: Sink> Teller<'a, K> {
 }
 
 impl<K: Sink> Teller<'_, K> {
-    /// Writes what waits, where that is enough.
-    fn write_full(&mut self)
-        requires { self.old.failure ≡ None }
-        ensures same { (self.new.sink.ghost_name ≡ self.old.sink.ghost_name) × (self.new.script.now ≡ self.old.script.now) }
-        ensures stands { (first : Option (List ℕ)) (rest text : List ℕ) (before : ℕ)
-            → StandsAt None first (K.taken self.old.sink.now) (self.old.waiting.now.items ++ rest) text before (K.faults self.old.sink.now)
-            → StandsAt self.new.failure first (K.taken self.new.sink.now) (self.new.waiting.now.items ++ rest) text before (K.faults self.new.sink.now) }
-    {
-        if self.waiting.len() < PIECE {
-            return;
-        }
-        match write_piece(self.sink, self.waiting.as_slice()) {
-            Ok(()) => self.waiting.clear(),
-            Err(Failed) => self.failure = Some(Failure::Write),
-        }
-    }
-
-    /// Writes what waits, and finishes.
-    fn finish(&mut self) -> Status
-        ensures same { self.new.sink.ghost_name ≡ self.old.sink.ghost_name }
-        ensures ends { (first : Option (List ℕ)) (text : List ℕ) (before : ℕ)
-            → StandsAt self.old.failure first (K.taken self.old.sink.now) self.old.waiting.now.items text before (K.faults self.old.sink.now)
-            → Ends (outcome.Whole text) result first (K.taken self.new.sink.now) (K.finished self.new.sink.now) before (K.faults self.new.sink.now) }
-    {
-        match self.failure {
-            Some(failure) => failure.status(),
-            None => match write_all(self.sink, self.waiting.as_slice()) {
-                Ok(()) => Status::Done,
-                Err(Failed) => Status::WriteFault,
-            },
-        }
-    }
-
     /// Tells what closes the report of a history, and finishes.
     fn close(&mut self, history: &Core) -> Status
         ensures same { self.new.sink.ghost_name ≡ self.old.sink.ghost_name }
@@ -139,14 +76,14 @@ impl<K: Sink> Teller<'_, K> {
         let mut closing = Closing::new(self.script.form(), history);
         'pieces: while !closing.is_told() {
             if self.failure.is_some() {
-                return self.finish();
+                return finish(self.sink, self.waiting.as_slice(), self.failure);
             }
             if closing.tell(self.waiting).is_err() {
                 return Status::NoMemory;
             }
-            self.write_full();
+            self.failure = write_full(self.sink, self.waiting);
         }
-        self.finish()
+        finish(self.sink, self.waiting.as_slice(), self.failure)
     }
 
     /// Runs the lanes of the script one after the other, and tells the report of that while it is made.
@@ -202,12 +139,8 @@ impl<K: Sink> Witness for Teller<'_, K> {
             return;
         }
         let (out, script) = (&mut *self.waiting, self.script);
-        let told = push_entry(out, script, core, line, pid, seat, call, reply, bytes);
-        if told.is_err() {
-            self.failure = Some(Failure::Memory);
-            return;
-        }
-        self.write_full();
+        let line = push_entry(out, script, core, line, pid, seat, call, reply, bytes);
+        self.failure = told(self.sink, self.waiting, line);
     }
 }
 

@@ -16,6 +16,10 @@ pub returns-in-Gen-clause-leads : goal.returns-in-Gen-clause-leads
 unfolding text_for
 returns-in-Gen-clause-leads g c = (refl, c.requires.runnable, c.requires.policy, λ history. ap (λ k. outcome.Whole (text_for k c.args.script c.args.claimed.now history)) c.in-Gen.is)
 
+pub returns-in-Flow-clause-leads : goal.returns-in-Flow-clause-leads
+unfolding text_for
+returns-in-Flow-clause-leads g c = λ history. ends_as (ap (λ k. outcome.Whole (text_for k c.args.script c.args.claimed.now history)) (sym c.in-Flow.is)) c.flow.ensures
+
 pub returns-in-Check-clause-leads : goal.returns-in-Check-clause-leads
 unfolding text_for
 returns-in-Check-clause-leads g c = λ history. ends_as (ap (λ k. outcome.Whole (text_for k c.args.script c.args.claimed.now history)) (sym c.in-Check.is)) c.check.ensures

@@ -29,3 +29,8 @@ pub returns-in-Check-clause-leads : goal.returns-in-Check-clause-leads
 unfolding script_refusal
 returns-in-Check-clause-leads g c = λ claimed history.
     ends_as (outcome_refused c.args.command c.args.script c.args.line 27 claimed history (ap (λ k. script_refusal k c.args.script) c.in-Check.is ∙ c.requires.refusal)) c.refuse-in-Check.ensures
+
+pub returns-in-Flow-clause-leads : goal.returns-in-Flow-clause-leads
+unfolding script_refusal
+returns-in-Flow-clause-leads g c = λ claimed history.
+    ends_as (outcome_refused c.args.command c.args.script c.args.line 27 claimed history (ap (λ k. script_refusal k c.args.script) c.in-Flow.is ∙ c.requires.refusal)) c.refuse-in-Flow.ensures

@@ -17,3 +17,8 @@ pub returns-in-Check-clause-gathers : goal.returns-in-Check-clause-gathers
 returns-in-Check-clause-gathers g c = λ _.
     subst (λ k. IfSome (g.S.Source.left c.args.source.now) (λ bytes. Gathers (input_max (Some k)) bytes (g.S.Source.left c.read_all-in-Check.new.source) c.read_all-in-Check.result)) (sym c.in-Check.is)
     c.read_all-in-Check.ensures.told
+
+pub returns-in-Flow-clause-gathers : goal.returns-in-Flow-clause-gathers
+returns-in-Flow-clause-gathers g c = λ _.
+    subst (λ k. IfSome (g.S.Source.left c.args.source.now) (λ bytes. Gathers (input_max (Some k)) bytes (g.S.Source.left c.read_all-in-Flow.new.source) c.read_all-in-Flow.result)) (sym c.in-Flow.is)
+    c.read_all-in-Flow.ensures.told

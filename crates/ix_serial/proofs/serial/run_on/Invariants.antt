@@ -4,7 +4,7 @@ use Rattle.ix_core.specs.Seen.{KnowsOn}
 use Rattle.ix_serial.specs.Running.{lane_at}
 use Rattle.ix_serial.proofs.serially.Sections.{Begun, high_at, up_to}
 use Rattle.ix_serial.proofs.serially.Walked.{Counted, PlacedFrom, Walked}
-use Rattle.ix_serial.proofs.serial.run_lines.Given as goal
+use Rattle.ix_serial.proofs.serial.run_on.Given as goal
 
 abbrev pub invariant-loop-index : goal.invariant-loop-index
 invariant-loop-index g l = record {

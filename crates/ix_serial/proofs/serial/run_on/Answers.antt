@@ -13,8 +13,8 @@ use Rattle.ix_serial.proofs.serially.EachLane.{goes_on, indexed, is_lane, its_ro
 use Rattle.ix_serial.proofs.serially.Holding.{has_room}
 use Rattle.ix_serial.proofs.serially.Sections.{Begun, high_at, loud_in, up_to, up_to-end}
 use Rattle.ix_serial.proofs.serially.Walked.{Counted, PlacedFrom, begun_few, begun_more, begun_next, counted_next, is_serial, placed-first, placed_next, walked_as, walked_first, walked_none, walked_some}
-use Rattle.ix_serial.proofs.serial.run_lines.Goals.{in-Some, in_default}
-use Rattle.ix_serial.proofs.serial.run_lines.Goals as goal
+use Rattle.ix_serial.proofs.serial.run_on.Goals.{in-Some, in_default}
+use Rattle.ix_serial.proofs.serial.run_on.Goals as goal
 
 pub loop-index-init : goal.loop-index-init
 loop-index-init g c = record {
