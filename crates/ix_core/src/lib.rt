@@ -9,7 +9,7 @@ mod system;
 mod witness;
 
 pub use keeper::Core;
-pub use seen::SeenSys;
+pub use seen::{SeenSys, read_by};
 pub use stops::Stops;
 pub use system::CoreSys;
 pub use witness::{Nobody, Witness};

@@ -80,7 +80,7 @@ impl<W: Witness> Sys for SeenSys<'_, W> {
 }
 
 /// The bytes that a reply says were read, at the front of the buffer.
-fn read_by<'b>(reply: &Reply, buf: &'b Buf) -> &'b [u8]
+pub fn read_by<'b>(reply: &Reply, buf: &'b Buf) -> &'b [u8]
     requires { AreShown reply.now (bytes_in reply.now buf.now) }
     ensures { result.now ≡ bytes_in reply.now buf.now }
 {

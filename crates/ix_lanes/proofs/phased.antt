@@ -9,3 +9,4 @@ pub mod PhaseRuns
 pub mod Standing
 pub mod Appended
 pub mod SideBySide
+pub mod InOrder

@@ -3,4 +3,5 @@ pub mod Left
 pub mod Runs
 pub mod Fields
 pub mod SideBySide
+pub mod Serially
 pub mod Laws

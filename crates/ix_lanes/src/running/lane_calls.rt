@@ -23,7 +23,7 @@ use std::alloc::Global;
 use std::marker::Model;
 
 /// The places of all names that the lines of a lane give. Of the lines only those that may give names are made.
-fn places_of(alloc: Global, script: &Script, lane: u32) -> Result<Places, NoMemory>
+pub fn places_of(alloc: Global, script: &Script, lane: u32) -> Result<Places, NoMemory>
     ensures none { IfOk result (λ places. standing places ≡ no_names) }
     ensures all { IfOk result (λ places. all_placed places (lane_among script.now lane script.now) ≡ true) }
 {

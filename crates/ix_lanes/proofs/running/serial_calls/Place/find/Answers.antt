@@ -1,0 +1,111 @@
+use Rattle.std.proofs.Common.{◌≡◌, ◌+◌, ◌<◌, ℕ, false, List, Some, length, map, option_map, take, drop, sym, ap, ◌∙◌, true≢false, arith, slice_index_or}
+use Rattle.ix_model.specs.world.World.{World}
+use Rattle.ix_asking.specs.Asking as asking
+use Rattle.ix_script.specs.lines.Before.{lanes_of}
+use Rattle.ix_script.specs.declared.line.Line.{Line}
+use Rattle.ix_lanes.specs.asking.LineAsks.{line_asks}
+use Rattle.ix_lanes.specs.asking.Places.{standing}
+use Rattle.ix_lanes.specs.declared.asking.handed.Handed.TheVariants as handed
+use Rattle.ix_lanes.specs.declared.asking.places.Places.{Places}
+use Rattle.ix_lanes.specs.declared.running.serial_calls.Place.{Place}
+use Rattle.ix_lanes.specs.histories.Indexed.{line_in}
+use Rattle.ix_lanes.specs.histories.Serial.{seat_after, serial_from}
+use Rattle.ix_lanes.specs.running.Left.{is_over, part_left}
+use Rattle.ix_lanes.specs.running.Phases.{seat_at}
+use Rattle.ix_lanes.specs.running.Serially.{ArePlaced}
+use Rattle.ix_lanes.proofs.found.Roles.{line-there}
+use Rattle.ix_lanes.proofs.phased.InOrder.{begun_left, begun_within, lane_mine, lane_there, lane_within, passed, placed_set, skipped}
+use Rattle.ix_lanes.proofs.phased.LaneLines.{seat_one_more}
+use Rattle.ix_lanes.proofs.phased.Lefts.{not_over}
+use Rattle.ix_lanes.proofs.phased.Placed.{placed-line}
+use Rattle.ix_lanes.proofs.running.serial_calls.Place.find.Goals.{in-Some+else-not-matches, in-Over, in_default-matches, in_default}
+use Rattle.ix_lanes.proofs.running.serial_calls.Place.find.Goals as goal
+
+pub bounds-places-seat : goal.bounds-places-seat
+bounds-places-seat c = lane_within c.args.script.now c.lines.places c.lines.self.at c.in-Some.seat c.lines.invariant.placed (sym c.lines.invariant.seat ∙ c.in-Some.is)
+
+pub returns-then-not-matches-clause-left : goal.returns-then-not-matches-clause-left
+returns-then-not-matches-clause-left c =
+    let s : List Line = c.args.script.now in
+    let i = c.lines.self.at in
+    let k = c.in-Some.seat in
+    let p : Places = slice_index_or c.lines.places k c.index-places-seat.result in
+    let there = lane_there s c.lines.places i k c.lines.invariant.placed (sym c.lines.invariant.seat ∙ c.in-Some.is) c.index-places-seat.result in
+    let not : is_over c.begin-part.result ≡ false = elim c.match-matches.branch [
+      | in-Over w ↦ absurd (true≢false (sym w.matches-is ∙ c.if-not-matches.true))
+      | in_default-matches w ↦ not_over c.begin-part.result w.in_default-matches.not-Over
+    ] in
+    λ w place.
+    begun_left s i (omega (arith, c.lines-test.true, c.len.ensures.len)) c.lines.places k p there c.lines.self.seat c.in-Some.is (option_map (λ q. q.now) c.args.policy) c.args.header.now
+    c.requires.policy c.requires.header c.line_at-self.result c.line_at-self.ensures c.begin-part.new.copying c.begin-part.result c.begin-part.ensures.asks not w place
+    ∙ c.lines.invariant.left w place
+
+pub returns-then-not-matches-clause-within : goal.returns-then-not-matches-clause-within
+returns-then-not-matches-clause-within c =
+    let s : List Line = c.args.script.now in
+    let i = c.lines.self.at in
+    let k = c.in-Some.seat in
+    let p : Places = slice_index_or c.lines.places k c.index-places-seat.result in
+    let there = lane_there s c.lines.places i k c.lines.invariant.placed (sym c.lines.invariant.seat ∙ c.in-Some.is) c.index-places-seat.result in
+    let not : is_over c.begin-part.result ≡ false = elim c.match-matches.branch [
+      | in-Over w ↦ absurd (true≢false (sym w.matches-is ∙ c.if-not-matches.true))
+      | in_default-matches w ↦ not_over c.begin-part.result w.in_default-matches.not-Over
+    ] in
+    begun_within s i (omega (arith, c.lines-test.true, c.len.ensures.len)) c.lines.places k p there c.lines.self.seat c.in-Some.is (option_map (λ q. q.now) c.args.policy) c.args.header.now
+    c.requires.policy c.requires.header c.line_at-self.result c.line_at-self.ensures c.begin-part.new.copying c.begin-part.result c.begin-part.ensures.asks not c.begin-part.new.written
+    c.lines.invariant.seat c.begin-part.ensures.pending c.begin-part.ensures.holds
+
+pub bind-requires : goal.bind-requires
+bind-requires c =
+    let s : List Line = c.args.script.now in
+    let i = c.lines.self.at in
+    let k = c.in-Some.seat in
+    let is = sym c.lines.invariant.seat ∙ c.in-Some.is in
+    let there = lane_there s c.lines.places i k c.lines.invariant.placed is c.index-places-seat.result in
+    let line = line-there s i (omega (arith, c.lines-test.true, c.len.ensures.len)) ∙ ap Some (sym c.line_at-self.ensures) in
+    placed-line s k i c.line_at-self.result line (slice_index_or c.lines.places k c.index-places-seat.result) (lane_mine s c.lines.places i k c.lines.invariant.placed is)
+    (c.lines.invariant.placed.placed k _ there)
+
+pub lines-preserved : goal.lines-preserved
+lines-preserved c =
+    let s : List Line = c.args.script.now in
+    let i : ℕ = c.lines.self.at in
+    let low : i < length s = omega (arith, c.lines-test.true, c.len.ensures.len) in
+    let there = line-there s i low in
+    let at : c.match-self.self.at ≡ i = elim c.match-self.branch [ in-Some+else-not-matches w ↦ ap (λ (h : Place). h.at) w.self-is | in_default w ↦ ap (λ (h : Place). h.at) w.self-is ] in
+    let seat : c.match-self.self.seat ≡ c.lines.self.seat = elim c.match-self.branch [ in-Some+else-not-matches w ↦ ap (λ (h : Place). h.seat) w.self-is | in_default w ↦ ap (λ (h : Place). h.seat) w.self-is ] in
+    let next : c.pass.new.self.at ≡ i + 1 = c.pass.ensures.at ∙ ap (λ n. n + 1) at in
+    let seated : c.pass.new.self.seat ≡ seat_after (lanes_of s) c.lines.self.seat (line_in s i) = c.pass.ensures.seat ∙ (λ x. seat_after (lanes_of s) (seat x) (line_in s (at x))) in
+    record {
+      within = omega (arith, next, low);
+      later = omega (arith, next, c.lines.invariant.later);
+      seat = seated ∙ ap (λ a. seat_after (lanes_of s) a (line_in s i)) c.lines.invariant.seat
+          ∙ sym (seat_one_more s i (line_in s i) there) ∙ ap (λ n. seat_at s (take n s)) (sym next);
+      placed = elim c.match-self.branch [
+        | in-Some+else-not-matches w ↦
+            let k = w.in-Some.seat in
+            let old = lane_there s c.lines.places i k c.lines.invariant.placed (sym c.lines.invariant.seat ∙ w.in-Some.is) w.index-places-seat.result in
+            rw w.places-is (placed_set c.lines.places k _ old s w.bind.new.places c.lines.invariant.placed w.bind.ensures.keeps)
+        | in_default w ↦ rw w.places-is c.lines.invariant.placed
+      ];
+      left = λ v place. elim c.match-self.branch [
+        | in-Some+else-not-matches w ↦
+            let k = w.in-Some.seat in
+            let old = lane_there s c.lines.places i k c.lines.invariant.placed (sym c.lines.invariant.seat ∙ w.in-Some.is) w.index-places-seat.result in
+            let p : Places = slice_index_or c.lines.places k w.index-places-seat.result in
+            let l : Line = w.line_at-self.result in
+            let asks : line_asks (option_map (λ q. q.now) c.args.policy) c.args.header.now (standing p) (i + 1) l ≡ part_left c.args.header.now (standing p) (i + 1) l w.begin-part.new.copying w.begin-part.result = sym w.begin-part.ensures.asks in
+            let none : line_asks (option_map (λ q. q.now) c.args.policy) c.args.header.now (standing p) (i + 1) l ≡ asking.Done handed.Nothing = elim w.match-matches.branch [
+              | in-Over u ↦ asks ∙ ap (part_left c.args.header.now (standing p) (i + 1) l w.begin-part.new.copying) u.in-Over.is
+              | in_default-matches u ↦ absurd (true≢false (sym w.if-not-matches.false ∙ u.matches-is))
+            ] in
+            ap (λ all. serial_from s v place (map standing all) c.pass.new.self.seat (c.pass.new.self.at + 1) (drop c.pass.new.self.at s)) w.places-is
+            ∙ skipped s i low c.lines.places k p old c.lines.self.seat w.in-Some.is (option_map (λ q. q.now) c.args.policy) c.args.header.now c.requires.policy c.requires.header l w.line_at-self.ensures
+            none w.bind.new.places w.bind.ensures.set c.pass.new.self.seat seated c.pass.new.self.at next v place
+            ∙ c.lines.invariant.left v place
+        | in_default w ↦
+            ap (λ all. serial_from s v place (map standing all) c.pass.new.self.seat (c.pass.new.self.at + 1) (drop c.pass.new.self.at s)) w.places-is
+            ∙ passed s i low (map standing c.lines.places) c.lines.self.seat w.in_default.is c.pass.new.self.seat seated c.pass.new.self.at next v place
+            ∙ c.lines.invariant.left v place
+      ];
+    }

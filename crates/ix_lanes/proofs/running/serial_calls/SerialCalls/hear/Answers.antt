@@ -1,0 +1,132 @@
+use Rattle.std.proofs.Common.{◌≡◌, ◌∷◌, ◌+◌, ◌<◌, ℕ, List, Option, Some, None, is_some, map, drop, sym, ap, ◌∙◌, subst, length, true, arith}
+use Rattle.std.specs.Vec.{with_item}
+use Rattle.std.proofs.lemmas.List.{with_items_is}
+use Rattle.ix_model.specs.history.Step.{step_of}
+use Rattle.ix_model.specs.world.World.{World}
+use Rattle.ix_asking.specs.Asking.{Answered}
+use Rattle.ix_script.specs.declared.line.Line.{Line}
+use Rattle.ix_lanes.specs.asking.Asked.{Names}
+use Rattle.ix_lanes.specs.asking.Places.{standing}
+use Rattle.ix_lanes.specs.declared.asking.places.Places.{Places}
+use Rattle.ix_lanes.specs.histories.Indexed.{line_in}
+use Rattle.ix_lanes.specs.histories.Serial.{header_of, names_of, serial_from}
+use Rattle.ix_lanes.specs.running.Left.{IsHeard}
+use Rattle.ix_lanes.specs.running.Serially.{ArePlaced, LeavesLines, SerialLeft, entries_left, most_entries, next_entry}
+use Rattle.ix_lanes.proofs.found.Roles.{line-there}
+use Rattle.ix_lanes.proofs.phased.InOrder.{due_stands, goes_on, indexed, lane_is, lane_mine, lane_within, line_asks_on, line_done, lines_behind, placed_set, still_fewer, still_within}
+use Rattle.ix_lanes.proofs.phased.Placed.{placed-line}
+use Rattle.ix_lanes.proofs.running.serial_calls.SerialCalls.hear.Goals as goal
+
+pub heard-requires-clause-due : goal.heard-requires-clause-due
+heard-requires-clause-due c =
+    let i = c.self.inside in
+    let v : SerialLeft = record { script = i.script.now; names = map standing i.places.items; at = i.here.at; seat = i.here.seat; copying = i.copying; part = i.part } in
+    let st = due_stands v (subst (λ (x : SerialLeft). is_some (next_entry x) ≡ true) (sym c.self.view_is) c.requires.due) in
+    let k = lane_is i.here.seat st.2 in
+    (header_of i.script.now, names_of (map standing i.places.items) k.0, i.here.at + 1, line_in i.script.now i.here.at, st.1 k.0 k.1)
+
+pub invariant_of-self : goal.invariant_of-self
+invariant_of-self c =
+    let i = c.self.inside in
+    let s : List Line = i.script.now in
+    let v : SerialLeft = record { script = s; names = map standing i.places.items; at = i.here.at; seat = i.here.seat; copying = i.copying; part = i.part } in
+    let st = due_stands v (subst (λ (x : SerialLeft). is_some (next_entry x) ≡ true) (sym c.self.view_is) c.requires.due) in
+    let k = lane_is i.here.seat st.2 in
+    let names : Names = names_of (map standing i.places.items) k.0 in
+    let a : Answered = record { reply = c.args.reply.now; bytes = c.args.bytes.now } in
+    let told = subst (IsHeard (header_of s) names (i.here.at + 1) (line_in s i.here.at) i.copying i.part c.heard.new.copying c.heard.new.part a) c.in_default.is
+    (c.heard.ensures (header_of s) names (i.here.at + 1) (line_in s i.here.at) (st.1 k.0 k.1)) in
+    (c.self.invariant.0, still_within s i.places.items i.here.at i.here.seat i.here.line i.written i.copying i.part c.self.invariant.1 st.0 k.0 k.1 c.heard.new.copying c.heard.new.part a told)
+
+pub returns-in_default-clause-on : goal.returns-in_default-clause-on
+returns-in_default-clause-on c =
+    let i = c.self.inside in
+    let s : List Line = i.script.now in
+    let v : SerialLeft = record { script = s; names = map standing i.places.items; at = i.here.at; seat = i.here.seat; copying = i.copying; part = i.part } in
+    let st = due_stands v (subst (λ (x : SerialLeft). is_some (next_entry x) ≡ true) (sym c.self.view_is) c.requires.due) in
+    let k = lane_is i.here.seat st.2 in
+    let names : Names = names_of (map standing i.places.items) k.0 in
+    let a : Answered = record { reply = c.args.reply.now; bytes = c.args.bytes.now } in
+    let told = subst (IsHeard (header_of s) names (i.here.at + 1) (line_in s i.here.at) i.copying i.part c.heard.new.copying c.heard.new.part a) c.in_default.is
+    (c.heard.ensures (header_of s) names (i.here.at + 1) (line_in s i.here.at) (st.1 k.0 k.1)) in
+    let over = goes_on s i.places.items i.here.at i.here.seat i.here.line i.written i.copying i.part c.self.invariant.1 st.0 k.0 k.1 c.heard.new.copying c.heard.new.part a told in
+    λ w place e next gave.
+    ap (λ x. entries_left x w place) (sym c.self.view_is)
+    ∙ line_asks_on s (map standing i.places.items) i.here.at i.here.seat k.0 k.1 i.copying i.part st.0 c.heard.new.copying c.heard.new.part over a told.0 w place e (ap next_entry c.self.view_is ∙ next) gave
+
+pub returns-in_default-clause-fewer : goal.returns-in_default-clause-fewer
+returns-in_default-clause-fewer c =
+    let i = c.self.inside in
+    let s : List Line = i.script.now in
+    let v : SerialLeft = record { script = s; names = map standing i.places.items; at = i.here.at; seat = i.here.seat; copying = i.copying; part = i.part } in
+    let st = due_stands v (subst (λ (x : SerialLeft). is_some (next_entry x) ≡ true) (sym c.self.view_is) c.requires.due) in
+    let k = lane_is i.here.seat st.2 in
+    let names : Names = names_of (map standing i.places.items) k.0 in
+    let a : Answered = record { reply = c.args.reply.now; bytes = c.args.bytes.now } in
+    let told = subst (IsHeard (header_of s) names (i.here.at + 1) (line_in s i.here.at) i.copying i.part c.heard.new.copying c.heard.new.part a) c.in_default.is
+    (c.heard.ensures (header_of s) names (i.here.at + 1) (line_in s i.here.at) (st.1 k.0 k.1)) in
+    let less = still_fewer s i.places.items i.here.at i.here.seat i.here.line i.written i.copying i.part c.self.invariant.1 st.0 k.0 k.1 c.heard.new.copying c.heard.new.part a told in
+    subst (λ (x : SerialLeft). most_entries (record { script = s; names = map standing i.places.items; at = i.here.at; seat = i.here.seat; copying = c.heard.new.copying; part = c.heard.new.part }) < most_entries x) c.self.view_is less
+
+pub index_mut-requires : goal.index_mut-requires
+index_mut-requires c =
+    let i = c.self.inside in
+    let low = lane_within i.script.now i.places.items i.here.at c.in-Some-seat.seat c.self.invariant.0.placed (sym c.self.invariant.1.in_lane ∙ c.in-Some-seat.is) in
+    omega (arith, low, i.places.ok)
+
+pub bind-requires : goal.bind-requires
+bind-requires c =
+    let i = c.self.inside in
+    let s : List Line = i.script.now in
+    let k = c.in-Some-seat.seat in
+    let v : SerialLeft = record { script = s; names = map standing i.places.items; at = i.here.at; seat = i.here.seat; copying = i.copying; part = i.part } in
+    let st = due_stands v (subst (λ (x : SerialLeft). is_some (next_entry x) ≡ true) (sym c.self.view_is) c.requires.due) in
+    let is = sym c.self.invariant.1.in_lane ∙ c.in-Some-seat.is in
+    let low = lane_within s i.places.items i.here.at k c.self.invariant.0.placed is in
+    let there = indexed i.places.items k c.index_mut.result.now low (sym c.index_mut.ensures.value) in
+    let line = line-there s i.here.at (c.self.invariant.1.low st.0) ∙ ap Some (sym (c.self.invariant.1.line st.0)) in
+    placed-line s k i.here.at i.here.line line c.index_mut.result.now (lane_mine s i.places.items i.here.at k c.self.invariant.0.placed is) (c.self.invariant.0.placed.placed k _ there)
+
+pub find-self-inside-requires-clause-places : goal.find-self-inside-requires-clause-places
+find-self-inside-requires-clause-places c =
+    let i = c.self.inside in
+    let s : List Line = i.script.now in
+    let k = c.in-Some-seat.seat in
+    let low = lane_within s i.places.items i.here.at k c.self.invariant.0.placed (sym c.self.invariant.1.in_lane ∙ c.in-Some-seat.is) in
+    let there = indexed i.places.items k c.index_mut.result.now low (sym c.index_mut.ensures.value) in
+    subst (ArePlaced s) (sym c.as_mut_slice.ensures.value) (placed_set i.places.items k c.index_mut.result.now there s c.bind.new.places c.self.invariant.0.placed c.bind.ensures.keeps)
+
+pub returns-clause-on : goal.returns-clause-on
+returns-clause-on c =
+    let i = c.self.inside in
+    let s : List Line = i.script.now in
+    let k = c.in-Some-seat.seat in
+    let v : SerialLeft = record { script = s; names = map standing i.places.items; at = i.here.at; seat = i.here.seat; copying = i.copying; part = i.part } in
+    let st = due_stands v (subst (λ (x : SerialLeft). is_some (next_entry x) ≡ true) (sym c.self.view_is) c.requires.due) in
+    let low = lane_within s i.places.items i.here.at k c.self.invariant.0.placed (sym c.self.invariant.1.in_lane ∙ c.in-Some-seat.is) in
+    let there = indexed i.places.items k c.index_mut.result.now low (sym c.index_mut.ensures.value) in
+    let names : Names = names_of (map standing i.places.items) k in
+    let a : Answered = record { reply = c.args.reply.now; bytes = c.args.bytes.now } in
+    let done = (c.in-Some.ensures (header_of s) names (i.here.at + 1) (line_in s i.here.at) (st.1 k c.in-Some-seat.is)).0 in
+    let new : List Places → SerialLeft = λ places. record {
+      script = s;
+      names = map standing places;
+      at = c.find-self-inside.new.self.at;
+      seat = c.find-self-inside.new.self.seat;
+      copying = c.find-self-inside.new.copying;
+      part = c.find-self-inside.result;
+    } in
+    let left : LeavesLines s c.as_mut_slice.result.now c.pass.new.self.seat c.pass.new.self.at (new c.find-self-inside.new.places) = c.find-self-inside.ensures.left in
+    let few : length c.find-self-inside.new.places ≡ i.places.len = omega (arith, c.find-self-inside.ensures.places.count, c.self.invariant.0.placed.count, i.places.ok) in
+    let items = with_items_is (with_item i.places k c.bind.new.places) c.find-self-inside.new.places few in
+    λ w place e next gave.
+    let x : World = (step_of w place e).world in
+    let behind =
+    lines_behind s i.places.items i.here.at k c.index_mut.result.now there i.here.seat c.in-Some-seat.is i.here.line (c.self.invariant.1.line st.0) c.in-Some.handed c.bind.new.places c.bind.ensures.set
+    c.pass.new.self.seat c.pass.ensures.seat c.pass.new.self.at c.pass.ensures.at x (place + 1) in
+    ap (λ y. entries_left y w place) (sym c.self.view_is)
+    ∙ line_done s (map standing i.places.items) i.here.at i.here.seat k c.in-Some-seat.is i.copying i.part st.0 a c.in-Some.handed done w place e (ap next_entry c.self.view_is ∙ next) gave
+    ∙ ap (λ events. e ∷ events) (sym behind)
+    ∙ ap (λ places. e ∷ serial_from s x (place + 1) (map standing places) c.pass.new.self.seat (c.pass.new.self.at + 1) (drop c.pass.new.self.at s)) (sym c.as_mut_slice.ensures.value)
+    ∙ ap (λ events. e ∷ events) (sym (left x (place + 1)))
+    ∙ ap (λ places. e ∷ entries_left (new places) x (place + 1)) (sym items)

@@ -1,0 +1,273 @@
+ghost use Rattle.std.specs.Prelude.{◌≡◌, ◌+◌, ◌<◌, ◌≤◌, ℕ, true, map, take, length, IfOk};
+ghost use Rattle.std.proofs.Common.{option_map};
+ghost use Rattle.ix_script.specs.lines.Before.{lanes_of};
+ghost use Rattle.ix_script.specs.lines.Roles.{role_of};
+ghost use Rattle.ix_model.specs.history.Calls.{event_of};
+ghost use Rattle.ix_asking.specs.Steps.{next_of};
+ghost use Rattle.ix_lanes.specs.asking.Places.{standing};
+ghost use Rattle.ix_lanes.specs.asking.Ruled.{rules_told};
+ghost use Rattle.ix_lanes.specs.histories.Indexed.{line_in};
+ghost use Rattle.ix_lanes.specs.histories.Serial.{first_names, header_of, seat_after};
+ghost use Rattle.ix_lanes.specs.declared.running.part.Part.TheVariants as part;
+ghost use Rattle.ix_lanes.specs.running.Left.{part_most};
+ghost use Rattle.ix_lanes.specs.running.Phases.{seat_at};
+ghost use Rattle.ix_lanes.specs.running.Serially.{ArePlaced, IsWithin, LeavesLines, entry_next};
+
+use crate::asking::calls::{bind, call_of};
+use crate::asking::handed::Handed;
+use crate::asking::numbers::Numbers;
+use crate::asking::places::Places;
+use crate::lanes::{header_of, seat_past};
+use crate::lines::{line_at, role_at};
+use crate::running::beginning::begin;
+use crate::running::hearing::heard;
+use crate::running::lane_calls::places_of;
+use crate::running::part::Part;
+use ix_asking::{Asks, Copying, Step};
+use ix_model::{Buf, Entry, NoMemory, Reply};
+use ix_policy::Policy;
+use ix_script::{Line, Role, Script};
+use std::alloc::Global;
+use std::marker::Model;
+
+/// What the names of each lane of a script stand for, by seats: none yet, but each has its place.
+fn all_places(alloc: Global, script: &Script) -> Result<Vec<Places>, NoMemory>
+    ensures placed { IfOk result (λ places. ArePlaced script.now places.items) }
+    ensures names { IfOk result (λ places. map standing places.items ≡ first_names script.now) }
+{
+    let mut all = Vec::new(alloc);
+    for seat in 0..script.lanes() {
+        let places = places_of(alloc, script, seat)?;
+        if all.push(places).is_err() {
+            return Err(NoMemory);
+        }
+    }
+    Ok(all)
+}
+
+/// Where a serial run stands in its script.
+#[derive(Drop)]
+struct Place<'a> {
+    /// The index of the line in which it stands, or how many lines there are.
+    at: u32,
+    /// The seat of the lane in which that line stands.
+    seat: Option<u32>,
+    /// The line itself.
+    line: Line<'a>,
+}
+
+impl<'a> Place<'a> {
+    /// Goes past the line.
+    fn pass(&mut self, script: &Script, role: Role)
+        requires role { role ≡ role_of (line_in script.now self.old.at) }
+        requires within { self.old.at < length script.now }
+        ensures seat { self.new.seat ≡ seat_after (lanes_of script.now) self.old.seat (line_in script.now self.old.at) }
+        ensures at { self.new.at ≡ self.old.at + 1 }
+        ensures line { self.new.line ≡ self.old.line }
+    {
+        let _count = script.len();
+        self.seat = seat_past(script, self.seat, self.at, role);
+        self.at += 1;
+    }
+
+    /// Goes on to the next line that asks for a call, whichever lane it is of, and begins it. Lines that ask for none are done on the way.
+    fn find(
+        &mut self,
+        script: &'a Script,
+        policy: Option<&'a Policy>,
+        header: &Numbers<u32>,
+        places: &mut [Places],
+        written: &mut Buf,
+        copying: &mut Copying,
+    ) -> Part<'a>
+        requires header { header.now ≡ header_of script.now }
+        requires policy { option_map (λ p. p.now) policy ≡ rules_told script.now }
+        requires within { self.old.at ≤ length script.now }
+        requires seat { self.old.seat ≡ seat_at script.now (take self.old.at script.now) }
+        requires places { ArePlaced script.now places.old }
+        ensures left { LeavesLines script.now places.old self.old.seat self.old.at
+            (record { script = script.now; names = map standing places.new; at = self.new.at; seat = self.new.seat; copying = copying.new; part = result }) }
+        ensures within { IsWithin script.now places.new self.new.at self.new.seat self.new.line written.new copying.new result }
+        ensures places { ArePlaced script.now places.new }
+        ensures later { self.old.at ≤ self.new.at }
+        ensures most { part_most copying.new result ≤ 9 }
+    {
+        'lines: while self.at < script.len() {
+            let role = role_at(script, self.at);
+            if let Some(seat) = self.seat {
+                self.line = line_at(script, self.at);
+                let (number, line) = (self.at + 1, &self.line);
+                let names = &mut places[seat as usize];
+                let part = begin(policy, header, names, number, role, line, written, copying);
+                if !matches!(part, Part::Over) {
+                    return part;
+                }
+                bind(names, line, &Handed::Nothing);
+            }
+            self.pass(script, role);
+        }
+        Part::Over
+    }
+}
+
+/// The serial run of a script, one call at a time: all its phases and lanes in the order of its lines. It makes no call itself. Contracts see
+/// the script, and the entries that are left.
+#[derive(Drop)]
+pub struct SerialCalls<'a> {
+    script: &'a Script,
+    policy: Option<&'a Policy>,
+    header: Numbers<u32>,
+    /// What the names of each lane stand for, by seats.
+    places: Vec<Places>,
+    here: Place<'a>,
+    /// What the line in which it stands has still to ask for.
+    part: Part<'a>,
+    /// What a command writes.
+    written: Buf,
+    /// What a `copy` asks for.
+    copying: Copying,
+}
+
+impl<'a> Model for SerialCalls<'a> {
+    ghost use Rattle.std.specs.Prelude.{map};
+    ghost use Rattle.std.specs.Coded.{codes};
+    ghost use Rattle.ix_label.specs.contracts.label.Label as label_type;
+    ghost use Rattle.ix_lanes.specs.asking.Asked.{names_code};
+    ghost use Rattle.std.proofs.Common.{option_map};
+    ghost use Rattle.ix_lanes.specs.asking.Places.{standing};
+    ghost use Rattle.ix_lanes.specs.running.Serially.{AreTables, IsWithin, SerialLeft};
+
+    ghost Value = { SerialLeft };
+
+    ghost coded = { Prim.hlevel (codes, label_type.the_row.coded, names_code) };
+
+    ghost view = { λ c. record { script = c.script.now; names = map standing c.places.items; at = c.here.at; seat = c.here.seat; copying = c.copying; part = c.part } };
+
+    ghost invariant = { λ c. AreTables c.script.now c.header c.places.items (option_map (λ p. p.now) c.policy)
+        × IsWithin c.script.now c.places.items c.here.at c.here.seat c.here.line c.written c.copying c.part };
+}
+
+impl<'a> SerialCalls<'a> {
+    ghost use Rattle.std.specs.Prelude.{◌≡◌, ◌∷◌, ◌+◌, ◌<◌, ◌≤◌, ℕ, [], None, Some, IfOk, is_some, length, true};
+    ghost use Rattle.std.proofs.Common.{option_map};
+    ghost use Rattle.ix_model.specs.history.Calls.{event_of};
+    ghost use Rattle.ix_model.specs.history.Events.{Event};
+    ghost use Rattle.ix_model.specs.history.Step.{step_of};
+    ghost use Rattle.ix_model.specs.world.World.{World};
+    ghost use Rattle.ix_lanes.specs.asking.Ruled.{rules_told};
+    ghost use Rattle.ix_lanes.specs.histories.Serial.{answered, first_names, serial_from};
+    ghost use Rattle.ix_lanes.specs.running.Serially.{entries_left, most_entries, next_entry};
+
+    /// The run of a script before its first call, by the script's policy, if it has one. It takes all the memory that its calls need.
+    pub fn new(
+        alloc: Global,
+        script: &'a Script,
+        policy: Option<&'a Policy>,
+    ) -> Result<SerialCalls<'a>, NoMemory>
+        requires policy { option_map (λ p. p.now) policy ≡ rules_told script.now }
+        ensures script { IfOk result (λ calls. calls.script ≡ script.now) }
+        ensures all { IfOk result (λ calls. (w : World) (place : ℕ) → entries_left calls w place ≡ serial_from script.now w place (first_names script.now) None 1 script.now) }
+    {
+        let header = header_of(alloc, script)?;
+        let mut places = all_places(alloc, script)?;
+        let (mut written, mut copying) = ([0; 4096], Copying::new());
+        let mut here = Place {
+            at: 0,
+            seat: None,
+            line: Line::Skipped,
+        };
+        let part = here.find(
+            script,
+            policy,
+            &header,
+            places.as_mut_slice(),
+            &mut written,
+            &mut copying,
+        );
+        Ok(SerialCalls {
+            script,
+            policy,
+            header,
+            places,
+            here,
+            part,
+            written,
+            copying,
+        })
+    }
+
+    /// The entry of the command in which it stands, which writes so many bytes.
+    fn command(&self, seat: u32, count: usize) -> Option<Entry<'_>>
+        requires stands { self.now.part ≡ part.Command count }
+        requires seat { self.now.seat ≡ Some seat }
+        ensures { option_map event_of result ≡ next_entry self.now }
+    {
+        let _count = self.script.len();
+        let (line, written) = (&self.here.line, &self.written[..count]);
+        let places = &self.places[seat as usize];
+        call_of(&self.header, places, seat, self.here.at + 1, line, written)
+    }
+
+    /// The next entry; `None` exactly where none is left. It takes no memory.
+    pub fn next(&self) -> Option<Entry<'_>>
+        ensures entry { option_map event_of result ≡ next_entry self.now }
+        ensures none { result ≡ None → (w : World) (place : ℕ) → entries_left self.now w place ≡ [] }
+    {
+        let Some(seat) = self.here.seat else {
+            return None;
+        };
+        let step = match &self.part {
+            Part::Over => return None,
+            Part::Command(count) => return self.command(seat, *count),
+            Part::Copy => return called(seat, self.copying.next()),
+            Part::Priv(server) => server.next(),
+            Part::Login(server) => server.next(),
+        };
+        called(seat, step)
+    }
+
+    /// Takes the answer to the next entry: the reply, and the bytes that were read, if any. It takes no memory.
+    pub fn hear(&mut self, reply: &Reply, bytes: &[u8])
+        requires due { is_some (next_entry self.old) ≡ true }
+        requires few { length bytes.now ≤ 4096 }
+        ensures script { self.new.script ≡ self.old.script }
+        ensures on { (w : World) (place : ℕ) (e : Event) → next_entry self.old ≡ Some e → answered (step_of w place e) ≡ record { reply = reply.now; bytes = bytes.now }
+            → entries_left self.old w place ≡ e ∷ entries_left self.new (step_of w place e).world (place + 1) }
+        ensures fewer { most_entries self.new < most_entries self.old }
+    {
+        let Some(handed) = heard(&mut self.part, &mut self.copying, reply, bytes) else {
+            return;
+        };
+        let Some(seat) = self.here.seat else {
+            unreachable!()
+        };
+        bind(&mut self.places[seat as usize], &self.here.line, &handed);
+        let role = role_at(self.script, self.here.at);
+        self.here.pass(self.script, role);
+        self.part = self.here.find(
+            self.script,
+            self.policy,
+            &self.header,
+            self.places.as_mut_slice(),
+            &mut self.written,
+            &mut self.copying,
+        );
+    }
+}
+
+/// The entry of a seat's call that stands next, if any.
+fn called<C: Drop>(seat: u32, step: Step<'_, C>) -> Option<Entry<'_>>
+    ensures { option_map event_of result ≡ entry_next seat (next_of step.entry) }
+{
+    match step {
+        Step::Call { line, pid, call } => {
+            return Some(Entry {
+                seat,
+                line,
+                pid,
+                call,
+            });
+        }
+        Step::Came(_) => return None,
+    }
+}
