@@ -1,12 +1,11 @@
 //! What is told of the history to which the lanes of a script came.
-ghost use Rattle.std.specs.Prelude.{◌≡◌, ◌≤◌, true};
+ghost use Rattle.std.specs.Prelude.{◌≡◌, ◌≤◌};
 ghost use Rattle.ix_model.specs.history.Cost.{cost_of_history};
 ghost use Rattle.std.proofs.Common.{option_map};
 ghost use Rattle.ix_lanes.specs.asking.Ruled.{rules_told};
 ghost use Rattle.ix_lanes.specs.histories.Serial.{serial};
 ghost use Rattle.ix_script.specs.scripts.Need.{need};
 ghost use Rattle.ix_script.specs.scripts.Scripts.{config_of};
-ghost use Rattle.ix_serial.specs.Sections.{has_placed_lanes};
 ghost use Rattle.ix_replay.specs.Summary.{summary_line};
 ghost use Rattle.ix_host.specs.run.Outcome as outcome;
 ghost use Rattle.ix_host.specs.run.Run.{Ends};
@@ -52,7 +51,6 @@ fn sum_up_serial<K: Sink>(
     script: &Script,
     policy: Option<&Policy>,
 ) -> Status
-    requires lanes { has_placed_lanes script.now ≡ true }
     requires policy { option_map (λ p. p.now) policy ≡ rules_told script.now }
     ensures { Ends (outcome.Whole (summary_line count script.now (serial script.now))) result (K.taken sink.old) (K.taken sink.new)
         (K.finished sink.new) (K.faults sink.old) (K.faults sink.new) }
@@ -71,7 +69,6 @@ pub fn tell_serial<K: Sink>(
     script: &Script,
     policy: Option<&Policy>,
 ) -> Status
-    requires lanes { has_placed_lanes script.now ≡ true }
     requires policy { option_map (λ p. p.now) policy ≡ rules_told script.now }
     ensures { Ends (outcome.Whole (text_told telling script.now (serial script.now))) result (K.taken sink.old) (K.taken sink.new)
         (K.finished sink.new) (K.faults sink.old) (K.faults sink.new) }

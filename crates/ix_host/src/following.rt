@@ -1,9 +1,8 @@
 //! Where the bytes came from that the processes of a script read.
-ghost use Rattle.std.specs.Prelude.{◌≡◌, [], true, IfOk};
+ghost use Rattle.std.specs.Prelude.{◌≡◌, [], IfOk};
 ghost use Rattle.std.proofs.Common.{option_map};
 ghost use Rattle.ix_lanes.specs.asking.Ruled.{rules_told};
 ghost use Rattle.ix_script.specs.scripts.Scripts.{config_of};
-ghost use Rattle.ix_serial.specs.Sections.{has_placed_lanes};
 ghost use Rattle.ix_host.specs.Traces.{traces};
 ghost use Rattle.ix_host.specs.run.Outcome as outcome;
 ghost use Rattle.ix_host.specs.run.Run.{Ends};
@@ -33,7 +32,6 @@ pub fn flow<K: Sink>(
     script: &Script,
     policy: Option<&Policy>,
 ) -> Status
-    requires lanes { has_placed_lanes script.now ≡ true }
     requires policy { option_map (λ p. p.now) policy ≡ rules_told script.now }
     ensures { Ends (outcome.Whole (traces script.now)) result (K.taken sink.old) (K.taken sink.new)
         (K.finished sink.new) (K.faults sink.old) (K.faults sink.new) }

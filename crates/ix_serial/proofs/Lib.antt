@@ -1,1 +1,1 @@
-pub mod serially
+pub mod Stepping

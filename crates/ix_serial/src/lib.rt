@@ -1,7 +1,6 @@
-//! The lanes of a script, run one after the other on one core.
+//! The serial run of a script on one core: its lines in order, each answered before the next.
 #![tactic(auto)]
 
-mod lane;
 mod serial;
 
 pub use serial::{run_history, run_on};

@@ -1,57 +1,48 @@
-ghost use Rattle.std.specs.Prelude.{◌≡◌, ◌<◌, [], true, IfOk, OnErr, OnOk};
+ghost use Rattle.std.specs.Prelude.{◌≡◌, ◌<◌, [], false, true, IfOk, OnErr, OnOk};
 ghost use Rattle.std.proofs.Common.{option_map};
-ghost use Rattle.ix_script.specs.lines.Roles.{role_of};
-ghost use Rattle.ix_lanes.specs.asking.Ruled.{rules_told};
-ghost use Rattle.ix_script.specs.declared.line.Line.{Line};
 ghost use Rattle.ix_script.specs.scripts.Scripts.{config_of};
+ghost use Rattle.ix_lanes.specs.asking.Ruled.{rules_told};
 ghost use Rattle.ix_lanes.specs.histories.Serial.{serial};
+ghost use Rattle.ix_lanes.specs.running.Serially.{most_entries};
 ghost use Rattle.ix_core.specs.Seen.{KnowsOn};
-ghost use Rattle.ix_serial.specs.Running.{AreAtFirst, begun_after};
-ghost use Rattle.ix_serial.specs.Sections.{has_placed_lanes};
+ghost use Rattle.ix_serial.specs.Running.{Stands};
 
-use crate::lane::SerialLane;
-use ix_core::{Core, Witness};
-use ix_lanes::{role_at, seat_past};
-use ix_model::NoMemory;
+use ix_core::{Core, Witness, read_by};
+use ix_lanes::SerialCalls;
+use ix_model::{Answer, Buf, NoMemory};
 use ix_policy::Policy;
-use ix_script::{Role, Script};
+use ix_script::Script;
 use std::alloc::Global;
 
-/// The lanes of a script, none of whose phases is done.
-fn first_lanes<'a>(
-    alloc: Global,
-    script: &'a Script,
-    policy: Option<&'a Policy>,
-) -> Result<Vec<SerialLane<'a>>, NoMemory>
-    requires { option_map (λ p. p.now) policy ≡ rules_told script.now }
-    ensures { IfOk result (λ lanes. AreAtFirst script.now lanes.items) }
+/// Makes the next entry of a script's serial run on a core, before a witness, and says whether one was left.
+fn step<W: Witness>(
+    core: &mut Core,
+    calls: &mut SerialCalls<'_>,
+    buf: &mut Buf,
+    witness: &mut W,
+) -> bool
+    requires stands { Stands core.old calls.old }
+    ensures stands { Stands core.new calls.new }
+    ensures script { calls.new.script ≡ calls.old.script }
+    ensures seen { KnowsOn W.knows core.old witness.old core.new witness.new }
+    ensures fewer { result ≡ true → most_entries calls.new < most_entries calls.old }
+    ensures over { result ≡ false → core.new.events ≡ serial calls.old.script }
 {
-    let mut lanes = Vec::new(alloc);
-    for seat in 0..script.len() {
-        let Some(_name) = script.lane(seat) else {
-            return Ok(lanes);
-        };
-        let lane = SerialLane::new(alloc, script, policy, seat)?;
-        if lanes.push(lane).is_err() {
-            return Err(NoMemory);
-        }
-    }
-    Ok(lanes)
+    let Some(entry) = calls.next() else {
+        return false;
+    };
+    let (seat, line, pid) = (entry.seat, entry.line, entry.pid);
+    let Answer::Given(reply) = core.call(seat, line, pid, &entry.call, buf) else {
+        unreachable!()
+    };
+    let bytes = read_by(&reply, buf);
+    witness.see(core, line, pid, seat, &entry.call, &reply, bytes);
+    calls.hear(&reply, bytes);
+    true
 }
 
-/// How many phases have begun after a line of a role, where so many have begun before it.
-fn begun_after(begun: u32, role: Role) -> u32
-    requires { begun < 4294967295 }
-    ensures { (line : Line) → role ≡ role_of line → result ≡ begun_after begun line }
-{
-    match role {
-        Role::Phase => begun + 1,
-        _ => begun,
-    }
-}
-
-/// Runs the lanes of a script phase by phase, in each phase in the order in which they are written, before a witness, on a core of
-/// the script's config without entries. The journal has room for all: `NoMemory` is of the lanes' runs alone, and nothing was run then.
+/// Makes the serial run of a script, its lines in order, before a witness, on a core of the script's config without entries. The
+/// journal has room for all: `NoMemory` is of the names that lines give alone, and nothing was run then.
 pub fn run_on<W: Witness>(
     alloc: Global,
     core: &mut Core,
@@ -61,33 +52,25 @@ pub fn run_on<W: Witness>(
 ) -> Result<(), NoMemory>
     requires policy { option_map (λ p. p.now) policy ≡ rules_told script.now }
     requires new { core.old ≡ record { config = config_of script.now; events = [] } }
-    requires lanes { has_placed_lanes script.now ≡ true }
     ensures serial { OnOk result (core.new ≡ record { config = config_of script.now; events = serial script.now }) }
     ensures seen { OnOk result (KnowsOn W.knows core.old witness.old core.new witness.new) }
     ensures unseen { OnErr result (witness.new ≡ witness.old) }
 {
-    let mut lanes = first_lanes(alloc, script, policy)?;
-    let mut begun = 0;
-    for index in 0..script.len() {
-        let role = role_at(script, index);
-        begun = begun_after(begun, role);
-        if let Some(seat) = seat_past(script, None, index, role) {
-            lanes[seat as usize].run_to(core, witness, begun);
-        }
-    }
+    let mut calls = SerialCalls::new(alloc, script, policy)?;
+    let mut buf = [0; 4096];
+    'entries: while step(core, &mut calls, &mut buf, witness) {}
     Ok(())
 }
 
-/// Runs the lanes of a script on a new core, by the script's policy, before a witness: phase by phase, and in each phase in the order in which they are
-/// written. The core has the script's serial history then, and of that the witness knows. The journal has room for all: `NoMemory` is
-/// of the core and of the lanes' runs alone, and then the witness has seen nothing.
+/// Makes the serial run of a script on a new core, by the script's policy, before a witness. The core has the script's serial history then, and
+/// of that the witness knows. The journal has room for all: `NoMemory` is of the core and of the names that lines give alone, and then the
+/// witness has seen nothing.
 pub fn run_history<W: Witness>(
     alloc: Global,
     script: &Script,
     policy: Option<&Policy>,
     witness: &mut W,
 ) -> Result<Core, NoMemory>
-    requires lanes { has_placed_lanes script.now ≡ true }
     requires policy { option_map (λ p. p.now) policy ≡ rules_told script.now }
     ensures config { IfOk result (λ core. core.config ≡ config_of script.now) }
     ensures serial { IfOk result (λ core. core.events ≡ serial script.now) }

@@ -4,7 +4,6 @@ use Rattle.ix_model.specs.history.Events.{Event}
 use Rattle.ix_script.specs.lines.Before.{lanes_of}
 use Rattle.ix_script.specs.declared.line.Line.{Line}
 use Rattle.ix_lanes.specs.asking.Ruled.{rules_told}
-use Rattle.ix_serial.specs.Sections.{has_placed_lanes}
 use Rattle.ix_replay.specs.report.Fixed.{LanesNamed}
 use Rattle.ix_replay.specs.report.Report.{report_of}
 use Rattle.ix_replay.specs.Summary.{summary_line}
@@ -23,10 +22,8 @@ abbrev pub text_told : Telling → List Line → List Event → List ℕ
 text_told telling.Report s history = report_of s history
 text_told (telling.Summary n) s history = summary_line n s history
 
--- The lanes of a script can be run: each stands in a phase, and in none of them twice, there are at most 64, and they have names. Each script that was
--- read is such a one.
+-- The lanes of a script can be run: there are at most 64, and they have names. Each script that was read is such a one.
 pub record IsRunnable (s : List Line) : Type 0 where
-  pub placed : has_placed_lanes s ≡ true
   pub few : length (lanes_of s) ≤ 64
   pub named : LanesNamed s
 

@@ -1,5 +1,5 @@
 //! A report on its way out.
-ghost use Rattle.std.specs.Prelude.{◌≡◌, ℕ, ◌≤◌, ◌++◌, List, Option, None, IfOk, length, true};
+ghost use Rattle.std.specs.Prelude.{◌≡◌, ℕ, ◌≤◌, ◌++◌, List, Option, None, IfOk, length};
 ghost use Rattle.ix_model.specs.history.Cost.{cost_of_history};
 ghost use Rattle.ix_model.specs.history.History.{world_of};
 ghost use Rattle.std.proofs.Common.{option_map};
@@ -8,7 +8,6 @@ ghost use Rattle.ix_lanes.specs.histories.Serial.{serial};
 ghost use Rattle.ix_script.specs.lines.Before.{form_told};
 ghost use Rattle.ix_script.specs.scripts.Need.{need};
 ghost use Rattle.ix_script.specs.scripts.Scripts.{config_of};
-ghost use Rattle.ix_serial.specs.Sections.{has_placed_lanes};
 ghost use Rattle.ix_report.specs.LineText.{head_line};
 ghost use Rattle.ix_replay.specs.report.Report.{closing_text, report_of};
 ghost use Rattle.ix_host.specs.run.Outcome as outcome;
@@ -89,7 +88,6 @@ impl<K: Sink> Teller<'_, K> {
     /// Runs the lanes of the script one after the other, and tells the report of that while it is made.
     fn tell_serial(&mut self, alloc: Global, policy: Option<&Policy>) -> Status
         requires begun { (self.old.failure ≡ None) × (self.old.waiting.now.items ≡ head_line (form_told self.old.script.now)) }
-        requires placed { has_placed_lanes self.old.script.now ≡ true }
         requires policy { option_map (λ p. p.now) policy ≡ rules_told self.old.script.now }
         ensures same { self.new.sink.ghost_name ≡ self.old.sink.ghost_name }
         ensures ends { Ends (outcome.Whole (report_of self.old.script.now (serial self.old.script.now))) result (K.taken self.old.sink.now) (K.taken self.new.sink.now)
@@ -151,7 +149,6 @@ pub fn report_serial<K: Sink>(
     script: &Script,
     policy: Option<&Policy>,
 ) -> Status
-    requires lanes { has_placed_lanes script.now ≡ true }
     requires policy { option_map (λ p. p.now) policy ≡ rules_told script.now }
     ensures { Ends (outcome.Whole (report_of script.now (serial script.now))) result (K.taken sink.old) (K.taken sink.new)
         (K.finished sink.new) (K.faults sink.old) (K.faults sink.new) }

@@ -1,12 +1,11 @@
 //! Where bytes came from, on its way out.
-ghost use Rattle.std.specs.Prelude.{◌≡◌, ℕ, [], ◌++◌, List, Option, None, true};
+ghost use Rattle.std.specs.Prelude.{◌≡◌, ℕ, [], ◌++◌, List, Option, None};
 ghost use Rattle.std.proofs.Common.{option_map};
 ghost use Rattle.ix_model.specs.history.History.{History};
 ghost use Rattle.ix_flow.specs.Tracking.{AreTracks, counts_of};
 ghost use Rattle.ix_flow.specs.Lines.{end_line};
 ghost use Rattle.ix_lanes.specs.asking.Ruled.{rules_told};
 ghost use Rattle.ix_script.specs.scripts.Scripts.{config_of};
-ghost use Rattle.ix_serial.specs.Sections.{has_placed_lanes};
 ghost use Rattle.ix_host.specs.Traces.{traces};
 ghost use Rattle.ix_host.specs.run.Outcome as outcome;
 ghost use Rattle.ix_host.specs.run.Run.{Ends};
@@ -63,7 +62,6 @@ impl<K: Sink> Tracer<'_, K> {
         requires begun { (self.old.failure ≡ None) × (self.old.waiting.now.items ≡ []) }
         requires tracks { AreTracks self.old.tracks.now core.old }
         requires core { core.old ≡ record { config = config_of script.now; events = [] } }
-        requires placed { has_placed_lanes script.now ≡ true }
         requires policy { option_map (λ p. p.now) policy ≡ rules_told script.now }
         ensures same { self.new.sink.ghost_name ≡ self.old.sink.ghost_name }
         ensures ends { Ends (outcome.Whole (traces script.now)) result (K.taken self.old.sink.now) (K.taken self.new.sink.now)

@@ -254,7 +254,7 @@ module _ (s : List Line) (names : List Names) (i : ℕ) (seat : Option ℕ) (k :
   line_asks_on d q not_q a on w place e next told =
       line_goes a (part_left (header_of s) (names_of names k) (i + 1) (line_in s i) d q) (sym on) w place e next told
       ∙ (let more : entries_left (record { script = s; names = names; at = i; seat = seat; copying = d; part = q }) (step_of w place e).world (place + 1)
-          ≡ rest_of (step_of w place e).world (place + 1) (part_left (header_of s) (names_of names k) (i + 1) (line_in s i) d q) = rw (not_q, is) refl in
+      ≡ rest_of (step_of w place e).world (place + 1) (part_left (header_of s) (names_of names k) (i + 1) (line_in s i) d q) = rw (not_q, is) refl in
       ap (λ events. e ∷ events) (sym more))
 
   -- and is done
@@ -262,6 +262,19 @@ module _ (s : List Line) (names : List Names) (i : ℕ) (seat : Option ℕ) (k :
       → (w : World) (place : ℕ) (e : Event) → next_entry here ≡ Some e → answered (step_of w place e) ≡ a
       → entries_left here w place ≡ e ∷ serial_from s (step_of w place e).world (place + 1) (renamed names k (line_in s i) g) (seat_after (lanes_of s) (Some k) (line_in s i)) (suc (i + 1)) (drop (i + 1) s)
   line_done a g done w place e next told = line_goes a (asking.Done g) done w place e next told
+
+-- the lane of a line that a call stands next in
+pub lane_is : (seat : Option ℕ) → is_some seat ≡ true → (k : ℕ) × (seat ≡ Some k)
+lane_is (Some k) h = (k, refl)
+lane_is None h = absurd (true≢false (sym h))
+
+-- the entry that stands next is the first of those that are left
+pub entries_next : (c : SerialLeft) (e : Event) → next_entry c ≡ Some e → (w : World) (place : ℕ) → (rest : List Event) × (entries_left c w place ≡ e ∷ rest)
+entries_next c e next w place =
+    let st = due_stands c (ap is_some next) in
+    let k = lane_is c.seat st.2 in
+    let goes = line_goes c.script c.names c.at c.seat k.0 k.1 c.copying c.part st.0 (answered (step_of w place e)) (heard (line_left c k.0) (answered (step_of w place e))) refl w place e next refl in
+    (_, goes)
 
 -- the call of a command
 command_asks : (k : ℕ) (o : Option Asked) → entry_next k (first (one_call o)) ≡ option_map (entry_of k) o
@@ -290,11 +303,6 @@ came_next k f (asking.Came r) = refl
 came_next k f (Due a) = refl
 
 -- ---- an answer to a line's call
--- the lane of a line that a call stands next in
-pub lane_is : (seat : Option ℕ) → is_some seat ≡ true → (k : ℕ) × (seat ≡ Some k)
-lane_is (Some k) h = (k, refl)
-lane_is None h = absurd (true≢false (sym h))
-
 module _ (s : List Line) (all : List Places) (i : ℕ) (seat : Option ℕ) (l : Line) (buf : List ℕ) (c : Copying) (at_part : Part) (h : IsWithin s all i seat l buf c at_part)
     (not : is_over at_part ≡ false) (k : ℕ) (is : seat ≡ Some k) (d : Copying) (q : Part) (a : Answered) where
   abbrev HeardOn : Type 0
