@@ -5,6 +5,9 @@ use Rattle.ix_model.specs.history.Events.{Event}
 use Rattle.ix_model.specs.history.History.{History, next, with_entry, world_of}
 use Rattle.ix_model.specs.opening.Opening.{opening_world}
 use Rattle.ix_model.specs.world.World.{World}
+use Rattle.ix_model.specs.declared.reply.Answer.{Answer}
+use Rattle.ix_model.specs.declared.reply.Answer.TheVariants as answer
+use Rattle.ix_model.specs.declared.reply.Reply.{Reply}
 use Rattle.ix_model.proofs.words.Runs.{world_of-none, world_of-push}
 use Rattle.ix_script.specs.declared.line.Line.{Line}
 use Rattle.ix_script.specs.scripts.Need.{need}
@@ -15,6 +18,7 @@ use Rattle.ix_lanes.proofs.phased.InOrder.{entries_next}
 use Rattle.ix_lanes.proofs.serially.Costs.{cost-append, cost-cons}
 use Rattle.ix_lanes.proofs.serially.Needs.{whole_fits}
 use Rattle.ix_lanes.proofs.serially.SerialHistories.{serial_serial}
+use Rattle.ix_core.specs.Stepping.{StepsTo}
 use Rattle.ix_serial.specs.Running.{Stands}
 use Rattle.std.specs.Prelude.{None}
 
@@ -32,6 +36,14 @@ has_room h c e stands next =
     let all : cost_of_history (serial c.script) ≡ cost_of_history h.events + cost_of_history (e ∷ left.0) =
     ap cost_of_history (stands.whole ∙ ap (λ es. h.events ++ es) left.1) ∙ cost-append h.events (e ∷ left.0) in
     omega (arith, fits, all, cost-cons e left.0, ap (λ k. k.journal) stands.config, journal_is c.script)
+
+-- so it isn't full
+pub never_full : (h k : History) (c : SerialLeft) (e : Event) (before after : List ℕ) → Stands h c → next_entry c ≡ Some e → (a : Answer) → ((r : Reply) → a ≡ answer.Given r → ⊥)
+    → StepsTo a h k before after e → ⊥
+never_full h k c e before after stands next (answer.Given r) not step = not r refl
+never_full h k c e before after stands next (answer.JournalFull used need cap) not step =
+    let room = has_room h c e stands next in omega (arith, room, step.0, step.1, step.2, step.3)
+never_full h k c e before after stands next answer.NoMemory not step = step
 
 -- ---- a run that goes on
 -- before its first entry

@@ -1,4 +1,4 @@
-use Rattle.std.proofs.Common.{◌≡◌, ℕ}
+use Rattle.std.proofs.Common.{◌≡◌}
 use Rattle.ix_lanes.specs.running.Serially.{most_entries}
 use Rattle.ix_core.specs.Seen.{KnowsOn}
 use Rattle.ix_serial.specs.Running.{Stands}
