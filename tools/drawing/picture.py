@@ -166,7 +166,8 @@ class Picture:
             yield 36, lambda x, y: svg.badge(x + 9, y, "n", True)[0] + svg.cross(x + 28, y), "refused", None
         for shape, text in (("up", "label floats"), ("asked", "label set higher"), ("down", "released: label let down")):
             if shape in shapes:
-                yield 18, lambda x, y, shape=shape: svg.label_tag(x + 9, y - 8, shapes[shape], shape), text, None
+                half = svg.half_tag(shapes[shape])
+                yield 2 * half, lambda x, y, half=half, shape=shape: svg.label_tag(x + half, y - 8, shapes[shape], shape), text, None
         if any(self.learners(event) for event in self.events):
             yield 26, lambda x, y: svg.line(x, y, x + 26, y, "fall") + self.learns(x + 13, y), "may learn by a release", None
         if any(self.is_licensed(event) for event in self.events):
@@ -189,7 +190,8 @@ class Picture:
                 continue
             if row.band:
                 self.out.append(svg.line(self.layout.left, row.top + 9.5, self.layout.right, row.top + 9.5, "rule"))
-                self.out.append(svg.tag("g", svg.title(row.band) + svg.words(self.layout.note_at, row.top + 13, shorten(row.band, places.NOTE), "again")))
+                told = svg.words(self.layout.note_at, row.top + 13, shorten(row.band, places.NOTE), "again")
+                self.out.append(svg.tag("g", svg.title(row.band) + told))
                 continue
             self.out.append(svg.tag("rect", x=0, y=float(row.top), width=float(self.layout.width), height=row.height - 2, fill="#fff"))
             for column in self.columns:
@@ -211,7 +213,8 @@ class Picture:
 
     def bars(self):
         for column in self.columns:
-            self.bar(column)
+            if column.ended != 0:
+                self.bar(column)
 
     def bar(self, column):
         first = self.first
@@ -227,7 +230,7 @@ class Picture:
                 told = svg.title(f"{column.name}, {column.ident()}, at {self.key.text(label)}")
                 self.out.append(svg.tag("rect", told, x=x - half, y=float(start), width=2 * half, height=float(stop - start), class_="bar",
                                         fill=self.fill(label)))
-        if column.begun < first and column.ended != 0:
+        if column.begun < first:
             self.out.append(svg.label_tag(x, self.layout.plot_top + 3, self.key.short(parts[0][1]), "plain"))
         if column.ended in self.layout.row_of:
             self.out.append(svg.line(x - 9, end, x + 9, end, "end"))
@@ -350,15 +353,14 @@ class Picture:
     @staticmethod
     def curve(stops, class_, flat=False):
         x, y = stops[0]
-        way = f"M{svg.number(x)} {svg.number(y)}"
+        way = svg.move(x, y)
         for there, below in stops[1:]:
-            bow = 24 if abs(there - x) < 8 and below - y > 30 else 0
-            half = (below - y) / 2
             if flat:
-                way += f"C{svg.number((x + there) / 2)} {svg.number(y)} {svg.number((x + there) / 2)} {svg.number(below)} {svg.number(there)} {svg.number(below)}"
+                way += svg.bend((x + there) / 2, y, (x + there) / 2, below, there, below)
             else:
-                way += (f"C{svg.number(x + bow)} {svg.number(y + half)} {svg.number(there + bow)} {svg.number(below - max(half, 12))} "
-                        f"{svg.number(there)} {svg.number(below)}")
+                bow = 24 if abs(there - x) < 8 and below - y > 30 else 0
+                half = (below - y) / 2
+                way += svg.bend(x + bow, y + half, there + bow, below - max(half, 12), there, below)
             x, y = there, below
         head = [(x, y), (x - 7, y - 4), (x - 7, y + 4)] if flat else [(x, y + 1), (x - 4, y - 6), (x + 4, y - 6)]
         return svg.tag("path", d=way, class_=class_) + svg.tag("polygon", points=svg.points(head), class_="flow-head")

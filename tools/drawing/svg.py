@@ -41,6 +41,15 @@ def line(x1, y1, x2, y2, class_):
     return tag("path", d=f"M{number(x1)} {number(y1)}L{number(x2)} {number(y2)}", class_=class_)
 
 
+def move(x, y):
+    return f"M{number(x)} {number(y)}"
+
+
+def bend(*numbers):
+    """A curve to a place by way of two others."""
+    return "C" + " ".join(number(value) for value in numbers)
+
+
 def arrow(x1, x2, y, class_):
     """A straight arrow along a row, on a white edge that keeps it apart from what it crosses."""
     back = -7 if x2 > x1 else 7
@@ -66,9 +75,14 @@ def badge(x, y, text, refused, size=10):
     return box + words(x, y + 3.5, text, "number no-number" if refused else "number", "middle"), half
 
 
+def half_tag(text):
+    """Half the width of a label's tag."""
+    return max(9.0, wide(text, 10) / 2 + 4)
+
+
 def label_tag(x, y, text, shape):
     """A label where it begins to hold: a box; with a peak where a label rises, with a point below where it is let down."""
-    half = max(9, wide(text, 10) / 2 + 4)
+    half = half_tag(text)
     top, low = y, y + 13
     if shape in ("up", "asked"):
         corners = [(x, top - 1), (x + half, top + 5), (x + half, low + 4), (x - half, low + 4), (x - half, top + 5)]
