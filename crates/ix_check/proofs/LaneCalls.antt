@@ -9,16 +9,16 @@ use Rattle.ix_asking.specs.Lines.{calls_then, no_calls}
 use Rattle.ix_asking.specs.Runs.{entry_of}
 use Rattle.ix_asking.proofs.Every.{AllOf}
 use Rattle.ix_asking.proofs.Few.{Few}
-use Rattle.ix_script.specs.lines.Before.{lanes_of}
+use Rattle.ix_script.specs.lines.Before.{lanes_of, is_phase}
 use Rattle.ix_script.specs.declared.line.Line.{Line}
 use Rattle.ix_lanes.specs.declared.asking.handed.Handed.{Handed}
 use Rattle.ix_lanes.specs.asking.Asked.{Names, named, no_names}
-use Rattle.ix_lanes.specs.asking.LineAsks.{Numbered, OfLine, line_asks, lines_ask}
+use Rattle.ix_script.specs.scripts.Schedule.{Numbered, is_seat, seat_after}
+use Rattle.ix_lanes.specs.asking.LineAsks.{OfLine, line_asks, lines_ask}
 use Rattle.ix_lanes.specs.asking.Ruled.{rules_told}
 use Rattle.ix_lanes.specs.histories.History.{phase_of}
-use Rattle.ix_lanes.specs.histories.Lanes.{calls_of, is_seat, lane_asks, lines_of_seat}
-use Rattle.ix_lanes.specs.histories.Serial.{header_of, seat_after}
-use Rattle.ix_lanes.specs.running.Phases.{is_phase}
+use Rattle.ix_lanes.specs.histories.Lanes.{calls_of, lane_asks, lines_of_seat}
+use Rattle.ix_lanes.specs.histories.Serial.{header_of}
 use Rattle.ix_lanes.proofs.serially.LineCalls.{all-numbered}
 use Rattle.ix_lanes.proofs.serially.LineFew.{few-of-line}
 use Rattle.ix_judging.specs.Asking.{IsLane}

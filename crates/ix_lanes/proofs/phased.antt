@@ -10,3 +10,4 @@ pub mod Standing
 pub mod Appended
 pub mod SideBySide
 pub mod InOrder
+pub mod Stretching

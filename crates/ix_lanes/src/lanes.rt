@@ -2,7 +2,8 @@ ghost use Rattle.std.specs.Prelude.{◌≡◌, ◌+◌, ◌<◌, ◌≤◌, IfOk
 ghost use Rattle.ix_script.specs.lines.Before.{lanes_of, proc_name_told};
 ghost use Rattle.ix_script.specs.lines.Roles.{role_of};
 ghost use Rattle.ix_lanes.specs.histories.Indexed.{line_in};
-ghost use Rattle.ix_lanes.specs.histories.Serial.{header_of, numbered, seat_from, seat_after};
+ghost use Rattle.ix_script.specs.scripts.Schedule.{seat_from, seat_after};
+ghost use Rattle.ix_lanes.specs.histories.Serial.{header_of, numbered};
 
 use crate::asking::numbers::Numbers;
 use crate::lines::{line_at, role_at};

@@ -13,7 +13,7 @@ use Rattle.ix_script.specs.lines.Before.{lanes_of}
 use Rattle.ix_script.specs.scripts.Need.{need}
 use Rattle.ix_script.specs.scripts.Scripts.{config_of}
 use Rattle.ix_script.specs.declared.line.Line.{Line}
-use Rattle.ix_lanes.specs.running.Phases.{phases}
+use Rattle.ix_script.specs.scripts.Schedule.{phases}
 use Rattle.ix_parallel.specs.Seats.{Seated, Sees}
 use Rattle.ix_parallel.specs.Stages.{AsksNext, Stages}
 

@@ -1,7 +1,7 @@
 //! The phases of a script, one after the other.
 ghost use Rattle.std.specs.Prelude.{◌≡◌, ◌<◌, suc};
 ghost use Rattle.ix_gate.specs.Gate.{GateState};
-ghost use Rattle.ix_lanes.specs.running.Phases.{phases};
+ghost use Rattle.ix_script.specs.scripts.Schedule.{phases};
 ghost use Rattle.ix_parallel.specs.Seats.{AtPhase, Runs};
 
 use crate::meeting::meet_all;

@@ -4,13 +4,12 @@ use Rattle.std.proofs.lemmas.Option.{get_or_from_slice_get, slice_get-get_or}
 use Rattle.ix_script.specs.declared.line.Line.{Line}
 use Rattle.ix_script.specs.declared.line.Line.TheVariants as line
 use Rattle.ix_script.specs.declared.role.Role.TheVariants as role
-use Rattle.ix_script.specs.lines.Before.{new_fds, new_procs, proc_name_told}
+use Rattle.ix_script.specs.lines.Before.{new_fds, new_procs, proc_name_told, is_phase}
 use Rattle.ix_script.specs.lines.Roles.{role_of}
 use Rattle.ix_lanes.specs.declared.asking.places.Places.{Places}
 use Rattle.ix_lanes.specs.asking.Places.{has_places}
 use Rattle.ix_lanes.specs.histories.Indexed.{line_in}
-use Rattle.ix_lanes.specs.histories.Serial.{seat_after}
-use Rattle.ix_lanes.specs.running.Phases.{is_phase}
+use Rattle.ix_script.specs.scripts.Schedule.{seat_after}
 
 -- ---- the line at an index
 pub line-there : (s : List Line) (i : ℕ) → i < length s → slice_get s i ≡ Some (line_in s i)

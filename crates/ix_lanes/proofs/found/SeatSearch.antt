@@ -3,8 +3,7 @@ use Rattle.std.proofs.Common.{◌≡◌, ℕ, suc, ◌+◌, ◌≤◌, true, fal
 use Rattle.std.proofs.lemmas.List.{drop_all}
 use Rattle.std.specs.Option.{option_eq}
 use Rattle.ix_model.specs.world.Naming.{same_bytes}
-use Rattle.ix_lanes.specs.histories.Lanes.{is_seat}
-use Rattle.ix_lanes.specs.histories.Serial.{seat_from}
+use Rattle.ix_script.specs.scripts.Schedule.{is_seat, seat_from}
 use Rattle.ix_lanes.proofs.found.Indexed.{rest_is, none_left}
 
 module _ (name : List ℕ) (lanes : List (List ℕ)) (first : Option ℕ) where

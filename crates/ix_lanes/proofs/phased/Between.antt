@@ -10,8 +10,8 @@ use Rattle.ix_script.specs.declared.line.Line.{Line}
 use Rattle.ix_asking.specs.Asking.{Asking, Ask, followed}
 use Rattle.ix_asking.specs.Asking as asking
 use Rattle.ix_lanes.specs.asking.Asked.{Names, Numbers, named}
-use Rattle.ix_lanes.specs.asking.LineAsks.{Numbered, line_asks, lines_ask}
-use Rattle.ix_lanes.specs.histories.Serial.{seat_after}
+use Rattle.ix_script.specs.scripts.Schedule.{Numbered, seat_after}
+use Rattle.ix_lanes.specs.asking.LineAsks.{line_asks, lines_ask}
 use Rattle.ix_lanes.specs.histories.Lanes.{lines_of_seat}
 use Rattle.ix_lanes.specs.running.Phases.{lane_among, lane_between, seat_at}
 use Rattle.ix_lanes.proofs.phased.LaneLines.{lane-append, mine, one_more, one_of}

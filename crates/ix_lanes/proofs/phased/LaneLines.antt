@@ -5,9 +5,8 @@ use Rattle.std.proofs.lemmas.List.Sums.{fold-append}
 use Rattle.std.proofs.lemmas.Option.{slice_get_within, get_or_from_slice_get}
 use Rattle.ix_script.specs.lines.Before.{lanes_of}
 use Rattle.ix_script.specs.declared.line.Line.{Line}
-use Rattle.ix_lanes.specs.histories.Serial.{seat_after}
-use Rattle.ix_lanes.specs.asking.LineAsks.{Numbered}
-use Rattle.ix_lanes.specs.histories.Lanes.{is_seat, lines_of_seat}
+use Rattle.ix_script.specs.scripts.Schedule.{seat_after, Numbered, is_seat}
+use Rattle.ix_lanes.specs.histories.Lanes.{lines_of_seat}
 use Rattle.ix_lanes.specs.running.Phases.{lane_among, seat_at}
 
 -- one line, where it stands in the lane

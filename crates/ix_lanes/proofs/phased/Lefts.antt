@@ -23,10 +23,12 @@ use Rattle.ix_lanes.specs.declared.running.part.Part.TheVariants as part
 use Rattle.ix_lanes.specs.asking.Ruled.{rules_told}
 use Rattle.ix_lanes.specs.histories.History.{phase_of}
 use Rattle.ix_lanes.specs.histories.Indexed.{line_in}
-use Rattle.ix_lanes.specs.histories.Lanes.{is_seat, lane_asks}
+use Rattle.ix_script.specs.scripts.Schedule.{is_seat}
+use Rattle.ix_lanes.specs.histories.Lanes.{lane_asks}
 use Rattle.ix_lanes.specs.histories.Serial.{header_of}
 use Rattle.ix_lanes.specs.running.Left.{Holds, IsHeard, IsHere, IsPending, LaneLeft, asks_left, is_done, is_over, left_from, most_from, names_done, next_phase, part_left, place_of}
-use Rattle.ix_lanes.specs.running.Phases.{is_phase, lane_between, seat_at}
+use Rattle.ix_script.specs.lines.Before.{is_phase}
+use Rattle.ix_lanes.specs.running.Phases.{lane_between, seat_at}
 use Rattle.ix_lanes.proofs.found.Roles.{line-is, line-there}
 use Rattle.ix_lanes.proofs.serially.LineCalls.{all-numbered}
 use Rattle.ix_lanes.proofs.phased.Between.{between_all, between_both, between_more, between_none}

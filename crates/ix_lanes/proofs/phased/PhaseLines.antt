@@ -4,7 +4,9 @@ use Rattle.std.proofs.lemmas.List.Sums.{count_by-le-length, sum_by-cons}
 use Rattle.std.proofs.lemmas.List.{length-take, length-take-le, drop_all}
 use Rattle.std.proofs.lemmas.Option.{slice_get_within}
 use Rattle.ix_script.specs.declared.line.Line.{Line}
-use Rattle.ix_lanes.specs.running.Phases.{is_phase, phases, lines_to, lines_before}
+use Rattle.ix_script.specs.scripts.Schedule.{phases}
+use Rattle.ix_script.specs.lines.Before.{is_phase}
+use Rattle.ix_lanes.specs.running.Phases.{lines_to, lines_before}
 use Rattle.ix_lanes.proofs.found.Indexed.{rest_is}
 use Rattle.ix_lanes.proofs.phased.LaneLines.{one_more}
 

@@ -6,9 +6,8 @@ use Rattle.std.proofs.lemmas.List.Folds.{list_all-append}
 use Rattle.ix_script.specs.lines.Before.{lanes_of}
 use Rattle.ix_script.specs.declared.line.Line.{Line}
 use Rattle.ix_lanes.specs.declared.asking.places.Places.{Places}
-use Rattle.ix_lanes.specs.asking.LineAsks.{Numbered}
+use Rattle.ix_script.specs.scripts.Schedule.{Numbered, is_seat}
 use Rattle.ix_lanes.specs.asking.Places.{has_places, KeepsPlaces}
-use Rattle.ix_lanes.specs.histories.Lanes.{is_seat}
 use Rattle.ix_lanes.specs.running.Phases.{lane_among, seat_at}
 use Rattle.ix_lanes.specs.running.Fields.{all_placed}
 use Rattle.ix_lanes.proofs.phased.LaneLines.{lane-append, lane_one_more, mine-here, mine-not}

@@ -9,7 +9,8 @@ use Rattle.ix_lanes.specs.asking.LineAsks.{lines_ask}
 use Rattle.ix_lanes.specs.asking.Ruled.{rules_told}
 use Rattle.ix_lanes.specs.histories.Serial.{header_of}
 use Rattle.ix_lanes.specs.histories.Lanes.{calls_of, lane_asks, lines_of_seat}
-use Rattle.ix_lanes.specs.running.Phases.{asks_before, calls_before, phases}
+use Rattle.ix_script.specs.scripts.Schedule.{phases}
+use Rattle.ix_lanes.specs.running.Phases.{asks_before, calls_before}
 use Rattle.ix_lanes.proofs.phased.PhaseLines.{before-all}
 
 -- all phases have all lines

@@ -22,10 +22,11 @@ use Rattle.ix_asking.proofs.Serves.{GivesNoLabel}
 use Rattle.ix_sessserv.specs.Serving.{clear_of}
 use Rattle.ix_lanes.specs.declared.asking.handed.Handed.{Handed}
 use Rattle.ix_lanes.specs.asking.Asked.{Names, Numbers, asked, named, no_names}
-use Rattle.ix_lanes.specs.asking.LineAsks.{Numbered, line_asks}
+use Rattle.ix_script.specs.scripts.Schedule.{Numbered, seat_after, is_seat}
+use Rattle.ix_lanes.specs.asking.LineAsks.{line_asks}
 use Rattle.ix_lanes.specs.asking.Ruled.{rules_told}
-use Rattle.ix_lanes.specs.histories.Serial.{header_of, seat_after}
-use Rattle.ix_lanes.specs.histories.Lanes.{Lanes, calls_of, entries_of, is_seat, lane_asks, lines_of_seat, replies_of}
+use Rattle.ix_lanes.specs.histories.Serial.{header_of}
+use Rattle.ix_lanes.specs.histories.Lanes.{Lanes, calls_of, entries_of, lane_asks, lines_of_seat, replies_of}
 use Rattle.ix_lanes.proofs.serially.LaneSteps.{calls_from, calls-line, entries-mine, entries-other}
 use Rattle.ix_lanes.proofs.serially.LineCalls.{all-of-line}
 use Rattle.ix_lanes.proofs.serially.Told.{told-clear}

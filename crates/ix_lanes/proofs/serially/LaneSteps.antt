@@ -15,8 +15,9 @@ use Rattle.ix_asking.specs.Lines.{Calls, calls_then, no_calls}
 use Rattle.ix_asking.proofs.Lines.{calls-followed}
 use Rattle.ix_lanes.specs.declared.asking.handed.Handed.{Handed}
 use Rattle.ix_lanes.specs.asking.Asked.{Names, Numbers, named, no_names}
-use Rattle.ix_lanes.specs.asking.LineAsks.{Numbered, line_asks, lines_ask}
-use Rattle.ix_lanes.specs.histories.Serial.{answered, names_of, renamed, seat_after, seat_from}
+use Rattle.ix_script.specs.scripts.Schedule.{Numbered, seat_after, seat_from}
+use Rattle.ix_lanes.specs.asking.LineAsks.{line_asks, lines_ask}
+use Rattle.ix_lanes.specs.histories.Serial.{answered, names_of, renamed}
 use Rattle.ix_lanes.specs.histories.Lanes.{entries_of, lines_of_seat, replies_from}
 use Rattle.ix_lanes.proofs.found.Indexed.{if_some_below}
 

@@ -19,9 +19,10 @@ use Rattle.ix_asking.specs.Runs.{entry_of}
 use Rattle.ix_asking.proofs.Costs.{AreFew, Costs}
 use Rattle.ix_lanes.specs.declared.asking.handed.Handed.{Handed}
 use Rattle.ix_lanes.specs.asking.Asked.{Names, Numbers, named, no_names}
-use Rattle.ix_lanes.specs.asking.LineAsks.{Numbered, line_asks}
+use Rattle.ix_script.specs.scripts.Schedule.{Numbered, seat_after}
+use Rattle.ix_lanes.specs.asking.LineAsks.{line_asks}
 use Rattle.ix_lanes.specs.asking.Ruled.{rules_told}
-use Rattle.ix_lanes.specs.histories.Serial.{header_of, seat_after}
+use Rattle.ix_lanes.specs.histories.Serial.{header_of}
 use Rattle.ix_lanes.specs.histories.Lanes.{Lanes, LanesSoFar, calls_of, entries_of, lane_asks, lines_of_seat, replies_from, replies_of}
 use Rattle.ix_lanes.proofs.serially.Costs.{cost-none, cost-cons, cost-push, need-cons, few_bytes, line-costs}
 use Rattle.ix_lanes.proofs.serially.LaneSteps.{calls_from, calls-line, entries-mine, entries-other, replies-mine, replies-other, lines-mine, lines-other}

@@ -13,9 +13,10 @@ use Rattle.ix_asking.specs.Runs.{entry_of}
 use Rattle.ix_asking.proofs.Every.{AllOf}
 use Rattle.ix_lanes.specs.declared.asking.handed.Handed.{Handed}
 use Rattle.ix_lanes.specs.asking.Asked.{Names, Numbers, named}
-use Rattle.ix_lanes.specs.asking.LineAsks.{Numbered, OfLine, line_asks}
+use Rattle.ix_script.specs.scripts.Schedule.{Numbered, seat_after}
+use Rattle.ix_lanes.specs.asking.LineAsks.{OfLine, line_asks}
 use Rattle.ix_lanes.specs.asking.Ruled.{rules_told}
-use Rattle.ix_lanes.specs.histories.Serial.{answered, header_of, names_of, renamed, seat_after}
+use Rattle.ix_lanes.specs.histories.Serial.{answered, header_of, names_of, renamed}
 use Rattle.ix_lanes.specs.histories.Lanes.{lines_of_seat}
 use Rattle.ix_lanes.proofs.serially.LaneSteps.{calls_from, calls-line, lines-mine, lines-other, names-mine, names-other}
 use Rattle.ix_lanes.proofs.serially.LineCalls.{all-numbered}

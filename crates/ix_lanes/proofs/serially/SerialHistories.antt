@@ -17,7 +17,8 @@ use Rattle.ix_lanes.specs.declared.asking.handed.Handed.{Handed}
 use Rattle.ix_lanes.specs.asking.Asked.{Names, no_names}
 use Rattle.ix_lanes.specs.asking.LineAsks.{OfLine, line_asks}
 use Rattle.ix_lanes.specs.asking.Ruled.{rules_told}
-use Rattle.ix_lanes.specs.histories.Serial.{answered, first_names, header_of, made_then, names_of, renamed, seat_after, serial, serial_from}
+use Rattle.ix_script.specs.scripts.Schedule.{seat_after}
+use Rattle.ix_lanes.specs.histories.Serial.{answered, first_names, header_of, made_then, names_of, renamed, serial, serial_from}
 use Rattle.ix_lanes.specs.histories.Lanes.{IsSerial, entries_of, lane_asks, lines_of_seat, replies_from, replies_of}
 use Rattle.ix_lanes.proofs.serially.LaneSteps.{calls_from, entries-mine, length-renamed, seat_within}
 use Rattle.ix_lanes.proofs.serially.LineCalls.{all-numbered}

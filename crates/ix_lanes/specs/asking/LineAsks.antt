@@ -7,6 +7,7 @@ use Rattle.ix_asking.specs.Copies.{copies}
 use Rattle.ix_asking.specs.serving.Serving.{Server}
 use Rattle.ix_privserv.specs.Serving as privileges
 use Rattle.ix_sessserv.specs.Serving as sessions
+use Rattle.ix_script.specs.scripts.Schedule.{Numbered}
 use Rattle.ix_script.specs.declared.line.Line.{Line}
 use Rattle.ix_script.specs.declared.line.Line.TheVariants as line
 use Rattle.ix_script.specs.declared.line.FdWord.{FdWord}
@@ -14,11 +15,6 @@ use Rattle.ix_lanes.specs.asking.Asked.{Names, Numbers, asked, fd_of, named, pid
 use Rattle.ix_lanes.specs.asking.Handing.{handed_in, who_in}
 use Rattle.ix_lanes.specs.declared.asking.handed.Handed.{Handed}
 use Rattle.ix_lanes.specs.declared.asking.handed.Handed.TheVariants as handed
-
--- a line with its number
-pub record Numbered : Type 0 where
-  pub number : ℕ
-  pub said : Line
 
 -- what an entry asks for
 abbrev pub asked_by : Event → Asked

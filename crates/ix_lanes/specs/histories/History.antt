@@ -3,7 +3,7 @@ use Rattle.std.specs.Prelude.{◌≡◌, ℕ, ◌-◌, nat_le, Bool, true, ◌&&
 use Rattle.ix_model.specs.history.Events.{Event}
 use Rattle.ix_script.specs.declared.line.Line.{Line}
 use Rattle.ix_lanes.specs.histories.Lanes.{Lanes}
-use Rattle.ix_lanes.specs.running.Phases.{is_phase}
+use Rattle.ix_script.specs.lines.Before.{is_phase}
 
 -- The phase in which the line of a number stands: they are numbered from 0, and each `phase` line begins one. The lines before the first of these
 -- belong to phase 0, too.

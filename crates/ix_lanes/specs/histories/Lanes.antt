@@ -1,6 +1,5 @@
 -- The histories of a script: those that hold each lane's calls in order, and among them the one whose lines never go back.
-use Rattle.std.specs.Prelude.{◌≡◌, ℕ, suc, ◌+◌, ◌<◌, ◌==◌, nat_lt, nat_le, Bool, true, false, ◌&&◌, List, [], ◌∷◌, length, filter, Option, None, if◌then◌else◌}
-use Rattle.std.specs.Option.{option_map_or}
+use Rattle.std.specs.Prelude.{◌≡◌, ℕ, suc, ◌+◌, ◌<◌, ◌==◌, nat_lt, nat_le, Bool, true, ◌&&◌, List, [], ◌∷◌, length, filter, Option, None, if◌then◌else◌}
 use Rattle.std.specs.List.{list_all}
 use Rattle.ix_model.specs.world.World.{World}
 use Rattle.ix_model.specs.opening.Opening.{opening_world}
@@ -12,14 +11,12 @@ use Rattle.ix_script.specs.declared.line.Line.{Line}
 use Rattle.ix_asking.specs.Asking.{Answered, Asking}
 use Rattle.ix_asking.specs.Lines.{Calls, calls_then, no_calls}
 use Rattle.ix_lanes.specs.asking.Asked.{Names, no_names}
-use Rattle.ix_lanes.specs.asking.LineAsks.{Numbered, lines_ask}
+use Rattle.ix_script.specs.scripts.Schedule.{Numbered, is_seat, seat_after}
+use Rattle.ix_lanes.specs.asking.LineAsks.{lines_ask}
 use Rattle.ix_lanes.specs.asking.Ruled.{rules_told}
-use Rattle.ix_lanes.specs.histories.Serial.{answered, header_of, seat_after}
+use Rattle.ix_lanes.specs.histories.Serial.{answered, header_of}
 
 -- ---- what a lane asks for
-abbrev pub is_seat : ℕ → Option ℕ → Bool
-is_seat seat at = option_map_or (λ s. s == seat) at false
-
 -- the lines of a seat's lane; the first of these lines has the number n, and stands in the lane of the seat `at`
 abbrev pub lines_of_seat : List (List ℕ) → ℕ → ℕ → Option ℕ → List Line → List Numbered
 lines_of_seat lanes seat n at [] = []

@@ -1,15 +1,14 @@
 -- The serial history of a script: its lines in order, each answered before the next.
-use Rattle.std.specs.Prelude.{ℕ, suc, ◌+◌, List, [], ◌∷◌, length, replicate, Option, Some, None, slice_index_or, slice_set, if◌then◌else◌}
+use Rattle.std.specs.Prelude.{ℕ, suc, ◌+◌, List, [], ◌∷◌, length, replicate, Option, Some, None, slice_index_or, slice_set}
 use Rattle.std.specs.FinMap as map
-use Rattle.ix_model.specs.world.Naming.{same_bytes}
 use Rattle.ix_model.specs.world.World.{World}
 use Rattle.ix_model.specs.opening.Opening.{opening_world}
 use Rattle.ix_model.specs.history.Step.{Given, step_of}
 use Rattle.ix_model.specs.history.Events.{Event}
 use Rattle.ix_script.specs.lines.Before.{lanes_of, proc_names}
+use Rattle.ix_script.specs.scripts.Schedule.{seat_after}
 use Rattle.ix_script.specs.scripts.Scripts.{config_of}
 use Rattle.ix_script.specs.declared.line.Line.{Line}
-use Rattle.ix_script.specs.declared.line.Line.TheVariants as line
 use Rattle.ix_asking.specs.Asking.{Answered, Asking, Done, Ask}
 use Rattle.ix_asking.specs.Runs.{entry_of}
 use Rattle.ix_lanes.specs.declared.asking.handed.Handed.{Handed}
@@ -26,17 +25,6 @@ numbered n (name ∷ names) numbers = numbered (suc n) names (map.insert numbers
 -- the processes of the header have pids 1, 2 and so on, in order
 unfoldable pub header_of : List Line → Numbers
 header_of s = numbered 1 (proc_names s) map.empty
-
--- the seat of the lane of that name, where the first of these lanes has the seat n
-abbrev pub seat_from : ℕ → List ℕ → List (List ℕ) → Option ℕ
-seat_from n name [] = None
-seat_from n name (lane ∷ lanes) = if same_bytes name lane then Some n else seat_from (suc n) name lanes
-
--- the seat of the lane in which the next line stands; lanes have seats 0, 1 and so on, in the order in which they first appear
-abbrev pub seat_after : List (List ℕ) → Option ℕ → Line → Option ℕ
-seat_after lanes seat line.Phase = None
-seat_after lanes seat (line.Lane name) = seat_from 0 name lanes
-seat_after lanes seat _ = seat
 
 -- ---- one line
 -- what the names of a seat's lane stand for

@@ -7,7 +7,7 @@ use Rattle.ix_lanes.specs.declared.asking.places.Places.{Places}
 use Rattle.ix_lanes.specs.asking.Asked.{Numbers}
 use Rattle.ix_lanes.specs.asking.Places.{has_places}
 use Rattle.ix_lanes.specs.histories.Serial.{header_of}
-use Rattle.ix_lanes.specs.asking.LineAsks.{Numbered}
+use Rattle.ix_script.specs.scripts.Schedule.{Numbered}
 use Rattle.ix_lanes.specs.asking.Ruled.{rules_told}
 use Rattle.ix_policy.specs.declared.rule.Rule.{Rule}
 use Rattle.ix_lanes.specs.running.Left.{LaneLeft, asks_left, is_done}

@@ -17,9 +17,10 @@ use Rattle.ix_lanes.specs.declared.running.part.Part.{Part}
 use Rattle.ix_lanes.specs.declared.running.part.Part.TheVariants as part
 use Rattle.ix_lanes.specs.histories.History.{phase_of}
 use Rattle.ix_lanes.specs.histories.Indexed.{line_in}
-use Rattle.ix_lanes.specs.histories.Lanes.{is_seat}
+use Rattle.ix_script.specs.scripts.Schedule.{is_seat}
 use Rattle.ix_lanes.specs.histories.Serial.{header_of}
-use Rattle.ix_lanes.specs.running.Phases.{is_phase, lane_between, seat_at}
+use Rattle.ix_script.specs.lines.Before.{is_phase}
+use Rattle.ix_lanes.specs.running.Phases.{lane_between, seat_at}
 
 -- ---- in a line
 -- whether a lane stands in no line

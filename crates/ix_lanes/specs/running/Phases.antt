@@ -1,28 +1,18 @@
 -- The phases of a script, and what a lane asks for in the first of them.
-use Rattle.std.specs.Prelude.{ℕ, zero, suc, ◌+◌, take, drop, Bool, true, false, List, [], ◌∷◌, max, count_by, Option, None, if◌then◌else◌}
+use Rattle.std.specs.Prelude.{ℕ, zero, suc, ◌+◌, take, drop, List, [], ◌∷◌, Option, None, if◌then◌else◌}
 use Rattle.std.specs.List.{fold}
-use Rattle.ix_script.specs.lines.Before.{lanes_of}
+use Rattle.ix_script.specs.lines.Before.{is_phase, lanes_of}
 use Rattle.ix_script.specs.declared.line.Line.{Line}
-use Rattle.ix_script.specs.declared.line.Line.TheVariants as line
 use Rattle.ix_asking.specs.Asking.{Answered, Asking}
 use Rattle.ix_asking.specs.Lines.{Calls, calls_then, no_calls}
 use Rattle.ix_lanes.specs.asking.Asked.{Names, no_names}
-use Rattle.ix_lanes.specs.asking.LineAsks.{Numbered, lines_ask}
+use Rattle.ix_script.specs.scripts.Schedule.{Numbered, seat_after}
+use Rattle.ix_lanes.specs.asking.LineAsks.{lines_ask}
 use Rattle.ix_lanes.specs.asking.Ruled.{rules_told}
-use Rattle.ix_lanes.specs.histories.Serial.{header_of, seat_after}
+use Rattle.ix_lanes.specs.histories.Serial.{header_of}
 use Rattle.ix_lanes.specs.histories.Lanes.{lines_of_seat}
 
 -- ---- phases
--- whether a line is a `phase` line
-abbrev pub is_phase : Line → Bool
-is_phase line.Phase = true
-is_phase _ = false
-
--- How many phases a script has: each `phase` line begins one, and there is one at least. They are numbered from 0, and the first one has also the
--- lines before its `phase` line, of which none stands in a lane.
-unfoldable pub phases : List Line → ℕ
-phases lines = max 1 (count_by is_phase lines)
-
 -- the lines before the `phase` line of that number, and all where there is none
 unfoldable pub lines_to : ℕ → List Line → List Line
 lines_to k [] = []

@@ -16,7 +16,8 @@ use Rattle.ix_lanes.specs.declared.asking.handed.Handed.{Handed}
 use Rattle.ix_lanes.specs.declared.asking.places.Places.{Places}
 use Rattle.ix_lanes.specs.declared.running.part.Part.{Part}
 use Rattle.ix_lanes.specs.histories.Indexed.{line_in}
-use Rattle.ix_lanes.specs.histories.Serial.{header_of, made_then, names_of, renamed, seat_after, serial_from}
+use Rattle.ix_script.specs.scripts.Schedule.{seat_after}
+use Rattle.ix_lanes.specs.histories.Serial.{header_of, made_then, names_of, renamed, serial_from}
 use Rattle.ix_lanes.specs.running.Fields.{all_placed}
 use Rattle.ix_lanes.specs.running.Left.{Holds, IsPending, is_over, part_left, part_most}
 use Rattle.ix_lanes.specs.running.Phases.{lane_among, seat_at}

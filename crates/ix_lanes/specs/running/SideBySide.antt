@@ -6,7 +6,7 @@ use Rattle.ix_model.specs.history.Made.{Made}
 use Rattle.ix_model.specs.history.Systems.{one_more}
 use Rattle.ix_model.specs.declared.reply.Answer.{Answer}
 use Rattle.ix_lanes.specs.declared.running.side_by_side.Lane.{Lane}
-use Rattle.ix_lanes.specs.running.Phases.{phases}
+use Rattle.ix_script.specs.scripts.Schedule.{phases}
 use Rattle.ix_lanes.specs.running.Runs.{CutOff, StandsFor}
 
 -- the first of these answers that there is

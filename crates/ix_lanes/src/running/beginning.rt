@@ -4,7 +4,7 @@ ghost use Rattle.ix_script.specs.lines.Roles.{role_of};
 ghost use Rattle.ix_lanes.specs.asking.LineAsks.{line_asks};
 ghost use Rattle.ix_lanes.specs.asking.Places.{standing};
 ghost use Rattle.ix_lanes.specs.running.Left.{Holds, IsPending, is_over, part_left, part_most};
-ghost use Rattle.ix_lanes.specs.running.Phases.{is_phase};
+ghost use Rattle.ix_script.specs.lines.Before.{is_phase};
 
 use crate::asking::calls::put_written;
 use crate::asking::numbers::Numbers;

@@ -1,15 +1,16 @@
 ghost use Rattle.std.specs.Prelude.{◌≡◌, ◌+◌, ◌≤◌, ◌<◌, true, length, take, count_by};
 ghost use Rattle.std.proofs.Common.{cond, option_map};
-ghost use Rattle.ix_script.specs.lines.Before.{lanes_of};
+ghost use Rattle.ix_script.specs.lines.Before.{lanes_of, is_phase};
 ghost use Rattle.ix_script.specs.lines.Roles.{role_of};
 ghost use Rattle.ix_lanes.specs.asking.LineAsks.{lines_ask};
 ghost use Rattle.ix_lanes.specs.asking.Places.{KeepsPlaces, standing};
 ghost use Rattle.ix_lanes.specs.asking.Ruled.{rules_told};
 ghost use Rattle.ix_lanes.specs.histories.Indexed.{line_in};
-ghost use Rattle.ix_lanes.specs.histories.Serial.{header_of, seat_after};
+ghost use Rattle.ix_script.specs.scripts.Schedule.{seat_after};
+ghost use Rattle.ix_lanes.specs.histories.Serial.{header_of};
 ghost use Rattle.ix_lanes.specs.running.Fields.{all_placed};
 ghost use Rattle.ix_lanes.specs.running.Left.{IsHere, left_from, part_most};
-ghost use Rattle.ix_lanes.specs.running.Phases.{is_phase, lane_among, lane_between, seat_at};
+ghost use Rattle.ix_lanes.specs.running.Phases.{lane_among, lane_between, seat_at};
 
 use crate::asking::calls::bind;
 use crate::asking::handed::Handed;

@@ -1,8 +1,9 @@
-ghost use Rattle.std.specs.Prelude.{◌≡◌, ◌≤◌, ◌<◌, true, length, take, IfOk};
+ghost use Rattle.std.specs.Prelude.{◌≡◌, ◌≤◌, ◌<◌, true, length, take, IfOk, OnOk};
 ghost use Rattle.std.proofs.Common.{option_map};
 ghost use Rattle.ix_script.specs.lines.Before.{lanes_of};
+ghost use Rattle.ix_script.specs.scripts.Schedule.{stretch_lines};
 ghost use Rattle.ix_lanes.specs.asking.Asked.{no_names};
-ghost use Rattle.ix_lanes.specs.asking.Places.{standing};
+ghost use Rattle.ix_lanes.specs.asking.Places.{KeepsPlaces, standing};
 ghost use Rattle.ix_lanes.specs.asking.Ruled.{rules_told};
 ghost use Rattle.ix_lanes.specs.running.Fields.{all_placed};
 ghost use Rattle.ix_lanes.specs.running.Phases.{lane_among, seat_at};
@@ -18,23 +19,37 @@ use crate::running::part::Part;
 use ix_asking::{Asks, Copying, Step};
 use ix_model::{Buf, NoMemory, Reply};
 use ix_policy::Policy;
-use ix_script::{Line, Role, Script};
+use ix_script::laws::lanes_are_stretches;
+use ix_script::{Line, Role, Script, Stretch};
 use std::alloc::Global;
 use std::marker::Model;
 
-/// The places of all names that the lines of a lane give. Of the lines only those that may give names are made.
-pub fn places_of(alloc: Global, script: &Script, lane: u32) -> Result<Places, NoMemory>
+/// Finds the names that the lines of a stretch give their places. Of the lines only those that may give names are made.
+fn add_stretch(places: &mut Places, script: &Script, stretch: Stretch) -> Result<(), NoMemory>
+    ensures same { OnOk result (standing places.new ≡ standing places.old) }
+    ensures keeps { OnOk result (KeepsPlaces places.old places.new) }
+    ensures all { OnOk result (all_placed places.new (stretch_lines script.now stretch) ≡ true) }
+{
+    for index in stretch.first..stretch.end.min(script.len()) {
+        if matches!(role_at(script, index), Role::Naming | Role::Server) {
+            places.add(&line_at(script, index))?;
+        }
+    }
+    Ok(())
+}
+
+/// The places of all names that the lines of a lane give. No line of another lane is looked at.
+pub(crate) fn places_of(alloc: Global, script: &Script, lane: u32) -> Result<Places, NoMemory>
     ensures none { IfOk result (λ places. standing places ≡ no_names) }
     ensures all { IfOk result (λ places. all_placed places (lane_among script.now lane script.now) ≡ true) }
 {
+    lanes_are_stretches();
     let mut places = Places::new(alloc);
-    let mut seat = None;
-    for index in 0..script.len() {
-        let role = role_at(script, index);
-        if seat == Some(lane) && matches!(role, Role::Naming | Role::Server) {
-            places.add(&line_at(script, index))?;
-        }
-        seat = seat_past(script, seat, index, role);
+    for n in 0..script.len() {
+        let Some(stretch) = script.stretch(lane, n) else {
+            return Ok(places);
+        };
+        add_stretch(&mut places, script, stretch)?;
     }
     Ok(places)
 }
@@ -64,7 +79,7 @@ impl<'a> Model for LaneCalls<'a> {
     ghost use Rattle.ix_label.specs.contracts.label.Label as label_type;
     ghost use Rattle.ix_lanes.specs.asking.Asked.{names_code};
     ghost use Rattle.std.proofs.Common.{option_map};
-    ghost use Rattle.ix_lanes.specs.asking.Places.{standing};
+    ghost use Rattle.ix_lanes.specs.asking.Places.{KeepsPlaces, standing};
     ghost use Rattle.ix_lanes.specs.running.Fields.{AreFields};
     ghost use Rattle.ix_lanes.specs.running.Left.{IsHere, LaneLeft};
 

@@ -43,7 +43,7 @@ impl<'a> LaneRun<'a> {
     ghost use Rattle.std.proofs.Common.{option_map};
     ghost use Rattle.ix_lanes.specs.asking.Asked.{no_names};
     ghost use Rattle.ix_lanes.specs.asking.Ruled.{rules_told};
-    ghost use Rattle.ix_lanes.specs.running.Phases.{phases};
+    ghost use Rattle.ix_script.specs.scripts.Schedule.{phases};
     ghost use Rattle.ix_lanes.specs.running.Runs.{CutOff, StandsFor};
 
     /// A run of the lane of a number, which has done no phase, by the script's policy, if it has one. It takes all the memory that the

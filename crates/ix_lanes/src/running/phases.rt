@@ -1,6 +1,8 @@
 ghost use Rattle.std.specs.Prelude.{◌≡◌, ◌<◌, suc, length};
 ghost use Rattle.ix_lanes.specs.histories.Indexed.{line_in};
-ghost use Rattle.ix_lanes.specs.running.Phases.{is_phase, lines_before, phases};
+ghost use Rattle.ix_script.specs.scripts.Schedule.{phases};
+ghost use Rattle.ix_script.specs.lines.Before.{is_phase};
+ghost use Rattle.ix_lanes.specs.running.Phases.{lines_before};
 
 use crate::lines::role_at;
 use ix_script::{Role, Script};

@@ -9,9 +9,9 @@ use Rattle.ix_asking.specs.Lines.{calls_then, no_calls}
 use Rattle.ix_asking.proofs.Every.{AllOf, all-followed, all-weaker}
 use Rattle.ix_lanes.specs.declared.asking.handed.Handed.{Handed}
 use Rattle.ix_lanes.specs.asking.Asked.{Names, Numbers, named}
-use Rattle.ix_lanes.specs.asking.LineAsks.{Numbered, OfLine, line_asks, lines_ask}
-use Rattle.ix_lanes.specs.histories.Serial.{seat_after}
-use Rattle.ix_lanes.specs.histories.Lanes.{entries_of, is_seat, lines_of_seat}
+use Rattle.ix_script.specs.scripts.Schedule.{Numbered, seat_after, is_seat}
+use Rattle.ix_lanes.specs.asking.LineAsks.{OfLine, line_asks, lines_ask}
+use Rattle.ix_lanes.specs.histories.Lanes.{entries_of, lines_of_seat}
 use Rattle.ix_lanes.proofs.serially.LaneSteps.{calls_from, entries-mine, entries-other}
 use Rattle.ix_lanes.proofs.serially.LineCalls.{all-numbered}
 

@@ -9,7 +9,7 @@ use Rattle.ix_model.specs.history.Events.{Event}
 use Rattle.ix_model.specs.declared.reply.Answer.{Answer}
 use Rattle.ix_script.specs.lines.Before.{lanes_of}
 use Rattle.ix_script.specs.declared.line.Line.{Line}
-use Rattle.ix_lanes.specs.running.Phases.{phases}
+use Rattle.ix_script.specs.scripts.Schedule.{phases}
 use Rattle.ix_lanes.specs.running.SideBySide.{AllRun, EachRuns, IsReady, first_stop}
 use Rattle.ix_parallel.specs.Meeting.{FirstSeeAll, LearnAll, Learns, SameKernel}
 use Rattle.ix_parallel.specs.Seats.{AreStopped, AtPhase, Runs, Seated, Stands}

@@ -11,9 +11,10 @@ use Rattle.ix_script.specs.declared.line.Line.{Line}
 use Rattle.ix_asking.specs.Asking.{Asking, followed}
 use Rattle.ix_asking.specs.Lines.{Calls, calls_then, no_calls}
 use Rattle.ix_lanes.specs.asking.Asked.{Names, no_names}
-use Rattle.ix_lanes.specs.asking.LineAsks.{Numbered, lines_ask}
+use Rattle.ix_script.specs.scripts.Schedule.{Numbered, seat_after}
+use Rattle.ix_lanes.specs.asking.LineAsks.{lines_ask}
 use Rattle.ix_lanes.specs.asking.Ruled.{rules_told}
-use Rattle.ix_lanes.specs.histories.Serial.{header_of, seat_after}
+use Rattle.ix_lanes.specs.histories.Serial.{header_of}
 use Rattle.ix_lanes.specs.histories.Lanes.{entries_of, lines_of_seat, replies_of}
 use Rattle.ix_lanes.specs.running.Phases.{asks_before, calls_before, lane_among, lane_before, lines_before}
 use Rattle.ix_lanes.specs.histories.History.{phase_of, phases_never_fall}

@@ -6,7 +6,8 @@ use Rattle.std.proofs.lemmas.Bool.{and_parts, and_from, le-leb, leb-true}
 use Rattle.ix_model.specs.history.Events.{Event}
 use Rattle.ix_script.specs.declared.line.Line.{Line}
 use Rattle.ix_lanes.specs.histories.Lanes.{never_falls}
-use Rattle.ix_lanes.specs.running.Phases.{is_phase, lines_before, lines_to}
+use Rattle.ix_script.specs.lines.Before.{is_phase}
+use Rattle.ix_lanes.specs.running.Phases.{lines_before, lines_to}
 use Rattle.ix_lanes.specs.histories.History.{phase_of, phases_never_fall}
 use Rattle.ix_lanes.proofs.phased.PhaseLines.{before-taken, to-none, to-other, to-phase, to-stop}
 

@@ -6,7 +6,7 @@ use Rattle.ix_script.specs.lines.Before.{lanes_of}
 use Rattle.ix_script.specs.declared.line.Line.{Line}
 use Rattle.ix_lanes.specs.histories.Serial.{serial}
 use Rattle.ix_lanes.specs.histories.Lanes.{replies_of}
-use Rattle.ix_lanes.specs.running.Phases.{phases}
+use Rattle.ix_script.specs.scripts.Schedule.{phases}
 use Rattle.ix_lanes.specs.histories.History.{IsHistory}
 use Rattle.ix_parallel.specs.Stages.{Stages}
 use Rattle.ix_lanes.proofs.serially.AllPhases.{all_phases}

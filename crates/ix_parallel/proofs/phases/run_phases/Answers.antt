@@ -1,5 +1,5 @@
 use Rattle.std.proofs.Common.{◌≡◌, ◌+◌, suc, sym, ◌∙◌, subst, arith}
-use Rattle.ix_lanes.specs.running.Phases.{phases}
+use Rattle.ix_script.specs.scripts.Schedule.{phases}
 use Rattle.ix_parallel.specs.Seats.{AtPhase}
 use Rattle.ix_parallel.proofs.together.OnePhase.{goes_on, stops_for_all}
 use Rattle.ix_parallel.proofs.phases.run_phases.Goals as goal

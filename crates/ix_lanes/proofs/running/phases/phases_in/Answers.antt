@@ -1,7 +1,7 @@
 use Rattle.std.proofs.Common.{◌+◌, ◌<◌, length, ap, sym, ◌∙◌, arith}
 use Rattle.std.proofs.lemmas.List.Sums.{count_by_more_no, count_by_more_yes}
 use Rattle.ix_script.specs.declared.line.Line.TheVariants as line
-use Rattle.ix_lanes.specs.running.Phases.{is_phase}
+use Rattle.ix_script.specs.lines.Before.{is_phase}
 use Rattle.ix_lanes.proofs.running.phases.phases_in.Goals.{then-is_phase_at, else-is_phase_at}
 use Rattle.ix_lanes.proofs.running.phases.phases_in.Goals as goal
 

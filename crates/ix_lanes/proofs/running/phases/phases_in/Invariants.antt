@@ -1,5 +1,5 @@
 use Rattle.std.proofs.Common.{◌≡◌, ◌≤◌, take, count_by}
-use Rattle.ix_lanes.specs.running.Phases.{is_phase}
+use Rattle.ix_script.specs.lines.Before.{is_phase}
 use Rattle.ix_lanes.proofs.running.phases.phases_in.Given as goal
 
 abbrev pub invariant-loop-index : goal.invariant-loop-index

@@ -1,5 +1,5 @@
 use Rattle.std.proofs.Common.{◌≡◌, ◌+◌, ℕ, false, List, take, Some, cond, count_by, option_map, sym, ap, ◌∙◌, true≢false, arith}
-use Rattle.ix_script.specs.lines.Before.{lanes_of}
+use Rattle.ix_script.specs.lines.Before.{lanes_of, is_phase}
 use Rattle.ix_script.specs.declared.line.Line.{Line}
 use Rattle.ix_asking.specs.Asking as asking
 use Rattle.ix_lanes.specs.asking.LineAsks.{line_asks, lines_ask}
@@ -8,10 +8,10 @@ use Rattle.ix_lanes.specs.asking.Ruled.{rules_told}
 use Rattle.ix_lanes.specs.declared.asking.handed.Handed.TheVariants as handed
 use Rattle.ix_lanes.specs.declared.running.here.Here.{Here}
 use Rattle.ix_lanes.specs.histories.Indexed.{line_in}
-use Rattle.ix_lanes.specs.histories.Lanes.{is_seat}
-use Rattle.ix_lanes.specs.histories.Serial.{header_of, seat_after}
+use Rattle.ix_script.specs.scripts.Schedule.{is_seat, seat_after}
+use Rattle.ix_lanes.specs.histories.Serial.{header_of}
 use Rattle.ix_lanes.specs.running.Left.{is_over, part_left}
-use Rattle.ix_lanes.specs.running.Phases.{is_phase, lane_among, lane_between, seat_at}
+use Rattle.ix_lanes.specs.running.Phases.{lane_among, lane_between, seat_at}
 use Rattle.ix_lanes.proofs.found.Roles.{line-there}
 use Rattle.ix_lanes.proofs.found.SeatSearch.{same-seat}
 use Rattle.ix_lanes.proofs.phased.LaneLines.{seat_one_more}

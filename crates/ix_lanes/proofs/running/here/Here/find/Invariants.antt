@@ -3,7 +3,8 @@ use Rattle.ix_lanes.specs.asking.LineAsks.{lines_ask}
 use Rattle.ix_lanes.specs.asking.Places.{KeepsPlaces, standing}
 use Rattle.ix_lanes.specs.asking.Ruled.{rules_told}
 use Rattle.ix_lanes.specs.histories.Serial.{header_of}
-use Rattle.ix_lanes.specs.running.Phases.{is_phase, lane_between, seat_at}
+use Rattle.ix_script.specs.lines.Before.{is_phase}
+use Rattle.ix_lanes.specs.running.Phases.{lane_between, seat_at}
 use Rattle.ix_lanes.proofs.running.here.Here.find.Given as goal
 
 abbrev pub invariant-lines : goal.invariant-lines

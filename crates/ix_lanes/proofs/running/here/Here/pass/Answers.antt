@@ -2,7 +2,7 @@ use Rattle.std.proofs.Common.{◌≡◌, ◌+◌, cond, sym, ap, ◌∙◌, arit
 use Rattle.ix_script.specs.declared.line.Line.{Line}
 use Rattle.ix_lanes.specs.declared.running.here.Here.{Here}
 use Rattle.ix_lanes.specs.histories.Indexed.{line_in}
-use Rattle.ix_lanes.specs.running.Phases.{is_phase}
+use Rattle.ix_script.specs.lines.Before.{is_phase}
 use Rattle.ix_lanes.proofs.found.Roles.{no-phase, phase-role}
 use Rattle.ix_lanes.proofs.running.here.Here.pass.Goals.{in-Phase, in_default, then-matches, else-matches}
 use Rattle.ix_lanes.proofs.running.here.Here.pass.Goals as goal

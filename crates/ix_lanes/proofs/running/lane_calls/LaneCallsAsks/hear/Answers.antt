@@ -3,7 +3,7 @@ use Rattle.ix_asking.specs.Asking.{IsDue, first, heard}
 use Rattle.ix_script.specs.declared.line.Line.{Line}
 use Rattle.ix_lanes.specs.asking.Places.{standing}
 use Rattle.ix_lanes.specs.histories.Indexed.{line_in}
-use Rattle.ix_lanes.specs.histories.Lanes.{is_seat}
+use Rattle.ix_script.specs.scripts.Schedule.{is_seat}
 use Rattle.ix_lanes.specs.histories.Serial.{header_of}
 use Rattle.ix_lanes.specs.running.Left.{IsHeard, LaneLeft, asks_left}
 use Rattle.ix_lanes.proofs.found.Roles.{line-there}

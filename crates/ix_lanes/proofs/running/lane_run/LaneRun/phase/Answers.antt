@@ -9,7 +9,8 @@ use Rattle.ix_lanes.specs.asking.LineAsks.{lines_ask}
 use Rattle.ix_lanes.specs.asking.Ruled.{rules_told}
 use Rattle.ix_lanes.specs.histories.Serial.{header_of}
 use Rattle.ix_lanes.specs.running.Left.{LanePlace, asks_left, is_done, names_done}
-use Rattle.ix_lanes.specs.running.Phases.{lane_between, lines_before, phases}
+use Rattle.ix_script.specs.scripts.Schedule.{phases}
+use Rattle.ix_lanes.specs.running.Phases.{lane_between, lines_before}
 use Rattle.ix_lanes.specs.running.Runs.{CutOff, Ran, StandsFor}
 use Rattle.ix_lanes.proofs.phased.Lefts.{came_done, stops_due}
 use Rattle.ix_lanes.proofs.phased.PhaseLines.{before-few, before-grows, phases-few}

@@ -9,7 +9,8 @@ use Rattle.ix_lanes.specs.declared.asking.handed.Handed.TheVariants as handed
 use Rattle.ix_lanes.specs.declared.asking.places.Places.{Places}
 use Rattle.ix_lanes.specs.declared.running.serial_calls.Place.{Place}
 use Rattle.ix_lanes.specs.histories.Indexed.{line_in}
-use Rattle.ix_lanes.specs.histories.Serial.{seat_after, serial_from}
+use Rattle.ix_script.specs.scripts.Schedule.{seat_after}
+use Rattle.ix_lanes.specs.histories.Serial.{serial_from}
 use Rattle.ix_lanes.specs.running.Left.{is_over, part_left}
 use Rattle.ix_lanes.specs.running.Phases.{seat_at}
 use Rattle.ix_lanes.specs.running.Serially.{ArePlaced}
