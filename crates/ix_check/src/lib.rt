@@ -13,4 +13,5 @@ mod verdict;
 
 pub use input::parts;
 pub use judge::Judge;
+pub use lines::first_line;
 pub use verdict::{Verdict, push_verdict};

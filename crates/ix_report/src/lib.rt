@@ -11,5 +11,7 @@ mod report;
 mod totals;
 mod words;
 
+pub use line::Line;
+pub use pieces::{push_escaped, push_number, push_privs};
 pub use report::{audit_line, entry_line, head, object_line, process_line, tail};
 pub use totals::{Totals, totals_line};

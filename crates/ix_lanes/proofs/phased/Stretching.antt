@@ -82,8 +82,12 @@ one_at_most lanes seat begun i _ later = omega arith
 few_from : (lanes : List (List ℕ)) (seat begun i : ℕ) (ls : List Line) → length (stretches_from lanes seat begun i ls) ≤ length ls
 few_from lanes seat begun i [] = omega arith
 few_from lanes seat begun i (l ∷ later) =
-    omega (arith, one_at_most lanes seat begun (i + 1) l later, few_from lanes seat (begun_after begun l) (i + 1) later,
-    length-append (stretch_by lanes seat begun (i + 1) l later) (stretches_from lanes seat (begun_after begun l) (i + 1) later))
+    omega (
+      arith,
+      one_at_most lanes seat begun (i + 1) l later,
+      few_from lanes seat (begun_after begun l) (i + 1) later,
+      length-append (stretch_by lanes seat begun (i + 1) l later) (stretches_from lanes seat (begun_after begun l) (i + 1) later),
+    )
 
 pub few_stretches : (s : List Line) (seat : ℕ) → length (stretches_of s seat) ≤ length s
 unfolding stretches_of
