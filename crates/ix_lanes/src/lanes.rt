@@ -77,16 +77,3 @@ pub fn seat_past(script: &Script, seat: Option<u32>, index: u32, role: Role) -> 
         _ => seat,
     }
 }
-
-/// How many lanes a script has, where it has at most 64.
-pub fn lanes_in(script: &Script) -> u32
-    requires { length (lanes_of script.now) ≤ 64 }
-    ensures { result ≡ length (lanes_of script.now) }
-{
-    for seat in 0..64 {
-        if script.lane(seat).is_none() {
-            return seat;
-        }
-    }
-    64
-}

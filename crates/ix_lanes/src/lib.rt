@@ -7,10 +7,9 @@ pub mod laws;
 mod lines;
 mod running;
 
-pub use lanes::{lanes_in, seat_past};
+pub use lanes::seat_past;
 pub use lines::{line_at, role_at};
 pub use running::lane_calls::LaneCalls;
 pub use running::lane_run::LaneRun;
-pub use running::phases::phases_in;
 pub use running::serial_calls::SerialCalls;
 pub use running::side_by_side::{Lane, run_phase};

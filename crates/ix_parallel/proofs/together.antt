@@ -8,7 +8,6 @@ pub mod Seen
 pub mod OneLane
 pub mod OnePhase
 pub mod Meeting
-pub mod FewLanes
 pub mod Joining
 pub mod Seating
 pub mod Ending

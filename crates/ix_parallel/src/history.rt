@@ -15,7 +15,7 @@ use crate::phases::run_phases;
 use crate::watch::{Watch, Watched};
 use ix_core::Core;
 use ix_kernel::{KSeat, Kernel};
-use ix_lanes::{Lane, LaneRun, lanes_in};
+use ix_lanes::{Lane, LaneRun};
 use ix_model::{Answer, NoMemory};
 use ix_policy::Policy;
 use ix_script::Script;
@@ -120,7 +120,7 @@ fn close(script: &Script, kernel: Kernel, seat: KSeat, stop: Option<Answer>) -> 
 /// where threads can be started, and the next phase once all of them have ended. The core that is left has the history that came about.
 ///
 /// Each lane tells the watch of each of its calls before it makes it, and holds no turn then. `NoMemory`: there is no memory for the core,
-/// the kernel or the runs of the lanes, and no core is handed back. A script that was read has at most 64 lanes.
+/// the kernel or the runs of the lanes, and no core is handed back.
 pub fn run_history<W: Watch, R: Threads + Wait + Sync>(
     rt: &R,
     alloc: Global,
@@ -128,13 +128,12 @@ pub fn run_history<W: Watch, R: Threads + Wait + Sync>(
     policy: Option<&Policy>,
     watch: &W,
 ) -> Result<Core, NoMemory>
-    requires few { length (lanes_of script.now) ≤ 64 }
     requires policy { option_map (λ p. p.now) policy ≡ rules_told script.now }
     ensures config { IfOk result (λ core. core.config ≡ config_of script.now) }
     ensures history { IfOk result (λ core. IsHistory script.now core.events) }
 {
     let core = Core::boot(alloc, script.config(alloc)?)?;
-    let count = lanes_in(script);
+    let count = script.lanes();
     if count == 0 {
         return Ok(core);
     }

@@ -6,7 +6,7 @@ ghost use Rattle.ix_parallel.specs.Seats.{AtPhase, Runs};
 
 use crate::meeting::meet_all;
 use crate::watch::{Watch, Watched};
-use ix_lanes::{Lane, phases_in, run_phase};
+use ix_lanes::{Lane, run_phase};
 use ix_model::Answer;
 use ix_script::Script;
 use std::sync::Wait;
@@ -38,7 +38,7 @@ pub fn run_phases<'a, W: Watch, R: Threads + Wait + Sync>(
     requires { (kernel : GateState) × AtPhase script.now kernel 0 lanes.old }
     ensures { (kernel : GateState) → AtPhase script.now kernel 0 lanes.old → Runs script.now kernel (phases script.now) lanes.new result }
 {
-    for phase in 0..phases_in(script) {
+    for phase in 0..script.phases() {
         let stop = run_one(rt, script, lanes, phase);
         if stop.is_some() {
             return stop;

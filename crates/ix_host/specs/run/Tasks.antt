@@ -22,9 +22,8 @@ abbrev pub text_told : Telling → List Line → List Event → List ℕ
 text_told telling.Report s history = report_of s history
 text_told (telling.Summary n) s history = summary_line n s history
 
--- The lanes of a script can be run: there are at most 64, and they have names. Each script that was read is such a one.
+-- The lanes of a script can be run: they have names. Each script that was read is such a one.
 pub record IsRunnable (s : List Line) : Type 0 where
-  pub few : length (lanes_of s) ≤ 64
   pub named : LanesNamed s
 
 -- this holds where lanes are to be run

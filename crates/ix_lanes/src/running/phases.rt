@@ -1,6 +1,5 @@
 ghost use Rattle.std.specs.Prelude.{◌≡◌, ◌<◌, suc, length};
 ghost use Rattle.ix_lanes.specs.histories.Indexed.{line_in};
-ghost use Rattle.ix_script.specs.scripts.Schedule.{phases};
 ghost use Rattle.ix_script.specs.lines.Before.{is_phase};
 ghost use Rattle.ix_lanes.specs.running.Phases.{lines_before};
 
@@ -13,20 +12,6 @@ fn is_phase_at(script: &Script, index: u32) -> bool
     ensures { result ≡ is_phase (line_in script.now index) }
 {
     matches!(role_at(script, index), Role::Phase)
-}
-
-/// How many phases a script has: one at least.
-#[tactic(auto, unfolding(crate::specs::running::Phases::phases))]
-pub fn phases_in(script: &Script) -> u32
-    ensures { result ≡ phases script.now }
-{
-    let mut count = 0;
-    for index in 0..script.len() {
-        if is_phase_at(script, index) {
-            count += 1;
-        }
-    }
-    count.max(1)
 }
 
 /// The index of the first line after a phase whose lines begin at an index.

@@ -3,14 +3,12 @@ use Rattle.ix_script.specs.lines.Faults.{fault_of}
 use Rattle.ix_script.specs.scripts.Scripts.{script_of}
 use Rattle.ix_host.specs.run.Inputs.{report_bytes, script_bytes, script_in}
 use Rattle.ix_host.specs.run.Outcome.{outcome_for, outcome_in}
-use Rattle.ix_parallel.proofs.together.FewLanes.{few_lanes}
 use Rattle.ix_host.proofs.comes_to.Outcomes.{in_script, outcome_fault, outcome_script}
 use Rattle.ix_host.proofs.comes_to.Preparing.{ends_as, leads_as}
 use Rattle.ix_host.proofs.preparing.input_task.Goals as goal
 
 pub script_task-requires : goal.script_task-requires
 script_task-requires g c = record {
-  few = few_lanes c.parts_for.result.0.now c.in-Ok.script c.in-Ok.ensures.script;
   named = c.texts_are_judged.ensures.names c.parts_for.result.0.now c.in-Ok.script c.in-Ok.ensures.script;
 }
 

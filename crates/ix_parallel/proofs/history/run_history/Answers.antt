@@ -6,4 +6,4 @@ use Rattle.ix_parallel.proofs.history.run_history.Goals as goal
 
 pub returns-then-count-eq0-clause-history : goal.returns-then-count-eq0-clause-history
 returns-then-count-eq0-clause-history g c =
-    subst (IsHistory c.args.script.now) (sym (ap (λ (h : History). h.events) c.in_ok-core.ensures)) (empty_history c.args.script.now (sym c.lanes_in-count.ensures ∙ c.if-count-eq0.true))
+    subst (IsHistory c.args.script.now) (sym (ap (λ (h : History). h.events) c.in_ok-core.ensures)) (empty_history c.args.script.now (sym c.lanes-count.ensures.lanes ∙ c.if-count-eq0.true))
