@@ -94,6 +94,17 @@ module _ (n m : ℕ) (old new : List Seated) (meets : Meets LearnsOf n m old new
         | inr other_one ↦ h k j k_low lane seen was (sym (meets.others j other_one) ∙ there)
       ]
 
+  -- one that meets another which has seen what any has
+  pub meeting_sees_all : FirstSeeAll n old → m < n → SeesFirst n (length new) new
+  meeting_sees_all h m_low k k_low = λ lane seen here there. elim (cases_eq k n) [
+    | inl same ↦
+        let is : lane ≡ seen = let b = subst (λ j. slice_get new j ≡ Some seen) same there in cc in
+        subst (λ (x : Seated). IsPrefix x.sys.seat.seen lane.sys.seat.seen) is (begins_itself lane.sys.seat.seen)
+    | inr apart ↦
+        let was : slice_get old k ≡ Some seen = sym (meets.others k apart) ∙ there in
+        begins_further seen.sys.seat.seen other.0.sys.seat.seen lane.sys.seat.seen (h m k m_low other.0 seen other.1 was) (met_is lane here).1
+  ]
+
 -- a lane has seen what itself has
 pub sees_itself : (n m : ℕ) (lanes : List Seated) → m ≡ n → SeesFirst n m lanes → SeesFirst n (m + 1) lanes
 sees_itself n m lanes same h k k_low = λ lane seen here there. elim (cases_eq k n) [
