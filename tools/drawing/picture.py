@@ -131,6 +131,8 @@ class Picture:
             seen.update(column.label_before(event.entry.place) for column in event.columns())
             seen.update(new for _, _, new in event.changes)
             seen.update(column.labels[0][1] for column in event.made)
+            for _, old, new in notes.falls(event):
+                seen.update(notes.crossed(self.key, old, new))
         return [label for label in sorted(self.key.order, key=self.key.order.get) if label in seen]
 
     def items(self, y, items):
