@@ -3,7 +3,7 @@
 # The seven of Okabe and Ito that stand out from white and from dark marks; the bottom label has a grey of its own.
 COLOURS = ["#E69F00", "#56B4E9", "#009E73", "#F0E442", "#CC79A7", "#0072B2", "#D55E00"]
 BOTTOM = "#D9D9D9"
-HATCHES = ["", "M0 8L8 0", "M0 0L8 8", "M0 4H8", "M4 0V8", "M0 0L8 8M0 8L8 0", "M0 4H8M4 0V8"]
+HATCHES = ["", "m0 8L8 0", "m0 0L8 8", "m0 4H8", "m4 0V8", "m0 0L8 8m0 -8L0 8", "m0 4H8m-4 -4V8"]
 
 
 def parse(text, greatest):

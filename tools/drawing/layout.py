@@ -90,5 +90,5 @@ class Layout:
         """The middle of an entry's row, or the edge of the picture on the side on which it lies."""
         if place in self.row_of:
             return self.row_of[place].middle
-        first = min(self.row_of, default=0)
+        first = next(iter(self.row_of), 0)
         return self.plot_top if place < first else self.bottom

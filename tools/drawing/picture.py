@@ -31,22 +31,22 @@ class Picture:
 
     def sort_flows(self, flows, readers):
         """Each line about a read that is shown is drawn, where its reader was asked for, or else told in the title of the read."""
-        self.drawn, self.told = [], {}
+        self.drawn, self.told = {}, {}
+        shown = {event.entry.place for event in self.events}
         for flow in flows:
-            event = self.by_place[flow.place]
-            if event not in self.events:
+            if flow.place not in shown:
                 continue
-            if readers == "all" or readers == event.actor.ident():
-                self.drawn.append(flow)
+            if readers in ("all", self.by_place[flow.place].actor.ident()):
+                self.drawn.setdefault(flow.place, []).append(flow)
             else:
                 self.told.setdefault(flow.place, []).append(flow.text)
 
     def shown(self):
         """The columns that are touched, in the order in which they are."""
-        columns = []
+        columns = {}
         for event in self.events:
-            columns += [column for column in event.columns() if column not in columns]
-        return columns
+            columns.update(dict.fromkeys(event.columns()))
+        return list(columns)
 
     # The whole.
 
@@ -57,8 +57,9 @@ class Picture:
         self.layout.place(self.header(), self.events, lambda event: notes.lines(event, self.key), self.tagged, self.band)
         self.guides()
         self.bars()
-        for flow in self.drawn:
-            self.flow(flow)
+        for alike in self.drawn.values():
+            for index, flow in enumerate(alike):
+                self.flow(flow, 4 * (index - (len(alike) - 1) / 2))
         for event in self.events:
             self.out.append(self.entry(event))
         self.heads()
@@ -131,6 +132,8 @@ class Picture:
             seen.update(column.label_before(event.entry.place) for column in event.columns())
             seen.update(new for _, _, new in event.changes)
             seen.update(column.labels[0][1] for column in event.made)
+            for _, old, new in notes.falls(event):
+                seen.update(notes.crossed(self.key, old, new))
         return [label for label in sorted(self.key.order, key=self.key.order.get) if label in seen]
 
     def items(self, y, items):
@@ -174,7 +177,7 @@ class Picture:
             yield 10, lambda x, y: self.logged(x + 1, y), "another line in the audit log", None
         if self.drawn:
             yield 26, lambda x, y: self.curve([(x, y - 3), (x + 26, y + 3)], "flow", flat=True), "whose bytes were learnt", None
-        if any(flow.via for flow in self.drawn):
+        if any(flow.via for alike in self.drawn.values() for flow in alike):
             yield 26, lambda x, y: svg.line(x, y, x + 26, y, "flow let"), "the same, by a release", None
 
     # Columns.
@@ -324,11 +327,11 @@ class Picture:
 
     # Flows.
 
-    def flow(self, flow):
+    def flow(self, flow, aside):
+        """An arrow, which ends so far aside of the middle of its reader's entry, or a little less."""
         event = self.by_place[flow.place]
         x, y = self.layout.at[event.actor], self.layout.y_of(flow.place) - 8
-        alike = [other for other in self.drawn if other.place == flow.place]
-        x += max(-7, min(7, 4 * (alike.index(flow) - (len(alike) - 1) / 2)))
+        x += max(-7, min(7, aside))
         stops = [self.source(flow, event)]
         if flow.via is not None and flow.via in self.layout.row_of:
             stops.append((self.layout.at[event.things[0]], self.layout.y_of(flow.via) + 8))

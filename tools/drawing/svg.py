@@ -38,11 +38,11 @@ def words(x, y, text, class_, anchor=None):
 
 
 def line(x1, y1, x2, y2, class_):
-    return tag("path", d=f"M{number(x1)} {number(y1)}L{number(x2)} {number(y2)}", class_=class_)
+    return tag("path", d=f"m{number(x1)} {number(y1)}L{number(x2)} {number(y2)}", class_=class_)
 
 
 def move(x, y):
-    return f"M{number(x)} {number(y)}"
+    return f"m{number(x)} {number(y)}"
 
 
 def bend(*numbers):
@@ -58,7 +58,7 @@ def arrow(x1, x2, y, class_):
 
 
 def cross(x, y):
-    ends = f"M{number(x - 4.5)} {number(y - 4.5)}l9 9m0 -9l-9 9"
+    ends = f"m{number(x - 4.5)} {number(y - 4.5)}l9 9m0 -9l-9 9"
     return tag("path", d=ends, class_="cross-edge") + tag("path", d=ends, class_="cross")
 
 
@@ -100,10 +100,10 @@ def icon(kind, x, y):
     """What a column is: a head for a process, a page, a folder, a pipe. Its middle is at (x, y)."""
     at = lambda text: text.format(x=number(x), y=number(y))
     shapes = {
-        "process": "M{x} {y}m-7 8c0 -9 14 -9 14 0zm7 -15a4 4 0 1 1 -.1 0z",
-        "file": "M{x} {y}m-5.5 -8h7l4 4v12h-11zm7 0v4h4",
-        "dir": "M{x} {y}m-8 -6h6l2 3h8v9h-16z",
-        "pipe": "M{x} {y}m-8 -4h16v8h-16zm0 -2v12m16 -12v12",
+        "process": "m{x} {y}m-7 8c0 -9 14 -9 14 0zm7 -15a4 4 0 1 1 -.1 0z",
+        "file": "m{x} {y}m-5.5 -8h7l4 4v12h-11zm7 0v4h4",
+        "dir": "m{x} {y}m-8 -6h6l2 3h8v9h-16z",
+        "pipe": "m{x} {y}m-8 -4h16v8h-16zm0 -2v12m16 -12v12",
     }
     return tag("path", d=at(shapes[kind]), class_="icon-process" if kind == "process" else "icon")
 
