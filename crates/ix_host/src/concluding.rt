@@ -1,5 +1,5 @@
 //! What is told of the history to which the lanes of a script came.
-ghost use Rattle.std.specs.Prelude.{◌≡◌, ◌≤◌};
+ghost use Rattle.std.specs.Prelude.{◌≡◌, ◌≤◌, List};
 ghost use Rattle.ix_model.specs.history.Cost.{cost_of_history};
 ghost use Rattle.std.proofs.Common.{option_map};
 ghost use Rattle.ix_lanes.specs.asking.Ruled.{rules_told};
@@ -7,6 +7,8 @@ ghost use Rattle.ix_lanes.specs.histories.Serial.{serial};
 ghost use Rattle.ix_script.specs.scripts.Need.{need};
 ghost use Rattle.ix_script.specs.scripts.Scripts.{config_of};
 ghost use Rattle.ix_replay.specs.Summary.{summary_line};
+ghost use Rattle.ix_replay.specs.Tallying.{HasSeen};
+ghost use Rattle.ix_script.specs.declared.line.Line.{Line};
 ghost use Rattle.ix_host.specs.run.Outcome as outcome;
 ghost use Rattle.ix_host.specs.run.Run.{Ends};
 ghost use Rattle.ix_host.specs.run.Tasks.{text_told};
@@ -15,35 +17,28 @@ use crate::status::Status;
 use crate::streams::sending::tell;
 use crate::streams::teller::{report, report_serial};
 use crate::task::Telling;
-use ix_core::{Core, Nobody};
+use ix_core::Core;
 use ix_io::Sink;
 use ix_model::NoMemory;
 use ix_policy::Policy;
-use ix_replay::summary;
+use ix_replay::{Tally, replay, summary};
 use ix_script::Script;
 use ix_serial::run_history;
 use std::alloc::Global;
 
-/// Writes the summary of a history of a made script with so many commands.
-fn sum_up<K: Sink>(
-    alloc: Global,
-    sink: &mut K,
-    count: u32,
-    script: &Script,
-    history: &Core,
-) -> Status
-    requires config { history.now.config ≡ config_of script.now }
-    requires fits { cost_of_history history.now.events ≤ need script.now }
-    ensures { Ends (outcome.Whole (summary_line count script.now history.now.events)) result (K.taken sink.old) (K.taken sink.new)
+/// Writes the summary of a history of a made script with so many commands, whose entries a tally has seen.
+fn sum_up<K: Sink>(alloc: Global, sink: &mut K, count: u32, tally: &Tally, history: &Core) -> Status
+    ensures { (s : List Line) → history.now.config ≡ config_of s → HasSeen history.now tally.now
+        → Ends (outcome.Whole (summary_line count s history.now.events)) result (K.taken sink.old) (K.taken sink.new)
         (K.finished sink.new) (K.faults sink.old) (K.faults sink.new) }
 {
-    match summary(alloc, count, script, history) {
+    match summary(alloc, count, tally, history) {
         Ok(text) => tell(sink, text.as_slice(), Status::Done),
         Err(NoMemory) => Status::NoMemory,
     }
 }
 
-/// Runs the lanes of a script one after the other on one core, before nobody, and writes the summary of that.
+/// Makes the serial run of a script on one core, before a tally, and writes the summary of that.
 fn sum_up_serial<K: Sink>(
     alloc: Global,
     sink: &mut K,
@@ -55,8 +50,29 @@ fn sum_up_serial<K: Sink>(
     ensures { Ends (outcome.Whole (summary_line count script.now (serial script.now))) result (K.taken sink.old) (K.taken sink.new)
         (K.finished sink.new) (K.faults sink.old) (K.faults sink.new) }
 {
-    match run_history(alloc, script, policy, &mut Nobody) {
-        Ok(history) => sum_up(alloc, sink, count, script, &history),
+    let mut tally = Tally::new();
+    match run_history(alloc, script, policy, &mut tally) {
+        Ok(history) => sum_up(alloc, sink, count, &tally, &history),
+        Err(NoMemory) => Status::NoMemory,
+    }
+}
+
+/// Has a history of a script made once more, before a tally, and writes the summary of that.
+fn sum_up_again<K: Sink>(
+    alloc: Global,
+    sink: &mut K,
+    count: u32,
+    script: &Script,
+    history: &Core,
+) -> Status
+    requires config { history.now.config ≡ config_of script.now }
+    requires fits { cost_of_history history.now.events ≤ need script.now }
+    ensures { Ends (outcome.Whole (summary_line count script.now history.now.events)) result (K.taken sink.old) (K.taken sink.new)
+        (K.finished sink.new) (K.faults sink.old) (K.faults sink.new) }
+{
+    let mut tally = Tally::new();
+    match replay(alloc, script, history, &mut tally) {
+        Ok(()) => sum_up(alloc, sink, count, &tally, history),
         Err(NoMemory) => Status::NoMemory,
     }
 }
@@ -94,6 +110,6 @@ pub fn conclude<K: Sink>(
 {
     match telling {
         Telling::Report => report(alloc, sink, script, history),
-        Telling::Summary(count) => sum_up(alloc, sink, count, script, history),
+        Telling::Summary(count) => sum_up_again(alloc, sink, count, script, history),
     }
 }

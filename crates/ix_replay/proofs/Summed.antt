@@ -1,16 +1,14 @@
--- The entries of a history are added up while they are made once more.
-use Rattle.std.proofs.Common.{◌≡◌, ℕ, suc, ◌+◌, ◌*◌, ◌≤◌, Bool, true, false, not, List, [], ◌∷◌, ◌++◌, length, drop, Option, Some, None, is_some, slice_get, refl, ap, ◌∙◌, subst, arith, add-one, if◌then◌else◌}
+-- What the entries of a history come to is added up while they are made.
+use Rattle.std.proofs.Common.{◌≡◌, ℕ, suc, ◌+◌, ◌*◌, ◌≤◌, Bool, true, false, not, List, [], ◌∷◌, ◌++◌, length, Option, Some, None, is_some, refl, ap, ◌∙◌, subst, sym, arith, if◌then◌else◌}
 use Rattle.std.specs.List.{sum_by}
 use Rattle.std.proofs.lemmas.Bool.Decides.{nat_tests}
-use Rattle.std.proofs.lemmas.List.{drop_all}
-use Rattle.std.proofs.lemmas.List.Sums.{count_by-le-length, sum_by-cons}
+use Rattle.std.proofs.lemmas.List.Sums.{count_by-le-length, sum_by-append, sum_by-cons}
 use Rattle.ix_model.specs.world.World.{World, Frame}
 use Rattle.ix_model.specs.world.Contents.{on_pipe}
 use Rattle.ix_model.specs.opening.Opening.{opening_world}
 use Rattle.ix_model.specs.rows.Table.{Decision, verdict}
 use Rattle.ix_model.specs.rows.Telling.{told, told_of_write, told_of_pipe_write, told_of_file_write}
 use Rattle.ix_model.specs.rows.Walks.{Behind, behind}
-use Rattle.ix_model.specs.history.Cost.{cost_of, cost_of_history}
 use Rattle.ix_model.specs.history.Events.{Op, Event}
 use Rattle.ix_model.specs.history.Events as op
 use Rattle.ix_model.specs.history.History.{History, world_of, with_entry, next}
@@ -23,17 +21,14 @@ use Rattle.ix_model.specs.declared.reply.Reply.{Reply}
 use Rattle.ix_model.specs.declared.reply.Reply.TheVariants as reply
 use Rattle.ix_model.proofs.clean.Cleaning.{WriteFacts, wrote}
 use Rattle.ix_model.proofs.clean.Showing.{shown_step}
-use Rattle.ix_model.proofs.words.Runs.{world_of-none, world_of-push}
 use Rattle.ix_script.specs.scripts.Scripts.{config_of}
 use Rattle.ix_script.specs.declared.line.Line.{Line}
 use Rattle.ix_report.specs.LineText.{totals_line}
 use Rattle.ix_report.specs.declared.totals.Totals.{Totals}
 use Rattle.ix_asking.specs.Runs.{count_in}
-use Rattle.ix_lanes.proofs.found.Indexed.{rest_is}
 use Rattle.ix_replay.specs.Summary.{is_refused, bytes_written, refused_in, read_in, written_in, totals_of, summary_line}
-use Rattle.ix_replay.specs.Tallying.{IsSmall, tally_of, with_reply}
+use Rattle.ix_replay.specs.Tallying.{HasSeen, IsSmall, tally_of, with_reply}
 use Rattle.ix_replay.specs.declared.tally.Tally.{Tally}
-use Rattle.ix_replay.proofs.Remade.{Remade, remade_next, remade_none, remade_room}
 
 -- ---- one entry comes to little
 few_shown : (r : Reply) (bytes : List ℕ) → AreShown r bytes → count_in r ≤ 4096
@@ -100,90 +95,44 @@ tally_small w place events few =
       written = omega (arith, few, sum_few (λ m. bytes_written m.event.op m.reply) few_written w place events);
     }
 
--- ---- what was added up, with what is left
-pub record AddsUp (t : Tally) (rest all : List Made) : Type 0 where
-  pub refused : t.refused + refused_in rest ≡ refused_in all
-  pub read : t.read + read_in rest ≡ read_in all
-  pub written : t.written + written_in rest ≡ written_in all
+-- ---- one entry more
+replied_more : (w : World) (place : ℕ) (events : List Event) (e : Event)
+    → replied w place (events ++ e ∷ []) ≡ replied w place events ++ made_of e (step_of (run w place events) (length events + place) e) ∷ []
+replied_more w place [] e = let z : place ≡ 0 + place = omega arith in ap (λ n. made_of e (step_of w n e) ∷ []) z
+replied_more w place (x ∷ events) e =
+    let later = step_of w place x in
+    let z : length events + suc place ≡ suc (length events) + place = omega arith in
+    ap (λ l. made_of x later ∷ l) (replied_more later.world (suc place) events e
+    ∙ ap (λ n. replied later.world (suc place) events ++ made_of e (step_of (run later.world (suc place) events) n e) ∷ []) z)
 
-adds_next : (t : Tally) (m : Made) (rest all : List Made) → AddsUp t (m ∷ rest) all → AddsUp (with_reply t m.event.op m.reply) rest all
+tally_more : (made : List Made) (m : Made) → with_reply (tally_of made) m.event.op m.reply ≡ tally_of (made ++ m ∷ [])
 unfolding refused_in read_in written_in
-adds_next t m rest all so = record {
-  refused = omega (arith, so.refused, sum_by-cons (λ (x : Made). if is_refused x.reply then 1 else 0) m rest);
-  read = omega (arith, so.read, sum_by-cons (λ (x : Made). count_in x.reply) m rest);
-  written = omega (arith, so.written, sum_by-cons (λ (x : Made). bytes_written x.event.op x.reply) m rest);
-}
-
-adds_all : (t : Tally) (all : List Made) → AddsUp t [] all → t ≡ tally_of all
-unfolding refused_in read_in written_in
-adds_all t all so =
-    let refused : t.refused ≡ refused_in all = omega (arith, so.refused) in
-    let read : t.read ≡ read_in all = omega (arith, so.read) in
-    let written : t.written ≡ written_in all = omega (arith, so.written) in
+tally_more made m =
+    let last : (f : Made → ℕ) → sum_by f made + f m ≡ sum_by f (made ++ m ∷ []) = λ f. omega (arith, sum_by-append f made (m ∷ []), sum_by-cons f m []) in
+    let refused = last (λ x. if is_refused x.reply then 1 else 0) in
+    let read = last (λ x. count_in x.reply) in
+    let written = last (λ x. bytes_written x.event.op x.reply) in
     λ i. record { refused = refused i; read = read i; written = written i }
 
-adds_none : (all : List Made) → AddsUp (record { refused = 0; read = 0; written = 0 }) all all
-adds_none all = record { refused = omega arith; read = omega arith; written = omega arith }
+-- before the first entry a tally has seen all
+pub seen_none : (k : Config) → HasSeen (record { config = k; events = [] }) (record { refused = 0; read = 0; written = 0 })
+unfolding refused_in read_in written_in
+seen_none k = refl
 
-small_next : (t : Tally) (m : Made) (rest all : List Made) → AddsUp t (m ∷ rest) all → IsSmall (tally_of all) → IsSmall (with_reply t m.event.op m.reply)
-small_next t m rest all so small =
-    let after : AddsUp (with_reply t m.event.op m.reply) rest all = adds_next t m rest all so in
-    record {
-      refused = omega (arith, after.refused, small.refused);
-      read = omega (arith, after.read, small.read);
-      written = omega (arith, after.written, small.written);
-    }
+module _ (before h : History) (t : Tally) (e : Event) (r : Reply) (made : h ≡ with_entry before e) (given : r ≡ (next before e).reply) (seen : HasSeen before t) where
+  -- and with one entry more
+  pub seen_next : HasSeen h (with_reply t e.op r)
+  unfolding world_of
+  seen_next =
+      let m : Made = made_of e (next before e) in
+      (λ i. with_reply (seen i) e.op (given i))
+      ∙ tally_more (replied (opening_world before.config) 1 before.events) m
+      ∙ ap tally_of (sym (replied_more (opening_world before.config) 1 before.events e))
+      ∙ ap (λ (x : History). tally_of (replied (opening_world x.config) 1 x.events)) (sym made)
 
--- ---- the entries that a core has made once more
--- all entries of a history, each with its reply
-abbrev made_in : History → List Made
-made_in h = replied (opening_world h.config) 1 h.events
-
--- those that a core hasn't made yet of a history
-abbrev made_later : History → ℕ → History → List Made
-made_later replay told history = replied (world_of replay) (told + 1) (drop told history.events)
-
--- a core has made so many entries of a history, and they were added up
-pub record SoFar (history replay : History) (told : ℕ) (t : Tally) : Type 0 where
-  pub made : Remade history replay told
-  pub sums : AddsUp t (made_later replay told history) (made_in history)
-
-pub so_far_none : (history : History) → cost_of_history history.events ≤ history.config.journal
-    → SoFar history (record { config = history.config; events = [] }) 0 (record { refused = 0; read = 0; written = 0 })
-so_far_none history fits = record {
-  made = remade_none history fits;
-  sums = rw (world_of-none history.config) (adds_none (made_in history));
-}
-
-module _ (history replay : History) (told : ℕ) (t : Tally) (e : Event) (so : SoFar history replay told t) (is : slice_get history.events told ≡ Some e) where
-  later : made_later replay told history ≡ made_of e (next replay e) ∷ replied (next replay e).world (told + 1 + 1) (drop (told + 1) history.events)
-  later = rw (rest_is history.events told e is, so.made.count, add-one (told + 1)) refl
-
-  -- there is room for the next one
-  pub so_far_room : cost_of_history replay.events + cost_of e.op ≤ replay.config.journal
-  so_far_room = remade_room history replay told e so.made is
-
-  -- and the tally has room for it
-  pub so_far_small : (r : Reply) → r ≡ (next replay e).reply → length history.events ≤ 6800000 → IsSmall (with_reply t e.op r)
-  so_far_small r given few =
-      let P : List Made → Type 0 = λ l. AddsUp t l (made_in history) in
-      rw given (small_next t (made_of e (next replay e)) _ (made_in history) (subst P later so.sums) (tally_small (opening_world history.config) 1 history.events few))
-
-  one_more : SoFar history (with_entry replay e) (told + 1) (with_reply t e.op (next replay e).reply)
-  one_more =
-      let P : List Made → Type 0 = λ l. AddsUp t l (made_in history) in
-      record {
-        made = remade_next history replay told e so.made is;
-        sums = rw (world_of-push replay e) (adds_next t (made_of e (next replay e)) _ (made_in history) (subst P later so.sums));
-      }
-
-  pub so_far_next : (r : Reply) (after : History) (u : Tally) → r ≡ (next replay e).reply → after ≡ with_entry replay e → u ≡ with_reply t e.op r → SoFar history after (told + 1) u
-  so_far_next r after u given made added = rw (made, added, given) one_more
-
-pub so_far_all : (history replay : History) (told : ℕ) (t : Tally) → SoFar history replay told t → length history.events ≤ told → t ≡ tally_of (made_in history)
-so_far_all history replay told t so all =
-    let P : List Event → Type 0 = λ l. AddsUp t (replied (world_of replay) (told + 1) l) (made_in history) in
-    adds_all t (made_in history) (subst P (drop_all told history.events all) so.sums)
+  -- for which it has room
+  pub seen_small : length h.events ≤ 6800000 → IsSmall (with_reply t e.op r)
+  seen_small few = subst IsSmall (sym seen_next) (tally_small (opening_world h.config) 1 h.events few)
 
 -- ---- the line
 -- what a history from a config comes to
@@ -195,7 +144,7 @@ totals_from k events =
 totals_are : (k : Config) (s : List Line) (events : List Event) → k ≡ config_of s → totals_from k events ≡ totals_of s events
 totals_are k s events is = ap (λ (c : Config). totals_from c events) is
 
-pub line_told : (count : ℕ) (s : List Line) (h : History) (t : Tally) (entries lines : ℕ) (before out : List ℕ) → h.config ≡ config_of s → t ≡ tally_of (made_in h)
+pub line_told : (count : ℕ) (s : List Line) (h : History) (t : Tally) (entries lines : ℕ) (before out : List ℕ) → h.config ≡ config_of s → HasSeen h t
     → entries ≡ length h.events → lines ≡ length (world_of h).frame.log
     → before ≡ [] → out ≡ before ++ totals_line count (record { entries = entries; refused = t.refused; read = t.read; written = t.written; lines = lines }) → out ≡ summary_line count s h.events
 unfolding summary_line world_of

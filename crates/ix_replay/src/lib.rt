@@ -6,7 +6,7 @@ pub mod laws;
 mod tally;
 mod telling;
 
-pub use tally::summary;
+pub use tally::{Tally, summary};
 pub use telling::closing::{Closing, Next};
 pub use telling::entry::push_entry;
 pub use telling::replay::replay;

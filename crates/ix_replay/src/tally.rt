@@ -1,45 +1,50 @@
 //! What a history comes to, in one line.
 
-ghost use Rattle.std.specs.Prelude.{◌≡◌, ◌<◌, ◌≤◌, [], IfOk};
-ghost use Rattle.ix_model.specs.opening.Opening.{opening_world};
-ghost use Rattle.ix_model.specs.history.Calls.{event_of};
-ghost use Rattle.ix_model.specs.history.Cost.{cost_of_history};
-ghost use Rattle.ix_model.specs.history.Seats.{replied};
-ghost use Rattle.ix_script.specs.scripts.Need.{need};
-ghost use Rattle.ix_script.specs.scripts.Scripts.{config_of};
+ghost use Rattle.std.specs.Prelude.{◌≡◌, List, IfOk};
+ghost use Rattle.ix_model.specs.history.Calls.{op_of};
 ghost use Rattle.ix_replay.specs.Summary.{summary_line};
-ghost use Rattle.ix_replay.specs.Tallying.{IsSmall, tally_of, with_reply};
+ghost use Rattle.ix_replay.specs.Tallying.{HasSeen, IsSmall, with_reply};
+ghost use Rattle.ix_script.specs.scripts.Scripts.{config_of};
+ghost use Rattle.ix_script.specs.declared.line.Line.{Line};
 
-use crate::telling::replay::make;
-use ix_core::Core;
-use ix_label::Steps;
-use ix_model::{Call, Entry, NoMemory, Reply};
+use ix_core::{Core, Witness};
+use ix_model::{Call, NoMemory, Pid, Reply};
 use ix_report::{Totals, totals_line};
-use ix_script::Script;
 use std::alloc::Global;
-use std::marker::Brand;
-use std::sync::ledger::{Blank, Ledger};
 
-/// What entries come to.
+/// What the entries of a history come to, added up as they are made: it is a witness of them.
 #[derive(Clone, Copy, Debug, PartialEq, Eq)]
-struct Tally {
-    refused: u32,
-    read: u64,
-    written: u64,
+pub struct Tally {
+    /// How many were refused.
+    pub refused: u32,
+    /// The bytes that they read.
+    pub read: u64,
+    /// The bytes that they wrote.
+    pub written: u64,
 }
 
 impl Tally {
-    /// Adds up one entry more.
-    fn add(&mut self, entry: &Entry<'_>, reply: &Reply)
-        requires { IsSmall (with_reply self.old (event_of entry.now).op reply.now) }
-        ensures { self.new ≡ with_reply self.old (event_of entry.now).op reply.now }
+    /// What no entry comes to.
+    pub fn new() -> Tally
+        ensures { result ≡ record { refused = 0; read = 0; written = 0 } }
+    {
+        Tally {
+            refused: 0,
+            read: 0,
+            written: 0,
+        }
+    }
+
+    /// Adds up one entry more, where there is room for what all come to.
+    fn add(&mut self, call: &Call<'_>, reply: &Reply)
+        ensures { IsSmall (with_reply self.old (op_of call.now) reply.now) → self.new ≡ with_reply self.old (op_of call.now) reply.now }
     {
         match reply {
-            Reply::No(_) => self.refused += 1,
-            Reply::Bytes(count) => self.read += u64::from(*count),
+            Reply::No(_) => self.refused = self.refused.saturating_add(1),
+            Reply::Bytes(count) => self.read = self.read.saturating_add(u64::from(*count)),
             Reply::Number(count) => {
-                if let Call::WriteFd { .. } = entry.call {
-                    self.written += *count;
+                if let Call::WriteFd { .. } = call {
+                    self.written = self.written.saturating_add(*count);
                 }
             }
             _ => (),
@@ -47,61 +52,37 @@ impl Tally {
     }
 }
 
-/// Makes the entries of a history once more, on a core that has none, and adds up what they come to.
-fn add_up<L: Ledger>(history: &Core, replay: &mut Core, steps: &mut Steps<L>) -> Tally
-    requires bare { replay.old ≡ record { config = history.now.config; events = [] } }
-    requires fits { cost_of_history history.now.events ≤ history.now.config.journal }
-    ensures { result ≡ tally_of (replied (opening_world history.now.config) 1 history.now.events) }
-{
-    let mut tally = Tally {
-        refused: 0,
-        read: 0,
-        written: 0,
-    };
-    let mut buf = [0; 4096];
-    for told in 0..history.len() {
-        let Some(entry) = history.entry(told + 1) else {
-            unreachable!()
-        };
-        let reply = make(replay, &entry, &mut buf, steps);
-        tally.add(&entry, &reply);
+impl Witness for Tally {
+    ghost use Rattle.ix_replay.specs.Tallying.{HasSeen};
+
+    ghost knows = { λ first h t. HasSeen h t };
+
+    fn see(
+        &mut self,
+        core: &Core,
+        _line: u32,
+        _pid: Pid,
+        _seat: u32,
+        call: &Call<'_>,
+        reply: &Reply,
+        _bytes: &[u8],
+    ) {
+        let _count = core.len();
+        self.add(call, reply);
     }
-    tally
 }
 
-/// The same on a second core, with the looks at labels counted under a ledger.
-fn add_up_anew<L: Ledger>(
-    alloc: Global,
-    script: &Script,
-    history: &Core,
-    blank: Blank,
-) -> Result<Tally, NoMemory>
-    requires name { blank.name ≡ L.name }
-    requires parts { blank.parts ≡ L.parts }
-    requires some { 0 < L.parts }
-    requires config { history.now.config ≡ config_of script.now }
-    requires fits { cost_of_history history.now.events ≤ need script.now }
-    ensures { IfOk result (λ t. t ≡ tally_of (replied (opening_world history.now.config) 1 history.now.events)) }
-{
-    let mut replay = Core::boot(alloc, script.config(alloc)?)?;
-    let mut steps = Steps::<L>::new(blank);
-    Ok(add_up(history, &mut replay, &mut steps))
-}
-
-/// The summary of the history that a core of a script's config has, where the script was made of so many commands: one line,
-/// which says how many entries there are, how many of them were refused, how many bytes they read and wrote, and how many
-/// lines the audit log has. It takes the memory of a second core, on which it makes the history once more.
+/// The summary of a history whose entries a tally has seen, where its script was made of so many commands: one line, which says how
+/// many entries there are, how many of them were refused, how many bytes they read and wrote, and how many lines the audit log has.
 pub fn summary(
     alloc: Global,
     count: u32,
-    script: &Script,
+    tally: &Tally,
     history: &Core,
 ) -> Result<Vec<u8>, NoMemory>
-    requires config { history.now.config ≡ config_of script.now }
-    requires fits { cost_of_history history.now.events ≤ need script.now }
-    ensures { IfOk result (λ text. text.items ≡ summary_line count script.now history.now.events) }
+    ensures { IfOk result (λ text. (s : List Line) → history.now.config ≡ config_of s → HasSeen history.now tally.now
+        → text.items ≡ summary_line count s history.now.events) }
 {
-    let tally = add_up_anew::<Brand>(alloc, script, history, Blank::new(1))?;
     let totals = Totals {
         entries: history.len(),
         refused: tally.refused,

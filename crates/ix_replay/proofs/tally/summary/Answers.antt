@@ -2,6 +2,6 @@ use Rattle.ix_replay.proofs.Summed.{line_told}
 use Rattle.ix_replay.proofs.tally.summary.Goals as goal
 
 pub returns : goal.returns
-returns c =
-    line_told c.args.count c.args.script.now c.args.history.now c.in_ok-tally.tally _ _ _ _ c.requires.config c.in_ok-tally.ensures c.len.ensures.len c.log_len.ensures.len
+returns c = λ s config seen.
+    line_told c.args.count s c.args.history.now c.args.tally.now _ _ _ _ config seen c.len.ensures.len c.log_len.ensures.len
     c.new-text.ensures.items c.in_ok-totals_line.ensures.ok
