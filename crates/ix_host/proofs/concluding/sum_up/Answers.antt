@@ -4,5 +4,5 @@ use Rattle.ix_host.specs.run.Outcome as outcome
 use Rattle.ix_host.proofs.concluding.sum_up.Goals as goal
 
 pub returns-in-Ok : goal.returns-in-Ok
-returns-in-Ok g c =
-    c.tell.ensures (outcome.Whole (summary_line c.args.count c.args.script.now c.args.history.now.events)) (sym (c.as_slice.ensures.value ∙ c.in-Ok.ensures)) refl
+returns-in-Ok g c = λ s config seen.
+    c.tell.ensures (outcome.Whole (summary_line c.args.count s c.args.history.now.events)) (sym (c.as_slice.ensures.value ∙ c.in-Ok.ensures s config seen)) refl
