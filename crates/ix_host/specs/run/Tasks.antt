@@ -1,7 +1,6 @@
 -- What is left to do of what was asked for, and what is told of a history.
-use Rattle.std.specs.Prelude.{◌≡◌, ℕ, ◌≤◌, Bool, true, List, [], length, Option, Some, IfSome}
+use Rattle.std.specs.Prelude.{◌≡◌, ℕ, Bool, List, [], Option, Some, IfSome}
 use Rattle.ix_model.specs.history.Events.{Event}
-use Rattle.ix_script.specs.lines.Before.{lanes_of}
 use Rattle.ix_script.specs.declared.line.Line.{Line}
 use Rattle.ix_lanes.specs.asking.Ruled.{rules_told}
 use Rattle.ix_replay.specs.report.Fixed.{LanesNamed}
