@@ -1,0 +1,281 @@
+-- File systems, names and objects: what is read is what was written, and what was written is read.
+use Rattle.std.proofs.Common.{◌≡◌, ℕ, zero, suc, ◌^◌, ◌<◌, ◌≤◌, Bool, true, false, leb, ◌==◌, List, [], ◌∷◌, ◌++◌, length, Ok, refl, sym, ap, subst, ◌∙◌, append_assoc, arith}
+use Rattle.std.specs.List.{flat_map, AllByRecursion}
+use Rattle.std.proofs.lemmas.Bool.{and_parts, leb-true}
+use Rattle.std.proofs.lemmas.List.Concat.{flat_map-cons}
+use Rattle.ix_label.specs.Category.{IsLabel}
+use Rattle.ix_model.specs.opening.Valid.{is_within}
+use Rattle.ix_model.specs.world.Naming.{is_name}
+use Rattle.ix_model.specs.declared.config.FsSpec.{FsSpec}
+use Rattle.ix_text.specs.Names.{is_script_name}
+use Rattle.ix_model.specs.declared.privs.PrivSet.{PrivSet}
+use Rattle.ix_image.specs.declared.marks.Marks.{Marks}
+use Rattle.ix_image.specs.Trees.{LinkOf, Holds, Bytes, Links, are_links}
+use Rattle.ix_image.specs.Labelled.{label_bytes}
+use Rattle.ix_image.specs.Image.{four, name_bytes, file_system_bytes, link_bytes, held_bytes, flag, marks_bytes, IsFileSystem, IsLink, AreHeld}
+use Rattle.ix_image.specs.Image.{is_size_of_file_system, is_size_of_file, is_count_of_names}
+use Rattle.ix_image.specs.Reading.{Read, ◌>>=◌, bytes_at, word_at, number_at, small_at, name_at, label_at, file_system_at, file_systems_at, link_at, links_at}
+use Rattle.ix_image.specs.Reading.{file_at, directory_at, held_at, flag_at, set_at, marks_at}
+use Rattle.ix_image.specs.Laws.{AreBytes}
+use Rattle.ix_image.proofs.Fielding.{OneField, Took, took_both, stepped, bind_ok, ok_is, bytes_field, word_field, number_field, small_field, name_field, label_field}
+
+-- ---- tests
+-- what is within a range is at most the greatest
+pub most_within : (low high n : ℕ) → is_within low high n ≡ true → n ≤ high
+most_within low high n h = leb-true n high (and_parts (leb low n) (leb n high) h).1
+
+few_in_script_name : (x : List ℕ) → is_script_name x ≡ true → length x < 256
+unfolding is_script_name
+few_in_script_name x h =
+    let a = and_parts _ _ h in
+    let b = and_parts _ _ a.0 in
+    let c = and_parts _ _ b.0 in
+    let low : length x ≤ 16 = leb-true (length x) 16 c.1 in
+    omega arith
+
+few_in_name : (x : List ℕ) → is_name x ≡ true → length x < 256
+unfolding is_name
+few_in_name x h =
+    let a = and_parts _ _ h in
+    let b = and_parts _ _ a.0 in
+    let c = and_parts _ _ b.0 in
+    let d = and_parts _ _ c.0 in
+    let low : length x ≤ 28 = leb-true (length x) 28 d.1 in
+    omega arith
+
+pub size_field : OneField (number_at is_size_of_file_system) four (λ n. is_size_of_file_system n ≡ true)
+size_field = number_field is_size_of_file_system (λ n h. let low = most_within 1 65536 n h in omega arith)
+
+-- ---- many of one kind
+module _ {A : Type 0} (read : List ℕ → Read A) (write : A → List ℕ) (may : A → Type 0) (one : OneField read write may) (many : ℕ → List ℕ → Read (List A))
+    (none : (bytes : List ℕ) → many zero bytes ≡ Ok ([], bytes))
+    (more : (n : ℕ) (bytes : List ℕ) → many (suc n) bytes ≡ (read bytes >>= λ first. many n first.1 >>= λ others. Ok (first.0 ∷ others.0, others.1))) where
+  pub many_take : (n : ℕ) (bytes : List ℕ) (xs : List A) (rest : List ℕ) → AreBytes bytes → many n bytes ≡ Ok (xs, rest) → Took bytes (flat_map write xs) rest
+      × ((length xs ≡ n) × AllByRecursion may xs)
+  many_take zero bytes xs rest are e =
+      let whole : Took bytes [] bytes = record { parts = refl; are_bytes = are } in
+      subst (λ (p : List A × List ℕ). Took bytes (flat_map write p.0) p.1 × ((length p.0 ≡ 0) × AllByRecursion may p.0)) (ok_is ([], bytes) (xs, rest) (sym (none bytes) ∙ e)) (whole, (refl, tt))
+  many_take (suc n) bytes xs rest are e =
+      let s = stepped read write may bytes (λ first. many n first.1 >>= λ others. Ok (first.0 ∷ others.0, others.1)) (xs, rest) one are (sym (more n bytes) ∙ e) in
+      let b = bind_ok (many n s.rest) (λ others. Ok (s.value ∷ others.0, others.1)) (xs, rest) s.next in
+      let t = many_take n s.rest b.0.0 b.0.1 s.took.are_bytes b.1 in
+      let both = took_both bytes (write s.value) s.rest (flat_map write b.0.0) b.0.1 s.took t.0 in
+      let whole : Took bytes (flat_map write (s.value ∷ b.0.0)) b.0.1 = subst (λ (x : List ℕ). Took bytes x b.0.1) (sym (flat_map-cons write s.value b.0.0)) both in
+      subst (λ (p : List A × List ℕ). Took bytes (flat_map write p.0) p.1 × ((length p.0 ≡ suc n) × AllByRecursion may p.0)) (ok_is (s.value ∷ b.0.0, b.0.1) (xs, rest) b.2)
+      (whole, (ap suc t.1.0, (s.allowed, t.1.1)))
+
+  pub many_again : (xs : List A) (rest : List ℕ) → AllByRecursion may xs → many (length xs) (flat_map write xs ++ rest) ≡ Ok (xs, rest)
+  many_again [] rest all = none rest
+  many_again (x ∷ xs) rest all =
+      let regrouped : flat_map write (x ∷ xs) ++ rest ≡ write x ++ (flat_map write xs ++ rest) = ap (λ (b : List ℕ). b ++ rest) (flat_map-cons write x xs)
+      ∙ append_assoc (write x) (flat_map write xs) rest in
+      more (length xs) (flat_map write (x ∷ xs) ++ rest) ∙ rw (regrouped, one.again x (flat_map write xs ++ rest) all.0, many_again xs rest all.1) refl
+
+  pub many_field : (n : ℕ) → OneField (many n) (flat_map write) (λ xs. (length xs ≡ n) × AllByRecursion may xs)
+  many_field n = record {
+    takes = many_take n;
+    again = λ xs rest is. ap (λ k. many k (flat_map write xs ++ rest)) (sym is.0) ∙ many_again xs rest is.1;
+  }
+
+-- ---- file systems
+scripted : OneField (name_at is_script_name) name_bytes (λ x. is_script_name x ≡ true)
+scripted = name_field is_script_name few_in_script_name
+
+pub file_system_field : OneField file_system_at file_system_bytes IsFileSystem
+unfolding file_system_at
+file_system_field = record { takes = takes; again = again }
+  where
+    takes : (bytes : List ℕ) (s : FsSpec) (rest : List ℕ) → AreBytes bytes → file_system_at bytes ≡ Ok (s, rest) → Took bytes (file_system_bytes s) rest × IsFileSystem s
+    takes bytes s rest are e =
+        let a = stepped (name_at is_script_name) name_bytes (λ x. is_script_name x ≡ true) bytes _ (s, rest) scripted are e in
+        let b = stepped label_at label_bytes IsLabel a.rest _ (s, rest) label_field a.took.are_bytes a.next in
+        let c = stepped (number_at is_size_of_file_system) four (λ n. is_size_of_file_system n ≡ true) b.rest _ (s, rest) size_field b.took.are_bytes b.next in
+        let d = stepped (number_at is_size_of_file_system) four (λ n. is_size_of_file_system n ≡ true) c.rest _ (s, rest) size_field c.took.are_bytes c.next in
+        let made : FsSpec × List ℕ = (record { name = a.value; ceiling = b.value; blocks = c.value; inodes = d.value }, d.rest) in
+        let cd = took_both b.rest (four c.value) c.rest (four d.value) d.rest c.took d.took in
+        let bd = took_both a.rest (label_bytes b.value) b.rest (four c.value ++ four d.value) d.rest b.took cd in
+        let ad = took_both bytes (name_bytes a.value) a.rest (label_bytes b.value ++ (four c.value ++ four d.value)) d.rest a.took bd in
+        subst (λ (p : FsSpec × List ℕ). Took bytes (file_system_bytes p.0) p.1 × IsFileSystem p.0) (ok_is made (s, rest) d.next)
+        (ad, record { name = a.allowed; ceiling = b.allowed; blocks = c.allowed; inodes = d.allowed })
+
+    again : (s : FsSpec) (rest : List ℕ) → IsFileSystem s → file_system_at (file_system_bytes s ++ rest) ≡ Ok (s, rest)
+    again s rest is =
+        let regrouped : file_system_bytes s ++ rest ≡ name_bytes s.name ++ (label_bytes s.ceiling ++ (four s.blocks ++ (four s.inodes ++ rest))) =
+        append_assoc (name_bytes s.name) (label_bytes s.ceiling ++ (four s.blocks ++ four s.inodes)) rest
+        ∙ ap (λ (x : List ℕ). name_bytes s.name ++ x) (append_assoc (label_bytes s.ceiling) (four s.blocks ++ four s.inodes) rest
+        ∙ ap (λ (x : List ℕ). label_bytes s.ceiling ++ x) (append_assoc (four s.blocks) (four s.inodes) rest)) in
+        ap file_system_at regrouped ∙ rw (
+          scripted.again s.name (label_bytes s.ceiling ++ (four s.blocks ++ (four s.inodes ++ rest))) is.name,
+          label_field.again s.ceiling (four s.blocks ++ (four s.inodes ++ rest)) is.ceiling,
+          size_field.again s.blocks (four s.inodes ++ rest) is.blocks,
+          size_field.again s.inodes rest is.inodes,
+        ) refl
+
+pub file_systems_field : (n : ℕ) → OneField (file_systems_at n) (flat_map file_system_bytes) (λ xs. (length xs ≡ n) × AllByRecursion IsFileSystem xs)
+unfolding file_systems_at
+file_systems_field = many_field file_system_at file_system_bytes IsFileSystem file_system_field file_systems_at none more
+  where
+    none : (bytes : List ℕ) → file_systems_at zero bytes ≡ Ok ([], bytes)
+    none bytes = refl
+
+    more : (n : ℕ) (bytes : List ℕ) → file_systems_at (suc n) bytes ≡ (file_system_at bytes >>= λ first. file_systems_at n first.1 >>= λ others. Ok (first.0 ∷ others.0, others.1))
+    more n bytes = refl
+
+-- ---- names
+named : OneField (name_at is_name) name_bytes (λ x. is_name x ≡ true)
+named = name_field is_name few_in_name
+
+pub link_field : OneField link_at link_bytes IsLink
+unfolding link_at
+link_field = record { takes = takes; again = again }
+  where
+    takes : (bytes : List ℕ) (l : LinkOf) (rest : List ℕ) → AreBytes bytes → link_at bytes ≡ Ok (l, rest) → Took bytes (link_bytes l) rest × IsLink l
+    takes bytes l rest are e =
+        let a = stepped (name_at is_name) name_bytes (λ x. is_name x ≡ true) bytes _ (l, rest) named are e in
+        let b = stepped word_at four (λ n. n < 2 ^ 32) a.rest _ (l, rest) word_field a.took.are_bytes a.next in
+        let made : LinkOf × List ℕ = ((a.value, b.value), b.rest) in
+        let ab = took_both bytes (name_bytes a.value) a.rest (four b.value) b.rest a.took b.took in
+        subst (λ (p : LinkOf × List ℕ). Took bytes (link_bytes p.0) p.1 × IsLink p.0) (ok_is made (l, rest) b.next) (ab, record { name = a.allowed; object = b.allowed })
+
+    again : (l : LinkOf) (rest : List ℕ) → IsLink l → link_at (link_bytes l ++ rest) ≡ Ok (l, rest)
+    again l rest is =
+        let regrouped : link_bytes l ++ rest ≡ name_bytes l.0 ++ (four l.1 ++ rest) = append_assoc (name_bytes l.0) (four l.1) rest in
+        ap link_at regrouped ∙ rw (named.again l.0 (four l.1 ++ rest) is.name, word_field.again l.1 rest is.object) refl
+
+pub links_field : (n : ℕ) → OneField (links_at n) (flat_map link_bytes) (λ xs. (length xs ≡ n) × AllByRecursion IsLink xs)
+unfolding links_at
+links_field = many_field link_at link_bytes IsLink link_field links_at none more
+  where
+    none : (bytes : List ℕ) → links_at zero bytes ≡ Ok ([], bytes)
+    none bytes = refl
+
+    more : (n : ℕ) (bytes : List ℕ) → links_at (suc n) bytes ≡ (link_at bytes >>= λ first. links_at n first.1 >>= λ others. Ok (first.0 ∷ others.0, others.1))
+    more n bytes = refl
+
+-- ---- what objects hold
+file_size_field : OneField (number_at is_size_of_file) four (λ n. is_size_of_file n ≡ true)
+file_size_field = number_field is_size_of_file (λ n h. let low = most_within 0 1048576 n h in omega arith)
+
+name_count_field : OneField (number_at is_count_of_names) four (λ n. is_count_of_names n ≡ true)
+name_count_field = number_field is_count_of_names (λ n h. let low = most_within 0 65536 n h in omega arith)
+
+file_takes : (bytes : List ℕ) (h : Holds) (rest : List ℕ) → AreBytes bytes → file_at bytes ≡ Ok (h, rest) → Took bytes (held_bytes h) rest × (AreHeld h × (are_links h ≡ false))
+unfolding file_at
+file_takes bytes h rest are e =
+    let a = stepped (number_at is_size_of_file) four (λ n. is_size_of_file n ≡ true) bytes _ (h, rest) file_size_field are e in
+    let b = stepped (bytes_at a.value) (λ x. x) (λ x. length x ≡ a.value) a.rest (λ x. Ok (Bytes x.0, x.1)) (h, rest) (bytes_field a.value) a.took.are_bytes a.next in
+    let ab = took_both bytes (four a.value) a.rest b.value b.rest a.took b.took in
+    let whole : Took bytes (held_bytes (Bytes b.value)) b.rest = subst (λ n. Took bytes (four n ++ b.value) b.rest) (sym b.allowed) ab in
+    let few : is_size_of_file (length b.value) ≡ true = ap is_size_of_file b.allowed ∙ a.allowed in
+    subst (λ (p : Holds × List ℕ). Took bytes (held_bytes p.0) p.1 × (AreHeld p.0 × (are_links p.0 ≡ false))) (ok_is (Bytes b.value, b.rest) (h, rest) b.next) (whole, (few, refl))
+
+directory_takes : (bytes : List ℕ) (h : Holds) (rest : List ℕ) → AreBytes bytes → directory_at bytes ≡ Ok (h, rest) → Took bytes (held_bytes h) rest × (AreHeld h × (are_links h ≡ true))
+unfolding directory_at
+directory_takes bytes h rest are e =
+    let a = stepped (number_at is_count_of_names) four (λ n. is_count_of_names n ≡ true) bytes _ (h, rest) name_count_field are e in
+    let b = stepped (links_at a.value) (flat_map link_bytes) (λ xs. (length xs ≡ a.value) × AllByRecursion IsLink xs) a.rest (λ x. Ok (Links x.0, x.1)) (h, rest) (links_field a.value)
+    a.took.are_bytes a.next in
+    let ab = took_both bytes (four a.value) a.rest (flat_map link_bytes b.value) b.rest a.took b.took in
+    let whole : Took bytes (held_bytes (Links b.value)) b.rest = subst (λ n. Took bytes (four n ++ flat_map link_bytes b.value) b.rest) (sym b.allowed.0) ab in
+    let few : is_count_of_names (length b.value) ≡ true = ap is_count_of_names b.allowed.0 ∙ a.allowed in
+    subst (λ (p : Holds × List ℕ). Took bytes (held_bytes p.0) p.1 × (AreHeld p.0 × (are_links p.0 ≡ true))) (ok_is (Links b.value, b.rest) (h, rest) b.next) (whole, ((few, b.allowed.1), refl))
+
+file_again : (x rest : List ℕ) → is_size_of_file (length x) ≡ true → file_at (held_bytes (Bytes x) ++ rest) ≡ Ok (Bytes x, rest)
+unfolding file_at
+file_again x rest few =
+    let regrouped : held_bytes (Bytes x) ++ rest ≡ four (length x) ++ (x ++ rest) = append_assoc (four (length x)) x rest in
+    ap file_at regrouped ∙ rw (file_size_field.again (length x) (x ++ rest) few, (bytes_field (length x)).again x rest refl) refl
+
+directory_again : (xs : List LinkOf) (rest : List ℕ) → is_count_of_names (length xs) ≡ true → AllByRecursion IsLink xs → directory_at (held_bytes (Links xs) ++ rest) ≡ Ok (Links xs, rest)
+unfolding directory_at
+directory_again xs rest few all =
+    let regrouped : held_bytes (Links xs) ++ rest ≡ four (length xs) ++ (flat_map link_bytes xs ++ rest) = append_assoc (four (length xs)) (flat_map link_bytes xs) rest in
+    ap directory_at regrouped ∙ rw (name_count_field.again (length xs) (flat_map link_bytes xs ++ rest) few, (links_field (length xs)).again xs rest (refl, all)) refl
+
+pub held_field : (is_dir : Bool) → OneField (held_at is_dir) held_bytes (λ h. AreHeld h × (are_links h ≡ is_dir))
+unfolding held_at
+held_field is_dir = record { takes = takes is_dir; again = again is_dir }
+  where
+    takes : (is_dir : Bool) (bytes : List ℕ) (h : Holds) (rest : List ℕ) → AreBytes bytes → held_at is_dir bytes ≡ Ok (h, rest) → Took bytes (held_bytes h) rest × (AreHeld h × (are_links h ≡ is_dir))
+    takes true bytes h rest are e = directory_takes bytes h rest are e
+    takes false bytes h rest are e = file_takes bytes h rest are e
+
+    again : (is_dir : Bool) (h : Holds) (rest : List ℕ) → (AreHeld h × (are_links h ≡ is_dir)) → held_at is_dir (held_bytes h ++ rest) ≡ Ok (h, rest)
+    again true (Bytes x) rest is = absurd (let no = is.1 in cc)
+    again false (Bytes x) rest is = file_again x rest is.0
+    again true (Links xs) rest is = directory_again xs rest is.0.0 is.0.1
+    again false (Links xs) rest is = absurd (let no = is.1 in cc)
+
+-- ---- marks
+flag_back : (n : ℕ) → n ≤ 1 → flag (n == 1) ≡ n
+flag_back zero low = refl
+flag_back (suc zero) low = refl
+flag_back (suc (suc n)) low = absurd (omega arith)
+
+flag_again : (b : Bool) → (flag b == 1) ≡ b
+flag_again true = refl
+flag_again false = refl
+
+flag_low : (b : Bool) → flag b ≤ 1
+flag_low true = omega arith
+flag_low false = omega arith
+
+flag_field : OneField flag_at (λ b. flag b ∷ []) (λ _. Unit {0})
+unfolding flag_at
+flag_field = record { takes = takes; again = again }
+  where
+    takes : (bytes : List ℕ) (b : Bool) (rest : List ℕ) → AreBytes bytes → flag_at bytes ≡ Ok (b, rest) → Took bytes (flag b ∷ []) rest × Unit {0}
+    takes bytes b rest are e =
+        let s = stepped (small_at 1) (λ n. n ∷ []) (λ n. n ≤ 1) bytes (λ n. Ok (n.0 == 1, n.1)) (b, rest) (small_field 1) are e in
+        let whole : Took bytes (flag (s.value == 1) ∷ []) s.rest = subst (λ n. Took bytes (n ∷ []) s.rest) (sym (flag_back s.value s.allowed)) s.took in
+        subst (λ (p : Bool × List ℕ). Took bytes (flag p.0 ∷ []) p.1 × Unit {0}) (ok_is (s.value == 1, s.rest) (b, rest) s.next) (whole, tt)
+
+    again : (b : Bool) (rest : List ℕ) → Unit {0} → flag_at ((flag b ∷ []) ++ rest) ≡ Ok (b, rest)
+    again b rest is = rw ((small_field 1).again (flag b) rest (flag_low b), flag_again b) refl
+
+below_32 : (n : ℕ) → n ≤ 31 → n < 32
+below_32 n low = omega arith
+
+most_31 : (n : ℕ) → n < 32 → n ≤ 31
+most_31 n low = omega arith
+
+set_field : OneField set_at (λ s. s.0 ∷ []) (λ s. s.0 < 32)
+unfolding set_at
+set_field = record { takes = takes; again = again }
+  where
+    takes : (bytes : List ℕ) (set : PrivSet) (rest : List ℕ) → AreBytes bytes → set_at bytes ≡ Ok (set, rest) → Took bytes (set.0 ∷ []) rest × (set.0 < 32)
+    takes bytes set rest are e =
+        let s = stepped (small_at 31) (λ n. n ∷ []) (λ n. n ≤ 31) bytes (λ n. Ok (record { 0 = n.0 }, n.1)) (set, rest) (small_field 31) are e in
+        let made : PrivSet = record { 0 = s.value } in
+        subst (λ (p : PrivSet × List ℕ). Took bytes (p.0.0 ∷ []) p.1 × (p.0.0 < 32)) (ok_is (made, s.rest) (set, rest) s.next) (s.took, below_32 s.value s.allowed)
+
+    again : (set : PrivSet) (rest : List ℕ) → set.0 < 32 → set_at ((set.0 ∷ []) ++ rest) ≡ Ok (set, rest)
+    again set rest is = rw ((small_field 31).again set.0 rest (most_31 set.0 is)) refl
+
+-- both sets have no privileges but the five
+abbrev pub AreMarks : Marks → Type 0
+AreMarks m = (m.cap.0 < 32) × (m.lic.0 < 32)
+
+pub marks_field : OneField marks_at marks_bytes AreMarks
+unfolding marks_at
+marks_field = record { takes = takes; again = again }
+  where
+    takes : (bytes : List ℕ) (m : Marks) (rest : List ℕ) → AreBytes bytes → marks_at bytes ≡ Ok (m, rest) → Took bytes (marks_bytes m) rest × AreMarks m
+    takes bytes m rest are e =
+        let a = stepped flag_at (λ b. flag b ∷ []) (λ _. Unit {0}) bytes _ (m, rest) flag_field are e in
+        let b = stepped flag_at (λ b. flag b ∷ []) (λ _. Unit {0}) a.rest _ (m, rest) flag_field a.took.are_bytes a.next in
+        let c = stepped set_at (λ s. s.0 ∷ []) (λ s. s.0 < 32) b.rest _ (m, rest) set_field b.took.are_bytes b.next in
+        let d = stepped set_at (λ s. s.0 ∷ []) (λ s. s.0 < 32) c.rest _ (m, rest) set_field c.took.are_bytes c.next in
+        let made : Marks × List ℕ = (record { is_dir = a.value; frozen = b.value; cap = c.value; lic = d.value }, d.rest) in
+        let cd = took_both b.rest (c.value.0 ∷ []) c.rest (d.value.0 ∷ []) d.rest c.took d.took in
+        let bd = took_both a.rest (flag b.value ∷ []) b.rest (c.value.0 ∷ d.value.0 ∷ []) d.rest b.took cd in
+        let ad = took_both bytes (flag a.value ∷ []) a.rest (flag b.value ∷ c.value.0 ∷ d.value.0 ∷ []) d.rest a.took bd in
+        subst (λ (p : Marks × List ℕ). Took bytes (marks_bytes p.0) p.1 × AreMarks p.0) (ok_is made (m, rest) d.next) (ad, (c.allowed, d.allowed))
+
+    again : (m : Marks) (rest : List ℕ) → AreMarks m → marks_at (marks_bytes m ++ rest) ≡ Ok (m, rest)
+    again m rest is = rw (
+      flag_field.again m.is_dir (flag m.frozen ∷ m.cap.0 ∷ m.lic.0 ∷ rest) tt,
+      flag_field.again m.frozen (m.cap.0 ∷ m.lic.0 ∷ rest) tt,
+      set_field.again m.cap (m.lic.0 ∷ rest) is.0,
+      set_field.again m.lic rest is.1,
+    ) refl

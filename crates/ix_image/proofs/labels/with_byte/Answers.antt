@@ -1,0 +1,16 @@
+use Rattle.std.proofs.Common.{ap, sym, ◌∙◌}
+use Rattle.std.proofs.lemmas.Bool.{ne_eqb}
+use Rattle.std.proofs.lemmas.Nat.Bits.{shr_and_one}
+use Rattle.ix_label.specs.Category.{has}
+use Rattle.ix_image.proofs.Bitwise.{bit_set, bit_unset}
+use Rattle.ix_image.proofs.labels.with_byte.Goals as goal
+use Rattle.ix_image.proofs.labels.with_byte.Goals.{then-byte-bit-eq1, else-byte-bit-eq1}
+
+pub loop-bit-preserved : goal.loop-bit-preserved
+loop-bit-preserved c = elim c.if-byte-bit-eq1.branch [
+  | then-byte-bit-eq1 w ↦ λ q. ap (λ m. has m q) (w.more-is ∙ w.with-more.ensures)
+      ∙ bit_set c.args.label c.loop-bit.more c.args.first c.args.byte c.loop-bit.bit (sym (shr_and_one c.args.byte c.loop-bit.bit) ∙ w.if-byte-bit-eq1.true) c.loop-bit.invariant q
+  | else-byte-bit-eq1 w ↦ λ q. ap (λ m. has m q) w.more-is
+      ∙ bit_unset c.args.label c.loop-bit.more c.args.first c.args.byte c.loop-bit.bit (ne_eqb _ _ (λ one. w.if-byte-bit-eq1.false (shr_and_one c.args.byte c.loop-bit.bit ∙ one)))
+      c.loop-bit.invariant q
+]

@@ -1,0 +1,11 @@
+use Rattle.std.proofs.Common.{◌≡◌, length}
+use Rattle.std.specs.List.{list_all}
+use Rattle.ix_image.specs.Fitting.{leads, links_lead}
+use Rattle.ix_image.specs.Meant.{links_in, node_of, tree_made}
+use Rattle.ix_image.proofs.leading.all_lead.Given as goal
+
+abbrev pub invariant-links : goal.invariant-links
+invariant-links l = list_all (leads (tree_made l.fss l.nodes) (node_of l.node)) (links_in l.rest) ≡ links_lead (tree_made l.fss l.nodes) (node_of l.node)
+
+abbrev pub decreases-links : goal.decreases-links
+decreases-links l = length (links_in l.rest)

@@ -1,0 +1,7 @@
+use Rattle.std.proofs.Common.{◌≡◌, ◌+◌}
+use Rattle.ix_label.specs.Category.{has}
+use Rattle.ix_label.specs.Words.{from_bits}
+use Rattle.ix_image.proofs.writing.label_byte_counted.Given as goal
+
+abbrev pub invariant-loop-bit : goal.invariant-loop-bit
+invariant-loop-bit g l = l.byte ≡ from_bits (λ i. has l.label (l.first + i)) l.bit

@@ -1,0 +1,9 @@
+use Rattle.std.proofs.Common.{◌++◌, List, ℕ, ap, ◌∙◌, append_assoc}
+use Rattle.std.proofs.lemmas.Result.{on_ok_weaker}
+use Rattle.ix_image.specs.Image.{first_bytes, four}
+use Rattle.ix_image.proofs.writing.push_start.Goals as goal
+
+pub returns-clause-text : goal.returns-clause-text
+returns-clause-text c =
+    on_ok_weaker c.push_four.result (λ is. is ∙ ap (λ (t : List ℕ). t ++ four c.args.systems) c.in_ok-push.ensures.text ∙ append_assoc c.args.line.now.text first_bytes (four c.args.systems))
+    c.push_four.ensures.text

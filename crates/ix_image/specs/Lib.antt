@@ -1,0 +1,14 @@
+pub mod Trees
+pub mod Labelled
+pub mod Image
+pub mod Reading
+pub mod Fitting
+pub mod Meant
+pub mod Found
+pub mod Taken
+pub mod Saving
+pub mod Written
+pub mod Lines
+pub mod Telling
+pub mod Laws
+pub mod Rules
