@@ -34,7 +34,7 @@ joined_lines [] = refl
 joined_lines (b ∷ bytes) = byte_joined b bytes (joined_lines bytes) (b == 10) refl
 
 -- what has no line feed is one line, where it isn't empty
-pub alone : List ℕ → List (List ℕ)
+unfoldable pub alone : List ℕ → List (List ℕ)
 alone [] = []
 alone (b ∷ bytes) = (b ∷ bytes) ∷ []
 

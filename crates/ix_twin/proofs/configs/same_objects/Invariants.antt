@@ -1,0 +1,10 @@
+use Rattle.std.proofs.Common.{◌≡◌, drop, length}
+use Rattle.std.specs.Cmp.Lexicographic.{pointwise}
+use Rattle.ix_twin.specs.Configs.{same_object}
+use Rattle.ix_twin.proofs.configs.same_objects.Given as goal
+
+abbrev pub invariant-loop-i : goal.invariant-loop-i
+invariant-loop-i g l = record {
+  lengths : length l.one ≡ length l.two;
+  left : pointwise (same_object l.at) l.one l.two ≡ pointwise (same_object l.at) (drop l.i l.one) (drop l.i l.two);
+}

@@ -1,0 +1,11 @@
+pub mod Sameness
+pub mod Configs
+pub mod Tests
+pub mod TestLaws
+pub mod Twins
+pub mod Parting
+pub mod PartingLaws
+pub mod Lines
+pub mod Running
+pub mod Parts
+pub mod Laws
