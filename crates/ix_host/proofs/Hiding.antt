@@ -1,51 +1,16 @@
 -- The lines of low entries are the same in the reports of two runs that agree.
-use Rattle.std.proofs.Common.{◌≡◌, ℕ, zero, suc, ◌+◌, List, [], ◌∷◌, take, Some, ap, ◌∙◌, arith, subst, slice_get}
-use Rattle.std.proofs.Common.{option_map}
-use Rattle.ix_label.specs.declared.form.Form.{Form}
-use Rattle.ix_label.specs.Category.{Categories}
-use Rattle.ix_model.specs.world.World.{World, Process, at}
-use Rattle.ix_model.specs.history.Step.{step_of, run}
+use Rattle.std.proofs.Common.{suc, List, ap, ◌∙◌, slice_get}
 use Rattle.ix_model.specs.history.Events.{Event}
-use Rattle.ix_model.specs.two_runs.TwoRuns.{Alike, Low, Agree}
-use Rattle.ix_iso.specs.Laws.{NoneCrosses}
-use Rattle.ix_iso.proofs.Counts.{shape_frames}
-use Rattle.ix_iso.proofs.Steps.{alike_events}
-use Rattle.ix_iso.proofs.Histories.{shape_events}
-use Rattle.ix_iso.proofs.Lowerings.{low_is_same}
 use Rattle.ix_iso.proofs.Hiding.{alike_runs}
-use Rattle.ix_report.specs.LineText.{entry_line}
 use Rattle.ix_script.specs.lines.Before.{lanes_of}
 use Rattle.ix_script.specs.declared.line.Line.{Line}
+use Rattle.ix_replay.specs.report.Report.{entry_lines}
+use Rattle.ix_twin.proofs.LinesAlike.{agree_up_to, lines_along}
 use Rattle.ix_host.specs.Hiding.{HidesLines, world_opened}
-use Rattle.ix_replay.specs.report.Report.{lane_name, entry_text, entry_lines}
-
--- ---- one line
-module _ (l : Categories) (form : Form) (lanes : List (List ℕ)) where
-  one_line : (v w : World) (place : ℕ) (e f : Event) → Alike l v w → Agree l v w place (e ∷ []) (f ∷ []) → Low l v place e → entry_text form lanes place v e ≡ entry_text form lanes place w f
-  one_line v w place e f alike agree low =
-      let same = low_is_same l v place e f agree.0 low in
-      let told = (alike_events l v w place e f alike agree.0 agree.1).replies low in
-      let frames = shape_frames _ _ (shape_events l v w place e f alike.shapes agree.0 agree.1).shapes in
-      λ i. entry_line form place (lane_name lanes (same i).seat) (same i) (told.0 i) (told.1 i) (option_map (λ (p : Process). p.label) (at (frames i).processes (same i).pid))
-
-  -- ---- all lines
-  lines_along : (v w : World) (place : ℕ) (events others : List Event) → Alike l v w → Agree l v w place events others → (n : ℕ) (e : Event) → slice_get events n ≡ Some e → NoneCrosses l v place (take n events) → Low l (run v place (take n events)) (place + n) e
-      → slice_get (entry_lines form lanes place v events) n ≡ slice_get (entry_lines form lanes place w others) n
-  lines_along v w place [] others alike agree n e is none low = cc
-  lines_along v w place (a ∷ events) [] alike agree n e is none low = absurd agree
-  lines_along v w place (a ∷ events) (b ∷ others) alike agree zero e is none low =
-      let here : e ≡ a = cc in
-      let first : place + 0 ≡ place = omega arith in
-      ap Some (one_line v w place a b alike (agree.0, agree.1, tt) (subst (λ (k : ℕ). Low l v k a) first (subst (λ (x : Event). Low l v (place + 0) x) here low)))
-  lines_along v w place (a ∷ events) (b ∷ others) alike agree (suc n) e is none low =
-      let next : suc place ≡ place + 1 = omega arith in
-      let later : place + suc n ≡ suc place + n = omega arith in
-      let there = run (step_of v place a).world (suc place) (take n events) in
-      let rest = lines_along (step_of v place a).world (step_of w place b).world (suc place) events others ((alike_events l v w place a b alike agree.0 agree.1).worlds none.0) agree.2 n e is none.1 (subst (λ (k : ℕ). Low l there k e) later low) in
-      subst (λ (k : ℕ). slice_get (entry_lines form lanes k (step_of v place a).world events) n ≡ slice_get (entry_lines form lanes k (step_of w place b).world others) n) next rest
 
 pub low_lines : (s : List Line) (history : List Event) → HidesLines s history
 low_lines s history l t others lanes agree n e is none low form =
     let both = alike_runs l (world_opened s) (world_opened t) history others agree in
-    lines_along l form (lanes_of s) (world_opened s) (world_opened t) 1 history others both.0 both.1 n e is none low
+    lines_along l form (lanes_of s) (world_opened s) (world_opened t) 1 history others n e both.0
+    (agree_up_to l (world_opened s) (world_opened t) 1 (suc n) history others both.1) is none low
     ∙ ap (λ names. slice_get (entry_lines form names 1 (world_opened t) others) n) lanes

@@ -5,3 +5,5 @@ pub mod Verdicts
 pub mod OnlyRun
 pub mod Checked
 pub mod Followed
+pub mod Seconds
+pub mod Both

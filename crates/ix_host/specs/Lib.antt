@@ -1,5 +1,7 @@
 pub mod command
 pub mod Policies
+pub mod Seconds
+pub mod Compared
 pub mod report
 pub mod Hiding
 pub mod Laws

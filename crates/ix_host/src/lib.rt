@@ -3,12 +3,14 @@
 
 mod asked;
 mod checking;
+mod comparing;
 mod concluding;
 mod following;
 mod lanes;
 pub mod laws;
 mod policies;
 mod preparing;
+mod refusing;
 mod run;
 mod status;
 mod streams;

@@ -5,7 +5,7 @@ ghost use Rattle.ix_script.specs.scripts.Canonical.{canonical};
 ghost use Rattle.ix_lanes.specs.asking.Ruled.{rules_told};
 ghost use Rattle.ix_host.specs.Policies.{policy_refusal};
 ghost use Rattle.ix_host.specs.command.Command.{IsCounted};
-ghost use Rattle.ix_host.specs.run.Inputs.{IsReadable, input_max, reads_source, report_bytes, script_bytes, script_in};
+ghost use Rattle.ix_host.specs.run.Inputs.{IsReadable, IsShortFor, input_max, reads_source, beside_bytes, script_bytes, script_in};
 ghost use Rattle.ix_host.specs.run.Outcome.{outcome_for, outcome_in, text_for};
 ghost use Rattle.ix_host.specs.run.Outcome as outcome;
 ghost use Rattle.ix_host.specs.run.Tasks.{IsRunnable, LeadsTo, OnRun, Prepares, TaskReadsOut};
@@ -14,32 +14,24 @@ ghost use Rattle.ix_host.specs.run.Run.{Ends};
 
 use crate::asked::command::Command;
 use crate::checking::check;
+use crate::comparing::twin;
 use crate::following::flow;
 use crate::policies::{ScriptPolicy, policy_of};
+use crate::refusing::refuse;
 use crate::status::Status;
 use crate::streams::input::input_for;
 use crate::streams::sending::tell;
 use crate::streams::stream::Input;
 use crate::task::{Task, Telling};
-use crate::telling::rules::{refusal, too_long_line};
+use crate::telling::rules::too_long_line;
 use ix_check::laws::texts_are_judged;
 use ix_check::parts;
 use ix_io::{Sink, Source};
 use ix_model::NoMemory;
 use ix_policy::Policy;
 use ix_script::{ReadFail, Script, read, write};
+use ix_twin::divide;
 use std::alloc::Global;
-
-/// Writes the one line of a refusal.
-fn refuse<K: Sink>(alloc: Global, sink: &mut K, line: u32, rule: u8) -> Status
-    ensures { Ends (outcome.Refused line rule) result (K.taken sink.old) (K.taken sink.new) (K.finished sink.new)
-        (K.faults sink.old) (K.faults sink.new) }
-{
-    match refusal(alloc, line, rule) {
-        Ok(text) => tell(sink, text.as_slice(), Status::Script { line, rule }),
-        Err(NoMemory) => Status::NoMemory,
-    }
-}
 
 /// Writes the canonical text of a script.
 fn print<K: Sink>(alloc: Global, sink: &mut K, script: &Script) -> Status
@@ -52,18 +44,20 @@ fn print<K: Sink>(alloc: Global, sink: &mut K, script: &Script) -> Status
     }
 }
 
-/// What a command asks with a script that it doesn't refuse, and a text that claims to be its report.
+/// What a command asks with a script that it doesn't refuse, and what else is asked for.
 fn accepted_task<K: Sink>(
     alloc: Global,
     sink: &mut K,
     command: Command,
     script: Script,
     policy: Option<Policy>,
-    claimed: &[u8],
+    beside: &[u8],
 ) -> Task
     requires runnable { IsRunnable script }
+    requires accepted { policy_refusal script ≡ None }
+    requires short { IsShortFor command beside.now }
     requires policy { policy ≡ rules_told script }
-    ensures leads { LeadsTo (λ history. outcome.Whole (text_for command script claimed.now history)) script result (K.taken sink.old) (K.taken sink.new)
+    ensures leads { LeadsTo (λ history. outcome_for command script beside.now history) script result (K.taken sink.old) (K.taken sink.new)
         (K.finished sink.new) (K.faults sink.old) (K.faults sink.new) }
     ensures untouched { OnRun result (sink.new ≡ sink.old) }
 {
@@ -71,8 +65,12 @@ fn accepted_task<K: Sink>(
         Command::Run => Task::Run(Telling::Report, script, policy),
         Command::Print => Task::Ended(print(alloc, sink, &script)),
         Command::Gen(count) => Task::Run(Telling::Summary(count), script, policy),
-        Command::Check => Task::Ended(check(alloc, sink, &script, policy.as_ref(), claimed)),
+        Command::Check => Task::Ended(check(alloc, sink, &script, policy.as_ref(), beside)),
         Command::Flow => Task::Ended(flow(alloc, sink, &script, policy.as_ref())),
+        Command::Twin(at) => {
+            let one = (&script, policy.as_ref());
+            Task::Ended(twin(alloc, sink, &at, one, beside))
+        }
     }
 }
 
@@ -87,7 +85,7 @@ fn refused_task<K: Sink>(
     requires runnable { IsRunnable script }
     requires policy { rules_told script ≡ None }
     requires refusal { policy_refusal script ≡ Some (line, 27) }
-    ensures leads { (claimed : List ℕ) → LeadsTo (λ history. outcome_for command script claimed history) script result (K.taken sink.old) (K.taken sink.new)
+    ensures leads { (beside : List ℕ) → LeadsTo (λ history. outcome_for command script beside history) script result (K.taken sink.old) (K.taken sink.new)
         (K.finished sink.new) (K.faults sink.old) (K.faults sink.new) }
     ensures untouched { OnRun result (sink.new ≡ sink.old) }
 {
@@ -97,35 +95,37 @@ fn refused_task<K: Sink>(
         Command::Gen(count) => Task::Run(Telling::Summary(count), script, None),
         Command::Check => Task::Ended(refuse(alloc, sink, line, 27)),
         Command::Flow => Task::Ended(refuse(alloc, sink, line, 27)),
+        Command::Twin(_) => Task::Ended(refuse(alloc, sink, line, 27)),
     }
 }
 
-/// What a command asks with a script, and a text that claims to be its report.
+/// What a command asks with a script, and what else is asked for.
 fn script_task<K: Sink>(
     alloc: Global,
     sink: &mut K,
     command: Command,
     script: Script,
-    claimed: &[u8],
+    beside: &[u8],
 ) -> Task
-    requires { IsRunnable script }
-    ensures leads { LeadsTo (λ history. outcome_for command script claimed.now history) script result (K.taken sink.old) (K.taken sink.new)
+    requires runnable { IsRunnable script }
+    requires short { IsShortFor command beside.now }
+    ensures leads { LeadsTo (λ history. outcome_for command script beside.now history) script result (K.taken sink.old) (K.taken sink.new)
         (K.finished sink.new) (K.faults sink.old) (K.faults sink.new) }
     ensures untouched { OnRun result (sink.new ≡ sink.old) }
 {
     match policy_of(alloc, &script) {
         Ok(ScriptPolicy::Rules(policy)) => accepted_task(
-            alloc, sink, command, script, policy, claimed,
+            alloc, sink, command, script, policy, beside,
         ),
         Ok(ScriptPolicy::Refused(line)) => refused_task(alloc, sink, command, script, line),
         Err(NoMemory) => Task::Ended(Status::NoMemory),
     }
 }
 
-/// The bytes of the script in an input, and behind them those of the text that claims to be its report.
-fn parts_for(command: Command, bytes: &[u8]) -> (&[u8], &[u8])
-    ensures script { result.0.now ≡ script_bytes command bytes.now }
-    ensures claimed { result.1.now ≡ report_bytes command bytes.now }
+/// The bytes of the script in an input, and what stands beside them.
+fn parts_for<'a>(command: &Command, bytes: &'a [u8]) -> (&'a [u8], &'a [u8])
+    ensures script { result.0.now ≡ script_bytes command.now bytes.now }
+    ensures beside { result.1.now ≡ beside_bytes command.now bytes.now }
 {
     match command {
         Command::Run => (bytes, b""),
@@ -133,6 +133,7 @@ fn parts_for(command: Command, bytes: &[u8]) -> (&[u8], &[u8])
         Command::Gen(_) => (bytes, b""),
         Command::Check => parts(bytes),
         Command::Flow => (bytes, b""),
+        Command::Twin(_) => (divide(bytes).first, bytes),
     }
 }
 
@@ -145,9 +146,9 @@ fn input_task<K: Sink>(alloc: Global, sink: &mut K, command: Command, bytes: &[u
 {
     // That the lanes have names rests on this law.
     texts_are_judged();
-    let (part, claimed) = parts_for(command, bytes);
+    let (part, beside) = parts_for(&command, bytes);
     match read(alloc, part) {
-        Ok(script) => script_task(alloc, sink, command, script, claimed),
+        Ok(script) => script_task(alloc, sink, command, script, beside),
         Err(ReadFail::Fault(fault)) => Task::Ended(refuse(alloc, sink, fault.line, fault.rule)),
         Err(ReadFail::NoMemory) => Task::Ended(Status::NoMemory),
     }
@@ -180,7 +181,7 @@ pub fn prepare<S: Source, K: Sink>(
     let Some(command) = asked else {
         return Task::Ended(tell(sink, usage, Status::Usage));
     };
-    match input_for(alloc, command, source) {
+    match input_for(alloc, &command, source) {
         Input::Whole(bytes) => input_task(alloc, sink, command, bytes.as_slice()),
         Input::TooLong => {
             let status = Status::Script { line: 1, rule: 1 };

@@ -7,6 +7,10 @@ ghost use Rattle.ix_host.specs.command.Command.{command_of, usage_line};
 ghost use Rattle.ix_check.specs.Parts.{report_part, script_part};
 ghost use Rattle.ix_host.specs.Judged.{TakesVerdict};
 ghost use Rattle.ix_host.specs.Traced.{TakesTraces};
+ghost use Rattle.ix_host.specs.Compared.{TakesTwins};
+ghost use Rattle.ix_host.specs.Seconds.{second_in};
+ghost use Rattle.ix_label.specs.Category.{Categories};
+ghost use Rattle.ix_twin.specs.Parts.{first_part};
 ghost use Rattle.ix_host.specs.run.Inputs.{IsTooLong, input_max, input_of, reads_source, script_in};
 ghost use Rattle.ix_host.specs.run.Whole.{TakesFew};
 ghost use Rattle.ix_host.specs.run.Run.{FitsCommand, IsAnswer, ReadsOut, WritesFor, WritesLine, called_for, wanted};
@@ -20,13 +24,15 @@ use crate::task::Task;
 use ix_check::laws::texts_are_judged;
 use ix_flow::laws::lines_are_accounted_for;
 use ix_io::{Sink, Source};
+use ix_twin::laws::{twin_lines, twins_are_compared};
 use std::alloc::Global;
 
 /// Does what the words ask: `run` reads a script from the source, runs it, and writes its report to the sink; `print` writes
 /// the canonical text of the script; `gen` reads nothing, and runs the generator's script with the count's commands and
 /// writes the summary of that run; `check` reads a script and behind it a text, and writes whether that is the report of one of
 /// the script's histories, and where not, the first line at which no such report goes on; `flow` reads a script, runs it, and
-/// writes of each byte that was read where it came from. All else is answered by the usage line. It waits for nobody.
+/// writes of each byte that was read where it came from; `twin` reads two scripts, runs both, and writes whether the runs agree at a label,
+/// with the lines of both that low processes get there. All else is answered by the usage line. It waits for nobody.
 pub fn run_serial<S: Source, K: Sink>(
     alloc: Global,
     words: &Words,
@@ -49,6 +55,8 @@ pub fn run_serial<S: Source, K: Sink>(
         IfSome (K.taken sink.old) (λ taken. TakesVerdict (script_in (script_part bytes)) (report_part bytes) taken (K.taken sink.new))) }
     ensures traced { result ≡ Status.Done → command_of words.now ≡ Some Command.Flow → IfSome (S.left source.old) (λ bytes.
         IfSome (K.taken sink.old) (λ taken. TakesTraces (script_in bytes) taken (K.taken sink.new))) }
+    ensures compared { (l : Categories) → result ≡ Status.Done → command_of words.now ≡ Some (Command.Twin l) → IfSome (S.left source.old) (λ bytes.
+        IfSome (K.taken sink.old) (λ taken. TakesTwins l (script_in (first_part bytes)) (second_in bytes) taken (K.taken sink.new))) }
     ensures not_written { result ≡ Status.ReadFault → sink.new ≡ sink.old }
 
     // When each status comes.
@@ -69,13 +77,15 @@ pub fn run_serial<S: Source, K: Sink>(
         → IfSome (input_of (command_of words.now) (S.left source.old)) (λ bytes.
         (result ≡ called_for (command_of words.now) bytes) ⊎ (result ≡ Status.NoMemory)) }
 {
-    // The proofs of `judged` and of `traced` rest on these laws.
+    // The proofs of `judged`, of `traced` and of `compared` rest on these laws.
     texts_are_judged();
     lines_are_accounted_for();
+    twins_are_compared();
+    twin_lines();
     let Ok(asked) = words.command(alloc) else {
         return Status::NoMemory;
     };
-    let usage = b"usage: ixone run | print | gen COUNT | check | flow\n";
+    let usage = b"usage: ixone run | print | gen COUNT | check | flow | twin LABEL\n";
     match prepare(alloc, usage, asked, source, sink) {
         Task::Ended(status) => status,
         Task::Run(telling, script, policy) => {

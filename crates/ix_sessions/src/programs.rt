@@ -9,6 +9,7 @@ mod lanes;
 mod policies;
 mod served;
 mod statuses;
+mod twins;
 mod words;
 
 use ix_host::{Status, Words, run_serial};
@@ -17,7 +18,7 @@ use std::alloc::Global;
 use std::process::Abort;
 
 /// What is written where the words are no command.
-const USAGE: &[u8] = b"usage: ixone run | print | gen COUNT | check | flow\n";
+const USAGE: &[u8] = b"usage: ixone run | print | gen COUNT | check | flow | twin LABEL\n";
 
 /// The calls at which a source and a sink fail, and the room of the sink.
 #[derive(Clone, Copy)]

@@ -1,7 +1,6 @@
 -- What `flow` tells where it is done.
-use Rattle.std.proofs.Common.{◌≡◌, ℕ, List, [], ◌++◌, Option, Some, None, refl, sym, ap, ◌∙◌, subst}
+use Rattle.std.proofs.Common.{◌≡◌, ℕ, List, ◌++◌, Option, Some, None, sym, ap, ◌∙◌, subst}
 use Rattle.std.specs.Prelude.{IfSome}
-use Rattle.ix_script.specs.declared.line.Line.{Line}
 use Rattle.ix_script.specs.scripts.Scripts.{config_of}
 use Rattle.ix_lanes.specs.histories.Serial.{serial}
 use Rattle.ix_flow.specs.Laws.{LinesAreAccountedFor}

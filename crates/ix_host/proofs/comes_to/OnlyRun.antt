@@ -24,6 +24,7 @@ lanes_input words left = go (command_of words)
     go (Some (command.Gen n)) = refl
     go (Some command.Check) = refl
     go (Some command.Flow) = refl
+    go (Some (command.Twin l)) = refl
 
 -- it has no more bytes than a script
 pub lanes_max : (words : List (List ℕ)) → input_max (lanes_command_of words) ≡ script_max
@@ -37,6 +38,7 @@ lanes_max words = go (command_of words)
     go (Some (command.Gen n)) = refl
     go (Some command.Check) = refl
     go (Some command.Flow) = refl
+    go (Some (command.Twin l)) = refl
 
 -- where it is too long, so is the script
 pub lanes_long : (words : List (List ℕ)) (left : Option (List ℕ)) → IfSome left (λ bytes. IsTooLong (lanes_command_of words) bytes) → IfSome left (λ bytes. script_max < length bytes)
@@ -51,6 +53,7 @@ lanes_long words (Some bytes) h = go (command_of words) h
     go (Some (command.Gen n)) k = k
     go (Some command.Check) k = k
     go (Some command.Flow) k = k
+    go (Some (command.Twin l)) k = k
 
 -- all of it is the script
 pub lanes_script : (words : List (List ℕ)) (bytes : List ℕ) → script_for (lanes_command_of words) bytes ≡ script_in bytes
@@ -64,6 +67,7 @@ lanes_script words bytes = go (command_of words)
     go (Some (command.Gen n)) = refl
     go (Some command.Check) = refl
     go (Some command.Flow) = refl
+    go (Some (command.Twin l)) = refl
 
 pub lanes_written : (words : List (List ℕ)) (first taken : Option (List ℕ)) (P : List ℕ → List ℕ → List Event → Type 0)
     → IfSome first (λ bytes. IfSome taken (λ t. ForOne (IsHistory (script_for (lanes_command_of words) bytes)) (λ history. P bytes t history)))
@@ -99,6 +103,7 @@ lanes_read_out words end first left = go (command_of words)
     go (Some (command.Gen n)) f h = none_read_out end first left f
     go (Some command.Check) f h = none_read_out end first left f
     go (Some command.Flow) f h = none_read_out end first left f
+    go (Some (command.Twin l)) f h = none_read_out end first left f
 
 -- where a run is done, it is that command
 pub lanes_run : (words : List (List ℕ)) → FitsCommand status.Done (lanes_command_of words) → lanes_command_of words ≡ Some command.Run
@@ -112,3 +117,4 @@ lanes_run words = go (command_of words)
     go (Some (command.Gen n)) h = cc
     go (Some command.Check) h = cc
     go (Some command.Flow) h = cc
+    go (Some (command.Twin l)) h = cc

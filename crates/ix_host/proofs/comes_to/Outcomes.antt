@@ -1,15 +1,15 @@
 -- What a command comes to.
-use Rattle.std.proofs.Common.{◌≡◌, ℕ, ◌<◌, ◌≤◌, Bool, true, false, List, [], length, Option, Some, None, is_none, refl, sym, ap, ◌∙◌, if◌then◌else◌, unwrap_or, nat_lt, inl, inr}
+use Rattle.std.proofs.Common.{◌≡◌, ℕ, ◌+◌, ◌<◌, ◌≤◌, Bool, true, false, List, [], length, Option, Some, None, refl, sym, ap, ◌∙◌, if◌then◌else◌, unwrap_or, nat_lt, arith, inl, inr}
 use Rattle.std.proofs.lemmas.Bool.{cases_Bool, le-ltb, ltb-true}
-use Rattle.std.specs.Option.{option_and_then, option_or}
+use Rattle.std.specs.Option.{option_and_then, option_map, option_or}
+use Rattle.std.specs.Prelude.{IfSome}
 use Rattle.std.specs.Result.{is_err}
 use Rattle.ix_label.specs.declared.form.Form.{Form}
 use Rattle.ix_model.specs.history.Events.{Event}
 use Rattle.ix_policy.specs.Policies.{policy}
 use Rattle.ix_script.specs.lines.Before.{form_told}
 use Rattle.ix_script.specs.lines.Faults.{fault_of}
-use Rattle.ix_script.specs.texts.Lines.{lines_of}
-use Rattle.ix_script.specs.scripts.Scripts.{form_in, policy_of, script_of, lines_said}
+use Rattle.ix_script.specs.scripts.Scripts.{policy_of, script_of}
 use Rattle.ix_script.specs.declared.line.Line.{Line}
 use Rattle.ix_host.specs.declared.asked.command.Command.{Command}
 use Rattle.ix_host.specs.declared.asked.command.Command.TheVariants as command
@@ -19,7 +19,11 @@ use Rattle.ix_host.specs.Traces.{traces}
 use Rattle.ix_check.specs.Parts.{report_part, script_part}
 use Rattle.ix_check.specs.Plans.{found_in}
 use Rattle.ix_check.specs.Verdicts.{verdict_line}
-use Rattle.ix_host.specs.run.Inputs.{IsReadable, IsTooLong, check_max, input_max, reads_source, report_bytes, script_bytes, script_in, script_max}
+use Rattle.ix_host.specs.run.Inputs.{IsReadable, IsShortFor, IsTooLong, beside_bytes, check_max, input_max, reads_source, script_bytes, script_in, script_max, twin_max}
+use Rattle.ix_host.specs.Seconds.{further_down, refusal_in, second_in, second_refusal}
+use Rattle.ix_twin.specs.Lines.{twin_text}
+use Rattle.ix_twin.specs.Parts.{first_part, lines_before, second_part}
+use Rattle.ix_label.specs.Category.{Categories}
 use Rattle.ix_host.specs.run.Outcome.{Outcome, outcome_for, outcome_in, outcome_of, refusal_of, refused_by}
 use Rattle.ix_host.specs.run.Outcome.{script_refusal, status_of, text_for, text_of, unless_refused}
 use Rattle.ix_host.specs.run.Outcome as outcome
@@ -27,33 +31,58 @@ use Rattle.ix_host.specs.run.Run.{called_for, unless_done}
 use Rattle.ix_replay.specs.report.Report.{report_of}
 use Rattle.ix_host.specs.report.Rules.{refusal_line}
 use Rattle.ix_host.proofs.comes_to.LaterRules.{not_rule_one}
+use Rattle.ix_host.proofs.comes_to.Seconds.{refused_at_line, some_before, without_fault}
 
 -- ---- a script
+-- a command that asks for one script alone
+abbrev pub IsAlone : Command → Type 0
+IsAlone (command.Twin l) = ⊥
+IsAlone _ = Unit {0}
+
 -- one whose policy isn't refused is not refused
-pub accepted : (c : Command) (s : List Line) → policy_refusal s ≡ None → script_refusal c s ≡ None
+pub accepted : (c : Command) (s : List Line) (beside : List ℕ) → policy_refusal s ≡ None → IsAlone c → script_refusal c s beside ≡ None
 unfolding script_refusal
-accepted command.Run s h = h
-accepted command.Print s h = h
-accepted (command.Gen n) s h = refl
-accepted command.Check s h = h
-accepted command.Flow s h = h
+accepted command.Run s beside h alone = h
+accepted command.Print s beside h alone = h
+accepted (command.Gen n) s beside h alone = refl
+accepted command.Check s beside h alone = h
+accepted command.Flow s beside h alone = h
+accepted (command.Twin l) s beside h alone = absurd alone
+
+-- for `twin` it is refused for what the second is refused for
+pub outcome_twin : (l : Categories) (s : List Line) (beside : List ℕ) (history : List Event) → policy_refusal s ≡ None
+    → unless_refused (second_refusal beside) (twin_text l s (second_in beside)) ≡ outcome_for (command.Twin l) s beside history
+unfolding outcome_for script_refusal text_for
+outcome_twin l s beside history h = sym (ap (λ o. unless_refused (option_or o (second_refusal beside)) (twin_text l s (second_in beside))) h)
 
 -- one that is refused
 pub outcome_refused : (c : Command) (s : List Line) (line rule : ℕ) (claimed : List ℕ) (history : List Event)
-    → script_refusal c s ≡ Some (line, rule) → outcome.Refused line rule ≡ outcome_for c s claimed history
+    → script_refusal c s claimed ≡ Some (line, rule) → outcome.Refused line rule ≡ outcome_for c s claimed history
 unfolding outcome_for
 outcome_refused c s line rule claimed history is = rw (outcome_for, is) refl
 
 -- one that isn't
 pub outcome_accepted : (c : Command) (s : List Line) (claimed : List ℕ) (history : List Event)
-    → script_refusal c s ≡ None → outcome.Whole (text_for c s claimed history) ≡ outcome_for c s claimed history
+    → script_refusal c s claimed ≡ None → outcome.Whole (text_for c s claimed history) ≡ outcome_for c s claimed history
 unfolding outcome_for
 outcome_accepted c s claimed history is = rw (outcome_for, is) refl
 
 -- ---- an input
--- one that isn't too long for `check`
+-- one that isn't too long for `check`, or for `twin`
 short : (bytes : List ℕ) → length bytes ≤ check_max → nat_lt check_max (length bytes) ≡ false
 short bytes few = le-ltb check_max (length bytes) few
+
+both_short : (bytes : List ℕ) → length bytes ≤ twin_max → nat_lt twin_max (length bytes) ≡ false
+both_short bytes few = le-ltb twin_max (length bytes) few
+
+-- so it is short enough to be compared with
+pub short_for : (c : Command) (bytes : List ℕ) → IsReadable c bytes → IsShortFor c (beside_bytes c bytes)
+short_for command.Run bytes h = tt
+short_for command.Print bytes h = tt
+short_for (command.Gen n) bytes h = tt
+short_for command.Check bytes h = tt
+short_for command.Flow bytes h = tt
+short_for (command.Twin l) bytes h = h
 
 -- one whose script has a fault
 pub outcome_fault : (c : Command) (bytes : List ℕ) (line rule : ℕ) (history : List Event) → IsReadable c bytes → fault_of (script_bytes c bytes) ≡ Some (line, rule)
@@ -64,27 +93,21 @@ outcome_fault command.Print bytes line rule history readable is = rw (outcome_in
 outcome_fault (command.Gen n) bytes line rule history readable is = cc
 outcome_fault command.Check bytes line rule history readable is = rw (outcome_in, short bytes readable, is) refl
 outcome_fault command.Flow bytes line rule history readable is = rw (outcome_in, is) refl
-
-no_fault : (o : Option (ℕ × ℕ)) (p : Option (List Line)) (s : List Line) → (if is_none o then p else None) ≡ Some s → (o ≡ None) × (p ≡ Some s)
-no_fault None p s h = (refl, h)
-no_fault (Some f) p s h = cc
-
-pub without_fault : (bytes : List ℕ) (s : List Line) → script_of bytes ≡ Some s → fault_of bytes ≡ None
-unfolding script_of
-without_fault bytes s h = (no_fault (fault_of bytes) (lines_said (form_in (lines_of bytes)) (lines_of bytes)) s h).0
+outcome_fault (command.Twin l) bytes line rule history readable is = rw (outcome_in, both_short bytes readable, is) refl
 
 pub in_script : (bytes : List ℕ) (s : List Line) → script_of bytes ≡ Some s → s ≡ script_in bytes
 in_script bytes s is = ap (λ (o : Option (List Line)). unwrap_or o []) (sym is)
 
 -- one that has a script
 pub outcome_script : (c : Command) (bytes : List ℕ) (s : List Line) (history : List Event) → IsReadable c bytes → script_of (script_bytes c bytes) ≡ Some s
-    → outcome_for c s (report_bytes c bytes) history ≡ outcome_in c bytes history
+    → outcome_for c s (beside_bytes c bytes) history ≡ outcome_in c bytes history
 unfolding outcome_for outcome_in refusal_of script_refusal
 outcome_script command.Run bytes s history readable is = rw (outcome_in, without_fault bytes s is, is) refl
 outcome_script command.Print bytes s history readable is = rw (outcome_in, without_fault bytes s is, is) refl
 outcome_script (command.Gen n) bytes s history readable is = rw (outcome_for, is) refl
 outcome_script command.Check bytes s history readable is = rw (outcome_in, short bytes readable, without_fault (script_part bytes) s is, is) refl
 outcome_script command.Flow bytes s history readable is = rw (outcome_in, without_fault bytes s is, is) refl
+outcome_script (command.Twin l) bytes s history readable is = rw (outcome_in, both_short bytes readable, without_fault (first_part bytes) s is, is) refl
 
 -- one that is too long
 pub outcome_too_long : (c : Command) (bytes : List ℕ) (history : List Event) → reads_source (Some c) ≡ true → nat_lt (input_max (Some c)) (length bytes) ≡ true
@@ -95,12 +118,13 @@ outcome_too_long command.Print bytes history reads long = rw (outcome_in, long) 
 outcome_too_long (command.Gen n) bytes history reads long = cc
 outcome_too_long command.Check bytes history reads long = rw (outcome_in, long) refl
 outcome_too_long command.Flow bytes history reads long = rw (outcome_in, long) refl
+outcome_too_long (command.Twin l) bytes history reads long = rw (outcome_in, long) refl
 
 -- ---- statuses
 pub status_is : (usage : List ℕ) (asked : Option Command) (bytes : List ℕ) (history : List Event) → status_of (outcome_of usage asked bytes history) ≡ called_for asked bytes
 unfolding outcome_in called_for
 status_is usage None bytes history = refl
-status_is usage (Some c) bytes history = go (refusal_of c bytes) (text_for c (script_in (script_bytes c bytes)) (report_bytes c bytes) history)
+status_is usage (Some c) bytes history = go (refusal_of c bytes) (text_for c (script_in (script_bytes c bytes)) (beside_bytes c bytes) history)
   where
     go : (o : Option (ℕ × ℕ)) (text : List ℕ) → status_of (unless_refused o text) ≡ unless_done o
     go None text = refl
@@ -142,43 +166,85 @@ policy_later form (Some p) n h = by_test (is_err (policy form p.1)) h
     by_test true k = cc
     by_test false k = cc
 
-script_later : (c : Command) (s : List Line) → IsLater (script_refusal c s)
-unfolding script_refusal policy_refusal
-script_later command.Run s n h = policy_later (form_told s) (policy_of s) n h
-script_later command.Print s n h = policy_later (form_told s) (policy_of s) n h
-script_later (command.Gen n) s m h = cc
-script_later command.Check s n h = policy_later (form_told s) (policy_of s) n h
-script_later command.Flow s n h = policy_later (form_told s) (policy_of s) n h
+no_policy_one : (s : List Line) → IsLater (policy_refusal s)
+unfolding policy_refusal
+no_policy_one s n h = policy_later (form_told s) (policy_of s) n h
 
--- a script that isn't too long is refused by another rule
-by_later : (c : Command) (bytes : List ℕ) (n : ℕ) → nat_lt 16777216 (length bytes) ≡ false → status.Script n 1 ≡ unless_done (refused_by c bytes) → ⊥
-by_later c bytes n few h = of_fault (fault_of bytes) refl h
+-- what is refused further down isn't refused at the first line
+below_first : (n : ℕ) (o : Option (ℕ × ℕ)) → 0 < n → IfSome o (λ refusal. 0 < refusal.0) → status.Script 1 1 ≡ unless_done (option_map (further_down n) o) → ⊥
+below_first n None some low h = cc
+below_first n (Some refusal) some low h = let one : 1 ≡ n + refusal.0 = cc in omega (arith, one, some, low)
+
+second_below : (input : List ℕ) → 0 < lines_before input → status.Script 1 1 ≡ unless_done (second_refusal input) → ⊥
+unfolding second_refusal
+second_below input some h = below_first (lines_before input) (refusal_in (second_part input)) some (refused_at_line (second_part input)) h
+
+-- where a second script is asked for, some lines stand before it
+abbrev LinesStand : Command → List ℕ → Type 0
+LinesStand (command.Twin l) beside = 0 < lines_before beside
+LinesStand _ beside = Unit {0}
+
+-- and the first one stands in the same input
+abbrev StandsIn : Command → List ℕ → List ℕ → Type 0
+StandsIn (command.Twin l) bytes beside = bytes ≡ first_part beside
+StandsIn _ bytes beside = Unit {0}
+
+lines_stand : (c : Command) (bytes beside : List ℕ) → StandsIn c bytes beside → fault_of bytes ≡ None → LinesStand c beside
+lines_stand command.Run bytes beside stands h = tt
+lines_stand command.Print bytes beside stands h = tt
+lines_stand (command.Gen n) bytes beside stands h = tt
+lines_stand command.Check bytes beside stands h = tt
+lines_stand command.Flow bytes beside stands h = tt
+lines_stand (command.Twin l) bytes beside stands h = some_before beside (ap fault_of (sym stands) ∙ h)
+
+-- a script is refused by the first rule at line 1 only where it is too long
+script_later : (c : Command) (s : List Line) (beside : List ℕ) → LinesStand c beside → status.Script 1 1 ≡ unless_done (script_refusal c s beside) → ⊥
+unfolding script_refusal
+script_later command.Run s beside some h = no_policy_one s 1 h
+script_later command.Print s beside some h = no_policy_one s 1 h
+script_later (command.Gen n) s beside some h = cc
+script_later command.Check s beside some h = no_policy_one s 1 h
+script_later command.Flow s beside some h = no_policy_one s 1 h
+script_later (command.Twin l) s beside some h = by_policy (policy_refusal s) (no_policy_one s 1) h
   where
-    of_fault : (o : Option (ℕ × ℕ)) → fault_of bytes ≡ o → status.Script n 1 ≡ unless_done (option_or o (script_refusal c (script_in bytes))) → ⊥
-    of_fault None is k = script_later c (script_in bytes) n k
+    by_policy : (o : Option (ℕ × ℕ)) → (status.Script 1 1 ≡ unless_done o → ⊥) → status.Script 1 1 ≡ unless_done (option_or o (second_refusal beside)) → ⊥
+    by_policy None other k = second_below beside some k
+    by_policy (Some refusal) other k = other k
+
+by_later : (c : Command) (bytes beside : List ℕ) → StandsIn c bytes beside → nat_lt 16777216 (length bytes) ≡ false → status.Script 1 1 ≡ unless_done (refused_by c bytes beside) → ⊥
+by_later c bytes beside stands few h = of_fault (fault_of bytes) refl h
+  where
+    of_fault : (o : Option (ℕ × ℕ)) → fault_of bytes ≡ o → status.Script 1 1 ≡ unless_done (option_or o (script_refusal c (script_in bytes) beside)) → ⊥
+    of_fault None is k = script_later c (script_in bytes) beside (lines_stand c bytes beside stands is) k
     of_fault (Some fault) is k =
         let one : fault.1 ≡ 1 = cc in
         not_rule_one bytes fault.0 few (is ∙ ap (λ r. Some (fault.0, r)) one)
 
-long_script : (c : Command) (bytes : List ℕ) → status.Script 1 1 ≡ unless_done (refused_by c bytes) → script_max < length bytes
-long_script c bytes h = elim (cases_Bool (nat_lt script_max (length bytes))) [
+long_script : (c : Command) (bytes beside : List ℕ) → StandsIn c bytes beside → status.Script 1 1 ≡ unless_done (refused_by c bytes beside) → script_max < length bytes
+long_script c bytes beside stands h = elim (cases_Bool (nat_lt script_max (length bytes))) [
   | inl is ↦ ltb-true script_max (length bytes) is
-  | inr is ↦ absurd (by_later c bytes 1 is h)
+  | inr is ↦ absurd (by_later c bytes beside stands is h)
 ]
 
 -- a refusal by it is one of an input that is too long
 pub first_rule : (c : Command) (bytes : List ℕ) → status.Script 1 1 ≡ called_for (Some c) bytes → IsTooLong (Some c) bytes
 unfolding called_for refusal_of
-first_rule command.Run bytes h = long_script command.Run bytes h
-first_rule command.Print bytes h = long_script command.Print bytes h
+first_rule command.Run bytes h = long_script command.Run bytes [] tt h
+first_rule command.Print bytes h = long_script command.Print bytes [] tt h
 first_rule (command.Gen n) bytes h = cc
-first_rule command.Flow bytes h = long_script command.Flow bytes h
+first_rule command.Flow bytes h = long_script command.Flow bytes [] tt h
 first_rule command.Check bytes h = by_length (nat_lt check_max (length bytes)) refl h
   where
-    by_length : (b : Bool) → nat_lt check_max (length bytes) ≡ b → status.Script 1 1 ≡ unless_done (if b then Some (1, 1) else refused_by command.Check (script_part bytes))
+    by_length : (b : Bool) → nat_lt check_max (length bytes) ≡ b → status.Script 1 1 ≡ unless_done (if b then Some (1, 1) else refused_by command.Check (script_part bytes) (report_part bytes))
         → IsTooLong (Some command.Check) bytes
     by_length true is k = inl (ltb-true check_max (length bytes) is)
-    by_length false is k = inr (long_script command.Check (script_part bytes) k)
+    by_length false is k = inr (long_script command.Check (script_part bytes) (report_part bytes) tt k)
+first_rule (command.Twin l) bytes h = by_length (nat_lt twin_max (length bytes)) refl h
+  where
+    by_length : (b : Bool) → nat_lt twin_max (length bytes) ≡ b → status.Script 1 1 ≡ unless_done (if b then Some (1, 1) else refused_by (command.Twin l) (first_part bytes) bytes)
+        → IsTooLong (Some (command.Twin l)) bytes
+    by_length true is k = inl (ltb-true twin_max (length bytes) is)
+    by_length false is k = inr (long_script (command.Twin l) (first_part bytes) bytes refl k)
 
 -- ---- texts
 -- the one line of a refusal
@@ -205,6 +271,12 @@ pub done_answer : (bytes : List ℕ) (history : List Event) → status.Done ≡ 
     → text_of (outcome_in command.Check bytes history) ≡ verdict_line (found_in (script_in (script_part bytes)) (report_part bytes))
 unfolding outcome_in text_for
 done_answer bytes history is = whole_text (refusal_of command.Check bytes) (verdict_line (found_in (script_in (script_part bytes)) (report_part bytes))) is
+
+-- a comparison that is done told what is written of the two scripts
+pub done_twins : (l : Categories) (bytes : List ℕ) (history : List Event) → status.Done ≡ status_of (outcome_in (command.Twin l) bytes history)
+    → text_of (outcome_in (command.Twin l) bytes history) ≡ twin_text l (script_in (first_part bytes)) (second_in bytes)
+unfolding outcome_in text_for
+done_twins l bytes history is = whole_text (refusal_of (command.Twin l) bytes) (twin_text l (script_in (first_part bytes)) (second_in bytes)) is
 
 -- and a flow that is done told where the bytes came from
 pub done_traces : (bytes : List ℕ) (history : List Event) → status.Done ≡ status_of (outcome_in command.Flow bytes history) → text_of (outcome_in command.Flow bytes history) ≡ traces (script_in bytes)

@@ -55,6 +55,7 @@ fits_asked (Some command.Run) bytes (status.Script l r) h f = refl
 fits_asked (Some command.Print) bytes (status.Script l r) h f = refl
 fits_asked (Some command.Check) bytes (status.Script l r) h f = refl
 fits_asked (Some command.Flow) bytes (status.Script l r) h f = refl
+fits_asked (Some (command.Twin at)) bytes (status.Script l r) h f = refl
 fits_asked (Some (command.Gen n)) bytes (status.Script l r) h f = let no : status.Script l r ≡ status.Done = h tt ∙ made_done n bytes in cc
 fits_asked asked bytes status.ReadFault h f = f refl
 fits_asked asked bytes status.WriteFault h f = tt
@@ -74,6 +75,7 @@ long_input (Some command.Run) left b told h = of_input left b (λ bytes. script_
 long_input (Some command.Print) left b told h = of_input left b (λ bytes. script_max < length bytes) told (first_rule command.Print b h)
 long_input (Some command.Check) left b told h = of_input left b (λ bytes. IsTooLong (Some command.Check) bytes) told (first_rule command.Check b h)
 long_input (Some command.Flow) left b told h = of_input left b (λ bytes. script_max < length bytes) told (first_rule command.Flow b h)
+long_input (Some (command.Twin l)) left b told h = of_input left b (λ bytes. IsTooLong (Some (command.Twin l)) bytes) told (first_rule (command.Twin l) b h)
 long_input (Some (command.Gen n)) left b told h = let no : status.Script 1 1 ≡ status.Done = h ∙ made_done n b in cc
 
 -- ---- what is written

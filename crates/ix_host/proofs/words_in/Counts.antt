@@ -9,6 +9,9 @@ use Rattle.std.proofs.lemmas.Bool.Decides.{nat_tests}
 use Rattle.std.proofs.lemmas.Str.Parse.{IsDigitsTest, IsNumeralModel, numerals_by_fold, parse_plain}
 use Rattle.ix_model.specs.opening.Valid.{is_within}
 use Rattle.ix_model.specs.world.Naming.{same_bytes}
+use Rattle.ix_label.specs.Category.{Categories}
+use Rattle.ix_label.specs.declared.form.Form.TheVariants as form
+use Rattle.ix_text.specs.Labels.{label_in}
 use Rattle.ix_script.specs.texts.Words.{is_numeral, number_of, value, value_from}
 use Rattle.ix_text.specs.Bytes.{begins_with, is_digit}
 use Rattle.ix_host.specs.declared.asked.command.Command.{Command}
@@ -141,6 +144,10 @@ counted_map : (o : Option ℕ) → IfSome o (λ n. (1 ≤ n) × (n ≤ 100000)) 
 counted_map None h = tt
 counted_map (Some n) h = h
 
+labelled_map : (o : Option Categories) → IfSome (option_map (λ l. command.Twin l) o) IsCounted
+labelled_map None = tt
+labelled_map (Some l) = tt
+
 whole_counted : (words : List (List ℕ)) → IfSome (whole_command words) IsCounted
 whole_counted [] = tt
 whole_counted (word ∷ []) =
@@ -150,7 +157,9 @@ whole_counted (word ∷ []) =
     (counted_if (same_bytes word (codes "print")) (Some command.Print) check tt
     (counted_if (same_bytes word (codes "check")) (Some command.Check) last tt (counted_if (same_bytes word (codes "flow")) (Some command.Flow) None tt tt)))
 whole_counted (word ∷ count ∷ []) =
-    counted_if (same_bytes word (codes "gen")) (option_map (λ n. command.Gen n) (count_of count)) None (counted_map (count_of count) (number_bounds 1 100000 count)) tt
+    let twin = if same_bytes word (codes "twin") then option_map (λ l. command.Twin l) (label_in form.Two count) else None in
+    counted_if (same_bytes word (codes "gen")) (option_map (λ n. command.Gen n) (count_of count)) twin (counted_map (count_of count) (number_bounds 1 100000 count))
+    (counted_if (same_bytes word (codes "twin")) (option_map (λ l. command.Twin l) (label_in form.Two count)) None (labelled_map (label_in form.Two count)) tt)
 whole_counted (word ∷ count ∷ more ∷ words) = tt
 
 -- what the words ask for has a count within bounds
@@ -169,3 +178,4 @@ lanes_counted words = go (command_of words)
     go (Some (command.Gen n)) = tt
     go (Some command.Check) = tt
     go (Some command.Flow) = tt
+    go (Some (command.Twin l)) = tt

@@ -1,6 +1,6 @@
 -- What clap makes of the command words, a word at a time.
 use Rattle.std.proofs.Common.{◌≡◌, ℕ, ◌==◌, Bool, true, false, List, [], ◌∷◌, length, fold, Option, Some, None, is_some, refl, sym, subst, ap, ap₂, ◌∙◌, arith, inl, inr, codes, slice_get, if◌then◌else◌}
-use Rattle.std.proofs.lemmas.Bool.{cases_Bool}
+use Rattle.std.proofs.lemmas.Bool.{cases_Bool, eqb-true}
 use Rattle.std.proofs.lemmas.Bool.Decides.{nat_tests}
 use Rattle.std.specs.Option.{option_map_or}
 use Rattle.std.specs.Str.{bytes_eq, chars}
@@ -20,7 +20,10 @@ use Rattle.clap.specs.Lexer.{long_of, short_of, short_of_rest, strip_byte}
 use Rattle.clap.proofs.OnLiterals.{clap_on_literals}
 use Rattle.ix_host.specs.declared.asked.command.Command.{Command}
 use Rattle.ix_script.specs.texts.Words.{is_numeral, number_of}
+use Rattle.ix_label.specs.declared.form.Form.TheVariants as form
 use Rattle.ix_text.specs.Bytes.{is_digit}
+use Rattle.ix_text.specs.Labels.{label_in}
+use Rattle.ix_host.proofs.words_in.Dashes.{dash_first}
 use Rattle.ix_host.specs.command.Command.{command_of, count_of, left_out, whole_command}
 use Rattle.ix_host.specs.command.CommandLine.{command_line, read_values}
 
@@ -145,13 +148,12 @@ other_than word name k ks clean refused =
 -- so it is no command
 none_whole : (word : Text) (words : List Text) (k : ErrorKind) (ks : Kinds) → fault_in word [] None ≡ k ∷ ks → whole_command (word ∷ words) ≡ None
 none_whole word [] k ks refused = rw (other_than word (codes "run") k ks refl refused, other_than word (codes "print") k ks refl refused, other_than word (codes "check") k ks refl refused, other_than word (codes "flow") k ks refl refused) refl
-none_whole word (count ∷ []) k ks refused = rw (other_than word (codes "gen") k ks refl refused) refl
+none_whole word (more ∷ []) k ks refused = rw (other_than word (codes "gen") k ks refl refused, other_than word (codes "twin") k ks refl refused) refl
 none_whole word (count ∷ more ∷ words) k ks refused = refl
 
--- one that begins with a digit is never refused
-digit_is_free : (b : ℕ) (word : Text) (rows : List Row) (pending : Option (Text × List Text)) → is_digit b ≡ true → fault_in (b ∷ word) rows pending ≡ []
-digit_is_free b word rows pending is =
-    let other : (b == 45) ≡ false = grind (arith, nat_tests, is) in
+-- one that doesn't begin with a hyphen is never refused
+plain_is_free : (b : ℕ) (word : Text) (rows : List Row) (pending : Option (Text × List Text)) → (b == 45) ≡ false → fault_in (b ∷ word) rows pending ≡ []
+plain_is_free b word rows pending other =
     let stripped : strip_byte 45 (b ∷ word) ≡ None = rw other refl in
     rw other (ap (λ o. option_map_or (λ flags. bundle_fault rules false flags (held rows pending)) (option_and_then short_of_rest o) []) stripped)
 
@@ -160,17 +162,30 @@ none_counted : (word : Text) (rows : List Row) (pending : Option (Text × List T
 unfolding number_of is_numeral
 none_counted [] rows pending k ks refused = refl
 none_counted (b ∷ word) rows pending k ks refused = elim (cases_Bool (is_digit b)) [
-  | inl is ↦ let none : [] ≡ k ∷ ks = sym (digit_is_free b word rows pending is) ∙ refused in cc
+  | inl is ↦ let none : [] ≡ k ∷ ks = sym (plain_is_free b word rows pending (grind (arith, nat_tests, is))) ∙ refused in cc
   | inr is ↦ rw is refl
 ]
 
-no_count : (a count : Text) (words : List Text) → count_of count ≡ None → whole_command (a ∷ count ∷ words) ≡ None
-no_count a count [] none = rw none (if_same (bytes_eq a (codes "gen")))
+-- nor a label
+none_labelled : (word : Text) (rows : List Row) (pending : Option (Text × List Text)) (k : ErrorKind) (ks : Kinds) → fault_in word rows pending ≡ k ∷ ks → label_in form.Two word ≡ None
+none_labelled [] rows pending k ks refused = cc
+none_labelled (b ∷ word) rows pending k ks refused = elim (cases_Bool (b == 45)) [
+  | inl is ↦ dashed b word (eqb-true b 45 is) refused
+  | inr other ↦ let none : [] ≡ k ∷ ks = sym (plain_is_free b word rows pending other) ∙ refused in cc
+]
   where
-    if_same : (b : Bool) → ◌≡◌ {A = Option Command} (if b then None else None) None
-    if_same true = refl
-    if_same false = refl
-no_count a count (more ∷ words) none = refl
+    dashed : (b : ℕ) (word : Text) → b ≡ 45 → fault_in (b ∷ word) rows pending ≡ k ∷ ks → label_in form.Two (b ∷ word) ≡ None
+    dashed b [] is h = let none : [] ≡ k ∷ ks = rw is at h in cc
+    dashed b (c ∷ word) is h = rw is (dash_first c word)
+
+no_more : (a more : Text) (words : List Text) → count_of more ≡ None → label_in form.Two more ≡ None → whole_command (a ∷ more ∷ words) ≡ None
+no_more a more [] no_count no_label = rw (no_count, no_label) (if_same (bytes_eq a (codes "gen")) (bytes_eq a (codes "twin")))
+  where
+    if_same : (b c : Bool) → ◌≡◌ {A = Option Command} (if b then None else if c then None else None) None
+    if_same true c = refl
+    if_same false true = refl
+    if_same false false = refl
+no_more a more (another ∷ words) no_count no_label = refl
 
 -- ---- from the start
 -- the fault and the reading from where a walk stands, by what the next word is
@@ -200,7 +215,7 @@ from_one a (word ∷ words) =
     by_word word rows pending 2
     (λ dash refusal met. fault_in word rows pending ≡ refusal
     → Fits (fault_at (at_one false a) word words refusal met) (read_at (at_one false a) word words met) (whole_command (a ∷ (if dash then words else word ∷ left_out words))))
-    (λ is. after_one a words) (λ k ks m is. no_count a word (left_out words) (none_counted word rows pending k ks is)) (λ is. from_two a word words) refl
+    (λ is. after_one a words) (λ k ks m is. no_more a word (left_out words) (none_counted word rows pending k ks is) (none_labelled word rows pending k ks is)) (λ is. from_two a word words) refl
 
 from_none : (words : List Text) → Fits (fault_from (at_none false) words) (read_from (at_none false) words) (whole_command (left_out words))
 unfolding clap_on_literals

@@ -2,7 +2,9 @@
 use Rattle.std.specs.Prelude.{ℕ, ◌≤◌, List, [], ◌∷◌, Option, Some, None, if◌then◌else◌, codes}
 use Rattle.std.specs.Option.{option_map}
 use Rattle.ix_model.specs.world.Naming.{same_bytes}
+use Rattle.ix_label.specs.declared.form.Form.TheVariants as form
 use Rattle.ix_script.specs.texts.Words.{number_of}
+use Rattle.ix_text.specs.Labels.{label_in}
 use Rattle.ix_host.specs.declared.asked.command.Command.{Command}
 use Rattle.ix_host.specs.declared.asked.command.Command.TheVariants as command
 
@@ -24,9 +26,12 @@ named_command word =
 abbrev pub count_of : List ℕ → Option ℕ
 count_of word = number_of 1 100000 word
 
--- the command of a word and a count
+-- the command of a word and a count, or a label
 abbrev pub counted_command : List ℕ → List ℕ → Option Command
-counted_command word count = if same_bytes word (codes "gen") then option_map (λ n. command.Gen n) (count_of count) else None
+counted_command word more =
+    if same_bytes word (codes "gen") then option_map (λ n. command.Gen n) (count_of more)
+    else if same_bytes word (codes "twin") then option_map (λ l. command.Twin l) (label_in form.Two more)
+    else None
 
 -- the command of all the words that stand there
 abbrev pub whole_command : List (List ℕ) → Option Command
@@ -35,13 +40,13 @@ whole_command (word ∷ []) = named_command word
 whole_command (word ∷ count ∷ []) = counted_command word count
 whole_command (word ∷ count ∷ more ∷ words) = None
 
--- The words are a command where they are `run`, `print`, `check`, `flow`, or `gen` and a count, once at most one word `--` is left out.
+-- The words are a command where they are `run`, `print`, `check`, `flow`, `gen` and a count, or `twin` and a label, once at most one word `--` is left out.
 unfoldable pub command_of : List (List ℕ) → Option Command
 command_of words = whole_command (left_out words)
 
 -- what is written where the words are no command
 abbrev pub usage_line : List ℕ
-usage_line = codes "usage: ixone run | print | gen COUNT | check | flow\n"
+usage_line = codes "usage: ixone run | print | gen COUNT | check | flow | twin LABEL\n"
 
 -- ---- the program that runs the lanes side by side
 -- `run` is its one command

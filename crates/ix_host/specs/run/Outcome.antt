@@ -1,5 +1,5 @@
 -- What is asked for comes to, with an input and a history of the script that the input is: a text, a refusal, or the usage line.
-use Rattle.std.specs.Prelude.{ℕ, nat_lt, List, length, Option, Some, None, if◌then◌else◌}
+use Rattle.std.specs.Prelude.{ℕ, nat_lt, List, [], length, Option, Some, None, if◌then◌else◌}
 use Rattle.std.specs.Option.{option_or}
 use Rattle.ix_model.specs.history.Events.{Event}
 use Rattle.ix_script.specs.scripts.Canonical.{canonical}
@@ -9,6 +9,8 @@ use Rattle.ix_replay.specs.report.Report.{report_of}
 use Rattle.ix_replay.specs.Summary.{summary_line}
 use Rattle.ix_check.specs.Plans.{found_in}
 use Rattle.ix_check.specs.Verdicts.{verdict_line}
+use Rattle.ix_host.specs.Seconds.{second_in, second_refusal}
+use Rattle.ix_twin.specs.Lines.{twin_text}
 use Rattle.ix_host.specs.declared.asked.command.Command.{Command}
 use Rattle.ix_host.specs.declared.asked.command.Command.TheVariants as command
 use Rattle.ix_host.specs.declared.status.Status.{Status}
@@ -16,7 +18,7 @@ use Rattle.ix_host.specs.declared.status.Status.TheVariants as status
 use Rattle.ix_host.specs.Policies.{policy_refusal}
 use Rattle.ix_host.specs.Traces.{traces}
 use Rattle.ix_host.specs.report.Rules.{refusal_line}
-use Rattle.ix_host.specs.run.Inputs.{check_max, report_bytes, script_bytes, script_in}
+use Rattle.ix_host.specs.run.Inputs.{beside_bytes, check_max, script_bytes, script_in, twin_max}
 
 -- a whole text, the line and the rule of a refusal, or the usage line
 pub data Outcome : Type 0 where
@@ -25,48 +27,54 @@ pub data Outcome : Type 0 where
   Usage : List ℕ → Outcome
 
 -- ---- the outcome
--- the line and the rule by which a script without a fault is refused: by its policy
-unfoldable pub script_refusal : Command → List Line → Option (ℕ × ℕ)
-script_refusal command.Run s = policy_refusal s
-script_refusal command.Print s = policy_refusal s
-script_refusal (command.Gen n) s = None
-script_refusal command.Check s = policy_refusal s
-script_refusal command.Flow s = policy_refusal s
+-- the line and the rule by which a script without a fault is refused, beside which this is asked for: by its policy, and for `twin` by what the second
+-- script is refused for, once the first isn't
+unfoldable pub script_refusal : Command → List Line → List ℕ → Option (ℕ × ℕ)
+script_refusal command.Run s beside = policy_refusal s
+script_refusal command.Print s beside = policy_refusal s
+script_refusal (command.Gen n) s beside = None
+script_refusal command.Check s beside = policy_refusal s
+script_refusal command.Flow s beside = policy_refusal s
+script_refusal (command.Twin l) s beside = option_or (policy_refusal s) (second_refusal beside)
 
--- the line and the rule by which the bytes of a script are refused: their fault stands before all else
-abbrev pub refused_by : Command → List ℕ → Option (ℕ × ℕ)
-refused_by c bytes = option_or (fault_of bytes) (script_refusal c (script_in bytes))
+-- the line and the rule by which the bytes of a script are refused, beside which this is asked for: their fault stands before all else
+abbrev pub refused_by : Command → List ℕ → List ℕ → Option (ℕ × ℕ)
+refused_by c bytes beside = option_or (fault_of bytes) (script_refusal c (script_in bytes) beside)
 
--- The line and the rule by which an input is refused. What `gen` reads never is; that of `check` is by the first rule, at the first line, where all of
--- it is too long.
+-- The line and the rule by which an input is refused. What `gen` reads never is; that of `check` and of `twin` is by the first rule, at the first line,
+-- where all of it is too long.
 unfoldable pub refusal_of : Command → List ℕ → Option (ℕ × ℕ)
-refusal_of command.Run bytes = refused_by command.Run bytes
-refusal_of command.Print bytes = refused_by command.Print bytes
+refusal_of command.Run bytes = refused_by command.Run bytes []
+refusal_of command.Print bytes = refused_by command.Print bytes []
 refusal_of (command.Gen n) bytes = None
-refusal_of command.Check bytes = if nat_lt check_max (length bytes) then Some (1, 1) else refused_by command.Check (script_bytes command.Check bytes)
-refusal_of command.Flow bytes = refused_by command.Flow bytes
+refusal_of command.Check bytes = if nat_lt check_max (length bytes) then Some (1, 1) else refused_by command.Check (script_bytes command.Check bytes) (beside_bytes command.Check bytes)
+refusal_of command.Flow bytes = refused_by command.Flow bytes []
+refusal_of (command.Twin l) bytes =
+    if nat_lt twin_max (length bytes) then Some (1, 1) else refused_by (command.Twin l) (script_bytes (command.Twin l) bytes) (beside_bytes (command.Twin l) bytes)
 
--- The text that a command gives of a script, of a text that claims to be its report, and of a history of it: the history's report, the canonical text,
--- the history's summary, what is found of the text, or where the bytes came from that the script's serial history reads.
+-- The text that a command gives of a script, of what else is asked for, and of a history of it: the history's report, the canonical text, the history's
+-- summary, what is found of the text that claims to be its report, where the bytes came from that the script's serial history reads, or what is written
+-- of it and the second script, compared at a label.
 unfoldable pub text_for : Command → List Line → List ℕ → List Event → List ℕ
-text_for command.Run s claimed history = report_of s history
-text_for command.Print s claimed history = canonical s
-text_for (command.Gen n) s claimed history = summary_line n s history
-text_for command.Check s claimed history = verdict_line (found_in s claimed)
-text_for command.Flow s claimed history = traces s
+text_for command.Run s beside history = report_of s history
+text_for command.Print s beside history = canonical s
+text_for (command.Gen n) s beside history = summary_line n s history
+text_for command.Check s beside history = verdict_line (found_in s beside)
+text_for command.Flow s beside history = traces s
+text_for (command.Twin l) s beside history = twin_text l s (second_in beside)
 
 -- a refusal, or a whole text
 abbrev pub unless_refused : Option (ℕ × ℕ) → List ℕ → Outcome
 unless_refused None text = Whole text
 unless_refused (Some refusal) text = Refused refusal.0 refusal.1
 
--- what a command comes to with a script, and a text that claims to be its report
+-- what a command comes to with a script, and what else is asked for
 unfoldable pub outcome_for : Command → List Line → List ℕ → List Event → Outcome
-outcome_for c s claimed history = unless_refused (script_refusal c s) (text_for c s claimed history)
+outcome_for c s beside history = unless_refused (script_refusal c s beside) (text_for c s beside history)
 
 -- what a command comes to with an input
 unfoldable pub outcome_in : Command → List ℕ → List Event → Outcome
-outcome_in c bytes history = unless_refused (refusal_of c bytes) (text_for c (script_in (script_bytes c bytes)) (report_bytes c bytes) history)
+outcome_in c bytes history = unless_refused (refusal_of c bytes) (text_for c (script_in (script_bytes c bytes)) (beside_bytes c bytes) history)
 
 -- what is asked for comes to, and to the usage line where nothing is
 abbrev pub outcome_of : List ℕ → Option Command → List ℕ → List Event → Outcome

@@ -1,5 +1,7 @@
+use ix_label::Label;
+
 /// What the command words ask for.
-#[derive(Clone, Copy, Debug, PartialEq, Eq)]
+#[derive(Clone, Copy)]
 pub enum Command {
     /// The report of a script.
     Run,
@@ -11,4 +13,6 @@ pub enum Command {
     Check,
     /// Where each byte came from that a script's processes read.
     Flow,
+    /// Two scripts, compared at a label.
+    Twin(Label),
 }

@@ -9,7 +9,9 @@ ghost use Rattle.ix_host.specs.command.CommandLine.{command_line, read_values};
 use crate::asked::command::Command;
 use clap::error::ErrorKind;
 use clap::{Arg, ArgAction, ArgMatches};
+use ix_label::Form;
 use ix_model::NoMemory;
+use ix_text::label_in;
 use std::alloc::{AllocError, Global};
 
 /// The command that the words are, once at most one word `--` is left out.
@@ -64,13 +66,17 @@ fn named_command(word: &str) -> Option<Command>
     }
 }
 
-/// The command of a word and a count.
-fn counted_command(word: &str, count: &str) -> Option<Command>
-    ensures { result ≡ counted_command word.now count.now }
+/// The command of a word and a count, or a label.
+fn counted_command(word: &str, more: &str) -> Option<Command>
+    ensures { result ≡ counted_command word.now more.now }
 {
     match word {
-        "gen" => match count_of(count) {
+        "gen" => match count_of(more) {
             Some(n) => Some(Command::Gen(n)),
+            None => None,
+        },
+        "twin" => match label_in(Form::Two, more.as_bytes()) {
+            Some(label) => Some(Command::Twin(label)),
             None => None,
         },
         _ => None,

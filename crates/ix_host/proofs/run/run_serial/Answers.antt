@@ -11,6 +11,7 @@ use Rattle.ix_host.specs.run.Whole.{TakesFew}
 use Rattle.ix_host.specs.run.Tasks.{text_told}
 use Rattle.ix_host.proofs.comes_to.Preparing.{run_is_no_end}
 use Rattle.ix_host.proofs.comes_to.Checked.{takes_verdict}
+use Rattle.ix_host.proofs.comes_to.Both.{takes_twins}
 use Rattle.ix_host.proofs.comes_to.Followed.{takes_traces}
 use Rattle.ix_host.proofs.comes_to.Verdicts.{Verdict, answer_read, at_serial, told_read, told_read_out, verdict_ended, verdict_told}
 use Rattle.ix_host.proofs.words_in.Counts.{command_counted}
@@ -39,6 +40,8 @@ returns-in-Ended g c =
       judged = λ is asked. takes_verdict c.texts_are_judged.ensures.names c.texts_are_judged.ensures.judged (command_of c.args.words.now) left c.in-Ended.status taken (g.K.Sink.taken c.prepare.new.sink) is asked v.answer
           (at_serial (script_for (command_of c.args.words.now)) (input_of (command_of c.args.words.now) left) taken (λ bytes t history. WritesFor c.in-Ended.status (text_of (outcome_of usage_line (command_of c.args.words.now) bytes history)) t (g.K.Sink.taken c.prepare.new.sink)) v.written);
       traced = λ is asked. takes_traces c.lines_are_accounted_for.ensures.law (command_of c.args.words.now) left c.in-Ended.status taken (g.K.Sink.taken c.prepare.new.sink) is asked v.answer
+          (at_serial (script_for (command_of c.args.words.now)) (input_of (command_of c.args.words.now) left) taken (λ bytes t history. WritesFor c.in-Ended.status (text_of (outcome_of usage_line (command_of c.args.words.now) bytes history)) t (g.K.Sink.taken c.prepare.new.sink)) v.written);
+      compared = λ l is asked. takes_twins c.twins_are_compared.ensures.compared c.twin_lines.ensures.lines l (command_of c.args.words.now) left c.in-Ended.status taken (g.K.Sink.taken c.prepare.new.sink) is asked v.answer
           (at_serial (script_for (command_of c.args.words.now)) (input_of (command_of c.args.words.now) left) taken (λ bytes t history. WritesFor c.in-Ended.status (text_of (outcome_of usage_line (command_of c.args.words.now) bytes history)) t (g.K.Sink.taken c.prepare.new.sink)) v.written);
       not_written = λ is. (e.fault (ap task.Ended is)).2;
       command = v.fits;
@@ -72,6 +75,8 @@ returns-in-Run g c =
       judged = λ is asked. takes_verdict c.texts_are_judged.ensures.names c.texts_are_judged.ensures.judged (command_of c.args.words.now) left c.tell_serial.result taken (g.K.Sink.taken c.tell_serial.new.sink) is asked v.answer
           (at_serial (script_for (command_of c.args.words.now)) (input_of (command_of c.args.words.now) left) taken (λ bytes t history. WritesFor c.tell_serial.result (text_of (outcome_of usage_line (command_of c.args.words.now) bytes history)) t (g.K.Sink.taken c.tell_serial.new.sink)) v.written);
       traced = λ is asked. takes_traces c.lines_are_accounted_for.ensures.law (command_of c.args.words.now) left c.tell_serial.result taken (g.K.Sink.taken c.tell_serial.new.sink) is asked v.answer
+          (at_serial (script_for (command_of c.args.words.now)) (input_of (command_of c.args.words.now) left) taken (λ bytes t history. WritesFor c.tell_serial.result (text_of (outcome_of usage_line (command_of c.args.words.now) bytes history)) t (g.K.Sink.taken c.tell_serial.new.sink)) v.written);
+      compared = λ l is asked. takes_twins c.twins_are_compared.ensures.compared c.twin_lines.ensures.lines l (command_of c.args.words.now) left c.tell_serial.result taken (g.K.Sink.taken c.tell_serial.new.sink) is asked v.answer
           (at_serial (script_for (command_of c.args.words.now)) (input_of (command_of c.args.words.now) left) taken (λ bytes t history. WritesFor c.tell_serial.result (text_of (outcome_of usage_line (command_of c.args.words.now) bytes history)) t (g.K.Sink.taken c.tell_serial.new.sink)) v.written);
       not_written = λ is. absurd (told_read text c.tell_serial.result e.fits is);
       command = v.fits;

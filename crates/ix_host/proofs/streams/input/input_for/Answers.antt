@@ -22,3 +22,8 @@ pub returns-in-Flow-clause-gathers : goal.returns-in-Flow-clause-gathers
 returns-in-Flow-clause-gathers g c = λ _.
     subst (λ k. IfSome (g.S.Source.left c.args.source.now) (λ bytes. Gathers (input_max (Some k)) bytes (g.S.Source.left c.read_all-in-Flow.new.source) c.read_all-in-Flow.result)) (sym c.in-Flow.is)
     c.read_all-in-Flow.ensures.told
+
+pub returns-in-Twin-clause-gathers : goal.returns-in-Twin-clause-gathers
+returns-in-Twin-clause-gathers g c = λ _.
+    subst (λ k. IfSome (g.S.Source.left c.args.source.now) (λ bytes. Gathers (input_max (Some k)) bytes (g.S.Source.left c.read_all-in-Twin.new.source) c.read_all-in-Twin.result)) (sym c.in-Twin.is)
+    c.read_all-in-Twin.ensures.told

@@ -1,4 +1,4 @@
-use Rattle.std.proofs.Common.{◌++◌, List, ℕ, None, Some, sym, subst}
+use Rattle.std.proofs.Common.{List, ℕ, None, sym, subst}
 use Rattle.ix_host.specs.run.Outlet.{StandsAt}
 use Rattle.ix_host.proofs.piecewise.Stands.{stands_front}
 use Rattle.ix_host.proofs.streams.outlet.told.Goals as goal

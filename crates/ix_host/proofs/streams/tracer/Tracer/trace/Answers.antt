@@ -1,9 +1,8 @@
-use Rattle.std.proofs.Common.{◌≡◌, [], ℕ, ◌++◌, List, Option, None, refl, sym, ap, ◌∙◌, subst}
-use Rattle.ix_model.specs.history.History.{History}
+use Rattle.std.proofs.Common.{◌≡◌, [], ℕ, ◌++◌, List, refl, sym, ap, ◌∙◌, subst}
 use Rattle.ix_flow.specs.Lines.{end_line, flow_text}
 use Rattle.ix_flow.specs.Tracking.{counts_of, lines_after, lines_so_far}
 use Rattle.ix_flow.proofs.FlowTexts.{lines_and_end}
-use Rattle.ix_host.specs.Traces.{serial_run, traces}
+use Rattle.ix_host.specs.Traces.{traces}
 use Rattle.ix_host.specs.run.Outcome as outcome
 use Rattle.ix_host.specs.run.Outlet.{StandsAt}
 use Rattle.ix_host.specs.run.Run.{Ends}

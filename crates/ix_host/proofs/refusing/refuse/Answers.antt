@@ -1,6 +1,6 @@
 use Rattle.std.proofs.Common.{◌∙◌, refl, sym}
 use Rattle.ix_host.specs.run.Outcome as outcome
-use Rattle.ix_host.proofs.preparing.refuse.Goals as goal
+use Rattle.ix_host.proofs.refusing.refuse.Goals as goal
 
 pub returns-in-Ok : goal.returns-in-Ok
 returns-in-Ok g c = c.tell.ensures (outcome.Refused c.args.line c.args.rule) (sym (c.as_slice.ensures.value ∙ c.in-Ok.ensures)) refl
