@@ -33,7 +33,8 @@ use Rattle.ix_host.specs.Laws.{PrintedIsYes}
 use Rattle.ix_host.specs.declared.asked.command.Command.TheVariants as command
 use Rattle.ix_host.specs.run.Outcome as outcome
 use Rattle.ix_host.specs.run.Outcome.{outcome_for, outcome_in, text_for}
-use Rattle.ix_host.proofs.comes_to.Outcomes.{accepted, outcome_accepted, outcome_script, without_fault}
+use Rattle.ix_host.proofs.comes_to.Outcomes.{accepted, outcome_accepted, outcome_script}
+use Rattle.ix_host.proofs.comes_to.Seconds.{without_fault}
 
 -- ---- lines
 abbrev feed : List ℕ → List ℕ
