@@ -12,4 +12,4 @@ pub use keeper::Core;
 pub use seen::{SeenSys, read_by};
 pub use stops::Stops;
 pub use system::CoreSys;
-pub use witness::{Nobody, Witness};
+pub use witness::Witness;

@@ -30,22 +30,3 @@ pub trait Witness {
         ensures knows { (first : Self) (before : History) → IsNext before core.now (entry seat line pid (op_of call.now)) reply.now bytes.now
             → knows first before self.old → knows first core.now self.new };
 }
-
-/// A witness that looks away. It knows nothing.
-#[derive(Clone, Copy, Debug, PartialEq, Eq)]
-pub struct Nobody;
-
-impl Witness for Nobody {
-    ghost knows = { λ _ _ _. Unit {0} };
-
-    fn see(
-        &mut self,
-        _core: &Core,
-        _line: u32,
-        _pid: Pid,
-        _seat: u32,
-        _call: &Call<'_>,
-        _reply: &Reply,
-        _bytes: &[u8],
-    ) {}
-}

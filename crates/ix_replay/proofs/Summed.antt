@@ -21,6 +21,7 @@ use Rattle.ix_model.specs.declared.reply.Reply.{Reply}
 use Rattle.ix_model.specs.declared.reply.Reply.TheVariants as reply
 use Rattle.ix_model.proofs.clean.Cleaning.{WriteFacts, wrote}
 use Rattle.ix_model.proofs.clean.Showing.{shown_step}
+use Rattle.ix_model.proofs.words.Seats.{replied-push}
 use Rattle.ix_script.specs.scripts.Scripts.{config_of}
 use Rattle.ix_script.specs.declared.line.Line.{Line}
 use Rattle.ix_report.specs.LineText.{totals_line}
@@ -96,15 +97,6 @@ tally_small w place events few =
     }
 
 -- ---- one entry more
-replied_more : (w : World) (place : ℕ) (events : List Event) (e : Event)
-    → replied w place (events ++ e ∷ []) ≡ replied w place events ++ made_of e (step_of (run w place events) (length events + place) e) ∷ []
-replied_more w place [] e = let z : place ≡ 0 + place = omega arith in ap (λ n. made_of e (step_of w n e) ∷ []) z
-replied_more w place (x ∷ events) e =
-    let later = step_of w place x in
-    let z : length events + suc place ≡ suc (length events) + place = omega arith in
-    ap (λ l. made_of x later ∷ l) (replied_more later.world (suc place) events e
-    ∙ ap (λ n. replied later.world (suc place) events ++ made_of e (step_of (run later.world (suc place) events) n e) ∷ []) z)
-
 tally_more : (made : List Made) (m : Made) → with_reply (tally_of made) m.event.op m.reply ≡ tally_of (made ++ m ∷ [])
 unfolding refused_in read_in written_in
 tally_more made m =
@@ -127,7 +119,7 @@ module _ (before h : History) (t : Tally) (e : Event) (r : Reply) (made : h ≡ 
       let m : Made = made_of e (next before e) in
       (λ i. with_reply (seen i) e.op (given i))
       ∙ tally_more (replied (opening_world before.config) 1 before.events) m
-      ∙ ap tally_of (sym (replied_more (opening_world before.config) 1 before.events e))
+      ∙ ap tally_of (sym (replied-push (opening_world before.config) 1 before.events e))
       ∙ ap (λ (x : History). tally_of (replied (opening_world x.config) 1 x.events)) (sym made)
 
   -- for which it has room
