@@ -18,8 +18,8 @@ pub fn count_in(reply: &Reply) -> usize
 }
 
 /// Makes the call that stands next on the system of its seat, and lets what asked for it hear the answer: `Ok(None)`. Where none
-/// stands next it is `Ok(Some(..))` of what came of all, and nothing is called. After a stop both are as they were, but for the
-/// count of stops.
+/// stands next it is `Ok(Some(..))` of what came of all, and nothing is called. `Err` is the stop of a call that wasn't made, since the
+/// journal has no room for it or there is no memory: both are as they were then, but for the count of stops.
 pub fn make_next<S: Sys, A: Asks>(
     sys: &mut S,
     asks: &mut A,
@@ -44,7 +44,7 @@ pub fn make_next<S: Sys, A: Asks>(
 }
 
 /// Makes the calls that are asked for, each once the one before it is answered, until nothing more is asked for, and answers what
-/// came of all. After a stop no more is called.
+/// came of all. `Err` is the stop of the first call that wasn't made: those before it stay made, and no more is called.
 pub fn run<S: Sys, A: Asks>(sys: &mut S, asks: &mut A, buf: &mut Buf) -> Result<A::Came, Stop>
     ensures { (more : List Made) × Makes S.seat S.made S.follows (A.asking asks.old) sys.old sys.new more
         × (A.asking asks.new ≡ all_heard (A.asking asks.old) (answers_of more))

@@ -25,7 +25,7 @@ impl Stop {
     }
 }
 
-/// The reply of an answer that gives one, or why the call wasn't made.
+/// The reply that an answer gives; `Err`, with the stop, where the call wasn't made.
 pub fn given(answer: &Answer) -> Result<&Reply, Stop>
     ensures given { IfOk result (λ reply. answer.now ≡ AnswerOf.Given reply.now) }
     ensures stop { IfErr result (λ stop. answer.now ≡ answer_at stop) }

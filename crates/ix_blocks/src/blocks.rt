@@ -10,7 +10,7 @@ use ix_model::blocks_for;
 use std::alloc::Global;
 use std::marker::Model;
 
-/// More blocks are needed than are free.
+/// More blocks, of 512 bytes each, are needed than are free.
 #[derive(Debug, Clone, Copy, PartialEq, Eq)]
 pub struct NoSpace;
 
@@ -19,6 +19,9 @@ pub struct NoSpace;
 /// A file has the blocks that its bytes fill, the last one in part, and no more. Contracts see the
 /// bytes of each file and the number of blocks. The blocks of a file are a chain, so `read` and
 /// `write` go to the first block that they touch from the end of the chain that is nearer.
+///
+/// Files are numbered from 0, and each call that names one asks that it is below their number. A length is in bytes; each call
+/// that is given one, or writes, asks that the file has at most 1,048,576 then.
 #[derive(Drop)]
 pub struct Blocks {
     store: Store,
@@ -50,7 +53,7 @@ impl Blocks {
         Ok(Blocks { store, lengths })
     }
 
-    /// How many bytes a file has. Constant time.
+    /// How many bytes a file has, at most 1,048,576. Constant time.
     pub fn len(&self, file: u32) -> u64
         requires { file < length self.now.files }
         ensures { result ≡ length (bytes_of file self.now) }
@@ -86,8 +89,8 @@ impl Blocks {
     /// Writes bytes over those of a file from `at` on. Where they end past the last byte the file
     /// grows, and a gap before them reads as zeros. A write of no bytes changes nothing.
     ///
-    /// [`NoSpace`], and nothing has changed, exactly where the file would need more blocks than it
-    /// has and are free. The cost is that of the bytes and of the gap, and a step for each block of
+    /// [`NoSpace`], and nothing has changed, exactly where the file would need more blocks than its own and
+    /// the free ones together. The cost is that of the bytes and of the gap, and a step for each block of
     /// the file before them, or behind the first of them, whichever are fewer.
     pub fn write(&mut self, file: u32, at: u64, bytes: &[u8]) -> Result<(), NoSpace>
         requires file { file < length self.old.files }
@@ -107,8 +110,8 @@ impl Blocks {
     /// Sets the number of bytes of a file. What is past it goes, and the blocks that are needed no
     /// more are free at once; where the file grows it has zeros.
     ///
-    /// [`NoSpace`], and nothing has changed, exactly where the file would need more blocks than it
-    /// has and are free. The cost is that of the blocks taken or given back.
+    /// [`NoSpace`], and nothing has changed, exactly where the file would need more blocks than its own and
+    /// the free ones together. The cost is that of the blocks taken or given back.
     pub fn cut(&mut self, file: u32, len: u64) -> Result<(), NoSpace>
         requires file { file < length self.old.files }
         requires most { len ≤ most }
@@ -120,8 +123,8 @@ impl Blocks {
         Ok(())
     }
 
-    /// Whether a file may have a length: it needs no more blocks than it has and are free. So this tells whether a write or a
-    /// cut to that length is refused. Constant time.
+    /// Whether a file may have a length: it needs no more blocks then than its own and the free ones together. So this tells
+    /// whether a write or a cut to that length is refused. Constant time.
     pub fn has_room(&self, file: u32, len: u64) -> bool
         requires file { file < length self.now.files }
         requires most { len ≤ most }

@@ -192,7 +192,8 @@ impl<L: LaneSteps> Judge<'_, L> {
         self.look_at_closing(Next::Head, number, line)
     }
 
-    /// Looks at the next line of the text, with its line feed. After `NoMemory` it isn't gone on with.
+    /// Looks at the next line of the text, with its line feed. `NoMemory` where there was none to print what should stand there:
+    /// the judge isn't gone on with then.
     pub fn line(&mut self, line: &[u8]) -> Result<(), NoMemory>
         requires { (before : Walked) × IsAt L.at self.old.printer.script.now self.old before }
         ensures script { self.new.printer.script.now ≡ self.old.printer.script.now }
@@ -234,7 +235,8 @@ impl<L: LaneSteps> Judge<'_, L> {
         Verdict::No(number)
     }
 
-    /// What is answered of a text, to whose end it is looked at. After `NoMemory` it isn't gone on with.
+    /// What is answered of a text, to whose end it is looked at. It asks that nothing was looked at before, and answers `NoMemory`
+    /// as [`line`](Judge::line) does.
     pub fn text(&mut self, text: &[u8]) -> Result<Verdict, NoMemory>
         requires { IsAt L.at self.old.printer.script.now self.old walk.Begins }
         ensures { IfOk result (λ verdict. IsVerdict self.old.printer.script.now text.now (verdict_of verdict)) }

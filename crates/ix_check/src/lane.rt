@@ -57,7 +57,8 @@ impl LaneSteps for LaneCalls<'_> {
     }
 }
 
-/// The lanes of a script by seats, none of which has made a call, by the script's policy, if it has one.
+/// The lanes of a script by seats, none of which has made a call, by the script's policy, if it has one. `NoMemory` where there was
+/// none for them.
 pub fn first_lanes<'a>(
     alloc: Global,
     script: &'a Script,
@@ -100,7 +101,8 @@ fn make_call<L: LaneSteps, W: Witness>(
     }
 }
 
-/// Makes the next call of a lane on a core, and has its line printed. After `NoMemory` neither the core nor the lane is used again.
+/// Makes the next call of a lane on a core, and has its line printed. `NoMemory` where there was none for the line: neither the core
+/// nor the lane is used again then.
 pub fn print_call<L: LaneSteps>(
     lane: &mut L,
     core: &mut Core,

@@ -21,7 +21,7 @@ pub struct Printer<'a> {
 }
 
 impl<'a> Printer<'a> {
-    /// One that has printed nothing, with room for a line.
+    /// One that has printed nothing, with room for a line. `NoMemory` where there was none for that room.
     pub fn new(alloc: Global, script: &'a Script) -> Result<Printer<'a>, NoMemory>
         ensures script { IfOk result (λ printer. printer.script.now ≡ script.now) }
     {

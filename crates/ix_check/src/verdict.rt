@@ -32,7 +32,7 @@ fn push_number(out: &mut Vec<u8>, word: &[u8], n: u64) -> Result<(), NoMemory>
     push(out, b"\n")
 }
 
-/// Appends the line of an answer. After `NoMemory` some of it may stand there.
+/// Appends the line of an answer, with its line feed. After `NoMemory` some of it may stand there.
 #[tactic(auto, unfolding(crate::specs::Verdicts::verdict_line))]
 pub fn push_verdict(out: &mut Vec<u8>, verdict: Verdict) -> Result<(), NoMemory>
     ensures { OnOk result (out.new.items ≡ out.old.items ++ verdict_line (verdict_of verdict)) }

@@ -102,7 +102,7 @@ impl Files {
         self.tables.set_label(obj.0, label);
     }
 
-    /// Freezes the label of a file or a directory, or lets it float again.
+    /// Freezes the label of a file or a directory, or lets it float again. It asks that it is no pipe, and looks at no label.
     pub fn set_frozen(&mut self, obj: Obj, on: bool)
         requires lives { IsTrue (is_some (at self.old.objects obj.0)) }
         requires inode { is_pipe (node self.old.objects obj.0) ≡ false }
@@ -111,7 +111,7 @@ impl Files {
         self.tables.set_frozen(obj.0, on);
     }
 
-    /// Sets the privileges that a file or a directory carries.
+    /// Sets the capabilities and the licences that a file or a directory carries. It asks that it is no pipe.
     pub fn set_privs(&mut self, obj: Obj, cap: PrivSet, lic: PrivSet)
         requires lives { IsTrue (is_some (at self.old.objects obj.0)) }
         requires inode { is_pipe (node self.old.objects obj.0) ≡ false }

@@ -8,7 +8,7 @@ use ix_model::{NoMemory, Obj};
 use std::alloc::Global;
 use std::collections::BTreeMap;
 
-/// The places at which objects were let down.
+/// The places at which objects were let down. `NoMemory` comes where there is none for one more; they aren't used again then.
 #[derive(Drop)]
 pub struct Falls {
     /// The number of the object times 2^32, and the place.

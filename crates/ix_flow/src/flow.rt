@@ -42,7 +42,8 @@ impl Model for Flow {
 }
 
 impl Flow {
-    /// One without entries, of a valid config.
+    /// One without entries, of a config that it asks to be valid. `NoMemory` where there was none for the core, or for where the
+    /// bytes of its files come from.
     pub fn new(alloc: Global, config: Config) -> Result<Flow, NoMemory>
         requires { IsTrue (is_valid config) }
         ensures { IfOk result (λ f. f ≡ record { config = config; events = [] }) }

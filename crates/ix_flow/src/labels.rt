@@ -8,7 +8,8 @@ use std::collections::BTreeMap;
 use std::marker::Brand;
 use std::sync::ledger::{Blank, Ledger};
 
-/// The labels that bytes were written under, each with a number. A process that keeps its label keeps the number, too.
+/// The labels that bytes were written under, each with a number. A process that keeps its label keeps the number, too. `NoMemory`
+/// comes where there is none for one more; they aren't used again then.
 #[derive(Drop)]
 pub struct Labels {
     all: Vec<Label>,

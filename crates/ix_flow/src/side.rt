@@ -15,6 +15,8 @@ use std::collections::BTreeMap;
 
 /// Where what an end of an object can read came from: of each run the number at which it begins, and its source. A run goes on
 /// to the next one, or to the end.
+///
+/// Numbers, offsets and counts are of bytes. After `NoMemory` it stands for nothing and isn't used again.
 #[derive(Drop)]
 pub struct Side {
     /// The number of the first byte that is there: those before it were taken from the front.
@@ -153,7 +155,8 @@ impl Side {
         Ok(())
     }
 
-    /// Puts so many bytes of a write over those of a file, from an offset on; a gap before them is one.
+    /// Puts so many bytes of a write over those of a file, from an offset on; a gap before them is one. `NoMemory` where there was
+    /// none for a run, or the file would end past 2^32 - 1.
     pub fn write(&mut self, offset: u32, count: u32, place: u32, label: u32) -> Result<(), NoMemory>
         ensures like { OnOk result ((origins : List Origin) → self.old.front ≡ 0 → IsLike self.old origins
             → IsLike self.new (written_over origin.Gap offset (numbered (origin.Written place) 0 count) origins)) }
@@ -176,7 +179,8 @@ impl Side {
         Ok(())
     }
 
-    /// Puts so many bytes of a write behind those that are there.
+    /// Puts so many bytes of a write behind those that are there. `NoMemory` where there was none for a run, or the number behind
+    /// the last byte would be past 2^32 - 1.
     pub fn append(&mut self, count: u32, place: u32, label: u32) -> Result<(), NoMemory>
         ensures like { OnOk result ((origins : List Origin) → IsLike self.old origins → IsLike self.new (origins ++ numbered (origin.Written place) 0 count)) }
         ensures sources { OnOk result ((x : Source) → StandsIn self.new x → ComesOf self.old (Write place self.old.end label) x) }
@@ -197,7 +201,8 @@ impl Side {
         Ok(())
     }
 
-    /// Takes so many bytes from the front, as far as there are any.
+    /// Takes so many bytes from the front, as far as there are any. `NoMemory` where a run is parted, and there was none for its
+    /// rest.
     pub fn take(&mut self, count: u32) -> Result<(), NoMemory>
         ensures like { OnOk result ((origins : List Origin) → IsLike self.old origins → IsLike self.new (drop count origins)) }
         ensures sources { OnOk result ((x : Source) → StandsIn self.new x → StandsIn self.old x) }
@@ -212,7 +217,7 @@ impl Side {
         Ok(())
     }
 
-    /// Sets the length of a file: what is past it goes, and what is missing is a gap.
+    /// Sets the length of a file: what is past it goes, and what is missing is a gap. `NoMemory` where there was none for the gap.
     pub fn cut(&mut self, len: u32) -> Result<(), NoMemory>
         ensures like { OnOk result ((origins : List Origin) → self.old.front ≡ 0 → IsLike self.old origins → IsLike self.new (resized origin.Gap len origins)) }
         ensures sources { OnOk result ((x : Source) → StandsIn self.new x → ComesOf self.old Gap x) }

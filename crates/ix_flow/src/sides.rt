@@ -21,7 +21,8 @@ pub struct Written {
     pub count: u32,
 }
 
-/// What the ends of objects can read, and where that came from.
+/// What the ends of objects can read, and where that came from. `NoMemory` comes where there is none for an end more, or for what is
+/// kept of one; they aren't used again then.
 #[derive(Drop)]
 pub struct Sides {
     alloc: Global,

@@ -29,7 +29,8 @@ pub struct Tracks {
 }
 
 impl Tracks {
-    /// Those of a core without entries.
+    /// Those of a core, which it asks to be without entries: the bytes of each file of the config come from there. `NoMemory` where
+    /// there was none: each of these files takes a run and a label.
     pub fn new(alloc: Global, core: &Core) -> Result<Tracks, NoMemory>
         requires { core.now.events ≡ [] }
         ensures { IfOk result (λ t. AreTracks t core.now) }
@@ -77,8 +78,8 @@ impl Tracks {
 
     /// Follows the entry that a core has just made, and writes the lines of what it read.
     ///
-    /// After `NoMemory` what stood there stands there still, and maybe a part of the lines after it; the tracks stand for no
-    /// history then.
+    /// `NoMemory` where there was none for a line, or for what is kept of an entry: what stood there stands there still, and maybe a
+    /// part of the lines after it; the tracks stand for no history then, and aren't used again.
     pub fn follow(
         &mut self,
         core: &Core,
@@ -104,9 +105,9 @@ impl Tracks {
         Ok(())
     }
 
-    /// Writes the last line.
+    /// Writes the last line: how many entries gave bytes, and how many lines there are.
     ///
-    /// After `NoMemory` what stood there stands there still, and maybe a part of the line after it.
+    /// `NoMemory` where there was none for it: what stood there stands there still, and maybe a part of the line after it.
     pub fn end(&self, out: &mut Vec<u8>) -> Result<(), NoMemory>
         ensures stays { take (length out.old.items) out.new.items ≡ out.old.items }
         ensures text { OnOk result (out.new.items ≡ out.old.items ++ end_line (record { reads = self.now.reads; lines = self.now.lines })) }

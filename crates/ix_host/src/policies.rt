@@ -16,7 +16,7 @@ pub enum ScriptPolicy {
     Refused(u32),
 }
 
-/// Reads the policy of a script, if it has one.
+/// Reads the policy of a script, if it has one. `NoMemory` where there was none for its rules.
 #[tactic(auto, unfolding(crate::specs::Policies::policy_refusal, ix_lanes::specs::asking::Ruled::rules_told))]
 pub fn policy_of(alloc: Global, script: &Script) -> Result<ScriptPolicy, NoMemory>
     ensures { IfOk result (λ policy. IsPolicy script.now policy) }

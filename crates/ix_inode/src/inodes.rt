@@ -24,6 +24,9 @@ use std::marker::Model;
 /// Contracts see a table of the records and one of the bytes; at a number where nothing stands there are none. All
 /// memory is taken by [`new`](Inodes::new). A call that names an inode looks for its file system first, at most 16
 /// steps.
+///
+/// Each call but [`get`](Inodes::get) that names an inode asks that it is there, and a file where the call is on bytes. File
+/// systems are numbered from 0, and a call asks that one is below their number. Sizes and offsets are in bytes.
 #[derive(Drop)]
 pub struct Inodes {
     volumes: Vec<Volume>,
@@ -89,7 +92,7 @@ impl Inodes {
         object_of(first, volume.nodes.take(Node::new(fs, is_dir(kind))))
     }
 
-    /// The root directory of a file system. Constant time.
+    /// The root directory of a file system: its first inode. Constant time.
     pub fn root(&self, fs: u32) -> Obj
         requires { fs < length self.now.fss }
         ensures { result.0 ≡ first_inode self.now.fss fs }
@@ -97,7 +100,7 @@ impl Inodes {
         Obj(self.volumes[fs as usize].first)
     }
 
-    /// Lets a file or a directory go, with its bytes: its number and its blocks are free from then on.
+    /// Lets a file or a directory go, with its bytes: its number and its blocks are free from then on. All else stays.
     ///
     /// It costs the logarithm of the number of free numbers, and a step for each block.
     pub fn free(&mut self, obj: Obj)
@@ -139,7 +142,7 @@ impl Inodes {
         self.set(obj, Node { frozen: on, ..node });
     }
 
-    /// Sets the privileges. All else stays.
+    /// Sets the capabilities and the licences that it carries. All else stays.
     pub fn set_privs(&mut self, obj: Obj, cap: PrivSet, lic: PrivSet)
         requires { IsTrue (is_some (at self.old.nodes obj.0)) }
         ensures { self.new ≡ changed obj.0 (λ x. record x { cap = cap; lic = lic }) self.old }
@@ -148,7 +151,7 @@ impl Inodes {
         self.set(obj, Node { cap, lic, ..node });
     }
 
-    /// Sets the number of names. All else stays.
+    /// Sets the number of names that it is told to have; nobody counts them here. All else stays.
     pub fn set_links(&mut self, obj: Obj, links: u32)
         requires { IsTrue (is_some (at self.old.nodes obj.0)) }
         ensures { self.new ≡ changed obj.0 (λ x. record x { links = links }) self.old }
@@ -169,8 +172,8 @@ impl Inodes {
         self.volumes[spot.volume].blocks.read(spot.inode, at, out)
     }
 
-    /// Whether a file may have a length, of at most 1,048,576: it needs no more blocks than it has and are free on its file
-    /// system. So this tells whether a write or a cut to that length is refused. Constant time.
+    /// Whether a file may have a length, of at most 1,048,576: it needs no more blocks then than its own and the free ones of
+    /// its file system together. So this tells whether a write or a cut to that length is refused. Constant time.
     pub fn has_room(&self, obj: Obj, len: u64) -> bool
         requires file { IsTrue (is_file_at obj.0 self.now) }
         requires most { len ≤ most }
@@ -183,8 +186,9 @@ impl Inodes {
     /// Writes bytes over those of a file from `at` on. Where they end past the last byte the file grows, to at most
     /// 1,048,576 bytes, and a gap before them reads as zeros. A write of no bytes changes nothing.
     ///
-    /// `NoSpace`, with no change, exactly where the file would need more blocks than it has and are free on its file
-    /// system. The cost is that of the bytes and the gap, and a step for each block between them and the nearer end of the file.
+    /// `NoSpace`, with no change, exactly where the file would need more blocks than its own and the free ones of its file
+    /// system together. The cost is that of the bytes and the gap, and a step for each block between them and the nearer end of
+    /// the file.
     pub fn write(&mut self, obj: Obj, at: u64, bytes: &[u8]) -> Result<(), NoSpace>
         requires file { IsTrue (is_file_at obj.0 self.old) }
         requires most { length_after obj.0 at (length bytes.now) self.old ≤ most }
@@ -199,9 +203,8 @@ impl Inodes {
 
     /// Sets the number of bytes of a file, at most 1,048,576. What is past it goes, and what is missing reads as zeros.
     ///
-    /// `NoSpace`, with no change, exactly where the file would need more blocks than it has and are free on its file
-    /// system. The cost is that of the blocks taken or given back, and where the file grows a step for each block that
-    /// it had.
+    /// `NoSpace`, with no change, exactly where the file would need more blocks than its own and the free ones of its file
+    /// system together. The cost is that of the blocks taken or given back.
     pub fn cut(&mut self, obj: Obj, len: u64) -> Result<(), NoSpace>
         requires file { IsTrue (is_file_at obj.0 self.old) }
         requires most { len ≤ most }

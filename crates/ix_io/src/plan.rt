@@ -22,6 +22,8 @@ impl Plan {
     ghost use Rattle.std.specs.Prelude.{◌≡◌, ◌≤◌, IfOk};
     ghost use Rattle.ix_io.specs.Planned.{start, fails_next, after_call};
 
+    /// A plan by which the calls of these numbers, counted from 0, fail, and no others. `NoMemory` where there was none for a copy
+    /// of them.
     pub fn new(alloc: Global, fails: &[u32]) -> Result<Plan, NoMemory>
         ensures { IfOk result (λ p. p ≡ start fails.now) }
     {

@@ -25,7 +25,7 @@ impl Model for QuietSource {
 }
 
 impl QuietSource {
-    /// A source of a copy of these bytes.
+    /// A source of a copy of these bytes. `NoMemory` where there was none for the copy.
     pub fn new(alloc: Global, bytes: &[u8]) -> Result<QuietSource, NoMemory>
         ensures { IfOk result (λ source. source ≡ bytes.now) }
     {

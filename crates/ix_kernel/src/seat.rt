@@ -112,7 +112,7 @@ impl KSeat {
     }
 
     /// Learns what the other seat has seen: of two histories at one kernel one begins the other, and this seat has then seen the
-    /// longer. The other stays as it was.
+    /// longer. The other stays as it was. It asks that both are of this kernel, waits for nobody, and takes no memory.
     pub fn meet(&mut self, kernel: &Kernel, other: &mut KSeat)
         requires kernel { (self.old.gate ≡ kernel.now.id) × (other.old.gate ≡ kernel.now.id) }
         ensures line { IsInLine self.old.seen other.old.seen }

@@ -58,7 +58,8 @@ impl<'a, R> SeatSys<'a, R> {
         }
     }
 
-    /// Learns what the other's seat has seen, as `KSeat::meet` does. What it has made, and its stops, stay.
+    /// Learns what the other's seat has seen, as `KSeat::meet` does. What it has made, and its stops, stay. It asks that both
+    /// are of one kernel.
     pub fn meet(&mut self, other: &mut SeatSys<'a, R>)
         requires { self.old.kernel ≡ other.old.kernel }
         ensures seen { IsPrefix self.old.seat.seen self.new.seat.seen × IsPrefix other.old.seat.seen self.new.seat.seen }

@@ -28,7 +28,8 @@ pub fn spelled_or_faulty(form: Form, text: &[u8])
     }
 }
 
-/// Writes the label's text and reads it: its contract is the law that this gives the label back.
+/// Writes the label's text and reads it: its contract is the law that this gives the label back. It asks that the label
+/// has a text in the form, so a fault is never the answer.
 pub fn read_back<L: Ledger>(
     label: &Label,
     form: Form,

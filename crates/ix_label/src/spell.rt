@@ -13,7 +13,9 @@ impl Label {
     /// Replaces the buffer's text by the label's one spelling in the form.
     ///
     /// That is `-` for the bottom, `*` for all numbers of the form, and else the longest runs of categories in
-    /// ascending order, with commas between them: `3`, or `7-9` for a run of two or more.
+    /// ascending order, with commas between them: `3`, or `7-9` for a run of two or more. It has at most 2,048 bytes.
+    ///
+    /// It asks that the label has a text in the form: in form One it has no category above 255.
     #[tactic(auto, unfolding(crate::specs::Spelling::spelling))]
     pub fn text_into<L: Ledger>(&self, form: Form, out: &mut LabelText, steps: &mut Steps<L>)
         requires { Fits form self.now }

@@ -34,7 +34,7 @@ fn add_proc(
     Ok(count + 1)
 }
 
-/// The processes of the header, by their names: they have pids 1, 2 and so on, in order.
+/// The processes of the header, by their names: they have pids 1, 2 and so on, in order. `NoMemory` where there was none for them.
 pub fn header_of(alloc: Global, script: &Script) -> Result<Numbers<u32>, NoMemory>
     ensures { IfOk result (λ header. header ≡ header_of script.now) }
 {

@@ -4,7 +4,8 @@ ghost use Rattle.ix_lanes.specs.histories.Indexed.{line_in};
 
 use ix_script::{Line, Role, Script};
 
-/// The line at an index from 0. It takes no memory.
+/// The line at an index from 0, which it asks to be below the number of lines: its number in the script is one more. It takes no
+/// memory.
 pub fn line_at(script: &Script, index: u32) -> Line<'_>
     requires { index < length script.now }
     ensures { result ≡ line_in script.now index }
@@ -16,7 +17,7 @@ pub fn line_at(script: &Script, index: u32) -> Line<'_>
     }
 }
 
-/// What the line at an index from 0 is for. The line isn't made for it.
+/// What the line at an index from 0 is for, which it asks to be below the number of lines. The line isn't made for it.
 pub fn role_at(script: &Script, index: u32) -> Role
     requires { index < length script.now }
     ensures { result ≡ role_of (line_in script.now index) }

@@ -21,7 +21,10 @@ use ix_model::{Buf, Call, Pid, Refusal, Reply};
 use std::sync::ledger::Ledger;
 
 impl Machine {
-    /// One step of the machine: the call of a process, at a place of the history. It takes no memory.
+    /// One step of the machine: the call of a process, at a place of the history, from 1. It takes no memory. It asks that the
+    /// machine's world is sound, and that a pid is left.
+    ///
+    /// A refusal is a reply too. The bytes that were read are at the front of the buffer, whose rest stays.
     #[tactic(auto, using(crate::proofs::Stepped::dead_step))]
     pub fn call<L: Ledger>(
         &mut self,

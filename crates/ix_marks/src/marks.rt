@@ -20,6 +20,9 @@ use std::marker::Model;
 ///
 /// All memory is taken by [`new`](Marks::new). A call that is given a pid looks for its row in one bucket; beside that
 /// each takes constant time. Contracts see which descriptors are fresh and at which spots, and whose the rows are.
+///
+/// A call that tells of a changed label asks that fewer than 2^62 were told of before, and that an object or an open entry is
+/// one of those for which there are generations.
 #[derive(Drop)]
 pub struct Marks {
     seats: Seats,
@@ -87,7 +90,7 @@ impl Marks {
     }
 
     /// A descriptor of a process, which stands for that spot, is fresh for that way from now on. A process that has no
-    /// row takes one.
+    /// row takes one. It asks that the descriptor is below 32, and that a row is free where one is taken.
     pub fn set(&mut self, pid: Pid, fd: Fd, way: Way, spot: Spot)
         requires fd { fd.0 < 32 }
         requires room { has_row self.old pid.0 ≡ false → 0 < self.old.seats.free }
@@ -126,7 +129,7 @@ impl Marks {
         self.seats.leave(pid);
     }
 
-    /// A process's label has changed: none of its descriptors is fresh.
+    /// A process's label has changed: none of its descriptors is fresh. Where it has no row none was.
     pub fn relabel_process(&mut self, pid: Pid)
         requires { self.old.raised < 2 ^ 62 }
         ensures spots { (q d : ℕ) (w : way_type.Way) → spot_of self.new q d w ≡ (if q == pid.0 then None else spot_of self.old q d w) }

@@ -114,7 +114,7 @@ impl Row {
     }
 }
 
-/// So many rows, in which no mark was ever set.
+/// So many rows, in which no mark was ever set. `AllocError` where there is no memory for them.
 pub fn empty_rows(alloc: Global, rows: u32) -> Result<Vec<Row>, AllocError>
     ensures { IfOk result (λ v. v.items ≡ replicate rows empty_row) }
 {

@@ -33,7 +33,8 @@ impl Model for Seats {
 }
 
 impl Seats {
-    /// So many rows, all free.
+    /// So many rows, all free. It takes all memory that there will be, and answers `NoMemory` where there is not so much. It
+    /// costs a step for each row.
     pub fn new(alloc: Global, rows: u32) -> Result<Seats, NoMemory>
         ensures { IfOk result (λ s. s ≡ record { pids = replicate rows None; free = rows }) }
     {

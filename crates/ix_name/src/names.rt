@@ -88,8 +88,8 @@ impl Names {
         Some(entry.obj)
     }
 
-    /// One name more for a directory that hasn't it, at the end; the directory is below `objects`. Refused, with no
-    /// change, exactly where no entry is free. Constant time.
+    /// One name more for a directory, at the end; it asks that the directory is below `objects` and hasn't the name.
+    /// `NoEntry`, with no change, exactly where no entry is free. Constant time.
     pub fn add(&mut self, dir: Obj, name: Name, obj: Obj) -> Result<(), NoEntry>
         requires dir { dir.0 < length self.old.lists }
         requires absent { under name (names_of self.old dir.0) ≡ None }

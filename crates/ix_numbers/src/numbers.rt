@@ -66,7 +66,8 @@ impl Numbers {
         Some(number)
     }
 
-    /// Gives a taken number back: it is free from then on. It costs the logarithm of the number of free ones.
+    /// Gives a number back, and asks that it is taken: it is free from then on. It costs the logarithm of the number of
+    /// free ones.
     pub fn give(&mut self, n: u32)
         requires { slice_get self.old n ≡ Some false }
         ensures { self.new ≡ slice_set self.old n true }

@@ -17,7 +17,7 @@ use std::marker::Model;
 /// Open entries by number, for objects of which the numbers are below a limit. A new entry takes the
 /// lowest free number.
 ///
-/// All memory is taken by [`new`](Opens::new).
+/// All memory is taken by [`new`](Opens::new). Each call but [`get`](Opens::get) that names an entry asks that it is there.
 #[derive(Drop)]
 pub struct Opens {
     entries: Slab<OpenView>,
@@ -102,7 +102,7 @@ impl Opens {
         })
     }
 
-    /// The entry has one owner more. All else stays.
+    /// The entry has one owner more; it asks that it has fewer than 2^32 - 1. All else stays. One step.
     pub fn share(&mut self, id: u32)
         requires lives { IsTrue (is_some (at self.old.opens id)) }
         requires few { slice_index_or self.old.owners id 0 + 1 < 2 ^ 32 }
@@ -150,7 +150,7 @@ impl Opens {
         entry_at(&self.entries, self.keys.as_slice(), id)
     }
 
-    /// Sets the offset of an entry. All else stays.
+    /// Sets the offset of an entry, in bytes from the beginning of the file. All else stays. One step.
     pub fn seek(&mut self, id: u32, offset: u32)
         requires lives { IsTrue (is_some (at self.old.opens id)) }
         ensures { self.new ≡ with_offset id offset self.old }
@@ -165,7 +165,7 @@ impl Opens {
         );
     }
 
-    /// Sets the label of an entry. All else stays.
+    /// Sets the label of an entry: that of what its offset tells. All else stays. One step.
     pub fn set_label(&mut self, id: u32, label: Label)
         requires lives { IsTrue (is_some (at self.old.opens id)) }
         ensures { self.new ≡ with_label id label self.old }

@@ -15,7 +15,8 @@ use std::marker::Model;
 
 /// Pipes by number. A new one takes the lowest free number.
 ///
-/// All memory is taken by [`new`](Pipes::new): 8 KiB and a little more for each number.
+/// All memory is taken by [`new`](Pipes::new): 8 KiB and a little more for each number. Each call but [`lives`](Pipes::lives)
+/// that names a pipe asks that it is there, and that an end is 0 or 1. A call changes the pipe that it names and nothing else.
 #[derive(Drop)]
 pub struct Pipes {
     slots: Vec<Slot>,
@@ -41,6 +42,9 @@ impl Model for Pipes {
 
 impl Pipes {
     /// So many numbers, 0 and up, all free.
+    ///
+    /// It takes all memory that there will be, and answers `NoMemory` where there is not so much. It costs a step for
+    /// each number.
     pub fn new(alloc: Global, pipes: u32) -> Result<Pipes, NoMemory>
         ensures { IfOk result (λ m. m ≡ replicate pipes None) }
     {
@@ -66,7 +70,7 @@ impl Pipes {
     }
 
     /// A new pipe under the lowest free number; `None`, with no change, exactly where none is free. It is empty and
-    /// unclaimed, and its label is bottom.
+    /// unclaimed, and its label is bottom. It costs the logarithm of the number of free ones.
     pub fn make(&mut self) -> Option<u32>
         ensures number { result ≡ lowest_free self.old }
         ensures made { self.new ≡ made result self.old }
@@ -76,7 +80,8 @@ impl Pipes {
         Some(pipe)
     }
 
-    /// Lets a pipe go; its number is free from then on.
+    /// Lets a pipe go, with its bytes and its claims: its number is free from then on. It costs the logarithm of the number
+    /// of free ones.
     pub fn free(&mut self, pipe: u32)
         requires { IsTrue (is_some (at self.old pipe)) }
         ensures { self.new ≡ put self.old pipe None }
@@ -123,8 +128,8 @@ impl Pipes {
         self.slots[pipe as usize].read(end, out)
     }
 
-    /// Writes bytes through an end: the other end reads them, after all that waits there. Refused, with no change,
-    /// exactly where what waits and the bytes are more than 4,096. The cost is that of the bytes.
+    /// Writes bytes through an end: the other end reads them, after all that waits there. `PipeFull`, with no change,
+    /// exactly where what waits there and the bytes are more than 4,096 together. The cost is that of the bytes.
     pub fn write(&mut self, pipe: u32, end: u8, bytes: &[u8]) -> Result<(), PipeFull>
         requires lives { IsTrue (is_some (at self.old pipe)) }
         requires end { end < 2 }
@@ -156,7 +161,7 @@ impl Pipes {
         self.slots[pipe as usize].claim(end, pid)
     }
 
-    /// Ends the claim on an end, if there is one.
+    /// Ends the claim on an end, whoever has it. Where there is none nothing changes.
     pub fn unclaim(&mut self, pipe: u32, end: u8)
         requires lives { IsTrue (is_some (at self.old pipe)) }
         requires end { end < 2 }

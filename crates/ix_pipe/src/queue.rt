@@ -31,7 +31,7 @@ impl Model for Queue {
 }
 
 impl Queue {
-    /// No bytes, with room for all that there may be.
+    /// No bytes, with room for all that there may be, 4 KiB. `NoMemory` where there is none for it; no other call takes any.
     pub fn new(alloc: Global) -> Result<Queue, NoMemory>
         ensures { IfOk result (λ q. q ≡ []) }
     {

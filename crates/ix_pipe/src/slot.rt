@@ -40,7 +40,7 @@ impl Model for Slot {
 }
 
 impl Slot {
-    /// A place without a pipe.
+    /// A place without a pipe. `NoMemory` where there is none for the bytes of both directions.
     pub fn new(alloc: Global) -> Result<Slot, NoMemory>
         ensures { IfOk result (λ s. s ≡ None) }
     {
@@ -119,7 +119,7 @@ impl Slot {
         }
     }
 
-    /// Puts bytes at the end of what an end can read.
+    /// Puts bytes at the end of what an end can read. `PipeFull`, with no change, exactly where they don't fit there.
     pub fn append(&mut self, end: u8, bytes: &[u8]) -> Result<(), PipeFull>
         requires { IsTrue (is_some self.old) }
         ensures room { result ≡ (if option_map_or (fits end bytes.now) self.old false then Ok tt else Err (record {})) }

@@ -136,7 +136,8 @@ impl Procs {
         }
     }
 
-    /// Puts a living process in the place of itself: the one of `who.pid`, whose parent stays. All else stays too.
+    /// Puts a process in the place of itself: the one of `who.pid`, which it asks to be living. Its parent stays, and so
+    /// does all else.
     pub fn put(&mut self, who: &Caller)
         requires { IsTrue (is_some (living (at self.old.processes who.now.pid.0))) }
         ensures { self.new ≡ record self.old { processes = change self.old.processes who.now.pid.0 (with_caller who.now) } }

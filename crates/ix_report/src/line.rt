@@ -7,6 +7,9 @@ use std::marker::Model;
 use std::mem;
 
 /// A line that is being written at the end of bytes that are there.
+///
+/// What writes a piece of it answers `NoMemory` where there was none for that: the line isn't gone on with then, and `end` takes back
+/// what was written of it.
 #[derive(Drop)]
 pub struct Line {
     bytes: Vec<u8>,

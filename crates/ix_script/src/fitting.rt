@@ -34,7 +34,7 @@ fn is_above_fs<L: Ledger>(
     !label.label().leq(&fss[k].ceiling, steps)
 }
 
-/// Rules 22 to 26, and 28: what fits the lines before.
+/// Rules 22 to 26, and 28: what fits the lines before, which the draft has seen.
 impl<'a> Draft<'a> {
     fn is_taken(&self, path: &Path<'a>) -> bool
         requires told { DraftTold self.now }
@@ -79,7 +79,7 @@ impl<'a> Draft<'a> {
             || blocks > fss[k].blocks as usize
     }
 
-    /// Whether a label is not below its ceiling.
+    /// Whether a label is not below its ceiling: rule 22.
     pub fn is_above<L: Ledger>(&self, line: &Line<'a>, steps: &mut Steps<L>) -> bool
         requires told { DraftTold self.now }
         ensures { result ≡ is_above self.now.lines line.now }
@@ -93,7 +93,7 @@ impl<'a> Draft<'a> {
         }
     }
 
-    /// Whether a path does not fit the tree.
+    /// Whether a path does not fit the tree: rule 23.
     pub fn misfits(&self, line: &Line<'a>) -> bool
         requires told { DraftTold self.now }
         ensures { result ≡ misfits self.now.lines line.now }
@@ -105,7 +105,7 @@ impl<'a> Draft<'a> {
         }
     }
 
-    /// Whether there is no room.
+    /// Whether there is no room for a process, an inode, a name or blocks: rule 24.
     pub fn crowds(&self, line: &Line<'a>) -> bool
         requires told { DraftTold self.now }
         ensures { result ≡ crowds self.now.lines line.now }
@@ -118,7 +118,7 @@ impl<'a> Draft<'a> {
         }
     }
 
-    /// Whether a header line is out of order.
+    /// Whether a header line is out of order: rule 25.
     pub fn is_out_of_order(&self, line: &Line<'a>) -> bool
         requires told { DraftTold self.now }
         ensures { result ≡ is_out_of_order self.now.lines line.now }
@@ -130,7 +130,7 @@ impl<'a> Draft<'a> {
         }
     }
 
-    /// Whether there are too many.
+    /// Whether there are too many: a 17th file system, a 65th lane or a 200,001st command, rule 26.
     pub fn is_one_too_many(&self, line: &Line<'a>) -> bool
         requires told { DraftTold self.now }
         ensures { result ≡ is_one_too_many self.now.lines line.now }
@@ -145,7 +145,7 @@ impl<'a> Draft<'a> {
         }
     }
 
-    /// Whether there is no policy.
+    /// Whether there is no policy for a `priv` or `login` line: rule 28.
     pub fn lacks_policy(&self, line: &Line<'a>) -> bool
         requires told { DraftTold self.now }
         ensures { result ≡ lacks_policy self.now.lines line.now }

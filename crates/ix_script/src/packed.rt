@@ -119,7 +119,7 @@ fn part(text: &[u8], from: usize, end: usize) -> &[u8]
 }
 
 impl Lines {
-    /// No lines, with room for those of an input.
+    /// No lines, with room for those of an input. `NoMemory` where there was none for that room.
     pub fn for_all(alloc: Global, bytes: &[u8]) -> Result<Lines, NoMemory>
         ensures { IfOk result (λ lines. lines ≡ []) }
     {
@@ -142,6 +142,7 @@ impl Lines {
         })
     }
 
+    /// How many lines there are.
     pub fn len(&self) -> usize
         ensures { result ≡ length self.now }
     {

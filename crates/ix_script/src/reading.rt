@@ -102,8 +102,8 @@ fn read_with<L: Ledger>(alloc: Global, bytes: &[u8], blank: Blank) -> Result<Scr
     Ok(script)
 }
 
-/// The script that the bytes are; else the first line that breaks a rule, and the first rule that it breaks, by all rules
-/// but that on what a policy says.
+/// The script that the bytes are; else the first line, from 1, that breaks a rule, and the least rule that it breaks, by all rules
+/// but 27, on what a policy says. `ReadFail::NoMemory` where there was none for the script, which keeps the texts of the lines.
 pub fn read(alloc: Global, bytes: &[u8]) -> Result<Script, ReadFail>
     ensures script { IfOk result (λ s. script_of bytes.now ≡ Some s) }
     ensures fail { IfErr result (λ e. HasCause e (fault_of bytes.now)) }

@@ -143,7 +143,7 @@ impl<'a> Draft<'a> {
         Ok(())
     }
 
-    /// The form of a line that is cut into words, by rules 4 to 21.
+    /// The form of a line that is cut into words; `Err` with the least of the rules 4 to 21 that it breaks.
     #[tactic(auto, unfolding(crate::specs::lines::Faults::command_fault, crate::specs::lines::Faults::form_fault))]
     pub fn form_by_words(&self, words: &Words<'a>) -> Result<Form, Rule>
         requires told { DraftTold self.now }
@@ -161,7 +161,7 @@ impl<'a> Draft<'a> {
         Ok(form)
     }
 
-    /// Rules 22 to 26, and 28.
+    /// Rules 22 to 26, and 28: `Err` with the least of these that the line breaks.
     #[tactic(auto, unfolding(crate::specs::lines::Faults::said_fault))]
     pub fn check_said<L: Ledger>(&self, line: &Line<'a>, steps: &mut Steps<L>) -> Result<(), Rule>
         requires told { DraftTold self.now }
@@ -208,7 +208,8 @@ impl<'a> Draft<'a> {
         })
     }
 
-    /// A line that isn't cut into words: the first one, a skipped one and the policy, by the rules from 4 on.
+    /// A line that isn't cut into words: the first one, a skipped one and the policy. `Err` with the least of the rules from 4 on
+    /// that it breaks.
     #[tactic(auto, unfolding(crate::specs::lines::Faults::body_fault))]
     pub fn whole_line(&self, text: &'a [u8]) -> Result<Line<'a>, Rule>
         requires told { DraftTold self.now }

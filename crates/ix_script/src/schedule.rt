@@ -136,7 +136,7 @@ fn add_line(
 }
 
 impl Schedule {
-    /// The schedule of lines, whose lanes have these names.
+    /// The schedule of lines, whose lanes have these names. `NoMemory` where there was none for it.
     pub fn of(alloc: Global, lines: &Lines, lanes: &[Name]) -> Result<Schedule, NoMemory>
         requires { length lines.now ≤ 16777216 }
         ensures { IfOk result (λ s. IsSchedule s lines.now lanes.now) }

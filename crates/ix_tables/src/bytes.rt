@@ -11,7 +11,9 @@ use ix_model::Obj;
 
 /// What files and pipes hold.
 impl Tables {
-    /// Copies the bytes of a file from an offset on into the front of `out`, and answers their number.
+    /// Copies the bytes of a file from an offset on into the front of `out`, as many as there are and it holds, and answers
+    /// their number: 0 at the end and past it. The rest of `out` stays. The cost is that of the bytes, and a step for each
+    /// block between them and the nearer end of the file.
     pub fn read(&self, n: u32, offset: u64, out: &mut [u8]) -> usize
         requires { option_map_or is_file (at self.now.objects n) false ≡ true }
         ensures count { result ≡ min (length out.old) (length (drop offset (slice_index_or self.now.holdings n holds_nothing).first)) }
@@ -20,7 +22,7 @@ impl Tables {
         self.inodes.read(Obj(n), offset, out)
     }
 
-    /// How many bytes a file holds.
+    /// How many bytes a file holds, at most 1,048,576.
     pub fn size(&self, n: u32) -> u64
         requires { option_map_or is_file (at self.now.objects n) false ≡ true }
         ensures { result ≡ length (slice_index_or self.now.holdings n holds_nothing).first }
@@ -69,7 +71,8 @@ impl Tables {
         }
     }
 
-    /// Takes what an end of a pipe can read into the front of `out`, and answers how much that is.
+    /// Takes what an end of a pipe, 0 or 1, can read into the front of `out`, as much as it holds, and answers how many bytes
+    /// that are. The rest of `out` stays.
     pub fn take(&mut self, n: u32, end: u8, out: &mut [u8]) -> usize
         requires pipe { is_pipe (node self.old.objects n) ≡ true }
         requires end { end < 2 }
@@ -80,7 +83,7 @@ impl Tables {
         self.pipes.read(n - self.first_pipe, end, out)
     }
 
-    /// How many bytes an end of a pipe can read.
+    /// How many bytes an end of a pipe, 0 or 1, can read: at most 4,096.
     pub fn left(&self, n: u32, end: u8) -> u32
         requires pipe { is_pipe (node self.now.objects n) ≡ true }
         requires end { end < 2 }
@@ -90,7 +93,8 @@ impl Tables {
         self.pipes.left(n - self.first_pipe, end)
     }
 
-    /// Writes bytes through an end of a pipe, which has room for them.
+    /// Writes bytes through an end of a pipe, 0 or 1. It asks that there is room for them: what the other end can read is at
+    /// most 4,096 bytes then.
     pub fn append(&mut self, n: u32, end: u8, bytes: &[u8])
         requires pipe { is_pipe (node self.old.objects n) ≡ true }
         requires end { end < 2 }

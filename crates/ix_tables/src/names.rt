@@ -31,8 +31,8 @@ impl Tables {
         }
     }
 
-    /// The name at a place of a directory's order of making; `None` exactly past the last. It costs a step for each name
-    /// before it.
+    /// The name at an index, from 0, of a directory's order of making, with the number of its object; `None` exactly past the
+    /// last. It costs a step for each name before it.
     pub fn name_at(&self, dir: u32, index: u32) -> Option<(Name, u32)>
         requires { is_dir (node self.now.objects dir) ≡ true }
         ensures { result ≡ slice_get (node self.now.objects dir).names index }
@@ -43,7 +43,8 @@ impl Tables {
         }
     }
 
-    /// The name behind one that a directory has, in its order of making; `None` behind the last. It costs no walk.
+    /// The name behind one that a directory has, in its order of making, with the number of its object; `None` behind the last.
+    /// It costs no walk.
     pub fn name_after(&self, dir: u32, name: &NameRef<'_>) -> Option<(Name, u32)>
         requires { is_dir (node self.now.objects dir) ≡ true }
         ensures { IsBehind (node self.now.objects dir).names (name_of name.now) result }
@@ -54,7 +55,7 @@ impl Tables {
         }
     }
 
-    /// How many names a directory has.
+    /// How many names a directory has. Constant time.
     pub fn count_names(&self, dir: u32) -> u32
         requires { is_dir (node self.now.objects dir) ≡ true }
         ensures { result ≡ length (node self.now.objects dir).names }
@@ -62,7 +63,7 @@ impl Tables {
         self.names.count(Obj(dir))
     }
 
-    /// Whether a directory has no names.
+    /// Whether a directory has no names. Constant time.
     pub fn is_bare(&self, dir: u32) -> bool
         requires { is_dir (node self.now.objects dir) ≡ true }
         ensures { result ≡ (length (node self.now.objects dir).names == 0) }
@@ -119,7 +120,8 @@ impl Tables {
         }
     }
 
-    /// One name of a file fewer.
+    /// One name of a file fewer; it asks that the directory has it for this file. The file stays, even without a name:
+    /// [`let_go_object`](Tables::let_go_object) looks whether it goes.
     pub fn unlink(&mut self, dir: u32, name: &NameRef<'_>, n: u32)
         requires dir { is_dir (node self.old.objects dir) ≡ true }
         requires child { child (node self.old.objects dir) (name_of name.now) ≡ Some n }
@@ -133,7 +135,8 @@ impl Tables {
         }
     }
 
-    /// An empty directory goes, and with it its name.
+    /// An empty directory goes, and with it its name in its parent; it asks that the first is empty, and that the parent has
+    /// it under that name. Its number is free from then on.
     pub fn remove_dir(&mut self, dir: u32, name: &NameRef<'_>, n: u32)
         requires dir { is_dir (node self.old.objects dir) ≡ true }
         requires child { child (node self.old.objects dir) (name_of name.now) ≡ Some n }

@@ -70,7 +70,7 @@ impl Tables {
         }
     }
 
-    /// Whether a number is the root of a file system.
+    /// Whether a number is that of the root of a file system, of which 0 is the first.
     pub fn is_root(&self, n: u32, fs: u32) -> bool
         requires { fs < length self.now.fss }
         ensures { result ≡ (n == first_inode self.now.fss fs) }
@@ -91,7 +91,8 @@ impl Tables {
         }
     }
 
-    /// Freezes the label of a file or a directory, or lets it float again.
+    /// Freezes the label of a file or a directory, or lets it float again. It asks that it is no pipe, whose label always
+    /// floats.
     pub fn set_frozen(&mut self, n: u32, on: bool)
         requires lives { IsTrue (is_some (at self.old.objects n)) }
         requires inode { is_pipe (node self.old.objects n) ≡ false }
@@ -100,7 +101,8 @@ impl Tables {
         self.inodes.set_frozen(Obj(n), on);
     }
 
-    /// Sets the privileges that a file or a directory carries.
+    /// Sets the capabilities and the licences that a file or a directory carries. It asks that it is no pipe, which carries
+    /// none.
     pub fn set_privs(&mut self, n: u32, cap: PrivSet, lic: PrivSet)
         requires lives { IsTrue (is_some (at self.old.objects n)) }
         requires inode { is_pipe (node self.old.objects n) ≡ false }

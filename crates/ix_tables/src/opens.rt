@@ -23,7 +23,7 @@ impl Tables {
         self.opens.get(id)
     }
 
-    /// How many open entries are free.
+    /// How many numbers of open entries are free.
     pub fn free_opens(&self) -> u32
         ensures { result ≡ count_by is_none self.now.opens }
     {
@@ -49,7 +49,7 @@ impl Tables {
         self.opens.open(Obj(n), end, mode)
     }
 
-    /// The entry has one owner more.
+    /// The entry has one owner more; it asks that it has fewer than 2^32 - 1.
     pub fn share(&mut self, id: u32)
         requires lives { IsTrue (is_some (at self.old.opens id)) }
         requires few { slice_index_or self.old.owners id 0 + 1 < 2 ^ 32 }
@@ -67,7 +67,7 @@ impl Tables {
         self.opens.release(id)
     }
 
-    /// Sets the offset of an entry.
+    /// Sets the offset of an entry, in bytes from the beginning of the file.
     pub fn seek(&mut self, id: u32, offset: u32)
         requires { IsTrue (is_some (at self.old.opens id)) }
         ensures { self.new ≡ record self.old { offsets = slice_set self.old.offsets id offset } }
@@ -75,7 +75,7 @@ impl Tables {
         self.opens.seek(id, offset);
     }
 
-    /// Sets the label of an entry.
+    /// Sets the label of an entry: that of what its offset tells.
     pub fn mark(&mut self, id: u32, label: Label)
         requires { IsTrue (is_some (at self.old.opens id)) }
         ensures { self.new ≡ record self.old { opens = change self.old.opens id (λ e. record e { label = label }) } }
@@ -83,7 +83,7 @@ impl Tables {
         self.opens.set_label(id, label);
     }
 
-    /// Whether some living process has an object as working directory.
+    /// Whether some living process has an object as working directory. Constant time.
     pub fn is_home(&self, n: u32) -> bool
         requires { n < length self.now.homes }
         ensures { result ≡ not (slice_index_or self.now.homes n 0 == 0) }
@@ -91,7 +91,7 @@ impl Tables {
         self.homes[n as usize] > 0
     }
 
-    /// One process more is at home there.
+    /// One living process more has the object as working directory; it asks that fewer than 2^32 - 1 have it. Constant time.
     pub fn settle(&mut self, n: u32)
         requires within { n < length self.old.homes }
         requires few { slice_index_or self.old.homes n 0 + 1 < 2 ^ 32 }
@@ -100,7 +100,7 @@ impl Tables {
         self.homes[n as usize] += 1;
     }
 
-    /// One process fewer is at home there.
+    /// One living process fewer has the object as working directory, of at least one. Constant time.
     pub fn leave(&mut self, n: u32)
         requires within { n < length self.old.homes }
         requires some { 0 < slice_index_or self.old.homes n 0 }

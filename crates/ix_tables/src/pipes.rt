@@ -53,7 +53,7 @@ impl Tables {
         self.pipes.claim(pipe, end, pid)
     }
 
-    /// Ends the claim on an end of a pipe, if there is one.
+    /// Ends the claim on an end of a pipe, 0 or 1, whoever has it. Where there is none nothing changes.
     pub fn unclaim(&mut self, n: u32, end: u8)
         requires pipe { is_pipe (node self.old.objects n) ≡ true }
         requires end { end < 2 }

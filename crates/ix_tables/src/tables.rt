@@ -10,6 +10,9 @@ use std::marker::Model;
 /// Files, directories, pipes and open entries by the numbers of a world, with what they hold.
 ///
 /// Contracts see the parts of a world that these are. Each call touches what it names, and takes no memory.
+///
+/// A call asks that what it names is there and of its kind, unless it says what it answers where that isn't so. Numbers of
+/// objects are those of a world: inodes first, from 0, and pipes behind them. Sizes and offsets are in bytes.
 #[derive(Drop)]
 pub struct Tables {
     pub(crate) limits: Limits,

@@ -23,7 +23,7 @@ pub fn label_in(form: Form, word: &[u8]) -> Option<Label>
     }
 }
 
-/// Writes a label at the end, in its one spelling of the form. No looks at labels are counted.
+/// Writes a label at the end, in its one spelling of the form: at most 2,048 bytes. No looks at labels are counted.
 /// In form One that of a narrow label alone can be read again.
 ///
 /// After `NoMemory` what stood there stands there still, and maybe a part of the spelling after it.

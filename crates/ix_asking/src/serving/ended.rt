@@ -5,7 +5,7 @@ use crate::serving::outcome::Outcome;
 use crate::stop::Stop;
 use ix_policy::Served;
 
-/// How a server served, where its calls ended so.
+/// How a server served, where its calls ended so: with an outcome, or with the stop of a call that wasn't made.
 pub fn served(end: Result<Outcome, Stop>) -> Served
     ensures { end_of result ≡ end }
 {

@@ -36,7 +36,7 @@ impl Words {
     }
 
     /// The words that a program is called with, as `std::env::args` tells them: all but the first, which is its name. Where one of
-    /// them is not text there are none, which is no command either.
+    /// them is not text there are none, which is no command either. `NoMemory` where there was none to keep them.
     pub fn of_program(alloc: Global, args: io::Result<Args>) -> Result<Words, NoMemory>
         ensures { IfOk result (λ words. words ≡ words_of args) }
     {

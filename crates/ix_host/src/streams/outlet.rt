@@ -38,7 +38,7 @@ impl Failure {
     }
 }
 
-/// Memory for what is gathered.
+/// Memory for what is gathered; `NoMemory` where there is none.
 pub fn room(alloc: Global) -> Result<Vec<u8>, NoMemory>
     ensures { IfOk result (λ waiting. waiting.items ≡ []) }
 {

@@ -6,7 +6,7 @@ use ix_model::NoMemory;
 use ix_script::rule_text;
 use std::alloc::Global;
 
-/// The line of text for a script that breaks a rule at a line.
+/// The line of text for a script that breaks a rule at a line. `NoMemory` where there was none for it.
 #[tactic(auto, unfolding(crate::specs::report::Rules::refusal_line))]
 pub fn refusal(alloc: Global, line: u32, rule: u8) -> Result<Vec<u8>, NoMemory>
     ensures { IfOk result (λ text. text.items ≡ refusal_line line rule) }

@@ -55,7 +55,8 @@ impl Places {
         }
     }
 
-    /// Finds the names that a line gives their places. Each name stands for what it stood for.
+    /// Finds the names that a line gives their places. Each name stands for what it stood for, also after `NoMemory`, where there was
+    /// none for a place.
     #[tactic(auto, unfolding(crate::specs::asking::Places::has_places))]
     pub fn add(&mut self, line: &Line<'_>) -> Result<(), NoMemory>
         ensures same { standing self.new ≡ standing self.old }

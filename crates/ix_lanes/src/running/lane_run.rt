@@ -69,6 +69,9 @@ impl<'a> LaneRun<'a> {
 
     /// Runs the lines of the lane in its next phase. `None`: they are all done. `Some` is the stop of one of their calls: of the
     /// lines' calls those before it were made, and no more are. After it the run isn't gone on with. It takes no memory.
+    ///
+    /// It asks that `phase`, from 0, is the one behind those that are done, and one of the script's; and that the system is that of the
+    /// lane's seat, and has made the calls of the phases that are done, and no others.
     pub fn phase<S: Sys>(&mut self, sys: &mut S, phase: u32) -> Option<Answer>
         requires next { phase ≡ self.old.done }
         requires phase { phase < phases self.old.script }

@@ -137,7 +137,8 @@ impl<'a> Closing<'a> {
         Ok(())
     }
 
-    /// Tells the next piece. After `NoMemory` some of it may have been told.
+    /// Tells the next piece: a heading or a line, or nothing of a number at which nothing stands. It asks that a piece is left, as
+    /// [`is_told`](Closing::is_told) tells. After `NoMemory` some of it may have been told, and the closing isn't gone on with.
     pub fn tell(&mut self, out: &mut Vec<u8>) -> Result<(), NoMemory>
         requires { 0 < pieces_of self.old }
         ensures { OnOk result (Tells self.old self.new out.old.items out.new.items) }

@@ -52,8 +52,10 @@ fn push_line(
     }
 }
 
-/// Appends the line of an entry that a core has just made, in the form of the script: the line of the script that it comes
-/// from, the calling process, the seat, the call, the reply, and the bytes that were read.
+/// Appends the line of an entry that a core has just made, in the form of the script: the number of the script's line that it comes
+/// from (from 1), the calling process, the number of the seat (from 0), the call, the reply, and the bytes that were read. It asks
+/// that these are as many as the reply says, at most 4,096, and none where it says of none. After `NoMemory` the bytes of `out` are
+/// as they were.
 pub fn push_entry(
     out: &mut Vec<u8>,
     script: &Script,

@@ -7,14 +7,15 @@ use ix_label::Form;
 use ix_model::{NoMemory, Pid};
 use ix_report::{object_line, process_line};
 
-/// A heading.
+/// A heading. `NoMemory` where there was none for it; `out` isn't gone on with then.
 pub fn push_heading(out: &mut Vec<u8>, text: &[u8]) -> Result<(), NoMemory>
     ensures { OnOk result (out.new.items ≡ out.old.items ++ text.now) }
 {
     out.extend_from_slice(text).map_err(|_| NoMemory)
 }
 
-/// The object of a number, where there is one, with its label in the form.
+/// The object of a number, where there is one, with its label in the form. `NoMemory` where there was none for its line; the bytes of
+/// `out` are as they were then.
 pub fn push_object(out: &mut Vec<u8>, form: Form, core: &Core, n: u32) -> Result<(), NoMemory>
     ensures { OnOk result (out.new.items ≡ out.old.items ++ object_text form (world_of core.now).frame.objects n) }
 {
@@ -24,7 +25,8 @@ pub fn push_object(out: &mut Vec<u8>, form: Form, core: &Core, n: u32) -> Result
     }
 }
 
-/// The process of a pid, where there is one, with its label in the form.
+/// The process of a pid, where there is one, with its label in the form. `NoMemory` where there was none for its line; the bytes of
+/// `out` are as they were then.
 pub fn push_process(out: &mut Vec<u8>, form: Form, core: &Core, pid: u32) -> Result<(), NoMemory>
     ensures { OnOk result (out.new.items ≡ out.old.items ++ process_text form (world_of core.now).frame.processes pid) }
 {

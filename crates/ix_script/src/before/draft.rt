@@ -36,7 +36,7 @@ pub(crate) struct Draft<'a> {
 }
 
 impl<'a> Draft<'a> {
-    /// Before any line, with room for those of an input.
+    /// Before any line, with room for those of an input. `NoMemory` where there was none for that room.
     pub fn new(alloc: Global, bytes: &[u8]) -> Result<Draft<'a>, NoMemory>
         ensures told { IfOk result (λ d. DraftTold d) }
         ensures none { IfOk result (λ d. d.lines ≡ []) }

@@ -40,9 +40,9 @@ fn is_limited(word: &[u8], whats: &[What]) -> bool
     whats.iter().any(|what| is(word, what_word(*what)))
 }
 
-/// Rules 9, 20 and 21: where a line stands, and its names.
+/// Rules 9, 20 and 21: where a line stands, and its names, by the lines that the draft has seen.
 impl<'a> Draft<'a> {
-    /// Whether a command stands outside a lane, or a lane outside a phase.
+    /// Whether a command stands outside a lane, or a lane outside a phase: rule 9.
     pub fn is_outside(&self, form: Form) -> bool
         requires told { DraftTold self.now }
         ensures { result ≡ is_outside self.now.lines form }
@@ -74,7 +74,7 @@ impl<'a> Draft<'a> {
         self.header.procs.has(word)
     }
 
-    /// Whether a name is given twice.
+    /// Whether a name is given twice: rule 20.
     pub fn gives_twice(&self, form: Form, words: &Words<'a>) -> bool
         requires told { DraftTold self.now }
         ensures { result ≡ is_given_twice self.now.lines form words.now }
@@ -112,7 +112,7 @@ impl<'a> Draft<'a> {
         !is(word, b"all") && !is(word, b"none") && self.lacks_fd(word)
     }
 
-    /// Whether a process or a descriptor is unknown.
+    /// Whether a process or a descriptor is unknown: rule 21.
     pub fn is_unknown(&self, form: Form, words: &Words<'a>) -> bool
         requires told { DraftTold self.now }
         ensures { result ≡ names_unknown self.now.lines form words.now }

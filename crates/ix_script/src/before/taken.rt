@@ -8,6 +8,7 @@ pub(crate) struct Taken {
 }
 
 impl Taken {
+    /// Nothing is taken of any file system.
     pub fn new() -> Taken
         ensures counts { (j : ℕ) → slice_index result.counts j ≡ 0 }
         ensures blocks { (j : ℕ) → slice_index result.blocks j ≡ 0 }

@@ -202,6 +202,7 @@ impl<'a> Words<'a> {
         self.text = text;
     }
 
+    /// How many words there are.
     pub fn len(&self) -> usize
         ensures { result ≡ length self.now }
     {
@@ -216,12 +217,14 @@ impl<'a> Words<'a> {
         self.first[i]
     }
 
+    /// Whether a word is empty: rule 4.
     pub fn has_empty(&self) -> bool
         ensures { result ≡ has_empty_word self.now }
     {
         self.seen.has_empty
     }
 
+    /// Whether a quote is not closed: rule 5.
     pub fn has_open_quote(&self) -> bool
         ensures { result ≡ has_open_quote self.now }
     {

@@ -90,6 +90,7 @@ impl Form {
         )
     }
 
+    /// Whether it is a command, which stands in a lane.
     pub fn is_command(self) -> bool
         ensures { result ≡ is_command_form self }
     {

@@ -174,7 +174,7 @@ impl<'a, const MOST: u32> Payload<'a, MOST> {
         }
     }
 
-    /// Puts the bytes at the front of a buffer.
+    /// Puts the bytes at the front of a buffer, which it asks to have room for all of them.
     pub fn decode(&self, buf: &mut [u8])
         requires { length self.now ≤ length buf.old }
         ensures front { take (length self.now) buf.new ≡ self.now }
