@@ -30,7 +30,7 @@ pub struct Tracks {
 
 impl Tracks {
     /// Those of a core, which it asks to be without entries: the bytes of each file of the config come from there. `NoMemory` where
-    /// there was none: each of these files takes a run and a label.
+    /// there was none: each of these files takes a run and a label at the most.
     pub fn new(alloc: Global, core: &Core) -> Result<Tracks, NoMemory>
         requires { core.now.events ≡ [] }
         ensures { IfOk result (λ t. AreTracks t core.now) }

@@ -76,7 +76,7 @@ fn read_piece<S: Source>(source: &mut S, bytes: &mut Vec<u8>, max: usize) -> Pie
     }
 }
 
-/// Writes all of the text. `Failed` where the sink fails: it took a beginning of the text then, and it isn't told how much.
+/// Writes all of the text. `Failed` where the sink fails: it took a beginning of the text then, and nobody tells how much.
 pub fn write_piece<K: Sink>(sink: &mut K, text: &[u8]) -> Result<(), Failed>
     ensures told { IfSome (K.taken sink.old) (λ taken. Writes taken (K.taken sink.new) text.now result) }
     ensures cause { HasCause (K.faults sink.old) (K.faults sink.new) result }
