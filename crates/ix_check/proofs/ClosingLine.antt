@@ -15,9 +15,9 @@ use Rattle.ix_report.specs.Feeds.{EndsOnce}
 use Rattle.ix_report.specs.LineText.{audit_line, tail_line}
 use Rattle.ix_replay.specs.report.Report.{object_text, process_text, texts_from}
 use Rattle.ix_replay.specs.report.Telling.{HasTold, TellsLine, left_of, objects_left, pieces_of, processes_left, text_left, pieces_left}
-use Rattle.ix_replay.specs.declared.telling.closing.Closing as telling
-use Rattle.ix_replay.specs.declared.telling.closing.Next.{Next}
-use Rattle.ix_replay.specs.declared.telling.closing.Next.TheVariants as next
+use Rattle.ix_replay.specs.declared.reporting.closing.Closing as telling
+use Rattle.ix_replay.specs.declared.reporting.closing.Next.{Next}
+use Rattle.ix_replay.specs.declared.reporting.closing.Next.TheVariants as next
 use Rattle.ix_judging.specs.Bytes.{is_line, joined, split}
 use Rattle.ix_judging.specs.Judge.{Text}
 use Rattle.ix_judging.specs.Walk.{Closing, Fails, closes}

@@ -11,9 +11,9 @@ use Rattle.ix_asking.specs.Asking.{Answered}
 use Rattle.ix_report.specs.LineText.{head_line}
 use Rattle.ix_replay.specs.report.Report.{closing_text}
 use Rattle.ix_replay.specs.report.Telling.{left_of, pieces_of, text_left}
-use Rattle.ix_replay.specs.declared.telling.closing.Closing as telling
-use Rattle.ix_replay.specs.declared.telling.closing.Next.{Next}
-use Rattle.ix_replay.specs.declared.telling.closing.Next.TheVariants as next
+use Rattle.ix_replay.specs.declared.reporting.closing.Closing as telling
+use Rattle.ix_replay.specs.declared.reporting.closing.Next.{Next}
+use Rattle.ix_replay.specs.declared.reporting.closing.Next.TheVariants as next
 use Rattle.ix_replay.proofs.piecewise.Pieces.{closing_is}
 use Rattle.ix_judging.specs.Bytes.{is_line, joined, split}
 use Rattle.ix_judging.specs.Judge as theory

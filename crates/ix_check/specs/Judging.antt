@@ -9,8 +9,8 @@ use Rattle.ix_script.specs.scripts.Scripts.{config_of}
 use Rattle.ix_script.specs.declared.line.Line.{Line}
 use Rattle.ix_asking.specs.Asking.{Answered, all_heard}
 use Rattle.ix_lanes.specs.histories.Lanes.{lane_asks}
-use Rattle.ix_replay.specs.declared.telling.closing.Closing as telling
-use Rattle.ix_replay.specs.declared.telling.closing.Next.{Next}
+use Rattle.ix_replay.specs.declared.reporting.closing.Closing as telling
+use Rattle.ix_replay.specs.declared.reporting.closing.Next.{Next}
 use Rattle.ix_replay.specs.report.Fixed.{LanesNamed}
 use Rattle.ix_replay.specs.report.Telling.{left_of, pieces_of}
 use Rattle.ix_judging.specs.Bytes.{is_line, joined}

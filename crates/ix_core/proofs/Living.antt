@@ -8,10 +8,10 @@ use Rattle.std.proofs.lemmas.List.{get_or-set_other, get_or_append_left}
 use Rattle.std.proofs.lemmas.List.Quantifiers.{position-Some}
 use Rattle.ix_model.specs.world.World.{World, Frame, Object, Process, Open, at, lives, is_ended}
 use Rattle.ix_model.specs.rows.Rows.{pass, put_object, put_open, put_process, add_process, change_object, change_process, change_open}
-use Rattle.ix_model.specs.rows.Walks.{Behind, behind}
+use Rattle.ix_model.specs.rows.Walks.{OpenFile, behind}
 use Rattle.ix_model.specs.rows.Auditing.{logged}
 use Rattle.ix_model.specs.rows.Lifetimes.{let_go_object, let_go_open, let_go_claim, let_go, let_go_if_held, let_go_each, let_go_all, has_lost}
-use Rattle.ix_model.specs.rows.OnDescriptors.{Told}
+use Rattle.ix_model.specs.rows.OnDescriptors.{LengthChecks}
 use Rattle.ix_model.specs.rows.OnProcesses.{is_child, end_process, exit, wait_child}
 use Rattle.ix_model.specs.rows.Refusals.{keeps_label}
 use Rattle.ix_model.specs.rows.Table.{row}
@@ -152,7 +152,7 @@ module _ (n : ℕ) where
   unfolding let_go_claim
   a_let_go_claim pid o end = record { led = λ g. (keeps_only_if Alive (has_lost g pid o end) _ (a_object o _)).led g }
 
-  a_let_go : (pid fd : ℕ) (e : Behind) → Keeps Alive (let_go pid fd e)
+  a_let_go : (pid fd : ℕ) (e : OpenFile) → Keeps Alive (let_go pid fd e)
   unfolding let_go
   a_let_go pid fd e =
       keeps_then Alive _ _ (a_process pid _ (λ q. refl))
@@ -163,7 +163,7 @@ module _ (n : ℕ) where
   unfolding let_go_if_held
   a_let_go_if_held pid fd = record { led = λ g r. (go (behind g pid fd)).led g r }
     where
-      go : (b : Option Behind) → Keeps Alive (option_map_or (let_go pid fd) b (pass tt))
+      go : (b : Option OpenFile) → Keeps Alive (option_map_or (let_go pid fd) b (pass tt))
       go None = keeps_pass Alive tt
       go (Some e) = a_let_go pid fd e
 
@@ -203,11 +203,11 @@ module _ (n : ℕ) where
   still_there w place pid status reply.Done is fits stays was = cc
   still_there w place pid status _ is fits stays was = absurd fits
 
-  exit_row : (t : Told) (place pid status : ℕ) → n ≢ pid → Keeps Alive (row t place pid (op.Exit status))
+  exit_row : (t : LengthChecks) (place pid status : ℕ) → n ≢ pid → Keeps Alive (row t place pid (op.Exit status))
   unfolding row
   exit_row t place pid status apart = a_exit pid apart
 
-  wait_row : (t : Told) (place pid : ℕ) → Keeps Alive (row t place pid op.WaitChild)
+  wait_row : (t : LengthChecks) (place pid : ℕ) → Keeps Alive (row t place pid op.WaitChild)
   unfolding row
   wait_row t place pid = a_wait_child pid
 

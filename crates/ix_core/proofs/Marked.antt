@@ -7,7 +7,7 @@ use Rattle.ix_label.specs.Lattice.{same-decides}
 use Rattle.ix_float.specs.declared.mark.Way.{Way}
 use Rattle.ix_float.specs.declared.mark.Way.TheVariants as way
 use Rattle.ix_model.specs.world.World.{World, Frame, Object, Process, Open, at, living, lives}
-use Rattle.ix_model.specs.rows.Walks.{Behind, behind}
+use Rattle.ix_model.specs.rows.Walks.{OpenFile, behind}
 use Rattle.ix_model.specs.history.AuditLog.{label_at, of_process}
 use Rattle.ix_model.specs.history.Events.{Op, Event}
 use Rattle.ix_model.specs.history.Events as op
@@ -188,7 +188,7 @@ told_spot f g pid o r spot q d v was is through t =
 
 -- ---- the descriptor that is refreshed
 abbrev Stood : World → ℕ → ℕ → Type 0
-Stood w pid fd = (b : Behind) × (behind w.frame pid fd ≡ Some b)
+Stood w pid fd = (b : OpenFile) × (behind w.frame pid fd ≡ Some b)
 
 one_some : {A : Type 0} (a b : A) → Some a ≡ Some b → a ≡ b
 one_some a b is = cc
@@ -225,7 +225,7 @@ HasRoom m pid =
     → ((q : ℕ) → has_row m q ≡ true → is_some (at processes q) ≡ true)
     → is_some (at processes pid) ≡ true
     → has_row m pid ≡ false
-    → 0 < m.seats.free
+    → 0 < m.owners.free
 
 pub can_refresh : (w : World) (place pid : ℕ) (o : Op) (m : Known) (spot : Mark) → Sound w → AreReady m w.frame → HasRoom m pid → seen spot ≡ spot_through w.frame pid o → (x : Fd × Way) → refreshed o (step w place pid o).reply ≡ Some x → CanRefresh m pid x spot
 can_refresh w place pid o m spot s ready room through x is =

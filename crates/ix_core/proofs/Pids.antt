@@ -6,7 +6,7 @@ use Rattle.ix_model.specs.rows.Rows.{◌>>=◌, ◌>>◌, on_pass, process, some
 use Rattle.ix_model.specs.rows.Auditing.{logged}
 use Rattle.ix_model.specs.rows.OnProcesses.{end_process, fork, has_kept, kept_fds}
 use Rattle.ix_model.specs.declared.call.Keep.{Keep}
-use Rattle.ix_model.specs.rows.OnDescriptors.{Told}
+use Rattle.ix_model.specs.rows.OnDescriptors.{LengthChecks}
 use Rattle.ix_model.specs.rows.Table.{row, verdict}
 use Rattle.ix_model.specs.rows.Telling.{told}
 use Rattle.ix_model.specs.history.Step.{step, step_of, run}
@@ -115,7 +115,7 @@ grown_fork f pid keep = go (living (at f.processes pid)) refl
     go (Some p) is = forked_by f pid keep p (has_kept keep p) (nat_lt (count_by is_some f.processes) f.limits.procs) is refl refl
 
 -- ---- all calls
-grown_row : (f : Frame) (t : Told) (place pid : ℕ) (c : Op) → Holds (row t place pid c f) (Grown 1 f)
+grown_row : (f : Frame) (t : LengthChecks) (place pid : ℕ) (c : Op) → Holds (row t place pid c f) (Grown 1 f)
 unfolding row
 grown_row f t place pid (op.Fork keep) = grown_fork f pid keep
 grown_row f t place pid c = (kept_row makes_no_process pid (Grown 1 f) (grown_words 1 f pid) t place c (bears c refl)).led f (record { few = omega arith })

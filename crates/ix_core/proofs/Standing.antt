@@ -25,7 +25,7 @@ use Rattle.ix_model.proofs.sound.Reaching.{opening_is_built, sound_reached}
 use Rattle.ix_model.proofs.told.Logs.{logged_run}
 use Rattle.ix_model.proofs.told.Replies.{replies_fit}
 use Rattle.ix_model.proofs.words.Runs.{world_of-none, world_of-push}
-use Rattle.ix_iso.proofs.Hiding.{last_is_told_alike}
+use Rattle.ix_iso.proofs.Noninterference.{last_is_told_alike}
 use Rattle.ix_journal.proofs.Growing.{no_cost, cost_more}
 use Rattle.ix_journal.specs.Entries.{Entries, Fits, with_event}
 use Rattle.ix_core.specs.Stepping.{StandsFor, Shows, AnswersAlike}

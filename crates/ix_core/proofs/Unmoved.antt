@@ -2,10 +2,10 @@
 use Rattle.std.proofs.Common.{◌≡◌, ℕ, Option, Some, refl, sym, ◌∙◌, subst}
 use Rattle.ix_model.specs.world.World.{World, Frame, Object, Process, at}
 use Rattle.ix_model.specs.rows.Outcomes.{Outcome, Pass}
-use Rattle.ix_model.specs.rows.OnDescriptors.{Told, float_entry, read_fd, write_fd}
+use Rattle.ix_model.specs.rows.OnDescriptors.{LengthChecks, float_entry, read_fd, write_fd}
 use Rattle.ix_model.specs.rows.Table.{row}
 use Rattle.ix_model.specs.rows.Telling.{told}
-use Rattle.ix_model.specs.rows.Walks.{Behind, behind}
+use Rattle.ix_model.specs.rows.Walks.{OpenFile, behind}
 use Rattle.ix_model.specs.history.Events.{Op}
 use Rattle.ix_model.specs.history.Events as op
 use Rattle.ix_model.specs.history.Freshness.{Way, Reading, Writing}
@@ -24,11 +24,11 @@ one_there : {A : Type 0} (o : Option A) (p q : A) → o ≡ Some p → o ≡ Som
 one_there o p q is here = let h : Some p ≡ Some q = sym is ∙ here in cc
 
 -- what is known is known of the open entry and the object that stand there
-changes_nothing : KnownChangesNothing → (way : Way) (f : Frame) (pid fd : ℕ) (k : Known way f pid fd) (e : Behind) (x : Object) → behind f pid fd ≡ Some e → at f.objects e.entry.object ≡ Some x → ChangeNothing way f pid k.process x e
+changes_nothing : KnownChangesNothing → (way : Way) (f : Frame) (pid fd : ℕ) (k : Known way f pid fd) (e : OpenFile) (x : Object) → behind f pid fd ≡ Some e → at f.objects e.entry.object ≡ Some x → ChangeNothing way f pid k.process x e
 changes_nothing law way f pid fd k e x is there =
     let entry : k.entry ≡ e = one_there (behind f pid fd) k.entry e k.is_behind is in
-    let object : k.object ≡ x = one_there (at f.objects e.entry.object) k.object x (subst (λ (b : Behind). at f.objects b.entry.object ≡ Some k.object) entry k.is_object) there in
-    subst (λ (y : Object). ChangeNothing way f pid k.process y e) object (subst (λ (b : Behind). ChangeNothing way f pid k.process k.object b) entry (law way f pid fd k))
+    let object : k.object ≡ x = one_there (at f.objects e.entry.object) k.object x (subst (λ (b : OpenFile). at f.objects b.entry.object ≡ Some k.object) entry k.is_object) there in
+    subst (λ (y : Object). ChangeNothing way f pid k.process y e) object (subst (λ (b : OpenFile). ChangeNothing way f pid k.process k.object b) entry (law way f pid fd k))
 
 module _ (law : KnownChangesNothing) (f : Frame) where
   abbrev As : Frame → Type 0
@@ -44,10 +44,10 @@ module _ (law : KnownChangesNothing) (f : Frame) where
   unfolding Ends
   passes_on o a Q is h = subst (λ z. Ends z No Q) (sym is) h
 
-  floats : (pid fd : ℕ) (way : Way) (k : Known way f pid fd) (q : Process) (x : Object) (e : Behind) → ChangeNothing way f pid k.process x e → k.process ≡ q → float_entry q x e f ≡ Pass tt f
+  floats : (pid fd : ℕ) (way : Way) (k : Known way f pid fd) (q : Process) (x : Object) (e : OpenFile) → ChangeNothing way f pid k.process x e → k.process ≡ q → float_entry q x e f ≡ Pass tt f
   floats pid fd way k q x e nothing same = subst (λ (p : Process). float_entry p x e f ≡ Pass tt f) same nothing.float_entry
 
-  read_still : (t : Told) (pid fd count : ℕ) → Known Reading f pid fd → Ends (read_fd t pid fd count f) No Yes
+  read_still : (t : LengthChecks) (pid fd count : ℕ) → Known Reading f pid fd → Ends (read_fd t pid fd count f) No Yes
   unfolding read_fd
   read_still t pid fd count k =
       ends_bind _ _ f No Yes (ends_opened pid fd f No _ (λ e is.
@@ -64,7 +64,7 @@ module _ (law : KnownChangesNothing) (f : Frame) where
       ends_pass _ f No Yes refl)))
       refl)) refl)))))) refl)) refl)) refl)) refl)) refl)
 
-  write_still : (t : Told) (pid fd : ℕ) → Known Writing f pid fd → Ends (write_fd t pid fd f) No Yes
+  write_still : (t : LengthChecks) (pid fd : ℕ) → Known Writing f pid fd → Ends (write_fd t pid fd f) No Yes
   unfolding write_fd
   write_still t pid fd k =
       ends_bind _ _ f No Yes (ends_opened pid fd f No _ (λ e is.
@@ -84,7 +84,7 @@ module _ (law : KnownChangesNothing) (f : Frame) where
       ends_pass _ f No Yes refl)))))
       refl)) refl)) refl)) refl)))) refl)) refl)) refl)) refl)) refl)) refl)
 
-  row_still : (t : Told) (place pid : ℕ) (c : Op) → IsKnown f pid c → Holds (row t place pid c f) As
+  row_still : (t : LengthChecks) (place pid : ℕ) (c : Op) → IsKnown f pid c → Holds (row t place pid c f) As
   unfolding row
   row_still t place pid (op.ReadFd fd count) k = kept_ends As _ (read_still t pid fd count k)
   row_still t place pid (op.WriteFd fd bytes) k = kept_ends As _ (write_still t pid fd k)

@@ -144,4 +144,4 @@ or_refreshed pid (Some r) spot q d w s = if is_it pid r.0.0 r.1 q d w then spot 
 pub record CanRefresh (m : Known) (pid : ℕ) (r : Fd × Way) (spot : Option marked.Spot) : Type 0 where
   pub stands : is_some spot ≡ true
   pub descriptor : r.0.0 < 32
-  pub room : has_row m pid ≡ false → 0 < m.seats.free
+  pub room : has_row m pid ≡ false → 0 < m.owners.free

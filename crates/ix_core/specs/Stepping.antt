@@ -17,7 +17,7 @@ use Rattle.ix_model.specs.declared.reply.Reply.TheVariants as reply
 use Rattle.ix_model.specs.declared.reply.Answer.{Answer}
 use Rattle.ix_model.specs.declared.reply.Answer.TheVariants as answer
 use Rattle.ix_iso.specs.Laws.{NoneCrosses}
-use Rattle.ix_iso.specs.Hiding.{HidesWhatIsHigh, RunsAgree}
+use Rattle.ix_iso.specs.Noninterference.{Noninterferent, RunsAgree}
 
 -- The machine's world is the run of the history from the opening world of a valid config, whose journal has the history's
 -- entries and is as large as the config says.
@@ -60,7 +60,7 @@ pub record StepsAs (a : Answer) (old new : History) (e : Event) (before after : 
   pub fits : Fits e.op a
   pub rest : LeavesRest a before after
   pub alike : AnswersAlike a old e before after
-  pub hides : HidesWhatIsHigh (opening_world new.config) new.events
+  pub noninterference : Noninterferent (opening_world new.config) new.events
 
 -- The history has one entry more, to which this reply and these bytes are what the machine gives.
 pub record IsNext (old new : History) (e : Event) (r : Reply) (read : List ℕ) : Type 0 where

@@ -11,7 +11,7 @@ ghost use Rattle.ix_model.specs.laws.Sound.{Sound};
 ghost use Rattle.ix_model.specs.opening.Opening.{opening_world};
 ghost use Rattle.ix_model.specs.opening.Valid.{is_valid};
 ghost use Rattle.ix_model.specs.world.World.{at};
-ghost use Rattle.ix_iso.specs.Hiding.{HidesWhatIsHigh};
+ghost use Rattle.ix_iso.specs.Noninterference.{Noninterferent};
 ghost use Rattle.ix_model.specs.history.Views.{view_of, shown_of, size_at, bytes_inside, names_there};
 ghost use Rattle.ix_model.specs.world.Directories.{IsBehind};
 ghost use Rattle.ix_model.specs.world.NameRefs.{name_of};
@@ -108,7 +108,7 @@ impl Core {
         ensures fits { Fits (op_of call.now) result }
         ensures rest { LeavesRest result buf.old buf.new }
         ensures alike { AnswersAlike result self.old (record { seat = seat; line = line; pid = pid.0; op = op_of call.now }) buf.old buf.new }
-        ensures hides { HidesWhatIsHigh (opening_world self.new.config) self.new.events }
+        ensures noninterference { Noninterferent (opening_world self.new.config) self.new.events }
         ensures fresh { IsTrue (goes_fresh self.old pid.0 (op_of call.now)) → steps.new ≡ steps.old }
     {
         if !self.journal.takes(call) {
@@ -138,7 +138,7 @@ impl Core {
         ensures stops { StopsWhereFull result self.new }
         ensures costs { cost_of_history self.old.events ≤ cost_of_history self.new.events }
     {
-        step_counted::<Brand>(self, seat, line, pid, call, buf, Blank::new(1))
+        step_uncounted::<Brand>(self, seat, line, pid, call, buf, Blank::new(1))
     }
 
     /// Whether a descriptor of a process is fresh for that way: the process read through it and was given bytes, or wrote
@@ -267,7 +267,7 @@ impl Core {
 }
 
 /// A step, with the looks counted under a ledger of the caller's choice, who is not told how many they were.
-fn step_counted<L: Ledger>(
+fn step_uncounted<L: Ledger>(
     core: &mut Core,
     seat: u32,
     line: u32,

@@ -54,7 +54,7 @@ pub(crate) fn turn<L: Ledger>(
     if goes_fresh(marks, pid, call) {
         return known(machine, marks, place, pid, call, buf);
     }
-    looking(machine, marks, place, pid, call, buf, steps)
+    call_checked(machine, marks, place, pid, call, buf, steps)
 }
 
 /// Whether a call is a read through a descriptor that is fresh for reading, or a write through one that is fresh for writing.
@@ -86,12 +86,12 @@ fn known(
 {
     let _ = marks;
     known_changes_nothing();
-    machine.call_known(place, pid, call, buf).reply()
+    machine.call_fresh(place, pid, call, buf).reply()
 }
 
 /// The call of a process, which looks at labels. The marks are told of each label that it changed, and of the descriptor that
 /// it closed or refreshed.
-fn looking<L: Ledger>(
+fn call_checked<L: Ledger>(
     machine: &mut Machine,
     marks: &mut Marks,
     place: u32,
@@ -194,7 +194,7 @@ fn tell_process<L: Ledger>(
 )
     requires { marks.old.raised < 2 ^ 62 }
     ensures spots { (q d : ℕ) (w : way_type.Way) → spot_of marks.new q d w ≡ (if q == pid.0 && other_process was.now machine.now.frame pid.0 then None else spot_of marks.old q d w) }
-    ensures seats { marks.new.seats ≡ marks.old.seats }
+    ensures owners { marks.new.owners ≡ marks.old.owners }
     ensures sizes { marks.new.sizes ≡ marks.old.sizes }
     ensures raised { marks.new.raised ≤ marks.old.raised + 1 }
 {
@@ -214,7 +214,7 @@ fn tell_object<L: Ledger>(
     requires object { (o : ℕ) → option_map (λ x. x.0) object ≡ Some o → other_object was.now machine.now.frame (Some o) ≡ true → o < marks.old.sizes.objects }
     requires raised { marks.old.raised < 2 ^ 62 }
     ensures spots { (q d : ℕ) (w : way_type.Way) → spot_of marks.new q d w ≡ unless_object (option_map (λ x. x.0) object) (other_object was.now machine.now.frame (option_map (λ x. x.0) object)) (spot_of marks.old q d w) }
-    ensures seats { marks.new.seats ≡ marks.old.seats }
+    ensures owners { marks.new.owners ≡ marks.old.owners }
     ensures sizes { marks.new.sizes ≡ marks.old.sizes }
     ensures raised { marks.new.raised ≤ marks.old.raised + 1 }
 {
@@ -237,7 +237,7 @@ fn tell_entry<L: Ledger>(
     requires entry { (e : ℕ) → entry ≡ Some e → other_entry was.now machine.now.frame (Some e) ≡ true → e < marks.old.sizes.opens }
     requires raised { marks.old.raised < 2 ^ 62 }
     ensures spots { (q d : ℕ) (w : way_type.Way) → spot_of marks.new q d w ≡ unless_entry entry (other_entry was.now machine.now.frame entry) (spot_of marks.old q d w) }
-    ensures seats { marks.new.seats ≡ marks.old.seats }
+    ensures owners { marks.new.owners ≡ marks.old.owners }
     ensures sizes { marks.new.sizes ≡ marks.old.sizes }
     ensures raised { marks.new.raised ≤ marks.old.raised + 1 }
 {

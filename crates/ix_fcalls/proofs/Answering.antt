@@ -3,7 +3,7 @@ use Rattle.std.proofs.Common.{◌≡◌, ℕ, Bool, true, false, List, [], Optio
 use Rattle.ix_model.specs.world.World.{World, Content, Process}
 use Rattle.ix_model.specs.world.Contents.{carried}
 use Rattle.ix_model.specs.laws.Sound.{Sound}
-use Rattle.ix_model.specs.rows.OnDescriptors.{Told}
+use Rattle.ix_model.specs.rows.OnDescriptors.{LengthChecks}
 use Rattle.ix_model.specs.rows.Table.{verdict}
 use Rattle.ix_model.specs.rows.Telling.{told, nothing_told}
 use Rattle.ix_model.specs.history.Step.{Given, step, answer, plainly, edited, put_front}
@@ -44,7 +44,7 @@ lets_stay (op.RemoveDir path) filed stays = cc
 lets_stay _ filed stays = cc
 
 -- a decision, as it stands in the parts
-module _ (a : Around) (t u : Parts) (ps qs : List (Option Process)) (c : Op) (m : Told) (filed : is_filed c ≡ true) (sound : Sound (world_of a t ps))
+module _ (a : Around) (t u : Parts) (ps qs : List (Option Process)) (c : Op) (m : LengthChecks) (filed : is_filed c ≡ true) (sound : Sound (world_of a t ps))
     (left : Leaves (lets_go c) a t u ps qs) (stands : frame_of a u qs ≡ (verdict m a.place a.pid c (frame_of a t ps)).frame) where
   carried_over : carried (frame_of a t ps) (verdict m a.place a.pid c (frame_of a t ps)).frame (world_of a t ps).content ≡ (world_of a u qs).content
   carried_over = go (lets_go c) refl left

@@ -14,7 +14,7 @@ use Rattle.ix_model.specs.history.Step.{plainly, answer, step}
 use Rattle.ix_model.specs.laws.Sound.{Sound}
 use Rattle.ix_model.specs.rows.Outcomes.{Outcome, Pass}
 use Rattle.ix_model.specs.rows.Rows.{◌>>=◌, ◌>>◌, on_pass, pass, some, frame}
-use Rattle.ix_model.specs.rows.Walks.{Behind, behind, behind_of, entry_at, opened}
+use Rattle.ix_model.specs.rows.Walks.{OpenFile, behind, behind_of, entry_at, opened}
 use Rattle.ix_model.specs.rows.Lifetimes.{let_go, let_go_if_held, let_go_each, let_go_all}
 use Rattle.ix_model.specs.rows.OnDescriptors.{close_fd}
 use Rattle.ix_model.specs.rows.Table.{Decision, row, settled, verdict}
@@ -35,7 +35,7 @@ use Rattle.ix_fcalls.proofs.Releasing.{owners_ended, homes_fewer, at_home}
 
 -- ---- one descriptor
 -- what a descriptor given up leaves is what CloseFd leaves
-module _ (w : World) (pid fd : ℕ) (e : Behind) (g : Frame) (alive : lives w.frame pid ≡ true) (is : behind w.frame pid fd ≡ Some e) (gives : let_go pid fd e w.frame ≡ Pass tt g) where
+module _ (w : World) (pid fd : ℕ) (e : OpenFile) (g : Frame) (alive : lives w.frame pid ≡ true) (is : behind w.frame pid fd ≡ Some e) (gives : let_go pid fd e w.frame ≡ Pass tt g) where
   closes : close_fd pid fd w.frame ≡ Pass reply.Done g
   unfolding close_fd opened ◌>>=◌ ◌>>◌ on_pass frame pass some
   closes =
@@ -69,7 +69,7 @@ module _ (f : Frame) (pid fd : ℕ) (alive : lives f pid ≡ true) (stands : (q 
       go None free = free
       go (Some e) on =
           let x = passes_some is_some refl (at f.opens e) (stands q e here on) in
-          let there : is_some (behind f pid fd) ≡ true = ap (λ p. is_some (behind_of p f fd)) here ∙ ap (λ d. is_some (entry_at f d)) on ∙ ap (λ o. is_some (option_map (λ y. let b : Behind = record { id = e; entry = y } in b) o)) x.1 in
+          let there : is_some (behind f pid fd) ≡ true = ap (λ p. is_some (behind_of p f fd)) here ∙ ap (λ d. is_some (entry_at f d)) on ∙ ap (λ o. is_some (option_map (λ y. let b : OpenFile = record { id = e; entry = y } in b) o)) x.1 in
           absurd (true≢false (sym there ∙ ap is_some none))
 
   pub nothing_taken : f.processes ≡ change f.processes pid (λ q. record q { fds = put q.fds fd None })

@@ -9,10 +9,10 @@ use Rattle.ix_model.specs.declared.call.Mode.{Mode}
 use Rattle.ix_model.specs.declared.call.Mode.TheVariants as mode
 use Rattle.ix_model.specs.declared.refusal.Refusal.TheVariants as refusal
 use Rattle.ix_model.specs.rows.Rows.{◌>>=◌, ◌>>◌, on_pass, pass, need, some, refuse, frame, object}
-use Rattle.ix_model.specs.rows.OnDescriptors.{Told, cut_fd}
+use Rattle.ix_model.specs.rows.OnDescriptors.{LengthChecks, cut_fd}
 use Rattle.ix_model.specs.rows.Table.{verdict, row, settled}
 use Rattle.ix_model.specs.rows.Telling.{told, nothing_told, told_of_cut}
-use Rattle.ix_model.specs.rows.Walks.{Behind, behind, opened}
+use Rattle.ix_model.specs.rows.Walks.{OpenFile, behind, opened}
 use Rattle.ix_model.specs.history.Step.{step, answer, plainly, edited, cut_answer}
 use Rattle.ix_model.specs.history.Events as op
 use Rattle.ix_model.specs.declared.reply.Reply.{Reply}
@@ -31,28 +31,28 @@ cut_none : (w : World) (place pid fd len : ℕ) → behind w.frame pid fd ≡ No
 unfolding step answer told told_of_cut cut_answer
 cut_none w place pid fd len none = rw none refl
 
-cut_some : (w : World) (place pid fd len : ℕ) (e : Behind) (m : Told) → behind w.frame pid fd ≡ Some e → m ≡ told_of_cut w.frame w.content len (Some e)
+cut_some : (w : World) (place pid fd len : ℕ) (e : OpenFile) (m : LengthChecks) → behind w.frame pid fd ≡ Some e → m ≡ told_of_cut w.frame w.content len (Some e)
     → step w place pid (op.CutFd fd len) ≡ cut_answer w len (Some e) (verdict m place pid (op.CutFd fd len) w.frame).reply (verdict m place pid (op.CutFd fd len) w.frame).frame
 unfolding step answer told
 cut_some w place pid fd len e m some is = rw (some, ← is) refl
 
-uncut : (w : World) (len : ℕ) (e : Behind) (r : Reply) (g : Frame) → (r ≡ reply.Done → ⊥) → cut_answer w len (Some e) r g ≡ plainly w (record { reply = r; frame = g })
+uncut : (w : World) (len : ℕ) (e : OpenFile) (r : Reply) (g : Frame) → (r ≡ reply.Done → ⊥) → cut_answer w len (Some e) r g ≡ plainly w (record { reply = r; frame = g })
 unfolding cut_answer
 uncut w len e reply.Done g not = absurd (not refl)
 uncut w len e _ g not = refl
 
-did_cut : (w : World) (len : ℕ) (e : Behind) (r : Reply) (g : Frame) → r ≡ reply.Done → cut_answer w len (Some e) r g ≡ edited w g reply.Done [] (after_cut e len)
+did_cut : (w : World) (len : ℕ) (e : OpenFile) (r : Reply) (g : Frame) → r ≡ reply.Done → cut_answer w len (Some e) r g ≡ edited w g reply.Done [] (after_cut e len)
 unfolding cut_answer
 did_cut w len e r g is = rw is refl
 
 -- ---- what is refused before lengths count
 -- a cut to more than there may be
-cut_long : (m n : Told) (pid fd len : ℕ) (f : Frame) → nat_le len 1048576 ≡ false → cut_fd m pid fd len f ≡ cut_fd n pid fd len f
+cut_long : (m n : LengthChecks) (pid fd len : ℕ) (f : Frame) → nat_le len 1048576 ≡ false → cut_fd m pid fd len f ≡ cut_fd n pid fd len f
 unfolding cut_fd ◌>>=◌ ◌>>◌ on_pass need refuse
 cut_long m n pid fd len f long = rw long refl
 
 -- a cut of a pipe
-cut_pipe : (m n : Told) (pid fd len : ℕ) (f : Frame) (e : Behind) (x : Object) → behind f pid fd ≡ Some e → at f.objects e.entry.object ≡ Some x → is_pipe x ≡ true → cut_fd m pid fd len f ≡ cut_fd n pid fd len f
+cut_pipe : (m n : LengthChecks) (pid fd len : ℕ) (f : Frame) (e : OpenFile) (x : Object) → behind f pid fd ≡ Some e → at f.objects e.entry.object ≡ Some x → is_pipe x ≡ true → cut_fd m pid fd len f ≡ cut_fd n pid fd len f
 unfolding cut_fd opened frame object some ◌>>=◌ ◌>>◌ on_pass pass need refuse
 cut_pipe m n pid fd len f e x is there pipe = go e.entry.mode refl
   where
@@ -62,22 +62,22 @@ cut_pipe m n pid fd len f e x is there pipe = go e.entry.mode refl
     go mode.Both d = rw (is, d, there, pipe) refl
 
 -- what is settled of the same row
-settled_same : (m n : Told) (place pid fd len : ℕ) (f : Frame) → cut_fd m pid fd len f ≡ cut_fd n pid fd len f → verdict m place pid (op.CutFd fd len) f ≡ verdict n place pid (op.CutFd fd len) f
+settled_same : (m n : LengthChecks) (place pid fd len : ℕ) (f : Frame) → cut_fd m pid fd len f ≡ cut_fd n pid fd len f → verdict m place pid (op.CutFd fd len) f ≡ verdict n place pid (op.CutFd fd len) f
 unfolding verdict row
 settled_same m n place pid fd len f same = ap (λ o. if lives f pid then settled f o else record { reply = reply.No refusal.NoProcess; frame = f }) same
 
-no_cut_long : (m : Told) (place pid fd len : ℕ) (f : Frame) → nat_le len 1048576 ≡ false → (verdict m place pid (op.CutFd fd len) f).reply ≡ reply.Done → ⊥
+no_cut_long : (m : LengthChecks) (place pid fd len : ℕ) (f : Frame) → nat_le len 1048576 ≡ false → (verdict m place pid (op.CutFd fd len) f).reply ≡ reply.Done → ⊥
 no_cut_long m place pid fd len f long done = true≢false (sym (was_cut m place pid fd len f done).short ∙ long)
 
-no_cut_pipe : (m : Told) (place pid fd len : ℕ) (f : Frame) (e : Behind) → behind f pid fd ≡ Some e → on_pipe f e ≡ true → (verdict m place pid (op.CutFd fd len) f).reply ≡ reply.Done → ⊥
+no_cut_pipe : (m : LengthChecks) (place pid fd len : ℕ) (f : Frame) (e : OpenFile) → behind f pid fd ≡ Some e → on_pipe f e ≡ true → (verdict m place pid (op.CutFd fd len) f).reply ≡ reply.Done → ⊥
 no_cut_pipe m place pid fd len f e is pipe done =
     let facts = was_cut m place pid fd len f done in
     let same : e ≡ facts.entry = let h = facts.is_entry in cc in
-    let there : at f.objects e.entry.object ≡ Some facts.object = ap (λ (x : Behind). at f.objects x.entry.object) same ∙ facts.is_object in
+    let there : at f.objects e.entry.object ≡ Some facts.object = ap (λ (x : OpenFile). at f.objects x.entry.object) same ∙ facts.is_object in
     true≢false (sym pipe ∙ ap (λ o. option_map_or is_pipe o false) there ∙ not-true (is_pipe facts.object) facts.no_pipe)
 
 -- a cut of a file, as it is decided
-module _ (a : Around) (t u : Parts) (ps qs : List (Option Process)) (fd len : ℕ) (m : Told) (r : Reply) (sound : Sound (world_of a t ps)) (kept : Keeps t u)
+module _ (a : Around) (t u : Parts) (ps qs : List (Option Process)) (fd len : ℕ) (m : LengthChecks) (r : Reply) (sound : Sound (world_of a t ps)) (kept : Keeps t u)
     (said : r ≡ (verdict m a.place a.pid (op.CutFd fd len) (frame_of a t ps)).reply) (stands : frame_of a u qs ≡ (verdict m a.place a.pid (op.CutFd fd len) (frame_of a t ps)).frame) where
   pub cut_floats : Floats (frame_of a t ps) (frame_of a u qs)
   cut_floats = subst (λ (g : Frame). Floats (frame_of a t ps) g) (sym stands) (floats_cut m a.place a.pid fd len (frame_of a t ps))
@@ -86,7 +86,7 @@ module _ (a : Around) (t u : Parts) (ps qs : List (Option Process)) (fd len : �
   answers_cut_none buf none is = answers_said a t u ps qs (op.CutFd fd len) m refl sound kept stands r buf said
       (cut_none (world_of a t ps) a.place a.pid fd len none ∙ ap (λ n. plainly (world_of a t ps) (verdict n a.place a.pid (op.CutFd fd len) (frame_of a t ps))) (sym is))
 
-  module _ (e : Behind) (some : behind (frame_of a t ps) a.pid fd ≡ Some e) where
+  module _ (e : OpenFile) (some : behind (frame_of a t ps) a.pid fd ≡ Some e) where
     -- the row is that of what the length tells, and it refuses
     unheard : (buf : List ℕ) → cut_fd (told_of_cut (frame_of a t ps) (world_of a t ps).content len (Some e)) a.pid fd len (frame_of a t ps) ≡ cut_fd m a.pid fd len (frame_of a t ps)
         → (r ≡ reply.Done → ⊥) → Answers (step (world_of a t ps) a.place a.pid (op.CutFd fd len)) (world_of a u qs) r buf buf
@@ -121,7 +121,7 @@ module _ (a : Around) (t u : Parts) (ps qs : List (Option Process)) (fd len : �
           let space = not-true m.no_space facts.space in
           told_cut_same (frame_of a t ps) (frame_of a u qs) cut_floats (world_of a u qs).content len e
           ∙ ap (λ c. told_of_cut (frame_of a t ps) c len (Some e)) (content_same a t u ps qs kept)
-          ∙ (λ i. record nothing_told { no_space = (sym (ap (λ (n : Told). n.no_space) is) ∙ space) i })
+          ∙ (λ i. record nothing_told { no_space = (sym (ap (λ (n : LengthChecks). n.no_space) is) ∙ space) i })
 
       pub answers_cut : (v : Parts) (buf : List ℕ) → r ≡ reply.Done → frame_of a v qs ≡ frame_of a u qs → (world_of a v qs).content ≡ after_cut e len (world_of a u qs).content
           → Answers (step (world_of a t ps) a.place a.pid (op.CutFd fd len)) (world_of a v qs) reply.Done buf buf

@@ -4,7 +4,7 @@ use Rattle.ix_model.specs.world.World.{Frame, Process}
 use Rattle.ix_model.specs.world.Contents.{carried}
 use Rattle.ix_model.specs.laws.Sound.{Sound}
 use Rattle.ix_model.specs.rows.Outcomes.{Outcome, Refuse, Pass}
-use Rattle.ix_model.specs.rows.OnDescriptors.{Told}
+use Rattle.ix_model.specs.rows.OnDescriptors.{LengthChecks}
 use Rattle.ix_model.specs.rows.Table.{row}
 use Rattle.ix_model.specs.history.Calls.{op_of}
 use Rattle.ix_model.specs.history.Events.{Op}
@@ -38,7 +38,7 @@ refused pid f g why (Pass r h) is k = cc
 
 module _ (b : Bool) (a : Around) (t u : Parts) (ps : List (Option Process)) (sound : Sound (world_of a t ps)) (back : u ≡ t) where
   -- the label stays raised
-  pub leaves_raised : (qs : List (Option Process)) (told : Told) (c : Op) (why : Refusal) → row told a.place a.pid c (frame_of a t ps) ≡ Refuse why (frame_of a u qs) → Leaves b a t u ps qs
+  pub leaves_raised : (qs : List (Option Process)) (told : LengthChecks) (c : Op) (why : Refusal) → row told a.place a.pid c (frame_of a t ps) ≡ Refuse why (frame_of a u qs) → Leaves b a t u ps qs
   leaves_raised qs told c why is = left b a t u ps qs sound back (refused a.pid _ _ why _ is (refusing_row told a.place a.pid c (frame_of a t ps)))
 
   -- the caller is set back

@@ -4,10 +4,10 @@ use Rattle.std.specs.Option.{option_map_or}
 use Rattle.ix_model.specs.world.World.{Content, Process, Holding, at, is_pipe}
 use Rattle.ix_model.specs.world.Contents.{holds_nothing, side, with_side, change_side, readable, after_read, after_write, after_cut, spliced, cut_to}
 use Rattle.ix_tables.specs.Parts.{Parts}
-use Rattle.ix_fcalls.specs.declared.behind.Behind.{Behind}
+use Rattle.ix_fcalls.specs.declared.open_file.OpenFile.{OpenFile}
 use Rattle.ix_fcalls.specs.Around.{Around, frame_of, world_of}
 use Rattle.ix_fcalls.specs.Counted.{IsCounted}
-use Rattle.ix_fcalls.specs.Meanings.{behind_of}
+use Rattle.ix_fcalls.specs.Views.{behind_of}
 use Rattle.ix_fcalls.specs.Serving.{Serves}
 
 -- the parts with other holdings and offsets
@@ -21,7 +21,7 @@ module _ (t v : Parts) (holdings : List Holding) (offsets : List ℕ) (is : v �
   pub edited_counted : (ps : List (Option Process)) → IsCounted t ps → IsCounted v ps
   edited_counted ps c = subst (λ (u : Parts). IsCounted u ps) (sym is) (record { owners = c.owners; homes = c.homes })
 
-module _ (a : Around) (t : Parts) (ps : List (Option Process)) (b : Behind) where
+module _ (a : Around) (t : Parts) (ps : List (Option Process)) (b : OpenFile) where
   abbrev on_pipe_there : Bool
   on_pipe_there = option_map_or is_pipe (at t.objects b.object) false
 

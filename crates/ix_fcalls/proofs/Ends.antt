@@ -13,7 +13,7 @@ use Rattle.ix_model.specs.laws.Sound.{Sound}
 use Rattle.ix_model.specs.world.Contents.{holds_nothing}
 use Rattle.ix_model.specs.world.Numbers.{free_pipe}
 use Rattle.ix_tables.specs.Parts.{Parts}
-use Rattle.ix_tables.specs.Meanings.{vacant_pipe}
+use Rattle.ix_tables.specs.Views.{vacant_pipe}
 use Rattle.ix_fcalls.specs.Around.{Around, frame_of, world_of, process_of}
 use Rattle.ix_fcalls.specs.Counted.{IsCounted, IsClear, Keeps, has_free, free_beside}
 use Rattle.ix_fcalls.proofs.Counting.{one, counted_same}

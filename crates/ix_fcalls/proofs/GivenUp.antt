@@ -7,14 +7,14 @@ use Rattle.ix_model.specs.world.Owners.{owned}
 use Rattle.ix_model.specs.world.Contents.{carried, holds_nothing}
 use Rattle.ix_model.specs.rows.Outcomes.{Pass, Row}
 use Rattle.ix_model.specs.rows.Rows.{◌>>◌, on_pass, pass, only_if, change_process, change_object, put_object, put_open}
-use Rattle.ix_model.specs.rows.Walks.{Behind, behind}
+use Rattle.ix_model.specs.rows.Walks.{OpenFile, behind}
 use Rattle.ix_model.specs.rows.Lifetimes.{stays, has_lost, let_go, let_go_claim, let_go_open, let_go_object}
 use Rattle.ix_model.specs.laws.Sound.{Sound}
 use Rattle.ix_model.proofs.tables.Tables.{seen_changed}
 use Rattle.ix_model.proofs.tables.Finds.{in_table}
 use Rattle.ix_model.proofs.frames.Claimants.{is_behind}
 use Rattle.ix_tables.specs.Parts.{Parts, owners_of, homes_of}
-use Rattle.ix_tables.specs.Meanings.{frame_alone, released, without_object, object_let_go}
+use Rattle.ix_tables.specs.Views.{frame_alone, released, without_object, object_let_go}
 use Rattle.ix_fcalls.specs.Around.{Around, frame_of, world_of}
 use Rattle.ix_fcalls.specs.Counted.{IsCounted}
 use Rattle.ix_fcalls.specs.Remaining.{Remains, Leaves}
@@ -67,7 +67,7 @@ remains_unclaimed true t hs o k r = remains_changed holds_nothing t t hs hs o k 
 remains_unclaimed false t hs o k r = r
 
 -- ---- the whole
-module _ (a : Around) (v : Parts) (ps : List (Option Process)) (fd : ℕ) (e : Behind) (last : Bool) (s : Sound (world_of a v ps)) (c : IsCounted v ps) (is : behind (frame_of a v ps) a.pid fd ≡ Some e) (was_last : last ≡ (slice_index_or v.owners e.id 0 == 1)) where
+module _ (a : Around) (v : Parts) (ps : List (Option Process)) (fd : ℕ) (e : OpenFile) (last : Bool) (s : Sound (world_of a v ps)) (c : IsCounted v ps) (is : behind (frame_of a v ps) a.pid fd ≡ Some e) (was_last : last ≡ (slice_index_or v.owners e.id 0 == 1)) where
   abbrev processes : List (Option Process)
   processes = change ps a.pid (λ q. record q { fds = put q.fds fd None })
 
@@ -133,13 +133,13 @@ module _ (a : Around) (v : Parts) (ps : List (Option Process)) (fd : ℕ) (e : B
   }
 
 -- what is said of the parts and the processes then
-pub record IsGivenUp (a : Around) (v : Parts) (ps : List (Option Process)) (fd : ℕ) (e : Behind) (w : Parts) (qs : List (Option Process)) : Type 0 where
+pub record IsGivenUp (a : Around) (v : Parts) (ps : List (Option Process)) (fd : ℕ) (e : OpenFile) (w : Parts) (qs : List (Option Process)) : Type 0 where
   pub row : let_go a.pid fd e (frame_of a v ps) ≡ Pass tt (frame_of a w qs)
   pub counted : IsCounted w qs
   pub leaves : Leaves (world_of a v ps) (world_of a w qs)
   pub content : (world_of a w qs).content ≡ carried (frame_of a v ps) (frame_of a w qs) (world_of a v ps).content
 
-pub given_up : (a : Around) (v : Parts) (ps : List (Option Process)) (fd : ℕ) (e : Behind) (s : Sound (world_of a v ps)) → IsCounted v ps → behind (frame_of a v ps) a.pid fd ≡ Some e
+pub given_up : (a : Around) (v : Parts) (ps : List (Option Process)) (fd : ℕ) (e : OpenFile) (s : Sound (world_of a v ps)) → IsCounted v ps → behind (frame_of a v ps) a.pid fd ≡ Some e
     → (qs : List (Option Process)) → qs ≡ change ps a.pid (λ q. record q { fds = put q.fds fd None })
     → (t u w : Parts) (last : Bool)
     → t ≡ record v { objects = if has_lost (frame_of a v qs) a.pid e.entry.object e.entry.end then change v.objects e.entry.object (λ x. record x { claims = put x.claims e.entry.end None }) else v.objects }
@@ -154,10 +154,10 @@ given_up a v ps fd e s c is qs taking t u w last one lastly two three =
     subst (λ rs. IsGivenUp a v ps fd e w rs) (sym taking) (subst (λ z. IsGivenUp a v ps fd e z (processes a v ps fd e last s c is was_last)) (sym whole) r)
 
 -- ---- what stands behind the descriptor
-pub entry_stands : (a : Around) (v : Parts) (ps : List (Option Process)) (fd : ℕ) (e : Behind) → behind (frame_of a v ps) a.pid fd ≡ Some e → is_some (at v.opens e.id) ≡ true
+pub entry_stands : (a : Around) (v : Parts) (ps : List (Option Process)) (fd : ℕ) (e : OpenFile) → behind (frame_of a v ps) a.pid fd ≡ Some e → is_some (at v.opens e.id) ≡ true
 entry_stands a v ps fd e is = ap is_some (is_behind (frame_of a v ps) a.pid fd e is).stands
 
-pub entry_low : (a : Around) (v : Parts) (ps : List (Option Process)) (fd : ℕ) (e : Behind) → Sound (world_of a v ps) → behind (frame_of a v ps) a.pid fd ≡ Some e → e.entry.end < 2
+pub entry_low : (a : Around) (v : Parts) (ps : List (Option Process)) (fd : ℕ) (e : OpenFile) → Sound (world_of a v ps) → behind (frame_of a v ps) a.pid fd ≡ Some e → e.entry.end < 2
 entry_low a v ps fd e s is = elim (or_cases (e.entry.end == 0) (e.entry.end == 1 && option_map_or is_pipe (at v.objects e.entry.object) false) (s.opens.end e.id e.entry (is_behind (frame_of a v ps) a.pid fd e is).stands)) [
   | inl first ↦ let zero : e.entry.end ≡ 0 = eqb-true _ 0 first in omega (arith, zero)
   | inr second ↦ let one : e.entry.end ≡ 1 = eqb-true _ 1 (and_parts _ _ second).0 in omega (arith, one)

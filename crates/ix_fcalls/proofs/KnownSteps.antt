@@ -4,11 +4,11 @@ use Rattle.ix_model.specs.world.World.{Frame, Process, lives}
 use Rattle.ix_model.specs.world.Contents.{readable, after_read, after_write}
 use Rattle.ix_model.specs.laws.Sound.{Sound}
 use Rattle.ix_model.specs.rows.Outcomes.{Refuse, Pass}
-use Rattle.ix_model.specs.rows.OnDescriptors.{Told, read_fd, write_fd}
+use Rattle.ix_model.specs.rows.OnDescriptors.{LengthChecks, read_fd, write_fd}
 use Rattle.ix_model.specs.rows.Refusals.{keeps_label}
 use Rattle.ix_model.specs.rows.Table.{Decision, verdict, row}
 use Rattle.ix_model.specs.rows.Telling.{nothing_told, told_of_read, told_of_write}
-use Rattle.ix_model.specs.rows.Walks.{Behind, behind}
+use Rattle.ix_model.specs.rows.Walks.{OpenFile, behind}
 use Rattle.ix_model.specs.history.Calls.{op_of}
 use Rattle.ix_model.specs.history.Events.{Op}
 use Rattle.ix_model.specs.history.Events as op
@@ -31,27 +31,27 @@ same_frame : (b : Bool) (f : Frame) → (if b then f else f) ≡ f
 same_frame true f = refl
 same_frame false f = refl
 
-passes : (m : Told) (place pid : ℕ) (o : Op) (f : Frame) (r : Reply) → lives f pid ≡ true → row m place pid o f ≡ Pass r f → verdict m place pid o f ≡ record { reply = r; frame = f }
+passes : (m : LengthChecks) (place pid : ℕ) (o : Op) (f : Frame) (r : Reply) → lives f pid ≡ true → row m place pid o f ≡ Pass r f → verdict m place pid o f ≡ record { reply = r; frame = f }
 unfolding verdict
 passes m place pid o f r alive is = rw (alive, is) refl
 
-refuses : (m : Told) (place pid : ℕ) (o : Op) (f : Frame) (why : Refusal) → lives f pid ≡ true → row m place pid o f ≡ Refuse why f → verdict m place pid o f ≡ record { reply = reply.No why; frame = f }
+refuses : (m : LengthChecks) (place pid : ℕ) (o : Op) (f : Frame) (why : Refusal) → lives f pid ≡ true → row m place pid o f ≡ Refuse why f → verdict m place pid o f ≡ record { reply = reply.No why; frame = f }
 unfolding verdict
 refuses m place pid o f why alive is = rw (alive, is) (λ i. record { reply = reply.No why; frame = same_frame (keeps_label why) f i })
 
-read_passes : (m : Told) (place pid fd count : ℕ) (f : Frame) → lives f pid ≡ true → read_fd m pid fd count f ≡ Pass (reply.Bytes 0) f → verdict m place pid (op.ReadFd fd count) f ≡ record { reply = reply.Bytes 0; frame = f }
+read_passes : (m : LengthChecks) (place pid fd count : ℕ) (f : Frame) → lives f pid ≡ true → read_fd m pid fd count f ≡ Pass (reply.Bytes 0) f → verdict m place pid (op.ReadFd fd count) f ≡ record { reply = reply.Bytes 0; frame = f }
 unfolding row
 read_passes m place pid fd count f alive is = passes m place pid (op.ReadFd fd count) f (reply.Bytes 0) alive is
 
-read_refuses : (m : Told) (place pid fd count : ℕ) (f : Frame) (why : Refusal) → lives f pid ≡ true → read_fd m pid fd count f ≡ Refuse why f → verdict m place pid (op.ReadFd fd count) f ≡ record { reply = reply.No why; frame = f }
+read_refuses : (m : LengthChecks) (place pid fd count : ℕ) (f : Frame) (why : Refusal) → lives f pid ≡ true → read_fd m pid fd count f ≡ Refuse why f → verdict m place pid (op.ReadFd fd count) f ≡ record { reply = reply.No why; frame = f }
 unfolding row
 read_refuses m place pid fd count f why alive is = refuses m place pid (op.ReadFd fd count) f why alive is
 
-write_passes : (m : Told) (place pid fd : ℕ) (new : List ℕ) (f : Frame) → lives f pid ≡ true → write_fd m pid fd f ≡ Pass (reply.Number 0) f → verdict m place pid (op.WriteFd fd new) f ≡ record { reply = reply.Number 0; frame = f }
+write_passes : (m : LengthChecks) (place pid fd : ℕ) (new : List ℕ) (f : Frame) → lives f pid ≡ true → write_fd m pid fd f ≡ Pass (reply.Number 0) f → verdict m place pid (op.WriteFd fd new) f ≡ record { reply = reply.Number 0; frame = f }
 unfolding row
 write_passes m place pid fd new f alive is = passes m place pid (op.WriteFd fd new) f (reply.Number 0) alive is
 
-write_refuses : (m : Told) (place pid fd : ℕ) (new : List ℕ) (f : Frame) (why : Refusal) → lives f pid ≡ true → write_fd m pid fd f ≡ Refuse why f → verdict m place pid (op.WriteFd fd new) f ≡ record { reply = reply.No why; frame = f }
+write_refuses : (m : LengthChecks) (place pid fd : ℕ) (new : List ℕ) (f : Frame) (why : Refusal) → lives f pid ≡ true → write_fd m pid fd f ≡ Refuse why f → verdict m place pid (op.WriteFd fd new) f ≡ record { reply = reply.No why; frame = f }
 unfolding row
 write_refuses m place pid fd new f why alive is = refuses m place pid (op.WriteFd fd new) f why alive is
 
@@ -65,8 +65,8 @@ still : (t : Parts) → Keeps t t
 still t = record { holdings = refl; offsets = refl }
 
 -- ---- reads
-module _ (a : Around) (t : Parts) (ps : List (Option Process)) (fd count : ℕ) (m : Told) (sound : Sound (world_of a t ps)) (alive : lives (frame_of a t ps) a.pid ≡ true)
-    (e : Behind) (some : behind (frame_of a t ps) a.pid fd ≡ Some e) (is : m ≡ told_of_read (frame_of a t ps) (world_of a t ps).content (Some e)) where
+module _ (a : Around) (t : Parts) (ps : List (Option Process)) (fd count : ℕ) (m : LengthChecks) (sound : Sound (world_of a t ps)) (alive : lives (frame_of a t ps) a.pid ≡ true)
+    (e : OpenFile) (some : behind (frame_of a t ps) a.pid fd ≡ Some e) (is : m ≡ told_of_read (frame_of a t ps) (world_of a t ps).content (Some e)) where
   pub known_unread : (why : Refusal) (buf : List ℕ) → read_fd m a.pid fd count (frame_of a t ps) ≡ Refuse why (frame_of a t ps) → Answers (step (world_of a t ps) a.place a.pid (op.ReadFd fd count)) (world_of a t ps) (reply.No why) buf buf
   known_unread why buf refused =
       let d = read_refuses m a.place a.pid fd count (frame_of a t ps) why alive refused in
@@ -86,8 +86,8 @@ module _ (a : Around) (t : Parts) (ps : List (Option Process)) (fd count : ℕ) 
         answers_read a t t ps ps fd count m (reply.Bytes 0) sound (still t) (said _ _ _ decided_read) (stands _ _ _ decided_read) e some is v 0 n before after refl long front same moved
 
 -- ---- writes
-module _ (a : Around) (t : Parts) (ps : List (Option Process)) (fd : ℕ) (new : List ℕ) (m : Told) (sound : Sound (world_of a t ps)) (alive : lives (frame_of a t ps) a.pid ≡ true)
-    (e : Behind) (some : behind (frame_of a t ps) a.pid fd ≡ Some e) (is : m ≡ told_of_write (frame_of a t ps) (world_of a t ps).content (length new) (Some e)) where
+module _ (a : Around) (t : Parts) (ps : List (Option Process)) (fd : ℕ) (new : List ℕ) (m : LengthChecks) (sound : Sound (world_of a t ps)) (alive : lives (frame_of a t ps) a.pid ≡ true)
+    (e : OpenFile) (some : behind (frame_of a t ps) a.pid fd ≡ Some e) (is : m ≡ told_of_write (frame_of a t ps) (world_of a t ps).content (length new) (Some e)) where
   pub known_unwritten : (why : Refusal) (buf : List ℕ) → write_fd m a.pid fd (frame_of a t ps) ≡ Refuse why (frame_of a t ps) → Answers (step (world_of a t ps) a.place a.pid (op.WriteFd fd new)) (world_of a t ps) (reply.No why) buf buf
   known_unwritten why buf refused =
       let d = write_refuses m a.place a.pid fd new (frame_of a t ps) why alive refused in

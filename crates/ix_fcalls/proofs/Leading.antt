@@ -29,7 +29,7 @@ use Rattle.ix_model.proofs.frames.Gone.{kinds_left}
 use Rattle.ix_model.proofs.frames.Frames as frames
 use Rattle.ix_model.proofs.frames.Frames.{Follows, follows_itself}
 use Rattle.ix_tables.specs.Parts.{Parts}
-use Rattle.ix_tables.specs.Meanings.{vacant_inode}
+use Rattle.ix_tables.specs.Views.{vacant_inode}
 use Rattle.ix_tables.proofs.Vacant.{free_by}
 use Rattle.ix_fcalls.specs.Around.{Around, frame_of, world_of}
 use Rattle.ix_fcalls.specs.Counted.{IsCounted, Keeps}

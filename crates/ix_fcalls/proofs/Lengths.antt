@@ -6,14 +6,14 @@ use Rattle.std.proofs.lemmas.Bool.{cases_lt, le-leb, lt-leb, lt-ltb, le-ltb, eq-
 use Rattle.std.proofs.lemmas.List.{length-drop}
 use Rattle.ix_model.specs.world.World.{Process, Holding, at, is_pipe}
 use Rattle.ix_model.specs.world.Contents.{holds_nothing, side, readable}
-use Rattle.ix_model.specs.rows.OnDescriptors.{Told}
+use Rattle.ix_model.specs.rows.OnDescriptors.{LengthChecks}
 use Rattle.ix_model.specs.rows.Telling.{nothing_told, told_of_read, told_of_write, told_of_file_write, told_of_pipe_write, told_of_cut, blocks_on, blocks_beside, blocks_for, lies_on, fs_of_object, length_then}
 use Rattle.ix_model.proofs.tables.Blocks.{blocks_from}
 use Rattle.ix_tables.specs.Parts.{Parts}
-use Rattle.ix_tables.specs.Meanings.{frame_alone, content_alone, has_room}
-use Rattle.ix_fcalls.specs.declared.behind.Behind.{Behind}
+use Rattle.ix_tables.specs.Views.{frame_alone, content_alone, has_room}
+use Rattle.ix_fcalls.specs.declared.open_file.OpenFile.{OpenFile}
 use Rattle.ix_fcalls.specs.Around.{Around, frame_of, world_of}
-use Rattle.ix_fcalls.specs.Meanings.{behind_of}
+use Rattle.ix_fcalls.specs.Views.{behind_of}
 use Rattle.ix_fcalls.specs.Serving.{Serves}
 
 twice : (b : Bool) → not (not b) ≡ b
@@ -75,7 +75,7 @@ module _ (a : Around) (t : Parts) (ps : List (Option Process)) where
   has_room_is : (o len : ℕ) → lacks o len ≡ false → has_room o len t ≡ true
   has_room_is o len h = room_is o len ∙ ap not h
 
-  module _ (b : Behind) where
+  module _ (b : OpenFile) where
     abbrev holding : Holding
     holding = slice_index_or t.holdings b.object holds_nothing
 
@@ -83,7 +83,7 @@ module _ (a : Around) (t : Parts) (ps : List (Option Process)) where
     on_pipe_there = option_map_or is_pipe (at t.objects b.object) false
 
     -- ---- reads
-    abbrev read_tells : Bool → Told
+    abbrev read_tells : Bool → LengthChecks
     read_tells p = record nothing_told { empty = length (drop (if p then 0 else slice_index_or t.offsets b.id 0) (side b.end holding)) == 0 }
 
     read_is : told_of_read (frame_of a t ps) (world_of a t ps).content (Some (behind_of b)) ≡ read_tells on_pipe_there
@@ -107,14 +107,14 @@ module _ (a : Around) (t : Parts) (ps : List (Option Process)) where
 
     pub cut_has_room : (len : ℕ) → told_of_cut (frame_of a t ps) (world_of a t ps).content len (Some (behind_of b)) ≡ nothing_told → has_room b.object len t ≡ true
     unfolding told_of_cut
-    cut_has_room len room = has_room_is b.object len (ap (λ (m : Told). m.no_space) room)
+    cut_has_room len room = has_room_is b.object len (ap (λ (m : LengthChecks). m.no_space) room)
 
     -- ---- writes
     -- whether a write is too big
     abbrev big : ℕ → ℕ → Bool
     big offset n = nat_lt 4096 n || nat_lt 1048576 (offset + n)
 
-    abbrev write_tells : ℕ → ℕ → ℕ → Bool → Told
+    abbrev write_tells : ℕ → ℕ → ℕ → Bool → LengthChecks
     write_tells offset n old p = record nothing_told { too_big = p; no_space = not p && lacks b.object (length_then offset n old) }
 
     file_write_is : (n : ℕ) → told_of_file_write (frame_of a t ps) (world_of a t ps).content (behind_of b) n ≡ write_tells (slice_index_or t.offsets b.id 0) n (length (side b.end holding)) (big (slice_index_or t.offsets b.id 0) n)
@@ -133,23 +133,23 @@ module _ (a : Around) (t : Parts) (ps : List (Option Process)) where
         ap (λ x. record nothing_told { no_space = x }) (lacks_is b.object (length_then b.offset n old) r room ∙ ap (λ k. lacks b.object (length_then b.offset n k)) is)
         ∙ sym (file_write_here n s file ∙ ap (write_tells b.offset n (length holding.first)) h)
 
-    abbrev pick : ℕ → Bool → Told
+    abbrev pick : ℕ → Bool → LengthChecks
     pick n p = if p then told_of_pipe_write (length (side (1 - b.end) holding)) n else told_of_file_write (frame_of a t ps) (world_of a t ps).content (behind_of b) n
 
     write_is : (n : ℕ) → told_of_write (frame_of a t ps) (world_of a t ps).content n (Some (behind_of b)) ≡ pick n on_pipe_there
     unfolding told_of_write
     write_is n = refl
 
-    pub told_write_pipe : (n k : ℕ) (m : Told) → on_pipe_there ≡ true → k ≡ length (side (1 - b.end) holding) → m ≡ told_of_pipe_write k n → m ≡ told_of_write (frame_of a t ps) (world_of a t ps).content n (Some (behind_of b))
+    pub told_write_pipe : (n k : ℕ) (m : LengthChecks) → on_pipe_there ≡ true → k ≡ length (side (1 - b.end) holding) → m ≡ told_of_pipe_write k n → m ≡ told_of_write (frame_of a t ps) (world_of a t ps).content n (Some (behind_of b))
     told_write_pipe n k m pipe is told = told ∙ ap (λ j. told_of_pipe_write j n) is ∙ sym (write_is n ∙ ap (pick n) pipe)
 
-    pub told_write_file : (n : ℕ) (m : Told) → on_pipe_there ≡ false → m ≡ told_of_file_write (frame_of a t ps) (world_of a t ps).content (behind_of b) n → m ≡ told_of_write (frame_of a t ps) (world_of a t ps).content n (Some (behind_of b))
+    pub told_write_file : (n : ℕ) (m : LengthChecks) → on_pipe_there ≡ false → m ≡ told_of_file_write (frame_of a t ps) (world_of a t ps).content (behind_of b) n → m ≡ told_of_write (frame_of a t ps) (world_of a t ps).content n (Some (behind_of b))
     told_write_file n m file told = told ∙ sym (write_is n ∙ ap (pick n) file)
 
     -- ---- what there is room for
     module _ (n : ℕ) (room : told_of_write (frame_of a t ps) (world_of a t ps).content n (Some (behind_of b)) ≡ nothing_told) where
       pub pipe_room : on_pipe_there ≡ true → length (side (1 - b.end) holding) + n ≤ 4096
-      pipe_room pipe = ltb-false 4096 (length (side (1 - b.end) holding) + n) (ap (λ (m : Told). m.full) (sym (write_is n ∙ ap (pick n) pipe) ∙ room))
+      pipe_room pipe = ltb-false 4096 (length (side (1 - b.end) holding) + n) (ap (λ (m : LengthChecks). m.full) (sym (write_is n ∙ ap (pick n) pipe) ∙ room))
 
       -- to a file that the open entry is on
       module _ (s : Serves t b) (file : on_pipe_there ≡ false) where
@@ -157,7 +157,7 @@ module _ (a : Around) (t : Parts) (ps : List (Option Process)) where
         here = sym (file_write_here n s file) ∙ sym (write_is n ∙ ap (pick n) file) ∙ room
 
         small : big b.offset n ≡ false
-        small = ap (λ (m : Told). m.too_big) here
+        small = ap (λ (m : LengthChecks). m.too_big) here
 
         pub write_few : n ≤ 4096
         write_few = few_at b.offset n small
@@ -169,4 +169,4 @@ module _ (a : Around) (t : Parts) (ps : List (Option Process)) where
         write_low = then_low b.offset n (length holding.first) s.short write_ends
 
         pub write_has_room : has_room b.object (length_then b.offset n (length holding.first)) t ≡ true
-        write_has_room = has_room_is b.object (length_then b.offset n (length holding.first)) (ap (λ p. not p && lacks b.object (length_then b.offset n (length holding.first))) (sym small) ∙ ap (λ (m : Told). m.no_space) here)
+        write_has_room = has_room_is b.object (length_then b.offset n (length holding.first)) (ap (λ p. not p && lacks b.object (length_then b.offset n (length holding.first))) (sym small) ∙ ap (λ (m : LengthChecks). m.no_space) here)

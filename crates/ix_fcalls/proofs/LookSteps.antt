@@ -5,7 +5,7 @@ use Rattle.ix_model.specs.world.World.{World, Frame, Object, Process, Holding, a
 use Rattle.ix_model.specs.world.Naming.{PathOf}
 use Rattle.ix_model.specs.laws.Sound.{Sound}
 use Rattle.ix_model.specs.rows.Outcomes.{Outcome, Refuse, Pass}
-use Rattle.ix_model.specs.rows.OnDescriptors.{Told}
+use Rattle.ix_model.specs.rows.OnDescriptors.{LengthChecks}
 use Rattle.ix_model.specs.rows.OnPaths.{stat_at, stat_passed}
 use Rattle.ix_model.specs.rows.Table.{verdict, row}
 use Rattle.ix_model.specs.rows.Telling.{told, nothing_told}
@@ -54,7 +54,7 @@ stat_ends : (pid : ℕ) (path : PathOf) (f : Frame) → Ends (stat_at pid path f
 unfolding stat_at
 stat_ends pid path f = search (ending, any_found, ends_observe, tells_passed) depth 40 fits 8000
 
-tells_decided : (m : Told) (place pid : ℕ) (path : PathOf) (f : Frame) → TellsOfFile (verdict m place pid (op.StatAt path) f).frame.objects (verdict m place pid (op.StatAt path) f).reply
+tells_decided : (m : LengthChecks) (place pid : ℕ) (path : PathOf) (f : Frame) → TellsOfFile (verdict m place pid (op.StatAt path) f).frame.objects (verdict m place pid (op.StatAt path) f).reply
 unfolding row
 tells_decided m place pid path f = go (verdict m place pid (op.StatAt path) f).reply refl
   where
@@ -65,7 +65,7 @@ tells_decided m place pid path f = go (verdict m place pid (op.StatAt path) f).r
     go (reply.No why) is = tt
     go r is = subst (λ (s : Reply). TellsOfFile (verdict m place pid (op.StatAt path) f).frame.objects s) is (facts (ap is_answer is))
 
-pub tells_file : (a : Around) (t u : Parts) (ps qs : List (Option Process)) (c : Op) (m : Told) (r : Reply) → IsLook c → r ≡ (verdict m a.place a.pid c (frame_of a t ps)).reply → frame_of a u qs ≡ (verdict m a.place a.pid c (frame_of a t ps)).frame → TellsOfFile u.objects r
+pub tells_file : (a : Around) (t u : Parts) (ps qs : List (Option Process)) (c : Op) (m : LengthChecks) (r : Reply) → IsLook c → r ≡ (verdict m a.place a.pid c (frame_of a t ps)).reply → frame_of a u qs ≡ (verdict m a.place a.pid c (frame_of a t ps)).frame → TellsOfFile u.objects r
 tells_file a t u ps qs (op.StatAt path) m r look said stands =
     subst (λ (s : Reply). TellsOfFile u.objects s) (sym said) (subst (λ (g : Frame). TellsOfFile g.objects (verdict m a.place a.pid (op.StatAt path) (frame_of a t ps)).reply) (sym stands) (tells_decided m a.place a.pid path (frame_of a t ps)))
 tells_file a t u ps qs _ m r look said stands = absurd look

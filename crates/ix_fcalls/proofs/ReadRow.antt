@@ -7,20 +7,20 @@ use Rattle.ix_model.specs.declared.reply.Reply.TheVariants as reply
 use Rattle.ix_model.specs.world.World.{Frame, Object, Process, at, change, held, living, is_pipe}
 use Rattle.ix_model.specs.rows.Outcomes.{Refuse, Pass}
 use Rattle.ix_model.specs.rows.Rows.{◌>>=◌, ◌>>◌, on_pass, pass, need, some, only_if, refuse, frame, object, process, change_open, observe}
-use Rattle.ix_model.specs.rows.OnDescriptors.{Told, read_fd, float_entry}
-use Rattle.ix_model.specs.rows.Walks.{Behind, opened}
+use Rattle.ix_model.specs.rows.OnDescriptors.{LengthChecks, read_fd, float_entry}
+use Rattle.ix_model.specs.rows.Walks.{OpenFile, opened}
 use Rattle.ix_fcalls.specs.Tested.{ToRead}
 
 -- what an open entry takes in: nothing on a pipe, else the label of the process
-pub floats_none : (p : Process) (x : Object) (e : Behind) (f : Frame) → is_pipe x ≡ true → float_entry p x e f ≡ Pass tt f
+pub floats_none : (p : Process) (x : Object) (e : OpenFile) (f : Frame) → is_pipe x ≡ true → float_entry p x e f ≡ Pass tt f
 unfolding float_entry only_if pass
 floats_none p x e f pipe = rw pipe refl
 
-pub floats_in : (p : Process) (x : Object) (e : Behind) (f : Frame) → is_pipe x ≡ false → float_entry p x e f ≡ Pass tt (record f { opens = change f.opens e.id (λ y. record y { label = join y.label p.label }) })
+pub floats_in : (p : Process) (x : Object) (e : OpenFile) (f : Frame) → is_pipe x ≡ false → float_entry p x e f ≡ Pass tt (record f { opens = change f.opens e.id (λ y. record y { label = join y.label p.label }) })
 unfolding float_entry only_if change_open
 floats_in p x e f file = rw file refl
 
-module _ (t : Told) (pid fd count : ℕ) (f : Frame) (e : Behind) (x : Object) (tested : ToRead f pid fd count e x) where
+module _ (t : LengthChecks) (pid fd count : ℕ) (f : Frame) (e : OpenFile) (x : Object) (tested : ToRead f pid fd count e x) where
   pub read_refused : (s : Categories) (why : Refusal) (g : Frame) → s ≡ join x.label e.entry.label → observe pid s f ≡ Refuse why g → read_fd t pid fd count f ≡ Refuse why g
   unfolding read_fd opened frame object some ◌>>=◌ ◌>>◌ on_pass pass need refuse
   read_refused s why g is stops =

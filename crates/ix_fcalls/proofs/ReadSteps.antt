@@ -4,10 +4,10 @@ use Rattle.std.proofs.lemmas.Bool.{leb-true}
 use Rattle.ix_model.specs.world.World.{World, Frame, Process}
 use Rattle.ix_model.specs.world.Contents.{readable, after_read}
 use Rattle.ix_model.specs.laws.Sound.{Sound}
-use Rattle.ix_model.specs.rows.OnDescriptors.{Told}
+use Rattle.ix_model.specs.rows.OnDescriptors.{LengthChecks}
 use Rattle.ix_model.specs.rows.Table.{verdict, row}
 use Rattle.ix_model.specs.rows.Telling.{told, nothing_told, told_of_read}
-use Rattle.ix_model.specs.rows.Walks.{Behind, behind}
+use Rattle.ix_model.specs.rows.Walks.{OpenFile, behind}
 use Rattle.ix_model.specs.history.Step.{step, answer, plainly, edited, read_answer, put_front}
 use Rattle.ix_model.specs.history.Events as op
 use Rattle.ix_model.specs.declared.reply.Reply.{Reply}
@@ -31,17 +31,17 @@ read_none : (w : World) (place pid fd count : ℕ) → behind w.frame pid fd ≡
 unfolding step answer told told_of_read read_answer
 read_none w place pid fd count none = rw none refl
 
-read_some : (w : World) (place pid fd count : ℕ) (e : Behind) (m : Told) → behind w.frame pid fd ≡ Some e → m ≡ told_of_read w.frame w.content (Some e)
+read_some : (w : World) (place pid fd count : ℕ) (e : OpenFile) (m : LengthChecks) → behind w.frame pid fd ≡ Some e → m ≡ told_of_read w.frame w.content (Some e)
     → step w place pid (op.ReadFd fd count) ≡ read_answer w count (Some e) (verdict m place pid (op.ReadFd fd count) w.frame).reply (verdict m place pid (op.ReadFd fd count) w.frame).frame
 unfolding step answer told
 read_some w place pid fd count e m some is = rw (some, ← is) refl
 
-unread : (w : World) (count : ℕ) (e : Behind) (r : Reply) (g : Frame) → ((k : ℕ) → r ≡ reply.Bytes k → ⊥) → read_answer w count (Some e) r g ≡ plainly w (record { reply = r; frame = g })
+unread : (w : World) (count : ℕ) (e : OpenFile) (r : Reply) (g : Frame) → ((k : ℕ) → r ≡ reply.Bytes k → ⊥) → read_answer w count (Some e) r g ≡ plainly w (record { reply = r; frame = g })
 unfolding read_answer
 unread w count e (reply.Bytes k) g not = absurd (not k refl)
 unread w count e _ g not = refl
 
-was_read : (w : World) (count : ℕ) (e : Behind) (r : Reply) (g : Frame) (k : ℕ) → r ≡ reply.Bytes k
+was_read : (w : World) (count : ℕ) (e : OpenFile) (r : Reply) (g : Frame) (k : ℕ) → r ≡ reply.Bytes k
     → read_answer w count (Some e) r g ≡ edited w g (reply.Bytes (length (take count (readable w.frame w.content e)))) (take count (readable w.frame w.content e)) (after_read w.frame e (length (take count (readable w.frame w.content e))))
 unfolding read_answer
 was_read w count e r g k is = rw is refl
@@ -49,15 +49,15 @@ was_read w count e r g k is = rw is refl
 any_observe : (pid : ℕ) (seen : Categories) (f : Frame) (Q : Unit {0} → Frame → Type 0) → ((g : Frame) → Q tt g) → Ends (observe pid seen f) Anything Q
 any_observe pid seen f Q h = ends_observe pid seen f Anything Q (λ why. tt) (h f) (λ p lives low. h _)
 
-few_ends : (m : Told) (pid fd count : ℕ) (f : Frame) → Ends (read_fd m pid fd count f) Anything (λ r g. nat_le count 4096 ≡ true)
+few_ends : (m : LengthChecks) (pid fd count : ℕ) (f : Frame) → Ends (read_fd m pid fd count f) Anything (λ r g. nat_le count 4096 ≡ true)
 unfolding read_fd
 few_ends m pid fd count f = search (ending, any_observe, ends_float_entry) depth 40 fits 8000
 
-few_decided : (m : Told) (place pid fd count : ℕ) (f : Frame) (k : ℕ) → (verdict m place pid (op.ReadFd fd count) f).reply ≡ reply.Bytes k → count ≤ 4096
+few_decided : (m : LengthChecks) (place pid fd count : ℕ) (f : Frame) (k : ℕ) → (verdict m place pid (op.ReadFd fd count) f).reply ≡ reply.Bytes k → count ≤ 4096
 unfolding row
 few_decided m place pid fd count f k h = leb-true count 4096 (passed m place pid (op.ReadFd fd count) f (λ r g. nat_le count 4096 ≡ true) (few_ends m pid fd count f) (ap is_answer h))
 
-module _ (a : Around) (t u : Parts) (ps qs : List (Option Process)) (fd count : ℕ) (m : Told) (r : Reply) (sound : Sound (world_of a t ps)) (kept : Keeps t u)
+module _ (a : Around) (t u : Parts) (ps qs : List (Option Process)) (fd count : ℕ) (m : LengthChecks) (r : Reply) (sound : Sound (world_of a t ps)) (kept : Keeps t u)
     (said : r ≡ (verdict m a.place a.pid (op.ReadFd fd count) (frame_of a t ps)).reply) (stands : frame_of a u qs ≡ (verdict m a.place a.pid (op.ReadFd fd count) (frame_of a t ps)).frame) where
   pub read_floats : Floats (frame_of a t ps) (frame_of a u qs)
   read_floats = subst (λ (g : Frame). Floats (frame_of a t ps) g) (sym stands) (floats_read m a.place a.pid fd count (frame_of a t ps))
@@ -70,7 +70,7 @@ module _ (a : Around) (t u : Parts) (ps qs : List (Option Process)) (fd count : 
   answers_read_none buf none is = answers_said a t u ps qs (op.ReadFd fd count) m refl sound kept stands r buf said
       (read_none (world_of a t ps) a.place a.pid fd count none ∙ ap (λ n. plainly (world_of a t ps) (verdict n a.place a.pid (op.ReadFd fd count) (frame_of a t ps))) (sym is))
 
-  module _ (e : Behind) (some : behind (frame_of a t ps) a.pid fd ≡ Some e) (is : m ≡ told_of_read (frame_of a t ps) (world_of a t ps).content (Some e)) where
+  module _ (e : OpenFile) (some : behind (frame_of a t ps) a.pid fd ≡ Some e) (is : m ≡ told_of_read (frame_of a t ps) (world_of a t ps).content (Some e)) where
     pub answers_unread : (buf : List ℕ) → ((k : ℕ) → r ≡ reply.Bytes k → ⊥) → Answers (step (world_of a t ps) a.place a.pid (op.ReadFd fd count)) (world_of a u qs) r buf buf
     answers_unread buf not = answers_said a t u ps qs (op.ReadFd fd count) m refl sound kept stands r buf said
         (read_some (world_of a t ps) a.place a.pid fd count e m some is ∙ unread (world_of a t ps) count e _ _ (λ k b. not k (said ∙ b)))

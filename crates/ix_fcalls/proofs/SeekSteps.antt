@@ -10,7 +10,7 @@ use Rattle.ix_model.specs.rows.Rows.{◌>>=◌, ◌>>◌, on_pass, pass, need, s
 use Rattle.ix_model.specs.rows.OnDescriptors.{seek_fd, float_entry}
 use Rattle.ix_model.specs.rows.Table.{verdict}
 use Rattle.ix_model.specs.rows.Telling.{told, nothing_told}
-use Rattle.ix_model.specs.rows.Walks.{Behind, behind, opened}
+use Rattle.ix_model.specs.rows.Walks.{OpenFile, behind, opened}
 use Rattle.ix_model.specs.history.Step.{step, answer, plainly, edited, seek_answer}
 use Rattle.ix_model.specs.history.Events as op
 use Rattle.ix_model.specs.declared.reply.Reply.{Reply}
@@ -24,7 +24,7 @@ use Rattle.ix_fcalls.proofs.Answering.{answers_said, answers_edited}
 use Rattle.ix_fcalls.proofs.Unmoved.{floats_seek}
 
 -- ---- the row
-module _ (pid fd offset : ℕ) (f : Frame) (e : Behind) (x : Object) (is : behind f pid fd ≡ Some e) (there : at f.objects e.entry.object ≡ Some x) where
+module _ (pid fd offset : ℕ) (f : Frame) (e : OpenFile) (x : Object) (is : behind f pid fd ≡ Some e) (there : at f.objects e.entry.object ≡ Some x) where
   pub seek_pipe : is_pipe x ≡ true → seek_fd pid fd offset f ≡ Refuse refusal.IsPipe f
   unfolding seek_fd opened frame object some ◌>>=◌ ◌>>◌ on_pass pass need refuse
   seek_pipe pipe = rw (is, there, pipe) refl
@@ -43,17 +43,17 @@ seek_none : (w : World) (place pid fd offset : ℕ) → behind w.frame pid fd �
 unfolding step answer told seek_answer
 seek_none w place pid fd offset none = rw none refl
 
-seek_some : (w : World) (place pid fd offset : ℕ) (e : Behind) → behind w.frame pid fd ≡ Some e
+seek_some : (w : World) (place pid fd offset : ℕ) (e : OpenFile) → behind w.frame pid fd ≡ Some e
     → step w place pid (op.SeekFd fd offset) ≡ seek_answer w offset (Some e) (verdict nothing_told place pid (op.SeekFd fd offset) w.frame).reply (verdict nothing_told place pid (op.SeekFd fd offset) w.frame).frame
 unfolding step answer told
 seek_some w place pid fd offset e some = rw some refl
 
-unsought : (w : World) (offset : ℕ) (e : Behind) (r : Reply) (g : Frame) → (r ≡ reply.Done → ⊥) → seek_answer w offset (Some e) r g ≡ plainly w (record { reply = r; frame = g })
+unsought : (w : World) (offset : ℕ) (e : OpenFile) (r : Reply) (g : Frame) → (r ≡ reply.Done → ⊥) → seek_answer w offset (Some e) r g ≡ plainly w (record { reply = r; frame = g })
 unfolding seek_answer
 unsought w offset e reply.Done g not = absurd (not refl)
 unsought w offset e _ g not = refl
 
-did_seek : (w : World) (offset : ℕ) (e : Behind) (r : Reply) (g : Frame) → r ≡ reply.Done → seek_answer w offset (Some e) r g ≡ edited w g reply.Done [] (after_seek e offset)
+did_seek : (w : World) (offset : ℕ) (e : OpenFile) (r : Reply) (g : Frame) → r ≡ reply.Done → seek_answer w offset (Some e) r g ≡ edited w g reply.Done [] (after_seek e offset)
 unfolding seek_answer
 did_seek w offset e r g is = rw is refl
 
@@ -66,7 +66,7 @@ module _ (a : Around) (t u : Parts) (ps qs : List (Option Process)) (fd offset :
   pub answers_seek_none : (buf : List ℕ) → behind (frame_of a t ps) a.pid fd ≡ None → Answers (step (world_of a t ps) a.place a.pid (op.SeekFd fd offset)) (world_of a u qs) r buf buf
   answers_seek_none buf none = answers_said a t u ps qs (op.SeekFd fd offset) nothing_told refl sound kept stands r buf said (seek_none (world_of a t ps) a.place a.pid fd offset none)
 
-  module _ (e : Behind) (some : behind (frame_of a t ps) a.pid fd ≡ Some e) where
+  module _ (e : OpenFile) (some : behind (frame_of a t ps) a.pid fd ≡ Some e) where
     pub answers_unsought : (buf : List ℕ) → (r ≡ reply.Done → ⊥) → Answers (step (world_of a t ps) a.place a.pid (op.SeekFd fd offset)) (world_of a u qs) r buf buf
     answers_unsought buf not = answers_said a t u ps qs (op.SeekFd fd offset) nothing_told refl sound kept stands r buf said
         (seek_some (world_of a t ps) a.place a.pid fd offset e some ∙ unsought (world_of a t ps) offset e _ _ (λ done. not (said ∙ done)))

@@ -5,16 +5,16 @@ use Rattle.std.proofs.lemmas.Bool.{or_cases, and_parts, eqb-true}
 use Rattle.ix_model.specs.world.World.{World, Object, Open, Process, at, is_file, is_dir, is_pipe}
 use Rattle.ix_model.specs.world.Contents.{on_pipe, holding_of, holds_nothing}
 use Rattle.ix_model.specs.laws.Sound.{LengthsSound, Sound}
-use Rattle.ix_model.specs.rows.Walks.{Behind, behind, node, nothing}
+use Rattle.ix_model.specs.rows.Walks.{OpenFile, behind, node, nothing}
 use Rattle.ix_model.specs.declared.reply.Kind.{Kind}
 use Rattle.ix_model.specs.declared.reply.Kind.TheVariants as kind
 use Rattle.ix_model.proofs.words.Standing.{behind_is, stands}
 use Rattle.ix_model.proofs.tables.Tables.{seen_same}
 use Rattle.ix_model.proofs.frames.Floats.{Floats, object_but, open_but}
 use Rattle.ix_tables.specs.Parts.{Parts}
-use Rattle.ix_fcalls.specs.declared.behind.Behind.{Behind as Found}
+use Rattle.ix_fcalls.specs.declared.open_file.OpenFile.{OpenFile as Found}
 use Rattle.ix_fcalls.specs.Counted.{Keeps}
-use Rattle.ix_fcalls.specs.Meanings.{behind_of}
+use Rattle.ix_fcalls.specs.Views.{behind_of}
 use Rattle.ix_fcalls.specs.Serving.{Serves}
 use Rattle.ix_fcalls.specs.Around.{Around, frame_of, world_of}
 
@@ -42,7 +42,7 @@ file_of (Some x) h k = go x.kind h k
     go kind.Dir h k = cc
     go kind.Pipe h k = cc
 
-module _ (a : Around) (t : Parts) (ps : List (Option Process)) (fd : ℕ) (e : Behind) (sound : Sound (world_of a t ps)) (is : behind (frame_of a t ps) a.pid fd ≡ Some e) where
+module _ (a : Around) (t : Parts) (ps : List (Option Process)) (fd : ℕ) (e : OpenFile) (sound : Sound (world_of a t ps)) (is : behind (frame_of a t ps) a.pid fd ≡ Some e) where
   pub entry_there : at t.opens e.id ≡ Some e.entry
   entry_there = behind_is (frame_of a t ps) a.pid fd e is
 

@@ -9,7 +9,7 @@ use Rattle.ix_model.specs.rows.Walks.{node}
 use Rattle.ix_model.specs.declared.reply.Kind.{Kind}
 use Rattle.ix_model.specs.declared.reply.Kind.TheVariants as kind
 use Rattle.ix_tables.specs.Parts.{Parts}
-use Rattle.ix_tables.specs.Meanings.{Shows, object_by}
+use Rattle.ix_tables.specs.Views.{Shows, object_by}
 use Rattle.ix_tables.specs.declared.row.ObjectRow.{ObjectRow}
 use Rattle.ix_fcalls.specs.Spots.{size_in}
 

@@ -3,10 +3,10 @@ use Rattle.std.proofs.Common.{◌≡◌, ◌==◌, ◌+◌, ◌-◌, ◌++◌, �
 use Rattle.std.specs.Option.{option_map_or, option_and_then}
 use Rattle.ix_model.specs.world.World.{Frame, Content, Process, is_pipe, fs_at}
 use Rattle.ix_model.specs.world.Contents.{on_pipe, readable, after_read, after_write, side, change_side, holding_of, offset_of, spliced}
-use Rattle.ix_model.specs.rows.OnDescriptors.{Told, seek_fd, float_entry}
+use Rattle.ix_model.specs.rows.OnDescriptors.{LengthChecks, seek_fd, float_entry}
 use Rattle.ix_model.specs.rows.Table.{verdict, row}
 use Rattle.ix_model.specs.rows.Telling.{nothing_told, told_of_write, told_of_file_write, told_of_pipe_write, told_of_cut, blocks_on, blocks_beside, blocks_for, blocks_where, lies_on, fs_of_object, length_then}
-use Rattle.ix_model.specs.rows.Walks.{Behind, opened}
+use Rattle.ix_model.specs.rows.Walks.{OpenFile, opened}
 use Rattle.ix_model.specs.history.Events as op
 use Rattle.ix_model.specs.declared.config.FsSpec.{FsSpec}
 use Rattle.ix_model.proofs.tables.Blocks.{blocks_from}
@@ -20,15 +20,15 @@ use Rattle.ix_fcalls.specs.Around.{Around, world_of}
 use Rattle.ix_fcalls.specs.Counted.{Keeps}
 
 -- ---- these calls change labels alone in the frame
-pub floats_read : (m : Told) (place pid fd count : ℕ) (f : Frame) → Floats f (verdict m place pid (op.ReadFd fd count) f).frame
+pub floats_read : (m : LengthChecks) (place pid fd count : ℕ) (f : Frame) → Floats f (verdict m place pid (op.ReadFd fd count) f).frame
 unfolding row
 floats_read m place pid fd count f = decided (Floats f) m place pid (op.ReadFd fd count) f (floats_itself f) ((floats_read_fd f m pid fd count).led f (floats_itself f))
 
-pub floats_write : (m : Told) (place pid fd : ℕ) (new : List ℕ) (f : Frame) → Floats f (verdict m place pid (op.WriteFd fd new) f).frame
+pub floats_write : (m : LengthChecks) (place pid fd : ℕ) (new : List ℕ) (f : Frame) → Floats f (verdict m place pid (op.WriteFd fd new) f).frame
 unfolding row
 floats_write m place pid fd new f = decided (Floats f) m place pid (op.WriteFd fd new) f (floats_itself f) ((floats_write_fd f m pid fd).led f (floats_itself f))
 
-pub floats_cut : (m : Told) (place pid fd len : ℕ) (f : Frame) → Floats f (verdict m place pid (op.CutFd fd len) f).frame
+pub floats_cut : (m : LengthChecks) (place pid fd len : ℕ) (f : Frame) → Floats f (verdict m place pid (op.CutFd fd len) f).frame
 unfolding row
 floats_cut m place pid fd len f = decided (Floats f) m place pid (op.CutFd fd len) f (floats_itself f) ((floats_cut_fd f m pid fd len).led f (floats_itself f))
 
@@ -36,13 +36,13 @@ floats_seek_fd : (f : Frame) (pid fd offset : ℕ) → KeepsRow (Floats f) (seek
 unfolding seek_fd opened float_entry
 floats_seek_fd f pid fd offset = search (keeping, floats_change_open) depth 40
 
-pub floats_seek : (m : Told) (place pid fd offset : ℕ) (f : Frame) → Floats f (verdict m place pid (op.SeekFd fd offset) f).frame
+pub floats_seek : (m : LengthChecks) (place pid fd offset : ℕ) (f : Frame) → Floats f (verdict m place pid (op.SeekFd fd offset) f).frame
 unfolding row
 floats_seek m place pid fd offset f = decided (Floats f) m place pid (op.SeekFd fd offset) f (floats_itself f) ((floats_seek_fd f pid fd offset).led f (floats_itself f))
 
 -- ---- what labels don't change
 module _ (f g : Frame) (r : Floats f g) where
-  pub pipe_same : (e : Behind) → on_pipe g e ≡ on_pipe f e
+  pub pipe_same : (e : OpenFile) → on_pipe g e ≡ on_pipe f e
   pipe_same e = seen_same object_but (λ x. option_map_or is_pipe x false) (λ x. refl) f.objects g.objects r.objects e.entry.object
 
   fs_same : (o : ℕ) → fs_of_object g o ≡ fs_of_object f o
@@ -64,13 +64,13 @@ module _ (f g : Frame) (r : Floats f g) where
       ap (λ k. blocks_where (λ m. not (m == o) && lies_on g k m) 0 c.holdings) (fs_same o)
       ∙ blocks_from _ _ 0 c.holdings (λ m low. ap (λ b. not (m == o) && b) (lies_same (fs_of_object f o) m))
 
-  pub told_write_same : (c : Content) (n : ℕ) (e : Behind) → told_of_write g c n (Some e) ≡ told_of_write f c n (Some e)
+  pub told_write_same : (c : Content) (n : ℕ) (e : OpenFile) → told_of_write g c n (Some e) ≡ told_of_write f c n (Some e)
   unfolding told_of_write
   told_write_same c n e =
       ap (λ p. if p then piped else told_of_file_write g c e n) (pipe_same e)
-      ∙ ap (λ (t : Told). if on_pipe f e then piped else t) file
+      ∙ ap (λ (t : LengthChecks). if on_pipe f e then piped else t) file
     where
-      piped : Told
+      piped : LengthChecks
       piped = told_of_pipe_write (length (side (1 - e.entry.end) (holding_of c e.entry.object))) n
 
       big : Bool
@@ -79,19 +79,19 @@ module _ (f g : Frame) (r : Floats f g) where
       file : told_of_file_write g c e n ≡ told_of_file_write f c e n
       file = λ i. record nothing_told { too_big = big; no_space = not big && nat_lt (all_same e.entry.object i) (beside_same c e.entry.object i + blocks_for (length_then (offset_of c e.id) n (length (side e.entry.end (holding_of c e.entry.object))))) }
 
-  pub told_cut_same : (c : Content) (len : ℕ) (e : Behind) → told_of_cut g c len (Some e) ≡ told_of_cut f c len (Some e)
+  pub told_cut_same : (c : Content) (len : ℕ) (e : OpenFile) → told_of_cut g c len (Some e) ≡ told_of_cut f c len (Some e)
   unfolding told_of_cut
   told_cut_same c len e = λ i. record nothing_told { no_space = nat_lt (all_same e.entry.object i) (beside_same c e.entry.object i + blocks_for len) }
 
-  pub readable_same : (c : Content) (e : Behind) → readable g c e ≡ readable f c e
+  pub readable_same : (c : Content) (e : OpenFile) → readable g c e ≡ readable f c e
   unfolding readable
   readable_same c e = ap (λ p. drop (if p then 0 else offset_of c e.id) (side e.entry.end (holding_of c e.entry.object))) (pipe_same e)
 
-  pub after_read_same : (e : Behind) (k : ℕ) (c : Content) → after_read g e k c ≡ after_read f e k c
+  pub after_read_same : (e : OpenFile) (k : ℕ) (c : Content) → after_read g e k c ≡ after_read f e k c
   unfolding after_read
   after_read_same e k c = ap (λ p. if p then change_side e.entry.object e.entry.end (drop k) c else record c { offsets = slice_set c.offsets e.id (offset_of c e.id + k) }) (pipe_same e)
 
-  pub after_write_same : (e : Behind) (new : List ℕ) (c : Content) → after_write g e new c ≡ after_write f e new c
+  pub after_write_same : (e : OpenFile) (new : List ℕ) (c : Content) → after_write g e new c ≡ after_write f e new c
   unfolding after_write
   after_write_same e new c = ap (λ p. if p then change_side e.entry.object (1 - e.entry.end) (λ old. old ++ new) c else record (change_side e.entry.object e.entry.end (spliced (offset_of c e.id) new) c) { offsets = slice_set c.offsets e.id (offset_of c e.id + length new) }) (pipe_same e)
 

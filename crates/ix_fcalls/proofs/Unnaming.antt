@@ -13,7 +13,7 @@ use Rattle.ix_model.proofs.tables.Tables.{SameBut, seen_same, length_same}
 use Rattle.ix_model.proofs.words.Keeps.{Holds}
 use Rattle.ix_model.proofs.frames.Floats.{Floats, process_but, floats_itself, floats_observe}
 use Rattle.ix_tables.specs.Parts.{Parts}
-use Rattle.ix_tables.specs.Meanings.{object_let_go}
+use Rattle.ix_tables.specs.Views.{object_let_go}
 use Rattle.ix_fcalls.specs.Around.{Around, frame_of, world_of}
 use Rattle.ix_fcalls.specs.Counted.{IsCounted, Keeps}
 use Rattle.ix_fcalls.specs.Remaining.{Remains, Leaves}

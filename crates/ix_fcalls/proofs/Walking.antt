@@ -5,7 +5,7 @@ use Rattle.ix_label.specs.Lattice.{join-bottom, join-bottom_right, join-assoc}
 use Rattle.ix_model.specs.world.World.{Object, is_dir}
 use Rattle.ix_model.specs.rows.Walks.{Walk, Sought, node, child, walk_from, looking_into, lacking, join_all}
 use Rattle.ix_model.specs.rows.Walks as sought
-use Rattle.ix_fcalls.specs.Meanings.{Seen, seen_in}
+use Rattle.ix_fcalls.specs.Views.{Seen, seen_in}
 
 -- a walk with a label joined to what it sees
 abbrev pub raised : Categories → Walk → Seen

@@ -4,10 +4,10 @@ use Rattle.std.proofs.lemmas.Bool.{not-true}
 use Rattle.ix_model.specs.world.World.{World, Frame, Content, Process}
 use Rattle.ix_model.specs.world.Contents.{on_pipe, after_write, side, holding_of}
 use Rattle.ix_model.specs.laws.Sound.{Sound}
-use Rattle.ix_model.specs.rows.OnDescriptors.{Told}
+use Rattle.ix_model.specs.rows.OnDescriptors.{LengthChecks}
 use Rattle.ix_model.specs.rows.Table.{verdict}
 use Rattle.ix_model.specs.rows.Telling.{told, nothing_told, told_of_write, told_of_pipe_write, told_of_file_write}
-use Rattle.ix_model.specs.rows.Walks.{Behind, behind}
+use Rattle.ix_model.specs.rows.Walks.{OpenFile, behind}
 use Rattle.ix_model.specs.history.Step.{step, answer, plainly, edited, write_answer}
 use Rattle.ix_model.specs.history.Events as op
 use Rattle.ix_model.specs.declared.reply.Reply.{Reply}
@@ -25,22 +25,22 @@ write_none : (w : World) (place pid fd : ℕ) (new : List ℕ) → behind w.fram
 unfolding step answer told told_of_write write_answer
 write_none w place pid fd new none = rw none refl
 
-write_some : (w : World) (place pid fd : ℕ) (new : List ℕ) (e : Behind) (m : Told) → behind w.frame pid fd ≡ Some e → m ≡ told_of_write w.frame w.content (length new) (Some e)
+write_some : (w : World) (place pid fd : ℕ) (new : List ℕ) (e : OpenFile) (m : LengthChecks) → behind w.frame pid fd ≡ Some e → m ≡ told_of_write w.frame w.content (length new) (Some e)
     → step w place pid (op.WriteFd fd new) ≡ write_answer w new (Some e) (verdict m place pid (op.WriteFd fd new) w.frame).reply (verdict m place pid (op.WriteFd fd new) w.frame).frame
 unfolding step answer told
 write_some w place pid fd new e m some is = rw (some, ← is) refl
 
-unwritten : (w : World) (new : List ℕ) (e : Behind) (r : Reply) (g : Frame) → ((k : ℕ) → r ≡ reply.Number k → ⊥) → write_answer w new (Some e) r g ≡ plainly w (record { reply = r; frame = g })
+unwritten : (w : World) (new : List ℕ) (e : OpenFile) (r : Reply) (g : Frame) → ((k : ℕ) → r ≡ reply.Number k → ⊥) → write_answer w new (Some e) r g ≡ plainly w (record { reply = r; frame = g })
 unfolding write_answer
 unwritten w new e (reply.Number k) g not = absurd (not k refl)
 unwritten w new e _ g not = refl
 
-was_written : (w : World) (new : List ℕ) (e : Behind) (r : Reply) (g : Frame) (k : ℕ) → r ≡ reply.Number k → write_answer w new (Some e) r g ≡ edited w g (reply.Number (length new)) [] (after_write w.frame e new)
+was_written : (w : World) (new : List ℕ) (e : OpenFile) (r : Reply) (g : Frame) (k : ℕ) → r ≡ reply.Number k → write_answer w new (Some e) r g ≡ edited w g (reply.Number (length new)) [] (after_write w.frame e new)
 unfolding write_answer
 was_written w new e r g k is = rw is refl
 
 -- a write is never told that there is nothing to read
-none_empty : (f : Frame) (c : Content) (n : ℕ) (e : Behind) → (told_of_write f c n (Some e)).empty ≡ false
+none_empty : (f : Frame) (c : Content) (n : ℕ) (e : OpenFile) → (told_of_write f c n (Some e)).empty ≡ false
 unfolding told_of_write
 none_empty f c n e = either (on_pipe f e)
   where
@@ -49,7 +49,7 @@ none_empty f c n e = either (on_pipe f e)
     either false = refl
 
 -- the write of a list through a descriptor, as it is decided
-module _ (a : Around) (t u : Parts) (ps qs : List (Option Process)) (fd : ℕ) (new : List ℕ) (m : Told) (r : Reply) (sound : Sound (world_of a t ps)) (kept : Keeps t u)
+module _ (a : Around) (t u : Parts) (ps qs : List (Option Process)) (fd : ℕ) (new : List ℕ) (m : LengthChecks) (r : Reply) (sound : Sound (world_of a t ps)) (kept : Keeps t u)
     (said : r ≡ (verdict m a.place a.pid (op.WriteFd fd new) (frame_of a t ps)).reply) (stands : frame_of a u qs ≡ (verdict m a.place a.pid (op.WriteFd fd new) (frame_of a t ps)).frame) where
   pub write_floats : Floats (frame_of a t ps) (frame_of a u qs)
   write_floats = subst (λ (g : Frame). Floats (frame_of a t ps) g) (sym stands) (floats_write m a.place a.pid fd new (frame_of a t ps))
@@ -58,7 +58,7 @@ module _ (a : Around) (t u : Parts) (ps qs : List (Option Process)) (fd : ℕ) (
   answers_write_none buf none is = answers_said a t u ps qs (op.WriteFd fd new) m refl sound kept stands r buf said
       (write_none (world_of a t ps) a.place a.pid fd new none ∙ ap (λ n. plainly (world_of a t ps) (verdict n a.place a.pid (op.WriteFd fd new) (frame_of a t ps))) (sym is))
 
-  module _ (e : Behind) (some : behind (frame_of a t ps) a.pid fd ≡ Some e) (is : m ≡ told_of_write (frame_of a t ps) (world_of a t ps).content (length new) (Some e)) where
+  module _ (e : OpenFile) (some : behind (frame_of a t ps) a.pid fd ≡ Some e) (is : m ≡ told_of_write (frame_of a t ps) (world_of a t ps).content (length new) (Some e)) where
     pub answers_unwritten : (buf : List ℕ) → ((k : ℕ) → r ≡ reply.Number k → ⊥) → Answers (step (world_of a t ps) a.place a.pid (op.WriteFd fd new)) (world_of a u qs) r buf buf
     answers_unwritten buf not = answers_said a t u ps qs (op.WriteFd fd new) m refl sound kept stands r buf said
         (write_some (world_of a t ps) a.place a.pid fd new e m some is ∙ unwritten (world_of a t ps) new e _ _ (λ k b. not k (said ∙ b)))
@@ -70,7 +70,7 @@ module _ (a : Around) (t u : Parts) (ps qs : List (Option Process)) (fd : ℕ) (
         let big = not-true m.too_big facts.small in
         let full = not-true m.full facts.room in
         let space = not-true m.no_space facts.space in
-        let empty : m.empty ≡ false = ap (λ (n : Told). n.empty) is ∙ none_empty (frame_of a t ps) (world_of a t ps).content (length new) e in
+        let empty : m.empty ≡ false = ap (λ (n : LengthChecks). n.empty) is ∙ none_empty (frame_of a t ps) (world_of a t ps).content (length new) e in
         told_write_same (frame_of a t ps) (frame_of a u qs) write_floats (world_of a u qs).content (length new) e
         ∙ ap (λ c. told_of_write (frame_of a t ps) c (length new) (Some e)) (content_same a t u ps qs kept)
         ∙ sym is ∙ (λ i. record { too_big = big i; full = full i; no_space = space i; empty = empty i })

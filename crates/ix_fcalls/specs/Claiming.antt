@@ -1,28 +1,28 @@
 -- What a claim on an end of a pipe comes to, and the end of one.
 use Rattle.std.specs.Prelude.{◌≡◌, ◌-◌, ℕ, Bool, true, false, Option, Some, None, Result, Ok, Err}
 use Rattle.ix_model.specs.world.World.{at, change, put, is_pipe, claimed_by}
-use Rattle.ix_model.specs.rows.Walks.{Behind, entry_at, node}
+use Rattle.ix_model.specs.rows.Walks.{OpenFile, entry_at, node}
 use Rattle.ix_model.specs.declared.refusal.Refusal.{Refusal}
 use Rattle.ix_model.specs.declared.refusal.Refusal.TheVariants as refusal
 use Rattle.ix_model.specs.declared.views.Caller.{Caller}
 use Rattle.ix_pipe.specs.Claims.{claim_answer}
 use Rattle.ix_pipe.specs.declared.claim.Claim.{Claim}
 use Rattle.ix_tables.specs.Parts.{Parts}
-use Rattle.ix_tables.specs.Meanings.{frame_alone, claimed}
+use Rattle.ix_tables.specs.Views.{frame_alone, claimed}
 
 -- the open entry behind a descriptor of a process
-abbrev pub entry_of : Caller → ℕ → Parts → Option Behind
+abbrev pub entry_of : Caller → ℕ → Parts → Option OpenFile
 entry_of c fd t = entry_at (frame_alone t) (at c.fds fd)
 
 -- the end is claimed by the process, as far as nobody else has claimed it
-abbrev pub ClaimsAt : Bool → Result Claim Refusal → ℕ → Behind → Parts → Parts → Type 0
+abbrev pub ClaimsAt : Bool → Result Claim Refusal → ℕ → OpenFile → Parts → Parts → Type 0
 ClaimsAt false result pid e old new = (result ≡ Err refusal.NotPipe) × (new ≡ old)
 ClaimsAt true result pid e old new =
     let o = e.entry.object in
     (result ≡ Ok (claim_answer pid (at (node old.objects o).claims e.entry.end) (at (node old.objects o).claims (1 - e.entry.end))))
     × (new ≡ claimed o e.entry.end pid old)
 
-abbrev pub ClaimsBehind : Option Behind → Result Claim Refusal → ℕ → Parts → Parts → Type 0
+abbrev pub ClaimsBehind : Option OpenFile → Result Claim Refusal → ℕ → Parts → Parts → Type 0
 ClaimsBehind None result pid old new = (result ≡ Err refusal.BadFd) × (new ≡ old)
 ClaimsBehind (Some e) result pid old new = ClaimsAt (is_pipe (node old.objects e.entry.object)) result pid e old new
 
@@ -35,12 +35,12 @@ abbrev pub without_claim : ℕ → ℕ → Parts → Parts
 without_claim o end t = record t { objects = change t.objects o (λ x. record x { claims = put x.claims end None }) }
 
 -- the claim ends, where the process has it
-abbrev pub UnclaimsAt : Bool → Bool → Result (Unit {0}) Refusal → Behind → Parts → Parts → Type 0
+abbrev pub UnclaimsAt : Bool → Bool → Result (Unit {0}) Refusal → OpenFile → Parts → Parts → Type 0
 UnclaimsAt false has result e old new = (result ≡ Err refusal.NotPipe) × (new ≡ old)
 UnclaimsAt true false result e old new = (result ≡ Err refusal.NotClaimed) × (new ≡ old)
 UnclaimsAt true true result e old new = (result ≡ Ok tt) × (new ≡ without_claim e.entry.object e.entry.end old)
 
-abbrev pub UnclaimsBehind : Option Behind → Result (Unit {0}) Refusal → ℕ → Parts → Parts → Type 0
+abbrev pub UnclaimsBehind : Option OpenFile → Result (Unit {0}) Refusal → ℕ → Parts → Parts → Type 0
 UnclaimsBehind None result pid old new = (result ≡ Err refusal.BadFd) × (new ≡ old)
 UnclaimsBehind (Some e) result pid old new =
     let x = node old.objects e.entry.object in

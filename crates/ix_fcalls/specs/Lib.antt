@@ -1,7 +1,7 @@
 pub mod Around
 pub mod Counted
 pub mod Calling
-pub mod Meanings
+pub mod Views
 pub mod Telling
 pub mod Moving
 pub mod Serving

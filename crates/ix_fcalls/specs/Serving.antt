@@ -4,10 +4,10 @@ use Rattle.std.specs.Option.{option_map_or}
 use Rattle.ix_model.specs.world.World.{at, is_dir, is_pipe}
 use Rattle.ix_model.specs.world.Contents.{holds_nothing}
 use Rattle.ix_tables.specs.Parts.{Parts}
-use Rattle.ix_fcalls.specs.declared.behind.Behind.{Behind}
+use Rattle.ix_fcalls.specs.declared.open_file.OpenFile.{OpenFile}
 
 -- it stands, on a file at end 0 or on an end of a pipe, at its offset; neither that nor a file is past 1,048,576
-pub record Serves (t : Parts) (b : Behind) : Type 0 where
+pub record Serves (t : Parts) (b : OpenFile) : Type 0 where
   pub entry : is_some (at t.opens b.id) ≡ true
   pub object : option_map_or (λ x. not (is_dir x)) (at t.objects b.object) false ≡ true
   pub end : b.end < 2

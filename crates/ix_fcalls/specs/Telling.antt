@@ -8,9 +8,9 @@ use Rattle.ix_model.specs.declared.reply.Kind.{Kind}
 use Rattle.ix_model.specs.declared.reply.Kind.TheVariants as kind
 use Rattle.ix_model.specs.declared.reply.Reply.{Reply}
 use Rattle.ix_model.specs.declared.reply.Reply.TheVariants as reply
-use Rattle.ix_fcalls.specs.declared.told.Told.{Told}
+use Rattle.ix_fcalls.specs.declared.length_checks.LengthChecks.{LengthChecks}
 
-abbrev pub told_of : Told → descriptors.Told
+abbrev pub told_of : LengthChecks → descriptors.LengthChecks
 told_of t = record { too_big = t.too_big; full = t.full; no_space = t.no_space; empty = t.empty }
 
 -- the size that is told of an object: that of a file, or what is told already

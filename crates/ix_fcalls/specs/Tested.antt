@@ -2,8 +2,8 @@
 use Rattle.std.specs.Prelude.{◌≡◌, ◌-◌, ℕ, true, false, not, ◌&&◌, nat_le, Some}
 use Rattle.ix_model.specs.world.World.{Frame, Object, at, held, is_pipe, is_trusted, may_read, may_write, claimed_by_another}
 use Rattle.ix_model.specs.rows.Outcomes.{Refuse}
-use Rattle.ix_model.specs.rows.OnDescriptors.{Told, read_fd}
-use Rattle.ix_model.specs.rows.Walks.{Behind, behind}
+use Rattle.ix_model.specs.rows.OnDescriptors.{LengthChecks, read_fd}
+use Rattle.ix_model.specs.rows.Walks.{OpenFile, behind}
 use Rattle.ix_model.specs.history.Events.{Op}
 use Rattle.ix_model.specs.history.Events as op
 use Rattle.ix_model.specs.history.Freshness.{Reading, Writing}
@@ -11,7 +11,7 @@ use Rattle.ix_model.specs.declared.refusal.Refusal.{Refusal}
 use Rattle.ix_fresh.specs.Known.{Known}
 
 -- what stands behind a descriptor may be read, as far as no label and no length tells
-pub record ToRead (f : Frame) (pid fd count : ℕ) (e : Behind) (x : Object) : Type 0 where
+pub record ToRead (f : Frame) (pid fd count : ℕ) (e : OpenFile) (x : Object) : Type 0 where
   pub is_behind : behind f pid fd ≡ Some e
   pub is_object : at f.objects e.entry.object ≡ Some x
   pub reads : may_read e.entry.mode ≡ true
@@ -20,10 +20,10 @@ pub record ToRead (f : Frame) (pid fd count : ℕ) (e : Behind) (x : Object) : T
 
 -- a read is refused, whatever lengths tell
 abbrev pub RefusesRead : Frame → ℕ → ℕ → ℕ → Refusal → Type 0
-RefusesRead f pid fd count why = (t : Told) → read_fd t pid fd count f ≡ Refuse why f
+RefusesRead f pid fd count why = (t : LengthChecks) → read_fd t pid fd count f ≡ Refuse why f
 
 -- what stands behind a descriptor may be written, as far as no label tells
-pub record ToWrite (t : Told) (f : Frame) (pid fd : ℕ) (e : Behind) (x : Object) : Type 0 where
+pub record ToWrite (t : LengthChecks) (f : Frame) (pid fd : ℕ) (e : OpenFile) (x : Object) : Type 0 where
   pub is_behind : behind f pid fd ≡ Some e
   pub is_object : at f.objects e.entry.object ≡ Some x
   pub writes : may_write e.entry.mode ≡ true

@@ -3,7 +3,7 @@ ghost use Rattle.ix_model.specs.rows.Walks.{node};
 ghost use Rattle.ix_model.specs.world.World.{claimed_by, is_pipe};
 ghost use Rattle.ix_fcalls.specs.Claiming.{Claims, Unclaims};
 
-use crate::behind::Behind;
+use crate::open_file::OpenFile;
 use crate::files::Files;
 use ix_model::{Caller, Fd, Pid, Refusal};
 use ix_pipe::Claim;
@@ -44,7 +44,7 @@ impl Files {
     }
 
     /// Whether a process has claimed an end of a pipe.
-    pub(crate) fn has_claimed(&self, e: &Behind, pid: Pid) -> bool
+    pub(crate) fn has_claimed(&self, e: &OpenFile, pid: Pid) -> bool
         requires pipe { is_pipe (node self.now.objects e.now.object) ≡ true }
         requires end { e.now.end < 2 }
         ensures { result ≡ claimed_by (node self.now.objects e.now.object) e.now.end pid.0 }

@@ -11,19 +11,19 @@ ghost use Rattle.ix_model.specs.world.Owners.{has_end};
 ghost use Rattle.ix_model.specs.world.World.{at, change, put, is_on, is_pipe, no_claims};
 ghost use Rattle.ix_fcalls.specs.Around.{frame_of, world_of};
 ghost use Rattle.ix_fcalls.specs.Counted.{IsCounted};
-ghost use Rattle.ix_fcalls.specs.Meanings.{behind_of};
+ghost use Rattle.ix_fcalls.specs.Views.{behind_of};
 ghost use Rattle.ix_fcalls.specs.Remaining.{Leaves};
 
-use crate::behind::Behind;
+use crate::open_file::OpenFile;
 use crate::files::Files;
-use crate::who::{Rest, Who};
+use crate::caller_in::{Others, CallerIn};
 use ix_model::{Fd, Refusal, Reply};
 
 /// What is given up: a descriptor, and what it alone kept.
 impl Files {
     /// CloseFd: the descriptor is free, and what it alone kept is gone.
     #[tactic(auto, unfolding(ix_model::specs::rows::Rows::coding, ix_model::specs::rows::Walks::opened, ix_model::specs::rows::OnDescriptors::close_fd))]
-    pub(crate) fn close_fd<R: Rest>(&mut self, who: &mut Who<R>, fd: Fd) -> Result<Reply, Refusal>
+    pub(crate) fn close_fd<R: Others>(&mut self, who: &mut CallerIn<R>, fd: Fd) -> Result<Reply, Refusal>
         requires sound { Sound (world_of R.rest self.old who.old) }
         requires counted { IsCounted self.old who.old }
         ensures row { RowIs result (frame_of R.rest self.new who.new) (close_fd R.rest.pid fd.0 (frame_of R.rest self.old who.old)) }
@@ -40,7 +40,7 @@ impl Files {
 
     /// The descriptor is free. The claim on its end goes where it was the last one there, the open entry where nobody else
     /// has it, and the object where nothing else keeps it.
-    pub(crate) fn give_up<R: Rest>(&mut self, who: &mut Who<R>, fd: Fd, e: &Behind)
+    pub(crate) fn give_up<R: Others>(&mut self, who: &mut CallerIn<R>, fd: Fd, e: &OpenFile)
         requires sound { Sound (world_of R.rest self.old who.old) }
         requires counted { IsCounted self.old who.old }
         requires descriptor { fd.0 < 32 }
@@ -58,7 +58,7 @@ impl Files {
     }
 
     /// The claim of the caller on an end goes where it has no descriptor on it any more.
-    fn let_go_claim<R: Rest>(&mut self, who: &Who<R>, e: &Behind)
+    fn let_go_claim<R: Others>(&mut self, who: &CallerIn<R>, e: &OpenFile)
         requires end { e.now.end < 2 }
         requires unclaimed { is_pipe (node self.old.objects e.now.object) ≡ false → (node self.old.objects e.now.object).claims ≡ no_claims }
         ensures { self.new ≡ record self.old { objects = if has_lost (frame_of R.rest self.old who.now) R.rest.pid e.now.object e.now.end then change self.old.objects e.now.object (λ x. record x { claims = put x.claims e.now.end None }) else self.old.objects } }
@@ -69,7 +69,7 @@ impl Files {
     }
 
     /// Whether the caller has claimed an end, and has no descriptor on it any more.
-    fn has_lost<R: Rest>(&self, who: &Who<R>, e: &Behind) -> bool
+    fn has_lost<R: Others>(&self, who: &CallerIn<R>, e: &OpenFile) -> bool
         requires end { e.now.end < 2 }
         requires unclaimed { is_pipe (node self.now.objects e.now.object) ≡ false → (node self.now.objects e.now.object).claims ≡ no_claims }
         ensures lost { result ≡ has_lost (frame_of R.rest self.now who.now) R.rest.pid e.now.object e.now.end }
@@ -89,7 +89,7 @@ impl Files {
     }
 
     /// Whether the caller has a descriptor on an end.
-    fn has_end<R: Rest>(&self, who: &Who<R>, e: &Behind) -> bool
+    fn has_end<R: Others>(&self, who: &CallerIn<R>, e: &OpenFile) -> bool
         ensures { result ≡ has_end (frame_of R.rest self.now who.now) e.now.object e.now.end R.rest.pid }
     {
         let caller = who.caller();

@@ -11,14 +11,14 @@ ghost use Rattle.ix_model.specs.world.World.{at, is_pipe};
 ghost use Rattle.ix_fcalls.specs.Around.{frame_of, world_of};
 ghost use Rattle.ix_fcalls.specs.Counted.{IsCounted, Keeps};
 ghost use Rattle.ix_fcalls.specs.Filed.{Answers};
-ghost use Rattle.ix_fcalls.specs.Meanings.{behind_of};
+ghost use Rattle.ix_fcalls.specs.Views.{behind_of};
 ghost use Rattle.ix_fcalls.specs.Serving.{Serves};
 ghost use Rattle.ix_fcalls.specs.Telling.{told_of};
 
-use crate::behind::Behind;
+use crate::open_file::OpenFile;
 use crate::files::Files;
-use crate::told::{NOTHING_TOLD, Told};
-use crate::who::{Rest, Who};
+use crate::length_checks::{NOTHING_TOLD, LengthChecks};
+use crate::caller_in::{Others, CallerIn};
 use ix_label::{Label, Steps};
 use ix_model::{Call, Fd, Mode, Refusal, Reply};
 use std::sync::ledger::Ledger;
@@ -27,10 +27,10 @@ use std::sync::ledger::Ledger;
 impl Files {
     /// CutFd: its tests, and the floating of the file's label. The bytes come later.
     #[tactic(auto, unfolding(ix_model::specs::rows::Rows::coding, ix_model::specs::rows::Walks::opened, ix_model::specs::rows::OnDescriptors::cut_fd))]
-    pub(crate) fn cut_fd<R: Rest, L: Ledger>(
+    pub(crate) fn cut_fd<R: Others, L: Ledger>(
         &mut self,
-        told: Told,
-        who: &mut Who<R>,
+        told: LengthChecks,
+        who: &mut CallerIn<R>,
         fd: Fd,
         len: u32,
         steps: &mut Steps<L>,
@@ -66,9 +66,9 @@ impl Files {
 
     /// SeekFd: its tests, and the floating of the open entry's label. The offset comes later.
     #[tactic(auto, unfolding(ix_model::specs::rows::Rows::coding, ix_model::specs::rows::Walks::opened, ix_model::specs::rows::OnDescriptors::float_entry, ix_model::specs::rows::OnDescriptors::seek_fd))]
-    pub(crate) fn seek_fd<R: Rest, L: Ledger>(
+    pub(crate) fn seek_fd<R: Others, L: Ledger>(
         &mut self,
-        who: &mut Who<R>,
+        who: &mut CallerIn<R>,
         fd: Fd,
         offset: u32,
         steps: &mut Steps<L>,
@@ -94,7 +94,7 @@ impl Files {
     }
 
     /// What the length tells of a cut of a file.
-    fn told_of_cut<R: Rest>(&self, who: &Who<R>, e: &Behind, len: u32) -> Told
+    fn told_of_cut<R: Others>(&self, who: &CallerIn<R>, e: &OpenFile, len: u32) -> LengthChecks
         requires serves { Serves self.now e.now }
         requires file { option_map_or is_pipe (at self.now.objects e.now.object) false ≡ false }
         requires most { len ≤ 1048576 }
@@ -102,21 +102,21 @@ impl Files {
     {
         let _ = who;
         let room = self.tables.has_room(e.object, len as u64);
-        Told {
+        LengthChecks {
             no_space: !room,
             ..NOTHING_TOLD
         }
     }
 
     /// Whether a cut is refused whatever blocks there are: it is of a pipe, or to more than 1,048,576 bytes.
-    fn is_no_cut(&self, e: &Behind, len: u32) -> bool
+    fn is_no_cut(&self, e: &OpenFile, len: u32) -> bool
         ensures { result ≡ (nat_lt 1048576 len || option_map_or is_pipe (at self.now.objects e.now.object) false) }
     {
         len > 1048576 || self.is_on_pipe(e)
     }
 
     /// Sets the length of the file behind an open entry. There has to be room.
-    fn cut_bytes<R: Rest>(&mut self, who: &Who<R>, e: &Behind, len: u32)
+    fn cut_bytes<R: Others>(&mut self, who: &CallerIn<R>, e: &OpenFile, len: u32)
         requires serves { Serves self.old e.now }
         requires file { option_map_or is_pipe (at self.old.objects e.now.object) false ≡ false }
         requires most { len ≤ 1048576 }
@@ -131,9 +131,9 @@ impl Files {
     }
 
     /// A cut: the decision, and then the bytes.
-    pub(crate) fn cut<R: Rest, L: Ledger>(
+    pub(crate) fn cut<R: Others, L: Ledger>(
         &mut self,
-        who: &mut Who<R>,
+        who: &mut CallerIn<R>,
         fd: Fd,
         len: u32,
         steps: &mut Steps<L>,
@@ -162,9 +162,9 @@ impl Files {
     }
 
     /// A seek: the decision, and then the offset.
-    pub(crate) fn seek<R: Rest, L: Ledger>(
+    pub(crate) fn seek<R: Others, L: Ledger>(
         &mut self,
-        who: &mut Who<R>,
+        who: &mut CallerIn<R>,
         fd: Fd,
         offset: u32,
         steps: &mut Steps<L>,

@@ -5,25 +5,25 @@ ghost use Rattle.ix_model.specs.laws.Sound.{Sound};
 ghost use Rattle.ix_model.specs.rows.Walks.{node};
 ghost use Rattle.ix_model.specs.world.World.{at, change, is_pipe, held, claimed_by_another};
 ghost use Rattle.ix_fcalls.specs.Around.{world_of};
-ghost use Rattle.ix_fcalls.specs.Meanings.{behind_of};
+ghost use Rattle.ix_fcalls.specs.Views.{behind_of};
 
-use crate::behind::Behind;
+use crate::open_file::OpenFile;
 use crate::files::Files;
-use crate::who::{Rest, Who};
+use crate::caller_in::{Others, CallerIn};
 use ix_label::{Label, Steps};
 use std::sync::ledger::Ledger;
 
 /// What calls on bytes ask of an open entry, and its label.
 impl Files {
     /// Whether an open entry is on a pipe.
-    pub(crate) fn is_on_pipe(&self, e: &Behind) -> bool
+    pub(crate) fn is_on_pipe(&self, e: &OpenFile) -> bool
         ensures { result ≡ option_map_or is_pipe (at self.now.objects e.now.object) false }
     {
         self.tables.is_pipe(e.object)
     }
 
     /// Whether a process other than the caller has claimed the end that an open entry is on.
-    pub(crate) fn is_claimed_by_another<R: Rest>(&self, who: &Who<R>, e: &Behind) -> bool
+    pub(crate) fn is_claimed_by_another<R: Others>(&self, who: &CallerIn<R>, e: &OpenFile) -> bool
         requires sound { Sound (world_of R.rest self.now who.now) }
         requires entry { at self.now.opens e.now.id ≡ Some (behind_of e.now).entry }
         ensures { result ≡ claimed_by_another (node self.now.objects e.now.object) e.now.end R.rest.pid }
@@ -38,7 +38,7 @@ impl Files {
     }
 
     /// Whether some open entry is on the other end of the pipe that an open entry is on.
-    pub(crate) fn is_held_there(&self, e: &Behind) -> bool
+    pub(crate) fn is_held_there(&self, e: &OpenFile) -> bool
         ensures { result ≡ held self.now.opens e.now.object (1 - e.now.end) }
     {
         self.tables.held(e.object, 1u8.saturating_sub(e.end))

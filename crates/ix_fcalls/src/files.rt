@@ -7,7 +7,7 @@ ghost use Rattle.ix_model.specs.opening.Opening.{opening_world};
 ghost use Rattle.ix_model.specs.opening.Valid.{is_valid};
 ghost use Rattle.ix_model.specs.rows.Walks.{node};
 ghost use Rattle.ix_model.specs.world.World.{at, change, ceiling_of, is_pipe, lives};
-ghost use Rattle.ix_tables.specs.Meanings.{Shows, object_by};
+ghost use Rattle.ix_tables.specs.Views.{Shows, object_by};
 ghost use Rattle.ix_tables.specs.Parts.{parts_of};
 ghost use Rattle.ix_fcalls.specs.Around.{Moment, around, world_of, with_who};
 ghost use Rattle.ix_fcalls.specs.Filed.{Answers, is_filed};
@@ -80,7 +80,7 @@ impl Files {
 
     /// A read or a write through a descriptor of which it is known that a look at the labels would change none. It moves the
     /// files as [`call`](Files::call) does, and looks at no label; the process stays as it is.
-    pub fn call_known(&mut self, who: &Caller, call: &Call<'_>, buf: &mut Buf) -> Moved
+    pub fn call_fresh(&mut self, who: &Caller, call: &Call<'_>, buf: &mut Buf) -> Moved
         ghost moment: { Moment }
         requires known { IsKnown moment.world.frame who.now.pid.0 (op_of call.now) }
         requires sound { Sound moment.world }

@@ -7,7 +7,7 @@ ghost use Rattle.ix_fcalls.specs.Around.{frame_of};
 ghost use Rattle.ix_fcalls.specs.Counted.{IsCounted, Keeps};
 
 use crate::files::Files;
-use crate::who::{Rest, Who};
+use crate::caller_in::{Others, CallerIn};
 use ix_label::{Label, Steps};
 use ix_model::Refusal;
 use std::sync::ledger::Ledger;
@@ -16,9 +16,9 @@ use std::sync::ledger::Ledger;
 impl Files {
     /// The process's label floats up to what it looks at.
     #[tactic(auto, unfolding(ix_model::specs::rows::Rows::coding, ix_model::specs::rows::Rows::observe))]
-    pub(crate) fn observe<R: Rest, L: Ledger>(
+    pub(crate) fn observe<R: Others, L: Ledger>(
         &self,
-        who: &mut Who<R>,
+        who: &mut CallerIn<R>,
         seen: &Label,
         steps: &mut Steps<L>,
     ) -> Result<(), Refusal>
@@ -39,9 +39,9 @@ impl Files {
     /// The object's label floats up to that of the process that writes to it, and to that of the open entry that the
     /// process goes through; bottom stands for it where none counts.
     #[tactic(auto, using(crate::proofs::Relabelling::relabelling, crate::proofs::Counting::counting), unfolding(ix_model::specs::rows::Rows::coding, ix_model::specs::rows::Rows::affect))]
-    pub(crate) fn affect<R: Rest, L: Ledger>(
+    pub(crate) fn affect<R: Others, L: Ledger>(
         &mut self,
-        who: &Who<R>,
+        who: &CallerIn<R>,
         object: u32,
         through: &Label,
         steps: &mut Steps<L>,

@@ -9,7 +9,7 @@ ghost use Rattle.ix_fcalls.specs.Counted.{IsCounted, Keeps};
 ghost use Rattle.ix_model.specs.world.Paths.{path_of};
 
 use crate::files::Files;
-use crate::who::{Rest, Who};
+use crate::caller_in::{Others, CallerIn};
 use ix_label::Steps;
 use ix_model::{Kind, Path, Refusal, Reply};
 use std::sync::ledger::Ledger;
@@ -19,9 +19,9 @@ impl Files {
     /// ChangeDir: the directory of the path is the caller's working directory. A refusal may have raised the caller's
     /// label.
     #[tactic(auto, using(crate::proofs::Moving::moving), unfolding(ix_model::specs::rows::Rows::coding, ix_model::specs::rows::OnPaths::change_dir))]
-    pub(crate) fn change_dir<R: Rest, L: Ledger>(
+    pub(crate) fn change_dir<R: Others, L: Ledger>(
         &mut self,
-        who: &mut Who<R>,
+        who: &mut CallerIn<R>,
         path: &Path<'_>,
         steps: &mut Steps<L>,
     ) -> Result<Reply, Refusal>
@@ -42,7 +42,7 @@ impl Files {
     }
 
     /// The caller leaves its working directory, and is at home in another.
-    fn move_home<R: Rest>(&mut self, who: &mut Who<R>, dir: u32)
+    fn move_home<R: Others>(&mut self, who: &mut CallerIn<R>, dir: u32)
         requires counted { IsCounted self.old who.old }
         requires few { count_by is_some who.old ≤ 1024 }
         requires home { (q : Process) → living (at who.old R.rest.pid) ≡ Some q → q.cwd < length self.old.objects }

@@ -11,7 +11,7 @@ ghost use Rattle.ix_fcalls.specs.Counted.{IsCounted};
 ghost use Rattle.ix_fcalls.specs.Remaining.{Leaves};
 
 use crate::files::Files;
-use crate::who::{Rest, Who};
+use crate::caller_in::{Others, CallerIn};
 use ix_model::{Caller, Fd};
 use std::marker::Brand;
 
@@ -35,7 +35,7 @@ impl Files {
     }
 
     /// The same, of a caller among the others.
-    fn leave<R: Rest>(&mut self, caller: &mut Caller)
+    fn leave<R: Others>(&mut self, caller: &mut Caller)
         requires calling { IsCalling R.rest caller.old.pid.0 }
         requires sound { Sound (world_of R.rest self.old (with_who R.rest.processes caller.old)) }
         requires counted { IsCounted self.old (with_who R.rest.processes caller.old) }
@@ -44,7 +44,7 @@ impl Files {
         ensures counted { IsCounted self.new (change (with_who R.rest.processes caller.new) R.rest.pid (λ q. record q { ended = true })) }
         ensures pid { caller.new.pid.0 ≡ R.rest.pid }
     {
-        let mut who = Who::<R>::new(caller);
+        let mut who = CallerIn::<R>::new(caller);
         self.give_up_all(&mut who);
         *caller = *who.caller();
         self.tables.leave(caller.cwd.0);
@@ -52,7 +52,7 @@ impl Files {
 
     /// All 32 descriptors are given up.
     #[tactic(auto, using(crate::proofs::Bare::giving_none, crate::proofs::Bare::given_all, crate::proofs::Bare::all_bare))]
-    fn give_up_all<R: Rest>(&mut self, who: &mut Who<R>)
+    fn give_up_all<R: Others>(&mut self, who: &mut CallerIn<R>)
         requires sound { Sound (world_of R.rest self.old who.old) }
         requires counted { IsCounted self.old who.old }
         ensures row { let_go_all R.rest.pid (frame_of R.rest self.old who.old) ≡ Pass tt (frame_of R.rest self.new who.new) }
@@ -68,7 +68,7 @@ impl Files {
 
     /// A descriptor is given up, where it is one.
     #[tactic(auto, unfolding(ix_model::specs::rows::Rows::coding, ix_model::specs::rows::Lifetimes::let_go_if_held))]
-    fn give_up_if_held<R: Rest>(&mut self, who: &mut Who<R>, fd: Fd)
+    fn give_up_if_held<R: Others>(&mut self, who: &mut CallerIn<R>, fd: Fd)
         requires sound { Sound (world_of R.rest self.old who.old) }
         requires counted { IsCounted self.old who.old }
         ensures row { let_go_if_held R.rest.pid fd.0 (frame_of R.rest self.old who.old) ≡ Pass tt (frame_of R.rest self.new who.new) }

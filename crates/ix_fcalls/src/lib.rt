@@ -1,7 +1,7 @@
 //! The calls on files: paths, descriptors and pipes, over the tables.
 #![tactic(auto)]
 
-mod behind;
+mod open_file;
 mod claims;
 mod closing;
 mod cutting;
@@ -17,12 +17,12 @@ mod opening;
 mod reading;
 mod spots;
 mod taking;
-mod told;
+mod length_checks;
 mod turn;
 mod unmaking;
 mod views;
 mod walks;
-mod who;
+mod caller_in;
 mod writing;
 
 pub use files::Files;

@@ -7,7 +7,7 @@ ghost use Rattle.ix_fcalls.specs.Counted.{IsCounted, Keeps};
 ghost use Rattle.ix_model.specs.world.Paths.{path_of};
 
 use crate::files::Files;
-use crate::who::{Rest, Who};
+use crate::caller_in::{Others, CallerIn};
 use ix_label::Steps;
 use ix_model::{Kind, Obj, Path, Refusal, Reply};
 use std::sync::ledger::Ledger;
@@ -16,9 +16,9 @@ use std::sync::ledger::Ledger;
 impl Files {
     /// StatAt: what an object is; its size comes later. A refusal may have raised the caller's label.
     #[tactic(auto, unfolding(ix_model::specs::rows::Rows::coding, ix_model::specs::rows::OnPaths::stat_at))]
-    pub(crate) fn stat_at<R: Rest, L: Ledger>(
+    pub(crate) fn stat_at<R: Others, L: Ledger>(
         &mut self,
-        who: &mut Who<R>,
+        who: &mut CallerIn<R>,
         path: &Path<'_>,
         steps: &mut Steps<L>,
     ) -> Result<Reply, Refusal>
@@ -45,9 +45,9 @@ impl Files {
     /// ListAt: a name of a directory, counted from 0 in order of making, and what it names. A refusal may have raised the
     /// caller's label.
     #[tactic(auto, unfolding(ix_model::specs::rows::Rows::coding, ix_model::specs::rows::OnPaths::list_at))]
-    pub(crate) fn list_at<R: Rest, L: Ledger>(
+    pub(crate) fn list_at<R: Others, L: Ledger>(
         &mut self,
-        who: &mut Who<R>,
+        who: &mut CallerIn<R>,
         path: &Path<'_>,
         index: u32,
         steps: &mut Steps<L>,

@@ -10,14 +10,14 @@ ghost use Rattle.ix_model.specs.world.Directories.{with_name};
 ghost use Rattle.ix_model.specs.world.Owners.{names_in_all};
 ghost use Rattle.ix_model.specs.world.World.{at, change, put, is_dir, is_file, is_pipe};
 ghost use Rattle.ix_model.specs.rows.Walks.{node, child, nothing};
-ghost use Rattle.ix_tables.specs.Meanings.{object_by, vacant_inode};
+ghost use Rattle.ix_tables.specs.Views.{object_by, vacant_inode};
 ghost use Rattle.ix_fcalls.specs.Around.{frame_of, world_of};
 ghost use Rattle.ix_fcalls.specs.Counted.{IsCounted, Keeps};
 ghost use Rattle.ix_model.specs.world.NameRefs.{name_of};
 ghost use Rattle.ix_model.specs.world.Paths.{path_of};
 
 use crate::files::Files;
-use crate::who::{Rest, Who};
+use crate::caller_in::{Others, CallerIn};
 use ix_label::{Label, Steps};
 use ix_model::{Kind, NameRef, Path, Refusal, Reply};
 use ix_tables::ObjectRow;
@@ -28,9 +28,9 @@ impl Files {
     /// CreateAt and MakeDir: a new file or directory under a name that is missing, on the file system of its directory. A
     /// refusal may have raised the caller's label.
     #[tactic(auto, unfolding(ix_model::specs::rows::Rows::coding, ix_model::specs::rows::OnPaths::make, ix_model::specs::world::Numbers::free_inode, ix_model::specs::world::Directories::has_room_for_a_name))]
-    pub(crate) fn make<R: Rest, L: Ledger>(
+    pub(crate) fn make<R: Others, L: Ledger>(
         &mut self,
-        who: &mut Who<R>,
+        who: &mut CallerIn<R>,
         path: &Path<'_>,
         kind: Kind,
         steps: &mut Steps<L>,
@@ -62,9 +62,9 @@ impl Files {
     /// LinkAt: one name more for a file, on its file system; the directories of both walks are looked into first. A
     /// refusal may have raised the caller's label.
     #[tactic(auto, unfolding(ix_model::specs::rows::Rows::coding, ix_model::specs::rows::OnPaths::link_at, ix_model::specs::world::Directories::has_room_for_a_name))]
-    pub(crate) fn link_at<R: Rest, L: Ledger>(
+    pub(crate) fn link_at<R: Others, L: Ledger>(
         &mut self,
-        who: &mut Who<R>,
+        who: &mut CallerIn<R>,
         target: &Path<'_>,
         path: &Path<'_>,
         steps: &mut Steps<L>,

@@ -10,7 +10,7 @@ ghost use Rattle.ix_fcalls.specs.Counted.{IsCounted, IsClear, Keeps, has_free, f
 ghost use Rattle.ix_model.specs.world.Paths.{path_of};
 
 use crate::files::Files;
-use crate::who::{Rest, Who, free_fd};
+use crate::caller_in::{Others, CallerIn, free_fd};
 use ix_label::Steps;
 use ix_model::{Fd, Kind, Mode, Path, Refusal, Reply};
 use std::sync::ledger::Ledger;
@@ -19,7 +19,7 @@ use std::sync::ledger::Ledger;
 impl Files {
     /// DupFd: the caller's lowest free descriptor shares the open entry.
     #[tactic(auto, using(crate::proofs::Giving::giving), unfolding(ix_model::specs::rows::Rows::coding, ix_model::specs::rows::Walks::opened, ix_model::specs::rows::OnDescriptors::dup_fd))]
-    pub(crate) fn dup_fd<R: Rest>(&mut self, who: &mut Who<R>, fd: Fd) -> Result<Reply, Refusal>
+    pub(crate) fn dup_fd<R: Others>(&mut self, who: &mut CallerIn<R>, fd: Fd) -> Result<Reply, Refusal>
         requires sound { Sound (world_of R.rest self.old who.old) }
         requires counted { IsCounted self.old who.old }
         requires few { self.old.limits.procs ≤ 1024 }
@@ -36,7 +36,7 @@ impl Files {
 
     /// A free descriptor of the caller is one owner more of an open entry.
     #[tactic(auto, using(crate::proofs::Giving::giving))]
-    fn share_under<R: Rest>(&mut self, who: &mut Who<R>, fd: usize, id: u32)
+    fn share_under<R: Others>(&mut self, who: &mut CallerIn<R>, fd: usize, id: u32)
         requires counted { IsCounted self.old who.old }
         requires stands { IsTrue (is_some (at self.old.opens id)) }
         requires few { slice_index_or self.old.owners id 0 ≤ 32768 }
@@ -53,9 +53,9 @@ impl Files {
     /// OpenAt: an open entry on the file of the path, under the caller's lowest free descriptor. A refusal may have raised
     /// the caller's label.
     #[tactic(auto, using(crate::proofs::Giving::giving), unfolding(ix_model::specs::rows::Rows::coding, ix_model::specs::rows::OnPaths::open_at))]
-    pub(crate) fn open_at<R: Rest, L: Ledger>(
+    pub(crate) fn open_at<R: Others, L: Ledger>(
         &mut self,
-        who: &mut Who<R>,
+        who: &mut CallerIn<R>,
         path: &Path<'_>,
         mode: Mode,
         steps: &mut Steps<L>,
@@ -80,9 +80,9 @@ impl Files {
     /// A new entry under the lowest free number, which a free descriptor of the caller names; `None`, with no change,
     /// exactly where none is free.
     #[tactic(auto, using(crate::proofs::Giving::giving))]
-    fn open_under<R: Rest>(
+    fn open_under<R: Others>(
         &mut self,
-        who: &mut Who<R>,
+        who: &mut CallerIn<R>,
         fd: usize,
         object: u32,
         end: u8,
@@ -109,7 +109,7 @@ impl Files {
     /// MakePipe: the lowest free pipe under the caller's two lowest free descriptors and two new entries, end 0 under the
     /// lower one.
     #[tactic(auto, using(crate::proofs::Ends::ends, crate::proofs::Giving::clear_sound), unfolding(ix_model::specs::rows::Rows::coding, ix_model::specs::rows::OnDescriptors::make_pipe, ix_model::specs::world::Numbers::free_pipe))]
-    pub(crate) fn make_pipe<R: Rest>(&mut self, who: &mut Who<R>) -> Result<Reply, Refusal>
+    pub(crate) fn make_pipe<R: Others>(&mut self, who: &mut CallerIn<R>) -> Result<Reply, Refusal>
         requires sound { Sound (world_of R.rest self.old who.old) }
         requires counted { IsCounted self.old who.old }
         ensures row { RowIs result (frame_of R.rest self.new who.new) (make_pipe R.rest.pid (frame_of R.rest self.old who.old)) }
@@ -130,7 +130,7 @@ impl Files {
 
     /// Two new entries on the ends of a pipe under two free descriptors of the caller; the numbers of the entries.
     #[tactic(auto, using(crate::proofs::Ends::ends))]
-    fn open_both<R: Rest>(&mut self, who: &mut Who<R>, a: usize, b: usize, pipe: u32) -> (u32, u32)
+    fn open_both<R: Others>(&mut self, who: &mut CallerIn<R>, a: usize, b: usize, pipe: u32) -> (u32, u32)
         requires counted { IsCounted self.old who.old }
         requires clear { IsClear self.old }
         requires object { pipe < length self.old.objects }

@@ -5,7 +5,7 @@ ghost use Rattle.ix_model.specs.history.Step.{step, put_front};
 ghost use Rattle.ix_model.specs.history.Freshness.{Reading};
 ghost use Rattle.ix_model.specs.laws.Sound.{Sound};
 ghost use Rattle.ix_fresh.specs.Known.{Known};
-ghost use Rattle.ix_tables.specs.Meanings.{object_by};
+ghost use Rattle.ix_tables.specs.Views.{object_by};
 ghost use Rattle.ix_fcalls.specs.Tested.{ToRead, RefusesRead};
 ghost use Rattle.ix_model.specs.rows.Outcomes.{RowIs, RowMeans};
 ghost use Rattle.ix_model.specs.rows.OnDescriptors.{read_fd, read_passed};
@@ -16,16 +16,16 @@ ghost use Rattle.ix_model.specs.world.World.{at, held, is_file, is_pipe, may_rea
 ghost use Rattle.ix_fcalls.specs.Around.{frame_of, world_of};
 ghost use Rattle.ix_fcalls.specs.Counted.{IsCounted, Keeps};
 ghost use Rattle.ix_fcalls.specs.Filed.{Answers};
-ghost use Rattle.ix_fcalls.specs.Meanings.{behind_of};
+ghost use Rattle.ix_fcalls.specs.Views.{behind_of};
 ghost use Rattle.ix_fcalls.specs.Moving.{reply_of};
 ghost use Rattle.ix_fcalls.specs.Serving.{Serves};
 ghost use Rattle.ix_fcalls.specs.Telling.{told_of};
 
-use crate::behind::Behind;
+use crate::open_file::OpenFile;
 use crate::files::Files;
 use crate::moved::Moved;
-use crate::told::{NOTHING_TOLD, Told};
-use crate::who::{Rest, Who};
+use crate::length_checks::{NOTHING_TOLD, LengthChecks};
+use crate::caller_in::{Others, CallerIn};
 use ix_label::Steps;
 use ix_model::{Buf, Call, Fd, Mode, Refusal, Reply};
 use ix_tables::ObjectRow;
@@ -35,12 +35,12 @@ use std::sync::ledger::Ledger;
 impl Files {
     /// What ReadFd reads through and from, where it passes the tests before its look at a label.
     #[tactic(auto, unfolding(ix_model::specs::rows::Rows::coding, ix_model::specs::rows::Walks::opened, ix_model::specs::rows::OnDescriptors::read_fd))]
-    fn to_read<R: Rest>(
+    fn to_read<R: Others>(
         &self,
-        who: &Who<R>,
+        who: &CallerIn<R>,
         fd: Fd,
         count: u32,
-    ) -> Result<(Behind, ObjectRow), Refusal>
+    ) -> Result<(OpenFile, ObjectRow), Refusal>
         requires sound { Sound (world_of R.rest self.now who.now) }
         ensures passed { IfOk result (λ b. ToRead (frame_of R.rest self.now who.now) R.rest.pid fd.0 count (behind_of b.0) (object_by (node self.now.objects b.0.object) b.1)) }
         ensures refused { IfErr result (λ why. RefusesRead (frame_of R.rest self.now who.now) R.rest.pid fd.0 count why) }
@@ -63,10 +63,10 @@ impl Files {
 
     /// ReadFd: its tests, and the floating of the caller's label and of the open entry's. The bytes, and their number in
     /// the reply, come later.
-    pub(crate) fn read_fd<R: Rest, L: Ledger>(
+    pub(crate) fn read_fd<R: Others, L: Ledger>(
         &mut self,
-        told: Told,
-        who: &mut Who<R>,
+        told: LengthChecks,
+        who: &mut CallerIn<R>,
         fd: Fd,
         count: u32,
         steps: &mut Steps<L>,
@@ -93,10 +93,10 @@ impl Files {
     }
 
     /// The tests of ReadFd where a look at the labels would change none: all but that look.
-    fn read_fd_known<R: Rest>(
+    fn read_fd_known<R: Others>(
         &self,
-        told: Told,
-        who: &Who<R>,
+        told: LengthChecks,
+        who: &CallerIn<R>,
         fd: Fd,
         count: u32,
     ) -> Result<(), Refusal>
@@ -112,7 +112,7 @@ impl Files {
     }
 
     /// Whether a read of a pipe has to wait: there is nothing to read, and some open entry is on the other end.
-    fn has_to_wait(&self, told: Told, e: &Behind, x: &ObjectRow) -> bool
+    fn has_to_wait(&self, told: LengthChecks, e: &OpenFile, x: &ObjectRow) -> bool
         ensures { result ≡ (is_pipe (object_by (node self.now.objects e.now.object) x.now) && told.empty && held self.now.opens e.now.object (1 - e.now.end)) }
     {
         if !x.is_pipe() {
@@ -122,20 +122,20 @@ impl Files {
     }
 
     /// What the lengths tell of a read: whether there is nothing left.
-    fn told_of_read<R: Rest>(&self, who: &Who<R>, e: &Behind) -> Told
+    fn told_of_read<R: Others>(&self, who: &CallerIn<R>, e: &OpenFile) -> LengthChecks
         requires { Serves self.now e.now }
         ensures { told_of result ≡ told_of_read (frame_of R.rest self.now who.now) (world_of R.rest self.now who.now).content (Some (behind_of e.now)) }
     {
         let _ = who;
         if self.is_on_pipe(e) {
             let there = self.tables.left(e.object, e.end);
-            return Told {
+            return LengthChecks {
                 empty: there == 0,
                 ..NOTHING_TOLD
             };
         }
         let held = self.tables.size(e.object);
-        Told {
+        LengthChecks {
             empty: held <= e.offset as u64,
             ..NOTHING_TOLD
         }
@@ -169,7 +169,7 @@ impl Files {
 
     /// Reads what there is behind an open entry, up to the count, into the front of the buffer, and answers how many bytes
     /// that is. They leave a pipe; a file's offset moves past them.
-    fn read_bytes<R: Rest>(&mut self, who: &Who<R>, e: &Behind, count: u32, buf: &mut Buf) -> u32
+    fn read_bytes<R: Others>(&mut self, who: &CallerIn<R>, e: &OpenFile, count: u32, buf: &mut Buf) -> u32
         requires serves { Serves self.old e.now }
         requires few { count ≤ 4096 }
         requires counted { IsCounted self.old who.now }
@@ -190,9 +190,9 @@ impl Files {
     }
 
     /// A read: the decision, and then the bytes into the front of the buffer.
-    pub(crate) fn read<R: Rest, L: Ledger>(
+    pub(crate) fn read<R: Others, L: Ledger>(
         &mut self,
-        who: &mut Who<R>,
+        who: &mut CallerIn<R>,
         fd: Fd,
         count: u32,
         buf: &mut Buf,
@@ -216,9 +216,9 @@ impl Files {
     }
 
     /// A read where a look at the labels would change none: its tests, and then the bytes into the front of the buffer.
-    pub(crate) fn read_known<R: Rest>(
+    pub(crate) fn read_known<R: Others>(
         &mut self,
-        who: &Who<R>,
+        who: &CallerIn<R>,
         fd: Fd,
         count: u32,
         buf: &mut Buf,

@@ -14,8 +14,8 @@ ghost use Rattle.ix_fcalls.specs.Telling.{FileThere, TellsOfFile, size_told, tol
 
 use crate::files::Files;
 use crate::moved::Moved;
-use crate::told::{NOTHING_TOLD, Told};
-use crate::who::{Rest, Who};
+use crate::length_checks::{NOTHING_TOLD, LengthChecks};
+use crate::caller_in::{Others, CallerIn};
 use ix_label::Steps;
 use ix_model::{Buf, Call, Caller, Kind, Obj, Refusal, Reply};
 use std::sync::ledger::Ledger;
@@ -24,10 +24,10 @@ use std::sync::ledger::Ledger;
 impl Files {
     /// The row of a call by a living process.
     #[tactic(auto, unfolding(ix_model::specs::rows::Table::row, ix_model::specs::rows::OnPaths::create_at, ix_model::specs::rows::OnPaths::make_dir))]
-    fn row<R: Rest, L: Ledger>(
+    fn row<R: Others, L: Ledger>(
         &mut self,
-        told: Told,
-        who: &mut Who<R>,
+        told: LengthChecks,
+        who: &mut CallerIn<R>,
         call: &Call<'_>,
         steps: &mut Steps<L>,
     ) -> Result<Reply, Refusal>
@@ -63,10 +63,10 @@ impl Files {
 
     /// A call's reply. A refusal leaves all as it was, but for the raised label where it keeps that.
     #[tactic(auto, unfolding(ix_model::specs::rows::Table::verdict))]
-    pub(crate) fn decide<R: Rest, L: Ledger>(
+    pub(crate) fn decide<R: Others, L: Ledger>(
         &mut self,
-        told: Told,
-        who: &mut Who<R>,
+        told: LengthChecks,
+        who: &mut CallerIn<R>,
         call: &Call<'_>,
         steps: &mut Steps<L>,
     ) -> Reply
@@ -93,9 +93,9 @@ impl Files {
     }
 
     /// A call that neither looks at what is held nor edits it.
-    fn plain<R: Rest, L: Ledger>(
+    fn plain<R: Others, L: Ledger>(
         &mut self,
-        who: &mut Who<R>,
+        who: &mut CallerIn<R>,
         call: &Call<'_>,
         steps: &mut Steps<L>,
     ) -> Reply
@@ -151,9 +151,9 @@ impl Files {
     }
 
     /// A look at an object: the decision, and then the size of a file.
-    fn look<R: Rest, L: Ledger>(
+    fn look<R: Others, L: Ledger>(
         &mut self,
-        who: &mut Who<R>,
+        who: &mut CallerIn<R>,
         call: &Call<'_>,
         steps: &mut Steps<L>,
     ) -> Reply
@@ -169,9 +169,9 @@ impl Files {
     }
 
     /// A call, as it edits or looks at what is held.
-    fn answer<R: Rest, L: Ledger>(
+    fn answer<R: Others, L: Ledger>(
         &mut self,
-        who: &mut Who<R>,
+        who: &mut CallerIn<R>,
         call: &Call<'_>,
         buf: &mut Buf,
         steps: &mut Steps<L>,
@@ -194,7 +194,7 @@ impl Files {
     }
 
     /// A read or a write where a look at the labels would change none.
-    fn answer_known<R: Rest>(&mut self, who: &Who<R>, call: &Call<'_>, buf: &mut Buf) -> Moved
+    fn answer_known<R: Others>(&mut self, who: &CallerIn<R>, call: &Call<'_>, buf: &mut Buf) -> Moved
         requires known { IsKnown (frame_of R.rest self.old who.now) R.rest.pid (op_of call.now) }
         requires sound { Sound (world_of R.rest self.old who.now) }
         requires counted { IsCounted self.old who.now }
@@ -209,7 +209,7 @@ impl Files {
     }
 
     /// The call of a process among the others.
-    pub(crate) fn turn<R: Rest, L: Ledger>(
+    pub(crate) fn turn<R: Others, L: Ledger>(
         &mut self,
         caller: &mut Caller,
         call: &Call<'_>,
@@ -225,14 +225,14 @@ impl Files {
         ensures counted { IsCounted self.new (with_who R.rest.processes caller.new) }
         ensures pid { caller.new.pid.0 ≡ R.rest.pid }
     {
-        let mut who = Who::<R>::new(caller);
+        let mut who = CallerIn::<R>::new(caller);
         let reply = self.answer(&mut who, call, buf, steps);
         *caller = *who.caller();
         reply
     }
 
     /// The same where a look at the labels would change none: the process stays as it is.
-    pub(crate) fn turn_known<R: Rest>(
+    pub(crate) fn turn_known<R: Others>(
         &mut self,
         caller: &Caller,
         call: &Call<'_>,
@@ -245,7 +245,7 @@ impl Files {
         ensures step { Answers (step (world_of R.rest self.old (with_who R.rest.processes caller.now)) R.rest.place R.rest.pid (op_of call.now)) (world_of R.rest self.new (with_who R.rest.processes caller.now)) (reply_of result) buf.old buf.new }
         ensures counted { IsCounted self.new (with_who R.rest.processes caller.now) }
     {
-        let who = Who::<R>::new(caller);
+        let who = CallerIn::<R>::new(caller);
         self.answer_known(&who, call, buf)
     }
 }

@@ -7,7 +7,7 @@ ghost use Rattle.ix_model.specs.rows.Walks.{node, child};
 ghost use Rattle.ix_model.specs.world.Contents.{carried, holds_nothing};
 ghost use Rattle.ix_model.specs.world.Directories.{without_name};
 ghost use Rattle.ix_model.specs.world.World.{change, put, is_dir, is_file};
-ghost use Rattle.ix_tables.specs.Meanings.{object_let_go};
+ghost use Rattle.ix_tables.specs.Views.{object_let_go};
 ghost use Rattle.ix_fcalls.specs.Around.{frame_of, world_of};
 ghost use Rattle.ix_fcalls.specs.Counted.{IsCounted};
 ghost use Rattle.ix_model.specs.world.NameRefs.{name_of};
@@ -15,7 +15,7 @@ ghost use Rattle.ix_model.specs.world.Paths.{path_of};
 
 use crate::files::Files;
 use crate::making::{fs_number, last_name};
-use crate::who::{Rest, Who};
+use crate::caller_in::{Others, CallerIn};
 use ix_label::{Label, Steps};
 use ix_model::{Kind, NameRef, Path, Refusal, Reply};
 use std::sync::ledger::Ledger;
@@ -25,9 +25,9 @@ impl Files {
     /// UnlinkAt: one name of a file fewer; without a name and an open entry the file is gone. A refusal may have raised
     /// the caller's label.
     #[tactic(auto, unfolding(ix_model::specs::rows::Rows::coding, ix_model::specs::rows::OnPaths::unlink_at))]
-    pub(crate) fn unlink_at<R: Rest, L: Ledger>(
+    pub(crate) fn unlink_at<R: Others, L: Ledger>(
         &mut self,
-        who: &mut Who<R>,
+        who: &mut CallerIn<R>,
         path: &Path<'_>,
         steps: &mut Steps<L>,
     ) -> Result<Reply, Refusal>
@@ -67,9 +67,9 @@ impl Files {
     /// RemoveDir: an empty directory goes that is no root and nobody's working directory. A refusal may have raised the
     /// caller's label.
     #[tactic(auto, unfolding(ix_model::specs::rows::Rows::coding, ix_model::specs::rows::OnPaths::remove_dir))]
-    pub(crate) fn remove_dir<R: Rest, L: Ledger>(
+    pub(crate) fn remove_dir<R: Others, L: Ledger>(
         &mut self,
-        who: &mut Who<R>,
+        who: &mut CallerIn<R>,
         path: &Path<'_>,
         steps: &mut Steps<L>,
     ) -> Result<Reply, Refusal>
@@ -118,7 +118,7 @@ impl Files {
     }
 
     /// Whether an object is the working directory of a living process.
-    fn is_home<R: Rest>(&self, who: &Who<R>, n: u32) -> bool
+    fn is_home<R: Others>(&self, who: &CallerIn<R>, n: u32) -> bool
         requires counted { IsCounted self.now who.now }
         requires within { n < length self.now.objects }
         ensures { result ≡ list_any (is_home n) who.now }

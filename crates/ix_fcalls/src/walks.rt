@@ -3,14 +3,14 @@ ghost use Rattle.ix_model.specs.laws.Sound.{Sound};
 ghost use Rattle.ix_model.specs.rows.OnPaths.{links_of};
 ghost use Rattle.ix_model.specs.rows.Outcomes.{RowIs, RowMeans};
 ghost use Rattle.ix_model.specs.rows.Walks.{walk, walked_to, node, found_object, vacant, object_at, spot_at, missing, lacking};
-ghost use Rattle.ix_tables.specs.Meanings.{Shows, frame_alone, object_by};
+ghost use Rattle.ix_tables.specs.Views.{Shows, frame_alone, object_by};
 ghost use Rattle.ix_fcalls.specs.Around.{frame_of, world_of};
 ghost use Rattle.ix_fcalls.specs.Counted.{IsCounted};
-ghost use Rattle.ix_fcalls.specs.Meanings.{NamedWell, sought_of, spot_of, seen_of, seen_in};
+ghost use Rattle.ix_fcalls.specs.Views.{NamedWell, sought_of, spot_of, seen_of, seen_in};
 ghost use Rattle.ix_model.specs.world.Paths.{names_left, path_of};
 
 use crate::files::Files;
-use crate::who::{Rest, Who};
+use crate::caller_in::{Others, CallerIn};
 use ix_label::{Label, Steps};
 use ix_model::{Caller, Names, Obj, Path, Refusal};
 use ix_tables::ObjectRow;
@@ -79,9 +79,9 @@ impl Files {
 
     /// All directories that a walk looks into are observed before its outcome is answered.
     #[tactic(auto, unfolding(ix_model::specs::rows::Rows::coding, ix_model::specs::rows::Walks::walked_to))]
-    pub(crate) fn walked_to<R: Rest, L: Ledger>(
+    pub(crate) fn walked_to<R: Others, L: Ledger>(
         &self,
-        who: &mut Who<R>,
+        who: &mut CallerIn<R>,
         path: &Path<'_>,
         steps: &mut Steps<L>,
     ) -> Result<Outcome, Refusal>
@@ -97,9 +97,9 @@ impl Files {
 
     /// The object of a path, which must be there.
     #[tactic(auto, unfolding(ix_model::specs::rows::Rows::coding, ix_model::specs::rows::Walks::object_at))]
-    pub(crate) fn object_at<R: Rest, L: Ledger>(
+    pub(crate) fn object_at<R: Others, L: Ledger>(
         &self,
-        who: &mut Who<R>,
+        who: &mut CallerIn<R>,
         path: &Path<'_>,
         steps: &mut Steps<L>,
     ) -> Result<u32, Refusal>
@@ -114,9 +114,9 @@ impl Files {
     /// The number of the object of a path, which must be there, and what is told of it. In a sound world one stands
     /// wherever a walk ends.
     #[tactic(auto, using(crate::proofs::Standing::stands_found))]
-    pub(crate) fn object_row_at<R: Rest, L: Ledger>(
+    pub(crate) fn object_row_at<R: Others, L: Ledger>(
         &self,
-        who: &mut Who<R>,
+        who: &mut CallerIn<R>,
         path: &Path<'_>,
         steps: &mut Steps<L>,
     ) -> Result<(u32, ObjectRow), Refusal>
@@ -137,9 +137,9 @@ impl Files {
 
     /// The object of a path, which must be there, with the directory in which its last name stands.
     #[tactic(auto, unfolding(ix_model::specs::rows::Rows::coding, ix_model::specs::rows::Walks::spot_at, ix_model::specs::rows::Walks::found_spot))]
-    pub(crate) fn spot_at<R: Rest, L: Ledger>(
+    pub(crate) fn spot_at<R: Others, L: Ledger>(
         &self,
-        who: &mut Who<R>,
+        who: &mut CallerIn<R>,
         path: &Path<'_>,
         steps: &mut Steps<L>,
     ) -> Result<Spot, Refusal>
@@ -168,9 +168,9 @@ impl Files {
 
     /// The directory of a path whose last name must be missing.
     #[tactic(auto, unfolding(ix_model::specs::rows::Rows::coding, ix_model::specs::rows::Walks::missing))]
-    pub(crate) fn missing<R: Rest, L: Ledger>(
+    pub(crate) fn missing<R: Others, L: Ledger>(
         &self,
-        who: &mut Who<R>,
+        who: &mut CallerIn<R>,
         path: &Path<'_>,
         steps: &mut Steps<L>,
     ) -> Result<u32, Refusal>
@@ -185,9 +185,9 @@ impl Files {
 
     /// The object at which a walk ended, which must have found one.
     #[tactic(auto, unfolding(ix_model::specs::rows::Rows::coding, ix_model::specs::rows::Walks::found_object))]
-    pub(crate) fn found_object<R: Rest>(
+    pub(crate) fn found_object<R: Others>(
         &self,
-        who: &Who<R>,
+        who: &CallerIn<R>,
         walked: Outcome,
     ) -> Result<u32, Refusal>
         ensures row { RowIs result (frame_of R.rest self.now who.now) (found_object (sought_of walked) (frame_of R.rest self.now who.now)) }
@@ -203,7 +203,7 @@ impl Files {
 
     /// The directory that lacks the last name of a walk, which must have found nothing under it.
     #[tactic(auto, unfolding(ix_model::specs::rows::Rows::coding, ix_model::specs::rows::Walks::vacant))]
-    pub(crate) fn vacant<R: Rest>(&self, who: &Who<R>, walked: Outcome) -> Result<u32, Refusal>
+    pub(crate) fn vacant<R: Others>(&self, who: &CallerIn<R>, walked: Outcome) -> Result<u32, Refusal>
         ensures named { (n : ℕ) → NamedWell walked n → OnOk result (0 < n) }
         ensures row { RowIs result (frame_of R.rest self.now who.now) (vacant (sought_of walked) (frame_of R.rest self.now who.now)) }
     {

@@ -6,7 +6,7 @@ ghost use Rattle.ix_model.specs.history.Freshness.{Writing};
 ghost use Rattle.ix_model.specs.laws.Sound.{Sound};
 ghost use Rattle.ix_model.specs.rows.Walks.{node};
 ghost use Rattle.ix_fresh.specs.Known.{Known};
-ghost use Rattle.ix_tables.specs.Meanings.{object_by};
+ghost use Rattle.ix_tables.specs.Views.{object_by};
 ghost use Rattle.ix_fcalls.specs.Tested.{ToWrite};
 ghost use Rattle.ix_model.specs.rows.Outcomes.{RowIs, RowMeans, Refuse};
 ghost use Rattle.ix_model.specs.rows.OnDescriptors.{write_fd, write_passed};
@@ -16,16 +16,16 @@ ghost use Rattle.ix_model.specs.world.World.{at, is_pipe};
 ghost use Rattle.ix_fcalls.specs.Around.{frame_of, world_of};
 ghost use Rattle.ix_fcalls.specs.Counted.{IsCounted, Keeps};
 ghost use Rattle.ix_fcalls.specs.Filed.{Answers};
-ghost use Rattle.ix_fcalls.specs.Meanings.{behind_of};
+ghost use Rattle.ix_fcalls.specs.Views.{behind_of};
 ghost use Rattle.ix_fcalls.specs.Moving.{reply_of};
 ghost use Rattle.ix_fcalls.specs.Serving.{Serves};
 ghost use Rattle.ix_fcalls.specs.Telling.{told_of};
 
-use crate::behind::Behind;
+use crate::open_file::OpenFile;
 use crate::files::Files;
 use crate::moved::Moved;
-use crate::told::{NOTHING_TOLD, Told};
-use crate::who::{Rest, Who};
+use crate::length_checks::{NOTHING_TOLD, LengthChecks};
+use crate::caller_in::{Others, CallerIn};
 use ix_label::Steps;
 use ix_model::{Call, Fd, Mode, Refusal, Reply};
 use ix_tables::ObjectRow;
@@ -35,12 +35,12 @@ use std::sync::ledger::Ledger;
 impl Files {
     /// What WriteFd writes through and to, where it passes the tests before its look at a label.
     #[tactic(auto, unfolding(ix_model::specs::rows::Rows::coding, ix_model::specs::rows::Walks::opened, ix_model::specs::rows::OnDescriptors::write_fd))]
-    fn to_write<R: Rest>(
+    fn to_write<R: Others>(
         &self,
-        told: Told,
-        who: &Who<R>,
+        told: LengthChecks,
+        who: &CallerIn<R>,
         fd: Fd,
-    ) -> Result<(Behind, ObjectRow), Refusal>
+    ) -> Result<(OpenFile, ObjectRow), Refusal>
         requires sound { Sound (world_of R.rest self.now who.now) }
         ensures passed { IfOk result (λ b. ToWrite (told_of told) (frame_of R.rest self.now who.now) R.rest.pid fd.0 (behind_of b.0) (object_by (node self.now.objects b.0.object) b.1)) }
         ensures refused { IfErr result (λ why. write_fd (told_of told) R.rest.pid fd.0 (frame_of R.rest self.now who.now) ≡ Refuse why (frame_of R.rest self.now who.now)) }
@@ -76,10 +76,10 @@ impl Files {
     /// WriteFd: its tests, and the floating of the object's label and of the open entry's. The bytes, and their number in
     /// the reply, come later.
     #[tactic(auto, using(crate::proofs::Marking::marking))]
-    pub(crate) fn write_fd<R: Rest, L: Ledger>(
+    pub(crate) fn write_fd<R: Others, L: Ledger>(
         &mut self,
-        told: Told,
-        who: &mut Who<R>,
+        told: LengthChecks,
+        who: &mut CallerIn<R>,
         fd: Fd,
         steps: &mut Steps<L>,
     ) -> Result<Reply, Refusal>
@@ -101,7 +101,7 @@ impl Files {
     }
 
     /// The tests of WriteFd where a look at the labels would change none: all but that look.
-    fn write_fd_known<R: Rest>(&self, told: Told, who: &Who<R>, fd: Fd) -> Result<(), Refusal>
+    fn write_fd_known<R: Others>(&self, told: LengthChecks, who: &CallerIn<R>, fd: Fd) -> Result<(), Refusal>
         requires sound { Sound (world_of R.rest self.now who.now) }
         requires known { Known Writing (frame_of R.rest self.now who.now) R.rest.pid fd.0 }
         ensures row { RowMeans (λ u. write_passed) result (frame_of R.rest self.now who.now) (write_fd (told_of told) R.rest.pid fd.0 (frame_of R.rest self.now who.now)) }
@@ -111,14 +111,14 @@ impl Files {
     }
 
     /// What the lengths tell of a write to a file.
-    fn told_of_file_write<R: Rest>(&self, who: &Who<R>, e: &Behind, n: usize) -> Told
+    fn told_of_file_write<R: Others>(&self, who: &CallerIn<R>, e: &OpenFile, n: usize) -> LengthChecks
         requires serves { Serves self.now e.now }
         requires file { option_map_or is_pipe (at self.now.objects e.now.object) false ≡ false }
         ensures { told_of result ≡ told_of_file_write (frame_of R.rest self.now who.now) (world_of R.rest self.now who.now).content (behind_of e.now) n }
     {
         let _ = who;
         if is_too_big(e.offset, n) {
-            return Told {
+            return LengthChecks {
                 too_big: true,
                 ..NOTHING_TOLD
             };
@@ -126,14 +126,14 @@ impl Files {
         let old = self.tables.size(e.object);
         let len = length_then(e.offset, n, old);
         let room = self.tables.has_room(e.object, len);
-        Told {
+        LengthChecks {
             no_space: !room,
             ..NOTHING_TOLD
         }
     }
 
     /// What the lengths tell of a write.
-    fn told_of_write<R: Rest>(&self, who: &Who<R>, e: &Behind, n: usize) -> Told
+    fn told_of_write<R: Others>(&self, who: &CallerIn<R>, e: &OpenFile, n: usize) -> LengthChecks
         requires { Serves self.now e.now }
         ensures { told_of result ≡ told_of_write (frame_of R.rest self.now who.now) (world_of R.rest self.now who.now).content n (Some (behind_of e.now)) }
     {
@@ -147,7 +147,7 @@ impl Files {
 
     /// Writes bytes through an open entry, which has room for them: at the offset of a file, which moves past them, or to
     /// what the pipe's other end can read.
-    fn write_bytes<R: Rest>(&mut self, who: &Who<R>, e: &Behind, bytes: &[u8])
+    fn write_bytes<R: Others>(&mut self, who: &CallerIn<R>, e: &OpenFile, bytes: &[u8])
         requires serves { Serves self.old e.now }
         requires room { told_of_write (frame_of R.rest self.old who.now) (world_of R.rest self.old who.now).content (length bytes.now) (Some (behind_of e.now)) ≡ nothing_told }
         requires counted { IsCounted self.old who.now }
@@ -167,9 +167,9 @@ impl Files {
     }
 
     /// A write: the decision, and then the bytes.
-    pub(crate) fn write<R: Rest, L: Ledger>(
+    pub(crate) fn write<R: Others, L: Ledger>(
         &mut self,
-        who: &mut Who<R>,
+        who: &mut CallerIn<R>,
         fd: Fd,
         bytes: &[u8],
         steps: &mut Steps<L>,
@@ -195,7 +195,7 @@ impl Files {
     }
 
     /// A write where a look at the labels would change none: its tests, and then the bytes.
-    pub(crate) fn write_known<R: Rest>(&mut self, who: &Who<R>, fd: Fd, bytes: &[u8]) -> Moved
+    pub(crate) fn write_known<R: Others>(&mut self, who: &CallerIn<R>, fd: Fd, bytes: &[u8]) -> Moved
         requires sound { Sound (world_of R.rest self.old who.now) }
         requires counted { IsCounted self.old who.now }
         requires known { Known Writing (frame_of R.rest self.old who.now) R.rest.pid fd.0 }
@@ -236,12 +236,12 @@ fn length_then(offset: u32, n: usize, old: u64) -> u64
 }
 
 /// What the lengths tell of a write of `n` bytes to a pipe that holds so many.
-fn told_of_pipe_write(there: u32, n: usize) -> Told
+fn told_of_pipe_write(there: u32, n: usize) -> LengthChecks
     requires { there ≤ 4096 }
     ensures { told_of result ≡ told_of_pipe_write there n }
 {
     let left = 4096 - there as usize;
-    Told {
+    LengthChecks {
         too_big: n > 4096,
         full: n > left,
         ..NOTHING_TOLD

@@ -8,7 +8,7 @@ use Rattle.std.proofs.lemmas.List.{get_or-set_other}
 use Rattle.ix_model.specs.laws.Sound.{Sound, ShapesSound}
 use Rattle.ix_model.specs.world.World.{World, Frame, HoldingOf, Object, at, is_file, is_pipe}
 use Rattle.ix_model.specs.world.Contents.{cleared, held_at, holding_of, holds_nothing, nothing_held, side}
-use Rattle.ix_model.specs.rows.Walks.{Behind, behind}
+use Rattle.ix_model.specs.rows.Walks.{OpenFile, behind}
 use Rattle.ix_model.specs.history.Step.{is_whole}
 use Rattle.ix_model.specs.history.Events.{Op, Event}
 use Rattle.ix_model.specs.history.Events as op
@@ -81,7 +81,7 @@ module _ (h : History) (seat line pid fd : ℕ) where
   silent : (d count k : ℕ) → e.op ≡ op.ReadFd d count → (next h e).reply ≡ reply.Bytes k → k ≡ 0
   silent d count k is gives = let no : op.Pex fd ≡ op.ReadFd d count = is in cc
 
-  module _ (few : length (with_entry h e).events ≤ 6800000) (t : Tracks) (are : AreTracks t h) (v : Behind → OpenView) where
+  module _ (few : length (with_entry h e).events ≤ 6800000) (t : Tracks) (are : AreTracks t h) (v : OpenFile → OpenView) where
     still : marks_of (with_entry h e) ≡ kept_marks h e → AreTracks t (with_entry h e) × (lines_of_entry h e ≡ [])
     still is = unmoved h e few refl silent t are stood is
 
@@ -90,13 +90,13 @@ module _ (h : History) (seat line pid fd : ℕ) where
     unfolding emptied_there
     claim_none none = still (marks_claim ∙ go (behind f pid fd) refl)
       where
-        go : (b : Option Behind) → behind f pid fd ≡ b → emptied_there f g b (kept_marks h e) ≡ kept_marks h e
+        go : (b : Option OpenFile) → behind f pid fd ≡ b → emptied_there f g b (kept_marks h e) ≡ kept_marks h e
         go None is = refl
         go (Some b) is = absurd (not_opened h e fd b (through h e fd b are.sound is refl) v none)
 
-    module _ (view : OpenView) (object : (c : Behind) → (v c).obj.0 ≡ c.entry.object) (seen : option_map v (behind (world_of (with_entry h e)).frame pid fd) ≡ Some view) where
+    module _ (view : OpenView) (object : (c : OpenFile) → (v c).obj.0 ≡ c.entry.object) (seen : option_map v (behind (world_of (with_entry h e)).frame pid fd) ≡ Some view) where
       -- what is told of the open entry is on the object that it was on
-      on_object : (b : Behind) → behind f pid fd ≡ Some b → b.entry.object ≡ view.obj.0
+      on_object : (b : OpenFile) → behind f pid fd ≡ Some b → b.entry.object ≡ view.obj.0
       on_object b is =
           let r = through h e fd b are.sound is refl in
           let there : Some (v r.after) ≡ Some view = sym (ap (option_map v) r.is_after) ∙ seen in
@@ -107,7 +107,7 @@ module _ (h : History) (seat line pid fd : ℕ) where
       now_sound = sound_step (world_of h) (length h.events + 1) pid (op.Pex fd) are.sound
 
       -- where the claim makes a path whole, nothing can be read
-      empties : (b : Behind) → b.entry.object ≡ view.obj.0 → (is_whole g b.entry.object && not (is_whole f b.entry.object)) ≡ true → (end : ℕ) → nat_lt end 2 ≡ true
+      empties : (b : OpenFile) → b.entry.object ≡ view.obj.0 → (is_whole g b.entry.object && not (is_whole f b.entry.object)) ≡ true → (end : ℕ) → nat_lt end 2 ≡ true
           → size_at (world_of (with_entry h e)) view.obj.0 end ≡ Some 0
       empties b is whole end near =
           let parts = and_parts _ _ whole in
@@ -122,7 +122,7 @@ module _ (h : History) (seat line pid fd : ℕ) where
       unfolding emptied_there
       claim_left some = still (marks_claim ∙ go (behind f pid fd) refl)
         where
-          go : (b : Option Behind) → behind f pid fd ≡ b → emptied_there f g b (kept_marks h e) ≡ kept_marks h e
+          go : (b : Option OpenFile) → behind f pid fd ≡ b → emptied_there f g b (kept_marks h e) ≡ kept_marks h e
           go None is = refl
           go (Some b) is = test (is_whole g b.entry.object && not (is_whole f b.entry.object)) refl
             where
@@ -148,7 +148,7 @@ module _ (h : History) (seat line pid fd : ℕ) where
                 ap (λ n. origins_of (side n (held_at (marks_of (with_entry h e)) view.obj.0))) one ∙ nothing_there (with_entry h e) view.obj.0 1 second
           ]
 
-          go : (b : Option Behind) → behind f pid fd ≡ b → (n : ℕ) → (n ≡ view.obj.0 → ⊥) → held_at (emptied_there f g b (kept_marks h e)) n ≡ held_at (kept_marks h e) n
+          go : (b : Option OpenFile) → behind f pid fd ≡ b → (n : ℕ) → (n ≡ view.obj.0 → ⊥) → held_at (emptied_there f g b (kept_marks h e)) n ≡ held_at (kept_marks h e) n
           go None is n apart = refl
           go (Some b) is n apart = test (is_whole g b.entry.object && not (is_whole f b.entry.object))
             where

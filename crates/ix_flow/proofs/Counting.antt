@@ -3,7 +3,7 @@ use Rattle.std.proofs.Common.{◌≡◌, ◌≤◌, ◌+◌, ◌*◌, ℕ, suc, 
 use Rattle.std.proofs.Common.{subst}
 use Rattle.std.proofs.lemmas.List.{length-map, length-take}
 use Rattle.ix_model.specs.world.Contents.{offset_of, readable_in}
-use Rattle.ix_model.specs.rows.Walks.{Behind, behind}
+use Rattle.ix_model.specs.rows.Walks.{OpenFile, behind}
 use Rattle.ix_model.specs.history.Step.{step}
 use Rattle.ix_model.specs.history.Events.{Op, Event}
 use Rattle.ix_model.specs.history.Events as op
@@ -43,7 +43,7 @@ pieces_few n (x ∷ xs) = let rest = pieces_few (suc n) xs in let one = go (piec
         either true = omega arith
         either false = omega arith
 
-marks_few : (h : History) (pid fd count : ℕ) (b : Option Behind) (r : Reply) → behind (world_of h).frame pid fd ≡ b → (step (world_of h) (length h.events + 1) pid (op.ReadFd fd count)).reply ≡ r
+marks_few : (h : History) (pid fd count : ℕ) (b : Option OpenFile) (r : Reply) → behind (world_of h).frame pid fd ≡ b → (step (world_of h) (length h.events + 1) pid (op.ReadFd fd count)).reply ≡ r
     → length (read_through (world_of h) (marks_of h) b r) ≤ 4096
 marks_few h pid fd count (Some e) (reply.Bytes k) there gives =
     let few = read_few (world_of h) (length h.events + 1) pid fd count k e gives there in

@@ -5,8 +5,8 @@ use Rattle.std.proofs.lemmas.Bool.{not-true}
 use Rattle.ix_label.specs.Category.{Categories}
 use Rattle.ix_model.specs.world.World.{World, Frame, HoldingOf, is_pipe}
 use Rattle.ix_model.specs.world.Contents.{offset_of, on_pipe, on_side, resized}
-use Rattle.ix_model.specs.rows.Walks.{Behind, behind}
-use Rattle.ix_model.specs.rows.OnDescriptors.{Told, cut_fd}
+use Rattle.ix_model.specs.rows.Walks.{OpenFile, behind}
+use Rattle.ix_model.specs.rows.OnDescriptors.{LengthChecks, cut_fd}
 use Rattle.ix_model.specs.rows.Table.{row, verdict}
 use Rattle.ix_model.specs.rows.Telling.{told}
 use Rattle.ix_model.specs.history.AuditLog.{is_answer}
@@ -35,11 +35,11 @@ use Rattle.ix_flow.proofs.Through.{Through, has_end, kept_marks, not_opened, thr
 -- ---- what stands behind the descriptor
 -- a file
 record CutBehind (f : Frame) (pid fd : ℕ) : Type 0 where
-  behind_it : Behind
+  behind_it : OpenFile
   is_behind : behind f pid fd ≡ Some behind_it
   file : on_pipe f behind_it ≡ false
 
-cut_known : (t : Told) (pid fd len : ℕ) (f : Frame) → Ends (cut_fd t pid fd len f) Anything (λ r g. CutBehind f pid fd)
+cut_known : (t : LengthChecks) (pid fd len : ℕ) (f : Frame) → Ends (cut_fd t pid fd len f) Anything (λ r g. CutBehind f pid fd)
 unfolding cut_fd
 cut_known t pid fd len f =
     let Q : Reply → Frame → Type 0 = λ r g. CutBehind f pid fd in
@@ -49,7 +49,7 @@ cut_known t pid fd len f =
     ends_then _ _ f Anything Q (ends_need _ _ f Anything _ (λ file.
     ends_anyway _ (CutBehind f pid fd) (record { behind_it = e; is_behind = is; file = ap (λ o. option_map_or is_pipe o false) here ∙ not-true _ file })) tt)) tt)) tt)) tt)
 
-cut_answers : (w : World) (len : ℕ) (b : Option Behind) (r : Reply) (g : Frame) → (cut_answer w len b r g).reply ≡ reply.Done → is_answer r ≡ true
+cut_answers : (w : World) (len : ℕ) (b : Option OpenFile) (r : Reply) (g : Frame) → (cut_answer w len b r g).reply ≡ reply.Done → is_answer r ≡ true
 unfolding cut_answer plainly
 cut_answers w len (Some e) reply.Done g is = refl
 cut_answers w len _ r g is = ap is_answer is
@@ -62,7 +62,7 @@ cut_behind w place pid fd len is =
     passed t place pid (op.CutFd fd len) w.frame (λ r g. CutBehind w.frame pid fd) (cut_known t pid fd len w.frame) (cut_answers w len (behind w.frame pid fd) d.reply d.frame is)
 
 -- ---- what is held
-cut_none : (len : ℕ) (b : Option Behind) (r : Reply) (hs : List (HoldingOf Marked)) → (r ≡ reply.Done → ⊥) → cut_there gap_mark len b r hs ≡ hs
+cut_none : (len : ℕ) (b : Option OpenFile) (r : Reply) (hs : List (HoldingOf Marked)) → (r ≡ reply.Done → ⊥) → cut_there gap_mark len b r hs ≡ hs
 unfolding cut_there
 cut_none len (Some b) reply.Done hs other = absurd (other refl)
 cut_none len (Some b) (reply.Bytes k) hs other = refl
@@ -99,17 +99,17 @@ module _ (h : History) (seat line pid fd len : ℕ) where
     abbrev file : CutBehind (world_of h).frame pid fd
     file = cut_behind (world_of h) (length h.events + 1) pid fd len done
 
-    abbrev b : Behind
+    abbrev b : OpenFile
     b = file.behind_it
 
     abbrev r : Through h e fd b
     r = through h e fd b are.sound file.is_behind refl
 
-    pub cut_opened : (v : Behind → OpenView) → option_map v (behind (world_of (with_entry h e)).frame pid fd) ≡ None → ⊥
+    pub cut_opened : (v : OpenFile → OpenView) → option_map v (behind (world_of (with_entry h e)).frame pid fd) ≡ None → ⊥
     cut_opened v none = not_opened h e fd b r v none
 
-    pub cut_done : length (with_entry h e).events ≤ 6800000 → (v : Behind → OpenView) (view : OpenView) → ((c : Behind) → (v c).obj.0 ≡ c.entry.object) → ((c : Behind) → (v c).end ≡ c.entry.end)
-        → ((c : Behind) → (v c).at ≡ offset_of (world_of (with_entry h e)).content c.id) → option_map v (behind (world_of (with_entry h e)).frame pid fd) ≡ Some view
+    pub cut_done : length (with_entry h e).events ≤ 6800000 → (v : OpenFile → OpenView) (view : OpenView) → ((c : OpenFile) → (v c).obj.0 ≡ c.entry.object) → ((c : OpenFile) → (v c).end ≡ c.entry.end)
+        → ((c : OpenFile) → (v c).at ≡ offset_of (world_of (with_entry h e)).content c.id) → option_map v (behind (world_of (with_entry h e)).frame pid fd) ≡ Some view
         → (new : Sides) → ((labels : List Categories) (k : History) (hs : List (HoldingOf Marked)) → AreSides t.sides labels k hs → HasEnd k hs view.obj.0 view.end false
         → AreSides new labels k (on_side view.obj.0 view.end (resized gap_mark len) hs))
         → AreTracks (record t { sides = new }) (with_entry h e) × (lines_of_entry h e ≡ [])

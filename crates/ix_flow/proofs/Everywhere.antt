@@ -5,7 +5,7 @@ use Rattle.std.specs.Prelude.{All}
 use Rattle.std.proofs.lemmas.List.Elements.{All-append, All-nil, All-drop, All-replicate, All-take}
 use Rattle.ix_model.specs.world.World.{World, Frame, Content, HoldingOf, at}
 use Rattle.ix_model.specs.world.Contents.{held_at, kept, nothing_held, offset_of, on_pipe, on_side, resized, side, with_side, written_over}
-use Rattle.ix_model.specs.rows.Walks.{Behind, behind}
+use Rattle.ix_model.specs.rows.Walks.{OpenFile, behind}
 use Rattle.ix_model.specs.history.Step.{Given, is_whole}
 use Rattle.ix_model.specs.history.Events.{Op}
 use Rattle.ix_model.specs.history.Events as op
@@ -64,13 +64,13 @@ module _ {A : Type 0} (P : A → Type 0) where
   cut_all : (gap : A) (len : ℕ) (old : List A) → P gap → All P old → All P (resized gap len old)
   cut_all gap len old hole was = All-take P len _ (All-append P old _ was (All-replicate P (len - length old) gap hole))
 
-  taken_all : (o : ℕ) (f : Frame) (b : Option Behind) (r : Reply) (hs : List (HoldingOf A)) → Everywhere P (held_at hs o) → Everywhere P (held_at (taken f b r hs) o)
+  taken_all : (o : ℕ) (f : Frame) (b : Option OpenFile) (r : Reply) (hs : List (HoldingOf A)) → Everywhere P (held_at hs o) → Everywhere P (held_at (taken f b r hs) o)
   unfolding taken
   taken_all o f (Some e) (reply.Bytes k) hs was = either (on_pipe f e) _ _ o (changed o e.entry.object e.entry.end (drop k) hs (λ xs same old. All-drop P k xs old) was) was
   taken_all o f _ r hs was = was
 
-  put_all : (o : ℕ) (gap : A) (f : Frame) (c : Content) (new : List A) (b : Option Behind) (r : Reply) (hs : List (HoldingOf A)) → P gap
-      → ((e : Behind) (k : ℕ) → b ≡ Some e → r ≡ reply.Number k → e.entry.object ≡ o → All P new)
+  put_all : (o : ℕ) (gap : A) (f : Frame) (c : Content) (new : List A) (b : Option OpenFile) (r : Reply) (hs : List (HoldingOf A)) → P gap
+      → ((e : OpenFile) (k : ℕ) → b ≡ Some e → r ≡ reply.Number k → e.entry.object ≡ o → All P new)
       → Everywhere P (held_at hs o) → Everywhere P (held_at (put_there gap f c new b r hs) o)
   unfolding put_there
   put_all o gap f c new (Some e) (reply.Number k) hs hole fresh was = either (on_pipe f e) _ _ o
@@ -78,19 +78,19 @@ module _ {A : Type 0} (P : A → Type 0) where
       (changed o e.entry.object e.entry.end (written_over gap (offset_of c e.id) new) hs (λ xs same old. over gap (offset_of c e.id) new xs hole (fresh e k refl refl same) old) was)
   put_all o gap f c new _ r hs hole fresh was = was
 
-  cut_there_all : (o : ℕ) (gap : A) (len : ℕ) (b : Option Behind) (r : Reply) (hs : List (HoldingOf A)) → P gap → Everywhere P (held_at hs o) → Everywhere P (held_at (cut_there gap len b r hs) o)
+  cut_there_all : (o : ℕ) (gap : A) (len : ℕ) (b : Option OpenFile) (r : Reply) (hs : List (HoldingOf A)) → P gap → Everywhere P (held_at hs o) → Everywhere P (held_at (cut_there gap len b r hs) o)
   unfolding cut_there
   cut_there_all o gap len (Some e) reply.Done hs hole was = changed o e.entry.object e.entry.end (resized gap len) hs (λ xs same old. cut_all gap len xs hole old) was
   cut_there_all o gap len _ r hs hole was = was
 
-  emptied_all : (o : ℕ) (f g : Frame) (b : Option Behind) (hs : List (HoldingOf A)) → Everywhere P (held_at hs o) → Everywhere P (held_at (emptied_there f g b hs) o)
+  emptied_all : (o : ℕ) (f g : Frame) (b : Option OpenFile) (hs : List (HoldingOf A)) → Everywhere P (held_at hs o) → Everywhere P (held_at (emptied_there f g b hs) o)
   unfolding emptied_there
   emptied_all o f g (Some e) hs was = either (is_whole g e.entry.object && not (is_whole f e.entry.object)) _ _ o
       (set_either (λ (x : HoldingOf A). Everywhere P x) nothing_held hs e.entry.object o nothing_held (λ same. nowhere) was) was
   emptied_all o f g None hs was = was
 
   edited_all : (o : ℕ) (gap : A) (new : List A) (w : World) (pid : ℕ) (c : Op) (given : Given) (hs : List (HoldingOf A)) → P gap
-      → ((fd : ℕ) (bytes : List ℕ) (e : Behind) (k : ℕ) → c ≡ op.WriteFd fd bytes → behind w.frame pid fd ≡ Some e → given.reply ≡ reply.Number k → e.entry.object ≡ o → All P new)
+      → ((fd : ℕ) (bytes : List ℕ) (e : OpenFile) (k : ℕ) → c ≡ op.WriteFd fd bytes → behind w.frame pid fd ≡ Some e → given.reply ≡ reply.Number k → e.entry.object ≡ o → All P new)
       → Everywhere P (held_at hs o) → Everywhere P (held_at (edited gap new w pid c given hs) o)
   unfolding edited
   edited_all o gap new w pid (op.ReadFd fd count) given hs hole fresh was = taken_all o w.frame _ given.reply hs was
@@ -110,7 +110,7 @@ module _ {A : Type 0} (P : A → Type 0) where
 
   -- after a whole call: what stood before and after it had it, what fills a gap has it, and so has what is written there
   pub moved_all : (o : ℕ) (gap : A) (new : List A) (w : World) (pid : ℕ) (c : Op) (given : Given) (hs : List (HoldingOf A)) → P gap
-      → ((fd : ℕ) (bytes : List ℕ) (e : Behind) (k : ℕ) → c ≡ op.WriteFd fd bytes → behind w.frame pid fd ≡ Some e → given.reply ≡ reply.Number k → e.entry.object ≡ o → All P new)
+      → ((fd : ℕ) (bytes : List ℕ) (e : OpenFile) (k : ℕ) → c ≡ op.WriteFd fd bytes → behind w.frame pid fd ≡ Some e → given.reply ≡ reply.Number k → e.entry.object ≡ o → All P new)
       → ((is_some (at w.frame.objects o) && is_some (at given.world.frame.objects o)) ≡ true → Everywhere P (held_at hs o))
       → Everywhere P (held_at (moved gap new w pid c given hs) o)
   moved_all o gap new w pid c given hs hole fresh was = edited_all o gap new w pid c given (kept w.frame given.world.frame hs) hole fresh (kept_all o w.frame given.world.frame hs was)

@@ -2,7 +2,7 @@
 use Rattle.std.proofs.Common.{◌≡◌, ◌≤◌, ◌<◌, ◌+◌, ℕ, Bool, true, false, true≢false, [], length, Some, None, is_some, option_map, refl, sym, ap, ◌∙◌, subst, ◌⊎◌, inl, inr}
 use Rattle.ix_model.specs.world.Naming.{PathOf}
 use Rattle.ix_model.specs.world.World.{World, at}
-use Rattle.ix_model.specs.rows.Walks.{Behind, behind}
+use Rattle.ix_model.specs.rows.Walks.{OpenFile, behind}
 use Rattle.ix_model.specs.history.AuditLog.{is_answer}
 use Rattle.ix_model.specs.history.Step.{step}
 use Rattle.ix_model.specs.history.Events.{Op, Event}
@@ -127,7 +127,7 @@ module _ (h : History) (seat line pid : ℕ) (few : length (with_entry h (record
     | inr made ↦ absurd (none made.first made.second made.told)
   ]
 
-  module _ (a b : Fd) (told : (next h piped_as).reply ≡ reply.Two a b) (v : Behind → OpenView) where
+  module _ (a b : Fd) (told : (next h piped_as).reply ≡ reply.Two a b) (v : OpenFile → OpenView) where
     first_is : {m n x y : Fd} → reply.Two m x ≡ reply.Two n y → m ≡ n
     first_is {m} {n} {x} {y} is = cc
 
@@ -141,7 +141,7 @@ module _ (h : History) (seat line pid : ℕ) (few : length (with_entry h (record
           true≢false (ap is_some there)
     ]
 
-    pub pipe_made : (view : OpenView) → ((c : Behind) → (v c).obj.0 ≡ c.entry.object) → option_map v (behind (world_of (with_entry h piped_as)).frame pid a.0) ≡ Some view
+    pub pipe_made : (view : OpenView) → ((c : OpenFile) → (v c).obj.0 ≡ c.entry.object) → option_map v (behind (world_of (with_entry h piped_as)).frame pid a.0) ≡ Some view
         → (new : Sides) → ((end : ℕ) → end < 2 → side_of new view.obj.0 end ≡ None) → ((n end : ℕ) → end < 2 → (n ≡ view.obj.0 → ⊥) → side_of new n end ≡ side_of t.sides n end)
         → AreTracks (record t { sides = new }) (with_entry h piped_as) × (lines_of_entry h piped_as ≡ [])
     pipe_made view object seen new none others = elim (piped (world_of h) (length h.events + 1) pid) [

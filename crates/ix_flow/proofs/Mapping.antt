@@ -5,7 +5,7 @@ use Rattle.std.proofs.Math.ListN.{get_or-map}
 use Rattle.std.proofs.lemmas.List.{length-map, map-append, map-set, take-map, drop-map}
 use Rattle.ix_model.specs.world.World.{World, Frame, Content, HoldingOf, at}
 use Rattle.ix_model.specs.world.Contents.{filled, held_at, keep, kept, nothing_held, offset_of, on_pipe, on_side, readable_in, resized, side, with_side, written_over}
-use Rattle.ix_model.specs.rows.Walks.{Behind}
+use Rattle.ix_model.specs.rows.Walks.{OpenFile}
 use Rattle.ix_model.specs.history.Step.{Given, is_whole}
 use Rattle.ix_model.specs.history.Events.{Op}
 use Rattle.ix_model.specs.history.Events as op
@@ -82,7 +82,7 @@ module _ {A B : Type 0} (F : A → B) where
   pub held_side : (hs : List (HoldingOf A)) (o end : ℕ) → side end (held_at (map (each F) hs) o) ≡ map F (side end (held_at hs o))
   held_side hs o end = ap (side end) (held_map hs o) ∙ side_map end (held_at hs o)
 
-  pub readable_map : (f : Frame) (offset : ℕ) (e : Behind) (hs : List (HoldingOf A)) → readable_in f offset e (map (each F) hs) ≡ map F (readable_in f offset e hs)
+  pub readable_map : (f : Frame) (offset : ℕ) (e : OpenFile) (hs : List (HoldingOf A)) → readable_in f offset e (map (each F) hs) ≡ map F (readable_in f offset e hs)
   readable_map f offset e hs =
       let from : ℕ = if on_pipe f e then 0 else offset in
       ap (drop from) (held_side hs e.entry.object e.entry.end) ∙ drop-map F from (side e.entry.end (held_at hs e.entry.object))
@@ -112,12 +112,12 @@ module _ {A B : Type 0} (F : A → B) where
   either_map true x y v w r s = r
   either_map false x y v w r s = s
 
-  taken_map : (f : Frame) (e : Option Behind) (r : Reply) (hs : List (HoldingOf A)) → map (each F) (taken f e r hs) ≡ taken f e r (map (each F) hs)
+  taken_map : (f : Frame) (e : Option OpenFile) (r : Reply) (hs : List (HoldingOf A)) → map (each F) (taken f e r hs) ≡ taken f e r (map (each F) hs)
   unfolding taken
   taken_map f (Some e) (reply.Bytes k) hs = either_map (on_pipe f e) _ _ _ _ (on_side_map e.entry.object e.entry.end (drop k) (drop k) hs (λ xs. sym (drop-map F k xs))) refl
   taken_map f _ r hs = refl
 
-  put_map : (gap : A) (f : Frame) (c : Content) (new : List A) (e : Option Behind) (r : Reply) (hs : List (HoldingOf A))
+  put_map : (gap : A) (f : Frame) (c : Content) (new : List A) (e : Option OpenFile) (r : Reply) (hs : List (HoldingOf A))
       → map (each F) (put_there gap f c new e r hs) ≡ put_there (F gap) f c (map F new) e r (map (each F) hs)
   unfolding put_there
   put_map gap f c new (Some e) (reply.Number k) hs = either_map (on_pipe f e) _ _ _ _
@@ -125,12 +125,12 @@ module _ {A B : Type 0} (F : A → B) where
       (on_side_map e.entry.object e.entry.end (written_over gap (offset_of c e.id) new) (written_over (F gap) (offset_of c e.id) (map F new)) hs (λ xs. over_map gap (offset_of c e.id) new xs))
   put_map gap f c new _ r hs = refl
 
-  cut_map : (gap : A) (len : ℕ) (e : Option Behind) (r : Reply) (hs : List (HoldingOf A)) → map (each F) (cut_there gap len e r hs) ≡ cut_there (F gap) len e r (map (each F) hs)
+  cut_map : (gap : A) (len : ℕ) (e : Option OpenFile) (r : Reply) (hs : List (HoldingOf A)) → map (each F) (cut_there gap len e r hs) ≡ cut_there (F gap) len e r (map (each F) hs)
   unfolding cut_there
   cut_map gap len (Some e) reply.Done hs = on_side_map e.entry.object e.entry.end (resized gap len) (resized (F gap) len) hs (λ xs. resized_map gap len xs)
   cut_map gap len _ r hs = refl
 
-  emptied_map : (f g : Frame) (e : Option Behind) (hs : List (HoldingOf A)) → map (each F) (emptied_there f g e hs) ≡ emptied_there f g e (map (each F) hs)
+  emptied_map : (f g : Frame) (e : Option OpenFile) (hs : List (HoldingOf A)) → map (each F) (emptied_there f g e hs) ≡ emptied_there f g e (map (each F) hs)
   unfolding emptied_there
   emptied_map f g (Some e) hs = either_map (is_whole g e.entry.object && not (is_whole f e.entry.object)) _ _ _ _ (map-set (each F) hs e.entry.object nothing_held) refl
   emptied_map f g None hs = refl

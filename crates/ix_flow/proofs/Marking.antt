@@ -3,7 +3,7 @@ use Rattle.std.proofs.Common.{◌≡◌, ℕ, suc, List, [], ◌∷◌, map, tak
 use Rattle.std.proofs.lemmas.List.{take-map}
 use Rattle.ix_model.specs.world.World.{World, Holding, HoldingOf}
 use Rattle.ix_model.specs.world.Contents.{offset_of, readable, readable_in}
-use Rattle.ix_model.specs.rows.Walks.{Behind, behind}
+use Rattle.ix_model.specs.rows.Walks.{OpenFile, behind}
 use Rattle.ix_model.specs.opening.Opening.{opening_world}
 use Rattle.ix_model.specs.history.Step.{Given, step_of, run}
 use Rattle.ix_model.specs.history.Events.{Op, Event}
@@ -47,7 +47,7 @@ unfolding marks_from
 run_seen w place [] ms is = is
 run_seen w place (e ∷ events) ms is = run_seen (step_of w place e).world (suc place) events (marks_after w place e ms) (after_seen w place e ms is)
 
-through_seen : (w : World) (ms : List (HoldingOf Marked)) (b : Option Behind) (r : Reply) → seen ms ≡ w.content.holdings → bytes_of (read_through w ms b r) ≡ front_of w b r
+through_seen : (w : World) (ms : List (HoldingOf Marked)) (b : Option OpenFile) (r : Reply) → seen ms ≡ w.content.holdings → bytes_of (read_through w ms b r) ≡ front_of w b r
 unfolding readable
 through_seen w ms (Some e) (reply.Bytes k) is =
     sym (take-map byte_of k (readable_in w.frame (offset_of w.content e.id) e ms))

@@ -3,7 +3,7 @@ use Rattle.std.proofs.Common.{◌≡◌, ℕ, zero, suc, Bool, true, false, not,
 use Rattle.ix_model.specs.world.World.{World, Frame, Content, Holding}
 use Rattle.ix_model.specs.world.Contents.{after_cut, after_exit, after_read, after_seek, after_write, carried, emptied, kept, on_pipe, readable}
 use Rattle.ix_model.specs.world.World.{is_ended, at}
-use Rattle.ix_model.specs.rows.Walks.{Behind, behind}
+use Rattle.ix_model.specs.rows.Walks.{OpenFile, behind}
 use Rattle.ix_model.specs.history.Step.{answer, step, plainly, read_answer, write_answer, cut_answer, seek_answer, stat_answer, exit_answer, wait_answer, pex_answer, is_whole}
 use Rattle.ix_model.specs.history.Events.{Op}
 use Rattle.ix_model.specs.history.Events as op
@@ -21,32 +21,32 @@ carried_held : (f g : Frame) (c : Content) → (carried f g c).holdings ≡ kept
 unfolding carried
 carried_held f g c = refl
 
-read_held : (w : World) (count : ℕ) (b : Option Behind) (r : Reply) (g : Frame)
+read_held : (w : World) (count : ℕ) (b : Option OpenFile) (r : Reply) (g : Frame)
     → (read_answer w count b r g).world.content.holdings ≡ taken w.frame b (read_answer w count b r g).reply (kept w.frame g w.content.holdings)
 unfolding read_answer plainly after_read taken carried
 read_held w count (Some e) (reply.Bytes k) g = either_held (on_pipe w.frame e) _ _ _ _ refl refl
 read_held w count _ r g = refl
 
-write_held : (w : World) (new : List ℕ) (b : Option Behind) (r : Reply) (g : Frame)
+write_held : (w : World) (new : List ℕ) (b : Option OpenFile) (r : Reply) (g : Frame)
     → (write_answer w new b r g).world.content.holdings ≡ put_there 0 w.frame (carried w.frame (write_answer w new b r g).world.frame w.content) new b (write_answer w new b r g).reply
     (kept w.frame g w.content.holdings)
 unfolding write_answer plainly after_write put_there carried
 write_held w new (Some e) (reply.Number k) g = either_held (on_pipe w.frame e) _ _ _ _ refl refl
 write_held w new _ r g = refl
 
-cut_held : (w : World) (len : ℕ) (b : Option Behind) (r : Reply) (g : Frame)
+cut_held : (w : World) (len : ℕ) (b : Option OpenFile) (r : Reply) (g : Frame)
     → (cut_answer w len b r g).world.content.holdings ≡ cut_there 0 len b (cut_answer w len b r g).reply (kept w.frame g w.content.holdings)
 unfolding cut_answer plainly after_cut cut_there carried
 cut_held w len (Some e) reply.Done g = refl
 cut_held w len _ r g = refl
 
-pex_held : (w : World) (b : Option Behind) (r : Reply) (g : Frame)
+pex_held : (w : World) (b : Option OpenFile) (r : Reply) (g : Frame)
     → (pex_answer w b r g).world.content.holdings ≡ emptied_there w.frame (pex_answer w b r g).world.frame b (kept w.frame g w.content.holdings)
 unfolding pex_answer plainly emptied emptied_there carried
 pex_held w (Some e) r g = either_held (is_whole g e.entry.object && not (is_whole w.frame e.entry.object)) _ _ _ _ refl refl
 pex_held w None r g = refl
 
-seek_held : (w : World) (offset : ℕ) (b : Option Behind) (r : Reply) (g : Frame) → (seek_answer w offset b r g).world.content.holdings ≡ kept w.frame g w.content.holdings
+seek_held : (w : World) (offset : ℕ) (b : Option OpenFile) (r : Reply) (g : Frame) → (seek_answer w offset b r g).world.content.holdings ≡ kept w.frame g w.content.holdings
 unfolding seek_answer plainly after_seek carried
 seek_held w offset (Some e) reply.Done g = refl
 seek_held w offset _ r g = refl
@@ -98,11 +98,11 @@ take_short [] (suc n) = refl
 take_short (x ∷ xs) (suc n) = ap (λ ys. x ∷ ys) (take_short xs n)
 
 -- the front of what there is to read, where the reply says how long that is
-abbrev pub front_of : World → Option Behind → Reply → List ℕ
+abbrev pub front_of : World → Option OpenFile → Reply → List ℕ
 front_of w (Some e) (reply.Bytes k) = take k (readable w.frame w.content e)
 front_of w _ r = []
 
-read_bytes : (w : World) (count : ℕ) (b : Option Behind) (r : Reply) (g : Frame) → (read_answer w count b r g).bytes ≡ front_of w b (read_answer w count b r g).reply
+read_bytes : (w : World) (count : ℕ) (b : Option OpenFile) (r : Reply) (g : Frame) → (read_answer w count b r g).bytes ≡ front_of w b (read_answer w count b r g).reply
 unfolding read_answer plainly
 read_bytes w count (Some e) (reply.Bytes k) g = sym (take_short (readable w.frame w.content e) count)
 read_bytes w count (Some e) reply.Done g = refl
@@ -123,17 +123,17 @@ abbrev pub fronts : World → ℕ → Op → Reply → List ℕ
 fronts w pid (op.ReadFd fd count) r = front_of w (behind w.frame pid fd) r
 fronts w pid _ r = []
 
-write_bytes : (w : World) (new : List ℕ) (b : Option Behind) (r : Reply) (g : Frame) → (write_answer w new b r g).bytes ≡ []
+write_bytes : (w : World) (new : List ℕ) (b : Option OpenFile) (r : Reply) (g : Frame) → (write_answer w new b r g).bytes ≡ []
 unfolding write_answer plainly
 write_bytes w new (Some e) (reply.Number k) g = refl
 write_bytes w new _ r g = refl
 
-cut_bytes : (w : World) (len : ℕ) (b : Option Behind) (r : Reply) (g : Frame) → (cut_answer w len b r g).bytes ≡ []
+cut_bytes : (w : World) (len : ℕ) (b : Option OpenFile) (r : Reply) (g : Frame) → (cut_answer w len b r g).bytes ≡ []
 unfolding cut_answer plainly
 cut_bytes w len (Some e) reply.Done g = refl
 cut_bytes w len _ r g = refl
 
-seek_bytes : (w : World) (offset : ℕ) (b : Option Behind) (r : Reply) (g : Frame) → (seek_answer w offset b r g).bytes ≡ []
+seek_bytes : (w : World) (offset : ℕ) (b : Option OpenFile) (r : Reply) (g : Frame) → (seek_answer w offset b r g).bytes ≡ []
 unfolding seek_answer plainly
 seek_bytes w offset (Some e) reply.Done g = refl
 seek_bytes w offset _ r g = refl
@@ -153,7 +153,7 @@ unfolding wait_answer plainly
 wait_bytes w (reply.Child p status) g = refl
 wait_bytes w r g = refl
 
-pex_bytes : (w : World) (b : Option Behind) (r : Reply) (g : Frame) → (pex_answer w b r g).bytes ≡ []
+pex_bytes : (w : World) (b : Option OpenFile) (r : Reply) (g : Frame) → (pex_answer w b r g).bytes ≡ []
 unfolding pex_answer plainly
 pex_bytes w (Some e) r g = refl
 pex_bytes w None r g = refl

@@ -7,11 +7,11 @@ use Rattle.ix_model.specs.world.Naming.{PathOf}
 use Rattle.ix_model.specs.world.World.{Frame, World, Object, Process, Open, at, put, change, living, lowest_free}
 use Rattle.ix_model.specs.world.Numbers.{free_pipe}
 use Rattle.ix_model.specs.rows.Rows.{change_object, change_process, change_open, put_object, put_open, put_process, add_process, affect, observe}
-use Rattle.ix_model.specs.rows.Walks.{Behind, behind, behind_of, entry_at, missing, walked_to}
+use Rattle.ix_model.specs.rows.Walks.{OpenFile, behind, behind_of, entry_at, missing, walked_to}
 use Rattle.ix_model.specs.rows.OnPaths.{make, create_at, make_dir, new_object}
 use Rattle.ix_model.specs.rows.Refusals.{keeps_label}
 use Rattle.ix_model.specs.rows.OnProcesses.{end_process}
-use Rattle.ix_model.specs.rows.OnDescriptors.{Told, make_pipe, pipe_end}
+use Rattle.ix_model.specs.rows.OnDescriptors.{LengthChecks, make_pipe, pipe_end}
 use Rattle.ix_model.specs.rows.Auditing.{logged}
 use Rattle.ix_model.specs.rows.Table.{row, verdict}
 use Rattle.ix_model.specs.rows.Telling.{told}
@@ -124,7 +124,7 @@ stood_words pid f = record {
   collect = λ can p. stood_put_process f p None;
 }
 
-stood_decided : (t : Told) (place pid : ℕ) (c : Op) (f : Frame) → list_all makes_none (changes_of c) ≡ true → Stood f (verdict t place pid c f).frame
+stood_decided : (t : LengthChecks) (place pid : ℕ) (c : Op) (f : Frame) → list_all makes_none (changes_of c) ≡ true → Stood f (verdict t place pid c f).frame
 stood_decided t place pid c f makes = decided (Stood f) t place pid c f (stood_itself f) ((kept_row makes_none pid (Stood f) (stood_words pid f) t place c makes).led f (stood_itself f))
 
 -- a call that makes nothing
@@ -204,7 +204,7 @@ pub record MadePipe (pid : ℕ) (f : Frame) (r : Reply) (g : Frame) : Type 0 whe
   pub first : Fd
   pub second : Fd
   pub told : r ≡ reply.Two first second
-  pub entry : Behind
+  pub entry : OpenFile
   pub is_behind : behind g pid first.0 ≡ Some entry
   pub free : at f.objects entry.entry.object ≡ None
   pub new : OneNew f g entry.entry.object
@@ -223,7 +223,7 @@ first_of_two t d e x y inside apart = get_or-set_other (put t d (Some x)) e d (S
 seen_behind : (g : Frame) (pid fd d : ℕ) (p : Process) (y : Open) → living (at g.processes pid) ≡ Some p → at p.fds fd ≡ Some d → at g.opens d ≡ Some y
     → behind g pid fd ≡ Some (record { id = d; entry = y })
 unfolding behind
-seen_behind g pid fd d p y lives descriptor is = ap (λ q. behind_of q g fd) lives ∙ ap (entry_at g) descriptor ∙ ap (option_map (λ x. let b : Behind = record { id = d; entry = x } in b)) is
+seen_behind g pid fd d p y lives descriptor is = ap (λ q. behind_of q g fd) lives ∙ ap (entry_at g) descriptor ∙ ap (option_map (λ x. let b : OpenFile = record { id = d; entry = x } in b)) is
 
 pipes : (pid : ℕ) (f : Frame) → Ends (make_pipe pid f) Anything (MadePipe pid f)
 unfolding make_pipe

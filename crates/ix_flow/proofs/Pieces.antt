@@ -4,7 +4,7 @@ use Rattle.std.specs.Prelude.{All}
 use Rattle.std.specs.Option.{option_map_or}
 use Rattle.std.proofs.lemmas.List.Elements.{All-cons, All-head, All-map, All-nil, All-tail}
 use Rattle.ix_label.specs.Category.{bottom}
-use Rattle.ix_model.specs.rows.Walks.{Behind, behind}
+use Rattle.ix_model.specs.rows.Walks.{OpenFile, behind}
 use Rattle.ix_model.specs.history.AuditLog.{of_process}
 use Rattle.ix_model.specs.history.Events.{Op, Event}
 use Rattle.ix_model.specs.history.Events as op
@@ -41,10 +41,10 @@ marks_accounted : (h : History) (e : Event) (o : Op) → e.op ≡ o
 unfolding read_by
 marks_accounted h e (op.ReadFd fd count) is = go (behind (world_of h).frame e.pid fd) refl
   where
-    P : Option Behind → Marked → Type 0
+    P : Option OpenFile → Marked → Type 0
     P b m = IsAccountedFor h (option_map_or (λ c. c.entry.object) b 0) (of_process (λ q. q.label) bottom (next h e).world.frame e.pid) m.origin
 
-    go : (b : Option Behind) → behind (world_of h).frame e.pid fd ≡ b → All (P b) (read_through (world_of h) (marks_of h) b (next h e).reply)
+    go : (b : Option OpenFile) → behind (world_of h).frame e.pid fd ≡ b → All (P b) (read_through (world_of h) (marks_of h) b (next h e).reply)
     go None there = All-nil _
     go (Some b) there =
         subst (λ (ms : List Marked). All (P (Some b)) ms)

@@ -8,7 +8,7 @@ use Rattle.std.proofs.lemmas.List.{length-append}
 use Rattle.ix_label.specs.Category.{Categories}
 use Rattle.ix_model.specs.world.World.{at, is_pipe}
 use Rattle.ix_model.specs.world.Contents.{offset_of, on_side}
-use Rattle.ix_model.specs.rows.Walks.{Behind, behind}
+use Rattle.ix_model.specs.rows.Walks.{OpenFile, behind}
 use Rattle.ix_model.specs.history.Events.{Event}
 use Rattle.ix_model.specs.history.Events as op
 use Rattle.ix_model.specs.history.History.{History, world_of, next, with_entry}
@@ -54,12 +54,12 @@ module _ (now h : History) (e : Event) (fd limit : ℕ) (r : Reply) (step : IsSt
     known : Reading h e fd k
     known = reading h e fd limit k are.sound is gives
 
-    pub is_opened : (v : Behind → OpenView) → option_map v (behind (world_of now).frame e.pid fd) ≡ None → ⊥
+    pub is_opened : (v : OpenFile → OpenView) → option_map v (behind (world_of now).frame e.pid fd) ≡ None → ⊥
     is_opened v none = read_opened h e fd limit k is gives are.sound known v (sym (ap (λ (x : History). option_map v (behind (world_of x).frame e.pid fd)) step.history) ∙ none)
 
     -- what is told of the open entry
-    module _ (v : Behind → OpenView) (view : OpenView) (object : (b : Behind) → (v b).obj.0 ≡ b.entry.object) (ending : (b : Behind) → (v b).end ≡ b.entry.end)
-        (stands : (b : Behind) → (v b).at ≡ offset_of (world_of now).content b.id)
+    module _ (v : OpenFile → OpenView) (view : OpenView) (object : (b : OpenFile) → (v b).obj.0 ≡ b.entry.object) (ending : (b : OpenFile) → (v b).end ≡ b.entry.end)
+        (stands : (b : OpenFile) → (v b).at ≡ offset_of (world_of now).content b.id)
         (opened : option_map v (behind (world_of now).frame e.pid fd) ≡ Some view) where
       seen : (view.obj.0 ≡ known.before.entry.object) × (view.end ≡ known.before.entry.end) × (is_pipe known.object ≡ false → view.at - k ≡ offset_of (world_of h).content known.before.id)
       seen = read_view h e fd limit k is gives are.sound known v view object ending (λ b. stands b ∙ ap (λ (x : History). offset_of (world_of x).content b.id) step.history)

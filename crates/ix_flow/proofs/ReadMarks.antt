@@ -9,7 +9,7 @@ use Rattle.std.proofs.lemmas.List.{get_or-set_other, get_or-set_same, drop-map, 
 use Rattle.ix_model.specs.laws.Sound.{Sound}
 use Rattle.ix_model.specs.world.World.{World, Frame, HoldingOf, at, is_pipe}
 use Rattle.ix_model.specs.world.Contents.{held_at, kept, nothing_held, offset_of, on_side, readable_in, side, with_side}
-use Rattle.ix_model.specs.rows.Walks.{Behind, behind}
+use Rattle.ix_model.specs.rows.Walks.{OpenFile, behind}
 use Rattle.ix_model.specs.history.Events.{Op, Event}
 use Rattle.ix_model.specs.history.Events as op
 use Rattle.ix_model.specs.history.History.{History, world_of, next, with_entry}
@@ -183,7 +183,7 @@ module _ (h : History) (e : Event) (fd count k : ℕ) (is : e.op ≡ op.ReadFd f
   pieces_some some = some_pieces 0 (origins_of (marks_read h e)) (omega (arith, read_long, some))
 
 -- ---- reads that give nothing
-through_nothing : (w : World) (ms : List (HoldingOf Marked)) (b : Option Behind) (r : Reply) → ((k : ℕ) → r ≡ reply.Bytes k → k ≡ 0) → read_through w ms b r ≡ []
+through_nothing : (w : World) (ms : List (HoldingOf Marked)) (b : Option OpenFile) (r : Reply) → ((k : ℕ) → r ≡ reply.Bytes k → k ≡ 0) → read_through w ms b r ≡ []
 through_nothing w ms (Some b) (reply.Bytes k) none = ap (λ n. take n (readable_in w.frame (offset_of w.content b.id) b ms)) (none k refl)
 through_nothing w ms (Some b) reply.Done none = refl
 through_nothing w ms (Some b) (reply.Number n) none = refl
@@ -212,7 +212,7 @@ pub tells_nothing : (h : History) (e : Event) → ((fd count k : ℕ) → e.op �
 unfolding lines_of_entry
 tells_nothing h e none = ap (flat_map (piece_line h (length h.events + 1) (object_read h e.pid e.op))) (reads_nothing h e none)
 
-taken_none : (f : Frame) (b : Option Behind) (r : Reply) (hs : List (HoldingOf Marked)) → ((k : ℕ) → r ≡ reply.Bytes k → ⊥) → taken f b r hs ≡ hs
+taken_none : (f : Frame) (b : Option OpenFile) (r : Reply) (hs : List (HoldingOf Marked)) → ((k : ℕ) → r ≡ reply.Bytes k → ⊥) → taken f b r hs ≡ hs
 unfolding taken
 taken_none f (Some b) (reply.Bytes k) hs none = absurd (none k refl)
 taken_none f (Some b) reply.Done hs none = refl

@@ -10,7 +10,7 @@ use Rattle.ix_label.specs.Category.{Categories}
 use Rattle.ix_model.specs.laws.Sound.{Sound}
 use Rattle.ix_model.specs.world.World.{HoldingOf, at, is_pipe}
 use Rattle.ix_model.specs.world.Contents.{held_at, offset_of, on_side, side}
-use Rattle.ix_model.specs.rows.Walks.{Behind, behind}
+use Rattle.ix_model.specs.rows.Walks.{OpenFile, behind}
 use Rattle.ix_model.specs.history.Step.{step}
 use Rattle.ix_model.specs.history.Events.{Event}
 use Rattle.ix_model.specs.history.Events as op
@@ -81,8 +81,8 @@ module _ (h : History) (e : Event) (fd limit k : ℕ) (is : e.op ≡ op.ReadFd f
 
   -- ---- what the code is told
   -- what is told of the open entry afterwards
-  pub read_view : (v : Behind → OpenView) (view : OpenView) → ((b : Behind) → (v b).obj.0 ≡ b.entry.object) → ((b : Behind) → (v b).end ≡ b.entry.end)
-      → ((b : Behind) → (v b).at ≡ offset_of (world_of (with_entry h e)).content b.id)
+  pub read_view : (v : OpenFile → OpenView) (view : OpenView) → ((b : OpenFile) → (v b).obj.0 ≡ b.entry.object) → ((b : OpenFile) → (v b).end ≡ b.entry.end)
+      → ((b : OpenFile) → (v b).at ≡ offset_of (world_of (with_entry h e)).content b.id)
       → option_map v (behind (world_of (with_entry h e)).frame e.pid fd) ≡ Some view
       → (view.obj.0 ≡ o) × (view.end ≡ end) × (is_pipe r.object ≡ false → view.at - k ≡ offset_of (world_of h).content r.before.id)
   read_view v view object at_end offset told =
@@ -96,7 +96,7 @@ module _ (h : History) (e : Event) (fd limit k : ℕ) (is : e.op ≡ op.ReadFd f
             omega (arith, stands),
       )
 
-  pub read_opened : (v : Behind → OpenView) → option_map v (behind (world_of (with_entry h e)).frame e.pid fd) ≡ None → ⊥
+  pub read_opened : (v : OpenFile → OpenView) → option_map v (behind (world_of (with_entry h e)).frame e.pid fd) ≡ None → ⊥
   read_opened v none = let there : Some (v r.after) ≡ None = sym (ap (option_map v) r.is_after) ∙ none in absurd (cc)
 
   -- whether it is on a pipe afterwards

@@ -11,10 +11,10 @@ use Rattle.ix_model.specs.laws.Sound.{Sound}
 use Rattle.ix_model.specs.world.World.{World, Frame, Content, Object, at, is_pipe}
 use Rattle.ix_model.specs.world.Contents.{after_read, carried, change_side, readable, offset_of, on_pipe}
 use Rattle.ix_model.specs.rows.Outcomes.{Outcome, Refuse, Pass}
-use Rattle.ix_model.specs.rows.Walks.{Behind, behind}
+use Rattle.ix_model.specs.rows.Walks.{OpenFile, behind}
 use Rattle.ix_model.specs.rows.Table.{row, verdict}
 use Rattle.ix_model.specs.rows.Telling.{told}
-use Rattle.ix_model.specs.rows.OnDescriptors.{Told, read_fd}
+use Rattle.ix_model.specs.rows.OnDescriptors.{LengthChecks, read_fd}
 use Rattle.ix_model.specs.history.Step.{Given, answer, step, step_of, plainly, read_answer}
 use Rattle.ix_model.specs.history.Events.{Event}
 use Rattle.ix_model.specs.history.Freshness.{closes}
@@ -40,11 +40,11 @@ unfolding Ends
 ends_anyway (Refuse r g) Q holds = tt
 ends_anyway (Pass a g) Q holds = holds
 
-reads_behind : (t : Told) (pid fd count : ℕ) (f : Frame) → Ends (read_fd t pid fd count f) Anything (λ r g. is_some (behind f pid fd) ≡ true)
+reads_behind : (t : LengthChecks) (pid fd count : ℕ) (f : Frame) → Ends (read_fd t pid fd count f) Anything (λ r g. is_some (behind f pid fd) ≡ true)
 unfolding read_fd
 reads_behind t pid fd count f = ends_bind _ _ f Anything _ (ends_opened pid fd f Anything _ (λ e is. ends_anyway _ (is_some (behind f pid fd) ≡ true) (ap is_some is)) tt)
 
-reads_few : (t : Told) (pid fd count : ℕ) (f : Frame) → Ends (read_fd t pid fd count f) Anything (λ r g. nat_le count 4096 ≡ true)
+reads_few : (t : LengthChecks) (pid fd count : ℕ) (f : Frame) → Ends (read_fd t pid fd count f) Anything (λ r g. nat_le count 4096 ≡ true)
 unfolding read_fd
 reads_few t pid fd count f =
     let Q : Reply → Frame → Type 0 = λ r g. nat_le count 4096 ≡ true in
@@ -55,7 +55,7 @@ reads_few t pid fd count f =
     ends_then _ _ f Anything Q (ends_need _ _ f Anything _ (λ few. ends_anyway _ (nat_le count 4096 ≡ true) few) tt)) tt)) tt)) tt)) tt)
 
 -- a read that gives bytes has something behind its descriptor
-pub read_behind : (w : World) (place pid fd count k : ℕ) → (step w place pid (op.ReadFd fd count)).reply ≡ reply.Bytes k → (b : Behind) × (behind w.frame pid fd ≡ Some b)
+pub read_behind : (w : World) (place pid fd count k : ℕ) → (step w place pid (op.ReadFd fd count)).reply ≡ reply.Bytes k → (b : OpenFile) × (behind w.frame pid fd ≡ Some b)
 unfolding step answer row
 read_behind w place pid fd count k is =
     let t = told w pid (op.ReadFd fd count) in
@@ -65,12 +65,12 @@ read_behind w place pid fd count k is =
 
 -- ---- the offset
 -- what a read gives that says how much it gives, and what it leaves
-record Gave (w : World) (count : ℕ) (e : Behind) (g : Frame) (k : ℕ) (given : Given) : Type 0 where
+record Gave (w : World) (count : ℕ) (e : OpenFile) (g : Frame) (k : ℕ) (given : Given) : Type 0 where
   content : given.world.content ≡ after_read w.frame e k (carried w.frame g w.content)
   long : length given.bytes ≡ k
   few : k ≤ count
 
-gave : (w : World) (count : ℕ) (b : Option Behind) (e : Behind) (r : Reply) (g : Frame) (k : ℕ) → b ≡ Some e → (read_answer w count b r g).reply ≡ reply.Bytes k
+gave : (w : World) (count : ℕ) (b : Option OpenFile) (e : OpenFile) (r : Reply) (g : Frame) (k : ℕ) → b ≡ Some e → (read_answer w count b r g).reply ≡ reply.Bytes k
     → Gave w count e g k (read_answer w count b r g)
 unfolding read_answer plainly
 gave w count (Some c) e (reply.Bytes n) g k is gives =
@@ -95,7 +95,7 @@ gave w count (Some c) e (reply.Child p s) g k is gives = absurd (cc)
 gave w count (Some c) e (reply.No why) g k is gives = absurd (cc)
 gave w count None e r g k is gives = absurd (cc)
 
-step_gave : (w : World) (place pid fd count k : ℕ) (e : Behind) → (step w place pid (op.ReadFd fd count)).reply ≡ reply.Bytes k → behind w.frame pid fd ≡ Some e
+step_gave : (w : World) (place pid fd count k : ℕ) (e : OpenFile) → (step w place pid (op.ReadFd fd count)).reply ≡ reply.Bytes k → behind w.frame pid fd ≡ Some e
     → Gave w count e (verdict (told w pid (op.ReadFd fd count)) place pid (op.ReadFd fd count) w.frame).frame k (step w place pid (op.ReadFd fd count))
 unfolding step answer
 step_gave w place pid fd count k e gives is =
@@ -103,7 +103,7 @@ step_gave w place pid fd count k e gives is =
     gave w count (behind w.frame pid fd) e d.reply d.frame k is gives
 
 -- a read gives 4096 bytes at most
-pub read_few : (w : World) (place pid fd count k : ℕ) (e : Behind) → (step w place pid (op.ReadFd fd count)).reply ≡ reply.Bytes k → behind w.frame pid fd ≡ Some e → k ≤ 4096
+pub read_few : (w : World) (place pid fd count k : ℕ) (e : OpenFile) → (step w place pid (op.ReadFd fd count)).reply ≡ reply.Bytes k → behind w.frame pid fd ≡ Some e → k ≤ 4096
 unfolding step answer row
 read_few w place pid fd count k e is there =
     let t = told w pid (op.ReadFd fd count) in
@@ -113,13 +113,13 @@ read_few w place pid fd count k e is there =
     omega (arith, asked, (step_gave w place pid fd count k e is there).few)
 
 -- the content after a read that gives bytes
-step_content : (w : World) (place pid fd count k : ℕ) (e : Behind) → IsClean w → (step w place pid (op.ReadFd fd count)).reply ≡ reply.Bytes k → behind w.frame pid fd ≡ Some e
+step_content : (w : World) (place pid fd count k : ℕ) (e : OpenFile) → IsClean w → (step w place pid (op.ReadFd fd count)).reply ≡ reply.Bytes k → behind w.frame pid fd ≡ Some e
     → (step w place pid (op.ReadFd fd count)).world.content ≡ after_read w.frame e k w.content
 step_content w place pid fd count k e clean gives is = (step_gave w place pid fd count k e gives is).content
     ∙ ap (after_read w.frame e k) (carried_decided w (told w pid (op.ReadFd fd count)) place pid (op.ReadFd fd count) refl clean)
 
 -- a file's offset is past what was read
-read_offset : (f : Frame) (e : Behind) (k : ℕ) (c : Content) → on_pipe f e ≡ false → e.id < length c.offsets → offset_of (after_read f e k c) e.id ≡ offset_of c e.id + k
+read_offset : (f : Frame) (e : OpenFile) (k : ℕ) (c : Content) → on_pipe f e ≡ false → e.id < length c.offsets → offset_of (after_read f e k c) e.id ≡ offset_of c e.id + k
 unfolding after_read
 read_offset f e k c file inside = go (on_pipe f e) file
   where
@@ -146,9 +146,9 @@ pipe_of x y same = let one : x ≡ y = cc in ap (λ (z : Object). is_pipe z) one
 
 -- the open entry behind the descriptor of a read that gave bytes, before and after, with its object
 pub record Reading (h : History) (e : Event) (fd k : ℕ) : Type 0 where
-  pub before : Behind
+  pub before : OpenFile
   pub is_before : behind (world_of h).frame e.pid fd ≡ Some before
-  pub after : Behind
+  pub after : OpenFile
   pub is_after : behind (world_of (with_entry h e)).frame e.pid fd ≡ Some after
   pub id : after.id ≡ before.id
   pub on : after.entry.object ≡ before.entry.object
@@ -172,7 +172,7 @@ reading h e fd count k sound is gives =
     let last : ℕ = length h.events + 1 in
     let gives_there : (step w last e.pid (op.ReadFd fd count)).reply ≡ reply.Bytes k = ap (λ o. (step w last e.pid o).reply) (sym is) ∙ gives in
     let found = read_behind w last e.pid fd count k gives_there in
-    let b : Behind = found.0 in
+    let b : OpenFile = found.0 in
     let stays = descriptors_remain w last e e.pid fd b sound found.1 (ap (λ o. e.pid == e.pid && closes fd o (step_of w last e).reply) is ∙ and-false (e.pid == e.pid)) in
     let entry = behind_is f e.pid fd b found.1 in
     let standing = stands f b.id b.entry sound.opens entry in

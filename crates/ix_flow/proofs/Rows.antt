@@ -1,7 +1,7 @@
 -- What is known of labels where a read gave bytes, or a write told how many it wrote.
 use Rattle.std.proofs.Common.{◌≡◌, ℕ, true, List, Option, Some, refl, sym, ap, subst}
 use Rattle.ix_model.specs.world.World.{World, Frame}
-use Rattle.ix_model.specs.rows.Walks.{Behind, behind}
+use Rattle.ix_model.specs.rows.Walks.{OpenFile, behind}
 use Rattle.ix_model.specs.rows.Table.{row, verdict}
 use Rattle.ix_model.specs.rows.Telling.{told}
 use Rattle.ix_model.specs.history.AuditLog.{is_answer}
@@ -12,17 +12,17 @@ use Rattle.ix_model.specs.declared.reply.Reply.TheVariants as reply
 use Rattle.ix_model.proofs.words.Answered.{passed, step_frame}
 use Rattle.ix_iso.proofs.Facts.{ReadFacts, ReadKnown, read_known, WriteFacts, WriteKnown, write_known}
 
-pub read_answers : (w : World) (count : ℕ) (b : Option Behind) (r : Reply) (g : Frame) (k : ℕ) → (read_answer w count b r g).reply ≡ reply.Bytes k → is_answer r ≡ true
+pub read_answers : (w : World) (count : ℕ) (b : Option OpenFile) (r : Reply) (g : Frame) (k : ℕ) → (read_answer w count b r g).reply ≡ reply.Bytes k → is_answer r ≡ true
 unfolding read_answer plainly
 read_answers w count (Some e) (reply.Bytes n) g k is = refl
 read_answers w count _ r g k is = ap is_answer is
 
-pub write_answers : (w : World) (new : List ℕ) (b : Option Behind) (r : Reply) (g : Frame) (k : ℕ) → (write_answer w new b r g).reply ≡ reply.Number k → is_answer r ≡ true
+pub write_answers : (w : World) (new : List ℕ) (b : Option OpenFile) (r : Reply) (g : Frame) (k : ℕ) → (write_answer w new b r g).reply ≡ reply.Number k → is_answer r ≡ true
 unfolding write_answer plainly
 write_answers w new (Some e) (reply.Number n) g k is = refl
 write_answers w new _ r g k is = ap is_answer is
 
-pub read_step : (w : World) (place pid fd count k : ℕ) (e : Behind) → (step w place pid (op.ReadFd fd count)).reply ≡ reply.Bytes k → behind w.frame pid fd ≡ Some e
+pub read_step : (w : World) (place pid fd count k : ℕ) (e : OpenFile) → (step w place pid (op.ReadFd fd count)).reply ≡ reply.Bytes k → behind w.frame pid fd ≡ Some e
     → ReadFacts pid w.frame e (step w place pid (op.ReadFd fd count)).world.frame
 unfolding step answer row
 read_step w place pid fd count k e is there =
@@ -31,7 +31,7 @@ read_step w place pid fd count k e is there =
     subst (λ (g : Frame). ReadFacts pid w.frame e g) (sym (step_frame w place pid (op.ReadFd fd count)))
     (passed t place pid (op.ReadFd fd count) w.frame (ReadKnown pid fd w.frame) (read_known t pid fd count w.frame) passes e there)
 
-pub write_step : (w : World) (place pid fd : ℕ) (bytes : List ℕ) (k : ℕ) (e : Behind) → (step w place pid (op.WriteFd fd bytes)).reply ≡ reply.Number k → behind w.frame pid fd ≡ Some e
+pub write_step : (w : World) (place pid fd : ℕ) (bytes : List ℕ) (k : ℕ) (e : OpenFile) → (step w place pid (op.WriteFd fd bytes)).reply ≡ reply.Number k → behind w.frame pid fd ≡ Some e
     → WriteFacts pid w.frame e (step w place pid (op.WriteFd fd bytes)).world.frame
 unfolding step answer row
 write_step w place pid fd bytes k e is there =

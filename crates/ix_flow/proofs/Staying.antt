@@ -8,7 +8,7 @@ use Rattle.ix_label.specs.Category.{Categories, bottom, leq}
 use Rattle.ix_label.specs.Lattice.{leq-refl, leq-trans}
 use Rattle.ix_model.specs.world.World.{World, Frame, Object, Process, HoldingOf, Holding, at}
 use Rattle.ix_model.specs.world.Contents.{held_at, offset_of, on_pipe, side}
-use Rattle.ix_model.specs.rows.Walks.{Behind, behind}
+use Rattle.ix_model.specs.rows.Walks.{OpenFile, behind}
 use Rattle.ix_model.specs.opening.Opening.{opening_world}
 use Rattle.ix_model.specs.history.AuditLog.{audit_log, label_at, of_process}
 use Rattle.ix_model.specs.history.Step.{step}
@@ -148,7 +148,7 @@ module _ (h : History) (e : Event) where
   known_next o x y is here m known = record { past = past_next m.origin known.past; accounted = accounted_next o x y m.origin is here known.past known.accounted }
 
   -- ---- what is written
-  written_known : (c : Op) (fd : ℕ) (bytes : List ℕ) (b : Behind) (k : ℕ) → c ≡ op.WriteFd fd bytes → behind f e.pid fd ≡ Some b → (step (world_of h) last e.pid c).reply ≡ reply.Number k
+  written_known : (c : Op) (fd : ℕ) (bytes : List ℕ) (b : OpenFile) (k : ℕ) → c ≡ op.WriteFd fd bytes → behind f e.pid fd ≡ Some b → (step (world_of h) last e.pid c).reply ≡ reply.Number k
       → WriteFacts e.pid f b (step (world_of h) last e.pid c).world.frame
   written_known c fd bytes b k is there answers = subst (λ (o : Op). (step (world_of h) last e.pid o).reply ≡ reply.Number k → WriteFacts e.pid f b (step (world_of h) last e.pid o).world.frame)
       (sym is) (λ r. write_step (world_of h) last e.pid fd bytes k b r there) answers
@@ -161,7 +161,7 @@ module _ (h : History) (e : Event) where
   unfolding via
   via_new o b = let many = length-append h.events (e ∷ []) in none_later (opening_world h.config) 1 more.events o last (omega (arith, many))
 
-  known_new : (fd : ℕ) (bytes : List ℕ) (b : Behind) (k o : ℕ) (y : Object) → e.op ≡ op.WriteFd fd bytes → behind f e.pid fd ≡ Some b → (next h e).reply ≡ reply.Number k → b.entry.object ≡ o
+  known_new : (fd : ℕ) (bytes : List ℕ) (b : OpenFile) (k o : ℕ) (y : Object) → e.op ≡ op.WriteFd fd bytes → behind f e.pid fd ≡ Some b → (next h e).reply ≡ reply.Number k → b.entry.object ≡ o
       → at g.objects o ≡ Some y
       → All (Known more o y.label) (marked_from (Written last) 0 (bytes_written e.op))
   known_new fd bytes b k o y is there answers same here =
@@ -245,7 +245,7 @@ seen_below h o a b rises m known = go m.origin known.accounted
     go origin (LetDown p down log) = LetDown p down log
     go origin (OfGap gap) = OfGap gap
 
-read_below : (h : History) (pid fd count : ℕ) (b : Behind) (r : Reply) → (step (world_of h) (length h.events + 1) pid (op.ReadFd fd count)).reply ≡ r → behind (world_of h).frame pid fd ≡ Some b
+read_below : (h : History) (pid fd count : ℕ) (b : OpenFile) (r : Reply) → (step (world_of h) (length h.events + 1) pid (op.ReadFd fd count)).reply ≡ r → behind (world_of h).frame pid fd ≡ Some b
     → All (λ (m : Marked). IsAccountedFor h b.entry.object (of_process (λ p. p.label) bottom (step (world_of h) (length h.events + 1) pid (op.ReadFd fd count)).world.frame pid) m.origin)
     (read_through (world_of h) (marks_of h) (Some b) r)
 read_below h pid fd count b (reply.Bytes k) answers is =
@@ -259,7 +259,7 @@ read_below h pid fd count b (reply.Bytes k) answers is =
     (all_more (seen_below h b.entry.object facts.object.label (of_process (λ p. p.label) bottom g pid) rises) _ (on_one_side (Known h b.entry.object facts.object.label) b.entry.end _ known)))
 read_below h pid fd count b r answers is = All-nil _
 
-pub marks_read_is : (h : History) (e : Event) (fd count : ℕ) (b : Behind) → e.op ≡ op.ReadFd fd count → behind (world_of h).frame e.pid fd ≡ Some b
+pub marks_read_is : (h : History) (e : Event) (fd count : ℕ) (b : OpenFile) → e.op ≡ op.ReadFd fd count → behind (world_of h).frame e.pid fd ≡ Some b
     → marks_read h e ≡ read_through (world_of h) (marks_of h) (Some b) (next h e).reply
 unfolding read_by
 marks_read_is h e fd count b is there = ap (λ o. read_by (world_of h) (marks_of h) e.pid o (next h e)) is ∙ ap (λ s. read_through (world_of h) (marks_of h) s (next h e).reply) there

@@ -6,7 +6,7 @@ use Rattle.std.proofs.lemmas.List.{length-map}
 use Rattle.ix_model.specs.laws.Sound.{Sound}
 use Rattle.ix_model.specs.world.World.{World, Frame, HoldingOf, Object, Process, at, is_pipe}
 use Rattle.ix_model.specs.world.Contents.{kept, nothing_held, offset_of, on_pipe}
-use Rattle.ix_model.specs.rows.Walks.{Behind, behind}
+use Rattle.ix_model.specs.rows.Walks.{OpenFile, behind}
 use Rattle.ix_model.specs.history.Freshness.{closes}
 use Rattle.ix_model.specs.history.Events.{Event}
 use Rattle.ix_model.specs.history.History.{History, world_of, next, with_entry}
@@ -36,8 +36,8 @@ kept_long h e sound =
     ∙ sound.lengths.holdings
 
 -- the open entry behind the descriptor, before and after, with its object
-pub record Through (h : History) (e : Event) (fd : ℕ) (b : Behind) : Type 0 where
-  pub after : Behind
+pub record Through (h : History) (e : Event) (fd : ℕ) (b : OpenFile) : Type 0 where
+  pub after : OpenFile
   pub is_after : behind (world_of (with_entry h e)).frame e.pid fd ≡ Some after
   pub id : after.id ≡ b.id
   pub on : after.entry.object ≡ b.entry.object
@@ -53,7 +53,7 @@ pub record Through (h : History) (e : Event) (fd : ℕ) (b : Behind) : Type 0 wh
   pub is_caller : at (world_of (with_entry h e)).frame.processes e.pid ≡ Some caller
   pub opened : b.id < length (world_of h).frame.opens
 
-pub through : (h : History) (e : Event) (fd : ℕ) (b : Behind) → Sound (world_of h) → behind (world_of h).frame e.pid fd ≡ Some b → closes fd e.op (next h e).reply ≡ false → Through h e fd b
+pub through : (h : History) (e : Event) (fd : ℕ) (b : OpenFile) → Sound (world_of h) → behind (world_of h).frame e.pid fd ≡ Some b → closes fd e.op (next h e).reply ≡ false → Through h e fd b
 through h e fd b sound found kept =
     let w : World = world_of h in
     let f : Frame = w.frame in
@@ -83,14 +83,14 @@ through h e fd b sound found kept =
       opened = in_table f.opens b.id b.entry entry;
     }
 
-module _ (h : History) (e : Event) (fd : ℕ) (b : Behind) (r : Through h e fd b) where
+module _ (h : History) (e : Event) (fd : ℕ) (b : OpenFile) (r : Through h e fd b) where
   -- the end of an object that it is on
   pub has_end : (piped : Bool) → is_pipe r.object ≡ piped → (end : ℕ) → end < 2 → HasEnd (with_entry h e) (kept_marks h e) b.entry.object end piped
   has_end piped kind end near = record { object = r.object; there = r.is_object; kind = kind; within = near; inside = r.inside }
 
   -- what is told of the open entry afterwards
-  pub viewed : (v : Behind → OpenView) (view : OpenView) → ((c : Behind) → (v c).obj.0 ≡ c.entry.object) → ((c : Behind) → (v c).end ≡ c.entry.end)
-      → ((c : Behind) → (v c).at ≡ offset_of (world_of (with_entry h e)).content c.id)
+  pub viewed : (v : OpenFile → OpenView) (view : OpenView) → ((c : OpenFile) → (v c).obj.0 ≡ c.entry.object) → ((c : OpenFile) → (v c).end ≡ c.entry.end)
+      → ((c : OpenFile) → (v c).at ≡ offset_of (world_of (with_entry h e)).content c.id)
       → option_map v (behind (world_of (with_entry h e)).frame e.pid fd) ≡ Some view
       → (view.obj.0 ≡ b.entry.object) × (view.end ≡ b.entry.end) × (view.at ≡ offset_of (world_of (with_entry h e)).content b.id)
   viewed v view object at_end offset told =
@@ -101,7 +101,7 @@ module _ (h : History) (e : Event) (fd : ℕ) (b : Behind) (r : Through h e fd b
         ap (λ (x : OpenView). x.at) (sym one) ∙ offset r.after ∙ ap (offset_of (world_of (with_entry h e)).content) r.id,
       )
 
-  pub not_opened : (v : Behind → OpenView) → option_map v (behind (world_of (with_entry h e)).frame e.pid fd) ≡ None → ⊥
+  pub not_opened : (v : OpenFile → OpenView) → option_map v (behind (world_of (with_entry h e)).frame e.pid fd) ≡ None → ⊥
   not_opened v none = let there : Some (v r.after) ≡ None = sym (ap (option_map v) r.is_after) ∙ none in absurd (cc)
 
   -- whether it is on a pipe afterwards

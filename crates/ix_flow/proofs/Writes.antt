@@ -7,8 +7,8 @@ use Rattle.std.proofs.lemmas.List.{get_or-set_same}
 use Rattle.ix_label.specs.Category.{Categories, bottom}
 use Rattle.ix_model.specs.world.World.{World, Frame, Content, HoldingOf, Process, at, is_pipe}
 use Rattle.ix_model.specs.world.Contents.{after_write, carried, change_side, offset_of, on_pipe, on_side, spliced, written_over}
-use Rattle.ix_model.specs.rows.Walks.{Behind, behind}
-use Rattle.ix_model.specs.rows.OnDescriptors.{Told, write_fd}
+use Rattle.ix_model.specs.rows.Walks.{OpenFile, behind}
+use Rattle.ix_model.specs.rows.OnDescriptors.{LengthChecks, write_fd}
 use Rattle.ix_model.specs.rows.Table.{row, verdict}
 use Rattle.ix_model.specs.rows.Telling.{told}
 use Rattle.ix_model.specs.history.AuditLog.{of_process}
@@ -44,11 +44,11 @@ use Rattle.ix_flow.proofs.Staying.{label_new, marks_next}
 use Rattle.ix_flow.proofs.Through.{Through, has_end, kept_marks, not_opened, on_pipe_after, through, viewed}
 
 -- ---- what stands behind the descriptor
-writes_behind : (t : Told) (pid fd : ℕ) (f : Frame) → Ends (write_fd t pid fd f) Anything (λ r g. is_some (behind f pid fd) ≡ true)
+writes_behind : (t : LengthChecks) (pid fd : ℕ) (f : Frame) → Ends (write_fd t pid fd f) Anything (λ r g. is_some (behind f pid fd) ≡ true)
 unfolding write_fd
 writes_behind t pid fd f = ends_bind _ _ f Anything _ (ends_opened pid fd f Anything _ (λ e is. ends_anyway _ (is_some (behind f pid fd) ≡ true) (ap is_some is)) tt)
 
-pub write_behind : (w : World) (place pid fd : ℕ) (bytes : List ℕ) (k : ℕ) → (step w place pid (op.WriteFd fd bytes)).reply ≡ reply.Number k → (b : Behind) × (behind w.frame pid fd ≡ Some b)
+pub write_behind : (w : World) (place pid fd : ℕ) (bytes : List ℕ) (k : ℕ) → (step w place pid (op.WriteFd fd bytes)).reply ≡ reply.Number k → (b : OpenFile) × (behind w.frame pid fd ≡ Some b)
 unfolding step answer row
 write_behind w place pid fd bytes k is =
     let t = told w pid (op.WriteFd fd bytes) in
@@ -57,7 +57,7 @@ write_behind w place pid fd bytes k is =
     (write_answers w bytes (behind w.frame pid fd) d.reply d.frame k is))
 
 -- ---- the offset
-wrote : (w : World) (new : List ℕ) (b : Option Behind) (e : Behind) (r : Reply) (g : Frame) (k : ℕ) → b ≡ Some e → (write_answer w new b r g).reply ≡ reply.Number k
+wrote : (w : World) (new : List ℕ) (b : Option OpenFile) (e : OpenFile) (r : Reply) (g : Frame) (k : ℕ) → b ≡ Some e → (write_answer w new b r g).reply ≡ reply.Number k
     → (write_answer w new b r g).world.content ≡ after_write w.frame e new (carried w.frame g w.content)
 unfolding write_answer plainly
 wrote w new (Some c) e (reply.Number n) g k is gives = let one : c ≡ e = cc in ap (λ x. after_write w.frame x new (carried w.frame g w.content)) one
@@ -74,7 +74,7 @@ wrote w new (Some c) e (reply.Child p s) g k is gives = absurd (cc)
 wrote w new (Some c) e (reply.No why) g k is gives = absurd (cc)
 wrote w new None e r g k is gives = absurd (cc)
 
-step_wrote : (w : World) (place pid fd : ℕ) (bytes : List ℕ) (k : ℕ) (e : Behind) → (step w place pid (op.WriteFd fd bytes)).reply ≡ reply.Number k → behind w.frame pid fd ≡ Some e
+step_wrote : (w : World) (place pid fd : ℕ) (bytes : List ℕ) (k : ℕ) (e : OpenFile) → (step w place pid (op.WriteFd fd bytes)).reply ≡ reply.Number k → behind w.frame pid fd ≡ Some e
     → (step w place pid (op.WriteFd fd bytes)).world.content ≡ after_write w.frame e bytes (carried w.frame (step w place pid (op.WriteFd fd bytes)).world.frame w.content)
 unfolding step answer
 step_wrote w place pid fd bytes k e gives is =
@@ -82,7 +82,7 @@ step_wrote w place pid fd bytes k e gives is =
     wrote w bytes (behind w.frame pid fd) e d.reply d.frame k is gives ∙ ap (λ g. after_write w.frame e bytes (carried w.frame g w.content)) (sym (step_frame w place pid (op.WriteFd fd bytes)))
 
 -- a file's offset is past what was written
-write_offset : (f : Frame) (e : Behind) (new : List ℕ) (c : Content) → on_pipe f e ≡ false → e.id < length c.offsets → offset_of (after_write f e new c) e.id ≡ offset_of c e.id + length new
+write_offset : (f : Frame) (e : OpenFile) (new : List ℕ) (c : Content) → on_pipe f e ≡ false → e.id < length c.offsets → offset_of (after_write f e new c) e.id ≡ offset_of c e.id + length new
 unfolding after_write
 write_offset f e new c file inside = go (on_pipe f e) file
   where
@@ -96,7 +96,7 @@ unfolding carried
 carried_offsets f g c = length-keep 0 (λ e. is_some (at f.opens e) && is_some (at g.opens e)) 0 c.offsets
 
 -- ---- what is held
-put_none : (f : Frame) (c : Content) (new : List Marked) (b : Option Behind) (r : Reply) (hs : List (HoldingOf Marked)) → ((k : ℕ) → r ≡ reply.Number k → ⊥) → put_there gap_mark f c new b r hs ≡ hs
+put_none : (f : Frame) (c : Content) (new : List Marked) (b : Option OpenFile) (r : Reply) (hs : List (HoldingOf Marked)) → ((k : ℕ) → r ≡ reply.Number k → ⊥) → put_there gap_mark f c new b r hs ≡ hs
 unfolding put_there
 put_none f c new (Some b) (reply.Number k) hs other = absurd (other k refl)
 put_none f c new (Some b) reply.Done hs other = refl
@@ -142,16 +142,16 @@ module _ (h : History) (seat line pid fd : ℕ) (bytes : List ℕ) where
       (marks_write ∙ put_none (world_of h).frame before new (behind (world_of h).frame pid fd) (next h e).reply (kept_marks h e) other)
 
   module _ (t : Tracks) (are : AreTracks t h) (k : ℕ) (done : (next h e).reply ≡ reply.Number k) where
-    abbrev found : (b : Behind) × (behind (world_of h).frame pid fd ≡ Some b)
+    abbrev found : (b : OpenFile) × (behind (world_of h).frame pid fd ≡ Some b)
     found = write_behind (world_of h) last pid fd bytes k done
 
-    abbrev b : Behind
+    abbrev b : OpenFile
     b = found.0
 
     abbrev r : Through h e fd b
     r = through h e fd b are.sound found.1 refl
 
-    pub write_opened : (v : Behind → OpenView) → option_map v (behind (world_of (with_entry h e)).frame pid fd) ≡ None → ⊥
+    pub write_opened : (v : OpenFile → OpenView) → option_map v (behind (world_of (with_entry h e)).frame pid fd) ≡ None → ⊥
     write_opened v none = not_opened h e fd b r v none
 
     pub write_living : option_map shown_of (at (world_of (with_entry h e)).frame.processes pid) ≡ None → ⊥
@@ -191,9 +191,9 @@ module _ (h : History) (seat line pid fd : ℕ) (bytes : List ℕ) where
         ∙ write_offset (world_of h).frame b bytes before (r.piped ∙ file) inside
 
     -- ---- what the code makes of it
-    module _ (few : length (with_entry h e).events ≤ 6800000) (view : OpenView) (v : Behind → OpenView) (object : (c : Behind) → (v c).obj.0 ≡ c.entry.object)
-        (at_end : (c : Behind) → (v c).end ≡ c.entry.end)
-        (offset : (c : Behind) → (v c).at ≡ offset_of (world_of (with_entry h e)).content c.id) (seen_as : option_map v (behind (world_of (with_entry h e)).frame pid fd) ≡ Some view)
+    module _ (few : length (with_entry h e).events ≤ 6800000) (view : OpenView) (v : OpenFile → OpenView) (object : (c : OpenFile) → (v c).obj.0 ≡ c.entry.object)
+        (at_end : (c : OpenFile) → (v c).end ≡ c.entry.end)
+        (offset : (c : OpenFile) → (v c).at ≡ offset_of (world_of (with_entry h e)).content c.id) (seen_as : option_map v (behind (world_of (with_entry h e)).frame pid fd) ≡ Some view)
         (writer : ProcView) (seen_by : option_map shown_of (at (world_of (with_entry h e)).frame.processes pid) ≡ Some writer)
         (labels : Labels) (stays : (n : ℕ) (l : Categories) → slice_get t.labels.all.items n ≡ Some l → slice_get labels.all.items n ≡ Some l)
         (place label count : ℕ) (at_last : place ≡ last) (is_label : slice_get labels.all.items label ≡ Some writer.label) (is_count : count ≡ length bytes)

@@ -4,7 +4,7 @@ use Rattle.ix_label.specs.Category.{Categories, bottom, leq}
 use Rattle.ix_model.specs.world.World.{Object, at}
 use Rattle.ix_model.specs.world.Contents.{held_at}
 use Rattle.ix_model.specs.rows.Auditing.{audit_line}
-use Rattle.ix_model.specs.rows.Walks.{Behind, behind}
+use Rattle.ix_model.specs.rows.Walks.{OpenFile, behind}
 use Rattle.ix_model.specs.history.AuditLog.{of_process}
 use Rattle.ix_model.specs.history.Events.{Event}
 use Rattle.ix_model.specs.history.Events as op
@@ -52,7 +52,7 @@ OriginsAreBelow = (h : History) → OriginsStayBelow h
 
 -- each origin that was read is at or below the reader's label after the read, or the object that was read was let down since
 abbrev pub ReadersAreAbove : Type 0
-ReadersAreAbove = (h : History) (e : Event) (fd count : ℕ) (b : Behind) → e.op ≡ op.ReadFd fd count → behind (world_of h).frame e.pid fd ≡ Some b →
+ReadersAreAbove = (h : History) (e : Event) (fd count : ℕ) (b : OpenFile) → e.op ≡ op.ReadFd fd count → behind (world_of h).frame e.pid fd ≡ Some b →
     All (λ (m : Marked). IsAccountedFor h b.entry.object (of_process (λ p. p.label) bottom (next h e).world.frame e.pid) m.origin) (marks_read h e)
 
 -- ---- lines

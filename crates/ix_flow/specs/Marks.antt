@@ -2,7 +2,7 @@
 use Rattle.std.specs.Prelude.{ℕ, suc, List, [], ◌∷◌, take, Option, Some}
 use Rattle.ix_model.specs.world.World.{World, HoldingOf, Holding}
 use Rattle.ix_model.specs.world.Contents.{offset_of, readable_in}
-use Rattle.ix_model.specs.rows.Walks.{Behind, behind}
+use Rattle.ix_model.specs.rows.Walks.{OpenFile, behind}
 use Rattle.ix_model.specs.opening.Opening.{opening_world}
 use Rattle.ix_model.specs.history.Step.{Given, step_of}
 use Rattle.ix_model.specs.history.Events.{Op, Event}
@@ -42,7 +42,7 @@ marks_of h = marks_from (opening_world h.config) 1 h.events (opening_marks h.con
 
 -- ---- what is read
 -- a read that gave bytes gave those at the front of what there is to read
-abbrev pub read_through : World → List (HoldingOf Marked) → Option Behind → Reply → List Marked
+abbrev pub read_through : World → List (HoldingOf Marked) → Option OpenFile → Reply → List Marked
 read_through w ms (Some e) (reply.Bytes k) = take k (readable_in w.frame (offset_of w.content e.id) e ms)
 read_through w ms _ r = []
 

@@ -4,7 +4,7 @@ use Rattle.std.proofs.lemmas.Bool.{and_parts, and_right, or_cases, eqb-true, not
 use Rattle.ix_label.specs.Category.{Categories, bottom, leq, same}
 use Rattle.ix_label.specs.Lattice.{same-decides, join-least}
 use Rattle.ix_model.specs.world.World.{World, Frame, Open, at, is_pipe}
-use Rattle.ix_model.specs.rows.Walks.{Behind, behind}
+use Rattle.ix_model.specs.rows.Walks.{OpenFile, behind}
 use Rattle.ix_model.specs.rows.Telling.{told}
 use Rattle.ix_model.specs.rows.Table.{row}
 use Rattle.ix_model.specs.history.AuditLog.{label_at, of_process, is_answer}
@@ -25,13 +25,13 @@ use Rattle.ix_fresh.proofs.Through.{ReadFacts, WriteFacts, read_known, write_kno
 use Rattle.ix_fresh.proofs.Remaining.{Remains, remains, process_label, object_label, entry_label, labels_stay_but}
 
 -- ---- what a refreshing call leaves known
-read_answered : (w : World) (count : ℕ) (b : Option Behind) (r : Reply) (g : Frame) (k : ℕ) → (read_answer w count b r g).reply ≡ reply.Bytes k → is_answer r ≡ true
+read_answered : (w : World) (count : ℕ) (b : Option OpenFile) (r : Reply) (g : Frame) (k : ℕ) → (read_answer w count b r g).reply ≡ reply.Bytes k → is_answer r ≡ true
 unfolding read_answer plainly
 read_answered w count (Some e) (reply.No why) g k h = cc
 read_answered w count None (reply.No why) g k h = cc
 read_answered w count b r g k h = refl
 
-write_answered : (w : World) (new : List ℕ) (b : Option Behind) (r : Reply) (g : Frame) (k : ℕ) → (write_answer w new b r g).reply ≡ reply.Number k → is_answer r ≡ true
+write_answered : (w : World) (new : List ℕ) (b : Option OpenFile) (r : Reply) (g : Frame) (k : ℕ) → (write_answer w new b r g).reply ≡ reply.Number k → is_answer r ≡ true
 unfolding write_answer plainly
 write_answered w new (Some e) (reply.No why) g k h = cc
 write_answered w new None (reply.No why) g k h = cc
@@ -52,7 +52,7 @@ module _ (w : World) (place pid : ℕ) where
       subst (λ (g : Frame). WriteFacts pid fd w.frame g) (sym (step_frame w place pid (op.WriteFd fd bytes)))
       (passed t place pid (op.WriteFd fd bytes) w.frame (λ r g. WriteFacts pid fd w.frame g) (write_known t pid fd w.frame) (write_answered w bytes (behind w.frame pid fd) _ _ k h))
 
-place_of : {to through : Option ℕ} {b : Behind} {f g : Frame} {pid fd : ℕ} (r : Remains to through b f g pid fd) → r.entry.object ≡ b.entry.object
+place_of : {to through : Option ℕ} {b : OpenFile} {f g : Frame} {pid fd : ℕ} (r : Remains to through b f g pid fd) → r.entry.object ≡ b.entry.object
 place_of r = ap (λ (z : Open). z.object) r.same_entry.plain
 
 module _ (w : World) (s : Sound w) (place : ℕ) (seat line pid : ℕ) where
@@ -119,8 +119,8 @@ module _ (w : World) (s : Sound w) (place : ℕ) (e : Event) where
   after = (step_of w place e).world.frame
 
   -- whether the labels of a descriptor that stands were changed, by its numbers
-  relabels_there : (pid fd : ℕ) (b : Behind) → behind w.frame pid fd ≡ Some b → relabels w.frame after pid fd ≡ not (same (of_process (λ p. p.label) bottom w.frame pid) (of_process (λ p. p.label) bottom after pid) && same (label_at w.frame (Some b.entry.object)) (label_at after (Some b.entry.object)) && same (label_of_entry w.frame (Some b.id)) (label_of_entry after (Some b.id)))
-  relabels_there pid fd b is = ap (λ (x : Option Behind). not (same (of_process (λ p. p.label) bottom w.frame pid) (of_process (λ p. p.label) bottom after pid) && same (label_at w.frame (option_map (λ y. y.entry.object) x)) (label_at after (option_map (λ y. y.entry.object) x)) && same (label_through w.frame x) (label_through after x))) is
+  relabels_there : (pid fd : ℕ) (b : OpenFile) → behind w.frame pid fd ≡ Some b → relabels w.frame after pid fd ≡ not (same (of_process (λ p. p.label) bottom w.frame pid) (of_process (λ p. p.label) bottom after pid) && same (label_at w.frame (Some b.entry.object)) (label_at after (Some b.entry.object)) && same (label_of_entry w.frame (Some b.id)) (label_of_entry after (Some b.id)))
+  relabels_there pid fd b is = ap (λ (x : Option OpenFile). not (same (of_process (λ p. p.label) bottom w.frame pid) (of_process (λ p. p.label) bottom after pid) && same (label_at w.frame (option_map (λ y. y.entry.object) x)) (label_at after (option_map (λ y. y.entry.object) x)) && same (label_through w.frame x) (label_through after x))) is
 
   stays_known : (way : Way) (pid fd : ℕ) → is_closed w place e pid fd ≡ false → relabels w.frame after pid fd ≡ false → Known way w.frame pid fd → Known way after pid fd
   stays_known way pid fd kept still k =
@@ -188,7 +188,7 @@ module _ (w : World) (s : Sound w) (place : ℕ) (e : Event) where
   abbrev next : Frame
   next = (step_of w place e).world.frame
 
-  pub relabels_as_touched : (pid fd : ℕ) (b : Behind) → behind w.frame pid fd ≡ Some b → is_closed w place e pid fd ≡ false → relabels w.frame next pid fd ≡ touches w.frame e next pid (Some b.entry.object) (Some b.id)
+  pub relabels_as_touched : (pid fd : ℕ) (b : OpenFile) → behind w.frame pid fd ≡ Some b → is_closed w place e pid fd ≡ false → relabels w.frame next pid fd ≡ touches w.frame e next pid (Some b.entry.object) (Some b.id)
   relabels_as_touched pid fd b is kept =
       let l = labels_stay_but w s place e pid fd b is kept in
       let t = target w.frame e.pid e.op in
@@ -203,7 +203,7 @@ module _ (w : World) (s : Sound w) (place : ℕ) (e : Event) where
       ∙ not_all _ _ _
       ∙ (λ i. process i || object i || entry i)
 
-  stays_fresh : (pid fd : ℕ) (b : Option Behind) → behind w.frame pid fd ≡ b → (was : Bool) → (was ≡ true → is_some b ≡ true) → (closed : Bool) → is_closed w place e pid fd ≡ closed → (was && not closed && not (relabels w.frame next pid fd)) ≡ (was && not closed && not (touches w.frame e next pid (option_map (λ y. y.entry.object) b) (option_map (λ y. y.id) b)))
+  stays_fresh : (pid fd : ℕ) (b : Option OpenFile) → behind w.frame pid fd ≡ b → (was : Bool) → (was ≡ true → is_some b ≡ true) → (closed : Bool) → is_closed w place e pid fd ≡ closed → (was && not closed && not (relabels w.frame next pid fd)) ≡ (was && not closed && not (touches w.frame e next pid (option_map (λ y. y.entry.object) b) (option_map (λ y. y.id) b)))
   stays_fresh pid fd b is false there closed shut = refl
   stays_fresh pid fd b is true there true shut = refl
   stays_fresh pid fd None is true there false shut = absurd (true≢false (sym (there refl)))

@@ -3,7 +3,7 @@ use Rattle.std.proofs.Common.{◌≡◌, ◌==◌, ◌&&◌, ℕ, Bool, true, fa
 use Rattle.ix_model.specs.rows.Refusals.{keeps_label}
 use Rattle.ix_model.specs.world.World.{World, Frame, lives}
 use Rattle.ix_model.specs.rows.Outcomes.{Outcome, Refuse, Pass}
-use Rattle.ix_model.specs.rows.OnDescriptors.{Told, close_fd}
+use Rattle.ix_model.specs.rows.OnDescriptors.{LengthChecks, close_fd}
 use Rattle.ix_model.specs.rows.OnProcesses.{exit}
 use Rattle.ix_model.specs.rows.Table.{Decision, row, settled, verdict}
 use Rattle.ix_model.specs.rows.Telling.{told}
@@ -54,7 +54,7 @@ unfolding Ends
 ends_all (Refuse r g) Q h = tt
 ends_all (Pass a g) Q h = h a g
 
-row_gives : (t : Told) (place pid : ℕ) (c : Op) (f : Frame) → Ends (row t place pid c f) Anything (λ a g. Gives c a)
+row_gives : (t : LengthChecks) (place pid : ℕ) (c : Op) (f : Frame) → Ends (row t place pid c f) Anything (λ a g. Gives c a)
 unfolding row
 row_gives t place pid (op.CloseFd fd) f = close_gives pid fd f
 row_gives t place pid (op.Exit status) f = exit_gives pid status f
@@ -86,7 +86,7 @@ module _ (f : Frame) (pid : ℕ) (c : Op) where
     opens = k.opens;
   }
 
-decided_kept : (t : Told) (place pid : ℕ) (c : Op) (f : Frame) → KeptAs f pid c (verdict t place pid c f).reply (verdict t place pid c f).frame
+decided_kept : (t : LengthChecks) (place pid : ℕ) (c : Op) (f : Frame) → KeptAs f pid c (verdict t place pid c f).reply (verdict t place pid c f).frame
 unfolding verdict
 decided_kept t place pid c f = go (lives f pid)
   where

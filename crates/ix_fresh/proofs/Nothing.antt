@@ -6,7 +6,7 @@ use Rattle.ix_model.specs.world.World.{Frame, Object, Process, Open, at, living,
 use Rattle.ix_model.specs.rows.Outcomes.{Pass}
 use Rattle.ix_model.specs.rows.Rows.{observe, affect, change_open, only_if}
 use Rattle.ix_model.specs.rows.Rows as rows
-use Rattle.ix_model.specs.rows.Walks.{Behind}
+use Rattle.ix_model.specs.rows.Walks.{OpenFile}
 use Rattle.ix_model.specs.rows.OnDescriptors.{float_entry}
 use Rattle.ix_model.specs.history.Freshness.{Way, Reading, Writing}
 use Rattle.ix_model.proofs.tables.Tables.{change_same}
@@ -25,7 +25,7 @@ affects_nothing : (f : Frame) (pid o : ℕ) (p : Process) (x : Object) (through 
 unfolding affect rows.◌>>=◌ rows.on_pass rows.process rows.object rows.frame rows.some rows.only_if rows.pass
 affects_nothing f pid o p x through lives is low = rw (lives, is, adds_nothing (join p.label through) x.label low) refl
 
-floats_nothing : (f : Frame) (p : Process) (x : Object) (b : Behind) → at f.opens b.id ≡ Some b.entry → (is_pipe x ≡ false → leq p.label b.entry.label ≡ true) → float_entry p x b f ≡ Pass tt f
+floats_nothing : (f : Frame) (p : Process) (x : Object) (b : OpenFile) → at f.opens b.id ≡ Some b.entry → (is_pipe x ≡ false → leq p.label b.entry.label ≡ true) → float_entry p x b f ≡ Pass tt f
 unfolding float_entry rows.only_if rows.pass rows.change_open
 floats_nothing f p x b is taken = go (is_pipe x) taken
   where

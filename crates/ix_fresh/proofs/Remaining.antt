@@ -5,7 +5,7 @@ use Rattle.std.proofs.lemmas.Bool.{not-true, eq-eqb}
 use Rattle.std.proofs.lemmas.Bool.Decides.{eqb_tells}
 use Rattle.ix_label.specs.Category.{bottom}
 use Rattle.ix_model.specs.world.World.{World, Frame, Object, Process, Open, at, living, is_dir}
-use Rattle.ix_model.specs.rows.Walks.{Behind, behind, behind_of, entry_at}
+use Rattle.ix_model.specs.rows.Walks.{OpenFile, behind, behind_of, entry_at}
 use Rattle.ix_model.specs.history.Step.{step_of}
 use Rattle.ix_model.specs.history.AuditLog.{label_at, of_process}
 use Rattle.ix_model.specs.history.Freshness.{closes}
@@ -33,7 +33,7 @@ turned n m = elim (eqb_tells n m) [
 ]
 
 -- the process, the open entry and the object, before and after
-pub record Remains (to through : Option ℕ) (b : Behind) (f g : Frame) (pid fd : ℕ) : Type 0 where
+pub record Remains (to through : Option ℕ) (b : OpenFile) (f g : Frame) (pid fd : ℕ) : Type 0 where
   pub caller : Process
   pub lived : living (at f.processes pid) ≡ Some caller
   pub process : Process
@@ -52,13 +52,13 @@ pub record Remains (to through : Option ℕ) (b : Behind) (f g : Frame) (pid fd 
 
 seen_behind : (g : Frame) (pid fd d : ℕ) (y : Open) (h : HasFd g.processes pid fd d) → at g.opens d ≡ Some y → behind g pid fd ≡ Some (record { id = d; entry = y })
 unfolding behind
-seen_behind g pid fd d y h is = ap (λ p. behind_of p g fd) h.lives ∙ ap (entry_at g) h.descriptor ∙ ap (option_map (λ x. let b : Behind = record { id = d; entry = x } in b)) is
+seen_behind g pid fd d y h is = ap (λ p. behind_of p g fd) h.lives ∙ ap (entry_at g) h.descriptor ∙ ap (option_map (λ x. let b : OpenFile = record { id = d; entry = x } in b)) is
 
 same_place : (x y : Open) → record y { label = bottom } ≡ record x { label = bottom } → y.object ≡ x.object
 same_place x y h = ap (λ (z : Open). z.object) h
 
 module _ (w : World) (s : Sound w) (place : ℕ) (e : Event) where
-  pub remains : (pid fd : ℕ) (b : Behind) → behind w.frame pid fd ≡ Some b → is_closed w place e pid fd ≡ false → Remains (target w.frame e.pid e.op) (entry_target w.frame e.pid e.op) b w.frame (step_of w place e).world.frame pid fd
+  pub remains : (pid fd : ℕ) (b : OpenFile) → behind w.frame pid fd ≡ Some b → is_closed w place e pid fd ≡ false → Remains (target w.frame e.pid e.op) (entry_target w.frame e.pid e.op) b w.frame (step_of w place e).world.frame pid fd
   remains pid fd b is kept =
       let f : Frame = w.frame in
       let g : Frame = (step_of w place e).world.frame in
@@ -89,7 +89,7 @@ module _ (w : World) (s : Sound w) (place : ℕ) (e : Event) where
         is_behind = seen_behind g pid fd b.id y.0 has y.1;
       }
 
-  pub descriptor_stays : (pid fd : ℕ) (b : Behind) → behind w.frame pid fd ≡ Some b → is_closed w place e pid fd ≡ false → Stays b w.frame (step_of w place e).world.frame pid fd
+  pub descriptor_stays : (pid fd : ℕ) (b : OpenFile) → behind w.frame pid fd ≡ Some b → is_closed w place e pid fd ≡ false → Stays b w.frame (step_of w place e).world.frame pid fd
   descriptor_stays pid fd b is kept =
       let r = remains pid fd b is kept in
       record {
@@ -123,7 +123,7 @@ not_one : (o : Option ℕ) (n : ℕ) → is_one o (Some n) ≡ false → o ≡ S
 not_one o n other is = true≢false (sym (eq-eqb n n refl) ∙ ap (λ z. is_one z (Some n)) (sym is) ∙ other)
 
 module _ (w : World) (s : Sound w) (place : ℕ) (e : Event) where
-  pub labels_stay_but : (pid fd : ℕ) (b : Behind) → behind w.frame pid fd ≡ Some b → is_closed w place e pid fd ≡ false → LabelsStayBut b w.frame e (step_of w place e).world.frame pid
+  pub labels_stay_but : (pid fd : ℕ) (b : OpenFile) → behind w.frame pid fd ≡ Some b → is_closed w place e pid fd ≡ false → LabelsStayBut b w.frame e (step_of w place e).world.frame pid
   labels_stay_but pid fd b is kept =
       let f : Frame = w.frame in
       let g : Frame = (step_of w place e).world.frame in
@@ -143,8 +143,8 @@ module _ (w : World) (s : Sound w) (place : ℕ) (e : Event) where
             ∙ sym (entry_label f b.id b.entry r.stood);
       }
 
-pub descriptors_remain : (w : World) (place : ℕ) (e : Event) (pid fd : ℕ) (b : Behind) → Sound w → behind w.frame pid fd ≡ Some b → is_closed w place e pid fd ≡ false → Stays b w.frame (step_of w place e).world.frame pid fd
+pub descriptors_remain : (w : World) (place : ℕ) (e : Event) (pid fd : ℕ) (b : OpenFile) → Sound w → behind w.frame pid fd ≡ Some b → is_closed w place e pid fd ≡ false → Stays b w.frame (step_of w place e).world.frame pid fd
 descriptors_remain w place e pid fd b s is kept = descriptor_stays w s place e pid fd b is kept
 
-pub labels_remain : (w : World) (place : ℕ) (e : Event) (pid fd : ℕ) (b : Behind) → Sound w → behind w.frame pid fd ≡ Some b → is_closed w place e pid fd ≡ false → LabelsStayBut b w.frame e (step_of w place e).world.frame pid
+pub labels_remain : (w : World) (place : ℕ) (e : Event) (pid fd : ℕ) (b : OpenFile) → Sound w → behind w.frame pid fd ≡ Some b → is_closed w place e pid fd ≡ false → LabelsStayBut b w.frame e (step_of w place e).world.frame pid
 labels_remain w place e pid fd b s is kept = labels_stay_but w s place e pid fd b is kept

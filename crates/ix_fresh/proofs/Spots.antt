@@ -2,7 +2,7 @@
 use Rattle.std.proofs.Common.{◌≡◌, ◌==◌, ◌+◌, ◌++◌, length, arith, ◌&&◌, ◌||◌, not, ℕ, suc, Bool, true, false, true≢false, List, [], ◌∷◌, Option, Some, None, is_some, option_map, if◌then◌else◌, refl, sym, ap, ◌∙◌}
 use Rattle.std.proofs.lemmas.Bool.{and_parts, and_right, eqb-true}
 use Rattle.ix_model.specs.world.World.{World, Frame, Open}
-use Rattle.ix_model.specs.rows.Walks.{Behind, behind}
+use Rattle.ix_model.specs.rows.Walks.{OpenFile, behind}
 use Rattle.ix_model.specs.history.Freshness.{Way, Reading, Writing, refreshes, closes, relabels, fresh_after, is_fresh}
 use Rattle.ix_model.specs.history.Step.{step, step_of, run}
 use Rattle.ix_model.specs.history.Events.{Op, Event}
@@ -16,12 +16,12 @@ use Rattle.ix_fresh.specs.Laws.{Spot, is_closed, spot_behind, fresh_spot, unless
 use Rattle.ix_fresh.proofs.Remaining.{remains}
 use Rattle.ix_fresh.proofs.Freshly.{read_facts, write_facts, relabels_as_touched, fresh_is_known, fresh_more}
 
-abbrev spot_of : Behind → Spot
+abbrev spot_of : OpenFile → Spot
 spot_of b = record { entry = b.id; object = b.entry.object }
 
 -- ---- a refreshed descriptor stood, and isn't closed
 record Stood (w : World) (pid fd : ℕ) (c : Op) (r : Reply) : Type 0 where
-  through : Behind
+  through : OpenFile
   is_behind : behind w.frame pid fd ≡ Some through
   open_still : closes fd c r ≡ false
 
@@ -49,7 +49,7 @@ module _ (w : World) (s : Sound w) (place : ℕ) (e : Event) where
   abbrev next : Frame
   next = (step_of w place e).world.frame
 
-  spot_stays : (pid fd : ℕ) (b : Behind) → behind w.frame pid fd ≡ Some b → is_closed w place e pid fd ≡ false → spot_behind next pid fd ≡ Some (spot_of b)
+  spot_stays : (pid fd : ℕ) (b : OpenFile) → behind w.frame pid fd ≡ Some b → is_closed w place e pid fd ≡ false → spot_behind next pid fd ≡ Some (spot_of b)
   spot_stays pid fd b is kept =
       let r = remains w s place e pid fd b is kept in
       ap (option_map spot_of) r.is_behind ∙ (λ i. Some (record { entry = b.id; object = (ap (λ (z : Open). z.object) r.same_entry.plain) i }))
@@ -69,7 +69,7 @@ module _ (w : World) (s : Sound w) (place : ℕ) (e : Event) where
   left_out true false after was same stays = cc
   left_out false true after was same stays = cc
 
-  spot_cases : (pid fd : ℕ) (way : Way) (new : Bool) → (e.pid == pid && refreshes way fd e.op (step_of w place e).reply) ≡ new → (closed : Bool) → is_closed w place e pid fd ≡ closed → (b : Option Behind) → behind w.frame pid fd ≡ b → (was : Bool) → (was ≡ true → is_some b ≡ true) → (if new || was && not closed && not (relabels w.frame next pid fd) then spot_behind next pid fd else None) ≡ (if new then spot_behind w.frame pid fd else if closed then None else unless (λ t. touches w.frame e next pid (Some t.object) (Some t.entry)) (if was then option_map spot_of b else None))
+  spot_cases : (pid fd : ℕ) (way : Way) (new : Bool) → (e.pid == pid && refreshes way fd e.op (step_of w place e).reply) ≡ new → (closed : Bool) → is_closed w place e pid fd ≡ closed → (b : Option OpenFile) → behind w.frame pid fd ≡ b → (was : Bool) → (was ≡ true → is_some b ≡ true) → (if new || was && not closed && not (relabels w.frame next pid fd) then spot_behind next pid fd else None) ≡ (if new then spot_behind w.frame pid fd else if closed then None else unless (λ t. touches w.frame e next pid (Some t.object) (Some t.entry)) (if was then option_map spot_of b else None))
   spot_cases pid fd way true new closed shut b is was there = refreshed_spot pid fd way new
   spot_cases pid fd way false new true shut b is false there = refl
   spot_cases pid fd way false new false shut b is false there = refl

@@ -12,7 +12,7 @@ use Rattle.ix_model.specs.world.Numbers.{free_inode, free_pipe}
 use Rattle.ix_model.specs.world.World.{Frame, Object, Process, Open, at, put, lowest_free, living, is_dir, is_ended, no_claims}
 use Rattle.ix_model.specs.rows.Outcomes.{Outcome, Refuse, Pass, Row}
 use Rattle.ix_model.specs.rows.Rows.{◌>>=◌, on_pass, process, change_process, change_object, put_object, put_process, add_process, put_open, change_open, observe, affect}
-use Rattle.ix_model.specs.rows.Walks.{Behind, behind, node, child, lacking, looking_into, walk_from, walk, walked_to, object_at, opened}
+use Rattle.ix_model.specs.rows.Walks.{OpenFile, behind, node, child, lacking, looking_into, walk_from, walk, walked_to, object_at, opened}
 use Rattle.ix_model.specs.rows.Walks as sought
 use Rattle.ix_model.specs.rows.Auditing.{logged}
 use Rattle.ix_model.specs.rows.OnPaths.{new_object}
@@ -316,7 +316,7 @@ module _ (f : Frame) (pid : ℕ) (to through : Option ℕ) (gone : ℕ → Bool)
   unfolding affect
   k_affect o l may = search (words, may) depth 30
 
-  pub k_float_entry : (p : Process) (x : Object) (e : Behind) → through ≡ Some e.id → Keeps R (float_entry p x e)
+  pub k_float_entry : (p : Process) (x : Object) (e : OpenFile) → through ≡ Some e.id → Keeps R (float_entry p x e)
   unfolding float_entry
   k_float_entry p x e on = keeps_only_if R _ _ (k_float e.id p.label on)
 

@@ -7,11 +7,11 @@ use Rattle.ix_model.specs.world.Naming.{PathOf}
 use Rattle.ix_model.specs.world.World.{Frame, Object, Process, at, is_dir}
 use Rattle.ix_model.specs.rows.Outcomes.{Outcome, Refuse, Pass, Row}
 use Rattle.ix_model.specs.rows.Rows.{◌>>=◌, on_pass, pass, put_object, put_open}
-use Rattle.ix_model.specs.rows.Walks.{Behind, Spot, Sought, behind, node, walk, walked_to, found_spot, vacant, object_at, spot_at, missing}
+use Rattle.ix_model.specs.rows.Walks.{OpenFile, Spot, Sought, behind, node, walk, walked_to, found_spot, vacant, object_at, spot_at, missing}
 use Rattle.ix_model.specs.rows.Walks as sought
 use Rattle.ix_model.specs.rows.Lifetimes.{let_go_object, let_go_open, let_go_claim, let_go, let_go_if_held, let_go_each, let_go_all, has_lost}
 use Rattle.ix_model.specs.rows.OnPaths.{make, create_at, make_dir, open_at, link_at, unlink_at, remove_dir, change_dir, stat_at, list_at}
-use Rattle.ix_model.specs.rows.OnDescriptors.{Told, read_fd, write_fd, cut_fd, seek_fd, dup_fd, close_fd, make_pipe, pex, unpex}
+use Rattle.ix_model.specs.rows.OnDescriptors.{LengthChecks, read_fd, write_fd, cut_fd, seek_fd, dup_fd, close_fd, make_pipe, pex, unpex}
 use Rattle.ix_model.specs.rows.OnProcesses.{fork, exec, exit, wait_child}
 use Rattle.ix_model.specs.rows.OnLabels.{label_of, self_label, set_label, set_self, freeze, freeze_self, thaw, thaw_self, set_priv, drop_lic, grant_lic, set_ceiling, read_log}
 use Rattle.ix_model.specs.rows.Table.{row}
@@ -126,7 +126,7 @@ module _ (f : Frame) (pid : ℕ) (to through : Option ℕ) (gone : ℕ → Bool)
   unfolding let_go_claim
   k_let_go_claim o end = record { led = λ g. (keeps_only_if S (has_lost g pid o end) _ (k_object f pid to through gone loses o _ (λ x. refl))).led g }
 
-  k_let_go : loses ≡ true → (fd : ℕ) (e : Behind) → gone fd ≡ true → Keeps S (let_go pid fd e)
+  k_let_go : loses ≡ true → (fd : ℕ) (e : OpenFile) → gone fd ≡ true → Keeps S (let_go pid fd e)
   unfolding let_go
   k_let_go goes fd e away = search (words, k_let_go_object, k_let_go_open, k_let_go_claim) depth 30
 
@@ -134,7 +134,7 @@ module _ (f : Frame) (pid : ℕ) (to through : Option ℕ) (gone : ℕ → Bool)
   unfolding let_go_if_held
   k_let_go_if_held goes fd away = record { led = λ g r. (go (behind g pid fd)).led g r }
     where
-      go : (b : Option Behind) → Keeps S (option_map_or (let_go pid fd) b (pass tt))
+      go : (b : Option OpenFile) → Keeps S (option_map_or (let_go pid fd) b (pass tt))
       go None = keeps_pass S tt
       go (Some e) = k_let_go goes fd e away
 
@@ -295,22 +295,22 @@ module _ (f : Frame) (pid : ℕ) (to through : Option ℕ) (gone : ℕ → Bool)
   from_here Fact m k fact keeps next = passed_here Fact (m f) k fact (keeps.led f (r_itself f pid to through gone loses)) next
 
   -- the open entry behind the caller's descriptor
-  k_read_fd : (t : Told) (fd count : ℕ) → ((e : Behind) → behind f pid fd ≡ Some e → through ≡ Some e.id) → Holds (read_fd t pid fd count f) S
+  k_read_fd : (t : LengthChecks) (fd count : ℕ) → ((e : OpenFile) → behind f pid fd ≡ Some e → through ≡ Some e.id) → Holds (read_fd t pid fd count f) S
   unfolding read_fd
   k_read_fd t fd count on = from_here (λ e. behind f pid fd ≡ Some e) _ _ (ends_opened pid fd f Anything _ (λ e is. is) tt) (k_opened f pid to through gone loses fd) (λ e is. let floats = on e is in search (rows, k_float_entry, floats) depth 60)
 
-  k_seek_fd : (fd offset : ℕ) → ((e : Behind) → behind f pid fd ≡ Some e → through ≡ Some e.id) → Holds (seek_fd pid fd offset f) S
+  k_seek_fd : (fd offset : ℕ) → ((e : OpenFile) → behind f pid fd ≡ Some e → through ≡ Some e.id) → Holds (seek_fd pid fd offset f) S
   unfolding seek_fd
   k_seek_fd fd offset on = from_here (λ e. behind f pid fd ≡ Some e) _ _ (ends_opened pid fd f Anything _ (λ e is. is) tt) (k_opened f pid to through gone loses fd) (λ e is. let floats = on e is in search (rows, k_float_entry, floats) depth 60)
 
-  k_write_fd : (t : Told) (fd : ℕ) → ((e : Behind) → behind f pid fd ≡ Some e → (to ≡ Some e.entry.object) × (through ≡ Some e.id)) → Holds (write_fd t pid fd f) S
+  k_write_fd : (t : LengthChecks) (fd : ℕ) → ((e : OpenFile) → behind f pid fd ≡ Some e → (to ≡ Some e.entry.object) × (through ≡ Some e.id)) → Holds (write_fd t pid fd f) S
   unfolding write_fd
   k_write_fd t fd on = from_here (λ e. behind f pid fd ≡ Some e) _ _ (ends_opened pid fd f Anything _ (λ e is. is) tt) (k_opened f pid to through gone loses fd) (λ e is.
       let labels : Labels e.entry.object = λ x there file. (on e is).0 in
       let floats = (on e is).1 in
       search (rows, k_float_entry, labels, floats) depth 60)
 
-  k_cut_fd : (t : Told) (fd len : ℕ) → ((e : Behind) → behind f pid fd ≡ Some e → to ≡ Some e.entry.object) → Holds (cut_fd t pid fd len f) S
+  k_cut_fd : (t : LengthChecks) (fd len : ℕ) → ((e : OpenFile) → behind f pid fd ≡ Some e → to ≡ Some e.entry.object) → Holds (cut_fd t pid fd len f) S
   unfolding cut_fd
   k_cut_fd t fd len on = from_here (λ e. behind f pid fd ≡ Some e) _ _ (ends_opened pid fd f Anything _ (λ e is. is) tt) (k_opened f pid to through gone loses fd) (λ e is.
       let labels : Labels e.entry.object = λ x there file. on e is in
@@ -359,13 +359,13 @@ module _ (f : Frame) (pid : ℕ) where
   from_itself : (c : Op) (loses : Bool) (m : Row Reply) → Keeps (R f pid (target f pid c) (entry_target f pid c) (given_up c) loses) m → Holds (m f) (KeptBy f pid c)
   from_itself c loses m keeps = kept_of c loses (m f) (keeps.led f (r_itself f pid (target f pid c) (entry_target f pid c) (given_up c) loses))
 
-  entry_is : (fd : ℕ) (e : Behind) → behind f pid fd ≡ Some e → entry_behind f pid fd ≡ Some e.id
-  entry_is fd e is = ap (option_map (λ (b : Behind). b.id)) is
+  entry_is : (fd : ℕ) (e : OpenFile) → behind f pid fd ≡ Some e → entry_behind f pid fd ≡ Some e.id
+  entry_is fd e is = ap (option_map (λ (b : OpenFile). b.id)) is
 
-  object_is : (fd : ℕ) (e : Behind) → behind f pid fd ≡ Some e → object_behind f pid fd ≡ Some e.entry.object
-  object_is fd e is = ap (option_map (λ (b : Behind). b.entry.object)) is
+  object_is : (fd : ℕ) (e : OpenFile) → behind f pid fd ≡ Some e → object_behind f pid fd ≡ Some e.entry.object
+  object_is fd e is = ap (option_map (λ (b : OpenFile). b.entry.object)) is
 
-  pub row_keeps : (t : Told) (place : ℕ) (c : Op) → Holds (row t place pid c f) (KeptBy f pid c)
+  pub row_keeps : (t : LengthChecks) (place : ℕ) (c : Op) → Holds (row t place pid c f) (KeptBy f pid c)
   unfolding row create_at make_dir
   row_keeps t place (op.CreateAt path) = from_itself (op.CreateAt path) false _ (k_make f pid _ _ _ false refl path kind.File)
   row_keeps t place (op.OpenAt path mode) = from_itself (op.OpenAt path mode) false _ (k_open_at f pid _ _ _ false refl path mode)

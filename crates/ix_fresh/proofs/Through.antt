@@ -6,8 +6,8 @@ use Rattle.ix_label.specs.Lattice.{same-decides, leq-refl, leq-trans, leq-join_l
 use Rattle.std.proofs.Common.{option_map}
 use Rattle.ix_model.specs.world.World.{Frame, Object, Process, Open, at, change, living, is_pipe}
 use Rattle.ix_model.specs.rows.Rows.{observe, affect}
-use Rattle.ix_model.specs.rows.Walks.{Behind, behind}
-use Rattle.ix_model.specs.rows.OnDescriptors.{Told, float_entry, read_fd, write_fd}
+use Rattle.ix_model.specs.rows.Walks.{OpenFile, behind}
+use Rattle.ix_model.specs.rows.OnDescriptors.{LengthChecks, float_entry, read_fd, write_fd}
 use Rattle.ix_model.specs.declared.reply.Reply.{Reply}
 use Rattle.ix_model.proofs.tables.Tables.{at_changed}
 use Rattle.ix_model.proofs.tables.Finds.{at_change}
@@ -68,7 +68,7 @@ joined t e l y here = elim (at_change t e _ e y here) [
 -- ---- a read
 -- the caller's label is at or above the object's and the open entry's, and a file's open entry has taken it in
 pub record ReadFacts (pid fd : ℕ) (f g : Frame) : Type 0 where
-  pub through : Behind
+  pub through : OpenFile
   pub is_behind : behind f pid fd ≡ Some through
   pub object : Object
   pub is_object : at g.objects through.entry.object ≡ Some object
@@ -85,7 +85,7 @@ read_entry t e entry l y is low here =
     let low_was : leq j.was.label l ≡ true = subst (λ (z : Open). leq z.label l ≡ true) (one_there (at t e) entry j.was is j.is_was) low in
     (subst (λ (a : Categories). leq a l ≡ true) (sym j.label) (join-least j.was.label l l low_was (leq-refl l)), subst (λ (a : Categories). leq l a ≡ true) (sym j.label) (leq-join_right j.was.label l))
 
-pub read_known : (t : Told) (pid fd count : ℕ) (f : Frame) → Ends (read_fd t pid fd count f) Anything (λ r g. ReadFacts pid fd f g)
+pub read_known : (t : LengthChecks) (pid fd count : ℕ) (f : Frame) → Ends (read_fd t pid fd count f) Anything (λ r g. ReadFacts pid fd f g)
 unfolding read_fd float_entry
 read_known t pid fd count f =
     let Q : Reply → Frame → Type 0 = λ r g. ReadFacts pid fd f g in
@@ -131,7 +131,7 @@ read_known t pid fd count f =
 -- ---- a write
 -- the object's label is at or above the caller's and the open entry's, and a file's open entry has taken the caller's in
 pub record WriteFacts (pid fd : ℕ) (f g : Frame) : Type 0 where
-  pub through : Behind
+  pub through : OpenFile
   pub is_behind : behind f pid fd ≡ Some through
   pub object : Object
   pub is_object : at f.objects through.entry.object ≡ Some object
@@ -141,7 +141,7 @@ pub record WriteFacts (pid fd : ℕ) (f g : Frame) : Type 0 where
   pub entry : (x : Object) (y : Open) → at g.objects through.entry.object ≡ Some x → at g.opens through.id ≡ Some y → leq y.label x.label ≡ true
   pub taken_in : is_pipe object ≡ false → (y : Open) → at g.opens through.id ≡ Some y → leq process.label y.label ≡ true
 
-pub write_known : (t : Told) (pid fd : ℕ) (f : Frame) → Ends (write_fd t pid fd f) Anything (λ r g. WriteFacts pid fd f g)
+pub write_known : (t : LengthChecks) (pid fd : ℕ) (f : Frame) → Ends (write_fd t pid fd f) Anything (λ r g. WriteFacts pid fd f g)
 unfolding write_fd float_entry
 write_known t pid fd f =
     let Q : Reply → Frame → Type 0 = λ r g. WriteFacts pid fd f g in

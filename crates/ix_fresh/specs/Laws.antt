@@ -2,7 +2,7 @@
 use Rattle.std.specs.Prelude.{◌≡◌, ℕ, Bool, true, false, not, ◌&&◌, ◌||◌, ◌==◌, ◌+◌, List, [], ◌∷◌, ◌++◌, length, Option, Some, None, is_some, if◌then◌else◌}
 use Rattle.std.proofs.Common.{option_map}
 use Rattle.ix_model.specs.world.World.{World, Frame}
-use Rattle.ix_model.specs.rows.Walks.{Behind, behind}
+use Rattle.ix_model.specs.rows.Walks.{OpenFile, behind}
 use Rattle.ix_model.specs.history.Freshness.{Way, refreshes, closes, fresh_after, is_fresh}
 use Rattle.ix_model.specs.history.Step.{step_of, run}
 use Rattle.ix_model.specs.history.Events.{Event}
@@ -24,12 +24,12 @@ is_closed w place e pid fd = e.pid == pid && closes fd e.op (step_of w place e).
 
 -- what stands behind a descriptor stays there, unless it is closed
 abbrev pub DescriptorsStay : Type 0
-DescriptorsStay = (w : World) (place : ℕ) (e : Event) (pid fd : ℕ) (b : Behind) → Sound w → behind w.frame pid fd ≡ Some b → is_closed w place e pid fd ≡ false → Stays b w.frame (step_of w place e).world.frame pid fd
+DescriptorsStay = (w : World) (place : ℕ) (e : Event) (pid fd : ℕ) (b : OpenFile) → Sound w → behind w.frame pid fd ≡ Some b → is_closed w place e pid fd ≡ false → Stays b w.frame (step_of w place e).world.frame pid fd
 
 -- and its labels too, but for the process's where it made the call, and for those of the object and of the open entry that
 -- the call may touch
 abbrev pub WhereLabelsChange : Type 0
-WhereLabelsChange = (w : World) (place : ℕ) (e : Event) (pid fd : ℕ) (b : Behind) → Sound w → behind w.frame pid fd ≡ Some b → is_closed w place e pid fd ≡ false → LabelsStayBut b w.frame e (step_of w place e).world.frame pid
+WhereLabelsChange = (w : World) (place : ℕ) (e : Event) (pid fd : ℕ) (b : OpenFile) → Sound w → behind w.frame pid fd ≡ Some b → is_closed w place e pid fd ≡ false → LabelsStayBut b w.frame e (step_of w place e).world.frame pid
 
 -- So an entry leaves a descriptor fresh, of whichever process it is, by who called, whether the call refreshed or closed it,
 -- and whether it changed the label of the caller, of the target, or of the open entry.

@@ -4,15 +4,15 @@ use Rattle.std.specs.Option.{option_map_or}
 use Rattle.std.proofs.Common.{option_map}
 use Rattle.ix_label.specs.Category.{Categories, bottom, same}
 use Rattle.ix_model.specs.world.World.{Frame, Object, at}
-use Rattle.ix_model.specs.rows.Walks.{Behind, behind}
+use Rattle.ix_model.specs.rows.Walks.{OpenFile, behind}
 use Rattle.ix_model.specs.history.AuditLog.{object_of_path, label_at, of_process}
 use Rattle.ix_model.specs.history.Events.{Op, Event}
 use Rattle.ix_model.specs.history.Events as op
 
 -- ---- what stays
 -- the same open entry, on the same end of the same object and with the same mode
-pub record Stays (b : Behind) (f g : Frame) (pid fd : ℕ) : Type 0 where
-  pub entry : Behind
+pub record Stays (b : OpenFile) (f g : Frame) (pid fd : ℕ) : Type 0 where
+  pub entry : OpenFile
   pub is_behind : behind g pid fd ≡ Some entry
   pub id : entry.id ≡ b.id
   pub on : entry.entry.object ≡ b.entry.object
@@ -82,7 +82,7 @@ touches f e g pid object entry =
 
 -- the labels that are as they were: of a process that didn't call, of an object that isn't the target, and of an open entry
 -- that wasn't gone through
-pub record LabelsStayBut (b : Behind) (f : Frame) (e : Event) (g : Frame) (pid : ℕ) : Type 0 where
+pub record LabelsStayBut (b : OpenFile) (f : Frame) (e : Event) (g : Frame) (pid : ℕ) : Type 0 where
   pub process : (e.pid == pid) ≡ false → of_process (λ p. p.label) bottom g pid ≡ of_process (λ p. p.label) bottom f pid
   pub object : is_one (target f e.pid e.op) (Some b.entry.object) ≡ false → label_at g (Some b.entry.object) ≡ label_at f (Some b.entry.object)
   pub entry : is_one (entry_target f e.pid e.op) (Some b.id) ≡ false → label_of_entry g (Some b.id) ≡ label_of_entry f (Some b.id)

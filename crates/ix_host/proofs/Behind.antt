@@ -30,7 +30,7 @@ use Rattle.ix_check.specs.Plans.{found_in}
 use Rattle.ix_check.specs.Verdicts.{verdict_line}
 use Rattle.ix_check.proofs.InputParts.{joined_lines, lines-line}
 use Rattle.ix_host.specs.Laws.{PrintedIsYes}
-use Rattle.ix_host.specs.declared.asked.command.Command.TheVariants as command
+use Rattle.ix_host.specs.declared.arguments.command.Command.TheVariants as command
 use Rattle.ix_host.specs.run.Outcome as outcome
 use Rattle.ix_host.specs.run.Outcome.{outcome_for, outcome_in, text_for}
 use Rattle.ix_host.proofs.comes_to.Outcomes.{accepted, outcome_accepted, outcome_script}

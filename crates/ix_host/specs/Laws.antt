@@ -13,9 +13,9 @@ use Rattle.ix_judging.specs.Bytes.{split}
 use Rattle.ix_judging.specs.Judge.{Yes}
 use Rattle.ix_check.specs.Verdicts.{verdict_line}
 use Rattle.ix_gen.specs.Generated.{generated}
-use Rattle.ix_host.specs.Hiding.{HidesLines}
+use Rattle.ix_host.specs.Noninterference.{HidesLines}
 use Rattle.ix_host.specs.Policies.{policy_refusal}
-use Rattle.ix_host.specs.declared.asked.command.Command.TheVariants as command
+use Rattle.ix_host.specs.declared.arguments.command.Command.TheVariants as command
 use Rattle.ix_host.specs.run.Inputs.{check_max}
 use Rattle.ix_host.specs.run.Outcome as outcome
 use Rattle.ix_host.specs.run.Outcome.{outcome_in}

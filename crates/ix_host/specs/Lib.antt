@@ -3,7 +3,7 @@ pub mod Policies
 pub mod Seconds
 pub mod Compared
 pub mod report
-pub mod Hiding
+pub mod Noninterference
 pub mod Laws
 pub mod Judged
 pub mod Traces

@@ -2,14 +2,14 @@
 ghost use Rattle.std.specs.Prelude.{◌≡◌, ◌<◌, ◌⊎◌, true, is_none, length, IfOk, IfSome};
 ghost use Rattle.ix_io.specs.Streams.{Rose};
 ghost use Rattle.ix_lanes.specs.histories.History.{IsHistory};
-ghost use Rattle.ix_host.specs.Hiding.{TakesHidingReport};
+ghost use Rattle.ix_host.specs.Noninterference.{TakesNoninterferentReport};
 ghost use Rattle.ix_host.specs.command.Command.{lanes_command_of, lanes_usage_line, only_run};
 ghost use Rattle.ix_host.specs.run.Inputs.{script_in, script_max};
 ghost use Rattle.ix_host.specs.run.Whole.{TakesFew};
-ghost use Rattle.ix_host.specs.run.Run.{FitsCommand, ForOne, IsAnswer, ReadsOut, WritesFor, WritesLine, called_for, wanted_with};
+ghost use Rattle.ix_host.specs.run.Run.{FitsCommand, ExistsHistory, IsAnswer, ReadsOut, WritesFor, WritesLine, called_for, wanted_with};
 
-use crate::asked::command::Command;
-use crate::asked::words::Words;
+use crate::arguments::command::Command;
+use crate::arguments::words::Words;
 use crate::concluding::conclude;
 use crate::preparing::prepare;
 use crate::status::Status;
@@ -57,11 +57,11 @@ pub fn run_lanes<S: Source, K: Sink, W: Watch, R: Threads + Wait + Sync>(
 
     // What is written, where the sink tells its bytes.
     ensures written { IfSome (S.left source.old) (λ bytes. IfSome (K.taken sink.old) (λ taken.
-        ForOne (IsHistory (script_in bytes)) (λ history. WritesFor result (wanted_with words.now bytes history) taken (K.taken sink.new)))) }
+        ExistsHistory (IsHistory (script_in bytes)) (λ history. WritesFor result (wanted_with words.now bytes history) taken (K.taken sink.new)))) }
     ensures line { IfSome (K.taken sink.old) (λ taken. WritesLine lanes_usage_line result taken (K.taken sink.new)) }
     ensures finished { IsAnswer result → K.finished sink.new ≡ true }
-    ensures hides { result ≡ Status.Done → IfSome (S.left source.old) (λ bytes. IfSome (K.taken sink.old) (λ taken.
-        ForOne (IsHistory (script_in bytes)) (λ history. TakesHidingReport (script_in bytes) history taken (K.taken sink.new)))) }
+    ensures noninterference { result ≡ Status.Done → IfSome (S.left source.old) (λ bytes. IfSome (K.taken sink.old) (λ taken.
+        ExistsHistory (IsHistory (script_in bytes)) (λ history. TakesNoninterferentReport (script_in bytes) history taken (K.taken sink.new)))) }
     ensures not_written { result ≡ Status.ReadFault → sink.new ≡ sink.old }
 
     // When each status comes.

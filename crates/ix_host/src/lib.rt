@@ -1,7 +1,7 @@
 //! The top calls of the programs: command words and a script in, a report, the canonical text or a summary and a status out.
 #![tactic(auto)]
 
-mod asked;
+mod arguments;
 mod checking;
 mod comparing;
 mod concluding;
@@ -15,7 +15,7 @@ mod run;
 mod status;
 mod streams;
 mod task;
-mod telling;
+mod refusals;
 
 pub use asked::words::Words;
 pub use ix_io as io;

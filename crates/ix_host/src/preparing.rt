@@ -12,7 +12,7 @@ ghost use Rattle.ix_host.specs.run.Tasks.{IsRunnable, LeadsTo, OnRun, Prepares, 
 ghost use Rattle.ix_host.specs.run.Whole.{TakesFew};
 ghost use Rattle.ix_host.specs.run.Run.{Ends};
 
-use crate::asked::command::Command;
+use crate::arguments::command::Command;
 use crate::checking::check;
 use crate::comparing::twin;
 use crate::following::flow;
@@ -23,7 +23,7 @@ use crate::streams::input::input_for;
 use crate::streams::sending::tell;
 use crate::streams::stream::Input;
 use crate::task::{Task, Telling};
-use crate::telling::rules::too_long_line;
+use crate::refusals::rules::too_long_line;
 use ix_check::laws::texts_are_judged;
 use ix_check::parts;
 use ix_io::{Sink, Source};

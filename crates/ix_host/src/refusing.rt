@@ -4,7 +4,7 @@ ghost use Rattle.ix_host.specs.run.Run.{Ends};
 
 use crate::status::Status;
 use crate::streams::sending::tell;
-use crate::telling::rules::refusal;
+use crate::refusals::rules::refusal;
 use ix_io::Sink;
 use ix_model::NoMemory;
 use std::alloc::Global;

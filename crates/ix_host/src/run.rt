@@ -2,7 +2,7 @@
 ghost use Rattle.std.specs.Prelude.{◌≡◌, ℕ, ◌⊎◌, Some, true, false, is_none, IfSome};
 ghost use Rattle.ix_io.specs.Streams.{Rose};
 ghost use Rattle.ix_lanes.specs.histories.Serial.{serial};
-ghost use Rattle.ix_host.specs.Hiding.{TakesHidingReport};
+ghost use Rattle.ix_host.specs.Noninterference.{TakesNoninterferentReport};
 ghost use Rattle.ix_host.specs.command.Command.{command_of, usage_line};
 ghost use Rattle.ix_check.specs.Parts.{report_part, script_part};
 ghost use Rattle.ix_host.specs.Judged.{TakesVerdict};
@@ -15,8 +15,8 @@ ghost use Rattle.ix_host.specs.run.Inputs.{IsTooLong, input_max, input_of, reads
 ghost use Rattle.ix_host.specs.run.Whole.{TakesFew};
 ghost use Rattle.ix_host.specs.run.Run.{FitsCommand, IsAnswer, ReadsOut, WritesFor, WritesLine, called_for, wanted};
 
-use crate::asked::command::Command;
-use crate::asked::words::Words;
+use crate::arguments::command::Command;
+use crate::arguments::words::Words;
 use crate::concluding::tell_serial;
 use crate::preparing::prepare;
 use crate::status::Status;
@@ -49,8 +49,8 @@ pub fn run_serial<S: Source, K: Sink>(
         WritesFor result (wanted words.now bytes) taken (K.taken sink.new))) }
     ensures line { IfSome (K.taken sink.old) (λ taken. WritesLine usage_line result taken (K.taken sink.new)) }
     ensures finished { IsAnswer result → K.finished sink.new ≡ true }
-    ensures hides { result ≡ Status.Done → command_of words.now ≡ Some Command.Run → IfSome (S.left source.old) (λ bytes.
-        IfSome (K.taken sink.old) (λ taken. TakesHidingReport (script_in bytes) (serial (script_in bytes)) taken (K.taken sink.new))) }
+    ensures noninterference { result ≡ Status.Done → command_of words.now ≡ Some Command.Run → IfSome (S.left source.old) (λ bytes.
+        IfSome (K.taken sink.old) (λ taken. TakesNoninterferentReport (script_in bytes) (serial (script_in bytes)) taken (K.taken sink.new))) }
     ensures judged { result ≡ Status.Done → command_of words.now ≡ Some Command.Check → IfSome (S.left source.old) (λ bytes.
         IfSome (K.taken sink.old) (λ taken. TakesVerdict (script_in (script_part bytes)) (report_part bytes) taken (K.taken sink.new))) }
     ensures traced { result ≡ Status.Done → command_of words.now ≡ Some Command.Flow → IfSome (S.left source.old) (λ bytes.

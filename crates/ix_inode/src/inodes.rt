@@ -217,7 +217,7 @@ impl Inodes {
 
     /// Does nothing: its contract is the law that on the file system of an inode the blocks that are used and those that are
     /// free are all blocks that it has.
-    pub fn counted(&self, obj: Obj)
+    pub fn lemma_blocks_add_up(&self, obj: Obj)
         requires { IsTrue (is_some (at self.now.nodes obj.0)) }
         ensures { (x : Node) → at self.now.nodes obj.0 ≡ Some x → blocks_of x.fs self.now.nodes self.now.bytes + free_blocks x.fs self.now ≡ (fs_at self.now.fss x.fs).blocks }
     {

@@ -3,7 +3,7 @@ use Rattle.std.proofs.Common.{◌≡◌, ◌+◌, ◌-◌, ℕ, Bool, true, fals
 use Rattle.std.proofs.lemmas.List.{length-map, length-replicate}
 use Rattle.ix_model.specs.world.Naming.{PathOf}
 use Rattle.ix_model.specs.world.World.{Frame, World, Content, Holding, at, is_ended}
-use Rattle.ix_model.specs.rows.Walks.{Behind, behind}
+use Rattle.ix_model.specs.rows.Walks.{OpenFile, behind}
 use Rattle.ix_model.specs.world.Contents.{grown, carried, after_read, after_write, after_cut, after_seek, after_exit, emptied, holds_nothing, on_pipe}
 use Rattle.ix_model.specs.rows.Table.{Decision}
 use Rattle.ix_model.specs.history.Step.{Given, plainly, read_answer, write_answer, cut_answer, seek_answer, stat_answer, exit_answer, wait_answer, pex_answer, is_whole, answer}
@@ -86,19 +86,19 @@ module _ (c : Content) where
   either true x y r s = r
   either false x y r s = s
 
-  counts_read : (f : Frame) (e : Behind) (k : ℕ) → SameCounts (after_read f e k c) c
+  counts_read : (f : Frame) (e : OpenFile) (k : ℕ) → SameCounts (after_read f e k c) c
   unfolding after_read
   counts_read f e k = either (on_pipe f e) _ _ (set_holding e.entry.object _) (set_offset e.id _)
 
-  counts_write : (f : Frame) (e : Behind) (new : List ℕ) → SameCounts (after_write f e new c) c
+  counts_write : (f : Frame) (e : OpenFile) (new : List ℕ) → SameCounts (after_write f e new c) c
   unfolding after_write
   counts_write f e new = either (on_pipe f e) _ _ (set_holding e.entry.object _) (record { holdings = length-set c.holdings e.entry.object _; offsets = length-set c.offsets e.id _; statuses = refl })
 
-  counts_cut : (e : Behind) (len : ℕ) → SameCounts (after_cut e len c) c
+  counts_cut : (e : OpenFile) (len : ℕ) → SameCounts (after_cut e len c) c
   unfolding after_cut
   counts_cut e len = set_holding e.entry.object _
 
-  counts_seek : (e : Behind) (offset : ℕ) → SameCounts (after_seek e offset c) c
+  counts_seek : (e : OpenFile) (offset : ℕ) → SameCounts (after_seek e offset c) c
   unfolding after_seek
   counts_seek e offset = set_offset e.id offset
 
@@ -115,22 +115,22 @@ module _ (w : World) where
   abbrev Kept : Frame → Given → Type 0
   Kept g a = SameCounts a.world.content (carried w.frame g w.content)
 
-  kept_read : (count : ℕ) (b : Option Behind) (r : Reply) (g : Frame) → Kept g (read_answer w count b r g)
+  kept_read : (count : ℕ) (b : Option OpenFile) (r : Reply) (g : Frame) → Kept g (read_answer w count b r g)
   unfolding read_answer plainly
   kept_read count (Some e) (reply.Bytes k) g = counts_read (carried w.frame g w.content) w.frame e _
   kept_read count _ r g = counts_itself _
 
-  kept_write : (new : List ℕ) (b : Option Behind) (r : Reply) (g : Frame) → Kept g (write_answer w new b r g)
+  kept_write : (new : List ℕ) (b : Option OpenFile) (r : Reply) (g : Frame) → Kept g (write_answer w new b r g)
   unfolding write_answer plainly
   kept_write new (Some e) (reply.Number k) g = counts_write (carried w.frame g w.content) w.frame e new
   kept_write new _ r g = counts_itself _
 
-  kept_cut : (len : ℕ) (b : Option Behind) (r : Reply) (g : Frame) → Kept g (cut_answer w len b r g)
+  kept_cut : (len : ℕ) (b : Option OpenFile) (r : Reply) (g : Frame) → Kept g (cut_answer w len b r g)
   unfolding cut_answer plainly
   kept_cut len (Some e) reply.Done g = counts_cut (carried w.frame g w.content) e len
   kept_cut len _ r g = counts_itself _
 
-  kept_seek : (offset : ℕ) (b : Option Behind) (r : Reply) (g : Frame) → Kept g (seek_answer w offset b r g)
+  kept_seek : (offset : ℕ) (b : Option OpenFile) (r : Reply) (g : Frame) → Kept g (seek_answer w offset b r g)
   unfolding seek_answer plainly
   kept_seek offset (Some e) reply.Done g = counts_seek (carried w.frame g w.content) e offset
   kept_seek offset _ r g = counts_itself _
@@ -150,7 +150,7 @@ module _ (w : World) where
   kept_wait (reply.Child p status) g = counts_itself _
   kept_wait r g = counts_itself _
 
-  kept_pex : (b : Option Behind) (r : Reply) (g : Frame) → Kept g (pex_answer w b r g)
+  kept_pex : (b : Option OpenFile) (r : Reply) (g : Frame) → Kept g (pex_answer w b r g)
   unfolding pex_answer plainly
   kept_pex (Some e) r g = either (carried w.frame g w.content) (is_whole g e.entry.object && not (is_whole w.frame e.entry.object)) _ _ (counts_emptied (carried w.frame g w.content) e.entry.object) (counts_itself _)
   kept_pex None r g = counts_itself _
@@ -177,22 +177,22 @@ module _ (w : World) where
   told_same : (c : Op) (a : Given) (r : Reply) → a.reply ≡ r → a.bytes ≡ [] → Told c a r
   told_same c a r h none = record { kind = ap kind_number h; part = ap (frame_part c) h; bytes = λ other. none }
 
-  told_read : (fd count : ℕ) (b : Option Behind) (r : Reply) (g : Frame) → Told (op.ReadFd fd count) (read_answer w count b r g) r
+  told_read : (fd count : ℕ) (b : Option OpenFile) (r : Reply) (g : Frame) → Told (op.ReadFd fd count) (read_answer w count b r g) r
   unfolding read_answer plainly
   told_read fd count (Some e) (reply.Bytes k) g = record { kind = refl; part = refl; bytes = λ other. absurd (true≢false other) }
   told_read fd count _ r g = told_same _ _ r refl refl
 
-  told_write : (fd : ℕ) (new : List ℕ) (b : Option Behind) (r : Reply) (g : Frame) → Told (op.WriteFd fd new) (write_answer w new b r g) r
+  told_write : (fd : ℕ) (new : List ℕ) (b : Option OpenFile) (r : Reply) (g : Frame) → Told (op.WriteFd fd new) (write_answer w new b r g) r
   unfolding write_answer plainly
   told_write fd new (Some e) (reply.Number k) g = record { kind = refl; part = refl; bytes = λ other. refl }
   told_write fd new _ r g = told_same _ _ r refl refl
 
-  told_cut : (c : Op) (len : ℕ) (b : Option Behind) (r : Reply) (g : Frame) → Told c (cut_answer w len b r g) r
+  told_cut : (c : Op) (len : ℕ) (b : Option OpenFile) (r : Reply) (g : Frame) → Told c (cut_answer w len b r g) r
   unfolding cut_answer plainly
   told_cut c len (Some e) reply.Done g = told_same c _ reply.Done refl refl
   told_cut c len _ r g = told_same c _ r refl refl
 
-  told_seek : (c : Op) (offset : ℕ) (b : Option Behind) (r : Reply) (g : Frame) → Told c (seek_answer w offset b r g) r
+  told_seek : (c : Op) (offset : ℕ) (b : Option OpenFile) (r : Reply) (g : Frame) → Told c (seek_answer w offset b r g) r
   unfolding seek_answer plainly
   told_seek c offset (Some e) reply.Done g = told_same c _ reply.Done refl refl
   told_seek c offset _ r g = told_same c _ r refl refl
@@ -212,7 +212,7 @@ module _ (w : World) where
   told_wait (reply.Child p status) g = record { kind = refl; part = refl; bytes = λ other. refl }
   told_wait r g = told_same _ _ r refl refl
 
-  told_pex : (c : Op) (b : Option Behind) (r : Reply) (g : Frame) → Told c (pex_answer w b r g) r
+  told_pex : (c : Op) (b : Option OpenFile) (r : Reply) (g : Frame) → Told c (pex_answer w b r g) r
   unfolding pex_answer plainly
   told_pex c (Some e) r g = told_same c _ r refl refl
   told_pex c None r g = told_same c _ r refl refl

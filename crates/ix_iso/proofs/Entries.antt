@@ -6,7 +6,7 @@ use Rattle.ix_model.specs.world.World.{Frame, Open, at, put, change}
 use Rattle.ix_model.specs.rows.Rows.{change_object, change_process, change_open, put_object, put_open, put_process, add_process}
 use Rattle.ix_model.specs.rows.Auditing.{logged}
 use Rattle.ix_model.specs.rows.OnProcesses.{end_process}
-use Rattle.ix_model.specs.rows.OnDescriptors.{Told}
+use Rattle.ix_model.specs.rows.OnDescriptors.{LengthChecks}
 use Rattle.ix_model.specs.rows.Table.{row, verdict}
 use Rattle.ix_model.specs.history.Events.{Op}
 use Rattle.ix_model.specs.history.Events as op
@@ -172,20 +172,20 @@ module _ (f : Frame) (pid : ℕ) where
     gone = λ can. cc;
   })
 
-  added_row : (t : Told) (place : ℕ) (c : Op) → Keeps (λ g. Added g.opens) (row t place pid c) → Holds (row t place pid c f) (λ g. EntriesStay f.opens g.opens)
+  added_row : (t : LengthChecks) (place : ℕ) (c : Op) → Keeps (λ g. Added g.opens) (row t place pid c) → Holds (row t place pid c f) (λ g. EntriesStay f.opens g.opens)
   added_row t place c keeps = holds_more (λ g. Added g.opens) (λ g. EntriesStay f.opens g.opens) (row t place pid c f) (λ g r. r.stay) (keeps.led f added_itself)
 
-  risen_row : (t : Told) (place : ℕ) (c : Op) → Keeps (λ g. Added g.opens) (row t place pid c) → Holds (row t place pid c f) (λ g. EntriesRise f.opens g.opens)
+  risen_row : (t : LengthChecks) (place : ℕ) (c : Op) → Keeps (λ g. Added g.opens) (row t place pid c) → Holds (row t place pid c f) (λ g. EntriesRise f.opens g.opens)
   risen_row t place c keeps = holds_more (λ g. Added g.opens) (λ g. EntriesRise f.opens g.opens) (row t place pid c f) (λ g r. stay_rise f.opens g.opens r.stay) (keeps.led f added_itself)
 
-  rise_row : (t : Told) (place : ℕ) (c : Op) → Holds (row t place pid c f) (λ g. EntriesRise f.opens g.opens)
+  rise_row : (t : LengthChecks) (place : ℕ) (c : Op) → Holds (row t place pid c f) (λ g. EntriesRise f.opens g.opens)
   unfolding opens_none adds
   rise_row t place (op.OpenAt path mode) = risen_row t place (op.OpenAt path mode) (moved_row adds pid _ adding t place (op.OpenAt path mode) refl)
   rise_row t place op.MakePipe = risen_row t place op.MakePipe (moved_row adds pid _ adding t place op.MakePipe refl)
   rise_row t place c = (moved_row opens_none pid _ raising t place c refl).led f (rise_itself f.opens)
 
 -- whatever is called, no label of an open entry that stays is below what it was
-pub entries_rise : (t : Told) (place pid : ℕ) (c : Op) (f : Frame) → EntriesRise f.opens (verdict t place pid c f).frame.opens
+pub entries_rise : (t : LengthChecks) (place pid : ℕ) (c : Op) (f : Frame) → EntriesRise f.opens (verdict t place pid c f).frame.opens
 entries_rise t place pid c f = decided (λ g. EntriesRise f.opens g.opens) t place pid c f (rise_itself f.opens) (rise_row f pid t place c)
 
 -- ---- where no open entry's label changes
@@ -197,7 +197,7 @@ leaves_labels (op.SeekFd fd offset) = false
 leaves_labels _ = true
 
 module _ (f : Frame) (pid : ℕ) where
-  stay_row : (t : Told) (place : ℕ) (c : Op) → leaves_labels c ≡ true → Holds (row t place pid c f) (λ g. EntriesStay f.opens g.opens)
+  stay_row : (t : LengthChecks) (place : ℕ) (c : Op) → leaves_labels c ≡ true → Holds (row t place pid c f) (λ g. EntriesStay f.opens g.opens)
   unfolding still adds
   stay_row t place (op.ReadFd fd count) h = absurd (true≢false (sym h))
   stay_row t place (op.WriteFd fd bytes) h = absurd (true≢false (sym h))
@@ -208,5 +208,5 @@ module _ (f : Frame) (pid : ℕ) where
   stay_row t place (op.Exit status) h = (moved_row still pid _ (staying f pid) t place (op.Exit status) refl).led f (stay_itself f.opens)
   stay_row t place c h = added_row f pid t place c (moved_row adds pid _ (adding f pid) t place c refl)
 
-pub entries_stay : (t : Told) (place pid : ℕ) (c : Op) (f : Frame) → leaves_labels c ≡ true → EntriesStay f.opens (verdict t place pid c f).frame.opens
+pub entries_stay : (t : LengthChecks) (place pid : ℕ) (c : Op) (f : Frame) → leaves_labels c ≡ true → EntriesStay f.opens (verdict t place pid c f).frame.opens
 entries_stay t place pid c f h = decided (λ g. EntriesStay f.opens g.opens) t place pid c f (stay_itself f.opens) (stay_row f pid t place c h)

@@ -7,8 +7,8 @@ use Rattle.ix_label.specs.Lattice.{same-decides, leq-trans, leq-join_left, leq-j
 use Rattle.ix_model.specs.world.Naming.{PathOf}
 use Rattle.ix_model.specs.world.World.{Frame, Object, Process, Open, at, put, change, living, is_pipe, is_ended}
 use Rattle.ix_model.specs.rows.Rows.{change_process, observe, affect}
-use Rattle.ix_model.specs.rows.Walks.{Behind, behind, walked_to, object_at}
-use Rattle.ix_model.specs.rows.OnDescriptors.{Told, float_entry, read_fd, write_fd}
+use Rattle.ix_model.specs.rows.Walks.{OpenFile, behind, walked_to, object_at}
+use Rattle.ix_model.specs.rows.OnDescriptors.{LengthChecks, float_entry, read_fd, write_fd}
 use Rattle.ix_model.specs.rows.OnPaths.{stat_at, stat_passed}
 use Rattle.ix_model.specs.rows.OnProcesses.{is_child, wait_child, wait_passed}
 use Rattle.ix_model.specs.declared.reply.Reply.{Reply}
@@ -40,7 +40,7 @@ one_living : (o : Option Process) (p q : Process) → living o ≡ Some p → li
 one_living o p q is here = let h : Some p ≡ Some q = sym is ∙ here in cc
 
 -- ---- a read
-pub record ReadFacts (pid : ℕ) (f : Frame) (e : Behind) (g : Frame) : Type 0 where
+pub record ReadFacts (pid : ℕ) (f : Frame) (e : OpenFile) (g : Frame) : Type 0 where
   pub object : Object
   pub is_object : at f.objects e.entry.object ≡ Some object
   pub process : Process
@@ -58,12 +58,12 @@ joined t e l y here = elim (at_change t e _ e y here) [
 
 -- the fact for every entry that is behind the descriptor
 abbrev pub ReadKnown : ℕ → ℕ → Frame → Reply → Frame → Type 0
-ReadKnown pid fd f r g = (e : Behind) → behind f pid fd ≡ Some e → ReadFacts pid f e g
+ReadKnown pid fd f r g = (e : OpenFile) → behind f pid fd ≡ Some e → ReadFacts pid f e g
 
-for_each : (b : Option Behind) (R : Behind → Type 0) (e : Behind) → b ≡ Some e → R e → (other : Behind) → b ≡ Some other → R other
+for_each : (b : Option OpenFile) (R : OpenFile → Type 0) (e : OpenFile) → b ≡ Some e → R e → (other : OpenFile) → b ≡ Some other → R other
 for_each b R e is r other here = let h : Some e ≡ Some other = sym is ∙ here in let one : e ≡ other = cc in subst R one r
 
-pub read_known : (t : Told) (pid fd count : ℕ) (f : Frame) → Ends (read_fd t pid fd count f) Anything (ReadKnown pid fd f)
+pub read_known : (t : LengthChecks) (pid fd count : ℕ) (f : Frame) → Ends (read_fd t pid fd count f) Anything (ReadKnown pid fd f)
 unfolding read_fd float_entry
 read_known t pid fd count f =
     let Q : Reply → Frame → Type 0 = ReadKnown pid fd f in
@@ -105,7 +105,7 @@ ends_affects pid o through f Q affects =
     both y.label (subst (λ (z : Object). leq (join p.label through) z.label ≡ true) one (subst (λ (a : Categories). leq (join p.label through) a ≡ true) ((same-decides (join x.label (join p.label through)) x.label).0 (not-false _ no)) (leq-join_right x.label (join p.label through)))))))))
     tt)) tt)
 
-pub record WriteFacts (pid : ℕ) (f : Frame) (e : Behind) (g : Frame) : Type 0 where
+pub record WriteFacts (pid : ℕ) (f : Frame) (e : OpenFile) (g : Frame) : Type 0 where
   pub object : Object
   pub is_object : at f.objects e.entry.object ≡ Some object
   pub caller : Process
@@ -115,9 +115,9 @@ pub record WriteFacts (pid : ℕ) (f : Frame) (e : Behind) (g : Frame) : Type 0 
   pub entry : is_pipe object ≡ false → (y : Open) → at g.opens e.id ≡ Some y → (leq caller.label y.label ≡ true) × (leq e.entry.label y.label ≡ true)
 
 abbrev pub WriteKnown : ℕ → ℕ → Frame → Reply → Frame → Type 0
-WriteKnown pid fd f r g = (e : Behind) → behind f pid fd ≡ Some e → WriteFacts pid f e g
+WriteKnown pid fd f r g = (e : OpenFile) → behind f pid fd ≡ Some e → WriteFacts pid f e g
 
-pub write_known : (t : Told) (pid fd : ℕ) (f : Frame) → Ends (write_fd t pid fd f) Anything (WriteKnown pid fd f)
+pub write_known : (t : LengthChecks) (pid fd : ℕ) (f : Frame) → Ends (write_fd t pid fd f) Anything (WriteKnown pid fd f)
 unfolding write_fd float_entry
 write_known t pid fd f =
     let Q : Reply → Frame → Type 0 = WriteKnown pid fd f in

@@ -4,7 +4,7 @@ use Rattle.std.specs.Prelude.{slice_get}
 use Rattle.std.proofs.lemmas.List.{length-map}
 use Rattle.ix_label.specs.Category.{Categories}
 use Rattle.ix_model.specs.world.World.{World, Frame, Content}
-use Rattle.ix_model.specs.rows.Walks.{Behind, behind}
+use Rattle.ix_model.specs.rows.Walks.{OpenFile, behind}
 use Rattle.ix_model.specs.world.Contents.{carried, holding_of, readable, after_read, after_write, after_cut, after_seek, after_exit, emptied}
 use Rattle.ix_model.specs.rows.Table.{Decision, verdict}
 use Rattle.ix_model.specs.rows.Telling.{told, told_of_read, told_of_write, told_of_cut}
@@ -67,27 +67,27 @@ module _ (f : Frame) (c d : Content) (same : zero_content c ≡ zero_content d) 
   edited : (g : Frame) (h k m : Content → Content) → ((x : Content) → zero_content (h x) ≡ m (zero_content x)) → ((x : Content) → zero_content (k x) ≡ m (zero_content x)) → zero_content (h (carried f g c)) ≡ zero_content (k (carried f g d))
   edited g h k m one_way other_way = one_way (carried f g c) ∙ ap m (kept g) ∙ sym (other_way (carried f g d))
 
-  read_length : (x : Content) (count : ℕ) (e : Behind) → length (take count (readable f x e)) ≡ length (take count (readable f (zero_content x) e))
+  read_length : (x : Content) (count : ℕ) (e : OpenFile) → length (take count (readable f x e)) ≡ length (take count (readable f (zero_content x) e))
   read_length x count e = sym (length_zeros (take count (readable f x e))) ∙ ap length (take_zeros count (readable f x e)) ∙ ap (λ bytes. length (take count bytes)) (sym (readable_zero f x e))
 
-  read_outline : (count : ℕ) (b : Option Behind) (r : Reply) (g : Frame) → Zeroed (read_answer one count b r g) (read_answer other count b r g)
+  read_outline : (count : ℕ) (b : Option OpenFile) (r : Reply) (g : Frame) → Zeroed (read_answer one count b r g) (read_answer other count b r g)
   unfolding read_answer plainly
   read_outline count (Some e) (reply.Bytes k) g =
       let long = read_length c count e ∙ ap (λ x. length (take count (readable f x e))) same ∙ sym (read_length d count e) in
       edited g (after_read f e (length (take count (readable f c e)))) (after_read f e (length (take count (readable f d e)))) (after_read f e (length (take count (readable f c e)))) (λ x. read_zero f e _ x) (λ x. read_zero f e _ x ∙ ap (λ k. after_read f e k (zero_content x)) (sym long))
   read_outline count _ r g = kept g
 
-  write_outline : (m n : List ℕ) → zeros m ≡ zeros n → (b : Option Behind) (r : Reply) (g : Frame) → Zeroed (write_answer one m b r g) (write_answer other n b r g)
+  write_outline : (m n : List ℕ) → zeros m ≡ zeros n → (b : Option OpenFile) (r : Reply) (g : Frame) → Zeroed (write_answer one m b r g) (write_answer other n b r g)
   unfolding write_answer plainly
   write_outline m n equal (Some e) (reply.Number k) g = edited g (after_write f e m) (after_write f e n) (after_write f e (zeros m)) (λ x. write_zero f e m x) (λ x. write_zero f e n x ∙ ap (λ z. after_write f e z (zero_content x)) (sym equal))
   write_outline m n equal _ r g = kept g
 
-  cut_outline : (len : ℕ) (b : Option Behind) (r : Reply) (g : Frame) → Zeroed (cut_answer one len b r g) (cut_answer other len b r g)
+  cut_outline : (len : ℕ) (b : Option OpenFile) (r : Reply) (g : Frame) → Zeroed (cut_answer one len b r g) (cut_answer other len b r g)
   unfolding cut_answer plainly
   cut_outline len (Some e) reply.Done g = edited g (after_cut e len) (after_cut e len) (after_cut e len) (λ x. cut_zero e len x) (λ x. cut_zero e len x)
   cut_outline len _ r g = kept g
 
-  seek_outline : (offset : ℕ) (b : Option Behind) (r : Reply) (g : Frame) → Zeroed (seek_answer one offset b r g) (seek_answer other offset b r g)
+  seek_outline : (offset : ℕ) (b : Option OpenFile) (r : Reply) (g : Frame) → Zeroed (seek_answer one offset b r g) (seek_answer other offset b r g)
   unfolding seek_answer plainly
   seek_outline offset (Some e) reply.Done g = edited g (after_seek e offset) (after_seek e offset) (after_seek e offset) (λ x. seek_zero e offset x) (λ x. seek_zero e offset x)
   seek_outline offset _ r g = kept g
@@ -111,7 +111,7 @@ module _ (f : Frame) (c d : Content) (same : zero_content c ≡ zero_content d) 
   either_way true v x w y r s = r
   either_way false v x w y r s = s
 
-  pex_outline : (b : Option Behind) (r : Reply) (g : Frame) → Zeroed (pex_answer one b r g) (pex_answer other b r g)
+  pex_outline : (b : Option OpenFile) (r : Reply) (g : Frame) → Zeroed (pex_answer one b r g) (pex_answer other b r g)
   unfolding pex_answer plainly
   pex_outline (Some e) r g = either_way (is_whole g e.entry.object && not (is_whole f e.entry.object)) _ _ _ _ (edited g (emptied e.entry.object) (emptied e.entry.object) (emptied e.entry.object) (λ x. emptied_zero e.entry.object x) (λ x. emptied_zero e.entry.object x)) (kept g)
   pex_outline None r g = kept g
@@ -141,22 +141,22 @@ module _ (f : Frame) (c d : Content) (same : zero_content c ≡ zero_content d) 
   abbrev Told : Given → Given → Type 0
   Told a b = but_status a.reply ≡ but_status b.reply
 
-  read_replies : (count : ℕ) (b : Option Behind) (r : Reply) (g : Frame) → Told (read_answer one count b r g) (read_answer other count b r g)
+  read_replies : (count : ℕ) (b : Option OpenFile) (r : Reply) (g : Frame) → Told (read_answer one count b r g) (read_answer other count b r g)
   unfolding read_answer plainly
   read_replies count (Some e) (reply.Bytes k) g = ap (λ n. reply.Bytes n) (read_length c count e ∙ ap (λ x. length (take count (readable f x e))) same ∙ sym (read_length d count e))
   read_replies count _ r g = refl
 
-  write_replies : (m n : List ℕ) → length m ≡ length n → (b : Option Behind) (r : Reply) (g : Frame) → Told (write_answer one m b r g) (write_answer other n b r g)
+  write_replies : (m n : List ℕ) → length m ≡ length n → (b : Option OpenFile) (r : Reply) (g : Frame) → Told (write_answer one m b r g) (write_answer other n b r g)
   unfolding write_answer plainly
   write_replies m n equal (Some e) (reply.Number k) g = ap (λ n. reply.Number n) equal
   write_replies m n equal _ r g = refl
 
-  cut_replies : (len : ℕ) (b : Option Behind) (r : Reply) (g : Frame) → Told (cut_answer one len b r g) (cut_answer other len b r g)
+  cut_replies : (len : ℕ) (b : Option OpenFile) (r : Reply) (g : Frame) → Told (cut_answer one len b r g) (cut_answer other len b r g)
   unfolding cut_answer plainly
   cut_replies len (Some e) reply.Done g = refl
   cut_replies len _ r g = refl
 
-  seek_replies : (offset : ℕ) (b : Option Behind) (r : Reply) (g : Frame) → Told (seek_answer one offset b r g) (seek_answer other offset b r g)
+  seek_replies : (offset : ℕ) (b : Option OpenFile) (r : Reply) (g : Frame) → Told (seek_answer one offset b r g) (seek_answer other offset b r g)
   unfolding seek_answer plainly
   seek_replies offset (Some e) reply.Done g = refl
   seek_replies offset _ r g = refl
@@ -176,7 +176,7 @@ module _ (f : Frame) (c d : Content) (same : zero_content c ≡ zero_content d) 
   wait_replies (reply.Child p status) g = refl
   wait_replies r g = refl
 
-  pex_replies : (b : Option Behind) (r : Reply) (g : Frame) → Told (pex_answer one b r g) (pex_answer other b r g)
+  pex_replies : (b : Option OpenFile) (r : Reply) (g : Frame) → Told (pex_answer one b r g) (pex_answer other b r g)
   unfolding pex_answer plainly
   pex_replies (Some e) r g = refl
   pex_replies None r g = refl

@@ -4,8 +4,8 @@ use Rattle.ix_model.specs.rows.Refusals.{number_of, keeps_label}
 use Rattle.ix_model.specs.world.World.{Frame, Object, lives}
 use Rattle.ix_model.specs.rows.Outcomes.{Row, Outcome, Refuse, Pass}
 use Rattle.ix_model.specs.rows.Rows.{◌>>=◌, ◌>>◌, on_pass, pass, refuse, need, process}
-use Rattle.ix_model.specs.rows.Walks.{Behind}
-use Rattle.ix_model.specs.rows.OnDescriptors.{Told, float_entry, read_fd, write_fd, cut_fd, read_passed}
+use Rattle.ix_model.specs.rows.Walks.{OpenFile}
+use Rattle.ix_model.specs.rows.OnDescriptors.{LengthChecks, float_entry, read_fd, write_fd, cut_fd, read_passed}
 use Rattle.ix_model.specs.rows.Table.{Decision, row, settled, verdict}
 use Rattle.ix_model.specs.history.Events.{Op}
 use Rattle.ix_model.specs.history.Events as op
@@ -69,33 +69,33 @@ yes_done : IsYes reply.Done
 yes_done q h = absurd (omega (arith, h))
 
 -- ---- the three rows that are told something
-read_rest : (pid : ℕ) (x : Object) (e : Behind) (g : Frame) → Ends (◌>>=◌ (process pid) (λ p. ◌>>◌ (float_entry p x e) (pass read_passed)) g) (λ q i. number_of q ≡ number_of refusal.Again → keeps_label refusal.Again ≡ false) (λ a i. IsYes a)
+read_rest : (pid : ℕ) (x : Object) (e : OpenFile) (g : Frame) → Ends (◌>>=◌ (process pid) (λ p. ◌>>◌ (float_entry p x e) (pass read_passed)) g) (λ q i. number_of q ≡ number_of refusal.Again → keeps_label refusal.Again ≡ false) (λ a i. IsYes a)
 read_rest pid x e g =
     ends_bind _ _ g _ _ (ends_caller pid g _ _ (λ p lives.
     ends_then _ _ g _ _ (ends_float_entry p x e g _ _ (ends_pass _ _ _ _ (yes_bytes 0)) (λ h. ends_pass _ _ _ _ (yes_bytes 0))))
     (λ h. absurd (omega (arith, h))))
 
-read_kin : (t u : Told) (pid fd count : ℕ) (f : Frame) → Kin f (read_fd t pid fd count f) (read_fd u pid fd count f)
+read_kin : (t u : LengthChecks) (pid fd count : ℕ) (f : Frame) → Kin f (read_fd t pid fd count f) (read_fd u pid fd count f)
 unfolding read_fd
 read_kin t u pid fd count f = search (kin_bind, kin_then, kin_test, kin_itself, read_rest) depth 60
 
-write_kin : (t u : Told) (pid fd : ℕ) (f : Frame) → Kin f (write_fd t pid fd f) (write_fd u pid fd f)
+write_kin : (t u : LengthChecks) (pid fd : ℕ) (f : Frame) → Kin f (write_fd t pid fd f) (write_fd u pid fd f)
 unfolding write_fd
 write_kin t u pid fd f = search (kin_bind, kin_then, kin_test, kin_itself, ending, ends_touch, ends_float_entry, yes_number) depth 60
 
-cut_kin : (t u : Told) (pid fd len : ℕ) (f : Frame) → Kin f (cut_fd t pid fd len f) (cut_fd u pid fd len f)
+cut_kin : (t u : LengthChecks) (pid fd len : ℕ) (f : Frame) → Kin f (cut_fd t pid fd len f) (cut_fd u pid fd len f)
 unfolding cut_fd
 cut_kin t u pid fd len f = search (kin_bind, kin_then, kin_test, kin_itself, ending, ends_touch, yes_done) depth 60
 
 -- ---- decisions
-row_kin : (t u : Told) (place pid : ℕ) (c : Op) (f : Frame) → Kin f (row t place pid c f) (row u place pid c f)
+row_kin : (t u : LengthChecks) (place pid : ℕ) (c : Op) (f : Frame) → Kin f (row t place pid c f) (row u place pid c f)
 unfolding row
 row_kin t u place pid (op.ReadFd fd count) f = read_kin t u pid fd count f
 row_kin t u place pid (op.WriteFd fd bytes) f = write_kin t u pid fd f
 row_kin t u place pid (op.CutFd fd len) f = cut_kin t u pid fd len f
 row_kin t u place pid _ f = kin_itself f _
 
-pub verdict_kind : (t u : Told) (place pid : ℕ) (c : Op) (f : Frame) → kind_number (verdict t place pid c f).reply ≡ kind_number (verdict u place pid c f).reply → verdict t place pid c f ≡ verdict u place pid c f
+pub verdict_kind : (t u : LengthChecks) (place pid : ℕ) (c : Op) (f : Frame) → kind_number (verdict t place pid c f).reply ≡ kind_number (verdict u place pid c f).reply → verdict t place pid c f ≡ verdict u place pid c f
 unfolding verdict
 verdict_kind t u place pid c f e = go (lives f pid) e
   where

@@ -13,5 +13,5 @@ mod Zeroed
 mod InLength
 mod ByShape
 mod Opened
-pub mod Hiding
+pub mod Noninterference
 pub mod forms

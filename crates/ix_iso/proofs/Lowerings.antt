@@ -15,7 +15,7 @@ use Rattle.ix_model.specs.rows.Walks.{object_at}
 use Rattle.ix_model.specs.rows.Auditing.{logged, audit_line}
 use Rattle.ix_model.specs.history.AuditLog.{audit_log, lines_added, is_licensed, exercises, line_of_act}
 use Rattle.ix_model.specs.rows.OnLabels.{set_label, set_self}
-use Rattle.ix_model.specs.rows.OnDescriptors.{Told}
+use Rattle.ix_model.specs.rows.OnDescriptors.{LengthChecks}
 use Rattle.ix_model.specs.rows.Table.{row}
 use Rattle.ix_model.specs.rows.Telling.{told}
 use Rattle.ix_model.specs.history.Step.{step, step_of, run}
@@ -132,7 +132,7 @@ module _ (place pid : ℕ) (f : Frame) where
       ends_then _ _ f P Q (ends_only_if _ _ f P _ (λ falls. ends_exercise pid to_lower f P _ (λ why. unchanged) second) (λ rises. second)))
       unchanged)
 
-  told_row : (t : Told) (c : Op) → Holds (row t place pid c f) (Tells place pid f)
+  told_row : (t : LengthChecks) (c : Op) → Holds (row t place pid c f) (Tells place pid f)
   unfolding row P Q
   told_row t (op.SetLabel path now) = kept_ends (Tells place pid f) _ (label_tells path now)
   told_row t (op.SetSelf now) = kept_ends (Tells place pid f) _ (self_tells now)

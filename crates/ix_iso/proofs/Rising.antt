@@ -7,7 +7,7 @@ use Rattle.ix_model.specs.world.World.{Frame, Object, Process, at, put, change}
 use Rattle.ix_model.specs.rows.Rows.{change_object, change_process, change_open, put_object, put_open, put_process, add_process}
 use Rattle.ix_model.specs.rows.Auditing.{logged}
 use Rattle.ix_model.specs.rows.OnProcesses.{remains, end_process}
-use Rattle.ix_model.specs.rows.OnDescriptors.{Told}
+use Rattle.ix_model.specs.rows.OnDescriptors.{LengthChecks}
 use Rattle.ix_model.specs.rows.Table.{row}
 use Rattle.ix_model.specs.history.Events.{Op}
 use Rattle.ix_model.specs.history.Events as op
@@ -200,7 +200,7 @@ module _ (f : Frame) where
   adding_itself : Adding f.objects f.processes
   adding_itself = record { risen = risen_itself f; lasting = lasting_itself f.objects }
 
-  made_row : (pid : ℕ) (t : Told) (place : ℕ) (c : Op) → Keeps (λ g. Adding g.objects g.processes) (row t place pid c) → Holds (row t place pid c f) (λ g. Risen f g.objects g.processes)
+  made_row : (pid : ℕ) (t : LengthChecks) (place : ℕ) (c : Op) → Keeps (λ g. Adding g.objects g.processes) (row t place pid c) → Holds (row t place pid c f) (λ g. Risen f g.objects g.processes)
   made_row pid t place c keeps = holds_more (λ g. Adding g.objects g.processes) (λ g. Risen f g.objects g.processes) (row t place pid c f) (λ g r. r.risen) (keeps.led f adding_itself)
 
   -- whether a call sets a label
@@ -209,7 +209,7 @@ module _ (f : Frame) where
   sets_labels (op.SetSelf now) = true
   sets_labels _ = false
 
-  pub risen_row : (pid : ℕ) (t : Told) (place : ℕ) (c : Op) → sets_labels c ≡ false → Holds (row t place pid c f) (λ g. Risen f g.objects g.processes)
+  pub risen_row : (pid : ℕ) (t : LengthChecks) (place : ℕ) (c : Op) → sets_labels c ≡ false → Holds (row t place pid c f) (λ g. Risen f g.objects g.processes)
   risen_row pid t place (op.SetLabel path now) h = absurd (true≢false h)
   risen_row pid t place (op.SetSelf now) h = absurd (true≢false h)
   risen_row pid t place (op.CreateAt path) h = made_row pid t place (op.CreateAt path) (moved_row only_adds pid _ (rising_adding pid) t place (op.CreateAt path) refl)

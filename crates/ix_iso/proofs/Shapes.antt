@@ -2,7 +2,7 @@
 use Rattle.std.proofs.Common.{◌≡◌, ℕ, true, List, length, refl, sym, ap, ◌∙◌}
 use Rattle.ix_model.specs.world.World.{Frame, World, Content}
 use Rattle.ix_model.specs.world.Contents.{carried}
-use Rattle.ix_model.specs.rows.OnDescriptors.{Told}
+use Rattle.ix_model.specs.rows.OnDescriptors.{LengthChecks}
 use Rattle.ix_model.specs.rows.Table.{Decision, row, verdict}
 use Rattle.ix_model.specs.rows.Telling.{told}
 use Rattle.ix_model.specs.history.Step.{step}
@@ -19,7 +19,7 @@ use Rattle.ix_iso.proofs.Counts.{SameCounts, counts_carried, kept_answer, told_a
 
 -- two calls whose rows are one, and of whose replies the frame decides the same part
 pub record Twins (o p : Op) : Type 0 where
-  pub verdicts : (t : Told) (place pid : ℕ) (f : Frame) → verdict t place pid o f ≡ verdict t place pid p f
+  pub verdicts : (t : LengthChecks) (place pid : ℕ) (f : Frame) → verdict t place pid o f ≡ verdict t place pid p f
   pub parts : (r : Reply) → frame_part o r ≡ frame_part p r
   pub reads : gives_bytes p ≡ gives_bytes o
 

@@ -4,9 +4,9 @@ use Rattle.std.specs.Option.{option_map_or}
 use Rattle.ix_label.specs.Category.{Categories, leq}
 use Rattle.ix_label.specs.Lattice.{leq-trans}
 use Rattle.ix_model.specs.world.World.{World, Frame, Content, Holding, Object, Process, Open, at, living, is_pipe, is_ended}
-use Rattle.ix_model.specs.rows.Walks.{Behind, behind}
+use Rattle.ix_model.specs.rows.Walks.{OpenFile, behind}
 use Rattle.ix_model.specs.world.Contents.{carried, holding_of, offset_of, status_of, side, with_side, on_pipe, readable, change_side, after_read, after_write, spliced, after_cut, cut_to, after_seek, after_exit, emptied, holds_nothing}
-use Rattle.ix_model.specs.rows.OnDescriptors.{Told}
+use Rattle.ix_model.specs.rows.OnDescriptors.{LengthChecks}
 use Rattle.ix_model.specs.rows.Table.{Decision, row, verdict}
 use Rattle.ix_model.specs.rows.Telling.{told}
 use Rattle.ix_model.specs.history.AuditLog.{is_answer}
@@ -33,7 +33,7 @@ pub record Inside (l : Categories) (pid : ℕ) (f : Frame) (a b : Given) : Type 
   pub inside : (Crosses l f a.world.frame → ⊥) → AlikeIn l a.world.frame a.world.content b.world.content
   pub replies : IsLow l a.world.frame pid → (a.reply ≡ b.reply) × (a.bytes ≡ b.bytes)
 
-same_bytes_of : (f : Frame) (e : Behind) (c d : Content) → (on_pipe f e ≡ false → offset_of c e.id ≡ offset_of d e.id) → holding_of c e.entry.object ≡ holding_of d e.entry.object → readable f c e ≡ readable f d e
+same_bytes_of : (f : Frame) (e : OpenFile) (c d : Content) → (on_pipe f e ≡ false → offset_of c e.id ≡ offset_of d e.id) → holding_of c e.entry.object ≡ holding_of d e.entry.object → readable f c e ≡ readable f d e
 unfolding readable
 same_bytes_of f e c d offsets holdings = go (on_pipe f e) offsets
   where
@@ -48,16 +48,16 @@ module _ (l : Categories) (g : Frame) (c d : Content) (counts : SameCounts c d) 
       let equal = same.bytes o x here below in
       ap (λ (y : Holding). with_side end (h (side end y)) y) equal ∙ ap (λ b. with_side end b (holding_of d o)) (one x here below (side end (holding_of d o))))
 
-  read_edited : (b : Bool) (e : Behind) (m n : ℕ) → (b ≡ true → (x : Object) → at g.objects e.entry.object ≡ Some x → leq x.label l ≡ true → m ≡ n) → (b ≡ false → (y : Open) → at g.opens e.id ≡ Some y → leq y.label l ≡ true → m ≡ n)
+  read_edited : (b : Bool) (e : OpenFile) (m n : ℕ) → (b ≡ true → (x : Object) → at g.objects e.entry.object ≡ Some x → leq x.label l ≡ true → m ≡ n) → (b ≡ false → (y : Open) → at g.opens e.id ≡ Some y → leq y.label l ≡ true → m ≡ n)
       → AlikeIn l g (if b then change_side e.entry.object e.entry.end (drop m) c else record c { offsets = set c.offsets e.id (offset_of c e.id + m) }) (if b then change_side e.entry.object e.entry.end (drop n) d else record d { offsets = set d.offsets e.id (offset_of d e.id + n) })
   read_edited true e m n pipe file = side_alike e.entry.object e.entry.end (drop m) (drop n) (λ x here below bytes. ap (λ k. drop k bytes) (pipe refl x here below))
   read_edited false e m n pipe file = offset_alike l g c d counts same e.id _ _ (λ y here below. let one = file refl y here below in let equal = same.offsets e.id y here below in λ i. equal i + one i)
 
-  read_alike : (f : Frame) (e : Behind) (m n : ℕ) → (on_pipe f e ≡ true → (x : Object) → at g.objects e.entry.object ≡ Some x → leq x.label l ≡ true → m ≡ n) → (on_pipe f e ≡ false → (y : Open) → at g.opens e.id ≡ Some y → leq y.label l ≡ true → m ≡ n) → AlikeIn l g (after_read f e m c) (after_read f e n d)
+  read_alike : (f : Frame) (e : OpenFile) (m n : ℕ) → (on_pipe f e ≡ true → (x : Object) → at g.objects e.entry.object ≡ Some x → leq x.label l ≡ true → m ≡ n) → (on_pipe f e ≡ false → (y : Open) → at g.opens e.id ≡ Some y → leq y.label l ≡ true → m ≡ n) → AlikeIn l g (after_read f e m c) (after_read f e n d)
   unfolding after_read
   read_alike f e m n pipe file = read_edited (on_pipe f e) e m n pipe file
 
-  write_edited : (b : Bool) (e : Behind) (m n : List ℕ) → ((x : Object) → at g.objects e.entry.object ≡ Some x → leq x.label l ≡ true → (m ≡ n) × (b ≡ false → offset_of c e.id ≡ offset_of d e.id)) → (b ≡ false → (y : Open) → at g.opens e.id ≡ Some y → leq y.label l ≡ true → m ≡ n)
+  write_edited : (b : Bool) (e : OpenFile) (m n : List ℕ) → ((x : Object) → at g.objects e.entry.object ≡ Some x → leq x.label l ≡ true → (m ≡ n) × (b ≡ false → offset_of c e.id ≡ offset_of d e.id)) → (b ≡ false → (y : Open) → at g.opens e.id ≡ Some y → leq y.label l ≡ true → m ≡ n)
       → AlikeIn l g (if b then change_side e.entry.object (1 - e.entry.end) (λ old. old ++ m) c else record (change_side e.entry.object e.entry.end (spliced (offset_of c e.id) m) c) { offsets = set c.offsets e.id (offset_of c e.id + length m) })
       (if b then change_side e.entry.object (1 - e.entry.end) (λ old. old ++ n) d else record (change_side e.entry.object e.entry.end (spliced (offset_of d e.id) n) d) { offsets = set d.offsets e.id (offset_of d e.id + length n) })
   write_edited true e m n object entry = side_alike e.entry.object (1 - e.entry.end) (λ old. old ++ m) (λ old. old ++ n) (λ x here below bytes. ap (λ k. bytes ++ k) (object x here below).0)
@@ -66,15 +66,15 @@ module _ (l : Categories) (g : Frame) (c d : Content) (counts : SameCounts c d) 
       let moved = offset_alike l g c d counts same e.id (offset_of c e.id + length m) (offset_of d e.id + length n) (λ y here below. let one = entry refl y here below in let equal = same.offsets e.id y here below in λ i. equal i + length (one i)) in
       record { bytes = held.bytes; offsets = moved.offsets; statuses = same.statuses }
 
-  write_alike : (f : Frame) (e : Behind) (m n : List ℕ) → ((x : Object) → at g.objects e.entry.object ≡ Some x → leq x.label l ≡ true → (m ≡ n) × (on_pipe f e ≡ false → offset_of c e.id ≡ offset_of d e.id)) → (on_pipe f e ≡ false → (y : Open) → at g.opens e.id ≡ Some y → leq y.label l ≡ true → m ≡ n) → AlikeIn l g (after_write f e m c) (after_write f e n d)
+  write_alike : (f : Frame) (e : OpenFile) (m n : List ℕ) → ((x : Object) → at g.objects e.entry.object ≡ Some x → leq x.label l ≡ true → (m ≡ n) × (on_pipe f e ≡ false → offset_of c e.id ≡ offset_of d e.id)) → (on_pipe f e ≡ false → (y : Open) → at g.opens e.id ≡ Some y → leq y.label l ≡ true → m ≡ n) → AlikeIn l g (after_write f e m c) (after_write f e n d)
   unfolding after_write
   write_alike f e m n object entry = write_edited (on_pipe f e) e m n object entry
 
-  cut_alike : (e : Behind) (len : ℕ) → AlikeIn l g (after_cut e len c) (after_cut e len d)
+  cut_alike : (e : OpenFile) (len : ℕ) → AlikeIn l g (after_cut e len c) (after_cut e len d)
   unfolding after_cut
   cut_alike e len = side_alike e.entry.object e.entry.end (cut_to len) (cut_to len) (λ x here below bytes. refl)
 
-  seek_alike : (e : Behind) (offset : ℕ) → AlikeIn l g (after_seek e offset c) (after_seek e offset d)
+  seek_alike : (e : OpenFile) (offset : ℕ) → AlikeIn l g (after_seek e offset c) (after_seek e offset d)
   unfolding after_seek
   seek_alike e offset = offset_alike l g c d counts same e.id offset offset (λ y here below. refl)
 
@@ -120,7 +120,7 @@ module _ (l : Categories) (pid : ℕ) (f : Frame) (c d : Content) (counts : Same
   unfolding plainly
   plain_inside r g rise = record { inside = λ steady. kept g rise steady; replies = λ low. (refl, refl) }
 
-  read_inside : (fd count : ℕ) (b : Option Behind) → behind f pid fd ≡ b → (r : Reply) (g : Frame) → EntriesRise f.opens g.opens → (is_answer r ≡ true → ReadKnown pid fd f r g) → Inside l pid f (read_answer one count b r g) (read_answer two count b r g)
+  read_inside : (fd count : ℕ) (b : Option OpenFile) → behind f pid fd ≡ b → (r : Reply) (g : Frame) → EntriesRise f.opens g.opens → (is_answer r ≡ true → ReadKnown pid fd f r g) → Inside l pid f (read_answer one count b r g) (read_answer two count b r g)
   unfolding read_answer
   read_inside fd count (Some e) is (reply.Bytes k) g rise known =
       let facts = known refl e is in
@@ -141,7 +141,7 @@ module _ (l : Categories) (pid : ℕ) (f : Frame) (c d : Content) (counts : Same
       }
   read_inside fd count _ is r g rise known = plain_inside r g rise
 
-  write_inside : (fd : ℕ) (m n : List ℕ) → Agreed l pid f m n → (b : Option Behind) → behind f pid fd ≡ b → (r : Reply) (g : Frame) → EntriesRise f.opens g.opens → (is_answer r ≡ true → WriteKnown pid fd f r g) → Inside l pid f (write_answer one m b r g) (write_answer two n b r g)
+  write_inside : (fd : ℕ) (m n : List ℕ) → Agreed l pid f m n → (b : Option OpenFile) → behind f pid fd ≡ b → (r : Reply) (g : Frame) → EntriesRise f.opens g.opens → (is_answer r ≡ true → WriteKnown pid fd f r g) → Inside l pid f (write_answer one m b r g) (write_answer two n b r g)
   unfolding write_answer
   write_inside fd m n agree (Some e) is (reply.Number k) g rise known =
       let facts = known refl e is in
@@ -160,12 +160,12 @@ module _ (l : Categories) (pid : ℕ) (f : Frame) (c d : Content) (counts : Same
       }
   write_inside fd m n agree _ is r g rise known = plain_inside r g rise
 
-  cut_inside : (len : ℕ) (b : Option Behind) (r : Reply) (g : Frame) → EntriesRise f.opens g.opens → Inside l pid f (cut_answer one len b r g) (cut_answer two len b r g)
+  cut_inside : (len : ℕ) (b : Option OpenFile) (r : Reply) (g : Frame) → EntriesRise f.opens g.opens → Inside l pid f (cut_answer one len b r g) (cut_answer two len b r g)
   unfolding cut_answer
   cut_inside len (Some e) reply.Done g rise = record { inside = λ steady. cut_alike l g (carried f g c) (carried f g d) (many g) (kept g rise steady) e len; replies = λ low. (refl, refl) }
   cut_inside len _ r g rise = plain_inside r g rise
 
-  seek_inside : (offset : ℕ) (b : Option Behind) (r : Reply) (g : Frame) → EntriesRise f.opens g.opens → Inside l pid f (seek_answer one offset b r g) (seek_answer two offset b r g)
+  seek_inside : (offset : ℕ) (b : Option OpenFile) (r : Reply) (g : Frame) → EntriesRise f.opens g.opens → Inside l pid f (seek_answer one offset b r g) (seek_answer two offset b r g)
   unfolding seek_answer
   seek_inside offset (Some e) reply.Done g rise = record { inside = λ steady. seek_alike l g (carried f g c) (carried f g d) (many g) (kept g rise steady) e offset; replies = λ low. (refl, refl) }
   seek_inside offset _ r g rise = plain_inside r g rise
@@ -211,13 +211,13 @@ module _ (l : Categories) (pid : ℕ) (f : Frame) (c d : Content) (counts : Same
       }
   wait_inside r g rise known = plain_inside r g rise
 
-  pex_inside : (b : Option Behind) (r : Reply) (g : Frame) → EntriesRise f.opens g.opens → Inside l pid f (pex_answer one b r g) (pex_answer two b r g)
+  pex_inside : (b : Option OpenFile) (r : Reply) (g : Frame) → EntriesRise f.opens g.opens → Inside l pid f (pex_answer one b r g) (pex_answer two b r g)
   unfolding pex_answer
   pex_inside (Some e) r g rise = record { inside = λ steady. emptied_alike l g (carried f g c) (carried f g d) (many g) (kept g rise steady) (is_whole g e.entry.object && not (is_whole f e.entry.object)) e.entry.object; replies = λ low. (refl, refl) }
   pex_inside None r g rise = plain_inside r g rise
 
   -- ---- the same call
-  answer_inside : (t : Told) (place : ℕ) (o : Op) → Inside l pid f (answer one pid o (verdict t place pid o f)) (answer two pid o (verdict t place pid o f))
+  answer_inside : (t : LengthChecks) (place : ℕ) (o : Op) → Inside l pid f (answer one pid o (verdict t place pid o f)) (answer two pid o (verdict t place pid o f))
   unfolding answer row
   answer_inside t place (op.ReadFd fd count) = read_inside fd count (behind f pid fd) refl _ _ (entries_rise t place pid (op.ReadFd fd count) f) (passed t place pid (op.ReadFd fd count) f (ReadKnown pid fd f) (read_known t pid fd count f))
   answer_inside t place (op.WriteFd fd bytes) = write_inside fd bytes bytes (inr refl) (behind f pid fd) refl _ _ (entries_rise t place pid (op.WriteFd fd bytes) f) (passed t place pid (op.WriteFd fd bytes) f (WriteKnown pid fd f) (write_known t pid fd f))
@@ -230,7 +230,7 @@ module _ (l : Categories) (pid : ℕ) (f : Frame) (c d : Content) (counts : Same
   answer_inside t place o = plain_inside _ _ (entries_rise t place pid o f)
 
   -- another one of a process that isn't low
-  replaced_inside : (t : Told) (place : ℕ) (o p : Op) → IsHigh l f pid → Replaced o p → Inside l pid f (answer one pid o (verdict t place pid o f)) (answer two pid p (verdict t place pid o f))
+  replaced_inside : (t : LengthChecks) (place : ℕ) (o p : Op) → IsHigh l f pid → Replaced o p → Inside l pid f (answer one pid o (verdict t place pid o f)) (answer two pid p (verdict t place pid o f))
   unfolding answer row
   replaced_inside t place _ _ high (Written {fd = fd} {a = a} {b = b}) = write_inside fd a b (inl high) (behind f pid fd) refl _ _ (entries_rise t place pid (op.WriteFd fd a) f) (passed t place pid (op.WriteFd fd a) f (WriteKnown pid fd f) (write_known t pid fd f))
   replaced_inside t place _ _ high (Exited {s = s} {t = u}) = exit_inside s u (inl high) _ _ (entries_rise t place pid (op.Exit s) f)

@@ -3,7 +3,7 @@ use Rattle.std.proofs.Common.{◌≡◌, ◌+◌, ◌-◌, ◌==◌, nat_le, nat
 use Rattle.std.proofs.Math.ListN.{get_or-map}
 use Rattle.std.proofs.lemmas.List.{length-map, map-append, map-set}
 use Rattle.ix_model.specs.world.World.{Frame, Content, Holding, at, is_ended}
-use Rattle.ix_model.specs.rows.Walks.{Behind}
+use Rattle.ix_model.specs.rows.Walks.{OpenFile}
 use Rattle.ix_model.specs.world.Contents.{keep, grown, carried, holding_of, offset_of, side, with_side, on_pipe, readable, change_side, after_read, after_write, spliced, after_cut, cut_to, after_seek, after_exit, emptied, holds_nothing}
 use Rattle.ix_model.specs.rows.Telling.{blocks_for, blocks_where, blocks_on, blocks_beside, lies_on, fs_of_object, length_then, nothing_told, told_of_read, told_of_pipe_write, told_of_file_write, told_of_write, told_of_cut}
 use Rattle.ix_model.specs.two_runs.EqualLengths.{zeros, zeroed}
@@ -109,7 +109,7 @@ first_length c o = ap (λ (h : Holding). length h.first) (holding_zero c o) ∙ 
 side_length : (c : Content) (o end : ℕ) → length (side end (holding_of (zero_content c) o)) ≡ length (side end (holding_of c o))
 side_length c o end = ap length (holding_side c o end) ∙ length_zeros (side end (holding_of c o))
 
-pub readable_zero : (f : Frame) (c : Content) (e : Behind) → readable f (zero_content c) e ≡ zeros (readable f c e)
+pub readable_zero : (f : Frame) (c : Content) (e : OpenFile) → readable f (zero_content c) e ≡ zeros (readable f c e)
 unfolding readable
 readable_zero f c e = ap (drop (if on_pipe f e then 0 else offset_of c e.id)) (holding_side c e.entry.object e.entry.end) ∙ sym (drop_zeros (if on_pipe f e then 0 else offset_of c e.id) (side e.entry.end (holding_of c e.entry.object)))
 
@@ -133,22 +133,22 @@ either_zero : (b : Bool) (x y v w : Content) → zero_content x ≡ v → zero_c
 either_zero true x y v w r s = r
 either_zero false x y v w r s = s
 
-pub read_zero : (f : Frame) (e : Behind) (k : ℕ) (c : Content) → zero_content (after_read f e k c) ≡ after_read f e k (zero_content c)
+pub read_zero : (f : Frame) (e : OpenFile) (k : ℕ) (c : Content) → zero_content (after_read f e k c) ≡ after_read f e k (zero_content c)
 unfolding after_read
 read_zero f e k c = either_zero (on_pipe f e) _ _ _ _ (change_zero e.entry.object e.entry.end (drop k) (drop k) c (λ bytes. drop_zeros k bytes)) refl
 
-pub write_zero : (f : Frame) (e : Behind) (new : List ℕ) (c : Content) → zero_content (after_write f e new c) ≡ after_write f e (zeros new) (zero_content c)
+pub write_zero : (f : Frame) (e : OpenFile) (new : List ℕ) (c : Content) → zero_content (after_write f e new c) ≡ after_write f e (zeros new) (zero_content c)
 unfolding after_write
 write_zero f e new c =
     let held = change_zero e.entry.object e.entry.end (spliced (offset_of c e.id) new) (spliced (offset_of c e.id) (zeros new)) c (λ bytes. spliced_zeros (offset_of c e.id) new bytes) in
     either_zero (on_pipe f e) _ _ _ _ (change_zero e.entry.object (1 - e.entry.end) (λ old. old ++ new) (λ old. old ++ zeros new) c (λ bytes. append_zeros bytes new))
     (λ i. record (held i) { offsets = set c.offsets e.id (offset_of c e.id + sym (length_zeros new) i) })
 
-pub cut_zero : (e : Behind) (len : ℕ) (c : Content) → zero_content (after_cut e len c) ≡ after_cut e len (zero_content c)
+pub cut_zero : (e : OpenFile) (len : ℕ) (c : Content) → zero_content (after_cut e len c) ≡ after_cut e len (zero_content c)
 unfolding after_cut
 cut_zero e len c = change_zero e.entry.object e.entry.end (cut_to len) (cut_to len) c (λ bytes. take_zeros len (grown len bytes) ∙ ap (take len) (grown_zeros len bytes))
 
-pub seek_zero : (e : Behind) (offset : ℕ) (c : Content) → zero_content (after_seek e offset c) ≡ after_seek e offset (zero_content c)
+pub seek_zero : (e : OpenFile) (offset : ℕ) (c : Content) → zero_content (after_seek e offset c) ≡ after_seek e offset (zero_content c)
 unfolding after_seek
 seek_zero e offset c = refl
 
@@ -168,18 +168,18 @@ blocks_zero p n (h ∷ hs) = λ i. (if p n then blocks_for (length_zeros h.first
 beside_zero : (f : Frame) (c : Content) (o : ℕ) → blocks_beside f (zero_content c) o ≡ blocks_beside f c o
 beside_zero f c o = blocks_zero (λ m. not (m == o) && lies_on f (fs_of_object f o) m) 0 c.holdings
 
-pub told_read_zero : (f : Frame) (c : Content) (b : Option Behind) → told_of_read f (zero_content c) b ≡ told_of_read f c b
+pub told_read_zero : (f : Frame) (c : Content) (b : Option OpenFile) → told_of_read f (zero_content c) b ≡ told_of_read f c b
 unfolding told_of_read
 told_read_zero f c None = refl
 told_read_zero f c (Some e) = let long = ap length (readable_zero f c e) ∙ length_zeros (readable f c e) in λ i. record nothing_told { empty = long i == 0 }
 
-told_file_zero : (f : Frame) (c : Content) (e : Behind) (n : ℕ) → told_of_file_write f (zero_content c) e n ≡ told_of_file_write f c e n
+told_file_zero : (f : Frame) (c : Content) (e : OpenFile) (n : ℕ) → told_of_file_write f (zero_content c) e n ≡ told_of_file_write f c e n
 told_file_zero f c e n = λ i. record nothing_told {
   too_big = nat_lt 4096 n || nat_lt 1048576 (offset_of c e.id + n);
   no_space = not (nat_lt 4096 n || nat_lt 1048576 (offset_of c e.id + n)) && nat_lt (blocks_on f (fs_of_object f e.entry.object)) (beside_zero f c e.entry.object i + blocks_for (length_then (offset_of c e.id) n (side_length c e.entry.object e.entry.end i)));
 }
 
-pub told_write_zero : (f : Frame) (c : Content) (n : ℕ) (b : Option Behind) → told_of_write f (zero_content c) n b ≡ told_of_write f c n b
+pub told_write_zero : (f : Frame) (c : Content) (n : ℕ) (b : Option OpenFile) → told_of_write f (zero_content c) n b ≡ told_of_write f c n b
 unfolding told_of_write
 told_write_zero f c n None = refl
 told_write_zero f c n (Some e) = go (on_pipe f e)
@@ -188,7 +188,7 @@ told_write_zero f c n (Some e) = go (on_pipe f e)
     go true = ap (λ k. told_of_pipe_write k n) (side_length c e.entry.object (1 - e.entry.end))
     go false = told_file_zero f c e n
 
-pub told_cut_zero : (f : Frame) (c : Content) (len : ℕ) (b : Option Behind) → told_of_cut f (zero_content c) len b ≡ told_of_cut f c len b
+pub told_cut_zero : (f : Frame) (c : Content) (len : ℕ) (b : Option OpenFile) → told_of_cut f (zero_content c) len b ≡ told_of_cut f c len b
 unfolding told_of_cut
 told_cut_zero f c len None = refl
 told_cut_zero f c len (Some e) = λ i. record nothing_told { no_space = nat_lt (blocks_on f (fs_of_object f e.entry.object)) (beside_zero f c e.entry.object i + blocks_for len) }

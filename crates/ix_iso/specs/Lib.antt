@@ -1,4 +1,4 @@
 pub mod Laws
 pub mod Configs
-pub mod Hiding
+pub mod Noninterference
 pub mod Forms

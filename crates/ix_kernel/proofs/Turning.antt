@@ -6,7 +6,7 @@ use Rattle.ix_gate.specs.History.{entries_of, Grows, KeepsEnded}
 use Rattle.ix_gate.specs.Seat.{after_take, after_give, LearnsServed}
 use Rattle.ix_gate.proofs.Entries.{entries_of-own, grows_prefix}
 use Rattle.ix_core.specs.Stepping.{StepsTo, StepsAs}
-use Rattle.ix_iso.specs.Hiding.{HidesWhatIsHigh}
+use Rattle.ix_iso.specs.Noninterference.{Noninterferent}
 use Rattle.ix_journal.proofs.Growing.{cost_more}
 use Rattle.ix_model.specs.opening.Opening.{opening_world}
 use Rattle.ix_model.specs.history.Cost.{cost_of, cost_of_history}
@@ -16,7 +16,7 @@ use Rattle.ix_model.specs.declared.config.Config.{Config}
 use Rattle.ix_model.specs.declared.reply.Answer.{Answer}
 use Rattle.ix_model.specs.declared.reply.Answer.TheVariants as answer
 use Rattle.ix_kernel.specs.Seen.{KSeatState, seat_of, own, own_after, after_turn}
-use Rattle.ix_kernel.specs.Turns.{InTurn, HasRoom, SeenHides}
+use Rattle.ix_kernel.specs.Turns.{InTurn, HasRoom, SeenNoninterferent}
 
 -- ---- a step
 pub step_grows : (a : Answer) (old new : History) (e : Event) (before after : List ℕ) → StepsTo a old new before after e → Grows seat_of e.seat old.events new.events
@@ -130,7 +130,7 @@ pub record Tells (k l : KSeatState) (a : Answer) (e : Event) (before after : Lis
   pub own : own l ≡ own_after a e (own k)
   pub turn : InTurn a k l e before after
   pub room : HasRoom a l e.op
-  pub hides : SeenHides l
+  pub noninterference : SeenNoninterferent l
   pub looks : k.looks < l.looks
   pub seat : l ≡ after_turn k l.seen l.looks l.look_found
 
@@ -140,9 +140,9 @@ turn_tells k s t l old new a e before after r = record {
   own = turn_own k s t l old new a e before after r;
   turn = in_turn k s t l old new a e before after r;
   room = turn_room k s t l old new a e before after r;
-  hides = λ c known.
+  noninterference = λ c known.
       let config : new.config ≡ c = step_config a old new e before after r.did.step ∙ cc (base_is k s t l old new a e before after r, known) in
-      subst (λ (h : History). HidesWhatIsHigh (opening_world h.config) h.events) (λ i. record { config = config i; events = sym (seen_is k s t l old new a e before after r) i }) r.did.hides;
+      subst (λ (h : History). Noninterferent (opening_world h.config) h.events) (λ i. record { config = config i; events = sym (seen_is k s t l old new a e before after r) i }) r.did.noninterference;
   looks = subst (λ (z : KSeatState). z.looks < l.looks) r.same (subst (λ n. s.looks < n) (sym (ap (λ (z : KSeatState). z.looks) r.back)) r.looks);
   seat = turn_seat k s t l old new a e before after r;
 }

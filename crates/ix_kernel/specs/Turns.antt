@@ -4,7 +4,7 @@ use mathlib.Core.List.{IsPrefix}
 use Rattle.ix_gate.specs.History.{entries_of, KeepsEnded}
 use Rattle.ix_gate.specs.Seat.{LearnsServed}
 use Rattle.ix_core.specs.Stepping.{StepsTo, Shows, AnswersAlike}
-use Rattle.ix_iso.specs.Hiding.{HidesWhatIsHigh}
+use Rattle.ix_iso.specs.Noninterference.{Noninterferent}
 use Rattle.ix_model.specs.opening.Opening.{opening_world}
 use Rattle.ix_model.specs.history.Cost.{cost_of, cost_of_history}
 use Rattle.ix_model.specs.history.Events.{Op, Event}
@@ -39,5 +39,5 @@ HasRoom (answer.JournalFull used need cap) k o =
 HasRoom answer.NoMemory k o = ⊥
 
 -- what the seat has seen hides what is high
-abbrev pub SeenHides : KSeatState → Type 0
-SeenHides k = (c : Config) → k.base ≡ Some c → HidesWhatIsHigh (opening_world c) k.seen
+abbrev pub SeenNoninterferent : KSeatState → Type 0
+SeenNoninterferent k = (c : Config) → k.base ≡ Some c → Noninterferent (opening_world c) k.seen

@@ -8,7 +8,7 @@ ghost use Rattle.ix_model.specs.history.Calls.{op_of};
 ghost use Rattle.ix_model.specs.history.Made.{entry};
 ghost use Rattle.ix_model.specs.history.Systems.{Fits, LeavesRest};
 ghost use Rattle.ix_kernel.specs.Seen.{own, own_after, after_turn};
-ghost use Rattle.ix_kernel.specs.Turns.{InTurn, HasRoom, SeenHides};
+ghost use Rattle.ix_kernel.specs.Turns.{InTurn, HasRoom, SeenNoninterferent};
 
 use crate::held::Held;
 use crate::kernel::Kernel;
@@ -67,7 +67,7 @@ impl KSeat {
         ensures room { HasRoom result self.new (op_of call.now) }
         ensures fits { Fits (op_of call.now) result }
         ensures rest { LeavesRest result buf.old buf.new }
-        ensures hides { SeenHides self.new }
+        ensures noninterference { SeenNoninterferent self.new }
         ensures looks { self.old.looks < self.new.looks }
         ensures seat { self.new ≡ after_turn self.old self.new.seen self.new.looks self.new.look_found }
     {
@@ -98,7 +98,7 @@ impl KSeat {
         ensures room { IfOk result (λ a. HasRoom a self.new (op_of call.now)) }
         ensures fits { IfOk result (λ a. Fits (op_of call.now) a) }
         ensures rest { IfOk result (λ a. LeavesRest a buf.old buf.new) }
-        ensures hides { IfOk result (λ a. SeenHides self.new) }
+        ensures noninterference { IfOk result (λ a. SeenNoninterferent self.new) }
         ensures seat { IfOk result (λ a. self.new ≡ after_turn self.old self.new.seen (self.old.looks + 2) self.new.look_found) }
         ensures busy { IfErr result (λ b. self.new ≡ after_busy self.old b.serving b.ticket) }
         ensures late { IfErr result (λ b. LearnsServed self.old self.old.seen b.serving × (b.serving < b.ticket)) }

@@ -2,5 +2,5 @@
 
 pub mod calls;
 pub mod handed;
-pub mod numbers;
+pub mod bindings;
 pub mod places;

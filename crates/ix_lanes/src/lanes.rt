@@ -5,7 +5,7 @@ ghost use Rattle.ix_lanes.specs.histories.Indexed.{line_in};
 ghost use Rattle.ix_script.specs.scripts.Schedule.{seat_from, seat_after};
 ghost use Rattle.ix_lanes.specs.histories.Serial.{header_of, numbered};
 
-use crate::asking::numbers::Numbers;
+use crate::asking::bindings::Bindings;
 use crate::lines::{line_at, role_at};
 use ix_model::NoMemory;
 use ix_script::{Line, NameWord, Role, Script};
@@ -14,7 +14,7 @@ use std::alloc::Global;
 /// Lets the name of the line at an index, where that is a `proc` line, stand for the pid after so many. The line is made only where
 /// it stands in the header.
 fn add_proc(
-    header: &mut Numbers<u32>,
+    header: &mut Bindings<u32>,
     count: u32,
     script: &Script,
     index: u32,
@@ -35,10 +35,10 @@ fn add_proc(
 }
 
 /// The processes of the header, by their names: they have pids 1, 2 and so on, in order. `NoMemory` where there was none for them.
-pub fn header_of(alloc: Global, script: &Script) -> Result<Numbers<u32>, NoMemory>
+pub fn header_of(alloc: Global, script: &Script) -> Result<Bindings<u32>, NoMemory>
     ensures { IfOk result (λ header. header ≡ header_of script.now) }
 {
-    let mut header = Numbers::new(alloc);
+    let mut header = Bindings::new(alloc);
     let mut count = 0;
     for index in 0..script.len() {
         count = add_proc(&mut header, count, script, index)?;

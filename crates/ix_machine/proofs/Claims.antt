@@ -12,7 +12,7 @@ use Rattle.ix_model.specs.history.Step.{pex_answer, is_whole}
 use Rattle.ix_model.specs.rows.OnDescriptors.{pex, unpex, claimed}
 use Rattle.ix_model.specs.rows.Outcomes.{Refuse, Pass}
 use Rattle.ix_model.specs.rows.Rows.{◌>>=◌, ◌>>◌, on_pass, need, some, refuse, pass, frame, object, process, change_object}
-use Rattle.ix_model.specs.rows.Walks.{Behind, behind, opened, node, nothing}
+use Rattle.ix_model.specs.rows.Walks.{OpenFile, behind, opened, node, nothing}
 use Rattle.ix_model.specs.declared.refusal.Refusal.{Refusal}
 use Rattle.ix_model.specs.declared.refusal.Refusal.TheVariants as refusal
 use Rattle.ix_model.specs.declared.reply.Reply.{Reply}
@@ -27,7 +27,7 @@ use Rattle.ix_pipe.specs.declared.claim.Claim.{Claim}
 use Rattle.ix_pipe.specs.declared.claim.Claim.TheVariants as claim
 use Rattle.ix_proc.specs.Table.{ProcTable}
 use Rattle.ix_tables.specs.Parts.{Parts}
-use Rattle.ix_tables.specs.Meanings.{frame_alone, with_claim, emptied as parts_emptied}
+use Rattle.ix_tables.specs.Views.{frame_alone, with_claim, emptied as parts_emptied}
 use Rattle.ix_fcalls.specs.Claiming.{entry_of, Claims, ClaimsAt, ClaimsBehind, Unclaims, UnclaimsAt, UnclaimsBehind}
 use Rattle.ix_fcalls.proofs.Counting.{counted_changed}
 use Rattle.ix_machine.specs.Claimed.{ClaimedIs, UnclaimedIs, AnswersPex}
@@ -35,7 +35,7 @@ use Rattle.ix_machine.specs.Joined.{joined, AreJoined}
 use Rattle.ix_machine.proofs.Standing.{behind_by}
 
 -- ---- the row of a claim
-module _ (f : Frame) (pid fd : ℕ) (e : Behind) (x : Object) (is : behind f pid fd ≡ Some e) (there : at f.objects e.entry.object ≡ Some x) where
+module _ (f : Frame) (pid fd : ℕ) (e : OpenFile) (x : Object) (is : behind f pid fd ≡ Some e) (there : at f.objects e.entry.object ≡ Some x) where
   pex_no_pipe : is_pipe x ≡ false → pex pid fd f ≡ Refuse refusal.NotPipe f
   unfolding pex opened ◌>>=◌ ◌>>◌ on_pass need some refuse pass frame object
   pex_no_pipe other = rw (is, there, other) refl
@@ -95,7 +95,7 @@ has_end_lives f o end q h = go (at f.processes q) (λ (y : Process). list_any (�
         both false b k = k
 
 module _ (t : Parts) (p : ProcTable) (l : Lines) (s : Sound (joined t p l)) (pid fd : ℕ) where
-  module _ (e : Behind) (x : Object) (is : behind (joined t p l).frame pid fd ≡ Some e) (there : at t.objects e.entry.object ≡ Some x) where
+  module _ (e : OpenFile) (x : Object) (is : behind (joined t p l).frame pid fd ≡ Some e) (there : at t.objects e.entry.object ≡ Some x) where
     abbrev claims_it : Object → Object
     claims_it y = record y { claims = put y.claims e.entry.end (Some pid) }
 
@@ -133,7 +133,7 @@ module _ (t : Parts) (p : ProcTable) (l : Lines) (s : Sound (joined t p l)) (pid
     answers_pex : (r : Reply) (u : Parts) → u ≡ after becomes_whole → AnswersPex pid fd r (joined t p l) (joined u p l)
     answers_pex r u same =
         subst (λ (v : Parts). AnswersPex pid fd r (joined t p l) (joined v p l)) (sym same)
-        (after_answer r becomes_whole refl ∙ ap (λ (o : Option Behind). (pex_answer (joined t p l) o r (joined (after becomes_whole) p l).frame).world) (sym is))
+        (after_answer r becomes_whole refl ∙ ap (λ (o : Option OpenFile). (pex_answer (joined t p l) o r (joined (after becomes_whole) p l).frame).world) (sym is))
 
     frame_is : (u : Parts) → u ≡ after becomes_whole → framed ≡ (joined u p l).frame
     frame_is u same = sym (ap (λ (v : Parts). (joined v p l).frame) same ∙ frame_after becomes_whole)
@@ -180,14 +180,14 @@ module _ (t : Parts) (p : ProcTable) (l : Lines) (s : Sound (joined t p l)) (pid
         subst (λ (v : Result (Unit {0}) Refusal). UnclaimedIs v pid fd (joined t p l) (joined u p l)) (sym h.0)
         (unpex_done (joined t p l).frame pid fd e x is there pipe so (joined u p l).frame (ap (λ (v : Parts). (joined v p l).frame) (sym h.1)), ap (λ (v : Parts). (joined v p l).content) h.1)
 
-  by_entry : (r : Result Claim Refusal) (u : Parts) (b : Option Behind) → behind (joined t p l).frame pid fd ≡ b → ClaimsBehind b r pid t u → ClaimedIs r pid fd (joined t p l) (joined u p l)
+  by_entry : (r : Result Claim Refusal) (u : Parts) (b : Option OpenFile) → behind (joined t p l).frame pid fd ≡ b → ClaimsBehind b r pid t u → ClaimedIs r pid fd (joined t p l) (joined u p l)
   by_entry r u None is h =
       subst (λ (v : Result Claim Refusal). ClaimedIs v pid fd (joined t p l) (joined u p l)) (sym h.0) (pex_none (joined t p l).frame pid fd is, ap (λ (v : Parts). joined v p l) h.1)
   by_entry r u (Some e) is h =
       let st = stands (joined t p l).frame e.id e.entry s.opens (behind_is (joined t p l).frame pid fd e is) in
       by_kind e st.object is st.is_object r u (is_pipe st.object) refl (subst (λ (y : Object). ClaimsAt (is_pipe y) r pid e t u) (ap (λ (o : Option Object). unwrap_or o nothing) st.is_object) h)
 
-  by_claimed : (r : Result (Unit {0}) Refusal) (u : Parts) (b : Option Behind) → behind (joined t p l).frame pid fd ≡ b → UnclaimsBehind b r pid t u → UnclaimedIs r pid fd (joined t p l) (joined u p l)
+  by_claimed : (r : Result (Unit {0}) Refusal) (u : Parts) (b : Option OpenFile) → behind (joined t p l).frame pid fd ≡ b → UnclaimsBehind b r pid t u → UnclaimedIs r pid fd (joined t p l) (joined u p l)
   by_claimed r u None is h =
       subst (λ (v : Result (Unit {0}) Refusal). UnclaimedIs v pid fd (joined t p l) (joined u p l)) (sym h.0) (unpex_none (joined t p l).frame pid fd is, ap (λ (v : Parts). joined v p l) h.1)
   by_claimed r u (Some e) is h =
@@ -195,10 +195,10 @@ module _ (t : Parts) (p : ProcTable) (l : Lines) (s : Sound (joined t p l)) (pid
       by_claim e st.object is st.is_object r u (is_pipe st.object) (claimed_by st.object e.entry.end pid) refl refl (subst (λ (y : Object). UnclaimsAt (is_pipe y) (claimed_by y e.entry.end pid) r e t u) (ap (λ (o : Option Object). unwrap_or o nothing) st.is_object) h)
 
   claimed_there : (r : Result Claim Refusal) (c : Caller) (q : Process) (u : Parts) → living (at p.processes pid) ≡ Some q → q.fds ≡ c.fds → c.pid.0 ≡ pid → Claims r c fd t u → ClaimedIs r pid fd (joined t p l) (joined u p l)
-  claimed_there r c q u is fds id h = by_entry r u (behind (joined t p l).frame pid fd) refl (subst (λ (b : Option Behind). ClaimsBehind b r pid t u) (behind_by t p l pid fd c q is fds) (subst (λ (n : ℕ). ClaimsBehind (entry_of c fd t) r n t u) id h))
+  claimed_there r c q u is fds id h = by_entry r u (behind (joined t p l).frame pid fd) refl (subst (λ (b : Option OpenFile). ClaimsBehind b r pid t u) (behind_by t p l pid fd c q is fds) (subst (λ (n : ℕ). ClaimsBehind (entry_of c fd t) r n t u) id h))
 
   unclaimed_there : (r : Result (Unit {0}) Refusal) (c : Caller) (q : Process) (u : Parts) → living (at p.processes pid) ≡ Some q → q.fds ≡ c.fds → c.pid.0 ≡ pid → Unclaims r c fd t u → UnclaimedIs r pid fd (joined t p l) (joined u p l)
-  unclaimed_there r c q u is fds id h = by_claimed r u (behind (joined t p l).frame pid fd) refl (subst (λ (b : Option Behind). UnclaimsBehind b r pid t u) (behind_by t p l pid fd c q is fds) (subst (λ (n : ℕ). UnclaimsBehind (entry_of c fd t) r n t u) id h))
+  unclaimed_there r c q u is fds id h = by_claimed r u (behind (joined t p l).frame pid fd) refl (subst (λ (b : Option OpenFile). UnclaimsBehind b r pid t u) (behind_by t p l pid fd c q is fds) (subst (λ (n : ℕ). UnclaimsBehind (entry_of c fd t) r n t u) id h))
 
 -- ---- what is counted
 claimed_joined : (t : Parts) (p : ProcTable) (l : Lines) (o end pid : ℕ) (held whole : Bool) → AreJoined t p l → AreJoined (if held then t else (if whole then parts_emptied o (with_claim o end (Some pid) t) else with_claim o end (Some pid) t)) p l
@@ -209,27 +209,27 @@ claimed_joined t p l o end pid false false j = let k = counted_changed t p.proce
 pub claims_joined : (t u : Parts) (p : ProcTable) (l : Lines) (r : Result Claim Refusal) (c : Caller) (fd : ℕ) → AreJoined t p l → Claims r c fd t u → AreJoined u p l
 claims_joined t u p l r c fd j h = go (entry_of c fd t) h
   where
-    at_end : (e : Behind) (b : Bool) → ClaimsAt b r c.pid.0 e t u → AreJoined u p l
+    at_end : (e : OpenFile) (b : Bool) → ClaimsAt b r c.pid.0 e t u → AreJoined u p l
     at_end e false h = subst (λ (v : Parts). AreJoined v p l) (sym h.1) j
     at_end e true h =
         let v : Parts = with_claim e.entry.object e.entry.end (Some c.pid.0) t in
         subst (λ (v : Parts). AreJoined v p l) (sym h.1) (claimed_joined t p l e.entry.object e.entry.end c.pid.0 (claimed_by_another (node t.objects e.entry.object) e.entry.end c.pid.0) (is_whole (frame_alone v) e.entry.object && not (is_whole (frame_alone t) e.entry.object)) j)
 
-    go : (b : Option Behind) → ClaimsBehind b r c.pid.0 t u → AreJoined u p l
+    go : (b : Option OpenFile) → ClaimsBehind b r c.pid.0 t u → AreJoined u p l
     go None h = subst (λ (v : Parts). AreJoined v p l) (sym h.1) j
     go (Some e) h = at_end e (is_pipe (node t.objects e.entry.object)) h
 
 pub unclaims_joined : (t u : Parts) (p : ProcTable) (l : Lines) (r : Result (Unit {0}) Refusal) (c : Caller) (fd : ℕ) → AreJoined t p l → Unclaims r c fd t u → AreJoined u p l
 unclaims_joined t u p l r c fd j h = go (entry_of c fd t) h
   where
-    at_end : (e : Behind) (a b : Bool) → UnclaimsAt a b r e t u → AreJoined u p l
+    at_end : (e : OpenFile) (a b : Bool) → UnclaimsAt a b r e t u → AreJoined u p l
     at_end e false b h = subst (λ (v : Parts). AreJoined v p l) (sym h.1) j
     at_end e true false h = subst (λ (v : Parts). AreJoined v p l) (sym h.1) j
     at_end e true true h =
         let k = counted_changed t p.processes e.entry.object (λ x. record x { claims = put x.claims e.entry.end None }) j.counted in
         subst (λ (v : Parts). AreJoined v p l) (sym h.1) (record { counted = record { owners = k.owners; homes = k.homes }; procs = j.procs; log = j.log; few = j.few })
 
-    go : (b : Option Behind) → UnclaimsBehind b r c.pid.0 t u → AreJoined u p l
+    go : (b : Option OpenFile) → UnclaimsBehind b r c.pid.0 t u → AreJoined u p l
     go None h = subst (λ (v : Parts). AreJoined v p l) (sym h.1) j
     go (Some e) h = at_end e (is_pipe (node t.objects e.entry.object)) (claimed_by (node t.objects e.entry.object) e.entry.end c.pid.0) h
 

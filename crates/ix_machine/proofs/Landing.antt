@@ -14,8 +14,8 @@ use Rattle.ix_model.proofs.words.Ends.{Ends, Anything, ends_bind, ends_then, end
 use Rattle.ix_model.proofs.words.Looks.{ends_observe}
 use Rattle.ix_model.proofs.words.There.{child_named}
 use Rattle.ix_model.proofs.words.Walked.{Leads, walks}
-use Rattle.ix_machine.specs.Meanings.{is_inode}
-use Rattle.ix_fcalls.specs.Meanings.{sought_of}
+use Rattle.ix_machine.specs.Views.{is_inode}
+use Rattle.ix_fcalls.specs.Views.{sought_of}
 use Rattle.ix_fcalls.specs.declared.walks.Outcome.{Outcome as Ending}
 use Rattle.ix_fcalls.specs.declared.walks.Outcome.TheVariants as ending
 

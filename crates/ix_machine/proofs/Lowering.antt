@@ -6,7 +6,7 @@ use Rattle.ix_model.specs.declared.config.FsSpec.{FsSpec}
 use Rattle.ix_model.specs.world.World.{World, Object, at, ceiling_of}
 use Rattle.ix_model.specs.rows.Walks.{node}
 use Rattle.ix_model.specs.laws.Sound.{Sound}
-use Rattle.ix_tables.specs.Meanings.{object_by}
+use Rattle.ix_tables.specs.Views.{object_by}
 use Rattle.ix_tables.specs.declared.row.ObjectRow.{ObjectRow}
 
 -- the same label is below the same ceiling

@@ -7,7 +7,7 @@ use Rattle.ix_model.specs.world.World.{World, Frame, Object, Process, at, living
 use Rattle.ix_model.specs.history.AuditLog.{object_of_path, object_sought, label_at, of_process}
 use Rattle.ix_model.specs.history.Calls.{op_of}
 use Rattle.ix_model.specs.history.Views.{shown_of}
-use Rattle.ix_model.specs.rows.Walks.{Behind, behind, behind_of, entry_at, node, nothing, walk}
+use Rattle.ix_model.specs.rows.Walks.{OpenFile, behind, behind_of, entry_at, node, nothing, walk}
 use Rattle.ix_model.specs.declared.call.Call.{Call}
 use Rattle.ix_model.specs.declared.call.Call.TheVariants as call
 use Rattle.ix_model.specs.declared.ids.Obj.{Obj}
@@ -16,11 +16,11 @@ use Rattle.ix_model.specs.declared.views.ProcView.{ProcView}
 use Rattle.ix_audit.specs.Lines.{Lines}
 use Rattle.ix_proc.specs.Table.{ProcTable}
 use Rattle.ix_tables.specs.Parts.{Parts}
-use Rattle.ix_tables.specs.Meanings.{frame_alone}
+use Rattle.ix_tables.specs.Views.{frame_alone}
 use Rattle.ix_fresh.specs.Laws.{Spot, spot_behind}
 use Rattle.ix_fresh.specs.Touched.{entry_target, label_of_entry, target}
 use Rattle.ix_fcalls.specs.Claiming.{entry_of}
-use Rattle.ix_fcalls.specs.Meanings.{Seen, seen_in, seen_of, sought_of}
+use Rattle.ix_fcalls.specs.Views.{Seen, seen_in, seen_of, sought_of}
 use Rattle.ix_fcalls.specs.Spots.{spot_in, spot_through}
 use Rattle.ix_fcalls.specs.declared.walks.Outcome.{Outcome}
 use Rattle.ix_fcalls.specs.declared.walks.Outcome.TheVariants as outcome
@@ -51,13 +51,13 @@ no_spot f pid fd h = go (at f.processes pid) h
     go (Some p) h = ended p.ended p h
 
 -- the open entry and the object of a spot, by their numbers
-pub entry_in : (s : Option (ℕ × Obj)) (o : Option Behind) → option_map spot_in s ≡ option_map spot_through o → option_map (λ x. x.0) s ≡ option_map (λ b. b.id) o
+pub entry_in : (s : Option (ℕ × Obj)) (o : Option OpenFile) → option_map spot_in s ≡ option_map spot_through o → option_map (λ x. x.0) s ≡ option_map (λ b. b.id) o
 entry_in None None h = refl
 entry_in None (Some b) h = cc
 entry_in (Some s) None h = cc
 entry_in (Some s) (Some b) h = ap (option_map (λ (x : Spot). x.entry)) h
 
-pub object_in : (s : Option (ℕ × Obj)) (o : Option Behind) → option_map spot_in s ≡ option_map spot_through o → option_map (λ x. x.1.0) s ≡ option_map (λ b. b.entry.object) o
+pub object_in : (s : Option (ℕ × Obj)) (o : Option OpenFile) → option_map spot_in s ≡ option_map spot_through o → option_map (λ x. x.1.0) s ≡ option_map (λ b. b.entry.object) o
 object_in None None h = refl
 object_in None (Some b) h = cc
 object_in (Some s) None h = cc

@@ -3,13 +3,13 @@ use Rattle.std.proofs.Common.{◌≡◌, ◌&&◌, ℕ, Bool, true, false, not, 
 use Rattle.ix_model.specs.world.World.{World, Frame, Process, at, lives, living}
 use Rattle.ix_model.specs.world.Contents.{after_exit, carried, status_of}
 use Rattle.ix_model.specs.laws.Clean.{IsClean}
-use Rattle.ix_model.specs.rows.OnDescriptors.{Told, pex}
+use Rattle.ix_model.specs.rows.OnDescriptors.{LengthChecks, pex}
 use Rattle.ix_model.specs.rows.OnProcesses.{fork, exit, wait_child, wait_passed}
 use Rattle.ix_model.specs.rows.Outcomes.{Refuse, Pass}
 use Rattle.ix_model.specs.rows.Refusals.{keeps_label}
 use Rattle.ix_model.specs.rows.Table.{Decision, verdict, row}
 use Rattle.ix_model.specs.rows.Telling.{told, nothing_told}
-use Rattle.ix_model.specs.rows.Walks.{Behind, behind}
+use Rattle.ix_model.specs.rows.Walks.{OpenFile, behind}
 use Rattle.ix_model.specs.history.Events.{Op}
 use Rattle.ix_model.specs.history.Events as op
 use Rattle.ix_model.specs.history.Step.{Given, step, answer, plainly, read_answer, write_answer, cut_answer, seek_answer, stat_answer, exit_answer, wait_answer, pex_answer, is_whole, put_front}
@@ -37,22 +37,22 @@ answers given w r buf is = record {
 }
 
 -- ---- a refusal that leaves the frame
-read_no : (w : World) (count : ℕ) (b : Option Behind) (r : Refusal) (g : Frame) → read_answer w count b (reply.No r) g ≡ plainly w (record { reply = reply.No r; frame = g })
+read_no : (w : World) (count : ℕ) (b : Option OpenFile) (r : Refusal) (g : Frame) → read_answer w count b (reply.No r) g ≡ plainly w (record { reply = reply.No r; frame = g })
 unfolding read_answer
 read_no w count None r g = refl
 read_no w count (Some e) r g = refl
 
-write_no : (w : World) (new : List ℕ) (b : Option Behind) (r : Refusal) (g : Frame) → write_answer w new b (reply.No r) g ≡ plainly w (record { reply = reply.No r; frame = g })
+write_no : (w : World) (new : List ℕ) (b : Option OpenFile) (r : Refusal) (g : Frame) → write_answer w new b (reply.No r) g ≡ plainly w (record { reply = reply.No r; frame = g })
 unfolding write_answer
 write_no w new None r g = refl
 write_no w new (Some e) r g = refl
 
-cut_no : (w : World) (len : ℕ) (b : Option Behind) (r : Refusal) (g : Frame) → cut_answer w len b (reply.No r) g ≡ plainly w (record { reply = reply.No r; frame = g })
+cut_no : (w : World) (len : ℕ) (b : Option OpenFile) (r : Refusal) (g : Frame) → cut_answer w len b (reply.No r) g ≡ plainly w (record { reply = reply.No r; frame = g })
 unfolding cut_answer
 cut_no w len None r g = refl
 cut_no w len (Some e) r g = refl
 
-seek_no : (w : World) (offset : ℕ) (b : Option Behind) (r : Refusal) (g : Frame) → seek_answer w offset b (reply.No r) g ≡ plainly w (record { reply = reply.No r; frame = g })
+seek_no : (w : World) (offset : ℕ) (b : Option OpenFile) (r : Refusal) (g : Frame) → seek_answer w offset b (reply.No r) g ≡ plainly w (record { reply = reply.No r; frame = g })
 unfolding seek_answer
 seek_no w offset None r g = refl
 seek_no w offset (Some e) r g = refl
@@ -61,7 +61,7 @@ and_not : (b : Bool) → (b && not b) ≡ false
 and_not true = refl
 and_not false = refl
 
-pex_no : (w : World) (b : Option Behind) (r : Refusal) → pex_answer w b (reply.No r) w.frame ≡ plainly w (record { reply = reply.No r; frame = w.frame })
+pex_no : (w : World) (b : Option OpenFile) (r : Refusal) → pex_answer w b (reply.No r) w.frame ≡ plainly w (record { reply = reply.No r; frame = w.frame })
 unfolding pex_answer plainly
 pex_no w None r = refl
 pex_no w (Some e) r = let stays : (is_whole w.frame e.entry.object && not (is_whole w.frame e.entry.object)) ≡ false = and_not (is_whole w.frame e.entry.object) in rw stays refl
@@ -86,7 +86,7 @@ refused_by : (w : World) (place pid : ℕ) (c : Op) (r : Refusal) (buf : List �
 unfolding step
 refused_by w place pid c r buf clean is = answers _ w (reply.No r) buf (ap (answer w pid c) is ∙ no_answer w pid c r ∙ unmoved w (reply.No r) clean)
 
-dead_verdict : (t : Told) (place pid : ℕ) (c : Op) (f : Frame) → lives f pid ≡ false → verdict t place pid c f ≡ record { reply = reply.No refusal.NoProcess; frame = f }
+dead_verdict : (t : LengthChecks) (place pid : ℕ) (c : Op) (f : Frame) → lives f pid ≡ false → verdict t place pid c f ≡ record { reply = reply.No refusal.NoProcess; frame = f }
 unfolding verdict
 dead_verdict t place pid c f dead = rw dead refl
 
@@ -94,7 +94,7 @@ dead_verdict t place pid c f dead = rw dead refl
 pub dead_step : (w : World) (place pid : ℕ) (c : Op) (buf : List ℕ) → IsClean w → lives w.frame pid ≡ false → Answers (step w place pid c) w (reply.No refusal.NoProcess) buf buf
 dead_step w place pid c buf clean dead = refused_by w place pid c refusal.NoProcess buf clean (dead_verdict (told w pid c) place pid c w.frame dead)
 
-refused_verdict : (t : Told) (place pid : ℕ) (c : Op) (f : Frame) (r : Refusal) → lives f pid ≡ true → row t place pid c f ≡ Refuse r f → verdict t place pid c f ≡ record { reply = reply.No r; frame = f }
+refused_verdict : (t : LengthChecks) (place pid : ℕ) (c : Op) (f : Frame) (r : Refusal) → lives f pid ≡ true → row t place pid c f ≡ Refuse r f → verdict t place pid c f ≡ record { reply = reply.No r; frame = f }
 unfolding verdict
 refused_verdict t place pid c f r alive is = rw (alive, is) (go (keeps_label r))
   where
@@ -107,7 +107,7 @@ pub refused_step : (w : World) (place pid : ℕ) (c : Op) (r : Refusal) (buf : L
 refused_step w place pid c r buf clean alive is = refused_by w place pid c r buf clean (refused_verdict (told w pid c) place pid c w.frame r alive is)
 
 -- the row passes
-pub passed_verdict : (t : Told) (place pid : ℕ) (c : Op) (f g : Frame) (r : Reply) → lives f pid ≡ true → row t place pid c f ≡ Pass r g → verdict t place pid c f ≡ record { reply = r; frame = g }
+pub passed_verdict : (t : LengthChecks) (place pid : ℕ) (c : Op) (f g : Frame) (r : Reply) → lives f pid ≡ true → row t place pid c f ≡ Pass r g → verdict t place pid c f ≡ record { reply = r; frame = g }
 unfolding verdict
 passed_verdict t place pid c f g r alive is = rw (alive, is) refl
 
@@ -185,7 +185,7 @@ label_step w place pid r buf clean alive passes =
 
 -- ---- a row's refusal, as it is settled
 -- one that keeps no label leaves the frame as it was
-pub settled_back : (t : Told) (place pid : ℕ) (c : Op) (f g : Frame) (why : Refusal) → lives f pid ≡ true → row t place pid c f ≡ Refuse why g → keeps_label why ≡ false → (verdict t place pid c f).frame ≡ f
+pub settled_back : (t : LengthChecks) (place pid : ℕ) (c : Op) (f g : Frame) (why : Refusal) → lives f pid ≡ true → row t place pid c f ≡ Refuse why g → keeps_label why ≡ false → (verdict t place pid c f).frame ≡ f
 unfolding verdict
 settled_back t place pid c f g why l r k = rw (l, r, k) refl
 
@@ -221,7 +221,7 @@ unfolding row answer wait_answer plainly
 waited w u place pid child status buf alive is status_is content =
     answered w u place pid op.WaitChild (wait_passed child) (reply.Child (record { 0 = child }) status) u.frame buf alive is (λ i. record { world = record { frame = u.frame; content = sym content i }; reply = reply.Child (record { 0 = child }) (sym status_is i); bytes = [] })
 
-pex_given : (w u : World) (b : Option Behind) (r : Reply) → u ≡ (pex_answer w b r u.frame).world → pex_answer w b r u.frame ≡ record { world = u; reply = r; bytes = [] }
+pex_given : (w u : World) (b : Option OpenFile) (r : Reply) → u ≡ (pex_answer w b r u.frame).world → pex_answer w b r u.frame ≡ record { world = u; reply = r; bytes = [] }
 unfolding pex_answer plainly
 pex_given w u None r is = λ i. record { world = sym is i; reply = r; bytes = [] }
 pex_given w u (Some e) r is = λ i. record { world = sym is i; reply = r; bytes = [] }

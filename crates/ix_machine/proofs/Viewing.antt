@@ -3,7 +3,7 @@ use Rattle.std.proofs.Common.{◌≡◌, ◌<◌, ℕ, Bool, true, false, not, l
 use Rattle.std.specs.Option.{option_map_or}
 use Rattle.ix_model.specs.world.World.{World, Frame, Process, at, living, lives}
 use Rattle.ix_model.specs.history.Views.{size_at, bytes_inside}
-use Rattle.ix_model.specs.rows.Walks.{Behind, behind, behind_of}
+use Rattle.ix_model.specs.rows.Walks.{OpenFile, behind, behind_of}
 use Rattle.ix_model.specs.declared.views.Caller.{Caller}
 use Rattle.ix_model.proofs.tables.Finds.{in_table}
 use Rattle.ix_model.proofs.words.Standing.{behind_is}
@@ -32,10 +32,10 @@ no_view w pid fd h = go (at w.frame.processes pid) h
     go (Some p) h = ended p.ended p h
 
 module _ (t : Parts) (p : ProcTable) (l : Lines) (w : World) (here : joined t p l ≡ w) where
-  one_view : IsCounted t p.processes → (e : Behind) → e.id < length t.opens → view_in t e ≡ view_through (joined t p l) e
+  one_view : IsCounted t p.processes → (e : OpenFile) → e.id < length t.opens → view_in t e ≡ view_through (joined t p l) e
   one_view counted e low = ap (λ n. viewed (slice_index_or t.offsets e.id 0) n e) (owners_at t p.processes counted e.id low)
 
-  views : IsCounted t p.processes → (o : Option Behind) → ((e : Behind) → o ≡ Some e → e.id < length t.opens) → option_map (view_in t) o ≡ option_map (view_through (joined t p l)) o
+  views : IsCounted t p.processes → (o : Option OpenFile) → ((e : OpenFile) → o ≡ Some e → e.id < length t.opens) → option_map (view_in t) o ≡ option_map (view_through (joined t p l)) o
   views counted None low = refl
   views counted (Some e) low = ap Some (one_view counted e (low e refl))
 

@@ -3,5 +3,5 @@ pub mod Claimed
 pub mod Joined
 pub mod Opened
 pub mod OwnCalls
-pub mod Meanings
+pub mod Views
 pub mod Restoring

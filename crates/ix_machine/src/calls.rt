@@ -56,7 +56,7 @@ impl Machine {
 
     /// One step of the machine: a read or a write by a process, at a place of the history, through a descriptor of which it is
     /// known that a look at the labels would change none. It looks at no label, and takes no memory.
-    pub fn call_known(&mut self, place: u32, pid: Pid, call: &Call<'_>, buf: &mut Buf) -> Moved
+    pub fn call_fresh(&mut self, place: u32, pid: Pid, call: &Call<'_>, buf: &mut Buf) -> Moved
         requires sound { Sound self.old }
         requires known { IsKnown self.old.frame pid.0 (op_of call.now) }
         ensures { Answers (step self.old place pid.0 (op_of call.now)) self.new (reply_of result) buf.old buf.new }
@@ -75,7 +75,7 @@ impl Machine {
     {
         let _ = place;
         let who = *self.who(pid);
-        self.files.call_known(&who, call, buf)
+        self.files.call_fresh(&who, call, buf)
     }
 
     /// A call that the files answer.

@@ -2,7 +2,7 @@ ghost use Rattle.std.specs.Prelude.{◌≡◌, ℕ, OnErr, true};
 ghost use Rattle.ix_model.specs.world.World.{at, lives};
 ghost use Rattle.ix_model.specs.rows.Outcomes.{RowIs};
 ghost use Rattle.ix_model.specs.rows.Rows.{observe, affect};
-ghost use Rattle.ix_machine.specs.Meanings.{is_inode};
+ghost use Rattle.ix_machine.specs.Views.{is_inode};
 ghost use Rattle.ix_machine.specs.Restoring.{Restores};
 
 use crate::machine::Machine;

@@ -5,7 +5,7 @@ ghost use Rattle.ix_model.specs.world.World.{at, ceiling_of, lives};
 ghost use Rattle.ix_model.specs.rows.Outcomes.{Pass, RowIs};
 ghost use Rattle.ix_model.specs.rows.OnLabels.{allowed, label_of, movable, self_label, set_label, set_self};
 ghost use Rattle.ix_model.specs.rows.Walks.{node};
-ghost use Rattle.ix_tables.specs.Meanings.{object_by};
+ghost use Rattle.ix_tables.specs.Views.{object_by};
 ghost use Rattle.ix_machine.specs.OwnCalls.{self_movable};
 ghost use Rattle.ix_machine.specs.Restoring.{Restores};
 ghost use Rattle.ix_model.specs.world.Paths.{path_of};

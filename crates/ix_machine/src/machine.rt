@@ -4,7 +4,7 @@ ghost use Rattle.ix_model.specs.opening.Opening.{opening_world};
 ghost use Rattle.ix_model.specs.opening.Valid.{is_valid};
 ghost use Rattle.ix_model.specs.world.World.{at};
 ghost use Rattle.ix_model.specs.rows.Walks.{nothing};
-ghost use Rattle.ix_tables.specs.Meanings.{object_by};
+ghost use Rattle.ix_tables.specs.Views.{object_by};
 ghost use Rattle.ix_model.specs.history.Views.{view_of, shown_of};
 
 use crate::boot::opened;

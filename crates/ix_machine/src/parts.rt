@@ -2,10 +2,10 @@ ghost use Rattle.std.specs.Prelude.{◌≡◌, ◌++◌, ◌∷◌, [], length, 
 ghost use Rattle.ix_label.specs.Category.{leq};
 ghost use Rattle.ix_model.specs.world.World.{at, change, lives, living, ceiling_of};
 ghost use Rattle.ix_model.specs.rows.Walks.{node};
-ghost use Rattle.ix_tables.specs.Meanings.{Shows, object_by};
+ghost use Rattle.ix_tables.specs.Views.{Shows, object_by};
 ghost use Rattle.ix_model.specs.world.Callers.{with_caller};
 ghost use Rattle.ix_fcalls.specs.Around.{with_who, no_process};
-ghost use Rattle.ix_machine.specs.Meanings.{is_inode};
+ghost use Rattle.ix_machine.specs.Views.{is_inode};
 
 use crate::machine::Machine;
 use ix_label::Label;

@@ -3,9 +3,9 @@ ghost use Rattle.ix_model.specs.laws.Sound.{Sound};
 ghost use Rattle.ix_model.specs.world.World.{at, ceiling_of, lives};
 ghost use Rattle.ix_model.specs.rows.Outcomes.{RowIs, RowMeans};
 ghost use Rattle.ix_model.specs.rows.Walks.{node, object_at, walked_to};
-ghost use Rattle.ix_tables.specs.Meanings.{Shows, object_by};
-ghost use Rattle.ix_fcalls.specs.Meanings.{sought_of};
-ghost use Rattle.ix_machine.specs.Meanings.{is_inode};
+ghost use Rattle.ix_tables.specs.Views.{Shows, object_by};
+ghost use Rattle.ix_fcalls.specs.Views.{sought_of};
+ghost use Rattle.ix_machine.specs.Views.{is_inode};
 ghost use Rattle.ix_machine.specs.Restoring.{Restores};
 ghost use Rattle.ix_model.specs.world.Paths.{path_of};
 

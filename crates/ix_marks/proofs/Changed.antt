@@ -10,7 +10,7 @@ use Rattle.ix_float.specs.declared.mark.Way.TheVariants.{Reading, Writing}
 use Rattle.ix_marks.specs.declared.row.Spot.{Spot}
 use Rattle.ix_marks.specs.declared.row.Place.{Place}
 use Rattle.ix_marks.specs.declared.row.Row.{Row}
-use Rattle.ix_marks.specs.Seats.{Seating, row_of}
+use Rattle.ix_marks.specs.RowIndex.{RowOwners, row_of}
 use Rattle.ix_marks.specs.Places.{spot_in, set_place, place_in, row_in, no_place, no_row, empty_row}
 use Rattle.ix_marks.specs.Known.{Known, spot_of, same_way, is_it, unless, on_object, on_entry, generation_at, sum_at, still, fresh_in, known, IsPast, AreKept}
 use Rattle.ix_marks.proofs.Rows.{none_is}
@@ -88,12 +88,12 @@ told g sum (Some x) s false h = go (x.0 == g && x.1 == sum) refl
         absurd (cc (h.1 (ap (λ (y : ℕ × ℕ). Some y) same)))
 
 -- ---- a row is written
-module _ (seats : Seating) (rows : List Row) (objects opens : List ℕ) (raised : ℕ) (old : AreKept seats rows objects opens raised) (v : Known) (shown : known seats rows objects opens raised ≡ v) (pid i : ℕ) (is : row_of pid seats.pids ≡ Some i) (r : Row) (read : r ≡ get_or rows i r) where
+module _ (owners : RowOwners) (rows : List Row) (objects opens : List ℕ) (raised : ℕ) (old : AreKept owners rows objects opens raised) (v : Known) (shown : known owners rows objects opens raised ≡ v) (pid i : ℕ) (is : row_of pid owners.pids ≡ Some i) (r : Row) (read : r ≡ get_or rows i r) where
   abbrev low_i : i < length rows
-  low_i = row_low seats rows objects opens raised old v shown pid i is
+  low_i = row_low owners rows objects opens raised old v shown pid i is
 
   abbrev is_old : r ≡ row_in rows i
-  is_old = row_read seats rows objects opens raised old v shown pid i is r read
+  is_old = row_read owners rows objects opens raised old v shown pid i is r read
 
   abbrev past : (d : ℕ) (w : Way) → IsPast objects opens r.generation w (place_in r d)
   past d w = subst (λ x. IsPast objects opens x.generation w (place_in x d)) (sym is_old) (old.past i d w)
@@ -111,7 +111,7 @@ module _ (seats : Seating) (rows : List Row) (objects opens : List ℕ) (raised 
       ∙ ap (λ x. is_some (fresh_in objects opens r.generation w x)) p_is
       ∙ ap is_some (fresh_old d w)
       ∙ ap (λ o. is_some (fresh_at rows objects opens o d w)) (sym is)
-      ∙ ap is_some (sym (spot_was seats rows objects opens raised old v shown pid d w))
+      ∙ ap is_some (sym (spot_was owners rows objects opens raised old v shown pid d w))
 
   -- a descriptor is closed
   module _ (fd : ℕ) (r' : Row) (gen : r'.generation ≡ r.generation) (places : (d : ℕ) → place_in r' d ≡ (if d == fd then no_place else place_in r d)) where
@@ -122,14 +122,14 @@ module _ (seats : Seating) (rows : List Row) (objects opens : List ℕ) (raised 
         ∙ cleared objects opens r.generation (d == fd) w (place_in r d)
         ∙ ap (λ (o : Option Spot). if d == fd then None else o) (fresh_old d w)
 
-    pub clear_spots : (q d : ℕ) (w : Way) → spot_of (known seats (set rows i r') objects opens raised) q d w ≡ (if q == pid && d == fd then None else spot_of v q d w)
-    clear_spots q d w = spots_written seats rows objects opens raised old v shown pid i is r' raised (λ d w o. if d == fd then None else o) clear_makes q d w ∙ merged (q == pid) (d == fd) None (spot_of v q d w)
+    pub clear_spots : (q d : ℕ) (w : Way) → spot_of (known owners (set rows i r') objects opens raised) q d w ≡ (if q == pid && d == fd then None else spot_of v q d w)
+    clear_spots q d w = spots_written owners rows objects opens raised old v shown pid i is r' raised (λ d w o. if d == fd then None else o) clear_makes q d w ∙ merged (q == pid) (d == fd) None (spot_of v q d w)
 
     clear_past : (d : ℕ) (w : Way) → IsPast objects opens r'.generation w (place_in r' d)
     clear_past d w = rw (gen, places d) (cleared_past objects opens r.generation (d == fd) w (place_in r d) (past d w))
 
-    pub clear_kept : AreKept seats (set rows i r') objects opens raised
-    clear_kept = kept_written seats seats refl rows objects opens raised old i low_i r' raised (omega arith) old.few (omega (arith, gen, low)) clear_past
+    pub clear_kept : AreKept owners (set rows i r') objects opens raised
+    clear_kept = kept_written owners owners refl rows objects opens raised old i low_i r' raised (omega arith) old.few (omega (arith, gen, low)) clear_past
 
   -- a mark is set
   module _ (fd : ℕ) (way : Way) (s : Spot) (sum : ℕ) (sum_is : sum ≡ sum_at objects opens s) (r' : Row) (gen : r'.generation ≡ r.generation) (places : (d : ℕ) → place_in r' d ≡ (if d == fd then set_place way s (r.generation, sum) (place_in r fd) else place_in r d)) where
@@ -148,8 +148,8 @@ module _ (seats : Seating) (rows : List Row) (objects opens : List ℕ) (raised 
         go true = set_fresh objects opens r.generation way w s (place_in r d)
         go false = refl
 
-    pub set_spots : (q d : ℕ) (w : Way) → spot_of (known seats (set rows i r') objects opens raised) q d w ≡ (if is_it pid fd way q d w then Some s else spot_of v q d w)
-    set_spots q d w = spots_written seats rows objects opens raised old v shown pid i is r' raised (λ d w o. if d == fd && same_way way w then Some s else o) set_makes q d w ∙ merged (q == pid) (d == fd && same_way way w) (Some s) (spot_of v q d w)
+    pub set_spots : (q d : ℕ) (w : Way) → spot_of (known owners (set rows i r') objects opens raised) q d w ≡ (if is_it pid fd way q d w then Some s else spot_of v q d w)
+    set_spots q d w = spots_written owners rows objects opens raised old v shown pid i is r' raised (λ d w o. if d == fd && same_way way w then Some s else o) set_makes q d w ∙ merged (q == pid) (d == fd && same_way way w) (Some s) (spot_of v q d w)
 
     set_kept_past : (d : ℕ) (w : Way) → IsPast objects opens r'.generation w (place_in r' d)
     set_kept_past d w = rw (gen, set_at d (d == fd) refl) (go (d == fd))
@@ -158,18 +158,18 @@ module _ (seats : Seating) (rows : List Row) (objects opens : List ℕ) (raised 
         go true = set_past objects opens r.generation way w s (place_in r d) (past d w)
         go false = past d w
 
-    pub set_kept : AreKept seats (set rows i r') objects opens raised
-    set_kept = kept_written seats seats refl rows objects opens raised old i low_i r' raised (omega arith) old.few (omega (arith, gen, low)) set_kept_past
+    pub set_kept : AreKept owners (set rows i r') objects opens raised
+    set_kept = kept_written owners owners refl rows objects opens raised old i low_i r' raised (omega arith) old.few (omega (arith, gen, low)) set_kept_past
 
   -- its process's label has changed
   pub raised_fits : raised < 2 ^ 62 → r.generation + 1 < 2 ^ 64
   raised_fits few = omega (arith, low, few)
 
-  pub process_spots : (q d : ℕ) (w : Way) → spot_of (known seats (set rows i (record { generation = r.generation + 1; places = r.places })) objects opens (raised + 1)) q d w ≡ (if q == pid then None else spot_of v q d w)
-  process_spots q d w = spots_written seats rows objects opens raised old v shown pid i is (record { generation = r.generation + 1; places = r.places }) (raised + 1) (λ d w o. None) (λ d w. raised_stale objects opens r.generation w (place_in r d) (past d w)) q d w
+  pub process_spots : (q d : ℕ) (w : Way) → spot_of (known owners (set rows i (record { generation = r.generation + 1; places = r.places })) objects opens (raised + 1)) q d w ≡ (if q == pid then None else spot_of v q d w)
+  process_spots q d w = spots_written owners rows objects opens raised old v shown pid i is (record { generation = r.generation + 1; places = r.places }) (raised + 1) (λ d w o. None) (λ d w. raised_stale objects opens r.generation w (place_in r d) (past d w)) q d w
 
-  pub process_kept : raised < 2 ^ 62 → AreKept seats (set rows i (record { generation = r.generation + 1; places = r.places })) objects opens (raised + 1)
-  process_kept few = kept_written seats seats refl rows objects opens raised old i low_i (record { generation = r.generation + 1; places = r.places }) (raised + 1) (omega arith) (omega (arith, few)) (omega (arith, low)) (λ d w. raised_past objects opens r.generation w (place_in r d) (past d w))
+  pub process_kept : raised < 2 ^ 62 → AreKept owners (set rows i (record { generation = r.generation + 1; places = r.places })) objects opens (raised + 1)
+  process_kept few = kept_written owners owners refl rows objects opens raised old i low_i (record { generation = r.generation + 1; places = r.places }) (raised + 1) (omega arith) (omega (arith, few)) (omega (arith, low)) (λ d w. raised_past objects opens r.generation w (place_in r d) (past d w))
 
 -- ---- a process gets a row
 blank : {A : Type 0} (a : A) (n d : ℕ) → get_or (replicate n a) d a ≡ a
@@ -180,28 +180,28 @@ blank a (suc n) (suc d) = blank a n d
 empty_at : (d : ℕ) → place_in empty_row d ≡ no_place
 empty_at d = blank no_place 32 d
 
-module _ (seats seats' : Seating) (rows : List Row) (objects opens : List ℕ) (raised : ℕ) (old : AreKept seats rows objects opens raised) (v : Known) (shown : known seats rows objects opens raised ≡ v) (pid i : ℕ) (low_i : i < length rows) where
-  pub take_kept : length seats'.pids ≡ length seats.pids → AreKept seats' (set rows i empty_row) objects opens raised
-  take_kept as_many = kept_written seats seats' as_many rows objects opens raised old i low_i empty_row raised (omega arith) old.few (omega arith) (λ d w. subst (IsPast objects opens 0 w) (sym (empty_at d)) (never_past objects opens 0 w))
+module _ (owners owners' : RowOwners) (rows : List Row) (objects opens : List ℕ) (raised : ℕ) (old : AreKept owners rows objects opens raised) (v : Known) (shown : known owners rows objects opens raised ≡ v) (pid i : ℕ) (low_i : i < length rows) where
+  pub take_kept : length owners'.pids ≡ length owners.pids → AreKept owners' (set rows i empty_row) objects opens raised
+  take_kept as_many = kept_written owners owners' as_many rows objects opens raised old i low_i empty_row raised (omega arith) old.few (omega arith) (λ d w. subst (IsPast objects opens 0 w) (sym (empty_at d)) (never_past objects opens 0 w))
 
-  module _ (none : row_of pid seats.pids ≡ None) (unused : (q : ℕ) → row_of q seats.pids ≡ Some i → ⊥) (taken : (q : ℕ) → row_of q seats'.pids ≡ (if q == pid then Some i else row_of q seats.pids)) where
+  module _ (none : row_of pid owners.pids ≡ None) (unused : (q : ℕ) → row_of q owners.pids ≡ Some i → ⊥) (taken : (q : ℕ) → row_of q owners'.pids ≡ (if q == pid then Some i else row_of q owners.pids)) where
     here : (d : ℕ) (w : Way) → fresh_at (set rows i empty_row) objects opens (Some i) d w ≡ None
     here d w =
         ap (λ (x : Row). fresh_in objects opens x.generation w (place_in x d)) (get_or-set_same rows i empty_row no_row low_i)
         ∙ ap (fresh_in objects opens 0 w) (empty_at d) ∙ never_fresh objects opens 0 w
 
-    there : (q d : ℕ) (w : Way) (o : Option ℕ) → row_of q seats.pids ≡ o → fresh_at (set rows i empty_row) objects opens o d w ≡ fresh_at rows objects opens o d w
+    there : (q d : ℕ) (w : Way) (o : Option ℕ) → row_of q owners.pids ≡ o → fresh_at (set rows i empty_row) objects opens o d w ≡ fresh_at rows objects opens o d w
     there q d w None h = refl
     there q d w (Some j) h = ap (λ (x : Row). fresh_in objects opens x.generation w (place_in x d)) (get_or-set_other rows i j empty_row no_row (λ e. unused q (h ∙ ap (λ k. Some k) e)))
 
-    pub take_spots : (q d : ℕ) (w : Way) → spot_of (known seats' (set rows i empty_row) objects opens raised) q d w ≡ spot_of v q d w
-    take_spots q d w = spot_is seats' (set rows i empty_row) objects opens raised q d w ∙ ap (λ o. fresh_at (set rows i empty_row) objects opens o d w) (taken q) ∙ go (eqb_tells q pid) ∙ sym (spot_was seats rows objects opens raised old v shown q d w)
+    pub take_spots : (q d : ℕ) (w : Way) → spot_of (known owners' (set rows i empty_row) objects opens raised) q d w ≡ spot_of v q d w
+    take_spots q d w = spot_is owners' (set rows i empty_row) objects opens raised q d w ∙ ap (λ o. fresh_at (set rows i empty_row) objects opens o d w) (taken q) ∙ go (eqb_tells q pid) ∙ sym (spot_was owners rows objects opens raised old v shown q d w)
       where
-        go : (((q == pid) ≡ true) × (q ≡ pid)) ⊎ (((q == pid) ≡ false) × (q ≡ pid → ⊥)) → fresh_at (set rows i empty_row) objects opens (if q == pid then Some i else row_of q seats.pids) d w ≡ fresh_at rows objects opens (row_of q seats.pids) d w
+        go : (((q == pid) ≡ true) × (q ≡ pid)) ⊎ (((q == pid) ≡ false) × (q ≡ pid → ⊥)) → fresh_at (set rows i empty_row) objects opens (if q == pid then Some i else row_of q owners.pids) d w ≡ fresh_at rows objects opens (row_of q owners.pids) d w
         go (inl same) =
-            let gone : row_of q seats.pids ≡ None = ap (λ k. row_of k seats.pids) same.1 ∙ none in
+            let gone : row_of q owners.pids ≡ None = ap (λ k. row_of k owners.pids) same.1 ∙ none in
             rw (same.0, gone) (here d w)
-        go (inr other) = rw other.0 (there q d w (row_of q seats.pids) refl)
+        go (inr other) = rw other.0 (there q d w (row_of q owners.pids) refl)
 
 -- ---- the label of an object or of an open entry has changed
 still_unless : (test : Spot → Bool) (g sum sum' : ℕ) (last : Option (ℕ × ℕ)) (s : Spot) → ((h : ℕ × ℕ) → last ≡ Some h → h.1 ≤ sum) → (test s ≡ true → sum' ≡ sum + 1) → (test s ≡ false → sum' ≡ sum) → still (g, sum') last s ≡ unless test (still (g, sum) last s)
@@ -227,9 +227,9 @@ still_unless test g sum sum' (Some h) s low up stays = go (test s) refl
         rw (above, no_and (h.0 == g)) (passed (h.0 == g && h.1 == sum) is)
     go false is = rw (stays is) (failed (h.0 == g && h.1 == sum) is)
 
-module _ (seats : Seating) (rows : List Row) (objects opens : List ℕ) (raised : ℕ) (old : AreKept seats rows objects opens raised) (v : Known) (shown : known seats rows objects opens raised ≡ v) (raised' : ℕ) where
-  unless_at : (objects' opens' : List ℕ) (test : Spot → Bool) → ((s : Spot) → (test s ≡ true → sum_at objects' opens' s ≡ sum_at objects opens s + 1) × (test s ≡ false → sum_at objects' opens' s ≡ sum_at objects opens s)) → (q d : ℕ) (w : Way) → spot_of (known seats rows objects' opens' raised') q d w ≡ unless test (spot_of v q d w)
-  unless_at objects' opens' test sums q d w = spot_is seats rows objects' opens' raised' q d w ∙ go (row_of q seats.pids) ∙ ap (unless test) (sym (spot_was seats rows objects opens raised old v shown q d w))
+module _ (owners : RowOwners) (rows : List Row) (objects opens : List ℕ) (raised : ℕ) (old : AreKept owners rows objects opens raised) (v : Known) (shown : known owners rows objects opens raised ≡ v) (raised' : ℕ) where
+  unless_at : (objects' opens' : List ℕ) (test : Spot → Bool) → ((s : Spot) → (test s ≡ true → sum_at objects' opens' s ≡ sum_at objects opens s + 1) × (test s ≡ false → sum_at objects' opens' s ≡ sum_at objects opens s)) → (q d : ℕ) (w : Way) → spot_of (known owners rows objects' opens' raised') q d w ≡ unless test (spot_of v q d w)
+  unless_at objects' opens' test sums q d w = spot_is owners rows objects' opens' raised' q d w ∙ go (row_of q owners.pids) ∙ ap (unless test) (sym (spot_was owners rows objects opens raised old v shown q d w))
     where
       go : (o : Option ℕ) → fresh_at rows objects' opens' o d w ≡ unless test (fresh_at rows objects opens o d w)
       go None = refl
@@ -251,10 +251,10 @@ module _ (seats : Seating) (rows : List Row) (objects opens : List ℕ) (raised 
       stays : (k == o) ≡ false → generation_at (set xs o (x + 1)) k ≡ generation_at xs k
       stays is = get_or-set_other xs o k (x + 1) 0 (λ e. cc (is, eq-eqb o o refl, ap (λ n. n == o) e))
 
-  pub object_spots : (o x : ℕ) → o < length objects → x ≡ get_or objects o x → (q d : ℕ) (w : Way) → spot_of (known seats rows (set objects o (x + 1)) opens raised') q d w ≡ unless (on_object o) (spot_of v q d w)
+  pub object_spots : (o x : ℕ) → o < length objects → x ≡ get_or objects o x → (q d : ℕ) (w : Way) → spot_of (known owners rows (set objects o (x + 1)) opens raised') q d w ≡ unless (on_object o) (spot_of v q d w)
   object_spots o x low read = unless_at (set objects o (x + 1)) opens (on_object o) (λ s. (let both = raised_at objects o x s.object low read in (λ is. omega (arith, both.0 is), λ is. omega (arith, both.1 is))))
 
-  pub entry_spots : (e x : ℕ) → e < length opens → x ≡ get_or opens e x → (q d : ℕ) (w : Way) → spot_of (known seats rows objects (set opens e (x + 1)) raised') q d w ≡ unless (on_entry e) (spot_of v q d w)
+  pub entry_spots : (e x : ℕ) → e < length opens → x ≡ get_or opens e x → (q d : ℕ) (w : Way) → spot_of (known owners rows objects (set opens e (x + 1)) raised') q d w ≡ unless (on_entry e) (spot_of v q d w)
   entry_spots e x low read = unless_at objects (set opens e (x + 1)) (on_entry e) (λ s. (let both = raised_at opens e x s.entry low read in (λ is. omega (arith, both.0 is), λ is. omega (arith, both.1 is))))
 
 -- ---- none is fresh yet
@@ -281,5 +281,5 @@ none_kept n a b = record {
   few = omega arith;
 }
 
-pub none_spots : (seats : Seating) (n : ℕ) (rows : List Row) (objects opens : List ℕ) → seats ≡ record { pids = replicate n None; free = n } → (q d : ℕ) (w : Way) → spot_of (known seats rows objects opens 0) q d w ≡ None
-none_spots seats n rows objects opens is q d w = spot_is seats rows objects opens 0 q d w ∙ ap (λ o. fresh_at rows objects opens o d w) (ap (λ (s : Seating). row_of q s.pids) is ∙ no_row_of q n)
+pub none_spots : (owners : RowOwners) (n : ℕ) (rows : List Row) (objects opens : List ℕ) → owners ≡ record { pids = replicate n None; free = n } → (q d : ℕ) (w : Way) → spot_of (known owners rows objects opens 0) q d w ≡ None
+none_spots owners n rows objects opens is q d w = spot_is owners rows objects opens 0 q d w ∙ ap (λ o. fresh_at rows objects opens o d w) (ap (λ (s : RowOwners). row_of q s.pids) is ∙ no_row_of q n)

@@ -6,7 +6,7 @@ use Rattle.ix_links.specs.Chains.{Chains, chain_of, times, pushed_back, back_mov
 use Rattle.ix_links.specs.Whole.{IsPool}
 use Rattle.ix_links.proofs.Listing.{part-le-total}
 use Rattle.ix_links.proofs.Held.{contained, times_at, chain_within, held-not_free, at_most_once}
-use Rattle.ix_marks.specs.Seats.{stands_in}
+use Rattle.ix_marks.specs.RowIndex.{stands_in}
 use Rattle.ix_marks.proofs.Members.{place_of}
 
 -- an index of a chain is a member of it, and there once

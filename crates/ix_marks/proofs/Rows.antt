@@ -4,7 +4,7 @@ use Rattle.std.proofs.lemmas.Bool.{eqb-true, eq-eqb}
 use Rattle.std.proofs.lemmas.Bool.Decides.{eqb_tells}
 use Rattle.std.proofs.lemmas.List.{get_or-set_same, get_or-set_other}
 use Rattle.std.proofs.lemmas.Option.{same_Some}
-use Rattle.ix_marks.specs.Seats.{sits, row_of, pid_at, AreDifferent}
+use Rattle.ix_marks.specs.RowIndex.{sits, row_of, pid_at, AreDifferent}
 
 pub sits_is : (pid : ℕ) (x : Option ℕ) → sits pid x ≡ true → x ≡ Some pid
 sits_is pid None h = absurd (cc h)

@@ -13,7 +13,7 @@ use Rattle.std.proofs.Math.Bool.{or-true, or-false}
 use Rattle.ix_links.specs.Chains.{Chains, chain_of, pushed_back, removed, all_free}
 use Rattle.ix_links.specs.Whole.{IsPool}
 use Rattle.ix_links.proofs.Held.{free_below, pool-pushed_back, pool-removed, pool-all_free}
-use Rattle.ix_marks.specs.Seats.{row_of, pid_at, is_at, stands_in, AreDifferent, AreSeated}
+use Rattle.ix_marks.specs.RowIndex.{row_of, pid_at, is_at, stands_in, AreDifferent, IsRowIndex}
 use Rattle.ix_marks.proofs.Members.{member, dropped, member-dropped_same, member-dropped_other, without_once}
 use Rattle.ix_marks.proofs.Pooled.{once, stands_contained, fresh, pushed}
 use Rattle.ix_marks.proofs.Rows.{sits_is, is_sits, within, row_at, row_is, none_is, kept_row, different_more, different_fewer}
@@ -113,7 +113,7 @@ module _ (width : ℕ) (pids : List (Option ℕ)) (chains : List (List ℕ)) (p 
           not_home ones c j a.1 ∙ left ∙ sym (right b.1)
       go (inr a) (inr b) = not_home ones c j a.1 ∙ old c j ∙ rw (not_at_i low_i None j b.1) refl
 
-module _ (pids : List (Option ℕ)) (buckets : Chains) (width : ℕ) (old : AreSeated pids buckets width) where
+module _ (pids : List (Option ℕ)) (buckets : Chains) (width : ℕ) (old : IsRowIndex pids buckets width) where
   stands : (i p : ℕ) → pid_at pids i ≡ Some p → stands_in buckets.chains (p % width) i ≡ true
   stands i p at = old.filed (p % width) i ∙ rw at (eq-eqb (p % width) (p % width) refl)
 
@@ -165,8 +165,8 @@ module _ (pids : List (Option ℕ)) (buckets : Chains) (width : ℕ) (old : AreS
         chains_more : (pushed_back (p % width) buckets).chains ≡ set buckets.chains (p % width) (chain_of (p % width) buckets ++ i ∷ [])
         chains_more = (pushed (p % width) i buckets first).0
 
-        pub seated_more : (buckets' : Chains) → buckets' ≡ pushed_back (p % width) buckets → AreSeated (set pids i (Some p)) buckets' width
-        seated_more buckets' is = subst (λ b. AreSeated (set pids i (Some p)) b width) (sym is) (record {
+        pub seated_more : (buckets' : Chains) → buckets' ≡ pushed_back (p % width) buckets → IsRowIndex (set pids i (Some p)) buckets' width
+        seated_more buckets' is = subst (λ b. IsRowIndex (set pids i (Some p)) b width) (sym is) (record {
           filed = λ c j. ap (λ chains. stands_in chains c j) chains_more ∙ filed_more width pids buckets.chains p i index_low (fresh buckets pooled i first) (bucket_low p) old.filed c j;
           different = different;
           wide = ap length chains_more ∙ length-set buckets.chains _ _ ∙ old.wide;
@@ -203,8 +203,8 @@ module _ (pids : List (Option ℕ)) (buckets : Chains) (width : ℕ) (old : AreS
       chains_fewer : (removed (p % width) i buckets).chains ≡ set buckets.chains (p % width) (dropped i (chain_of (p % width) buckets))
       chains_fewer = ap (set buckets.chains (p % width)) (without_once i (chain_of (p % width) buckets) (once buckets pooled (p % width) i (stands i p at)))
 
-      pub seated_fewer : (buckets' : Chains) → buckets' ≡ removed (p % width) i buckets → AreSeated (set pids i None) buckets' width
-      seated_fewer buckets' made = subst (λ b. AreSeated (set pids i None) b width) (sym made) (record {
+      pub seated_fewer : (buckets' : Chains) → buckets' ≡ removed (p % width) i buckets → IsRowIndex (set pids i None) buckets' width
+      seated_fewer buckets' made = subst (λ b. IsRowIndex (set pids i None) b width) (sym made) (record {
         filed = λ c j. ap (λ chains. stands_in chains c j) chains_fewer ∙ filed_fewer width pids buckets.chains p i row_low at (bucket_low p) old.filed c j;
         different = fewer;
         wide = length-set buckets.chains _ _ ∙ old.wide;
@@ -223,7 +223,7 @@ none_counted : (n : ℕ) → count_by is_some (replicate {A = Option ℕ} n None
 none_counted zero = refl
 none_counted (suc n) = none_counted n
 
-pub none_seated : (rows width : ℕ) → 0 < width → AreSeated (replicate rows None) (all_free rows width) width
+pub none_seated : (rows width : ℕ) → 0 < width → IsRowIndex (replicate rows None) (all_free rows width) width
 none_seated rows width some = record {
   filed = λ c i. (let chain = always {A = List ℕ} [] width c in let pid = always {A = Option ℕ} None rows i in rw (chain, pid) refl);
   different = λ i j p at _. absurd (let none = always {A = Option ℕ} None rows i in cc);

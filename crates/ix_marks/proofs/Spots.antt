@@ -8,7 +8,7 @@ use Rattle.ix_float.specs.declared.mark.Way.TheVariants.{Reading, Writing}
 use Rattle.ix_marks.specs.declared.row.Spot.{Spot}
 use Rattle.ix_marks.specs.declared.row.Place.{Place}
 use Rattle.ix_marks.specs.declared.row.Row.{Row}
-use Rattle.ix_marks.specs.Seats.{Seating, row_of}
+use Rattle.ix_marks.specs.RowIndex.{RowOwners, row_of}
 use Rattle.ix_marks.specs.Places.{place_in, row_in, no_place, no_row}
 use Rattle.ix_marks.specs.Known.{Known, Spots, spot_at, spot_of, for_way, stale, fresh_in, shown_place, shown_row, known, IsPast, AreKept}
 use Rattle.ix_marks.proofs.Rows.{row_at, within, apart}
@@ -30,39 +30,39 @@ shown_at rows objects opens (Some i) d w =
     ∙ ap (for_way w) (get_or-map (shown_place objects opens (row_in rows i).generation) (row_in rows i).places d no_place)
     ∙ by_way objects opens (row_in rows i).generation (place_in (row_in rows i) d) w
 
-pub spot_is : (seats : Seating) (rows : List Row) (objects opens : List ℕ) (raised : ℕ) (q d : ℕ) (w : Way) → spot_of (known seats rows objects opens raised) q d w ≡ fresh_at rows objects opens (row_of q seats.pids) d w
-spot_is seats rows objects opens raised q d w = shown_at rows objects opens (row_of q seats.pids) d w
+pub spot_is : (owners : RowOwners) (rows : List Row) (objects opens : List ℕ) (raised : ℕ) (q d : ℕ) (w : Way) → spot_of (known owners rows objects opens raised) q d w ≡ fresh_at rows objects opens (row_of q owners.pids) d w
+spot_is owners rows objects opens raised q d w = shown_at rows objects opens (row_of q owners.pids) d w
 
 -- ---- a row is written
-module _ (seats : Seating) (rows : List Row) (objects opens : List ℕ) (raised : ℕ) (old : AreKept seats rows objects opens raised) (v : Known) (shown : known seats rows objects opens raised ≡ v) where
-  pub spot_was : (q d : ℕ) (w : Way) → spot_of v q d w ≡ fresh_at rows objects opens (row_of q seats.pids) d w
-  spot_was q d w = ap (λ k. spot_of k q d w) (sym shown) ∙ spot_is seats rows objects opens raised q d w
+module _ (owners : RowOwners) (rows : List Row) (objects opens : List ℕ) (raised : ℕ) (old : AreKept owners rows objects opens raised) (v : Known) (shown : known owners rows objects opens raised ≡ v) where
+  pub spot_was : (q d : ℕ) (w : Way) → spot_of v q d w ≡ fresh_at rows objects opens (row_of q owners.pids) d w
+  spot_was q d w = ap (λ k. spot_of k q d w) (sym shown) ∙ spot_is owners rows objects opens raised q d w
 
-  module _ (pid i : ℕ) (is : row_of pid seats.pids ≡ Some i) where
+  module _ (pid i : ℕ) (is : row_of pid owners.pids ≡ Some i) where
     pub row_low : i < length rows
-    row_low = omega (arith, within seats.pids i pid (row_at pid seats.pids i is), old.enough)
+    row_low = omega (arith, within owners.pids i pid (row_at pid owners.pids i is), old.enough)
 
     -- what was read there
     pub row_read : (r : Row) → r ≡ get_or rows i r → r ≡ row_in rows i
     row_read r read = get_or_read rows i r row_low read no_row
 
-    elsewhere : (r : Row) (q d : ℕ) (w : Way) → (q ≡ pid → ⊥) → fresh_at (set rows i r) objects opens (row_of q seats.pids) d w ≡ fresh_at rows objects opens (row_of q seats.pids) d w
-    elsewhere r q d w other = go (row_of q seats.pids) refl
+    elsewhere : (r : Row) (q d : ℕ) (w : Way) → (q ≡ pid → ⊥) → fresh_at (set rows i r) objects opens (row_of q owners.pids) d w ≡ fresh_at rows objects opens (row_of q owners.pids) d w
+    elsewhere r q d w other = go (row_of q owners.pids) refl
       where
-        go : (o : Option ℕ) → row_of q seats.pids ≡ o → fresh_at (set rows i r) objects opens o d w ≡ fresh_at rows objects opens o d w
+        go : (o : Option ℕ) → row_of q owners.pids ≡ o → fresh_at (set rows i r) objects opens o d w ≡ fresh_at rows objects opens o d w
         go None h = refl
-        go (Some j) h = ap (λ (x : Row). fresh_in objects opens x.generation w (place_in x d)) (get_or-set_other rows i j r no_row (λ e. other (apart seats.pids q pid i (h ∙ ap (λ k. Some k) e) is)))
+        go (Some j) h = ap (λ (x : Row). fresh_in objects opens x.generation w (place_in x d)) (get_or-set_other rows i j r no_row (λ e. other (apart owners.pids q pid i (h ∙ ap (λ k. Some k) e) is)))
 
     -- the descriptors of its process become what f makes of them, and all others stay
-    pub spots_written : (r : Row) (raised' : ℕ) (f : ℕ → Way → Option Spot → Option Spot) → ((d : ℕ) (w : Way) → fresh_in objects opens r.generation w (place_in r d) ≡ f d w (fresh_in objects opens (row_in rows i).generation w (place_in (row_in rows i) d))) → (q d : ℕ) (w : Way) → spot_of (known seats (set rows i r) objects opens raised') q d w ≡ (if q == pid then f d w (spot_of v q d w) else spot_of v q d w)
-    spots_written r raised' f makes q d w = spot_is seats (set rows i r) objects opens raised' q d w ∙ go (eqb_tells q pid)
+    pub spots_written : (r : Row) (raised' : ℕ) (f : ℕ → Way → Option Spot → Option Spot) → ((d : ℕ) (w : Way) → fresh_in objects opens r.generation w (place_in r d) ≡ f d w (fresh_in objects opens (row_in rows i).generation w (place_in (row_in rows i) d))) → (q d : ℕ) (w : Way) → spot_of (known owners (set rows i r) objects opens raised') q d w ≡ (if q == pid then f d w (spot_of v q d w) else spot_of v q d w)
+    spots_written r raised' f makes q d w = spot_is owners (set rows i r) objects opens raised' q d w ∙ go (eqb_tells q pid)
       where
         row : row_in (set rows i r) i ≡ r
         row = get_or-set_same rows i r no_row row_low
 
-        go : (((q == pid) ≡ true) × (q ≡ pid)) ⊎ (((q == pid) ≡ false) × (q ≡ pid → ⊥)) → fresh_at (set rows i r) objects opens (row_of q seats.pids) d w ≡ (if q == pid then f d w (spot_of v q d w) else spot_of v q d w)
+        go : (((q == pid) ≡ true) × (q ≡ pid)) ⊎ (((q == pid) ≡ false) × (q ≡ pid → ⊥)) → fresh_at (set rows i r) objects opens (row_of q owners.pids) d w ≡ (if q == pid then f d w (spot_of v q d w) else spot_of v q d w)
         go (inl same) =
-            let here : row_of q seats.pids ≡ Some i = ap (λ k. row_of k seats.pids) same.1 ∙ is in
+            let here : row_of q owners.pids ≡ Some i = ap (λ k. row_of k owners.pids) same.1 ∙ is in
             rw same.0 (
             ap (λ o. fresh_at (set rows i r) objects opens o d w) here
             ∙ ap (λ (x : Row). fresh_in objects opens x.generation w (place_in x d)) row
@@ -71,8 +71,8 @@ module _ (seats : Seating) (rows : List Row) (objects opens : List ℕ) (raised 
         go (inr other) = rw other.0 (elsewhere r q d w other.1 ∙ sym (spot_was q d w))
 
 -- the code keeps what it does
-module _ (seats seats' : Seating) (as_many : length seats'.pids ≡ length seats.pids) (rows : List Row) (objects opens : List ℕ) (raised : ℕ) (old : AreKept seats rows objects opens raised) (i : ℕ) (low_i : i < length rows) where
-  pub kept_written : (r : Row) (raised' : ℕ) → raised ≤ raised' → raised' ≤ 2 ^ 62 → r.generation ≤ raised' → ((d : ℕ) (w : Way) → IsPast objects opens r.generation w (place_in r d)) → AreKept seats' (set rows i r) objects opens raised'
+module _ (owners owners' : RowOwners) (as_many : length owners'.pids ≡ length owners.pids) (rows : List Row) (objects opens : List ℕ) (raised : ℕ) (old : AreKept owners rows objects opens raised) (i : ℕ) (low_i : i < length rows) where
+  pub kept_written : (r : Row) (raised' : ℕ) → raised ≤ raised' → raised' ≤ 2 ^ 62 → r.generation ≤ raised' → ((d : ℕ) (w : Way) → IsPast objects opens r.generation w (place_in r d)) → AreKept owners' (set rows i r) objects opens raised'
   kept_written r raised' more few low past = record {
     enough = length-set rows i r ∙ old.enough ∙ sym as_many;
     past = λ j d w. at_row j d w (eqb_tells j i);

@@ -6,7 +6,7 @@ use Rattle.ix_float.specs.declared.mark.Way.TheVariants.{Reading, Writing}
 use Rattle.ix_marks.specs.declared.row.Spot.{Spot}
 use Rattle.ix_marks.specs.declared.row.Place.{Place}
 use Rattle.ix_marks.specs.declared.row.Row.{Row}
-use Rattle.ix_marks.specs.Seats.{Seating, row_of}
+use Rattle.ix_marks.specs.RowIndex.{RowOwners, row_of}
 use Rattle.ix_marks.specs.Places.{spot_in, place_in, row_in}
 
 -- for each way the spot at which a descriptor was set and is fresh, if it is
@@ -22,7 +22,7 @@ pub record Sizes : Type 0 where
 
 -- whose the rows are, the descriptors of each, and how often a label was said to have changed
 pub record Known : Type 0 where
-  pub seats : Seating
+  pub owners : RowOwners
   pub rows : List (List Spots)
   pub sizes : Sizes
   pub raised : ℕ
@@ -42,10 +42,10 @@ spot_at rows (Some i) d w = for_way w (slice_index_or (slice_index_or rows i [])
 
 -- the spot at which a descriptor of a process is fresh for a way, if it is
 abbrev pub spot_of : Known → ℕ → ℕ → Way → Option Spot
-spot_of k pid fd way = spot_at k.rows (row_of pid k.seats.pids) fd way
+spot_of k pid fd way = spot_at k.rows (row_of pid k.owners.pids) fd way
 
 abbrev pub has_row : Known → ℕ → Bool
-has_row k pid = is_some (row_of pid k.seats.pids)
+has_row k pid = is_some (row_of pid k.owners.pids)
 
 abbrev pub same_way : Way → Way → Bool
 same_way Reading Reading = true
@@ -91,16 +91,16 @@ shown_place objects opens generation p = record { reading = fresh_in objects ope
 abbrev pub shown_row : List ℕ → List ℕ → Row → List Spots
 shown_row objects opens r = map (shown_place objects opens r.generation) r.places
 
-abbrev pub known : Seating → List Row → List ℕ → List ℕ → ℕ → Known
-known seats rows objects opens raised = record { seats = seats; rows = map (shown_row objects opens) rows; sizes = record { rows = length seats.pids; objects = length objects; opens = length opens }; raised = raised }
+abbrev pub known : RowOwners → List Row → List ℕ → List ℕ → ℕ → Known
+known owners rows objects opens raised = record { owners = owners; rows = map (shown_row objects opens) rows; sizes = record { rows = length owners.pids; objects = length objects; opens = length opens }; raised = raised }
 
 -- a mark was set with generations that are no greater than those of now
 abbrev pub IsPast : List ℕ → List ℕ → ℕ → Way → Place → Type 0
 IsPast objects opens generation w p = (g : ℕ × ℕ) → last_set w p.mark ≡ Some g → (g.0 ≤ generation) × (g.1 ≤ sum_at objects opens (spot_in w p))
 
 -- no generation is above the number of raises, which is bounded
-pub record AreKept (seats : Seating) (rows : List Row) (objects opens : List ℕ) (raised : ℕ) : Type 0 where
-  pub enough : length rows ≡ length seats.pids
+pub record AreKept (owners : RowOwners) (rows : List Row) (objects opens : List ℕ) (raised : ℕ) : Type 0 where
+  pub enough : length rows ≡ length owners.pids
   pub past : (i d : ℕ) (w : Way) → IsPast objects opens (row_in rows i).generation w (place_in (row_in rows i) d)
   pub rows_low : (i : ℕ) → (row_in rows i).generation ≤ raised
   pub objects_low : (o : ℕ) → generation_at objects o ≤ raised

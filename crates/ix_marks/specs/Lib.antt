@@ -1,3 +1,3 @@
-pub mod Seats
+pub mod RowIndex
 pub mod Places
 pub mod Known

@@ -3,7 +3,7 @@
 
 mod marks;
 mod row;
-mod seats;
+mod row_index;
 
 pub use marks::Marks;
 pub use row::Spot;

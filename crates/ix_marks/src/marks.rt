@@ -1,11 +1,11 @@
 ghost use Rattle.std.specs.Prelude.{◌≡◌, ℕ, ◌<◌, ◌≤◌, ◌-◌, ◌+◌, ◌^◌, ◌==◌, ◌&&◌, ◌||◌, not, true, false, Some, None, IfOk, if◌then◌else◌, is_some, List, Option, count_by};
 ghost use Rattle.ix_float.specs.declared.mark.Way as way_type;
 ghost use Rattle.ix_model.specs.world.World.{Process, at};
-ghost use Rattle.ix_marks.specs.Seats.{row_of};
+ghost use Rattle.ix_marks.specs.RowIndex.{row_of};
 ghost use Rattle.ix_marks.specs.Known.{spot_of, has_row, is_it, unless, on_object, on_entry, generation_at, sum_at};
 
 use crate::row::{Row, Spot, empty_rows};
-use crate::seats::Seats;
+use crate::row_index::RowIndex;
 use ix_float::Way;
 use ix_model::{Fd, NoMemory, Pid};
 use std::alloc::Global;
@@ -25,7 +25,7 @@ use std::marker::Model;
 /// one of those for which there are generations.
 #[derive(Drop)]
 pub struct Marks {
-    seats: Seats,
+    owners: RowIndex,
     /// The marks of each row.
     rows: Vec<Row>,
     /// The generation of each object.
@@ -41,9 +41,9 @@ impl Model for Marks {
 
     ghost Value = { Known };
 
-    ghost view = { λ m. known m.seats m.rows.items m.objects.items m.opens.items m.raised };
+    ghost view = { λ m. known m.owners m.rows.items m.objects.items m.opens.items m.raised };
 
-    ghost invariant = { λ m. AreKept m.seats m.rows.items m.objects.items m.opens.items m.raised };
+    ghost invariant = { λ m. AreKept m.owners m.rows.items m.objects.items m.opens.items m.raised };
 }
 
 impl Marks {
@@ -53,11 +53,11 @@ impl Marks {
     pub fn new(alloc: Global, procs: u32, objects: u32, opens: u32) -> Result<Marks, NoMemory>
         ensures fresh { IfOk result (λ m. (q d : ℕ) (w : way_type.Way) → spot_of m q d w ≡ None) }
         ensures rows { IfOk result (λ m. (q : ℕ) → has_row m q ≡ false) }
-        ensures free { IfOk result (λ m. m.seats.free ≡ procs) }
+        ensures free { IfOk result (λ m. m.owners.free ≡ procs) }
         ensures sizes { IfOk result (λ m. m.sizes ≡ record { rows = procs; objects = objects; opens = opens }) }
         ensures raised { IfOk result (λ m. m.raised ≡ 0) }
     {
-        let seats = Seats::new(alloc, procs)?;
+        let owners = RowIndex::new(alloc, procs)?;
         let Ok(rows) = empty_rows(alloc, procs) else {
             return Err(NoMemory);
         };
@@ -68,7 +68,7 @@ impl Marks {
             return Err(NoMemory);
         };
         Ok(Marks {
-            seats,
+            owners,
             rows,
             objects,
             opens,
@@ -80,7 +80,7 @@ impl Marks {
     pub fn fresh(&self, pid: Pid, fd: Fd, way: Way) -> bool
         ensures { result ≡ is_some (spot_of self.now pid.0 fd.0 way) }
     {
-        let Some(row) = self.seats.find(pid) else {
+        let Some(row) = self.owners.find(pid) else {
             return false;
         };
         let row = &self.rows[row as usize];
@@ -93,10 +93,10 @@ impl Marks {
     /// row takes one. It asks that the descriptor is below 32, and that a row is free where one is taken.
     pub fn set(&mut self, pid: Pid, fd: Fd, way: Way, spot: Spot)
         requires fd { fd.0 < 32 }
-        requires room { has_row self.old pid.0 ≡ false → 0 < self.old.seats.free }
+        requires room { has_row self.old pid.0 ≡ false → 0 < self.old.owners.free }
         ensures spots { (q d : ℕ) (w : way_type.Way) → spot_of self.new q d w ≡ (if is_it pid.0 fd.0 way q d w then Some spot else spot_of self.old q d w) }
         ensures rows { (q : ℕ) → has_row self.new q ≡ (q == pid.0 || has_row self.old q) }
-        ensures free { self.new.seats.free ≡ (if has_row self.old pid.0 then self.old.seats.free else self.old.seats.free - 1) }
+        ensures free { self.new.owners.free ≡ (if has_row self.old pid.0 then self.old.owners.free else self.old.owners.free - 1) }
         ensures sizes { self.new.sizes ≡ self.old.sizes }
         ensures raised { self.new.raised ≡ self.old.raised }
     {
@@ -108,11 +108,11 @@ impl Marks {
     /// A descriptor of a process is closed: it is fresh for neither way.
     pub fn clear(&mut self, pid: Pid, fd: Fd)
         ensures spots { (q d : ℕ) (w : way_type.Way) → spot_of self.new q d w ≡ (if q == pid.0 && d == fd.0 then None else spot_of self.old q d w) }
-        ensures seats { self.new.seats ≡ self.old.seats }
+        ensures owners { self.new.owners ≡ self.old.owners }
         ensures sizes { self.new.sizes ≡ self.old.sizes }
         ensures raised { self.new.raised ≡ self.old.raised }
     {
-        let Some(row) = self.seats.find(pid) else {
+        let Some(row) = self.owners.find(pid) else {
             return;
         };
         self.rows[row as usize].clear(fd.0 as usize);
@@ -122,23 +122,23 @@ impl Marks {
     pub fn forget(&mut self, pid: Pid)
         ensures spots { (q d : ℕ) (w : way_type.Way) → spot_of self.new q d w ≡ (if q == pid.0 then None else spot_of self.old q d w) }
         ensures rows { (q : ℕ) → has_row self.new q ≡ (not (q == pid.0) && has_row self.old q) }
-        ensures free { self.new.seats.free ≡ (if has_row self.old pid.0 then self.old.seats.free + 1 else self.old.seats.free) }
+        ensures free { self.new.owners.free ≡ (if has_row self.old pid.0 then self.old.owners.free + 1 else self.old.owners.free) }
         ensures sizes { self.new.sizes ≡ self.old.sizes }
         ensures raised { self.new.raised ≡ self.old.raised }
     {
-        self.seats.leave(pid);
+        self.owners.leave(pid);
     }
 
     /// A process's label has changed: none of its descriptors is fresh. Where it has no row none was.
     pub fn relabel_process(&mut self, pid: Pid)
         requires { self.old.raised < 2 ^ 62 }
         ensures spots { (q d : ℕ) (w : way_type.Way) → spot_of self.new q d w ≡ (if q == pid.0 then None else spot_of self.old q d w) }
-        ensures seats { self.new.seats ≡ self.old.seats }
+        ensures owners { self.new.owners ≡ self.old.owners }
         ensures sizes { self.new.sizes ≡ self.old.sizes }
         ensures raised { self.new.raised ≡ self.old.raised + 1 }
     {
         self.raised += 1;
-        if let Some(row) = self.seats.find(pid) {
+        if let Some(row) = self.owners.find(pid) {
             self.rows[row as usize].generation += 1;
         }
     }
@@ -148,7 +148,7 @@ impl Marks {
         requires object { object < self.old.sizes.objects }
         requires raised { self.old.raised < 2 ^ 62 }
         ensures spots { (q d : ℕ) (w : way_type.Way) → spot_of self.new q d w ≡ unless (on_object object) (spot_of self.old q d w) }
-        ensures seats { self.new.seats ≡ self.old.seats }
+        ensures owners { self.new.owners ≡ self.old.owners }
         ensures sizes { self.new.sizes ≡ self.old.sizes }
         ensures raised { self.new.raised ≡ self.old.raised + 1 }
     {
@@ -161,7 +161,7 @@ impl Marks {
         requires entry { entry < self.old.sizes.opens }
         requires raised { self.old.raised < 2 ^ 62 }
         ensures spots { (q d : ℕ) (w : way_type.Way) → spot_of self.new q d w ≡ unless (on_entry entry) (spot_of self.old q d w) }
-        ensures seats { self.new.seats ≡ self.old.seats }
+        ensures owners { self.new.owners ≡ self.old.owners }
         ensures sizes { self.new.sizes ≡ self.old.sizes }
         ensures raised { self.new.raised ≡ self.old.raised + 1 }
     {
@@ -173,14 +173,14 @@ impl Marks {
     pub fn has_row(&self, pid: Pid) -> bool
         ensures { result ≡ has_row self.now pid.0 }
     {
-        self.seats.find(pid).is_some()
+        self.owners.find(pid).is_some()
     }
 
     /// How many rows are free. Constant time.
     pub fn free(&self) -> u32
-        ensures { result ≡ self.now.seats.free }
+        ensures { result ≡ self.now.owners.free }
     {
-        self.seats.free()
+        self.owners.free()
     }
 
     /// Does nothing: its contract is the law that a row is free for a process that has none, where each process that has
@@ -191,25 +191,25 @@ impl Marks {
             → ((q : ℕ) → has_row self.now q ≡ true → is_some (at processes q) ≡ true)
             → is_some (at processes pid.0) ≡ true
             → has_row self.now pid.0 ≡ false
-            → 0 < self.now.seats.free }
+            → 0 < self.now.owners.free }
     {
-        self.seats.counted();
+        self.owners.lemma_rows_add_up();
     }
 
     /// The row of a process, which takes one if it has none.
     fn row_for(&mut self, pid: Pid) -> u32
-        requires room { has_row self.old pid.0 ≡ false → 0 < self.old.seats.free }
-        ensures row { row_of pid.0 self.new.seats.pids ≡ Some result }
+        requires room { has_row self.old pid.0 ≡ false → 0 < self.old.owners.free }
+        ensures row { row_of pid.0 self.new.owners.pids ≡ Some result }
         ensures spots { (q d : ℕ) (w : way_type.Way) → spot_of self.new q d w ≡ spot_of self.old q d w }
         ensures rows { (q : ℕ) → has_row self.new q ≡ (q == pid.0 || has_row self.old q) }
-        ensures free { self.new.seats.free ≡ (if has_row self.old pid.0 then self.old.seats.free else self.old.seats.free - 1) }
+        ensures free { self.new.owners.free ≡ (if has_row self.old pid.0 then self.old.owners.free else self.old.owners.free - 1) }
         ensures sizes { self.new.sizes ≡ self.old.sizes }
         ensures raised { self.new.raised ≡ self.old.raised }
     {
-        if let Some(row) = self.seats.find(pid) {
+        if let Some(row) = self.owners.find(pid) {
             return row;
         }
-        let row = self.seats.take(pid);
+        let row = self.owners.take(pid);
         self.rows[row as usize] = Row::empty();
         row
     }

@@ -173,7 +173,7 @@ impl Names {
     }
 
     /// Does nothing: its contract is the law that no name stands twice in a directory.
-    pub fn different(&self, dir: Obj)
+    pub fn lemma_names_differ(&self, dir: Obj)
         ensures { AreDifferent (names_of self.now dir.0) }
     {
         self.dirs.is_pool();

@@ -180,10 +180,10 @@ impl Pipes {
     }
 
     /// Does nothing: its contract is the law that a pipe has two claims, and at most 4,096 bytes in each direction.
-    pub fn bounded(&self, pipe: u32)
+    pub fn lemma_is_bounded(&self, pipe: u32)
         requires { IsTrue (is_some (at self.now pipe)) }
         ensures { (p : Pipe) → at self.now pipe ≡ Some p → IsBounded p }
     {
-        self.slots[pipe as usize].bounded();
+        self.slots[pipe as usize].lemma_is_bounded();
     }
 }

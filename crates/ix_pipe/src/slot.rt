@@ -191,7 +191,7 @@ impl Slot {
     }
 
     /// Does nothing: its contract is the law that a pipe has two claims, and directions of bounded length.
-    pub fn bounded(&self)
+    pub fn lemma_is_bounded(&self)
         ensures { (p : Pipe) → self.now ≡ Some p → IsBounded p }
     {
         let _first = self.first.len();

@@ -8,7 +8,7 @@ use Rattle.ix_model.specs.world.Contents.{on_pipe}
 use Rattle.ix_model.specs.opening.Opening.{opening_world}
 use Rattle.ix_model.specs.rows.Table.{Decision, verdict}
 use Rattle.ix_model.specs.rows.Telling.{told, told_of_write, told_of_pipe_write, told_of_file_write}
-use Rattle.ix_model.specs.rows.Walks.{Behind, behind}
+use Rattle.ix_model.specs.rows.Walks.{OpenFile, behind}
 use Rattle.ix_model.specs.history.Events.{Op, Event}
 use Rattle.ix_model.specs.history.Events as op
 use Rattle.ix_model.specs.history.History.{History, world_of, with_entry, next}
@@ -41,17 +41,17 @@ few_read : (w : World) (place : ℕ) (e : Event) → count_in (step_of w place e
 few_read w place e = few_shown (step_of w place e).reply (step_of w place e).bytes (shown_step w place e.pid e.op)
 
 -- a write that is too big is told so, to a pipe and to a file
-small_write : (pipe : Bool) (w : World) (e : Behind) (there n : ℕ) → not (if pipe then told_of_pipe_write there n else told_of_file_write w.frame w.content e n).too_big ≡ true → n ≤ 4096
+small_write : (pipe : Bool) (w : World) (e : OpenFile) (there n : ℕ) → not (if pipe then told_of_pipe_write there n else told_of_file_write w.frame w.content e n).too_big ≡ true → n ≤ 4096
 small_write true w e there n h = grind (arith, nat_tests)
 small_write false w e there n h = grind (arith, nat_tests)
 
-few_told : (w : World) (n : ℕ) (b : Option Behind) (e : Behind) → b ≡ Some e → not (told_of_write w.frame w.content n b).too_big ≡ true → n ≤ 4096
+few_told : (w : World) (n : ℕ) (b : Option OpenFile) (e : OpenFile) → b ≡ Some e → not (told_of_write w.frame w.content n b).too_big ≡ true → n ≤ 4096
 unfolding told_of_write
 few_told w n b e is h =
-    let P : Option Behind → Type 0 = λ o. not (told_of_write w.frame w.content n o).too_big ≡ true in
+    let P : Option OpenFile → Type 0 = λ o. not (told_of_write w.frame w.content n o).too_big ≡ true in
     small_write (on_pipe w.frame e) w e _ n (subst P is h)
 
-few_answered : (w : World) (fd : ℕ) (new : List ℕ) (b : Option Behind) (r : Reply) (g : Frame) → ((k : ℕ) → r ≡ reply.Number k → (is_some b ≡ true) × (length new ≤ 4096))
+few_answered : (w : World) (fd : ℕ) (new : List ℕ) (b : Option OpenFile) (r : Reply) (g : Frame) → ((k : ℕ) → r ≡ reply.Number k → (is_some b ≡ true) × (length new ≤ 4096))
     → bytes_written (op.WriteFd fd new) (write_answer w new b r g).reply ≤ 4096
 unfolding write_answer plainly
 few_answered w fd new (Some e) (reply.Number k) g h = (h k refl).1

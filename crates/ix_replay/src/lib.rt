@@ -4,9 +4,9 @@
 
 pub mod laws;
 mod tally;
-mod telling;
+mod reporting;
 
 pub use tally::{Tally, summary};
-pub use telling::closing::{Closing, Next};
-pub use telling::entry::push_entry;
-pub use telling::replay::replay;
+pub use reporting::closing::{Closing, Next};
+pub use reporting::entry::push_entry;
+pub use reporting::replay::replay;

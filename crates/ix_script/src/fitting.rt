@@ -7,7 +7,7 @@ ghost use Rattle.ix_model.specs.world.Paths.{path_of};
 ghost use Rattle.ix_model.specs.opening.Valid.{fs_of, is_mount, is_taken, has_directory};
 ghost use Rattle.ix_model.specs.declared.config.ObjSpec.{ObjSpec};
 ghost use Rattle.ix_script.specs.lines.Before.{fss_of, objects_of, lanes_of, is_known};
-ghost use Rattle.ix_script.specs.lines.Rules.{is_above, object_misfits, misfits, object_crowds, crowds, is_out_of_order, is_one_too_many, lacks_policy};
+ghost use Rattle.ix_script.specs.lines.Rules.{is_above, object_is_misplaced, is_misplaced, object_exceeds_limits, exceeds_limits, is_out_of_order, is_one_too_many, lacks_policy};
 ghost use Rattle.ix_script.specs.reader.Told.{DraftTold};
 
 use crate::before::body::is_command;
@@ -58,16 +58,16 @@ impl<'a> Draft<'a> {
         path.len() == 0 || self.is_further_dir(path)
     }
 
-    fn misfits_tree(&self, path: &Path<'a>) -> bool
+    fn is_misplaced_in_tree(&self, path: &Path<'a>) -> bool
         requires told { DraftTold self.now }
-        ensures { (o : ObjSpec) → o.path ≡ path_of path.now → result ≡ object_misfits self.now.lines o }
+        ensures { (o : ObjSpec) → o.path ≡ path_of path.now → result ≡ object_is_misplaced self.now.lines o }
     {
         self.is_taken(path) || !self.has_directory(&path.parent())
     }
 
     fn lacks_room(&self, path: &MadePath<'a>, len: usize) -> bool
         requires told { DraftTold self.now }
-        ensures { (o : ObjSpec) → o.path ≡ path.now → length o.bytes ≡ len → result ≡ object_crowds self.now.lines o }
+        ensures { (o : ObjSpec) → o.path ≡ path.now → length o.bytes ≡ len → result ≡ object_exceeds_limits self.now.lines o }
     {
         let fss = self.header.fss.as_slice();
         let k = fs_of(fss, &path.path());
@@ -94,21 +94,21 @@ impl<'a> Draft<'a> {
     }
 
     /// Whether a path does not fit the tree: rule 23.
-    pub fn misfits(&self, line: &Line<'a>) -> bool
+    pub fn is_misplaced(&self, line: &Line<'a>) -> bool
         requires told { DraftTold self.now }
-        ensures { result ≡ misfits self.now.lines line.now }
+        ensures { result ≡ is_misplaced self.now.lines line.now }
     {
         match line {
-            Line::Dir { path, .. } => self.misfits_tree(&path.path()),
-            Line::File { path, .. } => self.misfits_tree(&path.path()),
+            Line::Dir { path, .. } => self.is_misplaced_in_tree(&path.path()),
+            Line::File { path, .. } => self.is_misplaced_in_tree(&path.path()),
             _ => false,
         }
     }
 
     /// Whether there is no room for a process, an inode, a name or blocks: rule 24.
-    pub fn crowds(&self, line: &Line<'a>) -> bool
+    pub fn exceeds_limits(&self, line: &Line<'a>) -> bool
         requires told { DraftTold self.now }
-        ensures { result ≡ crowds self.now.lines line.now }
+        ensures { result ≡ exceeds_limits self.now.lines line.now }
     {
         match line {
             Line::Proc { .. } => self.header.procs.count >= self.header.limits.procs as usize,

@@ -170,10 +170,10 @@ impl<'a> Draft<'a> {
         if self.is_above(line, steps) {
             return Err(Rule::ABOVE_CEILING);
         }
-        if self.misfits(line) {
+        if self.is_misplaced(line) {
             return Err(Rule::MISFIT);
         }
-        if self.crowds(line) {
+        if self.exceeds_limits(line) {
             return Err(Rule::NO_ROOM);
         }
         if self.is_out_of_order(line) {

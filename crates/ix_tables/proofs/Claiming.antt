@@ -16,7 +16,7 @@ use Rattle.ix_pipe.specs.Pipe as pipe
 use Rattle.ix_pipe.specs.Claims as pipe_claim
 use Rattle.ix_pipe.specs.Claims.{claimant_of}
 use Rattle.ix_tables.specs.Parts.{Parts}
-use Rattle.ix_tables.specs.Meanings.{with_claim, claimed, emptied}
+use Rattle.ix_tables.specs.Views.{with_claim, claimed, emptied}
 use Rattle.ix_tables.specs.Joined.{object_of_pipe, holding_of_pipe, joined, AreJoined}
 use Rattle.ix_tables.proofs.Piping.{is_living, object_there, holding_there, put_there}
 

@@ -13,7 +13,7 @@ use Rattle.ix_name.specs.Directories.{Directories}
 use Rattle.ix_open.specs.Table.{OpenTable}
 use Rattle.ix_pipe.specs.Pipe.{Pipe, made, new_pipe}
 use Rattle.ix_tables.specs.Parts.{Parts}
-use Rattle.ix_tables.specs.Meanings.{vacant_pipe}
+use Rattle.ix_tables.specs.Views.{vacant_pipe}
 use Rattle.ix_tables.specs.Joined.{objects_of, object_of_pipe, all_objects, joined, AreJoined}
 use Rattle.ix_tables.proofs.Joining.{length-objects, length-all}
 use Rattle.ix_tables.proofs.Piping.{piped}

@@ -11,7 +11,7 @@ use Rattle.ix_name.specs.Directories.{Directories, names_of}
 use Rattle.ix_open.specs.Table.{OpenTable}
 use Rattle.ix_pipe.specs.Pipe.{Pipe}
 use Rattle.ix_tables.specs.Parts.{Parts}
-use Rattle.ix_tables.specs.Meanings.{frame_alone, without_object, object_let_go}
+use Rattle.ix_tables.specs.Views.{frame_alone, without_object, object_let_go}
 use Rattle.ix_tables.specs.Joined.{object_of, object_of_pipe, joined, AreJoined}
 use Rattle.ix_tables.proofs.Joining.{at_inode, at_pipe}
 use Rattle.ix_tables.proofs.Piping.{piped}

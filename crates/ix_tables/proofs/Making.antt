@@ -18,7 +18,7 @@ use Rattle.ix_inode.specs.declared.node.Node.{Node}
 use Rattle.ix_name.specs.Directories.{Directories, names_of, under, with_more}
 use Rattle.ix_open.specs.Table.{OpenTable}
 use Rattle.ix_pipe.specs.Pipe.{Pipe}
-use Rattle.ix_tables.specs.Meanings.{vacant_inode}
+use Rattle.ix_tables.specs.Views.{vacant_inode}
 use Rattle.ix_tables.specs.Parts.{Parts}
 use Rattle.ix_tables.specs.Joined.{joined, names_for, HasLinks, HasNames, AreJoined}
 use Rattle.ix_tables.proofs.Placing.{placed, low, unnamed, at_placed, length_placed, placed_joined, placed_view, room_left, stays}

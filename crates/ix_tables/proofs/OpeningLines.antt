@@ -16,7 +16,7 @@ use Rattle.ix_model.proofs.tables.Tables.{change_twice}
 use Rattle.ix_model.proofs.tables.Blocks.{blocks_edit}
 use Rattle.ix_model.proofs.opening.Placing.{Place, with_one, not_new, at_new, seen}
 use Rattle.ix_model.specs.declared.reply.Kind.{Kind}
-use Rattle.ix_tables.specs.Meanings.{frame_alone, has_room}
+use Rattle.ix_tables.specs.Views.{frame_alone, has_room}
 use Rattle.ix_tables.specs.Parts.{Parts}
 use Rattle.ix_tables.specs.Opening.{Leads, kind_said, as_said, with_line, HasPlace}
 

@@ -27,7 +27,7 @@ use Rattle.ix_model.proofs.opening.Placing.{Place, length-after}
 use Rattle.ix_model.proofs.opening.Validity.{Valid, valid_parts}
 use Rattle.ix_model.proofs.opening.WaysPlaced.{name_is_new}
 use Rattle.ix_tables.specs.Parts.{Parts, parts_of, homes_of}
-use Rattle.ix_tables.specs.Meanings.{frame_alone, vacant_inode}
+use Rattle.ix_tables.specs.Views.{frame_alone, vacant_inode}
 use Rattle.ix_tables.specs.Opening.{opening_after, Leads, with_line, HasPlace}
 
 -- ---- the lines before

@@ -20,7 +20,7 @@ use Rattle.ix_name.specs.Directories.{Directories, names_of}
 use Rattle.ix_open.specs.Table.{OpenTable}
 use Rattle.ix_pipe.specs.Pipe.{Pipe}
 use Rattle.ix_tables.specs.Parts.{Parts}
-use Rattle.ix_tables.specs.Meanings.{frame_alone, vacant_inode}
+use Rattle.ix_tables.specs.Views.{frame_alone, vacant_inode}
 use Rattle.ix_tables.specs.Joined.{object_of, object_of_pipe, holding_of_bytes, holding_of_pipe, joined, names_in, names_for, HasNames, AreJoined}
 use Rattle.ix_tables.proofs.Joining.{objects_put, at_inode, put_inode}
 use Rattle.ix_tables.proofs.Naming.{all_names}

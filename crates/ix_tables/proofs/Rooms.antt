@@ -15,7 +15,7 @@ use Rattle.ix_name.specs.Directories.{Directories, names_of}
 use Rattle.ix_open.specs.Table.{OpenTable}
 use Rattle.ix_pipe.specs.Pipe.{Pipe}
 use Rattle.ix_tables.specs.Parts.{Parts}
-use Rattle.ix_tables.specs.Meanings.{frame_alone, has_room}
+use Rattle.ix_tables.specs.Views.{frame_alone, has_room}
 use Rattle.ix_tables.specs.Joined.{object_of, object_of_pipe, holding_of_bytes, holding_of_pipe, all_objects, joined, AreJoined}
 use Rattle.ix_tables.proofs.Joining.{at_inode, at_pipe}
 use Rattle.ix_tables.proofs.Holding.{inode_there, bytes_there, is_file_there}

@@ -14,7 +14,7 @@ use Rattle.ix_inode.specs.declared.node.Node.{Node}
 use Rattle.ix_name.specs.Directories.{Directories, names_of}
 use Rattle.ix_pipe.specs.Pipe.{Pipe}
 use Rattle.ix_tables.specs.Joined.{object_of, object_of_pipe, all_objects}
-use Rattle.ix_tables.specs.Meanings.{Shows, object_by}
+use Rattle.ix_tables.specs.Views.{Shows, object_by}
 use Rattle.ix_tables.specs.declared.row.ObjectRow.{ObjectRow}
 use Rattle.ix_tables.proofs.Joining.{at_inode, at_pipe}
 

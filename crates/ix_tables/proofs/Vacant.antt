@@ -13,7 +13,7 @@ use Rattle.ix_name.specs.Directories.{Directories}
 use Rattle.ix_open.specs.Table.{OpenTable}
 use Rattle.ix_pipe.specs.Pipe.{Pipe}
 use Rattle.ix_tables.specs.Parts.{Parts}
-use Rattle.ix_tables.specs.Meanings.{vacant_inode, frame_alone}
+use Rattle.ix_tables.specs.Views.{vacant_inode, frame_alone}
 use Rattle.ix_tables.specs.Joined.{objects_of, object_of_pipe, joined, AreJoined}
 use Rattle.ix_tables.proofs.Joining.{Lists, length-objects}
 

@@ -1,4 +1,4 @@
 pub mod Parts
 pub mod Joined
-pub mod Meanings
+pub mod Views
 pub mod Opening

@@ -16,7 +16,7 @@ use Rattle.ix_model.specs.declared.config.FsSpec.{FsSpec}
 use Rattle.ix_model.specs.declared.config.ObjSpec.{ObjSpec}
 use Rattle.ix_name.specs.Directories.{Directories}
 use Rattle.ix_tables.specs.Parts.{Parts}
-use Rattle.ix_tables.specs.Meanings.{frame_alone, vacant_inode}
+use Rattle.ix_tables.specs.Views.{frame_alone, vacant_inode}
 
 -- ---- before any line
 -- the names of the further file systems in the first root, with so many entries in all and lists for so many inodes

@@ -4,7 +4,7 @@ ghost use Rattle.ix_model.specs.world.World.{Holding, at, is_file, is_pipe};
 ghost use Rattle.ix_model.specs.world.Contents.{holds_nothing, side, with_side, spliced, cut_to};
 ghost use Rattle.ix_model.specs.rows.Telling.{length_then};
 ghost use Rattle.ix_model.specs.rows.Walks.{node};
-ghost use Rattle.ix_tables.specs.Meanings.{has_room};
+ghost use Rattle.ix_tables.specs.Views.{has_room};
 
 use crate::tables::Tables;
 use ix_model::Obj;
@@ -39,7 +39,7 @@ impl Tables {
         requires most { len ≤ 1048576 }
         ensures { result ≡ has_room n len self.now }
     {
-        self.inodes.counted(Obj(n));
+        self.inodes.lemma_blocks_add_up(Obj(n));
         self.inodes.has_room(Obj(n), len)
     }
 
@@ -50,7 +50,7 @@ impl Tables {
         requires room { has_room n (length_then offset (length bytes.now) (length (slice_index_or self.old.holdings n holds_nothing).first)) self.old ≡ true }
         ensures { self.new ≡ record self.old { holdings = slice_set self.old.holdings n (with_side 0 (spliced offset bytes.now (slice_index_or self.old.holdings n holds_nothing).first) (slice_index_or self.old.holdings n holds_nothing)) } }
     {
-        self.inodes.counted(Obj(n));
+        self.inodes.lemma_blocks_add_up(Obj(n));
         match self.inodes.write(Obj(n), offset, bytes) {
             Ok(()) => (),
             Err(_) => unreachable!(),
@@ -64,7 +64,7 @@ impl Tables {
         requires room { has_room n len self.old ≡ true }
         ensures { self.new ≡ record self.old { holdings = slice_set self.old.holdings n (with_side 0 (cut_to len (slice_index_or self.old.holdings n holds_nothing).first) (slice_index_or self.old.holdings n holds_nothing)) } }
     {
-        self.inodes.counted(Obj(n));
+        self.inodes.lemma_blocks_add_up(Obj(n));
         match self.inodes.cut(Obj(n), len) {
             Ok(()) => (),
             Err(_) => unreachable!(),

@@ -12,7 +12,7 @@ ghost use Rattle.ix_model.specs.rows.OnPaths.{new_object};
 ghost use Rattle.ix_model.specs.rows.Walks.{node, child};
 ghost use Rattle.ix_inode.specs.Shown.{kind_of};
 ghost use Rattle.ix_name.specs.Directories.{names_of, under, with_more};
-ghost use Rattle.ix_tables.specs.Meanings.{vacant_inode, frame_alone, object_let_go};
+ghost use Rattle.ix_tables.specs.Views.{vacant_inode, frame_alone, object_let_go};
 
 use crate::tables::Tables;
 use ix_model::{Kind, Name, NameRef, Obj};
@@ -128,7 +128,7 @@ impl Tables {
         requires file { is_file (node self.old.objects n) ≡ true }
         ensures { self.new ≡ record self.old { objects = change self.old.objects dir (without_name (name_of name.now)) } }
     {
-        self.names.different(Obj(dir));
+        self.names.lemma_names_differ(Obj(dir));
         self.names.remove(Obj(dir), name);
         if let Some(inode) = self.inodes.get(Obj(n)) {
             self.inodes.set_links(Obj(n), inode.links - 1);
@@ -144,7 +144,7 @@ impl Tables {
         requires is_dir { is_dir (node self.old.objects n) ≡ true }
         ensures { self.new ≡ record self.old { objects = put (change self.old.objects dir (without_name (name_of name.now))) n None; holdings = slice_set self.old.holdings n holds_nothing } }
     {
-        self.names.different(Obj(dir));
+        self.names.lemma_names_differ(Obj(dir));
         self.names.remove(Obj(dir), name);
         self.inodes.free(Obj(n));
     }

@@ -6,7 +6,7 @@ ghost use Rattle.ix_model.specs.world.Numbers.{first_inode, first_pipe};
 ghost use Rattle.ix_model.specs.rows.OnPaths.{links_of};
 ghost use Rattle.ix_model.specs.rows.Walks.{node};
 ghost use Rattle.ix_inode.specs.Shown.{is_dir_kind};
-ghost use Rattle.ix_tables.specs.Meanings.{Shows, frame_alone, object_by};
+ghost use Rattle.ix_tables.specs.Views.{Shows, frame_alone, object_by};
 
 use crate::row::ObjectRow;
 use crate::tables::Tables;

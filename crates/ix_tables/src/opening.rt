@@ -9,7 +9,7 @@ ghost use Rattle.ix_model.specs.opening.Opening.{bare_world, opening_world, dire
 ghost use Rattle.ix_model.specs.opening.Valid.{all_differ, is_valid};
 ghost use Rattle.ix_inode.specs.Nodes.{are_within};
 ghost use Rattle.ix_tables.specs.Parts.{parts_of};
-ghost use Rattle.ix_tables.specs.Meanings.{has_room};
+ghost use Rattle.ix_tables.specs.Views.{has_room};
 ghost use Rattle.ix_tables.specs.Opening.{roots_named, homes_at_first, opening_after, Leads, kind_said, as_said, with_line, HasPlace};
 ghost use Rattle.ix_model.specs.world.NameRefs.{name_of};
 ghost use Rattle.ix_model.specs.world.Paths.{path_of};

@@ -1,5 +1,5 @@
 ghost use Rattle.std.specs.Prelude.{◌≡◌, ◌+◌, ◌-◌, ◌<◌, ◌==◌, ◌^◌, length, is_some, is_none, count_by, IfSome, IsTrue, None, Some, not, slice_index_or, slice_set};
-ghost use Rattle.ix_tables.specs.Meanings.{released};
+ghost use Rattle.ix_tables.specs.Views.{released};
 ghost use Rattle.std.proofs.Common.{option_map};
 ghost use Rattle.ix_label.specs.Category.{bottom};
 ghost use Rattle.ix_model.specs.world.World.{at, put, change, lowest_free, held, is_dir};

@@ -6,7 +6,7 @@ ghost use Rattle.ix_model.specs.world.Contents.{holds_nothing};
 ghost use Rattle.ix_model.specs.rows.OnPaths.{new_object};
 ghost use Rattle.ix_model.specs.rows.Walks.{node};
 ghost use Rattle.ix_model.specs.declared.reply.Kind.TheVariants as kind;
-ghost use Rattle.ix_tables.specs.Meanings.{vacant_pipe, object_let_go, claimed};
+ghost use Rattle.ix_tables.specs.Views.{vacant_pipe, object_let_go, claimed};
 ghost use Rattle.ix_pipe.specs.Claims.{claim_answer};
 
 use crate::tables::Tables;
@@ -49,7 +49,7 @@ impl Tables {
         ensures claimed { self.new ≡ claimed n end pid.0 self.old }
     {
         let pipe = n - self.first_pipe;
-        self.pipes.bounded(pipe);
+        self.pipes.lemma_is_bounded(pipe);
         self.pipes.claim(pipe, end, pid)
     }
 

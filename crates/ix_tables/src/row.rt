@@ -1,7 +1,7 @@
 ghost use Rattle.std.specs.Prelude.{◌≡◌};
 ghost use Rattle.ix_model.specs.world.World.{is_dir, is_file, is_pipe, is_trusted};
 ghost use Rattle.ix_model.specs.rows.Walks.{nothing};
-ghost use Rattle.ix_tables.specs.Meanings.{object_by};
+ghost use Rattle.ix_tables.specs.Views.{object_by};
 
 use bitflags::Flags;
 use ix_model::{Floating, Kind, PrivSet};

@@ -107,7 +107,7 @@ impl Twin {
         requires second { HasRoomFor self.old.second (event_of two.now) }
         ensures { StepsTo result self.old self.new (event_of one.now) (event_of two.now) buf1.old buf1.new buf2.old buf2.new }
     {
-        step_counted::<Brand>(self, one, two, buf1, buf2, Blank::new(1))
+        step_uncounted::<Brand>(self, one, two, buf1, buf2, Blank::new(1))
     }
 
     /// The first run.
@@ -137,7 +137,7 @@ fn configs_alike<L: Ledger>(first: &Config, second: &Config, at: &Label, blank: 
 }
 
 /// A step of both runs, with the looks at labels counted under a ledger of the caller's choice, who isn't told how many they were.
-fn step_counted<L: Ledger>(
+fn step_uncounted<L: Ledger>(
     twin: &mut Twin,
     one: &Entry<'_>,
     two: &Entry<'_>,

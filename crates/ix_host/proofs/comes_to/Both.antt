@@ -10,8 +10,8 @@ use Rattle.ix_twin.specs.Parts.{first_part}
 use Rattle.ix_host.specs.Compared.{TakesTwins}
 use Rattle.ix_host.specs.Seconds.{second_in}
 use Rattle.ix_host.specs.command.Command.{usage_line}
-use Rattle.ix_host.specs.declared.asked.command.Command.{Command}
-use Rattle.ix_host.specs.declared.asked.command.Command.TheVariants as command
+use Rattle.ix_host.specs.declared.arguments.command.Command.{Command}
+use Rattle.ix_host.specs.declared.arguments.command.Command.TheVariants as command
 use Rattle.ix_host.specs.declared.status.Status.{Status}
 use Rattle.ix_host.specs.declared.status.Status.TheVariants as status
 use Rattle.ix_host.specs.run.Inputs.{input_of, script_for, script_in}

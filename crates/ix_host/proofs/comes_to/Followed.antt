@@ -6,8 +6,8 @@ use Rattle.ix_lanes.specs.histories.Serial.{serial}
 use Rattle.ix_flow.specs.Laws.{LinesAreAccountedFor}
 use Rattle.ix_host.specs.Traced.{TakesTraces}
 use Rattle.ix_host.specs.command.Command.{usage_line}
-use Rattle.ix_host.specs.declared.asked.command.Command.{Command}
-use Rattle.ix_host.specs.declared.asked.command.Command.TheVariants as command
+use Rattle.ix_host.specs.declared.arguments.command.Command.{Command}
+use Rattle.ix_host.specs.declared.arguments.command.Command.TheVariants as command
 use Rattle.ix_host.specs.declared.status.Status.{Status}
 use Rattle.ix_host.specs.declared.status.Status.TheVariants as status
 use Rattle.ix_host.specs.run.Inputs.{input_of, script_for, script_in}

@@ -8,7 +8,7 @@ use Rattle.ix_text.specs.Bytes.{is_empty}
 use Rattle.ix_script.specs.lines.Kinds.{Kind, Place, place_rules, first_broken, places_fault}
 use Rattle.ix_script.specs.lines.Forms.{form_of, places, has_right_count}
 use Rattle.ix_script.specs.lines.Before.{form_told, has_policy, in_body}
-use Rattle.ix_script.specs.lines.Rules.{first_of, is_too_long, is_unprintable, has_empty_word, has_open_quote, is_late, is_outside, is_given_twice, names_unknown, is_above, misfits, crowds, is_out_of_order, is_one_too_many, lacks_policy}
+use Rattle.ix_script.specs.lines.Rules.{first_of, is_too_long, is_unprintable, has_empty_word, has_open_quote, is_late, is_outside, is_given_twice, names_unknown, is_above, is_misplaced, exceeds_limits, is_out_of_order, is_one_too_many, lacks_policy}
 use Rattle.ix_script.specs.lines.Said.{said, version_of, line_of}
 use Rattle.ix_script.specs.texts.Lines.{lines_of}
 use Rattle.ix_script.specs.lines.Faults.{text_fault, words_fault, stand_fault, names_fault, said_fault, form_fault, command_fault, policy_fault, first_line_fault, body_fault, line_fault, or_next, fault_from, fault_of}
@@ -47,7 +47,7 @@ broken_one ((n, test) ∷ rules) ps h =
 said_one : (before : List Line) (l : Line) → is_one (said_fault before l) ≡ false
 unfolding said_fault
 said_one before l =
-    first_one ((22, is_above before l) ∷ (23, misfits before l) ∷ (24, crowds before l) ∷ (25, is_out_of_order before l) ∷ (26, is_one_too_many before l) ∷ (28, lacks_policy before l) ∷ []) refl
+    first_one ((22, is_above before l) ∷ (23, is_misplaced before l) ∷ (24, exceeds_limits before l) ∷ (25, is_out_of_order before l) ∷ (26, is_one_too_many before l) ∷ (28, lacks_policy before l) ∷ []) refl
 
 text_one : (text : List ℕ) → is_one (text_fault text) ≡ false
 unfolding text_fault

@@ -4,13 +4,13 @@ use Rattle.std.specs.Prelude.{IfSome}
 use Rattle.ix_model.specs.history.Events.{Event}
 use Rattle.ix_script.specs.declared.line.Line.{Line}
 use Rattle.ix_lanes.specs.histories.History.{IsHistory}
-use Rattle.ix_host.specs.declared.asked.command.Command.{Command}
-use Rattle.ix_host.specs.declared.asked.command.Command.TheVariants as command
+use Rattle.ix_host.specs.declared.arguments.command.Command.{Command}
+use Rattle.ix_host.specs.declared.arguments.command.Command.TheVariants as command
 use Rattle.ix_host.specs.declared.status.Status.{Status}
 use Rattle.ix_host.specs.declared.status.Status.TheVariants as status
 use Rattle.ix_host.specs.command.Command.{command_of, lanes_command_of, only_run}
 use Rattle.ix_host.specs.run.Inputs.{IsTooLong, input_max, input_of, reads_source, script_for, script_in, script_max}
-use Rattle.ix_host.specs.run.Run.{FitsCommand, ForOne, ReadsOut}
+use Rattle.ix_host.specs.run.Run.{FitsCommand, ExistsHistory, ReadsOut}
 
 -- the input is what the source has left
 pub lanes_input : (words : List (List ℕ)) (left : Option (List ℕ)) → input_of (lanes_command_of words) left ≡ left
@@ -70,11 +70,11 @@ lanes_script words bytes = go (command_of words)
     go (Some (command.Twin l)) = refl
 
 pub lanes_written : (words : List (List ℕ)) (first taken : Option (List ℕ)) (P : List ℕ → List ℕ → List Event → Type 0)
-    → IfSome first (λ bytes. IfSome taken (λ t. ForOne (IsHistory (script_for (lanes_command_of words) bytes)) (λ history. P bytes t history)))
-    → IfSome first (λ bytes. IfSome taken (λ t. ForOne (IsHistory (script_in bytes)) (λ history. P bytes t history)))
+    → IfSome first (λ bytes. IfSome taken (λ t. ExistsHistory (IsHistory (script_for (lanes_command_of words) bytes)) (λ history. P bytes t history)))
+    → IfSome first (λ bytes. IfSome taken (λ t. ExistsHistory (IsHistory (script_in bytes)) (λ history. P bytes t history)))
 lanes_written words None taken P h = tt
 lanes_written words (Some bytes) None P h = tt
-lanes_written words (Some bytes) (Some t) P h = subst (λ (s : List Line). ForOne (IsHistory s) (λ history. P bytes t history)) (lanes_script words bytes) h
+lanes_written words (Some bytes) (Some t) P h = subst (λ (s : List Line). ExistsHistory (IsHistory s) (λ history. P bytes t history)) (lanes_script words bytes) h
 
 -- it is read where there is a command
 pub none_reads : (asked : Option Command) → is_none asked ≡ true → reads_source asked ≡ false

@@ -11,8 +11,8 @@ use Rattle.ix_script.specs.lines.Before.{form_told}
 use Rattle.ix_script.specs.lines.Faults.{fault_of}
 use Rattle.ix_script.specs.scripts.Scripts.{policy_of, script_of}
 use Rattle.ix_script.specs.declared.line.Line.{Line}
-use Rattle.ix_host.specs.declared.asked.command.Command.{Command}
-use Rattle.ix_host.specs.declared.asked.command.Command.TheVariants as command
+use Rattle.ix_host.specs.declared.arguments.command.Command.{Command}
+use Rattle.ix_host.specs.declared.arguments.command.Command.TheVariants as command
 use Rattle.ix_host.specs.declared.status.Status.TheVariants as status
 use Rattle.ix_host.specs.Policies.{policy_refusal, refused_policy}
 use Rattle.ix_host.specs.Traces.{traces}

@@ -2,24 +2,24 @@
 use Rattle.std.proofs.Common.{◌≡◌, ℕ, ◌<◌, Bool, true, List, [], ◌++◌, length, Option, Some, None, is_none, refl, sym, ap, ◌∙◌, subst, inl, inr, ◌⊎◌}
 use Rattle.std.specs.Prelude.{IfSome}
 use Rattle.ix_io.specs.Streams.{Rose}
-use Rattle.ix_iso.proofs.Hiding.{hides}
+use Rattle.ix_iso.proofs.Noninterference.{noninterference}
 use Rattle.ix_model.specs.history.Events.{Event}
 use Rattle.ix_lanes.specs.histories.Serial.{serial}
 use Rattle.ix_policy.specs.declared.rule.Rule.{Rule}
 use Rattle.ix_script.specs.declared.line.Line.{Line}
-use Rattle.ix_host.specs.declared.asked.command.Command.{Command}
-use Rattle.ix_host.specs.declared.asked.command.Command.TheVariants as command
+use Rattle.ix_host.specs.declared.arguments.command.Command.{Command}
+use Rattle.ix_host.specs.declared.arguments.command.Command.TheVariants as command
 use Rattle.ix_host.specs.declared.status.Status.{Status}
 use Rattle.ix_host.specs.declared.status.Status.TheVariants as status
-use Rattle.ix_host.specs.Hiding.{TakesHidingReport, world_opened}
+use Rattle.ix_host.specs.Noninterference.{TakesNoninterferentReport, world_opened}
 use Rattle.ix_host.specs.declared.task.Task.TheVariants as task
 use Rattle.ix_host.specs.declared.task.Telling.{Telling}
 use Rattle.ix_host.specs.run.Inputs.{IsTooLong, input_of, reads_source, script_for, script_in, script_max}
 use Rattle.ix_host.specs.run.Tasks.{Prepares, text_told}
 use Rattle.ix_host.specs.run.Outcome as outcome
 use Rattle.ix_host.specs.run.Outcome.{Outcome, outcome_in, outcome_of, status_of, text_for, text_of}
-use Rattle.ix_host.specs.run.Run.{Ends, FitsCommand, ForOne, IsAnswer, IsEndOf, ReadsOut, WritesFor, WritesLine, called_for}
-use Rattle.ix_host.proofs.Hiding.{low_lines}
+use Rattle.ix_host.specs.run.Run.{Ends, FitsCommand, ExistsHistory, IsAnswer, IsEndOf, ReadsOut, WritesFor, WritesLine, called_for}
+use Rattle.ix_host.proofs.Noninterference.{low_lines}
 use Rattle.ix_host.proofs.comes_to.Preparing.{ends_as, unwritten}
 use Rattle.ix_host.proofs.comes_to.Outcomes.{done_text, first_rule, made_done, never_usage, refusal_text, status_is, usage_called}
 
@@ -92,14 +92,14 @@ line_of usage asked b history status.NoMemory t after is h = tt
 
 -- the text that went out is that of one history
 text_of_one : (Is : List Event → Type 0) (of : List Event → Outcome) (end : Status) (taken after : Option (List ℕ)) (history : List Event) → Is history
-    → IfSome taken (λ t. WritesFor end (text_of (of history)) t after) → IfSome taken (λ t. ForOne Is (λ h. WritesFor end (text_of (of h)) t after))
+    → IfSome taken (λ t. WritesFor end (text_of (of history)) t after) → IfSome taken (λ t. ExistsHistory Is (λ h. WritesFor end (text_of (of h)) t after))
 text_of_one Is of end None after history is w = tt
 text_of_one Is of end (Some t) after history is w = record { history = history; is = is; holds = w }
 
 -- the report that went out hides what is high
 hiding_one : (Is : List Event → Type 0) (b : List ℕ) (end : Status) (taken after : Option (List ℕ)) (history : List Event) → Is history → end ≡ status.Done
     → IsEndOf (outcome_in command.Run b history) end → IfSome taken (λ t. WritesFor end (text_of (outcome_in command.Run b history)) t after)
-    → IfSome taken (λ t. ForOne Is (λ h. TakesHidingReport (script_in b) h t after))
+    → IfSome taken (λ t. ExistsHistory Is (λ h. TakesNoninterferentReport (script_in b) h t after))
 hiding_one Is b end None after history is done f w = tt
 hiding_one Is b end (Some t) after history is done f w =
     let o = outcome_in command.Run b history in
@@ -110,14 +110,14 @@ hiding_one Is b end (Some t) after history is done f w =
       is = is;
       holds = record {
         went_out = went ∙ ap (λ text. Some (t ++ text)) (done_text b history fits_done);
-        history = hides (world_opened (script_in b)) history;
+        history = noninterference (world_opened (script_in b)) history;
         lines = low_lines (script_in b) history;
       };
     }
 
 -- nothing went out
 nothing_of_one : (Is : List Event → Type 0) (of : List Event → Outcome) (taken : Option (List ℕ)) (history : List Event) → Is history
-    → IfSome taken (λ t. ForOne Is (λ h. WritesFor status.ReadFault (text_of (of h)) t taken))
+    → IfSome taken (λ t. ExistsHistory Is (λ h. WritesFor status.ReadFault (text_of (of h)) t taken))
 nothing_of_one Is of None history is = tt
 nothing_of_one Is of (Some t) history is = record { history = history; is = is; holds = refl }
 
@@ -150,10 +150,10 @@ pub record CameTo (Comes : List Line → List Event → Type 0) (usage : List �
 
 -- what is promised where no read failed, and where one did
 pub record Verdict (Comes : List Line → List Event → Type 0) (usage : List ℕ) (asked : Option Command) (left : Option (List ℕ)) (end : Status) (taken after : Option (List ℕ)) (done : Bool) (before now : ℕ) : Type 0 where
-  pub written : IfSome (input_of asked left) (λ bytes. IfSome taken (λ t. ForOne (Comes (script_for asked bytes)) (λ history. WritesFor end (text_of (outcome_of usage asked bytes history)) t after)))
+  pub written : IfSome (input_of asked left) (λ bytes. IfSome taken (λ t. ExistsHistory (Comes (script_for asked bytes)) (λ history. WritesFor end (text_of (outcome_of usage asked bytes history)) t after)))
   pub line : IfSome taken (λ t. WritesLine usage end t after)
   pub finished : IsAnswer end → done ≡ true
-  pub hides : end ≡ status.Done → asked ≡ Some command.Run → IfSome left (λ bytes. IfSome taken (λ t. ForOne (Comes (script_in bytes)) (λ history. TakesHidingReport (script_in bytes) history t after)))
+  pub noninterference : end ≡ status.Done → asked ≡ Some command.Run → IfSome left (λ bytes. IfSome taken (λ t. ExistsHistory (Comes (script_in bytes)) (λ history. TakesNoninterferentReport (script_in bytes) history t after)))
   pub fits : FitsCommand end asked
   pub answer : IsAnswer end → IfSome (input_of asked left) (λ bytes. end ≡ called_for asked bytes)
   pub kept : IsAnswer end → now ≡ before
@@ -180,7 +180,7 @@ module _ {Comes : List Line → List Event → Type 0} {usage : List ℕ} {asked
         written = of_input (input_of asked left) b _ c.told (text_of_one (Comes (script_for asked b)) (λ k. outcome_of usage asked b k) end taken after h c.is e.text);
         line = lines_of usage asked b h end taken after e.fits e.text;
         finished = e.finished;
-        hides = λ is run. of_input left b _ (subst (λ a. IfSome (input_of a left) (λ input. b ≡ input)) run c.told)
+        noninterference = λ is run. of_input left b _ (subst (λ a. IfSome (input_of a left) (λ input. b ≡ input)) run c.told)
             (hiding_one (Comes (script_in b)) b end taken after h (subst (λ a. Comes (script_for a b) h) run c.is) is (subst (λ a. IsEndOf (outcome_of usage a b h) end) run e.fits)
             (subst (λ a. IfSome taken (λ t. WritesFor end (text_of (outcome_of usage a b h)) t after)) run e.text));
         fits = fits_asked asked b end answers (λ is. absurd (never is));
@@ -206,7 +206,7 @@ faulted Comes serials usage asked left taken done before now reads = record {
   written = of_any (input_of asked left) _ (λ b. nothing_of_one (Comes (script_for asked b)) (λ k. outcome_of usage asked b k) taken (serial (script_for asked b)) (serials (script_for asked b)));
   line = no_line usage taken;
   finished = λ a. absurd a;
-  hides = λ is run. cc;
+  noninterference = λ is run. cc;
   fits = reads;
   answer = λ a. absurd a;
   kept = λ a. absurd a;
@@ -271,7 +271,7 @@ told_read_out most text status.NoMemory (Some bytes) left h w = tt
 
 -- where the serial history is the only one, what holds of one history holds of that
 pub at_serial : (script : List ℕ → List Line) (first taken : Option (List ℕ)) (P : List ℕ → List ℕ → List Event → Type 0)
-    → IfSome first (λ bytes. IfSome taken (λ t. ForOne (λ history. history ≡ serial (script bytes)) (λ history. P bytes t history)))
+    → IfSome first (λ bytes. IfSome taken (λ t. ExistsHistory (λ history. history ≡ serial (script bytes)) (λ history. P bytes t history)))
     → IfSome first (λ bytes. IfSome taken (λ t. P bytes t (serial (script bytes))))
 at_serial script None taken P h = tt
 at_serial script (Some bytes) None P h = tt
@@ -279,7 +279,7 @@ at_serial script (Some bytes) (Some t) P h = subst (P bytes t) h.is h.holds
 
 -- nothing is written where memory ran out
 pub memory_written : (Comes : List Line → List Event → Type 0) → ((s : List Line) → Comes s (serial s)) → (text : List ℕ → List Event → List ℕ) (first taken : Option (List ℕ))
-    → IfSome first (λ bytes. IfSome taken (λ t. ForOne (Comes (script_in bytes)) (λ history. WritesFor status.NoMemory (text bytes history) t taken)))
+    → IfSome first (λ bytes. IfSome taken (λ t. ExistsHistory (Comes (script_in bytes)) (λ history. WritesFor status.NoMemory (text bytes history) t taken)))
 memory_written Comes serials text None taken = tt
 memory_written Comes serials text (Some bytes) None = tt
 memory_written Comes serials text (Some bytes) (Some t) =

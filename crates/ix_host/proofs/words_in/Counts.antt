@@ -14,8 +14,8 @@ use Rattle.ix_label.specs.declared.form.Form.TheVariants as form
 use Rattle.ix_text.specs.Labels.{label_in}
 use Rattle.ix_script.specs.texts.Words.{is_numeral, number_of, value, value_from}
 use Rattle.ix_text.specs.Bytes.{begins_with, is_digit}
-use Rattle.ix_host.specs.declared.asked.command.Command.{Command}
-use Rattle.ix_host.specs.declared.asked.command.Command.TheVariants as command
+use Rattle.ix_host.specs.declared.arguments.command.Command.{Command}
+use Rattle.ix_host.specs.declared.arguments.command.Command.TheVariants as command
 use Rattle.ix_host.specs.command.Command.{IsCounted, command_of, count_of, lanes_command_of, left_out, only_run, whole_command}
 
 -- ---- numbers

@@ -18,7 +18,7 @@ use Rattle.clap.specs.Faults.{bundle_fault, bundle_step_fault, check_fault, defa
 use Rattle.std.specs.Prelude.{option_and_then}
 use Rattle.clap.specs.Lexer.{long_of, short_of, short_of_rest, strip_byte}
 use Rattle.clap.proofs.OnLiterals.{clap_on_literals}
-use Rattle.ix_host.specs.declared.asked.command.Command.{Command}
+use Rattle.ix_host.specs.declared.arguments.command.Command.{Command}
 use Rattle.ix_script.specs.texts.Words.{is_numeral, number_of}
 use Rattle.ix_label.specs.declared.form.Form.TheVariants as form
 use Rattle.ix_text.specs.Bytes.{is_digit}

@@ -5,8 +5,8 @@ use Rattle.ix_model.specs.world.Naming.{same_bytes}
 use Rattle.ix_label.specs.declared.form.Form.TheVariants as form
 use Rattle.ix_script.specs.texts.Words.{number_of}
 use Rattle.ix_text.specs.Labels.{label_in}
-use Rattle.ix_host.specs.declared.asked.command.Command.{Command}
-use Rattle.ix_host.specs.declared.asked.command.Command.TheVariants as command
+use Rattle.ix_host.specs.declared.arguments.command.Command.{Command}
+use Rattle.ix_host.specs.declared.arguments.command.Command.TheVariants as command
 
 -- the words without the first `--`
 abbrev pub left_out : List (List ℕ) → List (List ℕ)

@@ -3,7 +3,7 @@ use Rattle.std.specs.Prelude.{Option, Some, None, codes, true}
 use Rattle.clap.specs.Words.{App, Rule, Text, new_app, new_rule, with_rule}
 use Rattle.clap.specs.Simple.{on_top}
 use Rattle.clap.specs.declared.builder.action.ArgAction.TheVariants.{Set}
-use Rattle.ix_host.specs.declared.asked.command.Command.{Command}
+use Rattle.ix_host.specs.declared.arguments.command.Command.{Command}
 use Rattle.ix_host.specs.command.Command.{counted_command, named_command}
 
 -- a value that need not be there

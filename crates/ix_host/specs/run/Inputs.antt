@@ -6,8 +6,8 @@ use Rattle.ix_script.specs.declared.line.Line.{Line}
 use Rattle.ix_gen.specs.Generated.{generated}
 use Rattle.ix_check.specs.Parts.{report_part, script_part}
 use Rattle.ix_twin.specs.Parts.{first_part}
-use Rattle.ix_host.specs.declared.asked.command.Command.{Command}
-use Rattle.ix_host.specs.declared.asked.command.Command.TheVariants as command
+use Rattle.ix_host.specs.declared.arguments.command.Command.{Command}
+use Rattle.ix_host.specs.declared.arguments.command.Command.TheVariants as command
 
 -- ---- how much is read
 -- the most bytes that a script may have

@@ -11,8 +11,8 @@ use Rattle.ix_check.specs.Plans.{found_in}
 use Rattle.ix_check.specs.Verdicts.{verdict_line}
 use Rattle.ix_host.specs.Seconds.{second_in, second_refusal}
 use Rattle.ix_twin.specs.Lines.{twin_text}
-use Rattle.ix_host.specs.declared.asked.command.Command.{Command}
-use Rattle.ix_host.specs.declared.asked.command.Command.TheVariants as command
+use Rattle.ix_host.specs.declared.arguments.command.Command.{Command}
+use Rattle.ix_host.specs.declared.arguments.command.Command.TheVariants as command
 use Rattle.ix_host.specs.declared.status.Status.{Status}
 use Rattle.ix_host.specs.declared.status.Status.TheVariants as status
 use Rattle.ix_host.specs.Policies.{policy_refusal}

@@ -9,7 +9,7 @@ use Rattle.ix_host.specs.run.Inputs.{reads_source, script_for}
 use Rattle.ix_host.specs.run.Outcome.{Outcome, outcome_of, refusal_of, status_of, text_of}
 use Rattle.ix_host.specs.report.Rules.{refusal_line}
 use Rattle.ix_host.specs.run.Whole.{WritesFront}
-use Rattle.ix_host.specs.declared.asked.command.Command.{Command}
+use Rattle.ix_host.specs.declared.arguments.command.Command.{Command}
 use Rattle.ix_host.specs.declared.status.Status.{Status}
 use Rattle.ix_host.specs.declared.status.Status.TheVariants as status
 
@@ -102,7 +102,7 @@ pub record Ends (o : Outcome) (end : Status) (taken after : Option (List ℕ)) (
   pub fault : end ≡ status.WriteFault → Rose before now
 
 -- This holds of one of these histories.
-pub record ForOne (Is Holds : List Event → Type 0) : Type 0 where
+pub record ExistsHistory (Is Holds : List Event → Type 0) : Type 0 where
   pub history : List Event
   pub is : Is history
   pub holds : Holds history

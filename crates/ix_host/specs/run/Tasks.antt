@@ -6,7 +6,7 @@ use Rattle.ix_lanes.specs.asking.Ruled.{rules_told}
 use Rattle.ix_replay.specs.report.Fixed.{LanesNamed}
 use Rattle.ix_replay.specs.report.Report.{report_of}
 use Rattle.ix_replay.specs.Summary.{summary_line}
-use Rattle.ix_host.specs.declared.asked.command.Command.{Command}
+use Rattle.ix_host.specs.declared.arguments.command.Command.{Command}
 use Rattle.ix_host.specs.declared.task.Task.{Task}
 use Rattle.ix_host.specs.declared.task.Task.TheVariants as task
 use Rattle.ix_host.specs.declared.task.Telling.{Telling}

@@ -1,6 +1,6 @@
 -- What reading all of an input and writing all of a text give.
 use Rattle.std.specs.Prelude.{◌≡◌, ℕ, ◌+◌, ◌<◌, ◌≤◌, true, List, [], ◌++◌, length, take, drop, Option, Some, Result, Ok, Err}
-use Rattle.ix_host.specs.declared.asked.command.Command.{Command}
+use Rattle.ix_host.specs.declared.arguments.command.Command.{Command}
 use Rattle.ix_host.specs.run.Inputs.{IsReadable, reads_source}
 use Rattle.ix_host.specs.declared.streams.stream.Input.{Input}
 use Rattle.ix_host.specs.declared.streams.stream.Input.TheVariants as input

@@ -6,7 +6,7 @@ ghost use Rattle.ix_host.specs.command.Command.{IsCounted};
 ghost use Rattle.ix_host.specs.run.Inputs.{input_max, input_of, reads_source};
 ghost use Rattle.ix_host.specs.run.Whole.{Gathers, IsInput, IsReadFor, TakesFew};
 
-use crate::asked::command::Command;
+use crate::arguments::command::Command;
 use crate::laws::readable;
 use crate::streams::stream::{Input, read_all};
 use ix_gen::text;

@@ -10,11 +10,11 @@ use Rattle.ix_model.specs.world.Naming.{PathOf}
 use Rattle.ix_model.specs.world.World.{Frame, Object, Process, Open, at, living, is_dir, is_pipe}
 use Rattle.ix_model.specs.rows.Outcomes.{Outcome, Row, Refuse, Pass}
 use Rattle.ix_model.specs.rows.Rows.{◌>>=◌, ◌>>◌, on_pass, pass, refuse, some, frame, process, object, record_of, change_object, change_process, change_open, put_object, put_open, put_process, add_process, observe, affect}
-use Rattle.ix_model.specs.rows.Walks.{Behind, NotDir, nothing, node, child, behind, behind_of, entry_at, join_all, looking_into, lacking, walk, walk_from, walked_to, object_at, spot_at, missing, opened}
+use Rattle.ix_model.specs.rows.Walks.{OpenFile, NotDir, nothing, node, child, behind, behind_of, entry_at, join_all, looking_into, lacking, walk, walk_from, walked_to, object_at, spot_at, missing, opened}
 use Rattle.ix_model.specs.rows.Lifetimes.{let_go_object, let_go_open, let_go_claim, let_go, let_go_if_held, let_go_each, let_go_all, has_lost}
 use Rattle.ix_model.specs.rows.Auditing.{logged}
 use Rattle.ix_model.specs.rows.OnPaths.{make, create_at, make_dir, open_at, link_at, unlink_at, remove_dir, change_dir, stat_at, list_at}
-use Rattle.ix_model.specs.rows.OnDescriptors.{Told, float_entry, read_fd, write_fd, cut_fd, seek_fd, dup_fd, close_fd, make_pipe, claimed, pex, unpex}
+use Rattle.ix_model.specs.rows.OnDescriptors.{LengthChecks, float_entry, read_fd, write_fd, cut_fd, seek_fd, dup_fd, close_fd, make_pipe, claimed, pex, unpex}
 use Rattle.ix_model.specs.rows.OnProcesses.{end_process, fork, exec, exit, wait_child}
 use Rattle.ix_model.specs.rows.OnLabels.{label_of, self_label, set_label, set_self, freeze, freeze_self, thaw, thaw_self, set_priv, drop_lic, grant_lic, set_ceiling, read_log}
 use Rattle.ix_model.specs.rows.Table.{row}
@@ -88,19 +88,19 @@ module _ (form : Form) where
   unfolding ◌>>=◌ frame on_pass
   fit_frame k h = record { led = λ g r. (h g r).led g r }
 
-  behind_fits : (g : Frame) (q : Option Process) (fd : ℕ) (e : Behind) → R g → behind_of q g fd ≡ Some e → Fits form e.entry.label
+  behind_fits : (g : Frame) (q : Option Process) (fd : ℕ) (e : OpenFile) → R g → behind_of q g fd ≡ Some e → Fits form e.entry.label
   behind_fits g None fd e r is = cc
   behind_fits g (Some p) fd e r is = go (at p.fds fd) is
     where
       there : (n : ℕ) (o : Option Open) → at g.opens n ≡ o → option_map (λ x. record { id = n; entry = x }) o ≡ Some e → Fits form e.entry.label
       there n None at_n is = cc
-      there n (Some x) at_n is = let same : record { id = n; entry = x } ≡ e = cc in subst (λ (b : Behind). Fits form b.entry.label) same (r.opens n x at_n)
+      there n (Some x) at_n is = let same : record { id = n; entry = x } ≡ e = cc in subst (λ (b : OpenFile). Fits form b.entry.label) same (r.opens n x at_n)
 
       go : (n : Option ℕ) → entry_at g n ≡ Some e → Fits form e.entry.label
       go None is = cc
       go (Some n) is = there n (at g.opens n) refl is
 
-  fit_opened : (pid fd : ℕ) (k : Behind → Row Reply) → ((e : Behind) → Fits form e.entry.label → Fitting (k e)) → Fitting (◌>>=◌ (opened pid fd) k)
+  fit_opened : (pid fd : ℕ) (k : OpenFile → Row Reply) → ((e : OpenFile) → Fits form e.entry.label → Fitting (k e)) → Fitting (◌>>=◌ (opened pid fd) k)
   unfolding ◌>>=◌ opened frame on_pass behind
   fit_opened pid fd k h = record { led = λ g r. (fit_some (behind g pid fd) _ k (λ e is. h e (behind_fits g (living (at g.processes pid)) fd e r is))).led g r }
 
@@ -218,7 +218,7 @@ module _ (form : Form) where
   unfolding missing
   k_missing pid path = search (wording, k_walked_to) depth 30
 
-  k_float_entry : (p : Process) (x : Object) (e : Behind) → Fits form p.label → Keeps R (float_entry p x e)
+  k_float_entry : (p : Process) (x : Object) (e : OpenFile) → Fits form p.label → Keeps R (float_entry p x e)
   unfolding float_entry
   k_float_entry p x e fits = keeps_only_if R (not (is_pipe x)) _ (w_open e.id _ (λ y h. join_fits y.label p.label h fits))
 
@@ -235,7 +235,7 @@ module _ (form : Form) where
   unfolding let_go_claim
   k_let_go_claim pid o end = record { led = λ g. (keeps_only_if R (has_lost g pid o end) _ (w_object o _ (λ x h. h))).led g }
 
-  k_let_go : (pid fd : ℕ) (e : Behind) → Keeps R (let_go pid fd e)
+  k_let_go : (pid fd : ℕ) (e : OpenFile) → Keeps R (let_go pid fd e)
   unfolding let_go
   k_let_go pid fd e = search (wording, k_let_go_object, k_let_go_open, k_let_go_claim) depth 30
 
@@ -243,7 +243,7 @@ module _ (form : Form) where
   unfolding let_go_if_held
   k_let_go_if_held pid fd = record { led = λ g r. (go (behind g pid fd)).led g r }
     where
-      go : (b : Option Behind) → Keeps R (option_map_or (let_go pid fd) b (pass tt))
+      go : (b : Option OpenFile) → Keeps R (option_map_or (let_go pid fd) b (pass tt))
       go None = keeps_pass R tt
       go (Some e) = k_let_go pid fd e
 
@@ -291,15 +291,15 @@ module _ (form : Form) where
   unfolding list_at
   fit_list_at pid path index = search rows depth 40
 
-  fit_read_fd : (t : Told) (pid fd count : ℕ) → Fitting (read_fd t pid fd count)
+  fit_read_fd : (t : LengthChecks) (pid fd count : ℕ) → Fitting (read_fd t pid fd count)
   unfolding read_fd
   fit_read_fd t pid fd count = search rows depth 40
 
-  fit_write_fd : (t : Told) (pid fd : ℕ) → Fitting (write_fd t pid fd)
+  fit_write_fd : (t : LengthChecks) (pid fd : ℕ) → Fitting (write_fd t pid fd)
   unfolding write_fd
   fit_write_fd t pid fd = search rows depth 40
 
-  fit_cut_fd : (t : Told) (pid fd len : ℕ) → Fitting (cut_fd t pid fd len)
+  fit_cut_fd : (t : LengthChecks) (pid fd len : ℕ) → Fitting (cut_fd t pid fd len)
   unfolding cut_fd
   fit_cut_fd t pid fd len = search rows depth 40
 
@@ -402,7 +402,7 @@ module _ (form : Form) where
 
   -- ---- the table
   -- a call's row fits, where the label that it gives does
-  pub fit_row : (t : Told) (place pid : ℕ) (c : Op) → CallFits form c → Fitting (row t place pid c)
+  pub fit_row : (t : LengthChecks) (place pid : ℕ) (c : Op) → CallFits form c → Fitting (row t place pid c)
   unfolding row create_at make_dir
   fit_row t place pid (op.CreateAt path) h = fit_make pid path kind.File
   fit_row t place pid (op.OpenAt path mode) h = fit_open_at pid path mode

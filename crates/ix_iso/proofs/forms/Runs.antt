@@ -9,11 +9,11 @@ use Rattle.ix_model.specs.world.World.{Frame, World, Object, Process, Open, live
 use Rattle.ix_model.specs.world.Numbers.{free_inode}
 use Rattle.ix_model.specs.opening.Opening.{root_of, bare, bare_objects, process_of, directory_of, object_of, placed, with_object, with_objects, bare_world, opening_world}
 use Rattle.ix_model.specs.rows.Outcomes.{Outcome, Refuse, Pass}
-use Rattle.ix_model.specs.rows.OnDescriptors.{Told}
+use Rattle.ix_model.specs.rows.OnDescriptors.{LengthChecks}
 use Rattle.ix_model.specs.rows.Refusals.{keeps_label}
 use Rattle.ix_model.specs.rows.Table.{Decision, row, settled, verdict}
 use Rattle.ix_model.specs.rows.Telling.{told}
-use Rattle.ix_model.specs.rows.Walks.{Behind, node, behind}
+use Rattle.ix_model.specs.rows.Walks.{OpenFile, node, behind}
 use Rattle.ix_model.specs.history.Events.{Op, Event}
 use Rattle.ix_model.specs.history.Events as op
 use Rattle.ix_model.specs.history.Spelled.{AuditFits, CallFits, ConfigFits, EventsFit, ReplyFits}
@@ -47,7 +47,7 @@ module _ (form : Form) where
   settled_fits f (Refuse r g) hf h = record { reply = tt; frame = one_fits (keeps_label r) f g hf h }
   settled_fits f (Pass a g) hf h = record { reply = h.1; frame = h.0 }
 
-  verdict_fits : (t : Told) (place pid : ℕ) (c : Op) (f : Frame) → CallFits form c → FrameFits form f → DecisionFits (verdict t place pid c f)
+  verdict_fits : (t : LengthChecks) (place pid : ℕ) (c : Op) (f : Frame) → CallFits form c → FrameFits form f → DecisionFits (verdict t place pid c f)
   unfolding verdict
   verdict_fits t place pid c f call h = go (lives f pid)
     where
@@ -56,22 +56,22 @@ module _ (form : Form) where
       go false = record { reply = tt; frame = h }
 
   -- ---- an answer
-  read_fits : (w : World) (count : ℕ) (b : Option Behind) (r : Reply) (g : Frame) → ReplyFits form r → ReplyFits form (read_answer w count b r g).reply
+  read_fits : (w : World) (count : ℕ) (b : Option OpenFile) (r : Reply) (g : Frame) → ReplyFits form r → ReplyFits form (read_answer w count b r g).reply
   unfolding read_answer plainly
   read_fits w count (Some e) (reply.Bytes k) g h = tt
   read_fits w count _ r g h = h
 
-  write_fits : (w : World) (new : List ℕ) (b : Option Behind) (r : Reply) (g : Frame) → ReplyFits form r → ReplyFits form (write_answer w new b r g).reply
+  write_fits : (w : World) (new : List ℕ) (b : Option OpenFile) (r : Reply) (g : Frame) → ReplyFits form r → ReplyFits form (write_answer w new b r g).reply
   unfolding write_answer plainly
   write_fits w new (Some e) (reply.Number k) g h = tt
   write_fits w new _ r g h = h
 
-  cut_fits : (w : World) (len : ℕ) (b : Option Behind) (r : Reply) (g : Frame) → ReplyFits form r → ReplyFits form (cut_answer w len b r g).reply
+  cut_fits : (w : World) (len : ℕ) (b : Option OpenFile) (r : Reply) (g : Frame) → ReplyFits form r → ReplyFits form (cut_answer w len b r g).reply
   unfolding cut_answer plainly
   cut_fits w len (Some e) reply.Done g h = tt
   cut_fits w len _ r g h = h
 
-  seek_fits : (w : World) (offset : ℕ) (b : Option Behind) (r : Reply) (g : Frame) → ReplyFits form r → ReplyFits form (seek_answer w offset b r g).reply
+  seek_fits : (w : World) (offset : ℕ) (b : Option OpenFile) (r : Reply) (g : Frame) → ReplyFits form r → ReplyFits form (seek_answer w offset b r g).reply
   unfolding seek_answer plainly
   seek_fits w offset (Some e) reply.Done g h = tt
   seek_fits w offset _ r g h = h
@@ -91,7 +91,7 @@ module _ (form : Form) where
   wait_fits w (reply.Child p status) g h = tt
   wait_fits w r g h = h
 
-  pex_fits : (w : World) (b : Option Behind) (r : Reply) (g : Frame) → ReplyFits form r → ReplyFits form (pex_answer w b r g).reply
+  pex_fits : (w : World) (b : Option OpenFile) (r : Reply) (g : Frame) → ReplyFits form r → ReplyFits form (pex_answer w b r g).reply
   unfolding pex_answer plainly
   pex_fits w (Some e) r g h = h
   pex_fits w None r g h = h

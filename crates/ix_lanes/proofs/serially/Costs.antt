@@ -7,7 +7,7 @@ use Rattle.ix_model.specs.world.World.{Frame, World}
 use Rattle.ix_model.specs.world.Contents.{readable}
 use Rattle.ix_model.specs.rows.Table.{Decision, verdict}
 use Rattle.ix_model.specs.rows.Telling.{told}
-use Rattle.ix_model.specs.rows.Walks.{Behind, behind}
+use Rattle.ix_model.specs.rows.Walks.{OpenFile, behind}
 use Rattle.ix_model.specs.history.Cost.{cost_of, cost_of_history}
 use Rattle.ix_model.specs.history.Shown.{AreShown}
 use Rattle.ix_model.specs.history.Step.{answer, plainly, read_answer, step, step_of}
@@ -64,7 +64,7 @@ unfolding need
 need-cons l lines = omega (arith, sum-map cost_of_line (l ∷ lines), sum-map cost_of_line lines, sum_by-cons cost_of_line l lines)
 
 -- ---- one entry
-read_few : (w : World) (count : ℕ) (b : Option Behind) (r : Reply) (g : Frame) → length (read_answer w count b r g).bytes ≤ count
+read_few : (w : World) (count : ℕ) (b : Option OpenFile) (r : Reply) (g : Frame) → length (read_answer w count b r g).bytes ≤ count
 unfolding read_answer plainly
 read_few w count (Some e) (reply.Bytes k) g = omega (arith, length-take count (readable w.frame w.content e))
 read_few w count _ r g = omega arith

@@ -7,7 +7,7 @@ ghost use Rattle.ix_lanes.specs.asking.Places.{given, has_all, has_places, Keeps
 ghost use Rattle.ix_asking.specs.Runs.{entry_of};
 
 use crate::asking::handed::Handed;
-use crate::asking::numbers::Numbers;
+use crate::asking::bindings::Bindings;
 use crate::asking::places::Places;
 use ix_model::{Buf, Call, Entry};
 use ix_script::{Line, NameWord};
@@ -31,7 +31,7 @@ pub fn put_written(line: &Line<'_>, buf: &mut Buf) -> usize
 /// which are those that the line writes: nothing is copied.
 #[tactic(auto, unfolding(crate::specs::asking::Asked::asked))]
 pub fn call_of<'a>(
-    header: &Numbers<u32>,
+    header: &Bindings<u32>,
     places: &Places,
     seat: u32,
     number: u32,
@@ -160,7 +160,7 @@ fn pid_in(handed: &Handed) -> u32
 }
 
 /// Lets a name, if there is one, stand for a number.
-fn bind_one<N: Copy>(names: &mut Numbers<Option<N>>, name: &Option<NameWord<'_>>, number: N)
+fn bind_one<N: Copy>(names: &mut Bindings<Option<N>>, name: &Option<NameWord<'_>>, number: N)
     requires { has_all names.old (listed name.now) ≡ true }
     ensures set { given names.new ≡ bound name.now number (given names.old) }
     ensures keeps { KeepsNames names.old names.new }
@@ -172,7 +172,7 @@ fn bind_one<N: Copy>(names: &mut Numbers<Option<N>>, name: &Option<NameWord<'_>>
 
 /// Lets the names of both ends of a pipe, if there are any, stand for what is handed.
 fn bind_both(
-    fds: &mut Numbers<Option<u8>>,
+    fds: &mut Bindings<Option<u8>>,
     two: &Option<(NameWord<'_>, NameWord<'_>)>,
     handed: &Handed,
 )

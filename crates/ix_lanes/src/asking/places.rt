@@ -4,7 +4,7 @@ ghost use Rattle.ix_script.specs.lines.Before.{listed};
 ghost use Rattle.ix_lanes.specs.asking.Asked.{fd_of, keep_of, no_names, pid_of};
 ghost use Rattle.ix_lanes.specs.asking.Places.{given, has_all, has_places, KeepsNames, KeepsPlaces, standing};
 
-use crate::asking::numbers::Numbers;
+use crate::asking::bindings::Bindings;
 use ix_model::{Fd, Keep, NoMemory, Pid};
 use ix_script::{FdWord, KeepWord, Line, NameWord};
 use std::alloc::Global;
@@ -13,12 +13,12 @@ use std::alloc::Global;
 /// has given it one.
 #[derive(Drop)]
 pub struct Places {
-    pub procs: Numbers<Option<u32>>,
-    pub fds: Numbers<Option<u8>>,
+    pub procs: Bindings<Option<u32>>,
+    pub fds: Bindings<Option<u8>>,
 }
 
 /// Finds a name its place, if it has none yet.
-fn add_name<N: Copy>(names: &mut Numbers<Option<N>>, name: &NameWord<'_>) -> Result<(), NoMemory>
+fn add_name<N: Copy>(names: &mut Bindings<Option<N>>, name: &NameWord<'_>) -> Result<(), NoMemory>
     ensures same { given names.new ≡ given names.old }
     ensures place { OnOk result (map.contains_key names.new name.now ≡ true) }
     ensures keeps { KeepsNames names.old names.new }
@@ -31,7 +31,7 @@ fn add_name<N: Copy>(names: &mut Numbers<Option<N>>, name: &NameWord<'_>) -> Res
 
 /// Finds a name, if there is one, its place.
 fn add_one<N: Copy>(
-    names: &mut Numbers<Option<N>>,
+    names: &mut Bindings<Option<N>>,
     name: &Option<NameWord<'_>>,
 ) -> Result<(), NoMemory>
     ensures same { given names.new ≡ given names.old }
@@ -50,8 +50,8 @@ impl Places {
         ensures { standing result ≡ no_names }
     {
         Places {
-            procs: Numbers::new(alloc),
-            fds: Numbers::new(alloc),
+            procs: Bindings::new(alloc),
+            fds: Bindings::new(alloc),
         }
     }
 
@@ -80,7 +80,7 @@ impl Places {
     }
 
     /// The process of a name: one of the header, or one that the lane gave.
-    pub fn pid(&self, header: &Numbers<u32>, name: &NameWord<'_>) -> Pid
+    pub fn pid(&self, header: &Bindings<u32>, name: &NameWord<'_>) -> Pid
         ensures { result.0 ≡ pid_of header.now (standing self.now) name.now }
     {
         match self.procs.get(name).flatten() {

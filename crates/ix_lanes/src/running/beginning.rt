@@ -7,7 +7,7 @@ ghost use Rattle.ix_lanes.specs.running.Left.{Holds, IsPending, is_over, part_le
 ghost use Rattle.ix_script.specs.lines.Before.{is_phase};
 
 use crate::asking::calls::put_written;
-use crate::asking::numbers::Numbers;
+use crate::asking::bindings::Bindings;
 use crate::asking::places::Places;
 use crate::running::part::Part;
 use ix_asking::Copying;
@@ -20,7 +20,7 @@ use ix_sessserv::SessServer;
 /// Begins a line of a lane: what it asks for. What it writes is put into the buffer.
 pub fn begin<'a>(
     policy: Option<&'a Policy>,
-    header: &Numbers<u32>,
+    header: &Bindings<u32>,
     places: &Places,
     number: u32,
     role: Role,

@@ -14,7 +14,7 @@ ghost use Rattle.ix_lanes.specs.running.Phases.{lane_among, lane_between, seat_a
 
 use crate::asking::calls::bind;
 use crate::asking::handed::Handed;
-use crate::asking::numbers::Numbers;
+use crate::asking::bindings::Bindings;
 use crate::asking::places::Places;
 use crate::lanes::seat_past;
 use crate::lines::{line_at, role_at};
@@ -63,7 +63,7 @@ impl<'a> Here<'a> {
         script: &'a Script,
         lane: u32,
         policy: Option<&'a Policy>,
-        header: &Numbers<u32>,
+        header: &Bindings<u32>,
         places: &mut Places,
         written: &mut Buf,
         copying: &mut Copying,

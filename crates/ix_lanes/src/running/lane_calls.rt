@@ -9,7 +9,7 @@ ghost use Rattle.ix_lanes.specs.running.Fields.{all_placed};
 ghost use Rattle.ix_lanes.specs.running.Phases.{lane_among, seat_at};
 
 use crate::asking::calls::{bind, call_of};
-use crate::asking::numbers::Numbers;
+use crate::asking::bindings::Bindings;
 use crate::asking::places::Places;
 use crate::lanes::{header_of, seat_past};
 use crate::lines::{line_at, role_at};
@@ -61,7 +61,7 @@ pub struct LaneCalls<'a> {
     script: &'a Script,
     policy: Option<&'a Policy>,
     lane: u32,
-    header: Numbers<u32>,
+    header: Bindings<u32>,
     places: Places,
     here: Here<'a>,
     /// What the line in which it stands has still to ask for.

@@ -16,7 +16,7 @@ ghost use Rattle.ix_lanes.specs.running.Serially.{ArePlaced, IsWithin, LeavesLin
 
 use crate::asking::calls::{bind, call_of};
 use crate::asking::handed::Handed;
-use crate::asking::numbers::Numbers;
+use crate::asking::bindings::Bindings;
 use crate::asking::places::Places;
 use crate::lanes::{header_of, seat_past};
 use crate::lines::{line_at, role_at};
@@ -76,7 +76,7 @@ impl<'a> Place<'a> {
         &mut self,
         script: &'a Script,
         policy: Option<&'a Policy>,
-        header: &Numbers<u32>,
+        header: &Bindings<u32>,
         places: &mut [Places],
         written: &mut Buf,
         copying: &mut Copying,
@@ -117,7 +117,7 @@ impl<'a> Place<'a> {
 pub struct SerialCalls<'a> {
     script: &'a Script,
     policy: Option<&'a Policy>,
-    header: Numbers<u32>,
+    header: Bindings<u32>,
     /// What the names of each lane stand for, by seats.
     places: Vec<Places>,
     here: Place<'a>,

@@ -4,7 +4,7 @@ use Rattle.std.proofs.lemmas.List.{same_lists, get_or_default}
 use Rattle.ix_model.specs.world.World.{Frame, Content, World, Process, Holding, at, is_ended}
 use Rattle.ix_model.specs.world.Contents.{keep, grown, carried, holds_nothing}
 use Rattle.ix_model.specs.laws.Clean.{IsClean}
-use Rattle.ix_model.specs.rows.OnDescriptors.{Told}
+use Rattle.ix_model.specs.rows.OnDescriptors.{LengthChecks}
 use Rattle.ix_model.specs.rows.Table.{verdict}
 use Rattle.ix_model.specs.history.Events.{Op}
 use Rattle.ix_model.proofs.words.Lasts.{Lasting, Ended, Lasts, lets_nothing_go, lasts_decided}
@@ -59,5 +59,5 @@ carried_same w g lasts clean =
     let s : keep 0 (λ p. is_ended (at f.processes p) && is_ended (at g.processes p)) 0 (grown (length g.processes) c.statuses) ≡ c.statuses = keep_ended f.processes g.processes c.statuses lasts.processes clean.statuses clean.count in
     contents h p s
 
-pub carried_decided : (w : World) (t : Told) (place pid : ℕ) (c : Op) → lets_nothing_go c ≡ true → IsClean w → carried w.frame (verdict t place pid c w.frame).frame w.content ≡ w.content
+pub carried_decided : (w : World) (t : LengthChecks) (place pid : ℕ) (c : Op) → lets_nothing_go c ≡ true → IsClean w → carried w.frame (verdict t place pid c w.frame).frame w.content ≡ w.content
 carried_decided w t place pid c stays clean = carried_same w _ (lasts_decided t place pid c w.frame stays) clean

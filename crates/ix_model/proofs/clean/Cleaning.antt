@@ -3,8 +3,8 @@ use Rattle.std.proofs.Common.{ℕ, zero, suc, ◌+◌, ◌-◌, ◌≡◌, ◌�
 use Rattle.std.specs.Option.{option_map_or}
 use Rattle.std.proofs.lemmas.List.{get_or-set_other, length-replicate}
 use Rattle.ix_model.specs.world.World.{Frame, Content, World, Object, Holding, at, is_ended, is_pipe}
-use Rattle.ix_model.specs.rows.Walks.{Behind, behind}
-use Rattle.ix_model.specs.rows.OnDescriptors.{Told, write_fd, cut_fd}
+use Rattle.ix_model.specs.rows.Walks.{OpenFile, behind}
+use Rattle.ix_model.specs.rows.OnDescriptors.{LengthChecks, write_fd, cut_fd}
 use Rattle.ix_model.specs.rows.Table.{verdict, row}
 use Rattle.ix_model.specs.world.Contents.{grown, carried, holds_nothing, on_pipe, after_read, after_write, after_cut, after_seek, after_exit, emptied}
 use Rattle.ix_model.specs.history.Step.{plainly, read_answer, write_answer, cut_answer, seek_answer, exit_answer, pex_answer, answer, step, step_of, run, is_whole}
@@ -86,13 +86,13 @@ either_clean : (g : Frame) (b : Bool) (c d : Content) → (b ≡ true → IsClea
 either_clean g true c d h k = h refl
 either_clean g false c d h k = k refl
 
-clean_read : (f g : Frame) (c : Content) (k : ℕ) (e : Behind) → Lasts f g → is_some (at f.opens e.id) ≡ true → IsClean (record { frame = g; content = c }) → IsClean (record { frame = g; content = after_read f e k c })
+clean_read : (f g : Frame) (c : Content) (k : ℕ) (e : OpenFile) → Lasts f g → is_some (at f.opens e.id) ≡ true → IsClean (record { frame = g; content = c }) → IsClean (record { frame = g; content = after_read f e k c })
 unfolding after_read
 clean_read f g c k e lasts stands clean = either_clean g (on_pipe f e) _ _
     (λ h. clean_holding g c e.entry.object _ (lasts.objects.stays e.entry.object (pipe_stands _ h)) clean)
     (λ h. clean_offset g c e.id _ (lasts.opens.stays e.id stands) clean)
 
-clean_write : (f g : Frame) (c : Content) (new : List ℕ) (e : Behind) → Lasts f g → is_some (at f.opens e.id) ≡ true → is_some (at f.objects e.entry.object) ≡ true → IsClean (record { frame = g; content = c }) → IsClean (record { frame = g; content = after_write f e new c })
+clean_write : (f g : Frame) (c : Content) (new : List ℕ) (e : OpenFile) → Lasts f g → is_some (at f.opens e.id) ≡ true → is_some (at f.objects e.entry.object) ≡ true → IsClean (record { frame = g; content = c }) → IsClean (record { frame = g; content = after_write f e new c })
 unfolding after_write
 clean_write f g c new e lasts stands object clean =
     let there : is_some (at g.objects e.entry.object) ≡ true = lasts.objects.stays e.entry.object object in
@@ -100,12 +100,12 @@ clean_write f g c new e lasts stands object clean =
     (λ h. clean_holding g c e.entry.object _ there clean)
     (λ h. clean_offset g _ e.id _ (lasts.opens.stays e.id stands) (clean_holding g c e.entry.object _ there clean))
 
-behind_stands : (f : Frame) (pid fd : ℕ) (e : Behind) → behind f pid fd ≡ Some e → is_some (at f.opens e.id) ≡ true
+behind_stands : (f : Frame) (pid fd : ℕ) (e : OpenFile) → behind f pid fd ≡ Some e → is_some (at f.opens e.id) ≡ true
 behind_stands f pid fd e is = ap is_some (behind_is f pid fd e is)
 
 -- ---- a write that passes has an object behind its descriptor
-pub record WriteFacts (t : Told) (pid fd : ℕ) (f : Frame) : Type 0 where
-  pub entry : Behind
+pub record WriteFacts (t : LengthChecks) (pid fd : ℕ) (f : Frame) : Type 0 where
+  pub entry : OpenFile
   pub is_entry : behind f pid fd ≡ Some entry
   pub object : Object
   pub is_object : at f.objects entry.entry.object ≡ Some object
@@ -113,17 +113,17 @@ pub record WriteFacts (t : Told) (pid fd : ℕ) (f : Frame) : Type 0 where
   pub room : not t.full ≡ true
   pub space : not t.no_space ≡ true
 
-write_ends : (t : Told) (pid fd : ℕ) (f : Frame) → Ends (write_fd t pid fd f) Anything (λ r g. WriteFacts t pid fd f)
+write_ends : (t : LengthChecks) (pid fd : ℕ) (f : Frame) → Ends (write_fd t pid fd f) Anything (λ r g. WriteFacts t pid fd f)
 unfolding write_fd
 write_ends t pid fd f = search (ending, ends_touch, ends_float_entry) depth 40 fits 8000
 
-pub wrote : (t : Told) (place pid fd : ℕ) (bytes : List ℕ) (f : Frame) (k : ℕ) → (verdict t place pid (op.WriteFd fd bytes) f).reply ≡ reply.Number k → WriteFacts t pid fd f
+pub wrote : (t : LengthChecks) (place pid fd : ℕ) (bytes : List ℕ) (f : Frame) (k : ℕ) → (verdict t place pid (op.WriteFd fd bytes) f).reply ≡ reply.Number k → WriteFacts t pid fd f
 unfolding row
 wrote t place pid fd bytes f k h = passed t place pid (op.WriteFd fd bytes) f (λ r g. WriteFacts t pid fd f) (write_ends t pid fd f) (ap is_answer h)
 
 -- and so has a cut
-pub record CutFacts (t : Told) (pid fd len : ℕ) (f : Frame) : Type 0 where
-  pub entry : Behind
+pub record CutFacts (t : LengthChecks) (pid fd len : ℕ) (f : Frame) : Type 0 where
+  pub entry : OpenFile
   pub is_entry : behind f pid fd ≡ Some entry
   pub object : Object
   pub is_object : at f.objects entry.entry.object ≡ Some object
@@ -131,31 +131,31 @@ pub record CutFacts (t : Told) (pid fd len : ℕ) (f : Frame) : Type 0 where
   pub short : nat_le len 1048576 ≡ true
   pub space : not t.no_space ≡ true
 
-cut_ends : (t : Told) (pid fd len : ℕ) (f : Frame) → Ends (cut_fd t pid fd len f) Anything (λ r g. CutFacts t pid fd len f)
+cut_ends : (t : LengthChecks) (pid fd len : ℕ) (f : Frame) → Ends (cut_fd t pid fd len f) Anything (λ r g. CutFacts t pid fd len f)
 unfolding cut_fd
 cut_ends t pid fd len f = search (ending, ends_touch, ends_float_entry) depth 40 fits 8000
 
-pub was_cut : (t : Told) (place pid fd len : ℕ) (f : Frame) → (verdict t place pid (op.CutFd fd len) f).reply ≡ reply.Done → CutFacts t pid fd len f
+pub was_cut : (t : LengthChecks) (place pid fd len : ℕ) (f : Frame) → (verdict t place pid (op.CutFd fd len) f).reply ≡ reply.Done → CutFacts t pid fd len f
 unfolding row
 was_cut t place pid fd len f h = passed t place pid (op.CutFd fd len) f (λ r g. CutFacts t pid fd len f) (cut_ends t pid fd len f) (ap is_answer h)
 
 -- ---- the step
-read_clean : (w : World) (g : Frame) (count : ℕ) (b : Option Behind) (r : Reply) → length w.frame.processes ≤ length g.processes → Lasts w.frame g → IsClean w → ((e : Behind) → b ≡ Some e → is_some (at w.frame.opens e.id) ≡ true) → IsClean (read_answer w count b r g).world
+read_clean : (w : World) (g : Frame) (count : ℕ) (b : Option OpenFile) (r : Reply) → length w.frame.processes ≤ length g.processes → Lasts w.frame g → IsClean w → ((e : OpenFile) → b ≡ Some e → is_some (at w.frame.opens e.id) ≡ true) → IsClean (read_answer w count b r g).world
 unfolding read_answer plainly
 read_clean w g count (Some e) (reply.Bytes k) grows lasts clean h = clean_read w.frame g _ _ e lasts (h e refl) (clean_carried w g grows clean)
 read_clean w g count _ _ grows lasts clean h = clean_carried w g grows clean
 
-write_clean : (w : World) (g : Frame) (new : List ℕ) (b : Option Behind) (r : Reply) → length w.frame.processes ≤ length g.processes → Lasts w.frame g → IsClean w → ((e : Behind) (k : ℕ) → b ≡ Some e → r ≡ reply.Number k → (is_some (at w.frame.opens e.id) ≡ true) × (is_some (at w.frame.objects e.entry.object) ≡ true)) → IsClean (write_answer w new b r g).world
+write_clean : (w : World) (g : Frame) (new : List ℕ) (b : Option OpenFile) (r : Reply) → length w.frame.processes ≤ length g.processes → Lasts w.frame g → IsClean w → ((e : OpenFile) (k : ℕ) → b ≡ Some e → r ≡ reply.Number k → (is_some (at w.frame.opens e.id) ≡ true) × (is_some (at w.frame.objects e.entry.object) ≡ true)) → IsClean (write_answer w new b r g).world
 unfolding write_answer plainly
 write_clean w g new (Some e) (reply.Number k) grows lasts clean h = clean_write w.frame g _ new e lasts (h e k refl refl).0 (h e k refl refl).1 (clean_carried w g grows clean)
 write_clean w g new _ _ grows lasts clean h = clean_carried w g grows clean
 
-cut_clean : (w : World) (g : Frame) (len : ℕ) (b : Option Behind) (r : Reply) → length w.frame.processes ≤ length g.processes → Lasts w.frame g → IsClean w → ((e : Behind) → b ≡ Some e → r ≡ reply.Done → is_some (at w.frame.objects e.entry.object) ≡ true) → IsClean (cut_answer w len b r g).world
+cut_clean : (w : World) (g : Frame) (len : ℕ) (b : Option OpenFile) (r : Reply) → length w.frame.processes ≤ length g.processes → Lasts w.frame g → IsClean w → ((e : OpenFile) → b ≡ Some e → r ≡ reply.Done → is_some (at w.frame.objects e.entry.object) ≡ true) → IsClean (cut_answer w len b r g).world
 unfolding cut_answer plainly after_cut
 cut_clean w g len (Some e) reply.Done grows lasts clean h = clean_holding g _ e.entry.object _ (lasts.objects.stays e.entry.object (h e refl refl)) (clean_carried w g grows clean)
 cut_clean w g len _ _ grows lasts clean h = clean_carried w g grows clean
 
-seek_clean : (w : World) (g : Frame) (offset : ℕ) (b : Option Behind) (r : Reply) → length w.frame.processes ≤ length g.processes → Lasts w.frame g → IsClean w → ((e : Behind) → b ≡ Some e → is_some (at w.frame.opens e.id) ≡ true) → IsClean (seek_answer w offset b r g).world
+seek_clean : (w : World) (g : Frame) (offset : ℕ) (b : Option OpenFile) (r : Reply) → length w.frame.processes ≤ length g.processes → Lasts w.frame g → IsClean w → ((e : OpenFile) → b ≡ Some e → is_some (at w.frame.opens e.id) ≡ true) → IsClean (seek_answer w offset b r g).world
 unfolding seek_answer plainly after_seek
 seek_clean w g offset (Some e) reply.Done grows lasts clean h = clean_offset g _ e.id offset (lasts.opens.stays e.id (h e refl)) (clean_carried w g grows clean)
 seek_clean w g offset _ _ grows lasts clean h = clean_carried w g grows clean
@@ -165,7 +165,7 @@ unfolding exit_answer plainly after_exit
 exit_clean w g pid status reply.Done grows clean = either_clean g (is_ended (at g.processes pid)) _ _ (λ ended. clean_status g _ pid status ended (clean_carried w g grows clean)) (λ other. clean_carried w g grows clean)
 exit_clean w g pid status _ grows clean = clean_carried w g grows clean
 
-pex_clean : (w : World) (g : Frame) (b : Option Behind) (r : Reply) → length w.frame.processes ≤ length g.processes → IsClean w → IsClean (pex_answer w b r g).world
+pex_clean : (w : World) (g : Frame) (b : Option OpenFile) (r : Reply) → length w.frame.processes ≤ length g.processes → IsClean w → IsClean (pex_answer w b r g).world
 unfolding pex_answer plainly emptied
 pex_clean w g (Some e) r grows clean = either_clean g (is_whole g e.entry.object && not (is_whole w.frame e.entry.object)) _ _ (λ whole. clean_nothing g _ e.entry.object (clean_carried w g grows clean)) (λ other. clean_carried w g grows clean)
 pex_clean w g None r grows clean = clean_carried w g grows clean
@@ -176,11 +176,11 @@ clean_step w place pid (op.ReadFd fd count) clean = read_clean w _ count (behind
 clean_step w place pid (op.WriteFd fd bytes) clean = write_clean w _ bytes (behind w.frame pid fd) _ (spent_decided _ place pid (op.WriteFd fd bytes) w.frame).grown (lasts_decided _ place pid (op.WriteFd fd bytes) w.frame refl) clean (λ e k is wrote_k.
     let facts = wrote _ place pid fd bytes w.frame k wrote_k in
     let same : facts.entry ≡ e = let h = facts.is_entry in cc in
-    (behind_stands w.frame pid fd e is, subst (λ (x : Behind). is_some (at w.frame.objects x.entry.object) ≡ true) same (ap is_some facts.is_object)))
+    (behind_stands w.frame pid fd e is, subst (λ (x : OpenFile). is_some (at w.frame.objects x.entry.object) ≡ true) same (ap is_some facts.is_object)))
 clean_step w place pid (op.CutFd fd len) clean = cut_clean w _ len (behind w.frame pid fd) _ (spent_decided _ place pid (op.CutFd fd len) w.frame).grown (lasts_decided _ place pid (op.CutFd fd len) w.frame refl) clean (λ e is done.
     let facts = was_cut _ place pid fd len w.frame done in
     let same : facts.entry ≡ e = let h = facts.is_entry in cc in
-    subst (λ (x : Behind). is_some (at w.frame.objects x.entry.object) ≡ true) same (ap is_some facts.is_object))
+    subst (λ (x : OpenFile). is_some (at w.frame.objects x.entry.object) ≡ true) same (ap is_some facts.is_object))
 clean_step w place pid (op.SeekFd fd offset) clean = seek_clean w _ offset (behind w.frame pid fd) _ (spent_decided _ place pid (op.SeekFd fd offset) w.frame).grown (lasts_decided _ place pid (op.SeekFd fd offset) w.frame refl) clean (λ e is. behind_stands w.frame pid fd e is)
 clean_step w place pid (op.StatAt path) clean = subst (λ (v : World). IsClean v) (sym (world_stat w _ _)) (clean_carried w _ (spent_decided _ place pid (op.StatAt path) w.frame).grown clean)
 clean_step w place pid (op.Exit status) clean = exit_clean w _ pid status _ (spent_decided _ place pid (op.Exit status) w.frame).grown clean

@@ -7,8 +7,8 @@ use Rattle.ix_model.proofs.words.Looks.{ends_float_entry}
 use Rattle.ix_model.specs.world.World.{World, Frame, lives}
 use Rattle.ix_model.specs.rows.Outcomes.{Outcome, Refuse, Pass}
 use Rattle.ix_model.specs.rows.Rows.{observe}
-use Rattle.ix_model.specs.rows.Walks.{Behind, behind}
-use Rattle.ix_model.specs.rows.OnDescriptors.{Told, read_fd}
+use Rattle.ix_model.specs.rows.Walks.{OpenFile, behind}
+use Rattle.ix_model.specs.rows.OnDescriptors.{LengthChecks, read_fd}
 use Rattle.ix_model.specs.rows.Table.{Decision, row, settled, verdict}
 use Rattle.ix_model.specs.world.Contents.{readable}
 use Rattle.ix_model.specs.history.Step.{plainly, read_answer, write_answer, cut_answer, seek_answer, stat_answer, exit_answer, wait_answer, pex_answer, answer, step}
@@ -37,7 +37,7 @@ unfolding Ends
 without pid f (Refuse r g) h = refl
 without pid f (Pass r g) h = bare_without r h
 
-decided_without : (t : Told) (place pid : ℕ) (o : Op) (f : Frame) → Relabels is_bare pid f (row t place pid o f) → Without (verdict t place pid o f).reply
+decided_without : (t : LengthChecks) (place pid : ℕ) (o : Op) (f : Frame) → Relabels is_bare pid f (row t place pid o f) → Without (verdict t place pid o f).reply
 unfolding verdict
 decided_without t place pid o f h = go (lives f pid)
   where
@@ -60,12 +60,12 @@ any_observe pid seen f Q h = go (observe pid seen f)
 
 -- a read that passes asks for at most 4,096 bytes, and has an open entry behind its descriptor
 pub record ReadFacts (pid fd count : ℕ) (f : Frame) (r : Reply) : Type 0 where
-  pub entry : Behind
+  pub entry : OpenFile
   pub is_entry : behind f pid fd ≡ Some entry
   pub few : nat_le count 4096 ≡ true
   pub is_bytes : r ≡ reply.Bytes 0
 
-read_ends : (t : Told) (pid fd count : ℕ) (f : Frame) → Ends (read_fd t pid fd count f) Anything (λ r g. ReadFacts pid fd count f r)
+read_ends : (t : LengthChecks) (pid fd count : ℕ) (f : Frame) → Ends (read_fd t pid fd count f) Anything (λ r g. ReadFacts pid fd count f r)
 unfolding read_fd
 read_ends t pid fd count f = search (ending, any_observe, ends_float_entry) depth 40 fits 8000
 
@@ -79,7 +79,7 @@ unfolding Ends
 settled_said pid fd count f (Refuse r g) h = Refused
 settled_said pid fd count f (Pass r g) h = Passed h
 
-read_said : (t : Told) (place pid fd count : ℕ) (f : Frame) → Said pid fd count f (verdict t place pid (op.ReadFd fd count) f).reply
+read_said : (t : LengthChecks) (place pid fd count : ℕ) (f : Frame) → Said pid fd count f (verdict t place pid (op.ReadFd fd count) f).reply
 unfolding verdict row
 read_said t place pid fd count f = go (lives f pid)
   where
@@ -90,7 +90,7 @@ read_said t place pid fd count f = go (lives f pid)
     go true = settled_said pid fd count f (read_fd t pid fd count f) (read_ends t pid fd count f)
     go false = Refused
 
-read_shown : (w : World) (pid fd count : ℕ) (b : Option Behind) (r : Reply) (g : Frame) → behind w.frame pid fd ≡ b → Said pid fd count w.frame r → AreShown (read_answer w count b r g).reply (read_answer w count b r g).bytes
+read_shown : (w : World) (pid fd count : ℕ) (b : Option OpenFile) (r : Reply) (g : Frame) → behind w.frame pid fd ≡ b → Said pid fd count w.frame r → AreShown (read_answer w count b r g).reply (read_answer w count b r g).bytes
 unfolding read_answer plainly
 read_shown w pid fd count None _ g is Refused = refl
 read_shown w pid fd count (Some e) _ g is Refused = refl
@@ -99,17 +99,17 @@ read_shown w pid fd count (Some e) r g is (Passed facts) =
     subst (λ (s : Reply). AreShown (read_answer w count (Some e) s g).reply (read_answer w count (Some e) s g).bytes) (sym facts.is_bytes)
     (refl, let few : count ≤ 4096 = leb-true count 4096 facts.few in omega (arith, length-take count (readable w.frame w.content e)))
 
-write_shown : (w : World) (new : List ℕ) (b : Option Behind) (r : Reply) (g : Frame) → Without r → AreShown (write_answer w new b r g).reply (write_answer w new b r g).bytes
+write_shown : (w : World) (new : List ℕ) (b : Option OpenFile) (r : Reply) (g : Frame) → Without r → AreShown (write_answer w new b r g).reply (write_answer w new b r g).bytes
 unfolding write_answer plainly
 write_shown w new (Some e) (reply.Number k) g h = refl
 write_shown w new _ r g h = h
 
-cut_shown : (w : World) (len : ℕ) (b : Option Behind) (r : Reply) (g : Frame) → Without r → AreShown (cut_answer w len b r g).reply (cut_answer w len b r g).bytes
+cut_shown : (w : World) (len : ℕ) (b : Option OpenFile) (r : Reply) (g : Frame) → Without r → AreShown (cut_answer w len b r g).reply (cut_answer w len b r g).bytes
 unfolding cut_answer plainly
 cut_shown w len (Some e) reply.Done g h = refl
 cut_shown w len _ r g h = h
 
-seek_shown : (w : World) (offset : ℕ) (b : Option Behind) (r : Reply) (g : Frame) → Without r → AreShown (seek_answer w offset b r g).reply (seek_answer w offset b r g).bytes
+seek_shown : (w : World) (offset : ℕ) (b : Option OpenFile) (r : Reply) (g : Frame) → Without r → AreShown (seek_answer w offset b r g).reply (seek_answer w offset b r g).bytes
 unfolding seek_answer plainly
 seek_shown w offset (Some e) reply.Done g h = refl
 seek_shown w offset _ r g h = h
@@ -129,7 +129,7 @@ unfolding wait_answer plainly
 wait_shown w (reply.Child p status) g h = refl
 wait_shown w r g h = h
 
-pex_shown : (w : World) (b : Option Behind) (r : Reply) (g : Frame) → Without r → AreShown (pex_answer w b r g).reply (pex_answer w b r g).bytes
+pex_shown : (w : World) (b : Option OpenFile) (r : Reply) (g : Frame) → Without r → AreShown (pex_answer w b r g).reply (pex_answer w b r g).bytes
 unfolding pex_answer plainly
 pex_shown w (Some e) r g h = h
 pex_shown w None r g h = h

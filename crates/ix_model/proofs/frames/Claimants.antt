@@ -6,7 +6,7 @@ use Rattle.std.proofs.lemmas.Bool.{and_from, eq-eqb}
 use Rattle.ix_label.specs.Category.{leq, top}
 use Rattle.ix_model.specs.world.World.{fs_at, Frame, Object, Process, Open, at, put, change, living, is_on}
 use Rattle.ix_model.specs.world.Owners.{has_end}
-use Rattle.ix_model.specs.rows.Walks.{Behind, behind, behind_of, entry_at}
+use Rattle.ix_model.specs.rows.Walks.{OpenFile, behind, behind_of, entry_at}
 use Rattle.ix_model.specs.rows.OnDescriptors.{claimed, pex, unpex}
 use Rattle.ix_model.specs.declared.reply.Reply.{Reply}
 use Rattle.ix_model.proofs.tables.Finds.{at_put, at_change, any_by}
@@ -22,21 +22,21 @@ use Rattle.ix_model.proofs.sound.Logging.{Refused, Passed}
 use Rattle.ix_model.proofs.words.Standing.{behind_is}
 
 -- ---- what stands behind a descriptor
-pub record IsBehind (f : Frame) (pid fd : ℕ) (e : Behind) : Type 0 where
+pub record IsBehind (f : Frame) (pid fd : ℕ) (e : OpenFile) : Type 0 where
   pub process : Process
   pub lives : living (at f.processes pid) ≡ Some process
   pub descriptor : at process.fds fd ≡ Some e.id
   pub stands : at f.opens e.id ≡ Some e.entry
 
-entry_of : (f : Frame) (d : Option ℕ) (e : Behind) → entry_at f d ≡ Some e → d ≡ Some e.id
+entry_of : (f : Frame) (d : Option ℕ) (e : OpenFile) → entry_at f d ≡ Some e → d ≡ Some e.id
 entry_of f None e h = cc
 entry_of f (Some n) e h = go (at f.opens n) h
   where
-    go : (o : Option Open) → option_map (λ x. let b : Behind = record { id = n; entry = x } in b) o ≡ Some e → Some n ≡ Some e.id
+    go : (o : Option Open) → option_map (λ x. let b : OpenFile = record { id = n; entry = x } in b) o ≡ Some e → Some n ≡ Some e.id
     go None h = cc
     go (Some x) h = let i : n ≡ e.id = cc in ap Some i
 
-pub is_behind : (f : Frame) (pid fd : ℕ) (e : Behind) → behind f pid fd ≡ Some e → IsBehind f pid fd e
+pub is_behind : (f : Frame) (pid fd : ℕ) (e : OpenFile) → behind f pid fd ≡ Some e → IsBehind f pid fd e
 unfolding behind
 is_behind f pid fd e h = go (living (at f.processes pid)) refl h
   where
@@ -45,7 +45,7 @@ is_behind f pid fd e h = go (living (at f.processes pid)) refl h
     go (Some p) is h = record { process = p; lives = is; descriptor = entry_of f (at p.fds fd) e h; stands = behind_is f pid fd e (ap (λ q. behind_of q f fd) is ∙ h) }
 
 -- the descriptor makes a claimant
-pub claims_by : (f : Frame) (pid fd : ℕ) (e : Behind) → IsBehind f pid fd e → has_end f e.entry.object e.entry.end pid ≡ true
+pub claims_by : (f : Frame) (pid fd : ℕ) (e : OpenFile) → IsBehind f pid fd e → has_end f e.entry.object e.entry.end pid ≡ true
 claims_by f pid fd e b =
     let o : ℕ = e.entry.object in
     let end : ℕ = e.entry.end in

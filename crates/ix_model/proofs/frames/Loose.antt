@@ -7,7 +7,7 @@ use Rattle.std.proofs.lemmas.Bool.Decides.{eqb_tells}
 use Rattle.std.proofs.lemmas.List.{get_or-set_other}
 use Rattle.ix_model.specs.world.World.{Frame, Object, Process, at, put, change, is_dir, is_pipe, is_on}
 use Rattle.ix_model.specs.world.Owners.{is_at, owns, has_end}
-use Rattle.ix_model.specs.rows.Walks.{Behind}
+use Rattle.ix_model.specs.rows.Walks.{OpenFile}
 use Rattle.ix_model.specs.rows.Lifetimes.{has_lost}
 use Rattle.ix_model.specs.laws.Sound.{LabelsBelow, NamesSound, LivesSound, ProcessesSound, ClaimsSound, WithinLimits}
 use Rattle.ix_model.proofs.tables.Tables.{at_changed, seen_changed, any_put}
@@ -35,7 +35,7 @@ pub record Loose (e : ℕ) (f : Frame) : Type 0 where
   pub limits : WithinLimits f
 
 -- ---- the descriptor
-module _ (f : Frame) (s : FrameSound f) (pid fd : ℕ) (e : Behind) (b : IsBehind f pid fd e) where
+module _ (f : Frame) (s : FrameSound f) (pid fd : ℕ) (e : OpenFile) (b : IsBehind f pid fd e) where
   abbrev take : Process → Process
   take q = record q { fds = put q.fds fd None }
 

@@ -7,7 +7,7 @@ use Rattle.std.proofs.lemmas.Bool.Decides.{eqb_tells}
 use Rattle.std.proofs.lemmas.List.{get_or-set_other}
 use Rattle.ix_model.specs.world.World.{Frame, Object, Process, Open, at, put, change, living, is_dir, is_on, held}
 use Rattle.ix_model.specs.world.Owners.{times_named, is_at, owns, owned}
-use Rattle.ix_model.specs.rows.Walks.{Behind, behind}
+use Rattle.ix_model.specs.rows.Walks.{OpenFile, behind}
 use Rattle.ix_model.specs.rows.Rows.{◌>>◌, put_open}
 use Rattle.ix_model.specs.rows.Lifetimes.{has_lost, let_go_claim, let_go_open, let_go_object, let_go}
 use Rattle.ix_model.specs.declared.refusal.Refusal.{Refusal}
@@ -130,7 +130,7 @@ module _ (base : Frame) (P : Refusal → Frame → Type 0) (Q : Unit {0} → Fra
       (λ sound. next _ (record { sound = sound; kinds = kinds_gone base.objects f.objects kinds y.object }) refl)))
 
   -- a descriptor, its claim, its open entry and the object
-  pub descriptor_released : (f : Frame) (pid fd : ℕ) (e : Behind) → behind f pid fd ≡ Some e → Follows base f → ((h : Frame) → Follows base h → h.processes ≡ change f.processes pid (λ q. record q { fds = put q.fds fd None }) → Q tt h) → Ends (let_go pid fd e f) P Q
+  pub descriptor_released : (f : Frame) (pid fd : ℕ) (e : OpenFile) → behind f pid fd ≡ Some e → Follows base f → ((h : Frame) → Follows base h → h.processes ≡ change f.processes pid (λ q. record q { fds = put q.fds fd None }) → Q tt h) → Ends (let_go pid fd e f) P Q
   unfolding let_go let_go_claim
   descriptor_released f pid fd e is k next =
       let b = is_behind f pid fd e is in

@@ -5,8 +5,8 @@ use Rattle.ix_model.specs.rows.Refusals.{keeps_label}
 use Rattle.ix_model.specs.world.World.{World, Frame, Object, Process, at, living, lives, is_pipe, may_read, may_write, claimed_by_another}
 use Rattle.ix_model.specs.rows.Outcomes.{Outcome, Refuse, Pass}
 use Rattle.ix_model.specs.rows.Rows.{◌>>=◌, on_pass, pass, refuse, need, some, frame, object}
-use Rattle.ix_model.specs.rows.Walks.{Behind, behind, behind_of, opened}
-use Rattle.ix_model.specs.rows.OnDescriptors.{Told, read_fd, write_fd, pex}
+use Rattle.ix_model.specs.rows.Walks.{OpenFile, behind, behind_of, opened}
+use Rattle.ix_model.specs.rows.OnDescriptors.{LengthChecks, read_fd, write_fd, pex}
 use Rattle.ix_model.specs.rows.Table.{row, settled, verdict}
 use Rattle.ix_model.specs.rows.Telling.{told}
 use Rattle.ix_model.specs.history.Step.{plainly, read_answer, write_answer, pex_answer, answer, step}
@@ -30,8 +30,8 @@ tested false r f P Q h k = k refl
 pub never : Reply → Frame → Type 0
 never a g = true ≡ false
 
-module _ (f : Frame) (pid fd : ℕ) (e : Behind) (x : Object) (leads : behind f pid fd ≡ Some e) (is : at f.objects e.entry.object ≡ Some x) (another : claimed_by_another x e.entry.end pid ≡ true) where
-  goes_on : (P : Refusal → Frame → Type 0) (Q : Behind → Frame → Type 0) → Q e f → Ends (opened pid fd f) P Q
+module _ (f : Frame) (pid fd : ℕ) (e : OpenFile) (x : Object) (leads : behind f pid fd ≡ Some e) (is : at f.objects e.entry.object ≡ Some x) (another : claimed_by_another x e.entry.end pid ≡ true) where
+  goes_on : (P : Refusal → Frame → Type 0) (Q : OpenFile → Frame → Type 0) → Q e f → Ends (opened pid fd f) P Q
   unfolding opened ◌>>=◌ on_pass frame some pass Ends
   goes_on P Q next = rw leads next
 
@@ -39,7 +39,7 @@ module _ (f : Frame) (pid fd : ℕ) (e : Behind) (x : Object) (leads : behind f 
   unfolding object some pass Ends
   finds P Q next = rw is next
 
-  stops_reads : (t : Told) (count : ℕ) → Ends (read_fd t pid fd count f) (λ r g. r ≡ (if may_read e.entry.mode then refusal.PexHeld else refusal.NotReadable)) never
+  stops_reads : (t : LengthChecks) (count : ℕ) → Ends (read_fd t pid fd count f) (λ r g. r ≡ (if may_read e.entry.mode then refusal.PexHeld else refusal.NotReadable)) never
   unfolding read_fd
   stops_reads t count =
       let P : Refusal → Frame → Type 0 = λ r g. r ≡ (if may_read e.entry.mode then refusal.PexHeld else refusal.NotReadable) in
@@ -51,7 +51,7 @@ module _ (f : Frame) (pid fd : ℕ) (e : Behind) (x : Object) (leads : behind f 
       (λ held. sym (ap (λ b. if b then refusal.PexHeld else refusal.NotReadable) may))))))
       (λ closed. sym (ap (λ b. if b then refusal.PexHeld else refusal.NotReadable) closed)))))
 
-  stops_writes : (t : Told) → Ends (write_fd t pid fd f) (λ r g. r ≡ (if may_write e.entry.mode then refusal.PexHeld else refusal.NotWritable)) never
+  stops_writes : (t : LengthChecks) → Ends (write_fd t pid fd f) (λ r g. r ≡ (if may_write e.entry.mode then refusal.PexHeld else refusal.NotWritable)) never
   unfolding write_fd
   stops_writes t =
       let P : Refusal → Frame → Type 0 = λ r g. r ≡ (if may_write e.entry.mode then refusal.PexHeld else refusal.NotWritable) in
@@ -93,22 +93,22 @@ unfolding Ends never
 settled_stops f (Refuse why g) r h = ap reply.No h
 settled_stops f (Pass a g) r h = absurd (true≢false h)
 
-pub decided_stops : (t : Told) (place pid : ℕ) (c : Op) (f : Frame) (r : Refusal) → lives f pid ≡ true → Ends (row t place pid c f) (λ why g. why ≡ r) never → (verdict t place pid c f).reply ≡ reply.No r
+pub decided_stops : (t : LengthChecks) (place pid : ℕ) (c : Op) (f : Frame) (r : Refusal) → lives f pid ≡ true → Ends (row t place pid c f) (λ why g. why ≡ r) never → (verdict t place pid c f).reply ≡ reply.No r
 unfolding verdict
 decided_stops t place pid c f r alive h = rw alive (settled_stops f (row t place pid c f) r h)
 
 -- ---- steps
-read_refused : (w : World) (count : ℕ) (b : Option Behind) (r : Refusal) (g : Frame) → ((read_answer w count b (reply.No r) g).reply ≡ reply.No r) × ((read_answer w count b (reply.No r) g).bytes ≡ [])
+read_refused : (w : World) (count : ℕ) (b : Option OpenFile) (r : Refusal) (g : Frame) → ((read_answer w count b (reply.No r) g).reply ≡ reply.No r) × ((read_answer w count b (reply.No r) g).bytes ≡ [])
 unfolding read_answer plainly
 read_refused w count None r g = (refl, refl)
 read_refused w count (Some e) r g = (refl, refl)
 
-write_refused : (w : World) (new : List ℕ) (b : Option Behind) (r : Refusal) (g : Frame) → ((write_answer w new b (reply.No r) g).reply ≡ reply.No r) × ((write_answer w new b (reply.No r) g).bytes ≡ [])
+write_refused : (w : World) (new : List ℕ) (b : Option OpenFile) (r : Refusal) (g : Frame) → ((write_answer w new b (reply.No r) g).reply ≡ reply.No r) × ((write_answer w new b (reply.No r) g).bytes ≡ [])
 unfolding write_answer plainly
 write_refused w new None r g = (refl, refl)
 write_refused w new (Some e) r g = (refl, refl)
 
-pex_refused : (w : World) (b : Option Behind) (a : Reply) (g : Frame) → ((pex_answer w b a g).reply ≡ a) × ((pex_answer w b a g).bytes ≡ [])
+pex_refused : (w : World) (b : Option OpenFile) (a : Reply) (g : Frame) → ((pex_answer w b a g).reply ≡ a) × ((pex_answer w b a g).bytes ≡ [])
 unfolding pex_answer plainly
 pex_refused w None a g = (refl, refl)
 pex_refused w (Some e) a g = (refl, refl)
@@ -122,7 +122,7 @@ either_drops : (b : Bool) (r : Refusal) → keeps_label r ≡ false → keeps_la
 either_drops true r h = refl
 either_drops false r h = h
 
-pub stops : (w : World) (place pid fd : ℕ) (e : Behind) (x : Object) → behind w.frame pid fd ≡ Some e → at w.frame.objects e.entry.object ≡ Some x → claimed_by_another x e.entry.end pid ≡ true → NotThrough w place pid fd e.entry.mode x
+pub stops : (w : World) (place pid fd : ℕ) (e : OpenFile) (x : Object) → behind w.frame pid fd ≡ Some e → at w.frame.objects e.entry.object ≡ Some x → claimed_by_another x e.entry.end pid ≡ true → NotThrough w place pid fd e.entry.mode x
 unfolding step answer row
 stops w place pid fd e x leads is another =
     let alive = is_live w.frame pid fd e x leads is another in

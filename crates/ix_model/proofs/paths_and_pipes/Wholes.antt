@@ -7,10 +7,10 @@ use Rattle.std.proofs.lemmas.Bool.Decides.{eqb_tells}
 use Rattle.std.proofs.lemmas.List.{get_or-set_other}
 use Rattle.ix_model.specs.world.World.{World, Frame, Object, Holding, at, put, change}
 use Rattle.ix_model.specs.rows.Rows.{change_object, change_process, put_object, put_open, put_process, add_process, change_open}
-use Rattle.ix_model.specs.rows.Walks.{Behind, behind}
+use Rattle.ix_model.specs.rows.Walks.{OpenFile, behind}
 use Rattle.ix_model.specs.rows.Auditing.{logged}
 use Rattle.ix_model.specs.world.Contents.{carried, emptied, holding_of, holds_nothing}
-use Rattle.ix_model.specs.rows.OnDescriptors.{Told, claimed, pex}
+use Rattle.ix_model.specs.rows.OnDescriptors.{LengthChecks, claimed, pex}
 use Rattle.ix_model.specs.rows.OnProcesses.{end_process}
 use Rattle.ix_model.specs.rows.Table.{row, verdict}
 use Rattle.ix_model.specs.rows.Telling.{told}
@@ -91,12 +91,12 @@ module _ (f : Frame) where
     collect = λ can p. record { led = λ g r. record { was = r.was } };
   }
 
-whole_before : (t : Told) (place pid : ℕ) (c : Op) (f : Frame) → list_all claims_none (changes_of c) ≡ true → WholeBefore f (verdict t place pid c f).frame
+whole_before : (t : LengthChecks) (place pid : ℕ) (c : Op) (f : Frame) → list_all claims_none (changes_of c) ≡ true → WholeBefore f (verdict t place pid c f).frame
 whole_before t place pid c f fits = decided (WholeBefore f) t place pid c f (record { was = λ o is. is }) ((kept_row claims_none pid (WholeBefore f) (whole_words f pid) t place c fits).led f (record { was = λ o is. is }))
 
 -- ---- a claim
 record PexFacts (pid fd : ℕ) (f g : Frame) : Type 0 where
-  entry : Behind
+  entry : OpenFile
   is_entry : behind f pid fd ≡ Some entry
   objects : g.objects ≡ change f.objects entry.entry.object (λ y. record y { claims = put y.claims entry.entry.end (Some pid) })
 
@@ -114,7 +114,7 @@ nothing_there [] o = refl
 nothing_there (h ∷ hs) zero = refl
 nothing_there (h ∷ hs) (suc o) = nothing_there hs o
 
-emptied_there : (w : World) (e : Behind) (r : Reply) (g : Frame) → is_whole w.frame e.entry.object ≡ false → is_whole g e.entry.object ≡ true → holding_of (pex_answer w (Some e) r g).world.content e.entry.object ≡ holds_nothing
+emptied_there : (w : World) (e : OpenFile) (r : Reply) (g : Frame) → is_whole w.frame e.entry.object ≡ false → is_whole g e.entry.object ≡ true → holding_of (pex_answer w (Some e) r g).world.content e.entry.object ≡ holds_nothing
 unfolding pex_answer emptied
 emptied_there w e r g was is =
     let becomes : (is_whole g e.entry.object && not (is_whole w.frame e.entry.object)) ≡ true = rw (is, was) refl in
@@ -137,7 +137,7 @@ refused_reply : (r : Reply) → is_answer r ≡ false → (why : Refusal) × (r 
 refused_reply (reply.No why) h = (why, refl)
 refused_reply _ h = cc
 
-pex_case : (w : World) (place pid fd o : ℕ) (t : Told) → is_whole w.frame o ≡ false → is_whole (verdict t place pid (op.Pex fd) w.frame).frame o ≡ true → holding_of (pex_answer w (behind w.frame pid fd) (verdict t place pid (op.Pex fd) w.frame).reply (verdict t place pid (op.Pex fd) w.frame).frame).world.content o ≡ holds_nothing
+pex_case : (w : World) (place pid fd o : ℕ) (t : LengthChecks) → is_whole w.frame o ≡ false → is_whole (verdict t place pid (op.Pex fd) w.frame).frame o ≡ true → holding_of (pex_answer w (behind w.frame pid fd) (verdict t place pid (op.Pex fd) w.frame).reply (verdict t place pid (op.Pex fd) w.frame).frame).world.content o ≡ holds_nothing
 unfolding row
 pex_case w place pid fd o t was is = go (is_answer (verdict t place pid (op.Pex fd) w.frame).reply) refl
   where

@@ -5,10 +5,10 @@ use Rattle.std.proofs.lemmas.Bool.{ne_eqb, eq-eqb}
 use Rattle.std.proofs.lemmas.Bool.Decides.{eqb_tells}
 use Rattle.std.proofs.lemmas.List.{get_or-set_other, take-append-drop}
 use Rattle.ix_model.specs.world.World.{World, Frame, Content, Object, Holding, at, is_ended, is_pipe}
-use Rattle.ix_model.specs.rows.Walks.{Behind, behind}
+use Rattle.ix_model.specs.rows.Walks.{OpenFile, behind}
 use Rattle.ix_model.specs.world.Numbers.{first_pipe}
 use Rattle.ix_model.specs.world.Contents.{carried, holding_of, offset_of, holds_nothing, side, with_side, on_pipe, spliced, after_read, after_write, after_cut, after_seek, after_exit, emptied}
-use Rattle.ix_model.specs.rows.OnDescriptors.{Told}
+use Rattle.ix_model.specs.rows.OnDescriptors.{LengthChecks}
 use Rattle.ix_model.specs.rows.Table.{verdict}
 use Rattle.ix_model.specs.rows.Telling.{told}
 use Rattle.ix_model.specs.history.Step.{plainly, read_answer, write_answer, cut_answer, seek_answer, exit_answer, pex_answer, answer, step, step_of, run, is_whole}
@@ -98,7 +98,7 @@ nothing_side end whole = go (end == 0)
     go false = end_nothing whole
 
 -- ---- reads and writes
-end_read : (f : Frame) (c : Content) (e : Behind) (k o end : ℕ) → IsEndOf (side end (holding_of (after_read f e k c) o)) (side end (holding_of c o))
+end_read : (f : Frame) (c : Content) (e : OpenFile) (k o end : ℕ) → IsEndOf (side end (holding_of (after_read f e k c) o)) (side end (holding_of c o))
 unfolding after_read
 end_read f c e k o end = go (on_pipe f e)
   where
@@ -112,15 +112,15 @@ end_read f c e k o end = go (on_pipe f e)
     go false = end_itself (side end (holding_of c o))
 
 -- what a write to the pipe of that number adds
-reached : Behind → List ℕ → ℕ → ℕ → List ℕ
+reached : OpenFile → List ℕ → ℕ → ℕ → List ℕ
 reached e new o end = if reaches (Some e) o end then new else []
 
-reached_other : (e : Behind) (new : List ℕ) (o end : ℕ) → o ≢ e.entry.object → reached e new o end ≡ []
+reached_other : (e : OpenFile) (new : List ℕ) (o end : ℕ) → o ≢ e.entry.object → reached e new o end ≡ []
 unfolding reached
 reached_other e new o end apart = rw (ne_eqb e.entry.object o (λ same. apart (sym same))) refl
 
 -- a write to something else, or to the pipe, whose number is in reach of the list or not
-end_set : (c : Content) (e : Behind) (new : List ℕ) (o end : ℕ) (x : Holding) → (o ≡ e.entry.object → IsEndOf (side end x) (side end (holding_of c o) ++ reached e new o end)) → IsEndOf (side end (get_or (set c.holdings e.entry.object x) o holds_nothing)) (side end (holding_of c o) ++ reached e new o end)
+end_set : (c : Content) (e : OpenFile) (new : List ℕ) (o end : ℕ) (x : Holding) → (o ≡ e.entry.object → IsEndOf (side end x) (side end (holding_of c o) ++ reached e new o end)) → IsEndOf (side end (get_or (set c.holdings e.entry.object x) o holds_nothing)) (side end (holding_of c o) ++ reached e new o end)
 end_set c e new o end x here = elim (eqb_tells o e.entry.object) [
   | inl same ↦
       subst (λ n. IsEndOf (side end (get_or (set c.holdings n x) o holds_nothing)) (side end (holding_of c o) ++ reached e new o end)) same.1
@@ -130,11 +130,11 @@ end_set c e new o end x here = elim (eqb_tells o e.entry.object) [
       (rw (reached_other e new o end apart.1) (end_none _ _ (end_itself (side end (holding_of c o)))))
 ]
 
-reached_same : (e : Behind) (new : List ℕ) (o end : ℕ) → o ≡ e.entry.object → reached e new o end ≡ (if 1 - e.entry.end == end then new else [])
+reached_same : (e : OpenFile) (new : List ℕ) (o end : ℕ) → o ≡ e.entry.object → reached e new o end ≡ (if 1 - e.entry.end == end then new else [])
 unfolding reached
 reached_same e new o end same = rw (eq-eqb e.entry.object o (sym same)) refl
 
-end_write : (f : Frame) (c : Content) (e : Behind) (new : List ℕ) (o end : ℕ) → end ≤ 1 → (on_pipe f e ≡ false → o ≢ e.entry.object) → IsEndOf (side end (holding_of (after_write f e new c) o)) (side end (holding_of c o) ++ reached e new o end)
+end_write : (f : Frame) (c : Content) (e : OpenFile) (new : List ℕ) (o end : ℕ) → end ≤ 1 → (on_pipe f e ≡ false → o ≢ e.entry.object) → IsEndOf (side end (holding_of (after_write f e new c) o)) (side end (holding_of c o) ++ reached e new o end)
 unfolding after_write
 end_write f c e new o end low file = go (on_pipe f e) refl
   where
@@ -176,17 +176,17 @@ module _ (w : World) (o end : ℕ) (low : end ≤ 1) where
   unfolding now
   plain_end g = end_none _ _ (end_carried w.frame g w.content o end)
 
-  read_ending : (count : ℕ) (b : Option Behind) (r : Reply) (g : Frame) → Ending (read_answer w count b r g).world []
+  read_ending : (count : ℕ) (b : Option OpenFile) (r : Reply) (g : Frame) → Ending (read_answer w count b r g).world []
   unfolding Ending read_answer plainly now
   read_ending count (Some e) (reply.Bytes k) g = end_none _ _ (end_trans _ _ _ (end_carried w.frame g w.content o end) (end_read w.frame (carried w.frame g w.content) e _ o end))
   read_ending count _ r g = plain_end g
 
-  cut_ending : (len : ℕ) (b : Option Behind) (r : Reply) (g : Frame) → ((e : Behind) → b ≡ Some e → r ≡ reply.Done → o ≢ e.entry.object) → Ending (cut_answer w len b r g).world []
+  cut_ending : (len : ℕ) (b : Option OpenFile) (r : Reply) (g : Frame) → ((e : OpenFile) → b ≡ Some e → r ≡ reply.Done → o ≢ e.entry.object) → Ending (cut_answer w len b r g).world []
   unfolding Ending cut_answer after_cut plainly now
   cut_ending len (Some e) reply.Done g apart = end_none _ _ (subst (λ h. IsEndOf (side end h) now) (sym (get_or-set_other (carried w.frame g w.content).holdings e.entry.object o _ holds_nothing (apart e refl refl))) (end_carried w.frame g w.content o end))
   cut_ending len _ r g apart = plain_end g
 
-  seek_ending : (offset : ℕ) (b : Option Behind) (r : Reply) (g : Frame) → Ending (seek_answer w offset b r g).world []
+  seek_ending : (offset : ℕ) (b : Option OpenFile) (r : Reply) (g : Frame) → Ending (seek_answer w offset b r g).world []
   unfolding Ending seek_answer after_seek plainly
   seek_ending offset (Some e) reply.Done g = plain_end g
   seek_ending offset _ r g = plain_end g
@@ -200,7 +200,7 @@ module _ (w : World) (o end : ℕ) (low : end ≤ 1) where
       go false = plain_end g
   exit_ending pid status _ g = plain_end g
 
-  pex_ending : (b : Option Behind) (r : Reply) (g : Frame) → Ending (pex_answer w b r g).world []
+  pex_ending : (b : Option OpenFile) (r : Reply) (g : Frame) → Ending (pex_answer w b r g).world []
   unfolding Ending pex_answer emptied plainly now
   pex_ending None r g = plain_end g
   pex_ending (Some e) r g = go (is_whole g e.entry.object && not (is_whole w.frame e.entry.object))
@@ -212,11 +212,11 @@ module _ (w : World) (o end : ℕ) (low : end ≤ 1) where
       go true = read_set holds_nothing (λ h. IsEndOf (side end h) (now ++ [])) c.holdings e.entry.object holds_nothing o (λ here. nothing_side end _) (plain_end g)
       go false = plain_end g
 
-  wrote_end : (e : Behind) (new : List ℕ) (g : Frame) → (on_pipe w.frame e ≡ false → o ≢ e.entry.object) → IsEndOf (side end (holding_of (after_write w.frame e new (carried w.frame g w.content)) o)) (side end (holding_of (carried w.frame g w.content) o) ++ (if reaches (Some e) o end then new else []))
+  wrote_end : (e : OpenFile) (new : List ℕ) (g : Frame) → (on_pipe w.frame e ≡ false → o ≢ e.entry.object) → IsEndOf (side end (holding_of (after_write w.frame e new (carried w.frame g w.content)) o)) (side end (holding_of (carried w.frame g w.content) o) ++ (if reaches (Some e) o end then new else []))
   unfolding reached
   wrote_end e new g file = end_write w.frame (carried w.frame g w.content) e new o end low file
 
-  write_ending : (pid fd : ℕ) (new : List ℕ) (b : Option Behind) (r : Reply) (g : Frame) → behind w.frame pid fd ≡ b → ((e : Behind) (k : ℕ) → b ≡ Some e → r ≡ reply.Number k → on_pipe w.frame e ≡ false → o ≢ e.entry.object) → Ending (write_answer w new b r g).world (sent w.frame pid (op.WriteFd fd new) (write_answer w new b r g).reply o end)
+  write_ending : (pid fd : ℕ) (new : List ℕ) (b : Option OpenFile) (r : Reply) (g : Frame) → behind w.frame pid fd ≡ b → ((e : OpenFile) (k : ℕ) → b ≡ Some e → r ≡ reply.Number k → on_pipe w.frame e ≡ false → o ≢ e.entry.object) → Ending (write_answer w new b r g).world (sent w.frame pid (op.WriteFd fd new) (write_answer w new b r g).reply o end)
   unfolding Ending write_answer plainly now
   write_ending pid fd new (Some e) (reply.Number k) g is file =
       rw is (end_more _ _ _ _ (end_carried w.frame g w.content o end) (wrote_end e new g (file e k refl refl)))
@@ -233,18 +233,18 @@ not_true : (b : Bool) → not b ≡ true → b ≡ false
 not_true false h = refl
 not_true true h = cc
 
-write_apart : (w : World) (place pid fd o : ℕ) (new : List ℕ) (t : Told) → PipesPast w.frame w.frame → first_pipe w.frame.fss ≤ o → (e : Behind) (k : ℕ) → behind w.frame pid fd ≡ Some e → (verdict t place pid (op.WriteFd fd new) w.frame).reply ≡ reply.Number k → on_pipe w.frame e ≡ false → o ≢ e.entry.object
+write_apart : (w : World) (place pid fd o : ℕ) (new : List ℕ) (t : LengthChecks) → PipesPast w.frame w.frame → first_pipe w.frame.fss ≤ o → (e : OpenFile) (k : ℕ) → behind w.frame pid fd ≡ Some e → (verdict t place pid (op.WriteFd fd new) w.frame).reply ≡ reply.Number k → on_pipe w.frame e ≡ false → o ≢ e.entry.object
 write_apart w place pid fd o new t past far e k is wrote_k file =
     let facts = wrote t place pid fd new w.frame k wrote_k in
     let same : facts.entry ≡ e = let h = facts.is_entry in cc in
-    let there : at w.frame.objects e.entry.object ≡ Some facts.object = ap (λ (b : Behind). at w.frame.objects b.entry.object) (sym same) ∙ facts.is_object in
+    let there : at w.frame.objects e.entry.object ≡ Some facts.object = ap (λ (b : OpenFile). at w.frame.objects b.entry.object) (sym same) ∙ facts.is_object in
     before_pipes w.frame o e.entry.object facts.object past far there (sym (ap (λ x. option_map_or is_pipe x false) there) ∙ file)
 
-cut_apart : (w : World) (place pid fd len o : ℕ) (t : Told) → PipesPast w.frame w.frame → first_pipe w.frame.fss ≤ o → (e : Behind) → behind w.frame pid fd ≡ Some e → (verdict t place pid (op.CutFd fd len) w.frame).reply ≡ reply.Done → o ≢ e.entry.object
+cut_apart : (w : World) (place pid fd len o : ℕ) (t : LengthChecks) → PipesPast w.frame w.frame → first_pipe w.frame.fss ≤ o → (e : OpenFile) → behind w.frame pid fd ≡ Some e → (verdict t place pid (op.CutFd fd len) w.frame).reply ≡ reply.Done → o ≢ e.entry.object
 cut_apart w place pid fd len o t past far e is done =
     let facts = was_cut t place pid fd len w.frame done in
     let same : facts.entry ≡ e = let h = facts.is_entry in cc in
-    let there : at w.frame.objects e.entry.object ≡ Some facts.object = ap (λ (b : Behind). at w.frame.objects b.entry.object) (sym same) ∙ facts.is_object in
+    let there : at w.frame.objects e.entry.object ≡ Some facts.object = ap (λ (b : OpenFile). at w.frame.objects b.entry.object) (sym same) ∙ facts.is_object in
     before_pipes w.frame o e.entry.object facts.object past far there (not_true (is_pipe facts.object) facts.no_pipe)
 
 -- what a pipe's end has after a call: the end of what it had and what was written to it

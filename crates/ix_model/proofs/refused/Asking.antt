@@ -6,7 +6,7 @@ use Rattle.ix_label.specs.Category.{Categories, leq}
 use Rattle.ix_model.specs.world.Naming.{PathOf}
 use Rattle.ix_model.specs.world.World.{Frame, Object, Process, at, put, change, living, lives, is_on}
 use Rattle.ix_model.specs.rows.Rows.{need, process, object, record_of, observe, affect}
-use Rattle.ix_model.specs.rows.Walks.{Sought, Behind, behind, behind_of, entry_at, walk, walk_from, join_all, walked_to, opened}
+use Rattle.ix_model.specs.rows.Walks.{Sought, OpenFile, behind, behind_of, entry_at, walk, walk_from, join_all, walked_to, opened}
 use Rattle.ix_model.specs.rows.Walks as sought
 use Rattle.ix_model.specs.rows.Auditing.{exercise, entitled, log_has_room}
 use Rattle.ix_model.specs.rows.OnDescriptors.{claimed}
@@ -190,7 +190,7 @@ module _ (f : Frame) (s : FrameSound f) (pid : ℕ) (alive : lives f pid ≡ tru
       at_entry q None lives is h = refl
       at_entry q (Some e) lives is h = stood (at f.opens e) (s.opens.descriptor pid q fd e lives is) h
         where
-          stood : (x : Option Rattle.ix_model.specs.world.World.Open) → is_some x ≡ true → option_map (λ y. let b : Behind = record { id = e; entry = y } in b) x ≡ None → is_some (Some e) ≡ false
+          stood : (x : Option Rattle.ix_model.specs.world.World.Open) → is_some x ≡ true → option_map (λ y. let b : OpenFile = record { id = e; entry = y } in b) x ≡ None → is_some (Some e) ≡ false
           stood None there h = cc
           stood (Some y) there h = cc
 
@@ -198,14 +198,14 @@ module _ (f : Frame) (s : FrameSound f) (pid : ℕ) (alive : lives f pid ≡ tru
       go None is h = refl
       go (Some q) is h = at_entry q (at q.fds fd) is refl h
 
-  stands_behind : (fd : ℕ) (e : Behind) → behind f pid fd ≡ Some e → Stands f e.entry.object
+  stands_behind : (fd : ℕ) (e : OpenFile) → behind f pid fd ≡ Some e → Stands f e.entry.object
   stands_behind fd e is = record { is = ap is_some (stands f e.id e.entry s.opens (behind_is f pid fd e is)).is_object }
 
-  pub ask_opened : (fd : ℕ) (P : Refusal → Frame → Type 0) (Q : Behind → Frame → Type 0) → (has_descriptor f pid fd ≡ false → P refusal.BadFd f) → ((e : Behind) → behind f pid fd ≡ Some e → Stands f e.entry.object → Q e f) → Ends (opened pid fd f) P Q
+  pub ask_opened : (fd : ℕ) (P : Refusal → Frame → Type 0) (Q : OpenFile → Frame → Type 0) → (has_descriptor f pid fd ≡ false → P refusal.BadFd f) → ((e : OpenFile) → behind f pid fd ≡ Some e → Stands f e.entry.object → Q e f) → Ends (opened pid fd f) P Q
   unfolding opened Ends Rattle.ix_model.specs.rows.Rows.some Rattle.ix_model.specs.rows.Rows.refuse Rattle.ix_model.specs.rows.Rows.pass
   ask_opened fd P Q refused next = ends_bind _ _ f P Q (ends_frame f P _ (go (behind f pid fd) refl))
     where
-      go : (b : Option Behind) → behind f pid fd ≡ b → Ends (Rattle.ix_model.specs.rows.Rows.some b refusal.BadFd f) P Q
+      go : (b : Option OpenFile) → behind f pid fd ≡ b → Ends (Rattle.ix_model.specs.rows.Rows.some b refusal.BadFd f) P Q
       go None is = refused (none_behind fd is)
       go (Some e) is = next e is (stands_behind fd e is)
 

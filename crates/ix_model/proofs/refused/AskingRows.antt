@@ -9,7 +9,7 @@ use Rattle.ix_model.specs.rows.Outcomes.{Outcome, Refuse, Pass}
 use Rattle.ix_model.specs.rows.Rows.{need, record_of}
 use Rattle.ix_model.specs.rows.Walks.{object_at, spot_at, missing}
 use Rattle.ix_model.specs.rows.OnPaths.{make, create_at, make_dir, open_at, link_at, unlink_at, remove_dir, change_dir, stat_at, list_at}
-use Rattle.ix_model.specs.rows.OnDescriptors.{Told, read_fd, write_fd, cut_fd, seek_fd, dup_fd, close_fd, make_pipe, pex, unpex}
+use Rattle.ix_model.specs.rows.OnDescriptors.{LengthChecks, read_fd, write_fd, cut_fd, seek_fd, dup_fd, close_fd, make_pipe, pex, unpex}
 use Rattle.ix_model.specs.rows.OnProcesses.{has_kept, is_child, fork, exec, exit, wait_child}
 use Rattle.ix_model.specs.rows.OnLabels.{label_of, self_label, set_label, set_self, freeze, freeze_self, thaw, thaw_self, set_priv, drop_lic, grant_lic, set_ceiling, read_log}
 use Rattle.ix_model.specs.rows.Table.{Decision, row, settled, verdict}
@@ -100,15 +100,15 @@ module _ (f : Frame) (s : FrameSound f) (pid : ℕ) (alive : lives f pid ≡ tru
   unfolding list_at object_at
   asks_list_at path index = search asking depth 80 fits 16000
 
-  asks_read_fd : (t : Told) (fd count : ℕ) → Asks (Some fd) None (read_fd t pid fd count f)
+  asks_read_fd : (t : LengthChecks) (fd count : ℕ) → Asks (Some fd) None (read_fd t pid fd count f)
   unfolding read_fd
   asks_read_fd t fd count = search (asking, ask_opened f s pid alive, no_descriptor) depth 80 fits 16000
 
-  asks_write_fd : (t : Told) (fd : ℕ) → Asks (Some fd) None (write_fd t pid fd f)
+  asks_write_fd : (t : LengthChecks) (fd : ℕ) → Asks (Some fd) None (write_fd t pid fd f)
   unfolding write_fd Ends
   asks_write_fd t fd = search (asking, ask_opened f s pid alive, no_descriptor) depth 80 fits 16000
 
-  asks_cut_fd : (t : Told) (fd len : ℕ) → Asks (Some fd) None (cut_fd t pid fd len f)
+  asks_cut_fd : (t : LengthChecks) (fd len : ℕ) → Asks (Some fd) None (cut_fd t pid fd len f)
   unfolding cut_fd
   asks_cut_fd t fd len = search (asking, ask_opened f s pid alive, no_descriptor) depth 80 fits 16000
 
@@ -225,7 +225,7 @@ module _ (f : Frame) (s : FrameSound f) (pid : ℕ) (alive : lives f pid ≡ tru
   asks_read_log place index = search asking depth 80 fits 16000
 
   -- ---- the table
-  pub asks_row : (t : Told) (place : ℕ) (c : Op) → Asks (descriptor_of c) (process_named c) (row t place pid c f)
+  pub asks_row : (t : LengthChecks) (place : ℕ) (c : Op) → Asks (descriptor_of c) (process_named c) (row t place pid c f)
   unfolding row create_at make_dir
   asks_row t place (op.CreateAt path) = asks_make path kind.File
   asks_row t place (op.OpenAt path mode) = asks_open_at path mode
@@ -286,7 +286,7 @@ settled_wants f pid c (Refuse why g) r h k is =
     subst (λ (x : Refusal). Wants f pid c x) same (lacking f pid c why h.is)
 settled_wants f pid c (Pass a g) r h k is = absurd (true≢false (sym k ∙ ap is_answer is))
 
-decided_wants : (t : Told) (place pid : ℕ) (c : Op) (f : Frame) (r : Refusal) → FrameSound f → (verdict t place pid c f).reply ≡ reply.No r → Wants f pid c r
+decided_wants : (t : LengthChecks) (place pid : ℕ) (c : Op) (f : Frame) (r : Refusal) → FrameSound f → (verdict t place pid c f).reply ≡ reply.No r → Wants f pid c r
 unfolding verdict
 decided_wants t place pid c f r s is = go (lives f pid) refl is
   where
@@ -303,7 +303,7 @@ decided_wants t place pid c f r s is = go (lives f pid) refl is
 step_wants : (w : World) (place pid : ℕ) (c : Op) (r : Refusal) → Sound w → (step w place pid c).reply ≡ reply.No r → Wants w.frame pid c r
 unfolding step
 step_wants w place pid c r s is =
-    let t : Told = told w pid c in
+    let t : LengthChecks = told w pid c in
     let plain = plain_answer w pid c (verdict t place pid c w.frame) r (λ refused. ap (λ (f : Frame). f.objects) (decided_frames t place pid c w.frame r refused).relabelled.is) is in
     decided_wants t place pid c w.frame r (frame_of w s) plain.reply
 

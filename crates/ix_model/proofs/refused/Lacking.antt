@@ -3,8 +3,8 @@ use Rattle.std.specs.Option.{option_map_or}
 use Rattle.std.proofs.Common.{◌≡◌, ◌&&◌, ℕ, Bool, true, false, not, true≢false, Option, Some, None, is_some, refl, sym, ap, ◌∙◌, if◌then◌else◌}
 use Rattle.ix_model.specs.world.World.{Frame, World, Process, at, living, lives}
 use Rattle.ix_model.specs.rows.Rows.{◌>>=◌, on_pass, frame, some, refuse, process}
-use Rattle.ix_model.specs.rows.Walks.{Behind, behind, behind_of, entry_at, opened}
-use Rattle.ix_model.specs.rows.OnDescriptors.{Told, read_fd, write_fd, cut_fd, seek_fd, dup_fd, close_fd, pex, unpex}
+use Rattle.ix_model.specs.rows.Walks.{OpenFile, behind, behind_of, entry_at, opened}
+use Rattle.ix_model.specs.rows.OnDescriptors.{LengthChecks, read_fd, write_fd, cut_fd, seek_fd, dup_fd, close_fd, pex, unpex}
 use Rattle.ix_model.specs.rows.OnProcesses.{fork}
 use Rattle.ix_model.specs.rows.OnLabels.{grant_lic, set_ceiling}
 use Rattle.ix_model.specs.rows.Table.{Decision, row, verdict}
@@ -46,19 +46,19 @@ module _ (f : Frame) (pid fd : ℕ) (gone : has_descriptor f pid fd ≡ false) w
       go None h = refl
       go (Some q) h = no_entry (at q.fds fd) h
 
-  refused : (Q : Behind → Frame → Type 0) → Ends (opened pid fd f) bad_fd Q
+  refused : (Q : OpenFile → Frame → Type 0) → Ends (opened pid fd f) bad_fd Q
   unfolding opened ◌>>=◌ on_pass frame some refuse Ends bad_fd
   refused Q = rw none_behind refl
 
-  no_read : (t : Told) (count : ℕ) → Ends (read_fd t pid fd count f) bad_fd never
+  no_read : (t : LengthChecks) (count : ℕ) → Ends (read_fd t pid fd count f) bad_fd never
   unfolding read_fd
   no_read t count = ends_bind _ _ f bad_fd never (refused _)
 
-  no_write : (t : Told) → Ends (write_fd t pid fd f) bad_fd never
+  no_write : (t : LengthChecks) → Ends (write_fd t pid fd f) bad_fd never
   unfolding write_fd
   no_write t = ends_bind _ _ f bad_fd never (refused _)
 
-  no_cut : (t : Told) (len : ℕ) → Ends (cut_fd t pid fd len f) bad_fd never
+  no_cut : (t : LengthChecks) (len : ℕ) → Ends (cut_fd t pid fd len f) bad_fd never
   unfolding cut_fd
   no_cut t len = ends_bind _ _ f bad_fd never (refused _)
 
@@ -114,27 +114,27 @@ refused_answer : (w : World) (pid : ℕ) (c : Op) (r : Refusal) (g : Frame) → 
 unfolding answer plainly read_answer write_answer cut_answer seek_answer stat_answer exit_answer wait_answer pex_answer
 refused_answer w pid (op.ReadFd fd count) r g = go (behind w.frame pid fd)
   where
-    go : (b : Option Behind) → (read_answer w count b (reply.No r) g).reply ≡ reply.No r
+    go : (b : Option OpenFile) → (read_answer w count b (reply.No r) g).reply ≡ reply.No r
     go None = refl
     go (Some e) = refl
 refused_answer w pid (op.WriteFd fd bytes) r g = go (behind w.frame pid fd)
   where
-    go : (b : Option Behind) → (write_answer w bytes b (reply.No r) g).reply ≡ reply.No r
+    go : (b : Option OpenFile) → (write_answer w bytes b (reply.No r) g).reply ≡ reply.No r
     go None = refl
     go (Some e) = refl
 refused_answer w pid (op.CutFd fd len) r g = go (behind w.frame pid fd)
   where
-    go : (b : Option Behind) → (cut_answer w len b (reply.No r) g).reply ≡ reply.No r
+    go : (b : Option OpenFile) → (cut_answer w len b (reply.No r) g).reply ≡ reply.No r
     go None = refl
     go (Some e) = refl
 refused_answer w pid (op.SeekFd fd offset) r g = go (behind w.frame pid fd)
   where
-    go : (b : Option Behind) → (seek_answer w offset b (reply.No r) g).reply ≡ reply.No r
+    go : (b : Option OpenFile) → (seek_answer w offset b (reply.No r) g).reply ≡ reply.No r
     go None = refl
     go (Some e) = refl
 refused_answer w pid (op.Pex fd) r g = go (behind w.frame pid fd)
   where
-    go : (b : Option Behind) → (pex_answer w b (reply.No r) g).reply ≡ reply.No r
+    go : (b : Option OpenFile) → (pex_answer w b (reply.No r) g).reply ≡ reply.No r
     go None = refl
     go (Some e) = refl
 refused_answer w pid _ r g = refl
@@ -168,7 +168,7 @@ module _ (w : World) (s : Sound w) (place pid : ℕ) (alive : lives w.frame pid 
   target_gone (op.SetCeiling target now) gone = stops_as (op.SetCeiling target now) refusal.NoProcess (ends_bind _ _ w.frame no_process never (dead w.frame target _ gone))
   target_gone _ gone = absurd (true≢false gone)
 
-nobody : (t : Told) (place pid : ℕ) (c : Op) (f : Frame) → lives f pid ≡ false → (verdict t place pid c f).reply ≡ reply.No refusal.NoProcess
+nobody : (t : LengthChecks) (place pid : ℕ) (c : Op) (f : Frame) → lives f pid ≡ false → (verdict t place pid c f).reply ≡ reply.No refusal.NoProcess
 unfolding verdict
 nobody t place pid c f gone = rw gone refl
 

@@ -1,7 +1,7 @@
 -- What a refused step leaves: the world but for the caller's label, joined with what the call had looked at.
 use Rattle.std.proofs.Common.{◌≡◌, ℕ, ap, sym, ◌∙◌, subst}
 use Rattle.ix_model.specs.world.World.{Frame, World}
-use Rattle.ix_model.specs.rows.OnDescriptors.{Told}
+use Rattle.ix_model.specs.rows.OnDescriptors.{LengthChecks}
 use Rattle.ix_model.specs.rows.Table.{Decision, verdict}
 use Rattle.ix_model.specs.rows.Telling.{told}
 use Rattle.ix_model.specs.history.Step.{step}
@@ -17,7 +17,7 @@ use Rattle.ix_model.proofs.clean.Carrying.{carried_same}
 pub refused_step : (w : World) (place pid : ℕ) (c : Op) (r : Refusal) → (step w place pid c).reply ≡ reply.No r → Refused w pid c r (step w place pid c).world
 unfolding step
 refused_step w place pid c r is =
-    let t : Told = told w pid c in
+    let t : LengthChecks = told w pid c in
     let d : Decision = verdict t place pid c w.frame in
     let plain = plain_answer w pid c d r (λ refused. ap (λ (f : Frame). f.objects) (decided_frames t place pid c w.frame r refused).relabelled.is) is in
     let frames = decided_frames t place pid c w.frame r plain.reply in

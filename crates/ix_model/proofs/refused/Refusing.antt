@@ -6,9 +6,9 @@ use Rattle.ix_model.specs.rows.Refusals.{keeps_label}
 use Rattle.ix_model.specs.world.World.{Frame, World, Process, at, change, lives}
 use Rattle.ix_model.specs.rows.Outcomes.{Row, Outcome, Refuse, Pass}
 use Rattle.ix_model.specs.rows.Rows.{observe}
-use Rattle.ix_model.specs.rows.Walks.{Sought, Behind, behind, object_at, spot_at, missing, walked_to}
+use Rattle.ix_model.specs.rows.Walks.{Sought, OpenFile, behind, object_at, spot_at, missing, walked_to}
 use Rattle.ix_model.specs.rows.OnPaths.{make, create_at, make_dir, open_at, link_at, unlink_at, remove_dir, change_dir, stat_at, list_at}
-use Rattle.ix_model.specs.rows.OnDescriptors.{Told, read_fd, write_fd, cut_fd, seek_fd, dup_fd, close_fd, make_pipe, claimed, pex, unpex}
+use Rattle.ix_model.specs.rows.OnDescriptors.{LengthChecks, read_fd, write_fd, cut_fd, seek_fd, dup_fd, close_fd, make_pipe, claimed, pex, unpex}
 use Rattle.ix_model.specs.rows.OnProcesses.{fork, exec, exit, wait_child}
 use Rattle.ix_model.specs.rows.OnLabels.{label_of, self_label, set_label, set_self, freeze, freeze_self, thaw, thaw_self, set_priv, drop_lic, grant_lic, set_ceiling, read_log}
 use Rattle.ix_model.specs.rows.Table.{Decision, verdict, settled, row}
@@ -141,15 +141,15 @@ module _ (pid : ℕ) (f : Frame) where
   unfolding list_at object_at
   relabels_list_at path index = search refusing depth 80 fits 16000
 
-  relabels_read_fd : (t : Told) (fd count : ℕ) → Relabels is_answer pid f (read_fd t pid fd count f)
+  relabels_read_fd : (t : LengthChecks) (fd count : ℕ) → Relabels is_answer pid f (read_fd t pid fd count f)
   unfolding read_fd
   relabels_read_fd t fd count = search refusing depth 80 fits 16000
 
-  relabels_write_fd : (t : Told) (fd : ℕ) → Relabels is_bare pid f (write_fd t pid fd f)
+  relabels_write_fd : (t : LengthChecks) (fd : ℕ) → Relabels is_bare pid f (write_fd t pid fd f)
   unfolding write_fd
   relabels_write_fd t fd = search refusing depth 80 fits 16000
 
-  relabels_cut_fd : (t : Told) (fd len : ℕ) → Relabels is_bare pid f (cut_fd t pid fd len f)
+  relabels_cut_fd : (t : LengthChecks) (fd len : ℕ) → Relabels is_bare pid f (cut_fd t pid fd len f)
   unfolding cut_fd
   relabels_cut_fd t fd len = search refusing depth 80 fits 16000
 
@@ -245,7 +245,7 @@ module _ (pid : ℕ) (f : Frame) where
   unfolding read_log
   relabels_read_log place index = search refusing depth 80 fits 16000
 
-  pub relabels_row : (t : Told) (place : ℕ) (c : Op) → Relabels (answer_of c) pid f (row t place pid c f)
+  pub relabels_row : (t : LengthChecks) (place : ℕ) (c : Op) → Relabels (answer_of c) pid f (row t place pid c f)
   unfolding row create_at make_dir
   relabels_row t place (op.CreateAt path) = relabels_make path kind.File
   relabels_row t place (op.OpenAt path mode) = relabels_open_at path mode
@@ -288,7 +288,7 @@ answers_of (op.ReadFd fd count) a h = h
 answers_of c a h = bare_answers a h
 
 -- no row passes a refusal
-pub refusing_row : (t : Told) (place pid : ℕ) (c : Op) (f : Frame) → Relabels is_answer pid f (row t place pid c f)
+pub refusing_row : (t : LengthChecks) (place pid : ℕ) (c : Op) (f : Frame) → Relabels is_answer pid f (row t place pid c f)
 refusing_row t place pid c f = ends_more (row t place pid c f) (λ r g. Relabelled pid f g) (λ a g. answer_of c a ≡ true) (λ a g. is_answer a ≡ true) (relabels_row pid f t place c) (λ a g h. answers_of c a h)
 
 -- ---- the decision
@@ -311,7 +311,7 @@ settled_frames pid f (Refuse why g) r h is =
     subst (λ (x : Refusal). Frames pid f x (if keeps_label why then g else f)) same (frames_of pid f g why h)
 settled_frames pid f (Pass a g) r h is = absurd (true≢false (sym h ∙ ap is_answer is))
 
-pub decided_frames : (t : Told) (place pid : ℕ) (c : Op) (f : Frame) (r : Refusal) → (verdict t place pid c f).reply ≡ reply.No r → Frames pid f r (verdict t place pid c f).frame
+pub decided_frames : (t : LengthChecks) (place pid : ℕ) (c : Op) (f : Frame) (r : Refusal) → (verdict t place pid c f).reply ≡ reply.No r → Frames pid f r (verdict t place pid c f).frame
 unfolding verdict
 decided_frames t place pid c f r is = go (lives f pid) is
   where
@@ -328,22 +328,22 @@ pub record Plain (w : World) (d : Decision) (r : Refusal) (v : World) : Type 0 w
   pub world : v ≡ record { frame = d.frame; content = carried w.frame d.frame w.content }
   pub reply : d.reply ≡ reply.No r
 
-plain_read : (w : World) (count : ℕ) (b : Option Behind) (a : Reply) (g : Frame) (r : Refusal) → (read_answer w count b a g).reply ≡ reply.No r → Plain w (record { reply = a; frame = g }) r (read_answer w count b a g).world
+plain_read : (w : World) (count : ℕ) (b : Option OpenFile) (a : Reply) (g : Frame) (r : Refusal) → (read_answer w count b a g).reply ≡ reply.No r → Plain w (record { reply = a; frame = g }) r (read_answer w count b a g).world
 unfolding read_answer plainly
 plain_read w count (Some e) (reply.Bytes k) g r is = cc
 plain_read w count _ _ g r is = record { world = refl; reply = is }
 
-plain_write : (w : World) (new : List ℕ) (b : Option Behind) (a : Reply) (g : Frame) (r : Refusal) → (write_answer w new b a g).reply ≡ reply.No r → Plain w (record { reply = a; frame = g }) r (write_answer w new b a g).world
+plain_write : (w : World) (new : List ℕ) (b : Option OpenFile) (a : Reply) (g : Frame) (r : Refusal) → (write_answer w new b a g).reply ≡ reply.No r → Plain w (record { reply = a; frame = g }) r (write_answer w new b a g).world
 unfolding write_answer plainly
 plain_write w new (Some e) (reply.Number k) g r is = cc
 plain_write w new _ _ g r is = record { world = refl; reply = is }
 
-plain_cut : (w : World) (len : ℕ) (b : Option Behind) (a : Reply) (g : Frame) (r : Refusal) → (cut_answer w len b a g).reply ≡ reply.No r → Plain w (record { reply = a; frame = g }) r (cut_answer w len b a g).world
+plain_cut : (w : World) (len : ℕ) (b : Option OpenFile) (a : Reply) (g : Frame) (r : Refusal) → (cut_answer w len b a g).reply ≡ reply.No r → Plain w (record { reply = a; frame = g }) r (cut_answer w len b a g).world
 unfolding cut_answer plainly
 plain_cut w len (Some e) reply.Done g r is = cc
 plain_cut w len _ _ g r is = record { world = refl; reply = is }
 
-plain_seek : (w : World) (offset : ℕ) (b : Option Behind) (a : Reply) (g : Frame) (r : Refusal) → (seek_answer w offset b a g).reply ≡ reply.No r → Plain w (record { reply = a; frame = g }) r (seek_answer w offset b a g).world
+plain_seek : (w : World) (offset : ℕ) (b : Option OpenFile) (a : Reply) (g : Frame) (r : Refusal) → (seek_answer w offset b a g).reply ≡ reply.No r → Plain w (record { reply = a; frame = g }) r (seek_answer w offset b a g).world
 unfolding seek_answer plainly
 plain_seek w offset (Some e) reply.Done g r is = cc
 plain_seek w offset _ _ g r is = record { world = refl; reply = is }
@@ -368,14 +368,14 @@ and_not true = refl
 and_not false = refl
 
 -- a path is whole where it was, so nothing is emptied
-plain_pex : (w : World) (b : Option Behind) (a : Reply) (g : Frame) (r : Refusal) → g.objects ≡ w.frame.objects → a ≡ reply.No r → Plain w (record { reply = a; frame = g }) r (pex_answer w b a g).world
+plain_pex : (w : World) (b : Option OpenFile) (a : Reply) (g : Frame) (r : Refusal) → g.objects ≡ w.frame.objects → a ≡ reply.No r → Plain w (record { reply = a; frame = g }) r (pex_answer w b a g).world
 unfolding pex_answer plainly
 plain_pex w None a g r same is = record { world = refl; reply = is }
 plain_pex w (Some e) a g r same is =
     let stays : (is_whole g e.entry.object && not (is_whole w.frame e.entry.object)) ≡ false = ap (λ t. is_whole (record g { objects = t }) e.entry.object && not (is_whole w.frame e.entry.object)) same ∙ and_not (is_whole w.frame e.entry.object) in
     record { world = rw stays refl; reply = is }
 
-pex_reply : (w : World) (b : Option Behind) (a : Reply) (g : Frame) → (pex_answer w b a g).reply ≡ a
+pex_reply : (w : World) (b : Option OpenFile) (a : Reply) (g : Frame) → (pex_answer w b a g).reply ≡ a
 unfolding pex_answer plainly
 pex_reply w None a g = refl
 pex_reply w (Some e) a g = refl

@@ -7,10 +7,10 @@ use Rattle.ix_model.specs.rows.Refusals.{keeps_label}
 use Rattle.ix_model.specs.world.World.{Frame, Object, at, lives}
 use Rattle.ix_model.specs.rows.Outcomes.{Outcome, Refuse, Pass}
 use Rattle.ix_model.specs.rows.Rows.{observe}
-use Rattle.ix_model.specs.rows.Walks.{Behind, behind, object_at, spot_at, missing}
+use Rattle.ix_model.specs.rows.Walks.{OpenFile, behind, object_at, spot_at, missing}
 use Rattle.ix_model.specs.rows.Auditing.{exercise, entitled, log_has_room}
 use Rattle.ix_model.specs.rows.OnPaths.{make, create_at, make_dir, open_at, link_at, unlink_at, remove_dir, change_dir, stat_at, list_at}
-use Rattle.ix_model.specs.rows.OnDescriptors.{Told, read_fd, write_fd, cut_fd, seek_fd, dup_fd, close_fd, make_pipe, claimed, pex, unpex}
+use Rattle.ix_model.specs.rows.OnDescriptors.{LengthChecks, read_fd, write_fd, cut_fd, seek_fd, dup_fd, close_fd, make_pipe, claimed, pex, unpex}
 use Rattle.ix_model.specs.rows.OnProcesses.{fork, exec, exit, wait_child}
 use Rattle.ix_model.specs.rows.OnLabels.{allowed, movable, label_of, self_label, set_label, set_self, freeze, freeze_self, thaw, thaw_self, set_priv, drop_lic, grant_lic, set_ceiling, read_log}
 use Rattle.ix_model.specs.rows.Table.{Decision, row, settled, verdict}
@@ -151,12 +151,12 @@ module _ (pid : ℕ) (f : Frame) (start : Seen pid f bottom f) where
 
   -- the label of the pipe behind a descriptor, with that of its open entry
   read_label : ℕ → Categories
-  read_label fd = option_map_or (λ (e : Behind). join (label_at f (Some e.entry.object)) e.entry.label) (behind f pid fd) bottom
+  read_label fd = option_map_or (λ (e : OpenFile). join (label_at f (Some e.entry.object)) e.entry.label) (behind f pid fd) bottom
 
-  look_behind : (fd : ℕ) (s : Categories) (e : Behind) (x : Object) (g : Frame) (P : Refusal → Frame → Type 0) (Q : Unit {0} → Frame → Type 0) → Seen pid f s g → behind f pid fd ≡ Some e → at g.objects e.entry.object ≡ Some x → ((r : Refusal) (h : Frame) → keeps_label r ≡ false → P r h) → ((h : Frame) → Seen pid f (join s (read_label fd)) h → Q tt h) → Ends (observe pid (join x.label e.entry.label) g) P Q
+  look_behind : (fd : ℕ) (s : Categories) (e : OpenFile) (x : Object) (g : Frame) (P : Refusal → Frame → Type 0) (Q : Unit {0} → Frame → Type 0) → Seen pid f s g → behind f pid fd ≡ Some e → at g.objects e.entry.object ≡ Some x → ((r : Refusal) (h : Frame) → keeps_label r ≡ false → P r h) → ((h : Frame) → Seen pid f (join s (read_label fd)) h → Q tt h) → Ends (observe pid (join x.label e.entry.label) g) P Q
   unfolding read_label
   look_behind fd s e x g P Q r leads is refused next =
-      let met : read_label fd ≡ join x.label e.entry.label = ap (λ b. option_map_or (λ (e : Behind). join (label_at f (Some e.entry.object)) e.entry.label) b bottom) leads ∙ (λ i. join (label_there s g (Some e.entry.object) e.entry.object x r refl is i) e.entry.label) in
+      let met : read_label fd ≡ join x.label e.entry.label = ap (λ b. option_map_or (λ (e : OpenFile). join (label_at f (Some e.entry.object)) e.entry.label) b bottom) leads ∙ (λ i. join (label_there s g (Some e.entry.object) e.entry.object x r refl is i) e.entry.label) in
       ends_seen pid f s (join x.label e.entry.label) g P Q r refused (λ h there. next h (subst (λ (l : Categories). Seen pid f (join s l) h) (sym met) there))
 
   abbrev besides : PathOf → Categories
@@ -185,16 +185,16 @@ module _ (pid : ℕ) (f : Frame) (start : Seen pid f bottom f) where
   unfolding list_at object_at
   sees_list_at path index = search (seeing_besides, look_at_path path) depth 80 fits 16000
 
-  sees_read_fd : (t : Told) (fd count : ℕ) → Sees (in_read fd) (read_fd t pid fd count f)
+  sees_read_fd : (t : LengthChecks) (fd count : ℕ) → Sees (in_read fd) (read_fd t pid fd count f)
   unfolding read_fd
   sees_read_fd t fd count = search (seeing_besides, look_behind fd) depth 80 fits 16000
 
   -- ---- the other rows
-  sees_write_fd : (t : Told) (fd : ℕ) → Sees none (write_fd t pid fd f)
+  sees_write_fd : (t : LengthChecks) (fd : ℕ) → Sees none (write_fd t pid fd f)
   unfolding write_fd
   sees_write_fd t fd = search seeing depth 80 fits 16000
 
-  sees_cut_fd : (t : Told) (fd len : ℕ) → Sees none (cut_fd t pid fd len f)
+  sees_cut_fd : (t : LengthChecks) (fd len : ℕ) → Sees none (cut_fd t pid fd len f)
   unfolding cut_fd
   sees_cut_fd t fd len = search seeing depth 80 fits 16000
 
@@ -303,7 +303,7 @@ module _ (pid : ℕ) (f : Frame) (start : Seen pid f bottom f) where
   with_none : (o : Outcome Reply) → Sees none o → Sees (λ r. join bottom bottom) o
   with_none o h = said none _ o tells_none h
 
-  pub sees_row : (t : Told) (place : ℕ) (c : Op) → Sees (looked_at f pid c) (row t place pid c f)
+  pub sees_row : (t : LengthChecks) (place : ℕ) (c : Op) → Sees (looked_at f pid c) (row t place pid c f)
   unfolding row create_at make_dir
   sees_row t place (op.CreateAt path) = with_one path _ (sees_make path kind.File)
   sees_row t place (op.OpenAt path mode) = with_one path _ (sees_open_at path mode)
@@ -356,7 +356,7 @@ unfolding Ends
 both_end (Refuse r g) P P2 Q h k = h
 both_end (Pass a g) P P2 Q h k = k
 
-pub decided_seen : (t : Told) (place pid : ℕ) (c : Op) (f : Frame) (r : Refusal) → (verdict t place pid c f).reply ≡ reply.No r → keeps_label r ≡ true → Seen pid f (looked_at f pid c r) (verdict t place pid c f).frame
+pub decided_seen : (t : LengthChecks) (place pid : ℕ) (c : Op) (f : Frame) (r : Refusal) → (verdict t place pid c f).reply ≡ reply.No r → keeps_label r ≡ true → Seen pid f (looked_at f pid c r) (verdict t place pid c f).frame
 unfolding verdict
 decided_seen t place pid c f r is keeps = go (lives f pid) is
   where

@@ -9,7 +9,7 @@ use Rattle.ix_label.specs.Category.{leq}
 use Rattle.ix_model.specs.world.World.{Frame, Process, at, put, change, living, lives, is_on}
 use Rattle.ix_model.specs.world.Owners.{is_at}
 use Rattle.ix_model.specs.rows.Rows.{pass}
-use Rattle.ix_model.specs.rows.Walks.{Behind, behind, behind_of, entry_at}
+use Rattle.ix_model.specs.rows.Walks.{OpenFile, behind, behind_of, entry_at}
 use Rattle.ix_model.specs.rows.Lifetimes.{let_go, let_go_if_held, let_go_each, let_go_all}
 use Rattle.ix_model.specs.rows.OnDescriptors.{close_fd}
 use Rattle.ix_model.specs.rows.OnProcesses.{is_child, remains, end_process, exit}
@@ -54,7 +54,7 @@ descriptor_stands : (g : Frame) (s : FrameSound g) (pid fd e : ℕ) (q : Process
 unfolding behind
 descriptor_stands g s pid fd e q lives is =
     let x = passes_some is_some refl (at g.opens e) (s.opens.descriptor pid q fd e lives is) in
-    ap (λ p. is_some (behind_of p g fd)) lives ∙ ap (λ d. is_some (entry_at g d)) is ∙ ap (λ o. is_some (option_map (λ y. let b : Behind = record { id = e; entry = y } in b) o)) x.1
+    ap (λ p. is_some (behind_of p g fd)) lives ∙ ap (λ d. is_some (entry_at g d)) is ∙ ap (λ o. is_some (option_map (λ y. let b : OpenFile = record { id = e; entry = y } in b) o)) x.1
 
 module _ (base : Frame) (pid : ℕ) where
   abbrev take : ℕ → Process → Process
@@ -90,7 +90,7 @@ module _ (base : Frame) (pid : ℕ) where
     unfolding let_go_if_held
     ends_if_held fd rest g Q l next = go (behind g pid fd) refl
       where
-        go : (b : Option Behind) → behind g pid fd ≡ b → Ends (option_map_or (let_go pid fd) b (pass tt) g) P Q
+        go : (b : Option OpenFile) → behind g pid fd ≡ b → Ends (option_map_or (let_go pid fd) b (pass tt) g) P Q
         go None is = ends_pass tt g P Q (next g (had_none fd rest g l is))
         go (Some e) is = descriptor_released base P Q g pid fd e is l.follows (λ h k same. next h (gave_up fd rest g h l k same))
 

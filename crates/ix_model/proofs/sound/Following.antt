@@ -1,7 +1,7 @@
 -- The row of every call leaves a sound frame.
 use Rattle.std.proofs.Common.{◌≡◌, ℕ, Bool, true, false, refl, if◌then◌else◌}
 use Rattle.ix_model.specs.world.World.{Frame, lives}
-use Rattle.ix_model.specs.rows.OnDescriptors.{Told}
+use Rattle.ix_model.specs.rows.OnDescriptors.{LengthChecks}
 use Rattle.ix_model.specs.rows.Table.{Decision, row, settled, verdict}
 use Rattle.ix_model.specs.history.Events.{Op}
 use Rattle.ix_model.specs.history.Events as op
@@ -22,7 +22,7 @@ use Rattle.ix_model.proofs.frames.Retired.{wait_child_ends}
 use Rattle.ix_model.proofs.sound.Closing.{close_fd_ends, exit_ends}
 
 module _ (f : Frame) (s : FrameSound f) where
-  row_follows : (t : Told) (place pid : ℕ) (c : Op) → lives f pid ≡ true → Holds (row t place pid c f) (Follows f)
+  row_follows : (t : LengthChecks) (place pid : ℕ) (c : Op) → lives f pid ≡ true → Holds (row t place pid c f) (Follows f)
   unfolding row
   row_follows t place pid (op.CreateAt path) alive = kept_ends (Follows f) _ (create_at_ends f s pid path)
   row_follows t place pid (op.OpenAt path mode) alive = kept_ends (Follows f) _ (open_at_ends f s pid path mode)
@@ -61,7 +61,7 @@ module _ (f : Frame) (s : FrameSound f) where
   row_follows t place pid (op.ReadLog index) alive = kept_ends (Follows f) _ (read_log_ends f place pid index f (follows_itself f s))
 
   -- what is decided leaves a sound frame
-  pub follows_decided : (t : Told) (place pid : ℕ) (c : Op) → Follows f (verdict t place pid c f).frame
+  pub follows_decided : (t : LengthChecks) (place pid : ℕ) (c : Op) → Follows f (verdict t place pid c f).frame
   unfolding verdict
   follows_decided t place pid c = go (lives f pid) refl
     where

@@ -2,7 +2,7 @@
 use Rattle.std.proofs.Common.{◌≡◌, ◌-◌, ◌++◌, ℕ, Bool, true, false, true≢false, List, [], length, take, drop, Option, Some, None, is_some, refl, sym, ap, ◌∙◌, ◌&&◌, if◌then◌else◌, slice_set, ◌+◌}
 use Rattle.std.proofs.lemmas.Bool.{and_parts, not-true}
 use Rattle.ix_model.specs.world.World.{World, Frame, Content, Object, Holding, at, is_dir, is_pipe, is_ended}
-use Rattle.ix_model.specs.rows.Walks.{Behind, behind}
+use Rattle.ix_model.specs.rows.Walks.{OpenFile, behind}
 use Rattle.ix_model.specs.world.Contents.{carried, holding_of, offset_of, holds_nothing, side, with_side, change_side, on_pipe, readable, after_read, after_write, after_cut, after_seek, after_exit, emptied, spliced, cut_to}
 use Rattle.ix_model.specs.history.Step.{plainly, read_answer, write_answer, cut_answer, seek_answer, stat_answer, exit_answer, wait_answer, pex_answer, answer, step}
 use Rattle.ix_model.specs.rows.Table.{verdict}
@@ -73,17 +73,17 @@ module _ (w : World) (g : Frame) (k : Kinds w.frame.objects g.objects) (r : Hold
       }
 
   -- the object behind a descriptor: a pipe, or a file at end 0
-  at_a_pipe : (e : Behind) (end : ℕ) → Standing w.frame e.entry → on_pipe w.frame e ≡ true → (x : Object) → at g.objects e.entry.object ≡ Some x → (is_dir x ≡ false) × (is_pipe x ≡ false → end ≡ 0)
+  at_a_pipe : (e : OpenFile) (end : ℕ) → Standing w.frame e.entry → on_pipe w.frame e ≡ true → (x : Object) → at g.objects e.entry.object ≡ Some x → (is_dir x ≡ false) × (is_pipe x ≡ false → end ≡ 0)
   at_a_pipe e end s on x is =
       let pipe : is_pipe x ≡ true = (k.same _ s.object x s.is_object is).pipe ∙ sym (on_pipe_is w.frame e s) ∙ on in
       (other_kind x pipe, λ other. absurd (true≢false (sym pipe ∙ other)))
 
-  at_a_file : (e : Behind) → Standing w.frame e.entry → (x : Object) → at g.objects e.entry.object ≡ Some x → (is_dir x ≡ false) × (is_pipe x ≡ false → e.entry.end ≡ 0)
+  at_a_file : (e : OpenFile) → Standing w.frame e.entry → (x : Object) → at g.objects e.entry.object ≡ Some x → (is_dir x ≡ false) × (is_pipe x ≡ false → e.entry.end ≡ 0)
   at_a_file e s x is =
       let same = k.same _ s.object x s.is_object is in
       (same.dir ∙ not-true _ s.no_dir, λ other. s.at_end (sym same.pipe ∙ other))
 
-  holds_read : (count : ℕ) (b : Option Behind) (a : Reply) → ((e : Behind) → b ≡ Some e → Standing w.frame e.entry) → Holds g (read_answer w count b a g).world.content
+  holds_read : (count : ℕ) (b : Option OpenFile) (a : Reply) → ((e : OpenFile) → b ≡ Some e → Standing w.frame e.entry) → Holds g (read_answer w count b a g).world.content
   unfolding read_answer plainly after_read
   holds_read count (Some e) (reply.Bytes n) there = go (on_pipe w.frame e) refl
     where
@@ -95,7 +95,7 @@ module _ (w : World) (g : Frame) (k : Kinds w.frame.objects g.objects) (r : Hold
       go false on = record { directory = holds_plain.directory; second = holds_plain.second }
   holds_read count _ _ there = holds_plain
 
-  holds_write : (new : List ℕ) (b : Option Behind) (a : Reply) → ((e : Behind) → b ≡ Some e → Standing w.frame e.entry) → Holds g (write_answer w new b a g).world.content
+  holds_write : (new : List ℕ) (b : Option OpenFile) (a : Reply) → ((e : OpenFile) → b ≡ Some e → Standing w.frame e.entry) → Holds g (write_answer w new b a g).world.content
   unfolding write_answer plainly after_write
   holds_write new (Some e) (reply.Number n) there = go (on_pipe w.frame e) refl
     where
@@ -109,12 +109,12 @@ module _ (w : World) (g : Frame) (k : Kinds w.frame.objects g.objects) (r : Hold
           record { directory = s.directory; second = s.second }
   holds_write new _ _ there = holds_plain
 
-  holds_cut : (len : ℕ) (b : Option Behind) (a : Reply) → ((e : Behind) → b ≡ Some e → Standing w.frame e.entry) → Holds g (cut_answer w len b a g).world.content
+  holds_cut : (len : ℕ) (b : Option OpenFile) (a : Reply) → ((e : OpenFile) → b ≡ Some e → Standing w.frame e.entry) → Holds g (cut_answer w len b a g).world.content
   unfolding cut_answer plainly after_cut
   holds_cut len (Some e) reply.Done there = side_changed g _ e.entry.object e.entry.end (cut_to len) (at_a_file e (there e refl)) holds_plain
   holds_cut len _ _ there = holds_plain
 
-  holds_seek : (offset : ℕ) (b : Option Behind) (a : Reply) → Holds g (seek_answer w offset b a g).world.content
+  holds_seek : (offset : ℕ) (b : Option OpenFile) (a : Reply) → Holds g (seek_answer w offset b a g).world.content
   unfolding seek_answer plainly after_seek
   holds_seek offset (Some e) reply.Done = record { directory = holds_plain.directory; second = holds_plain.second }
   holds_seek offset _ _ = holds_plain
@@ -142,7 +142,7 @@ module _ (w : World) (g : Frame) (k : Kinds w.frame.objects g.objects) (r : Hold
   either_emptied true o = emptied_holds g _ o holds_plain
   either_emptied false o = holds_plain
 
-  holds_pex : (b : Option Behind) (a : Reply) → Holds g (pex_answer w b a g).world.content
+  holds_pex : (b : Option OpenFile) (a : Reply) → Holds g (pex_answer w b a g).world.content
   unfolding pex_answer plainly
   holds_pex (Some e) a = either_emptied _ e.entry.object
   holds_pex None a = holds_plain
@@ -155,7 +155,7 @@ module _ (w : World) (s : Sound w) where
   kinds : (place pid : ℕ) (c : Op) → Kinds w.frame.objects (verdict (told w pid c) place pid c w.frame).frame.objects
   kinds place pid c = (follows_decided w.frame (frame_of w s) (told w pid c) place pid c).kinds
 
-  behind_stands : (pid fd : ℕ) (e : Behind) → behind w.frame pid fd ≡ Some e → Standing w.frame e.entry
+  behind_stands : (pid fd : ℕ) (e : OpenFile) → behind w.frame pid fd ≡ Some e → Standing w.frame e.entry
   behind_stands pid fd e is = stands w.frame e.id e.entry s.opens (behind_is w.frame pid fd e is)
 
   pub holds_step : (place pid : ℕ) (c : Op) → Holds (verdict (told w pid c) place pid c w.frame).frame (step w place pid c).world.content

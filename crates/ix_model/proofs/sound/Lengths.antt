@@ -4,10 +4,10 @@ use Rattle.std.specs.Option.{option_map_or}
 use Rattle.std.proofs.lemmas.Bool.{cond-false, lt-leb, ne_eqb, not-true, ltb-false, or_parts}
 use Rattle.std.proofs.lemmas.List.{length-replicate, length-take, length-drop}
 use Rattle.ix_model.specs.world.World.{Frame, Content, Object, Holding, at, is_pipe}
-use Rattle.ix_model.specs.rows.Walks.{Behind}
+use Rattle.ix_model.specs.rows.Walks.{OpenFile}
 use Rattle.ix_model.specs.world.Contents.{holding_of, offset_of, holds_nothing, side, with_side, on_pipe, readable, after_read, after_write, after_cut, after_seek, emptied, grown, cut_to, spliced}
 use Rattle.ix_model.specs.rows.Telling.{blocks_for, blocks_where, blocks_on, blocks_beside, lies_on, fs_of_object, length_then, told_of_pipe_write, told_of_file_write, told_of_write}
-use Rattle.ix_model.specs.rows.OnDescriptors.{Told}
+use Rattle.ix_model.specs.rows.OnDescriptors.{LengthChecks}
 use Rattle.ix_model.specs.laws.Sound.{WithinLimits, LengthsSound}
 use Rattle.ix_model.proofs.tables.Tables.{none_is}
 use Rattle.ix_model.proofs.tables.Blocks.{blocks_skip, blocks_edit, on_fs}
@@ -109,7 +109,7 @@ module _ (f : Frame) (c : Content) (l : LengthsSound (record { frame = f; conten
   }
 
   -- a seek
-  pub lengths_seek : (e : Behind) (offset : ℕ) → offset ≤ 1048576 → LengthsSound (record { frame = f; content = after_seek e offset c })
+  pub lengths_seek : (e : OpenFile) (offset : ℕ) → offset ≤ 1048576 → LengthsSound (record { frame = f; content = after_seek e offset c })
   unfolding after_seek
   lengths_seek e offset low = offset_edited e.id offset low
 
@@ -123,7 +123,7 @@ module _ (f : Frame) (c : Content) (l : LengthsSound (record { frame = f; conten
       omega (arith, l.blocks k))
 
   -- ---- a read
-  module _ (e : Behind) (s : Standing f e.entry) (within : WithinLimits f) where
+  module _ (e : OpenFile) (s : Standing f e.entry) (within : WithinLimits f) where
     pipe_low : is_pipe s.object ≡ true → (length (holding_of c e.entry.object).first ≤ 4096) × (length (holding_of c e.entry.object).second ≤ 4096)
     pipe_low pipe = l.pipe e.entry.object s.object s.is_object pipe
 
@@ -202,14 +202,14 @@ module _ (f : Frame) (c : Content) (l : LengthsSound (record { frame = f; conten
         ap (λ n. length (with_side n (cut_to len (side e.entry.end (holding_of c e.entry.object))) (holding_of c e.entry.object)).first) (s.at_end other) ∙ length-cut len (side e.entry.end (holding_of c e.entry.object)) in
         file_filed _ len long other low room
 
-pub lengths_write : (f : Frame) (c : Content) (l : LengthsSound (record { frame = f; content = c })) (e : Behind) (s : Standing f e.entry) (within : WithinLimits f) (new : List ℕ) → not (told_of_write f c (length new) (Some e)).too_big ≡ true → not (told_of_write f c (length new) (Some e)).full ≡ true → not (told_of_write f c (length new) (Some e)).no_space ≡ true → LengthsSound (record { frame = f; content = after_write f e new c })
+pub lengths_write : (f : Frame) (c : Content) (l : LengthsSound (record { frame = f; content = c })) (e : OpenFile) (s : Standing f e.entry) (within : WithinLimits f) (new : List ℕ) → not (told_of_write f c (length new) (Some e)).too_big ≡ true → not (told_of_write f c (length new) (Some e)).full ≡ true → not (told_of_write f c (length new) (Some e)).no_space ≡ true → LengthsSound (record { frame = f; content = after_write f e new c })
 unfolding after_write told_of_write written
 lengths_write f c l e s within new small room space = go (on_pipe f e) (sym (on_pipe_is f e s)) small room space
   where
-    at_end : Told
+    at_end : LengthChecks
     at_end = told_of_pipe_write (length (side (1 - e.entry.end) (holding_of c e.entry.object))) (length new)
 
-    in_file : Told
+    in_file : LengthChecks
     in_file = told_of_file_write f c e (length new)
 
     piped : Content

@@ -7,9 +7,9 @@ use Rattle.ix_model.specs.rows.OnPaths.{new_object}
 use Rattle.ix_model.specs.world.Numbers.{first_pipe}
 use Rattle.ix_model.specs.world.World.{Frame, Object, Process, Open, at, put, change, is_dir, is_pipe, no_claims, held}
 use Rattle.ix_model.specs.rows.Rows.{◌>>◌, change_process, change_object, change_open, put_object, put_process, put_open, add_process, process, ◌>>=◌, pass, need, frame}
-use Rattle.ix_model.specs.rows.Walks.{Behind}
+use Rattle.ix_model.specs.rows.Walks.{OpenFile}
 use Rattle.ix_model.specs.rows.Auditing.{logged}
-use Rattle.ix_model.specs.rows.OnDescriptors.{Told, float_entry, read_fd, write_fd, seek_fd, pex, claimed, read_passed, write_passed}
+use Rattle.ix_model.specs.rows.OnDescriptors.{LengthChecks, float_entry, read_fd, write_fd, seek_fd, pex, claimed, read_passed, write_passed}
 use Rattle.ix_model.specs.rows.OnProcesses.{end_process}
 use Rattle.ix_model.specs.rows.Table.{row, verdict}
 use Rattle.ix_model.specs.laws.Sound.{WithinLimits, OpensSound, ShapesSound}
@@ -134,7 +134,7 @@ module _ (f : Frame) (r : AllPlaces f) where
       ends_pass _ _ P Q (all_changed f e.entry.object _ (λ y there places. places_claimed y e.entry.end (Some pid) (let h : Some x ≡ Some y = sym here ∙ there in let same : x ≡ y = cc in ap is_pipe (sym same) ∙ pipe) places) r))))))
       r)) r)) r)) r)
 
-places_row : (f : Frame) (t : Told) (place pid : ℕ) (c : Op) → AllPlaces f → Holds (row t place pid c f) AllPlaces
+places_row : (f : Frame) (t : LengthChecks) (place pid : ℕ) (c : Op) → AllPlaces f → Holds (row t place pid c f) AllPlaces
 unfolding row claims_none P Q
 places_row f t place pid (op.Pex fd) r = kept_ends AllPlaces _ (places_pex f r pid fd)
 places_row f t place pid c r = (kept_row claims_none pid AllPlaces (places_words pid) t place c refl).led f r
@@ -192,7 +192,7 @@ module _ (f : Frame) (limits : WithinLimits f) (r : LowEntries f f) where
   same_low : (g : Frame) → g.opens ≡ f.opens → g.fss ≡ f.fss → LowEntries f g
   same_low g opens fss = record { fss = fss; low = λ e x is. r.low e x (ap (λ t. at t e) (sym opens) ∙ is) }
 
-  low_moved : (g : Frame) (e : Behind) (x : Object) (h : Open → Open) → ((y : Open) → (h y).object ≡ y.object) → g.opens ≡ f.opens → g.fss ≡ f.fss → at f.opens e.id ≡ Some e.entry → at f.objects e.entry.object ≡ Some x → is_pipe x ≡ false → LowEntries f (record g { opens = change g.opens e.id h })
+  low_moved : (g : Frame) (e : OpenFile) (x : Object) (h : Open → Open) → ((y : Open) → (h y).object ≡ y.object) → g.opens ≡ f.opens → g.fss ≡ f.fss → at f.opens e.id ≡ Some e.entry → at f.objects e.entry.object ≡ Some x → is_pipe x ≡ false → LowEntries f (record g { opens = change g.opens e.id h })
   low_moved g e x h same opens fss stands here other = record {
     fss = fss;
     low = λ n y is past. elim (at_change g.opens e.id h n y is) [
@@ -211,14 +211,14 @@ module _ (f : Frame) (limits : WithinLimits f) (r : LowEntries f f) where
   QL : Reply → Frame → Type 0
   QL a g = LowEntries f g
 
-  floated : (p : Process) (x : Object) (e : Behind) (a : Reply) (g : Frame) → g.opens ≡ f.opens → g.fss ≡ f.fss → at f.opens e.id ≡ Some e.entry → at f.objects e.entry.object ≡ Some x → Ends (◌>>◌ (float_entry p x e) (pass a) g) PL QL
+  floated : (p : Process) (x : Object) (e : OpenFile) (a : Reply) (g : Frame) → g.opens ≡ f.opens → g.fss ≡ f.fss → at f.opens e.id ≡ Some e.entry → at f.objects e.entry.object ≡ Some x → Ends (◌>>◌ (float_entry p x e) (pass a) g) PL QL
   unfolding float_entry PL QL
   floated p x e a g opens fss stands here =
       ends_then _ _ g PL QL (ends_only_if _ _ g PL _
       (λ file. ends_change_open e.id _ g PL _ (ends_pass _ _ PL QL (low_moved g e x _ (λ y. refl) opens fss stands here (not-true _ file))))
       (λ pipe. ends_pass _ _ PL QL (same_low g opens fss)))
 
-  read_rest : (t : Told) (pid : ℕ) (x : Object) (e : Behind) (g : Frame) → g.opens ≡ f.opens → g.fss ≡ f.fss → at f.opens e.id ≡ Some e.entry → at f.objects e.entry.object ≡ Some x
+  read_rest : (t : LengthChecks) (pid : ℕ) (x : Object) (e : OpenFile) (g : Frame) → g.opens ≡ f.opens → g.fss ≡ f.fss → at f.opens e.id ≡ Some e.entry → at f.objects e.entry.object ≡ Some x
       → Ends (◌>>=◌ frame (λ h. ◌>>◌ (need (not (is_pipe x && t.empty && held h.opens e.entry.object (1 - e.entry.end))) refusal.Again) (◌>>=◌ (process pid) (λ p. ◌>>◌ (float_entry p x e) (pass read_passed)))) g) PL QL
   unfolding PL QL
   read_rest t pid x e g opens fss stands here =
@@ -227,7 +227,7 @@ module _ (f : Frame) (limits : WithinLimits f) (r : LowEntries f f) where
       ends_then _ _ g PL QL (ends_need _ _ g PL _ (λ some.
       ends_bind _ _ g PL QL (ends_caller pid g PL _ (λ p lives. floated p x e read_passed g opens fss stands here) s)) s)))
 
-  low_read : (t : Told) (pid fd count : ℕ) → Ends (read_fd t pid fd count f) PL QL
+  low_read : (t : LengthChecks) (pid fd count : ℕ) → Ends (read_fd t pid fd count f) PL QL
   unfolding read_fd PL QL
   low_read t pid fd count =
       ends_bind _ _ f PL QL (ends_opened pid fd f PL _ (λ e is.
@@ -239,7 +239,7 @@ module _ (f : Frame) (limits : WithinLimits f) (r : LowEntries f f) where
       ends_then _ _ f PL QL (ends_observe pid _ f PL _ (λ why. r) (read_rest t pid x e f refl refl stands here) (λ p lives low. read_rest t pid x e _ refl refl stands here)))
       r)) r)) r)) r)) r)
 
-  low_write : (t : Told) (pid fd : ℕ) → Ends (write_fd t pid fd f) PL QL
+  low_write : (t : LengthChecks) (pid fd : ℕ) → Ends (write_fd t pid fd f) PL QL
   unfolding write_fd PL QL
   low_write t pid fd =
       ends_bind _ _ f PL QL (ends_opened pid fd f PL _ (λ e is.
@@ -266,7 +266,7 @@ module _ (f : Frame) (limits : WithinLimits f) (r : LowEntries f f) where
       ends_then _ _ f PL QL (ends_need _ _ f PL _ (λ near.
       ends_bind _ _ f PL QL (ends_caller pid f PL _ (λ p lives. floated p x e reply.Done f refl refl (behind_is f pid fd e is) here) r)) r)) r)) r)) r)
 
-  low_row : (t : Told) (place pid : ℕ) (c : Op) → Holds (row t place pid c f) (LowEntries f)
+  low_row : (t : LengthChecks) (place pid : ℕ) (c : Op) → Holds (row t place pid c f) (LowEntries f)
   unfolding row moves_none PL QL
   low_row t place pid (op.ReadFd fd count) = kept_ends (LowEntries f) _ (low_read t pid fd count)
   low_row t place pid (op.WriteFd fd bytes) = kept_ends (LowEntries f) _ (low_write t pid fd)
@@ -290,7 +290,7 @@ low_before f limits opens s = record { fss = refl; low = λ e x is past. go e x 
             go_fs None none = true≢false (sym (ap is_none none) ∙ limits.pipes x.object y there ∙ other)
             go_fs (Some k) on = let n = limits.numbers x.object k y there on in absurd (omega (arith, n.1, first_within f.fss k))
 
-pub shapes_decided : (f : Frame) (t : Told) (place pid : ℕ) (c : Op) → FrameSound f → ShapesSound f → FrameSound (verdict t place pid c f).frame → ShapesSound (verdict t place pid c f).frame
+pub shapes_decided : (f : Frame) (t : LengthChecks) (place pid : ℕ) (c : Op) → FrameSound f → ShapesSound f → FrameSound (verdict t place pid c f).frame → ShapesSound (verdict t place pid c f).frame
 shapes_decided f t place pid c s shapes after =
     let places : AllPlaces f = record { each = λ o x is. record { two = shapes.claims o x is; none = shapes.unclaimed o x is } } in
     let low : LowEntries f f = low_before f s.limits s.opens shapes in

@@ -2,9 +2,9 @@
 use Rattle.std.proofs.Common.{ℕ}
 use Rattle.ix_model.specs.world.Naming.{PathOf}
 use Rattle.ix_model.specs.world.World.{Frame, Object, Process}
-use Rattle.ix_model.specs.rows.Walks.{Behind, walked_to, object_at, opened}
+use Rattle.ix_model.specs.rows.Walks.{OpenFile, walked_to, object_at, opened}
 use Rattle.ix_model.specs.rows.OnPaths.{stat_at, list_at}
-use Rattle.ix_model.specs.rows.OnDescriptors.{Told, float_entry, read_fd, write_fd, cut_fd, seek_fd}
+use Rattle.ix_model.specs.rows.OnDescriptors.{LengthChecks, float_entry, read_fd, write_fd, cut_fd, seek_fd}
 use Rattle.ix_model.specs.rows.OnProcesses.{exec}
 use Rattle.ix_model.specs.rows.OnLabels.{label_of, self_label, freeze, freeze_self, drop_lic}
 use Rattle.ix_model.specs.declared.privs.PrivSet.{PrivSet}
@@ -47,19 +47,19 @@ module _ (f : Frame) where
   follows_self_label pid = search following_rows depth 40
 
   -- ---- bytes
-  follows_float_entry : (p : Process) (x : Object) (e : Behind) → Keeps (Follows f) (float_entry p x e)
+  follows_float_entry : (p : Process) (x : Object) (e : OpenFile) → Keeps (Follows f) (float_entry p x e)
   unfolding float_entry
   follows_float_entry p x e = search following depth 30
 
-  pub follows_read_fd : (t : Told) (pid fd count : ℕ) → Keeps (Follows f) (read_fd t pid fd count)
+  pub follows_read_fd : (t : LengthChecks) (pid fd count : ℕ) → Keeps (Follows f) (read_fd t pid fd count)
   unfolding read_fd
   follows_read_fd t pid fd count = search (following_rows, follows_float_entry) depth 40
 
-  pub follows_write_fd : (t : Told) (pid fd : ℕ) → Keeps (Follows f) (write_fd t pid fd)
+  pub follows_write_fd : (t : LengthChecks) (pid fd : ℕ) → Keeps (Follows f) (write_fd t pid fd)
   unfolding write_fd
   follows_write_fd t pid fd = search (following_rows, follows_float_entry) depth 40
 
-  pub follows_cut_fd : (t : Told) (pid fd len : ℕ) → Keeps (Follows f) (cut_fd t pid fd len)
+  pub follows_cut_fd : (t : LengthChecks) (pid fd len : ℕ) → Keeps (Follows f) (cut_fd t pid fd len)
   unfolding cut_fd
   follows_cut_fd t pid fd len = search following_rows depth 40
 

@@ -13,7 +13,7 @@ use Rattle.ix_model.specs.rows.Rows.{change_object, change_process, put_object, 
 use Rattle.ix_model.specs.rows.Walks.{Sought, walk, join_all, walked_to, object_at}
 use Rattle.ix_model.specs.rows.Walks as sought
 use Rattle.ix_model.specs.rows.Auditing.{audit_line}
-use Rattle.ix_model.specs.rows.OnDescriptors.{Told}
+use Rattle.ix_model.specs.rows.OnDescriptors.{LengthChecks}
 use Rattle.ix_model.specs.rows.OnProcesses.{end_process}
 use Rattle.ix_model.specs.rows.OnLabels.{needs_to_set_ceilings, set_label, set_self, thaw, thaw_self, set_priv, grant_lic, set_ceiling, read_log}
 use Rattle.ix_model.specs.rows.Table.{Decision, row, settled, verdict}
@@ -287,14 +287,14 @@ quiet_words pid f = record {
 abbrev logs_nothing : Op → Bool
 logs_nothing c = list_all log_stays (changes_of c)
 
-quiet_row : (t : Told) (place pid : ℕ) (c : Op) (f : Frame) → logs_nothing c ≡ true → Holds (row t place pid c f) (λ g. g.log ≡ f.log)
+quiet_row : (t : LengthChecks) (place pid : ℕ) (c : Op) (f : Frame) → logs_nothing c ≡ true → Holds (row t place pid c f) (λ g. g.log ≡ f.log)
 quiet_row t place pid c f quiet = (kept_row log_stays pid (λ g. g.log ≡ f.log) (quiet_words pid f) t place c quiet).led f refl
 
-quiet_logs : (t : Told) (place pid : ℕ) (c : Op) (f : Frame) → logs_nothing c ≡ true → exercises f pid c ≡ false → Ends (row t place pid c f) Anything (λ a g. LogAfter f place pid c g)
+quiet_logs : (t : LengthChecks) (place pid : ℕ) (c : Op) (f : Frame) → logs_nothing c ≡ true → exercises f pid c ≡ false → Ends (row t place pid c f) Anything (λ a g. LogAfter f place pid c g)
 quiet_logs t place pid c f quiet free =
     ends_kept (λ g. g.log ≡ f.log) (row t place pid c f) Anything (λ a g. LogAfter f place pid c g) (quiet_row t place pid c f quiet) (λ r g same. tt) (λ a g same. no_line f g place pid c free same)
 
-row_logs : (t : Told) (place pid : ℕ) (c : Op) (f : Frame) → Ends (row t place pid c f) Anything (λ a g. LogAfter f place pid c g)
+row_logs : (t : LengthChecks) (place pid : ℕ) (c : Op) (f : Frame) → Ends (row t place pid c f) Anything (λ a g. LogAfter f place pid c g)
 unfolding row exercises
 row_logs t place pid (op.SetLabel path now) f = label_logs f place pid path now
 row_logs t place pid (op.SetSelf now) f = self_logs f place pid now
@@ -332,7 +332,7 @@ unfolding Ends adds
 settled_log place pid c f (Refuse r g) relabels ends = log_kept (keeps_label r) pid f g relabels
 settled_log place pid c f (Pass a g) relabels ends = adds_answered f g place pid c a relabels ends
 
-decided_log : (t : Told) (place pid : ℕ) (c : Op) (f : Frame) → (verdict t place pid c f).frame.log ≡ f.log ++ adds f (verdict t place pid c f).frame place pid c (verdict t place pid c f).reply
+decided_log : (t : LengthChecks) (place pid : ℕ) (c : Op) (f : Frame) → (verdict t place pid c f).frame.log ≡ f.log ++ adds f (verdict t place pid c f).frame place pid c (verdict t place pid c f).reply
 unfolding verdict adds
 decided_log t place pid c f = go (lives f pid)
   where

@@ -10,9 +10,9 @@ use Rattle.ix_model.specs.rows.Refusals.{keeps_label}
 use Rattle.ix_model.specs.world.World.{Frame, World, Object, Process, at, change, lives}
 use Rattle.ix_model.specs.rows.Outcomes.{Outcome, Refuse, Pass}
 use Rattle.ix_model.specs.rows.Rows.{affect}
-use Rattle.ix_model.specs.rows.Walks.{Behind, behind, object_at}
+use Rattle.ix_model.specs.rows.Walks.{OpenFile, behind, object_at}
 use Rattle.ix_model.specs.rows.OnPaths.{create_at, make_dir}
-use Rattle.ix_model.specs.rows.OnDescriptors.{Told}
+use Rattle.ix_model.specs.rows.OnDescriptors.{LengthChecks}
 use Rattle.ix_model.specs.rows.OnProcesses.{kept_fds, fork, exec}
 use Rattle.ix_model.specs.rows.OnLabels.{set_priv, drop_lic, grant_lic}
 use Rattle.ix_model.specs.rows.Table.{Decision, row, settled, verdict}
@@ -242,7 +242,7 @@ module _ (f : Frame) (pid : ℕ) where
   kept_moves : (m : Rattle.ix_model.specs.rows.Outcomes.Row Reply) (c : Op) (b : Bool) → ((p : ℕ) (q : Process) → privileges_after f pid c p q ≡ privileges q) → ((o : ℕ) (x : Object) → carried_after f pid c o x ≡ carried_by x) → Keeps (Unmoved f pid b) m → Ends (m f) Anything (λ a g. Moves c g)
   kept_moves m c b processes objects keeps = ends_kept (Unmoved f pid b) (m f) Anything (λ a g. Moves c g) (keeps.led f (unmoved_itself f pid b)) (λ r g u. tt) (λ a g u. stays c b g processes objects u)
 
-  row_moves : (t : Told) (place : ℕ) (c : Op) → Ends (row t place pid c f) Anything (λ a g. Moves c g)
+  row_moves : (t : LengthChecks) (place : ℕ) (c : Op) → Ends (row t place pid c f) Anything (λ a g. Moves c g)
   unfolding row create_at make_dir
   row_moves t place (op.CreateAt path) = kept_moves _ (op.CreateAt path) false (λ p q. refl) (λ o x. refl) (u_make f pid false refl path kind.File)
   row_moves t place (op.OpenAt path mode) = kept_moves _ (op.OpenAt path mode) false (λ p q. refl) (λ o x. refl) (u_open_at f pid false path mode)
@@ -296,7 +296,7 @@ settled_moves f pid c (Refuse r g) h k = go (keeps_label r)
     go false = refused_moves f f pid c (relabelled_itself pid f)
 settled_moves f pid c (Pass a g) h k = subst (λ (b : Bool). PrivilegesAs f g pid c b) (sym h) k
 
-decided_moves : (t : Told) (place pid : ℕ) (c : Op) (f : Frame) → PrivilegesAs f (verdict t place pid c f).frame pid c (is_answer (verdict t place pid c f).reply)
+decided_moves : (t : LengthChecks) (place pid : ℕ) (c : Op) (f : Frame) → PrivilegesAs f (verdict t place pid c f).frame pid c (is_answer (verdict t place pid c f).reply)
 unfolding verdict
 decided_moves t place pid c f = go (lives f pid)
   where
@@ -309,22 +309,22 @@ decided_moves t place pid c f = go (lives f pid)
 
 -- ---- the step
 -- what the content fills in makes no refusal an answer, and no answer a refusal
-answers_read : (w : World) (count : ℕ) (b : Option Behind) (a : Reply) (g : Frame) → is_answer (read_answer w count b a g).reply ≡ is_answer a
+answers_read : (w : World) (count : ℕ) (b : Option OpenFile) (a : Reply) (g : Frame) → is_answer (read_answer w count b a g).reply ≡ is_answer a
 unfolding read_answer plainly
 answers_read w count (Some e) (reply.Bytes k) g = refl
 answers_read w count _ _ g = refl
 
-answers_write : (w : World) (new : List ℕ) (b : Option Behind) (a : Reply) (g : Frame) → is_answer (write_answer w new b a g).reply ≡ is_answer a
+answers_write : (w : World) (new : List ℕ) (b : Option OpenFile) (a : Reply) (g : Frame) → is_answer (write_answer w new b a g).reply ≡ is_answer a
 unfolding write_answer plainly
 answers_write w new (Some e) (reply.Number k) g = refl
 answers_write w new _ _ g = refl
 
-answers_cut : (w : World) (len : ℕ) (b : Option Behind) (a : Reply) (g : Frame) → is_answer (cut_answer w len b a g).reply ≡ is_answer a
+answers_cut : (w : World) (len : ℕ) (b : Option OpenFile) (a : Reply) (g : Frame) → is_answer (cut_answer w len b a g).reply ≡ is_answer a
 unfolding cut_answer plainly
 answers_cut w len (Some e) reply.Done g = refl
 answers_cut w len _ _ g = refl
 
-answers_seek : (w : World) (offset : ℕ) (b : Option Behind) (a : Reply) (g : Frame) → is_answer (seek_answer w offset b a g).reply ≡ is_answer a
+answers_seek : (w : World) (offset : ℕ) (b : Option OpenFile) (a : Reply) (g : Frame) → is_answer (seek_answer w offset b a g).reply ≡ is_answer a
 unfolding seek_answer plainly
 answers_seek w offset (Some e) reply.Done g = refl
 answers_seek w offset _ _ g = refl
@@ -344,7 +344,7 @@ unfolding wait_answer plainly
 answers_wait w (reply.Child p status) g = refl
 answers_wait w _ g = refl
 
-answers_pex : (w : World) (b : Option Behind) (a : Reply) (g : Frame) → is_answer (pex_answer w b a g).reply ≡ is_answer a
+answers_pex : (w : World) (b : Option OpenFile) (a : Reply) (g : Frame) → is_answer (pex_answer w b a g).reply ≡ is_answer a
 unfolding pex_answer plainly
 answers_pex w (Some e) a g = refl
 answers_pex w None a g = refl

@@ -7,9 +7,9 @@ use Rattle.ix_model.specs.world.Naming.{PathOf}
 use Rattle.ix_model.specs.world.World.{World, Frame, Process, at, put, living, lives, lowest_free}
 use Rattle.ix_model.specs.rows.Outcomes.{Outcome, Refuse, Pass}
 use Rattle.ix_model.specs.rows.Rows.{observe}
-use Rattle.ix_model.specs.rows.Walks.{Sought, Behind, behind, walked_to, object_at, spot_at, missing}
+use Rattle.ix_model.specs.rows.Walks.{Sought, OpenFile, behind, walked_to, object_at, spot_at, missing}
 use Rattle.ix_model.specs.rows.OnPaths.{make, create_at, make_dir, open_at, link_at, unlink_at, remove_dir, change_dir, stat_at, list_at}
-use Rattle.ix_model.specs.rows.OnDescriptors.{Told, read_fd, write_fd, cut_fd, seek_fd, dup_fd, close_fd, make_pipe, claimed, pex, unpex}
+use Rattle.ix_model.specs.rows.OnDescriptors.{LengthChecks, read_fd, write_fd, cut_fd, seek_fd, dup_fd, close_fd, make_pipe, claimed, pex, unpex}
 use Rattle.ix_model.specs.rows.OnProcesses.{fork, exec, exit, wait_child}
 use Rattle.ix_model.specs.rows.OnLabels.{label_of, self_label, set_label, set_self, freeze, freeze_self, thaw, thaw_self, set_priv, drop_lic, grant_lic, set_ceiling, read_log}
 use Rattle.ix_model.specs.rows.Table.{Decision, row, settled, verdict}
@@ -102,15 +102,15 @@ module _ (f : Frame) (s : FrameSound f) (few : length f.processes ≤ 4294967295
   unfolding open_at object_at
   passes_open_at path mode = search (fitting, low) depth 80 fits 16000
 
-  passes_read_fd : (t : Told) (fd count : ℕ) → Passes (op.ReadFd fd count) (read_fd t pid fd count f)
+  passes_read_fd : (t : LengthChecks) (fd count : ℕ) → Passes (op.ReadFd fd count) (read_fd t pid fd count f)
   unfolding read_fd
   passes_read_fd t fd count = search (fitting, small) depth 80 fits 16000
 
-  passes_write_fd : (t : Told) (fd : ℕ) (bytes : List ℕ) → Passes (op.WriteFd fd bytes) (write_fd t pid fd f)
+  passes_write_fd : (t : LengthChecks) (fd : ℕ) (bytes : List ℕ) → Passes (op.WriteFd fd bytes) (write_fd t pid fd f)
   unfolding write_fd
   passes_write_fd t fd bytes = search fitting depth 80 fits 16000
 
-  passes_cut_fd : (t : Told) (fd len : ℕ) → Passes (op.CutFd fd len) (cut_fd t pid fd len f)
+  passes_cut_fd : (t : LengthChecks) (fd len : ℕ) → Passes (op.CutFd fd len) (cut_fd t pid fd len f)
   unfolding cut_fd
   passes_cut_fd t fd len = search fitting depth 80 fits 16000
 
@@ -235,7 +235,7 @@ module _ (f : Frame) (s : FrameSound f) (few : length f.processes ≤ 4294967295
   passes_read_log place index = search fitting depth 80 fits 16000
 
   -- ---- the table
-  passes_row : (t : Told) (place : ℕ) (c : Op) → Passes c (row t place pid c f)
+  passes_row : (t : LengthChecks) (place : ℕ) (c : Op) → Passes c (row t place pid c f)
   unfolding row
   passes_row t place (op.CreateAt path) = passes_create_at path
   passes_row t place (op.OpenAt path mode) = passes_open_at path mode
@@ -279,7 +279,7 @@ unfolding Ends
 fits_settled f c (Refuse r g) h = refused_fits c _
 fits_settled f c (Pass a g) h = h
 
-fits_decided : (t : Told) (place pid : ℕ) (c : Op) (f : Frame) → FrameSound f → length f.processes ≤ 4294967295 → FitsRow c (verdict t place pid c f).reply
+fits_decided : (t : LengthChecks) (place pid : ℕ) (c : Op) (f : Frame) → FrameSound f → length f.processes ≤ 4294967295 → FitsRow c (verdict t place pid c f).reply
 unfolding verdict
 fits_decided t place pid c f s few = go (lives f pid)
   where
@@ -298,7 +298,7 @@ few_taken count k bytes h = let n = length-take count bytes in (omega (arith, n,
 none_taken : (count k : ℕ) → IsToRead count (reply.Bytes k) → AreRead count (reply.Bytes k)
 none_taken count k h = (omega (arith, h.0), omega (arith, h.0))
 
-fits_read : (w : World) (fd count : ℕ) (b : Option Behind) (r : Reply) (g : Frame) → IsToRead count r → FitsCall (op.ReadFd fd count) (read_answer w count b r g).reply
+fits_read : (w : World) (fd count : ℕ) (b : Option OpenFile) (r : Reply) (g : Frame) → IsToRead count r → FitsCall (op.ReadFd fd count) (read_answer w count b r g).reply
 unfolding read_answer plainly
 fits_read w fd count (Some e) (reply.Bytes k) g h = few_taken count k (readable w.frame w.content e) h
 fits_read w fd count None (reply.Bytes k) g h = none_taken count k h
@@ -306,17 +306,17 @@ fits_read w fd count (Some e) (reply.No why) g h = tt
 fits_read w fd count None (reply.No why) g h = tt
 fits_read w fd count _ _ g h = absurd h
 
-fits_write : (w : World) (fd : ℕ) (new : List ℕ) (b : Option Behind) (r : Reply) (g : Frame) → FitsCall (op.WriteFd fd new) r → FitsCall (op.WriteFd fd new) (write_answer w new b r g).reply
+fits_write : (w : World) (fd : ℕ) (new : List ℕ) (b : Option OpenFile) (r : Reply) (g : Frame) → FitsCall (op.WriteFd fd new) r → FitsCall (op.WriteFd fd new) (write_answer w new b r g).reply
 unfolding write_answer plainly
 fits_write w fd new (Some e) (reply.Number k) g h = tt
 fits_write w fd new _ _ g h = h
 
-fits_cut : (w : World) (fd len : ℕ) (b : Option Behind) (r : Reply) (g : Frame) → FitsCall (op.CutFd fd len) r → FitsCall (op.CutFd fd len) (cut_answer w len b r g).reply
+fits_cut : (w : World) (fd len : ℕ) (b : Option OpenFile) (r : Reply) (g : Frame) → FitsCall (op.CutFd fd len) r → FitsCall (op.CutFd fd len) (cut_answer w len b r g).reply
 unfolding cut_answer plainly
 fits_cut w fd len (Some e) reply.Done g h = tt
 fits_cut w fd len _ _ g h = h
 
-fits_seek : (w : World) (fd offset : ℕ) (b : Option Behind) (r : Reply) (g : Frame) → FitsCall (op.SeekFd fd offset) r → FitsCall (op.SeekFd fd offset) (seek_answer w offset b r g).reply
+fits_seek : (w : World) (fd offset : ℕ) (b : Option OpenFile) (r : Reply) (g : Frame) → FitsCall (op.SeekFd fd offset) r → FitsCall (op.SeekFd fd offset) (seek_answer w offset b r g).reply
 unfolding seek_answer plainly
 fits_seek w fd offset (Some e) reply.Done g h = tt
 fits_seek w fd offset _ _ g h = h
@@ -336,7 +336,7 @@ unfolding wait_answer plainly
 fits_wait w (reply.Child p status) g h = tt
 fits_wait w _ g h = h
 
-fits_pex : (w : World) (fd : ℕ) (b : Option Behind) (r : Reply) (g : Frame) → FitsCall (op.Pex fd) r → FitsCall (op.Pex fd) (pex_answer w b r g).reply
+fits_pex : (w : World) (fd : ℕ) (b : Option OpenFile) (r : Reply) (g : Frame) → FitsCall (op.Pex fd) r → FitsCall (op.Pex fd) (pex_answer w b r g).reply
 unfolding pex_answer plainly
 fits_pex w fd (Some e) r g h = h
 fits_pex w fd None r g h = h

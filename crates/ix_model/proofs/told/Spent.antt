@@ -6,7 +6,7 @@ use Rattle.ix_model.specs.world.World.{World, Frame, Process, at}
 use Rattle.ix_model.specs.rows.Rows.{change_object, change_process, put_object, put_open, put_process, add_process, change_open}
 use Rattle.ix_model.specs.rows.Auditing.{logged}
 use Rattle.ix_model.specs.rows.OnProcesses.{remains, end_process}
-use Rattle.ix_model.specs.rows.OnDescriptors.{Told}
+use Rattle.ix_model.specs.rows.OnDescriptors.{LengthChecks}
 use Rattle.ix_model.specs.rows.Table.{verdict}
 use Rattle.ix_model.specs.rows.Telling.{told}
 use Rattle.ix_model.specs.history.Step.{step, step_of, run}
@@ -98,7 +98,7 @@ module _ (f : Frame) where
 spent_itself : (f : Frame) → PidsSpent f f
 spent_itself f = record { grown = omega arith; gone = λ p low is. is; ended = λ p is low. is }
 
-pub spent_decided : (t : Told) (place pid : ℕ) (c : Op) (f : Frame) → PidsSpent f (verdict t place pid c f).frame
+pub spent_decided : (t : LengthChecks) (place pid : ℕ) (c : Op) (f : Frame) → PidsSpent f (verdict t place pid c f).frame
 spent_decided t place pid c f = decided (PidsSpent f) t place pid c f (spent_itself f) ((kept_row all pid (PidsSpent f) (spent_words f pid) t place c (bears_all (changes_of c))).led f (spent_itself f))
 
 spent_step : (w : World) (place pid : ℕ) (c : Op) → PidsSpent w.frame (step w place pid c).world.frame

@@ -11,11 +11,11 @@ use Rattle.ix_model.specs.world.Numbers.{free_inode}
 use Rattle.ix_model.specs.world.World.{World, Frame, Object, Process, at, put, change, Open}
 use Rattle.ix_model.specs.rows.Outcomes.{Row}
 use Rattle.ix_model.specs.rows.Rows.{◌>>=◌, ◌>>◌, some, only_if, frame, change_object, change_process, put_object, put_open, put_process, add_process, observe, affect, change_open}
-use Rattle.ix_model.specs.rows.Walks.{walked_to, object_at, spot_at, missing, opened, Behind}
+use Rattle.ix_model.specs.rows.Walks.{walked_to, object_at, spot_at, missing, opened, OpenFile}
 use Rattle.ix_model.specs.rows.Lifetimes.{let_go_object}
 use Rattle.ix_model.specs.rows.Auditing.{logged}
 use Rattle.ix_model.specs.rows.OnPaths.{new_object, make, create_at, make_dir, link_at, unlink_at, remove_dir}
-use Rattle.ix_model.specs.rows.OnDescriptors.{Told, write_fd, cut_fd, float_entry}
+use Rattle.ix_model.specs.rows.OnDescriptors.{LengthChecks, write_fd, cut_fd, float_entry}
 use Rattle.ix_model.specs.rows.OnProcesses.{end_process}
 use Rattle.ix_model.specs.rows.OnLabels.{set_label, freeze, set_priv}
 use Rattle.ix_model.specs.rows.Table.{row, verdict}
@@ -242,7 +242,7 @@ module _ (pid : ℕ) (f : Frame) where
   unfolding let_go_object
   then_let_go o = record { led = λ g. (keeps_only_if Touched _ (put_object o None) (then_gone o)).led g }
 
-  then_float_entry : (p : Process) (x : Object) (e : Behind) → Keeps Touched (float_entry p x e)
+  then_float_entry : (p : Process) (x : Object) (e : OpenFile) → Keeps Touched (float_entry p x e)
   unfolding float_entry
   then_float_entry p x e = search (keeping, then_entry) depth 30
 
@@ -309,11 +309,11 @@ module _ (pid : ℕ) (f : Frame) where
   unfolding remove_dir
   t_remove_dir path = search (touching, t_affect) depth 60 fits 8000
 
-  t_write_fd : (t : Told) (fd : ℕ) → Turns Staying Touched (write_fd t pid fd)
+  t_write_fd : (t : LengthChecks) (fd : ℕ) → Turns Staying Touched (write_fd t pid fd)
   unfolding write_fd
   t_write_fd t fd = search (touching, t_affect) depth 60 fits 8000
 
-  t_cut_fd : (t : Told) (fd len : ℕ) → Turns Staying Touched (cut_fd t pid fd len)
+  t_cut_fd : (t : LengthChecks) (fd len : ℕ) → Turns Staying Touched (cut_fd t pid fd len)
   unfolding cut_fd
   t_cut_fd t fd len = search (touching, t_affect) depth 60 fits 8000
 
@@ -329,10 +329,10 @@ module _ (pid : ℕ) (f : Frame) where
   unfolding set_priv
   t_set_priv place path cap lic = search (touching, t_affect) depth 60 fits 8000
 
-  steady_row : (t : Told) (place : ℕ) (c : Op) → list_all makes_none (changes_of c) ≡ true → Holds (row t place pid c f) Touched
+  steady_row : (t : LengthChecks) (place : ℕ) (c : Op) → list_all makes_none (changes_of c) ≡ true → Holds (row t place pid c f) Touched
   steady_row t place c fits = holds_more (Steady pid f) Touched (row t place pid c f) steady_touched ((kept_row makes_none pid (Steady pid f) steady_words t place c fits).led f steady_itself)
 
-  touched_row : (t : Told) (place : ℕ) (c : Op) → Holds (row t place pid c f) Touched
+  touched_row : (t : LengthChecks) (place : ℕ) (c : Op) → Holds (row t place pid c f) Touched
   unfolding row create_at make_dir makes_none loses_none
   touched_row t place (op.CreateAt path) = (t_make path kind.File).led f staying_itself
   touched_row t place (op.MakeDir path) = (t_make path kind.Dir).led f staying_itself
@@ -355,7 +355,7 @@ module _ (pid : ℕ) (f : Frame) where
     processes = λ p x y other was is. r.processes.same p x y.label other was (ap (option_map (λ (q : Process). q.label)) is);
   }
 
-touched_decided : (t : Told) (place pid : ℕ) (c : Op) (f : Frame) → Touched pid f (verdict t place pid c f).frame
+touched_decided : (t : LengthChecks) (place pid : ℕ) (c : Op) (f : Frame) → Touched pid f (verdict t place pid c f).frame
 touched_decided t place pid c f = decided (Touched pid f) t place pid c f (staying_touched pid f f (staying_itself pid f)) (touched_row pid f t place c)
 
 pub few_labels : (w : World) (place pid : ℕ) (c : Op) → LabelsStay pid w.frame (step w place pid c).world.frame

@@ -7,11 +7,11 @@ use Rattle.ix_model.specs.world.Naming.{PathOf}
 use Rattle.ix_model.specs.world.Numbers.{free_inode, free_pipe}
 use Rattle.ix_model.specs.world.World.{Frame, Object, Process, Open, at, put, change}
 use Rattle.ix_model.specs.rows.Rows.{pass, change_object, change_process, put_object, put_process, put_open, change_open, observe, affect}
-use Rattle.ix_model.specs.rows.Walks.{Behind, behind, walked_to, object_at, spot_at, missing, opened}
+use Rattle.ix_model.specs.rows.Walks.{OpenFile, behind, walked_to, object_at, spot_at, missing, opened}
 use Rattle.ix_model.specs.rows.Lifetimes.{let_go_object, let_go_open, let_go_claim, let_go, let_go_if_held, let_go_each, let_go_all, has_lost}
 use Rattle.ix_model.specs.rows.Auditing.{logged}
 use Rattle.ix_model.specs.rows.OnPaths.{new_object, make, open_at, link_at, unlink_at, remove_dir, change_dir, stat_at, list_at}
-use Rattle.ix_model.specs.rows.OnDescriptors.{Told, float_entry, read_fd, write_fd, cut_fd, seek_fd, dup_fd, close_fd, make_pipe, pex, unpex}
+use Rattle.ix_model.specs.rows.OnDescriptors.{LengthChecks, float_entry, read_fd, write_fd, cut_fd, seek_fd, dup_fd, close_fd, make_pipe, pex, unpex}
 use Rattle.ix_model.specs.rows.OnProcesses.{remains, end_process, exit, wait_child}
 use Rattle.ix_model.specs.rows.OnLabels.{label_of, self_label, set_label, set_self, freeze, freeze_self, thaw, thaw_self, set_ceiling, read_log}
 use Rattle.ix_model.specs.laws.Privileged.{Privileges, Carried, privileges, carried_by, carries_none}
@@ -185,7 +185,7 @@ module _ (f : Frame) (pid : ℕ) (loses : Bool) where
   unfolding affect
   u_affect o l = search words depth 30
 
-  u_float_entry : (p : Process) (x : Object) (e : Behind) → Keeps R (float_entry p x e)
+  u_float_entry : (p : Process) (x : Object) (e : OpenFile) → Keeps R (float_entry p x e)
   unfolding float_entry
   u_float_entry p x e = search words depth 30
 
@@ -222,7 +222,7 @@ module _ (f : Frame) (pid : ℕ) (loses : Bool) where
   unfolding let_go_claim
   u_let_go_claim o end = record { led = λ g. (keeps_only_if R (has_lost g pid o end) _ (u_change_object o _ (λ x. refl))).led g }
 
-  u_let_go : loses ≡ true → (fd : ℕ) (e : Behind) → Keeps R (let_go pid fd e)
+  u_let_go : loses ≡ true → (fd : ℕ) (e : OpenFile) → Keeps R (let_go pid fd e)
   unfolding let_go
   u_let_go can fd e = search (words, u_let_go_object, u_let_go_open, u_let_go_claim) depth 30
 
@@ -230,7 +230,7 @@ module _ (f : Frame) (pid : ℕ) (loses : Bool) where
   unfolding let_go_if_held
   u_let_go_if_held can fd = record { led = λ g r. (go (behind g pid fd)).led g r }
     where
-      go : (b : Option Behind) → Keeps R (option_map_or (let_go pid fd) b (pass tt))
+      go : (b : Option OpenFile) → Keeps R (option_map_or (let_go pid fd) b (pass tt))
       go None = keeps_pass R tt
       go (Some e) = u_let_go can fd e
 
@@ -278,15 +278,15 @@ module _ (f : Frame) (pid : ℕ) (loses : Bool) where
   unfolding list_at
   u_list_at path index = search rows depth 60 fits 8000
 
-  pub u_read_fd : (t : Told) (fd count : ℕ) → Keeps R (read_fd t pid fd count)
+  pub u_read_fd : (t : LengthChecks) (fd count : ℕ) → Keeps R (read_fd t pid fd count)
   unfolding read_fd
   u_read_fd t fd count = search rows depth 60 fits 8000
 
-  pub u_write_fd : (t : Told) (fd : ℕ) → Keeps R (write_fd t pid fd)
+  pub u_write_fd : (t : LengthChecks) (fd : ℕ) → Keeps R (write_fd t pid fd)
   unfolding write_fd
   u_write_fd t fd = search rows depth 60 fits 8000
 
-  pub u_cut_fd : (t : Told) (fd len : ℕ) → Keeps R (cut_fd t pid fd len)
+  pub u_cut_fd : (t : LengthChecks) (fd len : ℕ) → Keeps R (cut_fd t pid fd len)
   unfolding cut_fd
   u_cut_fd t fd len = search rows depth 60 fits 8000
 

@@ -2,8 +2,8 @@
 use Rattle.std.proofs.Common.{◌≡◌, ℕ, Bool, true, false, List, Option, Some, None, refl, if◌then◌else◌}
 use Rattle.ix_model.specs.world.World.{Frame, World, lives}
 use Rattle.ix_model.specs.rows.Outcomes.{Outcome, Refuse, Pass}
-use Rattle.ix_model.specs.rows.Walks.{Behind, behind}
-use Rattle.ix_model.specs.rows.OnDescriptors.{Told}
+use Rattle.ix_model.specs.rows.Walks.{OpenFile, behind}
+use Rattle.ix_model.specs.rows.OnDescriptors.{LengthChecks}
 use Rattle.ix_model.specs.rows.Table.{Decision, row, settled, verdict}
 use Rattle.ix_model.specs.world.Contents.{carried}
 use Rattle.ix_model.specs.rows.Telling.{told}
@@ -18,22 +18,22 @@ use Rattle.ix_model.specs.declared.refusal.Refusal.TheVariants as refusal
 use Rattle.ix_model.proofs.words.Ends.{Ends, Anything}
 
 -- ---- the frame
-frame_read : (w : World) (count : ℕ) (b : Option Behind) (r : Reply) (g : Frame) → (read_answer w count b r g).world.frame ≡ g
+frame_read : (w : World) (count : ℕ) (b : Option OpenFile) (r : Reply) (g : Frame) → (read_answer w count b r g).world.frame ≡ g
 unfolding read_answer plainly
 frame_read w count (Some e) (reply.Bytes k) g = refl
 frame_read w count _ r g = refl
 
-frame_write : (w : World) (new : List ℕ) (b : Option Behind) (r : Reply) (g : Frame) → (write_answer w new b r g).world.frame ≡ g
+frame_write : (w : World) (new : List ℕ) (b : Option OpenFile) (r : Reply) (g : Frame) → (write_answer w new b r g).world.frame ≡ g
 unfolding write_answer plainly
 frame_write w new (Some e) (reply.Number k) g = refl
 frame_write w new _ r g = refl
 
-frame_cut : (w : World) (len : ℕ) (b : Option Behind) (r : Reply) (g : Frame) → (cut_answer w len b r g).world.frame ≡ g
+frame_cut : (w : World) (len : ℕ) (b : Option OpenFile) (r : Reply) (g : Frame) → (cut_answer w len b r g).world.frame ≡ g
 unfolding cut_answer plainly
 frame_cut w len (Some e) reply.Done g = refl
 frame_cut w len _ r g = refl
 
-frame_seek : (w : World) (offset : ℕ) (b : Option Behind) (r : Reply) (g : Frame) → (seek_answer w offset b r g).world.frame ≡ g
+frame_seek : (w : World) (offset : ℕ) (b : Option OpenFile) (r : Reply) (g : Frame) → (seek_answer w offset b r g).world.frame ≡ g
 unfolding seek_answer plainly
 frame_seek w offset (Some e) reply.Done g = refl
 frame_seek w offset _ r g = refl
@@ -54,7 +54,7 @@ unfolding exit_answer plainly
 frame_exit w pid status reply.Done g = refl
 frame_exit w pid status r g = refl
 
-frame_pex : (w : World) (b : Option Behind) (r : Reply) (g : Frame) → (pex_answer w b r g).world.frame ≡ g
+frame_pex : (w : World) (b : Option OpenFile) (r : Reply) (g : Frame) → (pex_answer w b r g).world.frame ≡ g
 unfolding pex_answer plainly
 frame_pex w (Some e) r g = refl
 frame_pex w None r g = refl
@@ -79,7 +79,7 @@ settled_passed f (Refuse r g) Q h ends = cc
 settled_passed f (Pass a g) Q h ends = ends
 
 -- what is known of where a row passes is known of an answer
-pub passed : (t : Told) (place pid : ℕ) (c : Op) (f : Frame) (Q : Reply → Frame → Type 0) → Ends (row t place pid c f) Anything Q → is_answer (verdict t place pid c f).reply ≡ true → Q (verdict t place pid c f).reply (verdict t place pid c f).frame
+pub passed : (t : LengthChecks) (place pid : ℕ) (c : Op) (f : Frame) (Q : Reply → Frame → Type 0) → Ends (row t place pid c f) Anything Q → is_answer (verdict t place pid c f).reply ≡ true → Q (verdict t place pid c f).reply (verdict t place pid c f).frame
 unfolding verdict
 passed t place pid c f Q ends h = go (lives f pid) h
   where

@@ -3,7 +3,7 @@ use Rattle.std.proofs.Common.{ℕ, ◌≡◌, Bool, true, false, Option, Some, N
 use Rattle.ix_model.specs.world.World.{Frame, Object, Process, Open, at, put, change, living}
 use Rattle.ix_model.specs.rows.Outcomes.{Row, Outcome, Refuse, Pass}
 use Rattle.ix_model.specs.rows.Rows.{◌>>=◌, ◌>>◌, on_pass, pass, refuse, need, some, only_if, frame, process, object, change_object, change_process, put_open, change_open}
-use Rattle.ix_model.specs.rows.Walks.{Sought, Behind, found_object, behind, opened}
+use Rattle.ix_model.specs.rows.Walks.{Sought, OpenFile, found_object, behind, opened}
 use Rattle.ix_model.specs.rows.Walks as sought
 use Rattle.ix_model.specs.declared.refusal.Refusal.{Refusal}
 use Rattle.ix_model.specs.declared.refusal.Refusal.TheVariants as refusal
@@ -106,7 +106,7 @@ ends_there sought.NotFound f P Q h d n = n
 ends_there (sought.Missing a) f P Q h d n = n
 ends_there (sought.Found o dir) f P Q h d n = h o dir refl
 
-pub ends_opened : (pid fd : ℕ) (f : Frame) (P : Refusal → Frame → Type 0) (Q : Behind → Frame → Type 0) → ((e : Behind) → behind f pid fd ≡ Some e → Q e f) → P refusal.BadFd f → Ends (opened pid fd f) P Q
+pub ends_opened : (pid fd : ℕ) (f : Frame) (P : Refusal → Frame → Type 0) (Q : OpenFile → Frame → Type 0) → ((e : OpenFile) → behind f pid fd ≡ Some e → Q e f) → P refusal.BadFd f → Ends (opened pid fd f) P Q
 unfolding opened
 ends_opened pid fd f P Q h k = ends_bind _ _ f P Q (ends_frame f P _ (ends_some _ _ _ _ _ h k))
 

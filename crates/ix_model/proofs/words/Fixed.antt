@@ -4,7 +4,7 @@ use Rattle.ix_model.specs.world.World.{World, Frame, Object, Process, Open}
 use Rattle.ix_model.specs.rows.Rows.{change_object, change_process, put_object, put_open, put_process, add_process, change_open}
 use Rattle.ix_model.specs.rows.Auditing.{logged}
 use Rattle.ix_model.specs.rows.OnProcesses.{end_process}
-use Rattle.ix_model.specs.rows.OnDescriptors.{Told}
+use Rattle.ix_model.specs.rows.OnDescriptors.{LengthChecks}
 use Rattle.ix_model.specs.rows.Table.{verdict}
 use Rattle.ix_model.specs.rows.Telling.{told}
 use Rattle.ix_model.specs.history.Step.{step}
@@ -81,7 +81,7 @@ fixed_words pid f = record {
   collect = λ can p. fixed_put_process f p None;
 }
 
-pub fixed_decided : (t : Told) (place pid : ℕ) (c : Op) (f : Frame) → Fixed f (verdict t place pid c f).frame
+pub fixed_decided : (t : LengthChecks) (place pid : ℕ) (c : Op) (f : Frame) → Fixed f (verdict t place pid c f).frame
 fixed_decided t place pid c f = decided (Fixed f) t place pid c f (fixed_itself f) ((kept_row all pid (Fixed f) (fixed_words pid f) t place c (bears_all (changes_of c))).led f (fixed_itself f))
 
 pub fixed_step : (w : World) (place pid : ℕ) (c : Op) → Fixed w.frame (step w place pid c).world.frame

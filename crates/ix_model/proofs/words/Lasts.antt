@@ -7,7 +7,7 @@ use Rattle.ix_model.specs.rows.Outcomes.{Outcome, Refuse, Pass}
 use Rattle.ix_model.specs.rows.Rows.{put_open, put_object, change_object, change_process, change_open}
 use Rattle.ix_model.specs.rows.Auditing.{logged}
 use Rattle.ix_model.specs.rows.Refusals.{keeps_label}
-use Rattle.ix_model.specs.rows.OnDescriptors.{Told}
+use Rattle.ix_model.specs.rows.OnDescriptors.{LengthChecks}
 use Rattle.ix_model.specs.rows.Table.{Decision, row, settled, verdict}
 use Rattle.ix_model.specs.history.Events.{Op}
 use Rattle.ix_model.specs.declared.audit.AuditLine.{AuditLine}
@@ -123,7 +123,7 @@ settled_keeps R f (Refuse r g) rf h = kept_or_not R (keeps_label r) f g rf h
 settled_keeps R f (Pass a g) rf h = h
 
 -- what a row keeps, its decision keeps
-pub decided : (R : Frame → Type 0) (t : Told) (place pid : ℕ) (c : Op) (f : Frame) → R f → Holds (row t place pid c f) R → R (verdict t place pid c f).frame
+pub decided : (R : Frame → Type 0) (t : LengthChecks) (place pid : ℕ) (c : Op) (f : Frame) → R f → Holds (row t place pid c f) R → R (verdict t place pid c f).frame
 unfolding verdict
 decided R t place pid c f rf h = go (lives f pid)
   where
@@ -134,7 +134,7 @@ decided R t place pid c f rf h = go (lives f pid)
     go true = settled_keeps R f (row t place pid c f) rf h
     go false = rf
 
-pub lasts_decided : (t : Told) (place pid : ℕ) (c : Op) (f : Frame) → lets_nothing_go c ≡ true → Lasts f (verdict t place pid c f).frame
+pub lasts_decided : (t : LengthChecks) (place pid : ℕ) (c : Op) (f : Frame) → lets_nothing_go c ≡ true → Lasts f (verdict t place pid c f).frame
 lasts_decided t place pid c f stays = decided (Lasts f) t place pid c f (lasts_itself f) ((kept_row lets_stay pid (Lasts f) (lasting_words pid f) t place c stays).led f (lasts_itself f))
 
 -- a frame in which the caller's label alone has changed

@@ -2,7 +2,7 @@
 use Rattle.std.proofs.Common.{◌≡◌, ℕ, true, Some}
 use Rattle.ix_label.specs.Category.{Categories, join, leq}
 use Rattle.ix_model.specs.world.World.{Frame, Object, Process, at, change, living, ceiling_of, Open}
-use Rattle.ix_model.specs.rows.Walks.{Behind}
+use Rattle.ix_model.specs.rows.Walks.{OpenFile}
 use Rattle.ix_model.specs.rows.OnDescriptors.{float_entry}
 use Rattle.ix_model.specs.rows.Rows.{observe, affect}
 use Rattle.ix_model.specs.declared.refusal.Refusal.{Refusal}
@@ -32,6 +32,6 @@ pub ends_touch : (pid o : ℕ) (through : Categories) (f : Frame) (P : Refusal �
 ends_touch pid o through f P Q h k = ends_affect pid o through f P Q h (k f) (λ l x is low. k _)
 
 -- whatever becomes of the open entry
-pub ends_float_entry : (p : Process) (x : Object) (e : Behind) (f : Frame) (P : Refusal → Frame → Type 0) (Q : Unit {0} → Frame → Type 0) → Q tt f → ((h : Open → Open) → Q tt (record f { opens = change f.opens e.id h })) → Ends (float_entry p x e f) P Q
+pub ends_float_entry : (p : Process) (x : Object) (e : OpenFile) (f : Frame) (P : Refusal → Frame → Type 0) (Q : Unit {0} → Frame → Type 0) → Q tt f → ((h : Open → Open) → Q tt (record f { opens = change f.opens e.id h })) → Ends (float_entry p x e f) P Q
 unfolding float_entry
 ends_float_entry p x e f P Q stays changes = ends_only_if _ _ f P Q (λ file. ends_change_open e.id _ f P Q (changes _)) (λ pipe. stays)

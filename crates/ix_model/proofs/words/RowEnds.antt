@@ -6,7 +6,7 @@ use Rattle.ix_label.specs.Category.{Categories}
 use Rattle.ix_model.specs.world.World.{Frame, Object, at, put}
 use Rattle.ix_model.specs.rows.Outcomes.{Row}
 use Rattle.ix_model.specs.rows.Rows.{◌>>=◌, ◌>>◌, pass, only_if, process, record_of, change_object, change_process, put_object, put_open, put_process, add_process}
-use Rattle.ix_model.specs.rows.Walks.{Spot, Sought, Behind, behind, found_spot, vacant}
+use Rattle.ix_model.specs.rows.Walks.{Spot, Sought, OpenFile, behind, found_spot, vacant}
 use Rattle.ix_model.specs.rows.Walks as sought
 use Rattle.ix_model.specs.rows.Lifetimes.{let_go_object, let_go_open, let_go_claim, let_go, let_go_if_held, let_go_each, let_go_all, has_lost}
 use Rattle.ix_model.specs.rows.Auditing.{entitled, log_has_room, exercise, logged}
@@ -85,7 +85,7 @@ module _ (P : Refusal → Frame → Type 0) (Q : Unit {0} → Frame → Type 0) 
   ends_let_go_claim pid o end f = whether (has_lost f pid o end) _ f (λ g. search (ending, leaves))
 
 module _ (P : Refusal → Frame → Type 0) where
-  pub ends_let_go : (pid fd : ℕ) (e : Behind) (f : Frame) (Q : Unit {0} → Frame → Type 0) → ((g : Frame) → Q tt g) → Ends (let_go pid fd e f) P Q
+  pub ends_let_go : (pid fd : ℕ) (e : OpenFile) (f : Frame) (Q : Unit {0} → Frame → Type 0) → ((g : Frame) → Q tt g) → Ends (let_go pid fd e f) P Q
   unfolding let_go
   ends_let_go pid fd e f Q leaves = search (ending, ends_let_go_object, ends_let_go_open, ends_let_go_claim, leaves) depth 20
 
@@ -93,7 +93,7 @@ module _ (P : Refusal → Frame → Type 0) where
   unfolding let_go_if_held
   ends_let_go_if_held pid fd f Q leaves = go (behind f pid fd)
     where
-      go : (b : Option Behind) → Ends (option_map_or (let_go pid fd) b (pass tt) f) P Q
+      go : (b : Option OpenFile) → Ends (option_map_or (let_go pid fd) b (pass tt) f) P Q
       go None = ends_pass tt f P Q (leaves f)
       go (Some e) = ends_let_go pid fd e f Q leaves
 

@@ -13,11 +13,11 @@ use Rattle.ix_model.specs.world.Numbers.{free_inode, free_pipe}
 use Rattle.ix_model.specs.world.World.{Frame, Object, Process, Open, at, put, lowest_free, no_claims, is_pipe}
 use Rattle.ix_model.specs.rows.Outcomes.{Row}
 use Rattle.ix_model.specs.rows.Rows.{◌>>=◌, some, frame, pass, put_open, change_open, put_object, put_process, add_process, change_object, change_process, observe, affect}
-use Rattle.ix_model.specs.rows.Walks.{Behind, behind, walked_to, object_at, spot_at, missing, opened}
+use Rattle.ix_model.specs.rows.Walks.{OpenFile, behind, walked_to, object_at, spot_at, missing, opened}
 use Rattle.ix_model.specs.rows.Lifetimes.{let_go_object, let_go_open, let_go_claim, let_go, let_go_if_held, let_go_each, let_go_all, has_lost}
 use Rattle.ix_model.specs.rows.Auditing.{logged}
 use Rattle.ix_model.specs.rows.OnPaths.{new_object, make, create_at, make_dir, open_at, link_at, unlink_at, remove_dir, change_dir, stat_at, list_at}
-use Rattle.ix_model.specs.rows.OnDescriptors.{Told, float_entry, read_fd, write_fd, cut_fd, seek_fd, dup_fd, close_fd, make_pipe, pex, unpex}
+use Rattle.ix_model.specs.rows.OnDescriptors.{LengthChecks, float_entry, read_fd, write_fd, cut_fd, seek_fd, dup_fd, close_fd, make_pipe, pex, unpex}
 use Rattle.ix_model.specs.rows.OnProcesses.{end_process, fork, exec, exit, wait_child}
 use Rattle.ix_model.specs.rows.OnLabels.{label_of, self_label, set_label, set_self, freeze, freeze_self, thaw, thaw_self, set_priv, drop_lic, grant_lic, set_ceiling, read_log}
 use Rattle.ix_model.specs.rows.Table.{row}
@@ -255,7 +255,7 @@ module _ (can : Change → Bool) (pid : ℕ) (R : Frame → Type 0) (w : Moves c
   unfolding opened
   moved_opened fd = search wording depth 30
 
-  moved_float_entry : can Moving ≡ true → (p : Process) (x : Object) (e : Behind) → Keeps R (float_entry p x e)
+  moved_float_entry : can Moving ≡ true → (p : Process) (x : Object) (e : OpenFile) → Keeps R (float_entry p x e)
   unfolding float_entry
   moved_float_entry moves p x e = keeps_only_if R (not (is_pipe x)) _ (w.through moves e.id p.label)
 
@@ -272,7 +272,7 @@ module _ (can : Change → Bool) (pid : ℕ) (R : Frame → Type 0) (w : Moves c
   unfolding let_go_claim
   moved_let_go_claim o end = record { led = λ g. (keeps_only_if R (has_lost g pid o end) _ (w.unclaim o end)).led g }
 
-  moved_let_go : can LettingGo ≡ true → (fd : ℕ) (e : Behind) → Keeps R (let_go pid fd e)
+  moved_let_go : can LettingGo ≡ true → (fd : ℕ) (e : OpenFile) → Keeps R (let_go pid fd e)
   unfolding let_go
   moved_let_go goes fd e = search (wording, moved_let_go_object, moved_let_go_open, moved_let_go_claim) depth 30
 
@@ -280,7 +280,7 @@ module _ (can : Change → Bool) (pid : ℕ) (R : Frame → Type 0) (w : Moves c
   unfolding let_go_if_held
   moved_let_go_if_held goes fd = record { led = λ g r. (go (behind g pid fd)).led g r }
     where
-      go : (b : Option Behind) → Keeps R (option_map_or (let_go pid fd) b (pass tt))
+      go : (b : Option OpenFile) → Keeps R (option_map_or (let_go pid fd) b (pass tt))
       go None = keeps_pass R tt
       go (Some e) = moved_let_go goes fd e
 
@@ -328,15 +328,15 @@ module _ (can : Change → Bool) (pid : ℕ) (R : Frame → Type 0) (w : Moves c
   unfolding list_at
   moved_list_at path index = search rows depth 40
 
-  moved_read_fd : can Moving ≡ true → (t : Told) (fd count : ℕ) → Keeps R (read_fd t pid fd count)
+  moved_read_fd : can Moving ≡ true → (t : LengthChecks) (fd count : ℕ) → Keeps R (read_fd t pid fd count)
   unfolding read_fd
   moved_read_fd shifts t fd count = search (rows, moved_float_entry) depth 40
 
-  moved_write_fd : can Relabelling ≡ true → can Moving ≡ true → (t : Told) (fd : ℕ) → Keeps R (write_fd t pid fd)
+  moved_write_fd : can Relabelling ≡ true → can Moving ≡ true → (t : LengthChecks) (fd : ℕ) → Keeps R (write_fd t pid fd)
   unfolding write_fd
   moved_write_fd moves shifts t fd = search (rows, moved_float_entry) depth 40
 
-  moved_cut_fd : can Relabelling ≡ true → (t : Told) (fd len : ℕ) → Keeps R (cut_fd t pid fd len)
+  moved_cut_fd : can Relabelling ≡ true → (t : LengthChecks) (fd len : ℕ) → Keeps R (cut_fd t pid fd len)
   unfolding cut_fd
   moved_cut_fd moves t fd len = search rows depth 40
 
@@ -443,7 +443,7 @@ module _ (can : Change → Bool) (pid : ℕ) (R : Frame → Type 0) (w : Moves c
   third a b c d h = second b c d (and_parts a (b && (c && d)) h).1
 
   -- where R can bear what a call may do, its row keeps it
-  pub moved_row : (t : Told) (place : ℕ) (c : Op) → list_all can (changes_of c) ≡ true → Keeps R (row t place pid c)
+  pub moved_row : (t : LengthChecks) (place : ℕ) (c : Op) → list_all can (changes_of c) ≡ true → Keeps R (row t place pid c)
   unfolding row create_at make_dir
   moved_row t place (op.CreateAt path) h = moved_make (first _ _ h) (second _ _ _ h) path kind.File
   moved_row t place (op.OpenAt path mode) h = moved_open_at (first _ _ h) path mode
@@ -501,7 +501,7 @@ module _ (can : Change → Bool) (pid : ℕ) (R : Frame → Type 0) (w : Words c
   pub kept_opened : (fd : ℕ) → Keeps R (opened pid fd)
   kept_opened fd = moved_opened can pid R (moves_of can pid R w) fd
 
-  pub kept_row : (t : Told) (place : ℕ) (c : Op) → list_all can (changes_of c) ≡ true → Keeps R (row t place pid c)
+  pub kept_row : (t : LengthChecks) (place : ℕ) (c : Op) → list_all can (changes_of c) ≡ true → Keeps R (row t place pid c)
   kept_row t place c h = moved_row can pid R (moves_of can pid R w) t place c h
 
 -- R can bear all

@@ -3,20 +3,20 @@ use Rattle.std.proofs.Common.{◌≡◌, ◌==◌, ℕ, Bool, true, false, not, 
 use Rattle.std.specs.Option.{option_map_or}
 use Rattle.std.proofs.lemmas.Bool.{eqb-true}
 use Rattle.ix_model.specs.world.World.{Frame, Object, Process, Open, at, living, is_dir, is_pipe}
-use Rattle.ix_model.specs.rows.Walks.{Behind, behind, behind_of, entry_at}
+use Rattle.ix_model.specs.rows.Walks.{OpenFile, behind, behind_of, entry_at}
 use Rattle.ix_model.specs.world.Contents.{on_pipe}
 use Rattle.ix_model.specs.laws.Sound.{OpensSound}
 
-entry_is : (f : Frame) (d : Option ℕ) (e : Behind) → entry_at f d ≡ Some e → at f.opens e.id ≡ Some e.entry
+entry_is : (f : Frame) (d : Option ℕ) (e : OpenFile) → entry_at f d ≡ Some e → at f.opens e.id ≡ Some e.entry
 entry_is f None e h = cc
 entry_is f (Some n) e h = go (at f.opens n) refl h
   where
-    go : (o : Option Open) → at f.opens n ≡ o → option_map (λ x. let b : Behind = record { id = n; entry = x } in b) o ≡ Some e → at f.opens e.id ≡ Some e.entry
+    go : (o : Option Open) → at f.opens n ≡ o → option_map (λ x. let b : OpenFile = record { id = n; entry = x } in b) o ≡ Some e → at f.opens e.id ≡ Some e.entry
     go None is h = cc
     go (Some x) is h = let i : n ≡ e.id = cc in let k : x ≡ e.entry = cc in ap (at f.opens) (sym i) ∙ is ∙ ap Some k
 
 -- the open entry behind a descriptor stands
-pub behind_is : (f : Frame) (pid fd : ℕ) (e : Behind) → behind f pid fd ≡ Some e → at f.opens e.id ≡ Some e.entry
+pub behind_is : (f : Frame) (pid fd : ℕ) (e : OpenFile) → behind f pid fd ≡ Some e → at f.opens e.id ≡ Some e.entry
 unfolding behind
 behind_is f pid fd e h = go (living (at f.processes pid)) h
   where
@@ -51,5 +51,5 @@ stands f e x r is = go (at f.objects x.object) refl
       at_end = λ other. no_pipe_end x.end (is_pipe y) other (ap (λ o. x.end == 0 || x.end == 1 && option_map_or is_pipe o false) (sym there) ∙ r.end e x is);
     }
 
-pub on_pipe_is : (f : Frame) (e : Behind) (s : Standing f e.entry) → on_pipe f e ≡ is_pipe s.object
+pub on_pipe_is : (f : Frame) (e : OpenFile) (s : Standing f e.entry) → on_pipe f e ≡ is_pipe s.object
 on_pipe_is f e s = ap (λ o. option_map_or is_pipe o false) s.is_object

@@ -6,7 +6,7 @@ use Rattle.std.proofs.lemmas.List.Sums.{sum_by-cons}
 use Rattle.ix_model.specs.world.Naming.{PathOf, same_bytes}
 use Rattle.ix_model.specs.world.World.{Frame, World, Object, Process, at, is_dir, is_pipe}
 use Rattle.ix_model.specs.rows.Outcomes.{Outcome, Refuse, Pass}
-use Rattle.ix_model.specs.rows.Walks.{Behind, behind, Sought, node, child, lacking, looking_into, walk_from, walk, walked_to, object_at}
+use Rattle.ix_model.specs.rows.Walks.{OpenFile, behind, Sought, node, child, lacking, looking_into, walk_from, walk, walked_to, object_at}
 use Rattle.ix_model.specs.rows.Walks as sought
 use Rattle.ix_model.specs.laws.Sound.{NamesSound, Sound}
 use Rattle.ix_model.specs.laws.Laws.{ObjectsThere}

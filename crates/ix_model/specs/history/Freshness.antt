@@ -3,7 +3,7 @@ use Rattle.std.specs.Prelude.{ℕ, suc, Bool, true, false, not, ◌&&◌, ◌||�
 use Rattle.std.specs.Option.{option_map_or}
 use Rattle.ix_label.specs.Category.{Categories, bottom, same}
 use Rattle.ix_model.specs.world.World.{World, Frame, at}
-use Rattle.ix_model.specs.rows.Walks.{Behind, behind}
+use Rattle.ix_model.specs.rows.Walks.{OpenFile, behind}
 use Rattle.ix_model.specs.history.AuditLog.{label_at, of_process}
 use Rattle.std.proofs.Common.{option_map}
 use Rattle.ix_model.specs.history.Step.{Given, step_of}
@@ -30,7 +30,7 @@ closes fd (op.Exit status) reply.Done = true
 closes fd o r = false
 
 -- the label of an open entry
-abbrev pub label_through : Frame → Option Behind → Categories
+abbrev pub label_through : Frame → Option OpenFile → Categories
 label_through f e = option_map_or (λ b. option_map_or (λ x. x.label) (at f.opens b.id) bottom) e bottom
 
 -- the label of a process, of the object that its descriptor stood for, or of the open entry was changed from one frame to the next

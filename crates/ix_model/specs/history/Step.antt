@@ -2,7 +2,7 @@
 use Rattle.std.specs.Prelude.{ℕ, suc, Bool, false, not, ◌&&◌, List, [], ◌∷◌, ◌++◌, length, take, drop, Option, Some, None, is_some, if◌then◌else◌}
 use Rattle.std.specs.Option.{option_map_or}
 use Rattle.ix_model.specs.world.World.{Frame, World, Content, at}
-use Rattle.ix_model.specs.rows.Walks.{Behind, behind}
+use Rattle.ix_model.specs.rows.Walks.{OpenFile, behind}
 use Rattle.ix_model.specs.rows.Table.{Decision, verdict}
 use Rattle.ix_model.specs.world.Contents.{carried, holding_of, readable, after_read, after_write, after_cut, after_seek, after_exit, emptied, status_of}
 use Rattle.ix_model.specs.rows.Telling.{told}
@@ -28,24 +28,24 @@ abbrev pub edited : World → Frame → Reply → List ℕ → (Content → Cont
 edited w g r bytes edit = record { world = record { frame = g; content = edit (carried w.frame g w.content) }; reply = r; bytes = bytes }
 
 -- a read gives the bytes that are readable, up to the count, and moves past them
-abbrev pub read_given : World → List ℕ → Behind → Frame → Given
+abbrev pub read_given : World → List ℕ → OpenFile → Frame → Given
 read_given w bytes e g = edited w g (reply.Bytes (length bytes)) bytes (after_read w.frame e (length bytes))
 
-unfoldable pub read_answer : World → ℕ → Option Behind → Reply → Frame → Given
+unfoldable pub read_answer : World → ℕ → Option OpenFile → Reply → Frame → Given
 read_answer w count (Some e) (reply.Bytes k) g = read_given w (take count (readable w.frame w.content e)) e g
 read_answer w count _ r g = plainly w (record { reply = r; frame = g })
 
 -- a write tells how many bytes it wrote
-unfoldable pub write_answer : World → List ℕ → Option Behind → Reply → Frame → Given
+unfoldable pub write_answer : World → List ℕ → Option OpenFile → Reply → Frame → Given
 write_answer w new (Some e) (reply.Number k) g = edited w g (reply.Number (length new)) [] (after_write w.frame e new)
 write_answer w new _ r g = plainly w (record { reply = r; frame = g })
 
 -- a cut and a seek
-unfoldable pub cut_answer : World → ℕ → Option Behind → Reply → Frame → Given
+unfoldable pub cut_answer : World → ℕ → Option OpenFile → Reply → Frame → Given
 cut_answer w len (Some e) reply.Done g = edited w g reply.Done [] (after_cut e len)
 cut_answer w len _ r g = plainly w (record { reply = r; frame = g })
 
-unfoldable pub seek_answer : World → ℕ → Option Behind → Reply → Frame → Given
+unfoldable pub seek_answer : World → ℕ → Option OpenFile → Reply → Frame → Given
 seek_answer w offset (Some e) reply.Done g = edited w g reply.Done [] (after_seek e offset)
 seek_answer w offset _ r g = plainly w (record { reply = r; frame = g })
 
@@ -69,7 +69,7 @@ abbrev pub is_whole : Frame → ℕ → Bool
 is_whole f o = option_map_or (λ x. is_some (at x.claims 0) && is_some (at x.claims 1)) (at f.objects o) false
 
 -- the claim that makes a path whole empties it
-unfoldable pub pex_answer : World → Option Behind → Reply → Frame → Given
+unfoldable pub pex_answer : World → Option OpenFile → Reply → Frame → Given
 pex_answer w (Some e) r g =
     let o = e.entry.object in
     edited w g r [] (λ c. if is_whole g o && not (is_whole w.frame o) then emptied o c else c)

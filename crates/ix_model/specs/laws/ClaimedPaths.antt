@@ -2,7 +2,7 @@
 use Rattle.std.specs.Prelude.{◌≡◌, ℕ, suc, Bool, true, false, ◌&&◌, List, [], ◌∷◌, ◌++◌, Option, Some, None, if◌then◌else◌}
 use Rattle.std.specs.Option.{option_map_or}
 use Rattle.ix_model.specs.world.World.{World, Frame, Object, at, is_pipe, may_read, may_write, claimed_by_another, claimed_by}
-use Rattle.ix_model.specs.rows.Walks.{Behind, behind}
+use Rattle.ix_model.specs.rows.Walks.{OpenFile, behind}
 use Rattle.ix_model.specs.history.Step.{Given, step, step_of, run, is_whole}
 use Rattle.ix_model.specs.laws.WholePaths.{sent}
 use Rattle.ix_model.specs.laws.Clean.{IsClean}
@@ -31,7 +31,7 @@ pub record NotThrough (w : World) (place pid fd : ℕ) (m : Mode) (x : Object) :
 
 -- nobody but the claimant gets through a claimed end
 abbrev pub OnlyClaimantsGetThrough : Type 0
-OnlyClaimantsGetThrough = (w : World) (place pid fd : ℕ) (e : Behind) (x : Object) → behind w.frame pid fd ≡ Some e → at w.frame.objects e.entry.object ≡ Some x → claimed_by_another x e.entry.end pid ≡ true → NotThrough w place pid fd e.entry.mode x
+OnlyClaimantsGetThrough = (w : World) (place pid fd : ℕ) (e : OpenFile) (x : Object) → behind w.frame pid fd ≡ Some e → at w.frame.objects e.entry.object ≡ Some x → claimed_by_another x e.entry.end pid ≡ true → NotThrough w place pid fd e.entry.mode x
 
 -- ---- whole paths
 -- whether a path is whole before each entry of a history, and after the last
@@ -40,7 +40,7 @@ stays_whole w place [] o = is_whole w.frame o
 stays_whole w place (e ∷ events) o = is_whole w.frame o && stays_whole (step_of w place e).world (suc place) events o
 
 -- whether a process has claimed the end that an open entry is on
-abbrev pub claims_its_end : Frame → ℕ → Option Behind → Bool
+abbrev pub claims_its_end : Frame → ℕ → Option OpenFile → Bool
 claims_its_end f pid None = false
 claims_its_end f pid (Some e) = option_map_or (λ x. claimed_by x e.entry.end pid) (at f.objects e.entry.object) false
 
@@ -63,4 +63,4 @@ pub record IsInside (part whole : List ℕ) : Type 0 where
 -- Where a call made a path whole, and it has been whole since, all that is read from it was written by a claimant since.
 -- The number of the pipe may have been another pipe's before.
 abbrev pub ClaimantsReadWhatClaimantsWrote : Type 0
-ClaimantsReadWhatClaimantsWrote = (w : World) (place pid : ℕ) (c : Op) (h : List Event) (o : ℕ) → Sound w → is_whole w.frame o ≡ false → stays_whole (step w place pid c).world (suc place) h o ≡ true → (n reader fd count : ℕ) (e : Behind) → behind (run (step w place pid c).world (suc place) h).frame reader fd ≡ Some e → e.entry.object ≡ o → IsInside (step (run (step w place pid c).world (suc place) h) n reader (op.ReadFd fd count)).bytes (written_by_claimants (step w place pid c).world (suc place) h o e.entry.end)
+ClaimantsReadWhatClaimantsWrote = (w : World) (place pid : ℕ) (c : Op) (h : List Event) (o : ℕ) → Sound w → is_whole w.frame o ≡ false → stays_whole (step w place pid c).world (suc place) h o ≡ true → (n reader fd count : ℕ) (e : OpenFile) → behind (run (step w place pid c).world (suc place) h).frame reader fd ≡ Some e → e.entry.object ≡ o → IsInside (step (run (step w place pid c).world (suc place) h) n reader (op.ReadFd fd count)).bytes (written_by_claimants (step w place pid c).world (suc place) h o e.entry.end)

@@ -9,7 +9,7 @@ use Rattle.ix_model.specs.world.Contents.{holding_of, holds_nothing, side}
 use Rattle.ix_model.specs.history.AuditLog.{audit_log}
 use Rattle.ix_model.specs.laws.WholePaths.{IsEndOf, written_to}
 use Rattle.ix_model.specs.rows.Outcomes.{Pass}
-use Rattle.ix_model.specs.rows.Walks.{Behind, behind, object_at}
+use Rattle.ix_model.specs.rows.Walks.{OpenFile, behind, object_at}
 use Rattle.ix_model.specs.history.Step.{step, run, is_whole}
 use Rattle.ix_model.specs.opening.Opening.{opening_world}
 use Rattle.ix_model.specs.opening.Valid.{is_valid}
@@ -60,7 +60,7 @@ RefusalsLeaveWorlds = (w : World) (place pid : ℕ) (o : Op) (r : Refusal) → (
 -- ---- objects
 -- an object stands behind each descriptor of a living process, and wherever a path is found to lead
 pub record ObjectsThere (w : World) : Type 0 where
-  pub behind : (pid fd : ℕ) (e : Behind) → behind w.frame pid fd ≡ Some e → is_some (at w.frame.objects e.entry.object) ≡ true
+  pub behind : (pid fd : ℕ) (e : OpenFile) → behind w.frame pid fd ≡ Some e → is_some (at w.frame.objects e.entry.object) ≡ true
   pub object_at : (pid o : ℕ) (path : PathOf) (g : Frame) → object_at pid path w.frame ≡ Pass o g → is_some (at g.objects o) ≡ true
 
 abbrev pub ObjectsAreThere : Type 0

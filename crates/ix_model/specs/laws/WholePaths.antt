@@ -1,7 +1,7 @@
 -- Whole paths: pipes of which both ends are claimed, and what they hold.
 use Rattle.std.specs.Prelude.{◌≡◌, ℕ, suc, ◌-◌, ◌==◌, ◌&&◌, Bool, false, List, [], ◌∷◌, ◌++◌, Option, Some, None, if◌then◌else◌}
 use Rattle.ix_model.specs.world.World.{World, Frame}
-use Rattle.ix_model.specs.rows.Walks.{Behind, behind}
+use Rattle.ix_model.specs.rows.Walks.{OpenFile, behind}
 use Rattle.ix_model.specs.history.Step.{step_of}
 use Rattle.ix_model.specs.history.Events.{Op, Event}
 use Rattle.ix_model.specs.history.Events as op
@@ -9,7 +9,7 @@ use Rattle.ix_model.specs.declared.reply.Reply.{Reply}
 use Rattle.ix_model.specs.declared.reply.Reply.TheVariants as reply
 
 -- whether what is written through an open entry can be read at that end of that pipe
-abbrev pub reaches : Option Behind → ℕ → ℕ → Bool
+abbrev pub reaches : Option OpenFile → ℕ → ℕ → Bool
 reaches None o end = false
 reaches (Some e) o end = e.entry.object == o && 1 - e.entry.end == end
 

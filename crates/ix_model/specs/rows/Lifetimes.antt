@@ -6,7 +6,7 @@ use Rattle.ix_model.specs.world.World.{Frame, Object, at, put, is_file, is_dir, 
 use Rattle.ix_model.specs.world.Owners.{times_named, owned, has_end}
 use Rattle.ix_model.specs.rows.Outcomes.{Row}
 use Rattle.ix_model.specs.rows.Rows.{◌>>◌, pass, only_if, change_process, change_object, put_object, put_open}
-use Rattle.ix_model.specs.rows.Walks.{Behind, behind}
+use Rattle.ix_model.specs.rows.Walks.{OpenFile, behind}
 
 -- an object stays while it is a directory, a file with a name or an open entry, or a pipe with an open entry
 abbrev pub stays : Frame → ℕ → Object → Bool
@@ -32,7 +32,7 @@ unfoldable pub let_go_claim : ℕ → ℕ → ℕ → Row (Unit {0})
 let_go_claim pid o end = λ f. only_if (has_lost f pid o end) (change_object o (λ x. record x { claims = put x.claims end None })) f
 
 -- a descriptor is given up, and with it what it alone kept
-unfoldable pub let_go : ℕ → ℕ → Behind → Row (Unit {0})
+unfoldable pub let_go : ℕ → ℕ → OpenFile → Row (Unit {0})
 let_go pid fd e = do
   change_process pid (λ p. record p { fds = put p.fds fd None })
   let_go_claim pid e.entry.object e.entry.end

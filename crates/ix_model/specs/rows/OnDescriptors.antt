@@ -5,7 +5,7 @@ use Rattle.ix_model.specs.world.World.{Object, Process, Open, at, put, lowest_fr
 use Rattle.ix_model.specs.world.Numbers.{free_pipe}
 use Rattle.ix_model.specs.rows.Outcomes.{Row}
 use Rattle.ix_model.specs.rows.Rows.{◌>>=◌, ◌>>◌, pass, need, some, only_if, frame, process, object, change_process, change_object, put_object, put_open, change_open, observe, affect}
-use Rattle.ix_model.specs.rows.Walks.{Behind, opened}
+use Rattle.ix_model.specs.rows.Walks.{OpenFile, opened}
 use Rattle.ix_model.specs.rows.Lifetimes.{let_go}
 use Rattle.ix_model.specs.rows.OnPaths.{new_object}
 use Rattle.ix_model.specs.declared.call.Mode.TheVariants as mode
@@ -15,7 +15,7 @@ use Rattle.ix_model.specs.declared.reply.Reply.{Reply}
 use Rattle.ix_model.specs.declared.reply.Reply.TheVariants as reply
 
 -- what lengths and offsets tell a row: nothing but these tests
-pub record Told : Type 0 where
+pub record LengthChecks : Type 0 where
   pub too_big : Bool
   pub full : Bool
   pub no_space : Bool
@@ -23,7 +23,7 @@ pub record Told : Type 0 where
 
 -- ---- labels of open entries
 -- a file's open entry takes in the label of the caller, who moves its offset; a pipe's stays at bottom
-unfoldable pub float_entry : Process → Object → Behind → Row (Unit {0})
+unfoldable pub float_entry : Process → Object → OpenFile → Row (Unit {0})
 float_entry p x e = only_if (not (is_pipe x)) (change_open e.id (λ y. record y { label = join y.label p.label }))
 
 -- ---- bytes
@@ -36,7 +36,7 @@ abbrev pub write_passed : Reply
 write_passed = reply.Number 0
 
 -- ReadFd: what is there, up to the count
-unfoldable pub read_fd : Told → ℕ → ℕ → ℕ → Row Reply
+unfoldable pub read_fd : LengthChecks → ℕ → ℕ → ℕ → Row Reply
 read_fd t pid fd count = do
   e ← opened pid fd
   need (may_read e.entry.mode) refusal.NotReadable
@@ -51,7 +51,7 @@ read_fd t pid fd count = do
   pass read_passed
 
 -- WriteFd: all bytes, or none
-unfoldable pub write_fd : Told → ℕ → ℕ → Row Reply
+unfoldable pub write_fd : LengthChecks → ℕ → ℕ → Row Reply
 write_fd t pid fd = do
   e ← opened pid fd
   need (may_write e.entry.mode) refusal.NotWritable
@@ -69,7 +69,7 @@ write_fd t pid fd = do
   pass write_passed
 
 -- CutFd: the file has that length; the offset stays
-unfoldable pub cut_fd : Told → ℕ → ℕ → ℕ → Row Reply
+unfoldable pub cut_fd : LengthChecks → ℕ → ℕ → ℕ → Row Reply
 cut_fd t pid fd len = do
   e ← opened pid fd
   need (may_write e.entry.mode) refusal.NotWritable

@@ -4,7 +4,7 @@ use Rattle.ix_model.specs.rows.Refusals.{keeps_label}
 use Rattle.ix_model.specs.world.World.{Frame, lives}
 use Rattle.ix_model.specs.rows.Outcomes.{Outcome, Refuse, Pass, Row}
 use Rattle.ix_model.specs.rows.OnPaths.{create_at, make_dir, open_at, link_at, unlink_at, remove_dir, change_dir, stat_at, list_at}
-use Rattle.ix_model.specs.rows.OnDescriptors.{Told, read_fd, write_fd, cut_fd, seek_fd, dup_fd, close_fd, make_pipe, pex, unpex}
+use Rattle.ix_model.specs.rows.OnDescriptors.{LengthChecks, read_fd, write_fd, cut_fd, seek_fd, dup_fd, close_fd, make_pipe, pex, unpex}
 use Rattle.ix_model.specs.rows.OnProcesses.{fork, exec, exit, wait_child}
 use Rattle.ix_model.specs.rows.OnLabels.{label_of, self_label, set_label, set_self, freeze, freeze_self, thaw, thaw_self, set_priv, drop_lic, grant_lic, set_ceiling, read_log}
 use Rattle.ix_model.specs.history.Events.{Op}
@@ -14,7 +14,7 @@ use Rattle.ix_model.specs.declared.reply.Reply.{Reply}
 use Rattle.ix_model.specs.declared.reply.Reply.TheVariants as reply
 
 -- the row of each call
-unfoldable pub row : Told → ℕ → ℕ → Op → Row Reply
+unfoldable pub row : LengthChecks → ℕ → ℕ → Op → Row Reply
 row t place pid (op.CreateAt path) = create_at pid path
 row t place pid (op.OpenAt path mode) = open_at pid path mode
 row t place pid (op.ReadFd fd count) = read_fd t pid fd count
@@ -62,5 +62,5 @@ settled f (Refuse r g) = record { reply = reply.No r; frame = if keeps_label r t
 settled f (Pass answer g) = record { reply = answer; frame = g }
 
 -- A call by a process that doesn't live is refused; else its row decides.
-unfoldable pub verdict : Told → ℕ → ℕ → Op → Frame → Decision
+unfoldable pub verdict : LengthChecks → ℕ → ℕ → Op → Frame → Decision
 verdict t place pid o f = if lives f pid then settled f (row t place pid o f) else record { reply = reply.No refusal.NoProcess; frame = f }

@@ -2,8 +2,8 @@
 use Rattle.std.specs.Prelude.{ℕ, suc, ◌+◌, ◌-◌, ◌/◌, ◌==◌, nat_lt, max, Bool, false, not, ◌&&◌, ◌||◌, List, [], ◌∷◌, length, Option, Some, None, if◌then◌else◌}
 use Rattle.std.specs.Option.{option_map_or, option_and_then}
 use Rattle.ix_model.specs.world.World.{fs_at, Frame, Content, World, Holding, at}
-use Rattle.ix_model.specs.rows.Walks.{Behind, behind}
-use Rattle.ix_model.specs.rows.OnDescriptors.{Told}
+use Rattle.ix_model.specs.rows.Walks.{OpenFile, behind}
+use Rattle.ix_model.specs.rows.OnDescriptors.{LengthChecks}
 use Rattle.ix_model.specs.world.Contents.{holding_of, offset_of, side, on_pipe, readable}
 use Rattle.ix_model.specs.history.Events.{Op}
 use Rattle.ix_model.specs.history.Events as op
@@ -41,21 +41,21 @@ length_then offset n old = if n == 0 then old else max old (offset + n)
 
 -- ---- what lengths and offsets tell
 -- no test fails
-abbrev pub nothing_told : Told
+abbrev pub nothing_told : LengthChecks
 nothing_told = record { too_big = false; full = false; no_space = false; empty = false }
 
 -- whether there is nothing to read
-unfoldable pub told_of_read : Frame → Content → Option Behind → Told
+unfoldable pub told_of_read : Frame → Content → Option OpenFile → LengthChecks
 told_of_read f c None = nothing_told
 told_of_read f c (Some e) = record nothing_told { empty = length (readable f c e) == 0 }
 
 -- a pipe takes at most 4,096 bytes in each direction
-abbrev pub told_of_pipe_write : ℕ → ℕ → Told
+abbrev pub told_of_pipe_write : ℕ → ℕ → LengthChecks
 told_of_pipe_write there n = record nothing_told { too_big = nat_lt 4096 n; full = nat_lt 4096 (there + n) }
 
 -- a write has at most 4,096 bytes and ends at 1,048,576 at the latest; there is no space where the file would need more blocks
 -- than the other files of its file system leave it. Where the write is too big, nothing is told of space.
-abbrev pub told_of_file_write : Frame → Content → Behind → ℕ → Told
+abbrev pub told_of_file_write : Frame → Content → OpenFile → ℕ → LengthChecks
 told_of_file_write f c e n =
     let o = e.entry.object in
     let big = nat_lt 4096 n || nat_lt 1048576 (offset_of c e.id + n) in
@@ -65,17 +65,17 @@ told_of_file_write f c e n =
     }
 
 -- a write to a pipe, or to a file
-unfoldable pub told_of_write : Frame → Content → ℕ → Option Behind → Told
+unfoldable pub told_of_write : Frame → Content → ℕ → Option OpenFile → LengthChecks
 told_of_write f c n None = nothing_told
 told_of_write f c n (Some e) = if on_pipe f e then told_of_pipe_write (length (side (1 - e.entry.end) (holding_of c e.entry.object))) n else told_of_file_write f c e n
 
 -- there is no space where the file would need more blocks than the other files of its file system leave it
-unfoldable pub told_of_cut : Frame → Content → ℕ → Option Behind → Told
+unfoldable pub told_of_cut : Frame → Content → ℕ → Option OpenFile → LengthChecks
 told_of_cut f c len None = nothing_told
 told_of_cut f c len (Some e) = record nothing_told { no_space = nat_lt (blocks_on f (fs_of_object f e.entry.object)) (blocks_beside f c e.entry.object + blocks_for len) }
 
 -- what a call is told; calls but reads, writes and cuts are told nothing
-unfoldable pub told : World → ℕ → Op → Told
+unfoldable pub told : World → ℕ → Op → LengthChecks
 told w pid (op.ReadFd fd count) = told_of_read w.frame w.content (behind w.frame pid fd)
 told w pid (op.WriteFd fd bytes) = told_of_write w.frame w.content (length bytes) (behind w.frame pid fd)
 told w pid (op.CutFd fd len) = told_of_cut w.frame w.content len (behind w.frame pid fd)

@@ -115,26 +115,26 @@ missing pid path = do
 
 -- ---- descriptors
 -- an open entry with its number
-pub record Behind : Type 0 where
+pub record OpenFile : Type 0 where
   pub id : ℕ
   pub entry : Open
 
 -- the open entry of a number
-abbrev pub entry_at : Frame → Option ℕ → Option Behind
+abbrev pub entry_at : Frame → Option ℕ → Option OpenFile
 entry_at f None = None
 entry_at f (Some e) = option_map (λ x. record { id = e; entry = x }) (at f.opens e)
 
 -- the open entry behind a descriptor of a process
-abbrev pub behind_of : Option Process → Frame → ℕ → Option Behind
+abbrev pub behind_of : Option Process → Frame → ℕ → Option OpenFile
 behind_of None f fd = None
 behind_of (Some p) f fd = entry_at f (at p.fds fd)
 
 -- the open entry behind a descriptor of a living process
-unfoldable pub behind : Frame → ℕ → ℕ → Option Behind
+unfoldable pub behind : Frame → ℕ → ℕ → Option OpenFile
 behind f pid fd = behind_of (living (at f.processes pid)) f fd
 
 -- the open entry behind a descriptor, which must be one of the caller's
-unfoldable pub opened : ℕ → ℕ → Row Behind
+unfoldable pub opened : ℕ → ℕ → Row OpenFile
 opened pid fd = do
   f ← frame
   some (behind f pid fd) refusal.BadFd

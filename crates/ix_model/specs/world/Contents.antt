@@ -2,7 +2,7 @@
 use Rattle.std.specs.Prelude.{ℕ, suc, ◌+◌, ◌-◌, ◌==◌, nat_le, Bool, false, ◌&&◌, List, [], ◌∷◌, ◌++◌, length, take, drop, replicate, is_some, if◌then◌else◌, slice_index_or, slice_set}
 use Rattle.std.specs.Option.{option_map_or}
 use Rattle.ix_model.specs.world.World.{Frame, Content, Holding, HoldingOf, at, is_ended, is_pipe}
-use Rattle.ix_model.specs.rows.Walks.{Behind}
+use Rattle.ix_model.specs.rows.Walks.{OpenFile}
 
 -- ---- what stays
 -- only what stands at the numbers that pass stays, counted from k
@@ -60,15 +60,15 @@ abbrev pub with_side : {A : Type 0} → ℕ → List A → HoldingOf A → Holdi
 with_side end now h = if end == 0 then record h { first = now } else record h { second = now }
 
 -- whether an open entry is on a pipe
-abbrev pub on_pipe : Frame → Behind → Bool
+abbrev pub on_pipe : Frame → OpenFile → Bool
 on_pipe f e = option_map_or is_pipe (at f.objects e.entry.object) false
 
 -- what there is to read, of what is held: a file's from the offset, or all that the pipe's end can read
-abbrev pub readable_in : {A : Type 0} → Frame → ℕ → Behind → List (HoldingOf A) → List A
+abbrev pub readable_in : {A : Type 0} → Frame → ℕ → OpenFile → List (HoldingOf A) → List A
 readable_in f offset e hs = drop (if on_pipe f e then 0 else offset) (side e.entry.end (held_at hs e.entry.object))
 
 -- the bytes that there are to read
-unfoldable pub readable : Frame → Content → Behind → List ℕ
+unfoldable pub readable : Frame → Content → OpenFile → List ℕ
 readable f c e = readable_in f (offset_of c e.id) e c.holdings
 
 -- what is held, with what an end of an object reads from changed
@@ -80,7 +80,7 @@ abbrev pub change_side : ℕ → ℕ → (List ℕ → List ℕ) → Content →
 change_side o end h c = record c { holdings = on_side o end h c.holdings }
 
 -- a read of so many bytes moves a file's offset, and takes a pipe's bytes
-unfoldable pub after_read : Frame → Behind → ℕ → Content → Content
+unfoldable pub after_read : Frame → OpenFile → ℕ → Content → Content
 after_read f e k c =
     if on_pipe f e then change_side e.entry.object e.entry.end (drop k) c
     else record c { offsets = slice_set c.offsets e.id (offset_of c e.id + k) }
@@ -94,7 +94,7 @@ abbrev pub spliced : ℕ → List ℕ → List ℕ → List ℕ
 spliced offset new old = written_over 0 offset new old
 
 -- the bytes stand at a file's offset, which moves, or at the end of what a pipe's other end can read
-unfoldable pub after_write : Frame → Behind → List ℕ → Content → Content
+unfoldable pub after_write : Frame → OpenFile → List ℕ → Content → Content
 after_write f e new c =
     if on_pipe f e then change_side e.entry.object (1 - e.entry.end) (λ old. old ++ new) c
     else record (change_side e.entry.object e.entry.end (spliced (offset_of c e.id) new) c) { offsets = slice_set c.offsets e.id (offset_of c e.id + length new) }
@@ -108,11 +108,11 @@ abbrev pub cut_to : ℕ → List ℕ → List ℕ
 cut_to len bytes = resized 0 len bytes
 
 -- the file is cut to that length
-unfoldable pub after_cut : Behind → ℕ → Content → Content
+unfoldable pub after_cut : OpenFile → ℕ → Content → Content
 after_cut e len c = change_side e.entry.object e.entry.end (cut_to len) c
 
 -- the offset is that
-unfoldable pub after_seek : Behind → ℕ → Content → Content
+unfoldable pub after_seek : OpenFile → ℕ → Content → Content
 after_seek e offset c = record c { offsets = slice_set c.offsets e.id offset }
 
 -- nothing is held at a number

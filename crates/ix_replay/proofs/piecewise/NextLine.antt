@@ -5,9 +5,9 @@ use Rattle.std.specs.Prelude.{codes}
 use Rattle.ix_report.specs.Feeds.{EndsOnce}
 use Rattle.ix_report.specs.LineText.{tail_line}
 use Rattle.ix_report.proofs.feeds.Lines.{lines_end}
-use Rattle.ix_replay.specs.declared.telling.closing.Next.TheVariants as stage
+use Rattle.ix_replay.specs.declared.reporting.closing.Next.TheVariants as stage
 use Rattle.ix_replay.specs.report.Telling.{HasTold, Tells, TellsLine, last_world, left_of, log_left, objects_left, processes_left}
-use Rattle.ix_replay.specs.declared.telling.closing.Closing.{Closing}
+use Rattle.ix_replay.specs.declared.reporting.closing.Closing.{Closing}
 
 -- a line isn't empty
 pub line_some : (line : List ℕ) → EndsOnce line → line ≡ [] → ⊥

@@ -14,8 +14,8 @@ use Rattle.ix_report.specs.LineText.{audit_line, object_line, process_line, tail
 use Rattle.ix_report.proofs.feeds.Lines.{lines_end}
 use Rattle.ix_replay.specs.report.Report.{object_text, process_text, texts_from, objects_text, processes_text, closing_text}
 use Rattle.ix_replay.specs.report.Telling.{IsPiece, Tells, left_of, objects_left, processes_left, log_left, last_world, pieces_of}
-use Rattle.ix_replay.specs.declared.telling.closing.Next.TheVariants as stage
-use Rattle.ix_replay.specs.declared.telling.closing.Closing.{Closing}
+use Rattle.ix_replay.specs.declared.reporting.closing.Next.TheVariants as stage
+use Rattle.ix_replay.specs.declared.reporting.closing.Closing.{Closing}
 use Rattle.ix_model.specs.declared.audit.AuditLine.{AuditLine}
 use Rattle.ix_lanes.proofs.found.Indexed.{rest_is, none_left}
 

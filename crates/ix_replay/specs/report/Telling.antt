@@ -6,9 +6,9 @@ use Rattle.ix_model.specs.history.History.{world_of}
 use Rattle.ix_report.specs.Feeds.{EndsOnce}
 use Rattle.ix_report.specs.LineText.{audit_line, tail_line}
 use Rattle.ix_replay.specs.report.Report.{object_text, process_text, texts_from}
-use Rattle.ix_replay.specs.declared.telling.closing.Next.{Next}
-use Rattle.ix_replay.specs.declared.telling.closing.Next.TheVariants as next
-use Rattle.ix_replay.specs.declared.telling.closing.Closing.{Closing}
+use Rattle.ix_replay.specs.declared.reporting.closing.Next.{Next}
+use Rattle.ix_replay.specs.declared.reporting.closing.Next.TheVariants as next
+use Rattle.ix_replay.specs.declared.reporting.closing.Closing.{Closing}
 
 -- the world that a report closes with
 abbrev pub last_world : Closing → World

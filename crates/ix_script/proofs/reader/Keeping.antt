@@ -155,8 +155,8 @@ counted_version (y ∷ before) form old new was e =
 
 counted_next : (before : List Line) (x : Line) (old new : Taken) → 0 < length (fss_of before) → length (fss_of before) ≤ 16 → list_all fs_fits (fss_of before) ≡ true → Follows before x
     → Counted (fss_of before) (objects_of before) old → Takes (fss_of before) (object_told x) old new → Counted (fss_of (After before x)) (objects_of (After before x)) new
-counted_next before (line.Dir path label frozen) old new some few fit f was takes = counted_object before (line.Dir path label frozen) _ old new some few fit refl refl refl f.crowds was takes
-counted_next before (line.File path label frozen cap lic bytes) old new some few fit f was takes = counted_object before (line.File path label frozen cap lic bytes) _ old new some few fit refl refl refl f.crowds was takes
+counted_next before (line.Dir path label frozen) old new some few fit f was takes = counted_object before (line.Dir path label frozen) _ old new some few fit refl refl refl f.exceeds_limits was takes
+counted_next before (line.File path label frozen cap lic bytes) old new some few fit f was takes = counted_object before (line.File path label frozen cap lic bytes) _ old new some few fit refl refl refl f.exceeds_limits was takes
 counted_next before (line.Fs name ceiling blocks inodes) old new some few fit f was takes =
     let x : Line = line.Fs name ceiling blocks inodes in
     let none : objects_of before ≡ [] = no_objects before f.order in

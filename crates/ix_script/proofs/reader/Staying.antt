@@ -223,7 +223,7 @@ parts_next before (line.Proc name label ceiling cap lic) was f s =
     let x : Line = line.Proc name label ceiling cap lic in
     let fs = same_fss before x refl refl in
     let limits = limits_push before x in
-    let few : length (proc_names before) < (limits_of before).procs = below_is_less (limits_of before).procs (length (proc_names before)) f.crowds in
+    let few : length (proc_names before) < (limits_of before).procs = below_is_less (limits_of before).procs (length (proc_names before)) f.exceeds_limits in
     record {
       fss = ap fss_fit fs ∙ was.fss;
       limits = ap limits_fit limits ∙ was.limits;
@@ -232,10 +232,10 @@ parts_next before (line.Proc name label ceiling cap lic) was f s =
     }
 parts_next before (line.Dir path label frozen) was f s =
     object_next before (line.Dir path label frozen) (dir_spec path label frozen) refl refl refl refl refl
-    (object_fit (fss_of before) (limits_of before) (objects_of before) (dir_spec path label frozen) (join_tests _ _ (join_tests _ _ s refl) refl) f.above f.misfits f.crowds) was
+    (object_fit (fss_of before) (limits_of before) (objects_of before) (dir_spec path label frozen) (join_tests _ _ (join_tests _ _ s refl) refl) f.above f.is_misplaced f.exceeds_limits) was
 parts_next before (line.File path label frozen cap lic bytes) was f s =
     object_next before (line.File path label frozen cap lic bytes) (file_spec path label frozen cap lic bytes) refl refl refl refl refl
-    (object_fit (fss_of before) (limits_of before) (objects_of before) (file_spec path label frozen cap lic bytes) (join_tests _ _ (join_tests _ _ s.place s.few) refl) f.above f.misfits f.crowds) was
+    (object_fit (fss_of before) (limits_of before) (objects_of before) (file_spec path label frozen cap lic bytes) (join_tests _ _ (join_tests _ _ s.place s.few) refl) f.above f.is_misplaced f.exceeds_limits) was
 parts_next before (line.Version form) was f s = parts_version before form was
 parts_next before x was f s = parts_same before (After before x) (same_fss before x refl refl) (limits_push before x) (same_procs before x refl) (same_objects before x refl) was
 

@@ -7,7 +7,7 @@ use Rattle.ix_text.specs.Bytes.{is_empty}
 use Rattle.ix_script.specs.lines.Kinds.{places_fault}
 use Rattle.ix_script.specs.lines.Forms.{form_of, places, has_right_count}
 use Rattle.ix_script.specs.lines.Before.{form_told, has_policy, in_body}
-use Rattle.ix_script.specs.lines.Rules.{first_of, is_too_long, is_unprintable, has_empty_word, has_open_quote, is_late, is_outside, is_given_twice, names_unknown, is_above, misfits, crowds, is_out_of_order, is_one_too_many, lacks_policy}
+use Rattle.ix_script.specs.lines.Rules.{first_of, is_too_long, is_unprintable, has_empty_word, has_open_quote, is_late, is_outside, is_given_twice, names_unknown, is_above, is_misplaced, exceeds_limits, is_out_of_order, is_one_too_many, lacks_policy}
 use Rattle.ix_script.specs.lines.Said.{said, version_of, line_of}
 use Rattle.ix_script.specs.declared.cutting.form.Form.{Form}
 use Rattle.ix_script.specs.declared.line.Line.{Line}
@@ -33,7 +33,7 @@ names_fault before f words = first_of ((20, is_given_twice before f words) ∷ (
 -- the rules on what a line says
 unfoldable pub said_fault : List Line → Line → Option ℕ
 said_fault before l =
-    first_of ((22, is_above before l) ∷ (23, misfits before l) ∷ (24, crowds before l) ∷ (25, is_out_of_order before l)
+    first_of ((22, is_above before l) ∷ (23, is_misplaced before l) ∷ (24, exceeds_limits before l) ∷ (25, is_out_of_order before l)
     ∷ (26, is_one_too_many before l) ∷ (28, lacks_policy before l) ∷ [])
 
 -- a line of a form: rules 8 to 10, 11 to 19, 20 and 21, and those from 22 on

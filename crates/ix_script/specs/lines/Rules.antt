@@ -84,25 +84,25 @@ is_above before (line.File path label frozen cap lic bytes) = object_above befor
 is_above before _ = false
 
 -- a path does not fit the tree: it is there, or its directory isn't
-abbrev pub object_misfits : List Line → ObjSpec → Bool
-object_misfits before o =
+abbrev pub object_is_misplaced : List Line → ObjSpec → Bool
+object_is_misplaced before o =
     is_taken (fss_of before) (objects_of before) o.path.names
     || not (has_directory (fss_of before) (objects_of before) (take (length o.path.names - 1) o.path.names))
 
-abbrev pub misfits : List Line → Line → Bool
-misfits before (line.Dir path label frozen) = object_misfits before (dir_spec path label frozen)
-misfits before (line.File path label frozen cap lic bytes) = object_misfits before (file_spec path label frozen cap lic bytes)
-misfits before _ = false
+abbrev pub is_misplaced : List Line → Line → Bool
+is_misplaced before (line.Dir path label frozen) = object_is_misplaced before (dir_spec path label frozen)
+is_misplaced before (line.File path label frozen cap lic bytes) = object_is_misplaced before (file_spec path label frozen cap lic bytes)
+is_misplaced before _ = false
 
 -- there is no room
-abbrev pub object_crowds : List Line → ObjSpec → Bool
-object_crowds before o = not (has_room (fss_of before) (limits_of before) (objects_of before) o)
+abbrev pub object_exceeds_limits : List Line → ObjSpec → Bool
+object_exceeds_limits before o = not (has_room (fss_of before) (limits_of before) (objects_of before) o)
 
-abbrev pub crowds : List Line → Line → Bool
-crowds before (line.Proc name label ceiling cap lic) = nat_le (limits_of before).procs (length (proc_names before))
-crowds before (line.Dir path label frozen) = object_crowds before (dir_spec path label frozen)
-crowds before (line.File path label frozen cap lic bytes) = object_crowds before (file_spec path label frozen cap lic bytes)
-crowds before _ = false
+abbrev pub exceeds_limits : List Line → Line → Bool
+exceeds_limits before (line.Proc name label ceiling cap lic) = nat_le (limits_of before).procs (length (proc_names before))
+exceeds_limits before (line.Dir path label frozen) = object_exceeds_limits before (dir_spec path label frozen)
+exceeds_limits before (line.File path label frozen cap lic bytes) = object_exceeds_limits before (file_spec path label frozen cap lic bytes)
+exceeds_limits before _ = false
 
 -- whether a line of a later group stands before
 abbrev pub has_later : ℕ → List Line → Bool

@@ -55,7 +55,7 @@ returns-in-Ended g c =
           (rw (lanes_input words left) at v.written);
       line = v.line;
       finished = v.finished;
-      hides = λ is. v.hides is (lanes_run words (subst (λ x. FitsCommand x (lanes_command_of words)) is v.fits));
+      noninterference = λ is. v.noninterference is (lanes_run words (subst (λ x. FitsCommand x (lanes_command_of words)) is v.fits));
       not_written = λ is. (e.fault (ap task.Ended is)).2;
       command = v.fits;
       answer = rw (lanes_input words left) at v.answer;
@@ -86,7 +86,7 @@ returns-in-Ok-run_history g c =
           (rw (lanes_input words left) at v.written);
       line = v.line;
       finished = v.finished;
-      hides = λ is. v.hides is (lanes_run words (subst (λ x. FitsCommand x (lanes_command_of words)) is v.fits));
+      noninterference = λ is. v.noninterference is (lanes_run words (subst (λ x. FitsCommand x (lanes_command_of words)) is v.fits));
       not_written = λ is. absurd (told_read text c.conclude.result e.fits is);
       command = v.fits;
       answer = rw (lanes_input words left) at v.answer;

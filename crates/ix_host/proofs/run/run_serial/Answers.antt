@@ -1,6 +1,6 @@
 use Rattle.std.proofs.Common.{◌≡◌, ◌∙◌, refl, subst, sym, ap}
 use Rattle.ix_lanes.specs.histories.Serial.{serial}
-use Rattle.ix_host.specs.Hiding.{TakesHidingReport}
+use Rattle.ix_host.specs.Noninterference.{TakesNoninterferentReport}
 use Rattle.ix_host.specs.command.Command.{IsCounted, command_of, usage_line}
 use Rattle.ix_host.specs.declared.status.Status.TheVariants as status
 use Rattle.ix_host.specs.declared.task.Task.TheVariants as task
@@ -36,7 +36,7 @@ returns-in-Ended g c =
       written = at_serial (script_for (command_of c.args.words.now)) (input_of (command_of c.args.words.now) left) taken (λ bytes t history. WritesFor c.in-Ended.status (text_of (outcome_of usage_line (command_of c.args.words.now) bytes history)) t (g.K.Sink.taken c.prepare.new.sink)) v.written;
       line = v.line;
       finished = v.finished;
-      hides = λ is run. at_serial script_in left taken (λ bytes t history. TakesHidingReport (script_in bytes) history t (g.K.Sink.taken c.prepare.new.sink)) (v.hides is run);
+      noninterference = λ is run. at_serial script_in left taken (λ bytes t history. TakesNoninterferentReport (script_in bytes) history t (g.K.Sink.taken c.prepare.new.sink)) (v.noninterference is run);
       judged = λ is asked. takes_verdict c.texts_are_judged.ensures.names c.texts_are_judged.ensures.judged (command_of c.args.words.now) left c.in-Ended.status taken (g.K.Sink.taken c.prepare.new.sink) is asked v.answer
           (at_serial (script_for (command_of c.args.words.now)) (input_of (command_of c.args.words.now) left) taken (λ bytes t history. WritesFor c.in-Ended.status (text_of (outcome_of usage_line (command_of c.args.words.now) bytes history)) t (g.K.Sink.taken c.prepare.new.sink)) v.written);
       traced = λ is asked. takes_traces c.lines_are_accounted_for.ensures.law (command_of c.args.words.now) left c.in-Ended.status taken (g.K.Sink.taken c.prepare.new.sink) is asked v.answer
@@ -71,7 +71,7 @@ returns-in-Run g c =
       written = at_serial (script_for (command_of c.args.words.now)) (input_of (command_of c.args.words.now) left) taken (λ bytes t history. WritesFor c.tell_serial.result (text_of (outcome_of usage_line (command_of c.args.words.now) bytes history)) t (g.K.Sink.taken c.tell_serial.new.sink)) v.written;
       line = v.line;
       finished = v.finished;
-      hides = λ is run. at_serial script_in left taken (λ bytes t history. TakesHidingReport (script_in bytes) history t (g.K.Sink.taken c.tell_serial.new.sink)) (v.hides is run);
+      noninterference = λ is run. at_serial script_in left taken (λ bytes t history. TakesNoninterferentReport (script_in bytes) history t (g.K.Sink.taken c.tell_serial.new.sink)) (v.noninterference is run);
       judged = λ is asked. takes_verdict c.texts_are_judged.ensures.names c.texts_are_judged.ensures.judged (command_of c.args.words.now) left c.tell_serial.result taken (g.K.Sink.taken c.tell_serial.new.sink) is asked v.answer
           (at_serial (script_for (command_of c.args.words.now)) (input_of (command_of c.args.words.now) left) taken (λ bytes t history. WritesFor c.tell_serial.result (text_of (outcome_of usage_line (command_of c.args.words.now) bytes history)) t (g.K.Sink.taken c.tell_serial.new.sink)) v.written);
       traced = λ is asked. takes_traces c.lines_are_accounted_for.ensures.law (command_of c.args.words.now) left c.tell_serial.result taken (g.K.Sink.taken c.tell_serial.new.sink) is asked v.answer

@@ -1,6 +1,6 @@
 use Rattle.std.proofs.Common.{◌≡◌, ℕ, ◌+◌, ◌≤◌, true, false, is_none, length, OnOk, sym, ap, ◌∙◌, subst, arith}
 use Rattle.std.specs.List.{list_all}
-use Rattle.ix_replay.specs.declared.telling.closing.Next.TheVariants as next
+use Rattle.ix_replay.specs.declared.reporting.closing.Next.TheVariants as next
 use Rattle.ix_judging.specs.Walk.{closes, is_over, line_after}
 use Rattle.ix_check.specs.Judging.{AreLeft, Stands, Walked}
 use Rattle.ix_check.specs.Plans.{judged_plan}

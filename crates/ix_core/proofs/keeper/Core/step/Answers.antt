@@ -8,7 +8,7 @@ use Rattle.ix_model.specs.laws.Sound.{Sound}
 use Rattle.ix_model.specs.world.World.{World}
 use Rattle.ix_model.specs.declared.reply.Reply.{Reply}
 use Rattle.ix_model.proofs.clean.Showing.{shown_step}
-use Rattle.ix_iso.proofs.Hiding.{hides}
+use Rattle.ix_iso.proofs.Noninterference.{noninterference}
 use Rattle.ix_journal.specs.Entries.{Entries, Fits}
 use Rattle.ix_core.specs.Marking.{AreKnown, AreReady, AreTold, IsKept, goes_fresh}
 use Rattle.ix_core.proofs.Keeping.{few_raised, goes_by, marked_known, marked_next}
@@ -87,8 +87,8 @@ returns-clause-alike g c =
     answers_alike h e c.turn-reply.result c.args.buf.now c.turn-reply.new.buf
     (c.turn-reply.ensures.answers.reply ∙ ap (λ (x : Given). x.reply) is) (c.turn-reply.ensures.answers.bytes ∙ ap (λ (x : Given). put_front x.bytes c.args.buf.now) is)
 
-pub returns-then-not-takes-clause-hides : goal.returns-then-not-takes-clause-hides
-returns-then-not-takes-clause-hides g c = hides _ _
+pub returns-then-not-takes-clause-noninterference : goal.returns-then-not-takes-clause-noninterference
+returns-then-not-takes-clause-noninterference g c = noninterference _ _
 
-pub returns-clause-hides : goal.returns-clause-hides
-returns-clause-hides g c = hides _ _
+pub returns-clause-noninterference : goal.returns-clause-noninterference
+returns-clause-noninterference g c = noninterference _ _

@@ -2,7 +2,7 @@ use Rattle.std.proofs.Common.{◌≡◌, ◌∙◌, sym, ap, subst, true, false,
 use Rattle.std.specs.Option.{option_map_or}
 use Rattle.ix_model.specs.world.World.{at, is_file}
 use Rattle.ix_model.specs.world.Contents.{holds_nothing, with_side, cut_to}
-use Rattle.ix_tables.specs.Meanings.{has_room}
+use Rattle.ix_tables.specs.Views.{has_room}
 use Rattle.ix_tables.specs.Parts.{Parts}
 use Rattle.ix_fcalls.proofs.Serving.{serves_file}
 use Rattle.ix_fcalls.proofs.Lengths.{cut_has_room}
@@ -13,17 +13,17 @@ pub cut-requires-clause-file : goal.cut-requires-clause-file
 cut-requires-clause-file g c = subst (λ (v : Parts). option_map_or is_file (at v.objects c.args.e.now.object) false ≡ true) (sym c.self.view_is) (serves_file c.args.self.now c.args.e.now c.requires.serves c.requires.file)
 
 pub cut-requires-clause-room : goal.cut-requires-clause-room
-cut-requires-clause-room g c = subst (λ (v : Parts). has_room c.args.e.now.object c.args.len v ≡ true) (sym c.self.view_is) (cut_has_room g.R.Rest.rest c.args.self.now c.args.who.now c.args.e.now c.args.len c.requires.room)
+cut-requires-clause-room g c = subst (λ (v : Parts). has_room c.args.e.now.object c.args.len v ≡ true) (sym c.self.view_is) (cut_has_room g.R.Others.rest c.args.self.now c.args.who.now c.args.e.now c.args.len c.requires.room)
 
 pub returns-clause-frame : goal.returns-clause-frame
 returns-clause-frame g c =
     edited_frame c.args.self.now c.cut.new.self _ _
     (c.cut.ensures ∙ ap (λ (v : Parts). let w : Parts = record v { holdings = slice_set v.holdings c.args.e.now.object (with_side 0 (cut_to c.args.len (slice_index_or v.holdings c.args.e.now.object holds_nothing).first) (slice_index_or v.holdings c.args.e.now.object holds_nothing)) } in w) c.self.view_is)
-    g.R.Rest.rest c.args.who.now
+    g.R.Others.rest c.args.who.now
 
 pub returns-clause-content : goal.returns-clause-content
 returns-clause-content g c =
-    cut_short g.R.Rest.rest c.args.self.now c.args.who.now c.args.e.now c.cut.new.self c.args.len c.requires.serves c.requires.file
+    cut_short g.R.Others.rest c.args.self.now c.args.who.now c.args.e.now c.cut.new.self c.args.len c.requires.serves c.requires.file
     (c.cut.ensures ∙ ap (λ (v : Parts). let w : Parts = record v { holdings = slice_set v.holdings c.args.e.now.object (with_side 0 (cut_to c.args.len (slice_index_or v.holdings c.args.e.now.object holds_nothing).first) (slice_index_or v.holdings c.args.e.now.object holds_nothing)) } in w) c.self.view_is)
 
 pub returns-clause-counted : goal.returns-clause-counted

@@ -8,7 +8,7 @@ use Rattle.ix_model.specs.rows.OnDescriptors.{make_pipe}
 use Rattle.ix_model.specs.declared.call.Mode.TheVariants as mode
 use Rattle.ix_model.specs.declared.refusal.Refusal.TheVariants as refusal
 use Rattle.ix_tables.specs.Parts.{Parts}
-use Rattle.ix_tables.specs.Meanings.{vacant_pipe}
+use Rattle.ix_tables.specs.Views.{vacant_pipe}
 use Rattle.ix_fcalls.specs.Around.{frame_of, world_of, process_of}
 use Rattle.ix_fcalls.specs.Counted.{Keeps}
 use Rattle.ix_fcalls.proofs.Ends.{few_free, kept_made}
@@ -30,15 +30,15 @@ pub returns-then-free_opens-lt2-clause-row : goal.returns-then-free_opens-lt2-cl
 returns-then-free_opens-lt2-clause-row g c =
     let vacant : Some c.in_ok-n.n ≡ vacant_pipe c.self.inside.tables.fss c.self.inside.tables.objects = sym c.in_ok-n.ensures.ok_part ∙ c.vacant_pipe.ensures.vacant in
     let few : count_by is_none c.args.self.now.opens < 2 = omega (arith, c.if-free_opens-lt2.true, c.free_opens.ensures, ap (λ (v : Parts). count_by is_none v.opens) c.self.view_is) in
-    too_few (frame_of g.R.Rest.rest c.args.self.now c.args.who.now) g.R.Rest.rest.pid c.in_ok-n.n c.in_ok-a.a c.in_ok-b.b (process_of g.R.Rest.rest c.caller.result.now) (process_of g.R.Rest.rest c.caller-2.result.now)
+    too_few (frame_of g.R.Others.rest c.args.self.now c.args.who.now) g.R.Others.rest.pid c.in_ok-n.n c.in_ok-a.a c.in_ok-b.b (process_of g.R.Others.rest c.caller.result.now) (process_of g.R.Others.rest c.caller-2.result.now)
     (vacant ∙ ap (λ (v : Parts). vacant_pipe v.fss v.objects) c.self.view_is) c.caller.ensures.living c.caller-2.ensures.living (sym c.free_fd.ensures.free ∙ c.in_ok-a.ensures.ok_part) (sym c.second_fd.ensures.second ∙ c.in_ok-b.ensures.ok_part) few
 
 pub open_both-requires-clause-first : goal.open_both-requires-clause-first
-open_both-requires-clause-first g c = free_there g.R.Rest.rest c.caller.result.now c.args.who.now c.in_ok-a.a c.caller.ensures.living (sym c.in_ok-a.ensures.ok_part ∙ c.free_fd.ensures.free)
+open_both-requires-clause-first g c = free_there g.R.Others.rest c.caller.result.now c.args.who.now c.in_ok-a.a c.caller.ensures.living (sym c.in_ok-a.ensures.ok_part ∙ c.free_fd.ensures.free)
 
 pub returns-clause-kept : goal.returns-clause-kept
 returns-clause-kept g c =
     let vacant : Some c.in_ok-n.n ≡ vacant_pipe c.self.inside.tables.fss c.self.inside.tables.objects = sym c.in_ok-n.ensures.ok_part ∙ c.vacant_pipe.ensures.vacant in
     subst (λ (v : Parts). Keeps v c.open_both.new.self) c.self.view_is
-    (kept_made g.R.Rest.rest c.self.inside.tables c.make_pipe.new.self c.open_both.new.self c.args.who.now c.in_ok-n.n _ _ _
-    (subst (λ (v : Parts). Sound (world_of g.R.Rest.rest v c.args.who.now)) (sym c.self.view_is) c.requires.sound) vacant c.make_pipe.ensures c.open_both.ensures.new)
+    (kept_made g.R.Others.rest c.self.inside.tables c.make_pipe.new.self c.open_both.new.self c.args.who.now c.in_ok-n.n _ _ _
+    (subst (λ (v : Parts). Sound (world_of g.R.Others.rest v c.args.who.now)) (sym c.self.view_is) c.requires.sound) vacant c.make_pipe.ensures c.open_both.ensures.new)

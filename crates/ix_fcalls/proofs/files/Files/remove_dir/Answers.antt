@@ -10,9 +10,9 @@ use Rattle.ix_model.specs.rows.Rows.{affect}
 use Rattle.ix_model.specs.rows.Walks.{node, nothing, child}
 use Rattle.ix_model.specs.declared.reply.Kind.{Kind}
 use Rattle.ix_tables.specs.Parts.{Parts}
-use Rattle.ix_tables.specs.Meanings.{object_by}
+use Rattle.ix_tables.specs.Views.{object_by}
 use Rattle.ix_fcalls.specs.Around.{frame_of}
-use Rattle.ix_fcalls.specs.Meanings.{spot_of}
+use Rattle.ix_fcalls.specs.Views.{spot_of}
 use Rattle.ix_fcalls.proofs.Chaining.{remove_is}
 use Rattle.ix_fcalls.proofs.Leading.{dir_spot, child_spot, processes_spot, dir_still, child_still, fs_of_dir}
 use Rattle.ix_fcalls.proofs.Unnaming.{counted_left, content_left, processes_seen, processes_twice}
@@ -26,7 +26,7 @@ is_root-requires g c =
     let there : at c.args.self.now.objects c.in_ok-spot.spot.object ≡ Some x = ap (λ (v : Parts). at v.objects c.in_ok-spot.spot.object) (sym c.self.view_is) ∙ c.in-Some.ensures.object in
     subst (λ (v : Parts). c.fs_number.result < length v.fss) (sym c.self.view_is)
     (subst (λ (k : ℕ). k < length c.args.self.now.fss) (sym c.fs_number.ensures)
-    (fs_of_dir g.R.Rest.rest c.args.self.now c.args.who.now c.requires.sound c.in_ok-spot.spot.object x there (ap (λ (k : Kind). is_dir (record nothing { kind = k })) c.in-Dir.is)))
+    (fs_of_dir g.R.Others.rest c.args.self.now c.args.who.now c.requires.sound c.in_ok-spot.spot.object x there (ap (λ (k : Kind). is_dir (record nothing { kind = k })) c.in-Dir.is)))
 
 pub is_bare-requires : goal.is_bare-requires
 is_bare-requires g c = ap (λ o. is_dir (unwrap_or o nothing)) c.in-Some.ensures.object ∙ ap (λ (k : Kind). is_dir (record nothing { kind = k })) c.in-Dir.is
@@ -36,14 +36,14 @@ is_home-requires-clause-within g c = subst (λ (v : Parts). c.in_ok-spot.spot.ob
 
 pub drop_dir-requires-clause-dir : goal.drop_dir-requires-clause-dir
 drop_dir-requires-clause-dir g c =
-    dir_still g.R.Rest.rest c.args.self.now c.affect.new.self c.observe.new.who c.in-Some-dir.dir _ c.in_ok-affect.ensures.row c.in-Some-dir.dir
-    (dir_spot g.R.Rest.rest c.args.self.now c.args.who.now c.spot_at.new.who (path_of c.args.path.now) c.requires.sound (spot_of c.in_ok-spot.spot) c.in-Some-dir.dir c.in_ok-spot.ensures.row c.in-Some-dir.is)
+    dir_still g.R.Others.rest c.args.self.now c.affect.new.self c.observe.new.who c.in-Some-dir.dir _ c.in_ok-affect.ensures.row c.in-Some-dir.dir
+    (dir_spot g.R.Others.rest c.args.self.now c.args.who.now c.spot_at.new.who (path_of c.args.path.now) c.requires.sound (spot_of c.in_ok-spot.spot) c.in-Some-dir.dir c.in_ok-spot.ensures.row c.in-Some-dir.is)
 
 pub drop_dir-requires-clause-child : goal.drop_dir-requires-clause-child
 drop_dir-requires-clause-child g c =
     ap (child (node c.affect.new.self.objects c.in-Some-dir.dir)) c.last_name.ensures
-    ∙ child_still g.R.Rest.rest c.args.self.now c.affect.new.self c.observe.new.who c.in-Some-dir.dir _ c.in_ok-affect.ensures.row c.in-Some-dir.dir (last_name (path_of c.args.path.now).names) (Some c.in_ok-spot.spot.object)
-    (child_spot g.R.Rest.rest c.args.self.now c.args.who.now c.spot_at.new.who (path_of c.args.path.now) c.requires.sound (spot_of c.in_ok-spot.spot) c.in-Some-dir.dir c.in_ok-spot.ensures.row c.in-Some-dir.is)
+    ∙ child_still g.R.Others.rest c.args.self.now c.affect.new.self c.observe.new.who c.in-Some-dir.dir _ c.in_ok-affect.ensures.row c.in-Some-dir.dir (last_name (path_of c.args.path.now).names) (Some c.in_ok-spot.spot.object)
+    (child_spot g.R.Others.rest c.args.self.now c.args.who.now c.spot_at.new.who (path_of c.args.path.now) c.requires.sound (spot_of c.in_ok-spot.spot) c.in-Some-dir.dir c.in_ok-spot.ensures.row c.in-Some-dir.is)
 
 pub drop_dir-requires-clause-bare : goal.drop_dir-requires-clause-bare
 drop_dir-requires-clause-bare g c =
@@ -53,17 +53,17 @@ drop_dir-requires-clause-bare g c =
 
 pub drop_dir-requires-clause-is_dir : goal.drop_dir-requires-clause-is_dir
 drop_dir-requires-clause-is_dir g c =
-    dir_still g.R.Rest.rest c.args.self.now c.affect.new.self c.observe.new.who c.in-Some-dir.dir _ c.in_ok-affect.ensures.row c.in_ok-spot.spot.object
+    dir_still g.R.Others.rest c.args.self.now c.affect.new.self c.observe.new.who c.in-Some-dir.dir _ c.in_ok-affect.ensures.row c.in_ok-spot.spot.object
     (ap (λ (v : Parts). is_dir (node v.objects c.in_ok-spot.spot.object)) (sym c.self.view_is) ∙ ap (λ o. is_dir (unwrap_or o nothing)) c.in-Some.ensures.object ∙ ap (λ (k : Kind). is_dir (record nothing { kind = k })) c.in-Dir.is)
 
 pub returns-clause-row : goal.returns-clause-row
 returns-clause-row g c =
     let n : ℕ = c.in_ok-spot.spot.object in
-    let m : Frame = frame_of g.R.Rest.rest c.args.self.now c.spot_at.new.who in
-    let l : Frame = frame_of g.R.Rest.rest c.args.self.now c.observe.new.who in
-    let h : Frame = frame_of g.R.Rest.rest c.affect.new.self c.observe.new.who in
+    let m : Frame = frame_of g.R.Others.rest c.args.self.now c.spot_at.new.who in
+    let l : Frame = frame_of g.R.Others.rest c.args.self.now c.observe.new.who in
+    let h : Frame = frame_of g.R.Others.rest c.affect.new.self c.observe.new.who in
     let x : Object = object_by (node c.self.inside.tables.objects c.in_ok-spot.spot.object) c.in-Some.x in
-    remove_is g.R.Rest.rest.pid (path_of c.args.path.now) (frame_of g.R.Rest.rest c.args.self.now c.args.who.now) m l h (frame_of g.R.Rest.rest c.drop_dir.new.self c.observe.new.who) (spot_of c.in_ok-spot.spot) c.in-Some-dir.dir x
+    remove_is g.R.Others.rest.pid (path_of c.args.path.now) (frame_of g.R.Others.rest c.args.self.now c.args.who.now) m l h (frame_of g.R.Others.rest c.drop_dir.new.self c.observe.new.who) (spot_of c.in_ok-spot.spot) c.in-Some-dir.dir x
     c.in_ok-spot.ensures.row
     (ap (λ (v : Parts). at v.objects n) (sym c.self.view_is) ∙ c.in-Some.ensures.object)
     (ap (λ (k : Kind). is_dir (record nothing { kind = k })) c.in-Dir.is)
@@ -72,8 +72,8 @@ returns-clause-row g c =
     (sym c.is_bare.ensures ∙ c.if-not-is_bare.false)
     (sym c.is_home.ensures ∙ c.if-is_home.false)
     c.in-Some-dir.is
-    (ap (λ (z : Categories). affect g.R.Rest.rest.pid c.in-Some-dir.dir z l) (sym c.bottom.ensures) ∙ c.in_ok-affect.ensures.row)
-    (ap (λ (v : Parts). frame_of g.R.Rest.rest v c.observe.new.who) c.drop_dir.ensures
+    (ap (λ (z : Categories). affect g.R.Others.rest.pid c.in-Some-dir.dir z l) (sym c.bottom.ensures) ∙ c.in_ok-affect.ensures.row)
+    (ap (λ (v : Parts). frame_of g.R.Others.rest v c.observe.new.who) c.drop_dir.ensures
     ∙ (λ i. let k : Frame = record h { objects = put (change h.objects c.in-Some-dir.dir (without_name (c.last_name.ensures i))) n None } in k))
 
 pub returns-clause-counted : goal.returns-clause-counted
@@ -81,8 +81,8 @@ returns-clause-counted g c = counted_left c.affect.new.self c.drop_dir.new.self 
 
 pub returns-clause-content : goal.returns-clause-content
 returns-clause-content g c =
-    content_left g.R.Rest.rest c.args.self.now c.affect.new.self c.args.who.now c.observe.new.who c.requires.sound
+    content_left g.R.Others.rest c.args.self.now c.affect.new.self c.args.who.now c.observe.new.who c.requires.sound
     (processes_twice c.args.who.now c.spot_at.new.who c.observe.new.who
-    (processes_spot g.R.Rest.rest c.args.self.now c.args.who.now c.spot_at.new.who (path_of c.args.path.now) c.requires.sound (spot_of c.in_ok-spot.spot) c.in_ok-spot.ensures.row)
-    (processes_seen g.R.Rest.rest c.args.self.now c.spot_at.new.who c.observe.new.who _ c.in_ok-observe.ensures.row))
+    (processes_spot g.R.Others.rest c.args.self.now c.args.who.now c.spot_at.new.who (path_of c.args.path.now) c.requires.sound (spot_of c.in_ok-spot.spot) c.in_ok-spot.ensures.row)
+    (processes_seen g.R.Others.rest c.args.self.now c.spot_at.new.who c.observe.new.who _ c.in_ok-observe.ensures.row))
     c.in-Some-dir.dir _ c.in_ok-affect.ensures.row c.in_ok-affect.ensures.kept c.in_ok-affect.ensures.limits.2 true c.in_ok-spot.spot.object (without_name (name_of c.last_name.result)) c.drop_dir.new.self c.drop_dir.ensures

@@ -2,7 +2,7 @@ use Rattle.std.proofs.Common.{◌≡◌, ◌∙◌, sym, ap, subst, true, false}
 use Rattle.std.specs.Option.{option_map_or}
 use Rattle.ix_model.specs.world.World.{at, is_file}
 use Rattle.ix_tables.specs.Parts.{Parts}
-use Rattle.ix_tables.specs.Meanings.{has_room}
+use Rattle.ix_tables.specs.Views.{has_room}
 use Rattle.ix_fcalls.proofs.Serving.{serves_file}
 use Rattle.ix_fcalls.proofs.Lengths.{told_cut}
 use Rattle.ix_fcalls.proofs.files.Files.told_of_cut.Goals as goal
@@ -11,4 +11,4 @@ pub has_room-room-requires-clause-file : goal.has_room-room-requires-clause-file
 has_room-room-requires-clause-file g c = subst (λ (v : Parts). option_map_or is_file (at v.objects c.args.e.now.object) false ≡ true) (sym c.self.view_is) (serves_file c.args.self.now c.args.e.now c.requires.serves c.requires.file)
 
 pub returns : goal.returns
-returns g c = told_cut g.R.Rest.rest c.args.self.now c.args.who.now c.args.e.now c.args.len c.has_room-room.result (c.has_room-room.ensures ∙ ap (λ (v : Parts). has_room c.args.e.now.object c.args.len v) c.self.view_is)
+returns g c = told_cut g.R.Others.rest c.args.self.now c.args.who.now c.args.e.now c.args.len c.has_room-room.result (c.has_room-room.ensures ∙ ap (λ (v : Parts). has_room c.args.e.now.object c.args.len v) c.self.view_is)

@@ -3,13 +3,13 @@ use Rattle.std.specs.Option.{option_map_or}
 use Rattle.ix_model.specs.world.World.{at, is_file}
 use Rattle.ix_model.specs.world.Contents.{holds_nothing}
 use Rattle.ix_tables.specs.Parts.{Parts}
-use Rattle.ix_tables.specs.Meanings.{has_room}
+use Rattle.ix_tables.specs.Views.{has_room}
 use Rattle.ix_fcalls.proofs.Serving.{serves_file}
 use Rattle.ix_fcalls.proofs.Lengths.{told_too_big, told_file_write, few_at, ends_at, then_low}
 use Rattle.ix_fcalls.proofs.files.Files.told_of_file_write.Goals as goal
 
 pub returns-then-is_too_big : goal.returns-then-is_too_big
-returns-then-is_too_big g c = told_too_big g.R.Rest.rest c.args.self.now c.args.who.now c.args.e.now c.args.n c.requires.serves c.requires.file (sym c.is_too_big.ensures ∙ c.if-is_too_big.true)
+returns-then-is_too_big g c = told_too_big g.R.Others.rest c.args.self.now c.args.who.now c.args.e.now c.args.n c.requires.serves c.requires.file (sym c.is_too_big.ensures ∙ c.if-is_too_big.true)
 
 pub size-old-requires : goal.size-old-requires
 size-old-requires g c = subst (λ (v : Parts). option_map_or is_file (at v.objects c.args.e.now.object) false ≡ true) (sym c.self.view_is) (serves_file c.args.self.now c.args.e.now c.requires.serves c.requires.file)
@@ -28,6 +28,6 @@ has_room-room-requires-clause-most g c =
 
 pub returns : goal.returns
 returns g c =
-    told_file_write g.R.Rest.rest c.args.self.now c.args.who.now c.args.e.now c.args.n c.size-old.result c.has_room-room.result c.requires.serves c.requires.file (sym c.is_too_big.ensures ∙ c.if-is_too_big.false)
+    told_file_write g.R.Others.rest c.args.self.now c.args.who.now c.args.e.now c.args.n c.size-old.result c.has_room-room.result c.requires.serves c.requires.file (sym c.is_too_big.ensures ∙ c.if-is_too_big.false)
     (c.size-old.ensures ∙ ap (λ (v : Parts). length (slice_index_or v.holdings c.args.e.now.object holds_nothing).first) c.self.view_is)
     (c.has_room-room.ensures ∙ (λ i. has_room c.args.e.now.object (c.length_then-len.ensures i) (c.self.view_is i)))

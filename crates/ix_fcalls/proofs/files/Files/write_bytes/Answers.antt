@@ -4,7 +4,7 @@ use Rattle.ix_model.specs.world.World.{at, is_pipe, is_file}
 use Rattle.ix_model.specs.world.Contents.{holds_nothing, side, with_side, spliced}
 use Rattle.ix_model.specs.rows.Telling.{length_then}
 use Rattle.ix_model.specs.rows.Walks.{node}
-use Rattle.ix_tables.specs.Meanings.{has_room}
+use Rattle.ix_tables.specs.Views.{has_room}
 use Rattle.ix_tables.specs.Parts.{Parts}
 use Rattle.ix_fcalls.proofs.Serving.{serves_pipe, serves_file}
 use Rattle.ix_fcalls.proofs.Lengths.{pipe_room, write_few, write_ends, write_low, write_has_room}
@@ -20,17 +20,17 @@ append-requires-clause-end g c = c.requires.serves.end
 pub append-requires-clause-room : goal.append-requires-clause-room
 append-requires-clause-room g c =
     subst (λ (v : Parts). length (side (1 - c.args.e.now.end) (slice_index_or v.holdings c.args.e.now.object holds_nothing)) + length c.args.bytes.now ≤ 4096) (sym c.self.view_is)
-    (pipe_room g.R.Rest.rest c.args.self.now c.args.who.now c.args.e.now (length c.args.bytes.now) c.requires.room (sym c.is_on_pipe.ensures ∙ c.if-is_on_pipe.true))
+    (pipe_room g.R.Others.rest c.args.self.now c.args.who.now c.args.e.now (length c.args.bytes.now) c.requires.room (sym c.is_on_pipe.ensures ∙ c.if-is_on_pipe.true))
 
 pub returns-then-is_on_pipe-clause-frame : goal.returns-then-is_on_pipe-clause-frame
 returns-then-is_on_pipe-clause-frame g c =
     edited_frame c.args.self.now c.append.new.self _ _
     (c.append.ensures ∙ ap (λ (v : Parts). let w : Parts = record v { holdings = slice_set v.holdings c.args.e.now.object (with_side (1 - c.args.e.now.end) (side (1 - c.args.e.now.end) (slice_index_or v.holdings c.args.e.now.object holds_nothing) ++ c.args.bytes.now) (slice_index_or v.holdings c.args.e.now.object holds_nothing)) } in w) c.self.view_is)
-    g.R.Rest.rest c.args.who.now
+    g.R.Others.rest c.args.who.now
 
 pub returns-then-is_on_pipe-clause-content : goal.returns-then-is_on_pipe-clause-content
 returns-then-is_on_pipe-clause-content g c =
-    appended g.R.Rest.rest c.args.self.now c.args.who.now c.args.e.now c.append.new.self c.args.bytes.now (sym c.is_on_pipe.ensures ∙ c.if-is_on_pipe.true)
+    appended g.R.Others.rest c.args.self.now c.args.who.now c.args.e.now c.append.new.self c.args.bytes.now (sym c.is_on_pipe.ensures ∙ c.if-is_on_pipe.true)
     (c.append.ensures ∙ ap (λ (v : Parts). let w : Parts = record v { holdings = slice_set v.holdings c.args.e.now.object (with_side (1 - c.args.e.now.end) (side (1 - c.args.e.now.end) (slice_index_or v.holdings c.args.e.now.object holds_nothing) ++ c.args.bytes.now) (slice_index_or v.holdings c.args.e.now.object holds_nothing)) } in w) c.self.view_is)
 
 pub returns-then-is_on_pipe-clause-counted : goal.returns-then-is_on_pipe-clause-counted
@@ -41,12 +41,12 @@ returns-then-is_on_pipe-clause-counted g c =
 
 pub overflow_cast-n : goal.overflow_cast-n
 overflow_cast-n g c =
-    let few = write_few g.R.Rest.rest c.args.self.now c.args.who.now c.args.e.now (length c.args.bytes.now) c.requires.room c.requires.serves (sym c.is_on_pipe.ensures ∙ c.if-is_on_pipe.false) in
+    let few = write_few g.R.Others.rest c.args.self.now c.args.who.now c.args.e.now (length c.args.bytes.now) c.requires.room c.requires.serves (sym c.is_on_pipe.ensures ∙ c.if-is_on_pipe.false) in
     omega (arith, few)
 
 pub overflow_add-past : goal.overflow_add-past
 overflow_add-past g c =
-    let ends = write_ends g.R.Rest.rest c.args.self.now c.args.who.now c.args.e.now (length c.args.bytes.now) c.requires.room c.requires.serves (sym c.is_on_pipe.ensures ∙ c.if-is_on_pipe.false) in
+    let ends = write_ends g.R.Others.rest c.args.self.now c.args.who.now c.args.e.now (length c.args.bytes.now) c.requires.room c.requires.serves (sym c.is_on_pipe.ensures ∙ c.if-is_on_pipe.false) in
     omega (arith, ends)
 
 pub write-requires-clause-file : goal.write-requires-clause-file
@@ -55,12 +55,12 @@ write-requires-clause-file g c = subst (λ (v : Parts). option_map_or is_file (a
 pub write-requires-clause-most : goal.write-requires-clause-most
 write-requires-clause-most g c =
     subst (λ (v : Parts). length_then c.args.e.now.offset (length c.args.bytes.now) (length (slice_index_or v.holdings c.args.e.now.object holds_nothing).first) ≤ 1048576) (sym c.self.view_is)
-    (write_low g.R.Rest.rest c.args.self.now c.args.who.now c.args.e.now (length c.args.bytes.now) c.requires.room c.requires.serves (sym c.is_on_pipe.ensures ∙ c.if-is_on_pipe.false))
+    (write_low g.R.Others.rest c.args.self.now c.args.who.now c.args.e.now (length c.args.bytes.now) c.requires.room c.requires.serves (sym c.is_on_pipe.ensures ∙ c.if-is_on_pipe.false))
 
 pub write-requires-clause-room : goal.write-requires-clause-room
 write-requires-clause-room g c =
     subst (λ (v : Parts). has_room c.args.e.now.object (length_then c.args.e.now.offset (length c.args.bytes.now) (length (slice_index_or v.holdings c.args.e.now.object holds_nothing).first)) v ≡ true) (sym c.self.view_is)
-    (write_has_room g.R.Rest.rest c.args.self.now c.args.who.now c.args.e.now (length c.args.bytes.now) c.requires.room c.requires.serves (sym c.is_on_pipe.ensures ∙ c.if-is_on_pipe.false))
+    (write_has_room g.R.Others.rest c.args.self.now c.args.who.now c.args.e.now (length c.args.bytes.now) c.requires.room c.requires.serves (sym c.is_on_pipe.ensures ∙ c.if-is_on_pipe.false))
 
 pub seek-requires : goal.seek-requires
 seek-requires g c =
@@ -72,11 +72,11 @@ returns-clause-frame g c =
     edited_frame c.args.self.now c.seek.new.self _ _
     (c.seek.ensures ∙ ap (λ (v : Parts). let w : Parts = record v { offsets = slice_set v.offsets c.args.e.now.id (c.args.e.now.offset + length c.args.bytes.now) } in w)
     (c.write.ensures ∙ ap (λ (v : Parts). let w : Parts = record v { holdings = slice_set v.holdings c.args.e.now.object (with_side 0 (spliced c.args.e.now.offset c.args.bytes.now (slice_index_or v.holdings c.args.e.now.object holds_nothing).first) (slice_index_or v.holdings c.args.e.now.object holds_nothing)) } in w) c.self.view_is))
-    g.R.Rest.rest c.args.who.now
+    g.R.Others.rest c.args.who.now
 
 pub returns-clause-content : goal.returns-clause-content
 returns-clause-content g c =
-    written g.R.Rest.rest c.args.self.now c.args.who.now c.args.e.now c.seek.new.self c.args.bytes.now c.requires.serves (sym c.is_on_pipe.ensures ∙ c.if-is_on_pipe.false)
+    written g.R.Others.rest c.args.self.now c.args.who.now c.args.e.now c.seek.new.self c.args.bytes.now c.requires.serves (sym c.is_on_pipe.ensures ∙ c.if-is_on_pipe.false)
     (c.seek.ensures ∙ ap (λ (v : Parts). let w : Parts = record v { offsets = slice_set v.offsets c.args.e.now.id (c.args.e.now.offset + length c.args.bytes.now) } in w)
     (c.write.ensures ∙ ap (λ (v : Parts). let w : Parts = record v { holdings = slice_set v.holdings c.args.e.now.object (with_side 0 (spliced c.args.e.now.offset c.args.bytes.now (slice_index_or v.holdings c.args.e.now.object holds_nothing).first) (slice_index_or v.holdings c.args.e.now.object holds_nothing)) } in w) c.self.view_is))
 

@@ -33,4 +33,4 @@ returns g c =
     let tells : Tells c.args.self.now c.give.new.self c.step-answer.result (entry c.args.self.now.number c.args.line c.args.pid (op_of c.args.call.now)) c.args.buf.now c.step-answer.new.buf =
     subst (λ (n : ℕ). Tells c.args.self.now c.give.new.self c.step-answer.result (entry n c.args.line c.args.pid (op_of c.args.call.now)) c.args.buf.now c.step-answer.new.buf) number
     (turn_tells _ _ _ _ _ _ _ _ _ _ turned) in
-    record { seen = tells.seen; own = tells.own; turn = tells.turn; room = tells.room; fits = c.step-answer.ensures.fits; rest = c.step-answer.ensures.rest; hides = tells.hides; looks = tells.looks; seat = tells.seat }
+    record { seen = tells.seen; own = tells.own; turn = tells.turn; room = tells.room; fits = c.step-answer.ensures.fits; rest = c.step-answer.ensures.rest; noninterference = tells.noninterference; looks = tells.looks; seat = tells.seat }

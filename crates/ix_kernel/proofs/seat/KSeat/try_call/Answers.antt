@@ -36,4 +36,4 @@ returns c =
     let tells : Tells c.args.self.now c.give.new.self c.step-answer.result (entry c.args.self.now.number c.args.line c.args.pid (op_of c.args.call.now)) c.args.buf.now c.step-answer.new.buf =
     subst (λ (n : ℕ). Tells c.args.self.now c.give.new.self c.step-answer.result (entry n c.args.line c.args.pid (op_of c.args.call.now)) c.args.buf.now c.step-answer.new.buf) number
     (turn_tells _ _ _ _ _ _ _ _ _ _ turned) in
-    record { seen = tells.seen; own = tells.own; turn = tells.turn; room = tells.room; fits = c.step-answer.ensures.fits; rest = c.step-answer.ensures.rest; hides = tells.hides; seat = tells.seat ∙ ap (λ n. after_turn c.args.self.now c.give.new.self.seen n c.give.new.self.look_found) looks; busy = tt; late = tt; buffer = tt; alone = λ _. refl }
+    record { seen = tells.seen; own = tells.own; turn = tells.turn; room = tells.room; fits = c.step-answer.ensures.fits; rest = c.step-answer.ensures.rest; noninterference = tells.noninterference; seat = tells.seat ∙ ap (λ n. after_turn c.args.self.now c.give.new.self.seen n c.give.new.self.look_found) looks; busy = tt; late = tt; buffer = tt; alone = λ _. refl }

@@ -10,8 +10,8 @@ use Rattle.ix_machine.proofs.machine.Machine.filed_known.Goals as goal
 pub who-requires : goal.who-requires
 who-requires g c = subst (λ (u : World). lives u.frame c.args.pid.0 ≡ true) (sym c.requires.0) (known_lives g.moment.world.frame c.args.pid.0 (op_of c.args.call.now) c.requires.1.1.1)
 
-pub call_known-requires : goal.call_known-requires
-call_known-requires g c =
+pub call_fresh-requires : goal.call_fresh-requires
+call_fresh-requires g c =
     let w = g.moment.world in
     let known : IsKnown w.frame c.who.result.now.pid.0 (op_of c.args.call.now) = subst (λ (n : ℕ). IsKnown w.frame n (op_of c.args.call.now)) (sym c.who.ensures.pid) c.requires.1.1.1 in
     let parts = parts_joined c.self.inside.files c.self.inside.procs c.self.inside.log w c.self.invariant (c.self.view_is ∙ c.requires.0) in
@@ -21,5 +21,5 @@ call_known-requires g c =
 
 pub invariant_of-self : goal.invariant_of-self
 invariant_of-self g c =
-    moved_still c.self.inside.files c.call_known.new.self c.self.inside.procs c.self.inside.log g.moment.world g.moment.place c.who.result.now.pid.0 (op_of c.args.call.now) c.who.result.now
-    (c.self.view_is ∙ c.requires.0) c.self.invariant c.call_known.ensures.parts (subst (λ (u : World). with_who u.frame.processes c.who.result.now ≡ u.frame.processes) c.requires.0 c.who.ensures.shown) c.call_known.ensures.step.world
+    moved_still c.self.inside.files c.call_fresh.new.self c.self.inside.procs c.self.inside.log g.moment.world g.moment.place c.who.result.now.pid.0 (op_of c.args.call.now) c.who.result.now
+    (c.self.view_is ∙ c.requires.0) c.self.invariant c.call_fresh.ensures.parts (subst (λ (u : World). with_who u.frame.processes c.who.result.now ≡ u.frame.processes) c.requires.0 c.who.ensures.shown) c.call_fresh.ensures.step.world

@@ -1,4 +1,4 @@
 use Rattle.ix_machine.proofs.machine.Machine.filed_known.Given as goal
 
-abbrev pub ghost-call_known : goal.ghost-call_known
-ghost-call_known g a = g.moment
+abbrev pub ghost-call_fresh : goal.ghost-call_fresh
+ghost-call_fresh g a = g.moment

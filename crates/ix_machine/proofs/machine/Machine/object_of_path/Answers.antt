@@ -1,6 +1,6 @@
 use Rattle.std.proofs.Common.{◌∙◌, refl, sym, ap}
 use Rattle.ix_model.specs.history.AuditLog.{object_sought}
-use Rattle.ix_fcalls.specs.Meanings.{sought_of}
+use Rattle.ix_fcalls.specs.Views.{sought_of}
 use Rattle.ix_fcalls.specs.declared.walks.Outcome.{Outcome}
 use Rattle.ix_machine.proofs.Standing.{no_object, none_found, object_walked}
 use Rattle.ix_model.specs.world.Paths.{path_of}

@@ -19,4 +19,4 @@ pub returns-clause-answer : goal.returns-clause-answer
 returns-clause-answer c = c.claim.ensures.answer ∙ (λ i. claim_answer c.args.pid.0 (claims_there c.self.inside.limits c.self.inside.inodes c.self.inside.names c.self.inside.pipes c.self.inside.opens c.self.inside.homes.items c.args.self.now c.self.inside.first_pipe c.args.n c.self.invariant c.self.view_is c.requires.pipe c.args.end i) (claims_there c.self.inside.limits c.self.inside.inodes c.self.inside.names c.self.inside.pipes c.self.inside.opens c.self.inside.homes.items c.args.self.now c.self.inside.first_pipe c.args.n c.self.invariant c.self.view_is c.requires.pipe (1 - c.args.end) i))
 
 pub returns-clause-claimed : goal.returns-clause-claimed
-returns-clause-claimed c = ap (λ (ps : List (Option Pipe)). joined c.self.inside.limits c.self.inside.inodes c.self.inside.names ps c.self.inside.opens c.self.inside.homes.items) c.claim.ensures.claimed ∙ claimed_there c.self.inside.limits c.self.inside.inodes c.self.inside.names c.self.inside.pipes c.self.inside.opens c.self.inside.homes.items c.args.self.now c.self.inside.first_pipe c.args.n c.self.invariant c.self.view_is c.requires.pipe c.args.end c.args.pid.0 c.bounded.ensures c.requires.end
+returns-clause-claimed c = ap (λ (ps : List (Option Pipe)). joined c.self.inside.limits c.self.inside.inodes c.self.inside.names ps c.self.inside.opens c.self.inside.homes.items) c.claim.ensures.claimed ∙ claimed_there c.self.inside.limits c.self.inside.inodes c.self.inside.names c.self.inside.pipes c.self.inside.opens c.self.inside.homes.items c.args.self.now c.self.inside.first_pipe c.args.n c.self.invariant c.self.view_is c.requires.pipe c.args.end c.args.pid.0 c.lemma_is_bounded.ensures c.requires.end

@@ -3,7 +3,7 @@ use Rattle.ix_model.specs.world.Numbers.{first_pipe}
 use Rattle.ix_model.specs.rows.OnPaths.{links_of}
 use Rattle.ix_model.specs.rows.Walks.{node}
 use Rattle.ix_tables.specs.Parts.{Parts}
-use Rattle.ix_tables.specs.Meanings.{Shows, frame_alone, object_by}
+use Rattle.ix_tables.specs.Views.{Shows, frame_alone, object_by}
 use Rattle.ix_tables.proofs.Linking.{links_shown}
 use Rattle.ix_tables.proofs.Telling.{row_of, inode_shows, shows_within}
 use Rattle.ix_tables.proofs.tables.Tables.object.Goals as goal

@@ -2,7 +2,7 @@ use Rattle.std.proofs.Common.{◌≡◌, ◌-◌, ℕ, List, [], length, slice_g
 use Rattle.ix_model.specs.world.Naming.{PathOf}
 use Rattle.ix_model.specs.world.NameRefs.{name_of}
 use Rattle.ix_tables.specs.Parts.{Parts}
-use Rattle.ix_tables.specs.Meanings.{has_room}
+use Rattle.ix_tables.specs.Views.{has_room}
 use Rattle.ix_tables.proofs.OpeningLines.{name_at, made_empty, filled_line, bare_line, room_for_line}
 use Rattle.ix_tables.proofs.tables.Tables.place.Goals as goal
 

@@ -1,4 +1,4 @@
 use Rattle.ix_twin.proofs.twin.Twin.step.Given as goal
 
-abbrev pub ghosts-step_counted : goal.ghosts-step_counted
-ghosts-step_counted a = record { name = a.blank.name; parts = a.blank.parts }
+abbrev pub ghosts-step_uncounted : goal.ghosts-step_uncounted
+ghosts-step_uncounted a = record { name = a.blank.name; parts = a.blank.parts }

@@ -1,7 +1,0 @@
-use Rattle.ix_replay.specs.report.Telling.{left_of}
-use Rattle.ix_replay.proofs.piecewise.Pieces.{closing_is}
-use Rattle.ix_replay.proofs.telling.closing.Closing.new.Goals as goal
-
-pub returns : goal.returns
-unfolding left_of
-returns c = closing_is _

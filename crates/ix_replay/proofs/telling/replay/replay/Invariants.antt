@@ -1,4 +1,0 @@
-use Rattle.ix_replay.proofs.telling.replay.replay.Given as goal
-
-abbrev pub ghosts-replay_anew : goal.ghosts-replay_anew
-ghosts-replay_anew g a = record { name = a.blank.name; parts = a.blank.parts }

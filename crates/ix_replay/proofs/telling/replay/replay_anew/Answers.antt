@@ -1,6 +1,0 @@
-use Rattle.ix_script.specs.scripts.Scripts.{config_of}
-use Rattle.ix_replay.proofs.telling.replay.replay_anew.Goals as goal
-
-pub replay_on-requires-clause-fits : goal.replay_on-requires-clause-fits
-unfolding config_of
-replay_on-requires-clause-fits g c = rw c.requires.config c.requires.fits
