@@ -30,7 +30,12 @@ flats-set blocks b x (c ∷ cs) h =
 
 pub length-flat : (blocks : List (List ℕ)) (c : List ℕ) → ((b : ℕ) → 0 < times b c → length (get_or blocks b []) ≡ 512) → length (flat blocks c) ≡ 512 * length c
 length-flat blocks [] h = refl
-length-flat blocks (b ∷ c) h = omega (arith, length-append (get_or blocks b []) (flat blocks c), h b (omega (arith, times_here b c)), length-flat blocks c (λ j m. h j (omega (arith, times_skip j b c))))
+length-flat blocks (b ∷ c) h = omega (
+  arith,
+  length-append (get_or blocks b []) (flat blocks c),
+  h b (omega (arith, times_here b c)),
+  length-flat blocks c (λ j m. h j (omega (arith, times_skip j b c))),
+)
 
 -- a chain in two parts at a place
 pub split_at : (xs : List ℕ) (q i : ℕ) → slice_get xs q ≡ Some i → (a : List ℕ) × (b : List ℕ) × (xs ≡ a ++ i ∷ b) × (length a ≡ q)
@@ -39,7 +44,8 @@ split_at (x ∷ xs) zero i e = ([], xs, ap (λ y. y ∷ xs) (same_Some x i e), r
 split_at (x ∷ xs) (suc q) i e = let p = split_at xs q i e in (x ∷ p.0, p.1, ap (λ ys. x ∷ ys) p.2, ap suc p.3)
 
 -- bytes laid over a block of a chain
-pub flat-laid_over : (blocks : List (List ℕ)) (a b : List ℕ) (i o n : ℕ) (xs : List ℕ) → times i a ≡ 0 → times i b ≡ 0 → i < length blocks → o + length xs ≤ length (get_or blocks i []) → n ≡ length (flat blocks a) + o
+pub flat-laid_over : (blocks : List (List ℕ)) (a b : List ℕ) (i o n : ℕ) (xs : List ℕ) → times i a ≡ 0 → times i b ≡ 0 → i < length blocks
+    → o + length xs ≤ length (get_or blocks i []) → n ≡ length (flat blocks a) + o
     → flat (set blocks i (laid_over o xs (get_or blocks i []))) (a ++ i ∷ b) ≡ laid_over n xs (flat blocks (a ++ i ∷ b))
 flat-laid_over blocks a b i o n xs before behind within fits at =
     let x = laid_over o xs (get_or blocks i []) in

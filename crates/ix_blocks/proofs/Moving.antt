@@ -39,7 +39,8 @@ module _ (v : Chains) (blocks : List (List ℕ)) (rows : AreRows v blocks) (w : 
       let p = first_parts v.free b first in
       ap (λ (x : Chains). held_in x (set blocks b row)) is_u
       ∙ ap (λ z. held_in (pushed_back f v) (set blocks b z)) zeros
-      ∙ held_is (pushed_back f v) (set blocks b (replicate 512 0)) (blocks_added 1 f (held_in v blocks)).wholes (length v.free - 1) (added blocks v f b p.0 (replicate 512 0) rows.law p.1 chain_there (free_within b first)) (pushed_free f v b p.0 p.1)
+      ∙ held_is (pushed_back f v) (set blocks b (replicate 512 0)) (blocks_added 1 f (held_in v blocks)).wholes (length v.free - 1)
+      (added blocks v f b p.0 (replicate 512 0) rows.law p.1 chain_there (free_within b first)) (pushed_free f v b p.0 p.1)
       ∙ ap (blocks_added 1 f) is
 
   -- the last block of a chain given back

@@ -1,5 +1,7 @@
 -- Bytes of a file, block after block.
-use Rattle.std.proofs.Common.{◌≡◌, ℕ, zero, suc, ◌+◌, ◌-◌, ◌*◌, ◌/◌, ◌%◌, ◌<◌, ◌≤◌, List, [], ◌∷◌, ◌++◌, length, take, drop, set, get_or, Some, None, refl, sym, ap, ◌∙◌, arith, append_assoc, append-nil, length-append, length-set, length-drop, length-take, slice_get, inl, inr, ◌^◌, min}
+use Rattle.std.proofs.Common.{◌≡◌, ℕ, zero, suc, ◌+◌, ◌-◌, ◌*◌, ◌/◌, ◌%◌, ◌<◌, ◌≤◌, List, [], ◌∷◌, ◌++◌, length, take, drop, set, get_or, Some, None}
+use Rattle.std.proofs.Common.{refl, sym, ap, ◌∙◌, arith, append_assoc, append-nil, length-append, length-set, length-drop, length-take, slice_get}
+use Rattle.std.proofs.Common.{inl, inr, ◌^◌, min}
 use Rattle.std.specs.List.{last_or}
 use Rattle.std.proofs.lemmas.List.{get_or-set_other, get_or-set_same, set-set, take-append-le, drop-append-le, drop-drop, length-take-le, take_at, drop_at}
 use Rattle.std.proofs.lemmas.Bool.{cases_eq}
@@ -20,7 +22,8 @@ pub next_block : (place done size n : ℕ) → size ≡ min (512 - (place + done
 next_block place done size n is less = omega (arith, is, less)
 
 -- a piece more at the front of a list, where the first ones stand already
-pub filled_step : (out old ws piece : List ℕ) (done size k : ℕ) → out ≡ take done ws ++ drop done old → k ≡ size → done + size ≤ length ws → take done ws ++ piece ≡ take (done + size) ws → take done out ++ (piece ++ drop k (drop done out)) ≡ take (done + size) ws ++ drop (done + size) old
+pub filled_step : (out old ws piece : List ℕ) (done size k : ℕ) → out ≡ take done ws ++ drop done old → k ≡ size → done + size ≤ length ws
+    → take done ws ++ piece ≡ take (done + size) ws → take done out ++ (piece ++ drop k (drop done out)) ≡ take (done + size) ws ++ drop (done + size) old
 filled_step out old ws piece done size k is same there step =
     let front : length (take done ws) ≡ done = length-take-le done ws (omega (arith, there)) in
     ap (λ t. t ++ (piece ++ drop k (drop done out))) (ap (take done) is ∙ take_at (take done ws) (drop done old) done front)
@@ -96,7 +99,8 @@ module _ (v : Chains) (ds : List (List ℕ)) (rows : AreRows v ds) (f : ℕ) (lo
   block_sized q b at = rows.sized b (block_below q b at)
 
   -- bytes that lie in one block
-  piece_is : (q b start size n : ℕ) → slice_get (chain_of f v) q ≡ Some b → start + size ≤ 512 → n ≡ 512 * q + start → take size (drop n (flat ds (chain_of f v))) ≡ take size (drop start (get_or ds b []))
+  piece_is : (q b start size n : ℕ) → slice_get (chain_of f v) q ≡ Some b → start + size ≤ 512 → n ≡ 512 * q + start
+      → take size (drop n (flat ds (chain_of f v))) ≡ take size (drop start (get_or ds b []))
   piece_is q b start size n at fits is =
       let p = split_at (chain_of f v) q b at in
       let row = get_or ds b [] in

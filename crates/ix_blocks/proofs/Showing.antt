@@ -1,6 +1,8 @@
 -- The bytes of files, as blocks and lengths hold them.
-use Rattle.std.proofs.Common.{◌≡◌, ℕ, zero, suc, ◌+◌, ◌-◌, ◌*◌, ◌<◌, ◌≤◌, List, [], ◌∷◌, ◌++◌, length, take, drop, set, get_or, replicate, refl, sym, ap, ◌∙◌, subst, arith, append_assoc, append-nil, length-append, length-set, length-drop, inl, inr}
-use Rattle.std.proofs.lemmas.List.{get_or-set_same, get_or-set_other, set-set, set-get_or, take_at, take_all, take-take, drop_all, length-take-le, length-replicate, take-replicate, replicate-append-replicate, take-append-drop, take-append-le, drop-append-le}
+use Rattle.std.proofs.Common.{◌≡◌, ℕ, zero, suc, ◌+◌, ◌-◌, ◌*◌, ◌<◌, ◌≤◌, List, [], ◌∷◌, ◌++◌, length, take, drop, set, get_or, replicate, refl, sym}
+use Rattle.std.proofs.Common.{ap, ◌∙◌, subst, arith, append_assoc, append-nil, length-append, length-set, length-drop, inl, inr}
+use Rattle.std.proofs.lemmas.List.{get_or-set_same, get_or-set_other, set-set, set-get_or, take_at, take_all, take-take, drop_all, length-take-le}
+use Rattle.std.proofs.lemmas.List.{length-replicate, take-replicate, replicate-append-replicate, take-append-drop, take-append-le, drop-append-le}
 use Rattle.std.proofs.Math.Seq.{take-append-add}
 use Rattle.std.proofs.lemmas.Bool.{cases_eq}
 use Rattle.ix_blocks.specs.declared.blocks.Blocks.TheInside.{Inside}

@@ -1,5 +1,6 @@
 -- What becomes of chains and their bytes as blocks come, go and change.
-use Rattle.std.proofs.Common.{◌≡◌, ℕ, zero, suc, ◌+◌, ◌-◌, ◌*◌, ◌/◌, ◌%◌, ◌<◌, ◌≤◌, List, [], ◌∷◌, ◌++◌, length, take, set, get_or, replicate, Option, Some, None, refl, sym, ap, ◌∙◌, subst, arith, append-nil, length-append, slice_get}
+use Rattle.std.proofs.Common.{◌≡◌, ℕ, zero, suc, ◌+◌, ◌-◌, ◌*◌, ◌/◌, ◌%◌, ◌<◌, ◌≤◌, List, [], ◌∷◌, ◌++◌, length, take, set, get_or, replicate, Option}
+use Rattle.std.proofs.Common.{Some, None, refl, sym, ap, ◌∙◌, subst, arith, append-nil, length-append, slice_get}
 use Rattle.std.specs.List.{last_or, Contains}
 use Rattle.std.proofs.lemmas.List.{get_or-set_same, map-set, take_at, get_or_at, set-get_or}
 use Rattle.std.proofs.lemmas.Bool.Decides.{nat_tests}
@@ -23,7 +24,8 @@ flats-length blocks [] = refl
 flats-length blocks (c ∷ cs) = ap suc (flats-length blocks cs)
 
 -- one chain of other bytes, and the others as they were
-flats-one : (blocks : List (List ℕ)) (b : ℕ) (x c ws : List ℕ) (cs : List (List ℕ)) (k : ℕ) → k < length cs → total (times b) (set cs k []) ≡ 0 → flat (set blocks b x) c ≡ ws → flats (set blocks b x) (set cs k c) ≡ set (flats blocks cs) k ws
+flats-one : (blocks : List (List ℕ)) (b : ℕ) (x c ws : List ℕ) (cs : List (List ℕ)) (k : ℕ) → k < length cs → total (times b) (set cs k []) ≡ 0
+    → flat (set blocks b x) c ≡ ws → flats (set blocks b x) (set cs k c) ≡ set (flats blocks cs) k ws
 flats-one blocks b x c ws [] k l none is = absurd (omega arith)
 flats-one blocks b x c ws (d ∷ cs) zero l none is =
     let rest : flats (set blocks b x) cs ≡ flats blocks cs = flats-set blocks b x cs (omega (arith, none)) in
@@ -40,7 +42,8 @@ beside i (c ∷ cs) zero l = omega arith
 beside i (c ∷ cs) (suc k) l = omega (arith, beside i cs k (omega arith))
 
 -- a free block at the end of a chain
-pub added : (blocks : List (List ℕ)) (v : Chains) (f b : ℕ) (rest z : List ℕ) → IsPool v → v.free ≡ b ∷ rest → f < length v.chains → b < length blocks → flats (set blocks b z) (pushed_back f v).chains ≡ set (flats blocks v.chains) f (get_or (flats blocks v.chains) f [] ++ z)
+pub added : (blocks : List (List ℕ)) (v : Chains) (f b : ℕ) (rest z : List ℕ) → IsPool v → v.free ≡ b ∷ rest → f < length v.chains → b < length blocks
+    → flats (set blocks b z) (pushed_back f v).chains ≡ set (flats blocks v.chains) f (get_or (flats blocks v.chains) f [] ++ z)
 added blocks v f b rest z law free l within =
     let once : total (times b) v.chains ≡ 0 = omega (arith, at_most_once v b law, ap (times b) free, times_here b rest) in
     let chain = chain_of f v in
@@ -124,7 +127,9 @@ last_below v f b law l last =
     below_part v f b (chain_of f v) [] law l (sym (append-nil (chain_of f v))) (omega (arith, ap (times b) p.1, times-append b p.0 (b ∷ []), times_here b []))
 
 -- bytes laid over a block of a chain
-pub laid : (blocks : List (List ℕ)) (v : Chains) (f b place : ℕ) (xs : List ℕ) → IsPool v → length blocks ≡ pool v → ((j : ℕ) → j < length blocks → length (get_or blocks j []) ≡ 512) → f < length v.chains → slice_get (chain_of f v) (place / 512) ≡ Some b → place % 512 + length xs ≤ 512
+pub laid : (blocks : List (List ℕ)) (v : Chains) (f b place : ℕ) (xs : List ℕ) → IsPool v → length blocks ≡ pool v
+    → ((j : ℕ) → j < length blocks → length (get_or blocks j []) ≡ 512) → f < length v.chains → slice_get (chain_of f v) (place / 512) ≡ Some b
+    → place % 512 + length xs ≤ 512
     → flats (set blocks b (laid_over (place % 512) xs (get_or blocks b []))) v.chains ≡ set (flats blocks v.chains) f (laid_over place xs (get_or (flats blocks v.chains) f []))
 laid blocks v f b place xs law each sized l at fits =
     let p = split_at (chain_of f v) (place / 512) b at in

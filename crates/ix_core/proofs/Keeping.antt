@@ -1,5 +1,6 @@
 -- What a core's marks stand for, at first and one entry later.
-use Rattle.std.proofs.Common.{◌≡◌, ◌+◌, ◌≤◌, ◌^◌, ◌++◌, ◌∷◌, ℕ, Bool, true, false, true≢false, [], length, Option, Some, None, is_some, option_map, if◌then◌else◌, refl, sym, ap, ◌∙◌, subst, arith, length-append}
+use Rattle.std.proofs.Common.{◌≡◌, ◌+◌, ◌≤◌, ◌^◌, ◌++◌, ◌∷◌, ℕ, Bool, true, false, true≢false, [], length, Option, Some, None, is_some, option_map}
+use Rattle.std.proofs.Common.{if◌then◌else◌, refl, sym, ap, ◌∙◌, subst, arith, length-append}
 use Rattle.ix_float.specs.declared.mark.Way.{Way}
 use Rattle.ix_float.specs.declared.mark.Way.TheVariants as way
 use Rattle.ix_model.specs.world.World.{World}
@@ -26,7 +27,12 @@ use Rattle.ix_core.specs.Marking.{way_of, spot_in, goes_fresh, sizes_of, AreMark
 use Rattle.ix_core.proofs.Standing.{entries_are_few, small_journal}
 
 -- ---- at first
-opening_sizes : (c : Config) (n : ℕ) → is_valid c ≡ true → n ≡ length (opening_world c).frame.objects → sizes_of (opening_world c).frame ≡ record { rows = c.limits.procs; objects = n; opens = c.limits.opens }
+opening_sizes : (c : Config) (n : ℕ) → is_valid c ≡ true → n ≡ length (opening_world c).frame.objects → sizes_of (opening_world c).frame ≡ record {
+  rows =
+      c.limits.procs;
+  objects = n;
+  opens = c.limits.opens;
+}
 opening_sizes c n valid is =
     let limits : (opening_world c).frame.limits ≡ c.limits = ap (λ (w : World). w.frame.limits) (opening_is_built c (valid_parts c valid)).is in
     let opens = (sound_opening_world c valid).limits.opens ∙ ap (λ l. l.opens) limits in
@@ -60,7 +66,8 @@ module _ (m : Known) (h : History) (valid : is_valid h.config ≡ true) (k : Are
     where
       go : (b : Bool) → is_fresh (opening_world h.config) h.events pid fd (way_of w) ≡ b → is_some (if b then spot_behind (run (opening_world h.config) 1 h.events).frame pid fd else None) ≡ b
       go false no_longer = refl
-      go true fresh = ap (λ b. is_some (option_map (λ z. let x : Spot = record { entry = z.id; object = z.entry.object } in x) b)) (fresh_is_known (opening_world h.config) h.events pid fd (way_of w) opening_sound fresh).is_behind
+      go true fresh = ap (λ b. is_some (option_map (λ z. let x : Spot = record { entry = z.id; object = z.entry.object } in
+          x) b)) (fresh_is_known (opening_world h.config) h.events pid fd (way_of w) opening_sound fresh).is_behind
 
   -- a call that goes through a fresh descriptor goes by its mark
   pub goes_by : (pid : ℕ) (o : Op) → is_some (mark_through m pid o) ≡ goes_fresh h pid o
@@ -83,7 +90,8 @@ module _ (m : Known) (h : History) (valid : is_valid h.config ≡ true) (k : Are
   few_raised fits = omega (arith, k.raised, entries_are_few h.events h.config.journal fits (small_journal h.config valid))
 
   -- ---- one entry later
-  spots_next : (n : Known) (e : Event) → AreTold m n (world_of h) (length h.events + 1) e.pid e.op → (pid fd : ℕ) (w : Way) → option_map spot_in (spot_of n pid fd w) ≡ fresh_spot (opening_world h.config) (h.events ++ e ∷ []) pid fd (way_of w)
+  spots_next : (n : Known) (e : Event) → AreTold m n (world_of h) (length h.events + 1) e.pid e.op → (pid fd : ℕ) (w : Way)
+      → option_map spot_in (spot_of n pid fd w) ≡ fresh_spot (opening_world h.config) (h.events ++ e ∷ []) pid fd (way_of w)
   unfolding world_of
   spots_next n e t pid fd w =
       t.spots pid fd w

@@ -104,7 +104,9 @@ module _ (n : ℕ) where
   a_collect : (pid c : ℕ) (m : Frame) → Alive m → position (λ q. is_child pid q && is_ended q) m.processes ≡ Some c → Keeps Alive (put_process c None)
   unfolding put_process Holds
   a_collect pid c m was first =
-      let ended : is_ended (at m.processes c) ≡ true = (and_parts (is_child pid (at m.processes c)) (is_ended (at m.processes c)) (position-Some (λ z. is_child pid z && is_ended z) m.processes c None first).1).1 in
+      let ended : is_ended (at m.processes c) ≡ true =
+      (and_parts (is_child pid (at m.processes c)) (is_ended (at m.processes c)) (position-Some (λ z. is_child pid z && is_ended z) m.processes c None
+      first).1).1 in
       let apart : n ≢ c = λ same. not_both (at m.processes n) was (ap (λ i. is_ended (at m.processes i)) same ∙ ended) in
       record { led = λ g r. ap alive (get_or-set_other g.processes c n None None apart) ∙ r }
 
@@ -198,7 +200,8 @@ module _ (n : ℕ) where
       (decided Alive (told w pid c) place pid c w.frame was (keeps.led w.frame was))
 
   -- a caller who hasn't exited was refused
-  still_there : (w : World) (place pid status : ℕ) (r : Reply) → (step w place pid (op.Exit status)).reply ≡ r → FitsCall (op.Exit status) r → has_exited (op.Exit status) r ≡ false → Alive w.frame → Alive (step w place pid (op.Exit status)).world.frame
+  still_there : (w : World) (place pid status : ℕ) (r : Reply) → (step w place pid (op.Exit status)).reply ≡ r → FitsCall (op.Exit status) r
+      → has_exited (op.Exit status) r ≡ false → Alive w.frame → Alive (step w place pid (op.Exit status)).world.frame
   still_there w place pid status (reply.No why) is fits stays was = refused_lives w place pid (op.Exit status) why is was
   still_there w place pid status reply.Done is fits stays was = cc
   still_there w place pid status _ is fits stays was = absurd fits
@@ -211,9 +214,11 @@ module _ (n : ℕ) where
   unfolding row
   wait_row t place pid = a_wait_child pid
 
-  pub lives_on : (w : World) (place pid : ℕ) (c : Op) → Sound w → length w.frame.processes ≤ 4294967295 → (n == pid && has_exited c (step w place pid c).reply) ≡ false → lives w.frame n ≡ true → lives (step w place pid c).world.frame n ≡ true
+  pub lives_on : (w : World) (place pid : ℕ) (c : Op) → Sound w → length w.frame.processes ≤ 4294967295 → (n == pid && has_exited c (step w place pid c).reply)
+      ≡ false → lives w.frame n ≡ true → lives (step w place pid c).world.frame n ≡ true
   lives_on w place pid (op.Exit status) s few stays was = elim (eqb_tells n pid) [
-    | inl same ↦ still_there w place pid status _ refl (replies_fit w place pid (op.Exit status) s few) (sym (ap (λ b. b && has_exited (op.Exit status) (step w place pid (op.Exit status)).reply) (eq-eqb n pid same.1)) ∙ stays) was
+    | inl same ↦ still_there w place pid status _ refl (replies_fit w place pid (op.Exit status) s few)
+        (sym (ap (λ b. b && has_exited (op.Exit status) (step w place pid (op.Exit status)).reply) (eq-eqb n pid same.1)) ∙ stays) was
     | inr apart ↦ kept_on w place pid (op.Exit status) (exit_row _ place pid status apart.1) was
   ]
   lives_on w place pid op.WaitChild s few stays was = kept_on w place pid op.WaitChild (wait_row _ place pid) was

@@ -1,5 +1,6 @@
 -- What a call makes of the marks.
-use Rattle.std.proofs.Common.{◌≡◌, ◌==◌, ◌&&◌, ◌||◌, ◌≤◌, ◌<◌, ℕ, Bool, true, false, not, true≢false, List, length, count_by, Option, Some, None, is_some, option_map, if◌then◌else◌, refl, sym, ap, ◌∙◌, subst, arith, inl, inr}
+use Rattle.std.proofs.Common.{◌≡◌, ◌==◌, ◌&&◌, ◌||◌, ◌≤◌, ◌<◌, ℕ, Bool, true, false, not, true≢false, List, length, count_by, Option, Some, None}
+use Rattle.std.proofs.Common.{is_some, option_map, if◌then◌else◌, refl, sym, ap, ◌∙◌, subst, arith, inl, inr}
 use Rattle.std.specs.Option.{option_map_or}
 use Rattle.std.proofs.lemmas.Bool.{and_parts, or_cases, not-true, eqb-true}
 use Rattle.ix_label.specs.Category.{Categories, bottom, same}
@@ -29,7 +30,9 @@ use Rattle.ix_fresh.proofs.Remaining.{turned}
 use Rattle.ix_fcalls.specs.Tested.{IsKnown}
 use Rattle.ix_marks.specs.Known.{Known, spot_of, has_row}
 use Rattle.ix_marks.specs.declared.row.Spot as marked
-use Rattle.ix_core.specs.Marking.{way_of, spot_in, sizes_of, AreReady, AreKnown, AreTold, CanRefresh, call_by, mark_through, spot_through, other_process, other_object, other_entry, unless_object, unless_entry, unless_closed, has_exited, refreshed, or_refreshed}
+use Rattle.ix_core.specs.Marking.{way_of, spot_in, sizes_of, AreReady, AreKnown, AreTold, CanRefresh, call_by, mark_through, spot_through}
+use Rattle.ix_core.specs.Marking.{other_process, other_object, other_entry, unless_object, unless_entry, unless_closed, has_exited, refreshed}
+use Rattle.ix_core.specs.Marking.{or_refreshed}
 use Rattle.ix_core.proofs.Living.{lives_on}
 use Rattle.ix_core.proofs.Unmoved.{known_still}
 
@@ -114,7 +117,8 @@ closed_told pid _ r q d s = stays (pid == q)
 
 -- ---- what is refreshed
 -- the mark of that descriptor gets the spot, and any other stays
-set_told : (f : Frame) (pid fd q d : ℕ) (spot s : Mark) → seen spot ≡ spot_behind f pid fd → seen (if q == pid && (d == fd && true) then spot else s) ≡ (if pid == q && fd == d then spot_behind f q d else seen s)
+set_told : (f : Frame) (pid fd q d : ℕ) (spot s : Mark) → seen spot ≡ spot_behind f pid fd → seen (if q == pid && (d == fd && true) then spot else
+    s) ≡ (if pid == q && fd == d then spot_behind f q d else seen s)
 set_told f pid fd q d spot s is = go (q == pid) (pid == q) (turned q pid) (eqb-true pid q) (d == fd) (fd == d) (turned d fd) (eqb-true fd d)
   where
     go : (a b : Bool) → a ≡ b → (b ≡ true → pid ≡ q) → (x y : Bool) → x ≡ y → (y ≡ true → fd ≡ d) → seen (if a && (x && true) then spot else s) ≡ (if b && y then spot_behind f q d else seen s)
@@ -138,7 +142,8 @@ none_set : (f : Frame) (b : Bool) (q d : ℕ) (s : Mark) → seen s ≡ (if b &&
 none_set f true q d s = refl
 none_set f false q d s = refl
 
-refreshed_told : (f : Frame) (pid : ℕ) (o : Op) (r : Reply) (spot : Mark) (q d : ℕ) (v : Way) (s : Mark) → seen spot ≡ spot_through f pid o → seen (or_refreshed pid (refreshed o r) spot q d v s) ≡ (if pid == q && refreshes (way_of v) d o r then spot_behind f q d else seen s)
+refreshed_told : (f : Frame) (pid : ℕ) (o : Op) (r : Reply) (spot : Mark) (q d : ℕ) (v : Way) (s : Mark) → seen spot ≡ spot_through f pid o
+    → seen (or_refreshed pid (refreshed o r) spot q d v s) ≡ (if pid == q && refreshes (way_of v) d o r then spot_behind f q d else seen s)
 refreshed_told f pid (op.ReadFd fd count) (reply.Bytes k) spot q d way.Reading s is = set_told f pid fd q d spot s is
 refreshed_told f pid (op.ReadFd fd count) (reply.Bytes k) spot q d way.Writing s is = not_set f (q == pid) (d == fd) (pid == q) q d spot s
 refreshed_told f pid (op.ReadFd fd count) _ spot q d way.Reading s is = none_set f (pid == q) q d s
@@ -193,7 +198,8 @@ Stood w pid fd = (b : OpenFile) × (behind w.frame pid fd ≡ Some b)
 one_some : {A : Type 0} (a b : A) → Some a ≡ Some b → a ≡ b
 one_some a b is = cc
 
-refreshed_stood : (w : World) (place pid : ℕ) (o : Op) (r : Reply) (x : Fd × Way) → (step w place pid o).reply ≡ r → refreshed o r ≡ Some x → Stood w pid x.0.0 × (spot_through w.frame pid o ≡ spot_behind w.frame pid x.0.0)
+refreshed_stood : (w : World) (place pid : ℕ) (o : Op) (r : Reply) (x : Fd × Way) → (step w place pid o).reply ≡ r → refreshed o r ≡ Some x
+    → Stood w pid x.0.0 × (spot_through w.frame pid o ≡ spot_behind w.frame pid x.0.0)
 refreshed_stood w place pid (op.ReadFd fd count) (reply.Bytes k) x said is =
     let facts = read_facts w place pid fd count k said in
     let one : fd ≡ x.0.0 = ap (λ (z : Fd × Way). z.0.0) (one_some _ x is) in
@@ -227,7 +233,8 @@ HasRoom m pid =
     → has_row m pid ≡ false
     → 0 < m.owners.free
 
-pub can_refresh : (w : World) (place pid : ℕ) (o : Op) (m : Known) (spot : Mark) → Sound w → AreReady m w.frame → HasRoom m pid → seen spot ≡ spot_through w.frame pid o → (x : Fd × Way) → refreshed o (step w place pid o).reply ≡ Some x → CanRefresh m pid x spot
+pub can_refresh : (w : World) (place pid : ℕ) (o : Op) (m : Known) (spot : Mark) → Sound w → AreReady m w.frame → HasRoom m pid
+    → seen spot ≡ spot_through w.frame pid o → (x : Fd × Way) → refreshed o (step w place pid o).reply ≡ Some x → CanRefresh m pid x spot
 can_refresh w place pid o m spot s ready room through x is =
     let t = refreshed_stood w place pid o _ x refl is in
     let b = is_behind w.frame pid x.0.0 t.0.0 t.0.1 in
@@ -236,7 +243,8 @@ can_refresh w place pid o m spot s ready room through x is =
     record {
       stands = seen_some spot _ (through ∙ t.1 ∙ ap (option_map (λ z. let y : Spot = record { entry = z.id; object = z.entry.object } in y)) t.0.1);
       descriptor = omega (arith, in_table b.process.fds x.0.0 t.0.0.id b.descriptor, s.processes.descriptors pid b.process (is_living _ b.process b.lives));
-      room = λ none. room w.frame.processes (omega (arith, rows, s.limits.processes)) (λ q h. record_there (at w.frame.processes q) (ready.rows q h)) (record_there (at w.frame.processes pid) alive) none;
+      room = λ none. room w.frame.processes (omega (arith, rows, s.limits.processes)) (λ q h. record_there (at w.frame.processes q) (ready.rows q h))
+          (record_there (at w.frame.processes pid) alive) none;
     }
 
 -- ---- rows
@@ -309,7 +317,8 @@ itself a = ap not ((same-decides a a).1 refl)
 
 touches_nothing : (f : Frame) (pid : ℕ) (o : Op) (q : ℕ) (object entry : Option ℕ) → touches f (call_by pid o) f q object entry ≡ false
 touches_nothing f pid o q object entry =
-    go (pid == q) (is_one (target f pid o) object) (is_one (entry_target f pid o) entry) _ _ _ (itself (of_process (λ p. p.label) bottom f pid)) (itself (label_at f (target f pid o))) (itself (label_of_entry f (entry_target f pid o)))
+    go (pid == q) (is_one (target f pid o) object) (is_one (entry_target f pid o) entry) _ _ _ (itself (of_process (λ p. p.label) bottom f pid))
+    (itself (label_at f (target f pid o))) (itself (label_of_entry f (entry_target f pid o)))
   where
     go : (a b c x y z : Bool) → x ≡ false → y ≡ false → z ≡ false → (a && x || b && y || c && z) ≡ false
     go a b c x y z one two three = (λ i. and_no a x one i || and_no b y two i || and_no c z three i)
@@ -324,7 +333,8 @@ closes_not m pid d (op.ReadFd fd count) r h = refl
 closes_not m pid d (op.WriteFd fd bytes) r h = refl
 closes_not m pid d _ r h = cc
 
-refreshes_marked : (m : Known) (pid : ℕ) (o : Op) (r : Reply) (q d : ℕ) (v : Way) → is_some (mark_through m pid o) ≡ true → (pid == q && refreshes (way_of v) d o r) ≡ true → is_some (spot_of m q d v) ≡ true
+refreshes_marked : (m : Known) (pid : ℕ) (o : Op) (r : Reply) (q d : ℕ) (v : Way) → is_some (mark_through m pid o) ≡ true
+    → (pid == q && refreshes (way_of v) d o r) ≡ true → is_some (spot_of m q d v) ≡ true
 refreshes_marked m pid (op.ReadFd fd count) (reply.Bytes k) q d way.Reading h on =
     let both = and_parts (pid == q) (fd == d) on in
     ap (λ n. is_some (spot_of m n d way.Reading)) (sym (eqb-true pid q both.0)) ∙ ap (λ n. is_some (spot_of m pid n way.Reading)) (sym (eqb-true fd d both.1)) ∙ h
@@ -339,7 +349,8 @@ refreshes_marked m pid (op.WriteFd fd bytes) _ q d way.Reading h on = absurd (tr
 refreshes_marked m pid (op.WriteFd fd bytes) _ q d way.Writing h on = absurd (true≢false (sym (and_parts (pid == q) false on).1))
 refreshes_marked m pid _ r q d v h on = cc
 
-known_spot : (m : Known) (f : Frame) (pid : ℕ) (o : Op) (r : Reply) (q d : ℕ) (v : Way) → AreKnown m f → is_some (mark_through m pid o) ≡ true → seen (spot_of m q d v) ≡ left f f pid o r q d v (seen (spot_of m q d v))
+known_spot : (m : Known) (f : Frame) (pid : ℕ) (o : Op) (r : Reply) (q d : ℕ) (v : Way) → AreKnown m f → is_some (mark_through m pid o) ≡ true
+    → seen (spot_of m q d v) ≡ left f f pid o r q d v (seen (spot_of m q d v))
 known_spot m f pid o r q d v k h = go (pid == q && refreshes (way_of v) d o r) refl
   where
     stays : seen (spot_of m q d v) ≡ (if pid == q && closes d o r then None else laws.unless (λ x. touches f (call_by pid o) f q (Some x.object) (Some x.entry)) (seen (spot_of m q d v)))
@@ -347,7 +358,8 @@ known_spot m f pid o r q d v k h = go (pid == q && refreshes (way_of v) d o r) r
         unless_never (λ x. touches f (call_by pid o) f q (Some x.object) (Some x.entry)) (λ x. touches_nothing f pid o q (Some x.object) (Some x.entry)) (seen (spot_of m q d v))
         ∙ ap (λ b. if b then None else laws.unless (λ x. touches f (call_by pid o) f q (Some x.object) (Some x.entry)) (seen (spot_of m q d v))) (sym (and_no (pid == q) _ (closes_not m pid d o r h)))
 
-    go : (b : Bool) → (pid == q && refreshes (way_of v) d o r) ≡ b → seen (spot_of m q d v) ≡ (if b then spot_behind f q d else if pid == q && closes d o r then None else laws.unless (λ x. touches f (call_by pid o) f q (Some x.object) (Some x.entry)) (seen (spot_of m q d v)))
+    go : (b : Bool) → (pid == q && refreshes (way_of v) d o r) ≡ b → seen (spot_of m q d v) ≡ (if b then spot_behind f q d else if pid == q && closes d o r then
+        None else laws.unless (λ x. touches f (call_by pid o) f q (Some x.object) (Some x.entry)) (seen (spot_of m q d v)))
     go true on =
         let x = some_is (spot_of m q d v) (refreshes_marked m pid o r q d v h on) in
         ap seen x.1 ∙ sym (k.here q d v (spot_in x.0) (ap seen x.1))

@@ -97,7 +97,8 @@ no_more f = record { few = omega arith }
 one_more : (f : Frame) (p : Process) → Grown 1 f (record f { processes = f.processes ++ Some p ∷ [] })
 one_more f p = record { few = omega (arith, length-append f.processes (Some p ∷ [])) }
 
-forked_by : (f : Frame) (pid : ℕ) (keep : Keep) (p : Process) (a b : Bool) → living (at f.processes pid) ≡ Some p → has_kept keep p ≡ a → nat_lt (count_by is_some f.processes) f.limits.procs ≡ b → Holds (fork pid keep f) (Grown 1 f)
+forked_by : (f : Frame) (pid : ℕ) (keep : Keep) (p : Process) (a b : Bool) → living (at f.processes pid) ≡ Some p → has_kept keep p ≡ a
+    → nat_lt (count_by is_some f.processes) f.limits.procs ≡ b → Holds (fork pid keep f) (Grown 1 f)
 unfolding fork ◌>>=◌ ◌>>◌ on_pass process some need frame add_process pass refuse Holds
 forked_by f pid keep p true true is h k = rw (is, h, k) (one_more f (record p { parent = Some pid; fds = kept_fds keep p.fds }))
 forked_by f pid keep p true false is h k = rw (is, h, k) (no_more f)

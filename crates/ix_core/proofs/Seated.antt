@@ -38,7 +38,12 @@ module _ (old new : History) (before after : List ℕ) (seat line : ℕ) (pid : 
   are_read : (r : Reply) → r ≡ given.reply → after ≡ put_front given.bytes before → bytes_in r after ≡ given.bytes
   are_read r said put = gives_bytes r given.bytes before after (are_shown r said) put
 
-  made_next : (r : Reply) → r ≡ given.reply → after ≡ put_front given.bytes before → made_of (entry seat line pid o) given ≡ record { event = entry seat line pid o; reply = r; bytes = bytes_in r after }
+  made_next : (r : Reply) → r ≡ given.reply → after ≡ put_front given.bytes before → made_of (entry seat line pid o) given ≡ record {
+    event =
+        entry seat line pid o;
+    reply = r;
+    bytes = bytes_in r after;
+  }
   made_next r said put = λ i. record { event = entry seat line pid o; reply = sym said i; bytes = sym (are_read r said put) i }
 
   pub makes_next : (a : Answer) → Steps a → MakesNext a old new (entry seat line pid o) after

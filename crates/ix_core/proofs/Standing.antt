@@ -54,7 +54,8 @@ opening_log c valid = let r = opening_is_built c (valid_parts c valid) in subst 
 
 pub small_journal : (c : Config) → is_valid c ≡ true → c.journal ≤ 870400000
 unfolding is_valid
-small_journal c valid = leb-true c.journal 870400000 (and_parts (fss_fit c.fss && limits_fit c.limits && procs_fit c.limits c.procs && objects_fit c.fss c.limits [] c.objects) (nat_le c.journal 870400000) valid).1
+small_journal c valid = leb-true c.journal 870400000 (and_parts (fss_fit c.fss && limits_fit c.limits && procs_fit c.limits c.procs
+    && objects_fit c.fss c.limits [] c.objects) (nat_le c.journal 870400000) valid).1
 
 pub pids_are_few : (c : Config) (es : List Event) → is_valid c ≡ true → cost_of_history es ≤ c.journal → length (run (opening_world c) 1 es).frame.processes < 2 ^ 32 - 1
 pids_are_few c es valid fits = omega (arith, pids_run (opening_world c) 1 es, opening_pids c valid, entries_are_few es c.journal fits (small_journal c valid))
@@ -68,7 +69,8 @@ stands_first c w valid e = record {
   fits = omega (arith, no_cost);
 }
 
-pub stands_next : (w v : World) (j : Entries) (h : History) (e : Event) → StandsFor w j h → j.events ≡ h.events → Fits j e → v ≡ (step w (length h.events + 1) e.pid e.op).world → StandsFor v (with_event e j) (with_entry h e)
+pub stands_next : (w v : World) (j : Entries) (h : History) (e : Event) → StandsFor w j h → j.events ≡ h.events → Fits j e
+    → v ≡ (step w (length h.events + 1) e.pid e.op).world → StandsFor v (with_event e j) (with_entry h e)
 stands_next w v j h e s same fits is = record {
   run = is ∙ ap (λ (u : World). (step u (length h.events + 1) e.pid e.op).world) s.run ∙ sym (world_of-push h e);
   valid = s.valid;
@@ -91,7 +93,8 @@ shows _ bytes before after h e = tt
 
 -- and what stands behind them stays
 pub rest_stays : (r : Reply) (bytes before after : List ℕ) → AreShown r bytes → after ≡ put_front bytes before → LeavesRest (answer.Given r) before after
-rest_stays (reply.Bytes k) bytes before after h e = ap (drop k) e ∙ ap (λ n. drop n (put_front bytes before)) (sym h.0) ∙ drop-append_seam bytes (drop (length bytes) before) ∙ ap (λ n. drop n before) h.0
+rest_stays (reply.Bytes k) bytes before after h e = ap (drop k) e ∙ ap (λ n. drop n (put_front bytes before)) (sym h.0)
+    ∙ drop-append_seam bytes (drop (length bytes) before) ∙ ap (λ n. drop n before) h.0
 rest_stays _ bytes before after h e = e ∙ ap (λ b. put_front b before) h
 
 -- what is answered as the next entry says fits its call

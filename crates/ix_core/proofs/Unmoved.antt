@@ -24,7 +24,8 @@ one_there : {A : Type 0} (o : Option A) (p q : A) → o ≡ Some p → o ≡ Som
 one_there o p q is here = let h : Some p ≡ Some q = sym is ∙ here in cc
 
 -- what is known is known of the open entry and the object that stand there
-changes_nothing : KnownChangesNothing → (way : Way) (f : Frame) (pid fd : ℕ) (k : Known way f pid fd) (e : OpenFile) (x : Object) → behind f pid fd ≡ Some e → at f.objects e.entry.object ≡ Some x → ChangeNothing way f pid k.process x e
+changes_nothing : KnownChangesNothing → (way : Way) (f : Frame) (pid fd : ℕ) (k : Known way f pid fd) (e : OpenFile) (x : Object) → behind f pid fd ≡ Some e
+    → at f.objects e.entry.object ≡ Some x → ChangeNothing way f pid k.process x e
 changes_nothing law way f pid fd k e x is there =
     let entry : k.entry ≡ e = one_there (behind f pid fd) k.entry e k.is_behind is in
     let object : k.object ≡ x = one_there (at f.objects e.entry.object) k.object x (subst (λ (b : OpenFile). at f.objects b.entry.object ≡ Some k.object) entry k.is_object) there in

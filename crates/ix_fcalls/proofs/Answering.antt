@@ -16,7 +16,8 @@ use Rattle.ix_tables.specs.Parts.{Parts}
 use Rattle.ix_fcalls.specs.Around.{Around, frame_of, world_of}
 use Rattle.ix_fcalls.specs.Filed.{Answers, Leaves, is_filed, is_plain, lets_go}
 
-answers : (given : Given) (w : World) (r : Reply) (bytes before after : List ℕ) → given ≡ record { world = w; reply = r; bytes = bytes } → after ≡ put_front bytes before → Answers given w r before after
+answers : (given : Given) (w : World) (r : Reply) (bytes before after : List ℕ) → given ≡ record { world = w; reply = r; bytes = bytes }
+    → after ≡ put_front bytes before → Answers given w r before after
 answers given w r bytes before after is front = record {
   world = sym (ap (λ (g : Given). g.world) is);
   reply = sym (ap (λ (g : Given). g.reply) is);
@@ -60,10 +61,14 @@ module _ (a : Around) (t u : Parts) (ps qs : List (Option Process)) (c : Op) (m 
   plainly_is r = λ i. record { world = record { frame = sym stands i; content = carried_over i }; reply = r; bytes = [] }
 
   -- where the answer edits no content
-  pub answers_plainly : (r : Reply) (buf : List ℕ) → step (world_of a t ps) a.place a.pid c ≡ plainly (world_of a t ps) (record { reply = r; frame = (verdict m a.place a.pid c (frame_of a t ps)).frame }) → Answers (step (world_of a t ps) a.place a.pid c) (world_of a u qs) r buf buf
+  pub answers_plainly : (r : Reply) (buf : List ℕ)
+      → step (world_of a t ps) a.place a.pid c ≡ plainly (world_of a t ps) (record { reply = r; frame = (verdict m a.place a.pid c (frame_of a t ps)).frame })
+      → Answers (step (world_of a t ps) a.place a.pid c) (world_of a u qs) r buf buf
   answers_plainly r buf is = answers _ _ _ [] buf buf (is ∙ plainly_is r) refl
 
-  pub answers_said : (r : Reply) (buf : List ℕ) → r ≡ (verdict m a.place a.pid c (frame_of a t ps)).reply → step (world_of a t ps) a.place a.pid c ≡ plainly (world_of a t ps) (verdict m a.place a.pid c (frame_of a t ps)) → Answers (step (world_of a t ps) a.place a.pid c) (world_of a u qs) r buf buf
+  pub answers_said : (r : Reply) (buf : List ℕ) → r ≡ (verdict m a.place a.pid c (frame_of a t ps)).reply
+      → step (world_of a t ps) a.place a.pid c ≡ plainly (world_of a t ps) (verdict m a.place a.pid c (frame_of a t ps))
+      → Answers (step (world_of a t ps) a.place a.pid c) (world_of a u qs) r buf buf
   answers_said r buf said is = answers_plainly r buf (is ∙ ap (λ s. plainly (world_of a t ps) (record { reply = s; frame = (verdict m a.place a.pid c (frame_of a t ps)).frame })) (sym said))
 
   -- where it edits it, in the parts that stand then
@@ -103,4 +108,5 @@ plain_step w place pid _ plain = cc
 pub answers_plain : (a : Around) (t u : Parts) (ps qs : List (Option Process)) (c : Op) (r : Reply) (buf : List ℕ) → is_plain c ≡ true → Sound (world_of a t ps) → Leaves (lets_go c) a t u ps qs
     → r ≡ (verdict nothing_told a.place a.pid c (frame_of a t ps)).reply → frame_of a u qs ≡ (verdict nothing_told a.place a.pid c (frame_of a t ps)).frame
     → Answers (step (world_of a t ps) a.place a.pid c) (world_of a u qs) r buf buf
-answers_plain a t u ps qs c r buf plain sound left said stands = answers_said a t u ps qs c nothing_told (plain_filed c plain) sound left stands r buf said (plain_step (world_of a t ps) a.place a.pid c plain)
+answers_plain a t u ps qs c r buf plain sound left said stands = answers_said a t u ps qs c nothing_told (plain_filed c plain) sound left stands r buf said
+    (plain_step (world_of a t ps) a.place a.pid c plain)

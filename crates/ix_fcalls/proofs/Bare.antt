@@ -1,5 +1,6 @@
 -- A process gives up all of its descriptors.
-use Rattle.std.proofs.Common.{◌≢◌, ◌≤◌, ◌≡◌, ◌<◌, ◌+◌, ◌-◌, ℕ, suc, true, false, true≢false, not, List, length, count_by, Option, Some, None, is_some, option_map, refl, sym, ap, ◌∙◌, subst, arith, slice_set, slice_index_or, if◌then◌else◌, inl, inr}
+use Rattle.std.proofs.Common.{◌≢◌, ◌≤◌, ◌≡◌, ◌<◌, ◌+◌, ◌-◌, ℕ, suc, true, false, true≢false, not, List, length, count_by, Option, Some, None, is_some}
+use Rattle.std.proofs.Common.{option_map, refl, sym, ap, ◌∙◌, subst, arith, slice_set, slice_index_or, if◌then◌else◌, inl, inr}
 use Rattle.std.specs.Option.{option_map_or}
 use Rattle.std.specs.List.{range_with_len}
 use Rattle.std.proofs.lemmas.Bool.{not-true}
@@ -45,7 +46,8 @@ module _ (w : World) (pid fd : ℕ) (e : OpenFile) (g : Frame) (alive : lives w.
   closed : (step w 0 pid (op.CloseFd fd)).world ≡ record { frame = g; content = carried w.frame g w.content }
   unfolding step answer plainly verdict row told
   closed =
-      let decided : (if lives w.frame pid then settled w.frame (close_fd pid fd w.frame) else record { reply = reply.No refusal.NoProcess; frame = w.frame }) ≡ record { reply = reply.Done; frame = g } =
+      let decided : (if lives w.frame pid then settled w.frame (close_fd pid fd w.frame) else record { reply = reply.No refusal.NoProcess; frame = w.frame })
+      ≡ record { reply = reply.Done; frame = g } =
       ap (λ b. if b then settled w.frame (close_fd pid fd w.frame) else record { reply = reply.No refusal.NoProcess; frame = w.frame }) alive ∙ ap (settled w.frame) closes in
       ap (λ (d : Decision). let v : World = record { frame = d.frame; content = carried w.frame d.frame w.content } in v) decided
 
@@ -57,7 +59,8 @@ lives_at : (o : Option Process) → option_map_or (λ p. not p.ended) o false �
 lives_at o alive q is = lives_as o q is (not-true _ (sym (ap (λ p. option_map_or (λ y. not y.ended) p false) is) ∙ alive))
 
 -- a descriptor with nothing behind it is free
-module _ (f : Frame) (pid fd : ℕ) (alive : lives f pid ≡ true) (stands : (q : Process) (e : ℕ) → living (at f.processes pid) ≡ Some q → at q.fds fd ≡ Some e → is_some (at f.opens e) ≡ true) (none : behind f pid fd ≡ None) where
+module _ (f : Frame) (pid fd : ℕ) (alive : lives f pid ≡ true) (stands : (q : Process) (e : ℕ) → living (at f.processes pid) ≡ Some q → at q.fds fd ≡ Some e
+    → is_some (at f.opens e) ≡ true) (none : behind f pid fd ≡ None) where
   free_at : (q : Process) → at f.processes pid ≡ Some q → at q.fds fd ≡ None
   unfolding behind
   free_at q is = go (at q.fds fd) refl
@@ -69,7 +72,8 @@ module _ (f : Frame) (pid fd : ℕ) (alive : lives f pid ≡ true) (stands : (q 
       go None free = free
       go (Some e) on =
           let x = passes_some is_some refl (at f.opens e) (stands q e here on) in
-          let there : is_some (behind f pid fd) ≡ true = ap (λ p. is_some (behind_of p f fd)) here ∙ ap (λ d. is_some (entry_at f d)) on ∙ ap (λ o. is_some (option_map (λ y. let b : OpenFile = record { id = e; entry = y } in b) o)) x.1 in
+          let there : is_some (behind f pid fd) ≡ true = ap (λ p. is_some (behind_of p f fd)) here ∙ ap (λ d. is_some (entry_at f d)) on
+          ∙ ap (λ o. is_some (option_map (λ y. let b : OpenFile = record { id = e; entry = y } in b) o)) x.1 in
           absurd (true≢false (sym there ∙ ap is_some none))
 
   pub nothing_taken : f.processes ≡ change f.processes pid (λ q. record q { fds = put q.fds fd None })
@@ -98,11 +102,13 @@ module _ (a : Around) (v : Parts) (ps : List (Option Process)) where
   }
 
   module _ (fd : ℕ) (w : Parts) (qs : List (Option Process)) (r : IsGivingUp a v ps fd w qs) where
-    next_row : (u : Parts) (rs : List (Option Process)) → fd < 32 → let_go_if_held a.pid fd (frame_of a w qs) ≡ Pass tt (frame_of a u rs) → let_go_each a.pid (range_with_len (fd + 1) (32 - (fd + 1))) (frame_of a u rs) ≡ let_go_all a.pid (frame_of a v ps)
+    next_row : (u : Parts) (rs : List (Option Process)) → fd < 32 → let_go_if_held a.pid fd (frame_of a w qs) ≡ Pass tt (frame_of a u rs)
+        → let_go_each a.pid (range_with_len (fd + 1) (32 - (fd + 1))) (frame_of a u rs) ≡ let_go_all a.pid (frame_of a v ps)
     unfolding let_go_each ◌>>◌ on_pass
     next_row u rs low gives =
         let count : 32 - fd ≡ suc (32 - (fd + 1)) = omega (arith, low) in
-        let first : let_go_each a.pid (range_with_len fd (32 - fd)) (frame_of a w qs) ≡ on_pass (let_go_if_held a.pid fd (frame_of a w qs)) (λ x. let_go_each a.pid (range_with_len (fd + 1) (32 - (fd + 1)))) = ap (λ n. let_go_each a.pid (range_with_len fd n) (frame_of a w qs)) count in
+        let first : let_go_each a.pid (range_with_len fd (32 - fd)) (frame_of a w qs) ≡ on_pass (let_go_if_held a.pid fd (frame_of a w qs))
+        (λ x. let_go_each a.pid (range_with_len (fd + 1) (32 - (fd + 1)))) = ap (λ n. let_go_each a.pid (range_with_len fd n) (frame_of a w qs)) count in
         sym (first ∙ ap (λ (o : Outcome (Unit {0})). on_pass o (λ x. let_go_each a.pid (range_with_len (fd + 1) (32 - (fd + 1))))) gives) ∙ r.row
 
     next_bare : (rs : List (Option Process)) → rs ≡ change qs a.pid (λ q. record q { fds = put q.fds fd None }) → (p : Process) → at rs a.pid ≡ Some p → (n : ℕ) → n < fd + 1 → at p.fds n ≡ None
@@ -120,7 +126,8 @@ module _ (a : Around) (v : Parts) (ps : List (Option Process)) where
           | inr more ↦ absurd (other (omega (arith, low, more)))
         ]
 
-    pub giving_more : (u : Parts) (rs : List (Option Process)) → fd < 32 → let_go_if_held a.pid fd (frame_of a w qs) ≡ Pass tt (frame_of a u rs) → rs ≡ change qs a.pid (λ q. record q { fds = put q.fds fd None })
+    pub giving_more : (u : Parts) (rs : List (Option Process)) → fd < 32 → let_go_if_held a.pid fd (frame_of a w qs) ≡ Pass tt (frame_of a u rs)
+        → rs ≡ change qs a.pid (λ q. record q { fds = put q.fds fd None })
         → Sound (world_of a u rs) → IsCounted u rs → Leaves (world_of a w qs) (world_of a u rs) → IsGivingUp a v ps (fd + 1) u rs
     giving_more u rs low gives taking s c leaves = record {
       row = next_row u rs low gives;
@@ -141,7 +148,8 @@ module _ (a : Around) (v : Parts) (ps : List (Option Process)) where
 
 -- ---- the end
 -- what an ended process leaves of the counts
-module _ (a : Around) (v : Parts) (qs : List (Option Process)) (p : Process) (s : Sound (world_of a v qs)) (c : IsCounted v qs) (here : living (at qs a.pid) ≡ Some p) (bare : (q : Process) → at qs a.pid ≡ Some q → (fd : ℕ) → fd < 32 → at q.fds fd ≡ None) where
+module _ (a : Around) (v : Parts) (qs : List (Option Process)) (p : Process) (s : Sound (world_of a v qs)) (c : IsCounted v qs) (here : living (at qs a.pid)
+    ≡ Some p) (bare : (q : Process) → at qs a.pid ≡ Some q → (fd : ℕ) → fd < 32 → at q.fds fd ≡ None) where
   there : at qs a.pid ≡ Some p
   there = is_living (at qs a.pid) p here
 
@@ -168,11 +176,13 @@ module _ (a : Around) (v : Parts) (qs : List (Option Process)) (p : Process) (s 
     homes = ap (λ (ns : List ℕ). slice_set ns p.cwd (slice_index_or ns p.cwd 0 - 1)) c.homes ∙ sym (homes_fewer qs a.pid p here (length v.objects) low_home);
   }
 
-pub left_counted : (a : Around) (u w : Parts) (qs qs2 : List (Option Process)) (p : Process) → Sound (world_of a u qs2) → IsCounted u qs2 → living (at qs2 a.pid) ≡ Some p → ((q : Process) → at qs2 a.pid ≡ Some q → (fd : ℕ) → fd < 32 → at q.fds fd ≡ None)
+pub left_counted : (a : Around) (u w : Parts) (qs qs2 : List (Option Process)) (p : Process) → Sound (world_of a u qs2) → IsCounted u qs2
+    → living (at qs2 a.pid) ≡ Some p → ((q : Process) → at qs2 a.pid ≡ Some q → (fd : ℕ) → fd < 32 → at q.fds fd ≡ None)
     → qs ≡ qs2 → w ≡ record u { homes = slice_set u.homes p.cwd (slice_index_or u.homes p.cwd 0 - 1) } → IsCounted w (change qs a.pid (λ q. record q { ended = true }))
 left_counted a u w qs qs2 p s c here bare same homes =
     subst (λ v. IsCounted v (change qs a.pid (λ q. record q { ended = true }))) (sym homes)
-    (subst (λ rs. IsCounted (record u { homes = slice_set u.homes p.cwd (slice_index_or u.homes p.cwd 0 - 1) }) (change rs a.pid (λ q. record q { ended = true }))) (sym same) (counted_ended a u qs2 p s c here bare))
+    (subst (λ rs. IsCounted (record u { homes = slice_set u.homes p.cwd (slice_index_or u.homes p.cwd 0 - 1) })
+    (change rs a.pid (λ q. record q { ended = true }))) (sym same) (counted_ended a u qs2 p s c here bare))
 
 -- the counts of a world's own parts
 pub counted_parts : (w : World) (t : Parts) (ps : List (Option Process)) → t ≡ parts_of w → ps ≡ w.frame.processes → IsCounted t ps
@@ -181,7 +191,8 @@ counted_parts w t ps parts same =
     subst (λ u. IsCounted u ps) (sym parts) (subst (λ qs. IsCounted (parts_of w) qs) (sym same) c)
 
 -- homes are no part of what is left
-pub left_content : (a : Around) (v u w : Parts) (ps ps2 qs qs2 : List (Option Process)) (hs : List ℕ) → Sound (world_of a v ps) → Leaves (world_of a v ps2) (world_of a u qs2) → ps2 ≡ ps → qs ≡ qs2 → w ≡ record u { homes = hs }
+pub left_content : (a : Around) (v u w : Parts) (ps ps2 qs qs2 : List (Option Process)) (hs : List ℕ) → Sound (world_of a v ps)
+    → Leaves (world_of a v ps2) (world_of a u qs2) → ps2 ≡ ps → qs ≡ qs2 → w ≡ record u { homes = hs }
     → (world_of a w qs).content ≡ carried (frame_of a v ps) (frame_of a w qs) (world_of a v ps).content
 left_content a v u w ps ps2 qs qs2 hs s leaves before after homes =
     left_carried (world_of a v ps) (world_of a w qs) s.holdings.clean

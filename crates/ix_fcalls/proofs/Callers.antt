@@ -38,16 +38,21 @@ pub calls_living : (a : Around) (c : Caller) (ps : List (Option Process)) → Is
 calls_living a c ps i is = lives_at (at ps a.pid) (process_of a c) (calls a c ps i is)
 
 -- one more change of the caller is a change of its process
-again : (a : Around) (c : Caller) (ps : List (Option Process)) (k : Process → Process) → IsCalling a c.pid.0 → with_who a.processes c ≡ ps → change a.processes c.pid.0 (λ p. k (with_caller c p)) ≡ change ps a.pid k
-again a c ps k i is = ap (λ n. change a.processes n (λ p. k (with_caller c p))) i.is ∙ sym (change_twice a.processes a.pid (with_caller c) k) ∙ ap (λ (t : List (Option Process)). change t a.pid k) (sym (table_is a c ps i is))
+again : (a : Around) (c : Caller) (ps : List (Option Process)) (k : Process → Process) → IsCalling a c.pid.0 → with_who a.processes c ≡ ps
+    → change a.processes c.pid.0 (λ p. k (with_caller c p)) ≡ change ps a.pid k
+again a c ps k i is = ap (λ n. change a.processes n (λ p. k (with_caller c p))) i.is ∙ sym (change_twice a.processes a.pid (with_caller c) k)
+    ∙ ap (λ (t : List (Option Process)). change t a.pid k) (sym (table_is a c ps i is))
 
-pub label_set : (a : Around) (c : Caller) (ps : List (Option Process)) (l : Categories) → IsCalling a c.pid.0 → with_who a.processes c ≡ ps → with_who a.processes (record c { float = record c.float { label = l } }) ≡ change ps a.pid (λ q. record q { label = l })
+pub label_set : (a : Around) (c : Caller) (ps : List (Option Process)) (l : Categories) → IsCalling a c.pid.0 → with_who a.processes c ≡ ps
+    → with_who a.processes (record c { float = record c.float { label = l } }) ≡ change ps a.pid (λ q. record q { label = l })
 label_set a c ps l i is = again a c ps (λ q. record q { label = l }) i is
 
-pub cwd_set : (a : Around) (c : Caller) (ps : List (Option Process)) (d : ℕ) → IsCalling a c.pid.0 → with_who a.processes c ≡ ps → with_who a.processes (record c { cwd = record { 0 = d } }) ≡ change ps a.pid (λ q. record q { cwd = d })
+pub cwd_set : (a : Around) (c : Caller) (ps : List (Option Process)) (d : ℕ) → IsCalling a c.pid.0 → with_who a.processes c ≡ ps
+    → with_who a.processes (record c { cwd = record { 0 = d } }) ≡ change ps a.pid (λ q. record q { cwd = d })
 cwd_set a c ps d i is = again a c ps (λ q. record q { cwd = d }) i is
 
-pub fd_set : (a : Around) (c : Caller) (ps : List (Option Process)) (n : ℕ) (e : Option ℕ) → IsCalling a c.pid.0 → with_who a.processes c ≡ ps → with_who a.processes (record c { fds = slice_set c.fds n e }) ≡ change ps a.pid (λ q. record q { fds = put q.fds n e })
+pub fd_set : (a : Around) (c : Caller) (ps : List (Option Process)) (n : ℕ) (e : Option ℕ) → IsCalling a c.pid.0 → with_who a.processes c ≡ ps
+    → with_who a.processes (record c { fds = slice_set c.fds n e }) ≡ change ps a.pid (λ q. record q { fds = put q.fds n e })
 fd_set a c ps n e i is = again a c ps (λ q. record q { fds = put q.fds n e }) i is
 
 pub who_set : (a : Around) (c : Caller) → c.pid.0 ≡ a.pid → with_who a.processes c ≡ change a.processes a.pid (with_caller c)

@@ -75,7 +75,8 @@ unfolding put_object
 put_is o x f = refl
 
 -- ---- the rows
-pub make_is : (pid : ℕ) (path : PathOf) (kind : Kind) (f m h g : Frame) (d o : ℕ) (x : Object) → missing pid path f ≡ Pass d m → at m.objects d ≡ Some x → free_inode m (fs_number x) ≡ Some o → has_room_for_a_name m ≡ true → affect pid d bottom m ≡ Pass tt h
+pub make_is : (pid : ℕ) (path : PathOf) (kind : Kind) (f m h g : Frame) (d o : ℕ) (x : Object) → missing pid path f ≡ Pass d m → at m.objects d ≡ Some x
+    → free_inode m (fs_number x) ≡ Some o → has_room_for_a_name m ≡ true → affect pid d bottom m ≡ Pass tt h
     → g ≡ record h { objects = change (put h.objects o (Some (new_object kind (Some (fs_number x))))) d (with_name (last_name path.names) o) } → make pid path kind f ≡ Pass (reply.Number o) g
 unfolding make
 make_is pid path kind f m h g d o x led there free room row is =
@@ -89,8 +90,11 @@ make_is pid path kind f m h g d o x led there free room row is =
     ∙ then_is (change_object d (with_name (last_name path.names) o)) _ _ _ tt (change_is d _ _)
     ∙ pass_is (reply.Number o) _ g is
 
-pub link_is : (pid : ℕ) (target path : PathOf) (f l m h g : Frame) (a b : Sought) (d o : ℕ) (x y : Object) → walked_to pid target f ≡ Pass a l → walked_to pid path l ≡ Pass b m → found_object a m ≡ Pass o m → at m.objects o ≡ Some x → is_dir x ≡ false → vacant b m ≡ Pass d m → at m.objects d ≡ Some y
-    → (fs_number x == fs_number y) ≡ true → has_room_for_a_name m ≡ true → affect pid d bottom m ≡ Pass tt h → g ≡ record h { objects = change h.objects d (with_name (last_name path.names) o) } → link_at pid target path f ≡ Pass reply.Done g
+pub link_is : (pid : ℕ) (target path : PathOf) (f l m h g : Frame) (a b : Sought) (d o : ℕ) (x y : Object) → walked_to pid target f ≡ Pass a l
+    → walked_to pid path l ≡ Pass b m → found_object a m ≡ Pass o m → at m.objects o ≡ Some x → is_dir x ≡ false → vacant b m ≡ Pass d m
+    → at m.objects d ≡ Some y
+    → (fs_number x == fs_number y) ≡ true → has_room_for_a_name m ≡ true → affect pid d bottom m ≡ Pass tt h
+    → g ≡ record h { objects = change h.objects d (with_name (last_name path.names) o) } → link_at pid target path f ≡ Pass reply.Done g
 unfolding link_at
 link_is pid target path f l m h g a b d o x y led_a led_b found there file absent here one_fs room row is =
     bind_is (walked_to pid target) _ f l a led_a
@@ -108,7 +112,9 @@ link_is pid target path f l m h g a b d o x y led_a led_b found there file absen
     ∙ pass_is reply.Done _ g is
 
 -- where there is no room for a name
-pub link_full : (pid : ℕ) (target path : PathOf) (f l m : Frame) (a b : Sought) (d o : ℕ) (x y : Object) → walked_to pid target f ≡ Pass a l → walked_to pid path l ≡ Pass b m → found_object a m ≡ Pass o m → at m.objects o ≡ Some x → is_dir x ≡ false → vacant b m ≡ Pass d m → at m.objects d ≡ Some y
+pub link_full : (pid : ℕ) (target path : PathOf) (f l m : Frame) (a b : Sought) (d o : ℕ) (x y : Object) → walked_to pid target f ≡ Pass a l
+    → walked_to pid path l ≡ Pass b m → found_object a m ≡ Pass o m → at m.objects o ≡ Some x → is_dir x ≡ false → vacant b m ≡ Pass d m
+    → at m.objects d ≡ Some y
     → (fs_number x == fs_number y) ≡ true → has_room_for_a_name m ≡ false → link_at pid target path f ≡ Refuse refusal.NoEntry m
 unfolding link_at
 link_full pid target path f l m a b d o x y led_a led_b found there file absent here one_fs full =
@@ -123,7 +129,8 @@ link_full pid target path f l m a b d o x y led_a led_b found there file absent 
     ∙ bind_is frame _ m m m (frame_is m)
     ∙ then_refused (need (has_room_for_a_name m) refusal.NoEntry) _ m m refusal.NoEntry (need_refused _ _ m full)
 
-pub unlink_is : (pid : ℕ) (path : PathOf) (f m h g : Frame) (s : Spot) (d : ℕ) (x : Object) → spot_at pid path f ≡ Pass s m → at m.objects s.object ≡ Some x → is_dir x ≡ false → s.dir ≡ Some d → affect pid d bottom m ≡ Pass tt h
+pub unlink_is : (pid : ℕ) (path : PathOf) (f m h g : Frame) (s : Spot) (d : ℕ) (x : Object) → spot_at pid path f ≡ Pass s m → at m.objects s.object ≡ Some x
+    → is_dir x ≡ false → s.dir ≡ Some d → affect pid d bottom m ≡ Pass tt h
     → let_go_object s.object (record h { objects = change h.objects d (without_name (last_name path.names)) }) ≡ Pass tt g → unlink_at pid path f ≡ Pass reply.Done g
 unfolding unlink_at
 unlink_is pid path f m h g s d x led there file dir row goes =
@@ -136,8 +143,10 @@ unlink_is pid path f m h g s d x led there file dir row goes =
     ∙ then_is (let_go_object s.object) _ _ g tt goes
     ∙ pass_is reply.Done g g refl
 
-pub remove_is : (pid : ℕ) (path : PathOf) (f m l h g : Frame) (s : Spot) (d : ℕ) (x : Object) → spot_at pid path f ≡ Pass s m → at m.objects s.object ≡ Some x → is_dir x ≡ true → observe pid x.label m ≡ Pass tt l → is_root l.fss s.object x ≡ false → (length x.names == 0) ≡ true
-    → list_any (is_home s.object) l.processes ≡ false → s.dir ≡ Some d → affect pid d bottom l ≡ Pass tt h → g ≡ record h { objects = put (change h.objects d (without_name (last_name path.names))) s.object None } → remove_dir pid path f ≡ Pass reply.Done g
+pub remove_is : (pid : ℕ) (path : PathOf) (f m l h g : Frame) (s : Spot) (d : ℕ) (x : Object) → spot_at pid path f ≡ Pass s m → at m.objects s.object ≡ Some x
+    → is_dir x ≡ true → observe pid x.label m ≡ Pass tt l → is_root l.fss s.object x ≡ false → (length x.names == 0) ≡ true
+    → list_any (is_home s.object) l.processes ≡ false → s.dir ≡ Some d → affect pid d bottom l ≡ Pass tt h
+    → g ≡ record h { objects = put (change h.objects d (without_name (last_name path.names))) s.object None } → remove_dir pid path f ≡ Pass reply.Done g
 unfolding remove_dir
 remove_is pid path f m l h g s d x led there is_d seen no_root bare nobody dir row is =
     bind_is (spot_at pid path) _ f m s led
@@ -154,7 +163,8 @@ remove_is pid path f m l h g s d x led there is_d seen no_root bare nobody dir r
     ∙ then_is (put_object s.object None) _ _ _ tt (put_is s.object None _)
     ∙ pass_is reply.Done _ g is
 
-pub stat_is : (pid : ℕ) (path : PathOf) (f m l : Frame) (o links : ℕ) (x : Object) → object_at pid path f ≡ Pass o m → at m.objects o ≡ Some x → observe pid x.label m ≡ Pass tt l → links ≡ links_of l o x → stat_at pid path f ≡ Pass (stat_passed o x links) l
+pub stat_is : (pid : ℕ) (path : PathOf) (f m l : Frame) (o links : ℕ) (x : Object) → object_at pid path f ≡ Pass o m → at m.objects o ≡ Some x
+    → observe pid x.label m ≡ Pass tt l → links ≡ links_of l o x → stat_at pid path f ≡ Pass (stat_passed o x links) l
 unfolding stat_at
 stat_is pid path f m l o links x led there seen is =
     bind_is (object_at pid path) _ f m o led
@@ -164,7 +174,8 @@ stat_is pid path f m l o links x led there seen is =
     ∙ answer_is _ (stat_passed o x links) l (ap (stat_passed o x) (sym is))
 
 -- past the last name
-pub list_ends : (pid index : ℕ) (path : PathOf) (f m l : Frame) (o : ℕ) (x : Object) → object_at pid path f ≡ Pass o m → at m.objects o ≡ Some x → is_dir x ≡ true → observe pid x.label m ≡ Pass tt l → slice_get x.names index ≡ None → list_at pid path index f ≡ Refuse refusal.EndOfList l
+pub list_ends : (pid index : ℕ) (path : PathOf) (f m l : Frame) (o : ℕ) (x : Object) → object_at pid path f ≡ Pass o m → at m.objects o ≡ Some x
+    → is_dir x ≡ true → observe pid x.label m ≡ Pass tt l → slice_get x.names index ≡ None → list_at pid path index f ≡ Refuse refusal.EndOfList l
 unfolding list_at
 list_ends pid index path f m l o x led there dir seen past =
     bind_is (object_at pid path) _ f m o led
@@ -174,7 +185,9 @@ list_ends pid index path f m l o x led there dir seen past =
     ∙ bind_refused (some (slice_get x.names index) refusal.EndOfList) _ l l refusal.EndOfList (none_is _ _ l past)
 
 -- at a name
-pub list_is : (pid index : ℕ) (path : PathOf) (f m l : Frame) (o : ℕ) (x : Object) (n : List ℕ × ℕ) → object_at pid path f ≡ Pass o m → at m.objects o ≡ Some x → is_dir x ≡ true → observe pid x.label m ≡ Pass tt l → slice_get x.names index ≡ Some n → list_at pid path index f ≡ Pass (reply.Named n.0 (record { 0 = n.1 })) l
+pub list_is : (pid index : ℕ) (path : PathOf) (f m l : Frame) (o : ℕ) (x : Object) (n : List ℕ × ℕ) → object_at pid path f ≡ Pass o m → at m.objects o ≡ Some x
+    → is_dir x ≡ true → observe pid x.label m ≡ Pass tt l → slice_get x.names index ≡ Some n
+    → list_at pid path index f ≡ Pass (reply.Named n.0 (record { 0 = n.1 })) l
 unfolding list_at
 list_is pid index path f m l o x n led there dir seen named =
     bind_is (object_at pid path) _ f m o led

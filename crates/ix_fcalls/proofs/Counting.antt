@@ -1,5 +1,7 @@
 -- What is counted of processes, as they and the tables change.
-use Rattle.std.proofs.Common.{◌≡◌, ◌+◌, ◌-◌, ◌*◌, ◌<◌, ◌≤◌, ◌==◌, ℕ, suc, cond, Bool, true, false, true≢false, not, ◌&&◌, List, [], ◌∷◌, Option, Some, None, map, sum, set, get_or, take, length, count_by, refl, sym, ap, ◌∙◌, arith, inl, inr, length-set, is_some, option_map, zero-add, if◌then◌else◌}
+use Rattle.std.proofs.Common.{◌≡◌, ◌+◌, ◌-◌, ◌*◌, ◌<◌, ◌≤◌, ◌==◌, ℕ, suc, cond, Bool, true, false, true≢false, not, ◌&&◌, List, [], ◌∷◌, Option, Some}
+use Rattle.std.proofs.Common.{None, map, sum, set, get_or, take, length, count_by, refl, sym, ap, ◌∙◌, arith, inl, inr, length-set, is_some}
+use Rattle.std.proofs.Common.{option_map, zero-add, if◌then◌else◌}
 use Rattle.std.specs.List.{range_with_len, sum_by}
 use Rattle.std.proofs.lemmas.Bool.{cases_lt}
 use Rattle.std.proofs.lemmas.Bool.Decides.{eqb_tells}
@@ -17,12 +19,14 @@ use Rattle.ix_tables.specs.Parts.{Parts, named_by, owners_of, homes_of}
 use Rattle.ix_fcalls.specs.Counted.{IsCounted}
 
 -- ---- a change that the counts don't see
-pub count_changed : (P : Option Process → Bool) (h : Process → Process) → ((x : Process) → P (Some (h x)) ≡ P (Some x)) → (ps : List (Option Process)) (pid : ℕ) → count_by P (change ps pid h) ≡ count_by P ps
+pub count_changed : (P : Option Process → Bool) (h : Process → Process) → ((x : Process) → P (Some (h x)) ≡ P (Some x)) → (ps : List (Option Process)) (pid : ℕ)
+    → count_by P (change ps pid h) ≡ count_by P ps
 count_changed P h same ps pid =
     let w : Option Process → ℕ = λ x. cond (P x) 1 0 in
     sym (sum-map w (change ps pid h)) ∙ ap sum (map_changed w h (λ x. ap (λ b. cond b 1 0) (same x)) ps pid) ∙ sum-map w ps
 
-pub owners_kept_by : (h : Process → Process) → ((e : ℕ) (x : Process) → named_by e (Some (h x)) ≡ named_by e (Some x)) → (n : ℕ) (ps : List (Option Process)) (pid : ℕ) → owners_of n (change ps pid h) ≡ owners_of n ps
+pub owners_kept_by : (h : Process → Process) → ((e : ℕ) (x : Process) → named_by e (Some (h x)) ≡ named_by e (Some x))
+    → (n : ℕ) (ps : List (Option Process)) (pid : ℕ) → owners_of n (change ps pid h) ≡ owners_of n ps
 owners_kept_by h named n ps pid i = map (λ e. sum (map_changed (named_by e) h (named e) ps pid i)) (range_with_len 0 n)
 
 module _ (h : Process → Process) (named : (e : ℕ) (x : Process) → named_by e (Some (h x)) ≡ named_by e (Some x)) (home : (o : ℕ) (x : Process) → is_home o (Some (h x)) ≡ is_home o (Some x)) where
@@ -37,7 +41,8 @@ pub counted_relabelled : (t : Parts) (ps qs : List (Option Process)) (pid : ℕ)
 counted_relabelled t ps qs pid l is c = rw is (counted_kept (λ q. record q { label = l }) (λ e x. refl) (λ o x. refl) t ps pid c)
 
 -- tables of the same lengths, with the same counts
-pub counted_same : (t u : Parts) (ps : List (Option Process)) → u.owners ≡ t.owners → u.homes ≡ t.homes → length u.opens ≡ length t.opens → length u.objects ≡ length t.objects → IsCounted t ps → IsCounted u ps
+pub counted_same : (t u : Parts) (ps : List (Option Process)) → u.owners ≡ t.owners → u.homes ≡ t.homes → length u.opens ≡ length t.opens
+    → length u.objects ≡ length t.objects → IsCounted t ps → IsCounted u ps
 counted_same t u ps owners homes opens objects c = record { owners = owners ∙ c.owners ∙ (λ i. owners_of (sym opens i) ps); homes = homes ∙ c.homes ∙ (λ i. homes_of (sym objects i) ps) }
 
 pub counted_changed : (t : Parts) (ps : List (Option Process)) (n : ℕ) (h : Object → Object) → IsCounted t ps → IsCounted (record t { objects = change t.objects n h }) ps
@@ -102,7 +107,13 @@ owners_few e ps long = omega (arith, sum-map (named_by e) ps, go ps long)
 -- a process has one home
 pub homes_few : (o : ℕ) (ps : List (Option Process)) → count_by (is_home o) ps ≤ count_by is_some ps
 homes_few o [] = omega arith
-homes_few o (p ∷ ps) = omega (arith, sum_by-cons (λ (x : Option Process). cond {A = ℕ} (is_home o x) 1 0) p ps, sum_by-cons (λ (x : Option Process). cond {A = ℕ} (is_some x) 1 0) p ps, head p, homes_few o ps)
+homes_few o (p ∷ ps) = omega (
+  arith,
+  sum_by-cons (λ (x : Option Process). cond {A = ℕ} (is_home o x) 1 0) p ps,
+  sum_by-cons (λ (x : Option Process). cond {A = ℕ} (is_some x) 1 0) p ps,
+  head p,
+  homes_few o ps,
+)
   where
     head : (p : Option Process) → one (is_home o p) ≤ one (is_some p)
     head None = omega arith
@@ -113,7 +124,8 @@ homes_few o (p ∷ ps) = omega (arith, sum_by-cons (λ (x : Option Process). con
         by_test false = omega arith
 
 -- ---- a process in the place of one
-pub total_put : (f : Option Process → ℕ) (ps : List (Option Process)) (pid : ℕ) (p : Process) (h : Process → Process) → at ps pid ≡ Some p → sum (map f (change ps pid h)) + f (Some p) ≡ sum (map f ps) + f (Some (h p))
+pub total_put : (f : Option Process → ℕ) (ps : List (Option Process)) (pid : ℕ) (p : Process) (h : Process → Process) → at ps pid ≡ Some p
+    → sum (map f (change ps pid h)) + f (Some p) ≡ sum (map f ps) + f (Some (h p))
 total_put f ps pid p h is =
     let table : change ps pid h ≡ set ps pid (Some (h p)) = ap (λ o. set ps pid (option_map h o)) is in
     rw table (omega (arith, sum-map f (set ps pid (Some (h p))), sum-map f ps, sum_by-set f ps pid (Some (h p)) None (in_table ps pid p is), ap f is))

@@ -52,7 +52,8 @@ unfolding cut_fd ◌>>=◌ ◌>>◌ on_pass need refuse
 cut_long m n pid fd len f long = rw long refl
 
 -- a cut of a pipe
-cut_pipe : (m n : LengthChecks) (pid fd len : ℕ) (f : Frame) (e : OpenFile) (x : Object) → behind f pid fd ≡ Some e → at f.objects e.entry.object ≡ Some x → is_pipe x ≡ true → cut_fd m pid fd len f ≡ cut_fd n pid fd len f
+cut_pipe : (m n : LengthChecks) (pid fd len : ℕ) (f : Frame) (e : OpenFile) (x : Object) → behind f pid fd ≡ Some e → at f.objects e.entry.object ≡ Some x
+    → is_pipe x ≡ true → cut_fd m pid fd len f ≡ cut_fd n pid fd len f
 unfolding cut_fd opened frame object some ◌>>=◌ ◌>>◌ on_pass pass need refuse
 cut_pipe m n pid fd len f e x is there pipe = go e.entry.mode refl
   where
@@ -62,7 +63,8 @@ cut_pipe m n pid fd len f e x is there pipe = go e.entry.mode refl
     go mode.Both d = rw (is, d, there, pipe) refl
 
 -- what is settled of the same row
-settled_same : (m n : LengthChecks) (place pid fd len : ℕ) (f : Frame) → cut_fd m pid fd len f ≡ cut_fd n pid fd len f → verdict m place pid (op.CutFd fd len) f ≡ verdict n place pid (op.CutFd fd len) f
+settled_same : (m n : LengthChecks) (place pid fd len : ℕ) (f : Frame) → cut_fd m pid fd len f ≡ cut_fd n pid fd len f
+    → verdict m place pid (op.CutFd fd len) f ≡ verdict n place pid (op.CutFd fd len) f
 unfolding verdict row
 settled_same m n place pid fd len f same = ap (λ o. if lives f pid then settled f o else record { reply = reply.No refusal.NoProcess; frame = f }) same
 

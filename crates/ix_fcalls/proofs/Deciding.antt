@@ -43,7 +43,8 @@ module _ (b : Bool) (a : Around) (t u : Parts) (ps : List (Option Process)) (sou
 
   -- the caller is set back
   pub leaves_all : (qs : List (Option Process)) → qs ≡ ps → Leaves b a t u ps qs
-  leaves_all qs same = left b a t u ps qs sound back (subst (λ (g : Frame). Relabelled a.pid (frame_of a t ps) g) (λ i. frame_of a (sym back i) (sym same i)) (relabelled_itself a.pid (frame_of a t ps)))
+  leaves_all qs same = left b a t u ps qs sound back (subst (λ (g : Frame). Relabelled a.pid (frame_of a t ps) g) (λ i. frame_of a (sym back i) (sym same i))
+      (relabelled_itself a.pid (frame_of a t ps)))
 
 -- ---- what a row that passes leaves
 on_ok : (r : Result Reply Refusal) (P : Type 0) → P → OnOk r P
@@ -51,7 +52,8 @@ on_ok (Ok x) P p = p
 on_ok (Err why) P p = tt
 
 -- a call that may let nothing go, and one that may
-pub leaves_kept : (c d : Call) (a : Around) (t u : Parts) (ps qs : List (Option Process)) (r : Result Reply Refusal) → c ≡ d → lets_go (op_of d) ≡ false → Keeps t u → OnOk r (Leaves (lets_go (op_of c)) a t u ps qs)
+pub leaves_kept : (c d : Call) (a : Around) (t u : Parts) (ps qs : List (Option Process)) (r : Result Reply Refusal) → c ≡ d → lets_go (op_of d) ≡ false
+    → Keeps t u → OnOk r (Leaves (lets_go (op_of c)) a t u ps qs)
 leaves_kept c d a t u ps qs r is stays kept = subst (λ (b : Bool). OnOk r (Leaves b a t u ps qs)) (sym (ap (λ (x : Call). lets_go (op_of x)) is ∙ stays)) (on_ok r (Keeps t u) kept)
 
 pub leaves_carried : (c d : Call) (a : Around) (t u : Parts) (ps qs : List (Option Process)) (r : Result Reply Refusal) → c ≡ d → lets_go (op_of d) ≡ true

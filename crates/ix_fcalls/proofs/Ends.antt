@@ -1,5 +1,7 @@
 -- The two ends of a new pipe: two free entries under two free descriptors.
-use Rattle.std.proofs.Common.{◌≡◌, ◌≢◌, ◌+◌, ◌<◌, ◌≤◌, ◌&&◌, ℕ, ◌⊎◌, zero, suc, option_map, if◌then◌else◌, cond, Bool, true, false, nat_lt, List, [], ◌∷◌, Option, Some, None, length, count_by, is_some, is_none, refl, sym, ap, ◌∙◌, arith, inl, inr, length-set, slice_set, slice_index_or}
+use Rattle.std.proofs.Common.{◌≡◌, ◌≢◌, ◌+◌, ◌<◌, ◌≤◌, ◌&&◌, ℕ, ◌⊎◌, zero, suc, option_map, if◌then◌else◌, cond, Bool, true, false, nat_lt, List, []}
+use Rattle.std.proofs.Common.{◌∷◌, Option, Some, None, length, count_by, is_some, is_none, refl, sym, ap, ◌∙◌, arith, inl, inr, length-set, slice_set}
+use Rattle.std.proofs.Common.{slice_index_or}
 use Rattle.std.specs.Option.{option_map_or}
 use Rattle.std.specs.List.{position_or_len}
 use Rattle.std.proofs.lemmas.Bool.{and_from, lt-ltb}
@@ -27,26 +29,32 @@ free_alike (x ∷ fds) zero d e (suc b) = refl
 free_alike (x ∷ fds) (suc a) d e zero = refl
 free_alike (x ∷ fds) (suc a) d e (suc b) = free_alike fds a d e b
 
-beside_is : (o : Option Process) (a d b : ℕ) → option_map_or (λ q. nat_lt b (length q.fds) && is_none (at q.fds b)) (living (option_map {T = Process} (λ q. record q { fds = put q.fds a (Some d) }) o)) false ≡ free_beside (living o) a d b
+beside_is : (o : Option Process) (a d b : ℕ)
+    → option_map_or (λ q. nat_lt b (length q.fds) && is_none (at q.fds b)) (living (option_map {T = Process} (λ q. record q { fds = put q.fds a (Some d) }) o))
+    false ≡ free_beside (living o) a d b
 beside_is None a d b = refl
 beside_is (Some q) a d b = go q.ended
   where
-    go : (end : Bool) → option_map_or (λ p. nat_lt b (length p.fds) && is_none (at p.fds b)) (if end then None else Some (record q { fds = put q.fds a (Some d) })) false ≡ free_beside (if end then None else Some q) a d b
+    go : (end : Bool) → option_map_or (λ p. nat_lt b (length p.fds) && is_none (at p.fds b)) (if end then None else
+        Some (record q { fds = put q.fds a (Some d) })) false ≡ free_beside (if end then None else Some q) a d b
     go true = refl
     go false = refl
 
 beside_alike : (o : Option Process) (a d e b : ℕ) → free_beside o a d b ≡ free_beside o a e b
 beside_alike None a d e b = refl
-beside_alike (Some q) a d e b = (λ i. nat_lt b (length-set q.fds a (Some d) i) && free_alike q.fds a d e b i) ∙ ap (λ n. nat_lt b n && is_none (at (put q.fds a (Some e)) b)) (sym (length-set q.fds a (Some e)))
+beside_alike (Some q) a d e b = (λ i. nat_lt b (length-set q.fds a (Some d) i) && free_alike q.fds a d e b i)
+    ∙ ap (λ n. nat_lt b n && is_none (at (put q.fds a (Some e)) b)) (sym (length-set q.fds a (Some e)))
 
-pub second_free : (ps qs : List (Option Process)) (pid a d b : ℕ) → free_beside (living (at ps pid)) a 0 b ≡ true → qs ≡ change ps pid (λ q. record q { fds = put q.fds a (Some d) }) → has_free qs pid b ≡ true
+pub second_free : (ps qs : List (Option Process)) (pid a d b : ℕ) → free_beside (living (at ps pid)) a 0 b ≡ true
+    → qs ≡ change ps pid (λ q. record q { fds = put q.fds a (Some d) }) → has_free qs pid b ≡ true
 second_free ps qs pid a d b free table =
     let h : Process → Process = λ q. record q { fds = put q.fds a (Some d) } in
     ap (λ (t : List (Option Process)). has_free t pid b) table
     ∙ ap (λ o. option_map_or (λ q. nat_lt b (length q.fds) && is_none (at q.fds b)) (living o) false) (at_changed ps pid h)
     ∙ beside_is (at ps pid) a d b ∙ beside_alike (living (at ps pid)) a d 0 b ∙ free
 
-pub beside_there : (a : Around) (c : Caller) (ps : List (Option Process)) (first second : ℕ) → living (at ps a.pid) ≡ Some (process_of a c) → Some second ≡ lowest_free (put c.fds first (Some 0)) → free_beside (living (at ps a.pid)) first 0 second ≡ true
+pub beside_there : (a : Around) (c : Caller) (ps : List (Option Process)) (first second : ℕ) → living (at ps a.pid) ≡ Some (process_of a c)
+    → Some second ≡ lowest_free (put c.fds first (Some 0)) → free_beside (living (at ps a.pid)) first 0 second ≡ true
 beside_there a c ps first second is lowest =
     let free = lowest_free_is (put c.fds first (Some 0)) second (sym lowest) in
     ap (λ o. free_beside o first 0 second) is ∙ and_from _ _ (lt-ltb second (length (put c.fds first (Some 0))) free.0) (ap is_none free.1)
@@ -93,17 +101,24 @@ pub vacant_is_free : (a : Around) (t : Parts) (ps : List (Option Process)) (n : 
 unfolding free_pipe
 vacant_is_free a t ps n is = free_pipe_is (frame_of a t ps) n (sym is)
 
-pub pipe_within : (a : Around) (t u : Parts) (ps : List (Option Process)) (n : ℕ) (x : Option Object) (hs : List Holding) → Some n ≡ vacant_pipe t.fss t.objects → u ≡ record t { objects = put t.objects n x; holdings = hs } → n < length u.objects
+pub pipe_within : (a : Around) (t u : Parts) (ps : List (Option Process)) (n : ℕ) (x : Option Object) (hs : List Holding) → Some n ≡ vacant_pipe t.fss t.objects
+    → u ≡ record t { objects = put t.objects n x; holdings = hs } → n < length u.objects
 pipe_within a t u ps n x hs vacant is = rw is (omega (arith, (vacant_is_free a t ps n vacant).inside, length-set t.objects n x))
 
 pub clear_made : (t u : Parts) (n : ℕ) (x : Option Object) (hs : List Holding) → IsClear t → u ≡ record t { objects = put t.objects n x; holdings = hs } → IsClear u
 clear_made t u n x hs clear is = rw is record { owners = clear.owners; offsets = clear.offsets }
 
-pub counted_made : (t u : Parts) (ps : List (Option Process)) (n : ℕ) (x : Option Object) (hs : List Holding) → IsCounted t ps → u ≡ record t { objects = put t.objects n x; holdings = hs } → IsCounted u ps
+pub counted_made : (t u : Parts) (ps : List (Option Process)) (n : ℕ) (x : Option Object) (hs : List Holding) → IsCounted t ps
+    → u ≡ record t { objects = put t.objects n x; holdings = hs } → IsCounted u ps
 counted_made t u ps n x hs c is = rw is (counted_same t (record t { objects = put t.objects n x; holdings = hs }) ps refl refl refl (length-set t.objects n x) c)
 
 -- a free number held nothing before
-pub kept_made : (a : Around) (t u v : Parts) (ps : List (Option Process)) (n : ℕ) (x : Option Object) (es : List (Option Open)) (os : List ℕ) → Sound (world_of a t ps) → Some n ≡ vacant_pipe t.fss t.objects → u ≡ record t { objects = put t.objects n x; holdings = slice_set t.holdings n holds_nothing } → v ≡ record u { opens = es; owners = os } → Keeps t v
+pub kept_made : (a : Around) (t u v : Parts) (ps : List (Option Process)) (n : ℕ) (x : Option Object) (es : List (Option Open)) (os : List ℕ)
+    → Sound (world_of a t ps) → Some n ≡ vacant_pipe t.fss t.objects → u ≡ record t {
+      objects = put t.objects n x;
+      holdings =
+          slice_set t.holdings n holds_nothing;
+    } → v ≡ record u { opens = es; owners = os } → Keeps t v
 kept_made a t u v ps n x es os s vacant made is =
     let nothing : slice_index_or t.holdings n holds_nothing ≡ holds_nothing = s.holdings.clean.holdings n (ap is_some (vacant_is_free a t ps n vacant).free) in
     record {
@@ -112,7 +127,9 @@ kept_made a t u v ps n x es os s vacant made is =
     }
 
 -- both descriptors at once
-pub both_put : (ps qs rs : List (Option Process)) (pid a b d e : ℕ) → qs ≡ change ps pid (λ q. record q { fds = put q.fds a (Some d) }) → rs ≡ change qs pid (λ q. record q { fds = put q.fds b (Some e) }) → rs ≡ change ps pid (λ q. record q { fds = put (put q.fds a (Some d)) b (Some e) })
-both_put ps qs rs pid a b d e first second = second ∙ ap (λ (t : List (Option Process)). change t pid (λ q. record q { fds = put q.fds b (Some e) })) first ∙ change_twice ps pid (λ q. record q { fds = put q.fds a (Some d) }) (λ q. record q { fds = put q.fds b (Some e) })
+pub both_put : (ps qs rs : List (Option Process)) (pid a b d e : ℕ) → qs ≡ change ps pid (λ q. record q { fds = put q.fds a (Some d) })
+    → rs ≡ change qs pid (λ q. record q { fds = put q.fds b (Some e) }) → rs ≡ change ps pid (λ q. record q { fds = put (put q.fds a (Some d)) b (Some e) })
+both_put ps qs rs pid a b d e first second = second ∙ ap (λ (t : List (Option Process)). change t pid (λ q. record q { fds = put q.fds b (Some e) })) first
+    ∙ change_twice ps pid (λ q. record q { fds = put q.fds a (Some d) }) (λ q. record q { fds = put q.fds b (Some e) })
 
 pub ruleset ends = (second_free, beside_there, not_none, two_left, pipe_within, clear_made, counted_made, kept_made, both_put)

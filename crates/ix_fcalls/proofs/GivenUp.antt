@@ -1,5 +1,6 @@
 -- A descriptor is given up: the row, the counts, and what remains.
-use Rattle.std.proofs.Common.{is_some, arith, inl, inr, ◌≡◌, ◌<◌, ◌-◌, ◌==◌, ◌&&◌, ℕ, Bool, true, false, not, List, length, Option, Some, None, refl, sym, ap, ◌∙◌, subst, length-set, slice_set, slice_index_or, if◌then◌else◌}
+use Rattle.std.proofs.Common.{is_some, arith, inl, inr, ◌≡◌, ◌<◌, ◌-◌, ◌==◌, ◌&&◌, ℕ, Bool, true, false, not, List, length, Option, Some, None, refl}
+use Rattle.std.proofs.Common.{sym, ap, ◌∙◌, subst, length-set, slice_set, slice_index_or, if◌then◌else◌}
 use Rattle.std.specs.Option.{option_map_or}
 use Rattle.std.proofs.lemmas.Bool.{eqb-true, or_cases, and_parts}
 use Rattle.ix_model.specs.world.World.{Frame, Object, Process, at, put, change, is_pipe, is_ended}
@@ -22,7 +23,12 @@ use Rattle.ix_fcalls.proofs.Remaining.{taken, cleared, remains_itself, remains_c
 use Rattle.ix_fcalls.proofs.Releasing.{owners_fewer, last_is, homes_taken}
 
 -- ---- the parts
-released_is : (b : Bool) (id : ℕ) (t : Parts) → b ≡ (slice_index_or t.owners id 0 == 1) → released b id t ≡ record t { opens = taken b id t.opens; offsets = cleared b id 0 t.offsets; owners = slice_set t.owners id (slice_index_or t.owners id 0 - 1) }
+released_is : (b : Bool) (id : ℕ) (t : Parts) → b ≡ (slice_index_or t.owners id 0 == 1) → released b id t ≡ record t {
+  opens = taken b id t.opens;
+  offsets =
+      cleared b id 0 t.offsets;
+  owners = slice_set t.owners id (slice_index_or t.owners id 0 - 1);
+}
 released_is true id t is =
     let one : slice_index_or t.owners id 0 ≡ 1 = eqb-true _ 1 (sym is) in
     ap (λ n. record t { opens = put t.opens id None; offsets = slice_set t.offsets id 0; owners = slice_set t.owners id (n - 1) }) (sym one)
@@ -67,7 +73,8 @@ remains_unclaimed true t hs o k r = remains_changed holds_nothing t t hs hs o k 
 remains_unclaimed false t hs o k r = r
 
 -- ---- the whole
-module _ (a : Around) (v : Parts) (ps : List (Option Process)) (fd : ℕ) (e : OpenFile) (last : Bool) (s : Sound (world_of a v ps)) (c : IsCounted v ps) (is : behind (frame_of a v ps) a.pid fd ≡ Some e) (was_last : last ≡ (slice_index_or v.owners e.id 0 == 1)) where
+module _ (a : Around) (v : Parts) (ps : List (Option Process)) (fd : ℕ) (e : OpenFile) (last : Bool) (s : Sound (world_of a v ps)) (c : IsCounted v ps)
+    (is : behind (frame_of a v ps) a.pid fd ≡ Some e) (was_last : last ≡ (slice_index_or v.owners e.id 0 == 1)) where
   abbrev processes : List (Option Process)
   processes = change ps a.pid (λ q. record q { fds = put q.fds fd None })
 
@@ -103,7 +110,8 @@ module _ (a : Around) (v : Parts) (ps : List (Option Process)) (fd : ℕ) (e : O
   row_left =
       then_is (frame_of a v ps) (frame_of a v processes) (frame_of a left processes) _ _ refl (
       then_is (frame_of a v processes) (frame_of a unclaimed processes) (frame_of a left processes) _ _ (claim_step lost e.entry.object unclaiming (frame_of a v processes)) (
-      then_is (frame_of a unclaimed processes) (frame_of a unowned processes) (frame_of a left processes) _ _ (ap (λ b. only_if b (put_open e.id None) (frame_of a unclaimed processes)) last_owned ∙ open_step last e.id (frame_of a unclaimed processes)) (
+      then_is (frame_of a unclaimed processes) (frame_of a unowned processes) (frame_of a left processes) _ _
+      (ap (λ b. only_if b (put_open e.id None) (frame_of a unclaimed processes)) last_owned ∙ open_step last e.id (frame_of a unclaimed processes)) (
       object_step (goes e.entry.object unowned) e.entry.object (frame_of a unowned processes))))
 
   counted_left : IsCounted left processes
@@ -142,15 +150,29 @@ pub record IsGivenUp (a : Around) (v : Parts) (ps : List (Option Process)) (fd :
 pub given_up : (a : Around) (v : Parts) (ps : List (Option Process)) (fd : ℕ) (e : OpenFile) (s : Sound (world_of a v ps)) → IsCounted v ps → behind (frame_of a v ps) a.pid fd ≡ Some e
     → (qs : List (Option Process)) → qs ≡ change ps a.pid (λ q. record q { fds = put q.fds fd None })
     → (t u w : Parts) (last : Bool)
-    → t ≡ record v { objects = if has_lost (frame_of a v qs) a.pid e.entry.object e.entry.end then change v.objects e.entry.object (λ x. record x { claims = put x.claims e.entry.end None }) else v.objects }
+    → t ≡ record v {
+      objects = if has_lost (frame_of a v qs) a.pid e.entry.object e.entry.end then
+          change v.objects e.entry.object (λ x. record x { claims = put x.claims e.entry.end None }) else v.objects;
+    }
     → last ≡ (slice_index_or t.owners e.id 0 == 1) → u ≡ released last e.id t → w ≡ object_let_go e.entry.object u → IsGivenUp a v ps fd e w qs
 given_up a v ps fd e s c is qs taking t u w last one lastly two three =
     let was_last : last ≡ (slice_index_or v.owners e.id 0 == 1) = lastly ∙ ap (λ (z : Parts). slice_index_or z.owners e.id 0 == 1) one in
-    let first : t ≡ unclaimed a v ps fd e last s c is was_last = one ∙ ap (λ (rs : List (Option Process)). record v { objects = if has_lost (frame_of a v rs) a.pid e.entry.object e.entry.end then change v.objects e.entry.object (λ x. record x { claims = put x.claims e.entry.end None }) else v.objects }) taking in
+    let first : t ≡ unclaimed a v ps fd e last s c is was_last =
+    one ∙ ap (λ (rs : List (Option Process)). record v {
+      objects = if has_lost (frame_of a v rs) a.pid e.entry.object e.entry.end then
+          change v.objects e.entry.object (λ x. record x { claims = put x.claims e.entry.end None }) else v.objects;
+    }) taking in
     let whole : w ≡ left a v ps fd e last s c is was_last = left_is a v ps fd e last s c is was_last t u w first two three in
     let leaves = leaves_left a v ps fd e last s c is was_last in
     let content = left_carried (world_of a v ps) (world_of a (left a v ps fd e last s c is was_last) (processes a v ps fd e last s c is was_last)) s.holdings.clean leaves in
-    let r : IsGivenUp a v ps fd e (left a v ps fd e last s c is was_last) (processes a v ps fd e last s c is was_last) = record { row = row_left a v ps fd e last s c is was_last; counted = counted_left a v ps fd e last s c is was_last; leaves = leaves; content = content } in
+    let r : IsGivenUp a v ps fd e (left a v ps fd e last s c is was_last) (processes a v ps fd e last s c is was_last) =
+    record {
+      row = row_left a v ps fd e last s c is was_last;
+      counted = counted_left a v ps fd e last s c is was_last;
+      leaves = leaves;
+      content =
+          content;
+    } in
     subst (λ rs. IsGivenUp a v ps fd e w rs) (sym taking) (subst (λ z. IsGivenUp a v ps fd e z (processes a v ps fd e last s c is was_last)) (sym whole) r)
 
 -- ---- what stands behind the descriptor
@@ -158,7 +180,9 @@ pub entry_stands : (a : Around) (v : Parts) (ps : List (Option Process)) (fd : �
 entry_stands a v ps fd e is = ap is_some (is_behind (frame_of a v ps) a.pid fd e is).stands
 
 pub entry_low : (a : Around) (v : Parts) (ps : List (Option Process)) (fd : ℕ) (e : OpenFile) → Sound (world_of a v ps) → behind (frame_of a v ps) a.pid fd ≡ Some e → e.entry.end < 2
-entry_low a v ps fd e s is = elim (or_cases (e.entry.end == 0) (e.entry.end == 1 && option_map_or is_pipe (at v.objects e.entry.object) false) (s.opens.end e.id e.entry (is_behind (frame_of a v ps) a.pid fd e is).stands)) [
-  | inl first ↦ let zero : e.entry.end ≡ 0 = eqb-true _ 0 first in omega (arith, zero)
-  | inr second ↦ let one : e.entry.end ≡ 1 = eqb-true _ 1 (and_parts _ _ second).0 in omega (arith, one)
-]
+entry_low a v ps fd e s is =
+    elim (or_cases (e.entry.end == 0) (e.entry.end == 1 && option_map_or is_pipe (at v.objects e.entry.object) false)
+    (s.opens.end e.id e.entry (is_behind (frame_of a v ps) a.pid fd e is).stands)) [
+      | inl first ↦ let zero : e.entry.end ≡ 0 = eqb-true _ 0 first in omega (arith, zero)
+      | inr second ↦ let one : e.entry.end ≡ 1 = eqb-true _ 1 (and_parts _ _ second).0 in omega (arith, one)
+    ]

@@ -1,5 +1,7 @@
 -- One descriptor more of the caller: what it does to the counts, and that these are right.
-use Rattle.std.proofs.Common.{◌≡◌, ◌+◌, ◌<◌, ◌≤◌, ◌&&◌, ℕ, cond, Bool, true, false, true≢false, nat_lt, List, Option, Some, None, map, sum, set, get_or, length, count_by, is_some, is_none, refl, sym, ap, ◌∙◌, arith, inl, inr, length-set, slice_set, slice_index_or, if◌then◌else◌}
+use Rattle.std.proofs.Common.{◌≡◌, ◌+◌, ◌<◌, ◌≤◌, ◌&&◌, ℕ, cond, Bool, true, false, true≢false, nat_lt, List, Option, Some, None, map, sum, set}
+use Rattle.std.proofs.Common.{get_or, length, count_by, is_some, is_none, refl, sym, ap, ◌∙◌, arith, inl, inr, length-set, slice_set, slice_index_or}
+use Rattle.std.proofs.Common.{if◌then◌else◌}
 use Rattle.std.specs.Option.{option_map_or}
 use Rattle.std.specs.List.{range_with_len}
 use Rattle.std.proofs.lemmas.Bool.{cases_lt, and_parts, and_from, lt-ltb, ltb-true}
@@ -35,7 +37,8 @@ free_at ps pid fd h = go (living (at ps pid)) refl h
 
     go : (o : Option Process) → living (at ps pid) ≡ o → option_map_or (λ q. nat_lt fd (length q.fds) && is_none (at q.fds fd)) o false ≡ true → FreeAt ps pid fd
     go None is h = cc
-    go (Some p) is h = let both = and_parts (nat_lt fd (length p.fds)) (is_none (at p.fds fd)) h in record { process = p; is = is; within = ltb-true fd (length p.fds) both.0; free = none (at p.fds fd) both.1 }
+    go (Some p) is h = let both = and_parts (nat_lt fd (length p.fds)) (is_none (at p.fds fd)) h in
+        record { process = p; is = is; within = ltb-true fd (length p.fds) both.0; free = none (at p.fds fd) both.1 }
 
 pub free_there : (a : Around) (c : Caller) (ps : List (Option Process)) (fd : ℕ) → living (at ps a.pid) ≡ Some (process_of a c) → Some fd ≡ lowest_free c.fds → has_free ps a.pid fd ≡ true
 free_there a c ps fd is lowest =
@@ -47,35 +50,62 @@ homes_same : (fd : ℕ) (d : Option ℕ) (ps : List (Option Process)) (pid n : �
 homes_same fd d ps pid n i = map (λ o. count_changed (is_home o) (λ q. record q { fds = put q.fds fd d }) (λ x. refl) ps pid i) (range_with_len 0 n)
 
 module _ (t : Parts) (ps : List (Option Process)) (c : IsCounted t ps) (pid fd id : ℕ) (free : has_free ps pid fd ≡ true) where
-  counted_more : (u : Parts) → id < length t.opens → length u.opens ≡ length t.opens → u.objects ≡ t.objects → u.homes ≡ t.homes → u.owners ≡ set t.owners id (get_or t.owners id 0 + 1) → IsCounted u (change ps pid (λ q. record q { fds = put q.fds fd (Some id) }))
+  counted_more : (u : Parts) → id < length t.opens → length u.opens ≡ length t.opens → u.objects ≡ t.objects → u.homes ≡ t.homes
+      → u.owners ≡ set t.owners id (get_or t.owners id 0 + 1) → IsCounted u (change ps pid (λ q. record q { fds = put q.fds fd (Some id) }))
   counted_more u within opens objects homes owners =
       let f = free_at ps pid fd free in
       let long = owners_long t ps c in
       record {
-        owners = counts_are u.owners (λ e. sum (map (named_by e) (change ps pid (λ q. record q { fds = put q.fds fd (Some id) })))) (length u.opens) (ap length owners ∙ length-set t.owners id (get_or t.owners id 0 + 1) ∙ long ∙ sym opens) (λ e low.
+        owners = counts_are u.owners (λ e. sum (map (named_by e) (change ps pid (λ q. record q { fds = put q.fds fd (Some id) })))) (length u.opens)
+            (ap length owners ∙ length-set t.owners id (get_or t.owners id 0 + 1) ∙ long ∙ sym opens) (λ e low.
             ap (λ (os : List ℕ). get_or os e 0) owners
-            ∙ omega (arith, one_more t.owners id e (omega (arith, within, long)), owners_at t ps c e (omega (arith, low, opens)), owners_put ps pid f.process f.is fd (Some id) f.within e, ap (λ d. one (is_at e d)) f.free));
+            ∙ omega (
+              arith,
+              one_more t.owners id e (omega (arith, within, long)),
+              owners_at t ps c e (omega (arith, low, opens)),
+              owners_put ps pid f.process f.is fd (Some id) f.within e,
+              ap (λ d. one (is_at e d)) f.free,
+            ));
         homes = homes ∙ c.homes ∙ ap (λ xs. homes_of (length xs) ps) (sym objects) ∙ sym (homes_same fd (Some id) ps pid (length u.objects));
       }
 
-  pub counted_shared : (u : Parts) (qs : List (Option Process)) → is_some (at t.opens id) ≡ true → u ≡ record t { owners = slice_set t.owners id (slice_index_or t.owners id 0 + 1) } → qs ≡ change ps pid (λ q. record q { fds = put q.fds fd (Some id) }) → IsCounted u qs
-  counted_shared u qs stands is table = rw (is, table) (counted_more (record t { owners = slice_set t.owners id (slice_index_or t.owners id 0 + 1) }) (stands_within t.opens id stands) refl refl refl refl)
+  pub counted_shared : (u : Parts) (qs : List (Option Process)) → is_some (at t.opens id) ≡ true
+      → u ≡ record t { owners = slice_set t.owners id (slice_index_or t.owners id 0 + 1) } → qs ≡ change ps pid (λ q. record q { fds = put q.fds fd (Some id) })
+      → IsCounted u qs
+  counted_shared u qs stands is table =
+      rw (is, table) (counted_more (record t { owners = slice_set t.owners id (slice_index_or t.owners id 0 + 1) }) (stands_within t.opens id stands) refl refl
+      refl refl)
 
-  pub counted_opened : (u : Parts) (qs : List (Option Process)) (x : Open) → IsClear t → lowest_free t.opens ≡ Some id → u ≡ record t { opens = put t.opens id (Some x); offsets = slice_set t.offsets id 0; owners = slice_set t.owners id 1 } → qs ≡ change ps pid (λ q. record q { fds = put q.fds fd (Some id) }) → IsCounted u qs
+  pub counted_opened : (u : Parts) (qs : List (Option Process)) (x : Open) → IsClear t → lowest_free t.opens ≡ Some id
+      → u ≡ record t { opens = put t.opens id (Some x); offsets = slice_set t.offsets id 0; owners = slice_set t.owners id 1 }
+      → qs ≡ change ps pid (λ q. record q { fds = put q.fds fd (Some id) }) → IsCounted u qs
   counted_opened u qs x clear lowest is table =
       let low = lowest_free_is t.opens id lowest in
       let none : get_or t.owners id 0 ≡ 0 = clear.owners id (ap is_some low.1) in
-      rw (is, table) (counted_more (record t { opens = put t.opens id (Some x); offsets = slice_set t.offsets id 0; owners = slice_set t.owners id 1 }) low.0 (length-set t.opens id (Some x)) refl refl (ap (λ k. set t.owners id (k + 1)) (sym none)))
+      rw (is, table) (counted_more (record t { opens = put t.opens id (Some x); offsets = slice_set t.offsets id 0; owners = slice_set t.owners id 1 }) low.0
+      (length-set t.opens id (Some x)) refl refl (ap (λ k. set t.owners id (k + 1)) (sym none)))
 
 -- ---- free entries
 -- a new one stands at offset 0 as the free number did
 offsets_kept : (t : Parts) (id : ℕ) → IsClear t → lowest_free t.opens ≡ Some id → slice_set t.offsets id 0 ≡ t.offsets
 offsets_kept t id clear lowest = ap (slice_set t.offsets id) (sym (clear.offsets id (ap is_some (lowest_free_is t.opens id lowest).1))) ∙ set-get_or t.offsets id 0
 
-pub opened_is : (t u : Parts) (id : ℕ) (x : Open) → IsClear t → Some id ≡ lowest_free t.opens → u ≡ record t { opens = put t.opens id (Some x); offsets = slice_set t.offsets id 0; owners = slice_set t.owners id 1 } → u ≡ record t { opens = put t.opens id (Some x); owners = slice_set t.owners id 1 }
-opened_is t u id x clear lowest is = is ∙ ap (λ ks. let v : Parts = record t { opens = put t.opens id (Some x); offsets = ks; owners = slice_set t.owners id 1 } in v) (offsets_kept t id clear (sym lowest))
+pub opened_is : (t u : Parts) (id : ℕ) (x : Open) → IsClear t → Some id ≡ lowest_free t.opens → u ≡ record t {
+  opens = put t.opens id (Some x);
+  offsets =
+      slice_set t.offsets id 0;
+  owners = slice_set t.owners id 1;
+} → u ≡ record t { opens = put t.opens id (Some x); owners = slice_set t.owners id 1 }
+opened_is t u id x clear lowest is =
+    is ∙ ap (λ ks. let v : Parts = record t { opens = put t.opens id (Some x); offsets = ks; owners = slice_set t.owners id 1 } in
+    v) (offsets_kept t id clear (sym lowest))
 
-pub clear_opened : (t u : Parts) (id : ℕ) (x : Open) → IsClear t → Some id ≡ lowest_free t.opens → u ≡ record t { opens = put t.opens id (Some x); offsets = slice_set t.offsets id 0; owners = slice_set t.owners id 1 } → IsClear u
+pub clear_opened : (t u : Parts) (id : ℕ) (x : Open) → IsClear t → Some id ≡ lowest_free t.opens → u ≡ record t {
+  opens = put t.opens id (Some x);
+  offsets =
+      slice_set t.offsets id 0;
+  owners = slice_set t.owners id 1;
+} → IsClear u
 clear_opened t u id x clear lowest is = rw (opened_is t u id x clear lowest is) record {
   owners = λ e h. elim (eqb_tells e id) [
     | inl s ↦ absurd (there e s.1 h)

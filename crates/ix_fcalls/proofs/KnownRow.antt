@@ -15,7 +15,8 @@ use Rattle.ix_fcalls.proofs.ReadRow.{read_waits, read_passes}
 use Rattle.ix_fcalls.proofs.WriteRow.{write_passes}
 
 -- what is known is known of the open entry and the object that stand there
-changes_nothing : (way : Way) (f : Frame) (pid fd : ℕ) (k : Known way f pid fd) (e : OpenFile) (x : Object) → behind f pid fd ≡ Some e → at f.objects e.entry.object ≡ Some x → ChangeNothing way f pid k.process x e
+changes_nothing : (way : Way) (f : Frame) (pid fd : ℕ) (k : Known way f pid fd) (e : OpenFile) (x : Object) → behind f pid fd ≡ Some e
+    → at f.objects e.entry.object ≡ Some x → ChangeNothing way f pid k.process x e
 changes_nothing way f pid fd k e x is there =
     let entry : k.entry ≡ e = one_there (behind f pid fd) k.entry e k.is_behind is in
     let object : k.object ≡ x = one_there (at f.objects e.entry.object) k.object x (subst (λ (b : OpenFile). at f.objects b.entry.object ≡ Some k.object) entry k.is_object) there in

@@ -35,23 +35,28 @@ passes : (m : LengthChecks) (place pid : ℕ) (o : Op) (f : Frame) (r : Reply) �
 unfolding verdict
 passes m place pid o f r alive is = rw (alive, is) refl
 
-refuses : (m : LengthChecks) (place pid : ℕ) (o : Op) (f : Frame) (why : Refusal) → lives f pid ≡ true → row m place pid o f ≡ Refuse why f → verdict m place pid o f ≡ record { reply = reply.No why; frame = f }
+refuses : (m : LengthChecks) (place pid : ℕ) (o : Op) (f : Frame) (why : Refusal) → lives f pid ≡ true → row m place pid o f ≡ Refuse why f
+    → verdict m place pid o f ≡ record { reply = reply.No why; frame = f }
 unfolding verdict
 refuses m place pid o f why alive is = rw (alive, is) (λ i. record { reply = reply.No why; frame = same_frame (keeps_label why) f i })
 
-read_passes : (m : LengthChecks) (place pid fd count : ℕ) (f : Frame) → lives f pid ≡ true → read_fd m pid fd count f ≡ Pass (reply.Bytes 0) f → verdict m place pid (op.ReadFd fd count) f ≡ record { reply = reply.Bytes 0; frame = f }
+read_passes : (m : LengthChecks) (place pid fd count : ℕ) (f : Frame) → lives f pid ≡ true → read_fd m pid fd count f ≡ Pass (reply.Bytes 0) f
+    → verdict m place pid (op.ReadFd fd count) f ≡ record { reply = reply.Bytes 0; frame = f }
 unfolding row
 read_passes m place pid fd count f alive is = passes m place pid (op.ReadFd fd count) f (reply.Bytes 0) alive is
 
-read_refuses : (m : LengthChecks) (place pid fd count : ℕ) (f : Frame) (why : Refusal) → lives f pid ≡ true → read_fd m pid fd count f ≡ Refuse why f → verdict m place pid (op.ReadFd fd count) f ≡ record { reply = reply.No why; frame = f }
+read_refuses : (m : LengthChecks) (place pid fd count : ℕ) (f : Frame) (why : Refusal) → lives f pid ≡ true → read_fd m pid fd count f ≡ Refuse why f
+    → verdict m place pid (op.ReadFd fd count) f ≡ record { reply = reply.No why; frame = f }
 unfolding row
 read_refuses m place pid fd count f why alive is = refuses m place pid (op.ReadFd fd count) f why alive is
 
-write_passes : (m : LengthChecks) (place pid fd : ℕ) (new : List ℕ) (f : Frame) → lives f pid ≡ true → write_fd m pid fd f ≡ Pass (reply.Number 0) f → verdict m place pid (op.WriteFd fd new) f ≡ record { reply = reply.Number 0; frame = f }
+write_passes : (m : LengthChecks) (place pid fd : ℕ) (new : List ℕ) (f : Frame) → lives f pid ≡ true → write_fd m pid fd f ≡ Pass (reply.Number 0) f
+    → verdict m place pid (op.WriteFd fd new) f ≡ record { reply = reply.Number 0; frame = f }
 unfolding row
 write_passes m place pid fd new f alive is = passes m place pid (op.WriteFd fd new) f (reply.Number 0) alive is
 
-write_refuses : (m : LengthChecks) (place pid fd : ℕ) (new : List ℕ) (f : Frame) (why : Refusal) → lives f pid ≡ true → write_fd m pid fd f ≡ Refuse why f → verdict m place pid (op.WriteFd fd new) f ≡ record { reply = reply.No why; frame = f }
+write_refuses : (m : LengthChecks) (place pid fd : ℕ) (new : List ℕ) (f : Frame) (why : Refusal) → lives f pid ≡ true → write_fd m pid fd f ≡ Refuse why f
+    → verdict m place pid (op.WriteFd fd new) f ≡ record { reply = reply.No why; frame = f }
 unfolding row
 write_refuses m place pid fd new f why alive is = refuses m place pid (op.WriteFd fd new) f why alive is
 
@@ -67,7 +72,8 @@ still t = record { holdings = refl; offsets = refl }
 -- ---- reads
 module _ (a : Around) (t : Parts) (ps : List (Option Process)) (fd count : ℕ) (m : LengthChecks) (sound : Sound (world_of a t ps)) (alive : lives (frame_of a t ps) a.pid ≡ true)
     (e : OpenFile) (some : behind (frame_of a t ps) a.pid fd ≡ Some e) (is : m ≡ told_of_read (frame_of a t ps) (world_of a t ps).content (Some e)) where
-  pub known_unread : (why : Refusal) (buf : List ℕ) → read_fd m a.pid fd count (frame_of a t ps) ≡ Refuse why (frame_of a t ps) → Answers (step (world_of a t ps) a.place a.pid (op.ReadFd fd count)) (world_of a t ps) (reply.No why) buf buf
+  pub known_unread : (why : Refusal) (buf : List ℕ) → read_fd m a.pid fd count (frame_of a t ps) ≡ Refuse why (frame_of a t ps)
+      → Answers (step (world_of a t ps) a.place a.pid (op.ReadFd fd count)) (world_of a t ps) (reply.No why) buf buf
   known_unread why buf refused =
       let d = read_refuses m a.place a.pid fd count (frame_of a t ps) why alive refused in
       answers_unread a t t ps ps fd count m (reply.No why) sound (still t) (said _ _ _ d) (stands _ _ _ d) e some is buf (λ k h. cc)
@@ -79,7 +85,8 @@ module _ (a : Around) (t : Parts) (ps : List (Option Process)) (fd count : ℕ) 
     pub known_few : count ≤ 4096
     known_few = read_few a t t ps ps fd count m (reply.Bytes 0) sound (still t) (said _ _ _ decided_read) (stands _ _ _ decided_read) 0 refl
 
-    pub known_read : (v : Parts) (n : ℕ) (before after : List ℕ) → n ≡ length (take count (readable (frame_of a t ps) (world_of a t ps).content e)) → after ≡ put_front (take count (readable (frame_of a t ps) (world_of a t ps).content e)) before
+    pub known_read : (v : Parts) (n : ℕ) (before after : List ℕ) → n ≡ length (take count (readable (frame_of a t ps) (world_of a t ps).content e))
+        → after ≡ put_front (take count (readable (frame_of a t ps) (world_of a t ps).content e)) before
         → frame_of a v ps ≡ frame_of a t ps → (world_of a v ps).content ≡ after_read (frame_of a t ps) e n (world_of a t ps).content
         → Answers (step (world_of a t ps) a.place a.pid (op.ReadFd fd count)) (world_of a v ps) (reply.Bytes n) before after
     known_read v n before after long front same moved =
@@ -88,7 +95,8 @@ module _ (a : Around) (t : Parts) (ps : List (Option Process)) (fd count : ℕ) 
 -- ---- writes
 module _ (a : Around) (t : Parts) (ps : List (Option Process)) (fd : ℕ) (new : List ℕ) (m : LengthChecks) (sound : Sound (world_of a t ps)) (alive : lives (frame_of a t ps) a.pid ≡ true)
     (e : OpenFile) (some : behind (frame_of a t ps) a.pid fd ≡ Some e) (is : m ≡ told_of_write (frame_of a t ps) (world_of a t ps).content (length new) (Some e)) where
-  pub known_unwritten : (why : Refusal) (buf : List ℕ) → write_fd m a.pid fd (frame_of a t ps) ≡ Refuse why (frame_of a t ps) → Answers (step (world_of a t ps) a.place a.pid (op.WriteFd fd new)) (world_of a t ps) (reply.No why) buf buf
+  pub known_unwritten : (why : Refusal) (buf : List ℕ) → write_fd m a.pid fd (frame_of a t ps) ≡ Refuse why (frame_of a t ps)
+      → Answers (step (world_of a t ps) a.place a.pid (op.WriteFd fd new)) (world_of a t ps) (reply.No why) buf buf
   known_unwritten why buf refused =
       let d = write_refuses m a.place a.pid fd new (frame_of a t ps) why alive refused in
       answers_unwritten a t t ps ps fd new m (reply.No why) sound (still t) (said _ _ _ d) (stands _ _ _ d) e some is buf (λ k h. cc)

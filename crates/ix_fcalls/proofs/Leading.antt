@@ -1,5 +1,6 @@
 -- Where walks lead in a sound world, and what another label of an object leaves as it was.
-use Rattle.std.proofs.Common.{◌≡◌, ◌<◌, ◌+◌, ℕ, Bool, true, false, true≢false, not, List, [], length, map, sum, take, drop, nat_lt, Option, Some, None, is_some, is_none, option_map, unwrap_or, slice_set, length-set, refl, sym, ap, ◌∙◌, subst, arith, inl, inr}
+use Rattle.std.proofs.Common.{◌≡◌, ◌<◌, ◌+◌, ℕ, Bool, true, false, true≢false, not, List, [], length, map, sum, take, drop, nat_lt, Option, Some}
+use Rattle.std.proofs.Common.{None, is_some, is_none, option_map, unwrap_or, slice_set, length-set, refl, sym, ap, ◌∙◌, subst, arith, inl, inr}
 use Rattle.std.specs.Option.{option_map_or}
 use Rattle.std.specs.List.{drop-map, take-map}
 use Rattle.std.proofs.lemmas.Bool.{cases_lt}
@@ -45,7 +46,8 @@ named_file : (f : Frame) → NamesSound f → (o : ℕ) (dir : Option ℕ) (name
 named_file f n o None name leads y is other = absurd (true≢false (sym leads ∙ ap (λ (x : Option Object). option_map_or is_dir x false) is ∙ other))
 named_file f n o (Some d) name leads y is other = elim (kinds_left y other) [
   | inl file ↦ file.0
-  | inr pipe ↦ absurd (true≢false (sym (n.living d o leads.dir leads.is (child_named leads.dir.names name o leads.leads)) ∙ ap (λ (x : Option Object). option_map_or (λ z. not (is_pipe z)) x false) is ∙ ap not pipe.1))
+  | inr pipe ↦ absurd (true≢false (sym (n.living d o leads.dir leads.is (child_named leads.dir.names name o leads.leads))
+      ∙ ap (λ (x : Option Object). option_map_or (λ z. not (is_pipe z)) x false) is ∙ ap not pipe.1))
 ]
 
 module _ (a : Around) (t : Parts) (ps qs : List (Option Process)) (path : PathOf) (s : Sound (world_of a t ps)) where
@@ -56,10 +58,13 @@ module _ (a : Around) (t : Parts) (ps qs : List (Option Process)) (path : PathOf
   itself = follows_itself f (frames.frame_of (world_of a t ps) s)
 
   within_missing : (d : ℕ) → missing a.pid path f ≡ Pass d (frame_of a t qs) → Within f d (last_name path.names) None
-  within_missing d row = passed (missing a.pid path f) d (frame_of a t qs) (λ n h. Within f n (last_name path.names) None) row (leads_missing f a.pid path Anything (λ n h. Within f n (last_name path.names) None) itself (λ r h k. tt) (λ n h k w. w))
+  within_missing d row = passed (missing a.pid path f) d (frame_of a t qs) (λ n h. Within f n (last_name path.names) None) row
+      (leads_missing f a.pid path Anything (λ n h. Within f n (last_name path.names) None) itself (λ r h k. tt) (λ n h k w. w))
 
   pub leads_spot : (x : Spot) → spot_at a.pid path f ≡ Pass x (frame_of a t qs) → Leads f (last_name path.names) (walks.Found x.object x.dir)
-  leads_spot x row = passed (spot_at a.pid path f) x (frame_of a t qs) (λ y h. Leads f (last_name path.names) (walks.Found y.object y.dir)) row (leads_found_in f a.pid path Anything (λ y h. Leads f (last_name path.names) (walks.Found y.object y.dir)) itself (λ r h k. tt) (λ o dir h k leads. leads))
+  leads_spot x row = passed (spot_at a.pid path f) x (frame_of a t qs) (λ y h. Leads f (last_name path.names) (walks.Found y.object y.dir)) row
+      (leads_found_in f a.pid path Anything (λ y h. Leads f (last_name path.names) (walks.Found y.object y.dir)) itself (λ r h k. tt)
+      (λ o dir h k leads. leads))
 
   node_of : (d : ℕ) (name : List ℕ) (c : Option ℕ) (w : Within f d name c) → w.dir ≡ node t.objects d
   node_of d name c w = sym (ap (λ (o : Option Object). unwrap_or o nothing) w.is)
@@ -102,32 +107,41 @@ module _ (a : Around) (t : Parts) (ps qs : List (Option Process)) (path : PathOf
 
   -- the processes are as before but for labels
   pub processes_spot : (x : Spot) → spot_at a.pid path f ≡ Pass x (frame_of a t qs) → SameBut process_but ps qs
-  processes_spot x row = (passed (spot_at a.pid path f) x (frame_of a t qs) (λ y h. Along f h) row (leads_found_in f a.pid path Anything (λ y h. Along f h) itself (λ r h k. tt) (λ o dir h k leads. k))).floats.processes
+  processes_spot x row = (passed (spot_at a.pid path f) x (frame_of a t qs) (λ y h. Along f h) row (leads_found_in f a.pid path Anything (λ y h. Along f h)
+      itself (λ r h k. tt) (λ o dir h k leads. k))).floats.processes
 
 -- two walks, one after the other
-module _ (a : Around) (t : Parts) (ps qs rs : List (Option Process)) (target path : PathOf) (s : Sound (world_of a t ps)) (v w : Sought) (first : walked_to a.pid target (frame_of a t ps) ≡ Pass v (frame_of a t qs)) (second : walked_to a.pid path (frame_of a t qs) ≡ Pass w (frame_of a t rs)) where
-  abbrev start : Frame
-  start = frame_of a t ps
+module _ (a : Around) (t : Parts) (ps qs rs : List (Option Process)) (target path : PathOf) (s : Sound (world_of a t ps)) (v w : Sought)
+    (first : walked_to a.pid target (frame_of a t ps) ≡ Pass v (frame_of a t qs)) (second : walked_to a.pid path (frame_of a t qs) ≡ Pass w (frame_of a t rs))
+  where
+    abbrev start : Frame
+    start = frame_of a t ps
 
-  led : Along (frame_of a t ps) (frame_of a t qs) × Leads (frame_of a t ps) (last_name target.names) v
-  led = passed (walked_to a.pid target start) v (frame_of a t qs) (λ y h. Along start h × Leads start (last_name target.names) y) first (leads_walked_to start start a.pid target Anything (λ y h. Along start h × Leads start (last_name target.names) y) (along_itself start (follows_itself start (frames.frame_of (world_of a t ps) s))) (λ r h k. tt) (λ y h k leads. (k, leads)))
+    led : Along (frame_of a t ps) (frame_of a t qs) × Leads (frame_of a t ps) (last_name target.names) v
+    led = passed (walked_to a.pid target start) v (frame_of a t qs) (λ y h. Along start h × Leads start (last_name target.names) y) first
+        (leads_walked_to start start a.pid target Anything (λ y h. Along start h × Leads start (last_name target.names) y)
+        (along_itself start (follows_itself start (frames.frame_of (world_of a t ps) s))) (λ r h k. tt) (λ y h k leads. (k, leads)))
 
-  led_then : Leads (frame_of a t ps) (last_name path.names) w
-  led_then = passed (walked_to a.pid path (frame_of a t qs)) w (frame_of a t rs) (λ y h. Leads start (last_name path.names) y) second (leads_walked_to start (frame_of a t qs) a.pid path Anything (λ y h. Leads start (last_name path.names) y) led.0 (λ r h k. tt) (λ y h k leads. leads))
+    led_then : Leads (frame_of a t ps) (last_name path.names) w
+    led_then = passed (walked_to a.pid path (frame_of a t qs)) w (frame_of a t rs) (λ y h. Leads start (last_name path.names) y) second
+        (leads_walked_to start (frame_of a t qs) a.pid path Anything (λ y h. Leads start (last_name path.names) y) led.0 (λ r h k. tt) (λ y h k leads. leads))
 
-  within_then : (d : ℕ) → vacant w (frame_of a t rs) ≡ Pass d (frame_of a t rs) → Within (frame_of a t ps) d (last_name path.names) None
-  within_then d row = passed (vacant w (frame_of a t rs)) d (frame_of a t rs) (λ n h. Within start n (last_name path.names) None) row (leads_vacant start (last_name path.names) w (frame_of a t rs) Anything (λ n h. Within start n (last_name path.names) None) led_then (λ n k. k) (λ r. tt))
+    within_then : (d : ℕ) → vacant w (frame_of a t rs) ≡ Pass d (frame_of a t rs) → Within (frame_of a t ps) d (last_name path.names) None
+    within_then d row = passed (vacant w (frame_of a t rs)) d (frame_of a t rs) (λ n h. Within start n (last_name path.names) None) row
+        (leads_vacant start (last_name path.names) w (frame_of a t rs) Anything (λ n h. Within start n (last_name path.names) None) led_then (λ n k. k) (λ r. tt))
 
-  pub dir_then : (d : ℕ) → vacant w (frame_of a t rs) ≡ Pass d (frame_of a t rs) → is_dir (node t.objects d) ≡ true
-  dir_then d row = let k = within_then d row in sym (ap is_dir (node_of a t ps qs path s d _ None k)) ∙ k.is_directory
+    pub dir_then : (d : ℕ) → vacant w (frame_of a t rs) ≡ Pass d (frame_of a t rs) → is_dir (node t.objects d) ≡ true
+    dir_then d row = let k = within_then d row in sym (ap is_dir (node_of a t ps qs path s d _ None k)) ∙ k.is_directory
 
-  pub absent_then : (d : ℕ) → vacant w (frame_of a t rs) ≡ Pass d (frame_of a t rs) → child (node t.objects d) (last_name path.names) ≡ None
-  absent_then d row = let k = within_then d row in sym (ap (λ o. child o (last_name path.names)) (node_of a t ps qs path s d _ None k)) ∙ k.leads
+    pub absent_then : (d : ℕ) → vacant w (frame_of a t rs) ≡ Pass d (frame_of a t rs) → child (node t.objects d) (last_name path.names) ≡ None
+    absent_then d row = let k = within_then d row in sym (ap (λ o. child o (last_name path.names)) (node_of a t ps qs path s d _ None k)) ∙ k.leads
 
-  pub file_then : (o : ℕ) (y : Object) → found_object v (frame_of a t rs) ≡ Pass o (frame_of a t rs) → at t.objects o ≡ Some y → is_dir y ≡ false → is_file y ≡ true
-  file_then o y row is other =
-      let there = passed (found_object v (frame_of a t rs)) o (frame_of a t rs) (λ n h. (dir : Option ℕ) × Leads start (last_name target.names) (walks.Found n dir)) row (leads_there start (last_name target.names) v (frame_of a t rs) Anything (λ n h. (dir : Option ℕ) × Leads start (last_name target.names) (walks.Found n dir)) led.1 (λ n dir k. (dir, k)) (λ r. tt)) in
-      named_file start s.names o there.0 (last_name target.names) there.1 y is other
+    pub file_then : (o : ℕ) (y : Object) → found_object v (frame_of a t rs) ≡ Pass o (frame_of a t rs) → at t.objects o ≡ Some y → is_dir y ≡ false → is_file y ≡ true
+    file_then o y row is other =
+        let there = passed (found_object v (frame_of a t rs)) o (frame_of a t rs) (λ n h. (dir : Option ℕ)
+        × Leads start (last_name target.names) (walks.Found n dir)) row (leads_there start (last_name target.names) v (frame_of a t rs) Anything
+        (λ n h. (dir : Option ℕ) × Leads start (last_name target.names) (walks.Found n dir)) led.1 (λ n dir k. (dir, k)) (λ r. tt)) in
+        named_file start s.names o there.0 (last_name target.names) there.1 y is other
 
 -- ---- after another label
 module _ (a : Around) (t u : Parts) (ps : List (Option Process)) (o : ℕ) (l : Categories) (row : affect a.pid o l (frame_of a t ps) ≡ Pass tt (frame_of a u ps)) where
@@ -170,7 +184,8 @@ module _ (a : Around) (t u : Parts) (ps : List (Option Process)) (o : ℕ) (l : 
   vacant_still k =
       let first = first_inode t.fss k in let few = (fs_at t.fss k).inodes in
       let same : map is_none (take few (drop first u.objects)) ≡ map is_none (take few (drop first t.objects)) =
-      sym (take-map is_none few (drop first u.objects)) ∙ ap (take few) (sym (drop-map is_none first u.objects)) ∙ ap (λ (bs : List Bool). take few (drop first bs)) (map_same object_but is_none (λ y. refl) t.objects u.objects floated.objects)
+      sym (take-map is_none few (drop first u.objects)) ∙ ap (take few) (sym (drop-map is_none first u.objects))
+      ∙ ap (λ (bs : List Bool). take few (drop first bs)) (map_same object_but is_none (λ y. refl) t.objects u.objects floated.objects)
       ∙ ap (take few) (drop-map is_none first t.objects) ∙ take-map is_none few (drop first t.objects) in
       ap (λ fss. vacant_inode fss u.objects k) floated.fss ∙ ap (option_map (λ n. first + n)) (free_by (take few (drop first u.objects)) (take few (drop first t.objects)) same)
 
@@ -183,14 +198,19 @@ fs_of_dir a t ps s n x is dir = fs_low a t ps ps (record { absolute = false; nam
     no_pipe kind.Dir h = refl
     no_pipe kind.Pipe h = cc
 
-pub fs_missing : (a : Around) (t : Parts) (ps qs : List (Option Process)) (path : PathOf) → Sound (world_of a t ps) → (d : ℕ) → missing a.pid path (frame_of a t ps) ≡ Pass d (frame_of a t qs) → (x : Object) → at t.objects d ≡ Some x → fs_number x < length t.fss
+pub fs_missing : (a : Around) (t : Parts) (ps qs : List (Option Process)) (path : PathOf) → Sound (world_of a t ps) → (d : ℕ)
+    → missing a.pid path (frame_of a t ps) ≡ Pass d (frame_of a t qs) → (x : Object) → at t.objects d ≡ Some x → fs_number x < length t.fss
 fs_missing a t ps qs path s d row x is = fs_of_dir a t ps s d x is (sym (ap (λ (o : Option Object). is_dir (unwrap_or o nothing)) is) ∙ dir_missing a t ps qs path s d row)
 
 -- a new object keeps what is counted and held
-pub counted_made : (t u : Parts) (ps : List (Option Process)) (d n : ℕ) (x : Option Object) (h : Object → Object) (hs : List Holding) → IsCounted t ps → u ≡ record t { objects = change (put t.objects n x) d h; holdings = hs } → IsCounted u ps
-counted_made t u ps d n x h hs c is = subst (λ (v : Parts). IsCounted v ps) (sym is) (counted_same t (record t { objects = change (put t.objects n x) d h; holdings = hs }) ps refl refl refl (length-set (put t.objects n x) d _ ∙ length-set t.objects n x) c)
+pub counted_made : (t u : Parts) (ps : List (Option Process)) (d n : ℕ) (x : Option Object) (h : Object → Object) (hs : List Holding) → IsCounted t ps
+    → u ≡ record t { objects = change (put t.objects n x) d h; holdings = hs } → IsCounted u ps
+counted_made t u ps d n x h hs c is =
+    subst (λ (v : Parts). IsCounted v ps) (sym is) (counted_same t (record t { objects = change (put t.objects n x) d h; holdings = hs }) ps refl refl refl
+    (length-set (put t.objects n x) d _ ∙ length-set t.objects n x) c)
 
-pub kept_made : (a : Around) (t u v : Parts) (ps : List (Option Process)) → Sound (world_of a t ps) → Keeps t u → (n : ℕ) (os : List (Option Object)) → at t.objects n ≡ None → v ≡ record u { objects = os; holdings = slice_set u.holdings n holds_nothing } → Keeps t v
+pub kept_made : (a : Around) (t u v : Parts) (ps : List (Option Process)) → Sound (world_of a t ps) → Keeps t u → (n : ℕ) (os : List (Option Object))
+    → at t.objects n ≡ None → v ≡ record u { objects = os; holdings = slice_set u.holdings n holds_nothing } → Keeps t v
 kept_made a t u v ps s k n os none is = record {
   holdings = ap (λ (w : Parts). w.holdings) is ∙ ap (λ (hs : List Holding). slice_set hs n holds_nothing) k.holdings ∙ clean_at a t ps ps (record { absolute = false; names = [] }) s n none;
   offsets = ap (λ (w : Parts). w.offsets) is ∙ k.offsets;

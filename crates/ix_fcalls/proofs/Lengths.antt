@@ -1,5 +1,6 @@
 -- What lengths tell of an open entry, from the parts alone.
-use Rattle.std.proofs.Common.{◌≡◌, ◌≤◌, ◌+◌, ◌-◌, ◌==◌, ◌&&◌, ◌||◌, ℕ, Bool, true, false, not, nat_le, nat_lt, List, length, drop, Option, Some, None, slice_index_or, if◌then◌else◌, inl, inr, refl, sym, ap, ◌∙◌, arith}
+use Rattle.std.proofs.Common.{◌≡◌, ◌≤◌, ◌+◌, ◌-◌, ◌==◌, ◌&&◌, ◌||◌, ℕ, Bool, true, false, not, nat_le, nat_lt, List, length, drop, Option, Some, None}
+use Rattle.std.proofs.Common.{slice_index_or, if◌then◌else◌, inl, inr, refl, sym, ap, ◌∙◌, arith}
 use Rattle.std.specs.Prelude.{max}
 use Rattle.std.specs.Option.{option_map_or}
 use Rattle.std.proofs.lemmas.Bool.{cases_lt, le-leb, lt-leb, lt-ltb, le-ltb, eq-eqb, ne_eqb, ltb-false, or_parts}
@@ -7,7 +8,8 @@ use Rattle.std.proofs.lemmas.List.{length-drop}
 use Rattle.ix_model.specs.world.World.{Process, Holding, at, is_pipe}
 use Rattle.ix_model.specs.world.Contents.{holds_nothing, side, readable}
 use Rattle.ix_model.specs.rows.OnDescriptors.{LengthChecks}
-use Rattle.ix_model.specs.rows.Telling.{nothing_told, told_of_read, told_of_write, told_of_file_write, told_of_pipe_write, told_of_cut, blocks_on, blocks_beside, blocks_for, lies_on, fs_of_object, length_then}
+use Rattle.ix_model.specs.rows.Telling.{nothing_told, told_of_read, told_of_write, told_of_file_write, told_of_pipe_write, told_of_cut, blocks_on}
+use Rattle.ix_model.specs.rows.Telling.{blocks_beside, blocks_for, lies_on, fs_of_object, length_then}
 use Rattle.ix_model.proofs.tables.Blocks.{blocks_from}
 use Rattle.ix_tables.specs.Parts.{Parts}
 use Rattle.ix_tables.specs.Views.{frame_alone, content_alone, has_room}
@@ -90,10 +92,12 @@ module _ (a : Around) (t : Parts) (ps : List (Option Process)) where
     unfolding told_of_read readable
     read_is = refl
 
-    pub told_read_pipe : (k : ℕ) → on_pipe_there ≡ true → k ≡ length (side b.end holding) → record nothing_told { empty = k == 0 } ≡ told_of_read (frame_of a t ps) (world_of a t ps).content (Some (behind_of b))
+    pub told_read_pipe : (k : ℕ) → on_pipe_there ≡ true → k ≡ length (side b.end holding)
+        → record nothing_told { empty = k == 0 } ≡ told_of_read (frame_of a t ps) (world_of a t ps).content (Some (behind_of b))
     told_read_pipe k pipe is = ap (λ n. record nothing_told { empty = n == 0 }) is ∙ sym (read_is ∙ ap read_tells pipe)
 
-    pub told_read_file : (n : ℕ) → Serves t b → on_pipe_there ≡ false → n ≡ length holding.first → record nothing_told { empty = nat_le n b.offset } ≡ told_of_read (frame_of a t ps) (world_of a t ps).content (Some (behind_of b))
+    pub told_read_file : (n : ℕ) → Serves t b → on_pipe_there ≡ false → n ≡ length holding.first
+        → record nothing_told { empty = nat_le n b.offset } ≡ told_of_read (frame_of a t ps) (world_of a t ps).content (Some (behind_of b))
     told_read_file n s file is =
         let long : length (drop b.offset holding.first) ≡ n - b.offset = length-drop b.offset holding.first ∙ ap (λ k. k - b.offset) (sym is) in
         let there : drop (slice_index_or t.offsets b.id 0) (side b.end holding) ≡ drop b.offset holding.first = λ i. drop (sym s.offset i) (side (s.first file i) holding) in
@@ -117,14 +121,17 @@ module _ (a : Around) (t : Parts) (ps : List (Option Process)) where
     abbrev write_tells : ℕ → ℕ → ℕ → Bool → LengthChecks
     write_tells offset n old p = record nothing_told { too_big = p; no_space = not p && lacks b.object (length_then offset n old) }
 
-    file_write_is : (n : ℕ) → told_of_file_write (frame_of a t ps) (world_of a t ps).content (behind_of b) n ≡ write_tells (slice_index_or t.offsets b.id 0) n (length (side b.end holding)) (big (slice_index_or t.offsets b.id 0) n)
+    file_write_is : (n : ℕ) → told_of_file_write (frame_of a t ps) (world_of a t ps).content (behind_of b) n ≡ write_tells (slice_index_or t.offsets b.id 0) n
+        (length (side b.end holding)) (big (slice_index_or t.offsets b.id 0) n)
     file_write_is n = refl
 
     -- at the offset of a file, all of whose bytes are at end 0
-    file_write_here : (n : ℕ) → Serves t b → on_pipe_there ≡ false → told_of_file_write (frame_of a t ps) (world_of a t ps).content (behind_of b) n ≡ write_tells b.offset n (length holding.first) (big b.offset n)
+    file_write_here : (n : ℕ) → Serves t b → on_pipe_there ≡ false → told_of_file_write (frame_of a t ps) (world_of a t ps).content (behind_of b) n
+        ≡ write_tells b.offset n (length holding.first) (big b.offset n)
     file_write_here n s file = file_write_is n ∙ (λ i. write_tells (sym s.offset i) n (length (side (s.first file i) holding)) (big (sym s.offset i) n))
 
-    pub told_too_big : (n : ℕ) → Serves t b → on_pipe_there ≡ false → big b.offset n ≡ true → record nothing_told { too_big = true } ≡ told_of_file_write (frame_of a t ps) (world_of a t ps).content (behind_of b) n
+    pub told_too_big : (n : ℕ) → Serves t b → on_pipe_there ≡ false → big b.offset n ≡ true
+        → record nothing_told { too_big = true } ≡ told_of_file_write (frame_of a t ps) (world_of a t ps).content (behind_of b) n
     told_too_big n s file h = sym (file_write_here n s file ∙ ap (write_tells b.offset n (length holding.first)) h)
 
     pub told_file_write : (n old : ℕ) (r : Bool) → Serves t b → on_pipe_there ≡ false → big b.offset n ≡ false → old ≡ length holding.first → r ≡ has_room b.object (length_then b.offset n old) t
@@ -140,10 +147,13 @@ module _ (a : Around) (t : Parts) (ps : List (Option Process)) where
     unfolding told_of_write
     write_is n = refl
 
-    pub told_write_pipe : (n k : ℕ) (m : LengthChecks) → on_pipe_there ≡ true → k ≡ length (side (1 - b.end) holding) → m ≡ told_of_pipe_write k n → m ≡ told_of_write (frame_of a t ps) (world_of a t ps).content n (Some (behind_of b))
+    pub told_write_pipe : (n k : ℕ) (m : LengthChecks) → on_pipe_there ≡ true → k ≡ length (side (1 - b.end) holding) → m ≡ told_of_pipe_write k n
+        → m ≡ told_of_write (frame_of a t ps) (world_of a t ps).content n (Some (behind_of b))
     told_write_pipe n k m pipe is told = told ∙ ap (λ j. told_of_pipe_write j n) is ∙ sym (write_is n ∙ ap (pick n) pipe)
 
-    pub told_write_file : (n : ℕ) (m : LengthChecks) → on_pipe_there ≡ false → m ≡ told_of_file_write (frame_of a t ps) (world_of a t ps).content (behind_of b) n → m ≡ told_of_write (frame_of a t ps) (world_of a t ps).content n (Some (behind_of b))
+    pub told_write_file : (n : ℕ) (m : LengthChecks) → on_pipe_there ≡ false
+        → m ≡ told_of_file_write (frame_of a t ps) (world_of a t ps).content (behind_of b) n
+        → m ≡ told_of_write (frame_of a t ps) (world_of a t ps).content n (Some (behind_of b))
     told_write_file n m file told = told ∙ sym (write_is n ∙ ap (pick n) file)
 
     -- ---- what there is room for
@@ -169,4 +179,5 @@ module _ (a : Around) (t : Parts) (ps : List (Option Process)) where
         write_low = then_low b.offset n (length holding.first) s.short write_ends
 
         pub write_has_room : has_room b.object (length_then b.offset n (length holding.first)) t ≡ true
-        write_has_room = has_room_is b.object (length_then b.offset n (length holding.first)) (ap (λ p. not p && lacks b.object (length_then b.offset n (length holding.first))) (sym small) ∙ ap (λ (m : LengthChecks). m.no_space) here)
+        write_has_room = has_room_is b.object (length_then b.offset n (length holding.first))
+            (ap (λ p. not p && lacks b.object (length_then b.offset n (length holding.first))) (sym small) ∙ ap (λ (m : LengthChecks). m.no_space) here)

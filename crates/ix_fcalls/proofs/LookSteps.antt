@@ -65,9 +65,12 @@ tells_decided m place pid path f = go (verdict m place pid (op.StatAt path) f).r
     go (reply.No why) is = tt
     go r is = subst (λ (s : Reply). TellsOfFile (verdict m place pid (op.StatAt path) f).frame.objects s) is (facts (ap is_answer is))
 
-pub tells_file : (a : Around) (t u : Parts) (ps qs : List (Option Process)) (c : Op) (m : LengthChecks) (r : Reply) → IsLook c → r ≡ (verdict m a.place a.pid c (frame_of a t ps)).reply → frame_of a u qs ≡ (verdict m a.place a.pid c (frame_of a t ps)).frame → TellsOfFile u.objects r
+pub tells_file : (a : Around) (t u : Parts) (ps qs : List (Option Process)) (c : Op) (m : LengthChecks) (r : Reply) → IsLook c
+    → r ≡ (verdict m a.place a.pid c (frame_of a t ps)).reply → frame_of a u qs ≡ (verdict m a.place a.pid c (frame_of a t ps)).frame → TellsOfFile u.objects r
 tells_file a t u ps qs (op.StatAt path) m r look said stands =
-    subst (λ (s : Reply). TellsOfFile u.objects s) (sym said) (subst (λ (g : Frame). TellsOfFile g.objects (verdict m a.place a.pid (op.StatAt path) (frame_of a t ps)).reply) (sym stands) (tells_decided m a.place a.pid path (frame_of a t ps)))
+    subst (λ (s : Reply). TellsOfFile u.objects s) (sym said)
+    (subst (λ (g : Frame). TellsOfFile g.objects (verdict m a.place a.pid (op.StatAt path) (frame_of a t ps)).reply) (sym stands)
+    (tells_decided m a.place a.pid path (frame_of a t ps)))
 tells_file a t u ps qs _ m r look said stands = absurd look
 
 -- ---- sizes
@@ -76,7 +79,8 @@ pub unsized_kind : (holdings : List Holding) (o size : ℕ) (k : Kind) → (k �
 unsized_kind holdings o size kind.File not = absurd (not refl)
 unsized_kind holdings o size _ not = refl
 
-pub unsized : (holdings : List Holding) (r : Reply) → ((o : Obj) (k : Kind) (size links : ℕ) (frozen : Bool) (cap lic : PrivSet) → r ≡ reply.Stat o k size links frozen cap lic → ⊥) → r ≡ with_size holdings r
+pub unsized : (holdings : List Holding) (r : Reply) → ((o : Obj) (k : Kind) (size links : ℕ) (frozen : Bool) (cap lic : PrivSet)
+    → r ≡ reply.Stat o k size links frozen cap lic → ⊥) → r ≡ with_size holdings r
 unsized holdings (reply.Stat o k size links frozen cap lic) not = absurd (not o k size links frozen cap lic refl)
 unsized holdings _ not = refl
 
@@ -86,7 +90,9 @@ unfolding stat_answer
 sized w (reply.Stat o kind.File size links frozen cap lic) g = refl
 sized w _ g = refl
 
-stat_step : (w : World) (place pid : ℕ) (path : PathOf) → step w place pid (op.StatAt path) ≡ stat_answer w (verdict nothing_told place pid (op.StatAt path) w.frame).reply (verdict nothing_told place pid (op.StatAt path) w.frame).frame
+stat_step : (w : World) (place pid : ℕ) (path : PathOf)
+    → step w place pid (op.StatAt path) ≡ stat_answer w (verdict nothing_told place pid (op.StatAt path) w.frame).reply
+    (verdict nothing_told place pid (op.StatAt path) w.frame).frame
 unfolding step answer told
 stat_step w place pid path = refl
 

@@ -1,5 +1,6 @@
 -- Another home of the caller, after a walk to it.
-use Rattle.std.proofs.Common.{◌≡◌, ◌+◌, ◌-◌, ◌<◌, ◌≤◌, ◌==◌, ◌&&◌, ℕ, not, cond, true, false, List, Option, Some, None, set, get_or, length, count_by, is_some, inl, inr, refl, sym, ap, ◌∙◌, subst, arith, length-set, slice_set, slice_index_or}
+use Rattle.std.proofs.Common.{◌≡◌, ◌+◌, ◌-◌, ◌<◌, ◌≤◌, ◌==◌, ◌&&◌, ℕ, not, cond, true, false, List, Option, Some, None, set, get_or, length, count_by}
+use Rattle.std.proofs.Common.{is_some, inl, inr, refl, sym, ap, ◌∙◌, subst, arith, length-set, slice_set, slice_index_or}
 use Rattle.std.specs.Option.{option_map_or}
 use Rattle.std.proofs.lemmas.Bool.Decides.{eqb_tells}
 use Rattle.std.proofs.lemmas.List.Sums.{sum-map}
@@ -70,7 +71,13 @@ module _ (t : Parts) (ps : List (Option Process)) (c : IsCounted t ps) (pid : �
     long = homes_long t ps c
 
     after : (o : ℕ) → o < length t.objects → get_or (set left dir (get_or left dir 0 + 1)) o 0 ≡ count_by (is_home o) moved
-    after o low = omega (arith, one_more left dir o (omega (arith, within, long, length-set t.homes p.cwd (get_or t.homes p.cwd 0 - 1))), one_less t.homes p.cwd o (omega (arith, home, long)) is_there, homes_at t ps c o low, home_put ps pid p is dir o)
+    after o low = omega (
+      arith,
+      one_more left dir o (omega (arith, within, long, length-set t.homes p.cwd (get_or t.homes p.cwd 0 - 1))),
+      one_less t.homes p.cwd o (omega (arith, home, long)) is_there,
+      homes_at t ps c o low,
+      home_put ps pid p is dir o,
+    )
 
     -- there is room for one more
     pub few_left : count_by is_some ps ≤ 1024 → slice_index_or left dir 0 + 1 < 4294967296
@@ -79,12 +86,15 @@ module _ (t : Parts) (ps : List (Option Process)) (c : IsCounted t ps) (pid : �
         omega (arith, after dir within, one_more left dir dir (omega (arith, within, long, length-set t.homes p.cwd (get_or t.homes p.cwd 0 - 1))), ap one (itself dir), homes_few dir moved, some, few)
 
     pub homes_moved : set left dir (get_or left dir 0 + 1) ≡ homes_of (length t.objects) moved
-    homes_moved = counts_are (set left dir (get_or left dir 0 + 1)) (λ o. count_by (is_home o) moved) (length t.objects) (length-set left dir (get_or left dir 0 + 1) ∙ length-set t.homes p.cwd (get_or t.homes p.cwd 0 - 1) ∙ long) after
+    homes_moved = counts_are (set left dir (get_or left dir 0 + 1)) (λ o. count_by (is_home o) moved) (length t.objects)
+        (length-set left dir (get_or left dir 0 + 1) ∙ length-set t.homes p.cwd (get_or t.homes p.cwd 0 - 1) ∙ long) after
 
     owners_same : (n : ℕ) → owners_of n moved ≡ owners_of n ps
     owners_same n = owners_kept_by (λ q. record q { cwd = dir }) (λ e x. refl) n ps pid
 
-    pub moved_is : (u v : Parts) (qs : List (Option Process)) → u ≡ record t { homes = left } → v ≡ record u { homes = slice_set u.homes dir (slice_index_or u.homes dir 0 + 1) } → qs ≡ moved → v ≡ record t { homes = homes_of (length t.objects) qs }
+    pub moved_is : (u v : Parts) (qs : List (Option Process)) → u ≡ record t { homes = left }
+        → v ≡ record u { homes = slice_set u.homes dir (slice_index_or u.homes dir 0 + 1) } → qs ≡ moved
+        → v ≡ record t { homes = homes_of (length t.objects) qs }
     moved_is u v qs less more table =
         more ∙ ap (λ (w : Parts). let x : Parts = record w { homes = slice_set w.homes dir (slice_index_or w.homes dir 0 + 1) } in x) less
         ∙ ap (λ hs. let x : Parts = record t { homes = hs } in x) (homes_moved ∙ ap (homes_of (length t.objects)) (sym table))

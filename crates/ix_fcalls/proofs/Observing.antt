@@ -10,7 +10,8 @@ use Rattle.ix_model.specs.declared.views.Floating.{Floating}
 use Rattle.ix_float.specs.Floating.{floated}
 
 -- the tests of the row, and the same tests of the rule
-tests_refuse : (a b c : Bool) (m : Row (Unit {0})) (f : Frame) (l : Categories) (why : Refusal) → Err why ≡ (if a then Ok None else if b then Err refusal.ProcFrozen else if c then Ok (Some l) else Err refusal.ProcCeiling)
+tests_refuse : (a b c : Bool) (m : Row (Unit {0})) (f : Frame) (l : Categories) (why : Refusal)
+    → Err why ≡ (if a then Ok None else if b then Err refusal.ProcFrozen else if c then Ok (Some l) else Err refusal.ProcCeiling)
     → only_if (not a) (◌>>◌ (need (not b) refusal.ProcFrozen) (◌>>◌ (need c refusal.ProcCeiling) m)) f ≡ Refuse why f
 unfolding only_if need ◌>>◌ on_pass pass refuse
 tests_refuse true b c m f l why h = cc
@@ -19,7 +20,10 @@ tests_refuse false false true m f l why h = cc
 tests_refuse false false false m f l why h = cc
 
 -- where the rule refuses, the row refuses the same
-pub looked_in_vain : (f : Frame) (pid : ℕ) (p : Process) (seen : Categories) (x : Floating) (why : Refusal) → living (at f.processes pid) ≡ Some p → p.label ≡ x.label → p.ceiling ≡ x.ceiling → p.frozen ≡ x.frozen
+pub looked_in_vain : (f : Frame) (pid : ℕ) (p : Process) (seen : Categories) (x : Floating) (why : Refusal) → living (at f.processes pid) ≡ Some p
+    → p.label ≡ x.label → p.ceiling ≡ x.ceiling → p.frozen ≡ x.frozen
     → Err why ≡ floated refusal.ProcFrozen refusal.ProcCeiling x seen → observe pid seen f ≡ Refuse why f
 unfolding observe ◌>>=◌ on_pass process some pass
-looked_in_vain f pid p seen x why is label ceiling frozen h = rw (is, label, ceiling, frozen) (tests_refuse (same (join x.label seen) x.label) x.frozen (leq (join x.label seen) x.ceiling) (change_process pid (λ q. record q { label = join q.label seen })) f (join x.label seen) why h)
+looked_in_vain f pid p seen x why is label ceiling frozen h =
+    rw (is, label, ceiling, frozen) (tests_refuse (same (join x.label seen) x.label) x.frozen (leq (join x.label seen) x.ceiling)
+    (change_process pid (λ q. record q { label = join q.label seen })) f (join x.label seen) why h)

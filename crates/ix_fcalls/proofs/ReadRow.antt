@@ -16,7 +16,8 @@ pub floats_none : (p : Process) (x : Object) (e : OpenFile) (f : Frame) → is_p
 unfolding float_entry only_if pass
 floats_none p x e f pipe = rw pipe refl
 
-pub floats_in : (p : Process) (x : Object) (e : OpenFile) (f : Frame) → is_pipe x ≡ false → float_entry p x e f ≡ Pass tt (record f { opens = change f.opens e.id (λ y. record y { label = join y.label p.label }) })
+pub floats_in : (p : Process) (x : Object) (e : OpenFile) (f : Frame) → is_pipe x ≡ false
+    → float_entry p x e f ≡ Pass tt (record f { opens = change f.opens e.id (λ y. record y { label = join y.label p.label }) })
 unfolding float_entry only_if change_open
 floats_in p x e f file = rw file refl
 
@@ -32,6 +33,7 @@ module _ (t : LengthChecks) (pid fd count : ℕ) (f : Frame) (e : OpenFile) (x :
     unfolding read_fd opened frame object some ◌>>=◌ ◌>>◌ on_pass pass need refuse
     read_waits wait = rw (tested.is_behind, tested.reads, tested.is_object, tested.free, tested.few, seen, wait) refl
 
-    pub read_passes : (p : Process) (h : Frame) → (is_pipe x && t.empty && held g.opens e.entry.object (1 - e.entry.end)) ≡ false → living (at g.processes pid) ≡ Some p → float_entry p x e g ≡ Pass tt h → read_fd t pid fd count f ≡ Pass (reply.Bytes 0) h
+    pub read_passes : (p : Process) (h : Frame) → (is_pipe x && t.empty && held g.opens e.entry.object (1 - e.entry.end)) ≡ false
+        → living (at g.processes pid) ≡ Some p → float_entry p x e g ≡ Pass tt h → read_fd t pid fd count f ≡ Pass (reply.Bytes 0) h
     unfolding read_fd opened frame object process some ◌>>=◌ ◌>>◌ on_pass pass need refuse
     read_passes p h wait lives floats = rw (tested.is_behind, tested.reads, tested.is_object, tested.free, tested.few, seen, wait, lives, floats) refl

@@ -42,7 +42,8 @@ unread w count e (reply.Bytes k) g not = absurd (not k refl)
 unread w count e _ g not = refl
 
 was_read : (w : World) (count : ℕ) (e : OpenFile) (r : Reply) (g : Frame) (k : ℕ) → r ≡ reply.Bytes k
-    → read_answer w count (Some e) r g ≡ edited w g (reply.Bytes (length (take count (readable w.frame w.content e)))) (take count (readable w.frame w.content e)) (after_read w.frame e (length (take count (readable w.frame w.content e))))
+    → read_answer w count (Some e) r g ≡ edited w g (reply.Bytes (length (take count (readable w.frame w.content e))))
+    (take count (readable w.frame w.content e)) (after_read w.frame e (length (take count (readable w.frame w.content e))))
 unfolding read_answer
 was_read w count e r g k is = rw is refl
 

@@ -1,5 +1,7 @@
 -- What one descriptor fewer does to the counts of owners.
-use Rattle.std.proofs.Common.{◌≡◌, ◌≢◌, ◌<◌, ◌+◌, ◌-◌, ◌==◌, ◌&&◌, ◌||◌, ℕ, suc, cond, Bool, true, false, not, List, [], ◌∷◌, map, sum, length, count_by, Option, Some, None, option_map, refl, sym, ap, ◌∙◌, arith, get_or, set, slice_set, slice_index_or, length-set, if◌then◌else◌, inl, inr}
+use Rattle.std.proofs.Common.{◌≡◌, ◌≢◌, ◌<◌, ◌+◌, ◌-◌, ◌==◌, ◌&&◌, ◌||◌, ℕ, suc, cond, Bool, true, false, not, List, [], ◌∷◌, map, sum, length}
+use Rattle.std.proofs.Common.{count_by, Option, Some, None, option_map, refl, sym, ap, ◌∙◌, arith, get_or, set, slice_set, slice_index_or, length-set}
+use Rattle.std.proofs.Common.{if◌then◌else◌, inl, inr}
 use Rattle.std.specs.List.{list_any, range_with_len}
 use Rattle.std.proofs.lemmas.Bool.{eq-eqb}
 use Rattle.std.proofs.lemmas.Bool.Decides.{eqb_tells}
@@ -136,7 +138,11 @@ module _ (ps : List (Option Process)) (pid fd e : ℕ) (p : Process) (lives : li
 
     -- it was the last one exactly where nobody has the entry any more
     pub last_is : (slice_index_or (owners_of count ps) e 0 == 1) ≡ not (owned after e)
-    last_is = go (slice_index_or (owners_of count ps) e 0) (sum (map (named_by e) after)) (omega (arith, number_at (λ n. sum (map (named_by n) ps)) count e stands, fewer_here)) ∙ ap not (sym (owned_counted after e))
+    last_is = go (slice_index_or (owners_of count ps) e 0) (sum (map (named_by e) after)) (omega (
+      arith,
+      number_at (λ n. sum (map (named_by n) ps)) count e stands,
+      fewer_here,
+    )) ∙ ap not (sym (owned_counted after e))
       where
         go : (a b : ℕ) → a ≡ b + 1 → (a == 1) ≡ not (not (b == 0))
         go a b is = elim (eqb_tells b 0) [
@@ -181,7 +187,8 @@ module _ (ps : List (Option Process)) (pid : ℕ) (p : Process) (lives : living 
   home_fewer : (o : ℕ) → count_by (is_home o) ending + cond (p.cwd == o) 1 0 ≡ count_by (is_home o) ps
   home_fewer o =
       let whole = count_put (is_home o) ps pid (option_map end (at ps pid)) None (in_table ps pid p stood) in
-      let before : ◌≡◌ {A = ℕ} (cond (is_home o (at ps pid)) 1 0) (cond (p.cwd == o) 1 0) = ap (λ q. cond (is_home o q) 1 0) stood ∙ ap (λ b. cond (not b && p.cwd == o) 1 0) (not_ended (at ps pid) p lives) in
+      let before : ◌≡◌ {A = ℕ} (cond (is_home o (at ps pid)) 1 0) (cond (p.cwd == o) 1 0) = ap (λ q. cond (is_home o q) 1 0) stood
+      ∙ ap (λ b. cond (not b && p.cwd == o) 1 0) (not_ended (at ps pid) p lives) in
       let now : ◌≡◌ {A = ℕ} (cond (is_home o (option_map end (at ps pid))) 1 0) 0 = ap (λ q. cond (is_home o (option_map end q)) 1 0) stood in
       omega (arith, whole, before, now)
 

@@ -44,7 +44,8 @@ unfolding step answer told seek_answer
 seek_none w place pid fd offset none = rw none refl
 
 seek_some : (w : World) (place pid fd offset : ℕ) (e : OpenFile) → behind w.frame pid fd ≡ Some e
-    → step w place pid (op.SeekFd fd offset) ≡ seek_answer w offset (Some e) (verdict nothing_told place pid (op.SeekFd fd offset) w.frame).reply (verdict nothing_told place pid (op.SeekFd fd offset) w.frame).frame
+    → step w place pid (op.SeekFd fd offset) ≡ seek_answer w offset (Some e) (verdict nothing_told place pid (op.SeekFd fd offset) w.frame).reply
+    (verdict nothing_told place pid (op.SeekFd fd offset) w.frame).frame
 unfolding step answer told
 seek_some w place pid fd offset e some = rw some refl
 
@@ -59,7 +60,8 @@ did_seek w offset e r g is = rw is refl
 
 -- a seek, as it is decided
 module _ (a : Around) (t u : Parts) (ps qs : List (Option Process)) (fd offset : ℕ) (r : Reply) (sound : Sound (world_of a t ps)) (kept : Keeps t u)
-    (said : r ≡ (verdict nothing_told a.place a.pid (op.SeekFd fd offset) (frame_of a t ps)).reply) (stands : frame_of a u qs ≡ (verdict nothing_told a.place a.pid (op.SeekFd fd offset) (frame_of a t ps)).frame) where
+    (said : r ≡ (verdict nothing_told a.place a.pid (op.SeekFd fd offset) (frame_of a t ps)).reply) (stands : frame_of a u qs
+    ≡ (verdict nothing_told a.place a.pid (op.SeekFd fd offset) (frame_of a t ps)).frame) where
   pub seek_floats : Floats (frame_of a t ps) (frame_of a u qs)
   seek_floats = subst (λ (g : Frame). Floats (frame_of a t ps) g) (sym stands) (floats_seek nothing_told a.place a.pid fd offset (frame_of a t ps))
 
@@ -71,7 +73,8 @@ module _ (a : Around) (t u : Parts) (ps qs : List (Option Process)) (fd offset :
     answers_unsought buf not = answers_said a t u ps qs (op.SeekFd fd offset) nothing_told refl sound kept stands r buf said
         (seek_some (world_of a t ps) a.place a.pid fd offset e some ∙ unsought (world_of a t ps) offset e _ _ (λ done. not (said ∙ done)))
 
-    pub answers_seek : (v : Parts) (buf : List ℕ) → r ≡ reply.Done → v ≡ record u { offsets = slice_set u.offsets e.id offset } → Answers (step (world_of a t ps) a.place a.pid (op.SeekFd fd offset)) (world_of a v qs) reply.Done buf buf
+    pub answers_seek : (v : Parts) (buf : List ℕ) → r ≡ reply.Done → v ≡ record u { offsets = slice_set u.offsets e.id offset }
+        → Answers (step (world_of a t ps) a.place a.pid (op.SeekFd fd offset)) (world_of a v qs) reply.Done buf buf
     unfolding after_seek
     answers_seek v buf done moved =
         answers_edited a t u ps qs (op.SeekFd fd offset) nothing_told refl sound kept stands v reply.Done [] buf buf (after_seek e offset)

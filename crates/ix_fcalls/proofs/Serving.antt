@@ -1,5 +1,6 @@
 -- What an open entry of a sound world stands for, and still does when labels have changed.
-use Rattle.std.proofs.Common.{◌≡◌, ◌<◌, ◌≤◌, ◌==◌, ℕ, Bool, true, false, inl, inr, not, ◌&&◌, ◌||◌, List, Option, Some, None, is_some, unwrap_or, length, slice_index_or, refl, sym, ap, subst, ◌∙◌, arith}
+use Rattle.std.proofs.Common.{◌≡◌, ◌<◌, ◌≤◌, ◌==◌, ℕ, Bool, true, false, inl, inr, not, ◌&&◌, ◌||◌, List, Option, Some, None, is_some, unwrap_or}
+use Rattle.std.proofs.Common.{length, slice_index_or, refl, sym, ap, subst, ◌∙◌, arith}
 use Rattle.std.specs.Option.{option_map_or}
 use Rattle.std.proofs.lemmas.Bool.{or_cases, and_parts, eqb-true}
 use Rattle.ix_model.specs.world.World.{World, Object, Open, Process, at, is_file, is_dir, is_pipe}
@@ -60,7 +61,8 @@ found_short w o x l is = go (is_pipe x) refl
     go true pipe = let both = l.pipe o x is pipe in omega (arith, both.0)
     go false other = l.file o x is other
 
-pub serves_found : (a : Around) (t : Parts) (ps : List (Option Process)) (fd : ℕ) (b : Found) → Sound (world_of a t ps) → behind (frame_of a t ps) a.pid fd ≡ Some (behind_of b) → b.offset ≡ slice_index_or t.offsets b.id 0 → Serves t b
+pub serves_found : (a : Around) (t : Parts) (ps : List (Option Process)) (fd : ℕ) (b : Found) → Sound (world_of a t ps)
+    → behind (frame_of a t ps) a.pid fd ≡ Some (behind_of b) → b.offset ≡ slice_index_or t.offsets b.id 0 → Serves t b
 serves_found a t ps fd b sound is offset =
     let e = behind_of b in
     let there = entry_there a t ps fd e sound is in

@@ -1,5 +1,7 @@
 -- What one process more does to the counts.
-use Rattle.std.proofs.Common.{◌≡◌, ◌+◌, ◌<◌, ◌≤◌, ◌==◌, ◌&&◌, ℕ, not, cond, true, false, List, [], ◌∷◌, ◌++◌, Option, Some, None, map, sum, set, get_or, take, length, count_by, is_some, refl, sym, ap, ◌∙◌, subst, arith, inl, inr, length-set, length-take-le, slice_set, slice_index_or, if◌then◌else◌}
+use Rattle.std.proofs.Common.{◌≡◌, ◌+◌, ◌<◌, ◌≤◌, ◌==◌, ◌&&◌, ℕ, not, cond, true, false, List, [], ◌∷◌, ◌++◌, Option, Some, None, map, sum, set}
+use Rattle.std.proofs.Common.{get_or, take, length, count_by, is_some, refl, sym, ap, ◌∙◌, subst, arith, inl, inr, length-set, length-take-le}
+use Rattle.std.proofs.Common.{slice_set, slice_index_or, if◌then◌else◌}
 use Rattle.std.proofs.lemmas.Bool.{cases_lt}
 use Rattle.std.proofs.lemmas.List.{get_or_past, take_all}
 use Rattle.std.proofs.lemmas.List.Sums.{sum-map, sum_by_push, count_by-le-length}
@@ -20,14 +22,16 @@ pub shared_none : (t : Parts) (fds : List (Option ℕ)) → AreShared fds 0 t t
 shared_none t fds = record { owners = λ e. omega arith; long = refl; rest = refl }
 
 module _ (t u w : Parts) (fds : List (Option ℕ)) (i : ℕ) (low : i < length fds) (s : AreShared fds i t u) where
-  pub shared_more : (id : ℕ) → at fds i ≡ Some id → is_some (at t.opens id) ≡ true → length t.owners ≡ length t.opens → w ≡ record u { owners = slice_set u.owners id (slice_index_or u.owners id 0 + 1) } → AreShared fds (i + 1) t w
+  pub shared_more : (id : ℕ) → at fds i ≡ Some id → is_some (at t.opens id) ≡ true → length t.owners ≡ length t.opens
+      → w ≡ record u { owners = slice_set u.owners id (slice_index_or u.owners id 0 + 1) } → AreShared fds (i + 1) t w
   shared_more id names stands even is =
       let within : id < length u.owners = omega (arith, stands_within t.opens id stands, even, s.long) in
       let new : w.owners ≡ set u.owners id (get_or u.owners id 0 + 1) = ap (λ (v : Parts). v.owners) is in
       record {
         owners = λ e. ap (λ (os : List ℕ). get_or os e 0) new ∙ omega (arith, one_more u.owners id e within, s.owners e, count_more e fds i low, ap (λ d. one (is_at e d)) names);
         long = ap length new ∙ length-set u.owners id (get_or u.owners id 0 + 1) ∙ s.long;
-        rest = is ∙ ap (λ (v : Parts). let x : Parts = record v { owners = set u.owners id (get_or u.owners id 0 + 1) } in x) s.rest ∙ ap (λ os. let x : Parts = record t { owners = os } in x) (sym new);
+        rest = is ∙ ap (λ (v : Parts). let x : Parts = record v { owners = set u.owners id (get_or u.owners id 0 + 1) } in
+            x) s.rest ∙ ap (λ os. let x : Parts = record t { owners = os } in x) (sym new);
       }
 
   pub shared_same : at fds i ≡ None → w ≡ u → AreShared fds (i + 1) t w
@@ -68,10 +72,25 @@ counted_taken t u v ps fds cwd c home owners long rest is p has at_home lives =
     record {
       owners = counts_are v.owners (λ e. sum (map (named_by e) (ps ++ Some p ∷ []))) (length v.opens) (ap length same ∙ long ∙ owners_long t ps c ∙ sym opens) (λ e low.
           let named : named_by e (Some p) ≡ count_by (is_at e) fds = ap (λ b. if b then 0 else count_by (is_at e) p.fds) lives ∙ ap (count_by (is_at e)) has in
-          ap (λ (os : List ℕ). get_or os e 0) same ∙ omega (arith, owners e, owners_at t ps c e (omega (arith, low, opens)), sum-map (named_by e) (ps ++ Some p ∷ []), sum-map (named_by e) ps, sum_by_push (named_by e) ps (Some p), named));
-      homes = counts_are v.homes (λ o. count_by (is_home o) (ps ++ Some p ∷ [])) (length v.objects) (ap length new ∙ length-set t.homes cwd (get_or t.homes cwd 0 + 1) ∙ homes_long t ps c ∙ sym objects) (λ o low.
+          ap (λ (os : List ℕ). get_or os e 0) same ∙ omega (
+            arith,
+            owners e,
+            owners_at t ps c e (omega (arith, low, opens)),
+            sum-map (named_by e) (ps ++ Some p ∷ []),
+            sum-map (named_by e) ps,
+            sum_by_push (named_by e) ps (Some p),
+            named,
+          ));
+      homes = counts_are v.homes (λ o. count_by (is_home o) (ps ++ Some p ∷ [])) (length v.objects) (ap length new
+          ∙ length-set t.homes cwd (get_or t.homes cwd 0 + 1) ∙ homes_long t ps c ∙ sym objects) (λ o low.
           let there : one (is_home o (Some p)) ≡ one (cwd == o) = ap (λ b. one (not b && p.cwd == o)) lives ∙ ap (λ d. one (d == o)) at_home in
-          ap (λ (hs : List ℕ). get_or hs o 0) new ∙ omega (arith, one_more t.homes cwd o (omega (arith, home, homes_long t ps c)), homes_at t ps c o (omega (arith, low, objects)), sum_by_push (λ (x : Option Process). cond {A = ℕ} (is_home o x) 1 0) ps (Some p), there));
+          ap (λ (hs : List ℕ). get_or hs o 0) new ∙ omega (
+            arith,
+            one_more t.homes cwd o (omega (arith, home, homes_long t ps c)),
+            homes_at t ps c o (omega (arith, low, objects)),
+            sum_by_push (λ (x : Option Process). cond {A = ℕ} (is_home o x) 1 0) ps (Some p),
+            there,
+          ));
     }
 
 pub ruleset sharing = (shared_none, shared_more, shared_same, shared_few, shared_all, owners_long, owners_bounded, homes_bounded, homes_long, counted_taken)

@@ -41,9 +41,11 @@ module _ (a : Around) (t : Parts) (ps : List (Option Process)) (path : PathOf) (
   found_ends =
       ends_bind (walked_to a.pid path) found_object start Anything Stands
       (leads_walked_to start start a.pid path Anything (λ w h. Ends (found_object w h) Anything Stands) (along_itself start (follows_itself start (frames.frame_of (world_of a t ps) s))) (λ r h k. tt)
-      (λ w h k leads. ends_there w h Anything Stands (λ o dir is. leads_stands start s.names (last_name path.names) o dir (subst (λ (v : Sought). Leads start (last_name path.names) v) is leads)) tt tt))
+      (λ w h k leads. ends_there w h Anything Stands (λ o dir is. leads_stands start s.names (last_name path.names) o dir
+      (subst (λ (v : Sought). Leads start (last_name path.names) v) is leads)) tt tt))
 
 -- the object of a path stands
-pub stands_found : (a : Around) (t : Parts) (ps qs : List (Option Process)) (path : PathOf) (o : ℕ) → Sound (world_of a t ps) → object_at a.pid path (frame_of a t ps) ≡ Pass o (frame_of a t qs) → is_some (at t.objects o) ≡ true
+pub stands_found : (a : Around) (t : Parts) (ps qs : List (Option Process)) (path : PathOf) (o : ℕ) → Sound (world_of a t ps)
+    → object_at a.pid path (frame_of a t ps) ≡ Pass o (frame_of a t qs) → is_some (at t.objects o) ≡ true
 unfolding Ends
 stands_found a t ps qs path o s row = subst (λ (out : Outcome ℕ). Ends out Anything (Stands a t ps path s)) row (found_ends a t ps path s)

@@ -5,7 +5,8 @@ use Rattle.ix_model.specs.world.World.{Frame, Content, Process, is_pipe, fs_at}
 use Rattle.ix_model.specs.world.Contents.{on_pipe, readable, after_read, after_write, side, change_side, holding_of, offset_of, spliced}
 use Rattle.ix_model.specs.rows.OnDescriptors.{LengthChecks, seek_fd, float_entry}
 use Rattle.ix_model.specs.rows.Table.{verdict, row}
-use Rattle.ix_model.specs.rows.Telling.{nothing_told, told_of_write, told_of_file_write, told_of_pipe_write, told_of_cut, blocks_on, blocks_beside, blocks_for, blocks_where, lies_on, fs_of_object, length_then}
+use Rattle.ix_model.specs.rows.Telling.{nothing_told, told_of_write, told_of_file_write, told_of_pipe_write, told_of_cut, blocks_on, blocks_beside}
+use Rattle.ix_model.specs.rows.Telling.{blocks_for, blocks_where, lies_on, fs_of_object, length_then}
 use Rattle.ix_model.specs.rows.Walks.{OpenFile, opened}
 use Rattle.ix_model.specs.history.Events as op
 use Rattle.ix_model.specs.declared.config.FsSpec.{FsSpec}
@@ -77,7 +78,12 @@ module _ (f g : Frame) (r : Floats f g) where
       big = nat_lt 4096 n || nat_lt 1048576 (offset_of c e.id + n)
 
       file : told_of_file_write g c e n ≡ told_of_file_write f c e n
-      file = λ i. record nothing_told { too_big = big; no_space = not big && nat_lt (all_same e.entry.object i) (beside_same c e.entry.object i + blocks_for (length_then (offset_of c e.id) n (length (side e.entry.end (holding_of c e.entry.object))))) }
+      file = λ i. record nothing_told {
+        too_big = big;
+        no_space =
+            not big && nat_lt (all_same e.entry.object i)
+            (beside_same c e.entry.object i + blocks_for (length_then (offset_of c e.id) n (length (side e.entry.end (holding_of c e.entry.object)))));
+      }
 
   pub told_cut_same : (c : Content) (len : ℕ) (e : OpenFile) → told_of_cut g c len (Some e) ≡ told_of_cut f c len (Some e)
   unfolding told_of_cut
@@ -93,7 +99,9 @@ module _ (f g : Frame) (r : Floats f g) where
 
   pub after_write_same : (e : OpenFile) (new : List ℕ) (c : Content) → after_write g e new c ≡ after_write f e new c
   unfolding after_write
-  after_write_same e new c = ap (λ p. if p then change_side e.entry.object (1 - e.entry.end) (λ old. old ++ new) c else record (change_side e.entry.object e.entry.end (spliced (offset_of c e.id) new) c) { offsets = slice_set c.offsets e.id (offset_of c e.id + length new) }) (pipe_same e)
+  after_write_same e new c = ap (λ p. if p then change_side e.entry.object (1 - e.entry.end) (λ old. old ++ new) c else
+      record (change_side e.entry.object e.entry.end (spliced (offset_of c e.id) new) c) { offsets = slice_set c.offsets e.id (offset_of c e.id + length new) })
+      (pipe_same e)
 
 -- what is held is what was held
 pub content_same : (a : Around) (t u : Parts) (ps qs : List (Option Process)) → Keeps t u → (world_of a u qs).content ≡ (world_of a t ps).content

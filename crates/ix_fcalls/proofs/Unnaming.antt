@@ -35,18 +35,24 @@ letting_go a t u ps o is = object_step (goes o t) o (frame_of a t ps) ∙ ap (λ
 -- the processes after a look are as before but for labels
 pub processes_seen : (a : Around) (t : Parts) (ps qs : List (Option Process)) (l : Categories) → observe a.pid l (frame_of a t ps) ≡ Pass tt (frame_of a t qs) → SameBut process_but ps qs
 unfolding Holds
-processes_seen a t ps qs l row = (subst (λ (out : Outcome (Unit {0})). Holds out (Floats (frame_of a t ps))) row ((floats_observe (frame_of a t ps) a.pid l).led (frame_of a t ps) (floats_itself (frame_of a t ps)))).processes
+processes_seen a t ps qs l row =
+    (subst (λ (out : Outcome (Unit {0})). Holds out (Floats (frame_of a t ps))) row ((floats_observe (frame_of a t ps) a.pid l).led (frame_of a t ps)
+    (floats_itself (frame_of a t ps)))).processes
 
 pub processes_twice : (ps qs rs : List (Option Process)) → SameBut process_but ps qs → SameBut process_but qs rs → SameBut process_but ps rs
 processes_twice ps qs rs r s = record { same = s.same ∙ r.same }
 
 -- ---- counts
-pub counted_left : (t u : Parts) (ps : List (Option Process)) (b : Bool) (d o : ℕ) (h : Object → Object) (hs : List Holding) → IsCounted t ps → u ≡ record t { objects = taken b o (change t.objects d h); holdings = hs } → IsCounted u ps
-counted_left t u ps b d o h hs c is = subst (λ (v : Parts). IsCounted v ps) (sym is) (counted_same t (record t { objects = taken b o (change t.objects d h); holdings = hs }) ps refl refl refl (length-taken b o (change t.objects d h) ∙ length-set t.objects d _) c)
+pub counted_left : (t u : Parts) (ps : List (Option Process)) (b : Bool) (d o : ℕ) (h : Object → Object) (hs : List Holding) → IsCounted t ps
+    → u ≡ record t { objects = taken b o (change t.objects d h); holdings = hs } → IsCounted u ps
+counted_left t u ps b d o h hs c is =
+    subst (λ (v : Parts). IsCounted v ps) (sym is) (counted_same t (record t { objects = taken b o (change t.objects d h); holdings = hs }) ps refl refl refl
+    (length-taken b o (change t.objects d h) ∙ length-set t.objects d _) c)
 
 -- ---- what is carried over
 -- where the same stands and holds the same
-remains_alike : {A B : Type 0} (d : A) (t u : List (Option B)) (xs ys : List A) → ((n : ℕ) → is_some (at u n) ≡ is_some (at t n)) → ys ≡ xs → ((n : ℕ) → is_some (at t n) ≡ false → slice_index_or xs n d ≡ d) → Remains d t u xs ys
+remains_alike : {A B : Type 0} (d : A) (t u : List (Option B)) (xs ys : List A) → ((n : ℕ) → is_some (at u n) ≡ is_some (at t n)) → ys ≡ xs
+    → ((n : ℕ) → is_some (at t n) ≡ false → slice_index_or xs n d ≡ d) → Remains d t u xs ys
 remains_alike {A} {B} d t u xs ys stands same clean = record {
   count = ap length same;
   stood = λ n is. sym (stands n) ∙ is;
@@ -54,7 +60,9 @@ remains_alike {A} {B} d t u xs ys stands same clean = record {
   gone = λ n is. ap (λ (zs : List A). slice_index_or zs n d) same ∙ clean n (sym (stands n) ∙ is);
 }
 
-module _ (a : Around) (t u : Parts) (ps qs : List (Option Process)) (s : Sound (world_of a t ps)) (same : SameBut process_but ps qs) (d : ℕ) (l : Categories) (row : affect a.pid d l (frame_of a t qs) ≡ Pass tt (frame_of a u qs)) (k : Keeps t u) (opens : u.opens ≡ t.opens) (b : Bool) (o : ℕ) (h : Object → Object) where
+module _ (a : Around) (t u : Parts) (ps qs : List (Option Process)) (s : Sound (world_of a t ps)) (same : SameBut process_but ps qs) (d : ℕ) (l : Categories)
+    (row : affect a.pid d l (frame_of a t qs) ≡ Pass tt (frame_of a u qs)) (k : Keeps t u) (opens : u.opens ≡ t.opens) (b : Bool) (o : ℕ) (h : Object
+    → Object) where
   abbrev left : Parts
   left = record u { objects = taken b o (change u.objects d h); holdings = cleared b o holds_nothing u.holdings }
 
@@ -69,9 +77,16 @@ module _ (a : Around) (t u : Parts) (ps qs : List (Option Process)) (s : Sound (
     statuses = refl;
   }
 
-  pub content_left : (w : Parts) → w ≡ record u { objects = taken b o (change u.objects d h); holdings = cleared b o holds_nothing u.holdings } → (world_of a w qs).content ≡ carried (frame_of a t ps) (frame_of a w qs) (world_of a t ps).content
-  content_left w is = subst (λ (v : Parts). (world_of a v qs).content ≡ carried (frame_of a t ps) (frame_of a v qs) (world_of a t ps).content) (sym is) (left_carried (world_of a t ps) (world_of a left qs) s.holdings.clean leaves)
+  pub content_left : (w : Parts) → w ≡ record u { objects = taken b o (change u.objects d h); holdings = cleared b o holds_nothing u.holdings }
+      → (world_of a w qs).content ≡ carried (frame_of a t ps) (frame_of a w qs) (world_of a t ps).content
+  content_left w is = subst (λ (v : Parts). (world_of a v qs).content ≡ carried (frame_of a t ps) (frame_of a v qs) (world_of a t ps).content) (sym is)
+      (left_carried (world_of a t ps) (world_of a left qs) s.holdings.clean leaves)
 
 -- an object that is let go after its name is gone
-pub let_go_after : (u w : Parts) (d o : ℕ) (h : Object → Object) → w ≡ object_let_go o (record u { objects = change u.objects d h }) → w ≡ record u { objects = taken (goes o (record u { objects = change u.objects d h })) o (change u.objects d h); holdings = cleared (goes o (record u { objects = change u.objects d h })) o holds_nothing u.holdings }
+pub let_go_after : (u w : Parts) (d o : ℕ) (h : Object → Object) → w ≡ object_let_go o (record u { objects = change u.objects d h })
+    → w ≡ record u {
+      objects = taken (goes o (record u { objects = change u.objects d h })) o (change u.objects d h);
+      holdings =
+          cleared (goes o (record u { objects = change u.objects d h })) o holds_nothing u.holdings;
+    }
 let_go_after u w d o h is = is ∙ let_go_is o (record u { objects = change u.objects d h })

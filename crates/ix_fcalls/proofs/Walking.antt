@@ -15,7 +15,11 @@ raised label w = record { outcome = w.outcome; label = join label (join_all w.lo
 pub raised_none : (w : Walk) → raised bottom w ≡ seen_in w
 raised_none w = ap (λ l. let s : Seen = record { outcome = w.outcome; label = l } in s) (join-bottom (join_all w.looked))
 
-raised_lacking : (label : Categories) (x : Object) (dir : ℕ) (names : List (List ℕ)) → record { outcome = (lacking dir names).outcome; label = join label x.label } ≡ raised label (looking_into x (lacking dir names))
+raised_lacking : (label : Categories) (x : Object) (dir : ℕ) (names : List (List ℕ)) → record {
+  outcome = (lacking dir names).outcome;
+  label =
+      join label x.label;
+} ≡ raised label (looking_into x (lacking dir names))
 raised_lacking label x dir [] = rw join-bottom_right refl
 raised_lacking label x dir (name ∷ names) = rw join-bottom_right refl
 

@@ -16,4 +16,17 @@ module _ (t : LengthChecks) (pid fd : ℕ) (f : Frame) (e : OpenFile) (x : Objec
 
   pub write_passes : (g h : Frame) → affect pid e.entry.object e.entry.label f ≡ Pass tt g → float_entry p x e g ≡ Pass tt h → write_fd t pid fd f ≡ Pass (reply.Number 0) h
   unfolding write_fd opened frame object process some ◌>>=◌ ◌>>◌ on_pass pass need refuse
-  write_passes g h affects floats = rw (tested.is_behind, tested.writes, tested.is_object, tested.free, tested.small, tested.untrusted, tested.whole, tested.room, tested.space, lives, affects, floats) refl
+  write_passes g h affects floats = rw (
+    tested.is_behind,
+    tested.writes,
+    tested.is_object,
+    tested.free,
+    tested.small,
+    tested.untrusted,
+    tested.whole,
+    tested.room,
+    tested.space,
+    lives,
+    affects,
+    floats,
+  ) refl

@@ -21,7 +21,8 @@ use Rattle.ix_fcalls.specs.Filed.{Answers}
 use Rattle.ix_fcalls.proofs.Answering.{answers_said, answers_edited}
 use Rattle.ix_fcalls.proofs.Unmoved.{floats_write, told_write_same, after_write_same, content_same}
 
-write_none : (w : World) (place pid fd : ℕ) (new : List ℕ) → behind w.frame pid fd ≡ None → step w place pid (op.WriteFd fd new) ≡ plainly w (verdict nothing_told place pid (op.WriteFd fd new) w.frame)
+write_none : (w : World) (place pid fd : ℕ) (new : List ℕ) → behind w.frame pid fd ≡ None
+    → step w place pid (op.WriteFd fd new) ≡ plainly w (verdict nothing_told place pid (op.WriteFd fd new) w.frame)
 unfolding step answer told told_of_write write_answer
 write_none w place pid fd new none = rw none refl
 
@@ -35,7 +36,8 @@ unfolding write_answer
 unwritten w new e (reply.Number k) g not = absurd (not k refl)
 unwritten w new e _ g not = refl
 
-was_written : (w : World) (new : List ℕ) (e : OpenFile) (r : Reply) (g : Frame) (k : ℕ) → r ≡ reply.Number k → write_answer w new (Some e) r g ≡ edited w g (reply.Number (length new)) [] (after_write w.frame e new)
+was_written : (w : World) (new : List ℕ) (e : OpenFile) (r : Reply) (g : Frame) (k : ℕ) → r ≡ reply.Number k
+    → write_answer w new (Some e) r g ≡ edited w g (reply.Number (length new)) [] (after_write w.frame e new)
 unfolding write_answer
 was_written w new e r g k is = rw is refl
 
@@ -75,7 +77,8 @@ module _ (a : Around) (t u : Parts) (ps qs : List (Option Process)) (fd : ℕ) (
         ∙ ap (λ c. told_of_write (frame_of a t ps) c (length new) (Some e)) (content_same a t u ps qs kept)
         ∙ sym is ∙ (λ i. record { too_big = big i; full = full i; no_space = space i; empty = empty i })
 
-    pub answers_write : (v : Parts) (k : ℕ) (buf : List ℕ) → r ≡ reply.Number k → frame_of a v qs ≡ frame_of a u qs → (world_of a v qs).content ≡ after_write (frame_of a u qs) e new (world_of a u qs).content
+    pub answers_write : (v : Parts) (k : ℕ) (buf : List ℕ) → r ≡ reply.Number k → frame_of a v qs ≡ frame_of a u qs
+        → (world_of a v qs).content ≡ after_write (frame_of a u qs) e new (world_of a u qs).content
         → Answers (step (world_of a t ps) a.place a.pid (op.WriteFd fd new)) (world_of a v qs) (reply.Number (length new)) buf buf
     answers_write v k buf number same moved =
         answers_edited a t u ps qs (op.WriteFd fd new) m refl sound kept stands v (reply.Number (length new)) [] buf buf (after_write (frame_of a t ps) e new)

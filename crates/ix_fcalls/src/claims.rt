@@ -3,8 +3,8 @@ ghost use Rattle.ix_model.specs.rows.Walks.{node};
 ghost use Rattle.ix_model.specs.world.World.{claimed_by, is_pipe};
 ghost use Rattle.ix_fcalls.specs.Claiming.{Claims, Unclaims};
 
-use crate::open_file::OpenFile;
 use crate::files::Files;
+use crate::open_file::OpenFile;
 use ix_model::{Caller, Fd, Pid, Refusal};
 use ix_pipe::Claim;
 

@@ -14,16 +14,20 @@ ghost use Rattle.ix_fcalls.specs.Counted.{IsCounted};
 ghost use Rattle.ix_fcalls.specs.Views.{behind_of};
 ghost use Rattle.ix_fcalls.specs.Remaining.{Leaves};
 
-use crate::open_file::OpenFile;
+use crate::caller_in::{CallerIn, Others};
 use crate::files::Files;
-use crate::caller_in::{Others, CallerIn};
+use crate::open_file::OpenFile;
 use ix_model::{Fd, Refusal, Reply};
 
 /// What is given up: a descriptor, and what it alone kept.
 impl Files {
     /// CloseFd: the descriptor is free, and what it alone kept is gone.
     #[tactic(auto, unfolding(ix_model::specs::rows::Rows::coding, ix_model::specs::rows::Walks::opened, ix_model::specs::rows::OnDescriptors::close_fd))]
-    pub(crate) fn close_fd<R: Others>(&mut self, who: &mut CallerIn<R>, fd: Fd) -> Result<Reply, Refusal>
+    pub(crate) fn close_fd<R: Others>(
+        &mut self,
+        who: &mut CallerIn<R>,
+        fd: Fd,
+    ) -> Result<Reply, Refusal>
         requires sound { Sound (world_of R.rest self.old who.old) }
         requires counted { IsCounted self.old who.old }
         ensures row { RowIs result (frame_of R.rest self.new who.new) (close_fd R.rest.pid fd.0 (frame_of R.rest self.old who.old)) }

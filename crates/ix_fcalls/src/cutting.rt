@@ -15,10 +15,10 @@ ghost use Rattle.ix_fcalls.specs.Views.{behind_of};
 ghost use Rattle.ix_fcalls.specs.Serving.{Serves};
 ghost use Rattle.ix_fcalls.specs.Telling.{told_of};
 
-use crate::open_file::OpenFile;
+use crate::caller_in::{CallerIn, Others};
 use crate::files::Files;
-use crate::length_checks::{NOTHING_TOLD, LengthChecks};
-use crate::caller_in::{Others, CallerIn};
+use crate::length_checks::{LengthChecks, NOTHING_TOLD};
+use crate::open_file::OpenFile;
 use ix_label::{Label, Steps};
 use ix_model::{Call, Fd, Mode, Refusal, Reply};
 use std::sync::ledger::Ledger;

@@ -7,9 +7,9 @@ ghost use Rattle.ix_model.specs.world.World.{at, change, is_pipe, held, claimed_
 ghost use Rattle.ix_fcalls.specs.Around.{world_of};
 ghost use Rattle.ix_fcalls.specs.Views.{behind_of};
 
-use crate::open_file::OpenFile;
+use crate::caller_in::{CallerIn, Others};
 use crate::files::Files;
-use crate::caller_in::{Others, CallerIn};
+use crate::open_file::OpenFile;
 use ix_label::{Label, Steps};
 use std::sync::ledger::Ledger;
 

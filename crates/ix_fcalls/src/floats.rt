@@ -6,8 +6,8 @@ ghost use Rattle.ix_model.specs.world.Owners.{names_in_all};
 ghost use Rattle.ix_fcalls.specs.Around.{frame_of};
 ghost use Rattle.ix_fcalls.specs.Counted.{IsCounted, Keeps};
 
+use crate::caller_in::{CallerIn, Others};
 use crate::files::Files;
-use crate::caller_in::{Others, CallerIn};
 use ix_label::{Label, Steps};
 use ix_model::Refusal;
 use std::sync::ledger::Ledger;

@@ -10,8 +10,8 @@ ghost use Rattle.ix_fcalls.specs.Calling.{IsCalling};
 ghost use Rattle.ix_fcalls.specs.Counted.{IsCounted};
 ghost use Rattle.ix_fcalls.specs.Remaining.{Leaves};
 
+use crate::caller_in::{CallerIn, Others};
 use crate::files::Files;
-use crate::caller_in::{Others, CallerIn};
 use ix_model::{Caller, Fd};
 use std::marker::Brand;
 

@@ -1,7 +1,7 @@
 //! The calls on files: paths, descriptors and pipes, over the tables.
 #![tactic(auto)]
 
-mod open_file;
+mod caller_in;
 mod claims;
 mod closing;
 mod cutting;
@@ -10,19 +10,19 @@ mod files;
 mod floats;
 mod going;
 mod leaving;
+mod length_checks;
 mod looking;
 mod making;
 mod moved;
+mod open_file;
 mod opening;
 mod reading;
 mod spots;
 mod taking;
-mod length_checks;
 mod turn;
 mod unmaking;
 mod views;
 mod walks;
-mod caller_in;
 mod writing;
 
 pub use files::Files;

@@ -6,8 +6,8 @@ ghost use Rattle.ix_fcalls.specs.Around.{frame_of, world_of};
 ghost use Rattle.ix_fcalls.specs.Counted.{IsCounted, Keeps};
 ghost use Rattle.ix_model.specs.world.Paths.{path_of};
 
+use crate::caller_in::{CallerIn, Others};
 use crate::files::Files;
-use crate::caller_in::{Others, CallerIn};
 use ix_label::Steps;
 use ix_model::{Kind, Obj, Path, Refusal, Reply};
 use std::sync::ledger::Ledger;

@@ -7,8 +7,8 @@ ghost use Rattle.ix_fcalls.specs.Around.{frame_of, world_of};
 ghost use Rattle.ix_fcalls.specs.Claiming.{entry_of};
 ghost use Rattle.ix_fcalls.specs.Views.{behind_of};
 
+use crate::caller_in::{CallerIn, Others};
 use crate::files::Files;
-use crate::caller_in::{Others, CallerIn};
 use ix_label::Label;
 use ix_model::{Caller, Fd, Mode};
 

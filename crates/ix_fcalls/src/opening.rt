@@ -9,8 +9,8 @@ ghost use Rattle.ix_fcalls.specs.Around.{frame_of, world_of};
 ghost use Rattle.ix_fcalls.specs.Counted.{IsCounted, IsClear, Keeps, has_free, free_beside};
 ghost use Rattle.ix_model.specs.world.Paths.{path_of};
 
+use crate::caller_in::{CallerIn, Others, free_fd};
 use crate::files::Files;
-use crate::caller_in::{Others, CallerIn, free_fd};
 use ix_label::Steps;
 use ix_model::{Fd, Kind, Mode, Path, Refusal, Reply};
 use std::sync::ledger::Ledger;
@@ -19,7 +19,11 @@ use std::sync::ledger::Ledger;
 impl Files {
     /// DupFd: the caller's lowest free descriptor shares the open entry.
     #[tactic(auto, using(crate::proofs::Giving::giving), unfolding(ix_model::specs::rows::Rows::coding, ix_model::specs::rows::Walks::opened, ix_model::specs::rows::OnDescriptors::dup_fd))]
-    pub(crate) fn dup_fd<R: Others>(&mut self, who: &mut CallerIn<R>, fd: Fd) -> Result<Reply, Refusal>
+    pub(crate) fn dup_fd<R: Others>(
+        &mut self,
+        who: &mut CallerIn<R>,
+        fd: Fd,
+    ) -> Result<Reply, Refusal>
         requires sound { Sound (world_of R.rest self.old who.old) }
         requires counted { IsCounted self.old who.old }
         requires few { self.old.limits.procs ≤ 1024 }
@@ -130,7 +134,13 @@ impl Files {
 
     /// Two new entries on the ends of a pipe under two free descriptors of the caller; the numbers of the entries.
     #[tactic(auto, using(crate::proofs::Ends::ends))]
-    fn open_both<R: Others>(&mut self, who: &mut CallerIn<R>, a: usize, b: usize, pipe: u32) -> (u32, u32)
+    fn open_both<R: Others>(
+        &mut self,
+        who: &mut CallerIn<R>,
+        a: usize,
+        b: usize,
+        pipe: u32,
+    ) -> (u32, u32)
         requires counted { IsCounted self.old who.old }
         requires clear { IsClear self.old }
         requires object { pipe < length self.old.objects }

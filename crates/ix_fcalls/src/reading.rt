@@ -21,11 +21,11 @@ ghost use Rattle.ix_fcalls.specs.Moving.{reply_of};
 ghost use Rattle.ix_fcalls.specs.Serving.{Serves};
 ghost use Rattle.ix_fcalls.specs.Telling.{told_of};
 
-use crate::open_file::OpenFile;
+use crate::caller_in::{CallerIn, Others};
 use crate::files::Files;
+use crate::length_checks::{LengthChecks, NOTHING_TOLD};
 use crate::moved::Moved;
-use crate::length_checks::{NOTHING_TOLD, LengthChecks};
-use crate::caller_in::{Others, CallerIn};
+use crate::open_file::OpenFile;
 use ix_label::Steps;
 use ix_model::{Buf, Call, Fd, Mode, Refusal, Reply};
 use ix_tables::ObjectRow;
@@ -169,7 +169,13 @@ impl Files {
 
     /// Reads what there is behind an open entry, up to the count, into the front of the buffer, and answers how many bytes
     /// that is. They leave a pipe; a file's offset moves past them.
-    fn read_bytes<R: Others>(&mut self, who: &CallerIn<R>, e: &OpenFile, count: u32, buf: &mut Buf) -> u32
+    fn read_bytes<R: Others>(
+        &mut self,
+        who: &CallerIn<R>,
+        e: &OpenFile,
+        count: u32,
+        buf: &mut Buf,
+    ) -> u32
         requires serves { Serves self.old e.now }
         requires few { count ≤ 4096 }
         requires counted { IsCounted self.old who.now }

@@ -12,10 +12,10 @@ ghost use Rattle.ix_fcalls.specs.Moving.{reply_of};
 ghost use Rattle.ix_fcalls.specs.Tested.{IsKnown};
 ghost use Rattle.ix_fcalls.specs.Telling.{FileThere, TellsOfFile, size_told, told_of, with_size};
 
+use crate::caller_in::{CallerIn, Others};
 use crate::files::Files;
+use crate::length_checks::{LengthChecks, NOTHING_TOLD};
 use crate::moved::Moved;
-use crate::length_checks::{NOTHING_TOLD, LengthChecks};
-use crate::caller_in::{Others, CallerIn};
 use ix_label::Steps;
 use ix_model::{Buf, Call, Caller, Kind, Obj, Refusal, Reply};
 use std::sync::ledger::Ledger;
@@ -194,7 +194,12 @@ impl Files {
     }
 
     /// A read or a write where a look at the labels would change none.
-    fn answer_known<R: Others>(&mut self, who: &CallerIn<R>, call: &Call<'_>, buf: &mut Buf) -> Moved
+    fn answer_known<R: Others>(
+        &mut self,
+        who: &CallerIn<R>,
+        call: &Call<'_>,
+        buf: &mut Buf,
+    ) -> Moved
         requires known { IsKnown (frame_of R.rest self.old who.now) R.rest.pid (op_of call.now) }
         requires sound { Sound (world_of R.rest self.old who.now) }
         requires counted { IsCounted self.old who.now }

@@ -13,9 +13,9 @@ ghost use Rattle.ix_fcalls.specs.Counted.{IsCounted};
 ghost use Rattle.ix_model.specs.world.NameRefs.{name_of};
 ghost use Rattle.ix_model.specs.world.Paths.{path_of};
 
+use crate::caller_in::{CallerIn, Others};
 use crate::files::Files;
 use crate::making::{fs_number, last_name};
-use crate::caller_in::{Others, CallerIn};
 use ix_label::{Label, Steps};
 use ix_model::{Kind, NameRef, Path, Refusal, Reply};
 use std::sync::ledger::Ledger;

@@ -9,8 +9,8 @@ ghost use Rattle.ix_fcalls.specs.Counted.{IsCounted};
 ghost use Rattle.ix_fcalls.specs.Views.{NamedWell, sought_of, spot_of, seen_of, seen_in};
 ghost use Rattle.ix_model.specs.world.Paths.{names_left, path_of};
 
+use crate::caller_in::{CallerIn, Others};
 use crate::files::Files;
-use crate::caller_in::{Others, CallerIn};
 use ix_label::{Label, Steps};
 use ix_model::{Caller, Names, Obj, Path, Refusal};
 use ix_tables::ObjectRow;
@@ -203,7 +203,11 @@ impl Files {
 
     /// The directory that lacks the last name of a walk, which must have found nothing under it.
     #[tactic(auto, unfolding(ix_model::specs::rows::Rows::coding, ix_model::specs::rows::Walks::vacant))]
-    pub(crate) fn vacant<R: Others>(&self, who: &CallerIn<R>, walked: Outcome) -> Result<u32, Refusal>
+    pub(crate) fn vacant<R: Others>(
+        &self,
+        who: &CallerIn<R>,
+        walked: Outcome,
+    ) -> Result<u32, Refusal>
         ensures named { (n : ℕ) → NamedWell walked n → OnOk result (0 < n) }
         ensures row { RowIs result (frame_of R.rest self.now who.now) (vacant (sought_of walked) (frame_of R.rest self.now who.now)) }
     {

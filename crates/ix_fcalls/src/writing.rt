@@ -21,11 +21,11 @@ ghost use Rattle.ix_fcalls.specs.Moving.{reply_of};
 ghost use Rattle.ix_fcalls.specs.Serving.{Serves};
 ghost use Rattle.ix_fcalls.specs.Telling.{told_of};
 
-use crate::open_file::OpenFile;
+use crate::caller_in::{CallerIn, Others};
 use crate::files::Files;
+use crate::length_checks::{LengthChecks, NOTHING_TOLD};
 use crate::moved::Moved;
-use crate::length_checks::{NOTHING_TOLD, LengthChecks};
-use crate::caller_in::{Others, CallerIn};
+use crate::open_file::OpenFile;
 use ix_label::Steps;
 use ix_model::{Call, Fd, Mode, Refusal, Reply};
 use ix_tables::ObjectRow;
@@ -101,7 +101,12 @@ impl Files {
     }
 
     /// The tests of WriteFd where a look at the labels would change none: all but that look.
-    fn write_fd_known<R: Others>(&self, told: LengthChecks, who: &CallerIn<R>, fd: Fd) -> Result<(), Refusal>
+    fn write_fd_known<R: Others>(
+        &self,
+        told: LengthChecks,
+        who: &CallerIn<R>,
+        fd: Fd,
+    ) -> Result<(), Refusal>
         requires sound { Sound (world_of R.rest self.now who.now) }
         requires known { Known Writing (frame_of R.rest self.now who.now) R.rest.pid fd.0 }
         ensures row { RowMeans (λ u. write_passed) result (frame_of R.rest self.now who.now) (write_fd (told_of told) R.rest.pid fd.0 (frame_of R.rest self.now who.now)) }
@@ -111,7 +116,12 @@ impl Files {
     }
 
     /// What the lengths tell of a write to a file.
-    fn told_of_file_write<R: Others>(&self, who: &CallerIn<R>, e: &OpenFile, n: usize) -> LengthChecks
+    fn told_of_file_write<R: Others>(
+        &self,
+        who: &CallerIn<R>,
+        e: &OpenFile,
+        n: usize,
+    ) -> LengthChecks
         requires serves { Serves self.now e.now }
         requires file { option_map_or is_pipe (at self.now.objects e.now.object) false ≡ false }
         ensures { told_of result ≡ told_of_file_write (frame_of R.rest self.now who.now) (world_of R.rest self.now who.now).content (behind_of e.now) n }
@@ -195,7 +205,12 @@ impl Files {
     }
 
     /// A write where a look at the labels would change none: its tests, and then the bytes.
-    pub(crate) fn write_known<R: Others>(&mut self, who: &CallerIn<R>, fd: Fd, bytes: &[u8]) -> Moved
+    pub(crate) fn write_known<R: Others>(
+        &mut self,
+        who: &CallerIn<R>,
+        fd: Fd,
+        bytes: &[u8],
+    ) -> Moved
         requires sound { Sound (world_of R.rest self.old who.now) }
         requires counted { IsCounted self.old who.now }
         requires known { Known Writing (frame_of R.rest self.old who.now) R.rest.pid fd.0 }

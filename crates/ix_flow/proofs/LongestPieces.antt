@@ -52,7 +52,8 @@ one_piece (suc c) n (x ∷ []) some joined apart = absurd (omega (arith, some))
 one_piece zero n (x ∷ y ∷ xs) some joined apart =
     let first = piece_first (suc n) y xs in
     ap (in_front n x) first.is
-    ∙ ap (λ b. if b then record { first = n; count = suc first.count; origin = x } ∷ first.rest else record { first = n; count = 1; origin = x } ∷ record { first = suc n; count = first.count; origin = y } ∷ first.rest)
+    ∙ ap (λ b. if b then record { first = n; count = suc first.count; origin = x } ∷ first.rest else record { first = n; count = 1; origin = x }
+    ∷ record { first = suc n; count = first.count; origin = y } ∷ first.rest)
     (apart (omega arith))
     ∙ ap (λ pieces. record { first = n; count = 1; origin = x } ∷ pieces) (sym first.is ∙ ap (λ k. pieces_from k (y ∷ xs)) (let z : suc n ≡ n + 1 = omega arith in z))
 one_piece (suc c) n (x ∷ y ∷ xs) some joined apart =

@@ -1,5 +1,6 @@
 -- What is known of fresh descriptors, and what keeps them so.
-use Rattle.std.proofs.Common.{◌≡◌, ◌==◌, ◌+◌, ◌++◌, length, arith, ◌&&◌, ◌||◌, not, ℕ, suc, Bool, true, false, true≢false, List, [], ◌∷◌, Option, Some, None, is_some, option_map, refl, sym, ap, ◌∙◌, subst, inl, inr}
+use Rattle.std.proofs.Common.{◌≡◌, ◌==◌, ◌+◌, ◌++◌, length, arith, ◌&&◌, ◌||◌, not, ℕ, suc, Bool, true, false, true≢false, List, [], ◌∷◌, Option}
+use Rattle.std.proofs.Common.{Some, None, is_some, option_map, refl, sym, ap, ◌∙◌, subst, inl, inr}
 use Rattle.std.proofs.lemmas.Bool.{and_parts, and_right, or_cases, eqb-true, not-true, not-false}
 use Rattle.ix_label.specs.Category.{Categories, bottom, leq, same}
 use Rattle.ix_label.specs.Lattice.{same-decides, join-least}
@@ -96,11 +97,13 @@ module _ (w : World) (s : Sound w) (place : ℕ) (seat line pid : ℕ) where
         taken_in = λ file. facts.taken_in (sym pipes ∙ file) r.entry r.stands;
       }
 
-  read_refreshes : (fd d count : ℕ) (r : Reply) → (step w place pid (op.ReadFd d count)).reply ≡ r → refreshes Reading fd (op.ReadFd d count) r ≡ true → Known Reading (step w place pid (op.ReadFd d count)).world.frame pid fd
+  read_refreshes : (fd d count : ℕ) (r : Reply) → (step w place pid (op.ReadFd d count)).reply ≡ r → refreshes Reading fd (op.ReadFd d count) r ≡ true
+      → Known Reading (step w place pid (op.ReadFd d count)).world.frame pid fd
   read_refreshes fd d count (reply.Bytes k) is h = subst (λ (n : ℕ). Known Reading (step w place pid (op.ReadFd d count)).world.frame pid n) (eqb-true d fd h) (read_leaves d count k is)
   read_refreshes fd d count _ is h = cc
 
-  write_refreshes : (fd d : ℕ) (bytes : List ℕ) (r : Reply) → (step w place pid (op.WriteFd d bytes)).reply ≡ r → refreshes Writing fd (op.WriteFd d bytes) r ≡ true → Known Writing (step w place pid (op.WriteFd d bytes)).world.frame pid fd
+  write_refreshes : (fd d : ℕ) (bytes : List ℕ) (r : Reply) → (step w place pid (op.WriteFd d bytes)).reply ≡ r
+      → refreshes Writing fd (op.WriteFd d bytes) r ≡ true → Known Writing (step w place pid (op.WriteFd d bytes)).world.frame pid fd
   write_refreshes fd d bytes (reply.Number k) is h = subst (λ (n : ℕ). Known Writing (step w place pid (op.WriteFd d bytes)).world.frame pid n) (eqb-true d fd h) (write_leaves d bytes k is)
   write_refreshes fd d bytes _ is h = cc
 
@@ -119,8 +122,14 @@ module _ (w : World) (s : Sound w) (place : ℕ) (e : Event) where
   after = (step_of w place e).world.frame
 
   -- whether the labels of a descriptor that stands were changed, by its numbers
-  relabels_there : (pid fd : ℕ) (b : OpenFile) → behind w.frame pid fd ≡ Some b → relabels w.frame after pid fd ≡ not (same (of_process (λ p. p.label) bottom w.frame pid) (of_process (λ p. p.label) bottom after pid) && same (label_at w.frame (Some b.entry.object)) (label_at after (Some b.entry.object)) && same (label_of_entry w.frame (Some b.id)) (label_of_entry after (Some b.id)))
-  relabels_there pid fd b is = ap (λ (x : Option OpenFile). not (same (of_process (λ p. p.label) bottom w.frame pid) (of_process (λ p. p.label) bottom after pid) && same (label_at w.frame (option_map (λ y. y.entry.object) x)) (label_at after (option_map (λ y. y.entry.object) x)) && same (label_through w.frame x) (label_through after x))) is
+  relabels_there : (pid fd : ℕ) (b : OpenFile) → behind w.frame pid fd ≡ Some b
+      → relabels w.frame after pid fd ≡ not (same (of_process (λ p. p.label) bottom w.frame pid) (of_process (λ p. p.label) bottom after pid)
+      && same (label_at w.frame (Some b.entry.object)) (label_at after (Some b.entry.object))
+      && same (label_of_entry w.frame (Some b.id)) (label_of_entry after (Some b.id)))
+  relabels_there pid fd b is =
+      ap (λ (x : Option OpenFile). not (same (of_process (λ p. p.label) bottom w.frame pid) (of_process (λ p. p.label) bottom after pid)
+      && same (label_at w.frame (option_map (λ y. y.entry.object) x)) (label_at after (option_map (λ y. y.entry.object) x))
+      && same (label_through w.frame x) (label_through after x))) is
 
   stays_known : (way : Way) (pid fd : ℕ) → is_closed w place e pid fd ≡ false → relabels w.frame after pid fd ≡ false → Known way w.frame pid fd → Known way after pid fd
   stays_known way pid fd kept still k =
@@ -156,10 +165,13 @@ module _ (w : World) (s : Sound w) (place : ℕ) (e : Event) where
         stays_known way pid fd (not-true _ first.1) (not-true _ both.1) (known first.0)
   ]
 
-fresh_known : (w : World) (place : ℕ) (events : List Event) (pid fd : ℕ) (way : Way) (was : Bool) → Sound w → (was ≡ true → Known way w.frame pid fd) → fresh_from was w place events pid fd way ≡ true → Known way (run w place events).frame pid fd
+fresh_known : (w : World) (place : ℕ) (events : List Event) (pid fd : ℕ) (way : Way) (was : Bool) → Sound w → (was ≡ true → Known way w.frame pid fd)
+    → fresh_from was w place events pid fd way ≡ true → Known way (run w place events).frame pid fd
 unfolding fresh_from
 fresh_known w place [] pid fd way was s known h = known h
-fresh_known w place (e ∷ events) pid fd way was s known h = fresh_known (step_of w place e).world (suc place) events pid fd way _ (sound_step w place e.pid e.op s) (λ fresh. known_after w s place e pid fd way was known fresh) h
+fresh_known w place (e ∷ events) pid fd way was s known h =
+    fresh_known (step_of w place e).world (suc place) events pid fd way _ (sound_step w place e.pid e.op s)
+    (λ fresh. known_after w s place e pid fd way was known fresh) h
 
 pub fresh_is_known : (w : World) (events : List Event) (pid fd : ℕ) (way : Way) → Sound w → is_fresh w events pid fd way ≡ true → Known way (run w 1 events).frame pid fd
 unfolding is_fresh
@@ -188,7 +200,8 @@ module _ (w : World) (s : Sound w) (place : ℕ) (e : Event) where
   abbrev next : Frame
   next = (step_of w place e).world.frame
 
-  pub relabels_as_touched : (pid fd : ℕ) (b : OpenFile) → behind w.frame pid fd ≡ Some b → is_closed w place e pid fd ≡ false → relabels w.frame next pid fd ≡ touches w.frame e next pid (Some b.entry.object) (Some b.id)
+  pub relabels_as_touched : (pid fd : ℕ) (b : OpenFile) → behind w.frame pid fd ≡ Some b → is_closed w place e pid fd ≡ false
+      → relabels w.frame next pid fd ≡ touches w.frame e next pid (Some b.entry.object) (Some b.id)
   relabels_as_touched pid fd b is kept =
       let l = labels_stay_but w s place e pid fd b is kept in
       let t = target w.frame e.pid e.op in
@@ -203,31 +216,43 @@ module _ (w : World) (s : Sound w) (place : ℕ) (e : Event) where
       ∙ not_all _ _ _
       ∙ (λ i. process i || object i || entry i)
 
-  stays_fresh : (pid fd : ℕ) (b : Option OpenFile) → behind w.frame pid fd ≡ b → (was : Bool) → (was ≡ true → is_some b ≡ true) → (closed : Bool) → is_closed w place e pid fd ≡ closed → (was && not closed && not (relabels w.frame next pid fd)) ≡ (was && not closed && not (touches w.frame e next pid (option_map (λ y. y.entry.object) b) (option_map (λ y. y.id) b)))
+  stays_fresh : (pid fd : ℕ) (b : Option OpenFile) → behind w.frame pid fd ≡ b → (was : Bool) → (was ≡ true → is_some b ≡ true) → (closed : Bool)
+      → is_closed w place e pid fd ≡ closed → (was && not closed && not (relabels w.frame next pid fd))
+      ≡ (was && not closed && not (touches w.frame e next pid (option_map (λ y. y.entry.object) b) (option_map (λ y. y.id) b)))
   stays_fresh pid fd b is false there closed shut = refl
   stays_fresh pid fd b is true there true shut = refl
   stays_fresh pid fd None is true there false shut = absurd (true≢false (sym (there refl)))
   stays_fresh pid fd (Some b) is true there false shut = ap not (relabels_as_touched pid fd b is shut)
 
-pub freshness_by_touch : (w : World) (place : ℕ) (e : Event) (pid fd : ℕ) (way : Way) (was : Bool) → Sound w → (was ≡ true → is_some (behind w.frame pid fd) ≡ true) → fresh_after w e (step_of w place e) pid fd way was ≡ fresh_by_touch w place e pid fd way was
-freshness_by_touch w place e pid fd way was s there = ap (λ x. e.pid == pid && refreshes way fd e.op (step_of w place e).reply || x) (stays_fresh w s place e pid fd (behind w.frame pid fd) refl was there (is_closed w place e pid fd) refl)
+pub freshness_by_touch : (w : World) (place : ℕ) (e : Event) (pid fd : ℕ) (way : Way) (was : Bool) → Sound w
+    → (was ≡ true → is_some (behind w.frame pid fd) ≡ true) → fresh_after w e (step_of w place e) pid fd way was ≡ fresh_by_touch w place e pid fd way was
+freshness_by_touch w place e pid fd way was s there =
+    ap (λ x. e.pid == pid && refreshes way fd e.op (step_of w place e).reply || x) (stays_fresh w s place e pid fd (behind w.frame pid fd) refl was there
+    (is_closed w place e pid fd) refl)
 
 -- ---- along a history
 -- with one entry more
-fresh_push : (was : Bool) (w : World) (place : ℕ) (events : List Event) (e : Event) (pid fd : ℕ) (way : Way) → fresh_from was w place (events ++ e ∷ []) pid fd way ≡ fresh_after (run w place events) e (step_of (run w place events) (length events + place) e) pid fd way (fresh_from was w place events pid fd way)
+fresh_push : (was : Bool) (w : World) (place : ℕ) (events : List Event) (e : Event) (pid fd : ℕ) (way : Way)
+    → fresh_from was w place (events ++ e ∷ []) pid fd way ≡ fresh_after (run w place events) e (step_of (run w place events) (length events + place) e) pid fd
+    way (fresh_from was w place events pid fd way)
 unfolding fresh_from
 fresh_push was w place [] e pid fd way = ap (λ n. fresh_after w e (step_of w n e) pid fd way was) (let z : place ≡ 0 + place = omega arith in z)
 fresh_push was w place (x ∷ events) e pid fd way =
     let first : Bool = fresh_after w x (step_of w place x) pid fd way was in
     let v : World = (step_of w place x).world in
     fresh_push first v (suc place) events e pid fd way
-    ∙ ap (λ n. fresh_after (run v (suc place) events) e (step_of (run v (suc place) events) n e) pid fd way (fresh_from first v (suc place) events pid fd way)) (let z : length events + suc place ≡ suc (length events) + place = omega arith in z)
+    ∙ ap (λ n. fresh_after (run v (suc place) events) e (step_of (run v (suc place) events) n e) pid fd way (fresh_from first v (suc place) events pid fd way))
+    (let z : length events + suc place ≡ suc (length events) + place = omega arith in z)
 
-pub fresh_more : (w : World) (events : List Event) (e : Event) (pid fd : ℕ) (way : Way) → is_fresh w (events ++ e ∷ []) pid fd way ≡ fresh_after (run w 1 events) e (step_of (run w 1 events) (length events + 1) e) pid fd way (is_fresh w events pid fd way)
+pub fresh_more : (w : World) (events : List Event) (e : Event) (pid fd : ℕ) (way : Way)
+    → is_fresh w (events ++ e ∷ []) pid fd way ≡ fresh_after (run w 1 events) e (step_of (run w 1 events) (length events + 1) e) pid fd way
+    (is_fresh w events pid fd way)
 unfolding is_fresh
 fresh_more w events e pid fd way = fresh_push false w 1 events e pid fd way
 
-pub fresh_along : (w : World) (events : List Event) (e : Event) (pid fd : ℕ) (way : Way) → Sound w → is_fresh w (events ++ e ∷ []) pid fd way ≡ fresh_by_touch (run w 1 events) (length events + 1) e pid fd way (is_fresh w events pid fd way)
+pub fresh_along : (w : World) (events : List Event) (e : Event) (pid fd : ℕ) (way : Way) → Sound w
+    → is_fresh w (events ++ e ∷ []) pid fd way ≡ fresh_by_touch (run w 1 events) (length events + 1) e pid fd way (is_fresh w events pid fd way)
 fresh_along w events e pid fd way s =
     fresh_more w events e pid fd way
-    ∙ freshness_by_touch (run w 1 events) (length events + 1) e pid fd way (is_fresh w events pid fd way) (sound_run w 1 events s) (λ fresh. ap is_some (fresh_is_known w events pid fd way s fresh).is_behind)
+    ∙ freshness_by_touch (run w 1 events) (length events + 1) e pid fd way (is_fresh w events pid fd way) (sound_run w 1 events s)
+    (λ fresh. ap is_some (fresh_is_known w events pid fd way s fresh).is_behind)

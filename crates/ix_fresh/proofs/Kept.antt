@@ -73,7 +73,8 @@ module _ (f : Frame) (pid : ℕ) (c : Op) where
       kept : Kept f pid (target f pid c) (entry_target f pid c) gone f
       kept = kept_itself f pid (target f pid c) (entry_target f pid c) gone
 
-  settled_kept : (o : Outcome Reply) → Ends o (λ r g. Relabelled pid f g) (λ a g. is_answer a ≡ true) → Ends o Anything (λ a g. Gives c a) → Holds o (KeptBy f pid c) → KeptAs f pid c (settled f o).reply (settled f o).frame
+  settled_kept : (o : Outcome Reply) → Ends o (λ r g. Relabelled pid f g) (λ a g. is_answer a ≡ true) → Ends o Anything (λ a g. Gives c a)
+      → Holds o (KeptBy f pid c) → KeptAs f pid c (settled f o).reply (settled f o).frame
   unfolding Ends Holds
   settled_kept (Refuse r g) relabels gives k = go (keeps_label r)
     where

@@ -21,7 +21,8 @@ looks_at_nothing : (f : Frame) (pid : ℕ) (p : Process) (seen : Categories) →
 unfolding observe rows.◌>>=◌ rows.on_pass rows.process rows.some rows.only_if rows.pass
 looks_at_nothing f pid p seen lives low = rw (lives, adds_nothing seen p.label low) refl
 
-affects_nothing : (f : Frame) (pid o : ℕ) (p : Process) (x : Object) (through : Categories) → living (at f.processes pid) ≡ Some p → at f.objects o ≡ Some x → leq (join p.label through) x.label ≡ true → affect pid o through f ≡ Pass tt f
+affects_nothing : (f : Frame) (pid o : ℕ) (p : Process) (x : Object) (through : Categories) → living (at f.processes pid) ≡ Some p → at f.objects o ≡ Some x
+    → leq (join p.label through) x.label ≡ true → affect pid o through f ≡ Pass tt f
 unfolding affect rows.◌>>=◌ rows.on_pass rows.process rows.object rows.frame rows.some rows.only_if rows.pass
 affects_nothing f pid o p x through lives is low = rw (lives, is, adds_nothing (join p.label through) x.label low) refl
 
@@ -37,7 +38,8 @@ floats_nothing f p x b is taken = go (is_pipe x) taken
 
     go : (pipe : Bool) → (pipe ≡ false → leq p.label b.entry.label ≡ true) → only_if (not pipe) (change_open b.id joins) f ≡ Pass tt f
     go true taken = refl
-    go false taken = ap (λ t. Pass tt (record f { opens = t })) (change_same f.opens b.id joins (λ y here. subst (λ (z : Open). joins z ≡ z) (one_there (at f.opens b.id) b.entry y is here) (same_entry (taken refl))))
+    go false taken = ap (λ t. Pass tt (record f { opens = t }))
+        (change_same f.opens b.id joins (λ y here. subst (λ (z : Open). joins z ≡ z) (one_there (at f.opens b.id) b.entry y is here) (same_entry (taken refl))))
 
 looks_nothing : (way : Way) (f : Frame) (pid fd : ℕ) (k : Known way f pid fd) → look way pid k.object k.entry f ≡ Pass tt f
 looks_nothing Reading f pid fd k = looks_at_nothing f pid k.process _ k.lives k.level

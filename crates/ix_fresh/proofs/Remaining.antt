@@ -58,7 +58,8 @@ same_place : (x y : Open) → record y { label = bottom } ≡ record x { label =
 same_place x y h = ap (λ (z : Open). z.object) h
 
 module _ (w : World) (s : Sound w) (place : ℕ) (e : Event) where
-  pub remains : (pid fd : ℕ) (b : OpenFile) → behind w.frame pid fd ≡ Some b → is_closed w place e pid fd ≡ false → Remains (target w.frame e.pid e.op) (entry_target w.frame e.pid e.op) b w.frame (step_of w place e).world.frame pid fd
+  pub remains : (pid fd : ℕ) (b : OpenFile) → behind w.frame pid fd ≡ Some b → is_closed w place e pid fd ≡ false
+      → Remains (target w.frame e.pid e.op) (entry_target w.frame e.pid e.op) b w.frame (step_of w place e).world.frame pid fd
   remains pid fd b is kept =
       let f : Frame = w.frame in
       let g : Frame = (step_of w place e).world.frame in
@@ -143,8 +144,10 @@ module _ (w : World) (s : Sound w) (place : ℕ) (e : Event) where
             ∙ sym (entry_label f b.id b.entry r.stood);
       }
 
-pub descriptors_remain : (w : World) (place : ℕ) (e : Event) (pid fd : ℕ) (b : OpenFile) → Sound w → behind w.frame pid fd ≡ Some b → is_closed w place e pid fd ≡ false → Stays b w.frame (step_of w place e).world.frame pid fd
+pub descriptors_remain : (w : World) (place : ℕ) (e : Event) (pid fd : ℕ) (b : OpenFile) → Sound w → behind w.frame pid fd ≡ Some b
+    → is_closed w place e pid fd ≡ false → Stays b w.frame (step_of w place e).world.frame pid fd
 descriptors_remain w place e pid fd b s is kept = descriptor_stays w s place e pid fd b is kept
 
-pub labels_remain : (w : World) (place : ℕ) (e : Event) (pid fd : ℕ) (b : OpenFile) → Sound w → behind w.frame pid fd ≡ Some b → is_closed w place e pid fd ≡ false → LabelsStayBut b w.frame e (step_of w place e).world.frame pid
+pub labels_remain : (w : World) (place : ℕ) (e : Event) (pid fd : ℕ) (b : OpenFile) → Sound w → behind w.frame pid fd ≡ Some b
+    → is_closed w place e pid fd ≡ false → LabelsStayBut b w.frame e (step_of w place e).world.frame pid
 labels_remain w place e pid fd b s is kept = labels_stay_but w s place e pid fd b is kept

@@ -1,5 +1,6 @@
 -- The spots of fresh descriptors, along histories.
-use Rattle.std.proofs.Common.{◌≡◌, ◌==◌, ◌+◌, ◌++◌, length, arith, ◌&&◌, ◌||◌, not, ℕ, suc, Bool, true, false, true≢false, List, [], ◌∷◌, Option, Some, None, is_some, option_map, if◌then◌else◌, refl, sym, ap, ◌∙◌}
+use Rattle.std.proofs.Common.{◌≡◌, ◌==◌, ◌+◌, ◌++◌, length, arith, ◌&&◌, ◌||◌, not, ℕ, suc, Bool, true, false, true≢false, List, [], ◌∷◌, Option}
+use Rattle.std.proofs.Common.{Some, None, is_some, option_map, if◌then◌else◌, refl, sym, ap, ◌∙◌}
 use Rattle.std.proofs.lemmas.Bool.{and_parts, and_right, eqb-true}
 use Rattle.ix_model.specs.world.World.{World, Frame, Open}
 use Rattle.ix_model.specs.rows.Walks.{OpenFile, behind}
@@ -69,7 +70,10 @@ module _ (w : World) (s : Sound w) (place : ℕ) (e : Event) where
   left_out true false after was same stays = cc
   left_out false true after was same stays = cc
 
-  spot_cases : (pid fd : ℕ) (way : Way) (new : Bool) → (e.pid == pid && refreshes way fd e.op (step_of w place e).reply) ≡ new → (closed : Bool) → is_closed w place e pid fd ≡ closed → (b : Option OpenFile) → behind w.frame pid fd ≡ b → (was : Bool) → (was ≡ true → is_some b ≡ true) → (if new || was && not closed && not (relabels w.frame next pid fd) then spot_behind next pid fd else None) ≡ (if new then spot_behind w.frame pid fd else if closed then None else unless (λ t. touches w.frame e next pid (Some t.object) (Some t.entry)) (if was then option_map spot_of b else None))
+  spot_cases : (pid fd : ℕ) (way : Way) (new : Bool) → (e.pid == pid && refreshes way fd e.op (step_of w place e).reply) ≡ new → (closed : Bool)
+      → is_closed w place e pid fd ≡ closed → (b : Option OpenFile) → behind w.frame pid fd ≡ b → (was : Bool) → (was ≡ true → is_some b ≡ true)
+      → (if new || was && not closed && not (relabels w.frame next pid fd) then spot_behind next pid fd else None) ≡ (if new then spot_behind w.frame pid fd
+      else if closed then None else unless (λ t. touches w.frame e next pid (Some t.object) (Some t.entry)) (if was then option_map spot_of b else None))
   spot_cases pid fd way true new closed shut b is was there = refreshed_spot pid fd way new
   spot_cases pid fd way false new true shut b is false there = refl
   spot_cases pid fd way false new false shut b is false there = refl
@@ -77,7 +81,9 @@ module _ (w : World) (s : Sound w) (place : ℕ) (e : Event) where
   spot_cases pid fd way false new false shut None is true there = absurd (true≢false (sym (there refl)))
   spot_cases pid fd way false new false shut (Some b) is true there = left_out _ _ _ (spot_of b) (relabels_as_touched w s place e pid fd b is shut) (spot_stays pid fd b is shut)
 
-  spot_step : (pid fd : ℕ) (way : Way) (was : Bool) → (was ≡ true → is_some (behind w.frame pid fd) ≡ true) → (if fresh_after w e (step_of w place e) pid fd way was then spot_behind next pid fd else None) ≡ spot_after w place e pid fd way (if was then spot_behind w.frame pid fd else None)
+  spot_step : (pid fd : ℕ) (way : Way) (was : Bool) → (was ≡ true → is_some (behind w.frame pid fd) ≡ true)
+      → (if fresh_after w e (step_of w place e) pid fd way was then spot_behind next pid fd else None) ≡ spot_after w place e pid fd way (if was then
+      spot_behind w.frame pid fd else None)
   spot_step pid fd way was there = spot_cases pid fd way _ refl _ refl (behind w.frame pid fd) refl was there
 
 -- ---- a history
@@ -87,7 +93,8 @@ run_more w place (x ∷ events) e =
     run_more (step_of w place x).world (suc place) events e
     ∙ ap (λ n. (step_of (run (step_of w place x).world (suc place) events) n e).world) (let z : length events + suc place ≡ suc (length events) + place = omega arith in z)
 
-pub spots_along : (w : World) (events : List Event) (e : Event) (pid fd : ℕ) (way : Way) → Sound w → fresh_spot w (events ++ e ∷ []) pid fd way ≡ spot_after (run w 1 events) (length events + 1) e pid fd way (fresh_spot w events pid fd way)
+pub spots_along : (w : World) (events : List Event) (e : Event) (pid fd : ℕ) (way : Way) → Sound w
+    → fresh_spot w (events ++ e ∷ []) pid fd way ≡ spot_after (run w 1 events) (length events + 1) e pid fd way (fresh_spot w events pid fd way)
 spots_along w events e pid fd way s =
     (λ i. if fresh_more w events e pid fd way i then spot_behind (run_more w 1 events e i).frame pid fd else None)
     ∙ spot_step (run w 1 events) (sound_run w 1 events s) (length events + 1) e pid fd way (is_fresh w events pid fd way) (λ fresh. ap is_some (fresh_is_known w events pid fd way s fresh).is_behind)

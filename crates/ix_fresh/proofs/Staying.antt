@@ -77,7 +77,8 @@ free_second t d e x first second =
     ]
 
 -- ---- where a walk ends, it looked into a directory
-pub walk_lacks : (objects : List (Option Object)) (names : List (List ℕ)) (n : ℕ) (before : Option ℕ) (d : ℕ) → (walk_from objects n before names).outcome ≡ sought.Missing d → is_dir (node objects d) ≡ true
+pub walk_lacks : (objects : List (Option Object)) (names : List (List ℕ)) (n : ℕ) (before : Option ℕ) (d : ℕ)
+    → (walk_from objects n before names).outcome ≡ sought.Missing d → is_dir (node objects d) ≡ true
 walk_lacks objects [] n before d h = cc
 walk_lacks objects (name ∷ names) n before d h = go (is_dir (node objects n)) refl (child (node objects n) name) h (λ m k. walk_lacks objects names m (Some n) d k)
   where
@@ -88,14 +89,21 @@ walk_lacks objects (name ∷ names) n before d h = go (is_dir (node objects n)) 
     lacks dir [] k = let same : n ≡ d = cc in ap (λ m. is_dir (node objects m)) (sym same) ∙ dir
     lacks dir (r ∷ rest) k = cc
 
-    go : (b : Bool) → is_dir (node objects n) ≡ b → (c : Option ℕ) → (if b then looking_into (node objects n) (option_map_or (λ o. walk_from objects o (Some n) names) c (lacking n names)) else blocked).outcome ≡ sought.Missing d → ((m : ℕ) → (walk_from objects m (Some n) names).outcome ≡ sought.Missing d → is_dir (node objects d) ≡ true) → is_dir (node objects d) ≡ true
+    go : (b : Bool) → is_dir (node objects n) ≡ b → (c : Option ℕ)
+        → (if b then looking_into (node objects n) (option_map_or (λ o. walk_from objects o (Some n) names) c (lacking n names)) else blocked).outcome
+        ≡ sought.Missing d → ((m : ℕ) → (walk_from objects m (Some n) names).outcome ≡ sought.Missing d → is_dir (node objects d) ≡ true)
+        → is_dir (node objects d) ≡ true
     go false other c k on = cc
     go true dir None k on = lacks dir names k
     go true dir (Some m) k on = on m k
 
-pub walk_finds : (objects : List (Option Object)) (names : List (List ℕ)) (n : ℕ) (before : Option ℕ) (o d : ℕ) → ((m : ℕ) → before ≡ Some m → is_dir (node objects m) ≡ true) → (walk_from objects n before names).outcome ≡ sought.Found o (Some d) → is_dir (node objects d) ≡ true
+pub walk_finds : (objects : List (Option Object)) (names : List (List ℕ)) (n : ℕ) (before : Option ℕ) (o d : ℕ)
+    → ((m : ℕ) → before ≡ Some m → is_dir (node objects m) ≡ true) → (walk_from objects n before names).outcome ≡ sought.Found o (Some d)
+    → is_dir (node objects d) ≡ true
 walk_finds objects [] n before o d dirs h = let same : before ≡ Some d = cc in dirs d same
-walk_finds objects (name ∷ names) n before o d dirs h = go (is_dir (node objects n)) refl (child (node objects n) name) h (λ dir m k. walk_finds objects names m (Some n) o d (λ l is. let same : n ≡ l = cc in ap (λ i. is_dir (node objects i)) (sym same) ∙ dir) k)
+walk_finds objects (name ∷ names) n before o d dirs h =
+    go (is_dir (node objects n)) refl (child (node objects n) name) h (λ dir m k. walk_finds objects names m (Some n) o d (λ l is. let same : n ≡ l = cc in
+    ap (λ i. is_dir (node objects i)) (sym same) ∙ dir) k)
   where
     blocked : sought.Walk
     blocked = record { outcome = sought.NotDir; looked = [] }
@@ -104,7 +112,10 @@ walk_finds objects (name ∷ names) n before o d dirs h = go (is_dir (node objec
     lacks [] k = cc
     lacks (r ∷ rest) k = cc
 
-    go : (b : Bool) → is_dir (node objects n) ≡ b → (c : Option ℕ) → (if b then looking_into (node objects n) (option_map_or (λ o. walk_from objects o (Some n) names) c (lacking n names)) else blocked).outcome ≡ sought.Found o (Some d) → (is_dir (node objects n) ≡ true → (m : ℕ) → (walk_from objects m (Some n) names).outcome ≡ sought.Found o (Some d) → is_dir (node objects d) ≡ true) → is_dir (node objects d) ≡ true
+    go : (b : Bool) → is_dir (node objects n) ≡ b → (c : Option ℕ)
+        → (if b then looking_into (node objects n) (option_map_or (λ o. walk_from objects o (Some n) names) c (lacking n names)) else blocked).outcome
+        ≡ sought.Found o (Some d) → (is_dir (node objects n) ≡ true → (m : ℕ) → (walk_from objects m (Some n) names).outcome ≡ sought.Found o (Some d)
+        → is_dir (node objects d) ≡ true) → is_dir (node objects d) ≡ true
     go false other c k on = cc
     go true dir None k on = lacks names k
     go true dir (Some m) k on = on dir m k
@@ -165,7 +176,9 @@ module _ (f : Frame) (pid : ℕ) (to through : Option ℕ) (gone : ℕ → Bool)
       go (Some x) is = absurd (true≢false (sym (last.stays n (ap is_some is)) ∙ ap is_some free))
 
   new_here : (m g : Frame) (o : ℕ) (x : Object) → loses ≡ false → R m → at m.objects o ≡ None → R g → R (record g { objects = put g.objects o (Some x) })
-  new_here m g o x lasts was free r = with_objects g _ (both_new (SameObject to) f.objects g.objects o (Some x) (was_free f.objects m.objects o (was.objects_last lasts) free) r.kept.objects) (λ b. lasting_put f.objects g.objects o x (r.objects_last b)) r
+  new_here m g o x lasts was free r =
+      with_objects g _ (both_new (SameObject to) f.objects g.objects o (Some x) (was_free f.objects m.objects o (was.objects_last lasts) free) r.kept.objects)
+      (λ b. lasting_put f.objects g.objects o x (r.objects_last b)) r
 
   pub k_inode : loses ≡ false → (m : Frame) (o k : ℕ) (kind : Kind) → R m → free_inode m k ≡ Some o → Keeps R (put_object o (Some (new_object kind (Some k))))
   unfolding put_object Holds
@@ -185,11 +198,19 @@ module _ (f : Frame) (pid : ℕ) (to through : Option ℕ) (gone : ℕ → Bool)
 
   pub k_open : loses ≡ false → (m : Frame) (e : ℕ) (x : Open) → R m → lowest_free m.opens ≡ Some e → Keeps R (put_open e (Some x))
   unfolding put_open Holds
-  k_open lasts m e x was free = record { led = λ g r. with_opens g _ (both_new (SameOpen through) f.opens g.opens e (Some x) (was_free f.opens m.opens e (was.opens_last lasts) (lowest_free_is m.opens e free).1) r.kept.opens) (λ b. lasting_put f.opens g.opens e x (r.opens_last b)) r }
+  k_open lasts m e x was free =
+      record {
+        led = λ g r. with_opens g _ (both_new (SameOpen through) f.opens g.opens e (Some x) (was_free f.opens m.opens e (was.opens_last lasts)
+            (lowest_free_is m.opens e free).1) r.kept.opens) (λ b. lasting_put f.opens g.opens e x (r.opens_last b)) r;
+      }
 
   pub k_second_open : loses ≡ false → (m : Frame) (d e : ℕ) (x y : Open) → R m → lowest_free m.opens ≡ Some d → lowest_free (put m.opens d (Some y)) ≡ Some e → Keeps R (put_open e (Some x))
   unfolding put_open Holds
-  k_second_open lasts m d e x y was first second = record { led = λ g r. with_opens g _ (both_new (SameOpen through) f.opens g.opens e (Some x) (was_free f.opens m.opens e (was.opens_last lasts) (free_second m.opens d e y first second)) r.kept.opens) (λ b. lasting_put f.opens g.opens e x (r.opens_last b)) r }
+  k_second_open lasts m d e x y was first second =
+      record {
+        led = λ g r. with_opens g _ (both_new (SameOpen through) f.opens g.opens e (Some x) (was_free f.opens m.opens e (was.opens_last lasts)
+            (free_second m.opens d e y first second)) r.kept.opens) (λ b. lasting_put f.opens g.opens e x (r.opens_last b)) r;
+      }
 
   pub k_float : (e : ℕ) (l : Categories) → through ≡ Some e → Keeps R (change_open e (λ y. record y { label = join y.label l }))
   unfolding change_open Holds
@@ -205,22 +226,35 @@ module _ (f : Frame) (pid : ℕ) (to through : Option ℕ) (gone : ℕ → Bool)
   k_no_open goes e = record { led = λ g r. with_opens g _ (both_gone (SameOpen through) f.opens g.opens e r.kept.opens) (λ lasts. absurd (true≢false (sym goes ∙ lasts))) r }
 
   -- ---- processes
-  with_processes : (g : Frame) (t : List (Option Process)) → ((n fd d : ℕ) (q : Process) → living (at f.processes n) ≡ Some q → at q.fds fd ≡ Some d → (n == pid && gone fd) ≡ false → HasFd g.processes n fd d → HasFd t n fd d) → R g → R (record g { processes = t })
-  with_processes g t on r = record { kept = record { descriptors = λ n fd d q lives is stays. on n fd d q lives is stays (r.kept.descriptors n fd d q lives is stays); objects = r.kept.objects; opens = r.kept.opens }; objects_last = r.objects_last; opens_last = r.opens_last }
+  with_processes : (g : Frame) (t : List (Option Process)) → ((n fd d : ℕ) (q : Process) → living (at f.processes n) ≡ Some q → at q.fds fd ≡ Some d
+      → (n == pid && gone fd) ≡ false → HasFd g.processes n fd d → HasFd t n fd d) → R g → R (record g { processes = t })
+  with_processes g t on r =
+      record {
+        kept = record {
+          descriptors = λ n fd d q lives is stays. on n fd d q lives is stays (r.kept.descriptors n fd d q lives is stays);
+          objects =
+              r.kept.objects;
+          opens = r.kept.opens;
+        };
+        objects_last = r.objects_last;
+        opens_last = r.opens_last;
+      }
 
   pub k_process : (p : ℕ) (h : Process → Process) → ((q : Process) → (h q).fds ≡ q.fds) → ((q : Process) → (h q).ended ≡ q.ended) → Keeps R (change_process p h)
   unfolding change_process Holds
   k_process p h fds ended = record { led = λ g r. with_processes g _ (λ n fd d q lives is stays has. has_changed g.processes p h n fd d ended (λ here z on. ap (λ t. at t fd) (fds z) ∙ on) has) r }
 
   -- the caller's descriptors, of which those stay that aren't given up
-  caller_fds : (k : List (Option ℕ) → List (Option ℕ)) → ((q : Process) (fds : List (Option ℕ)) (fd d : ℕ) → living (at f.processes pid) ≡ Some q → at q.fds fd ≡ Some d → gone fd ≡ false → at fds fd ≡ Some d → at (k fds) fd ≡ Some d) → Keeps R (change_process pid (λ q. record q { fds = k q.fds }))
+  caller_fds : (k : List (Option ℕ) → List (Option ℕ)) → ((q : Process) (fds : List (Option ℕ)) (fd d : ℕ) → living (at f.processes pid) ≡ Some q
+      → at q.fds fd ≡ Some d → gone fd ≡ false → at fds fd ≡ Some d → at (k fds) fd ≡ Some d) → Keeps R (change_process pid (λ q. record q { fds = k q.fds }))
   unfolding change_process Holds
   caller_fds k keeps = record {
     led = λ g r. with_processes g _ (λ n fd d q lives is stays has. has_changed g.processes pid (λ z. record z { fds = k z.fds }) n fd d (λ z. refl) (λ here z on.
         keeps q z.fds fd d (ap (λ m. living (at f.processes m)) (sym here) ∙ lives) is (stays_of fd (ap (λ m. m == pid && gone fd) (sym here) ∙ stays)) on) has) r;
   }
 
-  put_unused : (a : ℕ) (x : Option ℕ) (q : Process) (fds : List (Option ℕ)) (fd d : ℕ) → Unused a → living (at f.processes pid) ≡ Some q → at q.fds fd ≡ Some d → gone fd ≡ false → at fds fd ≡ Some d → at (put fds a x) fd ≡ Some d
+  put_unused : (a : ℕ) (x : Option ℕ) (q : Process) (fds : List (Option ℕ)) (fd d : ℕ) → Unused a → living (at f.processes pid) ≡ Some q → at q.fds fd ≡ Some d
+      → gone fd ≡ false → at fds fd ≡ Some d → at (put fds a x) fd ≡ Some d
   put_unused a x q fds fd d unused lives is stays on = elim (eqb_tells fd a) [
     | inl same ↦ absurd (unused q d lives (ap (at q.fds) (sym same.1) ∙ is) (ap gone (sym same.1) ∙ stays))
     | inr apart ↦ get_or-set_other fds a fd x None apart.1 ∙ on
@@ -235,7 +269,8 @@ module _ (f : Frame) (pid : ℕ) (to through : Option ℕ) (gone : ℕ → Bool)
   pub k_first_fd : (p : Process) (a e : ℕ) → Owns p → lowest_free p.fds ≡ Some a → Keeps R (change_process pid (λ q. record q { fds = put q.fds a (Some e) }))
   k_first_fd p a e owns free = caller_fds (λ t. put t a (Some e)) (λ q fds fd d lives is stays on. put_unused a (Some e) q fds fd d (first_unused p a owns free) lives is stays on)
 
-  pub k_two_fds : (p : Process) (a b x d e : ℕ) → Owns p → lowest_free p.fds ≡ Some a → lowest_free (put p.fds a (Some x)) ≡ Some b → Keeps R (change_process pid (λ q. record q { fds = put (put q.fds a (Some d)) b (Some e) }))
+  pub k_two_fds : (p : Process) (a b x d e : ℕ) → Owns p → lowest_free p.fds ≡ Some a → lowest_free (put p.fds a (Some x)) ≡ Some b
+      → Keeps R (change_process pid (λ q. record q { fds = put (put q.fds a (Some d)) b (Some e) }))
   k_two_fds p a b x d e owns first second = caller_fds (λ t. put (put t a (Some d)) b (Some e)) (λ q fds fd c lives is stays on.
       put_unused b (Some e) q (put fds a (Some d)) fd c (second_unused p a b x owns first second) lives is stays
       (put_unused a (Some d) q fds fd c (first_unused p a owns first) lives is stays on))
@@ -263,7 +298,9 @@ module _ (f : Frame) (pid : ℕ) (to through : Option ℕ) (gone : ℕ → Bool)
     led = λ g r. with_processes g _ (λ n fd d q lives is stays has. elim (eqb_tells n c) [
       | inl same ↦
           let h = was.kept.descriptors n fd d q lives is stays in
-          let ended : is_ended (at m.processes c) ≡ true = (and_parts (is_child pid (at m.processes c)) (is_ended (at m.processes c)) (position-Some (λ z. is_child pid z && is_ended z) m.processes c None first).1).1 in
+          let ended : is_ended (at m.processes c) ≡ true =
+          (and_parts (is_child pid (at m.processes c)) (is_ended (at m.processes c)) (position-Some (λ z. is_child pid z && is_ended z) m.processes c None
+          first).1).1 in
           let dead : h.process.ended ≡ true = ap is_ended (sym (is_living _ h.process h.lives)) ∙ ap (λ i. is_ended (at m.processes i)) same.1 ∙ ended in
           absurd (true≢false (sym dead ∙ not_ended _ h.process h.lives))
       | inr apart ↦ has_elsewhere g.processes c None n fd d apart.1 has
@@ -272,7 +309,14 @@ module _ (f : Frame) (pid : ℕ) (to through : Option ℕ) (gone : ℕ → Bool)
 
   pub k_logged : (l : AuditLine) → Keeps R (logged l)
   unfolding logged Holds
-  k_logged l = record { led = λ g r. record { kept = record { descriptors = r.kept.descriptors; objects = r.kept.objects; opens = r.kept.opens }; objects_last = r.objects_last; opens_last = r.opens_last } }
+  k_logged l = record {
+    led = λ g r. record {
+      kept = record { descriptors = r.kept.descriptors; objects = r.kept.objects; opens = r.kept.opens };
+      objects_last =
+          r.objects_last;
+      opens_last = r.opens_last;
+    };
+  }
 
   -- ---- what a part tells
   -- a part that keeps all that, with a fact of its answer
@@ -305,7 +349,30 @@ module _ (f : Frame) (pid : ℕ) (to through : Option ℕ) (gone : ℕ → Bool)
             ap (λ z. at z.fds fd) (sym one) ∙ h.descriptor;
       }
 
-  pub ruleset words = (k_bind_process, keeps_bind_frame, keeps_bind_some, keeping, keeping_tests, k_object, k_labelled, k_inode, k_pipe, k_no_object, k_open, k_second_open, k_float, k_no_open, k_process, k_first_fd, k_two_fds, k_given_up, k_fork, k_end, k_collect, k_logged)
+  pub ruleset words = (
+    k_bind_process,
+    keeps_bind_frame,
+    keeps_bind_some,
+    keeping,
+    keeping_tests,
+    k_object,
+    k_labelled,
+    k_inode,
+    k_pipe,
+    k_no_object,
+    k_open,
+    k_second_open,
+    k_float,
+    k_no_open,
+    k_process,
+    k_first_fd,
+    k_two_fds,
+    k_given_up,
+    k_fork,
+    k_end,
+    k_collect,
+    k_logged,
+  )
 
   -- ---- parts of rows
   pub k_observe : (seen : Categories) → Keeps R (observe pid seen)

@@ -32,7 +32,9 @@ use Rattle.ix_model.proofs.refused.Seeing.{seen_nothing, ends_seen_walk}
 use Rattle.ix_model.proofs.words.Rowwise.{keeps_bind_frame, keeps_bind_some}
 use Rattle.std.proofs.lemmas.Bool.{eq-eqb}
 use Rattle.ix_fresh.specs.Touched.{object_behind, entry_behind, target, entry_target}
-use Rattle.ix_fresh.proofs.Staying.{Kept, k_bind_process, k_open, k_second_open, k_pipe, k_first_fd, k_two_fds, R, r_itself, May, Gives, words, bind_given, gives_bind, walk_lacks, walk_finds, k_observe, k_affect, k_float_entry, k_walked_to, k_object_at, k_opened, k_object, k_no_object, k_no_open}
+use Rattle.ix_fresh.proofs.Staying.{Kept, k_bind_process, k_open, k_second_open, k_pipe, k_first_fd, k_two_fds, R, r_itself, May, Gives, words}
+use Rattle.ix_fresh.proofs.Staying.{bind_given, gives_bind, walk_lacks, walk_finds, k_observe, k_affect, k_float_entry, k_walked_to, k_object_at}
+use Rattle.ix_fresh.proofs.Staying.{k_opened, k_object, k_no_object, k_no_open}
 
 module _ (f : Frame) (pid : ℕ) (to through : Option ℕ) (gone : ℕ → Bool) (loses : Bool) where
   abbrev S : Frame → Type 0
@@ -297,11 +299,13 @@ module _ (f : Frame) (pid : ℕ) (to through : Option ℕ) (gone : ℕ → Bool)
   -- the open entry behind the caller's descriptor
   k_read_fd : (t : LengthChecks) (fd count : ℕ) → ((e : OpenFile) → behind f pid fd ≡ Some e → through ≡ Some e.id) → Holds (read_fd t pid fd count f) S
   unfolding read_fd
-  k_read_fd t fd count on = from_here (λ e. behind f pid fd ≡ Some e) _ _ (ends_opened pid fd f Anything _ (λ e is. is) tt) (k_opened f pid to through gone loses fd) (λ e is. let floats = on e is in search (rows, k_float_entry, floats) depth 60)
+  k_read_fd t fd count on = from_here (λ e. behind f pid fd ≡ Some e) _ _ (ends_opened pid fd f Anything _ (λ e is. is) tt)
+      (k_opened f pid to through gone loses fd) (λ e is. let floats = on e is in search (rows, k_float_entry, floats) depth 60)
 
   k_seek_fd : (fd offset : ℕ) → ((e : OpenFile) → behind f pid fd ≡ Some e → through ≡ Some e.id) → Holds (seek_fd pid fd offset f) S
   unfolding seek_fd
-  k_seek_fd fd offset on = from_here (λ e. behind f pid fd ≡ Some e) _ _ (ends_opened pid fd f Anything _ (λ e is. is) tt) (k_opened f pid to through gone loses fd) (λ e is. let floats = on e is in search (rows, k_float_entry, floats) depth 60)
+  k_seek_fd fd offset on = from_here (λ e. behind f pid fd ≡ Some e) _ _ (ends_opened pid fd f Anything _ (λ e is. is) tt)
+      (k_opened f pid to through gone loses fd) (λ e is. let floats = on e is in search (rows, k_float_entry, floats) depth 60)
 
   k_write_fd : (t : LengthChecks) (fd : ℕ) → ((e : OpenFile) → behind f pid fd ≡ Some e → (to ≡ Some e.entry.object) × (through ≡ Some e.id)) → Holds (write_fd t pid fd f) S
   unfolding write_fd

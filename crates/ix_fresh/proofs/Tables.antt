@@ -52,7 +52,8 @@ pub record HasFd (t : List (Option Process)) (n fd d : ℕ) : Type 0 where
 pub has_elsewhere : (t : List (Option Process)) (p : ℕ) (x : Option Process) (n fd d : ℕ) → n ≢ p → HasFd t n fd d → HasFd (put t p x) n fd d
 has_elsewhere t p x n fd d apart r = record { process = r.process; lives = ap living (get_or-set_other t p n x None apart) ∙ r.lives; descriptor = r.descriptor }
 
-pub has_changed : (t : List (Option Process)) (p : ℕ) (h : Process → Process) (n fd d : ℕ) → ((q : Process) → (h q).ended ≡ q.ended) → (n ≡ p → (q : Process) → at q.fds fd ≡ Some d → at (h q).fds fd ≡ Some d) → HasFd t n fd d → HasFd (change t p h) n fd d
+pub has_changed : (t : List (Option Process)) (p : ℕ) (h : Process → Process) (n fd d : ℕ) → ((q : Process) → (h q).ended ≡ q.ended)
+    → (n ≡ p → (q : Process) → at q.fds fd ≡ Some d → at (h q).fds fd ≡ Some d) → HasFd t n fd d → HasFd (change t p h) n fd d
 has_changed t p h n fd d ended keeps r = elim (eqb_tells n p) [
   | inl same ↦
       let is : at t p ≡ Some r.process = ap (at t) (sym same.1) ∙ is_living _ r.process r.lives in
@@ -65,4 +66,10 @@ has_changed t p h n fd d ended keeps r = elim (eqb_tells n p) [
 ]
 
 pub has_pushed : (t : List (Option Process)) (p : Process) (n fd d : ℕ) → HasFd t n fd d → HasFd (t ++ Some p ∷ []) n fd d
-has_pushed t p n fd d r = record { process = r.process; lives = ap living (get_or_append_left t (Some p ∷ []) None n (in_table t n r.process (is_living _ r.process r.lives))) ∙ r.lives; descriptor = r.descriptor }
+has_pushed t p n fd d r =
+    record {
+      process = r.process;
+      lives = ap living (get_or_append_left t (Some p ∷ []) None n (in_table t n r.process (is_living _ r.process r.lives)))
+          ∙ r.lives;
+      descriptor = r.descriptor;
+    }

@@ -12,7 +12,8 @@ use Rattle.ix_model.specs.declared.reply.Reply.{Reply}
 use Rattle.ix_model.proofs.tables.Tables.{at_changed}
 use Rattle.ix_model.proofs.tables.Finds.{at_change}
 use Rattle.ix_model.proofs.words.Living.{is_living, not_ended, lives_as}
-use Rattle.ix_model.proofs.words.Ends.{Ends, Anything, ends_bind, ends_then, ends_pass, ends_frame, ends_need, ends_only_if, ends_caller, ends_object, ends_opened, ends_change_object, ends_change_caller, ends_change_open}
+use Rattle.ix_model.proofs.words.Ends.{Ends, Anything, ends_bind, ends_then, ends_pass, ends_frame, ends_need, ends_only_if, ends_caller, ends_object}
+use Rattle.ix_model.proofs.words.Ends.{ends_opened, ends_change_object, ends_change_caller, ends_change_open}
 use Rattle.ix_model.proofs.words.Standing.{behind_is}
 
 -- ---- looking and affecting
@@ -23,19 +24,23 @@ pub one_there : {A : Type 0} (o : Option A) (p q : A) → o ≡ Some p → o ≡
 one_there o p q is here = let h : Some p ≡ Some q = sym is ∙ here in cc
 
 -- where a look passes, the caller's label is at or above what was looked at
-ends_looks : (pid : ℕ) (seen : Categories) (f : Frame) (Q : Unit {0} → Frame → Type 0) → ((g : Frame) (p : Process) → g.objects ≡ f.objects → g.opens ≡ f.opens → living (at g.processes pid) ≡ Some p → leq seen p.label ≡ true → Q tt g) → Ends (observe pid seen f) Anything Q
+ends_looks : (pid : ℕ) (seen : Categories) (f : Frame) (Q : Unit {0} → Frame → Type 0) → ((g : Frame) (p : Process) → g.objects ≡ f.objects → g.opens ≡ f.opens
+    → living (at g.processes pid) ≡ Some p → leq seen p.label ≡ true → Q tt g) → Ends (observe pid seen f) Anything Q
 unfolding observe
 ends_looks pid seen f Q looks =
     ends_bind _ _ f Anything Q (ends_caller pid f Anything _ (λ p lives. ends_only_if _ _ f Anything Q
     (λ raises. ends_then _ _ f Anything Q (ends_need _ _ f Anything _ (λ free.
     ends_then _ _ f Anything Q (ends_need _ _ f Anything _ (λ low.
-    ends_change_caller pid _ f Anything Q (looks _ (record p { label = join p.label seen }) refl refl (still_lives f pid (λ q. record q { label = join q.label seen }) p refl lives) (leq-join_right p.label seen)))
+    ends_change_caller pid _ f Anything Q (looks _ (record p { label = join p.label seen }) refl refl
+    (still_lives f pid (λ q. record q { label = join q.label seen }) p refl lives) (leq-join_right p.label seen)))
     tt)) tt))
     (λ no. looks f p refl refl lives (subst (λ (l : Categories). leq seen l ≡ true) ((same-decides (join p.label seen) p.label).0 (not-false _ no)) (leq-join_right p.label seen))))
     tt)
 
 -- where an object was affected, its label is at or above the caller's and that of the open entry
-ends_affects : (pid o : ℕ) (through : Categories) (f : Frame) (Q : Unit {0} → Frame → Type 0) → ((g : Frame) (p : Process) → living (at f.processes pid) ≡ Some p → g.processes ≡ f.processes → g.opens ≡ f.opens → ((x : Object) → at g.objects o ≡ Some x → leq (join p.label through) x.label ≡ true) → Q tt g) → Ends (affect pid o through f) Anything Q
+ends_affects : (pid o : ℕ) (through : Categories) (f : Frame) (Q : Unit {0} → Frame → Type 0)
+    → ((g : Frame) (p : Process) → living (at f.processes pid) ≡ Some p → g.processes ≡ f.processes → g.opens ≡ f.opens
+    → ((x : Object) → at g.objects o ≡ Some x → leq (join p.label through) x.label ≡ true) → Q tt g) → Ends (affect pid o through f) Anything Q
 unfolding affect
 ends_affects pid o through f Q affects =
     ends_bind _ _ f Anything Q (ends_caller pid f Anything _ (λ p lives.
@@ -49,7 +54,9 @@ ends_affects pid o through f Q affects =
     ])))
     tt)) tt))
     (λ no. affects f p lives refl refl (λ y there.
-    subst (λ (z : Object). leq (join p.label through) z.label ≡ true) (one_there _ x y here there) (subst (λ (a : Categories). leq (join p.label through) a ≡ true) ((same-decides (join x.label (join p.label through)) x.label).0 (not-false _ no)) (leq-join_right x.label (join p.label through))))))))
+    subst (λ (z : Object). leq (join p.label through) z.label ≡ true) (one_there _ x y here there)
+    (subst (λ (a : Categories). leq (join p.label through) a ≡ true) ((same-decides (join x.label (join p.label through)) x.label).0 (not-false _ no))
+    (leq-join_right x.label (join p.label through))))))))
     tt)) tt)
 
 -- ---- the open entry
@@ -79,11 +86,14 @@ pub record ReadFacts (pid fd : ℕ) (f g : Frame) : Type 0 where
   pub taken_in : is_pipe object ≡ false → (y : Open) → at g.opens through.id ≡ Some y → leq process.label y.label ≡ true
 
 -- a file's entry that stood at or below a label which is joined to it
-read_entry : (t : List (Option Open)) (e : ℕ) (entry : Open) (l : Categories) (y : Open) → at t e ≡ Some entry → leq entry.label l ≡ true → at (change t e (λ z. record z { label = join z.label l })) e ≡ Some y → (leq y.label l ≡ true) × (leq l y.label ≡ true)
+read_entry : (t : List (Option Open)) (e : ℕ) (entry : Open) (l : Categories) (y : Open) → at t e ≡ Some entry → leq entry.label l ≡ true
+    → at (change t e (λ z. record z { label = join z.label l })) e ≡ Some y → (leq y.label l ≡ true) × (leq l y.label ≡ true)
 read_entry t e entry l y is low here =
     let j = joined t e l y here in
-    let low_was : leq j.was.label l ≡ true = subst (λ (z : Open). leq z.label l ≡ true) (one_there (at t e) entry j.was is j.is_was) low in
-    (subst (λ (a : Categories). leq a l ≡ true) (sym j.label) (join-least j.was.label l l low_was (leq-refl l)), subst (λ (a : Categories). leq l a ≡ true) (sym j.label) (leq-join_right j.was.label l))
+    let low_was : leq j.was.label l ≡ true = subst (λ (z : Open). leq z.label l ≡ true) (one_there (at t e) entry j.was is j.is_was) low in (
+      subst (λ (a : Categories). leq a l ≡ true) (sym j.label) (join-least j.was.label l l low_was (leq-refl l)),
+      subst (λ (a : Categories). leq l a ≡ true) (sym j.label) (leq-join_right j.was.label l),
+    )
 
 pub read_known : (t : LengthChecks) (pid fd count : ℕ) (f : Frame) → Ends (read_fd t pid fd count f) Anything (λ r g. ReadFacts pid fd f g)
 unfolding read_fd float_entry
@@ -157,9 +167,12 @@ write_known t pid fd f =
     ends_then _ _ f Anything Q (ends_need _ _ f Anything _ (λ space.
     ends_bind _ _ f Anything Q (ends_caller pid f Anything _ (λ q own.
     ends_then _ _ f Anything Q (ends_affects pid e.entry.object e.entry.label f _ (λ g p lives processes opens takes.
-    let taken : (y : Object) → at g.objects e.entry.object ≡ Some y → leq (join q.label e.entry.label) y.label ≡ true = λ y now. subst (λ (z : Process). leq (join z.label e.entry.label) y.label ≡ true) (one_there _ p q lives own) (takes y now) in
-    let takes_own : (y : Object) → at g.objects e.entry.object ≡ Some y → leq q.label y.label ≡ true = λ y now. leq-trans q.label (join q.label e.entry.label) y.label (leq-join_left q.label e.entry.label) (taken y now) in
-    let takes_entry : (y : Object) → at g.objects e.entry.object ≡ Some y → leq e.entry.label y.label ≡ true = λ y now. leq-trans e.entry.label (join q.label e.entry.label) y.label (leq-join_right q.label e.entry.label) (taken y now) in
+    let taken : (y : Object) → at g.objects e.entry.object ≡ Some y → leq (join q.label e.entry.label) y.label ≡ true =
+    λ y now. subst (λ (z : Process). leq (join z.label e.entry.label) y.label ≡ true) (one_there _ p q lives own) (takes y now) in
+    let takes_own : (y : Object) → at g.objects e.entry.object ≡ Some y → leq q.label y.label ≡ true =
+    λ y now. leq-trans q.label (join q.label e.entry.label) y.label (leq-join_left q.label e.entry.label) (taken y now) in
+    let takes_entry : (y : Object) → at g.objects e.entry.object ≡ Some y → leq e.entry.label y.label ≡ true =
+    λ y now. leq-trans e.entry.label (join q.label e.entry.label) y.label (leq-join_right q.label e.entry.label) (taken y now) in
     let lives_on : living (at g.processes pid) ≡ Some q = ap (λ u. living (at u pid)) processes ∙ own in
     let stood : at g.opens e.id ≡ Some e.entry = ap (λ u. at u e.id) opens ∙ behind_is f pid fd e is in
     ends_then _ _ g Anything Q (ends_only_if _ _ g Anything _

@@ -24,12 +24,14 @@ is_closed w place e pid fd = e.pid == pid && closes fd e.op (step_of w place e).
 
 -- what stands behind a descriptor stays there, unless it is closed
 abbrev pub DescriptorsStay : Type 0
-DescriptorsStay = (w : World) (place : ℕ) (e : Event) (pid fd : ℕ) (b : OpenFile) → Sound w → behind w.frame pid fd ≡ Some b → is_closed w place e pid fd ≡ false → Stays b w.frame (step_of w place e).world.frame pid fd
+DescriptorsStay = (w : World) (place : ℕ) (e : Event) (pid fd : ℕ) (b : OpenFile) → Sound w → behind w.frame pid fd ≡ Some b
+    → is_closed w place e pid fd ≡ false → Stays b w.frame (step_of w place e).world.frame pid fd
 
 -- and its labels too, but for the process's where it made the call, and for those of the object and of the open entry that
 -- the call may touch
 abbrev pub WhereLabelsChange : Type 0
-WhereLabelsChange = (w : World) (place : ℕ) (e : Event) (pid fd : ℕ) (b : OpenFile) → Sound w → behind w.frame pid fd ≡ Some b → is_closed w place e pid fd ≡ false → LabelsStayBut b w.frame e (step_of w place e).world.frame pid
+WhereLabelsChange = (w : World) (place : ℕ) (e : Event) (pid fd : ℕ) (b : OpenFile) → Sound w → behind w.frame pid fd ≡ Some b
+    → is_closed w place e pid fd ≡ false → LabelsStayBut b w.frame e (step_of w place e).world.frame pid
 
 -- So an entry leaves a descriptor fresh, of whichever process it is, by who called, whether the call refreshed or closed it,
 -- and whether it changed the label of the caller, of the target, or of the open entry.
@@ -40,11 +42,13 @@ fresh_by_touch w place e pid fd way was =
 
 -- whatever was fresh before, of descriptors that stood
 abbrev pub FreshnessByWhatWasTouched : Type 0
-FreshnessByWhatWasTouched = (w : World) (place : ℕ) (e : Event) (pid fd : ℕ) (way : Way) (was : Bool) → Sound w → (was ≡ true → is_some (behind w.frame pid fd) ≡ true) → fresh_after w e (step_of w place e) pid fd way was ≡ fresh_by_touch w place e pid fd way was
+FreshnessByWhatWasTouched = (w : World) (place : ℕ) (e : Event) (pid fd : ℕ) (way : Way) (was : Bool) → Sound w
+    → (was ≡ true → is_some (behind w.frame pid fd) ≡ true) → fresh_after w e (step_of w place e) pid fd way was ≡ fresh_by_touch w place e pid fd way was
 
 -- of all descriptors, along a history
 abbrev pub FreshnessAlongHistories : Type 0
-FreshnessAlongHistories = (w : World) (events : List Event) (e : Event) (pid fd : ℕ) (way : Way) → Sound w → is_fresh w (events ++ e ∷ []) pid fd way ≡ fresh_by_touch (run w 1 events) (length events + 1) e pid fd way (is_fresh w events pid fd way)
+FreshnessAlongHistories = (w : World) (events : List Event) (e : Event) (pid fd : ℕ) (way : Way) → Sound w
+    → is_fresh w (events ++ e ∷ []) pid fd way ≡ fresh_by_touch (run w 1 events) (length events + 1) e pid fd way (is_fresh w events pid fd way)
 
 -- ---- spots
 -- the spot of a descriptor: the open entry and the object behind it, by their numbers
@@ -73,4 +77,5 @@ spot_after w place e pid fd way was =
     else unless (λ s. touches w.frame e (step_of w place e).world.frame pid (Some s.object) (Some s.entry)) was
 
 abbrev pub SpotsAlongHistories : Type 0
-SpotsAlongHistories = (w : World) (events : List Event) (e : Event) (pid fd : ℕ) (way : Way) → Sound w → fresh_spot w (events ++ e ∷ []) pid fd way ≡ spot_after (run w 1 events) (length events + 1) e pid fd way (fresh_spot w events pid fd way)
+SpotsAlongHistories = (w : World) (events : List Event) (e : Event) (pid fd : ℕ) (way : Way) → Sound w
+    → fresh_spot w (events ++ e ∷ []) pid fd way ≡ spot_after (run w 1 events) (length events + 1) e pid fd way (fresh_spot w events pid fd way)

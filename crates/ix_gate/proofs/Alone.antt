@@ -16,13 +16,15 @@ use Rattle.ix_gate.proofs.Views.{same_at, Rule}
 
 module _ {M B E : Type 0} (base_of : M → B) (history_of : M → List E) (seat : E → ℕ) (base : B) (seats : ℕ) where
   -- a seat with a ticket has a number
-  ticket_number : (queue : ℕ → ℕ) (served next : ℕ) (published : List E) (homes : List (Home (Option M))) (i : ℕ) (r : Role) (st : Stage E) → HasTicket served served st → Stands queue served next published homes i r st → IsNumbered r
+  ticket_number : (queue : ℕ → ℕ) (served next : ℕ) (published : List E) (homes : List (Home (Option M))) (i : ℕ) (r : Role) (st : Stage E)
+      → HasTicket served served st → Stands queue served next published homes i r st → IsNumbered r
   ticket_number queue served next published homes i r Idle o k = absurd o
   ticket_number queue served next published homes i r (Waits t) o k = k.3
   ticket_number queue served next published homes i r (Holds h) o k = k.2
 
   -- at a gate of one seat, where it has no ticket, all of its turns were served
-  pub alone_served : (s : State (Option M) (View B E)) (r : Rule base_of history_of seat base seats s) (id n : ℕ) (v : View B E) → get_elem? s.views id ≡ some v → v.stage ≡ Idle → v.role ≡ Numbered n → seats ≡ 1
+  pub alone_served : (s : State (Option M) (View B E)) (r : Rule base_of history_of seat base seats s) (id n : ℕ) (v : View B E) → get_elem? s.views id ≡ some v
+      → v.stage ≡ Idle → v.role ≡ Numbered n → seats ≡ 1
       → (r.book.served ≡ r.book.next) × (r.book.next ≡ v.turns)
   alone_served s r id n v at idle is one =
       let g : Book E = r.book in

@@ -27,14 +27,17 @@ module _ {M B E : Type 0} (base_of : M → B) (history_of : M → List E) (seat 
   Leaves k x = (m : M) × (x ≡ Some m) × (k.base ≡ Some (base_of m)) × (history_of m ≡ k.seen) × All (λ e. StandsFor k (seat e)) (history_of m)
 
   -- who has the number of a seat that stands for it is that seat
-  its_owner : (g : Book E) (s : State (Option M) (View B E)) (r : Rule base_of history_of seat base seats s) (id : ℕ) (m : Me (Option M) (View B E)) (gate : TableId) (number turns n : ℕ) → get_elem? s.views id ≡ some m.0 → IsAtRest seat number turns m
+  its_owner : (g : Book E) (s : State (Option M) (View B E)) (r : Rule base_of history_of seat base seats s) (id : ℕ) (m : Me (Option M) (View B E))
+      (gate : TableId) (number turns n : ℕ) → get_elem? s.views id ≡ some m.0 → IsAtRest seat number turns m
       → StandsFor (state_of gate number turns m.0) n → (r.book.owner n ≡ id) × (entries_of seat n m.0.seen ≡ entries_of seat n r.book.published)
   its_owner g s r id m gate number turns n at s' (inl is) = let f = r.each id m.0 at in let o : HasNumber m.0.role n = subst (λ (z : Role). HasNumber z n) (sym s'.numbered) (sym is) in
       ((f.number n o).0, f.agrees.0 n o ∙ sym (f.number n o).3)
   its_owner g s r id m gate number turns n at s' (inr (es, has)) = let f = r.each id m.0 at in ((f.ended n es has).0, f.agrees.1 n es has ∙ sym (f.ended n es has).2)
 
-  left_kept : (s : State (Option M) (View B E)) (r : Rule base_of history_of seat base seats s) (id : ℕ) (m : Me (Option M) (View B E)) (gate : TableId) (number turns : ℕ) (xs : List (Option M)) (x : Option M) → get_elem? s.views id ≡ some m.0
-      → ((k : ℕ) (y : Option M) → get_elem? s.homes k ≡ some (some y) → get_elem? xs k ≡ some y) → IsAtRest seat number turns m → m.0.stage ≡ Idle → ((n : ℕ) → n < seats → StandsFor (state_of gate number turns m.0) n) → get_elem? xs 0 ≡ some x
+  left_kept : (s : State (Option M) (View B E)) (r : Rule base_of history_of seat base seats s) (id : ℕ) (m : Me (Option M) (View B E)) (gate : TableId)
+      (number turns : ℕ) (xs : List (Option M)) (x : Option M) → get_elem? s.views id ≡ some m.0
+      → ((k : ℕ) (y : Option M) → get_elem? s.homes k ≡ some (some y) → get_elem? xs k ≡ some y) → IsAtRest seat number turns m → m.0.stage ≡ Idle
+      → ((n : ℕ) → n < seats → StandsFor (state_of gate number turns m.0) n) → get_elem? xs 0 ≡ some x
       → IsKept base_of history_of base r.book.published s.homes s.views → Leaves (state_of gate number turns m.0) x
   left_kept s r id m gate number turns xs x at home known idle all there (inl (y, is, has, based)) =
       let g : Book E = r.book in
@@ -65,8 +68,10 @@ module _ {M B E : Type 0} (base_of : M → B) (history_of : M → List E) (seat 
       let same : i ≡ id = sym its.0 ∙ (its_owner g s r id m gate number turns n at known (all n (omega arith))).0 in
       absurd (cc (sym holds ∙ (ap (λ (v : View B E). v.stage) (same_at s.views i id u m.0 other at same) ∙ idle)))
 
-  pub closes : (id : ℕ) (m : Me (Option M) (View B E)) (gate : TableId) (number turns : ℕ) (k : SeatState B E) (ws : List ℕ) (xs : List (Option M)) (x : Option M) → Final (Seen (Rule base_of history_of seat base seats) id m.0) ws xs
+  pub closes : (id : ℕ) (m : Me (Option M) (View B E)) (gate : TableId) (number turns : ℕ) (k : SeatState B E) (ws : List ℕ) (xs : List (Option M))
+      (x : Option M) → Final (Seen (Rule base_of history_of seat base seats) id m.0) ws xs
       → IsAtRest seat number turns m → state_of gate number turns m.0 ≡ k → k.taken ≡ None → ((n : ℕ) → n < seats → StandsFor k n) → get_elem? xs 0 ≡ some x → Leaves k x
   closes id m gate number turns k ws xs x final known is free all there =
-      subst (λ (z : SeatState B E). Leaves z x) is (left_kept final.0 final.1.0 id m gate number turns xs x final.1.1 final.4 known (idle_of m.0.stage m.1 (ap (λ z. z.taken) is ∙ free) known.carries).0
+      subst (λ (z : SeatState B E). Leaves z x) is (left_kept final.0 final.1.0 id m gate number turns xs x final.1.1 final.4 known
+      (idle_of m.0.stage m.1 (ap (λ z. z.taken) is ∙ free) known.carries).0
       (λ n l. subst (λ (z : SeatState B E). StandsFor z n) (sym is) (all n l)) there final.1.0.kept)

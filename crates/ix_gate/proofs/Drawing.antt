@@ -32,18 +32,28 @@ module _ {E : Type 0} (g : Book E) (id n : ℕ) where
   pub draw_queued : {B : Type 0} (views : List (View B E)) (v w : View B E) → get_elem? views id ≡ some v → v.stage ≡ Idle → HasTicket g.served g.next w.stage → IsQueued g.queue g.served g.next views
       → IsQueued (put g.queue g.next id) g.served (g.next + 1) (set views id w)
   draw_queued {B = B} views v w at idle has q t l h = dite (ℕ_discrete t g.next)
-      (λ e. (w, ap (λ (z : ℕ). get_elem? (set views id w) (put g.queue g.next id z)) e ∙ (ap (get_elem? (set views id w)) (put_here g.queue g.next id) ∙ set_here views id w (at_lt views id v at)), subst (λ (z : ℕ). HasTicket g.served z w.stage) (sym e) has))
-      (λ ne. let u = q t l (omega arith) in let away : g.queue t ≢ id = λ e. absurd (subst (λ (z : Stage E). HasTicket g.served t z) idle (subst (λ (z : View B E). HasTicket g.served t z.stage) (same_at views (g.queue t) id u.0 v u.1 at e) u.2)) in
+      (λ e. (
+        w,
+        ap (λ (z : ℕ). get_elem? (set views id w) (put g.queue g.next id z)) e ∙ (ap (get_elem? (set views id w)) (put_here g.queue g.next id)
+            ∙ set_here views id w (at_lt views id v at)),
+        subst (λ (z : ℕ). HasTicket g.served z w.stage) (sym e) has,
+      ))
+      (λ ne. let u = q t l (omega arith) in
+      let away : g.queue t ≢ id =
+      λ e. absurd (subst (λ (z : Stage E). HasTicket g.served t z) idle (subst (λ (z : View B E). HasTicket g.served t z.stage)
+      (same_at views (g.queue t) id u.0 v u.1 at e) u.2)) in
       (u.0, ap (get_elem? (set views id w)) (put_else g.queue g.next id t ne) ∙ (set_else views id (g.queue t) w away ∙ u.1), u.2))
 
-  pub draw_stands : {M : Type 0} (homes : List (Home (Option M))) (i : ℕ) (r : Role) (st : Stage E) → Stands g.queue g.served g.next g.published homes i r st → Stands (put g.queue g.next id) g.served (g.next + 1) g.published homes i r st
+  pub draw_stands : {M : Type 0} (homes : List (Home (Option M))) (i : ℕ) (r : Role) (st : Stage E) → Stands g.queue g.served g.next g.published homes i r st
+      → Stands (put g.queue g.next id) g.served (g.next + 1) g.published homes i r st
   draw_stands homes i r Idle k = tt
   draw_stands homes i r (Waits t) k = (put_else g.queue g.next id t (λ x. omega arith) ∙ k.0, k.1, omega arith, k.3)
   draw_stands homes i r (Holds p) k = (put_else g.queue g.next id g.served (λ x. omega arith) ∙ k.0, omega arith, k.2, k.3, k.4)
 
 module _ {M B E : Type 0} (seat : E → ℕ) (base : B) (seats : ℕ) (g : Book E) (homes homes' : List (Home (Option M))) (id n : ℕ) where
   -- the rule still holds of the views of others, where what it says of their place does
-  pub draw_fits_other : (j : ℕ) (d : View B E) → g.owner n ≡ id → j ≢ id → Fits seat base seats g homes j d → Stands (put g.queue g.next id) g.served (g.next + 1) g.published homes' j d.role d.stage → Fits seat base seats (with_draw g id n) homes' j d
+  pub draw_fits_other : (j : ℕ) (d : View B E) → g.owner n ≡ id → j ≢ id → Fits seat base seats g homes j d
+      → Stands (put g.queue g.next id) g.served (g.next + 1) g.published homes' j d.role d.stage → Fits seat base seats (with_draw g id n) homes' j d
   draw_fits_other j d owner other q stands = record {
     based = q.based;
     sized = q.sized;
@@ -59,7 +69,8 @@ module _ {M B E : Type 0} (seat : E → ℕ) (base : B) (seats : ℕ) (g : Book 
   }
 
   -- and of the view that has drawn, at its new stage
-  pub draw_fits : (v : View B E) (st : Stage E) (ticket looks found : ℕ) → v.role ≡ Numbered n → found ≤ g.served → DrewLast g.served (v.turns + 1) ticket st → Fits seat base seats g homes id v → Stands (put g.queue g.next id) g.served (g.next + 1) g.published homes' id v.role st
+  pub draw_fits : (v : View B E) (st : Stage E) (ticket looks found : ℕ) → v.role ≡ Numbered n → found ≤ g.served → DrewLast g.served (v.turns + 1) ticket st
+      → Fits seat base seats g homes id v → Stands (put g.queue g.next id) g.served (g.next + 1) g.published homes' id v.role st
       → Fits seat base seats (with_draw g id n) homes' id record v { stage = st; turns = v.turns + 1; ticket = ticket; looks = looks; look_found = found }
   draw_fits v st ticket looks found is low drew f stands = record {
     based = f.based;

@@ -66,7 +66,8 @@ module _ {E : Type 0} (seat : E → ℕ) where
       ∙ (ap (λ es. entries_of seat k taken ++ es) (entries_of-other k x [] (λ z. other (sym z ∙ is))) ∙ append-nil (entries_of seat k taken)))
 
   -- what a number has in a history, and in one of two beginnings, it has in the longer of them
-  pub entries_of-longer : (n : ℕ) (es xs ys p : List E) → IsPrefix xs p → IsPrefix ys p → entries_of seat n p ≡ es → (entries_of seat n xs ≡ es) ⊎ (entries_of seat n ys ≡ es) → entries_of seat n (longer xs ys) ≡ es
+  pub entries_of-longer : (n : ℕ) (es xs ys p : List E) → IsPrefix xs p → IsPrefix ys p → entries_of seat n p ≡ es
+      → (entries_of seat n xs ≡ es) ⊎ (entries_of seat n ys ≡ es) → entries_of seat n (longer xs ys) ≡ es
   entries_of-longer n es xs ys p xp yp all (inl known) = by_length xs ys (λ l _. entries_of seat n l ≡ es)
       (λ le. filter-between (λ e. eqb (seat e) n) xs ys p (prefix_shorter xs ys p xp yp le) yp (known ∙ sym all) ∙ all)
       (λ _. known)

@@ -17,11 +17,17 @@ module _ {B E : Type 0} (k l : SeatState B E) (ended : List (ℕ × List E)) (nu
 
 module _ {B E : Type 0} where
   -- a seat that stands for all of some seats stands for their numbers
-  pub stands_all : (r : SeatState B E) (xs ys : List (SeatState B E)) → All (λ (s : SeatState B E). StandsFor r s.number) ys → map (λ (s : SeatState B E). s.number) ys ≡ map (λ (s : SeatState B E). s.number) xs → (n : ℕ) → Contains (map (λ (s : SeatState B E). s.number) xs) n → StandsFor r n
-  stands_all r xs ys all same n has = All-contains (StandsFor r) (map (λ (s : SeatState B E). s.number) xs) n (subst (All (StandsFor r)) same (All-map (StandsFor r) (λ (s : SeatState B E). s.number) ys all)) has
+  pub stands_all : (r : SeatState B E) (xs ys : List (SeatState B E)) → All (λ (s : SeatState B E). StandsFor r s.number) ys
+      → map (λ (s : SeatState B E). s.number) ys ≡ map (λ (s : SeatState B E). s.number) xs → (n : ℕ) → Contains (map (λ (s : SeatState B E). s.number) xs) n
+      → StandsFor r n
+  stands_all r xs ys all same n has =
+      All-contains (StandsFor r) (map (λ (s : SeatState B E). s.number) xs) n
+      (subst (All (StandsFor r)) same (All-map (StandsFor r) (λ (s : SeatState B E). s.number) ys all)) has
 
   -- lists of seats whose numbers are the same at each place have the same numbers
-  pub same_numbers : (xs ys : List (SeatState B E)) → length ys ≡ length xs → ((i : ℕ) (d : SeatState B E) → i < length xs → (get_or ys i d).number ≡ (get_or xs i d).number) → map (λ (s : SeatState B E). s.number) ys ≡ map (λ (s : SeatState B E). s.number) xs
+  pub same_numbers : (xs ys : List (SeatState B E)) → length ys ≡ length xs
+      → ((i : ℕ) (d : SeatState B E) → i < length xs → (get_or ys i d).number ≡ (get_or xs i d).number)
+      → map (λ (s : SeatState B E). s.number) ys ≡ map (λ (s : SeatState B E). s.number) xs
   same_numbers [] [] even each = refl
   same_numbers [] (y ∷ ys) even each = absurd (omega arith)
   same_numbers (x ∷ xs) [] even each = absurd (omega arith)

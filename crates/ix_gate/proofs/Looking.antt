@@ -29,7 +29,8 @@ away_stands queue served next published homes m i r (Holds p) home k = absurd (c
 
 module _ {M B E : Type 0} (base_of : M → B) (history_of : M → List E) (seat : E → ℕ) (base : B) (seats : ℕ) where
   -- the machine at home has the base and the published history, which agree with what each seat knows
-  pub takes_from_home : (g : Book E) (homes : List (Home (Option M))) (id : ℕ) (me : Me (Option M) (View B E)) (m : M) (found : ℕ) (next : Stage E → View B E) → Fits seat base seats g homes id me.0 → g.published ≡ history_of m → base_of m ≡ base → length g.published ≤ found
+  pub takes_from_home : (g : Book E) (homes : List (Home (Option M))) (id : ℕ) (me : Me (Option M) (View B E)) (m : M) (found : ℕ) (next : Stage E → View B E)
+      → Fits seat base seats g homes id me.0 → g.published ≡ history_of m → base_of m ≡ base → length g.published ≤ found
       → Takes base_of history_of seat me (next (Holds (history_of m)), (0, Some m) ∷ me.1) found next
   takes_from_home g homes id me m found next f has based short = record {
     machine = m;
@@ -40,7 +41,8 @@ module _ {M B E : Type 0} (base_of : M → B) (history_of : M → List E) (seat 
     entries = subst (λ (h : List E). length h ≤ found) has short;
   }
 
-  look_miss : (s : State (Option M) (View B E)) (r : Rule base_of history_of seat base seats s) (slots id : ℕ) (me : Me (Option M) (View B E)) (t : ℕ) → me.0.stage ≡ Waits t → get_elem? s.views id ≡ some me.0 → get_or s.words 1 0 ≢ t
+  look_miss : (s : State (Option M) (View B E)) (r : Rule base_of history_of seat base seats s) (slots id : ℕ) (me : Me (Option M) (View B E)) (t : ℕ)
+      → me.0.stage ≡ Waits t → get_elem? s.views id ≡ some me.0 → get_or s.words 1 0 ≢ t
       → MaySet base_of history_of seat base seats s id me 1 (get_or s.words 1 0) (Looks base_of history_of seat (step slots 1 0 0 none) me)
   look_miss s r slots id me t waits at miss =
       let g : Book E = r.book in
@@ -67,8 +69,10 @@ module _ {M B E : Type 0} (base_of : M → B) (history_of : M → List E) (seat 
         λ u is. (λ hit. absurd (miss (hit ∙ cc (sym is ∙ waits))), λ _. ap (λ (z : Stage E). (with_look v found z, me.1)) (sym waits ∙ is)),
       )
 
-  look_hit : (s : State (Option M) (View B E)) (r : Rule base_of history_of seat base seats s) (slots id : ℕ) (me : Me (Option M) (View B E)) (t : ℕ) → me.0.stage ≡ Waits t → get_elem? s.views id ≡ some me.0 → get_or s.words 1 0 ≡ t
-      → IsKept base_of history_of base r.book.published s.homes s.views → MaySet base_of history_of seat base seats s id me 1 (get_or s.words 1 0) (Looks base_of history_of seat (step slots 1 0 0 none) me)
+  look_hit : (s : State (Option M) (View B E)) (r : Rule base_of history_of seat base seats s) (slots id : ℕ) (me : Me (Option M) (View B E)) (t : ℕ)
+      → me.0.stage ≡ Waits t → get_elem? s.views id ≡ some me.0 → get_or s.words 1 0 ≡ t
+      → IsKept base_of history_of base r.book.published s.homes s.views
+      → MaySet base_of history_of seat base seats s id me 1 (get_or s.words 1 0) (Looks base_of history_of seat (step slots 1 0 0 none) me)
   look_hit s r slots id me t waits at hit (inl (m, home, has, based)) =
       let g : Book E = r.book in
       let v : View B E = me.0 in
@@ -139,7 +143,8 @@ module _ {M B E : Type 0} (base_of : M → B) (history_of : M → List E) (seat 
       (λ hit. look_hit s r slots id me t waits at hit r.kept)
       (λ miss. look_miss s r slots id me t waits at miss)
 
-  pub free_look_allowed : (slots id : ℕ) (me : Me (Option M) (View B E)) → me.0.stage ≡ Idle → Allows (Rule base_of history_of seat base seats) slots id me 1 (λ x. x) (FreeLooks seat (step slots 1 0 0 none) me)
+  pub free_look_allowed : (slots id : ℕ) (me : Me (Option M) (View B E)) → me.0.stage ≡ Idle
+      → Allows (Rule base_of history_of seat base seats) slots id me 1 (λ x. x) (FreeLooks seat (step slots 1 0 0 none) me)
   free_look_allowed slots id me idle s r len at small =
       let g : Book E = r.book in
       let v : View B E = me.0 in

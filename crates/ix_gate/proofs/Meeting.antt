@@ -31,7 +31,8 @@ module _ {M B E : Type 0} (base_of : M → B) (history_of : M → List E) (seat 
         few_seats = r.few_seats;
         short = r.short;
         unmade = r.unmade;
-        kept = kept_more base_of history_of base g.published s.homes (set s.views id v) (note v) (kept_set base_of history_of base g.published s.homes s.views id v v at (λ h x. cc (sym idle ∙ x)) r.kept);
+        kept = kept_more base_of history_of base g.published s.homes (set s.views id v) (note v) (kept_set base_of history_of base g.published s.homes s.views
+            id v v at (λ h x. cc (sym idle ∙ x)) r.kept);
         queued = queued_more g.queue g.served g.next (set s.views id v) (note v) (queued_set g.queue g.served g.next s.views id v v at (λ t o. o) r.queued);
         each = λ j d there. ⊎_elim
             (each_set (Fits seat base seats g s.homes) s.views id v f (λ i e _ t. r.each i e t) j d)
@@ -67,7 +68,8 @@ module _ {M B E : Type 0} (base_of : M → B) (history_of : M → List E) (seat 
   }
 
   -- a book that differs from that of the state at most in who has a number, where one idle view has become u and another was spent
-  joined : (s : State (Option M) (View B E)) (r : Rule base_of history_of seat base seats s) (owner : ℕ → ℕ) (id other : ℕ) (v u w : View B E) → get_elem? s.views id ≡ some v → get_elem? (set s.views id u) other ≡ some w
+  joined : (s : State (Option M) (View B E)) (r : Rule base_of history_of seat base seats s) (owner : ℕ → ℕ) (id other : ℕ) (v u w : View B E)
+      → get_elem? s.views id ≡ some v → get_elem? (set s.views id u) other ≡ some w
       → v.stage ≡ Idle → w.stage ≡ Idle → Fits seat base seats (record (r.book) { owner = owner }) s.homes id u
       → ((i : ℕ) (e : View B E) → i ≢ other → Fits seat base seats r.book s.homes i e → Fits seat base seats (record (r.book) { owner = owner }) s.homes i e)
       → ¬ (other ≡ id) → Rule base_of history_of seat base seats record { words = s.words; homes = s.homes; views = set (set s.views id u) other spent_view }
@@ -82,7 +84,8 @@ module _ {M B E : Type 0} (base_of : M → B) (history_of : M → List E) (seat 
         few_seats = r.few_seats;
         short = r.short;
         unmade = r.unmade;
-        kept = kept_set base_of history_of base g.published s.homes (set s.views id u) other w spent_view there (λ p x. cc (sym rests ∙ x)) (kept_set base_of history_of base g.published s.homes s.views id v u at (λ p x. cc (sym idle ∙ x)) r.kept);
+        kept = kept_set base_of history_of base g.published s.homes (set s.views id u) other w spent_view there (λ p x. cc (sym rests ∙ x))
+            (kept_set base_of history_of base g.published s.homes s.views id v u at (λ p x. cc (sym idle ∙ x)) r.kept);
         queued = queued_set g.queue g.served g.next (set s.views id u) other w spent_view there (λ t o. absurd (subst (HasTicket g.served t) rests o))
             (queued_set g.queue g.served g.next s.views id v u at (λ t o. absurd (subst (HasTicket g.served t) idle o)) r.queued);
         each = each_set (Fits seat base seats h s.homes) (set s.views id u) other spent_view (spent_fits h s.homes other)
@@ -123,7 +126,8 @@ module _ {M B E : Type 0} (base_of : M → B) (history_of : M → List E) (seat 
   takes_over-else : (owner : ℕ → ℕ) (id other i n : ℕ) → owner n ≡ i → i ≢ other → takes_over owner id other n ≡ i
   takes_over-else owner id other i n e away = ap (λ b. cond b id (owner n)) (ne_eqb (owner n) other (λ x. away (sym e ∙ x))) ∙ e
 
-  pub end_allowed : (id : ℕ) (v : View B E) (other : ℕ) (w : View B E) (m : ℕ) → v.stage ≡ Idle → w.stage ≡ Idle → w.role ≡ Numbered m → Joins (Rule base_of history_of seat base seats) id v other w (with_seat v w) spent_view
+  pub end_allowed : (id : ℕ) (v : View B E) (other : ℕ) (w : View B E) (m : ℕ) → v.stage ≡ Idle → w.stage ≡ Idle → w.role ≡ Numbered m
+      → Joins (Rule base_of history_of seat base seats) id v other w (with_seat v w) spent_view
   end_allowed id v other w m idle rests named s r at apart there =
       let g : Book E = r.book in
       let p : List E = g.published in

@@ -80,7 +80,8 @@ module _ {M B E : Type 0} (base_of : M → B) (history_of : M → List E) (seat 
           book = h;
           words = ap (λ (ws : List ℕ). set ws 2 ((get_or ws 2 0 + 1) % 18446744073709551616)) r.words ∙ ap (λ (x : ℕ). g.next ∷ g.served ∷ x ∷ []) (mod_fits (g.made + 1) (omega arith) ∙ omega arith);
           ordered = r.ordered;
-          counted = let a = total_turns-same (put g.turns g.made 0) g.turns g.made (λ x l. put_else g.turns g.made 0 x (λ y. omega arith)) in let b = put_here g.turns g.made 0 in let c = r.counted in omega arith;
+          counted = let a = total_turns-same (put g.turns g.made 0) g.turns g.made (λ x l. put_else g.turns g.made 0 x (λ y. omega arith)) in
+              let b = put_here g.turns g.made 0 in let c = r.counted in omega arith;
           few_turns = put_holds (λ x. x ≤ most_turns) g.turns g.made 0 (omega arith) r.few_turns;
           few_seats = (omega arith, few.1);
           short = r.short;
@@ -93,8 +94,12 @@ module _ {M B E : Type 0} (base_of : M → B) (history_of : M → List E) (seat 
                 sized = f.sized;
                 seen = (g.published, refl);
                 told = (g.published, refl);
-                number = λ x o. let same : g.made ≡ x = sym here ∙ o in
-                    (subst (λ (z : ℕ). put g.owner g.made id z ≡ id) same (put_here g.owner g.made id), omega arith, subst (λ (z : ℕ). put g.turns g.made 0 z ≡ 0) same (put_here g.turns g.made 0), r.unmade x (omega arith));
+                number = λ x o. let same : g.made ≡ x = sym here ∙ o in (
+                  subst (λ (z : ℕ). put g.owner g.made id z ≡ id) same (put_here g.owner g.made id),
+                  omega arith,
+                  subst (λ (z : ℕ). put g.turns g.made 0 z ≡ 0) same (put_here g.turns g.made 0),
+                  r.unmade x (omega arith),
+                );
                 ended = λ x es o. absurd (contains-nil (x, es) o);
                 agrees = (λ x o. refl, λ x es o. absurd (contains-nil (x, es) o));
                 makes = (makes.0, omega arith);
@@ -107,7 +112,8 @@ module _ {M B E : Type 0} (base_of : M → B) (history_of : M → List E) (seat 
                 sized = q.sized;
                 seen = q.seen;
                 told = q.told;
-                number = λ x o. let u = q.number x o in let made = u.1 in (put_else g.owner g.made id x (λ y. omega arith) ∙ u.0, omega arith, put_else g.turns g.made 0 x (λ y. omega arith) ∙ u.2, u.3);
+                number = λ x o. let u = q.number x o in let made = u.1 in
+                    (put_else g.owner g.made id x (λ y. omega arith) ∙ u.0, omega arith, put_else g.turns g.made 0 x (λ y. omega arith) ∙ u.2, u.3);
                 ended = λ x es o. let u = q.ended x es o in let made = u.1 in (put_else g.owner g.made id x (λ y. omega arith) ∙ u.0, omega arith, u.2, u.3);
                 agrees = q.agrees;
                 makes = makes_other g.made (suc g.made) g.maker g.maker j d.role (λ y. other (y ∙ sym makes.0)) q.makes;

@@ -29,13 +29,15 @@ with_pass g h = record g { served = suc g.served; published = h }
 
 module _ {M E : Type 0} (queue : ℕ → ℕ) (served next id : ℕ) where
   -- the place of others stays so
-  pass_stands : (published h : List E) (homes homes' : List (Home (Option M))) (i : ℕ) (r : Role) (st : Stage E) → queue served ≡ id → i ≢ id → Stands queue served next published homes i r st → Stands queue (suc served) next h homes' i r st
+  pass_stands : (published h : List E) (homes homes' : List (Home (Option M))) (i : ℕ) (r : Role) (st : Stage E) → queue served ≡ id → i ≢ id
+      → Stands queue served next published homes i r st → Stands queue (suc served) next h homes' i r st
   pass_stands published h homes homes' i r Idle q other k = tt
   pass_stands published h homes homes' i r (Waits t) q other k = let ne : t ≢ served = λ x. other (sym k.0 ∙ (ap queue x ∙ q)) in (k.0, omega arith, k.2, k.3)
   pass_stands published h homes homes' i r (Holds p) q other k = absurd (other (sym k.0 ∙ q))
 
 -- a seat that passed no turn on has the ticket that it drew last, or passed it on before
-pass_drew : {M E : Type 0} (queue : ℕ → ℕ) (served next id : ℕ) (published : List E) (homes : List (Home (Option M))) (i : ℕ) (r : Role) (turns ticket : ℕ) (st : Stage E) → queue served ≡ id → i ≢ id → Stands queue served next published homes i r st
+pass_drew : {M E : Type 0} (queue : ℕ → ℕ) (served next id : ℕ) (published : List E) (homes : List (Home (Option M))) (i : ℕ) (r : Role) (turns ticket : ℕ)
+    (st : Stage E) → queue served ≡ id → i ≢ id → Stands queue served next published homes i r st
     → DrewLast served turns ticket st → DrewLast (suc served) turns ticket st
 pass_drew queue served next id published homes i r turns ticket Idle q other k d = λ some_turn. let before = d some_turn in omega arith
 pass_drew queue served next id published homes i r turns ticket (Waits t) q other k d = d
@@ -47,10 +49,13 @@ pass_ticket served t (Waits u) l o = o
 pass_ticket served t (Holds h) l o = absurd (omega arith)
 
 module _ {B E : Type 0} (queue : ℕ → ℕ) (served next id : ℕ) where
-  pass_queued : (taken : List E) (views : List (View B E)) (v w : View B E) → get_elem? views id ≡ some v → v.stage ≡ Holds taken → IsQueued queue served next views → IsQueued queue (suc served) next (set views id w)
+  pass_queued : (taken : List E) (views : List (View B E)) (v w : View B E) → get_elem? views id ≡ some v → v.stage ≡ Holds taken
+      → IsQueued queue served next views → IsQueued queue (suc served) next (set views id w)
   pass_queued taken views v w at holds q t l h =
       let u = q t (omega arith) h in
-      let away : queue t ≢ id = λ e. let o : t ≡ served = subst (λ (z : Stage E). HasTicket served t z) holds (subst (λ (z : View B E). HasTicket served t z.stage) (same_at views (queue t) id u.0 v u.1 at e) u.2) in omega arith in
+      let away : queue t ≢ id = λ e. let o : t ≡ served =
+      subst (λ (z : Stage E). HasTicket served t z) holds (subst (λ (z : View B E). HasTicket served t z.stage) (same_at views (queue t) id u.0 v u.1 at e)
+      u.2) in omega arith in
       (u.0, set_else views id (queue t) w away ∙ u.1, pass_ticket served t u.0.stage (omega arith) u.2)
 
 module _ {M B E : Type 0} (base_of : M → B) (history_of : M → List E) (seat : E → ℕ) (base : B) (seats : ℕ) where
@@ -58,7 +63,8 @@ module _ {M B E : Type 0} (base_of : M → B) (history_of : M → List E) (seat 
   machine_based b m (inl e) is = absurd (cc (sym e ∙ is))
   machine_based b m (inr e) is = cc (sym is ∙ e)
 
-  pub pass_on_allowed : (slots id : ℕ) (me : Me (Option M) (View B E)) (n : ℕ) (m : M) (taken : List E) → me.0.role ≡ Numbered n → me.0.stage ≡ Holds taken → me.1 ≡ (0, Some m) ∷ [] → me.0.base ≡ Some (base_of m)
+  pub pass_on_allowed : (slots id : ℕ) (me : Me (Option M) (View B E)) (n : ℕ) (m : M) (taken : List E) → me.0.role ≡ Numbered n → me.0.stage ≡ Holds taken
+      → me.1 ≡ (0, Some m) ∷ [] → me.0.base ≡ Some (base_of m)
       → Grows seat n taken (history_of m)
       → Allows (Rule base_of history_of seat base seats) slots id me 1 (λ x. (x + 1) % 18446744073709551616) (PassesOn history_of seat (step slots 1 1 0 none) me)
   pass_on_allowed slots id me n m taken is holds has based grows s r len at small =
@@ -79,7 +85,8 @@ module _ {M B E : Type 0} (base_of : M → B) (history_of : M → List E) (seat 
       let fits = total_turns_fit g.turns g.made r.few_turns (omega arith) in
       let counted = r.counted in
       let w : View B E = with_turn seat v h in
-      let own : (x : ℕ) → HasNumber v.role x → entries_of seat x h ≡ w.own = λ x o. let same : n ≡ x = subst (λ (y : Role). HasNumber y x) is o in ap (λ (y : ℕ). entries_of seat y h) (sym same ∙ sym (ap number_of is)) in
+      let own : (x : ℕ) → HasNumber v.role x → entries_of seat x h ≡ w.own = λ x o. let same : n ≡ x = subst (λ (y : Role). HasNumber y x) is o in
+      ap (λ (y : ℕ). entries_of seat y h) (sym same ∙ sym (ap number_of is)) in
       let homes : put_back s.homes me.1 ≡ some (Some m) ∷ [] = ap (put_back s.homes) has ∙ ap (λ (hs : List (Home (Option M))). set hs 0 (some (Some m))) k.4 in (
         w,
         gives,

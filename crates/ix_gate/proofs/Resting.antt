@@ -30,7 +30,8 @@ module _ {M E : Type 0} where
 
 module _ {M B E : Type 0} (base : M → B) (history : M → List E) (seat : E → ℕ) where
   -- a look that took the machine, and an exchange that took it out of the slot
-  pub taking : (d w n p : Me (Option M) (View B E)) (found : ℕ) (r : Option M) (x : M) → HasLooked d.0 w.0 → w.1 ≡ [] → found ≡ d.0.ticket → Takes base history seat w n found (with_look w.0 found) → n.1 ≡ (0, r) ∷ rest n.1 → r ≡ Some x → p ≡ (n.0, (0, None) ∷ rest n.1)
+  pub taking : (d w n p : Me (Option M) (View B E)) (found : ℕ) (r : Option M) (x : M) → HasLooked d.0 w.0 → w.1 ≡ [] → found ≡ d.0.ticket
+      → Takes base history seat w n found (with_look w.0 found) → n.1 ≡ (0, r) ∷ rest n.1 → r ≡ Some x → p ≡ (n.0, (0, None) ∷ rest n.1)
       → TakesMachine base history seat d p x
   taking d w n p found r x looked free served t read is wrote =
       let here : Some t.machine ≡ r = ap (λ (q : List (ℕ × Option M)). carried q r) (sym (ap (λ (q : Me (Option M) (View B E)). q.1) t.now) ∙ read) in
@@ -38,7 +39,8 @@ module _ {M B E : Type 0} (base : M → B) (history : M → List E) (seat : E �
       let view : w.0 ≡ record (d.0) { looks = looked.0; look_found = looked.1 } = looked.3 in
       let low = looked.2 in
       let told : ((d.0.base ≡ None) ⊎ (d.0.base ≡ Some (base x))) × IsPrefix d.0.seen (history x) × Agrees seat d.0 (history x) =
-      subst (λ (z : View B E × M). ((z.0.base ≡ None) ⊎ (z.0.base ≡ Some (base z.1))) × IsPrefix z.0.seen (history z.1) × Agrees seat z.0 (history z.1)) (λ i. (view i, same i)) (t.based, t.begins, t.agrees) in record {
+      subst (λ (z : View B E × M). ((z.0.base ≡ None) ⊎ (z.0.base ≡ Some (base z.1))) × IsPrefix z.0.seen (history z.1) × Agrees seat z.0 (history z.1))
+      (λ i. (view i, same i)) (t.based, t.begins, t.agrees) in record {
         looks = looked.0 + 1;
         now = wrote ∙ ((λ i. ((t.now i).0, (0, None) ∷ rest ((t.now i).1))) ∙ (λ i. (with_look (view i) (served i) (Holds (history (same i))), (0, None) ∷ free i)));
         more = omega arith;
@@ -49,13 +51,15 @@ module _ {M B E : Type 0} (base : M → B) (history : M → List E) (seat : E �
       }
 
   -- the same of a draw that found the number that is served
-  pub taking_at_once : (m n p : Me (Option M) (View B E)) (found : ℕ) (r : Option M) (x : M) → m.1 ≡ [] → Takes base history seat m n found (with_look (with_ticket m.0 found) found) → n.1 ≡ (0, r) ∷ rest n.1 → r ≡ Some x → p ≡ (n.0, (0, None) ∷ rest n.1)
+  pub taking_at_once : (m n p : Me (Option M) (View B E)) (found : ℕ) (r : Option M) (x : M) → m.1 ≡ []
+      → Takes base history seat m n found (with_look (with_ticket m.0 found) found) → n.1 ≡ (0, r) ∷ rest n.1 → r ≡ Some x → p ≡ (n.0, (0, None) ∷ rest n.1)
       → TakesMachine base history seat (with_ticket m.0 found, m.1) p x
   taking_at_once m n p found r x free t read is wrote =
       taking (with_ticket m.0 found, m.1) (with_ticket m.0 found, m.1) n p found r x (m.0.looks, m.0.look_found, le_refl m.0.looks, refl) free refl
       record { machine = t.machine; now = t.now; based = t.based; begins = t.begins; agrees = t.agrees; entries = t.entries } read is wrote
 
-  pub at_rest_after_take : (number turns t : ℕ) (m d n : Me (Option M) (View B E)) (x : M) → IsAtRest seat number turns m → turns < most_turns → d ≡ (with_ticket m.0 t, m.1) → TakesMachine base history seat d n x → IsAtRest seat number (turns + 1) n
+  pub at_rest_after_take : (number turns t : ℕ) (m d n : Me (Option M) (View B E)) (x : M) → IsAtRest seat number turns m → turns < most_turns
+      → d ≡ (with_ticket m.0 t, m.1) → TakesMachine base history seat d n x → IsAtRest seat number (turns + 1) n
   at_rest_after_take number turns t m d n x s room drew took =
       let now = took.now ∙ (λ i. (record ((drew i).0) { stage = Holds (history x); looks = took.looks; look_found = ((drew i).0).ticket }, (0, None) ∷ [])) in
       subst (IsAtRest seat number (turns + 1)) (sym now) record {
@@ -67,7 +71,8 @@ module _ {M B E : Type 0} (base : M → B) (history : M → List E) (seat : E �
         agrees = s.agrees;
       }
 
-  pub at_rest_after_give : (number turns : ℕ) (m d n : Me (Option M) (View B E)) (x : M) → IsAtRest seat number turns m → d.0 ≡ m.0 → n ≡ (with_turn seat d.0 (history x), []) → KeepsEnded seat d.0.ended (history x) → IsAtRest seat number turns n
+  pub at_rest_after_give : (number turns : ℕ) (m d n : Me (Option M) (View B E)) (x : M) → IsAtRest seat number turns m → d.0 ≡ m.0
+      → n ≡ (with_turn seat d.0 (history x), []) → KeepsEnded seat d.0.ended (history x) → IsAtRest seat number turns n
   at_rest_after_give number turns m d n x s same gave ended =
       let now = gave ∙ (λ i. (with_turn seat (same i) (history x), [])) in
       subst (IsAtRest seat number turns) (sym now) record {
@@ -84,7 +89,8 @@ module _ {M B E : Type 0} (base : M → B) (history : M → List E) (seat : E �
 
 module _ {M B E : Type 0} (seat : E → ℕ) where
   -- what a number that is served tells a seat between its calls
-  pub learns : (gate : TableId) (number turns found : ℕ) (m : Me (Option M) (View B E)) (k : SeatState B E) (h : List E) → IsAtRest seat number turns m → state_of gate number turns m.0 ≡ k → IsServed m.0 found → length h ≤ found → LearnsServed k h found
+  pub learns : (gate : TableId) (number turns found : ℕ) (m : Me (Option M) (View B E)) (k : SeatState B E) (h : List E) → IsAtRest seat number turns m
+      → state_of gate number turns m.0 ≡ k → IsServed m.0 found → length h ≤ found → LearnsServed k h found
   learns gate number turns found m k h s is t short = subst (λ (z : SeatState B E). LearnsServed z h found) is record {
     least = t.least;
     passed = λ some_turn. t.passed (let same = s.counted in omega arith);
@@ -93,7 +99,8 @@ module _ {M B E : Type 0} (seat : E → ℕ) where
   }
 
   -- a look of a seat that has learnt more
-  pub at_rest_after_look : (number turns found : ℕ) (st : Step (Option M)) (m l n : Me (Option M) (View B E)) (v : View B E) → IsAtRest seat number turns m → v.base ≡ m.0.base → v.role ≡ m.0.role → v.turns ≡ m.0.turns → v.stage ≡ m.0.stage
+  pub at_rest_after_look : (number turns found : ℕ) (st : Step (Option M)) (m l n : Me (Option M) (View B E)) (v : View B E) → IsAtRest seat number turns m
+      → v.base ≡ m.0.base → v.role ≡ m.0.role → v.turns ≡ m.0.turns → v.stage ≡ m.0.stage
       → l ≡ (v, m.1) → FreeLooks seat st l found n → IsAtRest seat number turns n
   at_rest_after_look number turns found st m l n v s base_is role_is turns_is stage_is learnt look =
       let now = look.now ∙ (λ i. (with_free_look ((learnt i).0) found, (learnt i).1)) in

@@ -12,7 +12,8 @@ use Rattle.ix_gate.proofs.Alone.{alone_served}
 use Rattle.ix_gate.proofs.Views.{seats_known, Rule}
 
 module _ {M B E : Type 0} (base_of : M → B) (history_of : M → List E) (seat : E → ℕ) (base : B) (seats : ℕ) where
-  pub is_served : (s : State (Option M) (View B E)) (r : Rule base_of history_of seat base seats s) (id : ℕ) (v : View B E) (found : ℕ) → get_elem? s.views id ≡ some v → v.stage ≡ Idle → r.book.served ≤ found → found ≤ r.book.next → IsServed v found
+  pub is_served : (s : State (Option M) (View B E)) (r : Rule base_of history_of seat base seats s) (id : ℕ) (v : View B E) (found : ℕ)
+      → get_elem? s.views id ≡ some v → v.stage ≡ Idle → r.book.served ≤ found → found ≤ r.book.next → IsServed v found
   is_served s r id v found at idle low high =
       let f = r.each id v at in
       let looked = f.look_found in record {

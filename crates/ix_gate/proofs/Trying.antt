@@ -19,7 +19,8 @@ use Rattle.ix_gate.proofs.Looking.{away_stands, takes_from_home}
 use Rattle.ix_gate.proofs.Alone.{alone_served}
 
 module _ {M B E : Type 0} (base_of : M → B) (history_of : M → List E) (seat : E → ℕ) (base : B) (seats : ℕ) where
-  try_hit : (s : State (Option M) (View B E)) (r : Rule base_of history_of seat base seats s) (slots id : ℕ) (me : Me (Option M) (View B E)) (n old : ℕ) → me.0.stage ≡ Idle → me.0.role ≡ Numbered n → me.0.turns < most_turns → me.0.look_found ≡ old
+  try_hit : (s : State (Option M) (View B E)) (r : Rule base_of history_of seat base seats s) (slots id : ℕ) (me : Me (Option M) (View B E)) (n old : ℕ)
+      → me.0.stage ≡ Idle → me.0.role ≡ Numbered n → me.0.turns < most_turns → me.0.look_found ≡ old
       → get_elem? s.views id ≡ some me.0 → get_or s.words 0 0 ≡ old → IsKept base_of history_of base r.book.published s.homes s.views
       → MaySet base_of history_of seat base seats s id me 0 (old + 1) (TriesDraw base_of history_of seat (step slots 0 old (old + 1) none) me)
   try_hit s r slots id me n old idle is room known at hit (inr (i, u, h, away, there, holds)) =
@@ -64,11 +65,17 @@ module _ {M B E : Type 0} (base_of : M → B) (history_of : M → List E) (seat 
               (λ j d other there. let q = r.each j d there in draw_fits_other seat base seats g s.homes homes id n j d mine.0 other q
               (draw_stands g id n homes j d.role d.stage (away_stands g.queue g.served g.next g.published s.homes m j d.role d.stage home q.stands)));
         },
-        (λ _. takes_from_home base_of history_of seat base seats g s.homes id me m found (with_look (with_ticket v found) found) f (sym has) based (omega (arith, r.short, e, now)), λ miss. absurd (miss hit)),
+        (
+          λ _. takes_from_home base_of history_of seat base seats g s.homes id me m found (with_look (with_ticket v found) found) f (sym has) based
+              (omega (arith, r.short, e, now)),
+          λ miss. absurd (miss hit),
+        ),
       )
 
-  try_miss : (s : State (Option M) (View B E)) (r : Rule base_of history_of seat base seats s) (slots id : ℕ) (me : Me (Option M) (View B E)) (n old new : ℕ) → me.0.stage ≡ Idle → me.0.role ≡ Numbered n
-      → get_elem? s.views id ≡ some me.0 → get_or s.words 0 0 ≢ old → MaySet base_of history_of seat base seats s id me 0 (get_or s.words 0 0) (TriesDraw base_of history_of seat (step slots 0 old new none) me)
+  try_miss : (s : State (Option M) (View B E)) (r : Rule base_of history_of seat base seats s) (slots id : ℕ) (me : Me (Option M) (View B E)) (n old new : ℕ)
+      → me.0.stage ≡ Idle → me.0.role ≡ Numbered n
+      → get_elem? s.views id ≡ some me.0 → get_or s.words 0 0 ≢ old
+      → MaySet base_of history_of seat base seats s id me 0 (get_or s.words 0 0) (TriesDraw base_of history_of seat (step slots 0 old new none) me)
   try_miss s r slots id me n old new idle is at miss =
       let g : Book E = r.book in
       let v : View B E = me.0 in
@@ -93,11 +100,21 @@ module _ {M B E : Type 0} (base_of : M → B) (history_of : M → List E) (seat 
           look_found = f.look_found;
           drew = f.drew;
         },
-        (λ hit. absurd (miss hit), λ _. (refl, omega arith, λ one b based. let a = alone_served base_of history_of seat base seats s r id n v at idle is (seats_known v.base v.seats seats b f.sized based ∙ one) in e ∙ a.1)),
+        (
+          λ hit. absurd (miss hit),
+          λ _. (
+            refl,
+            omega arith,
+            λ one b based. let a =
+                alone_served base_of history_of seat base seats s r id n v at idle is (seats_known v.base v.seats seats b f.sized based ∙ one) in e ∙ a.1,
+          ),
+        ),
       )
 
   pub try_draw_allowed : (slots id : ℕ) (me : Me (Option M) (View B E)) (n old : ℕ) → me.0.stage ≡ Idle → me.0.role ≡ Numbered n → me.0.turns < most_turns → me.0.look_found ≡ old
       → Allows (Rule base_of history_of seat base seats) slots id me 0 (λ x. either (eqb x old) (old + 1) x) (TriesDraw base_of history_of seat (step slots 0 old (old + 1) none) me)
-  try_draw_allowed slots id me n old idle is room known s r len at small = exchanged (get_or s.words 0 0) old (old + 1) (λ x. MaySet base_of history_of seat base seats s id me 0 x (TriesDraw base_of history_of seat (step slots 0 old (old + 1) none) me))
+  try_draw_allowed slots id me n old idle is room known s r len at small =
+      exchanged (get_or s.words 0 0) old (old + 1) (λ x. MaySet base_of history_of seat base seats s id me 0 x
+      (TriesDraw base_of history_of seat (step slots 0 old (old + 1) none) me))
       (λ hit. try_hit s r slots id me n old idle is room known at hit r.kept)
       (λ miss. try_miss s r slots id me n old (old + 1) idle is at miss)

@@ -35,9 +35,14 @@ module _ {A : Type 0} where
 
 module _ {B E : Type 0} (queue : ℕ → ℕ) (served next : ℕ) where
   -- each ticket still has its seat, where a view keeps its ticket
-  pub queued_set : (views : List (View B E)) (id : ℕ) (v w : View B E) → get_elem? views id ≡ some v → ((t : ℕ) → HasTicket served t v.stage → HasTicket served t w.stage) → IsQueued queue served next views → IsQueued queue served next (set views id w)
+  pub queued_set : (views : List (View B E)) (id : ℕ) (v w : View B E) → get_elem? views id ≡ some v
+      → ((t : ℕ) → HasTicket served t v.stage → HasTicket served t w.stage) → IsQueued queue served next views → IsQueued queue served next (set views id w)
   queued_set views id v w at stays q t l h = let u = q t l h in dite (ℕ_discrete (queue t) id)
-      (λ e. (w, ap (get_elem? (set views id w)) e ∙ set_here views id w (at_lt views id v at), stays t (subst (λ (z : View B E). HasTicket served t z.stage) (same_at views (queue t) id u.0 v u.1 at e) u.2)))
+      (λ e. (
+        w,
+        ap (get_elem? (set views id w)) e ∙ set_here views id w (at_lt views id v at),
+        stays t (subst (λ (z : View B E). HasTicket served t z.stage) (same_at views (queue t) id u.0 v u.1 at e) u.2),
+      ))
       (λ ne. (u.0, set_else views id (queue t) w ne ∙ u.1, u.2))
 
   -- or a view comes
@@ -46,7 +51,8 @@ module _ {B E : Type 0} (queue : ℕ → ℕ) (served next : ℕ) where
 
 module _ {M B E : Type 0} (base_of : M → B) (history_of : M → List E) (base : B) (published : List E) (homes : List (Home (Option M))) where
   -- the machine is still at home or with its holder, where a view changes that holds no turn
-  pub kept_set : (views : List (View B E)) (id : ℕ) (v w : View B E) → get_elem? views id ≡ some v → ((h : List E) → v.stage ≡ Holds h → ⊥) → IsKept base_of history_of base published homes views → IsKept base_of history_of base published homes (set views id w)
+  pub kept_set : (views : List (View B E)) (id : ℕ) (v w : View B E) → get_elem? views id ≡ some v → ((h : List E) → v.stage ≡ Holds h → ⊥)
+      → IsKept base_of history_of base published homes views → IsKept base_of history_of base published homes (set views id w)
   kept_set views id v w at free (inl m) = inl m
   kept_set views id v w at free (inr (i, u, h, away, there, holds)) =
       inr (i, u, h, away, set_else views id i w (λ e. free h (ap (λ (x : View B E). x.stage) (same_at views id i v u at there (sym e)) ∙ holds)) ∙ there, holds)

@@ -10,12 +10,12 @@ mod lanes;
 pub mod laws;
 mod policies;
 mod preparing;
+mod refusals;
 mod refusing;
 mod run;
 mod status;
 mod streams;
 mod task;
-mod refusals;
 
 pub use asked::words::Words;
 pub use ix_io as io;

@@ -2,9 +2,9 @@
 ghost use Rattle.ix_host.specs.run.Outcome as outcome;
 ghost use Rattle.ix_host.specs.run.Run.{Ends};
 
+use crate::refusals::rules::refusal;
 use crate::status::Status;
 use crate::streams::sending::tell;
-use crate::refusals::rules::refusal;
 use ix_io::Sink;
 use ix_model::NoMemory;
 use std::alloc::Global;

@@ -20,7 +20,8 @@ same_number k j e = grind (arith, nat_tests, e)
 other_number : (k j : ℕ) → (j ≡ k → ⊥) → (j == k) ≡ false
 other_number k j ne = grind (arith, nat_tests, ne)
 
-one_on : (k : ℕ) (x : Option Node) (b : List ℕ) → ((y : Node) → x ≡ Some y → y.fs ≡ k) → (x ≡ None → b ≡ []) → (if option_map_or (λ y. y.fs == k) x false then blocks_for (length b) else 0) ≡ blocks_for (length b)
+one_on : (k : ℕ) (x : Option Node) (b : List ℕ) → ((y : Node) → x ≡ Some y → y.fs ≡ k) → (x ≡ None → b ≡ [])
+    → (if option_map_or (λ y. y.fs == k) x false then blocks_for (length b) else 0) ≡ blocks_for (length b)
 one_on k None b fs empty = sym (ap (λ (xs : List ℕ). blocks_for (length xs)) (empty refl))
 one_on k (Some y) b fs empty = ap (λ t. if t then blocks_for (length b) else 0) (same_number k y.fs (fs y refl))
 
@@ -67,7 +68,8 @@ pub used_here : (vs : List Volume) (j k i : ℕ) (v : Volume) → AreOnes j vs �
 used_here [] j k i v h number low is = absurd (omega (arith, low))
 used_here (w ∷ vs) j k zero v h number low is =
     let one = h 0 w (omega arith) refl in
-    let here : blocks_of k w.nodes w.blocks.files ≡ used w.blocks.files = used_on k w.spec.ceiling w.nodes w.blocks.files (subst (λ m. AreOn m w.spec.ceiling w.nodes w.blocks.files) (sym number) one.on) one.long in
+    let here : blocks_of k w.nodes w.blocks.files ≡ used w.blocks.files =
+    used_on k w.spec.ceiling w.nodes w.blocks.files (subst (λ m. AreOn m w.spec.ceiling w.nodes w.blocks.files) (sym number) one.on) one.long in
     let past : blocks_of k (all_nodes vs) (all_bytes vs) ≡ 0 = used_past vs (suc j) k (rest_ones j w vs h) (omega (arith, number)) in
     used_append k w.nodes (all_nodes vs) w.blocks.files (all_bytes vs) one.long ∙ omega (arith, here, past) ∙ ap (λ (u : Volume). used u.blocks.files) (sym is)
 used_here (w ∷ vs) j k (suc i) v h number low is =

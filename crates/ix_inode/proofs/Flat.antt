@@ -5,13 +5,16 @@ use Rattle.std.proofs.lemmas.List.{set-append_left, set-append_right, take_at, d
 
 module _ {X A : Type 0} (f : X → List A) where
   -- an element changed in a piece is one changed in the whole
-  pub flat_set : (xs : List X) (k n : ℕ) (y : X) (a : A) → k < length xs → n < length (f (get_or xs k y)) → f y ≡ set (f (get_or xs k y)) n a → flat_map f (set xs k y) ≡ set (flat_map f xs) (length (flat_map f (take k xs)) + n) a
+  pub flat_set : (xs : List X) (k n : ℕ) (y : X) (a : A) → k < length xs → n < length (f (get_or xs k y)) → f y ≡ set (f (get_or xs k y)) n a
+      → flat_map f (set xs k y) ≡ set (flat_map f xs) (length (flat_map f (take k xs)) + n) a
   flat_set [] k n y a low lown e = absurd (omega arith)
   flat_set (x ∷ xs) zero n y a low lown e = ap (λ ys. ys ++ flat_map f xs) e ∙ sym (set-append_left (f x) (flat_map f xs) n a lown) ∙ ap (λ m. set (f x ++ flat_map f xs) m a) (sym (zero-add n))
   flat_set (x ∷ xs) (suc k) n y a low lown e =
       let rest : flat_map f (set xs k y) ≡ set (flat_map f xs) (length (flat_map f (take k xs)) + n) a = flat_set xs k n y a (omega arith) lown e in
       let long : length (f x ++ flat_map f (take k xs)) + n ≡ length (f x) + (length (flat_map f (take k xs)) + n) = omega (arith, length-append (f x) (flat_map f (take k xs))) in
-      let right : set (f x ++ flat_map f xs) (length (f x) + (length (flat_map f (take k xs)) + n)) a ≡ f x ++ set (flat_map f xs) (length (f x) + (length (flat_map f (take k xs)) + n) - length (f x)) a = set-append_right (f x) (flat_map f xs) (length (f x)) _ a refl (omega arith) in
+      let right : set (f x ++ flat_map f xs) (length (f x) + (length (flat_map f (take k xs)) + n)) a ≡ f x
+      ++ set (flat_map f xs) (length (f x) + (length (flat_map f (take k xs)) + n) - length (f x)) a =
+      set-append_right (f x) (flat_map f xs) (length (f x)) _ a refl (omega arith) in
       let back : length (f x) + (length (flat_map f (take k xs)) + n) - length (f x) ≡ length (flat_map f (take k xs)) + n = omega arith in
       ap (λ ys. f x ++ ys) rest ∙ sym (ap (λ m. set (f x ++ flat_map f xs) m a) long ∙ right ∙ ap (λ m. f x ++ set (flat_map f xs) m a) back)
 
@@ -22,5 +25,7 @@ module _ {X A : Type 0} (f : X → List A) where
   flat_window (x ∷ xs) (suc k) n d low e =
       let rest : take n (drop (length (flat_map f (take k xs))) (flat_map f xs)) ≡ f (get_or xs k d) = flat_window xs k n d (omega arith) e in
       let long : length (f x ++ flat_map f (take k xs)) ≡ length (f x) + length (flat_map f (take k xs)) = length-append (f x) (flat_map f (take k xs)) in
-      let past : drop (length (f x) + length (flat_map f (take k xs))) (f x ++ flat_map f xs) ≡ drop (length (flat_map f (take k xs))) (flat_map f xs) = sym (drop-drop (length (flat_map f (take k xs))) (length (f x)) (f x ++ flat_map f xs)) ∙ ap (λ ys. drop (length (flat_map f (take k xs))) ys) (drop_at (f x) (flat_map f xs) (length (f x)) refl) in
+      let past : drop (length (f x) + length (flat_map f (take k xs))) (f x ++ flat_map f xs) ≡ drop (length (flat_map f (take k xs))) (flat_map f xs) =
+      sym (drop-drop (length (flat_map f (take k xs))) (length (f x)) (f x ++ flat_map f xs))
+      ∙ ap (λ ys. drop (length (flat_map f (take k xs))) ys) (drop_at (f x) (flat_map f xs) (length (f x)) refl) in
       ap (λ m. take n (drop m (f x ++ flat_map f xs))) long ∙ ap (λ ys. take n ys) past ∙ rest

@@ -1,5 +1,7 @@
 -- The file systems one behind the other: where their inodes stand, and an edit of one.
-use Rattle.std.proofs.Common.{Bool, ◌≡◌, ◌<◌, ◌≤◌, ◌+◌, ◌-◌, ◌∙◌, ℕ, zero, suc, true, false, not, nat_le, List, [], ◌∷◌, ◌++◌, length, length-append, take, drop, set, get_or, Option, Some, None, option_map, is_some, IfSome, if◌then◌else◌, ◌^◌, refl, sym, ap, subst, arith, inl, inr, get_or-set_same, get_or-set_other}
+use Rattle.std.proofs.Common.{Bool, ◌≡◌, ◌<◌, ◌≤◌, ◌+◌, ◌-◌, ◌∙◌, ℕ, zero, suc, true, false, not, nat_le, List, [], ◌∷◌, ◌++◌, length, length-append}
+use Rattle.std.proofs.Common.{take, drop, set, get_or, Option, Some, None, option_map, is_some, IfSome, if◌then◌else◌, ◌^◌, refl, sym, ap, subst}
+use Rattle.std.proofs.Common.{arith, inl, inr, get_or-set_same, get_or-set_other}
 use Rattle.std.specs.List.{flat_map}
 use Rattle.std.specs.Option.{option_map_or}
 use Rattle.std.proofs.lemmas.List.{length-set, length-map, get_or_default, get_or_read, get_or-map, set-get_or, take_more, append-nil}
@@ -30,7 +32,8 @@ first_cons s ss k =
     let f : FsSpec → ℕ = λ t. t.inodes in
     sum-map f (s ∷ take k ss) ∙ sum_by-cons f s (take k ss) ∙ ap (λ n. s.inodes + n) (sym (sum-map f (take k ss)))
 
-start_at : {A : Type 0} (f : Volume → List A) (vs : List Volume) (k : ℕ) → ((j : ℕ) (v : Volume) → j < length vs → v ≡ get_or vs j v → length (f v) ≡ v.spec.inodes) → length (flat_map f (take k vs)) ≡ first_inode (specs vs) k
+start_at : {A : Type 0} (f : Volume → List A) (vs : List Volume) (k : ℕ) → ((j : ℕ) (v : Volume) → j < length vs → v ≡ get_or vs j v
+    → length (f v) ≡ v.spec.inodes) → length (flat_map f (take k vs)) ≡ first_inode (specs vs) k
 start_at f [] zero e = refl
 start_at f [] (suc k) e = refl
 start_at f (v ∷ vs) zero e = refl
@@ -124,7 +127,8 @@ module _ (vs : List Volume) (h : AreVolumes vs) (k : ℕ) (v : Volume) (low : k 
         let n_there : n < length (ns (get_or vs k w)) = subst (λ u. n < length (ns u)) read there in
         let b_there : n < length (bs (get_or vs k w)) = subst (λ u. n < length (bs u)) read (files_there n there) in
         let n_edit : all_nodes (set vs k w) ≡ set (all_nodes vs) (length (all_nodes (take k vs)) + n) x = flat_set ns vs k n w x low n_there (edit.nodes ∙ ap (λ (u : Volume). set u.nodes n x) read) in
-        let b_edit : all_bytes (set vs k w) ≡ set (all_bytes vs) (length (all_bytes (take k vs)) + n) bytes = flat_set bs vs k n w bytes low b_there (edit.files ∙ ap (λ (u : Volume). set u.blocks.files n bytes) read) in
+        let b_edit : all_bytes (set vs k w) ≡ set (all_bytes vs) (length (all_bytes (take k vs)) + n) bytes =
+        flat_set bs vs k n w bytes low b_there (edit.files ∙ ap (λ (u : Volume). set u.blocks.files n bytes) read) in
         let number : length (all_bytes (take k vs)) + n ≡ o = omega (arith, bytes_start vs k h, start_is vs k h, spot.number) in
         let new_nodes : all_nodes (set vs k w) ≡ set (all_nodes vs) o x = n_edit ∙ ap (λ m. set (all_nodes vs) m x) (sym spot.number) in
         let new_bytes : all_bytes (set vs k w) ≡ set (all_bytes vs) o bytes = b_edit ∙ ap (λ m. set (all_bytes vs) m bytes) number in
@@ -156,7 +160,8 @@ module _ (vs : List Volume) (h : AreVolumes vs) (k : ℕ) (v : Volume) (low : k 
   view_first = one.first
 
   -- what lies in its range
-  window : {A : Type 0} (f : Volume → List A) → length (flat_map f (take k vs)) ≡ first_inode (specs vs) k → length (f v) ≡ v.spec.inodes → take (fs_at (specs vs) k).inodes (drop (first_inode (specs vs) k) (flat_map f vs)) ≡ f v
+  window : {A : Type 0} (f : Volume → List A) → length (flat_map f (take k vs)) ≡ first_inode (specs vs) k → length (f v) ≡ v.spec.inodes
+      → take (fs_at (specs vs) k).inodes (drop (first_inode (specs vs) k) (flat_map f vs)) ≡ f v
   window f start long =
       let count : (fs_at (specs vs) k).inodes ≡ length (f (get_or vs k v)) = ap (λ (s : FsSpec). s.inodes) (spec_at _) ∙ sym long ∙ ap (λ (u : Volume). length (f u)) is in
       ap (λ m. take (fs_at (specs vs) k).inodes (drop m (flat_map f vs))) (sym start) ∙ flat_window f vs k _ v low count ∙ sym (ap f is)
@@ -178,19 +183,23 @@ module _ (vs : List Volume) (h : AreVolumes vs) (k : ℕ) (v : Volume) (low : k 
   pub view_counted : (free : ℕ) → free + used v.blocks.files ≡ v.blocks.blocks → blocks_of k (all_nodes vs) (all_bytes vs) + free_blocks k (nodes_of vs) ≡ (fs_at (specs vs) k).blocks
   view_counted free all =
       let blocks : (fs_at (specs vs) k).blocks ≡ v.blocks.blocks = ap (λ (s : FsSpec). s.blocks) (spec_at _) ∙ sym one.blocks in
-      let files : blocks_of k (all_nodes vs) (all_bytes vs) ≡ used v.blocks.files = used_here vs 0 k k v (λ j u there e. let w = h.each j u there e in record { on = subst (λ m. AreOn m u.spec.ceiling u.nodes u.blocks.files) (omega arith) w.on; long = w.files ∙ sym w.nodes }) (omega arith) low is in
+      let files : blocks_of k (all_nodes vs) (all_bytes vs) ≡ used v.blocks.files = used_here vs 0 k k v (λ j u there e. let w = h.each j u there e in
+      record { on = subst (λ m. AreOn m u.spec.ceiling u.nodes u.blocks.files) (omega arith) w.on; long = w.files ∙ sym w.nodes }) (omega arith) low is in
       omega (arith, blocks, files, view_free, all)
 
   pub view_space : (n o len : ℕ) → IsSpot vs k n o → is_some (at v.nodes n) ≡ true → has_room n len v.blocks ≡ has_space o len (nodes_of vs)
   view_space n o len spot lives =
       let x = some_is (at v.nodes n) lives in
       let seen : at (nodes_of vs).nodes o ≡ Some x.0 = view_at n o spot ∙ x.1 in
-      let free : v.blocks.blocks - used v.blocks.files ≡ option_map_or (λ y. free_blocks y.fs (nodes_of vs)) (at (nodes_of vs).nodes o) 0 = sym view_free ∙ ap (λ j. free_blocks j (nodes_of vs)) (sym (one.on.fs n x.0 x.1)) ∙ ap (λ (p : Option Node). option_map_or (λ y. free_blocks y.fs (nodes_of vs)) p 0) (sym seen) in
+      let free : v.blocks.blocks - used v.blocks.files ≡ option_map_or (λ y. free_blocks y.fs (nodes_of vs)) (at (nodes_of vs).nodes o) 0 = sym view_free
+      ∙ ap (λ j. free_blocks j (nodes_of vs)) (sym (one.on.fs n x.0 x.1))
+      ∙ ap (λ (p : Option Node). option_map_or (λ y. free_blocks y.fs (nodes_of vs)) p 0) (sym seen) in
       let bytes : get_or v.blocks.files n [] ≡ bytes_at o (nodes_of vs) = sym (view_bytes n o spot) in
       λ i. nat_le (blocks_for len - blocks_for (length (bytes i))) (free i)
 
   -- what is told of an inode of it
-  pub view_told : (n o : ℕ) (x : Node) → IsSpot vs k n o → at v.nodes n ≡ Some x → option_map (told_at o (nodes_of vs)) (at (nodes_of vs).nodes o) ≡ Some (told v.spec.ceiling (length (get_or v.blocks.files n [])) x)
+  pub view_told : (n o : ℕ) (x : Node) → IsSpot vs k n o → at v.nodes n ≡ Some x → option_map (told_at o (nodes_of vs)) (at (nodes_of vs).nodes o)
+      ≡ Some (told v.spec.ceiling (length (get_or v.blocks.files n [])) x)
   view_told n o x spot at_n =
       let ceiling : fs_ceiling x.fs (nodes_of vs) ≡ v.spec.ceiling = ap (λ m. fs_ceiling m (nodes_of vs)) (one.on.fs n x at_n) ∙ view_ceiling in
       let bytes : bytes_at o (nodes_of vs) ≡ get_or v.blocks.files n [] = view_bytes n o spot in
@@ -208,9 +217,17 @@ module _ (vs : List Volume) (h : AreVolumes vs) (k : ℕ) (v : Volume) (low : k 
   -- an inode more
   module _ (dir : Bool) where
     new_edit : (n : ℕ) → at v.nodes n ≡ None → IsEdit v (record v { nodes = put v.nodes n (Some (new_node k dir)) }) n (Some (new_node k dir)) []
-    new_edit n vacant = record { spec = refl; first = refl; nodes = refl; files = sym (ap (λ bs. set v.blocks.files n bs) (sym (one.on.empty n vacant)) ∙ set-get_or v.blocks.files n []); blocks = refl }
+    new_edit n vacant = record {
+      spec = refl;
+      first = refl;
+      nodes = refl;
+      files = sym (ap (λ bs. set v.blocks.files n bs) (sym (one.on.empty n vacant))
+          ∙ set-get_or v.blocks.files n []);
+      blocks = refl;
+    }
 
-    pub view_made : (r : Option ℕ) → r ≡ lowest_free v.nodes → nodes_of (set vs k (record v { nodes = taken r (new_node k dir) v.nodes })) ≡ made (vacant_in k (nodes_of vs)) (new_node k dir) (nodes_of vs)
+    pub view_made : (r : Option ℕ) → r ≡ lowest_free v.nodes → nodes_of (set vs k (record v { nodes = taken r (new_node k dir) v.nodes }))
+        ≡ made (vacant_in k (nodes_of vs)) (new_node k dir) (nodes_of vs)
     view_made None e =
         let none : vacant_in k (nodes_of vs) ≡ None = view_vacant ∙ ap (λ p. option_map (λ n. v.first + n) p) (sym e) in
         let same : set vs k v ≡ vs = ap (λ u. set vs k u) is ∙ set-get_or vs k v in
@@ -224,7 +241,8 @@ module _ (vs : List Volume) (h : AreVolumes vs) (k : ℕ) (v : Volume) (low : k 
     laid_made None e = subst AreVolumes (sym (ap (λ u. set vs k u) is ∙ set-get_or vs k v)) h
     laid_made (Some n) e =
         let free = vacant_there v.nodes n (sym e) in
-        laid_edit _ n _ [] (new_edit n free.1) free.0 (λ y same. let z : new_node k dir ≡ y = same_some same in (ap (λ (u : Node). u.fs) (sym z), ap (λ (u : Node). leq u.label v.spec.ceiling) (sym z) ∙ bottom-leq v.spec.ceiling)) (λ none. absurd (cc none))
+        laid_edit _ n _ [] (new_edit n free.1) free.0 (λ y same. let z : new_node k dir ≡ y = same_some same in
+        (ap (λ (u : Node). u.fs) (sym z), ap (λ (u : Node). leq u.label v.spec.ceiling) (sym z) ∙ bottom-leq v.spec.ceiling)) (λ none. absurd (cc none))
 
   module _ (n o : ℕ) (spot : IsSpot vs k n o) where
     there : n < length v.nodes
@@ -241,7 +259,8 @@ module _ (vs : List Volume) (h : AreVolumes vs) (k : ℕ) (v : Volume) (low : k 
           view_edit _ n (Some x) _ node_edit there o spot ∙ ap (λ bs. record (nodes_of vs) { nodes = put (all_nodes vs) o (Some x); bytes = bs }) same
 
       pub laid_node : x.fs ≡ k → leq x.label v.spec.ceiling ≡ true → AreVolumes (set vs k (record v { nodes = put v.nodes n (Some x) }))
-      laid_node fs below = laid_edit _ n (Some x) _ node_edit there (λ y e. let z : x ≡ y = same_some e in (ap (λ (u : Node). u.fs) (sym z) ∙ fs, ap (λ (u : Node). leq u.label v.spec.ceiling) (sym z) ∙ below)) (λ e. absurd (cc e))
+      laid_node fs below = laid_edit _ n (Some x) _ node_edit there (λ y e. let z : x ≡ y = same_some e in
+          (ap (λ (u : Node). u.fs) (sym z) ∙ fs, ap (λ (u : Node). leq u.label v.spec.ceiling) (sym z) ∙ below)) (λ e. absurd (cc e))
 
     -- one that goes, with its bytes
     gone_edit : IsEdit v (record v { nodes = put v.nodes n None; blocks = with_bytes n [] v.blocks }) n None []
@@ -258,10 +277,12 @@ module _ (vs : List Volume) (h : AreVolumes vs) (k : ℕ) (v : Volume) (low : k 
       held_edit : IsEdit v (record v { blocks = with_bytes n bytes v.blocks }) n (at v.nodes n) bytes
       held_edit = record { spec = refl; first = refl; nodes = sym (set-get_or v.nodes n None); files = refl; blocks = refl }
 
-      pub view_held : (b : Bool) (new : Files) → new ≡ (if b then with_bytes n bytes v.blocks else v.blocks) → nodes_of (set vs k (record v { blocks = new })) ≡ (if b then holding o bytes (nodes_of vs) else nodes_of vs)
+      pub view_held : (b : Bool) (new : Files) → new ≡ (if b then with_bytes n bytes v.blocks else v.blocks)
+          → nodes_of (set vs k (record v { blocks = new })) ≡ (if b then holding o bytes (nodes_of vs) else nodes_of vs)
       view_held true new e =
           let same : set (all_nodes vs) o (at v.nodes n) ≡ all_nodes vs = ap (λ x. set (all_nodes vs) o x) (sym (view_at n o spot)) ∙ set-get_or (all_nodes vs) o None in
-          ap (λ fs. nodes_of (set vs k (record v { blocks = fs }))) e ∙ view_edit _ n _ bytes held_edit there o spot ∙ ap (λ ns. record (nodes_of vs) { nodes = ns; bytes = set (all_bytes vs) o bytes }) same
+          ap (λ fs. nodes_of (set vs k (record v { blocks = fs }))) e ∙ view_edit _ n _ bytes held_edit there o spot
+          ∙ ap (λ ns. record (nodes_of vs) { nodes = ns; bytes = set (all_bytes vs) o bytes }) same
       view_held false new e = ap (λ fs. nodes_of (set vs k (record v { blocks = fs }))) e ∙ ap (λ u. nodes_of (set vs k u)) is ∙ ap nodes_of (set-get_or vs k v)
 
       pub laid_held : (b : Bool) (new : Files) → is_some (at v.nodes n) ≡ true → new ≡ (if b then with_bytes n bytes v.blocks else v.blocks) → AreVolumes (set vs k (record v { blocks = new }))
@@ -298,8 +319,11 @@ module _ (vs : List Volume) (h : AreVolumes vs) (k : ℕ) (v : Volume) (low : k 
   passed o before past =
       let ns : Volume → List (Option Node) = λ u. u.nodes in
       let start : v.first ≡ length (all_nodes (take k vs)) = view_first ∙ sym (start_is vs k h) in
-      let more : all_nodes (take (k + 1) vs) ≡ all_nodes (take k vs) ++ (v.nodes ++ []) = ap (λ ws. all_nodes ws) (take_more vs k v low) ∙ flat_map-append ns (take k vs) (get_or vs k v ∷ []) ∙ ap (λ (u : Volume). all_nodes (take k vs) ++ (u.nodes ++ [])) (sym is) in
-      let long : length (all_nodes (take (k + 1) vs)) ≡ length (all_nodes (take k vs)) + length v.nodes = ap length more ∙ length-append (all_nodes (take k vs)) (v.nodes ++ []) ∙ ap (λ (t : List (Option Node)). length (all_nodes (take k vs)) + length t) (append-nil v.nodes) in
+      let more : all_nodes (take (k + 1) vs) ≡ all_nodes (take k vs) ++ (v.nodes ++ []) = ap (λ ws. all_nodes ws) (take_more vs k v low)
+      ∙ flat_map-append ns (take k vs) (get_or vs k v ∷ []) ∙ ap (λ (u : Volume). all_nodes (take k vs) ++ (u.nodes ++ [])) (sym is) in
+      let long : length (all_nodes (take (k + 1) vs)) ≡ length (all_nodes (take k vs)) + length v.nodes = ap length more
+      ∙ length-append (all_nodes (take k vs)) (v.nodes ++ []) ∙ ap (λ (t : List (Option Node)). length (all_nodes (take k vs)) + length t)
+      (append-nil v.nodes) in
       omega (arith, long, one.nodes, start, past (omega (arith, start, before)))
 
   -- a number found on it

@@ -1,7 +1,9 @@
 -- File systems as they are made, one after the other.
-use Rattle.std.proofs.Common.{◌≡◌, ◌<◌, ◌≤◌, ◌+◌, ◌-◌, ◌∙◌, ℕ, suc, Bool, true, false, ◌&&◌, nat_le, List, [], ◌∷◌, ◌++◌, length, map, take, replicate, get_or, sum, Option, Some, None, refl, sym, ap, subst, arith, inl, inr}
+use Rattle.std.proofs.Common.{◌≡◌, ◌<◌, ◌≤◌, ◌+◌, ◌-◌, ◌∙◌, ℕ, suc, Bool, true, false, ◌&&◌, nat_le, List, [], ◌∷◌, ◌++◌, length, map, take}
+use Rattle.std.proofs.Common.{replicate, get_or, sum, Option, Some, None, refl, sym, ap, subst, arith, inl, inr}
 use Rattle.std.specs.List.{list_all}
-use Rattle.std.proofs.lemmas.List.{length-map, length-take, length-replicate, length_push, get_or_append_left, get_or_push, take-append-le, take_more, take_all, map_push, append-nil, append_assoc, replicate-append-replicate}
+use Rattle.std.proofs.lemmas.List.{length-map, length-take, length-replicate, length_push, get_or_append_left, get_or_push, take-append-le, take_more}
+use Rattle.std.proofs.lemmas.List.{take_all, map_push, append-nil, append_assoc, replicate-append-replicate}
 use Rattle.std.proofs.lemmas.List.Concat.{flat_map-append}
 use Rattle.std.proofs.lemmas.List.Sums.{sum-map, sum_by_push}
 use Rattle.std.proofs.lemmas.List.Folds.{list_all_at}
@@ -70,7 +72,8 @@ new_none fss vs none = let P : List Volume → Type 0 = λ ws. AreNew fss 0 0 ws
 })
 
 -- and one more
-pub new_more : (fss : List FsSpec) (k n : ℕ) (vs : List Volume) (s : FsSpec) (v : Volume) → are_within fss ≡ true → k < length fss → s ≡ get_or fss k s → IsNew k n s v → AreNew fss k n vs → AreNew fss (k + 1) (n + s.inodes) (vs ++ v ∷ [])
+pub new_more : (fss : List FsSpec) (k n : ℕ) (vs : List Volume) (s : FsSpec) (v : Volume) → are_within fss ≡ true → k < length fss → s ≡ get_or fss k s
+    → IsNew k n s v → AreNew fss k n vs → AreNew fss (k + 1) (n + s.inodes) (vs ++ v ∷ [])
 new_more fss k n vs s v h low is new so = record {
   laid = record { each = each; few = omega (arith, length_push vs v, so.long, within_few fss h, low) };
   long = omega (arith, length_push vs v, so.long);
@@ -111,14 +114,21 @@ new_more fss k n vs s v h low is new so = record {
     first = ap (λ m. m + s.inodes) so.first ∙ sym (ap (λ t. first_inode t (k + 1)) more ∙ first_push (take k fss) s k here)
 
     before : (j : ℕ) → j ≤ k → first_inode (specs (vs ++ v ∷ [])) j ≡ first_inode (specs vs) j
-    before j below = ap (λ t. first_inode t j) (map_push (λ (u : Volume). u.spec) vs v) ∙ ap (λ (t : List FsSpec). sum (map (λ (x : FsSpec). x.inodes) t)) (take-append-le j (specs vs) (v.spec ∷ []) (omega (arith, below, so.long, length-map vs (λ (u : Volume). u.spec))))
+    before j below = ap (λ t. first_inode t j) (map_push (λ (u : Volume). u.spec) vs v)
+        ∙ ap (λ (t : List FsSpec). sum (map (λ (x : FsSpec). x.inodes) t)) (take-append-le j (specs vs) (v.spec ∷ []) (omega (
+          arith,
+          below,
+          so.long,
+          length-map vs (λ (u : Volume). u.spec),
+        )))
 
     stands : (j : ℕ) → j ≡ k → AreOn j v.spec.ceiling v.nodes v.blocks.files
     stands j e =
         let root : Some (new_node j true) ∷ replicate (s.inodes - 1) None ≡ v.nodes = sym (new.nodes ∙ ap (λ m. Some (new_node m true) ∷ replicate (s.inodes - 1) None) (sym e)) in
         let all : suc (s.inodes - 1) ≡ s.inodes = omega (arith, fits.0) in
         let empty : replicate (suc (s.inodes - 1)) [] ≡ v.blocks.files = ap (λ m. replicate {A = List ℕ} m []) all ∙ sym (ap (λ (fs : Files). fs.files) new.blocks) in
-        subst (λ ns. AreOn j v.spec.ceiling ns v.blocks.files) root (subst (λ bs. AreOn j v.spec.ceiling (Some (new_node j true) ∷ replicate (s.inodes - 1) None) bs) empty (on_first j v.spec.ceiling (s.inodes - 1)))
+        subst (λ ns. AreOn j v.spec.ceiling ns v.blocks.files) root
+        (subst (λ bs. AreOn j v.spec.ceiling (Some (new_node j true) ∷ replicate (s.inodes - 1) None) bs) empty (on_first j v.spec.ceiling (s.inodes - 1)))
 
     each : (j : ℕ) (u : Volume) → j < length (vs ++ v ∷ []) → u ≡ get_or (vs ++ v ∷ []) j u → IsVolume (specs (vs ++ v ∷ [])) j u
     each j u below at_j = elim (cases_lt j (length vs)) [

@@ -1,5 +1,6 @@
 -- The inodes of one file system stand on it, below its ceiling, and hold nothing where none stands, whatever is edited.
-use Rattle.std.proofs.Common.{◌≡◌, ◌<◌, ◌-◌, ◌∙◌, ℕ, zero, suc, true, ltb, List, [], ◌∷◌, length, set, get_or, replicate, Option, Some, None, sym, ap, arith, inl, inr, refl, get_or-set_same, get_or-set_other}
+use Rattle.std.proofs.Common.{◌≡◌, ◌<◌, ◌-◌, ◌∙◌, ℕ, zero, suc, true, ltb, List, [], ◌∷◌, length, set, get_or, replicate, Option, Some, None, sym, ap}
+use Rattle.std.proofs.Common.{arith, inl, inr, refl, get_or-set_same, get_or-set_other}
 use Rattle.std.proofs.lemmas.Bool.{cases_eq, lt-ltb}
 use Rattle.ix_label.specs.Category.{Categories, leq}
 use Rattle.ix_label.specs.Lattice.{bottom-leq}
@@ -12,7 +13,8 @@ pub same_some : {A : Type 0} {x y : A} → Some x ≡ Some y → x ≡ y
 same_some e = cc
 
 -- one inode and its bytes edited
-pub on_edit : (fs : ℕ) (c : Categories) (ns : List (Option Node)) (bs : List (List ℕ)) (n : ℕ) (x : Option Node) (b : List ℕ) → AreOn fs c ns bs → n < length ns → n < length bs → ((y : Node) → x ≡ Some y → (y.fs ≡ fs) × (leq y.label c ≡ true)) → (x ≡ None → b ≡ []) → AreOn fs c (set ns n x) (set bs n b)
+pub on_edit : (fs : ℕ) (c : Categories) (ns : List (Option Node)) (bs : List (List ℕ)) (n : ℕ) (x : Option Node) (b : List ℕ) → AreOn fs c ns bs → n < length ns
+    → n < length bs → ((y : Node) → x ≡ Some y → (y.fs ≡ fs) × (leq y.label c ≡ true)) → (x ≡ None → b ≡ []) → AreOn fs c (set ns n x) (set bs n b)
 on_edit fs c ns bs n x b h low held new none = record {
   fs = λ j y e. elim (cases_eq j n) [ inl i ↦ (new y (here j (Some y) i e)).0 | inr ne ↦ h.fs j y (other j (Some y) ne e) ];
   below = λ j y e. elim (cases_eq j n) [ inl i ↦ (new y (here j (Some y) i e)).1 | inr ne ↦ h.below j y (other j (Some y) ne e) ];
@@ -51,4 +53,6 @@ taken_first (suc m) x h =
 
 -- the inodes of a file system as it is made
 pub on_first : (fs : ℕ) (c : Categories) (m : ℕ) → AreOn fs c (Some (new_node fs true) ∷ replicate m None) (replicate (suc m) [])
-on_first fs c m = on_edit fs c (None ∷ replicate m None) (replicate (suc m) []) 0 (Some (new_node fs true)) [] (on_none fs c (suc m)) (omega arith) (omega arith) (λ y e. let z : new_node fs true ≡ y = same_some e in (ap (λ (u : Node). u.fs) (sym z), ap (λ (u : Node). leq u.label c) (sym z) ∙ bottom-leq c)) (λ e. absurd (cc e))
+on_first fs c m = on_edit fs c (None ∷ replicate m None) (replicate (suc m) []) 0 (Some (new_node fs true)) [] (on_none fs c (suc m)) (omega arith)
+    (omega arith) (λ y e. let z : new_node fs true ≡ y = same_some e in
+    (ap (λ (u : Node). u.fs) (sym z), ap (λ (u : Node). leq u.label c) (sym z) ∙ bottom-leq c)) (λ e. absurd (cc e))

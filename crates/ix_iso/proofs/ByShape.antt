@@ -89,22 +89,33 @@ module _ (o : Op) (h : goes_by_shape o ≡ true) where
   one_reply : (v w : World) (place pid : ℕ) → shape v ≡ shape w → ((step v place pid o).reply ≡ (step w place pid o).reply) × (shape (step v place pid o).world ≡ shape (step w place pid o).world)
   unfolding plainly
   one_reply v w place pid shapes =
-      let decision : left v w place pid o o (twins_itself o) shapes ≡ right v w place pid o o (twins_itself o) shapes = (λ i. verdict ((plain_told v pid o h ∙ sym (plain_told w pid o h)) i) place pid o (shape_frames v w shapes i)) in
-      let replies : (step v place pid o).reply ≡ (step w place pid o).reply = ap (λ (a : Given). a.reply) (gives v place pid o h) ∙ ap (λ f. (verdict nothing_told place pid o f).reply) (shape_frames v w shapes) ∙ sym (ap (λ (a : Given). a.reply) (gives w place pid o h)) in
+      let decision : left v w place pid o o (twins_itself o) shapes ≡ right v w place pid o o (twins_itself o) shapes =
+      (λ i. verdict ((plain_told v pid o h ∙ sym (plain_told w pid o h)) i) place pid o (shape_frames v w shapes i)) in
+      let replies : (step v place pid o).reply ≡ (step w place pid o).reply = ap (λ (a : Given). a.reply) (gives v place pid o h)
+      ∙ ap (λ f. (verdict nothing_told place pid o f).reply) (shape_frames v w shapes) ∙ sym (ap (λ (a : Given). a.reply) (gives w place pid o h)) in
       (replies, (one_shape v w place pid o o (twins_itself o) shapes decision).shapes)
 
-  inside_one : (l : Categories) (v w : World) (place pid : ℕ) → Alike l v w → (Crosses l v.frame (step v place pid o).world.frame → ⊥) → AlikeIn l (step v place pid o).world.frame (step v place pid o).world.content (step w place pid o).world.content
+  inside_one : (l : Categories) (v w : World) (place pid : ℕ) → Alike l v w → (Crosses l v.frame (step v place pid o).world.frame → ⊥)
+      → AlikeIn l (step v place pid o).world.frame (step v place pid o).world.content (step w place pid o).world.content
   unfolding plainly
   inside_one l v w place pid same steady =
       let g : Frame = (verdict nothing_told place pid o v.frame).frame in
       let there : (step v place pid o).world ≡ record { frame = g; content = carried v.frame g v.content } = ap (λ (a : Given). a.world) (gives v place pid o h) in
-      let other : (step w place pid o).world ≡ record { frame = g; content = carried v.frame g w.content } = ap (λ (a : Given). a.world) (gives w place pid o h) ∙ ap (λ f. let u : World = record { frame = (verdict nothing_told place pid o f).frame; content = carried f (verdict nothing_told place pid o f).frame w.content } in u) (sym (shape_frames v w same.shapes)) in
-      let now : AlikeIn l g (carried v.frame g v.content) (carried v.frame g w.content) = carried_alike l v.frame g v.content w.content (entries_rise nothing_told place pid o v.frame) (λ crossing. steady (subst (λ (u : World). Crosses l v.frame u.frame) (sym there) crossing)) same.inside in
+      let other : (step w place pid o).world ≡ record { frame = g; content = carried v.frame g w.content } = ap (λ (a : Given). a.world) (gives w place pid o h)
+      ∙ ap (λ f. let u : World = record {
+        frame = (verdict nothing_told place pid o f).frame;
+        content =
+            carried f (verdict nothing_told place pid o f).frame w.content;
+      } in u) (sym (shape_frames v w same.shapes)) in
+      let now : AlikeIn l g (carried v.frame g v.content) (carried v.frame g w.content) =
+      carried_alike l v.frame g v.content w.content (entries_rise nothing_told place pid o v.frame)
+      (λ crossing. steady (subst (λ (u : World). Crosses l v.frame u.frame) (sym there) crossing)) same.inside in
       subst (λ (u : World). AlikeIn l u.frame u.content (step w place pid o).world.content) (sym there) (subst (λ (u : World). AlikeIn l g (carried v.frame g v.content) u.content) (sym other) now)
 
 pub by_shape : (o : Op) → goes_by_shape o ≡ true → GoesByShape o
 by_shape o h = record {
-  held = λ w place pid. subst (λ (a : Given). LeavesWhatIsHeld w a.world) (sym (gives w place pid o h)) (plainly_held w (verdict nothing_told place pid o w.frame) (entries_stay nothing_told place pid o w.frame (plain_labels o h)));
+  held = λ w place pid. subst (λ (a : Given). LeavesWhatIsHeld w a.world) (sym (gives w place pid o h))
+      (plainly_held w (verdict nothing_told place pid o w.frame) (entries_stay nothing_told place pid o w.frame (plain_labels o h)));
   shapes = λ v w place pid shapes. one_reply o h v w place pid shapes;
   alike = λ l v w place pid same steady. record { shapes = (one_reply o h v w place pid same.shapes).1; inside = inside_one o h l v w place pid same steady };
 }

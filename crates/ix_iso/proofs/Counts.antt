@@ -1,5 +1,6 @@
 -- How many of each a content has, and the part of a reply that the frame decides: neither looks at what is held.
-use Rattle.std.proofs.Common.{◌≡◌, ◌+◌, ◌-◌, ℕ, Bool, true, false, true≢false, ◌&&◌, not, List, [], ◌∷◌, length, map, replicate, Option, Some, None, if◌then◌else◌, refl, sym, ap, ◌∙◌, arith, set, length-set, length-append}
+use Rattle.std.proofs.Common.{◌≡◌, ◌+◌, ◌-◌, ℕ, Bool, true, false, true≢false, ◌&&◌, not, List, [], ◌∷◌, length, map, replicate, Option, Some, None}
+use Rattle.std.proofs.Common.{if◌then◌else◌, refl, sym, ap, ◌∙◌, arith, set, length-set, length-append}
 use Rattle.std.proofs.lemmas.List.{length-map, length-replicate}
 use Rattle.ix_model.specs.world.Naming.{PathOf}
 use Rattle.ix_model.specs.world.World.{Frame, World, Content, Holding, at, is_ended}
@@ -43,7 +44,12 @@ map_length : {A B : Type 0} (b : B) (xs ys : List A) → map (λ x. b) xs ≡ ma
 map_length b xs ys h = sym (length-map xs (λ x. b)) ∙ ap length h ∙ length-map ys (λ x. b)
 
 blank_same : (c d : Content) → SameCounts c d → blank c ≡ blank d
-blank_same c d r = λ i. record { holdings = map_constant holds_nothing c.holdings d.holdings r.holdings i; offsets = map_constant 0 c.offsets d.offsets r.offsets i; statuses = map_constant 0 c.statuses d.statuses r.statuses i }
+blank_same c d r = λ i. record {
+  holdings = map_constant holds_nothing c.holdings d.holdings r.holdings i;
+  offsets =
+      map_constant 0 c.offsets d.offsets r.offsets i;
+  statuses = map_constant 0 c.statuses d.statuses r.statuses i;
+}
 
 pub shape_from : (v w : World) → v.frame ≡ w.frame → SameCounts v.content w.content → shape v ≡ shape w
 unfolding shape
@@ -68,7 +74,8 @@ length_grown n xs = length-append xs (replicate (n - length xs) 0) ∙ ap (λ k.
 pub counts_carried : (f g : Frame) (c d : Content) → SameCounts c d → SameCounts (carried f g c) (carried f g d)
 unfolding carried
 counts_carried f g c d r =
-    let few : length (grown (length g.processes) c.statuses) ≡ length (grown (length g.processes) d.statuses) = length_grown _ c.statuses ∙ ap (λ n. n + (length g.processes - n)) r.statuses ∙ sym (length_grown _ d.statuses) in
+    let few : length (grown (length g.processes) c.statuses) ≡ length (grown (length g.processes) d.statuses) = length_grown _ c.statuses
+    ∙ ap (λ n. n + (length g.processes - n)) r.statuses ∙ sym (length_grown _ d.statuses) in
     record {
       holdings = length-keep holds_nothing _ 0 c.holdings ∙ r.holdings ∙ sym (length-keep holds_nothing _ 0 d.holdings);
       offsets = length-keep 0 _ 0 c.offsets ∙ r.offsets ∙ sym (length-keep 0 _ 0 d.offsets);
@@ -152,7 +159,8 @@ module _ (w : World) where
 
   kept_pex : (b : Option OpenFile) (r : Reply) (g : Frame) → Kept g (pex_answer w b r g)
   unfolding pex_answer plainly
-  kept_pex (Some e) r g = either (carried w.frame g w.content) (is_whole g e.entry.object && not (is_whole w.frame e.entry.object)) _ _ (counts_emptied (carried w.frame g w.content) e.entry.object) (counts_itself _)
+  kept_pex (Some e) r g = either (carried w.frame g w.content) (is_whole g e.entry.object && not (is_whole w.frame e.entry.object)) _ _
+      (counts_emptied (carried w.frame g w.content) e.entry.object) (counts_itself _)
   kept_pex None r g = counts_itself _
 
   pub kept_answer : (pid : ℕ) (c : Op) (d : Decision) → Kept d.frame (answer w pid c d)

@@ -76,7 +76,8 @@ module _ (t : List (Option Open)) where
   rise_through : (u : List (Option Open)) (e : ℕ) (l : Categories) → EntriesRise t u → EntriesRise t (change u e (λ y. record y { label = join y.label l }))
   rise_through u e l r = record {
     rise = λ n x y is here. elim (at_change u e _ n y here) [
-      | inl c ↦ subst (λ (z : Open). leq x.label z.label ≡ true) (sym c.same) (leq-trans x.label c.was.label (join c.was.label l) (r.rise n x c.was is (ap (at u) c.here ∙ c.is_was)) (leq-join_left c.was.label l))
+      | inl c ↦ subst (λ (z : Open). leq x.label z.label ≡ true) (sym c.same) (leq-trans x.label c.was.label (join c.was.label l)
+          (r.rise n x c.was is (ap (at u) c.here ∙ c.is_was)) (leq-join_left c.was.label l))
       | inr other ↦ r.rise n x y is other.1
     ];
   }

@@ -11,7 +11,8 @@ use Rattle.ix_iso.proofs.Steps.{alike_events}
 use Rattle.ix_iso.proofs.Lowerings.{low_is_same}
 
 -- ---- one entry
-pub shape_events : (l : Categories) (v w : World) (place : ℕ) (e f : Event) → shape v ≡ shape w → AgreeAt l v.frame e f → is_one_kind (step_of v place e).reply (step_of w place f).reply ≡ true → OneShape e.op f.op (step_of v place e) (step_of w place f)
+pub shape_events : (l : Categories) (v w : World) (place : ℕ) (e f : Event) → shape v ≡ shape w → AgreeAt l v.frame e f
+    → is_one_kind (step_of v place e).reply (step_of w place f).reply ≡ true → OneShape e.op f.op (step_of v place e) (step_of w place f)
 shape_events l v w place _ _ shapes (Same {e = e}) kind = shape_twins v w place e.pid e.op e.op (twins_itself e.op) shapes kind
 shape_events l v w place _ _ shapes (Other {seat = seat} {line = line} {pid = pid} {a = a} {b = b} high replaced) kind = shape_twins v w place pid a b (twins_replaced a b replaced) shapes kind
 
@@ -24,7 +25,8 @@ first : (w : World) (place : ℕ) (events : List Event) (e : Event) → given_af
 first w place events e = ap (λ k. step_of w k e) (omega arith)
 
 module _ (l : Categories) where
-  shapes_along : (v w : World) (place : ℕ) (events others : List Event) → shape v ≡ shape w → Agree l v w place events others → (n : ℕ) → shape (run v place (take n events)) ≡ shape (run w place (take n others))
+  shapes_along : (v w : World) (place : ℕ) (events others : List Event) → shape v ≡ shape w → Agree l v w place events others → (n : ℕ)
+      → shape (run v place (take n events)) ≡ shape (run w place (take n others))
   shapes_along v w place events others shapes agree zero = shapes
   shapes_along v w place [] [] shapes agree (suc n) = shapes
   shapes_along v w place [] (f ∷ others) shapes agree (suc n) = absurd agree
@@ -36,7 +38,8 @@ module _ (l : Categories) where
   abbrev SameReply : Event → Event → Given → Given → Type 0
   SameReply e f a b = (frame_part e.op a.reply ≡ frame_part f.op b.reply) × (gives_bytes e.op ≡ false → a.bytes ≡ b.bytes)
 
-  replies_along : (v w : World) (place : ℕ) (events others : List Event) → shape v ≡ shape w → Agree l v w place events others → (n : ℕ) (e f : Event) → slice_get events n ≡ Some e → slice_get others n ≡ Some f → SameReply e f (given_after v place events n e) (given_after w place others n f)
+  replies_along : (v w : World) (place : ℕ) (events others : List Event) → shape v ≡ shape w → Agree l v w place events others → (n : ℕ) (e f : Event)
+      → slice_get events n ≡ Some e → slice_get others n ≡ Some f → SameReply e f (given_after v place events n e) (given_after w place others n f)
   replies_along v w place [] others shapes agree n e f is here = cc
   replies_along v w place (a ∷ events) [] shapes agree n e f is here = absurd agree
   replies_along v w place (a ∷ events) (b ∷ others) shapes agree zero e f is here =
@@ -44,13 +47,18 @@ module _ (l : Categories) where
       let j : b ≡ f = cc in
       let step = shape_events l v w place a b shapes agree.0 agree.1 in
       let now : SameReply a b (step_of v place a) (step_of w place b) = (step.replies, step.bytes) in
-      let here_e : SameReply e f (step_of v place e) (step_of w place f) = subst (λ (x : Event). SameReply x f (step_of v place x) (step_of w place f)) i (subst (λ (y : Event). SameReply a y (step_of v place a) (step_of w place y)) j now) in
-      subst (λ (g : Given). SameReply e f g (given_after w place (b ∷ others) 0 f)) (sym (first v place (a ∷ events) e)) (subst (λ (h : Given). SameReply e f (step_of v place e) h) (sym (first w place (b ∷ others) f)) here_e)
+      let here_e : SameReply e f (step_of v place e) (step_of w place f) =
+      subst (λ (x : Event). SameReply x f (step_of v place x) (step_of w place f)) i
+      (subst (λ (y : Event). SameReply a y (step_of v place a) (step_of w place y)) j now) in
+      subst (λ (g : Given). SameReply e f g (given_after w place (b ∷ others) 0 f)) (sym (first v place (a ∷ events) e))
+      (subst (λ (h : Given). SameReply e f (step_of v place e) h) (sym (first w place (b ∷ others) f)) here_e)
   replies_along v w place (a ∷ events) (b ∷ others) shapes agree (suc n) e f is here =
       let rest = replies_along (step_of v place a).world (step_of w place b).world (suc place) events others (shape_events l v w place a b shapes agree.0 agree.1).shapes agree.2 n e f is here in
-      subst (λ (g : Given). SameReply e f g (given_after w place (b ∷ others) (suc n) f)) (later v place a events n e) (subst (λ (h : Given). SameReply e f (given_after (step_of v place a).world (suc place) events n e) h) (later w place b others n f) rest)
+      subst (λ (g : Given). SameReply e f g (given_after w place (b ∷ others) (suc n) f)) (later v place a events n e)
+      (subst (λ (h : Given). SameReply e f (given_after (step_of v place a).world (suc place) events n e) h) (later w place b others n f) rest)
 
-  alike_along : (v w : World) (place : ℕ) (events others : List Event) → Alike l v w → Agree l v w place events others → (n : ℕ) → NoneCrosses l v place (take n events) → Alike l (run v place (take n events)) (run w place (take n others))
+  alike_along : (v w : World) (place : ℕ) (events others : List Event) → Alike l v w → Agree l v w place events others → (n : ℕ)
+      → NoneCrosses l v place (take n events) → Alike l (run v place (take n events)) (run w place (take n others))
   alike_along v w place events others alike agree zero none = alike
   alike_along v w place [] [] alike agree (suc n) none = alike
   alike_along v w place [] (f ∷ others) alike agree (suc n) none = absurd agree
@@ -62,20 +70,28 @@ module _ (l : Categories) where
   abbrev EqualIfLow : ℕ → Given → Given → Type 0
   EqualIfLow pid a b = IsLow l a.world.frame pid → (a.reply ≡ b.reply) × (a.bytes ≡ b.bytes)
 
-  reads_along : (v w : World) (place : ℕ) (events others : List Event) → Alike l v w → Agree l v w place events others → (n : ℕ) (e f : Event) → slice_get events n ≡ Some e → slice_get others n ≡ Some f → NoneCrosses l v place (take n events) → EqualIfLow e.pid (given_after v place events n e) (given_after w place others n f)
+  reads_along : (v w : World) (place : ℕ) (events others : List Event) → Alike l v w → Agree l v w place events others → (n : ℕ) (e f : Event)
+      → slice_get events n ≡ Some e → slice_get others n ≡ Some f → NoneCrosses l v place (take n events)
+      → EqualIfLow e.pid (given_after v place events n e) (given_after w place others n f)
   reads_along v w place [] others alike agree n e f is here none = cc
   reads_along v w place (a ∷ events) [] alike agree n e f is here none = absurd agree
   reads_along v w place (a ∷ events) (b ∷ others) alike agree zero e f is here none =
       let i : a ≡ e = cc in
       let j : b ≡ f = cc in
       let now : EqualIfLow a.pid (step_of v place a) (step_of w place b) = (alike_events l v w place a b alike agree.0 agree.1).replies in
-      let here_e : EqualIfLow e.pid (step_of v place e) (step_of w place f) = subst (λ (x : Event). EqualIfLow x.pid (step_of v place x) (step_of w place f)) i (subst (λ (y : Event). EqualIfLow a.pid (step_of v place a) (step_of w place y)) j now) in
-      subst (λ (g : Given). EqualIfLow e.pid g (given_after w place (b ∷ others) 0 f)) (sym (first v place (a ∷ events) e)) (subst (λ (h : Given). EqualIfLow e.pid (step_of v place e) h) (sym (first w place (b ∷ others) f)) here_e)
+      let here_e : EqualIfLow e.pid (step_of v place e) (step_of w place f) =
+      subst (λ (x : Event). EqualIfLow x.pid (step_of v place x) (step_of w place f)) i
+      (subst (λ (y : Event). EqualIfLow a.pid (step_of v place a) (step_of w place y)) j now) in
+      subst (λ (g : Given). EqualIfLow e.pid g (given_after w place (b ∷ others) 0 f)) (sym (first v place (a ∷ events) e))
+      (subst (λ (h : Given). EqualIfLow e.pid (step_of v place e) h) (sym (first w place (b ∷ others) f)) here_e)
   reads_along v w place (a ∷ events) (b ∷ others) alike agree (suc n) e f is here none =
-      let rest = reads_along (step_of v place a).world (step_of w place b).world (suc place) events others ((alike_events l v w place a b alike agree.0 agree.1).worlds none.0) agree.2 n e f is here none.1 in
-      subst (λ (g : Given). EqualIfLow e.pid g (given_after w place (b ∷ others) (suc n) f)) (later v place a events n e) (subst (λ (h : Given). EqualIfLow e.pid (given_after (step_of v place a).world (suc place) events n e) h) (later w place b others n f) rest)
+      let rest = reads_along (step_of v place a).world (step_of w place b).world (suc place) events others
+      ((alike_events l v w place a b alike agree.0 agree.1).worlds none.0) agree.2 n e f is here none.1 in
+      subst (λ (g : Given). EqualIfLow e.pid g (given_after w place (b ∷ others) (suc n) f)) (later v place a events n e)
+      (subst (λ (h : Given). EqualIfLow e.pid (given_after (step_of v place a).world (suc place) events n e) h) (later w place b others n f) rest)
 
-  entries_along : (v w : World) (place : ℕ) (events others : List Event) → Agree l v w place events others → (n : ℕ) (e f : Event) → slice_get events n ≡ Some e → slice_get others n ≡ Some f → AgreeAt l (run v place (take n events)).frame e f
+  entries_along : (v w : World) (place : ℕ) (events others : List Event) → Agree l v w place events others → (n : ℕ) (e f : Event) → slice_get events n ≡ Some e
+      → slice_get others n ≡ Some f → AgreeAt l (run v place (take n events)).frame e f
   entries_along v w place [] others agree n e f is here = cc
   entries_along v w place (a ∷ events) [] agree n e f is here = absurd agree
   entries_along v w place (a ∷ events) (b ∷ others) agree zero e f is here =

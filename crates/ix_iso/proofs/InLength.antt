@@ -23,7 +23,8 @@ use Rattle.ix_iso.proofs.OneKind.{one_kind}
 use Rattle.ix_iso.proofs.Counts.{SameCounts, shape_from}
 use Rattle.ix_iso.proofs.Shapes.{Twins, twins_itself, twins_replaced}
 use Rattle.ix_iso.proofs.Histories.{isolated}
-use Rattle.ix_iso.proofs.Zeroed.{zero_content, take_zeros, length_zeros, first_length, same_zeros, readable_zero, carried_zero, read_zero, write_zero, cut_zero, seek_zero, exit_zero, emptied_zero, told_read_zero, told_write_zero, told_cut_zero}
+use Rattle.ix_iso.proofs.Zeroed.{zero_content, take_zeros, length_zeros, first_length, same_zeros, readable_zero, carried_zero, read_zero, write_zero}
+use Rattle.ix_iso.proofs.Zeroed.{cut_zero, seek_zero, exit_zero, emptied_zero, told_read_zero, told_write_zero, told_cut_zero}
 
 -- ---- outlines
 pub outline_from : (v w : World) → v.frame ≡ w.frame → zero_content v.content ≡ zero_content w.content → outline v ≡ outline w
@@ -64,7 +65,8 @@ module _ (f : Frame) (c d : Content) (same : zero_content c ≡ zero_content d) 
   kept g = carried_zero f g c ∙ ap (carried f g) same ∙ sym (carried_zero f g d)
 
   -- an edit that does the same to what is held with every byte 0
-  edited : (g : Frame) (h k m : Content → Content) → ((x : Content) → zero_content (h x) ≡ m (zero_content x)) → ((x : Content) → zero_content (k x) ≡ m (zero_content x)) → zero_content (h (carried f g c)) ≡ zero_content (k (carried f g d))
+  edited : (g : Frame) (h k m : Content → Content) → ((x : Content) → zero_content (h x) ≡ m (zero_content x))
+      → ((x : Content) → zero_content (k x) ≡ m (zero_content x)) → zero_content (h (carried f g c)) ≡ zero_content (k (carried f g d))
   edited g h k m one_way other_way = one_way (carried f g c) ∙ ap m (kept g) ∙ sym (other_way (carried f g d))
 
   read_length : (x : Content) (count : ℕ) (e : OpenFile) → length (take count (readable f x e)) ≡ length (take count (readable f (zero_content x) e))
@@ -74,12 +76,15 @@ module _ (f : Frame) (c d : Content) (same : zero_content c ≡ zero_content d) 
   unfolding read_answer plainly
   read_outline count (Some e) (reply.Bytes k) g =
       let long = read_length c count e ∙ ap (λ x. length (take count (readable f x e))) same ∙ sym (read_length d count e) in
-      edited g (after_read f e (length (take count (readable f c e)))) (after_read f e (length (take count (readable f d e)))) (after_read f e (length (take count (readable f c e)))) (λ x. read_zero f e _ x) (λ x. read_zero f e _ x ∙ ap (λ k. after_read f e k (zero_content x)) (sym long))
+      edited g (after_read f e (length (take count (readable f c e)))) (after_read f e (length (take count (readable f d e))))
+      (after_read f e (length (take count (readable f c e)))) (λ x. read_zero f e _ x) (λ x. read_zero f e _ x
+      ∙ ap (λ k. after_read f e k (zero_content x)) (sym long))
   read_outline count _ r g = kept g
 
   write_outline : (m n : List ℕ) → zeros m ≡ zeros n → (b : Option OpenFile) (r : Reply) (g : Frame) → Zeroed (write_answer one m b r g) (write_answer other n b r g)
   unfolding write_answer plainly
-  write_outline m n equal (Some e) (reply.Number k) g = edited g (after_write f e m) (after_write f e n) (after_write f e (zeros m)) (λ x. write_zero f e m x) (λ x. write_zero f e n x ∙ ap (λ z. after_write f e z (zero_content x)) (sym equal))
+  write_outline m n equal (Some e) (reply.Number k) g = edited g (after_write f e m) (after_write f e n) (after_write f e (zeros m)) (λ x. write_zero f e m x)
+      (λ x. write_zero f e n x ∙ ap (λ z. after_write f e z (zero_content x)) (sym equal))
   write_outline m n equal _ r g = kept g
 
   cut_outline : (len : ℕ) (b : Option OpenFile) (r : Reply) (g : Frame) → Zeroed (cut_answer one len b r g) (cut_answer other len b r g)
@@ -113,7 +118,9 @@ module _ (f : Frame) (c d : Content) (same : zero_content c ≡ zero_content d) 
 
   pex_outline : (b : Option OpenFile) (r : Reply) (g : Frame) → Zeroed (pex_answer one b r g) (pex_answer other b r g)
   unfolding pex_answer plainly
-  pex_outline (Some e) r g = either_way (is_whole g e.entry.object && not (is_whole f e.entry.object)) _ _ _ _ (edited g (emptied e.entry.object) (emptied e.entry.object) (emptied e.entry.object) (λ x. emptied_zero e.entry.object x) (λ x. emptied_zero e.entry.object x)) (kept g)
+  pex_outline (Some e) r g =
+      either_way (is_whole g e.entry.object && not (is_whole f e.entry.object)) _ _ _ _ (edited g (emptied e.entry.object) (emptied e.entry.object)
+      (emptied e.entry.object) (λ x. emptied_zero e.entry.object x) (λ x. emptied_zero e.entry.object x)) (kept g)
   pex_outline None r g = kept g
 
   answer_outline : (pid : ℕ) (o : Op) (e : Decision) → Zeroed (answer one pid o e) (answer other pid o e)
@@ -163,7 +170,8 @@ module _ (f : Frame) (c d : Content) (same : zero_content c ≡ zero_content d) 
 
   stat_replies : (r : Reply) (g : Frame) → Told (stat_answer one r g) (stat_answer other r g)
   unfolding stat_answer plainly
-  stat_replies (reply.Stat o kind.File size links frozen x y) g = ap (λ n. reply.Stat o kind.File n links frozen x y) (sym (first_length c o.0) ∙ ap (λ (t : Content). length (holding_of t o.0).first) same ∙ first_length d o.0)
+  stat_replies (reply.Stat o kind.File size links frozen x y) g = ap (λ n. reply.Stat o kind.File n links frozen x y) (sym (first_length c o.0)
+      ∙ ap (λ (t : Content). length (holding_of t o.0).first) same ∙ first_length d o.0)
   stat_replies r g = refl
 
   exit_replies : (pid s t : ℕ) (r : Reply) (g : Frame) → Told (exit_answer one pid s r g) (exit_answer other pid t r g)
@@ -206,7 +214,8 @@ module _ (f : Frame) (c d : Content) (same : zero_content c ≡ zero_content d) 
   told_same : (pid : ℕ) (o : Op) → told one pid o ≡ told other pid o
   unfolding told
   told_same pid (op.ReadFd fd count) = sym (told_read_zero f c (behind f pid fd)) ∙ ap (λ x. told_of_read f x (behind f pid fd)) same ∙ told_read_zero f d (behind f pid fd)
-  told_same pid (op.WriteFd fd bytes) = sym (told_write_zero f c (length bytes) (behind f pid fd)) ∙ ap (λ x. told_of_write f x (length bytes) (behind f pid fd)) same ∙ told_write_zero f d (length bytes) (behind f pid fd)
+  told_same pid (op.WriteFd fd bytes) = sym (told_write_zero f c (length bytes) (behind f pid fd))
+      ∙ ap (λ x. told_of_write f x (length bytes) (behind f pid fd)) same ∙ told_write_zero f d (length bytes) (behind f pid fd)
   told_same pid (op.CutFd fd len) = sym (told_cut_zero f c len (behind f pid fd)) ∙ ap (λ x. told_of_cut f x len (behind f pid fd)) same ∙ told_cut_zero f d len (behind f pid fd)
   told_same pid o = refl
 
@@ -230,7 +239,8 @@ like_told w pid o p (inl equal) = ap (told w pid) equal
 like_told w pid o p (inr replaced) = told_replaced w pid o p replaced
 
 -- at one frame
-at_one_frame : (f : Frame) (c d : Content) (place pid : ℕ) (o p : Op) → zero_content c ≡ zero_content d → AreLikeInLength o p → OneOutline (step (record { frame = f; content = c }) place pid o) (step (record { frame = f; content = d }) place pid p)
+at_one_frame : (f : Frame) (c d : Content) (place pid : ℕ) (o p : Op) → zero_content c ≡ zero_content d → AreLikeInLength o p
+    → OneOutline (step (record { frame = f; content = c }) place pid o) (step (record { frame = f; content = d }) place pid p)
 unfolding step
 at_one_frame f c d place pid o p same like =
     let v : World = record { frame = f; content = c } in
@@ -239,7 +249,8 @@ at_one_frame f c d place pid o p same like =
     let right : Decision = verdict (told w pid p) place pid p f in
     let told_one : told v pid o ≡ told w pid p = told_same f c d same pid o ∙ like_told w pid o p like in
     let one : left ≡ right = ap (λ t. verdict t place pid o f) told_one ∙ (like_twins o p like).verdicts (told w pid p) place pid f in
-    let contents : zero_content (step v place pid o).world.content ≡ zero_content (step w place pid p).world.content = like_outline f c d same pid o p left like ∙ ap (λ (e : Decision). zero_content (answer w pid p e).world.content) one in
+    let contents : zero_content (step v place pid o).world.content ≡ zero_content (step w place pid p).world.content = like_outline f c d same pid o p left like
+    ∙ ap (λ (e : Decision). zero_content (answer w pid p e).world.content) one in
     record {
       replies = like_replies f c d same pid o p left like ∙ ap (λ (e : Decision). but_status (answer w pid p e).reply) one;
       outlines = outline_from _ _ (step_frame v place pid o ∙ ap (λ (e : Decision). e.frame) one ∙ sym (step_frame w place pid p)) contents;
@@ -247,7 +258,8 @@ at_one_frame f c d place pid o p same like =
 
 pub one_outline : (v w : World) (place pid : ℕ) (o p : Op) → outline v ≡ outline w → AreLikeInLength o p → OneOutline (step v place pid o) (step w place pid p)
 one_outline v w place pid o p outlines like =
-    subst (λ (f : Frame). OneOutline (step v place pid o) (step (record { frame = f; content = w.content }) place pid p)) (outline_frames v w outlines) (at_one_frame v.frame v.content w.content place pid o p (outline_contents v w outlines) like)
+    subst (λ (f : Frame). OneOutline (step v place pid o) (step (record { frame = f; content = w.content }) place pid p)) (outline_frames v w outlines)
+    (at_one_frame v.frame v.content w.content place pid o p (outline_contents v w outlines) like)
 
 -- ---- histories
 events_outline : (l : Categories) (v w : World) (place : ℕ) (e f : Event) → outline v ≡ outline w → AgreeInLengthAt l v.frame e f → OneOutline (step_of v place e) (step_of w place f)
@@ -267,7 +279,8 @@ agree_from l v w place (e ∷ events) (f ∷ others) outlines agree =
     let here = events_outline l v w place e f outlines agree.0 in
     (agree_at l v.frame e f agree.0, one_kind _ _ here.replies, agree_from l (step_of v place e).world (step_of w place f).world (suc place) events others here.outlines agree.1)
 
-outlines_along : (l : Categories) (v w : World) (place : ℕ) (events others : List Event) → outline v ≡ outline w → AgreeInLength l v place events others → (n : ℕ) → outline (run v place (take n events)) ≡ outline (run w place (take n others))
+outlines_along : (l : Categories) (v w : World) (place : ℕ) (events others : List Event) → outline v ≡ outline w → AgreeInLength l v place events others
+    → (n : ℕ) → outline (run v place (take n events)) ≡ outline (run w place (take n others))
 outlines_along l v w place events others outlines agree zero = outlines
 outlines_along l v w place [] [] outlines agree (suc n) = outlines
 outlines_along l v w place [] (f ∷ others) outlines agree (suc n) = absurd agree
@@ -276,7 +289,8 @@ outlines_along l v w place (e ∷ events) (f ∷ others) outlines agree (suc n) 
     outlines_along l (step_of v place e).world (step_of w place f).world (suc place) events others (events_outline l v w place e f outlines agree.0).outlines agree.1 n
 
 -- at each place the replies are equal but for a status
-replies_along : (l : Categories) (v w : World) (place k : ℕ) (events others : List Event) → outline v ≡ outline w → AgreeInLength l v place events others → (n : ℕ) (e f : Event) → k ≡ place + n → slice_get events n ≡ Some e → slice_get others n ≡ Some f →
+replies_along : (l : Categories) (v w : World) (place k : ℕ) (events others : List Event) → outline v ≡ outline w → AgreeInLength l v place events others
+    → (n : ℕ) (e f : Event) → k ≡ place + n → slice_get events n ≡ Some e → slice_get others n ≡ Some f →
     but_status (step_of (run v place (take n events)) k e).reply ≡ but_status (step_of (run w place (take n others)) k f).reply
 replies_along l v w place k [] others outlines agree n e f there is here = cc
 replies_along l v w place k (a ∷ events) [] outlines agree n e f there is here = absurd agree
@@ -286,13 +300,15 @@ replies_along l v w place k (a ∷ events) (b ∷ others) outlines agree zero e 
     let j : b ≡ f = cc in
     (λ t. but_status (step_of v (sym at_k t) (sym i t)).reply) ∙ (events_outline l v w place a b outlines agree.0).replies ∙ (λ t. but_status (step_of w (at_k t) (j t)).reply)
 replies_along l v w place k (a ∷ events) (b ∷ others) outlines agree (suc n) e f there is here =
-    replies_along l (step_of v place a).world (step_of w place b).world (suc place) k events others (events_outline l v w place a b outlines agree.0).outlines agree.1 n e f (omega (arith, there)) is here
+    replies_along l (step_of v place a).world (step_of w place b).world (suc place) k events others (events_outline l v w place a b outlines agree.0).outlines
+    agree.1 n e f (omega (arith, there)) is here
 
 -- worlds that are alike in length are alike
 pub alike_from : (l : Categories) (v w : World) → AlikeInLength l v w → Alike l v w
 alike_from l v w alike = record { shapes = outline_shape v w alike.outlines; inside = alike.inside }
 
-pub isolated_in_length : (l : Categories) (v w : World) (place : ℕ) (events others : List Event) → AlikeInLength l v w → AgreeInLength l v place events others → IsolatedInLength l v w place events others
+pub isolated_in_length : (l : Categories) (v w : World) (place : ℕ) (events others : List Event) → AlikeInLength l v w → AgreeInLength l v place events others
+    → IsolatedInLength l v w place events others
 isolated_in_length l v w place events others alike agree = record {
   isolated = isolated l v w place events others (alike_from l v w alike) (agree_from l v w place events others alike.outlines agree);
   outlines = λ n. outlines_along l v w place events others alike.outlines agree n;

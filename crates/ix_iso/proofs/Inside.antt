@@ -1,5 +1,6 @@
 -- What two contents hold alike is carried over alike.
-use Rattle.std.proofs.Common.{◌≡◌, ◌+◌, ℕ, zero, suc, Bool, true, false, ◌&&◌, List, [], ◌∷◌, ◌++◌, length, replicate, Option, Some, None, is_some, if◌then◌else◌, refl, sym, ap, ◌∙◌, arith, get_or, set}
+use Rattle.std.proofs.Common.{◌≡◌, ◌+◌, ℕ, zero, suc, Bool, true, false, ◌&&◌, List, [], ◌∷◌, ◌++◌, length, replicate, Option, Some, None, is_some}
+use Rattle.std.proofs.Common.{if◌then◌else◌, refl, sym, ap, ◌∙◌, arith, get_or, set}
 use Rattle.std.proofs.lemmas.Bool.{and_parts}
 use Rattle.ix_label.specs.Category.{Categories, leq}
 use Rattle.ix_label.specs.Lattice.{leq-trans}
@@ -79,7 +80,8 @@ carried_alike l f g c d entries steady same = record {
 }
 
 -- ---- edits
-pub set_alike : {A : Type 0} (d : A) (xs ys : List A) (n m : ℕ) (x y : A) → length xs ≡ length ys → (m ≡ n → x ≡ y) → ((m ≡ n → ⊥) → get_or xs m d ≡ get_or ys m d) → get_or (set xs n x) m d ≡ get_or (set ys n y) m d
+pub set_alike : {A : Type 0} (d : A) (xs ys : List A) (n m : ℕ) (x y : A) → length xs ≡ length ys → (m ≡ n → x ≡ y)
+    → ((m ≡ n → ⊥) → get_or xs m d ≡ get_or ys m d) → get_or (set xs n x) m d ≡ get_or (set ys n y) m d
 set_alike d [] [] n m x y long here apart = refl
 set_alike d [] (b ∷ ys) n m x y long here apart = absurd (omega (arith, long))
 set_alike d (a ∷ xs) [] n m x y long here apart = absurd (omega (arith, long))
@@ -89,23 +91,27 @@ set_alike d (a ∷ xs) (b ∷ ys) (suc n) zero x y long here apart = apart (λ e
 set_alike d (a ∷ xs) (b ∷ ys) (suc n) (suc m) x y long here apart = set_alike d xs ys n m x y (omega (arith, long)) (λ e. here (ap suc e)) (λ other. apart (λ e. other (omega (arith, e))))
 
 module _ (l : Categories) (g : Frame) (c d : Content) (counts : SameCounts c d) (same : AlikeIn l g c d) where
-  pub holding_alike : (o : ℕ) (a b : Holding) → ((x : Object) → at g.objects o ≡ Some x → leq x.label l ≡ true → a ≡ b) → AlikeIn l g (record c { holdings = set c.holdings o a }) (record d { holdings = set d.holdings o b })
+  pub holding_alike : (o : ℕ) (a b : Holding) → ((x : Object) → at g.objects o ≡ Some x → leq x.label l ≡ true → a ≡ b)
+      → AlikeIn l g (record c { holdings = set c.holdings o a }) (record d { holdings = set d.holdings o b })
   holding_alike o a b equal = record {
     bytes = λ n x here below. set_alike holds_nothing c.holdings d.holdings o n a b counts.holdings (λ e. equal x (ap (at g.objects) (sym e) ∙ here) below) (λ other. same.bytes n x here below);
     offsets = same.offsets;
     statuses = same.statuses;
   }
 
-  pub offset_alike : (e m n : ℕ) → ((x : Open) → at g.opens e ≡ Some x → leq x.label l ≡ true → m ≡ n) → AlikeIn l g (record c { offsets = set c.offsets e m }) (record d { offsets = set d.offsets e n })
+  pub offset_alike : (e m n : ℕ) → ((x : Open) → at g.opens e ≡ Some x → leq x.label l ≡ true → m ≡ n)
+      → AlikeIn l g (record c { offsets = set c.offsets e m }) (record d { offsets = set d.offsets e n })
   offset_alike e m n equal = record {
     bytes = same.bytes;
     offsets = λ k x here below. set_alike 0 c.offsets d.offsets e k m n counts.offsets (λ i. equal x (ap (at g.opens) (sym i) ∙ here) below) (λ other. same.offsets k x here below);
     statuses = same.statuses;
   }
 
-  pub status_alike : (p m n : ℕ) → ((x : Process) → at g.processes p ≡ Some x → leq x.label l ≡ true → m ≡ n) → AlikeIn l g (record c { statuses = set c.statuses p m }) (record d { statuses = set d.statuses p n })
+  pub status_alike : (p m n : ℕ) → ((x : Process) → at g.processes p ≡ Some x → leq x.label l ≡ true → m ≡ n)
+      → AlikeIn l g (record c { statuses = set c.statuses p m }) (record d { statuses = set d.statuses p n })
   status_alike p m n equal = record {
     bytes = same.bytes;
     offsets = same.offsets;
-    statuses = λ k x here ended below. set_alike 0 c.statuses d.statuses p k m n counts.statuses (λ i. equal x (ap (at g.processes) (sym i) ∙ here) below) (λ other. same.statuses k x here ended below);
+    statuses = λ k x here ended below. set_alike 0 c.statuses d.statuses p k m n counts.statuses (λ i. equal x (ap (at g.processes) (sym i) ∙ here) below)
+        (λ other. same.statuses k x here ended below);
   }

@@ -42,7 +42,8 @@ abbrev IsYes : Reply → Type 0
 IsYes a = (q : Refusal) → kind_number a ≢ kind_number (reply.No q)
 
 -- where a test refuses, what comes after it could refuse the same only where that changes nothing
-one_refuses : (f g : Frame) (r : Refusal) (o : Outcome Reply) → Ends o (λ q h. number_of q ≡ number_of r → keeps_label r ≡ false) (λ a h. IsYes a) → kind_number (settled f o).reply ≡ kind_number (reply.No r) → settled f o ≡ settled f (Refuse r g)
+one_refuses : (f g : Frame) (r : Refusal) (o : Outcome Reply) → Ends o (λ q h. number_of q ≡ number_of r → keeps_label r ≡ false) (λ a h. IsYes a)
+    → kind_number (settled f o).reply ≡ kind_number (reply.No r) → settled f o ≡ settled f (Refuse r g)
 unfolding Ends
 one_refuses f g r (Refuse q h) rest e =
     let number : number_of q ≡ number_of r = omega (arith, e) in
@@ -52,7 +53,10 @@ one_refuses f g r (Refuse q h) rest e =
 one_refuses f g r (Pass a h) rest e = absurd (rest r e)
 
 -- a test on what is told, and what comes after it
-kin_test : (f g : Frame) (b c : Bool) (r : Refusal) (k l : Row Reply) → ((h : Frame) → Ends (k h) (λ q i. number_of q ≡ number_of r → keeps_label r ≡ false) (λ a i. IsYes a)) → ((h : Frame) → Ends (l h) (λ q i. number_of q ≡ number_of r → keeps_label r ≡ false) (λ a i. IsYes a)) → ((h : Frame) → Kin f (k h) (l h)) → Kin f (◌>>◌ (need b r) k g) (◌>>◌ (need c r) l g)
+kin_test : (f g : Frame) (b c : Bool) (r : Refusal) (k l : Row Reply)
+    → ((h : Frame) → Ends (k h) (λ q i. number_of q ≡ number_of r → keeps_label r ≡ false) (λ a i. IsYes a))
+    → ((h : Frame) → Ends (l h) (λ q i. number_of q ≡ number_of r → keeps_label r ≡ false) (λ a i. IsYes a)) → ((h : Frame) → Kin f (k h) (l h))
+    → Kin f (◌>>◌ (need b r) k g) (◌>>◌ (need c r) l g)
 unfolding ◌>>◌ on_pass need pass refuse
 kin_test f g true true r k l yk yl h = h g
 kin_test f g false false r k l yk yl h = record { equal = λ e. refl }
@@ -69,7 +73,9 @@ yes_done : IsYes reply.Done
 yes_done q h = absurd (omega (arith, h))
 
 -- ---- the three rows that are told something
-read_rest : (pid : ℕ) (x : Object) (e : OpenFile) (g : Frame) → Ends (◌>>=◌ (process pid) (λ p. ◌>>◌ (float_entry p x e) (pass read_passed)) g) (λ q i. number_of q ≡ number_of refusal.Again → keeps_label refusal.Again ≡ false) (λ a i. IsYes a)
+read_rest : (pid : ℕ) (x : Object) (e : OpenFile) (g : Frame)
+    → Ends (◌>>=◌ (process pid) (λ p. ◌>>◌ (float_entry p x e) (pass read_passed)) g) (λ q i. number_of q ≡ number_of refusal.Again
+    → keeps_label refusal.Again ≡ false) (λ a i. IsYes a)
 read_rest pid x e g =
     ends_bind _ _ g _ _ (ends_caller pid g _ _ (λ p lives.
     ends_then _ _ g _ _ (ends_float_entry p x e g _ _ (ends_pass _ _ _ _ (yes_bytes 0)) (λ h. ends_pass _ _ _ _ (yes_bytes 0))))
@@ -95,13 +101,15 @@ row_kin t u place pid (op.WriteFd fd bytes) f = write_kin t u pid fd f
 row_kin t u place pid (op.CutFd fd len) f = cut_kin t u pid fd len f
 row_kin t u place pid _ f = kin_itself f _
 
-pub verdict_kind : (t u : LengthChecks) (place pid : ℕ) (c : Op) (f : Frame) → kind_number (verdict t place pid c f).reply ≡ kind_number (verdict u place pid c f).reply → verdict t place pid c f ≡ verdict u place pid c f
+pub verdict_kind : (t u : LengthChecks) (place pid : ℕ) (c : Op) (f : Frame)
+    → kind_number (verdict t place pid c f).reply ≡ kind_number (verdict u place pid c f).reply → verdict t place pid c f ≡ verdict u place pid c f
 unfolding verdict
 verdict_kind t u place pid c f e = go (lives f pid) e
   where
     unknown : Decision
     unknown = record { reply = reply.No refusal.NoProcess; frame = f }
 
-    go : (b : Bool) → kind_number (if b then settled f (row t place pid c f) else unknown).reply ≡ kind_number (if b then settled f (row u place pid c f) else unknown).reply → (if b then settled f (row t place pid c f) else unknown) ≡ (if b then settled f (row u place pid c f) else unknown)
+    go : (b : Bool) → kind_number (if b then settled f (row t place pid c f) else unknown).reply ≡ kind_number (if b then settled f (row u place pid c f) else
+        unknown).reply → (if b then settled f (row t place pid c f) else unknown) ≡ (if b then settled f (row u place pid c f) else unknown)
     go true e = (row_kin t u place pid c f).equal e
     go false e = refl

@@ -1,5 +1,6 @@
 -- What is lowered is logged: of the two calls that set a label, each that lowers one has its line.
-use Rattle.std.proofs.Common.{◌≡◌, ℕ, zero, suc, ◌+◌, Bool, true, false, true≢false, not, List, [], ◌∷◌, ◌++◌, length, take, Some, if◌then◌else◌, refl, sym, ap, ◌∙◌, subst, inl, inr, append-nil, arith}
+use Rattle.std.proofs.Common.{◌≡◌, ℕ, zero, suc, ◌+◌, Bool, true, false, true≢false, not, List, [], ◌∷◌, ◌++◌, length, take, Some, if◌then◌else◌}
+use Rattle.std.proofs.Common.{refl, sym, ap, ◌∙◌, subst, inl, inr, append-nil, arith}
 use Rattle.std.specs.Prelude.{slice_get}
 use Rattle.std.specs.Option.{option_map_or}
 use Rattle.std.proofs.lemmas.Bool.{not-false, false_from_ne_true}
@@ -68,7 +69,9 @@ module _ (place pid : ℕ) (f : Frame) where
   abbrev relabelled : Frame → ℕ → Categories → List AuditLine → Frame
   relabelled m o now log = record m { objects = change m.objects o (λ y. record y { label = now }); log = log }
 
-  tells_object : (m : Frame) (o : ℕ) (x : Object) (now : Categories) (log : List AuditLine) → Risen f m.objects m.processes → Looking f m → at m.objects o ≡ Some x → (leq x.label now ≡ false → log ≡ f.log ++ audit_line place pid act.DownFile o x.label now ∷ []) → Tells place pid f (relabelled m o now log)
+  tells_object : (m : Frame) (o : ℕ) (x : Object) (now : Categories) (log : List AuditLine) → Risen f m.objects m.processes → Looking f m
+      → at m.objects o ≡ Some x → (leq x.label now ≡ false → log ≡ f.log ++ audit_line place pid act.DownFile o x.label now ∷ [])
+      → Tells place pid f (relabelled m o now log)
   tells_object m o x now log r looking here line = record {
     objects = λ n a b is there falls. elim (at_change m.objects o (λ y. record y { label = now }) n b there) [
       | inl c ↦
@@ -84,7 +87,11 @@ module _ (place pid : ℕ) (f : Frame) where
   }
 
   looks : (path : PathOf) → Holds (object_at pid path f) (λ m. Risen f m.objects m.processes × Looking f m)
-  looks path = holds_both (λ m. Risen f m.objects m.processes) (Looking f) (object_at pid path f) ((moved_found no_lowering pid (λ m. Risen f m.objects m.processes) (rising f pid) path).led f (risen_itself f)) ((looking_found f pid path).led f (refl, refl))
+  looks path = holds_both (λ m. Risen f m.objects m.processes) (Looking f) (object_at pid path f)
+      ((moved_found no_lowering pid (λ m. Risen f m.objects m.processes) (rising f pid) path).led f (risen_itself f)) ((looking_found f pid path).led f (
+        refl,
+        refl,
+      ))
 
   label_tells : (path : PathOf) (now : Categories) → Ends (set_label place pid path now f) P Q
   unfolding set_label P Q
@@ -96,12 +103,15 @@ module _ (place pid : ℕ) (f : Frame) where
       ends_then _ _ m P Q (ends_movable x now m P _ (λ why. unchanged) (
       ends_then _ _ m P Q (ends_change_object o _ m P _ (
       ends_then _ _ _ P Q (ends_only_if _ _ _ P _
-      (λ falls. ends_logged _ _ P _ (ends_pass _ _ P Q (tells_object m o x now (m.log ++ audit_line place pid act.DownFile o x.label now ∷ []) r looking here (λ low. ap (λ log. log ++ audit_line place pid act.DownFile o x.label now ∷ []) looking.1))))
+      (λ falls. ends_logged _ _ P _ (ends_pass _ _ P Q (tells_object m o x now (m.log ++ audit_line place pid act.DownFile o x.label now ∷ []) r looking here
+      (λ low. ap (λ log. log ++ audit_line place pid act.DownFile o x.label now ∷ []) looking.1))))
       (λ rises. ends_pass _ _ P Q (tells_object m o x now m.log r looking here (λ falls. absurd (true≢false (sym (not-false _ rises) ∙ falls)))))))))))))
       unchanged)))
 
   -- ---- the caller's label is set
-  tells_process : (p : Process) (now : Categories) (log : List AuditLine) → living (at f.processes pid) ≡ Some p → (leq p.label now ≡ false → log ≡ f.log ++ audit_line place pid act.DownSelf pid p.label now ∷ []) → Tells place pid f (record f { processes = change f.processes pid (λ q. record q { label = now }); log = log })
+  tells_process : (p : Process) (now : Categories) (log : List AuditLine) → living (at f.processes pid) ≡ Some p
+      → (leq p.label now ≡ false → log ≡ f.log ++ audit_line place pid act.DownSelf pid p.label now ∷ [])
+      → Tells place pid f (record f { processes = change f.processes pid (λ q. record q { label = now }); log = log })
   tells_process p now log lives line = record {
     objects = λ o a b is there falls. absurd (true≢false (sym ((risen_itself f).objects.rise o a b is there) ∙ falls));
     processes = λ n a b is there falls. elim (at_change f.processes pid (λ q. record q { label = now }) n b there) [
@@ -120,12 +130,15 @@ module _ (place pid : ℕ) (f : Frame) where
   self_tells now =
       let unchanged = tells_risen f (risen_itself f) in
       ends_bind _ _ f P Q (ends_caller pid f P _ (λ p lives.
-      let last : Ends (◌>>◌ (change_process pid (λ q. record q { label = now })) (◌>>◌ (only_if (not (leq p.label now)) (logged (audit_line place pid act.DownSelf pid p.label now))) (pass reply.Done)) f) P Q =
+      let last : Ends (◌>>◌ (change_process pid (λ q. record q { label = now }))
+      (◌>>◌ (only_if (not (leq p.label now)) (logged (audit_line place pid act.DownSelf pid p.label now))) (pass reply.Done)) f) P Q =
       ends_then _ _ f P Q (ends_change_caller pid (λ q. record q { label = now }) f P _ (
       ends_then _ _ _ P Q (ends_only_if (not (leq p.label now)) (logged (audit_line place pid act.DownSelf pid p.label now)) _ P _
       (λ falls. ends_logged _ _ P _ (ends_pass reply.Done _ P Q (tells_process p now _ lives (λ low. refl))))
       (λ rises. ends_pass reply.Done _ P Q (tells_process p now _ lives (λ falls. absurd (true≢false (sym (not-false _ rises) ∙ falls)))))))) in
-      let second : Ends (◌>>◌ (only_if (not (same p.label now)) (◌>>◌ (need (not p.frozen) refusal.ProcFrozen) (need (leq now p.ceiling) refusal.ProcCeiling))) (◌>>◌ (change_process pid (λ q. record q { label = now })) (◌>>◌ (only_if (not (leq p.label now)) (logged (audit_line place pid act.DownSelf pid p.label now))) (pass reply.Done))) f) P Q =
+      let second : Ends (◌>>◌ (only_if (not (same p.label now)) (◌>>◌ (need (not p.frozen) refusal.ProcFrozen) (need (leq now p.ceiling) refusal.ProcCeiling)))
+      (◌>>◌ (change_process pid (λ q. record q { label = now }))
+      (◌>>◌ (only_if (not (leq p.label now)) (logged (audit_line place pid act.DownSelf pid p.label now))) (pass reply.Done))) f) P Q =
       ends_then _ _ f P Q (ends_only_if (not (same p.label now)) _ f P _
       (λ other. ends_then _ _ f P _ (ends_need (not p.frozen) refusal.ProcFrozen f P _ (λ free. ends_need (leq now p.ceiling) refusal.ProcCeiling f P _ (λ low. last) unchanged) unchanged))
       (λ no. last)) in
@@ -139,7 +152,9 @@ module _ (place pid : ℕ) (f : Frame) where
   told_row t c = holds_more (λ g. Risen f g.objects g.processes) (Tells place pid f) (row t place pid c f) tells_risen (risen_row f pid t place c refl)
 
 tells_step : (w : World) (place pid : ℕ) (c : Op) → Tells place pid w.frame (step w place pid c).world.frame
-tells_step w place pid c = subst (λ (g : Frame). Tells place pid w.frame g) (sym (step_frame w place pid c)) (decided (Tells place pid w.frame) (told w pid c) place pid c w.frame (tells_risen place pid w.frame w.frame (risen_itself w.frame)) (told_row place pid w.frame (told w pid c) c))
+tells_step w place pid c =
+    subst (λ (g : Frame). Tells place pid w.frame g) (sym (step_frame w place pid c)) (decided (Tells place pid w.frame) (told w pid c) place pid c w.frame
+    (tells_risen place pid w.frame w.frame (risen_itself w.frame)) (told_row place pid w.frame (told w pid c) c))
 
 -- ---- the log
 -- the log after one entry is the log before it and what the entry adds
@@ -205,5 +220,7 @@ pub low_is_same : (l : Categories) (w : World) (place : ℕ) (e f : Event) → A
 low_is_same l w place _ _ (Same {e = e}) after = refl
 low_is_same l w place _ _ (Other {seat = seat} {line = line} {pid = pid} {a = a} {b = b} high replaced) after =
     let e : Event = record { seat = seat; line = line; pid = pid; op = a } in
-    let lowered : Lowered w.frame (step_of w place e).world.frame = low.OfProcess pid high.process after.process (is_living _ high.process high.lives) (is_living _ after.process after.lives) (not_below l high.process.label after.process.label high.high after.low) in
+    let lowered : Lowered w.frame (step_of w place e).world.frame =
+    low.OfProcess pid high.process after.process (is_living _ high.process high.lives) (is_living _ after.process after.lives)
+    (not_below l high.process.label after.process.label high.high after.low) in
     absurd (true≢false (sym (lowerings_logged w place e lowered).licensed ∙ replaced_unlicensed w place seat line pid a b replaced))

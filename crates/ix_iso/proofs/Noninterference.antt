@@ -29,7 +29,8 @@ module _ (l : Categories) (e f : Event) where
   abbrev ToldAlike : World → World → ℕ → Type 0
   ToldAlike v w k = Low l v k e → ((step_of v k e).reply ≡ (step_of w k f).reply) × ((step_of v k e).bytes ≡ (step_of w k f).bytes)
 
-  last_along : (v w : World) (place k : ℕ) (events others : List Event) → k ≡ length events + place → Alike l v w → Agree l v w place (events ++ e ∷ []) (others ++ f ∷ []) → NoneCrosses l v place events → ToldAlike (run v place events) (run w place others) k
+  last_along : (v w : World) (place k : ℕ) (events others : List Event) → k ≡ length events + place → Alike l v w
+      → Agree l v w place (events ++ e ∷ []) (others ++ f ∷ []) → NoneCrosses l v place events → ToldAlike (run v place events) (run w place others) k
   last_along v w place k [] [] is alike agree none = let here : place ≡ k = omega (arith, is) in subst (ToldAlike v w) here (alike_events l v w place e f alike agree.0 agree.1).replies
   last_along v w place k [] (b ∷ []) is alike agree none = absurd agree.2
   last_along v w place k [] (b ∷ c ∷ others) is alike agree none = absurd agree.2
@@ -39,7 +40,8 @@ module _ (l : Categories) (e f : Event) where
       last_along (step_of v place a).world (step_of w place b).world (suc place) k events others (omega (arith, is)) ((alike_events l v w place a b alike agree.0 agree.1).worlds none.0) agree.2 none.1
 
 -- where no entry before it crosses L, the last entry tells a low caller the same in each run that agrees
-pub last_is_told_alike : (l : Categories) (v w : World) (events others : List Event) (e f : Event) → RunsAgree l v w (events ++ e ∷ []) (others ++ f ∷ []) → NoneCrosses l v 1 events → ToldAlike l e f (run v 1 events) (run w 1 others) (length events + 1)
+pub last_is_told_alike : (l : Categories) (v w : World) (events others : List Event) (e f : Event) → RunsAgree l v w (events ++ e ∷ []) (others ++ f ∷ [])
+    → NoneCrosses l v 1 events → ToldAlike l e f (run v 1 events) (run w 1 others) (length events + 1)
 last_is_told_alike l v w events others e f agree none =
     let both = alike_runs l v w (events ++ e ∷ []) (others ++ f ∷ []) agree in
     last_along l e f v w 1 (length events + 1) events others refl both.0 both.1 none

@@ -13,7 +13,12 @@ use Rattle.ix_iso.specs.Laws.{but_status}
 -- ---- refusals
 -- the refusals by their numbers
 unfoldable of_number : ℕ → Refusal
-of_number n = slice_index_or (refusal.NoProcess ∷ refusal.NoProcess ∷ refusal.BadFd ∷ refusal.NotReadable ∷ refusal.NotWritable ∷ refusal.NotFound ∷ refusal.NotDir ∷ refusal.IsDir ∷ refusal.Exists ∷ refusal.NotEmpty ∷ refusal.CrossFs ∷ refusal.ProcFrozen ∷ refusal.ProcCeiling ∷ refusal.FileFrozen ∷ refusal.FsCeiling ∷ refusal.Trusted ∷ refusal.NoCapability ∷ refusal.NoLicence ∷ refusal.NotAbove ∷ refusal.BelowLabel ∷ refusal.PexHeld ∷ refusal.NotPipe ∷ refusal.NotClaimed ∷ refusal.NoSpace ∷ refusal.NoInode ∷ refusal.NoEntry ∷ refusal.NoSlot ∷ refusal.NoFd ∷ refusal.NoOpen ∷ refusal.TooBig ∷ refusal.PipeFull ∷ refusal.Broken ∷ refusal.NoChild ∷ refusal.ChildrenLive ∷ refusal.LogFull ∷ refusal.Again ∷ refusal.EndOfList ∷ refusal.IsPipe ∷ refusal.InUse ∷ []) n refusal.NoProcess
+of_number n = slice_index_or (refusal.NoProcess ∷ refusal.NoProcess ∷ refusal.BadFd ∷ refusal.NotReadable ∷ refusal.NotWritable ∷ refusal.NotFound
+    ∷ refusal.NotDir ∷ refusal.IsDir ∷ refusal.Exists ∷ refusal.NotEmpty ∷ refusal.CrossFs ∷ refusal.ProcFrozen ∷ refusal.ProcCeiling ∷ refusal.FileFrozen
+    ∷ refusal.FsCeiling ∷ refusal.Trusted ∷ refusal.NoCapability ∷ refusal.NoLicence ∷ refusal.NotAbove ∷ refusal.BelowLabel ∷ refusal.PexHeld ∷ refusal.NotPipe
+    ∷ refusal.NotClaimed ∷ refusal.NoSpace ∷ refusal.NoInode ∷ refusal.NoEntry ∷ refusal.NoSlot ∷ refusal.NoFd ∷ refusal.NoOpen ∷ refusal.TooBig
+    ∷ refusal.PipeFull ∷ refusal.Broken ∷ refusal.NoChild ∷ refusal.ChildrenLive ∷ refusal.LogFull ∷ refusal.Again ∷ refusal.EndOfList ∷ refusal.IsPipe
+    ∷ refusal.InUse ∷ []) n refusal.NoProcess
 
 of_its_number : (r : Refusal) → of_number (number_of r) ≡ r
 unfolding of_number

@@ -29,7 +29,8 @@ record Beside (l : Categories) (v w : World) : Type 0 where
   bytes : (o : ℕ) (x : Object) → at v.frame.objects o ≡ Some x → leq x.label l ≡ true → holding_of v.content o ≡ holding_of w.content o
 
 -- an object that stands after a line is that of the line, or stood before with its label
-stood : (t : List (Option Object)) (o dir : ℕ) (x : Object) (h : Object → Object) → ((y : Object) → (h y).label ≡ y.label) → (n : ℕ) (y : Object) → at (change (put t o (Some x)) dir h) n ≡ Some y → ((n ≡ o) × (y.label ≡ x.label)) ⊎ ((n ≡ o → ⊥) × (z : Object) × (at t n ≡ Some z) × (y.label ≡ z.label))
+stood : (t : List (Option Object)) (o dir : ℕ) (x : Object) (h : Object → Object) → ((y : Object) → (h y).label ≡ y.label) → (n : ℕ) (y : Object)
+    → at (change (put t o (Some x)) dir h) n ≡ Some y → ((n ≡ o) × (y.label ≡ x.label)) ⊎ ((n ≡ o → ⊥) × (z : Object) × (at t n ≡ Some z) × (y.label ≡ z.label))
 stood t o dir x h same n y here = elim (at_change (put t o (Some x)) dir h n y here) [
   | inl c ↦ was c.was (ap (at (put t o (Some x))) c.here ∙ c.is_was) (ap (λ (z : Object). z.label) c.same ∙ same c.was)
   | inr other ↦ was y other.1 refl
@@ -54,8 +55,10 @@ placed_beside l v w a b dir k o line r =
       bytes = λ n y here below. elim (stood v.frame.objects o dir (object_of k a) (add (last_name a.path.names)) (λ z. refl) n y here) [
         | inl new ↦
             let low : leq a.label l ≡ true = subst (λ (c : Categories). leq c l ≡ true) new.1 below in
-            set_alike holds_nothing v.content.holdings w.content.holdings o n _ _ r.holdings (λ e. ap (λ bytes. let h : Holding = record { first = bytes; second = [] } in h) (line.low low)) (λ other. absurd (other new.0))
-        | inr old ↦ set_alike holds_nothing v.content.holdings w.content.holdings o n _ _ r.holdings (λ e. absurd (old.0 e)) (λ other. r.bytes n old.1 old.2 (subst (λ (c : Categories). leq c l ≡ true) old.3 below))
+            set_alike holds_nothing v.content.holdings w.content.holdings o n _ _ r.holdings (λ e. ap (λ bytes. let h : Holding =
+            record { first = bytes; second = [] } in h) (line.low low)) (λ other. absurd (other new.0))
+        | inr old ↦ set_alike holds_nothing v.content.holdings w.content.holdings o n _ _ r.holdings (λ e. absurd (old.0 e))
+            (λ other. r.bytes n old.1 old.2 (subst (λ (c : Categories). leq c l ≡ true) old.3 below))
       ];
     }
 
@@ -139,7 +142,9 @@ pub opened_alike : (l : Categories) (c d : Config) → DifferAbove l c d → Ope
 unfolding opening_world
 opened_alike l c d h =
     let same = bare_same l c d h in
-    let beside : Beside l (with_objects (bare_world c) c.objects) (with_objects (bare_world d) d.objects) = lines_beside l (bare_world c) (bare_world d) c.objects d.objects h.objects (subst (λ (w : World). Beside l (bare_world c) w) same (beside_itself l (bare_world c))) in
+    let beside : Beside l (with_objects (bare_world c) c.objects) (with_objects (bare_world d) d.objects) =
+    lines_beside l (bare_world c) (bare_world d) c.objects d.objects h.objects (subst (λ (w : World). Beside l (bare_world c) w) same
+    (beside_itself l (bare_world c))) in
     let inside : AlikeIn l (opening_world c).frame (opening_world c).content (opening_world d).content = record {
       bytes = beside.bytes;
       offsets = λ e x here below. ap (λ t. get_or t e 0) beside.offsets;
@@ -148,6 +153,10 @@ opened_alike l c d h =
     record {
       alike = record { shapes = shape_from _ _ beside.frames (record { holdings = beside.holdings; offsets = ap length beside.offsets; statuses = ap length beside.statuses }); inside = inside };
       in_length = λ long.
-          let r = lines_in_length l (bare_world c) (bare_world d) c.objects d.objects h.objects long (record { frames = ap (λ (w : World). w.frame) same; contents = ap (λ (w : World). zero_content w.content) same }) in
+          let r = lines_in_length l (bare_world c) (bare_world d) c.objects d.objects h.objects long (record {
+            frames =
+                ap (λ (w : World). w.frame) same;
+            contents = ap (λ (w : World). zero_content w.content) same;
+          }) in
           record { outlines = outline_from _ _ r.frames r.contents; inside = inside };
     }

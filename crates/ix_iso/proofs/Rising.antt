@@ -1,5 +1,6 @@
 -- No call but SetLabel and SetSelf lowers a label.
-use Rattle.std.proofs.Common.{◌≡◌, ◌≤◌, ◌<◌, ℕ, Bool, true, false, true≢false, List, [], ◌∷◌, ◌++◌, length, Option, Some, None, is_some, option_map, if◌then◌else◌, refl, sym, ap, ◌∙◌, subst, arith, length-set, length-append, inl, inr}
+use Rattle.std.proofs.Common.{◌≡◌, ◌≤◌, ◌<◌, ℕ, Bool, true, false, true≢false, List, [], ◌∷◌, ◌++◌, length, Option, Some, None, is_some, option_map}
+use Rattle.std.proofs.Common.{if◌then◌else◌, refl, sym, ap, ◌∙◌, subst, arith, length-set, length-append, inl, inr}
 use Rattle.std.specs.Option.{option_and_then}
 use Rattle.ix_label.specs.Category.{Categories, leq}
 use Rattle.ix_label.specs.Lattice.{leq-refl, leq-trans}

@@ -79,14 +79,19 @@ module _ (v w : World) (place pid : ℕ) (o p : Op) (twins : Twins o p) (shapes 
         bytes = λ other. (told_answer v pid o left).bytes other ∙ sym ((told_answer w pid p right).bytes (twins.reads ∙ other));
       }
 
-pub shape_twins : (v w : World) (place pid : ℕ) (o p : Op) → Twins o p → shape v ≡ shape w → is_one_kind (step v place pid o).reply (step w place pid p).reply ≡ true → OneShape o p (step v place pid o) (step w place pid p)
+pub shape_twins : (v w : World) (place pid : ℕ) (o p : Op) → Twins o p → shape v ≡ shape w → is_one_kind (step v place pid o).reply (step w place pid p).reply
+    ≡ true → OneShape o p (step v place pid o) (step w place pid p)
 shape_twins v w place pid o p twins shapes kind = one_shape v w place pid o p twins shapes (one_decision v w place pid o p twins shapes kind)
 
-pub shape_same : (v w : World) (place pid : ℕ) (o : Op) → shape v ≡ shape w → is_one_kind (step v place pid o).reply (step w place pid o).reply ≡ true → OneShape o o (step v place pid o) (step w place pid o)
+pub shape_same : (v w : World) (place pid : ℕ) (o : Op) → shape v ≡ shape w → is_one_kind (step v place pid o).reply (step w place pid o).reply ≡ true
+    → OneShape o o (step v place pid o) (step w place pid o)
 shape_same v w place pid o shapes kind = shape_twins v w place pid o o (twins_itself o) shapes kind
 
-pub shape_write : (v w : World) (place pid fd : ℕ) (a b : List ℕ) → shape v ≡ shape w → is_one_kind (step v place pid (op.WriteFd fd a)).reply (step w place pid (op.WriteFd fd b)).reply ≡ true → OneShape (op.WriteFd fd a) (op.WriteFd fd b) (step v place pid (op.WriteFd fd a)) (step w place pid (op.WriteFd fd b))
+pub shape_write : (v w : World) (place pid fd : ℕ) (a b : List ℕ) → shape v ≡ shape w
+    → is_one_kind (step v place pid (op.WriteFd fd a)).reply (step w place pid (op.WriteFd fd b)).reply ≡ true
+    → OneShape (op.WriteFd fd a) (op.WriteFd fd b) (step v place pid (op.WriteFd fd a)) (step w place pid (op.WriteFd fd b))
 shape_write v w place pid fd a b shapes kind = shape_twins v w place pid _ _ (twins_write fd a b) shapes kind
 
-pub shape_exit : (v w : World) (place pid s t : ℕ) → shape v ≡ shape w → is_one_kind (step v place pid (op.Exit s)).reply (step w place pid (op.Exit t)).reply ≡ true → OneShape (op.Exit s) (op.Exit t) (step v place pid (op.Exit s)) (step w place pid (op.Exit t))
+pub shape_exit : (v w : World) (place pid s t : ℕ) → shape v ≡ shape w → is_one_kind (step v place pid (op.Exit s)).reply (step w place pid (op.Exit t)).reply
+    ≡ true → OneShape (op.Exit s) (op.Exit t) (step v place pid (op.Exit s)) (step w place pid (op.Exit t))
 shape_exit v w place pid s t shapes kind = shape_twins v w place pid _ _ (twins_exit s t) shapes kind

@@ -1,11 +1,13 @@
 -- Two worlds alike at a label are so after each call, and what a low process is told is the same.
-use Rattle.std.proofs.Common.{◌≡◌, ◌⊎◌, ◌+◌, ◌-◌, ℕ, Bool, true, false, true≢false, not, ◌&&◌, List, ◌++◌, length, take, drop, Option, Some, None, if◌then◌else◌, refl, sym, ap, ◌∙◌, subst, inl, inr, set}
+use Rattle.std.proofs.Common.{◌≡◌, ◌⊎◌, ◌+◌, ◌-◌, ℕ, Bool, true, false, true≢false, not, ◌&&◌, List, ◌++◌, length, take, drop, Option, Some, None}
+use Rattle.std.proofs.Common.{if◌then◌else◌, refl, sym, ap, ◌∙◌, subst, inl, inr, set}
 use Rattle.std.specs.Option.{option_map_or}
 use Rattle.ix_label.specs.Category.{Categories, leq}
 use Rattle.ix_label.specs.Lattice.{leq-trans}
 use Rattle.ix_model.specs.world.World.{World, Frame, Content, Holding, Object, Process, Open, at, living, is_pipe, is_ended}
 use Rattle.ix_model.specs.rows.Walks.{OpenFile, behind}
-use Rattle.ix_model.specs.world.Contents.{carried, holding_of, offset_of, status_of, side, with_side, on_pipe, readable, change_side, after_read, after_write, spliced, after_cut, cut_to, after_seek, after_exit, emptied, holds_nothing}
+use Rattle.ix_model.specs.world.Contents.{carried, holding_of, offset_of, status_of, side, with_side, on_pipe, readable, change_side, after_read}
+use Rattle.ix_model.specs.world.Contents.{after_write, spliced, after_cut, cut_to, after_seek, after_exit, emptied, holds_nothing}
 use Rattle.ix_model.specs.rows.OnDescriptors.{LengthChecks}
 use Rattle.ix_model.specs.rows.Table.{Decision, row, verdict}
 use Rattle.ix_model.specs.rows.Telling.{told}
@@ -33,40 +35,54 @@ pub record Inside (l : Categories) (pid : ℕ) (f : Frame) (a b : Given) : Type 
   pub inside : (Crosses l f a.world.frame → ⊥) → AlikeIn l a.world.frame a.world.content b.world.content
   pub replies : IsLow l a.world.frame pid → (a.reply ≡ b.reply) × (a.bytes ≡ b.bytes)
 
-same_bytes_of : (f : Frame) (e : OpenFile) (c d : Content) → (on_pipe f e ≡ false → offset_of c e.id ≡ offset_of d e.id) → holding_of c e.entry.object ≡ holding_of d e.entry.object → readable f c e ≡ readable f d e
+same_bytes_of : (f : Frame) (e : OpenFile) (c d : Content) → (on_pipe f e ≡ false → offset_of c e.id ≡ offset_of d e.id)
+    → holding_of c e.entry.object ≡ holding_of d e.entry.object → readable f c e ≡ readable f d e
 unfolding readable
 same_bytes_of f e c d offsets holdings = go (on_pipe f e) offsets
   where
-    go : (b : Bool) → (b ≡ false → offset_of c e.id ≡ offset_of d e.id) → drop (if b then 0 else offset_of c e.id) (side e.entry.end (holding_of c e.entry.object)) ≡ drop (if b then 0 else offset_of d e.id) (side e.entry.end (holding_of d e.entry.object))
+    go : (b : Bool) → (b ≡ false → offset_of c e.id ≡ offset_of d e.id)
+        → drop (if b then 0 else offset_of c e.id) (side e.entry.end (holding_of c e.entry.object)) ≡ drop (if b then 0 else
+        offset_of d e.id) (side e.entry.end (holding_of d e.entry.object))
     go true h = ap (λ x. drop 0 (side e.entry.end x)) holdings
     go false h = λ i. drop (h refl i) (side e.entry.end (holdings i))
 
 module _ (l : Categories) (g : Frame) (c d : Content) (counts : SameCounts c d) (same : AlikeIn l g c d) where
   -- the same is done to what an end reads from
-  side_alike : (o end : ℕ) (h k : List ℕ → List ℕ) → ((x : Object) → at g.objects o ≡ Some x → leq x.label l ≡ true → (bytes : List ℕ) → h bytes ≡ k bytes) → AlikeIn l g (change_side o end h c) (change_side o end k d)
+  side_alike : (o end : ℕ) (h k : List ℕ → List ℕ) → ((x : Object) → at g.objects o ≡ Some x → leq x.label l ≡ true → (bytes : List ℕ) → h bytes ≡ k bytes)
+      → AlikeIn l g (change_side o end h c) (change_side o end k d)
   side_alike o end h k one = holding_alike l g c d counts same o _ _ (λ x here below.
       let equal = same.bytes o x here below in
       ap (λ (y : Holding). with_side end (h (side end y)) y) equal ∙ ap (λ b. with_side end b (holding_of d o)) (one x here below (side end (holding_of d o))))
 
-  read_edited : (b : Bool) (e : OpenFile) (m n : ℕ) → (b ≡ true → (x : Object) → at g.objects e.entry.object ≡ Some x → leq x.label l ≡ true → m ≡ n) → (b ≡ false → (y : Open) → at g.opens e.id ≡ Some y → leq y.label l ≡ true → m ≡ n)
-      → AlikeIn l g (if b then change_side e.entry.object e.entry.end (drop m) c else record c { offsets = set c.offsets e.id (offset_of c e.id + m) }) (if b then change_side e.entry.object e.entry.end (drop n) d else record d { offsets = set d.offsets e.id (offset_of d e.id + n) })
+  read_edited : (b : Bool) (e : OpenFile) (m n : ℕ) → (b ≡ true → (x : Object) → at g.objects e.entry.object ≡ Some x → leq x.label l ≡ true → m ≡ n)
+      → (b ≡ false → (y : Open) → at g.opens e.id ≡ Some y → leq y.label l ≡ true → m ≡ n)
+      → AlikeIn l g (if b then change_side e.entry.object e.entry.end (drop m) c else record c { offsets = set c.offsets e.id (offset_of c e.id + m) }) (if b
+      then change_side e.entry.object e.entry.end (drop n) d else record d { offsets = set d.offsets e.id (offset_of d e.id + n) })
   read_edited true e m n pipe file = side_alike e.entry.object e.entry.end (drop m) (drop n) (λ x here below bytes. ap (λ k. drop k bytes) (pipe refl x here below))
   read_edited false e m n pipe file = offset_alike l g c d counts same e.id _ _ (λ y here below. let one = file refl y here below in let equal = same.offsets e.id y here below in λ i. equal i + one i)
 
-  read_alike : (f : Frame) (e : OpenFile) (m n : ℕ) → (on_pipe f e ≡ true → (x : Object) → at g.objects e.entry.object ≡ Some x → leq x.label l ≡ true → m ≡ n) → (on_pipe f e ≡ false → (y : Open) → at g.opens e.id ≡ Some y → leq y.label l ≡ true → m ≡ n) → AlikeIn l g (after_read f e m c) (after_read f e n d)
+  read_alike : (f : Frame) (e : OpenFile) (m n : ℕ) → (on_pipe f e ≡ true → (x : Object) → at g.objects e.entry.object ≡ Some x → leq x.label l ≡ true → m ≡ n)
+      → (on_pipe f e ≡ false → (y : Open) → at g.opens e.id ≡ Some y → leq y.label l ≡ true → m ≡ n) → AlikeIn l g (after_read f e m c) (after_read f e n d)
   unfolding after_read
   read_alike f e m n pipe file = read_edited (on_pipe f e) e m n pipe file
 
-  write_edited : (b : Bool) (e : OpenFile) (m n : List ℕ) → ((x : Object) → at g.objects e.entry.object ≡ Some x → leq x.label l ≡ true → (m ≡ n) × (b ≡ false → offset_of c e.id ≡ offset_of d e.id)) → (b ≡ false → (y : Open) → at g.opens e.id ≡ Some y → leq y.label l ≡ true → m ≡ n)
-      → AlikeIn l g (if b then change_side e.entry.object (1 - e.entry.end) (λ old. old ++ m) c else record (change_side e.entry.object e.entry.end (spliced (offset_of c e.id) m) c) { offsets = set c.offsets e.id (offset_of c e.id + length m) })
-      (if b then change_side e.entry.object (1 - e.entry.end) (λ old. old ++ n) d else record (change_side e.entry.object e.entry.end (spliced (offset_of d e.id) n) d) { offsets = set d.offsets e.id (offset_of d e.id + length n) })
+  write_edited : (b : Bool) (e : OpenFile) (m n : List ℕ) → ((x : Object) → at g.objects e.entry.object ≡ Some x → leq x.label l ≡ true
+      → (m ≡ n) × (b ≡ false → offset_of c e.id ≡ offset_of d e.id)) → (b ≡ false → (y : Open) → at g.opens e.id ≡ Some y → leq y.label l ≡ true → m ≡ n)
+      → AlikeIn l g (if b then change_side e.entry.object (1 - e.entry.end) (λ old. old ++ m) c else
+      record (change_side e.entry.object e.entry.end (spliced (offset_of c e.id) m) c) { offsets = set c.offsets e.id (offset_of c e.id + length m) })
+      (if b then change_side e.entry.object (1 - e.entry.end) (λ old. old ++ n) d else
+      record (change_side e.entry.object e.entry.end (spliced (offset_of d e.id) n) d) { offsets = set d.offsets e.id (offset_of d e.id + length n) })
   write_edited true e m n object entry = side_alike e.entry.object (1 - e.entry.end) (λ old. old ++ m) (λ old. old ++ n) (λ x here below bytes. ap (λ k. bytes ++ k) (object x here below).0)
   write_edited false e m n object entry =
-      let held = side_alike e.entry.object e.entry.end (spliced (offset_of c e.id) m) (spliced (offset_of d e.id) n) (λ x here below bytes. let one = object x here below in λ i. spliced (one.1 refl i) (one.0 i) bytes) in
-      let moved = offset_alike l g c d counts same e.id (offset_of c e.id + length m) (offset_of d e.id + length n) (λ y here below. let one = entry refl y here below in let equal = same.offsets e.id y here below in λ i. equal i + length (one i)) in
+      let held = side_alike e.entry.object e.entry.end (spliced (offset_of c e.id) m) (spliced (offset_of d e.id) n) (λ x here below bytes. let one =
+      object x here below in λ i. spliced (one.1 refl i) (one.0 i) bytes) in
+      let moved = offset_alike l g c d counts same e.id (offset_of c e.id + length m) (offset_of d e.id + length n) (λ y here below. let one =
+      entry refl y here below in let equal = same.offsets e.id y here below in λ i. equal i + length (one i)) in
       record { bytes = held.bytes; offsets = moved.offsets; statuses = same.statuses }
 
-  write_alike : (f : Frame) (e : OpenFile) (m n : List ℕ) → ((x : Object) → at g.objects e.entry.object ≡ Some x → leq x.label l ≡ true → (m ≡ n) × (on_pipe f e ≡ false → offset_of c e.id ≡ offset_of d e.id)) → (on_pipe f e ≡ false → (y : Open) → at g.opens e.id ≡ Some y → leq y.label l ≡ true → m ≡ n) → AlikeIn l g (after_write f e m c) (after_write f e n d)
+  write_alike : (f : Frame) (e : OpenFile) (m n : List ℕ) → ((x : Object) → at g.objects e.entry.object ≡ Some x → leq x.label l ≡ true
+      → (m ≡ n) × (on_pipe f e ≡ false → offset_of c e.id ≡ offset_of d e.id)) → (on_pipe f e ≡ false → (y : Open) → at g.opens e.id ≡ Some y
+      → leq y.label l ≡ true → m ≡ n) → AlikeIn l g (after_write f e m c) (after_write f e n d)
   unfolding after_write
   write_alike f e m n object entry = write_edited (on_pipe f e) e m n object entry
 
@@ -120,7 +136,8 @@ module _ (l : Categories) (pid : ℕ) (f : Frame) (c d : Content) (counts : Same
   unfolding plainly
   plain_inside r g rise = record { inside = λ steady. kept g rise steady; replies = λ low. (refl, refl) }
 
-  read_inside : (fd count : ℕ) (b : Option OpenFile) → behind f pid fd ≡ b → (r : Reply) (g : Frame) → EntriesRise f.opens g.opens → (is_answer r ≡ true → ReadKnown pid fd f r g) → Inside l pid f (read_answer one count b r g) (read_answer two count b r g)
+  read_inside : (fd count : ℕ) (b : Option OpenFile) → behind f pid fd ≡ b → (r : Reply) (g : Frame) → EntriesRise f.opens g.opens
+      → (is_answer r ≡ true → ReadKnown pid fd f r g) → Inside l pid f (read_answer one count b r g) (read_answer two count b r g)
   unfolding read_answer
   read_inside fd count (Some e) is (reply.Bytes k) g rise known =
       let facts = known refl e is in
@@ -131,7 +148,9 @@ module _ (l : Categories) (pid : ℕ) (f : Frame) (c d : Content) (counts : Same
       (same.bytes e.entry.object facts.object facts.is_object (leq-trans facts.object.label facts.process.label l facts.sees_object below)) in
       record {
         inside = λ steady. read_alike l g (carried f g c) (carried f g d) (many g) (kept g rise steady) f e _ _
-            (λ pipe x here below. ap (λ bytes. length (take count bytes)) (same_bytes_of f e c d (λ file. absurd (true≢false (sym pipe ∙ file))) (same.bytes e.entry.object facts.object facts.is_object (object_was_low l f g steady e.entry.object facts.object x facts.is_object here below))))
+            (λ pipe x here below. ap (λ bytes. length (take count bytes)) (same_bytes_of f e c d (λ file. absurd (true≢false (sym pipe ∙ file)))
+            (same.bytes e.entry.object facts.object facts.is_object (object_was_low l f g steady e.entry.object facts.object x facts.is_object here
+            below))))
             (λ file y here below. ap (λ bytes. length (take count bytes)) (all_seen (leq-trans facts.process.label y.label l (facts.entry (sym piped ∙ file) y here) below)));
         replies = λ low.
             let h : Some facts.process ≡ Some low.process = sym facts.lives ∙ low.lives in
@@ -141,13 +160,15 @@ module _ (l : Categories) (pid : ℕ) (f : Frame) (c d : Content) (counts : Same
       }
   read_inside fd count _ is r g rise known = plain_inside r g rise
 
-  write_inside : (fd : ℕ) (m n : List ℕ) → Agreed l pid f m n → (b : Option OpenFile) → behind f pid fd ≡ b → (r : Reply) (g : Frame) → EntriesRise f.opens g.opens → (is_answer r ≡ true → WriteKnown pid fd f r g) → Inside l pid f (write_answer one m b r g) (write_answer two n b r g)
+  write_inside : (fd : ℕ) (m n : List ℕ) → Agreed l pid f m n → (b : Option OpenFile) → behind f pid fd ≡ b → (r : Reply) (g : Frame)
+      → EntriesRise f.opens g.opens → (is_answer r ≡ true → WriteKnown pid fd f r g) → Inside l pid f (write_answer one m b r g) (write_answer two n b r g)
   unfolding write_answer
   write_inside fd m n agree (Some e) is (reply.Number k) g rise known =
       let facts = known refl e is in
       let piped : on_pipe f e ≡ is_pipe facts.object = ap (λ o. option_map_or is_pipe o false) facts.is_object in
       let stood : at f.opens e.id ≡ Some e.entry = behind_is f pid fd e is in
-      let own : (a : Categories) → leq facts.caller.label a ≡ true → leq a l ≡ true → m ≡ n = λ a above below. one_where_low l pid f m n agree facts.caller facts.is_caller (leq-trans facts.caller.label a l above below) in
+      let own : (a : Categories) → leq facts.caller.label a ≡ true → leq a l ≡ true → m ≡ n =
+      λ a above below. one_where_low l pid f m n agree facts.caller facts.is_caller (leq-trans facts.caller.label a l above below) in
       record {
         inside = λ steady. write_alike l g (carried f g c) (carried f g d) (many g) (kept g rise steady) f e m n
             (λ x here below.
@@ -213,14 +234,22 @@ module _ (l : Categories) (pid : ℕ) (f : Frame) (c d : Content) (counts : Same
 
   pex_inside : (b : Option OpenFile) (r : Reply) (g : Frame) → EntriesRise f.opens g.opens → Inside l pid f (pex_answer one b r g) (pex_answer two b r g)
   unfolding pex_answer
-  pex_inside (Some e) r g rise = record { inside = λ steady. emptied_alike l g (carried f g c) (carried f g d) (many g) (kept g rise steady) (is_whole g e.entry.object && not (is_whole f e.entry.object)) e.entry.object; replies = λ low. (refl, refl) }
+  pex_inside (Some e) r g rise =
+      record {
+        inside = λ steady. emptied_alike l g (carried f g c) (carried f g d) (many g) (kept g rise steady) (is_whole g e.entry.object
+            && not (is_whole f e.entry.object)) e.entry.object;
+        replies = λ low. (refl, refl);
+      }
   pex_inside None r g rise = plain_inside r g rise
 
   -- ---- the same call
   answer_inside : (t : LengthChecks) (place : ℕ) (o : Op) → Inside l pid f (answer one pid o (verdict t place pid o f)) (answer two pid o (verdict t place pid o f))
   unfolding answer row
-  answer_inside t place (op.ReadFd fd count) = read_inside fd count (behind f pid fd) refl _ _ (entries_rise t place pid (op.ReadFd fd count) f) (passed t place pid (op.ReadFd fd count) f (ReadKnown pid fd f) (read_known t pid fd count f))
-  answer_inside t place (op.WriteFd fd bytes) = write_inside fd bytes bytes (inr refl) (behind f pid fd) refl _ _ (entries_rise t place pid (op.WriteFd fd bytes) f) (passed t place pid (op.WriteFd fd bytes) f (WriteKnown pid fd f) (write_known t pid fd f))
+  answer_inside t place (op.ReadFd fd count) = read_inside fd count (behind f pid fd) refl _ _ (entries_rise t place pid (op.ReadFd fd count) f)
+      (passed t place pid (op.ReadFd fd count) f (ReadKnown pid fd f) (read_known t pid fd count f))
+  answer_inside t place (op.WriteFd fd bytes) =
+      write_inside fd bytes bytes (inr refl) (behind f pid fd) refl _ _ (entries_rise t place pid (op.WriteFd fd bytes) f)
+      (passed t place pid (op.WriteFd fd bytes) f (WriteKnown pid fd f) (write_known t pid fd f))
   answer_inside t place (op.CutFd fd len) = cut_inside len (behind f pid fd) _ _ (entries_rise t place pid (op.CutFd fd len) f)
   answer_inside t place (op.SeekFd fd offset) = seek_inside offset (behind f pid fd) _ _ (entries_rise t place pid (op.SeekFd fd offset) f)
   answer_inside t place (op.StatAt path) = stat_inside _ _ (entries_rise t place pid (op.StatAt path) f) (passed t place pid (op.StatAt path) f (StatFacts pid f) (stat_known pid path f))
@@ -232,27 +261,39 @@ module _ (l : Categories) (pid : ℕ) (f : Frame) (c d : Content) (counts : Same
   -- another one of a process that isn't low
   replaced_inside : (t : LengthChecks) (place : ℕ) (o p : Op) → IsHigh l f pid → Replaced o p → Inside l pid f (answer one pid o (verdict t place pid o f)) (answer two pid p (verdict t place pid o f))
   unfolding answer row
-  replaced_inside t place _ _ high (Written {fd = fd} {a = a} {b = b}) = write_inside fd a b (inl high) (behind f pid fd) refl _ _ (entries_rise t place pid (op.WriteFd fd a) f) (passed t place pid (op.WriteFd fd a) f (WriteKnown pid fd f) (write_known t pid fd f))
+  replaced_inside t place _ _ high (Written {fd = fd} {a = a} {b = b}) =
+      write_inside fd a b (inl high) (behind f pid fd) refl _ _ (entries_rise t place pid (op.WriteFd fd a) f)
+      (passed t place pid (op.WriteFd fd a) f (WriteKnown pid fd f) (write_known t pid fd f))
   replaced_inside t place _ _ high (Exited {s = s} {t = u}) = exit_inside s u (inl high) _ _ (entries_rise t place pid (op.Exit s) f)
 
 -- ---- steps
 -- the second world's frame is the first's
-reframed : (l : Categories) (v w : World) (place pid : ℕ) (o p : Op) (e : Decision) → v.frame ≡ w.frame → Inside l pid v.frame (answer v pid o e) (answer (record { frame = v.frame; content = w.content }) pid p e) → Inside l pid v.frame (answer v pid o e) (answer w pid p e)
+reframed : (l : Categories) (v w : World) (place pid : ℕ) (o p : Op) (e : Decision) → v.frame ≡ w.frame
+    → Inside l pid v.frame (answer v pid o e) (answer (record { frame = v.frame; content = w.content }) pid p e)
+    → Inside l pid v.frame (answer v pid o e) (answer w pid p e)
 reframed l v w place pid o p e frames h = subst (λ (f : Frame). Inside l pid v.frame (answer v pid o e) (answer (record { frame = f; content = w.content }) pid p e)) frames h
 
-after : (l : Categories) (v w : World) (place pid : ℕ) (o p : Op) → Twins o p → Alike l v w → is_one_kind (step v place pid o).reply (step w place pid p).reply ≡ true → Inside l pid v.frame (answer v pid o (verdict (told v pid o) place pid o v.frame)) (answer (record { frame = v.frame; content = w.content }) pid p (verdict (told v pid o) place pid o v.frame)) → AlikeAfter l pid v.frame (step v place pid o) (step w place pid p)
+after : (l : Categories) (v w : World) (place pid : ℕ) (o p : Op) → Twins o p → Alike l v w → is_one_kind (step v place pid o).reply (step w place pid p).reply
+    ≡ true → Inside l pid v.frame (answer v pid o (verdict (told v pid o) place pid o v.frame)) (answer (record { frame = v.frame; content = w.content }) pid p
+    (verdict (told v pid o) place pid o v.frame)) → AlikeAfter l pid v.frame (step v place pid o) (step w place pid p)
 unfolding step
 after l v w place pid o p twins alike kind h =
     let one = one_decision v w place pid o p twins alike.shapes kind in
     let shape_after = shape_twins v w place pid o p twins alike.shapes kind in
-    let i : Inside l pid v.frame (step v place pid o) (step w place pid p) = subst (λ (e : Decision). Inside l pid v.frame (step v place pid o) (answer w pid p e)) one (reframed l v w place pid o p _ (shape_frames v w alike.shapes) h) in
+    let i : Inside l pid v.frame (step v place pid o) (step w place pid p) =
+    subst (λ (e : Decision). Inside l pid v.frame (step v place pid o) (answer w pid p e)) one
+    (reframed l v w place pid o p _ (shape_frames v w alike.shapes) h) in
     record { worlds = λ steady. record { shapes = shape_after.shapes; inside = i.inside steady }; replies = i.replies }
 
-pub alike_events : (l : Categories) (v w : World) (place : ℕ) (e f : Event) → Alike l v w → AgreeAt l v.frame e f → is_one_kind (step_of v place e).reply (step_of w place f).reply ≡ true → AlikeAfter l e.pid v.frame (step_of v place e) (step_of w place f)
+pub alike_events : (l : Categories) (v w : World) (place : ℕ) (e f : Event) → Alike l v w → AgreeAt l v.frame e f
+    → is_one_kind (step_of v place e).reply (step_of w place f).reply ≡ true → AlikeAfter l e.pid v.frame (step_of v place e) (step_of w place f)
 alike_events l v w place _ _ alike (Same {e = e}) kind =
     after l v w place e.pid e.op e.op (twins_itself e.op) alike kind (answer_inside l e.pid v.frame v.content w.content (shape_counts v w alike.shapes) alike.inside (told v e.pid e.op) place e.op)
 alike_events l v w place _ _ alike (Other {seat = seat} {line = line} {pid = pid} {a = a} {b = b} high replaced) kind =
-    after l v w place pid a b (twins_replaced a b replaced) alike kind (replaced_inside l pid v.frame v.content w.content (shape_counts v w alike.shapes) alike.inside (told v pid a) place a b high replaced)
+    after l v w place pid a b (twins_replaced a b replaced) alike kind (replaced_inside l pid v.frame v.content w.content (shape_counts v w alike.shapes)
+    alike.inside (told v pid a) place a b high replaced)
 
-pub alike_ops : (l : Categories) (v w : World) (seat line place pid : ℕ) (o p : Op) → Alike l v w → AgreeAt l v.frame (record { seat = seat; line = line; pid = pid; op = o }) (record { seat = seat; line = line; pid = pid; op = p }) → is_one_kind (step v place pid o).reply (step w place pid p).reply ≡ true → AlikeAfter l pid v.frame (step v place pid o) (step w place pid p)
+pub alike_ops : (l : Categories) (v w : World) (seat line place pid : ℕ) (o p : Op) → Alike l v w
+    → AgreeAt l v.frame (record { seat = seat; line = line; pid = pid; op = o }) (record { seat = seat; line = line; pid = pid; op = p })
+    → is_one_kind (step v place pid o).reply (step w place pid p).reply ≡ true → AlikeAfter l pid v.frame (step v place pid o) (step w place pid p)
 alike_ops l v w seat line place pid o p alike agree kind = alike_events l v w place _ _ alike agree kind

@@ -1,11 +1,14 @@
 -- What is held, with every byte and status 0: each edit of it does the same as of what is held.
-use Rattle.std.proofs.Common.{◌≡◌, ◌+◌, ◌-◌, ◌==◌, nat_le, nat_lt, ℕ, zero, suc, Bool, true, false, not, ◌&&◌, ◌||◌, List, [], ◌∷◌, ◌++◌, length, map, take, drop, replicate, Option, Some, None, is_some, if◌then◌else◌, refl, sym, ap, ◌∙◌, arith, set}
+use Rattle.std.proofs.Common.{◌≡◌, ◌+◌, ◌-◌, ◌==◌, nat_le, nat_lt, ℕ, zero, suc, Bool, true, false, not, ◌&&◌, ◌||◌, List, [], ◌∷◌, ◌++◌, length, map}
+use Rattle.std.proofs.Common.{take, drop, replicate, Option, Some, None, is_some, if◌then◌else◌, refl, sym, ap, ◌∙◌, arith, set}
 use Rattle.std.proofs.Math.ListN.{get_or-map}
 use Rattle.std.proofs.lemmas.List.{length-map, map-append, map-set}
 use Rattle.ix_model.specs.world.World.{Frame, Content, Holding, at, is_ended}
 use Rattle.ix_model.specs.rows.Walks.{OpenFile}
-use Rattle.ix_model.specs.world.Contents.{keep, grown, carried, holding_of, offset_of, side, with_side, on_pipe, readable, change_side, after_read, after_write, spliced, after_cut, cut_to, after_seek, after_exit, emptied, holds_nothing}
-use Rattle.ix_model.specs.rows.Telling.{blocks_for, blocks_where, blocks_on, blocks_beside, lies_on, fs_of_object, length_then, nothing_told, told_of_read, told_of_pipe_write, told_of_file_write, told_of_write, told_of_cut}
+use Rattle.ix_model.specs.world.Contents.{keep, grown, carried, holding_of, offset_of, side, with_side, on_pipe, readable, change_side, after_read}
+use Rattle.ix_model.specs.world.Contents.{after_write, spliced, after_cut, cut_to, after_seek, after_exit, emptied, holds_nothing}
+use Rattle.ix_model.specs.rows.Telling.{blocks_for, blocks_where, blocks_on, blocks_beside, lies_on, fs_of_object, length_then, nothing_told}
+use Rattle.ix_model.specs.rows.Telling.{told_of_read, told_of_pipe_write, told_of_file_write, told_of_write, told_of_cut}
 use Rattle.ix_model.specs.two_runs.EqualLengths.{zeros, zeroed}
 
 abbrev pub zero_content : Content → Content
@@ -111,14 +114,16 @@ side_length c o end = ap length (holding_side c o end) ∙ length_zeros (side en
 
 pub readable_zero : (f : Frame) (c : Content) (e : OpenFile) → readable f (zero_content c) e ≡ zeros (readable f c e)
 unfolding readable
-readable_zero f c e = ap (drop (if on_pipe f e then 0 else offset_of c e.id)) (holding_side c e.entry.object e.entry.end) ∙ sym (drop_zeros (if on_pipe f e then 0 else offset_of c e.id) (side e.entry.end (holding_of c e.entry.object)))
+readable_zero f c e = ap (drop (if on_pipe f e then 0 else offset_of c e.id)) (holding_side c e.entry.object e.entry.end)
+    ∙ sym (drop_zeros (if on_pipe f e then 0 else offset_of c e.id) (side e.entry.end (holding_of c e.entry.object)))
 
 -- ---- edits
 pub carried_zero : (f g : Frame) (c : Content) → zero_content (carried f g c) ≡ carried f g (zero_content c)
 unfolding carried
 carried_zero f g c =
     let one = keep_map zeroed holds_nothing (λ o. is_some (at f.objects o) && is_some (at g.objects o)) 0 c.holdings in
-    let two = keep_map (λ (b : ℕ). 0) 0 (λ p. is_ended (at f.processes p) && is_ended (at g.processes p)) 0 (grown (length g.processes) c.statuses) ∙ ap (keep 0 (λ p. is_ended (at f.processes p) && is_ended (at g.processes p)) 0) (grown_zeros (length g.processes) c.statuses) in
+    let two = keep_map (λ (b : ℕ). 0) 0 (λ p. is_ended (at f.processes p) && is_ended (at g.processes p)) 0 (grown (length g.processes) c.statuses)
+    ∙ ap (keep 0 (λ p. is_ended (at f.processes p) && is_ended (at g.processes p)) 0) (grown_zeros (length g.processes) c.statuses) in
     λ i. record { holdings = one i; offsets = keep 0 (λ e. is_some (at f.opens e) && is_some (at g.opens e)) 0 c.offsets; statuses = two i }
 
 change_zero : (o end : ℕ) (h k : List ℕ → List ℕ) (c : Content) → ((bytes : List ℕ) → zeros (h bytes) ≡ k (zeros bytes)) → zero_content (change_side o end h c) ≡ change_side o end k (zero_content c)
@@ -154,7 +159,12 @@ seek_zero e offset c = refl
 
 pub exit_zero : (g : Frame) (pid status : ℕ) (c : Content) → zero_content (after_exit g pid status c) ≡ after_exit g pid 0 (zero_content c)
 unfolding after_exit
-exit_zero g pid status c = either_zero (is_ended (at g.processes pid)) _ _ _ _ (λ i. record { holdings = map zeroed c.holdings; offsets = c.offsets; statuses = map-set (λ (b : ℕ). 0) c.statuses pid status i }) refl
+exit_zero g pid status c = either_zero (is_ended (at g.processes pid)) _ _ _ _ (λ i. record {
+  holdings = map zeroed c.holdings;
+  offsets = c.offsets;
+  statuses =
+      map-set (λ (b : ℕ). 0) c.statuses pid status i;
+}) refl
 
 pub emptied_zero : (o : ℕ) (c : Content) → zero_content (emptied o c) ≡ emptied o (zero_content c)
 unfolding emptied
@@ -176,7 +186,9 @@ told_read_zero f c (Some e) = let long = ap length (readable_zero f c e) ∙ len
 told_file_zero : (f : Frame) (c : Content) (e : OpenFile) (n : ℕ) → told_of_file_write f (zero_content c) e n ≡ told_of_file_write f c e n
 told_file_zero f c e n = λ i. record nothing_told {
   too_big = nat_lt 4096 n || nat_lt 1048576 (offset_of c e.id + n);
-  no_space = not (nat_lt 4096 n || nat_lt 1048576 (offset_of c e.id + n)) && nat_lt (blocks_on f (fs_of_object f e.entry.object)) (beside_zero f c e.entry.object i + blocks_for (length_then (offset_of c e.id) n (side_length c e.entry.object e.entry.end i)));
+  no_space = not (nat_lt 4096 n || nat_lt 1048576 (offset_of c e.id + n))
+      && nat_lt (blocks_on f (fs_of_object f e.entry.object))
+      (beside_zero f c e.entry.object i + blocks_for (length_then (offset_of c e.id) n (side_length c e.entry.object e.entry.end i)));
 }
 
 pub told_write_zero : (f : Frame) (c : Content) (n : ℕ) (b : Option OpenFile) → told_of_write f (zero_content c) n b ≡ told_of_write f c n b
@@ -184,7 +196,9 @@ unfolding told_of_write
 told_write_zero f c n None = refl
 told_write_zero f c n (Some e) = go (on_pipe f e)
   where
-    go : (b : Bool) → (if b then told_of_pipe_write (length (side (1 - e.entry.end) (holding_of (zero_content c) e.entry.object))) n else told_of_file_write f (zero_content c) e n) ≡ (if b then told_of_pipe_write (length (side (1 - e.entry.end) (holding_of c e.entry.object))) n else told_of_file_write f c e n)
+    go : (b : Bool) → (if b then told_of_pipe_write (length (side (1 - e.entry.end) (holding_of (zero_content c) e.entry.object))) n else
+        told_of_file_write f (zero_content c) e n) ≡ (if b then told_of_pipe_write (length (side (1 - e.entry.end) (holding_of c e.entry.object))) n else
+        told_of_file_write f c e n)
     go true = ap (λ k. told_of_pipe_write k n) (side_length c e.entry.object (1 - e.entry.end))
     go false = told_file_zero f c e n
 

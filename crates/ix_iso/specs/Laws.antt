@@ -49,7 +49,9 @@ pub record AlikeAfter (l : Categories) (pid : ℕ) (f : Frame) (a b : Given) : T
 
 -- so two entries with these calls do from worlds alike at L, where they agree at L and their replies are of one kind
 abbrev pub KeepAlike : Op → Op → Type 0
-KeepAlike o p = (l : Categories) (v w : World) (seat line place pid : ℕ) → Alike l v w → AgreeAt l v.frame (record { seat = seat; line = line; pid = pid; op = o }) (record { seat = seat; line = line; pid = pid; op = p }) → is_one_kind (step v place pid o).reply (step w place pid p).reply ≡ true → AlikeAfter l pid v.frame (step v place pid o) (step w place pid p)
+KeepAlike o p = (l : Categories) (v w : World) (seat line place pid : ℕ) → Alike l v w
+    → AgreeAt l v.frame (record { seat = seat; line = line; pid = pid; op = o }) (record { seat = seat; line = line; pid = pid; op = p })
+    → is_one_kind (step v place pid o).reply (step w place pid p).reply ≡ true → AlikeAfter l pid v.frame (step v place pid o) (step w place pid p)
 
 -- ---- the calls that neither read nor edit what is held
 -- all but eight
@@ -100,7 +102,8 @@ pub record Isolated (l : Categories) (v w : World) (place : ℕ) (events others 
   pub shapes : (n : ℕ) → shape (run v place (take n events)) ≡ shape (run w place (take n others))
   -- at each place the replies are equal in the part that the frame decides, and in all bytes but a read's
   pub replies : (n : ℕ) (e f : Event) → slice_get events n ≡ Some e → slice_get others n ≡ Some f →
-      (frame_part e.op (given_after v place events n e).reply ≡ frame_part f.op (given_after w place others n f).reply) × (gives_bytes e.op ≡ false → (given_after v place events n e).bytes ≡ (given_after w place others n f).bytes)
+      (frame_part e.op (given_after v place events n e).reply ≡ frame_part f.op (given_after w place others n f).reply) × (gives_bytes e.op ≡ false
+      → (given_after v place events n e).bytes ≡ (given_after w place others n f).bytes)
   -- after each prefix in which no entry crosses L the worlds are alike at L
   pub worlds : (n : ℕ) → NoneCrosses l v place (take n events) → Alike l (run v place (take n events)) (run w place (take n others))
   -- an entry that is low is the same in both
@@ -170,7 +173,8 @@ pub record IsolatedInLength (l : Categories) (v w : World) (place : ℕ) (events
   -- after each prefix lengths and offsets are equal
   pub outlines : (n : ℕ) → outline (run v place (take n events)) ≡ outline (run w place (take n others))
   -- at each place the replies are equal but for the bytes of a read and the status in Child
-  pub replies : (n : ℕ) (e f : Event) → slice_get events n ≡ Some e → slice_get others n ≡ Some f → but_status (given_after v place events n e).reply ≡ but_status (given_after w place others n f).reply
+  pub replies : (n : ℕ) (e f : Event) → slice_get events n ≡ Some e → slice_get others n ≡ Some f
+      → but_status (given_after v place events n e).reply ≡ but_status (given_after w place others n f).reply
 
 -- whatever the label, the worlds and the histories are; nothing is asked of replies
 abbrev pub IsolationInLength : Type 0

@@ -58,7 +58,8 @@ module _ (seat : ℕ) where
       ] nothing
 
   -- entries of others add nothing to what a seat made
-  pub made_by-others : (c : Config) (xs ys : List Event) → IsPrefix xs ys → entries_of seat_of seat ys ≡ entries_of seat_of seat xs → made_by seat (record { config = c; events = ys }) ≡ made_by seat (record { config = c; events = xs })
+  pub made_by-others : (c : Config) (xs ys : List Event) → IsPrefix xs ys → entries_of seat_of seat ys ≡ entries_of seat_of seat xs
+      → made_by seat (record { config = c; events = ys }) ≡ made_by seat (record { config = c; events = xs })
   unfolding made_by
   made_by-others c xs ys p same =
       let w : World = opening_world c in
@@ -81,7 +82,8 @@ made_same k l goes mine =
     let same : entries_of seat_of k.number l.seen ≡ entries_of seat_of k.number k.seen = ap (λ n. entries_of seat_of n l.seen) (sym goes.number) ∙ mine in
     (λ i. at_base (goes.number i) l.seen (goes.base i)) ∙ made_at-others k.number k.seen l.seen goes.seen same k.base
 
-pub made_call : (a : Answer) (k l : KSeatState) (line : ℕ) (pid : Pid) (o : Op) (before after : List ℕ) → InTurn a k l (entry k.number line pid o) before after → SeatGoesOn k l → made_at l ≡ made_after a (entry k.number line pid o) after (made_at k)
+pub made_call : (a : Answer) (k l : KSeatState) (line : ℕ) (pid : Pid) (o : Op) (before after : List ℕ) → InTurn a k l (entry k.number line pid o) before after
+    → SeatGoesOn k l → made_at l ≡ made_after a (entry k.number line pid o) after (made_at k)
 made_call a k l line pid o before after turn goes =
     let had : made_at k ≡ made_by k.number (record { config = turn.found.config; events = k.seen }) =
     ap (λ (b : Option Config). option_map_or (λ c. made_by k.number (record { config = c; events = k.seen })) b []) turn.base in

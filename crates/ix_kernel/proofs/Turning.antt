@@ -30,7 +30,8 @@ step_config (answer.JournalFull used need cap) old new e before after s = ap (λ
 step_config answer.NoMemory old new e before after s = absurd s
 
 -- the entry, where it was made, is one more of its seat's
-step_own : (a : Answer) (old new : History) (e : Event) (before after : List ℕ) → StepsTo a old new before after e → entries_of seat_of e.seat new.events ≡ own_after a e (entries_of seat_of e.seat old.events)
+step_own : (a : Answer) (old new : History) (e : Event) (before after : List ℕ) → StepsTo a old new before after e
+    → entries_of seat_of e.seat new.events ≡ own_after a e (entries_of seat_of e.seat old.events)
 step_own (answer.Given r) old new e before after s =
     ap (λ (h : History). entries_of seat_of e.seat h.events) s.0
     ∙ filter-append _ old.events (e ∷ [])
@@ -88,7 +89,15 @@ module _ (k s t l : KSeatState) (old new : History) (a : Answer) (e : Event) (be
       let found : t.look_found ≡ l.look_found = ap (λ (z : KSeatState). z.look_found) (sym r.back) in
       r.back
       ∙ ap (λ (z : KSeatState). after_give z new.events) r.took
-      ∙ (λ i. record (r.same i) { seen = sym seen_is i; taken = (sym r.free ∙ ap (λ (z : KSeatState). z.taken) r.same) i; turns = (r.same i).turns + 1; ticket = found i; looks = looks i; look_found = found i })
+      ∙ (λ i. record (r.same i) {
+        seen = sym seen_is i;
+        taken = (sym r.free ∙ ap (λ (z : KSeatState). z.taken) r.same) i;
+        turns = (r.same i).turns + 1;
+        ticket =
+            found i;
+        looks = looks i;
+        look_found = found i;
+      })
 
   left : new ≡ record old { events = l.seen }
   left = λ i. record { config = step_config a old new e before after r.did.step i; events = sym seen_is i }

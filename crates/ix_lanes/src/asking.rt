@@ -1,6 +1,6 @@
 //! The calls that lines ask for, and the names that stand in them.
 
+pub mod bindings;
 pub mod calls;
 pub mod handed;
-pub mod bindings;
 pub mod places;

@@ -1,5 +1,6 @@
 -- What each call leaves and answers, over the fields.
-use Rattle.std.proofs.Common.{◌≡◌, ℕ, zero, suc, ◌+◌, ◌-◌, ◌<◌, ◌≤◌, ◌^◌, cond, List, [], ◌∷◌, ◌++◌, length, set, get_or, Option, Some, None, refl, sym, ap, ◌∙◌, subst, arith, inl, inr, slice_get, append-nil, nat_lt, add-one}
+use Rattle.std.proofs.Common.{◌≡◌, ℕ, zero, suc, ◌+◌, ◌-◌, ◌<◌, ◌≤◌, ◌^◌, cond, List, [], ◌∷◌, ◌++◌, length, set, get_or, Option, Some, None, refl}
+use Rattle.std.proofs.Common.{sym, ap, ◌∙◌, subst, arith, inl, inr, slice_get, append-nil, nat_lt, add-one}
 use Rattle.std.specs.List.{last_or, Contains}
 use Rattle.std.specs.Vec.{with_items, with_item}
 use Rattle.std.proofs.lemmas.Bool.{cases_lt}
@@ -20,7 +21,8 @@ Within_from items None h = tt
 Within_from items (Some i) h = h i refl
 
 -- the ends of a list are items
-among_within : (s : Inside) (us : List Link) (o : Option ℕ) (xs : List ℕ) → IsSound s → length us ≡ length s.items.items → Among o xs → ((j : ℕ) → times j xs ≤ total (times j) (lists (links_view s))) → Within us o
+among_within : (s : Inside) (us : List Link) (o : Option ℕ) (xs : List ℕ) → IsSound s → length us ≡ length s.items.items → Among o xs
+    → ((j : ℕ) → times j xs ≤ total (times j) (lists (links_view s))) → Within us o
 among_within s us o xs h len among part = Within_from us o (λ j e. rw len (held_within s.items.items (s.unused ∷ s.chains.items) (lists (links_view s)) j h.hold (omega (arith, among j e, part j))))
 
 part_of_chains : (s : Inside) (k j : ℕ) → k < length (links_view s).chains → times j (get_or (links_view s).chains k []) ≤ total (times j) (lists (links_view s))
@@ -29,7 +31,8 @@ part_of_chains s k j l = omega (arith, part-le-total (times j) (links_view s).ch
 pub the_chain : (s : Inside) (k : ℕ) (e : Ends) → IsSound s → k < length (links_view s).chains → e ≡ get_or s.chains.items k e → IsChain s.items.items e (get_or (links_view s).chains k [])
 the_chain s k e h l is = subst (λ (d : Ends). IsChain s.items.items d (get_or (links_view s).chains k [])) (sym is) (chain_at s.items.items s.chains.items (links_view s).chains k e h.hold.chains.1 l)
 
-pub first_within : (s : Inside) (us : List Link) (k : ℕ) (e : Ends) → IsSound s → length us ≡ length s.items.items → k < length (links_view s).chains → e ≡ get_or s.chains.items k e → Within us e.first
+pub first_within : (s : Inside) (us : List Link) (k : ℕ) (e : Ends) → IsSound s → length us ≡ length s.items.items → k < length (links_view s).chains
+    → e ≡ get_or s.chains.items k e → Within us e.first
 first_within s us k e h len l is = rw (the_chain s k e h l is).first (among_within s us _ _ h len (head-among (get_or (links_view s).chains k [])) (λ j. part_of_chains s k j l))
 
 pub last_within : (s : Inside) (us : List Link) (k : ℕ) (e : Ends) → IsSound s → length us ≡ length s.items.items → k < length (links_view s).chains → e ≡ get_or s.chains.items k e → Within us e.last
@@ -46,7 +49,8 @@ pub record Leaves (s : Inside) (v : Chains) : Type 0 where
   pub shown : links_view s ≡ v
   pub whole : IsSound s
 
-closes : (s : Inside) (ws : List Link) (k : ℕ) (e u : Ends) (n : ℕ) (v : Chains) → IsSound s → length ws ≡ length s.items.items → Hold ws (u ∷ set s.chains.items k e) (lists v) → n ≡ length v.free → Leaves (changed s ws k e u n) v
+closes : (s : Inside) (ws : List Link) (k : ℕ) (e u : Ends) (n : ℕ) (v : Chains) → IsSound s → length ws ≡ length s.items.items
+    → Hold ws (u ∷ set s.chains.items k e) (lists v) → n ≡ length v.free → Leaves (changed s ws k e u n) v
 closes s ws k e u n v h len hold counted =
     let is : (with_items s.items ws).items ≡ ws = with_items_is s.items ws (len ∙ sym s.items.ok.0) in
     let held : Hold (with_items s.items ws).items (u ∷ set s.chains.items k e) (lists v) = subst (λ zs. Hold zs (u ∷ set s.chains.items k e) (lists v)) (sym is) hold in
@@ -62,15 +66,21 @@ put_in k zs rest v = record { chains = set v.chains k zs; free = rest }
 abbrev pub linked : Option ℕ → Option ℕ → Link
 linked p q = record { previous = p; next = q }
 
-pub closes_pushed : (s : Inside) (k i : ℕ) (e e' u : Ends) (os us ws : List Link) (l : Link) (rest xs ys : List ℕ) → IsSound s → (links_view s).free ≡ i ∷ rest → k < length (links_view s).chains → get_or (links_view s).chains k [] ≡ xs ++ ys
-    → e ≡ get_or s.chains.items k e → l ≡ link_between xs ys → os ≡ s.items.items → us ≡ unlinked_items os (link_at os i) → u ≡ unlinked_ends s.unused (link_at os i) → ws ≡ inserted_items us i l → e' ≡ inserted_ends e i l
+pub closes_pushed : (s : Inside) (k i : ℕ) (e e' u : Ends) (os us ws : List Link) (l : Link) (rest xs ys : List ℕ) → IsSound s → (links_view s).free ≡ i ∷ rest
+    → k < length (links_view s).chains → get_or (links_view s).chains k [] ≡ xs ++ ys
+    → e ≡ get_or s.chains.items k e → l ≡ link_between xs ys → os ≡ s.items.items → us ≡ unlinked_items os (link_at os i)
+    → u ≡ unlinked_ends s.unused (link_at os i) → ws ≡ inserted_items us i l → e' ≡ inserted_ends e i l
     → Leaves (changed s ws k e' u (s.free - 1)) (put_in k (xs ++ i ∷ ys) rest (links_view s))
 closes_pushed s k i e e' u os us ws l rest xs ys h free within is slot link old unlinked ends inserted ends' =
-    let items : ws ≡ inserted_items (unlinked_items s.items.items (link_at s.items.items i)) i (link_between xs ys) = inserted ∙ ap (λ n. inserted_items us i n) link ∙ ap (λ zs. inserted_items zs i (link_between xs ys)) (unlinked ∙ ap (λ zs. unlinked_items zs (link_at zs i)) old) in
+    let items : ws ≡ inserted_items (unlinked_items s.items.items (link_at s.items.items i)) i (link_between xs ys) =
+    inserted ∙ ap (λ n. inserted_items us i n) link ∙ ap (λ zs. inserted_items zs i (link_between xs ys)) (unlinked
+    ∙ ap (λ zs. unlinked_items zs (link_at zs i)) old) in
     let left : u ≡ unlinked_ends s.unused (link_at s.items.items i) = ends ∙ ap (λ zs. unlinked_ends s.unused (link_at zs i)) old in
     let right : e' ≡ inserted_ends (get_or s.chains.items k e) i (link_between xs ys) = ends' ∙ ap (λ n. inserted_ends e i n) link ∙ ap (λ d. inserted_ends d i (link_between xs ys)) slot in
     let held = hold_pushed s k i e rest xs ys h free within is in
-    let one = subst (λ zs. Hold zs (unlinked_ends s.unused (link_at s.items.items i) ∷ set s.chains.items k (inserted_ends (get_or s.chains.items k e) i (link_between xs ys))) (rest ∷ set (links_view s).chains k (xs ++ i ∷ ys))) (sym items) held in
+    let one = subst (λ zs. Hold zs (unlinked_ends s.unused (link_at s.items.items i)
+    ∷ set s.chains.items k (inserted_ends (get_or s.chains.items k e) i (link_between xs ys))) (rest ∷ set (links_view s).chains k (xs ++ i ∷ ys)))
+    (sym items) held in
     let two = subst (λ d. Hold ws (d ∷ set s.chains.items k (inserted_ends (get_or s.chains.items k e) i (link_between xs ys))) (rest ∷ set (links_view s).chains k (xs ++ i ∷ ys))) (sym left) one in
     let three = subst (λ d. Hold ws (u ∷ set s.chains.items k d) (rest ∷ set (links_view s).chains k (xs ++ i ∷ ys))) (sym right) two in
     closes s ws k e' u (s.free - 1) (put_in k (xs ++ i ∷ ys) rest (links_view s)) h
@@ -78,7 +88,8 @@ closes_pushed s k i e e' u os us ws l rest xs ys h free within is slot link old 
     three (omega (arith, h.counted, ap length free))
 
 pub closes_front : (s : Inside) (k i : ℕ) (e e' u : Ends) (os us ws : List Link) → IsSound s → s.unused.first ≡ Some i → k < length (links_view s).chains
-    → e ≡ get_or s.chains.items k e → os ≡ s.items.items → us ≡ unlinked_items os (link_at os i) → u ≡ unlinked_ends s.unused (link_at os i) → ws ≡ inserted_items us i (linked None e.first) → e' ≡ inserted_ends e i (linked None e.first)
+    → e ≡ get_or s.chains.items k e → os ≡ s.items.items → us ≡ unlinked_items os (link_at os i) → u ≡ unlinked_ends s.unused (link_at os i)
+    → ws ≡ inserted_items us i (linked None e.first) → e' ≡ inserted_ends e i (linked None e.first)
     → Leaves (changed s ws k e' u (s.free - 1)) (pushed_front k (links_view s))
 closes_front s k i e e' u os us ws h some within slot old unlinked ends inserted ends' =
     let rest = some_free s i h some in
@@ -89,7 +100,8 @@ closes_front s k i e e' u os us ws h some within slot old unlinked ends inserted
     subst (λ v. Leaves (changed s ws k e' u (s.free - 1)) v) (sym shown) done
 
 pub closes_back : (s : Inside) (k i : ℕ) (e e' u : Ends) (os us ws : List Link) → IsSound s → s.unused.first ≡ Some i → k < length (links_view s).chains
-    → e ≡ get_or s.chains.items k e → os ≡ s.items.items → us ≡ unlinked_items os (link_at os i) → u ≡ unlinked_ends s.unused (link_at os i) → ws ≡ inserted_items us i (linked e.last None) → e' ≡ inserted_ends e i (linked e.last None)
+    → e ≡ get_or s.chains.items k e → os ≡ s.items.items → us ≡ unlinked_items os (link_at os i) → u ≡ unlinked_ends s.unused (link_at os i)
+    → ws ≡ inserted_items us i (linked e.last None) → e' ≡ inserted_ends e i (linked e.last None)
     → Leaves (changed s ws k e' u (s.free - 1)) (pushed_back k (links_view s))
 closes_back s k i e e' u os us ws h some within slot old unlinked ends inserted ends' =
     let rest = some_free s i h some in
@@ -118,7 +130,8 @@ no_ends = record { first = None; last = None }
 pub link_of_item : (s : Inside) (k i : ℕ) (p : Parts s k i) → IsSound s → k < length (links_view s).chains → link_at s.items.items i ≡ link_between p.0 p.1
 link_of_item s k i p h l =
     let chain = chain_at s.items.items s.chains.items (links_view s).chains k no_ends h.hold.chains.1 l in
-    get_or_from_slice_get s.items.items i _ loose (link_in_chain s.items.items (get_or s.chains.items k no_ends) i p.0 p.1 (subst (λ zs. IsChain s.items.items (get_or s.chains.items k no_ends) zs) p.2 chain))
+    get_or_from_slice_get s.items.items i _ loose (link_in_chain s.items.items (get_or s.chains.items k no_ends) i p.0 p.1
+    (subst (λ zs. IsChain s.items.items (get_or s.chains.items k no_ends) zs) p.2 chain))
 
 pub previous_within : (s : Inside) (k i : ℕ) → IsSound s → k < length (links_view s).chains → Contains (get_or (links_view s).chains k []) i → Within s.items.items (link_at s.items.items i).previous
 previous_within s k i h l held =
@@ -128,25 +141,37 @@ previous_within s k i h l held =
 pub next_within : (s : Inside) (k i : ℕ) → IsSound s → k < length (links_view s).chains → Contains (get_or (links_view s).chains k []) i → Within s.items.items (link_at s.items.items i).next
 next_within s k i h l held =
     let p = parts s k i held in
-    rw (link_of_item s k i p h l) (among_within s s.items.items _ p.1 h refl (head-among p.1) (λ j. omega (arith, part_of_chains s k j l, ap (times j) p.2, times-append j p.0 (i ∷ p.1), times_skip j i p.1)))
+    rw (link_of_item s k i p h l) (among_within s s.items.items _ p.1 h refl (head-among p.1) (λ j. omega (
+      arith,
+      part_of_chains s k j l,
+      ap (times j) p.2,
+      times-append j p.0 (i ∷ p.1),
+      times_skip j i p.1,
+    )))
 
 pub room_for_one : (s : Inside) (k i : ℕ) → IsSound s → k < length (links_view s).chains → Contains (get_or (links_view s).chains k []) i → s.free + 1 < 2 ^ 32
 room_for_one s k i h l held = omega (arith, h.counted, h.few, h.hold.all, held.1, part-le-total length (links_view s).chains k l)
 
 pub closes_removed : (s : Inside) (k i : ℕ) (e e' u : Ends) (os us ws : List Link) → IsSound s → k < length (links_view s).chains → Contains (get_or (links_view s).chains k []) i
-    → e ≡ get_or s.chains.items k e → os ≡ s.items.items → us ≡ unlinked_items os (link_at os i) → e' ≡ unlinked_ends e (link_at os i) → ws ≡ inserted_items us i (linked None s.unused.first) → u ≡ inserted_ends s.unused i (linked None s.unused.first)
+    → e ≡ get_or s.chains.items k e → os ≡ s.items.items → us ≡ unlinked_items os (link_at os i) → e' ≡ unlinked_ends e (link_at os i)
+    → ws ≡ inserted_items us i (linked None s.unused.first) → u ≡ inserted_ends s.unused i (linked None s.unused.first)
     → Leaves (changed s ws k e' u (s.free + 1)) (removed k i (links_view s))
 closes_removed s k i e e' u os us ws h within held slot old unlinked ends' inserted ends =
     let p = parts s k i held in
     let free = (links_view s).free in
     let here : link_at os i ≡ link_between p.0 p.1 = ap (λ zs. link_at zs i) old ∙ link_of_item s k i p h within in
     let link : linked None s.unused.first ≡ link_between [] free = ap (λ q. linked None q) h.hold.chains.0.first in
-    let items : ws ≡ inserted_items (unlinked_items s.items.items (link_between p.0 p.1)) i (link_between [] free) = inserted ∙ ap (λ n. inserted_items us i n) link ∙ ap (λ zs. inserted_items zs i (link_between [] free)) (unlinked ∙ ap (λ n. unlinked_items os n) here ∙ ap (λ zs. unlinked_items zs (link_between p.0 p.1)) old) in
+    let items : ws ≡ inserted_items (unlinked_items s.items.items (link_between p.0 p.1)) i (link_between [] free) =
+    inserted ∙ ap (λ n. inserted_items us i n) link ∙ ap (λ zs. inserted_items zs i (link_between [] free)) (unlinked ∙ ap (λ n. unlinked_items os n) here
+    ∙ ap (λ zs. unlinked_items zs (link_between p.0 p.1)) old) in
     let left : u ≡ inserted_ends s.unused i (link_between [] free) = ends ∙ ap (λ n. inserted_ends s.unused i n) link in
     let right : e' ≡ unlinked_ends (get_or s.chains.items k e) (link_between p.0 p.1) = ends' ∙ ap (λ n. unlinked_ends e n) here ∙ ap (λ d. unlinked_ends d (link_between p.0 p.1)) slot in
     let hold = hold_removed s k i e p.0 p.1 h within p.2 in
-    let one = subst (λ zs. Hold zs (inserted_ends s.unused i (link_between [] free) ∷ set s.chains.items k (unlinked_ends (get_or s.chains.items k e) (link_between p.0 p.1))) ((i ∷ free) ∷ set (links_view s).chains k (p.0 ++ p.1))) (sym items) hold in
-    let two = subst (λ d. Hold ws (d ∷ set s.chains.items k (unlinked_ends (get_or s.chains.items k e) (link_between p.0 p.1))) ((i ∷ free) ∷ set (links_view s).chains k (p.0 ++ p.1))) (sym left) one in
+    let one = subst (λ zs. Hold zs (inserted_ends s.unused i (link_between [] free)
+    ∷ set s.chains.items k (unlinked_ends (get_or s.chains.items k e) (link_between p.0 p.1))) ((i ∷ free) ∷ set (links_view s).chains k (p.0 ++ p.1)))
+    (sym items) hold in
+    let two = subst (λ d. Hold ws (d ∷ set s.chains.items k (unlinked_ends (get_or s.chains.items k e) (link_between p.0 p.1))) ((i ∷ free)
+    ∷ set (links_view s).chains k (p.0 ++ p.1))) (sym left) one in
     let three = subst (λ d. Hold ws (u ∷ set s.chains.items k d) ((i ∷ free) ∷ set (links_view s).chains k (p.0 ++ p.1))) (sym right) two in
     let four = subst (λ zs. Hold ws (u ∷ set s.chains.items k e') ((i ∷ free) ∷ set (links_view s).chains k zs)) (sym p.3) three in
     closes s ws k e' u (s.free + 1) (removed k i (links_view s)) h
@@ -183,7 +208,8 @@ runs_at items p (x ∷ xs) zero i r e =
     ap (slice_get items) (sym same) ∙ r.0 ∙ ap (λ q. Some (linked p q)) (head-is xs)
 runs_at items p (x ∷ xs) (suc n) i r e = runs_at items (Some x) xs n i r.1 e ∙ ap (λ q. Some (linked q (slice_get xs (suc n)))) (before_or-cons p x xs n)
 
-found : (s : Inside) (i n : ℕ) (l : Link) (xs : List ℕ) → Runs s.items.items None xs None → l ≡ get_or s.items.items i l → slice_get xs n ≡ Some i → l ≡ linked (before_or None xs n) (slice_get xs (suc n))
+found : (s : Inside) (i n : ℕ) (l : Link) (xs : List ℕ) → Runs s.items.items None xs None → l ≡ get_or s.items.items i l → slice_get xs n ≡ Some i
+    → l ≡ linked (before_or None xs n) (slice_get xs (suc n))
 found s i n l xs r is e = is ∙ get_or_from_slice_get s.items.items i _ l (runs_at s.items.items None xs n i r e)
 
 chain_runs : (s : Inside) (k i n : ℕ) → IsSound s → slice_get (get_or (links_view s).chains k []) n ≡ Some i → Runs s.items.items None (get_or (links_view s).chains k []) None
@@ -192,13 +218,15 @@ chain_runs s k i n h e = elim (cases_lt k (length (links_view s).chains)) [
   | inr past ↦ subst (λ zs. Runs s.items.items None zs None) (sym (get_or_past (links_view s).chains k [] past)) tt
 ]
 
-pub next_in_chain : (s : Inside) (k i n : ℕ) (l : Link) → IsSound s → l ≡ get_or s.items.items i l → slice_get (get_or (links_view s).chains k []) n ≡ Some i → l.next ≡ slice_get (get_or (links_view s).chains k []) (n + 1)
+pub next_in_chain : (s : Inside) (k i n : ℕ) (l : Link) → IsSound s → l ≡ get_or s.items.items i l → slice_get (get_or (links_view s).chains k []) n ≡ Some i
+    → l.next ≡ slice_get (get_or (links_view s).chains k []) (n + 1)
 next_in_chain s k i n l h is e = rw add-one (ap (λ (m : Link). m.next) (found s i n l _ (chain_runs s k i n h e) is e))
 
 pub next_in_free : (s : Inside) (i n : ℕ) (l : Link) → IsSound s → l ≡ get_or s.items.items i l → slice_get (links_view s).free n ≡ Some i → l.next ≡ slice_get (links_view s).free (n + 1)
 next_in_free s i n l h is e = rw add-one (ap (λ (m : Link). m.next) (found s i n l _ h.hold.chains.0.runs is e))
 
-pub previous_in_chain : (s : Inside) (k i n : ℕ) (l : Link) → IsSound s → l ≡ get_or s.items.items i l → slice_get (get_or (links_view s).chains k []) n ≡ Some i → l.previous ≡ before (get_or (links_view s).chains k []) n
+pub previous_in_chain : (s : Inside) (k i n : ℕ) (l : Link) → IsSound s → l ≡ get_or s.items.items i l
+    → slice_get (get_or (links_view s).chains k []) n ≡ Some i → l.previous ≡ before (get_or (links_view s).chains k []) n
 previous_in_chain s k i n l h is e = ap (λ (m : Link). m.previous) (found s i n l _ (chain_runs s k i n h e) is e) ∙ before_or-none _ n
 
 pub previous_in_free : (s : Inside) (i n : ℕ) (l : Link) → IsSound s → l ≡ get_or s.items.items i l → slice_get (links_view s).free n ≡ Some i → l.previous ≡ before (links_view s).free n

@@ -63,7 +63,13 @@ at_most_once s i h = let once = h.once i in grind (arith, nat_tests)
 pub held_in_one : (s : Chains) (k m n p i : ℕ) → IsPool s → slice_get (chain_of k s) n ≡ Some i → slice_get (chain_of m s) p ≡ Some i → k ≡ m
 held_in_one s k m n p i h e f = elim (cases_eq k m) [
   | inl same ↦ same
-  | inr other ↦ absurd (omega (arith, at_most_once s i h, two-parts (times i) s.chains k m (chain_within s k n i e) (chain_within s m p i f) other, times_at (chain_of k s) n i e, times_at (chain_of m s) p i f))
+  | inr other ↦ absurd (omega (
+    arith,
+    at_most_once s i h,
+    two-parts (times i) s.chains k m (chain_within s k n i e) (chain_within s m p i f) other,
+    times_at (chain_of k s) n i e,
+    times_at (chain_of m s) p i f,
+  ))
 ]
 
 -- and there at one place

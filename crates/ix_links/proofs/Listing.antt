@@ -1,5 +1,6 @@
 -- All chains together: an index moved from one list to another, and the lists that the fields show.
-use Rattle.std.proofs.Common.{◌≡◌, ◌≢◌, ℕ, zero, suc, ◌+◌, ◌<◌, ◌≤◌, ◌^◌, cond, List, [], ◌∷◌, ◌++◌, length, set, get_or, map, Option, Some, None, refl, sym, ap, ◌∙◌, subst, arith, inl, inr, length-set, length-append, nat_lt}
+use Rattle.std.proofs.Common.{◌≡◌, ◌≢◌, ℕ, zero, suc, ◌+◌, ◌<◌, ◌≤◌, ◌^◌, cond, List, [], ◌∷◌, ◌++◌, length, set, get_or, map, Option, Some, None}
+use Rattle.std.proofs.Common.{refl, sym, ap, ◌∙◌, subst, arith, inl, inr, length-set, length-append, nat_lt}
 use Rattle.std.proofs.lemmas.Bool.{cases_eq}
 use Rattle.std.proofs.lemmas.Bool.Decides.{nat_tests, eqb_tells}
 use Rattle.std.proofs.lemmas.List.{get_or-set_other}
@@ -10,7 +11,8 @@ use Rattle.ix_links.specs.declared.links.Links.TheInside.{Inside}
 use Rattle.ix_links.specs.Chains.{Chains, lists, times, total, without}
 use Rattle.ix_links.specs.Linking.{loose, link_at, unlinked_items, unlinked_ends, inserted_items, inserted_ends}
 use Rattle.ix_links.specs.Standing.{walk, head_or, Runs, IsChain, AreChains, Hold, links_view, IsSound}
-use Rattle.ix_links.proofs.Running.{Kept, times-append, times_here, times_skip, times_other, runs_kept, link_between, chain-inserted, chain-unlinked, link_in_chain, kept-inserted, kept-unlinked, length-unlinked, length-inserted}
+use Rattle.ix_links.proofs.Running.{Kept, times-append, times_here, times_skip, times_other, runs_kept, link_between, chain-inserted, chain-unlinked}
+use Rattle.ix_links.proofs.Running.{link_in_chain, kept-inserted, kept-unlinked, length-unlinked, length-inserted}
 
 -- the lists one behind the other
 abbrev pub joined : List (List ℕ) → List ℕ
@@ -57,7 +59,8 @@ chains_kept items items' (e ∷ es) (xs ∷ xss) k h = (
 )
 
 -- one chain is another, and the others stay
-chains_set : (items items' : List Link) (es : List Ends) (xss : List (List ℕ)) (k : ℕ) (e : Ends) (ys : List ℕ) → AreChains items es xss → k < length xss → IsChain items' e ys → Kept items items' (joined (set xss k [])) → AreChains items' (set es k e) (set xss k ys)
+chains_set : (items items' : List Link) (es : List Ends) (xss : List (List ℕ)) (k : ℕ) (e : Ends) (ys : List ℕ) → AreChains items es xss → k < length xss
+    → IsChain items' e ys → Kept items items' (joined (set xss k [])) → AreChains items' (set es k e) (set xss k ys)
 chains_set items items' [] [] k e ys h l new kept = absurd (omega arith)
 chains_set items items' [] (xs ∷ xss) k e ys h l new kept = absurd h
 chains_set items items' (d ∷ es) [] k e ys h l new kept = absurd h
@@ -71,7 +74,9 @@ chains_set items items' (d ∷ es) (xs ∷ xss) (suc k) e ys h l new kept = (
 beside : (j : ℕ) (xss : List (List ℕ)) (k : ℕ) → k < length xss → times j (joined (set xss k [])) + times j (get_or xss k []) ≡ total (times j) xss
 beside j xss k h = omega (arith, times-joined j (set xss k []), total-set (times j) xss k [] h)
 
-pub chains-unlinked : (items : List Link) (es : List Ends) (xss : List (List ℕ)) (k i : ℕ) (d : Ends) (xs ys : List ℕ) → AreChains items es xss → k < length xss → get_or xss k [] ≡ xs ++ i ∷ ys → ((j : ℕ) → total (times j) xss ≤ 1) → AreChains (unlinked_items items (link_between xs ys)) (set es k (unlinked_ends (get_or es k d) (link_between xs ys))) (set xss k (xs ++ ys))
+pub chains-unlinked : (items : List Link) (es : List Ends) (xss : List (List ℕ)) (k i : ℕ) (d : Ends) (xs ys : List ℕ) → AreChains items es xss → k < length xss
+    → get_or xss k [] ≡ xs ++ i ∷ ys → ((j : ℕ) → total (times j) xss ≤ 1)
+    → AreChains (unlinked_items items (link_between xs ys)) (set es k (unlinked_ends (get_or es k d) (link_between xs ys))) (set xss k (xs ++ ys))
 chains-unlinked items es xss k i d xs ys h l is once =
     let here : IsChain items (get_or es k d) (xs ++ i ∷ ys) = subst (λ zs. IsChain items (get_or es k d) zs) is (chain_at items es xss k d h l) in
     let one : (j : ℕ) → times j (xs ++ i ∷ ys) + times j (joined (set xss k [])) ≤ 1 = λ j. omega (arith, once j, beside j xss k l, ap (times j) is) in
@@ -79,7 +84,9 @@ chains-unlinked items es xss k i d xs ys h l is once =
     (chain-unlinked items (get_or es k d) i xs ys here (λ j. omega (arith, one j)))
     (kept-unlinked items i xs ys _ one)
 
-pub chains-inserted : (items : List Link) (es : List Ends) (xss : List (List ℕ)) (k i : ℕ) (d : Ends) (xs ys : List ℕ) → AreChains items es xss → k < length xss → get_or xss k [] ≡ xs ++ ys → ((j : ℕ) → total (times j) xss ≤ 1) → total (times i) xss ≡ 0 → i < length items → AreChains (inserted_items items i (link_between xs ys)) (set es k (inserted_ends (get_or es k d) i (link_between xs ys))) (set xss k (xs ++ i ∷ ys))
+pub chains-inserted : (items : List Link) (es : List Ends) (xss : List (List ℕ)) (k i : ℕ) (d : Ends) (xs ys : List ℕ) → AreChains items es xss → k < length xss
+    → get_or xss k [] ≡ xs ++ ys → ((j : ℕ) → total (times j) xss ≤ 1) → total (times i) xss ≡ 0 → i < length items
+    → AreChains (inserted_items items i (link_between xs ys)) (set es k (inserted_ends (get_or es k d) i (link_between xs ys))) (set xss k (xs ++ i ∷ ys))
 chains-inserted items es xss k i d xs ys h l is once none within =
     let here : IsChain items (get_or es k d) (xs ++ ys) = subst (λ zs. IsChain items (get_or es k d) zs) is (chain_at items es xss k d h l) in
     let alone : times i (joined (set xss k [])) + times i (xs ++ ys) ≡ 0 = omega (arith, none, beside i xss k l, ap (times i) is) in
@@ -88,11 +95,13 @@ chains-inserted items es xss k i d xs ys h l is once none within =
       | inr other ↦ omega (arith, once j, beside j xss k l, ap (times j) is, times-append j xs ys, times-append j xs (i ∷ ys), times_other j i ys other)
     ] in
     chains_set items _ es xss k _ (xs ++ i ∷ ys) h l
-    (chain-inserted items (get_or es k d) i xs ys here (λ j. omega (arith, once j, beside j xss k l, ap (times j) is)) (omega (arith, times-append i xs ys)) (omega (arith, times-append i xs ys)) within)
+    (chain-inserted items (get_or es k d) i xs ys here (λ j. omega (arith, once j, beside j xss k l, ap (times j) is)) (omega (arith, times-append i xs ys))
+    (omega (arith, times-append i xs ys)) within)
     (kept-inserted items i xs ys _ one)
 
 -- what two changed lists do to a sum
-total-set-set : (f : List ℕ → ℕ) (xss : List (List ℕ)) (k m : ℕ) (ys zs : List ℕ) → k < length xss → m < length xss → m ≢ k → total f (set (set xss k ys) m zs) + f (get_or xss k []) + f (get_or xss m []) ≡ total f xss + f ys + f zs
+total-set-set : (f : List ℕ → ℕ) (xss : List (List ℕ)) (k m : ℕ) (ys zs : List ℕ) → k < length xss → m < length xss → m ≢ k
+    → total f (set (set xss k ys) m zs) + f (get_or xss k []) + f (get_or xss m []) ≡ total f xss + f ys + f zs
 total-set-set f xss k m ys zs l h ne =
     omega (arith, total-set f xss k ys l, total-set f (set xss k ys) m zs (omega (arith, length-set xss k ys)), ap f (get_or-set_other xss k m ys [] ne))
 
@@ -103,25 +112,61 @@ pub held_within : (items : List Link) (es : List Ends) (xss : List (List ℕ)) (
 held_within items es xss j h m = let e = h.once j in grind (arith, nat_tests)
 
 -- an index moved from one list to another
-pub hold_moved : (items : List Link) (es : List Ends) (xss : List (List ℕ)) (k m i : ℕ) (d d' : Ends) (xs ys ps qs : List ℕ) → Hold items es xss → k < length xss → m < length xss → m ≢ k → get_or xss k [] ≡ xs ++ i ∷ ys → get_or xss m [] ≡ ps ++ qs
-    → Hold (inserted_items (unlinked_items items (link_between xs ys)) i (link_between ps qs)) (set (set es k (unlinked_ends (get_or es k d) (link_between xs ys))) m (inserted_ends (get_or es m d') i (link_between ps qs))) (set (set xss k (xs ++ ys)) m (ps ++ i ∷ qs))
+pub hold_moved : (items : List Link) (es : List Ends) (xss : List (List ℕ)) (k m i : ℕ) (d d' : Ends) (xs ys ps qs : List ℕ) → Hold items es xss
+    → k < length xss → m < length xss → m ≢ k → get_or xss k [] ≡ xs ++ i ∷ ys → get_or xss m [] ≡ ps ++ qs
+    → Hold (inserted_items (unlinked_items items (link_between xs ys)) i (link_between ps qs))
+    (set (set es k (unlinked_ends (get_or es k d) (link_between xs ys))) m (inserted_ends (get_or es m d') i (link_between ps qs)))
+    (set (set xss k (xs ++ ys)) m (ps ++ i ∷ qs))
 hold_moved items es xss k m i d d' xs ys ps qs h l n ne from to =
     let mid = chains-unlinked items es xss k i d xs ys h.chains l from (once_at_most items es xss h) in
-    let mid_times : (j : ℕ) → total (times j) (set xss k (xs ++ ys)) + times j (xs ++ i ∷ ys) ≡ total (times j) xss + times j (xs ++ ys) = λ j. omega (arith, total-set (times j) xss k (xs ++ ys) l, ap (times j) from) in
-    let mid_once : (j : ℕ) → total (times j) (set xss k (xs ++ ys)) ≤ 1 = λ j. omega (arith, mid_times j, once_at_most items es xss h j, times-append j xs ys, times-append j xs (i ∷ ys), times_skip j i ys) in
+    let mid_times : (j : ℕ) → total (times j) (set xss k (xs ++ ys)) + times j (xs ++ i ∷ ys) ≡ total (times j) xss + times j (xs ++ ys) =
+    λ j. omega (arith, total-set (times j) xss k (xs ++ ys) l, ap (times j) from) in
+    let mid_once : (j : ℕ) → total (times j) (set xss k (xs ++ ys)) ≤ 1 = λ j. omega (
+      arith,
+      mid_times j,
+      once_at_most items es xss h j,
+      times-append j xs ys,
+      times-append j xs (i ∷ ys),
+      times_skip j i ys,
+    ) in
     let mid_none : total (times i) (set xss k (xs ++ ys)) ≡ 0 = omega (arith, mid_times i, once_at_most items es xss h i, times-append i xs ys, times-append i xs (i ∷ ys), times_here i ys) in
     let held : 0 < total (times i) xss = omega (arith, part-le-total (times i) xss k l, ap (times i) from, times-append i xs (i ∷ ys), times_here i ys) in
     let within : i < length items = held_within items es xss i h held in
     let len : length (unlinked_items items (link_between xs ys)) ≡ length items = length-unlinked items (link_between xs ys) in
-    let len' : length (inserted_items (unlinked_items items (link_between xs ys)) i (link_between ps qs)) ≡ length items = length-inserted (unlinked_items items (link_between xs ys)) i (link_between ps qs) ∙ len in
+    let len' : length (inserted_items (unlinked_items items (link_between xs ys)) i (link_between ps qs)) ≡ length items =
+    length-inserted (unlinked_items items (link_between xs ys)) i (link_between ps qs) ∙ len in
     let ends : get_or (set es k (unlinked_ends (get_or es k d) (link_between xs ys))) m d' ≡ get_or es m d' = get_or-set_other es k m _ d' ne in
-    let chains = chains-inserted (unlinked_items items (link_between xs ys)) _ _ m i d' ps qs mid (omega (arith, length-set xss k (xs ++ ys))) (get_or-set_other xss k m (xs ++ ys) [] ne ∙ to) mid_once mid_none (omega arith) in
+    let chains = chains-inserted (unlinked_items items (link_between xs ys)) _ _ m i d' ps qs mid (omega (arith, length-set xss k (xs ++ ys)))
+    (get_or-set_other xss k m (xs ++ ys) [] ne ∙ to) mid_once mid_none (omega arith) in
     record {
-      chains = subst (λ e. AreChains (inserted_items (unlinked_items items (link_between xs ys)) i (link_between ps qs)) (set (set es k (unlinked_ends (get_or es k d) (link_between xs ys))) m (inserted_ends e i (link_between ps qs))) (set (set xss k (xs ++ ys)) m (ps ++ i ∷ qs))) ends chains;
+      chains = subst (λ e. AreChains (inserted_items (unlinked_items items (link_between xs ys)) i (link_between ps qs))
+          (set (set es k (unlinked_ends (get_or es k d) (link_between xs ys))) m (inserted_ends e i (link_between ps qs)))
+          (set (set xss k (xs ++ ys)) m (ps ++ i ∷ qs))) ends chains;
       once = λ j.
-          (let sum : total (times j) (set (set xss k (xs ++ ys)) m (ps ++ i ∷ qs)) ≡ total (times j) xss = omega (arith, total-set-set (times j) xss k m (xs ++ ys) (ps ++ i ∷ qs) l n ne, ap (times j) from, ap (times j) to, times-append j xs ys, times-append j xs (i ∷ ys), times-append j ps qs, times-append j ps (i ∷ qs)) in
+          (let sum : total (times j) (set (set xss k (xs ++ ys)) m (ps ++ i ∷ qs)) ≡ total (times j) xss =
+          omega (
+            arith,
+            total-set-set (times j) xss k m (xs ++ ys) (ps ++ i ∷ qs) l n ne,
+            ap (times j) from,
+            ap (times j) to,
+            times-append j xs ys,
+            times-append j xs (i ∷ ys),
+            times-append j ps qs,
+            times-append j ps (i ∷ qs),
+          ) in
           sum ∙ h.once j ∙ ap (λ z. cond (nat_lt j z) 1 0) (sym len'));
-      all = omega (arith, h.all, len', total-set-set length xss k m (xs ++ ys) (ps ++ i ∷ qs) l n ne, ap length from, ap length to, length-append xs ys, length-append xs (i ∷ ys), length-append ps qs, length-append ps (i ∷ qs));
+      all = omega (
+        arith,
+        h.all,
+        len',
+        total-set-set length xss k m (xs ++ ys) (ps ++ i ∷ qs) l n ne,
+        ap length from,
+        ap length to,
+        length-append xs ys,
+        length-append xs (i ∷ ys),
+        length-append ps qs,
+        length-append ps (i ∷ qs),
+      );
     }
 
 -- an index of a list stands between two parts of it
@@ -188,12 +233,18 @@ link_of_free s i rest h e =
 
 -- the first free index moved into a chain
 pub hold_pushed : (s : Inside) (k i : ℕ) (d : Ends) (rest xs ys : List ℕ) → IsSound s → (links_view s).free ≡ i ∷ rest → k < length (links_view s).chains → get_or (links_view s).chains k [] ≡ xs ++ ys
-    → Hold (inserted_items (unlinked_items s.items.items (link_at s.items.items i)) i (link_between xs ys)) (unlinked_ends s.unused (link_at s.items.items i) ∷ set s.chains.items k (inserted_ends (get_or s.chains.items k d) i (link_between xs ys))) (rest ∷ set (links_view s).chains k (xs ++ i ∷ ys))
+    → Hold (inserted_items (unlinked_items s.items.items (link_at s.items.items i)) i (link_between xs ys)) (unlinked_ends s.unused (link_at s.items.items i)
+    ∷ set s.chains.items k (inserted_ends (get_or s.chains.items k d) i (link_between xs ys))) (rest ∷ set (links_view s).chains k (xs ++ i ∷ ys))
 hold_pushed s k i d rest xs ys h free l is =
     let moved = hold_moved s.items.items (s.unused ∷ s.chains.items) (lists (links_view s)) 0 (suc k) i s.unused d [] rest xs ys h.hold (omega arith) (omega arith) (λ e. cc) free is in
-    subst (λ n. Hold (inserted_items (unlinked_items s.items.items n) i (link_between xs ys)) (unlinked_ends s.unused n ∷ set s.chains.items k (inserted_ends (get_or s.chains.items k d) i (link_between xs ys))) (rest ∷ set (links_view s).chains k (xs ++ i ∷ ys))) (sym (link_of_free s i rest h free)) moved
+    subst (λ n. Hold (inserted_items (unlinked_items s.items.items n) i (link_between xs ys)) (unlinked_ends s.unused n
+    ∷ set s.chains.items k (inserted_ends (get_or s.chains.items k d) i (link_between xs ys))) (rest ∷ set (links_view s).chains k (xs ++ i ∷ ys)))
+    (sym (link_of_free s i rest h free)) moved
 
 -- an index moved from a chain to the front of the free list
 pub hold_removed : (s : Inside) (k i : ℕ) (d : Ends) (xs ys : List ℕ) → IsSound s → k < length (links_view s).chains → get_or (links_view s).chains k [] ≡ xs ++ i ∷ ys
-    → Hold (inserted_items (unlinked_items s.items.items (link_between xs ys)) i (link_between [] (links_view s).free)) (inserted_ends s.unused i (link_between [] (links_view s).free) ∷ set s.chains.items k (unlinked_ends (get_or s.chains.items k d) (link_between xs ys))) ((i ∷ (links_view s).free) ∷ set (links_view s).chains k (xs ++ ys))
-hold_removed s k i d xs ys h l is = hold_moved s.items.items (s.unused ∷ s.chains.items) (lists (links_view s)) (suc k) 0 i d s.unused xs ys [] (links_view s).free h.hold (omega arith) (omega arith) (λ e. cc) is refl
+    → Hold (inserted_items (unlinked_items s.items.items (link_between xs ys)) i (link_between [] (links_view s).free))
+    (inserted_ends s.unused i (link_between [] (links_view s).free) ∷ set s.chains.items k (unlinked_ends (get_or s.chains.items k d) (link_between xs ys)))
+    ((i ∷ (links_view s).free) ∷ set (links_view s).chains k (xs ++ ys))
+hold_removed s k i d xs ys h l is = hold_moved s.items.items (s.unused ∷ s.chains.items) (lists (links_view s)) (suc k) 0 i d s.unused xs ys []
+    (links_view s).free h.hold (omega arith) (omega arith) (λ e. cc) is refl

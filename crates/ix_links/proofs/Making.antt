@@ -48,13 +48,18 @@ range_more n = sym (map-id (range_with_len 0 (n + 1))) ∙ map-range_with_len_mo
 pub last_of_range : (items us : List Link) (e : Ends) (n : ℕ) → IsChain items e (range_with_len 0 n) → n < length us → Within us e.last
 last_of_range items us e n h l = Within_from us e.last (λ j is. let among = last-among (range_with_len 0 n) j (sym h.last ∙ is) in let e = times-range n j in grind (arith, nat_tests))
 
-pub one_more : (items us : List Link) (e e' : Ends) (n : ℕ) → IsChain items e (range_with_len 0 n) → n < length items → us ≡ inserted_items items n (linked e.last None) → e' ≡ inserted_ends e n (linked e.last None) → (length us ≡ length items) × IsChain us e' (range_with_len 0 (n + 1))
+pub one_more : (items us : List Link) (e e' : Ends) (n : ℕ) → IsChain items e (range_with_len 0 n) → n < length items
+    → us ≡ inserted_items items n (linked e.last None) → e' ≡ inserted_ends e n (linked e.last None)
+    → (length us ≡ length items) × IsChain us e' (range_with_len 0 (n + 1))
 one_more items us e e' n h l inserted ends =
     let xs = range_with_len 0 n in
     let link : linked e.last None ≡ link_between xs [] = ap (λ q. linked q None) h.last in
     let none : times n xs ≡ 0 = times-past 0 n n (omega arith) in
-    let made : IsChain (inserted_items items n (link_between xs [])) (inserted_ends e n (link_between xs [])) (xs ++ n ∷ []) = chain-inserted items e n xs [] (subst (λ zs. IsChain items e zs) (sym (append-nil xs)) h) (λ j. omega (arith, once-range n j, times-append j xs [])) none refl l in
-    let one : IsChain us (inserted_ends e n (link_between xs [])) (xs ++ n ∷ []) = subst (λ zs. IsChain zs (inserted_ends e n (link_between xs [])) (xs ++ n ∷ [])) (sym (inserted ∙ ap (λ m. inserted_items items n m) link)) made in
+    let made : IsChain (inserted_items items n (link_between xs [])) (inserted_ends e n (link_between xs [])) (xs ++ n ∷ []) =
+    chain-inserted items e n xs [] (subst (λ zs. IsChain items e zs) (sym (append-nil xs)) h) (λ j. omega (arith, once-range n j, times-append j xs []))
+    none refl l in
+    let one : IsChain us (inserted_ends e n (link_between xs [])) (xs ++ n ∷ []) =
+    subst (λ zs. IsChain zs (inserted_ends e n (link_between xs [])) (xs ++ n ∷ [])) (sym (inserted ∙ ap (λ m. inserted_items items n m) link)) made in
     let two : IsChain us e' (xs ++ n ∷ []) = subst (λ d. IsChain us d (xs ++ n ∷ [])) (sym (ends ∙ ap (λ m. inserted_ends e n m) link)) one in
     (ap length inserted ∙ length-inserted items n (linked e.last None), subst (λ zs. IsChain us e' zs) (sym (range_more n)) two)
 
@@ -66,11 +71,13 @@ pub total-empty : (f : List ℕ → ℕ) (m : ℕ) → f [] ≡ 0 → total f (r
 total-empty f zero h = refl
 total-empty f (suc m) h = omega (arith, h, total-empty f m h)
 
-pub new_pool : (s : Inside) (e : Ends) (n m : ℕ) (ws : List Link) → n < 2 ^ 32 → s.items.items ≡ ws → length ws ≡ n → IsChain ws s.unused (range_with_len 0 n) → s.chains.items ≡ replicate m e → e.first ≡ None → e.last ≡ None → s.free ≡ n → Leaves s (all_free n m)
+pub new_pool : (s : Inside) (e : Ends) (n m : ℕ) (ws : List Link) → n < 2 ^ 32 → s.items.items ≡ ws → length ws ≡ n → IsChain ws s.unused (range_with_len 0 n)
+    → s.chains.items ≡ replicate m e → e.first ≡ None → e.last ≡ None → s.free ≡ n → Leaves s (all_free n m)
 new_pool s e n m ws few is len chain ends first last free =
     let hold : Hold ws (s.unused ∷ replicate m e) (range_with_len 0 n ∷ replicate m []) = record {
       chains = (chain, empty_chains ws e m first last);
-      once = λ j. (let sum : total (times j) (range_with_len 0 n ∷ replicate m []) ≡ times j (range_with_len 0 n) = omega (arith, total-empty (times j) m refl) in sum ∙ times-range n j ∙ ap (λ z. cond (nat_lt j z) 1 0) (sym len));
+      once = λ j. (let sum : total (times j) (range_with_len 0 n ∷ replicate m []) ≡ times j (range_with_len 0 n) =
+          omega (arith, total-empty (times j) m refl) in sum ∙ times-range n j ∙ ap (λ z. cond (nat_lt j z) 1 0) (sym len));
       all = omega (arith, total-empty length m refl, length-range_with_len 0 n);
     } in
     let one : Hold s.items.items (s.unused ∷ replicate m e) (lists (all_free n m)) = subst (λ zs. Hold zs (s.unused ∷ replicate m e) (lists (all_free n m))) (sym is) hold in

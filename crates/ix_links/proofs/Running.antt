@@ -208,7 +208,8 @@ last-unlinked e i xs [] h = sym (last-append None xs [])
 last-unlinked e i xs (y ∷ ys) h = h ∙ last-append None xs (i ∷ y ∷ ys) ∙ sym (last-append None xs (y ∷ ys))
 
 -- an item put between two parts of a chain
-pub chain-inserted : (items : List Link) (e : Ends) (i : ℕ) (xs ys : List ℕ) → IsChain items e (xs ++ ys) → Once (xs ++ ys) → times i xs ≡ 0 → times i ys ≡ 0 → i < length items → IsChain (inserted_items items i (link_between xs ys)) (inserted_ends e i (link_between xs ys)) (xs ++ i ∷ ys)
+pub chain-inserted : (items : List Link) (e : Ends) (i : ℕ) (xs ys : List ℕ) → IsChain items e (xs ++ ys) → Once (xs ++ ys) → times i xs ≡ 0 → times i ys ≡ 0
+    → i < length items → IsChain (inserted_items items i (link_between xs ys)) (inserted_ends e i (link_between xs ys)) (xs ++ i ∷ ys)
 chain-inserted items e i xs ys h once left right within =
     let l = link_between xs ys in
     let a = set items i l in
@@ -234,7 +235,8 @@ pub link_in_chain : (items : List Link) (e : Ends) (i : ℕ) (xs ys : List ℕ) 
 link_in_chain items e i xs ys h = (runs-right items None xs (i ∷ ys) None h.runs).0
 
 -- an item taken out of a chain
-pub chain-unlinked : (items : List Link) (e : Ends) (i : ℕ) (xs ys : List ℕ) → IsChain items e (xs ++ i ∷ ys) → Once (xs ++ i ∷ ys) → IsChain (unlinked_items items (link_between xs ys)) (unlinked_ends e (link_between xs ys)) (xs ++ ys)
+pub chain-unlinked : (items : List Link) (e : Ends) (i : ℕ) (xs ys : List ℕ) → IsChain items e (xs ++ i ∷ ys) → Once (xs ++ i ∷ ys)
+    → IsChain (unlinked_items items (link_between xs ys)) (unlinked_ends e (link_between xs ys)) (xs ++ ys)
 chain-unlinked items e i xs ys h once =
     let l = link_between xs ys in
     let b = next_set items l.previous l.next in

@@ -1,5 +1,6 @@
 -- The opening world, in its three parts.
-use Rattle.std.proofs.Common.{◌≡◌, ◌<◌, ◌≤◌, ◌+◌, ◌-◌, ◌^◌, ℕ, true, false, List, [], ◌∷◌, ◌++◌, length, map, take, replicate, get_or, count_by, cond, nat_lt, Option, Some, None, is_some, refl, sym, ap, subst, ◌∙◌, arith}
+use Rattle.std.proofs.Common.{◌≡◌, ◌<◌, ◌≤◌, ◌+◌, ◌-◌, ◌^◌, ℕ, true, false, List, [], ◌∷◌, ◌++◌, length, map, take, replicate, get_or, count_by, cond}
+use Rattle.std.proofs.Common.{nat_lt, Option, Some, None, is_some, refl, sym, ap, subst, ◌∙◌, arith}
 use Rattle.std.proofs.lemmas.Bool.{ltb-false}
 use Rattle.std.proofs.lemmas.List.{take_more, length-take, length-map, length-append, map-append, replicate-append-replicate}
 use Rattle.std.proofs.lemmas.List.Sums.{sum_by-cons, count_by-le-length}
@@ -26,17 +27,26 @@ opened_next ss n limit room few = omega (arith, length-map (take n ss) (λ s. So
 
 pub opened_room : (ss : List ProcSpec) (n limit : ℕ) → length ss ≤ limit → n < length ss → nat_lt (count_by is_some (opened (take n ss) limit).processes) limit ≡ false → ⊥
 opened_room ss n limit room low full =
-    absurd (omega (arith, ltb-false (count_by is_some (opened (take n ss) limit).processes) limit full, sum_by-cons (λ (q : Option Process). cond {A = ℕ} (is_some q) 1 0) None (lines (take n ss)), count_by-le-length is_some (lines (take n ss)), length-map (take n ss) (λ s. Some (process_of s)), length-take n ss))
+    absurd (omega (
+      arith,
+      ltb-false (count_by is_some (opened (take n ss) limit).processes) limit full,
+      sum_by-cons (λ (q : Option Process). cond {A = ℕ} (is_some q) 1 0) None (lines (take n ss)),
+      count_by-le-length is_some (lines (take n ss)),
+      length-map (take n ss) (λ s. Some (process_of s)),
+      length-take n ss,
+    ))
 
 zeros_more : (k : ℕ) → ◌≡◌ {A = List ℕ} (replicate (k + 1) 0) (replicate k 0 ++ 0 ∷ [])
 zeros_more k = sym (replicate-append-replicate {A = ℕ} k 1 0)
 
-pub opened_more : (ss : List ProcSpec) (n limit : ℕ) (s : ProcSpec) (t : ProcTable) → n < length ss → get_or ss n s ≡ s → t ≡ with_process (starting s) (opened (take n ss) limit) → t ≡ opened (take (n + 1) ss) limit
+pub opened_more : (ss : List ProcSpec) (n limit : ℕ) (s : ProcSpec) (t : ProcTable) → n < length ss → get_or ss n s ≡ s
+    → t ≡ with_process (starting s) (opened (take n ss) limit) → t ≡ opened (take (n + 1) ss) limit
 opened_more ss n limit s t low here is =
     let more : take (n + 1) ss ≡ take n ss ++ s ∷ [] = take_more ss n s low ∙ ap (λ x. take n ss ++ x ∷ []) here in
     let ps : lines (take (n + 1) ss) ≡ lines (take n ss) ++ Some (process_of s) ∷ [] = ap lines more ∙ map-append (λ x. Some (process_of x)) (take n ss) (s ∷ []) in
     let long : length (take (n + 1) ss) ≡ length (take n ss) + 1 = ap length more ∙ length-append (take n ss) (s ∷ []) in
-    let zeros : ◌≡◌ {A = List ℕ} (replicate (length (take (n + 1) ss) + 1) 0) (replicate (length (take n ss) + 1) 0 ++ 0 ∷ []) = ap (λ (k : ℕ). let zs : List ℕ = replicate (k + 1) 0 in zs) long ∙ zeros_more (length (take n ss) + 1) in
+    let zeros : ◌≡◌ {A = List ℕ} (replicate (length (take (n + 1) ss) + 1) 0) (replicate (length (take n ss) + 1) 0 ++ 0 ∷ []) =
+    ap (λ (k : ℕ). let zs : List ℕ = replicate (k + 1) 0 in zs) long ∙ zeros_more (length (take n ss) + 1) in
     let last : with_process (starting s) (opened (take n ss) limit) ≡ opened (take (n + 1) ss) limit = λ i. record { processes = None ∷ sym ps i; statuses = sym zeros i; limit = limit } in
     is ∙ last
 
@@ -51,7 +61,8 @@ pub record Opens (c : Config) (t : Parts) (p : ProcTable) (l : Lines) : Type 0 w
   pub view : joined t p l ≡ opening_world c
   pub joins : AreJoined t p l
 
-pub opens : (c : Config) (t : Parts) (p : ProcTable) (l : Lines) → is_valid c ≡ true → t ≡ parts_of (opening_world c) → p ≡ opened c.procs c.limits.procs → l ≡ record { cap = c.limits.log; lines = [] } → Opens c t p l
+pub opens : (c : Config) (t : Parts) (p : ProcTable) (l : Lines) → is_valid c ≡ true → t ≡ parts_of (opening_world c) → p ≡ opened c.procs c.limits.procs
+    → l ≡ record { cap = c.limits.log; lines = [] } → Opens c t p l
 opens c t p l valid files procs log =
     let v = valid_parts c valid in
     let b = opening_is_built c v in

@@ -1,5 +1,6 @@
 -- What is carried over where the processes alone move.
-use Rattle.std.proofs.Common.{◌≡◌, ◌<◌, ◌≤◌, ◌+◌, ◌-◌, ◌&&◌, ◌++◌, ℕ, zero, suc, Bool, true, false, List, [], ◌∷◌, length, replicate, Option, Some, None, refl, sym, ap, ◌∙◌, arith, inl, inr, get_or, set, if◌then◌else◌, length-append, length-set}
+use Rattle.std.proofs.Common.{◌≡◌, ◌<◌, ◌≤◌, ◌+◌, ◌-◌, ◌&&◌, ◌++◌, ℕ, zero, suc, Bool, true, false, List, [], ◌∷◌, length, replicate, Option, Some}
+use Rattle.std.proofs.Common.{None, refl, sym, ap, ◌∙◌, arith, inl, inr, get_or, set, if◌then◌else◌, length-append, length-set}
 use Rattle.std.proofs.lemmas.Bool.Decides.{eqb_tells}
 use Rattle.std.proofs.lemmas.List.{same_lists, get_or_default, get_or-set_other, get_or_append_left, length-replicate}
 use Rattle.ix_model.specs.world.World.{World, Process, at, put, is_ended}
@@ -27,14 +28,16 @@ zero_set (x ∷ xs) zero = refl
 zero_set (x ∷ xs) (suc n) = zero_set xs n
 
 -- the statuses that are carried over
-pub statuses_are : (t u : List (Option Process)) (xs ys : List ℕ) → length xs ≤ length u → length ys ≡ length u → ((n : ℕ) → (if is_ended (at t n) && is_ended (at u n) then get_or xs n 0 else 0) ≡ get_or ys n 0)
+pub statuses_are : (t u : List (Option Process)) (xs ys : List ℕ) → length xs ≤ length u → length ys ≡ length u
+    → ((n : ℕ) → (if is_ended (at t n) && is_ended (at u n) then get_or xs n 0 else 0) ≡ get_or ys n 0)
     → keep 0 (λ n. is_ended (at t n) && is_ended (at u n)) 0 (grown (length u) xs) ≡ ys
 statuses_are t u xs ys short long same =
     let p : ℕ → Bool = λ n. is_ended (at t n) && is_ended (at u n) in
     let wide : length (grown (length u) xs) ≡ length ys = length-append xs _ ∙ omega (arith, long, short, length-replicate {A = ℕ} (length u - length xs) 0) in
     same_lists _ _ (length-keep 0 p 0 _ ∙ wide) (λ k e h.
     let within : k < length ys = omega (arith, length-keep 0 p 0 (grown (length u) xs), wide, h) in
-    get_or_default _ k e 0 h ∙ get_or-keep 0 p 0 (grown (length u) xs) k ∙ ap (λ m. if p m then get_or (grown (length u) xs) k 0 else 0) (omega arith) ∙ ap (λ x. if p k then x else 0) (get_or-zeros xs (length u - length xs) k) ∙ same k ∙ get_or_default ys k 0 e within)
+    get_or_default _ k e 0 h ∙ get_or-keep 0 p 0 (grown (length u) xs) k ∙ ap (λ m. if p m then get_or (grown (length u) xs) k 0 else 0) (omega arith)
+    ∙ ap (λ x. if p k then x else 0) (get_or-zeros xs (length u - length xs) k) ∙ same k ∙ get_or_default ys k 0 e within)
 
 -- ---- contents
 -- the processes alone move
@@ -48,7 +51,8 @@ carried_processes w u ys clean grows long same =
     λ i. record { holdings = (whole i).holdings; offsets = (whole i).offsets; statuses = statuses_are w.frame.processes u w.content.statuses ys short long same i }
 
 -- whoever has ended has ended still
-pub as_was : (w : World) (u : List (Option Process)) (n : ℕ) → IsClean w → is_ended (at u n) ≡ is_ended (at w.frame.processes n) → (if is_ended (at w.frame.processes n) && is_ended (at u n) then get_or w.content.statuses n 0 else 0) ≡ get_or w.content.statuses n 0
+pub as_was : (w : World) (u : List (Option Process)) (n : ℕ) → IsClean w → is_ended (at u n) ≡ is_ended (at w.frame.processes n)
+    → (if is_ended (at w.frame.processes n) && is_ended (at u n) then get_or w.content.statuses n 0 else 0) ≡ get_or w.content.statuses n 0
 as_was w u n clean same = go (is_ended (at w.frame.processes n)) refl
   where
     go : (b : Bool) → is_ended (at w.frame.processes n) ≡ b → (if b && is_ended (at u n) then get_or w.content.statuses n 0 else 0) ≡ get_or w.content.statuses n 0
@@ -56,27 +60,34 @@ as_was w u n clean same = go (is_ended (at w.frame.processes n)) refl
     go true h = rw (same ∙ h) refl
 
 -- a process more
-pub carried_more : (w : World) (q : Process) → IsClean w → carried w.frame (record w.frame { processes = w.frame.processes ++ Some q ∷ [] }) w.content ≡ record w.content { statuses = w.content.statuses ++ 0 ∷ [] }
+pub carried_more : (w : World) (q : Process) → IsClean w → carried w.frame (record w.frame { processes = w.frame.processes ++ Some q ∷ [] }) w.content
+    ≡ record w.content { statuses = w.content.statuses ++ 0 ∷ [] }
 carried_more w q clean =
     let ps : List (Option Process) = w.frame.processes in
     let more : List (Option Process) = ps ++ Some q ∷ [] in
     let one : length more ≡ length ps + 1 = length-append ps _ in
-    carried_processes w more (w.content.statuses ++ 0 ∷ []) clean (omega (arith, one)) (length-append w.content.statuses _ ∙ omega (arith, one, clean.count)) (λ n. go n (is_ended (at ps n)) refl ∙ sym (get_or-zeros w.content.statuses 1 n))
+    carried_processes w more (w.content.statuses ++ 0 ∷ []) clean (omega (arith, one)) (length-append w.content.statuses _ ∙ omega (arith, one, clean.count))
+    (λ n. go n (is_ended (at ps n)) refl ∙ sym (get_or-zeros w.content.statuses 1 n))
   where
     stands : (n : ℕ) (o : Option Process) → at w.frame.processes n ≡ o → is_ended o ≡ true → n < length w.frame.processes
     stands n None is h = cc
     stands n (Some p) is h = in_table w.frame.processes n p is
 
-    go : (n : ℕ) (b : Bool) → is_ended (at w.frame.processes n) ≡ b → (if b && is_ended (at (w.frame.processes ++ Some q ∷ []) n) then get_or w.content.statuses n 0 else 0) ≡ get_or w.content.statuses n 0
+    go : (n : ℕ) (b : Bool) → is_ended (at w.frame.processes n) ≡ b → (if b && is_ended (at (w.frame.processes ++ Some q ∷ []) n) then
+        get_or w.content.statuses n 0 else 0) ≡ get_or w.content.statuses n 0
     go n false h = sym (clean.statuses n h)
-    go n true h = let still : is_ended (at (w.frame.processes ++ Some q ∷ []) n) ≡ true = ap is_ended (get_or_append_left w.frame.processes (Some q ∷ []) None n (stands n (at w.frame.processes n) refl h)) ∙ h in rw still refl
+    go n true h = let still : is_ended (at (w.frame.processes ++ Some q ∷ []) n) ≡ true =
+        ap is_ended (get_or_append_left w.frame.processes (Some q ∷ []) None n (stands n (at w.frame.processes n) refl h)) ∙ h in rw still refl
 
 -- a process whose record goes, where the others end or live on as they did
-pub carried_without : (w : World) (t : List (Option Process)) (c : ℕ) → IsClean w → length t ≡ length w.frame.processes → ((n : ℕ) → is_ended (at t n) ≡ is_ended (at w.frame.processes n)) → carried w.frame (record w.frame { processes = put t c None }) w.content ≡ record w.content { statuses = set w.content.statuses c 0 }
+pub carried_without : (w : World) (t : List (Option Process)) (c : ℕ) → IsClean w → length t ≡ length w.frame.processes
+    → ((n : ℕ) → is_ended (at t n) ≡ is_ended (at w.frame.processes n)) → carried w.frame (record w.frame { processes = put t c None }) w.content
+    ≡ record w.content { statuses = set w.content.statuses c 0 }
 carried_without w t c clean long same =
     let wide : length (put t c None) ≡ length w.frame.processes = length-set t c None ∙ long in
     carried_processes w (put t c None) (set w.content.statuses c 0) clean (omega (arith, wide)) (length-set w.content.statuses c 0 ∙ omega (arith, wide, clean.count)) (λ n. elim (eqb_tells n c) [
-      | inl here ↦ gone n (is_ended (at w.frame.processes n)) (ap is_ended (ap (at (put t c None)) here.1 ∙ put_none t c)) ∙ sym (ap (λ m. get_or (set w.content.statuses c 0) m 0) here.1 ∙ zero_set w.content.statuses c)
+      | inl here ↦ gone n (is_ended (at w.frame.processes n)) (ap is_ended (ap (at (put t c None)) here.1 ∙ put_none t c))
+          ∙ sym (ap (λ m. get_or (set w.content.statuses c 0) m 0) here.1 ∙ zero_set w.content.statuses c)
       | inr other ↦ as_was w (put t c None) n clean (ap is_ended (get_or-set_other t c n None None other.1) ∙ same n) ∙ sym (get_or-set_other w.content.statuses c n 0 0 other.1)
     ])
   where

@@ -49,8 +49,10 @@ module _ (f : Frame) (pid fd : ℕ) (e : OpenFile) (x : Object) (is : behind f p
   unfolding pex opened claimed ◌>>=◌ ◌>>◌ on_pass need some refuse pass frame object change_object
   pex_half pipe free other g same = rw (is, there, pipe, free, other) (ap (Pass reply.Half) same)
 
-  pex_whole : (q : ℕ) (r : Process) → is_pipe x ≡ true → claimed_by_another x e.entry.end pid ≡ false → at (put x.claims e.entry.end (Some pid)) (1 - e.entry.end) ≡ Some q → living (at f.processes q) ≡ Some r
-      → (g : Frame) → record f { objects = change f.objects e.entry.object (λ y. record y { claims = put y.claims e.entry.end (Some pid) }) } ≡ g → pex pid fd f ≡ Pass (reply.Whole (record { 0 = q }) r.label r.lic) g
+  pex_whole : (q : ℕ) (r : Process) → is_pipe x ≡ true → claimed_by_another x e.entry.end pid ≡ false
+      → at (put x.claims e.entry.end (Some pid)) (1 - e.entry.end) ≡ Some q → living (at f.processes q) ≡ Some r
+      → (g : Frame) → record f { objects = change f.objects e.entry.object (λ y. record y { claims = put y.claims e.entry.end (Some pid) }) } ≡ g
+      → pex pid fd f ≡ Pass (reply.Whole (record { 0 = q }) r.label r.lic) g
   unfolding pex opened claimed ◌>>=◌ ◌>>◌ on_pass need some refuse pass frame object process change_object
   pex_whole q r pipe free other alive g same = rw (is, there, pipe, free, other, alive) (ap (Pass (reply.Whole (record { 0 = q }) r.label r.lic)) same)
 
@@ -62,7 +64,9 @@ module _ (f : Frame) (pid fd : ℕ) (e : OpenFile) (x : Object) (is : behind f p
   unfolding unpex opened ◌>>=◌ ◌>>◌ on_pass need some refuse pass frame object
   unpex_not pipe not_so = rw (is, there, pipe, not_so) refl
 
-  unpex_done : is_pipe x ≡ true → claimed_by x e.entry.end pid ≡ true → (g : Frame) → record f { objects = change f.objects e.entry.object (λ y. record y { claims = put y.claims e.entry.end None }) } ≡ g → unpex pid fd f ≡ Pass reply.Done g
+  unpex_done : is_pipe x ≡ true → claimed_by x e.entry.end pid ≡ true → (g : Frame)
+      → record f { objects = change f.objects e.entry.object (λ y. record y { claims = put y.claims e.entry.end None }) } ≡ g
+      → unpex pid fd f ≡ Pass reply.Done g
   unfolding unpex opened ◌>>=◌ ◌>>◌ on_pass need some refuse pass frame object change_object
   unpex_done pipe so g same = rw (is, there, pipe, so) (ap (Pass reply.Done) same)
 
@@ -112,7 +116,13 @@ module _ (t : Parts) (p : ProcTable) (l : Lines) (s : Sound (joined t p l)) (pid
     after b = if b then parts_emptied e.entry.object with_it else with_it
 
     kept : carried (joined t p l).frame framed (joined t p l).content ≡ (joined t p l).content
-    kept = carried_same (joined t p l) framed (record { objects = lasting_change t.objects t.objects e.entry.object claims_it (lasting_itself t.objects); opens = lasting_itself t.opens; processes = record { stays = λ m h. h; count = refl } }) s.holdings.clean
+    kept = carried_same (joined t p l) framed (record {
+      objects =
+          lasting_change t.objects t.objects e.entry.object claims_it (lasting_itself t.objects);
+      opens = lasting_itself t.opens;
+      processes =
+          record { stays = λ m h. h; count = refl };
+    }) s.holdings.clean
 
     frame_after : (b : Bool) → (joined (after b) p l).frame ≡ framed
     frame_after true = refl
@@ -122,11 +132,13 @@ module _ (t : Parts) (p : ProcTable) (l : Lines) (s : Sound (joined t p l)) (pid
     after_answer : (r : Reply) (b : Bool) → becomes_whole ≡ b → joined (after b) p l ≡ (pex_answer (joined t p l) (Some e) r (joined (after b) p l).frame).world
     unfolding pex_answer emptied
     after_answer r true h =
-        let edit : Bool → Content = λ y. if y then emptied e.entry.object (carried (joined t p l).frame framed (joined t p l).content) else carried (joined t p l).frame framed (joined t p l).content in
+        let edit : Bool → Content = λ y. if y then emptied e.entry.object (carried (joined t p l).frame framed (joined t p l).content) else
+        carried (joined t p l).frame framed (joined t p l).content in
         let same : emptied e.entry.object (joined t p l).content ≡ edit becomes_whole = sym (ap (emptied e.entry.object) kept) ∙ sym (ap edit h) in
         λ i. record { frame = framed; content = same i }
     after_answer r false h =
-        let edit : Bool → Content = λ y. if y then emptied e.entry.object (carried (joined t p l).frame framed (joined t p l).content) else carried (joined t p l).frame framed (joined t p l).content in
+        let edit : Bool → Content = λ y. if y then emptied e.entry.object (carried (joined t p l).frame framed (joined t p l).content) else
+        carried (joined t p l).frame framed (joined t p l).content in
         let same : (joined t p l).content ≡ edit becomes_whole = sym kept ∙ sym (ap edit h) in
         λ i. record { frame = framed; content = same i }
 
@@ -139,14 +151,18 @@ module _ (t : Parts) (p : ProcTable) (l : Lines) (s : Sound (joined t p l)) (pid
     frame_is u same = sym (ap (λ (v : Parts). (joined v p l).frame) same ∙ frame_after becomes_whole)
 
     others : at (put x.claims e.entry.end (Some pid)) (1 - e.entry.end) ≡ at x.claims (1 - e.entry.end)
-    others = get_or-set_other x.claims e.entry.end (1 - e.entry.end) (Some pid) None (other_end e.entry.end (option_map_or is_pipe (at t.objects e.entry.object) false) (s.opens.end e.id e.entry (behind_is (joined t p l).frame pid fd e is)))
+    others = get_or-set_other x.claims e.entry.end (1 - e.entry.end) (Some pid) None
+        (other_end e.entry.end (option_map_or is_pipe (at t.objects e.entry.object) false)
+        (s.opens.end e.id e.entry (behind_is (joined t p l).frame pid fd e is)))
 
-    free : (r : Result Claim Refusal) (u : Parts) (other : Option ℕ) → is_pipe x ≡ true → claimed_by_another x e.entry.end pid ≡ false → at x.claims (1 - e.entry.end) ≡ other → r ≡ Ok (shared_with other) → u ≡ after becomes_whole → ClaimedIs r pid fd (joined t p l) (joined u p l)
+    free : (r : Result Claim Refusal) (u : Parts) (other : Option ℕ) → is_pipe x ≡ true → claimed_by_another x e.entry.end pid ≡ false
+        → at x.claims (1 - e.entry.end) ≡ other → r ≡ Ok (shared_with other) → u ≡ after becomes_whole → ClaimedIs r pid fd (joined t p l) (joined u p l)
     free r u None pipe mine other_is answer same =
         subst (λ (v : Result Claim Refusal). ClaimedIs v pid fd (joined t p l) (joined u p l)) (sym answer)
         (pex_half (joined t p l).frame pid fd e x is there pipe mine (others ∙ other_is) (joined u p l).frame (frame_is u same), answers_pex reply.Half u same)
     free r u (Some k) pipe mine other_is answer same =
-        let alive : lives (joined t p l).frame k ≡ true = has_end_lives (joined t p l).frame e.entry.object (1 - e.entry.end) k (s.claims.claimant e.entry.object (1 - e.entry.end) k x there other_is) in
+        let alive : lives (joined t p l).frame k ≡ true =
+        has_end_lives (joined t p l).frame e.entry.object (1 - e.entry.end) k (s.claims.claimant e.entry.object (1 - e.entry.end) k x there other_is) in
         subst (λ (v : Result Claim Refusal). ClaimedIs v pid fd (joined t p l) (joined u p l)) (sym answer)
         (alive, (λ y here. pex_whole (joined t p l).frame pid fd e x is there k y pipe mine (others ∙ other_is) here (joined u p l).frame (frame_is u same)), (λ y. answers_pex y u same))
 
@@ -155,7 +171,8 @@ module _ (t : Parts) (p : ProcTable) (l : Lines) (s : Sound (joined t p l)) (pid
     held_or_free r u None pipe m answer same = free r u (at x.claims (1 - e.entry.end)) pipe (ap (λ (o : Option ℕ). option_map_or (λ y. not (y == pid)) o false) m) refl answer same
     held_or_free r u (Some k) pipe m answer same = go (k == pid) refl answer same
       where
-        go : (b : Bool) → (k == pid) ≡ b → r ≡ Ok (if b then shared_with (at x.claims (1 - e.entry.end)) else claim.Held (record { 0 = k })) → u ≡ (if not b then t else after becomes_whole) → ClaimedIs r pid fd (joined t p l) (joined u p l)
+        go : (b : Bool) → (k == pid) ≡ b → r ≡ Ok (if b then shared_with (at x.claims (1 - e.entry.end)) else claim.Held (record { 0 = k }))
+            → u ≡ (if not b then t else after becomes_whole) → ClaimedIs r pid fd (joined t p l) (joined u p l)
         go true h answer same = free r u (at x.claims (1 - e.entry.end)) pipe (ap (λ (o : Option ℕ). option_map_or (λ y. not (y == pid)) o false) m ∙ ap not h) refl answer same
         go false h answer same =
             subst (λ (v : Result Claim Refusal). ClaimedIs v pid fd (joined t p l) (joined u p l)) (sym answer)
@@ -163,7 +180,11 @@ module _ (t : Parts) (p : ProcTable) (l : Lines) (s : Sound (joined t p l)) (pid
 
     by_kind : (r : Result Claim Refusal) (u : Parts) (b : Bool) → is_pipe x ≡ b → ClaimsAt b r pid e t u → ClaimedIs r pid fd (joined t p l) (joined u p l)
     by_kind r u false pipe h =
-        subst (λ (v : Result Claim Refusal). ClaimedIs v pid fd (joined t p l) (joined u p l)) (sym h.0) (pex_no_pipe (joined t p l).frame pid fd e x is there pipe, ap (λ (v : Parts). joined v p l) h.1)
+        subst (λ (v : Result Claim Refusal). ClaimedIs v pid fd (joined t p l) (joined u p l)) (sym h.0) (
+          pex_no_pipe (joined t p l).frame pid fd e x is there
+              pipe,
+          ap (λ (v : Parts). joined v p l) h.1,
+        )
     by_kind r u true pipe h =
         let is_node : node t.objects e.entry.object ≡ x = ap (λ (o : Option Object). unwrap_or o nothing) there in
         let said : Object → Result Claim Refusal = λ y. Ok (claim_answer pid (at y.claims e.entry.end) (at y.claims (1 - e.entry.end))) in
@@ -173,9 +194,11 @@ module _ (t : Parts) (p : ProcTable) (l : Lines) (s : Sound (joined t p l)) (pid
 
     by_claim : (r : Result (Unit {0}) Refusal) (u : Parts) (a b : Bool) → is_pipe x ≡ a → claimed_by x e.entry.end pid ≡ b → UnclaimsAt a b r e t u → UnclaimedIs r pid fd (joined t p l) (joined u p l)
     by_claim r u false b pipe so h =
-        subst (λ (v : Result (Unit {0}) Refusal). UnclaimedIs v pid fd (joined t p l) (joined u p l)) (sym h.0) (unpex_no_pipe (joined t p l).frame pid fd e x is there pipe, ap (λ (v : Parts). joined v p l) h.1)
+        subst (λ (v : Result (Unit {0}) Refusal). UnclaimedIs v pid fd (joined t p l) (joined u p l)) (sym h.0)
+        (unpex_no_pipe (joined t p l).frame pid fd e x is there pipe, ap (λ (v : Parts). joined v p l) h.1)
     by_claim r u true false pipe so h =
-        subst (λ (v : Result (Unit {0}) Refusal). UnclaimedIs v pid fd (joined t p l) (joined u p l)) (sym h.0) (unpex_not (joined t p l).frame pid fd e x is there pipe so, ap (λ (v : Parts). joined v p l) h.1)
+        subst (λ (v : Result (Unit {0}) Refusal). UnclaimedIs v pid fd (joined t p l) (joined u p l)) (sym h.0)
+        (unpex_not (joined t p l).frame pid fd e x is there pipe so, ap (λ (v : Parts). joined v p l) h.1)
     by_claim r u true true pipe so h =
         subst (λ (v : Result (Unit {0}) Refusal). UnclaimedIs v pid fd (joined t p l) (joined u p l)) (sym h.0)
         (unpex_done (joined t p l).frame pid fd e x is there pipe so (joined u p l).frame (ap (λ (v : Parts). (joined v p l).frame) (sym h.1)), ap (λ (v : Parts). (joined v p l).content) h.1)
@@ -187,24 +210,36 @@ module _ (t : Parts) (p : ProcTable) (l : Lines) (s : Sound (joined t p l)) (pid
       let st = stands (joined t p l).frame e.id e.entry s.opens (behind_is (joined t p l).frame pid fd e is) in
       by_kind e st.object is st.is_object r u (is_pipe st.object) refl (subst (λ (y : Object). ClaimsAt (is_pipe y) r pid e t u) (ap (λ (o : Option Object). unwrap_or o nothing) st.is_object) h)
 
-  by_claimed : (r : Result (Unit {0}) Refusal) (u : Parts) (b : Option OpenFile) → behind (joined t p l).frame pid fd ≡ b → UnclaimsBehind b r pid t u → UnclaimedIs r pid fd (joined t p l) (joined u p l)
+  by_claimed : (r : Result (Unit {0}) Refusal) (u : Parts) (b : Option OpenFile) → behind (joined t p l).frame pid fd ≡ b → UnclaimsBehind b r pid t u
+      → UnclaimedIs r pid fd (joined t p l) (joined u p l)
   by_claimed r u None is h =
       subst (λ (v : Result (Unit {0}) Refusal). UnclaimedIs v pid fd (joined t p l) (joined u p l)) (sym h.0) (unpex_none (joined t p l).frame pid fd is, ap (λ (v : Parts). joined v p l) h.1)
   by_claimed r u (Some e) is h =
       let st = stands (joined t p l).frame e.id e.entry s.opens (behind_is (joined t p l).frame pid fd e is) in
-      by_claim e st.object is st.is_object r u (is_pipe st.object) (claimed_by st.object e.entry.end pid) refl refl (subst (λ (y : Object). UnclaimsAt (is_pipe y) (claimed_by y e.entry.end pid) r e t u) (ap (λ (o : Option Object). unwrap_or o nothing) st.is_object) h)
+      by_claim e st.object is st.is_object r u (is_pipe st.object) (claimed_by st.object e.entry.end pid) refl refl
+      (subst (λ (y : Object). UnclaimsAt (is_pipe y) (claimed_by y e.entry.end pid) r e t u) (ap (λ (o : Option Object). unwrap_or o nothing) st.is_object)
+      h)
 
-  claimed_there : (r : Result Claim Refusal) (c : Caller) (q : Process) (u : Parts) → living (at p.processes pid) ≡ Some q → q.fds ≡ c.fds → c.pid.0 ≡ pid → Claims r c fd t u → ClaimedIs r pid fd (joined t p l) (joined u p l)
-  claimed_there r c q u is fds id h = by_entry r u (behind (joined t p l).frame pid fd) refl (subst (λ (b : Option OpenFile). ClaimsBehind b r pid t u) (behind_by t p l pid fd c q is fds) (subst (λ (n : ℕ). ClaimsBehind (entry_of c fd t) r n t u) id h))
+  claimed_there : (r : Result Claim Refusal) (c : Caller) (q : Process) (u : Parts) → living (at p.processes pid) ≡ Some q → q.fds ≡ c.fds → c.pid.0 ≡ pid
+      → Claims r c fd t u → ClaimedIs r pid fd (joined t p l) (joined u p l)
+  claimed_there r c q u is fds id h =
+      by_entry r u (behind (joined t p l).frame pid fd) refl (subst (λ (b : Option OpenFile). ClaimsBehind b r pid t u) (behind_by t p l pid fd c q is fds)
+      (subst (λ (n : ℕ). ClaimsBehind (entry_of c fd t) r n t u) id h))
 
-  unclaimed_there : (r : Result (Unit {0}) Refusal) (c : Caller) (q : Process) (u : Parts) → living (at p.processes pid) ≡ Some q → q.fds ≡ c.fds → c.pid.0 ≡ pid → Unclaims r c fd t u → UnclaimedIs r pid fd (joined t p l) (joined u p l)
-  unclaimed_there r c q u is fds id h = by_claimed r u (behind (joined t p l).frame pid fd) refl (subst (λ (b : Option OpenFile). UnclaimsBehind b r pid t u) (behind_by t p l pid fd c q is fds) (subst (λ (n : ℕ). UnclaimsBehind (entry_of c fd t) r n t u) id h))
+  unclaimed_there : (r : Result (Unit {0}) Refusal) (c : Caller) (q : Process) (u : Parts) → living (at p.processes pid) ≡ Some q → q.fds ≡ c.fds
+      → c.pid.0 ≡ pid → Unclaims r c fd t u → UnclaimedIs r pid fd (joined t p l) (joined u p l)
+  unclaimed_there r c q u is fds id h =
+      by_claimed r u (behind (joined t p l).frame pid fd) refl (subst (λ (b : Option OpenFile). UnclaimsBehind b r pid t u) (behind_by t p l pid fd c q is fds)
+      (subst (λ (n : ℕ). UnclaimsBehind (entry_of c fd t) r n t u) id h))
 
 -- ---- what is counted
-claimed_joined : (t : Parts) (p : ProcTable) (l : Lines) (o end pid : ℕ) (held whole : Bool) → AreJoined t p l → AreJoined (if held then t else (if whole then parts_emptied o (with_claim o end (Some pid) t) else with_claim o end (Some pid) t)) p l
+claimed_joined : (t : Parts) (p : ProcTable) (l : Lines) (o end pid : ℕ) (held whole : Bool) → AreJoined t p l
+    → AreJoined (if held then t else (if whole then parts_emptied o (with_claim o end (Some pid) t) else with_claim o end (Some pid) t)) p l
 claimed_joined t p l o end pid true whole j = j
-claimed_joined t p l o end pid false true j = let k = counted_changed t p.processes o (λ x. record x { claims = put x.claims end (Some pid) }) j.counted in record { counted = record { owners = k.owners; homes = k.homes }; procs = j.procs; log = j.log; few = j.few }
-claimed_joined t p l o end pid false false j = let k = counted_changed t p.processes o (λ x. record x { claims = put x.claims end (Some pid) }) j.counted in record { counted = record { owners = k.owners; homes = k.homes }; procs = j.procs; log = j.log; few = j.few }
+claimed_joined t p l o end pid false true j = let k = counted_changed t p.processes o (λ x. record x { claims = put x.claims end (Some pid) }) j.counted in
+    record { counted = record { owners = k.owners; homes = k.homes }; procs = j.procs; log = j.log; few = j.few }
+claimed_joined t p l o end pid false false j = let k = counted_changed t p.processes o (λ x. record x { claims = put x.claims end (Some pid) }) j.counted in
+    record { counted = record { owners = k.owners; homes = k.homes }; procs = j.procs; log = j.log; few = j.few }
 
 pub claims_joined : (t u : Parts) (p : ProcTable) (l : Lines) (r : Result Claim Refusal) (c : Caller) (fd : ℕ) → AreJoined t p l → Claims r c fd t u → AreJoined u p l
 claims_joined t u p l r c fd j h = go (entry_of c fd t) h
@@ -213,7 +248,9 @@ claims_joined t u p l r c fd j h = go (entry_of c fd t) h
     at_end e false h = subst (λ (v : Parts). AreJoined v p l) (sym h.1) j
     at_end e true h =
         let v : Parts = with_claim e.entry.object e.entry.end (Some c.pid.0) t in
-        subst (λ (v : Parts). AreJoined v p l) (sym h.1) (claimed_joined t p l e.entry.object e.entry.end c.pid.0 (claimed_by_another (node t.objects e.entry.object) e.entry.end c.pid.0) (is_whole (frame_alone v) e.entry.object && not (is_whole (frame_alone t) e.entry.object)) j)
+        subst (λ (v : Parts). AreJoined v p l) (sym h.1) (claimed_joined t p l e.entry.object e.entry.end c.pid.0
+        (claimed_by_another (node t.objects e.entry.object) e.entry.end c.pid.0) (is_whole (frame_alone v) e.entry.object
+        && not (is_whole (frame_alone t) e.entry.object)) j)
 
     go : (b : Option OpenFile) → ClaimsBehind b r c.pid.0 t u → AreJoined u p l
     go None h = subst (λ (v : Parts). AreJoined v p l) (sym h.1) j
@@ -234,12 +271,15 @@ unclaims_joined t u p l r c fd j h = go (entry_of c fd t) h
     go (Some e) h = at_end e (is_pipe (node t.objects e.entry.object)) (claimed_by (node t.objects e.entry.object) e.entry.end c.pid.0) h
 
 -- ---- in the machine's world
-pub claimed_is : (t u : Parts) (p : ProcTable) (l : Lines) (w : World) (pid fd : ℕ) (r : Result Claim Refusal) (c : Caller) (q : Process) → joined t p l ≡ w → Sound w → living (at w.frame.processes pid) ≡ Some q → q.fds ≡ c.fds → c.pid.0 ≡ pid → Claims r c fd t u → ClaimedIs r pid fd w (joined u p l)
+pub claimed_is : (t u : Parts) (p : ProcTable) (l : Lines) (w : World) (pid fd : ℕ) (r : Result Claim Refusal) (c : Caller) (q : Process) → joined t p l ≡ w
+    → Sound w → living (at w.frame.processes pid) ≡ Some q → q.fds ≡ c.fds → c.pid.0 ≡ pid → Claims r c fd t u → ClaimedIs r pid fd w (joined u p l)
 claimed_is t u p l w pid fd r c q here s is fds id h =
     subst (λ (v : World). ClaimedIs r pid fd v (joined u p l)) here
     (claimed_there t p l (subst (λ (v : World). Sound v) (sym here) s) pid fd r c q u (ap (λ (v : World). living (at v.frame.processes pid)) here ∙ is) fds id h)
 
-pub unclaimed_is : (t u : Parts) (p : ProcTable) (l : Lines) (w : World) (pid fd : ℕ) (r : Result (Unit {0}) Refusal) (c : Caller) (q : Process) → joined t p l ≡ w → Sound w → living (at w.frame.processes pid) ≡ Some q → q.fds ≡ c.fds → c.pid.0 ≡ pid → Unclaims r c fd t u → UnclaimedIs r pid fd w (joined u p l)
+pub unclaimed_is : (t u : Parts) (p : ProcTable) (l : Lines) (w : World) (pid fd : ℕ) (r : Result (Unit {0}) Refusal) (c : Caller) (q : Process)
+    → joined t p l ≡ w → Sound w → living (at w.frame.processes pid) ≡ Some q → q.fds ≡ c.fds → c.pid.0 ≡ pid → Unclaims r c fd t u
+    → UnclaimedIs r pid fd w (joined u p l)
 unclaimed_is t u p l w pid fd r c q here s is fds id h =
     subst (λ (v : World). UnclaimedIs r pid fd v (joined u p l)) here
     (unclaimed_there t p l (subst (λ (v : World). Sound v) (sym here) s) pid fd r c q u (ap (λ (v : World). living (at v.frame.processes pid)) here ∙ is) fds id h)

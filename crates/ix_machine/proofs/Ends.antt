@@ -1,5 +1,7 @@
 -- A process ends, and the record of one that has ended goes.
-use Rattle.std.proofs.Common.{◌≡◌, ◌≢◌, ◌<◌, ◌≤◌, ◌&&◌, ◌||◌, ℕ, zero, suc, Bool, true, false, true≢false, not, List, [], ◌∷◌, length, map, sum, count_by, cond, Option, Some, None, option_map, is_some, refl, sym, ap, subst, ◌∙◌, arith, inl, inr, get_or, set, if◌then◌else◌, length-set, slice_index_or}
+use Rattle.std.proofs.Common.{◌≡◌, ◌≢◌, ◌<◌, ◌≤◌, ◌&&◌, ◌||◌, ℕ, zero, suc, Bool, true, false, true≢false, not, List, [], ◌∷◌, length, map, sum}
+use Rattle.std.proofs.Common.{count_by, cond, Option, Some, None, option_map, is_some, refl, sym, ap, subst, ◌∙◌, arith, inl, inr, get_or, set}
+use Rattle.std.proofs.Common.{if◌then◌else◌, length-set, slice_index_or}
 use Rattle.std.specs.Option.{option_map_or, option_and_then}
 use Rattle.std.specs.List.{list_any, range_with_len}
 use Rattle.std.proofs.lemmas.List.{get_or-set_same, get_or-set_other, set-get_or}
@@ -51,7 +53,8 @@ map_put P (z ∷ t) zero x y h = ap (λ m. m ∷ map P t) h
 map_put P (z ∷ t) (suc n) x y h = ap (λ ms. P z ∷ ms) (map_put P t n x y h)
 
 -- one record or another that is counted alike
-counted_put : (t : Parts) (ps : List (Option Process)) (pid : ℕ) (x y : Option Process) → ((e : ℕ) → named_by e x ≡ named_by e y) → ((o : ℕ) → is_home o x ≡ is_home o y) → IsCounted t (put ps pid x) → IsCounted t (put ps pid y)
+counted_put : (t : Parts) (ps : List (Option Process)) (pid : ℕ) (x y : Option Process) → ((e : ℕ) → named_by e x ≡ named_by e y)
+    → ((o : ℕ) → is_home o x ≡ is_home o y) → IsCounted t (put ps pid x) → IsCounted t (put ps pid y)
 counted_put t ps pid x y named home c = record {
   owners = c.owners ∙ (λ i. map (λ e. sum (map_put (named_by e) ps pid x y (named e) i)) (range_with_len 0 (length t.opens)));
   homes = c.homes ∙ (λ i. map (λ o. homes_same o i) (range_with_len 0 (length t.objects)));
@@ -88,18 +91,27 @@ lives_inside ps pid h = go (at ps pid) refl h
     go (Some q) is k = in_table ps pid q is
 
 -- ---- the record of an ended process goes
-pub collected_joined : (t : Parts) (p q : ProcTable) (l : Lines) (w : World) (c : ℕ) → joined t p l ≡ w → is_ended (at w.frame.processes c) ≡ true → q ≡ collected c p → AreJoined t p l → AreJoined t q l
+pub collected_joined : (t : Parts) (p q : ProcTable) (l : Lines) (w : World) (c : ℕ) → joined t p l ≡ w → is_ended (at w.frame.processes c) ≡ true
+    → q ≡ collected c p → AreJoined t p l → AreJoined t q l
 collected_joined t p q l w c here ended is j =
     let done : is_ended (at p.processes c) ≡ true = ap (λ (v : World). is_ended (at v.frame.processes c)) here ∙ ended in
     subst (λ (v : ProcTable). AreJoined t v l) (sym is) (record {
-      counted = counted_put t p.processes c (at p.processes c) None (λ e. ended_named (at p.processes c) e done) (λ o. ended_home (at p.processes c) o done) (subst (IsCounted t) (sym (set-get_or p.processes c None)) j.counted);
+      counted = counted_put t p.processes c (at p.processes c) None (λ e. ended_named (at p.processes c) e done) (λ o. ended_home (at p.processes c) o done)
+          (subst (IsCounted t) (sym (set-get_or p.processes c None)) j.counted);
       procs = j.procs;
       log = j.log;
       few = j.few;
     })
 
-pub collected_is : (t : Parts) (p q : ProcTable) (l : Lines) (w : World) (c : ℕ) → joined t p l ≡ w → q ≡ collected c p → joined t q l ≡ record { frame = record w.frame { processes = put w.frame.processes c None }; content = record w.content { statuses = set w.content.statuses c 0 } }
-collected_is t p q l w c here is = ap (λ (v : ProcTable). joined t v l) is ∙ ap (λ (v : World). let u : World = record { frame = record v.frame { processes = put v.frame.processes c None }; content = record v.content { statuses = set v.content.statuses c 0 } } in u) here
+pub collected_is : (t : Parts) (p q : ProcTable) (l : Lines) (w : World) (c : ℕ) → joined t p l ≡ w → q ≡ collected c p
+    → joined t q l ≡ record {
+      frame = record w.frame { processes = put w.frame.processes c None };
+      content =
+          record w.content { statuses = set w.content.statuses c 0 };
+    }
+collected_is t p q l w c here is = ap (λ (v : ProcTable). joined t v l) is ∙ ap (λ (v : World). let u : World =
+    record { frame = record v.frame { processes = put v.frame.processes c None }; content = record v.content { statuses = set v.content.statuses c 0 } } in
+    u) here
 
 -- ---- a wait
 -- a label alone was raised, so whoever has ended has ended still
@@ -117,10 +129,12 @@ pub ended_still : (w v : World) (pid c : ℕ) → lives w.frame pid ≡ true →
 ended_still w v pid c alive r h = ended_restored w.frame v.frame pid c alive r ∙ h
 
 pub waited_carried : (w v u : World) (pid c : ℕ) → Sound w → lives w.frame pid ≡ true → v ≡ record w { frame = record w.frame { processes = v.frame.processes } } → Restores w.frame v.frame pid
-    → u ≡ record v { frame = record v.frame { processes = put v.frame.processes c None }; content = record v.content { statuses = set v.content.statuses c 0 } } → u.content ≡ carried w.frame u.frame w.content
+    → u ≡ record v { frame = record v.frame { processes = put v.frame.processes c None }; content = record v.content { statuses = set v.content.statuses c 0 } }
+    → u.content ≡ carried w.frame u.frame w.content
 waited_carried w v u pid c s alive rest r is =
     let content : v.content ≡ w.content = ap (λ (x : World). x.content) rest in
-    let frame : u.frame ≡ record w.frame { processes = put v.frame.processes c None } = ap (λ (x : World). x.frame) is ∙ ap (λ (x : World). let g : Frame = record x.frame { processes = put v.frame.processes c None } in g) rest in
+    let frame : u.frame ≡ record w.frame { processes = put v.frame.processes c None } = ap (λ (x : World). x.frame) is ∙ ap (λ (x : World). let g : Frame =
+    record x.frame { processes = put v.frame.processes c None } in g) rest in
     ap (λ (x : World). x.content) is ∙ ap (λ (x : Content). let y : Content = record x { statuses = set x.statuses c 0 } in y) content
     ∙ sym (carried_without w v.frame.processes c s.holdings.clean (count_restored w.frame v.frame pid alive r) (λ n. ended_restored w.frame v.frame pid n alive r))
     ∙ ap (λ (g : Frame). carried w.frame g w.content) (sym frame)
@@ -164,7 +178,8 @@ remains_home (Some p) n = go (is_some p.parent)
     go false = refl
 
 -- the statuses that an end leaves, by what stays of the process
-status_left : (ps : List (Option Process)) (st : List ℕ) (o : Option Process) (pid status : ℕ) (t : ProcTable) → pid < length ps → get_or st pid 0 ≡ 0 → ((q : Process) → o ≡ Some q → q.ended ≡ true) → t.statuses ≡ st
+status_left : (ps : List (Option Process)) (st : List ℕ) (o : Option Process) (pid status : ℕ) (t : ProcTable) → pid < length ps → get_or st pid 0 ≡ 0
+    → ((q : Process) → o ≡ Some q → q.ended ≡ true) → t.statuses ≡ st
     → (ended_as o pid status t).statuses ≡ (if is_ended (at (put ps pid o) pid) then set st pid status else st)
 status_left ps st None pid status t low none ended same =
     let gone : is_ended (at (put ps pid None) pid) ≡ false = ap is_ended (put_none ps pid) in
@@ -195,17 +210,21 @@ any_changed P h same (Some q ∷ ps) zero = ap (λ b. b || list_any P ps) (same 
 any_changed P h same (x ∷ ps) (suc n) = ap (λ b. P x || b) (any_changed P h same ps n)
 
 pub put_lives : (t : Parts) (p : ProcTable) (l : Lines) (w : World) (pid n : ℕ) → joined t p l ≡ w → lives w.frame pid ≡ true → n ≡ pid → is_some (living (at p.processes n)) ≡ true
-put_lives t p l w pid n here alive is = ap (λ m. is_some (living (at p.processes m))) is ∙ ap (λ (v : World). is_some (living (at v.frame.processes pid))) here ∙ some_living (at w.frame.processes pid) alive
+put_lives t p l w pid n here alive is = ap (λ m. is_some (living (at p.processes m))) is ∙ ap (λ (v : World). is_some (living (at v.frame.processes pid))) here
+    ∙ some_living (at w.frame.processes pid) alive
 
-pub end_asks : (t : Parts) (p mid : ProcTable) (l : Lines) (w : World) (c : Caller) (pid : ℕ) → joined t p l ≡ w → lives w.frame pid ≡ true → list_any (is_child pid) w.frame.processes ≡ false → mid ≡ record p { processes = change p.processes c.pid.0 (with_caller c) }
+pub end_asks : (t : Parts) (p mid : ProcTable) (l : Lines) (w : World) (c : Caller) (pid : ℕ) → joined t p l ≡ w → lives w.frame pid ≡ true
+    → list_any (is_child pid) w.frame.processes ≡ false → mid ≡ record p { processes = change p.processes c.pid.0 (with_caller c) }
     → (is_some (living (at mid.processes pid)) ≡ true) × (list_any (is_child pid) mid.processes ≡ false)
 end_asks t p mid l w c pid here alive childless put_is =
-    let is : mid.processes ≡ change w.frame.processes c.pid.0 (with_caller c) = ap (λ (v : ProcTable). v.processes) put_is ∙ ap (λ (v : World). change v.frame.processes c.pid.0 (with_caller c)) here in (
+    let is : mid.processes ≡ change w.frame.processes c.pid.0 (with_caller c) = ap (λ (v : ProcTable). v.processes) put_is
+    ∙ ap (λ (v : World). change v.frame.processes c.pid.0 (with_caller c)) here in (
       ap (λ qs. is_some (living (at qs pid))) is ∙ seen_changed (λ o. is_some (living o)) (with_caller c) (seen_living c) w.frame.processes c.pid.0 pid ∙ some_living (at w.frame.processes pid) alive,
       ap (list_any (is_child pid)) is ∙ any_changed (is_child pid) (with_caller c) (λ q. refl) w.frame.processes c.pid.0 ∙ childless,
     )
 
-module _ (w : World) (place pid status : ℕ) (t : Parts) (p mid final : ProcTable) (l : Lines) (x : Parts) (c : Caller) (s : Sound w) (alive : lives w.frame pid ≡ true) (childless : list_any (is_child pid) w.frame.processes ≡ false)
+module _ (w : World) (place pid status : ℕ) (t : Parts) (p mid final : ProcTable) (l : Lines) (x : Parts) (c : Caller) (s : Sound w) (alive : lives w.frame pid
+    ≡ true) (childless : list_any (is_child pid) w.frame.processes ≡ false)
     (here : joined t p l ≡ w) (j : AreJoined t p l)
     (row : let_go_all pid w.frame ≡ Pass tt (frame_of (around place pid w) x (with_who w.frame.processes c)))
     (content : (world_of (around place pid w) x (with_who w.frame.processes c)).content ≡ carried w.frame (frame_of (around place pid w) x (with_who w.frame.processes c)) w.content)
@@ -231,7 +250,8 @@ module _ (w : World) (place pid status : ℕ) (t : Parts) (p mid final : ProcTab
 
   pub ends_so : let_go_and_end pid w.frame ≡ Pass tt (joined x final l).frame
   unfolding ◌>>◌ on_pass end_process put_process
-  ends_so = ap (λ o. on_pass o (λ a. end_process pid)) row ∙ (λ i. Pass tt (record { limits = x.limits; fss = x.fss; objects = x.objects; processes = sym processes_are i; opens = x.opens; log = log_is i }))
+  ends_so = ap (λ o. on_pass o (λ a. end_process pid)) row
+      ∙ (λ i. Pass tt (record { limits = x.limits; fss = x.fss; objects = x.objects; processes = sym processes_are i; opens = x.opens; log = log_is i }))
 
   none_left : get_or w.content.statuses pid 0 ≡ 0
   none_left = s.holdings.clean.statuses pid (not_ended_yet (at w.frame.processes pid) alive)
@@ -273,18 +293,33 @@ module _ (w : World) (place pid status : ℕ) (t : Parts) (p mid final : ProcTab
       after : Bool → Content → Content
       after b k = if b then record k { statuses = set k.statuses pid status } else k
 
-      inside : (b : Bool) → ◌≡◌ {A = Content} (record { holdings = x.holdings; offsets = x.offsets; statuses = if b then set w.content.statuses pid status else w.content.statuses }) (after b (record { holdings = x.holdings; offsets = x.offsets; statuses = w.content.statuses }))
+      inside : (b : Bool) → ◌≡◌ {A = Content} (record {
+        holdings = x.holdings;
+        offsets = x.offsets;
+        statuses = if b then set w.content.statuses pid status else
+            w.content.statuses;
+      }) (after b (record { holdings = x.holdings; offsets = x.offsets; statuses = w.content.statuses }))
       inside true = refl
       inside false = refl
 
   pub counts_so : IsCounted x final.processes
-  counts_so = subst (IsCounted x) (sym processes_are) (counted_put x ps pid (option_map {T = Process} {U = Process} (λ q. record q { ended = true }) (at ps pid)) (option_and_then remains (at ps pid)) (remains_named (at ps pid)) (remains_home (at ps pid)) counted)
+  counts_so = subst (IsCounted x) (sym processes_are)
+      (counted_put x ps pid (option_map {T = Process} {U = Process} (λ q. record q { ended = true }) (at ps pid)) (option_and_then remains (at ps pid))
+      (remains_named (at ps pid)) (remains_home (at ps pid)) counted)
 
   pub joined_so : AreJoined x final l
   joined_so =
-      let moved : (joined x final l) ≡ (step w place pid (op.Exit status)).world = (exited w (joined x final l) place pid status reply.Done [] alive (exit_passes pid w.frame (joined x final l).frame childless ends_so) refl leaves_so).world in
+      let moved : (joined x final l) ≡ (step w place pid (op.Exit status)).world =
+      (exited w (joined x final l) place pid status reply.Done [] alive (exit_passes pid w.frame (joined x final l).frame childless ends_so) refl
+      leaves_so).world in
       let limits : x.limits ≡ t.limits = ap (λ (v : World). v.frame.limits) moved ∙ (fixed_step w place pid (op.Exit status)).limits ∙ ap (λ (v : World). v.frame.limits) (sym here) in
       let same : final.limit ≡ p.limit = ap (λ (v : ProcTable). v.limit) final_is ∙ ended_limit _ pid status mid ∙ ap (λ (v : ProcTable). v.limit) put_is in
-      record { counted = counts_so; procs = same ∙ j.procs ∙ sym (ap (λ (m : Limits). m.procs) limits); log = j.log ∙ sym (ap (λ (m : Limits). m.log) limits); few = subst (λ (m : Limits). m.procs ≤ 1024) (sym limits) j.few }
+      record {
+        counted = counts_so;
+        procs = same ∙ j.procs ∙ sym (ap (λ (m : Limits). m.procs) limits);
+        log =
+            j.log ∙ sym (ap (λ (m : Limits). m.log) limits);
+        few = subst (λ (m : Limits). m.procs ≤ 1024) (sym limits) j.few;
+      }
 
 pub ruleset waiting = (ended_still, waited_carried)

@@ -18,6 +18,11 @@ tests true true f = refl
 tests true false f = refl
 tests false b f = refl
 
-pub entitled_is : (f : Frame) (pid : ℕ) (p : Process) (s : Privs) (x : PrivSet) (r : Result (Unit {0}) Refusal) → living (at f.processes pid) ≡ Some p → s ≡ record { cap = p.cap; lic = p.lic; own = p.own } → r ≡ exercised s x → RowIs r f (entitled pid x f)
+pub entitled_is : (f : Frame) (pid : ℕ) (p : Process) (s : Privs) (x : PrivSet) (r : Result (Unit {0}) Refusal) → living (at f.processes pid) ≡ Some p
+    → s ≡ record { cap = p.cap; lic = p.lic; own = p.own } → r ≡ exercised s x → RowIs r f (entitled pid x f)
 unfolding entitled ◌>>=◌ on_pass process some pass
-entitled_is f pid p s x r lives privs is = subst (λ (q : Result (Unit {0}) Refusal). RowIs q f (entitled pid x f)) (sym is) (rw (lives, privs) (tests (has_all p.cap x) (has_all p.lic x || has_all p.own x) f))
+entitled_is f pid p s x r lives privs is =
+    subst (λ (q : Result (Unit {0}) Refusal). RowIs q f (entitled pid x f)) (sym is) (rw (
+      lives,
+      privs,
+    ) (tests (has_all p.cap x) (has_all p.lic x || has_all p.own x) f))

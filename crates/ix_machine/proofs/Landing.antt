@@ -61,7 +61,8 @@ passed (Pass m h) s g Q is k =
     let same : h ≡ g = cc in
     subst (λ (x : Sought). Q x g) number (subst (λ (x : Frame). Q m x) same k)
 
-pub landed : (w : World) (pid : ℕ) (path : PathOf) (g : Frame) (e : Ending) (o : ℕ) (dir : Option Obj) → Sound w → walked_to pid path w.frame ≡ Pass (sought_of e) g → e ≡ ending.Found (record { 0 = o }) dir → is_inode (at g.objects o) ≡ true
+pub landed : (w : World) (pid : ℕ) (path : PathOf) (g : Frame) (e : Ending) (o : ℕ) (dir : Option Obj) → Sound w
+    → walked_to pid path w.frame ≡ Pass (sought_of e) g → e ≡ ending.Found (record { 0 = o }) dir → is_inode (at g.objects o) ≡ true
 landed w pid path g e o dir s is ends =
     let h = passed (walked_to pid path w.frame) (sought_of e) g (λ s g. Lands g.objects s) is (walk_ends w pid path s) in
     subst (λ (x : Ending). Lands g.objects (sought_of x)) ends h

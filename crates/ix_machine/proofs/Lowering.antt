@@ -14,7 +14,8 @@ pub below_still : (was now ceiling : Categories) → same was now ≡ true → l
 below_still was now ceiling s h = subst (λ (l : Categories). leq l ceiling ≡ true) ((same-decides was now).0 s) h
 
 -- an object's label is below its ceiling, in a world that is sound but for its processes
-pub below_ceiling : (w v : World) (o : ℕ) (x : ObjectRow) → Sound w → v ≡ record w { frame = record w.frame { processes = v.frame.processes } } → at v.frame.objects o ≡ Some (object_by (node v.frame.objects o) x)
+pub below_ceiling : (w v : World) (o : ℕ) (x : ObjectRow) → Sound w → v ≡ record w { frame = record w.frame { processes = v.frame.processes } }
+    → at v.frame.objects o ≡ Some (object_by (node v.frame.objects o) x)
     → x.float.ceiling ≡ ceiling_of v.frame.fss (object_by (node v.frame.objects o) x) → leq x.float.label x.float.ceiling ≡ true
 below_ceiling w v o x s rest here ceiling =
     let y : Object = object_by (node v.frame.objects o) x in

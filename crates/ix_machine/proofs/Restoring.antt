@@ -25,7 +25,8 @@ restores_itself f pid h = record {
 relabelled : (f : Frame) (pid : ℕ) (l : Categories) → lives f pid ≡ true → Restores f (record f { processes = change f.processes pid (λ p. record p { label = l }) }) pid
 relabelled f pid l h = record {
   living = seen_changed (λ o. option_map_or (λ p. not p.ended) o false) (λ p. record p { label = l }) (λ p. refl) f.processes pid pid ∙ h;
-  back = λ k is. ap (λ (t : List (Option Process)). record f { processes = t }) (change_twice f.processes pid (λ p. record p { label = l }) (λ p. record p { label = k }) ∙ same_label f.processes pid k is);
+  back = λ k is. ap (λ (t : List (Option Process)). record f { processes = t }) (change_twice f.processes pid (λ p. record p { label = l })
+      (λ p. record p { label = k }) ∙ same_label f.processes pid k is);
 }
 
 pub restores_label : (f g : Frame) (pid : ℕ) (l : Categories) → lives f pid ≡ true → g ≡ record f { processes = change f.processes pid (λ p. record p { label = l }) } → Restores f g pid

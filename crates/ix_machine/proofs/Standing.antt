@@ -35,7 +35,8 @@ module _ (t : Parts) (p : ProcTable) (l : Lines) (pid fd : ℕ) where
 
   pub behind_by : (c : Caller) (q : Process) → living (at p.processes pid) ≡ Some q → q.fds ≡ c.fds → entry_of c fd t ≡ behind (joined t p l).frame pid fd
   unfolding behind
-  behind_by c q is fds = entry_alone (at c.fds fd) ∙ ap (λ (ds : List (Option ℕ)). entry_at (joined t p l).frame (at ds fd)) (sym fds) ∙ sym (ap (λ (o : Option Process). behind_of o (joined t p l).frame fd) is)
+  behind_by c q is fds = entry_alone (at c.fds fd) ∙ ap (λ (ds : List (Option ℕ)). entry_at (joined t p l).frame (at ds fd)) (sym fds)
+      ∙ sym (ap (λ (o : Option Process). behind_of o (joined t p l).frame fd) is)
 
 -- no descriptor of a process that doesn't live stands for anything
 pub no_spot : (f : Frame) (pid fd : ℕ) → lives f pid ≡ false → None ≡ spot_behind f pid fd
@@ -84,7 +85,8 @@ module _ (t : Parts) (p : ProcTable) (l : Lines) (w : World) (here : joined t p 
   pub entry_label_is : (id : ℕ) → label_of_entry (frame_alone t) (Some id) ≡ label_of_entry w.frame (Some id)
   entry_label_is id = ap (λ (v : World). label_of_entry v.frame (Some id)) here
 
-  pub spot_is : (pid fd : ℕ) (c : Caller) (q : Process) (s : Option (ℕ × Obj)) → living (at w.frame.processes pid) ≡ Some q → q.fds ≡ c.fds → option_map spot_in s ≡ option_map spot_through (entry_of c fd t) → option_map spot_in s ≡ spot_behind w.frame pid fd
+  pub spot_is : (pid fd : ℕ) (c : Caller) (q : Process) (s : Option (ℕ × Obj)) → living (at w.frame.processes pid) ≡ Some q → q.fds ≡ c.fds
+      → option_map spot_in s ≡ option_map spot_through (entry_of c fd t) → option_map spot_in s ≡ spot_behind w.frame pid fd
   spot_is pid fd c q s is fds h =
       h ∙ ap (option_map spot_through) (behind_by t p l pid fd c q (ap (λ (v : World). living (at v.frame.processes pid)) here ∙ is) fds)
       ∙ ap (λ (v : World). spot_behind v.frame pid fd) here

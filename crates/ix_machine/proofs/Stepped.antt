@@ -82,7 +82,11 @@ unmoved : (w : World) (r : Reply) → IsClean w → plainly w (record { reply = 
 unfolding plainly
 unmoved w r clean = λ i. record { world = record { frame = w.frame; content = carried_floats w w.frame (floats_itself w.frame) clean i }; reply = r; bytes = [] }
 
-refused_by : (w : World) (place pid : ℕ) (c : Op) (r : Refusal) (buf : List ℕ) → IsClean w → verdict (told w pid c) place pid c w.frame ≡ record { reply = reply.No r; frame = w.frame } → Answers (step w place pid c) w (reply.No r) buf buf
+refused_by : (w : World) (place pid : ℕ) (c : Op) (r : Refusal) (buf : List ℕ) → IsClean w → verdict (told w pid c) place pid c w.frame ≡ record {
+  reply =
+      reply.No r;
+  frame = w.frame;
+} → Answers (step w place pid c) w (reply.No r) buf buf
 unfolding step
 refused_by w place pid c r buf clean is = answers _ w (reply.No r) buf (ap (answer w pid c) is ∙ no_answer w pid c r ∙ unmoved w (reply.No r) clean)
 
@@ -94,7 +98,8 @@ dead_verdict t place pid c f dead = rw dead refl
 pub dead_step : (w : World) (place pid : ℕ) (c : Op) (buf : List ℕ) → IsClean w → lives w.frame pid ≡ false → Answers (step w place pid c) w (reply.No refusal.NoProcess) buf buf
 dead_step w place pid c buf clean dead = refused_by w place pid c refusal.NoProcess buf clean (dead_verdict (told w pid c) place pid c w.frame dead)
 
-refused_verdict : (t : LengthChecks) (place pid : ℕ) (c : Op) (f : Frame) (r : Refusal) → lives f pid ≡ true → row t place pid c f ≡ Refuse r f → verdict t place pid c f ≡ record { reply = reply.No r; frame = f }
+refused_verdict : (t : LengthChecks) (place pid : ℕ) (c : Op) (f : Frame) (r : Refusal) → lives f pid ≡ true → row t place pid c f ≡ Refuse r f
+    → verdict t place pid c f ≡ record { reply = reply.No r; frame = f }
 unfolding verdict
 refused_verdict t place pid c f r alive is = rw (alive, is) (go (keeps_label r))
   where
@@ -103,11 +108,13 @@ refused_verdict t place pid c f r alive is = rw (alive, is) (go (keeps_label r))
     go false = refl
 
 -- the row refuses, and leaves all as it was
-pub refused_step : (w : World) (place pid : ℕ) (c : Op) (r : Refusal) (buf : List ℕ) → IsClean w → lives w.frame pid ≡ true → row (told w pid c) place pid c w.frame ≡ Refuse r w.frame → Answers (step w place pid c) w (reply.No r) buf buf
+pub refused_step : (w : World) (place pid : ℕ) (c : Op) (r : Refusal) (buf : List ℕ) → IsClean w → lives w.frame pid ≡ true
+    → row (told w pid c) place pid c w.frame ≡ Refuse r w.frame → Answers (step w place pid c) w (reply.No r) buf buf
 refused_step w place pid c r buf clean alive is = refused_by w place pid c r buf clean (refused_verdict (told w pid c) place pid c w.frame r alive is)
 
 -- the row passes
-pub passed_verdict : (t : LengthChecks) (place pid : ℕ) (c : Op) (f g : Frame) (r : Reply) → lives f pid ≡ true → row t place pid c f ≡ Pass r g → verdict t place pid c f ≡ record { reply = r; frame = g }
+pub passed_verdict : (t : LengthChecks) (place pid : ℕ) (c : Op) (f g : Frame) (r : Reply) → lives f pid ≡ true → row t place pid c f ≡ Pass r g
+    → verdict t place pid c f ≡ record { reply = r; frame = g }
 unfolding verdict
 passed_verdict t place pid c f g r alive is = rw (alive, is) refl
 
@@ -167,17 +174,25 @@ still_stays (op.Unpex fd) still = refl
 still_stays (op.ReadLog index) still = refl
 still_stays _ still = cc
 
-plainly_still : (w u : World) (place pid : ℕ) (c : Op) (r : Reply) → is_still c ≡ true → IsClean w → r ≡ (verdict nothing_told place pid c w.frame).reply → u.frame ≡ (verdict nothing_told place pid c w.frame).frame → u.content ≡ w.content
+plainly_still : (w u : World) (place pid : ℕ) (c : Op) (r : Reply) → is_still c ≡ true → IsClean w → r ≡ (verdict nothing_told place pid c w.frame).reply
+    → u.frame ≡ (verdict nothing_told place pid c w.frame).frame → u.content ≡ w.content
     → plainly w (verdict nothing_told place pid c w.frame) ≡ record { world = u; reply = r; bytes = [] }
 unfolding plainly
-plainly_still w u place pid c r still clean said stands same = λ i. record { world = record { frame = sym stands i; content = (carried_decided w nothing_told place pid c (still_stays c still) clean ∙ sym same) i }; reply = sym said i; bytes = [] }
+plainly_still w u place pid c r still clean said stands same =
+    λ i. record {
+      world = record { frame = sym stands i; content = (carried_decided w nothing_told place pid c (still_stays c still) clean ∙ sym same) i };
+      reply = sym said i;
+      bytes = [];
+    }
 
-pub still_answers : (w u : World) (place pid : ℕ) (c : Op) (r : Reply) (buf : List ℕ) → is_still c ≡ true → IsClean w → r ≡ (verdict nothing_told place pid c w.frame).reply → u.frame ≡ (verdict nothing_told place pid c w.frame).frame → u.content ≡ w.content
+pub still_answers : (w u : World) (place pid : ℕ) (c : Op) (r : Reply) (buf : List ℕ) → is_still c ≡ true → IsClean w
+    → r ≡ (verdict nothing_told place pid c w.frame).reply → u.frame ≡ (verdict nothing_told place pid c w.frame).frame → u.content ≡ w.content
     → Answers (step w place pid c) u r buf buf
 still_answers w u place pid c r buf still clean said stands same = answers _ u r buf (still_step w place pid c still ∙ plainly_still w u place pid c r still clean said stands same)
 
 -- SelfLabel tells the caller's label, and all stands
-pub label_step : (w : World) (place pid : ℕ) (r : Reply) (buf : List ℕ) → IsClean w → lives w.frame pid ≡ true → self_label pid w.frame ≡ Pass r w.frame → Answers (step w place pid op.SelfLabel) w r buf buf
+pub label_step : (w : World) (place pid : ℕ) (r : Reply) (buf : List ℕ) → IsClean w → lives w.frame pid ≡ true → self_label pid w.frame ≡ Pass r w.frame
+    → Answers (step w place pid op.SelfLabel) w r buf buf
 unfolding row
 label_step w place pid r buf clean alive passes =
     let told = passed_verdict nothing_told place pid op.SelfLabel w.frame w.frame r alive passes in
@@ -185,11 +200,13 @@ label_step w place pid r buf clean alive passes =
 
 -- ---- a row's refusal, as it is settled
 -- one that keeps no label leaves the frame as it was
-pub settled_back : (t : LengthChecks) (place pid : ℕ) (c : Op) (f g : Frame) (why : Refusal) → lives f pid ≡ true → row t place pid c f ≡ Refuse why g → keeps_label why ≡ false → (verdict t place pid c f).frame ≡ f
+pub settled_back : (t : LengthChecks) (place pid : ℕ) (c : Op) (f g : Frame) (why : Refusal) → lives f pid ≡ true → row t place pid c f ≡ Refuse why g
+    → keeps_label why ≡ false → (verdict t place pid c f).frame ≡ f
 unfolding verdict
 settled_back t place pid c f g why l r k = rw (l, r, k) refl
 
-pub label_of_caller : (ps : List (Option Process)) (pid : ℕ) (c : Caller) → living (at ps pid) ≡ Some (with_caller c (unwrap_or (at ps pid) no_process)) → option_map (λ p. p.label) (at ps pid) ≡ Some c.float.label
+pub label_of_caller : (ps : List (Option Process)) (pid : ℕ) (c : Caller) → living (at ps pid) ≡ Some (with_caller c (unwrap_or (at ps pid) no_process))
+    → option_map (λ p. p.label) (at ps pid) ≡ Some c.float.label
 label_of_caller ps pid c is = go (at ps pid) is
   where
     go : (o : Option Process) → living o ≡ Some (with_caller c (unwrap_or o no_process)) → option_map (λ p. p.label) o ≡ Some c.float.label
@@ -201,52 +218,78 @@ label_of_caller ps pid c is = go (at ps pid) is
         pick false h = let e : p ≡ with_caller c p = cc in ap (λ (q : Process). Some q.label) e
 
 -- ---- calls whose row passes
-answered : (w u : World) (place pid : ℕ) (c : Op) (s r : Reply) (g : Frame) (buf : List ℕ) → lives w.frame pid ≡ true → row (told w pid c) place pid c w.frame ≡ Pass s g → answer w pid c (record { reply = s; frame = g }) ≡ record { world = u; reply = r; bytes = [] }
+answered : (w u : World) (place pid : ℕ) (c : Op) (s r : Reply) (g : Frame) (buf : List ℕ) → lives w.frame pid ≡ true
+    → row (told w pid c) place pid c w.frame ≡ Pass s g → answer w pid c (record { reply = s; frame = g }) ≡ record { world = u; reply = r; bytes = [] }
     → Answers (step w place pid c) u r buf buf
 unfolding step
 answered w u place pid c s r g buf alive is given = answers _ u r buf (ap (answer w pid c) (passed_verdict (told w pid c) place pid c w.frame g s alive is) ∙ given)
 
-pub forked : (w u : World) (place pid : ℕ) (keep : Keep) (r : Reply) (buf : List ℕ) → lives w.frame pid ≡ true → fork pid keep w.frame ≡ Pass r u.frame → u.content ≡ carried w.frame u.frame w.content → Answers (step w place pid (op.Fork keep)) u r buf buf
+pub forked : (w u : World) (place pid : ℕ) (keep : Keep) (r : Reply) (buf : List ℕ) → lives w.frame pid ≡ true → fork pid keep w.frame ≡ Pass r u.frame
+    → u.content ≡ carried w.frame u.frame w.content → Answers (step w place pid (op.Fork keep)) u r buf buf
 unfolding row answer plainly
-forked w u place pid keep r buf alive is content = answered w u place pid (op.Fork keep) r r u.frame buf alive is (λ i. record { world = record { frame = u.frame; content = sym content i }; reply = r; bytes = [] })
+forked w u place pid keep r buf alive is content =
+    answered w u place pid (op.Fork keep) r r u.frame buf alive is (λ i. record {
+      world = record { frame = u.frame; content = sym content i };
+      reply =
+          r;
+      bytes = [];
+    })
 
-pub exited : (w u : World) (place pid status : ℕ) (r : Reply) (buf : List ℕ) → lives w.frame pid ≡ true → exit pid w.frame ≡ Pass r u.frame → r ≡ reply.Done → u.content ≡ after_exit u.frame pid status (carried w.frame u.frame w.content) → Answers (step w place pid (op.Exit status)) u r buf buf
+pub exited : (w u : World) (place pid status : ℕ) (r : Reply) (buf : List ℕ) → lives w.frame pid ≡ true → exit pid w.frame ≡ Pass r u.frame → r ≡ reply.Done
+    → u.content ≡ after_exit u.frame pid status (carried w.frame u.frame w.content) → Answers (step w place pid (op.Exit status)) u r buf buf
 unfolding row answer exit_answer
 exited w u place pid status r buf alive is done content =
-    answered w u place pid (op.Exit status) reply.Done r u.frame buf alive (is ∙ ap (λ s. Pass s u.frame) done) (λ i. record { world = record { frame = u.frame; content = sym content i }; reply = sym done i; bytes = [] })
+    answered w u place pid (op.Exit status) reply.Done r u.frame buf alive (is ∙ ap (λ s. Pass s u.frame) done) (λ i. record {
+      world =
+          record { frame = u.frame; content = sym content i };
+      reply = sym done i;
+      bytes = [];
+    })
 
-pub waited : (w u : World) (place pid child status : ℕ) (buf : List ℕ) → lives w.frame pid ≡ true → wait_child pid w.frame ≡ Pass (wait_passed child) u.frame → status ≡ status_of w.content child → u.content ≡ carried w.frame u.frame w.content
+pub waited : (w u : World) (place pid child status : ℕ) (buf : List ℕ) → lives w.frame pid ≡ true → wait_child pid w.frame ≡ Pass (wait_passed child) u.frame
+    → status ≡ status_of w.content child → u.content ≡ carried w.frame u.frame w.content
     → Answers (step w place pid op.WaitChild) u (reply.Child (record { 0 = child }) status) buf buf
 unfolding row answer wait_answer plainly
 waited w u place pid child status buf alive is status_is content =
-    answered w u place pid op.WaitChild (wait_passed child) (reply.Child (record { 0 = child }) status) u.frame buf alive is (λ i. record { world = record { frame = u.frame; content = sym content i }; reply = reply.Child (record { 0 = child }) (sym status_is i); bytes = [] })
+    answered w u place pid op.WaitChild (wait_passed child) (reply.Child (record { 0 = child }) status) u.frame buf alive is (λ i. record {
+      world =
+          record { frame = u.frame; content = sym content i };
+      reply = reply.Child (record { 0 = child }) (sym status_is i);
+      bytes = [];
+    })
 
 pex_given : (w u : World) (b : Option OpenFile) (r : Reply) → u ≡ (pex_answer w b r u.frame).world → pex_answer w b r u.frame ≡ record { world = u; reply = r; bytes = [] }
 unfolding pex_answer plainly
 pex_given w u None r is = λ i. record { world = sym is i; reply = r; bytes = [] }
 pex_given w u (Some e) r is = λ i. record { world = sym is i; reply = r; bytes = [] }
 
-pub pexed : (w u : World) (place pid fd : ℕ) (r : Reply) (buf : List ℕ) → lives w.frame pid ≡ true → pex pid fd w.frame ≡ Pass r u.frame → u ≡ (pex_answer w (behind w.frame pid fd) r u.frame).world → Answers (step w place pid (op.Pex fd)) u r buf buf
+pub pexed : (w u : World) (place pid fd : ℕ) (r : Reply) (buf : List ℕ) → lives w.frame pid ≡ true → pex pid fd w.frame ≡ Pass r u.frame
+    → u ≡ (pex_answer w (behind w.frame pid fd) r u.frame).world → Answers (step w place pid (op.Pex fd)) u r buf buf
 unfolding row answer
 pexed w u place pid fd r buf alive is world = answered w u place pid (op.Pex fd) r r u.frame buf alive is (pex_given w u (behind w.frame pid fd) r world)
 
 -- ---- one of these calls that is refused
-refuses : (w u : World) (place pid : ℕ) (c : Op) (why : Refusal) (buf : List ℕ) → IsClean w → lives w.frame pid ≡ true → u ≡ w → row (told w pid c) place pid c w.frame ≡ Refuse why u.frame → Answers (step w place pid c) u (reply.No why) buf buf
+refuses : (w u : World) (place pid : ℕ) (c : Op) (why : Refusal) (buf : List ℕ) → IsClean w → lives w.frame pid ≡ true → u ≡ w
+    → row (told w pid c) place pid c w.frame ≡ Refuse why u.frame → Answers (step w place pid c) u (reply.No why) buf buf
 refuses w u place pid c why buf clean alive same is =
     subst (λ (v : World). Answers (step w place pid c) v (reply.No why) buf buf) (sym same) (refused_step w place pid c why buf clean alive (is ∙ ap (λ (v : World). Refuse why v.frame) same))
 
-pub fork_refused : (w u : World) (place pid : ℕ) (keep : Keep) (why : Refusal) (buf : List ℕ) → IsClean w → lives w.frame pid ≡ true → u ≡ w → fork pid keep w.frame ≡ Refuse why u.frame → Answers (step w place pid (op.Fork keep)) u (reply.No why) buf buf
+pub fork_refused : (w u : World) (place pid : ℕ) (keep : Keep) (why : Refusal) (buf : List ℕ) → IsClean w → lives w.frame pid ≡ true → u ≡ w
+    → fork pid keep w.frame ≡ Refuse why u.frame → Answers (step w place pid (op.Fork keep)) u (reply.No why) buf buf
 unfolding row
 fork_refused w u place pid keep why buf clean alive same is = refuses w u place pid (op.Fork keep) why buf clean alive same is
 
-pub exit_refused : (w u : World) (place pid status : ℕ) (why : Refusal) (buf : List ℕ) → IsClean w → lives w.frame pid ≡ true → u ≡ w → exit pid w.frame ≡ Refuse why u.frame → Answers (step w place pid (op.Exit status)) u (reply.No why) buf buf
+pub exit_refused : (w u : World) (place pid status : ℕ) (why : Refusal) (buf : List ℕ) → IsClean w → lives w.frame pid ≡ true → u ≡ w
+    → exit pid w.frame ≡ Refuse why u.frame → Answers (step w place pid (op.Exit status)) u (reply.No why) buf buf
 unfolding row
 exit_refused w u place pid status why buf clean alive same is = refuses w u place pid (op.Exit status) why buf clean alive same is
 
-pub wait_refused : (w u : World) (place pid : ℕ) (why : Refusal) (buf : List ℕ) → IsClean w → lives w.frame pid ≡ true → u ≡ w → wait_child pid w.frame ≡ Refuse why u.frame → Answers (step w place pid op.WaitChild) u (reply.No why) buf buf
+pub wait_refused : (w u : World) (place pid : ℕ) (why : Refusal) (buf : List ℕ) → IsClean w → lives w.frame pid ≡ true → u ≡ w
+    → wait_child pid w.frame ≡ Refuse why u.frame → Answers (step w place pid op.WaitChild) u (reply.No why) buf buf
 unfolding row
 wait_refused w u place pid why buf clean alive same is = refuses w u place pid op.WaitChild why buf clean alive same is
 
-pub pex_refused : (w u : World) (place pid fd : ℕ) (why : Refusal) (buf : List ℕ) → IsClean w → lives w.frame pid ≡ true → u ≡ w → pex pid fd w.frame ≡ Refuse why u.frame → Answers (step w place pid (op.Pex fd)) u (reply.No why) buf buf
+pub pex_refused : (w u : World) (place pid fd : ℕ) (why : Refusal) (buf : List ℕ) → IsClean w → lives w.frame pid ≡ true → u ≡ w
+    → pex pid fd w.frame ≡ Refuse why u.frame → Answers (step w place pid (op.Pex fd)) u (reply.No why) buf buf
 unfolding row
 pex_refused w u place pid fd why buf clean alive same is = refuses w u place pid (op.Pex fd) why buf clean alive same is

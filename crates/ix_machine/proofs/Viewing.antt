@@ -39,7 +39,8 @@ module _ (t : Parts) (p : ProcTable) (l : Lines) (w : World) (here : joined t p 
   views counted None low = refl
   views counted (Some e) low = ap Some (one_view counted e (low e refl))
 
-  pub view_is : (pid fd : ℕ) (c : Caller) (q : Process) (r : Option OpenView) → IsCounted t p.processes → living (at w.frame.processes pid) ≡ Some q → q.fds ≡ c.fds → r ≡ option_map (view_in t) (entry_of c fd t) → r ≡ option_map (view_through w) (behind w.frame pid fd)
+  pub view_is : (pid fd : ℕ) (c : Caller) (q : Process) (r : Option OpenView) → IsCounted t p.processes → living (at w.frame.processes pid) ≡ Some q
+      → q.fds ≡ c.fds → r ≡ option_map (view_in t) (entry_of c fd t) → r ≡ option_map (view_through w) (behind w.frame pid fd)
   view_is pid fd c q r counted is fds h =
       h ∙ ap (option_map (view_in t)) (behind_by t p l pid fd c q (ap (λ (v : World). living (at v.frame.processes pid)) here ∙ is) fds)
       ∙ views counted (behind (joined t p l).frame pid fd) (λ e there. in_table t.opens e.id e.entry (behind_is (joined t p l).frame pid fd e there))

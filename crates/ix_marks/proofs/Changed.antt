@@ -1,5 +1,6 @@
 -- Which descriptors are fresh after each call.
-use Rattle.std.proofs.Common.{◌≡◌, ◌==◌, ◌&&◌, ◌<◌, ◌≤◌, ◌+◌, ◌^◌, ◌⊎◌, ℕ, zero, suc, Bool, true, false, List, length, replicate, Option, Some, None, is_some, IsTrue, ◌↔◌, refl, sym, ap, ◌∙◌, subst, arith, inl, inr, get_or, set, if◌then◌else◌}
+use Rattle.std.proofs.Common.{◌≡◌, ◌==◌, ◌&&◌, ◌<◌, ◌≤◌, ◌+◌, ◌^◌, ◌⊎◌, ℕ, zero, suc, Bool, true, false, List, length, replicate, Option, Some, None}
+use Rattle.std.proofs.Common.{is_some, IsTrue, ◌↔◌, refl, sym, ap, ◌∙◌, subst, arith, inl, inr, get_or, set, if◌then◌else◌}
 use Rattle.std.proofs.lemmas.Bool.{and_parts, eqb-true, eq-eqb, ne_eqb}
 use Rattle.std.proofs.lemmas.Bool.Decides.{eqb_tells}
 use Rattle.std.proofs.lemmas.List.{get_or-set_same, get_or-set_other, length-replicate, get_or_read}
@@ -88,7 +89,8 @@ told g sum (Some x) s false h = go (x.0 == g && x.1 == sum) refl
         absurd (cc (h.1 (ap (λ (y : ℕ × ℕ). Some y) same)))
 
 -- ---- a row is written
-module _ (owners : RowOwners) (rows : List Row) (objects opens : List ℕ) (raised : ℕ) (old : AreKept owners rows objects opens raised) (v : Known) (shown : known owners rows objects opens raised ≡ v) (pid i : ℕ) (is : row_of pid owners.pids ≡ Some i) (r : Row) (read : r ≡ get_or rows i r) where
+module _ (owners : RowOwners) (rows : List Row) (objects opens : List ℕ) (raised : ℕ) (old : AreKept owners rows objects opens raised) (v : Known)
+    (shown : known owners rows objects opens raised ≡ v) (pid i : ℕ) (is : row_of pid owners.pids ≡ Some i) (r : Row) (read : r ≡ get_or rows i r) where
   abbrev low_i : i < length rows
   low_i = row_low owners rows objects opens raised old v shown pid i is
 
@@ -104,7 +106,8 @@ module _ (owners : RowOwners) (rows : List Row) (objects opens : List ℕ) (rais
   fresh_old : (d : ℕ) (w : Way) → fresh_in objects opens r.generation w (place_in r d) ≡ fresh_in objects opens (row_in rows i).generation w (place_in (row_in rows i) d)
   fresh_old d w = ap (λ x. fresh_in objects opens x.generation w (place_in x d)) is_old
 
-  pub fresh_told : (d : ℕ) (w : Way) (p : Place) → p ≡ place_in r d → (sum : ℕ) → sum ≡ sum_at objects opens (spot_in w p) → (b : Bool) → (IsTrue b ↔ last_set w p.mark ≡ Some (r.generation, sum)) → b ≡ is_some (spot_of v pid d w)
+  pub fresh_told : (d : ℕ) (w : Way) (p : Place) → p ≡ place_in r d → (sum : ℕ) → sum ≡ sum_at objects opens (spot_in w p) → (b : Bool)
+      → (IsTrue b ↔ last_set w p.mark ≡ Some (r.generation, sum)) → b ≡ is_some (spot_of v pid d w)
   fresh_told d w p p_is sum sum_is b h =
       told r.generation sum (last_set w p.mark) (spot_in w p) b h
       ∙ ap (λ n. is_some (still (r.generation, n) (last_set w p.mark) (spot_in w p))) sum_is
@@ -115,7 +118,8 @@ module _ (owners : RowOwners) (rows : List Row) (objects opens : List ℕ) (rais
 
   -- a descriptor is closed
   module _ (fd : ℕ) (r' : Row) (gen : r'.generation ≡ r.generation) (places : (d : ℕ) → place_in r' d ≡ (if d == fd then no_place else place_in r d)) where
-    clear_makes : (d : ℕ) (w : Way) → fresh_in objects opens r'.generation w (place_in r' d) ≡ (if d == fd then None else fresh_in objects opens (row_in rows i).generation w (place_in (row_in rows i) d))
+    clear_makes : (d : ℕ) (w : Way) → fresh_in objects opens r'.generation w (place_in r' d) ≡ (if d == fd then None else
+        fresh_in objects opens (row_in rows i).generation w (place_in (row_in rows i) d))
     clear_makes d w =
         ap (λ g. fresh_in objects opens g w (place_in r' d)) gen
         ∙ ap (fresh_in objects opens r.generation w) (places d)
@@ -123,7 +127,8 @@ module _ (owners : RowOwners) (rows : List Row) (objects opens : List ℕ) (rais
         ∙ ap (λ (o : Option Spot). if d == fd then None else o) (fresh_old d w)
 
     pub clear_spots : (q d : ℕ) (w : Way) → spot_of (known owners (set rows i r') objects opens raised) q d w ≡ (if q == pid && d == fd then None else spot_of v q d w)
-    clear_spots q d w = spots_written owners rows objects opens raised old v shown pid i is r' raised (λ d w o. if d == fd then None else o) clear_makes q d w ∙ merged (q == pid) (d == fd) None (spot_of v q d w)
+    clear_spots q d w = spots_written owners rows objects opens raised old v shown pid i is r' raised (λ d w o. if d == fd then None else o) clear_makes q d w
+        ∙ merged (q == pid) (d == fd) None (spot_of v q d w)
 
     clear_past : (d : ℕ) (w : Way) → IsPast objects opens r'.generation w (place_in r' d)
     clear_past d w = rw (gen, places d) (cleared_past objects opens r.generation (d == fd) w (place_in r d) (past d w))
@@ -132,24 +137,29 @@ module _ (owners : RowOwners) (rows : List Row) (objects opens : List ℕ) (rais
     clear_kept = kept_written owners owners refl rows objects opens raised old i low_i r' raised (omega arith) old.few (omega (arith, gen, low)) clear_past
 
   -- a mark is set
-  module _ (fd : ℕ) (way : Way) (s : Spot) (sum : ℕ) (sum_is : sum ≡ sum_at objects opens s) (r' : Row) (gen : r'.generation ≡ r.generation) (places : (d : ℕ) → place_in r' d ≡ (if d == fd then set_place way s (r.generation, sum) (place_in r fd) else place_in r d)) where
+  module _ (fd : ℕ) (way : Way) (s : Spot) (sum : ℕ) (sum_is : sum ≡ sum_at objects opens s) (r' : Row) (gen : r'.generation ≡ r.generation) (places : (d : ℕ)
+      → place_in r' d ≡ (if d == fd then set_place way s (r.generation, sum) (place_in r fd) else place_in r d)) where
     set_at : (d : ℕ) (b : Bool) → (d == fd) ≡ b → place_in r' d ≡ (if b then set_place way s (r.generation, sum_at objects opens s) (place_in r d) else place_in r d)
-    set_at d true e = places d ∙ rw e (ap (λ n. set_place way s (r.generation, n) (place_in r fd)) sum_is ∙ ap (λ k. set_place way s (r.generation, sum_at objects opens s) (place_in r k)) (sym (eqb-true d fd e)))
+    set_at d true e = places d ∙ rw e (ap (λ n. set_place way s (r.generation, n) (place_in r fd)) sum_is
+        ∙ ap (λ k. set_place way s (r.generation, sum_at objects opens s) (place_in r k)) (sym (eqb-true d fd e)))
     set_at d false e = places d ∙ rw e refl
 
-    set_makes : (d : ℕ) (w : Way) → fresh_in objects opens r'.generation w (place_in r' d) ≡ (if d == fd && same_way way w then Some s else fresh_in objects opens (row_in rows i).generation w (place_in (row_in rows i) d))
+    set_makes : (d : ℕ) (w : Way) → fresh_in objects opens r'.generation w (place_in r' d) ≡ (if d == fd && same_way way w then Some s else
+        fresh_in objects opens (row_in rows i).generation w (place_in (row_in rows i) d))
     set_makes d w =
         ap (λ g. fresh_in objects opens g w (place_in r' d)) gen
         ∙ ap (fresh_in objects opens r.generation w) (set_at d (d == fd) refl)
         ∙ go (d == fd)
         ∙ ap (λ (o : Option Spot). if d == fd && same_way way w then Some s else o) (fresh_old d w)
       where
-        go : (b : Bool) → fresh_in objects opens r.generation w (if b then set_place way s (r.generation, sum_at objects opens s) (place_in r d) else place_in r d) ≡ (if b && same_way way w then Some s else fresh_in objects opens r.generation w (place_in r d))
+        go : (b : Bool) → fresh_in objects opens r.generation w (if b then set_place way s (r.generation, sum_at objects opens s) (place_in r d) else
+            place_in r d) ≡ (if b && same_way way w then Some s else fresh_in objects opens r.generation w (place_in r d))
         go true = set_fresh objects opens r.generation way w s (place_in r d)
         go false = refl
 
     pub set_spots : (q d : ℕ) (w : Way) → spot_of (known owners (set rows i r') objects opens raised) q d w ≡ (if is_it pid fd way q d w then Some s else spot_of v q d w)
-    set_spots q d w = spots_written owners rows objects opens raised old v shown pid i is r' raised (λ d w o. if d == fd && same_way way w then Some s else o) set_makes q d w ∙ merged (q == pid) (d == fd && same_way way w) (Some s) (spot_of v q d w)
+    set_spots q d w = spots_written owners rows objects opens raised old v shown pid i is r' raised (λ d w o. if d == fd && same_way way w then Some s else
+        o) set_makes q d w ∙ merged (q == pid) (d == fd && same_way way w) (Some s) (spot_of v q d w)
 
     set_kept_past : (d : ℕ) (w : Way) → IsPast objects opens r'.generation w (place_in r' d)
     set_kept_past d w = rw (gen, set_at d (d == fd) refl) (go (d == fd))
@@ -165,11 +175,15 @@ module _ (owners : RowOwners) (rows : List Row) (objects opens : List ℕ) (rais
   pub raised_fits : raised < 2 ^ 62 → r.generation + 1 < 2 ^ 64
   raised_fits few = omega (arith, low, few)
 
-  pub process_spots : (q d : ℕ) (w : Way) → spot_of (known owners (set rows i (record { generation = r.generation + 1; places = r.places })) objects opens (raised + 1)) q d w ≡ (if q == pid then None else spot_of v q d w)
-  process_spots q d w = spots_written owners rows objects opens raised old v shown pid i is (record { generation = r.generation + 1; places = r.places }) (raised + 1) (λ d w o. None) (λ d w. raised_stale objects opens r.generation w (place_in r d) (past d w)) q d w
+  pub process_spots : (q d : ℕ) (w : Way)
+      → spot_of (known owners (set rows i (record { generation = r.generation + 1; places = r.places })) objects opens (raised + 1)) q d w ≡ (if q == pid then
+      None else spot_of v q d w)
+  process_spots q d w = spots_written owners rows objects opens raised old v shown pid i is (record { generation = r.generation + 1; places = r.places })
+      (raised + 1) (λ d w o. None) (λ d w. raised_stale objects opens r.generation w (place_in r d) (past d w)) q d w
 
   pub process_kept : raised < 2 ^ 62 → AreKept owners (set rows i (record { generation = r.generation + 1; places = r.places })) objects opens (raised + 1)
-  process_kept few = kept_written owners owners refl rows objects opens raised old i low_i (record { generation = r.generation + 1; places = r.places }) (raised + 1) (omega arith) (omega (arith, few)) (omega (arith, low)) (λ d w. raised_past objects opens r.generation w (place_in r d) (past d w))
+  process_kept few = kept_written owners owners refl rows objects opens raised old i low_i (record { generation = r.generation + 1; places = r.places })
+      (raised + 1) (omega arith) (omega (arith, few)) (omega (arith, low)) (λ d w. raised_past objects opens r.generation w (place_in r d) (past d w))
 
 -- ---- a process gets a row
 blank : {A : Type 0} (a : A) (n d : ℕ) → get_or (replicate n a) d a ≡ a
@@ -180,11 +194,14 @@ blank a (suc n) (suc d) = blank a n d
 empty_at : (d : ℕ) → place_in empty_row d ≡ no_place
 empty_at d = blank no_place 32 d
 
-module _ (owners owners' : RowOwners) (rows : List Row) (objects opens : List ℕ) (raised : ℕ) (old : AreKept owners rows objects opens raised) (v : Known) (shown : known owners rows objects opens raised ≡ v) (pid i : ℕ) (low_i : i < length rows) where
+module _ (owners owners' : RowOwners) (rows : List Row) (objects opens : List ℕ) (raised : ℕ) (old : AreKept owners rows objects opens raised) (v : Known)
+    (shown : known owners rows objects opens raised ≡ v) (pid i : ℕ) (low_i : i < length rows) where
   pub take_kept : length owners'.pids ≡ length owners.pids → AreKept owners' (set rows i empty_row) objects opens raised
-  take_kept as_many = kept_written owners owners' as_many rows objects opens raised old i low_i empty_row raised (omega arith) old.few (omega arith) (λ d w. subst (IsPast objects opens 0 w) (sym (empty_at d)) (never_past objects opens 0 w))
+  take_kept as_many = kept_written owners owners' as_many rows objects opens raised old i low_i empty_row raised (omega arith) old.few (omega arith)
+      (λ d w. subst (IsPast objects opens 0 w) (sym (empty_at d)) (never_past objects opens 0 w))
 
-  module _ (none : row_of pid owners.pids ≡ None) (unused : (q : ℕ) → row_of q owners.pids ≡ Some i → ⊥) (taken : (q : ℕ) → row_of q owners'.pids ≡ (if q == pid then Some i else row_of q owners.pids)) where
+  module _ (none : row_of pid owners.pids ≡ None) (unused : (q : ℕ) → row_of q owners.pids ≡ Some i → ⊥) (taken : (q : ℕ)
+      → row_of q owners'.pids ≡ (if q == pid then Some i else row_of q owners.pids)) where
     here : (d : ℕ) (w : Way) → fresh_at (set rows i empty_row) objects opens (Some i) d w ≡ None
     here d w =
         ap (λ (x : Row). fresh_in objects opens x.generation w (place_in x d)) (get_or-set_same rows i empty_row no_row low_i)
@@ -195,16 +212,20 @@ module _ (owners owners' : RowOwners) (rows : List Row) (objects opens : List �
     there q d w (Some j) h = ap (λ (x : Row). fresh_in objects opens x.generation w (place_in x d)) (get_or-set_other rows i j empty_row no_row (λ e. unused q (h ∙ ap (λ k. Some k) e)))
 
     pub take_spots : (q d : ℕ) (w : Way) → spot_of (known owners' (set rows i empty_row) objects opens raised) q d w ≡ spot_of v q d w
-    take_spots q d w = spot_is owners' (set rows i empty_row) objects opens raised q d w ∙ ap (λ o. fresh_at (set rows i empty_row) objects opens o d w) (taken q) ∙ go (eqb_tells q pid) ∙ sym (spot_was owners rows objects opens raised old v shown q d w)
+    take_spots q d w = spot_is owners' (set rows i empty_row) objects opens raised q d w
+        ∙ ap (λ o. fresh_at (set rows i empty_row) objects opens o d w) (taken q) ∙ go (eqb_tells q pid)
+        ∙ sym (spot_was owners rows objects opens raised old v shown q d w)
       where
-        go : (((q == pid) ≡ true) × (q ≡ pid)) ⊎ (((q == pid) ≡ false) × (q ≡ pid → ⊥)) → fresh_at (set rows i empty_row) objects opens (if q == pid then Some i else row_of q owners.pids) d w ≡ fresh_at rows objects opens (row_of q owners.pids) d w
+        go : (((q == pid) ≡ true) × (q ≡ pid)) ⊎ (((q == pid) ≡ false) × (q ≡ pid → ⊥)) → fresh_at (set rows i empty_row) objects opens (if q == pid then Some i
+            else row_of q owners.pids) d w ≡ fresh_at rows objects opens (row_of q owners.pids) d w
         go (inl same) =
             let gone : row_of q owners.pids ≡ None = ap (λ k. row_of k owners.pids) same.1 ∙ none in
             rw (same.0, gone) (here d w)
         go (inr other) = rw other.0 (there q d w (row_of q owners.pids) refl)
 
 -- ---- the label of an object or of an open entry has changed
-still_unless : (test : Spot → Bool) (g sum sum' : ℕ) (last : Option (ℕ × ℕ)) (s : Spot) → ((h : ℕ × ℕ) → last ≡ Some h → h.1 ≤ sum) → (test s ≡ true → sum' ≡ sum + 1) → (test s ≡ false → sum' ≡ sum) → still (g, sum') last s ≡ unless test (still (g, sum) last s)
+still_unless : (test : Spot → Bool) (g sum sum' : ℕ) (last : Option (ℕ × ℕ)) (s : Spot) → ((h : ℕ × ℕ) → last ≡ Some h → h.1 ≤ sum)
+    → (test s ≡ true → sum' ≡ sum + 1) → (test s ≡ false → sum' ≡ sum) → still (g, sum') last s ≡ unless test (still (g, sum) last s)
 still_unless test g sum sum' None s low up stays = refl
 still_unless test g sum sum' (Some h) s low up stays = go (test s) refl
   where
@@ -227,18 +248,24 @@ still_unless test g sum sum' (Some h) s low up stays = go (test s) refl
         rw (above, no_and (h.0 == g)) (passed (h.0 == g && h.1 == sum) is)
     go false is = rw (stays is) (failed (h.0 == g && h.1 == sum) is)
 
-module _ (owners : RowOwners) (rows : List Row) (objects opens : List ℕ) (raised : ℕ) (old : AreKept owners rows objects opens raised) (v : Known) (shown : known owners rows objects opens raised ≡ v) (raised' : ℕ) where
-  unless_at : (objects' opens' : List ℕ) (test : Spot → Bool) → ((s : Spot) → (test s ≡ true → sum_at objects' opens' s ≡ sum_at objects opens s + 1) × (test s ≡ false → sum_at objects' opens' s ≡ sum_at objects opens s)) → (q d : ℕ) (w : Way) → spot_of (known owners rows objects' opens' raised') q d w ≡ unless test (spot_of v q d w)
-  unless_at objects' opens' test sums q d w = spot_is owners rows objects' opens' raised' q d w ∙ go (row_of q owners.pids) ∙ ap (unless test) (sym (spot_was owners rows objects opens raised old v shown q d w))
+module _ (owners : RowOwners) (rows : List Row) (objects opens : List ℕ) (raised : ℕ) (old : AreKept owners rows objects opens raised) (v : Known)
+    (shown : known owners rows objects opens raised ≡ v) (raised' : ℕ) where
+  unless_at : (objects' opens' : List ℕ) (test : Spot → Bool) → ((s : Spot) → (test s ≡ true → sum_at objects' opens' s ≡ sum_at objects opens s + 1)
+      × (test s ≡ false → sum_at objects' opens' s ≡ sum_at objects opens s)) → (q d : ℕ) (w : Way) → spot_of (known owners rows objects' opens' raised') q d w
+      ≡ unless test (spot_of v q d w)
+  unless_at objects' opens' test sums q d w = spot_is owners rows objects' opens' raised' q d w ∙ go (row_of q owners.pids)
+      ∙ ap (unless test) (sym (spot_was owners rows objects opens raised old v shown q d w))
     where
       go : (o : Option ℕ) → fresh_at rows objects' opens' o d w ≡ unless test (fresh_at rows objects opens o d w)
       go None = refl
       go (Some i) =
           let p : Place = place_in (row_in rows i) d in
           let both = sums (spot_in w p) in
-          still_unless test (row_in rows i).generation (sum_at objects opens (spot_in w p)) (sum_at objects' opens' (spot_in w p)) (last_set w p.mark) (spot_in w p) (λ h e. (old.past i d w h e).1) both.0 both.1
+          still_unless test (row_in rows i).generation (sum_at objects opens (spot_in w p)) (sum_at objects' opens' (spot_in w p)) (last_set w p.mark)
+          (spot_in w p) (λ h e. (old.past i d w h e).1) both.0 both.1
 
-  raised_at : (xs : List ℕ) (o x k : ℕ) → o < length xs → x ≡ get_or xs o x → ((k == o) ≡ true → generation_at (set xs o (x + 1)) k ≡ generation_at xs k + 1) × ((k == o) ≡ false → generation_at (set xs o (x + 1)) k ≡ generation_at xs k)
+  raised_at : (xs : List ℕ) (o x k : ℕ) → o < length xs → x ≡ get_or xs o x → ((k == o) ≡ true → generation_at (set xs o (x + 1)) k ≡ generation_at xs k + 1)
+      × ((k == o) ≡ false → generation_at (set xs o (x + 1)) k ≡ generation_at xs k)
   raised_at xs o x k low read = (up, stays)
     where
       up : (k == o) ≡ true → generation_at (set xs o (x + 1)) k ≡ generation_at xs k + 1
@@ -251,11 +278,15 @@ module _ (owners : RowOwners) (rows : List Row) (objects opens : List ℕ) (rais
       stays : (k == o) ≡ false → generation_at (set xs o (x + 1)) k ≡ generation_at xs k
       stays is = get_or-set_other xs o k (x + 1) 0 (λ e. cc (is, eq-eqb o o refl, ap (λ n. n == o) e))
 
-  pub object_spots : (o x : ℕ) → o < length objects → x ≡ get_or objects o x → (q d : ℕ) (w : Way) → spot_of (known owners rows (set objects o (x + 1)) opens raised') q d w ≡ unless (on_object o) (spot_of v q d w)
-  object_spots o x low read = unless_at (set objects o (x + 1)) opens (on_object o) (λ s. (let both = raised_at objects o x s.object low read in (λ is. omega (arith, both.0 is), λ is. omega (arith, both.1 is))))
+  pub object_spots : (o x : ℕ) → o < length objects → x ≡ get_or objects o x → (q d : ℕ) (w : Way)
+      → spot_of (known owners rows (set objects o (x + 1)) opens raised') q d w ≡ unless (on_object o) (spot_of v q d w)
+  object_spots o x low read = unless_at (set objects o (x + 1)) opens (on_object o) (λ s. (let both = raised_at objects o x s.object low read in
+      (λ is. omega (arith, both.0 is), λ is. omega (arith, both.1 is))))
 
-  pub entry_spots : (e x : ℕ) → e < length opens → x ≡ get_or opens e x → (q d : ℕ) (w : Way) → spot_of (known owners rows objects (set opens e (x + 1)) raised') q d w ≡ unless (on_entry e) (spot_of v q d w)
-  entry_spots e x low read = unless_at objects (set opens e (x + 1)) (on_entry e) (λ s. (let both = raised_at opens e x s.entry low read in (λ is. omega (arith, both.0 is), λ is. omega (arith, both.1 is))))
+  pub entry_spots : (e x : ℕ) → e < length opens → x ≡ get_or opens e x → (q d : ℕ) (w : Way)
+      → spot_of (known owners rows objects (set opens e (x + 1)) raised') q d w ≡ unless (on_entry e) (spot_of v q d w)
+  entry_spots e x low read = unless_at objects (set opens e (x + 1)) (on_entry e) (λ s. (let both = raised_at opens e x s.entry low read in
+      (λ is. omega (arith, both.0 is), λ is. omega (arith, both.1 is))))
 
 -- ---- none is fresh yet
 pub no_row_of : (q n : ℕ) → row_of q (replicate n None) ≡ None
@@ -274,12 +305,14 @@ zero_at (suc n) (suc i) = zero_at n i
 pub none_kept : (n a b : ℕ) → AreKept (record { pids = replicate n None; free = n }) (replicate n empty_row) (replicate a 0) (replicate b 0) 0
 none_kept n a b = record {
   enough = length-replicate n empty_row ∙ sym (length-replicate n None);
-  past = λ i d w. subst (IsPast (replicate a 0) (replicate b 0) (row_in (replicate n empty_row) i).generation w) (sym (none_at n i d)) (never_past (replicate a 0) (replicate b 0) (row_in (replicate n empty_row) i).generation w);
+  past = λ i d w. subst (IsPast (replicate a 0) (replicate b 0) (row_in (replicate n empty_row) i).generation w) (sym (none_at n i d))
+      (never_past (replicate a 0) (replicate b 0) (row_in (replicate n empty_row) i).generation w);
   rows_low = λ i. omega (arith, zero_at n i);
   objects_low = λ o. omega (arith, blank {A = ℕ} 0 a o);
   opens_low = λ e. omega (arith, blank {A = ℕ} 0 b e);
   few = omega arith;
 }
 
-pub none_spots : (owners : RowOwners) (n : ℕ) (rows : List Row) (objects opens : List ℕ) → owners ≡ record { pids = replicate n None; free = n } → (q d : ℕ) (w : Way) → spot_of (known owners rows objects opens 0) q d w ≡ None
+pub none_spots : (owners : RowOwners) (n : ℕ) (rows : List Row) (objects opens : List ℕ) → owners ≡ record { pids = replicate n None; free = n }
+    → (q d : ℕ) (w : Way) → spot_of (known owners rows objects opens 0) q d w ≡ None
 none_spots owners n rows objects opens is q d w = spot_is owners rows objects opens 0 q d w ∙ ap (λ o. fresh_at rows objects opens o d w) (ap (λ (s : RowOwners). row_of q s.pids) is ∙ no_row_of q n)

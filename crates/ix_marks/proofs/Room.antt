@@ -27,7 +27,8 @@ module _ {A : Type 0} where
   some_there table q h = omega (arith, one_fewer table q h)
 
   -- different numbers that stand in a table, and one more that does, are no more than the table has
-  fewer : (xs : List (Option ℕ)) (table : List (Option A)) (p : ℕ) → AreDifferent xs → ((i q : ℕ) → pid_at xs i ≡ Some q → stands table q ≡ true) → stands table p ≡ true → ((i : ℕ) → pid_at xs i ≡ Some p → ⊥) → count_by is_some xs < count_by is_some table
+  fewer : (xs : List (Option ℕ)) (table : List (Option A)) (p : ℕ) → AreDifferent xs → ((i q : ℕ) → pid_at xs i ≡ Some q → stands table q ≡ true)
+      → stands table p ≡ true → ((i : ℕ) → pid_at xs i ≡ Some p → ⊥) → count_by is_some xs < count_by is_some table
   fewer [] table p different all here absent = some_there table p here
   fewer (None ∷ xs) table p different all here absent = fewer xs table p (later None xs different) (λ i q h. all (suc i) q h) here (λ i h. absent (suc i) h)
   fewer (Some n ∷ xs) table p different all here absent =
@@ -40,6 +41,8 @@ module _ {A : Type 0} where
       kept : (i q : ℕ) → pid_at xs i ≡ Some q → stands (set table n None) q ≡ true
       kept i q h = stays q (all (suc i) q h) (λ e. (let twice = different 0 (suc i) n refl (h ∙ ap (λ k. Some k) e) in omega (arith, twice)))
 
-  pub room : (xs : List (Option ℕ)) (free rows : ℕ) → AreDifferent xs → free + count_by is_some xs ≡ length xs → length xs ≡ rows → (table : List (Option A)) (p : ℕ) → count_by is_some table ≤ rows → ((q : ℕ) → is_some (row_of q xs) ≡ true → is_some (get_or table q None) ≡ true) → is_some (get_or table p None) ≡ true → is_some (row_of p xs) ≡ false → 0 < free
+  pub room : (xs : List (Option ℕ)) (free rows : ℕ) → AreDifferent xs → free + count_by is_some xs ≡ length xs → length xs ≡ rows
+      → (table : List (Option A)) (p : ℕ) → count_by is_some table ≤ rows → ((q : ℕ) → is_some (row_of q xs) ≡ true → is_some (get_or table q None) ≡ true)
+      → is_some (get_or table p None) ≡ true → is_some (row_of p xs) ≡ false → 0 < free
   room xs free rows different spare wide table p few all here none =
       omega (arith, spare, wide, few, fewer xs table p different (λ i q h. all q (ap is_some (row_is xs different q i h))) here (λ i h. cc (none, ap is_some (row_is xs different p i h))))

@@ -98,7 +98,8 @@ module _ (xs : List (Option ℕ)) (i : ℕ) (x : Option ℕ) (low : i < length x
       seen : (q : ℕ) → pid_at (set xs i x) i ≡ Some q → p ≡ q
       seen q at = same_Some p q (sym is ∙ sym here ∙ at)
 
-      go : (j k q : ℕ) → pid_at (set xs i x) j ≡ Some q → pid_at (set xs i x) k ≡ Some q → (((j == i) ≡ true) × (j ≡ i)) ⊎ (((j == i) ≡ false) × (j ≡ i → ⊥)) → (((k == i) ≡ true) × (k ≡ i)) ⊎ (((k == i) ≡ false) × (k ≡ i → ⊥)) → j ≡ k
+      go : (j k q : ℕ) → pid_at (set xs i x) j ≡ Some q → pid_at (set xs i x) k ≡ Some q → (((j == i) ≡ true) × (j ≡ i)) ⊎ (((j == i) ≡ false) × (j ≡ i → ⊥))
+          → (((k == i) ≡ true) × (k ≡ i)) ⊎ (((k == i) ≡ false) × (k ≡ i → ⊥)) → j ≡ k
       go j k q at_j at_k (inl a) (inl b) = a.1 ∙ sym b.1
       go j k q at_j at_k (inl a) (inr b) = absurd (row_none p xs k none (sym (there k b.1) ∙ at_k ∙ ap (λ n. Some n) (sym (seen q (ap (pid_at (set xs i x)) (sym a.1) ∙ at_j)))))
       go j k q at_j at_k (inr a) (inl b) = absurd (row_none p xs j none (sym (there j a.1) ∙ at_j ∙ ap (λ n. Some n) (sym (seen q (ap (pid_at (set xs i x)) (sym b.1) ∙ at_k)))))

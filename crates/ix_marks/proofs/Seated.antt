@@ -1,5 +1,7 @@
 -- The rows stay seated in the buckets of their pids where one is taken and where one is left.
-use Rattle.std.proofs.Common.{◌≡◌, ◌==◌, ◌<◌, ◌%◌, ◌⊎◌, ◌||◌, ℕ, Bool, true, false, List, [], ◌∷◌, ◌++◌, length, find, Option, Some, None, replicate, zero, suc, refl, sym, ap, ◌∙◌, subst, arith, inl, inr, get_or, set, slice_get, if◌then◌else◌, cond, is_some, count_by, ◌+◌}
+use Rattle.std.proofs.Common.{◌≡◌, ◌==◌, ◌<◌, ◌%◌, ◌⊎◌, ◌||◌, ℕ, Bool, true, false, List, [], ◌∷◌, ◌++◌, length, find, Option, Some, None, replicate}
+use Rattle.std.proofs.Common.{zero, suc, refl, sym, ap, ◌∙◌, subst, arith, inl, inr, get_or, set, slice_get, if◌then◌else◌, cond, is_some, count_by}
+use Rattle.std.proofs.Common.{◌+◌}
 use Rattle.std.specs.List.{Contains}
 use Rattle.std.specs.Option.{option_map_or}
 use Rattle.std.proofs.lemmas.Bool.{eqb-true, eq-eqb, ne_eqb}
@@ -68,7 +70,8 @@ module _ (width : ℕ) (pids : List (Option ℕ)) (chains : List (List ℕ)) (p 
   not_home : (xs : List ℕ) (c j : ℕ) → (c ≡ home → ⊥) → stands_in (set chains home xs) c j ≡ stands_in chains c j
   not_home xs c j other = ap (member j) (get_or-set_other chains home c xs [] other)
 
-  pub filed_more : i < length pids → ((c : ℕ) → stands_in chains c i ≡ false) → p % width < length chains → Filed width chains pids → Filed width (set chains (p % width) (get_or chains (p % width) [] ++ i ∷ [])) (set pids i (Some p))
+  pub filed_more : i < length pids → ((c : ℕ) → stands_in chains c i ≡ false) → p % width < length chains → Filed width chains pids
+      → Filed width (set chains (p % width) (get_or chains (p % width) [] ++ i ∷ [])) (set pids i (Some p))
   unfolding home
   filed_more low_i unused low old c j = go (eqb_tells c home) (eqb_tells i j)
     where
@@ -81,17 +84,20 @@ module _ (width : ℕ) (pids : List (Option ℕ)) (chains : List (List ℕ)) (p 
       go : Tells c home → Tells i j → stands_in (set chains home ones) c j ≡ option_map_or (λ q. q % width == c) (pid_at (set pids i (Some p)) j) false
       go (inl a) (inl b) =
           let left : stands_in (set chains home ones) c j ≡ true = ap (λ k. stands_in (set chains home ones) k j) a.1 ∙ here j ∙ rw b.0 (or-true (stands_in chains home j)) in
-          let right : option_map_or (λ q. q % width == c) (pid_at (set pids i (Some p)) j) false ≡ true = taken_says c _ (ap (pid_at (set pids i (Some p))) (sym b.1) ∙ at_i low_i (Some p)) ∙ rw a.1 (eq-eqb home home refl) in
+          let right : option_map_or (λ q. q % width == c) (pid_at (set pids i (Some p)) j) false ≡ true =
+          taken_says c _ (ap (pid_at (set pids i (Some p))) (sym b.1) ∙ at_i low_i (Some p)) ∙ rw a.1 (eq-eqb home home refl) in
           left ∙ sym right
       go (inl a) (inr b) =
           let left : stands_in (set chains home ones) c j ≡ stands_in chains home j = ap (λ k. stands_in (set chains home ones) k j) a.1 ∙ here j ∙ rw b.0 (or-false (stands_in chains home j)) in
           left ∙ ap (λ k. stands_in chains k j) (sym a.1) ∙ old c j ∙ rw (not_at_i low_i (Some p) j b.1) refl
       go (inr a) (inl b) =
-          let right : option_map_or (λ q. q % width == c) (pid_at (set pids i (Some p)) j) false ≡ false = taken_says c _ (ap (pid_at (set pids i (Some p))) (sym b.1) ∙ at_i low_i (Some p)) ∙ ne_eqb home c (λ h. a.1 (sym h)) in
+          let right : option_map_or (λ q. q % width == c) (pid_at (set pids i (Some p)) j) false ≡ false =
+          taken_says c _ (ap (pid_at (set pids i (Some p))) (sym b.1) ∙ at_i low_i (Some p)) ∙ ne_eqb home c (λ h. a.1 (sym h)) in
           not_home ones c j a.1 ∙ ap (stands_in chains c) (sym b.1) ∙ unused c ∙ sym right
       go (inr a) (inr b) = not_home ones c j a.1 ∙ old c j ∙ rw (not_at_i low_i (Some p) j b.1) refl
 
-  pub filed_fewer : i < length pids → pid_at pids i ≡ Some p → p % width < length chains → Filed width chains pids → Filed width (set chains (p % width) (dropped i (get_or chains (p % width) []))) (set pids i None)
+  pub filed_fewer : i < length pids → pid_at pids i ≡ Some p → p % width < length chains → Filed width chains pids
+      → Filed width (set chains (p % width) (dropped i (get_or chains (p % width) []))) (set pids i None)
   unfolding home
   filed_fewer low_i is low old c j = go (eqb_tells c home) (eqb_tells i j)
     where
@@ -103,10 +109,12 @@ module _ (width : ℕ) (pids : List (Option ℕ)) (chains : List (List ℕ)) (p 
 
       go : Tells c home → Tells i j → stands_in (set chains home ones) c j ≡ option_map_or (λ q. q % width == c) (pid_at (set pids i None) j) false
       go (inl a) (inl b) =
-          let left : stands_in (set chains home ones) c j ≡ false = ap (λ k. stands_in (set chains home ones) k j) a.1 ∙ in_home ones j low ∙ ap (λ k. member k ones) (sym b.1) ∙ member-dropped_same i (get_or chains home []) in
+          let left : stands_in (set chains home ones) c j ≡ false = ap (λ k. stands_in (set chains home ones) k j) a.1 ∙ in_home ones j low
+          ∙ ap (λ k. member k ones) (sym b.1) ∙ member-dropped_same i (get_or chains home []) in
           left ∙ sym (right b.1)
       go (inl a) (inr b) =
-          let left : stands_in (set chains home ones) c j ≡ stands_in chains home j = ap (λ k. stands_in (set chains home ones) k j) a.1 ∙ in_home ones j low ∙ member-dropped_other i j (get_or chains home []) (λ h. b.1 (sym h)) in
+          let left : stands_in (set chains home ones) c j ≡ stands_in chains home j = ap (λ k. stands_in (set chains home ones) k j) a.1 ∙ in_home ones j low
+          ∙ member-dropped_other i j (get_or chains home []) (λ h. b.1 (sym h)) in
           left ∙ ap (λ k. stands_in chains k j) (sym a.1) ∙ old c j ∙ rw (not_at_i low_i None j b.1) refl
       go (inr a) (inl b) =
           let left : stands_in chains c j ≡ false = ap (stands_in chains c) (sym b.1) ∙ old c i ∙ taken_says c _ is ∙ ne_eqb home c (λ h. a.1 (sym h)) in

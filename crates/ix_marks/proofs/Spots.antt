@@ -30,11 +30,13 @@ shown_at rows objects opens (Some i) d w =
     ∙ ap (for_way w) (get_or-map (shown_place objects opens (row_in rows i).generation) (row_in rows i).places d no_place)
     ∙ by_way objects opens (row_in rows i).generation (place_in (row_in rows i) d) w
 
-pub spot_is : (owners : RowOwners) (rows : List Row) (objects opens : List ℕ) (raised : ℕ) (q d : ℕ) (w : Way) → spot_of (known owners rows objects opens raised) q d w ≡ fresh_at rows objects opens (row_of q owners.pids) d w
+pub spot_is : (owners : RowOwners) (rows : List Row) (objects opens : List ℕ) (raised : ℕ) (q d : ℕ) (w : Way)
+    → spot_of (known owners rows objects opens raised) q d w ≡ fresh_at rows objects opens (row_of q owners.pids) d w
 spot_is owners rows objects opens raised q d w = shown_at rows objects opens (row_of q owners.pids) d w
 
 -- ---- a row is written
-module _ (owners : RowOwners) (rows : List Row) (objects opens : List ℕ) (raised : ℕ) (old : AreKept owners rows objects opens raised) (v : Known) (shown : known owners rows objects opens raised ≡ v) where
+module _ (owners : RowOwners) (rows : List Row) (objects opens : List ℕ) (raised : ℕ) (old : AreKept owners rows objects opens raised) (v : Known)
+    (shown : known owners rows objects opens raised ≡ v) where
   pub spot_was : (q d : ℕ) (w : Way) → spot_of v q d w ≡ fresh_at rows objects opens (row_of q owners.pids) d w
   spot_was q d w = ap (λ k. spot_of k q d w) (sym shown) ∙ spot_is owners rows objects opens raised q d w
 
@@ -54,13 +56,17 @@ module _ (owners : RowOwners) (rows : List Row) (objects opens : List ℕ) (rais
         go (Some j) h = ap (λ (x : Row). fresh_in objects opens x.generation w (place_in x d)) (get_or-set_other rows i j r no_row (λ e. other (apart owners.pids q pid i (h ∙ ap (λ k. Some k) e) is)))
 
     -- the descriptors of its process become what f makes of them, and all others stay
-    pub spots_written : (r : Row) (raised' : ℕ) (f : ℕ → Way → Option Spot → Option Spot) → ((d : ℕ) (w : Way) → fresh_in objects opens r.generation w (place_in r d) ≡ f d w (fresh_in objects opens (row_in rows i).generation w (place_in (row_in rows i) d))) → (q d : ℕ) (w : Way) → spot_of (known owners (set rows i r) objects opens raised') q d w ≡ (if q == pid then f d w (spot_of v q d w) else spot_of v q d w)
+    pub spots_written : (r : Row) (raised' : ℕ) (f : ℕ → Way → Option Spot → Option Spot)
+        → ((d : ℕ) (w : Way) → fresh_in objects opens r.generation w (place_in r d)
+        ≡ f d w (fresh_in objects opens (row_in rows i).generation w (place_in (row_in rows i) d))) → (q d : ℕ) (w : Way)
+        → spot_of (known owners (set rows i r) objects opens raised') q d w ≡ (if q == pid then f d w (spot_of v q d w) else spot_of v q d w)
     spots_written r raised' f makes q d w = spot_is owners (set rows i r) objects opens raised' q d w ∙ go (eqb_tells q pid)
       where
         row : row_in (set rows i r) i ≡ r
         row = get_or-set_same rows i r no_row row_low
 
-        go : (((q == pid) ≡ true) × (q ≡ pid)) ⊎ (((q == pid) ≡ false) × (q ≡ pid → ⊥)) → fresh_at (set rows i r) objects opens (row_of q owners.pids) d w ≡ (if q == pid then f d w (spot_of v q d w) else spot_of v q d w)
+        go : (((q == pid) ≡ true) × (q ≡ pid)) ⊎ (((q == pid) ≡ false) × (q ≡ pid → ⊥)) → fresh_at (set rows i r) objects opens (row_of q owners.pids) d w
+            ≡ (if q == pid then f d w (spot_of v q d w) else spot_of v q d w)
         go (inl same) =
             let here : row_of q owners.pids ≡ Some i = ap (λ k. row_of k owners.pids) same.1 ∙ is in
             rw same.0 (
@@ -71,8 +77,10 @@ module _ (owners : RowOwners) (rows : List Row) (objects opens : List ℕ) (rais
         go (inr other) = rw other.0 (elsewhere r q d w other.1 ∙ sym (spot_was q d w))
 
 -- the code keeps what it does
-module _ (owners owners' : RowOwners) (as_many : length owners'.pids ≡ length owners.pids) (rows : List Row) (objects opens : List ℕ) (raised : ℕ) (old : AreKept owners rows objects opens raised) (i : ℕ) (low_i : i < length rows) where
-  pub kept_written : (r : Row) (raised' : ℕ) → raised ≤ raised' → raised' ≤ 2 ^ 62 → r.generation ≤ raised' → ((d : ℕ) (w : Way) → IsPast objects opens r.generation w (place_in r d)) → AreKept owners' (set rows i r) objects opens raised'
+module _ (owners owners' : RowOwners) (as_many : length owners'.pids ≡ length owners.pids) (rows : List Row) (objects opens : List ℕ) (raised : ℕ)
+    (old : AreKept owners rows objects opens raised) (i : ℕ) (low_i : i < length rows) where
+  pub kept_written : (r : Row) (raised' : ℕ) → raised ≤ raised' → raised' ≤ 2 ^ 62 → r.generation ≤ raised'
+      → ((d : ℕ) (w : Way) → IsPast objects opens r.generation w (place_in r d)) → AreKept owners' (set rows i r) objects opens raised'
   kept_written r raised' more few low past = record {
     enough = length-set rows i r ∙ old.enough ∙ sym as_many;
     past = λ j d w. at_row j d w (eqb_tells j i);
@@ -88,7 +96,8 @@ module _ (owners owners' : RowOwners) (as_many : length owners'.pids ≡ length 
       there : (j : ℕ) → (j ≡ i → ⊥) → row_in (set rows i r) j ≡ row_in rows j
       there j other = get_or-set_other rows i j r no_row other
 
-      at_row : (j d : ℕ) (w : Way) → (((j == i) ≡ true) × (j ≡ i)) ⊎ (((j == i) ≡ false) × (j ≡ i → ⊥)) → IsPast objects opens (row_in (set rows i r) j).generation w (place_in (row_in (set rows i r) j) d)
+      at_row : (j d : ℕ) (w : Way) → (((j == i) ≡ true) × (j ≡ i)) ⊎ (((j == i) ≡ false) × (j ≡ i → ⊥))
+          → IsPast objects opens (row_in (set rows i r) j).generation w (place_in (row_in (set rows i r) j) d)
       at_row j d w (inl same) = let is_r : row_in (set rows i r) j ≡ r = ap (row_in (set rows i r)) same.1 ∙ here in rw is_r (past d w)
       at_row j d w (inr other) = rw (there j other.1) (old.past j d w)
 

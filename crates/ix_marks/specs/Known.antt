@@ -92,7 +92,13 @@ abbrev pub shown_row : List ℕ → List ℕ → Row → List Spots
 shown_row objects opens r = map (shown_place objects opens r.generation) r.places
 
 abbrev pub known : RowOwners → List Row → List ℕ → List ℕ → ℕ → Known
-known owners rows objects opens raised = record { owners = owners; rows = map (shown_row objects opens) rows; sizes = record { rows = length owners.pids; objects = length objects; opens = length opens }; raised = raised }
+known owners rows objects opens raised = record {
+  owners = owners;
+  rows = map (shown_row objects opens) rows;
+  sizes =
+      record { rows = length owners.pids; objects = length objects; opens = length opens };
+  raised = raised;
+}
 
 -- a mark was set with generations that are no greater than those of now
 abbrev pub IsPast : List ℕ → List ℕ → ℕ → Way → Place → Type 0

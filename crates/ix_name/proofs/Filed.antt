@@ -65,16 +65,21 @@ module _ (es : List (Option Entry)) (chains : List (List ℕ)) (d i : ℕ) (e : 
   unfolding new
   filed_more chain_of its low old = record { filed = λ c j. go c j (eqb_tells c d) (eqb_tells i j) }
     where
-      go : (c j : ℕ) → (((c == d) ≡ true) × (c ≡ d)) ⊎ (((c == d) ≡ false) × (c ≡ d → ⊥)) → (((i == j) ≡ true) × (i ≡ j)) ⊎ (((i == j) ≡ false) × (i ≡ j → ⊥)) → stands_in new c j ≡ option_map_or (λ x. chain_of x == c) (entry_at (set es i (Some e)) j) false
+      go : (c j : ℕ) → (((c == d) ≡ true) × (c ≡ d)) ⊎ (((c == d) ≡ false) × (c ≡ d → ⊥)) → (((i == j) ≡ true) × (i ≡ j)) ⊎ (((i == j) ≡ false) × (i ≡ j → ⊥))
+          → stands_in new c j ≡ option_map_or (λ x. chain_of x == c) (entry_at (set es i (Some e)) j) false
       go c j (inl at_d) (inl at_i) =
           let left : stands_in new c j ≡ true = ap (λ k. stands_in new k j) at_d.1 ∙ here_more j low ∙ rw at_i.0 (or-true (stands_in chains d j)) in
-          let right : option_map_or (λ x. chain_of x == c) (entry_at (set es i (Some e)) j) false ≡ true = ap (λ k. option_map_or (λ x. chain_of x == c) (entry_at (set es i (Some e)) k) false) (sym at_i.1) ∙ rw (entry_here, its, at_d.1) (eq-eqb d d refl) in
+          let right : option_map_or (λ x. chain_of x == c) (entry_at (set es i (Some e)) j) false ≡ true =
+          ap (λ k. option_map_or (λ x. chain_of x == c) (entry_at (set es i (Some e)) k) false) (sym at_i.1)
+          ∙ rw (entry_here, its, at_d.1) (eq-eqb d d refl) in
           left ∙ sym right
       go c j (inl at_d) (inr at_i) =
           let left : stands_in new c j ≡ stands_in chains d j = ap (λ k. stands_in new k j) at_d.1 ∙ here_more j low ∙ rw at_i.0 (or-false (stands_in chains d j)) in
           left ∙ ap (λ k. stands_in chains k j) (sym at_d.1) ∙ old.filed c j ∙ rw (entry_there j at_i.1) refl
       go c j (inr at_d) (inl at_i) =
-          let right : option_map_or (λ x. chain_of x == c) (entry_at (set es i (Some e)) j) false ≡ false = ap (λ k. option_map_or (λ x. chain_of x == c) (entry_at (set es i (Some e)) k) false) (sym at_i.1) ∙ rw (entry_here, its) (ne_eqb d c (λ h. at_d.1 (sym h))) in
+          let right : option_map_or (λ x. chain_of x == c) (entry_at (set es i (Some e)) j) false ≡ false =
+          ap (λ k. option_map_or (λ x. chain_of x == c) (entry_at (set es i (Some e)) k) false) (sym at_i.1)
+          ∙ rw (entry_here, its) (ne_eqb d c (λ h. at_d.1 (sym h))) in
           there_more c j at_d.1 ∙ ap (stands_in chains c) (sym at_i.1) ∙ fresh c ∙ sym right
       go c j (inr at_d) (inr at_i) = there_more c j at_d.1 ∙ old.filed c j ∙ rw (entry_there j at_i.1) refl
 
@@ -97,21 +102,25 @@ pub is_of_from : (d : ℕ) (name : List ℕ) (a : Entry) → a.dir ≡ d → sam
 is_of_from d name a at same = rw (at, eq-eqb d d refl, same) refl
 
 -- what stands at an index of a chain
-pub standing : (chain_of : Entry → ℕ) (chains : List (List ℕ)) (es : List (Option Entry)) (old : AreFiled chain_of chains es) (c j : ℕ) → stands_in chains c j ≡ true → (a : Entry) × ((entry_at es j ≡ Some a) × (chain_of a ≡ c))
+pub standing : (chain_of : Entry → ℕ) (chains : List (List ℕ)) (es : List (Option Entry)) (old : AreFiled chain_of chains es) (c j : ℕ)
+    → stands_in chains c j ≡ true → (a : Entry) × ((entry_at es j ≡ Some a) × (chain_of a ≡ c))
 standing chain_of chains es old c j h = go (entry_at es j) refl (sym (old.filed c j) ∙ h)
   where
     go : (o : Option Entry) → entry_at es j ≡ o → option_map_or (λ x. chain_of x == c) o false ≡ true → (a : Entry) × ((entry_at es j ≡ Some a) × (chain_of a ≡ c))
     go None is said = absurd (cc said)
     go (Some a) is said = (a, (is, eqb-true (chain_of a) c said))
 
-pub stands : (chain_of : Entry → ℕ) (chains : List (List ℕ)) (es : List (Option Entry)) (old : AreFiled chain_of chains es) (j : ℕ) (a : Entry) → entry_at es j ≡ Some a → stands_in chains (chain_of a) j ≡ true
+pub stands : (chain_of : Entry → ℕ) (chains : List (List ℕ)) (es : List (Option Entry)) (old : AreFiled chain_of chains es) (j : ℕ) (a : Entry)
+    → entry_at es j ≡ Some a → stands_in chains (chain_of a) j ≡ true
 stands chain_of chains es old j a is = old.filed (chain_of a) j ∙ rw is (eq-eqb (chain_of a) (chain_of a) refl)
 
-pairs_fewer : (es : List (Option Entry)) (i : ℕ) (name : List ℕ) (xs : List ℕ) → ((j : ℕ) → member j xs ≡ true → (j == i) ≡ same_bytes (pair_at es j).0 name) → map (pair_at es) (dropped i xs) ≡ without name (map (pair_at es) xs)
+pairs_fewer : (es : List (Option Entry)) (i : ℕ) (name : List ℕ) (xs : List ℕ) → ((j : ℕ) → member j xs ≡ true → (j == i) ≡ same_bytes (pair_at es j).0 name)
+    → map (pair_at es) (dropped i xs) ≡ without name (map (pair_at es) xs)
 pairs_fewer es i name [] alike = refl
 pairs_fewer es i name (x ∷ xs) alike = go (x == i) refl (alike x (rw (eq-eqb x x refl) refl)) (pairs_fewer es i name xs (λ j h. alike j (rw h (or-true (x == j)))))
   where
-    go : (b : Bool) → (x == i) ≡ b → (x == i) ≡ same_bytes (pair_at es x).0 name → map (pair_at es) (dropped i xs) ≡ without name (map (pair_at es) xs) → map (pair_at es) (dropped i (x ∷ xs)) ≡ without name (map (pair_at es) (x ∷ xs))
+    go : (b : Bool) → (x == i) ≡ b → (x == i) ≡ same_bytes (pair_at es x).0 name → map (pair_at es) (dropped i xs) ≡ without name (map (pair_at es) xs)
+        → map (pair_at es) (dropped i (x ∷ xs)) ≡ without name (map (pair_at es) (x ∷ xs))
     go true is same rest = rw (is, sym same ∙ is) rest
     go false is same rest = rw (is, sym same ∙ is) (ap (λ (ps : Pairs). pair_at es x ∷ ps) rest)
 
@@ -137,9 +146,11 @@ module _ (es : List (Option Entry)) (chains : List (List ℕ)) (d i : ℕ) (e : 
   unfolding fewer
   filed_fewer chain_of its old = record { filed = λ c j. go c j (eqb_tells c d) (eqb_tells i j) }
     where
-      go : (c j : ℕ) → (((c == d) ≡ true) × (c ≡ d)) ⊎ (((c == d) ≡ false) × (c ≡ d → ⊥)) → (((i == j) ≡ true) × (i ≡ j)) ⊎ (((i == j) ≡ false) × (i ≡ j → ⊥)) → stands_in fewer c j ≡ option_map_or (λ x. chain_of x == c) (entry_at (set es i None) j) false
+      go : (c j : ℕ) → (((c == d) ≡ true) × (c ≡ d)) ⊎ (((c == d) ≡ false) × (c ≡ d → ⊥)) → (((i == j) ≡ true) × (i ≡ j)) ⊎ (((i == j) ≡ false) × (i ≡ j → ⊥))
+          → stands_in fewer c j ≡ option_map_or (λ x. chain_of x == c) (entry_at (set es i None) j) false
       go c j (inl at_d) (inl at_i) =
-          let left : stands_in fewer c j ≡ false = ap (λ k. stands_in fewer k j) at_d.1 ∙ here_fewer j ∙ ap (λ k. member k (dropped i (get_or chains d []))) (sym at_i.1) ∙ member-dropped_same i (get_or chains d []) in
+          let left : stands_in fewer c j ≡ false = ap (λ k. stands_in fewer k j) at_d.1 ∙ here_fewer j
+          ∙ ap (λ k. member k (dropped i (get_or chains d []))) (sym at_i.1) ∙ member-dropped_same i (get_or chains d []) in
           left ∙ sym (ap (λ k. option_map_or (λ x. chain_of x == c) (entry_at (set es i None) k) false) (sym at_i.1) ∙ rw entry_gone refl)
       go c j (inl at_d) (inr at_i) =
           let left : stands_in fewer c j ≡ stands_in chains d j = ap (λ k. stands_in fewer k j) at_d.1 ∙ here_fewer j ∙ member-dropped_other i j (get_or chains d []) (λ h. at_i.1 (sym h)) in
@@ -165,7 +176,8 @@ module _ (es : List (Option Entry)) (chains : List (List ℕ)) (d i : ℕ) (e : 
           none false h = h
           none true h = absurd (other.1 (unique j i a e at_j is (is_of_from e.dir e.name a (dir ∙ sym its) h)))
 
-  pub lists_fewer : AreFiled (λ x. x.dir) chains es → AreUnique es → e.dir ≡ d → lists_of (set es i None) (set chains d (dropped i (get_or chains d []))) ≡ set (lists_of es chains) d (without e.name (get_or (lists_of es chains) d []))
+  pub lists_fewer : AreFiled (λ x. x.dir) chains es → AreUnique es → e.dir ≡ d → lists_of (set es i None) (set chains d (dropped i (get_or chains d [])))
+      ≡ set (lists_of es chains) d (without e.name (get_or (lists_of es chains) d []))
   unfolding fewer
   lists_fewer old unique its =
       let filed = filed_fewer (λ x. x.dir) its old in
@@ -188,7 +200,8 @@ module _ (es : List (Option Entry)) (chains : List (List ℕ)) (d i : ℕ) (e : 
 is_of_sym : (a b : Entry) → is_of b.dir b.name a ≡ true → is_of a.dir a.name b ≡ true
 is_of_sym a b h = let parts = is_of_parts b.dir b.name a h in is_of_from a.dir a.name b (sym parts.0) (same_sym a.name b.name parts.1)
 
-pub unique_more : (es : List (Option Entry)) (i : ℕ) (e : Entry) → i < length es → ((j : ℕ) (a : Entry) → entry_at es j ≡ Some a → is_of e.dir e.name a ≡ false) → AreUnique es → AreUnique (set es i (Some e))
+pub unique_more : (es : List (Option Entry)) (i : ℕ) (e : Entry) → i < length es → ((j : ℕ) (a : Entry) → entry_at es j ≡ Some a → is_of e.dir e.name a ≡ false)
+    → AreUnique es → AreUnique (set es i (Some e))
 unique_more es i e within absent unique = λ j k a b at_j at_k same. go j k a b at_j at_k same (eqb_tells i j) (eqb_tells i k)
   where
     here : entry_at (set es i (Some e)) i ≡ Some e
@@ -197,7 +210,8 @@ unique_more es i e within absent unique = λ j k a b at_j at_k same. go j k a b 
     there : (j : ℕ) → (i ≡ j → ⊥) → entry_at (set es i (Some e)) j ≡ entry_at es j
     there j other = get_or-set_other es i j (Some e) None (λ h. other (sym h))
 
-    go : (j k : ℕ) (a b : Entry) → entry_at (set es i (Some e)) j ≡ Some a → entry_at (set es i (Some e)) k ≡ Some b → is_of b.dir b.name a ≡ true → (((i == j) ≡ true) × (i ≡ j)) ⊎ (((i == j) ≡ false) × (i ≡ j → ⊥)) → (((i == k) ≡ true) × (i ≡ k)) ⊎ (((i == k) ≡ false) × (i ≡ k → ⊥)) → j ≡ k
+    go : (j k : ℕ) (a b : Entry) → entry_at (set es i (Some e)) j ≡ Some a → entry_at (set es i (Some e)) k ≡ Some b → is_of b.dir b.name a ≡ true
+        → (((i == j) ≡ true) × (i ≡ j)) ⊎ (((i == j) ≡ false) × (i ≡ j → ⊥)) → (((i == k) ≡ true) × (i ≡ k)) ⊎ (((i == k) ≡ false) × (i ≡ k → ⊥)) → j ≡ k
     go j k a b at_j at_k same (inl x) (inl y) = sym x.1 ∙ y.1
     go j k a b at_j at_k same (inl x) (inr y) =
         let first : e ≡ a = cc (here, at_j, ap (entry_at (set es i (Some e))) x.1) in

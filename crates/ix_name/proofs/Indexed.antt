@@ -1,5 +1,6 @@
 -- The entries stay indexed where one comes and where one goes.
-use Rattle.std.proofs.Common.{◌≡◌, ℕ, ◌+◌, ◌-◌, ◌<◌, ◌^◌, nat_lt, if◌then◌else◌, false, true, List, [], ◌∷◌, ◌++◌, length, map, drop, get_or, set, Option, Some, None, refl, sym, ap, ◌∙◌, subst, arith, slice_get, length-append}
+use Rattle.std.proofs.Common.{◌≡◌, ℕ, ◌+◌, ◌-◌, ◌<◌, ◌^◌, nat_lt, if◌then◌else◌, false, true, List, [], ◌∷◌, ◌++◌, length, map, drop, get_or, set}
+use Rattle.std.proofs.Common.{Option, Some, None, refl, sym, ap, ◌∙◌, subst, arith, slice_get, length-append}
 use Rattle.std.specs.List.{Contains}
 use Rattle.std.specs.Cmp.Lexicographic.{same_text}
 use Rattle.std.proofs.lemmas.Bool.Decides.{nat_tests}
@@ -38,7 +39,8 @@ same_directories a b lists free =
 pub dir_within : (es : List (Option Entry)) (dirs : Chains) (v : Directories) → directories es dirs ≡ v → (d : ℕ) → d < length v.lists → d < length dirs.chains
 dir_within es dirs v shown d low = omega (arith, low, ap (λ (w : Directories). length w.lists) shown, length-map dirs.chains (map (pair_at es)))
 
-module _ (es : List (Option Entry)) (dirs buckets : Chains) (counts : List ℕ) (width : ℕ) (old : AreIndexed es dirs buckets counts width) (dirs_pooled : IsPool dirs) (buckets_pooled : IsPool buckets) (v : Directories) (shown : directories es dirs ≡ v) where
+module _ (es : List (Option Entry)) (dirs buckets : Chains) (counts : List ℕ) (width : ℕ) (old : AreIndexed es dirs buckets counts width)
+    (dirs_pooled : IsPool dirs) (buckets_pooled : IsPool buckets) (v : Directories) (shown : directories es dirs ≡ v) where
   counted_set : (d n : ℕ) (xs : List ℕ) → n ≡ length xs → set counts d n ≡ map length (set dirs.chains d xs)
   counted_set d n xs is = ap (λ ns. set ns d n) old.counted ∙ ap (set (map length dirs.chains) d) is ∙ sym (map-set length dirs.chains d xs)
 
@@ -62,23 +64,32 @@ module _ (es : List (Option Entry)) (dirs buckets : Chains) (counts : List ℕ) 
     first_in_buckets : slice_get buckets.free 0 ≡ Some i
     first_in_buckets = ap (λ free. slice_get free 0) old.alike ∙ first
 
-    more : ((j : ℕ) (a : Entry) → entry_at es j ≡ Some a → is_of e.dir e.name a ≡ false) → AreIndexed (set es i (Some e)) (pushed_back e.dir dirs) (pushed_back (bucket_in width e) buckets) (set counts e.dir (n + 1)) width
+    more : ((j : ℕ) (a : Entry) → entry_at es j ≡ Some a → is_of e.dir e.name a ≡ false)
+        → AreIndexed (set es i (Some e)) (pushed_back e.dir dirs) (pushed_back (bucket_in width e) buckets) (set counts e.dir (n + 1)) width
     more absent =
         let at_dir = pushed e.dir i dirs first in
         let at_bucket = pushed (bucket_in width e) i buckets first_in_buckets in
         record {
-          by_dir = subst (λ chains. AreFiled (λ x. x.dir) chains (set es i (Some e))) (sym at_dir.chains) (filed_more es dirs.chains e.dir i e (index_within i first) (fresh dirs dirs_pooled i first) (λ x. x.dir) refl low old.by_dir);
-          by_bucket = subst (λ chains. AreFiled (bucket_in width) chains (set es i (Some e))) (sym at_bucket.chains) (filed_more es buckets.chains (bucket_in width e) i e (index_within i first) (fresh buckets buckets_pooled i first_in_buckets) (bucket_in width) refl (bucket_low e) old.by_bucket);
+          by_dir = subst (λ chains. AreFiled (λ x. x.dir) chains (set es i (Some e))) (sym at_dir.chains)
+              (filed_more es dirs.chains e.dir i e (index_within i first) (fresh dirs dirs_pooled i first) (λ x. x.dir) refl low old.by_dir);
+          by_bucket = subst (λ chains. AreFiled (bucket_in width) chains (set es i (Some e))) (sym at_bucket.chains)
+              (filed_more es buckets.chains (bucket_in width e) i e (index_within i first) (fresh buckets buckets_pooled i first_in_buckets) (bucket_in width)
+              refl (bucket_low e) old.by_bucket);
           unique = unique_more es i e (index_within i first) absent old.unique;
           alike = at_bucket.free ∙ ap (drop 1) old.alike ∙ sym at_dir.free;
-          counted = counted_set e.dir (n + 1) (chain_of e.dir dirs ++ i ∷ []) (omega (arith, count_at e.dir n low read, length-append (chain_of e.dir dirs) (i ∷ []))) ∙ ap (map length) (sym at_dir.chains);
+          counted = counted_set e.dir (n + 1) (chain_of e.dir dirs ++ i ∷ []) (omega (
+            arith,
+            count_at e.dir n low read,
+            length-append (chain_of e.dir dirs) (i ∷ []),
+          )) ∙ ap (map length) (sym at_dir.chains);
           wide = ap length at_bucket.chains ∙ length-set buckets.chains _ _ ∙ old.wide;
           some = old.some;
           dirs_pool = pool-pushed_back e.dir dirs low ∙ old.dirs_pool ∙ sym (length-set es i (Some e));
           buckets_pool = pool-pushed_back (bucket_in width e) buckets (bucket_low e) ∙ old.buckets_pool ∙ sym (length-set es i (Some e));
         }
 
-    pub indexed_more : (b : ℕ) (dirs' buckets' : Chains) → b ≡ bucket_in width e → dirs' ≡ pushed_back e.dir dirs → buckets' ≡ pushed_back b buckets → under e.name (names_of v e.dir) ≡ None → AreIndexed (set es i (Some e)) dirs' buckets' (set counts e.dir (n + 1)) width
+    pub indexed_more : (b : ℕ) (dirs' buckets' : Chains) → b ≡ bucket_in width e → dirs' ≡ pushed_back e.dir dirs → buckets' ≡ pushed_back b buckets
+        → under e.name (names_of v e.dir) ≡ None → AreIndexed (set es i (Some e)) dirs' buckets' (set counts e.dir (n + 1)) width
     indexed_more b dirs' buckets' home at_dirs at_buckets absent =
         let is : buckets' ≡ pushed_back (bucket_in width e) buckets = at_buckets ∙ ap (λ k. pushed_back k buckets) home in
         let none : under e.name (names_of (directories es dirs) e.dir) ≡ None = ap (λ w. under e.name (names_of w e.dir)) shown ∙ absent in
@@ -89,9 +100,11 @@ module _ (es : List (Option Entry)) (dirs buckets : Chains) (counts : List ℕ) 
     pub shown_more : (dirs' : Chains) → dirs' ≡ pushed_back e.dir dirs → directories (set es i (Some e)) dirs' ≡ (if nat_lt 0 v.free then with_more e.dir e.name e.obj.0 v else v)
     shown_more dirs' at_dirs =
         let at_dir = pushed e.dir i dirs first in
-        let lists : lists_of (set es i (Some e)) (pushed_back e.dir dirs).chains ≡ (with_more e.dir e.name e.obj.0 (directories es dirs)).lists = ap (lists_of (set es i (Some e))) at_dir.chains ∙ lists_more es dirs.chains e.dir i e (index_within i first) (fresh dirs dirs_pooled i first) in
+        let lists : lists_of (set es i (Some e)) (pushed_back e.dir dirs).chains ≡ (with_more e.dir e.name e.obj.0 (directories es dirs)).lists =
+        ap (lists_of (set es i (Some e))) at_dir.chains ∙ lists_more es dirs.chains e.dir i e (index_within i first) (fresh dirs dirs_pooled i first) in
         let free : length (pushed_back e.dir dirs).free ≡ length dirs.free - 1 = ap length at_dir.free ∙ length-drop 1 dirs.free in
-        let done : directories (set es i (Some e)) dirs' ≡ with_more e.dir e.name e.obj.0 v = ap (directories (set es i (Some e))) at_dirs ∙ same_directories _ _ lists free ∙ ap (with_more e.dir e.name e.obj.0) shown in
+        let done : directories (set es i (Some e)) dirs' ≡ with_more e.dir e.name e.obj.0 v = ap (directories (set es i (Some e))) at_dirs
+        ∙ same_directories _ _ lists free ∙ ap (with_more e.dir e.name e.obj.0) shown in
         let some : 0 < v.free = omega (arith, ap (λ (w : Directories). w.free) shown, slice_get_within dirs.free 0 i first) in
         let room : nat_lt 0 v.free ≡ true = grind (arith, nat_tests) in
         done ∙ rw room refl
@@ -122,7 +135,8 @@ module _ (es : List (Option Entry)) (dirs buckets : Chains) (counts : List ℕ) 
     fewer : (n : ℕ) → n ≡ get_or counts e.dir n → AreIndexed (set es i None) (removed e.dir i dirs) (removed (bucket_in width e) i buckets) (set counts e.dir (n - 1)) width
     fewer n read = record {
       by_dir = subst (λ chains. AreFiled (λ x. x.dir) chains (set es i None)) (sym dir_fewer) (filed_fewer es dirs.chains e.dir i e is dir_low (λ x. x.dir) refl old.by_dir);
-      by_bucket = subst (λ chains. AreFiled (bucket_in width) chains (set es i None)) (sym bucket_fewer) (filed_fewer es buckets.chains (bucket_in width e) i e is (bucket_low e) (bucket_in width) refl old.by_bucket);
+      by_bucket = subst (λ chains. AreFiled (bucket_in width) chains (set es i None)) (sym bucket_fewer) (filed_fewer es buckets.chains (bucket_in width e) i e
+          is (bucket_low e) (bucket_in width) refl old.by_bucket);
       unique = unique_fewer es dirs.chains e.dir i e is dir_low old.unique;
       alike = ap (λ free. i ∷ free) old.alike;
       counted = counted_set e.dir (n - 1) (without i (chain_of e.dir dirs)) (omega (arith, count_at e.dir n dir_low read, length-without i (chain_of e.dir dirs) held));
@@ -134,7 +148,8 @@ module _ (es : List (Option Entry)) (dirs buckets : Chains) (counts : List ℕ) 
 
     shown_here : directories (set es i None) (removed e.dir i dirs) ≡ with_fewer e.dir e.name v
     shown_here =
-        let lists : lists_of (set es i None) (removed e.dir i dirs).chains ≡ (with_fewer e.dir e.name (directories es dirs)).lists = ap (lists_of (set es i None)) dir_fewer ∙ lists_fewer es dirs.chains e.dir i e is dir_low old.by_dir old.unique refl in
+        let lists : lists_of (set es i None) (removed e.dir i dirs).chains ≡ (with_fewer e.dir e.name (directories es dirs)).lists =
+        ap (lists_of (set es i None)) dir_fewer ∙ lists_fewer es dirs.chains e.dir i e is dir_low old.by_dir old.unique refl in
         let free : length (removed e.dir i dirs).free ≡ length dirs.free + 1 = omega arith in
         same_directories _ _ lists free ∙ ap (with_fewer e.dir e.name) shown
 
@@ -167,7 +182,8 @@ module _ (es : List (Option Entry)) (dirs buckets : Chains) (counts : List ℕ) 
       pub count_some : (n : ℕ) → n ≡ get_or counts d n → 0 < n
       count_some n read = omega (arith, count_at e.dir n dir_low (count_here n read), held.1)
 
-      pub indexed_fewer : (b n : ℕ) (dirs' buckets' : Chains) → b ≡ bucket_of width d name → n ≡ get_or counts d n → dirs' ≡ removed d i dirs → buckets' ≡ removed b i buckets → AreIndexed (set es i None) dirs' buckets' (set counts d (n - 1)) width
+      pub indexed_fewer : (b n : ℕ) (dirs' buckets' : Chains) → b ≡ bucket_of width d name → n ≡ get_or counts d n → dirs' ≡ removed d i dirs
+          → buckets' ≡ removed b i buckets → AreIndexed (set es i None) dirs' buckets' (set counts d (n - 1)) width
       indexed_fewer b n dirs' buckets' is read at_dirs at_buckets =
           let in_dirs : dirs' ≡ removed e.dir i dirs = at_dirs ∙ ap (λ k. removed k i dirs) (sym at) in
           let in_buckets : buckets' ≡ removed (bucket_in width e) i buckets = at_buckets ∙ ap (λ k. removed k i buckets) (home b is) in

@@ -48,7 +48,9 @@ under_by : (es : List (Option Entry)) (name : List ℕ) (xs : List ℕ) → unde
 under_by es name [] = refl
 under_by es name (x ∷ xs) = go (same_bytes (pair_at es x).0 name) refl (under_by es name xs)
   where
-    go : (b : Bool) → same_bytes (pair_at es x).0 name ≡ b → under name (map (pair_at es) xs) ≡ option_map (λ i. (pair_at es i).1) (find (λ i. same_bytes (pair_at es i).0 name) xs) → under name (map (pair_at es) (x ∷ xs)) ≡ option_map (λ i. (pair_at es i).1) (find (λ i. same_bytes (pair_at es i).0 name) (x ∷ xs))
+    go : (b : Bool) → same_bytes (pair_at es x).0 name ≡ b
+        → under name (map (pair_at es) xs) ≡ option_map (λ i. (pair_at es i).1) (find (λ i. same_bytes (pair_at es i).0 name) xs)
+        → under name (map (pair_at es) (x ∷ xs)) ≡ option_map (λ i. (pair_at es i).1) (find (λ i. same_bytes (pair_at es i).0 name) (x ∷ xs))
     go true is rest = rw is refl
     go false is rest = rw is rest
 
@@ -73,7 +75,8 @@ module _ (es : List (Option Entry)) (chains : List (List ℕ)) (old : AreFiled (
 
   -- with no entry of the name the directory has nothing under it, and the other way round
   pub none_is : ((j : ℕ) (a : Entry) → entry_at es j ≡ Some a → is_of d name a ≡ false) → under name (get_or (lists_of es chains) d []) ≡ None
-  none_is absent = ap (under name) (names_of-lists es chains d) ∙ under_by es name (get_or chains d []) ∙ ap (option_map (λ k. (pair_at es k).1)) (find_none (λ k. same_bytes (pair_at es k).0 name) (get_or chains d []) never)
+  none_is absent = ap (under name) (names_of-lists es chains d) ∙ under_by es name (get_or chains d [])
+      ∙ ap (option_map (λ k. (pair_at es k).1)) (find_none (λ k. same_bytes (pair_at es k).0 name) (get_or chains d []) never)
     where
       never : (j : ℕ) → member j (get_or chains d []) ≡ true → same_bytes (pair_at es j).0 name ≡ false
       never j in_chain =
@@ -104,7 +107,9 @@ module _ (es : List (Option Entry)) (chains : List (List ℕ)) (old : AreFiled (
           absurd (cc (miss, parts.1, is))
 
 -- a search of the bucket finds every entry of the name
-pub none_hashed : (n : ℕ) (buckets : List (List ℕ)) (es : List (Option Entry)) → AreFiled (bucket_in n) buckets es → (d : ℕ) (name : List ℕ) → find (λ i. option_map_or (is_of d name) (entry_at es i) false) (get_or buckets (bucket_of n d name) []) ≡ None → (j : ℕ) (a : Entry) → entry_at es j ≡ Some a → is_of d name a ≡ false
+pub none_hashed : (n : ℕ) (buckets : List (List ℕ)) (es : List (Option Entry)) → AreFiled (bucket_in n) buckets es → (d : ℕ) (name : List ℕ)
+    → find (λ i. option_map_or (is_of d name) (entry_at es i) false) (get_or buckets (bucket_of n d name) []) ≡ None → (j : ℕ) (a : Entry)
+    → entry_at es j ≡ Some a → is_of d name a ≡ false
 none_hashed n buckets es old d name none j a is = go (is_of d name a) refl
   where
     go : (b : Bool) → is_of d name a ≡ b → is_of d name a ≡ false

@@ -1,5 +1,6 @@
 -- What an edit of the heap of free numbers does to the marks.
-use Rattle.std.proofs.Common.{◌≡◌, ◌<◌, ◌≤◌, ◌+◌, ◌==◌, ◌^◌, ℕ, zero, suc, Bool, true, false, not, nat_lt, List, [], ◌∷◌, ◌++◌, length, cond, Some, None, refl, sym, ap, ◌∙◌, arith, inl, inr, get_or, set}
+use Rattle.std.proofs.Common.{◌≡◌, ◌<◌, ◌≤◌, ◌+◌, ◌==◌, ◌^◌, ℕ, zero, suc, Bool, true, false, not, nat_lt, List, [], ◌∷◌, ◌++◌, length, cond, Some}
+use Rattle.std.proofs.Common.{None, refl, sym, ap, ◌∙◌, arith, inl, inr, get_or, set}
 use Rattle.std.specs.List.{slice_get, prefix_len}
 use Rattle.std.specs.List.Sorted.{IsPermutation}
 use Rattle.std.specs.BinaryHeap.{IsHeap, IsUpperBound}
@@ -145,7 +146,8 @@ module _ (k : ℕ) (xs : List (Reverse ℕ)) (len c : ℕ) (h : AreHeaped k xs l
 
     module _ (ys : List (Reverse ℕ)) (moved : IsPermutation (record { 0 = n } ∷ xs) ys) where
       pub pushed_marks : marks_of k ys ≡ set (marks_of k xs) n true
-      pushed_marks = marks_set k n xs ys true below (lt-ltb 0 (times n ys) (omega (arith, times_pushed n xs ys (record { 0 = n }) moved, here n))) (λ j ne. grind (arith, nat_tests, times_pushed j xs ys (record { 0 = n }) moved))
+      pushed_marks = marks_set k n xs ys true below (lt-ltb 0 (times n ys) (omega (arith, times_pushed n xs ys (record { 0 = n }) moved, here n)))
+          (λ j ne. grind (arith, nat_tests, times_pushed j xs ys (record { 0 = n }) moved))
 
       pub pushed_heaped : (m d : ℕ) → IsHeap lowest_first ys → m ≡ len + 1 → c ≤ d → AreHeaped k ys m d
       pushed_heaped m d heap more room = record {
@@ -162,7 +164,15 @@ module _ (k : ℕ) (xs : List (Reverse ℕ)) (len c : ℕ) (h : AreHeaped k xs l
 
 -- no number yet, and one more
 pub none_heaped : (xs : List (Reverse ℕ)) (len c : ℕ) → xs ≡ [] → len ≡ 0 → IsHeap lowest_first xs → AreHeaped 0 xs len c
-none_heaped xs len c no_xs no_len heap = rw (no_xs, no_len) (record { once = λ n. omega arith; low = λ n some. absurd (omega (arith, some)); ordered = rw (← no_xs) heap; counted = refl; room = omega arith; small = omega arith })
+none_heaped xs len c no_xs no_len heap = rw (no_xs, no_len) (record {
+  once = λ n. omega arith;
+  low = λ n some. absurd (omega (arith, some));
+  ordered =
+      rw (← no_xs) heap;
+  counted = refl;
+  room = omega arith;
+  small = omega arith;
+})
 
 module _ (k : ℕ) (xs : List (Reverse ℕ)) (len c : ℕ) (h : AreHeaped k xs len c) (ys : List (Reverse ℕ)) (moved : IsPermutation (record { 0 = k } ∷ xs) ys) where
   unused : times k xs ≡ 0
@@ -173,8 +183,10 @@ module _ (k : ℕ) (xs : List (Reverse ℕ)) (len c : ℕ) (h : AreHeaped k xs l
     where
       each : (j : ℕ) → j < k + 1 → get_or (marks_of k xs ++ true ∷ []) j false ≡ is_in ys j
       each j below = elim (cases_eq j k) [
-        | inl e ↦ get_or_push (marks_of k xs) true false j (omega (arith, e, marks_long k xs)) ∙ sym (lt-ltb 0 (times j ys) (omega (arith, times_pushed j xs ys (record { 0 = k }) moved, here k, ap (λ i. one (k == i)) e)))
-        | inr ne ↦ get_or_append_left (marks_of k xs) (true ∷ []) false j (omega (arith, below, ne, marks_long k xs)) ∙ mark_at k j xs (omega (arith, below, ne)) ∙ ap (nat_lt 0) (grind (arith, nat_tests, times_pushed j xs ys (record { 0 = k }) moved))
+        | inl e ↦ get_or_push (marks_of k xs) true false j (omega (arith, e, marks_long k xs))
+            ∙ sym (lt-ltb 0 (times j ys) (omega (arith, times_pushed j xs ys (record { 0 = k }) moved, here k, ap (λ i. one (k == i)) e)))
+        | inr ne ↦ get_or_append_left (marks_of k xs) (true ∷ []) false j (omega (arith, below, ne, marks_long k xs))
+            ∙ mark_at k j xs (omega (arith, below, ne)) ∙ ap (nat_lt 0) (grind (arith, nat_tests, times_pushed j xs ys (record { 0 = k }) moved))
       ]
 
   pub more_heaped : (m d : ℕ) → IsHeap lowest_first ys → m ≡ len + 1 → k < d → k + 1 < 2 ^ 32 → AreHeaped (k + 1) ys m d

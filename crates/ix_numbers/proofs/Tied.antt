@@ -1,5 +1,6 @@
 -- The marks of a table's vacant numbers, as its entries come, change and go.
-use Rattle.std.proofs.Common.{◌≡◌, ◌<◌, ◌+◌, ℕ, zero, suc, Bool, true, false, not, List, [], ◌∷◌, length, count_by, cond, Option, Some, None, is_none, is_some, refl, sym, ap, ◌∙◌, get_or, set, replicate}
+use Rattle.std.proofs.Common.{◌≡◌, ◌<◌, ◌+◌, ℕ, zero, suc, Bool, true, false, not, List, [], ◌∷◌, length, count_by, cond, Option, Some, None, is_none}
+use Rattle.std.proofs.Common.{is_some, refl, sym, ap, ◌∙◌, get_or, set, replicate}
 use Rattle.std.specs.List.{slice_get, position, prefix_len}
 use Rattle.std.proofs.lemmas.List.{length-map, map-set}
 use Rattle.std.proofs.Math.Seq.{map-set_same}
@@ -22,7 +23,8 @@ lowest_vacant es = rw (first_vacant es, length-map es is_none) refl
 
 pub count_vacant : {A : Type 0} (es : List (Option A)) → count (vacancies es) ≡ count_by is_none es
 count_vacant [] = refl
-count_vacant {A = A} (e ∷ es) = sum_by-cons (λ (free : Bool). cond {A = ℕ} free 1 0) (is_none e) (vacancies es) ∙ ap (λ n. cond (is_none e) 1 0 + n) (count_vacant es) ∙ sym (sum_by-cons (λ (o : Option A). cond {A = ℕ} (is_none o) 1 0) e es)
+count_vacant {A = A} (e ∷ es) = sum_by-cons (λ (free : Bool). cond {A = ℕ} free 1 0) (is_none e) (vacancies es)
+    ∙ ap (λ n. cond (is_none e) 1 0 + n) (count_vacant es) ∙ sym (sum_by-cons (λ (o : Option A). cond {A = ℕ} (is_none o) 1 0) e es)
 
 is_vacant : {A : Type 0} (e : Option A) → is_none e ≡ true → e ≡ None
 is_vacant None h = refl

@@ -1,5 +1,6 @@
 -- The counts of the entries on each end of each object stay true.
-use Rattle.std.proofs.Common.{◌≡◌, ◌<◌, ◌+◌, ◌-◌, ◌*◌, ◌^◌, ◌==◌, ℕ, zero, suc, Bool, true, false, ◌&&◌, ◌||◌, List, [], ◌∷◌, length, map, replicate, count_by, cond, Option, Some, None, refl, sym, ap, ◌∙◌, arith, inl, inr, get_or, set, nat_lt}
+use Rattle.std.proofs.Common.{◌≡◌, ◌<◌, ◌+◌, ◌-◌, ◌*◌, ◌^◌, ◌==◌, ℕ, zero, suc, Bool, true, false, ◌&&◌, ◌||◌, List, [], ◌∷◌, length, map, replicate}
+use Rattle.std.proofs.Common.{count_by, cond, Option, Some, None, refl, sym, ap, ◌∙◌, arith, inl, inr, get_or, set, nat_lt}
 use Rattle.std.specs.List.{list_any}
 use Rattle.std.proofs.lemmas.Bool.Decides.{eqb_tells, nat_tests}
 use Rattle.std.proofs.lemmas.Bool.{cases_lt}
@@ -23,7 +24,8 @@ low_count : (counts : List ℕ) (k : ℕ) → 0 < get_or counts k 0 → k < leng
 low_count counts k some = elim (cases_lt k (length counts)) [ inl low ↦ low | inr past ↦ absurd (omega (arith, get_or_past counts k 0 past)) ]
 
 -- an element of a list after an edit
-edited : (P : OpenView → Type 0) (es : List (Option OpenView)) (n : ℕ) (x : Option OpenView) → n < length es → ((v : OpenView) → x ≡ Some v → P v) → ((m : ℕ) (v : OpenView) → at es m ≡ Some v → P v) → (m : ℕ) (v : OpenView) → at (set es n x) m ≡ Some v → P v
+edited : (P : OpenView → Type 0) (es : List (Option OpenView)) (n : ℕ) (x : Option OpenView) → n < length es → ((v : OpenView) → x ≡ Some v → P v)
+    → ((m : ℕ) (v : OpenView) → at es m ≡ Some v → P v) → (m : ℕ) (v : OpenView) → at (set es n x) m ≡ Some v → P v
 edited P es n x low new old m v is = elim (eqb_tells m n) [
   | inl e ↦ new v (sym (get_or-set_same es n x None low) ∙ ap (at (set es n x)) (sym e.1) ∙ is)
   | inr e ↦ old m v (sym (get_or-set_other es n m x None e.1) ∙ is)
@@ -44,15 +46,34 @@ module _ (es : List (Option OpenView)) (counts : List ℕ) (objects : ℕ) (sure
 
   -- a new entry
   pub count_fits : (n : ℕ) (v : OpenView) → n < length es → at es n ≡ None → get_or counts (place v.obj.0 v.end) 0 + 1 < 2 ^ 32
-  count_fits n v low free = let k = place v.obj.0 v.end in omega (arith, sure.counted k, count_set k es n (Some v) low, ap (λ o. one (is_at k o)) free, here k, count_by-le-length (is_at k) (set es n (Some v)), length-set es n (Some v), sure.few)
+  count_fits n v low free = let k = place v.obj.0 v.end in
+      omega (
+        arith,
+        sure.counted k,
+        count_set k es n (Some v) low,
+        ap (λ o. one (is_at k o)) free,
+        here k,
+        count_by-le-length (is_at k) (set es n (Some v)),
+        length-set es n (Some v),
+        sure.few,
+      )
 
-  pub counted_more : (n : ℕ) (v : OpenView) → n < length es → at es n ≡ None → 0 < v.owners → v.end < 2 → v.obj.0 < objects → AreCounted (set es n (Some v)) (set counts (place v.obj.0 v.end) (get_or counts (place v.obj.0 v.end) 0 + 1)) objects
+  pub counted_more : (n : ℕ) (v : OpenView) → n < length es → at es n ≡ None → 0 < v.owners → v.end < 2 → v.obj.0 < objects
+      → AreCounted (set es n (Some v)) (set counts (place v.obj.0 v.end) (get_or counts (place v.obj.0 v.end) 0 + 1)) objects
   counted_more n v low free owned end within =
       let p = place v.obj.0 v.end in
       let wide : p < length counts = omega (arith, end, within, sure.places) in
       record {
         counted = λ k. elim (eqb_tells k p) [
-          | inl e ↦ ap (λ i. get_or (set counts p (get_or counts p 0 + 1)) i 0) e.1 ∙ get_or-set_same counts p (get_or counts p 0 + 1) 0 wide ∙ omega (arith, sure.counted p, count_set p es n (Some v) low, ap (λ o. one (is_at p o)) free, here p, ap (λ i. count_by (is_at i) (set es n (Some v))) e.1)
+          | inl e ↦ ap (λ i. get_or (set counts p (get_or counts p 0 + 1)) i 0) e.1 ∙ get_or-set_same counts p (get_or counts p 0 + 1) 0 wide
+              ∙ omega (
+                arith,
+                sure.counted p,
+                count_set p es n (Some v) low,
+                ap (λ o. one (is_at p o)) free,
+                here p,
+                ap (λ i. count_by (is_at i) (set es n (Some v))) e.1,
+              )
           | inr e ↦ get_or-set_other counts p k (get_or counts p 0 + 1) 0 e.1 ∙ omega (arith, sure.counted k, count_set k es n (Some v) low, ap (λ o. one (is_at k o)) free, other k e.1)
         ];
         places = length-set counts p (get_or counts p 0 + 1) ∙ sure.places;
@@ -78,7 +99,8 @@ module _ (es : List (Option OpenView)) (counts : List ℕ) (objects : ℕ) (sure
       let there = count_there n v is in
       record {
         counted = λ k. elim (eqb_tells k p) [
-          | inl e ↦ ap (λ i. get_or (set counts p (get_or counts p 0 - 1)) i 0) e.1 ∙ get_or-set_same counts p (get_or counts p 0 - 1) 0 there.0 ∙ omega (arith, sure.counted p, count_set p es n None low, ap (λ o. one (is_at p o)) is, here p, ap (λ i. count_by (is_at i) (set es n None)) e.1)
+          | inl e ↦ ap (λ i. get_or (set counts p (get_or counts p 0 - 1)) i 0) e.1 ∙ get_or-set_same counts p (get_or counts p 0 - 1) 0 there.0
+              ∙ omega (arith, sure.counted p, count_set p es n None low, ap (λ o. one (is_at p o)) is, here p, ap (λ i. count_by (is_at i) (set es n None)) e.1)
           | inr e ↦ get_or-set_other counts p k (get_or counts p 0 - 1) 0 e.1 ∙ omega (arith, sure.counted k, count_set k es n None low, ap (λ o. one (is_at k o)) is, other k e.1)
         ];
         places = length-set counts p (get_or counts p 0 - 1) ∙ sure.places;
@@ -100,7 +122,8 @@ module _ (es : List (Option OpenView)) (counts : List ℕ) (objects : ℕ) (sure
       go : (t : List (Option OpenView)) → ((n : ℕ) (v : OpenView) → at t n ≡ Some v → v.end < 2) → nat_lt 0 (count_by (is_at (place o end)) t) ≡ list_any (is_on o end) (map open_in t)
       go [] low = refl
       go (None ∷ t) low = ap (nat_lt 0) (skipped (place o end) t) ∙ go t (λ n v is. low (suc n) v is)
-      go (Some v ∷ t) low = ap (nat_lt 0) (sum_by-cons (λ (x : Option OpenView). cond {A = ℕ} (is_at (place o end) x) 1 0) (Some v) t) ∙ both (place v.obj.0 v.end == place o end) _ ∙ (λ i. same_place v o end (low 0 v refl) within i || go t (λ n v is. low (suc n) v is) i)
+      go (Some v ∷ t) low = ap (nat_lt 0) (sum_by-cons (λ (x : Option OpenView). cond {A = ℕ} (is_at (place o end) x) 1 0) (Some v) t)
+          ∙ both (place v.obj.0 v.end == place o end) _ ∙ (λ i. same_place v o end (low 0 v refl) within i || go t (λ n v is. low (suc n) v is) i)
         where
           both : (b : Bool) (n : ℕ) → nat_lt 0 (cond {A = ℕ} b 1 0 + n) ≡ (b || nat_lt 0 n)
           both true n = grind (arith, nat_tests)

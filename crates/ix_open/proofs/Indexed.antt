@@ -1,5 +1,6 @@
 -- An edit of the slab under one key is an edit of the entries at one number.
-use Rattle.std.proofs.Common.{◌≡◌, ◌≢◌, ◌<◌, ◌≤◌, ◌+◌, ℕ, zero, suc, Bool, true, true≢false, not, replicate, List, [], ◌∷◌, length, count_by, cond, Option, Some, None, is_some, refl, sym, ap, ◌∙◌, arith, inl, inr, get_or, set}
+use Rattle.std.proofs.Common.{◌≡◌, ◌≢◌, ◌<◌, ◌≤◌, ◌+◌, ℕ, zero, suc, Bool, true, true≢false, not, replicate, List, [], ◌∷◌, length, count_by, cond}
+use Rattle.std.proofs.Common.{Option, Some, None, is_some, refl, sym, ap, ◌∙◌, arith, inl, inr, get_or, set}
 use Rattle.std.proofs.lemmas.List.{same_lists, length-replicate, length-map, length-set, get_or-map, get_or-set_same, get_or-set_other, get_or_past}
 use Rattle.std.proofs.lemmas.List.Sums.{sum_by-set, sum_by-cons, count_by-le-length}
 use Rattle.std.proofs.lemmas.Bool.Decides.{eqb_tells}
@@ -30,11 +31,13 @@ at_seen s (k ∷ keys) zero = refl
 at_seen s (k ∷ keys) (suc n) = at_seen s keys n
 
 -- one number is another, all else is as it was
-seen_set : (old new : Slab OpenView) (keys later : List (Option ℕ)) (n : ℕ) (x : Option OpenView) → length later ≡ length keys → n < length keys → entry_in new (at later n) ≡ x → ((m : ℕ) → m ≢ n → entry_in new (at later m) ≡ entry_in old (at keys m)) → seen new later ≡ set (seen old keys) n x
+seen_set : (old new : Slab OpenView) (keys later : List (Option ℕ)) (n : ℕ) (x : Option OpenView) → length later ≡ length keys → n < length keys
+    → entry_in new (at later n) ≡ x → ((m : ℕ) → m ≢ n → entry_in new (at later m) ≡ entry_in old (at keys m)) → seen new later ≡ set (seen old keys) n x
 seen_set old new keys later n x len low here there = same_lists _ _ (length-map later (entry_in new) ∙ len ∙ sym (length-set (seen old keys) n x ∙ length-map keys (entry_in old))) (λ m d inside.
     let within : m < length later = omega (arith, inside, length-map later (entry_in new)) in
     get_or-map (entry_in new) later m None d within ∙ elim (eqb_tells m n) [
-      | inl e ↦ ap (λ i. entry_in new (at later i)) e.1 ∙ here ∙ sym (ap (λ i. get_or (set (seen old keys) n x) i d) e.1 ∙ get_or-set_same (seen old keys) n x d (omega (arith, low, length-map keys (entry_in old))))
+      | inl e ↦ ap (λ i. entry_in new (at later i)) e.1 ∙ here ∙ sym (ap (λ i. get_or (set (seen old keys) n x) i d) e.1
+          ∙ get_or-set_same (seen old keys) n x d (omega (arith, low, length-map keys (entry_in old))))
       | inr e ↦ there m e.1 ∙ sym (get_or-set_other (seen old keys) n m x d e.1 ∙ get_or-map (entry_in old) keys m None d (omega (arith, within, len)))
     ])
 
@@ -53,14 +56,16 @@ module _ (s : Slab OpenView) (keys : List (Option ℕ)) (index : IsIndex s keys)
 
   -- an entry is edited in its place
   pub seen_edited : (new : Slab OpenView) (n k : ℕ) (x : OpenView) → at keys n ≡ Some k → Updates s new k (Some x) → seen new keys ≡ set (seen s keys) n (Some x)
-  seen_edited new n k x is updates = seen_set s new keys keys n (Some x) refl (low_at keys n k is) (ap (entry_in new) is ∙ updates.changed) (λ m differs. others_stay new k (Some x) updates m (other_key n m k is differs))
+  seen_edited new n k x is updates = seen_set s new keys keys n (Some x) refl (low_at keys n k is) (ap (entry_in new) is
+      ∙ updates.changed) (λ m differs. others_stay new k (Some x) updates m (other_key n m k is differs))
 
   pub index_edited : (n k : ℕ) (x : OpenView) → at keys n ≡ Some k → is_some (get s k) ≡ true → IsIndex (record s { slots = set s.slots k (Some x) }) keys
   index_edited n k x is there =
       let updates = Updates-with_value s k x there in
       record {
         lives = λ m j js. elim (eqb_tells m n) [
-          | inl e ↦ (let same : Some j ≡ Some k = sym js ∙ ap (at keys) e.1 ∙ is in let equal : j ≡ k = cc in ap (λ i. is_some (get (record s { slots = set s.slots k (Some x) }) i)) equal ∙ ap is_some updates.changed)
+          | inl e ↦ (let same : Some j ≡ Some k = sym js ∙ ap (at keys) e.1 ∙ is in let equal : j ≡ k = cc in
+              ap (λ i. is_some (get (record s { slots = set s.slots k (Some x) }) i)) equal ∙ ap is_some updates.changed)
           | inr e ↦ ap is_some (updates.others j (other_key n m k is e.1 j js)) ∙ index.lives m j js
         ];
         differ = index.differ;
@@ -84,7 +89,15 @@ module _ (s : Slab OpenView) (keys : List (Option ℕ)) (index : IsIndex s keys)
 
   -- there is room for a new entry where a number is free
   pub room_for : (n : ℕ) → n < length keys → at keys n ≡ None → HasRoomFor s 1
-  room_for n low free = omega (arith, count_keys n (Some 0) low, ap (λ o. cond {A = ℕ} (is_some o) 1 0) free, count_by-le-length is_some (set keys n (Some 0)), length-set keys n (Some 0), index.stored, index.fits)
+  room_for n low free = omega (
+    arith,
+    count_keys n (Some 0) low,
+    ap (λ o. cond {A = ℕ} (is_some o) 1 0) free,
+    count_by-le-length is_some (set keys n (Some 0)),
+    length-set keys n (Some 0),
+    index.stored,
+    index.fits,
+  )
 
   pub seen_opened : (new : Slab OpenView) (n k : ℕ) (x : OpenView) → n < length keys → get s k ≡ None → Updates s new k (Some x) → seen new (set keys n (Some k)) ≡ set (seen s keys) n (Some x)
   seen_opened new n k x low none updates = seen_set s new keys (set keys n (Some k)) n (Some x) (length-set keys n (Some k)) low
@@ -96,10 +109,12 @@ module _ (s : Slab OpenView) (keys : List (Option ℕ)) (index : IsIndex s keys)
       (ap (entry_in new) (get_or-set_same keys n None None (low_at keys n k is)))
       (λ m differs. ap (entry_in new) (get_or-set_other keys n m None None differs) ∙ others_stay new k None updates m (other_key n m k is differs))
 
-  pub index_opened : (new : Slab OpenView) (n k : ℕ) (x : OpenView) → n < length keys → at keys n ≡ None → get s k ≡ None → Updates s new k (Some x) → slab_len new ≡ slab_len s + 1 → new.capacity ≡ s.capacity → IsIndex new (set keys n (Some k))
+  pub index_opened : (new : Slab OpenView) (n k : ℕ) (x : OpenView) → n < length keys → at keys n ≡ None → get s k ≡ None → Updates s new k (Some x)
+      → slab_len new ≡ slab_len s + 1 → new.capacity ≡ s.capacity → IsIndex new (set keys n (Some k))
   index_opened new n k x low free none updates len capacity = record {
     lives = λ m j js. elim (eqb_tells m n) [
-      | inl e ↦ (let same : Some k ≡ Some j = sym (get_or-set_same keys n (Some k) None low) ∙ ap (at (set keys n (Some k))) (sym e.1) ∙ js in let equal : k ≡ j = cc in ap (λ i. is_some (get new i)) (sym equal) ∙ ap is_some updates.changed)
+      | inl e ↦ (let same : Some k ≡ Some j = sym (get_or-set_same keys n (Some k) None low) ∙ ap (at (set keys n (Some k))) (sym e.1) ∙ js in
+          let equal : k ≡ j = cc in ap (λ i. is_some (get new i)) (sym equal) ∙ ap is_some updates.changed)
       | inr e ↦ (let was = sym (get_or-set_other keys n m (Some k) None e.1) ∙ js in ap is_some (updates.others j (fresh_key k none m j was)) ∙ index.lives m j was)
     ];
     differ = λ a b j ha hb. elim (eqb_tells a n) [

@@ -25,7 +25,14 @@ module _ (objects : ℕ) where
   at_owners (e ∷ es) (suc n) = at_owners es n
 
   -- a change of one entry
-  tables_set : (es : List (Option OpenView)) (n : ℕ) (x : Option OpenView) → table_of (set es n x) objects ≡ record { opens = set (table_of es objects).opens n (open_in x); offsets = set (table_of es objects).offsets n (offset_in x); owners = set (table_of es objects).owners n (owners_in x); objects = objects }
+  tables_set : (es : List (Option OpenView)) (n : ℕ) (x : Option OpenView) → table_of (set es n x) objects ≡ record {
+    opens =
+        set (table_of es objects).opens n (open_in x);
+    offsets = set (table_of es objects).offsets n (offset_in x);
+    owners =
+        set (table_of es objects).owners n (owners_in x);
+    objects = objects;
+  }
   tables_set es n x = rw (map-set open_in es n x, map-set offset_in es n x, map-set owners_in es n x) refl
 
   pub tables_entry : (es : List (Option OpenView)) (n : ℕ) (v : OpenView) → table_of (set es n (Some v)) objects ≡ with_entry n v (table_of es objects)
@@ -46,7 +53,8 @@ module _ (objects : ℕ) where
   pub shown_is : (es : List (Option OpenView)) (n : ℕ) → at es n ≡ option_map (shown (table_of es objects) n) (at (table_of es objects).opens n)
   shown_is es n = go (at es n) (at_opens es n) (at_offsets es n) (at_owners es n)
     where
-      go : (e : Option OpenView) → at (table_of es objects).opens n ≡ open_in e → get_or (table_of es objects).offsets n 0 ≡ offset_in e → get_or (table_of es objects).owners n 0 ≡ owners_in e → e ≡ option_map (shown (table_of es objects) n) (at (table_of es objects).opens n)
+      go : (e : Option OpenView) → at (table_of es objects).opens n ≡ open_in e → get_or (table_of es objects).offsets n 0 ≡ offset_in e
+          → get_or (table_of es objects).owners n 0 ≡ owners_in e → e ≡ option_map (shown (table_of es objects) n) (at (table_of es objects).opens n)
       go None opens offset owners = rw opens refl
       go (Some v) opens offset owners = rw (opens, offset, owners) refl
 

@@ -1,5 +1,6 @@
 -- What the tables show of the slab and the keys that stand behind them.
-use Rattle.std.proofs.Common.{◌≡◌, ◌<◌, ◌==◌, ◌&&◌, ◌+◌, ◌-◌, ◌^◌, ℕ, Bool, true, false, List, length, count_by, Option, Some, None, is_some, is_none, refl, sym, ap, ◌∙◌, get_or, set, option_map, subst, nat_lt, arith, IfSome}
+use Rattle.std.proofs.Common.{◌≡◌, ◌<◌, ◌==◌, ◌&&◌, ◌+◌, ◌-◌, ◌^◌, ℕ, Bool, true, false, List, length, count_by, Option, Some, None, is_some, is_none}
+use Rattle.std.proofs.Common.{refl, sym, ap, ◌∙◌, get_or, set, option_map, subst, nat_lt, arith, IfSome}
 use Rattle.std.proofs.lemmas.List.{length-map}
 use Rattle.std.proofs.lemmas.Bool.{and_parts, eqb-true}
 use Rattle.ix_model.specs.world.World.{Open, at, lowest_free, is_on, held}
@@ -54,10 +55,12 @@ module _ (s : Slab OpenView) (keys : List (Option ℕ)) (objects : ℕ) (t : Ope
 
     -- an entry in the place of another
     pub entry_edited : (n k : ℕ) (v : OpenView) → at keys n ≡ Some k → is_some (get s k) ≡ true → table_of (seen (record s { slots = set s.slots k (Some v) }) keys) objects ≡ with_entry n v t
-    entry_edited n k v key there = ap (λ es. table_of es objects) (seen_edited s keys index _ n k v key (Updates-with_value s k v there)) ∙ tables_entry objects (seen s keys) n v ∙ ap (with_entry n v) view
+    entry_edited n k v key there = ap (λ es. table_of es objects) (seen_edited s keys index _ n k v key (Updates-with_value s k v there))
+        ∙ tables_entry objects (seen s keys) n v ∙ ap (with_entry n v) view
 
     -- an entry comes
-    pub entry_opened : (new : Slab OpenView) (n k : ℕ) (v : OpenView) → n < length keys → get s k ≡ None → Updates s new k (Some v) → table_of (seen new (set keys n (Some k))) objects ≡ with_entry n v t
+    pub entry_opened : (new : Slab OpenView) (n k : ℕ) (v : OpenView) → n < length keys → get s k ≡ None → Updates s new k (Some v)
+        → table_of (seen new (set keys n (Some k))) objects ≡ with_entry n v t
     entry_opened new n k v low none updates = ap (λ es. table_of es objects) (seen_opened s keys index new n k v low none updates) ∙ tables_entry objects (seen s keys) n v ∙ ap (with_entry n v) view
 
     -- an entry goes
@@ -77,7 +80,8 @@ module _ (s : Slab OpenView) (keys : List (Option ℕ)) (objects : ℕ) (t : Ope
     not_held_shown o end past = ap (λ (u : OpenTable). held u.opens o end) (sym view) ∙ not_held (seen s keys) counts objects sure o end past
 
     -- the counts after an entry is edited in its place
-    pub counted_edited : IsIndex s keys → (n k : ℕ) (v w : OpenView) → at keys n ≡ Some k → get s k ≡ Some w → is_on v.obj.0 v.end (at t.opens n) ≡ true → 0 < v.owners → AreCounted (seen (record s { slots = set s.slots k (Some v) }) keys) counts objects
+    pub counted_edited : IsIndex s keys → (n k : ℕ) (v w : OpenView) → at keys n ≡ Some k → get s k ≡ Some w → is_on v.obj.0 v.end (at t.opens n) ≡ true
+        → 0 < v.owners → AreCounted (seen (record s { slots = set s.slots k (Some v) }) keys) counts objects
     counted_edited index n k v w key entry there owned =
         let same : (w.obj.0 == v.obj.0 && w.end == v.end) ≡ true = ap (is_on v.obj.0 v.end) (sym (opens_at n k w key entry)) ∙ there in
         let parts = and_parts _ _ same in
@@ -102,7 +106,8 @@ module _ (s : Slab OpenView) (keys : List (Option ℕ)) (objects : ℕ) (counts 
     pub count_below : x + 1 < 2 ^ 32
     count_below = omega (arith, was, count_fits (seen s keys) counts objects sure n v room vacant)
 
-    pub counted_opened : (new : Slab OpenView) (k : ℕ) → get s k ≡ None → Updates s new k (Some v) → 0 < v.owners → v.end < 2 → v.obj.0 < objects → AreCounted (seen new (set keys n (Some k))) (set counts q (x + 1)) objects
+    pub counted_opened : (new : Slab OpenView) (k : ℕ) → get s k ≡ None → Updates s new k (Some v) → 0 < v.owners → v.end < 2 → v.obj.0 < objects
+        → AreCounted (seen new (set keys n (Some k))) (set counts q (x + 1)) objects
     counted_opened new k none updates owned end within =
         let more = counted_more (seen s keys) counts objects sure n v room vacant owned end within in
         rw (seen_opened s keys index new n k v low none updates, there, was) more

@@ -1,5 +1,6 @@
 -- What the tables show of a new process, and what adding, changing and removing one rests on.
-use Rattle.std.proofs.Common.{◌≡◌, ◌<◌, ◌+◌, ℕ, true, false, List, [], ◌∷◌, ◌++◌, length, nat_lt, count_by, slice_get, Option, Some, None, is_some, option_map, refl, sym, ap, ◌∙◌, subst, arith, get_or, set}
+use Rattle.std.proofs.Common.{◌≡◌, ◌<◌, ◌+◌, ℕ, true, false, List, [], ◌∷◌, ◌++◌, length, nat_lt, count_by, slice_get, Option, Some, None, is_some}
+use Rattle.std.proofs.Common.{option_map, refl, sym, ap, ◌∙◌, subst, arith, get_or, set}
 use Rattle.std.specs.Option.{option_map_or, option_and_then}
 use Rattle.std.specs.List.{list_any, remove, Contains}
 use Rattle.std.proofs.lemmas.Bool.{lt-ltb}
@@ -30,7 +31,8 @@ free_first : (free : List ℕ) (i : ℕ) → Some i ≡ slice_get free 0 → (re
 free_first [] i e = absurd (cc e)
 free_first (x ∷ rest) i e = let both : Some i ≡ Some x = e in let same : i ≡ x = cc in (rest, ap (λ y. y ∷ rest) (sym same))
 
-module _ (t : List Slot) (rs : List Record) (n limit : ℕ) (k : Chains) (are : AreSlots t rs n) (kin : AreKin t rs k limit) (fit : length rs ≡ limit) (table : ProcTable) (view : table_of (laid t rs n) limit ≡ table) where
+module _ (t : List Slot) (rs : List Record) (n limit : ℕ) (k : Chains) (are : AreSlots t rs n) (kin : AreKin t rs k limit) (fit : length rs ≡ limit)
+    (table : ProcTable) (view : table_of (laid t rs n) limit ≡ table) where
   pub taken : count_by is_some table.processes ≡ length t
   taken = ap (λ (u : ProcTable). count_by is_some u.processes) (sym view) ∙ count_processes (laid t rs n) ∙ sym are.counted
 
@@ -56,33 +58,40 @@ module _ (t : List Slot) (rs : List Record) (n limit : ℕ) (k : Chains) (are : 
       go None e = tt
       go (Some q) e = lives_there t rs q.0 (kin.parents p s q is e)
 
-  pub parent_same : (p : ℕ) (s : Slot) → lookup t p ≡ Some s → (o : Option Pid) → option_and_then (λ (x : Process). x.parent) (at table.processes p) ≡ option_map number_of o → o ≡ (record_at rs s.link).parent
+  pub parent_same : (p : ℕ) (s : Slot) → lookup t p ≡ Some s → (o : Option Pid) → option_and_then (λ (x : Process). x.parent) (at table.processes p)
+      ≡ option_map number_of o → o ≡ (record_at rs s.link).parent
   parent_same p s is o e = pid_same o (record_at rs s.link).parent (sym e ∙ ap (λ (x : Option Process). option_and_then (λ (y : Process). y.parent) x) (process_is t rs n limit are table view p s is))
 
   -- a link is free
-  module _ (x : Slot) (r : Record) (c : ℕ) (first : Some x.link ≡ slice_get k.free 0) (is : pid_in x ≡ length table.processes) (bears : r.who.pid.0 ≡ length table.processes) (hangs : Hangs t limit r.parent c) (lives : option_map_or (λ q. is_some (living (at table.processes q.0))) r.parent true ≡ true) where
-    free : k.free ≡ x.link ∷ (free_first k.free x.link first).0
-    free = (free_first k.free x.link first).1
+  module _ (x : Slot) (r : Record) (c : ℕ) (first : Some x.link ≡ slice_get k.free 0) (is : pid_in x ≡ length table.processes) (bears : r.who.pid.0
+      ≡ length table.processes) (hangs : Hangs t limit r.parent c) (lives : option_map_or (λ q. is_some (living (at table.processes q.0))) r.parent true ≡ true)
+    where
+      free : k.free ≡ x.link ∷ (free_first k.free x.link first).0
+      free = (free_first k.free x.link first).1
 
-    pub room : nat_lt (count_by is_some table.processes) table.limit ≡ true
-    room = lt-ltb _ _ (omega (arith, taken, limit_is, kin.spare, ap length free))
+      pub room : nat_lt (count_by is_some table.processes) table.limit ≡ true
+      room = lt-ltb _ _ (omega (arith, taken, limit_is, kin.spare, ap length free))
 
-    pub in_records : x.link < length rs
-    in_records = low t rs n limit k are kin fit x r (free_first k.free x.link first).0 (is ∙ next_pid_is) free c hangs (parent_lives r.parent lives)
+      pub in_records : x.link < length rs
+      in_records = low t rs n limit k are kin fit x r (free_first k.free x.link first).0 (is ∙ next_pid_is) free c hangs (parent_lives r.parent lives)
 
-    pub pushed_are : AreSlots (t ++ x ∷ []) (set rs x.link r) (n + 1)
-    pushed_are = are_pushed t rs n are x r (is ∙ next_pid_is) in_records (new_link t rs n limit k are kin fit x r (free_first k.free x.link first).0 (is ∙ next_pid_is) free c hangs (parent_lives r.parent lives)) (bears ∙ next_pid_is)
+      pub pushed_are : AreSlots (t ++ x ∷ []) (set rs x.link r) (n + 1)
+      pushed_are = are_pushed t rs n are x r (is ∙ next_pid_is) in_records (new_link t rs n limit k are kin fit x r (free_first k.free x.link first).0 (is
+          ∙ next_pid_is) free c hangs (parent_lives r.parent lives)) (bears ∙ next_pid_is)
 
-    pub pushed_kin : AreKin (t ++ x ∷ []) (set rs x.link r) (pushed_back c k) limit
-    pushed_kin = kin_pushed t rs n limit k are kin fit x r (free_first k.free x.link first).0 (is ∙ next_pid_is) free c hangs (parent_lives r.parent lives)
+      pub pushed_kin : AreKin (t ++ x ∷ []) (set rs x.link r) (pushed_back c k) limit
+      pushed_kin = kin_pushed t rs n limit k are kin fit x r (free_first k.free x.link first).0 (is ∙ next_pid_is) free c hangs (parent_lives r.parent lives)
 
-    pub pushed_table : status_in (Some r) ≡ 0 → table_of (laid (t ++ x ∷ []) (set rs x.link r) (n + 1)) limit ≡ with_process (process_of r) table
-    pushed_table none =
-        let P : ProcTable → Type 0 = λ u. table_of (laid (t ++ x ∷ []) (set rs x.link r) (n + 1)) limit ≡ with_process (process_of r) u in
-        subst P view (ap (λ es. table_of es limit) (laid_pushed t rs n are x r (is ∙ next_pid_is) in_records (new_link t rs n limit k are kin fit x r (free_first k.free x.link first).0 (is ∙ next_pid_is) free c hangs (parent_lives r.parent lives)) (bears ∙ next_pid_is)) ∙ tables_pushed limit (laid t rs n) r none)
+      pub pushed_table : status_in (Some r) ≡ 0 → table_of (laid (t ++ x ∷ []) (set rs x.link r) (n + 1)) limit ≡ with_process (process_of r) table
+      pushed_table none =
+          let P : ProcTable → Type 0 = λ u. table_of (laid (t ++ x ∷ []) (set rs x.link r) (n + 1)) limit ≡ with_process (process_of r) u in
+          subst P view (ap (λ es. table_of es limit) (laid_pushed t rs n are x r (is
+          ∙ next_pid_is) in_records (new_link t rs n limit k are kin fit x r (free_first k.free x.link first).0 (is ∙ next_pid_is) free c hangs
+          (parent_lives r.parent lives)) (bears ∙ next_pid_is)) ∙ tables_pushed limit (laid t rs n) r none)
 
   -- another record in its place
-  pub set_kin : (p : ℕ) (s : Slot) → lookup t p ≡ Some s → (r : Record) → option_and_then (λ (x : Process). x.parent) (at table.processes p) ≡ option_map number_of r.parent → (is_some r.ended ≡ true → list_any (is_child p) table.processes ≡ false) → AreKin t (set rs s.link r) k limit
+  pub set_kin : (p : ℕ) (s : Slot) → lookup t p ≡ Some s → (r : Record) → option_and_then (λ (x : Process). x.parent) (at table.processes p)
+      ≡ option_map number_of r.parent → (is_some r.ended ≡ true → list_any (is_child p) table.processes ≡ false) → AreKin t (set rs s.link r) k limit
   set_kin p s is r parent alone = kin_set t rs n limit k are kin fit p s is r (parent_same p s is r.parent parent) (λ ended. childless_from t rs n limit are table view p (alone ended))
 
   -- a slot that goes, as it was read
@@ -97,4 +106,5 @@ module _ (t : List Slot) (rs : List Record) (n limit : ℕ) (k : Chains) (are : 
     removed_held = subst (λ (i : ℕ). Contains (chain_of c k) i) (sym same_link) (held t rs n limit k are kin fit j p d there c hangs_behind)
 
     pub removed_kin : list_any (is_child p) table.processes ≡ false → AreKin (remove t j) rs (removed c d.link k) limit
-    removed_kin none = subst (λ (i : ℕ). AreKin (remove t j) rs (removed c i k) limit) (sym same_link) (kin_removed t rs n limit k are kin fit j p d there c hangs_behind (childless_from t rs n limit are table view p none))
+    removed_kin none = subst (λ (i : ℕ). AreKin (remove t j) rs (removed c i k) limit) (sym same_link) (kin_removed t rs n limit k are kin fit j p d there c
+        hangs_behind (childless_from t rs n limit are table view p none))

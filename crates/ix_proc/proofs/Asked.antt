@@ -1,5 +1,6 @@
 -- What the chains answer of the children of a process.
-use Rattle.std.proofs.Common.{◌≡◌, IsTrue, ◌<◌, ◌==◌, ℕ, Bool, true, false, true≢false, ◌&&◌, List, [], length, slice_get, get_or, Option, Some, None, is_some, unwrap_or, option_map, refl, sym, ap, ◌∙◌, arith, inl, inr}
+use Rattle.std.proofs.Common.{◌≡◌, IsTrue, ◌<◌, ◌==◌, ℕ, Bool, true, false, true≢false, ◌&&◌, List, [], length, slice_get, get_or, Option, Some, None}
+use Rattle.std.proofs.Common.{is_some, unwrap_or, option_map, refl, sym, ap, ◌∙◌, arith, inl, inr}
 use Rattle.std.specs.Option.{option_map_or}
 use Rattle.std.specs.List.{find, list_any}
 use Rattle.std.proofs.lemmas.Bool.Decides.{eqb_tells}
@@ -17,7 +18,8 @@ use Rattle.ix_model.specs.declared.ids.Pid.{Pid}
 use Rattle.ix_proc.specs.declared.slot.Slot.{Slot}
 use Rattle.ix_proc.specs.declared.slot.Record.{Record}
 
-module _ (t : List Slot) (rs : List Record) (n limit : ℕ) (k : Chains) (are : AreSlots t rs n) (kin : AreKin t rs k limit) (table : ProcTable) (view : table_of (laid t rs n) limit ≡ table) (p : ℕ) where
+module _ (t : List Slot) (rs : List Record) (n limit : ℕ) (k : Chains) (are : AreSlots t rs n) (kin : AreKin t rs k limit) (table : ProcTable)
+    (view : table_of (laid t rs n) limit ≡ table) (p : ℕ) where
   -- a process that doesn't live has no child
   dead_linked : is_some (living (at table.processes p)) ≡ false → linked (is_child_record p) t rs ≡ []
   dead_linked dead = linked_none (is_child_record p) t rs fails
@@ -73,7 +75,8 @@ module _ (t : List Slot) (rs : List Record) (n limit : ℕ) (k : Chains) (are : 
       child_low = omega (arith, are.inside (pid_in child.0) child.0 child_here, child.2)
 
       pub child_ended : is_some (record_at rs i).ended ≡ true
-      child_ended = ap (λ (j : ℕ). is_some (record_at rs j).ended) (sym child.2) ∙ second (is_child_record p (record_at rs child.0.link)) (first_found (ended_test t rs n limit are table view p) t child.0 are.rises child.1).yes_here
+      child_ended = ap (λ (j : ℕ). is_some (record_at rs j).ended) (sym child.2)
+          ∙ second (is_child_record p (record_at rs child.0.link)) (first_found (ended_test t rs n limit are table view p) t child.0 are.rises child.1).yes_here
         where
           second : (b : Bool) → (b && is_some (record_at rs child.0.link).ended) ≡ true → is_some (record_at rs child.0.link).ended ≡ true
           second true h = h

@@ -1,5 +1,6 @@
 -- The first slot that passes a test is that of the lowest pid whose process passes it.
-use Rattle.std.proofs.Common.{◌≡◌, ◌<◌, ◌+◌, ◌==◌, ℕ, Bool, true, false, true≢false, ◌&&◌, List, [], ◌∷◌, length, position, cond, nat_lt, if◌then◌else◌, Option, Some, None, is_some, option_map, slice_get, refl, sym, ap, subst, ◌∙◌, arith, inl, inr}
+use Rattle.std.proofs.Common.{◌≡◌, ◌<◌, ◌+◌, ◌==◌, ℕ, Bool, true, false, true≢false, ◌&&◌, List, [], ◌∷◌, length, position, cond, nat_lt}
+use Rattle.std.proofs.Common.{if◌then◌else◌, Option, Some, None, is_some, option_map, slice_get, refl, sym, ap, subst, ◌∙◌, arith, inl, inr}
 use Rattle.std.specs.Option.{option_map_or}
 use Rattle.std.specs.List.{find, list_any, position_or_len}
 use Rattle.std.proofs.lemmas.List.{length-map}
@@ -30,7 +31,8 @@ any_position p (x ∷ xs) = go (p x) refl (any_position p xs)
   where
     go : (b : Bool) → p x ≡ b → list_any p xs ≡ is_some (position p xs) → list_any p (x ∷ xs) ≡ is_some (position p (x ∷ xs))
     go true e more = rw (e, lt-ltb 0 (length (x ∷ xs)) (omega arith)) refl
-    go false e more = rw e (more ∙ some_if (nat_lt (position_or_len p xs) (length xs)) (position_or_len p xs) ∙ grind (arith, nat_tests) ∙ sym (some_if (nat_lt (1 + position_or_len p xs) (length (x ∷ xs))) (1 + position_or_len p xs)))
+    go false e more = rw e (more ∙ some_if (nat_lt (position_or_len p xs) (length xs)) (position_or_len p xs) ∙ grind (arith, nat_tests)
+        ∙ sym (some_if (nat_lt (1 + position_or_len p xs) (length (x ∷ xs))) (1 + position_or_len p xs)))
 
 abbrev passes : (Slot → Bool) → Option Slot → Bool
 passes T s = option_map_or T s false
@@ -77,7 +79,8 @@ none_found T (x ∷ t) q is = go (T x) refl is (λ more. none_found T t q more)
     go false e is rest = elim (eqb_tells (pid_in x) q) [ inl s ↦ rw s.0 e | inr s ↦ rw s.0 (rest is) ]
 
 -- ---- a test of slots, and the same one of the tables
-module _ (T : Slot → Bool) (Q : Option Process → Bool) (t : List Slot) (rs : List Record) (n l : ℕ) (are : AreSlots t rs n) (same : (s : Slot) → Q (Some (process_of (record_at rs s.link))) ≡ T s) (none : Q None ≡ false) where
+module _ (T : Slot → Bool) (Q : Option Process → Bool) (t : List Slot) (rs : List Record) (n l : ℕ) (are : AreSlots t rs n) (same : (s : Slot)
+    → Q (Some (process_of (record_at rs s.link))) ≡ T s) (none : Q None ≡ false) where
   seen : (o : Option Slot) → Q (process_in (led rs o)) ≡ passes T o
   seen None = none
   seen (Some s) = same s
@@ -90,13 +93,15 @@ module _ (T : Slot → Bool) (Q : Option Process → Bool) (t : List Slot) (rs :
 
   pub positioned : (r : Option Slot) → find T t ≡ r → position Q (table_of (laid t rs n) l).processes ≡ option_map pid_in r
   positioned None is =
-      let end = position_or_len_is Q (table_of (laid t rs n) l).processes (length (table_of (laid t rs n) l).processes) None (omega arith) (λ k low. seen_at k ∙ none_found T t k is) (λ low. absurd (omega arith)) in
+      let end = position_or_len_is Q (table_of (laid t rs n) l).processes (length (table_of (laid t rs n) l).processes) None (omega arith) (λ k low. seen_at k
+      ∙ none_found T t k is) (λ low. absurd (omega arith)) in
       rw (end, le-ltb (length (table_of (laid t rs n) l).processes) (length (table_of (laid t rs n) l).processes) (omega arith)) refl
   positioned (Some s) is =
       let first = first_found T t s are.rises is in
       let low : pid_in s < n = elim (cases_lt (pid_in s) n) [ inl low ↦ low | inr past ↦ absurd (let gone = lookup_below t n (pid_in s) are.below past in cc (gone, first.here)) ] in
       let inside : pid_in s < length (table_of (laid t rs n) l).processes = omega (arith, low, many) in
-      let place = position_or_len_is Q (table_of (laid t rs n) l).processes (pid_in s) None (omega arith) (λ k less. seen_at k ∙ first.none_before k less) (λ _. seen_at (pid_in s) ∙ ap (passes T) first.here ∙ first.yes_here) in
+      let place = position_or_len_is Q (table_of (laid t rs n) l).processes (pid_in s) None (omega arith) (λ k less. seen_at k ∙ first.none_before k less)
+      (λ _. seen_at (pid_in s) ∙ ap (passes T) first.here ∙ first.yes_here) in
       rw (place, lt-ltb (pid_in s) (length (table_of (laid t rs n) l).processes) inside) refl
 
   pub any_is : list_any Q (table_of (laid t rs n) l).processes ≡ is_some (find T t)
@@ -111,15 +116,20 @@ first_some : (P : Record → Bool) (t : List Slot) (rs : List Record) → is_som
 first_some P [] rs = refl
 first_some P (s ∷ t) rs = go (P (record_at rs s.link)) (first_some P t rs)
   where
-    go : (b : Bool) → is_some (slice_get (linked P t rs) 0) ≡ is_some (find (λ (s : Slot). P (record_at rs s.link)) t) → is_some (slice_get (if b then s.link ∷ linked P t rs else linked P t rs) 0) ≡ is_some (if b then Some s else find (λ (s : Slot). P (record_at rs s.link)) t)
+    go : (b : Bool) → is_some (slice_get (linked P t rs) 0) ≡ is_some (find (λ (s : Slot). P (record_at rs s.link)) t)
+        → is_some (slice_get (if b then s.link ∷ linked P t rs else linked P t rs) 0) ≡ is_some (if b then Some s else
+        find (λ (s : Slot). P (record_at rs s.link)) t)
     go true more = refl
     go false more = more
 
-pub find_linked : (P E : Record → Bool) (t : List Slot) (rs : List Record) → find (λ (i : ℕ). E (record_at rs i)) (linked P t rs) ≡ option_map (λ (s : Slot). s.link) (find (λ (s : Slot). P (record_at rs s.link) && E (record_at rs s.link)) t)
+pub find_linked : (P E : Record → Bool) (t : List Slot) (rs : List Record) → find (λ (i : ℕ). E (record_at rs i)) (linked P t rs)
+    ≡ option_map (λ (s : Slot). s.link) (find (λ (s : Slot). P (record_at rs s.link) && E (record_at rs s.link)) t)
 find_linked P E [] rs = refl
 find_linked P E (s ∷ t) rs = go (P (record_at rs s.link)) (E (record_at rs s.link)) refl (find (λ (s : Slot). P (record_at rs s.link) && E (record_at rs s.link)) t) (find_linked P E t rs)
   where
-    go : (b e : Bool) → E (record_at rs s.link) ≡ e → (right : Option Slot) → find (λ (i : ℕ). E (record_at rs i)) (linked P t rs) ≡ option_map (λ (s : Slot). s.link) right → find (λ (i : ℕ). E (record_at rs i)) (if b then s.link ∷ linked P t rs else linked P t rs) ≡ option_map (λ (s : Slot). s.link) (if b && e then Some s else right)
+    go : (b e : Bool) → E (record_at rs s.link) ≡ e → (right : Option Slot) → find (λ (i : ℕ). E (record_at rs i)) (linked P t rs)
+        ≡ option_map (λ (s : Slot). s.link) right → find (λ (i : ℕ). E (record_at rs i)) (if b then s.link ∷ linked P t rs else linked P t rs)
+        ≡ option_map (λ (s : Slot). s.link) (if b && e then Some s else right)
     go true true is right more = ap (λ (c : Bool). if c then Some s.link else find (λ (i : ℕ). E (record_at rs i)) (linked P t rs)) is
     go true false is right more = ap (λ (c : Bool). if c then Some s.link else find (λ (i : ℕ). E (record_at rs i)) (linked P t rs)) is ∙ more
     go false e is right more = more
@@ -129,7 +139,8 @@ none_linked : (P : Record → Bool) (t : List Slot) (rs : List Record) → is_so
 none_linked P [] rs empty q u is = absurd (cc is)
 none_linked P (s ∷ t) rs empty q u is = go (P (record_at rs s.link)) refl empty (λ more. none_linked P t rs more q u)
   where
-    go : (b : Bool) → P (record_at rs s.link) ≡ b → is_some (slice_get (if b then s.link ∷ linked P t rs else linked P t rs) 0) ≡ false → (is_some (slice_get (linked P t rs) 0) ≡ false → lookup t q ≡ Some u → P (record_at rs u.link) ≡ false) → P (record_at rs u.link) ≡ false
+    go : (b : Bool) → P (record_at rs s.link) ≡ b → is_some (slice_get (if b then s.link ∷ linked P t rs else linked P t rs) 0) ≡ false
+        → (is_some (slice_get (linked P t rs) 0) ≡ false → lookup t q ≡ Some u → P (record_at rs u.link) ≡ false) → P (record_at rs u.link) ≡ false
     go true e none rest = absurd (true≢false none)
     go false e none rest = elim (eqb_tells (pid_in s) q) [
       | inl h ↦ (let first : Some s ≡ Some u = sym (rw h.0 refl) ∙ is in let equal : s ≡ u = cc in ap (λ (y : Slot). P (record_at rs y.link)) (sym equal) ∙ e)
@@ -146,7 +157,9 @@ child_seen pid r = go r.parent
 -- ---- the children of a process in the tables
 module _ (t : List Slot) (rs : List Record) (n limit : ℕ) (are : AreSlots t rs n) (table : ProcTable) (view : table_of (laid t rs n) limit ≡ table) (p : ℕ) where
   pub has_child_is : list_any (is_child p) table.processes ≡ is_some (slice_get (linked (is_child_record p) t rs) 0)
-  has_child_is = ap (λ (u : ProcTable). list_any (is_child p) u.processes) (sym view) ∙ any_is (λ (s : Slot). is_child_record p (record_at rs s.link)) (is_child p) t rs n limit are (λ s. child_seen p (record_at rs s.link)) refl ∙ sym (first_some (is_child_record p) t rs)
+  has_child_is = ap (λ (u : ProcTable). list_any (is_child p) u.processes) (sym view)
+      ∙ any_is (λ (s : Slot). is_child_record p (record_at rs s.link)) (is_child p) t rs n limit are (λ s. child_seen p (record_at rs s.link)) refl
+      ∙ sym (first_some (is_child_record p) t rs)
 
   pub childless_from : list_any (is_child p) table.processes ≡ false → Childless t rs p
   childless_from none q u is = none_linked (is_child_record p) t rs (sym has_child_is ∙ none) q u is
@@ -161,7 +174,9 @@ module _ (t : List Slot) (rs : List Record) (n limit : ℕ) (are : AreSlots t rs
   ended_test s = is_child_record p (record_at rs s.link) && has_ended (record_at rs s.link)
 
   pub ended_is : (r : Option Slot) → find ended_test t ≡ r → position (λ q. is_child p q && is_ended q) table.processes ≡ option_map pid_in r
-  ended_is r is = ap (λ (u : ProcTable). position (λ q. is_child p q && is_ended q) u.processes) (sym view) ∙ positioned ended_test (λ q. is_child p q && is_ended q) t rs n limit are (λ s. ap (λ b. b && has_ended (record_at rs s.link)) (child_seen p (record_at rs s.link))) refl r is
+  ended_is r is = ap (λ (u : ProcTable). position (λ q. is_child p q && is_ended q) u.processes) (sym view)
+      ∙ positioned ended_test (λ q. is_child p q && is_ended q) t rs n limit are (λ s. ap (λ b. b && has_ended (record_at rs s.link))
+      (child_seen p (record_at rs s.link))) refl r is
 
   -- the slot of the first link whose record has ended
   pub ended_slot : (i : ℕ) → find (λ (j : ℕ). is_some (record_at rs j).ended) (linked (is_child_record p) t rs) ≡ Some i → (s : Slot) × (find ended_test t ≡ Some s) × (s.link ≡ i)

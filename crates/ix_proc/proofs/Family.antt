@@ -1,5 +1,6 @@
 -- A process more, another record in its place, and one that goes keep the chains of children true.
-use Rattle.std.proofs.Common.{◌≡◌, ◌<◌, ◌≤◌, ◌+◌, ◌==◌, ℕ, true, false, true≢false, List, [], ◌∷◌, ◌++◌, length, length-append, nat_lt, Option, Some, None, is_some, option_map, if◌then◌else◌, refl, sym, ap, ◌∙◌, arith, inl, inr, get_or}
+use Rattle.std.proofs.Common.{◌≡◌, ◌<◌, ◌≤◌, ◌+◌, ◌==◌, ℕ, true, false, true≢false, List, [], ◌∷◌, ◌++◌, length, length-append, nat_lt, Option, Some}
+use Rattle.std.proofs.Common.{None, is_some, option_map, if◌then◌else◌, refl, sym, ap, ◌∙◌, arith, inl, inr, get_or}
 use Rattle.std.specs.Option.{option_map_or}
 use Rattle.std.proofs.lemmas.List.{map-append}
 use Rattle.std.proofs.lemmas.Bool.Decides.{eqb_tells}
@@ -38,12 +39,14 @@ module _ (t : List Slot) (rs : List Record) (n limit : ℕ) (k : Chains) (are : 
 
   -- no child of a pid that isn't given yet
   pub childless : (p : ℕ) → n ≤ p → linked (is_child_record p) t rs ≡ []
-  childless p high = linked_none (is_child_record p) t rs (λ j d low. parent_below (record_at rs (get_or t j d).link).parent (λ q is. kin.parents (pid_in (get_or t j d)) (get_or t j d) q (lookup_at t j d are.rises low) is))
+  childless p high = linked_none (is_child_record p) t rs (λ j d low. parent_below (record_at rs (get_or t j d).link).parent
+      (λ q is. kin.parents (pid_in (get_or t j d)) (get_or t j d) q (lookup_at t j d are.rises low) is))
     where
       parent_below : (o : Option Pid) → ((q : Pid) → o ≡ Some q → is_some (living (process_in (found t rs q.0))) ≡ true) → option_map_or (λ r. r.0 == p) o false ≡ false
       parent_below None h = refl
       parent_below (Some q) h = elim (eqb_tells q.0 p) [
-        | inl e ↦ absurd (let none : lookup t q.0 ≡ None = lookup_below t n q.0 are.below (omega (arith, high, e.1)) in true≢false (sym (h q refl) ∙ ap (λ (o : Option Slot). is_some (living (process_in (option_map (λ (x : Slot). record_at rs x.link) o)))) none))
+        | inl e ↦ absurd (let none : lookup t q.0 ≡ None = lookup_below t n q.0 are.below (omega (arith, high, e.1)) in
+            true≢false (sym (h q refl) ∙ ap (λ (o : Option Slot). is_some (living (process_in (option_map (λ (x : Slot). record_at rs x.link) o)))) none))
         | inr e ↦ e.0
       ]
 

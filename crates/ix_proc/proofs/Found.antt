@@ -16,10 +16,12 @@ slot_of t rs n are k p s there read = found_slot t rs n are k p s there ∙ ap S
 module _ (t : List Slot) (rs : List Record) (n limit : ℕ) (are : AreSlots t rs n) (table : ProcTable) (view : table_of (laid t rs n) limit ≡ table) where
   -- no slot has the pid
   pub absent : (p : ℕ) → lookup t p ≡ None → at table.processes p ≡ None
-  absent p none = ap (λ (u : ProcTable). at u.processes p) (sym view) ∙ at_processes limit (laid t rs n) p ∙ ap process_in (at_laid t rs n p are.below ∙ ap (λ (o : Option Slot). option_map (λ (x : Slot). record_at rs x.link) o) none)
+  absent p none = ap (λ (u : ProcTable). at u.processes p) (sym view) ∙ at_processes limit (laid t rs n) p
+      ∙ ap process_in (at_laid t rs n p are.below ∙ ap (λ (o : Option Slot). option_map (λ (x : Slot). record_at rs x.link) o) none)
 
   pub no_status : (p : ℕ) → lookup t p ≡ None → get_or table.statuses p 0 ≡ 0
-  no_status p none = ap (λ (u : ProcTable). get_or u.statuses p 0) (sym view) ∙ at_statuses limit (laid t rs n) p ∙ ap status_in (at_laid t rs n p are.below ∙ ap (λ (o : Option Slot). option_map (λ (x : Slot). record_at rs x.link) o) none)
+  no_status p none = ap (λ (u : ProcTable). get_or u.statuses p 0) (sym view) ∙ at_statuses limit (laid t rs n) p
+      ∙ ap status_in (at_laid t rs n p are.below ∙ ap (λ (o : Option Slot). option_map (λ (x : Slot). record_at rs x.link) o) none)
 
   pub not_there : (p : ℕ) → lookup t p ≡ None → is_some (at table.processes p) ≡ true → ⊥
   not_there p none there = true≢false (sym there ∙ ap is_some (absent p none))
@@ -39,7 +41,13 @@ module _ (t : List Slot) (rs : List Record) (n limit : ℕ) (are : AreSlots t rs
     pub record_set : (r : Record) → r.who.pid.0 ≡ p → table_of (laid t (set rs s.link r) n) limit ≡ with_record r table
     record_set r bears =
         let P : ProcTable → Type 0 = λ u. table_of (laid t (set rs s.link r) n) limit ≡ with_record r u in
-        subst P view (ap (λ es. table_of es limit) (laid_set t rs n are p s is r) ∙ tables_set limit (laid t rs n) p (Some r) ∙ ap (λ (m : ℕ). record { processes = set (table_of (laid t rs n) limit).processes m (Some (process_of r)); statuses = set (table_of (laid t rs n) limit).statuses m (status_in (Some r)); limit = limit }) (sym bears))
+        subst P view (ap (λ es. table_of es limit) (laid_set t rs n are p s is r) ∙ tables_set limit (laid t rs n) p (Some r)
+        ∙ ap (λ (m : ℕ). record {
+          processes = set (table_of (laid t rs n) limit).processes m (Some (process_of r));
+          statuses =
+              set (table_of (laid t rs n) limit).statuses m (status_in (Some r));
+          limit = limit;
+        }) (sym bears))
 
   pub record_gone : (k p : ℕ) (d : Slot) → Finds (Some k) t p → table_of (laid (remove t k) rs n) limit ≡ collected p table
   record_gone k p d there =

@@ -29,7 +29,10 @@ hangs_there t u roots limit o c slots last hangs = subst (λ (m : ℕ). Hangs t 
 
 -- the children of a pid that was found hang on the chain of its link
 pub hangs_found : (t : List Slot) (roots k : ℕ) (o : Option Pid) (q : Pid) (d : Slot) → Rises t → o ≡ Some q → Finds (Some k) t q.0 → Hangs t roots o (get_or t k d).link
-hangs_found t roots k o q d rises is there = subst (λ (o : Option Pid). Hangs t roots o (get_or t k d).link) (sym is) (get_or t k d, (ap (lookup t) (sym (there.1 d)) ∙ lookup_at t k d rises there.0, refl))
+hangs_found t roots k o q d rises is there = subst (λ (o : Option Pid). Hangs t roots o (get_or t k d).link) (sym is) (
+  get_or t k d,
+  (ap (lookup t) (sym (there.1 d)) ∙ lookup_at t k d rises there.0, refl),
+)
 
 module _ (t : List Slot) (rs : List Record) (n limit : ℕ) (k : Chains) (are : AreSlots t rs n) (kin : AreKin t rs k limit) (fit : length rs ≡ limit) where
   pub link_low : (p : ℕ) (s : Slot) → lookup t p ≡ Some s → s.link < limit
@@ -75,15 +78,18 @@ module _ (t : List Slot) (rs : List Record) (n limit : ℕ) (k : Chains) (are : 
     apart (Some q) behind i low none same = omega (arith, none, found_times t q.0 behind.0 behind.1.0, ap (λ j. times j (links t)) (same ∙ behind.1.1))
 
     -- a record that hangs there comes or goes
-    module _ (r : Record) (hangs : Hangs t limit r.parent c) (f : List ℕ → List ℕ) (new : (Record → Bool) → List ℕ) (hit : (P : Record → Bool) → P r ≡ true → new P ≡ f (linked P t rs)) (miss : (P : Record → Bool) → P r ≡ false → new P ≡ linked P t rs) where
+    module _ (r : Record) (hangs : Hangs t limit r.parent c) (f : List ℕ → List ℕ) (new : (Record → Bool) → List ℕ) (hit : (P : Record → Bool) → P r ≡ true
+        → new P ≡ f (linked P t rs)) (miss : (P : Record → Bool) → P r ≡ false → new P ≡ linked P t rs) where
       pub children_edited : (p : ℕ) (s : Slot) → lookup t p ≡ Some s → get_or (set k.chains c (f (chain_of c k))) s.link [] ≡ new (is_child_record p)
       children_edited p s found = elim (eqb_tells s.link c) [
-        | inl e ↦ ap (λ i. get_or (set k.chains c (f (chain_of c k))) i []) e.1 ∙ get_or-set_same k.chains c (f (chain_of c k)) [] (in_chains r.parent hangs) ∙ ap f (ap (λ i. chain_of i k) (sym e.1) ∙ kin.children p s found) ∙ sym (hit (is_child_record p) (child_is r.parent hangs p s found e.1))
+        | inl e ↦ ap (λ i. get_or (set k.chains c (f (chain_of c k))) i []) e.1 ∙ get_or-set_same k.chains c (f (chain_of c k)) [] (in_chains r.parent hangs)
+            ∙ ap f (ap (λ i. chain_of i k) (sym e.1) ∙ kin.children p s found) ∙ sym (hit (is_child_record p) (child_is r.parent hangs p s found e.1))
         | inr e ↦ get_or-set_other k.chains c s.link (f (chain_of c k)) [] e.1 ∙ kin.children p s found ∙ sym (miss (is_child_record p) (child_not r.parent hangs p s found e.1))
       ]
 
       pub roots_edited : get_or (set k.chains c (f (chain_of c k))) limit [] ≡ new is_root
       roots_edited = elim (eqb_tells limit c) [
-        | inl e ↦ ap (λ i. get_or (set k.chains c (f (chain_of c k))) i []) e.1 ∙ get_or-set_same k.chains c (f (chain_of c k)) [] (in_chains r.parent hangs) ∙ ap f (ap (λ i. chain_of i k) (sym e.1) ∙ kin.roots) ∙ sym (hit is_root (root_is r.parent hangs e.1))
+        | inl e ↦ ap (λ i. get_or (set k.chains c (f (chain_of c k))) i []) e.1 ∙ get_or-set_same k.chains c (f (chain_of c k)) [] (in_chains r.parent hangs)
+            ∙ ap f (ap (λ i. chain_of i k) (sym e.1) ∙ kin.roots) ∙ sym (hit is_root (root_is r.parent hangs e.1))
         | inr e ↦ get_or-set_other k.chains c limit (f (chain_of c k)) [] e.1 ∙ kin.roots ∙ sym (miss is_root (root_not r.parent hangs e.1))
       ]

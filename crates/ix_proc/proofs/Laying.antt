@@ -1,5 +1,6 @@
 -- A change of the slots or the records is a change of what is laid out by pid, and that of the tables.
-use Rattle.std.proofs.Common.{◌≡◌, ◌≢◌, ◌<◌, ◌+◌, ◌==◌, ℕ, Bool, true, false, List, [], ◌∷◌, ◌++◌, map, length, length-append, count_by, cond, Option, Some, None, is_some, refl, sym, ap, ◌∙◌, subst, arith, inl, inr, get_or, set}
+use Rattle.std.proofs.Common.{◌≡◌, ◌≢◌, ◌<◌, ◌+◌, ◌==◌, ℕ, Bool, true, false, List, [], ◌∷◌, ◌++◌, map, length, length-append, count_by, cond, Option}
+use Rattle.std.proofs.Common.{Some, None, is_some, refl, sym, ap, ◌∙◌, subst, arith, inl, inr, get_or, set}
 use Rattle.std.specs.List.{remove, range_with_len}
 use Rattle.std.proofs.lemmas.List.{map-set, map-append, length-set, get_or_past, same_lists, get_or-set_same, get_or-set_other}
 use Rattle.std.proofs.Math.ListN.{get_or-map}
@@ -28,7 +29,8 @@ at_laid t rs n q h = elim (cases_lt q n) [
 ]
 
 -- one pid more or other
-pub laid_put : (new old : List Slot) (ss rs : List Record) (n p : ℕ) (x : Option Record) → p < n → ((q : ℕ) → found new ss q ≡ cond (p == q) x (found old rs q)) → laid new ss n ≡ set (laid old rs n) p x
+pub laid_put : (new old : List Slot) (ss rs : List Record) (n p : ℕ) (x : Option Record) → p < n → ((q : ℕ) → found new ss q ≡ cond (p == q) x (found old rs q))
+    → laid new ss n ≡ set (laid old rs n) p x
 unfolding laid
 laid_put new old ss rs n p x low seen = same_lists _ _ (length_laid new ss n ∙ sym (length-set (laid old rs n) p x ∙ length_laid old rs n)) (λ q d h.
     let inside : q < n = omega (arith, h, length_laid new ss n) in
@@ -37,7 +39,8 @@ laid_put new old ss rs n p x low seen = same_lists _ _ (length_laid new ss n ∙
       | inr e ↦ rw e.0 (sym (get_or-set_other (laid old rs n) p q x d (λ s. e.1 (sym s)) ∙ get_or-map-range_with_len (found old rs) 0 n q q d inside (omega arith)))
     ])
 
-pub laid_push : (t new : List Slot) (rs ss : List Record) (n : ℕ) (x : Record) → found new ss n ≡ Some x → ((q : ℕ) → q < n → found new ss q ≡ found t rs q) → laid new ss (n + 1) ≡ laid t rs n ++ Some x ∷ []
+pub laid_push : (t new : List Slot) (rs ss : List Record) (n : ℕ) (x : Record) → found new ss n ≡ Some x → ((q : ℕ) → q < n → found new ss q ≡ found t rs q)
+    → laid new ss (n + 1) ≡ laid t rs n ++ Some x ∷ []
 unfolding laid
 laid_push t new rs ss n x last before =
     let front : map (found new ss) (range_with_len 0 n) ≡ map (found t rs) (range_with_len 0 n) = same_lists _ _ (length_laid new ss n ∙ sym (length_laid t rs n)) (λ q d inside.
@@ -53,7 +56,12 @@ module _ (limit : ℕ) where
   pub at_statuses : (rs : List (Option Record)) (q : ℕ) → get_or (table_of rs limit).statuses q 0 ≡ status_in (at rs q)
   at_statuses rs q = get_or-map status_in rs q None
 
-  pub tables_set : (rs : List (Option Record)) (p : ℕ) (x : Option Record) → table_of (set rs p x) limit ≡ record { processes = set (table_of rs limit).processes p (process_in x); statuses = set (table_of rs limit).statuses p (status_in x); limit = limit }
+  pub tables_set : (rs : List (Option Record)) (p : ℕ) (x : Option Record) → table_of (set rs p x) limit ≡ record {
+    processes =
+        set (table_of rs limit).processes p (process_in x);
+    statuses = set (table_of rs limit).statuses p (status_in x);
+    limit = limit;
+  }
   tables_set rs p x = rw (map-set process_in rs p x, map-set status_in rs p x) refl
 
   pub tables_pushed : (rs : List (Option Record)) (x : Record) → status_in (Some x) ≡ 0 → table_of (rs ++ Some x ∷ []) limit ≡ with_process (process_of x) (table_of rs limit)
@@ -73,7 +81,8 @@ count_processes (Some s ∷ xs) = sum_by-cons one_process (Some (process_of s)) 
 
 -- ---- each change
 -- a slot after all, and its record
-module _ (t : List Slot) (rs : List Record) (n : ℕ) (are : AreSlots t rs n) (x : Slot) (r : Record) (is : pid_in x ≡ n) (low : x.link < length rs) (fresh : (p : ℕ) (s : Slot) → lookup t p ≡ Some s → s.link ≢ x.link) (bears : r.who.pid.0 ≡ n) where
+module _ (t : List Slot) (rs : List Record) (n : ℕ) (are : AreSlots t rs n) (x : Slot) (r : Record) (is : pid_in x ≡ n) (low : x.link < length rs)
+    (fresh : (p : ℕ) (s : Slot) → lookup t p ≡ Some s → s.link ≢ x.link) (bears : r.who.pid.0 ≡ n) where
   low_pids : Below (pid_in x) t
   low_pids = subst (λ (m : ℕ). Below m t) (sym is) are.below
 
@@ -106,7 +115,8 @@ module _ (t : List Slot) (rs : List Record) (n : ℕ) (are : AreSlots t rs n) (x
     below = below_push t n x are.below (omega (arith, is));
     counted = rw laid_pushed (omega (arith, are.counted, length-append t (x ∷ []), sum_by_push (λ (s : Option Record). cond {A = ℕ} (is_some s) 1 0) (laid t rs n) (Some r)));
     inside = λ p s e. omega (arith, length-set rs x.link r, which (λ p s. s.link < length rs) low are.inside p s e);
-    named = which (λ p s. (record_at (set rs x.link r) s.link).who.pid.0 ≡ p) (ap (λ (y : Record). y.who.pid.0) (get_or-set_same rs x.link r _ low) ∙ bears) (λ p s e. ap (λ (y : Record). y.who.pid.0) (get_or-set_other rs x.link s.link r _ (fresh p s e)) ∙ are.named p s e);
+    named = which (λ p s. (record_at (set rs x.link r) s.link).who.pid.0 ≡ p) (ap (λ (y : Record). y.who.pid.0) (get_or-set_same rs x.link r _ low)
+        ∙ bears) (λ p s e. ap (λ (y : Record). y.who.pid.0) (get_or-set_other rs x.link s.link r _ (fresh p s e)) ∙ are.named p s e);
     differ = λ p q s u e f.
         which (λ p s. s.link ≡ u.link → p ≡ q)
         (which (λ q u. x.link ≡ u.link → n ≡ q) (λ _. refl) (λ q u f same. absurd (fresh q u f (sym same))) q u f)
@@ -148,7 +158,9 @@ module _ (t : List Slot) (rs : List Record) (n : ℕ) (are : AreSlots t rs n) wh
       counted = rw (laid_set r) (omega (arith, are.counted, counted_put (Some r)));
       inside = λ q u e. omega (arith, length-set rs s.link r, are.inside q u e);
       named = λ q u e. elim (eqb_tells p q) [
-        | inl f ↦ (let same : Some u ≡ Some s = sym e ∙ ap (lookup t) (sym f.1) ∙ is in let equal : u.link ≡ s.link = cc in ap (λ l. (record_at (set rs s.link r) l).who.pid.0) equal ∙ ap (λ (y : Record). y.who.pid.0) (get_or-set_same rs s.link r _ (are.inside p s is)) ∙ bears ∙ f.1)
+        | inl f ↦ (let same : Some u ≡ Some s = sym e ∙ ap (lookup t) (sym f.1) ∙ is in let equal : u.link ≡ s.link = cc in
+            ap (λ l. (record_at (set rs s.link r) l).who.pid.0) equal ∙ ap (λ (y : Record). y.who.pid.0) (get_or-set_same rs s.link r _ (are.inside p s is))
+            ∙ bears ∙ f.1)
         | inr f ↦ ap (λ (y : Record). y.who.pid.0) (get_or-set_other rs s.link u.link r _ (λ same. f.1 (sym (are.differ q p u s e is same)))) ∙ are.named q u e
       ];
       differ = are.differ;

@@ -24,14 +24,17 @@ other_link s t i none = elim (eqb_tells s.link i) [
 ]
 
 -- a new record under a link that stands in no slot
-pub linked_push : (P : Record → Bool) (t : List Slot) (rs : List Record) (x : Slot) (r : Record) → x.link < length rs → times x.link (links t) ≡ 0 → linked P (t ++ x ∷ []) (set rs x.link r) ≡ linked P t rs ++ (if P r then x.link ∷ [] else [])
+pub linked_push : (P : Record → Bool) (t : List Slot) (rs : List Record) (x : Slot) (r : Record) → x.link < length rs → times x.link (links t) ≡ 0
+    → linked P (t ++ x ∷ []) (set rs x.link r) ≡ linked P t rs ++ (if P r then x.link ∷ [] else [])
 linked_push P [] rs x r low none = ap (λ y. if P y then x.link ∷ [] else []) (get_or-set_same rs x.link r _ low)
 linked_push P (s ∷ t) rs x r low none =
     let apart = other_link s t x.link none in
     let more = linked_push P t rs x r low apart.1 in
     go (P (record_at rs s.link)) (ap P (get_or-set_other rs x.link s.link r _ apart.0)) more
   where
-    go : (b : Bool) → P (record_at (set rs x.link r) s.link) ≡ b → linked P (t ++ x ∷ []) (set rs x.link r) ≡ linked P t rs ++ (if P r then x.link ∷ [] else []) → (if P (record_at (set rs x.link r) s.link) then s.link ∷ linked P (t ++ x ∷ []) (set rs x.link r) else linked P (t ++ x ∷ []) (set rs x.link r)) ≡ (if b then s.link ∷ linked P t rs else linked P t rs) ++ (if P r then x.link ∷ [] else [])
+    go : (b : Bool) → P (record_at (set rs x.link r) s.link) ≡ b → linked P (t ++ x ∷ []) (set rs x.link r) ≡ linked P t rs ++ (if P r then x.link ∷ [] else [])
+        → (if P (record_at (set rs x.link r) s.link) then s.link ∷ linked P (t ++ x ∷ []) (set rs x.link r) else linked P (t ++ x ∷ []) (set rs x.link r))
+        ≡ (if b then s.link ∷ linked P t rs else linked P t rs) ++ (if P r then x.link ∷ [] else [])
     go true e more = rw e (ap (λ l. s.link ∷ l) more)
     go false e more = rw e more
 
@@ -77,7 +80,8 @@ times_at (s ∷ t) zero d low = omega (arith, times_same s.link s.link (links t)
 times_at (s ∷ t) (suc k) d low = omega (arith, times_at t k d (omega arith), times_skip (get_or t k d).link s.link (links t))
 
 -- a slot that goes, whose link is no other's
-pub linked_remove : (P : Record → Bool) (t : List Slot) (rs : List Record) (k : ℕ) (d : Slot) → k < length t → times (get_or t k d).link (links t) ≤ 1 → linked P (remove t k) rs ≡ without (get_or t k d).link (linked P t rs)
+pub linked_remove : (P : Record → Bool) (t : List Slot) (rs : List Record) (k : ℕ) (d : Slot) → k < length t → times (get_or t k d).link (links t) ≤ 1
+    → linked P (remove t k) rs ≡ without (get_or t k d).link (linked P t rs)
 linked_remove P [] rs k d low once = absurd (omega arith)
 linked_remove P (s ∷ t) rs zero d low once = go (P (record_at rs s.link)) rest
   where
@@ -92,7 +96,9 @@ linked_remove P (s ∷ t) rs (suc k) d low once = go (P (record_at rs s.link)) (
     apart : s.link ≢ (get_or t k d).link
     apart same = omega (arith, once, times_same s.link (get_or t k d).link (links t) same, times_at t k d (omega arith))
 
-    go : (b : Bool) → linked P (remove t k) rs ≡ without (get_or t k d).link (linked P t rs) → s.link ≢ (get_or t k d).link → (if b then s.link ∷ linked P (remove t k) rs else linked P (remove t k) rs) ≡ without (get_or t k d).link (if b then s.link ∷ linked P t rs else linked P t rs)
+    go : (b : Bool) → linked P (remove t k) rs ≡ without (get_or t k d).link (linked P t rs) → s.link ≢ (get_or t k d).link
+        → (if b then s.link ∷ linked P (remove t k) rs else linked P (remove t k) rs) ≡ without (get_or t k d).link (if b then s.link ∷ linked P t rs else
+        linked P t rs)
     go true more differs = ap (λ l. s.link ∷ l) more ∙ sym (without_other s.link (get_or t k d).link (linked P t rs) differs)
     go false more differs = more
 

@@ -1,5 +1,6 @@
 -- A new process behind those of its chain keeps the chains of children true.
-use Rattle.std.proofs.Common.{◌≡◌, ◌≢◌, ◌<◌, ◌==◌, ℕ, Bool, true, false, true≢false, List, [], ◌∷◌, ◌++◌, length, cond, Option, Some, None, is_some, if◌then◌else◌, refl, sym, ap, ◌∙◌, subst, arith, inl, inr, get_or, set}
+use Rattle.std.proofs.Common.{◌≡◌, ◌≢◌, ◌<◌, ◌==◌, ℕ, Bool, true, false, true≢false, List, [], ◌∷◌, ◌++◌, length, cond, Option, Some, None, is_some}
+use Rattle.std.proofs.Common.{if◌then◌else◌, refl, sym, ap, ◌∙◌, subst, arith, inl, inr, get_or, set}
 use Rattle.std.specs.Option.{option_map_or}
 use Rattle.std.proofs.lemmas.List.{get_or-set_same, get_or-set_other, length-set, length-append, map-append}
 use Rattle.std.proofs.lemmas.Bool.Decides.{eqb_tells}
@@ -22,7 +23,9 @@ ends : (l : List ℕ) → l ++ [] ≡ l
 ends [] = refl
 ends (y ∷ l) = ap (λ m. y ∷ m) (ends l)
 
-module _ (t : List Slot) (rs : List Record) (n limit : ℕ) (k : Chains) (are : AreSlots t rs n) (kin : AreKin t rs k limit) (fit : length rs ≡ limit) (x : Slot) (r : Record) (rest : List ℕ) (is : pid_in x ≡ n) (free : k.free ≡ x.link ∷ rest) (c : ℕ) (hangs : Hangs t limit r.parent c) (lives : (q : Pid) → r.parent ≡ Some q → is_some (living (process_in (found t rs q.0))) ≡ true) where
+module _ (t : List Slot) (rs : List Record) (n limit : ℕ) (k : Chains) (are : AreSlots t rs n) (kin : AreKin t rs k limit) (fit : length rs ≡ limit) (x : Slot)
+    (r : Record) (rest : List ℕ) (is : pid_in x ≡ n) (free : k.free ≡ x.link ∷ rest) (c : ℕ) (hangs : Hangs t limit r.parent c) (lives : (q : Pid)
+    → r.parent ≡ Some q → is_some (living (process_in (found t rs q.0))) ≡ true) where
   pub low : x.link < length rs
   low = omega (arith, fit, (free_link t rs n limit k are kin x.link rest free).0)
 
@@ -56,7 +59,12 @@ module _ (t : List Slot) (rs : List Record) (n limit : ℕ) (k : Chains) (are : 
   new_chains = set k.chains c (chain_of c k ++ x.link ∷ [])
 
   own_chain : get_or new_chains x.link [] ≡ linked (is_child_record n) (t ++ x ∷ []) (set rs x.link r)
-  own_chain = get_or-set_other k.chains c x.link (chain_of c k ++ x.link ∷ []) [] (apart t rs n limit k are kin fit c r.parent hangs x.link (omega (arith, fit, low)) none) ∙ kin.idle x.link (omega (arith, fit, low)) none ∙ sym (childless t rs n limit k are kin n (omega arith)) ∙ sym (miss (is_child_record n) (own_not r.parent hangs))
+  own_chain = get_or-set_other k.chains c x.link (chain_of c k ++ x.link ∷ []) [] (apart t rs n limit k are kin fit c r.parent hangs x.link (omega (
+    arith,
+    fit,
+    low,
+  )) none) ∙ kin.idle x.link (omega (arith, fit, low)) none ∙ sym (childless t rs n limit k are kin n (omega arith))
+      ∙ sym (miss (is_child_record n) (own_not r.parent hangs))
 
   -- a process that lived still lives
   lives_on : (q : ℕ) → is_some (living (process_in (found t rs q))) ≡ true → is_some (living (process_in (found (t ++ x ∷ []) (set rs x.link r) q))) ≡ true
@@ -66,7 +74,9 @@ module _ (t : List Slot) (rs : List Record) (n limit : ℕ) (k : Chains) (are : 
       go None e l = absurd (true≢false (sym l))
       go (Some s) e l = elim (eqb_tells (pid_in x) q) [
         | inl h ↦ absurd (omega (arith, is, h.1, below_next t rs n are q s e))
-        | inr h ↦ (let there : lookup (t ++ x ∷ []) q ≡ Some s = after q ∙ rw h.0 e in ap (λ o. is_some (living (process_in (led (set rs x.link r) o)))) there ∙ ap (λ (y : Record). is_some (living (Some (process_of y)))) (get_or-set_other rs x.link s.link r _ (new_link q s e)) ∙ l)
+        | inr h ↦ (let there : lookup (t ++ x ∷ []) q ≡ Some s = after q ∙ rw h.0 e in
+            ap (λ o. is_some (living (process_in (led (set rs x.link r) o)))) there
+            ∙ ap (λ (y : Record). is_some (living (Some (process_of y)))) (get_or-set_other rs x.link s.link r _ (new_link q s e)) ∙ l)
       ]
 
   idle_on : (i : ℕ) → i < limit → times i (links (t ++ x ∷ [])) ≡ 0 → get_or new_chains i [] ≡ []
@@ -78,19 +88,29 @@ module _ (t : List Slot) (rs : List Record) (n limit : ℕ) (k : Chains) (are : 
   moved_kin : AreKin (t ++ x ∷ []) (set rs x.link r) (record { chains = new_chains; free = rest }) limit
   moved_kin = record {
     children = λ p s e. elim (eqb_tells (pid_in x) p) [
-      | inl h ↦ (let first : Some x ≡ Some s = sym (after p ∙ rw h.0 refl) ∙ e in let same : x ≡ s = cc in let pid : n ≡ p = sym is ∙ h.1 in ap (λ (y : Slot). get_or new_chains y.link []) (sym same) ∙ own_chain ∙ ap (λ m. linked (is_child_record m) (t ++ x ∷ []) (set rs x.link r)) pid)
+      | inl h ↦ (let first : Some x ≡ Some s = sym (after p ∙ rw h.0 refl) ∙ e in let same : x ≡ s = cc in let pid : n ≡ p = sym is ∙ h.1 in
+          ap (λ (y : Slot). get_or new_chains y.link []) (sym same) ∙ own_chain ∙ ap (λ m. linked (is_child_record m) (t ++ x ∷ []) (set rs x.link r)) pid)
       | inr h ↦ children_edited t rs n limit k are kin fit c r hangs (λ l. l ++ x.link ∷ []) (λ P. linked P (t ++ x ∷ []) (set rs x.link r)) hit miss p s (sym (after p ∙ rw h.0 refl) ∙ e)
     ];
     roots = roots_edited t rs n limit k are kin fit c r hangs (λ l. l ++ x.link ∷ []) (λ P. linked P (t ++ x ∷ []) (set rs x.link r)) hit miss;
     parents = λ p s q e h. elim (eqb_tells (pid_in x) p) [
-      | inl g ↦ (let first : Some x ≡ Some s = sym (after p ∙ rw g.0 refl) ∙ e in let same : x ≡ s = cc in lives_on q.0 (lives q (ap (λ (y : Record). y.parent) (sym (get_or-set_same rs x.link r _ low)) ∙ ap (λ (y : Slot). (record_at (set rs x.link r) y.link).parent) same ∙ h)))
-      | inr g ↦ (let old : lookup t p ≡ Some s = sym (after p ∙ rw g.0 refl) ∙ e in lives_on q.0 (kin.parents p s q old (ap (λ (y : Record). y.parent) (sym (get_or-set_other rs x.link s.link r _ (new_link p s old))) ∙ h)))
+      | inl g ↦ (let first : Some x ≡ Some s = sym (after p ∙ rw g.0 refl) ∙ e in let same : x ≡ s = cc in
+          lives_on q.0 (lives q (ap (λ (y : Record). y.parent) (sym (get_or-set_same rs x.link r _ low))
+          ∙ ap (λ (y : Slot). (record_at (set rs x.link r) y.link).parent) same ∙ h)))
+      | inr g ↦ (let old : lookup t p ≡ Some s = sym (after p ∙ rw g.0 refl) ∙ e in
+          lives_on q.0 (kin.parents p s q old (ap (λ (y : Record). y.parent) (sym (get_or-set_other rs x.link s.link r _ (new_link p s old))) ∙ h)))
     ];
     idle = idle_on;
     whole = whole_pushed t rs n limit k are kin x rest free;
     spare = spare_pushed t rs n limit k are kin x rest free;
     wide = omega (arith, kin.wide, length-set k.chains c (chain_of c k ++ x.link ∷ []));
-    pooled = omega (arith, kin.pooled, ap length free, total-set length k.chains c (chain_of c k ++ x.link ∷ []) (in_chains t rs n limit k are kin fit c r.parent hangs), length-append (chain_of c k) (x.link ∷ []));
+    pooled = omega (
+      arith,
+      kin.pooled,
+      ap length free,
+      total-set length k.chains c (chain_of c k ++ x.link ∷ []) (in_chains t rs n limit k are kin fit c r.parent hangs),
+      length-append (chain_of c k) (x.link ∷ []),
+    );
   }
 
   pub kin_pushed : AreKin (t ++ x ∷ []) (set rs x.link r) (pushed_back c k) limit

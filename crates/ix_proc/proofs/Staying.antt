@@ -1,5 +1,6 @@
 -- Another record in its place, and one that goes, keep the chains of children true.
-use Rattle.std.proofs.Common.{◌≡◌, ◌≢◌, ◌<◌, ◌+◌, ◌==◌, ℕ, zero, suc, Bool, true, false, true≢false, List, [], ◌∷◌, length, Option, Some, None, is_some, is_none, if◌then◌else◌, refl, sym, ap, ◌∙◌, subst, arith, inl, inr, get_or, set}
+use Rattle.std.proofs.Common.{◌≡◌, ◌≢◌, ◌<◌, ◌+◌, ◌==◌, ℕ, zero, suc, Bool, true, false, true≢false, List, [], ◌∷◌, length, Option, Some, None}
+use Rattle.std.proofs.Common.{is_some, is_none, if◌then◌else◌, refl, sym, ap, ◌∙◌, subst, arith, inl, inr, get_or, set}
 use Rattle.std.specs.Option.{option_map_or}
 use Rattle.std.specs.List.{remove, Contains}
 use Rattle.std.proofs.lemmas.List.{get_or-set_same, get_or-set_other, length-set, length-append}
@@ -66,7 +67,8 @@ module _ (t : List Slot) (rs : List Record) (n limit : ℕ) (k : Chains) (are : 
   module _ (p : ℕ) (s : Slot) (is : lookup t p ≡ Some s) (r : Record) (same : r.parent ≡ (record_at rs s.link).parent) (alone : is_some r.ended ≡ true → Childless t rs p) where
     parent_kept : (u : Slot) → (record_at (set rs s.link r) u.link).parent ≡ (record_at rs u.link).parent
     parent_kept u = elim (eqb_tells u.link s.link) [
-      | inl e ↦ ap (λ i. (record_at (set rs s.link r) i).parent) e.1 ∙ ap (λ (y : Record). y.parent) (get_or-set_same rs s.link r _ (are.inside p s is)) ∙ same ∙ ap (λ i. (record_at rs i).parent) (sym e.1)
+      | inl e ↦ ap (λ i. (record_at (set rs s.link r) i).parent) e.1 ∙ ap (λ (y : Record). y.parent) (get_or-set_same rs s.link r _ (are.inside p s is)) ∙ same
+          ∙ ap (λ i. (record_at rs i).parent) (sym e.1)
       | inr e ↦ ap (λ (y : Record). y.parent) (get_or-set_other rs s.link u.link r _ e.1)
     ]
 
@@ -109,7 +111,8 @@ module _ (t : List Slot) (rs : List Record) (n limit : ℕ) (k : Chains) (are : 
       where
         go : (o : Option Pid) → r.parent ≡ o → Hangs t limit o c → Contains (chain_of c k) i
         go None e at_end = subst (λ (l : List ℕ). Contains l i) (sym (ap (λ m. chain_of m k) at_end ∙ kin.roots)) (linked_held is_root t rs j d there.0 (ap is_none e))
-        go (Some q) e behind = subst (λ (l : List ℕ). Contains l i) (sym (ap (λ m. chain_of m k) behind.1.1 ∙ kin.children q.0 behind.0 behind.1.0)) (linked_held (is_child_record q.0) t rs j d there.0 (child_of_parent r.parent q q.0 e refl))
+        go (Some q) e behind = subst (λ (l : List ℕ). Contains l i) (sym (ap (λ m. chain_of m k) behind.1.1 ∙ kin.children q.0 behind.0 behind.1.0))
+            (linked_held (is_child_record q.0) t rs j d there.0 (child_of_parent r.parent q q.0 e refl))
 
     pub chain_low : c < length k.chains
     chain_low = in_chains t rs n limit k are kin fit c r.parent hangs
@@ -130,7 +133,10 @@ module _ (t : List Slot) (rs : List Record) (n limit : ℕ) (k : Chains) (are : 
       idle_after : (m : ℕ) → m < limit → times m (links (remove t j)) ≡ 0 → get_or (set k.chains c (without i (chain_of c k))) m [] ≡ []
       idle_after m low none = elim (eqb_tells i m) [
         | inl e ↦ ap (λ l. get_or (set k.chains c (without i (chain_of c k))) l []) (sym e.1) ∙ get_or-set_other k.chains c i (without i (chain_of c k)) [] own_other ∙ own_empty
-        | inr e ↦ (let one : times m (links t) ≡ 0 + times m (links (remove t j)) = times_removed t j d m there.0 ∙ rw e.0 refl in let before : times m (links t) ≡ 0 = omega (arith, one, none) in get_or-set_other k.chains c m (without i (chain_of c k)) [] (apart t rs n limit k are kin fit c r.parent hangs m low before) ∙ kin.idle m low before)
+        | inr e ↦ (let one : times m (links t) ≡ 0 + times m (links (remove t j)) = times_removed t j d m there.0 ∙ rw e.0 refl in
+            let before : times m (links t) ≡ 0 = omega (arith, one, none) in
+            get_or-set_other k.chains c m (without i (chain_of c k)) [] (apart t rs n limit k are kin fit c r.parent hangs m low before)
+            ∙ kin.idle m low before)
       ]
 
       parents_after : (a : ℕ) (u : Slot) (q : Pid) → lookup (remove t j) a ≡ Some u → (record_at rs u.link).parent ≡ Some q → is_some (living (process_in (found (remove t j) rs q.0))) ≡ true

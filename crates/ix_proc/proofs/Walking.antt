@@ -1,5 +1,6 @@
 -- What is left of a chain from one of its links on.
-use Rattle.std.proofs.Common.{◌≡◌, ◌≢◌, ◌<◌, ◌≤◌, ◌+◌, ◌==◌, ℕ, zero, suc, Bool, true, false, List, [], ◌∷◌, length, Option, Some, None, if◌then◌else◌, slice_get, refl, sym, ap, subst, ◌∙◌, arith, inl, inr}
+use Rattle.std.proofs.Common.{◌≡◌, ◌≢◌, ◌<◌, ◌≤◌, ◌+◌, ◌==◌, ℕ, zero, suc, Bool, true, false, List, [], ◌∷◌, length, Option, Some, None}
+use Rattle.std.proofs.Common.{if◌then◌else◌, slice_get, refl, sym, ap, subst, ◌∙◌, arith, inl, inr}
 use Rattle.std.specs.List.{find}
 use Rattle.std.proofs.lemmas.Bool.Decides.{eqb_tells}
 use Rattle.std.proofs.lemmas.Bool.{cases_lt, le-ltb}
@@ -57,7 +58,8 @@ rest_next (x ∷ xs) zero i once is =
     ]
 rest_next (x ∷ xs) (suc m) i once is = elim (eqb_tells x i) [
   | inl h ↦ absurd (other_than x xs m i once is h.1)
-  | inr h ↦ rw h.0 (rest_next xs m i (once_less x xs once) is ∙ ap (λ ys. i ∷ ys) (sym (skip x xs (m + 1) once)) ∙ (let step : suc (m + 1) ≡ suc m + 1 = omega arith in ap (λ (p : ℕ). i ∷ rest_from (slice_get (x ∷ xs) p) (x ∷ xs)) step))
+  | inr h ↦ rw h.0 (rest_next xs m i (once_less x xs once) is ∙ ap (λ ys. i ∷ ys) (sym (skip x xs (m + 1) once)) ∙ (let step : suc (m + 1) ≡ suc m + 1 =
+      omega arith in ap (λ (p : ℕ). i ∷ rest_from (slice_get (x ∷ xs) p) (x ∷ xs)) step))
 ]
 
 -- the links of a chain of records are a walk
@@ -65,7 +67,8 @@ module _ (t : List Slot) (rs : List Record) (n limit : ℕ) (k : Chains) (are : 
   held_low : (P : Record → Bool) (place i : ℕ) → slice_get (linked P t rs) place ≡ Some i → i < limit
   held_low P place i is = elim (cases_lt i limit) [
     | inl low ↦ low
-    | inr past ↦ absurd (let none : times i k.free + times i (links t) ≡ 0 = kin.whole i ∙ rw (le-ltb i limit past) refl in omega (arith, none, there_times (linked P t rs) place i is, linked_few P t rs i))
+    | inr past ↦ absurd (let none : times i k.free + times i (links t) ≡ 0 = kin.whole i ∙ rw (le-ltb i limit past) refl in
+        omega (arith, none, there_times (linked P t rs) place i is, linked_few P t rs i))
   ]
 
   pub chain_walk : (p : ℕ) (s : Slot) → lookup t p ≡ Some s → IsWalk (chain_of s.link k) (length rs)

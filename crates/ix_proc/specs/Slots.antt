@@ -18,7 +18,20 @@ pid_in s = s.pid.0
 
 -- the record that stands where no process ever stood
 abbrev pub nobody : Record
-nobody = record { who = record { pid = record { 0 = 0 }; float = record { label = bottom; ceiling = bottom; frozen = false }; cap = no_privileges; lic = no_privileges; own = no_privileges; cwd = record { 0 = 0 }; fds = replicate 32 None }; parent = None; ended = None }
+nobody = record {
+  who = record {
+    pid = record { 0 = 0 };
+    float = record { label = bottom; ceiling = bottom; frozen = false };
+    cap = no_privileges;
+    lic =
+        no_privileges;
+    own = no_privileges;
+    cwd = record { 0 = 0 };
+    fds = replicate 32 None;
+  };
+  parent = None;
+  ended = None;
+}
 
 abbrev pub record_at : List Record → ℕ → Record
 record_at records link = slice_index_or records link nobody
@@ -28,7 +41,19 @@ new_record c parent = record { who = c; parent = parent; ended = None }
 
 -- ---- what a record stands for
 abbrev pub process_of : Record → Process
-process_of r = record { parent = option_map number_of r.parent; label = r.who.float.label; ceiling = r.who.float.ceiling; frozen = r.who.float.frozen; cap = r.who.cap; lic = r.who.lic; own = r.who.own; cwd = r.who.cwd.0; fds = r.who.fds; ended = is_some r.ended }
+process_of r = record {
+  parent = option_map number_of r.parent;
+  label = r.who.float.label;
+  ceiling = r.who.float.ceiling;
+  frozen = r.who.float.frozen;
+  cap =
+      r.who.cap;
+  lic = r.who.lic;
+  own = r.who.own;
+  cwd = r.who.cwd.0;
+  fds = r.who.fds;
+  ended = is_some r.ended;
+}
 
 abbrev pub process_in : Option Record → Option Process
 process_in r = option_map process_of r

@@ -54,5 +54,6 @@ collected pid t = record t { processes = put t.processes pid None; statuses = sl
 
 -- the ended child with the lowest pid, its label and its status
 abbrev pub EndedChild : Option (Pid × Categories × ℕ) → ℕ → ProcTable → Type 0
-EndedChild (Some c) pid t = (position (λ q. is_child pid q && is_ended q) t.processes ≡ Some c.0.0) × (option_map (λ p. p.label) (at t.processes c.0.0) ≡ Some c.1) × (slice_index_or t.statuses c.0.0 0 ≡ c.2)
+EndedChild (Some c) pid t = (position (λ q. is_child pid q && is_ended q) t.processes ≡ Some c.0.0)
+    × (option_map (λ p. p.label) (at t.processes c.0.0) ≡ Some c.1) × (slice_index_or t.statuses c.0.0 0 ≡ c.2)
 EndedChild None pid t = position (λ q. is_child pid q && is_ended q) t.processes ≡ None

@@ -142,5 +142,12 @@ pub line_told : (count : ℕ) (s : List Line) (h : History) (t : Tally) (entries
 unfolding summary_line world_of
 line_told count s h t entries lines before out config tally entered logged empty told =
     let said : Totals = record { entries = entries; refused = t.refused; read = t.read; written = t.written; lines = lines } in
-    told ∙ ap (λ b. b ++ totals_line count said) empty ∙ ap (totals_line count) (λ i. record { entries = entered i; refused = (tally i).refused; read = (tally i).read; written = (tally i).written; lines = logged i })
+    told ∙ ap (λ b. b ++ totals_line count said) empty ∙ ap (totals_line count) (λ i. record {
+      entries = entered i;
+      refused = (tally i).refused;
+      read =
+          (tally i).read;
+      written = (tally i).written;
+      lines = logged i;
+    })
     ∙ ap (totals_line count) (totals_are h.config s h.events config)

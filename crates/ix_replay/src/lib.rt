@@ -3,10 +3,10 @@
 #![tactic(auto)]
 
 pub mod laws;
-mod tally;
 mod reporting;
+mod tally;
 
-pub use tally::{Tally, summary};
 pub use reporting::closing::{Closing, Next};
 pub use reporting::entry::push_entry;
 pub use reporting::replay::replay;
+pub use tally::{Tally, summary};

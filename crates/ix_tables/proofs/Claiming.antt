@@ -1,5 +1,6 @@
 -- A claim on an end of a pipe.
-use Rattle.std.proofs.Common.{◌≡◌, ◌-◌, ◌<◌, ◌==◌, ℕ, zero, suc, Bool, true, false, not, ◌&&◌, List, [], ◌∷◌, length, Option, Some, None, is_some, option_map, unwrap_or, slice_index_or, slice_set, refl, sym, ap, ◌∙◌, arith, if◌then◌else◌}
+use Rattle.std.proofs.Common.{◌≡◌, ◌-◌, ◌<◌, ◌==◌, ℕ, zero, suc, Bool, true, false, not, ◌&&◌, List, [], ◌∷◌, length, Option, Some, None, is_some}
+use Rattle.std.proofs.Common.{option_map, unwrap_or, slice_index_or, slice_set, refl, sym, ap, ◌∙◌, arith, if◌then◌else◌}
 use Rattle.std.specs.Option.{option_map_or}
 use Rattle.std.proofs.lemmas.Bool.{eqb-true}
 use Rattle.std.proofs.lemmas.List.{set-get_or}
@@ -58,7 +59,8 @@ module _ (n end pid : ℕ) (v : Parts) (p : Pipe) (object : at v.objects n ≡ S
   whole = λ i. record v { objects = renewed i; holdings = slice_set v.holdings n holds_nothing }
 
   -- by who has the end, and who the other
-  decided : (a b : Option ℕ) → at p.claims end ≡ a → with_pipe n (pipe_claim.claimed end pid a b p) v ≡ after n end pid v (option_map_or (λ q. not (q == pid)) a false) (is_some b) (is_some a && is_some b)
+  decided : (a b : Option ℕ) → at p.claims end ≡ a
+      → with_pipe n (pipe_claim.claimed end pid a b p) v ≡ after n end pid v (option_map_or (λ q. not (q == pid)) a false) (is_some b) (is_some a && is_some b)
   decided None None is = half
   decided None (Some q) is = whole
   decided (Some q) b is = go (q == pid) refl (is_some b)
@@ -103,10 +105,15 @@ module _ (l : Limits) (nodes : Nodes) (names : Directories) (ps : List (Option P
   pub claimed_there : ((p : Pipe) → at ps (n - first) ≡ Some p → IsBounded p) → end < 2 → joined l nodes names (change ps (n - first) (claims_by (at ps (n - first)))) es hs ≡ claimed n end pid now
   claimed_there bounded low =
       put_there l nodes names ps es hs now first n inv view is_one (option_map (claims_by (at ps (n - first))) (at ps (n - first)))
-      ∙ go (at ps (n - first)) refl (is_living l nodes names ps es hs now first n inv view is_one) (object_there l nodes names ps es hs now first n inv view is_one) (holding_there l nodes names ps es hs now first n inv view is_one)
+      ∙ go (at ps (n - first)) refl (is_living l nodes names ps es hs now first n inv view is_one) (object_there l nodes names ps es hs now first n inv view
+      is_one) (holding_there l nodes names ps es hs now first n inv view is_one)
     where
       go : (x : Option Pipe) → at ps (n - first) ≡ x → is_some x ≡ true → at now.objects n ≡ option_map object_of_pipe x → slice_index_or now.holdings n holds_nothing ≡ holding_of_pipe x
-          → record now { objects = put now.objects n (option_map object_of_pipe (option_map (claims_by x) x)); holdings = slice_set now.holdings n (holding_of_pipe (option_map (claims_by x) x)) } ≡ claimed n end pid now
+          → record now {
+            objects = put now.objects n (option_map object_of_pipe (option_map (claims_by x) x));
+            holdings =
+                slice_set now.holdings n (holding_of_pipe (option_map (claims_by x) x));
+          } ≡ claimed n end pid now
       go None is lives object holding = absurd (cc lives)
       go (Some p) is lives object holding =
           let two : length p.claims ≡ 2 = (bounded p is).claims in

@@ -21,7 +21,8 @@ none_left name (e ∷ ns) none = go (same_bytes e.0 name) refl (none_left name n
     go false h rest = rw h (ap (λ (l : Names). e ∷ l) rest)
 
 -- the name that goes is one
-pub fewer : (f : List ℕ × ℕ → ℕ) (w : ℕ → ℕ) → ((e : List ℕ × ℕ) → f e ≡ w e.1) → (name : List ℕ) (ns : Names) (n : ℕ) → AreDifferent ns → under name ns ≡ Some n → sum_by f ns ≡ sum_by f (without name ns) + w n
+pub fewer : (f : List ℕ × ℕ → ℕ) (w : ℕ → ℕ) → ((e : List ℕ × ℕ) → f e ≡ w e.1) → (name : List ℕ) (ns : Names) (n : ℕ) → AreDifferent ns
+    → under name ns ≡ Some n → sum_by f ns ≡ sum_by f (without name ns) + w n
 fewer f w by name [] n different is = cc
 fewer f w by name (e ∷ ns) n different is = go (same_bytes e.0 name) refl (fewer f w by name ns n)
   where
@@ -32,7 +33,8 @@ fewer f w by name (e ∷ ns) n different is = go (same_bytes e.0 name) refl (few
     go true h rest_fewer =
         let here : Some e.1 ≡ Some n = sym (rw h refl) ∙ is in
         let number : e.1 ≡ n = cc in
-        let rest : without name ns ≡ ns = none_left name ns (λ i a x y. let no : suc i ≡ 0 = different (suc i) 0 a e x refl (nat_list_eq_equiv.congr a.0 name e.0 y ∙ nat_list_eq_equiv.symm name e.0 ∙ h) in omega (arith, no)) in
+        let rest : without name ns ≡ ns = none_left name ns (λ i a x y. let no : suc i ≡ 0 =
+        different (suc i) 0 a e x refl (nat_list_eq_equiv.congr a.0 name e.0 y ∙ nat_list_eq_equiv.symm name e.0 ∙ h) in omega (arith, no)) in
         let cut : without name (e ∷ ns) ≡ without name ns = rw h refl in
         omega (arith, sum_by-cons f e ns, by e, ap w number, ap (sum_by f) (cut ∙ rest))
     go false h rest_fewer =

@@ -44,7 +44,8 @@ module _ (l : Limits) (nodes : Nodes) (names : Directories) (ps : List (Option P
 
   pub vacant_is : option_map (λ n. first + n) (lowest_free ps) ≡ vacant_pipe now.fss now.objects
   vacant_is =
-      let free : lowest_free ps ≡ lowest_free (drop (first_pipe nodes.fss) (all_objects nodes names ps)) = sym (free_map object_of_pipe ps) ∙ ap (λ (os : List (Option Object)). lowest_free os) (sym pipes_from) in
+      let free : lowest_free ps ≡ lowest_free (drop (first_pipe nodes.fss) (all_objects nodes names ps)) = sym (free_map object_of_pipe ps)
+      ∙ ap (λ (os : List (Option Object)). lowest_free os) (sym pipes_from) in
       (λ i. option_map (λ n. sym first_is i + n) (free i)) ∙ ap (λ (v : Parts). vacant_pipe v.fss v.objects) view
 
   -- a pipe made under the lowest free number
@@ -52,7 +53,11 @@ module _ (l : Limits) (nodes : Nodes) (names : Directories) (ps : List (Option P
       → joined l nodes names (made (lowest_free ps) ps) es hs ≡ record now { objects = put now.objects n (Some (new_object kind.Pipe None)); holdings = slice_set now.holdings n holds_nothing }
   made_there n vacant = go (lowest_free ps) (vacant_is ∙ vacant)
     where
-      go : (m : Option ℕ) → option_map (λ k. first + k) m ≡ Some n → joined l nodes names (made m ps) es hs ≡ record now { objects = put now.objects n (Some (new_object kind.Pipe None)); holdings = slice_set now.holdings n holds_nothing }
+      go : (m : Option ℕ) → option_map (λ k. first + k) m ≡ Some n → joined l nodes names (made m ps) es hs ≡ record now {
+        objects =
+            put now.objects n (Some (new_object kind.Pipe None));
+        holdings = slice_set now.holdings n holds_nothing;
+      }
       go None is = absurd (cc is)
       go (Some k) is =
           let e : first + k ≡ n = cc in

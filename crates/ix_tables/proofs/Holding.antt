@@ -72,7 +72,11 @@ module _ (l : Limits) (nodes : Nodes) (names : Directories) (ps : List (Option P
   written_there h =
       let held : all_holdings (holding n (h (bytes_at n nodes)) nodes) ps ≡ slice_set (all_holdings nodes ps) n (holding_of_bytes (h (bytes_at n nodes))) =
       ap (λ (ks : List Holding). ks ++ map holding_of_pipe ps) (map-set holding_of_bytes nodes.bytes n (h (bytes_at n nodes)))
-      ∙ sym (set-append_left (map holding_of_bytes nodes.bytes) (map holding_of_pipe ps) n (holding_of_bytes (h (bytes_at n nodes))) (omega (arith, length-map nodes.bytes holding_of_bytes, low_bytes))) in
+      ∙ sym (set-append_left (map holding_of_bytes nodes.bytes) (map holding_of_pipe ps) n (holding_of_bytes (h (bytes_at n nodes))) (omega (
+        arith,
+        length-map nodes.bytes holding_of_bytes,
+        low_bytes,
+      ))) in
       (λ i. record (joined l nodes names ps es hs) { holdings = held i })
       ∙ ap (λ (v : Parts). let u : Parts = record v { holdings = slice_set v.holdings n (holding_of_bytes (h (bytes_at n nodes))) } in u) view
       ∙ ap (λ (k : Holding). let u : Parts = record now { holdings = slice_set now.holdings n (with_side 0 (h k.first) k) } in u) (sym held_there)

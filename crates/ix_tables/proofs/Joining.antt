@@ -1,5 +1,6 @@
 -- The objects that inodes, names and pipes make, by number.
-use Rattle.std.proofs.Common.{◌≡◌, ◌+◌, ◌-◌, ◌<◌, ◌≤◌, Bool, true, false, ℕ, zero, suc, List, [], ◌∷◌, ◌++◌, map, length, Option, Some, None, is_some, option_map, unwrap_or, slice_index_or, length-append, refl, sym, ap, ◌∙◌, arith, inl, inr}
+use Rattle.std.proofs.Common.{◌≡◌, ◌+◌, ◌-◌, ◌<◌, ◌≤◌, Bool, true, false, ℕ, zero, suc, List, [], ◌∷◌, ◌++◌, map, length, Option, Some, None, is_some}
+use Rattle.std.proofs.Common.{option_map, unwrap_or, slice_index_or, length-append, refl, sym, ap, ◌∙◌, arith, inl, inr}
 use Rattle.std.specs.Option.{option_map_or}
 use Rattle.std.proofs.lemmas.Bool.{cases_lt}
 use Rattle.std.proofs.lemmas.List.{get_or_append_left, get_or-append_right, set-append_left, set-append_right, map-set, length-map}
@@ -48,7 +49,8 @@ mapped : {A B : Type 0} (f : A → B) (h : A → A) (k : B → B) → ((x : A) �
 mapped f h k same None = refl
 mapped f h k same (Some x) = ap Some (same x)
 
-objects_changed : (xs : List (Option Node)) (ls : Lists) (n : ℕ) (h : Node → Node) (k : Object → Object) → ((names : List (List ℕ × ℕ)) (x : Node) → object_of names (h x) ≡ k (object_of names x)) → objects_of (change xs n h) ls ≡ change (objects_of xs ls) n k
+objects_changed : (xs : List (Option Node)) (ls : Lists) (n : ℕ) (h : Node → Node) (k : Object → Object)
+    → ((names : List (List ℕ × ℕ)) (x : Node) → object_of names (h x) ≡ k (object_of names x)) → objects_of (change xs n h) ls ≡ change (objects_of xs ls) n k
 objects_changed xs ls n h k same =
     objects_put xs ls n (option_map h (at xs n))
     ∙ ap (put (objects_of xs ls) n) (mapped (object_of (names_at ls n)) h k (same (names_at ls n)) (at xs n) ∙ ap (option_map k) (sym (at_objects xs ls n)))
@@ -56,27 +58,37 @@ objects_changed xs ls n h k same =
 -- ---- the inodes, and the pipes behind them
 module _ (nodes : Nodes) (names : Directories) (pipes : List (Option Pipe)) where
   pub at_inode : (n : ℕ) → n < length nodes.nodes → at (all_objects nodes names pipes) n ≡ option_map (object_of (names_of names n)) (at nodes.nodes n)
-  at_inode n low = get_or_append_left (objects_of nodes.nodes names.lists) (map (option_map object_of_pipe) pipes) None n (omega (arith, length-objects nodes.nodes names.lists, low)) ∙ at_objects nodes.nodes names.lists n
+  at_inode n low = get_or_append_left (objects_of nodes.nodes names.lists) (map (option_map object_of_pipe) pipes) None n (omega (
+    arith,
+    length-objects nodes.nodes names.lists,
+    low,
+  )) ∙ at_objects nodes.nodes names.lists n
 
   pub at_pipe : (first n : ℕ) → first ≡ length nodes.nodes → first ≤ n → at (all_objects nodes names pipes) n ≡ option_map object_of_pipe (at pipes (n - first))
-  at_pipe first n is past = get_or-append_right (objects_of nodes.nodes names.lists) (map (option_map object_of_pipe) pipes) first n None (length-objects nodes.nodes names.lists ∙ sym is) past ∙ get_or-map (option_map object_of_pipe) pipes (n - first) None
+  at_pipe first n is past = get_or-append_right (objects_of nodes.nodes names.lists) (map (option_map object_of_pipe) pipes) first n None
+      (length-objects nodes.nodes names.lists ∙ sym is) past ∙ get_or-map (option_map object_of_pipe) pipes (n - first) None
 
   pub put_inode : (n : ℕ) (x : Option Object) → n < length nodes.nodes → put (all_objects nodes names pipes) n x ≡ put (objects_of nodes.nodes names.lists) n x ++ map (option_map object_of_pipe) pipes
   put_inode n x low = set-append_left (objects_of nodes.nodes names.lists) (map (option_map object_of_pipe) pipes) n x (omega (arith, length-objects nodes.nodes names.lists, low))
 
-  pub put_pipe : (first n : ℕ) (p : Option Pipe) → first ≡ length nodes.nodes → first ≤ n → all_objects nodes names (put pipes (n - first) p) ≡ put (all_objects nodes names pipes) n (option_map object_of_pipe p)
+  pub put_pipe : (first n : ℕ) (p : Option Pipe) → first ≡ length nodes.nodes → first ≤ n
+      → all_objects nodes names (put pipes (n - first) p) ≡ put (all_objects nodes names pipes) n (option_map object_of_pipe p)
   put_pipe first n p is past =
       ap (λ os. objects_of nodes.nodes names.lists ++ os) (map-set (option_map object_of_pipe) pipes (n - first) p)
       ∙ sym (set-append_right (objects_of nodes.nodes names.lists) (map (option_map object_of_pipe) pipes) first n (option_map object_of_pipe p) (length-objects nodes.nodes names.lists ∙ sym is) past)
 
   pub length-all : length (all_objects nodes names pipes) ≡ length nodes.nodes + length pipes
-  length-all = length-append (objects_of nodes.nodes names.lists) (map (option_map object_of_pipe) pipes) ∙ ap (λ n. n + length (map (option_map object_of_pipe) pipes)) (length-objects nodes.nodes names.lists) ∙ ap (λ n. length nodes.nodes + n) (length-map pipes (option_map object_of_pipe))
+  length-all = length-append (objects_of nodes.nodes names.lists) (map (option_map object_of_pipe) pipes)
+      ∙ ap (λ n. n + length (map (option_map object_of_pipe) pipes)) (length-objects nodes.nodes names.lists)
+      ∙ ap (λ n. length nodes.nodes + n) (length-map pipes (option_map object_of_pipe))
 
   -- what stands and is no pipe is an inode
-  pub inode_there : (n : ℕ) → is_some (at (all_objects nodes names pipes) n) ≡ true → is_pipe (node (all_objects nodes names pipes) n) ≡ false → (n < length nodes.nodes) × (is_some (at nodes.nodes n) ≡ true)
+  pub inode_there : (n : ℕ) → is_some (at (all_objects nodes names pipes) n) ≡ true → is_pipe (node (all_objects nodes names pipes) n) ≡ false
+      → (n < length nodes.nodes) × (is_some (at nodes.nodes n) ≡ true)
   inode_there n lives other = elim (cases_lt n (length nodes.nodes)) [
     | inl low ↦ (low, some (at nodes.nodes n) (ap is_some (sym (at_inode n low)) ∙ lives))
-    | inr high ↦ absurd (piped (at pipes (n - length nodes.nodes)) (ap is_some (sym (at_pipe (length nodes.nodes) n refl high)) ∙ lives) (ap (λ o. is_pipe (unwrap_or o nothing)) (sym (at_pipe (length nodes.nodes) n refl high)) ∙ other))
+    | inr high ↦ absurd (piped (at pipes (n - length nodes.nodes)) (ap is_some (sym (at_pipe (length nodes.nodes) n refl high))
+        ∙ lives) (ap (λ o. is_pipe (unwrap_or o nothing)) (sym (at_pipe (length nodes.nodes) n refl high)) ∙ other))
   ]
     where
       some : (x : Option Node) → is_some (option_map (object_of (names_of names n)) x) ≡ true → is_some x ≡ true
@@ -88,7 +100,9 @@ module _ (nodes : Nodes) (names : Directories) (pipes : List (Option Pipe)) wher
       piped (Some p) h other = cc
 
   -- ---- a change of an inode
-  inode_changed : (n : ℕ) (h : Node → Node) (k : Object → Object) → n < length nodes.nodes → ((names : List (List ℕ × ℕ)) (x : Node) → object_of names (h x) ≡ k (object_of names x)) → all_objects (changed n h nodes) names pipes ≡ change (all_objects nodes names pipes) n k
+  inode_changed : (n : ℕ) (h : Node → Node) (k : Object → Object) → n < length nodes.nodes
+      → ((names : List (List ℕ × ℕ)) (x : Node) → object_of names (h x) ≡ k (object_of names x))
+      → all_objects (changed n h nodes) names pipes ≡ change (all_objects nodes names pipes) n k
   inode_changed n h k low same =
       ap (λ os. os ++ map (option_map object_of_pipe) pipes) (objects_changed nodes.nodes names.lists n h k same)
       ∙ sym (put_inode n (option_map k (at (objects_of nodes.nodes names.lists) n)) low)
@@ -108,7 +122,8 @@ module _ (limits : Limits) (nodes : Nodes) (names : Directories) (pipes : List (
   pub ceiling_there : (n : ℕ) → n < length nodes.nodes → ceiling_of now.fss (node now.objects n) ≡ ceiling_at n nodes
   ceiling_there n low = ap (λ (v : Parts). ceiling_of v.fss (node v.objects n)) (sym view) ∙ inode_ceiling nodes names pipes n low
 
-  pub inode_edited : (nodes2 : Nodes) (n : ℕ) (h : Node → Node) (k : Object → Object) → n < length nodes.nodes → ((names : List (List ℕ × ℕ)) (x : Node) → object_of names (h x) ≡ k (object_of names x)) → nodes2 ≡ changed n h nodes
+  pub inode_edited : (nodes2 : Nodes) (n : ℕ) (h : Node → Node) (k : Object → Object) → n < length nodes.nodes
+      → ((names : List (List ℕ × ℕ)) (x : Node) → object_of names (h x) ≡ k (object_of names x)) → nodes2 ≡ changed n h nodes
       → joined limits nodes2 names pipes es hs ≡ record now { objects = change now.objects n k }
   inode_edited nodes2 n h k low same is =
       let v : Parts = joined limits nodes names pipes es hs in
@@ -127,7 +142,8 @@ module _ (limits : Limits) (nodes : Nodes) (names : Directories) (pipes : List (
   directory_there d dir =
       elim (cases_lt d (length nodes.nodes)) [
         | inl low ↦ (low, go (at nodes.nodes d) (ap (λ (o : Option Object). is_dir (unwrap_or o nothing)) (sym (at_inode nodes names pipes d low)) ∙ before))
-        | inr high ↦ absurd (piped (at pipes (d - length nodes.nodes)) (ap (λ (o : Option Object). is_dir (unwrap_or o nothing)) (sym (at_pipe nodes names pipes (length nodes.nodes) d refl high)) ∙ before))
+        | inr high ↦ absurd (piped (at pipes (d - length nodes.nodes)) (ap (λ (o : Option Object). is_dir (unwrap_or o nothing))
+            (sym (at_pipe nodes names pipes (length nodes.nodes) d refl high)) ∙ before))
       ]
     where
       before : is_dir (node (all_objects nodes names pipes) d) ≡ true

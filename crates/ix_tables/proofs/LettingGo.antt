@@ -44,7 +44,8 @@ module _ (l : Limits) (nodes : Nodes) (names : Directories) (ps : List (Option P
   -- none stands below the first pipe where only a pipe can
   pub none_goes : n < first → option_map_or is_pipe (at now.objects n) true ≡ true → now ≡ object_let_go n now
   none_goes low h =
-      let here : at now.objects n ≡ option_map (object_of (names_of names n)) (at nodes.nodes n) = ap (λ (v : Parts). at v.objects n) (sym view) ∙ at_inode nodes names ps n (omega (arith, low, inv.1)) in
+      let here : at now.objects n ≡ option_map (object_of (names_of names n)) (at nodes.nodes n) = ap (λ (v : Parts). at v.objects n) (sym view)
+      ∙ at_inode nodes names ps n (omega (arith, low, inv.1)) in
       let none : at now.objects n ≡ None = here ∙ none_if_pipe (names_of names n) (at nodes.nodes n) (ap (λ (o : Option Object). option_map_or is_pipe o true) (sym here) ∙ h) in
       ap (λ (o : Option Object). gone_or_not n now (goes n now o)) (sym none)
 

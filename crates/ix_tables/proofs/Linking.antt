@@ -20,11 +20,13 @@ by_kind : (b : Bool) (links k : ℕ) → HasLinks b links k → (if is_dir_kind 
 by_kind true links k h = refl
 by_kind false links k h = h
 
-module _ (l : Limits) (nodes : Nodes) (names : Directories) (ps : List (Option Pipe)) (es : OpenTable) (hs : List ℕ) (now : Parts) (j : AreJoined l nodes names ps es hs) (view : joined l nodes names ps es hs ≡ now) (n : ℕ) where
+module _ (l : Limits) (nodes : Nodes) (names : Directories) (ps : List (Option Pipe)) (es : OpenTable) (hs : List ℕ) (now : Parts)
+    (j : AreJoined l nodes names ps es hs) (view : joined l nodes names ps es hs ≡ now) (n : ℕ) where
   pub links_shown : (i : Inode) → Some i ≡ option_map (told_at n nodes) (at nodes.nodes n) → (if is_dir_kind i.kind then 1 else i.links) ≡ (if is_dir_kind i.kind then 1 else times_named now.objects n)
   links_shown i is = go (at nodes.nodes n) refl is
     where
-      go : (x : Option Node) → at nodes.nodes n ≡ x → Some i ≡ option_map (told_at n nodes) x → (if is_dir_kind i.kind then 1 else i.links) ≡ (if is_dir_kind i.kind then 1 else times_named now.objects n)
+      go : (x : Option Node) → at nodes.nodes n ≡ x → Some i ≡ option_map (told_at n nodes) x
+          → (if is_dir_kind i.kind then 1 else i.links) ≡ (if is_dir_kind i.kind then 1 else times_named now.objects n)
       go None e h = cc
       go (Some x) e h =
           let same : i ≡ told_at n nodes x = cc in

@@ -1,5 +1,6 @@
 -- Names that come.
-use Rattle.std.proofs.Common.{◌≡◌, ◌+◌, ◌^◌, ◌<◌, ◌==◌, Bool, true, false, not, cond, ℕ, List, [], ◌∷◌, ◌++◌, length, Option, Some, None, is_some, option_map, slice_set, refl, sym, ap, subst, ◌∙◌, arith, inl, inr, length-set, get_or-set_other, nat_lt}
+use Rattle.std.proofs.Common.{◌≡◌, ◌+◌, ◌^◌, ◌<◌, ◌==◌, Bool, true, false, not, cond, ℕ, List, [], ◌∷◌, ◌++◌, length, Option, Some, None, is_some}
+use Rattle.std.proofs.Common.{option_map, slice_set, refl, sym, ap, subst, ◌∙◌, arith, inl, inr, length-set, get_or-set_other, nat_lt}
 use Rattle.std.specs.Option.{option_map_or}
 use Rattle.std.proofs.lemmas.Bool.Decides.{eqb_tells, nat_tests}
 use Rattle.ix_model.specs.world.World.{Object, at, put, change, is_dir, is_file}
@@ -28,7 +29,8 @@ use Rattle.ix_tables.proofs.Counting.{names_more, times_more}
 use Rattle.ix_tables.proofs.Renaming.{directory_edited}
 use Rattle.ix_tables.proofs.Holding.{is_inode, is_file_there}
 
-module _ (limits : Limits) (nodes nodes2 : Nodes) (names names2 : Directories) (pipes : List (Option Pipe)) (es : OpenTable) (hs : List ℕ) (now : Parts) (j : AreJoined limits nodes names pipes es hs) (view : joined limits nodes names pipes es hs ≡ now)
+module _ (limits : Limits) (nodes nodes2 : Nodes) (names names2 : Directories) (pipes : List (Option Pipe)) (es : OpenTable) (hs : List ℕ) (now : Parts)
+    (j : AreJoined limits nodes names pipes es hs) (view : joined limits nodes names pipes es hs ≡ now)
     (d n : ℕ) (name : List ℕ) (dir : is_dir (node now.objects d) ≡ true) (absent : child (node now.objects d) name ≡ None) (room : nat_lt (names_in_all now.objects) now.limits.names ≡ true) where
   pub below : d < length nodes.nodes
   below = (directory_there limits nodes names pipes es hs now view d dir).0
@@ -49,7 +51,8 @@ module _ (limits : Limits) (nodes nodes2 : Nodes) (names names2 : Directories) (
 
     still_bare : (o : ℕ) → option_map_or (λ y. y.dir) (at nodes.nodes o) false ≡ false → names_of (with_more d name n names) o ≡ []
     still_bare o none = elim (eqb_tells o d) [
-      | inl e ↦ let is_one = (directory_there limits nodes names pipes es hs now view d dir).1 in let no = ap (λ k. option_map_or (λ y. y.dir) (at nodes.nodes k) false) (sym e.1) ∙ none in absurd (cc (is_one, no))
+      | inl e ↦ let is_one = (directory_there limits nodes names pipes es hs now view d dir).1 in
+          let no = ap (λ k. option_map_or (λ y. y.dir) (at nodes.nodes k) false) (sym e.1) ∙ none in absurd (cc (is_one, no))
       | inr e ↦ get_or-set_other names.lists d o (names_of names d ++ (name, n) ∷ []) [] e.1 ∙ j.bare o none
     ]
 
@@ -66,7 +69,9 @@ module _ (limits : Limits) (nodes nodes2 : Nodes) (names names2 : Directories) (
           bare = λ o h. still_bare o (sym (seen_changed (λ (x : Option Node). option_map_or (λ y. y.dir) x false) (λ x. record x { links = links }) (λ y. refl) nodes.nodes n o) ∙ h);
           entries = omega (arith, names_more names.lists d n name in_lists, j.entries, some);
           links = λ o. elim (eqb_tells o n) [
-            | inl e ↦ subst (λ k. HasNames (at ns2 k) (names_for k (with_more d name n names).lists)) (sym e.1) (subst (λ x. HasNames x (names_for n (with_more d name n names).lists)) (sym (at_changed nodes.nodes n (λ x. record x { links = links }))) (subst (HasNames (option_map (λ y. let z : Node = record y { links = links } in z) (at nodes.nodes n))) here tied))
+            | inl e ↦ subst (λ k. HasNames (at ns2 k) (names_for k (with_more d name n names).lists)) (sym e.1)
+                (subst (λ x. HasNames x (names_for n (with_more d name n names).lists)) (sym (at_changed nodes.nodes n (λ x. record x { links = links })))
+                (subst (HasNames (option_map (λ y. let z : Node = record y { links = links } in z) (at nodes.nodes n))) here tied))
             | inr e ↦
                 let no : (n == o) ≡ false = elim (eqb_tells n o) [ inl f ↦ absurd (e.1 (sym f.1)) | inr f ↦ f.0 ] in
                 let same : names_for o names.lists ≡ names_for o (with_more d name n names).lists = omega (arith, one_more o, ap (λ b. cond {A = ℕ} b 1 0) no) in
@@ -125,7 +130,8 @@ module _ (limits : Limits) (nodes nodes2 : Nodes) (names names2 : Directories) (
           omega (arith, links_are, few_times n names.lists, j.entries, small, some)
 
       module _ (more : nodes2 ≡ changed n (λ x. record x { links = i.links + 1 }) nodes) (added : names2 ≡ with_more d name n names) where
-        tied_still : (x : Option Node) → at nodes.nodes n ≡ x → Some i ≡ option_map (told_at n nodes) x → HasNames (option_map (λ y. let z : Node = record y { links = i.links + 1 } in z) x) (names_for n names.lists + 1)
+        tied_still : (x : Option Node) → at nodes.nodes n ≡ x → Some i ≡ option_map (told_at n nodes) x
+            → HasNames (option_map (λ y. let z : Node = record y { links = i.links + 1 } in z) x) (names_for n names.lists + 1)
         tied_still None e h = cc
         tied_still (Some x) e h =
             let left : i.links + 1 ≡ names_for n names.lists + 1 = ap (λ k. k + 1) links_are in
@@ -138,7 +144,8 @@ module _ (limits : Limits) (nodes nodes2 : Nodes) (names names2 : Directories) (
         linked_view = named_view (i.links + 1) more added plain.0
 
 -- ---- the name of a new inode
-module _ (limits : Limits) (nodes nodes1 nodes2 : Nodes) (names names2 : Directories) (pipes : List (Option Pipe)) (es : OpenTable) (hs : List ℕ) (now : Parts) (j : AreJoined limits nodes names pipes es hs) (view : joined limits nodes names pipes es hs ≡ now)
+module _ (limits : Limits) (nodes nodes1 nodes2 : Nodes) (names names2 : Directories) (pipes : List (Option Pipe)) (es : OpenTable) (hs : List ℕ) (now : Parts)
+    (j : AreJoined limits nodes names pipes es hs) (view : joined limits nodes names pipes es hs ≡ now)
     (d n : ℕ) (name : List ℕ) (dir : is_dir (node now.objects d) ≡ true) (absent : child (node now.objects d) name ≡ None) (room : nat_lt (names_in_all now.objects) now.limits.names ≡ true)
     (fs : ℕ) (k : Kind) (vacant : vacant_inode now.fss now.objects fs ≡ Some n) (kind : kind_of (is_dir (new_object k None)) ≡ k)
     (new : nodes1 ≡ made (vacant_in fs nodes) (new_node fs (is_dir_kind k)) nodes) where
@@ -185,9 +192,14 @@ module _ (limits : Limits) (nodes nodes1 nodes2 : Nodes) (names names2 : Directo
     made_joined =
         let none = unnamed limits nodes nodes1 names pipes es hs now j view n fs k vacant kind in
         let here = at_placed limits nodes nodes1 names pipes es hs now j view n fs k vacant kind new in
-        let one : HasNames (Some (record (new_node fs (is_dir_kind k)) { links = 1 })) (names_for n names.lists + 1) = subst (λ m. HasNames (Some (record (new_node fs (is_dir_kind k)) { links = 1 })) (m + 1)) (sym none) (one_name (is_dir_kind k)) in
+        let one : HasNames (Some (record (new_node fs (is_dir_kind k)) { links = 1 })) (names_for n names.lists + 1) =
+        subst (λ m. HasNames (Some (record (new_node fs (is_dir_kind k)) { links = 1 })) (m + 1)) (sym none) (one_name (is_dir_kind k)) in
         named_joined limits nodes1 nodes2 names names2 pipes es hs between joined1 view1 d n name dir1 absent1 room1 1 set added in_nodes
         (subst (λ (o : Option Node). HasNames (option_map (λ y. let z : Node = record y { links = 1 } in z) o) (names_for n names.lists + 1)) (sym here) one)
 
-    pub made_view : joined limits nodes2 names2 pipes es hs ≡ record now { objects = change (put now.objects n (Some (new_object k (Some fs)))) d (with_name name n); holdings = slice_set now.holdings n holds_nothing }
+    pub made_view : joined limits nodes2 names2 pipes es hs ≡ record now {
+      objects =
+          change (put now.objects n (Some (new_object k (Some fs)))) d (with_name name n);
+      holdings = slice_set now.holdings n holds_nothing;
+    }
     made_view = named_view limits nodes1 nodes2 names names2 pipes es hs between joined1 view1 d n name dir1 absent1 room1 1 set added in_nodes

@@ -20,7 +20,8 @@ sum_more f x xs = sum-map f (x ∷ xs) ∙ sum_by-cons f x xs ∙ ap (λ n. f x 
 
 -- a sum over all objects that counts their names is one over the lists
 module _ (f : Option Object → ℕ) (g : List (List ℕ × ℕ) → ℕ) (none : f None ≡ 0) (empty : g [] ≡ 0) (same : (x : Object) → f (Some x) ≡ g x.names) where
-  over_inodes : (xs : List (Option Node)) (ls : Lists) → length ls ≡ length xs → ((o : ℕ) → option_map_or (λ x. x.dir) (at xs o) false ≡ false → names_at ls o ≡ []) → sum (map f (objects_of xs ls)) ≡ sum (map g ls)
+  over_inodes : (xs : List (Option Node)) (ls : Lists) → length ls ≡ length xs → ((o : ℕ) → option_map_or (λ x. x.dir) (at xs o) false ≡ false
+      → names_at ls o ≡ []) → sum (map f (objects_of xs ls)) ≡ sum (map g ls)
   over_inodes [] [] long bare = refl
   over_inodes [] (l ∷ ls) long bare = let no : suc (length ls) ≡ 0 = long in absurd (omega (arith, no))
   over_inodes (x ∷ xs) [] long bare = let no : 0 ≡ suc (length xs) = long in absurd (omega (arith, no))
@@ -38,13 +39,16 @@ module _ (f : Option Object → ℕ) (g : List (List ℕ × ℕ) → ℕ) (none 
   over_pipes (None ∷ ps) = omega (arith, sum_more f None (map (option_map object_of_pipe) ps), none, over_pipes ps)
   over_pipes (Some p ∷ ps) = omega (arith, sum_more f (Some (object_of_pipe p)) (map (option_map object_of_pipe) ps), same (object_of_pipe p), empty, over_pipes ps)
 
-  over_all : (nodes : Nodes) (names : Directories) (pipes : List (Option Pipe)) → length names.lists ≡ length nodes.nodes → ((o : ℕ) → option_map_or (λ x. x.dir) (at nodes.nodes o) false ≡ false → names_at names.lists o ≡ []) → sum (map f (all_objects nodes names pipes)) ≡ sum (map g names.lists)
+  over_all : (nodes : Nodes) (names : Directories) (pipes : List (Option Pipe)) → length names.lists ≡ length nodes.nodes
+      → ((o : ℕ) → option_map_or (λ x. x.dir) (at nodes.nodes o) false ≡ false → names_at names.lists o ≡ [])
+      → sum (map f (all_objects nodes names pipes)) ≡ sum (map g names.lists)
   over_all nodes names pipes long bare =
       let os = objects_of nodes.nodes names.lists in
       let ps = map (option_map object_of_pipe) pipes in
       omega (arith, sum-map f (os ++ ps), sum_by-append f os ps, sum-map f os, sum-map f ps, over_inodes nodes.nodes names.lists long bare, over_pipes pipes)
 
-module _ (limits : Limits) (nodes : Nodes) (names : Directories) (pipes : List (Option Pipe)) (es : OpenTable) (hs : List ℕ) (now : Parts) (j : AreJoined limits nodes names pipes es hs) (view : joined limits nodes names pipes es hs ≡ now) where
+module _ (limits : Limits) (nodes : Nodes) (names : Directories) (pipes : List (Option Pipe)) (es : OpenTable) (hs : List ℕ) (now : Parts)
+    (j : AreJoined limits nodes names pipes es hs) (view : joined limits nodes names pipes es hs ≡ now) where
   pub all_names : names_in_all now.objects ≡ names_in names.lists
   all_names = ap (λ (v : Parts). names_in_all v.objects) (sym view) ∙ over_all (λ o. option_map_or (λ y. length y.names) o 0) length refl refl (λ x. refl) nodes names pipes j.lists j.bare
 

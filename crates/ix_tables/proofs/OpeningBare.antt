@@ -1,5 +1,6 @@
 -- The tables before any object line show the world before any.
-use Rattle.std.proofs.Common.{◌≡◌, ◌+◌, ◌-◌, ◌<◌, ◌≤◌, ◌==◌, ℕ, zero, suc, true, false, cond, List, [], ◌∷◌, ◌++◌, length, map, sum, drop, replicate, count_by, Option, Some, None, option_map, refl, sym, ap, ◌∙◌, arith, length-append, length-set}
+use Rattle.std.proofs.Common.{◌≡◌, ◌+◌, ◌-◌, ◌<◌, ◌≤◌, ◌==◌, ℕ, zero, suc, true, false, cond, List, [], ◌∷◌, ◌++◌, length, map, sum, drop, replicate}
+use Rattle.std.proofs.Common.{count_by, Option, Some, None, option_map, refl, sym, ap, ◌∙◌, arith, length-append, length-set}
 use Rattle.std.specs.List.{list_all, range_with_len}
 use Rattle.std.proofs.lemmas.Bool.Decides.{nat_tests}
 use Rattle.std.proofs.lemmas.List.{length-replicate, length-map, map-append, replicate-append-replicate}
@@ -132,7 +133,8 @@ module _ (c : Config) (fit : list_all fs_fits c.fss ≡ true) (some : 0 < first_
   objects_are =
       let h : Object → Object = λ o. record o { names = listed } in
       let named : objects_of (bare 0 c.fss) (bare_names c).lists ≡ change (opening.bare 0 c.fss) 0 h =
-      objects_named (bare 0 c.fss) (replicate n []) 0 (λ ns. listed) (length-replicate {A = List (List ℕ × ℕ)} n [] ∙ sym (length-bare c.fss fit)) ∙ ap (λ (os : List (Option Object)). change os 0 h) as_bare in
+      objects_named (bare 0 c.fss) (replicate n []) 0 (λ ns. listed) (length-replicate {A = List (List ℕ × ℕ)} n [] ∙ sym (length-bare c.fss fit))
+      ∙ ap (λ (os : List (Option Object)). change os 0 h) as_bare in
       (λ i. named i ++ map_repeated (option_map object_of_pipe) c.limits.pipes None i)
       ∙ change_front (opening.bare 0 c.fss) (replicate c.limits.pipes None) h (omega (arith, long, some))
 

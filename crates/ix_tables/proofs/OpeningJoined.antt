@@ -1,5 +1,7 @@
 -- The tables before any object line are joined as they have to be.
-use Rattle.std.proofs.Common.{◌≡◌, ◌+◌, ◌<◌, ◌≤◌, ◌==◌, ◌&&◌, ℕ, zero, suc, Bool, true, false, nat_le, List, [], ◌∷◌, length, map, sum, drop, replicate, count_by, set, Option, Some, None, option_map, refl, sym, ap, ◌∙◌, subst, arith, length-set, append-nil, get_or-set_other, inl, inr}
+use Rattle.std.proofs.Common.{◌≡◌, ◌+◌, ◌<◌, ◌≤◌, ◌==◌, ◌&&◌, ℕ, zero, suc, Bool, true, false, nat_le, List, [], ◌∷◌, length, map, sum, drop}
+use Rattle.std.proofs.Common.{replicate, count_by, set, Option, Some, None, option_map, refl, sym, ap, ◌∙◌, subst, arith, length-set, append-nil}
+use Rattle.std.proofs.Common.{get_or-set_other, inl, inr}
 use Rattle.std.specs.Option.{option_map_or}
 use Rattle.std.specs.List.{list_all}
 use Rattle.std.proofs.Math.ListN.{get_or-map}
@@ -155,7 +157,9 @@ pub first_is : (c : Config) → is_valid c ≡ true → first_pipe c.fss ≡ len
 first_is c valid = sym (length-bare c.fss (valid_parts c valid).fss.each)
 
 -- what was made is as it was asked for
-pub joined_as : (c : Config) (nodes : Nodes) (names : Directories) (ps : List (Option Pipe)) (es : OpenTable) (hs : List ℕ) → nodes ≡ opened c.fss → names ≡ bare_names c → ps ≡ bare_pipes c → es ≡ bare_opens c → hs ≡ bare_homes c → AreJoined c.limits (opened c.fss) (bare_names c) (bare_pipes c) (bare_opens c) (bare_homes c) → AreJoined c.limits nodes names ps es hs
+pub joined_as : (c : Config) (nodes : Nodes) (names : Directories) (ps : List (Option Pipe)) (es : OpenTable) (hs : List ℕ) → nodes ≡ opened c.fss
+    → names ≡ bare_names c → ps ≡ bare_pipes c → es ≡ bare_opens c → hs ≡ bare_homes c
+    → AreJoined c.limits (opened c.fss) (bare_names c) (bare_pipes c) (bare_opens c) (bare_homes c) → AreJoined c.limits nodes names ps es hs
 joined_as c nodes names ps es hs e1 e2 e3 e4 e5 all =
     subst (λ (x : Nodes). AreJoined c.limits x names ps es hs) (sym e1)
     (subst (λ (x : Directories). AreJoined c.limits (opened c.fss) x ps es hs) (sym e2)

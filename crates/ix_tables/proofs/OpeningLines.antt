@@ -1,5 +1,7 @@
 -- One object line more.
-use Rattle.std.proofs.Common.{◌≡◌, ◌≢◌, ◌+◌, ◌-◌, ◌<◌, ◌≤◌, ◌==◌, ℕ, zero, suc, Bool, true, false, not, nat_lt, nat_le, ◌&&◌, List, [], ◌∷◌, ◌++◌, length, take, drop, replicate, Option, Some, None, unwrap_or, slice_get, slice_set, slice_index_or, if◌then◌else◌, refl, sym, ap, ◌∙◌, subst, arith, inl, inr, append-nil}
+use Rattle.std.proofs.Common.{◌≡◌, ◌≢◌, ◌+◌, ◌-◌, ◌<◌, ◌≤◌, ◌==◌, ℕ, zero, suc, Bool, true, false, not, nat_lt, nat_le, ◌&&◌, List, [], ◌∷◌, ◌++◌}
+use Rattle.std.proofs.Common.{length, take, drop, replicate, Option, Some, None, unwrap_or, slice_get, slice_set, slice_index_or, if◌then◌else◌, refl}
+use Rattle.std.proofs.Common.{sym, ap, ◌∙◌, subst, arith, inl, inr, append-nil}
 use Rattle.std.specs.Option.{option_map_or, option_and_then}
 use Rattle.std.proofs.lemmas.List.{set-set}
 use Rattle.std.proofs.lemmas.Bool.Decides.{nat_tests, eqb_tells}
@@ -31,7 +33,8 @@ record Stepped (objects : List (Option Object)) (names : List (List ℕ)) (j n :
   leads : Leads objects (unwrap_or (child (node objects n) name) n) (drop (suc j) names)
   same : directory_of objects n (drop j names) ≡ directory_of objects (unwrap_or (child (node objects n) name) n) (drop (suc j) names)
 
-stepped : (objects : List (Option Object)) (names : List (List ℕ)) (j n : ℕ) (name : List ℕ) → suc j < length names → slice_get names j ≡ Some name → Leads objects n (drop j names) → Stepped objects names j n name
+stepped : (objects : List (Option Object)) (names : List (List ℕ)) (j n : ℕ) (name : List ℕ) → suc j < length names → slice_get names j ≡ Some name
+    → Leads objects n (drop j names) → Stepped objects names j n name
 stepped objects [] j n name low is leads = absurd (omega (arith, low))
 stepped objects (x ∷ []) j n name low is leads = absurd (omega (arith, low))
 stepped objects (x ∷ y ∷ names) zero n name low is leads =
@@ -41,7 +44,8 @@ stepped objects (x ∷ y ∷ names) (suc j) n name low is leads =
     let r = stepped objects (y ∷ names) j n name (omega (arith, low)) is leads in
     record { dir = r.dir; leads = r.leads; same = r.same }
 
-pub step_on : (objects : List (Option Object)) (names : List (List ℕ)) (i dir : ℕ) (name : List ℕ) → i < length names → slice_get names (i - 1) ≡ Some name → IsOnWay objects names i dir → IsOnWay objects names (i + 1) (unwrap_or (child (node objects dir) name) dir)
+pub step_on : (objects : List (Option Object)) (names : List (List ℕ)) (i dir : ℕ) (name : List ℕ) → i < length names → slice_get names (i - 1) ≡ Some name
+    → IsOnWay objects names i dir → IsOnWay objects names (i + 1) (unwrap_or (child (node objects dir) name) dir)
 step_on objects names i dir name low is so =
     let r = stepped objects names (i - 1) dir name (omega (arith, low, so.begun)) is so.leads in
     let e : suc (i - 1) ≡ i + 1 - 1 = omega (arith, so.begun) in
@@ -52,7 +56,8 @@ step_on objects names i dir name low is so =
       begun = omega arith;
     }
 
-pub dir_on : (objects : List (Option Object)) (names : List (List ℕ)) (i dir : ℕ) (name : List ℕ) → i < length names → slice_get names (i - 1) ≡ Some name → IsOnWay objects names i dir → is_dir (node objects dir) ≡ true
+pub dir_on : (objects : List (Option Object)) (names : List (List ℕ)) (i dir : ℕ) (name : List ℕ) → i < length names → slice_get names (i - 1) ≡ Some name
+    → IsOnWay objects names i dir → is_dir (node objects dir) ≡ true
 dir_on objects names i dir name low is so = (stepped objects names (i - 1) dir name (omega (arith, low, so.begun)) is so.leads).dir
 
 -- the last name isn't followed
@@ -67,13 +72,17 @@ way_ends objects names i dir all so = sym (go names (i - 1) (omega (arith, all, 
     go (x ∷ ns) (suc j) h = go ns j (omega (arith, h))
 
 -- ---- an object as its line says
-pub said : (t u v w : Parts) (b : ObjSpec) (n : ℕ) → u ≡ record t { objects = change t.objects n (λ x. record x { label = b.label }) } → v ≡ record u { objects = change u.objects n (λ x. record x { frozen = b.frozen }) } → w ≡ record v { objects = change v.objects n (λ x. record x { cap = b.cap; lic = b.lic }) } → w ≡ record t { objects = change t.objects n (as_said b) }
+pub said : (t u v w : Parts) (b : ObjSpec) (n : ℕ) → u ≡ record t { objects = change t.objects n (λ x. record x { label = b.label }) }
+    → v ≡ record u { objects = change u.objects n (λ x. record x { frozen = b.frozen }) }
+    → w ≡ record v { objects = change v.objects n (λ x. record x { cap = b.cap; lic = b.lic }) } → w ≡ record t { objects = change t.objects n (as_said b) }
 said t u v w b n labelled frozen privs =
     let f : Object → Object = λ x. record x { label = b.label } in
     let g : Object → Object = λ x. record x { frozen = b.frozen } in
     let h : Object → Object = λ x. record x { cap = b.cap; lic = b.lic } in
-    let all : change (change (change t.objects n f) n g) n h ≡ change t.objects n (as_said b) = ap (λ (os : List (Option Object)). change os n h) (change_twice t.objects n f g) ∙ change_twice t.objects n (λ x. g (f x)) h in
-    privs ∙ ap (λ (s : Parts). let r : Parts = record s { objects = change s.objects n h } in r) (frozen ∙ ap (λ (s : Parts). let r : Parts = record s { objects = change s.objects n g } in r) labelled)
+    let all : change (change (change t.objects n f) n g) n h ≡ change t.objects n (as_said b) =
+    ap (λ (os : List (Option Object)). change os n h) (change_twice t.objects n f g) ∙ change_twice t.objects n (λ x. g (f x)) h in
+    privs ∙ ap (λ (s : Parts). let r : Parts = record s { objects = change s.objects n h } in
+    r) (frozen ∙ ap (λ (s : Parts). let r : Parts = record s { objects = change s.objects n g } in r) labelled)
     ∙ (λ i. record t { objects = all i })
 
 -- ---- the bytes of a file that holds nothing yet
@@ -88,9 +97,19 @@ spliced_first (b ∷ bytes) =
     ap (λ c. if c then [] else (take 0 [] ++ (replicate (0 - length {A = ℕ} []) 0 ++ ((b ∷ bytes) ++ drop (0 + length (b ∷ bytes)) [])))) some
     ∙ ap (λ ns. (b ∷ bytes) ++ ns) (none_dropped (0 + length (b ∷ bytes))) ∙ append-nil (b ∷ bytes)
 
-pub filled : (t u : Parts) (n : ℕ) (bytes : List ℕ) → slice_index_or t.holdings n holds_nothing ≡ holds_nothing → u ≡ record t { holdings = slice_set t.holdings n (with_side 0 (spliced 0 bytes (slice_index_or t.holdings n holds_nothing).first) (slice_index_or t.holdings n holds_nothing)) } → u ≡ record t { holdings = slice_set t.holdings n (record { first = bytes; second = [] }) }
+pub filled : (t u : Parts) (n : ℕ) (bytes : List ℕ) → slice_index_or t.holdings n holds_nothing ≡ holds_nothing
+    → u ≡ record t {
+      holdings =
+          slice_set t.holdings n (with_side 0 (spliced 0 bytes (slice_index_or t.holdings n holds_nothing).first) (slice_index_or t.holdings n holds_nothing));
+    }
+    → u ≡ record t { holdings = slice_set t.holdings n (record { first = bytes; second = [] }) }
 filled t u n bytes empty is =
-    let h : with_side 0 (spliced 0 bytes (slice_index_or t.holdings n holds_nothing).first) (slice_index_or t.holdings n holds_nothing) ≡ record { first = bytes; second = [] } = ap (λ (x : Holding). with_side 0 (spliced 0 bytes x.first) x) empty ∙ ap (λ bs. with_side 0 bs holds_nothing) (spliced_first bytes) in
+    let h : with_side 0 (spliced 0 bytes (slice_index_or t.holdings n holds_nothing).first) (slice_index_or t.holdings n holds_nothing) ≡ record {
+      first =
+          bytes;
+      second = [];
+    } = ap (λ (x : Holding). with_side 0 (spliced 0 bytes x.first) x) empty
+    ∙ ap (λ bs. with_side 0 bs holds_nothing) (spliced_first bytes) in
     is ∙ (λ i. record t { holdings = slice_set t.holdings n (h i) })
 
 -- ---- the object of a line
@@ -135,7 +154,12 @@ module _ (b : ObjSpec) (d k o : ℕ) (t : Parts) (p : HasPlace b d k o t) where
   empty_line = record t { objects = made; holdings = slice_set t.holdings o holds_nothing }
 
   -- as a line says, but for the bytes
-  pub made_empty : (u v : Parts) (name : List ℕ) (kind : Kind) → name ≡ last_name b.path.names → kind ≡ kind_said b → u ≡ record t { objects = change (put t.objects o (Some (new_object kind (Some k)))) d (with_name name o); holdings = slice_set t.holdings o holds_nothing } → v ≡ record u { objects = change u.objects o (as_said b) } → v ≡ empty_line
+  pub made_empty : (u v : Parts) (name : List ℕ) (kind : Kind) → name ≡ last_name b.path.names → kind ≡ kind_said b
+      → u ≡ record t {
+        objects = change (put t.objects o (Some (new_object kind (Some k)))) d (with_name name o);
+        holdings =
+            slice_set t.holdings o holds_nothing;
+      } → v ≡ record u { objects = change u.objects o (as_said b) } → v ≡ empty_line
   made_empty u v name kind last is put_there settled =
       settled
       ∙ ap (λ (s : Parts). let r : Parts = record s { objects = change s.objects o (as_said b) } in r) put_there

@@ -1,5 +1,6 @@
 -- How many inodes there are, and the names of the further file systems.
-use Rattle.std.proofs.Common.{◌≡◌, ◌+◌, ◌-◌, ◌*◌, ◌<◌, ◌≤◌, ℕ, zero, suc, Bool, true, false, not, List, [], ◌∷◌, ◌++◌, length, map, take, drop, replicate, find, set, get_or, Some, None, option_map, refl, sym, ap, ◌∙◌, arith}
+use Rattle.std.proofs.Common.{◌≡◌, ◌+◌, ◌-◌, ◌*◌, ◌<◌, ◌≤◌, ℕ, zero, suc, Bool, true, false, not, List, [], ◌∷◌, ◌++◌, length, map, take, drop}
+use Rattle.std.proofs.Common.{replicate, find, set, get_or, Some, None, option_map, refl, sym, ap, ◌∙◌, arith}
 use Rattle.std.specs.List.{list_any}
 use Rattle.std.proofs.lemmas.Bool.{and_parts, or_parts, not-true, cond-false}
 use Rattle.std.proofs.lemmas.List.{get_or-set_same, get_or_read, set-set, length-replicate, take_all, length-drop}
@@ -63,7 +64,8 @@ set_empty : (inodes : ℕ) → set (replicate {A = List (List ℕ × ℕ)} inode
 set_empty zero = refl
 set_empty (suc n) = refl
 
-module _ (entries inodes : ℕ) (fss rest : List FsSpec) (k root : ℕ) (names : Directories) (s : FsSpec) (within : are_within fss ≡ true) (differ : all_differ (map (λ s. s.name) fss) ≡ true) (some : 0 < inodes)
+module _ (entries inodes : ℕ) (fss rest : List FsSpec) (k root : ℕ) (names : Directories) (s : FsSpec) (within : are_within fss ≡ true)
+    (differ : all_differ (map (λ s. s.name) fss) ≡ true) (some : 0 < inodes)
     (so : AreNamed entries inodes fss rest k root names) (low : k < length rest) (is : s ≡ get_or rest k s) where
   abbrev lists : List (List (List ℕ × ℕ))
   lists = set (replicate inodes []) 0 (mounts (first_inode fss 1) (take k rest))
@@ -111,13 +113,17 @@ module _ (entries inodes : ℕ) (fss rest : List FsSpec) (k root : ℕ) (names :
       more =
           let free : entries - k - 1 ≡ entries - (k + 1) = omega arith in
           let listed : mounts (first_inode fss 1) (take k rest) ++ (s.name, root) ∷ [] ≡ mounts (first_inode fss 1) (take (k + 1) rest) =
-          ap (λ (o : ℕ). mounts (first_inode fss 1) (take k rest) ++ (s.name, o) ∷ []) so.next ∙ sym (ap (λ (j : ℕ). mounts (first_inode fss 1) (take j rest)) up ∙ mounts_more (first_inode fss 1) rest k s low is) in
-          let put : set lists 0 (names_of (named_so_far entries inodes (first_inode fss 1) rest k) 0 ++ (s.name, root) ∷ []) ≡ set (replicate inodes []) 0 (mounts (first_inode fss 1) (take (k + 1) rest)) =
-          ap (λ es. set lists 0 (es ++ (s.name, root) ∷ [])) at_root ∙ set-set (replicate inodes []) 0 (mounts (first_inode fss 1) (take k rest)) (mounts (first_inode fss 1) (take k rest) ++ (s.name, root) ∷ []) ∙ ap (λ es. set (replicate inodes []) 0 es) listed in
+          ap (λ (o : ℕ). mounts (first_inode fss 1) (take k rest) ++ (s.name, o) ∷ []) so.next
+          ∙ sym (ap (λ (j : ℕ). mounts (first_inode fss 1) (take j rest)) up ∙ mounts_more (first_inode fss 1) rest k s low is) in
+          let put : set lists 0 (names_of (named_so_far entries inodes (first_inode fss 1) rest k) 0 ++ (s.name, root) ∷ [])
+          ≡ set (replicate inodes []) 0 (mounts (first_inode fss 1) (take (k + 1) rest)) =
+          ap (λ es. set lists 0 (es ++ (s.name, root) ∷ [])) at_root ∙ set-set (replicate inodes []) 0 (mounts (first_inode fss 1) (take k rest))
+          (mounts (first_inode fss 1) (take k rest) ++ (s.name, root) ∷ []) ∙ ap (λ es. set (replicate inodes []) 0 es) listed in
           ap (with_more 0 s.name root) so.named ∙ (λ i. record { lists = put i; free = free i })
 
 -- none is named yet
-pub named_none : (entries inodes : ℕ) (fss rest : List FsSpec) (root : ℕ) (names : Directories) → are_within fss ≡ true → 0 < length fss → rest ≡ drop 1 fss → root ≡ (fs_at fss 0).inodes → names ≡ record { lists = replicate inodes []; free = entries } → AreNamed entries inodes fss rest 0 root names
+pub named_none : (entries inodes : ℕ) (fss rest : List FsSpec) (root : ℕ) (names : Directories) → are_within fss ≡ true → 0 < length fss → rest ≡ drop 1 fss
+    → root ≡ (fs_at fss 0).inodes → names ≡ record { lists = replicate inodes []; free = entries } → AreNamed entries inodes fss rest 0 root names
 named_none entries inodes fss rest root names within some is first empty = record {
   further = is;
   named = empty ∙ (let free : entries ≡ entries - 0 = omega arith in λ i. record { lists = sym (set_empty inodes) i; free = free i });
@@ -130,7 +136,8 @@ named_none entries inodes fss rest root names within some is first empty = recor
     small (s ∷ fs) h low = (within_fits (s ∷ fs) 0 s h low refl).1
 
 -- all are
-pub named_all : (entries inodes : ℕ) (fss rest : List FsSpec) (k root : ℕ) (names : Directories) → k ≡ length rest → AreNamed entries inodes fss rest k root names → names ≡ roots_named entries inodes fss
+pub named_all : (entries inodes : ℕ) (fss rest : List FsSpec) (k root : ℕ) (names : Directories) → k ≡ length rest
+    → AreNamed entries inodes fss rest k root names → names ≡ roots_named entries inodes fss
 named_all entries inodes fss rest k root names all so =
     let whole : take k rest ≡ drop 1 fss = take_all k rest (omega (arith, all)) ∙ so.further in
     let free : entries - k ≡ entries - (length fss - 1) = omega (arith, all, ap length so.further, length-drop 1 fss) in

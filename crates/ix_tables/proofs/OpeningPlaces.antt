@@ -1,5 +1,6 @@
 -- Each object line of a valid config finds its place in the tables that those before it have made.
-use Rattle.std.proofs.Common.{◌≡◌, ◌+◌, ◌<◌, ◌≤◌, ◌&&◌, ℕ, zero, suc, Bool, true, false, List, [], ◌∷◌, ◌++◌, length, take, find, Option, Some, None, option_map, unwrap_or, slice_get, refl, sym, ap, ◌∙◌, subst, arith, append_assoc, append-nil, length-append}
+use Rattle.std.proofs.Common.{◌≡◌, ◌+◌, ◌<◌, ◌≤◌, ◌&&◌, ℕ, zero, suc, Bool, true, false, List, [], ◌∷◌, ◌++◌, length, take, find, Option, Some, None}
+use Rattle.std.proofs.Common.{option_map, unwrap_or, slice_get, refl, sym, ap, ◌∙◌, subst, arith, append_assoc, append-nil, length-append}
 use Rattle.std.specs.Option.{option_map_or, option_and_then}
 use Rattle.std.specs.List.{list_any}
 use Rattle.std.proofs.lemmas.Bool.{and_parts, or_parts, cond-false}
@@ -39,7 +40,8 @@ fit_first fss l before (b ∷ lines) (suc i) fit =
     let p = and_parts (object_fits fss l before b) (objects_fit fss l (before ++ b ∷ []) lines) fit in
     λ j. p.0 j && fit_first fss l (before ++ b ∷ []) lines i p.1 j
 
-fit_at : (fss : List FsSpec) (l : Limits) (before lines : List ObjSpec) (i : ℕ) (b : ObjSpec) → slice_get lines i ≡ Some b → objects_fit fss l before lines ≡ true → object_fits fss l (before ++ take i lines) b ≡ true
+fit_at : (fss : List FsSpec) (l : Limits) (before lines : List ObjSpec) (i : ℕ) (b : ObjSpec) → slice_get lines i ≡ Some b
+    → objects_fit fss l before lines ≡ true → object_fits fss l (before ++ take i lines) b ≡ true
 fit_at fss l before [] zero b is fit = cc
 fit_at fss l before [] (suc i) b is fit = cc
 fit_at fss l before (x ∷ lines) zero b is fit =
@@ -72,12 +74,14 @@ find_nothing p (x ∷ xs) none =
     let h = or_parts (p x) (list_any p xs) none in
     cond-false (p x) (Some x) (find p xs) h.0 ∙ find_nothing p xs h.1
 
-leads_next : (t : List (Option Object)) (n : ℕ) (x name : List ℕ) (names : List (List ℕ)) → is_dir (node t n) ≡ true → Leads t (unwrap_or (child (node t n) x) n) (names ++ name ∷ []) → Leads t n (x ∷ (names ++ name ∷ []))
+leads_next : (t : List (Option Object)) (n : ℕ) (x name : List ℕ) (names : List (List ℕ)) → is_dir (node t n) ≡ true
+    → Leads t (unwrap_or (child (node t n) x) n) (names ++ name ∷ []) → Leads t n (x ∷ (names ++ name ∷ []))
 leads_next t n x name [] dir rest = (dir, rest)
 leads_next t n x name (y ∷ names) dir rest = (dir, rest)
 
 -- what has a child is a directory
-parent_is_dir : (t : List (Option Object)) → ((d : ℕ) (x : Object) → at t d ≡ Some x → is_dir x ≡ false → x.names ≡ []) → (n m : ℕ) (name : List ℕ) → child (node t n) name ≡ Some m → is_dir (node t n) ≡ true
+parent_is_dir : (t : List (Option Object)) → ((d : ℕ) (x : Object) → at t d ≡ Some x → is_dir x ≡ false → x.names ≡ []) → (n m : ℕ) (name : List ℕ)
+    → child (node t n) name ≡ Some m → is_dir (node t n) ≡ true
 parent_is_dir t bare n m name h = go (at t n) refl h
   where
     by : (x : Object) (b : Bool) → at t n ≡ Some x → is_dir x ≡ b → child x name ≡ Some m → is_dir x ≡ true
@@ -90,13 +94,15 @@ parent_is_dir t bare n m name h = go (at t n) refl h
     go None e h = cc
     go (Some x) e h = by x (is_dir x) e refl h
 
-leads_by : (t : List (Option Object)) → ((d : ℕ) (x : Object) → at t d ≡ Some x → is_dir x ≡ false → x.names ≡ []) → (n d : ℕ) (names : List (List ℕ)) (name : List ℕ) → lead t n names ≡ Some d → is_dir (node t d) ≡ true → Leads t n (names ++ name ∷ [])
+leads_by : (t : List (Option Object)) → ((d : ℕ) (x : Object) → at t d ≡ Some x → is_dir x ≡ false → x.names ≡ [])
+    → (n d : ℕ) (names : List (List ℕ)) (name : List ℕ) → lead t n names ≡ Some d → is_dir (node t d) ≡ true → Leads t n (names ++ name ∷ [])
 leads_by t bare n d [] name h dir =
     let same : n ≡ d = cc in
     ap (λ m. is_dir (node t m)) same ∙ dir
 leads_by t bare n d (x ∷ names) name h dir = go (child (node t n) x) refl h (λ m k. leads_by t bare m d names name k dir)
   where
-    go : (y : Option ℕ) → child (node t n) x ≡ y → option_and_then (λ m. lead t m names) y ≡ Some d → ((m : ℕ) → lead t m names ≡ Some d → Leads t m (names ++ name ∷ [])) → Leads t n (x ∷ (names ++ name ∷ []))
+    go : (y : Option ℕ) → child (node t n) x ≡ y → option_and_then (λ m. lead t m names) y ≡ Some d
+        → ((m : ℕ) → lead t m names ≡ Some d → Leads t m (names ++ name ∷ [])) → Leads t n (x ∷ (names ++ name ∷ []))
     go None e k next = cc
     go (Some m) e k next = leads_next t n x name names (parent_is_dir t bare n m x e) (subst (λ (j : ℕ). Leads t j (names ++ name ∷ [])) (sym (ap (λ (z : Option ℕ). unwrap_or z n) e)) (next m k))
 
@@ -114,7 +120,8 @@ pub record Goes (b : ObjSpec) (t next : Parts) : Type 0 where
   pub place : HasPlace b (dir_for b t) (fs_for b t) number t
   pub after : with_line b (dir_for b t) (fs_for b t) number t ≡ next
 
-goes_by : (b : ObjSpec) (t next : Parts) (d k o : ℕ) → Leads t.objects 0 b.path.names → dir_for b t ≡ d → unwrap_or (node t.objects d).fs 0 ≡ k → vacant_inode t.fss t.objects k ≡ Some o → HasPlace b d k o t → with_line b d k o t ≡ next → Goes b t next
+goes_by : (b : ObjSpec) (t next : Parts) (d k o : ℕ) → Leads t.objects 0 b.path.names → dir_for b t ≡ d → unwrap_or (node t.objects d).fs 0 ≡ k
+    → vacant_inode t.fss t.objects k ≡ Some o → HasPlace b d k o t → with_line b d k o t ≡ next → Goes b t next
 goes_by b t next d k o way dir fs vacant place line =
     let on : fs_for b t ≡ k = ap (λ e. unwrap_or (node t.objects e).fs 0) dir ∙ fs in
     record {
@@ -125,14 +132,16 @@ goes_by b t next d k o way dir fs vacant place line =
       after = (λ i. with_line b (dir i) (on i) o t) ∙ line;
     }
 
-object_is : (w : World) (b : ObjSpec) (d k o : ℕ) → directory_of w.frame.objects 0 b.path.names ≡ d → unwrap_or (node w.frame.objects d).fs 0 ≡ k → vacant_inode w.frame.fss w.frame.objects k ≡ Some o → with_object w b ≡ placed w b d k o
+object_is : (w : World) (b : ObjSpec) (d k o : ℕ) → directory_of w.frame.objects 0 b.path.names ≡ d → unwrap_or (node w.frame.objects d).fs 0 ≡ k
+    → vacant_inode w.frame.fss w.frame.objects k ≡ Some o → with_object w b ≡ placed w b d k o
 unfolding with_object free_inode
 object_is w b d k o dir fs vacant =
     ap (λ e. let j : ℕ = unwrap_or (node w.frame.objects e).fs 0 in option_map_or (placed w b e j) (free_inode w.frame j) w) dir
     ∙ ap (λ j. option_map_or (placed w b d j) (free_inode w.frame j) w) fs
     ∙ ap (λ x. option_map_or (placed w b d k) x w) vacant
 
-line_after : (w : World) (b : ObjSpec) (d k o : ℕ) → length (placed w b d k o).frame.objects ≡ length w.frame.objects → with_object w b ≡ placed w b d k o → with_line b d k o (parts_of w) ≡ parts_of (with_object w b)
+line_after : (w : World) (b : ObjSpec) (d k o : ℕ) → length (placed w b d k o).frame.objects ≡ length w.frame.objects → with_object w b ≡ placed w b d k o
+    → with_line b d k o (parts_of w) ≡ parts_of (with_object w b)
 line_after w b d k o long is = (λ i. record (with_line b d k o (parts_of w)) { homes = homes_of (sym long i) w.frame.processes }) ∙ ap parts_of (sym is)
 
 within_fss : (fss : List FsSpec) (k : ℕ) → 1 ≤ (fs_at fss k).inodes → k < length fss
@@ -141,14 +150,16 @@ within_fss [] (suc k) some = absurd (omega (arith, some))
 within_fss (s ∷ fss) zero some = omega arith
 within_fss (s ∷ fss) (suc k) some = omega (arith, within_fss fss k some)
 
-goes_built : (c : Config) (before : List ObjSpec) (t : List (Option Object)) (hs : List Holding) (b : ObjSpec) → Built c.fss c.limits before t hs → object_fits c.fss c.limits before b ≡ true → Goes b (parts_of (world_with c t hs)) (parts_of (with_object (world_with c t hs) b))
+goes_built : (c : Config) (before : List ObjSpec) (t : List (Option Object)) (hs : List Holding) (b : ObjSpec) → Built c.fss c.limits before t hs
+    → object_fits c.fss c.limits before b ≡ true → Goes b (parts_of (world_with c t hs)) (parts_of (with_object (world_with c t hs) b))
 goes_built c before t hs b r fits =
     let w : World = world_with c t hs in
     let line = line_is c.fss c.limits before b fits in
     let home = r.ways.dirs (parent_of b.path.names) line.dir in
     let k : ℕ = fs_of c.fss b.path.names in
     let no_root = or_parts (is_mount c.fss b.path.names) (list_any (λ x. same_names x.path.names b.path.names) before) line.new in
-    let same_fs : k ≡ fs_of c.fss (parent_of b.path.names) = ap (fs_of c.fss) line.is_path ∙ fs_of_child c.fss (parent_of b.path.names) (last_name b.path.names) (ap (is_mount c.fss) (sym line.is_path) ∙ no_root.0) in
+    let same_fs : k ≡ fs_of c.fss (parent_of b.path.names) = ap (fs_of c.fss) line.is_path
+    ∙ fs_of_child c.fss (parent_of b.path.names) (last_name b.path.names) (ap (is_mount c.fss) (sym line.is_path) ∙ no_root.0) in
     let free = free_is t (first_inode c.fss k) (fs_at c.fss k).inodes (omega (arith, first_within c.fss k, r.counted.long)) (omega (arith, r.counted.taken k, line.inodes)) in
     let o : ℕ = first_inode c.fss k + free.step in
     let p : Place t o home.number = record { low = omega (arith, free.low, first_within c.fss k, r.counted.long); free = free.none; dir = home.object; is_dir = home.is_object } in
@@ -156,10 +167,13 @@ goes_built c before t hs b r fits =
     let at_dir : directory_of t 0 b.path.names ≡ home.number = ap (directory_of t 0) line.is_path ∙ directory_is t 0 home.number (parent_of b.path.names) (last_name b.path.names) home.leads in
     let fs : unwrap_or (node t home.number).fs 0 ≡ k = ap (λ (x : Option Object). unwrap_or (unwrap_or x nothing).fs 0) home.is_object ∙ ap (λ x. unwrap_or x 0) home.on ∙ sym same_fs in
     let vacant : vacant_inode c.fss t k ≡ Some o = ap (option_map (λ n. first_inode c.fss k + n)) free.found in
-    let way : Leads t 0 b.path.names = subst (λ (ns : List (List ℕ)). Leads t 0 ns) (sym line.is_path) (leads_by t r.named.in_directories 0 home.number (parent_of b.path.names) (last_name b.path.names) home.leads dir) in
+    let way : Leads t 0 b.path.names =
+    subst (λ (ns : List (List ℕ)). Leads t 0 ns) (sym line.is_path) (leads_by t r.named.in_directories 0 home.number (parent_of b.path.names)
+    (last_name b.path.names) home.leads dir) in
     let new = name_is_new c.fss c.limits before t b o k r.ways line home p refl refl in
     let absent : child (node t home.number) (last_name b.path.names) ≡ None =
-    ap (λ (x : Option Object). child (unwrap_or x nothing) (last_name b.path.names)) home.is_object ∙ ap (option_map (λ (e : List ℕ × ℕ). e.1)) (find_nothing (λ (e : List ℕ × ℕ). same_bytes e.0 (last_name b.path.names)) home.object.names new) in
+    ap (λ (x : Option Object). child (unwrap_or x nothing) (last_name b.path.names)) home.is_object
+    ∙ ap (option_map (λ (e : List ℕ × ℕ). e.1)) (find_nothing (λ (e : List ℕ × ℕ). same_bytes e.0 (last_name b.path.names)) home.object.names new) in
     let fewer : names_in_all t < c.limits.names = omega (arith, r.counted.names, line.names) in
     let blocks : blocks_where (lies_on (frame_alone (parts_of w)) (Some k)) 0 hs ≤ blocks_taken c.fss k before = r.counted.blocks k in
     let place : HasPlace b home.number k o (parts_of w) = record {
@@ -209,7 +223,8 @@ module _ (b : ObjSpec) (t next : Parts) (g : Goes b t next) (d k : ℕ) (dir : d
     number_is = let e : Some o ≡ Some g.number = free ∙ vacant_is in cc
 
     pub placed_there : HasPlace b d k o t
-    placed_there = subst (λ (e : ℕ). HasPlace b e k o t) (sym dir) (subst (λ (j : ℕ). HasPlace b (dir_for b t) j o t) (sym fs_is) (subst (λ (n : ℕ). HasPlace b (dir_for b t) (fs_for b t) n t) number_is g.place))
+    placed_there = subst (λ (e : ℕ). HasPlace b e k o t) (sym dir) (subst (λ (j : ℕ). HasPlace b (dir_for b t) j o t) (sym fs_is)
+        (subst (λ (n : ℕ). HasPlace b (dir_for b t) (fs_for b t) n t) number_is g.place))
 
     pub line_there : with_line b d k o t ≡ next
     line_there = (λ i. with_line b (dir i) (fs_is i) (sym number_is i) t) ∙ g.after

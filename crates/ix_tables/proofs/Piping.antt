@@ -1,5 +1,6 @@
 -- Pipes, which stand behind the inodes.
-use Rattle.std.proofs.Common.{◌≡◌, ◌+◌, ◌-◌, ◌<◌, ◌≤◌, ℕ, Bool, true, false, List, [], ◌++◌, length, map, Option, Some, None, is_some, option_map, unwrap_or, slice_index_or, slice_set, refl, sym, ap, ◌∙◌, arith, inl, inr}
+use Rattle.std.proofs.Common.{◌≡◌, ◌+◌, ◌-◌, ◌<◌, ◌≤◌, ℕ, Bool, true, false, List, [], ◌++◌, length, map, Option, Some, None, is_some, option_map}
+use Rattle.std.proofs.Common.{unwrap_or, slice_index_or, slice_set, refl, sym, ap, ◌∙◌, arith, inl, inr}
 use Rattle.std.specs.Option.{option_map_or}
 use Rattle.std.proofs.lemmas.Bool.{cases_lt}
 use Rattle.std.proofs.lemmas.Bool.Decides.{nat_tests}
@@ -62,7 +63,11 @@ module _ (nodes : Nodes) (names : Directories) (ps : List (Option Pipe)) (first 
         ∙ sym (set-append_right (map holding_of_bytes nodes.bytes) (map holding_of_pipe ps) first n (holding_of_pipe y) (length-map nodes.bytes holding_of_bytes ∙ bytes ∙ sym is) past)
 
     pub piped : (l : Limits) (es : OpenTable) (hs : List ℕ) → length nodes.bytes ≡ length nodes.nodes
-        → joined l nodes names (put ps (n - first) y) es hs ≡ record (joined l nodes names ps es hs) { objects = put (all_objects nodes names ps) n (option_map object_of_pipe y); holdings = slice_set (all_holdings nodes ps) n (holding_of_pipe y) }
+        → joined l nodes names (put ps (n - first) y) es hs ≡ record (joined l nodes names ps es hs) {
+          objects =
+              put (all_objects nodes names ps) n (option_map object_of_pipe y);
+          holdings = slice_set (all_holdings nodes ps) n (holding_of_pipe y);
+        }
     piped l es hs bytes = λ i. record (joined l nodes names ps es hs) { objects = put_pipe nodes names ps first n y is past i; holdings = holdings_behind bytes i }
 
 -- ---- what is told of a pipe that lives
@@ -78,7 +83,8 @@ fits_is : (x : Option Pipe) (end : ℕ) (bytes : List ℕ) → is_some x ≡ tru
 fits_is None end bytes h room = absurd (cc h)
 fits_is (Some p) end bytes h room = grind (arith, nat_tests, room)
 
-both : (h : Pipe → Pipe) (k : Object → Object) → ((p : Pipe) → object_of_pipe (h p) ≡ k (object_of_pipe p)) → (x : Option Pipe) → option_map object_of_pipe (option_map h x) ≡ option_map k (option_map object_of_pipe x)
+both : (h : Pipe → Pipe) (k : Object → Object) → ((p : Pipe) → object_of_pipe (h p) ≡ k (object_of_pipe p)) → (x : Option Pipe)
+    → option_map object_of_pipe (option_map h x) ≡ option_map k (option_map object_of_pipe x)
 both h k same None = refl
 both h k same (Some p) = ap (λ (o : Object). Some o) (same p)
 
@@ -87,7 +93,8 @@ filled h u same None lives = absurd (cc lives)
 filled h u same (Some p) lives = same p
 
 -- what stands behind the inodes is a pipe
-pub pipe_past : (l : Limits) (nodes : Nodes) (names : Directories) (ps : List (Option Pipe)) (es : OpenTable) (hs : List ℕ) (now : Parts) → joined l nodes names ps es hs ≡ now → (first n : ℕ) → first ≡ length nodes.nodes → first ≤ n
+pub pipe_past : (l : Limits) (nodes : Nodes) (names : Directories) (ps : List (Option Pipe)) (es : OpenTable) (hs : List ℕ) (now : Parts)
+    → joined l nodes names ps es hs ≡ now → (first n : ℕ) → first ≡ length nodes.nodes → first ≤ n
     → is_some (at now.objects n) ≡ true → is_pipe (node now.objects n) ≡ true
 pipe_past l nodes names ps es hs now view first n is past lives = ap (λ (o : Option Object). is_pipe (unwrap_or o nothing)) here ∙ go (at ps (n - first)) (ap is_some (sym here) ∙ lives)
   where
@@ -126,8 +133,13 @@ module _ (l : Limits) (nodes : Nodes) (names : Directories) (ps : List (Option P
   fits_there end bytes room = fits_is (at ps (n - first)) end bytes is_living (omega (arith, room, ap (λ (h : Holding). length (side end h)) holding_there))
 
   -- another pipe in its place
-  pub put_there : (y : Option Pipe) → joined l nodes names (put ps (n - first) y) es hs ≡ record now { objects = put now.objects n (option_map object_of_pipe y); holdings = slice_set now.holdings n (holding_of_pipe y) }
-  put_there y = piped nodes names ps first n inv.1 y is_past l es hs inv.0.bytes ∙ ap (λ (v : Parts). let u : Parts = record v { objects = put v.objects n (option_map object_of_pipe y); holdings = slice_set v.holdings n (holding_of_pipe y) } in u) view
+  pub put_there : (y : Option Pipe) → joined l nodes names (put ps (n - first) y) es hs ≡ record now {
+    objects =
+        put now.objects n (option_map object_of_pipe y);
+    holdings = slice_set now.holdings n (holding_of_pipe y);
+  }
+  put_there y = piped nodes names ps first n inv.1 y is_past l es hs inv.0.bytes ∙ ap (λ (v : Parts). let u : Parts =
+      record v { objects = put v.objects n (option_map object_of_pipe y); holdings = slice_set v.holdings n (holding_of_pipe y) } in u) view
 
   -- the pipe changed, without what it holds
   pub changed_there : (h : Pipe → Pipe) (k : Object → Object) → ((p : Pipe) → object_of_pipe (h p) ≡ k (object_of_pipe p)) → ((p : Pipe) → (h p).holding ≡ p.holding)

@@ -1,5 +1,6 @@
 -- Another inode, or none, at a number, and a new one.
-use Rattle.std.proofs.Common.{◌≡◌, ◌+◌, ◌<◌, ◌^◌, Bool, true, false, ℕ, List, [], ◌++◌, map, length, Option, Some, None, option_map, unwrap_or, slice_set, nat_lt, refl, sym, ap, subst, ◌∙◌, arith, inl, inr, length-set, get_or-set_other, get_or-set_same}
+use Rattle.std.proofs.Common.{◌≡◌, ◌+◌, ◌<◌, ◌^◌, Bool, true, false, ℕ, List, [], ◌++◌, map, length, Option, Some, None, option_map, unwrap_or}
+use Rattle.std.proofs.Common.{slice_set, nat_lt, refl, sym, ap, subst, ◌∙◌, arith, inl, inr, length-set, get_or-set_other, get_or-set_same}
 use Rattle.std.specs.Option.{option_map_or}
 use Rattle.std.proofs.lemmas.Bool.{cases_eq}
 use Rattle.std.proofs.lemmas.List.{length-map, map-set, set-append_left}
@@ -27,19 +28,39 @@ use Rattle.ix_tables.proofs.Naming.{all_names}
 use Rattle.ix_tables.proofs.Vacant.{vacant_is, vacant_free}
 
 -- the tables with that in the place of what stood there, without bytes
-pub inode_put : (limits : Limits) (nodes nodes2 : Nodes) (names : Directories) (pipes : List (Option Pipe)) (es : OpenTable) (hs : List ℕ) (now : Parts) → length nodes.bytes ≡ length nodes.nodes → joined limits nodes names pipes es hs ≡ now
-    → (n : ℕ) (x : Option Node) → n < length nodes.nodes → nodes2 ≡ with_inode n x [] nodes → joined limits nodes2 names pipes es hs ≡ record now { objects = put now.objects n (option_map (object_of (names_of names n)) x); holdings = slice_set now.holdings n holds_nothing }
+pub inode_put : (limits : Limits) (nodes nodes2 : Nodes) (names : Directories) (pipes : List (Option Pipe)) (es : OpenTable) (hs : List ℕ) (now : Parts)
+    → length nodes.bytes ≡ length nodes.nodes → joined limits nodes names pipes es hs ≡ now
+    → (n : ℕ) (x : Option Node) → n < length nodes.nodes → nodes2 ≡ with_inode n x [] nodes → joined limits nodes2 names pipes es hs ≡ record now {
+      objects =
+          put now.objects n (option_map (object_of (names_of names n)) x);
+      holdings = slice_set now.holdings n holds_nothing;
+    }
 inode_put limits nodes nodes2 names pipes es hs now long view n x low is =
     let v : Parts = joined limits nodes names pipes es hs in
     let o : Option Object = option_map (object_of (names_of names n)) x in
     let os = ap (λ t. t ++ map (option_map object_of_pipe) pipes) (objects_put nodes.nodes names.lists n x) ∙ sym (put_inode nodes names pipes n o low) in
-    let bs = ap (λ t. t ++ map holding_of_pipe pipes) (map-set holding_of_bytes nodes.bytes n []) ∙ sym (set-append_left (map holding_of_bytes nodes.bytes) (map holding_of_pipe pipes) n holds_nothing (omega (arith, length-map nodes.bytes holding_of_bytes, long, low))) in
-    let moved : joined limits (with_inode n x [] nodes) names pipes es hs ≡ record v { objects = put v.objects n o; holdings = slice_set v.holdings n holds_nothing } = λ i. record v { objects = os i; holdings = bs i } in
-    ap (λ (u : Nodes). joined limits u names pipes es hs) is ∙ moved ∙ ap (λ (u : Parts). let w : Parts = record u { objects = put u.objects n o; holdings = slice_set u.holdings n holds_nothing } in w) view
+    let bs = ap (λ t. t ++ map holding_of_pipe pipes) (map-set holding_of_bytes nodes.bytes n [])
+    ∙ sym (set-append_left (map holding_of_bytes nodes.bytes) (map holding_of_pipe pipes) n holds_nothing (omega (
+      arith,
+      length-map nodes.bytes holding_of_bytes,
+      long,
+      low,
+    ))) in
+    let moved : joined limits (with_inode n x [] nodes) names pipes es hs ≡ record v {
+      objects = put v.objects n o;
+      holdings =
+          slice_set v.holdings n holds_nothing;
+    } = λ i. record v { objects = os i; holdings = bs i } in
+    ap (λ (u : Nodes). joined limits u names pipes es hs) is ∙ moved ∙ ap (λ (u : Parts). let w : Parts = record u {
+      objects = put u.objects n o;
+      holdings =
+          slice_set u.holdings n holds_nothing;
+    } in w) view
 
 module _ (limits : Limits) (nodes : Nodes) (names : Directories) (pipes : List (Option Pipe)) (es : OpenTable) (hs : List ℕ) (j : AreJoined limits nodes names pipes es hs) where
   -- they are joined still, where the names are as many, what is put has none, and as many are for it as there may be
-  pub joined_put : (names2 : Directories) (n : ℕ) (x : Option Node) → n < length nodes.nodes → length names2.lists ≡ length names.lists → names2.free + names_in names2.lists ≡ names.free + names_in names.lists
+  pub joined_put : (names2 : Directories) (n : ℕ) (x : Option Node) → n < length nodes.nodes → length names2.lists ≡ length names.lists
+      → names2.free + names_in names2.lists ≡ names.free + names_in names.lists
       → ((o : ℕ) → names_of names o ≡ [] → names_of names2 o ≡ []) → names_of names n ≡ [] → HasNames x (names_for n names2.lists)
       → ((o : ℕ) → (o ≡ n → ⊥) → names_for o names2.lists ≡ names_for o names.lists) → AreJoined limits (with_inode n x [] nodes) names2 pipes es hs
   joined_put names2 n x low long many bare empty some others = record {
@@ -51,7 +72,8 @@ module _ (limits : Limits) (nodes : Nodes) (names : Directories) (pipes : List (
     ];
     entries = many ∙ j.entries;
     links = λ o. elim (cases_eq o n) [
-      | inl e ↦ subst (λ k. HasNames (at (put nodes.nodes n x) k) (names_for k names2.lists)) (sym e) (subst (λ y. HasNames y (names_for n names2.lists)) (sym (get_or-set_same nodes.nodes n x None low)) some)
+      | inl e ↦ subst (λ k. HasNames (at (put nodes.nodes n x) k) (names_for k names2.lists)) (sym e) (subst (λ y. HasNames y (names_for n names2.lists))
+          (sym (get_or-set_same nodes.nodes n x None low)) some)
       | inr ne ↦ subst (λ y. HasNames y (names_for o names2.lists)) (sym (get_or-set_other nodes.nodes n o x None ne)) (subst (HasNames (at nodes.nodes o)) (sym (others o ne)) (j.links o))
     ];
     first = j.first ∙ sym (length-set nodes.nodes n x);
@@ -67,7 +89,8 @@ module _ (limits : Limits) (nodes : Nodes) (names : Directories) (pipes : List (
 abbrev pub placed : ℕ → ℕ → Kind → Parts → Parts
 placed n fs k t = record t { objects = put t.objects n (Some (new_object k (Some fs))); holdings = slice_set t.holdings n holds_nothing }
 
-module _ (limits : Limits) (nodes nodes2 : Nodes) (names : Directories) (pipes : List (Option Pipe)) (es : OpenTable) (hs : List ℕ) (now : Parts) (j : AreJoined limits nodes names pipes es hs) (view : joined limits nodes names pipes es hs ≡ now)
+module _ (limits : Limits) (nodes nodes2 : Nodes) (names : Directories) (pipes : List (Option Pipe)) (es : OpenTable) (hs : List ℕ) (now : Parts)
+    (j : AreJoined limits nodes names pipes es hs) (view : joined limits nodes names pipes es hs ≡ now)
     (n fs : ℕ) (k : Kind) (vacant : vacant_inode now.fss now.objects fs ≡ Some n) (kind : kind_of (is_dir (new_object k None)) ≡ k) where
   free : IsFreeInode (frame_alone now) fs n
   free = vacant_free now fs n vacant
@@ -108,7 +131,8 @@ module _ (limits : Limits) (nodes nodes2 : Nodes) (names : Directories) (pipes :
     pub placed_joined : AreJoined limits nodes2 names pipes es hs
     placed_joined =
         let may : HasNames (Some (new_node fs (is_dir_kind k))) (names_for n names.lists) = subst (HasNames (Some (new_node fs (is_dir_kind k)))) (sym unnamed) (may_be (is_dir_kind k)) in
-        subst (λ (u : Nodes). AreJoined limits u names pipes es hs) (sym placed_is) (joined_put limits nodes names pipes es hs j names n (Some (new_node fs (is_dir_kind k))) low refl refl (λ o h. h) nameless may (λ o ne. refl))
+        subst (λ (u : Nodes). AreJoined limits u names pipes es hs) (sym placed_is) (joined_put limits nodes names pipes es hs j names n
+        (Some (new_node fs (is_dir_kind k))) low refl refl (λ o h. h) nameless may (λ o ne. refl))
 
     pub placed_view : joined limits nodes2 names pipes es hs ≡ placed n fs k now
     placed_view =
@@ -117,7 +141,9 @@ module _ (limits : Limits) (nodes nodes2 : Nodes) (names : Directories) (pipes :
 
     pub room_left : nat_lt (names_in_all now.objects) now.limits.names ≡ true → nat_lt (names_in_all (placed n fs k now).objects) now.limits.names ≡ true
     room_left room =
-        let many : names_in_all (placed n fs k now).objects ≡ names_in_all now.objects = all_names limits nodes2 names pipes es hs (placed n fs k now) placed_joined placed_view ∙ sym (all_names limits nodes names pipes es hs now j view) in
+        let many : names_in_all (placed n fs k now).objects ≡ names_in_all now.objects =
+        all_names limits nodes2 names pipes es hs (placed n fs k now) placed_joined placed_view
+        ∙ sym (all_names limits nodes names pipes es hs now j view) in
         ap (λ m. nat_lt m now.limits.names) many ∙ room
 
   -- a directory is another, and stays

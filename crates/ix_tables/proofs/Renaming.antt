@@ -1,5 +1,7 @@
 -- Names that come and go.
-use Rattle.std.proofs.Common.{◌≡◌, ◌+◌, ◌-◌, ◌^◌, ◌<◌, ◌≤◌, ◌==◌, Bool, true, false, cond, unwrap_or, ℕ, zero, suc, List, [], ◌∷◌, ◌++◌, map, length, set, slice_set, Option, Some, None, option_map, refl, sym, ap, subst, ◌∙◌, arith, inl, inr, length-set, get_or-set_other, get_or-set_same}
+use Rattle.std.proofs.Common.{◌≡◌, ◌+◌, ◌-◌, ◌^◌, ◌<◌, ◌≤◌, ◌==◌, Bool, true, false, cond, unwrap_or, ℕ, zero, suc, List, [], ◌∷◌, ◌++◌, map, length}
+use Rattle.std.proofs.Common.{set, slice_set, Option, Some, None, option_map, refl, sym, ap, subst, ◌∙◌, arith, inl, inr, length-set}
+use Rattle.std.proofs.Common.{get_or-set_other, get_or-set_same}
 use Rattle.std.specs.Option.{option_map_or}
 use Rattle.std.proofs.lemmas.Bool.Decides.{eqb_tells}
 use Rattle.ix_model.specs.world.World.{Object, at, put, change, is_dir, is_file}
@@ -23,7 +25,8 @@ use Rattle.ix_tables.proofs.Joining.{inode_edited, Lists, names_at, at_objects, 
 use Rattle.ix_tables.proofs.Counting.{Names, names_fewer, times_fewer}
 use Rattle.ix_tables.proofs.Placing.{inode_put, joined_put}
 
-pub objects_named : (xs : List (Option Node)) (ls : Lists) (d : ℕ) (h : Names → Names) → length ls ≡ length xs → objects_of xs (set ls d (h (names_at ls d))) ≡ change (objects_of xs ls) d (λ o. record o { names = h o.names })
+pub objects_named : (xs : List (Option Node)) (ls : Lists) (d : ℕ) (h : Names → Names) → length ls ≡ length xs
+    → objects_of xs (set ls d (h (names_at ls d))) ≡ change (objects_of xs ls) d (λ o. record o { names = h o.names })
 objects_named [] [] d h long = refl
 objects_named [] (l ∷ ls) d h long = let none : suc (length ls) ≡ 0 = long in absurd (omega (arith, none))
 objects_named (x ∷ xs) [] d h long = let none : 0 ≡ suc (length xs) = long in absurd (omega (arith, none))
@@ -32,8 +35,10 @@ objects_named (Some x ∷ xs) (l ∷ ls) zero h long = refl
 objects_named (x ∷ xs) (l ∷ ls) (suc d) h long = ap (λ os. option_map (object_of l) x ∷ os) (objects_named xs ls d h (omega (arith, long)))
 
 -- other names of a directory
-pub directory_edited : (limits : Limits) (nodes : Nodes) (names names2 : Directories) (pipes : List (Option Pipe)) (es : OpenTable) (hs : List ℕ) (now : Parts) → length names.lists ≡ length nodes.nodes → joined limits nodes names pipes es hs ≡ now
-    → (d : ℕ) (h : Names → Names) → d < length nodes.nodes → names2.lists ≡ set names.lists d (h (names_of names d)) → joined limits nodes names2 pipes es hs ≡ record now { objects = change now.objects d (λ o. record o { names = h o.names }) }
+pub directory_edited : (limits : Limits) (nodes : Nodes) (names names2 : Directories) (pipes : List (Option Pipe)) (es : OpenTable) (hs : List ℕ) (now : Parts)
+    → length names.lists ≡ length nodes.nodes → joined limits nodes names pipes es hs ≡ now
+    → (d : ℕ) (h : Names → Names) → d < length nodes.nodes → names2.lists ≡ set names.lists d (h (names_of names d))
+    → joined limits nodes names2 pipes es hs ≡ record now { objects = change now.objects d (λ o. record o { names = h o.names }) }
 directory_edited limits nodes names names2 pipes es hs now long view d h low is =
     let v : Parts = joined limits nodes names pipes es hs in
     let k : Object → Object = λ o. record o { names = h o.names } in
@@ -47,8 +52,10 @@ directory_edited limits nodes names names2 pipes es hs now long view d h low is 
 abbrev is_file_kind : Kind → Bool
 is_file_kind k = elim k [ kind.File ↦ true | _ ↦ false ]
 
-module _ (limits : Limits) (nodes nodes2 : Nodes) (names names2 : Directories) (pipes : List (Option Pipe)) (es : OpenTable) (hs : List ℕ) (now : Parts) (j : AreJoined limits nodes names pipes es hs) (view : joined limits nodes names pipes es hs ≡ now)
-    (d n : ℕ) (name : List ℕ) (dir : is_dir (node now.objects d) ≡ true) (there : child (node now.objects d) name ≡ Some n) (different : AreDifferent (names_of names d)) (left : names2 ≡ removed (under name (names_of names d)) d name names) where
+module _ (limits : Limits) (nodes nodes2 : Nodes) (names names2 : Directories) (pipes : List (Option Pipe)) (es : OpenTable) (hs : List ℕ) (now : Parts)
+    (j : AreJoined limits nodes names pipes es hs) (view : joined limits nodes names pipes es hs ≡ now)
+    (d n : ℕ) (name : List ℕ) (dir : is_dir (node now.objects d) ≡ true) (there : child (node now.objects d) name ≡ Some n)
+    (different : AreDifferent (names_of names d)) (left : names2 ≡ removed (under name (names_of names d)) d name names) where
   below : d < length nodes.nodes
   below = (directory_there limits nodes names pipes es hs now view d dir).0
 
@@ -60,7 +67,8 @@ module _ (limits : Limits) (nodes nodes2 : Nodes) (names names2 : Directories) (
 
   still_bare : (o : ℕ) → names_of names o ≡ [] → names_of (with_fewer d name names) o ≡ []
   still_bare o none = elim (eqb_tells o d) [
-    | inl e ↦ ap (names_of (with_fewer d name names)) e.1 ∙ get_or-set_same names.lists d (without name (names_of names d)) [] (omega (arith, below, j.lists)) ∙ ap (without name) (ap (names_of names) (sym e.1) ∙ none)
+    | inl e ↦ ap (names_of (with_fewer d name names)) e.1 ∙ get_or-set_same names.lists d (without name (names_of names d)) [] (omega (arith, below, j.lists))
+        ∙ ap (without name) (ap (names_of names) (sym e.1) ∙ none)
     | inr e ↦ get_or-set_other names.lists d o (without name (names_of names d)) [] e.1 ∙ none
   ]
 
@@ -99,13 +107,19 @@ module _ (limits : Limits) (nodes nodes2 : Nodes) (names names2 : Directories) (
     directory_joined =
         let none : names_for n (with_fewer d name names).lists ≡ 0 = omega (arith, once, one_fewer) in
         let all : AreJoined limits (with_inode n None [] nodes) (with_fewer d name names) pipes es hs =
-        joined_put limits nodes names pipes es hs j (with_fewer d name names) n None (directory_there limits nodes names pipes es hs now view n dir2).0 (length-set names.lists d (without name (names_of names d))) many still_bare empty none others in
+        joined_put limits nodes names pipes es hs j (with_fewer d name names) n None (directory_there limits nodes names pipes es hs now view n dir2).0
+        (length-set names.lists d (without name (names_of names d))) many still_bare empty none others in
         rw (gone, left_is) all
 
-    pub directory_gone : joined limits nodes2 names2 pipes es hs ≡ record now { objects = put (change now.objects d (without_name name)) n None; holdings = slice_set now.holdings n (record { first = []; second = [] }) }
+    pub directory_gone : joined limits nodes2 names2 pipes es hs ≡ record now {
+      objects = put (change now.objects d (without_name name)) n None;
+      holdings =
+          slice_set now.holdings n (record { first = []; second = [] });
+    }
     directory_gone =
         let edited = directory_edited limits nodes names names2 pipes es hs now j.lists view d (without name) below (ap (λ (x : Directories). x.lists) left_is) in
-        inode_put limits nodes nodes2 names2 pipes es hs (record now { objects = change now.objects d (without_name name) }) j.bytes edited n None (directory_there limits nodes names pipes es hs now view n dir2).0 gone
+        inode_put limits nodes nodes2 names2 pipes es hs (record now { objects = change now.objects d (without_name name) }) j.bytes edited n None
+        (directory_there limits nodes names pipes es hs now view n dir2).0 gone
 
   -- a name of a file goes, and a link with it
   module _ (file : is_file (node now.objects n) ≡ true) where
@@ -120,7 +134,8 @@ module _ (limits : Limits) (nodes nodes2 : Nodes) (names names2 : Directories) (
     is_plain : (x : Node) → at nodes.nodes n ≡ Some x → x.dir ≡ false
     is_plain x e =
         let low = in_table nodes.nodes n x e in
-        go x.dir (ap (λ (o : Option Object). is_file (unwrap_or o nothing)) (sym (ap (λ (v : Parts). at v.objects n) (sym view) ∙ at_inode nodes names pipes n low ∙ ap (option_map (object_of (names_of names n))) e)) ∙ file)
+        go x.dir (ap (λ (o : Option Object). is_file (unwrap_or o nothing)) (sym (ap (λ (v : Parts). at v.objects n) (sym view)
+        ∙ at_inode nodes names pipes n low ∙ ap (option_map (object_of (names_of names n))) e)) ∙ file)
       where
         go : (b : Bool) → is_file_kind (kind_of b) ≡ true → b ≡ false
         go true h = cc
@@ -139,7 +154,8 @@ module _ (limits : Limits) (nodes nodes2 : Nodes) (names names2 : Directories) (
         go (Some x) e h = let same : x.links ≡ i.links = cc in omega (arith, same, linked x e, one_fewer)
 
     module _ (i : Inode) (is : Some i ≡ option_map (told_at n nodes) (at nodes.nodes n)) (fewer : nodes2 ≡ changed n (λ x. record x { links = i.links - 1 }) nodes) where
-      tied_still : (x : Option Node) → at nodes.nodes n ≡ x → Some i ≡ option_map (told_at n nodes) x → HasNames (option_map (λ y. let z : Node = record y { links = i.links - 1 } in z) x) (names_for n (with_fewer d name names).lists)
+      tied_still : (x : Option Node) → at nodes.nodes n ≡ x → Some i ≡ option_map (told_at n nodes) x
+          → HasNames (option_map (λ y. let z : Node = record y { links = i.links - 1 } in z) x) (names_for n (with_fewer d name names).lists)
       tied_still None e h = cc
       tied_still (Some x) e h =
           let same : x.links ≡ i.links = cc in
@@ -153,11 +169,16 @@ module _ (limits : Limits) (nodes nodes2 : Nodes) (names names2 : Directories) (
           let all : AreJoined limits (changed n (λ x. record x { links = i.links - 1 }) nodes) (with_fewer d name names) pipes es hs = record {
             lists = length-set names.lists d (without name (names_of names d)) ∙ j.lists ∙ sym long;
             bytes = j.bytes ∙ sym long;
-            bare = λ o h. still_bare o (j.bare o (sym (seen_changed (λ (x : Option Node). option_map_or (λ y. y.dir) x false) (λ x. record x { links = i.links - 1 }) (λ y. refl) nodes.nodes n o) ∙ h));
+            bare = λ o h. still_bare o
+                (j.bare o (sym (seen_changed (λ (x : Option Node). option_map_or (λ y. y.dir) x false) (λ x. record x { links = i.links - 1 }) (λ y. refl)
+                nodes.nodes n o) ∙ h));
             entries = many ∙ j.entries;
             links = λ o. elim (eqb_tells o n) [
-              | inl e ↦ subst (λ k. HasNames (at ns2 k) (names_for k (with_fewer d name names).lists)) (sym e.1) (subst (λ x. HasNames x (names_for n (with_fewer d name names).lists)) (sym (at_changed nodes.nodes n (λ x. record x { links = i.links - 1 }))) (tied_still (at nodes.nodes n) refl is))
-              | inr e ↦ subst (λ x. HasNames x (names_for o (with_fewer d name names).lists)) (sym (get_or-set_other nodes.nodes n o _ None e.1)) (subst (HasNames (at nodes.nodes o)) (sym (others o e.1)) (j.links o))
+              | inl e ↦ subst (λ k. HasNames (at ns2 k) (names_for k (with_fewer d name names).lists)) (sym e.1)
+                  (subst (λ x. HasNames x (names_for n (with_fewer d name names).lists))
+                  (sym (at_changed nodes.nodes n (λ x. record x { links = i.links - 1 }))) (tied_still (at nodes.nodes n) refl is))
+              | inr e ↦ subst (λ x. HasNames x (names_for o (with_fewer d name names).lists)) (sym (get_or-set_other nodes.nodes n o _ None e.1))
+                  (subst (HasNames (at nodes.nodes o)) (sym (others o e.1)) (j.links o))
             ];
             first = j.first ∙ sym long;
             pipes = j.pipes;

@@ -1,5 +1,6 @@
 -- The blocks that files use, as inodes count them and as the holdings show them.
-use Rattle.std.proofs.Common.{◌≡◌, ◌+◌, ◌-◌, ◌≤◌, ◌==◌, ℕ, zero, suc, nat_le, nat_lt, Bool, true, false, not, ◌&&◌, List, [], ◌∷◌, ◌++◌, length, map, Option, Some, None, option_map, slice_index_or, if◌then◌else◌, refl, sym, ap, ◌∙◌, arith, inl, inr, zero-add}
+use Rattle.std.proofs.Common.{◌≡◌, ◌+◌, ◌-◌, ◌≤◌, ◌==◌, ℕ, zero, suc, nat_le, nat_lt, Bool, true, false, not, ◌&&◌, List, [], ◌∷◌, ◌++◌, length, map}
+use Rattle.std.proofs.Common.{Option, Some, None, option_map, slice_index_or, if◌then◌else◌, refl, sym, ap, ◌∙◌, arith, inl, inr, zero-add}
 use Rattle.std.specs.Option.{option_map_or, option_and_then}
 use Rattle.std.proofs.lemmas.Bool.{cases_lt}
 use Rattle.std.proofs.lemmas.Bool.Decides.{nat_tests}
@@ -32,7 +33,8 @@ none_from q j (x ∷ hs) h =
     λ i. (if here i then blocks_for (length x.first) else 0) + none_from q (suc j) hs (λ m. ap q (omega arith) ∙ h (suc m)) i
 
 -- those of the inodes that name a file system
-counted_from : (k : ℕ) (q : ℕ → Bool) (j : ℕ) (xs : List (Option Node)) (bs : List (List ℕ)) (hs : List Holding) → length bs ≡ length xs → ((i : ℕ) → q (j + i) ≡ names_fs k (at xs i)) → blocks_where q j (map holding_of_bytes bs ++ hs) ≡ blocks_of k xs bs
+counted_from : (k : ℕ) (q : ℕ → Bool) (j : ℕ) (xs : List (Option Node)) (bs : List (List ℕ)) (hs : List Holding) → length bs ≡ length xs
+    → ((i : ℕ) → q (j + i) ≡ names_fs k (at xs i)) → blocks_where q j (map holding_of_bytes bs ++ hs) ≡ blocks_of k xs bs
 counted_from k q j [] [] hs long same = none_from q j hs same
 counted_from k q j [] (b ∷ bs) hs long same = absurd (omega (arith, long))
 counted_from k q j (x ∷ xs) [] hs long same = absurd (omega (arith, long))
@@ -41,7 +43,8 @@ counted_from k q j (x ∷ xs) (b ∷ bs) hs long same =
     λ i. (if here i then blocks_for (length b) else 0) + counted_from k q (suc j) xs bs hs (omega (arith, long)) (λ m. ap q (omega arith) ∙ same (suc m)) i
 
 -- the others, and that one
-one_and_others : (q : ℕ → Bool) (j o : ℕ) (hs : List Holding) → blocks_where (λ m. not (m == j + o) && q m) j hs + (if q (j + o) then blocks_for (length (slice_index_or hs o holds_nothing).first) else 0) ≡ blocks_where q j hs
+one_and_others : (q : ℕ → Bool) (j o : ℕ) (hs : List Holding) → blocks_where (λ m. not (m == j + o) && q m) j hs + (if q (j + o) then
+    blocks_for (length (slice_index_or hs o holds_nothing).first) else 0) ≡ blocks_where q j hs
 one_and_others q j o [] = go (q (j + o))
   where
     go : (b : Bool) → 0 + (if b then blocks_for 0 else 0) ≡ 0
@@ -52,7 +55,8 @@ one_and_others q j zero (x ∷ hs) =
     let here : q j ≡ q (j + 0) = ap q (omega arith) in
     let first : (if not (j == j + 0) && q j then blocks_for (length x.first) else 0) ≡ 0 = ap (λ b. if not b && q j then blocks_for (length x.first) else 0) same in
     let that : (if q (j + 0) then blocks_for (length x.first) else 0) ≡ (if q j then blocks_for (length x.first) else 0) = ap (λ b. if b then blocks_for (length x.first) else 0) (sym here) in
-    let rest : blocks_where (λ m. not (m == j + 0) && q m) (suc j) hs ≡ blocks_where q (suc j) hs = blocks_from (λ m. not (m == j + 0) && q m) q (suc j) hs (λ m low. ap (λ b. not b && q m) (differ m low)) in
+    let rest : blocks_where (λ m. not (m == j + 0) && q m) (suc j) hs ≡ blocks_where q (suc j) hs =
+    blocks_from (λ m. not (m == j + 0) && q m) q (suc j) hs (λ m low. ap (λ b. not b && q m) (differ m low)) in
     omega (arith, first, that, rest)
   where
     differ : (m : ℕ) → suc j ≤ m → (m == j + 0) ≡ false
@@ -60,7 +64,8 @@ one_and_others q j zero (x ∷ hs) =
 one_and_others q j (suc o) (x ∷ hs) =
     let other : (j == j + suc o) ≡ false = grind (arith, nat_tests) in
     let number : suc j + o ≡ j + suc o = omega arith in
-    let first : (if not (j == j + suc o) && q j then blocks_for (length x.first) else 0) ≡ (if q j then blocks_for (length x.first) else 0) = ap (λ b. if not b && q j then blocks_for (length x.first) else 0) other in
+    let first : (if not (j == j + suc o) && q j then blocks_for (length x.first) else 0) ≡ (if q j then blocks_for (length x.first) else 0) =
+    ap (λ b. if not b && q j then blocks_for (length x.first) else 0) other in
     let rest : blocks_where (λ m. not (m == j + suc o) && q m) (suc j) hs + (if q (j + suc o) then blocks_for (length (slice_index_or hs o holds_nothing).first) else 0) ≡ blocks_where q (suc j) hs =
     ap (λ n. blocks_where (λ m. not (m == n) && q m) (suc j) hs + (if q n then blocks_for (length (slice_index_or hs o holds_nothing).first) else 0)) (sym number) ∙ one_and_others q (suc j) o hs in
     omega (arith, first, rest)
@@ -105,8 +110,10 @@ module _ (l : Limits) (nodes : Nodes) (names : Directories) (ps : List (Option P
     beside_here : blocks_where (λ m. not (m == n) && lies_on (frame_alone whole) (Some x.fs) m) 0 whole.holdings + blocks_for (length (bytes_at n nodes)) ≡ blocks_of x.fs nodes.nodes nodes.bytes
     beside_here =
         let q : ℕ → Bool = lies_on (frame_alone whole) (Some x.fs) in
-        let all : blocks_where q 0 whole.holdings ≡ blocks_of x.fs nodes.nodes nodes.bytes = counted_from x.fs q 0 nodes.nodes nodes.bytes (map holding_of_pipe ps) inv.0.bytes (λ i. ap q (zero-add i) ∙ lies_there x.fs i) in
-        let others : blocks_where (λ m. not (m == n) && q m) 0 whole.holdings ≡ blocks_where (λ m. not (m == 0 + n) && q m) 0 whole.holdings = ap (λ o. blocks_where (λ m. not (m == o) && q m) 0 whole.holdings) (sym (zero-add n)) in
+        let all : blocks_where q 0 whole.holdings ≡ blocks_of x.fs nodes.nodes nodes.bytes =
+        counted_from x.fs q 0 nodes.nodes nodes.bytes (map holding_of_pipe ps) inv.0.bytes (λ i. ap q (zero-add i) ∙ lies_there x.fs i) in
+        let others : blocks_where (λ m. not (m == n) && q m) 0 whole.holdings ≡ blocks_where (λ m. not (m == 0 + n) && q m) 0 whole.holdings =
+        ap (λ o. blocks_where (λ m. not (m == o) && q m) 0 whole.holdings) (sym (zero-add n)) in
         let that : blocks_for (length (bytes_at n nodes)) ≡ (if q (0 + n) then blocks_for (length (slice_index_or whole.holdings n holds_nothing).first) else 0) =
         ap (λ (bs : List ℕ). blocks_for (length bs)) (bytes_there l nodes names ps es hs whole first inv refl n file)
         ∙ ap (λ b. if b then blocks_for (length (slice_index_or whole.holdings n holds_nothing).first) else 0) (sym lies_here) in
@@ -117,11 +124,14 @@ module _ (l : Limits) (nodes : Nodes) (names : Directories) (ps : List (Option P
         let free : option_map_or (λ y. free_blocks y.fs nodes) (at nodes.nodes n) 0 ≡ free_blocks x.fs nodes = ap (λ (o : Option Node). option_map_or (λ y. free_blocks y.fs nodes) o 0) there in
         let f = frame_alone whole in
         ap (nat_le (blocks_for len - blocks_for (length (bytes_at n nodes)))) free
-        ∙ room_by (fs_at nodes.fss x.fs).blocks (blocks_where (λ m. not (m == n) && lies_on f (Some x.fs) m) 0 whole.holdings) (free_blocks x.fs nodes) (blocks_for (length (bytes_at n nodes))) (blocks_for len) (ap (λ k. k + free_blocks x.fs nodes) beside_here ∙ all)
+        ∙ room_by (fs_at nodes.fss x.fs).blocks (blocks_where (λ m. not (m == n) && lies_on f (Some x.fs) m) 0 whole.holdings) (free_blocks x.fs nodes)
+        (blocks_for (length (bytes_at n nodes))) (blocks_for len) (ap (λ k. k + free_blocks x.fs nodes) beside_here ∙ all)
         ∙ sym (ap (λ k. not (nat_lt (blocks_on f k) (blocks_where (λ m. not (m == n) && lies_on f k m) 0 whole.holdings + blocks_for len))) fs_here)
 
-pub room_there : (l : Limits) (nodes : Nodes) (names : Directories) (ps : List (Option Pipe)) (es : OpenTable) (hs : List ℕ) (now : Parts) (first : ℕ) → AreJoined l nodes names ps es hs × (first ≡ length nodes.nodes) → joined l nodes names ps es hs ≡ now
-    → (n : ℕ) → option_map_or is_file (at now.objects n) false ≡ true → (len : ℕ) → ((x : Node) → at nodes.nodes n ≡ Some x → blocks_of x.fs nodes.nodes nodes.bytes + free_blocks x.fs nodes ≡ (fs_at nodes.fss x.fs).blocks)
+pub room_there : (l : Limits) (nodes : Nodes) (names : Directories) (ps : List (Option Pipe)) (es : OpenTable) (hs : List ℕ) (now : Parts) (first : ℕ)
+    → AreJoined l nodes names ps es hs × (first ≡ length nodes.nodes) → joined l nodes names ps es hs ≡ now
+    → (n : ℕ) → option_map_or is_file (at now.objects n) false ≡ true → (len : ℕ)
+    → ((x : Node) → at nodes.nodes n ≡ Some x → blocks_of x.fs nodes.nodes nodes.bytes + free_blocks x.fs nodes ≡ (fs_at nodes.fss x.fs).blocks)
     → has_space n len nodes ≡ has_room n len now
 room_there l nodes names ps es hs now first inv view n file len all = go (at nodes.nodes n) refl ∙ ap (has_room n len) view
   where

@@ -54,7 +54,8 @@ module _ (nodes : Nodes) (names : Directories) (pipes : List (Option Pipe)) (obj
       ap (λ t. at t (length nodes.nodes + p)) (sym view) ∙ at_pipe nodes names pipes (length nodes.nodes) (length nodes.nodes + p) refl (omega arith)
       ∙ ap (λ k. option_map object_of_pipe (at pipes k)) (let back : length nodes.nodes + p - length nodes.nodes ≡ p = omega arith in back)
 
-  pub pipe_shows : (p : ℕ) (label : Categories) (c l : PrivSet) → option_map (λ q. q.label) (at pipes p) ≡ Some label → c.0 ≡ 0 → l.0 ≡ 0 → Shows objects (length nodes.nodes + p) (Some (row_of_pipe label c l))
+  pub pipe_shows : (p : ℕ) (label : Categories) (c l : PrivSet) → option_map (λ q. q.label) (at pipes p) ≡ Some label → c.0 ≡ 0 → l.0 ≡ 0
+      → Shows objects (length nodes.nodes + p) (Some (row_of_pipe label c l))
   pipe_shows p label c l is none none2 = go (at pipes p) refl is
     where
       go : (x : Option Pipe) → at pipes p ≡ x → option_map (λ q. q.label) x ≡ Some label → Shows objects (length nodes.nodes + p) (Some (row_of_pipe label c l))

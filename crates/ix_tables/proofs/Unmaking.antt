@@ -1,5 +1,6 @@
 -- Files and directories that go.
-use Rattle.std.proofs.Common.{◌≡◌, ◌-◌, ◌<◌, ◌≤◌, ◌==◌, ◌&&◌, ◌||◌, Bool, true, false, not, ℕ, nat_eq, List, [], length, Option, Some, None, is_some, if◌then◌else◌, option_map, refl, sym, ap, subst, ◌∙◌, arith, inl, inr}
+use Rattle.std.proofs.Common.{◌≡◌, ◌-◌, ◌<◌, ◌≤◌, ◌==◌, ◌&&◌, ◌||◌, Bool, true, false, not, ℕ, nat_eq, List, [], length, Option, Some, None, is_some}
+use Rattle.std.proofs.Common.{if◌then◌else◌, option_map, refl, sym, ap, subst, ◌∙◌, arith, inl, inr}
 use Rattle.std.specs.Option.{option_map_or}
 use Rattle.std.proofs.lemmas.Bool.Decides.{eqb_tells}
 use Rattle.ix_model.specs.world.World.{Object, at, held, is_pipe}
@@ -50,7 +51,8 @@ goes_by false k h is = elim (eqb_tells k 0) [ inl e ↦ (refl, e.1) | inr e ↦ 
     no true b e h = cc
     no false b e h = cc
 
-module _ (limits : Limits) (nodes : Nodes) (names : Directories) (pipes : List (Option Pipe)) (es : OpenTable) (hs : List ℕ) (now : Parts) (j : AreJoined limits nodes names pipes es hs) (view : joined limits nodes names pipes es hs ≡ now) where
+module _ (limits : Limits) (nodes : Nodes) (names : Directories) (pipes : List (Option Pipe)) (es : OpenTable) (hs : List ℕ) (now : Parts)
+    (j : AreJoined limits nodes names pipes es hs) (view : joined limits nodes names pipes es hs ≡ now) where
   -- ---- what goes by itself
   low : (n : ℕ) → n < first_pipe now.fss → n < length nodes.nodes
   low n below = let first = ap (λ (v : Parts). first_pipe v.fss) (sym view) ∙ j.first in omega (arith, first, below)
@@ -69,36 +71,43 @@ module _ (limits : Limits) (nodes : Nodes) (names : Directories) (pipes : List (
           let times : (times_named now.objects n == 0) ≡ (x.links == 0) = ap (λ k. k == 0) (all_times limits nodes names pipes es hs now j view n ∙ sym links) in
           subst Told (sym e) (neither (times_named now.objects n == 0) (held now.opens n 0) ∙ ap (λ b. b && not (held now.opens n 0)) times)
 
-  pub idle_is : (n : ℕ) (i : Inode) → n < first_pipe now.fss → Some i ≡ option_map (told_at n nodes) (at nodes.nodes n) → option_map_or (λ x. not (stays (frame_alone now) n x)) (at now.objects n) false ≡ goes i.kind i.links (held now.opens n 0)
+  pub idle_is : (n : ℕ) (i : Inode) → n < first_pipe now.fss → Some i ≡ option_map (told_at n nodes) (at nodes.nodes n)
+      → option_map_or (λ x. not (stays (frame_alone now) n x)) (at now.objects n) false ≡ goes i.kind i.links (held now.opens n 0)
   idle_is n i below is = go (at nodes.nodes n) refl is
     where
-      go : (x : Option Node) → at nodes.nodes n ≡ x → Some i ≡ option_map (told_at n nodes) x → option_map_or (λ y. not (stays (frame_alone now) n y)) (at now.objects n) false ≡ goes i.kind i.links (held now.opens n 0)
+      go : (x : Option Node) → at nodes.nodes n ≡ x → Some i ≡ option_map (told_at n nodes) x
+          → option_map_or (λ y. not (stays (frame_alone now) n y)) (at now.objects n) false ≡ goes i.kind i.links (held now.opens n 0)
       go None e h = cc
       go (Some x) e h =
           let same : told_at n nodes x ≡ i = cc in
-          ap (λ (o : Option Object). option_map_or (λ y. not (stays (frame_alone now) n y)) o false) (ap (λ (v : Parts). at v.objects n) (sym view) ∙ at_inode nodes names pipes n (low n below) ∙ ap (option_map (object_of (names_of names n))) e)
+          ap (λ (o : Option Object). option_map_or (λ y. not (stays (frame_alone now) n y)) o false) (ap (λ (v : Parts). at v.objects n) (sym view)
+          ∙ at_inode nodes names pipes n (low n below) ∙ ap (option_map (object_of (names_of names n))) e)
           ∙ idle_told n x e ∙ ap (λ (u : Inode). goes u.kind u.links (held now.opens n 0)) same
 
   pub none_idle : (n : ℕ) → n < first_pipe now.fss → None ≡ option_map (told_at n nodes) (at nodes.nodes n) → option_map_or (λ x. not (stays (frame_alone now) n x)) (at now.objects n) false ≡ false
   none_idle n below is = go (at nodes.nodes n) refl is
     where
       go : (x : Option Node) → at nodes.nodes n ≡ x → None ≡ option_map (told_at n nodes) x → option_map_or (λ y. not (stays (frame_alone now) n y)) (at now.objects n) false ≡ false
-      go None e h = ap (λ (o : Option Object). option_map_or (λ y. not (stays (frame_alone now) n y)) o false) (ap (λ (v : Parts). at v.objects n) (sym view) ∙ at_inode nodes names pipes n (low n below) ∙ ap (option_map (object_of (names_of names n))) e)
+      go None e h = ap (λ (o : Option Object). option_map_or (λ y. not (stays (frame_alone now) n y)) o false) (ap (λ (v : Parts). at v.objects n) (sym view)
+          ∙ at_inode nodes names pipes n (low n below) ∙ ap (option_map (object_of (names_of names n))) e)
       go (Some x) e h = cc
 
   pub piped : (n : ℕ) → length nodes.nodes ≤ n → option_map_or is_pipe (at now.objects n) true ≡ true
-  piped n high = ap (λ (o : Option Object). option_map_or is_pipe o true) (ap (λ (v : Parts). at v.objects n) (sym view) ∙ at_pipe nodes names pipes (length nodes.nodes) n refl high) ∙ go (at pipes (n - length nodes.nodes))
+  piped n high = ap (λ (o : Option Object). option_map_or is_pipe o true) (ap (λ (v : Parts). at v.objects n) (sym view)
+      ∙ at_pipe nodes names pipes (length nodes.nodes) n refl high) ∙ go (at pipes (n - length nodes.nodes))
     where
       go : (p : Option Pipe) → option_map_or is_pipe (option_map object_of_pipe p) true ≡ true
       go None = refl
       go (Some p) = refl
 
   -- ---- a file that goes by itself
-  pub idle_bare : (n : ℕ) → n < length nodes.nodes → option_map_or (λ x. not (stays (frame_alone now) n x)) (at now.objects n) false ≡ true → (is_some (at nodes.nodes n) ≡ true) × ((names_of names n ≡ []) × (names_for n names.lists ≡ 0))
+  pub idle_bare : (n : ℕ) → n < length nodes.nodes → option_map_or (λ x. not (stays (frame_alone now) n x)) (at now.objects n) false ≡ true
+      → (is_some (at nodes.nodes n) ≡ true) × ((names_of names n ≡ []) × (names_for n names.lists ≡ 0))
   idle_bare n within idle = go (at nodes.nodes n) refl
     where
       here : (x : Option Node) → at nodes.nodes n ≡ x → option_map_or (λ y. not (stays (frame_alone now) n y)) (option_map (object_of (names_of names n)) x) false ≡ true
-      here x e = ap (λ (o : Option Object). option_map_or (λ y. not (stays (frame_alone now) n y)) o false) (sym (ap (λ (v : Parts). at v.objects n) (sym view) ∙ at_inode nodes names pipes n within ∙ ap (option_map (object_of (names_of names n))) e)) ∙ idle
+      here x e = ap (λ (o : Option Object). option_map_or (λ y. not (stays (frame_alone now) n y)) o false) (sym (ap (λ (v : Parts). at v.objects n) (sym view)
+          ∙ at_inode nodes names pipes n within ∙ ap (option_map (object_of (names_of names n))) e)) ∙ idle
 
       go : (x : Option Node) → at nodes.nodes n ≡ x → (is_some (at nodes.nodes n) ≡ true) × ((names_of names n ≡ []) × (names_for n names.lists ≡ 0))
       go None e = let no = here None e in cc
@@ -108,10 +117,12 @@ module _ (limits : Limits) (nodes : Nodes) (names : Directories) (pipes : List (
           let links : x.links ≡ names_for n names.lists = subst (λ b. HasLinks b x.links (names_for n names.lists)) file.0 tied in
           (ap is_some e, (j.bare n (ap (λ (o : Option Node). option_map_or (λ y. y.dir) o false) e ∙ file.0), sym links ∙ file.1))
 
-  pub idle_joined : (nodes2 : Nodes) (n : ℕ) → n < length nodes.nodes → option_map_or (λ x. not (stays (frame_alone now) n x)) (at now.objects n) false ≡ true → nodes2 ≡ without n nodes → AreJoined limits nodes2 names pipes es hs
+  pub idle_joined : (nodes2 : Nodes) (n : ℕ) → n < length nodes.nodes → option_map_or (λ x. not (stays (frame_alone now) n x)) (at now.objects n) false ≡ true
+      → nodes2 ≡ without n nodes → AreJoined limits nodes2 names pipes es hs
   idle_joined nodes2 n within idle is =
       let b = idle_bare n within idle in
       subst (λ (u : Nodes). AreJoined limits u names pipes es hs) (sym is) (joined_put limits nodes names pipes es hs j names n None within refl refl (λ o h. h) b.1.0 b.1.1 (λ o ne. refl))
 
-  pub idle_gone : (nodes2 : Nodes) (n : ℕ) → n < length nodes.nodes → option_map_or (λ x. not (stays (frame_alone now) n x)) (at now.objects n) false ≡ true → nodes2 ≡ without n nodes → joined limits nodes2 names pipes es hs ≡ object_let_go n now
+  pub idle_gone : (nodes2 : Nodes) (n : ℕ) → n < length nodes.nodes → option_map_or (λ x. not (stays (frame_alone now) n x)) (at now.objects n) false ≡ true
+      → nodes2 ≡ without n nodes → joined limits nodes2 names pipes es hs ≡ object_let_go n now
   idle_gone nodes2 n within idle is = inode_put limits nodes nodes2 names pipes es hs now j.bytes view n None within is ∙ sym (ap (λ b. if b then without_object n now else now) idle)

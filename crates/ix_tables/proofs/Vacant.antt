@@ -40,7 +40,8 @@ none_objects (Some x ∷ xs) (l ∷ ls) = ap (λ bs. false ∷ bs) (none_objects
 part_of : {A : Type 0} (f i : ℕ) (xs ys : List A) → f + i ≤ length xs → take i (drop f (xs ++ ys)) ≡ take i (drop f xs)
 part_of f i xs ys low = ap (take i) (drop-append-le f xs ys (omega (arith, low))) ∙ take-append-le i (drop f xs) ys (omega (arith, low, length-drop f xs))
 
-pub vacant_is : (limits : Limits) (nodes : Nodes) (names : Directories) (pipes : List (Option Pipe)) (es : OpenTable) (hs : List ℕ) (now : Parts) → AreJoined limits nodes names pipes es hs → joined limits nodes names pipes es hs ≡ now
+pub vacant_is : (limits : Limits) (nodes : Nodes) (names : Directories) (pipes : List (Option Pipe)) (es : OpenTable) (hs : List ℕ) (now : Parts)
+    → AreJoined limits nodes names pipes es hs → joined limits nodes names pipes es hs ≡ now
     → (k : ℕ) → vacant_inode now.fss now.objects k ≡ vacant_in k nodes
 vacant_is limits nodes names pipes es hs now j view k =
     let f = first_inode nodes.fss k in let i = (fs_at nodes.fss k).inodes in

@@ -1,5 +1,6 @@
 -- Two runs side by side: how they end, and how they go on.
-use Rattle.std.proofs.Common.{◌≡◌, ◌+◌, ◌<◌, ℕ, suc, Bool, true, false, true≢false, not, ◌&&◌, List, [], ◌∷◌, ◌++◌, length, Option, Some, None, if◌then◌else◌, refl, sym, ap, ◌∙◌, arith, inl, inr, append_assoc, append-nil, length-append}
+use Rattle.std.proofs.Common.{◌≡◌, ◌+◌, ◌<◌, ℕ, suc, Bool, true, false, true≢false, not, ◌&&◌, List, [], ◌∷◌, ◌++◌, length, Option, Some, None}
+use Rattle.std.proofs.Common.{if◌then◌else◌, refl, sym, ap, ◌∙◌, arith, inl, inr, append_assoc, append-nil, length-append}
 use Rattle.std.proofs.lemmas.Bool.{cases_Bool}
 use Rattle.ix_label.specs.Category.{Categories}
 use Rattle.ix_model.specs.world.World.{World}
@@ -95,7 +96,8 @@ module _ (a : Aside) where
     ]
 
 -- ---- how they go on
-module _ (l : Categories) (s t : List Line) (a : Aside) (aside : AreAside l s t a) (e d : Event) (f g : SerialLeft) (fs : f.script ≡ a.first.script) (gs : g.script ≡ a.second.script) (fewer : most_entries f < most_entries a.first)
+module _ (l : Categories) (s t : List Line) (a : Aside) (aside : AreAside l s t a) (e d : Event) (f g : SerialLeft) (fs : f.script ≡ a.first.script)
+    (gs : g.script ≡ a.second.script) (fewer : most_entries f < most_entries a.first)
     (first_on : first_left a ≡ e ∷ entries_left f (next a.twins.first e).world (length a.twins.first.events + 1 + 1))
     (second_on : second_left a ≡ d ∷ entries_left g (next a.twins.second d).world (length a.twins.second.events + 1 + 1))
     (agree : HaveAgreed (with_entries a.twins e d)) where

@@ -39,7 +39,8 @@ module _ (l : Categories) (form : Form) (lanes : List (List ℕ)) where
       let next : suc place ≡ place + 1 = omega arith in
       let later : place + suc n ≡ suc place + n = omega arith in
       let there = run (step_of v place a).world (suc place) (take n events) in
-      let rest = lines_along (step_of v place a).world (step_of w place b).world (suc place) events others n e ((alike_events l v w place a b alike agree.0 agree.1).worlds none.0) agree.2 is none.1 (subst (λ (k : ℕ). Low l there k e) later low) in
+      let rest = lines_along (step_of v place a).world (step_of w place b).world (suc place) events others n e
+      ((alike_events l v w place a b alike agree.0 agree.1).worlds none.0) agree.2 is none.1 (subst (λ (k : ℕ). Low l there k e) later low) in
       subst (λ (k : ℕ). slice_get (entry_lines form lanes k (step_of v place a).world events) n ≡ slice_get (entry_lines form lanes k (step_of w place b).world others) n) next rest
 
 -- runs that agree do so up to any place

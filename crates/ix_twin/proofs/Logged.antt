@@ -60,7 +60,8 @@ object_there l f (Some n) high = go (at f.objects n) refl high
     go None is high = absurd (true≢false (sym (bottom-leq l) ∙ high))
     go (Some x) is high = (n, x, refl, is, sym (ap (λ y. option_map_or (λ (z : Object). z.label) y bottom) is))
 
-process_there : (l : Categories) (f : Frame) (p : ℕ) → leq (of_process (λ q. q.label) bottom f p) l ≡ false → (x : Process) × (at f.processes p ≡ Some x) × (x.label ≡ of_process (λ q. q.label) bottom f p)
+process_there : (l : Categories) (f : Frame) (p : ℕ) → leq (of_process (λ q. q.label) bottom f p) l ≡ false → (x : Process) × (at f.processes p ≡ Some x)
+    × (x.label ≡ of_process (λ q. q.label) bottom f p)
 unfolding of_process
 process_there l f p high = go (at f.processes p) refl high
   where
@@ -133,7 +134,8 @@ module _ (l : Categories) (w : World) (place pid : ℕ) where
   fell : (was now : Categories) → falls_below l was now ≡ true → (leq was l ≡ false) × (leq now l ≡ true)
   fell was now h = let both = and_parts (not (leq was l)) (leq now l) h in (not-true (leq was l) both.0, both.1)
 
-  object_crosses : (path : PathOf) (now : Categories) → falls_below l (label_at w.frame (object_of_path w.frame pid path)) (label_at (after (op.SetLabel path now)) (object_of_path w.frame pid path)) ≡ true
+  object_crosses : (path : PathOf) (now : Categories)
+      → falls_below l (label_at w.frame (object_of_path w.frame pid path)) (label_at (after (op.SetLabel path now)) (object_of_path w.frame pid path)) ≡ true
       → Crosses l w.frame (after (op.SetLabel path now))
   unfolding label_at
   object_crosses path now h =

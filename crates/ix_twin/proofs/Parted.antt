@@ -1,5 +1,6 @@
 -- What is found of two runs is where they part, and which places are shown.
-use Rattle.std.proofs.Common.{◌≡◌, ◌⊎◌, ◌≤◌, ◌<◌, ◌+◌, ◌-◌, ℕ, zero, suc, Bool, true, false, true≢false, not, ◌&&◌, List, [], ◌∷◌, length, take, Option, Some, None, IfSome, if◌then◌else◌, refl, sym, ap, ◌∙◌, subst, arith, inl, inr, ⊎_elim, slice_get}
+use Rattle.std.proofs.Common.{◌≡◌, ◌⊎◌, ◌≤◌, ◌<◌, ◌+◌, ◌-◌, ℕ, zero, suc, Bool, true, false, true≢false, not, ◌&&◌, List, [], ◌∷◌, length, take}
+use Rattle.std.proofs.Common.{Option, Some, None, IfSome, if◌then◌else◌, refl, sym, ap, ◌∙◌, subst, arith, inl, inr, ⊎_elim, slice_get}
 use Rattle.std.specs.Bool.{Decides}
 use Rattle.std.proofs.lemmas.Bool.{and_from, and_parts, cases_lt}
 use Rattle.std.proofs.lemmas.Option.{slice_get_within}
@@ -50,7 +51,8 @@ module _ (l : Categories) where
     up k h = (
       omega arith,
       ⊎_elim
-          (λ one. inl (⊎_elim (λ (p : (k ≤ length es) × (length os < k)). inl (omega (arith, p.0), omega (arith, p.1))) (λ (p : (k ≤ length os) × (length es < k)). inr (omega (arith, p.0), omega (arith, p.1))) one))
+          (λ one. inl (⊎_elim (λ (p : (k ≤ length es) × (length os < k)). inl (omega (arith, p.0), omega (arith, p.1)))
+          (λ (p : (k ≤ length os) × (length es < k)). inr (omega (arith, p.0), omega (arith, p.1))) one))
           (λ not. inr (λ agree. not agree.2)) h.1,
     )
 
@@ -216,10 +218,12 @@ module _ (l : Categories) where
         }
 
     -- one is the first, or further on
-    shown_on : (p : ℕ) → (h : ShownAt clear v w place (e ∷ es) (d ∷ os) p) → (FirstAgree v w place e d) × (((p ≡ place) × (clear ≡ true) × IsLow l x2.frame e.pid) ⊎ ShownAt clear_on x2 y2 (suc place) es os p)
+    shown_on : (p : ℕ) → (h : ShownAt clear v w place (e ∷ es) (d ∷ os) p)
+        → (FirstAgree v w place e d) × (((p ≡ place) × (clear ≡ true) × IsLow l x2.frame e.pid) ⊎ ShownAt clear_on x2 y2 (suc place) es os p)
     shown_on p h = go h.k h.at h.agreed h.there h.low h.none
       where
-        go : (k : ℕ) → p ≡ place + k → Agree l v w place (take (suc k) (e ∷ es)) (take (suc k) (d ∷ os)) → slice_get (e ∷ es) k ≡ Some h.entry → Low l (run v place (take k (e ∷ es))) (place + k) h.entry → NoneCrosses l v place (take k (e ∷ es))
+        go : (k : ℕ) → p ≡ place + k → Agree l v w place (take (suc k) (e ∷ es)) (take (suc k) (d ∷ os)) → slice_get (e ∷ es) k ≡ Some h.entry
+            → Low l (run v place (take k (e ∷ es))) (place + k) h.entry → NoneCrosses l v place (take k (e ∷ es))
             → (FirstAgree v w place e d) × (((p ≡ place) × (clear ≡ true) × IsLow l x2.frame e.pid) ⊎ ShownAt clear_on x2 y2 (suc place) es os p)
         go zero at agreed there low none =
             let here : place + 0 ≡ place = omega arith in
@@ -302,7 +306,8 @@ module _ (l : Categories) where
       both : Decides (clear && is_low l (step_of v place e).world.frame e.pid) ((clear ≡ true) × IsLow l (step_of v place e).world.frame e.pid)
       both = Decides-and clear _ (λ h. h, λ h. h) (low_decides l (step_of v place e).world.frame e.pid)
 
-      front : (b : Bool) → (clear && is_low l (step_of v place e).world.frame e.pid) ≡ b → FirstAgree v w place e d → Ares clear2 (step_of v place e).world (step_of w place d).world (suc place) events others later
+      front : (b : Bool) → (clear && is_low l (step_of v place e).world.frame e.pid) ≡ b → FirstAgree v w place e d
+          → Ares clear2 (step_of v place e).world (step_of w place d).world (suc place) events others later
           → Ares clear v w place (e ∷ events) (d ∷ others) (if b then place ∷ later else later)
       front true is first rest = let h = both.0 is in with_first clear v w place e d events others first h.0 h.1 later rest
       front false is first rest = without_first clear v w place e d events others first (λ h. true≢false (sym (both.1 h) ∙ is)) later rest
@@ -326,7 +331,8 @@ module _ (l : Categories) where
 
         not_part : (m : ℕ) → m ≤ suc k → PartAt l v w events others m → ⊥
         not_part m high part = ⊎_elim
-            (λ one. ⊎_elim (λ (q : (m ≤ length events) × (length others < m)). omega (arith, q.1, other, high)) (λ (q : (m ≤ length others) × (length events < m)). omega (arith, q.1, within, high)) one)
+            (λ one. ⊎_elim (λ (q : (m ≤ length events) × (length others < m)). omega (arith, q.1, other, high))
+            (λ (q : (m ≤ length others) × (length events < m)). omega (arith, q.1, within, high)) one)
             (λ not. not (agree_front v w 1 events others m (suc k) high agree)) part.1
 
         go : (o : Option ℕ) → IsLeastPart l v w events others o → IfSome o (λ m. suc k < m)

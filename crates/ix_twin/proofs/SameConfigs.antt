@@ -44,7 +44,8 @@ limits_decide : (a b : Limits) → Decides (same_limits a b) (a ≡ b)
 limits_decide a b =
     Decides-like _ (λ p. λ i. record { procs = p.0.0.0.0 i; opens = p.0.0.0.1 i; pipes = p.0.0.1 i; names = p.0.1 i; log = p.1 i })
     (λ e. ((((ap (λ (x : Limits). x.procs) e, ap (λ (x : Limits). x.opens) e), ap (λ (x : Limits). x.pipes) e), ap (λ (x : Limits). x.names) e), ap (λ (x : Limits). x.log) e))
-    (Decides-and _ _ (Decides-and _ _ (Decides-and _ _ (Decides-and _ _ (Decides-eqb a.procs b.procs) (Decides-eqb a.opens b.opens)) (Decides-eqb a.pipes b.pipes)) (Decides-eqb a.names b.names)) (Decides-eqb a.log b.log))
+    (Decides-and _ _ (Decides-and _ _ (Decides-and _ _ (Decides-and _ _ (Decides-eqb a.procs b.procs) (Decides-eqb a.opens b.opens))
+    (Decides-eqb a.pipes b.pipes)) (Decides-eqb a.names b.names)) (Decides-eqb a.log b.log))
 
 proc_decides : (a b : ProcSpec) → Decides (same_proc a b) (a ≡ b)
 proc_decides a b =
@@ -111,4 +112,5 @@ module _ (l : Categories) where
   configs_decide c d =
       Decides-like _ (λ p. record { fss = p.0.0.0; limits = p.0.0.1; procs = p.0.1; objects = p.1 })
       (λ h. (((h.fss, h.limits), h.procs), h.objects))
-      (Decides-and _ _ (Decides-and _ _ (Decides-and _ _ (slice_eq-Decides fs_decides c.fss d.fss _ refl) (limits_decide c.limits d.limits)) (slice_eq-Decides proc_decides c.procs d.procs _ refl)) (objects_decide c.objects d.objects))
+      (Decides-and _ _ (Decides-and _ _ (Decides-and _ _ (slice_eq-Decides fs_decides c.fss d.fss _ refl) (limits_decide c.limits d.limits))
+      (slice_eq-Decides proc_decides c.procs d.procs _ refl)) (objects_decide c.objects d.objects))

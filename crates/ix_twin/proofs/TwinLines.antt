@@ -1,5 +1,6 @@
 -- At each place that is shown the lines of both reports are equal.
-use Rattle.std.proofs.Common.{◌≡◌, ◌≤◌, ◌<◌, ◌+◌, ◌-◌, ℕ, zero, suc, List, [], ◌∷◌, length, take, Option, Some, None, IfSome, slice_get, slice_index_or, unwrap_or, refl, sym, ap, ◌∙◌, arith, inl, inr, ⊎_elim, subst}
+use Rattle.std.proofs.Common.{◌≡◌, ◌≤◌, ◌<◌, ◌+◌, ◌-◌, ℕ, zero, suc, List, [], ◌∷◌, length, take, Option, Some, None, IfSome, slice_get}
+use Rattle.std.proofs.Common.{slice_index_or, unwrap_or, refl, sym, ap, ◌∙◌, arith, inl, inr, ⊎_elim, subst}
 use Rattle.std.proofs.lemmas.Option.{slice_get_within}
 use Rattle.ix_label.specs.Category.{Categories}
 use Rattle.ix_label.specs.declared.form.Form.{Form}

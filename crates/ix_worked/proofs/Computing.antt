@@ -1,6 +1,7 @@
 -- The words that the sessions are evaluated through. All words on labels stay closed.
 use Rattle.std.proofs.Common.{ℕ}
-use Rattle.ix_model.specs.rows.Rows.{◌>>=◌, ◌>>◌, on_pass, need, some, only_if, pass, refuse, frame, process, object, record_of, change_process, change_object, put_object, put_process, add_process, put_open, change_open, observe, affect}
+use Rattle.ix_model.specs.rows.Rows.{◌>>=◌, ◌>>◌, on_pass, need, some, only_if, pass, refuse, frame, process, object, record_of, change_process}
+use Rattle.ix_model.specs.rows.Rows.{change_object, put_object, put_process, add_process, put_open, change_open, observe, affect}
 use Rattle.ix_model.specs.rows.Walks.{walked_to, found_object, object_at, found_spot, spot_at, vacant, missing, behind, opened}
 use Rattle.ix_model.specs.rows.Lifetimes.{let_go_object, let_go_open, let_go_claim, let_go, let_go_if_held, let_go_each, let_go_all}
 use Rattle.ix_model.specs.rows.Auditing.{entitled, log_has_room, exercise, logged}

@@ -1,6 +1,7 @@
 -- Which configs are valid at the edges, computed.
 use Rattle.std.proofs.Common.{true, false, refl}
-use Rattle.ix_worked.specs.Configs.{AllValid, file_systems_that_fit, file_systems_that_do_not, limits_that_fit, limits_that_do_not, processes_that_fit, processes_that_do_not, objects_that_fit, objects_that_do_not}
+use Rattle.ix_worked.specs.Configs.{AllValid, file_systems_that_fit, file_systems_that_do_not, limits_that_fit, limits_that_do_not}
+use Rattle.ix_worked.specs.Configs.{processes_that_fit, processes_that_do_not, objects_that_fit, objects_that_do_not}
 use Rattle.ix_worked.proofs.Computing.{fitting}
 use Rattle.ix_worked.proofs.Labels.{labels}
 

@@ -534,7 +534,8 @@ lowered_files_agree a b = agreed bottom closed closed 1
 
 crosses_there : (byte : ℕ) → Crosses bottom (secret_written byte).frame (lowered byte).frame
 unfolding running secret_worlds
-crosses_there byte = object_crosses bottom (secret_written byte).frame (lowered byte).frame 1 (at (secret_written byte).frame.objects 1) (at (lowered byte).frame.objects 1) refl refl (simp labels refl) (simp labels refl)
+crosses_there byte = object_crosses bottom (secret_written byte).frame (lowered byte).frame 1 (at (secret_written byte).frame.objects 1)
+    (at (lowered byte).frame.objects 1) refl refl (simp labels refl) (simp labels refl)
 
 pub third_crosses_bottom : (byte : ℕ) → Crosses bottom (before bureau (calls (letting_down byte)) 3).frame (after bureau (calls (letting_down byte)) 3).frame
 unfolding closed

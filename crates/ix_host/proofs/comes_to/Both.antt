@@ -42,7 +42,8 @@ takes_twins found lines l asked left end taken after is twin answer wrote =
     (subst (λ (e : Status). IfSome (input_of asked left) (λ bytes. e ≡ called_for asked bytes)) is (answer (subst IsAnswer (sym is) tt))) in
     let went : IfSome left (λ bytes. IfSome taken (λ t. after ≡ Some (t ++ text_of (outcome_in (command.Twin l) bytes (serial (script_in (first_part bytes))))))) =
     subst (λ (a : Option Command). IfSome (input_of a left) (λ bytes. IfSome taken (λ t. WritesFor status.Done (text_of (outcome_of usage_line a bytes (serial (script_for a bytes)))) t after))) twin
-    (subst (λ (e : Status). IfSome (input_of asked left) (λ bytes. IfSome taken (λ t. WritesFor e (text_of (outcome_of usage_line asked bytes (serial (script_for asked bytes)))) t after))) is wrote) in
+    (subst (λ (e : Status). IfSome (input_of asked left)
+    (λ bytes. IfSome taken (λ t. WritesFor e (text_of (outcome_of usage_line asked bytes (serial (script_for asked bytes)))) t after))) is wrote) in
     go left taken called went
   where
     go : (o k : Option (List ℕ)) → IfSome o (λ bytes. status.Done ≡ called_for (Some (command.Twin l)) bytes)

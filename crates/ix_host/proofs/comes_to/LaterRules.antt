@@ -8,10 +8,12 @@ use Rattle.ix_text.specs.Bytes.{is_empty}
 use Rattle.ix_script.specs.lines.Kinds.{Kind, Place, place_rules, first_broken, places_fault}
 use Rattle.ix_script.specs.lines.Forms.{form_of, places, has_right_count}
 use Rattle.ix_script.specs.lines.Before.{form_told, has_policy, in_body}
-use Rattle.ix_script.specs.lines.Rules.{first_of, is_too_long, is_unprintable, has_empty_word, has_open_quote, is_late, is_outside, is_given_twice, names_unknown, is_above, is_misplaced, exceeds_limits, is_out_of_order, is_one_too_many, lacks_policy}
+use Rattle.ix_script.specs.lines.Rules.{first_of, is_too_long, is_unprintable, has_empty_word, has_open_quote, is_late, is_outside, is_given_twice}
+use Rattle.ix_script.specs.lines.Rules.{names_unknown, is_above, is_misplaced, exceeds_limits, is_out_of_order, is_one_too_many, lacks_policy}
 use Rattle.ix_script.specs.lines.Said.{said, version_of, line_of}
 use Rattle.ix_script.specs.texts.Lines.{lines_of}
-use Rattle.ix_script.specs.lines.Faults.{text_fault, words_fault, stand_fault, names_fault, said_fault, form_fault, command_fault, policy_fault, first_line_fault, body_fault, line_fault, or_next, fault_from, fault_of}
+use Rattle.ix_script.specs.lines.Faults.{text_fault, words_fault, stand_fault, names_fault, said_fault, form_fault, command_fault, policy_fault}
+use Rattle.ix_script.specs.lines.Faults.{first_line_fault, body_fault, line_fault, or_next, fault_from, fault_of}
 use Rattle.ix_script.specs.declared.line.Line.{Line}
 use Rattle.ix_script.specs.declared.line.Line.TheVariants as line
 
@@ -47,7 +49,8 @@ broken_one ((n, test) ∷ rules) ps h =
 said_one : (before : List Line) (l : Line) → is_one (said_fault before l) ≡ false
 unfolding said_fault
 said_one before l =
-    first_one ((22, is_above before l) ∷ (23, is_misplaced before l) ∷ (24, exceeds_limits before l) ∷ (25, is_out_of_order before l) ∷ (26, is_one_too_many before l) ∷ (28, lacks_policy before l) ∷ []) refl
+    first_one ((22, is_above before l) ∷ (23, is_misplaced before l) ∷ (24, exceeds_limits before l) ∷ (25, is_out_of_order before l)
+    ∷ (26, is_one_too_many before l) ∷ (28, lacks_policy before l) ∷ []) refl
 
 text_one : (text : List ℕ) → is_one (text_fault text) ≡ false
 unfolding text_fault
@@ -77,9 +80,12 @@ unfolding command_fault form_fault stand_fault names_fault
 command_one before words =
     or_one (words_fault words) (option_map_or (λ f. form_fault before f words) (form_of (word_at words 0)) (Some 7)) (words_one words)
     (map_one (λ f. form_fault before f words) (form_of (word_at words 0)) (Some 7)
-    (λ f. or_one (stand_fault before f words) (option_or (places_fault (places (form_told before) f words)) (option_or (names_fault before f words) (option_map_or (said_fault before) (said (form_told before) f words) None)))
+    (λ f. or_one (stand_fault before f words) (option_or (places_fault (places (form_told before) f words))
+    (option_or (names_fault before f words) (option_map_or (said_fault before) (said (form_told before) f words) None)))
     (first_one ((8, is_late before f) ∷ (9, is_outside before f) ∷ (10, not (has_right_count f words)) ∷ []) refl)
-    (or_one (places_fault (places (form_told before) f words)) (option_or (names_fault before f words) (option_map_or (said_fault before) (said (form_told before) f words) None)) (places_one (places (form_told before) f words))
+    (or_one (places_fault (places (form_told before) f words))
+    (option_or (names_fault before f words) (option_map_or (said_fault before) (said (form_told before) f words) None))
+    (places_one (places (form_told before) f words))
     (or_one (names_fault before f words) (option_map_or (said_fault before) (said (form_told before) f words) None)
     (first_one ((20, is_given_twice before f words) ∷ (21, names_unknown before f words) ∷ []) refl)
     (map_one (said_fault before) (said (form_told before) f words) None (said_one before) refl))))
@@ -89,7 +95,8 @@ line_one : (before : List Line) (text : List ℕ) → is_one (line_fault before 
 unfolding line_fault body_fault
 line_one before text =
     or_one (text_fault text) (body_fault before text) (text_one text)
-    (if_one (is_empty before) (first_line_fault text) (if is_skipped text then None else if is_policy_line text then policy_fault before text else command_fault before (words_of text)) (first_line_one text)
+    (if_one (is_empty before) (first_line_fault text) (if is_skipped text then None else if is_policy_line text then policy_fault before text else
+    command_fault before (words_of text)) (first_line_one text)
     (if_one (is_skipped text) None (if is_policy_line text then policy_fault before text else command_fault before (words_of text)) refl
     (if_one (is_policy_line text) (policy_fault before text) (command_fault before (words_of text)) (policy_one before text) (command_one before (words_of text)))))
 

@@ -91,12 +91,15 @@ none_read_out status.WriteFault (Some bytes) left h = tt
 none_read_out status.NoMemory (Some bytes) left h = tt
 
 -- and nothing is to be said of it where there is none
-pub lanes_read_out : (words : List (List ℕ)) (end : Status) (first left : Option (List ℕ)) → FitsCommand end (lanes_command_of words) → (reads_source (lanes_command_of words) ≡ true → IfSome first (λ bytes. ReadsOut (input_max (lanes_command_of words)) end bytes left))
+pub lanes_read_out : (words : List (List ℕ)) (end : Status) (first left : Option (List ℕ)) → FitsCommand end (lanes_command_of words)
+    → (reads_source (lanes_command_of words) ≡ true → IfSome first (λ bytes. ReadsOut (input_max (lanes_command_of words)) end bytes left))
     → IfSome first (λ bytes. ReadsOut script_max end bytes left)
 unfolding lanes_command_of
 lanes_read_out words end first left = go (command_of words)
   where
-    go : (o : Option Command) → FitsCommand end (only_run o) → (reads_source (only_run o) ≡ true → IfSome first (λ bytes. ReadsOut (input_max (only_run o)) end bytes left)) → IfSome first (λ bytes. ReadsOut script_max end bytes left)
+    go : (o : Option Command) → FitsCommand end (only_run o)
+        → (reads_source (only_run o) ≡ true → IfSome first (λ bytes. ReadsOut (input_max (only_run o)) end bytes left))
+        → IfSome first (λ bytes. ReadsOut script_max end bytes left)
     go None f h = none_read_out end first left f
     go (Some command.Run) f h = h refl
     go (Some command.Print) f h = none_read_out end first left f

@@ -262,7 +262,8 @@ whole_text None text h = refl
 whole_text (Some refusal) text h = cc
 
 -- a run that is done was refused nothing
-pub done_text : (bytes : List ℕ) (history : List Event) → status.Done ≡ status_of (outcome_in command.Run bytes history) → text_of (outcome_in command.Run bytes history) ≡ report_of (script_in bytes) history
+pub done_text : (bytes : List ℕ) (history : List Event) → status.Done ≡ status_of (outcome_in command.Run bytes history)
+    → text_of (outcome_in command.Run bytes history) ≡ report_of (script_in bytes) history
 unfolding outcome_in text_for
 done_text bytes history is = whole_text (refusal_of command.Run bytes) (report_of (script_in bytes) history) is
 

@@ -43,12 +43,14 @@ leads_as of to s t (task.Ended end) taken after done before now same is h = λ h
 leads_as of to s t (task.Run told script policy) taken after done before now same is h = (h.0 ∙ is, h.1, h.2, λ history. sym (same history) ∙ h.3 history)
 
 -- no read failed
-pub ends_somewhere : {o : Outcome} {end : Status} {taken after : Option (List ℕ)} {done : Bool} {before now : ℕ} → Ends o end taken after done before now → task.Ended end ≡ task.Ended status.ReadFault → ⊥
+pub ends_somewhere : {o : Outcome} {end : Status} {taken after : Option (List ℕ)} {done : Bool} {before now : ℕ} → Ends o end taken after done before now
+    → task.Ended end ≡ task.Ended status.ReadFault → ⊥
 ends_somewhere {o} {end} {taken} {after} {done} {before} {now} e is =
     let fault : end ≡ status.ReadFault = cc in
     (subst (λ (x : Status). Ends o x taken after done before now) fault e).fits
 
-pub leads_somewhere : (of : List Event → Outcome) (s : List Line) (job : Task) (taken after : Option (List ℕ)) (done : Bool) (before now : ℕ) → LeadsTo of s job taken after done before now → job ≡ task.Ended status.ReadFault → ⊥
+pub leads_somewhere : (of : List Event → Outcome) (s : List Line) (job : Task) (taken after : Option (List ℕ)) (done : Bool) (before now : ℕ)
+    → LeadsTo of s job taken after done before now → job ≡ task.Ended status.ReadFault → ⊥
 leads_somewhere of s (task.Ended end) taken after done before now h is = ends_somewhere (h []) is
 leads_somewhere of s (task.Run told script policy) taken after done before now h is = cc
 

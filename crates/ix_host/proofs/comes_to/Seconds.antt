@@ -1,5 +1,6 @@
 -- The lines at which a script is refused, and how many stand before the second of two.
-use Rattle.std.proofs.Common.{◌≡◌, ◌==◌, ℕ, ◌+◌, ◌<◌, ◌≤◌, nat_lt, Bool, true, false, List, [], ◌∷◌, ◌++◌, length, take, codes, Option, Some, None, if◌then◌else◌, unwrap_or, is_none, refl, sym, ap, ◌∙◌, arith, length-append, slice_get, subst}
+use Rattle.std.proofs.Common.{◌≡◌, ◌==◌, ℕ, ◌+◌, ◌<◌, ◌≤◌, nat_lt, Bool, true, false, List, [], ◌∷◌, ◌++◌, length, take, codes, Option, Some, None}
+use Rattle.std.proofs.Common.{if◌then◌else◌, unwrap_or, is_none, refl, sym, ap, ◌∙◌, arith, length-append, slice_get, subst}
 use Rattle.std.specs.Prelude.{IfSome, option_and_then}
 use Rattle.std.specs.List.{position}
 use Rattle.std.specs.Option.{option_map, option_or}
@@ -127,7 +128,8 @@ policy_within s = go (policy_of s) (policy_at s)
     by_test true line count h = h
     by_test false line count h = tt
 
-    go : (o : Option (ℕ × List ℕ)) → IfSome o (λ (p : ℕ × List ℕ). (0 < p.0) × (p.0 ≤ length s)) → IfSome (option_and_then (refused_policy (form_told s)) o) (λ (refusal : ℕ × ℕ). (0 < refusal.0) × (refusal.0 ≤ length s))
+    go : (o : Option (ℕ × List ℕ)) → IfSome o (λ (p : ℕ × List ℕ). (0 < p.0) × (p.0 ≤ length s))
+        → IfSome (option_and_then (refused_policy (form_told s)) o) (λ (refusal : ℕ × ℕ). (0 < refusal.0) × (refusal.0 ≤ length s))
     go None h = tt
     go (Some p) h = by_test (is_err (policy (form_told s) p.1)) p.0 (length s) h
 

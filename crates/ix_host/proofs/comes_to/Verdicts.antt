@@ -68,7 +68,8 @@ of_input None b P told h = tt
 of_input (Some input) b P told h = subst P told h
 
 -- one that is refused by the first rule is too long
-long_input : (asked : Option Command) (left : Option (List ℕ)) (b : List ℕ) → IfSome (input_of asked left) (λ input. b ≡ input) → status.Script 1 1 ≡ called_for asked b → IfSome left (λ bytes. IsTooLong asked bytes)
+long_input : (asked : Option Command) (left : Option (List ℕ)) (b : List ℕ) → IfSome (input_of asked left) (λ input. b ≡ input)
+    → status.Script 1 1 ≡ called_for asked b → IfSome left (λ bytes. IsTooLong asked bytes)
 unfolding called_for
 long_input None left b told h = cc
 long_input (Some command.Run) left b told h = of_input left b (λ bytes. script_max < length bytes) told (first_rule command.Run b h)
@@ -141,7 +142,8 @@ none_is (Some c) h = cc
 
 -- ---- the verdict
 -- What was asked for came to an end with this status, by a history to which the lanes of the script can come.
-pub record CameTo (Comes : List Line → List Event → Type 0) (usage : List ℕ) (asked : Option Command) (left : Option (List ℕ)) (end : Status) (taken after : Option (List ℕ)) (done : Bool) (before now : ℕ) : Type 0 where
+pub record CameTo (Comes : List Line → List Event → Type 0) (usage : List ℕ) (asked : Option Command) (left : Option (List ℕ)) (end : Status)
+    (taken after : Option (List ℕ)) (done : Bool) (before now : ℕ) : Type 0 where
   pub bytes : List ℕ
   pub told : IfSome (input_of asked left) (λ input. bytes ≡ input)
   pub history : List Event
@@ -149,11 +151,16 @@ pub record CameTo (Comes : List Line → List Event → Type 0) (usage : List �
   pub ends : Ends (outcome_of usage asked bytes history) end taken after done before now
 
 -- what is promised where no read failed, and where one did
-pub record Verdict (Comes : List Line → List Event → Type 0) (usage : List ℕ) (asked : Option Command) (left : Option (List ℕ)) (end : Status) (taken after : Option (List ℕ)) (done : Bool) (before now : ℕ) : Type 0 where
-  pub written : IfSome (input_of asked left) (λ bytes. IfSome taken (λ t. ExistsHistory (Comes (script_for asked bytes)) (λ history. WritesFor end (text_of (outcome_of usage asked bytes history)) t after)))
+pub record Verdict (Comes : List Line → List Event → Type 0) (usage : List ℕ) (asked : Option Command) (left : Option (List ℕ)) (end : Status)
+    (taken after : Option (List ℕ)) (done : Bool) (before now : ℕ) : Type 0 where
+  pub written : IfSome (input_of asked left)
+      (λ bytes. IfSome taken (λ t. ExistsHistory (Comes (script_for asked bytes)) (λ history. WritesFor end (text_of (outcome_of usage asked bytes history)) t
+      after)))
   pub line : IfSome taken (λ t. WritesLine usage end t after)
   pub finished : IsAnswer end → done ≡ true
-  pub noninterference : end ≡ status.Done → asked ≡ Some command.Run → IfSome left (λ bytes. IfSome taken (λ t. ExistsHistory (Comes (script_in bytes)) (λ history. TakesNoninterferentReport (script_in bytes) history t after)))
+  pub noninterference : end ≡ status.Done → asked ≡ Some command.Run
+      → IfSome left (λ bytes. IfSome taken (λ t. ExistsHistory (Comes (script_in bytes)) (λ history. TakesNoninterferentReport (script_in bytes) history t
+      after)))
   pub fits : FitsCommand end asked
   pub answer : IsAnswer end → IfSome (input_of asked left) (λ bytes. end ≡ called_for asked bytes)
   pub kept : IsAnswer end → now ≡ before
@@ -163,7 +170,8 @@ pub record Verdict (Comes : List Line → List Event → Type 0) (usage : List �
   pub made : (n : ℕ) → asked ≡ Some (command.Gen n) → (Rose before now → ⊥) → (end ≡ status.Done) ⊎ (end ≡ status.NoMemory)
   pub complete : (end ≡ status.ReadFault → ⊥) → (Rose before now → ⊥) → IfSome (input_of asked left) (λ bytes. (end ≡ called_for asked bytes) ⊎ (end ≡ status.NoMemory))
 
-module _ {Comes : List Line → List Event → Type 0} {usage : List ℕ} {asked : Option Command} {left : Option (List ℕ)} {end : Status} {taken after : Option (List ℕ)} {done : Bool} {before now : ℕ} where
+module _ {Comes : List Line → List Event → Type 0} {usage : List ℕ} {asked : Option Command} {left : Option (List ℕ)} {end : Status}
+    {taken after : Option (List ℕ)} {done : Bool} {before now : ℕ} where
   came : CameTo Comes usage asked left end taken after done before now → Verdict Comes usage asked left end taken after done before now
   came c =
       let b = c.bytes in
@@ -200,7 +208,8 @@ module _ {Comes : List Line → List Event → Type 0} {usage : List ℕ} {asked
       }
 
 -- a read failed, and nothing was written
-faulted : (Comes : List Line → List Event → Type 0) → ((s : List Line) → Comes s (serial s)) → (usage : List ℕ) (asked : Option Command) (left taken : Option (List ℕ)) (done : Bool) (before now : ℕ) → reads_source asked ≡ true
+faulted : (Comes : List Line → List Event → Type 0) → ((s : List Line) → Comes s (serial s))
+    → (usage : List ℕ) (asked : Option Command) (left taken : Option (List ℕ)) (done : Bool) (before now : ℕ) → reads_source asked ≡ true
     → Verdict Comes usage asked left status.ReadFault taken taken done before now
 faulted Comes serials usage asked left taken done before now reads = record {
   written = of_any (input_of asked left) _ (λ b. nothing_of_one (Comes (script_for asked b)) (λ k. outcome_of usage asked b k) taken (serial (script_for asked b)) (serials (script_for asked b)));
@@ -218,7 +227,8 @@ faulted Comes serials usage asked left taken done before now reads = record {
 }
 
 -- of what ended before the lanes were run
-pub verdict_ended : (Comes : List Line → List Event → Type 0) → ((s : List Line) → Comes s (serial s)) → (usage : List ℕ) (asked : Option Command) (left : Option (List ℕ)) (end : Status) (taken after : Option (List ℕ)) (done : Bool) (before now : ℕ)
+pub verdict_ended : (Comes : List Line → List Event → Type 0) → ((s : List Line) → Comes s (serial s))
+    → (usage : List ℕ) (asked : Option Command) (left : Option (List ℕ)) (end : Status) (taken after : Option (List ℕ)) (done : Bool) (before now : ℕ)
     → (end ≡ status.ReadFault → reads_source asked ≡ true) → (end ≡ status.ReadFault → after ≡ taken)
     → ((end ≡ status.ReadFault → ⊥) → Prepares usage asked left (task.Ended end) taken after done before now) → Verdict Comes usage asked left end taken after done before now
 verdict_ended Comes serials usage asked left end taken after done before now reads none prepared = elim (is_fault end) [
@@ -226,7 +236,15 @@ verdict_ended Comes serials usage asked left end taken after done before now rea
       let nothing : Verdict Comes usage asked left status.ReadFault taken taken done before now = faulted Comes serials usage asked left taken done before now (reads is) in
       subst (λ (x : Status). Verdict Comes usage asked left x taken after done before now) (sym is)
       (subst (λ (o : Option (List ℕ)). Verdict Comes usage asked left status.ReadFault taken o done before now) (sym (none is)) nothing)
-  | inr not ↦ let p = prepared not in came (record { bytes = p.bytes; told = p.told; history = serial (script_for asked p.bytes); is = serials (script_for asked p.bytes); ends = p.leads (serial (script_for asked p.bytes)) })
+  | inr not ↦ let p = prepared not in
+      came (record {
+        bytes = p.bytes;
+        told = p.told;
+        history = serial (script_for asked p.bytes);
+        is = serials (script_for asked p.bytes);
+        ends =
+            p.leads (serial (script_for asked p.bytes));
+      })
 ]
   where
     is_fault : (s : Status) → (s ≡ status.ReadFault) ⊎ (s ≡ status.ReadFault → ⊥)
@@ -238,7 +256,8 @@ verdict_ended Comes serials usage asked left end taken after done before now rea
     is_fault status.NoMemory = inr (λ is. cc)
 
 -- of what was told once they were run
-pub verdict_told : {Comes : List Line → List Event → Type 0} {usage : List ℕ} {asked : Option Command} {left : Option (List ℕ)} {told : Telling} {s : List Line} {policy : Option (List Rule)} {end : Status} {taken between after : Option (List ℕ)} {done waiting : Bool} {before then now : ℕ} (history : List Event)
+pub verdict_told : {Comes : List Line → List Event → Type 0} {usage : List ℕ} {asked : Option Command} {left : Option (List ℕ)} {told : Telling} {s : List Line}
+    {policy : Option (List Rule)} {end : Status} {taken between after : Option (List ℕ)} {done waiting : Bool} {before then now : ℕ} (history : List Event)
     → Prepares usage asked left (task.Run told s policy) taken between waiting before then → Comes s history → Ends (outcome.Whole (text_told told s history)) end taken after done before now
     → Verdict Comes usage asked left end taken after done before now
 verdict_told {Comes} history p is e = came (record {

@@ -24,13 +24,16 @@ no_fault None n later h more = more
 no_fault (Some rule) n later h more = absurd (none-some rule (sym h))
 
 -- a line without a fault, and none after it
-pub sound_line : (before : List Line) (text : List ℕ) (texts : List (List ℕ)) (l : Line) → line_of (form_told before) text ≡ Some l → line_fault before text ≡ None → fault_from (before ++ l ∷ []) texts ≡ None → fault_from before (text ∷ texts) ≡ None
+pub sound_line : (before : List Line) (text : List ℕ) (texts : List (List ℕ)) (l : Line) → line_of (form_told before) text ≡ Some l
+    → line_fault before text ≡ None → fault_from (before ++ l ∷ []) texts ≡ None → fault_from before (text ∷ texts) ≡ None
 unfolding fault_from
 sound_line before text texts l means sound more =
-    no_fault (line_fault before text) (length before + 1) (fault_from (before ++ unwrap_or (line_of (form_told before) text) line.Skipped ∷ []) texts) sound (ap (λ o. fault_from (before ++ unwrap_or o line.Skipped ∷ []) texts) means ∙ more)
+    no_fault (line_fault before text) (length before + 1) (fault_from (before ++ unwrap_or (line_of (form_told before) text) line.Skipped ∷ []) texts) sound
+    (ap (λ o. fault_from (before ++ unwrap_or o line.Skipped ∷ []) texts) means ∙ more)
 
 -- a command, and no fault after it
-pub command_line : (before : List Line) (n : ℕ) (text : List ℕ) (texts : List (List ℕ)) (l : Line) → Ready before n → IsCommand text l → n < 200000 → fault_from (before ++ l ∷ []) texts ≡ None → fault_from before (text ∷ texts) ≡ None
+pub command_line : (before : List Line) (n : ℕ) (text : List ℕ) (texts : List (List ℕ)) (l : Line) → Ready before n → IsCommand text l → n < 200000
+    → fault_from (before ++ l ∷ []) texts ≡ None → fault_from before (text ∷ texts) ≡ None
 command_line before n text texts l r k few more = sound_line before text texts l (k.means (form_told before)) (k.sound before n r few) more
 
 -- a text says a line, and has no fault with these before it
@@ -99,17 +102,34 @@ module _ (s t u : Categories) (low_eight : IsWord (codes "0-7") s) (three : IsWo
   header_ready = record { some = refl; lane = refl; procs = refl; number = refl }
 
   -- nothing in the beginning has a fault, where nothing after it has one
-  pub begins : (texts : List (List ℕ)) → ((before : List Line) → Ready before 3 → fault_from before texts ≡ None) → fault_from [] (codes "ix 1" ∷ codes "limit log 0" ∷ codes "proc a - 0-7 - -" ∷ codes "proc b 3 * - -" ∷ codes "proc c - - - -" ∷ codes "file /x - free - - 64*00" ∷ codes "file /y 5 free - - 64*00" ∷ codes "phase" ∷ codes "lane g" ∷ codes "open a /x rw" ∷ codes "open b /y r" ∷ codes "open c /y r" ∷ texts) ≡ None
+  pub begins : (texts : List (List ℕ)) → ((before : List Line) → Ready before 3 → fault_from before texts ≡ None)
+      → fault_from [] (codes "ix 1" ∷ codes "limit log 0" ∷ codes "proc a - 0-7 - -" ∷ codes "proc b 3 * - -" ∷ codes "proc c - - - -"
+      ∷ codes "file /x - free - - 64*00" ∷ codes "file /y 5 free - - 64*00" ∷ codes "phase" ∷ codes "lane g" ∷ codes "open a /x rw" ∷ codes "open b /y r"
+      ∷ codes "open c /y r" ∷ texts) ≡ None
   begins texts more =
-      sound_line ([]) (codes "ix 1") (codes "limit log 0" ∷ codes "proc a - 0-7 - -" ∷ codes "proc b 3 * - -" ∷ codes "proc c - - - -" ∷ codes "file /x - free - - 64*00" ∷ codes "file /y 5 free - - 64*00" ∷ codes "phase" ∷ codes "lane g" ∷ codes "open a /x rw" ∷ codes "open b /y r" ∷ codes "open c /y r" ∷ texts) (line.Version One) version.means version.sound (
-      sound_line (line.Version One ∷ []) (codes "limit log 0") (codes "proc a - 0-7 - -" ∷ codes "proc b 3 * - -" ∷ codes "proc c - - - -" ∷ codes "file /x - free - - 64*00" ∷ codes "file /y 5 free - - 64*00" ∷ codes "phase" ∷ codes "lane g" ∷ codes "open a /x rw" ∷ codes "open b /y r" ∷ codes "open c /y r" ∷ texts) (line.Limit what.Log 0) no_log.means no_log.sound (
-      sound_line (line.Version One ∷ line.Limit what.Log 0 ∷ []) (codes "proc a - 0-7 - -") (codes "proc b 3 * - -" ∷ codes "proc c - - - -" ∷ codes "file /x - free - - 64*00" ∷ codes "file /y 5 free - - 64*00" ∷ codes "phase" ∷ codes "lane g" ∷ codes "open a /x rw" ∷ codes "open b /y r" ∷ codes "open c /y r" ∷ texts) (of_a) tells_a.means tells_a.sound (
-      sound_line (line.Version One ∷ line.Limit what.Log 0 ∷ of_a ∷ []) (codes "proc b 3 * - -") (codes "proc c - - - -" ∷ codes "file /x - free - - 64*00" ∷ codes "file /y 5 free - - 64*00" ∷ codes "phase" ∷ codes "lane g" ∷ codes "open a /x rw" ∷ codes "open b /y r" ∷ codes "open c /y r" ∷ texts) (of_b) tells_b.means tells_b.sound (
-      sound_line (line.Version One ∷ line.Limit what.Log 0 ∷ of_a ∷ of_b ∷ []) (codes "proc c - - - -") (codes "file /x - free - - 64*00" ∷ codes "file /y 5 free - - 64*00" ∷ codes "phase" ∷ codes "lane g" ∷ codes "open a /x rw" ∷ codes "open b /y r" ∷ codes "open c /y r" ∷ texts) (of_c) tells_c.means tells_c.sound (
-      sound_line (line.Version One ∷ line.Limit what.Log 0 ∷ of_a ∷ of_b ∷ of_c ∷ []) (codes "file /x - free - - 64*00") (codes "file /y 5 free - - 64*00" ∷ codes "phase" ∷ codes "lane g" ∷ codes "open a /x rw" ∷ codes "open b /y r" ∷ codes "open c /y r" ∷ texts) (file_x) makes_x.means makes_x.sound (
-      sound_line (line.Version One ∷ line.Limit what.Log 0 ∷ of_a ∷ of_b ∷ of_c ∷ file_x ∷ []) (codes "file /y 5 free - - 64*00") (codes "phase" ∷ codes "lane g" ∷ codes "open a /x rw" ∷ codes "open b /y r" ∷ codes "open c /y r" ∷ texts) (file_y) makes_y.means makes_y.sound (
-      sound_line (line.Version One ∷ line.Limit what.Log 0 ∷ of_a ∷ of_b ∷ of_c ∷ file_x ∷ file_y ∷ []) (codes "phase") (codes "lane g" ∷ codes "open a /x rw" ∷ codes "open b /y r" ∷ codes "open c /y r" ∷ texts) (line.Phase) phase.means phase.sound (
-      sound_line (line.Version One ∷ line.Limit what.Log 0 ∷ of_a ∷ of_b ∷ of_c ∷ file_x ∷ file_y ∷ line.Phase ∷ []) (codes "lane g") (codes "open a /x rw" ∷ codes "open b /y r" ∷ codes "open c /y r" ∷ texts) (line.Lane (codes "g")) lane.means lane.sound (
+      sound_line ([]) (codes "ix 1") (codes "limit log 0" ∷ codes "proc a - 0-7 - -" ∷ codes "proc b 3 * - -" ∷ codes "proc c - - - -"
+      ∷ codes "file /x - free - - 64*00" ∷ codes "file /y 5 free - - 64*00" ∷ codes "phase" ∷ codes "lane g" ∷ codes "open a /x rw" ∷ codes "open b /y r"
+      ∷ codes "open c /y r" ∷ texts) (line.Version One) version.means version.sound (
+      sound_line (line.Version One ∷ []) (codes "limit log 0") (codes "proc a - 0-7 - -" ∷ codes "proc b 3 * - -" ∷ codes "proc c - - - -"
+      ∷ codes "file /x - free - - 64*00" ∷ codes "file /y 5 free - - 64*00" ∷ codes "phase" ∷ codes "lane g" ∷ codes "open a /x rw" ∷ codes "open b /y r"
+      ∷ codes "open c /y r" ∷ texts) (line.Limit what.Log 0) no_log.means no_log.sound (
+      sound_line (line.Version One ∷ line.Limit what.Log 0 ∷ []) (codes "proc a - 0-7 - -") (codes "proc b 3 * - -" ∷ codes "proc c - - - -"
+      ∷ codes "file /x - free - - 64*00" ∷ codes "file /y 5 free - - 64*00" ∷ codes "phase" ∷ codes "lane g" ∷ codes "open a /x rw" ∷ codes "open b /y r"
+      ∷ codes "open c /y r" ∷ texts) (of_a) tells_a.means tells_a.sound (
+      sound_line (line.Version One ∷ line.Limit what.Log 0 ∷ of_a ∷ []) (codes "proc b 3 * - -") (codes "proc c - - - -" ∷ codes "file /x - free - - 64*00"
+      ∷ codes "file /y 5 free - - 64*00" ∷ codes "phase" ∷ codes "lane g" ∷ codes "open a /x rw" ∷ codes "open b /y r" ∷ codes "open c /y r" ∷ texts) (of_b)
+      tells_b.means tells_b.sound (
+      sound_line (line.Version One ∷ line.Limit what.Log 0 ∷ of_a ∷ of_b ∷ []) (codes "proc c - - - -") (codes "file /x - free - - 64*00"
+      ∷ codes "file /y 5 free - - 64*00" ∷ codes "phase" ∷ codes "lane g" ∷ codes "open a /x rw" ∷ codes "open b /y r" ∷ codes "open c /y r" ∷ texts) (of_c)
+      tells_c.means tells_c.sound (
+      sound_line (line.Version One ∷ line.Limit what.Log 0 ∷ of_a ∷ of_b ∷ of_c ∷ []) (codes "file /x - free - - 64*00") (codes "file /y 5 free - - 64*00"
+      ∷ codes "phase" ∷ codes "lane g" ∷ codes "open a /x rw" ∷ codes "open b /y r" ∷ codes "open c /y r" ∷ texts) (file_x) makes_x.means makes_x.sound (
+      sound_line (line.Version One ∷ line.Limit what.Log 0 ∷ of_a ∷ of_b ∷ of_c ∷ file_x ∷ []) (codes "file /y 5 free - - 64*00") (codes "phase"
+      ∷ codes "lane g" ∷ codes "open a /x rw" ∷ codes "open b /y r" ∷ codes "open c /y r" ∷ texts) (file_y) makes_y.means makes_y.sound (
+      sound_line (line.Version One ∷ line.Limit what.Log 0 ∷ of_a ∷ of_b ∷ of_c ∷ file_x ∷ file_y ∷ []) (codes "phase") (codes "lane g" ∷ codes "open a /x rw"
+      ∷ codes "open b /y r" ∷ codes "open c /y r" ∷ texts) (line.Phase) phase.means phase.sound (
+      sound_line (line.Version One ∷ line.Limit what.Log 0 ∷ of_a ∷ of_b ∷ of_c ∷ file_x ∷ file_y ∷ line.Phase ∷ []) (codes "lane g") (codes "open a /x rw"
+      ∷ codes "open b /y r" ∷ codes "open c /y r" ∷ texts) (line.Lane (codes "g")) lane.means lane.sound (
       let a = ready_next header 0 _ _ header_ready opens_a in
       let b = ready_next _ 1 _ _ a opens_b in
       let c = ready_next _ 2 _ _ b opens_c in

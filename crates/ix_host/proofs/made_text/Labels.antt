@@ -5,7 +5,8 @@ use Rattle.ix_label.specs.declared.form.Form.TheVariants.{One}
 use Rattle.ix_label.specs.Category.{Categories, bottom, leq}
 use Rattle.ix_label.specs.Forms.{greatest, whole_run, all_of, narrow, IsWithin}
 use Rattle.ix_label.specs.Spelling.{spelling}
-use Rattle.ix_label.specs.Faults.{fault_of, first_fault, fault_here, is_due, number_fault, is_bad, number_ahead, number_back, is_not_ascending, is_not_longest, at_dash, at_comma, at_digit, last_number, follower_fault, may_follow}
+use Rattle.ix_label.specs.Faults.{fault_of, first_fault, fault_here, is_due, number_fault, is_bad, number_ahead, number_back, is_not_ascending}
+use Rattle.ix_label.specs.Faults.{is_not_longest, at_dash, at_comma, at_digit, last_number, follower_fault, may_follow}
 use Rattle.ix_label.specs.Laws.{SpelledOrFaulty}
 use Rattle.ix_label.proofs.Fitting.{within-fits, fits-within, within-label, within-bottom, within-all_of}
 use Rattle.ix_label.proofs.Spelled.{spelling-bottom, spelling-all, spelling_injective}
@@ -41,13 +42,16 @@ word_of word law clean =
 
 -- ---- the three further labels
 pub low_eight : SpelledOrFaulty One (codes "0-7") → (s : Categories) × IsWord (codes "0-7") s
-unfolding fault_of first_fault fault_here is_due number_fault is_bad number_ahead number_back is_not_ascending is_not_longest at_dash at_comma at_digit last_number follower_fault may_follow greatest whole_run
+unfolding fault_of first_fault fault_here is_due number_fault is_bad number_ahead number_back is_not_ascending is_not_longest at_dash at_comma at_digit
+    last_number follower_fault may_follow greatest whole_run
 low_eight law = word_of (codes "0-7") law refl
 
 pub three : SpelledOrFaulty One (codes "3") → (s : Categories) × IsWord (codes "3") s
-unfolding fault_of first_fault fault_here is_due number_fault is_bad number_ahead number_back is_not_ascending is_not_longest at_dash at_comma at_digit last_number follower_fault may_follow greatest whole_run
+unfolding fault_of first_fault fault_here is_due number_fault is_bad number_ahead number_back is_not_ascending is_not_longest at_dash at_comma at_digit
+    last_number follower_fault may_follow greatest whole_run
 three law = word_of (codes "3") law refl
 
 pub five : SpelledOrFaulty One (codes "5") → (s : Categories) × IsWord (codes "5") s
-unfolding fault_of first_fault fault_here is_due number_fault is_bad number_ahead number_back is_not_ascending is_not_longest at_dash at_comma at_digit last_number follower_fault may_follow greatest whole_run
+unfolding fault_of first_fault fault_here is_due number_fault is_bad number_ahead number_back is_not_ascending is_not_longest at_dash at_comma at_digit
+    last_number follower_fault may_follow greatest whole_run
 five law = word_of (codes "5") law refl

@@ -72,7 +72,8 @@ module _ (o after : Option (List ℕ)) (before now : ℕ) where
     pub stands_written : (done : Unit {0}) → IfSome after (λ t. Writes {E = E} t later piece (Ok done)) → HasCause {E = E} now then (Ok done) → StandsAt None o later rest text before then
     stands_written done w h = (sent_more E o after later piece (piece ++ rest) rest text (Ok done) done refl refl s.0 w, h.kept ∙ s.1)
 
-    pub stands_failed : (e : E) (waiting : List ℕ) → IfSome after (λ t. Writes {E = E} t later piece (Err e)) → HasCause {T = Unit {0}} {E = E} now then (Err e) → StandsAt (Some failure.Write) o later waiting text before then
+    pub stands_failed : (e : E) (waiting : List ℕ) → IfSome after (λ t. Writes {E = E} t later piece (Err e)) → HasCause {T = Unit {0}} {E = E} now then (Err e)
+        → StandsAt (Some failure.Write) o later waiting text before then
     stands_failed e waiting w h = (sent_less E o after later piece (piece ++ rest) rest text (Err e) e refl refl s.0 w, subst (λ (k : ℕ). Rose k then) s.1 h.failed)
 
 -- ---- as it ends
@@ -98,13 +99,15 @@ module _ (o after : Option (List ℕ)) (text : List ℕ) (done : Bool) (before n
 
 -- ---- the lines of a history
 -- what was told of a history, with the line of one entry more
-pub told_next : (s : List Line) (begun : List ℕ) (h k : History) (e : Event) → k ≡ with_entry h e → told_of s begun h ++ entry_text (form_told s) (lanes_of s) (length h.events + 1) (world_of h) e ≡ told_of s begun k
+pub told_next : (s : List Line) (begun : List ℕ) (h k : History) (e : Event) → k ≡ with_entry h e
+    → told_of s begun h ++ entry_text (form_told s) (lanes_of s) (length h.events + 1) (world_of h) e ≡ told_of s begun k
 told_next s begun h k e is =
     append_assoc begun (entries_text (form_told s) (lanes_of s) 1 (opening_world h.config) h.events) _
     ∙ ap (λ t. begun ++ t) (sym (history_entries (form_told s) (lanes_of s) h e)) ∙ ap (told_of s begun) (sym is)
 
 -- all of a report
-pub report_told : (s : List Line) (begun : List ℕ) (h : History) → h.config ≡ config_of s → begun ≡ head_line (form_told s) → told_of s begun h ++ closing_text (form_told s) (world_of h) (length h.events) ≡ report_of s h.events
+pub report_told : (s : List Line) (begun : List ℕ) (h : History) → h.config ≡ config_of s → begun ≡ head_line (form_told s)
+    → told_of s begun h ++ closing_text (form_told s) (world_of h) (length h.events) ≡ report_of s h.events
 unfolding report_of world_of
 report_told s begun h config at = rw (at, config) refl
 

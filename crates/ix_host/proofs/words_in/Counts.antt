@@ -1,5 +1,6 @@
 -- Counts among the command words.
-use Rattle.std.proofs.Common.{◌≡◌, ◌≢◌, ℕ, suc, ◌+◌, ◌*◌, ◌-◌, ◌^◌, ◌<◌, ◌≤◌, ◌&&◌, ◌||◌, ◌==◌, nat_le, Bool, true, false, List, [], ◌∷◌, length, Option, Some, None, Ok, Err, refl, sym, ap, ◌∙◌, arith, inl, inr, get_or, if◌then◌else◌, codes}
+use Rattle.std.proofs.Common.{◌≡◌, ◌≢◌, ℕ, suc, ◌+◌, ◌*◌, ◌-◌, ◌^◌, ◌<◌, ◌≤◌, ◌&&◌, ◌||◌, ◌==◌, nat_le, Bool, true, false, List, [], ◌∷◌, length}
+use Rattle.std.proofs.Common.{Option, Some, None, Ok, Err, refl, sym, ap, ◌∙◌, arith, inl, inr, get_or, if◌then◌else◌, codes}
 use Rattle.std.specs.Prelude.{IfSome}
 use Rattle.std.specs.List.{list_all}
 use Rattle.std.specs.Str.Parse.{ParsesUnsigned}
@@ -36,7 +37,8 @@ unfolding number_of
 number_bounds low high word = go (is_numeral word && is_within low high (value word)) refl
   where
     go : (b : Bool) → (is_numeral word && is_within low high (value word)) ≡ b → IfSome (if b then Some (value word) else None) (λ n. (low ≤ n) × (n ≤ high))
-    go true is = let within : is_within low high (value word) ≡ true = (and_parts (is_numeral word) (is_within low high (value word)) is).1 in (grind (arith, nat_tests, within), grind (arith, nat_tests, within))
+    go true is = let within : is_within low high (value word) ≡ true = (and_parts (is_numeral word) (is_within low high (value word)) is).1 in
+        (grind (arith, nat_tests, within), grind (arith, nat_tests, within))
     go false is = tt
 
 -- ---- a count

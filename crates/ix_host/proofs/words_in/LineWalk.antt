@@ -1,5 +1,6 @@
 -- What clap makes of the command words, a word at a time.
-use Rattle.std.proofs.Common.{◌≡◌, ℕ, ◌==◌, Bool, true, false, List, [], ◌∷◌, length, fold, Option, Some, None, is_some, refl, sym, subst, ap, ap₂, ◌∙◌, arith, inl, inr, codes, slice_get, if◌then◌else◌}
+use Rattle.std.proofs.Common.{◌≡◌, ℕ, ◌==◌, Bool, true, false, List, [], ◌∷◌, length, fold, Option, Some, None, is_some, refl, sym, subst, ap, ap₂}
+use Rattle.std.proofs.Common.{◌∙◌, arith, inl, inr, codes, slice_get, if◌then◌else◌}
 use Rattle.std.proofs.lemmas.Bool.{cases_Bool, eqb-true}
 use Rattle.std.proofs.lemmas.Bool.Decides.{nat_tests}
 use Rattle.std.specs.Option.{option_map_or}
@@ -11,7 +12,8 @@ use Rattle.clap.specs.declared.error.kind.ErrorKind.{ErrorKind}
 use Rattle.clap.specs.declared.error.kind.ErrorKind.TheVariants.{OutOfMemory}
 use Rattle.clap.specs.declared.parser.matches.ArgMatches.{ArgMatches}
 use Rattle.clap.proofs.WalkLemmas.{first_value-rows}
-use Rattle.clap.specs.Walk.{Held, Outcome, Step, Walk, after_flag, after_step, arg_by_index, bundle_met, bundle_step, finished, idle, long_or_other, nothing_held, plain, settled, short_word, short_or_plain, to_positional, trailing, value, walk_from, walked, word_met}
+use Rattle.clap.specs.Walk.{Held, Outcome, Step, Walk, after_flag, after_step, arg_by_index, bundle_met, bundle_step, finished, idle, long_or_other}
+use Rattle.clap.specs.Walk.{nothing_held, plain, settled, short_word, short_or_plain, to_positional, trailing, value, walk_from, walked, word_met}
 use Rattle.clap.specs.Simple.{built, entered, matches_of}
 use Rattle.clap.specs.Kinds.{or_else}
 use Rattle.clap.specs.Faults.{bundle_fault, bundle_step_fault, check_fault, defaults_fault, entered_fault, fault_of, flag_word_fault, flags_fault, settle_fault, step_fault, walk_fault, word_fault}
@@ -147,7 +149,12 @@ other_than word name k ks clean refused =
 
 -- so it is no command
 none_whole : (word : Text) (words : List Text) (k : ErrorKind) (ks : Kinds) → fault_in word [] None ≡ k ∷ ks → whole_command (word ∷ words) ≡ None
-none_whole word [] k ks refused = rw (other_than word (codes "run") k ks refl refused, other_than word (codes "print") k ks refl refused, other_than word (codes "check") k ks refl refused, other_than word (codes "flow") k ks refl refused) refl
+none_whole word [] k ks refused = rw (
+  other_than word (codes "run") k ks refl refused,
+  other_than word (codes "print") k ks refl refused,
+  other_than word (codes "check") k ks refl refused,
+  other_than word (codes "flow") k ks refl refused,
+) refl
 none_whole word (more ∷ []) k ks refused = rw (other_than word (codes "gen") k ks refl refused, other_than word (codes "twin") k ks refl refused) refl
 none_whole word (count ∷ more ∷ words) k ks refused = refl
 

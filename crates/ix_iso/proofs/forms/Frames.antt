@@ -77,9 +77,21 @@ all_left P t pid keeps all m y here = elim (at_put t pid m (option_and_then rema
 module _ (form : Form) where
   pub fits_object : (o : ℕ) (h : Object → Object) → ((x : Object) → Fits form x.label → Fits form (h x).label) → Keeps (FrameFits form) (change_object o h)
   unfolding change_object Holds
-  fits_object o h keeps = record { led = λ g r. record { fss = r.fss; objects = all_changed (λ (x : Object). Fits form x.label) g.objects r.objects o h keeps; labels = r.labels; ceilings = r.ceilings; opens = r.opens; log = r.log } }
+  fits_object o h keeps = record {
+    led =
+        λ g r. record {
+          fss = r.fss;
+          objects = all_changed (λ (x : Object). Fits form x.label) g.objects r.objects o h keeps;
+          labels = r.labels;
+          ceilings =
+              r.ceilings;
+          opens = r.opens;
+          log = r.log;
+        };
+  }
 
-  pub fits_process : (p : ℕ) (h : Process → Process) → ((q : Process) → Fits form q.label → Fits form (h q).label) → ((q : Process) → Fits form q.ceiling → Fits form (h q).ceiling) → Keeps (FrameFits form) (change_process p h)
+  pub fits_process : (p : ℕ) (h : Process → Process) → ((q : Process) → Fits form q.label → Fits form (h q).label)
+      → ((q : Process) → Fits form q.ceiling → Fits form (h q).ceiling) → Keeps (FrameFits form) (change_process p h)
   unfolding change_process Holds
   fits_process p h labels ceilings = record {
     led = λ g r. record {
@@ -94,23 +106,74 @@ module _ (form : Form) where
 
   pub fits_open : (e : ℕ) (h : Open → Open) → ((x : Open) → Fits form x.label → Fits form (h x).label) → Keeps (FrameFits form) (change_open e h)
   unfolding change_open Holds
-  fits_open e h keeps = record { led = λ g r. record { fss = r.fss; objects = r.objects; labels = r.labels; ceilings = r.ceilings; opens = all_changed (λ (x : Open). Fits form x.label) g.opens r.opens e h keeps; log = r.log } }
+  fits_open e h keeps = record {
+    led = λ g r. record {
+      fss = r.fss;
+      objects = r.objects;
+      labels = r.labels;
+      ceilings = r.ceilings;
+      opens =
+          all_changed (λ (x : Open). Fits form x.label) g.opens r.opens e h keeps;
+      log = r.log;
+    };
+  }
 
   pub fits_new_object : (o : ℕ) (x : Object) → Fits form x.label → Keeps (FrameFits form) (put_object o (Some x))
   unfolding put_object Holds
-  fits_new_object o x fits = record { led = λ g r. record { fss = r.fss; objects = all_put (λ (x : Object). Fits form x.label) g.objects r.objects o x fits; labels = r.labels; ceilings = r.ceilings; opens = r.opens; log = r.log } }
+  fits_new_object o x fits =
+      record {
+        led = λ g r. record {
+          fss = r.fss;
+          objects = all_put (λ (x : Object). Fits form x.label) g.objects r.objects o x fits;
+          labels =
+              r.labels;
+          ceilings = r.ceilings;
+          opens = r.opens;
+          log = r.log;
+        };
+      }
 
   pub fits_no_object : (o : ℕ) → Keeps (FrameFits form) (put_object o None)
   unfolding put_object Holds
-  fits_no_object o = record { led = λ g r. record { fss = r.fss; objects = all_gone (λ (x : Object). Fits form x.label) g.objects r.objects o; labels = r.labels; ceilings = r.ceilings; opens = r.opens; log = r.log } }
+  fits_no_object o = record {
+    led = λ g r. record {
+      fss = r.fss;
+      objects = all_gone (λ (x : Object). Fits form x.label) g.objects r.objects o;
+      labels =
+          r.labels;
+      ceilings = r.ceilings;
+      opens = r.opens;
+      log = r.log;
+    };
+  }
 
   pub fits_new_open : (e : ℕ) (x : Open) → Fits form x.label → Keeps (FrameFits form) (put_open e (Some x))
   unfolding put_open Holds
-  fits_new_open e x fits = record { led = λ g r. record { fss = r.fss; objects = r.objects; labels = r.labels; ceilings = r.ceilings; opens = all_put (λ (x : Open). Fits form x.label) g.opens r.opens e x fits; log = r.log } }
+  fits_new_open e x fits = record {
+    led = λ g r. record {
+      fss = r.fss;
+      objects = r.objects;
+      labels = r.labels;
+      ceilings = r.ceilings;
+      opens =
+          all_put (λ (x : Open). Fits form x.label) g.opens r.opens e x fits;
+      log = r.log;
+    };
+  }
 
   pub fits_no_open : (e : ℕ) → Keeps (FrameFits form) (put_open e None)
   unfolding put_open Holds
-  fits_no_open e = record { led = λ g r. record { fss = r.fss; objects = r.objects; labels = r.labels; ceilings = r.ceilings; opens = all_gone (λ (x : Open). Fits form x.label) g.opens r.opens e; log = r.log } }
+  fits_no_open e = record {
+    led = λ g r. record {
+      fss = r.fss;
+      objects = r.objects;
+      labels = r.labels;
+      ceilings = r.ceilings;
+      opens =
+          all_gone (λ (x : Open). Fits form x.label) g.opens r.opens e;
+      log = r.log;
+    };
+  }
 
   pub fits_child : (p : Process) → Fits form p.label → Fits form p.ceiling → Keeps (FrameFits form) (add_process p)
   unfolding add_process Holds

@@ -9,8 +9,10 @@ use Rattle.ix_label.specs.Forms.{Fits}
 use Rattle.ix_model.specs.world.Naming.{PathOf}
 use Rattle.ix_model.specs.world.World.{Frame, Object, Process, Open, at, living, is_dir, is_pipe}
 use Rattle.ix_model.specs.rows.Outcomes.{Outcome, Row, Refuse, Pass}
-use Rattle.ix_model.specs.rows.Rows.{◌>>=◌, ◌>>◌, on_pass, pass, refuse, some, frame, process, object, record_of, change_object, change_process, change_open, put_object, put_open, put_process, add_process, observe, affect}
-use Rattle.ix_model.specs.rows.Walks.{OpenFile, NotDir, nothing, node, child, behind, behind_of, entry_at, join_all, looking_into, lacking, walk, walk_from, walked_to, object_at, spot_at, missing, opened}
+use Rattle.ix_model.specs.rows.Rows.{◌>>=◌, ◌>>◌, on_pass, pass, refuse, some, frame, process, object, record_of, change_object, change_process}
+use Rattle.ix_model.specs.rows.Rows.{change_open, put_object, put_open, put_process, add_process, observe, affect}
+use Rattle.ix_model.specs.rows.Walks.{OpenFile, NotDir, nothing, node, child, behind, behind_of, entry_at, join_all, looking_into, lacking, walk}
+use Rattle.ix_model.specs.rows.Walks.{walk_from, walked_to, object_at, spot_at, missing, opened}
 use Rattle.ix_model.specs.rows.Lifetimes.{let_go_object, let_go_open, let_go_claim, let_go, let_go_if_held, let_go_each, let_go_all, has_lost}
 use Rattle.ix_model.specs.rows.Auditing.{logged}
 use Rattle.ix_model.specs.rows.OnPaths.{make, create_at, make_dir, open_at, link_at, unlink_at, remove_dir, change_dir, stat_at, list_at}
@@ -34,7 +36,8 @@ use Rattle.ix_model.proofs.words.Keeps.{Holds, Keeps, keeping, keeping_tests, ke
 use Rattle.ix_model.proofs.words.Living.{is_living}
 use Rattle.ix_model.proofs.words.Rowwise.{keeps_bind_frame}
 use Rattle.ix_iso.specs.Forms.{FrameFits}
-use Rattle.ix_iso.proofs.forms.Frames.{fits-bottom, fits-join, all_get, fits_object, fits_process, fits_open, fits_new_object, fits_no_object, fits_new_open, fits_no_open, fits_child, fits_collected, fits_end, fits_logged}
+use Rattle.ix_iso.proofs.forms.Frames.{fits-bottom, fits-join, all_get, fits_object, fits_process, fits_open, fits_new_object, fits_no_object}
+use Rattle.ix_iso.proofs.forms.Frames.{fits_new_open, fits_no_open, fits_child, fits_collected, fits_end, fits_logged}
 
 module _ (form : Form) where
   abbrev R : Frame → Type 0
@@ -74,7 +77,10 @@ module _ (form : Form) where
 
   fit_process : (pid : ℕ) (k : Process → Row Reply) → ((p : Process) → Fits form p.label → Fits form p.ceiling → Fitting (k p)) → Fitting (◌>>=◌ (process pid) k)
   unfolding ◌>>=◌ process
-  fit_process pid k h = record { led = λ g r. (fit_some (living (at g.processes pid)) _ k (λ p is. let here = is_living (at g.processes pid) p is in h p (r.labels pid p here) (r.ceilings pid p here))).led g r }
+  fit_process pid k h = record {
+    led = λ g r. (fit_some (living (at g.processes pid)) _ k (λ p is. let here = is_living (at g.processes pid) p is in
+        h p (r.labels pid p here) (r.ceilings pid p here))).led g r;
+  }
 
   fit_object : (o : ℕ) (k : Object → Row Reply) → ((x : Object) → Fits form x.label → Fitting (k x)) → Fitting (◌>>=◌ (object o) k)
   unfolding ◌>>=◌ object
@@ -133,7 +139,8 @@ module _ (form : Form) where
   w_object : (o : ℕ) (h : Object → Object) → ((x : Object) → Fits form x.label → Fits form (h x).label) → Keeps R (change_object o h)
   w_object = fits_object form
 
-  w_process : (p : ℕ) (h : Process → Process) → ((q : Process) → Fits form q.label → Fits form (h q).label) → ((q : Process) → Fits form q.ceiling → Fits form (h q).ceiling) → Keeps R (change_process p h)
+  w_process : (p : ℕ) (h : Process → Process) → ((q : Process) → Fits form q.label → Fits form (h q).label)
+      → ((q : Process) → Fits form q.ceiling → Fits form (h q).ceiling) → Keeps R (change_process p h)
   w_process = fits_process form
 
   w_open : (e : ℕ) (h : Open → Open) → ((x : Open) → Fits form x.label → Fits form (h x).label) → Keeps R (change_open e h)
@@ -164,7 +171,25 @@ module _ (form : Form) where
   w_logged = fits_logged form
 
   -- the tests, what is looked at, and the words that a row changes the frame by
-  ruleset wording = (keeps_bind_process, keeps_bind_frame, keeping, keeping_tests, bottom_fits, join_fits, w_object, w_process, w_open, w_new_object, w_no_object, w_new_open, w_no_open, w_child, w_collected, w_end, w_logged)
+  ruleset wording = (
+    keeps_bind_process,
+    keeps_bind_frame,
+    keeping,
+    keeping_tests,
+    bottom_fits,
+    join_fits,
+    w_object,
+    w_process,
+    w_open,
+    w_new_object,
+    w_no_object,
+    w_new_open,
+    w_no_open,
+    w_child,
+    w_collected,
+    w_end,
+    w_logged,
+  )
 
   -- ---- parts of rows
   k_observe : (pid : ℕ) (seen : Categories) → Fits form seen → Keeps R (observe pid seen)
@@ -191,11 +216,15 @@ module _ (form : Form) where
       lacked [] = bottom_fits
       lacked (m ∷ ms) = bottom_fits
 
-      next : ((o : ℕ) → Fits form (join_all (walk_from f.objects o (Some n) names).looked)) → (o : Option ℕ) → Fits form (join_all (option_map_or (λ o. walk_from f.objects o (Some n) names) o (lacking n names)).looked)
+      next : ((o : ℕ) → Fits form (join_all (walk_from f.objects o (Some n) names).looked)) → (o : Option ℕ)
+          → Fits form (join_all (option_map_or (λ o. walk_from f.objects o (Some n) names) o (lacking n names)).looked)
       next further None = lacked names
       next further (Some o) = further o
 
-      into : ((o : ℕ) → Fits form (join_all (walk_from f.objects o (Some n) names).looked)) → (b : Bool) → Fits form (join_all (if b then looking_into (node f.objects n) (option_map_or (λ o. walk_from f.objects o (Some n) names) (child (node f.objects n) name) (lacking n names)) else record { outcome = NotDir; looked = [] }).looked)
+      into : ((o : ℕ) → Fits form (join_all (walk_from f.objects o (Some n) names).looked)) → (b : Bool)
+          → Fits form (join_all (if b then
+          looking_into (node f.objects n) (option_map_or (λ o. walk_from f.objects o (Some n) names) (child (node f.objects n) name) (lacking n names)) else
+          record { outcome = NotDir; looked = [] }).looked)
       into further true = join_fits _ _ (node_fits f n r) (next further (child (node f.objects n) name))
       into further false = bottom_fits
 
@@ -257,7 +286,25 @@ module _ (form : Form) where
   k_let_go_all pid = k_let_go_each pid (range_with_len 0 32)
 
   -- ---- the rows
-  ruleset rows = (fit_process, fit_object, fit_record, fit_frame, fit_opened, fit_line, fit_bind, fit_then, fit_pass, wording, k_observe, k_affect, k_found, k_found_in, k_missing, k_walked_to, k_float_entry)
+  ruleset rows = (
+    fit_process,
+    fit_object,
+    fit_record,
+    fit_frame,
+    fit_opened,
+    fit_line,
+    fit_bind,
+    fit_then,
+    fit_pass,
+    wording,
+    k_observe,
+    k_affect,
+    k_found,
+    k_found_in,
+    k_missing,
+    k_walked_to,
+    k_float_entry,
+  )
 
   fit_make : (pid : ℕ) (path : PathOf) (k : Kind) → Fitting (make pid path k)
   unfolding make

@@ -119,9 +119,11 @@ module _ (form : Form) where
   -- ---- a run
   pub run_fits : (w : World) (place : ℕ) (events : List Event) → EventsFit form events → FrameFits form w.frame → FrameFits form (run w place events).frame
   run_fits w place [] calls h = h
-  run_fits w place (e ∷ events) calls h = run_fits (step_of w place e).world (suc place) events (All-tail (λ (e : Event). CallFits form e.op) e events calls) (step_fits w place e.pid e.op (calls 0 e (omega arith)) h)
+  run_fits w place (e ∷ events) calls h = run_fits (step_of w place e).world (suc place) events (All-tail (λ (e : Event). CallFits form e.op) e events calls)
+      (step_fits w place e.pid e.op (calls 0 e (omega arith)) h)
 
-  pub given_fits : (w : World) (place : ℕ) (events : List Event) → EventsFit form events → FrameFits form w.frame → (n : ℕ) (e : Event) → slice_get events n ≡ Some e → ReplyFits form (given_after w place events n e).reply
+  pub given_fits : (w : World) (place : ℕ) (events : List Event) → EventsFit form events → FrameFits form w.frame → (n : ℕ) (e : Event)
+      → slice_get events n ≡ Some e → ReplyFits form (given_after w place events n e).reply
   given_fits w place events calls h n e is =
       let Fitting : Event → Type 0 = λ e. CallFits form e.op in
       step_reply_fits (run w place (take n events)) _ e.pid e.op (all_get Fitting events n e calls is) (run_fits w place (take n events) (All-take Fitting n events calls) h)
@@ -155,7 +157,10 @@ module _ (form : Form) where
 
   bare_fits : (k : ℕ) (fss : List FsSpec) → AllAt Labelled (bare k fss)
   bare_fits k [] n y here = cc
-  bare_fits k (s ∷ fss) n y here = at_append Labelled (Some (root_of k) ∷ replicate (s.inodes - 1) None) (bare (suc k) fss) (at_append Labelled (Some (root_of k) ∷ []) (replicate (s.inodes - 1) None) (at_one Labelled (root_of k) (fits-bottom form)) (at_free Labelled (s.inodes - 1))) (bare_fits (suc k) fss) n y here
+  bare_fits k (s ∷ fss) n y here =
+      at_append Labelled (Some (root_of k) ∷ replicate (s.inodes - 1) None) (bare (suc k) fss)
+      (at_append Labelled (Some (root_of k) ∷ []) (replicate (s.inodes - 1) None) (at_one Labelled (root_of k) (fits-bottom form))
+      (at_free Labelled (s.inodes - 1))) (bare_fits (suc k) fss) n y here
 
   bare_world_fits : (c : Config) → ConfigFits form c → FrameFits form (bare_world c).frame
   unfolding bare_objects
@@ -182,13 +187,16 @@ module _ (form : Form) where
   unfolding with_object
   with_object_fits w spec label h = go (free_inode w.frame _)
     where
-      go : (o : Option ℕ) → FrameFits form (option_map_or (placed w spec (directory_of w.frame.objects 0 spec.path.names) (unwrap_or (node w.frame.objects (directory_of w.frame.objects 0 spec.path.names)).fs 0)) o w).frame
+      go : (o : Option ℕ) → FrameFits form
+          (option_map_or (placed w spec (directory_of w.frame.objects 0 spec.path.names)
+          (unwrap_or (node w.frame.objects (directory_of w.frame.objects 0 spec.path.names)).fs 0)) o w).frame
       go None = h
       go (Some o) = placed_fits w spec _ _ o label h
 
   with_objects_fits : (w : World) (specs : List ObjSpec) → All (λ (x : ObjSpec). Fits form x.label) specs → FrameFits form w.frame → FrameFits form (with_objects w specs).frame
   with_objects_fits w [] labels h = h
-  with_objects_fits w (spec ∷ specs) labels h = with_objects_fits (with_object w spec) specs (All-tail (λ (x : ObjSpec). Fits form x.label) spec specs labels) (with_object_fits w spec (labels 0 spec (omega arith)) h)
+  with_objects_fits w (spec ∷ specs) labels h = with_objects_fits (with_object w spec) specs (All-tail (λ (x : ObjSpec). Fits form x.label) spec specs labels)
+      (with_object_fits w spec (labels 0 spec (omega arith)) h)
 
   pub opening_fits : (c : Config) → ConfigFits form c → FrameFits form (opening_world c).frame
   unfolding opening_world

@@ -1,5 +1,6 @@
 -- A list, as it is gone through by index.
-use Rattle.std.proofs.Common.{◌≡◌, unwrap_or, slice_index_or, ℕ, ◌+◌, ◌-◌, ◌<◌, ◌≤◌, ◌==◌, List, [], ◌∷◌, length, drop, Option, Some, None, refl, sym, ap, ◌∙◌, arith, slice_get, add-one, false, inl, inr, if◌then◌else◌}
+use Rattle.std.proofs.Common.{◌≡◌, unwrap_or, slice_index_or, ℕ, ◌+◌, ◌-◌, ◌<◌, ◌≤◌, ◌==◌, List, [], ◌∷◌, length, drop, Option, Some, None, refl, sym}
+use Rattle.std.proofs.Common.{ap, ◌∙◌, arith, slice_get, add-one, false, inl, inr, if◌then◌else◌}
 use Rattle.std.specs.Prelude.{IfSome}
 use Rattle.std.specs.Option.{option_map}
 use Rattle.std.proofs.Math.Seq.{drop-cons}

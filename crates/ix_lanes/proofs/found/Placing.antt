@@ -22,7 +22,8 @@ get-filled {X} (e ∷ es) q = go (get-filled es q) e.1
       | Some x ↦ insert (filled es) e.0 x
     ]) q ≡ option_flatten (cond (eq_by_cmp by_bytes q e.0) (Some o) (find by_bytes q es))
     go more None = get-remove nat_list_cmp_total (filled es) e.0 q ∙ ap (cond (eq_by_cmp by_bytes q e.0) None) more ∙ sym (flatten-cond (eq_by_cmp by_bytes q e.0) None (find by_bytes q es))
-    go more (Some x) = get-insert nat_list_cmp_total (filled es) e.0 x q ∙ ap (cond (eq_by_cmp by_bytes q e.0) (Some x)) more ∙ sym (flatten-cond (eq_by_cmp by_bytes q e.0) (Some x) (find by_bytes q es))
+    go more (Some x) = get-insert nat_list_cmp_total (filled es) e.0 x q ∙ ap (cond (eq_by_cmp by_bytes q e.0) (Some x)) more
+        ∙ sym (flatten-cond (eq_by_cmp by_bytes q e.0) (Some x) (find by_bytes q es))
 
 pub get-given : {X : Type 0} (m : ByName (Option X)) (q : List ℕ) → get (given m) q ≡ option_flatten (get m q)
 unfolding given

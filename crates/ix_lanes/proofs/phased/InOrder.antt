@@ -1,5 +1,7 @@
 -- A serial run that asks for one call at a time: the entries that are left, line by line and call by call.
-use Rattle.std.proofs.Common.{◌≡◌, ◌≢◌, ℕ, suc, ◌+◌, ◌<◌, ◌≤◌, Bool, true, false, true≢false, List, [], ◌∷◌, length, map, take, drop, set, Option, Some, None, IfSome, is_some, option_map, refl, sym, ap, ◌∙◌, subst, arith, slice_get, slice_index_or, length-set, get_or-set_same, get_or-set_other, ⊎_elim}
+use Rattle.std.proofs.Common.{◌≡◌, ◌≢◌, ℕ, suc, ◌+◌, ◌<◌, ◌≤◌, Bool, true, false, true≢false, List, [], ◌∷◌, length, map, take, drop, set, Option}
+use Rattle.std.proofs.Common.{Some, None, IfSome, is_some, option_map, refl, sym, ap, ◌∙◌, subst, arith, slice_get, slice_index_or, length-set}
+use Rattle.std.proofs.Common.{get_or-set_same, get_or-set_other, ⊎_elim}
 use Rattle.std.specs.List.{fold}
 use Rattle.std.specs.Option.{option_map_or}
 use Rattle.std.proofs.Math.Seq.{drop-cons}
@@ -260,7 +262,8 @@ module _ (s : List Line) (names : List Names) (i : ℕ) (seat : Option ℕ) (k :
   -- and is done
   pub line_done : (a : Answered) (g : Handed) → heard (line_left here k) a ≡ asking.Done g
       → (w : World) (place : ℕ) (e : Event) → next_entry here ≡ Some e → answered (step_of w place e) ≡ a
-      → entries_left here w place ≡ e ∷ serial_from s (step_of w place e).world (place + 1) (renamed names k (line_in s i) g) (seat_after (lanes_of s) (Some k) (line_in s i)) (suc (i + 1)) (drop (i + 1) s)
+      → entries_left here w place ≡ e ∷ serial_from s (step_of w place e).world (place + 1) (renamed names k (line_in s i) g)
+      (seat_after (lanes_of s) (Some k) (line_in s i)) (suc (i + 1)) (drop (i + 1) s)
   line_done a g done w place e next told = line_goes a (asking.Done g) done w place e next told
 
 -- the lane of a line that a call stands next in

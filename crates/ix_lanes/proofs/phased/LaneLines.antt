@@ -25,7 +25,8 @@ lane-append lanes seat n at (l ∷ xs) ys = go (lane-append lanes seat (suc n) (
     further m = lines_of_seat lanes seat (suc n) (seat_after lanes at l) xs ++ lines_of_seat lanes seat m (fold (seat_after lanes) (seat_after lanes at l) xs) ys
 
     go : lines_of_seat lanes seat (suc n) (seat_after lanes at l) (xs ++ ys) ≡ further (n + suc (length xs)) → (b : Bool) → is_seat seat at ≡ b
-        → lines_of_seat lanes seat n at (l ∷ (xs ++ ys)) ≡ lines_of_seat lanes seat n at (l ∷ xs) ++ lines_of_seat lanes seat (n + suc (length xs)) (fold (seat_after lanes) (seat_after lanes at l) xs) ys
+        → lines_of_seat lanes seat n at (l ∷ (xs ++ ys)) ≡ lines_of_seat lanes seat n at (l ∷ xs)
+        ++ lines_of_seat lanes seat (n + suc (length xs)) (fold (seat_after lanes) (seat_after lanes at l) xs) ys
     go later true is = rw is (ap (λ ls. (record { number = n; said = l }) ∷ ls) later)
     go later false is = rw is later
 

@@ -1,5 +1,6 @@
 -- What is left of what a line, and a lane, asks for, as calls are answered.
-use Rattle.std.proofs.Common.{◌≡◌, ℕ, ◌+◌, ◌-◌, ◌≤◌, ◌<◌, Bool, true, false, List, [], ◌∷◌, ◌++◌, length, take, Option, Some, None, refl, sym, ap, ◌∙◌, subst, arith, slice_get, cond, count_by, ◌⊎◌, ⊎_elim, true≢false}
+use Rattle.std.proofs.Common.{◌≡◌, ℕ, ◌+◌, ◌-◌, ◌≤◌, ◌<◌, Bool, true, false, List, [], ◌∷◌, ◌++◌, length, take, Option, Some, None, refl, sym, ap}
+use Rattle.std.proofs.Common.{◌∙◌, subst, arith, slice_get, cond, count_by, ◌⊎◌, ⊎_elim, true≢false}
 use Rattle.std.proofs.lemmas.List.Sums.{sum_by-append}
 use Rattle.ix_policy.specs.declared.rule.Rule.{Rule}
 use Rattle.ix_asking.specs.Asking.{Answered, Asked, Asking, Ask, IsDue, Next, Came, Due, came_as, first, followed, heard, mapped}
@@ -225,7 +226,8 @@ pub numbered_on : {R : Type 0} (n : ℕ) (p : Asking R) (a : Answered) → AllOf
 numbered_on n (asking.Done r) a all = tt
 numbered_on n (Ask x later) a all = all.1 a
 
-module _ (s : List Line) (seat end at : ℕ) (in_lane : Option ℕ) (begun : ℕ) (names : Names) (l : Line) (buf : List ℕ) (c : Copying) (p : Part) (h : IsHere s seat end at in_lane begun names l buf c p) where
+module _ (s : List Line) (seat end at : ℕ) (in_lane : Option ℕ) (begun : ℕ) (names : Names) (l : Line) (buf : List ℕ) (c : Copying) (p : Part)
+    (h : IsHere s seat end at in_lane begun names l buf c p) where
   -- the line is that of the script
   pub line_left : left_from s seat end at names (line_in s at) c p ≡ left_from s seat end at names l c p
   line_left = go (is_over p) refl

@@ -1,5 +1,6 @@
 -- The lines of a script, by its phases.
-use Rattle.std.proofs.Common.{◌≡◌, ℕ, zero, suc, ◌+◌, ◌≤◌, ◌<◌, max, Bool, true, false, cond, List, [], ◌∷◌, ◌++◌, length, take, drop, Some, refl, sym, ap, ◌∙◌, arith, slice_get, append_assoc, append-nil, length-append, count_by, if◌then◌else◌}
+use Rattle.std.proofs.Common.{◌≡◌, ℕ, zero, suc, ◌+◌, ◌≤◌, ◌<◌, max, Bool, true, false, cond, List, [], ◌∷◌, ◌++◌, length, take, drop, Some, refl}
+use Rattle.std.proofs.Common.{sym, ap, ◌∙◌, arith, slice_get, append_assoc, append-nil, length-append, count_by, if◌then◌else◌}
 use Rattle.std.proofs.lemmas.List.Sums.{count_by-le-length, sum_by-cons}
 use Rattle.std.proofs.lemmas.List.{length-take, length-take-le, drop_all}
 use Rattle.std.proofs.lemmas.Option.{slice_get_within}

@@ -39,7 +39,8 @@ module _ (s : List Line) (lane k : ℕ) where
       ∙ ap (λ ls. lines_ask (rules_told s) (header_of s) no_names (lines_of_seat (lanes_of s) lane 1 None ls ++ lane_between s lane i j)) (sym (before-taken s k))
       ∙ asks_append (rules_told s) (header_of s) (lane_before s lane k) (lane_between s lane i j) no_names
 
-  module _ (names : Names) (made more : List Made) (h : StandsFor (record { script = s; lane = lane; done = k; between = true; names = names }) made) (asked : AsAsked lane (next_asks s lane k names) more) where
+  module _ (names : Names) (made more : List Made) (h : StandsFor (record { script = s; lane = lane; done = k; between = true; names = names }) made)
+      (asked : AsAsked lane (next_asks s lane k names) more) where
     left : all_heard (asks_before s lane (suc k)) (answers_of made) ≡ next_asks s lane k names
     left = ap (λ p. all_heard p (answers_of made)) phase_asks ∙ heard_followed (next_asks s lane k) lane (asks_before s lane k) made names h.asked h.came
 
@@ -52,11 +53,17 @@ module _ (s : List Line) (lane k : ℕ) where
     next_both : next (asks_before s lane (suc k)) (answers_of (made ++ more)) ≡ next (next_asks s lane k names) (answers_of more)
     next_both = ap first (heard_after (asks_before s lane (suc k)) made more ∙ ap (λ p. all_heard p (answers_of more)) left)
 
-    pub stands_next : (after : Names) → next (next_asks s lane k names) (answers_of more) ≡ Came after → StandsFor (record { script = s; lane = lane; done = suc k; between = true; names = after }) (made ++ more)
+    pub stands_next : (after : Names) → next (next_asks s lane k names) (answers_of more) ≡ Came after
+        → StandsFor (record { script = s; lane = lane; done = suc k; between = true; names = after }) (made ++ more)
     stands_next after is = record { between = refl; asked = asked_both; came = next_both ∙ is }
 
-    pub cut_next : (stop : Stop) → StopsAt (next (next_asks s lane k names) (answers_of more)) stop → CutOff (record { script = s; lane = lane; done = k; between = true; names = names }) (made ++ more) (answer_at stop)
-    cut_next stop is = record { asked = asked_both; stopped = subst (λ (n : Next Names). IsStoppedBy n (answer_at stop)) (sym next_both) (stopped_by (next (next_asks s lane k names) (answers_of more)) stop is) }
+    pub cut_next : (stop : Stop) → StopsAt (next (next_asks s lane k names) (answers_of more)) stop
+        → CutOff (record { script = s; lane = lane; done = k; between = true; names = names }) (made ++ more) (answer_at stop)
+    cut_next stop is = record {
+      asked = asked_both;
+      stopped =
+          subst (λ (n : Next Names). IsStoppedBy n (answer_at stop)) (sym next_both) (stopped_by (next (next_asks s lane k names) (answers_of more)) stop is);
+    }
       where
         stopped_by : (n : Next Names) (stop : Stop) → StopsAt n stop → IsStoppedBy n (answer_at stop)
         stopped_by (Came r) stop h = absurd h

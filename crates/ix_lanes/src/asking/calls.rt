@@ -6,8 +6,8 @@ ghost use Rattle.ix_script.specs.lines.Before.{listed, listed_two};
 ghost use Rattle.ix_lanes.specs.asking.Places.{given, has_all, has_places, KeepsNames, KeepsPlaces, standing};
 ghost use Rattle.ix_asking.specs.Runs.{entry_of};
 
-use crate::asking::handed::Handed;
 use crate::asking::bindings::Bindings;
+use crate::asking::handed::Handed;
 use crate::asking::places::Places;
 use ix_model::{Buf, Call, Entry};
 use ix_script::{Line, NameWord};

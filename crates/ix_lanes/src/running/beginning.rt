@@ -6,8 +6,8 @@ ghost use Rattle.ix_lanes.specs.asking.Places.{standing};
 ghost use Rattle.ix_lanes.specs.running.Left.{Holds, IsPending, is_over, part_left, part_most};
 ghost use Rattle.ix_script.specs.lines.Before.{is_phase};
 
-use crate::asking::calls::put_written;
 use crate::asking::bindings::Bindings;
+use crate::asking::calls::put_written;
 use crate::asking::places::Places;
 use crate::running::part::Part;
 use ix_asking::Copying;

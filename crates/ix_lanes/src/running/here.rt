@@ -12,9 +12,9 @@ ghost use Rattle.ix_lanes.specs.running.Fields.{all_placed};
 ghost use Rattle.ix_lanes.specs.running.Left.{IsHere, left_from, part_most};
 ghost use Rattle.ix_lanes.specs.running.Phases.{lane_among, lane_between, seat_at};
 
+use crate::asking::bindings::Bindings;
 use crate::asking::calls::bind;
 use crate::asking::handed::Handed;
-use crate::asking::bindings::Bindings;
 use crate::asking::places::Places;
 use crate::lanes::seat_past;
 use crate::lines::{line_at, role_at};

@@ -8,8 +8,8 @@ ghost use Rattle.ix_lanes.specs.asking.Ruled.{rules_told};
 ghost use Rattle.ix_lanes.specs.running.Fields.{all_placed};
 ghost use Rattle.ix_lanes.specs.running.Phases.{lane_among, seat_at};
 
-use crate::asking::calls::{bind, call_of};
 use crate::asking::bindings::Bindings;
+use crate::asking::calls::{bind, call_of};
 use crate::asking::places::Places;
 use crate::lanes::{header_of, seat_past};
 use crate::lines::{line_at, role_at};

@@ -14,9 +14,9 @@ ghost use Rattle.ix_lanes.specs.running.Left.{part_most};
 ghost use Rattle.ix_lanes.specs.running.Phases.{seat_at};
 ghost use Rattle.ix_lanes.specs.running.Serially.{ArePlaced, IsWithin, LeavesLines, entry_next};
 
+use crate::asking::bindings::Bindings;
 use crate::asking::calls::{bind, call_of};
 use crate::asking::handed::Handed;
-use crate::asking::bindings::Bindings;
 use crate::asking::places::Places;
 use crate::lanes::{header_of, seat_past};
 use crate::lines::{line_at, role_at};

@@ -30,7 +30,8 @@ keep_all d p xs same = same_lists _ _ (length-keep d p 0 xs) (λ k e h.
     let within : k < length xs = omega (arith, length-keep d p 0 xs) in
     get_or_default _ k e d h ∙ get_or-keep d p 0 xs k ∙ ap (λ m. if p m then get_or xs k d else d) (omega arith) ∙ same k ∙ get_or_default xs k d e within)
 
-keep_lasting : {A B : Type 0} (d : A) (t u : List (Option B)) (xs : List A) → Lasting t u → ((n : ℕ) → is_some (at t n) ≡ false → get_or xs n d ≡ d) → keep d (λ n. is_some (at t n) && is_some (at u n)) 0 xs ≡ xs
+keep_lasting : {A B : Type 0} (d : A) (t u : List (Option B)) (xs : List A) → Lasting t u → ((n : ℕ) → is_some (at t n) ≡ false → get_or xs n d ≡ d)
+    → keep d (λ n. is_some (at t n) && is_some (at u n)) 0 xs ≡ xs
 keep_lasting d t u xs lasting clean = keep_all d _ xs (λ n. go n (is_some (at t n)) refl)
   where
     go : (n : ℕ) (a : Bool) → is_some (at t n) ≡ a → (if a && is_some (at u n) then get_or xs n d else d) ≡ get_or xs n d
@@ -40,23 +41,28 @@ keep_lasting d t u xs lasting clean = keep_all d _ xs (λ n. go n (is_some (at t
 grown_same : (n : ℕ) (xs : List ℕ) → length xs ≡ n → grown n xs ≡ xs
 grown_same n xs h = let e : n - length xs ≡ 0 = omega (arith, h) in rw e (append-nil xs)
 
-keep_ended : (t u : List (Option Process)) (xs : List ℕ) → Ended t u → ((n : ℕ) → is_ended (at t n) ≡ false → get_or xs n 0 ≡ 0) → length xs ≡ length t → keep 0 (λ n. is_ended (at t n) && is_ended (at u n)) 0 (grown (length u) xs) ≡ xs
-keep_ended t u xs ended clean long = ap (keep 0 (λ n. is_ended (at t n) && is_ended (at u n)) 0) (grown_same (length u) xs (long ∙ sym ended.count)) ∙ keep_all 0 _ xs (λ n. go n (is_ended (at t n)) refl)
+keep_ended : (t u : List (Option Process)) (xs : List ℕ) → Ended t u → ((n : ℕ) → is_ended (at t n) ≡ false → get_or xs n 0 ≡ 0) → length xs ≡ length t
+    → keep 0 (λ n. is_ended (at t n) && is_ended (at u n)) 0 (grown (length u) xs) ≡ xs
+keep_ended t u xs ended clean long = ap (keep 0 (λ n. is_ended (at t n) && is_ended (at u n)) 0) (grown_same (length u) xs (long ∙ sym ended.count))
+    ∙ keep_all 0 _ xs (λ n. go n (is_ended (at t n)) refl)
   where
     go : (n : ℕ) (a : Bool) → is_ended (at t n) ≡ a → (if a && is_ended (at u n) then get_or xs n 0 else 0) ≡ get_or xs n 0
     go n false h = sym (clean n h)
     go n true h = rw (ended.stays n h) refl
 
-contents : {h1 h2 : List Holding} {p1 p2 s1 s2 : List ℕ} → h1 ≡ h2 → p1 ≡ p2 → s1 ≡ s2 → ◌≡◌ {A = Content} (record { holdings = h1; offsets = p1; statuses = s1 }) (record { holdings = h2; offsets = p2; statuses = s2 })
+contents : {h1 h2 : List Holding} {p1 p2 s1 s2 : List ℕ} → h1 ≡ h2 → p1 ≡ p2 → s1 ≡ s2
+    → ◌≡◌ {A = Content} (record { holdings = h1; offsets = p1; statuses = s1 }) (record { holdings = h2; offsets = p2; statuses = s2 })
 contents h p s = λ i. record { holdings = h i; offsets = p i; statuses = s i }
 
 pub carried_same : (w : World) (g : Frame) → Lasts w.frame g → IsClean w → carried w.frame g w.content ≡ w.content
 unfolding carried
 carried_same w g lasts clean =
     let f = w.frame in let c = w.content in
-    let h : keep holds_nothing (λ o. is_some (at f.objects o) && is_some (at g.objects o)) 0 c.holdings ≡ c.holdings = keep_lasting holds_nothing f.objects g.objects c.holdings lasts.objects clean.holdings in
+    let h : keep holds_nothing (λ o. is_some (at f.objects o) && is_some (at g.objects o)) 0 c.holdings ≡ c.holdings =
+    keep_lasting holds_nothing f.objects g.objects c.holdings lasts.objects clean.holdings in
     let p : keep 0 (λ o. is_some (at f.opens o) && is_some (at g.opens o)) 0 c.offsets ≡ c.offsets = keep_lasting 0 f.opens g.opens c.offsets lasts.opens clean.offsets in
-    let s : keep 0 (λ p. is_ended (at f.processes p) && is_ended (at g.processes p)) 0 (grown (length g.processes) c.statuses) ≡ c.statuses = keep_ended f.processes g.processes c.statuses lasts.processes clean.statuses clean.count in
+    let s : keep 0 (λ p. is_ended (at f.processes p) && is_ended (at g.processes p)) 0 (grown (length g.processes) c.statuses) ≡ c.statuses =
+    keep_ended f.processes g.processes c.statuses lasts.processes clean.statuses clean.count in
     contents h p s
 
 pub carried_decided : (w : World) (t : LengthChecks) (place pid : ℕ) (c : Op) → lets_nothing_go c ≡ true → IsClean w → carried w.frame (verdict t place pid c w.frame).frame w.content ≡ w.content

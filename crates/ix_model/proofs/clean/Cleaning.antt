@@ -1,5 +1,6 @@
 -- A step leaves a clean world.
-use Rattle.std.proofs.Common.{ℕ, zero, suc, ◌+◌, ◌-◌, ◌≡◌, ◌≢◌, ◌≤◌, ◌&&◌, Bool, true, false, not, List, [], ◌∷◌, nat_le, length, Option, Some, None, is_some, refl, sym, ap, subst, ◌∙◌, arith, get_or, set, if◌then◌else◌, length-append, length-set}
+use Rattle.std.proofs.Common.{ℕ, zero, suc, ◌+◌, ◌-◌, ◌≡◌, ◌≢◌, ◌≤◌, ◌&&◌, Bool, true, false, not, List, [], ◌∷◌, nat_le, length, Option, Some, None}
+use Rattle.std.proofs.Common.{is_some, refl, sym, ap, subst, ◌∙◌, arith, get_or, set, if◌then◌else◌, length-append, length-set}
 use Rattle.std.specs.Option.{option_map_or}
 use Rattle.std.proofs.lemmas.List.{get_or-set_other, length-replicate}
 use Rattle.ix_model.specs.world.World.{Frame, Content, World, Object, Holding, at, is_ended, is_pipe}
@@ -37,26 +38,39 @@ clean_carried w g grows clean =
     let f = w.frame in let c = w.content in
     let long : length c.statuses ≤ length g.processes = omega (arith, clean.count, grows) in
     record {
-      holdings = λ o gone. get_or-keep holds_nothing (λ n. is_some (at f.objects n) && is_some (at g.objects n)) 0 c.holdings o ∙ dropped holds_nothing (is_some (at f.objects (0 + o))) (is_some (at g.objects (0 + o))) _ (ap (λ n. is_some (at g.objects n)) (omega arith) ∙ gone);
-      offsets = λ o gone. get_or-keep 0 (λ n. is_some (at f.opens n) && is_some (at g.opens n)) 0 c.offsets o ∙ dropped 0 (is_some (at f.opens (0 + o))) (is_some (at g.opens (0 + o))) _ (ap (λ n. is_some (at g.opens n)) (omega arith) ∙ gone);
-      statuses = λ o gone. get_or-keep 0 (λ n. is_ended (at f.processes n) && is_ended (at g.processes n)) 0 (grown (length g.processes) c.statuses) o ∙ dropped 0 (is_ended (at f.processes (0 + o))) (is_ended (at g.processes (0 + o))) _ (ap (λ n. is_ended (at g.processes n)) (omega arith) ∙ gone);
+      holdings = λ o gone. get_or-keep holds_nothing (λ n. is_some (at f.objects n) && is_some (at g.objects n)) 0 c.holdings o
+          ∙ dropped holds_nothing (is_some (at f.objects (0 + o))) (is_some (at g.objects (0 + o))) _ (ap (λ n. is_some (at g.objects n)) (omega arith) ∙ gone);
+      offsets = λ o gone. get_or-keep 0 (λ n. is_some (at f.opens n) && is_some (at g.opens n)) 0 c.offsets o
+          ∙ dropped 0 (is_some (at f.opens (0 + o))) (is_some (at g.opens (0 + o))) _ (ap (λ n. is_some (at g.opens n)) (omega arith) ∙ gone);
+      statuses = λ o gone. get_or-keep 0 (λ n. is_ended (at f.processes n) && is_ended (at g.processes n)) 0 (grown (length g.processes) c.statuses) o
+          ∙ dropped 0 (is_ended (at f.processes (0 + o))) (is_ended (at g.processes (0 + o))) _ (ap (λ n. is_ended (at g.processes n)) (omega arith) ∙ gone);
       count = length-keep 0 _ 0 (grown (length g.processes) c.statuses) ∙ length-append c.statuses _ ∙ omega (arith, long, length-replicate {A = ℕ} (length g.processes - length c.statuses) 0);
     }
 
 -- ---- what a read or a write edits stands
 -- a list edited at a number at which something stands
-edited_clean : {A B : Type 0} (d : A) (t : List (Option B)) (xs : List A) (n : ℕ) (x : A) → is_some (at t n) ≡ true → ((m : ℕ) → is_some (at t m) ≡ false → get_or xs m d ≡ d) → (m : ℕ) → is_some (at t m) ≡ false → get_or (set xs n x) m d ≡ d
+edited_clean : {A B : Type 0} (d : A) (t : List (Option B)) (xs : List A) (n : ℕ) (x : A) → is_some (at t n) ≡ true
+    → ((m : ℕ) → is_some (at t m) ≡ false → get_or xs m d ≡ d) → (m : ℕ) → is_some (at t m) ≡ false → get_or (set xs n x) m d ≡ d
 edited_clean d t xs n x stands clean m gone =
     let ne : m ≢ n = λ e. let h : is_some (at t m) ≡ is_some (at t n) = ap (λ k. is_some (at t k)) e in cc in
     get_or-set_other xs n m x d ne ∙ clean m gone
 
-clean_holding : (g : Frame) (c : Content) (o : ℕ) (h : Holding) → is_some (at g.objects o) ≡ true → IsClean (record { frame = g; content = c }) → IsClean (record { frame = g; content = record c { holdings = set c.holdings o h } })
-clean_holding g c o h stands clean = record { holdings = edited_clean holds_nothing g.objects c.holdings o h stands clean.holdings; offsets = clean.offsets; statuses = clean.statuses; count = clean.count }
+clean_holding : (g : Frame) (c : Content) (o : ℕ) (h : Holding) → is_some (at g.objects o) ≡ true → IsClean (record { frame = g; content = c })
+    → IsClean (record { frame = g; content = record c { holdings = set c.holdings o h } })
+clean_holding g c o h stands clean = record {
+  holdings = edited_clean holds_nothing g.objects c.holdings o h stands clean.holdings;
+  offsets =
+      clean.offsets;
+  statuses = clean.statuses;
+  count = clean.count;
+}
 
-clean_offset : (g : Frame) (c : Content) (e k : ℕ) → is_some (at g.opens e) ≡ true → IsClean (record { frame = g; content = c }) → IsClean (record { frame = g; content = record c { offsets = set c.offsets e k } })
+clean_offset : (g : Frame) (c : Content) (e k : ℕ) → is_some (at g.opens e) ≡ true → IsClean (record { frame = g; content = c })
+    → IsClean (record { frame = g; content = record c { offsets = set c.offsets e k } })
 clean_offset g c e k stands clean = record { holdings = clean.holdings; offsets = edited_clean 0 g.opens c.offsets e k stands clean.offsets; statuses = clean.statuses; count = clean.count }
 
-clean_status : (g : Frame) (c : Content) (p k : ℕ) → is_ended (at g.processes p) ≡ true → IsClean (record { frame = g; content = c }) → IsClean (record { frame = g; content = record c { statuses = set c.statuses p k } })
+clean_status : (g : Frame) (c : Content) (p k : ℕ) → is_ended (at g.processes p) ≡ true → IsClean (record { frame = g; content = c })
+    → IsClean (record { frame = g; content = record c { statuses = set c.statuses p k } })
 clean_status g c p k ended clean = record {
   holdings = clean.holdings;
   offsets = clean.offsets;
@@ -82,17 +96,21 @@ pipe_stands None h = cc
 pipe_stands (Some x) h = refl
 
 -- either content is clean
-either_clean : (g : Frame) (b : Bool) (c d : Content) → (b ≡ true → IsClean (record { frame = g; content = c })) → (b ≡ false → IsClean (record { frame = g; content = d })) → IsClean (record { frame = g; content = if b then c else d })
+either_clean : (g : Frame) (b : Bool) (c d : Content) → (b ≡ true → IsClean (record { frame = g; content = c }))
+    → (b ≡ false → IsClean (record { frame = g; content = d })) → IsClean (record { frame = g; content = if b then c else d })
 either_clean g true c d h k = h refl
 either_clean g false c d h k = k refl
 
-clean_read : (f g : Frame) (c : Content) (k : ℕ) (e : OpenFile) → Lasts f g → is_some (at f.opens e.id) ≡ true → IsClean (record { frame = g; content = c }) → IsClean (record { frame = g; content = after_read f e k c })
+clean_read : (f g : Frame) (c : Content) (k : ℕ) (e : OpenFile) → Lasts f g → is_some (at f.opens e.id) ≡ true → IsClean (record { frame = g; content = c })
+    → IsClean (record { frame = g; content = after_read f e k c })
 unfolding after_read
 clean_read f g c k e lasts stands clean = either_clean g (on_pipe f e) _ _
     (λ h. clean_holding g c e.entry.object _ (lasts.objects.stays e.entry.object (pipe_stands _ h)) clean)
     (λ h. clean_offset g c e.id _ (lasts.opens.stays e.id stands) clean)
 
-clean_write : (f g : Frame) (c : Content) (new : List ℕ) (e : OpenFile) → Lasts f g → is_some (at f.opens e.id) ≡ true → is_some (at f.objects e.entry.object) ≡ true → IsClean (record { frame = g; content = c }) → IsClean (record { frame = g; content = after_write f e new c })
+clean_write : (f g : Frame) (c : Content) (new : List ℕ) (e : OpenFile) → Lasts f g → is_some (at f.opens e.id) ≡ true
+    → is_some (at f.objects e.entry.object) ≡ true → IsClean (record { frame = g; content = c })
+    → IsClean (record { frame = g; content = after_write f e new c })
 unfolding after_write
 clean_write f g c new e lasts stands object clean =
     let there : is_some (at g.objects e.entry.object) ≡ true = lasts.objects.stays e.entry.object object in
@@ -140,48 +158,64 @@ unfolding row
 was_cut t place pid fd len f h = passed t place pid (op.CutFd fd len) f (λ r g. CutFacts t pid fd len f) (cut_ends t pid fd len f) (ap is_answer h)
 
 -- ---- the step
-read_clean : (w : World) (g : Frame) (count : ℕ) (b : Option OpenFile) (r : Reply) → length w.frame.processes ≤ length g.processes → Lasts w.frame g → IsClean w → ((e : OpenFile) → b ≡ Some e → is_some (at w.frame.opens e.id) ≡ true) → IsClean (read_answer w count b r g).world
+read_clean : (w : World) (g : Frame) (count : ℕ) (b : Option OpenFile) (r : Reply) → length w.frame.processes ≤ length g.processes → Lasts w.frame g → IsClean w
+    → ((e : OpenFile) → b ≡ Some e → is_some (at w.frame.opens e.id) ≡ true) → IsClean (read_answer w count b r g).world
 unfolding read_answer plainly
 read_clean w g count (Some e) (reply.Bytes k) grows lasts clean h = clean_read w.frame g _ _ e lasts (h e refl) (clean_carried w g grows clean)
 read_clean w g count _ _ grows lasts clean h = clean_carried w g grows clean
 
-write_clean : (w : World) (g : Frame) (new : List ℕ) (b : Option OpenFile) (r : Reply) → length w.frame.processes ≤ length g.processes → Lasts w.frame g → IsClean w → ((e : OpenFile) (k : ℕ) → b ≡ Some e → r ≡ reply.Number k → (is_some (at w.frame.opens e.id) ≡ true) × (is_some (at w.frame.objects e.entry.object) ≡ true)) → IsClean (write_answer w new b r g).world
+write_clean : (w : World) (g : Frame) (new : List ℕ) (b : Option OpenFile) (r : Reply) → length w.frame.processes ≤ length g.processes → Lasts w.frame g
+    → IsClean w → ((e : OpenFile) (k : ℕ) → b ≡ Some e → r ≡ reply.Number k → (is_some (at w.frame.opens e.id) ≡ true)
+    × (is_some (at w.frame.objects e.entry.object) ≡ true)) → IsClean (write_answer w new b r g).world
 unfolding write_answer plainly
 write_clean w g new (Some e) (reply.Number k) grows lasts clean h = clean_write w.frame g _ new e lasts (h e k refl refl).0 (h e k refl refl).1 (clean_carried w g grows clean)
 write_clean w g new _ _ grows lasts clean h = clean_carried w g grows clean
 
-cut_clean : (w : World) (g : Frame) (len : ℕ) (b : Option OpenFile) (r : Reply) → length w.frame.processes ≤ length g.processes → Lasts w.frame g → IsClean w → ((e : OpenFile) → b ≡ Some e → r ≡ reply.Done → is_some (at w.frame.objects e.entry.object) ≡ true) → IsClean (cut_answer w len b r g).world
+cut_clean : (w : World) (g : Frame) (len : ℕ) (b : Option OpenFile) (r : Reply) → length w.frame.processes ≤ length g.processes → Lasts w.frame g → IsClean w
+    → ((e : OpenFile) → b ≡ Some e → r ≡ reply.Done → is_some (at w.frame.objects e.entry.object) ≡ true) → IsClean (cut_answer w len b r g).world
 unfolding cut_answer plainly after_cut
 cut_clean w g len (Some e) reply.Done grows lasts clean h = clean_holding g _ e.entry.object _ (lasts.objects.stays e.entry.object (h e refl refl)) (clean_carried w g grows clean)
 cut_clean w g len _ _ grows lasts clean h = clean_carried w g grows clean
 
-seek_clean : (w : World) (g : Frame) (offset : ℕ) (b : Option OpenFile) (r : Reply) → length w.frame.processes ≤ length g.processes → Lasts w.frame g → IsClean w → ((e : OpenFile) → b ≡ Some e → is_some (at w.frame.opens e.id) ≡ true) → IsClean (seek_answer w offset b r g).world
+seek_clean : (w : World) (g : Frame) (offset : ℕ) (b : Option OpenFile) (r : Reply) → length w.frame.processes ≤ length g.processes → Lasts w.frame g
+    → IsClean w → ((e : OpenFile) → b ≡ Some e → is_some (at w.frame.opens e.id) ≡ true) → IsClean (seek_answer w offset b r g).world
 unfolding seek_answer plainly after_seek
 seek_clean w g offset (Some e) reply.Done grows lasts clean h = clean_offset g _ e.id offset (lasts.opens.stays e.id (h e refl)) (clean_carried w g grows clean)
 seek_clean w g offset _ _ grows lasts clean h = clean_carried w g grows clean
 
 exit_clean : (w : World) (g : Frame) (pid status : ℕ) (r : Reply) → length w.frame.processes ≤ length g.processes → IsClean w → IsClean (exit_answer w pid status r g).world
 unfolding exit_answer plainly after_exit
-exit_clean w g pid status reply.Done grows clean = either_clean g (is_ended (at g.processes pid)) _ _ (λ ended. clean_status g _ pid status ended (clean_carried w g grows clean)) (λ other. clean_carried w g grows clean)
+exit_clean w g pid status reply.Done grows clean =
+    either_clean g (is_ended (at g.processes pid)) _ _ (λ ended. clean_status g _ pid status ended (clean_carried w g grows clean))
+    (λ other. clean_carried w g grows clean)
 exit_clean w g pid status _ grows clean = clean_carried w g grows clean
 
 pex_clean : (w : World) (g : Frame) (b : Option OpenFile) (r : Reply) → length w.frame.processes ≤ length g.processes → IsClean w → IsClean (pex_answer w b r g).world
 unfolding pex_answer plainly emptied
-pex_clean w g (Some e) r grows clean = either_clean g (is_whole g e.entry.object && not (is_whole w.frame e.entry.object)) _ _ (λ whole. clean_nothing g _ e.entry.object (clean_carried w g grows clean)) (λ other. clean_carried w g grows clean)
+pex_clean w g (Some e) r grows clean =
+    either_clean g (is_whole g e.entry.object && not (is_whole w.frame e.entry.object)) _ _
+    (λ whole. clean_nothing g _ e.entry.object (clean_carried w g grows clean)) (λ other. clean_carried w g grows clean)
 pex_clean w g None r grows clean = clean_carried w g grows clean
 
 pub clean_step : (w : World) (place pid : ℕ) (c : Op) → IsClean w → IsClean (step w place pid c).world
 unfolding step answer told plainly
-clean_step w place pid (op.ReadFd fd count) clean = read_clean w _ count (behind w.frame pid fd) _ (spent_decided _ place pid (op.ReadFd fd count) w.frame).grown (lasts_decided _ place pid (op.ReadFd fd count) w.frame refl) clean (λ e is. behind_stands w.frame pid fd e is)
-clean_step w place pid (op.WriteFd fd bytes) clean = write_clean w _ bytes (behind w.frame pid fd) _ (spent_decided _ place pid (op.WriteFd fd bytes) w.frame).grown (lasts_decided _ place pid (op.WriteFd fd bytes) w.frame refl) clean (λ e k is wrote_k.
+clean_step w place pid (op.ReadFd fd count) clean =
+    read_clean w _ count (behind w.frame pid fd) _ (spent_decided _ place pid (op.ReadFd fd count) w.frame).grown
+    (lasts_decided _ place pid (op.ReadFd fd count) w.frame refl) clean (λ e is. behind_stands w.frame pid fd e is)
+clean_step w place pid (op.WriteFd fd bytes) clean =
+    write_clean w _ bytes (behind w.frame pid fd) _ (spent_decided _ place pid (op.WriteFd fd bytes) w.frame).grown
+    (lasts_decided _ place pid (op.WriteFd fd bytes) w.frame refl) clean (λ e k is wrote_k.
     let facts = wrote _ place pid fd bytes w.frame k wrote_k in
     let same : facts.entry ≡ e = let h = facts.is_entry in cc in
     (behind_stands w.frame pid fd e is, subst (λ (x : OpenFile). is_some (at w.frame.objects x.entry.object) ≡ true) same (ap is_some facts.is_object)))
-clean_step w place pid (op.CutFd fd len) clean = cut_clean w _ len (behind w.frame pid fd) _ (spent_decided _ place pid (op.CutFd fd len) w.frame).grown (lasts_decided _ place pid (op.CutFd fd len) w.frame refl) clean (λ e is done.
+clean_step w place pid (op.CutFd fd len) clean = cut_clean w _ len (behind w.frame pid fd) _ (spent_decided _ place pid (op.CutFd fd len) w.frame).grown
+    (lasts_decided _ place pid (op.CutFd fd len) w.frame refl) clean (λ e is done.
     let facts = was_cut _ place pid fd len w.frame done in
     let same : facts.entry ≡ e = let h = facts.is_entry in cc in
     subst (λ (x : OpenFile). is_some (at w.frame.objects x.entry.object) ≡ true) same (ap is_some facts.is_object))
-clean_step w place pid (op.SeekFd fd offset) clean = seek_clean w _ offset (behind w.frame pid fd) _ (spent_decided _ place pid (op.SeekFd fd offset) w.frame).grown (lasts_decided _ place pid (op.SeekFd fd offset) w.frame refl) clean (λ e is. behind_stands w.frame pid fd e is)
+clean_step w place pid (op.SeekFd fd offset) clean =
+    seek_clean w _ offset (behind w.frame pid fd) _ (spent_decided _ place pid (op.SeekFd fd offset) w.frame).grown
+    (lasts_decided _ place pid (op.SeekFd fd offset) w.frame refl) clean (λ e is. behind_stands w.frame pid fd e is)
 clean_step w place pid (op.StatAt path) clean = subst (λ (v : World). IsClean v) (sym (world_stat w _ _)) (clean_carried w _ (spent_decided _ place pid (op.StatAt path) w.frame).grown clean)
 clean_step w place pid (op.Exit status) clean = exit_clean w _ pid status _ (spent_decided _ place pid (op.Exit status) w.frame).grown clean
 clean_step w place pid op.WaitChild clean = subst (λ (v : World). IsClean v) (sym (world_wait w _ _)) (clean_carried w _ (spent_decided _ place pid op.WaitChild w.frame).grown clean)

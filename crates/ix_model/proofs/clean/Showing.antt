@@ -90,7 +90,8 @@ read_said t place pid fd count f = go (lives f pid)
     go true = settled_said pid fd count f (read_fd t pid fd count f) (read_ends t pid fd count f)
     go false = Refused
 
-read_shown : (w : World) (pid fd count : ℕ) (b : Option OpenFile) (r : Reply) (g : Frame) → behind w.frame pid fd ≡ b → Said pid fd count w.frame r → AreShown (read_answer w count b r g).reply (read_answer w count b r g).bytes
+read_shown : (w : World) (pid fd count : ℕ) (b : Option OpenFile) (r : Reply) (g : Frame) → behind w.frame pid fd ≡ b → Said pid fd count w.frame r
+    → AreShown (read_answer w count b r g).reply (read_answer w count b r g).bytes
 unfolding read_answer plainly
 read_shown w pid fd count None _ g is Refused = refl
 read_shown w pid fd count (Some e) _ g is Refused = refl
@@ -137,9 +138,13 @@ pex_shown w None r g h = h
 pub shown_step : (w : World) (place pid : ℕ) (o : Op) → AreShown (step w place pid o).reply (step w place pid o).bytes
 unfolding step answer told plainly
 shown_step w place pid (op.ReadFd fd count) = read_shown w pid fd count (behind w.frame pid fd) _ _ refl (read_said _ place pid fd count w.frame)
-shown_step w place pid (op.WriteFd fd bytes) = write_shown w bytes (behind w.frame pid fd) _ _ (decided_without _ place pid (op.WriteFd fd bytes) w.frame (relabels_row pid w.frame _ place (op.WriteFd fd bytes)))
+shown_step w place pid (op.WriteFd fd bytes) =
+    write_shown w bytes (behind w.frame pid fd) _ _ (decided_without _ place pid (op.WriteFd fd bytes) w.frame
+    (relabels_row pid w.frame _ place (op.WriteFd fd bytes)))
 shown_step w place pid (op.CutFd fd len) = cut_shown w len (behind w.frame pid fd) _ _ (decided_without _ place pid (op.CutFd fd len) w.frame (relabels_row pid w.frame _ place (op.CutFd fd len)))
-shown_step w place pid (op.SeekFd fd offset) = seek_shown w offset (behind w.frame pid fd) _ _ (decided_without _ place pid (op.SeekFd fd offset) w.frame (relabels_row pid w.frame _ place (op.SeekFd fd offset)))
+shown_step w place pid (op.SeekFd fd offset) =
+    seek_shown w offset (behind w.frame pid fd) _ _ (decided_without _ place pid (op.SeekFd fd offset) w.frame
+    (relabels_row pid w.frame _ place (op.SeekFd fd offset)))
 shown_step w place pid (op.StatAt path) = stat_shown w _ _ (decided_without _ place pid (op.StatAt path) w.frame (relabels_row pid w.frame _ place (op.StatAt path)))
 shown_step w place pid (op.Exit status) = exit_shown w pid status _ _ (decided_without _ place pid (op.Exit status) w.frame (relabels_row pid w.frame _ place (op.Exit status)))
 shown_step w place pid op.WaitChild = wait_shown w _ _ (decided_without _ place pid op.WaitChild w.frame (relabels_row pid w.frame _ place op.WaitChild))

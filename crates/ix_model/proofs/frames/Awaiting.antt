@@ -1,5 +1,6 @@
 -- Frames that are sound but for one object, which has come or is about to go; and a new object.
-use Rattle.std.proofs.Common.{◌≡◌, ◌≢◌, ◌<◌, ◌≤◌, ◌+◌, ◌==◌, ℕ, zero, suc, Bool, true, false, true≢false, not, ◌&&◌, ◌||◌, [], map, sum, length, count_by, Option, Some, None, is_none, if◌then◌else◌, refl, sym, ap, ◌∙◌, subst, arith, inl, inr, length-set}
+use Rattle.std.proofs.Common.{◌≡◌, ◌≢◌, ◌<◌, ◌≤◌, ◌+◌, ◌==◌, ℕ, zero, suc, Bool, true, false, true≢false, not, ◌&&◌, ◌||◌, [], map, sum, length}
+use Rattle.std.proofs.Common.{count_by, Option, Some, None, is_none, if◌then◌else◌, refl, sym, ap, ◌∙◌, subst, arith, inl, inr, length-set}
 use Rattle.std.specs.Option.{option_map_or}
 use Rattle.std.proofs.lemmas.Bool.Decides.{eqb_tells}
 use Rattle.std.proofs.lemmas.List.{get_or-set_other}
@@ -54,7 +55,9 @@ names_all o f n here = record {
   ];
 }
 
-pub lives_all : (o : ℕ) (f : Frame) → LivesBut o f → ((x : Object) → at f.objects o ≡ Some x → is_file x ≡ true → (not (times_named f.objects o == 0) || held f.opens o 0) ≡ true) → ((x : Object) → at f.objects o ≡ Some x → is_pipe x ≡ true → (held f.opens o 0 || held f.opens o 1) ≡ true) → LivesSound f
+pub lives_all : (o : ℕ) (f : Frame) → LivesBut o f → ((x : Object) → at f.objects o ≡ Some x → is_file x ≡ true
+    → (not (times_named f.objects o == 0) || held f.opens o 0) ≡ true) → ((x : Object) → at f.objects o ≡ Some x → is_pipe x ≡ true
+    → (held f.opens o 0 || held f.opens o 1) ≡ true) → LivesSound f
 lives_all o f l file pipe = record {
   file = λ m x is kind. elim (eqb_tells m o) [
     | inl same ↦ ap (λ k. not (times_named f.objects k == 0) || held f.opens k 0) same.1 ∙ file x (ap (at f.objects) (sym same.1) ∙ is) kind
@@ -172,7 +175,8 @@ module _ (f : Frame) (o : ℕ) (x : Object) (new : IsNew f o x) where
       | inr apart ↦ l.past m y apart.1 kind
     ];
     numbers = λ m k y is on. elim (at_put f.objects o m (Some x) y is) [
-      | inl here ↦ let e : Some x ≡ Some y = here.1 in let same : x ≡ y = cc in let low = new.number k (ap (λ z. z.fs) same ∙ on) in let at_o : m ≡ o = here.0 in (omega (arith, low.0), omega (arith, low.1))
+      | inl here ↦ let e : Some x ≡ Some y = here.1 in let same : x ≡ y = cc in let low = new.number k (ap (λ z. z.fs) same ∙ on) in
+          let at_o : m ≡ o = here.0 in (omega (arith, low.0), omega (arith, low.1))
       | inr apart ↦ l.numbers m k y apart.1 on
     ];
     opens = l.opens;
@@ -203,4 +207,13 @@ pub record Arrived (o : ℕ) (f : Frame) : Type 0 where
   pub pipe : (x : Object) → at f.objects o ≡ Some x → is_pipe x ≡ true → (held f.opens o 0 || held f.opens o 1) ≡ true
 
 pub arrived : (o : ℕ) (f : Frame) → Awaiting o f → Arrived o f → FrameSound f
-arrived o f s a = record { labels = s.labels; names = names_all o f s.names a.once; lives = lives_all o f s.lives a.file a.pipe; opens = s.opens; processes = s.processes; claims = s.claims; limits = s.limits }
+arrived o f s a = record {
+  labels = s.labels;
+  names = names_all o f s.names a.once;
+  lives = lives_all o f s.lives a.file a.pipe;
+  opens = s.opens;
+  processes =
+      s.processes;
+  claims = s.claims;
+  limits = s.limits;
+}

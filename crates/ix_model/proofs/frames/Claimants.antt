@@ -49,14 +49,19 @@ pub claims_by : (f : Frame) (pid fd : ℕ) (e : OpenFile) → IsBehind f pid fd 
 claims_by f pid fd e b =
     let o : ℕ = e.entry.object in
     let end : ℕ = e.entry.end in
-    let on : is_on e.entry.object e.entry.end (at f.opens e.id) ≡ true = ap (is_on e.entry.object e.entry.end) b.stands ∙ and_from (e.entry.object == e.entry.object) (e.entry.end == e.entry.end) (eq-eqb e.entry.object e.entry.object refl) (eq-eqb e.entry.end e.entry.end refl) in
+    let on : is_on e.entry.object e.entry.end (at f.opens e.id) ≡ true = ap (is_on e.entry.object e.entry.end) b.stands
+    ∙ and_from (e.entry.object == e.entry.object) (e.entry.end == e.entry.end) (eq-eqb e.entry.object e.entry.object refl)
+    (eq-eqb e.entry.end e.entry.end refl) in
     let some : list_any (λ d. option_map_or (λ k. is_on e.entry.object e.entry.end (at f.opens k)) d false) b.process.fds ≡ true =
-    any_by (λ d. option_map_or (λ k. is_on e.entry.object e.entry.end (at f.opens k)) d false) refl b.process.fds fd (ap (λ d. option_map_or (λ k. is_on e.entry.object e.entry.end (at f.opens k)) d false) b.descriptor ∙ on) in
+    any_by (λ d. option_map_or (λ k. is_on e.entry.object e.entry.end (at f.opens k)) d false) refl b.process.fds fd
+    (ap (λ d. option_map_or (λ k. is_on e.entry.object e.entry.end (at f.opens k)) d false) b.descriptor ∙ on) in
     ap (λ q. option_map_or (λ q. not q.ended && list_any (λ d. option_map_or (λ k. is_on e.entry.object e.entry.end (at f.opens k)) d false) q.fds) q false) (is_living _ b.process b.lives)
     ∙ and_from (not b.process.ended) _ (ap not (not_ended _ b.process b.lives)) some
 
 -- ---- other claims of one object
-pub reclaimed : (f : Frame) (o : ℕ) (h : Object → Object) → ((x : Object) → object_but (h x) ≡ object_but x) → ((x : Object) → (h x).label ≡ x.label) → ((x : Object) → (h x).fs ≡ x.fs) → ((m end p : ℕ) (x : Object) → at (change f.objects o h) m ≡ Some x → at x.claims end ≡ Some p → has_end f m end p ≡ true) → FrameSound f → FrameSound (record f { objects = change f.objects o h })
+pub reclaimed : (f : Frame) (o : ℕ) (h : Object → Object) → ((x : Object) → object_but (h x) ≡ object_but x) → ((x : Object) → (h x).label ≡ x.label)
+    → ((x : Object) → (h x).fs ≡ x.fs) → ((m end p : ℕ) (x : Object) → at (change f.objects o h) m ≡ Some x → at x.claims end ≡ Some p
+    → has_end f m end p ≡ true) → FrameSound f → FrameSound (record f { objects = change f.objects o h })
 reclaimed f o h same label fs claimants s =
     let g : Frame = record f { objects = change f.objects o h } in
     let r = floats_object f f o h same (floats_itself f) in
@@ -71,7 +76,8 @@ reclaimed f o h same label fs claimants s =
     }
 
 -- a claim more, of a claimant; or one fewer
-with_claim : (f : Frame) (o end : ℕ) (c : Option ℕ) → ((p : ℕ) → c ≡ Some p → has_end f o end p ≡ true) → FrameSound f → (m k p : ℕ) (x : Object) → at (change f.objects o (λ y. record y { claims = put y.claims end c })) m ≡ Some x → at x.claims k ≡ Some p → has_end f m k p ≡ true
+with_claim : (f : Frame) (o end : ℕ) (c : Option ℕ) → ((p : ℕ) → c ≡ Some p → has_end f o end p ≡ true) → FrameSound f → (m k p : ℕ) (x : Object)
+    → at (change f.objects o (λ y. record y { claims = put y.claims end c })) m ≡ Some x → at x.claims k ≡ Some p → has_end f m k p ≡ true
 with_claim f o end c new s m k p x is claim = elim (at_change f.objects o (λ y. record y { claims = put y.claims end c }) m x is) [
   | inl here ↦ elim (at_put here.was.claims end k c p (ap (λ y. at y.claims k) (sym here.same) ∙ claim)) [
     | inl new_one ↦ (λ i. has_end f (here.here i) (new_one.0 i) p) ∙ new p new_one.1
@@ -89,7 +95,8 @@ module _ (f : Frame) (s : FrameSound f) where
 
   -- a claim is answered from the frame as it stands
   answered : (other : Option ℕ) (Q : Reply → Frame → Type 0) → ((a : Reply) → Q a f) → Ends (claimed other f) (Refused f) Q
-  answered other Q next = ends_kept (λ g. f ≡ g) (claimed other f) (Refused f) Q ((keeps_claimed (λ g. f ≡ g) other).led f refl) (λ r g e. subst (λ (h : Frame). Follows f h) e (follows_itself f s)) (λ a g e. subst (λ (h : Frame). Q a h) e (next a))
+  answered other Q next = ends_kept (λ g. f ≡ g) (claimed other f) (Refused f) Q ((keeps_claimed (λ g. f ≡ g) other).led f refl)
+      (λ r g e. subst (λ (h : Frame). Follows f h) e (follows_itself f s)) (λ a g e. subst (λ (h : Frame). Q a h) e (next a))
 
   pub pex_ends : (pid fd : ℕ) → Ends (pex pid fd f) (Refused f) (Passed f)
   unfolding pex

@@ -1,5 +1,6 @@
 -- A frame that is a sound one but for labels and the like is sound but for labels and the log.
-use Rattle.std.proofs.Common.{◌≡◌, ◌<◌, ◌≤◌, ◌+◌, ◌==◌, ℕ, Bool, true, false, not, ◌&&◌, ◌||◌, List, map, length, sum, count_by, Option, Some, None, is_some, is_none, option_map, cond, refl, sym, ap, ◌∙◌, subst, arith}
+use Rattle.std.proofs.Common.{◌≡◌, ◌<◌, ◌≤◌, ◌+◌, ◌==◌, ℕ, Bool, true, false, not, ◌&&◌, ◌||◌, List, map, length, sum, count_by, Option, Some, None}
+use Rattle.std.proofs.Common.{is_some, is_none, option_map, cond, refl, sym, ap, ◌∙◌, subst, arith}
 use Rattle.std.specs.Option.{option_map_or}
 use Rattle.std.specs.List.{list_any}
 use Rattle.std.proofs.lemmas.List.Sums.{sum-map}
@@ -88,7 +89,8 @@ module _ (f g : Frame) (r : Floats f g) where
   }
 
   -- the working directories are as they were
-  same_cwd : ((n : ℕ) → option_map (λ (q : Process). q.cwd) (at g.processes n) ≡ option_map (λ (q : Process). q.cwd) (at f.processes n)) → (n : ℕ) (q was : Process) → at g.processes n ≡ Some q → at f.processes n ≡ Some was → q.cwd ≡ was.cwd
+  same_cwd : ((n : ℕ) → option_map (λ (q : Process). q.cwd) (at g.processes n) ≡ option_map (λ (q : Process). q.cwd) (at f.processes n))
+      → (n : ℕ) (q was : Process) → at g.processes n ≡ Some q → at f.processes n ≡ Some was → q.cwd ≡ was.cwd
   same_cwd seen n q w is is_was = let h : Some q.cwd ≡ Some w.cwd = sym (ap (option_map (λ (y : Process). y.cwd)) is) ∙ seen n ∙ ap (option_map (λ (y : Process). y.cwd)) is_was in cc
 
   -- where the working directories are directories
@@ -135,7 +137,9 @@ module _ (f g : Frame) (r : Floats f g) where
         subst (λ (fss : List FsSpec). (first_inode fss k ≤ o) × (o < first_inode fss k + (fs_at fss k).inodes)) (sym r.fss) (l.numbers o k w.was w.is_was (sym (ap (λ y. y.fs) w.same) ∙ on));
     opens = length_same open_but f.opens g.opens r.opens ∙ l.opens ∙ sym (ap (λ y. y.opens) r.limits);
     processes =
-        let e : count_by is_some g.processes ≡ count_by is_some f.processes = sym (sum-map (λ x. cond (is_some x) 1 0) g.processes) ∙ ap sum (map_same process_but (λ x. cond (is_some x) 1 0) (λ x. refl) f.processes g.processes r.processes) ∙ sum-map (λ x. cond (is_some x) 1 0) f.processes in
+        let e : count_by is_some g.processes ≡ count_by is_some f.processes = sym (sum-map (λ x. cond (is_some x) 1 0) g.processes)
+        ∙ ap sum (map_same process_but (λ x. cond (is_some x) 1 0) (λ x. refl) f.processes g.processes r.processes)
+        ∙ sum-map (λ x. cond (is_some x) 1 0) f.processes in
         let k : g.limits.procs ≡ f.limits.procs = ap (λ y. y.procs) r.limits in
         omega (arith, l.processes);
     names =
@@ -153,7 +157,8 @@ module _ (f g : Frame) (r : Floats f g) where
     file = λ o x is file. let w = was o x is in l.file o w.was w.is_was (sym (ap is_pipe w.same) ∙ file);
     pipe = λ o x is pipe. let w = was o x is in l.pipe o w.was w.is_was (sym (ap is_pipe w.same) ∙ pipe);
     blocks = λ k.
-        let e : blocks_where (lies_on g (Some k)) 0 c.holdings ≡ blocks_where (lies_on f (Some k)) 0 c.holdings = blocks_from _ _ 0 c.holdings (λ m low. seen_object (λ y. option_map_or (λ z. option_map_or (λ j. j == k) z.fs false) y false) (λ y. refl) m) in
+        let e : blocks_where (lies_on g (Some k)) 0 c.holdings ≡ blocks_where (lies_on f (Some k)) 0 c.holdings =
+        blocks_from _ _ 0 c.holdings (λ m low. seen_object (λ y. option_map_or (λ z. option_map_or (λ j. j == k) z.fs false) y false) (λ y. refl) m) in
         let b : blocks_on g (Some k) ≡ blocks_on f (Some k) = ap (λ fss. (fs_at fss k).blocks) r.fss in
         omega (arith, l.blocks k);
   }

@@ -35,7 +35,20 @@ pub measured_of : (g : Frame) (c : Content) → FrameSound g → LengthsSound (r
 measured_of g c s lengths = record { frame = s; lengths = lengths }
 
 pub whole_of : (w : World) → Measured w → ShapesSound w.frame → HoldingsSound w → Sound w
-whole_of w m shapes holdings = let s = m.frame in record { labels = s.labels; names = s.names; lives = s.lives; opens = s.opens; processes = s.processes; claims = s.claims; limits = s.limits; lengths = m.lengths; shapes = shapes; holdings = holdings }
+whole_of w m shapes holdings = let s = m.frame in
+    record {
+      labels = s.labels;
+      names = s.names;
+      lives = s.lives;
+      opens = s.opens;
+      processes = s.processes;
+      claims = s.claims;
+      limits = s.limits;
+      lengths =
+          m.lengths;
+      shapes = shapes;
+      holdings = holdings;
+    }
 
 -- a frame that may follow a frame: a sound one, in which what stays is of the same kind
 pub record Follows (f g : Frame) : Type 0 where
@@ -63,14 +76,16 @@ sound_steady f g r below log s = record {
   limits = limits_floated f g r.floats log s.limits;
 }
 
-steady_object : (g : Frame) (o : ℕ) (h : Object → Object) → ((x : Object) → object_but (h x) ≡ object_but x) → ((x : Object) → (h x).claims ≡ x.claims) → Steady g (record g { objects = change g.objects o h })
+steady_object : (g : Frame) (o : ℕ) (h : Object → Object) → ((x : Object) → object_but (h x) ≡ object_but x) → ((x : Object) → (h x).claims ≡ x.claims)
+    → Steady g (record g { objects = change g.objects o h })
 steady_object g o h same claims = record {
   floats = floats_object g g o h same (floats_itself g);
   homes = λ n. refl;
   claims = λ n. seen_changed (option_map (λ (x : Object). x.claims)) h (λ x. ap Some (claims x)) g.objects o n;
 }
 
-steady_process : (g : Frame) (p : ℕ) (h : Process → Process) → ((q : Process) → process_but (h q) ≡ process_but q) → ((q : Process) → (h q).cwd ≡ q.cwd) → Steady g (record g { processes = change g.processes p h })
+steady_process : (g : Frame) (p : ℕ) (h : Process → Process) → ((q : Process) → process_but (h q) ≡ process_but q) → ((q : Process) → (h q).cwd ≡ q.cwd)
+    → Steady g (record g { processes = change g.processes p h })
 steady_process g p h same homes = record {
   floats = floats_process g g p h same (floats_itself g);
   homes = λ n. seen_changed (option_map (λ (q : Process). q.cwd)) h (λ q. ap Some (homes q)) g.processes p n;
@@ -82,32 +97,46 @@ module _ (f : Frame) where
   follows_steady g h r below log s = record { sound = sound_steady g h r below log s.sound; kinds = kinds_floats f.objects g.objects s.kinds h.objects r.floats.objects }
 
   -- ---- changes of what stands
-  pub followed_object : (g : Frame) (o : ℕ) (h : Object → Object) → ((x : Object) → object_but (h x) ≡ object_but x) → ((x : Object) → (h x).claims ≡ x.claims) → ((x : Object) → at g.objects o ≡ Some x → leq (h x).label (ceiling_of g.fss (h x)) ≡ true) → Follows f g → Follows f (record g { objects = change g.objects o h })
+  pub followed_object : (g : Frame) (o : ℕ) (h : Object → Object) → ((x : Object) → object_but (h x) ≡ object_but x) → ((x : Object) → (h x).claims ≡ x.claims)
+      → ((x : Object) → at g.objects o ≡ Some x → leq (h x).label (ceiling_of g.fss (h x)) ≡ true) → Follows f g
+      → Follows f (record g { objects = change g.objects o h })
   followed_object g o h same claims below s = follows_steady g _ (steady_object g o h same claims) (labels_object g s.sound.labels o h below) s.sound.limits.log s
 
-  pub followed_process : (g : Frame) (p : ℕ) (h : Process → Process) → ((q : Process) → process_but (h q) ≡ process_but q) → ((q : Process) → (h q).cwd ≡ q.cwd) → ((q : Process) → at g.processes p ≡ Some q → leq (h q).label (h q).ceiling ≡ true) → Follows f g → Follows f (record g { processes = change g.processes p h })
+  pub followed_process : (g : Frame) (p : ℕ) (h : Process → Process) → ((q : Process) → process_but (h q) ≡ process_but q) → ((q : Process) → (h q).cwd ≡ q.cwd)
+      → ((q : Process) → at g.processes p ≡ Some q → leq (h q).label (h q).ceiling ≡ true) → Follows f g
+      → Follows f (record g { processes = change g.processes p h })
   followed_process g p h same homes below s = follows_steady g _ (steady_process g p h same homes) (labels_process g s.sound.labels p h below) s.sound.limits.log s
 
   -- a change that leaves the label
-  pub follows_change_object : (o : ℕ) (h : Object → Object) → ((x : Object) → object_but (h x) ≡ object_but x) → ((x : Object) → (h x).claims ≡ x.claims) → ((fss : List FsSpec) (x : Object) → leq (h x).label (ceiling_of fss (h x)) ≡ leq x.label (ceiling_of fss x)) → Keeps (Follows f) (change_object o h)
+  pub follows_change_object : (o : ℕ) (h : Object → Object) → ((x : Object) → object_but (h x) ≡ object_but x) → ((x : Object) → (h x).claims ≡ x.claims)
+      → ((fss : List FsSpec) (x : Object) → leq (h x).label (ceiling_of fss (h x)) ≡ leq x.label (ceiling_of fss x)) → Keeps (Follows f) (change_object o h)
   unfolding change_object Holds
   follows_change_object o h same claims label = record { led = λ g s. followed_object g o h same claims (λ x is. label g.fss x ∙ s.sound.labels.objects o x is) s }
 
-  pub follows_change_process : (p : ℕ) (h : Process → Process) → ((q : Process) → process_but (h q) ≡ process_but q) → ((q : Process) → (h q).cwd ≡ q.cwd) → ((q : Process) → leq (h q).label (h q).ceiling ≡ leq q.label q.ceiling) → Keeps (Follows f) (change_process p h)
+  pub follows_change_process : (p : ℕ) (h : Process → Process) → ((q : Process) → process_but (h q) ≡ process_but q) → ((q : Process) → (h q).cwd ≡ q.cwd)
+      → ((q : Process) → leq (h q).label (h q).ceiling ≡ leq q.label q.ceiling) → Keeps (Follows f) (change_process p h)
   unfolding change_process Holds
   follows_change_process p h same homes label = record { led = λ g s. followed_process g p h same homes (λ q is. label q ∙ s.sound.labels.processes p q is) s }
 
   -- another label of an open entry
   pub follows_change_open : (e : ℕ) (h : Open → Open) → ((x : Open) → open_but (h x) ≡ open_but x) → Keeps (Follows f) (change_open e h)
   unfolding change_open Holds
-  follows_change_open e h same = record { led = λ g s. follows_steady g _ (record { floats = floats_open g g e h same (floats_itself g); homes = λ n. refl; claims = λ n. refl }) (record { objects = s.sound.labels.objects; processes = s.sound.labels.processes }) s.sound.limits.log s }
+  follows_change_open e h same =
+      record {
+        led = λ g s. follows_steady g _ (record { floats = floats_open g g e h same (floats_itself g); homes = λ n. refl; claims = λ n. refl })
+            (record { objects = s.sound.labels.objects; processes = s.sound.labels.processes }) s.sound.limits.log s;
+      }
 
   -- ---- the two rules of floating
   observe_follows : (pid : ℕ) (seen : Categories) (g : Frame) → Follows f g → Ends (observe pid seen g) (λ r h. Follows f h) (λ u h. Follows f h)
-  observe_follows pid seen g s = ends_observe pid seen g _ _ (λ r. s) s (λ p is low. follows_steady g _ (steady_process g pid _ (λ q. refl) (λ q. refl)) (labels_observed g pid seen p is low s.sound.labels) s.sound.limits.log s)
+  observe_follows pid seen g s =
+      ends_observe pid seen g _ _ (λ r. s) s (λ p is low. follows_steady g _ (steady_process g pid _ (λ q. refl) (λ q. refl))
+      (labels_observed g pid seen p is low s.sound.labels) s.sound.limits.log s)
 
   affect_follows : (pid o : ℕ) (through : Categories) (g : Frame) → Follows f g → Ends (affect pid o through g) (λ r h. Follows f h) (λ u h. Follows f h)
-  affect_follows pid o through g s = ends_affect pid o through g _ _ (λ r. s) s (λ l x is low. follows_steady g _ (steady_object g o _ (λ y. refl) (λ y. refl)) (labels_affected g o l x is low s.sound.labels) s.sound.limits.log s)
+  affect_follows pid o through g s =
+      ends_affect pid o through g _ _ (λ r. s) s (λ l x is low. follows_steady g _ (steady_object g o _ (λ y. refl) (λ y. refl))
+      (labels_affected g o l x is low s.sound.labels) s.sound.limits.log s)
 
   pub follows_observe : (pid : ℕ) (seen : Categories) → Keeps (Follows f) (observe pid seen)
   follows_observe pid seen = record { led = λ g s. kept_ends (Follows f) _ (observe_follows pid seen g s) }

@@ -1,5 +1,6 @@
 -- A new open entry, and a new descriptor on an open entry that stands.
-use Rattle.std.proofs.Common.{◌≡◌, ◌≢◌, ◌<◌, ◌==◌, ℕ, Bool, true, false, true≢false, not, ◌&&◌, ◌||◌, List, length, sum, count_by, map, replicate, Option, Some, None, is_some, is_none, option_map, cond, refl, sym, ap, ◌∙◌, subst, arith, inl, inr, length-set}
+use Rattle.std.proofs.Common.{◌≡◌, ◌≢◌, ◌<◌, ◌==◌, ℕ, Bool, true, false, true≢false, not, ◌&&◌, ◌||◌, List, length, sum, count_by, map, replicate}
+use Rattle.std.proofs.Common.{Option, Some, None, is_some, is_none, option_map, cond, refl, sym, ap, ◌∙◌, subst, arith, inl, inr, length-set}
 use Rattle.std.specs.Option.{option_map_or}
 use Rattle.std.specs.List.{list_any}
 use Rattle.std.proofs.lemmas.Bool.Decides.{eqb_tells}
@@ -78,7 +79,8 @@ module _ (f : Frame) (e : ℕ) (x : Open) (e_in : e < length f.opens) (e_none : 
     | inr other ↦ old k y (sym (get_or-set_other f.opens e k (Some x) None other.1) ∙ is)
   ]
 
-  pub opens_entered : option_map_or (λ y. not (is_dir y)) (at f.objects x.object) false ≡ true → (x.end == 0 || x.end == 1 && option_map_or is_pipe (at f.objects x.object) false) ≡ true → OpensSound f → OpensBut e (entered f e x)
+  pub opens_entered : option_map_or (λ y. not (is_dir y)) (at f.objects x.object) false ≡ true
+      → (x.end == 0 || x.end == 1 && option_map_or is_pipe (at f.objects x.object) false) ≡ true → OpensSound f → OpensBut e (entered f e x)
   opens_entered no_dir at_end r = record {
     descriptor = λ p q fd k lives is. some_put f.opens e x k (r.descriptor p q fd k lives is);
     owned = λ k other stands. r.owned k (ap is_some (sym (get_or-set_other f.opens e k (Some x) None other)) ∙ stands);
@@ -101,7 +103,17 @@ module _ (f : Frame) (e : ℕ) (x : Open) (e_in : e < length f.opens) (e_none : 
   claims_entered c = record { claimant = λ o end n y is claim. has_more o end (at f.processes n) (c.claimant o end n y is claim) }
 
   pub limits_entered : WithinLimits f → WithinLimits (entered f e x)
-  limits_entered l = record { objects = l.objects; pipes = l.pipes; past = l.past; numbers = l.numbers; opens = length-set f.opens e (Some x) ∙ l.opens; processes = l.processes; names = l.names; log = l.log }
+  limits_entered l = record {
+    objects = l.objects;
+    pipes = l.pipes;
+    past = l.past;
+    numbers = l.numbers;
+    opens = length-set f.opens e (Some x)
+        ∙ l.opens;
+    processes = l.processes;
+    names = l.names;
+    log = l.log;
+  }
 
 -- ---- a new descriptor
 abbrev pub given : Frame → ℕ → ℕ → ℕ → Frame
@@ -145,7 +157,8 @@ module _ (f : Frame) (pid fd : ℕ) (d : Option ℕ) where
   unfolding puts
   limits_put_fd l =
       let count : (t : List (Option Process)) → count_by is_some t ≡ sum (map (λ q. cond (is_some q) 1 0) t) = λ t. sym (sum-map (λ q. cond (is_some q) 1 0) t) in
-      let same : count_by is_some (change f.processes pid puts) ≡ count_by is_some f.processes = count (change f.processes pid puts) ∙ ap sum (map_changed (λ q. cond (is_some q) 1 0) puts (λ y. refl) f.processes pid) ∙ sym (count f.processes) in
+      let same : count_by is_some (change f.processes pid puts) ≡ count_by is_some f.processes = count (change f.processes pid puts)
+      ∙ ap sum (map_changed (λ q. cond (is_some q) 1 0) puts (λ y. refl) f.processes pid) ∙ sym (count f.processes) in
       record { objects = l.objects; pipes = l.pipes; past = l.past; numbers = l.numbers; opens = l.opens; processes = omega (arith, same, l.processes); names = l.names; log = l.log }
 
 module _ (f : Frame) (pid : ℕ) (p : Process) (fd e : ℕ) (lives : living (at f.processes pid) ≡ Some p) (fd_in : fd < length p.fds) (fd_none : at p.fds fd ≡ None) where
@@ -223,13 +236,15 @@ module _ (f : Frame) (pid : ℕ) (p : Process) (fd e : ℕ) (lives : living (at 
       let t : List (Option Open) = f.opens in
       let before : has_on t o end (Some p) ≡ true = ap (has_on t o end) (sym (is_living _ p lives)) ∙ h in
       ap (λ q. has_on t o end (option_map give q)) (is_living _ p lives)
-      ∙ and_more (not p.ended) _ _ (any_put (λ d. option_map_or (λ k. is_on o end (at t k)) d false) p.fds fd (Some e) (λ on. absurd (no_none (λ d. option_map_or (λ k. is_on o end (at t k)) d false) _ refl fd_none on))) before
+      ∙ and_more (not p.ended) _ _ (any_put (λ d. option_map_or (λ k. is_on o end (at t k)) d false) p.fds fd (Some e)
+      (λ on. absurd (no_none (λ d. option_map_or (λ k. is_on o end (at t k)) d false) _ refl fd_none on))) before
 
   pub claims_given : ClaimsSound f → ClaimsSound (given f pid fd e)
   unfolding give
   claims_given c = record {
     claimant = λ o end n y is claim. elim (eqb_tells n pid) [
-      | inl same ↦ ap (λ k. has_on f.opens o end (at (change f.processes pid give) k)) same.1 ∙ ap (has_on f.opens o end) (at_changed f.processes pid give) ∙ gives_more o end (ap (λ k. has_on f.opens o end (at f.processes k)) (sym same.1) ∙ c.claimant o end n y is claim)
+      | inl same ↦ ap (λ k. has_on f.opens o end (at (change f.processes pid give) k)) same.1 ∙ ap (has_on f.opens o end) (at_changed f.processes pid give)
+          ∙ gives_more o end (ap (λ k. has_on f.opens o end (at f.processes k)) (sym same.1) ∙ c.claimant o end n y is claim)
       | inr other ↦ ap (has_on f.opens o end) (get_or-set_other f.processes pid n _ None other.1) ∙ c.claimant o end n y is claim
     ];
   }

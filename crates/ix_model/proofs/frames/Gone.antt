@@ -1,5 +1,6 @@
 -- An object goes.
-use Rattle.std.proofs.Common.{◌≡◌, ◌≢◌, ◌<◌, ◌==◌, ℕ, Bool, true, false, true≢false, not, ◌&&◌, ◌||◌, List, [], map, sum, length, count_by, Option, Some, None, refl, sym, ap, ◌∙◌, arith, ◌⊎◌, inl, inr, length-set}
+use Rattle.std.proofs.Common.{◌≡◌, ◌≢◌, ◌<◌, ◌==◌, ℕ, Bool, true, false, true≢false, not, ◌&&◌, ◌||◌, List, [], map, sum, length, count_by, Option}
+use Rattle.std.proofs.Common.{Some, None, refl, sym, ap, ◌∙◌, arith, ◌⊎◌, inl, inr, length-set}
 use Rattle.std.specs.Option.{option_map_or}
 use Rattle.std.proofs.lemmas.Bool.{and_from, or_parts, or_cases, and_parts, not-true, not-false, eqb-true, eq-eqb, cases_lt}
 use Rattle.std.proofs.lemmas.List.{get_or-set_other}
@@ -102,7 +103,9 @@ module _ (f : Frame) (o : ℕ) (x : Object) (u : IsUnneeded f o x) where
 pub kinds_left : (x : Object) → is_dir x ≡ false → ((is_file x ≡ true) × (is_pipe x ≡ false)) ⊎ ((is_file x ≡ false) × (is_pipe x ≡ true))
 kinds_left x h = go x.kind h
   where
-    go : (k : Kind) → (elim k [ kind.Dir ↦ true | _ ↦ false ]) ≡ false → (((elim k [ kind.File ↦ true | _ ↦ false ]) ≡ true) × ((elim k [ kind.Pipe ↦ true | _ ↦ false ]) ≡ false)) ⊎ (((elim k [ kind.File ↦ true | _ ↦ false ]) ≡ false) × ((elim k [ kind.Pipe ↦ true | _ ↦ false ]) ≡ true))
+    go : (k : Kind) → (elim k [ kind.Dir ↦ true | _ ↦ false ]) ≡ false
+        → (((elim k [ kind.File ↦ true | _ ↦ false ]) ≡ true) × ((elim k [ kind.Pipe ↦ true | _ ↦ false ]) ≡ false))
+        ⊎ (((elim k [ kind.File ↦ true | _ ↦ false ]) ≡ false) × ((elim k [ kind.Pipe ↦ true | _ ↦ false ]) ≡ true))
     go kind.File h = inl (refl, refl)
     go kind.Dir h = absurd (true≢false h)
     go kind.Pipe h = inr (refl, refl)
@@ -174,7 +177,9 @@ module _ (f : Frame) (o : ℕ) (s : Awaiting o f) where
           let here : is_file x ≡ true = sym (ap (λ z. option_map_or is_file z false) there) ∙ ap (λ z. option_map_or is_file z false) is ∙ kind in
           elim (kinds_left x no_dir) [
             | inl file ↦
-                let a : (false || true && (not (times_named f.objects o == 0) || held f.opens o 0) || false && (held f.opens o 0 || held f.opens o 1)) ≡ true = (λ i. sym no_dir i || sym file.0 i && (not (times_named f.objects o == 0) || held f.opens o 0) || sym file.1 i && (held f.opens o 0 || held f.opens o 1)) ∙ h in
+                let a : (false || true && (not (times_named f.objects o == 0) || held f.opens o 0) || false && (held f.opens o 0 || held f.opens o 1)) ≡ true =
+                (λ i. sym no_dir i || sym file.0 i && (not (times_named f.objects o == 0) || held f.opens o 0) || sym file.1 i
+                && (held f.opens o 0 || held f.opens o 1)) ∙ h in
                 either_false _ a
             | inr pipe ↦ absurd (true≢false (sym here ∙ pipe.0))
           ];
@@ -183,13 +188,17 @@ module _ (f : Frame) (o : ℕ) (s : Awaiting o f) where
           elim (kinds_left x no_dir) [
             | inl file ↦ absurd (true≢false (sym here ∙ file.1))
             | inr pipe ↦
-                let a : (false || false && (not (times_named f.objects o == 0) || held f.opens o 0) || true && (held f.opens o 0 || held f.opens o 1)) ≡ true = (λ i. sym no_dir i || sym pipe.0 i && (not (times_named f.objects o == 0) || held f.opens o 0) || sym pipe.1 i && (held f.opens o 0 || held f.opens o 1)) ∙ h in
+                let a : (false || false && (not (times_named f.objects o == 0) || held f.opens o 0) || true && (held f.opens o 0 || held f.opens o 1)) ≡ true =
+                (λ i. sym no_dir i || sym pipe.0 i && (not (times_named f.objects o == 0) || held f.opens o 0) || sym pipe.1 i
+                && (held f.opens o 0 || held f.opens o 1)) ∙ h in
                 a
           ];
     }
 
 -- a file or a pipe stays where it has to, and else is gone
-pub object_released : (f : Frame) (o : ℕ) (P : Refusal → Frame → Type 0) (Q : Unit {0} → Frame → Type 0) → Awaiting o f → option_map_or is_dir (at f.objects o) false ≡ false → (FrameSound f → Q tt f) → (FrameSound (record f { objects = put f.objects o None }) → Q tt (record f { objects = put f.objects o None })) → Ends (let_go_object o f) P Q
+pub object_released : (f : Frame) (o : ℕ) (P : Refusal → Frame → Type 0) (Q : Unit {0} → Frame → Type 0) → Awaiting o f
+    → option_map_or is_dir (at f.objects o) false ≡ false → (FrameSound f → Q tt f) → (FrameSound (record f { objects = put f.objects o None })
+    → Q tt (record f { objects = put f.objects o None })) → Ends (let_go_object o f) P Q
 unfolding let_go_object put_object Ends
 object_released f o P Q s no_dir kept gone = ends_only_if (option_map_or (λ x. not (stays f o x)) (at f.objects o) false) (put_object o None) f P Q
     (λ goes.
@@ -200,5 +209,11 @@ object_released f o P Q s no_dir kept gone = ends_only_if (option_map_or (λ x. 
     (λ remains. kept (arrived o f s (here (at f.objects o) refl remains no_dir)))
   where
     here : (y : Option Object) → at f.objects o ≡ y → option_map_or (λ z. not (stays f o z)) (at f.objects o) false ≡ false → option_map_or is_dir (at f.objects o) false ≡ false → Arrived o f
-    here None is remains other = record { once = λ x there kind. let e : None ≡ Some x = sym is ∙ there in cc; file = λ x there kind. let e : None ≡ Some x = sym is ∙ there in cc; pipe = λ x there kind. let e : None ≡ Some x = sym is ∙ there in cc }
-    here (Some x) is remains other = stayed f o s x is (sym (ap (λ y. option_map_or is_dir y false) is) ∙ other) (not-false _ (sym (ap (λ y. option_map_or (λ z. not (stays f o z)) y false) is) ∙ remains))
+    here None is remains other = record {
+      once = λ x there kind. let e : None ≡ Some x = sym is ∙ there in
+          cc;
+      file = λ x there kind. let e : None ≡ Some x = sym is ∙ there in cc;
+      pipe = λ x there kind. let e : None ≡ Some x = sym is ∙ there in cc;
+    }
+    here (Some x) is remains other = stayed f o s x is (sym (ap (λ y. option_map_or is_dir y false) is)
+        ∙ other) (not-false _ (sym (ap (λ y. option_map_or (λ z. not (stays f o z)) y false) is) ∙ remains))

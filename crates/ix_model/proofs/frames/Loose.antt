@@ -46,11 +46,14 @@ module _ (f : Frame) (s : FrameSound f) (pid fd : ℕ) (e : OpenFile) (b : IsBeh
   at_taken = at_changed f.processes pid take ∙ ap (option_map take) (is_living _ b.process b.lives)
 
   -- a test of a living process's descriptors that doesn't pass at the one that goes
-  still_any : (p : Option ℕ → Bool) → (p (Some e.id) ≡ true → ⊥) → (n : ℕ) → option_map_or (λ q. not q.ended && list_any p q.fds) (at f.processes n) false ≡ true → option_map_or (λ q. not q.ended && list_any p q.fds) (at (change f.processes pid take) n) false ≡ true
+  still_any : (p : Option ℕ → Bool) → (p (Some e.id) ≡ true → ⊥) → (n : ℕ) → option_map_or (λ q. not q.ended && list_any p q.fds) (at f.processes n) false
+      ≡ true → option_map_or (λ q. not q.ended && list_any p q.fds) (at (change f.processes pid take) n) false ≡ true
   still_any p off n h = elim (eqb_tells n pid) [
     | inl same ↦
         let F : Option Process → Bool = λ o. option_map_or (λ q. not q.ended && list_any p q.fds) o false in
-        let before : (not b.process.ended && list_any p b.process.fds) ≡ true = ap (λ o. option_map_or (λ q. not q.ended && list_any p q.fds) o false) (sym (is_living _ b.process b.lives)) ∙ ap (λ k. option_map_or (λ q. not q.ended && list_any p q.fds) (at f.processes k) false) (sym same.1) ∙ h in
+        let before : (not b.process.ended && list_any p b.process.fds) ≡ true =
+        ap (λ o. option_map_or (λ q. not q.ended && list_any p q.fds) o false) (sym (is_living _ b.process b.lives))
+        ∙ ap (λ k. option_map_or (λ q. not q.ended && list_any p q.fds) (at f.processes k) false) (sym same.1) ∙ h in
         ap (λ k. option_map_or (λ q. not q.ended && list_any p q.fds) (at (change f.processes pid take) k) false) same.1
         ∙ ap (λ o. option_map_or (λ q. not q.ended && list_any p q.fds) o false) at_taken
         ∙ and_more (not b.process.ended) _ _ (any_put p b.process.fds fd None (λ on. absurd (off (ap p (sym b.descriptor) ∙ on)))) before
@@ -68,7 +71,8 @@ module _ (f : Frame) (s : FrameSound f) (pid fd : ℕ) (e : OpenFile) (b : IsBeh
           ]
       | inr other ↦ s.opens.descriptor n q fd2 e2 (lives_as _ q other.1 (not_ended _ q lives)) is
     ];
-    owned = λ e2 other stands. any_into (owns e2) (owns e2) refl refl f.processes (change f.processes pid take) (still_any (is_at e2) (λ on. other (sym (eqb-true e.id e2 on)))) (s.opens.owned e2 stands);
+    owned = λ e2 other stands. any_into (owns e2) (owns e2) refl refl f.processes (change f.processes pid take)
+        (still_any (is_at e2) (λ on. other (sym (eqb-true e.id e2 on)))) (s.opens.owned e2 stands);
     target = s.opens.target;
     end = s.opens.end;
   }
@@ -106,7 +110,11 @@ module _ (f : Frame) (s : FrameSound f) (pid fd : ℕ) (e : OpenFile) (b : IsBeh
   unclaiming x = record x { claims = put x.claims e.entry.end None }
 
   abbrev unclaimed : Frame
-  unclaimed = record f { processes = change f.processes pid (λ q. record q { fds = put q.fds fd None }); objects = change f.objects e.entry.object (λ x. record x { claims = put x.claims e.entry.end None }) }
+  unclaimed = record f {
+    processes = change f.processes pid (λ q. record q { fds = put q.fds fd None });
+    objects =
+        change f.objects e.entry.object (λ x. record x { claims = put x.claims e.entry.end None });
+  }
 
   claims_unclaimed : ClaimsSound unclaimed
   claims_unclaimed = record {
@@ -132,7 +140,8 @@ module _ (f : Frame) (s : FrameSound f) (pid fd : ℕ) (e : OpenFile) (b : IsBeh
               let there : at f.objects e.entry.object ≡ Some x = ap (at f.objects) (sym same_object.1) ∙ is in
               let claimed : at x.claims e.entry.end ≡ Some p = ap (at x.claims) (sym same_end.1) ∙ claim in
               let own : option_map_or (λ y. option_map_or (λ n. n == pid) (at y.claims e.entry.end) false) (at f.objects e.entry.object) false ≡ true =
-              ap (λ o. option_map_or (λ y. option_map_or (λ n. n == pid) (at y.claims e.entry.end) false) o false) there ∙ ap (λ c. option_map_or (λ n. n == pid) c false) claimed ∙ eq-eqb p pid same.1 in
+              ap (λ o. option_map_or (λ y. option_map_or (λ n. n == pid) (at y.claims e.entry.end) false) o false) there
+              ∙ ap (λ c. option_map_or (λ n. n == pid) c false) claimed ∙ eq-eqb p pid same.1 in
               let left : has_end taken e.entry.object e.entry.end pid ≡ true = not-false _ (ap (λ t. t && not (has_end taken e.entry.object e.entry.end pid)) (sym own) ∙ kept) in
               (λ i. has_end taken (same_object.1 i) (same_end.1 i) (same.1 i)) ∙ left
         ]

@@ -1,5 +1,7 @@
 -- A name more, and a name fewer, in one directory.
-use Rattle.std.proofs.Common.{◌≡◌, ◌≢◌, ◌<◌, ◌≤◌, ◌+◌, ◌==◌, ℕ, Bool, true, false, true≢false, not, ◌&&◌, ◌||◌, List, [], ◌∷◌, ◌++◌, map, sum, length, count_by, cond, Option, Some, None, is_none, option_map, if◌then◌else◌, refl, sym, ap, ◌∙◌, subst, arith, inl, inr, length-set, length-append}
+use Rattle.std.proofs.Common.{◌≡◌, ◌≢◌, ◌<◌, ◌≤◌, ◌+◌, ◌==◌, ℕ, Bool, true, false, true≢false, not, ◌&&◌, ◌||◌, List, [], ◌∷◌, ◌++◌, map, sum, length}
+use Rattle.std.proofs.Common.{count_by, cond, Option, Some, None, is_none, option_map, if◌then◌else◌, refl, sym, ap, ◌∙◌, subst, arith, inl, inr}
+use Rattle.std.proofs.Common.{length-set, length-append}
 use Rattle.std.specs.Option.{option_map_or}
 use Rattle.std.proofs.lemmas.Bool.Decides.{eqb_tells}
 use Rattle.std.proofs.lemmas.Bool.{ltb-true, ne_eqb, eq-eqb}
@@ -44,7 +46,9 @@ module _ (f : Frame) (d : ℕ) (x : Object) (is : at f.objects d ≡ Some x) (di
   it_is y here = let e : Some x ≡ Some y = sym is ∙ here in cc
 
   -- what is said of the new list of names, of an object o
-  module _ (o : ℕ) (named : (m : ℕ) → 0 < count_by (λ n. n.1 == m) (k x.names) → option_map_or (λ y. not (is_pipe y)) (at f.objects m) false ≡ true) (differ : all_differ (map (λ n. n.0) (k x.names)) ≡ true) (counts : (m : ℕ) → m ≢ o → count_by (λ n. n.1 == m) (k x.names) ≡ count_by (λ n. n.1 == m) x.names) (few : names_in_all renamed ≤ f.limits.names) where
+  module _ (o : ℕ) (named : (m : ℕ) → 0 < count_by (λ n. n.1 == m) (k x.names) → option_map_or (λ y. not (is_pipe y)) (at f.objects m) false ≡ true)
+      (differ : all_differ (map (λ n. n.0) (k x.names)) ≡ true) (counts : (m : ℕ) → m ≢ o
+      → count_by (λ n. n.1 == m) (k x.names) ≡ count_by (λ n. n.1 == m) x.names) (few : names_in_all renamed ≤ f.limits.names) where
     times_apart : (m : ℕ) → m ≢ o → times_named renamed m ≡ times_named f.objects m
     times_apart m other = omega (arith, times_renamed m, counts m other)
 
@@ -139,7 +143,8 @@ found_none : (o : Option (List ℕ × ℕ)) → option_map (λ e. e.1) o ≡ Non
 found_none None h = refl
 found_none (Some e) h = cc
 
-module _ (f : Frame) (d o : ℕ) (x y : Object) (name : List ℕ) (is : at f.objects d ≡ Some x) (dir : is_dir x ≡ true) (there : at f.objects o ≡ Some y) (no_pipe : is_pipe y ≡ false) (absent : child x name ≡ None) (room : has_room_for_a_name f ≡ true) where
+module _ (f : Frame) (d o : ℕ) (x y : Object) (name : List ℕ) (is : at f.objects d ≡ Some x) (dir : is_dir x ≡ true) (there : at f.objects o ≡ Some y)
+    (no_pipe : is_pipe y ≡ false) (absent : child x name ≡ None) (room : has_room_for_a_name f ≡ true) where
   abbrev more : Names → Names
   more es = es ++ (name, o) ∷ []
 
@@ -168,7 +173,8 @@ module _ (f : Frame) (d o : ℕ) (x y : Object) (name : List ℕ) (is : at f.obj
   named_sound s fresh =
       let one_more : cond {A = ℕ} (o == o) 1 0 ≡ 1 = ap (λ b. cond {A = ℕ} b 1 0) (eq-eqb o o refl) in
       let times : times_named (change f.objects d (with_name name o)) o ≡ times_named f.objects o + 1 = omega (arith, times_renamed f d x is dir more o, count_more o o name x.names, one_more) in
-      let same_kind : (F : Option Object → Bool) → ((z : Object) → F (Some (renaming more z)) ≡ F (Some z)) → F (at (change f.objects d (with_name name o)) o) ≡ F (Some y) = λ F blind. seen_changed F (renaming more) blind f.objects d o ∙ ap F there in
+      let same_kind : (F : Option Object → Bool) → ((z : Object) → F (Some (renaming more z)) ≡ F (Some z))
+      → F (at (change f.objects d (with_name name o)) o) ≡ F (Some y) = λ F blind. seen_changed F (renaming more) blind f.objects d o ∙ ap F there in
       arrived o _ (awaiting_renamed f d x is dir more o (names_it s) (differ_more x.names name o (s.names.differ d x is) (found_none _ absent)) counts_apart few_more s)
       (record {
         once = λ z here is_d.

@@ -51,7 +51,8 @@ module _ (e : ℕ) (f : Frame) (l : Loose e f) where
     left = put f.opens e None
 
     not_on : (n : ℕ) (q : Process) (fd : ℕ) → living (at f.processes n) ≡ Some q → at q.fds fd ≡ Some e → ⊥
-    not_on n q fd lives on = no_any (owns e) refl f.processes lost n (ap (owns e) (is_living _ q lives) ∙ and_from (not q.ended) (list_any (is_at e) q.fds) (ap not (not_ended _ q lives)) (any_by (is_at e) refl q.fds fd (ap (is_at e) on ∙ eq-eqb e e refl)))
+    not_on n q fd lives on = no_any (owns e) refl f.processes lost n (ap (owns e) (is_living _ q lives)
+        ∙ and_from (not q.ended) (list_any (is_at e) q.fds) (ap not (not_ended _ q lives)) (any_by (is_at e) refl q.fds fd (ap (is_at e) on ∙ eq-eqb e e refl)))
 
     elsewhere : (n : ℕ) → n ≢ e → at left n ≡ at f.opens n
     elsewhere n other = get_or-set_other f.opens e n None None other
@@ -70,7 +71,8 @@ module _ (e : ℕ) (f : Frame) (l : Loose e f) where
       | inr apart ↦ ap (is_on m k) (elsewhere n apart.1) ∙ on
     ]) h
 
-    on_left : (n : ℕ) (q : Process) (m k : ℕ) → living (at f.processes n) ≡ Some q → list_any (λ d. option_map_or (λ j. is_on m k (at f.opens j)) d false) q.fds ≡ true → list_any (λ d. option_map_or (λ j. is_on m k (at left j)) d false) q.fds ≡ true
+    on_left : (n : ℕ) (q : Process) (m k : ℕ) → living (at f.processes n) ≡ Some q → list_any (λ d. option_map_or (λ j. is_on m k (at f.opens j)) d false) q.fds
+        ≡ true → list_any (λ d. option_map_or (λ j. is_on m k (at left j)) d false) q.fds ≡ true
     on_left n q m k lives h = any_into (λ d. option_map_or (λ j. is_on m k (at f.opens j)) d false) (λ d. option_map_or (λ j. is_on m k (at left j)) d false) refl refl q.fds q.fds (λ fd on.
         let d = passes_some (λ d. option_map_or (λ j. is_on m k (at f.opens j)) d false) refl (at q.fds fd) on in
         let apart : d.0 ≢ e = λ same. not_on n q fd lives (d.1 ∙ ap Some same) in
@@ -105,7 +107,17 @@ module _ (e : ℕ) (f : Frame) (l : Loose e f) where
       };
       processes = record { none = l.processes.none; home = l.processes.home; parent = l.processes.parent; descriptors = l.processes.descriptors };
       claims = record { claimant = λ m k n x is claim. has_left n m k (l.claims.claimant m k n x is claim) };
-      limits = record { objects = l.limits.objects; pipes = l.limits.pipes; past = l.limits.past; numbers = l.limits.numbers; opens = length-set f.opens e None ∙ l.limits.opens; processes = l.limits.processes; names = l.limits.names; log = l.limits.log };
+      limits = record {
+        objects = l.limits.objects;
+        pipes = l.limits.pipes;
+        past = l.limits.past;
+        numbers = l.limits.numbers;
+        opens = length-set f.opens e None
+            ∙ l.limits.opens;
+        processes = l.limits.processes;
+        names = l.limits.names;
+        log = l.limits.log;
+      };
     }
 
 -- ---- the whole
@@ -115,7 +127,9 @@ no_directory (Some x) h = not-true _ h
 
 -- from a loose frame, the open entry and the object
 module _ (base : Frame) (P : Refusal → Frame → Type 0) (Q : Unit {0} → Frame → Type 0) where
-  released : (e : ℕ) (f : Frame) → Loose e f → (y : Open) → at f.opens e ≡ Some y → option_map_or is_dir (at f.objects y.object) false ≡ false → Kinds base.objects f.objects → ((h : Frame) → Follows base h → h.processes ≡ f.processes → Q tt h) → Ends (◌>>◌ (let_go_open e) (let_go_object y.object) f) P Q
+  released : (e : ℕ) (f : Frame) → Loose e f → (y : Open) → at f.opens e ≡ Some y → option_map_or is_dir (at f.objects y.object) false ≡ false
+      → Kinds base.objects f.objects → ((h : Frame) → Follows base h → h.processes ≡ f.processes → Q tt h)
+      → Ends (◌>>◌ (let_go_open e) (let_go_object y.object) f) P Q
   unfolding let_go_open
   released e f l y there no_dir kinds next = ends_then _ _ f P Q (ends_only_if (not (owned f.processes e)) (put_open e None) f P _
       (λ lost.
@@ -130,7 +144,9 @@ module _ (base : Frame) (P : Refusal → Frame → Type 0) (Q : Unit {0} → Fra
       (λ sound. next _ (record { sound = sound; kinds = kinds_gone base.objects f.objects kinds y.object }) refl)))
 
   -- a descriptor, its claim, its open entry and the object
-  pub descriptor_released : (f : Frame) (pid fd : ℕ) (e : OpenFile) → behind f pid fd ≡ Some e → Follows base f → ((h : Frame) → Follows base h → h.processes ≡ change f.processes pid (λ q. record q { fds = put q.fds fd None }) → Q tt h) → Ends (let_go pid fd e f) P Q
+  pub descriptor_released : (f : Frame) (pid fd : ℕ) (e : OpenFile) → behind f pid fd ≡ Some e → Follows base f
+      → ((h : Frame) → Follows base h → h.processes ≡ change f.processes pid (λ q. record q { fds = put q.fds fd None }) → Q tt h)
+      → Ends (let_go pid fd e f) P Q
   unfolding let_go let_go_claim
   descriptor_released f pid fd e is k next =
       let b = is_behind f pid fd e is in

@@ -136,8 +136,10 @@ module _ (f : Frame) (s : FrameSound f) where
       ends_then _ _ f (Refused f) (Passed f) (ends_need _ _ f (Refused f) _ (λ some.
       ends_bind _ _ f (Refused f) (Passed f) (ends_some _ _ f (Refused f) _ (λ c first.
       ends_bind _ _ f (Refused f) (Passed f) (ends_record_of c f (Refused f) _ (λ q is.
-      ends_then _ _ f (Refused f) (Passed f) (ends_kept (λ h. Follows f h × Floats f h) (observe pid q.label f) (Refused f) _ (holds_both _ _ _ ((follows_observe f pid q.label).led f k) ((floats_observe f pid q.label).led f (floats_itself f))) (λ r h j. j.0) (λ u h j.
+      ends_then _ _ f (Refused f) (Passed f) (ends_kept (λ h. Follows f h × Floats f h) (observe pid q.label f) (Refused f) _
+      (holds_both _ _ _ ((follows_observe f pid q.label).led f k) ((floats_observe f pid q.label).led f (floats_itself f))) (λ r h j. j.0) (λ u h j.
       let passes = (position-Some (λ z. is_child pid z && is_ended z) f.processes c None first).1 in
-      let ended : is_ended (at h.processes c) ≡ true = seen_same process_but is_ended (λ z. refl) f.processes h.processes j.1.processes c ∙ (and_parts (is_child pid (at f.processes c)) (is_ended (at f.processes c)) passes).1 in
+      let ended : is_ended (at h.processes c) ≡ true = seen_same process_but is_ended (λ z. refl) f.processes h.processes j.1.processes c
+      ∙ (and_parts (is_child pid (at f.processes c)) (is_ended (at f.processes c)) passes).1 in
       ends_then _ _ h (Refused f) (Passed f) (ends_put_process c None h (Refused f) _ (
       ends_pass _ _ (Refused f) (Passed f) (record { sound = retired h c None (collects h c j.0.sound ended) j.0.sound; kinds = j.0.kinds })))))) k)) k)) k)))

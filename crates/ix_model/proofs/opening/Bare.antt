@@ -1,5 +1,6 @@
 -- The table of objects before any line: a root for each file system, and nothing else.
-use Rattle.std.proofs.Common.{◌≡◌, ◌≢◌, ◌<◌, ◌≤◌, ◌+◌, ◌-◌, ℕ, zero, suc, true, List, [], ◌∷◌, ◌++◌, length, drop, replicate, Option, Some, None, option_map, nat_le, refl, sym, ap, ◌∙◌, subst, arith, append_assoc, inl, inr, length-append}
+use Rattle.std.proofs.Common.{◌≡◌, ◌≢◌, ◌<◌, ◌≤◌, ◌+◌, ◌-◌, ℕ, zero, suc, true, List, [], ◌∷◌, ◌++◌, length, drop, replicate, Option, Some, None}
+use Rattle.std.proofs.Common.{option_map, nat_le, refl, sym, ap, ◌∙◌, subst, arith, append_assoc, inl, inr, length-append}
 use Rattle.std.specs.List.{list_all}
 use Rattle.std.proofs.Math.ListN.{get_or-append}
 use Rattle.std.proofs.lemmas.Bool.{and_parts, leb-true, cases_lt}
@@ -112,7 +113,8 @@ module _ (fss : List FsSpec) (pipes : ℕ) (fit : list_all fs_fits fss ≡ true)
   at_others o other = get_or-set_other (roots 0 fss pipes) 0 o _ None other
 
   -- what holds of the first root, and of each other root, holds of each object
-  pub each_root : (P : ℕ → Object → Type 0) → P 0 (with_mounts fss (root_of 0)) → ((k : ℕ) → suc k < length fss → P (first_inode fss (suc k)) (root_of (suc k))) → (o : ℕ) (x : Object) → at (bare_table fss pipes) o ≡ Some x → P o x
+  pub each_root : (P : ℕ → Object → Type 0) → P 0 (with_mounts fss (root_of 0)) → ((k : ℕ) → suc k < length fss → P (first_inode fss (suc k)) (root_of (suc k)))
+      → (o : ℕ) (x : Object) → at (bare_table fss pipes) o ≡ Some x → P o x
   each_root P first others o x is = elim (eqb_tells o 0) [
     | inl here ↦
         let both : Some (with_mounts fss (root_of 0)) ≡ Some x = sym at_first ∙ ap (at (bare_table fss pipes)) (sym here.1) ∙ is in

@@ -1,5 +1,7 @@
 -- What holds of the objects before any line.
-use Rattle.std.proofs.Common.{◌≡◌, ◌<◌, ◌≤◌, ◌+◌, ◌==◌, ℕ, zero, suc, Bool, true, false, true≢false, not, ◌||◌, List, [], ◌∷◌, ◌++◌, length, length-set, map, sum, drop, count_by, find, replicate, if◌then◌else◌, Option, Some, None, is_some, option_map, unwrap_or, refl, sym, ap, ◌∙◌, subst, arith, inl, inr}
+use Rattle.std.proofs.Common.{◌≡◌, ◌<◌, ◌≤◌, ◌+◌, ◌==◌, ℕ, zero, suc, Bool, true, false, true≢false, not, ◌||◌, List, [], ◌∷◌, ◌++◌, length}
+use Rattle.std.proofs.Common.{length-set, map, sum, drop, count_by, find, replicate, if◌then◌else◌, Option, Some, None, is_some, option_map}
+use Rattle.std.proofs.Common.{unwrap_or, refl, sym, ap, ◌∙◌, subst, arith, inl, inr}
 use Rattle.std.specs.Option.{option_map_or, option_and_then}
 use Rattle.std.specs.List.{list_any, list_all, sum_by}
 use Rattle.std.proofs.lemmas.Bool.{and_parts, or_cases, or_left, ne_eqb}
@@ -68,9 +70,11 @@ module _ (fss : List FsSpec) (l : Limits) (fit : list_all fs_fits fss ≡ true) 
   past_first k = omega (arith, first_split fss k some, first_some)
 
   root_there : (k : ℕ) → suc k < length fss → at table (first_inode fss (suc k)) ≡ Some (root_of (suc k))
-  root_there k low = at_others fss l.pipes fit some (first_inode fss (suc k)) (λ e. absurd (omega (arith, past_first k))) ∙ root_at 0 fss l.pipes (suc k) fit low ∙ ap (λ n. Some (root_of n)) (omega arith)
+  root_there k low = at_others fss l.pipes fit some (first_inode fss (suc k)) (λ e. absurd (omega (arith, past_first k)))
+      ∙ root_at 0 fss l.pipes (suc k) fit low ∙ ap (λ n. Some (root_of n)) (omega arith)
 
-  each : (P : ℕ → Object → Type 0) → P 0 (with_mounts fss (root_of 0)) → ((k : ℕ) → suc k < length fss → P (first_inode fss (suc k)) (root_of (suc k))) → (o : ℕ) (x : Object) → at table o ≡ Some x → P o x
+  each : (P : ℕ → Object → Type 0) → P 0 (with_mounts fss (root_of 0)) → ((k : ℕ) → suc k < length fss → P (first_inode fss (suc k)) (root_of (suc k)))
+      → (o : ℕ) (x : Object) → at table o ≡ Some x → P o x
   each P first others = each_root fss l.pipes fit some P first others
 
   -- ---- each object by itself
@@ -146,7 +150,16 @@ module _ (fss : List FsSpec) (l : Limits) (fit : list_all fs_fits fss ≡ true) 
   root_dir : (p : List (List ℕ)) → same_names [] p ≡ true → DirAt fss table place_bare p
   root_dir p h =
       let none : [] ≡ p = names_are [] p h in
-      subst (λ (q : List (List ℕ)). DirAt fss table place_bare q) none (record { number = 0; leads = refl; object = with_mounts fss (root_of 0); is_object = at_first fss l.pipes fit some; dir = refl; on = refl; back = place_root })
+      subst (λ (q : List (List ℕ)). DirAt fss table place_bare q) none (record {
+        number = 0;
+        leads = refl;
+        object = with_mounts fss (root_of 0);
+        is_object =
+            at_first fss l.pipes fit some;
+        dir = refl;
+        on = refl;
+        back = place_root;
+      })
 
   mount_dir : (p : List (List ℕ)) → is_mount fss p ≡ true → DirAt fss table place_bare p
   unfolding place_bare
@@ -165,7 +178,8 @@ module _ (fss : List FsSpec) (l : Limits) (fit : list_all fs_fits fss ≡ true) 
         is_object = root_there r.place low;
         dir = refl;
         on = on;
-        back = ap (λ o. option_map_or (λ name. name ∷ []) (option_map (λ (e : List ℕ × ℕ). e.0) (find (λ e. e.1 == o) named)) []) (sym number) ∙ ap (λ x. option_map_or (λ name. name ∷ []) x []) r.back;
+        back = ap (λ o. option_map_or (λ name. name ∷ []) (option_map (λ (e : List ℕ × ℕ). e.0) (find (λ e. e.1 == o) named)) []) (sym number)
+            ∙ ap (λ x. option_map_or (λ name. name ∷ []) x []) r.back;
       })
 
   bare_ways : Ways fss [] table

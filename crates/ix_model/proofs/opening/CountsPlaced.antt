@@ -1,5 +1,6 @@
 -- One object more, which takes an inode, a name and blocks of those that are left.
-use Rattle.std.proofs.Common.{◌≡◌, ◌≢◌, ◌<◌, ◌≤◌, ◌+◌, ◌==◌, ℕ, suc, Bool, true, false, List, [], ◌∷◌, ◌++◌, length, length-append, length-set, cond, Option, Some, is_some, set, refl, sym, ap, ◌∙◌, subst, arith, inl, inr}
+use Rattle.std.proofs.Common.{◌≡◌, ◌≢◌, ◌<◌, ◌≤◌, ◌+◌, ◌==◌, ℕ, suc, Bool, true, false, List, [], ◌∷◌, ◌++◌, length, length-append, length-set, cond}
+use Rattle.std.proofs.Common.{Option, Some, is_some, set, refl, sym, ap, ◌∙◌, subst, arith, inl, inr}
 use Rattle.std.specs.Option.{option_map_or}
 use Rattle.ix_label.specs.Category.{leq}
 use Rattle.std.proofs.lemmas.Bool.{cond-true, cond-false}
@@ -28,7 +29,8 @@ lying_more fss j before b =
     let on : ObjSpec → Bool = λ x. fs_of fss x.path.names == j in
     length-filter on (before ++ b ∷ []) ∙ sum_by_push (λ (x : ObjSpec). cond {A = ℕ} (on x) 1 0) before b ∙ ap (λ n. n + cond (on b) 1 0) (sym (length-filter on before))
 
-blocks_more : (fss : List FsSpec) (j : ℕ) (before : List ObjSpec) (b : ObjSpec) → blocks_taken fss j (before ++ b ∷ []) ≡ blocks_taken fss j before + cond (fs_of fss b.path.names == j) (blocks_for (length b.bytes)) 0
+blocks_more : (fss : List FsSpec) (j : ℕ) (before : List ObjSpec) (b : ObjSpec)
+    → blocks_taken fss j (before ++ b ∷ []) ≡ blocks_taken fss j before + cond (fs_of fss b.path.names == j) (blocks_for (length b.bytes)) 0
 blocks_more fss j [] b = taken-cons fss j b [] ∙ omega arith
 blocks_more fss j (x ∷ before) b = omega (arith, taken-cons fss j x (before ++ b ∷ []), taken-cons fss j x before, blocks_more fss j before b)
 
@@ -36,7 +38,8 @@ blocks_more fss j (x ∷ before) b = omega (arith, taken-cons fss j x (before ++
 abbrev pub holding_for : ObjSpec → Holding
 holding_for b = record { first = b.bytes; second = [] }
 
-module _ (fss : List FsSpec) (l : Limits) (before : List ObjSpec) (t : List (Option Object)) (hs : List Holding) (b : ObjSpec) (o d k : ℕ) (p : Place t o d) (line : Line fss l before b) (is_k : k ≡ fs_of fss b.path.names) (from : first_inode fss k ≤ o) (to : o < first_inode fss k + (fs_at fss k).inodes) where
+module _ (fss : List FsSpec) (l : Limits) (before : List ObjSpec) (t : List (Option Object)) (hs : List Holding) (b : ObjSpec) (o d k : ℕ) (p : Place t o d)
+    (line : Line fss l before b) (is_k : k ≡ fs_of fss b.path.names) (from : first_inode fss k ≤ o) (to : o < first_inode fss k + (fs_at fss k).inodes) where
   abbrev next : List (Option Object)
   next = with_one t b d k o
 
@@ -54,7 +57,8 @@ module _ (fss : List FsSpec) (l : Limits) (before : List ObjSpec) (t : List (Opt
   stands_as : (m : ℕ) → m ≢ o → is_some (at next m) ≡ is_some (at t m)
   stands_as m other = seen t b o d k p is_some (λ x. refl) m other
 
-  taken_after : ((j : ℕ) → filled t (first_inode fss j) (fs_at fss j).inodes ≤ suc (length (lying_on fss j before))) → (j : ℕ) → filled next (first_inode fss j) (fs_at fss j).inodes ≤ suc (length (lying_on fss j (before ++ b ∷ [])))
+  taken_after : ((j : ℕ) → filled t (first_inode fss j) (fs_at fss j).inodes ≤ suc (length (lying_on fss j before))) → (j : ℕ)
+      → filled next (first_inode fss j) (fs_at fss j).inodes ≤ suc (length (lying_on fss j (before ++ b ∷ [])))
   taken_after taken j = elim (eqb_tells (fs_of fss b.path.names) j) [
     | inl here ↦
         let one : cond {A = ℕ} (fs_of fss b.path.names == j) 1 0 ≡ 1 = ap (λ x. cond {A = ℕ} x 1 0) here.0 in
@@ -85,7 +89,8 @@ module _ (fss : List FsSpec) (l : Limits) (before : List ObjSpec) (t : List (Opt
         omega (arith, blocks_more fss j before b)
     | inr other ↦
         let off : (k == j) ≡ false = ap (λ i. i == j) is_k ∙ other.0 in
-        let skip : blocks_where (is_on_fs next j) 0 (set hs o (holding_for b)) ≡ blocks_where (is_on_fs next j) 0 hs = blocks_skip (is_on_fs next j) 0 hs o (holding_for b) (ap (is_on_fs next j) (omega arith) ∙ off_after j off) in
+        let skip : blocks_where (is_on_fs next j) 0 (set hs o (holding_for b)) ≡ blocks_where (is_on_fs next j) 0 hs =
+        blocks_skip (is_on_fs next j) 0 hs o (holding_for b) (ap (is_on_fs next j) (omega arith) ∙ off_after j off) in
         let same : blocks_where (is_on_fs next j) 0 hs ≡ blocks_where (is_on_fs t j) 0 hs = blocks_from (is_on_fs next j) (is_on_fs t j) 0 hs (λ m low. as_before m off) in
         omega (arith, blocks_more fss j before b)
   ]
@@ -100,7 +105,8 @@ module _ (fss : List FsSpec) (l : Limits) (before : List ObjSpec) (t : List (Opt
   within_after j within = elim (eqb_tells (fs_of fss b.path.names) j) [
     | inl here ↦
         let more : cond {A = ℕ} (fs_of fss b.path.names == j) (blocks_for (length b.bytes)) 0 ≡ blocks_for (length b.bytes) = cond-true _ _ _ here.0 in
-        let room : blocks_taken fss j before + blocks_for (length b.bytes) ≤ (fs_at fss j).blocks = subst (λ (i : ℕ). blocks_taken fss i before + blocks_for (length b.bytes) ≤ (fs_at fss i).blocks) here.1 line.blocks in
+        let room : blocks_taken fss j before + blocks_for (length b.bytes) ≤ (fs_at fss j).blocks =
+        subst (λ (i : ℕ). blocks_taken fss i before + blocks_for (length b.bytes) ≤ (fs_at fss i).blocks) here.1 line.blocks in
         omega (arith, blocks_more fss j before b)
     | inr other ↦
         let none : cond {A = ℕ} (fs_of fss b.path.names == j) (blocks_for (length b.bytes)) 0 ≡ 0 = cond-false _ _ _ other.0 in

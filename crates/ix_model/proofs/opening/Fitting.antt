@@ -14,23 +14,29 @@ list_any-map p h [] = refl
 list_any-map p h (x ∷ xs) = rw (list_any-map p h xs) refl
 
 -- names differ from a place on where the name there is none of the rest, and the rest differ
-pub all_differ_step : (fss : List FsSpec) (i : ℕ) (s : FsSpec) (named : Bool) → i < length fss → s ≡ get_or fss i s → named ≡ list_any (λ t. same_bytes s.name t.name) (take (length fss - (i + 1)) (drop (i + 1) fss)) → all_differ (map (λ t. t.name) (drop i fss)) ≡ (not named && all_differ (map (λ t. t.name) (drop (i + 1) fss)))
+pub all_differ_step : (fss : List FsSpec) (i : ℕ) (s : FsSpec) (named : Bool) → i < length fss → s ≡ get_or fss i s
+    → named ≡ list_any (λ t. same_bytes s.name t.name) (take (length fss - (i + 1)) (drop (i + 1) fss))
+    → all_differ (map (λ t. t.name) (drop i fss)) ≡ (not named && all_differ (map (λ t. t.name) (drop (i + 1) fss)))
 all_differ_step fss i s named low here is =
     let rest : List FsSpec = drop (i + 1) fss in
     at_drop_more (λ (xs : List FsSpec). all_differ (map (λ t. t.name) xs)) fss i s low
     ∙ ap (λ (x : FsSpec). all_differ (map (λ t. t.name) (x ∷ rest))) (sym here)
-    ∙ ap (λ (b : Bool). not b && all_differ (map (λ t. t.name) rest)) (list_any-map (same_bytes s.name) (λ (t : FsSpec). t.name) rest ∙ sym (is ∙ ap (list_any (λ (t : FsSpec). same_bytes s.name t.name)) (take_rest fss (i + 1))))
+    ∙ ap (λ (b : Bool). not b && all_differ (map (λ t. t.name) rest)) (list_any-map (same_bytes s.name) (λ (t : FsSpec). t.name) rest
+    ∙ sym (is ∙ ap (list_any (λ (t : FsSpec). same_bytes s.name t.name)) (take_rest fss (i + 1))))
 
 -- ---- blocks
-pub taken-cons : (fss : List FsSpec) (k : ℕ) (b : ObjSpec) (lines : List ObjSpec) → blocks_taken fss k (b ∷ lines) ≡ (if fs_of fss b.path.names == k then blocks_for (length b.bytes) else 0) + blocks_taken fss k lines
+pub taken-cons : (fss : List FsSpec) (k : ℕ) (b : ObjSpec) (lines : List ObjSpec) → blocks_taken fss k (b ∷ lines) ≡ (if fs_of fss b.path.names == k then
+    blocks_for (length b.bytes) else 0) + blocks_taken fss k lines
 taken-cons fss k b lines = go (fs_of fss b.path.names == k)
   where
-    go : (on : Bool) → sum (map (λ x. blocks_for (length x.bytes)) (if on then b ∷ lying_on fss k lines else lying_on fss k lines)) ≡ (if on then blocks_for (length b.bytes) else 0) + blocks_taken fss k lines
+    go : (on : Bool) → sum (map (λ x. blocks_for (length x.bytes)) (if on then b ∷ lying_on fss k lines else lying_on fss k lines)) ≡ (if on then
+        blocks_for (length b.bytes) else 0) + blocks_taken fss k lines
     go true = sum_by-cons (λ x. x) (blocks_for (length b.bytes)) (map (λ x. blocks_for (length x.bytes)) (lying_on fss k lines))
     go false = omega arith
 
 -- the lines before one that lies on a file system, and it, take no more than all lines
-pub taken_more : (fss : List FsSpec) (k : ℕ) (lines : List ObjSpec) (i : ℕ) (b : ObjSpec) → i < length lines → b ≡ get_or lines i b → (fs_of fss b.path.names == k) ≡ true → blocks_taken fss k (take i lines) + blocks_for (length b.bytes) ≤ blocks_taken fss k lines
+pub taken_more : (fss : List FsSpec) (k : ℕ) (lines : List ObjSpec) (i : ℕ) (b : ObjSpec) → i < length lines → b ≡ get_or lines i b
+    → (fs_of fss b.path.names == k) ≡ true → blocks_taken fss k (take i lines) + blocks_for (length b.bytes) ≤ blocks_taken fss k lines
 taken_more fss k [] i b low here on = absurd (omega arith)
 taken_more fss k (x ∷ lines) zero b low here on =
     rw (← here) (let first : blocks_taken fss k (b ∷ lines) ≡ blocks_for (length b.bytes) + blocks_taken fss k lines =

@@ -22,7 +22,8 @@ dir_of k b = go b.dir
     go true = refl
     go false = refl
 
-module _ (fss : List FsSpec) (l : Limits) (before : List ObjSpec) (t : List (Option Object)) (hs : List Holding) (b : ObjSpec) (o d k : ℕ) (p : Place t o d) (line : Line fss l before b) (inside : o < length hs) where
+module _ (fss : List FsSpec) (l : Limits) (before : List ObjSpec) (t : List (Option Object)) (hs : List Holding) (b : ObjSpec) (o d k : ℕ) (p : Place t o d)
+    (line : Line fss l before b) (inside : o < length hs) where
   new_holds : is_dir (object_of k b) ≡ true → (get_or (set hs o (holding_for b)) o holds_nothing).first ≡ []
   new_holds dir = ap (λ h. h.first) (get_or-set_same hs o (holding_for b) holds_nothing inside) ∙ line.bare (sym (dir_of k b) ∙ dir)
 

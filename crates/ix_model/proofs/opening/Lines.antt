@@ -1,5 +1,6 @@
 -- What an object line that fits says, and where a path leads after it.
-use Rattle.std.proofs.Common.{◌≡◌, ◌⊎◌, ◌≤◌, ◌+◌, ◌-◌, ◌==◌, ℕ, suc, Bool, true, false, not, ◌&&◌, ◌||◌, List, [], ◌∷◌, ◌++◌, length, take, drop, cond, Some, None, nat_le, refl, sym, ap, ◌∙◌, arith, get_or, inl, inr, eqb-true}
+use Rattle.std.proofs.Common.{◌≡◌, ◌⊎◌, ◌≤◌, ◌+◌, ◌-◌, ◌==◌, ℕ, suc, Bool, true, false, not, ◌&&◌, ◌||◌, List, [], ◌∷◌, ◌++◌, length, take, drop}
+use Rattle.std.proofs.Common.{cond, Some, None, nat_le, refl, sym, ap, ◌∙◌, arith, get_or, inl, inr, eqb-true}
 use Rattle.std.specs.Option.{option_map_or}
 use Rattle.std.specs.List.{list_any, position_from}
 use Rattle.std.proofs.Math.Bool.{and-true, or-false}
@@ -106,16 +107,19 @@ still_there fss before b names h = elim (or_cases (is_mount fss names) (list_any
 ]
 
 pub now_there : (fss : List FsSpec) (before : List ObjSpec) (b : ObjSpec) → is_taken fss (before ++ b ∷ []) b.path.names ≡ true
-now_there fss before b = or_right (is_mount fss b.path.names) _ (there_more (λ c. same_names c.path.names b.path.names) before b ∙ or_right (list_any (λ c. same_names c.path.names b.path.names) before) _ (names_itself b.path.names))
+now_there fss before b = or_right (is_mount fss b.path.names) _ (there_more (λ c. same_names c.path.names b.path.names) before b
+    ∙ or_right (list_any (λ c. same_names c.path.names b.path.names) before) _ (names_itself b.path.names))
 
 -- a directory is one that was there, or the new object
-pub dir_there : (fss : List FsSpec) (before : List ObjSpec) (b : ObjSpec) (names : List (List ℕ)) → has_directory fss (before ++ b ∷ []) names ≡ true → (has_directory fss before names ≡ true) ⊎ ((b.dir ≡ true) × (b.path.names ≡ names))
+pub dir_there : (fss : List FsSpec) (before : List ObjSpec) (b : ObjSpec) (names : List (List ℕ)) → has_directory fss (before ++ b ∷ []) names ≡ true
+    → (has_directory fss before names ≡ true) ⊎ ((b.dir ≡ true) × (b.path.names ≡ names))
 dir_there fss before b names h = elim (or_cases (same_names [] names || is_mount fss names) (list_any (λ c. c.dir && same_names c.path.names names) (before ++ b ∷ [])) h) [
   | inl root ↦ inl (or_left _ _ root)
-  | inr made ↦ elim (or_cases (list_any (λ c. c.dir && same_names c.path.names names) before) (b.dir && same_names b.path.names names) (sym (there_more (λ c. c.dir && same_names c.path.names names) before b) ∙ made)) [
-    | inl old ↦ inl (or_right (same_names [] names || is_mount fss names) _ old)
-    | inr new ↦
-        let p = and_parts b.dir (same_names b.path.names names) new in
-        inr (p.0, names_are b.path.names names p.1)
-  ]
+  | inr made ↦ elim (or_cases (list_any (λ c. c.dir && same_names c.path.names names) before) (b.dir && same_names b.path.names names)
+      (sym (there_more (λ c. c.dir && same_names c.path.names names) before b) ∙ made)) [
+        | inl old ↦ inl (or_right (same_names [] names || is_mount fss names) _ old)
+        | inr new ↦
+            let p = and_parts b.dir (same_names b.path.names names) new in
+            inr (p.0, names_are b.path.names names p.1)
+      ]
 ]

@@ -1,5 +1,6 @@
 -- The names of the further file systems' roots: how often each number stands among them, and what each leads to.
-use Rattle.std.proofs.Common.{◌≡◌, ◌<◌, ◌+◌, ◌==◌, ℕ, zero, suc, Bool, true, false, ◌&&◌, ◌||◌, List, [], ◌∷◌, length, map, count_by, find, cond, Some, None, option_map, refl, sym, ap, ◌∙◌, arith, inl, inr}
+use Rattle.std.proofs.Common.{◌≡◌, ◌<◌, ◌+◌, ◌==◌, ℕ, zero, suc, Bool, true, false, ◌&&◌, ◌||◌, List, [], ◌∷◌, length, map, count_by, find, cond}
+use Rattle.std.proofs.Common.{Some, None, option_map, refl, sym, ap, ◌∙◌, arith, inl, inr}
 use Rattle.std.specs.List.{list_any, list_all, position_from}
 use Rattle.std.proofs.Math.Bool.{and-true}
 use Rattle.std.proofs.lemmas.Bool.{cond-true, cond-false, eq-eqb, ne_eqb}
@@ -27,7 +28,9 @@ pub mounts_any : (n : ℕ) (ms : List FsSpec) (name : List ℕ) → list_any (λ
 mounts_any n [] name h = h
 mounts_any n (s ∷ ms) name h = go (same_bytes s.name name) h (mounts_any (n + s.inodes) ms name)
   where
-    go : (b : Bool) → (b || list_any (λ e. same_bytes e.0 name) (mounts (n + s.inodes) ms)) ≡ true → (list_any (λ e. same_bytes e.0 name) (mounts (n + s.inodes) ms) ≡ true → list_any (λ t. same_names (t.name ∷ []) (name ∷ [])) ms ≡ true) → (b && true || list_any (λ t. same_names (t.name ∷ []) (name ∷ [])) ms) ≡ true
+    go : (b : Bool) → (b || list_any (λ e. same_bytes e.0 name) (mounts (n + s.inodes) ms)) ≡ true
+        → (list_any (λ e. same_bytes e.0 name) (mounts (n + s.inodes) ms) ≡ true → list_any (λ t. same_names (t.name ∷ []) (name ∷ [])) ms ≡ true)
+        → (b && true || list_any (λ t. same_names (t.name ∷ []) (name ∷ [])) ms) ≡ true
     go true h next = refl
     go false h next = next h
 
@@ -44,7 +47,9 @@ mounts_past (s ∷ ms) n q low =
 
 pub mounts_without : (ms : List FsSpec) (n q : ℕ) → q < n → find (λ e. e.1 == q) (mounts n ms) ≡ None
 mounts_without [] n q low = refl
-mounts_without (s ∷ ms) n q low = cond-false (n == q) (Some (s.name, n)) (find (λ e. e.1 == q) (mounts (n + s.inodes) ms)) (ne_eqb n q (λ e. absurd (omega arith))) ∙ mounts_without ms (n + s.inodes) q (omega arith)
+mounts_without (s ∷ ms) n q low =
+    cond-false (n == q) (Some (s.name, n)) (find (λ e. e.1 == q) (mounts (n + s.inodes) ms)) (ne_eqb n q (λ e. absurd (omega arith)))
+    ∙ mounts_without ms (n + s.inodes) q (omega arith)
 
 -- each root's number stands once
 pub mounts_once : (ms : List FsSpec) (n k : ℕ) → list_all fs_fits ms ≡ true → k < length ms → count_by (λ e. e.1 == n + first_inode ms k) (mounts n ms) ≡ 1
@@ -59,7 +64,8 @@ mounts_once (s ∷ ms) n (suc k) fit low =
     let q : ℕ = n + first_inode (s ∷ ms) (suc k) in
     let further : (n + s.inodes) + first_inode ms k ≡ q = omega (arith, first-cons s ms k) in
     let none : cond {A = ℕ} (n == q) 1 0 ≡ 0 = ap (λ b. cond {A = ℕ} b 1 0) (ne_eqb n q (λ e. absurd (omega (arith, further, p.0)))) in
-    let rest : count_by (λ e. e.1 == q) (mounts (n + s.inodes) ms) ≡ 1 = ap (λ m. count_by (λ e. e.1 == m) (mounts (n + s.inodes) ms)) (sym further) ∙ mounts_once ms (n + s.inodes) k p.1 (omega arith) in
+    let rest : count_by (λ e. e.1 == q) (mounts (n + s.inodes) ms) ≡ 1 = ap (λ m. count_by (λ e. e.1 == m) (mounts (n + s.inodes) ms)) (sym further)
+    ∙ mounts_once ms (n + s.inodes) k p.1 (omega arith) in
     omega (arith, count-mounts q n s ms)
 
 -- and no other number stands there
@@ -92,15 +98,18 @@ pub mounted : (ms : List FsSpec) (names : List (List ℕ)) (n i : ℕ) → list_
 mounted [] names n i fit h = cc
 mounted (s ∷ ms) names n i fit h = go (same_names (s.name ∷ []) names) refl h (λ k. mounted ms names (n + s.inodes) (i + 1) (first_fits s ms fit).1 k)
   where
-    go : (b : Bool) → same_names (s.name ∷ []) names ≡ b → (b || list_any (λ t. same_names (t.name ∷ []) names) ms) ≡ true → (list_any (λ t. same_names (t.name ∷ []) names) ms ≡ true → Mounted ms names (n + s.inodes) (i + 1)) → Mounted (s ∷ ms) names n i
+    go : (b : Bool) → same_names (s.name ∷ []) names ≡ b → (b || list_any (λ t. same_names (t.name ∷ []) names) ms) ≡ true
+        → (list_any (λ t. same_names (t.name ∷ []) names) ms ≡ true → Mounted ms names (n + s.inodes) (i + 1)) → Mounted (s ∷ ms) names n i
     go true here h next = record {
       name = s.name;
       is = sym (names_are (s.name ∷ []) names here);
       place = 0;
       low = omega arith;
       found = cond-true (same_bytes s.name s.name) (Some i) (position_from (λ t. same_bytes t.name s.name) (i + 1) ms) (bytes_itself s.name) ∙ ap Some (omega arith);
-      child = ap (option_map (λ (e : List ℕ × ℕ). e.1)) (cond-true (same_bytes s.name s.name) (Some (s.name, n)) (find (λ e. same_bytes e.0 s.name) (mounts (n + s.inodes) ms)) (bytes_itself s.name)) ∙ ap Some (omega arith);
-      back = ap (option_map (λ (e : List ℕ × ℕ). e.0)) (cond-true (n == n + first_inode (s ∷ ms) 0) (Some (s.name, n)) (find (λ e. e.1 == n + first_inode (s ∷ ms) 0) (mounts (n + s.inodes) ms)) (eq-eqb n (n + first_inode (s ∷ ms) 0) (omega arith)));
+      child = ap (option_map (λ (e : List ℕ × ℕ). e.1)) (cond-true (same_bytes s.name s.name) (Some (s.name, n))
+          (find (λ e. same_bytes e.0 s.name) (mounts (n + s.inodes) ms)) (bytes_itself s.name)) ∙ ap Some (omega arith);
+      back = ap (option_map (λ (e : List ℕ × ℕ). e.0)) (cond-true (n == n + first_inode (s ∷ ms) 0) (Some (s.name, n))
+          (find (λ e. e.1 == n + first_inode (s ∷ ms) 0) (mounts (n + s.inodes) ms)) (eq-eqb n (n + first_inode (s ∷ ms) 0) (omega arith)));
     }
     go false here h next =
         let r = next h in
@@ -114,7 +123,9 @@ mounted (s ∷ ms) names n i fit h = go (same_names (s.name ∷ []) names) refl 
           place = suc r.place;
           low = omega (arith, r.low);
           found = cond-false (same_bytes s.name r.name) (Some i) (position_from (λ t. same_bytes t.name r.name) (i + 1) ms) other ∙ r.found ∙ ap Some (omega arith);
-          child = ap (option_map (λ (e : List ℕ × ℕ). e.1)) (cond-false (same_bytes s.name r.name) (Some (s.name, n)) (find (λ e. same_bytes e.0 r.name) (mounts (n + s.inodes) ms)) other) ∙ r.child ∙ ap Some further;
-          back = ap (option_map (λ (e : List ℕ × ℕ). e.0)) (cond-false (n == q) (Some (s.name, n)) (find (λ e. e.1 == q) (mounts (n + s.inodes) ms)) (ne_eqb n q (λ e. absurd (omega (arith, further, p.0)))))
+          child = ap (option_map (λ (e : List ℕ × ℕ). e.1)) (cond-false (same_bytes s.name r.name) (Some (s.name, n))
+              (find (λ e. same_bytes e.0 r.name) (mounts (n + s.inodes) ms)) other) ∙ r.child ∙ ap Some further;
+          back = ap (option_map (λ (e : List ℕ × ℕ). e.0)) (cond-false (n == q) (Some (s.name, n)) (find (λ e. e.1 == q) (mounts (n + s.inodes) ms))
+              (ne_eqb n q (λ e. absurd (omega (arith, further, p.0)))))
               ∙ ap (λ m. option_map (λ (e : List ℕ × ℕ). e.0) (find (λ e. e.1 == m) (mounts (n + s.inodes) ms))) (sym further) ∙ r.back;
         }

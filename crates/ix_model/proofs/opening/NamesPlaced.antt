@@ -1,5 +1,6 @@
 -- One object more leaves the names sound.
-use Rattle.std.proofs.Common.{◌≡◌, ◌≢◌, ◌<◌, ◌+◌, ◌==◌, ℕ, suc, Bool, true, false, true≢false, not, List, [], ◌∷◌, ◌++◌, map, sum, count_by, cond, if◌then◌else◌, Option, Some, None, refl, sym, ap, ◌∙◌, arith, inl, inr}
+use Rattle.std.proofs.Common.{◌≡◌, ◌≢◌, ◌<◌, ◌+◌, ◌==◌, ℕ, suc, Bool, true, false, true≢false, not, List, [], ◌∷◌, ◌++◌, map, sum, count_by, cond}
+use Rattle.std.proofs.Common.{if◌then◌else◌, Option, Some, None, refl, sym, ap, ◌∙◌, arith, inl, inr}
 use Rattle.std.specs.Option.{option_map_or}
 use Rattle.std.specs.List.{list_any}
 use Rattle.std.proofs.lemmas.Bool.{and_parts, or_parts, or_from, and_from, not-true, not_from_false, cases_lt, eq-eqb, ne_eqb}
@@ -26,7 +27,8 @@ new_no_pipe k b = go b.dir
     go false = refl
 
 -- names that differ, with one that is none of them
-differ_push : (es : List (List ℕ × ℕ)) (name : List ℕ) (o : ℕ) → list_any (λ e. same_bytes e.0 name) es ≡ false → all_differ (map (λ e. e.0) es) ≡ true → all_differ (map (λ e. e.0) (es ++ (name, o) ∷ [])) ≡ true
+differ_push : (es : List (List ℕ × ℕ)) (name : List ℕ) (o : ℕ) → list_any (λ e. same_bytes e.0 name) es ≡ false → all_differ (map (λ e. e.0) es) ≡ true
+    → all_differ (map (λ e. e.0) (es ++ (name, o) ∷ [])) ≡ true
 differ_push [] name o new differ = refl
 differ_push (e ∷ es) name o new differ =
     let news = or_parts (same_bytes e.0 name) (list_any (λ x. same_bytes x.0 name) es) new in
@@ -52,7 +54,8 @@ unnamed t o r free = sum_nothing (times_in o) t (λ m. go m (at t m) refl)
       | inr none ↦ omega arith
     ]
 
-module _ (t : List (Option Object)) (b : ObjSpec) (o d k : ℕ) (p : Place t o d) (r : Named t) (dir : is_dir p.dir ≡ true) (new : list_any (λ e. same_bytes e.0 (last_name b.path.names)) p.dir.names ≡ false) where
+module _ (t : List (Option Object)) (b : ObjSpec) (o d k : ℕ) (p : Place t o d) (r : Named t) (dir : is_dir p.dir ≡ true)
+    (new : list_any (λ e. same_bytes e.0 (last_name b.path.names)) p.dir.names ≡ false) where
   abbrev next : List (Option Object)
   next = with_one t b d k o
 
@@ -60,13 +63,17 @@ module _ (t : List (Option Object)) (b : ObjSpec) (o d k : ℕ) (p : Place t o d
   not_root same = absurd (true≢false (sym r.root ∙ ap (λ n. option_map_or is_dir (at t n) false) (sym same) ∙ ap (λ x. option_map_or is_dir x false) p.free))
 
   no_pipe_at : (q : ℕ) → option_map_or (λ y. not (is_pipe y)) (at t q) false ≡ true → option_map_or (λ y. not (is_pipe y)) (at next q) false ≡ true
-  no_pipe_at q h = seen t b o d k p (λ x. option_map_or (λ y. not (is_pipe y)) x false) (λ x. refl) q (λ same. absurd (true≢false (sym h ∙ ap (λ n. option_map_or (λ y. not (is_pipe y)) (at t n) false) same ∙ ap (λ x. option_map_or (λ y. not (is_pipe y)) x false) p.free))) ∙ h
+  no_pipe_at q h = seen t b o d k p (λ x. option_map_or (λ y. not (is_pipe y)) x false) (λ x. refl) q
+      (λ same. absurd (true≢false (sym h ∙ ap (λ n. option_map_or (λ y. not (is_pipe y)) (at t n) false) same
+      ∙ ap (λ x. option_map_or (λ y. not (is_pipe y)) x false) p.free))) ∙ h
 
   named_in_dir : (q : ℕ) → 0 < count_by (λ n. n.1 == q) (naming b o p.dir).names → option_map_or (λ y. not (is_pipe y)) (at next q) false ≡ true
   named_in_dir q h = elim (eqb_tells o q) [
-    | inl here ↦ ap (λ n. option_map_or (λ y. not (is_pipe y)) (at next n) false) (sym here.1) ∙ ap (λ x. option_map_or (λ y. not (is_pipe y)) x false) (at_new t b o d k p) ∙ not_from_false _ (new_no_pipe k b)
+    | inl here ↦ ap (λ n. option_map_or (λ y. not (is_pipe y)) (at next n) false) (sym here.1)
+        ∙ ap (λ x. option_map_or (λ y. not (is_pipe y)) x false) (at_new t b o d k p) ∙ not_from_false _ (new_no_pipe k b)
     | inr other ↦
-        let more : count_by (λ n. n.1 == q) (naming b o p.dir).names ≡ count_by (λ n. n.1 == q) p.dir.names + cond {A = ℕ} (o == q) 1 0 = sum_by_push (λ (n : List ℕ × ℕ). cond {A = ℕ} (n.1 == q) 1 0) p.dir.names (last_name b.path.names, o) in
+        let more : count_by (λ n. n.1 == q) (naming b o p.dir).names ≡ count_by (λ n. n.1 == q) p.dir.names + cond {A = ℕ} (o == q) 1 0 =
+        sum_by_push (λ (n : List ℕ × ℕ). cond {A = ℕ} (n.1 == q) 1 0) p.dir.names (last_name b.path.names, o) in
         let none : cond {A = ℕ} (o == q) 1 0 ≡ 0 = ap (λ x. cond {A = ℕ} x 1 0) other.0 in
         no_pipe_at q (r.living d q p.dir p.is_dir (omega arith))
   ]
@@ -85,8 +92,10 @@ module _ (t : List (Option Object)) (b : ObjSpec) (o d k : ℕ) (p : Place t o d
   named_after = record {
     root = seen t b o d k p (λ x. option_map_or is_dir x false) (λ x. refl) 0 (λ same. not_root (sym same)) ∙ r.root;
     in_directories = each_after t b o d k p (λ m x. is_dir x ≡ false → x.names ≡ []) (λ h. refl) (λ h. absurd (true≢false (sym dir ∙ h))) (λ m x other apart is. r.in_directories m x is);
-    living = λ m q x is. each_after t b o d k p (λ m x. 0 < count_by (λ n. n.1 == q) x.names → option_map_or (λ y. not (is_pipe y)) (at next q) false ≡ true) (λ h. absurd (omega arith)) (named_in_dir q) (λ m x other apart is h. no_pipe_at q (r.living m q x is h)) m x is;
-    differ = each_after t b o d k p (λ m x. all_differ (map (λ n. n.0) x.names) ≡ true) refl (differ_push p.dir.names (last_name b.path.names) o new (r.differ d p.dir p.is_dir)) (λ m x other apart is. r.differ m x is);
+    living = λ m q x is. each_after t b o d k p (λ m x. 0 < count_by (λ n. n.1 == q) x.names → option_map_or (λ y. not (is_pipe y)) (at next q) false ≡ true)
+        (λ h. absurd (omega arith)) (named_in_dir q) (λ m x other apart is h. no_pipe_at q (r.living m q x is h)) m x is;
+    differ = each_after t b o d k p (λ m x. all_differ (map (λ n. n.0) x.names) ≡ true) refl (differ_push p.dir.names (last_name b.path.names) o new
+        (r.differ d p.dir p.is_dir)) (λ m x other apart is. r.differ m x is);
     once = each_after t b o d k p (λ m x. is_dir x ≡ true → times_named next m ≡ (if m == 0 then 0 else 1))
         (λ h. times_new ∙ sym (ap (λ x. if x then 0 else 1) (ne_eqb o 0 not_root)))
         (λ h. times_there d (not_new t b o d k p d p.dir p.is_dir) ∙ r.once d p.dir p.is_dir h)

@@ -1,5 +1,6 @@
 -- The opening world of a valid config, line by line.
-use Rattle.std.proofs.Common.{◌≡◌, ◌<◌, ◌≤◌, ◌+◌, ℕ, true, List, [], ◌∷◌, ◌++◌, length, map, replicate, take, drop, Option, Some, None, option_map, unwrap_or, set, refl, sym, ap, ◌∙◌, subst, arith, append_assoc, append-nil}
+use Rattle.std.proofs.Common.{◌≡◌, ◌<◌, ◌≤◌, ◌+◌, ℕ, true, List, [], ◌∷◌, ◌++◌, length, map, replicate, take, drop, Option, Some, None, option_map}
+use Rattle.std.proofs.Common.{unwrap_or, set, refl, sym, ap, ◌∙◌, subst, arith, append_assoc, append-nil}
 use Rattle.std.specs.Option.{option_map_or}
 use Rattle.std.specs.List.{list_any}
 use Rattle.std.proofs.lemmas.Bool.{and_parts, or_parts}
@@ -36,7 +37,9 @@ pub record WorldBuilt (c : Config) (before : List ObjSpec) (w : World) : Type 0 
   pub built : Built c.fss c.limits before objects holdings
 
 -- what an object line comes to where its directory is found and a number is free
-line_at : (c : Config) (t : List (Option Object)) (hs : List Holding) (b : ObjSpec) (d k o : ℕ) → directory_of t 0 b.path.names ≡ d → unwrap_or (node t d).fs 0 ≡ k → free_inode (world_with c t hs).frame k ≡ Some o → with_object (world_with c t hs) b ≡ world_with c (with_one t b d k o) (set hs o (holding_for b))
+line_at : (c : Config) (t : List (Option Object)) (hs : List Holding) (b : ObjSpec) (d k o : ℕ) → directory_of t 0 b.path.names ≡ d
+    → unwrap_or (node t d).fs 0 ≡ k → free_inode (world_with c t hs).frame k ≡ Some o
+    → with_object (world_with c t hs) b ≡ world_with c (with_one t b d k o) (set hs o (holding_for b))
 unfolding with_object
 line_at c t hs b d k o is_dir is_fs free =
     let w : World = world_with c t hs in
@@ -49,13 +52,15 @@ unfolding free_inode
 free_at f k n is = ap (option_map (λ m. first_inode f.fss k + m)) is
 
 -- one line more
-pub line_built : (c : Config) (before : List ObjSpec) (t : List (Option Object)) (hs : List Holding) (b : ObjSpec) → Built c.fss c.limits before t hs → object_fits c.fss c.limits before b ≡ true → WorldBuilt c (before ++ b ∷ []) (with_object (world_with c t hs) b)
+pub line_built : (c : Config) (before : List ObjSpec) (t : List (Option Object)) (hs : List Holding) (b : ObjSpec) → Built c.fss c.limits before t hs
+    → object_fits c.fss c.limits before b ≡ true → WorldBuilt c (before ++ b ∷ []) (with_object (world_with c t hs) b)
 line_built c before t hs b r fits =
     let line = line_is c.fss c.limits before b fits in
     let home = r.ways.dirs (parent_of b.path.names) line.dir in
     let k : ℕ = fs_of c.fss b.path.names in
     let no_root = or_parts (is_mount c.fss b.path.names) (list_any (λ x. same_names x.path.names b.path.names) before) line.new in
-    let same_fs : k ≡ fs_of c.fss (parent_of b.path.names) = ap (fs_of c.fss) line.is_path ∙ fs_of_child c.fss (parent_of b.path.names) (last_name b.path.names) (ap (is_mount c.fss) (sym line.is_path) ∙ no_root.0) in
+    let same_fs : k ≡ fs_of c.fss (parent_of b.path.names) = ap (fs_of c.fss) line.is_path
+    ∙ fs_of_child c.fss (parent_of b.path.names) (last_name b.path.names) (ap (is_mount c.fss) (sym line.is_path) ∙ no_root.0) in
     let free = free_is t (first_inode c.fss k) (fs_at c.fss k).inodes (omega (arith, first_within c.fss k, r.counted.long)) (omega (arith, r.counted.taken k, line.inodes)) in
     let o : ℕ = first_inode c.fss k + free.step in
     let p : Place t o home.number = record { low = omega (arith, free.low, first_within c.fss k, r.counted.long); free = free.none; dir = home.object; is_dir = home.is_object } in
@@ -78,7 +83,8 @@ line_built c before t hs b r fits =
     }
 
 -- all lines
-pub lines_built : (c : Config) (before lines : List ObjSpec) (w : World) → WorldBuilt c before w → objects_fit c.fss c.limits before lines ≡ true → WorldBuilt c (before ++ lines) (with_objects w lines)
+pub lines_built : (c : Config) (before lines : List ObjSpec) (w : World) → WorldBuilt c before w → objects_fit c.fss c.limits before lines ≡ true
+    → WorldBuilt c (before ++ lines) (with_objects w lines)
 lines_built c before [] w r fit = subst (λ (bs : List ObjSpec). WorldBuilt c bs w) (sym (append-nil before)) r
 lines_built c before (b ∷ lines) w r fit =
     let p = and_parts (object_fits c.fss c.limits before b) (objects_fit c.fss c.limits (before ++ b ∷ []) lines) fit in

@@ -42,7 +42,8 @@ process_at procs zero q low is = cc
 process_at procs (suc k) q low is = process_in procs k q low is
 
 -- ---- the parts
-module _ (c : Config) (before : List ObjSpec) (t : List (Option Object)) (hs : List Holding) (r : Built c.fss c.limits before t hs) (low : list_all (λ p. leq p.label p.ceiling) c.procs ≡ true) (few : length c.procs ≤ c.limits.procs) where
+module _ (c : Config) (before : List ObjSpec) (t : List (Option Object)) (hs : List Holding) (r : Built c.fss c.limits before t hs)
+    (low : list_all (λ p. leq p.label p.ceiling) c.procs ≡ true) (few : length c.procs ≤ c.limits.procs) where
   abbrev opened : World
   opened = world_with c t hs
 
@@ -105,7 +106,12 @@ module _ (c : Config) (before : List ObjSpec) (t : List (Option Object)) (hs : L
         let same : f.fs ≡ k = cc in
         subst (λ (j : ℕ). (first_inode c.fss j ≤ o) × (o < first_inode c.fss j + (fs_at c.fss j).inodes)) same (f.from, f.to);
     opens = length-replicate {A = Option Open} c.limits.opens None;
-    processes = omega (arith, sum_by-cons (λ (q : Option Process). cond {A = ℕ} (is_some q) 1 0) None (processes_of c.procs), count_by-le-length is_some (processes_of c.procs), length-map c.procs (λ p. Some (process_of p)));
+    processes = omega (
+      arith,
+      sum_by-cons (λ (q : Option Process). cond {A = ℕ} (is_some q) 1 0) None (processes_of c.procs),
+      count_by-le-length is_some (processes_of c.procs),
+      length-map c.procs (λ p. Some (process_of p)),
+    );
     names = omega (arith, r.counted.names, r.counted.few);
     log = omega arith;
   }
@@ -128,4 +134,17 @@ module _ (c : Config) (before : List ObjSpec) (t : List (Option Object)) (hs : L
   }
 
   pub sound_built : IsClean opened → Sound opened
-  sound_built clean = record { labels = labels_sound; names = names_sound; lives = lives_sound; opens = opens_sound; processes = processes_sound; claims = claims_sound; limits = limits_sound; lengths = lengths_sound; shapes = shapes_sound; holdings = record { clean = clean; directory = r.held.directory; second = λ o x is other. r.held.second o } }
+  sound_built clean = record {
+    labels = labels_sound;
+    names = names_sound;
+    lives = lives_sound;
+    opens = opens_sound;
+    processes = processes_sound;
+    claims =
+        claims_sound;
+    limits = limits_sound;
+    lengths = lengths_sound;
+    shapes = shapes_sound;
+    holdings =
+        record { clean = clean; directory = r.held.directory; second = λ o x is other. r.held.second o };
+  }

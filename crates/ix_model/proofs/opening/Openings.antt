@@ -1,5 +1,6 @@
 -- The opening world is clean.
-use Rattle.std.proofs.Common.{◌≡◌, ◌<◌, ◌+◌, ℕ, zero, suc, false, List, [], ◌∷◌, length, take, drop, replicate, Option, Some, None, is_some, is_none, option_map, refl, sym, ap, ◌∙◌, arith, get_or, unwrap_or, true≢false, inl, inr}
+use Rattle.std.proofs.Common.{◌≡◌, ◌<◌, ◌+◌, ℕ, zero, suc, false, List, [], ◌∷◌, length, take, drop, replicate, Option, Some, None, is_some, is_none}
+use Rattle.std.proofs.Common.{option_map, refl, sym, ap, ◌∙◌, arith, get_or, unwrap_or, true≢false, inl, inr}
 use Rattle.std.specs.Option.{option_map_or}
 use Rattle.std.proofs.lemmas.Bool.Decides.{eqb_tells}
 use Rattle.std.proofs.lemmas.List.{get_or-set_other, get_or-set_same, length-replicate, length-map, length-take, length-drop}
@@ -43,10 +44,13 @@ free_inside f k o h = go (lowest_free (take (fs_at f.fss k).inodes (drop (first_
 clean_placed : (w : World) (spec : ObjSpec) (dir k o : ℕ) → o < length w.frame.objects → IsClean w → IsClean (placed w spec dir k o)
 clean_placed w spec dir k o low clean = record {
   holdings = λ m gone.
-      let put_gone : is_some (at (put w.frame.objects o (Some (object_of k spec))) m) ≡ false = sym (seen_changed is_some _ (λ x. refl) (put w.frame.objects o (Some (object_of k spec))) dir m) ∙ gone in
+      let put_gone : is_some (at (put w.frame.objects o (Some (object_of k spec))) m) ≡ false =
+      sym (seen_changed is_some _ (λ x. refl) (put w.frame.objects o (Some (object_of k spec))) dir m) ∙ gone in
       elim (eqb_tells m o) [
-        | inl here ↦ absurd (true≢false (sym (ap is_some (ap (λ n. at (put w.frame.objects o (Some (object_of k spec))) n) here.1 ∙ get_or-set_same w.frame.objects o (Some (object_of k spec)) None low)) ∙ put_gone))
-        | inr other ↦ get_or-set_other w.content.holdings o m _ holds_nothing other.1 ∙ clean.holdings m (sym (ap is_some (get_or-set_other w.frame.objects o m (Some (object_of k spec)) None other.1)) ∙ put_gone)
+        | inl here ↦ absurd (true≢false (sym (ap is_some (ap (λ n. at (put w.frame.objects o (Some (object_of k spec))) n) here.1
+            ∙ get_or-set_same w.frame.objects o (Some (object_of k spec)) None low)) ∙ put_gone))
+        | inr other ↦ get_or-set_other w.content.holdings o m _ holds_nothing other.1
+            ∙ clean.holdings m (sym (ap is_some (get_or-set_other w.frame.objects o m (Some (object_of k spec)) None other.1)) ∙ put_gone)
       ];
   offsets = clean.offsets;
   statuses = clean.statuses;
@@ -57,7 +61,9 @@ clean_with_object : (w : World) (spec : ObjSpec) → IsClean w → IsClean (with
 unfolding with_object
 clean_with_object w spec clean = go (free_inode w.frame (unwrap_or (node w.frame.objects (directory_of w.frame.objects 0 spec.path.names)).fs 0)) refl
   where
-    go : (o : Option ℕ) → free_inode w.frame (unwrap_or (node w.frame.objects (directory_of w.frame.objects 0 spec.path.names)).fs 0) ≡ o → IsClean (option_map_or (placed w spec (directory_of w.frame.objects 0 spec.path.names) (unwrap_or (node w.frame.objects (directory_of w.frame.objects 0 spec.path.names)).fs 0)) o w)
+    go : (o : Option ℕ) → free_inode w.frame (unwrap_or (node w.frame.objects (directory_of w.frame.objects 0 spec.path.names)).fs 0) ≡ o
+        → IsClean (option_map_or (placed w spec (directory_of w.frame.objects 0 spec.path.names)
+        (unwrap_or (node w.frame.objects (directory_of w.frame.objects 0 spec.path.names)).fs 0)) o w)
     go None is = clean
     go (Some o) is = clean_placed w spec _ _ o (free_inside w.frame _ o is) clean
 

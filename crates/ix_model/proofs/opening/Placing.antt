@@ -1,5 +1,6 @@
 -- A table of objects with one more, under a name in a directory.
-use Rattle.std.proofs.Common.{◌≡◌, ◌≢◌, ◌<◌, ◌+◌, ◌==◌, ℕ, zero, suc, List, [], ◌∷◌, ◌++◌, length, map, sum, count_by, cond, Option, Some, None, option_map, refl, sym, ap, ◌∙◌, subst, arith, length-set, inl, inr}
+use Rattle.std.proofs.Common.{◌≡◌, ◌≢◌, ◌<◌, ◌+◌, ◌==◌, ℕ, zero, suc, List, [], ◌∷◌, ◌++◌, length, map, sum, count_by, cond, Option, Some, None}
+use Rattle.std.proofs.Common.{option_map, refl, sym, ap, ◌∙◌, subst, arith, length-set, inl, inr}
 use Rattle.std.specs.Option.{option_map_or}
 use Rattle.std.specs.List.{sum_by}
 use Rattle.std.proofs.lemmas.Bool.Decides.{eqb_tells}
@@ -48,7 +49,8 @@ module _ (t : List (Option Object)) (b : ObjSpec) (o d k : ℕ) (p : Place t o d
   seen F same m other = seen_changed F (naming b o) same (put t o (Some (object_of k b))) d m ∙ ap F (get_or-set_other t o m (Some (object_of k b)) None other)
 
   -- what holds of the new object, of the directory and of the others holds of each
-  pub each_after : (P : ℕ → Object → Type 0) → P o (object_of k b) → P d (naming b o p.dir) → ((m : ℕ) (x : Object) → m ≢ o → m ≢ d → at t m ≡ Some x → P m x) → (m : ℕ) (x : Object) → at after m ≡ Some x → P m x
+  pub each_after : (P : ℕ → Object → Type 0) → P o (object_of k b) → P d (naming b o p.dir) → ((m : ℕ) (x : Object) → m ≢ o → m ≢ d → at t m ≡ Some x → P m x)
+      → (m : ℕ) (x : Object) → at after m ≡ Some x → P m x
   each_after P new dir rest m x is = elim (eqb_tells m o) [
     | inl here ↦
         let both : Some (object_of k b) ≡ Some x = sym at_new ∙ ap (at after) (sym here.1) ∙ is in
@@ -73,7 +75,8 @@ module _ (t : List (Option Object)) (b : ObjSpec) (o d k : ℕ) (p : Place t o d
       let old : at u d ≡ Some p.dir = get_or-set_other t o d (Some (object_of k b)) None (not_new d p.dir p.is_dir) ∙ p.is_dir in
       let within : d < length t = there d p.dir t p.is_dir in
       let put_one : sum_by F u + F (at t o) ≡ sum_by F t + F (Some (object_of k b)) = sum_by-set F t o (Some (object_of k b)) None p.low in
-      let changed : sum_by F after + F (at u d) ≡ sum_by F u + F (option_map (naming b o) (at u d)) = sum_by-set F u d (option_map (naming b o) (at u d)) None (omega (arith, length-set t o (Some (object_of k b)))) in
+      let changed : sum_by F after + F (at u d) ≡ sum_by F u + F (option_map (naming b o) (at u d)) =
+      sum_by-set F u d (option_map (naming b o) (at u d)) None (omega (arith, length-set t o (Some (object_of k b)))) in
       let before : F (at u d) ≡ F (Some p.dir) = ap F old in
       let then : F (option_map (naming b o) (at u d)) ≡ F (Some (naming b o p.dir)) = ap (λ x. F (option_map (naming b o) x)) old in
       let free : F (at t o) ≡ 0 = ap F p.free ∙ none in
@@ -89,7 +92,8 @@ module _ (t : List (Option Object)) (b : ObjSpec) (o d k : ℕ) (p : Place t o d
   -- the new object has one name more, the others have as many as before
   pub times_after : (q : ℕ) → times_named after q ≡ times_named t q + cond (o == q) 1 0
   times_after q =
-      let more : count_by (λ n. n.1 == q) (naming b o p.dir).names ≡ count_by (λ n. n.1 == q) p.dir.names + cond {A = ℕ} (o == q) 1 0 = sum_by_push (λ (n : List ℕ × ℕ). cond {A = ℕ} (n.1 == q) 1 0) p.dir.names (last_name b.path.names, o) in
+      let more : count_by (λ n. n.1 == q) (naming b o p.dir).names ≡ count_by (λ n. n.1 == q) p.dir.names + cond {A = ℕ} (o == q) 1 0 =
+      sum_by_push (λ (n : List ℕ × ℕ). cond {A = ℕ} (n.1 == q) 1 0) p.dir.names (last_name b.path.names, o) in
       omega (arith, sum_after (times_in q) refl refl)
 
   pub names_after : names_in_all after ≡ suc (names_in_all t)

@@ -21,7 +21,8 @@ use Rattle.ix_model.proofs.opening.Built.{DirAt, Ways}
 use Rattle.ix_model.proofs.opening.Placing.{Place, naming, with_one, not_new, at_new, at_dir, at_rest, each_after}
 
 -- ---- what is found under a name, in a list with one name more
-found_kept : (es fs : List (List ℕ × ℕ)) (name : List ℕ) (m : ℕ) → option_map (λ e. e.1) (find (λ e. same_bytes e.0 name) es) ≡ Some m → option_map (λ e. e.1) (find (λ e. same_bytes e.0 name) (es ++ fs)) ≡ Some m
+found_kept : (es fs : List (List ℕ × ℕ)) (name : List ℕ) (m : ℕ) → option_map (λ e. e.1) (find (λ e. same_bytes e.0 name) es) ≡ Some m
+    → option_map (λ e. e.1) (find (λ e. same_bytes e.0 name) (es ++ fs)) ≡ Some m
 found_kept es fs name m h = ap (option_map (λ (e : List ℕ × ℕ). e.1)) (find-append (λ (e : List ℕ × ℕ). same_bytes e.0 name) es fs) ∙ go (find (λ e. same_bytes e.0 name) es) h
   where
     go : (x : Option (List ℕ × ℕ)) → option_map (λ e. e.1) x ≡ Some m → option_map (λ e. e.1) (option_or x (find (λ e. same_bytes e.0 name) fs)) ≡ Some m
@@ -41,7 +42,9 @@ record Moved (t : List (Option Object)) (m : ℕ) (x : Object) : Type 0 where
   dir : is_dir object ≡ is_dir x
   fs : object.fs ≡ x.fs
 
-module _ (fss : List FsSpec) (l : Limits) (before : List ObjSpec) (t : List (Option Object)) (b : ObjSpec) (o k : ℕ) (w : Ways fss before t) (line : Line fss l before b) (home : DirAt fss t w.place (parent_of b.path.names)) (p : Place t o home.number) (same_dir : p.dir ≡ home.object) (on : k ≡ fs_of fss b.path.names) where
+module _ (fss : List FsSpec) (l : Limits) (before : List ObjSpec) (t : List (Option Object)) (b : ObjSpec) (o k : ℕ) (w : Ways fss before t)
+    (line : Line fss l before b) (home : DirAt fss t w.place (parent_of b.path.names)) (p : Place t o home.number) (same_dir : p.dir ≡ home.object)
+    (on : k ≡ fs_of fss b.path.names) where
   abbrev next : List (Option Object)
   next = with_one t b home.number k o
 
@@ -82,7 +85,8 @@ module _ (fss : List FsSpec) (l : Limits) (before : List ObjSpec) (t : List (Opt
   child_new = ap (λ x. child (unwrap_or x nothing) (last_name b.path.names)) (at_dir t b o home.number k p) ∙ found_new p.dir.names (last_name b.path.names) o name_is_new
 
   leads_to_new : lead next 0 b.path.names ≡ Some o
-  leads_to_new = ap (lead next 0) line.is_path ∙ lead_on next 0 home.number o (parent_of b.path.names) (last_name b.path.names) (lead_kept t next child_kept 0 home.number (parent_of b.path.names) home.leads) child_new
+  leads_to_new = ap (lead next 0) line.is_path ∙ lead_on next 0 home.number o (parent_of b.path.names) (last_name b.path.names)
+      (lead_kept t next child_kept 0 home.number (parent_of b.path.names) home.leads) child_new
 
   place_then : ℕ → List (List ℕ)
   place_then m = if m == o then b.path.names else w.place m
@@ -112,16 +116,17 @@ module _ (fss : List FsSpec) (l : Limits) (before : List ObjSpec) (t : List (Opt
       kept m x is h = ap (λ names. is_taken fss (before ++ b ∷ []) (names ++ name ∷ [])) (place_kept m (other_than m x is)) ∙ still_there fss before b (w.place m ++ name ∷ []) h
 
       in_dir : list_any (λ e. same_bytes e.0 name) (p.dir.names ++ (last_name b.path.names, o) ∷ []) ≡ true → is_taken fss (before ++ b ∷ []) (place_then home.number ++ name ∷ []) ≡ true
-      in_dir h = elim (or_cases (list_any (λ e. same_bytes e.0 name) p.dir.names) (same_bytes (last_name b.path.names) name || false) (sym (list_any-append (λ (e : List ℕ × ℕ). same_bytes e.0 name) p.dir.names ((last_name b.path.names, o) ∷ [])) ∙ h)) [
-        | inl old ↦ kept home.number p.dir p.is_dir (w.entries home.number p.dir name p.is_dir old)
-        | inr new ↦ elim (or_cases (same_bytes (last_name b.path.names) name) false new) [
-          | inl same ↦
-              let path : place_then home.number ++ name ∷ [] ≡ b.path.names =
-              (λ i. (place_kept home.number (other_than home.number p.dir p.is_dir) ∙ home.back) i ++ sym (bytes_are (last_name b.path.names) name same) i ∷ []) ∙ sym line.is_path in
-              ap (is_taken fss (before ++ b ∷ [])) path ∙ now_there fss before b
-          | inr none ↦ absurd (true≢false (sym none))
-        ]
-      ]
+      in_dir h = elim (or_cases (list_any (λ e. same_bytes e.0 name) p.dir.names) (same_bytes (last_name b.path.names) name || false)
+          (sym (list_any-append (λ (e : List ℕ × ℕ). same_bytes e.0 name) p.dir.names ((last_name b.path.names, o) ∷ [])) ∙ h)) [
+            | inl old ↦ kept home.number p.dir p.is_dir (w.entries home.number p.dir name p.is_dir old)
+            | inr new ↦ elim (or_cases (same_bytes (last_name b.path.names) name) false new) [
+              | inl same ↦
+                  let path : place_then home.number ++ name ∷ [] ≡ b.path.names =
+                  (λ i. (place_kept home.number (other_than home.number p.dir p.is_dir) ∙ home.back) i ++ sym (bytes_are (last_name b.path.names) name same) i ∷ []) ∙ sym line.is_path in
+                  ap (is_taken fss (before ++ b ∷ [])) path ∙ now_there fss before b
+              | inr none ↦ absurd (true≢false (sym none))
+            ]
+          ]
 
   dirs_then : (names : List (List ℕ)) → has_directory fss (before ++ b ∷ []) names ≡ true → DirAt fss next place_then names
   dirs_then names h = elim (dir_there fss before b names h) [

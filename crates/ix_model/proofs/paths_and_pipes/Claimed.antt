@@ -1,6 +1,7 @@
 -- What is read from a path that has been whole since a call made it so.
 use Rattle.std.specs.Option.{option_map_or}
-use Rattle.std.proofs.Common.{◌≡◌, ◌≤◌, ◌-◌, ◌==◌, ℕ, zero, suc, Bool, true, false, true≢false, not, ◌&&◌, ◌||◌, List, [], ◌∷◌, ◌++◌, take, drop, Option, Some, None, is_some, refl, sym, ap, ◌∙◌, subst, arith, inl, inr, if◌then◌else◌}
+use Rattle.std.proofs.Common.{◌≡◌, ◌≤◌, ◌-◌, ◌==◌, ℕ, zero, suc, Bool, true, false, true≢false, not, ◌&&◌, ◌||◌, List, [], ◌∷◌, ◌++◌, take, drop}
+use Rattle.std.proofs.Common.{Option, Some, None, is_some, refl, sym, ap, ◌∙◌, subst, arith, inl, inr, if◌then◌else◌}
 use Rattle.std.proofs.lemmas.Bool.{and_parts, or_cases, eqb-true}
 use Rattle.std.proofs.lemmas.List.{take-append-drop}
 use Rattle.ix_model.specs.world.World.{World, Frame, Object, at, is_pipe, claimed_by_another, claimed_by}
@@ -80,7 +81,9 @@ apart_sends f pid fd bytes _ o end h = refl
 
 module _ (w : World) (s : Sound w) (place pid fd o end : ℕ) (bytes : List ℕ) (whole : WholeObject w.frame o) where
   -- a write by another than the claimant sends nothing
-  another_sends : (e : OpenFile) → behind w.frame pid fd ≡ Some e → e.entry.object ≡ o → option_map_or (λ x. claimed_by x e.entry.end pid) (at w.frame.objects e.entry.object) false ≡ false → sent w.frame pid (op.WriteFd fd bytes) (step w place pid (op.WriteFd fd bytes)).reply o end ≡ []
+  another_sends : (e : OpenFile) → behind w.frame pid fd ≡ Some e → e.entry.object ≡ o
+      → option_map_or (λ x. claimed_by x e.entry.end pid) (at w.frame.objects e.entry.object) false ≡ false
+      → sent w.frame pid (op.WriteFd fd bytes) (step w place pid (op.WriteFd fd bytes)).reply o end ≡ []
   another_sends e leads here unclaimed =
       let is : at w.frame.objects e.entry.object ≡ Some whole.object = ap (at w.frame.objects) here ∙ whole.is in
       let low : e.entry.end ≤ 1 = low_end e.entry.end _ (s.opens.end e.id e.entry (behind_is w.frame pid fd e leads)) in
@@ -92,13 +95,15 @@ module _ (w : World) (s : Sound w) (place pid fd o end : ℕ) (bytes : List ℕ)
       go None h k = cc
       go (Some p) h k = ap not k
 
-  write_by_claimant : sent_by_claimant w.frame pid (op.WriteFd fd bytes) (step w place pid (op.WriteFd fd bytes)).reply o end ≡ sent w.frame pid (op.WriteFd fd bytes) (step w place pid (op.WriteFd fd bytes)).reply o end
+  write_by_claimant : sent_by_claimant w.frame pid (op.WriteFd fd bytes) (step w place pid (op.WriteFd fd bytes)).reply o end
+      ≡ sent w.frame pid (op.WriteFd fd bytes) (step w place pid (op.WriteFd fd bytes)).reply o end
   write_by_claimant = go (claims_its_end w.frame pid (behind w.frame pid fd)) refl
     where
       all : List ℕ
       all = sent w.frame pid (op.WriteFd fd bytes) (step w place pid (op.WriteFd fd bytes)).reply o end
 
-      of_entry : (e : OpenFile) → behind w.frame pid fd ≡ Some e → (b : Bool) → (e.entry.object == o) ≡ b → option_map_or (λ x. claimed_by x e.entry.end pid) (at w.frame.objects e.entry.object) false ≡ false → all ≡ []
+      of_entry : (e : OpenFile) → behind w.frame pid fd ≡ Some e → (b : Bool) → (e.entry.object == o) ≡ b
+          → option_map_or (λ x. claimed_by x e.entry.end pid) (at w.frame.objects e.entry.object) false ≡ false → all ≡ []
       of_entry e leads true here unclaimed = another_sends e leads (eqb-true e.entry.object o here) unclaimed
       of_entry e leads false apart unclaimed = apart_sends w.frame pid fd bytes _ o end (ap (λ b. reaches b o end) leads ∙ ap (λ b. b && (1 - e.entry.end == end)) apart)
 
@@ -110,7 +115,8 @@ module _ (w : World) (s : Sound w) (place pid fd o end : ℕ) (bytes : List ℕ)
       go true h = refl
       go false h = sym (none (behind w.frame pid fd) refl h)
 
-by_claimant : (w : World) → Sound w → (place pid : ℕ) (c : Op) (o end : ℕ) → WholeObject w.frame o → sent_by_claimant w.frame pid c (step w place pid c).reply o end ≡ sent w.frame pid c (step w place pid c).reply o end
+by_claimant : (w : World) → Sound w → (place pid : ℕ) (c : Op) (o end : ℕ) → WholeObject w.frame o
+    → sent_by_claimant w.frame pid c (step w place pid c).reply o end ≡ sent w.frame pid c (step w place pid c).reply o end
 by_claimant w s place pid (op.WriteFd fd bytes) o end whole = write_by_claimant w s place pid fd o end bytes whole
 by_claimant w s place pid _ o end whole = refl
 
@@ -137,12 +143,19 @@ sound_run : (w : World) → Sound w → (place : ℕ) (h : List Event) → Sound
 sound_run w s place [] = s
 sound_run w s place (e ∷ h) = sound_run (step_of w place e).world (sound_step w place e.pid e.op s) (suc place) h
 
-read_inside : (w : World) (count : ℕ) (e : OpenFile) (a : Reply) (g : Frame) (whole : List ℕ) → on_pipe w.frame e ≡ true → IsEndOf (side e.entry.end (holding_of w.content e.entry.object)) whole → IsInside (read_answer w count (Some e) a g).bytes whole
+read_inside : (w : World) (count : ℕ) (e : OpenFile) (a : Reply) (g : Frame) (whole : List ℕ) → on_pipe w.frame e ≡ true
+    → IsEndOf (side e.entry.end (holding_of w.content e.entry.object)) whole → IsInside (read_answer w count (Some e) a g).bytes whole
 unfolding read_answer plainly readable
-read_inside w count e (reply.Bytes k) g whole pipe held = inside_end _ (side e.entry.end (holding_of w.content e.entry.object)) whole count (ap (λ b. take count (drop (if b then 0 else offset_of w.content e.id) (side e.entry.end (holding_of w.content e.entry.object)))) pipe) held
+read_inside w count e (reply.Bytes k) g whole pipe held =
+    inside_end _ (side e.entry.end (holding_of w.content e.entry.object)) whole count
+    (ap (λ b. take count (drop (if b then 0 else offset_of w.content e.id) (side e.entry.end (holding_of w.content e.entry.object)))) pipe) held
 read_inside w count e _ g whole pipe held = inside_none _ whole refl
 
-pub claimants_read : (w : World) (place pid : ℕ) (c : Op) (h : List Event) (o : ℕ) → Sound w → is_whole w.frame o ≡ false → stays_whole (step w place pid c).world (suc place) h o ≡ true → (n reader fd count : ℕ) (e : OpenFile) → behind (run (step w place pid c).world (suc place) h).frame reader fd ≡ Some e → e.entry.object ≡ o → IsInside (step (run (step w place pid c).world (suc place) h) n reader (op.ReadFd fd count)).bytes (written_by_claimants (step w place pid c).world (suc place) h o e.entry.end)
+pub claimants_read : (w : World) (place pid : ℕ) (c : Op) (h : List Event) (o : ℕ) → Sound w → is_whole w.frame o ≡ false
+    → stays_whole (step w place pid c).world (suc place) h o ≡ true → (n reader fd count : ℕ) (e : OpenFile)
+    → behind (run (step w place pid c).world (suc place) h).frame reader fd ≡ Some e → e.entry.object ≡ o
+    → IsInside (step (run (step w place pid c).world (suc place) h) n reader (op.ReadFd fd count)).bytes
+    (written_by_claimants (step w place pid c).world (suc place) h o e.entry.end)
 unfolding step answer
 claimants_read w place pid c h o s broken whole n reader fd count e leads here =
     let v : World = (step w place pid c).world in

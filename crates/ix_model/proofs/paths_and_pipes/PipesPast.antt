@@ -48,7 +48,8 @@ pub record PipesPast (f g : Frame) : Type 0 where
   pub pipes : (o : ℕ) → first_pipe f.fss ≤ o → is_other (at g.objects o) ≡ false
 
 module _ (f : Frame) where
-  past_objects : (g : Frame) (t : List (Option Object)) → ((o : ℕ) → first_pipe f.fss ≤ o → is_other (at g.objects o) ≡ false → is_other (at t o) ≡ false) → PipesPast f g → PipesPast f (record g { objects = t })
+  past_objects : (g : Frame) (t : List (Option Object)) → ((o : ℕ) → first_pipe f.fss ≤ o → is_other (at g.objects o) ≡ false → is_other (at t o) ≡ false)
+      → PipesPast f g → PipesPast f (record g { objects = t })
   past_objects g t keeps r = record { fss = r.fss; pipes = λ o past. keeps o past (r.pipes o past) }
 
   past_changed : (g : Frame) (o : ℕ) (h : Object → Object) → ((x : Object) → (h x).kind ≡ x.kind) → PipesPast f g → PipesPast f (record g { objects = change g.objects o h })
@@ -82,7 +83,9 @@ module _ (f : Frame) where
   }
 
 pub past_step : (w : World) (place pid : ℕ) (c : Op) → PipesPast w.frame w.frame → PipesPast w.frame (step w place pid c).world.frame
-past_step w place pid c r = rw (step_frame w place pid c) (decided (PipesPast w.frame) (told w pid c) place pid c w.frame r ((kept_row all pid (PipesPast w.frame) (past_words w.frame pid) (told w pid c) place c (bears_all (changes_of c))).led w.frame r))
+past_step w place pid c r =
+    rw (step_frame w place pid c) (decided (PipesPast w.frame) (told w pid c) place pid c w.frame r
+    ((kept_row all pid (PipesPast w.frame) (past_words w.frame pid) (told w pid c) place c (bears_all (changes_of c))).led w.frame r))
 
 -- and so it goes on
 pub past_next : (f g : Frame) → PipesPast f g → PipesPast g g

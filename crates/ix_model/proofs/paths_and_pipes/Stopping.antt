@@ -30,7 +30,8 @@ tested false r f P Q h k = k refl
 pub never : Reply → Frame → Type 0
 never a g = true ≡ false
 
-module _ (f : Frame) (pid fd : ℕ) (e : OpenFile) (x : Object) (leads : behind f pid fd ≡ Some e) (is : at f.objects e.entry.object ≡ Some x) (another : claimed_by_another x e.entry.end pid ≡ true) where
+module _ (f : Frame) (pid fd : ℕ) (e : OpenFile) (x : Object) (leads : behind f pid fd ≡ Some e) (is : at f.objects e.entry.object ≡ Some x)
+    (another : claimed_by_another x e.entry.end pid ≡ true) where
   goes_on : (P : Refusal → Frame → Type 0) (Q : OpenFile → Frame → Type 0) → Q e f → Ends (opened pid fd f) P Q
   unfolding opened ◌>>=◌ on_pass frame some pass Ends
   goes_on P Q next = rw leads next
@@ -93,17 +94,20 @@ unfolding Ends never
 settled_stops f (Refuse why g) r h = ap reply.No h
 settled_stops f (Pass a g) r h = absurd (true≢false h)
 
-pub decided_stops : (t : LengthChecks) (place pid : ℕ) (c : Op) (f : Frame) (r : Refusal) → lives f pid ≡ true → Ends (row t place pid c f) (λ why g. why ≡ r) never → (verdict t place pid c f).reply ≡ reply.No r
+pub decided_stops : (t : LengthChecks) (place pid : ℕ) (c : Op) (f : Frame) (r : Refusal) → lives f pid ≡ true
+    → Ends (row t place pid c f) (λ why g. why ≡ r) never → (verdict t place pid c f).reply ≡ reply.No r
 unfolding verdict
 decided_stops t place pid c f r alive h = rw alive (settled_stops f (row t place pid c f) r h)
 
 -- ---- steps
-read_refused : (w : World) (count : ℕ) (b : Option OpenFile) (r : Refusal) (g : Frame) → ((read_answer w count b (reply.No r) g).reply ≡ reply.No r) × ((read_answer w count b (reply.No r) g).bytes ≡ [])
+read_refused : (w : World) (count : ℕ) (b : Option OpenFile) (r : Refusal) (g : Frame) → ((read_answer w count b (reply.No r) g).reply ≡ reply.No r)
+    × ((read_answer w count b (reply.No r) g).bytes ≡ [])
 unfolding read_answer plainly
 read_refused w count None r g = (refl, refl)
 read_refused w count (Some e) r g = (refl, refl)
 
-write_refused : (w : World) (new : List ℕ) (b : Option OpenFile) (r : Refusal) (g : Frame) → ((write_answer w new b (reply.No r) g).reply ≡ reply.No r) × ((write_answer w new b (reply.No r) g).bytes ≡ [])
+write_refused : (w : World) (new : List ℕ) (b : Option OpenFile) (r : Refusal) (g : Frame) → ((write_answer w new b (reply.No r) g).reply ≡ reply.No r)
+    × ((write_answer w new b (reply.No r) g).bytes ≡ [])
 unfolding write_answer plainly
 write_refused w new None r g = (refl, refl)
 write_refused w new (Some e) r g = (refl, refl)
@@ -122,7 +126,8 @@ either_drops : (b : Bool) (r : Refusal) → keeps_label r ≡ false → keeps_la
 either_drops true r h = refl
 either_drops false r h = h
 
-pub stops : (w : World) (place pid fd : ℕ) (e : OpenFile) (x : Object) → behind w.frame pid fd ≡ Some e → at w.frame.objects e.entry.object ≡ Some x → claimed_by_another x e.entry.end pid ≡ true → NotThrough w place pid fd e.entry.mode x
+pub stops : (w : World) (place pid fd : ℕ) (e : OpenFile) (x : Object) → behind w.frame pid fd ≡ Some e → at w.frame.objects e.entry.object ≡ Some x
+    → claimed_by_another x e.entry.end pid ≡ true → NotThrough w place pid fd e.entry.mode x
 unfolding step answer row
 stops w place pid fd e x leads is another =
     let alive = is_live w.frame pid fd e x leads is another in

@@ -31,7 +31,8 @@ use Rattle.ix_model.proofs.words.Answered.{step_frame, passed}
 
 -- ---- tables
 -- what a test shows after a change, it showed before, where no change brings it about
-shown_changed : {A : Type 0} (F : Option A → Bool) (h : A → A) → ((x : A) → F (Some (h x)) ≡ true → F (Some x) ≡ true) → (t : List (Option A)) (n m : ℕ) → F (at (change t n h) m) ≡ true → F (at t m) ≡ true
+shown_changed : {A : Type 0} (F : Option A → Bool) (h : A → A) → ((x : A) → F (Some (h x)) ≡ true → F (Some x) ≡ true) → (t : List (Option A)) (n m : ℕ)
+    → F (at (change t n h) m) ≡ true → F (at t m) ≡ true
 shown_changed F h before [] n m is = is
 shown_changed F h before (None ∷ t) zero zero is = is
 shown_changed F h before (Some y ∷ t) zero zero is = before y is
@@ -92,7 +93,9 @@ module _ (f : Frame) where
   }
 
 whole_before : (t : LengthChecks) (place pid : ℕ) (c : Op) (f : Frame) → list_all claims_none (changes_of c) ≡ true → WholeBefore f (verdict t place pid c f).frame
-whole_before t place pid c f fits = decided (WholeBefore f) t place pid c f (record { was = λ o is. is }) ((kept_row claims_none pid (WholeBefore f) (whole_words f pid) t place c fits).led f (record { was = λ o is. is }))
+whole_before t place pid c f fits =
+    decided (WholeBefore f) t place pid c f (record { was = λ o is. is }) ((kept_row claims_none pid (WholeBefore f) (whole_words f pid) t place c fits).led f
+    (record { was = λ o is. is }))
 
 -- ---- a claim
 record PexFacts (pid fd : ℕ) (f g : Frame) : Type 0 where
@@ -114,19 +117,22 @@ nothing_there [] o = refl
 nothing_there (h ∷ hs) zero = refl
 nothing_there (h ∷ hs) (suc o) = nothing_there hs o
 
-emptied_there : (w : World) (e : OpenFile) (r : Reply) (g : Frame) → is_whole w.frame e.entry.object ≡ false → is_whole g e.entry.object ≡ true → holding_of (pex_answer w (Some e) r g).world.content e.entry.object ≡ holds_nothing
+emptied_there : (w : World) (e : OpenFile) (r : Reply) (g : Frame) → is_whole w.frame e.entry.object ≡ false → is_whole g e.entry.object ≡ true
+    → holding_of (pex_answer w (Some e) r g).world.content e.entry.object ≡ holds_nothing
 unfolding pex_answer emptied
 emptied_there w e r g was is =
     let becomes : (is_whole g e.entry.object && not (is_whole w.frame e.entry.object)) ≡ true = rw (is, was) refl in
     rw becomes (nothing_there (carried w.frame g w.content).holdings e.entry.object)
 
-pex_empties : (w : World) (pid fd o : ℕ) (r : Reply) (g : Frame) → PexFacts pid fd w.frame g → is_whole w.frame o ≡ false → is_whole g o ≡ true → holding_of (pex_answer w (behind w.frame pid fd) r g).world.content o ≡ holds_nothing
+pex_empties : (w : World) (pid fd o : ℕ) (r : Reply) (g : Frame) → PexFacts pid fd w.frame g → is_whole w.frame o ≡ false → is_whole g o ≡ true
+    → holding_of (pex_answer w (behind w.frame pid fd) r g).world.content o ≡ holds_nothing
 pex_empties w pid fd o r g facts was is =
     let e = facts.entry in
     let claim : Object → Object = λ y. record y { claims = put y.claims e.entry.end (Some pid) } in
     elim (eqb_tells o e.entry.object) [
       | inl here ↦
-          let at_e : holding_of (pex_answer w (Some e) r g).world.content e.entry.object ≡ holds_nothing = emptied_there w e r g (ap (is_whole w.frame) (sym here.1) ∙ was) (ap (is_whole g) (sym here.1) ∙ is) in
+          let at_e : holding_of (pex_answer w (Some e) r g).world.content e.entry.object ≡ holds_nothing =
+          emptied_there w e r g (ap (is_whole w.frame) (sym here.1) ∙ was) (ap (is_whole g) (sym here.1) ∙ is) in
           ap (λ b. holding_of (pex_answer w b r g).world.content o) facts.is_entry ∙ ap (λ n. holding_of (pex_answer w (Some e) r g).world.content n) here.1 ∙ at_e
       | inr apart ↦
           let same : at g.objects o ≡ at w.frame.objects o = ap (λ t. at t o) facts.objects ∙ get_or-set_other w.frame.objects e.entry.object o _ None apart.1 in
@@ -137,18 +143,23 @@ refused_reply : (r : Reply) → is_answer r ≡ false → (why : Refusal) × (r 
 refused_reply (reply.No why) h = (why, refl)
 refused_reply _ h = cc
 
-pex_case : (w : World) (place pid fd o : ℕ) (t : LengthChecks) → is_whole w.frame o ≡ false → is_whole (verdict t place pid (op.Pex fd) w.frame).frame o ≡ true → holding_of (pex_answer w (behind w.frame pid fd) (verdict t place pid (op.Pex fd) w.frame).reply (verdict t place pid (op.Pex fd) w.frame).frame).world.content o ≡ holds_nothing
+pex_case : (w : World) (place pid fd o : ℕ) (t : LengthChecks) → is_whole w.frame o ≡ false → is_whole (verdict t place pid (op.Pex fd) w.frame).frame o ≡ true
+    → holding_of (pex_answer w (behind w.frame pid fd) (verdict t place pid (op.Pex fd) w.frame).reply
+    (verdict t place pid (op.Pex fd) w.frame).frame).world.content o ≡ holds_nothing
 unfolding row
 pex_case w place pid fd o t was is = go (is_answer (verdict t place pid (op.Pex fd) w.frame).reply) refl
   where
-    go : (b : Bool) → is_answer (verdict t place pid (op.Pex fd) w.frame).reply ≡ b → holding_of (pex_answer w (behind w.frame pid fd) (verdict t place pid (op.Pex fd) w.frame).reply (verdict t place pid (op.Pex fd) w.frame).frame).world.content o ≡ holds_nothing
+    go : (b : Bool) → is_answer (verdict t place pid (op.Pex fd) w.frame).reply ≡ b
+        → holding_of (pex_answer w (behind w.frame pid fd) (verdict t place pid (op.Pex fd) w.frame).reply
+        (verdict t place pid (op.Pex fd) w.frame).frame).world.content o ≡ holds_nothing
     go true answers = pex_empties w pid fd o _ _ (passed t place pid (op.Pex fd) w.frame (λ a g. PexFacts pid fd w.frame g) (pex_ends pid fd w.frame) answers) was is
     go false refuses =
         let why = refused_reply _ refuses in
         let same = (decided_frames t place pid (op.Pex fd) w.frame why.0 why.1).relabelled.is in
         absurd (true≢false (sym is ∙ ap (λ (g : Frame). is_whole g o) same ∙ was))
 
-pub becomes_empty : (w : World) (place pid : ℕ) (c : Op) (o : ℕ) → is_whole w.frame o ≡ false → is_whole (step w place pid c).world.frame o ≡ true → holding_of (step w place pid c).world.content o ≡ holds_nothing
+pub becomes_empty : (w : World) (place pid : ℕ) (c : Op) (o : ℕ) → is_whole w.frame o ≡ false → is_whole (step w place pid c).world.frame o ≡ true
+    → holding_of (step w place pid c).world.content o ≡ holds_nothing
 unfolding step answer claims_none
 becomes_empty w place pid (op.Pex fd) o was is = pex_case w place pid fd o (told w pid (op.Pex fd)) was (ap (λ (g : Frame). is_whole g o) (sym (step_frame w place pid (op.Pex fd))) ∙ is)
 becomes_empty w place pid c o was is =

@@ -1,5 +1,7 @@
 -- What a pipe holds was written in it.
-use Rattle.std.proofs.Common.{◌≡◌, ◌≢◌, ◌≤◌, ◌+◌, ◌-◌, ◌==◌, ℕ, zero, suc, Bool, true, false, not, ◌&&◌, List, [], ◌∷◌, ◌++◌, length, take, drop, Option, Some, None, is_some, refl, sym, ap, ◌∙◌, subst, arith, append-nil, append_assoc, true≢false, get_or, set, if◌then◌else◌, inl, inr}
+use Rattle.std.proofs.Common.{◌≡◌, ◌≢◌, ◌≤◌, ◌+◌, ◌-◌, ◌==◌, ℕ, zero, suc, Bool, true, false, not, ◌&&◌, List, [], ◌∷◌, ◌++◌, length, take, drop}
+use Rattle.std.proofs.Common.{Option, Some, None, is_some, refl, sym, ap, ◌∙◌, subst, arith, append-nil, append_assoc, true≢false, get_or, set}
+use Rattle.std.proofs.Common.{if◌then◌else◌, inl, inr}
 use Rattle.std.specs.Option.{option_map_or}
 use Rattle.std.proofs.lemmas.Bool.{ne_eqb, eq-eqb}
 use Rattle.std.proofs.lemmas.Bool.Decides.{eqb_tells}
@@ -55,7 +57,8 @@ read_set d P (y ∷ xs) (suc n) x (suc m) here there = read_set d P xs n x m (λ
 -- what is carried over is there, or nothing is
 end_carried : (f g : Frame) (c : Content) (o end : ℕ) → IsEndOf (side end (holding_of (carried f g c) o)) (side end (holding_of c o))
 unfolding carried
-end_carried f g c o end = rw (get_or-keep holds_nothing (λ n. is_some (at f.objects n) && is_some (at g.objects n)) 0 c.holdings o) (go (is_some (at f.objects (0 + o)) && is_some (at g.objects (0 + o))))
+end_carried f g c o end = rw (get_or-keep holds_nothing (λ n. is_some (at f.objects n) && is_some (at g.objects n)) 0 c.holdings o)
+    (go (is_some (at f.objects (0 + o)) && is_some (at g.objects (0 + o))))
   where
     none : (b : Bool) → IsEndOf (if b then holds_nothing.first else holds_nothing.second) (side end (holding_of c o))
     none true = end_nothing _
@@ -69,7 +72,8 @@ end_carried f g c o end = rw (get_or-keep holds_nothing (λ n. is_some (at f.obj
 end_side : (end e k : ℕ) (h : Holding) → IsEndOf (side end (with_side e (drop k (side e h)) h)) (side end h)
 end_side end e k h = go (end == 0) (e == 0)
   where
-    go : (a b : Bool) → IsEndOf (let r : Holding = if b then record h { first = drop k (if b then h.first else h.second) } else record h { second = drop k (if b then h.first else h.second) } in if a then r.first else r.second) (if a then h.first else h.second)
+    go : (a b : Bool) → IsEndOf (let r : Holding = if b then record h { first = drop k (if b then h.first else h.second) } else
+        record h { second = drop k (if b then h.first else h.second) } in if a then r.first else r.second) (if a then h.first else h.second)
     go true true = end_dropped k h.first
     go true false = end_itself h.first
     go false true = end_itself h.second
@@ -105,7 +109,9 @@ end_read f c e k o end = go (on_pipe f e)
     there : Holding
     there = holding_of c e.entry.object
 
-    go : (b : Bool) → IsEndOf (side end (holding_of (if b then record c { holdings = set c.holdings e.entry.object (with_side e.entry.end (drop k (side e.entry.end there)) there) } else record c { offsets = set c.offsets e.id (offset_of c e.id + k) }) o)) (side end (holding_of c o))
+    go : (b : Bool) → IsEndOf
+        (side end (holding_of (if b then record c { holdings = set c.holdings e.entry.object (with_side e.entry.end (drop k (side e.entry.end there)) there) }
+        else record c { offsets = set c.offsets e.id (offset_of c e.id + k) }) o)) (side end (holding_of c o))
     go true = read_set holds_nothing (λ h. IsEndOf (side end h) (side end (holding_of c o))) c.holdings e.entry.object (with_side e.entry.end (drop k (side e.entry.end there)) there) o
         (λ here. subst (λ n. IsEndOf (side end (with_side e.entry.end (drop k (side e.entry.end there)) there)) (side end (holding_of c n))) (sym here) (end_side end e.entry.end k there))
         (end_itself (side end (holding_of c o)))
@@ -120,7 +126,9 @@ unfolding reached
 reached_other e new o end apart = rw (ne_eqb e.entry.object o (λ same. apart (sym same))) refl
 
 -- a write to something else, or to the pipe, whose number is in reach of the list or not
-end_set : (c : Content) (e : OpenFile) (new : List ℕ) (o end : ℕ) (x : Holding) → (o ≡ e.entry.object → IsEndOf (side end x) (side end (holding_of c o) ++ reached e new o end)) → IsEndOf (side end (get_or (set c.holdings e.entry.object x) o holds_nothing)) (side end (holding_of c o) ++ reached e new o end)
+end_set : (c : Content) (e : OpenFile) (new : List ℕ) (o end : ℕ) (x : Holding)
+    → (o ≡ e.entry.object → IsEndOf (side end x) (side end (holding_of c o) ++ reached e new o end))
+    → IsEndOf (side end (get_or (set c.holdings e.entry.object x) o holds_nothing)) (side end (holding_of c o) ++ reached e new o end)
 end_set c e new o end x here = elim (eqb_tells o e.entry.object) [
   | inl same ↦
       subst (λ n. IsEndOf (side end (get_or (set c.holdings n x) o holds_nothing)) (side end (holding_of c o) ++ reached e new o end)) same.1
@@ -134,7 +142,8 @@ reached_same : (e : OpenFile) (new : List ℕ) (o end : ℕ) → o ≡ e.entry.o
 unfolding reached
 reached_same e new o end same = rw (eq-eqb e.entry.object o (sym same)) refl
 
-end_write : (f : Frame) (c : Content) (e : OpenFile) (new : List ℕ) (o end : ℕ) → end ≤ 1 → (on_pipe f e ≡ false → o ≢ e.entry.object) → IsEndOf (side end (holding_of (after_write f e new c) o)) (side end (holding_of c o) ++ reached e new o end)
+end_write : (f : Frame) (c : Content) (e : OpenFile) (new : List ℕ) (o end : ℕ) → end ≤ 1 → (on_pipe f e ≡ false → o ≢ e.entry.object)
+    → IsEndOf (side end (holding_of (after_write f e new c) o)) (side end (holding_of c o) ++ reached e new o end)
 unfolding after_write
 end_write f c e new o end low file = go (on_pipe f e) refl
   where
@@ -155,7 +164,8 @@ end_write f c e new o end low file = go (on_pipe f e) refl
 
     go : (b : Bool) → on_pipe f e ≡ b → IsEndOf (side end (holding_of (if b then piped else filed) o)) (side end (holding_of c o) ++ reached e new o end)
     go true is = end_set c e new o end _ (λ same. subst (λ xs. IsEndOf (side end (with_side n (side n there ++ new) there)) (side end (holding_of c o) ++ xs)) (sym (reached_same e new o end same))
-        (subst (λ m. IsEndOf (side end (with_side n (side n there ++ new) there)) (side end (holding_of c m) ++ (if n == end then new else []))) (sym same) (end_wrote end n new there low (omega arith))))
+        (subst (λ m. IsEndOf (side end (with_side n (side n there ++ new) there)) (side end (holding_of c m) ++ (if n == end then new else []))) (sym same)
+        (end_wrote end n new there low (omega arith))))
     go false is = end_set c e new o end _ (λ same. absurd (file is same))
 
 -- ---- the step
@@ -183,7 +193,10 @@ module _ (w : World) (o end : ℕ) (low : end ≤ 1) where
 
   cut_ending : (len : ℕ) (b : Option OpenFile) (r : Reply) (g : Frame) → ((e : OpenFile) → b ≡ Some e → r ≡ reply.Done → o ≢ e.entry.object) → Ending (cut_answer w len b r g).world []
   unfolding Ending cut_answer after_cut plainly now
-  cut_ending len (Some e) reply.Done g apart = end_none _ _ (subst (λ h. IsEndOf (side end h) now) (sym (get_or-set_other (carried w.frame g w.content).holdings e.entry.object o _ holds_nothing (apart e refl refl))) (end_carried w.frame g w.content o end))
+  cut_ending len (Some e) reply.Done g apart =
+      end_none _ _ (subst (λ h. IsEndOf (side end h) now)
+      (sym (get_or-set_other (carried w.frame g w.content).holdings e.entry.object o _ holds_nothing (apart e refl refl)))
+      (end_carried w.frame g w.content o end))
   cut_ending len _ r g apart = plain_end g
 
   seek_ending : (offset : ℕ) (b : Option OpenFile) (r : Reply) (g : Frame) → Ending (seek_answer w offset b r g).world []
@@ -195,7 +208,9 @@ module _ (w : World) (o end : ℕ) (low : end ≤ 1) where
   unfolding Ending exit_answer after_exit plainly
   exit_ending pid status reply.Done g = go (is_ended (at g.processes pid))
     where
-      go : (b : Bool) → IsEndOf (side end (holding_of (if b then record (carried w.frame g w.content) { statuses = set (carried w.frame g w.content).statuses pid status } else carried w.frame g w.content) o)) (now ++ [])
+      go : (b : Bool) → IsEndOf
+          (side end (holding_of (if b then record (carried w.frame g w.content) { statuses = set (carried w.frame g w.content).statuses pid status } else
+          carried w.frame g w.content) o)) (now ++ [])
       go true = plain_end g
       go false = plain_end g
   exit_ending pid status _ g = plain_end g
@@ -212,11 +227,15 @@ module _ (w : World) (o end : ℕ) (low : end ≤ 1) where
       go true = read_set holds_nothing (λ h. IsEndOf (side end h) (now ++ [])) c.holdings e.entry.object holds_nothing o (λ here. nothing_side end _) (plain_end g)
       go false = plain_end g
 
-  wrote_end : (e : OpenFile) (new : List ℕ) (g : Frame) → (on_pipe w.frame e ≡ false → o ≢ e.entry.object) → IsEndOf (side end (holding_of (after_write w.frame e new (carried w.frame g w.content)) o)) (side end (holding_of (carried w.frame g w.content) o) ++ (if reaches (Some e) o end then new else []))
+  wrote_end : (e : OpenFile) (new : List ℕ) (g : Frame) → (on_pipe w.frame e ≡ false → o ≢ e.entry.object)
+      → IsEndOf (side end (holding_of (after_write w.frame e new (carried w.frame g w.content)) o)) (side end (holding_of (carried w.frame g w.content) o)
+      ++ (if reaches (Some e) o end then new else []))
   unfolding reached
   wrote_end e new g file = end_write w.frame (carried w.frame g w.content) e new o end low file
 
-  write_ending : (pid fd : ℕ) (new : List ℕ) (b : Option OpenFile) (r : Reply) (g : Frame) → behind w.frame pid fd ≡ b → ((e : OpenFile) (k : ℕ) → b ≡ Some e → r ≡ reply.Number k → on_pipe w.frame e ≡ false → o ≢ e.entry.object) → Ending (write_answer w new b r g).world (sent w.frame pid (op.WriteFd fd new) (write_answer w new b r g).reply o end)
+  write_ending : (pid fd : ℕ) (new : List ℕ) (b : Option OpenFile) (r : Reply) (g : Frame) → behind w.frame pid fd ≡ b
+      → ((e : OpenFile) (k : ℕ) → b ≡ Some e → r ≡ reply.Number k → on_pipe w.frame e ≡ false → o ≢ e.entry.object)
+      → Ending (write_answer w new b r g).world (sent w.frame pid (op.WriteFd fd new) (write_answer w new b r g).reply o end)
   unfolding Ending write_answer plainly now
   write_ending pid fd new (Some e) (reply.Number k) g is file =
       rw is (end_more _ _ _ _ (end_carried w.frame g w.content o end) (wrote_end e new g (file e k refl refl)))
@@ -233,14 +252,17 @@ not_true : (b : Bool) → not b ≡ true → b ≡ false
 not_true false h = refl
 not_true true h = cc
 
-write_apart : (w : World) (place pid fd o : ℕ) (new : List ℕ) (t : LengthChecks) → PipesPast w.frame w.frame → first_pipe w.frame.fss ≤ o → (e : OpenFile) (k : ℕ) → behind w.frame pid fd ≡ Some e → (verdict t place pid (op.WriteFd fd new) w.frame).reply ≡ reply.Number k → on_pipe w.frame e ≡ false → o ≢ e.entry.object
+write_apart : (w : World) (place pid fd o : ℕ) (new : List ℕ) (t : LengthChecks) → PipesPast w.frame w.frame → first_pipe w.frame.fss ≤ o
+    → (e : OpenFile) (k : ℕ) → behind w.frame pid fd ≡ Some e → (verdict t place pid (op.WriteFd fd new) w.frame).reply ≡ reply.Number k
+    → on_pipe w.frame e ≡ false → o ≢ e.entry.object
 write_apart w place pid fd o new t past far e k is wrote_k file =
     let facts = wrote t place pid fd new w.frame k wrote_k in
     let same : facts.entry ≡ e = let h = facts.is_entry in cc in
     let there : at w.frame.objects e.entry.object ≡ Some facts.object = ap (λ (b : OpenFile). at w.frame.objects b.entry.object) (sym same) ∙ facts.is_object in
     before_pipes w.frame o e.entry.object facts.object past far there (sym (ap (λ x. option_map_or is_pipe x false) there) ∙ file)
 
-cut_apart : (w : World) (place pid fd len o : ℕ) (t : LengthChecks) → PipesPast w.frame w.frame → first_pipe w.frame.fss ≤ o → (e : OpenFile) → behind w.frame pid fd ≡ Some e → (verdict t place pid (op.CutFd fd len) w.frame).reply ≡ reply.Done → o ≢ e.entry.object
+cut_apart : (w : World) (place pid fd len o : ℕ) (t : LengthChecks) → PipesPast w.frame w.frame → first_pipe w.frame.fss ≤ o → (e : OpenFile)
+    → behind w.frame pid fd ≡ Some e → (verdict t place pid (op.CutFd fd len) w.frame).reply ≡ reply.Done → o ≢ e.entry.object
 cut_apart w place pid fd len o t past far e is done =
     let facts = was_cut t place pid fd len w.frame done in
     let same : facts.entry ≡ e = let h = facts.is_entry in cc in
@@ -248,20 +270,28 @@ cut_apart w place pid fd len o t past far e is done =
     before_pipes w.frame o e.entry.object facts.object past far there (not_true (is_pipe facts.object) facts.no_pipe)
 
 -- what a pipe's end has after a call: the end of what it had and what was written to it
-step_end : (w : World) (place pid : ℕ) (c : Op) (o end : ℕ) → end ≤ 1 → PipesPast w.frame w.frame → first_pipe w.frame.fss ≤ o → IsEndOf (side end (holding_of (step w place pid c).world.content o)) (side end (holding_of w.content o) ++ sent w.frame pid c (step w place pid c).reply o end)
+step_end : (w : World) (place pid : ℕ) (c : Op) (o end : ℕ) → end ≤ 1 → PipesPast w.frame w.frame → first_pipe w.frame.fss ≤ o
+    → IsEndOf (side end (holding_of (step w place pid c).world.content o)) (side end (holding_of w.content o)
+    ++ sent w.frame pid c (step w place pid c).reply o end)
 unfolding step answer told plainly now Ending
-step_end w place pid (op.WriteFd fd new) o end low past far = write_ending w o end low pid fd new (behind w.frame pid fd) _ _ refl (λ e k is wrote_k. write_apart w place pid fd o new _ past far e k is wrote_k)
+step_end w place pid (op.WriteFd fd new) o end low past far =
+    write_ending w o end low pid fd new (behind w.frame pid fd) _ _ refl (λ e k is wrote_k. write_apart w place pid fd o new _ past far e k is wrote_k)
 step_end w place pid (op.ReadFd fd count) o end low past far = read_ending w o end low count (behind w.frame pid fd) _ _
 step_end w place pid (op.CutFd fd len) o end low past far = cut_ending w o end low len (behind w.frame pid fd) _ _ (λ e is done. cut_apart w place pid fd len o _ past far e is done)
 step_end w place pid (op.SeekFd fd offset) o end low past far = seek_ending w o end low offset (behind w.frame pid fd) _ _
-step_end w place pid (op.StatAt path) o end low past far = subst (λ (v : World). IsEndOf (side end (holding_of v.content o)) (side end (holding_of w.content o) ++ [])) (sym (world_stat w _ _)) (plain_end w o end low _)
+step_end w place pid (op.StatAt path) o end low past far =
+    subst (λ (v : World). IsEndOf (side end (holding_of v.content o)) (side end (holding_of w.content o) ++ [])) (sym (world_stat w _ _))
+    (plain_end w o end low _)
 step_end w place pid (op.Exit status) o end low past far = exit_ending w o end low pid status _ _
-step_end w place pid op.WaitChild o end low past far = subst (λ (v : World). IsEndOf (side end (holding_of v.content o)) (side end (holding_of w.content o) ++ [])) (sym (world_wait w _ _)) (plain_end w o end low _)
+step_end w place pid op.WaitChild o end low past far =
+    subst (λ (v : World). IsEndOf (side end (holding_of v.content o)) (side end (holding_of w.content o) ++ [])) (sym (world_wait w _ _))
+    (plain_end w o end low _)
 step_end w place pid (op.Pex fd) o end low past far = pex_ending w o end low (behind w.frame pid fd) _ _
 step_end w place pid c o end low past far = plain_end w o end low _
 
 -- ---- runs
-run_end : (w : World) (place : ℕ) (h : List Event) (o end : ℕ) (whole : List ℕ) → end ≤ 1 → PipesPast w.frame w.frame → first_pipe w.frame.fss ≤ o → IsEndOf (side end (holding_of w.content o)) whole → IsEndOf (side end (holding_of (run w place h).content o)) (whole ++ written_to w place h o end)
+run_end : (w : World) (place : ℕ) (h : List Event) (o end : ℕ) (whole : List ℕ) → end ≤ 1 → PipesPast w.frame w.frame → first_pipe w.frame.fss ≤ o
+    → IsEndOf (side end (holding_of w.content o)) whole → IsEndOf (side end (holding_of (run w place h).content o)) (whole ++ written_to w place h o end)
 unfolding written_to
 run_end w place [] o end whole low past far is = end_none _ whole is
 run_end w place (e ∷ h) o end whole low past far is =
@@ -271,6 +301,7 @@ run_end w place (e ∷ h) o end whole low past far is =
     (run_end (step_of w place e).world (suc place) h o end (whole ++ new) low (past_next _ _ next) (rw next.fss far)
     (end_more _ _ new whole is (step_end w place e.pid e.op o end low past far)))
 
-pub holds_written : (w : World) (place : ℕ) (h : List Event) (o end : ℕ) → Sound w → first_pipe w.frame.fss ≤ o → end ≤ 1 → holding_of w.content o ≡ holds_nothing → IsEndOf (side end (holding_of (run w place h).content o)) (written_to w place h o end)
+pub holds_written : (w : World) (place : ℕ) (h : List Event) (o end : ℕ) → Sound w → first_pipe w.frame.fss ≤ o → end ≤ 1
+    → holding_of w.content o ≡ holds_nothing → IsEndOf (side end (holding_of (run w place h).content o)) (written_to w place h o end)
 holds_written w place h o end sound far low empty =
     run_end w place h o end [] low (pipes_past w.frame sound.limits) far (subst (λ x. IsEndOf (side end x) []) (sym empty) (nothing_side end []))

@@ -34,7 +34,8 @@ is_for_want refusal.NoProcess = true
 is_for_want _ = false
 
 -- ---- asking for what is there
-pub there_is : {A : Type 0} (o : Option A) (r : Refusal) (g : Frame) (P : Refusal → Frame → Type 0) (Q : A → Frame → Type 0) → is_some o ≡ true → ((a : A) → o ≡ Some a → Q a g) → Ends (Rattle.ix_model.specs.rows.Rows.some o r g) P Q
+pub there_is : {A : Type 0} (o : Option A) (r : Refusal) (g : Frame) (P : Refusal → Frame → Type 0) (Q : A → Frame → Type 0) → is_some o ≡ true
+    → ((a : A) → o ≡ Some a → Q a g) → Ends (Rattle.ix_model.specs.rows.Rows.some o r g) P Q
 unfolding Ends Rattle.ix_model.specs.rows.Rows.some Rattle.ix_model.specs.rows.Rows.pass
 there_is None r g P Q h k = cc
 there_is (Some a) r g P Q h k = k a refl
@@ -56,17 +57,20 @@ module _ (f : Frame) (s : FrameSound f) (pid : ℕ) (alive : lives f pid ≡ tru
       go None h = cc
       go (Some q) h = ended q.ended _ h
 
-  pub ask_caller : (g : Frame) (P : Refusal → Frame → Type 0) (Q : Process → Frame → Type 0) → Relabelled pid f g → ((p : Process) → living (at g.processes pid) ≡ Some p → Q p g) → Ends (process pid g) P Q
+  pub ask_caller : (g : Frame) (P : Refusal → Frame → Type 0) (Q : Process → Frame → Type 0) → Relabelled pid f g
+      → ((p : Process) → living (at g.processes pid) ≡ Some p → Q p g) → Ends (process pid g) P Q
   unfolding process
   ask_caller g P Q r next = there_is _ _ g P Q (lives_on g r) next
 
   -- ---- objects
-  pub ask_object : (o : ℕ) (g : Frame) (P : Refusal → Frame → Type 0) (Q : Object → Frame → Type 0) → Relabelled pid f g → Stands f o → ((x : Object) → at g.objects o ≡ Some x → Q x g) → Ends (object o g) P Q
+  pub ask_object : (o : ℕ) (g : Frame) (P : Refusal → Frame → Type 0) (Q : Object → Frame → Type 0) → Relabelled pid f g → Stands f o
+      → ((x : Object) → at g.objects o ≡ Some x → Q x g) → Ends (object o g) P Q
   unfolding object
   ask_object o g P Q r there next = there_is _ _ g P Q (ap (λ (h : Frame). is_some (at h.objects o)) r.is ∙ there.is) next
 
   -- ---- the two rules of floating
-  pub ask_observe : (l : Categories) (g : Frame) (P : Refusal → Frame → Type 0) (Q : Unit {0} → Frame → Type 0) → Relabelled pid f g → ((r : Refusal) (h : Frame) → is_for_want r ≡ false → P r h) → ((h : Frame) → Relabelled pid f h → Q tt h) → Ends (observe pid l g) P Q
+  pub ask_observe : (l : Categories) (g : Frame) (P : Refusal → Frame → Type 0) (Q : Unit {0} → Frame → Type 0) → Relabelled pid f g
+      → ((r : Refusal) (h : Frame) → is_for_want r ≡ false → P r h) → ((h : Frame) → Relabelled pid f h → Q tt h) → Ends (observe pid l g) P Q
   unfolding observe
   ask_observe l g P Q r refused next =
       ends_bind _ _ g P Q (ask_caller g P _ r (λ p lives. ends_only_if _ _ g P Q
@@ -77,7 +81,8 @@ module _ (f : Frame) (s : FrameSound f) (pid : ℕ) (alive : lives f pid ≡ tru
       (refused _ _ refl)))
       (λ same. next g r)))
 
-  pub ask_affect : (o : ℕ) (l : Categories) (g : Frame) (P : Refusal → Frame → Type 0) (Q : Unit {0} → Frame → Type 0) → Relabelled pid f g → Stands f o → ((r : Refusal) (h : Frame) → is_for_want r ≡ false → P r h) → ((h : Frame) → Q tt h) → Ends (affect pid o l g) P Q
+  pub ask_affect : (o : ℕ) (l : Categories) (g : Frame) (P : Refusal → Frame → Type 0) (Q : Unit {0} → Frame → Type 0) → Relabelled pid f g → Stands f o
+      → ((r : Refusal) (h : Frame) → is_for_want r ≡ false → P r h) → ((h : Frame) → Q tt h) → Ends (affect pid o l g) P Q
   unfolding affect
   ask_affect o l g P Q r there refused next =
       ends_bind _ _ g P Q (ask_caller g P _ r (λ p lives.
@@ -133,7 +138,11 @@ module _ (f : Frame) (s : FrameSound f) (pid : ℕ) (alive : lives f pid ≡ tru
       let same : (walk f.objects b.process path).outcome ≡ (walk g.objects p path).outcome = sym (λ i. (walk_from (r.is i).objects (if path.absolute then 0 else b.home i) None path.names).outcome) in
       subst Leading same (leading b.process path b.lived)
 
-  pub ask_walk : (path : PathOf) (g : Frame) (P : Refusal → Frame → Type 0) (Q : Sought → Frame → Type 0) → Relabelled pid f g → ((r : Refusal) (h : Frame) → is_for_want r ≡ false → P r h) → ((w : Sought) (h : Frame) → Relabelled pid f h → ((o : ℕ) (dir : Option ℕ) → w ≡ sought.Found o dir → Stands f o) → ((o d : ℕ) (dir : Option ℕ) → w ≡ sought.Found o dir → dir ≡ Some d → Stands f d) → ((d : ℕ) → w ≡ sought.Missing d → Stands f d) → Q w h) → Ends (walked_to pid path g) P Q
+  pub ask_walk : (path : PathOf) (g : Frame) (P : Refusal → Frame → Type 0) (Q : Sought → Frame → Type 0) → Relabelled pid f g
+      → ((r : Refusal) (h : Frame) → is_for_want r ≡ false → P r h)
+      → ((w : Sought) (h : Frame) → Relabelled pid f h → ((o : ℕ) (dir : Option ℕ) → w ≡ sought.Found o dir → Stands f o)
+      → ((o d : ℕ) (dir : Option ℕ) → w ≡ sought.Found o dir → dir ≡ Some d → Stands f d) → ((d : ℕ) → w ≡ sought.Missing d → Stands f d) → Q w h)
+      → Ends (walked_to pid path g) P Q
   unfolding walked_to
   ask_walk path g P Q r refused next =
       ends_bind _ _ g P Q (ask_caller g P _ r (λ p lives.
@@ -156,11 +165,13 @@ module _ (f : Frame) (s : FrameSound f) (pid : ℕ) (alive : lives f pid ≡ tru
     unfolding log_has_room
     ask_room = ends_bind _ _ g P Q (ends_frame g P _ (ends_need _ _ g P Q (λ room. next) (refused _ refl)))
 
-  pub ask_exercise : (x : PrivSet) (g : Frame) (P : Refusal → Frame → Type 0) (Q : Unit {0} → Frame → Type 0) → Relabelled pid f g → ((why : Refusal) → is_for_want why ≡ false → P why g) → Q tt g → Ends (exercise pid x g) P Q
+  pub ask_exercise : (x : PrivSet) (g : Frame) (P : Refusal → Frame → Type 0) (Q : Unit {0} → Frame → Type 0) → Relabelled pid f g
+      → ((why : Refusal) → is_for_want why ≡ false → P why g) → Q tt g → Ends (exercise pid x g) P Q
   unfolding exercise
   ask_exercise x g P Q r refused next = ends_then _ _ g P Q (ask_entitled g P _ r refused (ask_room g P Q r refused next) x)
 
-  pub ask_allowed : (before now : Categories) (g : Frame) (P : Refusal → Frame → Type 0) (Q : Unit {0} → Frame → Type 0) → Relabelled pid f g → ((why : Refusal) → is_for_want why ≡ false → P why g) → Q tt g → Ends (allowed pid before now g) P Q
+  pub ask_allowed : (before now : Categories) (g : Frame) (P : Refusal → Frame → Type 0) (Q : Unit {0} → Frame → Type 0) → Relabelled pid f g
+      → ((why : Refusal) → is_for_want why ≡ false → P why g) → Q tt g → Ends (allowed pid before now g) P Q
   unfolding allowed
   ask_allowed before now g P Q r refused next =
       ends_bind _ _ g P Q (ask_caller g P _ r (λ p lives.
@@ -171,7 +182,8 @@ module _ (f : Frame) (s : FrameSound f) (pid : ℕ) (alive : lives f pid ≡ tru
       lowered : Ends (Rattle.ix_model.specs.rows.Rows.only_if (not (leq before now)) (exercise pid to_lower) g) P Q
       lowered = ends_only_if _ _ g P Q (λ lowers. ask_exercise to_lower g P Q r refused next) (λ keeps. next)
 
-  pub ask_movable : (x : Object) (now : Categories) (g : Frame) (P : Refusal → Frame → Type 0) (Q : Unit {0} → Frame → Type 0) → ((why : Refusal) → is_for_want why ≡ false → P why g) → Q tt g → Ends (movable x now g) P Q
+  pub ask_movable : (x : Object) (now : Categories) (g : Frame) (P : Refusal → Frame → Type 0) (Q : Unit {0} → Frame → Type 0)
+      → ((why : Refusal) → is_for_want why ≡ false → P why g) → Q tt g → Ends (movable x now g) P Q
   unfolding movable
   ask_movable x now g P Q refused next =
       ends_bind _ _ g P Q (ends_frame g P _ (ends_only_if _ _ g P Q
@@ -201,7 +213,8 @@ module _ (f : Frame) (s : FrameSound f) (pid : ℕ) (alive : lives f pid ≡ tru
   stands_behind : (fd : ℕ) (e : OpenFile) → behind f pid fd ≡ Some e → Stands f e.entry.object
   stands_behind fd e is = record { is = ap is_some (stands f e.id e.entry s.opens (behind_is f pid fd e is)).is_object }
 
-  pub ask_opened : (fd : ℕ) (P : Refusal → Frame → Type 0) (Q : OpenFile → Frame → Type 0) → (has_descriptor f pid fd ≡ false → P refusal.BadFd f) → ((e : OpenFile) → behind f pid fd ≡ Some e → Stands f e.entry.object → Q e f) → Ends (opened pid fd f) P Q
+  pub ask_opened : (fd : ℕ) (P : Refusal → Frame → Type 0) (Q : OpenFile → Frame → Type 0) → (has_descriptor f pid fd ≡ false → P refusal.BadFd f)
+      → ((e : OpenFile) → behind f pid fd ≡ Some e → Stands f e.entry.object → Q e f) → Ends (opened pid fd f) P Q
   unfolding opened Ends Rattle.ix_model.specs.rows.Rows.some Rattle.ix_model.specs.rows.Rows.refuse Rattle.ix_model.specs.rows.Rows.pass
   ask_opened fd P Q refused next = ends_bind _ _ f P Q (ends_frame f P _ (go (behind f pid fd) refl))
     where
@@ -218,7 +231,8 @@ module _ (f : Frame) (s : FrameSound f) (pid : ℕ) (alive : lives f pid ≡ tru
       go true h = refl
       go false h = cc
 
-  pub ask_target : (target : ℕ) (P : Refusal → Frame → Type 0) (Q : Process → Frame → Type 0) → (lives f target ≡ false → P refusal.NoProcess f) → ((q : Process) → living (at f.processes target) ≡ Some q → Q q f) → Ends (process target f) P Q
+  pub ask_target : (target : ℕ) (P : Refusal → Frame → Type 0) (Q : Process → Frame → Type 0) → (lives f target ≡ false → P refusal.NoProcess f)
+      → ((q : Process) → living (at f.processes target) ≡ Some q → Q q f) → Ends (process target f) P Q
   unfolding process Ends Rattle.ix_model.specs.rows.Rows.some Rattle.ix_model.specs.rows.Rows.refuse Rattle.ix_model.specs.rows.Rows.pass
   ask_target target P Q refused next = go (living (at f.processes target)) refl
     where
@@ -230,7 +244,8 @@ module _ (f : Frame) (s : FrameSound f) (pid : ℕ) (alive : lives f pid ≡ tru
   claimant_lives : (o end p : ℕ) (x : Object) → at f.objects o ≡ Some x → at x.claims end ≡ Some p → lives f p ≡ true
   claimant_lives o end p x is claim = go (at f.processes p) (s.claims.claimant o end p x is claim)
     where
-      go : (q : Option Process) → option_map_or (λ q. not q.ended && list_any (λ d. option_map_or (λ e. is_on o end (at f.opens e)) d false) q.fds) q false ≡ true → option_map_or (λ q. not q.ended) q false ≡ true
+      go : (q : Option Process) → option_map_or (λ q. not q.ended && list_any (λ d. option_map_or (λ e. is_on o end (at f.opens e)) d false) q.fds) q false
+          ≡ true → option_map_or (λ q. not q.ended) q false ≡ true
       go None h = h
       go (Some q) h = (Rattle.std.proofs.lemmas.Bool.and_parts _ _ h).0
 
@@ -242,7 +257,8 @@ module _ (f : Frame) (s : FrameSound f) (pid : ℕ) (alive : lives f pid ≡ tru
       go true h = cc
       go false h = refl
 
-  pub ask_claimed : (o end : ℕ) (x : Object) (P : Refusal → Frame → Type 0) (Q : Reply → Frame → Type 0) → at f.objects o ≡ Some x → ((a : Reply) → Q a f) → Ends (claimed (at (put x.claims end (Some pid)) (1 - end)) f) P Q
+  pub ask_claimed : (o end : ℕ) (x : Object) (P : Refusal → Frame → Type 0) (Q : Reply → Frame → Type 0) → at f.objects o ≡ Some x → ((a : Reply) → Q a f)
+      → Ends (claimed (at (put x.claims end (Some pid)) (1 - end)) f) P Q
   unfolding claimed process
   ask_claimed o end x P Q is next = go (at (put x.claims end (Some pid)) (1 - end)) refl
     where

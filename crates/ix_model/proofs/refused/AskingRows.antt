@@ -32,11 +32,13 @@ use Rattle.ix_model.specs.declared.refusal.Refusal.{Refusal}
 use Rattle.ix_model.specs.declared.refusal.Refusal.TheVariants as refusal
 use Rattle.ix_model.proofs.frames.Frames.{FrameSound, frame_of}
 use Rattle.ix_model.proofs.refused.Refusing.{Relabelled, relabelled_itself, refusing_row, plain_answer, decided_frames}
-use Rattle.ix_model.proofs.words.Ends.{Ends, ends_bind, ends_then, ends_pass, ends_refuse, ends_frame, ends_need, ends_some, ends_only_if, ends_change_object, ends_change_caller, ends_change_open, ends_put_open, ends_there}
+use Rattle.ix_model.proofs.words.Ends.{Ends, ends_bind, ends_then, ends_pass, ends_refuse, ends_frame, ends_need, ends_some, ends_only_if}
+use Rattle.ix_model.proofs.words.Ends.{ends_change_object, ends_change_caller, ends_change_open, ends_put_open, ends_there}
 use Rattle.ix_model.proofs.words.Endings.{ends_put_object, ends_put_process, ends_add_process}
 use Rattle.ix_model.proofs.words.RowEnds.{ends_spot, ends_vacant, ends_end_process, ends_logged, ends_let_go_object, ends_let_go, ends_let_go_all}
 use Rattle.ix_model.proofs.words.Looks.{ends_float_entry}
-use Rattle.ix_model.proofs.refused.Asking.{is_for_want, there_is, ask_caller, ask_object, ask_observe, ask_affect, ask_walk, ask_entitled, ask_room, ask_exercise, ask_allowed, ask_movable, ask_opened, ask_target, ask_claimed}
+use Rattle.ix_model.proofs.refused.Asking.{is_for_want, there_is, ask_caller, ask_object, ask_observe, ask_affect, ask_walk, ask_entitled, ask_room}
+use Rattle.ix_model.proofs.refused.Asking.{ask_exercise, ask_allowed, ask_movable, ask_opened, ask_target, ask_claimed}
 
 -- what a refusal for want of something says of what the call named
 abbrev Missing : Frame → ℕ → Option ℕ → Option ℕ → Refusal → Type 0
@@ -66,7 +68,44 @@ module _ (f : Frame) (s : FrameSound f) (pid : ℕ) (alive : lives f pid ≡ tru
   Asks fd target o = Ends o (Blames f pid fd target) (λ a g. Unit {0})
 
   -- one lemma for each word
-  ruleset asking = (ends_bind, ends_then, ends_pass, ends_refuse, ends_frame, ends_need, ends_some, ends_only_if, ends_change_object, ends_change_caller, ends_change_open, ends_put_open, ends_there, ends_put_object, ends_put_process, ends_add_process, ends_spot, ends_vacant, ends_end_process, ends_logged, ends_let_go_object, ends_let_go, ends_let_go_all, ends_float_entry, ask_caller, ask_object, ask_observe, ask_affect, ask_walk, ask_entitled, ask_room, ask_exercise, ask_allowed, ask_movable, ask_claimed, harmless)
+  ruleset asking = (
+    ends_bind,
+    ends_then,
+    ends_pass,
+    ends_refuse,
+    ends_frame,
+    ends_need,
+    ends_some,
+    ends_only_if,
+    ends_change_object,
+    ends_change_caller,
+    ends_change_open,
+    ends_put_open,
+    ends_there,
+    ends_put_object,
+    ends_put_process,
+    ends_add_process,
+    ends_spot,
+    ends_vacant,
+    ends_end_process,
+    ends_logged,
+    ends_let_go_object,
+    ends_let_go,
+    ends_let_go_all,
+    ends_float_entry,
+    ask_caller,
+    ask_object,
+    ask_observe,
+    ask_affect,
+    ask_walk,
+    ask_entitled,
+    ask_room,
+    ask_exercise,
+    ask_allowed,
+    ask_movable,
+    ask_claimed,
+    harmless,
+  )
 
   asks_make : (path : PathOf) (kind : Kind) → Asks None None (make pid path kind f)
   unfolding make missing
@@ -137,7 +176,8 @@ module _ (f : Frame) (s : FrameSound f) (pid : ℕ) (alive : lives f pid ≡ tru
   asks_unpex fd = search (asking, ask_opened f s pid alive, no_descriptor) depth 80 fits 16000
 
   -- the descriptor that a fork keeps
-  keeps_one : (keep : Keep) (p : Process) (Q : Unit {0} → Frame → Type 0) → living (at f.processes pid) ≡ Some p → Q tt f → Ends (need (has_kept keep p) refusal.BadFd f) (Blames f pid (descriptor_of (op.Fork keep)) None) Q
+  keeps_one : (keep : Keep) (p : Process) (Q : Unit {0} → Frame → Type 0) → living (at f.processes pid) ≡ Some p → Q tt f
+      → Ends (need (has_kept keep p) refusal.BadFd f) (Blames f pid (descriptor_of (op.Fork keep)) None) Q
   unfolding Ends need Rattle.ix_model.specs.rows.Rows.pass Rattle.ix_model.specs.rows.Rows.refuse
   keeps_one keeping.All p Q here next = next
   keeps_one keeping.Nothing p Q here next = next
@@ -160,7 +200,8 @@ module _ (f : Frame) (s : FrameSound f) (pid : ℕ) (alive : lives f pid ≡ tru
   asks_exit = search asking depth 80 fits 16000
 
   -- the record of a child that has ended
-  a_record : (c : ℕ) (P : Refusal → Frame → Type 0) (Q : Process → Frame → Type 0) → position (λ q. is_child pid q && is_ended q) f.processes ≡ Some c → ((q : Process) → at f.processes c ≡ Some q → Q q f) → Ends (record_of c f) P Q
+  a_record : (c : ℕ) (P : Refusal → Frame → Type 0) (Q : Process → Frame → Type 0) → position (λ q. is_child pid q && is_ended q) f.processes ≡ Some c
+      → ((q : Process) → at f.processes c ≡ Some q → Q q f) → Ends (record_of c f) P Q
   unfolding record_of
   a_record c P Q first next = there_is _ _ f P Q (some_child (at f.processes c) (position-Some (λ q. is_child pid q && is_ended q) f.processes c None first).1) next
     where
@@ -279,7 +320,8 @@ lacking f pid c refusal.NoProcess h = go (lives f pid)
     go false = refl
 lacking f pid c _ h = tt
 
-settled_wants : (f : Frame) (pid : ℕ) (c : Op) (o : Outcome Reply) (r : Refusal) → Ends o (Blames f pid (descriptor_of c) (process_named c)) (λ a g. Unit {0}) → Ends o (λ r g. Relabelled pid f g) (λ a g. is_answer a ≡ true) → (settled f o).reply ≡ reply.No r → Wants f pid c r
+settled_wants : (f : Frame) (pid : ℕ) (c : Op) (o : Outcome Reply) (r : Refusal) → Ends o (Blames f pid (descriptor_of c) (process_named c)) (λ a g. Unit {0})
+    → Ends o (λ r g. Relabelled pid f g) (λ a g. is_answer a ≡ true) → (settled f o).reply ≡ reply.No r → Wants f pid c r
 unfolding Ends
 settled_wants f pid c (Refuse why g) r h k is =
     let same : why ≡ r = cc in

@@ -83,7 +83,8 @@ module _ (f : Frame) (pid fd : ℕ) (gone : has_descriptor f pid fd ≡ false) w
   no_unpex = ends_bind _ _ f bad_fd never (refused _)
 
 -- a fork that is to keep it
-no_fork : (f : Frame) → FrameSound f → (pid : ℕ) → lives f pid ≡ true → (keep : Rattle.ix_model.specs.declared.call.Keep.Keep) → option_map_or (has_descriptor f pid) (descriptor_of (op.Fork keep)) true ≡ false → Ends (fork pid keep f) bad_fd never
+no_fork : (f : Frame) → FrameSound f → (pid : ℕ) → lives f pid ≡ true → (keep : Rattle.ix_model.specs.declared.call.Keep.Keep)
+    → option_map_or (has_descriptor f pid) (descriptor_of (op.Fork keep)) true ≡ false → Ends (fork pid keep f) bad_fd never
 unfolding fork bad_fd
 no_fork f s pid alive keeping.All gone = absurd (true≢false gone)
 no_fork f s pid alive keeping.Nothing gone = absurd (true≢false gone)

@@ -24,5 +24,7 @@ refused_step w place pid c r is =
     record {
       label = λ keeps. ap (λ (v : World). v.frame) plain.world ∙ (decided_seen t place pid c w.frame r plain.reply keeps).is;
       kept = λ keeps. ap (λ (v : World). v.frame) plain.world ∙ frames.kept keeps;
-      content = λ clean. ap (λ (v : World). v.content) plain.world ∙ carried_same w d.frame (subst (λ (g : Frame). Lasts w.frame g) (sym frames.relabelled.is) (lasts_relabelled pid frames.relabelled.label w.frame)) clean;
+      content = λ clean. ap (λ (v : World). v.content) plain.world
+          ∙ carried_same w d.frame (subst (λ (g : Frame). Lasts w.frame g) (sym frames.relabelled.is) (lasts_relabelled pid frames.relabelled.label w.frame))
+          clean;
     }

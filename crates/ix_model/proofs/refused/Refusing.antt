@@ -53,13 +53,15 @@ relabelled_itself pid f = go (at f.processes pid) refl
           ap (λ y. record x { label = y.label }) same)));
     }
 
-pub relabelled_more : (pid : ℕ) (seen : Categories) (f g : Frame) → Relabelled pid f g → Relabelled pid f (record g { processes = change g.processes pid (λ p. record p { label = join p.label seen }) })
+pub relabelled_more : (pid : ℕ) (seen : Categories) (f g : Frame) → Relabelled pid f g
+    → Relabelled pid f (record g { processes = change g.processes pid (λ p. record p { label = join p.label seen }) })
 relabelled_more pid seen f g r =
     let to : Process → Process = λ p. record p { label = r.label } in
     let joined : Process → Process = λ p. record p { label = join p.label seen } in
     record {
       label = join r.label seen;
-      is = ap (λ (h : Frame). let k : Frame = record h { processes = change h.processes pid joined } in k) r.is ∙ ap (λ t. let k : Frame = record f { processes = t } in k) (change_twice f.processes pid to joined);
+      is = ap (λ (h : Frame). let k : Frame = record h { processes = change h.processes pid joined } in
+          k) r.is ∙ ap (λ t. let k : Frame = record f { processes = t } in k) (change_twice f.processes pid to joined);
     }
 
 -- an answer without bytes
@@ -82,14 +84,19 @@ answer_of (op.ReadFd fd count) = is_answer
 answer_of _ = is_bare
 
 -- what a claim is answered is an answer, and changes nothing
-ends_claimed : (other : Option ℕ) (f : Frame) (P : Refusal → Frame → Type 0) (Q : Reply → Frame → Type 0) → P refusal.NoProcess f → ((a : Reply) → is_bare a ≡ true → Q a f) → Ends (claimed other f) P Q
+ends_claimed : (other : Option ℕ) (f : Frame) (P : Refusal → Frame → Type 0) (Q : Reply → Frame → Type 0) → P refusal.NoProcess f
+    → ((a : Reply) → is_bare a ≡ true → Q a f) → Ends (claimed other f) P Q
 unfolding claimed
 ends_claimed None f P Q h k = search (ending, k) depth 20
 ends_claimed (Some q) f P Q h k = search (ending, h, k) depth 20
 
 module _ (pid : ℕ) (f : Frame) where
   pub relabelled_observe : (seen : Categories) → Keeps (Relabelled pid f) (observe pid seen)
-  relabelled_observe seen = record { led = λ g r. kept_ends (Relabelled pid f) (observe pid seen g) (ends_observe pid seen g (λ why h. Relabelled pid f h) (λ u h. Relabelled pid f h) (λ why. r) r (λ p lives low. relabelled_more pid seen f g r)) }
+  relabelled_observe seen =
+      record {
+        led = λ g r. kept_ends (Relabelled pid f) (observe pid seen g) (ends_observe pid seen g (λ why h. Relabelled pid f h) (λ u h. Relabelled pid f h)
+            (λ why. r) r (λ p lives low. relabelled_more pid seen f g r));
+      }
 
   relabelled_walked_to : (path : PathOf) → Keeps (Relabelled pid f) (walked_to pid path)
   unfolding walked_to
@@ -97,13 +104,16 @@ module _ (pid : ℕ) (f : Frame) where
 
   -- ---- the words
   -- what a row keeps is known where it ends
-  looked : {A : Type 0} (m : Row A) (g : Frame) (P : Refusal → Frame → Type 0) (Q : A → Frame → Type 0) → Keeps (Relabelled pid f) m → Relabelled pid f g → ((r : Refusal) (h : Frame) → Relabelled pid f h → P r h) → ((a : A) (h : Frame) → Relabelled pid f h → Q a h) → Ends (m g) P Q
+  looked : {A : Type 0} (m : Row A) (g : Frame) (P : Refusal → Frame → Type 0) (Q : A → Frame → Type 0) → Keeps (Relabelled pid f) m → Relabelled pid f g
+      → ((r : Refusal) (h : Frame) → Relabelled pid f h → P r h) → ((a : A) (h : Frame) → Relabelled pid f h → Q a h) → Ends (m g) P Q
   looked m g P Q keeps here h k = ends_kept (Relabelled pid f) (m g) P Q (keeps.led g here) h k
 
-  ends_look : (seen : Categories) (g : Frame) (P : Refusal → Frame → Type 0) (Q : Unit {0} → Frame → Type 0) → Relabelled pid f g → ((r : Refusal) (h : Frame) → Relabelled pid f h → P r h) → ((u : Unit {0}) (h : Frame) → Relabelled pid f h → Q u h) → Ends (observe pid seen g) P Q
+  ends_look : (seen : Categories) (g : Frame) (P : Refusal → Frame → Type 0) (Q : Unit {0} → Frame → Type 0) → Relabelled pid f g
+      → ((r : Refusal) (h : Frame) → Relabelled pid f h → P r h) → ((u : Unit {0}) (h : Frame) → Relabelled pid f h → Q u h) → Ends (observe pid seen g) P Q
   ends_look seen g P Q here h k = looked (observe pid seen) g P Q (relabelled_observe seen) here h k
 
-  ends_walked_to : (path : PathOf) (g : Frame) (P : Refusal → Frame → Type 0) (Q : Sought → Frame → Type 0) → Relabelled pid f g → ((r : Refusal) (h : Frame) → Relabelled pid f h → P r h) → ((w : Sought) (h : Frame) → Relabelled pid f h → Q w h) → Ends (walked_to pid path g) P Q
+  ends_walked_to : (path : PathOf) (g : Frame) (P : Refusal → Frame → Type 0) (Q : Sought → Frame → Type 0) → Relabelled pid f g
+      → ((r : Refusal) (h : Frame) → Relabelled pid f h → P r h) → ((w : Sought) (h : Frame) → Relabelled pid f h → Q w h) → Ends (walked_to pid path g) P Q
   ends_walked_to path g P Q here h k = looked (walked_to pid path) g P Q (relabelled_walked_to path) here h k
 
   -- ---- the rows
@@ -289,7 +299,8 @@ answers_of c a h = bare_answers a h
 
 -- no row passes a refusal
 pub refusing_row : (t : LengthChecks) (place pid : ℕ) (c : Op) (f : Frame) → Relabels is_answer pid f (row t place pid c f)
-refusing_row t place pid c f = ends_more (row t place pid c f) (λ r g. Relabelled pid f g) (λ a g. answer_of c a ≡ true) (λ a g. is_answer a ≡ true) (relabels_row pid f t place c) (λ a g h. answers_of c a h)
+refusing_row t place pid c f = ends_more (row t place pid c f) (λ r g. Relabelled pid f g) (λ a g. answer_of c a ≡ true) (λ a g. is_answer a ≡ true)
+    (relabels_row pid f t place c) (λ a g h. answers_of c a h)
 
 -- ---- the decision
 -- what a refusing decision leaves of the frame
@@ -328,22 +339,26 @@ pub record Plain (w : World) (d : Decision) (r : Refusal) (v : World) : Type 0 w
   pub world : v ≡ record { frame = d.frame; content = carried w.frame d.frame w.content }
   pub reply : d.reply ≡ reply.No r
 
-plain_read : (w : World) (count : ℕ) (b : Option OpenFile) (a : Reply) (g : Frame) (r : Refusal) → (read_answer w count b a g).reply ≡ reply.No r → Plain w (record { reply = a; frame = g }) r (read_answer w count b a g).world
+plain_read : (w : World) (count : ℕ) (b : Option OpenFile) (a : Reply) (g : Frame) (r : Refusal) → (read_answer w count b a g).reply ≡ reply.No r
+    → Plain w (record { reply = a; frame = g }) r (read_answer w count b a g).world
 unfolding read_answer plainly
 plain_read w count (Some e) (reply.Bytes k) g r is = cc
 plain_read w count _ _ g r is = record { world = refl; reply = is }
 
-plain_write : (w : World) (new : List ℕ) (b : Option OpenFile) (a : Reply) (g : Frame) (r : Refusal) → (write_answer w new b a g).reply ≡ reply.No r → Plain w (record { reply = a; frame = g }) r (write_answer w new b a g).world
+plain_write : (w : World) (new : List ℕ) (b : Option OpenFile) (a : Reply) (g : Frame) (r : Refusal) → (write_answer w new b a g).reply ≡ reply.No r
+    → Plain w (record { reply = a; frame = g }) r (write_answer w new b a g).world
 unfolding write_answer plainly
 plain_write w new (Some e) (reply.Number k) g r is = cc
 plain_write w new _ _ g r is = record { world = refl; reply = is }
 
-plain_cut : (w : World) (len : ℕ) (b : Option OpenFile) (a : Reply) (g : Frame) (r : Refusal) → (cut_answer w len b a g).reply ≡ reply.No r → Plain w (record { reply = a; frame = g }) r (cut_answer w len b a g).world
+plain_cut : (w : World) (len : ℕ) (b : Option OpenFile) (a : Reply) (g : Frame) (r : Refusal) → (cut_answer w len b a g).reply ≡ reply.No r
+    → Plain w (record { reply = a; frame = g }) r (cut_answer w len b a g).world
 unfolding cut_answer plainly
 plain_cut w len (Some e) reply.Done g r is = cc
 plain_cut w len _ _ g r is = record { world = refl; reply = is }
 
-plain_seek : (w : World) (offset : ℕ) (b : Option OpenFile) (a : Reply) (g : Frame) (r : Refusal) → (seek_answer w offset b a g).reply ≡ reply.No r → Plain w (record { reply = a; frame = g }) r (seek_answer w offset b a g).world
+plain_seek : (w : World) (offset : ℕ) (b : Option OpenFile) (a : Reply) (g : Frame) (r : Refusal) → (seek_answer w offset b a g).reply ≡ reply.No r
+    → Plain w (record { reply = a; frame = g }) r (seek_answer w offset b a g).world
 unfolding seek_answer plainly
 plain_seek w offset (Some e) reply.Done g r is = cc
 plain_seek w offset _ _ g r is = record { world = refl; reply = is }
@@ -353,7 +368,8 @@ unfolding stat_answer plainly
 plain_stat w (reply.Stat o kind.File size links frozen cap lic) g r is = cc
 plain_stat w a g r is = record { world = refl; reply = is }
 
-plain_exit : (w : World) (pid status : ℕ) (a : Reply) (g : Frame) (r : Refusal) → (exit_answer w pid status a g).reply ≡ reply.No r → Plain w (record { reply = a; frame = g }) r (exit_answer w pid status a g).world
+plain_exit : (w : World) (pid status : ℕ) (a : Reply) (g : Frame) (r : Refusal) → (exit_answer w pid status a g).reply ≡ reply.No r
+    → Plain w (record { reply = a; frame = g }) r (exit_answer w pid status a g).world
 unfolding exit_answer plainly
 plain_exit w pid status reply.Done g r is = cc
 plain_exit w pid status _ g r is = record { world = refl; reply = is }
@@ -368,11 +384,14 @@ and_not true = refl
 and_not false = refl
 
 -- a path is whole where it was, so nothing is emptied
-plain_pex : (w : World) (b : Option OpenFile) (a : Reply) (g : Frame) (r : Refusal) → g.objects ≡ w.frame.objects → a ≡ reply.No r → Plain w (record { reply = a; frame = g }) r (pex_answer w b a g).world
+plain_pex : (w : World) (b : Option OpenFile) (a : Reply) (g : Frame) (r : Refusal) → g.objects ≡ w.frame.objects → a ≡ reply.No r
+    → Plain w (record { reply = a; frame = g }) r (pex_answer w b a g).world
 unfolding pex_answer plainly
 plain_pex w None a g r same is = record { world = refl; reply = is }
 plain_pex w (Some e) a g r same is =
-    let stays : (is_whole g e.entry.object && not (is_whole w.frame e.entry.object)) ≡ false = ap (λ t. is_whole (record g { objects = t }) e.entry.object && not (is_whole w.frame e.entry.object)) same ∙ and_not (is_whole w.frame e.entry.object) in
+    let stays : (is_whole g e.entry.object && not (is_whole w.frame e.entry.object)) ≡ false =
+    ap (λ t. is_whole (record g { objects = t }) e.entry.object && not (is_whole w.frame e.entry.object)) same
+    ∙ and_not (is_whole w.frame e.entry.object) in
     record { world = rw stays refl; reply = is }
 
 pex_reply : (w : World) (b : Option OpenFile) (a : Reply) (g : Frame) → (pex_answer w b a g).reply ≡ a
@@ -380,7 +399,8 @@ unfolding pex_answer plainly
 pex_reply w None a g = refl
 pex_reply w (Some e) a g = refl
 
-pub plain_answer : (w : World) (pid : ℕ) (c : Op) (d : Decision) (r : Refusal) → (d.reply ≡ reply.No r → d.frame.objects ≡ w.frame.objects) → (answer w pid c d).reply ≡ reply.No r → Plain w d r (answer w pid c d).world
+pub plain_answer : (w : World) (pid : ℕ) (c : Op) (d : Decision) (r : Refusal) → (d.reply ≡ reply.No r → d.frame.objects ≡ w.frame.objects)
+    → (answer w pid c d).reply ≡ reply.No r → Plain w d r (answer w pid c d).world
 unfolding answer plainly
 plain_answer w pid (op.ReadFd fd count) d r same is = plain_read w count (behind w.frame pid fd) d.reply d.frame r is
 plain_answer w pid (op.WriteFd fd bytes) d r same is = plain_write w bytes (behind w.frame pid fd) d.reply d.frame r is

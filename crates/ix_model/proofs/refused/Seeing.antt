@@ -33,7 +33,10 @@ module _ (pid : ℕ) (f : Frame) where
 
   pub seen_nothing : Seen pid f bottom f
   unfolding joined
-  seen_nothing = record { is = ap (λ t. let k : Frame = record f { processes = t } in k) (sym (change_same f.processes pid (joined bottom) (λ x here. (λ i. record x { label = join_nothing x.label i })))) }
+  seen_nothing = record {
+    is = ap (λ t. let k : Frame = record f { processes = t } in
+        k) (sym (change_same f.processes pid (joined bottom) (λ x here. (λ i. record x { label = join_nothing x.label i }))));
+  }
 
   -- a look more
   seen_joined : (s l : Categories) (g : Frame) → Seen pid f s g → Seen pid f (join s l) (record g { processes = change g.processes pid (λ p. record p { label = join p.label l }) })
@@ -56,7 +59,8 @@ module _ (pid : ℕ) (f : Frame) where
   }
 
   -- ---- looking
-  pub ends_seen : (s l : Categories) (g : Frame) (P : Refusal → Frame → Type 0) (Q : Unit {0} → Frame → Type 0) → Seen pid f s g → ((r : Refusal) (h : Frame) → keeps_label r ≡ false → P r h) → ((h : Frame) → Seen pid f (join s l) h → Q tt h) → Ends (observe pid l g) P Q
+  pub ends_seen : (s l : Categories) (g : Frame) (P : Refusal → Frame → Type 0) (Q : Unit {0} → Frame → Type 0) → Seen pid f s g
+      → ((r : Refusal) (h : Frame) → keeps_label r ≡ false → P r h) → ((h : Frame) → Seen pid f (join s l) h → Q tt h) → Ends (observe pid l g) P Q
   unfolding observe
   ends_seen s l g P Q r refused next =
       ends_bind _ _ g P Q (ends_caller pid g P _ (λ p lives. ends_only_if _ _ g P Q
@@ -99,13 +103,16 @@ module _ (pid : ℕ) (f : Frame) where
   walk_again : (s : Categories) (g : Frame) (p : Process) (path : PathOf) → Seen pid f s g → (b : Before s g p) → walk g.objects p path ≡ walk f.objects b.was path
   walk_again s g p path r b = (λ i. walk (r.is i).objects (b.is i) path)
 
-  pub ends_seen_walk : (path : PathOf) (s : Categories) (g : Frame) (P : Refusal → Frame → Type 0) (Q : Sought → Frame → Type 0) → Seen pid f s g → ((r : Refusal) (h : Frame) → keeps_label r ≡ false → P r h) → ((w : Sought) (h : Frame) → Seen pid f (join s (along f pid path)) h → ((o : ℕ) (dir : Option ℕ) → w ≡ sought.Found o dir → object_of_path f pid path ≡ Some o) → Q w h) → Ends (walked_to pid path g) P Q
+  pub ends_seen_walk : (path : PathOf) (s : Categories) (g : Frame) (P : Refusal → Frame → Type 0) (Q : Sought → Frame → Type 0) → Seen pid f s g
+      → ((r : Refusal) (h : Frame) → keeps_label r ≡ false → P r h) → ((w : Sought) (h : Frame) → Seen pid f (join s (along f pid path)) h
+      → ((o : ℕ) (dir : Option ℕ) → w ≡ sought.Found o dir → object_of_path f pid path ≡ Some o) → Q w h) → Ends (walked_to pid path g) P Q
   unfolding walked_to along
   ends_seen_walk path s g P Q r refused next =
       ends_bind _ _ g P Q (ends_caller pid g P _ (λ p lives.
       let b = lived_before s g p r lives in
       let same : walk g.objects p path ≡ walk f.objects b.was path = walk_again s g p path r b in
-      let met : along f pid path ≡ join_all (walk g.objects p path).looked = ap (λ o. option_map_or (λ q. join_all (walk f.objects q path).looked) o bottom) b.lived ∙ sym (λ i. join_all (same i).looked) in
+      let met : along f pid path ≡ join_all (walk g.objects p path).looked =
+      ap (λ o. option_map_or (λ q. join_all (walk f.objects q path).looked) o bottom) b.lived ∙ sym (λ i. join_all (same i).looked) in
       ends_bind _ _ g P Q (ends_frame g P _ (
       ends_then _ _ g P Q (ends_seen s (join_all (walk g.objects p path).looked) g P _ r refused (λ h there.
       ends_pass _ h P Q (next _ h (subst (λ (l : Categories). Seen pid f (join s l) h) (sym met) there) (λ o dir ends. leads_to o path b.was dir b.lived (sym (λ i. (same i).outcome) ∙ ends))))))))
@@ -113,7 +120,8 @@ module _ (pid : ℕ) (f : Frame) where
 
   -- ---- affecting
   -- whatever becomes of the object
-  pub ends_moved : (o : ℕ) (l : Categories) (g : Frame) (P : Refusal → Frame → Type 0) (Q : Unit {0} → Frame → Type 0) → ((r : Refusal) (h : Frame) → keeps_label r ≡ false → P r h) → ((h : Frame) → Q tt h) → Ends (affect pid o l g) P Q
+  pub ends_moved : (o : ℕ) (l : Categories) (g : Frame) (P : Refusal → Frame → Type 0) (Q : Unit {0} → Frame → Type 0)
+      → ((r : Refusal) (h : Frame) → keeps_label r ≡ false → P r h) → ((h : Frame) → Q tt h) → Ends (affect pid o l g) P Q
   unfolding affect
   ends_moved o l g P Q refused next =
       ends_bind _ _ g P Q (ends_caller pid g P _ (λ p lives.

@@ -73,7 +73,30 @@ module _ (pid : ℕ) (f : Frame) (start : Seen pid f bottom f) where
     unfolding exercise entitled log_has_room
     exercised x = search (ending, refused, next) depth 40
 
-  ruleset seeing = (ending, ends_record_of, ends_spot, ends_vacant, ends_put_object, ends_put_process, ends_add_process, ends_end_process, ends_logged, ends_let_go_object, ends_let_go, ends_let_go_all, ends_seen, ends_seen_walk, ends_moved, ends_float_entry, dropped, kept, claim_answered, entitled_or_not, room_or_not, exercised)
+  ruleset seeing = (
+    ending,
+    ends_record_of,
+    ends_spot,
+    ends_vacant,
+    ends_put_object,
+    ends_put_process,
+    ends_add_process,
+    ends_end_process,
+    ends_logged,
+    ends_let_go_object,
+    ends_let_go,
+    ends_let_go_all,
+    ends_seen,
+    ends_seen_walk,
+    ends_moved,
+    ends_float_entry,
+    dropped,
+    kept,
+    claim_answered,
+    entitled_or_not,
+    room_or_not,
+    exercised,
+  )
 
   abbrev pub Sees : (Refusal → Categories) → Outcome Reply → Type 0
   Sees seen o = Ends o (AsSeen pid f seen) (λ a g. Unit {0})
@@ -143,20 +166,30 @@ module _ (pid : ℕ) (f : Frame) (start : Seen pid f bottom f) where
       rw (leads, here) refl
 
   -- the look at it
-  look_there : (s : Categories) (m : Option ℕ) (o : ℕ) (x : Object) (g : Frame) (P : Refusal → Frame → Type 0) (Q : Unit {0} → Frame → Type 0) → Seen pid f s g → m ≡ Some o → at g.objects o ≡ Some x → ((r : Refusal) (h : Frame) → keeps_label r ≡ false → P r h) → ((h : Frame) → Seen pid f (join s (label_at f m)) h → Q tt h) → Ends (observe pid x.label g) P Q
-  look_there s m o x g P Q r leads is refused next = ends_seen pid f s x.label g P Q r refused (λ h there. next h (subst (λ (l : Categories). Seen pid f (join s l) h) (sym (label_there s g m o x r leads is)) there))
+  look_there : (s : Categories) (m : Option ℕ) (o : ℕ) (x : Object) (g : Frame) (P : Refusal → Frame → Type 0) (Q : Unit {0} → Frame → Type 0) → Seen pid f s g
+      → m ≡ Some o → at g.objects o ≡ Some x → ((r : Refusal) (h : Frame) → keeps_label r ≡ false → P r h) → ((h : Frame) → Seen pid f (join s (label_at f m)) h
+      → Q tt h) → Ends (observe pid x.label g) P Q
+  look_there s m o x g P Q r leads is refused next =
+      ends_seen pid f s x.label g P Q r refused (λ h there. next h (subst (λ (l : Categories). Seen pid f (join s l) h) (sym (label_there s g m o x r leads is))
+      there))
 
-  look_at_path : (path : PathOf) (s : Categories) (o : ℕ) (x : Object) (g : Frame) (P : Refusal → Frame → Type 0) (Q : Unit {0} → Frame → Type 0) → Seen pid f s g → object_of_path f pid path ≡ Some o → at g.objects o ≡ Some x → ((r : Refusal) (h : Frame) → keeps_label r ≡ false → P r h) → ((h : Frame) → Seen pid f (join s (label_at f (object_of_path f pid path))) h → Q tt h) → Ends (observe pid x.label g) P Q
+  look_at_path : (path : PathOf) (s : Categories) (o : ℕ) (x : Object) (g : Frame) (P : Refusal → Frame → Type 0) (Q : Unit {0} → Frame → Type 0)
+      → Seen pid f s g → object_of_path f pid path ≡ Some o → at g.objects o ≡ Some x → ((r : Refusal) (h : Frame) → keeps_label r ≡ false → P r h)
+      → ((h : Frame) → Seen pid f (join s (label_at f (object_of_path f pid path))) h → Q tt h) → Ends (observe pid x.label g) P Q
   look_at_path path s o x g P Q r leads is refused next = look_there s (object_of_path f pid path) o x g P Q r leads is refused next
 
   -- the label of the pipe behind a descriptor, with that of its open entry
   read_label : ℕ → Categories
   read_label fd = option_map_or (λ (e : OpenFile). join (label_at f (Some e.entry.object)) e.entry.label) (behind f pid fd) bottom
 
-  look_behind : (fd : ℕ) (s : Categories) (e : OpenFile) (x : Object) (g : Frame) (P : Refusal → Frame → Type 0) (Q : Unit {0} → Frame → Type 0) → Seen pid f s g → behind f pid fd ≡ Some e → at g.objects e.entry.object ≡ Some x → ((r : Refusal) (h : Frame) → keeps_label r ≡ false → P r h) → ((h : Frame) → Seen pid f (join s (read_label fd)) h → Q tt h) → Ends (observe pid (join x.label e.entry.label) g) P Q
+  look_behind : (fd : ℕ) (s : Categories) (e : OpenFile) (x : Object) (g : Frame) (P : Refusal → Frame → Type 0) (Q : Unit {0} → Frame → Type 0)
+      → Seen pid f s g → behind f pid fd ≡ Some e → at g.objects e.entry.object ≡ Some x → ((r : Refusal) (h : Frame) → keeps_label r ≡ false → P r h)
+      → ((h : Frame) → Seen pid f (join s (read_label fd)) h → Q tt h) → Ends (observe pid (join x.label e.entry.label) g) P Q
   unfolding read_label
   look_behind fd s e x g P Q r leads is refused next =
-      let met : read_label fd ≡ join x.label e.entry.label = ap (λ b. option_map_or (λ (e : OpenFile). join (label_at f (Some e.entry.object)) e.entry.label) b bottom) leads ∙ (λ i. join (label_there s g (Some e.entry.object) e.entry.object x r refl is i) e.entry.label) in
+      let met : read_label fd ≡ join x.label e.entry.label =
+      ap (λ b. option_map_or (λ (e : OpenFile). join (label_at f (Some e.entry.object)) e.entry.label) b bottom) leads
+      ∙ (λ i. join (label_there s g (Some e.entry.object) e.entry.object x r refl is i) e.entry.label) in
       ends_seen pid f s (join x.label e.entry.label) g P Q r refused (λ h there. next h (subst (λ (l : Categories). Seen pid f (join s l) h) (sym met) there))
 
   abbrev besides : PathOf → Categories
@@ -175,7 +208,23 @@ module _ (pid : ℕ) (f : Frame) (start : Seen pid f bottom f) where
   in_read fd refusal.Again = join bottom (read_label fd)
   in_read fd r = bottom
 
-  ruleset seeing_besides = (ending, ends_record_of, ends_spot, ends_vacant, ends_put_object, ends_put_process, ends_add_process, ends_end_process, ends_logged, ends_let_go_object, ends_seen_walk, ends_moved, ends_float_entry, dropped, kept)
+  ruleset seeing_besides = (
+    ending,
+    ends_record_of,
+    ends_spot,
+    ends_vacant,
+    ends_put_object,
+    ends_put_process,
+    ends_add_process,
+    ends_end_process,
+    ends_logged,
+    ends_let_go_object,
+    ends_seen_walk,
+    ends_moved,
+    ends_float_entry,
+    dropped,
+    kept,
+  )
 
   sees_remove_dir : (path : PathOf) → Sees (in_remove path) (remove_dir pid path f)
   unfolding remove_dir spot_at Ends
@@ -315,7 +364,8 @@ module _ (pid : ℕ) (f : Frame) (start : Seen pid f bottom f) where
   sees_row t place (op.CloseFd fd) = with_none _ (sees_close_fd fd)
   sees_row t place op.MakePipe = with_none _ sees_make_pipe
   sees_row t place (op.MakeDir path) = with_one path _ (sees_make path kind.Dir)
-  sees_row t place (op.LinkAt target path) = said (λ r. join (join bottom (along f pid target)) (along f pid path)) (looked_at f pid (op.LinkAt target path)) _ (λ r. tells_link target path) (sees_link_at target path)
+  sees_row t place (op.LinkAt target path) = said (λ r. join (join bottom (along f pid target)) (along f pid path)) (looked_at f pid (op.LinkAt target path)) _
+      (λ r. tells_link target path) (sees_link_at target path)
   sees_row t place (op.UnlinkAt path) = with_one path _ (sees_unlink_at path)
   sees_row t place (op.RemoveDir path) = said (in_remove path) (looked_at f pid (op.RemoveDir path)) _ (tells_remove path) (sees_remove_dir path)
   sees_row t place (op.ChangeDir path) = with_one path _ (sees_change_dir path)
@@ -342,7 +392,8 @@ module _ (pid : ℕ) (f : Frame) (start : Seen pid f bottom f) where
   sees_row t place (op.ReadLog index) = with_none _ (sees_read_log place index)
 
 -- ---- the decision
-settled_seen : (pid : ℕ) (f : Frame) (seen : Refusal → Categories) (o : Outcome Reply) (r : Refusal) → Ends o (AsSeen pid f seen) (λ a g. is_answer a ≡ true) → (settled f o).reply ≡ reply.No r → keeps_label r ≡ true → Seen pid f (seen r) (settled f o).frame
+settled_seen : (pid : ℕ) (f : Frame) (seen : Refusal → Categories) (o : Outcome Reply) (r : Refusal) → Ends o (AsSeen pid f seen) (λ a g. is_answer a ≡ true)
+    → (settled f o).reply ≡ reply.No r → keeps_label r ≡ true → Seen pid f (seen r) (settled f o).frame
 unfolding Ends
 settled_seen pid f seen (Refuse why g) r h is keeps =
     let same : why ≡ r = cc in
@@ -356,7 +407,8 @@ unfolding Ends
 both_end (Refuse r g) P P2 Q h k = h
 both_end (Pass a g) P P2 Q h k = k
 
-pub decided_seen : (t : LengthChecks) (place pid : ℕ) (c : Op) (f : Frame) (r : Refusal) → (verdict t place pid c f).reply ≡ reply.No r → keeps_label r ≡ true → Seen pid f (looked_at f pid c r) (verdict t place pid c f).frame
+pub decided_seen : (t : LengthChecks) (place pid : ℕ) (c : Op) (f : Frame) (r : Refusal) → (verdict t place pid c f).reply ≡ reply.No r → keeps_label r ≡ true
+    → Seen pid f (looked_at f pid c r) (verdict t place pid c f).frame
 unfolding verdict
 decided_seen t place pid c f r is keeps = go (lives f pid) is
   where
@@ -364,7 +416,8 @@ decided_seen t place pid c f r is keeps = go (lives f pid) is
     unknown = record { reply = reply.No refusal.NoProcess; frame = f }
 
     go : (b : Bool) → (if b then settled f (row t place pid c f) else unknown).reply ≡ reply.No r → Seen pid f (looked_at f pid c r) (if b then settled f (row t place pid c f) else unknown).frame
-    go true h = settled_seen pid f (looked_at f pid c) (row t place pid c f) r (both_end (row t place pid c f) (AsSeen pid f (looked_at f pid c)) (λ r g. Relabelled pid f g) (λ a g. is_answer a ≡ true) (sees_row pid f (seen_nothing pid f) t place c) (refusing_row t place pid c f)) h keeps
+    go true h = settled_seen pid f (looked_at f pid c) (row t place pid c f) r (both_end (row t place pid c f) (AsSeen pid f (looked_at f pid c))
+        (λ r g. Relabelled pid f g) (λ a g. is_answer a ≡ true) (sees_row pid f (seen_nothing pid f) t place c) (refusing_row t place pid c f)) h keeps
     go false h =
         let same : refusal.NoProcess ≡ r = cc in
         absurd (true≢false (sym keeps ∙ ap keeps_label (sym same)))

@@ -26,7 +26,8 @@ use Rattle.ix_model.proofs.tables.SameKinds.{kinds_itself, kinds_new}
 use Rattle.ix_model.proofs.frames.Frames.{FrameSound, Follows, follows_itself}
 use Rattle.ix_model.proofs.sound.Steadily.{follows_found}
 use Rattle.ix_model.proofs.sound.Logging.{Refused, Passed, ends_next}
-use Rattle.ix_model.proofs.frames.Given.{opens_but, or_more, either_more, entered, held_more, held_here, lives_entered, opens_entered, claims_entered, limits_entered, given, processes_put_fd, limits_put_fd, given_lives, opens_given, claims_given}
+use Rattle.ix_model.proofs.frames.Given.{opens_but, or_more, either_more, entered, held_more, held_here, lives_entered, opens_entered, claims_entered}
+use Rattle.ix_model.proofs.frames.Given.{limits_entered, given, processes_put_fd, limits_put_fd, given_lives, opens_given, claims_given}
 use Rattle.ix_model.proofs.frames.Awaiting.{IsNew, Awaiting, awaiting, awaiting_new, names_all}
 
 -- ---- one descriptor more
@@ -44,7 +45,8 @@ module _ (f : Frame) (pid : ℕ) (p : Process) (fd e : ℕ) (lives : living (at 
   }
 
   -- on a new entry; what is said of lives holds where the entry stands
-  module _ (x : Open) (e_in : e < length f.opens) (e_none : at f.opens e ≡ None) (no_dir : option_map_or (λ y. not (is_dir y)) (at f.objects x.object) false ≡ true) (at_end : (x.end == 0 || x.end == 1 && option_map_or is_pipe (at f.objects x.object) false) ≡ true) where
+  module _ (x : Open) (e_in : e < length f.opens) (e_none : at f.opens e ≡ None) (no_dir : option_map_or (λ y. not (is_dir y)) (at f.objects x.object) false
+      ≡ true) (at_end : (x.end == 0 || x.end == 1 && option_map_or is_pipe (at f.objects x.object) false) ≡ true) where
     stands : is_some (at (put f.opens e (Some x)) e) ≡ true
     stands = ap is_some (get_or-set_same f.opens e (Some x) None e_in)
 
@@ -54,7 +56,10 @@ module _ (f : Frame) (pid : ℕ) (p : Process) (fd e : ℕ) (lives : living (at 
     -- from a frame that may await the entry's object
     added : (o : ℕ) → NamesSound f → LivesSound (entered f e x) → Awaiting o f → FrameSound (given (entered f e x) pid fd e)
     added o n l s = record {
-      labels = labels_process (entered f e x) (record { objects = s.labels.objects; processes = s.labels.processes }) pid (λ q. record q { fds = put q.fds fd (Some e) }) (λ q here. s.labels.processes pid q here);
+      labels = labels_process (entered f e x) (record { objects = s.labels.objects; processes = s.labels.processes }) pid (λ q. record q {
+        fds =
+            put q.fds fd (Some e);
+      }) (λ q here. s.labels.processes pid q here);
       names = record { root = n.root; in_directories = n.in_directories; living = n.living; differ = n.differ; once = n.once };
       lives = record { file = l.file; pipe = l.pipe };
       opens = opens_added s.opens;
@@ -104,7 +109,9 @@ module _ (f : Frame) (s : FrameSound f) where
       })))) k)) k)) k)
 
   -- ---- a pipe and its two ends
-  module _ (pid o a b d e : ℕ) (p : Process) (lives : living (at f.processes pid) ≡ Some p) (free_o : free_pipe f ≡ Some o) (free_a : lowest_free p.fds ≡ Some a) (free_b : lowest_free (put p.fds a (Some 0)) ≡ Some b) (free_d : lowest_free f.opens ≡ Some d) (free_e : lowest_free (put f.opens d (pipe_end o 0)) ≡ Some e) where
+  module _ (pid o a b d e : ℕ) (p : Process) (lives : living (at f.processes pid) ≡ Some p) (free_o : free_pipe f ≡ Some o) (free_a : lowest_free p.fds
+      ≡ Some a) (free_b : lowest_free (put p.fds a (Some 0)) ≡ Some b) (free_d : lowest_free f.opens ≡ Some d)
+      (free_e : lowest_free (put f.opens d (pipe_end o 0)) ≡ Some e) where
     abbrev pipe : Object
     pipe = new_object kind.Pipe None
 
@@ -132,7 +139,8 @@ module _ (f : Frame) (s : FrameSound f) where
     a_free = lowest_free_is p.fds a free_a
 
     names_born : NamesSound born
-    names_born = names_all o born w.names (λ x is dir. let h : is_dir pipe ≡ true = sym (ap (λ z. option_map_or is_dir z false) there) ∙ ap (λ z. option_map_or is_dir z false) is ∙ dir in absurd (true≢false (sym h)))
+    names_born = names_all o born w.names (λ x is dir. let h : is_dir pipe ≡ true = sym (ap (λ z. option_map_or is_dir z false) there)
+        ∙ ap (λ z. option_map_or is_dir z false) is ∙ dir in absurd (true≢false (sym h)))
 
     lives_born : LivesSound (entered born d (end_of 0))
     lives_born = record {
@@ -165,13 +173,26 @@ module _ (f : Frame) (s : FrameSound f) where
     second : FrameSound (given (entered (given (entered born d (end_of 0)) pid a d) e (end_of 1)) pid b e)
     second =
         let e_free = lowest_free_is (put f.opens d (pipe_end o 0)) e free_e in
-        added_sound (given (entered born d (end_of 0)) pid a d) pid (record p { fds = put p.fds a (Some d) }) b e (given_lives (entered born d (end_of 0)) pid p a d lives a_free.0 a_free.1) b_free.0 b_free.1 (end_of 1) e_free.0 e_free.1 no_dir (ap (λ z. option_map_or is_pipe z false) there) first
+        added_sound (given (entered born d (end_of 0)) pid a d) pid (record p { fds = put p.fds a (Some d) }) b e
+        (given_lives (entered born d (end_of 0)) pid p a d lives a_free.0 a_free.1) b_free.0 b_free.1 (end_of 1) e_free.0 e_free.1 no_dir
+        (ap (λ z. option_map_or is_pipe z false) there) first
 
-    piped : Follows f (record f { objects = put f.objects o (Some (new_object kind.Pipe None)); opens = put (put f.opens d (pipe_end o 0)) e (pipe_end o 1); processes = change f.processes pid (λ q. record q { fds = put (put q.fds a (Some d)) b (Some e) }) })
+    piped : Follows f (record f {
+      objects = put f.objects o (Some (new_object kind.Pipe None));
+      opens =
+          put (put f.opens d (pipe_end o 0)) e (pipe_end o 1);
+      processes =
+          change f.processes pid (λ q. record q { fds = put (put q.fds a (Some d)) b (Some e) });
+    })
     piped =
         let same = change_twice f.processes pid (λ q. record q { fds = put q.fds a (Some d) }) (λ q. record q { fds = put q.fds b (Some e) }) in
         record {
-          sound = subst (λ (t : List (Option Process)). FrameSound (record f { objects = put f.objects o (Some (new_object kind.Pipe None)); opens = put (put f.opens d (pipe_end o 0)) e (pipe_end o 1); processes = t })) same second;
+          sound = subst (λ (t : List (Option Process)). FrameSound (record f {
+            objects = put f.objects o (Some (new_object kind.Pipe None));
+            opens =
+                put (put f.opens d (pipe_end o 0)) e (pipe_end o 1);
+            processes = t;
+          })) same second;
           kinds = kinds_new f.objects f.objects (kinds_itself f.objects) o (Some pipe) is_new.free;
         }
 

@@ -1,5 +1,6 @@
 -- The lengths of what is carried over.
-use Rattle.std.proofs.Common.{◌≡◌, ◌≤◌, ◌+◌, ◌==◌, ◌&&◌, ℕ, suc, Bool, true, false, true≢false, List, [], ◌∷◌, length, Option, Some, None, is_some, if◌then◌else◌, refl, sym, ap, ◌∙◌, subst, arith, get_or}
+use Rattle.std.proofs.Common.{◌≡◌, ◌≤◌, ◌+◌, ◌==◌, ◌&&◌, ℕ, suc, Bool, true, false, true≢false, List, [], ◌∷◌, length, Option, Some, None, is_some}
+use Rattle.std.proofs.Common.{if◌then◌else◌, refl, sym, ap, ◌∙◌, subst, arith, get_or}
 use Rattle.std.specs.Option.{option_map_or}
 use Rattle.std.proofs.lemmas.Bool.{and_parts}
 use Rattle.ix_model.specs.world.World.{World, Frame, Object, Holding, at, is_ended, fs_at}
@@ -25,7 +26,8 @@ kept_at P d p xs n h k =
     subst P (sym (get_or-keep d p 0 xs n ∙ e)) (kept_of P (p n) _ d h k)
 
 -- ---- blocks
-kept_blocks : (q r p : Bool) (h : Holding) → (q ≡ true → r ≡ true → p ≡ true) → (if q then blocks_for (length (if r then h else holds_nothing).first) else 0) ≤ (if p then blocks_for (length h.first) else 0)
+kept_blocks : (q r p : Bool) (h : Holding) → (q ≡ true → r ≡ true → p ≡ true) → (if q then blocks_for (length (if r then h else holds_nothing).first) else
+    0) ≤ (if p then blocks_for (length h.first) else 0)
 kept_blocks false r p h both = omega arith
 kept_blocks true false p h both = omega arith
 kept_blocks true true false h both = absurd (true≢false (sym (both refl refl)))
@@ -39,7 +41,8 @@ blocks_kept q r p n (h ∷ hs) both =
     let rest = blocks_kept q r p (suc n) hs both in
     omega arith
 
-lies_still : (x y : Option Object) (k : ℕ) → ((a b : Object) → x ≡ Some a → y ≡ Some b → b.fs ≡ a.fs) → is_some x ≡ true → option_map_or (λ z. option_map_or (λ j. j == k) z.fs false) y false ≡ true → option_map_or (λ z. option_map_or (λ j. j == k) z.fs false) x false ≡ true
+lies_still : (x y : Option Object) (k : ℕ) → ((a b : Object) → x ≡ Some a → y ≡ Some b → b.fs ≡ a.fs) → is_some x ≡ true
+    → option_map_or (λ z. option_map_or (λ j. j == k) z.fs false) y false ≡ true → option_map_or (λ z. option_map_or (λ j. j == k) z.fs false) x false ≡ true
 lies_still None y k same there h = absurd (true≢false (sym there))
 lies_still (Some a) None k same there h = absurd (true≢false (sym h))
 lies_still (Some a) (Some b) k same there h = ap (λ t. option_map_or (λ j. j == k) t false) (sym (same a b refl refl)) ∙ h
@@ -65,7 +68,9 @@ lengths_carried w g r kinds l =
           let x = there_is (at f.objects o) (and_parts _ _ stays).0 in
           l.pipe o x.0 x.1 (sym (kinds.same o x.0 y x.1 is).pipe ∙ pipe)) (omega arith, omega arith);
       blocks = λ k.
-          let few : blocks_where (lies_on g (Some k)) 0 (keep holds_nothing stay 0 c.holdings) ≤ blocks_where (lies_on f (Some k)) 0 c.holdings = blocks_kept (lies_on g (Some k)) stay (lies_on f (Some k)) 0 c.holdings (λ m lies stays. lies_still (at f.objects m) (at g.objects m) k (λ a b is here. (kinds.same m a b is here).fs) (and_parts _ _ stays).0 lies) in
+          let few : blocks_where (lies_on g (Some k)) 0 (keep holds_nothing stay 0 c.holdings) ≤ blocks_where (lies_on f (Some k)) 0 c.holdings =
+          blocks_kept (lies_on g (Some k)) stay (lies_on f (Some k)) 0 c.holdings (λ m lies stays. lies_still (at f.objects m) (at g.objects m) k
+          (λ a b is here. (kinds.same m a b is here).fs) (and_parts _ _ stays).0 lies) in
           let same : blocks_on g (Some k) ≡ blocks_on f (Some k) = ap (λ fss. (fs_at fss k).blocks) r.fss in
           omega (arith, l.blocks k);
     }

@@ -1,5 +1,6 @@
 -- CloseFd and Exit leave a sound frame.
-use Rattle.std.proofs.Common.{◌≡◌, ◌<◌, ◌==◌, ◌&&◌, ℕ, Bool, true, false, true≢false, not, List, [], ◌∷◌, length, Option, Some, None, is_some, option_map, if◌then◌else◌, get_or, refl, sym, ap, ◌∙◌, subst, arith, inl, inr}
+use Rattle.std.proofs.Common.{◌≡◌, ◌<◌, ◌==◌, ◌&&◌, ℕ, Bool, true, false, true≢false, not, List, [], ◌∷◌, length, Option, Some, None, is_some}
+use Rattle.std.proofs.Common.{option_map, if◌then◌else◌, get_or, refl, sym, ap, ◌∙◌, subst, arith, inl, inr}
 use Rattle.std.specs.Option.{option_map_or, option_and_then}
 use Rattle.std.specs.List.{list_any, range_with_len}
 use Rattle.std.proofs.lemmas.Bool.{or_cases, and_parts, not-true, eqb-true, eq-eqb}
@@ -86,7 +87,8 @@ module _ (base : Frame) (pid : ℕ) where
   }
 
   module _ (P : Refusal → Frame → Type 0) where
-    ends_if_held : (fd : ℕ) (rest : List ℕ) (g : Frame) (Q : Unit {0} → Frame → Type 0) → Leaving base pid (fd ∷ rest) g → ((h : Frame) → Leaving base pid rest h → Q tt h) → Ends (let_go_if_held pid fd g) P Q
+    ends_if_held : (fd : ℕ) (rest : List ℕ) (g : Frame) (Q : Unit {0} → Frame → Type 0) → Leaving base pid (fd ∷ rest) g
+        → ((h : Frame) → Leaving base pid rest h → Q tt h) → Ends (let_go_if_held pid fd g) P Q
     unfolding let_go_if_held
     ends_if_held fd rest g Q l next = go (behind g pid fd) refl
       where
@@ -101,7 +103,8 @@ module _ (base : Frame) (pid : ℕ) where
 
 -- ---- the end
 -- without descriptors nothing is owned or claimed
-no_test : (g : Frame) (pid : ℕ) (q : Process) → living (at g.processes pid) ≡ Some q → ((fd e : ℕ) → at q.fds fd ≡ Some e → ⊥) → (p : Option ℕ → Bool) → p None ≡ false → option_map_or (λ y. not y.ended && list_any p y.fds) (at g.processes pid) false ≡ true → ⊥
+no_test : (g : Frame) (pid : ℕ) (q : Process) → living (at g.processes pid) ≡ Some q → ((fd e : ℕ) → at q.fds fd ≡ Some e → ⊥) → (p : Option ℕ → Bool)
+    → p None ≡ false → option_map_or (λ y. not y.ended && list_any p y.fds) (at g.processes pid) false ≡ true → ⊥
 no_test g pid q lives none p blank h =
     let h2 : (not q.ended && list_any p q.fds) ≡ true = ap (λ o. option_map_or (λ y. not y.ended && list_any p y.fds) o false) (sym (is_living _ q lives)) ∙ h in
     let at_fd = any_at p blank q.fds (and_parts (not q.ended) (list_any p q.fds) h2).1 in
@@ -120,7 +123,8 @@ leaves : (base : Frame) (pid : ℕ) (g : Frame) (l : Leaving base pid [] g) → 
 leaves base pid g l =
     let is = is_living _ l.process l.lives in
     let none : (fd e : ℕ) → at l.process.fds fd ≡ Some e → ⊥ = λ fd e on. true≢false (sym (l.descriptors fd e on)) in
-    let was : (y : Process) → option_and_then remains (at g.processes pid) ≡ Some y → record l.process { ended = true } ≡ y = λ y h. remains_is l.process y (ap (option_and_then remains) (sym is) ∙ h) in
+    let was : (y : Process) → option_and_then remains (at g.processes pid) ≡ Some y → record l.process { ended = true } ≡ y =
+    λ y h. remains_is l.process y (ap (option_and_then remains) (sym is) ∙ h) in
     let s = l.follows.sound in
     record {
       process = l.process;

@@ -11,7 +11,8 @@ use Rattle.ix_model.proofs.words.Keeps.{Holds}
 use Rattle.ix_model.proofs.words.Ends.{kept_ends}
 use Rattle.ix_model.proofs.words.Lasts.{settled_keeps}
 use Rattle.ix_model.proofs.frames.Frames.{FrameSound, Follows, follows_itself}
-use Rattle.ix_model.proofs.sound.Steadily.{follows_stat_at, follows_list_at, follows_label_of, follows_self_label, follows_read_fd, follows_write_fd, follows_cut_fd, follows_seek_fd, follows_freeze, follows_freeze_self, follows_drop_lic, follows_exec}
+use Rattle.ix_model.proofs.sound.Steadily.{follows_stat_at, follows_list_at, follows_label_of, follows_self_label, follows_read_fd, follows_write_fd}
+use Rattle.ix_model.proofs.sound.Steadily.{follows_cut_fd, follows_seek_fd, follows_freeze, follows_freeze_self, follows_drop_lic, follows_exec}
 use Rattle.ix_model.proofs.sound.Logging.{set_label_ends, set_self_ends, thaw_ends, thaw_self_ends, grant_lic_ends, set_ceiling_ends, read_log_ends, set_priv_ends, change_dir_ends}
 use Rattle.ix_model.proofs.sound.Making.{create_at_ends, make_dir_ends, link_at_ends}
 use Rattle.ix_model.proofs.sound.Unmaking.{unlink_at_ends, remove_dir_ends}

@@ -3,7 +3,8 @@ use Rattle.std.proofs.Common.{◌≡◌, ◌-◌, ◌++◌, ℕ, Bool, true, fal
 use Rattle.std.proofs.lemmas.Bool.{and_parts, not-true}
 use Rattle.ix_model.specs.world.World.{World, Frame, Content, Object, Holding, at, is_dir, is_pipe, is_ended}
 use Rattle.ix_model.specs.rows.Walks.{OpenFile, behind}
-use Rattle.ix_model.specs.world.Contents.{carried, holding_of, offset_of, holds_nothing, side, with_side, change_side, on_pipe, readable, after_read, after_write, after_cut, after_seek, after_exit, emptied, spliced, cut_to}
+use Rattle.ix_model.specs.world.Contents.{carried, holding_of, offset_of, holds_nothing, side, with_side, change_side, on_pipe, readable, after_read}
+use Rattle.ix_model.specs.world.Contents.{after_write, after_cut, after_seek, after_exit, emptied, spliced, cut_to}
 use Rattle.ix_model.specs.history.Step.{plainly, read_answer, write_answer, cut_answer, seek_answer, stat_answer, exit_answer, wait_answer, pex_answer, answer, step}
 use Rattle.ix_model.specs.rows.Table.{verdict}
 use Rattle.ix_model.specs.rows.Telling.{told}
@@ -30,7 +31,8 @@ first_alone : (end : ℕ) (bytes : List ℕ) (h : Holding) → end ≡ 0 → (wi
 first_alone end bytes h is = ap (λ n. (with_side n bytes h).second) is
 
 -- another side of an object that is no directory, and of what is no pipe the first side
-side_changed : (f : Frame) (c : Content) (o end : ℕ) (h : List ℕ → List ℕ) → ((x : Object) → at f.objects o ≡ Some x → (is_dir x ≡ false) × (is_pipe x ≡ false → end ≡ 0)) → Holds f c → Holds f (change_side o end h c)
+side_changed : (f : Frame) (c : Content) (o end : ℕ) (h : List ℕ → List ℕ)
+    → ((x : Object) → at f.objects o ≡ Some x → (is_dir x ≡ false) × (is_pipe x ≡ false → end ≡ 0)) → Holds f c → Holds f (change_side o end h c)
 side_changed f c o end h fits r = record {
   directory = λ n x is dir. set_either (λ (s : Holding). s.first ≡ []) holds_nothing c.holdings o n _
       (λ here. absurd (true≢false (sym dir ∙ (fits x (ap (at f.objects) (sym here) ∙ is)).0)))
@@ -90,7 +92,11 @@ module _ (w : World) (g : Frame) (k : Kinds w.frame.objects g.objects) (r : Hold
       m : ℕ
       m = length (take count (readable w.frame w.content e))
 
-      go : (b : Bool) → on_pipe w.frame e ≡ b → Holds g (if b then change_side e.entry.object e.entry.end (drop m) (carried w.frame g w.content) else record (carried w.frame g w.content) { offsets = slice_set (carried w.frame g w.content).offsets e.id (offset_of (carried w.frame g w.content) e.id + m) })
+      go : (b : Bool) → on_pipe w.frame e ≡ b → Holds g (if b then change_side e.entry.object e.entry.end (drop m) (carried w.frame g w.content) else
+          record (carried w.frame g w.content) {
+            offsets =
+                slice_set (carried w.frame g w.content).offsets e.id (offset_of (carried w.frame g w.content) e.id + m);
+          })
       go true on = side_changed g _ e.entry.object e.entry.end (drop m) (at_a_pipe e e.entry.end (there e refl) on) holds_plain
       go false on = record { directory = holds_plain.directory; second = holds_plain.second }
   holds_read count _ _ there = holds_plain
@@ -102,7 +108,12 @@ module _ (w : World) (g : Frame) (k : Kinds w.frame.objects g.objects) (r : Hold
       c : Content
       c = carried w.frame g w.content
 
-      go : (b : Bool) → on_pipe w.frame e ≡ b → Holds g (if b then change_side e.entry.object (1 - e.entry.end) (λ old. old ++ new) (carried w.frame g w.content) else record (change_side e.entry.object e.entry.end (spliced (offset_of (carried w.frame g w.content) e.id) new) (carried w.frame g w.content)) { offsets = slice_set (carried w.frame g w.content).offsets e.id (offset_of (carried w.frame g w.content) e.id + length new) })
+      go : (b : Bool) → on_pipe w.frame e ≡ b
+          → Holds g (if b then change_side e.entry.object (1 - e.entry.end) (λ old. old ++ new) (carried w.frame g w.content) else
+          record (change_side e.entry.object e.entry.end (spliced (offset_of (carried w.frame g w.content) e.id) new) (carried w.frame g w.content)) {
+            offsets =
+                slice_set (carried w.frame g w.content).offsets e.id (offset_of (carried w.frame g w.content) e.id + length new);
+          })
       go true on = side_changed g _ e.entry.object (1 - e.entry.end) (λ old. old ++ new) (at_a_pipe e (1 - e.entry.end) (there e refl) on) holds_plain
       go false on =
           let s = side_changed g _ e.entry.object e.entry.end (spliced (offset_of (carried w.frame g w.content) e.id) new) (at_a_file e (there e refl)) holds_plain in

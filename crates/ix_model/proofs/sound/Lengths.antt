@@ -1,5 +1,7 @@
 -- Lengths and blocks after the calls that edit what is held.
-use Rattle.std.proofs.Common.{◌≡◌, ◌<◌, ◌≤◌, ◌==◌, ◌+◌, ◌-◌, ℕ, zero, suc, max, Bool, true, false, true≢false, not, ◌&&◌, List, [], ◌∷◌, ◌++◌, length, take, drop, replicate, Option, Some, None, if◌then◌else◌, nat_le, nat_lt, refl, sym, ap, ◌∙◌, subst, arith, get_or, set, length-set, length-append}
+use Rattle.std.proofs.Common.{◌≡◌, ◌<◌, ◌≤◌, ◌==◌, ◌+◌, ◌-◌, ℕ, zero, suc, max, Bool, true, false, true≢false, not, ◌&&◌, List, [], ◌∷◌, ◌++◌, length}
+use Rattle.std.proofs.Common.{take, drop, replicate, Option, Some, None, if◌then◌else◌, nat_le, nat_lt, refl, sym, ap, ◌∙◌, subst, arith, get_or, set}
+use Rattle.std.proofs.Common.{length-set, length-append}
 use Rattle.std.specs.Option.{option_map_or}
 use Rattle.std.proofs.lemmas.Bool.{cond-false, lt-leb, ne_eqb, not-true, ltb-false, or_parts}
 use Rattle.std.proofs.lemmas.List.{length-replicate, length-take, length-drop}
@@ -28,7 +30,8 @@ length-spliced offset (b ∷ bs) old =
     let some : 0 < length (b ∷ bs) = omega arith in
     ap length (cond-false (nat_le (length (b ∷ bs)) 0) old _ (lt-leb (length (b ∷ bs)) 0 some))
     ∙ length-append (take offset old) _
-    ∙ ap (λ n. length (take offset old) + n) (length-append (replicate (offset - length old) 0) _ ∙ ap (λ n. length (replicate {A = ℕ} (offset - length old) 0) + n) (length-append (b ∷ bs) (drop (offset + length (b ∷ bs)) old)))
+    ∙ ap (λ n. length (take offset old) + n) (length-append (replicate (offset - length old) 0) _
+    ∙ ap (λ n. length (replicate {A = ℕ} (offset - length old) 0) + n) (length-append (b ∷ bs) (drop (offset + length (b ∷ bs)) old)))
     ∙ omega (arith, length-take offset old, length-replicate {A = ℕ} (offset - length old) 0, length-drop (offset + length (b ∷ bs)) old)
     ∙ sym (cond-false (length (b ∷ bs) == 0) (length old) (max (length old) (offset + length (b ∷ bs))) (ne_eqb (length (b ∷ bs)) 0 (λ e. absurd (omega arith))))
 
@@ -50,7 +53,8 @@ side_within end n h one two = go (end == 0)
     go true = one
     go false = two
 
-with_side_within : (end n : ℕ) (bytes : List ℕ) (h : Holding) → length h.first ≤ n → length h.second ≤ n → length bytes ≤ n → (length (with_side end bytes h).first ≤ n) × (length (with_side end bytes h).second ≤ n)
+with_side_within : (end n : ℕ) (bytes : List ℕ) (h : Holding) → length h.first ≤ n → length h.second ≤ n → length bytes ≤ n
+    → (length (with_side end bytes h).first ≤ n) × (length (with_side end bytes h).second ≤ n)
 with_side_within end n bytes h one two new = go (end == 0)
   where
     first : Holding
@@ -65,7 +69,10 @@ with_side_within end n bytes h one two new = go (end == 0)
 
 -- ---- one edit
 module _ (f : Frame) (c : Content) (l : LengthsSound (record { frame = f; content = c })) where
-  holding_edited : (o : ℕ) (h : Holding) (x : Object) → at f.objects o ≡ Some x → (is_pipe x ≡ false → length h.first ≤ 1048576) → (is_pipe x ≡ true → (length h.first ≤ 4096) × (length h.second ≤ 4096)) → ((k : ℕ) → blocks_where (lies_on f (Some k)) 0 (set c.holdings o h) ≤ blocks_on f (Some k)) → LengthsSound (record { frame = f; content = record c { holdings = set c.holdings o h } })
+  holding_edited : (o : ℕ) (h : Holding) (x : Object) → at f.objects o ≡ Some x → (is_pipe x ≡ false → length h.first ≤ 1048576)
+      → (is_pipe x ≡ true → (length h.first ≤ 4096) × (length h.second ≤ 4096))
+      → ((k : ℕ) → blocks_where (lies_on f (Some k)) 0 (set c.holdings o h) ≤ blocks_on f (Some k))
+      → LengthsSound (record { frame = f; content = record c { holdings = set c.holdings o h } })
   holding_edited o h x is file pipe blocks =
       let one : (m : ℕ) (y : Object) → at f.objects m ≡ Some y → m ≡ o → x ≡ y = λ m y here same. let e : Some x ≡ Some y = sym is ∙ ap (at f.objects) (sym same) ∙ here in cc in
       record {
@@ -73,7 +80,8 @@ module _ (f : Frame) (c : Content) (l : LengthsSound (record { frame = f; conten
         offsets = l.offsets;
         offset = l.offset;
         file = λ m y here other. set_either (λ z. length z.first ≤ 1048576) holds_nothing c.holdings o m h (λ same. file (ap is_pipe (one m y here same) ∙ other)) (l.file m y here other);
-        pipe = λ m y here yes. set_either (λ z. (length z.first ≤ 4096) × (length z.second ≤ 4096)) holds_nothing c.holdings o m h (λ same. pipe (ap is_pipe (one m y here same) ∙ yes)) (l.pipe m y here yes);
+        pipe = λ m y here yes. set_either (λ z. (length z.first ≤ 4096) × (length z.second ≤ 4096)) holds_nothing c.holdings o m h
+            (λ same. pipe (ap is_pipe (one m y here same) ∙ yes)) (l.pipe m y here yes);
         blocks = blocks;
       }
 
@@ -114,11 +122,13 @@ module _ (f : Frame) (c : Content) (l : LengthsSound (record { frame = f; conten
   lengths_seek e offset low = offset_edited e.id offset low
 
   -- a pipe's bytes use no blocks
-  pipe_edited : (o : ℕ) (h : Holding) (x : Object) → WithinLimits f → at f.objects o ≡ Some x → is_pipe x ≡ true → (length h.first ≤ 4096) × (length h.second ≤ 4096) → LengthsSound (record { frame = f; content = record c { holdings = set c.holdings o h } })
+  pipe_edited : (o : ℕ) (h : Holding) (x : Object) → WithinLimits f → at f.objects o ≡ Some x → is_pipe x ≡ true
+      → (length h.first ≤ 4096) × (length h.second ≤ 4096) → LengthsSound (record { frame = f; content = record c { holdings = set c.holdings o h } })
   pipe_edited o h x within is pipe low =
       holding_edited o h x is (λ other. absurd (true≢false (sym pipe ∙ other))) (λ yes. low) (λ k.
       let no_fs : x.fs ≡ None = none_is x.fs (within.pipes o x is ∙ pipe) in
-      let off : lies_on f (Some k) (0 + o) ≡ false = ap (lies_on f (Some k)) (omega arith) ∙ ap (λ y. option_map_or (λ z. option_map_or (λ j. j == k) z.fs false) y false) is ∙ ap (λ y. option_map_or (λ j. j == k) y false) no_fs in
+      let off : lies_on f (Some k) (0 + o) ≡ false = ap (lies_on f (Some k)) (omega arith)
+      ∙ ap (λ y. option_map_or (λ z. option_map_or (λ j. j == k) z.fs false) y false) is ∙ ap (λ y. option_map_or (λ j. j == k) y false) no_fs in
       let same = blocks_skip (lies_on f (Some k)) 0 c.holdings o h off in
       omega (arith, l.blocks k))
 
@@ -137,7 +147,20 @@ module _ (f : Frame) (c : Content) (l : LengthsSound (record { frame = f; conten
     unfolding after_read readable
     lengths_read count = go (on_pipe f e) (sym (on_pipe_is f e s))
       where
-        go : (b : Bool) → is_pipe s.object ≡ b → LengthsSound (record { frame = f; content = if b then record c { holdings = set c.holdings e.entry.object (with_side e.entry.end (drop (length (take count (drop (if b then 0 else offset_of c e.id) (side e.entry.end (holding_of c e.entry.object))))) (side e.entry.end (holding_of c e.entry.object))) (holding_of c e.entry.object)) } else record c { offsets = set c.offsets e.id (offset_of c e.id + length (take count (drop (if b then 0 else offset_of c e.id) (side e.entry.end (holding_of c e.entry.object))))) } })
+        go : (b : Bool) → is_pipe s.object ≡ b
+            → LengthsSound (record {
+              frame = f;
+              content = if b then
+                  record c {
+                    holdings = set c.holdings e.entry.object
+                        (with_side e.entry.end (drop (length (take count (drop (if b then 0 else offset_of c e.id) (side e.entry.end (holding_of c e.entry.object)))))
+                        (side e.entry.end (holding_of c e.entry.object))) (holding_of c e.entry.object));
+                  } else
+                  record c {
+                    offsets = set c.offsets e.id
+                        (offset_of c e.id + length (take count (drop (if b then 0 else offset_of c e.id) (side e.entry.end (holding_of c e.entry.object)))));
+                  };
+            })
         go true pipe =
             let h : Holding = holding_of c e.entry.object in
             let k : ℕ = length (take count (drop 0 (side e.entry.end h))) in
@@ -153,7 +176,15 @@ module _ (f : Frame) (c : Content) (l : LengthsSound (record { frame = f; conten
             offset_edited e.id _ (omega (arith, length-take count (drop (offset_of c e.id) (side e.entry.end h)), length-drop (offset_of c e.id) (side e.entry.end h)))
 
     -- ---- a write
-    pipe_written : (new : List ℕ) → is_pipe s.object ≡ true → length (side (1 - e.entry.end) (holding_of c e.entry.object)) + length new ≤ 4096 → LengthsSound (record { frame = f; content = record c { holdings = set c.holdings e.entry.object (with_side (1 - e.entry.end) (side (1 - e.entry.end) (holding_of c e.entry.object) ++ new) (holding_of c e.entry.object)) } })
+    pipe_written : (new : List ℕ) → is_pipe s.object ≡ true → length (side (1 - e.entry.end) (holding_of c e.entry.object)) + length new ≤ 4096
+        → LengthsSound (record {
+          frame = f;
+          content =
+              record c {
+                holdings = set c.holdings e.entry.object (with_side (1 - e.entry.end) (side (1 - e.entry.end) (holding_of c e.entry.object)
+                    ++ new) (holding_of c e.entry.object));
+              };
+        })
     pipe_written new pipe low =
         let h : Holding = holding_of c e.entry.object in
         let fits : length (side (1 - e.entry.end) h ++ new) ≤ 4096 = omega (arith, length-append (side (1 - e.entry.end) h) new) in
@@ -171,7 +202,8 @@ module _ (f : Frame) (c : Content) (l : LengthsSound (record { frame = f; conten
         ap (plain (side e.entry.end h)) (s.at_end other) ∙ length-spliced (offset_of c e.id) new (side e.entry.end h)
 
     -- a file's holding with other bytes, for which there is room
-    blocks_filed : (h : Holding) (n : ℕ) → length h.first ≡ n → blocks_beside f c e.entry.object + blocks_for n ≤ blocks_on f (fs_of_object f e.entry.object) → (k : ℕ) → blocks_where (lies_on f (Some k)) 0 (set c.holdings e.entry.object h) ≤ blocks_on f (Some k)
+    blocks_filed : (h : Holding) (n : ℕ) → length h.first ≡ n → blocks_beside f c e.entry.object + blocks_for n ≤ blocks_on f (fs_of_object f e.entry.object)
+        → (k : ℕ) → blocks_where (lies_on f (Some k)) 0 (set c.holdings e.entry.object h) ≤ blocks_on f (Some k)
     blocks_filed h n long room k = go (lies_on f (Some k) e.entry.object) refl
       where
         go : (b : Bool) → lies_on f (Some k) e.entry.object ≡ b → blocks_where (lies_on f (Some k)) 0 (set c.holdings e.entry.object h) ≤ blocks_on f (Some k)
@@ -183,26 +215,39 @@ module _ (f : Frame) (c : Content) (l : LengthsSound (record { frame = f; conten
             let known : blocks_where (λ m. not (m == e.entry.object) && lies_on f (Some k) m) 0 c.holdings + blocks_for n ≤ blocks_on f (Some k) =
             subst (λ (t : Option ℕ). blocks_where (λ m. not (m == e.entry.object) && lies_on f t m) 0 c.holdings + blocks_for n ≤ blocks_on f t) fs room in
             let same : blocks_for (length h.first) ≡ blocks_for n = ap blocks_for long in
-            let more = blocks_edit (lies_on f (Some k)) (λ m. not (m == e.entry.object) && lies_on f (Some k) m) 0 c.holdings e.entry.object h (λ m apart. ap (λ b. not b && lies_on f (Some k) m) (ne_eqb m e.entry.object (λ h. apart (omega arith)))) in
+            let more = blocks_edit (lies_on f (Some k)) (λ m. not (m == e.entry.object) && lies_on f (Some k) m) 0 c.holdings e.entry.object h
+            (λ m apart. ap (λ b. not b && lies_on f (Some k) m) (ne_eqb m e.entry.object (λ h. apart (omega arith)))) in
             omega arith
 
-    file_filed : (h : Holding) (n : ℕ) → length h.first ≡ n → is_pipe s.object ≡ false → n ≤ 1048576 → blocks_beside f c e.entry.object + blocks_for n ≤ blocks_on f (fs_of_object f e.entry.object) → LengthsSound (record { frame = f; content = record c { holdings = set c.holdings e.entry.object h } })
-    file_filed h n long other low room = holding_edited e.entry.object h s.object s.is_object (λ k. subst (λ (m : ℕ). m ≤ 1048576) (sym long) low) (λ yes. absurd (true≢false (sym yes ∙ other))) (blocks_filed h n long room)
+    file_filed : (h : Holding) (n : ℕ) → length h.first ≡ n → is_pipe s.object ≡ false → n ≤ 1048576
+        → blocks_beside f c e.entry.object + blocks_for n ≤ blocks_on f (fs_of_object f e.entry.object)
+        → LengthsSound (record { frame = f; content = record c { holdings = set c.holdings e.entry.object h } })
+    file_filed h n long other low room = holding_edited e.entry.object h s.object s.is_object (λ k. subst (λ (m : ℕ). m ≤ 1048576) (sym long) low)
+        (λ yes. absurd (true≢false (sym yes ∙ other))) (blocks_filed h n long room)
 
-    file_written : (new : List ℕ) → is_pipe s.object ≡ false → offset_of c e.id + length new ≤ 1048576 → blocks_beside f c e.entry.object + blocks_for (length_then (offset_of c e.id) (length new) (length (side e.entry.end (holding_of c e.entry.object)))) ≤ blocks_on f (fs_of_object f e.entry.object) → LengthsSound (record { frame = f; content = record c { holdings = set c.holdings e.entry.object (written new) } })
+    file_written : (new : List ℕ) → is_pipe s.object ≡ false → offset_of c e.id + length new ≤ 1048576
+        → blocks_beside f c e.entry.object + blocks_for
+        (length_then (offset_of c e.id) (length new) (length (side e.entry.end (holding_of c e.entry.object)))) ≤ blocks_on f (fs_of_object f e.entry.object)
+        → LengthsSound (record { frame = f; content = record c { holdings = set c.holdings e.entry.object (written new) } })
     file_written new other low room = file_filed (written new) _ (length-written new other) other (then_within 1048576 (offset_of c e.id) (length new) _ low (file_low other)) room
 
     -- ---- a cut
-    pub lengths_cut : (len : ℕ) → is_pipe s.object ≡ false → len ≤ 1048576 → blocks_beside f c e.entry.object + blocks_for len ≤ blocks_on f (fs_of_object f e.entry.object) → LengthsSound (record { frame = f; content = after_cut e len c })
+    pub lengths_cut : (len : ℕ) → is_pipe s.object ≡ false → len ≤ 1048576
+        → blocks_beside f c e.entry.object + blocks_for len ≤ blocks_on f (fs_of_object f e.entry.object)
+        → LengthsSound (record { frame = f; content = after_cut e len c })
     unfolding after_cut
     lengths_cut len other low room =
         let h : Holding = holding_of c e.entry.object in
         let old : List ℕ = side e.entry.end (holding_of c e.entry.object) in
         let long : length (with_side e.entry.end (cut_to len (side e.entry.end (holding_of c e.entry.object))) (holding_of c e.entry.object)).first ≡ len =
-        ap (λ n. length (with_side n (cut_to len (side e.entry.end (holding_of c e.entry.object))) (holding_of c e.entry.object)).first) (s.at_end other) ∙ length-cut len (side e.entry.end (holding_of c e.entry.object)) in
+        ap (λ n. length (with_side n (cut_to len (side e.entry.end (holding_of c e.entry.object))) (holding_of c e.entry.object)).first) (s.at_end other)
+        ∙ length-cut len (side e.entry.end (holding_of c e.entry.object)) in
         file_filed _ len long other low room
 
-pub lengths_write : (f : Frame) (c : Content) (l : LengthsSound (record { frame = f; content = c })) (e : OpenFile) (s : Standing f e.entry) (within : WithinLimits f) (new : List ℕ) → not (told_of_write f c (length new) (Some e)).too_big ≡ true → not (told_of_write f c (length new) (Some e)).full ≡ true → not (told_of_write f c (length new) (Some e)).no_space ≡ true → LengthsSound (record { frame = f; content = after_write f e new c })
+pub lengths_write : (f : Frame) (c : Content) (l : LengthsSound (record { frame = f; content = c })) (e : OpenFile) (s : Standing f e.entry)
+    (within : WithinLimits f) (new : List ℕ) → not (told_of_write f c (length new) (Some e)).too_big ≡ true
+    → not (told_of_write f c (length new) (Some e)).full ≡ true → not (told_of_write f c (length new) (Some e)).no_space ≡ true
+    → LengthsSound (record { frame = f; content = after_write f e new c })
 unfolding after_write told_of_write written
 lengths_write f c l e s within new small room space = go (on_pipe f e) (sym (on_pipe_is f e s)) small room space
   where
@@ -216,15 +261,22 @@ lengths_write f c l e s within new small room space = go (on_pipe f e) (sym (on_
     piped = record c { holdings = set c.holdings e.entry.object (with_side (1 - e.entry.end) (side (1 - e.entry.end) (holding_of c e.entry.object) ++ new) (holding_of c e.entry.object)) }
 
     filed : Content
-    filed = record c { holdings = set c.holdings e.entry.object (with_side e.entry.end (spliced (offset_of c e.id) new (side e.entry.end (holding_of c e.entry.object))) (holding_of c e.entry.object)); offsets = set c.offsets e.id (offset_of c e.id + length new) }
+    filed = record c {
+      holdings =
+          set c.holdings e.entry.object (with_side e.entry.end (spliced (offset_of c e.id) new (side e.entry.end (holding_of c e.entry.object)))
+          (holding_of c e.entry.object));
+      offsets = set c.offsets e.id (offset_of c e.id + length new);
+    }
 
-    go : (b : Bool) → is_pipe s.object ≡ b → not (if b then at_end else in_file).too_big ≡ true → not (if b then at_end else in_file).full ≡ true → not (if b then at_end else in_file).no_space ≡ true → LengthsSound (record { frame = f; content = if b then piped else filed })
+    go : (b : Bool) → is_pipe s.object ≡ b → not (if b then at_end else in_file).too_big ≡ true → not (if b then at_end else in_file).full ≡ true
+        → not (if b then at_end else in_file).no_space ≡ true → LengthsSound (record { frame = f; content = if b then piped else filed })
     go true pipe small room space = pipe_written f c l e s within new pipe (ltb-false 4096 _ (not-true _ room))
     go false other small room space =
         let parts = or_parts (nat_lt 4096 (length new)) (nat_lt 1048576 (offset_of c e.id + length new)) (not-true _ small) in
         let low : offset_of c e.id + length new ≤ 1048576 = ltb-false 1048576 _ parts.1 in
         let k : Option ℕ = fs_of_object f e.entry.object in
-        let sum : ℕ = blocks_where (λ m. not (m == e.entry.object) && lies_on f k m) 0 c.holdings + blocks_for (length_then (offset_of c e.id) (length new) (length (side e.entry.end (holding_of c e.entry.object)))) in
+        let sum : ℕ = blocks_where (λ m. not (m == e.entry.object) && lies_on f k m) 0 c.holdings + blocks_for
+        (length_then (offset_of c e.id) (length new) (length (side e.entry.end (holding_of c e.entry.object)))) in
         let enough : nat_lt (blocks_on f k) sum ≡ false = ap (λ b. not b && nat_lt (blocks_on f k) sum) (sym (not-true _ small)) ∙ not-true _ space in
         let one = file_written f c l e s within new other low (ltb-false (blocks_on f k) sum enough) in
         offset_edited f _ one e.id (offset_of c e.id + length new) low

@@ -22,7 +22,8 @@ use Rattle.ix_model.specs.declared.reply.Reply.TheVariants as reply
 use Rattle.ix_model.proofs.tables.Finds.{at_change}
 use Rattle.ix_model.proofs.words.Living.{is_living, not_ended, lives_as}
 use Rattle.ix_model.proofs.words.Keeps.{Holds, Keeps}
-use Rattle.ix_model.proofs.words.Ends.{Ends, ending, ends_kept, kept_ends, ends_bind, ends_then, ends_pass, ends_frame, ends_need, ends_some, ends_only_if, ends_caller, ends_object, ends_change_object, ends_change_caller}
+use Rattle.ix_model.proofs.words.Ends.{Ends, ending, ends_kept, kept_ends, ends_bind, ends_then, ends_pass, ends_frame, ends_need, ends_some}
+use Rattle.ix_model.proofs.words.Ends.{ends_only_if, ends_caller, ends_object, ends_change_object, ends_change_caller}
 use Rattle.ix_model.proofs.words.RowEnds.{ends_entitled, ends_logged}
 use Rattle.ix_model.proofs.words.Looks.{ends_affect}
 use Rattle.ix_model.proofs.frames.Floats.{floats_itself, floats_process}
@@ -43,14 +44,17 @@ room_log : (f : Frame) (P : Refusal → Frame → Type 0) (Q : Unit {0} → Fram
 unfolding log_has_room
 room_log f P Q h k = search (ending, h, k) depth 30
 
-room_allowed : (pid : ℕ) (was now : Categories) (f : Frame) (P : Refusal → Frame → Type 0) (Q : Unit {0} → Frame → Type 0) → ((not (leq was now) ≡ true → HasRoom f) → Q tt f) → ((r : Refusal) → P r f) → Ends (allowed pid was now f) P Q
+room_allowed : (pid : ℕ) (was now : Categories) (f : Frame) (P : Refusal → Frame → Type 0) (Q : Unit {0} → Frame → Type 0)
+    → ((not (leq was now) ≡ true → HasRoom f) → Q tt f) → ((r : Refusal) → P r f) → Ends (allowed pid was now f) P Q
 unfolding allowed
 room_allowed pid was now f P Q h k =
-    let second : Ends (only_if (not (leq was now)) (exercise pid to_lower) f) P Q = ends_only_if _ _ f P Q (λ yes. room_exercise pid _ f P Q (λ room. h (λ again. room)) k) (λ no. h (λ yes. absurd (true≢false (sym yes ∙ no)))) in
+    let second : Ends (only_if (not (leq was now)) (exercise pid to_lower) f) P Q =
+    ends_only_if _ _ f P Q (λ yes. room_exercise pid _ f P Q (λ room. h (λ again. room)) k) (λ no. h (λ yes. absurd (true≢false (sym yes ∙ no)))) in
     ends_bind _ _ f P Q (ends_caller pid f P _ (λ p lives.
     ends_then _ _ f P Q (ends_only_if _ _ f P _ (λ yes. ends_need _ _ f P _ (λ low. second) (k _)) (λ no. second))) (k _))
 
-fits_movable : (x : Object) (now : Categories) (f : Frame) (P : Refusal → Frame → Type 0) (Q : Unit {0} → Frame → Type 0) → leq x.label (ceiling_of f.fss x) ≡ true → (leq now (ceiling_of f.fss x) ≡ true → Q tt f) → ((r : Refusal) → P r f) → Ends (movable x now f) P Q
+fits_movable : (x : Object) (now : Categories) (f : Frame) (P : Refusal → Frame → Type 0) (Q : Unit {0} → Frame → Type 0)
+    → leq x.label (ceiling_of f.fss x) ≡ true → (leq now (ceiling_of f.fss x) ≡ true → Q tt f) → ((r : Refusal) → P r f) → Ends (movable x now f) P Q
 unfolding movable
 fits_movable x now f P Q fits h k =
     ends_bind _ _ f P Q (ends_frame f P _ (ends_only_if _ _ f P Q
@@ -81,7 +85,17 @@ module _ (f : Frame) where
           opens = record { descriptor = o.descriptor; owned = o.owned; target = o.target; end = o.end };
           processes = record { none = p.none; home = p.home; parent = p.parent; descriptors = p.descriptors };
           claims = record { claimant = s.sound.claims.claimant };
-          limits = record { objects = w.objects; pipes = w.pipes; past = w.past; numbers = w.numbers; opens = w.opens; processes = w.processes; names = w.names; log = omega (arith, length-append g.log (l ∷ []), low) };
+          limits = record {
+            objects = w.objects;
+            pipes = w.pipes;
+            past = w.past;
+            numbers = w.numbers;
+            opens = w.opens;
+            processes = w.processes;
+            names =
+                w.names;
+            log = omega (arith, length-append g.log (l ∷ []), low);
+          };
         };
         kinds = s.kinds;
       }
@@ -100,7 +114,8 @@ module _ (f : Frame) where
   ends_next m g Q keeps s next = ends_kept (Follows f) (m g) Refused Q (keeps.led g s) (λ r h k. k) next
 
   -- the object's label is that
-  labelled : (g : Frame) (o : ℕ) (x : Object) (now : Categories) → at g.objects o ≡ Some x → leq now (ceiling_of g.fss x) ≡ true → Follows f g → Follows f (record g { objects = change g.objects o (λ y. record y { label = now }) })
+  labelled : (g : Frame) (o : ℕ) (x : Object) (now : Categories) → at g.objects o ≡ Some x → leq now (ceiling_of g.fss x) ≡ true → Follows f g
+      → Follows f (record g { objects = change g.objects o (λ y. record y { label = now }) })
   labelled g o x now is low s = followed_object f g o _ (λ y. refl) (λ y. refl) (λ y here.
       let e : Some x ≡ Some y = sym is ∙ here in
       let one : x ≡ y = cc in
@@ -118,7 +133,8 @@ module _ (f : Frame) where
       (λ why. r))) (λ why. r))) r)))
 
   -- the process's label is that
-  process_labelled : (g : Frame) (pid : ℕ) (p : Process) (now : Categories) → living (at g.processes pid) ≡ Some p → leq now p.ceiling ≡ true → Follows f g → Follows f (record g { processes = change g.processes pid (λ q. record q { label = now }) })
+  process_labelled : (g : Frame) (pid : ℕ) (p : Process) (now : Categories) → living (at g.processes pid) ≡ Some p → leq now p.ceiling ≡ true → Follows f g
+      → Follows f (record g { processes = change g.processes pid (λ q. record q { label = now }) })
   process_labelled g pid p now lives low s = followed_process f g pid _ (λ q. refl) (λ q. refl) (λ q here.
       let e : Some p ≡ Some q = sym (is_living _ p lives) ∙ here in
       let one : p ≡ q = cc in
@@ -128,10 +144,17 @@ module _ (f : Frame) where
   unfolding set_self
   set_self_ends place pid now g s =
       ends_bind _ _ g Refused Passed (ends_caller pid g Refused _ (λ p lives.
-      let low_again : not (same p.label now) ≡ false → leq now p.ceiling ≡ true = λ no. subst (λ (l : Categories). leq l p.ceiling ≡ true) ((same-decides p.label now).0 (not-false _ no)) (s.sound.labels.processes pid p (is_living _ p lives)) in
-      let last : (not (leq p.label now) ≡ true → HasRoom g) → leq now p.ceiling ≡ true → Ends (◌>>◌ (change_process pid (λ q. record q { label = now })) (◌>>◌ (only_if (not (leq p.label now)) (logged (audit_line place pid act.DownSelf pid p.label now))) (pass reply.Done)) g) Refused Passed =
+      let low_again : not (same p.label now) ≡ false → leq now p.ceiling ≡ true =
+      λ no. subst (λ (l : Categories). leq l p.ceiling ≡ true) ((same-decides p.label now).0 (not-false _ no))
+      (s.sound.labels.processes pid p (is_living _ p lives)) in
+      let last : (not (leq p.label now) ≡ true → HasRoom g) → leq now p.ceiling ≡ true
+      → Ends (◌>>◌ (change_process pid (λ q. record q { label = now }))
+      (◌>>◌ (only_if (not (leq p.label now)) (logged (audit_line place pid act.DownSelf pid p.label now))) (pass reply.Done)) g) Refused Passed =
       λ room low. ends_then _ _ g Refused Passed (ends_change_caller pid _ g Refused _ (ends_logged_if _ _ _ room (process_labelled g pid p now lives low s) _)) in
-      let second : (not (leq p.label now) ≡ true → HasRoom g) → Ends (◌>>◌ (only_if (not (same p.label now)) (◌>>◌ (need (not p.frozen) refusal.ProcFrozen) (need (leq now p.ceiling) refusal.ProcCeiling))) (◌>>◌ (change_process pid (λ q. record q { label = now })) (◌>>◌ (only_if (not (leq p.label now)) (logged (audit_line place pid act.DownSelf pid p.label now))) (pass reply.Done))) g) Refused Passed =
+      let second : (not (leq p.label now) ≡ true → HasRoom g)
+      → Ends (◌>>◌ (only_if (not (same p.label now)) (◌>>◌ (need (not p.frozen) refusal.ProcFrozen) (need (leq now p.ceiling) refusal.ProcCeiling)))
+      (◌>>◌ (change_process pid (λ q. record q { label = now }))
+      (◌>>◌ (only_if (not (leq p.label now)) (logged (audit_line place pid act.DownSelf pid p.label now))) (pass reply.Done))) g) Refused Passed =
       λ room. ends_then _ _ g Refused Passed (ends_only_if _ _ g Refused _
       (λ other. ends_then _ _ g Refused _ (ends_need _ _ g Refused _ (λ free. ends_need _ _ g Refused _ (λ low. last room low) s) s))
       (λ no. last room (low_again no))) in
@@ -168,7 +191,8 @@ module _ (f : Frame) where
       (λ why. s))) s)
 
   -- the ceiling of a process is that, and not below its label
-  process_bounded : (g : Frame) (target : ℕ) (p : Process) (now : Categories) → living (at g.processes target) ≡ Some p → leq p.label now ≡ true → Follows f g → Follows f (record g { processes = change g.processes target (λ q. record q { ceiling = now }) })
+  process_bounded : (g : Frame) (target : ℕ) (p : Process) (now : Categories) → living (at g.processes target) ≡ Some p → leq p.label now ≡ true → Follows f g
+      → Follows f (record g { processes = change g.processes target (λ q. record q { ceiling = now }) })
   process_bounded g target p now lives low s = followed_process f g target _ (λ q. refl) (λ q. refl) (λ q here.
       let e : Some p ≡ Some q = sym (is_living _ p lives) ∙ here in
       let one : p ≡ q = cc in
@@ -179,7 +203,10 @@ module _ (f : Frame) where
   set_ceiling_ends place pid target now g s =
       ends_bind _ _ g Refused Passed (ends_caller target g Refused _ (λ p lives.
       ends_then _ _ g Refused Passed (ends_need _ _ g Refused _ (λ low.
-      let last : (needs_to_set_ceilings pid target p now ≡ true → HasRoom g) → Ends (◌>>◌ (change_process target (λ q. record q { ceiling = now })) (◌>>◌ (only_if (needs_to_set_ceilings pid target p now) (logged (audit_line place pid act.Ceiling target p.ceiling now))) (pass reply.Done)) g) Refused Passed =
+      let last : (needs_to_set_ceilings pid target p now ≡ true → HasRoom g)
+      → Ends (◌>>◌ (change_process target (λ q. record q { ceiling = now }))
+      (◌>>◌ (only_if (needs_to_set_ceilings pid target p now) (logged (audit_line place pid act.Ceiling target p.ceiling now))) (pass reply.Done)) g)
+      Refused Passed =
       λ room. ends_then _ _ g Refused Passed (ends_change_caller target _ g Refused _ (ends_logged_if _ _ _ room (process_bounded g target p now lives low s) _)) in
       ends_then _ _ g Refused Passed (ends_only_if _ _ g Refused _
       (λ yes. room_exercise pid _ g Refused _ (λ room. last (λ again. room)) (λ why. s))
@@ -207,7 +234,8 @@ module _ (f : Frame) where
       ends_then _ _ m Refused Passed (ends_need _ _ m Refused _ (λ no_dir.
       ends_then _ _ m Refused Passed (room_exercise pid _ m Refused _ (λ room.
       ends_bind _ _ m Refused Passed (ends_caller pid m Refused _ (λ p lives.
-      ends_then _ _ m Refused Passed (ends_kept (λ h. Follows f h × HasRoom h) _ Refused _ (holds_both _ _ _ ((follows_affect f pid o bottom).led m r) ((room_affect pid o bottom).led m room)) (λ why h k. k.0) (λ u h k.
+      ends_then _ _ m Refused Passed (ends_kept (λ h. Follows f h × HasRoom h) _ Refused _ (holds_both _ _ _ ((follows_affect f pid o bottom).led m r)
+      ((room_affect pid o bottom).led m room)) (λ why h k. k.0) (λ u h k.
       ends_then _ _ h Refused Passed (ends_change_object o _ h Refused _ (
       ends_logged_last _ _ k.1 (followed_object f h o _ (λ y. refl) (λ y. refl) (λ y here. k.0.sound.labels.objects o y here) k.0) _))))) r))
       (λ why. r))) r)) r)))

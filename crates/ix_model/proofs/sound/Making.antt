@@ -1,5 +1,6 @@
 -- The rows that make a file, a directory or a name leave a sound frame.
-use Rattle.std.proofs.Common.{◌≡◌, ◌≢◌, ◌<◌, ◌≤◌, ◌+◌, ◌==◌, ℕ, true, false, true≢false, not, nat_lt, List, sum, length, count_by, Option, Some, None, is_none, refl, sym, ap, ◌∙◌, subst, arith, inl, inr}
+use Rattle.std.proofs.Common.{◌≡◌, ◌≢◌, ◌<◌, ◌≤◌, ◌+◌, ◌==◌, ℕ, true, false, true≢false, not, nat_lt, List, sum, length, count_by, Option, Some, None}
+use Rattle.std.proofs.Common.{is_none, refl, sym, ap, ◌∙◌, subst, arith, inl, inr}
 use Rattle.std.specs.Option.{option_map_or}
 use Rattle.std.proofs.lemmas.Bool.{cases_lt, not-true}
 use Rattle.std.proofs.lemmas.List.{get_or-set_same, get_or-set_other}
@@ -58,7 +59,9 @@ unborn f o s none = sum_zero (times_in o) f.objects (λ n. go n (at f.objects n)
     ]
 
 -- ---- a new file or directory under a name
-created : (f m h : Frame) → Along f m → Follows f h → Floats m h → (d o j : ℕ) (name : List ℕ) (kind : Kind) → is_pipe (new_object kind (Some j)) ≡ false → Within f d name None → free_inode m j ≡ Some o → has_room_for_a_name m ≡ true → Follows f (record h { objects = change (put h.objects o (Some (new_object kind (Some j)))) d (with_name name o) })
+created : (f m h : Frame) → Along f m → Follows f h → Floats m h → (d o j : ℕ) (name : List ℕ) (kind : Kind) → is_pipe (new_object kind (Some j)) ≡ false
+    → Within f d name None → free_inode m j ≡ Some o → has_room_for_a_name m ≡ true
+    → Follows f (record h { objects = change (put h.objects o (Some (new_object kind (Some j)))) d (with_name name o) })
 created f m h a b r d o j name kind no_pipe within free room =
     let x : Object = new_object kind (Some j) in
     let g : Frame = record h { objects = put h.objects o (Some (new_object kind (Some j))) } in
@@ -67,8 +70,20 @@ created f m h a b r d o j name kind no_pipe within free room =
     let free_f : at f.objects o ≡ None = none_before f m a.floats o n.free in
     let long : length h.objects ≡ length m.objects = length_same object_but m.objects h.objects r.objects in
     let inside : o < length h.objects = omega (arith, long, n.inside) in
-    let range : (k : ℕ) → Some j ≡ Some k → (first_inode h.fss k ≤ o) × (o < first_inode h.fss k + (fs_at h.fss k).inodes) = λ k e. let same : j ≡ k = cc in subst (λ (i : ℕ). (first_inode h.fss i ≤ o) × (o < first_inode h.fss i + (fs_at h.fss i).inodes)) same (subst (λ (t : List FsSpec). (first_inode t j ≤ o) × (o < first_inode t j + (fs_at t j).inodes)) (sym r.fss) (n.first, n.last)) in
-    let new : IsNew h o x = record { free = free_h; inside = inside; nameless = refl; unclaimed = refl; low = bottom-leq _; pipe = sym no_pipe; past = λ yes. absurd (true≢false (sym yes ∙ no_pipe)); number = range } in
+    let range : (k : ℕ) → Some j ≡ Some k → (first_inode h.fss k ≤ o) × (o < first_inode h.fss k + (fs_at h.fss k).inodes) = λ k e. let same : j ≡ k = cc in
+    subst (λ (i : ℕ). (first_inode h.fss i ≤ o) × (o < first_inode h.fss i + (fs_at h.fss i).inodes)) same
+    (subst (λ (t : List FsSpec). (first_inode t j ≤ o) × (o < first_inode t j + (fs_at t j).inodes)) (sym r.fss) (n.first, n.last)) in
+    let new : IsNew h o x = record {
+      free = free_h;
+      inside = inside;
+      nameless = refl;
+      unclaimed = refl;
+      low = bottom-leq _;
+      pipe = sym no_pipe;
+      past =
+          λ yes. absurd (true≢false (sym yes ∙ no_pipe));
+      number = range;
+    } in
     let w = within_on m h r d name None (within_on f m a.floats d name None within) in
     let apart : d ≢ o = λ e. let both : Some w.dir ≡ None = sym w.is ∙ ap (at h.objects) e ∙ free_h in cc in
     let born : at g.objects o ≡ Some x = get_or-set_same h.objects o (Some x) None inside in
@@ -83,9 +98,11 @@ created f m h a b r d o j name kind no_pipe within free room =
 
 module _ (f : Frame) where
   -- affect, from a frame on the way
-  pub affect_on : (m : Frame) → Follows f m → (pid d : ℕ) (through : Categories) (Q : Unit {0} → Frame → Type 0) → ((h : Frame) → Follows f h → Floats m h → h.processes ≡ m.processes → Q tt h) → Ends (affect pid d through m) (Refused f) Q
+  pub affect_on : (m : Frame) → Follows f m → (pid d : ℕ) (through : Categories) (Q : Unit {0} → Frame → Type 0)
+      → ((h : Frame) → Follows f h → Floats m h → h.processes ≡ m.processes → Q tt h) → Ends (affect pid d through m) (Refused f) Q
   affect_on m k pid d through Q next = ends_kept (λ h. (Follows f h × Floats m h) × (h.processes ≡ m.processes)) (affect pid d through m) (Refused f) Q
-      (holds_both _ _ _ (holds_both _ _ _ ((follows_affect f pid d through).led m k) ((floats_affect m pid d through).led m (floats_itself m))) (kept_ends (λ h. h.processes ≡ m.processes) _ (ends_affect pid d through m _ _ (λ r. refl) refl (λ l x is low. refl))))
+      (holds_both _ _ _ (holds_both _ _ _ ((follows_affect f pid d through).led m k) ((floats_affect m pid d through).led m (floats_itself m)))
+      (kept_ends (λ h. h.processes ≡ m.processes) _ (ends_affect pid d through m _ _ (λ r. refl) refl (λ l x is low. refl))))
       (λ r h j. j.0.0) (λ u h j. next h j.0.0 j.0.1 j.1)
 
 module _ (f : Frame) (s : FrameSound f) where
@@ -113,17 +130,24 @@ module _ (f : Frame) (s : FrameSound f) where
 
 -- ---- one name more
 -- what was found and is no directory is named, and so no pipe
-named_no_pipe : (f : Frame) → FrameSound f → (o : ℕ) (dir : Option ℕ) (name : List ℕ) → Leads f name (sought.Found o dir) → option_map_or is_dir (at f.objects o) false ≡ false → option_map_or (λ y. not (is_pipe y)) (at f.objects o) false ≡ true
+named_no_pipe : (f : Frame) → FrameSound f → (o : ℕ) (dir : Option ℕ) (name : List ℕ) → Leads f name (sought.Found o dir)
+    → option_map_or is_dir (at f.objects o) false ≡ false → option_map_or (λ y. not (is_pipe y)) (at f.objects o) false ≡ true
 named_no_pipe f s o None name leads other = absurd (true≢false (sym leads ∙ other))
 named_no_pipe f s o (Some d) name leads other = s.names.living d o leads.dir leads.is (child_named leads.dir.names name o leads.leads)
 
-linked : (f m h : Frame) → FrameSound f → Along f m → Follows f h → Floats m h → (d o : ℕ) (dir : Option ℕ) (target name : List ℕ) (x : Object) → at m.objects o ≡ Some x → not (is_dir x) ≡ true → Leads f target (sought.Found o dir) → Within f d name None → has_room_for_a_name m ≡ true → Follows f (record h { objects = change h.objects d (with_name name o) })
+linked : (f m h : Frame) → FrameSound f → Along f m → Follows f h → Floats m h → (d o : ℕ) (dir : Option ℕ) (target name : List ℕ) (x : Object)
+    → at m.objects o ≡ Some x → not (is_dir x) ≡ true → Leads f target (sought.Found o dir) → Within f d name None → has_room_for_a_name m ≡ true
+    → Follows f (record h { objects = change h.objects d (with_name name o) })
 linked f m h s a b r d o dir target name x is no_dir leads within room =
     let w = within_on m h r d name None (within_on f m a.floats d name None within) in
     let there = back object_but (λ y. refl) h.objects m.objects (record { same = sym r.objects.same }) o x is in
     let other : is_dir there.was ≡ false = sym (ap is_dir there.same) ∙ not-true _ no_dir in
-    let was_no_dir : option_map_or is_dir (at f.objects o) false ≡ false = sym (seen_same object_but (λ y. option_map_or is_dir y false) (λ y. refl) f.objects m.objects a.floats.objects o) ∙ ap (λ y. option_map_or is_dir y false) is ∙ not-true _ no_dir in
-    let open_pipe : option_map_or (λ y. not (is_pipe y)) (at m.objects o) false ≡ true = seen_same object_but (λ y. option_map_or (λ z. not (is_pipe z)) y false) (λ y. refl) f.objects m.objects a.floats.objects o ∙ named_no_pipe f s o dir target leads was_no_dir in
+    let was_no_dir : option_map_or is_dir (at f.objects o) false ≡ false =
+    sym (seen_same object_but (λ y. option_map_or is_dir y false) (λ y. refl) f.objects m.objects a.floats.objects o)
+    ∙ ap (λ y. option_map_or is_dir y false) is ∙ not-true _ no_dir in
+    let open_pipe : option_map_or (λ y. not (is_pipe y)) (at m.objects o) false ≡ true =
+    seen_same object_but (λ y. option_map_or (λ z. not (is_pipe z)) y false) (λ y. refl) f.objects m.objects a.floats.objects o
+    ∙ named_no_pipe f s o dir target leads was_no_dir in
     let no_pipe : is_pipe there.was ≡ false = sym (ap is_pipe there.same) ∙ not-true _ (sym (ap (λ y. option_map_or (λ z. not (is_pipe z)) y false) is) ∙ open_pipe) in
     record {
       sound = named_sound h d o w.dir there.was name w.is w.is_directory there.is_was no_pipe w.leads
@@ -148,4 +172,5 @@ module _ (f : Frame) (s : FrameSound f) where
       ends_then _ _ m (Refused f) (Passed f) (ends_need _ _ m (Refused f) _ (λ room.
       ends_then _ _ m (Refused f) (Passed f) (affect_on f m k.follows pid d bottom _ (λ h j r same.
       ends_then _ _ h (Refused f) (Passed f) (ends_change_object d _ h (Refused f) _ (
-      ends_pass _ _ (Refused f) (Passed f) (linked f m h s k j r d o dir (last_name target.names) (last_name path.names) x is no_dir leads within room)))))) k.follows)))) k.follows)) k.follows)) (λ r. k.follows))) k.follows)) k.follows)) (λ r. k.follows))))))
+      ends_pass _ _ (Refused f) (Passed f) (linked f m h s k j r d o dir (last_name target.names) (last_name path.names) x is no_dir leads within room))))))
+      k.follows)))) k.follows)) k.follows)) (λ r. k.follows))) k.follows)) k.follows)) (λ r. k.follows))))))

@@ -24,7 +24,8 @@ use Rattle.ix_model.specs.declared.refusal.Refusal.TheVariants as refusal
 use Rattle.ix_model.proofs.tables.Finds.{at_put, at_change, passes_some}
 use Rattle.ix_model.proofs.tables.Inodes.{first_within}
 use Rattle.ix_model.proofs.words.Keeps.{Holds, keeps_claimed}
-use Rattle.ix_model.proofs.words.Ends.{Ends, kept_ends, ends_kept, ends_bind, ends_then, ends_pass, ends_frame, ends_need, ends_caller, ends_object, ends_opened, ends_only_if, ends_change_object, ends_change_open}
+use Rattle.ix_model.proofs.words.Ends.{Ends, kept_ends, ends_kept, ends_bind, ends_then, ends_pass, ends_frame, ends_need, ends_caller, ends_object}
+use Rattle.ix_model.proofs.words.Ends.{ends_opened, ends_only_if, ends_change_object, ends_change_open}
 use Rattle.ix_model.proofs.words.Looks.{ends_observe, ends_affect}
 use Rattle.ix_model.proofs.words.Lasts.{decided}
 use Rattle.ix_model.proofs.words.Standing.{behind_is}
@@ -95,8 +96,14 @@ places_words pid = record {
   relabel = λ can o h same. record { led = λ g. all_changed g o h (λ x is. places_as x (h x) (ap (λ y. y.kind) (same x)) (ap (λ y. y.claims) (same x))) };
   claim = λ can. cc;
   log = λ can l. record { led = λ g. same_objects g _ refl };
-  inode = λ can m o k kind is free. record { led = λ g. all_put g o _ (λ x new. let same : new_object kind (Some k) ≡ x = cc in subst (λ (y : Object). Places y) same (record { two = refl; none = λ other. refl })) };
-  pipe = λ can m o is free. record { led = λ g. all_put g o _ (λ x new. let same : new_object kind.Pipe None ≡ x = cc in subst (λ (y : Object). Places y) same (record { two = refl; none = λ other. refl })) };
+  inode = λ can m o k kind is free. record {
+    led = λ g. all_put g o _ (λ x new. let same : new_object kind (Some k) ≡ x = cc in
+        subst (λ (y : Object). Places y) same (record { two = refl; none = λ other. refl }));
+  };
+  pipe = λ can m o is free. record {
+    led = λ g. all_put g o _ (λ x new. let same : new_object kind.Pipe None ≡ x = cc in
+        subst (λ (y : Object). Places y) same (record { two = refl; none = λ other. refl }));
+  };
   gone_object = λ can o. record { led = λ g. all_put g o None no_object };
   gone_open = λ can e. record { led = λ g. same_objects g _ refl };
   fork = λ can p. record { led = λ g. same_objects g _ refl };
@@ -120,7 +127,8 @@ module _ (f : Frame) (r : AllPlaces f) where
 
   claim_answered : (other : Option ℕ) (next : Reply → Frame → Type 0) → ((a : Reply) → next a f) → Ends (claimed other f) P next
   unfolding P
-  claim_answered other next h = ends_kept (λ g. f ≡ g) (claimed other f) P next ((keeps_claimed (λ g. f ≡ g) other).led f refl) (λ why g e. subst (λ (k : Frame). AllPlaces k) e r) (λ a g e. subst (λ (k : Frame). next a k) e (h a))
+  claim_answered other next h = ends_kept (λ g. f ≡ g) (claimed other f) P next ((keeps_claimed (λ g. f ≡ g) other).led f refl)
+      (λ why g e. subst (λ (k : Frame). AllPlaces k) e r) (λ a g e. subst (λ (k : Frame). next a k) e (h a))
 
   places_pex : (pid fd : ℕ) → Ends (pex pid fd f) P Q
   unfolding pex P Q
@@ -131,7 +139,8 @@ module _ (f : Frame) (r : AllPlaces f) where
       ends_then _ _ f P Q (ends_need _ _ f P _ (λ free.
       ends_bind _ _ f P Q (claim_answered _ _ (λ a.
       ends_then _ _ f P Q (ends_change_object e.entry.object _ f P _ (
-      ends_pass _ _ P Q (all_changed f e.entry.object _ (λ y there places. places_claimed y e.entry.end (Some pid) (let h : Some x ≡ Some y = sym here ∙ there in let same : x ≡ y = cc in ap is_pipe (sym same) ∙ pipe) places) r))))))
+      ends_pass _ _ P Q (all_changed f e.entry.object _ (λ y there places. places_claimed y e.entry.end (Some pid) (let h : Some x ≡ Some y =
+      sym here ∙ there in let same : x ≡ y = cc in ap is_pipe (sym same) ∙ pipe) places) r))))))
       r)) r)) r)) r)
 
 places_row : (f : Frame) (t : LengthChecks) (place pid : ℕ) (c : Op) → AllPlaces f → Holds (row t place pid c f) AllPlaces
@@ -192,7 +201,8 @@ module _ (f : Frame) (limits : WithinLimits f) (r : LowEntries f f) where
   same_low : (g : Frame) → g.opens ≡ f.opens → g.fss ≡ f.fss → LowEntries f g
   same_low g opens fss = record { fss = fss; low = λ e x is. r.low e x (ap (λ t. at t e) (sym opens) ∙ is) }
 
-  low_moved : (g : Frame) (e : OpenFile) (x : Object) (h : Open → Open) → ((y : Open) → (h y).object ≡ y.object) → g.opens ≡ f.opens → g.fss ≡ f.fss → at f.opens e.id ≡ Some e.entry → at f.objects e.entry.object ≡ Some x → is_pipe x ≡ false → LowEntries f (record g { opens = change g.opens e.id h })
+  low_moved : (g : Frame) (e : OpenFile) (x : Object) (h : Open → Open) → ((y : Open) → (h y).object ≡ y.object) → g.opens ≡ f.opens → g.fss ≡ f.fss
+      → at f.opens e.id ≡ Some e.entry → at f.objects e.entry.object ≡ Some x → is_pipe x ≡ false → LowEntries f (record g { opens = change g.opens e.id h })
   low_moved g e x h same opens fss stands here other = record {
     fss = fss;
     low = λ n y is past. elim (at_change g.opens e.id h n y is) [
@@ -211,7 +221,8 @@ module _ (f : Frame) (limits : WithinLimits f) (r : LowEntries f f) where
   QL : Reply → Frame → Type 0
   QL a g = LowEntries f g
 
-  floated : (p : Process) (x : Object) (e : OpenFile) (a : Reply) (g : Frame) → g.opens ≡ f.opens → g.fss ≡ f.fss → at f.opens e.id ≡ Some e.entry → at f.objects e.entry.object ≡ Some x → Ends (◌>>◌ (float_entry p x e) (pass a) g) PL QL
+  floated : (p : Process) (x : Object) (e : OpenFile) (a : Reply) (g : Frame) → g.opens ≡ f.opens → g.fss ≡ f.fss → at f.opens e.id ≡ Some e.entry
+      → at f.objects e.entry.object ≡ Some x → Ends (◌>>◌ (float_entry p x e) (pass a) g) PL QL
   unfolding float_entry PL QL
   floated p x e a g opens fss stands here =
       ends_then _ _ g PL QL (ends_only_if _ _ g PL _
@@ -219,7 +230,8 @@ module _ (f : Frame) (limits : WithinLimits f) (r : LowEntries f f) where
       (λ pipe. ends_pass _ _ PL QL (same_low g opens fss)))
 
   read_rest : (t : LengthChecks) (pid : ℕ) (x : Object) (e : OpenFile) (g : Frame) → g.opens ≡ f.opens → g.fss ≡ f.fss → at f.opens e.id ≡ Some e.entry → at f.objects e.entry.object ≡ Some x
-      → Ends (◌>>=◌ frame (λ h. ◌>>◌ (need (not (is_pipe x && t.empty && held h.opens e.entry.object (1 - e.entry.end))) refusal.Again) (◌>>=◌ (process pid) (λ p. ◌>>◌ (float_entry p x e) (pass read_passed)))) g) PL QL
+      → Ends (◌>>=◌ frame (λ h. ◌>>◌ (need (not (is_pipe x && t.empty && held h.opens e.entry.object (1 - e.entry.end))) refusal.Again)
+      (◌>>=◌ (process pid) (λ p. ◌>>◌ (float_entry p x e) (pass read_passed)))) g) PL QL
   unfolding PL QL
   read_rest t pid x e g opens fss stands here =
       let s = same_low g opens fss in

@@ -76,19 +76,28 @@ module _ (w : World) (g : Frame) (fixed : Fixed w.frame g) (k : Follows w.frame 
   module _ (floats : Floats w.frame g) (clean : IsClean w) where
     -- a content that the old frame can hold the new one can
     edited : (h : Content → Content) → LengthsSound (record { frame = w.frame; content = h w.content }) → Measured (record { frame = g; content = h (carried w.frame g w.content) })
-    edited h l = measured_of g _ k.sound (subst (λ (c : Content). LengthsSound (record { frame = g; content = h c })) (sym (carried_floats w g floats clean)) (lengths_floated w.frame g floats (h w.content) l))
+    edited h l = measured_of g _ k.sound (subst (λ (c : Content). LengthsSound (record { frame = g; content = h c })) (sym (carried_floats w g floats clean))
+        (lengths_floated w.frame g floats (h w.content) l))
 
     sound_read : (count : ℕ) (b : Option OpenFile) (r : Reply) → ((e : OpenFile) → b ≡ Some e → Standing w.frame e.entry) → Measured (read_answer w count b r g).world
     unfolding read_answer plainly
-    sound_read count (Some e) (reply.Bytes n) there = edited (after_read w.frame e (length (take count (readable w.frame w.content e)))) (lengths_read w.frame w.content s.lengths e (there e refl) s.limits count)
+    sound_read count (Some e) (reply.Bytes n) there =
+        edited (after_read w.frame e (length (take count (readable w.frame w.content e)))) (lengths_read w.frame w.content s.lengths e (there e refl) s.limits
+        count)
     sound_read count _ _ there = sound_plain
 
-    sound_write : (new : List ℕ) (b : Option OpenFile) (r : Reply) → ((e : OpenFile) → b ≡ Some e → Standing w.frame e.entry) → ((n : ℕ) → r ≡ reply.Number n → (not (told_of_write w.frame w.content (length new) b).too_big ≡ true) × (not (told_of_write w.frame w.content (length new) b).full ≡ true) × (not (told_of_write w.frame w.content (length new) b).no_space ≡ true)) → Measured (write_answer w new b r g).world
+    sound_write : (new : List ℕ) (b : Option OpenFile) (r : Reply) → ((e : OpenFile) → b ≡ Some e → Standing w.frame e.entry)
+        → ((n : ℕ) → r ≡ reply.Number n → (not (told_of_write w.frame w.content (length new) b).too_big ≡ true)
+        × (not (told_of_write w.frame w.content (length new) b).full ≡ true) × (not (told_of_write w.frame w.content (length new) b).no_space ≡ true))
+        → Measured (write_answer w new b r g).world
     unfolding write_answer plainly
-    sound_write new (Some e) (reply.Number n) there fits = let t = fits n refl in edited (after_write w.frame e new) (lengths_write w.frame w.content s.lengths e (there e refl) s.limits new t.0 t.1 t.2)
+    sound_write new (Some e) (reply.Number n) there fits = let t = fits n refl in
+        edited (after_write w.frame e new) (lengths_write w.frame w.content s.lengths e (there e refl) s.limits new t.0 t.1 t.2)
     sound_write new _ _ there fits = sound_plain
 
-    sound_cut : (len : ℕ) (b : Option OpenFile) (r : Reply) → ((e : OpenFile) → b ≡ Some e → Standing w.frame e.entry) → (r ≡ reply.Done → (e : OpenFile) (x : Standing w.frame e.entry) → b ≡ Some e → (is_pipe x.object ≡ false) × (nat_le len 1048576 ≡ true) × (not (told_of_cut w.frame w.content len b).no_space ≡ true)) → Measured (cut_answer w len b r g).world
+    sound_cut : (len : ℕ) (b : Option OpenFile) (r : Reply) → ((e : OpenFile) → b ≡ Some e → Standing w.frame e.entry)
+        → (r ≡ reply.Done → (e : OpenFile) (x : Standing w.frame e.entry) → b ≡ Some e → (is_pipe x.object ≡ false) × (nat_le len 1048576 ≡ true)
+        × (not (told_of_cut w.frame w.content len b).no_space ≡ true)) → Measured (cut_answer w len b r g).world
     unfolding cut_answer plainly told_of_cut
     sound_cut len (Some e) reply.Done there fits =
         let t = fits refl e (there e refl) refl in
@@ -104,7 +113,8 @@ sought : (t : LengthChecks) (place pid fd offset : ℕ) (f : Frame) → (verdict
 unfolding row
 sought t place pid fd offset f done = passed t place pid (op.SeekFd fd offset) f (λ r g. nat_le offset 1048576 ≡ true) (seek_ends pid fd offset f) (ap is_answer done)
 
-cut_tests : (t : LengthChecks) (pid fd len : ℕ) (f : Frame) (facts : CutFacts t pid fd len f) (e : OpenFile) (x : Standing f e.entry) → behind f pid fd ≡ Some e → (is_pipe x.object ≡ false) × (nat_le len 1048576 ≡ true) × (not t.no_space ≡ true)
+cut_tests : (t : LengthChecks) (pid fd len : ℕ) (f : Frame) (facts : CutFacts t pid fd len f) (e : OpenFile) (x : Standing f e.entry) → behind f pid fd ≡ Some e
+    → (is_pipe x.object ≡ false) × (nat_le len 1048576 ≡ true) × (not t.no_space ≡ true)
 cut_tests t pid fd len f facts e x is =
     let one : Some facts.entry ≡ Some e = sym facts.is_entry ∙ is in
     let same : facts.entry ≡ e = cc in
@@ -134,9 +144,16 @@ measured_step w place pid (op.CutFd fd len) clean s =
     (λ done e x is. cut_tests t pid fd len w.frame (was_cut t place pid fd len w.frame done) e x is)
 measured_step w place pid (op.SeekFd fd offset) clean s =
     let t : LengthChecks = told w pid (op.SeekFd fd offset) in
-    sound_seek w _ (fixed_decided t place pid (op.SeekFd fd offset) w.frame) (follows_decided w.frame (frame_of w s) t place pid (op.SeekFd fd offset)) s offset (behind w.frame pid fd) _ (sought t place pid fd offset w.frame)
-measured_step w place pid (op.StatAt path) clean s = sound_stat w _ (fixed_decided (told w pid (op.StatAt path)) place pid (op.StatAt path) w.frame) (follows_decided w.frame (frame_of w s) (told w pid (op.StatAt path)) place pid (op.StatAt path)) s _
-measured_step w place pid (op.Exit status) clean s = sound_exit w _ (fixed_decided (told w pid (op.Exit status)) place pid (op.Exit status) w.frame) (follows_decided w.frame (frame_of w s) (told w pid (op.Exit status)) place pid (op.Exit status)) s pid status _
-measured_step w place pid op.WaitChild clean s = sound_wait w _ (fixed_decided (told w pid op.WaitChild) place pid op.WaitChild w.frame) (follows_decided w.frame (frame_of w s) (told w pid op.WaitChild) place pid op.WaitChild) s _
-measured_step w place pid (op.Pex fd) clean s = sound_pex w _ (fixed_decided (told w pid (op.Pex fd)) place pid (op.Pex fd) w.frame) (follows_decided w.frame (frame_of w s) (told w pid (op.Pex fd)) place pid (op.Pex fd)) s (behind w.frame pid fd) _
+    sound_seek w _ (fixed_decided t place pid (op.SeekFd fd offset) w.frame) (follows_decided w.frame (frame_of w s) t place pid (op.SeekFd fd offset)) s offset
+    (behind w.frame pid fd) _ (sought t place pid fd offset w.frame)
+measured_step w place pid (op.StatAt path) clean s = sound_stat w _ (fixed_decided (told w pid (op.StatAt path)) place pid (op.StatAt path) w.frame)
+    (follows_decided w.frame (frame_of w s) (told w pid (op.StatAt path)) place pid (op.StatAt path)) s _
+measured_step w place pid (op.Exit status) clean s = sound_exit w _ (fixed_decided (told w pid (op.Exit status)) place pid (op.Exit status) w.frame)
+    (follows_decided w.frame (frame_of w s) (told w pid (op.Exit status)) place pid (op.Exit status)) s pid status _
+measured_step w place pid op.WaitChild clean s =
+    sound_wait w _ (fixed_decided (told w pid op.WaitChild) place pid op.WaitChild w.frame) (follows_decided w.frame (frame_of w s) (told w pid op.WaitChild)
+    place pid op.WaitChild) s _
+measured_step w place pid (op.Pex fd) clean s =
+    sound_pex w _ (fixed_decided (told w pid (op.Pex fd)) place pid (op.Pex fd) w.frame) (follows_decided w.frame (frame_of w s) (told w pid (op.Pex fd)) place
+    pid (op.Pex fd)) s (behind w.frame pid fd) _
 measured_step w place pid c clean s = sound_plain w _ (fixed_decided (told w pid c) place pid c w.frame) (follows_decided w.frame (frame_of w s) (told w pid c) place pid c) s

@@ -67,9 +67,12 @@ once_less o n m less once = elim (eqb_tells o 0) [
 
 -- nobody's home
 nobody : (f : Frame) (o : ℕ) → not (list_any (is_home o) f.processes) ≡ true → (p : ℕ) (q : Process) → living (at f.processes p) ≡ Some q → q.cwd ≢ o
-nobody f o none p q lives same = no_any (is_home o) refl f.processes (not-true _ none) p (ap (is_home o) (is_living _ q lives) ∙ and_from (not q.ended) (q.cwd == o) (ap not (not_ended _ q lives)) (eq-eqb q.cwd o same))
+nobody f o none p q lives same = no_any (is_home o) refl f.processes (not-true _ none) p (ap (is_home o) (is_living _ q lives)
+    ∙ and_from (not q.ended) (q.cwd == o) (ap not (not_ended _ q lives)) (eq-eqb q.cwd o same))
 
-removed : (f m l h : Frame) → Along f m → Floats m l → Floats l h → Follows f h → h.processes ≡ l.processes → (d o : ℕ) (name : List ℕ) (x : Object) → at m.objects o ≡ Some x → is_dir x ≡ true → (length x.names == 0) ≡ true → not (list_any (is_home o) l.processes) ≡ true → Within f d name (Some o) → Follows f (record h { objects = put (change h.objects d (without_name name)) o None })
+removed : (f m l h : Frame) → Along f m → Floats m l → Floats l h → Follows f h → h.processes ≡ l.processes → (d o : ℕ) (name : List ℕ) (x : Object)
+    → at m.objects o ≡ Some x → is_dir x ≡ true → (length x.names == 0) ≡ true → not (list_any (is_home o) l.processes) ≡ true → Within f d name (Some o)
+    → Follows f (record h { objects = put (change h.objects d (without_name name)) o None })
 removed f m l h a r1 r2 b same d o name x is dir empty none within =
     let w = within_on l h r2 d name (Some o) (within_on m l r1 d name (Some o) (within_on f m a.floats d name (Some o) within)) in
     let b1 = back object_but (λ y. refl) l.objects m.objects (record { same = sym r1.objects.same }) o x is in
@@ -90,7 +93,8 @@ removed f m l h a r1 r2 b same d o name x is dir empty none within =
       there = there;
       nameless = nameless;
       unnamed = n.0;
-      unopened = λ e z at_e to. true≢false (sym (b.sound.opens.target e z at_e) ∙ ap (λ k. option_map_or (λ v. not (is_dir v)) (at h.objects k) false) to ∙ ap (λ v. option_map_or (λ t. not (is_dir t)) v false) b2.is_was ∙ ap not y_dir);
+      unopened = λ e z at_e to. true≢false (sym (b.sound.opens.target e z at_e) ∙ ap (λ k. option_map_or (λ v. not (is_dir v)) (at h.objects k) false) to
+          ∙ ap (λ v. option_map_or (λ t. not (is_dir t)) v false) b2.is_was ∙ ap not y_dir);
       no_home = λ p q lives. nobody l o none p q (ap (λ t. living (at t p)) (sym same) ∙ lives);
       no_root = n.1;
     } in
@@ -106,7 +110,8 @@ module _ (f : Frame) (s : FrameSound f) where
       ends_bind _ _ f (Refused f) (Passed f) (leads_found_in f pid path (Refused f) _ (follows_itself f s) (λ r h k. k) (λ o dir m k leads.
       ends_bind _ _ m (Refused f) (Passed f) (ends_object o m (Refused f) _ (λ x is.
       ends_then _ _ m (Refused f) (Passed f) (ends_need _ _ m (Refused f) _ (λ is_d.
-      ends_then _ _ m (Refused f) (Passed f) (ends_kept (λ l. Follows f l × Floats m l) (observe pid x.label m) (Refused f) _ (holds_both _ _ _ ((follows_observe f pid x.label).led m k.follows) ((floats_observe m pid x.label).led m (floats_itself m))) (λ r l j. j.0) (λ u l j.
+      ends_then _ _ m (Refused f) (Passed f) (ends_kept (λ l. Follows f l × Floats m l) (observe pid x.label m) (Refused f) _
+      (holds_both _ _ _ ((follows_observe f pid x.label).led m k.follows) ((floats_observe m pid x.label).led m (floats_itself m))) (λ r l j. j.0) (λ u l j.
       ends_bind _ _ l (Refused f) (Passed f) (ends_frame l (Refused f) _ (
       ends_then _ _ l (Refused f) (Passed f) (ends_need _ _ l (Refused f) _ (λ no_root.
       ends_then _ _ l (Refused f) (Passed f) (ends_need _ _ l (Refused f) _ (λ empty.
@@ -115,4 +120,5 @@ module _ (f : Frame) (s : FrameSound f) where
       ends_then _ _ l (Refused f) (Passed f) (affect_on f l j.0 pid d bottom _ (λ h b r same.
       ends_then _ _ h (Refused f) (Passed f) (ends_change_object d _ h (Refused f) _ (
       ends_then _ _ _ (Refused f) (Passed f) (ends_put_object o None _ (Refused f) _ (
-      ends_pass _ _ (Refused f) (Passed f) (removed f m l h k j.1 r b same d o (last_name path.names) x is is_d empty none (inside_of f (last_name path.names) o d dir in_dir leads))))))))) j.0)) j.0)) j.0)) j.0)))))) k.follows)) k.follows)))
+      ends_pass _ _ (Refused f) (Passed f) (removed f m l h k j.1 r b same d o (last_name path.names) x is is_d empty none
+      (inside_of f (last_name path.names) o d dir in_dir leads))))))))) j.0)) j.0)) j.0)) j.0)))))) k.follows)) k.follows)))

@@ -23,14 +23,16 @@ at_most true n = omega arith
 at_most false n = omega arith
 
 -- the blocks of the others and of the new holding
-pub blocks_edit : (p q : ℕ → Bool) (n : ℕ) (hs : List Holding) (o : ℕ) (x : Holding) → ((m : ℕ) → m ≢ n + o → q m ≡ p m) → blocks_where p n (set hs o x) ≤ blocks_where q n hs + blocks_for (length x.first)
+pub blocks_edit : (p q : ℕ → Bool) (n : ℕ) (hs : List Holding) (o : ℕ) (x : Holding) → ((m : ℕ) → m ≢ n + o → q m ≡ p m)
+    → blocks_where p n (set hs o x) ≤ blocks_where q n hs + blocks_for (length x.first)
 blocks_edit p q n [] o x same = omega arith
 blocks_edit p q n (y ∷ hs) zero x same =
     let rest : blocks_where p (suc n) hs ≡ blocks_where q (suc n) hs = blocks_from p q (suc n) hs (λ m low. sym (same m (λ e. absurd (omega arith)))) in
     let first : (if p n then blocks_for (length x.first) else 0) ≤ blocks_for (length x.first) = at_most (p n) _ in
     omega arith
 blocks_edit p q n (y ∷ hs) (suc o) x same =
-    let first : (if q n then blocks_for (length y.first) else 0) ≡ (if p n then blocks_for (length y.first) else 0) = ap (λ b. if b then blocks_for (length y.first) else 0) (same n (λ e. absurd (omega arith))) in
+    let first : (if q n then blocks_for (length y.first) else 0) ≡ (if p n then blocks_for (length y.first) else 0) =
+    ap (λ b. if b then blocks_for (length y.first) else 0) (same n (λ e. absurd (omega arith))) in
     let rest = blocks_edit p q (suc n) hs o x (λ m other. same m (λ e. other (omega arith))) in
     omega arith
 

@@ -1,5 +1,6 @@
 -- What a put leaves at each number, where a test over a table passes, and sums over tables.
-use Rattle.std.proofs.Common.{◌≡◌, ◌≢◌, ◌<◌, ◌≤◌, ◌+◌, ℕ, zero, suc, Bool, true, false, true≢false, List, [], ◌∷◌, ◌++◌, map, length, sum, Option, Some, None, option_map, refl, sym, ap, ◌∙◌, arith, ◌⊎◌, inl, inr}
+use Rattle.std.proofs.Common.{◌≡◌, ◌≢◌, ◌<◌, ◌≤◌, ◌+◌, ℕ, zero, suc, Bool, true, false, true≢false, List, [], ◌∷◌, ◌++◌, map, length, sum, Option}
+use Rattle.std.proofs.Common.{Some, None, option_map, refl, sym, ap, ◌∙◌, arith, ◌⊎◌, inl, inr}
 use Rattle.std.specs.List.{list_any}
 use Rattle.std.proofs.lemmas.Bool.{or_cases, or_left, or_right, cases_lt}
 use Rattle.std.proofs.lemmas.Bool.Decides.{eqb_tells}
@@ -78,7 +79,8 @@ module _ {A : Type 0} (p : Option A → Bool) (none : p None ≡ false) where
   no_any t h n k = true≢false (sym (any_by t n k) ∙ h)
 
 -- a test that passes in one table, and so in another
-pub any_into : {A : Type 0} (p q : Option A → Bool) → p None ≡ false → q None ≡ false → (t u : List (Option A)) → ((n : ℕ) → p (at t n) ≡ true → q (at u n) ≡ true) → list_any p t ≡ true → list_any q u ≡ true
+pub any_into : {A : Type 0} (p q : Option A → Bool) → p None ≡ false → q None ≡ false → (t u : List (Option A))
+    → ((n : ℕ) → p (at t n) ≡ true → q (at u n) ≡ true) → list_any p t ≡ true → list_any q u ≡ true
 any_into p q none_p none_q t u into h = let r = any_at p none_p t h in any_by q none_q u r.0 (into r.0 r.1)
 
 -- what passes stands

@@ -33,7 +33,8 @@ free_inode_is f k o h = go (lowest_free part) refl h
         let low = q.0 in
         let small : n < (fs_at f.fss k).inodes = omega (arith, few, low) in
         record {
-          free = ap (at f.objects) (sym e) ∙ sym (get_or-drop (first_inode f.fss k) f.objects n None) ∙ sym (get_or-take (fs_at f.fss k).inodes (drop (first_inode f.fss k) f.objects) n None small) ∙ q.1;
+          free = ap (at f.objects) (sym e) ∙ sym (get_or-drop (first_inode f.fss k) f.objects n None)
+              ∙ sym (get_or-take (fs_at f.fss k).inodes (drop (first_inode f.fss k) f.objects) n None small) ∙ q.1;
           inside = omega (arith, few, rest, low);
           first = omega arith;
           last = omega arith;

@@ -1,5 +1,6 @@
 -- The numbers of a file system's inodes, how many of them are taken, and the lowest that is free.
-use Rattle.std.proofs.Common.{◌≡◌, ◌≢◌, ◌<◌, ◌≤◌, ◌+◌, ℕ, zero, suc, Bool, true, false, List, [], ◌∷◌, length, map, take, drop, Option, Some, None, is_some, is_none, cond, refl, ap, ◌∙◌, subst, arith, inl, inr}
+use Rattle.std.proofs.Common.{◌≡◌, ◌≢◌, ◌<◌, ◌≤◌, ◌+◌, ℕ, zero, suc, Bool, true, false, List, [], ◌∷◌, length, map, take, drop, Option, Some, None}
+use Rattle.std.proofs.Common.{is_some, is_none, cond, refl, ap, ◌∙◌, subst, arith, inl, inr}
 use Rattle.std.specs.List.{position_from}
 use Rattle.std.proofs.Math.Seq.{drop-cons}
 use Rattle.std.proofs.lemmas.Bool.{cases_lt, cases_order}

@@ -59,13 +59,15 @@ module _ (f : Frame) (r : LabelsBelow f) where
   }
 
 -- ---- a label that is joined
-pub labels_observed : (g : Frame) (pid : ℕ) (seen : Categories) (p : Process) → living (at g.processes pid) ≡ Some p → leq (join p.label seen) p.ceiling ≡ true → LabelsBelow g → LabelsBelow (record g { processes = change g.processes pid (λ q. record q { label = join q.label seen }) })
+pub labels_observed : (g : Frame) (pid : ℕ) (seen : Categories) (p : Process) → living (at g.processes pid) ≡ Some p → leq (join p.label seen) p.ceiling ≡ true
+    → LabelsBelow g → LabelsBelow (record g { processes = change g.processes pid (λ q. record q { label = join q.label seen }) })
 labels_observed g pid seen p is low r = labels_process g r pid _ (λ q here.
     let e : Some p ≡ Some q = sym (is_living _ p is) ∙ here in
     let same : p ≡ q = cc in
     subst (λ (x : Process). leq (join x.label seen) x.ceiling ≡ true) same low)
 
-pub labels_affected : (g : Frame) (o : ℕ) (l : Categories) (x : Object) → at g.objects o ≡ Some x → leq (join x.label l) (ceiling_of g.fss x) ≡ true → LabelsBelow g → LabelsBelow (record g { objects = change g.objects o (λ y. record y { label = join y.label l }) })
+pub labels_affected : (g : Frame) (o : ℕ) (l : Categories) (x : Object) → at g.objects o ≡ Some x → leq (join x.label l) (ceiling_of g.fss x) ≡ true
+    → LabelsBelow g → LabelsBelow (record g { objects = change g.objects o (λ y. record y { label = join y.label l }) })
 labels_affected g o l x is low r = labels_object g r o _ (λ y here.
     let e : Some x ≡ Some y = sym is ∙ here in
     let same : x ≡ y = cc in

@@ -1,5 +1,6 @@
 -- The names of a directory as a list: one more at the end, and one taken out.
-use Rattle.std.proofs.Common.{◌≡◌, ◌≤◌, ◌+◌, ◌==◌, ℕ, Bool, true, false, true≢false, not, ◌||◌, List, [], ◌∷◌, ◌++◌, map, filter, length, count_by, find, cond, Some, None, option_map, if◌then◌else◌, refl, sym, ap, ◌∙◌, arith}
+use Rattle.std.proofs.Common.{◌≡◌, ◌≤◌, ◌+◌, ◌==◌, ℕ, Bool, true, false, true≢false, not, ◌||◌, List, [], ◌∷◌, ◌++◌, map, filter, length, count_by}
+use Rattle.std.proofs.Common.{find, cond, Some, None, option_map, if◌then◌else◌, refl, sym, ap, ◌∙◌, arith}
 use Rattle.std.specs.List.{list_any}
 use Rattle.std.proofs.lemmas.Bool.{and_parts, and_from, or_parts, not-true, not_from_false, false_from_ne_true}
 use Rattle.std.proofs.lemmas.List.{map-append}
@@ -30,11 +31,14 @@ pub differ_more : (es : Names) (name : List ℕ) (o : ℕ) → all_differ (map (
 differ_more [] name o h none = refl
 differ_more (e ∷ es) name o h none = go (same_bytes e.0 name) refl none (λ d k. differ_more es name o d k)
   where
-    go : (b : Bool) → same_bytes e.0 name ≡ b → (if b then Some e else find (λ x. same_bytes x.0 name) es) ≡ None → (all_differ (map (λ n. n.0) es) ≡ true → find (λ x. same_bytes x.0 name) es ≡ None → all_differ (map (λ n. n.0) (es ++ (name, o) ∷ [])) ≡ true) → all_differ (map (λ n. n.0) (e ∷ es ++ (name, o) ∷ [])) ≡ true
+    go : (b : Bool) → same_bytes e.0 name ≡ b → (if b then Some e else find (λ x. same_bytes x.0 name) es) ≡ None
+        → (all_differ (map (λ n. n.0) es) ≡ true → find (λ x. same_bytes x.0 name) es ≡ None → all_differ (map (λ n. n.0) (es ++ (name, o) ∷ [])) ≡ true)
+        → all_differ (map (λ n. n.0) (e ∷ es ++ (name, o) ∷ [])) ≡ true
     go true is k next = cc
     go false is k next =
         let p = and_parts (not (list_any (same_bytes e.0) (map (λ (n : List ℕ × ℕ). n.0) es))) (all_differ (map (λ (n : List ℕ × ℕ). n.0) es)) h in
-        let apart : list_any (same_bytes e.0) (map (λ (n : List ℕ × ℕ). n.0) (es ++ (name, o) ∷ [])) ≡ false = any_last e.0 name o es ∙ ap (λ b. b || (same_bytes e.0 name || false)) (not-true _ p.0) ∙ ap (λ b. b || false) is in
+        let apart : list_any (same_bytes e.0) (map (λ (n : List ℕ × ℕ). n.0) (es ++ (name, o) ∷ [])) ≡ false = any_last e.0 name o es
+        ∙ ap (λ b. b || (same_bytes e.0 name || false)) (not-true _ p.0) ∙ ap (λ b. b || false) is in
         and_from _ _ (not_from_false _ apart) (next p.1 k)
 
 -- ---- one taken out
@@ -50,11 +54,15 @@ none_out name (e ∷ es) h =
 
 -- what the name leads to is counted once less, and all else as before
 module _ (name : List ℕ) (o : ℕ) where
-  pub count_out : (m : ℕ) (es : Names) → all_differ (map (λ n. n.0) es) ≡ true → option_map (λ e. e.1) (find (λ e. same_bytes e.0 name) es) ≡ Some o → count_by (λ n. n.1 == m) (others name es) + cond {A = ℕ} (o == m) 1 0 ≡ count_by (λ n. n.1 == m) es
+  pub count_out : (m : ℕ) (es : Names) → all_differ (map (λ n. n.0) es) ≡ true → option_map (λ e. e.1) (find (λ e. same_bytes e.0 name) es) ≡ Some o
+      → count_by (λ n. n.1 == m) (others name es) + cond {A = ℕ} (o == m) 1 0 ≡ count_by (λ n. n.1 == m) es
   count_out m [] h is = cc
   count_out m (e ∷ es) h is = go (same_bytes e.0 name) refl is (λ d k. count_out m es d k)
     where
-      go : (b : Bool) → same_bytes e.0 name ≡ b → option_map (λ x. x.1) (if b then Some e else find (λ x. same_bytes x.0 name) es) ≡ Some o → (all_differ (map (λ n. n.0) es) ≡ true → option_map (λ x. x.1) (find (λ x. same_bytes x.0 name) es) ≡ Some o → count_by (λ n. n.1 == m) (others name es) + cond {A = ℕ} (o == m) 1 0 ≡ count_by (λ n. n.1 == m) es) → count_by (λ n. n.1 == m) (if not b then e ∷ others name es else others name es) + cond {A = ℕ} (o == m) 1 0 ≡ count_by (λ n. n.1 == m) (e ∷ es)
+      go : (b : Bool) → same_bytes e.0 name ≡ b → option_map (λ x. x.1) (if b then Some e else find (λ x. same_bytes x.0 name) es) ≡ Some o
+          → (all_differ (map (λ n. n.0) es) ≡ true → option_map (λ x. x.1) (find (λ x. same_bytes x.0 name) es) ≡ Some o
+          → count_by (λ n. n.1 == m) (others name es) + cond {A = ℕ} (o == m) 1 0 ≡ count_by (λ n. n.1 == m) es)
+          → count_by (λ n. n.1 == m) (if not b then e ∷ others name es else others name es) + cond {A = ℕ} (o == m) 1 0 ≡ count_by (λ n. n.1 == m) (e ∷ es)
       go true same k next =
           let p = and_parts (not (list_any (same_bytes e.0) (map (λ (n : List ℕ × ℕ). n.0) es))) (all_differ (map (λ (n : List ℕ × ℕ). n.0) es)) h in
           let one : e.1 ≡ o = cc in

@@ -19,7 +19,10 @@ pub record Kinds (t u : List (Option Object)) : Type 0 where
   pub same : (o : ℕ) (x y : Object) → at t o ≡ Some x → at u o ≡ Some y → SameKind x y
 
 pub kinds_itself : (t : List (Option Object)) → Kinds t t
-kinds_itself t = record { same = λ o x y is here. let e : Some x ≡ Some y = sym is ∙ here in let one : x ≡ y = cc in subst (λ (z : Object). SameKind x z) one (record { pipe = refl; dir = refl; fs = refl }) }
+kinds_itself t = record {
+  same = λ o x y is here. let e : Some x ≡ Some y = sym is ∙ here in let one : x ≡ y = cc in
+      subst (λ (z : Object). SameKind x z) one (record { pipe = refl; dir = refl; fs = refl });
+}
 
 module _ (t u : List (Option Object)) (r : Kinds t u) where
   pub kinds_floats : (v : List (Option Object)) → SameBut object_but u v → Kinds t v

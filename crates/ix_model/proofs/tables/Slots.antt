@@ -19,6 +19,7 @@ cells bytes h =
 pub named : (bytes rest : List ℕ) → is_name bytes ≡ true → is_name (take (length bytes) (bytes ++ rest)) ≡ true
 named bytes rest h = rw take-append_seam h
 
-pub is_name-plain : (bytes : List ℕ) → 0 < length bytes → length bytes ≤ 28 → same_bytes bytes (46 ∷ []) ≡ false → same_bytes bytes (46 ∷ 46 ∷ []) ≡ false → is_name bytes ≡ list_all may_stand_in_name bytes
+pub is_name-plain : (bytes : List ℕ) → 0 < length bytes → length bytes ≤ 28 → same_bytes bytes (46 ∷ []) ≡ false → same_bytes bytes (46 ∷ 46 ∷ []) ≡ false
+    → is_name bytes ≡ list_all may_stand_in_name bytes
 unfolding is_name
 is_name-plain bytes some fits one two = rw (one, two, lt-ltb 0 (length bytes) some, le-leb (length bytes) 28 fits) refl

@@ -1,5 +1,6 @@
 -- Texts of names, joined and compared.
-use Rattle.std.proofs.Common.{◌≡◌, ℕ, suc, ◌+◌, ◌*◌, ◌-◌, ◌≤◌, ◌<◌, ◌==◌, Bool, true, false, not, ◌&&◌, nat_eq, nat_lt, nat_le, List, [], ◌∷◌, ◌++◌, length, take, map, inl, inr, refl, sym, ap, ◌∙◌, arith, length-append, Bor, Option, Some, None}
+use Rattle.std.proofs.Common.{◌≡◌, ℕ, suc, ◌+◌, ◌*◌, ◌-◌, ◌≤◌, ◌<◌, ◌==◌, Bool, true, false, not, ◌&&◌, nat_eq, nat_lt, nat_le, List, [], ◌∷◌, ◌++◌}
+use Rattle.std.proofs.Common.{length, take, map, inl, inr, refl, sym, ap, ◌∙◌, arith, length-append, Bor, Option, Some, None}
 use Rattle.std.specs.Option.{option_map_or}
 use Rattle.std.specs.List.{list_all, slice_get, sum, sum_by}
 use Rattle.std.proofs.lemmas.Bool.{cases_Bool, le-leb, leb-true}
@@ -82,7 +83,8 @@ pub no_name : is_name [] ≡ true → ⊥
 no_name h = let k = (named [] h).some in omega arith
 
 -- ---- the same texts have the same names
-same_front : (x y : ℕ) (ps qs : List (List ℕ)) (p q : List ℕ) (ps' qs' : List (List ℕ)) → ps ≡ p ∷ ps' → qs ≡ q ∷ qs' → same_names (with_front x ps) (with_front y qs) ≡ (nat_eq x y && same_names ps qs)
+same_front : (x y : ℕ) (ps qs : List (List ℕ)) (p q : List ℕ) (ps' qs' : List (List ℕ)) → ps ≡ p ∷ ps' → qs ≡ q ∷ qs'
+    → same_names (with_front x ps) (with_front y qs) ≡ (nat_eq x y && same_names ps qs)
 same_front x y ps qs p q ps' qs' h k = rw (h, k) (and_assoc (nat_eq x y) (same_bytes p q) (same_names ps' qs'))
 
 none_front : (y : ℕ) (qs : List (List ℕ)) (q : List ℕ) (qs' ps : List (List ℕ)) → qs ≡ q ∷ qs' → same_names ([] ∷ ps) (with_front y qs) ≡ false
@@ -269,10 +271,12 @@ front_all (b ∷ text) k = record { is = is_path [] refl (omega arith); names = 
 abbrev rest_of : Option (Bor (List ℕ)) → List (List ℕ)
 rest_of more = option_map_or (λ m. between_slashes m.now) more []
 
-pub cut_at : (text name : List ℕ) (more : Option (Bor (List ℕ))) (m : Bor (List ℕ)) → 0 < length text → is_path_text text ≡ true → between_slashes text ≡ name ∷ option_map_or (λ m. between_slashes m.now) more [] → more ≡ Some m → Cut text name m.now
+pub cut_at : (text name : List ℕ) (more : Option (Bor (List ℕ))) (m : Bor (List ℕ)) → 0 < length text → is_path_text text ≡ true
+    → between_slashes text ≡ name ∷ option_map_or (λ m. between_slashes m.now) more [] → more ≡ Some m → Cut text name m.now
 cut_at text name more m some h k e = cut_some text name m.now some h (k ∙ ap (λ o. name ∷ rest_of o) e)
 
-pub cut_last : (text name : List ℕ) (more : Option (Bor (List ℕ))) → 0 < length text → is_path_text text ≡ true → between_slashes text ≡ name ∷ option_map_or (λ m. between_slashes m.now) more [] → more ≡ None → Cut text name []
+pub cut_last : (text name : List ℕ) (more : Option (Bor (List ℕ))) → 0 < length text → is_path_text text ≡ true
+    → between_slashes text ≡ name ∷ option_map_or (λ m. between_slashes m.now) more [] → more ≡ None → Cut text name []
 cut_last text name more some h k e = cut_none text name some h (k ∙ ap (λ o. name ∷ rest_of o) e)
 
 -- a text that grows by a name

@@ -8,7 +8,8 @@ use Rattle.ix_model.specs.world.Texts.{between_slashes}
 abbrev slash : ℕ → Bool
 slash b = b == 47
 
-at_slash : (text : List ℕ) (k : ℕ) → k < length text → slash (get_or text k 0) ≡ true → ((j : ℕ) → j < k → slash (get_or text j 0) ≡ false) → between_slashes text ≡ take k text ∷ between_slashes (drop (suc k) text)
+at_slash : (text : List ℕ) (k : ℕ) → k < length text → slash (get_or text k 0) ≡ true → ((j : ℕ) → j < k → slash (get_or text j 0) ≡ false)
+    → between_slashes text ≡ take k text ∷ between_slashes (drop (suc k) text)
 unfolding between_slashes
 at_slash [] k within found before = absurd (omega arith)
 at_slash (b ∷ text) zero within found before = rw found refl

@@ -1,5 +1,6 @@
 -- Reading a text, piece by piece.
-use Rattle.std.proofs.Common.{◌≡◌, ℕ, zero, suc, ◌+◌, ◌-◌, ◌≤◌, ◌<◌, ◌==◌, Bool, true, false, ◌&&◌, nat_le, List, [], ◌∷◌, ◌++◌, length, take, drop, get_or, refl, sym, ap, ◌∙◌, arith, drop-cons, Some, None, slice_get}
+use Rattle.std.proofs.Common.{◌≡◌, ℕ, zero, suc, ◌+◌, ◌-◌, ◌≤◌, ◌<◌, ◌==◌, Bool, true, false, ◌&&◌, nat_le, List, [], ◌∷◌, ◌++◌, length, take, drop}
+use Rattle.std.proofs.Common.{get_or, refl, sym, ap, ◌∙◌, arith, drop-cons, Some, None, slice_get}
 use Rattle.std.specs.List.{list_all}
 use Rattle.std.proofs.lemmas.Bool.{eqb-true, le-leb, lt-leb}
 use Rattle.std.proofs.lemmas.List.{take-append-drop, drop_all}
@@ -47,13 +48,15 @@ at_end text = rw (drop_all (length text) text (omega arith)) refl
 less_one : (k : ℕ) → 0 < k → suc (k - 1) ≡ k
 less_one k h = omega arith
 
-pub no_slash : (text : List ℕ) (k : ℕ) → 0 < k → k ≤ length text → (get_or text (k - 1) 0 == 47) ≡ false → between_slashes (drop k text) ≡ drop k text ∷ [] → between_slashes (drop (k - 1) text) ≡ drop (k - 1) text ∷ []
+pub no_slash : (text : List ℕ) (k : ℕ) → 0 < k → k ≤ length text → (get_or text (k - 1) 0 == 47) ≡ false → between_slashes (drop k text) ≡ drop k text ∷ []
+    → between_slashes (drop (k - 1) text) ≡ drop (k - 1) text ∷ []
 unfolding between_slashes
 no_slash text k some within h rest =
     let here : drop (k - 1) text ≡ get_or text (k - 1) 0 ∷ drop k text = drop-cons text (k - 1) 0 (omega arith) ∙ ap (λ n. get_or text (k - 1) 0 ∷ drop n text) (less_one k some) in
     rw (here, h, rest) refl
 
-pub at_slash : (text : List ℕ) (k : ℕ) → 0 < k → k ≤ length text → (get_or text (k - 1) 0 == 47) ≡ true → between_slashes (drop k text) ≡ drop k text ∷ [] → between_slashes text ≡ between_slashes (take (k - 1) text) ++ drop (k - 1 + 1) text ∷ []
+pub at_slash : (text : List ℕ) (k : ℕ) → 0 < k → k ≤ length text → (get_or text (k - 1) 0 == 47) ≡ true → between_slashes (drop k text) ≡ drop k text ∷ []
+    → between_slashes text ≡ between_slashes (take (k - 1) text) ++ drop (k - 1 + 1) text ∷ []
 at_slash text k some within h rest =
     let here : drop (k - 1) text ≡ get_or text (k - 1) 0 ∷ drop k text = drop-cons text (k - 1) 0 (omega arith) ∙ ap (λ n. get_or text (k - 1) 0 ∷ drop n text) (less_one k some) in
     let byte : get_or text (k - 1) 0 ≡ 47 = eqb-true (get_or text (k - 1) 0) 47 h in
@@ -85,15 +88,18 @@ behind (x ∷ names) more name (suc i) h =
     one ∙ ap (λ n. drop n (x ∷ names)) two
 
 -- what the next name tells
-pub told : (names left new : List (List ℕ)) (i : ℕ) (o : Option NameRef) → MatchOption o ((left ≡ []) × (new ≡ [])) (λ n. left ≡ n.bytes.now ∷ new) → left ≡ drop i names → option_map (λ n. n.bytes.now) o ≡ slice_get names i
+pub told : (names left new : List (List ℕ)) (i : ℕ) (o : Option NameRef) → MatchOption o ((left ≡ []) × (new ≡ [])) (λ n. left ≡ n.bytes.now ∷ new)
+    → left ≡ drop i names → option_map (λ n. n.bytes.now) o ≡ slice_get names i
 told names left new i (Some n) h k = sym (here names new n.bytes.now i (sym k ∙ h))
 told names left new i None h k = sym (past names i i (sym k ∙ h.0) (omega arith))
 
-pub ended : (names left new : List (List ℕ)) (k i : ℕ) (o : Option NameRef) → MatchOption o ((left ≡ []) × (new ≡ [])) (λ n. left ≡ n.bytes.now ∷ new) → left ≡ drop k names → is_some o ≡ false → k ≤ i → slice_get names i ≡ None
+pub ended : (names left new : List (List ℕ)) (k i : ℕ) (o : Option NameRef) → MatchOption o ((left ≡ []) × (new ≡ [])) (λ n. left ≡ n.bytes.now ∷ new)
+    → left ≡ drop k names → is_some o ≡ false → k ≤ i → slice_get names i ≡ None
 ended names left new k i (Some n) h l none few = cc
 ended names left new k i None h l none few = past names k i (sym l ∙ h.0) few
 
-pub went : (names left new : List (List ℕ)) (k : ℕ) (o : Option NameRef) → MatchOption o ((left ≡ []) × (new ≡ [])) (λ n. left ≡ n.bytes.now ∷ new) → left ≡ drop k names → is_some o ≡ true → new ≡ drop (k + 1) names
+pub went : (names left new : List (List ℕ)) (k : ℕ) (o : Option NameRef) → MatchOption o ((left ≡ []) × (new ≡ [])) (λ n. left ≡ n.bytes.now ∷ new)
+    → left ≡ drop k names → is_some o ≡ true → new ≡ drop (k + 1) names
 went names left new k (Some n) h l some = behind names new n.bytes.now k (sym l ∙ h)
 went names left new k None h l some = cc
 

@@ -40,7 +40,8 @@ module _ (f : Frame) (pid : ℕ) (start : Seen pid f bottom f) where
   exercises_none c h = record { is = λ k. absurd (true≢false (sym k ∙ h)) }
 
   -- the caller's privileges are as they were before the looks
-  entitled_before : (s : Categories) (g : Frame) (p : Process) (x : PrivSet) → Seen pid f s g → living (at g.processes pid) ≡ Some p → has_all p.cap x ≡ true → (has_all p.lic x || has_all p.own x) ≡ true → is_entitled f pid x ≡ true
+  entitled_before : (s : Categories) (g : Frame) (p : Process) (x : PrivSet) → Seen pid f s g → living (at g.processes pid) ≡ Some p → has_all p.cap x ≡ true
+      → (has_all p.lic x || has_all p.own x) ≡ true → is_entitled f pid x ≡ true
   entitled_before s g p x r lives cap lic =
       let b = lived_before pid f s g p r lives in
       let cap_was : has_all b.was.cap x ≡ true = ap (λ (q : Process). has_all q.cap x) (sym b.is) ∙ cap in
@@ -59,7 +60,8 @@ module _ (f : Frame) (pid : ℕ) (start : Seen pid f bottom f) where
   exercises_here x s g Q r next = ends_then _ _ g Anything Q (is_entitled_here x s g _ r (λ yes. ends_log_has_room g Anything Q (λ r. tt) (next yes)))
 
   -- a walk and where it leads
-  leads_here : (path : PathOf) (Q : Sought → Frame → Type 0) → ((w : Sought) (h : Frame) → Seen pid f (join bottom (along f pid path)) h → ((o : ℕ) (dir : Option ℕ) → w ≡ sought.Found o dir → object_of_path f pid path ≡ Some o) → Q w h) → Ends (walked_to pid path f) Anything Q
+  leads_here : (path : PathOf) (Q : Sought → Frame → Type 0) → ((w : Sought) (h : Frame) → Seen pid f (join bottom (along f pid path)) h
+      → ((o : ℕ) (dir : Option ℕ) → w ≡ sought.Found o dir → object_of_path f pid path ≡ Some o) → Q w h) → Ends (walked_to pid path f) Anything Q
   leads_here path Q next = ends_seen_walk pid f path bottom f Anything Q start (λ r h k. tt) next
 
   touches : (o : ℕ) (l : Categories) (g : Frame) (Q : Unit {0} → Frame → Type 0) → ((h : Frame) → Q tt h) → Ends (affect pid o l g) Anything Q
@@ -111,7 +113,8 @@ module _ (f : Frame) (pid : ℕ) (start : Seen pid f bottom f) where
   unfolding set_ceiling
   set_ceiling_entitles place target now = search (entitling, ceiling_quiet) depth 80 fits 16000
 
-  label_quiet : (path : PathOf) (now s : Categories) (g : Frame) (o : ℕ) (x : Object) → Seen pid f s g → object_of_path f pid path ≡ Some o → at g.objects o ≡ Some x → not (leq x.label now) ≡ false → Entitles f pid (op.SetLabel path now)
+  label_quiet : (path : PathOf) (now s : Categories) (g : Frame) (o : ℕ) (x : Object) → Seen pid f s g → object_of_path f pid path ≡ Some o
+      → at g.objects o ≡ Some x → not (leq x.label now) ≡ false → Entitles f pid (op.SetLabel path now)
   unfolding exercises label_at
   label_quiet path now s g o x r leads is stays =
       let here : at f.objects o ≡ Some x = sym (ap (λ (h : Frame). at h.objects o) r.is) ∙ is in
@@ -124,14 +127,26 @@ module _ (f : Frame) (pid : ℕ) (start : Seen pid f bottom f) where
 -- ---- the step
 step_entitles : (w : World) (place pid : ℕ) (c : Op) → is_answer (step w place pid c).reply ≡ true → Entitles w.frame pid c
 unfolding step answer plainly exercises row
-step_entitles w place pid (op.SetLabel path now) h = passed (told w pid (op.SetLabel path now)) place pid (op.SetLabel path now) w.frame (λ a g. Entitles w.frame pid (op.SetLabel path now)) (set_label_entitles w.frame pid (seen_nothing pid w.frame) place path now) h
-step_entitles w place pid (op.SetSelf now) h = passed (told w pid (op.SetSelf now)) place pid (op.SetSelf now) w.frame (λ a g. Entitles w.frame pid (op.SetSelf now)) (set_self_entitles w.frame pid (seen_nothing pid w.frame) place now) h
-step_entitles w place pid (op.Thaw path) h = passed (told w pid (op.Thaw path)) place pid (op.Thaw path) w.frame (λ a g. Entitles w.frame pid (op.Thaw path)) (thaw_entitles w.frame pid (seen_nothing pid w.frame) place path) h
-step_entitles w place pid op.ThawSelf h = passed (told w pid op.ThawSelf) place pid op.ThawSelf w.frame (λ a g. Entitles w.frame pid op.ThawSelf) (thaw_self_entitles w.frame pid (seen_nothing pid w.frame) place) h
-step_entitles w place pid (op.SetPriv path caps lics) h = passed (told w pid (op.SetPriv path caps lics)) place pid (op.SetPriv path caps lics) w.frame (λ a g. Entitles w.frame pid (op.SetPriv path caps lics)) (set_priv_entitles w.frame pid (seen_nothing pid w.frame) place path caps lics) h
-step_entitles w place pid (op.GrantLic target some) h = passed (told w pid (op.GrantLic target some)) place pid (op.GrantLic target some) w.frame (λ a g. Entitles w.frame pid (op.GrantLic target some)) (grant_lic_entitles w.frame pid (seen_nothing pid w.frame) place target some) h
-step_entitles w place pid (op.SetCeiling target now) h = passed (told w pid (op.SetCeiling target now)) place pid (op.SetCeiling target now) w.frame (λ a g. Entitles w.frame pid (op.SetCeiling target now)) (set_ceiling_entitles w.frame pid (seen_nothing pid w.frame) place target now) h
-step_entitles w place pid (op.ReadLog index) h = passed (told w pid (op.ReadLog index)) place pid (op.ReadLog index) w.frame (λ a g. Entitles w.frame pid (op.ReadLog index)) (read_log_entitles w.frame pid (seen_nothing pid w.frame) place index) h
+step_entitles w place pid (op.SetLabel path now) h =
+    passed (told w pid (op.SetLabel path now)) place pid (op.SetLabel path now) w.frame (λ a g. Entitles w.frame pid (op.SetLabel path now))
+    (set_label_entitles w.frame pid (seen_nothing pid w.frame) place path now) h
+step_entitles w place pid (op.SetSelf now) h =
+    passed (told w pid (op.SetSelf now)) place pid (op.SetSelf now) w.frame (λ a g. Entitles w.frame pid (op.SetSelf now))
+    (set_self_entitles w.frame pid (seen_nothing pid w.frame) place now) h
+step_entitles w place pid (op.Thaw path) h = passed (told w pid (op.Thaw path)) place pid (op.Thaw path) w.frame (λ a g. Entitles w.frame pid (op.Thaw path))
+    (thaw_entitles w.frame pid (seen_nothing pid w.frame) place path) h
+step_entitles w place pid op.ThawSelf h = passed (told w pid op.ThawSelf) place pid op.ThawSelf w.frame (λ a g. Entitles w.frame pid op.ThawSelf)
+    (thaw_self_entitles w.frame pid (seen_nothing pid w.frame) place) h
+step_entitles w place pid (op.SetPriv path caps lics) h = passed (told w pid (op.SetPriv path caps lics)) place pid (op.SetPriv path caps lics) w.frame
+    (λ a g. Entitles w.frame pid (op.SetPriv path caps lics)) (set_priv_entitles w.frame pid (seen_nothing pid w.frame) place path caps lics) h
+step_entitles w place pid (op.GrantLic target some) h =
+    passed (told w pid (op.GrantLic target some)) place pid (op.GrantLic target some) w.frame (λ a g. Entitles w.frame pid (op.GrantLic target some))
+    (grant_lic_entitles w.frame pid (seen_nothing pid w.frame) place target some) h
+step_entitles w place pid (op.SetCeiling target now) h = passed (told w pid (op.SetCeiling target now)) place pid (op.SetCeiling target now) w.frame
+    (λ a g. Entitles w.frame pid (op.SetCeiling target now)) (set_ceiling_entitles w.frame pid (seen_nothing pid w.frame) place target now) h
+step_entitles w place pid (op.ReadLog index) h =
+    passed (told w pid (op.ReadLog index)) place pid (op.ReadLog index) w.frame (λ a g. Entitles w.frame pid (op.ReadLog index))
+    (read_log_entitles w.frame pid (seen_nothing pid w.frame) place index) h
 step_entitles w place pid c h = record { is = λ k. absurd (true≢false (sym k)) }
 
 pub entitled_entry : (w : World) (place : ℕ) (e : Event) → is_licensed w place e ≡ true → is_entitled w.frame e.pid (privilege_of e.op) ≡ true

@@ -61,7 +61,8 @@ record Sight (pid : ℕ) (path : PathOf) (f : Frame) (o : ℕ) (g : Frame) : Typ
   relabelled : Relabelled pid f g
   target : object_of_path f pid path ≡ Some o
 
-is_target : (f : Frame) (pid o : ℕ) (path : PathOf) (p : Process) (dir : Option ℕ) → living (at f.processes pid) ≡ Some p → (walk f.objects p path).outcome ≡ sought.Found o dir → object_of_path f pid path ≡ Some o
+is_target : (f : Frame) (pid o : ℕ) (path : PathOf) (p : Process) (dir : Option ℕ) → living (at f.processes pid) ≡ Some p
+    → (walk f.objects p path).outcome ≡ sought.Found o dir → object_of_path f pid path ≡ Some o
 unfolding object_of_path
 is_target f pid o path p dir lives ends = rw (lives, ends) refl
 
@@ -84,7 +85,8 @@ at_target f g pid o path x sight is =
     rw (sight.target, here) refl
 
 -- the line of an act on the object of a path
-object_line : (f m g : Frame) (place pid o : ℕ) (path : PathOf) (a : Act) (x y : Object) → Sight pid path f o m → at m.objects o ≡ Some x → at g.objects o ≡ Some y → line_on_object f g place pid path a ≡ audit_line place pid a o x.label y.label
+object_line : (f m g : Frame) (place pid o : ℕ) (path : PathOf) (a : Act) (x y : Object) → Sight pid path f o m → at m.objects o ≡ Some x
+    → at g.objects o ≡ Some y → line_on_object f g place pid path a ≡ audit_line place pid a o x.label y.label
 unfolding label_at
 object_line f m g place pid o path a x y sight is after =
     let same : m.objects ≡ f.objects = ap (λ (h : Frame). h.objects) sight.relabelled.is in
@@ -92,7 +94,8 @@ object_line f m g place pid o path a x y sight is after =
     rw (sight.target, here, after) refl
 
 -- and of one on a process
-process_line : (get : Process → Categories) (f g : Frame) (place pid target : ℕ) (a : Act) (q r : Process) → at f.processes target ≡ Some q → at g.processes target ≡ Some r → line_on_process get f g place pid target a ≡ audit_line place pid a target (get q) (get r)
+process_line : (get : Process → Categories) (f g : Frame) (place pid target : ℕ) (a : Act) (q r : Process) → at f.processes target ≡ Some q
+    → at g.processes target ≡ Some r → line_on_process get f g place pid target a ≡ audit_line place pid a target (get q) (get r)
 unfolding of_process
 process_line get f g place pid target a q r was is = rw (was, is) refl
 
@@ -109,7 +112,9 @@ not_not false = refl
 
 module _ (f : Frame) (place pid : ℕ) where
   -- SetLabel
-  label_line : (m g : Frame) (o : ℕ) (path : PathOf) (now : Categories) (x : Object) → Sight pid path f o m → at m.objects o ≡ Some x → not (leq x.label now) ≡ true → g.objects ≡ change m.objects o (λ y. record y { label = now }) → g.log ≡ m.log ++ audit_line place pid act.DownFile o x.label now ∷ [] → LogAfter f place pid (op.SetLabel path now) g
+  label_line : (m g : Frame) (o : ℕ) (path : PathOf) (now : Categories) (x : Object) → Sight pid path f o m → at m.objects o ≡ Some x
+      → not (leq x.label now) ≡ true → g.objects ≡ change m.objects o (λ y. record y { label = now })
+      → g.log ≡ m.log ++ audit_line place pid act.DownFile o x.label now ∷ [] → LogAfter f place pid (op.SetLabel path now) g
   unfolding exercises line_of_act
   label_line m g o path now x sight is lowers objects log =
       line_added f g place pid (op.SetLabel path now) _
@@ -117,16 +122,21 @@ module _ (f : Frame) (place pid : ℕ) where
       (ap Some (object_line f m g place pid o path act.DownFile x (record x { label = now }) sight is (changed m.objects g.objects o (λ y. record y { label = now }) x objects is)))
       (log ∙ ap (λ t. t ++ audit_line place pid act.DownFile o x.label now ∷ []) (same_log pid path f m o sight))
 
-  label_quiet : (m g : Frame) (o : ℕ) (path : PathOf) (now : Categories) (x : Object) → Sight pid path f o m → at m.objects o ≡ Some x → not (leq x.label now) ≡ false → g.log ≡ m.log → LogAfter f place pid (op.SetLabel path now) g
+  label_quiet : (m g : Frame) (o : ℕ) (path : PathOf) (now : Categories) (x : Object) → Sight pid path f o m → at m.objects o ≡ Some x
+      → not (leq x.label now) ≡ false → g.log ≡ m.log → LogAfter f place pid (op.SetLabel path now) g
   unfolding exercises
-  label_quiet m g o path now x sight is stays log = no_line f g place pid (op.SetLabel path now) (ap (λ l. not (leq l now)) (at_target f m pid o path x sight is) ∙ stays) (log ∙ same_log pid path f m o sight)
+  label_quiet m g o path now x sight is stays log =
+      no_line f g place pid (op.SetLabel path now) (ap (λ l. not (leq l now)) (at_target f m pid o path x sight is) ∙ stays) (log
+      ∙ same_log pid path f m o sight)
 
   label_logs : (path : PathOf) (now : Categories) → Ends (set_label place pid path now f) Anything (λ a g. LogAfter f place pid (op.SetLabel path now) g)
   unfolding set_label
   label_logs path now = search (endings, ends_sight, label_line, label_quiet) depth 80 fits 16000
 
   -- SetSelf
-  self_line : (g : Frame) (now : Categories) (p : Process) → living (at f.processes pid) ≡ Some p → not (leq p.label now) ≡ true → g.processes ≡ change f.processes pid (λ q. record q { label = now }) → g.log ≡ f.log ++ audit_line place pid act.DownSelf pid p.label now ∷ [] → LogAfter f place pid (op.SetSelf now) g
+  self_line : (g : Frame) (now : Categories) (p : Process) → living (at f.processes pid) ≡ Some p → not (leq p.label now) ≡ true
+      → g.processes ≡ change f.processes pid (λ q. record q { label = now }) → g.log ≡ f.log ++ audit_line place pid act.DownSelf pid p.label now ∷ []
+      → LogAfter f place pid (op.SetSelf now) g
   unfolding exercises line_of_act of_process
   self_line g now p lives lowers processes log =
       let is : at f.processes pid ≡ Some p = is_living (at f.processes pid) p lives in
@@ -142,7 +152,9 @@ module _ (f : Frame) (place pid : ℕ) where
   self_logs now = search (endings, self_line, self_quiet) depth 80 fits 16000
 
   -- Thaw
-  thaw_line : (m g : Frame) (o : ℕ) (path : PathOf) (x : Object) → Sight pid path f o m → at m.objects o ≡ Some x → g.objects ≡ change m.objects o (λ y. record y { frozen = false }) → g.log ≡ m.log ++ audit_line place pid act.ThawFile o x.label x.label ∷ [] → LogAfter f place pid (op.Thaw path) g
+  thaw_line : (m g : Frame) (o : ℕ) (path : PathOf) (x : Object) → Sight pid path f o m → at m.objects o ≡ Some x
+      → g.objects ≡ change m.objects o (λ y. record y { frozen = false }) → g.log ≡ m.log ++ audit_line place pid act.ThawFile o x.label x.label ∷ []
+      → LogAfter f place pid (op.Thaw path) g
   unfolding exercises line_of_act
   thaw_line m g o path x sight is objects log =
       line_added f g place pid (op.Thaw path) _ refl
@@ -154,38 +166,49 @@ module _ (f : Frame) (place pid : ℕ) where
   thaw_logs path = search (endings, ends_sight, thaw_line) depth 80 fits 16000
 
   -- ThawSelf
-  thaw_self_line : (g : Frame) (p : Process) → living (at f.processes pid) ≡ Some p → g.processes ≡ change f.processes pid (λ q. record q { frozen = false }) → g.log ≡ f.log ++ audit_line place pid act.ThawSelf pid p.label p.label ∷ [] → LogAfter f place pid op.ThawSelf g
+  thaw_self_line : (g : Frame) (p : Process) → living (at f.processes pid) ≡ Some p → g.processes ≡ change f.processes pid (λ q. record q { frozen = false })
+      → g.log ≡ f.log ++ audit_line place pid act.ThawSelf pid p.label p.label ∷ [] → LogAfter f place pid op.ThawSelf g
   unfolding exercises line_of_act
   thaw_self_line g p lives processes log =
       let is : at f.processes pid ≡ Some p = is_living (at f.processes pid) p lives in
       line_added f g place pid op.ThawSelf _ refl
-      (ap Some (process_line (λ q. q.label) f g place pid pid act.ThawSelf p (record p { frozen = false }) is (changed f.processes g.processes pid (λ q. record q { frozen = false }) p processes is))) log
+      (ap Some (process_line (λ q. q.label) f g place pid pid act.ThawSelf p (record p { frozen = false }) is
+      (changed f.processes g.processes pid (λ q. record q { frozen = false }) p processes is))) log
 
   thaw_self_logs : Ends (thaw_self place pid f) Anything (λ a g. LogAfter f place pid op.ThawSelf g)
   unfolding thaw_self
   thaw_self_logs = search (endings, thaw_self_line) depth 80 fits 16000
 
   -- GrantLic
-  grant_line : (g : Frame) (target : ℕ) (set : PrivSet) (q : Process) → living (at f.processes target) ≡ Some q → g.processes ≡ change f.processes target (λ p. record p { lic = either_of p.lic set }) → g.log ≡ f.log ++ record (audit_line place pid act.Grant target q.label q.label) { lic = set } ∷ [] → LogAfter f place pid (op.GrantLic target set) g
+  grant_line : (g : Frame) (target : ℕ) (set : PrivSet) (q : Process) → living (at f.processes target) ≡ Some q
+      → g.processes ≡ change f.processes target (λ p. record p { lic = either_of p.lic set })
+      → g.log ≡ f.log ++ record (audit_line place pid act.Grant target q.label q.label) { lic = set } ∷ [] → LogAfter f place pid (op.GrantLic target set) g
   unfolding exercises line_of_act
   grant_line g target set q lives processes log =
       let is : at f.processes target ≡ Some q = is_living (at f.processes target) q lives in
       line_added f g place pid (op.GrantLic target set) _ refl
-      (ap (λ (l : AuditLine). Some (record l { lic = set })) (process_line (λ p. p.label) f g place pid target act.Grant q (record q { lic = either_of q.lic set }) is (changed f.processes g.processes target (λ p. record p { lic = either_of p.lic set }) q processes is))) log
+      (ap (λ (l : AuditLine). Some (record l { lic = set })) (process_line (λ p. p.label) f g place pid target act.Grant q (record q {
+        lic =
+            either_of q.lic set;
+      }) is (changed f.processes g.processes target (λ p. record p { lic = either_of p.lic set }) q processes is))) log
 
   grant_logs : (target : ℕ) (set : PrivSet) → Ends (grant_lic place pid target set f) Anything (λ a g. LogAfter f place pid (op.GrantLic target set) g)
   unfolding grant_lic
   grant_logs target set = search (endings, grant_line) depth 80 fits 16000
 
   -- SetCeiling
-  ceiling_line : (g : Frame) (target : ℕ) (now : Categories) (q : Process) → living (at f.processes target) ≡ Some q → needs_to_set_ceilings pid target q now ≡ true → g.processes ≡ change f.processes target (λ p. record p { ceiling = now }) → g.log ≡ f.log ++ audit_line place pid act.Ceiling target q.ceiling now ∷ [] → LogAfter f place pid (op.SetCeiling target now) g
+  ceiling_line : (g : Frame) (target : ℕ) (now : Categories) (q : Process) → living (at f.processes target) ≡ Some q
+      → needs_to_set_ceilings pid target q now ≡ true → g.processes ≡ change f.processes target (λ p. record p { ceiling = now })
+      → g.log ≡ f.log ++ audit_line place pid act.Ceiling target q.ceiling now ∷ [] → LogAfter f place pid (op.SetCeiling target now) g
   unfolding exercises line_of_act of_process
   ceiling_line g target now q lives needs processes log =
       let is : at f.processes target ≡ Some q = is_living (at f.processes target) q lives in
       line_added f g place pid (op.SetCeiling target now) _ (rw is needs)
-      (ap Some (process_line (λ p. p.ceiling) f g place pid target act.Ceiling q (record q { ceiling = now }) is (changed f.processes g.processes target (λ p. record p { ceiling = now }) q processes is))) log
+      (ap Some (process_line (λ p. p.ceiling) f g place pid target act.Ceiling q (record q { ceiling = now }) is
+      (changed f.processes g.processes target (λ p. record p { ceiling = now }) q processes is))) log
 
-  ceiling_quiet : (g : Frame) (target : ℕ) (now : Categories) (q : Process) → living (at f.processes target) ≡ Some q → needs_to_set_ceilings pid target q now ≡ false → g.log ≡ f.log → LogAfter f place pid (op.SetCeiling target now) g
+  ceiling_quiet : (g : Frame) (target : ℕ) (now : Categories) (q : Process) → living (at f.processes target) ≡ Some q
+      → needs_to_set_ceilings pid target q now ≡ false → g.log ≡ f.log → LogAfter f place pid (op.SetCeiling target now) g
   unfolding exercises of_process
   ceiling_quiet g target now q lives free log = no_line f g place pid (op.SetCeiling target now) (rw (is_living (at f.processes target) q lives) free) log
 
@@ -194,7 +217,8 @@ module _ (f : Frame) (place pid : ℕ) where
   ceiling_logs target now = search (endings, ceiling_line, ceiling_quiet) depth 80 fits 16000
 
   -- ReadLog
-  read_line : (g : Frame) (index : ℕ) (p : Process) → living (at f.processes pid) ≡ Some p → g.processes ≡ f.processes → g.log ≡ f.log ++ audit_line place pid act.ReadLog index p.label p.label ∷ [] → LogAfter f place pid (op.ReadLog index) g
+  read_line : (g : Frame) (index : ℕ) (p : Process) → living (at f.processes pid) ≡ Some p → g.processes ≡ f.processes
+      → g.log ≡ f.log ++ audit_line place pid act.ReadLog index p.label p.label ∷ [] → LogAfter f place pid (op.ReadLog index) g
   unfolding exercises line_of_act of_process
   read_line g index p lives processes log =
       let is : at f.processes pid ≡ Some p = is_living (at f.processes pid) p lives in
@@ -205,11 +229,19 @@ module _ (f : Frame) (place pid : ℕ) where
   read_logs index = search (endings, read_line) depth 80 fits 16000
 
   -- SetPriv
-  priv_line : (m g : Frame) (o : ℕ) (path : PathOf) (cap lic : PrivSet) (x : Object) (p : Process) → Sight pid path f o m → at m.objects o ≡ Some x → at g.objects o ≡ Some (record x { label = join x.label p.label; cap = cap; lic = lic }) → g.log ≡ m.log ++ record (audit_line place pid act.SetPriv o x.label (join x.label p.label)) { cap = cap; lic = lic } ∷ [] → LogAfter f place pid (op.SetPriv path cap lic) g
+  priv_line : (m g : Frame) (o : ℕ) (path : PathOf) (cap lic : PrivSet) (x : Object) (p : Process) → Sight pid path f o m → at m.objects o ≡ Some x
+      → at g.objects o ≡ Some (record x { label = join x.label p.label; cap = cap; lic = lic })
+      → g.log ≡ m.log ++ record (audit_line place pid act.SetPriv o x.label (join x.label p.label)) { cap = cap; lic = lic } ∷ []
+      → LogAfter f place pid (op.SetPriv path cap lic) g
   unfolding exercises line_of_act
   priv_line m g o path cap lic x p sight is after log =
       line_added f g place pid (op.SetPriv path cap lic) _ refl
-      (ap (λ (l : AuditLine). Some (record l { cap = cap; lic = lic })) (object_line f m g place pid o path act.SetPriv x (record x { label = join x.label p.label; cap = cap; lic = lic }) sight is after))
+      (ap (λ (l : AuditLine). Some (record l { cap = cap; lic = lic })) (object_line f m g place pid o path act.SetPriv x (record x {
+        label =
+            join x.label p.label;
+        cap = cap;
+        lic = lic;
+      }) sight is after))
       (log ∙ ap (λ t. t ++ record (audit_line place pid act.SetPriv o x.label (join x.label p.label)) { cap = cap; lic = lic } ∷ []) (same_log pid path f m o sight))
 
   -- what is affected has the joined label
@@ -221,13 +253,15 @@ module _ (f : Frame) (place pid : ℕ) where
     after : at g.objects o ≡ Some (record object { label = join object.label caller.label })
     log : g.log ≡ m.log
 
-  affected_not : (o : ℕ) (m : Frame) (p : Process) (x : Object) → living (at m.processes pid) ≡ Some p → at m.objects o ≡ Some x → not (same (join x.label (join p.label bottom)) x.label) ≡ false → Affected o m m
+  affected_not : (o : ℕ) (m : Frame) (p : Process) (x : Object) → living (at m.processes pid) ≡ Some p → at m.objects o ≡ Some x
+      → not (same (join x.label (join p.label bottom)) x.label) ≡ false → Affected o m m
   affected_not o m p x lives is free =
       let far : Categories = join x.label (join p.label bottom) in
       let e : join x.label p.label ≡ x.label = sym (ap (join x.label) (join-bottom_right p.label)) ∙ (same-decides far x.label).0 (sym (not_not (same far x.label)) ∙ ap not free) in
       record { caller = p; is_caller = lives; object = x; is_object = is; after = is ∙ ap (λ l. Some (record x { label = l })) (sym e); log = refl }
 
-  affected_yes : (o : ℕ) (m g : Frame) (p : Process) (x : Object) → living (at m.processes pid) ≡ Some p → at m.objects o ≡ Some x → g.objects ≡ change m.objects o (λ y. record y { label = join y.label (join p.label bottom) }) → g.log ≡ m.log → Affected o m g
+  affected_yes : (o : ℕ) (m g : Frame) (p : Process) (x : Object) → living (at m.processes pid) ≡ Some p → at m.objects o ≡ Some x
+      → g.objects ≡ change m.objects o (λ y. record y { label = join y.label (join p.label bottom) }) → g.log ≡ m.log → Affected o m g
   affected_yes o m g p x lives is objects log = record {
     caller = p;
     is_caller = lives;
@@ -244,7 +278,10 @@ module _ (f : Frame) (place pid : ℕ) where
   ends_affected : (o : ℕ) (m : Frame) (Q : Unit {0} → Frame → Type 0) → ((g : Frame) → Affected o m g → Q tt g) → Ends (affect pid o bottom m) Anything Q
   ends_affected o m Q h = ends_more (affect pid o bottom m) Anything (λ u g. Affected o m g) Q (affected o m) (λ u g. h g)
 
-  priv_done : (m n g : Frame) (o : ℕ) (path : PathOf) (cap lic : PrivSet) (x : Object) (p : Process) → Sight pid path f o m → at m.objects o ≡ Some x → living (at m.processes pid) ≡ Some p → Affected o m n → g.objects ≡ change n.objects o (λ y. record y { cap = cap; lic = lic }) → g.log ≡ n.log ++ record (audit_line place pid act.SetPriv o x.label (join x.label p.label)) { cap = cap; lic = lic } ∷ [] → LogAfter f place pid (op.SetPriv path cap lic) g
+  priv_done : (m n g : Frame) (o : ℕ) (path : PathOf) (cap lic : PrivSet) (x : Object) (p : Process) → Sight pid path f o m → at m.objects o ≡ Some x
+      → living (at m.processes pid) ≡ Some p → Affected o m n → g.objects ≡ change n.objects o (λ y. record y { cap = cap; lic = lic })
+      → g.log ≡ n.log ++ record (audit_line place pid act.SetPriv o x.label (join x.label p.label)) { cap = cap; lic = lic } ∷ []
+      → LogAfter f place pid (op.SetPriv path cap lic) g
   priv_done m n g o path cap lic x p sight is lives a objects log =
       let same_object : a.object ≡ x = let h = a.is_object in cc in
       let same_caller : a.caller ≡ p = let h = a.is_caller in cc in
@@ -327,12 +364,14 @@ log_kept : (b : Bool) (pid : ℕ) (f g : Frame) → Relabelled pid f g → (if b
 log_kept true pid f g r = ap (λ (h : Frame). h.log) r.is ∙ sym (append-nil f.log)
 log_kept false pid f g r = sym (append-nil f.log)
 
-settled_log : (place pid : ℕ) (c : Op) (f : Frame) (o : Outcome Reply) → Relabels is_answer pid f o → Ends o Anything (λ a g. LogAfter f place pid c g) → (settled f o).frame.log ≡ f.log ++ adds f (settled f o).frame place pid c (settled f o).reply
+settled_log : (place pid : ℕ) (c : Op) (f : Frame) (o : Outcome Reply) → Relabels is_answer pid f o → Ends o Anything (λ a g. LogAfter f place pid c g)
+    → (settled f o).frame.log ≡ f.log ++ adds f (settled f o).frame place pid c (settled f o).reply
 unfolding Ends adds
 settled_log place pid c f (Refuse r g) relabels ends = log_kept (keeps_label r) pid f g relabels
 settled_log place pid c f (Pass a g) relabels ends = adds_answered f g place pid c a relabels ends
 
-decided_log : (t : LengthChecks) (place pid : ℕ) (c : Op) (f : Frame) → (verdict t place pid c f).frame.log ≡ f.log ++ adds f (verdict t place pid c f).frame place pid c (verdict t place pid c f).reply
+decided_log : (t : LengthChecks) (place pid : ℕ) (c : Op) (f : Frame) → (verdict t place pid c f).frame.log ≡ f.log
+    ++ adds f (verdict t place pid c f).frame place pid c (verdict t place pid c f).reply
 unfolding verdict adds
 decided_log t place pid c f = go (lives f pid)
   where
@@ -348,7 +387,8 @@ decided_log t place pid c f = go (lives f pid)
 step_adds : World → ℕ → ℕ → Op → List AuditLine
 step_adds w place pid c = adds w.frame (step w place pid c).world.frame place pid c (step w place pid c).reply
 
-plain_log : (w : World) (place pid : ℕ) (c : Op) → (step w place pid c).reply ≡ (verdict (told w pid c) place pid c w.frame).reply → (step w place pid c).world.frame.log ≡ w.frame.log ++ step_adds w place pid c
+plain_log : (w : World) (place pid : ℕ) (c : Op) → (step w place pid c).reply ≡ (verdict (told w pid c) place pid c w.frame).reply
+    → (step w place pid c).world.frame.log ≡ w.frame.log ++ step_adds w place pid c
 unfolding step_adds
 plain_log w place pid c same =
     let frames = step_frame w place pid c in
@@ -362,7 +402,9 @@ unfolding step_adds adds
 quiet_log w place pid c free =
     ap (λ (g : Frame). g.log) (step_frame w place pid c)
     ∙ decided_log (told w pid c) place pid c w.frame
-    ∙ ap (λ t. w.frame.log ++ t) (adds_none w.frame (verdict (told w pid c) place pid c w.frame).frame place pid c (verdict (told w pid c) place pid c w.frame).reply free ∙ sym (adds_none w.frame (step w place pid c).world.frame place pid c (step w place pid c).reply free))
+    ∙ ap (λ t. w.frame.log ++ t) (adds_none w.frame (verdict (told w pid c) place pid c w.frame).frame place pid c
+    (verdict (told w pid c) place pid c w.frame).reply free
+    ∙ sym (adds_none w.frame (step w place pid c).world.frame place pid c (step w place pid c).reply free))
 
 step_log : (w : World) (place pid : ℕ) (c : Op) → (step w place pid c).world.frame.log ≡ w.frame.log ++ step_adds w place pid c
 unfolding step answer plainly exercises

@@ -38,14 +38,18 @@ use Rattle.ix_model.proofs.words.RowEnds.{ends_exercise, ends_logged}
 use Rattle.ix_model.proofs.refused.Seeing.{Seen, seen_nothing, ends_seen, ends_seen_walk}
 use Rattle.ix_model.proofs.refused.Refusing.{Relabelled, relabelled_itself, refusing_row}
 use Rattle.ix_model.proofs.words.Answered.{step_frame}
-use Rattle.ix_model.proofs.told.Unmoved.{CallersOwn, Unmoved, unmoved_itself, kept_change, kept_push, u_affect, u_make, u_link_at, u_unlink_at, u_remove_dir, u_open_at, u_change_dir, u_stat_at, u_list_at, u_read_fd, u_write_fd, u_cut_fd, u_seek_fd, u_dup_fd, u_close_fd, u_make_pipe, u_pex, u_unpex, u_exit, u_wait_child, u_label_of, u_self_label, u_set_label, u_set_self, u_freeze, u_freeze_self, u_thaw, u_thaw_self, u_set_ceiling, u_read_log}
+use Rattle.ix_model.proofs.told.Unmoved.{CallersOwn, Unmoved, unmoved_itself, kept_change, kept_push, u_affect, u_make, u_link_at, u_unlink_at}
+use Rattle.ix_model.proofs.told.Unmoved.{u_remove_dir, u_open_at, u_change_dir, u_stat_at, u_list_at, u_read_fd, u_write_fd, u_cut_fd, u_seek_fd}
+use Rattle.ix_model.proofs.told.Unmoved.{u_dup_fd, u_close_fd, u_make_pipe, u_pex, u_unpex, u_exit, u_wait_child, u_label_of, u_self_label}
+use Rattle.ix_model.proofs.told.Unmoved.{u_set_label, u_set_self, u_freeze, u_freeze_self, u_thaw, u_thaw_self, u_set_ceiling, u_read_log}
 
 module _ (f : Frame) (pid : ℕ) where
   pub Moves : Op → Frame → Type 0
   Moves c g = PrivilegesAs f g pid c true
 
   -- ---- where nothing changes
-  stays : (c : Op) (b : Bool) (g : Frame) → ((p : ℕ) (q : Process) → privileges_after f pid c p q ≡ privileges q) → ((o : ℕ) (x : Object) → carried_after f pid c o x ≡ carried_by x) → Unmoved f pid b g → Moves c g
+  stays : (c : Op) (b : Bool) (g : Frame) → ((p : ℕ) (q : Process) → privileges_after f pid c p q ≡ privileges q)
+      → ((o : ℕ) (x : Object) → carried_after f pid c o x ≡ carried_by x) → Unmoved f pid b g → Moves c g
   unfolding Moves
   stays c b g processes objects u = record {
     processes = λ p q r is seen. u.processes.same p q r is seen ∙ sym (processes p q);
@@ -58,12 +62,23 @@ module _ (f : Frame) (pid : ℕ) where
   unmoved_relabelled : (b : Bool) (g : Frame) → Relabelled pid f g → Unmoved f pid b g
   unmoved_relabelled b g r =
       let u = unmoved_itself f pid b in
-      subst (Unmoved f pid b) (sym r.is) (record { processes = kept_change _ _ f.processes f.processes pid (λ p. record p { label = r.label }) (λ p. refl) u.processes; objects = u.objects; lasting = u.lasting })
+      subst (Unmoved f pid b) (sym r.is) (record {
+        processes = kept_change _ _ f.processes f.processes pid (λ p. record p { label = r.label }) (λ p. refl)
+            u.processes;
+        objects = u.objects;
+        lasting = u.lasting;
+      })
 
   unmoved_seen : (s : Categories) (b : Bool) (g : Frame) → Seen pid f s g → Unmoved f pid b g
   unmoved_seen s b g r =
       let u = unmoved_itself f pid b in
-      subst (Unmoved f pid b) (sym r.is) (record { processes = kept_change _ _ f.processes f.processes pid (λ p. record p { label = join p.label s }) (λ p. refl) u.processes; objects = u.objects; lasting = u.lasting })
+      subst (Unmoved f pid b) (sym r.is) (record {
+        processes =
+            kept_change _ _ f.processes f.processes pid (λ p. record p { label = join p.label s }) (λ p. refl) u.processes;
+        objects = u.objects;
+        lasting =
+            u.lasting;
+      })
 
   -- ---- one process changes
   same_number : (p n : ℕ) (A : Type 0) (a b : A) → p ≡ n → (if p == n then a else b) ≡ a
@@ -76,13 +91,15 @@ module _ (f : Frame) (pid : ℕ) where
   ]
 
   module _ (h : Frame) (n : ℕ) (k : Process → Process) (to : Process → Privileges) (u : Unmoved f pid false h) where
-    process_moves : ((q was : Process) → privileges was ≡ privileges q → privileges (k was) ≡ to q) → (p : ℕ) (q r : Process) → at f.processes p ≡ Some q → at (change h.processes n k) p ≡ Some r → privileges r ≡ (if p == n then to q else privileges q)
+    process_moves : ((q was : Process) → privileges was ≡ privileges q → privileges (k was) ≡ to q) → (p : ℕ) (q r : Process) → at f.processes p ≡ Some q
+        → at (change h.processes n k) p ≡ Some r → privileges r ≡ (if p == n then to q else privileges q)
     process_moves makes p q r is seen = elim (at_change h.processes n k p r seen) [
       | inl c ↦ ap privileges c.same ∙ makes q c.was (u.processes.same p q c.was is (ap (at h.processes) c.here ∙ c.is_was)) ∙ sym (same_number p n Privileges (to q) (privileges q) c.here)
       | inr other ↦ u.processes.same p q r is other.1 ∙ sym (other_number p n Privileges (to q) (privileges q) other.0)
     ]
 
-    process_new : ((was : Process) → at h.processes n ≡ Some was → is_some (at f.processes n) ≡ true) → (p : ℕ) (r : Process) → at f.processes p ≡ None → at (change h.processes n k) p ≡ Some r → CallersOwn f pid (privileges r)
+    process_new : ((was : Process) → at h.processes n ≡ Some was → is_some (at f.processes n) ≡ true) → (p : ℕ) (r : Process) → at f.processes p ≡ None
+        → at (change h.processes n k) p ≡ Some r → CallersOwn f pid (privileges r)
     process_new stood p r is seen = elim (at_change h.processes n k p r seen) [
       | inl c ↦ absurd (true≢false (sym (stood c.was c.is_was) ∙ ap (λ m. is_some (at f.processes m)) (sym c.here) ∙ ap is_some is))
       | inr other ↦ u.processes.fresh p r is other.1
@@ -101,10 +118,16 @@ module _ (f : Frame) (pid : ℕ) where
       ends_pass _ _ Anything Q (forked p keep (is_living _ p lives)))))
       tt)))) tt)) tt)
     where
-      forked : (p : Process) (keep : Keep) → at f.processes pid ≡ Some p → Moves (op.Fork keep) (record f { processes = f.processes ++ Some (record p { parent = Some pid; fds = kept_fds keep p.fds }) ∷ [] })
+      forked : (p : Process) (keep : Keep) → at f.processes pid ≡ Some p
+          → Moves (op.Fork keep) (record f { processes = f.processes ++ Some (record p { parent = Some pid; fds = kept_fds keep p.fds }) ∷ [] })
       forked p keep is =
           let u = unmoved_itself f pid false in
-          stays (op.Fork keep) false _ (λ p q. refl) (λ o x. refl) (record { processes = kept_push _ _ f.processes f.processes _ (omega arith) (ap (option_map privileges) is) u.processes; objects = u.objects; lasting = u.lasting })
+          stays (op.Fork keep) false _ (λ p q. refl) (λ o x. refl) (record {
+            processes =
+                kept_push _ _ f.processes f.processes _ (omega arith) (ap (option_map privileges) is) u.processes;
+            objects = u.objects;
+            lasting = u.lasting;
+          })
 
   -- ---- DropLic
   drop_lic_moves : (some : PrivSet) → Ends (drop_lic pid some f) Anything (λ a g. Moves (op.DropLic some) g)
@@ -164,15 +187,19 @@ module _ (f : Frame) (pid : ℕ) where
       go None e = cc
       go (Some p) e = refl
 
-  carried_there : (s : Categories) (g : Frame) (path : PathOf) (o : ℕ) (x : Object) → Seen pid f s g → object_of_path f pid path ≡ Some o → at g.objects o ≡ Some x → carried_at f pid path ≡ carried_by x
+  carried_there : (s : Categories) (g : Frame) (path : PathOf) (o : ℕ) (x : Object) → Seen pid f s g → object_of_path f pid path ≡ Some o
+      → at g.objects o ≡ Some x → carried_at f pid path ≡ carried_by x
   carried_there s g path o x r leads is =
       let here : at f.objects o ≡ Some x = sym (ap (λ (h : Frame). at h.objects o) r.is) ∙ is in
       rw (leads, here) refl
 
   -- a path and its object
-  ends_object_at : (path : PathOf) (Q : ℕ → Frame → Type 0) → ((o : ℕ) (s : Categories) (g : Frame) → Seen pid f s g → object_of_path f pid path ≡ Some o → Q o g) → Ends (object_at pid path f) Anything Q
+  ends_object_at : (path : PathOf) (Q : ℕ → Frame → Type 0) → ((o : ℕ) (s : Categories) (g : Frame) → Seen pid f s g → object_of_path f pid path ≡ Some o
+      → Q o g) → Ends (object_at pid path f) Anything Q
   unfolding object_at
-  ends_object_at path Q next = ends_bind _ _ f Anything Q (ends_seen_walk pid f path bottom f Anything _ (seen_nothing pid f) (λ r h k. tt) (λ w g seen leads. ends_there w g Anything Q (λ o dir is. next o _ g seen (leads o dir is)) tt tt))
+  ends_object_at path Q next =
+      ends_bind _ _ f Anything Q (ends_seen_walk pid f path bottom f Anything _ (seen_nothing pid f) (λ r h k. tt)
+      (λ w g seen leads. ends_there w g Anything Q (λ o dir is. next o _ g seen (leads o dir is)) tt tt))
 
   exec_moves : (path : PathOf) → Ends (exec pid path f) Anything (λ a g. Moves (op.Exec path) g)
   unfolding exec Moves
@@ -186,7 +213,8 @@ module _ (f : Frame) (pid : ℕ) where
       ends_pass _ _ Anything Q (executed x (join s x.label) h later (carried_there s g path o x seen leads is)))))))
       tt)) tt)))
     where
-      executed : (x : Object) (s : Categories) (h : Frame) → Seen pid f s h → carried_at f pid path ≡ carried_by x → Moves (op.Exec path) (record h { processes = change h.processes pid (λ p. record p { cap = x.cap; own = x.lic }) })
+      executed : (x : Object) (s : Categories) (h : Frame) → Seen pid f s h → carried_at f pid path ≡ carried_by x
+          → Moves (op.Exec path) (record h { processes = change h.processes pid (λ p. record p { cap = x.cap; own = x.lic }) })
       executed x s h seen carries =
           let u = unmoved_seen s false h seen in
           let k : Process → Process = λ p. record p { cap = x.cap; own = x.lic } in
@@ -227,7 +255,9 @@ module _ (f : Frame) (pid : ℕ) where
       ends_pass _ _ Anything Q (set_there o h _ later leads (ap is_some (sym (ap (λ (k : Frame). at k.objects o) seen.is) ∙ is)))))))))) tt))))
       tt)) tt)))
     where
-      set_there : (o : ℕ) (h : Frame) (l : List Rattle.ix_model.specs.declared.audit.AuditLine.AuditLine) → Unmoved f pid false h → object_of_path f pid path ≡ Some o → is_some (at f.objects o) ≡ true → Moves (op.SetPriv path caps lics) (record h { objects = change h.objects o (λ y. record y { cap = caps; lic = lics }); log = l })
+      set_there : (o : ℕ) (h : Frame) (l : List Rattle.ix_model.specs.declared.audit.AuditLine.AuditLine) → Unmoved f pid false h
+          → object_of_path f pid path ≡ Some o → is_some (at f.objects o) ≡ true
+          → Moves (op.SetPriv path caps lics) (record h { objects = change h.objects o (λ y. record y { cap = caps; lic = lics }); log = l })
       set_there o h l u leads stood =
           let k : Object → Object = λ y. record y { cap = caps; lic = lics } in
           let to : Carried = record { cap = caps; lic = lics } in
@@ -239,8 +269,10 @@ module _ (f : Frame) (pid : ℕ) where
           }
 
   -- ---- the table
-  kept_moves : (m : Rattle.ix_model.specs.rows.Outcomes.Row Reply) (c : Op) (b : Bool) → ((p : ℕ) (q : Process) → privileges_after f pid c p q ≡ privileges q) → ((o : ℕ) (x : Object) → carried_after f pid c o x ≡ carried_by x) → Keeps (Unmoved f pid b) m → Ends (m f) Anything (λ a g. Moves c g)
-  kept_moves m c b processes objects keeps = ends_kept (Unmoved f pid b) (m f) Anything (λ a g. Moves c g) (keeps.led f (unmoved_itself f pid b)) (λ r g u. tt) (λ a g u. stays c b g processes objects u)
+  kept_moves : (m : Rattle.ix_model.specs.rows.Outcomes.Row Reply) (c : Op) (b : Bool) → ((p : ℕ) (q : Process) → privileges_after f pid c p q ≡ privileges q)
+      → ((o : ℕ) (x : Object) → carried_after f pid c o x ≡ carried_by x) → Keeps (Unmoved f pid b) m → Ends (m f) Anything (λ a g. Moves c g)
+  kept_moves m c b processes objects keeps = ends_kept (Unmoved f pid b) (m f) Anything (λ a g. Moves c g) (keeps.led f (unmoved_itself f pid b)) (λ r g u. tt)
+      (λ a g u. stays c b g processes objects u)
 
   row_moves : (t : LengthChecks) (place : ℕ) (c : Op) → Ends (row t place pid c f) Anything (λ a g. Moves c g)
   unfolding row create_at make_dir
@@ -287,7 +319,8 @@ refused_moves f g pid c r =
     let u = unmoved_relabelled f pid false g r in
     record { processes = u.processes.same; children = u.processes.fresh; objects = u.objects.same; made = u.objects.fresh }
 
-settled_moves : (f : Frame) (pid : ℕ) (c : Op) (o : Outcome Reply) → Ends o (λ r g. Relabelled pid f g) (λ a g. is_answer a ≡ true) → Ends o Anything (λ a g. Moves f pid c g) → PrivilegesAs f (settled f o).frame pid c (is_answer (settled f o).reply)
+settled_moves : (f : Frame) (pid : ℕ) (c : Op) (o : Outcome Reply) → Ends o (λ r g. Relabelled pid f g) (λ a g. is_answer a ≡ true)
+    → Ends o Anything (λ a g. Moves f pid c g) → PrivilegesAs f (settled f o).frame pid c (is_answer (settled f o).reply)
 unfolding Ends Moves
 settled_moves f pid c (Refuse r g) h k = go (keeps_label r)
   where

@@ -31,7 +31,9 @@ same_processes f g h e r = record {
 }
 
 -- a table of the same length, in which nothing comes to live
-spent_table : (f g : Frame) (t : List (Option Process)) → length t ≡ length g.processes → ((p : ℕ) → is_none (at g.processes p) ≡ true → is_none (at t p) ≡ true) → ((p : ℕ) → lives_as (at g.processes p) ≡ false → lives_as (at t p) ≡ false) → PidsSpent f g → PidsSpent f (record g { processes = t })
+spent_table : (f g : Frame) (t : List (Option Process)) → length t ≡ length g.processes
+    → ((p : ℕ) → is_none (at g.processes p) ≡ true → is_none (at t p) ≡ true) → ((p : ℕ) → lives_as (at g.processes p) ≡ false → lives_as (at t p) ≡ false)
+    → PidsSpent f g → PidsSpent f (record g { processes = t })
 spent_table f g t long none dead r = record {
   grown = omega (arith, long, r.grown);
   gone = λ p low is. none_is (at t p) (none p (ap is_none (r.gone p low is)));
@@ -41,11 +43,17 @@ spent_table f g t long none dead r = record {
 module _ (f : Frame) where
   spent_processes : (p : ℕ) (h : Process → Process) → ((q : Process) → (h q).ended ≡ q.ended) → Keeps (PidsSpent f) (change_process p h)
   unfolding change_process Holds
-  spent_processes p h same = record { led = λ g r. spent_table f g _ (length-set g.processes p _) (λ m is. seen_changed is_none h (λ q. refl) g.processes p m ∙ is) (λ m is. seen_changed lives_as h (λ q. ap not (same q)) g.processes p m ∙ is) r }
+  spent_processes p h same = record {
+    led = λ g r. spent_table f g _ (length-set g.processes p _) (λ m is. seen_changed is_none h (λ q. refl) g.processes p m
+        ∙ is) (λ m is. seen_changed lives_as h (λ q. ap not (same q)) g.processes p m ∙ is) r;
+  }
 
   spent_collect : (p : ℕ) → Keeps (PidsSpent f) (put_process p None)
   unfolding put_process Holds
-  spent_collect p = record { led = λ g r. spent_table f g _ (length-set g.processes p None) (λ m is. seen_put is_none true g.processes p None m (λ k. refl) is) (λ m is. seen_put lives_as false g.processes p None m (λ k. refl) is) r }
+  spent_collect p = record {
+    led = λ g r. spent_table f g _ (length-set g.processes p None) (λ m is. seen_put is_none true g.processes p None m (λ k. refl) is)
+        (λ m is. seen_put lives_as false g.processes p None m (λ k. refl) is) r;
+  }
 
   remains_none : (o : Option Process) → is_none o ≡ true → is_none (option_and_then remains o) ≡ true
   remains_none None is = refl
@@ -61,7 +69,11 @@ module _ (f : Frame) where
 
   spent_end : (pid : ℕ) → Keeps (PidsSpent f) (end_process pid)
   unfolding end_process put_process Holds
-  spent_end pid = record { led = λ g r. spent_table f g _ (length-set g.processes pid _) (λ m is. seen_put is_none true g.processes pid _ m (remains_none (at g.processes pid)) is) (λ m is. seen_put lives_as false g.processes pid _ m (λ k. remains_dead (at g.processes pid)) is) r }
+  spent_end pid = record {
+    led =
+        λ g r. spent_table f g _ (length-set g.processes pid _) (λ m is. seen_put is_none true g.processes pid _ m (remains_none (at g.processes pid)) is)
+        (λ m is. seen_put lives_as false g.processes pid _ m (λ k. remains_dead (at g.processes pid)) is) r;
+  }
 
   spent_add : (p : Process) → Keeps (PidsSpent f) (add_process p)
   unfolding add_process Holds
@@ -99,7 +111,9 @@ spent_itself : (f : Frame) → PidsSpent f f
 spent_itself f = record { grown = omega arith; gone = λ p low is. is; ended = λ p is low. is }
 
 pub spent_decided : (t : LengthChecks) (place pid : ℕ) (c : Op) (f : Frame) → PidsSpent f (verdict t place pid c f).frame
-spent_decided t place pid c f = decided (PidsSpent f) t place pid c f (spent_itself f) ((kept_row all pid (PidsSpent f) (spent_words f pid) t place c (bears_all (changes_of c))).led f (spent_itself f))
+spent_decided t place pid c f =
+    decided (PidsSpent f) t place pid c f (spent_itself f) ((kept_row all pid (PidsSpent f) (spent_words f pid) t place c (bears_all (changes_of c))).led f
+    (spent_itself f))
 
 spent_step : (w : World) (place pid : ℕ) (c : Op) → PidsSpent w.frame (step w place pid c).world.frame
 spent_step w place pid c = rw (step_frame w place pid c) (spent_decided (told w pid c) place pid c w.frame)

@@ -1,5 +1,6 @@
 -- A call changes few labels.
-use Rattle.std.proofs.Common.{◌≡◌, ◌≢◌, ◌≤◌, ◌<◌, ◌==◌, ℕ, zero, suc, Bool, true, false, List, [], ◌∷◌, ◌++◌, length, Option, Some, None, is_some, option_map, refl, sym, ap, ◌∙◌, arith, length-set, length-append, inl, inr, true≢false}
+use Rattle.std.proofs.Common.{◌≡◌, ◌≢◌, ◌≤◌, ◌<◌, ◌==◌, ℕ, zero, suc, Bool, true, false, List, [], ◌∷◌, ◌++◌, length, Option, Some, None, is_some}
+use Rattle.std.proofs.Common.{option_map, refl, sym, ap, ◌∙◌, arith, length-set, length-append, inl, inr, true≢false}
 use Rattle.std.specs.List.{list_all}
 use Rattle.std.proofs.lemmas.Bool.{eqb-false}
 use Rattle.std.proofs.lemmas.Bool.Decides.{eqb_tells}
@@ -33,7 +34,8 @@ use Rattle.ix_model.proofs.tables.Tables.{seen_changed}
 use Rattle.ix_model.proofs.words.Keeps.{Holds, Keeps, keeping, keeping_tests, keeps_only_if}
 use Rattle.ix_model.proofs.tables.FreeNumbers.{free_inode_is, free_pipe_is}
 use Rattle.ix_model.proofs.words.Lasts.{Lasting, lasting_itself, lasting_change, lasting_put, decided}
-use Rattle.ix_model.proofs.words.Rowwise.{Change, Relabelling, Making, LettingGo, Words, changes_of, object_core, kept_observe, kept_walked_to, kept_found, kept_found_in, kept_missing, kept_opened, kept_row}
+use Rattle.ix_model.proofs.words.Rowwise.{Change, Relabelling, Making, LettingGo, Words, changes_of, object_core, kept_observe, kept_walked_to}
+use Rattle.ix_model.proofs.words.Rowwise.{kept_found, kept_found_in, kept_missing, kept_opened, kept_row}
 use Rattle.ix_model.proofs.words.Turns.{Turns, holds_more, turns_bind_frame, turns_bind_some, turns_bind_first, turns_then_first, turns_then_last, turns_only_if}
 use Rattle.ix_model.proofs.words.Answered.{step_frame}
 
@@ -78,7 +80,11 @@ module _ {A B : Type 0} (get : A → B) (but : ℕ → Bool) where
   some_low (y ∷ t) (suc n) x h = let low = some_low t n x h in omega (arith, low)
 
   alike_more : (t u v : List (Option A)) → length t ≤ length u → Alike get but t u → Alike get but t (u ++ v)
-  alike_more t u v long r = record { same = λ m x z other is seen. r.same m x z other is (ap (option_map get) (sym (get_or-append u v None m (let low = some_low t m x is in omega (arith, low, long)))) ∙ seen) }
+  alike_more t u v long r =
+      record {
+        same = λ m x z other is seen. r.same m x z other is (ap (option_map get) (sym (get_or-append u v None m (let low = some_low t m x is in
+            omega (arith, low, long)))) ∙ seen);
+      }
 
 -- ---- frames in which no label has changed but the caller's
 record Steady (pid : ℕ) (f g : Frame) : Type 0 where
@@ -93,7 +99,8 @@ module _ (pid : ℕ) (f : Frame) where
   with_objects : (g : Frame) (t : List (Option Object)) → Alike (λ (x : Object). x.label) (λ n. false) f.objects t → Steady pid f g → Steady pid f (record g { objects = t })
   with_objects g t a r = record { objects = a; processes = r.processes; grown = r.grown }
 
-  with_processes : (g : Frame) (t : List (Option Process)) → length g.processes ≤ length t → Alike (λ (p : Process). p.label) (λ n. n == pid) f.processes t → Steady pid f g → Steady pid f (record g { processes = t })
+  with_processes : (g : Frame) (t : List (Option Process)) → length g.processes ≤ length t → Alike (λ (p : Process). p.label) (λ n. n == pid) f.processes t
+      → Steady pid f g → Steady pid f (record g { processes = t })
   with_processes g t long a r = record { objects = r.objects; processes = a; grown = omega (arith, long, r.grown) }
 
   apart : (m : ℕ) → (m == pid) ≡ false → m ≢ pid
@@ -287,7 +294,29 @@ module _ (pid : ℕ) (f : Frame) where
   t_only_if : (b : Bool) (m : Row (Unit {0})) → Turns Staying Touched m → Turns Staying Touched (only_if b m)
   t_only_if b m h = turns_only_if Staying Touched staying_touched b m h
 
-  ruleset touching = (t_frame, t_some, t_first, t_then, t_last, t_only_if, turn_change, keeping, keeping_tests, s_found, s_found_in, s_missing, s_walked_to, s_opened, s_observe, then_object, then_inode, then_gone, then_let_go, then_float_entry, then_logged)
+  ruleset touching = (
+    t_frame,
+    t_some,
+    t_first,
+    t_then,
+    t_last,
+    t_only_if,
+    turn_change,
+    keeping,
+    keeping_tests,
+    s_found,
+    s_found_in,
+    s_missing,
+    s_walked_to,
+    s_opened,
+    s_observe,
+    then_object,
+    then_inode,
+    then_gone,
+    then_let_go,
+    then_float_entry,
+    then_logged,
+  )
 
   t_affect : (o : ℕ) (through : Categories) → Turns Staying Touched (affect pid o through)
   unfolding affect

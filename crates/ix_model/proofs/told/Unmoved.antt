@@ -1,7 +1,8 @@
 -- The privileges of processes and objects: what rows leave of them that change none.
 use Rattle.std.specs.Option.{option_map_or, option_and_then}
 use Rattle.std.specs.List.{range_with_len}
-use Rattle.std.proofs.Common.{◌≡◌, ◌≤◌, ℕ, Bool, true, false, true≢false, List, [], ◌∷◌, ◌++◌, length, Option, Some, None, is_some, option_map, refl, sym, ap, ◌∙◌, subst, arith, inl, inr, if◌then◌else◌}
+use Rattle.std.proofs.Common.{◌≡◌, ◌≤◌, ℕ, Bool, true, false, true≢false, List, [], ◌∷◌, ◌++◌, length, Option, Some, None, is_some, option_map, refl}
+use Rattle.std.proofs.Common.{sym, ap, ◌∙◌, subst, arith, inl, inr, if◌then◌else◌}
 use Rattle.ix_label.specs.Category.{Categories}
 use Rattle.ix_model.specs.world.Naming.{PathOf}
 use Rattle.ix_model.specs.world.Numbers.{free_inode, free_pipe}
@@ -120,7 +121,14 @@ module _ (f : Frame) (pid : ℕ) (loses : Bool) where
 
   u_change_object : (o : ℕ) (h : Object → Object) → ((x : Object) → carried_by (h x) ≡ carried_by x) → Keeps R (change_object o h)
   unfolding change_object Holds
-  u_change_object o h same = record { led = λ g r. record { processes = r.processes; objects = kept_change _ _ f.objects g.objects o h same r.objects; lasting = λ e. lasting_change f.objects g.objects o h (r.lasting e) } }
+  u_change_object o h same = record {
+    led = λ g r. record {
+      processes = r.processes;
+      objects = kept_change _ _ f.objects g.objects o h same r.objects;
+      lasting =
+          λ e. lasting_change f.objects g.objects o h (r.lasting e);
+    };
+  }
 
   u_change_process : (p : ℕ) (h : Process → Process) → ((q : Process) → privileges (h q) ≡ privileges q) → Keeps R (change_process p h)
   unfolding change_process Holds
@@ -150,7 +158,8 @@ module _ (f : Frame) (pid : ℕ) (loses : Bool) where
   unfolding end_process put_process Holds
   u_end p = record { led = λ g r. record { processes = go g r (at g.processes p) refl; objects = r.objects; lasting = r.lasting } }
     where
-      left : (g : Frame) → R g → (q : Process) → at g.processes p ≡ Some q → (b : Bool) → Kept privileges (CallersOwn f pid) f.processes (put g.processes p (if b then Some (record q { ended = true }) else None))
+      left : (g : Frame) → R g → (q : Process) → at g.processes p ≡ Some q → (b : Bool)
+          → Kept privileges (CallersOwn f pid) f.processes (put g.processes p (if b then Some (record q { ended = true }) else None))
       left g r q is true = kept_again _ _ f.processes g.processes p (record q { ended = true }) q is refl r.processes
       left g r q is false = kept_none _ _ f.processes g.processes p r.processes
 
@@ -168,11 +177,28 @@ module _ (f : Frame) (pid : ℕ) (loses : Bool) where
 
   u_inode : loses ≡ false → (m : Frame) (o k : ℕ) (kind : Kind) → R m → free_inode m k ≡ Some o → Keeps R (put_object o (Some (new_object kind (Some k))))
   unfolding put_object Holds
-  u_inode all m o k kind r free = record { led = λ g s. record { processes = s.processes; objects = kept_put _ _ f.objects g.objects o _ (was_free m o all r (free_inode_is m k o free).free) refl s.objects; lasting = λ e. lasting_put f.objects g.objects o _ (s.lasting e) } }
+  u_inode all m o k kind r free =
+      record {
+        led = λ g s. record {
+          processes = s.processes;
+          objects =
+              kept_put _ _ f.objects g.objects o _ (was_free m o all r (free_inode_is m k o free).free) refl s.objects;
+          lasting =
+              λ e. lasting_put f.objects g.objects o _ (s.lasting e);
+        };
+      }
 
   u_pipe : loses ≡ false → (m : Frame) (o : ℕ) → R m → free_pipe m ≡ Some o → Keeps R (put_object o (Some (new_object kind.Pipe None)))
   unfolding put_object Holds
-  u_pipe all m o r free = record { led = λ g s. record { processes = s.processes; objects = kept_put _ _ f.objects g.objects o _ (was_free m o all r (free_pipe_is m o free).free) refl s.objects; lasting = λ e. lasting_put f.objects g.objects o _ (s.lasting e) } }
+  u_pipe all m o r free = record {
+    led = λ g s. record {
+      processes = s.processes;
+      objects =
+          kept_put _ _ f.objects g.objects o _ (was_free m o all r (free_pipe_is m o free).free) refl s.objects;
+      lasting =
+          λ e. lasting_put f.objects g.objects o _ (s.lasting e);
+    };
+  }
 
   ruleset words = (keeps_bind_frame, keeps_bind_some, keeping, keeping_tests, u_change_object, u_change_process, u_put_open, u_change_open, u_logged, u_no_object, u_no_process, u_end, u_inode, u_pipe)
 

@@ -66,9 +66,13 @@ step_frame w place pid (op.ReadFd fd count) = frame_read w count (behind w.frame
 step_frame w place pid (op.WriteFd fd bytes) = frame_write w bytes (behind w.frame pid fd) _ _
 step_frame w place pid (op.CutFd fd len) = frame_cut w len (behind w.frame pid fd) _ _
 step_frame w place pid (op.SeekFd fd offset) = frame_seek w offset (behind w.frame pid fd) _ _
-step_frame w place pid (op.StatAt path) = λ i. (world_stat w (verdict (told w pid (op.StatAt path)) place pid (op.StatAt path) w.frame).reply (verdict (told w pid (op.StatAt path)) place pid (op.StatAt path) w.frame).frame i).frame
+step_frame w place pid (op.StatAt path) =
+    λ i. (world_stat w (verdict (told w pid (op.StatAt path)) place pid (op.StatAt path) w.frame).reply
+    (verdict (told w pid (op.StatAt path)) place pid (op.StatAt path) w.frame).frame i).frame
 step_frame w place pid (op.Exit status) = frame_exit w pid status _ _
-step_frame w place pid op.WaitChild = λ i. (world_wait w (verdict (told w pid op.WaitChild) place pid op.WaitChild w.frame).reply (verdict (told w pid op.WaitChild) place pid op.WaitChild w.frame).frame i).frame
+step_frame w place pid op.WaitChild =
+    λ i. (world_wait w (verdict (told w pid op.WaitChild) place pid op.WaitChild w.frame).reply (verdict (told w pid op.WaitChild) place pid op.WaitChild
+    w.frame).frame i).frame
 step_frame w place pid (op.Pex fd) = frame_pex w (behind w.frame pid fd) _ _
 step_frame w place pid c = refl
 
@@ -79,13 +83,15 @@ settled_passed f (Refuse r g) Q h ends = cc
 settled_passed f (Pass a g) Q h ends = ends
 
 -- what is known of where a row passes is known of an answer
-pub passed : (t : LengthChecks) (place pid : ℕ) (c : Op) (f : Frame) (Q : Reply → Frame → Type 0) → Ends (row t place pid c f) Anything Q → is_answer (verdict t place pid c f).reply ≡ true → Q (verdict t place pid c f).reply (verdict t place pid c f).frame
+pub passed : (t : LengthChecks) (place pid : ℕ) (c : Op) (f : Frame) (Q : Reply → Frame → Type 0) → Ends (row t place pid c f) Anything Q
+    → is_answer (verdict t place pid c f).reply ≡ true → Q (verdict t place pid c f).reply (verdict t place pid c f).frame
 unfolding verdict
 passed t place pid c f Q ends h = go (lives f pid) h
   where
     unknown : Decision
     unknown = record { reply = reply.No refusal.NoProcess; frame = f }
 
-    go : (b : Bool) → is_answer (if b then settled f (row t place pid c f) else unknown).reply ≡ true → Q (if b then settled f (row t place pid c f) else unknown).reply (if b then settled f (row t place pid c f) else unknown).frame
+    go : (b : Bool) → is_answer (if b then settled f (row t place pid c f) else unknown).reply ≡ true → Q (if b then settled f (row t place pid c f) else
+        unknown).reply (if b then settled f (row t place pid c f) else unknown).frame
     go true h = settled_passed f (row t place pid c f) Q h ends
     go false h = cc

@@ -6,18 +6,22 @@ use Rattle.ix_model.specs.declared.refusal.Refusal.{Refusal}
 use Rattle.ix_model.specs.declared.refusal.Refusal.TheVariants as refusal
 use Rattle.ix_model.proofs.words.Ends.{Ends, ends_some}
 
-pub ends_put_object : (o : ℕ) (x : Option Object) (f : Frame) (P : Refusal → Frame → Type 0) (Q : Unit {0} → Frame → Type 0) → Q tt (record f { objects = put f.objects o x }) → Ends (put_object o x f) P Q
+pub ends_put_object : (o : ℕ) (x : Option Object) (f : Frame) (P : Refusal → Frame → Type 0) (Q : Unit {0} → Frame → Type 0)
+    → Q tt (record f { objects = put f.objects o x }) → Ends (put_object o x f) P Q
 unfolding put_object Ends
 ends_put_object o x f P Q h = h
 
-pub ends_put_process : (p : ℕ) (x : Option Process) (f : Frame) (P : Refusal → Frame → Type 0) (Q : Unit {0} → Frame → Type 0) → Q tt (record f { processes = put f.processes p x }) → Ends (put_process p x f) P Q
+pub ends_put_process : (p : ℕ) (x : Option Process) (f : Frame) (P : Refusal → Frame → Type 0) (Q : Unit {0} → Frame → Type 0)
+    → Q tt (record f { processes = put f.processes p x }) → Ends (put_process p x f) P Q
 unfolding put_process Ends
 ends_put_process p x f P Q h = h
 
-pub ends_add_process : (q : Process) (f : Frame) (P : Refusal → Frame → Type 0) (Q : Unit {0} → Frame → Type 0) → Q tt (record f { processes = f.processes ++ Some q ∷ [] }) → Ends (add_process q f) P Q
+pub ends_add_process : (q : Process) (f : Frame) (P : Refusal → Frame → Type 0) (Q : Unit {0} → Frame → Type 0)
+    → Q tt (record f { processes = f.processes ++ Some q ∷ [] }) → Ends (add_process q f) P Q
 unfolding add_process Ends
 ends_add_process q f P Q h = h
 
-pub ends_record_of : (p : ℕ) (f : Frame) (P : Refusal → Frame → Type 0) (Q : Process → Frame → Type 0) → ((q : Process) → at f.processes p ≡ Some q → Q q f) → P refusal.NoProcess f → Ends (record_of p f) P Q
+pub ends_record_of : (p : ℕ) (f : Frame) (P : Refusal → Frame → Type 0) (Q : Process → Frame → Type 0) → ((q : Process) → at f.processes p ≡ Some q → Q q f)
+    → P refusal.NoProcess f → Ends (record_of p f) P Q
 unfolding record_of
 ends_record_of p f P Q h k = ends_some _ _ _ _ _ h k

@@ -28,7 +28,8 @@ ends_more (Refuse r g) P Q R h k = h
 ends_more (Pass a g) P Q R h k = k a g h
 
 -- what a row keeps is known where it ends
-pub ends_kept : {A : Type 0} (R : Frame → Type 0) (o : Outcome A) (P : Refusal → Frame → Type 0) (Q : A → Frame → Type 0) → Holds o R → ((r : Refusal) (g : Frame) → R g → P r g) → ((a : A) (g : Frame) → R g → Q a g) → Ends o P Q
+pub ends_kept : {A : Type 0} (R : Frame → Type 0) (o : Outcome A) (P : Refusal → Frame → Type 0) (Q : A → Frame → Type 0) → Holds o R
+    → ((r : Refusal) (g : Frame) → R g → P r g) → ((a : A) (g : Frame) → R g → Q a g) → Ends o P Q
 unfolding Ends Holds
 ends_kept R (Refuse r g) P Q h k l = k r g h
 ends_kept R (Pass a g) P Q h k l = l a g h
@@ -70,12 +71,14 @@ unfolding Ends some refuse pass
 ends_some None r f P Q h k = k
 ends_some (Some a) r f P Q h k = h a refl
 
-pub ends_only_if : (b : Bool) (m : Row (Unit {0})) (f : Frame) (P : Refusal → Frame → Type 0) (Q : Unit {0} → Frame → Type 0) → (b ≡ true → Ends (m f) P Q) → (b ≡ false → Q tt f) → Ends (only_if b m f) P Q
+pub ends_only_if : (b : Bool) (m : Row (Unit {0})) (f : Frame) (P : Refusal → Frame → Type 0) (Q : Unit {0} → Frame → Type 0) → (b ≡ true → Ends (m f) P Q)
+    → (b ≡ false → Q tt f) → Ends (only_if b m f) P Q
 unfolding Ends only_if pass
 ends_only_if true m f P Q h k = h refl
 ends_only_if false m f P Q h k = k refl
 
-pub ends_caller : (pid : ℕ) (f : Frame) (P : Refusal → Frame → Type 0) (Q : Process → Frame → Type 0) → ((p : Process) → living (at f.processes pid) ≡ Some p → Q p f) → P refusal.NoProcess f → Ends (process pid f) P Q
+pub ends_caller : (pid : ℕ) (f : Frame) (P : Refusal → Frame → Type 0) (Q : Process → Frame → Type 0) → ((p : Process) → living (at f.processes pid) ≡ Some p
+    → Q p f) → P refusal.NoProcess f → Ends (process pid f) P Q
 unfolding process
 ends_caller pid f P Q h k = ends_some _ _ _ _ _ h k
 
@@ -83,15 +86,18 @@ pub ends_object : (o : ℕ) (f : Frame) (P : Refusal → Frame → Type 0) (Q : 
 unfolding object
 ends_object o f P Q h k = ends_some _ _ _ _ _ h k
 
-pub ends_change_object : (o : ℕ) (h : Object → Object) (f : Frame) (P : Refusal → Frame → Type 0) (Q : Unit {0} → Frame → Type 0) → Q tt (record f { objects = change f.objects o h }) → Ends (change_object o h f) P Q
+pub ends_change_object : (o : ℕ) (h : Object → Object) (f : Frame) (P : Refusal → Frame → Type 0) (Q : Unit {0} → Frame → Type 0)
+    → Q tt (record f { objects = change f.objects o h }) → Ends (change_object o h f) P Q
 unfolding Ends change_object
 ends_change_object o h f P Q k = k
 
-pub ends_change_caller : (pid : ℕ) (h : Process → Process) (f : Frame) (P : Refusal → Frame → Type 0) (Q : Unit {0} → Frame → Type 0) → Q tt (record f { processes = change f.processes pid h }) → Ends (change_process pid h f) P Q
+pub ends_change_caller : (pid : ℕ) (h : Process → Process) (f : Frame) (P : Refusal → Frame → Type 0) (Q : Unit {0} → Frame → Type 0)
+    → Q tt (record f { processes = change f.processes pid h }) → Ends (change_process pid h f) P Q
 unfolding Ends change_process
 ends_change_caller pid h f P Q k = k
 
-pub ends_change_open : (e : ℕ) (h : Open → Open) (f : Frame) (P : Refusal → Frame → Type 0) (Q : Unit {0} → Frame → Type 0) → Q tt (record f { opens = change f.opens e h }) → Ends (change_open e h f) P Q
+pub ends_change_open : (e : ℕ) (h : Open → Open) (f : Frame) (P : Refusal → Frame → Type 0) (Q : Unit {0} → Frame → Type 0)
+    → Q tt (record f { opens = change f.opens e h }) → Ends (change_open e h f) P Q
 unfolding Ends change_open
 ends_change_open e h f P Q k = k
 
@@ -99,16 +105,34 @@ pub ends_put_open : (e : ℕ) (x : Option Open) (f : Frame) (P : Refusal → Fra
 unfolding Ends put_open
 ends_put_open e x f P Q k = k
 
-pub ends_there : (w : Sought) (f : Frame) (P : Refusal → Frame → Type 0) (Q : ℕ → Frame → Type 0) → ((o : ℕ) (dir : Option ℕ) → w ≡ sought.Found o dir → Q o f) → P refusal.NotDir f → P refusal.NotFound f → Ends (found_object w f) P Q
+pub ends_there : (w : Sought) (f : Frame) (P : Refusal → Frame → Type 0) (Q : ℕ → Frame → Type 0) → ((o : ℕ) (dir : Option ℕ) → w ≡ sought.Found o dir → Q o f)
+    → P refusal.NotDir f → P refusal.NotFound f → Ends (found_object w f) P Q
 unfolding found_object Ends pass refuse
 ends_there sought.NotDir f P Q h d n = d
 ends_there sought.NotFound f P Q h d n = n
 ends_there (sought.Missing a) f P Q h d n = n
 ends_there (sought.Found o dir) f P Q h d n = h o dir refl
 
-pub ends_opened : (pid fd : ℕ) (f : Frame) (P : Refusal → Frame → Type 0) (Q : OpenFile → Frame → Type 0) → ((e : OpenFile) → behind f pid fd ≡ Some e → Q e f) → P refusal.BadFd f → Ends (opened pid fd f) P Q
+pub ends_opened : (pid fd : ℕ) (f : Frame) (P : Refusal → Frame → Type 0) (Q : OpenFile → Frame → Type 0) → ((e : OpenFile) → behind f pid fd ≡ Some e → Q e f)
+    → P refusal.BadFd f → Ends (opened pid fd f) P Q
 unfolding opened
 ends_opened pid fd f P Q h k = ends_bind _ _ f P Q (ends_frame f P _ (ends_some _ _ _ _ _ h k))
 
 -- one lemma for each word
-pub ruleset ending = (ends_bind, ends_then, ends_pass, ends_refuse, ends_frame, ends_need, ends_some, ends_only_if, ends_caller, ends_object, ends_change_object, ends_change_caller, ends_put_open, ends_there, ends_opened)
+pub ruleset ending = (
+  ends_bind,
+  ends_then,
+  ends_pass,
+  ends_refuse,
+  ends_frame,
+  ends_need,
+  ends_some,
+  ends_only_if,
+  ends_caller,
+  ends_object,
+  ends_change_object,
+  ends_change_caller,
+  ends_put_open,
+  ends_there,
+  ends_opened,
+)

@@ -95,7 +95,22 @@ unfolding record_of
 keeps_record_of R p = record { led = λ g. (keeps_some R (at g.processes p) _).led g }
 
 -- the words that change nothing, and those that join words: what every row is made of, whatever is kept
-pub ruleset keeping = (keeps_bind, keeps_then, keeps_pass, keeps_frame, keeps_refuse, keeps_need, keeps_some, keeps_only_if, keeps_there, keeps_spot, keeps_vacant, keeps_caller, keeps_object, keeps_record_of)
+pub ruleset keeping = (
+  keeps_bind,
+  keeps_then,
+  keeps_pass,
+  keeps_frame,
+  keeps_refuse,
+  keeps_need,
+  keeps_some,
+  keeps_only_if,
+  keeps_there,
+  keeps_spot,
+  keeps_vacant,
+  keeps_caller,
+  keeps_object,
+  keeps_record_of,
+)
 
 -- privileges are looked at, and nothing changes
 pub keeps_entitled : (R : Frame → Type 0) (pid : ℕ) (x : PrivSet) → Keeps R (entitled pid x)

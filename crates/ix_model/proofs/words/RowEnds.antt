@@ -23,7 +23,9 @@ use Rattle.ix_model.proofs.words.Endings.{ends_put_object, ends_put_process, end
 -- ---- tests
 -- a word that keeps whatever holds leaves the frame as it is
 ends_test : (m : Row (Unit {0})) (f : Frame) (P : Refusal → Frame → Type 0) (Q : Unit {0} → Frame → Type 0) → ((R : Frame → Type 0) → Keeps R m) → ((r : Refusal) → P r f) → Q tt f → Ends (m f) P Q
-ends_test m f P Q keeps h k = ends_kept (λ g. (r : Refusal) → (P r g) × (Q tt g)) (m f) P Q ((keeps (λ g. (r : Refusal) → (P r g) × (Q tt g))).led f (λ r. (h r, k))) (λ r g both. (both r).0) (λ u g both. (both refusal.NoProcess).1)
+ends_test m f P Q keeps h k =
+    ends_kept (λ g. (r : Refusal) → (P r g) × (Q tt g)) (m f) P Q ((keeps (λ g. (r : Refusal) → (P r g) × (Q tt g))).led f (λ r. (h r, k)))
+    (λ r g both. (both r).0) (λ u g both. (both refusal.NoProcess).1)
 
 pub ends_entitled : (pid : ℕ) (x : PrivSet) (f : Frame) (P : Refusal → Frame → Type 0) (Q : Unit {0} → Frame → Type 0) → ((r : Refusal) → P r f) → Q tt f → Ends (entitled pid x f) P Q
 ends_entitled pid x f P Q h k = ends_test (entitled pid x) f P Q (λ R. keeps_entitled R pid x) h k
@@ -40,14 +42,16 @@ ends_allowed pid was now f P Q h k = ends_test (allowed pid was now) f P Q (λ R
 pub ends_movable : (x : Object) (now : Categories) (f : Frame) (P : Refusal → Frame → Type 0) (Q : Unit {0} → Frame → Type 0) → ((r : Refusal) → P r f) → Q tt f → Ends (movable x now f) P Q
 ends_movable x now f P Q h k = ends_test (movable x now) f P Q (λ R. keeps_movable R x now) h k
 
-pub ends_spot : (w : Sought) (f : Frame) (P : Refusal → Frame → Type 0) (Q : Spot → Frame → Type 0) → ((o : ℕ) (dir : Option ℕ) → w ≡ sought.Found o dir → Q (record { object = o; dir = dir }) f) → P refusal.NotDir f → P refusal.NotFound f → Ends (found_spot w f) P Q
+pub ends_spot : (w : Sought) (f : Frame) (P : Refusal → Frame → Type 0) (Q : Spot → Frame → Type 0) → ((o : ℕ) (dir : Option ℕ) → w ≡ sought.Found o dir
+    → Q (record { object = o; dir = dir }) f) → P refusal.NotDir f → P refusal.NotFound f → Ends (found_spot w f) P Q
 unfolding found_spot Ends pass Rattle.ix_model.specs.rows.Rows.refuse
 ends_spot sought.NotDir f P Q h d n = d
 ends_spot sought.NotFound f P Q h d n = n
 ends_spot (sought.Missing a) f P Q h d n = n
 ends_spot (sought.Found o dir) f P Q h d n = h o dir refl
 
-pub ends_vacant : (w : Sought) (f : Frame) (P : Refusal → Frame → Type 0) (Q : ℕ → Frame → Type 0) → ((d : ℕ) → w ≡ sought.Missing d → Q d f) → P refusal.Exists f → P refusal.NotDir f → P refusal.NotFound f → Ends (vacant w f) P Q
+pub ends_vacant : (w : Sought) (f : Frame) (P : Refusal → Frame → Type 0) (Q : ℕ → Frame → Type 0) → ((d : ℕ) → w ≡ sought.Missing d → Q d f)
+    → P refusal.Exists f → P refusal.NotDir f → P refusal.NotFound f → Ends (vacant w f) P Q
 unfolding vacant Ends pass Rattle.ix_model.specs.rows.Rows.refuse
 ends_vacant sought.NotDir f P Q h e d n = d
 ends_vacant sought.NotFound f P Q h e d n = n
@@ -55,7 +59,8 @@ ends_vacant (sought.Missing a) f P Q h e d n = h a refl
 ends_vacant (sought.Found o dir) f P Q h e d n = e
 
 -- ---- changes
-pub ends_end_process : (pid : ℕ) (f : Frame) (P : Refusal → Frame → Type 0) (Q : Unit {0} → Frame → Type 0) → Q tt (record f { processes = put f.processes pid (option_and_then remains (at f.processes pid)) }) → Ends (end_process pid f) P Q
+pub ends_end_process : (pid : ℕ) (f : Frame) (P : Refusal → Frame → Type 0) (Q : Unit {0} → Frame → Type 0)
+    → Q tt (record f { processes = put f.processes pid (option_and_then remains (at f.processes pid)) }) → Ends (end_process pid f) P Q
 unfolding Ends end_process put_process
 ends_end_process pid f P Q k = k
 
@@ -64,7 +69,22 @@ unfolding Ends logged
 ends_logged l f P Q k = k
 
 -- one lemma for each of these words
-pub ruleset endings = (ending, ends_entitled, ends_log_has_room, ends_exercise, ends_allowed, ends_movable, ends_record_of, ends_spot, ends_vacant, ends_put_object, ends_put_process, ends_add_process, ends_end_process, ends_logged)
+pub ruleset endings = (
+  ending,
+  ends_entitled,
+  ends_log_has_room,
+  ends_exercise,
+  ends_allowed,
+  ends_movable,
+  ends_record_of,
+  ends_spot,
+  ends_vacant,
+  ends_put_object,
+  ends_put_process,
+  ends_add_process,
+  ends_end_process,
+  ends_logged,
+)
 
 -- ---- what lets go
 -- a word that refuses nothing, whatever frame it leaves

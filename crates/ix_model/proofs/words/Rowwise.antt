@@ -106,13 +106,16 @@ pub record Words (can : Change → Bool) (pid : ℕ) (R : Frame → Type 0) : Ty
 pub record Moves (can : Change → Bool) (pid : ℕ) (R : Frame → Type 0) : Type 0 where
   pub object : (o : ℕ) (h : Object → Object) → ((x : Object) → object_core (h x) ≡ object_core x) → Keeps R (change_object o h)
   pub process : (p : ℕ) (h : Process → Process) → ((q : Process) → process_core (h q) ≡ process_core q) → Keeps R (change_process p h)
-  pub observed : (h : Process → Process) → ((q : Process) → record (h q) { label = bottom } ≡ record q { label = bottom }) → ((q : Process) → leq q.label (h q).label ≡ true) → Keeps R (change_process pid h)
+  pub observed : (h : Process → Process) → ((q : Process) → record (h q) { label = bottom } ≡ record q { label = bottom })
+      → ((q : Process) → leq q.label (h q).label ≡ true) → Keeps R (change_process pid h)
   pub labelled_self : can Lowering ≡ true → (h : Process → Process) → ((q : Process) → record (h q) { label = bottom } ≡ record q { label = bottom }) → Keeps R (change_process pid h)
   pub entry : can Opening ≡ true → (f : Frame) (e : ℕ) (x : Open) → x.label ≡ bottom → R f → at f.opens e ≡ None → Keeps R (put_open e (Some x))
   pub through : can Moving ≡ true → (e : ℕ) (l : Categories) → Keeps R (change_open e (λ y. record y { label = join y.label l }))
   pub unclaim : (o end : ℕ) → Keeps R (change_object o (λ x. record x { claims = put x.claims end None }))
-  pub affected : can Relabelling ≡ true → (o : ℕ) (h : Object → Object) → ((x : Object) → record (h x) { label = bottom } ≡ record x { label = bottom }) → ((x : Object) → leq x.label (h x).label ≡ true) → Keeps R (change_object o h)
-  pub labelled : can Relabelling ≡ true → can Lowering ≡ true → (o : ℕ) (h : Object → Object) → ((x : Object) → record (h x) { label = bottom } ≡ record x { label = bottom }) → Keeps R (change_object o h)
+  pub affected : can Relabelling ≡ true → (o : ℕ) (h : Object → Object) → ((x : Object) → record (h x) { label = bottom } ≡ record x { label = bottom })
+      → ((x : Object) → leq x.label (h x).label ≡ true) → Keeps R (change_object o h)
+  pub labelled : can Relabelling ≡ true → can Lowering ≡ true → (o : ℕ) (h : Object → Object)
+      → ((x : Object) → record (h x) { label = bottom } ≡ record x { label = bottom }) → Keeps R (change_object o h)
   pub claim : can Claiming ≡ true → (o : ℕ) (h : Object → Object) → ((x : Object) → record (h x) { claims = no_claims } ≡ record x { claims = no_claims }) → Keeps R (change_object o h)
   pub log : can Logging ≡ true → (l : AuditLine) → Keeps R (logged l)
   pub inode : can Making ≡ true → (f : Frame) (o k : ℕ) (kind : Kind) → R f → free_inode f k ≡ Some o → Keeps R (put_object o (Some (new_object kind (Some k))))
@@ -172,7 +175,8 @@ module _ (can : Change → Bool) (pid : ℕ) (R : Frame → Type 0) (w : Moves c
   w_process : (p : ℕ) (h : Process → Process) → ((q : Process) → process_core (h q) ≡ process_core q) → Keeps R (change_process p h)
   w_process = w.process
 
-  w_observed : (h : Process → Process) → ((q : Process) → record (h q) { label = bottom } ≡ record q { label = bottom }) → ((q : Process) → leq q.label (h q).label ≡ true) → Keeps R (change_process pid h)
+  w_observed : (h : Process → Process) → ((q : Process) → record (h q) { label = bottom } ≡ record q { label = bottom })
+      → ((q : Process) → leq q.label (h q).label ≡ true) → Keeps R (change_process pid h)
   w_observed = w.observed
 
   w_labelled_self : can Lowering ≡ true → (h : Process → Process) → ((q : Process) → record (h q) { label = bottom } ≡ record q { label = bottom }) → Keeps R (change_process pid h)
@@ -181,7 +185,8 @@ module _ (can : Change → Bool) (pid : ℕ) (R : Frame → Type 0) (w : Moves c
   w_first : can Opening ≡ true → (f : Frame) (e : ℕ) (x : Open) → x.label ≡ bottom → R f → lowest_free f.opens ≡ Some e → Keeps R (put_open e (Some x))
   w_first opens f e x low is free = w.entry opens f e x low is (lowest_free_is f.opens e free).1
 
-  w_second : can Opening ≡ true → (f : Frame) (d e : ℕ) (x y : Open) → x.label ≡ bottom → R f → lowest_free f.opens ≡ Some d → lowest_free (put f.opens d (Some y)) ≡ Some e → Keeps R (put_open e (Some x))
+  w_second : can Opening ≡ true → (f : Frame) (d e : ℕ) (x y : Open) → x.label ≡ bottom → R f → lowest_free f.opens ≡ Some d
+      → lowest_free (put f.opens d (Some y)) ≡ Some e → Keeps R (put_open e (Some x))
   w_second opens f d e x y low is first second = w.entry opens f e x low is (free_second f.opens d e y first second)
 
   w_through : can Moving ≡ true → (e : ℕ) (l : Categories) → Keeps R (change_open e (λ y. record y { label = join y.label l }))
@@ -190,10 +195,12 @@ module _ (can : Change → Bool) (pid : ℕ) (R : Frame → Type 0) (w : Moves c
   w_unclaim : (o end : ℕ) → Keeps R (change_object o (λ x. record x { claims = put x.claims end None }))
   w_unclaim = w.unclaim
 
-  w_affected : can Relabelling ≡ true → (o : ℕ) (h : Object → Object) → ((x : Object) → record (h x) { label = bottom } ≡ record x { label = bottom }) → ((x : Object) → leq x.label (h x).label ≡ true) → Keeps R (change_object o h)
+  w_affected : can Relabelling ≡ true → (o : ℕ) (h : Object → Object) → ((x : Object) → record (h x) { label = bottom } ≡ record x { label = bottom })
+      → ((x : Object) → leq x.label (h x).label ≡ true) → Keeps R (change_object o h)
   w_affected = w.affected
 
-  w_labelled : can Relabelling ≡ true → can Lowering ≡ true → (o : ℕ) (h : Object → Object) → ((x : Object) → record (h x) { label = bottom } ≡ record x { label = bottom }) → Keeps R (change_object o h)
+  w_labelled : can Relabelling ≡ true → can Lowering ≡ true → (o : ℕ) (h : Object → Object)
+      → ((x : Object) → record (h x) { label = bottom } ≡ record x { label = bottom }) → Keeps R (change_object o h)
   w_labelled = w.labelled
 
   w_claim : can Claiming ≡ true → (o : ℕ) (h : Object → Object) → ((x : Object) → record (h x) { claims = no_claims } ≡ record x { claims = no_claims }) → Keeps R (change_object o h)
@@ -224,7 +231,32 @@ module _ (can : Change → Bool) (pid : ℕ) (R : Frame → Type 0) (w : Moves c
   w_gone_open = w.gone_open
 
   -- the tests, and the words that a row changes the frame by
-  ruleset wording = (keeps_bind_frame, keeps_bind_some, keeping, keeping_tests, w_object, w_process, w_observed, w_labelled_self, w_first, w_second, leq-join_left, w_through, w_unclaim, w_affected, w_labelled, w_claim, w_log, w_inode, w_pipe, w_fork, w_end, w_collect, w_gone_object, w_gone_open)
+  ruleset wording = (
+    keeps_bind_frame,
+    keeps_bind_some,
+    keeping,
+    keeping_tests,
+    w_object,
+    w_process,
+    w_observed,
+    w_labelled_self,
+    w_first,
+    w_second,
+    leq-join_left,
+    w_through,
+    w_unclaim,
+    w_affected,
+    w_labelled,
+    w_claim,
+    w_log,
+    w_inode,
+    w_pipe,
+    w_fork,
+    w_end,
+    w_collect,
+    w_gone_object,
+    w_gone_open,
+  )
 
   -- ---- parts of rows
   pub moved_observe : (seen : Categories) → Keeps R (observe pid seen)

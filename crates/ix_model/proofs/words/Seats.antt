@@ -14,7 +14,8 @@ use Rattle.ix_model.specs.history.Seats.{made_of, replied, made_by, GoesOn}
 
 -- ---- what was made
 -- the entry that comes last is answered by the world to which the others lead
-pub replied-push : (w : World) (place : ℕ) (events : List Event) (e : Event) → replied w place (events ++ e ∷ []) ≡ replied w place events ++ made_of e (step_of (run w place events) (length events + place) e) ∷ []
+pub replied-push : (w : World) (place : ℕ) (events : List Event) (e : Event) → replied w place (events ++ e ∷ []) ≡ replied w place events
+    ++ made_of e (step_of (run w place events) (length events + place) e) ∷ []
 replied-push w place [] e = let z : place ≡ 0 + place = omega arith in ap (λ n. made_of e (step_of w n e) ∷ []) z
 replied-push w place (x ∷ events) e =
     let z : length events + suc place ≡ suc (length events) + place = omega arith in

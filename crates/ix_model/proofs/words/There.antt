@@ -1,5 +1,6 @@
 -- What `found` finds in a sound world is there.
-use Rattle.std.proofs.Common.{◌≡◌, ◌<◌, ◌+◌, ◌==◌, ℕ, Bool, true, false, not, List, [], ◌∷◌, count_by, find, cond, Option, Some, None, is_some, option_map, unwrap_or, if◌then◌else◌, refl, sym, ap, ◌∙◌, subst, arith}
+use Rattle.std.proofs.Common.{◌≡◌, ◌<◌, ◌+◌, ◌==◌, ℕ, Bool, true, false, not, List, [], ◌∷◌, count_by, find, cond, Option, Some, None, is_some}
+use Rattle.std.proofs.Common.{option_map, unwrap_or, if◌then◌else◌, refl, sym, ap, ◌∙◌, subst, arith}
 use Rattle.std.specs.Option.{option_map_or}
 use Rattle.std.proofs.lemmas.Bool.{eq-eqb}
 use Rattle.std.proofs.lemmas.List.Sums.{sum_by-cons}
@@ -22,7 +23,8 @@ pub child_named : (es : List (List ℕ × ℕ)) (name : List ℕ) (o : ℕ) → 
 child_named [] name o h = cc
 child_named (e ∷ es) name o h = go (same_bytes e.0 name) h (child_named es name o)
   where
-    go : (b : Bool) → option_map (λ x. x.1) (if b then Some e else find (λ x. same_bytes x.0 name) es) ≡ Some o → (option_map (λ x. x.1) (find (λ x. same_bytes x.0 name) es) ≡ Some o → 0 < count_by (λ n. n.1 == o) es) → 0 < count_by (λ n. n.1 == o) (e ∷ es)
+    go : (b : Bool) → option_map (λ x. x.1) (if b then Some e else find (λ x. same_bytes x.0 name) es) ≡ Some o
+        → (option_map (λ x. x.1) (find (λ x. same_bytes x.0 name) es) ≡ Some o → 0 < count_by (λ n. n.1 == o) es) → 0 < count_by (λ n. n.1 == o) (e ∷ es)
     go true k next =
         let same : e.1 ≡ o = cc in
         let one : cond {A = ℕ} (e.1 == o) 1 0 ≡ 1 = ap (λ b. cond {A = ℕ} b 1 0) (eq-eqb e.1 o same) in
@@ -50,7 +52,8 @@ module _ (f : Frame) (s : NamesSound f) where
           let same : child x name ≡ Some o = ap (λ y. child (unwrap_or y sought.nothing) name) (sym is) ∙ h in
           no_pipe_there _ (s.living n o x is (child_named x.names name o same))
 
-  pub walk_there : (names : List (List ℕ)) (n : ℕ) (before : Option ℕ) (o : ℕ) (dir : Option ℕ) → is_some (at f.objects n) ≡ true → (walk_from f.objects n before names).outcome ≡ sought.Found o dir → is_some (at f.objects o) ≡ true
+  pub walk_there : (names : List (List ℕ)) (n : ℕ) (before : Option ℕ) (o : ℕ) (dir : Option ℕ) → is_some (at f.objects n) ≡ true
+      → (walk_from f.objects n before names).outcome ≡ sought.Found o dir → is_some (at f.objects o) ≡ true
   walk_there [] n before o dir there h = let same : n ≡ o = cc in ap (λ m. is_some (at f.objects m)) (sym same) ∙ there
   walk_there (name ∷ names) n before o dir there h =
       branch (is_dir (node f.objects n)) (child (node f.objects n) name) refl h (λ m k. walk_there names m (Some n) o dir k)
@@ -62,7 +65,10 @@ module _ (f : Frame) (s : NamesSound f) where
       blocked : sought.Walk
       blocked = record { outcome = sought.NotDir; looked = [] }
 
-      branch : (b : Bool) (c : Option ℕ) → child (node f.objects n) name ≡ c → (if b then looking_into (node f.objects n) (option_map_or (λ m. walk_from f.objects m (Some n) names) c (lacking n names)) else blocked).outcome ≡ sought.Found o dir → ((m : ℕ) → is_some (at f.objects m) ≡ true → (walk_from f.objects m (Some n) names).outcome ≡ sought.Found o dir → is_some (at f.objects o) ≡ true) → is_some (at f.objects o) ≡ true
+      branch : (b : Bool) (c : Option ℕ) → child (node f.objects n) name ≡ c
+          → (if b then looking_into (node f.objects n) (option_map_or (λ m. walk_from f.objects m (Some n) names) c (lacking n names)) else blocked).outcome
+          ≡ sought.Found o dir → ((m : ℕ) → is_some (at f.objects m) ≡ true → (walk_from f.objects m (Some n) names).outcome ≡ sought.Found o dir
+          → is_some (at f.objects o) ≡ true) → is_some (at f.objects o) ≡ true
       branch false c is k next = cc
       branch true None is k next = lacks names k
       branch true (Some m) is k next = next m (child_there n m name there is) k

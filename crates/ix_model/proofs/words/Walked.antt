@@ -48,22 +48,30 @@ module _ (f : Frame) where
   walk_leads : (name : List ℕ) (names : List (List ℕ)) (n : ℕ) (before : Option ℕ) → Leads f (last_name (name ∷ names)) (walk_from f.objects n before (name ∷ names)).outcome
   walk_leads name [] n before = go (is_dir (node f.objects n)) refl (child (node f.objects n) name) refl
     where
-      go : (b : Bool) → is_dir (node f.objects n) ≡ b → (c : Option ℕ) → child (node f.objects n) name ≡ c → Leads f name (if b then looking_into (node f.objects n) (option_map_or (λ o. walk_from f.objects o (Some n) []) c (lacking n [])) else record { outcome = sought.NotDir; looked = [] }).outcome
+      go : (b : Bool) → is_dir (node f.objects n) ≡ b → (c : Option ℕ) → child (node f.objects n) name ≡ c
+          → Leads f name (if b then looking_into (node f.objects n) (option_map_or (λ o. walk_from f.objects o (Some n) []) c (lacking n [])) else
+          record { outcome = sought.NotDir; looked = [] }).outcome
       go false other c is = tt
       go true dir None is = node_is f n name None dir is
       go true dir (Some m) is = node_is f n name (Some m) dir is
-  walk_leads name (next ∷ names) n before = subst (λ (l : List ℕ). Leads f l (walk_from f.objects n before (name ∷ next ∷ names)).outcome) (sym (last_later name next names)) (go (is_dir (node f.objects n)) (child (node f.objects n) name) (λ m. walk_leads next names m (Some n)))
+  walk_leads name (next ∷ names) n before = subst (λ (l : List ℕ). Leads f l (walk_from f.objects n before (name ∷ next ∷ names)).outcome)
+      (sym (last_later name next names)) (go (is_dir (node f.objects n)) (child (node f.objects n) name) (λ m. walk_leads next names m (Some n)))
     where
-      go : (b : Bool) (c : Option ℕ) → ((m : ℕ) → Leads f (last_name (next ∷ names)) (walk_from f.objects m (Some n) (next ∷ names)).outcome) → Leads f (last_name (next ∷ names)) (if b then looking_into (node f.objects n) (option_map_or (λ o. walk_from f.objects o (Some n) (next ∷ names)) c (lacking n (next ∷ names))) else record { outcome = sought.NotDir; looked = [] }).outcome
+      go : (b : Bool) (c : Option ℕ) → ((m : ℕ) → Leads f (last_name (next ∷ names)) (walk_from f.objects m (Some n) (next ∷ names)).outcome)
+          → Leads f (last_name (next ∷ names)) (if b then
+          looking_into (node f.objects n) (option_map_or (λ o. walk_from f.objects o (Some n) (next ∷ names)) c (lacking n (next ∷ names))) else
+          record { outcome = sought.NotDir; looked = [] }).outcome
       go false c on = tt
       go true None on = tt
       go true (Some m) on = on m
 
-  start_dir : (p : Process) (absolute : Bool) → option_map_or is_dir (at f.objects 0) false ≡ true → option_map_or is_dir (at f.objects p.cwd) false ≡ true → option_map_or is_dir (at f.objects (if absolute then 0 else p.cwd)) false ≡ true
+  start_dir : (p : Process) (absolute : Bool) → option_map_or is_dir (at f.objects 0) false ≡ true → option_map_or is_dir (at f.objects p.cwd) false ≡ true
+      → option_map_or is_dir (at f.objects (if absolute then 0 else p.cwd)) false ≡ true
   start_dir p true root home = root
   start_dir p false root home = home
 
-  pub walks : (p : Process) (path : PathOf) → option_map_or is_dir (at f.objects 0) false ≡ true → option_map_or is_dir (at f.objects p.cwd) false ≡ true → Leads f (last_name path.names) (walk f.objects p path).outcome
+  pub walks : (p : Process) (path : PathOf) → option_map_or is_dir (at f.objects 0) false ≡ true → option_map_or is_dir (at f.objects p.cwd) false ≡ true
+      → Leads f (last_name path.names) (walk f.objects p path).outcome
   walks p path root home = go path.names
     where
       go : (names : List (List ℕ)) → Leads f (last_name names) (walk_from f.objects (if path.absolute then 0 else p.cwd) None names).outcome
@@ -97,10 +105,13 @@ leads_back f g r name sought.NotDir h = h
 
 module _ {A : Type 0} (f g : Frame) (m : Row A) (follow : Keeps (Follows f) m) (float : Keeps (Floats f) m) where
   pub ends_along : (P : Refusal → Frame → Type 0) (Q : A → Frame → Type 0) → Along f g → ((r : Refusal) (h : Frame) → Follows f h → P r h) → ((a : A) (h : Frame) → Along f h → Q a h) → Ends (m g) P Q
-  ends_along P Q s refused passed = ends_kept (λ h. Follows f h × Floats f h) (m g) P Q (holds_both _ _ _ (follow.led g s.follows) (float.led g s.floats)) (λ r h k. refused r h k.0) (λ a h k. passed a h (record { follows = k.0; floats = k.1 }))
+  ends_along P Q s refused passed = ends_kept (λ h. Follows f h × Floats f h) (m g) P Q (holds_both _ _ _ (follow.led g s.follows) (float.led g s.floats))
+      (λ r h k. refused r h k.0) (λ a h k. passed a h (record { follows = k.0; floats = k.1 }))
 
 -- what a walk tells holds of the frame from which it began
-pub leads_walked_to : (f g : Frame) (pid : ℕ) (path : PathOf) (P : Refusal → Frame → Type 0) (Q : Sought → Frame → Type 0) → Along f g → ((r : Refusal) (h : Frame) → Follows f h → P r h) → ((w : Sought) (h : Frame) → Along f h → Leads f (last_name path.names) w → Q w h) → Ends (walked_to pid path g) P Q
+pub leads_walked_to : (f g : Frame) (pid : ℕ) (path : PathOf) (P : Refusal → Frame → Type 0) (Q : Sought → Frame → Type 0) → Along f g
+    → ((r : Refusal) (h : Frame) → Follows f h → P r h) → ((w : Sought) (h : Frame) → Along f h → Leads f (last_name path.names) w → Q w h)
+    → Ends (walked_to pid path g) P Q
 unfolding walked_to
 leads_walked_to f g pid path P Q s refused passed =
     let t = s.follows.sound in
@@ -112,18 +123,24 @@ leads_walked_to f g pid path P Q s refused passed =
 
 -- ---- what was found
 -- what a walk told, and where it led
-pub leads_vacant : (f : Frame) (name : List ℕ) (w : Sought) (h : Frame) (P : Refusal → Frame → Type 0) (Q : ℕ → Frame → Type 0) → Leads f name w → ((d : ℕ) → Within f d name None → Q d h) → ((r : Refusal) → P r h) → Ends (vacant w h) P Q
+pub leads_vacant : (f : Frame) (name : List ℕ) (w : Sought) (h : Frame) (P : Refusal → Frame → Type 0) (Q : ℕ → Frame → Type 0) → Leads f name w
+    → ((d : ℕ) → Within f d name None → Q d h) → ((r : Refusal) → P r h) → Ends (vacant w h) P Q
 leads_vacant f name w h P Q leads next k = ends_vacant w h P Q (λ d is. next d (subst (λ (v : Sought). Leads f name v) is leads)) (k _) (k _) (k _)
 
-pub leads_there : (f : Frame) (name : List ℕ) (w : Sought) (h : Frame) (P : Refusal → Frame → Type 0) (Q : ℕ → Frame → Type 0) → Leads f name w → ((o : ℕ) (dir : Option ℕ) → Leads f name (sought.Found o dir) → Q o h) → ((r : Refusal) → P r h) → Ends (found_object w h) P Q
+pub leads_there : (f : Frame) (name : List ℕ) (w : Sought) (h : Frame) (P : Refusal → Frame → Type 0) (Q : ℕ → Frame → Type 0) → Leads f name w
+    → ((o : ℕ) (dir : Option ℕ) → Leads f name (sought.Found o dir) → Q o h) → ((r : Refusal) → P r h) → Ends (found_object w h) P Q
 leads_there f name w h P Q leads next k = ends_there w h P Q (λ o dir is. next o dir (subst (λ (v : Sought). Leads f name v) is leads)) (k _) (k _)
 
-pub leads_missing : (f : Frame) (pid : ℕ) (path : PathOf) (P : Refusal → Frame → Type 0) (Q : ℕ → Frame → Type 0) → Follows f f → ((r : Refusal) (h : Frame) → Follows f h → P r h) → ((d : ℕ) (h : Frame) → Along f h → Within f d (last_name path.names) None → Q d h) → Ends (missing pid path f) P Q
+pub leads_missing : (f : Frame) (pid : ℕ) (path : PathOf) (P : Refusal → Frame → Type 0) (Q : ℕ → Frame → Type 0) → Follows f f
+    → ((r : Refusal) (h : Frame) → Follows f h → P r h) → ((d : ℕ) (h : Frame) → Along f h → Within f d (last_name path.names) None → Q d h)
+    → Ends (missing pid path f) P Q
 unfolding missing
 leads_missing f pid path P Q s refused passed = ends_bind _ _ f P Q (leads_walked_to f f pid path P _ (along_itself f s) refused (λ w h k leads.
     leads_vacant f (last_name path.names) w h P Q leads (λ d within. passed d h k within) (λ r. refused r h k.follows)))
 
-pub leads_found_in : (f : Frame) (pid : ℕ) (path : PathOf) (P : Refusal → Frame → Type 0) (Q : Spot → Frame → Type 0) → Follows f f → ((r : Refusal) (h : Frame) → Follows f h → P r h) → ((o : ℕ) (dir : Option ℕ) (h : Frame) → Along f h → Leads f (last_name path.names) (sought.Found o dir) → Q (record { object = o; dir = dir }) h) → Ends (spot_at pid path f) P Q
+pub leads_found_in : (f : Frame) (pid : ℕ) (path : PathOf) (P : Refusal → Frame → Type 0) (Q : Spot → Frame → Type 0) → Follows f f
+    → ((r : Refusal) (h : Frame) → Follows f h → P r h) → ((o : ℕ) (dir : Option ℕ) (h : Frame) → Along f h
+    → Leads f (last_name path.names) (sought.Found o dir) → Q (record { object = o; dir = dir }) h) → Ends (spot_at pid path f) P Q
 unfolding spot_at
 leads_found_in f pid path P Q s refused passed = ends_bind _ _ f P Q (leads_walked_to f f pid path P _ (along_itself f s) refused (λ w h k leads.
     ends_spot w h P Q (λ o dir is. passed o dir h k (subst (λ (v : Sought). Leads f (last_name path.names) v) is leads)) (refused _ h k.follows) (refused _ h k.follows)))

@@ -31,7 +31,8 @@ pub record NotThrough (w : World) (place pid fd : ℕ) (m : Mode) (x : Object) :
 
 -- nobody but the claimant gets through a claimed end
 abbrev pub OnlyClaimantsGetThrough : Type 0
-OnlyClaimantsGetThrough = (w : World) (place pid fd : ℕ) (e : OpenFile) (x : Object) → behind w.frame pid fd ≡ Some e → at w.frame.objects e.entry.object ≡ Some x → claimed_by_another x e.entry.end pid ≡ true → NotThrough w place pid fd e.entry.mode x
+OnlyClaimantsGetThrough = (w : World) (place pid fd : ℕ) (e : OpenFile) (x : Object) → behind w.frame pid fd ≡ Some e
+    → at w.frame.objects e.entry.object ≡ Some x → claimed_by_another x e.entry.end pid ≡ true → NotThrough w place pid fd e.entry.mode x
 
 -- ---- whole paths
 -- whether a path is whole before each entry of a history, and after the last
@@ -63,4 +64,8 @@ pub record IsInside (part whole : List ℕ) : Type 0 where
 -- Where a call made a path whole, and it has been whole since, all that is read from it was written by a claimant since.
 -- The number of the pipe may have been another pipe's before.
 abbrev pub ClaimantsReadWhatClaimantsWrote : Type 0
-ClaimantsReadWhatClaimantsWrote = (w : World) (place pid : ℕ) (c : Op) (h : List Event) (o : ℕ) → Sound w → is_whole w.frame o ≡ false → stays_whole (step w place pid c).world (suc place) h o ≡ true → (n reader fd count : ℕ) (e : OpenFile) → behind (run (step w place pid c).world (suc place) h).frame reader fd ≡ Some e → e.entry.object ≡ o → IsInside (step (run (step w place pid c).world (suc place) h) n reader (op.ReadFd fd count)).bytes (written_by_claimants (step w place pid c).world (suc place) h o e.entry.end)
+ClaimantsReadWhatClaimantsWrote = (w : World) (place pid : ℕ) (c : Op) (h : List Event) (o : ℕ) → Sound w → is_whole w.frame o ≡ false
+    → stays_whole (step w place pid c).world (suc place) h o ≡ true → (n reader fd count : ℕ) (e : OpenFile)
+    → behind (run (step w place pid c).world (suc place) h).frame reader fd ≡ Some e → e.entry.object ≡ o
+    → IsInside (step (run (step w place pid c).world (suc place) h) n reader (op.ReadFd fd count)).bytes
+    (written_by_claimants (step w place pid c).world (suc place) h o e.entry.end)

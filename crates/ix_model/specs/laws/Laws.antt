@@ -95,8 +95,10 @@ PidsAreNeverUsedAgain = (w : World) (place : ℕ) (h : List Event) → PidsSpent
 -- ---- whole paths
 -- a call that makes a path whole leaves it empty
 abbrev pub WholePathsBeginEmpty : Type 0
-WholePathsBeginEmpty = (w : World) (place pid : ℕ) (c : Op) (o : ℕ) → is_whole w.frame o ≡ false → is_whole (step w place pid c).world.frame o ≡ true → holding_of (step w place pid c).world.content o ≡ holds_nothing
+WholePathsBeginEmpty = (w : World) (place pid : ℕ) (c : Op) (o : ℕ) → is_whole w.frame o ≡ false → is_whole (step w place pid c).world.frame o ≡ true
+    → holding_of (step w place pid c).world.content o ≡ holds_nothing
 
 -- what a pipe that was empty holds after a history was written in it: the last bytes that were written to that end
 abbrev pub PipesHoldWhatWasWritten : Type 0
-PipesHoldWhatWasWritten = (w : World) (place : ℕ) (h : List Event) (o end : ℕ) → Sound w → first_pipe w.frame.fss ≤ o → end ≤ 1 → holding_of w.content o ≡ holds_nothing → IsEndOf (side end (holding_of (run w place h).content o)) (written_to w place h o end)
+PipesHoldWhatWasWritten = (w : World) (place : ℕ) (h : List Event) (o end : ℕ) → Sound w → first_pipe w.frame.fss ≤ o → end ≤ 1
+    → holding_of w.content o ≡ holds_nothing → IsEndOf (side end (holding_of (run w place h).content o)) (written_to w place h o end)

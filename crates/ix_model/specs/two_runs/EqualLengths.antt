@@ -34,7 +34,8 @@ pub data ReplacedInLength : Op → Op → Type 0 where
 -- two entries agree where they are equal, or where a process that isn't at or below L has bytes or a status replaced
 pub data AgreeInLengthAt (l : Categories) (f : Frame) : Event → Event → Type 0 where
   Same : {e : Event} → AgreeInLengthAt l f e e
-  Other : {seat line pid : ℕ} {a b : Op} → IsHigh l f pid → ReplacedInLength a b → AgreeInLengthAt l f (record { seat = seat; line = line; pid = pid; op = a }) (record { seat = seat; line = line; pid = pid; op = b })
+  Other : {seat line pid : ℕ} {a b : Op} → IsHigh l f pid → ReplacedInLength a b
+      → AgreeInLengthAt l f (record { seat = seat; line = line; pid = pid; op = a }) (record { seat = seat; line = line; pid = pid; op = b })
 
 -- two histories agree at L in length where they have one length and agree at each place; the worlds are those of the first run
 abbrev pub AgreeInLength : Categories → World → ℕ → List Event → List Event → Type 0

@@ -42,7 +42,8 @@ unfolding config_of
 journal_is s = refl
 
 -- one seat is left
-module _ (s : List Line) (kernel : GateState) (lanes : List Seated) (seat : KSeatState) (joined : (t : List Line) (history : List Event) → AllSee t kernel history lanes → Joined t kernel history (length lanes) seat)
+module _ (s : List Line) (kernel : GateState) (lanes : List Seated) (seat : KSeatState) (joined : (t : List Line) (history : List Event)
+    → AllSee t kernel history lanes → Joined t kernel history (length lanes) seat)
     (filled : AllFilled lanes) (seats : kernel.seats ≡ length (lanes_of s)) where
   stand_for_all : (stop : Option Answer) (ran : Runs s kernel (phases s) lanes stop) → Ended s (see_one s kernel (phases s) lanes stop ran).0 stop → StandsForAll s kernel seat stop
   stand_for_all stop ran ended =
@@ -76,7 +77,8 @@ module _ (s : List Line) (kernel : GateState) (lanes : List Seated) (seat : KSea
   one_is_left (Some stop) st = stand_for_all (Some stop) st (full_there st)
 
 -- ---- the core
-module _ (s : List Line) (kernel : GateState) (seat : KSeatState) (config : Config) (events : List Event) (base : seat.base ≡ Some config) (seen : events ≡ seat.seen) (entries : All (λ (e : Event). StandsFor seat e.seat) events) where
+module _ (s : List Line) (kernel : GateState) (seat : KSeatState) (config : Config) (events : List Event) (base : seat.base ≡ Some config) (seen : events
+    ≡ seat.seen) (entries : All (λ (e : Event). StandsFor seat e.seat) events) where
   pub config_same : (stop : Option Answer) → StandsForAll s kernel seat stop → config ≡ config_of s
   config_same stop h = let a : Some config ≡ Some (config_of s) = sym base ∙ h.joined.base in cc
 

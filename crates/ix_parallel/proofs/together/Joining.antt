@@ -1,5 +1,6 @@
 -- What one seat stands for, once those of all lanes were joined into it.
-use Rattle.std.proofs.Common.{◌≡◌, ℕ, zero, suc, ◌<◌, ◌⊎◌, ⊎_elim, nat_le, nat_lt, Bool, true, false, cond, List, [], ◌∷◌, ◌++◌, length, take, drop, Some, refl, sym, ap, ◌∙◌, subst, arith, inl, inr, append-nil, append_assoc, length-append, slice_get}
+use Rattle.std.proofs.Common.{◌≡◌, ℕ, zero, suc, ◌<◌, ◌⊎◌, ⊎_elim, nat_le, nat_lt, Bool, true, false, cond, List, [], ◌∷◌, ◌++◌, length, take, drop}
+use Rattle.std.proofs.Common.{Some, refl, sym, ap, ◌∙◌, subst, arith, inl, inr, append-nil, append_assoc, length-append, slice_get}
 use Rattle.std.specs.Prelude.{All, Contains}
 use Rattle.std.specs.List.{list_all}
 use Rattle.std.proofs.lemmas.Bool.{and_from, cases_eq, lt-ltb}
@@ -45,7 +46,8 @@ module _ (s : List Line) (kernel : GateState) (history : List Event) where
     seen = h.seen;
     all = λ n low. let zero_only : n ≡ 0 = omega (arith, low) in inl (zero_only ∙ sym h.number);
     only = λ n stands. ⊎_elim (λ (is : n ≡ seat.number). let z = h.number in omega (arith, is, z))
-        (λ (x : (es : List Event) × Contains seat.ended (n, es)). let c = subst (λ (l : List (ℕ × List Event)). Contains l (n, x.0)) h.ended x.1 in absurd (let low = c.1 in omega (arith, low))) stands;
+        (λ (x : (es : List Event) × Contains seat.ended (n, es)). let c = subst (λ (l : List (ℕ × List Event)). Contains l (n, x.0)) h.ended x.1 in
+        absurd (let low = c.1 in omega (arith, low))) stands;
   }
 
   -- one seat more
@@ -79,7 +81,8 @@ module _ (s : List Line) (kernel : GateState) (history : List Event) where
       ]
 
 -- ---- one lane after the other
-pub joined_begin : (kernel : GateState) (lanes rest : List Seated) (lane : Seated) → lanes ≡ lane ∷ rest → (0 < lane.sys.stops → FilledUp lane.sys.used lane.sys.cap lane.sys.seat) → JoinedSoFar kernel lanes rest lane.sys.seat
+pub joined_begin : (kernel : GateState) (lanes rest : List Seated) (lane : Seated) → lanes ≡ lane ∷ rest
+    → (0 < lane.sys.stops → FilledUp lane.sys.used lane.sys.cap lane.sys.seat) → JoinedSoFar kernel lanes rest lane.sys.seat
 joined_begin kernel lanes rest lane is last = record {
   done = lane ∷ [];
   parts = is;
@@ -92,20 +95,25 @@ joined_begin kernel lanes rest lane is last = record {
     only_one (suc n) x here = cc
 
 -- the next lane, which is left
-next_lane : (kernel : GateState) (lanes left rest : List Seated) (seat : KSeatState) (lane : Seated) (h : JoinedSoFar kernel lanes left seat) → left ≡ lane ∷ rest → slice_get lanes (length h.done) ≡ Some lane
+next_lane : (kernel : GateState) (lanes left rest : List Seated) (seat : KSeatState) (lane : Seated) (h : JoinedSoFar kernel lanes left seat)
+    → left ≡ lane ∷ rest → slice_get lanes (length h.done) ≡ Some lane
 next_lane kernel lanes left rest seat lane h is = ap (λ l. slice_get l (length h.done)) (h.parts ∙ ap (λ l. h.done ++ l) is) ∙ behind h.done lane rest
 
-pub joined_gates : (s : List Line) (kernel : GateState) (history : List Event) (lanes left rest : List Seated) (seat : KSeatState) (lane : Seated) → AllSee s kernel history lanes → JoinedSoFar kernel lanes left seat → left ≡ lane ∷ rest
+pub joined_gates : (s : List Line) (kernel : GateState) (history : List Event) (lanes left rest : List Seated) (seat : KSeatState) (lane : Seated)
+    → AllSee s kernel history lanes → JoinedSoFar kernel lanes left seat → left ≡ lane ∷ rest
     → (seat.gate ≡ kernel.id) × (lane.sys.seat.gate ≡ kernel.id)
 joined_gates s kernel history lanes left rest seat lane see h is = ((h.joined s history see).gate, (see (length h.done) lane (next_lane kernel lanes left rest seat lane h is)).1.gate)
 
-pub joined_step : (kernel : GateState) (lanes left rest : List Seated) (seat other after : KSeatState) (lane : Seated) (found : ℕ) → JoinedSoFar kernel lanes left seat → left ≡ lane ∷ rest → other ≡ lane.sys.seat
-    → (0 < lane.sys.stops → FilledUp lane.sys.used lane.sys.cap lane.sys.seat) → after ≡ after_meeting seat other.seen (seat.ended ++ (other.number, own other) ∷ other.ended) found → JoinedSoFar kernel lanes rest after
+pub joined_step : (kernel : GateState) (lanes left rest : List Seated) (seat other after : KSeatState) (lane : Seated) (found : ℕ)
+    → JoinedSoFar kernel lanes left seat → left ≡ lane ∷ rest → other ≡ lane.sys.seat
+    → (0 < lane.sys.stops → FilledUp lane.sys.used lane.sys.cap lane.sys.seat)
+    → after ≡ after_meeting seat other.seen (seat.ended ++ (other.number, own other) ∷ other.ended) found → JoinedSoFar kernel lanes rest after
 joined_step kernel lanes left rest seat other after lane found h is same last met = record {
   done = h.done ++ lane ∷ [];
   parts = h.parts ∙ ap (λ l. h.done ++ l) is ∙ sym (append_assoc h.done (lane ∷ []) rest);
   joined = λ s history see.
-      let sees : Sees s kernel history (length h.done) other = subst (Sees s kernel history (length h.done)) (sym same) (see (length h.done) lane (next_lane kernel lanes left rest seat lane h is)).1 in
+      let sees : Sees s kernel history (length h.done) other =
+      subst (Sees s kernel history (length h.done)) (sym same) (see (length h.done) lane (next_lane kernel lanes left rest seat lane h is)).1 in
       let more : suc (length h.done) ≡ length (h.done ++ lane ∷ []) = omega (arith, length-append h.done (lane ∷ [])) in
       subst (λ n. Joined s kernel history n after) more (joined_next s kernel history (length h.done) found seat other after (h.joined s history see) sees met);
   filled = λ n x here. ⊎_elim (λ (old : slice_get h.done n ≡ Some x). h.filled n x old)
@@ -119,7 +127,8 @@ joined_end kernel lanes seat h =
     (λ s history see. subst (λ l. Joined s kernel history (length l) seat) all (h.joined s history see), subst AllFilled all h.filled)
 
 -- all entries are of the seats
-pub all_of_seats : (count : ℕ) (seat : KSeatState) (events : List Event) → ((n : ℕ) → StandsFor seat n → n < count) → All (λ (e : Event). StandsFor seat e.seat) events → list_all (λ e. nat_lt e.seat count) events ≡ true
+pub all_of_seats : (count : ℕ) (seat : KSeatState) (events : List Event) → ((n : ℕ) → StandsFor seat n → n < count)
+    → All (λ (e : Event). StandsFor seat e.seat) events → list_all (λ e. nat_lt e.seat count) events ≡ true
 all_of_seats count seat [] only h = refl
 all_of_seats count seat (e ∷ events) only h =
     and_from (nat_lt e.seat count) (list_all (λ x. nat_lt x.seat count) events) (lt-ltb e.seat count (only e.seat (h 0 e (omega arith))))

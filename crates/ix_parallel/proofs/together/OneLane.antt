@@ -37,7 +37,8 @@ comes_as_made s k history n made next is h =
     let entries : events_of made ≡ entries_of n history = ap events_of is ∙ made_entries s n history in
     ap (calls_before s n k) (sym replies) ∙ h ∙ (λ i. record { entries = entries i; next = next })
 
-module _ (s : List Line) (kernel : GateState) (k n : ℕ) (before history : List Event) (old new after : Seated) (stood : Stands s kernel k before n old) (learns : Learns new after) (seen : after.sys.seat.seen ≡ history) where
+module _ (s : List Line) (kernel : GateState) (k n : ℕ) (before history : List Event) (old new after : Seated) (stood : Stands s kernel k before n old)
+    (learns : Learns new after) (seen : after.sys.seat.seen ≡ history) where
   goes : (stop : Option Answer) → RunsSeated old new stop → SeatGoesOn old.sys.seat after.sys.seat
   goes stop r = seat_goes_on_further old.sys.seat new.sys.seat after.sys.seat r.follows.1 learns.goes
 
@@ -81,7 +82,8 @@ module _ (s : List Line) (kernel : GateState) (k n : ℕ) (before history : List
       (λ i. calls_before (sym stood.script i) (sym stood.lane i) (suc (sym stood.done i)) (answers_of (made_at new.sys.seat))) ∙ cut.1 in
       let rose = r.stop.0 in
       let same : after.sys.stops ≡ new.sys.stops = ap (λ (x : SystemState). x.stops) learns.system in
-      let last : answer.JournalFull after.sys.used after.sys.need after.sys.cap ≡ answer.JournalFull new.sys.used new.sys.need new.sys.cap = ap (λ (x : SystemState). answer.JournalFull x.used x.need x.cap) learns.system in (
+      let last : answer.JournalFull after.sys.used after.sys.need after.sys.cap ≡ answer.JournalFull new.sys.used new.sys.need new.sys.cap =
+      ap (λ (x : SystemState). answer.JournalFull x.used x.need x.cap) learns.system in (
         cut.0,
         comes_as_made s (suc k) history n (made_at new.sys.seat) (Some cut.0) (made_is (Some stop) r) calls,
         omega (arith, rose, same),

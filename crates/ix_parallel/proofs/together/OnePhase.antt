@@ -32,7 +32,8 @@ module _ {T : Type 0} (R : T → T → Option Answer → Type 0) where
   same_length (old ∷ olds) (new ∷ news) [] h = absurd h
   same_length (old ∷ olds) (new ∷ news) (a ∷ stops) h = let later = same_length olds news stops h.1 in (ap suc later.0, ap suc later.1)
 
-  pub at_place : (olds news : List T) (stops : List (Option Answer)) (n : ℕ) (old new : T) (stop : Option Answer) → EachRuns R olds news stops → slice_get olds n ≡ Some old → slice_get news n ≡ Some new
+  pub at_place : (olds news : List T) (stops : List (Option Answer)) (n : ℕ) (old new : T) (stop : Option Answer) → EachRuns R olds news stops
+      → slice_get olds n ≡ Some old → slice_get news n ≡ Some new
       → slice_get stops n ≡ Some stop → R old new stop
   at_place [] [] [] n old new stop h a b c = cc
   at_place [] [] (x ∷ stops) n old new stop h a b c = absurd h
@@ -60,7 +61,8 @@ one_stopped (None ∷ stops) stop h = let later = one_stopped stops stop h in (s
 one_stopped (Some a ∷ stops) stop h = (0, ap Some h)
 
 -- ---- before
-pub lanes_ready : (s : List Line) (kernel : GateState) (k : ℕ) (lanes : List Seated) → AtPhase s kernel k lanes → k < phases s → All (IsReady (λ (x : SystemState). x.seat.number) (λ (x : SystemState). made_at x.seat) k) lanes
+pub lanes_ready : (s : List Line) (kernel : GateState) (k : ℕ) (lanes : List Seated) → AtPhase s kernel k lanes → k < phases s
+    → All (IsReady (λ (x : SystemState). x.seat.number) (λ (x : SystemState). made_at x.seat) k) lanes
 lanes_ready s kernel k lanes at low = λ n lane within.
     let stands = at.each n (get_or lanes n lane) (slice_get-get_or lanes n lane within) in
     record {

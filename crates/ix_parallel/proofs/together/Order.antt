@@ -92,7 +92,8 @@ sorted_then s k (e ∷ f ∷ events) h =
     let next = h.1.0 in
     and_from (nat_le (phase_of s e.line) (phase_of s f.line)) (phases_never_fall s (f ∷ events)) (le-leb _ _ (omega (arith, low, next))) (sorted_then s k (f ∷ events) h.1)
 
-sorted_append : (s : List Line) (k : ℕ) (xs ys : List Event) → EachLine (λ n. phase_of s n < k) xs → phases_never_fall s xs ≡ true → EachLine (λ n. phase_of s n ≡ k) ys → phases_never_fall s (xs ++ ys) ≡ true
+sorted_append : (s : List Line) (k : ℕ) (xs ys : List Event) → EachLine (λ n. phase_of s n < k) xs → phases_never_fall s xs ≡ true
+    → EachLine (λ n. phase_of s n ≡ k) ys → phases_never_fall s (xs ++ ys) ≡ true
 sorted_append s k [] ys low sorted same = sorted_then s k ys same
 sorted_append s k (x ∷ []) [] low sorted same = refl
 sorted_append s k (x ∷ []) (y ∷ ys) low sorted same =
@@ -103,7 +104,8 @@ sorted_append s k (x ∷ z ∷ xs) ys low sorted same =
     let parts = and_parts (nat_le (phase_of s x.line) (phase_of s z.line)) (phases_never_fall s (z ∷ xs)) sorted in
     and_from (nat_le (phase_of s x.line) (phase_of s z.line)) (phases_never_fall s (z ∷ (xs ++ ys))) parts.0 (sorted_append s k (z ∷ xs) ys low.1 parts.1 same)
 
-pub stages_in_order : (s : List Line) (k : ℕ) (events : List Event) → Stages s k events → Within (length (lanes_of s)) events → EachLine (λ n. phase_of s n < k) events × (phases_never_fall s events ≡ true)
+pub stages_in_order : (s : List Line) (k : ℕ) (events : List Event) → Stages s k events → Within (length (lanes_of s)) events
+    → EachLine (λ n. phase_of s n < k) events × (phases_never_fall s events ≡ true)
 stages_in_order s zero events h within = subst (λ es. EachLine (λ n. phase_of s n < 0) es × (phases_never_fall s es ≡ true)) (sym h) (tt, refl)
 stages_in_order s (suc k) events h within =
     let before : List Event = h.0 in

@@ -93,4 +93,5 @@ by_lines s [] h = refl
 by_lines s (e ∷ []) h = refl
 by_lines s (e ∷ f ∷ events) h =
     let parts = and_parts (nat_le e.line f.line) (never_falls (f ∷ events)) h in
-    and_from (nat_le (phase_of s e.line) (phase_of s f.line)) (phases_never_fall s (f ∷ events)) (le-leb _ _ (phase_further s e.line f.line (leb-true e.line f.line parts.0))) (by_lines s (f ∷ events) parts.1)
+    and_from (nat_le (phase_of s e.line) (phase_of s f.line)) (phases_never_fall s (f ∷ events))
+    (le-leb _ _ (phase_further s e.line f.line (leb-true e.line f.line parts.0))) (by_lines s (f ∷ events) parts.1)

@@ -37,7 +37,8 @@ none_seated s kernel seats left lanes is none = record {
 }
 
 -- the next seat
-pub next_is_new : (s : List Line) (kernel : GateState) (seats left : List KSeatState) (number : ℕ) (lanes : List Seated) (seat : KSeatState) (rest : List KSeatState) → AreNew kernel (config_of s) (length (lanes_of s)) seats
+pub next_is_new : (s : List Line) (kernel : GateState) (seats left : List KSeatState) (number : ℕ) (lanes : List Seated) (seat : KSeatState)
+    (rest : List KSeatState) → AreNew kernel (config_of s) (length (lanes_of s)) seats
     → SeatedSoFar s kernel seats left number lanes → left ≡ seat ∷ rest → (number < length (lanes_of s)) × (seat ≡ new_seat kernel.id (length (lanes_of s)) (Some (config_of s)) number)
 next_is_new s kernel seats left number lanes seat rest new h is =
     let front = left_begins seats number seat rest (sym h.rest ∙ is) in
@@ -48,7 +49,8 @@ next_is_new s kernel seats left number lanes seat rest new h is =
     (low, cc)
 
 -- a lane more
-pub seated_next : (s : List Line) (kernel : GateState) (seats left : List KSeatState) (number : ℕ) (lanes after : List Seated) (seat : KSeatState) (rest : List KSeatState) (run : Ran) → AreNew kernel (config_of s) (length (lanes_of s)) seats
+pub seated_next : (s : List Line) (kernel : GateState) (seats left : List KSeatState) (number : ℕ) (lanes after : List Seated) (seat : KSeatState)
+    (rest : List KSeatState) (run : Ran) → AreNew kernel (config_of s) (length (lanes_of s)) seats
     → SeatedSoFar s kernel seats left number lanes → left ≡ seat ∷ rest → run ≡ record { script = s; lane = number; done = 0; between = true; names = no_names } → runs.StandsFor run []
     → after ≡ lanes ++ (record { run = run; sys = record { kernel = kernel; seat = seat; stops = 0; used = 0; need = 0; cap = 0 } }) ∷ [] → SeatedSoFar s kernel seats rest (number + 1) after
 seated_next s kernel seats left number lanes after seat rest run new h is ran stands more =

@@ -47,7 +47,8 @@ closing_is r =
     let objects = texts_all (object_text r.form (last_world r).frame.objects) (length (last_world r).frame.objects) in
     let processes = texts_all (process_text r.form (last_world r).frame.processes) (length (last_world r).frame.processes) in
     (λ i. codes "objects\n" ++ ((objects i ++ codes "processes\n") ++ (processes i ++ (codes "log\n" ++ log_left r 0))))
-    ∙ ap (λ t. codes "objects\n" ++ ((texts_from (object_text r.form (last_world r).frame.objects) 0 (length (last_world r).frame.objects) ++ codes "processes\n") ++ (texts_from (process_text r.form (last_world r).frame.processes) 0 (length (last_world r).frame.processes) ++ t)))
+    ∙ ap (λ t. codes "objects\n" ++ ((texts_from (object_text r.form (last_world r).frame.objects) 0 (length (last_world r).frame.objects)
+    ++ codes "processes\n") ++ (texts_from (process_text r.form (last_world r).frame.processes) 0 (length (last_world r).frame.processes) ++ t)))
     (sym (append_assoc (codes "log\n") (flat_map (audit_line r.form) (last_world r).frame.log) (tail_line (length r.history.now.events) (length (last_world r).frame.log))))
     ∙ all_join (codes "objects\n") (texts_from (object_text r.form (last_world r).frame.objects) 0 (length (last_world r).frame.objects)) (codes "processes\n")
     (texts_from (process_text r.form (last_world r).frame.processes) 0 (length (last_world r).frame.processes)) (codes "log\n") (flat_map (audit_line r.form) (last_world r).frame.log)
@@ -95,7 +96,8 @@ module _ (r : Closing) (before after : List ℕ) where
     text = rw (e, is, texts_next (object_text r.form (last_world r).frame.objects) n (length (last_world r).frame.objects) within)
         (append_assoc before (object_text r.form (last_world r).frame.objects n)
         ((texts_from (object_text r.form (last_world r).frame.objects) (n + 1) (length (last_world r).frame.objects - (n + 1)) ++ codes "processes\n") ++ processes_left r 0)
-        ∙ ap (λ t. before ++ t) (texts_join (object_text r.form (last_world r).frame.objects n) (texts_from (object_text r.form (last_world r).frame.objects) (n + 1) (length (last_world r).frame.objects - (n + 1)))
+        ∙ ap (λ t. before ++ t) (texts_join (object_text r.form (last_world r).frame.objects n) (texts_from (object_text r.form (last_world r).frame.objects)
+        (n + 1) (length (last_world r).frame.objects - (n + 1)))
         (codes "processes\n") (processes_left r 0)));
     piece = (object_text r.form (last_world r).frame.objects n, e, object_piece r.form (last_world r).frame.objects n);
     fewer = rw is (omega (arith, within));

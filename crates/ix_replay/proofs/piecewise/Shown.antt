@@ -73,6 +73,7 @@ entries_push form lanes place w (x ∷ events) e =
 
 -- the lines of a history with one entry more
 pub history_entries : (form : Form) (lanes : List (List ℕ)) (h : History) (e : Event)
-    → entries_text form lanes 1 (opening_world h.config) (h.events ++ e ∷ []) ≡ entries_text form lanes 1 (opening_world h.config) h.events ++ entry_text form lanes (length h.events + 1) (world_of h) e
+    → entries_text form lanes 1 (opening_world h.config) (h.events ++ e ∷ []) ≡ entries_text form lanes 1 (opening_world h.config) h.events
+    ++ entry_text form lanes (length h.events + 1) (world_of h) e
 unfolding world_of
 history_entries form lanes h e = entries_push form lanes 1 (opening_world h.config) h.events e

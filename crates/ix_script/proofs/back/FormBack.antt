@@ -28,7 +28,10 @@ use Rattle.ix_script.specs.declared.cutting.form.Form.TheVariants as form
 use Rattle.ix_script.proofs.reader.Told.{neither}
 use Rattle.ix_script.proofs.back.OneSpelling.{name_spelled, label_spelled, privs_spelled, made_path_spelled, state_spelled, fd_spelled}
 use Rattle.ix_script.proofs.lines.FirstWords.{form_word}
-use Rattle.ix_script.proofs.lines.FormWords.{words_from, exactly, same, no_tail, of_3, of_6, limit_again, fs_again, proc_again, dir_again, lane_again, open_again, dup_again, pipe_again, link_again, list_again, copy_again, setlabel_again, setpriv_again, fork_again, exit_again, setself_again, droplic_again, grant_again, ceiling_again, readlog_again, login_again, phase_again, plain_again, on_path_again, on_fd_again, counted_again}
+use Rattle.ix_script.proofs.lines.FormWords.{words_from, exactly, same, no_tail, of_3, of_6, limit_again, fs_again, proc_again, dir_again, lane_again}
+use Rattle.ix_script.proofs.lines.FormWords.{open_again, dup_again, pipe_again, link_again, list_again, copy_again, setlabel_again, setpriv_again}
+use Rattle.ix_script.proofs.lines.FormWords.{fork_again, exit_again, setself_again, droplic_again, grant_again, ceiling_again, readlog_again}
+use Rattle.ix_script.proofs.lines.FormWords.{login_again, phase_again, plain_again, on_path_again, on_fd_again, counted_again}
 use Rattle.ix_script.proofs.texts.Cuts.{words_joined}
 use Rattle.ix_script.proofs.lines.Faultless.{text_parts, payload_alike}
 use Rattle.ix_script.proofs.back.LineBack.{Respelled, Formed, right_count, front_of, write_several, file_several, fitting, last_printable, file_begins, write_begins, payload_back}
@@ -47,10 +50,13 @@ printable_word before text front p sound cut =
 write_said : (labels : spelled.Form) (w x f p q : List ℕ) → payload_within 4096 p ≡ payload_within 4096 q → said labels form.Write (w ∷ x ∷ f ∷ p ∷ []) ≡ said labels form.Write (w ∷ x ∷ f ∷ q ∷ [])
 write_said labels w x f p q h = rw h refl
 
-write_fits : (before : List Line) (w x f p q : List ℕ) → payload_of p ≡ payload_of q → said (form_told before) form.Write (w ∷ x ∷ f ∷ p ∷ []) ≡ said (form_told before) form.Write (w ∷ x ∷ f ∷ q ∷ []) → form_fault before form.Write (w ∷ x ∷ f ∷ p ∷ []) ≡ form_fault before form.Write (w ∷ x ∷ f ∷ q ∷ [])
+write_fits : (before : List Line) (w x f p q : List ℕ) → payload_of p ≡ payload_of q → said (form_told before) form.Write (w ∷ x ∷ f ∷ p ∷ [])
+    ≡ said (form_told before) form.Write (w ∷ x ∷ f ∷ q ∷ []) → form_fault before form.Write (w ∷ x ∷ f ∷ p ∷ []) ≡ form_fault before form.Write (w ∷ x ∷ f ∷ q
+    ∷ [])
 unfolding form_fault stand_fault names_fault
 write_fits before w x f p q read tells =
-    let alike : places_fault (places (form_told before) form.Write (w ∷ x ∷ f ∷ p ∷ [])) ≡ places_fault (places (form_told before) form.Write (w ∷ x ∷ f ∷ q ∷ [])) = payload_alike ((kind.Proc, x) ∷ (kind.Fd, f) ∷ []) 4096 p q read in
+    let alike : places_fault (places (form_told before) form.Write (w ∷ x ∷ f ∷ p ∷ []))
+    ≡ places_fault (places (form_told before) form.Write (w ∷ x ∷ f ∷ q ∷ [])) = payload_alike ((kind.Proc, x) ∷ (kind.Fd, f) ∷ []) 4096 p q read in
     let stand = stand_fault before form.Write (w ∷ x ∷ f ∷ q ∷ []) in
     let names = names_fault before form.Write (w ∷ x ∷ f ∷ q ∷ []) in
     ap (λ o. option_or stand (option_or o (option_or names (option_map_or (said_fault before) (said (form_told before) form.Write (w ∷ x ∷ f ∷ p ∷ [])) None)))) alike
@@ -75,13 +81,18 @@ write_back before text l k =
     }
 
 -- ---- `file`
-file_said : (labels : spelled.Form) (w a b c d e p q : List ℕ) → payload_within 1048576 p ≡ payload_within 1048576 q → said labels form.File (w ∷ a ∷ b ∷ c ∷ d ∷ e ∷ p ∷ []) ≡ said labels form.File (w ∷ a ∷ b ∷ c ∷ d ∷ e ∷ q ∷ [])
+file_said : (labels : spelled.Form) (w a b c d e p q : List ℕ) → payload_within 1048576 p ≡ payload_within 1048576 q
+    → said labels form.File (w ∷ a ∷ b ∷ c ∷ d ∷ e ∷ p ∷ []) ≡ said labels form.File (w ∷ a ∷ b ∷ c ∷ d ∷ e ∷ q ∷ [])
 file_said labels w a b c d e p q h = rw h refl
 
-file_fits : (before : List Line) (w a b c d e p q : List ℕ) → payload_of p ≡ payload_of q → said (form_told before) form.File (w ∷ a ∷ b ∷ c ∷ d ∷ e ∷ p ∷ []) ≡ said (form_told before) form.File (w ∷ a ∷ b ∷ c ∷ d ∷ e ∷ q ∷ []) → form_fault before form.File (w ∷ a ∷ b ∷ c ∷ d ∷ e ∷ p ∷ []) ≡ form_fault before form.File (w ∷ a ∷ b ∷ c ∷ d ∷ e ∷ q ∷ [])
+file_fits : (before : List Line) (w a b c d e p q : List ℕ) → payload_of p ≡ payload_of q → said (form_told before) form.File (w ∷ a ∷ b ∷ c ∷ d ∷ e ∷ p ∷ [])
+    ≡ said (form_told before) form.File (w ∷ a ∷ b ∷ c ∷ d ∷ e ∷ q ∷ []) → form_fault before form.File (w ∷ a ∷ b ∷ c ∷ d ∷ e ∷ p ∷ [])
+    ≡ form_fault before form.File (w ∷ a ∷ b ∷ c ∷ d ∷ e ∷ q ∷ [])
 unfolding form_fault stand_fault names_fault
 file_fits before w a b c d e p q read tells =
-    let alike : places_fault (places (form_told before) form.File (w ∷ a ∷ b ∷ c ∷ d ∷ e ∷ p ∷ [])) ≡ places_fault (places (form_told before) form.File (w ∷ a ∷ b ∷ c ∷ d ∷ e ∷ q ∷ [])) = payload_alike ((kind.MadePath, a) ∷ (kind.Label (form_told before), b) ∷ (kind.State, c) ∷ (kind.Privs, d) ∷ (kind.Privs, e) ∷ []) 1048576 p q read in
+    let alike : places_fault (places (form_told before) form.File (w ∷ a ∷ b ∷ c ∷ d ∷ e ∷ p ∷ []))
+    ≡ places_fault (places (form_told before) form.File (w ∷ a ∷ b ∷ c ∷ d ∷ e ∷ q ∷ [])) =
+    payload_alike ((kind.MadePath, a) ∷ (kind.Label (form_told before), b) ∷ (kind.State, c) ∷ (kind.Privs, d) ∷ (kind.Privs, e) ∷ []) 1048576 p q read in
     let stand = stand_fault before form.File (w ∷ a ∷ b ∷ c ∷ d ∷ e ∷ q ∷ []) in
     let names = names_fault before form.File (w ∷ a ∷ b ∷ c ∷ d ∷ e ∷ q ∷ []) in
     ap (λ o. option_or stand (option_or o (option_or names (option_map_or (said_fault before) (said (form_told before) form.File (w ∷ a ∷ b ∷ c ∷ d ∷ e ∷ p ∷ [])) None)))) alike
@@ -103,11 +114,15 @@ file_back before text l k =
       respelled = ap may_be_respelled (sym m.12);
       back = payload_back before text form.File l 1048576 (codes "file") (a ∷ b ∷ c ∷ d ∷ e ∷ []) p m.5 file_begins k s
           (sym cut ∙ ap (λ w. w ∷ a ∷ b ∷ c ∷ d ∷ e ∷ p ∷ []) (sym k.first)) (file_fits before (codes "file") a b c d e p (payload_text m.5) s.alike tells) tells
-          (ap (line_words (form_told before)) (sym m.12) ∙ same refl (same (made_path_spelled a m.0 m.6) (same (label_spelled (form_told before) b m.1 m.7) (same (state_spelled c m.2 m.8) (same (privs_spelled d m.3 m.9) (same (privs_spelled e m.4 m.10) refl))))));
+          (ap (line_words (form_told before)) (sym m.12)
+          ∙ same refl (same (made_path_spelled a m.0 m.6) (same (label_spelled (form_told before) b m.1 m.7)
+          (same (state_spelled c m.2 m.8) (same (privs_spelled d m.3 m.9) (same (privs_spelled e m.4 m.10) refl))))));
     }
 
 -- ---- each form
-again : (before : List Line) (text : List ℕ) (f : Form) (l : Line) → Formed before text f l → ((words : List (List ℕ)) (l : Line) → form_word f ≡ word_at words 0 → has_right_count f words ≡ true → said (form_told before) f words ≡ Some l → line_words (form_told before) l ≡ words) → (line_text (form_told before) l ≡ text) ⊎ Respelled before text l
+again : (before : List Line) (text : List ℕ) (f : Form) (l : Line) → Formed before text f l
+    → ((words : List (List ℕ)) (l : Line) → form_word f ≡ word_at words 0 → has_right_count f words ≡ true → said (form_told before) f words ≡ Some l
+    → line_words (form_told before) l ≡ words) → (line_text (form_told before) l ≡ text) ⊎ Respelled before text l
 again before text f l k words_are = inl (ap (joined 32) (words_are (words_of text) l k.first (right_count before f (words_of text) k.fits) k.tells) ∙ words_joined text)
 
 -- the text of a line of a form is the one that was read, but where the line has a payload

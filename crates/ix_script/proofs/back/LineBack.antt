@@ -72,7 +72,8 @@ itself before text again l e means sound = record {
 pub right_count : (before : List Line) (f : Form) (words : List (List ℕ)) → form_fault before f words ≡ None → has_right_count f words ≡ true
 unfolding form_fault stand_fault
 right_count before f words h =
-    let stand = (neither (stand_fault before f words) (option_or (places_fault (places (form_told before) f words)) (option_or (names_fault before f words) (option_map_or (said_fault before) (said (form_told before) f words) None))) h).0 in
+    let stand = (neither (stand_fault before f words) (option_or (places_fault (places (form_told before) f words))
+    (option_or (names_fault before f words) (option_map_or (said_fault before) (said (form_told before) f words) None))) h).0 in
     let late = one_kept 8 (is_late before f) ((9, is_outside before f) ∷ (10, not (has_right_count f words)) ∷ []) stand in
     let outside = one_kept 9 (is_outside before f) ((10, not (has_right_count f words)) ∷ []) late.1 in
     let count = one_kept 10 (not (has_right_count f words)) [] outside.1 in
@@ -135,28 +136,37 @@ fitting most p bytes few printable h =
 pub last_printable : (front : List (List ℕ)) (p : List ℕ) → list_all (is_within 32 126) (joined 32 (front ++ p ∷ [])) ≡ true → list_all (is_within 32 126) p ≡ true
 last_printable [] p h = (both_true (list_all (is_within 32 126) p) true (sym (list_all-append (is_within 32 126) p []) ∙ h)).0
 last_printable (word ∷ front) p h =
-    let parts = both_true (list_all (is_within 32 126) word) (list_all (is_within 32 126) (further 32 (front ++ p ∷ []))) (sym (list_all-append (is_within 32 126) word (further 32 (front ++ p ∷ []))) ∙ h) in
+    let parts = both_true (list_all (is_within 32 126) word) (list_all (is_within 32 126) (further 32 (front ++ p ∷ [])))
+    (sym (list_all-append (is_within 32 126) word (further 32 (front ++ p ∷ []))) ∙ h) in
     further_printable front p parts.1
   where
     further_printable : (front : List (List ℕ)) (p : List ℕ) → list_all (is_within 32 126) (further 32 (front ++ p ∷ [])) ≡ true → list_all (is_within 32 126) p ≡ true
     further_printable [] p h = (both_true (list_all (is_within 32 126) p) true (sym (list_all-append (is_within 32 126) p []) ∙ h)).0
     further_printable (word ∷ front) p h =
-        let parts = both_true (list_all (is_within 32 126) word) (list_all (is_within 32 126) (further 32 (front ++ p ∷ []))) (sym (list_all-append (is_within 32 126) word (further 32 (front ++ p ∷ []))) ∙ h) in
+        let parts = both_true (list_all (is_within 32 126) word) (list_all (is_within 32 126) (further 32 (front ++ p ∷ [])))
+        (sym (list_all-append (is_within 32 126) word (further 32 (front ++ p ∷ []))) ∙ h) in
         further_printable front p parts.1
 
 -- another last word, no longer and printable
-further_other : (front : List (List ℕ)) (p q : List ℕ) → length q ≤ length p → list_all (is_within 32 126) q ≡ true → list_all (is_within 32 126) (further 32 (front ++ p ∷ [])) ≡ true → (length (further 32 (front ++ q ∷ [])) ≤ length (further 32 (front ++ p ∷ []))) × (list_all (is_within 32 126) (further 32 (front ++ q ∷ [])) ≡ true)
+further_other : (front : List (List ℕ)) (p q : List ℕ) → length q ≤ length p → list_all (is_within 32 126) q ≡ true
+    → list_all (is_within 32 126) (further 32 (front ++ p ∷ [])) ≡ true → (length (further 32 (front ++ q ∷ [])) ≤ length (further 32 (front ++ p ∷ [])))
+    × (list_all (is_within 32 126) (further 32 (front ++ q ∷ [])) ≡ true)
 further_other [] p q short fine h = (omega (arith, length-append q [], length-append p []), list_all-append (is_within 32 126) q [] ∙ join_tests _ _ fine refl)
 further_other (word ∷ front) p q short fine h =
-    let parts = both_true (list_all (is_within 32 126) word) (list_all (is_within 32 126) (further 32 (front ++ p ∷ []))) (sym (list_all-append (is_within 32 126) word (further 32 (front ++ p ∷ []))) ∙ h) in
+    let parts = both_true (list_all (is_within 32 126) word) (list_all (is_within 32 126) (further 32 (front ++ p ∷ [])))
+    (sym (list_all-append (is_within 32 126) word (further 32 (front ++ p ∷ []))) ∙ h) in
     let k = further_other front p q short fine parts.1 in (
       omega (arith, k.0, length-append word (further 32 (front ++ q ∷ [])), length-append word (further 32 (front ++ p ∷ []))),
       list_all-append (is_within 32 126) word (further 32 (front ++ q ∷ [])) ∙ join_tests _ _ parts.0 k.1,
     )
 
-joined_other : (first : List ℕ) (front : List (List ℕ)) (p q : List ℕ) → length q ≤ length p → list_all (is_within 32 126) q ≡ true → list_all (is_within 32 126) (joined 32 (first ∷ (front ++ p ∷ []))) ≡ true → (length (joined 32 (first ∷ (front ++ q ∷ []))) ≤ length (joined 32 (first ∷ (front ++ p ∷ [])))) × (list_all (is_within 32 126) (joined 32 (first ∷ (front ++ q ∷ []))) ≡ true)
+joined_other : (first : List ℕ) (front : List (List ℕ)) (p q : List ℕ) → length q ≤ length p → list_all (is_within 32 126) q ≡ true
+    → list_all (is_within 32 126) (joined 32 (first ∷ (front ++ p ∷ []))) ≡ true
+    → (length (joined 32 (first ∷ (front ++ q ∷ []))) ≤ length (joined 32 (first ∷ (front ++ p ∷ []))))
+    × (list_all (is_within 32 126) (joined 32 (first ∷ (front ++ q ∷ []))) ≡ true)
 joined_other first front p q short fine h =
-    let parts = both_true (list_all (is_within 32 126) first) (list_all (is_within 32 126) (further 32 (front ++ p ∷ []))) (sym (list_all-append (is_within 32 126) first (further 32 (front ++ p ∷ []))) ∙ h) in
+    let parts = both_true (list_all (is_within 32 126) first) (list_all (is_within 32 126) (further 32 (front ++ p ∷ [])))
+    (sym (list_all-append (is_within 32 126) first (further 32 (front ++ p ∷ []))) ∙ h) in
     let k = further_other front p q short fine parts.1 in (
       omega (arith, k.0, length-append first (further 32 (front ++ q ∷ [])), length-append first (further 32 (front ++ p ∷ []))),
       list_all-append (is_within 32 126) first (further 32 (front ++ q ∷ [])) ∙ join_tests _ _ parts.0 k.1,
@@ -179,12 +189,15 @@ pub write_begins : Begins (codes "write") form.Write
 unfolding form_of frame_form group_form plain_of on_path_of on_fd_of counted_of file_form is_policy_line version_of
 write_begins = record { form = refl; some = λ rest. refl; not_skipped = λ rest. refl; not_version = λ rest. refl; not_policy = λ rest. refl }
 
-means_by_words : (labels : spelled.Form) (first : List ℕ) (rest : List (List ℕ)) (f : Form) → Begins first f → words_of (joined 32 (first ∷ rest)) ≡ first ∷ rest → line_of labels (joined 32 (first ∷ rest)) ≡ said labels f (first ∷ rest)
+means_by_words : (labels : spelled.Form) (first : List ℕ) (rest : List (List ℕ)) (f : Form) → Begins first f → words_of (joined 32 (first ∷ rest)) ≡ first
+    ∷ rest → line_of labels (joined 32 (first ∷ rest)) ≡ said labels f (first ∷ rest)
 unfolding line_of
 means_by_words labels first rest f k cut =
     rw (k.not_skipped rest, k.not_version rest, k.not_policy rest, cut) (ap (λ o. o >>= λ g. said labels g (first ∷ rest)) k.form)
 
-sound_by_words : (before : List Line) (first : List ℕ) (rest : List (List ℕ)) (f : Form) → Begins first f → words_of (joined 32 (first ∷ rest)) ≡ first ∷ rest → is_empty before ≡ false → text_fault (joined 32 (first ∷ rest)) ≡ None → words_fault (first ∷ rest) ≡ None → form_fault before f (first ∷ rest) ≡ None → line_fault before (joined 32 (first ∷ rest)) ≡ None
+sound_by_words : (before : List Line) (first : List ℕ) (rest : List (List ℕ)) (f : Form) → Begins first f → words_of (joined 32 (first ∷ rest)) ≡ first ∷ rest
+    → is_empty before ≡ false → text_fault (joined 32 (first ∷ rest)) ≡ None → words_fault (first ∷ rest) ≡ None → form_fault before f (first ∷ rest) ≡ None
+    → line_fault before (joined 32 (first ∷ rest)) ≡ None
 unfolding line_fault body_fault command_fault
 sound_by_words before first rest f k cut later fine whole fits =
     neither_from _ _ fine (rw (later, k.not_skipped rest, k.not_policy rest, cut)

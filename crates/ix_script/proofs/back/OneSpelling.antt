@@ -1,5 +1,6 @@
 -- A word that is read has one spelling: that of what was read.
-use Rattle.std.proofs.Common.{◌≡◌, ℕ, ◌+◌, ◌^◌, ◌<◌, ◌≤◌, Bool, true, false, not, ◌&&◌, ◌||◌, ◌==◌, nat_le, cond, List, [], ◌∷◌, ◌++◌, length, get_or, map, drop, Option, Some, None, inl, inr, refl, sym, ap, ◌∙◌, option_map, IsSome, subst, arith}
+use Rattle.std.proofs.Common.{◌≡◌, ℕ, ◌+◌, ◌^◌, ◌<◌, ◌≤◌, Bool, true, false, not, ◌&&◌, ◌||◌, ◌==◌, nat_le, cond, List, [], ◌∷◌, ◌++◌, length, get_or}
+use Rattle.std.proofs.Common.{map, drop, Option, Some, None, inl, inr, refl, sym, ap, ◌∙◌, option_map, IsSome, subst, arith}
 use Rattle.std.specs.Prelude.{codes}
 use Rattle.std.specs.List.{list_all, flat_map}
 use Rattle.std.specs.Fmt.{decimal}
@@ -105,7 +106,8 @@ empty_word [] h = refl
 empty_word (b ∷ word) h = absurd (false≢true h)
 
 -- what holds of each of them holds of a word that is read
-one_reading : (test : List ℕ → ℕ → Bool) (start : ℕ) (ls : List (ℕ × ℕ)) (word : List ℕ) (bits : ℕ) → bits_from start ls word ≡ Some bits → list_all (λ (p : List ℕ × ℕ). test p.0 p.1) (readings start ls) ≡ true → test word bits ≡ true
+one_reading : (test : List ℕ → ℕ → Bool) (start : ℕ) (ls : List (ℕ × ℕ)) (word : List ℕ) (bits : ℕ) → bits_from start ls word ≡ Some bits
+    → list_all (λ (p : List ℕ × ℕ). test p.0 p.1) (readings start ls) ≡ true → test word bits ≡ true
 one_reading test start [] word bits h all =
     let p = cond_some (is_empty word) start bits h in
     let q : (test [] start ≡ true) × (true ≡ true) = both (test [] start) true all in
@@ -114,10 +116,13 @@ one_reading test start [] word bits h all =
 one_reading test start ((letter, bit) ∷ more) word bits h all =
     let step = with_letter letter in
     let passes = λ (p : List ℕ × ℕ). test p.0 p.1 in
-    let halves = both (list_all passes (map step (readings (start + bit) more))) (list_all passes (readings start more)) (sym (list_all-append passes (map step (readings (start + bit) more)) (readings start more)) ∙ all) in
+    let halves = both (list_all passes (map step (readings (start + bit) more))) (list_all passes (readings start more))
+    (sym (list_all-append passes (map step (readings (start + bit) more)) (readings start more)) ∙ all) in
     elim (either (begins letter word) (bits_from (start + bit) more (drop 1 word)) (bits_from start more word) bits h) [
       | inl p ↦
-          let t : test (letter ∷ drop 1 word) bits ≡ true = one_reading (λ w n. test (letter ∷ w) n) (start + bit) more (drop 1 word) bits p.1 (sym (list_all-map passes step (readings (start + bit) more)) ∙ halves.0) in
+          let t : test (letter ∷ drop 1 word) bits ≡ true =
+          one_reading (λ w n. test (letter ∷ w) n) (start + bit) more (drop 1 word) bits p.1 (sym (list_all-map passes step (readings (start + bit) more))
+          ∙ halves.0) in
           ap (λ w. test w bits) (begun letter word p.0) ∙ t
       | inr p ↦ one_reading test start more word bits p.1 halves.1
     ]
@@ -134,7 +139,8 @@ letters_spelled : (word : List ℕ) (bits : ℕ) → is_empty word ≡ false →
 unfolding is_so privs_text
 letters_spelled word bits some h =
     let t : is_so word bits ≡ true = one_reading is_so 0 letters word bits h all_so in
-    let u : (not (bits == 0) && same_bytes (flat_map (letter_in (record { 0 = bits })) letters) word) ≡ true = ap (λ b. b || (not (bits == 0) && same_bytes (flat_map (letter_in (record { 0 = bits })) letters) word)) (sym some) ∙ t in
+    let u : (not (bits == 0) && same_bytes (flat_map (letter_in (record { 0 = bits })) letters) word) ≡ true =
+    ap (λ b. b || (not (bits == 0) && same_bytes (flat_map (letter_in (record { 0 = bits })) letters) word)) (sym some) ∙ t in
     let p = both (not (bits == 0)) (same_bytes (flat_map (letter_in (record { 0 = bits })) letters) word) u in
     let n : (bits == 0) ≡ false = not-true (bits == 0) p.0 in
     ap (λ b. cond b (codes "-") (flat_map (letter_in (record { 0 = bits })) letters)) n ∙ same_text _ word (sym p.1)
@@ -203,7 +209,8 @@ made_from word h = made_where (begins 47 word && not (is_empty (drop 1 word))) (
 
 -- ---- words of a few spellings
 -- a word that is one of several: it is this one, or one of the others
-pub choose : {A : Type 0} (spell : A → List ℕ) (word text : List ℕ) (x : A) (others : Option A) → text ≡ spell x → ((y : A) → others ≡ Some y → spell y ≡ word) → (y : A) → cond (same_bytes word text) (Some x) others ≡ Some y → spell y ≡ word
+pub choose : {A : Type 0} (spell : A → List ℕ) (word text : List ℕ) (x : A) (others : Option A) → text ≡ spell x → ((y : A) → others ≡ Some y → spell y ≡ word)
+    → (y : A) → cond (same_bytes word text) (Some x) others ≡ Some y → spell y ≡ word
 choose spell word text x others is more y h = elim (chosen (same_bytes word text) x others y h) [
   | inl p ↦ ap spell (sym p.1) ∙ sym is ∙ sym (same_text word text (sym p.0))
   | inr k ↦ more y k
@@ -222,7 +229,9 @@ state_spelled word = choose state_text word _ false _ refl (choose state_text wo
 
 pub what_spelled : (word : List ℕ) (w : What) → what_of word ≡ Some w → what_text w ≡ word
 unfolding what_of
-what_spelled word = choose what_text word _ what.Procs _ refl (choose what_text word _ what.Opens _ refl (choose what_text word _ what.Pipes _ refl (choose what_text word _ what.Names _ refl (choose what_text word _ what.Log _ refl (no_more what_text word)))))
+what_spelled word = choose what_text word _ what.Procs _ refl
+    (choose what_text word _ what.Opens _ refl
+    (choose what_text word _ what.Pipes _ refl (choose what_text word _ what.Names _ refl (choose what_text word _ what.Log _ refl (no_more what_text word)))))
 
 -- ---- descriptors
 pub fd_spelled : (word : List ℕ) (f : FdWord) → fd_of word ≡ Some f → fd_text f ≡ word

@@ -1,5 +1,6 @@
 -- A payload in quotes is read back, and so is its shortest spelling.
-use Rattle.std.proofs.Common.{◌≡◌, ℕ, ◌+◌, ◌*◌, ◌/◌, ◌%◌, ◌^◌, ◌<◌, true, false, not, ◌&&◌, ◌||◌, ◌==◌, nat_lt, List, [], ◌∷◌, ◌++◌, length, replicate, Option, Some, None, inl, inr, refl, sym, ap, ◌∙◌, subst, arith}
+use Rattle.std.proofs.Common.{◌≡◌, ℕ, ◌+◌, ◌*◌, ◌/◌, ◌%◌, ◌^◌, ◌<◌, true, false, not, ◌&&◌, ◌||◌, ◌==◌, nat_lt, List, [], ◌∷◌, ◌++◌, length}
+use Rattle.std.proofs.Common.{replicate, Option, Some, None, inl, inr, refl, sym, ap, ◌∙◌, subst, arith}
 use Rattle.std.specs.List.{list_all, flat_map}
 use Rattle.std.specs.Option.{option_map_or}
 use Rattle.std.proofs.lemmas.Bool.{cases_Bool, eqb-true, and_right, not-true, or_cases, or_right}
@@ -155,7 +156,8 @@ one_of_them P text (other ∷ others) h more = elim (cases_Bool (nat_lt (length 
   | inr e ↦ rw e (one_of_them P text others h more.1)
 ]
 
-others_spell : (bytes : List ℕ) (o : Option ℕ) → once bytes ≡ o → Small bytes → length bytes < 2 ^ 64 → Each (Spells bytes) (option_map_or (λ b. times_text (length bytes) b ∷ []) o [] ++ quoted_text bytes ∷ [])
+others_spell : (bytes : List ℕ) (o : Option ℕ) → once bytes ≡ o → Small bytes → length bytes < 2 ^ 64
+    → Each (Spells bytes) (option_map_or (λ b. times_text (length bytes) b ∷ []) o [] ++ quoted_text bytes ∷ [])
 others_spell bytes None e small few = (quotes_spell bytes small, tt)
 others_spell bytes (Some b) e small few =
     let k = once_means bytes b e in

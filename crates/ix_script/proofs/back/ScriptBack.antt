@@ -42,7 +42,12 @@ size_canonical : (labels : Form) (lines : List Line) → length (canonical_in la
 size_canonical labels [] = refl
 size_canonical labels (l ∷ lines) =
     let rest : length (canonical_in labels lines) ≡ length (flat_map (λ text. text ++ 10 ∷ []) (map (line_text labels) lines)) = size_canonical labels lines in
-    omega (arith, rest, length-append (line_text labels l ++ 10 ∷ []) (canonical_in labels lines), length-append (line_text labels l ++ 10 ∷ []) (flat_map (λ text. text ++ 10 ∷ []) (map (line_text labels) lines)))
+    omega (
+      arith,
+      rest,
+      length-append (line_text labels l ++ 10 ∷ []) (canonical_in labels lines),
+      length-append (line_text labels l ++ 10 ∷ []) (flat_map (λ text. text ++ 10 ∷ []) (map (line_text labels) lines)),
+    )
 
 -- ---- cutting
 one_cut : (text rest : List ℕ) → no_feed text ≡ true → cut (text ++ 10 ∷ rest) ≡ text ∷ cut rest
@@ -57,7 +62,8 @@ unfolding cut
 canonical_cut labels [] h = refl
 canonical_cut labels (l ∷ lines) h =
     let p = both_true (no_feed (line_text labels l)) (list_all no_feed (map (line_text labels) lines)) h in
-    ap cut (append_assoc (line_text labels l) (10 ∷ []) (canonical_in labels lines)) ∙ one_cut (line_text labels l) (canonical_in labels lines) p.0 ∙ ap (λ texts. line_text labels l ∷ texts) (canonical_cut labels lines p.1)
+    ap cut (append_assoc (line_text labels l) (10 ∷ []) (canonical_in labels lines)) ∙ one_cut (line_text labels l) (canonical_in labels lines) p.0
+    ∙ ap (λ texts. line_text labels l ∷ texts) (canonical_cut labels lines p.1)
 
 some_lines : (bytes : List ℕ) → 0 < length bytes → lines_of bytes ≡ cut bytes
 unfolding lines_of
@@ -103,13 +109,16 @@ line_plain before text h =
     no_control : (b : ℕ) → is_within 32 126 b ≡ true → not (b == 10) ≡ true
     no_control b h = grind (arith, nat_tests)
 
-fault_from_none : (before : List Line) (text : List ℕ) (texts : List (List ℕ)) (l : Line) → line_of (form_told before) text ≡ Some l → line_fault before text ≡ None → fault_from (before ++ l ∷ []) texts ≡ None → fault_from before (text ∷ texts) ≡ None
+fault_from_none : (before : List Line) (text : List ℕ) (texts : List (List ℕ)) (l : Line) → line_of (form_told before) text ≡ Some l
+    → line_fault before text ≡ None → fault_from (before ++ l ∷ []) texts ≡ None → fault_from before (text ∷ texts) ≡ None
 unfolding fault_from
 fault_from_none before text texts l means sound more =
-    no_fault (line_fault before text) (length before + 1) (fault_from (before ++ unwrap_or (line_of (form_told before) text) line.Skipped ∷ []) texts) sound (ap (λ o. fault_from (before ++ unwrap_or o line.Skipped ∷ []) texts) means ∙ more)
+    no_fault (line_fault before text) (length before + 1) (fault_from (before ++ unwrap_or (line_of (form_told before) text) line.Skipped ∷ []) texts) sound
+    (ap (λ o. fault_from (before ++ unwrap_or o line.Skipped ∷ []) texts) means ∙ more)
 
 -- lines behind the first
-later_back : (b : Line) (before : List Line) (texts : List (List ℕ)) (lines : List Line) → fault_from (b ∷ before) texts ≡ None → lines_said (form_by b) texts ≡ Some lines → AllBack (form_by b) (b ∷ before) texts lines
+later_back : (b : Line) (before : List Line) (texts : List (List ℕ)) (lines : List Line) → fault_from (b ∷ before) texts ≡ None
+    → lines_said (form_by b) texts ≡ Some lines → AllBack (form_by b) (b ∷ before) texts lines
 unfolding lines_said
 later_back b before [] lines sound means = subst (AllBack (form_by b) (b ∷ before) []) (same_Some [] lines means) (record { means = refl; sound = sound; short = omega arith; plain = refl })
 later_back b before (text ∷ texts) lines sound means =
@@ -128,7 +137,8 @@ later_back b before (text ∷ texts) lines sound means =
     })
 
 -- lines of which the first tells the form
-first_back : (form : Form) (text : List ℕ) (texts : List (List ℕ)) (lines : List Line) → version_of text ≡ Some form → fault_from [] (text ∷ texts) ≡ None → lines_said form (text ∷ texts) ≡ Some lines → AllBack form [] (text ∷ texts) lines
+first_back : (form : Form) (text : List ℕ) (texts : List (List ℕ)) (lines : List Line) → version_of text ≡ Some form → fault_from [] (text ∷ texts) ≡ None
+    → lines_said form (text ∷ texts) ≡ Some lines → AllBack form [] (text ∷ texts) lines
 unfolding lines_said
 first_back form text texts lines v sound means =
     let x : Line = line.Version form in
@@ -182,8 +192,10 @@ one_byte_more bytes lines h =
     omega (arith, same, size_canonical labels lines, back.short, size_lines bytes)
 
 -- lines without a fault, read from their texts
-read_again : (labels : Form) (lines : List Line) → form_in (map (line_text labels) lines) ≡ labels → fault_from [] (map (line_text labels) lines) ≡ None → lines_said labels (map (line_text labels) lines) ≡ Some lines
-    → length (canonical_in labels lines) ≤ 16777216 → list_all no_feed (map (line_text labels) lines) ≡ true → 0 < length (canonical_in labels lines) → script_of (canonical_in labels lines) ≡ Some lines
+read_again : (labels : Form) (lines : List Line) → form_in (map (line_text labels) lines) ≡ labels → fault_from [] (map (line_text labels) lines) ≡ None
+    → lines_said labels (map (line_text labels) lines) ≡ Some lines
+    → length (canonical_in labels lines) ≤ 16777216 → list_all no_feed (map (line_text labels) lines) ≡ true → 0 < length (canonical_in labels lines)
+    → script_of (canonical_in labels lines) ≡ Some lines
 unfolding script_of fault_of
 read_again labels lines told sound means short plain some =
     let cut_lines : lines_of (canonical_in labels lines) ≡ map (line_text labels) lines = some_lines (canonical_in labels lines) some ∙ canonical_cut labels lines plain in
@@ -204,7 +216,8 @@ some_text (b ∷ bytes) = elim (cases_Bool (b == 10)) [
     front_some b [] all e = (b ∷ [], [], e)
     front_some b (text ∷ texts) all e = (b ∷ text, texts, e)
 
-some_said : (labels : Form) (texts : List (List ℕ)) (text : List ℕ) (more : List (List ℕ)) (lines : List Line) → texts ≡ text ∷ more → lines_said labels texts ≡ Some lines → 0 < length (canonical_in labels lines)
+some_said : (labels : Form) (texts : List (List ℕ)) (text : List ℕ) (more : List (List ℕ)) (lines : List Line) → texts ≡ text ∷ more
+    → lines_said labels texts ≡ Some lines → 0 < length (canonical_in labels lines)
 unfolding lines_said
 some_said labels texts text more lines e h =
     let m = mapped (λ (x : Line × List Line). x.0 ∷ x.1) (both (line_of labels text) (lines_said labels more)) lines (ap (lines_said labels) (sym e) ∙ h) in

@@ -1,5 +1,6 @@
 -- No spelling of a payload is shorter than the shortest.
-use Rattle.std.proofs.Common.{◌≡◌, ℕ, zero, suc, ◌+◌, ◌^◌, ◌<◌, ◌≤◌, true, false, ◌||◌, ◌==◌, nat_lt, nat_le, cond, List, [], ◌∷◌, ◌++◌, length, get_or, take, drop, replicate, Option, Some, None, inl, inr, refl, sym, ap, ◌∙◌, option_map, subst, arith}
+use Rattle.std.proofs.Common.{◌≡◌, ℕ, zero, suc, ◌+◌, ◌^◌, ◌<◌, ◌≤◌, true, false, ◌||◌, ◌==◌, nat_lt, nat_le, cond, List, [], ◌∷◌, ◌++◌, length}
+use Rattle.std.proofs.Common.{get_or, take, drop, replicate, Option, Some, None, inl, inr, refl, sym, ap, ◌∙◌, option_map, subst, arith}
 use Rattle.std.specs.Prelude.{if◌then◌else◌}
 use Rattle.std.specs.List.{list_all, flat_map, position, position_or_len}
 use Rattle.std.specs.Fmt.{decimal}
@@ -134,7 +135,9 @@ step_costs (escape.Low high) b s fine no_end h =
     subst (λ (s : Escape × Option ℕ). Costs 3 s.0 s.1) m.2 (refl, pair_small high b m.0 m.1, cost_four m.0)
 
 -- one byte of the text, and what follows
-one_step : (taken : ℕ) (next : Escape) (byte : Option ℕ) (text bytes : List ℕ) → Costs taken next byte → after_bytes (bytes_of byte) (quoted_from next text) ≡ Some bytes → ((more : List ℕ) → quoted_from next text ≡ Some more → NoLonger (begun_with next) text more) → NoLonger (suc taken) text bytes
+one_step : (taken : ℕ) (next : Escape) (byte : Option ℕ) (text bytes : List ℕ) → Costs taken next byte
+    → after_bytes (bytes_of byte) (quoted_from next text) ≡ Some bytes → ((more : List ℕ) → quoted_from next text ≡ Some more
+    → NoLonger (begun_with next) text more) → NoLonger (suc taken) text bytes
 one_step taken next None text bytes cost h later =
     let m = mapped (λ (more : List ℕ). more) (quoted_from next text) bytes h in
     subst (λ (n : ℕ). NoLonger n text bytes) cost (subst (NoLonger (begun_with next) text) m.2 (later m.0 m.1))

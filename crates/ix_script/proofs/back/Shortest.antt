@@ -1,5 +1,6 @@
 -- The shortest spelling of a payload, by the lengths of its spellings.
-use Rattle.std.proofs.Common.{◌≡◌, ℕ, zero, suc, ◌+◌, ◌*◌, ◌<◌, ◌≤◌, ◌==◌, Bool, true, false, ◌&&◌, ◌||◌, cond, codes, replicate, ap, List, [], ◌∷◌, ◌++◌, length, drop, get_or, Some, None, refl, sym, ◌∙◌, arith}
+use Rattle.std.proofs.Common.{◌≡◌, ℕ, zero, suc, ◌+◌, ◌*◌, ◌<◌, ◌≤◌, ◌==◌, Bool, true, false, ◌&&◌, ◌||◌, cond, codes, replicate, ap, List, [], ◌∷◌}
+use Rattle.std.proofs.Common.{◌++◌, length, drop, get_or, Some, None, refl, sym, ◌∙◌, arith}
 use Rattle.std.specs.Prelude.{if◌then◌else◌}
 use Rattle.std.specs.List.{flat_map, list_all}
 use Rattle.std.specs.Fmt.{decimal}
@@ -15,7 +16,8 @@ once_first (b ∷ bytes) h = refl
 
 -- ---- lengths
 -- what one byte more takes in quotes
-pub quoted_more : (bytes : List ℕ) (i : ℕ) → i < length bytes → length (flat_map quoted_byte (drop i bytes)) ≡ length (quoted_byte (get_or bytes i 0)) + length (flat_map quoted_byte (drop (i + 1) bytes))
+pub quoted_more : (bytes : List ℕ) (i : ℕ) → i < length bytes → length (flat_map quoted_byte (drop i bytes)) ≡ length (quoted_byte (get_or bytes i 0)) + length
+    (flat_map quoted_byte (drop (i + 1) bytes))
 quoted_more bytes i h =
     at_drop_more (λ bs. length (flat_map quoted_byte bs)) bytes i 0 h ∙ length-append (quoted_byte (get_or bytes i 0)) (flat_map quoted_byte (drop (i + 1) bytes))
 
@@ -57,19 +59,23 @@ module _ (bytes : List ℕ) (pairs quoted : ℕ) (p : pairs ≡ length bytes * 2
 
   pub quotes_of_three : (b times : ℕ) → once bytes ≡ Some b → times ≡ length (times_text (length bytes) b) → times < pairs → quoted < times → quoted_text bytes ≡ payload_text bytes
   quotes_of_three b times e t first second =
-      sym (some_for b e ∙ of_three (pairs_text bytes) (times_text (length bytes) b) (quoted_text bytes) (omega (arith, length-pairs bytes)) ∙ of_two (times_text (length bytes) b) (quoted_text bytes) (omega arith))
+      sym (some_for b e ∙ of_three (pairs_text bytes) (times_text (length bytes) b) (quoted_text bytes) (omega (arith, length-pairs bytes))
+      ∙ of_two (times_text (length bytes) b) (quoted_text bytes) (omega arith))
 
   pub times_of_three : (b times : ℕ) → once bytes ≡ Some b → times ≡ length (times_text (length bytes) b) → times < pairs → times ≤ quoted → times_text (length bytes) b ≡ payload_text bytes
   times_of_three b times e t first second =
-      sym (some_for b e ∙ of_three (pairs_text bytes) (times_text (length bytes) b) (quoted_text bytes) (omega (arith, length-pairs bytes)) ∙ of_two_first (times_text (length bytes) b) (quoted_text bytes) (omega arith))
+      sym (some_for b e ∙ of_three (pairs_text bytes) (times_text (length bytes) b) (quoted_text bytes) (omega (arith, length-pairs bytes))
+      ∙ of_two_first (times_text (length bytes) b) (quoted_text bytes) (omega arith))
 
   pub quotes_not_times : (b times : ℕ) → once bytes ≡ Some b → times ≡ length (times_text (length bytes) b) → pairs ≤ times → quoted < pairs → quoted_text bytes ≡ payload_text bytes
   quotes_not_times b times e t first second =
-      sym (some_for b e ∙ of_three_first (pairs_text bytes) (times_text (length bytes) b) (quoted_text bytes) (omega (arith, length-pairs bytes)) ∙ of_two (pairs_text bytes) (quoted_text bytes) (omega (arith, length-pairs bytes)))
+      sym (some_for b e ∙ of_three_first (pairs_text bytes) (times_text (length bytes) b) (quoted_text bytes) (omega (arith, length-pairs bytes))
+      ∙ of_two (pairs_text bytes) (quoted_text bytes) (omega (arith, length-pairs bytes)))
 
   pub pairs_of_three : (b times : ℕ) → once bytes ≡ Some b → times ≡ length (times_text (length bytes) b) → pairs ≤ times → pairs ≤ quoted → pairs_text bytes ≡ payload_text bytes
   pairs_of_three b times e t first second =
-      sym (some_for b e ∙ of_three_first (pairs_text bytes) (times_text (length bytes) b) (quoted_text bytes) (omega (arith, length-pairs bytes)) ∙ of_two_first (pairs_text bytes) (quoted_text bytes) (omega (arith, length-pairs bytes)))
+      sym (some_for b e ∙ of_three_first (pairs_text bytes) (times_text (length bytes) b) (quoted_text bytes) (omega (arith, length-pairs bytes))
+      ∙ of_two_first (pairs_text bytes) (quoted_text bytes) (omega (arith, length-pairs bytes)))
 
 -- ---- bytes that each stand in quotes as they are
 first_of_both : (p q : Bool) → (p && q) ≡ true → p ≡ true

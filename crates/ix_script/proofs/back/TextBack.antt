@@ -69,7 +69,8 @@ version_spelled labels One = refl
 version_spelled labels Two = refl
 
 -- ---- the policy
-policy_stands : (before : List Line) (text : List ℕ) → is_empty before ≡ false → is_skipped text ≡ false → is_policy_line text ≡ true → body_fault before text ≡ None → is_empty (policy_text text) ≡ false
+policy_stands : (before : List Line) (text : List ℕ) → is_empty before ≡ false → is_skipped text ≡ false → is_policy_line text ≡ true
+    → body_fault before text ≡ None → is_empty (policy_text text) ≡ false
 unfolding body_fault policy_fault
 policy_stands before text later seen policy h =
     let fault : policy_fault before text ≡ None = rw (later, seen, policy) at h in
@@ -110,7 +111,9 @@ command_parts before words f h sound =
     let k = neither (words_fault words) (option_map_or (λ g. form_fault before g words) (form_of (word_at words 0)) (Some 7)) sound in
     (k.0, ap (λ o. option_map_or (λ g. form_fault before g words) o (Some 7)) (sym h) ∙ k.1)
 
-formed : (before : List Line) (text : List ℕ) (l : Line) → line_of (form_told before) text ≡ Some l → line_fault before text ≡ None → is_empty before ≡ false → is_skipped text ≡ false → is_policy_line text ≡ false → said_by_words (form_told before) (words_of text) ≡ Some l → (line_text (form_told before) l ≡ text) ⊎ Respelled before text l
+formed : (before : List Line) (text : List ℕ) (l : Line) → line_of (form_told before) text ≡ Some l → line_fault before text ≡ None → is_empty before ≡ false
+    → is_skipped text ≡ false → is_policy_line text ≡ false → said_by_words (form_told before) (words_of text) ≡ Some l
+    → (line_text (form_told before) l ≡ text) ⊎ Respelled before text l
 formed before text l means sound later seen other h =
     let m = bound (form_of (word_at (words_of text) 0)) (λ f. said (form_told before) f (words_of text)) l h in
     let k = command_parts before (words_of text) m.0 m.1 (command_sound before text later seen other (body_sound before text sound)) in
@@ -127,7 +130,8 @@ formed before text l means sound later seen other h =
 
 -- ---- any line
 -- its text is the one that was read, but where it may have another
-spelled_again : (before : List Line) (text : List ℕ) (l : Line) → line_of (form_told before) text ≡ Some l → line_fault before text ≡ None → (line_text (form_told before) l ≡ text) ⊎ Respelled before text l
+spelled_again : (before : List Line) (text : List ℕ) (l : Line) → line_of (form_told before) text ≡ Some l → line_fault before text ≡ None
+    → (line_text (form_told before) l ≡ text) ⊎ Respelled before text l
 unfolding line_of may_be_respelled
 spelled_again before text l means sound =
     let labels : spelled.Form = form_told before in
@@ -146,7 +150,8 @@ spelled_again before text l means sound =
       ]
     ]
   where
-    last : is_skipped text ≡ false → is_policy_line text ≡ false → (o : Option spelled.Form) → version_of text ≡ o → option_or (option_map (λ form. line.Version form) o) (said_by_words (form_told before) (words_of text)) ≡ Some l
+    last : is_skipped text ≡ false → is_policy_line text ≡ false → (o : Option spelled.Form) → version_of text ≡ o
+        → option_or (option_map (λ form. line.Version form) o) (said_by_words (form_told before) (words_of text)) ≡ Some l
         → (line_text (form_told before) l ≡ text) ⊎ Respelled before text l
     last seen other None is h = formed before text l means sound (later_of before text is sound) seen other h
     last seen other (Some form) is h = inl (ap (line_text (form_told before)) (sym (same_Some (line.Version form) l h)) ∙ version_spelled (form_told before) form ∙ sym (version_is text form is))
@@ -171,14 +176,16 @@ text_in labels (b ∷ before) text l told means sound =
     ]
 
 -- where it has no other spelling, it is the canonical text
-pub one_text : (labels : spelled.Form) (before : List Line) (text : List ℕ) (l : Line) → (is_empty before ≡ false → form_told before ≡ labels) → line_of labels text ≡ Some l → line_fault before text ≡ None → has_one_spelling text ≡ true → line_text labels l ≡ text
+pub one_text : (labels : spelled.Form) (before : List Line) (text : List ℕ) (l : Line) → (is_empty before ≡ false → form_told before ≡ labels)
+    → line_of labels text ≡ Some l → line_fault before text ≡ None → has_one_spelling text ≡ true → line_text labels l ≡ text
 one_text labels before text l told means sound one = elim (text_in labels before text l told means sound) [
   | inl e ↦ e
   | inr p ↦ absurd (false≢true (sym p.0 ∙ one))
 ]
 
 -- and so is that of each line which isn't skipped and has no payload
-pub own_text : (labels : spelled.Form) (before : List Line) (text : List ℕ) (l : Line) → (is_empty before ≡ false → form_told before ≡ labels) → line_of labels text ≡ Some l → line_fault before text ≡ None → may_be_respelled l ≡ false → line_text labels l ≡ text
+pub own_text : (labels : spelled.Form) (before : List Line) (text : List ℕ) (l : Line) → (is_empty before ≡ false → form_told before ≡ labels)
+    → line_of labels text ≡ Some l → line_fault before text ≡ None → may_be_respelled l ≡ false → line_text labels l ≡ text
 own_text labels before text l told means sound one = elim (text_in labels before text l told means sound) [
   | inl e ↦ e
   | inr p ↦ absurd (false≢true (sym one ∙ p.1))

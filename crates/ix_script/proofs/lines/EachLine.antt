@@ -24,7 +24,8 @@ neither_fault : (o : Option ℕ) (n : ℕ) (later : Option (ℕ × ℕ)) → or_
 neither_fault None n later h = (refl, h)
 neither_fault (Some rule) n later h = absurd (none-some (n, rule) (sym h))
 
-pub no_fault_from : (before : List Line) (text : List ℕ) (texts : List (List ℕ)) → fault_from before (text ∷ texts) ≡ None → (line_fault before text ≡ None) × (fault_from (before ++ unwrap_or (line_of (form_told before) text) line.Skipped ∷ []) texts ≡ None)
+pub no_fault_from : (before : List Line) (text : List ℕ) (texts : List (List ℕ)) → fault_from before (text ∷ texts) ≡ None → (line_fault before text ≡ None)
+    × (fault_from (before ++ unwrap_or (line_of (form_told before) text) line.Skipped ∷ []) texts ≡ None)
 unfolding fault_from
 no_fault_from before text texts h = neither_fault (line_fault before text) (length before + 1) (fault_from (before ++ unwrap_or (line_of (form_told before) text) line.Skipped ∷ []) texts) h
 
@@ -66,7 +67,8 @@ Along P before [] = Unit {0}
 Along P before (l ∷ lines) = P before l × Along P (before ++ l ∷ []) lines
 
 module _ (P : List Line → Line → Type 0) (each : (before : List Line) (text : List ℕ) (l : Line) → line_of (form_told before) text ≡ Some l → line_fault before text ≡ None → P before l) where
-  later_along : (b : Line) (before : List Line) (texts : List (List ℕ)) (lines : List Line) → fault_from (b ∷ before) texts ≡ None → lines_said (form_by b) texts ≡ Some lines → Along P (b ∷ before) lines
+  later_along : (b : Line) (before : List Line) (texts : List (List ℕ)) (lines : List Line) → fault_from (b ∷ before) texts ≡ None
+      → lines_said (form_by b) texts ≡ Some lines → Along P (b ∷ before) lines
   unfolding lines_said
   later_along b before [] lines sound means = subst (Along P (b ∷ before)) (same_Some [] lines means) tt
   later_along b before (text ∷ texts) lines sound means =
@@ -93,7 +95,8 @@ module _ (P : List Line → Line → Type 0) (each : (before : List Line) (text 
 
 -- ---- the rules on what a line says
 -- a line without a fault breaks none of them
-said_later : (labels : spelled.Form) (b : Line) (before : List Line) (text : List ℕ) (l : Line) → form_by b ≡ labels → body_fault (b ∷ before) text ≡ None → line_of labels text ≡ Some l → said_fault (b ∷ before) l ≡ None
+said_later : (labels : spelled.Form) (b : Line) (before : List Line) (text : List ℕ) (l : Line) → form_by b ≡ labels → body_fault (b ∷ before) text ≡ None
+    → line_of labels text ≡ Some l → said_fault (b ∷ before) l ≡ None
 unfolding body_fault line_of command_fault form_fault
 said_later labels b before text l told h m = elim (cases_Bool (is_skipped text)) [
   | inl t ↦ let k : Some line.Skipped ≡ Some l = rw t at m in subst (λ (x : Line). said_fault (b ∷ before) x ≡ None) (same_Some line.Skipped l k) (skipped_fits (b ∷ before))
@@ -105,7 +108,8 @@ said_later labels b before text l told h m = elim (cases_Bool (is_skipped text))
         let g : command_fault (b ∷ before) (words_of text) ≡ None = rw (f, q) at h in
         let k : said_by_words labels (words_of text) ≡ Some l = rw (f, q, not_ix (b ∷ before) text g) at m in
         let form = bound (form_of (word_at (words_of text) 0)) (λ f. said labels f (words_of text)) l k in
-        let fits : form_fault (b ∷ before) form.0 (words_of text) ≡ None = ap (λ o. option_map_or (λ f. form_fault (b ∷ before) f (words_of text)) o (Some 7)) (sym form.1) ∙ (neither (words_fault (words_of text)) _ g).1 in
+        let fits : form_fault (b ∷ before) form.0 (words_of text) ≡ None =
+        ap (λ o. option_map_or (λ f. form_fault (b ∷ before) f (words_of text)) o (Some 7)) (sym form.1) ∙ (neither (words_fault (words_of text)) _ g).1 in
         let one = neither (stand_fault (b ∷ before) form.0 (words_of text)) _ fits in
         let two = neither (places_fault (places (form_by b) form.0 (words_of text))) _ one.1 in
         let three = neither (names_fault (b ∷ before) form.0 (words_of text)) _ two.1 in

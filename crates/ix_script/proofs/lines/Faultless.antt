@@ -8,7 +8,8 @@ use Rattle.std.proofs.lemmas.Option.{none-some}
 use Rattle.ix_model.specs.opening.Valid.{is_within}
 use Rattle.ix_script.specs.texts.Cutting.{is_open}
 use Rattle.ix_text.specs.Bytes.{is_empty}
-use Rattle.ix_script.specs.lines.Kinds.{Kind, Place, is_bad_name, is_bad_number, is_out_of_range, is_bad_label, is_bad_set, is_bad_path, is_unknown_word, is_bad_payload, is_long_payload, place_rules, first_broken, places_fault}
+use Rattle.ix_script.specs.lines.Kinds.{Kind, Place, is_bad_name, is_bad_number, is_out_of_range, is_bad_label, is_bad_set, is_bad_path}
+use Rattle.ix_script.specs.lines.Kinds.{is_unknown_word, is_bad_payload, is_long_payload, place_rules, first_broken, places_fault}
 use Rattle.ix_script.specs.lines.Kinds as kind
 use Rattle.ix_script.specs.texts.Payloads.{payload_of}
 use Rattle.ix_script.specs.lines.Rules.{first_of, is_too_long, is_unprintable, has_empty_word, has_open_quote}
@@ -60,11 +61,13 @@ abbrev Agree : List (ℕ × (Kind → List ℕ → Bool)) → Kind → List ℕ 
 Agree [] k p q = Unit {0}
 Agree (rule ∷ rules) k p q = (rule.1 k p ≡ rule.1 k q) × Agree rules k p q
 
-last_place : (test : Kind → List ℕ → Bool) (places : List Place) (k : Kind) (p q : List ℕ) → test k p ≡ test k q → list_any (λ (z : Place). test z.0 z.1) (places ++ (k, p) ∷ []) ≡ list_any (λ (z : Place). test z.0 z.1) (places ++ (k, q) ∷ [])
+last_place : (test : Kind → List ℕ → Bool) (places : List Place) (k : Kind) (p q : List ℕ) → test k p ≡ test k q
+    → list_any (λ (z : Place). test z.0 z.1) (places ++ (k, p) ∷ []) ≡ list_any (λ (z : Place). test z.0 z.1) (places ++ (k, q) ∷ [])
 last_place test [] k p q h = ap (λ b. b || false) h
 last_place test (place ∷ places) k p q h = ap (λ b. test place.0 place.1 || b) (last_place test places k p q h)
 
-alike : (rules : List (ℕ × (Kind → List ℕ → Bool))) (places : List Place) (k : Kind) (p q : List ℕ) → Agree rules k p q → first_broken rules (places ++ (k, p) ∷ []) ≡ first_broken rules (places ++ (k, q) ∷ [])
+alike : (rules : List (ℕ × (Kind → List ℕ → Bool))) (places : List Place) (k : Kind) (p q : List ℕ) → Agree rules k p q
+    → first_broken rules (places ++ (k, p) ∷ []) ≡ first_broken rules (places ++ (k, q) ∷ [])
 unfolding first_broken
 alike [] places k p q h = refl
 alike ((n, test) ∷ rules) places k p q h =
@@ -72,7 +75,8 @@ alike ((n, test) ∷ rules) places k p q h =
     ∙ ap (λ o. cond (list_any (λ (z : Place). test z.0 z.1) (places ++ (k, q) ∷ [])) (Some n) o) (alike rules places k p q h.1)
 
 -- two spellings of a payload break the same rules
-pub payload_alike : (places : List Place) (most : ℕ) (p q : List ℕ) → payload_of p ≡ payload_of q → places_fault (places ++ (kind.Payload most, p) ∷ []) ≡ places_fault (places ++ (kind.Payload most, q) ∷ [])
+pub payload_alike : (places : List Place) (most : ℕ) (p q : List ℕ) → payload_of p ≡ payload_of q → places_fault (places ++ (kind.Payload most, p) ∷ [])
+    ≡ places_fault (places ++ (kind.Payload most, q) ∷ [])
 unfolding places_fault
 payload_alike places most p q h =
     alike place_rules places (kind.Payload most) p q

@@ -76,15 +76,26 @@ form_word form.Login = codes "login"
 
 plain_spelled : (word : List ℕ) (c : Plain) → plain_of word ≡ Some c → plain_word c ≡ word
 unfolding plain_of
-plain_spelled word = choose plain_word word _ plain.Wait _ refl (choose plain_word word _ plain.Self_ _ refl (choose plain_word word _ plain.Freezeself _ refl (choose plain_word word _ plain.Thawself _ refl (no_more plain_word word))))
+plain_spelled word = choose plain_word word _ plain.Wait _ refl
+    (choose plain_word word _ plain.Self_ _ refl
+    (choose plain_word word _ plain.Freezeself _ refl (choose plain_word word _ plain.Thawself _ refl (no_more plain_word word))))
 
 on_path_spelled : (word : List ℕ) (c : OnPath) → on_path_of word ≡ Some c → on_path_word c ≡ word
 unfolding on_path_of
-on_path_spelled word = choose on_path_word word _ on_path.Create _ refl (choose on_path_word word _ on_path.Mkdir _ refl (choose on_path_word word _ on_path.Unlink _ refl (choose on_path_word word _ on_path.Rmdir _ refl (choose on_path_word word _ on_path.Chdir _ refl (choose on_path_word word _ on_path.Stat _ refl (choose on_path_word word _ on_path.Exec _ refl (choose on_path_word word _ on_path.Labelof _ refl (choose on_path_word word _ on_path.Freeze _ refl (choose on_path_word word _ on_path.Thaw _ refl (no_more on_path_word word))))))))))
+on_path_spelled word = choose on_path_word word _ on_path.Create _ refl
+    (choose on_path_word word _ on_path.Mkdir _ refl
+    (choose on_path_word word _ on_path.Unlink _ refl
+    (choose on_path_word word _ on_path.Rmdir _ refl
+    (choose on_path_word word _ on_path.Chdir _ refl
+    (choose on_path_word word _ on_path.Stat _ refl
+    (choose on_path_word word _ on_path.Exec _ refl (choose on_path_word word _ on_path.Labelof _ refl
+    (choose on_path_word word _ on_path.Freeze _ refl (choose on_path_word word _ on_path.Thaw _ refl (no_more on_path_word word))))))))))
 
 on_fd_spelled : (word : List ℕ) (c : OnFd) → on_fd_of word ≡ Some c → on_fd_word c ≡ word
 unfolding on_fd_of
-on_fd_spelled word = choose on_fd_word word _ on_fd.Close _ refl (choose on_fd_word word _ on_fd.Pex _ refl (choose on_fd_word word _ on_fd.Unpex _ refl (choose on_fd_word word _ on_fd.Priv _ refl (no_more on_fd_word word))))
+on_fd_spelled word = choose on_fd_word word _ on_fd.Close _ refl
+    (choose on_fd_word word _ on_fd.Pex _ refl
+    (choose on_fd_word word _ on_fd.Unpex _ refl (choose on_fd_word word _ on_fd.Priv _ refl (no_more on_fd_word word))))
 
 counted_spelled : (word : List ℕ) (c : Counted) → counted_of word ≡ Some c → counted_word c ≡ word
 unfolding counted_of
@@ -92,18 +103,40 @@ counted_spelled word = choose counted_word word _ counted.Read _ refl (choose co
 
 frame_form_spelled : (word : List ℕ) (f : Form) → frame_form word ≡ Some f → form_word f ≡ word
 unfolding frame_form
-frame_form_spelled word = choose form_word word _ form.Limit _ refl (choose form_word word _ form.Fs _ refl (choose form_word word _ form.Proc _ refl (choose form_word word _ form.Dir _ refl (choose form_word word _ form.File _ refl (choose form_word word _ form.Phase _ refl (choose form_word word _ form.Lane _ refl (no_more form_word word)))))))
+frame_form_spelled word =
+    choose form_word word _ form.Limit _ refl
+    (choose form_word word _ form.Fs _ refl
+    (choose form_word word _ form.Proc _ refl
+    (choose form_word word _ form.Dir _ refl
+    (choose form_word word _ form.File _ refl
+    (choose form_word word _ form.Phase _ refl (choose form_word word _ form.Lane _ refl (no_more form_word word)))))))
 
 file_form_spelled : (word : List ℕ) (f : Form) → file_form word ≡ Some f → form_word f ≡ word
 unfolding file_form
-file_form_spelled word = choose form_word word _ form.Open _ refl (choose form_word word _ form.Write _ refl (choose form_word word _ form.Dup _ refl (choose form_word word _ form.Pipe _ refl (choose form_word word _ form.Link _ refl (choose form_word word _ form.List _ refl (choose form_word word _ form.Copy _ refl (choose form_word word _ form.Setlabel _ refl (choose form_word word _ form.Setpriv _ refl (no_more form_word word)))))))))
+file_form_spelled word =
+    choose form_word word _ form.Open _ refl
+    (choose form_word word _ form.Write _ refl
+    (choose form_word word _ form.Dup _ refl
+    (choose form_word word _ form.Pipe _ refl
+    (choose form_word word _ form.Link _ refl
+    (choose form_word word _ form.List _ refl
+    (choose form_word word _ form.Copy _ refl
+    (choose form_word word _ form.Setlabel _ refl (choose form_word word _ form.Setpriv _ refl (no_more form_word word)))))))))
 
 process_form_spelled : (word : List ℕ) (f : Form) → process_form word ≡ Some f → form_word f ≡ word
 unfolding process_form
-process_form_spelled word = choose form_word word _ form.Fork _ refl (choose form_word word _ form.Exit _ refl (choose form_word word _ form.Setself _ refl (choose form_word word _ form.Droplic _ refl (choose form_word word _ form.Grant _ refl (choose form_word word _ form.Ceiling _ refl (choose form_word word _ form.Readlog _ refl (choose form_word word _ form.Login _ refl (no_more form_word word))))))))
+process_form_spelled word =
+    choose form_word word _ form.Fork _ refl
+    (choose form_word word _ form.Exit _ refl
+    (choose form_word word _ form.Setself _ refl
+    (choose form_word word _ form.Droplic _ refl
+    (choose form_word word _ form.Grant _ refl
+    (choose form_word word _ form.Ceiling _ refl
+    (choose form_word word _ form.Readlog _ refl (choose form_word word _ form.Login _ refl (no_more form_word word))))))))
 
 -- a group's form is spelled as its command
-in_group : {C : Type 0} (make : C → Form) (spell : C → List ℕ) (word : List ℕ) (o : Option C) → ((c : C) → form_word (make c) ≡ spell c) → ((c : C) → o ≡ Some c → spell c ≡ word) → (f : Form) → option_map make o ≡ Some f → form_word f ≡ word
+in_group : {C : Type 0} (make : C → Form) (spell : C → List ℕ) (word : List ℕ) (o : Option C) → ((c : C) → form_word (make c) ≡ spell c)
+    → ((c : C) → o ≡ Some c → spell c ≡ word) → (f : Form) → option_map make o ≡ Some f → form_word f ≡ word
 in_group make spell word o same is f h =
     let m = mapped make o f h in
     ap form_word (sym m.2) ∙ same m.0 ∙ is m.0 m.1

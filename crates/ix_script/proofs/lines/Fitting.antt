@@ -65,7 +65,9 @@ module _ (labels : spelled.Form) where
       let p = paired _ _ x.1 (paired _ _ x e).1 in
       (label_fits labels (word_at words 2) x.1.0 p.0, label_fits labels (word_at words 3) x.1.1.0 (paired _ _ x.1.1 p.1).0)) h
   said_fits form.Dir words l h = made_by (λ x. line.Dir x.0 x.1.0 x.1.1) _ l (λ x e. label_fits labels (word_at words 2) x.1.0 (paired _ _ x.1 (paired _ _ x e).1).0) h
-  said_fits form.File words l h = made_by (λ x. line.File x.0 x.1.0 x.1.1.0 x.1.1.1.0 x.1.1.1.1.0 x.1.1.1.1.1) _ l (λ x e. label_fits labels (word_at words 2) x.1.0 (paired _ _ x.1 (paired _ _ x e).1).0) h
+  said_fits form.File words l h =
+      made_by (λ x. line.File x.0 x.1.0 x.1.1.0 x.1.1.1.0 x.1.1.1.1.0 x.1.1.1.1.1) _ l
+      (λ x e. label_fits labels (word_at words 2) x.1.0 (paired _ _ x.1 (paired _ _ x e).1).0) h
   said_fits form.Phase words l h = subst (LineFits labels) (same_Some line.Phase l h) tt
   said_fits form.Lane words l h = made_by (λ x. line.Lane x) _ l (λ x e. tt) h
   said_fits (form.Plain c) words l h = made_by (λ x. plain_line c x) _ l (λ x e. plain_fits c x) h

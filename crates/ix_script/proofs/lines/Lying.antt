@@ -1,5 +1,6 @@
 -- Where objects lie, and how much there can be.
-use Rattle.std.proofs.Common.{◌≡◌, ◌≢◌, ℕ, zero, suc, ◌+◌, ◌<◌, ◌≤◌, ◌==◌, nat_le, true, false, cond, List, [], ◌∷◌, ◌++◌, length, map, sum, drop, Option, Some, None, refl, sym, ap, ◌∙◌, arith, length-append, length-drop}
+use Rattle.std.proofs.Common.{◌≡◌, ◌≢◌, ℕ, zero, suc, ◌+◌, ◌<◌, ◌≤◌, ◌==◌, nat_le, true, false, cond, List, [], ◌∷◌, ◌++◌, length, map, sum, drop}
+use Rattle.std.proofs.Common.{Option, Some, None, refl, sym, ap, ◌∙◌, arith, length-append, length-drop}
 use Rattle.std.specs.Option.{option_map_or}
 use Rattle.std.specs.List.{list_all, slice_index_or}
 use Rattle.std.proofs.lemmas.Bool.{eq-eqb, ne_eqb, leb-true}
@@ -50,7 +51,8 @@ few_blocks (s ∷ fss) (suc k) h = few_blocks fss k (both (fs_fits s) (list_all 
 lying_push : (fss : List FsSpec) (k : ℕ) (os : List ObjSpec) (o : ObjSpec) → lying_on fss k (os ++ o ∷ []) ≡ lying_on fss k os ++ cond (fs_of fss o.path.names == k) (o ∷ []) []
 lying_push fss k [] o = elim (fs_of fss o.path.names == k) as (λ b. cond b (o ∷ []) [] ≡ cond b (o ∷ []) []) [ true ↦ refl | false ↦ refl ]
 lying_push fss k (x ∷ os) o =
-    elim (fs_of fss x.path.names == k) as (λ b. cond b (x ∷ lying_on fss k (os ++ o ∷ [])) (lying_on fss k (os ++ o ∷ [])) ≡ cond b (x ∷ lying_on fss k os) (lying_on fss k os) ++ cond (fs_of fss o.path.names == k) (o ∷ []) []) [
+    elim (fs_of fss x.path.names == k) as (λ b. cond b (x ∷ lying_on fss k (os ++ o ∷ [])) (lying_on fss k (os ++ o ∷ []))
+    ≡ cond b (x ∷ lying_on fss k os) (lying_on fss k os) ++ cond (fs_of fss o.path.names == k) (o ∷ []) []) [
       | true ↦ ap (λ (xs : List ObjSpec). x ∷ xs) (lying_push fss k os o)
       | false ↦ lying_push fss k os o
     ]
@@ -62,10 +64,13 @@ pub count_else : (fss : List FsSpec) (os : List ObjSpec) (o : ObjSpec) (k : ℕ)
 count_else fss os o k ne = ap length (lying_push fss k os o) ∙ rw (ne_eqb (fs_of fss o.path.names) k (λ e. ne (sym e))) (ap length (append-nil (lying_on fss k os)))
 
 blocks_push : (os : List ObjSpec) (o : ObjSpec) → sum (map (λ b. blocks_for (length b.bytes)) (os ++ o ∷ [])) ≡ sum (map (λ b. blocks_for (length b.bytes)) os) + blocks_for (length o.bytes)
-blocks_push os o = ap sum (map-append (λ b. blocks_for (length b.bytes)) os (o ∷ [])) ∙ fold-append (λ (a : ℕ) (x : ℕ). a + x) 0 (map (λ b. blocks_for (length b.bytes)) os) (blocks_for (length o.bytes) ∷ [])
+blocks_push os o = ap sum (map-append (λ b. blocks_for (length b.bytes)) os (o ∷ []))
+    ∙ fold-append (λ (a : ℕ) (x : ℕ). a + x) 0 (map (λ b. blocks_for (length b.bytes)) os) (blocks_for (length o.bytes) ∷ [])
 
 pub blocks_here : (fss : List FsSpec) (os : List ObjSpec) (o : ObjSpec) (k : ℕ) → k ≡ fs_of fss o.path.names → blocks_taken fss k (os ++ o ∷ []) ≡ blocks_taken fss k os + blocks_for (length o.bytes)
-blocks_here fss os o k e = ap (λ (xs : List ObjSpec). sum (map (λ b. blocks_for (length b.bytes)) xs)) (lying_push fss k os o) ∙ rw (eq-eqb (fs_of fss o.path.names) k (sym e)) (blocks_push (lying_on fss k os) o)
+blocks_here fss os o k e = ap (λ (xs : List ObjSpec). sum (map (λ b. blocks_for (length b.bytes)) xs)) (lying_push fss k os o)
+    ∙ rw (eq-eqb (fs_of fss o.path.names) k (sym e)) (blocks_push (lying_on fss k os) o)
 
 pub blocks_else : (fss : List FsSpec) (os : List ObjSpec) (o : ObjSpec) (k : ℕ) → k ≢ fs_of fss o.path.names → blocks_taken fss k (os ++ o ∷ []) ≡ blocks_taken fss k os
-blocks_else fss os o k ne = ap (λ (xs : List ObjSpec). sum (map (λ b. blocks_for (length b.bytes)) xs)) (lying_push fss k os o) ∙ rw (ne_eqb (fs_of fss o.path.names) k (λ e. ne (sym e)), append-nil (lying_on fss k os)) refl
+blocks_else fss os o k ne = ap (λ (xs : List ObjSpec). sum (map (λ b. blocks_for (length b.bytes)) xs)) (lying_push fss k os o)
+    ∙ rw (ne_eqb (fs_of fss o.path.names) k (λ e. ne (sym e)), append-nil (lying_on fss k os)) refl

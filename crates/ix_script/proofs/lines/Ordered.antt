@@ -55,5 +55,6 @@ earlier (b ∷ lines) h =
 greater : (g a b : ℕ) → (nat_lt g a || nat_lt g b) ≡ nat_lt g (max a b)
 greater g a b = grind (arith, nat_tests)
 
-pub latest_push : (g latest : ℕ) (lines : List Line) (x : Line) → list_any (λ b. nat_lt g (group b)) lines ≡ nat_lt g latest → list_any (λ b. nat_lt g (group b)) (lines ++ x ∷ []) ≡ nat_lt g (max latest (group x))
+pub latest_push : (g latest : ℕ) (lines : List Line) (x : Line) → list_any (λ b. nat_lt g (group b)) lines ≡ nat_lt g latest
+    → list_any (λ b. nat_lt g (group b)) (lines ++ x ∷ []) ≡ nat_lt g (max latest (group x))
 latest_push g latest lines x h = any_push (λ b. nat_lt g (group b)) lines x ∙ ap (λ t. t || nat_lt g (group x)) h ∙ greater g latest (group x)

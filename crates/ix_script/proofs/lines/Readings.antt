@@ -1,5 +1,6 @@
 -- The rules that words break by themselves, place by place.
-use Rattle.std.proofs.Common.{◌≡◌, ℕ, ◌<◌, nat_le, nat_lt, Bool, true, false, ◌||◌, ◌&&◌, not, cond, List, [], ◌∷◌, ◌++◌, length, map, drop, get_or, suc, ◌+◌, ◌≤◌, Option, Some, None, option_map, min, codes, if◌then◌else◌, inl, inr, refl, sym, ap, ◌∙◌, arith}
+use Rattle.std.proofs.Common.{◌≡◌, ℕ, ◌<◌, nat_le, nat_lt, Bool, true, false, ◌||◌, ◌&&◌, not, cond, List, [], ◌∷◌, ◌++◌, length, map, drop, get_or}
+use Rattle.std.proofs.Common.{suc, ◌+◌, ◌≤◌, Option, Some, None, option_map, min, codes, if◌then◌else◌, inl, inr, refl, sym, ap, ◌∙◌, arith}
 use Rattle.std.specs.List.{list_any}
 use Rattle.std.specs.Option.{IsSome, is_none, option_map_or}
 use Rattle.std.proofs.lemmas.Bool.{ltb-false, le-leb}

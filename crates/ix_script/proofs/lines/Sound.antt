@@ -1,5 +1,6 @@
 -- What holds of a line that breaks no rule.
-use Rattle.std.proofs.Common.{◌≡◌, ℕ, nat_le, Bool, true, false, ◌&&◌, not, cond, List, [], ◌∷◌, length, map, drop, Option, if◌then◌else◌, Some, None, option_map, refl, sym, ap, ◌∙◌, subst, arith, inl, inr}
+use Rattle.std.proofs.Common.{◌≡◌, ℕ, nat_le, Bool, true, false, ◌&&◌, not, cond, List, [], ◌∷◌, length, map, drop, Option, if◌then◌else◌, Some, None}
+use Rattle.std.proofs.Common.{option_map, refl, sym, ap, ◌∙◌, subst, arith, inl, inr}
 use Rattle.std.specs.Option.{option_or, option_map_or}
 use Rattle.std.proofs.lemmas.Bool.{le-leb, not-true}
 use Rattle.ix_label.specs.Category.{Categories}
@@ -142,14 +143,18 @@ counted_sound before counted.Read proc fd n = tt
 counted_sound before counted.Cut proc fd n = tt
 counted_sound before counted.Seek proc fd n = tt
 
-limit_sound : (before : List Line) (words : List (List ℕ)) (x : What × ℕ) → both (what_of (word_at words 1)) (number_of (bounds (word_at words 1)).0 (bounds (word_at words 1)).1 (word_at words 2)) ≡ Some x → Sound before (line.Limit x.0 x.1)
+limit_sound : (before : List Line) (words : List (List ℕ)) (x : What × ℕ)
+    → both (what_of (word_at words 1)) (number_of (bounds (word_at words 1)).0 (bounds (word_at words 1)).1 (word_at words 2)) ≡ Some x
+    → Sound before (line.Limit x.0 x.1)
 limit_sound before words x h =
     let p = apart _ _ x h in
     let low = within (bounds (word_at words 1)).0 (bounds (word_at words 1)).1 x.1 (word_at words 2) p.second in
     subst (λ (b : ℕ × ℕ). is_within b.0 b.1 x.1 ≡ true) (bounds_are (word_at words 1) x.0 p.first) low
 
 fs_sound : (labels : spelled.Form) (before : List Line) (words : List (List ℕ)) (x : List ℕ × (Categories × (ℕ × ℕ))) → is_known (word_at words 1) (map (λ s. s.name) (fss_told before)) ≡ false
-    → both (name_of (word_at words 1)) (both (label_in labels (word_at words 2)) (both (number_of 1 65536 (word_at words 3)) (number_of 1 65536 (word_at words 4)))) ≡ Some x → Sound before (line.Fs x.0 x.1.0 x.1.1.0 x.1.1.1)
+    → both (name_of (word_at words 1))
+    (both (label_in labels (word_at words 2)) (both (number_of 1 65536 (word_at words 3)) (number_of 1 65536 (word_at words 4)))) ≡ Some x
+    → Sound before (line.Fs x.0 x.1.0 x.1.1.0 x.1.1.1)
 fs_sound labels before words x new h =
     let a = apart _ _ x h in
     let b = apart _ _ x.1 a.second in
@@ -166,7 +171,10 @@ payload_few most word bytes (Some found) h =
     subst (λ (f : List ℕ). nat_le (length f) most ≡ true) p.1 p.0
 
 file_sound : (labels : spelled.Form) (before : List Line) (words : List (List ℕ)) (x : PathOf × (Categories × (Bool × (PrivSet × (PrivSet × List ℕ)))))
-    → both (made_path_of (word_at words 1)) (both (label_in labels (word_at words 2)) (both (state_of (word_at words 3)) (both (privs_of (word_at words 4)) (both (privs_of (word_at words 5)) (payload_within 1048576 (word_at words 6)))))) ≡ Some x
+    → both (made_path_of (word_at words 1))
+    (both (label_in labels (word_at words 2))
+    (both (state_of (word_at words 3)) (both (privs_of (word_at words 4)) (both (privs_of (word_at words 5)) (payload_within 1048576 (word_at words 6))))))
+    ≡ Some x
     → Sound before (line.File x.0 x.1.0 x.1.1.0 x.1.1.1.0 x.1.1.1.1.0 x.1.1.1.1.1)
 file_sound labels before words x h =
     let a = apart _ _ x h in
@@ -219,7 +227,8 @@ new_names before f words h =
     let three = neither (cond (is_given_twice before f words) (Some 20) (cond (names_unknown before f words) (Some 21) None)) _ two.1 in
     (passes (is_given_twice before f words) 20 _ three.0).0
 
-sound_words : (labels : spelled.Form) (before : List Line) (words : List (List ℕ)) (o : Option Form) (l : Line) → option_map_or (λ f. form_fault before f words) o (Some 7) ≡ None → (o >>= λ f. said labels f words) ≡ Some l → Sound before l
+sound_words : (labels : spelled.Form) (before : List Line) (words : List (List ℕ)) (o : Option Form) (l : Line)
+    → option_map_or (λ f. form_fault before f words) o (Some 7) ≡ None → (o >>= λ f. said labels f words) ≡ Some l → Sound before l
 sound_words labels before words None l h m = cc
 sound_words labels before words (Some f) l h m = sound_form labels before f words l (new_names before f words h) m
 

@@ -32,7 +32,9 @@ use Rattle.ix_model.specs.opening.Valid.{is_valid}
 use Rattle.ix_model.specs.declared.config.Limits.{Limits}
 use Rattle.ix_model.specs.declared.config.ObjSpec.{ObjSpec}
 use Rattle.ix_text.specs.Bytes.{is_empty}
-use Rattle.ix_script.specs.lines.Before.{form_told, fs_told, limits_after, what_told, proc_name_told, object_told, is_policy, group, is_phase, lane_after, phase_lanes_after, lanes_after, new_fds, new_procs, fds_given, procs_given, in_lane, is_command, commands}
+use Rattle.ix_script.specs.lines.Before.{form_told, fs_told, limits_after, what_told, proc_name_told, object_told, is_policy, group, is_phase}
+use Rattle.ix_script.specs.lines.Before.{lane_after, phase_lanes_after, lanes_after, new_fds, new_procs, fds_given, procs_given, in_lane, is_command}
+use Rattle.ix_script.specs.lines.Before.{commands}
 use Rattle.ix_script.specs.lines.Roles.{role_of}
 use Rattle.ix_script.specs.lines.Faults.{said_fault}
 use Rattle.ix_script.specs.reader.Indexed.{AreIndexed, AreNames, AreSites}

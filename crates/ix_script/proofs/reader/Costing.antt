@@ -153,5 +153,6 @@ one_more false cost n m h few = omega (arith, h, few)
 pub cheap_none : need [] ≤ 4352 * commands []
 cheap_none = omega (arith, need_none)
 
-pub cheap_next : (labels : spelled.Form) (before : List Line) (text : List ℕ) (l : Line) → line_of labels text ≡ Some l → need before ≤ 4352 * commands before → need (before ++ l ∷ []) ≤ 4352 * commands (before ++ l ∷ [])
+pub cheap_next : (labels : spelled.Form) (before : List Line) (text : List ℕ) (l : Line) → line_of labels text ≡ Some l → need before ≤ 4352 * commands before
+    → need (before ++ l ∷ []) ≤ 4352 * commands (before ++ l ∷ [])
 cheap_next labels before text l m few = rw (need_push before l, commands_push before l) (one_more (is_command l) (cost_of_line l) (need before) (commands before) (line_cheap labels text l m) few)

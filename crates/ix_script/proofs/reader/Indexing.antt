@@ -105,6 +105,7 @@ pub there_by_file : (objects : List ObjSpec) (names : List (List ℕ)) (dir file
 there_by_file objects names dir file is no_dir also = also ∙ by_second (dir_there objects names) (file_there objects names) (is_there objects names) (dir_or_file objects names) (sym is ∙ no_dir)
 
 -- two names in a lane, one after the other
-pub two_in_lane : (items : List (List ℕ × List ℕ)) (lane : Option (List ℕ)) (first second : List ℕ) → (items ++ in_lane lane (first ∷ [])) ++ in_lane lane (second ∷ []) ≡ items ++ in_lane lane (first ∷ second ∷ [])
+pub two_in_lane : (items : List (List ℕ × List ℕ)) (lane : Option (List ℕ)) (first second : List ℕ) → (items ++ in_lane lane (first ∷ []))
+    ++ in_lane lane (second ∷ []) ≡ items ++ in_lane lane (first ∷ second ∷ [])
 two_in_lane items None first second = append-nil (items ++ [])
 two_in_lane items (Some lane) first second = append_assoc items ((lane, first) ∷ []) ((lane, second) ∷ [])

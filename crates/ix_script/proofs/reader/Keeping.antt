@@ -1,5 +1,6 @@
 -- What is kept of the header holds with one line more.
-use Rattle.std.proofs.Common.{◌≡◌, ℕ, suc, ◌+◌, ◌<◌, ◌≤◌, ◌==◌, nat_le, nat_lt, Bool, true, false, ◌||◌, not, cond, List, [], ◌∷◌, ◌++◌, length, max, slice_index, refl, sym, ap, ◌∙◌, subst, arith, length-append, inl, inr}
+use Rattle.std.proofs.Common.{◌≡◌, ℕ, suc, ◌+◌, ◌<◌, ◌≤◌, ◌==◌, nat_le, nat_lt, Bool, true, false, ◌||◌, not, cond, List, [], ◌∷◌, ◌++◌, length, max}
+use Rattle.std.proofs.Common.{slice_index, refl, sym, ap, ◌∙◌, subst, arith, length-append, inl, inr}
 use Rattle.std.specs.List.{flat_map, list_all}
 use Rattle.std.proofs.lemmas.Bool.{cases_eq, eq-eqb, ne_eqb, leb-true}
 use Rattle.std.proofs.lemmas.Bool.Decides.{nat_tests}
@@ -13,7 +14,8 @@ use Rattle.ix_model.specs.declared.config.ObjSpec.{ObjSpec}
 use Rattle.ix_label.specs.declared.form.Form.{Form}
 use Rattle.ix_label.specs.declared.form.Form.TheVariants.{One}
 use Rattle.ix_text.specs.Bytes.{is_empty}
-use Rattle.ix_script.specs.lines.Before.{form_by, form_told, fs_told, or_default, fss_told, fss_of, what_told, limits_after, limits_of, proc_name_told, proc_names, object_told, objects_of, is_policy, group}
+use Rattle.ix_script.specs.lines.Before.{form_by, form_told, fs_told, or_default, fss_told, fss_of, what_told, limits_after, limits_of}
+use Rattle.ix_script.specs.lines.Before.{proc_name_told, proc_names, object_told, objects_of, is_policy, group}
 use Rattle.ix_script.specs.reader.Indexed.{AreNames, AreSites}
 use Rattle.ix_script.specs.reader.Told.{HeaderTold, MakesMore, NamesMore, TakenOne, Takes, fss_after}
 use Rattle.ix_script.specs.declared.before.header.Header.{Header}
@@ -62,11 +64,13 @@ one_told : (x : Line) → length (fs_told x) ≤ 1
 one_told (line.Fs name ceiling blocks inodes) = omega arith
 one_told _ = omega arith
 
-fss_kept : (first : Bool) (n : ℕ) (old new : List FsSpec) (before : List Line) (x : Line) → first ≡ is_empty before → n ≡ length (fss_told before) → old ≡ fss_of before → new ≡ fss_after first n old (form_by x) (fs_told x)
+fss_kept : (first : Bool) (n : ℕ) (old new : List FsSpec) (before : List Line) (x : Line) → first ≡ is_empty before → n ≡ length (fss_told before)
+    → old ≡ fss_of before → new ≡ fss_after first n old (form_by x) (fs_told x)
     → new ≡ or_default (form_told (before ++ x ∷ [])) (fss_told before ++ fs_told x)
 unfolding fss_told
 fss_kept first n old new [] x hf hn ho h = h ∙ (λ i. fss_after (hf i) (hn i) old (form_by x) (fs_told x)) ∙ first_one (form_by x) old (fs_told x) (one_told x)
-fss_kept first n old new (y ∷ before) x hf hn ho h = h ∙ (λ i. fss_after (hf i) (hn i) (ho i) (form_by x) (fs_told x)) ∙ one_more (form_by y) (form_by x) (fss_told (y ∷ before)) (fs_told x) (one_told x)
+fss_kept first n old new (y ∷ before) x hf hn ho h = h ∙ (λ i. fss_after (hf i) (hn i) (ho i) (form_by x) (fs_told x))
+    ∙ one_more (form_by y) (form_by x) (fss_told (y ∷ before)) (fs_told x) (one_told x)
 
 room_for_fs : (before : List Line) (x : Line) → Follows before x → length (fss_told before) ≤ 16 → length (fss_told before) + length (fs_told x) ≤ 16
 room_for_fs before (line.Fs name ceiling blocks inodes) f few =
@@ -87,7 +91,8 @@ not_false : (b : Bool) → not b ≡ false → b ≡ true
 not_false true h = refl
 not_false false h = cc
 
-counted_one : (fss : List FsSpec) (limits : Limits) (os : List ObjSpec) (o : ObjSpec) (old new : Taken) → 0 < length fss → length fss ≤ 16 → list_all fs_fits fss ≡ true → has_room fss limits os o ≡ true
+counted_one : (fss : List FsSpec) (limits : Limits) (os : List ObjSpec) (o : ObjSpec) (old new : Taken) → 0 < length fss → length fss ≤ 16
+    → list_all fs_fits fss ≡ true → has_room fss limits os o ≡ true
     → Counted fss os old → TakenOne fss o.path.names (length o.bytes) old new → Counted fss (os ++ o ∷ []) new
 counted_one fss limits os o old new some few fit room was taken =
     let here : ℕ = fs_of fss o.path.names in
@@ -105,7 +110,8 @@ counted_one fss limits os o old new some few fit room was taken =
         | inr ne ↦ rw (ne_eqb k here ne) (was.counts k h ∙ sym (count_else fss os o k ne))
       ];
       blocks = λ k h. blocks k ∙ elim (cases_eq k here) [
-        | inl e ↦ rw (eq-eqb k here e) (ap (λ n. n + blocks_for (length o.bytes)) (was.blocks here low) ∙ sym (blocks_here fss os o k e ∙ ap (λ j. blocks_taken fss j os + blocks_for (length o.bytes)) e))
+        | inl e ↦ rw (eq-eqb k here e) (ap (λ n. n + blocks_for (length o.bytes)) (was.blocks here low)
+            ∙ sym (blocks_here fss os o k e ∙ ap (λ j. blocks_taken fss j os + blocks_for (length o.bytes)) e))
         | inr ne ↦ rw (ne_eqb k here ne) (was.blocks k h ∙ sym (blocks_else fss os o k ne))
       ];
     }
@@ -138,32 +144,41 @@ later_fss y before x h = ap (or_default (form_by y)) (same_told (y ∷ before) x
 pub same_objects : (before : List Line) (x : Line) → object_told x ≡ [] → objects_of (After before x) ≡ objects_of before
 same_objects before x h = objects_push before x ∙ ap (λ more. objects_of before ++ more) h ∙ append-nil (objects_of before)
 
-counted_object : (before : List Line) (x : Line) (o : ObjSpec) (old new : Taken) → 0 < length (fss_of before) → length (fss_of before) ≤ 16 → list_all fs_fits (fss_of before) ≡ true → fs_told x ≡ [] → form_by x ≡ One → object_told x ≡ o ∷ []
-    → not (has_room (fss_of before) (limits_of before) (objects_of before) o) ≡ false → Counted (fss_of before) (objects_of before) old → TakenOne (fss_of before) o.path.names (length o.bytes) old new → Counted (fss_of (After before x)) (objects_of (After before x)) new
+counted_object : (before : List Line) (x : Line) (o : ObjSpec) (old new : Taken) → 0 < length (fss_of before) → length (fss_of before) ≤ 16
+    → list_all fs_fits (fss_of before) ≡ true → fs_told x ≡ [] → form_by x ≡ One → object_told x ≡ o ∷ []
+    → not (has_room (fss_of before) (limits_of before) (objects_of before) o) ≡ false → Counted (fss_of before) (objects_of before) old
+    → TakenOne (fss_of before) o.path.names (length o.bytes) old new → Counted (fss_of (After before x)) (objects_of (After before x)) new
 counted_object before x o old new some few fit no_fs no_form told room was taken =
     let one : Counted (fss_of before) (objects_of before ++ o ∷ []) new = counted_one (fss_of before) (limits_of before) (objects_of before) o old new some few fit (not_false _ room) was taken in
-    counted_same (fss_of before) (objects_of before ++ o ∷ []) new new (fss_of (After before x)) (objects_of (After before x)) one refl (same_fss before x no_fs no_form) (objects_push before x ∙ ap (λ more. objects_of before ++ more) told)
+    counted_same (fss_of before) (objects_of before ++ o ∷ []) new new (fss_of (After before x)) (objects_of (After before x)) one refl
+    (same_fss before x no_fs no_form) (objects_push before x ∙ ap (λ more. objects_of before ++ more) told)
 
-counted_version : (before : List Line) (form : Form) (old new : Taken) → Counted (fss_of before) (objects_of before) old → new ≡ old → Counted (fss_of (After before (line.Version form))) (objects_of (After before (line.Version form))) new
+counted_version : (before : List Line) (form : Form) (old new : Taken) → Counted (fss_of before) (objects_of before) old → new ≡ old
+    → Counted (fss_of (After before (line.Version form))) (objects_of (After before (line.Version form))) new
 unfolding objects_of
 counted_version [] form old new was e =
     let x : Line = line.Version form in
     counted_same (fss_of (After [] x)) [] old new (fss_of (After [] x)) (objects_of (After [] x)) (nothing_lies (fss_of []) old (fss_of (After [] x)) was) e refl (same_objects [] x refl)
 counted_version (y ∷ before) form old new was e =
     let x : Line = line.Version form in
-    counted_same (fss_of (y ∷ before)) (objects_of (y ∷ before)) old new (fss_of (After (y ∷ before) x)) (objects_of (After (y ∷ before) x)) was e (later_fss y before x refl) (same_objects (y ∷ before) x refl)
+    counted_same (fss_of (y ∷ before)) (objects_of (y ∷ before)) old new (fss_of (After (y ∷ before) x)) (objects_of (After (y ∷ before) x)) was e
+    (later_fss y before x refl) (same_objects (y ∷ before) x refl)
 
 counted_next : (before : List Line) (x : Line) (old new : Taken) → 0 < length (fss_of before) → length (fss_of before) ≤ 16 → list_all fs_fits (fss_of before) ≡ true → Follows before x
     → Counted (fss_of before) (objects_of before) old → Takes (fss_of before) (object_told x) old new → Counted (fss_of (After before x)) (objects_of (After before x)) new
 counted_next before (line.Dir path label frozen) old new some few fit f was takes = counted_object before (line.Dir path label frozen) _ old new some few fit refl refl refl f.exceeds_limits was takes
-counted_next before (line.File path label frozen cap lic bytes) old new some few fit f was takes = counted_object before (line.File path label frozen cap lic bytes) _ old new some few fit refl refl refl f.exceeds_limits was takes
+counted_next before (line.File path label frozen cap lic bytes) old new some few fit f was takes =
+    counted_object before (line.File path label frozen cap lic bytes) _ old new some few fit refl refl refl f.exceeds_limits was takes
 counted_next before (line.Fs name ceiling blocks inodes) old new some few fit f was takes =
     let x : Line = line.Fs name ceiling blocks inodes in
     let none : objects_of before ≡ [] = no_objects before f.order in
     let nothing : Counted (fss_of before) [] old = subst (λ (os : List ObjSpec). Counted (fss_of before) os old) none was in
-    counted_same (fss_of (After before x)) [] old new (fss_of (After before x)) (objects_of (After before x)) (nothing_lies (fss_of before) old (fss_of (After before x)) nothing) takes refl (same_objects before x refl ∙ none)
+    counted_same (fss_of (After before x)) [] old new (fss_of (After before x)) (objects_of (After before x))
+    (nothing_lies (fss_of before) old (fss_of (After before x)) nothing) takes refl (same_objects before x refl ∙ none)
 counted_next before (line.Version form) old new some few fit f was takes = counted_version before form old new was takes
-counted_next before x old new some few fit f was takes = counted_same (fss_of before) (objects_of before) old new (fss_of (After before x)) (objects_of (After before x)) was takes (same_fss before x refl refl) (same_objects before x refl)
+counted_next before x old new some few fit f was takes =
+    counted_same (fss_of before) (objects_of before) old new (fss_of (After before x)) (objects_of (After before x)) was takes (same_fss before x refl refl)
+    (same_objects before x refl)
 
 -- ---- no line tells more than one object, or one name
 few_told : {A : Type 0} (f : Line → List A) → ((x : Line) → length (f x) ≤ 1) → (lines : List Line) → length (flat_map f lines) ≤ length lines
@@ -217,7 +232,8 @@ quiet _ a b c d e f = record { fss = refl; whats = refl; procs = refl; made = re
 
 -- ---- the whole
 pub header_next : (h n : Header) (first : Bool) (before : List Line) (x : Line) → first ≡ is_empty before → HeaderTold h before → list_all fs_fits (fss_of before) ≡ true → Follows before x
-    → n.told ≡ h.told + length (fs_told x) → n.fss ≡ fss_after first h.told h.fss (form_by x) (fs_told x) → n.limits ≡ limits_after h.limits x → n.whats ≡ h.whats ++ what_told x → NamesMore (proc_name_told x) h.procs n.procs
+    → n.told ≡ h.told + length (fs_told x) → n.fss ≡ fss_after first h.told h.fss (form_by x) (fs_told x) → n.limits ≡ limits_after h.limits x
+    → n.whats ≡ h.whats ++ what_told x → NamesMore (proc_name_told x) h.procs n.procs
     → MakesMore (object_told x) h.made n.made → Takes h.fss (object_told x) h.taken n.taken → n.latest ≡ max h.latest (group x) → n.policy ≡ (h.policy || is_policy x) → HeaderTold n (After before x)
 header_next h n first before x is_first was fit f told fss limits whats procs made takes latest policy =
     let told_is : length (fss_told before) ≤ 16 = told_few (form_told before) (fss_told before) (subst (λ (fs : List FsSpec). length fs ≤ 16) was.fss was.few) in
@@ -225,7 +241,8 @@ header_next h n first before x is_first was fit f told fss limits whats procs ma
     let count : length (fss_told (After before x)) ≡ length (fss_told before) + length (fs_told x) = ap length (fss_push before x) ∙ length-append (fss_told before) (fs_told x) in
     let few : length (fss_of (After before x)) ≤ 16 = few_after (form_told (After before x)) (fss_told (After before x)) (omega (arith, room_for_fs before x f told_is)) in
     let counted : Counted (fss_of (After before x)) (objects_of (After before x)) n.taken =
-    counted_next before x h.taken n.taken (some_fs (form_told before) (fss_told before)) (subst (λ (fs : List FsSpec). length fs ≤ 16) was.fss was.few) fit f (record { counts = was.counts; blocks = was.blocks }) (subst (λ (fs : List FsSpec). Takes fs (object_told x) h.taken n.taken) was.fss takes) in
+    counted_next before x h.taken n.taken (some_fs (form_told before) (fss_told before)) (subst (λ (fs : List FsSpec). length fs ≤ 16) was.fss was.few) fit f
+    (record { counts = was.counts; blocks = was.blocks }) (subst (λ (fs : List FsSpec). Takes fs (object_told x) h.taken n.taken) was.fss takes) in
     record {
       told = told ∙ ap (λ k. k + length (fs_told x)) was.told ∙ sym count;
       fss = fss_is;

@@ -1,5 +1,6 @@
 -- Lines that are held as their texts.
-use Rattle.std.proofs.Common.{◌≡◌, ℕ, zero, suc, ◌+◌, ◌-◌, ◌<◌, ◌≤◌, List, [], ◌∷◌, ◌++◌, length, take, drop, get_or, Some, None, false, true≢false, refl, sym, ap, ◌∙◌, subst, arith, length-append, length-drop}
+use Rattle.std.proofs.Common.{◌≡◌, ℕ, zero, suc, ◌+◌, ◌-◌, ◌<◌, ◌≤◌, List, [], ◌∷◌, ◌++◌, length, take, drop, get_or, Some, None, false, true≢false}
+use Rattle.std.proofs.Common.{refl, sym, ap, ◌∙◌, subst, arith, length-append, length-drop}
 use Rattle.std.specs.List.{slice_get}
 use Rattle.std.proofs.Math.Seq.{take-length, drop-append_seam}
 use Rattle.std.proofs.lemmas.List.{take-append-le, drop-append-le}
@@ -32,12 +33,14 @@ between-rest text more =
     (λ i. take (n i) (drop-append_seam text more i)) ∙ take-length more
 
 -- ---- one line more
-pub pushed : (labels : spelled.Form) (from : ℕ) (text more ends : List ℕ) → AreLines labels from text ends → held labels from (text ++ more) (ends ++ length (text ++ more) ∷ []) ≡ held labels from text ends ++ line_in labels more ∷ []
+pub pushed : (labels : spelled.Form) (from : ℕ) (text more ends : List ℕ) → AreLines labels from text ends
+    → held labels from (text ++ more) (ends ++ length (text ++ more) ∷ []) ≡ held labels from text ends ++ line_in labels more ∷ []
 pushed labels from text more [] h = ap (λ (t : List ℕ). line_in labels t ∷ []) (ap (λ n. between n (length (text ++ more)) (text ++ more)) h ∙ between-rest text more)
 pushed labels from text more (end ∷ ends) h =
     λ i. line_in labels (between-append from end text more h.0 h.1 i) ∷ pushed labels end text more ends h.3 i
 
-pub stay_lines : (labels : spelled.Form) (from : ℕ) (text more ends : List ℕ) → AreLines labels from text ends → IsLine labels more → AreLines labels from (text ++ more) (ends ++ length (text ++ more) ∷ [])
+pub stay_lines : (labels : spelled.Form) (from : ℕ) (text more ends : List ℕ) → AreLines labels from text ends → IsLine labels more
+    → AreLines labels from (text ++ more) (ends ++ length (text ++ more) ∷ [])
 stay_lines labels from text more [] h l =
     (omega (arith, length-append text more), omega arith, subst (IsLine labels) (sym (ap (λ n. between n (length (text ++ more)) (text ++ more)) h ∙ between-rest text more)) l, refl)
 stay_lines labels from text more (end ∷ ends) h l =
@@ -116,7 +119,8 @@ said_by before words h =
       | None ↦ λ q e. absurd (none-some 7 (sym q))
     ] p.1 refl
 
-of_body : (labels : spelled.Form) (before : List Line) (text : List ℕ) → (is_empty before ≡ false → form_told before ≡ labels) → body_fault before text ≡ None → is_skipped text ≡ false → is_policy_line text ≡ false → version_of text ≡ None → IsSaid labels (words_of text)
+of_body : (labels : spelled.Form) (before : List Line) (text : List ℕ) → (is_empty before ≡ false → form_told before ≡ labels) → body_fault before text ≡ None
+    → is_skipped text ≡ false → is_policy_line text ≡ false → version_of text ≡ None → IsSaid labels (words_of text)
 unfolding body_fault
 of_body labels [] text told h skipped policy version = let v = first_version text h in absurd (none-some v.0 (sym version ∙ v.1))
 of_body labels (l ∷ before) text told h skipped policy version = subst (λ f. IsSaid f (words_of text)) (told refl) (said_by (l ∷ before) (words_of text) (rw (skipped, policy) at h))

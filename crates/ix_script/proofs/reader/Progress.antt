@@ -1,5 +1,6 @@
 -- Reading line after line.
-use Rattle.std.proofs.Common.{◌≡◌, ℕ, ◌+◌, ◌*◌, ◌<◌, ◌≤◌, true, false, true≢false, List, [], ◌∷◌, ◌++◌, length, Option, Some, None, option_map, refl, sym, ap, ◌∙◌, subst, arith, append_assoc, length-append}
+use Rattle.std.proofs.Common.{◌≡◌, ℕ, ◌+◌, ◌*◌, ◌<◌, ◌≤◌, true, false, true≢false, List, [], ◌∷◌, ◌++◌, length, Option, Some, None, option_map, refl}
+use Rattle.std.proofs.Common.{sym, ap, ◌∙◌, subst, arith, append_assoc, length-append}
 use Rattle.std.proofs.lemmas.List.{append-nil}
 use Rattle.ix_model.specs.opening.Valid.{is_valid}
 use Rattle.ix_script.specs.lines.Before.{form_by, form_told, lanes_of, commands}
@@ -46,7 +47,8 @@ pub record Reading (texts : List (List ℕ)) (total : ℕ) (rest : List ℕ) (d 
   pub cheap : need d.lines ≤ 4352 * commands d.lines
 
 -- ---- a line without a fault
-fault_later : (before : List Line) (text : List ℕ) (texts : List (List ℕ)) (l : Line) → line_fault before text ≡ None → line_of (form_told before) text ≡ Some l → fault_from before (text ∷ texts) ≡ fault_from (before ++ l ∷ []) texts
+fault_later : (before : List Line) (text : List ℕ) (texts : List (List ℕ)) (l : Line) → line_fault before text ≡ None → line_of (form_told before) text ≡ Some l
+    → fault_from before (text ∷ texts) ≡ fault_from (before ++ l ∷ []) texts
 unfolding fault_from
 fault_later before text texts l h m = rw (h, m) refl
 
@@ -54,7 +56,8 @@ regroup : (front : List Line) (l : Line) (more : Option (List Line)) → after f
 regroup front l None = refl
 regroup front l (Some lines) = ap (λ (ls : List Line). Some ls) (sym (append_assoc front (l ∷ []) lines))
 
-said_later : (labels : Form) (before : List Line) (text : List ℕ) (texts : List (List ℕ)) (l : Line) → line_of labels text ≡ Some l → after before (lines_said labels (text ∷ texts)) ≡ after (before ++ l ∷ []) (lines_said labels texts)
+said_later : (labels : Form) (before : List Line) (text : List ℕ) (texts : List (List ℕ)) (l : Line) → line_of labels text ≡ Some l
+    → after before (lines_said labels (text ∷ texts)) ≡ after (before ++ l ∷ []) (lines_said labels texts)
 unfolding lines_said
 said_later labels before text texts l m = rw m (regroup before l (lines_said labels texts))
 
@@ -84,7 +87,8 @@ goes_on texts total rest d e text more l r first fewer right told is =
       told = told;
       valid = subst (λ (ls : List Line). is_valid (config_of ls) ≡ true) (sym is) (valid_next d.lines text l r.valid right.faultless right.meant right.fits (omega (arith, few, cheap)));
       fault = ap (λ (ls : List Line). fault_from ls (cut more)) is ∙ sym (fault_later d.lines text (cut more) l right.faultless right.meant) ∙ ap (fault_from d.lines) (sym first) ∙ r.fault;
-      said = ap (λ (ls : List Line). after ls (lines_said labels (cut more))) is ∙ sym (said_later labels d.lines text (cut more) l in_form.0) ∙ ap (λ (ts : List (List ℕ)). after d.lines (lines_said labels ts)) (sym first) ∙ r.said;
+      said = ap (λ (ls : List Line). after ls (lines_said labels (cut more))) is ∙ sym (said_later labels d.lines text (cut more) l in_form.0)
+          ∙ ap (λ (ts : List (List ℕ)). after d.lines (lines_said labels ts)) (sym first) ∙ r.said;
       later = λ some. ap form_told is ∙ in_form.1;
       first = λ none. let some : is_empty e.lines ≡ false = ap is_empty is ∙ some_pushed d.lines l in absurd (true≢false (sym none ∙ some));
       short = let long : length e.lines ≡ length d.lines + 1 = ap length is ∙ length-append d.lines (l ∷ []) in let s = r.short in omega arith;

@@ -5,7 +5,10 @@ use Rattle.std.proofs.lemmas.List.{append-nil}
 use Rattle.std.proofs.lemmas.List.Folds.{list_any-append}
 use Rattle.std.proofs.lemmas.List.Sums.{fold-append, sum_by-append}
 use Rattle.std.proofs.lemmas.Grind.{flat_map-append}
-use Rattle.ix_script.specs.lines.Before.{fs_told, fss_told, what_told, whats_told, limits_after, default_limits, limits_of, proc_told, proc_name_told, procs_of, proc_names, object_told, objects_of, is_policy, has_policy, is_phase, in_body, lane_after, lane_now, phase_lanes_after, phase_lanes, lanes_after, lanes_of, is_command, commands, in_lane, given, new_fds, new_procs, fds_given, procs_given}
+use Rattle.ix_script.specs.lines.Before.{fs_told, fss_told, what_told, whats_told, limits_after, default_limits, limits_of, proc_told, proc_name_told}
+use Rattle.ix_script.specs.lines.Before.{procs_of, proc_names, object_told, objects_of, is_policy, has_policy, is_phase, in_body, lane_after}
+use Rattle.ix_script.specs.lines.Before.{lane_now, phase_lanes_after, phase_lanes, lanes_after, lanes_of, is_command, commands, in_lane, given}
+use Rattle.ix_script.specs.lines.Before.{new_fds, new_procs, fds_given, procs_given}
 use Rattle.ix_script.specs.declared.line.Line.{Line}
 
 or_false : (b : Bool) → (b || false) ≡ b
@@ -74,7 +77,8 @@ commands_push xs x = sum_by-append (λ l. cond (is_command l) 1 0) xs (x ∷ [])
 
 given_push : (new : Line → List (List ℕ)) (at : Option (List ℕ)) (xs : List Line) (x : Line) → given new at (xs ++ x ∷ []) ≡ given new at xs ++ in_lane (fold lane_after at xs) (new x)
 given_push new at [] x = append-nil (in_lane at (new x))
-given_push new at (y ∷ xs) x = ap (λ ys. in_lane at (new y) ++ ys) (given_push new (lane_after at y) xs x) ∙ sym (append_assoc (in_lane at (new y)) (given new (lane_after at y) xs) (in_lane (fold lane_after (lane_after at y) xs) (new x)))
+given_push new at (y ∷ xs) x = ap (λ ys. in_lane at (new y) ++ ys) (given_push new (lane_after at y) xs x)
+    ∙ sym (append_assoc (in_lane at (new y)) (given new (lane_after at y) xs) (in_lane (fold lane_after (lane_after at y) xs) (new x)))
 
 pub fds_push : (xs : List Line) (x : Line) → fds_given (xs ++ x ∷ []) ≡ fds_given xs ++ in_lane (lane_now xs) (new_fds x)
 unfolding fds_given lane_now

@@ -1,5 +1,6 @@
 -- A config stays valid with one line more.
-use Rattle.std.proofs.Common.{◌≡◌, ℕ, ◌+◌, ◌-◌, ◌<◌, ◌≤◌, nat_le, nat_eq, Bool, true, false, not, ◌&&◌, ◌||◌, List, [], ◌∷◌, ◌++◌, length, map, take, Some, None, refl, sym, ap, ◌∙◌, subst, arith, append_assoc, length-append, inl, inr}
+use Rattle.std.proofs.Common.{◌≡◌, ℕ, ◌+◌, ◌-◌, ◌<◌, ◌≤◌, nat_le, nat_eq, Bool, true, false, not, ◌&&◌, ◌||◌, List, [], ◌∷◌, ◌++◌, length, map, take}
+use Rattle.std.proofs.Common.{Some, None, refl, sym, ap, ◌∙◌, subst, arith, append_assoc, length-append, inl, inr}
 use Rattle.std.specs.List.{list_any, list_all, flat_map}
 use Rattle.std.proofs.lemmas.Bool.{le-leb, cases_eq, eq-eqb, ne_eqb}
 use Rattle.std.proofs.lemmas.Bool.Decides.{nat_tests}
@@ -15,7 +16,9 @@ use Rattle.ix_model.specs.declared.config.ProcSpec.{ProcSpec}
 use Rattle.ix_model.specs.declared.config.ObjSpec.{ObjSpec}
 use Rattle.ix_label.specs.declared.form.Form.{Form}
 use Rattle.ix_label.specs.declared.form.Form.TheVariants.{One}
-use Rattle.ix_script.specs.lines.Before.{form_by, form_told, fs_told, fss_told, or_default, fss_of, default_fs, is_known, with_limit, limits_after, limits_of, default_limits, proc_told, proc_name_told, procs_of, proc_names, object_told, objects_of, dir_spec, file_spec}
+use Rattle.ix_script.specs.lines.Before.{form_by, form_told, fs_told, fss_told, or_default, fss_of, default_fs, is_known, with_limit, limits_after}
+use Rattle.ix_script.specs.lines.Before.{limits_of, default_limits, proc_told, proc_name_told, procs_of, proc_names, object_told, objects_of}
+use Rattle.ix_script.specs.lines.Before.{dir_spec, file_spec}
 use Rattle.ix_script.specs.lines.Kinds.{bounds_of}
 use Rattle.ix_script.specs.lines.Said.{line_of}
 use Rattle.ix_script.specs.lines.Faults.{said_fault, line_fault}
@@ -85,7 +88,8 @@ fss_push_fit fss fs h fit few new =
     let names : all_differ (map (λ s. s.name) (fss ++ fs ∷ [])) ≡ true = ap all_differ (map-append (λ (s : FsSpec). s.name) fss (fs ∷ [])) ∙ differ_push (map (λ s. s.name) fss) fs.name one.1 new in
     join_tests _ _ (join_tests _ _ within (all_push fs_fits fss fs two.1 fit)) names
 
-told_fit : (form : Form) (told : List FsSpec) (fs : FsSpec) → fss_fit (or_default form told) ≡ true → fs_fits fs ≡ true → length told < 16 → is_known fs.name (map (λ s. s.name) told) ≡ false → fss_fit (or_default form (told ++ fs ∷ [])) ≡ true
+told_fit : (form : Form) (told : List FsSpec) (fs : FsSpec) → fss_fit (or_default form told) ≡ true → fs_fits fs ≡ true → length told < 16
+    → is_known fs.name (map (λ s. s.name) told) ≡ false → fss_fit (or_default form (told ++ fs ∷ [])) ≡ true
 told_fit form [] fs h fit few new = first_fits fs fit
 told_fit form (t ∷ told) fs h fit few new = fss_push_fit (t ∷ told) fs h fit few new
 
@@ -136,7 +140,8 @@ and_true : (b : Bool) → (b && true) ≡ b
 and_true true = refl
 and_true false = refl
 
-fit_push : (fss : List FsSpec) (l : Limits) (before os : List ObjSpec) (o : ObjSpec) → objects_fit fss l before os ≡ true → object_fits fss l (before ++ os) o ≡ true → objects_fit fss l before (os ++ o ∷ []) ≡ true
+fit_push : (fss : List FsSpec) (l : Limits) (before os : List ObjSpec) (o : ObjSpec) → objects_fit fss l before os ≡ true
+    → object_fits fss l (before ++ os) o ≡ true → objects_fit fss l before (os ++ o ∷ []) ≡ true
 fit_push fss l before [] o h k = rw and_true (subst (λ (xs : List ObjSpec). object_fits fss l xs o ≡ true) (append-nil before) k)
 fit_push fss l before (x ∷ os) o h k =
     let p = both (object_fits fss l before x) (objects_fit fss l (before ++ x ∷ []) os) h in
@@ -150,7 +155,8 @@ object_fit fss l os o formed above misfit crowd =
     join_tests _ _ (join_tests _ _ (join_tests _ _ (join_tests _ _ formed (not_false _ above)) (rw tree.0 refl)) (not_false _ tree.1)) (not_false _ crowd)
 
 -- ---- the whole
-parts_same : (before after : List Line) → fss_of after ≡ fss_of before → limits_of after ≡ limits_of before → procs_of after ≡ procs_of before → objects_of after ≡ objects_of before → Parts before → Parts after
+parts_same : (before after : List Line) → fss_of after ≡ fss_of before → limits_of after ≡ limits_of before → procs_of after ≡ procs_of before
+    → objects_of after ≡ objects_of before → Parts before → Parts after
 parts_same before after f l p o was =
     record {
       fss = ap fss_fit f ∙ was.fss;
@@ -214,7 +220,8 @@ parts_next before (line.Fs name ceiling blocks inodes) was f s =
     let limits = limits_push before x in
     let objects : objects_of (After before x) ≡ [] = same_objects before x refl ∙ no_objects before f.order in
     record {
-      fss = ap fss_fit fs ∙ told_fit (form_told before) (fss_told before) (record { name = name; ceiling = ceiling; blocks = blocks; inodes = inodes }) was.fss s.fits (below_is_less 16 (length (fss_told before)) f.many) s.new;
+      fss = ap fss_fit fs ∙ told_fit (form_told before) (fss_told before) (record { name = name; ceiling = ceiling; blocks = blocks; inodes = inodes }) was.fss
+          s.fits (below_is_less 16 (length (fss_told before)) f.many) s.new;
       limits = ap limits_fit limits ∙ was.limits;
       procs = (λ i. procs_fit (limits i) (same_procs before x refl i)) ∙ was.procs;
       objects = λ i. objects_fit (fs i) (limits i) [] (objects i);
@@ -227,7 +234,13 @@ parts_next before (line.Proc name label ceiling cap lic) was f s =
     record {
       fss = ap fss_fit fs ∙ was.fss;
       limits = ap limits_fit limits ∙ was.limits;
-      procs = (λ i. procs_fit (limits i) (procs_push before x i)) ∙ procs_push_fit (limits_of before) (procs_of before) (record { label = label; ceiling = ceiling; cap = cap; lic = lic }) was.procs (not_false _ f.above) (omega (arith, named_each before));
+      procs = (λ i. procs_fit (limits i) (procs_push before x i)) ∙ procs_push_fit (limits_of before) (procs_of before) (record {
+        label = label;
+        ceiling =
+            ceiling;
+        cap = cap;
+        lic = lic;
+      }) was.procs (not_false _ f.above) (omega (arith, named_each before));
       objects = (λ i. objects_fit (fs i) (limits i) [] (same_objects before x refl i)) ∙ was.objects;
     }
 parts_next before (line.Dir path label frozen) was f s =
@@ -235,7 +248,8 @@ parts_next before (line.Dir path label frozen) was f s =
     (object_fit (fss_of before) (limits_of before) (objects_of before) (dir_spec path label frozen) (join_tests _ _ (join_tests _ _ s refl) refl) f.above f.is_misplaced f.exceeds_limits) was
 parts_next before (line.File path label frozen cap lic bytes) was f s =
     object_next before (line.File path label frozen cap lic bytes) (file_spec path label frozen cap lic bytes) refl refl refl refl refl
-    (object_fit (fss_of before) (limits_of before) (objects_of before) (file_spec path label frozen cap lic bytes) (join_tests _ _ (join_tests _ _ s.place s.few) refl) f.above f.is_misplaced f.exceeds_limits) was
+    (object_fit (fss_of before) (limits_of before) (objects_of before) (file_spec path label frozen cap lic bytes)
+    (join_tests _ _ (join_tests _ _ s.place s.few) refl) f.above f.is_misplaced f.exceeds_limits) was
 parts_next before (line.Version form) was f s = parts_version before form was
 parts_next before x was f s = parts_same before (After before x) (same_fss before x refl refl) (limits_push before x) (same_procs before x refl) (same_objects before x refl) was
 
@@ -243,5 +257,7 @@ pub valid_none : is_valid (config_of []) ≡ true
 unfolding is_valid config_of fss_fit limits_fit procs_fit fss_told default_fs limits_of default_limits procs_of objects_of need
 valid_none = refl
 
-pub valid_next : (before : List Line) (text : List ℕ) (l : Line) → is_valid (config_of before) ≡ true → line_fault before text ≡ None → line_of (form_told before) text ≡ Some l → said_fault before l ≡ None → need (before ++ l ∷ []) ≤ 870400000 → is_valid (config_of (before ++ l ∷ [])) ≡ true
+pub valid_next : (before : List Line) (text : List ℕ) (l : Line) → is_valid (config_of before) ≡ true → line_fault before text ≡ None
+    → line_of (form_told before) text ≡ Some l → said_fault before l ≡ None → need (before ++ l ∷ []) ≤ 870400000
+    → is_valid (config_of (before ++ l ∷ [])) ≡ true
 valid_next before text l h f m fits few = valid_by (before ++ l ∷ []) (parts_next before l (parts_of before h) (follows before l fits) (sound (form_told before) before text l f m)) few

@@ -27,7 +27,8 @@ need_little labels from text (end ∷ ends) h =
 pub summed_none : AreSummed [] [] 0
 summed_none = record { by_role = refl; total = sym need_none }
 
-pub summed_after : (lines lines2 : List Line) (l : Line) (roles roles2 : List Role) (cost cost2 : ℕ) → lines2 ≡ lines ++ l ∷ [] → roles2 ≡ roles ++ role_of l ∷ [] → cost2 ≡ cost + cost_of_line l → AreSummed lines roles cost → AreSummed lines2 roles2 cost2
+pub summed_after : (lines lines2 : List Line) (l : Line) (roles roles2 : List Role) (cost cost2 : ℕ) → lines2 ≡ lines ++ l ∷ []
+    → roles2 ≡ roles ++ role_of l ∷ [] → cost2 ≡ cost + cost_of_line l → AreSummed lines roles cost → AreSummed lines2 roles2 cost2
 summed_after lines lines2 l roles roles2 cost cost2 more role sum was =
     record {
       by_role = role ∙ ap (λ (rs : List Role). rs ++ role_of l ∷ []) was.by_role ∙ sym (map-append role_of lines (l ∷ [])) ∙ ap (map role_of) (sym more);

@@ -25,7 +25,8 @@ policy_here lines i is = elim (slice_get lines i) as (λ found. slice_get lines 
   | None ↦ λ h policy. absurd (false≢true policy)
 ] refl is
 
-pub policy_later : (lines : List Line) (i : ℕ) → i < length lines → option_map_or is_policy (slice_get lines i) false ≡ false → position_from is_policy i (drop i lines) ≡ position_from is_policy (i + 1) (drop (i + 1) lines)
+pub policy_later : (lines : List Line) (i : ℕ) → i < length lines → option_map_or is_policy (slice_get lines i) false ≡ false
+    → position_from is_policy i (drop i lines) ≡ position_from is_policy (i + 1) (drop (i + 1) lines)
 policy_later lines i low none =
     let l : Line = get_or lines i line.Skipped in
     let h : slice_get lines i ≡ Some l = slice_get-get_or lines i line.Skipped low in

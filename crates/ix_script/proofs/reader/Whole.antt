@@ -29,6 +29,7 @@ no_bytes bytes h = ap fault_of h ∙ no_byte
 pub has_cause : (e : ReadFail) (bytes : List ℕ) → length bytes ≤ 16777216 → HasCause e (fault_from [] (lines_of bytes)) → HasCause e (fault_of bytes)
 has_cause e bytes few h = subst (λ (f : Option (ℕ × ℕ)). HasCause e f) (sym (by_lines bytes few)) h
 
-pub script_is : (bytes : List ℕ) (lines : List Line) → length bytes ≤ 16777216 → fault_from [] (lines_of bytes) ≡ None → lines_said (form_in (lines_of bytes)) (lines_of bytes) ≡ Some lines → script_of bytes ≡ Some lines
+pub script_is : (bytes : List ℕ) (lines : List Line) → length bytes ≤ 16777216 → fault_from [] (lines_of bytes) ≡ None
+    → lines_said (form_in (lines_of bytes)) (lines_of bytes) ≡ Some lines → script_of bytes ≡ Some lines
 unfolding script_of
 script_is bytes lines few h said = rw (by_lines bytes few ∙ h) said

@@ -77,7 +77,8 @@ further_last : (byte : ℕ) (front : List (List ℕ)) (last : List ℕ) → furt
 further_last byte [] last = refl
 further_last byte (word ∷ front) last = refl
 
-pub cut_again : (front : List (List ℕ)) (p q : List ℕ) → pieces spot.Front (joined 32 (front ++ p ∷ [])) ≡ front ++ p ∷ [] → pieces spot.Front q ≡ q ∷ [] → pieces spot.Front (joined 32 (front ++ q ∷ [])) ≡ front ++ q ∷ []
+pub cut_again : (front : List (List ℕ)) (p q : List ℕ) → pieces spot.Front (joined 32 (front ++ p ∷ [])) ≡ front ++ p ∷ [] → pieces spot.Front q ≡ q ∷ []
+    → pieces spot.Front (joined 32 (front ++ q ∷ [])) ≡ front ++ q ∷ []
 cut_again [] p q h last = rw (append-nil q) last
 cut_again (word ∷ front) p q h last =
     let k = word_off spot.Front word (joined 32 (front ++ p ∷ [])) (front ++ p ∷ []) (ap (λ t. pieces spot.Front (word ++ t)) (sym (further_last 32 front p)) ∙ h) in

@@ -1,5 +1,6 @@
 -- Cutting the first line off, by the match of a line feed.
-use Rattle.std.proofs.Common.{◌≡◌, ℕ, zero, suc, ◌+◌, ◌<◌, ◌≤◌, ◌==◌, nat_le, Bool, true, false, ◌&&◌, ◌||◌, cond, List, [], ◌∷◌, length, take, drop, Option, Some, None, option_map, refl, sym, ap, ◌∙◌, arith, add-one, add-zero, inl, inr}
+use Rattle.std.proofs.Common.{◌≡◌, ℕ, zero, suc, ◌+◌, ◌<◌, ◌≤◌, ◌==◌, nat_le, Bool, true, false, ◌&&◌, ◌||◌, cond, List, [], ◌∷◌, length, take, drop}
+use Rattle.std.proofs.Common.{Option, Some, None, option_map, refl, sym, ap, ◌∙◌, arith, add-one, add-zero, inl, inr}
 use Rattle.std.specs.Option.{option_map_or}
 use Rattle.std.specs.List.{list_all}
 use Rattle.ix_model.specs.opening.Valid.{is_within}
@@ -52,7 +53,8 @@ next_drop [] rest b (suc i) e = cc
 next_drop (c ∷ bytes) rest b zero e = let same : bytes ≡ rest = cc in same
 next_drop (c ∷ bytes) rest b (suc i) e = rw (add-one (suc i)) (let k : drop (i + 1) bytes ≡ rest = next_drop bytes rest b i e in rw (add-one i) at k)
 
-found_from : (bytes rest : List ℕ) (i : ℕ) → drop i bytes ≡ rest → i + length rest ≡ length bytes → first_of (matches_from bytes (10 ∷ []) 0 i (suc (length rest))) ≡ option_map (λ k. i + k) (feed_in rest)
+found_from : (bytes rest : List ℕ) (i : ℕ) → drop i bytes ≡ rest → i + length rest ≡ length bytes
+    → first_of (matches_from bytes (10 ∷ []) 0 i (suc (length rest))) ≡ option_map (λ k. i + k) (feed_in rest)
 unfolding matches_from first_of
 found_from bytes [] i e long = rw (occurs_past bytes i (omega arith)) refl
 found_from bytes (b ∷ rest) i e long =

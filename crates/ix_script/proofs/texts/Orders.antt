@@ -10,7 +10,8 @@ one_less m n Equal h = let l : suc m ≡ suc n = h in omega arith
 one_less m n Greater h = let l : suc n < suc m = h in omega arith
 
 -- the longer text is the greater one
-longer : (xs ys : List ℕ) (i : ℕ) (r : Ordering) → min (length xs) (length ys) ≤ i → i ≤ length xs → i ≤ length ys → MatchOrdering r (length xs < length ys) (length xs ≡ length ys) (length ys < length xs) → r ≡ slice_cmp nat_cmp (drop i xs) (drop i ys)
+longer : (xs ys : List ℕ) (i : ℕ) (r : Ordering) → min (length xs) (length ys) ≤ i → i ≤ length xs → i ≤ length ys
+    → MatchOrdering r (length xs < length ys) (length xs ≡ length ys) (length ys < length xs) → r ≡ slice_cmp nat_cmp (drop i xs) (drop i ys)
 longer [] [] zero Less h p q m = let l : 0 < 0 = m in absurd (omega arith)
 longer [] [] zero Equal h p q m = refl
 longer [] [] zero Greater h p q m = let l : 0 < 0 = m in absurd (omega arith)
@@ -25,5 +26,6 @@ longer [] ys (suc i) r h p q m = absurd (omega (arith, p))
 longer (x ∷ xs) [] (suc i) r h p q m = absurd (omega (arith, q))
 longer (x ∷ xs) (y ∷ ys) (suc i) r h p q m = longer xs ys i r (omega (arith, h)) (omega (arith, p)) (omega (arith, q)) (one_less (length xs) (length ys) r m)
 
-pub by_lengths : (xs ys : List ℕ) (i : ℕ) (r : Ordering) → min (length xs) (length ys) ≤ i → i ≤ length xs → i ≤ length ys → r ≡ nat_cmp (length xs) (length ys) → r ≡ slice_cmp nat_cmp (drop i xs) (drop i ys)
+pub by_lengths : (xs ys : List ℕ) (i : ℕ) (r : Ordering) → min (length xs) (length ys) ≤ i → i ≤ length xs → i ≤ length ys → r ≡ nat_cmp (length xs) (length ys)
+    → r ≡ slice_cmp nat_cmp (drop i xs) (drop i ys)
 by_lengths xs ys i r h p q is = longer xs ys i r h p q (ranked (length xs) (length ys) r is)

@@ -1,5 +1,6 @@
 -- Cutting the first word off.
-use Rattle.std.proofs.Common.{◌≡◌, ℕ, zero, suc, ◌+◌, ◌<◌, ◌≤◌, ◌==◌, Bool, true, false, slice_index, sym, cond, List, [], ◌∷◌, length, take, drop, get_or, Option, Some, None, option_map, refl, ap, ◌∙◌, arith, add-one, add-zero, drop-cons, length-drop}
+use Rattle.std.proofs.Common.{◌≡◌, ℕ, zero, suc, ◌+◌, ◌<◌, ◌≤◌, ◌==◌, Bool, true, false, slice_index, sym, cond, List, [], ◌∷◌, length, take, drop}
+use Rattle.std.proofs.Common.{get_or, Option, Some, None, option_map, refl, ap, ◌∙◌, arith, add-one, add-zero, drop-cons, length-drop}
 use Rattle.std.specs.Option.{option_map_or}
 use Rattle.memchr.specs.Find.{IsFirstByte, is_byte}
 use Rattle.ix_model.specs.world.Texts.{with_front}
@@ -24,7 +25,8 @@ pub cut_at_gap : (at : Spot) (text : List ℕ) → pieces at text ≡ cut_at tex
 unfolding pieces
 cut_at_gap at [] = refl
 cut_at_gap at (b ∷ text) =
-    elim (parts_words at b) as (λ t. cond t ([] ∷ pieces spot.Front text) (with_front b (pieces (after_byte at b) text)) ≡ cut_at (b ∷ text) (cond t (Some 0) (option_map suc (gap_from (after_byte at b) text)))) [
+    elim (parts_words at b) as (λ t. cond t ([] ∷ pieces spot.Front text) (with_front b (pieces (after_byte at b) text))
+    ≡ cut_at (b ∷ text) (cond t (Some 0) (option_map suc (gap_from (after_byte at b) text)))) [
       | true ↦ refl
       | false ↦ ap (with_front b) (cut_at_gap (after_byte at b) text) ∙ later b text (gap_from (after_byte at b) text)
     ]
@@ -60,7 +62,8 @@ plain_front [] h = refl
 plain_front (b ∷ text) h = rw h refl
 
 -- ---- walks along a text
-pub gap_found : (all : Option ℕ) (at : Spot) (text : List ℕ) (i : ℕ) → i < length text → parts_words at (get_or text i 0) ≡ true → all ≡ option_map (λ k. i + k) (gap_from at (drop i text)) → all ≡ Some i
+pub gap_found : (all : Option ℕ) (at : Spot) (text : List ℕ) (i : ℕ) → i < length text → parts_words at (get_or text i 0) ≡ true
+    → all ≡ option_map (λ k. i + k) (gap_from at (drop i text)) → all ≡ Some i
 gap_found all at text i h t so_far = so_far ∙ rw (drop-cons text i 0, t) (ap (λ (n : ℕ). Some n) (add-zero i))
 
 shifted : (i : ℕ) (gap : Option ℕ) → option_map (λ k. i + k) (option_map suc gap) ≡ option_map (λ k. suc i + k) gap
@@ -83,7 +86,8 @@ pub closed_here : (at : Spot) (word : List ℕ) (i : ℕ) → i < length word �
 unfolding is_closed
 closed_here at word i h t = rw (drop-cons word i 0, t) (last_place (drop (suc i) word) i (length word) (omega (arith, length-drop (suc i) word)))
 
-pub closed_next : (at : Spot) (word : List ℕ) (i : ℕ) → i < length word → closes at (get_or word i 0) ≡ false → is_closed (after_byte at (get_or word i 0)) (drop (i + 1) word) ≡ is_closed at (drop i word)
+pub closed_next : (at : Spot) (word : List ℕ) (i : ℕ) → i < length word → closes at (get_or word i 0) ≡ false
+    → is_closed (after_byte at (get_or word i 0)) (drop (i + 1) word) ≡ is_closed at (drop i word)
 unfolding is_closed
 closed_next at word i h t = rw (drop-cons word i 0, t, add-one) refl
 

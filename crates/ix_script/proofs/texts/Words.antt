@@ -1,5 +1,6 @@
 -- Words cut off one after the other.
-use Rattle.std.proofs.Common.{◌≡◌, ◌≢◌, ℕ, zero, suc, ◌+◌, ◌<◌, ◌≤◌, nat_lt, Bool, true, false, ◌||◌, cond, List, [], ◌∷◌, ◌++◌, length, set, replicate, inl, inr, refl, sym, ap, ◌∙◌, append_assoc, length-append, arith}
+use Rattle.std.proofs.Common.{◌≡◌, ◌≢◌, ℕ, zero, suc, ◌+◌, ◌<◌, ◌≤◌, nat_lt, Bool, true, false, ◌||◌, cond, List, [], ◌∷◌, ◌++◌, length, set}
+use Rattle.std.proofs.Common.{replicate, inl, inr, refl, sym, ap, ◌∙◌, append_assoc, length-append, arith}
 use Rattle.std.specs.List.{list_any}
 use Rattle.std.proofs.lemmas.List.{append-nil, length-set, get_or-set_same, get_or-set_other}
 use Rattle.std.proofs.lemmas.Bool.{cases_eq, ltb-true, ltb-false}
@@ -80,7 +81,8 @@ next words kept new n some_empty some_open rest word more h k c =
       has_open = ap (λ b. b || is_open word) c.has_open ∙ sym (any_push is_open c.done word);
     }
 
-pub ended : (words kept : List (List ℕ)) (n : ℕ) (some_empty some_open : Bool) (rest : List (List ℕ)) → rest ≡ [] → Cutting words kept n some_empty some_open rest → AreWords words kept n some_empty some_open
+pub ended : (words kept : List (List ℕ)) (n : ℕ) (some_empty some_open : Bool) (rest : List (List ℕ)) → rest ≡ []
+    → Cutting words kept n some_empty some_open rest → AreWords words kept n some_empty some_open
 unfolding has_empty_word has_open_quote
 ended words kept n some_empty some_open rest h c =
     let all : c.done ≡ words = sym (append-nil c.done) ∙ ap (λ ws. c.done ++ ws) (sym h) ∙ c.whole in

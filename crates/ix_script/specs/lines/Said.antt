@@ -86,24 +86,40 @@ counted_line counted.Seek proc fd n = line.Seek proc fd n
 abbrev pub said : spelled.Form → Form → List (List ℕ) → Option Line
 said labels form.Phase words = Some line.Phase
 said labels form.Limit words = option_map (λ x. line.Limit x.0 x.1) (both (what_of (word_at words 1)) (number_of (bounds (word_at words 1)).0 (bounds (word_at words 1)).1 (word_at words 2)))
-said labels form.Fs words = option_map (λ x. line.Fs x.0 x.1.0 x.1.1.0 x.1.1.1) (both (name_of (word_at words 1)) (both (label_in labels (word_at words 2)) (both (number_of 1 65536 (word_at words 3)) (number_of 1 65536 (word_at words 4)))))
-said labels form.Proc words = option_map (λ x. line.Proc x.0 x.1.0 x.1.1.0 x.1.1.1.0 x.1.1.1.1) (both (name_of (word_at words 1)) (both (label_in labels (word_at words 2)) (both (label_in labels (word_at words 3)) (both (privs_of (word_at words 4)) (privs_of (word_at words 5))))))
+said labels form.Fs words =
+    option_map (λ x. line.Fs x.0 x.1.0 x.1.1.0 x.1.1.1)
+    (both (name_of (word_at words 1))
+    (both (label_in labels (word_at words 2)) (both (number_of 1 65536 (word_at words 3)) (number_of 1 65536 (word_at words 4)))))
+said labels form.Proc words =
+    option_map (λ x. line.Proc x.0 x.1.0 x.1.1.0 x.1.1.1.0 x.1.1.1.1)
+    (both (name_of (word_at words 1))
+    (both (label_in labels (word_at words 2)) (both (label_in labels (word_at words 3)) (both (privs_of (word_at words 4)) (privs_of (word_at words 5))))))
 said labels form.Dir words = option_map (λ x. line.Dir x.0 x.1.0 x.1.1) (both (made_path_of (word_at words 1)) (both (label_in labels (word_at words 2)) (state_of (word_at words 3))))
-said labels form.File words = option_map (λ x. line.File x.0 x.1.0 x.1.1.0 x.1.1.1.0 x.1.1.1.1.0 x.1.1.1.1.1) (both (made_path_of (word_at words 1)) (both (label_in labels (word_at words 2)) (both (state_of (word_at words 3)) (both (privs_of (word_at words 4)) (both (privs_of (word_at words 5)) (payload_within 1048576 (word_at words 6)))))))
+said labels form.File words =
+    option_map (λ x. line.File x.0 x.1.0 x.1.1.0 x.1.1.1.0 x.1.1.1.1.0 x.1.1.1.1.1)
+    (both (made_path_of (word_at words 1))
+    (both (label_in labels (word_at words 2))
+    (both (state_of (word_at words 3)) (both (privs_of (word_at words 4)) (both (privs_of (word_at words 5)) (payload_within 1048576 (word_at words 6)))))))
 said labels form.Lane words = option_map (λ x. line.Lane x) (name_of (word_at words 1))
 said labels (form.Plain c) words = option_map (λ x. plain_line c x) (name_of (word_at words 1))
 said labels (form.OnPath c) words = option_map (λ x. path_line c x.0 x.1) (both (name_of (word_at words 1)) (path_of (word_at words 2)))
 said labels (form.OnFd c) words = option_map (λ x. fd_line c x.0 x.1) (both (name_of (word_at words 1)) (fd_of (word_at words 2)))
 said labels (form.Counted c) words = option_map (λ x. counted_line c x.0 x.1.0 x.1.1) (both (name_of (word_at words 1)) (both (fd_of (word_at words 2)) (any_number (word_at words 3))))
-said labels form.Open words = option_map (λ x. line.Open x.0 x.1.0 x.1.1.0 x.1.1.1) (both (name_of (word_at words 1)) (both (path_of (word_at words 2)) (both (mode_of (word_at words 3)) (name_after 4 words))))
+said labels form.Open words =
+    option_map (λ x. line.Open x.0 x.1.0 x.1.1.0 x.1.1.1)
+    (both (name_of (word_at words 1)) (both (path_of (word_at words 2)) (both (mode_of (word_at words 3)) (name_after 4 words))))
 said labels form.Write words = option_map (λ x. line.Write x.0 x.1.0 x.1.1) (both (name_of (word_at words 1)) (both (fd_of (word_at words 2)) (payload_within 4096 (word_at words 3))))
 said labels form.Dup words = option_map (λ x. line.Dup x.0 x.1.0 x.1.1) (both (name_of (word_at words 1)) (both (fd_of (word_at words 2)) (name_after 3 words)))
 said labels form.Pipe words = option_map (λ x. line.Pipe x.0 x.1) (both (name_of (word_at words 1)) (two_names_after 2 words))
 said labels form.Link words = option_map (λ x. line.Link x.0 x.1.0 x.1.1) (both (name_of (word_at words 1)) (both (path_of (word_at words 2)) (path_of (word_at words 3))))
 said labels form.List words = option_map (λ x. line.List x.0 x.1.0 x.1.1) (both (name_of (word_at words 1)) (both (path_of (word_at words 2)) (any_number (word_at words 3))))
-said labels form.Copy words = option_map (λ x. line.Copy x.0 x.1.0 x.1.1.0 x.1.1.1) (both (name_of (word_at words 1)) (both (fd_of (word_at words 2)) (both (fd_of (word_at words 3)) (any_number (word_at words 4)))))
+said labels form.Copy words =
+    option_map (λ x. line.Copy x.0 x.1.0 x.1.1.0 x.1.1.1)
+    (both (name_of (word_at words 1)) (both (fd_of (word_at words 2)) (both (fd_of (word_at words 3)) (any_number (word_at words 4)))))
 said labels form.Setlabel words = option_map (λ x. line.Setlabel x.0 x.1.0 x.1.1) (both (name_of (word_at words 1)) (both (path_of (word_at words 2)) (label_in labels (word_at words 3))))
-said labels form.Setpriv words = option_map (λ x. line.Setpriv x.0 x.1.0 x.1.1.0 x.1.1.1) (both (name_of (word_at words 1)) (both (path_of (word_at words 2)) (both (privs_of (word_at words 3)) (privs_of (word_at words 4)))))
+said labels form.Setpriv words =
+    option_map (λ x. line.Setpriv x.0 x.1.0 x.1.1.0 x.1.1.1)
+    (both (name_of (word_at words 1)) (both (path_of (word_at words 2)) (both (privs_of (word_at words 3)) (privs_of (word_at words 4)))))
 said labels form.Fork words = option_map (λ x. line.Fork x.0 x.1.0 x.1.1) (both (name_of (word_at words 1)) (both (keep_of (word_at words 2)) (name_after 3 words)))
 said labels form.Exit words = option_map (λ x. line.Exit x.0 x.1) (both (name_of (word_at words 1)) (number_of 0 255 (word_at words 2)))
 said labels form.Setself words = option_map (λ x. line.Setself x.0 x.1) (both (name_of (word_at words 1)) (label_in labels (word_at words 2)))
@@ -111,7 +127,9 @@ said labels form.Droplic words = option_map (λ x. line.Droplic x.0 x.1) (both (
 said labels form.Grant words = option_map (λ x. line.Grant x.0 x.1.0 x.1.1) (both (name_of (word_at words 1)) (both (name_of (word_at words 2)) (privs_of (word_at words 3))))
 said labels form.Ceiling words = option_map (λ x. line.Ceiling x.0 x.1.0 x.1.1) (both (name_of (word_at words 1)) (both (name_of (word_at words 2)) (label_in labels (word_at words 3))))
 said labels form.Readlog words = option_map (λ x. line.Readlog x.0 x.1) (both (name_of (word_at words 1)) (any_number (word_at words 2)))
-said labels form.Login words = option_map (λ x. line.Login x.0 x.1.0 x.1.1.0 x.1.1.1) (both (name_of (word_at words 1)) (both (fd_of (word_at words 2)) (both (fd_of (word_at words 3)) (name_after 4 words))))
+said labels form.Login words =
+    option_map (λ x. line.Login x.0 x.1.0 x.1.1.0 x.1.1.1)
+    (both (name_of (word_at words 1)) (both (fd_of (word_at words 2)) (both (fd_of (word_at words 3)) (name_after 4 words))))
 
 -- what the words of a line say, by the form of the first
 abbrev pub said_by_words : spelled.Form → List (List ℕ) → Option Line

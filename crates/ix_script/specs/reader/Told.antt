@@ -6,7 +6,8 @@ use Rattle.ix_model.specs.rows.Telling.{blocks_for}
 use Rattle.ix_model.specs.opening.Valid.{fs_of, lying_on, blocks_taken}
 use Rattle.ix_model.specs.declared.config.FsSpec.{FsSpec}
 use Rattle.ix_model.specs.declared.config.ObjSpec.{ObjSpec}
-use Rattle.ix_script.specs.lines.Before.{default_fs, fss_told, fss_of, limits_of, whats_told, proc_names, objects_of, group, has_policy, in_body, lane_now, phase_lanes, lanes_of, fds_given, procs_given, commands}
+use Rattle.ix_script.specs.lines.Before.{default_fs, fss_told, fss_of, limits_of, whats_told, proc_names, objects_of, group, has_policy, in_body}
+use Rattle.ix_script.specs.lines.Before.{lane_now, phase_lanes, lanes_of, fds_given, procs_given, commands}
 use Rattle.ix_label.specs.declared.form.Form.{Form}
 use Rattle.ix_script.specs.declared.line.Line.{Line}
 use Rattle.ix_script.specs.declared.before.body.Body.{Body}
@@ -46,8 +47,10 @@ pub record BodyTold (b : Body) (lines : List Line) : Type 0 where
 -- ---- changes
 -- an object that is so long more, on the file system where it lies
 pub record TakenOne (fss : List FsSpec) (names : List (List ℕ)) (len : ℕ) (old new : Taken) : Type 0 where
-  pub counts : slice_index old.counts (fs_of fss names) + 1 < 2 ^ 64 → (j : ℕ) → slice_index new.counts j ≡ (if j == fs_of fss names then slice_index old.counts (fs_of fss names) + 1 else slice_index old.counts j)
-  pub blocks : slice_index old.blocks (fs_of fss names) + blocks_for len < 2 ^ 64 → (j : ℕ) → slice_index new.blocks j ≡ (if j == fs_of fss names then slice_index old.blocks (fs_of fss names) + blocks_for len else slice_index old.blocks j)
+  pub counts : slice_index old.counts (fs_of fss names) + 1 < 2 ^ 64 → (j : ℕ) → slice_index new.counts j ≡ (if j == fs_of fss names then
+      slice_index old.counts (fs_of fss names) + 1 else slice_index old.counts j)
+  pub blocks : slice_index old.blocks (fs_of fss names) + blocks_for len < 2 ^ 64 → (j : ℕ) → slice_index new.blocks j ≡ (if j == fs_of fss names then
+      slice_index old.blocks (fs_of fss names) + blocks_for len else slice_index old.blocks j)
 
 -- the object that a line tells more, if it tells one
 abbrev pub Takes : List FsSpec → List ObjSpec → Taken → Taken → Type 0

@@ -41,21 +41,30 @@ not_low : (l : Categories) (f : Frame) (pid : ℕ) → option_map_or (λ q. leq 
 not_low l f pid h low = true≢false (sym low.low ∙ ap (λ o. option_map_or (λ q. leq q.label l) o false) (sym low.lives) ∙ h)
 
 -- ---- one place after another
-pub agree_on : (l : Categories) (v w : World) (place : ℕ) (e f : Event) (g h : Given) (events others : List Event) → Steps v place e.pid e.op g → Steps w place f.pid f.op h → AgreeAt l v.frame e f → is_one_kind g.reply h.reply ≡ true → Agree l g.world h.world (suc place) events others → Agree l v w place (e ∷ events) (f ∷ others)
+pub agree_on : (l : Categories) (v w : World) (place : ℕ) (e f : Event) (g h : Given) (events others : List Event) → Steps v place e.pid e.op g
+    → Steps w place f.pid f.op h → AgreeAt l v.frame e f → is_one_kind g.reply h.reply ≡ true → Agree l g.world h.world (suc place) events others
+    → Agree l v w place (e ∷ events) (f ∷ others)
 agree_on l v w place e f g h events others first second here kind rest =
-    subst (λ (x : Given). AgreeAt l v.frame e f × is_one_kind x.reply (step_of w place f).reply ≡ true × Agree l x.world (step_of w place f).world (suc place) events others) (sym (stepped v place e.pid e.op g first))
-    (subst (λ (y : Given). AgreeAt l v.frame e f × is_one_kind g.reply y.reply ≡ true × Agree l g.world y.world (suc place) events others) (sym (stepped w place f.pid f.op h second)) (here, kind, rest))
+    subst (λ (x : Given). AgreeAt l v.frame e f × is_one_kind x.reply (step_of w place f).reply ≡ true
+    × Agree l x.world (step_of w place f).world (suc place) events others) (sym (stepped v place e.pid e.op g first))
+    (subst (λ (y : Given). AgreeAt l v.frame e f × is_one_kind g.reply y.reply ≡ true × Agree l g.world y.world (suc place) events others)
+    (sym (stepped w place f.pid f.op h second)) (here, kind, rest))
 
-agree_past : (l : Categories) (v w : World) (place : ℕ) (e f : Event) (g h : Given) (events others : List Event) → Steps v place e.pid e.op g → Steps w place f.pid f.op h → Agree l v w place (e ∷ events) (f ∷ others) → is_one_kind g.reply h.reply ≡ true × Agree l g.world h.world (suc place) events others
+agree_past : (l : Categories) (v w : World) (place : ℕ) (e f : Event) (g h : Given) (events others : List Event) → Steps v place e.pid e.op g
+    → Steps w place f.pid f.op h → Agree l v w place (e ∷ events) (f ∷ others) → is_one_kind g.reply h.reply ≡ true
+    × Agree l g.world h.world (suc place) events others
 agree_past l v w place e f g h events others first second agree =
     subst (λ (y : Given). is_one_kind g.reply y.reply ≡ true × Agree l g.world y.world (suc place) events others) (stepped w place f.pid f.op h second)
-    (subst (λ (x : Given). is_one_kind x.reply (step_of w place f).reply ≡ true × Agree l x.world (step_of w place f).world (suc place) events others) (stepped v place e.pid e.op g first) (agree.1, agree.2))
+    (subst (λ (x : Given). is_one_kind x.reply (step_of w place f).reply ≡ true × Agree l x.world (step_of w place f).world (suc place) events others)
+    (stepped v place e.pid e.op g first) (agree.1, agree.2))
 
-equal_on : (l : Categories) (w : World) (place : ℕ) (e f : Event) (g : Given) (events others : List Event) → Steps w place e.pid e.op g → AgreeInLengthAt l w.frame e f → AgreeInLength l g.world (suc place) events others → AgreeInLength l w place (e ∷ events) (f ∷ others)
+equal_on : (l : Categories) (w : World) (place : ℕ) (e f : Event) (g : Given) (events others : List Event) → Steps w place e.pid e.op g
+    → AgreeInLengthAt l w.frame e f → AgreeInLength l g.world (suc place) events others → AgreeInLength l w place (e ∷ events) (f ∷ others)
 equal_on l w place e f g events others link here rest =
     subst (λ (x : Given). AgreeInLengthAt l w.frame e f × AgreeInLength l x.world (suc place) events others) (sym (stepped w place e.pid e.op g link)) (here, rest)
 
-equal_past : (l : Categories) (w : World) (place : ℕ) (e f : Event) (g : Given) (events others : List Event) → Steps w place e.pid e.op g → AgreeInLength l w place (e ∷ events) (f ∷ others) → AgreeInLength l g.world (suc place) events others
+equal_past : (l : Categories) (w : World) (place : ℕ) (e f : Event) (g : Given) (events others : List Event) → Steps w place e.pid e.op g
+    → AgreeInLength l w place (e ∷ events) (f ∷ others) → AgreeInLength l g.world (suc place) events others
 equal_past l w place e f g events others link agree = subst (λ (x : Given). AgreeInLength l x.world (suc place) events others) (stepped w place e.pid e.op g link) agree.1
 
 -- ---- where entries agree they are equal, or the caller is high
@@ -125,18 +134,24 @@ writes_too_many = (refl, refl)
 -- the first three entries are equal
 agree_before : (l : Categories) (new other : List ℕ) → Agree l two.all_open two.all_open 4 (two.past_3 new) (two.past_3 other) → Agree l two.at_first two.at_first 1 (writing new) (writing other)
 agree_before l new other h =
-    agree_on l two.at_first two.at_first 1 two.opening_d_high two.opening_d_high (number two.one_open 0) (number two.one_open 0) (two.past_1 new) (two.past_1 other) two.opens_d_high two.opens_d_high runs.AgreeAt.Same refl
-    (agree_on l two.one_open two.one_open 2 two.opening_d_low two.opening_d_low (number two.two_open 0) (number two.two_open 0) (two.past_2 new) (two.past_2 other) two.opens_d_low two.opens_d_low runs.AgreeAt.Same refl
-    (agree_on l two.two_open two.two_open 3 two.opening_e_low two.opening_e_low (number two.all_open 1) (number two.all_open 1) (two.past_3 new) (two.past_3 other) two.opens_e_low two.opens_e_low runs.AgreeAt.Same refl h))
+    agree_on l two.at_first two.at_first 1 two.opening_d_high two.opening_d_high (number two.one_open 0) (number two.one_open 0) (two.past_1 new)
+    (two.past_1 other) two.opens_d_high two.opens_d_high runs.AgreeAt.Same refl
+    (agree_on l two.one_open two.one_open 2 two.opening_d_low two.opening_d_low (number two.two_open 0) (number two.two_open 0) (two.past_2 new)
+    (two.past_2 other) two.opens_d_low two.opens_d_low runs.AgreeAt.Same refl
+    (agree_on l two.two_open two.two_open 3 two.opening_e_low two.opening_e_low (number two.all_open 1) (number two.all_open 1) (two.past_3 new)
+    (two.past_3 other) two.opens_e_low two.opens_e_low runs.AgreeAt.Same refl h))
 
 agree_after : (l : Categories) (new other : List ℕ) → BothAgree l two_levels (writing new) (writing other) → Agree l two.all_open two.all_open 4 (two.past_3 new) (two.past_3 other)
 agree_after l new other h =
     let a : Agree l two.at_first two.at_first 1 (writing new) (writing other) = subst (λ w. Agree l w w 1 (writing new) (writing other)) two.opening h in
     let b : is_one_kind (number two.one_open 0).reply (number two.one_open 0).reply ≡ true × Agree l two.one_open two.one_open 2 (two.past_1 new) (two.past_1 other) =
-    agree_past l two.at_first two.at_first 1 two.opening_d_high two.opening_d_high (number two.one_open 0) (number two.one_open 0) (two.past_1 new) (two.past_1 other) two.opens_d_high two.opens_d_high a in
+    agree_past l two.at_first two.at_first 1 two.opening_d_high two.opening_d_high (number two.one_open 0) (number two.one_open 0) (two.past_1 new)
+    (two.past_1 other) two.opens_d_high two.opens_d_high a in
     let c : is_one_kind (number two.two_open 0).reply (number two.two_open 0).reply ≡ true × Agree l two.two_open two.two_open 3 (two.past_2 new) (two.past_2 other) =
-    agree_past l two.one_open two.one_open 2 two.opening_d_low two.opening_d_low (number two.two_open 0) (number two.two_open 0) (two.past_2 new) (two.past_2 other) two.opens_d_low two.opens_d_low b.1 in
-    (agree_past l two.two_open two.two_open 3 two.opening_e_low two.opening_e_low (number two.all_open 1) (number two.all_open 1) (two.past_3 new) (two.past_3 other) two.opens_e_low two.opens_e_low c.1).1
+    agree_past l two.one_open two.one_open 2 two.opening_d_low two.opening_d_low (number two.two_open 0) (number two.two_open 0) (two.past_2 new)
+    (two.past_2 other) two.opens_d_low two.opens_d_low b.1 in
+    (agree_past l two.two_open two.two_open 3 two.opening_e_low two.opening_e_low (number two.all_open 1) (number two.all_open 1) (two.past_3 new)
+    (two.past_3 other) two.opens_e_low two.opens_e_low c.1).1
 
 equal_after : (l : Categories) (new other : List ℕ) → BothAgreeInLength l two_levels (writing new) (writing other) → AgreeInLength l two.all_open 4 (two.past_3 new) (two.past_3 other)
 equal_after l new other h =
@@ -148,25 +163,33 @@ equal_after l new other h =
 pub other_bytes_agree : BothAgree bottom two_levels (writing (codes "AA")) (writing (codes "BB"))
 other_bytes_agree = subst (λ w. Agree bottom w w 1 (writing (codes "AA")) (writing (codes "BB"))) (sym two.opening)
     (agree_before bottom (codes "AA") (codes "BB")
-    (agree_on bottom two.all_open two.all_open 4 (two.writes (codes "AA")) (two.writes (codes "BB")) (number (two.written 65 65) 2) (number (two.written 66 66) 2) two.past_4 two.past_4 (two.writes_d_high 65 65) (two.writes_d_high 66 66) (runs.AgreeAt.Other writer_is_high runs.Replaced.Written) refl
-    (agree_on bottom (two.written 65 65) (two.written 66 66) 5 two.reading_e_low two.reading_e_low (bytes (two.read_low 65 65) (codes "ok")) (bytes (two.read_low 66 66) (codes "ok")) two.past_5 two.past_5 (two.reads_e_low 65 65) (two.reads_e_low 66 66) runs.AgreeAt.Same refl
-    (agree_on bottom (two.read_low 65 65) (two.read_low 66 66) 6 two.reading_d_low two.reading_d_low (bytes (two.read_high 65 65) (codes "AA")) (bytes (two.read_high 66 66) (codes "BB")) [] [] (two.reads_d_low 65 65) (two.reads_d_low 66 66) runs.AgreeAt.Same refl tt))))
+    (agree_on bottom two.all_open two.all_open 4 (two.writes (codes "AA")) (two.writes (codes "BB")) (number (two.written 65 65) 2)
+    (number (two.written 66 66) 2) two.past_4 two.past_4 (two.writes_d_high 65 65) (two.writes_d_high 66 66)
+    (runs.AgreeAt.Other writer_is_high runs.Replaced.Written) refl
+    (agree_on bottom (two.written 65 65) (two.written 66 66) 5 two.reading_e_low two.reading_e_low (bytes (two.read_low 65 65) (codes "ok"))
+    (bytes (two.read_low 66 66) (codes "ok")) two.past_5 two.past_5 (two.reads_e_low 65 65) (two.reads_e_low 66 66) runs.AgreeAt.Same refl
+    (agree_on bottom (two.read_low 65 65) (two.read_low 66 66) 6 two.reading_d_low two.reading_d_low (bytes (two.read_high 65 65) (codes "AA"))
+    (bytes (two.read_high 66 66) (codes "BB")) [] [] (two.reads_d_low 65 65) (two.reads_d_low 66 66) runs.AgreeAt.Same refl tt))))
 
 pub other_bytes_agree_in_length : BothAgreeInLength bottom two_levels (writing (codes "AA")) (writing (codes "BB"))
 other_bytes_agree_in_length = subst (λ w. AgreeInLength bottom w 1 (writing (codes "AA")) (writing (codes "BB"))) (sym two.opening)
     (equal_on bottom two.at_first 1 two.opening_d_high two.opening_d_high (number two.one_open 0) (two.past_1 (codes "AA")) (two.past_1 (codes "BB")) two.opens_d_high equal.AgreeInLengthAt.Same
     (equal_on bottom two.one_open 2 two.opening_d_low two.opening_d_low (number two.two_open 0) (two.past_2 (codes "AA")) (two.past_2 (codes "BB")) two.opens_d_low equal.AgreeInLengthAt.Same
     (equal_on bottom two.two_open 3 two.opening_e_low two.opening_e_low (number two.all_open 1) (two.past_3 (codes "AA")) (two.past_3 (codes "BB")) two.opens_e_low equal.AgreeInLengthAt.Same
-    (equal_on bottom two.all_open 4 (two.writes (codes "AA")) (two.writes (codes "BB")) (number (two.written 65 65) 2) two.past_4 two.past_4 (two.writes_d_high 65 65) (equal.AgreeInLengthAt.Other writer_is_high (equal.ReplacedInLength.Written refl))
+    (equal_on bottom two.all_open 4 (two.writes (codes "AA")) (two.writes (codes "BB")) (number (two.written 65 65) 2) two.past_4 two.past_4
+    (two.writes_d_high 65 65) (equal.AgreeInLengthAt.Other writer_is_high (equal.ReplacedInLength.Written refl))
     (equal_on bottom (two.written 65 65) 5 two.reading_e_low two.reading_e_low (bytes (two.read_low 65 65) (codes "ok")) two.past_5 two.past_5 (two.reads_e_low 65 65) equal.AgreeInLengthAt.Same
     (equal_on bottom (two.read_low 65 65) 6 two.reading_d_low two.reading_d_low (bytes (two.read_high 65 65) (codes "AA")) [] [] (two.reads_d_low 65 65) equal.AgreeInLengthAt.Same tt))))))
 
 pub more_bytes_agree : BothAgree bottom two_levels (writing (codes "AA")) (writing (codes "ABC"))
 more_bytes_agree = subst (λ w. Agree bottom w w 1 (writing (codes "AA")) (writing (codes "ABC"))) (sym two.opening)
     (agree_before bottom (codes "AA") (codes "ABC")
-    (agree_on bottom two.all_open two.all_open 4 (two.writes (codes "AA")) (two.writes (codes "ABC")) (number (two.written 65 65) 2) (number written_three 3) two.past_4 two.past_4 (two.writes_d_high 65 65) writes_three (runs.AgreeAt.Other writer_is_high runs.Replaced.Written) refl
-    (agree_on bottom (two.written 65 65) written_three 5 two.reading_e_low two.reading_e_low (bytes (two.read_low 65 65) (codes "ok")) (bytes three_read_low (codes "ok")) two.past_5 two.past_5 (two.reads_e_low 65 65) three_reads_e runs.AgreeAt.Same refl
-    (agree_on bottom (two.read_low 65 65) three_read_low 6 two.reading_d_low two.reading_d_low (bytes (two.read_high 65 65) (codes "AA")) (bytes three_read_high (codes "AB")) [] [] (two.reads_d_low 65 65) three_reads_d runs.AgreeAt.Same refl tt))))
+    (agree_on bottom two.all_open two.all_open 4 (two.writes (codes "AA")) (two.writes (codes "ABC")) (number (two.written 65 65) 2) (number written_three 3)
+    two.past_4 two.past_4 (two.writes_d_high 65 65) writes_three (runs.AgreeAt.Other writer_is_high runs.Replaced.Written) refl
+    (agree_on bottom (two.written 65 65) written_three 5 two.reading_e_low two.reading_e_low (bytes (two.read_low 65 65) (codes "ok"))
+    (bytes three_read_low (codes "ok")) two.past_5 two.past_5 (two.reads_e_low 65 65) three_reads_e runs.AgreeAt.Same refl
+    (agree_on bottom (two.read_low 65 65) three_read_low 6 two.reading_d_low two.reading_d_low (bytes (two.read_high 65 65) (codes "AA"))
+    (bytes three_read_high (codes "AB")) [] [] (two.reads_d_low 65 65) three_reads_d runs.AgreeAt.Same refl tt))))
 
 pub more_bytes_do_not_in_length : BothAgreeInLength bottom two_levels (writing (codes "AA")) (writing (codes "ABC")) → ⊥
 unfolding written_by
@@ -177,7 +200,9 @@ more_bytes_do_not_in_length h =
 pub too_many_do_not : BothAgree bottom two_levels (writing (codes "AA")) (writing (replicate 4097 65)) → ⊥
 too_many_do_not h =
     let past : is_one_kind (number (two.written 65 65) 2).reply (refused two.all_open refusal.TooBig).reply ≡ true × Agree bottom (two.written 65 65) two.all_open 5 (two.past_4) (two.past_4) =
-    agree_past bottom two.all_open two.all_open 4 (two.writes (codes "AA")) (two.writes (replicate 4097 65)) (number (two.written 65 65) 2) (refused two.all_open refusal.TooBig) two.past_4 two.past_4 (two.writes_d_high 65 65) writes_too_many (agree_after bottom (codes "AA") (replicate 4097 65) h) in
+    agree_past bottom two.all_open two.all_open 4 (two.writes (codes "AA")) (two.writes (replicate 4097 65)) (number (two.written 65 65) 2)
+    (refused two.all_open refusal.TooBig) two.past_4 two.past_4 (two.writes_d_high 65 65) writes_too_many
+    (agree_after bottom (codes "AA") (replicate 4097 65) h) in
     true≢false (sym past.0)
 
 -- ---- at its own label the writer is low
@@ -213,7 +238,8 @@ pub low_bytes_do_not : BothAgree bottom desk (writing_low (codes "x")) (writing_
 unfolding written_by
 low_bytes_do_not h =
     let past : is_one_kind (number desk_opens 0).reply (number desk_opens 0).reply ≡ true × Agree bottom desk_opens desk_opens 2 (writes_n (codes "x") ∷ []) (writes_n (codes "y") ∷ []) =
-    agree_past bottom (opening_world desk) (opening_world desk) 1 opening_n opening_n (number desk_opens 0) (number desk_opens 0) (writes_n (codes "x") ∷ []) (writes_n (codes "y") ∷ []) opens_desk opens_desk h in
+    agree_past bottom (opening_world desk) (opening_world desk) 1 opening_n opening_n (number desk_opens 0) (number desk_opens 0) (writes_n (codes "x")
+    ∷ []) (writes_n (codes "y") ∷ []) opens_desk opens_desk h in
     differ bottom desk_opens.frame (writes_n (codes "x")) (writes_n (codes "y")) 120 refl refl one_is_low (agrees_as past.1.0)
 
 pub low_bytes_do_not_in_length : BothAgreeInLength bottom desk (writing_low (codes "x")) (writing_low (codes "y")) → ⊥
@@ -252,14 +278,18 @@ two_is_high = high_of bottom two_high.frame 2 (living (at two_high.frame.process
 pub statuses_agree : BothAgree bottom family (leaving_high 3) (leaving_high 4)
 unfolding alone
 statuses_agree =
-    agree_on bottom alone alone 1 (by 1 (op.Fork keep.Nothing)) (by 1 (op.Fork keep.Nothing)) (number with_two 2) (number with_two 2) (by 2 (op.SetSelf seven) ∷ by 2 (op.Exit 3) ∷ []) (by 2 (op.SetSelf seven) ∷ by 2 (op.Exit 4) ∷ []) forks forks runs.AgreeAt.Same refl
-    (agree_on bottom with_two with_two 2 (by 2 (op.SetSelf seven)) (by 2 (op.SetSelf seven)) (done two_high) (done two_high) (by 2 (op.Exit 3) ∷ []) (by 2 (op.Exit 4) ∷ []) rises rises runs.AgreeAt.Same refl
-    (agree_on bottom two_high two_high 3 (by 2 (op.Exit 3)) (by 2 (op.Exit 4)) (done (with_ended 2 3 two_high)) (done (with_ended 2 4 two_high)) [] [] (ends 3) (ends 4) (runs.AgreeAt.Other two_is_high runs.Replaced.Exited) refl tt))
+    agree_on bottom alone alone 1 (by 1 (op.Fork keep.Nothing)) (by 1 (op.Fork keep.Nothing)) (number with_two 2) (number with_two 2) (by 2 (op.SetSelf seven)
+    ∷ by 2 (op.Exit 3) ∷ []) (by 2 (op.SetSelf seven) ∷ by 2 (op.Exit 4) ∷ []) forks forks runs.AgreeAt.Same refl
+    (agree_on bottom with_two with_two 2 (by 2 (op.SetSelf seven)) (by 2 (op.SetSelf seven)) (done two_high) (done two_high) (by 2 (op.Exit 3)
+    ∷ []) (by 2 (op.Exit 4) ∷ []) rises rises runs.AgreeAt.Same refl
+    (agree_on bottom two_high two_high 3 (by 2 (op.Exit 3)) (by 2 (op.Exit 4)) (done (with_ended 2 3 two_high)) (done (with_ended 2 4 two_high)) [] [] (ends 3)
+    (ends 4) (runs.AgreeAt.Other two_is_high runs.Replaced.Exited) refl tt))
 
 pub statuses_agree_in_length : BothAgreeInLength bottom family (leaving_high 3) (leaving_high 4)
 unfolding alone
 statuses_agree_in_length =
-    equal_on bottom alone 1 (by 1 (op.Fork keep.Nothing)) (by 1 (op.Fork keep.Nothing)) (number with_two 2) (by 2 (op.SetSelf seven) ∷ by 2 (op.Exit 3) ∷ []) (by 2 (op.SetSelf seven) ∷ by 2 (op.Exit 4) ∷ []) forks equal.AgreeInLengthAt.Same
+    equal_on bottom alone 1 (by 1 (op.Fork keep.Nothing)) (by 1 (op.Fork keep.Nothing)) (number with_two 2) (by 2 (op.SetSelf seven) ∷ by 2 (op.Exit 3)
+    ∷ []) (by 2 (op.SetSelf seven) ∷ by 2 (op.Exit 4) ∷ []) forks equal.AgreeInLengthAt.Same
     (equal_on bottom with_two 2 (by 2 (op.SetSelf seven)) (by 2 (op.SetSelf seven)) (done two_high) (by 2 (op.Exit 3) ∷ []) (by 2 (op.Exit 4) ∷ []) rises equal.AgreeInLengthAt.Same
     (equal_on bottom two_high 3 (by 2 (op.Exit 3)) (by 2 (op.Exit 4)) (done (with_ended 2 3 two_high)) [] [] (ends 3) (equal.AgreeInLengthAt.Other two_is_high equal.ReplacedInLength.Exited) tt))
 
@@ -272,7 +302,8 @@ as_low_read : (b : Bool) (l : Categories) (w : World) (place : ℕ) (e : Event) 
 as_low_read true l w place e h = h
 as_low_read false l w place e h = h
 
-low_read_on : (l : Categories) (chosen : ℕ) (w : World) (place : ℕ) (e : Event) (g : Given) (events : List Event) → Steps w place e.pid e.op g → LowReadOf (place == chosen) l g e → LowReadAlone l chosen g.world (suc place) events → LowReadAlone l chosen w place (e ∷ events)
+low_read_on : (l : Categories) (chosen : ℕ) (w : World) (place : ℕ) (e : Event) (g : Given) (events : List Event) → Steps w place e.pid e.op g
+    → LowReadOf (place == chosen) l g e → LowReadAlone l chosen g.world (suc place) events → LowReadAlone l chosen w place (e ∷ events)
 low_read_on l chosen w place e g events link here rest =
     let s : g ≡ step_of w place e = sym (stepped w place e.pid e.op g link) in
     (as_low_read (place == chosen) l w place e (subst (λ x. LowReadOf (place == chosen) l x e) s here), subst (λ (x : Given). LowReadAlone l chosen x.world (suc place) events) s rest)

@@ -86,7 +86,8 @@ three_are_not_in_length h =
     let both : AlikeInLength bottom (two.written 65 65) agreeing.written_three = subst₂ (λ v w. AlikeInLength bottom v w) (after_two 65 65) after_three h in
     longer both.outlines
 
-same_bytes : (l : Categories) (v w : World) (o : ℕ) (a : Option Object) → at v.frame.objects o ≡ a → option_map_or (λ x. leq x.label l) a false ≡ true → Alike l v w → holding_of v.content o ≡ holding_of w.content o
+same_bytes : (l : Categories) (v w : World) (o : ℕ) (a : Option Object) → at v.frame.objects o ≡ a → option_map_or (λ x. leq x.label l) a false ≡ true
+    → Alike l v w → holding_of v.content o ≡ holding_of w.content o
 same_bytes l v w o None is low h = absurd (true≢false (sym low))
 same_bytes l v w o (Some x) is low h = h.inside.bytes o x is low
 

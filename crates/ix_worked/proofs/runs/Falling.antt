@@ -25,7 +25,8 @@ object_falls f g o None b is_a is_b h = absurd (true≢false h)
 object_falls f g o (Some x) None is_a is_b h = absurd (true≢false h)
 object_falls f g o (Some x) (Some y) is_a is_b h = lowering.Lowered.OfObject o x y is_a is_b h
 
-pub object_crosses : (l : Categories) (f g : Frame) (o : ℕ) (a b : Option Object) → at f.objects o ≡ a → at g.objects o ≡ b → option_map_or (λ x. leq x.label l) a true ≡ false → option_map_or (λ y. leq y.label l) b false ≡ true → Crosses l f g
+pub object_crosses : (l : Categories) (f g : Frame) (o : ℕ) (a b : Option Object) → at f.objects o ≡ a → at g.objects o ≡ b
+    → option_map_or (λ x. leq x.label l) a true ≡ false → option_map_or (λ y. leq y.label l) b false ≡ true → Crosses l f g
 object_crosses l f g o None b is_a is_b h k = absurd (true≢false h)
 object_crosses l f g o (Some x) None is_a is_b h k = absurd (true≢false (sym k))
 object_crosses l f g o (Some x) (Some y) is_a is_b h k = lowering.Crosses.OfObject o x y is_a is_b h k
@@ -47,10 +48,12 @@ unfolding running down.at_first down.lowered
 crosses_there = object_crosses bottom down.at_first.frame down.lowered.frame 1 (at down.at_first.frame.objects 1) (at down.lowered.frame.objects 1) refl refl (simp labels refl) (simp labels refl)
 
 pub third_lowers : Lowered (before session.one_line session.lowering 3).frame (after session.one_line session.lowering 3).frame
-third_lowers = subst (λ (w : World). Lowered w.frame (after session.one_line session.lowering 3).frame) (sym before_third) (subst (λ (w : World). Lowered down.at_first.frame w.frame) (sym after_third) lowers_there)
+third_lowers = subst (λ (w : World). Lowered w.frame (after session.one_line session.lowering 3).frame) (sym before_third)
+    (subst (λ (w : World). Lowered down.at_first.frame w.frame) (sym after_third) lowers_there)
 
 pub third_crosses : Crosses bottom (before session.one_line session.lowering 3).frame (after session.one_line session.lowering 3).frame
-third_crosses = subst (λ (w : World). Crosses bottom w.frame (after session.one_line session.lowering 3).frame) (sym before_third) (subst (λ (w : World). Crosses bottom down.at_first.frame w.frame) (sym after_third) crosses_there)
+third_crosses = subst (λ (w : World). Crosses bottom w.frame (after session.one_line session.lowering 3).frame) (sym before_third)
+    (subst (λ (w : World). Crosses bottom down.at_first.frame w.frame) (sym after_third) crosses_there)
 
 -- ---- none is
 -- a test on what stands at the same number in two tables
@@ -86,9 +89,13 @@ holds_at p (x ∷ t) (y ∷ u) (suc n) h = holds_at p t u n (second (pair p x y)
 
 rises : (f g : Frame) → pairs {A = Object} (λ x y. leq x.label y.label) f.objects g.objects ≡ true → pairs {A = Process} (λ x y. leq x.label y.label) f.processes g.processes ≡ true → Lowered f g → ⊥
 rises f g objects processes (lowering.Lowered.OfObject o x y is_x is_y falls) =
-    true≢false (sym (holds_at {A = Object} (λ a b. leq a.label b.label) f.objects g.objects o objects) ∙ ap (λ a. pair {A = Object} (λ c d. leq c.label d.label) a (at g.objects o)) is_x ∙ ap (λ b. pair {A = Object} (λ c d. leq c.label d.label) (Some x) b) is_y ∙ falls)
+    true≢false (sym (holds_at {A = Object} (λ a b. leq a.label b.label) f.objects g.objects o objects)
+    ∙ ap (λ a. pair {A = Object} (λ c d. leq c.label d.label) a (at g.objects o)) is_x
+    ∙ ap (λ b. pair {A = Object} (λ c d. leq c.label d.label) (Some x) b) is_y ∙ falls)
 rises f g objects processes (lowering.Lowered.OfProcess p x y is_x is_y falls) =
-    true≢false (sym (holds_at {A = Process} (λ a b. leq a.label b.label) f.processes g.processes p processes) ∙ ap (λ a. pair {A = Process} (λ c d. leq c.label d.label) a (at g.processes p)) is_x ∙ ap (λ b. pair {A = Process} (λ c d. leq c.label d.label) (Some x) b) is_y ∙ falls)
+    true≢false (sym (holds_at {A = Process} (λ a b. leq a.label b.label) f.processes g.processes p processes)
+    ∙ ap (λ a. pair {A = Process} (λ c d. leq c.label d.label) a (at g.processes p)) is_x
+    ∙ ap (λ b. pair {A = Process} (λ c d. leq c.label d.label) (Some x) b) is_y ∙ falls)
 
 -- what crosses a label lowers one
 falls_across : (l a b : Categories) → leq a l ≡ false → leq b l ≡ true → leq a b ≡ false
@@ -103,7 +110,8 @@ crosses_nowhere l w place [] h = tt
 crosses_nowhere l w place (e ∷ events) h = (λ c. h.0 (crosses_lowers l w.frame (step_of w place e).world.frame c), crosses_nowhere l (step_of w place e).world (suc place) events h.1)
 
 -- a step from one world to another lowers nothing, and nothing after it does
-lowers_on : (w : World) (place : ℕ) (e : Event) (g : Given) (events : List Event) → Steps w place e.pid e.op g → (Lowered w.frame g.world.frame → ⊥) → LowersNowhere g.world (suc place) events → LowersNowhere w place (e ∷ events)
+lowers_on : (w : World) (place : ℕ) (e : Event) (g : Given) (events : List Event) → Steps w place e.pid e.op g → (Lowered w.frame g.world.frame → ⊥)
+    → LowersNowhere g.world (suc place) events → LowersNowhere w place (e ∷ events)
 lowers_on w place e g events link here rest =
     subst (λ (x : Given). (Lowered w.frame x.world.frame → ⊥) × LowersNowhere x.world (suc place) events) (sym (stepped w place e.pid e.op g link)) (here, rest)
 

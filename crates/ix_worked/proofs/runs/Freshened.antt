@@ -24,7 +24,8 @@ fresh_by was w [] gs pid fd way = was
 fresh_by was w (e ∷ events) [] pid fd way = was
 fresh_by was w (e ∷ events) (g ∷ gs) pid fd way = fresh_by (fresh_after w e g pid fd way was) g.world events gs pid fd way
 
-fresh_given : (was : Bool) (w : World) (place : ℕ) (events : List Event) (gs : List Given) (pid fd : ℕ) (way : Way) → Gives w place events gs → fresh_from was w place events pid fd way ≡ fresh_by was w events gs pid fd way
+fresh_given : (was : Bool) (w : World) (place : ℕ) (events : List Event) (gs : List Given) (pid fd : ℕ) (way : Way) → Gives w place events gs
+    → fresh_from was w place events pid fd way ≡ fresh_by was w events gs pid fd way
 unfolding fresh_from
 fresh_given was w place [] gs pid fd way h = refl
 fresh_given was w place (e ∷ events) [] pid fd way h = absurd h
@@ -33,7 +34,8 @@ fresh_given was w place (e ∷ events) (g ∷ gs) pid fd way (link ⨾ links) =
     ∙ fresh_given (fresh_after w e g pid fd way was) g.world (suc place) events gs pid fd way links
 
 -- after each of its beginnings
-fresh_each : (w : World) (events : List Event) (gs : List Given) (pid fd : ℕ) (way : Way) → Gives w 1 events gs → (ns : List ℕ) → map (λ n. is_fresh w (take n events) pid fd way) ns ≡ map (λ n. fresh_by false w (take n events) (take n gs) pid fd way) ns
+fresh_each : (w : World) (events : List Event) (gs : List Given) (pid fd : ℕ) (way : Way) → Gives w 1 events gs → (ns : List ℕ)
+    → map (λ n. is_fresh w (take n events) pid fd way) ns ≡ map (λ n. fresh_by false w (take n events) (take n gs) pid fd way) ns
 unfolding is_fresh
 fresh_each w events gs pid fd way h [] = refl
 fresh_each w events gs pid fd way h (n ∷ ns) =

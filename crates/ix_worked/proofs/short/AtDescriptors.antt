@@ -11,7 +11,10 @@ use Rattle.ix_model.specs.world.World.{World}
 use Rattle.ix_model.specs.declared.call.Mode.TheVariants as mode
 use Rattle.ix_model.specs.declared.refusal.Refusal.TheVariants as refusal
 use Rattle.ix_model.specs.declared.reply.Reply.TheVariants as reply
-use Rattle.ix_worked.specs.short.OnDescriptors.{asking_too_much, desk, copying, long_desk, using_none, reading_a_writer, writing_a_reader, going_too_far, claiming_a_file, cutting_a_pipe, letting_go, using_all, opening_all, making_pipes, reading_nothing, writing_into_a_broken_pipe, claiming_both, closing_a_claimed_end, writing_in_the_middle, using_numbers_again}
+use Rattle.ix_worked.specs.short.OnDescriptors.{asking_too_much, desk, copying, long_desk, using_none, reading_a_writer, writing_a_reader}
+use Rattle.ix_worked.specs.short.OnDescriptors.{going_too_far, claiming_a_file, cutting_a_pipe, letting_go, using_all, opening_all, making_pipes}
+use Rattle.ix_worked.specs.short.OnDescriptors.{reading_nothing, writing_into_a_broken_pipe, claiming_both, closing_a_claimed_end}
+use Rattle.ix_worked.specs.short.OnDescriptors.{writing_in_the_middle, using_numbers_again}
 use Rattle.ix_worked.specs.Scripts.{in_root, by}
 use Rattle.ix_worked.specs.Sessions.{line_of, lines_of, calls, Goes}
 use Rattle.ix_worked.proofs.Chains.{◌⨾◌, number, bytes, refused, answered, done, lines_more, lines_given}

@@ -11,7 +11,11 @@ use Rattle.ix_model.specs.declared.call.Mode.TheVariants as mode
 use Rattle.ix_model.specs.declared.refusal.Refusal.TheVariants as refusal
 use Rattle.ix_model.specs.declared.reply.Kind.TheVariants as kind
 use Rattle.ix_model.specs.declared.reply.Reply.TheVariants as reply
-use Rattle.ix_worked.specs.short.OnLabels.{towers, looking_in_vain, reading_each_line, stiff_house, moving_what_is_frozen, two_steps, program, walking_too_high, handing_on, handing_on_log, levels, no_lines, officers, heights, low_house, pair, chest, holding_down, setting_labels, setting_ceilings, freezing, acting_without_a_line, acting, acting_log, finding_what_is_high, setting_high, looking_into_an_empty_pipe, making_names_high, raising_ceilings, raising_ceilings_log}
+use Rattle.ix_worked.specs.short.OnLabels.{towers, looking_in_vain, reading_each_line, stiff_house, moving_what_is_frozen, two_steps, program}
+use Rattle.ix_worked.specs.short.OnLabels.{walking_too_high, handing_on, handing_on_log, levels, no_lines, officers, heights, low_house, pair, chest}
+use Rattle.ix_worked.specs.short.OnLabels.{holding_down, setting_labels, setting_ceilings, freezing, acting_without_a_line, acting, acting_log}
+use Rattle.ix_worked.specs.short.OnLabels.{finding_what_is_high, setting_high, looking_into_an_empty_pipe, making_names_high, raising_ceilings}
+use Rattle.ix_worked.specs.short.OnLabels.{raising_ceilings_log}
 use Rattle.ix_worked.specs.Scripts.{three, five, three_and_five, log_line}
 use Rattle.ix_worked.specs.Sessions.{log_of, calls, Goes}
 use Rattle.ix_worked.proofs.Chains.{◌⨾◌, Gives, number, bytes, refused, answered, done, log_given, lines_given}

@@ -10,7 +10,10 @@ use Rattle.ix_model.specs.declared.call.Mode.TheVariants as mode
 use Rattle.ix_model.specs.declared.refusal.Refusal.TheVariants as refusal
 use Rattle.ix_model.specs.declared.reply.Kind.TheVariants as kind
 use Rattle.ix_model.specs.declared.reply.Reply.TheVariants as reply
-use Rattle.ix_worked.specs.short.OnPaths.{attic, naming_high, crowded, poor, making_without_room, asking_without_room, full_with_a_root, making_one_name_more, freeing_blocks, unlinking_one_of_two, shelves, furnished, full, tight, seeking, looking_into_a_file, using_a_directory, making_again, crossing, removing_a_home, making_files, making_names, asking_for_objects, unlinking_an_open_file, looking_around, working_in_a_directory, sharing_blocks}
+use Rattle.ix_worked.specs.short.OnPaths.{attic, naming_high, crowded, poor, making_without_room, asking_without_room, full_with_a_root}
+use Rattle.ix_worked.specs.short.OnPaths.{making_one_name_more, freeing_blocks, unlinking_one_of_two, shelves, furnished, full, tight, seeking}
+use Rattle.ix_worked.specs.short.OnPaths.{looking_into_a_file, using_a_directory, making_again, crossing, removing_a_home, making_files, making_names}
+use Rattle.ix_worked.specs.short.OnPaths.{asking_for_objects, unlinking_an_open_file, looking_around, working_in_a_directory, sharing_blocks}
 use Rattle.ix_worked.specs.Scripts.{three}
 use Rattle.ix_worked.specs.Sessions.{calls, Goes}
 use Rattle.ix_worked.proofs.Chains.{◌⨾◌, number, bytes, refused, answered, done, lines_given}

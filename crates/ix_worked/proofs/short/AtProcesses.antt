@@ -5,7 +5,8 @@ use Rattle.ix_model.specs.opening.Valid.{is_valid}
 use Rattle.ix_model.specs.world.World.{World, put}
 use Rattle.ix_model.specs.declared.refusal.Refusal.TheVariants as refusal
 use Rattle.ix_model.specs.declared.reply.Reply.TheVariants as reply
-use Rattle.ix_worked.specs.short.OnProcesses.{house, forking_as_it_is, ending_with_a_pipe, keeping_some, family, calling_as_nobody, calling_after_the_end, forking_often, waiting_for_a_child, ending_first, ending_out_of_order}
+use Rattle.ix_worked.specs.short.OnProcesses.{house, forking_as_it_is, ending_with_a_pipe, keeping_some, family, calling_as_nobody}
+use Rattle.ix_worked.specs.short.OnProcesses.{calling_after_the_end, forking_often, waiting_for_a_child, ending_first, ending_out_of_order}
 use Rattle.ix_worked.specs.Scripts.{three}
 use Rattle.ix_worked.specs.Sessions.{calls, Goes}
 use Rattle.ix_worked.proofs.Chains.{◌⨾◌, number, refused, answered, done, lines_given}

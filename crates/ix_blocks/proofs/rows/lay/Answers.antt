@@ -23,13 +23,16 @@ pub overflow_add-start : goal.overflow_add-start
 overflow_add-start c = omega (arith, few_bytes c.args.links.now c.args.blocks.now c.requires.rows c.args.file c.requires.file, c.requires.within, c.loop-done-test.true)
 
 pub bounds-blocks-here : goal.bounds-blocks-here
-bounds-blocks-here c = block_below c.args.links.now c.loop-done.blocks c.loop-done.invariant.rows c.args.file c.requires.file ((c.args.place + c.loop-done.done) / 512) c.in-Some.here (sym (c.loop-done.invariant.next c.loop-done-test.true) ∙ c.in-Some.is)
+bounds-blocks-here c = block_below c.args.links.now c.loop-done.blocks c.loop-done.invariant.rows c.args.file c.requires.file
+    ((c.args.place + c.loop-done.done) / 512) c.in-Some.here (sym (c.loop-done.invariant.next c.loop-done-test.true) ∙ c.in-Some.is)
 
 pub next-block-requires : goal.next-block-requires
-next-block-requires c = held_below c.args.links.now c.args.file ((c.args.place + c.loop-done.done) / 512) c.in-Some.here c.requires.rows.law (sym (c.loop-done.invariant.next c.loop-done-test.true) ∙ c.in-Some.is)
+next-block-requires c = held_below c.args.links.now c.args.file ((c.args.place + c.loop-done.done) / 512) c.in-Some.here c.requires.rows.law
+    (sym (c.loop-done.invariant.next c.loop-done-test.true) ∙ c.in-Some.is)
 
 pub unreachable-requires : goal.unreachable-requires
-unreachable-requires c = block_there c.args.links.now c.args.blocks.now c.requires.rows c.args.file c.requires.file (c.args.place + c.loop-done.done) (omega (arith, c.requires.within, c.loop-done-test.true)) (sym (c.loop-done.invariant.next c.loop-done-test.true) ∙ c.in-None.is)
+unreachable-requires c = block_there c.args.links.now c.args.blocks.now c.requires.rows c.args.file c.requires.file (c.args.place + c.loop-done.done)
+    (omega (arith, c.requires.within, c.loop-done-test.true)) (sym (c.loop-done.invariant.next c.loop-done-test.true) ∙ c.in-None.is)
 
 pub loop-done-preserved : goal.loop-done-preserved
 loop-done-preserved c =
@@ -47,9 +50,15 @@ loop-done-preserved c =
     let less : done + size ≤ length bytes = omega (arith, c.min-size.ensures, c.loop-done-test.true) in
     let fits : start + size ≤ 512 = omega (arith, c.min-size.ensures) in
     let sized : length (get_or ds b []) ≡ 512 = block_sized v ds rows f c.requires.file ((place + done) / 512) b at in
-    let row : c.lay_in.new.row ≡ laid_over start (take size (drop done bytes)) (get_or ds b []) = c.lay_in.ensures ∙ ap (λ n. laid_over start (take n (drop done bytes)) (get_or ds b [])) (let e : done + size - done ≡ size = omega arith in e) in
+    let row : c.lay_in.new.row ≡ laid_over start (take size (drop done bytes)) (get_or ds b []) = c.lay_in.ensures
+    ∙ ap (λ n. laid_over start (take n (drop done bytes)) (get_or ds b [])) (let e : done + size - done ≡ size = omega arith in e) in
     record {
-      rows = rows_set v ds rows b c.lay_in.new.row (ap length row ∙ length-laid_over start (take size (drop done bytes)) (get_or ds b []) (omega (arith, length-take size (drop done bytes), fits, sized)) ∙ sized);
+      rows = rows_set v ds rows b c.lay_in.new.row (ap length row ∙ length-laid_over start (take size (drop done bytes)) (get_or ds b []) (omega (
+        arith,
+        length-take size (drop done bytes),
+        fits,
+        sized,
+      )) ∙ sized);
       laid = ap (λ x. flats (set ds b x) v.chains) row ∙ laid_step v ds rows f c.requires.file c.args.blocks.now place done size bytes b c.loop-done.invariant.laid c.requires.within less at fits;
       next = λ more. c.next-block.ensures.chain f ((place + done) / 512) at ∙ ap (slice_get (chain_of f v)) (sym (next_block place done size (length bytes) c.min-size.ensures more));
       some = less;

@@ -25,7 +25,9 @@ loop-seat-preserved c =
       within = omega (arith, here);
       count = omega (arith, ap length grown, length-append c.loop-seat.lanes.items (lane ∷ []), is.count);
       each = subst (AreOf lane_now (first_at c.args.script.now)) (sym grown)
-          (one_more lane_now c.loop-seat.lanes.items lane (first_at c.args.script.now) is.each (is_first lane c.args.script.now c.loop-seat.seat (length c.args.script.now) c.in_ok-lane.ensures.place c.in_ok-lane.ensures.asks ∙ ap (first_at c.args.script.now) (sym is.count)));
+          (one_more lane_now c.loop-seat.lanes.items lane (first_at c.args.script.now) is.each
+          (is_first lane c.args.script.now c.loop-seat.seat (length c.args.script.now) c.in_ok-lane.ensures.place c.in_ok-lane.ensures.asks
+          ∙ ap (first_at c.args.script.now) (sym is.count)));
     }
 
 pub returns : goal.returns

@@ -6,4 +6,5 @@ pub call_fresh-requires-clause-known : goal.call_fresh-requires-clause-known
 call_fresh-requires-clause-known c = known_call c.args.marks.now c.args.machine.now.frame c.args.pid.0 (op_of c.args.call.now) c.requires.known c.requires.fresh
 
 pub returns-clause-told : goal.returns-clause-told
-returns-clause-told c = told_known c.known_changes_nothing.ensures.nothing c.args.marks.now c.args.machine.now c.args.place c.args.pid.0 (op_of c.args.call.now) c.requires.ready c.requires.known c.requires.fresh
+returns-clause-told c = told_known c.known_changes_nothing.ensures.nothing c.args.marks.now c.args.machine.now c.args.place c.args.pid.0 (op_of c.args.call.now)
+    c.requires.ready c.requires.known c.requires.fresh

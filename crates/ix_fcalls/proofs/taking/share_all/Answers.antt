@@ -5,6 +5,14 @@ use Rattle.ix_fcalls.proofs.taking.share_all.Goals.{in-Some, in_default}
 
 pub loop-fd-preserved : goal.loop-fd-preserved
 loop-fd-preserved c = elim c.match-fds-fd.branch [
-  | in-Some w ↦ shared_more c.args.tables.now c.loop-fd.tables c.match-fds-fd.tables c.args.fds.now c.loop-fd.fd (omega (arith, c.told-fds, c.loop-fd-test.true)) c.loop-fd.invariant w.in-Some.id w.in-Some.is (c.requires.entries _ _ w.in-Some.is) c.requires.long (w.tables-is ∙ w.share.ensures)
-  | in_default w ↦ shared_same c.args.tables.now c.loop-fd.tables c.match-fds-fd.tables c.args.fds.now c.loop-fd.fd (omega (arith, c.told-fds, c.loop-fd-test.true)) c.loop-fd.invariant w.in_default.is w.tables-is
+  | in-Some w ↦ shared_more c.args.tables.now c.loop-fd.tables c.match-fds-fd.tables c.args.fds.now c.loop-fd.fd (omega (
+    arith,
+    c.told-fds,
+    c.loop-fd-test.true,
+  )) c.loop-fd.invariant w.in-Some.id w.in-Some.is (c.requires.entries _ _ w.in-Some.is) c.requires.long (w.tables-is ∙ w.share.ensures)
+  | in_default w ↦ shared_same c.args.tables.now c.loop-fd.tables c.match-fds-fd.tables c.args.fds.now c.loop-fd.fd (omega (
+    arith,
+    c.told-fds,
+    c.loop-fd-test.true,
+  )) c.loop-fd.invariant w.in_default.is w.tables-is
 ]

@@ -19,7 +19,8 @@ split_seat-next-requires g c =
       search rules,
       search rules,
       subst
-          (λ m. Splits (Obeys g.M.Machine.base g.M.Machine.history g.M.Machine.seat (g.M.Machine.base c.gate.inside.table.shared.key.machine.value) c.gate.inside.table.shared.key.seats) c.fetch_add.new.seat.id m.0 (numbered_view m.0) (next_view m.0))
+          (λ m. Splits (Obeys g.M.Machine.base g.M.Machine.history g.M.Machine.seat (g.M.Machine.base c.gate.inside.table.shared.key.machine.value)
+          c.gate.inside.table.shared.key.seats) c.fetch_add.new.seat.id m.0 (numbered_view m.0) (next_view m.0))
           (sym made)
           (hand_on_allowed _ _ _ _ _ _ c.args.number _ _),
     )

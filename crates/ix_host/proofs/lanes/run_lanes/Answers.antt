@@ -25,7 +25,8 @@ conclude-requires-clause-fits g c = whole_fits c.in-Run.script c.in-Ok-run_histo
 
 pub returns-in_default-clause-written : goal.returns-in_default-clause-written
 returns-in_default-clause-written g c =
-    memory_written IsHistory serial_history (λ bytes history. text_of (outcome_of lanes_usage_line (lanes_command_of c.args.words.now) bytes history)) (g.S.Source.left c.args.source.now) (g.K.Sink.taken c.args.sink.now)
+    memory_written IsHistory serial_history (λ bytes history. text_of (outcome_of lanes_usage_line (lanes_command_of c.args.words.now) bytes history))
+    (g.S.Source.left c.args.source.now) (g.K.Sink.taken c.args.sink.now)
 
 pub returns-clause-bounded : goal.returns-clause-bounded
 returns-clause-bounded g c =
@@ -35,7 +36,8 @@ returns-clause-bounded g c =
 pub returns-clause-written : goal.returns-clause-written
 returns-clause-written g c =
     rw c.in-Run.ensures.untouched
-    (memory_written IsHistory serial_history (λ bytes history. text_of (outcome_of lanes_usage_line (lanes_command_of c.args.words.now) bytes history)) (g.S.Source.left c.args.source.now) (g.K.Sink.taken c.args.sink.now))
+    (memory_written IsHistory serial_history (λ bytes history. text_of (outcome_of lanes_usage_line (lanes_command_of c.args.words.now) bytes history))
+    (g.S.Source.left c.args.source.now) (g.K.Sink.taken c.args.sink.now))
 
 pub returns-in-Ended : goal.returns-in-Ended
 returns-in-Ended g c =
@@ -43,15 +45,20 @@ returns-in-Ended g c =
     let words = c.args.words.now in
     let left = g.S.Source.left c.args.source.now in
     let taken = g.K.Sink.taken c.args.sink.now in
-    let v = subst (λ a. Verdict IsHistory lanes_usage_line a left c.in-Ended.status taken (g.K.Sink.taken c.prepare.new.sink) (g.K.Sink.finished c.prepare.new.sink) (g.K.Sink.faults c.args.sink.now) (g.K.Sink.faults c.prepare.new.sink)) c.in-Ok.ensures
-    (verdict_ended IsHistory serial_history lanes_usage_line c.in-Ok.asked left c.in-Ended.status taken (g.K.Sink.taken c.prepare.new.sink) (g.K.Sink.finished c.prepare.new.sink) (g.K.Sink.faults c.args.sink.now) (g.K.Sink.faults c.prepare.new.sink)
+    let v = subst (λ a. Verdict IsHistory lanes_usage_line a left c.in-Ended.status taken (g.K.Sink.taken c.prepare.new.sink)
+    (g.K.Sink.finished c.prepare.new.sink) (g.K.Sink.faults c.args.sink.now) (g.K.Sink.faults c.prepare.new.sink)) c.in-Ok.ensures
+    (verdict_ended IsHistory serial_history lanes_usage_line c.in-Ok.asked left c.in-Ended.status taken (g.K.Sink.taken c.prepare.new.sink)
+    (g.K.Sink.finished c.prepare.new.sink) (g.K.Sink.faults c.args.sink.now) (g.K.Sink.faults c.prepare.new.sink)
     (λ is. (e.fault (ap task.Ended is)).1) (λ is. ap g.K.Sink.taken (e.fault (ap task.Ended is)).2) (λ other. e.prepared (λ is. other cc))) in
     record {
       bounded = subst (λ most. IfSome left (λ bytes. TakesFew most bytes (g.S.Source.left c.prepare.new.source))) (ap input_max c.in-Ok.ensures ∙ lanes_max words) e.bounded;
       read_out = lanes_read_out words c.in-Ended.status left (g.S.Source.left c.prepare.new.source) v.fits
-          (λ reads. subst (λ a. IfSome left (λ bytes. ReadsOut (input_max a) c.in-Ended.status bytes (g.S.Source.left c.prepare.new.source))) c.in-Ok.ensures (e.read_out (ap reads_source c.in-Ok.ensures ∙ reads)));
+          (λ reads. subst (λ a. IfSome left (λ bytes. ReadsOut (input_max a) c.in-Ended.status bytes (g.S.Source.left c.prepare.new.source))) c.in-Ok.ensures
+          (e.read_out (ap reads_source c.in-Ok.ensures ∙ reads)));
       not_read = λ none. e.not_read (ap reads_source c.in-Ok.ensures ∙ none_reads (lanes_command_of words) none);
-      written = lanes_written words left taken (λ bytes t history. WritesFor c.in-Ended.status (text_of (outcome_of lanes_usage_line (lanes_command_of words) bytes history)) t (g.K.Sink.taken c.prepare.new.sink))
+      written = lanes_written words left taken
+          (λ bytes t history. WritesFor c.in-Ended.status (text_of (outcome_of lanes_usage_line (lanes_command_of words) bytes history)) t
+          (g.K.Sink.taken c.prepare.new.sink))
           (rw (lanes_input words left) at v.written);
       line = v.line;
       finished = v.finished;
@@ -75,14 +82,19 @@ returns-in-Ok-run_history g c =
     let taken = g.K.Sink.taken c.args.sink.now in
     let text = text_told c.in-Run.telling c.in-Run.script c.in-Ok-run_history.history.events in
     let e = rw p.untouched at c.conclude.ensures in
-    let v = subst (λ a. Verdict IsHistory lanes_usage_line a left c.conclude.result taken (g.K.Sink.taken c.conclude.new.sink) (g.K.Sink.finished c.conclude.new.sink) (g.K.Sink.faults c.args.sink.now) (g.K.Sink.faults c.conclude.new.sink)) c.in-Ok.ensures
-    (verdict_told {Comes = IsHistory} c.in-Ok-run_history.history.events (p.prepared (run_is_no_end (task.Run c.in-Run.telling c.in-Run.script c.in-Run.policy) status.ReadFault)) c.in-Ok-run_history.ensures.history e) in
+    let v = subst (λ a. Verdict IsHistory lanes_usage_line a left c.conclude.result taken (g.K.Sink.taken c.conclude.new.sink)
+    (g.K.Sink.finished c.conclude.new.sink) (g.K.Sink.faults c.args.sink.now) (g.K.Sink.faults c.conclude.new.sink)) c.in-Ok.ensures
+    (verdict_told {Comes = IsHistory} c.in-Ok-run_history.history.events
+    (p.prepared (run_is_no_end (task.Run c.in-Run.telling c.in-Run.script c.in-Run.policy) status.ReadFault)) c.in-Ok-run_history.ensures.history e) in
     record {
       bounded = subst (λ most. IfSome left (λ bytes. TakesFew most bytes (g.S.Source.left c.prepare.new.source))) (ap input_max c.in-Ok.ensures ∙ lanes_max words) p.bounded;
       read_out = lanes_read_out words c.conclude.result left (g.S.Source.left c.prepare.new.source) v.fits
-          (λ reads. told_read_out (input_max (lanes_command_of words)) text c.conclude.result left (g.S.Source.left c.prepare.new.source) e.fits (p.read_out (ap reads_source c.in-Ok.ensures ∙ reads)));
+          (λ reads. told_read_out (input_max (lanes_command_of words)) text c.conclude.result left (g.S.Source.left c.prepare.new.source) e.fits
+          (p.read_out (ap reads_source c.in-Ok.ensures ∙ reads)));
       not_read = λ none. p.not_read (ap reads_source c.in-Ok.ensures ∙ none_reads (lanes_command_of words) none);
-      written = lanes_written words left taken (λ bytes t history. WritesFor c.conclude.result (text_of (outcome_of lanes_usage_line (lanes_command_of words) bytes history)) t (g.K.Sink.taken c.conclude.new.sink))
+      written = lanes_written words left taken
+          (λ bytes t history. WritesFor c.conclude.result (text_of (outcome_of lanes_usage_line (lanes_command_of words) bytes history)) t
+          (g.K.Sink.taken c.conclude.new.sink))
           (rw (lanes_input words left) at v.written);
       line = v.line;
       finished = v.finished;

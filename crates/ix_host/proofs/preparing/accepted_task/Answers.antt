@@ -18,7 +18,9 @@ returns-in-Run-clause-leads g c = (
 
 pub returns-in-Print-clause-leads : goal.returns-in-Print-clause-leads
 unfolding text_for
-returns-in-Print-clause-leads g c = λ history. ends_as (outcome_accepted command.Print c.args.script c.args.beside.now history (accepted command.Print c.args.script c.args.beside.now c.requires.accepted tt)
+returns-in-Print-clause-leads g c =
+    λ history. ends_as (outcome_accepted command.Print c.args.script c.args.beside.now history (accepted command.Print c.args.script c.args.beside.now
+    c.requires.accepted tt)
     ∙ ap (λ k. outcome_for k c.args.script c.args.beside.now history) (sym c.in-Print.is)) c.print.ensures
 
 pub returns-in-Gen-clause-leads : goal.returns-in-Gen-clause-leads
@@ -34,12 +36,16 @@ returns-in-Gen-clause-leads g c = (
 
 pub returns-in-Check-clause-leads : goal.returns-in-Check-clause-leads
 unfolding text_for
-returns-in-Check-clause-leads g c = λ history. ends_as (outcome_accepted command.Check c.args.script c.args.beside.now history (accepted command.Check c.args.script c.args.beside.now c.requires.accepted tt)
+returns-in-Check-clause-leads g c =
+    λ history. ends_as (outcome_accepted command.Check c.args.script c.args.beside.now history (accepted command.Check c.args.script c.args.beside.now
+    c.requires.accepted tt)
     ∙ ap (λ k. outcome_for k c.args.script c.args.beside.now history) (sym c.in-Check.is)) c.check.ensures
 
 pub returns-in-Flow-clause-leads : goal.returns-in-Flow-clause-leads
 unfolding text_for
-returns-in-Flow-clause-leads g c = λ history. ends_as (outcome_accepted command.Flow c.args.script c.args.beside.now history (accepted command.Flow c.args.script c.args.beside.now c.requires.accepted tt)
+returns-in-Flow-clause-leads g c =
+    λ history. ends_as (outcome_accepted command.Flow c.args.script c.args.beside.now history (accepted command.Flow c.args.script c.args.beside.now
+    c.requires.accepted tt)
     ∙ ap (λ k. outcome_for k c.args.script c.args.beside.now history) (sym c.in-Flow.is)) c.flow.ensures
 
 pub returns-in-Twin-clause-leads : goal.returns-in-Twin-clause-leads

@@ -13,32 +13,39 @@ returns-in_default-clause-fault g c = λ is. absurd (ends_somewhere (c.tell.ensu
 
 pub returns-in_default-clause-prepared : goal.returns-in_default-clause-prepared
 returns-in_default-clause-prepared g c = λ _.
-    usage_prepared c.args.usage.now c.args.asked (g.S.Source.left c.args.source.now) (g.K.Sink.taken c.args.sink.now) c.tell.result _ _ _ _ c.in_default.is (c.tell.ensures (outcome.Usage c.args.usage.now) refl refl)
+    usage_prepared c.args.usage.now c.args.asked (g.S.Source.left c.args.source.now) (g.K.Sink.taken c.args.sink.now) c.tell.result _ _ _ _ c.in_default.is
+    (c.tell.ensures (outcome.Usage c.args.usage.now) refl refl)
 
 pub returns-in-Whole-clause-read_out : goal.returns-in-Whole-clause-read_out
 returns-in-Whole-clause-read_out g c = λ reads.
     whole_read_out (input_max c.args.asked) c.input_task.result (g.S.Source.left c.args.source.now) (g.S.Source.left c.input_for.new.source) c.in-Whole.bytes.items
-    (subst (λ a. IfSome (g.S.Source.left c.args.source.now) (λ bytes. Gathers (input_max a) bytes (g.S.Source.left c.input_for.new.source) (input.Whole c.in-Whole.bytes))) (sym c.in-Some.is) (c.in-Whole.ensures.gathers (subst (λ a. reads_source a ≡ true) c.in-Some.is reads)))
+    (subst (λ a. IfSome (g.S.Source.left c.args.source.now) (λ bytes. Gathers (input_max a) bytes (g.S.Source.left c.input_for.new.source)
+    (input.Whole c.in-Whole.bytes))) (sym c.in-Some.is) (c.in-Whole.ensures.gathers (subst (λ a. reads_source a ≡ true) c.in-Some.is reads)))
 
 pub returns-in-Whole-clause-fault : goal.returns-in-Whole-clause-fault
 returns-in-Whole-clause-fault g c = λ is. let leads = rw c.as_slice.ensures.value at c.input_task.ensures.leads in
-    absurd (leads_somewhere (λ history. outcome_in c.in-Some.command c.in-Whole.bytes.items history) (script_in (script_bytes c.in-Some.command c.in-Whole.bytes.items)) c.input_task.result _ _ _ _ _ leads is)
+    absurd (leads_somewhere (λ history. outcome_in c.in-Some.command c.in-Whole.bytes.items history)
+    (script_in (script_bytes c.in-Some.command c.in-Whole.bytes.items)) c.input_task.result _ _ _ _ _ leads is)
 
 pub returns-in-Whole-clause-prepared : goal.returns-in-Whole-clause-prepared
 returns-in-Whole-clause-prepared g c = λ _. let leads = rw c.as_slice.ensures.value at c.input_task.ensures.leads in
-    whole_prepared c.args.usage.now c.args.asked (g.S.Source.left c.args.source.now) (g.K.Sink.taken c.args.sink.now) c.in-Some.command c.input_task.result _ _ _ _ c.in-Whole.bytes.items c.in-Some.is c.in-Whole.ensures.told leads
+    whole_prepared c.args.usage.now c.args.asked (g.S.Source.left c.args.source.now) (g.K.Sink.taken c.args.sink.now) c.in-Some.command c.input_task.result _ _
+    _ _ c.in-Whole.bytes.items c.in-Some.is c.in-Whole.ensures.told leads
 
 pub returns-in-TooLong-clause-read_out : goal.returns-in-TooLong-clause-read_out
 returns-in-TooLong-clause-read_out g c = λ reads.
-    long_read_out (input_max c.args.asked) c.tell-in-TooLong.result (g.S.Source.left c.args.source.now) (g.S.Source.left c.input_for.new.source) (c.tell-in-TooLong.ensures (outcome.Refused 1 1) (sym c.too_long_line.ensures) refl).fits
-    (subst (λ a. IfSome (g.S.Source.left c.args.source.now) (λ bytes. Gathers (input_max a) bytes (g.S.Source.left c.input_for.new.source) input.TooLong)) (sym c.in-Some.is) (c.in-TooLong.ensures.gathers (subst (λ a. reads_source a ≡ true) c.in-Some.is reads)))
+    long_read_out (input_max c.args.asked) c.tell-in-TooLong.result (g.S.Source.left c.args.source.now) (g.S.Source.left c.input_for.new.source)
+    (c.tell-in-TooLong.ensures (outcome.Refused 1 1) (sym c.too_long_line.ensures) refl).fits
+    (subst (λ a. IfSome (g.S.Source.left c.args.source.now) (λ bytes. Gathers (input_max a) bytes (g.S.Source.left c.input_for.new.source) input.TooLong))
+    (sym c.in-Some.is) (c.in-TooLong.ensures.gathers (subst (λ a. reads_source a ≡ true) c.in-Some.is reads)))
 
 pub returns-in-TooLong-clause-fault : goal.returns-in-TooLong-clause-fault
 returns-in-TooLong-clause-fault g c = λ is. absurd (ends_somewhere (c.tell-in-TooLong.ensures (outcome.Refused 1 1) (sym c.too_long_line.ensures) refl) is)
 
 pub returns-in-TooLong-clause-prepared : goal.returns-in-TooLong-clause-prepared
 returns-in-TooLong-clause-prepared g c = λ _.
-    long_prepared c.args.usage.now c.args.asked (g.S.Source.left c.args.source.now) (g.K.Sink.taken c.args.sink.now) c.in-Some.command c.tell-in-TooLong.result _ _ _ _ c.in-Some.is c.in-TooLong.ensures.readable c.in-TooLong.ensures.told
+    long_prepared c.args.usage.now c.args.asked (g.S.Source.left c.args.source.now) (g.K.Sink.taken c.args.sink.now) c.in-Some.command c.tell-in-TooLong.result
+    _ _ _ _ c.in-Some.is c.in-TooLong.ensures.readable c.in-TooLong.ensures.told
     (c.tell-in-TooLong.ensures (outcome.Refused 1 1) (sym c.too_long_line.ensures) refl)
 
 pub returns-in-NoMemory-clause-prepared : goal.returns-in-NoMemory-clause-prepared

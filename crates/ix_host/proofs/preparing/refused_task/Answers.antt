@@ -24,7 +24,8 @@ returns-in-Gen-clause-leads g c = λ beside. (
   c.requires.runnable,
   sym c.requires.policy,
   λ history.
-      sym (outcome_accepted c.args.command c.args.script beside history (ap (λ k. script_refusal k c.args.script beside) c.in-Gen.is)) ∙ ap (λ k. outcome.Whole (text_for k c.args.script beside history)) c.in-Gen.is,
+      sym (outcome_accepted c.args.command c.args.script beside history (ap (λ k. script_refusal k c.args.script beside) c.in-Gen.is))
+      ∙ ap (λ k. outcome.Whole (text_for k c.args.script beside history)) c.in-Gen.is,
 )
 
 pub returns-in-Check-clause-leads : goal.returns-in-Check-clause-leads

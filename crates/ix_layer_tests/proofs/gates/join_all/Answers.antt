@@ -22,19 +22,25 @@ loop-other-init c =
       first.0,
       first.1,
       subst (All Here) rest (All-tail Here _ _ here),
-      (c.in_ok-first.first ∷ [], all ∙ ap (λ l. c.in_ok-first.first ∷ l) rest, All-cons (λ s. StandsFor c.in_ok-first.first s.number) _ [] (inl refl) (All-nil (λ s. StandsFor c.in_ok-first.first s.number))),
+      (
+        c.in_ok-first.first ∷ [],
+        all ∙ ap (λ l. c.in_ok-first.first ∷ l) rest,
+        All-cons (λ s. StandsFor c.in_ok-first.first s.number) _ [] (inl refl) (All-nil (λ s. StandsFor c.in_ok-first.first s.number)),
+      ),
     )
 
 pub join-requires-clause-gate : goal.join-requires-clause-gate
 join-requires-clause-gate c κs =
     let inv = c.loop-other.invariant in
-    let here : (c.in-Some.other.gate ≡ c.args.gate.now.id) × (c.in-Some.other.taken ≡ None) = subst (All (λ (s : S). (s.gate ≡ c.args.gate.now.id) × (s.taken ≡ None))) c.in-Some.ensures.steps.0 inv.4 0 c.in-Some.other (omega arith) in
+    let here : (c.in-Some.other.gate ≡ c.args.gate.now.id) × (c.in-Some.other.taken ≡ None) =
+    subst (All (λ (s : S). (s.gate ≡ c.args.gate.now.id) × (s.taken ≡ None))) c.in-Some.ensures.steps.0 inv.4 0 c.in-Some.other (omega arith) in
     (inv.2, here.0)
 
 pub join-requires-clause-free : goal.join-requires-clause-free
 join-requires-clause-free c κs =
     let inv = c.loop-other.invariant in
-    let here : (c.in-Some.other.gate ≡ c.args.gate.now.id) × (c.in-Some.other.taken ≡ None) = subst (All (λ (s : S). (s.gate ≡ c.args.gate.now.id) × (s.taken ≡ None))) c.in-Some.ensures.steps.0 inv.4 0 c.in-Some.other (omega arith) in
+    let here : (c.in-Some.other.gate ≡ c.args.gate.now.id) × (c.in-Some.other.taken ≡ None) =
+    subst (All (λ (s : S). (s.gate ≡ c.args.gate.now.id) × (s.taken ≡ None))) c.in-Some.ensures.steps.0 inv.4 0 c.in-Some.other (omega arith) in
     (inv.3, here.1)
 
 pub loop-other-preserved : goal.loop-other-preserved
@@ -57,7 +63,8 @@ loop-other-preserved c =
         inv.5.0 ++ c.in-Some.other ∷ [],
         inv.5.1 ∙ ap (λ l. inv.5.0 ++ l) step ∙ sym (append_assoc inv.5.0 (c.in-Some.other ∷ []) c.next-in-loop-other.new.self.rest.items),
         All-push (λ s. StandsFor c.join.new.self s.number) inv.5.0 c.in-Some.other
-            (All-weaker (λ s. StandsFor c.loop-other.first s.number) (λ s. StandsFor c.join.new.self s.number) (λ s. still_stands c.loop-other.first c.join.new.self ended number more s.number) inv.5.0 inv.5.2)
+            (All-weaker (λ s. StandsFor c.loop-other.first s.number) (λ s. StandsFor c.join.new.self s.number)
+            (λ s. still_stands c.loop-other.first c.join.new.self ended number more s.number) inv.5.0 inv.5.2)
             too,
       ),
     )

@@ -18,7 +18,11 @@ loop-other-init c =
       tt,
       here 0 c.in_ok-first.first (omega arith),
       subst (All Here) rest (All-tail Here _ _ here),
-      (c.in_ok-first.first ∷ [], all ∙ ap (λ l. c.in_ok-first.first ∷ l) rest, All-cons (λ s. StandsFor c.in_ok-first.first s.number) _ [] (inl refl) (All-nil (λ s. StandsFor c.in_ok-first.first s.number))),
+      (
+        c.in_ok-first.first ∷ [],
+        all ∙ ap (λ l. c.in_ok-first.first ∷ l) rest,
+        All-cons (λ s. StandsFor c.in_ok-first.first s.number) _ [] (inl refl) (All-nil (λ s. StandsFor c.in_ok-first.first s.number)),
+      ),
     )
 
 pub loop-other-preserved : goal.loop-other-preserved
@@ -31,7 +35,8 @@ loop-other-preserved c =
     let number : c.join.new.self.number ≡ c.loop-other.first.number = ap (λ (k : KSeatState). k.number) c.join.ensures.seat ∙ ap (λ (k : KSeatState). k.number) c.meet.ensures.seat in
     let more : c.join.new.self.ended ≡ c.loop-other.first.ended ++ ended = ap (λ (k : KSeatState). k.ended) c.join.ensures.seat ∙ ap (λ (k : KSeatState). k.ended ++ ended) c.meet.ensures.seat in
     let other : c.meet.new.other.number ≡ c.in-Some.other.number = ap (λ (k : KSeatState). k.number) c.meet.ensures.other in
-    let too : StandsFor c.join.new.self c.meet.new.other.number = stands_too c.loop-other.first c.join.new.self ended number more c.meet.new.other.number (own c.meet.new.other) (0, omega arith, refl) in (
+    let too : StandsFor c.join.new.self c.meet.new.other.number =
+    stands_too c.loop-other.first c.join.new.self ended number more c.meet.new.other.number (own c.meet.new.other) (0, omega arith, refl) in (
       tt,
       tt,
       ap (λ (k : KSeatState). k.gate) c.join.ensures.seat ∙ ap (λ (k : KSeatState). k.gate) c.meet.ensures.seat ∙ inv.2,
@@ -40,7 +45,8 @@ loop-other-preserved c =
         inv.4.0 ++ c.in-Some.other ∷ [],
         inv.4.1 ∙ ap (λ l. inv.4.0 ++ l) step ∙ sym (append_assoc inv.4.0 (c.in-Some.other ∷ []) c.next-in-loop-other.new.self.rest.items),
         All-push (λ s. StandsFor c.join.new.self s.number) inv.4.0 c.in-Some.other
-            (All-weaker (λ s. StandsFor c.loop-other.first s.number) (λ s. StandsFor c.join.new.self s.number) (λ s. still_stands c.loop-other.first c.join.new.self ended number more s.number) inv.4.0 inv.4.2)
+            (All-weaker (λ s. StandsFor c.loop-other.first s.number) (λ s. StandsFor c.join.new.self s.number)
+            (λ s. still_stands c.loop-other.first c.join.new.self ended number more s.number) inv.4.0 inv.4.2)
             (subst (StandsFor c.join.new.self) other too),
       ),
     )

@@ -16,7 +16,8 @@ is_at-requires c =
     omega (arith, low, c.requires.pids)
 
 pub returns-then-is_at : goal.returns-then-is_at
-returns-then-is_at c = sym (find_here (is_at c.args.pids.now c.args.pid) (chain_of c.args.chain c.args.links.now) c.loop.counter c.in_ok-index.index (sym c.loop.invariant.0 ∙ c.in_ok-index.was) (sym c.is_at.ensures ∙ c.if-is_at.true)) ∙ c.loop.invariant.1
+returns-then-is_at c = sym (find_here (is_at c.args.pids.now c.args.pid) (chain_of c.args.chain c.args.links.now) c.loop.counter c.in_ok-index.index
+    (sym c.loop.invariant.0 ∙ c.in_ok-index.was) (sym c.is_at.ensures ∙ c.if-is_at.true)) ∙ c.loop.invariant.1
 
 pub next-next-requires : goal.next-next-requires
 next-next-requires c = held_below c.args.links.now c.args.chain c.loop.counter c.in_ok-index.index c.is_pool.ensures (sym c.loop.invariant.0 ∙ c.in_ok-index.was)

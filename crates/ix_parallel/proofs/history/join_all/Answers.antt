@@ -18,12 +18,17 @@ loop-lane-init g c =
     let lane : Seated = c.in_ok-next.field-0 in
     let left : List Seated = c.into_iter-lane-iterator.result.rest.items in
     let rest : c.next.new.self.rest.items ≡ left = ap (λ i. i.rest.items) (sym c.into_iter-lane-iterator.ensures.into_iter_gives) in
-    let all : c.args.lanes.items ≡ lane ∷ left = sym c.into_iter-rest.ensures.rest ∙ (c.in_ok-next.ensures.items ∙ ap (λ (l : List Seated). lane ∷ l) rest) in
-    (tt, tt, subst (JoinedSoFar c.args.kernel.now c.args.lanes.items left) (sym c.seat_of-first.ensures.seat) (joined_begin c.args.kernel.now c.args.lanes.items left lane all c.seat_of-first.ensures.last))
+    let all : c.args.lanes.items ≡ lane ∷ left = sym c.into_iter-rest.ensures.rest ∙ (c.in_ok-next.ensures.items ∙ ap (λ (l : List Seated). lane ∷ l) rest) in (
+      tt,
+      tt,
+      subst (JoinedSoFar c.args.kernel.now c.args.lanes.items left) (sym c.seat_of-first.ensures.seat) (joined_begin c.args.kernel.now c.args.lanes.items
+          left lane all c.seat_of-first.ensures.last),
+    )
 
 pub join-requires : goal.join-requires
 join-requires g c =
-    let gates = joined_gates c.requires.0 c.args.kernel.now c.requires.1 c.args.lanes.items c.loop-lane.lane-iterator.rest.items c.next-in-loop-lane.new.self.rest.items c.loop-lane.first c.in-Some.lane c.requires.2 c.loop-lane.invariant.2
+    let gates = joined_gates c.requires.0 c.args.kernel.now c.requires.1 c.args.lanes.items c.loop-lane.lane-iterator.rest.items
+    c.next-in-loop-lane.new.self.rest.items c.loop-lane.first c.in-Some.lane c.requires.2 c.loop-lane.invariant.2
     c.in-Some.ensures.steps.0 in
     record { kernel = (gates.0, ap (λ (k : KSeatState). k.gate) c.seat_of.ensures.seat ∙ gates.1) }
 
@@ -31,7 +36,8 @@ pub loop-lane-preserved : goal.loop-lane-preserved
 loop-lane-preserved g c = (
   tt,
   tt,
-  joined_step c.args.kernel.now c.args.lanes.items c.loop-lane.lane-iterator.rest.items c.next-in-loop-lane.new.self.rest.items c.loop-lane.first c.seat_of.result c.join.new.self c.in-Some.lane c.join.new.self.look_found
+  joined_step c.args.kernel.now c.args.lanes.items c.loop-lane.lane-iterator.rest.items c.next-in-loop-lane.new.self.rest.items c.loop-lane.first
+      c.seat_of.result c.join.new.self c.in-Some.lane c.join.new.self.look_found
       c.loop-lane.invariant.2 c.in-Some.ensures.steps.0 c.seat_of.ensures.seat c.seat_of.ensures.last c.join.ensures.seat,
 )
 

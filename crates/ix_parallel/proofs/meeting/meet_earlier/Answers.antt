@@ -14,4 +14,5 @@ returns g c =
     let parts = c.split_at_mut-front.ensures in
     let after = c.meet_before.new.front ++ c.meet_before.new.back in
     let front = c.split_at_mut-front.result.0.now in
-    subst (λ n. Meets g.T.Learner.learns n c.args.other c.args.all.now after) parts.front_len (subst (λ l. Meets g.T.Learner.learns (length front) c.args.other l after) (sym parts.value) c.meet_before.ensures)
+    subst (λ n. Meets g.T.Learner.learns n c.args.other c.args.all.now after) parts.front_len
+    (subst (λ l. Meets g.T.Learner.learns (length front) c.args.other l after) (sym parts.value) c.meet_before.ensures)

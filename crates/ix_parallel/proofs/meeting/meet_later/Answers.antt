@@ -14,4 +14,5 @@ returns g c =
     let parts = c.split_at_mut-front.ensures in
     let after = c.meet_behind.new.front ++ c.meet_behind.new.back in
     let front = c.split_at_mut-front.result.0.now in
-    subst (λ n. Meets g.T.Learner.learns c.args.one n c.args.all.now after) parts.front_len (subst (λ l. Meets g.T.Learner.learns c.args.one (length front) l after) (sym parts.value) c.meet_behind.ensures)
+    subst (λ n. Meets g.T.Learner.learns c.args.one n c.args.all.now after) parts.front_len
+    (subst (λ l. Meets g.T.Learner.learns c.args.one (length front) l after) (sym parts.value) c.meet_behind.ensures)

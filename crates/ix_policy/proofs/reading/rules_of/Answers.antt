@@ -21,7 +21,8 @@ pub elements-preserved : goal.elements-preserved
 elements-preserved c = record {
   count = omega (arith, c.in_ok-push_rule.ensures.count);
   few = c.elements.invariant.few;
-  read = sym (one_more c.args.form c.elements.rules c.push_rule.new.rules c.args.elements.now c.elements.element-index c.element-item.result (omega arith) c.element-item.is c.in_ok-push_rule.ensures.ok) ∙ c.elements.invariant.read;
+  read = sym (one_more c.args.form c.elements.rules c.push_rule.new.rules c.args.elements.now c.elements.element-index c.element-item.result (omega arith)
+      c.element-item.is c.in_ok-push_rule.ensures.ok) ∙ c.elements.invariant.read;
 }
 
 pub returns-clause-ok : goal.returns-clause-ok

@@ -18,7 +18,8 @@ returns-then-is_some c =
     let here = sym c.loop-next.invariant.1 ∙ c.in-Some.is in
     found_here E chain c.requires.walk.once c.loop-next.invariant.0 c.in-Some.link here
     (c.loop-next.invariant.2 ∙ ap (λ o. find E (rest_from o chain)) c.in-Some.is)
-    (ended_is c.args.records.now c.in-Some.link c.index-records-link.result c.is_some.result true (c.requires.walk.low c.loop-next.invariant.0 c.in-Some.link here) c.index-records-link.is c.is_some.ensures c.if-is_some.true)
+    (ended_is c.args.records.now c.in-Some.link c.index-records-link.result c.is_some.result true (c.requires.walk.low c.loop-next.invariant.0 c.in-Some.link
+    here) c.index-records-link.is c.is_some.ensures c.if-is_some.true)
 
 pub loop-next-smaller : goal.loop-next-smaller
 loop-next-smaller c =
@@ -36,8 +37,10 @@ loop-next-preserved c =
     let chain = chain_of c.args.chain c.args.kin.now in
     let here = sym c.loop-next.invariant.1 ∙ c.in-Some.is in
     let later = c.next-next.ensures.chain c.args.chain c.loop-next.invariant.0 here in
-    let fails = ended_is c.args.records.now c.in-Some.link c.index-records-link.result c.is_some.result false (c.requires.walk.low c.loop-next.invariant.0 c.in-Some.link here) c.index-records-link.is c.is_some.ensures c.if-is_some.false in (
+    let fails = ended_is c.args.records.now c.in-Some.link c.index-records-link.result c.is_some.result false
+    (c.requires.walk.low c.loop-next.invariant.0 c.in-Some.link here) c.index-records-link.is c.is_some.ensures c.if-is_some.false in (
       c.loop-next.invariant.0 + 1,
       later,
-      found_later E chain c.requires.walk.once c.loop-next.invariant.0 c.in-Some.link here (c.loop-next.invariant.2 ∙ ap (λ o. find E (rest_from o chain)) c.in-Some.is) fails ∙ ap (λ o. find E (rest_from o chain)) (sym later),
+      found_later E chain c.requires.walk.once c.loop-next.invariant.0 c.in-Some.link here (c.loop-next.invariant.2
+          ∙ ap (λ o. find E (rest_from o chain)) c.in-Some.is) fails ∙ ap (λ o. find E (rest_from o chain)) (sym later),
     )

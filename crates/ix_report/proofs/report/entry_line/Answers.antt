@@ -15,5 +15,6 @@ pub returns-clause-ok : goal.returns-clause-ok
 returns-clause-ok c seat =
     let wrote = c.push_entry-written in
     let line = entry_line c.args.form c.args.place c.args.lane.now (entry seat c.args.number c.args.pid (op_of c.args.call.now)) c.args.reply.now c.args.bytes.now (option_copied c.args.label) in
-    let told = line_ended wrote.result c.end.new.out.items wrote.new.line.before wrote.new.line.text c.args.out.now.items line c.begin-line.result.text (wrote.ensures.stays ∙ c.begin-line.ensures.before) c.begin-line.ensures.text c.end.ensures.ok (wrote.ensures.text seat) in
+    let told = line_ended wrote.result c.end.new.out.items wrote.new.line.before wrote.new.line.text c.args.out.now.items line c.begin-line.result.text
+    (wrote.ensures.stays ∙ c.begin-line.ensures.before) c.begin-line.ensures.text c.end.ensures.ok (wrote.ensures.text seat) in
     subst (λ r. OnOk r (c.end.new.out.items ≡ c.args.out.now.items ++ line)) (sym c.end.ensures.same) told

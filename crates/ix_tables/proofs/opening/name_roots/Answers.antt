@@ -12,4 +12,5 @@ pub overflow_add-root : goal.overflow_add-root
 overflow_add-root c = omega (arith, few _ _ _ _ _ _ _ c.spec-item.result c.requires.within c.requires.differ c.requires.inodes c.loop-spec.invariant c.loop-spec-test.true c.spec-item.is)
 
 pub loop-spec-preserved : goal.loop-spec-preserved
-loop-spec-preserved c = named_more _ _ _ _ _ _ _ c.spec-item.result c.requires.within c.requires.differ c.requires.inodes c.loop-spec.invariant c.loop-spec-test.true c.spec-item.is c.enter.new.names c.enter.ensures
+loop-spec-preserved c = named_more _ _ _ _ _ _ _ c.spec-item.result c.requires.within c.requires.differ c.requires.inodes c.loop-spec.invariant
+    c.loop-spec-test.true c.spec-item.is c.enter.new.names c.enter.ensures

@@ -7,7 +7,12 @@ abbrev pub invariant-turns : goal.invariant-turns
 invariant-turns l = record {
   first : l.first.script.now ≡ l.initial.first.script.now;
   second : l.second.script.now ≡ l.initial.second.script.now;
-  compares : Compares l.initial.twin.at l.initial.first.script.now l.initial.second.script.now (record { twins = l.twin; first = l.first.calls; second = l.second.calls }) l.lines.items l.agreed l.places;
+  compares : Compares l.initial.twin.at l.initial.first.script.now l.initial.second.script.now (record {
+    twins = l.twin;
+    first = l.first.calls;
+    second =
+        l.second.calls;
+  }) l.lines.items l.agreed l.places;
 }
 
 abbrev pub decreases-turns : goal.decreases-turns

@@ -20,11 +20,13 @@ overflow_sub-input c = omega (arith, c.lines.invariant.few)
 
 pub returns-in_default-clause-first : goal.returns-in_default-clause-first
 returns-in_default-clause-first c =
-    sym (none_behind c.args.input.now c.lines.rest.now c.lines.lines c.lines.invariant (lines_none c.lines.rest.now (c.in_default.ensures.none refl)) (sym c.divides.ensures ∙ c.lines-test.true)).first_is
+    sym (none_behind c.args.input.now c.lines.rest.now c.lines.lines c.lines.invariant (lines_none c.lines.rest.now (c.in_default.ensures.none refl))
+    (sym c.divides.ensures ∙ c.lines-test.true)).first_is
 
 pub returns-in_default-clause-second : goal.returns-in_default-clause-second
 returns-in_default-clause-second c =
-    sym (none_behind c.args.input.now c.lines.rest.now c.lines.lines c.lines.invariant (lines_none c.lines.rest.now (c.in_default.ensures.none refl)) (sym c.divides.ensures ∙ c.lines-test.true)).second_is
+    sym (none_behind c.args.input.now c.lines.rest.now c.lines.lines c.lines.invariant (lines_none c.lines.rest.now (c.in_default.ensures.none refl))
+    (sym c.divides.ensures ∙ c.lines-test.true)).second_is
 
 pub returns-clause-first : goal.returns-clause-first
 returns-clause-first c =

@@ -43,7 +43,8 @@ returns-clause-turns c = elim c.match-turn.branch [
       (m.were.second_answer ∙ (λ i. record { reply = w.in-Agree.two; bytes = sym w.read_by-in-Agree.ensures i })) in
       rw (w.in-Agree.is, w.first-is, w.second-is)
       (goes_on l s t a c.requires.aside c.make_both.new.twin w.hear.new.self w.hear-in-Agree.new.self w.in-Agree.one w.in-Agree.two w.in-Agree.shown
-      c.make_both.new.bufs.first c.make_both.new.bufs.second c.args.lines.now.items c.make_both.new.lines.items m w.hear.ensures.script w.hear-in-Agree.ensures.script w.hear.ensures.fewer first_on second_on)
+      c.make_both.new.bufs.first c.make_both.new.bufs.second c.args.lines.now.items c.make_both.new.lines.items m w.hear.ensures.script
+      w.hear-in-Agree.ensures.script w.hear.ensures.fewer first_on second_on)
   | in_default w ↦
       let a : Aside = record { twins = c.args.twin.now; first = c.args.first.now.calls; second = c.args.second.now.calls } in
       turns_end c.args.twin.now.at c.args.first.now.script.now c.args.second.now.script.now a _ c.in_ok-turn.turn c.make_both.new.twin

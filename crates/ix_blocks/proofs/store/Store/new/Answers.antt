@@ -13,11 +13,14 @@ use Rattle.ix_blocks.proofs.store.Store.new.Goals as goal
 pub invariant_of-result : goal.invariant_of-result
 invariant_of-result c =
     let zeros : List ℕ = replicate 512 0 in
-    let items : c.in_ok-pool.pool.items ≡ replicate c.args.blocks zeros = c.in_ok-pool.ensures.items_if_clones_equal (λ y h. same_from_all_zip (λ (a : ℕ) (b : ℕ). b ≡ a) zeros y h.whole (λ a b e. e)) in
+    let items : c.in_ok-pool.pool.items ≡ replicate c.args.blocks zeros =
+    c.in_ok-pool.ensures.items_if_clones_equal (λ y h. same_from_all_zip (λ (a : ℕ) (b : ℕ). b ≡ a) zeros y h.whole (λ a b e. e)) in
     record {
       law = c.is_pool.ensures;
       each = ap length items ∙ length-replicate c.args.blocks zeros ∙ sym (ap pool c.in_ok-links.ensures ∙ pool-all_free c.args.blocks c.args.files);
-      sized = λ b below. ap (λ ds. length (get_or ds b [])) items ∙ ap length (get_or-replicate c.args.blocks b zeros [] (omega (arith, below, ap length items, length-replicate c.args.blocks zeros))) ∙ length-replicate {A = ℕ} 512 0;
+      sized = λ b below. ap (λ ds. length (get_or ds b [])) items
+          ∙ ap length (get_or-replicate c.args.blocks b zeros [] (omega (arith, below, ap length items, length-replicate c.args.blocks zeros)))
+          ∙ length-replicate {A = ℕ} 512 0;
     }
 
 pub returns : goal.returns

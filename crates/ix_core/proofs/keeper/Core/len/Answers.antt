@@ -8,4 +8,9 @@ pub returns-clause-sound : goal.returns-clause-sound
 returns-clause-sound c = subst (λ (h : History). Sound (world_of h)) c.self.view_is (sound_core c.self.inside.machine c.self.inside.journal _ c.self.invariant.stands)
 
 pub returns-clause-few : goal.returns-clause-few
-returns-clause-few c = omega (arith, c.len.ensures, entries_are_few c.self.inside.journal.events c.self.inside.config.journal c.self.invariant.stands.fits (small_journal c.self.inside.config c.self.invariant.stands.valid))
+returns-clause-few c = omega (
+  arith,
+  c.len.ensures,
+  entries_are_few c.self.inside.journal.events c.self.inside.config.journal c.self.invariant.stands.fits
+      (small_journal c.self.inside.config c.self.invariant.stands.valid),
+)

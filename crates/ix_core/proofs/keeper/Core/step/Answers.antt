@@ -16,7 +16,13 @@ use Rattle.ix_core.proofs.Standing.{answers_alike, entries_are_few, fits_next, g
 use Rattle.ix_core.proofs.keeper.Core.step.Goals as goal
 
 pub overflow_add-place : goal.overflow_add-place
-overflow_add-place g c = omega (arith, c.len-place.ensures, entries_are_few c.self.inside.journal.events c.self.inside.config.journal c.self.invariant.stands.fits (small_journal c.self.inside.config c.self.invariant.stands.valid))
+overflow_add-place g c =
+    omega (
+      arith,
+      c.len-place.ensures,
+      entries_are_few c.self.inside.journal.events c.self.inside.config.journal c.self.invariant.stands.fits
+          (small_journal c.self.inside.config c.self.invariant.stands.valid),
+    )
 
 pub turn-reply-requires-clause-sound : goal.turn-reply-requires-clause-sound
 turn-reply-requires-clause-sound g c = subst (λ (u : World). Sound u) (sym c.self.invariant.stands.run) (sound_core c.self.inside.machine c.self.inside.journal _ c.self.invariant.stands)
@@ -28,7 +34,8 @@ pub turn-reply-requires-clause-ready : goal.turn-reply-requires-clause-ready
 turn-reply-requires-clause-ready g c = subst (λ (u : World). AreReady c.self.inside.marks u.frame) (sym c.self.invariant.stands.run) c.self.invariant.marked.ready
 
 pub turn-reply-requires-clause-known : goal.turn-reply-requires-clause-known
-turn-reply-requires-clause-known g c = subst (λ (u : World). AreKnown c.self.inside.marks u.frame) (sym c.self.invariant.stands.run) (marked_known c.self.inside.marks _ c.self.invariant.stands.valid c.self.invariant.marked)
+turn-reply-requires-clause-known g c = subst (λ (u : World). AreKnown c.self.inside.marks u.frame) (sym c.self.invariant.stands.run)
+    (marked_known c.self.inside.marks _ c.self.invariant.stands.valid c.self.invariant.marked)
 
 pub turn-reply-requires-clause-raised : goal.turn-reply-requires-clause-raised
 turn-reply-requires-clause-raised g c = few_raised c.self.inside.marks _ c.self.invariant.stands.valid c.self.invariant.marked c.self.invariant.stands.fits
@@ -50,7 +57,8 @@ invariant_of-self g c =
 
 pub returns-clause-fresh : goal.returns-clause-fresh
 returns-clause-fresh g c goes =
-    c.turn-reply.ensures.fresh (goes_by c.self.inside.marks _ c.self.invariant.stands.valid c.self.invariant.marked c.args.pid.0 (op_of c.args.call.now) ∙ ap (λ (k : History). goes_fresh k c.args.pid.0 (op_of c.args.call.now)) c.self.view_is ∙ goes)
+    c.turn-reply.ensures.fresh (goes_by c.self.inside.marks _ c.self.invariant.stands.valid c.self.invariant.marked c.args.pid.0 (op_of c.args.call.now)
+    ∙ ap (λ (k : History). goes_fresh k c.args.pid.0 (op_of c.args.call.now)) c.self.view_is ∙ goes)
 
 pub returns-clause-shown : goal.returns-clause-shown
 returns-clause-shown g c =

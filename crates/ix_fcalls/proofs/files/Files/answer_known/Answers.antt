@@ -13,13 +13,19 @@ pub read_known-requires-clause-known : goal.read_known-requires-clause-known
 read_known-requires-clause-known g c = subst (λ (x : Call). IsKnown (frame_of g.R.Others.rest c.args.self.now c.args.who.now) g.R.Others.rest.pid (op_of x)) c.in-ReadFd.is c.requires.known
 
 pub returns-in-ReadFd-clause-step : goal.returns-in-ReadFd-clause-step
-returns-in-ReadFd-clause-step g c = subst (λ (x : Call). Answers (step (world_of g.R.Others.rest c.args.self.now c.args.who.now) g.R.Others.rest.place g.R.Others.rest.pid (op_of x)) (world_of g.R.Others.rest c.read_known.new.self c.args.who.now) (reply_of c.read_known.result) c.args.buf.now c.read_known.new.buf) (sym c.in-ReadFd.is) c.read_known.ensures.step
+returns-in-ReadFd-clause-step g c =
+    subst (λ (x : Call). Answers (step (world_of g.R.Others.rest c.args.self.now c.args.who.now) g.R.Others.rest.place g.R.Others.rest.pid (op_of x))
+    (world_of g.R.Others.rest c.read_known.new.self c.args.who.now) (reply_of c.read_known.result) c.args.buf.now c.read_known.new.buf) (sym c.in-ReadFd.is)
+    c.read_known.ensures.step
 
 pub write_known-requires-clause-known : goal.write_known-requires-clause-known
 write_known-requires-clause-known g c = subst (λ (x : Call). IsKnown (frame_of g.R.Others.rest c.args.self.now c.args.who.now) g.R.Others.rest.pid (op_of x)) c.in-WriteFd.is c.requires.known
 
 pub returns-in-WriteFd-clause-step : goal.returns-in-WriteFd-clause-step
-returns-in-WriteFd-clause-step g c = subst (λ (x : Call). Answers (step (world_of g.R.Others.rest c.args.self.now c.args.who.now) g.R.Others.rest.place g.R.Others.rest.pid (op_of x)) (world_of g.R.Others.rest c.write_known.new.self c.args.who.now) (reply_of c.write_known.result) c.args.buf.now c.args.buf.now) (sym c.in-WriteFd.is) (c.write_known.ensures.step c.args.buf.now)
+returns-in-WriteFd-clause-step g c =
+    subst (λ (x : Call). Answers (step (world_of g.R.Others.rest c.args.self.now c.args.who.now) g.R.Others.rest.place g.R.Others.rest.pid (op_of x))
+    (world_of g.R.Others.rest c.write_known.new.self c.args.who.now) (reply_of c.write_known.result) c.args.buf.now c.args.buf.now) (sym c.in-WriteFd.is)
+    (c.write_known.ensures.step c.args.buf.now)
 
 pub unreachable-requires : goal.unreachable-requires
 unreachable-requires g c = known_left (frame_of g.R.Others.rest c.args.self.now c.args.who.now) g.R.Others.rest.pid c.args.call.now c.requires.known c.in_default.not-ReadFd c.in_default.not-WriteFd

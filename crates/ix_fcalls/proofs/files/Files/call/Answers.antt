@@ -12,7 +12,8 @@ use Rattle.ix_fcalls.proofs.files.Files.call.Goals as goal
 pub turn-requires-clause-sound : goal.turn-requires-clause-sound
 turn-requires-clause-sound g c =
     let w = g.moment.world in
-    subst (λ (x : World). Sound x) (sym (world_there g.moment.place c.args.who.now.pid.0 w c.args.self.now (with_who w.frame.processes c.args.who.now) c.requires.1.1.1.0 c.requires.1.1.1.1.0)) c.requires.1.1.0
+    subst (λ (x : World). Sound x) (sym (world_there g.moment.place c.args.who.now.pid.0 w c.args.self.now (with_who w.frame.processes c.args.who.now)
+    c.requires.1.1.1.0 c.requires.1.1.1.1.0)) c.requires.1.1.0
 
 pub turn-requires-clause-counted : goal.turn-requires-clause-counted
 turn-requires-clause-counted g c = counted_parts g.moment.world c.args.self.now (with_who g.moment.world.frame.processes c.args.who.now) c.requires.1.1.1.0 c.requires.1.1.1.1.0
@@ -23,7 +24,9 @@ turn-requires-clause-few g c = subst (λ (v : Parts). v.limits.procs ≤ 1024) (
 pub returns-clause-step : goal.returns-clause-step
 returns-clause-step g c =
     let w = g.moment.world in
-    answers_there g.moment.place c.args.who.now.pid.0 w (op_of c.args.call.now) c.args.self.now (with_who w.frame.processes c.args.who.now) (world_of (around g.moment.place c.args.who.now.pid.0 w) c.turn.new.self (with_who w.frame.processes c.turn.new.caller)) c.turn.result c.args.buf.now c.turn.new.buf
+    answers_there g.moment.place c.args.who.now.pid.0 w (op_of c.args.call.now) c.args.self.now (with_who w.frame.processes c.args.who.now)
+    (world_of (around g.moment.place c.args.who.now.pid.0 w) c.turn.new.self (with_who w.frame.processes c.turn.new.caller)) c.turn.result c.args.buf.now
+    c.turn.new.buf
     c.requires.1.1.1.0 c.requires.1.1.1.1.0 c.turn.ensures.step
 
 pub returns-clause-parts : goal.returns-clause-parts

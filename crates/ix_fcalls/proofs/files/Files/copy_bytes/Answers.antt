@@ -10,6 +10,8 @@ returns-clause-bytes c =
     let low : c.args.count ≤ length c.args.buf.now = omega (arith, c.told-buf, c.requires.few) in
     let fills : length (take c.args.count c.args.buf.now) ≡ c.args.count = omega (arith, length-take c.args.count c.args.buf.now, low) in
     let count : c.read.result ≡ min c.args.count (length bs) =
-    c.read.ensures.count ∙ ap (λ (v : Parts). min (length (take c.args.count c.args.buf.now)) (length (drop c.args.offset (slice_index_or v.holdings c.args.object holds_nothing).first))) c.self.view_is ∙ ap (λ n. min n (length bs)) fills in
+    c.read.ensures.count ∙ ap (λ (v : Parts). min (length (take c.args.count c.args.buf.now))
+    (length (drop c.args.offset (slice_index_or v.holdings c.args.object holds_nothing).first))) c.self.view_is ∙ ap (λ n. min n (length bs)) fills in
     read_front bs c.args.buf.now c.read.new.out c.args.count c.read.result low count
-    (c.read.ensures.out ∙ ap (λ (v : Parts). take c.read.result (drop c.args.offset (slice_index_or v.holdings c.args.object holds_nothing).first) ++ drop c.read.result (take c.args.count c.args.buf.now)) c.self.view_is)
+    (c.read.ensures.out ∙ ap (λ (v : Parts). take c.read.result (drop c.args.offset (slice_index_or v.holdings c.args.object holds_nothing).first)
+    ++ drop c.read.result (take c.args.count c.args.buf.now)) c.self.view_is)

@@ -9,7 +9,10 @@ pub let_go_claim-requires-clause-end : goal.let_go_claim-requires-clause-end
 let_go_claim-requires-clause-end g c = entry_low g.R.Others.rest c.args.self.now c.args.who.now c.args.fd.0 (behind_of c.args.e.now) c.requires.sound c.requires.behind
 
 pub release-requires : goal.release-requires
-release-requires g c = record { lives = ap (λ (v : Parts). is_some (at v.opens c.args.e.now.id)) (c.self.view_is ∙ c.let_go_claim.ensures) ∙ entry_stands g.R.Others.rest c.args.self.now c.args.who.now c.args.fd.0 (behind_of c.args.e.now) c.requires.behind }
+release-requires g c = record {
+  lives = ap (λ (v : Parts). is_some (at v.opens c.args.e.now.id)) (c.self.view_is ∙ c.let_go_claim.ensures)
+      ∙ entry_stands g.R.Others.rest c.args.self.now c.args.who.now c.args.fd.0 (behind_of c.args.e.now) c.requires.behind;
+}
 
 pub returns : goal.returns
 returns g c =

@@ -12,7 +12,8 @@ use Rattle.ix_fcalls.proofs.files.Files.list_at.Goals as goal
 pub returns-in_default-name_at-clause-row : goal.returns-in_default-name_at-clause-row
 returns-in_default-name_at-clause-row g c =
     let x : Object = object_by (node c.args.self.now.objects c.in_ok-object.object) c.in_ok-object.x in
-    list_ends g.R.Others.rest.pid c.args.index (path_of c.args.path.now) (frame_of g.R.Others.rest c.args.self.now c.args.who.now) (frame_of g.R.Others.rest c.args.self.now c.object_row_at.new.who) (frame_of g.R.Others.rest c.args.self.now c.observe.new.who) c.in_ok-object.object x
+    list_ends g.R.Others.rest.pid c.args.index (path_of c.args.path.now) (frame_of g.R.Others.rest c.args.self.now c.args.who.now)
+    (frame_of g.R.Others.rest c.args.self.now c.object_row_at.new.who) (frame_of g.R.Others.rest c.args.self.now c.observe.new.who) c.in_ok-object.object x
     c.in_ok-object.ensures.row
     c.in_ok-object.ensures.object
     (ap (λ (k : Kind). is_dir (record nothing { kind = k })) c.in-Dir.is)
@@ -22,7 +23,9 @@ returns-in_default-name_at-clause-row g c =
 pub returns-clause-row : goal.returns-clause-row
 returns-clause-row g c =
     let x : Object = object_by (node c.args.self.now.objects c.in_ok-object.object) c.in_ok-object.x in
-    let whole = list_is g.R.Others.rest.pid c.args.index (path_of c.args.path.now) (frame_of g.R.Others.rest c.args.self.now c.args.who.now) (frame_of g.R.Others.rest c.args.self.now c.object_row_at.new.who) (frame_of g.R.Others.rest c.args.self.now c.observe.new.who) c.in_ok-object.object x _
+    let whole = list_is g.R.Others.rest.pid c.args.index (path_of c.args.path.now) (frame_of g.R.Others.rest c.args.self.now c.args.who.now)
+    (frame_of g.R.Others.rest c.args.self.now c.object_row_at.new.who) (frame_of g.R.Others.rest c.args.self.now c.observe.new.who) c.in_ok-object.object x
+    _
     c.in_ok-object.ensures.row
     c.in_ok-object.ensures.object
     (ap (λ (k : Kind). is_dir (record nothing { kind = k })) c.in-Dir.is)

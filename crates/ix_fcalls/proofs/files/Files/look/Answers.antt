@@ -7,7 +7,10 @@ pub decide-reply-requires-clause-filed : goal.decide-reply-requires-clause-filed
 decide-reply-requires-clause-filed g c = look_filed (op_of c.args.call.now) c.requires.look
 
 pub sized-requires : goal.sized-requires
-sized-requires g c = tells_file g.R.Others.rest c.args.self.now c.decide-reply.new.self c.args.who.now c.decide-reply.new.who (op_of c.args.call.now) nothing_told c.decide-reply.result c.requires.look c.decide-reply.ensures.reply c.decide-reply.ensures.frame
+sized-requires g c = tells_file g.R.Others.rest c.args.self.now c.decide-reply.new.self c.args.who.now c.decide-reply.new.who (op_of c.args.call.now)
+    nothing_told c.decide-reply.result c.requires.look c.decide-reply.ensures.reply c.decide-reply.ensures.frame
 
 pub returns-clause-step : goal.returns-clause-step
-returns-clause-step g c buf = answers_look g.R.Others.rest c.args.self.now c.decide-reply.new.self c.args.who.now c.decide-reply.new.who (op_of c.args.call.now) c.decide-reply.result c.sized.result buf c.requires.look c.requires.sound c.decide-reply.ensures.content c.decide-reply.ensures.reply c.decide-reply.ensures.frame c.sized.ensures
+returns-clause-step g c buf = answers_look g.R.Others.rest c.args.self.now c.decide-reply.new.self c.args.who.now c.decide-reply.new.who (op_of c.args.call.now)
+    c.decide-reply.result c.sized.result buf c.requires.look c.requires.sound c.decide-reply.ensures.content c.decide-reply.ensures.reply
+    c.decide-reply.ensures.frame c.sized.ensures

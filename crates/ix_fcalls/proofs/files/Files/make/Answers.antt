@@ -20,7 +20,8 @@ pub vacant_inode-requires : goal.vacant_inode-requires
 vacant_inode-requires g c =
     subst (λ (v : Parts). c.fs_number-fs.result < length v.fss) (sym c.self.view_is)
     (subst (λ (k : ℕ). k < length c.args.self.now.fss) (sym c.fs_number-fs.ensures)
-    (fs_missing g.R.Others.rest c.args.self.now c.args.who.now c.missing.new.who (path_of c.args.path.now) c.requires.sound c.in_ok-dir.dir c.in_ok-dir.ensures.row _ (ap (λ (v : Parts). at v.objects c.in_ok-dir.dir) (sym c.self.view_is) ∙ c.in-Some.ensures.object)))
+    (fs_missing g.R.Others.rest c.args.self.now c.args.who.now c.missing.new.who (path_of c.args.path.now) c.requires.sound c.in_ok-dir.dir
+    c.in_ok-dir.ensures.row _ (ap (λ (v : Parts). at v.objects c.in_ok-dir.dir) (sym c.self.view_is) ∙ c.in-Some.ensures.object)))
 
 pub put_named-requires-clause-dir : goal.put_named-requires-clause-dir
 put_named-requires-clause-dir g c =
@@ -42,7 +43,8 @@ pub put_named-requires-clause-fs : goal.put_named-requires-clause-fs
 put_named-requires-clause-fs g c =
     subst (λ (n : ℕ). c.fs_number-fs.result < n) (sym (fs_still g.R.Others.rest c.args.self.now c.affect.new.self c.missing.new.who c.in_ok-dir.dir _ c.in_ok-affect.ensures.row))
     (subst (λ (k : ℕ). k < length c.args.self.now.fss) (sym c.fs_number-fs.ensures)
-    (fs_missing g.R.Others.rest c.args.self.now c.args.who.now c.missing.new.who (path_of c.args.path.now) c.requires.sound c.in_ok-dir.dir c.in_ok-dir.ensures.row _ (ap (λ (v : Parts). at v.objects c.in_ok-dir.dir) (sym c.self.view_is) ∙ c.in-Some.ensures.object)))
+    (fs_missing g.R.Others.rest c.args.self.now c.args.who.now c.missing.new.who (path_of c.args.path.now) c.requires.sound c.in_ok-dir.dir
+    c.in_ok-dir.ensures.row _ (ap (λ (v : Parts). at v.objects c.in_ok-dir.dir) (sym c.self.view_is) ∙ c.in-Some.ensures.object)))
 
 pub put_named-requires-clause-vacant : goal.put_named-requires-clause-vacant
 put_named-requires-clause-vacant g c =
@@ -54,7 +56,8 @@ returns-clause-row g c =
     let m : Frame = frame_of g.R.Others.rest c.args.self.now c.missing.new.who in
     let h : Frame = frame_of g.R.Others.rest c.affect.new.self c.missing.new.who in
     let x : Object = object_by (node c.self.inside.tables.objects c.in_ok-dir.dir) c.in-Some.x in
-    make_is g.R.Others.rest.pid (path_of c.args.path.now) c.args.kind (frame_of g.R.Others.rest c.args.self.now c.args.who.now) m h (frame_of g.R.Others.rest c.put_named.new.self c.missing.new.who) c.in_ok-dir.dir c.in-Some-vacant_inode.n x
+    make_is g.R.Others.rest.pid (path_of c.args.path.now) c.args.kind (frame_of g.R.Others.rest c.args.self.now c.args.who.now) m h
+    (frame_of g.R.Others.rest c.put_named.new.self c.missing.new.who) c.in_ok-dir.dir c.in-Some-vacant_inode.n x
     c.in_ok-dir.ensures.row
     (ap (λ (v : Parts). at v.objects c.in_ok-dir.dir) (sym c.self.view_is) ∙ c.in-Some.ensures.object)
     (free_is m (fs_number x) ∙ ap (λ (k : ℕ). vacant_inode c.args.self.now.fss c.args.self.now.objects k) (sym c.fs_number-fs.ensures)
@@ -62,7 +65,11 @@ returns-clause-row g c =
     (room_is m ∙ ap (λ (v : Parts). nat_lt (names_in_all v.objects) v.limits.names) (sym c.self.view_is) ∙ sym c.has_room_for_a_name.ensures ∙ c.if-not-has_room_for_a_name.false)
     (ap (λ (l : Categories). affect g.R.Others.rest.pid c.in_ok-dir.dir l m) (sym c.bottom.ensures) ∙ c.in_ok-affect.ensures.row)
     (ap (λ (v : Parts). frame_of g.R.Others.rest v c.missing.new.who) c.put_named.ensures
-    ∙ (λ i. let k : Frame = record h { objects = change (put h.objects c.in-Some-vacant_inode.n (Some (new_object c.args.kind (Some (c.fs_number-fs.ensures i))))) c.in_ok-dir.dir (with_name (c.last_name.ensures i) c.in-Some-vacant_inode.n) } in k))
+    ∙ (λ i. let k : Frame = record h {
+      objects =
+          change (put h.objects c.in-Some-vacant_inode.n (Some (new_object c.args.kind (Some (c.fs_number-fs.ensures i))))) c.in_ok-dir.dir
+          (with_name (c.last_name.ensures i) c.in-Some-vacant_inode.n);
+    } in k))
 
 pub returns-clause-counted : goal.returns-clause-counted
 returns-clause-counted g c = counted_made c.affect.new.self c.put_named.new.self c.missing.new.who c.in_ok-dir.dir c.in-Some-vacant_inode.n _ _ _ c.in_ok-affect.ensures.counted c.put_named.ensures

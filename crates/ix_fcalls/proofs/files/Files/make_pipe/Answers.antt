@@ -16,8 +16,12 @@ use Rattle.ix_fcalls.proofs.Giving.{free_there}
 use Rattle.ix_fcalls.proofs.files.Files.make_pipe.Goals as goal
 
 -- with a pipe and both descriptors found, the row refuses where fewer than two entries are free
-too_few : (f : Frame) (pid n a b : ℕ) (p q : Process) → Some n ≡ vacant_pipe f.fss f.objects → living (at f.processes pid) ≡ Some p → living (at f.processes pid) ≡ Some q → lowest_free p.fds ≡ Some a → lowest_free (put q.fds a (Some 0)) ≡ Some b → count_by is_none f.opens < 2 → make_pipe pid f ≡ Refuse refusal.NoOpen f
-unfolding make_pipe Rattle.ix_model.specs.world.Numbers.free_pipe Rattle.ix_model.specs.rows.Rows.◌>>=◌ Rattle.ix_model.specs.rows.Rows.on_pass Rattle.ix_model.specs.rows.Rows.frame Rattle.ix_model.specs.rows.Rows.process Rattle.ix_model.specs.rows.Rows.some Rattle.ix_model.specs.rows.Rows.pass Rattle.ix_model.specs.rows.Rows.refuse
+too_few : (f : Frame) (pid n a b : ℕ) (p q : Process) → Some n ≡ vacant_pipe f.fss f.objects → living (at f.processes pid) ≡ Some p
+    → living (at f.processes pid) ≡ Some q → lowest_free p.fds ≡ Some a → lowest_free (put q.fds a (Some 0)) ≡ Some b → count_by is_none f.opens < 2
+    → make_pipe pid f ≡ Refuse refusal.NoOpen f
+unfolding make_pipe Rattle.ix_model.specs.world.Numbers.free_pipe Rattle.ix_model.specs.rows.Rows.◌>>=◌ Rattle.ix_model.specs.rows.Rows.on_pass
+    Rattle.ix_model.specs.rows.Rows.frame Rattle.ix_model.specs.rows.Rows.process Rattle.ix_model.specs.rows.Rows.some Rattle.ix_model.specs.rows.Rows.pass
+    Rattle.ix_model.specs.rows.Rows.refuse
 too_few f pid n a b p q pipe lives again first second few =
     let same : p.fds ≡ q.fds = ap (λ (o : Option Process). option_map_or (λ r. r.fds) o []) (sym lives ∙ again) in
     let beside : lowest_free (put p.fds a (Some 0)) ≡ Some b = ap (λ fds. lowest_free (put fds a (Some 0))) same ∙ second in
@@ -30,8 +34,10 @@ pub returns-then-free_opens-lt2-clause-row : goal.returns-then-free_opens-lt2-cl
 returns-then-free_opens-lt2-clause-row g c =
     let vacant : Some c.in_ok-n.n ≡ vacant_pipe c.self.inside.tables.fss c.self.inside.tables.objects = sym c.in_ok-n.ensures.ok_part ∙ c.vacant_pipe.ensures.vacant in
     let few : count_by is_none c.args.self.now.opens < 2 = omega (arith, c.if-free_opens-lt2.true, c.free_opens.ensures, ap (λ (v : Parts). count_by is_none v.opens) c.self.view_is) in
-    too_few (frame_of g.R.Others.rest c.args.self.now c.args.who.now) g.R.Others.rest.pid c.in_ok-n.n c.in_ok-a.a c.in_ok-b.b (process_of g.R.Others.rest c.caller.result.now) (process_of g.R.Others.rest c.caller-2.result.now)
-    (vacant ∙ ap (λ (v : Parts). vacant_pipe v.fss v.objects) c.self.view_is) c.caller.ensures.living c.caller-2.ensures.living (sym c.free_fd.ensures.free ∙ c.in_ok-a.ensures.ok_part) (sym c.second_fd.ensures.second ∙ c.in_ok-b.ensures.ok_part) few
+    too_few (frame_of g.R.Others.rest c.args.self.now c.args.who.now) g.R.Others.rest.pid c.in_ok-n.n c.in_ok-a.a c.in_ok-b.b
+    (process_of g.R.Others.rest c.caller.result.now) (process_of g.R.Others.rest c.caller-2.result.now)
+    (vacant ∙ ap (λ (v : Parts). vacant_pipe v.fss v.objects) c.self.view_is) c.caller.ensures.living c.caller-2.ensures.living (sym c.free_fd.ensures.free
+    ∙ c.in_ok-a.ensures.ok_part) (sym c.second_fd.ensures.second ∙ c.in_ok-b.ensures.ok_part) few
 
 pub open_both-requires-clause-first : goal.open_both-requires-clause-first
 open_both-requires-clause-first g c = free_there g.R.Others.rest c.caller.result.now c.args.who.now c.in_ok-a.a c.caller.ensures.living (sym c.in_ok-a.ensures.ok_part ∙ c.free_fd.ensures.free)

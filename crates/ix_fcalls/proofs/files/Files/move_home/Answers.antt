@@ -17,24 +17,36 @@ leave-requires-clause-some g c =
 pub settle-requires-clause-within : goal.settle-requires-clause-within
 settle-requires-clause-within g c =
     let less : c.leave.new.self ≡ record c.args.self.now { homes = slice_set c.args.self.now.homes c.caller.result.now.cwd.0 (slice_index_or c.args.self.now.homes c.caller.result.now.cwd.0 0 - 1) } =
-    c.leave.ensures ∙ ap (λ (v : Parts). let w : Parts = record v { homes = slice_set v.homes c.caller.result.now.cwd.0 (slice_index_or v.homes c.caller.result.now.cwd.0 0 - 1) } in w) c.self.view_is in
-    omega (arith, c.requires.within, homes_long c.args.self.now c.args.who.now c.requires.counted, ap (λ (v : Parts). length v.homes) less, length-set c.args.self.now.homes c.caller.result.now.cwd.0 (slice_index_or c.args.self.now.homes c.caller.result.now.cwd.0 0 - 1))
+    c.leave.ensures ∙ ap (λ (v : Parts). let w : Parts =
+    record v { homes = slice_set v.homes c.caller.result.now.cwd.0 (slice_index_or v.homes c.caller.result.now.cwd.0 0 - 1) } in w) c.self.view_is in
+    omega (
+      arith,
+      c.requires.within,
+      homes_long c.args.self.now c.args.who.now c.requires.counted,
+      ap (λ (v : Parts). length v.homes) less,
+      length-set c.args.self.now.homes c.caller.result.now.cwd.0 (slice_index_or c.args.self.now.homes c.caller.result.now.cwd.0 0 - 1),
+    )
 
 pub settle-requires-clause-few : goal.settle-requires-clause-few
 settle-requires-clause-few g c =
     let home : c.caller.result.now.cwd.0 < length c.args.self.now.objects = c.requires.home _ c.caller.ensures.living in
     let less : c.leave.new.self ≡ record c.args.self.now { homes = slice_set c.args.self.now.homes c.caller.result.now.cwd.0 (slice_index_or c.args.self.now.homes c.caller.result.now.cwd.0 0 - 1) } =
-    c.leave.ensures ∙ ap (λ (v : Parts). let w : Parts = record v { homes = slice_set v.homes c.caller.result.now.cwd.0 (slice_index_or v.homes c.caller.result.now.cwd.0 0 - 1) } in w) c.self.view_is in
-    subst (λ (v : Parts). slice_index_or v.homes c.args.dir 0 + 1 < 4294967296) (sym less) (few_left c.args.self.now c.args.who.now c.requires.counted _ _ c.caller.ensures.living home c.args.dir c.requires.within c.requires.few)
+    c.leave.ensures ∙ ap (λ (v : Parts). let w : Parts =
+    record v { homes = slice_set v.homes c.caller.result.now.cwd.0 (slice_index_or v.homes c.caller.result.now.cwd.0 0 - 1) } in w) c.self.view_is in
+    subst (λ (v : Parts). slice_index_or v.homes c.args.dir 0 + 1 < 4294967296) (sym less) (few_left c.args.self.now c.args.who.now c.requires.counted _ _
+    c.caller.ensures.living home c.args.dir c.requires.within c.requires.few)
 
 pub returns-clause-homes : goal.returns-clause-homes
 returns-clause-homes g c =
     let home : c.caller.result.now.cwd.0 < length c.args.self.now.objects = c.requires.home _ c.caller.ensures.living in
     let less : c.leave.new.self ≡ record c.args.self.now { homes = slice_set c.args.self.now.homes c.caller.result.now.cwd.0 (slice_index_or c.args.self.now.homes c.caller.result.now.cwd.0 0 - 1) } =
-    c.leave.ensures ∙ ap (λ (v : Parts). let w : Parts = record v { homes = slice_set v.homes c.caller.result.now.cwd.0 (slice_index_or v.homes c.caller.result.now.cwd.0 0 - 1) } in w) c.self.view_is in
-    moved_is c.args.self.now c.args.who.now c.requires.counted _ _ c.caller.ensures.living home c.args.dir c.requires.within c.leave.new.self c.settle.new.self c.set_cwd.new.self less c.settle.ensures c.set_cwd.ensures
+    c.leave.ensures ∙ ap (λ (v : Parts). let w : Parts =
+    record v { homes = slice_set v.homes c.caller.result.now.cwd.0 (slice_index_or v.homes c.caller.result.now.cwd.0 0 - 1) } in w) c.self.view_is in
+    moved_is c.args.self.now c.args.who.now c.requires.counted _ _ c.caller.ensures.living home c.args.dir c.requires.within c.leave.new.self c.settle.new.self
+    c.set_cwd.new.self less c.settle.ensures c.set_cwd.ensures
 
 pub returns-clause-counted : goal.returns-clause-counted
 returns-clause-counted g c =
     let home : c.caller.result.now.cwd.0 < length c.args.self.now.objects = c.requires.home _ c.caller.ensures.living in
-    counted_moved c.args.self.now c.args.who.now c.requires.counted _ _ c.caller.ensures.living home c.args.dir c.requires.within c.settle.new.self c.set_cwd.new.self (returns-clause-homes g c) c.set_cwd.ensures
+    counted_moved c.args.self.now c.args.who.now c.requires.counted _ _ c.caller.ensures.living home c.args.dir c.requires.within c.settle.new.self
+    c.set_cwd.new.self (returns-clause-homes g c) c.set_cwd.ensures

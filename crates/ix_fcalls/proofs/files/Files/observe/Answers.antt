@@ -8,4 +8,6 @@ pub returns-in-Ok-Some-clause-counted : goal.returns-in-Ok-Some-clause-counted
 returns-in-Ok-Some-clause-counted g c = counted_relabelled c.args.self.now c.args.who.now c.set_label.new.self g.R.Others.rest.pid c.in-Ok-Some.label c.set_label.ensures c.requires.counted
 
 pub returns-in-Err-clause-row : goal.returns-in-Err-clause-row
-returns-in-Err-clause-row g c = looked_in_vain (frame_of g.R.Others.rest c.args.self.now c.args.who.now) g.R.Others.rest.pid (process_of g.R.Others.rest c.caller.result.now) c.args.seen.now c.caller.result.now.float c.in-Err.why c.caller.ensures.living refl refl refl c.in-Err.ensures.rule
+returns-in-Err-clause-row g c = looked_in_vain (frame_of g.R.Others.rest c.args.self.now c.args.who.now) g.R.Others.rest.pid
+    (process_of g.R.Others.rest c.caller.result.now) c.args.seen.now c.caller.result.now.float c.in-Err.why c.caller.ensures.living refl refl refl
+    c.in-Err.ensures.rule

@@ -11,7 +11,9 @@ open_under-requires-2-clause-free g c = second_free c.args.who.now c.open_under.
 
 pub unreachable-requires-in_default-open_under : goal.unreachable-requires-in_default-open_under
 unreachable-requires-in_default-open_under g c =
-    not_none c.open_under.new.self.opens (two_left c.args.self.now.opens c.open_under.new.self.opens c.in-Some.d _ c.requires.two c.in-Some.ensures.id (ap (λ (v : Parts). v.opens) c.in-Some.ensures.some)) (sym c.open_under-2.ensures.id ∙ c.in_default-open_under.is)
+    not_none c.open_under.new.self.opens (two_left c.args.self.now.opens c.open_under.new.self.opens c.in-Some.d _ c.requires.two c.in-Some.ensures.id
+    (ap (λ (v : Parts). v.opens) c.in-Some.ensures.some)) (sym c.open_under-2.ensures.id ∙ c.in_default-open_under.is)
 
 pub returns-clause-who : goal.returns-clause-who
-returns-clause-who g c = both_put c.args.who.now c.open_under.new.who c.open_under-2.new.who _ c.args.a c.args.b c.in-Some.d c.in-Some-open_under.e c.in-Some.ensures.who c.in-Some-open_under.ensures.who
+returns-clause-who g c = both_put c.args.who.now c.open_under.new.who c.open_under-2.new.who _ c.args.a c.args.b c.in-Some.d c.in-Some-open_under.e
+    c.in-Some.ensures.who c.in-Some-open_under.ensures.who

@@ -6,5 +6,6 @@ use Rattle.ix_fcalls.proofs.files.Files.open_under.Goals as goal
 
 pub returns-clause-counted : goal.returns-clause-counted
 returns-clause-counted g c =
-    counted_opened c.self.inside.tables c.args.who.now (subst (λ (v : Parts). IsCounted v c.args.who.now) (sym c.self.view_is) c.requires.counted) _ c.args.fd c.in_ok-id.id c.requires.free c.open.new.self c.set_fd.new.self _
+    counted_opened c.self.inside.tables c.args.who.now (subst (λ (v : Parts). IsCounted v c.args.who.now) (sym c.self.view_is) c.requires.counted) _ c.args.fd
+    c.in_ok-id.id c.requires.free c.open.new.self c.set_fd.new.self _
     (subst IsClear (sym c.self.view_is) c.requires.clear) (sym c.in_ok-id.ensures.id) c.in_ok-id.ensures.some c.set_fd.ensures

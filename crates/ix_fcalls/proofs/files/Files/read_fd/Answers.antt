@@ -18,12 +18,17 @@ use Rattle.ix_fcalls.proofs.files.Files.read_fd.Goals as goal
 pub returns-in_err-observe-clause-row : goal.returns-in_err-observe-clause-row
 returns-in_err-observe-clause-row g c =
     let p = err_from_is_err_and c.from_residual-in_err-observe.result c.from_residual-in_err-observe.ensures.1 in
-    rw (p.1, p.2) (read_refused (told_of c.args.told) g.R.Others.rest.pid c.args.fd.0 c.args.count (frame_of g.R.Others.rest c.args.self.now c.args.who.now) (behind_of c.in_ok-e.e) (object_by (node c.args.self.now.objects c.in_ok-e.e.object) c.in_ok-e.x) c.in_ok-e.ensures.passed
+    rw (p.1, p.2) (read_refused (told_of c.args.told) g.R.Others.rest.pid c.args.fd.0 c.args.count (frame_of g.R.Others.rest c.args.self.now c.args.who.now)
+    (behind_of c.in_ok-e.e) (object_by (node c.args.self.now.objects c.in_ok-e.e.object) c.in_ok-e.x) c.in_ok-e.ensures.passed
     _ c.in_err-observe.field-0.0 (frame_of g.R.Others.rest c.args.self.now c.observe.new.who) c.join-seen.ensures.join c.in_err-observe.ensures.row)
 
 pub returns-then-has_to_wait-clause-row : goal.returns-then-has_to_wait-clause-row
-returns-then-has_to_wait-clause-row g c = read_waits (told_of c.args.told) g.R.Others.rest.pid c.args.fd.0 c.args.count (frame_of g.R.Others.rest c.args.self.now c.args.who.now) (behind_of c.in_ok-e.e) (object_by (node c.args.self.now.objects c.in_ok-e.e.object) c.in_ok-e.x) c.in_ok-e.ensures.passed
-    (frame_of g.R.Others.rest c.args.self.now c.observe.new.who) (ap (λ (s : Categories). observe g.R.Others.rest.pid s (frame_of g.R.Others.rest c.args.self.now c.args.who.now)) (sym c.join-seen.ensures.join) ∙ c.in_ok-observe.ensures.row)
+returns-then-has_to_wait-clause-row g c =
+    read_waits (told_of c.args.told) g.R.Others.rest.pid c.args.fd.0 c.args.count (frame_of g.R.Others.rest c.args.self.now c.args.who.now)
+    (behind_of c.in_ok-e.e) (object_by (node c.args.self.now.objects c.in_ok-e.e.object) c.in_ok-e.x) c.in_ok-e.ensures.passed
+    (frame_of g.R.Others.rest c.args.self.now c.observe.new.who)
+    (ap (λ (s : Categories). observe g.R.Others.rest.pid s (frame_of g.R.Others.rest c.args.self.now c.args.who.now)) (sym c.join-seen.ensures.join)
+    ∙ c.in_ok-observe.ensures.row)
     (sym c.has_to_wait.ensures ∙ c.if-has_to_wait.true)
 
 pub returns-then-is_pipe-clause-row : goal.returns-then-is_pipe-clause-row
@@ -46,4 +51,6 @@ returns-clause-row g c =
     ∙ ap (λ (v : Parts). Pass (reply.Bytes 0) (frame_of g.R.Others.rest v c.observe.new.who)) (sym c.float_entry.ensures)
 
 pub returns-clause-counted : goal.returns-clause-counted
-returns-clause-counted g c = subst (λ (v : Parts). IsCounted v c.observe.new.who) (sym c.float_entry.ensures) (counted_marked c.args.self.now c.observe.new.who c.in_ok-e.e.id _ c.observe.ensures.counted)
+returns-clause-counted g c =
+    subst (λ (v : Parts). IsCounted v c.observe.new.who) (sym c.float_entry.ensures) (counted_marked c.args.self.now c.observe.new.who c.in_ok-e.e.id _
+    c.observe.ensures.counted)

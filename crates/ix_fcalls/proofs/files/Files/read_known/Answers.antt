@@ -12,14 +12,18 @@ pub read_bytes-requires-clause-serves : goal.read_bytes-requires-clause-serves
 read_bytes-requires-clause-serves g c = serves_found g.R.Others.rest c.args.self.now c.args.who.now c.args.fd.0 c.in-Some.e c.requires.sound (sym c.in-Some.ensures.behind) c.in-Some.ensures.offset
 
 pub read_bytes-requires-clause-few : goal.read_bytes-requires-clause-few
-read_bytes-requires-clause-few g c = known_few g.R.Others.rest c.args.self.now c.args.who.now c.args.fd.0 c.args.count (told_of c.told_of_read-told.result) c.requires.sound c.behind.ensures.lives (behind_of c.in-Some.e) (sym c.in-Some.ensures.behind) c.told_of_read-told.ensures c.in-Ok.ensures.row
+read_bytes-requires-clause-few g c = known_few g.R.Others.rest c.args.self.now c.args.who.now c.args.fd.0 c.args.count (told_of c.told_of_read-told.result)
+    c.requires.sound c.behind.ensures.lives (behind_of c.in-Some.e) (sym c.in-Some.ensures.behind) c.told_of_read-told.ensures c.in-Ok.ensures.row
 
 pub returns-in-Ok-clause-step : goal.returns-in-Ok-clause-step
-returns-in-Ok-clause-step g c = known_read g.R.Others.rest c.args.self.now c.args.who.now c.args.fd.0 c.args.count (told_of c.told_of_read-told.result) c.requires.sound c.behind.ensures.lives (behind_of c.in-Some.e) (sym c.in-Some.ensures.behind) c.told_of_read-told.ensures c.in-Ok.ensures.row
+returns-in-Ok-clause-step g c = known_read g.R.Others.rest c.args.self.now c.args.who.now c.args.fd.0 c.args.count (told_of c.told_of_read-told.result)
+    c.requires.sound c.behind.ensures.lives (behind_of c.in-Some.e) (sym c.in-Some.ensures.behind) c.told_of_read-told.ensures c.in-Ok.ensures.row
     c.read_bytes.new.self c.read_bytes.result c.args.buf.now c.read_bytes.new.buf c.read_bytes.ensures.count c.read_bytes.ensures.bytes c.read_bytes.ensures.frame c.read_bytes.ensures.content
 
 pub returns-in-Err-clause-step : goal.returns-in-Err-clause-step
-returns-in-Err-clause-step g c = known_unread g.R.Others.rest c.args.self.now c.args.who.now c.args.fd.0 c.args.count (told_of c.told_of_read-told.result) c.requires.sound c.behind.ensures.lives (behind_of c.in-Some.e) (sym c.in-Some.ensures.behind) c.told_of_read-told.ensures c.in-Err.why c.args.buf.now c.in-Err.ensures.row
+returns-in-Err-clause-step g c = known_unread g.R.Others.rest c.args.self.now c.args.who.now c.args.fd.0 c.args.count (told_of c.told_of_read-told.result)
+    c.requires.sound c.behind.ensures.lives (behind_of c.in-Some.e) (sym c.in-Some.ensures.behind) c.told_of_read-told.ensures c.in-Err.why c.args.buf.now
+    c.in-Err.ensures.row
 
 pub unreachable-requires : goal.unreachable-requires
 unreachable-requires g c = let h : None ≡ Some c.requires.known.entry = c.in_default.ensures.behind ∙ c.requires.known.is_behind in cc

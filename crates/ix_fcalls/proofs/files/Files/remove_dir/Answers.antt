@@ -37,13 +37,16 @@ is_home-requires-clause-within g c = subst (λ (v : Parts). c.in_ok-spot.spot.ob
 pub drop_dir-requires-clause-dir : goal.drop_dir-requires-clause-dir
 drop_dir-requires-clause-dir g c =
     dir_still g.R.Others.rest c.args.self.now c.affect.new.self c.observe.new.who c.in-Some-dir.dir _ c.in_ok-affect.ensures.row c.in-Some-dir.dir
-    (dir_spot g.R.Others.rest c.args.self.now c.args.who.now c.spot_at.new.who (path_of c.args.path.now) c.requires.sound (spot_of c.in_ok-spot.spot) c.in-Some-dir.dir c.in_ok-spot.ensures.row c.in-Some-dir.is)
+    (dir_spot g.R.Others.rest c.args.self.now c.args.who.now c.spot_at.new.who (path_of c.args.path.now) c.requires.sound (spot_of c.in_ok-spot.spot)
+    c.in-Some-dir.dir c.in_ok-spot.ensures.row c.in-Some-dir.is)
 
 pub drop_dir-requires-clause-child : goal.drop_dir-requires-clause-child
 drop_dir-requires-clause-child g c =
     ap (child (node c.affect.new.self.objects c.in-Some-dir.dir)) c.last_name.ensures
-    ∙ child_still g.R.Others.rest c.args.self.now c.affect.new.self c.observe.new.who c.in-Some-dir.dir _ c.in_ok-affect.ensures.row c.in-Some-dir.dir (last_name (path_of c.args.path.now).names) (Some c.in_ok-spot.spot.object)
-    (child_spot g.R.Others.rest c.args.self.now c.args.who.now c.spot_at.new.who (path_of c.args.path.now) c.requires.sound (spot_of c.in_ok-spot.spot) c.in-Some-dir.dir c.in_ok-spot.ensures.row c.in-Some-dir.is)
+    ∙ child_still g.R.Others.rest c.args.self.now c.affect.new.self c.observe.new.who c.in-Some-dir.dir _ c.in_ok-affect.ensures.row c.in-Some-dir.dir
+    (last_name (path_of c.args.path.now).names) (Some c.in_ok-spot.spot.object)
+    (child_spot g.R.Others.rest c.args.self.now c.args.who.now c.spot_at.new.who (path_of c.args.path.now) c.requires.sound (spot_of c.in_ok-spot.spot)
+    c.in-Some-dir.dir c.in_ok-spot.ensures.row c.in-Some-dir.is)
 
 pub drop_dir-requires-clause-bare : goal.drop_dir-requires-clause-bare
 drop_dir-requires-clause-bare g c =
@@ -54,7 +57,8 @@ drop_dir-requires-clause-bare g c =
 pub drop_dir-requires-clause-is_dir : goal.drop_dir-requires-clause-is_dir
 drop_dir-requires-clause-is_dir g c =
     dir_still g.R.Others.rest c.args.self.now c.affect.new.self c.observe.new.who c.in-Some-dir.dir _ c.in_ok-affect.ensures.row c.in_ok-spot.spot.object
-    (ap (λ (v : Parts). is_dir (node v.objects c.in_ok-spot.spot.object)) (sym c.self.view_is) ∙ ap (λ o. is_dir (unwrap_or o nothing)) c.in-Some.ensures.object ∙ ap (λ (k : Kind). is_dir (record nothing { kind = k })) c.in-Dir.is)
+    (ap (λ (v : Parts). is_dir (node v.objects c.in_ok-spot.spot.object)) (sym c.self.view_is) ∙ ap (λ o. is_dir (unwrap_or o nothing)) c.in-Some.ensures.object
+    ∙ ap (λ (k : Kind). is_dir (record nothing { kind = k })) c.in-Dir.is)
 
 pub returns-clause-row : goal.returns-clause-row
 returns-clause-row g c =
@@ -63,12 +67,14 @@ returns-clause-row g c =
     let l : Frame = frame_of g.R.Others.rest c.args.self.now c.observe.new.who in
     let h : Frame = frame_of g.R.Others.rest c.affect.new.self c.observe.new.who in
     let x : Object = object_by (node c.self.inside.tables.objects c.in_ok-spot.spot.object) c.in-Some.x in
-    remove_is g.R.Others.rest.pid (path_of c.args.path.now) (frame_of g.R.Others.rest c.args.self.now c.args.who.now) m l h (frame_of g.R.Others.rest c.drop_dir.new.self c.observe.new.who) (spot_of c.in_ok-spot.spot) c.in-Some-dir.dir x
+    remove_is g.R.Others.rest.pid (path_of c.args.path.now) (frame_of g.R.Others.rest c.args.self.now c.args.who.now) m l h
+    (frame_of g.R.Others.rest c.drop_dir.new.self c.observe.new.who) (spot_of c.in_ok-spot.spot) c.in-Some-dir.dir x
     c.in_ok-spot.ensures.row
     (ap (λ (v : Parts). at v.objects n) (sym c.self.view_is) ∙ c.in-Some.ensures.object)
     (ap (λ (k : Kind). is_dir (record nothing { kind = k })) c.in-Dir.is)
     c.in_ok-observe.ensures.row
-    (ap (λ (k : ℕ). n == first_inode c.args.self.now.fss k) (sym c.fs_number.ensures) ∙ ap (λ (v : Parts). n == first_inode v.fss c.fs_number.result) (sym c.self.view_is) ∙ sym c.is_root.ensures ∙ c.if-is_root.false)
+    (ap (λ (k : ℕ). n == first_inode c.args.self.now.fss k) (sym c.fs_number.ensures)
+    ∙ ap (λ (v : Parts). n == first_inode v.fss c.fs_number.result) (sym c.self.view_is) ∙ sym c.is_root.ensures ∙ c.if-is_root.false)
     (sym c.is_bare.ensures ∙ c.if-not-is_bare.false)
     (sym c.is_home.ensures ∙ c.if-is_home.false)
     c.in-Some-dir.is
@@ -77,7 +83,8 @@ returns-clause-row g c =
     ∙ (λ i. let k : Frame = record h { objects = put (change h.objects c.in-Some-dir.dir (without_name (c.last_name.ensures i))) n None } in k))
 
 pub returns-clause-counted : goal.returns-clause-counted
-returns-clause-counted g c = counted_left c.affect.new.self c.drop_dir.new.self c.observe.new.who true c.in-Some-dir.dir c.in_ok-spot.spot.object (without_name (name_of c.last_name.result)) _ c.in_ok-affect.ensures.counted c.drop_dir.ensures
+returns-clause-counted g c = counted_left c.affect.new.self c.drop_dir.new.self c.observe.new.who true c.in-Some-dir.dir c.in_ok-spot.spot.object
+    (without_name (name_of c.last_name.result)) _ c.in_ok-affect.ensures.counted c.drop_dir.ensures
 
 pub returns-clause-content : goal.returns-clause-content
 returns-clause-content g c =
@@ -85,4 +92,5 @@ returns-clause-content g c =
     (processes_twice c.args.who.now c.spot_at.new.who c.observe.new.who
     (processes_spot g.R.Others.rest c.args.self.now c.args.who.now c.spot_at.new.who (path_of c.args.path.now) c.requires.sound (spot_of c.in_ok-spot.spot) c.in_ok-spot.ensures.row)
     (processes_seen g.R.Others.rest c.args.self.now c.spot_at.new.who c.observe.new.who _ c.in_ok-observe.ensures.row))
-    c.in-Some-dir.dir _ c.in_ok-affect.ensures.row c.in_ok-affect.ensures.kept c.in_ok-affect.ensures.limits.2 true c.in_ok-spot.spot.object (without_name (name_of c.last_name.result)) c.drop_dir.new.self c.drop_dir.ensures
+    c.in-Some-dir.dir _ c.in_ok-affect.ensures.row c.in_ok-affect.ensures.kept c.in_ok-affect.ensures.limits.2 true c.in_ok-spot.spot.object
+    (without_name (name_of c.last_name.result)) c.drop_dir.new.self c.drop_dir.ensures

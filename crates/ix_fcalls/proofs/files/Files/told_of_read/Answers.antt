@@ -9,7 +9,8 @@ use Rattle.ix_fcalls.proofs.Lengths.{told_read_pipe, told_read_file}
 use Rattle.ix_fcalls.proofs.files.Files.told_of_read.Goals as goal
 
 pub left-there-requires-clause-pipe : goal.left-there-requires-clause-pipe
-left-there-requires-clause-pipe g c = subst (λ (v : Parts). is_pipe (node v.objects c.args.e.now.object) ≡ true) (sym c.self.view_is) (serves_pipe c.args.self.now c.args.e.now c.requires (sym c.is_on_pipe.ensures ∙ c.if-is_on_pipe.true))
+left-there-requires-clause-pipe g c = subst (λ (v : Parts). is_pipe (node v.objects c.args.e.now.object) ≡ true) (sym c.self.view_is)
+    (serves_pipe c.args.self.now c.args.e.now c.requires (sym c.is_on_pipe.ensures ∙ c.if-is_on_pipe.true))
 
 pub left-there-requires-clause-end : goal.left-there-requires-clause-end
 left-there-requires-clause-end g c = c.requires.end
@@ -19,7 +20,8 @@ returns-then-is_on_pipe g c = told_read_pipe g.R.Others.rest c.args.self.now c.a
     (c.left-there.ensures.left ∙ ap (λ (v : Parts). length (side c.args.e.now.end (slice_index_or v.holdings c.args.e.now.object holds_nothing))) c.self.view_is)
 
 pub size-held-requires : goal.size-held-requires
-size-held-requires g c = subst (λ (v : Parts). option_map_or is_file (at v.objects c.args.e.now.object) false ≡ true) (sym c.self.view_is) (serves_file c.args.self.now c.args.e.now c.requires (sym c.is_on_pipe.ensures ∙ c.if-is_on_pipe.false))
+size-held-requires g c = subst (λ (v : Parts). option_map_or is_file (at v.objects c.args.e.now.object) false ≡ true) (sym c.self.view_is)
+    (serves_file c.args.self.now c.args.e.now c.requires (sym c.is_on_pipe.ensures ∙ c.if-is_on_pipe.false))
 
 pub returns : goal.returns
 returns g c = told_read_file g.R.Others.rest c.args.self.now c.args.who.now c.args.e.now c.size-held.result c.requires (sym c.is_on_pipe.ensures ∙ c.if-is_on_pipe.false)

@@ -12,7 +12,8 @@ use Rattle.ix_fcalls.proofs.Edits.{edited_frame, edited_counted, appended, writt
 use Rattle.ix_fcalls.proofs.files.Files.write_bytes.Goals as goal
 
 pub append-requires-clause-pipe : goal.append-requires-clause-pipe
-append-requires-clause-pipe g c = subst (λ (v : Parts). is_pipe (node v.objects c.args.e.now.object) ≡ true) (sym c.self.view_is) (serves_pipe c.args.self.now c.args.e.now c.requires.serves (sym c.is_on_pipe.ensures ∙ c.if-is_on_pipe.true))
+append-requires-clause-pipe g c = subst (λ (v : Parts). is_pipe (node v.objects c.args.e.now.object) ≡ true) (sym c.self.view_is)
+    (serves_pipe c.args.self.now c.args.e.now c.requires.serves (sym c.is_on_pipe.ensures ∙ c.if-is_on_pipe.true))
 
 pub append-requires-clause-end : goal.append-requires-clause-end
 append-requires-clause-end g c = c.requires.serves.end
@@ -25,18 +26,33 @@ append-requires-clause-room g c =
 pub returns-then-is_on_pipe-clause-frame : goal.returns-then-is_on_pipe-clause-frame
 returns-then-is_on_pipe-clause-frame g c =
     edited_frame c.args.self.now c.append.new.self _ _
-    (c.append.ensures ∙ ap (λ (v : Parts). let w : Parts = record v { holdings = slice_set v.holdings c.args.e.now.object (with_side (1 - c.args.e.now.end) (side (1 - c.args.e.now.end) (slice_index_or v.holdings c.args.e.now.object holds_nothing) ++ c.args.bytes.now) (slice_index_or v.holdings c.args.e.now.object holds_nothing)) } in w) c.self.view_is)
+    (c.append.ensures ∙ ap (λ (v : Parts). let w : Parts =
+    record v {
+      holdings = slice_set v.holdings c.args.e.now.object
+          (with_side (1 - c.args.e.now.end) (side (1 - c.args.e.now.end) (slice_index_or v.holdings c.args.e.now.object holds_nothing) ++ c.args.bytes.now)
+          (slice_index_or v.holdings c.args.e.now.object holds_nothing));
+    } in w) c.self.view_is)
     g.R.Others.rest c.args.who.now
 
 pub returns-then-is_on_pipe-clause-content : goal.returns-then-is_on_pipe-clause-content
 returns-then-is_on_pipe-clause-content g c =
     appended g.R.Others.rest c.args.self.now c.args.who.now c.args.e.now c.append.new.self c.args.bytes.now (sym c.is_on_pipe.ensures ∙ c.if-is_on_pipe.true)
-    (c.append.ensures ∙ ap (λ (v : Parts). let w : Parts = record v { holdings = slice_set v.holdings c.args.e.now.object (with_side (1 - c.args.e.now.end) (side (1 - c.args.e.now.end) (slice_index_or v.holdings c.args.e.now.object holds_nothing) ++ c.args.bytes.now) (slice_index_or v.holdings c.args.e.now.object holds_nothing)) } in w) c.self.view_is)
+    (c.append.ensures ∙ ap (λ (v : Parts). let w : Parts =
+    record v {
+      holdings = slice_set v.holdings c.args.e.now.object
+          (with_side (1 - c.args.e.now.end) (side (1 - c.args.e.now.end) (slice_index_or v.holdings c.args.e.now.object holds_nothing) ++ c.args.bytes.now)
+          (slice_index_or v.holdings c.args.e.now.object holds_nothing));
+    } in w) c.self.view_is)
 
 pub returns-then-is_on_pipe-clause-counted : goal.returns-then-is_on_pipe-clause-counted
 returns-then-is_on_pipe-clause-counted g c =
     edited_counted c.args.self.now c.append.new.self _ _
-    (c.append.ensures ∙ ap (λ (v : Parts). let w : Parts = record v { holdings = slice_set v.holdings c.args.e.now.object (with_side (1 - c.args.e.now.end) (side (1 - c.args.e.now.end) (slice_index_or v.holdings c.args.e.now.object holds_nothing) ++ c.args.bytes.now) (slice_index_or v.holdings c.args.e.now.object holds_nothing)) } in w) c.self.view_is)
+    (c.append.ensures ∙ ap (λ (v : Parts). let w : Parts =
+    record v {
+      holdings = slice_set v.holdings c.args.e.now.object
+          (with_side (1 - c.args.e.now.end) (side (1 - c.args.e.now.end) (slice_index_or v.holdings c.args.e.now.object holds_nothing) ++ c.args.bytes.now)
+          (slice_index_or v.holdings c.args.e.now.object holds_nothing));
+    } in w) c.self.view_is)
     c.args.who.now c.requires.counted
 
 pub overflow_cast-n : goal.overflow_cast-n
@@ -50,7 +66,8 @@ overflow_add-past g c =
     omega (arith, ends)
 
 pub write-requires-clause-file : goal.write-requires-clause-file
-write-requires-clause-file g c = subst (λ (v : Parts). option_map_or is_file (at v.objects c.args.e.now.object) false ≡ true) (sym c.self.view_is) (serves_file c.args.self.now c.args.e.now c.requires.serves (sym c.is_on_pipe.ensures ∙ c.if-is_on_pipe.false))
+write-requires-clause-file g c = subst (λ (v : Parts). option_map_or is_file (at v.objects c.args.e.now.object) false ≡ true) (sym c.self.view_is)
+    (serves_file c.args.self.now c.args.e.now c.requires.serves (sym c.is_on_pipe.ensures ∙ c.if-is_on_pipe.false))
 
 pub write-requires-clause-most : goal.write-requires-clause-most
 write-requires-clause-most g c =
@@ -59,7 +76,8 @@ write-requires-clause-most g c =
 
 pub write-requires-clause-room : goal.write-requires-clause-room
 write-requires-clause-room g c =
-    subst (λ (v : Parts). has_room c.args.e.now.object (length_then c.args.e.now.offset (length c.args.bytes.now) (length (slice_index_or v.holdings c.args.e.now.object holds_nothing).first)) v ≡ true) (sym c.self.view_is)
+    subst (λ (v : Parts). has_room c.args.e.now.object (length_then c.args.e.now.offset (length c.args.bytes.now)
+    (length (slice_index_or v.holdings c.args.e.now.object holds_nothing).first)) v ≡ true) (sym c.self.view_is)
     (write_has_room g.R.Others.rest c.args.self.now c.args.who.now c.args.e.now (length c.args.bytes.now) c.requires.room c.requires.serves (sym c.is_on_pipe.ensures ∙ c.if-is_on_pipe.false))
 
 pub seek-requires : goal.seek-requires
@@ -71,18 +89,33 @@ pub returns-clause-frame : goal.returns-clause-frame
 returns-clause-frame g c =
     edited_frame c.args.self.now c.seek.new.self _ _
     (c.seek.ensures ∙ ap (λ (v : Parts). let w : Parts = record v { offsets = slice_set v.offsets c.args.e.now.id (c.args.e.now.offset + length c.args.bytes.now) } in w)
-    (c.write.ensures ∙ ap (λ (v : Parts). let w : Parts = record v { holdings = slice_set v.holdings c.args.e.now.object (with_side 0 (spliced c.args.e.now.offset c.args.bytes.now (slice_index_or v.holdings c.args.e.now.object holds_nothing).first) (slice_index_or v.holdings c.args.e.now.object holds_nothing)) } in w) c.self.view_is))
+    (c.write.ensures ∙ ap (λ (v : Parts). let w : Parts =
+    record v {
+      holdings = slice_set v.holdings c.args.e.now.object
+          (with_side 0 (spliced c.args.e.now.offset c.args.bytes.now (slice_index_or v.holdings c.args.e.now.object holds_nothing).first)
+          (slice_index_or v.holdings c.args.e.now.object holds_nothing));
+    } in w) c.self.view_is))
     g.R.Others.rest c.args.who.now
 
 pub returns-clause-content : goal.returns-clause-content
 returns-clause-content g c =
     written g.R.Others.rest c.args.self.now c.args.who.now c.args.e.now c.seek.new.self c.args.bytes.now c.requires.serves (sym c.is_on_pipe.ensures ∙ c.if-is_on_pipe.false)
     (c.seek.ensures ∙ ap (λ (v : Parts). let w : Parts = record v { offsets = slice_set v.offsets c.args.e.now.id (c.args.e.now.offset + length c.args.bytes.now) } in w)
-    (c.write.ensures ∙ ap (λ (v : Parts). let w : Parts = record v { holdings = slice_set v.holdings c.args.e.now.object (with_side 0 (spliced c.args.e.now.offset c.args.bytes.now (slice_index_or v.holdings c.args.e.now.object holds_nothing).first) (slice_index_or v.holdings c.args.e.now.object holds_nothing)) } in w) c.self.view_is))
+    (c.write.ensures ∙ ap (λ (v : Parts). let w : Parts =
+    record v {
+      holdings = slice_set v.holdings c.args.e.now.object
+          (with_side 0 (spliced c.args.e.now.offset c.args.bytes.now (slice_index_or v.holdings c.args.e.now.object holds_nothing).first)
+          (slice_index_or v.holdings c.args.e.now.object holds_nothing));
+    } in w) c.self.view_is))
 
 pub returns-clause-counted : goal.returns-clause-counted
 returns-clause-counted g c =
     edited_counted c.args.self.now c.seek.new.self _ _
     (c.seek.ensures ∙ ap (λ (v : Parts). let w : Parts = record v { offsets = slice_set v.offsets c.args.e.now.id (c.args.e.now.offset + length c.args.bytes.now) } in w)
-    (c.write.ensures ∙ ap (λ (v : Parts). let w : Parts = record v { holdings = slice_set v.holdings c.args.e.now.object (with_side 0 (spliced c.args.e.now.offset c.args.bytes.now (slice_index_or v.holdings c.args.e.now.object holds_nothing).first) (slice_index_or v.holdings c.args.e.now.object holds_nothing)) } in w) c.self.view_is))
+    (c.write.ensures ∙ ap (λ (v : Parts). let w : Parts =
+    record v {
+      holdings = slice_set v.holdings c.args.e.now.object
+          (with_side 0 (spliced c.args.e.now.offset c.args.bytes.now (slice_index_or v.holdings c.args.e.now.object holds_nothing).first)
+          (slice_index_or v.holdings c.args.e.now.object holds_nothing));
+    } in w) c.self.view_is))
     c.args.who.now c.requires.counted

@@ -25,4 +25,5 @@ invariant_of-self g c =
     let had = holds_of _ _ h.0 (ap (λ k. k.taken) c.self.view_is ∙ h.1) c.self.invariant.carries in
     let put = c.exchange.ensures.3 in
     let gave = c.fetch_add.ensures.2 c.args.machine (ap (λ m. m.1) put ∙ ap (λ l. (0, Some c.args.machine) ∷ rest l) had.1) in
-    at_rest_after_give g.M.Machine.base g.M.Machine.history g.M.Machine.seat _ _ c.self.inside.token.me c.exchange.new.seat.me c.fetch_add.new.seat.me c.args.machine c.self.invariant (ap (λ m. m.0) put) gave.0 gave.1
+    at_rest_after_give g.M.Machine.base g.M.Machine.history g.M.Machine.seat _ _ c.self.inside.token.me c.exchange.new.seat.me c.fetch_add.new.seat.me
+    c.args.machine c.self.invariant (ap (λ m. m.0) put) gave.0 gave.1

@@ -19,11 +19,13 @@ load-requires g c =
 
 pub invariant_of-self : goal.invariant_of-self
 invariant_of-self g c =
-    at_rest_after_look g.M.Machine.seat _ _ _ _ c.self.inside.token.me c.join_seat.new.seat.me c.load.new.seat.me (with_seat c.self.inside.token.me.0 c.other.inside.token.me.0) c.self.invariant refl refl refl refl c.join_seat.ensures.2 c.load.ensures.2
+    at_rest_after_look g.M.Machine.seat _ _ _ _ c.self.inside.token.me c.join_seat.new.seat.me c.load.new.seat.me
+    (with_seat c.self.inside.token.me.0 c.other.inside.token.me.0) c.self.invariant refl refl refl refl c.join_seat.ensures.2 c.load.ensures.2
 
 pub returns-clause-served : goal.returns-clause-served
 returns-clause-served g c =
     let look = c.load.ensures.2 in
     let told = subst (λ m. IsServed m.0 c.load.result × (length m.0.seen ≤ c.load.result)) c.join_seat.ensures.2 (look.served, look.entries) in
     subst (λ m. LearnsServed c.args.self.now m.0.seen m.0.look_found) (sym look.now)
-    (learns g.M.Machine.seat _ _ _ c.load.result c.self.inside.token.me c.args.self.now c.join_seat.new.seat.me.0.seen c.self.invariant c.self.view_is record { least = told.0.least; passed = told.0.passed; alone = told.0.alone } look.entries)
+    (learns g.M.Machine.seat _ _ _ c.load.result c.self.inside.token.me c.args.self.now c.join_seat.new.seat.me.0.seen c.self.invariant c.self.view_is record
+    { least = told.0.least; passed = told.0.passed; alone = told.0.alone } look.entries)

@@ -17,7 +17,8 @@ invariant_of-self g c =
 
 pub returns-clause-ended : goal.returns-clause-ended
 returns-clause-ended g c =
-    subst (λ l. KeepsEnded g.M.Machine.seat l (g.M.Machine.history c.await_turn.result)) (ap (λ m. m.0.ended) c.fetch_add-ticket.ensures.2.0 ∙ ap (λ k. k.ended) c.self.view_is) c.await_turn.ensures.taken.agrees.1
+    subst (λ l. KeepsEnded g.M.Machine.seat l (g.M.Machine.history c.await_turn.result)) (ap (λ m. m.0.ended) c.fetch_add-ticket.ensures.2.0
+    ∙ ap (λ k. k.ended) c.self.view_is) c.await_turn.ensures.taken.agrees.1
 
 pub returns-clause-served : goal.returns-clause-served
 returns-clause-served g c =
@@ -25,4 +26,5 @@ returns-clause-served g c =
     let drew = c.fetch_add-ticket.ensures.2 in
     let found = ap (λ m. m.0.look_found) took.now ∙ ap (λ m. m.0.ticket) drew.0 in
     subst (LearnsServed c.args.self.now (g.M.Machine.history c.await_turn.result)) (sym found)
-    (learns g.M.Machine.seat _ _ _ c.fetch_add-ticket.result c.self.inside.token.me c.args.self.now (g.M.Machine.history c.await_turn.result) c.self.invariant c.self.view_is drew.1 (omega (arith, took.entries, ap (λ m. m.0.ticket) drew.0)))
+    (learns g.M.Machine.seat _ _ _ c.fetch_add-ticket.result c.self.inside.token.me c.args.self.now (g.M.Machine.history c.await_turn.result) c.self.invariant
+    c.self.view_is drew.1 (omega (arith, took.entries, ap (λ m. m.0.ticket) drew.0)))

@@ -11,7 +11,8 @@ returns-in-Ok-try_get_matches_from c =
     let app_is : app_of c.in-Ok.line ≡ command_line = search rules in
     let no_fault : fault_of command_line words ≡ [] =
     subst (λ (a : App). fault_of a words ≡ []) app_is (c.in-Ok-try_get_matches_from.ensures.kinds (ap is_simple_and_free app_is ∙ is_free)) in
-    c.read_values.ensures ∙ line_reads words c.in-Ok-try_get_matches_from.matches no_fault (subst (λ (a : App). HasMatchesOf a words c.in-Ok-try_get_matches_from.matches) app_is c.in-Ok-try_get_matches_from.ensures.matches)
+    c.read_values.ensures ∙ line_reads words c.in-Ok-try_get_matches_from.matches no_fault
+    (subst (λ (a : App). HasMatchesOf a words c.in-Ok-try_get_matches_from.matches) app_is c.in-Ok-try_get_matches_from.ensures.matches)
 
 pub returns-in-Err-2 : goal.returns-in-Err-2
 returns-in-Err-2 c =

@@ -6,16 +6,19 @@ use Rattle.ix_host.proofs.streams.input.input_for.Goals as goal
 
 pub returns-in-Run-clause-gathers : goal.returns-in-Run-clause-gathers
 returns-in-Run-clause-gathers g c = λ _.
-    subst (λ k. IfSome (g.S.Source.left c.args.source.now) (λ bytes. Gathers (input_max (Some k)) bytes (g.S.Source.left c.read_all.new.source) c.read_all.result)) (sym c.in-Run.is) c.read_all.ensures.told
+    subst (λ k. IfSome (g.S.Source.left c.args.source.now) (λ bytes. Gathers (input_max (Some k)) bytes (g.S.Source.left c.read_all.new.source)
+    c.read_all.result)) (sym c.in-Run.is) c.read_all.ensures.told
 
 pub returns-in-Print-clause-gathers : goal.returns-in-Print-clause-gathers
 returns-in-Print-clause-gathers g c = λ _.
-    subst (λ k. IfSome (g.S.Source.left c.args.source.now) (λ bytes. Gathers (input_max (Some k)) bytes (g.S.Source.left c.read_all-in-Print.new.source) c.read_all-in-Print.result)) (sym c.in-Print.is)
+    subst (λ k. IfSome (g.S.Source.left c.args.source.now) (λ bytes. Gathers (input_max (Some k)) bytes (g.S.Source.left c.read_all-in-Print.new.source)
+    c.read_all-in-Print.result)) (sym c.in-Print.is)
     c.read_all-in-Print.ensures.told
 
 pub returns-in-Check-clause-gathers : goal.returns-in-Check-clause-gathers
 returns-in-Check-clause-gathers g c = λ _.
-    subst (λ k. IfSome (g.S.Source.left c.args.source.now) (λ bytes. Gathers (input_max (Some k)) bytes (g.S.Source.left c.read_all-in-Check.new.source) c.read_all-in-Check.result)) (sym c.in-Check.is)
+    subst (λ k. IfSome (g.S.Source.left c.args.source.now) (λ bytes. Gathers (input_max (Some k)) bytes (g.S.Source.left c.read_all-in-Check.new.source)
+    c.read_all-in-Check.result)) (sym c.in-Check.is)
     c.read_all-in-Check.ensures.told
 
 pub returns-in-Flow-clause-gathers : goal.returns-in-Flow-clause-gathers

@@ -20,7 +20,9 @@ returns-in-Ok g c first text before s =
     let later = g.K.Sink.taken c.write_all.new.sink in
     let then = g.K.Sink.faults c.write_all.new.sink in
     let stands = stands_whole first after before now None c.args.waiting.now text (rw c.in-None.is at s) in
-    ends_done first later text (g.K.Sink.finished c.write_all.new.sink) before then (stands_written first after before now later then c.args.waiting.now [] text stands _ c.in-Ok.ensures.told c.in-Ok.ensures.cause) c.in-Ok.ensures.finished
+    ends_done first later text (g.K.Sink.finished c.write_all.new.sink) before then
+    (stands_written first after before now later then c.args.waiting.now [] text stands _ c.in-Ok.ensures.told c.in-Ok.ensures.cause)
+    c.in-Ok.ensures.finished
 
 pub returns-in-Err : goal.returns-in-Err
 returns-in-Err g c first text before s =
@@ -29,4 +31,5 @@ returns-in-Err g c first text before s =
     let later = g.K.Sink.taken c.write_all.new.sink in
     let then = g.K.Sink.faults c.write_all.new.sink in
     let stands = stands_whole first after before now None c.args.waiting.now text (rw c.in-None.is at s) in
-    ends_failed first later text (g.K.Sink.finished c.write_all.new.sink) before then c.args.waiting.now (stands_failed first after before now later then c.args.waiting.now [] text stands _ c.args.waiting.now c.in-Err.ensures.told c.in-Err.ensures.cause)
+    ends_failed first later text (g.K.Sink.finished c.write_all.new.sink) before then c.args.waiting.now (stands_failed first after before now later then
+    c.args.waiting.now [] text stands _ c.args.waiting.now c.in-Err.ensures.told c.in-Err.ensures.cause)

@@ -10,7 +10,9 @@ use Rattle.ix_inode.proofs.inodes.Inodes.get.Goals as goal
 pub returns-in_err-node-clause-told : goal.returns-in_err-node-clause-told
 returns-in_err-node-clause-told c =
     let spot : IsSpot c.self.inside.volumes.items c.in_ok-spot.spot.volume c.in_ok-spot.spot.inode c.args.obj.0 = rw c.as_slice.ensures.value at c.in_ok-spot.ensures in
-    c.from_residual-in_err-node.ensures ∙ rw (← c.self.view_is) (ap (option_map (told_at c.args.obj.0 (nodes_of c.self.inside.volumes.items))) (sym (view_at _ c.self.invariant _ _ spot.within c.index-volume.ensures _ _ spot ∙ sym c.in_err-node.ensures)))
+    c.from_residual-in_err-node.ensures
+    ∙ rw (← c.self.view_is) (ap (option_map (told_at c.args.obj.0 (nodes_of c.self.inside.volumes.items)))
+    (sym (view_at _ c.self.invariant _ _ spot.within c.index-volume.ensures _ _ spot ∙ sym c.in_err-node.ensures)))
 
 pub returns-clause-told : goal.returns-clause-told
 returns-clause-told c =

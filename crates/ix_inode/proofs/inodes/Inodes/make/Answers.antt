@@ -15,9 +15,11 @@ object_of-requires c =
 pub returns-clause-number : goal.returns-clause-number
 returns-clause-number c =
     let low : c.args.fs < length c.self.inside.volumes.items = low_is _ _ _ c.self.view_is c.requires in
-    rw (← c.self.view_is) (c.object_of.ensures ∙ ap (λ (p : Option ℕ). option_map (λ n. c.index_mut-volume.result.now.first + n) p) c.take.ensures.number ∙ sym (view_vacant _ c.self.invariant _ _ low c.index_mut-volume.ensures.value))
+    rw (← c.self.view_is) (c.object_of.ensures ∙ ap (λ (p : Option ℕ). option_map (λ n. c.index_mut-volume.result.now.first + n) p) c.take.ensures.number
+    ∙ sym (view_vacant _ c.self.invariant _ _ low c.index_mut-volume.ensures.value))
 
 pub returns-clause-made : goal.returns-clause-made
 returns-clause-made c =
     let low : c.args.fs < length c.self.inside.volumes.items = low_is _ _ _ c.self.view_is c.requires in
-    rw (← c.self.view_is, c.take.ensures.taken, c.new.ensures, ← c.is_dir.ensures) (view_made _ c.self.invariant _ _ low c.index_mut-volume.ensures.value c.is_dir.result c.take.result c.take.ensures.number)
+    rw (← c.self.view_is, c.take.ensures.taken, c.new.ensures, ← c.is_dir.ensures) (view_made _ c.self.invariant _ _ low c.index_mut-volume.ensures.value
+    c.is_dir.result c.take.result c.take.ensures.number)

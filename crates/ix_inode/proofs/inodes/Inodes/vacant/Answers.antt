@@ -10,4 +10,5 @@ object_of-requires c =
 pub returns : goal.returns
 returns c =
     let low : c.args.fs < length c.self.inside.volumes.items = low_is _ _ _ c.self.view_is c.requires in
-    rw (← c.self.view_is) (c.object_of.ensures ∙ ap (λ (p : Option ℕ). option_map (λ n. c.index-volume.result.now.first + n) p) c.vacant.ensures ∙ sym (view_vacant _ c.self.invariant _ _ low c.index-volume.ensures))
+    rw (← c.self.view_is) (c.object_of.ensures ∙ ap (λ (p : Option ℕ). option_map (λ n. c.index-volume.result.now.first + n) p) c.vacant.ensures
+    ∙ sym (view_vacant _ c.self.invariant _ _ low c.index-volume.ensures))

@@ -12,28 +12,52 @@ use Rattle.ix_inode.proofs.inodes.Inodes.write.Goals as goal
 pub write-requires-clause-most : goal.write-requires-clause-most
 write-requires-clause-most c =
     let spot : IsSpot c.self.inside.volumes.items c.spot_there-spot.result.volume c.spot_there-spot.result.inode c.args.obj.0 = rw c.as_slice.ensures.value at c.spot_there-spot.ensures in
-    let bytes : bytes_of c.spot_there-spot.result.inode c.index_mut.result.now.blocks ≡ bytes_at c.args.obj.0 c.args.self.now = sym (view_bytes _ c.self.invariant _ _ spot.within c.index_mut.ensures.value _ _ spot) ∙ ap (bytes_at c.args.obj.0) c.self.view_is in
+    let bytes : bytes_of c.spot_there-spot.result.inode c.index_mut.result.now.blocks ≡ bytes_at c.args.obj.0 c.args.self.now =
+    sym (view_bytes _ c.self.invariant _ _ spot.within c.index_mut.ensures.value _ _ spot) ∙ ap (bytes_at c.args.obj.0) c.self.view_is in
     subst (λ (bs : List ℕ). length_then c.args.at (length c.args.bytes.now) (length bs) ≤ most) (sym bytes) c.requires.most
 
 pub invariant_of-self : goal.invariant_of-self
 invariant_of-self c =
     let spot : IsSpot c.self.inside.volumes.items c.spot_there-spot.result.volume c.spot_there-spot.result.inode c.args.obj.0 = rw c.as_slice.ensures.value at c.spot_there-spot.ensures in
-    let lives : is_some (at c.index_mut.result.now.nodes c.spot_there-spot.result.inode) ≡ true = lives_here _ c.self.invariant _ _ spot.within c.index_mut.ensures.value _ _ spot _ c.self.view_is (file_lives c.args.obj.0 c.args.self.now c.requires.file) in
+    let lives : is_some (at c.index_mut.result.now.nodes c.spot_there-spot.result.inode) ≡ true =
+    lives_here _ c.self.invariant _ _ spot.within c.index_mut.ensures.value _ _ spot _ c.self.view_is
+    (file_lives c.args.obj.0 c.args.self.now c.requires.file) in
     laid_held _ c.self.invariant _ _ spot.within c.index_mut.ensures.value _ _ spot _ _ _ lives c.write.ensures.bytes
 
 pub returns-clause-room : goal.returns-clause-room
 returns-clause-room c =
     let spot : IsSpot c.self.inside.volumes.items c.spot_there-spot.result.volume c.spot_there-spot.result.inode c.args.obj.0 = rw c.as_slice.ensures.value at c.spot_there-spot.ensures in
-    let lives : is_some (at c.index_mut.result.now.nodes c.spot_there-spot.result.inode) ≡ true = lives_here _ c.self.invariant _ _ spot.within c.index_mut.ensures.value _ _ spot _ c.self.view_is (file_lives c.args.obj.0 c.args.self.now c.requires.file) in
-    let bytes : bytes_of c.spot_there-spot.result.inode c.index_mut.result.now.blocks ≡ bytes_at c.args.obj.0 c.args.self.now = sym (view_bytes _ c.self.invariant _ _ spot.within c.index_mut.ensures.value _ _ spot) ∙ ap (bytes_at c.args.obj.0) c.self.view_is in
-    let space : has_room c.spot_there-spot.result.inode (length_then c.args.at (length c.args.bytes.now) (length (bytes_of c.spot_there-spot.result.inode c.index_mut.result.now.blocks))) c.index_mut.result.now.blocks ≡ has_space c.args.obj.0 (length_after c.args.obj.0 c.args.at (length c.args.bytes.now) c.args.self.now) c.args.self.now = view_space _ c.self.invariant _ _ spot.within c.index_mut.ensures.value _ _ (length_then c.args.at (length c.args.bytes.now) (length (bytes_of c.spot_there-spot.result.inode c.index_mut.result.now.blocks))) spot lives ∙ ap (has_space c.args.obj.0 (length_then c.args.at (length c.args.bytes.now) (length (bytes_of c.spot_there-spot.result.inode c.index_mut.result.now.blocks)))) c.self.view_is ∙ ap (λ (bs : List ℕ). has_space c.args.obj.0 (length_then c.args.at (length c.args.bytes.now) (length bs)) c.args.self.now) bytes in
+    let lives : is_some (at c.index_mut.result.now.nodes c.spot_there-spot.result.inode) ≡ true =
+    lives_here _ c.self.invariant _ _ spot.within c.index_mut.ensures.value _ _ spot _ c.self.view_is
+    (file_lives c.args.obj.0 c.args.self.now c.requires.file) in
+    let bytes : bytes_of c.spot_there-spot.result.inode c.index_mut.result.now.blocks ≡ bytes_at c.args.obj.0 c.args.self.now =
+    sym (view_bytes _ c.self.invariant _ _ spot.within c.index_mut.ensures.value _ _ spot) ∙ ap (bytes_at c.args.obj.0) c.self.view_is in
+    let space : has_room c.spot_there-spot.result.inode
+    (length_then c.args.at (length c.args.bytes.now) (length (bytes_of c.spot_there-spot.result.inode c.index_mut.result.now.blocks)))
+    c.index_mut.result.now.blocks ≡ has_space c.args.obj.0 (length_after c.args.obj.0 c.args.at (length c.args.bytes.now) c.args.self.now) c.args.self.now =
+    view_space _ c.self.invariant _ _ spot.within c.index_mut.ensures.value _ _
+    (length_then c.args.at (length c.args.bytes.now) (length (bytes_of c.spot_there-spot.result.inode c.index_mut.result.now.blocks))) spot lives
+    ∙ ap (has_space c.args.obj.0
+    (length_then c.args.at (length c.args.bytes.now) (length (bytes_of c.spot_there-spot.result.inode c.index_mut.result.now.blocks)))) c.self.view_is
+    ∙ ap (λ (bs : List ℕ). has_space c.args.obj.0 (length_then c.args.at (length c.args.bytes.now) (length bs)) c.args.self.now) bytes in
     let answer : Bool → Result (Unit {0}) NoSpace = λ b. if b then Ok tt else Err (record {}) in
     c.write.ensures.room ∙ ap answer space
 
 pub returns-clause-bytes : goal.returns-clause-bytes
 returns-clause-bytes c =
     let spot : IsSpot c.self.inside.volumes.items c.spot_there-spot.result.volume c.spot_there-spot.result.inode c.args.obj.0 = rw c.as_slice.ensures.value at c.spot_there-spot.ensures in
-    let lives : is_some (at c.index_mut.result.now.nodes c.spot_there-spot.result.inode) ≡ true = lives_here _ c.self.invariant _ _ spot.within c.index_mut.ensures.value _ _ spot _ c.self.view_is (file_lives c.args.obj.0 c.args.self.now c.requires.file) in
-    let bytes : bytes_of c.spot_there-spot.result.inode c.index_mut.result.now.blocks ≡ bytes_at c.args.obj.0 c.args.self.now = sym (view_bytes _ c.self.invariant _ _ spot.within c.index_mut.ensures.value _ _ spot) ∙ ap (bytes_at c.args.obj.0) c.self.view_is in
-    let space : has_room c.spot_there-spot.result.inode (length_then c.args.at (length c.args.bytes.now) (length (bytes_of c.spot_there-spot.result.inode c.index_mut.result.now.blocks))) c.index_mut.result.now.blocks ≡ has_space c.args.obj.0 (length_after c.args.obj.0 c.args.at (length c.args.bytes.now) c.args.self.now) c.args.self.now = view_space _ c.self.invariant _ _ spot.within c.index_mut.ensures.value _ _ (length_then c.args.at (length c.args.bytes.now) (length (bytes_of c.spot_there-spot.result.inode c.index_mut.result.now.blocks))) spot lives ∙ ap (has_space c.args.obj.0 (length_then c.args.at (length c.args.bytes.now) (length (bytes_of c.spot_there-spot.result.inode c.index_mut.result.now.blocks)))) c.self.view_is ∙ ap (λ (bs : List ℕ). has_space c.args.obj.0 (length_then c.args.at (length c.args.bytes.now) (length bs)) c.args.self.now) bytes in
-    view_held _ c.self.invariant _ _ spot.within c.index_mut.ensures.value _ _ spot _ _ _ c.write.ensures.bytes ∙ (λ i. if space i then holding c.args.obj.0 (spliced c.args.at c.args.bytes.now (bytes i)) (c.self.view_is i) else c.self.view_is i)
+    let lives : is_some (at c.index_mut.result.now.nodes c.spot_there-spot.result.inode) ≡ true =
+    lives_here _ c.self.invariant _ _ spot.within c.index_mut.ensures.value _ _ spot _ c.self.view_is
+    (file_lives c.args.obj.0 c.args.self.now c.requires.file) in
+    let bytes : bytes_of c.spot_there-spot.result.inode c.index_mut.result.now.blocks ≡ bytes_at c.args.obj.0 c.args.self.now =
+    sym (view_bytes _ c.self.invariant _ _ spot.within c.index_mut.ensures.value _ _ spot) ∙ ap (bytes_at c.args.obj.0) c.self.view_is in
+    let space : has_room c.spot_there-spot.result.inode
+    (length_then c.args.at (length c.args.bytes.now) (length (bytes_of c.spot_there-spot.result.inode c.index_mut.result.now.blocks)))
+    c.index_mut.result.now.blocks ≡ has_space c.args.obj.0 (length_after c.args.obj.0 c.args.at (length c.args.bytes.now) c.args.self.now) c.args.self.now =
+    view_space _ c.self.invariant _ _ spot.within c.index_mut.ensures.value _ _
+    (length_then c.args.at (length c.args.bytes.now) (length (bytes_of c.spot_there-spot.result.inode c.index_mut.result.now.blocks))) spot lives
+    ∙ ap (has_space c.args.obj.0
+    (length_then c.args.at (length c.args.bytes.now) (length (bytes_of c.spot_there-spot.result.inode c.index_mut.result.now.blocks)))) c.self.view_is
+    ∙ ap (λ (bs : List ℕ). has_space c.args.obj.0 (length_then c.args.at (length c.args.bytes.now) (length bs)) c.args.self.now) bytes in
+    view_held _ c.self.invariant _ _ spot.within c.index_mut.ensures.value _ _ spot _ _ _ c.write.ensures.bytes
+    ∙ (λ i. if space i then holding c.args.obj.0 (spliced c.args.at c.args.bytes.now (bytes i)) (c.self.view_is i) else c.self.view_is i)

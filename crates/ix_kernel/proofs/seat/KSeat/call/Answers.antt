@@ -15,8 +15,10 @@ give-requires-clause-history g c κs = (
 
 pub returns : goal.returns
 returns g c =
-    let number : c.number-number.result ≡ c.args.self.now.number = c.number-number.ensures.number ∙ ap (λ (k : KSeatState). k.number) c.take-held.ensures.seat ∙ ap (λ (k : KSeatState). k.number) c.self.view_is in
-    let turned : Turned c.args.self.now c.self.inside.seat c.take-held.new.self c.give.new.self c.take-held.result.core c.step-answer.new.self.core c.step-answer.result (entry c.number-number.result c.args.line c.args.pid (op_of c.args.call.now)) c.args.buf.now c.step-answer.new.buf = record {
+    let number : c.number-number.result ≡ c.args.self.now.number = c.number-number.ensures.number ∙ ap (λ (k : KSeatState). k.number) c.take-held.ensures.seat
+    ∙ ap (λ (k : KSeatState). k.number) c.self.view_is in
+    let turned : Turned c.args.self.now c.self.inside.seat c.take-held.new.self c.give.new.self c.take-held.result.core c.step-answer.new.self.core
+    c.step-answer.result (entry c.number-number.result c.args.line c.args.pid (op_of c.args.call.now)) c.args.buf.now c.step-answer.new.buf = record {
       same = c.self.view_is;
       mine = number;
       base = c.take-held.ensures.base;
@@ -33,4 +35,15 @@ returns g c =
     let tells : Tells c.args.self.now c.give.new.self c.step-answer.result (entry c.args.self.now.number c.args.line c.args.pid (op_of c.args.call.now)) c.args.buf.now c.step-answer.new.buf =
     subst (λ (n : ℕ). Tells c.args.self.now c.give.new.self c.step-answer.result (entry n c.args.line c.args.pid (op_of c.args.call.now)) c.args.buf.now c.step-answer.new.buf) number
     (turn_tells _ _ _ _ _ _ _ _ _ _ turned) in
-    record { seen = tells.seen; own = tells.own; turn = tells.turn; room = tells.room; fits = c.step-answer.ensures.fits; rest = c.step-answer.ensures.rest; noninterference = tells.noninterference; looks = tells.looks; seat = tells.seat }
+    record {
+      seen = tells.seen;
+      own = tells.own;
+      turn = tells.turn;
+      room = tells.room;
+      fits = c.step-answer.ensures.fits;
+      rest =
+          c.step-answer.ensures.rest;
+      noninterference = tells.noninterference;
+      looks = tells.looks;
+      seat = tells.seat;
+    }

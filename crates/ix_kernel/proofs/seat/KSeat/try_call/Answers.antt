@@ -19,7 +19,8 @@ returns c =
     let number : c.number.result ≡ c.args.self.now.number = c.number.ensures.number ∙ ap (λ (k : KSeatState). k.number) c.in_ok-held.ensures.seat ∙ ap (λ (k : KSeatState). k.number) c.self.view_is in
     let looked : c.try_take.new.self.looks ≡ c.self.inside.seat.looks + 2 = ap (λ (k : KSeatState). k.looks) c.in_ok-held.ensures.seat in
     let looks : c.give.new.self.looks ≡ c.args.self.now.looks + 2 = ap (λ (k : KSeatState). k.looks) c.give.ensures ∙ looked ∙ ap (λ (k : KSeatState). k.looks + 2) c.self.view_is in
-    let turned : Turned c.args.self.now c.self.inside.seat c.try_take.new.self c.give.new.self c.in_ok-held.held.core c.step-answer.new.self.core c.step-answer.result (entry c.number.result c.args.line c.args.pid (op_of c.args.call.now)) c.args.buf.now c.step-answer.new.buf = record {
+    let turned : Turned c.args.self.now c.self.inside.seat c.try_take.new.self c.give.new.self c.in_ok-held.held.core c.step-answer.new.self.core
+    c.step-answer.result (entry c.number.result c.args.line c.args.pid (op_of c.args.call.now)) c.args.buf.now c.step-answer.new.buf = record {
       same = c.self.view_is;
       mine = number;
       base = c.in_ok-held.ensures.base;
@@ -36,4 +37,20 @@ returns c =
     let tells : Tells c.args.self.now c.give.new.self c.step-answer.result (entry c.args.self.now.number c.args.line c.args.pid (op_of c.args.call.now)) c.args.buf.now c.step-answer.new.buf =
     subst (λ (n : ℕ). Tells c.args.self.now c.give.new.self c.step-answer.result (entry n c.args.line c.args.pid (op_of c.args.call.now)) c.args.buf.now c.step-answer.new.buf) number
     (turn_tells _ _ _ _ _ _ _ _ _ _ turned) in
-    record { seen = tells.seen; own = tells.own; turn = tells.turn; room = tells.room; fits = c.step-answer.ensures.fits; rest = c.step-answer.ensures.rest; noninterference = tells.noninterference; seat = tells.seat ∙ ap (λ n. after_turn c.args.self.now c.give.new.self.seen n c.give.new.self.look_found) looks; busy = tt; late = tt; buffer = tt; alone = λ _. refl }
+    record {
+      seen = tells.seen;
+      own = tells.own;
+      turn = tells.turn;
+      room = tells.room;
+      fits = c.step-answer.ensures.fits;
+      rest =
+          c.step-answer.ensures.rest;
+      noninterference = tells.noninterference;
+      seat =
+          tells.seat ∙ ap (λ n. after_turn c.args.self.now c.give.new.self.seen n c.give.new.self.look_found) looks;
+      busy = tt;
+      late = tt;
+      buffer = tt;
+      alone =
+          λ _. refl;
+    }

@@ -33,12 +33,15 @@ returns-in-Some-clause-asks c =
 pub returns-in-Some-policy-clause-asks : goal.returns-in-Some-policy-clause-asks
 returns-in-Some-policy-clause-asks c =
     ap (λ (m : SessServer). mapped who_in (sessions_at.asks_at m.policy.now (record { line = m.line; pid = m.server.0; fd = m.fd.0 }) m.hand m.at)) c.new-in-Login.ensures
-    ∙ sym (ap (λ o. by_rules (option_map (λ q. q.now) o) (λ r. mapped who_in (sessions.serves r (record { line = c.args.number; pid = c.pid-server-in-Login.result.0; fd = c.fd-fd-in-Login.result.0 }) c.fd-hand.result))) c.in-Some-policy.is)
+    ∙ sym (ap (λ o. by_rules (option_map (λ q. q.now) o)
+    (λ r. mapped who_in (sessions.serves r (record { line = c.args.number; pid = c.pid-server-in-Login.result.0; fd = c.fd-fd-in-Login.result.0 })
+    c.fd-hand.result))) c.in-Some-policy.is)
     ∙ sym (login_asks _ _ _ c.args.number _ _ _ _ _ _ _ _ c.in-Login.is c.pid-server-in-Login.ensures c.fd-fd-in-Login.ensures c.fd-hand.ensures)
 
 pub returns-in-Command : goal.returns-in-Command
 returns-in-Command c =
-    let same = one_asks (option_map (λ q. q.now) c.args.policy) c.args.header.now (standing c.args.places.now) c.args.number c.args.line.now c.in_default.not-Copy c.in_default.not-Priv c.in_default.not-Login in
+    let same = one_asks (option_map (λ q. q.now) c.args.policy) c.args.header.now (standing c.args.places.now) c.args.number c.args.line.now
+    c.in_default.not-Copy c.in_default.not-Priv c.in_default.not-Login in
     let due = one_due c.args.header.now (standing c.args.places.now) c.args.number c.args.line.now
     (⊎_elim (λ h. inl (sym c.requires.role ∙ h)) (λ h. inr (sym c.requires.role ∙ h)) c.in-Command.is) c.in_default.not-Copy in
     record {

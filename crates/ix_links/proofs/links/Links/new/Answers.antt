@@ -12,7 +12,11 @@ insert-requires-clause-previous c = last_of_range c.loop-index.slots _ c.loop-in
 
 pub loop-index-preserved : goal.loop-index-preserved
 loop-index-preserved c =
-    let more = one_more c.loop-index.slots c.insert.new.items c.loop-index.unused c.insert.new.ends c.loop-index.index c.loop-index.invariant.1 (omega (arith, c.loop-index.invariant.0, c.loop-index-test.true)) c.insert.ensures.items c.insert.ensures.ends in
+    let more = one_more c.loop-index.slots c.insert.new.items c.loop-index.unused c.insert.new.ends c.loop-index.index c.loop-index.invariant.1 (omega (
+      arith,
+      c.loop-index.invariant.0,
+      c.loop-index-test.true,
+    )) c.insert.ensures.items c.insert.ensures.ends in
     (more.0 ∙ c.loop-index.invariant.0, more.1)
 
 abbrev no_ends : Ends
@@ -23,11 +27,31 @@ invariant_of-result c =
     let all : c.loop-index.index ≡ c.args.items = omega (arith, c.loop-index-test.false, c.loop-index.auto.index-end) in
     let chain = subst (λ n. IsChain c.loop-index.slots c.loop-index.unused (range_with_len 0 n)) all c.loop-index.invariant.1 in
     let ends : c.in_ok-ends.ends.items ≡ replicate c.args.chains no_ends = search rules in
-    (new_pool (record { items = with_items c.in_ok-pool.pool c.loop-index.slots; chains = c.in_ok-ends.ends; unused = c.loop-index.unused; free = c.args.items }) no_ends c.args.items c.args.chains c.loop-index.slots (omega arith) (with_items_is c.in_ok-pool.pool c.loop-index.slots (omega (arith, c.loop-index.invariant.0, c.in_ok-pool.ensures.len))) c.loop-index.invariant.0 chain ends refl refl refl).whole
+    (new_pool (record {
+      items = with_items c.in_ok-pool.pool c.loop-index.slots;
+      chains = c.in_ok-ends.ends;
+      unused = c.loop-index.unused;
+      free =
+          c.args.items;
+    }) no_ends c.args.items c.args.chains c.loop-index.slots (omega arith) (with_items_is c.in_ok-pool.pool c.loop-index.slots (omega (
+      arith,
+      c.loop-index.invariant.0,
+      c.in_ok-pool.ensures.len,
+    ))) c.loop-index.invariant.0 chain ends refl refl refl).whole
 
 pub returns : goal.returns
 returns c =
     let all : c.loop-index.index ≡ c.args.items = omega (arith, c.loop-index-test.false, c.loop-index.auto.index-end) in
     let chain = subst (λ n. IsChain c.loop-index.slots c.loop-index.unused (range_with_len 0 n)) all c.loop-index.invariant.1 in
     let ends : c.in_ok-ends.ends.items ≡ replicate c.args.chains no_ends = search rules in
-    (new_pool (record { items = with_items c.in_ok-pool.pool c.loop-index.slots; chains = c.in_ok-ends.ends; unused = c.loop-index.unused; free = c.args.items }) no_ends c.args.items c.args.chains c.loop-index.slots (omega arith) (with_items_is c.in_ok-pool.pool c.loop-index.slots (omega (arith, c.loop-index.invariant.0, c.in_ok-pool.ensures.len))) c.loop-index.invariant.0 chain ends refl refl refl).shown
+    (new_pool (record {
+      items = with_items c.in_ok-pool.pool c.loop-index.slots;
+      chains = c.in_ok-ends.ends;
+      unused = c.loop-index.unused;
+      free =
+          c.args.items;
+    }) no_ends c.args.items c.args.chains c.loop-index.slots (omega arith) (with_items_is c.in_ok-pool.pool c.loop-index.slots (omega (
+      arith,
+      c.loop-index.invariant.0,
+      c.in_ok-pool.ensures.len,
+    ))) c.loop-index.invariant.0 chain ends refl refl refl).shown

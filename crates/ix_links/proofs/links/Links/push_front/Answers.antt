@@ -13,14 +13,16 @@ insert-requires-clause-next c =
 
 pub invariant_of-self : goal.invariant_of-self
 invariant_of-self c =
-    (closes_front c.self.inside c.args.chain c.in_ok-index.index c.index_mut-ends.result.now c.insert.new.ends c.unlink.new.ends c.as_mut_slice-items.result.now c.unlink.new.items c.insert.new.items c.self.invariant
+    (closes_front c.self.inside c.args.chain c.in_ok-index.index c.index_mut-ends.result.now c.insert.new.ends c.unlink.new.ends c.as_mut_slice-items.result.now
+    c.unlink.new.items c.insert.new.items c.self.invariant
     c.in_ok-index.was
     (subst (λ (v : Chains). c.args.chain < length v.chains) (sym c.self.view_is) c.requires)
     c.index_mut-ends.ensures.value c.as_mut_slice-items.ensures.value c.unlink.ensures.items c.unlink.ensures.ends c.insert.ensures.items c.insert.ensures.ends).whole
 
 pub returns-clause-pushed : goal.returns-clause-pushed
 returns-clause-pushed c =
-    (closes_front c.self.inside c.args.chain c.in_ok-index.index c.index_mut-ends.result.now c.insert.new.ends c.unlink.new.ends c.as_mut_slice-items.result.now c.unlink.new.items c.insert.new.items c.self.invariant
+    (closes_front c.self.inside c.args.chain c.in_ok-index.index c.index_mut-ends.result.now c.insert.new.ends c.unlink.new.ends c.as_mut_slice-items.result.now
+    c.unlink.new.items c.insert.new.items c.self.invariant
     c.in_ok-index.was
     (subst (λ (v : Chains). c.args.chain < length v.chains) (sym c.self.view_is) c.requires)
     c.index_mut-ends.ensures.value c.as_mut_slice-items.ensures.value c.unlink.ensures.items c.unlink.ensures.ends c.insert.ensures.items c.insert.ensures.ends).shown

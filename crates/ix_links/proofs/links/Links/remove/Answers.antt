@@ -51,14 +51,16 @@ overflow_add-self c =
 
 pub invariant_of-self : goal.invariant_of-self
 invariant_of-self c =
-    (closes_removed c.self.inside c.args.chain c.args.index c.index_mut.result.now c.unlink.new.ends c.insert.new.ends c.as_mut_slice-items.result.now c.unlink.new.items c.insert.new.items c.self.invariant
+    (closes_removed c.self.inside c.args.chain c.args.index c.index_mut.result.now c.unlink.new.ends c.insert.new.ends c.as_mut_slice-items.result.now
+    c.unlink.new.items c.insert.new.items c.self.invariant
     (subst (λ (v : Chains). c.args.chain < length v.chains) (sym c.self.view_is) c.requires.chain)
     (subst (λ v. Contains (chain_of c.args.chain v) c.args.index) (sym c.self.view_is) c.requires.held)
     c.index_mut.ensures.value c.as_mut_slice-items.ensures.value c.unlink.ensures.items c.unlink.ensures.ends c.insert.ensures.items c.insert.ensures.ends).whole
 
 pub returns : goal.returns
 returns c =
-    (closes_removed c.self.inside c.args.chain c.args.index c.index_mut.result.now c.unlink.new.ends c.insert.new.ends c.as_mut_slice-items.result.now c.unlink.new.items c.insert.new.items c.self.invariant
+    (closes_removed c.self.inside c.args.chain c.args.index c.index_mut.result.now c.unlink.new.ends c.insert.new.ends c.as_mut_slice-items.result.now
+    c.unlink.new.items c.insert.new.items c.self.invariant
     (subst (λ (v : Chains). c.args.chain < length v.chains) (sym c.self.view_is) c.requires.chain)
     (subst (λ v. Contains (chain_of c.args.chain v) c.args.index) (sym c.self.view_is) c.requires.held)
     c.index_mut.ensures.value c.as_mut_slice-items.ensures.value c.unlink.ensures.items c.unlink.ensures.ends c.insert.ensures.items c.insert.ensures.ends).shown

@@ -4,7 +4,8 @@ use Rattle.ix_machine.proofs.Births.{may_bear, born_joined, parent_of}
 use Rattle.ix_machine.proofs.machine.Machine.bear.Goals as goal
 
 pub add_child-requires : goal.add_child-requires
-add_child-requires c = may_bear c.self.inside.files c.self.inside.procs c.self.inside.log c.args.self.now c.args.pid.0 c.args.keep c.self.view_is c.self.invariant c.requires.sound c.requires.few c.requires.kept
+add_child-requires c = may_bear c.self.inside.files c.self.inside.procs c.self.inside.log c.args.self.now c.args.pid.0 c.args.keep c.self.view_is
+    c.self.invariant c.requires.sound c.requires.few c.requires.kept
 
 pub invariant_of-self : goal.invariant_of-self
 invariant_of-self c =

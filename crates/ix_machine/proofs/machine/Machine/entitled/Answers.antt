@@ -6,4 +6,8 @@ use Rattle.ix_model.specs.world.World.{at}
 use Rattle.ix_machine.proofs.machine.Machine.entitled.Goals as goal
 
 pub returns : goal.returns
-returns c = record { row = entitled_is c.args.self.now.frame c.args.pid.0 (with_caller c.who.result.now (unwrap_or (at c.args.self.now.frame.processes c.args.pid.0) no_process)) c.privs_of.result c.args.x c.may.result c.who.ensures.living c.privs_of.ensures c.may.ensures }
+returns c = record {
+  row =
+      entitled_is c.args.self.now.frame c.args.pid.0 (with_caller c.who.result.now (unwrap_or (at c.args.self.now.frame.processes c.args.pid.0) no_process))
+      c.privs_of.result c.args.x c.may.result c.who.ensures.living c.privs_of.ensures c.may.ensures;
+}

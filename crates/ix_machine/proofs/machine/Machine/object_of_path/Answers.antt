@@ -12,9 +12,11 @@ returns-then-not-lives g c = no_object c.args.self.now.frame c.args.pid.0 (path_
 pub returns-in-Found : goal.returns-in-Found
 returns-in-Found g c =
     ap (λ (o : Outcome). object_sought (sought_of o)) (sym c.in-Found.is)
-    ∙ object_walked c.self.inside.files c.self.inside.procs c.self.inside.log c.args.self.now c.self.view_is c.args.pid.0 (path_of c.args.path.now) c.who.result.now _ c.walk.result c.who.ensures.living refl c.walk.ensures.walk
+    ∙ object_walked c.self.inside.files c.self.inside.procs c.self.inside.log c.args.self.now c.self.view_is c.args.pid.0 (path_of c.args.path.now)
+    c.who.result.now _ c.walk.result c.who.ensures.living refl c.walk.ensures.walk
 
 pub returns-in_default : goal.returns-in_default
 returns-in_default g c =
     none_found c.walk.result.outcome c.in_default.not-Found
-    ∙ object_walked c.self.inside.files c.self.inside.procs c.self.inside.log c.args.self.now c.self.view_is c.args.pid.0 (path_of c.args.path.now) c.who.result.now _ c.walk.result c.who.ensures.living refl c.walk.ensures.walk
+    ∙ object_walked c.self.inside.files c.self.inside.procs c.self.inside.log c.args.self.now c.self.view_is c.args.pid.0 (path_of c.args.path.now)
+    c.who.result.now _ c.walk.result c.who.ensures.living refl c.walk.ensures.walk

@@ -10,19 +10,29 @@ unchanged p q pids none false is = refl
 unchanged p q pids none true is = ap (λ k. row_of k pids) (eqb-true q p is) ∙ none
 
 pub returns-in_default-clause-rows : goal.returns-in_default-clause-rows
-returns-in_default-clause-rows c = λ q. unchanged c.args.pid.0 q c.args.self.now.pids ((ap (λ s. row_of c.args.pid.0 s.pids) (sym c.self.view_is) ∙ row_read _ _ _ c.self.invariant c.args.pid.0 _ _ c.deref.ensures.value c.in_default.ensures)) (q == c.args.pid.0) refl
+returns-in_default-clause-rows c =
+    λ q. unchanged c.args.pid.0 q c.args.self.now.pids ((ap (λ s. row_of c.args.pid.0 s.pids) (sym c.self.view_is)
+    ∙ row_read _ _ _ c.self.invariant c.args.pid.0 _ _ c.deref.ensures.value c.in_default.ensures)) (q == c.args.pid.0) refl
 
 pub returns-in_default-clause-free : goal.returns-in_default-clause-free
-returns-in_default-clause-free c = let none = (ap (λ s. row_of c.args.pid.0 s.pids) (sym c.self.view_is) ∙ row_read _ _ _ c.self.invariant c.args.pid.0 _ _ c.deref.ensures.value c.in_default.ensures) in rw none refl
+returns-in_default-clause-free c = let none =
+    (ap (λ s. row_of c.args.pid.0 s.pids) (sym c.self.view_is) ∙ row_read _ _ _ c.self.invariant c.args.pid.0 _ _ c.deref.ensures.value c.in_default.ensures) in
+    rw none refl
 
 pub remove-requires-clause-held : goal.remove-requires-clause-held
 remove-requires-clause-held c = row_held _ _ _ c.self.invariant c.is_pool.ensures c.args.pid.0 c.in-Some.row (row_read _ _ _ c.self.invariant c.args.pid.0 _ _ c.deref.ensures.value c.in-Some.ensures)
 
 pub index_mut-requires : goal.index_mut-requires
-index_mut-requires c = omega (arith, row_low _ _ _ c.self.invariant c.is_pool.ensures c.args.pid.0 c.in-Some.row (row_read _ _ _ c.self.invariant c.args.pid.0 _ _ c.deref.ensures.value c.in-Some.ensures), c.self.inside.pids.ok)
+index_mut-requires c = omega (
+  arith,
+  row_low _ _ _ c.self.invariant c.is_pool.ensures c.args.pid.0 c.in-Some.row (row_read _ _ _ c.self.invariant c.args.pid.0 _ _ c.deref.ensures.value
+      c.in-Some.ensures),
+  c.self.inside.pids.ok,
+)
 
 pub invariant_of-self : goal.invariant_of-self
-invariant_of-self c = seated_fewer _ _ _ c.self.invariant c.is_pool.ensures c.args.pid.0 c.in-Some.row (row_read _ _ _ c.self.invariant c.args.pid.0 _ _ c.deref.ensures.value c.in-Some.ensures) c.remove.new.self c.remove.ensures
+invariant_of-self c = seated_fewer _ _ _ c.self.invariant c.is_pool.ensures c.args.pid.0 c.in-Some.row
+    (row_read _ _ _ c.self.invariant c.args.pid.0 _ _ c.deref.ensures.value c.in-Some.ensures) c.remove.new.self c.remove.ensures
 
 pub returns-clause-rows : goal.returns-clause-rows
 returns-clause-rows c = λ q.
@@ -31,6 +41,7 @@ returns-clause-rows c = λ q.
 
 pub returns-clause-free : goal.returns-clause-free
 returns-clause-free c =
-    let row : row_of c.args.pid.0 c.args.self.now.pids ≡ Some c.in-Some.row = ap (λ s. row_of c.args.pid.0 s.pids) (sym c.self.view_is) ∙ row_read _ _ _ c.self.invariant c.args.pid.0 _ _ c.deref.ensures.value c.in-Some.ensures in
+    let row : row_of c.args.pid.0 c.args.self.now.pids ≡ Some c.in-Some.row = ap (λ s. row_of c.args.pid.0 s.pids) (sym c.self.view_is)
+    ∙ row_read _ _ _ c.self.invariant c.args.pid.0 _ _ c.deref.ensures.value c.in-Some.ensures in
     let free : length c.self.inside.buckets.free ≡ c.args.self.now.free = ap (λ (s : RowOwners). s.free) c.self.view_is in
     rw row (omega (arith, free, ap (λ s. length s.free) c.remove.ensures))

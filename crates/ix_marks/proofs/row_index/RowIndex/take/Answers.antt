@@ -7,7 +7,8 @@ pub index_mut-requires : goal.index_mut-requires
 index_mut-requires c = omega (arith, index_low _ _ _ c.self.invariant c.is_pool.ensures c.args.pid.0 c.in-Some.row (sym c.in-Some.ensures.moved), c.self.inside.pids.ok)
 
 pub invariant_of-self : goal.invariant_of-self
-invariant_of-self c = seated_more _ _ _ c.self.invariant c.is_pool.ensures c.args.pid.0 c.in-Some.row (sym c.in-Some.ensures.moved) (ap (λ s. row_of c.args.pid.0 s.pids) c.self.view_is ∙ c.requires.none) c.push_back.new.self c.push_back.ensures.pushed
+invariant_of-self c = seated_more _ _ _ c.self.invariant c.is_pool.ensures c.args.pid.0 c.in-Some.row (sym c.in-Some.ensures.moved)
+    (ap (λ s. row_of c.args.pid.0 s.pids) c.self.view_is ∙ c.requires.none) c.push_back.new.self c.push_back.ensures.pushed
 
 pub returns-clause-rows : goal.returns-clause-rows
 returns-clause-rows c = λ q.
@@ -18,4 +19,8 @@ pub returns-clause-unused : goal.returns-clause-unused
 returns-clause-unused c = λ q h. no_one's _ _ _ c.self.invariant c.is_pool.ensures c.args.pid.0 c.in-Some.row (sym c.in-Some.ensures.moved) q (ap (λ s. row_of q s.pids) c.self.view_is ∙ h)
 
 pub returns-clause-below : goal.returns-clause-below
-returns-clause-below c = omega (arith, index_low _ _ _ c.self.invariant c.is_pool.ensures c.args.pid.0 c.in-Some.row (sym c.in-Some.ensures.moved), ap (λ (s : RowOwners). length s.pids) c.self.view_is)
+returns-clause-below c = omega (
+  arith,
+  index_low _ _ _ c.self.invariant c.is_pool.ensures c.args.pid.0 c.in-Some.row (sym c.in-Some.ensures.moved),
+  ap (λ (s : RowOwners). length s.pids) c.self.view_is,
+)

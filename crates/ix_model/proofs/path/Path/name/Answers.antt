@@ -4,7 +4,8 @@ use Rattle.ix_model.proofs.texts.Reading.{told, ended, went}
 use Rattle.ix_model.proofs.path.Path.name.Goals as goal
 
 pub returns-then-is_none : goal.returns-then-is_none
-returns-then-is_none c = sym (ended _ _ _ c.names.counter c.args.i c.next.result c.next.ensures.steps c.names.invariant (c.is_none.ensures ∙ ap not c.if-is_none.true) (omega (arith, c.names-test.true)))
+returns-then-is_none c = sym (ended _ _ _ c.names.counter c.args.i c.next.result c.next.ensures.steps c.names.invariant (c.is_none.ensures
+    ∙ ap not c.if-is_none.true) (omega (arith, c.names-test.true)))
 
 pub names-preserved : goal.names-preserved
 names-preserved c = went _ _ _ c.names.counter c.next.result c.next.ensures.steps c.names.invariant (c.is_none.ensures ∙ ap not c.if-is_none.false)

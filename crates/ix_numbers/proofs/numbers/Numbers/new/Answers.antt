@@ -15,7 +15,12 @@ loop-n-init c = record {
 pub loop-n-preserved : goal.loop-n-preserved
 loop-n-preserved c =
     let so = c.loop-n.invariant in record {
-      heaped = more_heaped _ _ _ _ so.heaped _ c.in-Ok.ensures.permutation _ _ (c.in-Ok.ensures.heap_order so.heaped.ordered) c.in-Ok.ensures.len (omega (arith, so.room, c.loop-n-test.true, c.in-Ok.ensures.capacity)) (omega (arith, c.ranges.limit, c.loop-n-test.true));
+      heaped = more_heaped _ _ _ _ so.heaped _ c.in-Ok.ensures.permutation _ _ (c.in-Ok.ensures.heap_order so.heaped.ordered) c.in-Ok.ensures.len (omega (
+        arith,
+        so.room,
+        c.loop-n-test.true,
+        c.in-Ok.ensures.capacity,
+      )) (omega (arith, c.ranges.limit, c.loop-n-test.true));
       all = more_marks _ _ _ _ so.heaped _ c.in-Ok.ensures.permutation ∙ ap (λ (marks : List Bool). marks ++ true ∷ []) so.all ∙ replicate_more c.loop-n.n true;
       room = omega (arith, so.room, c.in-Ok.ensures.capacity);
     }

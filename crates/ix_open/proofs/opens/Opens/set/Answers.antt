@@ -5,7 +5,8 @@ use Rattle.ix_open.proofs.Indexed.{index_edited}
 use Rattle.ix_open.proofs.opens.Opens.set.Goals as goal
 
 pub key_of-key-requires : goal.key_of-key-requires
-key_of-key-requires c = ap (λ (t : List (Option ℕ)). is_some (at t c.args.id)) c.as_slice.ensures.value ∙ key_there c.self.inside.entries c.self.inside.keys.items _ _ c.self.view_is c.args.id (on_some _ _ _ c.requires.there)
+key_of-key-requires c = ap (λ (t : List (Option ℕ)). is_some (at t c.args.id)) c.as_slice.ensures.value
+    ∙ key_there c.self.inside.entries c.self.inside.keys.items _ _ c.self.view_is c.args.id (on_some _ _ _ c.requires.there)
 
 pub invariant_of-self : goal.invariant_of-self
 invariant_of-self c =
@@ -13,7 +14,8 @@ invariant_of-self c =
       index_edited c.self.inside.entries c.self.inside.keys.items c.self.invariant.0 c.args.id c.key_of-key.result c.args.entry key (ap is_some c.index_mut.ensures.value),
       (
         c.self.invariant.1.0,
-        counted_edited c.self.inside.entries c.self.inside.keys.items _ _ c.self.view_is _ c.self.invariant.1.1 c.self.invariant.0 c.args.id c.key_of-key.result c.args.entry _ key c.index_mut.ensures.value c.requires.there c.requires.owned,
+        counted_edited c.self.inside.entries c.self.inside.keys.items _ _ c.self.view_is _ c.self.invariant.1.1 c.self.invariant.0 c.args.id c.key_of-key.result
+            c.args.entry _ key c.index_mut.ensures.value c.requires.there c.requires.owned,
       ),
     )
 

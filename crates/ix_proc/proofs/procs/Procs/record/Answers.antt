@@ -13,7 +13,9 @@ returns-in_err-k c =
     let no_record = absent c.self.inside.slots.items c.self.inside.records.items c.self.inside.next (vec_capacity c.self.inside.slots) c.self.invariant.0 _ c.self.view_is c.args.pid.0 none in
     record {
       process = ap (λ (r : Option (Bor Record)). process_in (option_copied r)) c.from_residual.ensures ∙ sym no_record;
-      status = ap (λ (r : Option (Bor Record)). status_in (option_copied r)) c.from_residual.ensures ∙ sym (no_status c.self.inside.slots.items c.self.inside.records.items c.self.inside.next (vec_capacity c.self.inside.slots) c.self.invariant.0 _ c.self.view_is c.args.pid.0 none);
+      status = ap (λ (r : Option (Bor Record)). status_in (option_copied r)) c.from_residual.ensures
+          ∙ sym (no_status c.self.inside.slots.items c.self.inside.records.items c.self.inside.next (vec_capacity c.self.inside.slots) c.self.invariant.0 _
+          c.self.view_is c.args.pid.0 none);
       named = subst (λ (r : Option (Bor Record)). IfSome r (λ b. b.now.who.pid.0 ≡ c.args.pid.0)) (sym c.from_residual.ensures) tt;
     }
 
@@ -27,9 +29,15 @@ pub returns : goal.returns
 returns c =
     let there : Finds (Some c.in_ok-k.k) c.self.inside.slots.items c.args.pid.0 = subst (λ (t : List Slot). Finds (Some c.in_ok-k.k) t c.args.pid.0) c.as_slice.ensures.value c.in_ok-k.ensures in
     let slot = slot_of c.self.inside.slots.items c.self.inside.records.items c.self.inside.next c.self.invariant.0 c.in_ok-k.k c.args.pid.0 c.index.result.now there c.index.ensures in
-    let read : c.index-2.result.now ≡ record_at c.self.inside.records.items c.index.result.now.link = get_or_read c.self.inside.records.items c.index.result.now.link _ (c.self.invariant.0.inside c.args.pid.0 c.index.result.now slot) c.index-2.ensures nobody in
+    let read : c.index-2.result.now ≡ record_at c.self.inside.records.items c.index.result.now.link =
+    get_or_read c.self.inside.records.items c.index.result.now.link _ (c.self.invariant.0.inside c.args.pid.0 c.index.result.now slot) c.index-2.ensures
+    nobody in
     record {
-      process = ap (λ (r : Record). Some (process_of r)) read ∙ sym (process_is c.self.inside.slots.items c.self.inside.records.items c.self.inside.next (vec_capacity c.self.inside.slots) c.self.invariant.0 _ c.self.view_is c.args.pid.0 c.index.result.now slot);
-      status = ap (λ (r : Record). status_in (Some r)) read ∙ sym (status_is c.self.inside.slots.items c.self.inside.records.items c.self.inside.next (vec_capacity c.self.inside.slots) c.self.invariant.0 _ c.self.view_is c.args.pid.0 c.index.result.now slot);
+      process = ap (λ (r : Record). Some (process_of r)) read
+          ∙ sym (process_is c.self.inside.slots.items c.self.inside.records.items c.self.inside.next (vec_capacity c.self.inside.slots) c.self.invariant.0 _
+          c.self.view_is c.args.pid.0 c.index.result.now slot);
+      status = ap (λ (r : Record). status_in (Some r)) read
+          ∙ sym (status_is c.self.inside.slots.items c.self.inside.records.items c.self.inside.next (vec_capacity c.self.inside.slots) c.self.invariant.0 _
+          c.self.view_is c.args.pid.0 c.index.result.now slot);
       named = ap (λ (r : Record). r.who.pid.0) read ∙ c.self.invariant.0.named c.args.pid.0 c.index.result.now slot;
     }

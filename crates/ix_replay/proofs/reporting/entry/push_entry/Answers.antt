@@ -18,4 +18,6 @@ returns c before is =
     let P : List ℕ → Type 0 = λ t. OnOk c.push_line.result (c.push_line.new.out.items ≡ c.args.out.now.items ++ t) in
     let Q : Form → Type 0 = λ form. P (entry_line form c.len.result c.lane_name-lane.result.now e c.args.reply.now c.args.bytes.now (option_map (λ (v : ProcView). v.label) c.process-caller.result)) in
     let label = ap (λ o. option_map (λ (v : ProcView). v.label) o) c.process-caller.ensures ∙ label_shown _ in
-    subst P (line_of_next (form_told c.args.script.now) (lanes_of c.args.script.now) before c.args.core.now e c.args.reply.now c.args.bytes.now c.lane_name-lane.result.now c.len.result _ is c.len.ensures.len c.lane_name-lane.ensures label) (subst Q c.form.ensures (c.push_line.ensures c.args.seat))
+    subst P (line_of_next (form_told c.args.script.now) (lanes_of c.args.script.now) before c.args.core.now e c.args.reply.now c.args.bytes.now
+    c.lane_name-lane.result.now c.len.result _ is c.len.ensures.len c.lane_name-lane.ensures label)
+    (subst Q c.form.ensures (c.push_line.ensures c.args.seat))

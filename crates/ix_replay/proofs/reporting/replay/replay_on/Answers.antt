@@ -42,7 +42,8 @@ loop-made-preserved g c =
     let at = sym (counted_from_one c.args.history.now.events c.loop-made.made) ∙ sym c.in-Some.ensures in
     let bytes : take c.count_in.result c.make-reply.new.buf ≡ (next old e).bytes = ap (λ n. take n c.make-reply.new.buf) c.count_in.ensures ∙ c.make-reply.ensures.shown in
     record {
-      made = subst (λ (h : History). Remade c.args.history.now h (c.loop-made.made + 1)) (sym c.make-reply.ensures.core) (remade_next c.args.history.now old c.loop-made.made e c.loop-made.invariant.made at);
+      made = subst (λ (h : History). Remade c.args.history.now h (c.loop-made.made + 1)) (sym c.make-reply.ensures.core)
+          (remade_next c.args.history.now old c.loop-made.made e c.loop-made.invariant.made at);
       seen = λ first known. c.see.ensures.knows first old (record { history = c.make-reply.ensures.core; reply = c.make-reply.ensures.reply; bytes = bytes }) (c.loop-made.invariant.seen first known);
     }
 

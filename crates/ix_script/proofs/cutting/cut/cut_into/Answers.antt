@@ -9,7 +9,12 @@ pub words-init : goal.words-init
 words-init c = begin _ _ _ c.requires c.if_any-rest.ensures.words
 
 pub overflow_add-count : goal.overflow_add-count
-overflow_add-count c = omega (arith, c.if_any-rest.ensures.few, room c.args.text.now _ _ _ _ (option_map_or (λ front. pieces spot.Front front.now) c.words.rest []) c.first_word.result.0.now (option_map_or (λ front. pieces spot.Front front.now) c.first_word.result.1 []) (rw c.in-Some.is c.first_word.ensures.pieces) c.words.invariant)
+overflow_add-count c = omega (
+  arith,
+  c.if_any-rest.ensures.few,
+  room c.args.text.now _ _ _ _ (option_map_or (λ front. pieces spot.Front front.now) c.words.rest []) c.first_word.result.0.now
+      (option_map_or (λ front. pieces spot.Front front.now) c.first_word.result.1 []) (rw c.in-Some.is c.first_word.ensures.pieces) c.words.invariant,
+)
 
 pub words-preserved : goal.words-preserved
 words-preserved c =

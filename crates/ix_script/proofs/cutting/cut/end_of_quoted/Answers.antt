@@ -9,7 +9,9 @@ bytes-init c = gap_start (gap_from spot.Front c.args.text.now)
 
 pub returns-then-parts_words-clause-pieces : goal.returns-then-parts_words-clause-pieces
 returns-then-parts_words-clause-pieces c =
-    cut_at_gap spot.Front c.args.text.now ∙ ap (cut_at c.args.text.now) (gap_found (gap_from spot.Front c.args.text.now) c.bytes.at c.args.text.now c.bytes.i c.bytes-test.true (sym c.parts_words.ensures ∙ c.if-parts_words.true) c.bytes.invariant)
+    cut_at_gap spot.Front c.args.text.now
+    ∙ ap (cut_at c.args.text.now) (gap_found (gap_from spot.Front c.args.text.now) c.bytes.at c.args.text.now c.bytes.i c.bytes-test.true
+    (sym c.parts_words.ensures ∙ c.if-parts_words.true) c.bytes.invariant)
 
 pub bytes-preserved : goal.bytes-preserved
 bytes-preserved c =

@@ -53,5 +53,6 @@ returns c =
     let ends : List ℕ = c.self.inside.ends.items in
     let long : c.in-Ok.end ≡ length text + length c.args.text.now = omega (arith, c.in-Ok.ensures, ap length c.as_slice.ensures.value) in
     let is : form ≡ form_told (held old 0 text ends ++ line ∷ []) = sym c.requires.form ∙ ap (λ (ls : List Line). form_told (ls ++ line ∷ [])) (sym c.self.view_is) in
-    held_after old form line text c.args.text.now ends c.extend_from_slice.new.self.items c.push.new.self.items c.in-Ok.end c.in-Ok-extend_from_slice.ensures.items c.in-Ok-push.ensures.items long c.self.invariant.2 is c.self.invariant.0
+    held_after old form line text c.args.text.now ends c.extend_from_slice.new.self.items c.push.new.self.items c.in-Ok.end
+    c.in-Ok-extend_from_slice.ensures.items c.in-Ok-push.ensures.items long c.self.invariant.2 is c.self.invariant.0
     ∙ ap (λ (ls : List Line). ls ++ line ∷ []) c.self.view_is

@@ -12,7 +12,13 @@ pub returns-then-i-ends : goal.returns-then-i-ends
 returns-then-i-ends c =
     let text : List ℕ = c.self.inside.text.items in
     let ends : List ℕ = c.self.inside.ends.items in
-    ap (λ (ls : List Line). slice_get ls c.args.i) (sym c.self.view_is) ∙ slice_get_past (held c.self.inside.form 0 text ends) c.args.i (omega (arith, length-held c.self.inside.form 0 text ends, ap length c.as_slice-ends.ensures.value, c.if-i-ends.true))
+    ap (λ (ls : List Line). slice_get ls c.args.i) (sym c.self.view_is)
+    ∙ slice_get_past (held c.self.inside.form 0 text ends) c.args.i (omega (
+      arith,
+      length-held c.self.inside.form 0 text ends,
+      ap length c.as_slice-ends.ensures.value,
+      c.if-i-ends.true,
+    ))
 
 pub part-requires-clause-low : goal.part-requires-clause-low
 part-requires-clause-low c =
@@ -31,7 +37,9 @@ returns c =
     let labels : Form = c.self.inside.form in
     let told = c.self.invariant.2 ∙ ap form_told c.self.view_is in
     let at = line_at labels 0 text ends c.args.i c.self.invariant.0 (omega (arith, ap length c.as_slice-ends.ensures.value, c.if-i-ends.false)) in
-    let part : c.part.result.now ≡ between (begin_at 0 ends c.args.i) (get_or ends c.args.i 0) text = rw (c.part.ensures, c.begin-begin.ensures, c.as_slice-ends.ensures.value, c.as_slice.ensures.value) refl in (
+    let part : c.part.result.now ≡ between (begin_at 0 ends c.args.i) (get_or ends c.args.i 0) text =
+    rw (c.part.ensures, c.begin-begin.ensures, c.as_slice-ends.ensures.value, c.as_slice.ensures.value) refl in (
       subst (λ (f : Form). IsLine f c.part.result.now) told (subst (IsLine labels) (sym part) at.line),
-      ap (λ (ls : List Line). slice_get ls c.args.i) (sym c.self.view_is) ∙ at.is ∙ ap (λ (t : List ℕ). Some (line_in labels t)) (sym part) ∙ ap (λ (f : Form). Some (line_in f c.part.result.now)) told,
+      ap (λ (ls : List Line). slice_get ls c.args.i) (sym c.self.view_is) ∙ at.is ∙ ap (λ (t : List ℕ). Some (line_in labels t)) (sym part)
+          ∙ ap (λ (f : Form). Some (line_in f c.part.result.now)) told,
     )

@@ -6,7 +6,8 @@ use Rattle.ix_script.proofs.plan.Plan.add_at.Goals as goal
 pub returns-in-Some : goal.returns-in-Some
 returns-in-Some c =
     on_ok_weaker c.add.result
-    (λ more was. plan_more c.args.lines.now c.args.index c.in-Some.line c.add.new.self c.requires (in_it _ c.in-Some.line (sym c.header_line.ensures ∙ c.in-Some.is)) (more (take c.args.index c.args.lines.now) was))
+    (λ more was. plan_more c.args.lines.now c.args.index c.in-Some.line c.add.new.self c.requires (in_it _ c.in-Some.line (sym c.header_line.ensures
+    ∙ c.in-Some.is)) (more (take c.args.index c.args.lines.now) was))
     c.add.ensures
 
 pub returns-in-None : goal.returns-in-None

@@ -57,8 +57,10 @@ invariant_of-result c =
     let pipes : c.in_ok-new-2.field-0 ≡ bare_pipes c.args.config.now = c.in_ok-new-2.ensures in
     let opens : c.in_ok-new-3.field-0 ≡ bare_opens c.args.config.now = c.in_ok-new-3.ensures ∙ ap (λ (n : ℕ). none_open limits.opens (n + limits.pipes)) first in
     let homes : c.in_ok-homes_of.field-0.items ≡ bare_homes c.args.config.now = c.in_ok-homes_of.ensures ∙ (λ i. homes_at_first (first i + limits.pipes) (c.len.ensures i)) in
-    let few : first_pipe c.args.config.now.fss ≤ 1048576 = omega (arith, first, c.count_inodes-first_pipe.ensures.few) in
-    (joined_as c.args.config.now _ _ _ _ _ nodes names pipes opens homes (bare_joined c.args.config.now c.requires few), first ∙ first_is c.args.config.now c.requires ∙ ap (λ (ns : Nodes). length ns.nodes) (sym nodes))
+    let few : first_pipe c.args.config.now.fss ≤ 1048576 = omega (arith, first, c.count_inodes-first_pipe.ensures.few) in (
+      joined_as c.args.config.now _ _ _ _ _ nodes names pipes opens homes (bare_joined c.args.config.now c.requires few),
+      first ∙ first_is c.args.config.now c.requires ∙ ap (λ (ns : Nodes). length ns.nodes) (sym nodes),
+    )
 
 pub returns : goal.returns
 returns c =

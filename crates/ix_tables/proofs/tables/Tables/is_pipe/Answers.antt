@@ -6,7 +6,8 @@ use Rattle.ix_tables.proofs.Telling.{inode_no_pipe, pipe_is_pipe}
 use Rattle.ix_tables.proofs.tables.Tables.is_pipe.Goals as goal
 
 pub returns-then-n-self : goal.returns-then-n-self
-returns-then-n-self c = sym (inode_no_pipe c.self.inside.inodes c.self.inside.names c.self.inside.pipes c.args.self.now.objects (ap (λ (v : Parts). v.objects) c.self.view_is) c.args.n (omega (arith, c.if-n-self.true, c.self.invariant.1)))
+returns-then-n-self c = sym (inode_no_pipe c.self.inside.inodes c.self.inside.names c.self.inside.pipes c.args.self.now.objects
+    (ap (λ (v : Parts). v.objects) c.self.view_is) c.args.n (omega (arith, c.if-n-self.true, c.self.invariant.1)))
 
 pub returns : goal.returns
 returns c =

@@ -21,10 +21,13 @@ pub returns-in_err-inode-clause-object : goal.returns-in_err-inode-clause-object
 returns-in_err-inode-clause-object c =
     let none = sym c.in_err-inode.was ∙ c.get.ensures.told in
     subst (λ r. Shows c.args.self.now.objects c.args.n r) (sym c.from_residual.ensures)
-    (inode_shows c.self.inside.inodes c.self.inside.names c.self.inside.pipes c.args.self.now.objects (ap (λ (v : Parts). v.objects) c.self.view_is) c.args.n None (omega (arith, c.if-n-self.false, c.self.invariant.1)) none)
+    (inode_shows c.self.inside.inodes c.self.inside.names c.self.inside.pipes c.args.self.now.objects (ap (λ (v : Parts). v.objects) c.self.view_is) c.args.n
+    None (omega (arith, c.if-n-self.false, c.self.invariant.1)) none)
 
 pub returns-clause-object : goal.returns-clause-object
-returns-clause-object c = inode_shows c.self.inside.inodes c.self.inside.names c.self.inside.pipes c.args.self.now.objects (ap (λ (v : Parts). v.objects) c.self.view_is) c.args.n (Some c.in_ok-inode.inode) (omega (arith, c.if-n-self.false, c.self.invariant.1)) c.in_ok-inode.ensures.told
+returns-clause-object c = inode_shows c.self.inside.inodes c.self.inside.names c.self.inside.pipes c.args.self.now.objects
+    (ap (λ (v : Parts). v.objects) c.self.view_is) c.args.n (Some c.in_ok-inode.inode) (omega (arith, c.if-n-self.false, c.self.invariant.1))
+    c.in_ok-inode.ensures.told
 
 pub returns-clause-within : goal.returns-clause-within
 returns-clause-within c = shows_within c.args.self.now.objects c.args.n (Some (row_of c.in_ok-inode.inode)) (returns-clause-object c)
@@ -36,4 +39,5 @@ returns-then-n-self-clause-links c =
     subst (λ k. IfSome c.pipe.result (λ x. x.links ≡ links_of (frame_alone c.args.self.now) k (object_by (node c.args.self.now.objects k) x))) same c.pipe.ensures.links
 
 pub returns-clause-links : goal.returns-clause-links
-returns-clause-links c = c.links_told.ensures ∙ links_shown c.self.inside.limits c.self.inside.inodes c.self.inside.names c.self.inside.pipes c.self.inside.opens c.self.inside.homes.items c.args.self.now c.self.invariant.0 c.self.view_is c.args.n c.in_ok-inode.inode c.in_ok-inode.ensures.told
+returns-clause-links c = c.links_told.ensures ∙ links_shown c.self.inside.limits c.self.inside.inodes c.self.inside.names c.self.inside.pipes
+    c.self.inside.opens c.self.inside.homes.items c.args.self.now c.self.invariant.0 c.self.view_is c.args.n c.in_ok-inode.inode c.in_ok-inode.ensures.told

@@ -13,8 +13,10 @@ fill-requires-clause-room c =
     ap (λ (p : PathOf). slice_get p.names (length p.names - 1)) (sym c.as_path.ensures) ∙ sym c.last_name.ensures
     ∙ ap (option_map name_of) c.in-Some.is in
     let last = c.to_name.ensures ∙ name_at names (length names - 1) (name_of c.in-Some.name) at in
-    let empty = made_empty c.args.spec.now c.args.dir c.args.fs c.args.n c.args.self.now c.requires c.make.new.self c.set_as_said.new.self c.to_name.result c.kind_said.result last c.kind_said.ensures c.make.ensures c.set_as_said.ensures in
-    ap (λ (bs : List ℕ). has_room c.args.n (length bs) c.set_as_said.new.self) c.as_slice.ensures ∙ room_for_line c.args.spec.now c.args.dir c.args.fs c.args.n c.args.self.now c.requires c.set_as_said.new.self empty
+    let empty = made_empty c.args.spec.now c.args.dir c.args.fs c.args.n c.args.self.now c.requires c.make.new.self c.set_as_said.new.self c.to_name.result
+    c.kind_said.result last c.kind_said.ensures c.make.ensures c.set_as_said.ensures in
+    ap (λ (bs : List ℕ). has_room c.args.n (length bs) c.set_as_said.new.self) c.as_slice.ensures
+    ∙ room_for_line c.args.spec.now c.args.dir c.args.fs c.args.n c.args.self.now c.requires c.set_as_said.new.self empty
 
 pub returns-then-not-spec : goal.returns-then-not-spec
 returns-then-not-spec c =
@@ -23,8 +25,11 @@ returns-then-not-spec c =
     ap (λ (p : PathOf). slice_get p.names (length p.names - 1)) (sym c.as_path.ensures) ∙ sym c.last_name.ensures
     ∙ ap (option_map name_of) c.in-Some.is in
     let last = c.to_name.ensures ∙ name_at names (length names - 1) (name_of c.in-Some.name) at in
-    let empty = made_empty c.args.spec.now c.args.dir c.args.fs c.args.n c.args.self.now c.requires c.make.new.self c.set_as_said.new.self c.to_name.result c.kind_said.result last c.kind_said.ensures c.make.ensures c.set_as_said.ensures in
-    let filled = ap (λ (bs : List ℕ). let t : Parts = record c.set_as_said.new.self { holdings = slice_set c.set_as_said.new.self.holdings c.args.n (record { first = bs; second = [] }) } in t) c.as_slice.ensures in
+    let empty = made_empty c.args.spec.now c.args.dir c.args.fs c.args.n c.args.self.now c.requires c.make.new.self c.set_as_said.new.self c.to_name.result
+    c.kind_said.result last c.kind_said.ensures c.make.ensures c.set_as_said.ensures in
+    let filled = ap (λ (bs : List ℕ). let t : Parts =
+    record c.set_as_said.new.self { holdings = slice_set c.set_as_said.new.self.holdings c.args.n (record { first = bs; second = [] }) } in
+    t) c.as_slice.ensures in
     filled_line c.args.spec.now c.args.dir c.args.fs c.args.n c.args.self.now c.requires c.set_as_said.new.self c.fill.new.self empty (c.fill.ensures ∙ filled)
 
 pub returns-else-not-spec : goal.returns-else-not-spec
@@ -34,5 +39,6 @@ returns-else-not-spec c =
     ap (λ (p : PathOf). slice_get p.names (length p.names - 1)) (sym c.as_path.ensures) ∙ sym c.last_name.ensures
     ∙ ap (option_map name_of) c.in-Some.is in
     let last = c.to_name.ensures ∙ name_at names (length names - 1) (name_of c.in-Some.name) at in
-    let empty = made_empty c.args.spec.now c.args.dir c.args.fs c.args.n c.args.self.now c.requires c.make.new.self c.set_as_said.new.self c.to_name.result c.kind_said.result last c.kind_said.ensures c.make.ensures c.set_as_said.ensures in
+    let empty = made_empty c.args.spec.now c.args.dir c.args.fs c.args.n c.args.self.now c.requires c.make.new.self c.set_as_said.new.self c.to_name.result
+    c.kind_said.result last c.kind_said.ensures c.make.ensures c.set_as_said.ensures in
     bare_line c.args.spec.now c.args.dir c.args.fs c.args.n c.args.self.now c.requires c.set_as_said.new.self empty c.if-not-spec.false

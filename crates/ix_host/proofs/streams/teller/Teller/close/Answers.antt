@@ -18,7 +18,9 @@ pieces-init g c = record {
       let after = g.K.Sink.taken old.sink.now in
       let now = g.K.Sink.faults old.sink.now in
       let left = left_of c.new-closing.result in
-      subst (λ (t : List ℕ). StandsAt old.failure first after (old.waiting.now.items ++ left) (told ++ t) before now) (c.new-closing.ensures ∙ ap (λ (f : Form). closing_text f (world_of c.args.history.now) (length c.args.history.now.events)) c.form.ensures) (stands_more first after before now old.failure old.waiting.now.items told left s);
+      subst (λ (t : List ℕ). StandsAt old.failure first after (old.waiting.now.items ++ left) (told ++ t) before now) (c.new-closing.ensures
+      ∙ ap (λ (f : Form). closing_text f (world_of c.args.history.now) (length c.args.history.now.events)) c.form.ensures)
+      (stands_more first after before now old.failure old.waiting.now.items told left s);
 }
 
 pub pieces-preserved : goal.pieces-preserved
@@ -31,7 +33,8 @@ pieces-preserved g c =
       stands = λ first before_told before s.
           let whole = before_told ++ closing_text (form_told c.args.self.now.script.now) (world_of c.args.history.now) (length c.args.history.now.events) in
           let stands = c.pieces.invariant.stands first before_told before s in
-          let going = subst (λ (f : Option Failure). StandsAt f first (g.K.Sink.taken c.pieces.self.sink.now) (c.pieces.self.waiting.now.items ++ left_of c.pieces.closing) whole before (g.K.Sink.faults c.pieces.self.sink.now)) none stands in
+          let going = subst (λ (f : Option Failure). StandsAt f first (g.K.Sink.taken c.pieces.self.sink.now) (c.pieces.self.waiting.now.items
+          ++ left_of c.pieces.closing) whole before (g.K.Sink.faults c.pieces.self.sink.now)) none stands in
           c.write_full-self.ensures first (left_of c.tell.new.self) whole before
           (subst (λ (w : List ℕ). StandsAt None first (g.K.Sink.taken c.pieces.self.sink.now) w whole before (g.K.Sink.faults c.pieces.self.sink.now)) (sym told.text) going);
     }
@@ -41,7 +44,8 @@ returns-then-is_some-clause-ends g c first told before s =
     let whole = told ++ closing_text (form_told c.args.self.now.script.now) (world_of c.args.history.now) (length c.args.history.now.events) in
     let at = c.pieces.self in
     c.finish.ensures first whole before
-    (rw c.as_slice.ensures.value (stands_silent first (g.K.Sink.taken at.sink.now) before (g.K.Sink.faults at.sink.now) at.failure (at.waiting.now.items ++ left_of c.pieces.closing) at.waiting.now.items whole (sym c.is_some.ensures ∙ c.if-is_some.true) (c.pieces.invariant.stands first told before s)))
+    (rw c.as_slice.ensures.value (stands_silent first (g.K.Sink.taken at.sink.now) before (g.K.Sink.faults at.sink.now) at.failure (at.waiting.now.items
+    ++ left_of c.pieces.closing) at.waiting.now.items whole (sym c.is_some.ensures ∙ c.if-is_some.true) (c.pieces.invariant.stands first told before s)))
 
 pub returns-then-is_err-clause-ends : goal.returns-then-is_err-clause-ends
 returns-then-is_err-clause-ends g c first told before s =
@@ -49,11 +53,13 @@ returns-then-is_err-clause-ends g c first told before s =
     let at = c.pieces.self in
     let none : at.failure ≡ None = none_is at.failure (sym c.is_some.ensures ∙ c.if-is_some.false) in
     let stands = rw none at (c.pieces.invariant.stands first told before s) in
-    ends_out first (g.K.Sink.taken at.sink.now) whole (g.K.Sink.finished at.sink.now) before (g.K.Sink.faults at.sink.now) (stands_front first (g.K.Sink.taken at.sink.now) before (g.K.Sink.faults at.sink.now) (at.waiting.now.items ++ left_of c.pieces.closing) whole stands)
+    ends_out first (g.K.Sink.taken at.sink.now) whole (g.K.Sink.finished at.sink.now) before (g.K.Sink.faults at.sink.now)
+    (stands_front first (g.K.Sink.taken at.sink.now) before (g.K.Sink.faults at.sink.now) (at.waiting.now.items ++ left_of c.pieces.closing) whole stands)
 
 pub returns-clause-ends : goal.returns-clause-ends
 returns-clause-ends g c first told before s =
     let whole = told ++ closing_text (form_told c.args.self.now.script.now) (world_of c.args.history.now) (length c.args.history.now.events) in
     let at = c.pieces.self in
     c.finish-2.ensures first whole before
-    (rw c.as_slice-2.ensures.value (stands_end first (g.K.Sink.taken at.sink.now) before (g.K.Sink.faults at.sink.now) at.failure at.waiting.now.items (left_of c.pieces.closing) whole (c.is_told.ensures.told c.pieces-test.false) (c.pieces.invariant.stands first told before s)))
+    (rw c.as_slice-2.ensures.value (stands_end first (g.K.Sink.taken at.sink.now) before (g.K.Sink.faults at.sink.now) at.failure at.waiting.now.items
+    (left_of c.pieces.closing) whole (c.is_told.ensures.told c.pieces-test.false) (c.pieces.invariant.stands first told before s)))

@@ -21,7 +21,8 @@ returns-in-Ok g c =
     let first = g.K.Sink.taken old.sink.now in
     let n = g.K.Sink.faults old.sink.now in
     let bare : History = record { config = config_of s; events = [] } in
-    let begun = subst (λ (why : Option Failure). StandsAt why first first old.waiting.now.items (told_of s old.waiting.now.items bare) n n) (sym c.requires.begun.0) (stands_first first old.waiting.now.items n) in
+    let begun = subst (λ (why : Option Failure). StandsAt why first first old.waiting.now.items (told_of s old.waiting.now.items bare) n n)
+    (sym c.requires.begun.0) (stands_first first old.waiting.now.items n) in
     let known = c.in-Ok.ensures.seen old (refl, refl, record { stands = begun }) in
     let in_form = ap (λ (ls : List Line). told_of s old.waiting.now.items c.in-Ok.history ++ closing_text (form_told ls) (world_of c.in-Ok.history) (length c.in-Ok.history.events)) known.1 in
     let all = report_told s old.waiting.now.items c.in-Ok.history c.in-Ok.ensures.config c.requires.begun.1 ∙ ap (report_of s) c.in-Ok.ensures.serial in

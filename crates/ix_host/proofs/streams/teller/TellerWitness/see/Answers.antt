@@ -42,7 +42,8 @@ returns g c = record {
         known.0,
         known.1,
         record {
-          stands = stands_end (g.K.Sink.taken first.sink.now) (g.K.Sink.taken sink) (g.K.Sink.faults first.sink.now) (g.K.Sink.faults sink) c.told-self.result c.told-self.new.waiting.items [] text refl
+          stands = stands_end (g.K.Sink.taken first.sink.now) (g.K.Sink.taken sink) (g.K.Sink.faults first.sink.now) (g.K.Sink.faults sink) c.told-self.result
+              c.told-self.new.waiting.items [] text refl
               (c.told-self.ensures.stands (g.K.Sink.taken first.sink.now) (old.waiting.now.items ++ line) [] text (g.K.Sink.faults first.sink.now) comes fits);
         },
       );

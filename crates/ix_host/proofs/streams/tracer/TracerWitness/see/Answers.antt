@@ -39,7 +39,8 @@ returns g c = record {
         known.0,
         record {
           follows = λ still. (from_ok c.follow-line.result (c.told-self.ensures.ok still) c.follow-line.ensures.follows c.args._seat c.args._line before step (known.1.follows none)).0;
-          stands = stands_end (g.K.Sink.taken first.sink.now) (g.K.Sink.taken sink) (g.K.Sink.faults first.sink.now) (g.K.Sink.faults sink) c.told-self.result c.told-self.new.waiting.items [] text refl
+          stands = stands_end (g.K.Sink.taken first.sink.now) (g.K.Sink.taken sink) (g.K.Sink.faults first.sink.now) (g.K.Sink.faults sink) c.told-self.result
+              c.told-self.new.waiting.items [] text refl
               (c.told-self.ensures.stands (g.K.Sink.taken first.sink.now) (old.waiting.now.items ++ line) [] text (g.K.Sink.faults first.sink.now) comes fits);
         },
       );

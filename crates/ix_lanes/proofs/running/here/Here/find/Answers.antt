@@ -66,7 +66,8 @@ lines-preserved c =
     let mine = sym (ap (is_seat lane) c.lines.invariant.seat) ∙ sym (same-seat c.lines.self.seat lane) ∙ sym c.eq.ensures in
     let at : c.if-eq.self.at ≡ i = elim c.if-eq.branch [ then-eq+else-not-matches w ↦ ap (λ (h : Here). h.at) w.self-is | else-eq w ↦ ap (λ (h : Here). h.at) w.self-is ] in
     let seat : c.if-eq.self.seat ≡ c.lines.self.seat = elim c.if-eq.branch [ then-eq+else-not-matches w ↦ ap (λ (h : Here). h.seat) w.self-is | else-eq w ↦ ap (λ (h : Here). h.seat) w.self-is ] in
-    let begun : c.if-eq.self.begun ≡ c.lines.self.begun = elim c.if-eq.branch [ then-eq+else-not-matches w ↦ ap (λ (h : Here). h.begun) w.self-is | else-eq w ↦ ap (λ (h : Here). h.begun) w.self-is ] in
+    let begun : c.if-eq.self.begun ≡ c.lines.self.begun =
+    elim c.if-eq.branch [ then-eq+else-not-matches w ↦ ap (λ (h : Here). h.begun) w.self-is | else-eq w ↦ ap (λ (h : Here). h.begun) w.self-is ] in
     let next : c.pass.new.self.at ≡ i + 1 = c.pass.ensures.at ∙ ap (λ n. n + 1) at in
     record {
       within = omega (arith, next, c.lines-test.true);
@@ -77,8 +78,11 @@ lines-preserved c =
           ∙ sym (begun_more s i l there) ∙ ap (λ n. count_by is_phase (take n s)) (sym next);
       left = ap (λ n. lines_ask (rules_told s) (header_of s) (standing c.if-eq.places) (lane_between s lane n c.args.end)) next ∙ elim c.if-eq.branch [
         | then-eq+else-not-matches w ↦
-            let asks : line_asks (option_map (λ p. p.now) c.args.policy) c.args.header.now (standing c.lines.places) (i + 1) w.line_at-self.result ≡ part_left c.args.header.now (standing c.lines.places) (i + 1) w.line_at-self.result w.begin-part.new.copying w.begin-part.result = sym w.begin-part.ensures.asks in
-            let over : line_asks (option_map (λ p. p.now) c.args.policy) c.args.header.now (standing c.lines.places) (i + 1) w.line_at-self.result ≡ asking.Done handed.Nothing = elim w.match-matches.branch [
+            let asks : line_asks (option_map (λ p. p.now) c.args.policy) c.args.header.now (standing c.lines.places) (i + 1) w.line_at-self.result
+            ≡ part_left c.args.header.now (standing c.lines.places) (i + 1) w.line_at-self.result w.begin-part.new.copying w.begin-part.result =
+            sym w.begin-part.ensures.asks in
+            let over : line_asks (option_map (λ p. p.now) c.args.policy) c.args.header.now (standing c.lines.places) (i + 1) w.line_at-self.result
+            ≡ asking.Done handed.Nothing = elim w.match-matches.branch [
               | in-Over v ↦ asks ∙ ap (part_left c.args.header.now (standing c.lines.places) (i + 1) w.line_at-self.result w.begin-part.new.copying) v.in-Over.is
               | in_default v ↦ absurd (true≢false (sym w.if-not-matches.false ∙ v.matches-is))
             ] in

@@ -26,7 +26,8 @@ invariant_of-self c =
     let told = c.heard.ensures (header_of i.script.now) (standing i.places) (i.here.at + 1) i.here.line (here_pending _ _ _ _ _ _ _ _ _ _ _ c.self.invariant.1 is) in (
       c.self.invariant.0,
       (asks_on _ _ _ _ _ _ _ _ _ _ _ c.self.invariant.1 c.heard.new.copying c.heard.new.part (record { reply = c.args.reply.now; bytes = c.args.bytes.now }) is
-          (subst (IsHeard (header_of i.script.now) (standing i.places) (i.here.at + 1) i.here.line i.copying i.part c.heard.new.copying c.heard.new.part (record { reply = c.args.reply.now; bytes = c.args.bytes.now })) c.in_default.is told)).1,
+          (subst (IsHeard (header_of i.script.now) (standing i.places) (i.here.at + 1) i.here.line i.copying i.part c.heard.new.copying c.heard.new.part
+          (record { reply = c.args.reply.now; bytes = c.args.bytes.now })) c.in_default.is told)).1,
     )
 
 pub returns-in_default-clause-asking : goal.returns-in_default-clause-asking
@@ -36,7 +37,8 @@ returns-in_default-clause-asking c =
     let is = due_left i.script.now i.lane i.end i.here.at (standing i.places) (line_in i.script.now i.here.at) i.copying i.part due in
     let told = c.heard.ensures (header_of i.script.now) (standing i.places) (i.here.at + 1) i.here.line (here_pending _ _ _ _ _ _ _ _ _ _ _ c.self.invariant.1 is) in
     let on = asks_on _ _ _ _ _ _ _ _ _ _ _ c.self.invariant.1 c.heard.new.copying c.heard.new.part (record { reply = c.args.reply.now; bytes = c.args.bytes.now }) is
-    (subst (IsHeard (header_of i.script.now) (standing i.places) (i.here.at + 1) i.here.line i.copying i.part c.heard.new.copying c.heard.new.part (record { reply = c.args.reply.now; bytes = c.args.bytes.now })) c.in_default.is told) in
+    (subst (IsHeard (header_of i.script.now) (standing i.places) (i.here.at + 1) i.here.line i.copying i.part c.heard.new.copying c.heard.new.part
+    (record { reply = c.args.reply.now; bytes = c.args.bytes.now })) c.in_default.is told) in
     line_left _ _ _ _ _ _ _ _ _ _ _ on.1 ∙ on.0
     ∙ ap (λ x. heard x (record { reply = c.args.reply.now; bytes = c.args.bytes.now })) (sym (line_left _ _ _ _ _ _ _ _ _ _ _ c.self.invariant.1))
     ∙ ap (λ (v : LaneLeft). heard (asks_left v) (record { reply = c.args.reply.now; bytes = c.args.bytes.now })) c.self.view_is

@@ -63,7 +63,14 @@ returns-in-Ok-clause-done g c =
     let stays : c.run.new.asks.seat ≡ lane = ap (λ (p : LanePlace). p.seat) (one.4 ∙ c.ask_to.ensures.place) in
     let further : suc k ≡ c.args.phase + 1 = ap suc (sym phase) ∙ sym (add-one c.args.phase) in (
       add-one c.args.phase ∙ ap suc c.requires.next,
-      subst (λ (made : List Made). StandsFor (record { script = s; lane = c.run.new.asks.seat; done = c.args.phase + 1; between = is_done (asks_left c.run.new.asks); names = after }) made) (sym one.1.made)
+      subst (λ (made : List Made). StandsFor (record {
+        script = s;
+        lane = c.run.new.asks.seat;
+        done = c.args.phase + 1;
+        between =
+            is_done (asks_left c.run.new.asks);
+        names = after;
+      }) made) (sym one.1.made)
           (subst (λ (r : Ran). StandsFor r (old ++ more)) (λ i. record { script = s; lane = sym stays i; done = further i; between = sym end.1 i; names = after }) both),
     )
 

@@ -74,7 +74,8 @@ lines-preserved c =
     let low : i < length s = omega (arith, c.lines-test.true, c.len.ensures.len) in
     let there = line-there s i low in
     let at : c.match-self.self.at ≡ i = elim c.match-self.branch [ in-Some+else-not-matches w ↦ ap (λ (h : Place). h.at) w.self-is | in_default w ↦ ap (λ (h : Place). h.at) w.self-is ] in
-    let seat : c.match-self.self.seat ≡ c.lines.self.seat = elim c.match-self.branch [ in-Some+else-not-matches w ↦ ap (λ (h : Place). h.seat) w.self-is | in_default w ↦ ap (λ (h : Place). h.seat) w.self-is ] in
+    let seat : c.match-self.self.seat ≡ c.lines.self.seat =
+    elim c.match-self.branch [ in-Some+else-not-matches w ↦ ap (λ (h : Place). h.seat) w.self-is | in_default w ↦ ap (λ (h : Place). h.seat) w.self-is ] in
     let next : c.pass.new.self.at ≡ i + 1 = c.pass.ensures.at ∙ ap (λ n. n + 1) at in
     let seated : c.pass.new.self.seat ≡ seat_after (lanes_of s) c.lines.self.seat (line_in s i) = c.pass.ensures.seat ∙ (λ x. seat_after (lanes_of s) (seat x) (line_in s (at x))) in
     record {
@@ -95,13 +96,15 @@ lines-preserved c =
             let old = lane_there s c.lines.places i k c.lines.invariant.placed (sym c.lines.invariant.seat ∙ w.in-Some.is) w.index-places-seat.result in
             let p : Places = slice_index_or c.lines.places k w.index-places-seat.result in
             let l : Line = w.line_at-self.result in
-            let asks : line_asks (option_map (λ q. q.now) c.args.policy) c.args.header.now (standing p) (i + 1) l ≡ part_left c.args.header.now (standing p) (i + 1) l w.begin-part.new.copying w.begin-part.result = sym w.begin-part.ensures.asks in
+            let asks : line_asks (option_map (λ q. q.now) c.args.policy) c.args.header.now (standing p) (i + 1) l ≡ part_left c.args.header.now (standing p)
+            (i + 1) l w.begin-part.new.copying w.begin-part.result = sym w.begin-part.ensures.asks in
             let none : line_asks (option_map (λ q. q.now) c.args.policy) c.args.header.now (standing p) (i + 1) l ≡ asking.Done handed.Nothing = elim w.match-matches.branch [
               | in-Over u ↦ asks ∙ ap (part_left c.args.header.now (standing p) (i + 1) l w.begin-part.new.copying) u.in-Over.is
               | in_default-matches u ↦ absurd (true≢false (sym w.if-not-matches.false ∙ u.matches-is))
             ] in
             ap (λ all. serial_from s v place (map standing all) c.pass.new.self.seat (c.pass.new.self.at + 1) (drop c.pass.new.self.at s)) w.places-is
-            ∙ skipped s i low c.lines.places k p old c.lines.self.seat w.in-Some.is (option_map (λ q. q.now) c.args.policy) c.args.header.now c.requires.policy c.requires.header l w.line_at-self.ensures
+            ∙ skipped s i low c.lines.places k p old c.lines.self.seat w.in-Some.is (option_map (λ q. q.now) c.args.policy) c.args.header.now c.requires.policy
+            c.requires.header l w.line_at-self.ensures
             none w.bind.new.places w.bind.ensures.set c.pass.new.self.seat seated c.pass.new.self.at next v place
             ∙ c.lines.invariant.left v place
         | in_default w ↦

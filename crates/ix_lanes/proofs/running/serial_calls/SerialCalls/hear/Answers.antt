@@ -52,7 +52,8 @@ returns-in_default-clause-on c =
     let over = goes_on s i.places.items i.here.at i.here.seat i.here.line i.written i.copying i.part c.self.invariant.1 st.0 k.0 k.1 c.heard.new.copying c.heard.new.part a told in
     λ w place e next gave.
     ap (λ x. entries_left x w place) (sym c.self.view_is)
-    ∙ line_asks_on s (map standing i.places.items) i.here.at i.here.seat k.0 k.1 i.copying i.part st.0 c.heard.new.copying c.heard.new.part over a told.0 w place e (ap next_entry c.self.view_is ∙ next) gave
+    ∙ line_asks_on s (map standing i.places.items) i.here.at i.here.seat k.0 k.1 i.copying i.part st.0 c.heard.new.copying c.heard.new.part over a told.0 w
+    place e (ap next_entry c.self.view_is ∙ next) gave
 
 pub returns-in_default-clause-fewer : goal.returns-in_default-clause-fewer
 returns-in_default-clause-fewer c =
@@ -66,7 +67,15 @@ returns-in_default-clause-fewer c =
     let told = subst (IsHeard (header_of s) names (i.here.at + 1) (line_in s i.here.at) i.copying i.part c.heard.new.copying c.heard.new.part a) c.in_default.is
     (c.heard.ensures (header_of s) names (i.here.at + 1) (line_in s i.here.at) (st.1 k.0 k.1)) in
     let less = still_fewer s i.places.items i.here.at i.here.seat i.here.line i.written i.copying i.part c.self.invariant.1 st.0 k.0 k.1 c.heard.new.copying c.heard.new.part a told in
-    subst (λ (x : SerialLeft). most_entries (record { script = s; names = map standing i.places.items; at = i.here.at; seat = i.here.seat; copying = c.heard.new.copying; part = c.heard.new.part }) < most_entries x) c.self.view_is less
+    subst (λ (x : SerialLeft). most_entries (record {
+      script = s;
+      names = map standing i.places.items;
+      at = i.here.at;
+      seat = i.here.seat;
+      copying =
+          c.heard.new.copying;
+      part = c.heard.new.part;
+    }) < most_entries x) c.self.view_is less
 
 pub index_mut-requires : goal.index_mut-requires
 index_mut-requires c =
@@ -122,7 +131,8 @@ returns-clause-on c =
     λ w place e next gave.
     let x : World = (step_of w place e).world in
     let behind =
-    lines_behind s i.places.items i.here.at k c.index_mut.result.now there i.here.seat c.in-Some-seat.is i.here.line (c.self.invariant.1.line st.0) c.in-Some.handed c.bind.new.places c.bind.ensures.set
+    lines_behind s i.places.items i.here.at k c.index_mut.result.now there i.here.seat c.in-Some-seat.is i.here.line (c.self.invariant.1.line st.0)
+    c.in-Some.handed c.bind.new.places c.bind.ensures.set
     c.pass.new.self.seat c.pass.ensures.seat c.pass.new.self.at c.pass.ensures.at x (place + 1) in
     ap (λ y. entries_left y w place) (sym c.self.view_is)
     ∙ line_done s (map standing i.places.items) i.here.at i.here.seat k c.in-Some-seat.is i.copying i.part st.0 a c.in-Some.handed done w place e (ap next_entry c.self.view_is ∙ next) gave

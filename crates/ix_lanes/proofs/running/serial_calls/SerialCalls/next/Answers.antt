@@ -22,8 +22,24 @@ returns-clause-entry c =
     let i = c.self.inside in
     let s : List Line = i.script.now in
     let k = c.in-Some.seat in
-    let stands : (p : Part) → i.part ≡ p → next_entry (record { script = s; names = map standing i.places.items; at = i.here.at; seat = Some k; copying = i.copying; part = p }) ≡ next_entry c.args.self.now =
-    λ p is. (λ j. next_entry (record { script = s; names = map standing i.places.items; at = i.here.at; seat = sym c.in-Some.is j; copying = i.copying; part = sym is j })) ∙ ap next_entry c.self.view_is in
+    let stands : (p : Part) → i.part ≡ p → next_entry (record {
+      script = s;
+      names = map standing i.places.items;
+      at = i.here.at;
+      seat = Some k;
+      copying =
+          i.copying;
+      part = p;
+    }) ≡ next_entry c.args.self.now =
+    λ p is. (λ j. next_entry (record {
+      script = s;
+      names = map standing i.places.items;
+      at = i.here.at;
+      seat = sym c.in-Some.is j;
+      copying = i.copying;
+      part =
+          sym is j;
+    })) ∙ ap next_entry c.self.view_is in
     c.called-2.ensures ∙ elim c.match-self-2.branch [
       | in-Priv w ↦
           let m : PrivServer = w.in-Priv.server in
