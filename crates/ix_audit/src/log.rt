@@ -39,9 +39,7 @@ impl Log {
     pub fn new(alloc: Global, cap: u32) -> Result<Log, NoMemory>
         ensures { IfOk result (λ l. l ≡ record { cap = cap; lines = [] }) }
     {
-        let Ok(lines) = Vec::with_capacity(alloc, cap as usize) else {
-            return Err(NoMemory);
-        };
+        let lines = Vec::with_capacity(alloc, cap as usize)?;
         Ok(Log { cap, lines })
     }
 

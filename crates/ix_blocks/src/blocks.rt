@@ -5,7 +5,7 @@ ghost use Rattle.ix_blocks.specs.Files.{used, bytes_of, with_bytes, all_empty, l
 
 use crate::rows::SIZE;
 use crate::store::Store;
-use ix_links::NoMemory;
+use ix_memory::NoMemory;
 use ix_model::blocks_for;
 use std::alloc::Global;
 use std::marker::Model;

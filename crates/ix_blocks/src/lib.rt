@@ -6,4 +6,4 @@ mod rows;
 mod store;
 
 pub use blocks::{Blocks, NoSpace};
-pub use ix_links::NoMemory;
+pub use ix_memory::NoMemory;

@@ -3,7 +3,8 @@ ghost use Rattle.ix_blocks.specs.Wholes.{whole_of, none_held, blocks_added, bloc
 
 use crate::rows;
 use crate::rows::{Block, SIZE};
-use ix_links::{Links, NoMemory};
+use ix_links::Links;
+use ix_memory::NoMemory;
 use std::alloc::Global;
 use std::marker::Model;
 

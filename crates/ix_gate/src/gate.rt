@@ -11,14 +11,11 @@ use crate::seat::{Seat, Token};
 use crate::steps::{HandOn, Number};
 use crate::view::View;
 use atomic_table::Table;
+use ix_memory::NoMemory;
 use std::alloc::Global;
 use std::marker::Model;
 use std::mem;
 use std::snapshot::Snapshot;
-
-/// Memory ran out.
-#[derive(Debug, Drop)]
-pub struct NoMemory;
 
 type Room<M> = Table<
     Option<M>,
@@ -63,12 +60,8 @@ impl<M: Machine> Gate<M> {
         ensures seats { IfOk result (λ r. (k : ℕ) → k < seats
             → slice_get r.1.items k ≡ Some (new_seat r.0.id seats (Some (M.base machine)) k)) }
     {
-        let Ok(mut slots) = Vec::with_capacity(alloc, 1) else {
-            return Err(NoMemory);
-        };
-        let Ok(mut all) = Vec::with_capacity(alloc, seats as usize) else {
-            return Err(NoMemory);
-        };
+        let mut slots = Vec::with_capacity(alloc, 1)?;
+        let mut all = Vec::with_capacity(alloc, seats as usize)?;
         let opening = Opening {
             machine: Snapshot::of(&machine),
             seats,

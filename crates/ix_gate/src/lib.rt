@@ -8,6 +8,7 @@ mod seat;
 mod steps;
 mod view;
 
-pub use gate::{Gate, NoMemory};
+pub use gate::Gate;
+pub use ix_memory::NoMemory;
 pub use machine::Machine;
 pub use seat::{Busy, Seat};

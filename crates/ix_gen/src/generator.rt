@@ -57,9 +57,7 @@ pub fn text(alloc: Global, count: u32) -> Result<Vec<u8>, NoMemory>
     ensures text { IfOk result (λ text. text.items ≡ generated count) }
     ensures length { IfOk result (λ text. length text.items ≤ 16777216) }
 {
-    let Ok(mut out) = Vec::with_capacity(alloc, 192 + 15 * count as usize) else {
-        return Err(NoMemory);
-    };
+    let mut out = Vec::with_capacity(alloc, 192 + 15 * count as usize)?;
     push(&mut out, beginning())?;
     for k in 1..count + 1 {
         push(&mut out, line_at(k))?;

@@ -61,9 +61,7 @@ impl Inodes {
         let mut first = 0;
         for (k, spec) in fss.iter().enumerate() {
             let volume = Volume::new(alloc, k as u32, first, *spec)?;
-            let Ok(()) = volumes.push(volume) else {
-                return Err(NoMemory);
-            };
+            volumes.push(volume)?;
             first += spec.inodes;
         }
         Ok(Inodes { volumes })

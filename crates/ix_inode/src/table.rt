@@ -36,16 +36,10 @@ impl Table {
     pub(crate) fn new(alloc: Global, inodes: u32) -> Result<Table, NoMemory>
         ensures { IfOk result (λ t. t ≡ replicate inodes None) }
     {
-        let Ok(mut nodes) = Vec::with_capacity(alloc, inodes as usize) else {
-            return Err(NoMemory);
-        };
-        let Ok(numbers) = Numbers::new(alloc, inodes) else {
-            return Err(NoMemory);
-        };
+        let mut nodes = Vec::with_capacity(alloc, inodes as usize)?;
+        let numbers = Numbers::new(alloc, inodes)?;
         for _n in 0..inodes {
-            let Ok(()) = nodes.push(None) else {
-                return Err(NoMemory);
-            };
+            nodes.push(None)?;
         }
         Ok(Table { nodes, numbers })
     }

@@ -29,9 +29,7 @@ impl Volume {
     {
         let mut nodes = Table::new(alloc, spec.inodes)?;
         nodes.take(Node::new(fs, true));
-        let Ok(blocks) = Blocks::new(alloc, spec.blocks, spec.inodes) else {
-            return Err(NoMemory);
-        };
+        let blocks = Blocks::new(alloc, spec.blocks, spec.inodes)?;
         Ok(Volume {
             spec,
             first,

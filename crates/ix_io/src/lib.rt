@@ -9,7 +9,8 @@ mod sink;
 mod source;
 mod standard;
 
-pub use errors::{Failed, NoMemory};
+pub use errors::Failed;
+pub use ix_memory::NoMemory;
 pub use memory::{MemSink, MemSource};
 pub use quiet::{QuietSink, QuietSource};
 pub use sink::Sink;

@@ -2,11 +2,12 @@ ghost use Rattle.std.specs.Prelude.{◌≡◌, ◌≤◌, ◌<◌, ◌==◌, ◌
 ghost use Rattle.ix_io.specs.Streams.{HasCause, Reads, Takes};
 ghost use Rattle.ix_io.specs.Planned.{start, fails_next, after_call};
 
-use crate::errors::{Failed, NoMemory};
+use crate::errors::Failed;
 use crate::plan::Plan;
 use crate::quiet::QuietSource;
 use crate::sink::Sink;
 use crate::source::Source;
+use ix_memory::NoMemory;
 use std::alloc::Global;
 use std::marker::Model;
 

@@ -1,4 +1,4 @@
-use crate::errors::NoMemory;
+use ix_memory::NoMemory;
 use std::alloc::Global;
 use std::marker::Model;
 

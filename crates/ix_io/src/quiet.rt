@@ -1,9 +1,10 @@
 ghost use Rattle.std.specs.Prelude.{◌≡◌, ◌≤◌, ◌<◌, min, length, is_ok, false, IfOk, IsOk};
 ghost use Rattle.ix_io.specs.Streams.{counted, HasCause, Reads, Takes};
 
-use crate::errors::{Failed, NoMemory};
+use crate::errors::Failed;
 use crate::sink::Sink;
 use crate::source::Source;
+use ix_memory::NoMemory;
 use std::alloc::Global;
 use std::marker::Model;
 

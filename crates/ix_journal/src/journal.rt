@@ -50,12 +50,8 @@ impl Journal {
         requires { cap ≤ 870400000 }
         ensures { IfOk result (λ j. j ≡ record { cap = cap; events = [] }) }
     {
-        let Ok(records) = Vec::with_capacity(alloc, (cap / ENTRY) as usize) else {
-            return Err(NoMemory);
-        };
-        let Ok(words) = Vec::with_capacity(alloc, cap as usize) else {
-            return Err(NoMemory);
-        };
+        let records = Vec::with_capacity(alloc, (cap / ENTRY) as usize)?;
+        let words = Vec::with_capacity(alloc, cap as usize)?;
         Ok(Journal {
             cap,
             used: 0,

@@ -39,12 +39,8 @@ impl Kernel {
         ensures seats { IfOk result (λ r. (k : ℕ) → k < seats
             → slice_get r.1.items k ≡ Some (new_seat r.0.id seats (Some core.config) k)) }
     {
-        let Ok((gate, seats)) = Gate::new(alloc, Held { core }, seats) else {
-            return Err(NoMemory);
-        };
-        let Ok(mut all) = Vec::with_capacity(alloc, seats.len()) else {
-            return Err(NoMemory);
-        };
+        let (gate, seats) = Gate::new(alloc, Held { core }, seats)?;
+        let mut all = Vec::with_capacity(alloc, seats.len())?;
         for seat in seats {
             all.push_reserved(KSeat { seat });
         }

@@ -3,7 +3,6 @@
 
 mod link;
 mod links;
-mod memory;
 
+pub use ix_memory::NoMemory;
 pub use links::Links;
-pub use memory::NoMemory;

@@ -5,7 +5,7 @@ ghost use Rattle.ix_links.specs.Chains.{chain_of, pool, all_free, pushed_front, 
 
 use crate::link;
 use crate::link::{Ends, Link};
-use crate::memory::NoMemory;
+use ix_memory::NoMemory;
 use std::alloc::Global;
 use std::marker::Model;
 

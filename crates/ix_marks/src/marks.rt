@@ -58,15 +58,9 @@ impl Marks {
         ensures raised { IfOk result (λ m. m.raised ≡ 0) }
     {
         let owners = RowIndex::new(alloc, procs)?;
-        let Ok(rows) = empty_rows(alloc, procs) else {
-            return Err(NoMemory);
-        };
-        let Ok(objects) = vec![in alloc; 0; objects as usize] else {
-            return Err(NoMemory);
-        };
-        let Ok(opens) = vec![in alloc; 0; opens as usize] else {
-            return Err(NoMemory);
-        };
+        let rows = empty_rows(alloc, procs)?;
+        let objects = vec![in alloc; 0; objects as usize]?;
+        let opens = vec![in alloc; 0; opens as usize]?;
         Ok(Marks {
             owners,
             rows,

@@ -39,12 +39,8 @@ impl RowIndex {
         ensures { IfOk result (λ s. s ≡ record { pids = replicate rows None; free = rows }) }
     {
         let width = rows.max(1);
-        let Ok(buckets) = Links::new(alloc, rows, width) else {
-            return Err(NoMemory);
-        };
-        let Ok(pids) = vec![in alloc; None; rows as usize] else {
-            return Err(NoMemory);
-        };
+        let buckets = Links::new(alloc, rows, width)?;
+        let pids = vec![in alloc; None; rows as usize]?;
         Ok(RowIndex {
             pids,
             buckets,

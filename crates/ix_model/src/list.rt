@@ -1,7 +1,7 @@
 ghost use Rattle.std.specs.Prelude.{◌≡◌, ◌++◌, ◌∷◌, [], length, slice_get, OnOk, OnErr};
 ghost use Rattle.std.specs.Option.{option_copied};
 
-use crate::memory::NoMemory;
+use ix_memory::NoMemory;
 use std::alloc::Global;
 use std::marker::Model;
 

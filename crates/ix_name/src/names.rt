@@ -55,18 +55,10 @@ impl Names {
         ensures { IfOk result (λ n. n ≡ record { lists = replicate objects []; free = names }) }
     {
         let width = names.max(1);
-        let Ok(dirs) = Links::new(alloc, names, objects) else {
-            return Err(NoMemory);
-        };
-        let Ok(buckets) = Links::new(alloc, names, width) else {
-            return Err(NoMemory);
-        };
-        let Ok(entries) = vec![in alloc; None; names as usize] else {
-            return Err(NoMemory);
-        };
-        let Ok(counts) = vec![in alloc; 0; objects as usize] else {
-            return Err(NoMemory);
-        };
+        let dirs = Links::new(alloc, names, objects)?;
+        let buckets = Links::new(alloc, names, width)?;
+        let entries = vec![in alloc; None; names as usize]?;
+        let counts = vec![in alloc; 0; objects as usize]?;
         Ok(Names {
             entries,
             dirs,

@@ -1,7 +1,7 @@
 ghost use Rattle.std.specs.Prelude.{◌≡◌, true, false, Some, IfOk, replicate, slice_get, slice_set};
 ghost use Rattle.ix_numbers.specs.Marks.{lowest, count, taken};
 
-use crate::memory::NoMemory;
+use ix_memory::NoMemory;
 use std::alloc::Global;
 use std::cmp::Reverse;
 use std::collections::BinaryHeap;
@@ -39,9 +39,7 @@ impl Numbers {
     {
         let mut free = BinaryHeap::with_capacity(alloc, limit as usize)?;
         for n in 0..limit {
-            let Ok(()) = free.push(Reverse(n)) else {
-                return Err(NoMemory);
-            };
+            free.push(Reverse(n))?;
         }
         Ok(Numbers { free, limit })
     }

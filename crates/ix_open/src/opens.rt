@@ -59,20 +59,12 @@ impl Opens {
     pub fn new(alloc: Global, opens: u32, objects: u32) -> Result<Opens, NoMemory>
         ensures { IfOk result (λ m. m ≡ none_open opens objects) }
     {
-        let Ok(entries) = Slab::with_capacity(alloc, opens as usize) else {
-            return Err(NoMemory);
-        };
+        let entries = Slab::with_capacity(alloc, opens as usize)?;
         let mut keys = Vec::new(alloc);
-        let Ok(()) = keys.resize(opens as usize, None) else {
-            return Err(NoMemory);
-        };
-        let Ok(numbers) = Numbers::new(alloc, opens) else {
-            return Err(NoMemory);
-        };
+        keys.resize(opens as usize, None)?;
+        let numbers = Numbers::new(alloc, opens)?;
         let mut counts = Vec::new(alloc);
-        let Ok(()) = counts.resize(2 * objects as usize, 0) else {
-            return Err(NoMemory);
-        };
+        counts.resize(2 * objects as usize, 0)?;
         Ok(Opens {
             entries,
             keys,

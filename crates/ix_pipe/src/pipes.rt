@@ -48,16 +48,10 @@ impl Pipes {
     pub fn new(alloc: Global, pipes: u32) -> Result<Pipes, NoMemory>
         ensures { IfOk result (λ m. m ≡ replicate pipes None) }
     {
-        let Ok(mut slots) = Vec::with_capacity(alloc, pipes as usize) else {
-            return Err(NoMemory);
-        };
-        let Ok(numbers) = Numbers::new(alloc, pipes) else {
-            return Err(NoMemory);
-        };
+        let mut slots = Vec::with_capacity(alloc, pipes as usize)?;
+        let numbers = Numbers::new(alloc, pipes)?;
         for _n in 0..pipes {
-            let Ok(()) = slots.push(Slot::new(alloc)?) else {
-                return Err(NoMemory);
-            };
+            slots.push(Slot::new(alloc)?)?;
         }
         Ok(Pipes { slots, numbers })
     }

@@ -65,15 +65,9 @@ impl Procs {
         let Some(chains) = procs.checked_add(1) else {
             return Err(NoMemory);
         };
-        let Ok(slots) = Vec::with_capacity(alloc, procs as usize) else {
-            return Err(NoMemory);
-        };
-        let Ok(records) = vec![in alloc; blank(); procs as usize] else {
-            return Err(NoMemory);
-        };
-        let Ok(kin) = Links::new(alloc, procs, chains) else {
-            return Err(NoMemory);
-        };
+        let slots = Vec::with_capacity(alloc, procs as usize)?;
+        let records = vec![in alloc; blank(); procs as usize]?;
+        let kin = Links::new(alloc, procs, chains)?;
         Ok(Procs {
             slots,
             records,
