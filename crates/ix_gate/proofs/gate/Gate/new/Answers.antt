@@ -21,9 +21,9 @@ loop-number-preserved g c = (
   c.make_seat.ensures.maker ∙ ap (λ m. (fresh m.0.seats m.0.base (Next (c.loop-number.number + 1)), [])) c.loop-number.invariant.1,
   search rules,
   search rules,
-  filled _ _ (new_seat c.in-Ok-new.table.shared.table_id c.args.seats (Some (g.M.Machine.base c.args.machine))) _ _ c.push_reserved-in-loop-number.ensures.items
+  filled _ _ (new_seat c.in-Ok.table.shared.table_id c.args.seats (Some (g.M.Machine.base c.args.machine))) _ _ c.push_reserved-in-loop-number.ensures.items
       (search rules) c.loop-number.invariant.4
-      (c.make_seat.ensures.seat ∙ ap (λ m. new_seat c.in-Ok-new.table.shared.table_id m.0.seats m.0.base c.loop-number.number) c.loop-number.invariant.1),
+      (c.make_seat.ensures.seat ∙ ap (λ m. new_seat c.in-Ok.table.shared.table_id m.0.seats m.0.base c.loop-number.number) c.loop-number.invariant.1),
 )
 
 pub make_seat-requires-clause-base : goal.make_seat-requires-clause-base

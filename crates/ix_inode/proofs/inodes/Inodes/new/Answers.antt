@@ -15,7 +15,7 @@ overflow_add-first c = omega (
 )
 
 pub loop-k-preserved : goal.loop-k-preserved
-loop-k-preserved c = rw c.in-Ok.ensures.items (new_more _ _ _ _ _ _ c.requires c.loop-k-test.true c.index-fss-k.is c.in_ok-volume.ensures c.loop-k.invariant)
+loop-k-preserved c = rw c.in_ok-push.ensures.items (new_more _ _ _ _ _ _ c.requires c.loop-k-test.true c.index-fss-k.is c.in_ok-volume.ensures c.loop-k.invariant)
 
 pub returns : goal.returns
 returns c =

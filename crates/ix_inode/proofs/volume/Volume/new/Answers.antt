@@ -8,5 +8,5 @@ returns c = record {
   spec = refl;
   first = refl;
   nodes = c.take.ensures.taken ∙ rw (c.take.ensures.number, c.in_ok-nodes.ensures, c.new-2.ensures) (taken_first c.args.spec.inodes (new_node c.args.fs true) c.requires);
-  blocks = c.in-Ok.ensures;
+  blocks = c.in_ok-blocks.ensures;
 }

@@ -5,9 +5,9 @@ use Rattle.ix_marks.proofs.marks.Marks.new.Goals as goal
 
 pub invariant_of-result : goal.invariant_of-result
 invariant_of-result c =
-    let objects : c.in-Ok-vec.objects.items ≡ replicate c.args.objects 0 = search rules in
-    let opens : c.in-Ok-vec-2.opens.items ≡ replicate c.args.opens 0 = search rules in
-    rw (objects, opens, c.in-Ok.ensures, c.in_ok-owners.ensures) (none_kept c.args.procs c.args.objects c.args.opens)
+    let objects : c.in_ok-objects.objects.items ≡ replicate c.args.objects 0 = search rules in
+    let opens : c.in_ok-opens.opens.items ≡ replicate c.args.opens 0 = search rules in
+    rw (objects, opens, c.in_ok-rows.ensures, c.in_ok-owners.ensures) (none_kept c.args.procs c.args.objects c.args.opens)
 
 pub returns-clause-fresh : goal.returns-clause-fresh
 returns-clause-fresh c = none_spots c.in_ok-owners.owners c.args.procs _ _ _ c.in_ok-owners.ensures

@@ -4,11 +4,11 @@ use Rattle.ix_name.proofs.names.Names.new.Goals as goal
 
 pub invariant_of-result : goal.invariant_of-result
 invariant_of-result c =
-    let entries : c.in-Ok-vec.entries.items ≡ replicate c.args.names None = search rules in
-    let counts : c.in-Ok-vec-2.counts.items ≡ replicate c.args.objects 0 = search rules in
-    rw (entries, counts, c.in-Ok.ensures, c.in-Ok-new.ensures) (indexed_none c.args.names c.args.objects c.max-width.result (omega (arith, c.max-width.ensures)))
+    let entries : c.in_ok-entries.entries.items ≡ replicate c.args.names None = search rules in
+    let counts : c.in_ok-counts.counts.items ≡ replicate c.args.objects 0 = search rules in
+    rw (entries, counts, c.in_ok-dirs.ensures, c.in_ok-buckets.ensures) (indexed_none c.args.names c.args.objects c.max-width.result (omega (arith, c.max-width.ensures)))
 
 pub returns : goal.returns
 returns c =
-    let entries : c.in-Ok-vec.entries.items ≡ replicate c.args.names None = search rules in
-    rw (entries, c.in-Ok.ensures) (shown_none c.args.names c.args.objects)
+    let entries : c.in_ok-entries.entries.items ≡ replicate c.args.names None = search rules in
+    rw (entries, c.in_ok-dirs.ensures) (shown_none c.args.names c.args.objects)

@@ -15,14 +15,14 @@ loop-n-init c = record {
 pub loop-n-preserved : goal.loop-n-preserved
 loop-n-preserved c =
     let so = c.loop-n.invariant in record {
-      heaped = more_heaped _ _ _ _ so.heaped _ c.in-Ok.ensures.permutation _ _ (c.in-Ok.ensures.heap_order so.heaped.ordered) c.in-Ok.ensures.len (omega (
+      heaped = more_heaped _ _ _ _ so.heaped _ c.in_ok-push.ensures.permutation _ _ (c.in_ok-push.ensures.heap_order so.heaped.ordered) c.in_ok-push.ensures.len (omega (
         arith,
         so.room,
         c.loop-n-test.true,
-        c.in-Ok.ensures.capacity,
+        c.in_ok-push.ensures.capacity,
       )) (omega (arith, c.ranges.limit, c.loop-n-test.true));
-      all = more_marks _ _ _ _ so.heaped _ c.in-Ok.ensures.permutation ∙ ap (λ (marks : List Bool). marks ++ true ∷ []) so.all ∙ replicate_more c.loop-n.n true;
-      room = omega (arith, so.room, c.in-Ok.ensures.capacity);
+      all = more_marks _ _ _ _ so.heaped _ c.in_ok-push.ensures.permutation ∙ ap (λ (marks : List Bool). marks ++ true ∷ []) so.all ∙ replicate_more c.loop-n.n true;
+      room = omega (arith, so.room, c.in_ok-push.ensures.capacity);
     }
 
 pub invariant_of-result : goal.invariant_of-result

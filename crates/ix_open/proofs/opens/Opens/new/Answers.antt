@@ -14,19 +14,19 @@ filled {A = A} (suc n) x = let all : suc n - 0 ≡ suc n = omega arith in ap (λ
 
 pub invariant_of-result : goal.invariant_of-result
 invariant_of-result c =
-    let empty : c.resize.new.self.items ≡ replicate {A = Option ℕ} c.args.opens None = c.in-Ok-resize.ensures.items
+    let empty : c.resize.new.self.items ≡ replicate {A = Option ℕ} c.args.opens None = c.in_ok-resize.ensures.items
     ∙ rw (c.new-keys.ensures.items, c.new-keys.ensures.len) (filled {A = Option ℕ} c.args.opens None) in
-    let zeros : c.resize-2.new.self.items ≡ replicate (2 * c.args.objects) 0 = c.in-Ok-resize-2.ensures.items
+    let zeros : c.resize-2.new.self.items ≡ replicate (2 * c.args.objects) 0 = c.in_ok-resize-2.ensures.items
     ∙ rw (c.new-counts.ensures.items, c.new-counts.ensures.len) (filled (2 * c.args.objects) 0) in (
-      index_none c.in-Ok.entries c.resize.new.self.items c.args.opens empty c.in-Ok.ensures.empty c.in-Ok.ensures.capacity,
+      index_none c.in_ok-entries.entries c.resize.new.self.items c.args.opens empty c.in_ok-entries.ensures.empty c.in_ok-entries.ensures.capacity,
       (
-        rw empty (c.in-Ok-new.ensures ∙ none_stands ℕ c.args.opens),
-        rw (zeros, empty, seen_none c.in-Ok.entries c.args.opens) (counted_none c.args.opens c.args.objects (omega (arith, c.ranges.opens))),
+        rw empty (c.in_ok-numbers.ensures ∙ none_stands ℕ c.args.opens),
+        rw (zeros, empty, seen_none c.in_ok-entries.entries c.args.opens) (counted_none c.args.opens c.args.objects (omega (arith, c.ranges.opens))),
       ),
     )
 
 pub returns : goal.returns
 returns c =
-    let empty : c.resize.new.self.items ≡ replicate {A = Option ℕ} c.args.opens None = c.in-Ok-resize.ensures.items
+    let empty : c.resize.new.self.items ≡ replicate {A = Option ℕ} c.args.opens None = c.in_ok-resize.ensures.items
     ∙ rw (c.new-keys.ensures.items, c.new-keys.ensures.len) (filled {A = Option ℕ} c.args.opens None) in
-    ap (λ ks. table_of (seen c.in-Ok.entries ks) c.args.objects) empty ∙ ap (λ es. table_of es c.args.objects) (seen_none c.in-Ok.entries c.args.opens) ∙ none_tables c.args.opens c.args.objects
+    ap (λ ks. table_of (seen c.in_ok-entries.entries ks) c.args.objects) empty ∙ ap (λ es. table_of es c.args.objects) (seen_none c.in_ok-entries.entries c.args.opens) ∙ none_tables c.args.opens c.args.objects

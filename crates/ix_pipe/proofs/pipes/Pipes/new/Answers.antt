@@ -6,7 +6,7 @@ use Rattle.ix_pipe.specs.Pipe.{Pipe}
 use Rattle.ix_pipe.proofs.pipes.Pipes.new.Goals as goal
 
 pub loop-n-preserved : goal.loop-n-preserved
-loop-n-preserved c = rw (c.in-Ok-push.ensures.items, c.in_ok-new.ensures, c.loop-n.invariant) (replicate_more c.loop-n._n None)
+loop-n-preserved c = rw (c.in_ok-push.ensures.items, c.in_ok-new.ensures, c.loop-n.invariant) (replicate_more c.loop-n._n None)
 
 pub returns : goal.returns
 returns c =
@@ -16,4 +16,4 @@ returns c =
 pub invariant_of-result : goal.invariant_of-result
 invariant_of-result c =
     let end : c.loop-n._n ≡ c.args.pipes = omega (arith, c.loop-n.auto._n-end, c.loop-n-test.false) in
-    c.in-Ok-new.ensures ∙ none_stands Pipe c.args.pipes ∙ ap (λ (n : ℕ). vacancies {A = Pipe} (replicate n None)) (sym end) ∙ ap vacancies (sym c.loop-n.invariant)
+    c.in_ok-numbers.ensures ∙ none_stands Pipe c.args.pipes ∙ ap (λ (n : ℕ). vacancies {A = Pipe} (replicate n None)) (sym end) ∙ ap vacancies (sym c.loop-n.invariant)
