@@ -47,7 +47,7 @@ impl<R: Others> Model for CallerIn<R> {
 }
 
 impl<R: Others> CallerIn<R> {
-    /// A caller, at its call.
+    /// The process that makes a call, as it is when the call begins.
     pub fn new(caller: &Caller) -> CallerIn<R>
         requires { IsCalling R.rest caller.now.pid.0 }
         ensures { result ≡ with_who R.rest.processes caller.now }
@@ -58,7 +58,7 @@ impl<R: Others> CallerIn<R> {
         }
     }
 
-    /// The process.
+    /// The record of the calling process.
     #[tactic(auto, using(crate::proofs::Callers::calling))]
     pub fn caller(&self) -> &Caller
         ensures living { living (at self.now R.rest.pid) ≡ Some (process_of R.rest result.now) }
@@ -78,7 +78,7 @@ impl<R: Others> CallerIn<R> {
         self.caller = caller;
     }
 
-    /// Sets the label.
+    /// Sets the label of the calling process.
     #[tactic(auto, using(crate::proofs::Callers::calling))]
     pub fn set_label(&mut self, label: Label)
         ensures { self.new ≡ change self.old R.rest.pid (λ q. record q { label = label }) }

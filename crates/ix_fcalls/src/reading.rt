@@ -31,7 +31,7 @@ use ix_model::{Buf, Call, Fd, Mode, Refusal, Reply};
 use ix_tables::ObjectRow;
 use std::sync::ledger::Ledger;
 
-/// Reads.
+/// Reads through a descriptor.
 impl Files {
     /// What ReadFd reads through and from, where it passes the tests before its look at a label.
     #[tactic(auto, unfolding(ix_model::specs::rows::Rows::coding, ix_model::specs::rows::Walks::opened, ix_model::specs::rows::OnDescriptors::read_fd))]

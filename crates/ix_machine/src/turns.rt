@@ -12,7 +12,7 @@ use std::sync::ledger::Ledger;
 
 /// The steps of the calls that look at what the world holds, or edit it. A refusal leaves the world as it was.
 impl Machine {
-    /// A fork.
+    /// Fork: a child of the caller, with the descriptors that `keep` says, or a refusal.
     pub(crate) fn forked(&mut self, place: u32, pid: Pid, keep: Keep, buf: &Buf) -> Reply
         requires sound { Sound self.old }
         requires lives { lives self.old.frame pid.0 ≡ true }
@@ -27,7 +27,7 @@ impl Machine {
         }
     }
 
-    /// An exit.
+    /// Exit: the caller ends with a status, and lets go of what it had open.
     pub(crate) fn exited(&mut self, place: u32, pid: Pid, status: u8, buf: &Buf) -> Reply
         requires sound { Sound self.old }
         requires lives { lives self.old.frame pid.0 ≡ true }
@@ -41,7 +41,7 @@ impl Machine {
         }
     }
 
-    /// A wait for a child.
+    /// Wait: tells the status of a child that has ended, or refuses.
     #[tactic(auto, using(crate::proofs::Stepped::waited, crate::proofs::Stepped::wait_refused))]
     pub(crate) fn waited<L: Ledger>(
         &mut self,
@@ -62,7 +62,7 @@ impl Machine {
         }
     }
 
-    /// A claim on an end of a pipe.
+    /// Pex: the caller claims its end of a pipe, or is refused.
     pub(crate) fn pexed(&mut self, place: u32, pid: Pid, fd: Fd, buf: &Buf) -> Reply
         requires sound { Sound self.old }
         requires lives { lives self.old.frame pid.0 ≡ true }

@@ -5,7 +5,7 @@ ghost use Rattle.ix_parallel.specs.Meeting.{FirstSeeAll, LearnAll, MayMeet, Meet
 use crate::watch::Watched;
 use ix_lanes::Lane;
 
-/// What learns of others of its kind.
+/// A seat of a kernel, which takes over what another has seen of the history.
 trait Learner {
     ghost use Rattle.std.specs.Prelude.{◌≡◌};
 
@@ -15,7 +15,7 @@ trait Learner {
     /// The first comes to the third state when it learns of the second.
     ghost learns: { Self → Self → Self → Type 0 };
 
-    /// Learns of another, which stays.
+    /// Takes over what another seat has seen; that one stays as it is.
     fn meet(&mut self, other: &mut Self)
         requires { may_meet self.old other.old }
         ensures learns { learns self.old other.old self.new }

@@ -46,7 +46,7 @@ fn add_name(lanes: &mut List<Name>, name: &NameWord<'_>) -> Result<(), NoMemory>
 }
 
 impl<'a> Body<'a> {
-    /// Before any line.
+    /// The lanes and commands of a script of which no line was read yet.
     #[tactic(auto, unfolding(crate::specs::lines::Before::in_body, crate::specs::lines::Before::lane_now, crate::specs::lines::Before::phase_lanes, crate::specs::lines::Before::lanes_of, crate::specs::lines::Before::fds_given, crate::specs::lines::Before::procs_given, crate::specs::lines::Before::commands))]
     pub fn new(alloc: Global) -> Body<'a>
         ensures { BodyTold result [] }

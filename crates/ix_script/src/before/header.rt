@@ -181,7 +181,7 @@ fn take(taken: &mut Taken, fss: &[FsSpec], line: &Line<'_>)
 }
 
 impl<'a> Header<'a> {
-    /// Before any line. `NoMemory` where there was none for the file system that is there then.
+    /// The header of a script of which no line was read yet: one file system is there. `NoMemory` where there was none for it.
     #[tactic(auto, unfolding(crate::specs::lines::Before::fss_told, crate::specs::lines::Before::limits_of, crate::specs::lines::Before::whats_told, crate::specs::lines::Before::proc_names, crate::specs::lines::Before::objects_of, crate::specs::lines::Before::has_policy))]
     pub fn new(alloc: Global) -> Result<Header<'a>, NoMemory>
         ensures { IfOk result (λ h. HeaderTold h []) }
