@@ -25,9 +25,7 @@ impl<'a> Printer<'a> {
     pub fn new(alloc: Global, script: &'a Script) -> Result<Printer<'a>, NoMemory>
         ensures script { IfOk result (λ printer. printer.script.now ≡ script.now) }
     {
-        let Ok(line) = Vec::with_capacity(alloc, ROOM) else {
-            return Err(NoMemory);
-        };
+        let line = Vec::with_capacity(alloc, ROOM)?;
         Ok(Printer {
             script,
             count: 0,

@@ -137,9 +137,7 @@ fn all_differ(alloc: Global, nodes: &[Node<'_>]) -> Result<bool, NoMemory>
 fn differ(alloc: Global, links: &Links<'_>) -> Result<bool, NoMemory>
     ensures { IfOk result (λ b. b ≡ all_differ (map (λ l. l.0) (links_in links.now))) }
 {
-    let Ok(mut names) = Vec::with_capacity(alloc, links.len()) else {
-        return Err(NoMemory);
-    };
+    let mut names = Vec::with_capacity(alloc, links.len())?;
     let mut rest = *links;
     'links: while let Some((link, more)) = rest.split_first() {
         push(&mut names, link.name)?;
@@ -159,9 +157,7 @@ fn counts(alloc: Global, nodes: &[Node<'_>]) -> Result<Vec<u8>, NoMemory>
     requires { NumbersRise 0 (nodes_of nodes.now) }
     ensures { IfOk result (λ counts. AreCounts (nodes_of nodes.now) (nodes_of nodes.now) counts.items) }
 {
-    let Ok(mut counts) = vec![in alloc; 0; nodes.len()] else {
-        return Err(NoMemory);
-    };
+    let mut counts = vec![in alloc; 0; nodes.len()]?;
     for node in nodes {
         count_links(nodes, &node.contents.links(), &mut counts);
     }

@@ -15,9 +15,7 @@ pub fn named_objects(alloc: Global, core: &Core) -> Result<Vec<bool>, NoMemory>
     requires { Sound (world_of core.now) }
     ensures { IfOk result (λ named. AreNamed (world_of core.now) named.items) }
 {
-    let Ok(mut named) = vec![in alloc; false; core.objects() as usize] else {
-        return Err(NoMemory);
-    };
+    let mut named = vec![in alloc; false; core.objects() as usize]?;
     for n in 0..core.objects() {
         mark_names(core, Obj(n), &mut named);
     }

@@ -59,9 +59,7 @@ pub fn reached(alloc: Global, nodes: &[Node<'_>]) -> Result<Vec<bool>, NoMemory>
     requires { NumbersRise 0 (nodes_of nodes.now) }
     ensures { IfOk result (λ marks. AreMarks (nodes_of nodes.now) marks.items) }
 {
-    let Ok(marks) = vec![in alloc; false; nodes.len()] else {
-        return Err(NoMemory);
-    };
+    let marks = vec![in alloc; false; nodes.len()]?;
     let mut found = Found {
         marks,
         places: Vec::new(alloc),

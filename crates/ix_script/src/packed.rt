@@ -124,15 +124,9 @@ impl Lines {
         ensures { IfOk result (λ lines. lines ≡ []) }
     {
         let feeds = feeds_in(bytes);
-        let Ok(text) = Vec::with_capacity(alloc, bytes.len() - feeds) else {
-            return Err(NoMemory);
-        };
-        let Ok(ends) = Vec::with_capacity(alloc, feeds + 1) else {
-            return Err(NoMemory);
-        };
-        let Ok(roles) = Vec::with_capacity(alloc, feeds + 1) else {
-            return Err(NoMemory);
-        };
+        let text = Vec::with_capacity(alloc, bytes.len() - feeds)?;
+        let ends = Vec::with_capacity(alloc, feeds + 1)?;
+        let roles = Vec::with_capacity(alloc, feeds + 1)?;
         Ok(Lines {
             form: LabelForm::One,
             text,
@@ -235,9 +229,7 @@ impl Lines {
         let Ok(end) = u32::try_from(self.text.as_slice().len() + text.len()) else {
             return Err(NoMemory);
         };
-        let Ok(()) = self.ends.push(end) else {
-            return Err(NoMemory);
-        };
+        self.ends.push(end)?;
         let Ok(()) = self.roles.push(role) else {
             self.ends.pop();
             return Err(NoMemory);

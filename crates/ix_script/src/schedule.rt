@@ -37,9 +37,7 @@ fn no_stretches(alloc: Global, count: usize) -> Result<Vec<List<Stretch>>, NoMem
 {
     let mut lists = Vec::new(alloc);
     'lists: for _ in 0..count {
-        let Ok(()) = lists.push(List::new(alloc)) else {
-            return Err(NoMemory);
-        };
+        lists.push(List::new(alloc))?;
     }
     Ok(lists)
 }

@@ -59,9 +59,7 @@ impl<'a> Given<'a> {
         let Some(lane) = lane else {
             return Ok(());
         };
-        let Ok(_) = self.index.insert(place_of(lane, name)) else {
-            return Err(NoMemory);
-        };
+        self.index.insert(place_of(lane, name))?;
         Ok(())
     }
 

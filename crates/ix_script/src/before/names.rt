@@ -39,9 +39,7 @@ impl<'a> Names<'a> {
         ensures names { OnOk result ((names : List (List ℕ)) → AreNames self.old.index names → AreNames self.new.index (names ++ name.now ∷ [])) }
         ensures count { OnOk result (self.new.count ≡ self.old.count + 1) }
     {
-        let Ok(_) = self.index.insert(ByBytes { name }) else {
-            return Err(NoMemory);
-        };
+        self.index.insert(ByBytes { name })?;
         self.count += 1;
         Ok(())
     }

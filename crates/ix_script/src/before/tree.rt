@@ -72,9 +72,7 @@ impl<'a> Tree<'a> {
         ensures sites { OnOk result ((objects : List ObjSpec) (o : ObjSpec) → o.path.names ≡ (path_of path.now).names → o.dir ≡ dir → AreSites self.old.index objects → AreSites self.new.index (objects ++ o ∷ [])) }
         ensures count { OnOk result (self.new.count ≡ self.old.count + 1) }
     {
-        let Ok(_) = self.index.insert(site_of(path, dir)) else {
-            return Err(NoMemory);
-        };
+        self.index.insert(site_of(path, dir))?;
         self.count += 1;
         Ok(())
     }

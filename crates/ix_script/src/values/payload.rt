@@ -187,9 +187,7 @@ impl<'a, const MOST: u32> Payload<'a, MOST> {
     pub(crate) fn decode_into(&self, buffer: &mut Vec<u8>) -> Result<(), NoMemory>
         ensures { OnOk result (buffer.new.items ≡ self.now) }
     {
-        let Ok(()) = buffer.resize(self.len(), 0) else {
-            return Err(NoMemory);
-        };
+        buffer.resize(self.len(), 0)?;
         self.decode(buffer.as_mut_slice());
         Ok(())
     }

@@ -99,9 +99,7 @@ pub fn write(alloc: Global, script: &Script) -> Result<Vec<u8>, NoMemory>
     ensures { IfOk result (λ text. text.items ≡ canonical script.now) }
 {
     let lines = script.lines();
-    let Ok(mut text) = Vec::with_capacity(alloc, lines.room()) else {
-        return Err(NoMemory);
-    };
+    let mut text = Vec::with_capacity(alloc, lines.room())?;
     write_lines(&mut text, &mut Vec::new(alloc), lines)?;
     Ok(text)
 }

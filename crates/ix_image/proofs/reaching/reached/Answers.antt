@@ -9,11 +9,11 @@ use Rattle.ix_image.proofs.reaching.reached.Goals as goal
 
 pub found-init : goal.found-init
 found-init c =
-    let marks : c.in-Ok.marks.items ≡ replicate (length (nodes_of c.args.nodes.now)) false = c.in-Ok.ensures.items_if_clones_equal (λ y same. same)
+    let marks : c.in_ok-marks.marks.items ≡ replicate (length (nodes_of c.args.nodes.now)) false = c.in_ok-marks.ensures.items_if_clones_equal (λ y same. same)
     ∙ ap (λ n. replicate n false) (sym (length-map c.args.nodes.now node_of)) in
     search_begins (nodes_of c.args.nodes.now) c.find.new.self.marks.items c.find.new.self.places.items
     (subst (λ (m : List Bool). Finds (nodes_of c.args.nodes.now) (0 ∷ []) m [] c.find.new.self.marks.items c.find.new.self.places.items) marks
-    (subst (λ (p : List ℕ). Finds (nodes_of c.args.nodes.now) (0 ∷ []) c.in-Ok.marks.items p c.find.new.self.marks.items c.find.new.self.places.items) c.new.ensures.items c.in_ok-find.ensures))
+    (subst (λ (p : List ℕ). Finds (nodes_of c.args.nodes.now) (0 ∷ []) c.in_ok-marks.marks.items p c.find.new.self.marks.items c.find.new.self.places.items) c.new.ensures.items c.in_ok-find.ensures))
 
 pub bounds-nodes-index : goal.bounds-nodes-index
 bounds-nodes-index c =

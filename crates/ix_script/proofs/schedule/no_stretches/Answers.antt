@@ -7,6 +7,6 @@ lists-init c = (ap length c.new-lists.ensures.items, none_yet c.new-lists.result
 
 pub lists-preserved : goal.lists-preserved
 lists-preserved c = (
-  omega (arith, ap length c.in-Ok.ensures.items, length-append c.lists.lists.items (c.new.result ∷ []), c.lists.invariant.0),
-  none_more c.lists.lists.items c.push.new.self.items c.new.result c.new.ensures c.in-Ok.ensures.items c.lists.invariant.1,
+  omega (arith, ap length c.in_ok-push.ensures.items, length-append c.lists.lists.items (c.new.result ∷ []), c.lists.invariant.0),
+  none_more c.lists.lists.items c.push.new.self.items c.new.result c.new.ensures c.in_ok-push.ensures.items c.lists.invariant.1,
 )

@@ -36,10 +36,10 @@ invariant_of-self-2 c =
     let is : form ≡ form_told (held old 0 text ends ++ line ∷ []) = sym c.requires.form ∙ ap (λ (ls : List Line). form_told (ls ++ line ∷ [])) (sym c.self.view_is) in
     let more : held form 0 c.extend_from_slice.new.self.items c.push.new.self.items ≡ held old 0 text ends ++ line ∷ [] =
     held_after old form line text c.args.text.now ends c.extend_from_slice.new.self.items c.push.new.self.items c.in-Ok.end
-    c.in-Ok-extend_from_slice.ensures.items c.in-Ok-push.ensures.items long c.self.invariant.2 is c.self.invariant.0 in
+    c.in-Ok-extend_from_slice.ensures.items c.in_ok-push.ensures.items long c.self.invariant.2 is c.self.invariant.0 in
     let role : c.push-2.new.self.items ≡ c.self.inside.roles.items ++ role_of line ∷ [] = rw (c.in-Ok-push-2.ensures.items, c.requires.role) refl in (
       lines_after old form line text c.args.text.now ends c.extend_from_slice.new.self.items c.push.new.self.items c.in-Ok.end
-          c.in-Ok-extend_from_slice.ensures.items c.in-Ok-push.ensures.items long c.self.invariant.2 is c.self.invariant.0 c.requires.faultless,
+          c.in-Ok-extend_from_slice.ensures.items c.in_ok-push.ensures.items long c.self.invariant.2 is c.self.invariant.0 c.requires.faultless,
       summed_after (held old 0 text ends) _ line c.self.inside.roles.items _ c.self.inside.need _ more role (ap (λ (n : ℕ). c.self.inside.need + n) (sym c.requires.cost)) c.self.invariant.1,
       is ∙ ap form_told (sym more),
     )
@@ -54,5 +54,5 @@ returns c =
     let long : c.in-Ok.end ≡ length text + length c.args.text.now = omega (arith, c.in-Ok.ensures, ap length c.as_slice.ensures.value) in
     let is : form ≡ form_told (held old 0 text ends ++ line ∷ []) = sym c.requires.form ∙ ap (λ (ls : List Line). form_told (ls ++ line ∷ [])) (sym c.self.view_is) in
     held_after old form line text c.args.text.now ends c.extend_from_slice.new.self.items c.push.new.self.items c.in-Ok.end
-    c.in-Ok-extend_from_slice.ensures.items c.in-Ok-push.ensures.items long c.self.invariant.2 is c.self.invariant.0
+    c.in-Ok-extend_from_slice.ensures.items c.in_ok-push.ensures.items long c.self.invariant.2 is c.self.invariant.0
     ∙ ap (λ (ls : List Line). ls ++ line ∷ []) c.self.view_is
