@@ -4,7 +4,7 @@ use Rattle.ix_inode.specs.declared.node.Node.{Node}
 use Rattle.ix_inode.specs.Nodes.{Nodes, blocks_of, free_blocks}
 use Rattle.ix_inode.specs.Volumes.{IsSpot, nodes_of}
 use Rattle.ix_inode.proofs.Laid.{view_counted, fs_here}
-use Rattle.ix_inode.proofs.inodes.Inodes.counted.Goals as goal
+use Rattle.ix_inode.proofs.inodes.Inodes.lemma_blocks_add_up.Goals as goal
 
 pub returns : goal.returns
 returns c x there =

@@ -14,8 +14,8 @@ pub claim-requires-clause-lives : goal.claim-requires-clause-lives
 claim-requires-clause-lives c = is_living c.self.inside.limits c.self.inside.inodes c.self.inside.names c.self.inside.pipes c.self.inside.opens
     c.self.inside.homes.items c.args.self.now c.self.inside.first_pipe c.args.n c.self.invariant c.self.view_is c.requires.pipe
 
-pub bounded-requires : goal.bounded-requires
-bounded-requires c = is_living c.self.inside.limits c.self.inside.inodes c.self.inside.names c.self.inside.pipes c.self.inside.opens c.self.inside.homes.items
+pub lemma_is_bounded-requires : goal.lemma_is_bounded-requires
+lemma_is_bounded-requires c = is_living c.self.inside.limits c.self.inside.inodes c.self.inside.names c.self.inside.pipes c.self.inside.opens c.self.inside.homes.items
     c.args.self.now c.self.inside.first_pipe c.args.n c.self.invariant c.self.view_is c.requires.pipe
 
 pub returns-clause-answer : goal.returns-clause-answer

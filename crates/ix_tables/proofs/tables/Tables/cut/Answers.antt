@@ -8,8 +8,8 @@ use Rattle.ix_tables.proofs.Rooms.{room_there}
 use Rattle.ix_tables.proofs.Refusing.{not_refused}
 use Rattle.ix_tables.proofs.tables.Tables.cut.Goals as goal
 
-pub counted-requires : goal.counted-requires
-counted-requires c = file_lives c.args.n c.self.inside.inodes (is_file_there c.self.inside.limits c.self.inside.inodes c.self.inside.names c.self.inside.pipes
+pub lemma_blocks_add_up-requires : goal.lemma_blocks_add_up-requires
+lemma_blocks_add_up-requires c = file_lives c.args.n c.self.inside.inodes (is_file_there c.self.inside.limits c.self.inside.inodes c.self.inside.names c.self.inside.pipes
     c.self.inside.opens c.self.inside.homes.items c.args.self.now c.self.inside.first_pipe c.self.invariant c.self.view_is c.args.n c.requires.file)
 
 pub cut-requires-clause-file : goal.cut-requires-clause-file
