@@ -165,6 +165,26 @@ fn begin_alike(twin: &Twin, one: &Script, two: &Script) -> bool
     have_same_lanes(one, two) && twin.start()
 }
 
+/// What is written of two scripts whose runs have no entries yet.
+fn compare_runs(
+    alloc: Global,
+    twin: &mut Twin,
+    one: &Script,
+    policy: Option<&Policy>,
+    two: &Script,
+    other_policy: Option<&Policy>,
+) -> Result<Vec<u8>, NoMemory>
+    requires first { option_map (λ p. p.now) policy ≡ rules_told one.now }
+    requires second { option_map (λ p. p.now) other_policy ≡ rules_told two.now }
+    requires bare { twin.old ≡ record { at = twin.old.at; first = record { config = config_of one.now; events = [] }; second = record { config = config_of two.now; events = [] } } }
+    ensures { IfOk result (λ text. text.items ≡ twin_text twin.old.at one.now two.now) }
+{
+    if !begin_alike(twin, one, two) {
+        return framed(alloc, b"", b"differ ", 0, 0);
+    }
+    run_scripts(alloc, twin, one, policy, two, other_policy)
+}
+
 /// What is written of two scripts that are compared at a label: whether their serial runs agree there, the lines of both at each place where
 /// the caller is low in the first run, up to the first entry that crosses the label, and how many such places there are. Each script comes
 /// with its policy, if it has one.
@@ -181,8 +201,5 @@ pub fn compare(
     ensures { IfOk result (λ text. text.items ≡ twin_text at.now one.now two.now) }
 {
     let mut twin = twin_of(alloc, at, one, two)?;
-    if !begin_alike(&twin, one, two) {
-        return framed(alloc, b"", b"differ ", 0, 0);
-    }
-    run_scripts(alloc, &mut twin, one, policy, two, other_policy)
+    compare_runs(alloc, &mut twin, one, policy, two, other_policy)
 }
