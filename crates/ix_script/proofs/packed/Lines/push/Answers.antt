@@ -37,7 +37,7 @@ invariant_of-self-2 c =
     let more : held form 0 c.extend_from_slice.new.self.items c.push.new.self.items ≡ held old 0 text ends ++ line ∷ [] =
     held_after old form line text c.args.text.now ends c.extend_from_slice.new.self.items c.push.new.self.items c.in-Ok.end
     c.in-Ok-extend_from_slice.ensures.items c.in_ok-push.ensures.items long c.self.invariant.2 is c.self.invariant.0 in
-    let role : c.push-2.new.self.items ≡ c.self.inside.roles.items ++ role_of line ∷ [] = rw (c.in-Ok-push-2.ensures.items, c.requires.role) refl in (
+    let role : c.push-2.new.self.items ≡ c.self.inside.roles.items ++ role_of line ∷ [] = rw (c.in-Ok-push.ensures.items, c.requires.role) refl in (
       lines_after old form line text c.args.text.now ends c.extend_from_slice.new.self.items c.push.new.self.items c.in-Ok.end
           c.in-Ok-extend_from_slice.ensures.items c.in_ok-push.ensures.items long c.self.invariant.2 is c.self.invariant.0 c.requires.faultless,
       summed_after (held old 0 text ends) _ line c.self.inside.roles.items _ c.self.inside.need _ more role (ap (λ (n : ℕ). c.self.inside.need + n) (sym c.requires.cost)) c.self.invariant.1,
