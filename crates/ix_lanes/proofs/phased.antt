@@ -11,3 +11,4 @@ pub mod Appended
 pub mod SideBySide
 pub mod InOrder
 pub mod Stretching
+pub mod Among

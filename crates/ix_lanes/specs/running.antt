@@ -1,4 +1,5 @@
 pub mod Phases
+pub mod Stretches
 pub mod Left
 pub mod Runs
 pub mod Fields

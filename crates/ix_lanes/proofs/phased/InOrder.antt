@@ -1,6 +1,6 @@
 -- A serial run that asks for one call at a time: the entries that are left, line by line and call by call.
-use Rattle.std.proofs.Common.{◌≡◌, ◌≢◌, ℕ, suc, ◌+◌, ◌<◌, ◌≤◌, Bool, true, false, true≢false, List, [], ◌∷◌, length, map, take, drop, set, Option}
-use Rattle.std.proofs.Common.{Some, None, IfSome, is_some, option_map, refl, sym, ap, ◌∙◌, subst, arith, slice_get, slice_index_or, length-set}
+use Rattle.std.proofs.Common.{◌≡◌, ◌≢◌, ℕ, suc, ◌+◌, ◌<◌, Bool, true, false, true≢false, List, [], ◌∷◌, length, map, take, drop, set, Option, Some}
+use Rattle.std.proofs.Common.{None, IfSome, is_some, option_map, refl, sym, ap, ◌∙◌, subst, arith, slice_get, slice_index_or, length-set}
 use Rattle.std.proofs.Common.{get_or-set_same, get_or-set_other, ⊎_elim}
 use Rattle.std.specs.List.{fold}
 use Rattle.std.specs.Option.{option_map_or}
@@ -21,7 +21,7 @@ use Rattle.ix_script.specs.declared.line.Line.{Line}
 use Rattle.ix_script.specs.declared.line.Line.TheVariants as line
 use Rattle.ix_lanes.specs.asking.Asked.{Names, Numbers, asked, named, no_names}
 use Rattle.ix_lanes.specs.asking.LineAsks.{line_asks, one_call}
-use Rattle.ix_lanes.specs.asking.Places.{KeepsPlaces, has_places, standing}
+use Rattle.ix_lanes.specs.asking.Places.{KeepsPlaces, standing}
 use Rattle.ix_lanes.specs.asking.Ruled.{rules_told}
 use Rattle.ix_lanes.specs.declared.asking.handed.Handed.{Handed}
 use Rattle.ix_lanes.specs.declared.asking.handed.Handed.TheVariants as handed
@@ -32,7 +32,7 @@ use Rattle.ix_lanes.specs.histories.Indexed.{line_in}
 use Rattle.ix_script.specs.scripts.Schedule.{is_seat, seat_after}
 use Rattle.ix_lanes.specs.histories.Serial.{answered, header_of, made_then, names_of, renamed, serial_from}
 use Rattle.ix_lanes.specs.running.Fields.{all_placed}
-use Rattle.ix_lanes.specs.running.Left.{Holds, IsHeard, IsPending, is_over, part_left, part_most}
+use Rattle.ix_lanes.specs.running.Left.{Holds, IsHeard, IsPending, is_over, part_left}
 use Rattle.ix_lanes.specs.running.Phases.{lane_among, seat_at}
 use Rattle.ix_lanes.specs.running.Serially.{ArePlaced, IsWithin, SerialLeft, after_line, entries_left, entry_next, line_left, most_entries, next_entry}
 use Rattle.ix_lanes.proofs.serially.LaneSteps.{seat_within}

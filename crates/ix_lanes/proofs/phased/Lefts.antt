@@ -24,12 +24,14 @@ use Rattle.ix_lanes.specs.declared.running.part.Part.TheVariants as part
 use Rattle.ix_lanes.specs.asking.Ruled.{rules_told}
 use Rattle.ix_lanes.specs.histories.History.{phase_of}
 use Rattle.ix_lanes.specs.histories.Indexed.{line_in}
+use Rattle.ix_script.specs.declared.schedule.Stretch.{Stretch}
 use Rattle.ix_script.specs.scripts.Schedule.{is_seat}
 use Rattle.ix_lanes.specs.histories.Lanes.{lane_asks}
 use Rattle.ix_lanes.specs.histories.Serial.{header_of}
 use Rattle.ix_lanes.specs.running.Left.{Holds, IsHeard, IsHere, IsPending, LaneLeft, asks_left, is_done, is_over, left_from, most_from, names_done, next_phase, part_left, place_of}
 use Rattle.ix_script.specs.lines.Before.{is_phase}
 use Rattle.ix_lanes.specs.running.Phases.{lane_between, seat_at}
+use Rattle.ix_lanes.specs.running.Stretches.{IsAmong}
 use Rattle.ix_lanes.proofs.found.Roles.{line-is, line-there}
 use Rattle.ix_lanes.proofs.serially.LineCalls.{all-numbered}
 use Rattle.ix_lanes.proofs.phased.Between.{between_all, between_both, between_more, between_none}
@@ -192,14 +194,12 @@ module _ (s : List Line) (seat end at : ℕ) (rules : Option (List Rule)) (heade
         ∙ ap (λ x. followed x (λ g. lines_ask (rules_told s) (header_of s) (named names l g) (lane_between s seat (at + 1) end))) asks
         ∙ sym left_is
 
-    pub here_begun : (in_lane : Option ℕ) (begun : ℕ) → in_lane ≡ seat_at s (take at s) → begun ≡ count_by is_phase (take at s)
-        → IsHere s seat end at in_lane begun names l buf c p
-    here_begun in_lane begun seated passed = record {
+    pub here_begun : (t : Stretch) (come : ℕ) → IsAmong s seat at t come → at < t.end → IsHere s seat end at t come names l buf c p
+    here_begun t come among inside = record {
       within = (omega (arith, low), within);
-      in_lane = seated;
-      begun = passed;
+      among = among;
       over = λ over. absurd (true≢false (sym over ∙ not));
-      mine = λ x. (low, ap (is_seat seat) seated ∙ is);
+      mine = λ x. (low, inside);
       line = λ x. line-is s at l there;
       apart = apart;
       numbered = subst (λ (h : Numbers). AllOf (OfLine (at + 1)) (part_left h names (at + 1) l c p)) tables
@@ -226,8 +226,7 @@ pub numbered_on : {R : Type 0} (n : ℕ) (p : Asking R) (a : Answered) → AllOf
 numbered_on n (asking.Done r) a all = tt
 numbered_on n (Ask x later) a all = all.1 a
 
-module _ (s : List Line) (seat end at : ℕ) (in_lane : Option ℕ) (begun : ℕ) (names : Names) (l : Line) (buf : List ℕ) (c : Copying) (p : Part)
-    (h : IsHere s seat end at in_lane begun names l buf c p) where
+module _ (s : List Line) (seat end at : ℕ) (t : Stretch) (come : ℕ) (names : Names) (l : Line) (buf : List ℕ) (c : Copying) (p : Part) (h : IsHere s seat end at t come names l buf c p) where
   -- the line is that of the script
   pub line_left : left_from s seat end at names (line_in s at) c p ≡ left_from s seat end at names l c p
   line_left = go (is_over p) refl
@@ -246,22 +245,23 @@ module _ (s : List Line) (seat end at : ℕ) (in_lane : Option ℕ) (begun : ℕ
   left_in is = rw is refl
 
   -- the phase of the next call
-  pub phase_here : is_over p ≡ false → next_phase s (first (left_from s seat end at names l c p)) ≡ Some (begun - 1)
+  pub phase_here : is_over p ≡ false → next_phase s (first (left_from s seat end at names l c p)) ≡ Some t.phase
   unfolding phase_of
   phase_here is =
       let due = due_number (at + 1) (part_left (header_of s) names (at + 1) l c p) h.numbered (here_pending is) in
       let low = (h.mine is).0 in
       let within = h.within in
       let there = line-there s at (omega (arith, low, within.1)) ∙ ap Some (sym (h.line is)) in
-      let more : count_by is_phase (take (at + 1) s) ≡ begun + 0 = begun_more s at l there ∙ (λ i. sym h.begun i + cond (h.apart is i) 1 0) in
-      let same : begun + 0 ≡ begun = omega arith in
+      let more : count_by is_phase (take (at + 1) s) ≡ count_by is_phase (take at s) + 0 = begun_more s at l there ∙ ap (λ b. count_by is_phase (take at s) + cond b 1 0) (h.apart is) in
+      let phase = h.among.phase (h.mine is).1 in
+      let same : count_by is_phase (take (at + 1) s) - 1 ≡ t.phase = omega (arith, more, phase) in
       ap (λ q. next_phase s (first q)) (left_in is) ∙ ap (next_phase s) (followed_next later_lines (part_left (header_of s) names (at + 1) l c p) due.0 due.1)
-      ∙ ap (λ n. Some (count_by is_phase (take n s) - 1)) due.2 ∙ ap (λ n. Some (n - 1)) (more ∙ same)
+      ∙ ap (λ n. Some (count_by is_phase (take n s) - 1)) due.2 ∙ ap Some same
 
   module _ (d : Copying) (q : Part) (a : Answered) where
     -- a line that asks on
     pub asks_on : is_over p ≡ false → IsHeard (header_of s) names (at + 1) l c p d q a None
-        → (left_from s seat end at names l d q ≡ heard (left_from s seat end at names l c p) a) × IsHere s seat end at in_lane begun names l buf d q
+        → (left_from s seat end at names l d q ≡ heard (left_from s seat end at names l c p) a) × IsHere s seat end at t come names l buf d q
         × (most_from end at d q < most_from end at c p)
     asks_on is k =
         let not_over = due_here (header_of s) names (at + 1) l d q k.1 in (
@@ -269,8 +269,7 @@ module _ (s : List Line) (seat end at : ℕ) (in_lane : Option ℕ) (begun : ℕ
               ∙ sym (ap (λ x. heard x a) (left_in is) ∙ followed_heard later_lines (part_left (header_of s) names (at + 1) l c p) a (here_pending is)),
           record {
             within = h.within;
-            in_lane = h.in_lane;
-            begun = h.begun;
+            among = h.among;
             over = λ x. absurd (true≢false (sym x ∙ not_over));
             mine = λ x. h.mine is;
             line = λ x. h.line is;

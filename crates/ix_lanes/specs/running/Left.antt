@@ -1,5 +1,5 @@
 -- What is left of what a lane asks for.
-use Rattle.std.specs.Prelude.{◌≡◌, ℕ, ◌+◌, ◌*◌, ◌-◌, ◌<◌, ◌≤◌, Bool, true, false, List, take, length, Option, Some, None, count_by, if◌then◌else◌}
+use Rattle.std.specs.Prelude.{◌≡◌, ℕ, ◌+◌, ◌*◌, ◌-◌, ◌<◌, ◌≤◌, Bool, true, false, List, take, length, Option, Some, None, if◌then◌else◌}
 use Rattle.ix_asking.specs.Asking.{Answered, Asking, Done, Ask, Next, Came, Due, IsDue, first, followed, heard, mapped}
 use Rattle.ix_asking.specs.Copying.{copying_asks, copying_most}
 use Rattle.ix_asking.specs.declared.copying.Copying.{Copying}
@@ -17,10 +17,11 @@ use Rattle.ix_lanes.specs.declared.running.part.Part.{Part}
 use Rattle.ix_lanes.specs.declared.running.part.Part.TheVariants as part
 use Rattle.ix_lanes.specs.histories.History.{phase_of}
 use Rattle.ix_lanes.specs.histories.Indexed.{line_in}
-use Rattle.ix_script.specs.scripts.Schedule.{is_seat}
+use Rattle.ix_script.specs.declared.schedule.Stretch.{Stretch}
 use Rattle.ix_lanes.specs.histories.Serial.{header_of}
 use Rattle.ix_script.specs.lines.Before.{is_phase}
-use Rattle.ix_lanes.specs.running.Phases.{lane_between, seat_at}
+use Rattle.ix_lanes.specs.running.Phases.{lane_between}
+use Rattle.ix_lanes.specs.running.Stretches.{IsAmong}
 
 -- ---- in a line
 -- whether a lane stands in no line
@@ -83,12 +84,11 @@ abbrev pub most_from : ℕ → ℕ → Copying → Part → ℕ
 most_from end at copying p = if is_over p then 0 else part_most copying p + 9 * (end - (at + 1))
 
 -- A lane stands at its end, or in a line of its own before it, which asks for a call next.
-pub record IsHere (s : List Line) (seat end at : ℕ) (at_seat : Option ℕ) (phases_begun : ℕ) (names : Names) (l : Line) (buf : List ℕ) (copying : Copying) (p : Part) : Type 0 where
+pub record IsHere (s : List Line) (seat end at : ℕ) (t : Stretch) (come : ℕ) (names : Names) (l : Line) (buf : List ℕ) (copying : Copying) (p : Part) : Type 0 where
   pub within : (at ≤ end) × (end ≤ length s)
-  pub in_lane : at_seat ≡ seat_at s (take at s)
-  pub begun : phases_begun ≡ count_by is_phase (take at s)
+  pub among : IsAmong s seat at t come
   pub over : is_over p ≡ true → at ≡ end
-  pub mine : is_over p ≡ false → (at < end) × (is_seat seat at_seat ≡ true)
+  pub mine : is_over p ≡ false → (at < end) × (at < t.end)
   pub line : is_over p ≡ false → l ≡ line_in s at
   pub apart : is_over p ≡ false → is_phase l ≡ false
   pub numbered : AllOf (OfLine (at + 1)) (part_left (header_of s) names (at + 1) l copying p)

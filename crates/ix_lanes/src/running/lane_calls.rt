@@ -11,7 +11,7 @@ ghost use Rattle.ix_lanes.specs.running.Phases.{lane_among, seat_at};
 use crate::asking::bindings::Bindings;
 use crate::asking::calls::{bind, call_of};
 use crate::asking::places::Places;
-use crate::lanes::{header_of, seat_past};
+use crate::lanes::header_of;
 use crate::lines::{line_at, role_at};
 use crate::running::hearing::heard;
 use crate::running::here::Here;
@@ -90,7 +90,7 @@ impl<'a> Model for LaneCalls<'a> {
     ghost view = { λ c. record { script = c.script.now; seat = c.lane; names = standing c.places; at = c.here.at; end = c.end; copying = c.copying; part = c.part } };
 
     ghost invariant = { λ c. AreFields c.script.now c.lane c.header c.places (option_map (λ p. p.now) c.policy)
-        × IsHere c.script.now c.lane c.end c.here.at c.here.seat c.here.begun (standing c.places) c.here.line c.written c.copying c.part };
+        × IsHere c.script.now c.lane c.end c.here.at c.here.stretch c.here.come (standing c.places) c.here.line c.written c.copying c.part };
 }
 
 impl<'a> LaneCalls<'a> {
@@ -123,10 +123,15 @@ impl<'a> LaneCalls<'a> {
     {
         let header = header_of(alloc, script)?;
         let places = places_of(alloc, script, lane)?;
+        let stretch = Stretch {
+            phase: 0,
+            first: 0,
+            end: 0,
+        };
         let here = Here {
             at: 0,
-            seat: None,
-            begun: 0,
+            stretch,
+            come: 0,
             line: Line::Skipped,
         };
         Ok(LaneCalls {
@@ -198,6 +203,14 @@ impl<'a> LaneCalls<'a> {
         }
     }
 
+    /// How many lines it has in a phase behind those for which it asks. Contracts say nothing of it: it tells only what is worth a thread.
+    pub(crate) fn lines_in(&self, phase: u32) -> u32 {
+        match self.script.stretch(self.lane, self.here.come) {
+            Some(stretch) if stretch.phase == phase => stretch.end.saturating_sub(stretch.first),
+            _ => 0,
+        }
+    }
+
     /// The index of the first line that it doesn't ask for.
     pub fn end(&self) -> u32
         ensures { result ≡ self.now.end }
@@ -211,7 +224,7 @@ impl<'a> LaneCalls<'a> {
     {
         match self.part {
             Part::Over => None,
-            _ => Some(self.here.begun.saturating_sub(1)),
+            _ => Some(self.here.stretch.phase),
         }
     }
 }
@@ -253,8 +266,7 @@ impl Asks for LaneCalls<'_> {
             return;
         };
         bind(&mut self.places, &self.here.line, &handed);
-        let role = role_at(self.script, self.here.at);
-        self.here.pass(self.script, role);
+        self.here.pass();
         self.part = self.here.find(
             self.script,
             self.lane,

@@ -3,7 +3,7 @@ ghost use Rattle.std.specs.Prelude.{◌≡◌};
 use crate::running::lane_calls::LaneCalls;
 use crate::running::phases::phase_end;
 use ix_asking::run;
-use ix_model::{Answer, NoMemory, Sys};
+use ix_model::{Answer, Buf, NoMemory, Sys};
 use ix_policy::Policy;
 use ix_script::Script;
 use std::alloc::Global;
@@ -16,6 +16,8 @@ pub struct LaneRun<'a> {
     script: &'a Script,
     calls: LaneCalls<'a>,
     done: u32,
+    /// What its calls read.
+    read: Buf,
 }
 
 impl<'a> Model for LaneRun<'a> {
@@ -64,7 +66,14 @@ impl<'a> LaneRun<'a> {
             script,
             calls,
             done: 0,
+            read: [0; 4096],
         })
+    }
+
+    /// How many lines the lane has in a phase behind those that are done. Contracts say nothing of it: it tells only what is worth a
+    /// thread.
+    pub(crate) fn lines_in(&self, phase: u32) -> u32 {
+        self.calls.lines_in(phase)
     }
 
     /// Runs the lines of the lane in its next phase. `None`: they are all done. `Some` is the stop of one of their calls: of the
@@ -89,8 +98,7 @@ impl<'a> LaneRun<'a> {
         let _count = self.script.len();
         self.calls
             .ask_to(phase_end(self.script, self.calls.end(), phase));
-        let mut buf = [0; 4096];
-        match run(sys, &mut self.calls, &mut buf) {
+        match run(sys, &mut self.calls, &mut self.read) {
             Ok(()) => {
                 self.done = phase + 1;
                 None

@@ -1,12 +1,14 @@
-use Rattle.std.proofs.Common.{◌+◌, List, Some, sym, ap, ◌∙◌, subst, arith}
+use Rattle.std.proofs.Common.{ℕ, ◌+◌, List, Some, sym, ap, ◌∙◌, subst, arith}
 use Rattle.ix_asking.specs.Asking.{IsDue, first, heard}
 use Rattle.ix_script.specs.declared.line.Line.{Line}
 use Rattle.ix_lanes.specs.asking.Places.{standing}
 use Rattle.ix_lanes.specs.histories.Indexed.{line_in}
-use Rattle.ix_script.specs.scripts.Schedule.{is_seat}
 use Rattle.ix_lanes.specs.histories.Serial.{header_of}
 use Rattle.ix_lanes.specs.running.Left.{IsHeard, LaneLeft, asks_left}
+use Rattle.ix_script.specs.declared.schedule.Stretch.{Stretch}
+use Rattle.ix_lanes.specs.running.Stretches.{IsAmong}
 use Rattle.ix_lanes.proofs.found.Roles.{line-there}
+use Rattle.ix_lanes.proofs.phased.Among.{among_mine, among_more}
 use Rattle.ix_lanes.proofs.phased.Lefts.{asks_on, due_left, here_pending, line_left}
 use Rattle.ix_lanes.proofs.phased.Placed.{keeps-lines, placed-line}
 use Rattle.ix_lanes.proofs.running.lane_calls.LaneCallsAsks.hear.Goals as goal
@@ -52,8 +54,9 @@ bind-requires c =
     let mine = c.self.invariant.1.mine is in
     let low = mine.0 in
     let within = c.self.invariant.1.within in
+    let here = among_mine s i.lane i.here.at i.here.stretch i.here.come c.self.invariant.1.among mine.1 in
     placed-line s i.lane i.here.at i.here.line (line-there s i.here.at (omega (arith, low, within.1)) ∙ ap Some (sym (c.self.invariant.1.line is))) i.places
-    (sym (ap (is_seat i.lane) c.self.invariant.1.in_lane) ∙ mine.1) c.self.invariant.0.places
+    here c.self.invariant.0.places
 
 pub find-self-inside-requires-clause-places : goal.find-self-inside-requires-clause-places
 find-self-inside-requires-clause-places c = keeps-lines c.self.inside.places c.bind.new.places c.bind.ensures.keeps _ c.self.invariant.0.places
@@ -68,3 +71,20 @@ invariant_of-self-2 c = (
   },
   c.find-self-inside.ensures.here,
 )
+
+pub pass-requires : goal.pass-requires
+pass-requires c =
+    let i = c.self.inside in
+    let due = subst (λ (v : LaneLeft). IsDue (first (asks_left v))) (sym c.self.view_is) c.requires.call in
+    let is = due_left i.script.now i.lane i.end i.here.at (standing i.places) (line_in i.script.now i.here.at) i.copying i.part due in
+    record { within = (c.self.invariant.1.mine is).1 }
+
+pub find-self-inside-requires-clause-among : goal.find-self-inside-requires-clause-among
+find-self-inside-requires-clause-among c =
+    let i = c.self.inside in
+    let s : List Line = i.script.now in
+    let due = subst (λ (v : LaneLeft). IsDue (first (asks_left v))) (sym c.self.view_is) c.requires.call in
+    let is = due_left s i.lane i.end i.here.at (standing i.places) (line_in s i.here.at) i.copying i.part due in
+    let more = among_more s i.lane i.here.at i.here.stretch i.here.come c.self.invariant.1.among (c.self.invariant.1.mine is).1 c.pass.new.self.at c.pass.ensures.at in
+    subst (λ (n : ℕ). IsAmong s i.lane c.pass.new.self.at c.pass.new.self.stretch n) (sym c.pass.ensures.same.1)
+    (subst (λ (t : Stretch). IsAmong s i.lane c.pass.new.self.at t i.here.come) (sym c.pass.ensures.same.0) more)

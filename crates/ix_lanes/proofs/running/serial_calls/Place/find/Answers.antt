@@ -1,5 +1,4 @@
 use Rattle.std.proofs.Common.{◌≡◌, ◌+◌, ◌<◌, ℕ, false, List, Some, length, map, option_map, take, drop, sym, ap, ◌∙◌, true≢false, arith, slice_index_or}
-use Rattle.ix_model.specs.world.World.{World}
 use Rattle.ix_asking.specs.Asking as asking
 use Rattle.ix_script.specs.lines.Before.{lanes_of}
 use Rattle.ix_script.specs.declared.line.Line.{Line}
@@ -13,7 +12,6 @@ use Rattle.ix_script.specs.scripts.Schedule.{seat_after}
 use Rattle.ix_lanes.specs.histories.Serial.{serial_from}
 use Rattle.ix_lanes.specs.running.Left.{is_over, part_left}
 use Rattle.ix_lanes.specs.running.Phases.{seat_at}
-use Rattle.ix_lanes.specs.running.Serially.{ArePlaced}
 use Rattle.ix_lanes.proofs.found.Roles.{line-there}
 use Rattle.ix_lanes.proofs.phased.InOrder.{begun_left, begun_within, lane_mine, lane_there, lane_within, passed, placed_set, skipped}
 use Rattle.ix_lanes.proofs.phased.LaneLines.{seat_one_more}

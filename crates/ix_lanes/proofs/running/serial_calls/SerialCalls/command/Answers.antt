@@ -1,6 +1,5 @@
-use Rattle.std.proofs.Common.{◌≡◌, ◌<◌, List, ℕ, Option, Some, length, map, option_map, sym, ap, ◌∙◌, subst, arith}
+use Rattle.std.proofs.Common.{◌≡◌, List, Some, map, sym, ap, ◌∙◌, arith}
 use Rattle.ix_script.specs.declared.line.Line.{Line}
-use Rattle.ix_lanes.specs.declared.asking.places.Places.{Places}
 use Rattle.ix_lanes.specs.declared.running.part.Part.TheVariants as part
 use Rattle.ix_lanes.specs.asking.Places.{standing}
 use Rattle.ix_lanes.specs.running.Left.{is_over}

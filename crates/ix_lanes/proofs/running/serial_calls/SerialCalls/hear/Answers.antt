@@ -1,4 +1,4 @@
-use Rattle.std.proofs.Common.{◌≡◌, ◌∷◌, ◌+◌, ◌<◌, ℕ, List, Option, Some, None, is_some, map, drop, sym, ap, ◌∙◌, subst, length, true, arith}
+use Rattle.std.proofs.Common.{◌≡◌, ◌∷◌, ◌+◌, ◌<◌, List, Some, is_some, map, drop, sym, ap, ◌∙◌, subst, length, true, arith}
 use Rattle.std.specs.Vec.{with_item}
 use Rattle.std.proofs.lemmas.List.{with_items_is}
 use Rattle.ix_model.specs.history.Step.{step_of}

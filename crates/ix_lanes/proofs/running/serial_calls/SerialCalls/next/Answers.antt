@@ -1,4 +1,4 @@
-use Rattle.std.proofs.Common.{◌≡◌, List, ℕ, Option, Some, map, option_map, sym, ap, ◌∙◌}
+use Rattle.std.proofs.Common.{◌≡◌, List, Some, map, sym, ap, ◌∙◌}
 use Rattle.ix_asking.specs.Asking.{Asking, first}
 use Rattle.ix_asking.specs.declared.serving.outcome.Outcome.{Outcome}
 use Rattle.ix_privserv.specs.Places as privileges
@@ -12,7 +12,7 @@ use Rattle.ix_lanes.specs.asking.Handing.{who_in}
 use Rattle.ix_lanes.specs.declared.asking.handed.Handed.TheVariants as handed
 use Rattle.ix_lanes.specs.declared.running.part.Part.{Part}
 use Rattle.ix_lanes.specs.declared.running.part.Part.TheVariants as part
-use Rattle.ix_lanes.specs.running.Serially.{SerialLeft, entry_next, next_entry}
+use Rattle.ix_lanes.specs.running.Serially.{entry_next, next_entry}
 use Rattle.ix_lanes.proofs.phased.InOrder.{came_next, mapped_next}
 use Rattle.ix_lanes.proofs.running.serial_calls.SerialCalls.next.Goals.{in-Priv, in-Login}
 use Rattle.ix_lanes.proofs.running.serial_calls.SerialCalls.next.Goals as goal
