@@ -12,4 +12,4 @@ pub use lines::{line_at, role_at};
 pub use running::lane_calls::LaneCalls;
 pub use running::lane_run::LaneRun;
 pub use running::serial_calls::SerialCalls;
-pub use running::side_by_side::{Lane, run_phase, run_phase_sharing};
+pub use running::side_by_side::{Lane, run_phase};

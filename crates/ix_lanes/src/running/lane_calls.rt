@@ -203,6 +203,151 @@ impl<'a> LaneCalls<'a> {
         }
     }
 
+    /// Whether the lane's next stretch has a line, and is of a phase. Contracts say nothing of it: it tells only what is worth a thread.
+    pub(crate) fn has_lines_in(&self, phase: u32) -> bool {
+        match self.script.stretch(self.lane, self.here.come) {
+            Some(stretch) => stretch.phase == phase && stretch.first < stretch.end,
+            None => false,
+        }
+    }
+
+    /// The index of the first line that it doesn't ask for.
+    end: u32,
+    /// What a command writes.
+    written: Buf,
+    /// What a `copy` asks for.
+    copying: Copying,
+}
+
+impl<'a> Model for LaneCalls<'a> {
+    ghost use Rattle.std.specs.Coded.{codes};
+    ghost use Rattle.ix_label.specs.contracts.label.Label as label_type;
+    ghost use Rattle.ix_lanes.specs.asking.Asked.{names_code};
+    ghost use Rattle.std.proofs.Common.{option_map};
+    ghost use Rattle.ix_lanes.specs.asking.Places.{KeepsPlaces, standing};
+    ghost use Rattle.ix_lanes.specs.running.Fields.{AreFields};
+    ghost use Rattle.ix_lanes.specs.running.Left.{IsHere, LaneLeft};
+
+    ghost Value = { LaneLeft };
+
+    ghost coded = { Prim.hlevel (codes, label_type.the_row.coded, names_code) };
+
+    ghost view = { λ c. record { script = c.script.now; seat = c.lane; names = standing c.places; at = c.here.at; end = c.end; copying = c.copying; part = c.part } };
+
+    ghost invariant = { λ c. AreFields c.script.now c.lane c.header c.places (option_map (λ p. p.now) c.policy)
+        × IsHere c.script.now c.lane c.end c.here.at c.here.stretch c.here.come (standing c.places) c.here.line c.written c.copying c.part };
+}
+
+impl<'a> LaneCalls<'a> {
+    ghost use Rattle.ix_lanes.specs.histories.Lanes.{lane_asks};
+    ghost use Rattle.std.specs.Prelude.{◌≡◌, ◌≤◌, ◌<◌, true, length, IfOk};
+    ghost use Rattle.std.proofs.Common.{option_map};
+    ghost use Rattle.ix_script.specs.lines.Before.{lanes_of};
+    ghost use Rattle.ix_lanes.specs.asking.Asked.{no_names};
+    ghost use Rattle.ix_lanes.specs.asking.LineAsks.{lines_ask};
+    ghost use Rattle.ix_lanes.specs.asking.Ruled.{rules_told};
+    ghost use Rattle.ix_lanes.specs.histories.Serial.{header_of};
+    ghost use Rattle.ix_asking.specs.Asking.{Done, came_as, first};
+    ghost use Rattle.ix_asking.specs.Steps.{next_of};
+    ghost use Rattle.ix_lanes.specs.declared.running.part.Part.TheVariants as part;
+    ghost use Rattle.ix_lanes.specs.running.Left.{asks_left, is_done, names_done, next_phase, place_of};
+    ghost use Rattle.ix_lanes.specs.running.Phases.{lane_between};
+
+    /// The lane of a number before its first line, by the script's policy, if it has one. It asks for nothing yet. It takes all the memory
+    /// that its calls need.
+    pub fn new(
+        alloc: Global,
+        script: &'a Script,
+        lane: u32,
+        policy: Option<&'a Policy>,
+    ) -> Result<LaneCalls<'a>, NoMemory>
+        requires lane { lane < length (lanes_of script.now) }
+        requires policy { option_map (λ p. p.now) policy ≡ rules_told script.now }
+        ensures place { IfOk result (λ calls. place_of calls ≡ record { script = script.now; seat = lane; end = 0 }) }
+        ensures asks { IfOk result (λ calls. asks_left calls ≡ Done no_names) }
+    {
+        let header = header_of(alloc, script)?;
+        let places = places_of(alloc, script, lane)?;
+        let stretch = Stretch {
+            phase: 0,
+            first: 0,
+            end: 0,
+        };
+        let here = Here {
+            at: 0,
+            stretch,
+            come: 0,
+            line: Line::Skipped,
+        };
+        Ok(LaneCalls {
+            script,
+            policy,
+            lane,
+            header,
+            places,
+            here,
+            part: Part::Over,
+            end: 0,
+            written: [0; 4096],
+            copying: Copying::new(),
+        })
+    }
+
+    /// The lane of a number, which asks for all its lines. It takes all the memory that its calls need.
+    pub fn whole(
+        alloc: Global,
+        script: &'a Script,
+        lane: u32,
+        policy: Option<&'a Policy>,
+    ) -> Result<LaneCalls<'a>, NoMemory>
+        requires lane { lane < length (lanes_of script.now) }
+        requires policy { option_map (λ p. p.now) policy ≡ rules_told script.now }
+        ensures place { IfOk result (λ calls. place_of calls ≡ record { script = script.now; seat = lane; end = length script.now }) }
+        ensures asks { IfOk result (λ calls. asks_left calls ≡ lane_asks script.now lane) }
+    {
+        let mut calls = LaneCalls::new(alloc, script, lane, policy)?;
+        calls.ask_to(script.len());
+        Ok(calls)
+    }
+
+    /// Where it asks for nothing more, it asks for its lines up to a later end. It takes no memory.
+    pub fn ask_to(&mut self, end: u32)
+        requires done { is_done (asks_left self.old) ≡ true }
+        requires within { (self.old.end ≤ end) × (end ≤ length self.old.script) }
+        ensures place { place_of self.new ≡ record { script = self.old.script; seat = self.old.seat; end = end } }
+        ensures asks { asks_left self.new ≡ lines_ask (rules_told self.old.script) (header_of self.old.script) (names_done (asks_left self.old)) (lane_between self.old.script self.old.seat self.old.end end) }
+    {
+        self.end = end;
+        self.part = self.here.find(
+            self.script,
+            self.lane,
+            self.policy,
+            &self.header,
+            &mut self.places,
+            &mut self.written,
+            &mut self.copying,
+            end,
+        );
+    }
+
+    /// The call of the command in which it stands, which writes so many bytes.
+    fn command(&self, count: usize) -> Step<'_, ()>
+        requires stands { self.now.part ≡ part.Command count }
+        ensures { next_of result ≡ came_as (λ names. tt) (first (asks_left self.now)) }
+    {
+        let _count = self.script.len();
+        let (line, written) = (&self.here.line, &self.written[..count]);
+        let number = self.here.at + 1;
+        match call_of(&self.header, &self.places, self.lane, number, line, written) {
+            Some(entry) => Step::Call {
+                line: entry.line,
+                pid: entry.pid,
+                call: entry.call,
+            },
+            None => unreachable!(),
+        }
+    }
+
     /// How many lines it has in a phase behind those for which it asks. Contracts say nothing of it: it tells only what is worth a thread.
     pub(crate) fn lines_in(&self, phase: u32) -> u32 {
         match self.script.stretch(self.lane, self.here.come) {

@@ -70,10 +70,10 @@ impl<'a> LaneRun<'a> {
         })
     }
 
-    /// How many lines the lane has in a phase behind those that are done. Contracts say nothing of it: it tells only what is worth a
+    /// Whether the lane has a line in its next phase, which is that of a number. Contracts say nothing of it: it tells only what is worth a
     /// thread.
-    pub(crate) fn lines_in(&self, phase: u32) -> u32 {
-        self.calls.lines_in(phase)
+    pub(crate) fn takes_part(&self, phase: u32) -> bool {
+        self.calls.has_lines_in(phase)
     }
 
     /// Runs the lines of the lane in its next phase. `None`: they are all done. `Some` is the stop of one of their calls: of the

@@ -8,10 +8,7 @@ use crate::running::lane_run::LaneRun;
 use ix_model::{Answer, Sys};
 use std::thread::{Threads, join_mut};
 
-/// How many lines are worth a thread, where lanes share threads.
-const WORTH: u32 = 32;
-
-/// How many threads there are in a phase at most, where lanes share threads, or some more where lanes have unlike numbers of lines.
+/// How many threads run the lanes of a phase at most. More lanes share them.
 const MOST_THREADS: u32 = 16;
 
 /// A run of a lane, and what makes its calls.
@@ -32,8 +29,8 @@ trait Runner {
     /// The second state comes of the first by a phase that answers so.
     ghost runs: { Self → Self → Option Answer → Type 0 };
 
-    /// How many lines it has in a phase.
-    fn lines(&self, phase: u32) -> u32;
+    /// Whether it has a line in a phase.
+    fn takes_part(&self, phase: u32) -> bool;
 
     /// Runs a phase. `Some` is a stop.
     fn run_next(&mut self, phase: u32) -> Option<Answer>
@@ -48,8 +45,8 @@ impl<'a, S: Sys> Runner for Lane<'a, S> {
 
     ghost runs = { λ l m answer. RunsPhase S.seat S.made S.stops S.stopped S.follows l m answer };
 
-    fn lines(&self, phase: u32) -> u32 {
-        self.run.lines_in(phase)
+    fn takes_part(&self, phase: u32) -> bool {
+        self.run.takes_part(phase)
     }
 
     fn run_next(&mut self, phase: u32) -> Option<Answer> {
@@ -57,28 +54,28 @@ impl<'a, S: Sys> Runner for Lane<'a, S> {
     }
 }
 
-/// How many lines these have in a phase, all together.
-fn all_lines<T: Runner>(runners: &[T], phase: u32) -> u32 {
-    let mut lines: u32 = 0;
+/// How many of these have a line in a phase.
+fn parts_in<T: Runner>(runners: &[T], phase: u32) -> u32 {
+    let mut parts: u32 = 0;
     for runner in runners {
-        lines = lines.saturating_add(runner.lines(phase));
+        parts = parts.saturating_add(u32::from(runner.takes_part(phase)));
     }
-    lines
+    parts
 }
 
-/// How many lines of a phase a thread has at least, where lanes share threads: as many as take longer than to start one, and so many that
-/// few threads wait for each other.
+/// How many lanes share a thread at least: one each, up to the greatest number of threads.
 fn share_of<T: Runner>(runners: &[T], phase: u32) -> u32 {
-    (all_lines(runners, phase) / MOST_THREADS).max(WORTH)
+    let parts = parts_in(runners, phase);
+    (parts.saturating_add(MOST_THREADS - 1) / MOST_THREADS).max(1)
 }
 
-/// Runs a phase of each, in threads that have so many lines each, where they can be started.
+/// Runs a phase of each, in threads that so many share at least, where they can be started.
 #[cycle(halves)]
 fn run_all<T: Runner + Send, R: Threads + Sync>(
     rt: &R,
     runners: &mut [T],
     phase: u32,
-    worth: u32,
+    share: u32,
 ) -> Option<Answer>
     requires { All (T.is_ready phase) runners.old }
     ensures { AllRun T.runs runners.old runners.new result }
@@ -90,26 +87,26 @@ fn run_all<T: Runner + Send, R: Threads + Sync>(
         return runners[0].run_next(phase);
     }
     let (front, back) = runners.split_at_mut(runners.len() / 2);
-    run_both(rt, front, back, phase, worth)
+    run_both(rt, front, back, phase, share)
 }
 
-/// Runs a phase of each of two halves of a list, side by side where either has so many lines and a thread can be started.
+/// Runs a phase of each of two halves of a list, side by side where in each there are so many that have a line, and a thread can be started.
 #[cycle(halves)]
 fn run_both<T: Runner + Send, R: Threads + Sync>(
     rt: &R,
     front: &mut [T],
     back: &mut [T],
     phase: u32,
-    worth: u32,
+    share: u32,
 ) -> Option<Answer>
     requires front { All (T.is_ready phase) front.old }
     requires back { All (T.is_ready phase) back.old }
     ensures { (first : Option Answer) × (second : Option Answer) × AllRun T.runs front.old front.new first
         × AllRun T.runs back.old back.new second × (result ≡ option_or first second) }
 {
-    if all_lines(front, phase) < worth || all_lines(back, phase) < worth {
-        let first = run_all(rt, front, phase, worth);
-        let second = run_all(rt, back, phase, worth);
+    if parts_in(front, phase) < share || parts_in(back, phase) < share {
+        let first = run_all(rt, front, phase, share);
+        let second = run_all(rt, back, phase, share);
         return first.or(second);
     }
     let (first, second) = join_mut(
@@ -117,18 +114,19 @@ fn run_both<T: Runner + Send, R: Threads + Sync>(
         &mut || -> Option<Answer>
             requires { IsSync R.row × All (T.is_ready phase) front.now }
             ensures { AllRun T.runs front.entry.now front.exit.now result }
-        { run_all(rt, front, phase, worth) },
+        { run_all(rt, front, phase, share) },
         &mut || -> Option<Answer>
             requires { IsSync R.row × All (T.is_ready phase) back.now }
             ensures { AllRun T.runs back.entry.now back.exit.now result }
-        { run_all(rt, back, phase, worth) },
+        { run_all(rt, back, phase, share) },
     );
     first.or(second)
 }
 
 /// Runs the next phase of each lane, side by side where threads can be started. `None`: each lane's lines are all done. Else it is
 /// the stop of the first lane in the list that has one. Each lane is left as `LaneRun::phase` leaves it. It takes no memory. No thread is
-/// started for a lane that has no line in the phase.
+/// started for a lane that has no line in the phase. Up to sixteen lanes that have some run in a thread each; of more, as many as are
+/// needed share one, one after the other.
 pub fn run_phase<'a, S: Sys + Send, R: Threads + Sync>(
     rt: &R,
     lanes: &mut [Lane<'a, S>],
@@ -137,18 +135,6 @@ pub fn run_phase<'a, S: Sys + Send, R: Threads + Sync>(
     requires { All (IsReady S.seat S.made phase) lanes.old }
     ensures { AllRun (RunsPhase S.seat S.made S.stops S.stopped S.follows) lanes.old lanes.new result }
 {
-    run_all(rt, lanes, phase, 1)
-}
-
-/// The same, but where lanes have few lines in the phase, some share a thread, one after the other.
-pub fn run_phase_sharing<'a, S: Sys + Send, R: Threads + Sync>(
-    rt: &R,
-    lanes: &mut [Lane<'a, S>],
-    phase: u32,
-) -> Option<Answer>
-    requires { All (IsReady S.seat S.made phase) lanes.old }
-    ensures { AllRun (RunsPhase S.seat S.made S.stops S.stopped S.follows) lanes.old lanes.new result }
-{
-    let worth = share_of(lanes, phase);
-    run_all(rt, lanes, phase, worth)
+    let share = share_of(lanes, phase);
+    run_all(rt, lanes, phase, share)
 }
