@@ -13,7 +13,7 @@ seen x = x.now
 pub returns-then-eq : goal.returns-then-eq
 returns-then-eq c =
     let names : map seen c.links.names.items ≡ map (λ k. k.0) (links_in c.args.links.now) =
-    sym (append-nil (map seen c.links.names.items)) ∙ ap (λ (ls : List LinkOf). map seen c.links.names.items ++ map (λ k. k.0) ls) (sym c.in_default-split_first.ensures) ∙ c.links.invariant in
+    sym (append-nil (map seen c.links.names.items)) ∙ ap (λ (ls : List LinkOf). map seen c.links.names.items ++ map (λ k. k.0) ls) (sym c.in_default.ensures) ∙ c.links.invariant in
     let no = same_differ seen c.sort_unstable.new.self.items c.loop-i.i c.index.result.now c.index-in-loop-i.result.now (omega arith) (omega arith) c.index.ensures c.index-in-loop-i.ensures
     (sym c.eq.ensures ∙ c.if-eq.true) in
     sym no ∙ sym (order_differ (map seen c.links.names.items) (map seen c.sort_unstable.new.self.items)
@@ -28,7 +28,7 @@ loop-i-preserved c = rising_on seen c.sort_unstable.new.self.items c.loop-i.i c.
 pub returns : goal.returns
 returns c =
     let names : map seen c.links.names.items ≡ map (λ k. k.0) (links_in c.args.links.now) =
-    sym (append-nil (map seen c.links.names.items)) ∙ ap (λ (ls : List LinkOf). map seen c.links.names.items ++ map (λ k. k.0) ls) (sym c.in_default-split_first.ensures) ∙ c.links.invariant in
+    sym (append-nil (map seen c.links.names.items)) ∙ ap (λ (ls : List LinkOf). map seen c.links.names.items ++ map (λ k. k.0) ls) (sym c.in_default.ensures) ∙ c.links.invariant in
     let yes_all = all_rise seen c.sort_unstable.new.self.items c.loop-i.i (omega arith) c.loop-i.invariant in
     sym yes_all ∙ sym (order_differ (map seen c.links.names.items) (map seen c.sort_unstable.new.self.items)
     (IsPermutation-map seen c.links.names.items c.sort_unstable.new.self.items c.sort_unstable.ensures.permutation))
