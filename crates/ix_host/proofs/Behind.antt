@@ -327,6 +327,6 @@ printed_is_yes names good bytes s history is taken whole made few other =
     let parts = two_parts bytes s history (without_fault bytes s is) whole in
     let read : script_of (script_part all) ≡ Some s = ap script_of parts.0 ∙ is in
     let found : found_in s (report_part all) ≡ Yes (length history) = ap (found_in s) parts.1 ∙ good s (names bytes s is) history made in
-    sym (outcome_script command.Check all s other few read)
+    sym (outcome_script command.Check all s other refl few read)
     ∙ sym (outcome_accepted command.Check s (report_part all) other (accepted command.Check s (report_part all) taken tt))
     ∙ ap (λ v. outcome.Whole (verdict_line v)) found

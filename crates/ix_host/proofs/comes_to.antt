@@ -7,3 +7,5 @@ pub mod Checked
 pub mod Followed
 pub mod Seconds
 pub mod Both
+pub mod Saved
+pub mod Listed

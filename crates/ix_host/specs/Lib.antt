@@ -8,4 +8,6 @@ pub mod Laws
 pub mod Judged
 pub mod Traces
 pub mod Traced
+pub mod Saved
+pub mod Loaded
 pub mod run

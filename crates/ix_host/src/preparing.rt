@@ -5,10 +5,10 @@ ghost use Rattle.ix_script.specs.scripts.Canonical.{canonical};
 ghost use Rattle.ix_lanes.specs.asking.Ruled.{rules_told};
 ghost use Rattle.ix_host.specs.Policies.{policy_refusal};
 ghost use Rattle.ix_host.specs.command.Command.{IsCounted};
-ghost use Rattle.ix_host.specs.run.Inputs.{IsReadable, IsShortFor, input_max, reads_source, beside_bytes, script_bytes, script_in};
+ghost use Rattle.ix_host.specs.run.Inputs.{IsReadable, IsShortFor, input_max, reads_image, reads_source, beside_bytes, script_bytes, script_in};
 ghost use Rattle.ix_host.specs.run.Outcome.{outcome_for, outcome_in, text_for};
 ghost use Rattle.ix_host.specs.run.Outcome as outcome;
-ghost use Rattle.ix_host.specs.run.Tasks.{IsRunnable, LeadsTo, OnRun, Prepares, TaskReadsOut};
+ghost use Rattle.ix_host.specs.run.Tasks.{IsLoaded, IsRunnable, LeadsTo, OnRun, Prepares, TaskReadsOut};
 ghost use Rattle.ix_host.specs.run.Whole.{TakesFew};
 ghost use Rattle.ix_host.specs.run.Run.{Ends};
 
@@ -16,9 +16,10 @@ use crate::arguments::command::Command;
 use crate::checking::check;
 use crate::comparing::twin;
 use crate::following::flow;
+use crate::listing::load;
 use crate::policies::{ScriptPolicy, policy_of};
-use crate::refusals::rules::too_long_line;
-use crate::refusing::refuse;
+use crate::refusing::{refuse, refuse_long};
+use crate::saving::save;
 use crate::status::Status;
 use crate::streams::input::input_for;
 use crate::streams::sending::tell;
@@ -53,6 +54,7 @@ fn accepted_task<K: Sink>(
     policy: Option<Policy>,
     beside: &[u8],
 ) -> Task
+    requires scripted { reads_image command ≡ false }
     requires runnable { IsRunnable script }
     requires accepted { policy_refusal script ≡ None }
     requires short { IsShortFor command beside.now }
@@ -67,6 +69,8 @@ fn accepted_task<K: Sink>(
         Command::Gen(count) => Task::Run(Telling::Summary(count), script, policy),
         Command::Check => Task::Ended(check(alloc, sink, &script, policy.as_ref(), beside)),
         Command::Flow => Task::Ended(flow(alloc, sink, &script, policy.as_ref())),
+        Command::Save => Task::Ended(save(alloc, sink, &script, policy.as_ref())),
+        Command::Load => unreachable!(),
         Command::Twin(at) => {
             let one = (&script, policy.as_ref());
             Task::Ended(twin(alloc, sink, &at, one, beside))
@@ -82,6 +86,7 @@ fn refused_task<K: Sink>(
     script: Script,
     line: u32,
 ) -> Task
+    requires scripted { reads_image command ≡ false }
     requires runnable { IsRunnable script }
     requires policy { rules_told script ≡ None }
     requires refusal { policy_refusal script ≡ Some (line, 27) }
@@ -95,6 +100,8 @@ fn refused_task<K: Sink>(
         Command::Gen(count) => Task::Run(Telling::Summary(count), script, None),
         Command::Check => Task::Ended(refuse(alloc, sink, line, 27)),
         Command::Flow => Task::Ended(refuse(alloc, sink, line, 27)),
+        Command::Save => Task::Ended(refuse(alloc, sink, line, 27)),
+        Command::Load => unreachable!(),
         Command::Twin(_) => Task::Ended(refuse(alloc, sink, line, 27)),
     }
 }
@@ -107,6 +114,7 @@ fn script_task<K: Sink>(
     script: Script,
     beside: &[u8],
 ) -> Task
+    requires scripted { reads_image command ≡ false }
     requires runnable { IsRunnable script }
     requires short { IsShortFor command beside.now }
     ensures leads { LeadsTo (λ history. outcome_for command script beside.now history) script result (K.taken sink.old) (K.taken sink.new)
@@ -133,13 +141,16 @@ fn parts_for<'a>(command: &Command, bytes: &'a [u8]) -> (&'a [u8], &'a [u8])
         Command::Gen(_) => (bytes, b""),
         Command::Check => parts(bytes),
         Command::Flow => (bytes, b""),
+        Command::Save => (bytes, b""),
+        Command::Load => (b"", bytes),
         Command::Twin(_) => (divide(bytes).first, bytes),
     }
 }
 
-/// What a command asks with an input.
-fn input_task<K: Sink>(alloc: Global, sink: &mut K, command: Command, bytes: &[u8]) -> Task
-    requires { IsReadable command bytes.now }
+/// What a command asks with an input in which a script stands.
+fn parts_task<K: Sink>(alloc: Global, sink: &mut K, command: Command, bytes: &[u8]) -> Task
+    requires scripted { reads_image command ≡ false }
+    requires readable { IsReadable command bytes.now }
     ensures leads { LeadsTo (λ history. outcome_in command bytes.now history) (script_in (script_bytes command bytes.now)) result (K.taken sink.old) (K.taken sink.new)
         (K.finished sink.new) (K.faults sink.old) (K.faults sink.new) }
     ensures untouched { OnRun result (sink.new ≡ sink.old) }
@@ -152,6 +163,20 @@ fn input_task<K: Sink>(alloc: Global, sink: &mut K, command: Command, bytes: &[u
         Err(ReadFail::Fault(fault)) => Task::Ended(refuse(alloc, sink, fault.line, fault.rule)),
         Err(ReadFail::NoMemory) => Task::Ended(Status::NoMemory),
     }
+}
+
+/// What a command asks with an input.
+fn input_task<K: Sink>(alloc: Global, sink: &mut K, command: Command, bytes: &[u8]) -> Task
+    requires { IsReadable command bytes.now }
+    ensures leads { LeadsTo (λ history. outcome_in command bytes.now history) (script_in (script_bytes command bytes.now)) result (K.taken sink.old) (K.taken sink.new)
+        (K.finished sink.new) (K.faults sink.old) (K.faults sink.new) }
+    ensures image { reads_image command ≡ true → IsLoaded bytes.now result }
+    ensures untouched { OnRun result (sink.new ≡ sink.old) }
+{
+    if command.reads_image() {
+        return Task::Ended(load(alloc, sink, bytes));
+    }
+    parts_task(alloc, sink, command, bytes)
 }
 
 /// Does what is asked for up to the run of lanes, where there is to be one, and writes the usage line where nothing is asked for.
@@ -176,6 +201,7 @@ pub fn prepare<S: Source, K: Sink>(
     // And where none did.
     ensures prepared { ¬ (result ≡ Task.Ended Status.ReadFault) → Prepares usage.now asked (S.left source.old) result (K.taken sink.old) (K.taken sink.new)
         (K.finished sink.new) (K.faults sink.old) (K.faults sink.new) }
+    ensures image { asked ≡ Some Command.Load → IfSome (S.left source.old) (λ bytes. IsLoaded bytes result) }
     ensures untouched { OnRun result (sink.new ≡ sink.old) }
 {
     let Some(command) = asked else {
@@ -183,10 +209,7 @@ pub fn prepare<S: Source, K: Sink>(
     };
     match input_for(alloc, &command, source) {
         Input::Whole(bytes) => input_task(alloc, sink, command, bytes.as_slice()),
-        Input::TooLong => {
-            let status = Status::Script { line: 1, rule: 1 };
-            Task::Ended(tell(sink, too_long_line(), status))
-        }
+        Input::TooLong => Task::Ended(refuse_long(alloc, sink, &command)),
         Input::Fault => Task::Ended(Status::ReadFault),
         Input::NoMemory => Task::Ended(Status::NoMemory),
     }

@@ -1,3 +1,3 @@
-//! What is said to a script that breaks a rule.
+//! What is said to a script, and of an image, that breaks a rule.
 
 pub mod rules;

@@ -7,6 +7,9 @@ ghost use Rattle.ix_host.specs.command.Command.{command_of, usage_line};
 ghost use Rattle.ix_check.specs.Parts.{report_part, script_part};
 ghost use Rattle.ix_host.specs.Judged.{TakesVerdict};
 ghost use Rattle.ix_host.specs.Traced.{TakesTraces};
+ghost use Rattle.ix_host.specs.Saved.{TakesImage};
+ghost use Rattle.ix_host.specs.Loaded.{TakesList};
+ghost use Rattle.ix_image.specs.Reading.{image_fault};
 ghost use Rattle.ix_host.specs.Compared.{TakesTwins};
 ghost use Rattle.ix_host.specs.Seconds.{second_in};
 ghost use Rattle.ix_label.specs.Category.{Categories};
@@ -23,6 +26,7 @@ use crate::status::Status;
 use crate::task::Task;
 use ix_check::laws::texts_are_judged;
 use ix_flow::laws::lines_are_accounted_for;
+use ix_image::laws::written_is_read;
 use ix_io::{Sink, Source};
 use ix_twin::laws::{twin_lines, twins_are_compared};
 use std::alloc::Global;
@@ -31,7 +35,8 @@ use std::alloc::Global;
 /// the canonical text of the script; `gen` reads nothing, and runs the generator's script with the count's commands and
 /// writes the summary of that run; `check` reads a script and behind it a text, and writes whether that is the report of one of
 /// the script's histories, and where not, the first line at which no such report goes on; `flow` reads a script, runs it, and
-/// writes of each byte that was read where it came from; `twin` reads two scripts, runs both, and writes whether the runs agree at a label,
+/// writes of each byte that was read where it came from; `save` reads a script, runs it, and writes the image of the tree of files
+/// that is left; `load` reads an image, and writes the list of the tree that it is of, or the first rule that it breaks; `twin` reads two scripts, runs both, and writes whether the runs agree at a label,
 /// with the lines of both that low processes get there. All else is answered by the usage line. It waits for nobody.
 pub fn run_serial<S: Source, K: Sink>(
     alloc: Global,
@@ -55,6 +60,10 @@ pub fn run_serial<S: Source, K: Sink>(
         IfSome (K.taken sink.old) (λ taken. TakesVerdict (script_in (script_part bytes)) (report_part bytes) taken (K.taken sink.new))) }
     ensures traced { result ≡ Status.Done → command_of words.now ≡ Some Command.Flow → IfSome (S.left source.old) (λ bytes.
         IfSome (K.taken sink.old) (λ taken. TakesTraces (script_in bytes) taken (K.taken sink.new))) }
+    ensures saved { result ≡ Status.Done → command_of words.now ≡ Some Command.Save → IfSome (S.left source.old) (λ bytes.
+        IfSome (K.taken sink.old) (λ taken. TakesImage (script_in bytes) taken (K.taken sink.new))) }
+    ensures loaded { result ≡ Status.Done → command_of words.now ≡ Some Command.Load → IfSome (S.left source.old) (λ bytes.
+        IfSome (K.taken sink.old) (λ taken. TakesList bytes taken (K.taken sink.new))) }
     ensures compared { (l : Categories) → result ≡ Status.Done → command_of words.now ≡ Some (Command.Twin l) → IfSome (S.left source.old) (λ bytes.
         IfSome (K.taken sink.old) (λ taken. TakesTwins l (script_in (first_part bytes)) (second_in bytes) taken (K.taken sink.new))) }
     ensures not_written { result ≡ Status.ReadFault → sink.new ≡ sink.old }
@@ -65,6 +74,7 @@ pub fn run_serial<S: Source, K: Sink>(
         result ≡ called_for (command_of words.now) bytes) }
     ensures quiet { IsAnswer result → (S.faults source.new ≡ S.faults source.old) × (K.faults sink.new ≡ K.faults sink.old) }
     ensures too_long { result ≡ Status.Script 1 1 → IfSome (S.left source.old) (λ bytes. IsTooLong (command_of words.now) bytes) }
+    ensures image { (at : ℕ) (rule : ℕ) → result ≡ Status.Image at rule → IfSome (S.left source.old) (λ bytes. image_fault bytes ≡ Some (at, rule)) }
     ensures read_fault { result ≡ Status.ReadFault → Rose (S.faults source.old) (S.faults source.new) }
     ensures write_fault { result ≡ Status.WriteFault → Rose (K.faults sink.old) (K.faults sink.new) }
 
@@ -77,15 +87,16 @@ pub fn run_serial<S: Source, K: Sink>(
         → IfSome (input_of (command_of words.now) (S.left source.old)) (λ bytes.
         (result ≡ called_for (command_of words.now) bytes) ⊎ (result ≡ Status.NoMemory)) }
 {
-    // The proofs of `judged`, of `traced` and of `compared` rest on these laws.
+    // The proofs of `judged`, of `traced`, of `loaded` and of `compared` rest on these laws.
     texts_are_judged();
     lines_are_accounted_for();
+    written_is_read();
     twins_are_compared();
     twin_lines();
     let Ok(asked) = words.command(alloc) else {
         return Status::NoMemory;
     };
-    let usage = b"usage: ixone run | print | gen COUNT | check | flow | twin LABEL\n";
+    let usage = b"usage: ixone run | print | gen COUNT | check | flow | save | load | twin LABEL\n";
     match prepare(alloc, usage, asked, source, sink) {
         Task::Ended(status) => status,
         Task::Run(telling, script, policy) => {

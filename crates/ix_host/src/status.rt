@@ -13,6 +13,8 @@ pub enum Status {
     WriteFault,
     /// There was no memory; some front of the text was written.
     NoMemory,
+    /// The bytes that were to be listed are no image: at this place, from 0, they break this rule first; that was written and finished.
+    Image { at: u64, rule: u8 },
 }
 
 impl Status {
@@ -30,6 +32,7 @@ impl Status {
             Status::ReadFault => 4,
             Status::WriteFault => 5,
             Status::NoMemory => 6,
+            Status::Image { .. } => 7,
         }
     }
 }

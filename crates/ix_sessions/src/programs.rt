@@ -5,6 +5,7 @@ mod failing;
 mod floats;
 mod flows;
 mod forms;
+mod images;
 mod lanes;
 mod policies;
 mod served;
@@ -18,7 +19,8 @@ use std::alloc::Global;
 use std::process::Abort;
 
 /// What is written where the words are no command.
-const USAGE: &[u8] = b"usage: ixone run | print | gen COUNT | check | flow | twin LABEL\n";
+const USAGE: &[u8] =
+    b"usage: ixone run | print | gen COUNT | check | flow | save | load | twin LABEL\n";
 
 /// The calls at which a source and a sink fail, and the room of the sink.
 #[derive(Clone, Copy)]

@@ -24,6 +24,8 @@ lanes_input words left = go (command_of words)
     go (Some (command.Gen n)) = refl
     go (Some command.Check) = refl
     go (Some command.Flow) = refl
+    go (Some command.Save) = refl
+    go (Some command.Load) = refl
     go (Some (command.Twin l)) = refl
 
 -- it has no more bytes than a script
@@ -38,6 +40,8 @@ lanes_max words = go (command_of words)
     go (Some (command.Gen n)) = refl
     go (Some command.Check) = refl
     go (Some command.Flow) = refl
+    go (Some command.Save) = refl
+    go (Some command.Load) = refl
     go (Some (command.Twin l)) = refl
 
 -- where it is too long, so is the script
@@ -53,6 +57,8 @@ lanes_long words (Some bytes) h = go (command_of words) h
     go (Some (command.Gen n)) k = k
     go (Some command.Check) k = k
     go (Some command.Flow) k = k
+    go (Some command.Save) k = k
+    go (Some command.Load) k = k
     go (Some (command.Twin l)) k = k
 
 -- all of it is the script
@@ -67,6 +73,8 @@ lanes_script words bytes = go (command_of words)
     go (Some (command.Gen n)) = refl
     go (Some command.Check) = refl
     go (Some command.Flow) = refl
+    go (Some command.Save) = refl
+    go (Some command.Load) = refl
     go (Some (command.Twin l)) = refl
 
 pub lanes_written : (words : List (List ℕ)) (first taken : Option (List ℕ)) (P : List ℕ → List ℕ → List Event → Type 0)
@@ -89,6 +97,7 @@ none_read_out (status.Script line rule) (Some bytes) left h = cc
 none_read_out status.ReadFault (Some bytes) left h = tt
 none_read_out status.WriteFault (Some bytes) left h = tt
 none_read_out status.NoMemory (Some bytes) left h = tt
+none_read_out (status.Image at rule) (Some bytes) left h = cc
 
 -- and nothing is to be said of it where there is none
 pub lanes_read_out : (words : List (List ℕ)) (end : Status) (first left : Option (List ℕ)) → FitsCommand end (lanes_command_of words)
@@ -106,6 +115,8 @@ lanes_read_out words end first left = go (command_of words)
     go (Some (command.Gen n)) f h = none_read_out end first left f
     go (Some command.Check) f h = none_read_out end first left f
     go (Some command.Flow) f h = none_read_out end first left f
+    go (Some command.Save) f h = none_read_out end first left f
+    go (Some command.Load) f h = none_read_out end first left f
     go (Some (command.Twin l)) f h = none_read_out end first left f
 
 -- where a run is done, it is that command
@@ -120,4 +131,6 @@ lanes_run words = go (command_of words)
     go (Some (command.Gen n)) h = cc
     go (Some command.Check) h = cc
     go (Some command.Flow) h = cc
+    go (Some command.Save) h = cc
+    go (Some command.Load) h = cc
     go (Some (command.Twin l)) h = cc

@@ -1,8 +1,11 @@
 -- What was asked for is done up to the run of lanes.
-use Rattle.std.proofs.Common.{◌≡◌, ℕ, ◌+◌, ◌<◌, ◌≤◌, Bool, true, List, [], length, drop, Option, Some, None, refl, sym, ap, ◌∙◌, subst, arith, append-nil, replicate, unwrap_or}
+use Rattle.std.proofs.Common.{◌≡◌, ℕ, ◌+◌, ◌==◌, ◌<◌, ◌≤◌, Bool, true, false, List, [], length, drop, Option, Some, None, if◌then◌else◌, refl, sym}
+use Rattle.std.proofs.Common.{ap, ◌∙◌, subst, arith, append-nil, replicate, unwrap_or}
 use Rattle.std.specs.Prelude.{IfSome}
 use Rattle.std.proofs.lemmas.Bool.{lt-ltb}
 use Rattle.std.proofs.lemmas.List.{drop_all, length-replicate}
+use Rattle.ix_image.specs.Image.{longest}
+use Rattle.ix_image.specs.Laws.{IsImage}
 use Rattle.ix_model.specs.history.Events.{Event}
 use Rattle.ix_script.specs.declared.line.Line.{Line}
 use Rattle.ix_host.specs.declared.arguments.command.Command.{Command}
@@ -10,11 +13,11 @@ use Rattle.ix_host.specs.declared.status.Status.{Status}
 use Rattle.ix_host.specs.declared.status.Status.TheVariants as status
 use Rattle.ix_host.specs.declared.task.Task.{Task}
 use Rattle.ix_host.specs.declared.task.Task.TheVariants as task
-use Rattle.ix_host.specs.run.Inputs.{input_max, input_of, reads_source, script_bytes, script_in}
-use Rattle.ix_host.specs.run.Outcome.{Outcome, outcome_in, outcome_of, text_of}
+use Rattle.ix_host.specs.run.Inputs.{input_max, input_of, reads_image, reads_source, script_bytes, script_in}
+use Rattle.ix_host.specs.run.Outcome.{Outcome, outcome_in, outcome_of, status_of, text_of, too_long_for}
 use Rattle.ix_host.specs.run.Outcome as outcome
 use Rattle.ix_host.specs.run.Run.{Ends, IsEndOf, ReadsOut, WritesFor}
-use Rattle.ix_host.specs.run.Tasks.{LeadsTo, OnRun, Prepares, TaskReadsOut}
+use Rattle.ix_host.specs.run.Tasks.{IsLoaded, LeadsTo, OnRun, Prepares, TaskReadsOut}
 use Rattle.ix_host.proofs.comes_to.Outcomes.{outcome_too_long}
 
 -- a run of lanes is no end
@@ -63,20 +66,59 @@ whole_read_out most (task.Run told script policy) (Some bytes) left read w = w.1
 whole_read_out most (task.Ended status.Done) (Some bytes) left read w = w.1
 whole_read_out most (task.Ended status.Usage) (Some bytes) left read w = tt
 whole_read_out most (task.Ended (status.Script line rule)) (Some bytes) left read w = w.1 ∙ ap Some (sym (drop_all (most + 1) bytes (omega (arith, w.2))))
+whole_read_out most (task.Ended (status.Image at rule)) (Some bytes) left read w = by_rule (rule == 9)
+  where
+    by_rule : (b : Bool) → left ≡ Some (if b then drop (most + 1) bytes else [])
+    by_rule true = w.1 ∙ ap Some (sym (drop_all (most + 1) bytes (omega (arith, w.2))))
+    by_rule false = w.1
 whole_read_out most (task.Ended status.ReadFault) (Some bytes) left read w = tt
 whole_read_out most (task.Ended status.WriteFault) (Some bytes) left read w = tt
 whole_read_out most (task.Ended status.NoMemory) (Some bytes) left read w = tt
 
--- or to one byte more than an input may have
-pub long_read_out : (most : ℕ) (end : Status) (first left : Option (List ℕ)) → IsEndOf (outcome.Refused 1 1) end → IfSome first (λ bytes. (most < length bytes) × (left ≡ Some (drop (most + 1) bytes)))
-    → IfSome first (λ bytes. ReadsOut most end bytes left)
-long_read_out most end None left is w = tt
-long_read_out most status.Done (Some bytes) left is w = cc
-long_read_out most status.Usage (Some bytes) left is w = tt
-long_read_out most (status.Script line rule) (Some bytes) left is w = w.1
-long_read_out most status.ReadFault (Some bytes) left is w = tt
-long_read_out most status.WriteFault (Some bytes) left is w = tt
-long_read_out most status.NoMemory (Some bytes) left is w = tt
+-- or to one byte more than an input may have, as the rule of its length says for a script, and for an image
+pub long_read_out : (most : ℕ) (is_image : Bool) (end : Status) (first left : Option (List ℕ)) → IsEndOf (if is_image then outcome.Faulty longest 9 else outcome.Refused 1 1) end
+    → IfSome first (λ bytes. (most < length bytes) × (left ≡ Some (drop (most + 1) bytes))) → IfSome first (λ bytes. ReadsOut most end bytes left)
+long_read_out most is_image end None left is w = tt
+long_read_out most true status.Done (Some bytes) left is w = cc
+long_read_out most false status.Done (Some bytes) left is w = cc
+long_read_out most is_image status.Usage (Some bytes) left is w = tt
+long_read_out most is_image (status.Script line rule) (Some bytes) left is w = w.1
+long_read_out most true (status.Image at rule) (Some bytes) left is w =
+    let nine : rule ≡ 9 = cc in
+    w.1 ∙ ap (λ (n : ℕ). Some (if n == 9 then drop (most + 1) bytes else [])) (sym nine)
+long_read_out most false (status.Image at rule) (Some bytes) left is w = cc
+long_read_out most is_image status.ReadFault (Some bytes) left is w = tt
+long_read_out most is_image status.WriteFault (Some bytes) left is w = tt
+long_read_out most is_image status.NoMemory (Some bytes) left is w = tt
+
+-- ---- an image
+-- it wasn't listed where the outcome is another
+pub not_loaded : (o : Outcome) (end : Status) (bytes : List ℕ) → IsEndOf o end → (status.Done ≡ status_of o → ⊥) → IsLoaded bytes (task.Ended end)
+not_loaded o status.Done bytes is other = absurd (other is)
+not_loaded o status.Usage bytes is other = tt
+not_loaded o (status.Script line rule) bytes is other = tt
+not_loaded o (status.Image at rule) bytes is other = tt
+not_loaded o status.ReadFault bytes is other = tt
+not_loaded o status.WriteFault bytes is other = tt
+not_loaded o status.NoMemory bytes is other = tt
+
+-- nor is an input that is too long
+pub long_not_loaded : (c : Command) (end : Status) (bytes : List ℕ) → IsEndOf (too_long_for c) end → IsLoaded bytes (task.Ended end)
+long_not_loaded c end bytes is = not_loaded (too_long_for c) end bytes is (by_kind (reads_image c))
+  where
+    by_kind : (b : Bool) → status.Done ≡ status_of (if b then outcome.Faulty longest 9 else outcome.Refused 1 1) → ⊥
+    by_kind true h = cc
+    by_kind false h = cc
+
+-- where it was, the bytes are an image
+pub loaded_as : (end : Status) (bytes : List ℕ) → (end ≡ status.Done → IsImage bytes) → IsLoaded bytes (task.Ended end)
+loaded_as status.Done bytes h = h refl
+loaded_as status.Usage bytes h = tt
+loaded_as (status.Script line rule) bytes h = tt
+loaded_as (status.Image at rule) bytes h = tt
+loaded_as status.ReadFault bytes h = tt
+loaded_as status.WriteFault bytes h = tt
+loaded_as status.NoMemory bytes h = tt
 
 -- ---- what is asked for
 -- what is told, or else this
@@ -107,7 +149,7 @@ module _ (usage : List ℕ) (asked : Option Command) (left taken : Option (List 
 
   -- the input was too long
   pub long_prepared : (c : Command) (end : Status) (after : Option (List ℕ)) (done : Bool) (before now : ℕ) → asked ≡ Some c → reads_source (Some c) ≡ true
-      → IfSome (input_of (Some c) left) (λ bytes. input_max (Some c) < length bytes) → Ends (outcome.Refused 1 1) end taken after done before now
+      → IfSome (input_of (Some c) left) (λ bytes. input_max (Some c) < length bytes) → Ends (too_long_for c) end taken after done before now
       → Prepares usage asked left (task.Ended end) taken after done before now
   long_prepared c end after done before now is reads long e =
       let d = longer (input_max (Some c)) in

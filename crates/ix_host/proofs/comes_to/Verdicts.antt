@@ -2,6 +2,7 @@
 use Rattle.std.proofs.Common.{◌≡◌, ℕ, ◌<◌, Bool, true, List, [], ◌++◌, length, Option, Some, None, is_none, refl, sym, ap, ◌∙◌, subst, inl, inr, ◌⊎◌}
 use Rattle.std.specs.Prelude.{IfSome}
 use Rattle.ix_io.specs.Streams.{Rose}
+use Rattle.ix_image.specs.Reading.{image_fault}
 use Rattle.ix_iso.proofs.Noninterference.{noninterference}
 use Rattle.ix_model.specs.history.Events.{Event}
 use Rattle.ix_lanes.specs.histories.Serial.{serial}
@@ -17,11 +18,11 @@ use Rattle.ix_host.specs.declared.task.Telling.{Telling}
 use Rattle.ix_host.specs.run.Inputs.{IsTooLong, input_of, reads_source, script_for, script_in, script_max}
 use Rattle.ix_host.specs.run.Tasks.{Prepares, text_told}
 use Rattle.ix_host.specs.run.Outcome as outcome
-use Rattle.ix_host.specs.run.Outcome.{Outcome, outcome_in, outcome_of, status_of, text_for, text_of}
+use Rattle.ix_host.specs.run.Outcome.{Outcome, outcome_in, outcome_of, refusal_of, status_of, text_for, text_of}
 use Rattle.ix_host.specs.run.Run.{Ends, FitsCommand, ExistsHistory, IsAnswer, IsEndOf, ReadsOut, WritesFor, WritesLine, called_for}
 use Rattle.ix_host.proofs.Noninterference.{low_lines}
 use Rattle.ix_host.proofs.comes_to.Preparing.{ends_as, unwritten}
-use Rattle.ix_host.proofs.comes_to.Outcomes.{done_text, first_rule, made_done, never_usage, refusal_text, status_is, usage_called}
+use Rattle.ix_host.proofs.comes_to.Outcomes.{done_text, fault_text, first_rule, made_done, never_usage, no_image, no_script, refusal_text, status_is, usage_called}
 
 -- ---- an end with an outcome
 -- the status of an answer is the outcome's
@@ -29,6 +30,7 @@ of_answer : (o : Outcome) (end : Status) → IsEndOf o end → IsAnswer end → 
 of_answer o status.Done h a = h
 of_answer o status.Usage h a = h
 of_answer o (status.Script l r) h a = h
+of_answer o (status.Image at r) h a = h
 of_answer o status.ReadFault h a = absurd h
 of_answer o status.WriteFault h a = absurd a
 of_answer o status.NoMemory h a = absurd a
@@ -38,6 +40,7 @@ or_memory : (o : Outcome) (end : Status) → IsEndOf o end → (end ≡ status.W
 or_memory o status.Done h f = inl h
 or_memory o status.Usage h f = inl h
 or_memory o (status.Script l r) h f = inl h
+or_memory o (status.Image at r) h f = inl h
 or_memory o status.ReadFault h f = absurd h
 or_memory o status.WriteFault h f = absurd (f refl)
 or_memory o status.NoMemory h f = inr refl
@@ -55,15 +58,26 @@ fits_asked (Some command.Run) bytes (status.Script l r) h f = refl
 fits_asked (Some command.Print) bytes (status.Script l r) h f = refl
 fits_asked (Some command.Check) bytes (status.Script l r) h f = refl
 fits_asked (Some command.Flow) bytes (status.Script l r) h f = refl
+fits_asked (Some command.Save) bytes (status.Script l r) h f = refl
+fits_asked (Some command.Load) bytes (status.Script l r) h f = absurd (no_script (image_fault bytes) l r (h tt))
 fits_asked (Some (command.Twin at)) bytes (status.Script l r) h f = refl
 fits_asked (Some (command.Gen n)) bytes (status.Script l r) h f = let no : status.Script l r ≡ status.Done = h tt ∙ made_done n bytes in cc
+fits_asked None bytes (status.Image at r) h f = let no : status.Image at r ≡ status.Usage = h tt in cc
+fits_asked (Some command.Load) bytes (status.Image at r) h f = refl
+fits_asked (Some (command.Gen n)) bytes (status.Image at r) h f = let no : status.Image at r ≡ status.Done = h tt ∙ made_done n bytes in cc
+fits_asked (Some command.Run) bytes (status.Image at r) h f = absurd (no_image (refusal_of command.Run bytes) at r (h tt))
+fits_asked (Some command.Print) bytes (status.Image at r) h f = absurd (no_image (refusal_of command.Print bytes) at r (h tt))
+fits_asked (Some command.Check) bytes (status.Image at r) h f = absurd (no_image (refusal_of command.Check bytes) at r (h tt))
+fits_asked (Some command.Flow) bytes (status.Image at r) h f = absurd (no_image (refusal_of command.Flow bytes) at r (h tt))
+fits_asked (Some command.Save) bytes (status.Image at r) h f = absurd (no_image (refusal_of command.Save bytes) at r (h tt))
+fits_asked (Some (command.Twin l)) bytes (status.Image at r) h f = absurd (no_image (refusal_of (command.Twin l) bytes) at r (h tt))
 fits_asked asked bytes status.ReadFault h f = f refl
 fits_asked asked bytes status.WriteFault h f = tt
 fits_asked asked bytes status.NoMemory h f = tt
 
 -- ---- the input
 -- what holds of the input holds of the one that is told
-of_input : (o : Option (List ℕ)) (b : List ℕ) (P : List ℕ → Type 0) → IfSome o (λ input. b ≡ input) → P b → IfSome o P
+pub of_input : (o : Option (List ℕ)) (b : List ℕ) (P : List ℕ → Type 0) → IfSome o (λ input. b ≡ input) → P b → IfSome o P
 of_input None b P told h = tt
 of_input (Some input) b P told h = subst P told h
 
@@ -76,6 +90,8 @@ long_input (Some command.Run) left b told h = of_input left b (λ bytes. script_
 long_input (Some command.Print) left b told h = of_input left b (λ bytes. script_max < length bytes) told (first_rule command.Print b h)
 long_input (Some command.Check) left b told h = of_input left b (λ bytes. IsTooLong (Some command.Check) bytes) told (first_rule command.Check b h)
 long_input (Some command.Flow) left b told h = of_input left b (λ bytes. script_max < length bytes) told (first_rule command.Flow b h)
+long_input (Some command.Save) left b told h = of_input left b (λ bytes. script_max < length bytes) told (first_rule command.Save b h)
+long_input (Some command.Load) left b told h = absurd (no_script (image_fault b) 1 1 h)
 long_input (Some (command.Twin l)) left b told h = of_input left b (λ bytes. IsTooLong (Some (command.Twin l)) bytes) told (first_rule (command.Twin l) b h)
 long_input (Some (command.Gen n)) left b told h = let no : status.Script 1 1 ≡ status.Done = h ∙ made_done n b in cc
 
@@ -87,6 +103,7 @@ line_of usage asked b history status.Done t after is h = tt
 line_of usage None b history status.Usage t after is h = h
 line_of usage (Some c) b history status.Usage t after is h = absurd (never_usage c b (is ∙ status_is usage (Some c) b history))
 line_of usage asked b history (status.Script line rule) t after is h = h ∙ ap (λ text. Some (t ++ text)) (refusal_text (outcome_of usage asked b history) line rule is)
+line_of usage asked b history (status.Image at rule) t after is h = h ∙ ap (λ text. Some (t ++ text)) (fault_text (outcome_of usage asked b history) at rule is)
 line_of usage asked b history status.ReadFault t after is h = absurd is
 line_of usage asked b history status.WriteFault t after is h = tt
 line_of usage asked b history status.NoMemory t after is h = tt
@@ -127,7 +144,7 @@ no_line usage None = tt
 no_line usage (Some t) = tt
 
 -- what holds of all holds where one is told
-of_any : (o : Option (List ℕ)) (P : List ℕ → Type 0) → ((b : List ℕ) → P b) → IfSome o P
+pub of_any : (o : Option (List ℕ)) (P : List ℕ → Type 0) → ((b : List ℕ) → P b) → IfSome o P
 of_any None P h = tt
 of_any (Some b) P h = h b
 
@@ -254,6 +271,7 @@ verdict_ended Comes serials usage asked left end taken after done before now rea
     is_fault status.ReadFault = inl refl
     is_fault status.WriteFault = inr (λ is. cc)
     is_fault status.NoMemory = inr (λ is. cc)
+    is_fault (status.Image at rule) = inr (λ is. cc)
 
 -- of what was told once they were run
 pub verdict_told : {Comes : List Line → List Event → Type 0} {usage : List ℕ} {asked : Option Command} {left : Option (List ℕ)} {told : Telling} {s : List Line}
@@ -284,6 +302,7 @@ told_read_out most text end None left h w = tt
 told_read_out most text status.Done (Some bytes) left h w = w
 told_read_out most text status.Usage (Some bytes) left h w = tt
 told_read_out most text (status.Script line rule) (Some bytes) left h w = cc
+told_read_out most text (status.Image at rule) (Some bytes) left h w = cc
 told_read_out most text status.ReadFault (Some bytes) left h w = tt
 told_read_out most text status.WriteFault (Some bytes) left h w = tt
 told_read_out most text status.NoMemory (Some bytes) left h w = tt

@@ -153,11 +153,15 @@ labelled_map (Some l) = tt
 whole_counted : (words : List (List ℕ)) → IfSome (whole_command words) IsCounted
 whole_counted [] = tt
 whole_counted (word ∷ []) =
-    let last = if same_bytes word (codes "flow") then Some command.Flow else None in
-    let check = if same_bytes word (codes "check") then Some command.Check else last in
+    let load = if same_bytes word (codes "load") then Some command.Load else None in
+    let save = if same_bytes word (codes "save") then Some command.Save else load in
+    let flow = if same_bytes word (codes "flow") then Some command.Flow else save in
+    let check = if same_bytes word (codes "check") then Some command.Check else flow in
     counted_if (same_bytes word (codes "run")) (Some command.Run) (if same_bytes word (codes "print") then Some command.Print else check) tt
     (counted_if (same_bytes word (codes "print")) (Some command.Print) check tt
-    (counted_if (same_bytes word (codes "check")) (Some command.Check) last tt (counted_if (same_bytes word (codes "flow")) (Some command.Flow) None tt tt)))
+    (counted_if (same_bytes word (codes "check")) (Some command.Check) flow tt
+    (counted_if (same_bytes word (codes "flow")) (Some command.Flow) save tt
+    (counted_if (same_bytes word (codes "save")) (Some command.Save) load tt (counted_if (same_bytes word (codes "load")) (Some command.Load) None tt tt)))))
 whole_counted (word ∷ count ∷ []) =
     let twin = if same_bytes word (codes "twin") then option_map (λ l. command.Twin l) (label_in form.Two count) else None in
     counted_if (same_bytes word (codes "gen")) (option_map (λ n. command.Gen n) (count_of count)) twin (counted_map (count_of count) (number_bounds 1 100000 count))
@@ -180,4 +184,6 @@ lanes_counted words = go (command_of words)
     go (Some (command.Gen n)) = tt
     go (Some command.Check) = tt
     go (Some command.Flow) = tt
+    go (Some command.Save) = tt
+    go (Some command.Load) = tt
     go (Some (command.Twin l)) = tt

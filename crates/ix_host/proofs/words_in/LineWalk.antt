@@ -154,6 +154,8 @@ none_whole word [] k ks refused = rw (
   other_than word (codes "print") k ks refl refused,
   other_than word (codes "check") k ks refl refused,
   other_than word (codes "flow") k ks refl refused,
+  other_than word (codes "save") k ks refl refused,
+  other_than word (codes "load") k ks refl refused,
 ) refl
 none_whole word (more ∷ []) k ks refused = rw (other_than word (codes "gen") k ks refl refused, other_than word (codes "twin") k ks refl refused) refl
 none_whole word (count ∷ more ∷ words) k ks refused = refl

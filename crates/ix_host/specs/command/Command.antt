@@ -20,6 +20,8 @@ named_command word =
     else if same_bytes word (codes "print") then Some command.Print
     else if same_bytes word (codes "check") then Some command.Check
     else if same_bytes word (codes "flow") then Some command.Flow
+    else if same_bytes word (codes "save") then Some command.Save
+    else if same_bytes word (codes "load") then Some command.Load
     else None
 
 -- the count of a word: a decimal number from 1 to 100,000, without a sign and without zeros before it
@@ -40,13 +42,13 @@ whole_command (word ∷ []) = named_command word
 whole_command (word ∷ count ∷ []) = counted_command word count
 whole_command (word ∷ count ∷ more ∷ words) = None
 
--- The words are a command where they are `run`, `print`, `check`, `flow`, `gen` and a count, or `twin` and a label, once at most one word `--` is left out.
+-- The words are a command where they are `run`, `print`, `check`, `flow`, `save`, `load`, `gen` and a count, or `twin` and a label, once at most one word `--` is left out.
 unfoldable pub command_of : List (List ℕ) → Option Command
 command_of words = whole_command (left_out words)
 
 -- what is written where the words are no command
 abbrev pub usage_line : List ℕ
-usage_line = codes "usage: ixone run | print | gen COUNT | check | flow | twin LABEL\n"
+usage_line = codes "usage: ixone run | print | gen COUNT | check | flow | save | load | twin LABEL\n"
 
 -- ---- the program that runs the lanes side by side
 -- `run` is its one command

@@ -1,12 +1,14 @@
 -- What is left to do of what was asked for, and what is told of a history.
 use Rattle.std.specs.Prelude.{◌≡◌, ℕ, Bool, List, [], Option, Some, IfSome}
 use Rattle.ix_model.specs.history.Events.{Event}
+use Rattle.ix_image.specs.Laws.{IsImage}
 use Rattle.ix_script.specs.declared.line.Line.{Line}
 use Rattle.ix_lanes.specs.asking.Ruled.{rules_told}
 use Rattle.ix_replay.specs.report.Fixed.{LanesNamed}
 use Rattle.ix_replay.specs.report.Report.{report_of}
 use Rattle.ix_replay.specs.Summary.{summary_line}
 use Rattle.ix_host.specs.declared.arguments.command.Command.{Command}
+use Rattle.ix_host.specs.declared.status.Status.TheVariants as status
 use Rattle.ix_host.specs.declared.task.Task.{Task}
 use Rattle.ix_host.specs.declared.task.Task.TheVariants as task
 use Rattle.ix_host.specs.declared.task.Telling.{Telling}
@@ -34,6 +36,12 @@ OnRun (task.Run told script policy) P = P
 abbrev pub TaskReadsOut : ℕ → Task → List ℕ → Option (List ℕ) → Type 0
 TaskReadsOut most (task.Ended end) bytes after = ReadsOut most end bytes after
 TaskReadsOut most (task.Run told script policy) bytes after = after ≡ Some []
+
+-- With an image no lanes are run, and it was listed only where the bytes are one.
+abbrev pub IsLoaded : List ℕ → Task → Type 0
+IsLoaded bytes (task.Ended status.Done) = IsImage bytes
+IsLoaded bytes (task.Ended _) = Unit {0}
+IsLoaded bytes (task.Run told script policy) = ⊥
 
 -- With each history of a script the outcome is this one: that of a run which came to its end, or the text that is told once the lanes of the script have run.
 abbrev pub LeadsTo : (List Event → Outcome) → List Line → Task → Option (List ℕ) → Option (List ℕ) → Bool → ℕ → ℕ → Type 0

@@ -62,6 +62,8 @@ fn named_command(word: &str) -> Option<Command>
         "print" => Some(Command::Print),
         "check" => Some(Command::Check),
         "flow" => Some(Command::Flow),
+        "save" => Some(Command::Save),
+        "load" => Some(Command::Load),
         _ => None,
     }
 }

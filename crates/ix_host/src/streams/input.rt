@@ -23,6 +23,9 @@ const CHECK_MAX: usize = 134_217_728;
 /// The most bytes that two scripts may have, with the line between them.
 const TWIN_MAX: usize = 33_554_437;
 
+/// The most bytes that an image may have.
+const IMAGE_MAX: usize = 671_088_640;
+
 /// The text of the generator.
 fn made(alloc: Global, count: u32) -> Input
     requires { IsCounted (Command.Gen count) }
@@ -54,6 +57,8 @@ pub fn input_for<S: Source>(alloc: Global, command: &Command, source: &mut S) ->
         Command::Gen(count) => made(alloc, *count),
         Command::Check => read_all(alloc, source, CHECK_MAX),
         Command::Flow => read_all(alloc, source, SCRIPT_MAX),
+        Command::Save => read_all(alloc, source, SCRIPT_MAX),
+        Command::Load => read_all(alloc, source, IMAGE_MAX),
         Command::Twin(_) => read_all(alloc, source, TWIN_MAX),
     }
 }

@@ -1,6 +1,6 @@
 ghost use Rattle.std.specs.Prelude.{◌≡◌, ℕ, ◌+◌, ◌≤◌, ◌<◌, List, IfSome, OnOk, true, vec_len};
 ghost use Rattle.ix_io.specs.Streams.{HasCause, Rose};
-ghost use Rattle.ix_host.specs.run.Inputs.{check_max};
+ghost use Rattle.ix_image.specs.Image.{longest};
 ghost use Rattle.ix_host.specs.run.Whole.{Gathers, GoesOn, IsFront, IsShort, TakesFew, Writes};
 
 use ix_io::{Failed, Sink, Source};
@@ -22,7 +22,7 @@ pub enum Input {
 
 /// Reads all there is, but at most one byte more than an input may have.
 pub fn read_all<S: Source>(alloc: Global, source: &mut S, max: usize) -> Input
-    requires { max ≤ check_max }
+    requires { max ≤ longest }
     ensures told { IfSome (S.left source.old) (λ bytes. Gathers max bytes (S.left source.new) result) }
     ensures few { IfSome (S.left source.old) (λ bytes. TakesFew max bytes (S.left source.new)) }
     ensures short { IsShort max result }
@@ -52,7 +52,7 @@ enum Piece {
 
 /// Reads a piece, and puts it at the end of what was read.
 fn read_piece<S: Source>(source: &mut S, bytes: &mut Vec<u8>, max: usize) -> Piece
-    requires few { max ≤ check_max }
+    requires few { max ≤ longest }
     requires within { vec_len bytes.old ≤ max }
     ensures told { (all : List ℕ) → IsFront all bytes.old.items (S.left source.old) → GoesOn all bytes.new.items (S.left source.new) result }
     ensures few { (all : List ℕ) → IsFront all bytes.old.items (S.left source.old) → TakesFew max all (S.left source.new) }

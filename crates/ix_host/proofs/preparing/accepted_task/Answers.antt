@@ -48,6 +48,13 @@ returns-in-Flow-clause-leads g c =
     c.requires.accepted tt)
     ∙ ap (λ k. outcome_for k c.args.script c.args.beside.now history) (sym c.in-Flow.is)) c.flow.ensures
 
+pub returns-in-Save-clause-leads : goal.returns-in-Save-clause-leads
+unfolding text_for
+returns-in-Save-clause-leads g c =
+    λ history. ends_as (outcome_accepted command.Save c.args.script c.args.beside.now history (accepted command.Save c.args.script c.args.beside.now
+    c.requires.accepted tt)
+    ∙ ap (λ k. outcome_for k c.args.script c.args.beside.now history) (sym c.in-Save.is)) c.save.ensures
+
 pub returns-in-Twin-clause-leads : goal.returns-in-Twin-clause-leads
 returns-in-Twin-clause-leads g c = λ history. ends_as (outcome_twin c.in-Twin.at c.args.script c.args.beside.now history c.requires.accepted
     ∙ ap (λ k. outcome_for k c.args.script c.args.beside.now history) (sym c.in-Twin.is)) c.twin.ensures

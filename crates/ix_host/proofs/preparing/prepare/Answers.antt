@@ -1,11 +1,15 @@
-use Rattle.std.proofs.Common.{◌≡◌, true, refl, subst, sym}
+use Rattle.std.proofs.Common.{◌≡◌, ◌∙◌, Some, true, refl, subst, sym, ap}
 use Rattle.std.specs.Prelude.{IfSome}
 use Rattle.ix_host.specs.declared.streams.stream.Input.TheVariants as input
-use Rattle.ix_host.specs.run.Inputs.{input_max, reads_source, script_bytes, script_in}
+use Rattle.ix_host.specs.run.Inputs.{input_max, input_of, reads_image, reads_source, script_bytes, script_in}
 use Rattle.ix_host.specs.run.Whole.{Gathers}
 use Rattle.ix_host.specs.run.Outcome.{outcome_in}
 use Rattle.ix_host.specs.run.Outcome as outcome
-use Rattle.ix_host.proofs.comes_to.Preparing.{ends_somewhere, leads_somewhere, long_prepared, long_read_out, memory_prepared, usage_prepared, whole_prepared, whole_read_out}
+use Rattle.ix_host.specs.declared.arguments.command.Command.{Command}
+use Rattle.ix_host.specs.declared.arguments.command.Command.TheVariants as command
+use Rattle.ix_host.specs.run.Tasks.{IsLoaded}
+use Rattle.ix_host.proofs.comes_to.Verdicts.{of_any, of_input}
+use Rattle.ix_host.proofs.comes_to.Preparing.{ends_somewhere, leads_somewhere, long_not_loaded, long_prepared, long_read_out, memory_prepared, usage_prepared, whole_prepared, whole_read_out}
 use Rattle.ix_host.proofs.preparing.prepare.Goals as goal
 
 pub returns-in_default-clause-fault : goal.returns-in_default-clause-fault
@@ -32,21 +36,32 @@ returns-in-Whole-clause-prepared g c = λ _. let leads = rw c.as_slice.ensures.v
     whole_prepared c.args.usage.now c.args.asked (g.S.Source.left c.args.source.now) (g.K.Sink.taken c.args.sink.now) c.in-Some.command c.input_task.result _ _
     _ _ c.in-Whole.bytes.items c.in-Some.is c.in-Whole.ensures.told leads
 
+pub returns-in-Whole-clause-image : goal.returns-in-Whole-clause-image
+returns-in-Whole-clause-image g c = λ load.
+    let left = g.S.Source.left c.args.source.now in
+    let asks : Some c.in-Some.command ≡ Some command.Load = sym c.in-Some.is ∙ load in
+    let is : c.in-Some.command ≡ command.Load = cc in
+    let loaded = rw c.as_slice.ensures.value at (c.input_task.ensures.image (ap reads_image is)) in
+    of_input left c.in-Whole.bytes.items (λ bytes. IsLoaded bytes c.input_task.result)
+    (subst (λ (k : Command). IfSome (input_of (Some k) left) (λ input. c.in-Whole.bytes.items ≡ input)) is c.in-Whole.ensures.told) loaded
+
 pub returns-in-TooLong-clause-read_out : goal.returns-in-TooLong-clause-read_out
 returns-in-TooLong-clause-read_out g c = λ reads.
-    long_read_out (input_max c.args.asked) c.tell-in-TooLong.result (g.S.Source.left c.args.source.now) (g.S.Source.left c.input_for.new.source)
-    (c.tell-in-TooLong.ensures (outcome.Refused 1 1) (sym c.too_long_line.ensures) refl).fits
+    long_read_out (input_max c.args.asked) (reads_image c.in-Some.command) c.refuse_long.result (g.S.Source.left c.args.source.now) (g.S.Source.left c.input_for.new.source) c.refuse_long.ensures.fits
     (subst (λ a. IfSome (g.S.Source.left c.args.source.now) (λ bytes. Gathers (input_max a) bytes (g.S.Source.left c.input_for.new.source) input.TooLong))
     (sym c.in-Some.is) (c.in-TooLong.ensures.gathers (subst (λ a. reads_source a ≡ true) c.in-Some.is reads)))
 
 pub returns-in-TooLong-clause-fault : goal.returns-in-TooLong-clause-fault
-returns-in-TooLong-clause-fault g c = λ is. absurd (ends_somewhere (c.tell-in-TooLong.ensures (outcome.Refused 1 1) (sym c.too_long_line.ensures) refl) is)
+returns-in-TooLong-clause-fault g c = λ is. absurd (ends_somewhere c.refuse_long.ensures is)
 
 pub returns-in-TooLong-clause-prepared : goal.returns-in-TooLong-clause-prepared
 returns-in-TooLong-clause-prepared g c = λ _.
-    long_prepared c.args.usage.now c.args.asked (g.S.Source.left c.args.source.now) (g.K.Sink.taken c.args.sink.now) c.in-Some.command c.tell-in-TooLong.result
-    _ _ _ _ c.in-Some.is c.in-TooLong.ensures.readable c.in-TooLong.ensures.told
-    (c.tell-in-TooLong.ensures (outcome.Refused 1 1) (sym c.too_long_line.ensures) refl)
+    long_prepared c.args.usage.now c.args.asked (g.S.Source.left c.args.source.now) (g.K.Sink.taken c.args.sink.now) c.in-Some.command c.refuse_long.result _ _
+    _ _ c.in-Some.is c.in-TooLong.ensures.readable c.in-TooLong.ensures.told
+    c.refuse_long.ensures
+
+pub returns-in-TooLong-clause-image : goal.returns-in-TooLong-clause-image
+returns-in-TooLong-clause-image g c = λ _. of_any (g.S.Source.left c.args.source.now) _ (λ bytes. long_not_loaded c.in-Some.command c.refuse_long.result bytes c.refuse_long.ensures.fits)
 
 pub returns-in-NoMemory-clause-prepared : goal.returns-in-NoMemory-clause-prepared
 returns-in-NoMemory-clause-prepared g c = λ _. memory_prepared c.args.usage.now c.args.asked (g.S.Source.left c.args.source.now) (g.K.Sink.taken c.args.sink.now) _ _

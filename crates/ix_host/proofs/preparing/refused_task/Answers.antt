@@ -38,6 +38,11 @@ unfolding script_refusal
 returns-in-Flow-clause-leads g c = λ beside history.
     ends_as (outcome_refused c.args.command c.args.script c.args.line 27 beside history (ap (λ k. script_refusal k c.args.script beside) c.in-Flow.is ∙ c.requires.refusal)) c.refuse-in-Flow.ensures
 
+pub returns-in-Save-clause-leads : goal.returns-in-Save-clause-leads
+unfolding script_refusal
+returns-in-Save-clause-leads g c = λ beside history.
+    ends_as (outcome_refused c.args.command c.args.script c.args.line 27 beside history (ap (λ k. script_refusal k c.args.script beside) c.in-Save.is ∙ c.requires.refusal)) c.refuse-in-Save.ensures
+
 pub returns-in-Twin-clause-leads : goal.returns-in-Twin-clause-leads
 unfolding script_refusal
 returns-in-Twin-clause-leads g c = λ beside history.

@@ -26,6 +26,16 @@ returns-in-Flow-clause-gathers g c = λ _.
     subst (λ k. IfSome (g.S.Source.left c.args.source.now) (λ bytes. Gathers (input_max (Some k)) bytes (g.S.Source.left c.read_all-in-Flow.new.source) c.read_all-in-Flow.result)) (sym c.in-Flow.is)
     c.read_all-in-Flow.ensures.told
 
+pub returns-in-Save-clause-gathers : goal.returns-in-Save-clause-gathers
+returns-in-Save-clause-gathers g c = λ _.
+    subst (λ k. IfSome (g.S.Source.left c.args.source.now) (λ bytes. Gathers (input_max (Some k)) bytes (g.S.Source.left c.read_all-in-Save.new.source) c.read_all-in-Save.result)) (sym c.in-Save.is)
+    c.read_all-in-Save.ensures.told
+
+pub returns-in-Load-clause-gathers : goal.returns-in-Load-clause-gathers
+returns-in-Load-clause-gathers g c = λ _.
+    subst (λ k. IfSome (g.S.Source.left c.args.source.now) (λ bytes. Gathers (input_max (Some k)) bytes (g.S.Source.left c.read_all-in-Load.new.source) c.read_all-in-Load.result)) (sym c.in-Load.is)
+    c.read_all-in-Load.ensures.told
+
 pub returns-in-Twin-clause-gathers : goal.returns-in-Twin-clause-gathers
 returns-in-Twin-clause-gathers g c = λ _.
     subst (λ k. IfSome (g.S.Source.left c.args.source.now) (λ bytes. Gathers (input_max (Some k)) bytes (g.S.Source.left c.read_all-in-Twin.new.source) c.read_all-in-Twin.result)) (sym c.in-Twin.is)
