@@ -48,7 +48,7 @@ pub loaded_image : (left : Option (List ℕ)) (end : Status) → end ≡ status.
 loaded_image left end is loaded = subst (λ (e : Status). IfSome left (λ bytes. IsLoaded bytes (task.Ended e))) is loaded
 
 -- No lanes are run with an image.
-pub never_run : {P : List ℕ → Type 0} (left : Option (List ℕ)) → IfSome left (λ bytes. ⊥) → IfSome left P
+pub never_run : (left : Option (List ℕ)) → IfSome left (λ bytes. ⊥) → IfSome left (λ bytes. IsImage bytes)
 never_run None h = tt
 never_run (Some bytes) h = absurd h
 

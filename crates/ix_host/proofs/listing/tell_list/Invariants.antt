@@ -6,7 +6,7 @@ use Rattle.ix_host.proofs.listing.tell_list.Given as goal
 
 abbrev pub invariant-lines : goal.invariant-lines
 invariant-lines g l = record {
-  stands : StandsAt None (g.K.Sink.taken l.fn.sink) (g.K.Sink.taken l.sink) (l.waiting.items ++ left_of l.listing) (list_of l.tree) (g.K.Sink.faults l.fn.sink) (g.K.Sink.faults l.sink);
+  stands : StandsAt None (g.K.Sink.taken l.fn.sink) (g.K.Sink.taken l.sink) (l.waiting.items ++ left_of l.listing) (list_of l.fn.tree) (g.K.Sink.faults l.fn.sink) (g.K.Sink.faults l.sink);
 }
 
 abbrev pub decreases-lines : goal.decreases-lines

@@ -8,7 +8,7 @@ use Rattle.ix_host.proofs.saving.tell_image.Given as goal
 
 abbrev pub invariant-pieces : goal.invariant-pieces
 invariant-pieces g l = record {
-  stands : StandsAt None (g.K.Sink.taken l.fn.sink) (g.K.Sink.taken l.sink) (l.waiting.items ++ left_of l.saving) (image_of (tree_on l.fss (world_of l.core))) (g.K.Sink.faults l.fn.sink)
+  stands : StandsAt None (g.K.Sink.taken l.fn.sink) (g.K.Sink.taken l.sink) (l.waiting.items ++ left_of l.saving) (image_of (tree_on l.fn.fss (world_of l.fn.core))) (g.K.Sink.faults l.fn.sink)
       (g.K.Sink.faults l.sink);
   begun : IsBegun l.saving;
 }
