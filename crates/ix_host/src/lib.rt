@@ -19,7 +19,7 @@ mod status;
 mod streams;
 mod task;
 
-pub use asked::words::Words;
+pub use arguments::words::Words;
 pub use ix_io as io;
 pub use ix_model::NoMemory;
 pub use ix_parallel::{NoWatch, Watch};
