@@ -9,7 +9,7 @@ use ix_model::{Answer, Sys};
 use std::thread::{Threads, join_mut};
 
 /// How many threads run the lanes of a phase at most. More lanes share them.
-const MOST_THREADS: u32 = 16;
+const MOST_THREADS: u32 = 8;
 
 /// A run of a lane, and what makes its calls.
 #[derive(Drop)]
@@ -125,7 +125,7 @@ fn run_both<T: Runner + Send, R: Threads + Sync>(
 
 /// Runs the next phase of each lane, side by side where threads can be started. `None`: each lane's lines are all done. Else it is
 /// the stop of the first lane in the list that has one. Each lane is left as `LaneRun::phase` leaves it. It takes no memory. No thread is
-/// started for a lane that has no line in the phase. Up to sixteen lanes that have some run in a thread each; of more, as many as are
+/// started for a lane that has no line in the phase. Up to eight lanes that have some run in a thread each; of more, as many as are
 /// needed share one, one after the other.
 pub fn run_phase<'a, S: Sys + Send, R: Threads + Sync>(
     rt: &R,
