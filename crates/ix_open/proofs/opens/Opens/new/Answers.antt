@@ -29,4 +29,5 @@ pub returns : goal.returns
 returns c =
     let empty : c.resize.new.self.items ≡ replicate {A = Option ℕ} c.args.opens None = c.in_ok-resize.ensures.items
     ∙ rw (c.new-keys.ensures.items, c.new-keys.ensures.len) (filled {A = Option ℕ} c.args.opens None) in
-    ap (λ ks. table_of (seen c.in_ok-entries.entries ks) c.args.objects) empty ∙ ap (λ es. table_of es c.args.objects) (seen_none c.in_ok-entries.entries c.args.opens) ∙ none_tables c.args.opens c.args.objects
+    ap (λ ks. table_of (seen c.in_ok-entries.entries ks) c.args.objects) empty
+    ∙ ap (λ es. table_of es c.args.objects) (seen_none c.in_ok-entries.entries c.args.opens) ∙ none_tables c.args.opens c.args.objects

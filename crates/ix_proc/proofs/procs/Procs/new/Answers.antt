@@ -8,7 +8,8 @@ use Rattle.ix_proc.proofs.procs.Procs.new.Goals as goal
 pub invariant_of-result : goal.invariant_of-result
 invariant_of-result c = (
   are_none _ _ c.in_ok-slots.ensures.items,
-  kin_none _ _ _ (vec_capacity c.in_ok-slots.slots) c.in_ok-slots.ensures.items (c.in_ok-kin.ensures ∙ ap (all_free c.args.procs) c.in-Some.ensures.1 ∙ ap (λ m. all_free m (m + 1)) (sym c.in_ok-slots.ensures.exact)),
+  kin_none _ _ _ (vec_capacity c.in_ok-slots.slots) c.in_ok-slots.ensures.items (c.in_ok-kin.ensures ∙ ap (all_free c.args.procs) c.in-Some.ensures.1
+      ∙ ap (λ m. all_free m (m + 1)) (sym c.in_ok-slots.ensures.exact)),
   omega (arith, c.in_ok-records.ensures.len, c.in_ok-records.records.ok, c.in_ok-slots.ensures.exact),
   omega (arith, c.in_ok-slots.ensures.exact, c.ranges.procs),
 )
