@@ -1,35 +1,35 @@
 //! Session scripts both ways: the reader, with the fault of every input, and the writer of the one text of a script.
 #![tactic(auto)]
 
-mod before;
-mod cost;
-mod cutting;
+mod body;
+mod draft;
 mod fail;
-mod fitting;
-mod forms;
+mod form;
+mod header;
+mod index;
 pub mod laws;
 mod line;
 mod packed;
+mod paths;
+mod payload;
+mod places;
 mod plan;
 mod reading;
 mod role;
-mod rule;
 mod rules;
 mod schedule;
 mod script;
 mod values;
-mod written;
+mod words;
+mod writing;
 
-pub use cutting::words::NameWord;
-pub use fail::{ReadFail, ScriptFault};
+pub use fail::{ReadFail, ScriptFault, rule_text};
 pub use line::{FdWord, KeepWord, Line, What};
+pub use paths::{MadePath, PathWord};
+pub use payload::Payload;
 pub use reading::read;
 pub use role::Role;
-pub use rule::rule_text;
 pub use schedule::Stretch;
 pub use script::{Script, need};
-pub use values::labels::LabelWord;
-pub use values::paths::{MadePath, PathWord};
-pub use values::payload::Payload;
-pub use values::policy::PolicyText;
-pub use written::writing::write;
+pub use values::{LabelWord, NameWord, PolicyText};
+pub use writing::write;

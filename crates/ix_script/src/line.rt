@@ -1,8 +1,6 @@
-use crate::cutting::words::NameWord;
-use crate::values::labels::LabelWord;
-use crate::values::paths::{MadePath, PathWord};
-use crate::values::payload::Payload;
-use crate::values::policy::PolicyText;
+use crate::paths::{MadePath, PathWord};
+use crate::payload::Payload;
+use crate::values::{LabelWord, NameWord, PolicyText};
 use ix_label::Form;
 use ix_model::{Mode, PrivSet};
 

@@ -1,10 +1,8 @@
 ghost use Rattle.std.specs.Prelude.{◌≡◌, ◌++◌, ◌∷◌, ◌+◌, ◌<◌, [], List, length, take, OnOk, IfOk};
-ghost use Rattle.ix_script.specs.lines.Before.{fs_told, proc_told, object_told};
-ghost use Rattle.ix_script.specs.scripts.Held.{IsPlan};
+ghost use Rattle.ix_script.specs.{declared.line.Line.{Line}, lines.Before.{fs_told, proc_told, object_told}, scripts.Held.{IsPlan}};
 ghost use Rattle.ix_script.specs.scripts.Scripts.{config_of};
-ghost use Rattle.ix_script.specs.declared.line.Line.{Line};
 
-use crate::before::header::{default_fs, default_limits, fs_spec, limits_after};
+use crate::header::{default_fs, default_limits, fs_spec, limits_after};
 use crate::line::Line;
 use crate::packed::Lines;
 use bitflags::Flags;

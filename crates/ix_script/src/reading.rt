@@ -1,19 +1,13 @@
-ghost use Rattle.std.specs.Prelude.{◌≡◌, ◌<◌, ◌≤◌, ◌∷◌, [], true, None, Some, length, IfOk, IfErr};
-ghost use Rattle.std.specs.List.{list_all};
-ghost use Rattle.ix_model.specs.opening.Valid.{is_valid};
-ghost use Rattle.ix_script.specs.lines.Before.{commands, lanes_of};
-ghost use Rattle.ix_script.specs.lines.Faults.{fault_from, fault_of};
+ghost use Rattle.std.specs.{Prelude.{◌≡◌, ◌<◌, ◌≤◌, ◌∷◌, [], true, None, Some, length, IfOk, IfErr}, List.{list_all}};
+ghost use Rattle.ix_script.specs.{lines.Before.{commands, lanes_of}, lines.Faults.{fault_from, fault_of}, reader.Readers.{HasCause, in_printable_lines}};
+ghost use Rattle.ix_script.specs.{reader.Told.{DraftTold}, scripts.Schedule.{LanesOnce}, scripts.Scripts.{form_in, lines_said, script_of, config_of}};
 ghost use Rattle.ix_script.specs.texts.Lines.{cut, lines_of};
-ghost use Rattle.ix_script.specs.reader.Readers.{HasCause, in_printable_lines};
-ghost use Rattle.ix_script.specs.scripts.Scripts.{form_in, lines_said, script_of, config_of};
-ghost use Rattle.ix_script.specs.reader.Told.{DraftTold};
-ghost use Rattle.ix_script.specs.scripts.Schedule.{LanesOnce};
+ghost use Rattle.ix_model.specs.opening.Valid.{is_valid};
 
-use crate::before::draft::Draft;
-use crate::cutting::cut::Words;
-use crate::fail::{ReadFail, ScriptFault};
-use crate::rule::Rule;
+use crate::draft::Draft;
+use crate::fail::{ReadFail, Rule, ScriptFault};
 use crate::script::Script;
+use crate::words::Words;
 use bstr::ByteSlice;
 use ix_label::Steps;
 use std::alloc::Global;

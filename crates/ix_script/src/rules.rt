@@ -1,25 +1,27 @@
-ghost use Rattle.std.specs.Prelude.{◌≡◌, Some, None, [], true, if◌then◌else◌, IsTrue};
-ghost use Rattle.std.specs.List.{list_all};
-ghost use Rattle.ix_model.specs.opening.Valid.{is_within};
-ghost use Rattle.ix_script.specs.texts.Cutting.{words_of, is_skipped, is_policy_line, policy_text};
-ghost use Rattle.ix_script.specs.lines.Faults.{text_fault, words_fault, stand_fault, names_fault, said_fault, form_fault, command_fault, policy_fault, first_line_fault, body_fault, line_fault};
-ghost use Rattle.ix_script.specs.reader.Readers.{Finds, Tells, TellsForm, is_whole};
-ghost use Rattle.ix_script.specs.lines.Before.{form_told};
-ghost use Rattle.ix_script.specs.lines.Said.{said, version_of, line_of};
-ghost use Rattle.ix_label.specs.declared.form.Form.TheVariants.{One};
-ghost use Rattle.ix_script.specs.reader.Told.{DraftTold};
+ghost use Rattle.std.specs.{Prelude.{◌≡◌, Some, None, [], true, IsTrue, map, ◌<◌, ◌&&◌, ◌||◌, not, length}, List.{list_all, list_any}};
+ghost use Rattle.ix_script.specs.lines.Before.{form_told, is_known, fss_told, whats_told, what_text, proc_names, fss_of, objects_of};
+ghost use Rattle.ix_script.specs.lines.Faults.{text_fault, words_fault, stand_fault, names_fault, said_fault, form_fault, command_fault, policy_fault, first_line_fault, body_fault};
+ghost use Rattle.ix_script.specs.lines.Rules.{is_outside, is_given_twice, is_unknown, names_unknown, is_above, object_is_misplaced, is_misplaced, object_exceeds_limits, exceeds_limits, is_out_of_order, is_one_too_many, lacks_policy};
+ghost use Rattle.ix_script.specs.{lines.Said.{version_of, line_of}, reader.Readers.{Finds, Tells, TellsForm, is_whole}, reader.Told.{DraftTold}};
+ghost use Rattle.ix_script.specs.texts.Cutting.{is_skipped, is_policy_line, policy_text};
+ghost use Rattle.ix_label.specs.{Category.{leq}, declared.form.Form.TheVariants.{One}};
+ghost use Rattle.ix_model.specs.{declared.config.ObjSpec.{ObjSpec}, opening.Valid.{is_within, fs_of, is_mount, is_taken, has_directory}};
+ghost use Rattle.ix_model.specs.{world.Naming.{same_bytes, same_names}, world.Paths.{path_of}, world.World.{fs_at}};
 ghost use Rattle.ix_script.specs.declared.line.Line.TheVariants as line;
+ghost use Rattle.ix_script.specs.lines.Kinds as kind;
 
-use crate::before::draft::Draft;
-use crate::cutting::cut::Words;
-use crate::cutting::first_word::form_of;
-use crate::cutting::form::Form;
-use crate::cutting::words::begins_with_text;
-use crate::forms::places::places_fault;
-use crate::line::Line;
-use crate::rule::Rule;
-use crate::values::policy::PolicyText;
+use crate::body::is_known;
+use crate::draft::Draft;
+use crate::fail::Rule;
+use crate::form::{Form, form_of};
+use crate::line::{Line, What};
+use crate::paths::MadePath;
+use crate::places::places_fault;
+use crate::role::is_command;
+use crate::values::{LabelWord, PolicyText, begins_with_digit, begins_with_text};
+use crate::words::Words;
 use ix_label::{Form as LabelForm, Steps};
+use ix_model::{FsSpec, Path, blocks_for, fs_of, is_mount};
 use ix_text::is;
 use std::sync::ledger::Ledger;
 
@@ -223,5 +225,264 @@ impl<'a> Draft<'a> {
             return Ok(Line::Skipped);
         }
         self.policy_line(text)
+    }
+}
+
+fn is_named(word: &[u8], fss: &[FsSpec]) -> bool
+    ensures { result ≡ list_any (λ s. same_bytes word.now s.name) fss.now }
+{
+    fss.iter().any(|fs| is(word, fs.name.as_bytes()))
+}
+
+/// What a `limit` line limits.
+fn what_word(what: What) -> &'static [u8]
+    ensures { result.now ≡ what_text what }
+{
+    match what {
+        What::Procs => b"procs",
+        What::Opens => b"opens",
+        What::Pipes => b"pipes",
+        What::Names => b"names",
+        What::Log => b"log",
+    }
+}
+
+fn is_limited(word: &[u8], whats: &[What]) -> bool
+    ensures { result ≡ list_any (λ w. same_bytes word.now (what_text w)) whats.now }
+{
+    whats.iter().any(|what| is(word, what_word(*what)))
+}
+
+/// Rules 9, 20 and 21: where a line stands, and its names, by the lines that the draft has seen.
+impl<'a> Draft<'a> {
+    /// Whether a command stands outside a lane, or a lane outside a phase: rule 9.
+    pub fn is_outside(&self, form: Form) -> bool
+        requires told { DraftTold self.now }
+        ensures { result ≡ is_outside self.now.lines form }
+    {
+        match form {
+            Form::Lane => !self.body.started,
+            _ => form.is_command() && self.body.lane.is_none(),
+        }
+    }
+
+    fn tells_fs(&self, word: &'a [u8]) -> bool
+        requires told { DraftTold self.now }
+        ensures { result ≡ is_known word.now (map (λ s. s.name) (fss_told self.now.lines)) }
+    {
+        self.header.told > 0 && is_named(word, self.header.fss.as_slice())
+    }
+
+    fn limits(&self, word: &'a [u8]) -> bool
+        requires told { DraftTold self.now }
+        ensures { result ≡ is_known word.now (map what_text (whats_told self.now.lines)) }
+    {
+        is_limited(word, self.header.whats.as_slice())
+    }
+
+    fn tells_proc(&self, word: &'a [u8]) -> bool
+        requires told { DraftTold self.now }
+        ensures { result ≡ is_known word.now (proc_names self.now.lines) }
+    {
+        self.header.procs.has(word)
+    }
+
+    /// Whether a name is given twice: rule 20.
+    pub fn gives_twice(&self, form: Form, words: &Words<'a>) -> bool
+        requires told { DraftTold self.now }
+        ensures { result ≡ is_given_twice self.now.lines form words.now }
+    {
+        match form {
+            Form::Fs => self.tells_fs(words.get(1)),
+            Form::Limit => self.limits(words.get(1)),
+            Form::Proc => self.tells_proc(words.get(1)),
+            Form::Lane => is_known(words.get(1), self.body.phase_lanes.as_slice()),
+            Form::Pipe => words.len() > 2 && is(words.get(3), words.get(4)),
+            Form::Fork => words.len() > 3 && self.tells_proc(words.get(4)),
+            Form::Login => words.len() > 4 && self.tells_proc(words.get(5)),
+            _ => false,
+        }
+    }
+
+    fn lacks_proc(&self, word: &'a [u8]) -> bool
+        requires told { DraftTold self.now }
+        ensures { result ≡ is_unknown self.now.lines (kind.Proc, word.now) }
+    {
+        !self.tells_proc(word) && !self.body.procs.has(self.body.lane, word)
+    }
+
+    fn lacks_fd(&self, word: &'a [u8]) -> bool
+        requires told { DraftTold self.now }
+        ensures { result ≡ is_unknown self.now.lines (kind.Fd, word.now) }
+    {
+        !begins_with_digit(word) && !self.body.fds.has(self.body.lane, word)
+    }
+
+    fn lacks_kept(&self, word: &'a [u8]) -> bool
+        requires told { DraftTold self.now }
+        ensures { result ≡ is_unknown self.now.lines (kind.Keep, word.now) }
+    {
+        !is(word, b"all") && !is(word, b"none") && self.lacks_fd(word)
+    }
+
+    /// Whether a process or a descriptor is unknown: rule 21.
+    pub fn is_unknown(&self, form: Form, words: &Words<'a>) -> bool
+        requires told { DraftTold self.now }
+        ensures { result ≡ names_unknown self.now.lines form words.now }
+    {
+        if !form.is_command() {
+            return false;
+        }
+        if self.lacks_proc(words.get(1)) {
+            return true;
+        }
+        match form {
+            Form::Grant | Form::Ceiling => self.lacks_proc(words.get(2)),
+            Form::OnFd(_) | Form::Counted(_) | Form::Write | Form::Dup => {
+                self.lacks_fd(words.get(2))
+            }
+            Form::Fork => self.lacks_kept(words.get(2)),
+            Form::Copy | Form::Login => {
+                self.lacks_fd(words.get(2)) || self.lacks_fd(words.get(3))
+            }
+            _ => false,
+        }
+    }
+}
+
+/// Whether a label is above the ceiling of the file system that the path leads to.
+fn is_above_fs<L: Ledger>(
+    fss: &[FsSpec],
+    path: &MadePath<'_>,
+    label: &LabelWord<'_>,
+    steps: &mut Steps<L>,
+) -> bool
+    requires { 0 < length fss.now }
+    ensures { result ≡ not (leq label.now (fs_at fss.now (fs_of fss.now path.now.names)).ceiling) }
+{
+    let k = fs_of(fss, &path.path());
+    !label.label().leq(&fss[k].ceiling, steps)
+}
+
+/// Rules 22 to 26, and 28: what fits the lines before, which the draft has seen.
+impl<'a> Draft<'a> {
+    fn is_taken(&self, path: &Path<'a>) -> bool
+        requires told { DraftTold self.now }
+        ensures { result ≡ is_taken (fss_of self.now.lines) (objects_of self.now.lines) (path_of path.now).names }
+    {
+        is_mount(self.header.fss.as_slice(), path) || self.header.made.has(path)
+    }
+
+    /// Whether a directory beside the root is there.
+    fn is_further_dir(&self, path: &Path<'a>) -> bool
+        requires told { DraftTold self.now }
+        ensures { result ≡ (is_mount (fss_of self.now.lines) (path_of path.now).names || list_any (λ b. b.dir && same_names b.path.names (path_of path.now).names) (objects_of self.now.lines)) }
+    {
+        is_mount(self.header.fss.as_slice(), path) || self.header.made.has_dir(path)
+    }
+
+    fn has_directory(&self, path: &Path<'a>) -> bool
+        requires told { DraftTold self.now }
+        ensures { result ≡ has_directory (fss_of self.now.lines) (objects_of self.now.lines) (path_of path.now).names }
+    {
+        path.len() == 0 || self.is_further_dir(path)
+    }
+
+    fn is_misplaced_in_tree(&self, path: &Path<'a>) -> bool
+        requires told { DraftTold self.now }
+        ensures { (o : ObjSpec) → o.path ≡ path_of path.now → result ≡ object_is_misplaced self.now.lines o }
+    {
+        self.is_taken(path) || !self.has_directory(&path.parent())
+    }
+
+    fn lacks_room(&self, path: &MadePath<'a>, len: usize) -> bool
+        requires told { DraftTold self.now }
+        ensures { (o : ObjSpec) → o.path ≡ path.now → length o.bytes ≡ len → result ≡ object_exceeds_limits self.now.lines o }
+    {
+        let fss = self.header.fss.as_slice();
+        let k = fs_of(fss, &path.path());
+        let names = fss.len().saturating_add(self.header.made.count);
+        let inodes = self.header.taken.counts[k].saturating_add(2);
+        let blocks = self.header.taken.blocks[k].saturating_add(blocks_for(len));
+        names > self.header.limits.names as usize
+            || inodes > fss[k].inodes as usize
+            || blocks > fss[k].blocks as usize
+    }
+
+    /// Whether a label is not below its ceiling: rule 22.
+    pub fn is_above<L: Ledger>(&self, line: &Line<'a>, steps: &mut Steps<L>) -> bool
+        requires told { DraftTold self.now }
+        ensures { result ≡ is_above self.now.lines line.now }
+    {
+        let fss = self.header.fss.as_slice();
+        match line {
+            Line::Proc { label, ceiling, .. } => !label.label().leq(&ceiling.label(), steps),
+            Line::Dir { path, label, .. } => is_above_fs(fss, path, label, steps),
+            Line::File { path, label, .. } => is_above_fs(fss, path, label, steps),
+            _ => false,
+        }
+    }
+
+    /// Whether a path does not fit the tree: rule 23.
+    pub fn is_misplaced(&self, line: &Line<'a>) -> bool
+        requires told { DraftTold self.now }
+        ensures { result ≡ is_misplaced self.now.lines line.now }
+    {
+        match line {
+            Line::Dir { path, .. } => self.is_misplaced_in_tree(&path.path()),
+            Line::File { path, .. } => self.is_misplaced_in_tree(&path.path()),
+            _ => false,
+        }
+    }
+
+    /// Whether there is no room for a process, an inode, a name or blocks: rule 24.
+    pub fn exceeds_limits(&self, line: &Line<'a>) -> bool
+        requires told { DraftTold self.now }
+        ensures { result ≡ exceeds_limits self.now.lines line.now }
+    {
+        match line {
+            Line::Proc { .. } => self.header.procs.count >= self.header.limits.procs as usize,
+            Line::Dir { path, .. } => self.lacks_room(path, 0),
+            Line::File { path, bytes, .. } => self.lacks_room(path, bytes.len()),
+            _ => false,
+        }
+    }
+
+    /// Whether a header line is out of order: rule 25.
+    pub fn is_out_of_order(&self, line: &Line<'a>) -> bool
+        requires told { DraftTold self.now }
+        ensures { result ≡ is_out_of_order self.now.lines line.now }
+    {
+        match line {
+            Line::Limit { .. } => self.header.latest > 2,
+            Line::Fs { .. } => self.header.latest > 3,
+            _ => false,
+        }
+    }
+
+    /// Whether there are too many: a 17th file system, a 65th lane or a 200,001st command, rule 26.
+    pub fn is_one_too_many(&self, line: &Line<'a>) -> bool
+        requires told { DraftTold self.now }
+        ensures { result ≡ is_one_too_many self.now.lines line.now }
+    {
+        match line {
+            Line::Fs { .. } => self.header.told >= 16,
+            Line::Lane { name } => {
+                !is_known(name.as_bytes(), self.body.lanes.as_slice())
+                    && self.body.lanes.len() >= 64
+            }
+            _ => is_command(line) && self.body.commands >= 200_000,
+        }
+    }
+
+    /// Whether there is no policy for a `priv` or `login` line: rule 28.
+    pub fn lacks_policy(&self, line: &Line<'a>) -> bool
+        requires told { DraftTold self.now }
+        ensures { result ≡ lacks_policy self.now.lines line.now }
+    {
+        match line {
+            Line::Priv { .. } | Line::Login { .. } => !self.header.policy,
+            _ => false,
+        }
     }
 }

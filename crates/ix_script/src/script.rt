@@ -1,14 +1,9 @@
-ghost use Rattle.std.specs.Prelude.{◌≡◌, ◌≤◌, ◌-◌, ◌==◌, length, slice_get, true, None, if◌then◌else◌, IfOk, IsTrue};
+ghost use Rattle.std.{specs.Prelude.{◌≡◌, ◌≤◌, ◌-◌, ◌==◌, length, slice_get, true, None, if◌then◌else◌, IfOk, IsTrue}, proofs.Common.{option_map}};
+ghost use Rattle.ix_script.specs.{lines.Before.{form_told, lanes_of, commands}, lines.Roles.{role_of}, reader.Told.{DraftTold}, scripts.Need.{need}};
+ghost use Rattle.ix_script.specs.{scripts.Schedule.{LanesOnce, phases, stretches_of}, scripts.Scripts.{config_of, policy_of}};
 ghost use Rattle.ix_model.specs.opening.Valid.{is_valid};
-ghost use Rattle.std.proofs.Common.{option_map};
-ghost use Rattle.ix_script.specs.lines.Before.{form_told, lanes_of, commands};
-ghost use Rattle.ix_script.specs.lines.Roles.{role_of};
-ghost use Rattle.ix_script.specs.scripts.Need.{need};
-ghost use Rattle.ix_script.specs.scripts.Schedule.{LanesOnce, phases, stretches_of};
-ghost use Rattle.ix_script.specs.scripts.Scripts.{config_of, policy_of};
-ghost use Rattle.ix_script.specs.reader.Told.{DraftTold};
 
-use crate::before::draft::Draft;
+use crate::draft::Draft;
 use crate::line::Line;
 use crate::packed::Lines;
 use crate::plan::config;

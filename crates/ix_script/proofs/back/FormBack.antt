@@ -23,8 +23,8 @@ use Rattle.ix_script.specs.texts.Spellings.{payload_text}
 use Rattle.ix_script.specs.scripts.Canonical.{line_words, line_text, may_be_respelled}
 use Rattle.ix_script.specs.declared.line.Line.{Line}
 use Rattle.ix_script.specs.declared.line.Line.TheVariants as line
-use Rattle.ix_script.specs.declared.cutting.form.Form.{Form}
-use Rattle.ix_script.specs.declared.cutting.form.Form.TheVariants as form
+use Rattle.ix_script.specs.declared.form.Form.{Form}
+use Rattle.ix_script.specs.declared.form.Form.TheVariants as form
 use Rattle.ix_script.proofs.reader.Told.{neither}
 use Rattle.ix_script.proofs.back.OneSpelling.{name_spelled, label_spelled, privs_spelled, made_path_spelled, state_spelled, fd_spelled}
 use Rattle.ix_script.proofs.lines.FirstWords.{form_word}

@@ -24,9 +24,9 @@ use Rattle.ix_text.specs.Spellings.{further, joined}
 use Rattle.ix_script.specs.texts.Spellings.{payload_text}
 use Rattle.ix_script.specs.scripts.Canonical.{line_words, line_text, has_one_spelling, may_be_respelled}
 use Rattle.ix_script.specs.declared.line.Line.{Line}
-use Rattle.ix_script.specs.declared.cutting.form.Form.{Form}
-use Rattle.ix_script.specs.declared.cutting.form.Form.TheVariants as form
-use Rattle.ix_script.specs.declared.cutting.spot.Spot.TheVariants as spot
+use Rattle.ix_script.specs.declared.form.Form.{Form}
+use Rattle.ix_script.specs.declared.form.Form.TheVariants as form
+use Rattle.ix_script.specs.declared.words.Spot.TheVariants as spot
 use Rattle.ix_text.proofs.Tests.{both as both_true}
 use Rattle.ix_text.proofs.Tests.{join_tests}
 use Rattle.ix_script.proofs.reader.Told.{bound, neither, neither_from}

@@ -15,7 +15,7 @@ use Rattle.ix_script.specs.texts.Words.{is_numeral, value}
 use Rattle.ix_script.specs.texts.Payloads.{◌>>=◌, times_from, times_of, payload_of}
 use Rattle.ix_text.specs.Spellings.{hex_pair}
 use Rattle.ix_script.specs.texts.Spellings.{pairs_text, times_text}
-use Rattle.ix_script.specs.declared.cutting.spot.Spot.TheVariants as spot
+use Rattle.ix_script.specs.declared.words.Spot.TheVariants as spot
 use Rattle.ix_text.proofs.Tests.{both, join_tests, list_all_weaker}
 use Rattle.ix_script.proofs.back.OneSpelling.{numerals}
 use Rattle.ix_script.proofs.back.HexBack.{is_tame, Small, pair_back, pairs_back, pairs_tame}

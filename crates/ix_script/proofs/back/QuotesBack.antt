@@ -12,8 +12,8 @@ use Rattle.ix_script.specs.texts.Cutting.{pieces, is_closed}
 use Rattle.ix_script.specs.texts.Payloads.{escaped_byte, quoted_from, payload_of, pair_of, escape_step}
 use Rattle.ix_text.specs.Spellings.{hex_digit}
 use Rattle.ix_script.specs.texts.Spellings.{pairs_text, times_text, stands_quoted, quoted_byte, quoted_text, once, times_texts, shortest, payload_text}
-use Rattle.ix_script.specs.declared.cutting.spot.Spot.TheVariants as spot
-use Rattle.ix_script.specs.declared.values.escape.Escape.TheVariants as escape
+use Rattle.ix_script.specs.declared.words.Spot.TheVariants as spot
+use Rattle.ix_script.specs.declared.payload.Escape.TheVariants as escape
 use Rattle.ix_text.proofs.Tests.{both, join_tests}
 use Rattle.ix_script.proofs.back.HexBack.{Small, digit_back, digit_tame, digit_inside}
 use Rattle.ix_script.proofs.back.PayloadBack.{Spells, tame_parts, pairs_spell, times_spell}

@@ -15,8 +15,8 @@ use Rattle.ix_script.specs.texts.Payloads.{◌>>=◌, after_bytes, pair_of, pair
 use Rattle.ix_script.specs.lines.Said.{payload_within}
 use Rattle.ix_text.specs.Spellings.{hex_pair}
 use Rattle.ix_script.specs.texts.Spellings.{pairs_text, times_text, stands_quoted, quoted_byte, quoted_text, once, times_texts, shortest, payload_text}
-use Rattle.ix_script.specs.declared.values.escape.Escape.{Escape}
-use Rattle.ix_script.specs.declared.values.escape.Escape.TheVariants as escape
+use Rattle.ix_script.specs.declared.payload.Escape.{Escape}
+use Rattle.ix_script.specs.declared.payload.Escape.TheVariants as escape
 use Rattle.ix_text.proofs.Tests.{both, join_tests}
 use Rattle.ix_script.proofs.reader.Told.{bound, mapped, chosen, either}
 use Rattle.ix_script.proofs.back.OneSpelling.{decimal_of_value, begun}

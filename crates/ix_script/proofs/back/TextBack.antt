@@ -19,7 +19,7 @@ use Rattle.ix_script.specs.lines.Faults.{text_fault, words_fault, form_fault, co
 use Rattle.ix_script.specs.scripts.Canonical.{line_words, line_text, has_one_spelling, may_be_respelled}
 use Rattle.ix_script.specs.declared.line.Line.{Line}
 use Rattle.ix_script.specs.declared.line.Line.TheVariants as line
-use Rattle.ix_script.specs.declared.cutting.form.Form.{Form}
+use Rattle.ix_script.specs.declared.form.Form.{Form}
 use Rattle.ix_script.proofs.reader.Told.{either, bound, neither}
 use Rattle.ix_script.proofs.lines.Deciding.{version_text, version_is, version_said, first_version, first_faultless}
 use Rattle.ix_script.proofs.lines.FirstWords.{form_spelled}

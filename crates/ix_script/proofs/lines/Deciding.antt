@@ -9,7 +9,7 @@ use Rattle.ix_label.specs.declared.form.Form.{Form}
 use Rattle.ix_label.specs.declared.form.Form.TheVariants.{One, Two}
 use Rattle.ix_model.specs.world.Naming.{same_bytes}
 use Rattle.ix_script.specs.lines.Before.{form_told, in_body, has_policy}
-use Rattle.ix_script.specs.declared.cutting.form.Form as of_words
+use Rattle.ix_script.specs.declared.form.Form as of_words
 use Rattle.ix_script.specs.texts.Cutting.{pieces, words_of, word_at, is_closed, is_skipped, is_policy_line, policy_text}
 use Rattle.ix_text.specs.Bytes.{is_empty}
 use Rattle.ix_script.specs.lines.Forms.{plain_of, on_path_of, on_fd_of, counted_of, frame_form, group_form, file_form, process_form, form_of}
@@ -17,7 +17,7 @@ use Rattle.ix_script.specs.lines.Rules.{first_of, has_empty_word, has_open_quote
 use Rattle.ix_script.specs.lines.Faults.{text_fault, line_fault, words_fault, said_fault, command_fault, policy_fault, first_line_fault, body_fault}
 use Rattle.ix_script.specs.lines.Said.{said, version_of, line_of}
 use Rattle.ix_script.specs.reader.Readers.{LineRight, Tells}
-use Rattle.ix_script.specs.declared.rule.Rule.{Rule}
+use Rattle.ix_script.specs.declared.fail.Rule.{Rule}
 use Rattle.ix_script.specs.declared.line.Line.{Line}
 use Rattle.ix_script.specs.declared.line.Line.TheVariants as line
 use Rattle.ix_text.proofs.Tests.{bool_cases}

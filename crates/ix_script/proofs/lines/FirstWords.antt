@@ -2,16 +2,16 @@
 use Rattle.std.proofs.Common.{◌≡◌, ℕ, List, Option, Some, inl, inr, refl, sym, ap, ◌∙◌, option_map}
 use Rattle.std.specs.Prelude.{codes}
 use Rattle.ix_script.specs.lines.Forms.{plain_of, on_path_of, on_fd_of, counted_of, frame_form, group_form, file_form, process_form, form_of}
-use Rattle.ix_script.specs.declared.cutting.form.Form.{Form}
-use Rattle.ix_script.specs.declared.cutting.form.Form.TheVariants as form
-use Rattle.ix_script.specs.declared.cutting.form.Plain.{Plain}
-use Rattle.ix_script.specs.declared.cutting.form.Plain.TheVariants as plain
-use Rattle.ix_script.specs.declared.cutting.form.OnPath.{OnPath}
-use Rattle.ix_script.specs.declared.cutting.form.OnPath.TheVariants as on_path
-use Rattle.ix_script.specs.declared.cutting.form.OnFd.{OnFd}
-use Rattle.ix_script.specs.declared.cutting.form.OnFd.TheVariants as on_fd
-use Rattle.ix_script.specs.declared.cutting.form.Counted.{Counted}
-use Rattle.ix_script.specs.declared.cutting.form.Counted.TheVariants as counted
+use Rattle.ix_script.specs.declared.form.Form.{Form}
+use Rattle.ix_script.specs.declared.form.Form.TheVariants as form
+use Rattle.ix_script.specs.declared.form.Plain.{Plain}
+use Rattle.ix_script.specs.declared.form.Plain.TheVariants as plain
+use Rattle.ix_script.specs.declared.form.OnPath.{OnPath}
+use Rattle.ix_script.specs.declared.form.OnPath.TheVariants as on_path
+use Rattle.ix_script.specs.declared.form.OnFd.{OnFd}
+use Rattle.ix_script.specs.declared.form.OnFd.TheVariants as on_fd
+use Rattle.ix_script.specs.declared.form.Counted.{Counted}
+use Rattle.ix_script.specs.declared.form.Counted.TheVariants as counted
 use Rattle.ix_script.proofs.reader.Told.{mapped, one_of}
 use Rattle.ix_script.proofs.back.OneSpelling.{choose, no_more}
 

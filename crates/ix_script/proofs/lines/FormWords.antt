@@ -24,15 +24,15 @@ use Rattle.ix_script.specs.declared.line.Line.TheVariants as line
 use Rattle.ix_script.specs.declared.line.What.{What}
 use Rattle.ix_script.specs.declared.line.What.TheVariants as what
 use Rattle.ix_script.specs.declared.line.FdWord.{FdWord}
-use Rattle.ix_script.specs.declared.cutting.form.Form.TheVariants as form
-use Rattle.ix_script.specs.declared.cutting.form.Plain.{Plain}
-use Rattle.ix_script.specs.declared.cutting.form.Plain.TheVariants as plain
-use Rattle.ix_script.specs.declared.cutting.form.OnPath.{OnPath}
-use Rattle.ix_script.specs.declared.cutting.form.OnPath.TheVariants as on_path
-use Rattle.ix_script.specs.declared.cutting.form.OnFd.{OnFd}
-use Rattle.ix_script.specs.declared.cutting.form.OnFd.TheVariants as on_fd
-use Rattle.ix_script.specs.declared.cutting.form.Counted.{Counted}
-use Rattle.ix_script.specs.declared.cutting.form.Counted.TheVariants as counted
+use Rattle.ix_script.specs.declared.form.Form.TheVariants as form
+use Rattle.ix_script.specs.declared.form.Plain.{Plain}
+use Rattle.ix_script.specs.declared.form.Plain.TheVariants as plain
+use Rattle.ix_script.specs.declared.form.OnPath.{OnPath}
+use Rattle.ix_script.specs.declared.form.OnPath.TheVariants as on_path
+use Rattle.ix_script.specs.declared.form.OnFd.{OnFd}
+use Rattle.ix_script.specs.declared.form.OnFd.TheVariants as on_fd
+use Rattle.ix_script.specs.declared.form.Counted.{Counted}
+use Rattle.ix_script.specs.declared.form.Counted.TheVariants as counted
 use Rattle.ix_text.proofs.Tests.{both as both_true}
 use Rattle.ix_script.proofs.reader.Told.{mapped, paired, chosen}
 use Rattle.ix_script.proofs.back.OneSpelling.{name_spelled, label_spelled, number_spelled, privs_spelled, path_spelled, made_path_spelled}

@@ -20,12 +20,12 @@ use Rattle.ix_script.specs.lines.Kinds as kind
 use Rattle.ix_script.specs.texts.Cutting.{word_at}
 use Rattle.ix_script.specs.lines.Forms.{places_from, tail_places}
 use Rattle.ix_script.specs.reader.Placing.{kind_in, least, Stands, Stand}
-use Rattle.ix_script.specs.declared.forms.kind.Kind as made
-use Rattle.ix_script.specs.declared.forms.kind.Kind.TheVariants as has
+use Rattle.ix_script.specs.declared.form.Kind as made
+use Rattle.ix_script.specs.declared.form.Kind.TheVariants as has
 use Rattle.ix_script.specs.reader.Readers.{IsFault}
 use Rattle.ix_script.specs.declared.line.FdWord.TheVariants as fd
 use Rattle.ix_script.specs.declared.line.KeepWord.TheVariants as keep
-use Rattle.ix_script.specs.declared.rule.Rule.{Rule}
+use Rattle.ix_script.specs.declared.fail.Rule.{Rule}
 
 abbrev Rules : Type 0
 Rules = List (ℕ × (Kind → List ℕ → Bool))

@@ -23,16 +23,16 @@ use Rattle.ix_script.specs.lines.Forms.{form_of, places}
 use Rattle.ix_script.specs.lines.Said.{both, payload_within, said, said_by_words, line_of, plain_line, path_line, fd_line, counted_line}
 use Rattle.ix_script.specs.lines.Rules.{is_given_twice, names_unknown}
 use Rattle.ix_script.specs.lines.Faults.{text_fault, stand_fault, names_fault, form_fault, command_fault, first_line_fault, body_fault, line_fault}
-use Rattle.ix_script.specs.declared.cutting.form.Form.{Form}
-use Rattle.ix_script.specs.declared.cutting.form.Form.TheVariants as form
-use Rattle.ix_script.specs.declared.cutting.form.Plain.{Plain}
-use Rattle.ix_script.specs.declared.cutting.form.Plain.TheVariants as plain
-use Rattle.ix_script.specs.declared.cutting.form.OnPath.{OnPath}
-use Rattle.ix_script.specs.declared.cutting.form.OnPath.TheVariants as on_path
-use Rattle.ix_script.specs.declared.cutting.form.OnFd.{OnFd}
-use Rattle.ix_script.specs.declared.cutting.form.OnFd.TheVariants as on_fd
-use Rattle.ix_script.specs.declared.cutting.form.Counted.{Counted}
-use Rattle.ix_script.specs.declared.cutting.form.Counted.TheVariants as counted
+use Rattle.ix_script.specs.declared.form.Form.{Form}
+use Rattle.ix_script.specs.declared.form.Form.TheVariants as form
+use Rattle.ix_script.specs.declared.form.Plain.{Plain}
+use Rattle.ix_script.specs.declared.form.Plain.TheVariants as plain
+use Rattle.ix_script.specs.declared.form.OnPath.{OnPath}
+use Rattle.ix_script.specs.declared.form.OnPath.TheVariants as on_path
+use Rattle.ix_script.specs.declared.form.OnFd.{OnFd}
+use Rattle.ix_script.specs.declared.form.OnFd.TheVariants as on_fd
+use Rattle.ix_script.specs.declared.form.Counted.{Counted}
+use Rattle.ix_script.specs.declared.form.Counted.TheVariants as counted
 use Rattle.ix_script.specs.declared.line.FdWord.{FdWord}
 use Rattle.ix_script.specs.declared.line.What.{What}
 use Rattle.ix_script.specs.declared.line.Line.{Line}

@@ -13,14 +13,14 @@ use Rattle.ix_script.specs.lines.Forms.{places}
 use Rattle.ix_script.specs.lines.Said.{both, said, plain_line, fd_line, counted_line}
 use Rattle.ix_script.specs.scripts.Need.{cost_of_line}
 use Rattle.ix_script.specs.reader.Placing.{is_entry}
-use Rattle.ix_script.specs.declared.cutting.form.Form.{Form}
-use Rattle.ix_script.specs.declared.cutting.form.Form.TheVariants as form
-use Rattle.ix_script.specs.declared.cutting.form.Plain.{Plain}
-use Rattle.ix_script.specs.declared.cutting.form.Plain.TheVariants as plain
-use Rattle.ix_script.specs.declared.cutting.form.OnFd.{OnFd}
-use Rattle.ix_script.specs.declared.cutting.form.OnFd.TheVariants as on_fd
-use Rattle.ix_script.specs.declared.cutting.form.Counted.{Counted}
-use Rattle.ix_script.specs.declared.cutting.form.Counted.TheVariants as counted
+use Rattle.ix_script.specs.declared.form.Form.{Form}
+use Rattle.ix_script.specs.declared.form.Form.TheVariants as form
+use Rattle.ix_script.specs.declared.form.Plain.{Plain}
+use Rattle.ix_script.specs.declared.form.Plain.TheVariants as plain
+use Rattle.ix_script.specs.declared.form.OnFd.{OnFd}
+use Rattle.ix_script.specs.declared.form.OnFd.TheVariants as on_fd
+use Rattle.ix_script.specs.declared.form.Counted.{Counted}
+use Rattle.ix_script.specs.declared.form.Counted.TheVariants as counted
 use Rattle.ix_script.specs.declared.line.FdWord.{FdWord}
 use Rattle.ix_script.specs.declared.line.KeepWord.{KeepWord}
 use Rattle.ix_model.specs.declared.call.Mode.{Mode}
@@ -40,11 +40,11 @@ use Rattle.ix_script.specs.lines.Faults.{said_fault}
 use Rattle.ix_script.specs.reader.Indexed.{AreIndexed, AreNames, AreSites}
 use Rattle.ix_script.specs.reader.Told.{HeaderTold, BodyTold, MakesMore, NamesMore}
 use Rattle.ix_script.specs.scripts.Scripts.{config_of}
-use Rattle.ix_script.specs.declared.before.header.Header.{Header}
-use Rattle.ix_script.specs.declared.before.body.Body.{Body}
-use Rattle.ix_script.specs.declared.before.names.Names.{Names}
-use Rattle.ix_script.specs.declared.before.tree.Tree.{Tree}
-use Rattle.ix_script.specs.declared.before.given.Place.{Place}
+use Rattle.ix_script.specs.declared.header.Header.{Header}
+use Rattle.ix_script.specs.declared.body.Body.{Body}
+use Rattle.ix_script.specs.declared.index.Names.{Names}
+use Rattle.ix_script.specs.declared.index.Tree.{Tree}
+use Rattle.ix_script.specs.declared.index.Place.{Place}
 use Rattle.ix_script.specs.declared.line.Line.{Line}
 use Rattle.ix_script.specs.declared.line.Line.TheVariants as line
 use Rattle.ix_script.specs.declared.role.Role.TheVariants as role

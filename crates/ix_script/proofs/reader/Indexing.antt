@@ -12,10 +12,10 @@ use Rattle.ix_model.specs.world.Naming.{same_bytes, same_names}
 use Rattle.ix_model.specs.world.Texts.{names_in}
 use Rattle.ix_model.proofs.texts.Joining.{same_text}
 use Rattle.ix_script.specs.reader.Indexed.{bytes_cmp, AreNames, place_cmp, is_place, AreIndexed, site_cmp, is_site, AreSites, is_there, dir_there, file_there}
-use Rattle.ix_script.specs.declared.before.by_bytes.ByBytes.{ByBytes}
-use Rattle.ix_script.specs.declared.before.given.Place.{Place}
+use Rattle.ix_script.specs.declared.index.ByBytes.{ByBytes}
+use Rattle.ix_script.specs.declared.index.Place.{Place}
 use Rattle.ix_model.specs.declared.config.ObjSpec.{ObjSpec}
-use Rattle.ix_script.specs.declared.before.tree.Site.{Site}
+use Rattle.ix_script.specs.declared.index.Site.{Site}
 use Rattle.ix_script.specs.lines.Before.{in_lane}
 use Rattle.std.proofs.lemmas.List.{append-nil}
 use Rattle.ix_script.proofs.reader.Pushed.{any_push}

@@ -18,10 +18,10 @@ use Rattle.ix_script.specs.lines.Before.{form_by, form_told, fs_told, or_default
 use Rattle.ix_script.specs.lines.Before.{proc_name_told, proc_names, object_told, objects_of, is_policy, group}
 use Rattle.ix_script.specs.reader.Indexed.{AreNames, AreSites}
 use Rattle.ix_script.specs.reader.Told.{HeaderTold, MakesMore, NamesMore, TakenOne, Takes, fss_after}
-use Rattle.ix_script.specs.declared.before.header.Header.{Header}
-use Rattle.ix_script.specs.declared.before.names.Names.{Names}
-use Rattle.ix_script.specs.declared.before.taken.Taken.{Taken}
-use Rattle.ix_script.specs.declared.before.tree.Tree.{Tree}
+use Rattle.ix_script.specs.declared.header.Header.{Header}
+use Rattle.ix_script.specs.declared.index.Names.{Names}
+use Rattle.ix_script.specs.declared.header.Taken.{Taken}
+use Rattle.ix_script.specs.declared.index.Tree.{Tree}
 use Rattle.ix_script.specs.declared.line.What.{What}
 use Rattle.ix_model.specs.world.Naming.{PathOf}
 use Rattle.ix_model.specs.declared.privs.PrivSet.{PrivSet}

@@ -16,7 +16,7 @@ use Rattle.ix_script.specs.scripts.Need.{need}
 use Rattle.ix_script.specs.scripts.Scripts.{form_in, lines_said, config_of}
 use Rattle.ix_script.specs.reader.Readers.{HasCause, LineRight}
 use Rattle.ix_script.specs.reader.Told.{DraftTold}
-use Rattle.ix_script.specs.declared.before.draft.Draft.{Draft}
+use Rattle.ix_script.specs.declared.draft.Draft.{Draft}
 use Rattle.ix_script.specs.declared.fail.ReadFail.{ReadFail}
 use Rattle.ix_script.specs.declared.fail.ReadFail.TheVariants as fail
 use Rattle.ix_script.specs.declared.line.Line.{Line}

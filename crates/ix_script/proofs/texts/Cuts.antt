@@ -6,8 +6,8 @@ use Rattle.ix_model.specs.world.Texts.{with_front}
 use Rattle.ix_script.specs.texts.Cutting.{after_byte, is_quoted, parts_words, pieces, words_of}
 use Rattle.ix_text.specs.Bytes.{is_empty}
 use Rattle.ix_text.specs.Spellings.{further, joined}
-use Rattle.ix_script.specs.declared.cutting.spot.Spot.{Spot}
-use Rattle.ix_script.specs.declared.cutting.spot.Spot.TheVariants as spot
+use Rattle.ix_script.specs.declared.words.Spot.{Spot}
+use Rattle.ix_script.specs.declared.words.Spot.TheVariants as spot
 use Rattle.ix_text.proofs.Tests.{both}
 use Rattle.ix_script.proofs.back.OneSpelling.{joined_front}
 

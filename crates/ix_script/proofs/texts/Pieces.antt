@@ -9,8 +9,8 @@ use Rattle.std.proofs.lemmas.List.{drop_all}
 use Rattle.ix_script.specs.texts.Cutting.{pieces, parts_words, after_byte, closes, is_closed}
 use Rattle.ix_text.specs.Bytes.{begins, is_empty}
 use Rattle.ix_script.specs.reader.Cut.{gap_from}
-use Rattle.ix_script.specs.declared.cutting.spot.Spot.{Spot}
-use Rattle.ix_script.specs.declared.cutting.spot.Spot.TheVariants as spot
+use Rattle.ix_script.specs.declared.words.Spot.{Spot}
+use Rattle.ix_script.specs.declared.words.Spot.TheVariants as spot
 
 -- ---- words
 -- what is cut off up to there

@@ -12,10 +12,10 @@ use Rattle.ix_script.specs.texts.Payloads.{◌>>=◌, digit_of, pair_of, pairs_o
 use Rattle.ix_script.specs.lines.Said.{payload_within, within}
 use Rattle.ix_script.specs.texts.Spelled.{HasCount, Spells, spelling_fault}
 use Rattle.ix_script.specs.reader.Readers.{Refuses}
-use Rattle.ix_script.specs.declared.rule.Rule.{Rule}
-use Rattle.ix_script.specs.declared.values.spelling.Spelling.{Spelling}
-use Rattle.ix_script.specs.declared.values.escape.Escape.{Escape}
-use Rattle.ix_script.specs.declared.values.escape.Escape.TheVariants as escape
+use Rattle.ix_script.specs.declared.fail.Rule.{Rule}
+use Rattle.ix_script.specs.declared.payload.Spelling.{Spelling}
+use Rattle.ix_script.specs.declared.payload.Escape.{Escape}
+use Rattle.ix_script.specs.declared.payload.Escape.TheVariants as escape
 use Rattle.ix_script.proofs.texts.Pieces.{last_place}
 
 -- what isn't well formed breaks that rule, however much may stand

@@ -8,8 +8,8 @@ use Rattle.ix_model.specs.world.Texts.{with_front}
 use Rattle.ix_script.specs.texts.Cutting.{is_open, word_at, pieces, parts_words, after_byte, words_of}
 use Rattle.ix_text.specs.Bytes.{is_empty}
 use Rattle.ix_script.specs.lines.Rules.{has_empty_word, has_open_quote}
-use Rattle.ix_script.specs.declared.cutting.spot.Spot.{Spot}
-use Rattle.ix_script.specs.declared.cutting.spot.Spot.TheVariants as spot
+use Rattle.ix_script.specs.declared.words.Spot.{Spot}
+use Rattle.ix_script.specs.declared.words.Spot.TheVariants as spot
 use Rattle.ix_script.specs.reader.Cut.{AreWords}
 use Rattle.ix_script.proofs.reader.Pushed.{any_push}
 

@@ -10,7 +10,7 @@ use Rattle.ix_script.specs.lines.Before.{form_told, has_policy, in_body}
 use Rattle.ix_script.specs.lines.Rules.{first_of, is_too_long, is_unprintable, has_empty_word, has_open_quote, is_late, is_outside, is_given_twice}
 use Rattle.ix_script.specs.lines.Rules.{names_unknown, is_above, is_misplaced, exceeds_limits, is_out_of_order, is_one_too_many, lacks_policy}
 use Rattle.ix_script.specs.lines.Said.{said, version_of, line_of}
-use Rattle.ix_script.specs.declared.cutting.form.Form.{Form}
+use Rattle.ix_script.specs.declared.form.Form.{Form}
 use Rattle.ix_script.specs.declared.line.Line.{Line}
 use Rattle.ix_script.specs.declared.line.Line.TheVariants as line
 

@@ -9,16 +9,16 @@ use Rattle.ix_script.specs.texts.Cutting.{word_at}
 use Rattle.ix_text.specs.Bytes.{is_empty}
 use Rattle.ix_script.specs.lines.Kinds.{Kind, Place}
 use Rattle.ix_script.specs.lines.Kinds as kind
-use Rattle.ix_script.specs.declared.cutting.form.Form.{Form}
-use Rattle.ix_script.specs.declared.cutting.form.Form.TheVariants as form
-use Rattle.ix_script.specs.declared.cutting.form.Plain.{Plain}
-use Rattle.ix_script.specs.declared.cutting.form.Plain.TheVariants as plain
-use Rattle.ix_script.specs.declared.cutting.form.OnPath.{OnPath}
-use Rattle.ix_script.specs.declared.cutting.form.OnPath.TheVariants as on_path
-use Rattle.ix_script.specs.declared.cutting.form.OnFd.{OnFd}
-use Rattle.ix_script.specs.declared.cutting.form.OnFd.TheVariants as on_fd
-use Rattle.ix_script.specs.declared.cutting.form.Counted.{Counted}
-use Rattle.ix_script.specs.declared.cutting.form.Counted.TheVariants as counted
+use Rattle.ix_script.specs.declared.form.Form.{Form}
+use Rattle.ix_script.specs.declared.form.Form.TheVariants as form
+use Rattle.ix_script.specs.declared.form.Plain.{Plain}
+use Rattle.ix_script.specs.declared.form.Plain.TheVariants as plain
+use Rattle.ix_script.specs.declared.form.OnPath.{OnPath}
+use Rattle.ix_script.specs.declared.form.OnPath.TheVariants as on_path
+use Rattle.ix_script.specs.declared.form.OnFd.{OnFd}
+use Rattle.ix_script.specs.declared.form.OnFd.TheVariants as on_fd
+use Rattle.ix_script.specs.declared.form.Counted.{Counted}
+use Rattle.ix_script.specs.declared.form.Counted.TheVariants as counted
 
 -- ---- first words
 -- commands that take a process alone

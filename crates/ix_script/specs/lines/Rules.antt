@@ -14,8 +14,8 @@ use Rattle.ix_script.specs.lines.Forms.{own_places, is_header, is_command_form}
 use Rattle.ix_script.specs.lines.Before.{form_told, is_known, fss_told, fss_of, whats_told, what_text, limits_of, proc_names, dir_spec, file_spec}
 use Rattle.ix_script.specs.lines.Before.{objects_of, has_policy, group, in_body, lane_now, phase_lanes, lanes_of, is_command, commands, knows_fd}
 use Rattle.ix_script.specs.lines.Before.{knows_proc}
-use Rattle.ix_script.specs.declared.cutting.form.Form.{Form}
-use Rattle.ix_script.specs.declared.cutting.form.Form.TheVariants as form
+use Rattle.ix_script.specs.declared.form.Form.{Form}
+use Rattle.ix_script.specs.declared.form.Form.TheVariants as form
 use Rattle.ix_script.specs.declared.line.Line.{Line}
 use Rattle.ix_script.specs.declared.line.Line.TheVariants as line
 

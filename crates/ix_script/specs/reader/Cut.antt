@@ -2,7 +2,7 @@
 use Rattle.std.specs.Prelude.{◌≡◌, ◌<◌, ℕ, suc, Bool, List, [], ◌∷◌, length, Option, Some, None, if◌then◌else◌}
 use Rattle.std.proofs.Common.{option_map}
 use Rattle.ix_script.specs.texts.Cutting.{word_at, parts_words, after_byte}
-use Rattle.ix_script.specs.declared.cutting.spot.Spot.{Spot}
+use Rattle.ix_script.specs.declared.words.Spot.{Spot}
 use Rattle.ix_script.specs.lines.Rules.{has_empty_word, has_open_quote}
 
 -- the place of the first space between words

@@ -8,9 +8,9 @@ use Rattle.std.specs.declared.cmp.Ordering.{Ordering}
 use Rattle.ix_model.specs.world.Naming.{same_bytes, same_names}
 use Rattle.ix_model.specs.declared.config.ObjSpec.{ObjSpec}
 use Rattle.ix_model.specs.world.Texts.{names_in}
-use Rattle.ix_script.specs.declared.before.by_bytes.ByBytes.{ByBytes}
-use Rattle.ix_script.specs.declared.before.given.Place.{Place}
-use Rattle.ix_script.specs.declared.before.tree.Site.{Site}
+use Rattle.ix_script.specs.declared.index.ByBytes.{ByBytes}
+use Rattle.ix_script.specs.declared.index.Place.{Place}
+use Rattle.ix_script.specs.declared.index.Site.{Site}
 
 -- by the name, and then by the lane
 abbrev pub place_cmp : Place → Place → Ordering

@@ -10,12 +10,12 @@ use Rattle.ix_script.specs.texts.Words.{number_of, path_of, made_path_of, mode_o
 use Rattle.ix_script.specs.lines.Kinds.{Kind, Place, bounds}
 use Rattle.ix_script.specs.lines.Kinds as kind
 use Rattle.ix_script.specs.lines.Said.{payload_within}
-use Rattle.ix_script.specs.declared.forms.kind.Kind as made
-use Rattle.ix_script.specs.declared.forms.kind.Kind.TheVariants as has
-use Rattle.ix_script.specs.declared.cutting.form.Form.{Form}
-use Rattle.ix_script.specs.declared.cutting.form.Form.TheVariants as form
-use Rattle.ix_script.specs.declared.cutting.form.OnFd.TheVariants as on_fd
-use Rattle.ix_script.specs.declared.rule.Rule.{Rule}
+use Rattle.ix_script.specs.declared.form.Kind as made
+use Rattle.ix_script.specs.declared.form.Kind.TheVariants as has
+use Rattle.ix_script.specs.declared.form.Form.{Form}
+use Rattle.ix_script.specs.declared.form.Form.TheVariants as form
+use Rattle.ix_script.specs.declared.form.OnFd.TheVariants as on_fd
+use Rattle.ix_script.specs.declared.fail.Rule.{Rule}
 
 -- what may stand at a place, by the table of the forms: labels are spelled in that form, and the bounds of a WHAT are those of word 1
 abbrev pub kind_in : spelled.Form → List (List ℕ) → made.Kind → Kind

@@ -9,7 +9,7 @@ use Rattle.ix_script.specs.lines.Said.{said}
 use Rattle.ix_script.specs.lines.Roles.{role_of}
 use Rattle.ix_script.specs.scripts.Need.{cost_of_line}
 use Rattle.ix_script.specs.declared.role.Role.TheVariants as role
-use Rattle.ix_script.specs.declared.cutting.form.Form.{Form}
+use Rattle.ix_script.specs.declared.form.Form.{Form}
 use Rattle.std.proofs.Common.{option_map}
 use Rattle.ix_script.specs.lines.Kinds.{Place, places_fault}
 use Rattle.ix_script.specs.lines.Before.{form_told}
@@ -18,7 +18,7 @@ use Rattle.ix_script.specs.lines.Said.{line_of}
 use Rattle.ix_script.specs.declared.fail.ReadFail.{ReadFail}
 use Rattle.ix_script.specs.declared.fail.ReadFail.TheVariants as fail
 use Rattle.ix_script.specs.declared.line.Line.{Line}
-use Rattle.ix_script.specs.declared.rule.Rule.{Rule}
+use Rattle.ix_script.specs.declared.fail.Rule.{Rule}
 
 -- it is the first rule that is broken
 abbrev pub Refuses : Rule → Option ℕ → Type 0

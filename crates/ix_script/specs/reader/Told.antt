@@ -10,12 +10,12 @@ use Rattle.ix_script.specs.lines.Before.{default_fs, fss_told, fss_of, limits_of
 use Rattle.ix_script.specs.lines.Before.{lane_now, phase_lanes, lanes_of, fds_given, procs_given, commands}
 use Rattle.ix_label.specs.declared.form.Form.{Form}
 use Rattle.ix_script.specs.declared.line.Line.{Line}
-use Rattle.ix_script.specs.declared.before.body.Body.{Body}
-use Rattle.ix_script.specs.declared.before.draft.Draft.{Draft}
-use Rattle.ix_script.specs.declared.before.header.Header.{Header}
-use Rattle.ix_script.specs.declared.before.taken.Taken.{Taken}
-use Rattle.ix_script.specs.declared.before.names.Names.{Names}
-use Rattle.ix_script.specs.declared.before.tree.Tree.{Tree}
+use Rattle.ix_script.specs.declared.body.Body.{Body}
+use Rattle.ix_script.specs.declared.draft.Draft.{Draft}
+use Rattle.ix_script.specs.declared.header.Header.{Header}
+use Rattle.ix_script.specs.declared.header.Taken.{Taken}
+use Rattle.ix_script.specs.declared.index.Names.{Names}
+use Rattle.ix_script.specs.declared.index.Tree.{Tree}
 use Rattle.ix_script.specs.reader.Indexed.{AreIndexed, AreNames, AreSites}
 
 -- file systems, limits, processes, objects with what they take, and the policy

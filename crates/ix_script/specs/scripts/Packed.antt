@@ -10,7 +10,7 @@ use Rattle.ix_script.specs.lines.Said.{line_of}
 use Rattle.ix_script.specs.lines.Faults.{line_fault}
 use Rattle.ix_script.specs.lines.Roles.{role_of}
 use Rattle.ix_script.specs.scripts.Need.{need}
-use Rattle.ix_script.specs.declared.cutting.form.Form.{Form}
+use Rattle.ix_script.specs.declared.form.Form.{Form}
 use Rattle.ix_script.specs.declared.line.Line.{Line}
 use Rattle.ix_script.specs.declared.line.Line.TheVariants as line
 use Rattle.ix_script.specs.declared.role.Role.{Role}

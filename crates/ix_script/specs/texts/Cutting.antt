@@ -4,8 +4,8 @@ use Rattle.std.specs.List.{slice_index_or}
 use Rattle.ix_model.specs.world.Naming.{same_bytes}
 use Rattle.ix_text.specs.Bytes.{begins, is_empty}
 use Rattle.ix_model.specs.world.Texts.{with_front}
-use Rattle.ix_script.specs.declared.cutting.spot.Spot.{Spot}
-use Rattle.ix_script.specs.declared.cutting.spot.Spot.TheVariants as spot
+use Rattle.ix_script.specs.declared.words.Spot.{Spot}
+use Rattle.ix_script.specs.declared.words.Spot.TheVariants as spot
 
 -- where the byte after this one stands: a word that begins with a quote is inside quotes up to the quote that closes it,
 -- and there a backslash takes the byte after it along, whatever it is

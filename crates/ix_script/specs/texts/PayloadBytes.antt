@@ -1,9 +1,9 @@
 -- The bytes of a payload, by how they are spelled.
 use Rattle.std.specs.Prelude.{◌≡◌, ℕ, ◌≤◌, List, [], length, replicate, Option, Some, unwrap_or}
 use Rattle.ix_script.specs.texts.Payloads.{pairs_of, quoted_from}
-use Rattle.ix_script.specs.declared.values.escape.Escape.TheVariants as escape
-use Rattle.ix_script.specs.declared.values.spelling.Spelling.{Spelling}
-use Rattle.ix_script.specs.declared.values.spelling.Spelling.TheVariants as spelling
+use Rattle.ix_script.specs.declared.payload.Escape.TheVariants as escape
+use Rattle.ix_script.specs.declared.payload.Spelling.{Spelling}
+use Rattle.ix_script.specs.declared.payload.Spelling.TheVariants as spelling
 
 -- what is spelled
 abbrev pub spelled_by : Spelling → Option (List ℕ)

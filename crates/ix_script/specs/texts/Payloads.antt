@@ -4,8 +4,8 @@ use Rattle.std.proofs.Common.{option_map, option_and_then}
 use Rattle.ix_model.specs.opening.Valid.{is_within}
 use Rattle.ix_text.specs.Bytes.{begins, is_empty, is_digit}
 use Rattle.ix_script.specs.texts.Words.{is_numeral, value}
-use Rattle.ix_script.specs.declared.values.escape.Escape.{Escape}
-use Rattle.ix_script.specs.declared.values.escape.Escape.TheVariants as escape
+use Rattle.ix_script.specs.declared.payload.Escape.{Escape}
+use Rattle.ix_script.specs.declared.payload.Escape.TheVariants as escape
 
 infixl 10 ◌>>=◌
 abbrev pub ◌>>=◌ : {A B : Type 0} → Option A → (A → Option B) → Option B

@@ -4,8 +4,8 @@ use Rattle.std.specs.Option.{option_map_or}
 use Rattle.ix_script.specs.lines.Rules.{first_of}
 use Rattle.ix_script.specs.reader.Readers.{Refuses}
 use Rattle.ix_script.specs.texts.PayloadBytes.{spelled_by}
-use Rattle.ix_script.specs.declared.rule.Rule.{Rule}
-use Rattle.ix_script.specs.declared.values.spelling.Spelling.{Spelling}
+use Rattle.ix_script.specs.declared.fail.Rule.{Rule}
+use Rattle.ix_script.specs.declared.payload.Spelling.{Spelling}
 
 -- the rule that a payload of these bytes breaks where at most so many may stand: 18 for none, 19 for too many
 unfoldable pub spelling_fault : ℕ → Option (List ℕ) → Option ℕ

@@ -1,6 +1,0 @@
-use Rattle.ix_script.proofs.reader.Indexing.{place_indexed}
-use Rattle.ix_script.proofs.before.given.Given.add.Goals as goal
-
-pub returns : goal.returns
-returns c = λ items are.
-    rw (c.in-Some.is, ← c.place_of.ensures.lane, ← c.place_of.ensures.name) (place_indexed c.place_of.result c.args.self.now.index c.insert.new.self items c.in_ok-insert.ensures.updates are)

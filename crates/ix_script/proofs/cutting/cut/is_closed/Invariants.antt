@@ -1,7 +1,0 @@
-use Rattle.std.proofs.Common.{◌≡◌, drop}
-use Rattle.ix_script.specs.texts.Cutting.{is_closed}
-use Rattle.ix_script.specs.declared.cutting.spot.Spot.TheVariants as spot
-use Rattle.ix_script.proofs.cutting.cut.is_closed.Given as goal
-
-abbrev pub invariant-bytes : goal.invariant-bytes
-invariant-bytes l = is_closed l.at (drop l.i l.word) ≡ is_closed spot.Front l.word

@@ -1,0 +1,11 @@
+use Rattle.ix_model.specs.world.Paths.{path_of}
+use Rattle.ix_script.proofs.reader.Indexing.{there_by_dir, there_by_file}
+use Rattle.ix_script.proofs.index.Tree.has.Goals as goal
+
+pub returns-then-has_dir : goal.returns-then-has_dir
+returns-then-has_dir c = λ objects are. there_by_dir objects (path_of c.args.path.now).names c.has_dir.result (c.has_dir.ensures objects are) c.if-has_dir.true
+
+pub returns-else-has_dir : goal.returns-else-has_dir
+returns-else-has_dir c = λ objects are.
+    let dir = c.has_dir.ensures objects are in
+    there_by_file objects (path_of c.args.path.now).names c.has_dir.result c.has_file.result dir c.if-has_dir.false (c.has_file.ensures objects are)

@@ -1,0 +1,12 @@
+use Rattle.std.proofs.Common.{◌≡◌, ◌+◌, drop, map, option_map}
+use Rattle.ix_script.specs.lines.Kinds.{places_fault}
+use Rattle.ix_script.specs.lines.Forms.{places_from}
+use Rattle.ix_script.specs.reader.Placing.{kind_in}
+use Rattle.ix_script.specs.declared.fail.Rule.{Rule}
+use Rattle.ix_script.proofs.lines.Readings.{lesser}
+use Rattle.ix_script.proofs.places.fault_from.Given as goal
+
+abbrev pub invariant-kinds : goal.invariant-kinds
+invariant-kinds l =
+    lesser (option_map (λ (r : Rule). r.0) l.broken) (places_fault (places_from (l.from + l.i) (map (kind_in l.labels l.words) (drop l.i l.kinds)) l.words))
+    ≡ places_fault (places_from l.from (map (kind_in l.labels l.words) l.kinds) l.words)

@@ -1,8 +1,0 @@
-use Rattle.std.proofs.Common.{drop}
-use Rattle.ix_script.specs.texts.Payloads.{quoted_from}
-use Rattle.ix_script.specs.declared.values.escape.Escape.TheVariants as escape
-use Rattle.ix_script.proofs.texts.Spelling.{Counted}
-use Rattle.ix_script.proofs.values.payload.quoted.Given as goal
-
-abbrev pub invariant-bytes : goal.invariant-bytes
-invariant-bytes l = Counted l.count l.i 0 (quoted_from l.at (drop l.i l.text)) (quoted_from escape.Plain l.text)

@@ -1,0 +1,25 @@
+use Rattle.std.proofs.Common.{[], arith, refl}
+use Rattle.std.specs.Option.{option_map_or}
+use Rattle.ix_script.specs.texts.Cutting.{pieces}
+use Rattle.ix_script.specs.declared.words.Spot.TheVariants as spot
+use Rattle.ix_script.proofs.texts.Words.{begin, next, ended, room}
+use Rattle.ix_script.proofs.words.cut_into.Goals as goal
+
+pub words-init : goal.words-init
+words-init c = begin _ _ _ c.requires c.if_any-rest.ensures.words
+
+pub overflow_add-count : goal.overflow_add-count
+overflow_add-count c = omega (
+  arith,
+  c.if_any-rest.ensures.few,
+  room c.args.text.now _ _ _ _ (option_map_or (λ front. pieces spot.Front front.now) c.words.rest []) c.first_word.result.0.now
+      (option_map_or (λ front. pieces spot.Front front.now) c.first_word.result.1 []) (rw c.in-Some.is c.first_word.ensures.pieces) c.words.invariant,
+)
+
+pub words-preserved : goal.words-preserved
+words-preserved c =
+    rw (c.is_empty-has_empty.ensures, c.is_open-has_open.ensures)
+    (next _ _ _ _ _ _ _ c.first_word.result.0.now _ (rw c.in-Some.is c.first_word.ensures.pieces) c.keep.ensures c.words.invariant)
+
+pub returns : goal.returns
+returns c = ended _ _ _ _ _ _ (rw c.in_default.is refl) c.words.invariant

@@ -1,0 +1,8 @@
+use Rattle.std.proofs.Common.{◌≡◌, ◌++◌, drop}
+use Rattle.std.specs.Prelude.{codes}
+use Rattle.std.specs.List.{flat_map}
+use Rattle.ix_script.specs.texts.Spellings.{quoted_byte, quoted_text}
+use Rattle.ix_script.proofs.writing.quoted.Given as goal
+
+abbrev pub invariant-loop-byte : goal.invariant-loop-byte
+invariant-loop-byte l = l.out.items ++ (flat_map quoted_byte (drop l.byte-index l.bytes) ++ codes "\"") ≡ l.fn.out.items ++ quoted_text l.bytes

@@ -1,0 +1,52 @@
+use Rattle.std.proofs.Common.{◌≡◌, ℕ, List, Some, ◌++◌, ◌-◌, length, take, refl, sym, ◌∙◌, subst, append_assoc, arith}
+use Rattle.std.specs.Result.{OnOk}
+use Rattle.std.proofs.lemmas.Option.{same_Some}
+use Rattle.ix_script.specs.texts.Cutting.{words_of, word_at}
+use Rattle.ix_script.specs.texts.Spellings.{payload_text}
+use Rattle.ix_script.specs.lines.Forms.{form_of}
+use Rattle.ix_script.specs.scripts.Canonical.{line_text}
+use Rattle.ix_script.specs.scripts.Packed.{line_in}
+use Rattle.ix_script.specs.reader.Placing.{payload_place}
+use Rattle.ix_script.proofs.reader.Packing.{said_words}
+use Rattle.ix_script.proofs.back.Respelling.{own_words, payload_words}
+use Rattle.ix_script.proofs.writing.write_words.Goals as goal
+
+pub unwrap-requires : goal.unwrap-requires
+unwrap-requires c =
+    let s = said_words c.args.labels c.args.text.now c.requires.line c.requires.some c.requires.words c.requires.later in
+    rw (c.form_of.ensures, c.get.ensures, c.cut.ensures, s.first) refl
+
+pub returns-then-place-eq0 : goal.returns-then-place-eq0
+returns-then-place-eq0 c =
+    let text : List ℕ = c.args.text.now in
+    let first : form_of (word_at (words_of text) 0) ≡ Some c.unwrap.result = rw (c.form_of.ensures, c.get.ensures, c.cut.ensures) at c.unwrap.ensures in
+    let none : payload_place c.unwrap.result ≡ 0 = sym c.payload_place-place.ensures.place ∙ c.if-place-eq0.true in
+    rw (own_words c.args.labels text c.unwrap.result c.requires.line c.requires.some c.requires.words first none) c.push.ensures
+
+pub before_word-requires : goal.before_word-requires
+before_word-requires c =
+    let text : List ℕ = c.args.text.now in
+    let first : form_of (word_at (words_of text) 0) ≡ Some c.unwrap.result = rw (c.form_of.ensures, c.get.ensures, c.cut.ensures) at c.unwrap.ensures in
+    let p = payload_words c.args.labels text c.unwrap.result c.requires.line c.requires.some c.requires.words first (λ e. c.if-place-eq0.false (c.payload_place-place.ensures.place ∙ e)) in
+    rw (c.get-2.ensures, c.cut.ensures, c.payload_place-place.ensures.place) p.within_text
+
+pub of-requires : goal.of-requires
+of-requires c =
+    let text : List ℕ = c.args.text.now in
+    let first : form_of (word_at (words_of text) 0) ≡ Some c.unwrap.result = rw (c.form_of.ensures, c.get.ensures, c.cut.ensures) at c.unwrap.ensures in
+    let p = payload_words c.args.labels text c.unwrap.result c.requires.line c.requires.some c.requires.words first (λ e. c.if-place-eq0.false (c.payload_place-place.ensures.place ∙ e)) in
+    (omega arith, rw (c.get-3.ensures, c.cut.ensures, c.payload_place-place.ensures.place, p.read) refl)
+
+pub returns : goal.returns
+returns c =
+    let text : List ℕ = c.args.text.now in
+    let first : form_of (word_at (words_of text) 0) ≡ Some c.unwrap.result = rw (c.form_of.ensures, c.get.ensures, c.cut.ensures) at c.unwrap.ensures in
+    let p = payload_words c.args.labels text c.unwrap.result c.requires.line c.requires.some c.requires.words first (λ e. c.if-place-eq0.false (c.payload_place-place.ensures.place ∙ e)) in
+    let bytes : c.of.result ≡ p.bytes = same_Some c.of.result p.bytes (sym (rw (c.get-3.ensures, c.cut.ensures, c.payload_place-place.ensures.place) at c.of.ensures) ∙ p.read) in
+    let front : c.push-2.new.out.items ≡ c.args.out.now.items ++ take (length text - length (word_at (words_of text) (payload_place c.unwrap.result))) text =
+    rw (c.before_word.ensures, c.get-2.ensures, c.cut.ensures, c.payload_place-place.ensures.place) at c.in_ok-push.ensures in
+    let whole : c.push-2.new.out.items ++ payload_text c.of.result ≡ c.args.out.now.items ++ line_text c.args.labels
+    (line_in c.args.labels text) = rw (front, bytes, p.spelled_so)
+    (append_assoc c.args.out.now.items (take (length text - length (word_at (words_of text) (payload_place c.unwrap.result))) text)
+    (payload_text p.bytes)) in
+    subst (λ (t : List ℕ). OnOk c.payload.result (c.payload.new.out.items ≡ t)) whole c.payload.ensures

@@ -1,0 +1,97 @@
+ghost use Rattle.std.specs.Prelude.{◌≡◌, ◌++◌, ◌∷◌, ◌+◌, ◌<◌, ◌^◌, [], List, OnOk, if◌then◌else◌};
+ghost use Rattle.ix_script.specs.{declared.line.Line.{Line}, lines.Before.{is_known, is_command}, reader.Told.{BodyTold}};
+
+use crate::index::Given;
+use crate::line::Line;
+use crate::role::is_command;
+use crate::values::NameWord;
+use ix_model::{List, Name, NoMemory};
+use ix_text::is;
+use std::alloc::Global;
+
+/// Whether the word is one of these names.
+pub(crate) fn is_known(word: &[u8], names: &[Name]) -> bool
+    ensures { result ≡ is_known word.now names.now }
+{
+    names.iter().any(|known| is(word, known.as_bytes()))
+}
+
+/// What the lines so far tell of phases and lanes.
+#[derive(Drop)]
+pub(crate) struct Body<'a> {
+    /// Whether a phase has begun.
+    pub started: bool,
+    /// The lane in which the next line stands.
+    pub lane: Option<&'a [u8]>,
+    /// The lanes of the phase so far.
+    pub phase_lanes: List<Name>,
+    /// The lanes of the script, in the order in which they first appear.
+    pub lanes: List<Name>,
+    /// The names of descriptors that stand after `as`.
+    pub fds: Given<'a>,
+    /// The names of processes that stand after `as`.
+    pub procs: Given<'a>,
+    pub commands: u32,
+}
+
+fn add_name(lanes: &mut List<Name>, name: &NameWord<'_>) -> Result<(), NoMemory>
+    ensures { OnOk result (lanes.new ≡ (if is_known name.now lanes.old then lanes.old else lanes.old ++ name.now ∷ [])) }
+{
+    if is_known(name.as_bytes(), lanes.as_slice()) {
+        Ok(())
+    } else {
+        lanes.push(name.name())
+    }
+}
+
+impl<'a> Body<'a> {
+    /// The lanes and commands of a script of which no line was read yet.
+    #[tactic(auto, unfolding(crate::specs::lines::Before::in_body, crate::specs::lines::Before::lane_now, crate::specs::lines::Before::phase_lanes, crate::specs::lines::Before::lanes_of, crate::specs::lines::Before::fds_given, crate::specs::lines::Before::procs_given, crate::specs::lines::Before::commands))]
+    pub fn new(alloc: Global) -> Body<'a>
+        ensures { BodyTold result [] }
+    {
+        Body {
+            started: false,
+            lane: None,
+            phase_lanes: List::new(alloc),
+            lanes: List::new(alloc),
+            fds: Given::new(alloc),
+            procs: Given::new(alloc),
+            commands: 0,
+        }
+    }
+
+    /// The lanes.
+    pub fn into_lanes(self) -> List<Name>
+        ensures { result ≡ self.entry.lanes }
+    {
+        self.lanes
+    }
+
+    /// One line more. After an error the body isn't used.
+    pub fn add(&mut self, alloc: Global, line: &Line<'a>) -> Result<(), NoMemory>
+        requires { self.old.commands + 1 < 2 ^ 32 }
+        ensures { OnOk result ((lines : List Line) → BodyTold self.old lines → BodyTold self.new (lines ++ line.now ∷ [])) }
+    {
+        self.commands += u32::from(is_command(line));
+        match line {
+            Line::Phase => {
+                self.started = true;
+                self.lane = None;
+                self.phase_lanes = List::new(alloc);
+                Ok(())
+            }
+            Line::Lane { name } => {
+                self.lane = Some(name.as_bytes());
+                self.phase_lanes.push(name.name())?;
+                add_name(&mut self.lanes, name)
+            }
+            Line::Open { named, .. } => self.fds.add_any(self.lane, named),
+            Line::Dup { named, .. } => self.fds.add_any(self.lane, named),
+            Line::Pipe { named, .. } => self.fds.add_two(self.lane, named),
+            Line::Fork { named, .. } => self.procs.add_any(self.lane, named),
+            Line::Login { named, .. } => self.procs.add_any(self.lane, named),
+            _ => Ok(()),
+        }
+    }
+}

@@ -1,0 +1,175 @@
+ghost use Rattle.std.specs.Prelude.{◌≡◌, ◌++◌, ◌∷◌, ◌+◌, ◌<◌, ◌^◌, [], true, false, Some, None, length, OnOk, IfOk, IfErr, IsTrue};
+ghost use Rattle.std.{proofs.Common.{option_map}, specs.List.{list_all}};
+ghost use Rattle.ix_script.specs.{lines.Before.{form_told}, lines.Faults.{text_fault, said_fault, line_fault}, lines.Roles.{role_of}, lines.Said.{line_of}};
+ghost use Rattle.ix_script.specs.{reader.Readers.{HasCause, IsPlain, LineMore, LineRight, is_whole}, reader.Told.{DraftTold}, scripts.Scripts.{config_of}};
+ghost use Rattle.ix_model.specs.opening.Valid.{is_valid, is_within};
+ghost use Rattle.ix_text.specs.Bytes.{is_empty};
+
+use crate::body::Body;
+use crate::fail::{ReadFail, Rule, ScriptFault};
+use crate::header::Header;
+use crate::line::Line;
+use crate::packed::Lines;
+use crate::places::line_by_form;
+use crate::role::{ENTRY, Role, cost_of_line, role_of};
+use crate::rules::{check_text, is_policy_line, is_skipped};
+use crate::words::Words;
+use ix_label::Steps;
+use ix_model::NoMemory;
+use std::alloc::Global;
+use std::sync::ledger::Ledger;
+
+/// The lines so far, and what they tell.
+#[derive(Drop)]
+pub(crate) struct Draft<'a> {
+    pub lines: Lines,
+    pub header: Header<'a>,
+    pub body: Body<'a>,
+}
+
+impl<'a> Draft<'a> {
+    /// Before any line, with room for those of an input. `NoMemory` where there was none for that room.
+    pub fn new(alloc: Global, bytes: &[u8]) -> Result<Draft<'a>, NoMemory>
+        ensures told { IfOk result (λ d. DraftTold d) }
+        ensures none { IfOk result (λ d. d.lines ≡ []) }
+    {
+        Ok(Draft {
+            lines: Lines::for_all(alloc, bytes)?,
+            header: Header::new(alloc)?,
+            body: Body::new(alloc),
+        })
+    }
+
+    /// One line more, which the text says. After an error the draft isn't used.
+    fn add(&mut self, alloc: Global, text: &[u8], line: &Line<'a>) -> Result<(), NoMemory>
+        requires told { DraftTold self.old }
+        requires valid { is_valid (config_of self.old.lines) ≡ true }
+        requires right { LineRight self.old.lines line.now (line_fault self.old.lines text.now) (line_of (form_told self.old.lines) text.now) }
+        requires few { length self.old.lines + 1 < 2 ^ 32 }
+        ensures told { OnOk result (DraftTold self.new) }
+        ensures lines { OnOk result (self.new.lines ≡ self.old.lines ++ line.now ∷ []) }
+    {
+        let first = self.lines.len() == 0;
+        let form = self.lines.form_with(line);
+        self.header.add(alloc, first, line)?;
+        self.body.add(alloc, line)?;
+        self.lines
+            .push(form, text, role_of(line), cost_of_line(line))?;
+        Ok(())
+    }
+
+    /// The fault of the next line, by the rule that it breaks.
+    fn fault(&self, rule: Rule) -> ReadFail
+        requires { length self.now.lines + 1 < 2 ^ 32 }
+        ensures { HasCause result (Some (length self.now.lines + 1, rule.0)) }
+    {
+        ReadFail::Fault(ScriptFault {
+            line: self.lines.len() as u32 + 1,
+            rule: rule.0,
+        })
+    }
+
+    /// A command more that gives no name and is no server's: nothing is kept of it but its text and what it costs.
+    fn add_command(&mut self, text: &[u8], cost: u64) -> Result<(), ReadFail>
+        requires told { DraftTold self.old }
+        requires valid { is_valid (config_of self.old.lines) ≡ true }
+        requires few { length self.old.lines + 1 < 2 ^ 32 }
+        requires later { is_empty self.old.lines ≡ false }
+        requires plain { IsPlain self.old.lines text.now cost }
+        ensures told { OnOk result (DraftTold self.new) }
+        ensures line { OnOk result (LineMore self.old.lines self.new.lines text.now) }
+        ensures fail { IfErr result (λ e. HasCause e (option_map (λ rule. (length self.old.lines + 1, rule)) (line_fault self.old.lines text.now))) }
+    {
+        if self.body.commands >= 200_000 {
+            return Err(self.fault(Rule::TOO_MANY));
+        }
+        self.header.latest = self.header.latest.max(5);
+        self.body.commands += 1;
+        self.lines
+            .push(self.lines.form(), text, Role::Command, cost)?;
+        Ok(())
+    }
+
+    /// A line more by the last rules, those from 22 on. After an error the draft isn't used.
+    fn add_said<L: Ledger>(
+        &mut self,
+        alloc: Global,
+        text: &[u8],
+        line: &Line<'a>,
+        steps: &mut Steps<L>,
+    ) -> Result<(), ReadFail>
+        requires told { DraftTold self.old }
+        requires valid { is_valid (config_of self.old.lines) ≡ true }
+        requires few { length self.old.lines + 1 < 2 ^ 32 }
+        requires later { is_empty self.old.lines ≡ false }
+        requires fault { line_fault self.old.lines text.now ≡ said_fault self.old.lines line.now }
+        requires meant { line_of (form_told self.old.lines) text.now ≡ Some line.now }
+        ensures told { OnOk result (DraftTold self.new) }
+        ensures line { OnOk result (LineMore self.old.lines self.new.lines text.now) }
+        ensures fail { IfErr result (λ e. HasCause e (option_map (λ rule. (length self.old.lines + 1, rule)) (line_fault self.old.lines text.now))) }
+    {
+        if let Role::Command = role_of(line) {
+            return self.add_command(text, cost_of_line(line));
+        }
+        if let Err(rule) = self.check_said(line, steps) {
+            return Err(self.fault(rule));
+        }
+        self.add(alloc, text, line)?;
+        Ok(())
+    }
+
+    /// A line more that isn't cut into words. After an error the draft isn't used.
+    fn add_whole(&mut self, alloc: Global, text: &'a [u8]) -> Result<(), ReadFail>
+        requires told { DraftTold self.old }
+        requires valid { is_valid (config_of self.old.lines) ≡ true }
+        requires few { length self.old.lines + 1 < 2 ^ 32 }
+        requires whole { is_whole self.old.lines text.now ≡ true }
+        requires text { text_fault text.now ≡ None }
+        ensures told { OnOk result (DraftTold self.new) }
+        ensures line { OnOk result (LineMore self.old.lines self.new.lines text.now) }
+        ensures fail { IfErr result (λ e. HasCause e (option_map (λ rule. (length self.old.lines + 1, rule)) (line_fault self.old.lines text.now))) }
+    {
+        match self.whole_line(text) {
+            Ok(line) => {
+                self.add(alloc, text, &line)?;
+                Ok(())
+            }
+            Err(rule) => Err(self.fault(rule)),
+        }
+    }
+
+    /// The next line, which the text says; else its fault. After an error the draft isn't used. Whether each of the text's
+    /// bytes is known to be printable is told, and the words that are handed in are those of the last line that was cut.
+    pub fn add_line<L: Ledger>(
+        &mut self,
+        alloc: Global,
+        printable: bool,
+        text: &'a [u8],
+        words: &mut Words<'a>,
+        steps: &mut Steps<L>,
+    ) -> Result<(), ReadFail>
+        requires told { DraftTold self.old }
+        requires valid { is_valid (config_of self.old.lines) ≡ true }
+        requires few { length self.old.lines + 1 < 2 ^ 32 }
+        requires printable { IsTrue printable → list_all (is_within 32 126) text.now ≡ true }
+        ensures told { OnOk result (DraftTold self.new) }
+        ensures line { OnOk result (LineMore self.old.lines self.new.lines text.now) }
+        ensures fail { IfErr result (λ e. HasCause e (option_map (λ rule. (length self.old.lines + 1, rule)) (line_fault self.old.lines text.now))) }
+    {
+        if let Err(rule) = check_text(printable, text) {
+            return Err(self.fault(rule));
+        }
+        if self.lines.len() == 0 || is_skipped(text) || is_policy_line(text) {
+            return self.add_whole(alloc, text);
+        }
+        words.cut(text);
+        match self.form_by_words(words) {
+            Ok(form) if form.is_entry() => self.add_command(text, ENTRY),
+            Ok(form) => {
+                let line = line_by_form(self.lines.form(), form, words);
+                self.add_said(alloc, text, &line, steps)
+            }
+            Err(rule) => Err(self.fault(rule)),
+        }
+    }
+}

@@ -1,0 +1,263 @@
+ghost use Rattle.std.{specs.Prelude.{◌≡◌, Some, nat_eq, refl, ◌++◌, ◌∷◌, [], List, ℕ, OnOk, ◌+◌, ◌<◌, ◌^◌}, proofs.Common.{option_map}};
+ghost use Rattle.std.specs.Cmp.{on_equiv, on_per, on_po, on_total, partial_equiv_from_equiv};
+ghost use Rattle.std.{specs.Cmp.Lexicographic.{nat_list_cmp_total, nat_list_eq_equiv, pointwise, slice_cmp, texts_po, texts_ties}, specs.Ordering.{nat_cmp}};
+ghost use Rattle.ix_script.specs.lines.Before.{in_lane, is_given, listed, listed_two, is_known};
+ghost use Rattle.ix_script.specs.reader.Indexed.{AreIndexed, AreNames, AreSites, dir_there, file_there, is_there};
+ghost use Rattle.ix_model.specs.{declared.config.ObjSpec.{ObjSpec}, world.Paths.{path_of}, world.Texts.{names_in}};
+
+use crate::values::NameWord;
+use ix_model::{NoMemory, Path};
+use std::alloc::Global;
+use std::cmp::Ordering;
+use std::collections::BTreeSet;
+
+/// A name of a script, or the text of the names of a path, in the order of its bytes.
+#[derive(Clone, Copy)]
+pub(crate) struct ByBytes<'a> {
+    pub name: &'a [u8],
+}
+
+/// The order of bytes.
+pub(crate) fn order<'x>(a: &'x [u8], b: &'x [u8]) -> Ordering
+    ensures { result ≡ slice_cmp nat_cmp a.now b.now }
+{
+    // Names are short: byte by byte takes less than the comparison of whole slices does.
+    'bytes: for i in 0..a.len().min(b.len()) {
+        if a[i] != b[i] {
+            return a[i].cmp(&b[i]);
+        }
+    }
+    a.len().cmp(&b.len())
+}
+
+impl<'a> PartialEq for ByBytes<'a> {
+    ghost eq = { λ a b. pointwise nat_eq a.name.now b.name.now };
+
+    ghost laws = { on_per (λ s. s.name.now) (partial_equiv_from_equiv nat_list_eq_equiv) };
+
+    fn eq(&self, other: &ByBytes<'a>) -> bool {
+        self.name == other.name
+    }
+}
+
+impl<'a> Eq for ByBytes<'a> {
+    ghost laws = { on_equiv (λ s. s.name.now) nat_list_eq_equiv };
+}
+
+impl<'a> PartialOrd for ByBytes<'a> {
+    ghost partial_cmp = { λ a b. Some (slice_cmp nat_cmp a.name.now b.name.now) };
+
+    ghost laws = { on_po (λ s. s.name.now) texts_po };
+
+    fn partial_cmp(&self, other: &ByBytes<'a>) -> Option<Ordering> {
+        Some(self.cmp(other))
+    }
+}
+
+impl<'a> Ord for ByBytes<'a> {
+    ghost cmp = { λ a b. slice_cmp nat_cmp a.name.now b.name.now };
+
+    ghost total = { on_total (λ s. s.name.now) nat_list_cmp_total };
+
+    ghost matches_partial_cmp = { λ a b. refl };
+
+    ghost matches_eq = { λ a b. texts_ties a.name.now b.name.now };
+
+    fn cmp(&self, other: &ByBytes<'a>) -> Ordering {
+        order(self.name, other.name)
+    }
+}
+
+/// A name in its lane. Names come first in the order, since most are of one lane.
+#[derive(Clone, Copy, PartialEq, Eq, PartialOrd, Ord)]
+pub(crate) struct Place<'a> {
+    name: ByBytes<'a>,
+    lane: ByBytes<'a>,
+}
+
+/// Names that lines give, each with the lane of its line: an index of the list of them.
+#[derive(Drop)]
+pub(crate) struct Given<'a> {
+    pub index: BTreeSet<Place<'a>>,
+}
+
+fn place_of<'a>(lane: &'a [u8], name: &'a [u8]) -> Place<'a>
+    ensures lane { result.lane.name.now ≡ lane.now }
+    ensures name { result.name.name.now ≡ name.now }
+{
+    Place {
+        name: ByBytes { name },
+        lane: ByBytes { name: lane },
+    }
+}
+
+impl<'a> Given<'a> {
+    /// No names.
+    pub fn new(alloc: Global) -> Given<'a>
+        ensures { AreIndexed result.index [] }
+    {
+        Given {
+            index: BTreeSet::new(alloc),
+        }
+    }
+
+    /// Whether the word was given in the lane.
+    pub fn has(&self, lane: Option<&'a [u8]>, word: &'a [u8]) -> bool
+        ensures { (items : List (List ℕ × List ℕ)) → AreIndexed self.now.index items → result ≡ is_given (option_map (λ s. s.now) lane.entry) word.now items }
+    {
+        match lane {
+            Some(lane) => self.index.contains(&place_of(lane, word)),
+            None => false,
+        }
+    }
+
+    /// One name more, if a lane is open. After an error the names aren't used.
+    fn add(&mut self, lane: Option<&'a [u8]>, name: &'a [u8]) -> Result<(), NoMemory>
+        ensures { OnOk result ((items : List (List ℕ × List ℕ)) → AreIndexed self.old.index items → AreIndexed self.new.index (items ++ in_lane (option_map (λ s. s.now) lane.entry) (name.now ∷ []))) }
+    {
+        let Some(lane) = lane else {
+            return Ok(());
+        };
+        self.index.insert(place_of(lane, name))?;
+        Ok(())
+    }
+
+    /// The name more, if there is one and a lane is open. After an error the names aren't used.
+    pub fn add_any(
+        &mut self,
+        lane: Option<&'a [u8]>,
+        named: &Option<NameWord<'a>>,
+    ) -> Result<(), NoMemory>
+        ensures { OnOk result ((items : List (List ℕ × List ℕ)) → AreIndexed self.old.index items → AreIndexed self.new.index (items ++ in_lane (option_map (λ s. s.now) lane.entry) (listed named.now))) }
+    {
+        match named {
+            Some(name) => self.add(lane, name.as_bytes()),
+            None => Ok(()),
+        }
+    }
+
+    /// The two names more, if there are some and a lane is open. After an error the names aren't used.
+    pub fn add_two(
+        &mut self,
+        lane: Option<&'a [u8]>,
+        named: &Option<(NameWord<'a>, NameWord<'a>)>,
+    ) -> Result<(), NoMemory>
+        ensures { OnOk result ((items : List (List ℕ × List ℕ)) → AreIndexed self.old.index items → AreIndexed self.new.index (items ++ in_lane (option_map (λ s. s.now) lane.entry) (listed_two named.now))) }
+    {
+        match named {
+            Some((first, second)) => {
+                self.add(lane, first.as_bytes())?;
+                self.add(lane, second.as_bytes())?;
+                Ok(())
+            }
+            None => Ok(()),
+        }
+    }
+}
+
+/// Names that lines tell: an index of the list of them, and how many they are.
+#[derive(Drop)]
+pub(crate) struct Names<'a> {
+    pub index: BTreeSet<ByBytes<'a>>,
+    pub count: usize,
+}
+
+impl<'a> Names<'a> {
+    /// No names.
+    pub fn new(alloc: Global) -> Names<'a>
+        ensures names { AreNames result.index [] }
+        ensures none { result.count ≡ 0 }
+    {
+        Names {
+            index: BTreeSet::new(alloc),
+            count: 0,
+        }
+    }
+
+    /// Whether the word is one of the names.
+    pub fn has(&self, word: &'a [u8]) -> bool
+        ensures { (names : List (List ℕ)) → AreNames self.now.index names → result ≡ is_known word.now names }
+    {
+        self.index.contains(&ByBytes { name: word })
+    }
+
+    /// One name more. After an error the names aren't used.
+    pub fn push(&mut self, name: &'a [u8]) -> Result<(), NoMemory>
+        requires { self.old.count + 1 < 2 ^ 64 }
+        ensures names { OnOk result ((names : List (List ℕ)) → AreNames self.old.index names → AreNames self.new.index (names ++ name.now ∷ [])) }
+        ensures count { OnOk result (self.new.count ≡ self.old.count + 1) }
+    {
+        self.index.insert(ByBytes { name })?;
+        self.count += 1;
+        Ok(())
+    }
+}
+
+/// The text of the names under which something was made, and whether it is a directory. Other names have another text.
+#[derive(Clone, Copy, PartialEq, Eq, PartialOrd, Ord)]
+pub(crate) struct Site<'a> {
+    names: ByBytes<'a>,
+    dir: bool,
+}
+
+fn site_of<'a>(path: &Path<'a>, dir: bool) -> Site<'a>
+    ensures names { names_in result.names.name.now ≡ (path_of path.now).names }
+    ensures dir { result.dir ≡ dir }
+{
+    Site {
+        names: ByBytes { name: path.text() },
+        dir,
+    }
+}
+
+/// The directories and files that lines tell: an index of the list of them, and how many they are.
+#[derive(Drop)]
+pub(crate) struct Tree<'a> {
+    pub index: BTreeSet<Site<'a>>,
+    pub count: usize,
+}
+
+impl<'a> Tree<'a> {
+    /// Nothing.
+    pub fn new(alloc: Global) -> Tree<'a>
+        ensures sites { AreSites result.index [] }
+        ensures none { result.count ≡ 0 }
+    {
+        Tree {
+            index: BTreeSet::new(alloc),
+            count: 0,
+        }
+    }
+
+    /// Whether a directory was made under the names.
+    pub fn has_dir(&self, path: &Path<'a>) -> bool
+        ensures { (objects : List ObjSpec) → AreSites self.now.index objects → result ≡ dir_there objects (path_of path.now).names }
+    {
+        self.index.contains(&site_of(path, true))
+    }
+
+    /// Whether a file was made under the names.
+    fn has_file(&self, path: &Path<'a>) -> bool
+        ensures { (objects : List ObjSpec) → AreSites self.now.index objects → result ≡ file_there objects (path_of path.now).names }
+    {
+        self.index.contains(&site_of(path, false))
+    }
+
+    /// Whether something was made under the names.
+    pub fn has(&self, path: &Path<'a>) -> bool
+        ensures { (objects : List ObjSpec) → AreSites self.now.index objects → result ≡ is_there objects (path_of path.now).names }
+    {
+        self.has_dir(path) || self.has_file(path)
+    }
+
+    /// One more. After an error the tree isn't used.
+    pub fn push(&mut self, path: &Path<'a>, dir: bool) -> Result<(), NoMemory>
+        requires { self.old.count + 1 < 2 ^ 64 }
+        ensures sites { OnOk result ((objects : List ObjSpec) (o : ObjSpec) → o.path.names ≡ (path_of path.now).names → o.dir ≡ dir → AreSites self.old.index objects → AreSites self.new.index (objects ++ o ∷ [])) }
+        ensures count { OnOk result (self.new.count ≡ self.old.count + 1) }
+    {
+        self.index.insert(site_of(path, dir))?;
+        self.count += 1;
+        Ok(())
+    }
+}

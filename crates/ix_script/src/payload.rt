@@ -1,0 +1,425 @@
+ghost use Rattle.std.specs.Prelude.{◌≡◌, ◌<◌, Some, IfSome, IsSome, is_some, ◌≤◌, ◌∷◌, [], length, take, unwrap_or, None, ℕ, ◌+◌, ◌^◌, replicate, OnOk};
+ghost use Rattle.std.specs.{List.{list_all}, Option.{option_map_or}};
+ghost use Rattle.ix_script.specs.{lines.Said.{payload_within}, reader.Readers.{IsFault}, texts.PayloadBytes.{bytes_in, spelled_by}};
+ghost use Rattle.ix_script.specs.texts.Payloads.{digit_of, pair_of, two_digits, escape_step, ends, escaped_byte, after_bytes, pairs_of, quoted_from, bytes_of, times_from, payload_of};
+ghost use Rattle.ix_script.specs.texts.Spelled.{Spells};
+ghost use Rattle.ix_script.specs.declared.payload.Escape.TheVariants as escape;
+ghost use Rattle.ix_script.specs.lines.Kinds as kind;
+
+use crate::fail::Rule;
+use crate::values::{is_numeral, place_of, value};
+use ix_model::NoMemory;
+use ix_text::{begins, is_digit};
+use std::marker::Model;
+
+/// The value of a hexadecimal digit.
+#[tactic(auto, unfolding(crate::specs::texts::Payloads::digit_of))]
+fn digit(b: u8) -> Option<u8>
+    ensures digit { result ≡ digit_of b }
+    ensures low { IfSome result (λ n. n < 16) }
+{
+    if is_digit(b) {
+        Some(b - b'0')
+    } else if b >= b'a' && b <= b'f' {
+        Some(b - 87)
+    } else if b >= b'A' && b <= b'F' {
+        Some(b - 55)
+    } else {
+        None
+    }
+}
+
+/// The byte of two digits.
+#[tactic(auto, unfolding(crate::specs::texts::Payloads::pair_of))]
+pub(crate) fn pair(high: u8, low: u8) -> Option<u8>
+    ensures { result ≡ pair_of high low }
+{
+    let high = digit(high)?;
+    let low = digit(low)?;
+    Some(high * 16 + low)
+}
+
+/// Whether it is a hexadecimal digit.
+#[tactic(auto, unfolding(crate::specs::texts::Payloads::digit_of))]
+pub(crate) fn is_hex_digit(b: u8) -> bool
+    ensures { result ≡ is_some (digit_of b) }
+{
+    is_digit(b) || b >= b'a' && b <= b'f' || b >= b'A' && b <= b'F'
+}
+
+/// The value of a digit that is known to be one. It needs no branch: a letter's low bits say how far it is from the letter before `a`.
+#[tactic(auto, unfolding(crate::specs::texts::Payloads::digit_of))]
+fn known_digit(b: u8) -> u8
+    requires { IsSome (digit_of b) }
+    ensures value { digit_of b ≡ Some result }
+    ensures low { result < 16 }
+{
+    b % 16 + 9 * (b / 64)
+}
+
+/// The byte of two digits that are known to be digits.
+#[tactic(auto, unfolding(crate::specs::texts::Payloads::pair_of))]
+pub(crate) fn known_pair(high: u8, low: u8) -> u8
+    requires { IsSome (pair_of high low) }
+    ensures { pair_of high low ≡ Some result }
+{
+    known_digit(high) * 16 + known_digit(low)
+}
+
+/// The byte of a text of two digits.
+pub(crate) fn two_digits(text: &[u8]) -> Option<u8>
+    ensures { result ≡ two_digits text.now }
+{
+    match text {
+        [high, low] => pair(*high, *low),
+        _ => None,
+    }
+}
+
+/// Where in quotes a byte stands.
+#[derive(Clone, Copy)]
+pub(crate) enum Escape {
+    /// Where it stands for itself.
+    Plain,
+    /// After a backslash.
+    Begun,
+    /// Where the first of two digits stands.
+    High,
+    /// After this first digit.
+    Low(u8),
+}
+
+/// The byte that a backslash and this byte stand for.
+#[tactic(auto, unfolding(crate::specs::texts::Payloads::escaped_byte))]
+pub(crate) fn escaped(b: u8) -> Option<u8>
+    ensures { result ≡ escaped_byte b }
+{
+    if b == b'\\' || b == b'"' {
+        Some(b)
+    } else if b == b'n' {
+        Some(b'\n')
+    } else {
+        None
+    }
+}
+
+impl Escape {
+    /// Whether the byte is the quote that ends the text.
+    pub fn ends(self, b: u8) -> bool
+        ensures { result ≡ ends self b }
+    {
+        matches!(self, Escape::Plain) && b == b'"'
+    }
+
+    /// Where the next byte stands, and the byte that is read with this one; `None` where this one may not stand.
+    #[tactic(auto, unfolding(crate::specs::texts::Payloads::escape_step))]
+    pub fn after(self, b: u8) -> Option<(Escape, Option<u8>)>
+        ensures { result ≡ escape_step self b }
+    {
+        match self {
+            Escape::Plain => {
+                if b == b'\\' {
+                    Some((Escape::Begun, None))
+                } else {
+                    Some((Escape::Plain, Some(b)))
+                }
+            }
+            Escape::Begun => {
+                if b == b'x' {
+                    return Some((Escape::High, None));
+                }
+                let byte = escaped(b)?;
+                Some((Escape::Plain, Some(byte)))
+            }
+            Escape::High => Some((Escape::Low(b), None)),
+            Escape::Low(high) => {
+                let byte = pair(high, b)?;
+                Some((Escape::Plain, Some(byte)))
+            }
+        }
+    }
+}
+
+/// How bytes are spelled.
+#[derive(Clone, Copy)]
+pub(crate) enum Spelling<'a> {
+    /// By pairs of digits.
+    Pairs(&'a [u8]),
+    /// By what stands in quotes, up to the quote that ends the text.
+    Quoted(&'a [u8]),
+    /// So often that byte.
+    Times(u32, u8),
+}
+
+/// The byte of the two digits behind a backslash and an `x`, and the text after them.
+#[tactic(auto, using(crate::proofs::texts::Spelling::no_digits), unfolding(crate::specs::texts::Payloads::quoted_from, crate::specs::texts::Payloads::escape_step))]
+fn first_of_digits(text: &[u8]) -> Option<(u8, &[u8])>
+    ensures { quoted_from escape.High text.now ≡ option_map_or (λ p. after_bytes (p.0 ∷ []) (quoted_from escape.Plain p.1.now)) result None }
+{
+    let [high, low, more @ ..] = text else {
+        return None;
+    };
+    let byte = pair(*high, *low)?;
+    Some((byte, more))
+}
+
+/// The byte that is spelled behind a backslash, and the text after it.
+#[tactic(auto, unfolding(crate::specs::texts::Payloads::quoted_from, crate::specs::texts::Payloads::escape_step))]
+fn first_escaped(text: &[u8]) -> Option<(u8, &[u8])>
+    ensures { quoted_from escape.Begun text.now ≡ option_map_or (λ p. after_bytes (p.0 ∷ []) (quoted_from escape.Plain p.1.now)) result None }
+{
+    match text {
+        [] => None,
+        [b, more @ ..] => {
+            if *b == b'x' {
+                return first_of_digits(more);
+            }
+            let byte = escaped(*b)?;
+            Some((byte, more))
+        }
+    }
+}
+
+/// The first byte that is spelled in quotes, and the text after it.
+#[tactic(auto, unfolding(crate::specs::texts::Payloads::quoted_from, crate::specs::texts::Payloads::escape_step))]
+fn first_of_quoted(text: &[u8]) -> Option<(u8, &[u8])>
+    requires { IsSome (quoted_from escape.Plain text.now) }
+    ensures { quoted_from escape.Plain text.now ≡ option_map_or (λ p. after_bytes (p.0 ∷ []) (quoted_from escape.Plain p.1.now)) result (Some []) }
+{
+    match text {
+        [] => None,
+        [b, more @ ..] => {
+            if *b == b'"' {
+                return None;
+            }
+            if *b == b'\\' {
+                return first_escaped(more);
+            }
+            Some((*b, more))
+        }
+    }
+}
+
+/// Puts the bytes that pairs of digits spell, which are so many, at the front of a buffer.
+fn decode_pairs(text: &[u8], count: usize, buf: &mut [u8])
+    requires spelled { IsSome (pairs_of text.now) }
+    requires count { count ≡ length (unwrap_or (pairs_of text.now) []) }
+    requires room { count ≤ length buf.old }
+    ensures front { take count buf.new ≡ unwrap_or (pairs_of text.now) [] }
+    ensures len { length buf.new ≡ length buf.old }
+{
+    'bytes: for i in 0..count {
+        buf[i] = known_pair(text[2 * i], text[2 * i + 1]);
+    }
+}
+
+/// Puts the bytes that stand in quotes, which are so many, at the front of a buffer.
+fn decode_quoted(text: &[u8], count: usize, buf: &mut [u8])
+    requires spelled { IsSome (quoted_from escape.Plain text.now) }
+    requires count { count ≡ length (unwrap_or (quoted_from escape.Plain text.now) []) }
+    requires room { count ≤ length buf.old }
+    ensures front { take count buf.new ≡ unwrap_or (quoted_from escape.Plain text.now) [] }
+    ensures len { length buf.new ≡ length buf.old }
+{
+    let mut rest = text;
+    'bytes: for i in 0..count {
+        let Some((byte, more)) = first_of_quoted(rest) else {
+            return;
+        };
+        buf[i] = byte;
+        rest = more;
+    }
+}
+
+impl<'a> Spelling<'a> {
+    /// Puts the bytes, which are so many, at the front of a buffer.
+    pub(crate) fn decode(self, count: usize, buf: &mut [u8])
+        requires spelled { spelled_by self ≡ Some (bytes_in self) }
+        requires count { count ≡ length (bytes_in self) }
+        requires room { count ≤ length buf.old }
+        ensures front { take count buf.new ≡ bytes_in self.entry }
+        ensures len { length buf.new ≡ length buf.old }
+    {
+        match self {
+            Spelling::Pairs(text) => decode_pairs(text, count, buf),
+            Spelling::Quoted(text) => decode_quoted(text, count, buf),
+            Spelling::Times(_, byte) => buf[..count].fill(byte),
+        }
+    }
+}
+
+/// The bytes that a word of a script spells, at most so many. It borrows the word, and contracts see the list of the bytes.
+#[derive(Drop)]
+pub struct Payload<'a, const MOST: u32> {
+    spelling: Spelling<'a>,
+    len: u32,
+}
+
+impl<'a, const MOST: u32> Model for Payload<'a, MOST> {
+    ghost use Rattle.std.specs.Prelude.{List, ℕ};
+    ghost use Rattle.ix_script.specs.texts.PayloadBytes.{IsPayload, bytes_in};
+
+    ghost Value = { List ℕ };
+
+    ghost view = { λ p. bytes_in p.spelling };
+
+    ghost invariant = { λ p. IsPayload MOST p.spelling p.len };
+}
+
+/// Whether each is a hexadecimal digit. Each is looked at, also after one that is none, so that many are looked at at once.
+#[tactic(auto, using(std::proofs::lemmas::List::Folds::list_all_more))]
+fn are_digits(text: &[u8]) -> bool
+    ensures { result ≡ list_all (λ b. is_some (digit_of b)) text.now }
+{
+    let mut all = true;
+    for b in text {
+        all &= is_hex_digit(*b);
+    }
+    all
+}
+
+/// What pairs of digits spell.
+fn pairs(text: &[u8]) -> Result<(Spelling<'_>, usize), Rule>
+    ensures { (most : ℕ) → Spells most result (pairs_of text.now) }
+{
+    if text.len() % 2 != 0 {
+        return Err(Rule::BAD_PAYLOAD);
+    }
+    if are_digits(text) {
+        Ok((Spelling::Pairs(text), text.len() / 2))
+    } else {
+        Err(Rule::BAD_PAYLOAD)
+    }
+}
+
+fn count_after(count: usize, byte: Option<u8>) -> usize
+    requires { count + 1 < 2 ^ 64 }
+    ensures { result ≡ count + length (bytes_of byte) }
+{
+    match byte {
+        Some(_) => count + 1,
+        None => count,
+    }
+}
+
+/// What is spelled in quotes, up to the quote that ends the text.
+fn quoted(text: &[u8]) -> Result<(Spelling<'_>, usize), Rule>
+    ensures { (most : ℕ) → Spells most result (quoted_from escape.Plain text.now) }
+{
+    let mut count = 0;
+    let mut at = Escape::Plain;
+    'bytes: for (i, b) in text.iter().enumerate() {
+        if at.ends(*b) {
+            return if i + 1 == text.len() {
+                Ok((Spelling::Quoted(text), count))
+            } else {
+                Err(Rule::BAD_PAYLOAD)
+            };
+        }
+        let Some((next, byte)) = at.after(*b) else {
+            return Err(Rule::BAD_PAYLOAD);
+        };
+        count = count_after(count, byte);
+        at = next;
+    }
+    Err(Rule::BAD_PAYLOAD)
+}
+
+/// A byte that stands as often as a number says, at most so often.
+#[tactic(auto, unfolding(crate::specs::texts::Payloads::times_from, crate::specs::texts::Spelled::spelling_fault))]
+fn times(most: u32, count: &[u8], digits: &[u8]) -> Result<(Spelling<'static>, usize), Rule>
+    ensures { Spells most result (times_from count.now digits.now) }
+{
+    let Some(byte) = two_digits(digits) else {
+        return Err(Rule::BAD_PAYLOAD);
+    };
+    if !is_numeral(count) {
+        return Err(Rule::BAD_PAYLOAD);
+    }
+    match value(count) {
+        Some(n) if n <= most => Ok((Spelling::Times(n, byte), n as usize)),
+        _ => Err(Rule::LONG_PAYLOAD),
+    }
+}
+
+/// How a word spells bytes, and how many: at most so many where a number says it.
+#[tactic(auto, unfolding(crate::specs::texts::Payloads::payload_of, crate::specs::texts::Payloads::times_of, crate::specs::texts::Spelled::spelling_fault))]
+fn spelling_of(most: u32, word: &[u8]) -> Result<(Spelling<'_>, usize), Rule>
+    ensures { Spells most result (payload_of word.now) }
+{
+    if begins(b'"', word) {
+        return quoted(&word[1..]);
+    }
+    if begins(b'x', word) {
+        return pairs(&word[1..]);
+    }
+    match place_of(b'*', word) {
+        Some(star) => {
+            let (_, digits) = word.split_at(star + 1);
+            times(most, &word[..star], digits)
+        }
+        None => Err(Rule::BAD_PAYLOAD),
+    }
+}
+
+/// The bytes of a payload, at most so many: the first rule that it breaks.
+#[tactic(auto, unfolding(crate::specs::texts::Spelled::spelling_fault, crate::specs::lines::Kinds::places_fault, crate::specs::lines::Kinds::first_broken))]
+pub(crate) fn payload_fault(most: u32, word: &[u8]) -> Option<Rule>
+    ensures { IsFault result ((kind.Payload most, word.now) ∷ []) }
+{
+    match spelling_of(most, word) {
+        Ok((_, len)) if len > most as usize => Some(Rule::LONG_PAYLOAD),
+        Ok(_) => None,
+        Err(rule) => Some(rule),
+    }
+}
+
+impl<'a, const MOST: u32> Payload<'a, MOST> {
+    /// The bytes of a payload.
+    pub(crate) fn of(word: &'a [u8]) -> Payload<'a, MOST>
+        requires { IsSome (payload_within MOST word.now) }
+        ensures { payload_within MOST word.now ≡ Some result }
+    {
+        let (spelling, len) = spelling_of(MOST, word).unwrap();
+        Payload {
+            spelling,
+            len: len as u32,
+        }
+    }
+
+    /// How many bytes there are.
+    pub fn len(&self) -> usize
+        ensures len { result ≡ length self.now }
+        ensures few { result ≤ MOST }
+    {
+        self.len as usize
+    }
+
+    /// The byte that the word says so often, and how often, where it is n*HH.
+    pub(crate) fn times(&self) -> Option<(usize, u8)>
+        ensures { IfSome result (λ t. self.now ≡ replicate t.0 t.1) }
+    {
+        match self.spelling {
+            Spelling::Times(n, byte) => Some((n as usize, byte)),
+            _ => None,
+        }
+    }
+
+    /// Puts the bytes at the front of a buffer, which it asks to have room for all of them.
+    pub fn decode(&self, buf: &mut [u8])
+        requires { length self.now ≤ length buf.old }
+        ensures front { take (length self.now) buf.new ≡ self.now }
+        ensures len { length buf.new ≡ length buf.old }
+    {
+        self.spelling.decode(self.len(), buf)
+    }
+
+    /// Puts all bytes into a buffer, in place of those that it has.
+    pub(crate) fn decode_into(&self, buffer: &mut Vec<u8>) -> Result<(), NoMemory>
+        ensures { OnOk result (buffer.new.items ≡ self.now) }
+    {
+        buffer.resize(self.len(), 0)?;
+        self.decode(buffer.as_mut_slice());
+        Ok(())
+    }
+}

@@ -1,0 +1,279 @@
+ghost use Rattle.std.specs.Prelude.{◌≡◌, ℕ, ◌≤◌, ◌<◌, ◌+◌, ◌^◌, ◌∷◌, [], length, take, drop, IfSome, Some, None, map, nat_lt, set, replicate, if◌then◌else◌};
+ghost use Rattle.std.specs.Option.{option_map_or};
+ghost use Rattle.ix_script.specs.{lines.Rules.{has_empty_word, has_open_quote}, reader.Cut.{AreWords, gap_from}};
+ghost use Rattle.ix_script.specs.texts.Cutting.{after_byte, parts_words, closes, pieces, words_of, word_at, is_closed, is_open};
+ghost use Rattle.ix_text.specs.Bytes.{is_empty};
+ghost use Rattle.ix_script.specs.declared.words.Spot.TheVariants as spot;
+
+use ix_text::begins;
+use memchr::memchr;
+use std::marker::Model;
+
+/// Where in a line a byte stands.
+#[derive(Clone, Copy)]
+pub(crate) enum Spot {
+    /// At the front of a word.
+    Front,
+    /// In a word, outside quotes.
+    Plain,
+    Quoted,
+    /// Inside quotes, after a backslash.
+    Escaped,
+}
+
+impl Spot {
+    /// Where the byte after this one stands.
+    pub fn after(self, b: u8) -> Spot
+        ensures { result ≡ after_byte self b }
+    {
+        match self {
+            Spot::Front => { if b == b'"' { Spot::Quoted } else { Spot::Plain } }
+            Spot::Plain => Spot::Plain,
+            Spot::Quoted => {
+                if b == b'\\' {
+                    Spot::Escaped
+                } else if b == b'"' {
+                    Spot::Plain
+                } else {
+                    Spot::Quoted
+                }
+            }
+            Spot::Escaped => Spot::Quoted,
+        }
+    }
+
+    /// Whether the byte stands between two words.
+    pub fn parts_words(self, b: u8) -> bool
+        ensures { result ≡ parts_words self b }
+    {
+        b == b' ' && !matches!(self, Spot::Quoted | Spot::Escaped)
+    }
+
+    /// Whether the byte closes the quotes that it stands in.
+    pub fn closes(self, b: u8) -> bool
+        ensures { result ≡ closes self b }
+    {
+        matches!(self, Spot::Quoted) && b == b'"'
+    }
+}
+
+/// How many words a line has, and whether one is empty or has an open quote.
+#[derive(Clone, Copy)]
+struct Seen {
+    count: usize,
+    has_empty: bool,
+    has_open: bool,
+}
+
+/// The words of a line. The first eight are kept; of the others it is known how many there are, and whether they are well formed.
+#[derive(Drop)]
+pub(crate) struct Words<'a> {
+    text: &'a [u8],
+    first: [&'a [u8]; 8],
+    seen: Seen,
+}
+
+impl<'a> Model for Words<'a> {
+    ghost use Rattle.std.specs.Prelude.{List, ℕ, map};
+    ghost use Rattle.ix_script.specs.texts.Cutting.{words_of};
+    ghost use Rattle.ix_script.specs.reader.Cut.{AreWords, gap_from};
+
+    ghost Value = { List (List ℕ) };
+
+    ghost view = { λ w. words_of w.text.now };
+
+    ghost invariant = { λ w. AreWords (words_of w.text.now) (map (λ s. s.now) w.first) w.seen.count w.seen.has_empty w.seen.has_open };
+}
+
+/// The place of the first space in a text of any length, many bytes at a time.
+fn far_space(text: &[u8]) -> Option<usize>
+    ensures place { result ≡ gap_from spot.Plain text.now }
+    ensures within { IfSome result (λ k. k + 1 ≤ length text.now) }
+{
+    memchr(b' ', text)
+}
+
+/// The place of the space that ends the first word, where no quotes begin it. Most words are short: a search for many bytes at a
+/// time costs more than they do.
+fn end_of_plain(text: &[u8]) -> Option<usize>
+    ensures pieces { pieces spot.Plain text.now ≡ option_map_or (λ k. take k text.now ∷ pieces spot.Front (drop (k + 1) text.now)) result (text.now ∷ []) }
+    ensures within { IfSome result (λ k. k + 1 ≤ length text.now) }
+{
+    let near = text.len().min(16);
+    'bytes: for i in 0..near {
+        if text[i] == b' ' {
+            return Some(i);
+        }
+    }
+    match far_space(&text[near..]) {
+        Some(far) => Some(near + far),
+        None => None,
+    }
+}
+
+/// The place of the space that ends the first word, where quotes may begin it.
+fn end_of_quoted(text: &[u8]) -> Option<usize>
+    ensures pieces { pieces spot.Front text.now ≡ option_map_or (λ k. take k text.now ∷ pieces spot.Front (drop (k + 1) text.now)) result (text.now ∷ []) }
+    ensures within { IfSome result (λ k. k + 1 ≤ length text.now) }
+{
+    let mut at = Spot::Front;
+    'bytes: for (i, b) in text.iter().enumerate() {
+        if at.parts_words(*b) {
+            return Some(i);
+        }
+        at = at.after(*b);
+    }
+    None
+}
+
+/// The place of the space that ends the first word.
+fn end_of_word(text: &[u8]) -> Option<usize>
+    ensures pieces { pieces spot.Front text.now ≡ option_map_or (λ k. take k text.now ∷ pieces spot.Front (drop (k + 1) text.now)) result (text.now ∷ []) }
+    ensures within { IfSome result (λ k. k + 1 ≤ length text.now) }
+{
+    if begins(b'"', text) {
+        end_of_quoted(text)
+    } else {
+        end_of_plain(text)
+    }
+}
+
+/// The first word, and what stands after the space that ends it.
+fn first_word(text: &[u8]) -> (&[u8], Option<&[u8]>)
+    ensures pieces { pieces spot.Front text.now ≡ result.0.now ∷ option_map_or (λ more. pieces spot.Front more.now) result.1 [] }
+    ensures fewer { IfSome result.1 (λ more. length more.now < length text.now) }
+{
+    match end_of_word(text) {
+        Some(k) => {
+            let (_, more) = text.split_at(k + 1);
+            (&text[..k], Some(more))
+        }
+        None => (text, None),
+    }
+}
+
+/// The text, where it has a byte.
+#[tactic(auto, unfolding(crate::specs::texts::Cutting::words_of))]
+fn if_any(text: &[u8]) -> Option<&[u8]>
+    ensures words { words_of text.now ≡ option_map_or (λ front. pieces spot.Front front.now) result [] }
+    ensures few { length text.now < 2 ^ 64 }
+{
+    if text.len() == 0 { None } else { Some(text) }
+}
+
+/// Whether the quote that closes a word is its last byte.
+fn is_closed(word: &[u8]) -> bool
+    ensures { result ≡ is_closed spot.Front word.now }
+{
+    let mut at = Spot::Front;
+    'bytes: for (i, b) in word.iter().enumerate() {
+        if at.closes(*b) {
+            return i + 1 == word.len();
+        }
+        at = at.after(*b);
+    }
+    false
+}
+
+fn is_open(word: &[u8]) -> bool
+    ensures { result ≡ is_open word.now }
+{
+    begins(b'"', word) && !is_closed(word)
+}
+
+fn is_empty(word: &[u8]) -> bool
+    ensures { result ≡ is_empty word.now }
+{
+    match word {
+        [] => true,
+        [_, ..] => false,
+    }
+}
+
+/// Keeps a word at its place, where there is one for it.
+fn keep<'a>(first: &mut [&'a [u8]; 8], place: usize, word: &'a [u8])
+    ensures { map (λ s. s.now) first.new ≡ (if nat_lt place 8 then set (map (λ s. s.now) first.old) place word.now else map (λ s. s.now) first.old) }
+{
+    if place < 8 {
+        first[place] = word;
+    }
+}
+
+/// Keeps the first eight words of a line, in places that have no bytes yet, and tells of all.
+fn cut_into<'a>(text: &'a [u8], first: &mut [&'a [u8]; 8]) -> Seen
+    requires { map (λ s. s.now) first.old ≡ replicate 8 [] }
+    ensures { AreWords (words_of text.now) (map (λ s. s.now) first.new) result.count result.has_empty result.has_open }
+{
+    let mut count = 0;
+    let mut has_empty = false;
+    let mut has_open = false;
+    let mut rest = if_any(text);
+    'words: while let Some(front) = rest {
+        let (word, more) = first_word(front);
+        keep(first, count, word);
+        count += 1;
+        has_empty |= is_empty(word);
+        has_open |= is_open(word);
+        rest = more;
+    }
+    Seen {
+        count,
+        has_empty,
+        has_open,
+    }
+}
+
+impl<'a> Words<'a> {
+    /// No words yet.
+    pub fn none() -> Words<'a>
+        ensures { result ≡ [] }
+    {
+        Words {
+            text: &[],
+            first: [&[]; 8],
+            seen: Seen {
+                count: 0,
+                has_empty: false,
+                has_open: false,
+            },
+        }
+    }
+
+    /// Cuts a line into its words. They are put in their place, since to hand them out would copy them.
+    pub fn cut(&mut self, text: &'a [u8])
+        ensures { self.new ≡ words_of text.now }
+    {
+        self.first = [&[]; 8];
+        self.seen = cut_into(text, &mut self.first);
+        self.text = text;
+    }
+
+    /// How many words there are.
+    pub fn len(&self) -> usize
+        ensures { result ≡ length self.now }
+    {
+        self.seen.count
+    }
+
+    /// The word at a place from 0; no bytes where there is none.
+    pub fn get(&self, i: usize) -> &'a [u8]
+        requires { i < 8 }
+        ensures { result.now ≡ word_at self.now i }
+    {
+        self.first[i]
+    }
+
+    /// Whether a word is empty: rule 4.
+    pub fn has_empty(&self) -> bool
+        ensures { result ≡ has_empty_word self.now }
+    {
+        self.seen.has_empty
+    }
+
+    /// Whether a quote is not closed: rule 5.
+    pub fn has_open_quote(&self) -> bool
+        ensures { result ≡ has_open_quote self.now }
+    {
+        self.seen.has_open
+    }
+}
