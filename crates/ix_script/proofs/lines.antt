@@ -10,3 +10,4 @@ pub mod Faultless
 pub mod Fitting
 pub mod EachLine
 pub mod ByRole
+pub mod Refusals

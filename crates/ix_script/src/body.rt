@@ -9,7 +9,6 @@ use ix_model::{List, Name, NoMemory};
 use ix_text::is;
 use std::alloc::Global;
 
-/// Whether the word is one of these names.
 pub(crate) fn is_known(word: &[u8], names: &[Name]) -> bool
     ensures { result ≡ is_known word.now names.now }
 {
@@ -19,7 +18,6 @@ pub(crate) fn is_known(word: &[u8], names: &[Name]) -> bool
 /// What the lines so far tell of phases and lanes.
 #[derive(Drop)]
 pub(crate) struct Body<'a> {
-    /// Whether a phase has begun.
     pub started: bool,
     /// The lane in which the next line stands.
     pub lane: Option<&'a [u8]>,
@@ -61,7 +59,6 @@ impl<'a> Body<'a> {
         }
     }
 
-    /// The lanes.
     pub fn into_lanes(self) -> List<Name>
         ensures { result ≡ self.entry.lanes }
     {

@@ -81,7 +81,6 @@ pub(crate) enum Form {
 }
 
 impl Form {
-    /// Whether it is a line of the header.
     pub fn is_header(self) -> bool
         ensures { result ≡ is_header self }
     {
@@ -135,7 +134,6 @@ impl Form {
     }
 }
 
-/// Commands that take a process alone.
 #[tactic(auto, unfolding(crate::specs::lines::Forms::plain_of))]
 fn plain_of(word: &[u8]) -> Option<Plain>
     ensures { result ≡ plain_of word.now }
@@ -153,7 +151,6 @@ fn plain_of(word: &[u8]) -> Option<Plain>
     }
 }
 
-/// Commands that take a process and a path.
 #[tactic(auto, unfolding(crate::specs::lines::Forms::on_path_of))]
 fn on_path_of(word: &[u8]) -> Option<OnPath>
     ensures { result ≡ on_path_of word.now }
@@ -183,7 +180,6 @@ fn on_path_of(word: &[u8]) -> Option<OnPath>
     }
 }
 
-/// Commands that take a process and a descriptor.
 #[tactic(auto, unfolding(crate::specs::lines::Forms::on_fd_of))]
 fn on_fd_of(word: &[u8]) -> Option<OnFd>
     ensures { result ≡ on_fd_of word.now }
@@ -201,7 +197,6 @@ fn on_fd_of(word: &[u8]) -> Option<OnFd>
     }
 }
 
-/// Commands that take a process, a descriptor and a number.
 #[tactic(auto, unfolding(crate::specs::lines::Forms::counted_of))]
 fn counted_of(word: &[u8]) -> Option<Counted>
     ensures { result ≡ counted_of word.now }
@@ -217,10 +212,10 @@ fn counted_of(word: &[u8]) -> Option<Counted>
     }
 }
 
-/// Lines that aren't commands.
-#[tactic(auto, unfolding(crate::specs::lines::Forms::frame_form))]
-fn frame(word: &[u8]) -> Option<Form>
-    ensures { result ≡ frame_form word.now }
+/// The form of a line by its first word.
+#[tactic(auto, unfolding(crate::specs::lines::Forms::form_of, crate::specs::lines::Forms::frame_form, crate::specs::lines::Forms::group_form, crate::specs::lines::Forms::file_form, crate::specs::lines::Forms::process_form))]
+pub(crate) fn form_of(word: &[u8]) -> Option<Form>
+    ensures { result ≡ form_of word.now }
 {
     if is(word, b"limit") {
         Some(Form::Limit)
@@ -236,17 +231,15 @@ fn frame(word: &[u8]) -> Option<Form>
         Some(Form::Phase)
     } else if is(word, b"lane") {
         Some(Form::Lane)
-    } else {
-        None
-    }
-}
-
-/// Commands on descriptors and paths.
-#[tactic(auto, unfolding(crate::specs::lines::Forms::file_form))]
-fn of_files(word: &[u8]) -> Option<Form>
-    ensures { result ≡ file_form word.now }
-{
-    if is(word, b"open") {
+    } else if let Some(command) = plain_of(word) {
+        Some(Form::Plain(command))
+    } else if let Some(command) = on_path_of(word) {
+        Some(Form::OnPath(command))
+    } else if let Some(command) = on_fd_of(word) {
+        Some(Form::OnFd(command))
+    } else if let Some(command) = counted_of(word) {
+        Some(Form::Counted(command))
+    } else if is(word, b"open") {
         Some(Form::Open)
     } else if is(word, b"write") {
         Some(Form::Write)
@@ -264,17 +257,7 @@ fn of_files(word: &[u8]) -> Option<Form>
         Some(Form::Setlabel)
     } else if is(word, b"setpriv") {
         Some(Form::Setpriv)
-    } else {
-        None
-    }
-}
-
-/// Commands on processes.
-#[tactic(auto, unfolding(crate::specs::lines::Forms::process_form))]
-fn of_processes(word: &[u8]) -> Option<Form>
-    ensures { result ≡ process_form word.now }
-{
-    if is(word, b"fork") {
+    } else if is(word, b"fork") {
         Some(Form::Fork)
     } else if is(word, b"exit") {
         Some(Form::Exit)
@@ -295,43 +278,6 @@ fn of_processes(word: &[u8]) -> Option<Form>
     }
 }
 
-/// Commands of the four groups.
-#[tactic(auto, unfolding(crate::specs::lines::Forms::group_form))]
-fn of_groups(word: &[u8]) -> Option<Form>
-    ensures { result ≡ group_form word.now }
-{
-    if let Some(command) = plain_of(word) {
-        return Some(Form::Plain(command));
-    }
-    if let Some(command) = on_path_of(word) {
-        return Some(Form::OnPath(command));
-    }
-    if let Some(command) = on_fd_of(word) {
-        return Some(Form::OnFd(command));
-    }
-    if let Some(command) = counted_of(word) {
-        return Some(Form::Counted(command));
-    }
-    None
-}
-
-/// The form of a line by its first word.
-#[tactic(auto, unfolding(crate::specs::lines::Forms::form_of))]
-pub(crate) fn form_of(word: &[u8]) -> Option<Form>
-    ensures { result ≡ form_of word.now }
-{
-    if let Some(form) = frame(word) {
-        return Some(form);
-    }
-    if let Some(form) = of_groups(word) {
-        return Some(form);
-    }
-    if let Some(form) = of_files(word) {
-        return Some(form);
-    }
-    of_processes(word)
-}
-
 /// What may stand at a place of a line.
 #[derive(Clone, Copy)]
 pub(crate) enum Kind {
@@ -342,18 +288,15 @@ pub(crate) enum Kind {
     NewProc,
     /// The name that stands after `as` for a descriptor.
     NewFd,
-    /// A number from one to another.
     Number(u32, u32),
     /// A number within the bounds of the WHAT before it.
     Bound,
     Label,
     Privs,
     AnyPath,
-    /// An absolute path with a name.
     MadePath,
     Mode,
     State,
-    /// The WHAT of `limit`.
     Limited,
     /// At most so many bytes.
     Payload(u32),
@@ -361,7 +304,6 @@ pub(crate) enum Kind {
     Keep,
 }
 
-/// Any number.
 const ANY: Kind = Kind::Number(0, 4_294_967_295);
 
 /// A number of blocks or inodes.

@@ -22,7 +22,6 @@ pub(crate) struct Taken {
 }
 
 impl Taken {
-    /// Nothing is taken of any file system.
     pub fn new() -> Taken
         ensures counts { (j : ℕ) → slice_index result.counts j ≡ 0 }
         ensures blocks { (j : ℕ) → slice_index result.blocks j ≡ 0 }
@@ -52,16 +51,13 @@ pub(crate) struct Header<'a> {
     /// These, or the one that is there where none is told.
     pub fss: List<FsSpec>,
     pub limits: Limits,
-    /// What lines limited.
     pub whats: List<What>,
     /// The names of processes.
     pub procs: Names<'a>,
-    /// The directories and files.
     pub made: Tree<'a>,
     pub taken: Taken,
     /// The last of the groups of lines so far.
     pub latest: u8,
-    /// Whether there was a policy.
     pub policy: bool,
 }
 
@@ -125,7 +121,6 @@ pub(crate) fn default_fs(form: Form) -> FsSpec
     }
 }
 
-/// The limits of a script that tells none.
 #[tactic(auto, unfolding(crate::specs::lines::Before::default_limits))]
 pub(crate) fn default_limits() -> Limits
     ensures { result ≡ default_limits }
@@ -148,7 +143,6 @@ fn push_fs(alloc: Global, told: usize, fss: &mut List<FsSpec>, fs: FsSpec) -> Re
     fss.push(fs)
 }
 
-/// The file system that a line tells.
 pub(crate) fn fs_spec(line: &Line<'_>) -> Option<FsSpec>
     ensures { fs_told line.now ≡ option_map_or (λ fs. fs ∷ []) result [] }
 {

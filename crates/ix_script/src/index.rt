@@ -17,7 +17,6 @@ pub(crate) struct ByBytes<'a> {
     pub name: &'a [u8],
 }
 
-/// The order of bytes.
 pub(crate) fn order<'x>(a: &'x [u8], b: &'x [u8]) -> Ordering
     ensures { result ≡ slice_cmp nat_cmp a.now b.now }
 {
@@ -92,7 +91,6 @@ fn place_of<'a>(lane: &'a [u8], name: &'a [u8]) -> Place<'a>
 }
 
 impl<'a> Given<'a> {
-    /// No names.
     pub fn new(alloc: Global) -> Given<'a>
         ensures { AreIndexed result.index [] }
     {
@@ -101,7 +99,6 @@ impl<'a> Given<'a> {
         }
     }
 
-    /// Whether the word was given in the lane.
     pub fn has(&self, lane: Option<&'a [u8]>, word: &'a [u8]) -> bool
         ensures { (items : List (List ℕ × List ℕ)) → AreIndexed self.now.index items → result ≡ is_given (option_map (λ s. s.now) lane.entry) word.now items }
     {
@@ -163,7 +160,6 @@ pub(crate) struct Names<'a> {
 }
 
 impl<'a> Names<'a> {
-    /// No names.
     pub fn new(alloc: Global) -> Names<'a>
         ensures names { AreNames result.index [] }
         ensures none { result.count ≡ 0 }
@@ -174,7 +170,6 @@ impl<'a> Names<'a> {
         }
     }
 
-    /// Whether the word is one of the names.
     pub fn has(&self, word: &'a [u8]) -> bool
         ensures { (names : List (List ℕ)) → AreNames self.now.index names → result ≡ is_known word.now names }
     {
@@ -218,7 +213,6 @@ pub(crate) struct Tree<'a> {
 }
 
 impl<'a> Tree<'a> {
-    /// Nothing.
     pub fn new(alloc: Global) -> Tree<'a>
         ensures sites { AreSites result.index [] }
         ensures none { result.count ≡ 0 }
@@ -229,21 +223,18 @@ impl<'a> Tree<'a> {
         }
     }
 
-    /// Whether a directory was made under the names.
     pub fn has_dir(&self, path: &Path<'a>) -> bool
         ensures { (objects : List ObjSpec) → AreSites self.now.index objects → result ≡ dir_there objects (path_of path.now).names }
     {
         self.index.contains(&site_of(path, true))
     }
 
-    /// Whether a file was made under the names.
     fn has_file(&self, path: &Path<'a>) -> bool
         ensures { (objects : List ObjSpec) → AreSites self.now.index objects → result ≡ file_there objects (path_of path.now).names }
     {
         self.index.contains(&site_of(path, false))
     }
 
-    /// Whether something was made under the names.
     pub fn has(&self, path: &Path<'a>) -> bool
         ensures { (objects : List ObjSpec) → AreSites self.now.index objects → result ≡ is_there objects (path_of path.now).names }
     {

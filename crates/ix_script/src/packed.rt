@@ -25,20 +25,14 @@ pub(crate) struct Lines {
     text: Vec<u8>,
     /// Where in it the text of each line ends.
     ends: Vec<u32>,
-    /// What each line is for.
     roles: Vec<Role>,
-    /// What the entries of all lines cost, at the most.
     need: u64,
 }
 
 impl Model for Lines {
-    ghost use Rattle.std.specs.Prelude.{List};
-    ghost use Rattle.std.specs.Coded.{codes};
+    ghost use Rattle.std.specs.{Prelude.{List, ◌≡◌}, Coded.{codes}};
+    ghost use Rattle.ix_script.specs.{lines.Before.{form_told}, scripts.Packed.{AreLines, AreSummed, held}, declared.line.Line.{Line}};
     ghost use Rattle.ix_label.specs.contracts.label.Label as label_type;
-    ghost use Rattle.std.specs.Prelude.{◌≡◌};
-    ghost use Rattle.ix_script.specs.lines.Before.{form_told};
-    ghost use Rattle.ix_script.specs.scripts.Packed.{AreLines, AreSummed, held};
-    ghost use Rattle.ix_script.specs.declared.line.Line.{Line};
 
     ghost Value = { List Line };
 
@@ -81,18 +75,15 @@ pub(crate) fn has_one_spelling(text: &[u8]) -> bool
     !is_skipped(text) && !begins_with_text(b"write", text) && !begins_with_text(b"file", text)
 }
 
-/// How many line feeds there are.
-fn feeds_in(bytes: &[u8]) -> usize
-    ensures { result ≤ length bytes.now }
-{
-    let mut feeds = 0;
+/// How many line feeds there are. The sum can't wrap, and as one that may many bytes are looked at at once.
+fn feeds_in(bytes: &[u8]) -> usize {
+    let mut feeds = 0usize;
     for b in bytes {
-        feeds += usize::from(*b == b'\n');
+        feeds = feeds.wrapping_add(usize::from(*b == b'\n'));
     }
     feeds
 }
 
-/// Where the text of a line begins.
 fn begin(ends: &[u32], i: usize) -> u32
     requires { i < length ends.now }
     ensures { result ≡ begin_at 0 ends.now i }
@@ -103,7 +94,6 @@ fn begin(ends: &[u32], i: usize) -> u32
     }
 }
 
-/// What stands in a text from one place to another.
 fn part(text: &[u8], from: usize, end: usize) -> &[u8]
     requires low { from ≤ end }
     requires high { end ≤ length text.now }
@@ -118,9 +108,9 @@ impl Lines {
         ensures { IfOk result (λ lines. lines ≡ []) }
     {
         let feeds = feeds_in(bytes);
-        let text = Vec::with_capacity(alloc, bytes.len() - feeds)?;
-        let ends = Vec::with_capacity(alloc, feeds + 1)?;
-        let roles = Vec::with_capacity(alloc, feeds + 1)?;
+        let text = Vec::with_capacity(alloc, bytes.len().saturating_sub(feeds))?;
+        let ends = Vec::with_capacity(alloc, feeds.saturating_add(1))?;
+        let roles = Vec::with_capacity(alloc, feeds.saturating_add(1))?;
         Ok(Lines {
             form: LabelForm::One,
             text,
@@ -130,7 +120,6 @@ impl Lines {
         })
     }
 
-    /// How many lines there are.
     pub fn len(&self) -> usize
         ensures { result ≡ length self.now }
     {
@@ -197,7 +186,6 @@ impl Lines {
         }
     }
 
-    /// What the entries of all lines cost, at the most.
     pub fn need(&self) -> u64
         ensures { result ≡ need self.now }
     {

@@ -1,5 +1,5 @@
-ghost use Rattle.std.specs.{Prelude.{◌≡◌, Some, IsSome, is_some}, List.{list_all}};
-ghost use Rattle.ix_script.specs.texts.Words.{may_stand_in_path, is_path_word, made_path_of, names_text};
+ghost use Rattle.std.specs.Prelude.{◌≡◌, Some, IsSome, is_some};
+ghost use Rattle.ix_script.specs.texts.Words.{is_path_word, made_path_of, names_text};
 ghost use Rattle.ix_model.specs.world.Paths.{path_of};
 ghost use Rattle.ix_text.specs.Bytes.{begins};
 ghost use Rattle.ix_script.specs.texts.Words as words;
@@ -7,13 +7,6 @@ ghost use Rattle.ix_script.specs.texts.Words as words;
 use ix_model::Path;
 use ix_text::begins;
 use std::marker::Model;
-
-fn all_in_path(word: &[u8]) -> bool
-    ensures { result ≡ list_all may_stand_in_path word.now }
-{
-    word.iter()
-        .all(|b| *b >= 33 && *b <= 126 && *b != b'"' && *b != b'\\')
-}
 
 /// Whether a word begins with a slash, and the text of its names.
 fn parts(word: &[u8]) -> (bool, &[u8])
@@ -30,14 +23,14 @@ fn parts(word: &[u8]) -> (bool, &[u8])
 pub(crate) fn is_path_word(word: &[u8]) -> bool
     ensures { result ≡ is_path_word word.now }
 {
-    if word.is_empty() || !all_in_path(word) {
+    let may_stand = |b: &u8| *b >= 33 && *b <= 126 && *b != b'"' && *b != b'\\';
+    if word.is_empty() || !word.iter().all(may_stand) {
         return false;
     }
     let (absolute, text) = parts(word);
     Path::read(absolute, text).is_some()
 }
 
-/// Whether a word spells an absolute path with a name.
 #[tactic(auto, unfolding(crate::specs::texts::Words::made_path_of, crate::specs::texts::Words::path_of))]
 pub(crate) fn is_made_path(word: &[u8]) -> bool
     ensures { result ≡ is_some (made_path_of word.now) }
@@ -64,7 +57,6 @@ impl<'a> Model for PathWord<'a> {
 }
 
 impl<'a> PathWord<'a> {
-    /// The path that a word spells.
     #[tactic(auto, unfolding(crate::specs::texts::Words::path_of))]
     pub(crate) fn of(word: &'a [u8]) -> PathWord<'a>
         requires { IsSome (words.path_of word.now) }
@@ -91,8 +83,7 @@ pub struct MadePath<'a> {
 impl<'a> Model for MadePath<'a> {
     ghost use Rattle.std.specs.Prelude.{◌≡◌, Some};
     ghost use Rattle.ix_model.specs.world.Naming.{PathOf};
-    ghost use Rattle.ix_script.specs.texts.Spellings.{path_text};
-    ghost use Rattle.ix_script.specs.texts.Words.{made_path_of};
+    ghost use Rattle.ix_script.specs.{texts.Spellings.{path_text}, texts.Words.{made_path_of}};
 
     ghost Value = { PathOf };
 
@@ -102,7 +93,6 @@ impl<'a> Model for MadePath<'a> {
 }
 
 impl<'a> MadePath<'a> {
-    /// The path that a word spells.
     pub(crate) fn of(word: &'a [u8]) -> MadePath<'a>
         requires { IsSome (made_path_of word.now) }
         ensures { made_path_of word.now ≡ Some result }

@@ -12,7 +12,6 @@ use ix_model::NoMemory;
 use ix_text::{begins, is_digit};
 use std::marker::Model;
 
-/// The value of a hexadecimal digit.
 #[tactic(auto, unfolding(crate::specs::texts::Payloads::digit_of))]
 fn digit(b: u8) -> Option<u8>
     ensures digit { result ≡ digit_of b }
@@ -29,7 +28,6 @@ fn digit(b: u8) -> Option<u8>
     }
 }
 
-/// The byte of two digits.
 #[tactic(auto, unfolding(crate::specs::texts::Payloads::pair_of))]
 pub(crate) fn pair(high: u8, low: u8) -> Option<u8>
     ensures { result ≡ pair_of high low }
@@ -39,7 +37,6 @@ pub(crate) fn pair(high: u8, low: u8) -> Option<u8>
     Some(high * 16 + low)
 }
 
-/// Whether it is a hexadecimal digit.
 #[tactic(auto, unfolding(crate::specs::texts::Payloads::digit_of))]
 pub(crate) fn is_hex_digit(b: u8) -> bool
     ensures { result ≡ is_some (digit_of b) }
@@ -66,7 +63,6 @@ pub(crate) fn known_pair(high: u8, low: u8) -> u8
     known_digit(high) * 16 + known_digit(low)
 }
 
-/// The byte of a text of two digits.
 pub(crate) fn two_digits(text: &[u8]) -> Option<u8>
     ensures { result ≡ two_digits text.now }
 {
@@ -104,7 +100,6 @@ pub(crate) fn escaped(b: u8) -> Option<u8>
 }
 
 impl Escape {
-    /// Whether the byte is the quote that ends the text.
     pub fn ends(self, b: u8) -> bool
         ensures { result ≡ ends self b }
     {
@@ -151,35 +146,6 @@ pub(crate) enum Spelling<'a> {
     Times(u32, u8),
 }
 
-/// The byte of the two digits behind a backslash and an `x`, and the text after them.
-#[tactic(auto, using(crate::proofs::texts::Spelling::no_digits), unfolding(crate::specs::texts::Payloads::quoted_from, crate::specs::texts::Payloads::escape_step))]
-fn first_of_digits(text: &[u8]) -> Option<(u8, &[u8])>
-    ensures { quoted_from escape.High text.now ≡ option_map_or (λ p. after_bytes (p.0 ∷ []) (quoted_from escape.Plain p.1.now)) result None }
-{
-    let [high, low, more @ ..] = text else {
-        return None;
-    };
-    let byte = pair(*high, *low)?;
-    Some((byte, more))
-}
-
-/// The byte that is spelled behind a backslash, and the text after it.
-#[tactic(auto, unfolding(crate::specs::texts::Payloads::quoted_from, crate::specs::texts::Payloads::escape_step))]
-fn first_escaped(text: &[u8]) -> Option<(u8, &[u8])>
-    ensures { quoted_from escape.Begun text.now ≡ option_map_or (λ p. after_bytes (p.0 ∷ []) (quoted_from escape.Plain p.1.now)) result None }
-{
-    match text {
-        [] => None,
-        [b, more @ ..] => {
-            if *b == b'x' {
-                return first_of_digits(more);
-            }
-            let byte = escaped(*b)?;
-            Some((byte, more))
-        }
-    }
-}
-
 /// The first byte that is spelled in quotes, and the text after it.
 #[tactic(auto, unfolding(crate::specs::texts::Payloads::quoted_from, crate::specs::texts::Payloads::escape_step))]
 fn first_of_quoted(text: &[u8]) -> Option<(u8, &[u8])>
@@ -187,16 +153,10 @@ fn first_of_quoted(text: &[u8]) -> Option<(u8, &[u8])>
     ensures { quoted_from escape.Plain text.now ≡ option_map_or (λ p. after_bytes (p.0 ∷ []) (quoted_from escape.Plain p.1.now)) result (Some []) }
 {
     match text {
-        [] => None,
-        [b, more @ ..] => {
-            if *b == b'"' {
-                return None;
-            }
-            if *b == b'\\' {
-                return first_escaped(more);
-            }
-            Some((*b, more))
-        }
+        [] | [b'"', ..] => None,
+        [b'\\', b'x', high, low, more @ ..] => Some((pair(*high, *low)?, more)),
+        [b'\\', b, more @ ..] => Some((escaped(*b)?, more)),
+        [b, more @ ..] => Some((*b, more)),
     }
 }
 
@@ -232,7 +192,6 @@ fn decode_quoted(text: &[u8], count: usize, buf: &mut [u8])
 }
 
 impl<'a> Spelling<'a> {
-    /// Puts the bytes, which are so many, at the front of a buffer.
     pub(crate) fn decode(self, count: usize, buf: &mut [u8])
         requires spelled { spelled_by self ≡ Some (bytes_in self) }
         requires count { count ≡ length (bytes_in self) }
@@ -278,7 +237,6 @@ fn are_digits(text: &[u8]) -> bool
     all
 }
 
-/// What pairs of digits spell.
 fn pairs(text: &[u8]) -> Result<(Spelling<'_>, usize), Rule>
     ensures { (most : ℕ) → Spells most result (pairs_of text.now) }
 {
@@ -375,7 +333,6 @@ pub(crate) fn payload_fault(most: u32, word: &[u8]) -> Option<Rule>
 }
 
 impl<'a, const MOST: u32> Payload<'a, MOST> {
-    /// The bytes of a payload.
     pub(crate) fn of(word: &'a [u8]) -> Payload<'a, MOST>
         requires { IsSome (payload_within MOST word.now) }
         ensures { payload_within MOST word.now ≡ Some result }

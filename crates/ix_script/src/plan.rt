@@ -125,7 +125,6 @@ impl Plan {
         }
     }
 
-    /// What all lines tell.
     fn of(alloc: Global, lines: &Lines) -> Result<Plan, NoMemory>
         ensures { IfOk result (λ p. IsPlan p lines.now) }
     {

@@ -26,7 +26,6 @@ fn first_line(bytes: &[u8]) -> (&[u8], &[u8])
     }
 }
 
-/// Whether each byte is printable or a line feed.
 fn all_printable_lines(bytes: &[u8]) -> bool
     ensures { result ≡ list_all in_printable_lines bytes.now }
 {
@@ -67,7 +66,6 @@ fn draft_of<'a, L: Ledger>(
     Ok(draft)
 }
 
-/// The fault of line 1.
 fn first_line_breaks(rule: Rule) -> ReadFail
     ensures { HasCause result (Some (1, rule.0)) }
 {

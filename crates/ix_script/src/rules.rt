@@ -1,12 +1,12 @@
-ghost use Rattle.std.specs.{Prelude.{◌≡◌, Some, None, [], true, IsTrue, map, ◌<◌, ◌&&◌, ◌||◌, not, length}, List.{list_all, list_any}};
+ghost use Rattle.std.specs.{Prelude.{◌≡◌, Some, None, [], true, IsTrue, map, ◌<◌, ◌&&◌, ◌||◌, length}, List.{list_all, list_any}};
 ghost use Rattle.ix_script.specs.lines.Before.{form_told, is_known, fss_told, whats_told, what_text, proc_names, fss_of, objects_of};
 ghost use Rattle.ix_script.specs.lines.Faults.{text_fault, words_fault, stand_fault, names_fault, said_fault, form_fault, command_fault, policy_fault, first_line_fault, body_fault};
-ghost use Rattle.ix_script.specs.lines.Rules.{is_outside, is_given_twice, is_unknown, names_unknown, is_above, object_is_misplaced, is_misplaced, object_exceeds_limits, exceeds_limits, is_out_of_order, is_one_too_many, lacks_policy};
-ghost use Rattle.ix_script.specs.{lines.Said.{version_of, line_of}, reader.Readers.{Finds, Tells, TellsForm, is_whole}, reader.Told.{DraftTold}};
+ghost use Rattle.ix_script.specs.lines.Rules.{is_outside, is_given_twice, is_unknown, names_unknown, object_above, object_is_misplaced, object_exceeds_limits, is_out_of_order, is_one_too_many, lacks_policy};
+ghost use Rattle.ix_script.specs.{lines.Said.{version_of, line_of}, reader.Readers.{Finds, object_fault, Tells, TellsForm, is_whole}, reader.Told.{DraftTold}};
 ghost use Rattle.ix_script.specs.texts.Cutting.{is_skipped, is_policy_line, policy_text};
 ghost use Rattle.ix_label.specs.{Category.{leq}, declared.form.Form.TheVariants.{One}};
 ghost use Rattle.ix_model.specs.{declared.config.ObjSpec.{ObjSpec}, opening.Valid.{is_within, fs_of, is_mount, is_taken, has_directory}};
-ghost use Rattle.ix_model.specs.{world.Naming.{same_bytes, same_names}, world.Paths.{path_of}, world.World.{fs_at}};
+ghost use Rattle.ix_model.specs.{world.Naming.{same_bytes, same_names}, world.Paths.{path_of}};
 ghost use Rattle.ix_script.specs.declared.line.Line.TheVariants as line;
 ghost use Rattle.ix_script.specs.lines.Kinds as kind;
 
@@ -112,12 +112,16 @@ fn first_line(text: &[u8]) -> Result<Line<'_>, Rule>
 }
 
 impl<'a> Draft<'a> {
-    /// Rules 8 to 10.
-    #[tactic(auto, unfolding(crate::specs::lines::Faults::stand_fault))]
-    fn check_stand(&self, form: Form, words: &Words<'a>) -> Result<(), Rule>
+    /// The form of a line that is cut into words; `Err` with the least of the rules 4 to 21 that it breaks.
+    #[tactic(auto, unfolding(crate::specs::lines::Faults::command_fault, crate::specs::lines::Faults::form_fault, crate::specs::lines::Faults::stand_fault, crate::specs::lines::Faults::names_fault))]
+    pub fn form_by_words(&self, words: &Words<'a>) -> Result<Form, Rule>
         requires told { DraftTold self.now }
-        ensures { Finds result (stand_fault self.now.lines form words.now) }
+        ensures { TellsForm self.now.lines result words.now }
     {
+        check_words(words)?;
+        let Some(form) = form_of(words.get(0)) else {
+            return Err(Rule::UNKNOWN_COMMAND);
+        };
         if form.is_header() && self.body.started {
             return Err(Rule::LATE_HEADER);
         }
@@ -127,40 +131,39 @@ impl<'a> Draft<'a> {
         if !form.has_right_count(words) {
             return Err(Rule::WORD_COUNT);
         }
-        Ok(())
-    }
-
-    /// Rules 20 and 21.
-    #[tactic(auto, unfolding(crate::specs::lines::Faults::names_fault))]
-    fn check_names(&self, form: Form, words: &Words<'a>) -> Result<(), Rule>
-        requires told { DraftTold self.now }
-        ensures { Finds result (names_fault self.now.lines form words.now) }
-    {
+        if let Some(rule) = places_fault(self.lines.form(), form, words) {
+            return Err(rule);
+        }
         if self.gives_twice(form, words) {
             return Err(Rule::GIVEN_TWICE);
         }
         if self.is_unknown(form, words) {
             return Err(Rule::UNKNOWN_NAME);
         }
-        Ok(())
+        Ok(form)
     }
 
-    /// The form of a line that is cut into words; `Err` with the least of the rules 4 to 21 that it breaks.
-    #[tactic(auto, unfolding(crate::specs::lines::Faults::command_fault, crate::specs::lines::Faults::form_fault))]
-    pub fn form_by_words(&self, words: &Words<'a>) -> Result<Form, Rule>
+    /// Rules 22 to 24 on a directory, or on a file of so many bytes: `Err` with the least of these that it breaks.
+    fn check_object<L: Ledger>(
+        &self,
+        path: &MadePath<'a>,
+        label: &LabelWord<'a>,
+        len: usize,
+        steps: &mut Steps<L>,
+    ) -> Result<(), Rule>
         requires told { DraftTold self.now }
-        ensures { TellsForm self.now.lines result words.now }
+        ensures { (o : ObjSpec) → o.path ≡ path.now → o.label ≡ label.now → length o.bytes ≡ len → Finds result (object_fault self.now.lines o) }
     {
-        check_words(words)?;
-        let Some(form) = form_of(words.get(0)) else {
-            return Err(Rule::UNKNOWN_COMMAND);
-        };
-        self.check_stand(form, words)?;
-        if let Some(rule) = places_fault(self.lines.form(), form, words) {
-            return Err(rule);
+        if self.is_above(path, label, steps) {
+            return Err(Rule::ABOVE_CEILING);
         }
-        self.check_names(form, words)?;
-        Ok(form)
+        if self.is_misplaced(&path.path()) {
+            return Err(Rule::MISFIT);
+        }
+        if self.lacks_room(path, len) {
+            return Err(Rule::NO_ROOM);
+        }
+        Ok(())
     }
 
     /// Rules 22 to 26, and 28: `Err` with the least of these that the line breaks.
@@ -169,25 +172,36 @@ impl<'a> Draft<'a> {
         requires told { DraftTold self.now }
         ensures { Finds result (said_fault self.now.lines line.now) }
     {
-        if self.is_above(line, steps) {
-            return Err(Rule::ABOVE_CEILING);
+        match line {
+            Line::Proc { label, ceiling, .. } => {
+                if !label.label().leq(&ceiling.label(), steps) {
+                    return Err(Rule::ABOVE_CEILING);
+                }
+                if self.header.procs.count >= self.header.limits.procs as usize {
+                    return Err(Rule::NO_ROOM);
+                }
+                Ok(())
+            }
+            Line::Dir { path, label, .. } => self.check_object(path, label, 0, steps),
+            Line::File {
+                path,
+                label,
+                bytes,
+                ..
+            } => self.check_object(path, label, bytes.len(), steps),
+            _ => {
+                if self.is_out_of_order(line) {
+                    return Err(Rule::OUT_OF_ORDER);
+                }
+                if self.is_one_too_many(line) {
+                    return Err(Rule::TOO_MANY);
+                }
+                if self.lacks_policy(line) {
+                    return Err(Rule::NO_POLICY);
+                }
+                Ok(())
+            }
         }
-        if self.is_misplaced(line) {
-            return Err(Rule::MISFIT);
-        }
-        if self.exceeds_limits(line) {
-            return Err(Rule::NO_ROOM);
-        }
-        if self.is_out_of_order(line) {
-            return Err(Rule::OUT_OF_ORDER);
-        }
-        if self.is_one_too_many(line) {
-            return Err(Rule::TOO_MANY);
-        }
-        if self.lacks_policy(line) {
-            return Err(Rule::NO_POLICY);
-        }
-        Ok(())
     }
 
     /// The policy: it stands in the header, has a text, and stands once.
@@ -234,7 +248,6 @@ fn is_named(word: &[u8], fss: &[FsSpec]) -> bool
     fss.iter().any(|fs| is(word, fs.name.as_bytes()))
 }
 
-/// What a `limit` line limits.
 fn what_word(what: What) -> &'static [u8]
     ensures { result.now ≡ what_text what }
 {
@@ -350,20 +363,6 @@ impl<'a> Draft<'a> {
     }
 }
 
-/// Whether a label is above the ceiling of the file system that the path leads to.
-fn is_above_fs<L: Ledger>(
-    fss: &[FsSpec],
-    path: &MadePath<'_>,
-    label: &LabelWord<'_>,
-    steps: &mut Steps<L>,
-) -> bool
-    requires { 0 < length fss.now }
-    ensures { result ≡ not (leq label.now (fs_at fss.now (fs_of fss.now path.now.names)).ceiling) }
-{
-    let k = fs_of(fss, &path.path());
-    !label.label().leq(&fss[k].ceiling, steps)
-}
-
 /// Rules 22 to 26, and 28: what fits the lines before, which the draft has seen.
 impl<'a> Draft<'a> {
     fn is_taken(&self, path: &Path<'a>) -> bool
@@ -388,7 +387,22 @@ impl<'a> Draft<'a> {
         path.len() == 0 || self.is_further_dir(path)
     }
 
-    fn is_misplaced_in_tree(&self, path: &Path<'a>) -> bool
+    /// Whether a label is above the ceiling of the file system that the path leads to.
+    fn is_above<L: Ledger>(
+        &self,
+        path: &MadePath<'a>,
+        label: &LabelWord<'a>,
+        steps: &mut Steps<L>,
+    ) -> bool
+        requires told { DraftTold self.now }
+        ensures { (o : ObjSpec) → o.path ≡ path.now → o.label ≡ label.now → result ≡ object_above self.now.lines o }
+    {
+        let fss = self.header.fss.as_slice();
+        let k = fs_of(fss, &path.path());
+        !label.label().leq(&fss[k].ceiling, steps)
+    }
+
+    fn is_misplaced(&self, path: &Path<'a>) -> bool
         requires told { DraftTold self.now }
         ensures { (o : ObjSpec) → o.path ≡ path_of path.now → result ≡ object_is_misplaced self.now.lines o }
     {
@@ -407,45 +421,6 @@ impl<'a> Draft<'a> {
         names > self.header.limits.names as usize
             || inodes > fss[k].inodes as usize
             || blocks > fss[k].blocks as usize
-    }
-
-    /// Whether a label is not below its ceiling: rule 22.
-    pub fn is_above<L: Ledger>(&self, line: &Line<'a>, steps: &mut Steps<L>) -> bool
-        requires told { DraftTold self.now }
-        ensures { result ≡ is_above self.now.lines line.now }
-    {
-        let fss = self.header.fss.as_slice();
-        match line {
-            Line::Proc { label, ceiling, .. } => !label.label().leq(&ceiling.label(), steps),
-            Line::Dir { path, label, .. } => is_above_fs(fss, path, label, steps),
-            Line::File { path, label, .. } => is_above_fs(fss, path, label, steps),
-            _ => false,
-        }
-    }
-
-    /// Whether a path does not fit the tree: rule 23.
-    pub fn is_misplaced(&self, line: &Line<'a>) -> bool
-        requires told { DraftTold self.now }
-        ensures { result ≡ is_misplaced self.now.lines line.now }
-    {
-        match line {
-            Line::Dir { path, .. } => self.is_misplaced_in_tree(&path.path()),
-            Line::File { path, .. } => self.is_misplaced_in_tree(&path.path()),
-            _ => false,
-        }
-    }
-
-    /// Whether there is no room for a process, an inode, a name or blocks: rule 24.
-    pub fn exceeds_limits(&self, line: &Line<'a>) -> bool
-        requires told { DraftTold self.now }
-        ensures { result ≡ exceeds_limits self.now.lines line.now }
-    {
-        match line {
-            Line::Proc { .. } => self.header.procs.count >= self.header.limits.procs as usize,
-            Line::Dir { path, .. } => self.lacks_room(path, 0),
-            Line::File { path, bytes, .. } => self.lacks_room(path, bytes.len()),
-            _ => false,
-        }
     }
 
     /// Whether a header line is out of order: rule 25.

@@ -24,11 +24,9 @@ pub struct Script {
 }
 
 impl Model for Script {
-    ghost use Rattle.std.specs.Prelude.{List};
-    ghost use Rattle.std.specs.Coded.{codes};
+    ghost use Rattle.std.specs.{Prelude.{List}, Coded.{codes}};
+    ghost use Rattle.ix_script.specs.{scripts.Held.{IsSchedule, IsScript}, declared.line.Line.{Line}};
     ghost use Rattle.ix_label.specs.contracts.label.Label as label_type;
-    ghost use Rattle.ix_script.specs.scripts.Held.{IsSchedule, IsScript};
-    ghost use Rattle.ix_script.specs.declared.line.Line.{Line};
 
     ghost Value = { List Line };
 

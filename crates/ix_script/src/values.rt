@@ -1,4 +1,4 @@
-ghost use Rattle.std.specs.{Prelude.{◌≡◌, ◌≤◌, ◌+◌, ◌==◌, Some, IsSome, length, position, take, IfSome, ◌<◌, [], ◌∷◌, MatchOption}, List.{list_all}};
+ghost use Rattle.std.specs.Prelude.{◌≡◌, ◌≤◌, ◌+◌, ◌==◌, Some, IsSome, length, position, take, IfSome, ◌<◌, [], ◌∷◌, MatchOption};
 ghost use Rattle.ix_script.specs.{lines.Kinds.{bounds}, lines.Said.{name_after, two_names_after}, reader.Readers.{IsFault}};
 ghost use Rattle.ix_script.specs.{texts.Cutting.{policy_text, word_at}, texts.Words.{mode_of, state_of, what_of, is_numeral, value, number_of, fd_of, keep_of}};
 ghost use Rattle.ix_model.specs.world.Naming.{same_bytes};
@@ -21,7 +21,6 @@ pub(crate) fn begins_with_text(text: &[u8], word: &[u8]) -> bool
     is(&word[..word.len().min(text.len())], text)
 }
 
-/// The place of the first such byte.
 pub(crate) fn place_of(byte: u8, text: &[u8]) -> Option<usize>
     ensures place { result ≡ position (λ b. b == byte) text.now }
     ensures within { IfSome result (λ k. k + 1 ≤ length text.now) }
@@ -36,12 +35,6 @@ pub(crate) fn begins_with_digit(word: &[u8]) -> bool
         [] => false,
         [b, ..] => is_digit(*b),
     }
-}
-
-pub(crate) fn all_digits(word: &[u8]) -> bool
-    ensures { result ≡ list_all is_digit word.now }
-{
-    word.iter().all(|b| is_digit(*b))
 }
 
 /// The name of a file system, a process, a lane or a descriptor, as a word of a script. It borrows the word, and contracts see
@@ -63,7 +56,6 @@ impl<'a> Model for NameWord<'a> {
 }
 
 impl<'a> NameWord<'a> {
-    /// The name that a word is.
     #[tactic(auto, unfolding(ix_text::specs::Names::name_of))]
     pub(crate) fn of(word: &'a [u8]) -> NameWord<'a>
         requires { IsSome (name_of word.now) }
@@ -95,48 +87,36 @@ impl<'a> NameWord<'a> {
 pub(crate) fn mode_of(word: &[u8]) -> Option<Mode>
     ensures { result ≡ mode_of word.now }
 {
-    if is(word, b"r") {
-        Some(Mode::Read)
-    } else if is(word, b"w") {
-        Some(Mode::Write)
-    } else if is(word, b"rw") {
-        Some(Mode::Both)
-    } else {
-        None
+    match word {
+        b"r" => Some(Mode::Read),
+        b"w" => Some(Mode::Write),
+        b"rw" => Some(Mode::Both),
+        _ => None,
     }
 }
 
-/// Whether a state is frozen.
 #[tactic(auto, unfolding(crate::specs::texts::Words::state_of))]
 pub(crate) fn state_of(word: &[u8]) -> Option<bool>
     ensures { result ≡ state_of word.now }
 {
-    if is(word, b"free") {
-        Some(false)
-    } else if is(word, b"frozen") {
-        Some(true)
-    } else {
-        None
+    match word {
+        b"free" => Some(false),
+        b"frozen" => Some(true),
+        _ => None,
     }
 }
 
-/// What a `limit` line limits.
 #[tactic(auto, unfolding(crate::specs::texts::Words::what_of))]
 pub(crate) fn what_of(word: &[u8]) -> Option<What>
     ensures { result ≡ what_of word.now }
 {
-    if is(word, b"procs") {
-        Some(What::Procs)
-    } else if is(word, b"opens") {
-        Some(What::Opens)
-    } else if is(word, b"pipes") {
-        Some(What::Pipes)
-    } else if is(word, b"names") {
-        Some(What::Names)
-    } else if is(word, b"log") {
-        Some(What::Log)
-    } else {
-        None
+    match word {
+        b"procs" => Some(What::Procs),
+        b"opens" => Some(What::Opens),
+        b"pipes" => Some(What::Pipes),
+        b"names" => Some(What::Names),
+        b"log" => Some(What::Log),
+        _ => None,
     }
 }
 
@@ -144,7 +124,9 @@ pub(crate) fn what_of(word: &[u8]) -> Option<What>
 pub(crate) fn is_numeral(word: &[u8]) -> bool
     ensures { result ≡ is_numeral word.now }
 {
-    begins_with_digit(word) && all_digits(word) && (word.len() == 1 || !begins(b'0', word))
+    begins_with_digit(word)
+        && word.iter().all(|b| is_digit(*b))
+        && (word.len() == 1 || !begins(b'0', word))
 }
 
 /// The number of these digits; `None` exactly where it is above 4,294,967,295.
@@ -176,7 +158,6 @@ pub(crate) fn number_fault(low: u32, high: u32, word: &[u8]) -> Option<Rule>
     }
 }
 
-/// A decimal number without leading zeros, within bounds.
 #[tactic(auto, unfolding(crate::specs::texts::Words::number_of))]
 pub(crate) fn number(low: u32, high: u32, word: &[u8]) -> u32
     requires { IsSome (number_of low high word.now) }
@@ -227,7 +208,6 @@ pub(crate) fn keep_fault(word: &[u8]) -> Option<Rule>
     }
 }
 
-/// A number up to 255, or a name.
 #[tactic(auto, unfolding(crate::specs::texts::Words::fd_of))]
 pub(crate) fn fd(word: &[u8]) -> FdWord<'_>
     requires { IsSome (fd_of word.now) }
@@ -240,7 +220,6 @@ pub(crate) fn fd(word: &[u8]) -> FdWord<'_>
     }
 }
 
-/// `all`, `none`, or a descriptor.
 #[tactic(auto, unfolding(crate::specs::texts::Words::keep_of))]
 pub(crate) fn keep(word: &[u8]) -> KeepWord<'_>
     requires { IsSome (keep_of word.now) }
@@ -264,10 +243,10 @@ pub struct LabelWord<'a> {
 
 impl<'a> Model for LabelWord<'a> {
     ghost use Rattle.std.specs.Prelude.{◌≡◌, Some};
-    ghost use Rattle.ix_label.specs.contracts.label.Label as label_type;
     ghost use Rattle.ix_label.specs.Category.{Categories};
     ghost use Rattle.ix_text.specs.Labels.{label_in};
     ghost use Rattle.ix_script.specs.texts.Words.{spelled_label};
+    ghost use Rattle.ix_label.specs.contracts.label.Label as label_type;
 
     ghost Value = { Categories };
 
@@ -279,7 +258,6 @@ impl<'a> Model for LabelWord<'a> {
 }
 
 impl<'a> LabelWord<'a> {
-    /// The label of a word in the form.
     pub(crate) fn of(form: Form, word: &'a [u8]) -> LabelWord<'a>
         requires { IsSome (label_in form word.now) }
         ensures { label_in form word.now ≡ Some result }
@@ -330,7 +308,6 @@ impl<'a> PolicyText<'a> {
 
 /// What stands at some places, counted from 0, with the command's word at 0, where the words break no rule there.
 impl<'a> Words<'a> {
-    /// The number of a `limit` line.
     pub fn bound(&self) -> u32
         requires { IsSome (number_of (bounds (word_at self.now 1)).0 (bounds (word_at self.now 1)).1 (word_at self.now 2)) }
         ensures { number_of (bounds (word_at self.now 1)).0 (bounds (word_at self.now 1)).1 (word_at self.now 2) ≡ Some result }

@@ -22,7 +22,6 @@ pub(crate) enum Spot {
 }
 
 impl Spot {
-    /// Where the byte after this one stands.
     pub fn after(self, b: u8) -> Spot
         ensures { result ≡ after_byte self b }
     {
@@ -42,7 +41,6 @@ impl Spot {
         }
     }
 
-    /// Whether the byte stands between two words.
     pub fn parts_words(self, b: u8) -> bool
         ensures { result ≡ parts_words self b }
     {
@@ -75,8 +73,7 @@ pub(crate) struct Words<'a> {
 
 impl<'a> Model for Words<'a> {
     ghost use Rattle.std.specs.Prelude.{List, ℕ, map};
-    ghost use Rattle.ix_script.specs.texts.Cutting.{words_of};
-    ghost use Rattle.ix_script.specs.reader.Cut.{AreWords, gap_from};
+    ghost use Rattle.ix_script.specs.{texts.Cutting.{words_of}, reader.Cut.{AreWords, gap_from}};
 
     ghost Value = { List (List ℕ) };
 
@@ -90,7 +87,10 @@ fn far_space(text: &[u8]) -> Option<usize>
     ensures place { result ≡ gap_from spot.Plain text.now }
     ensures within { IfSome result (λ k. k + 1 ≤ length text.now) }
 {
-    memchr(b' ', text)
+    match text {
+        [] => None,
+        _ => memchr(b' ', text),
+    }
 }
 
 /// The place of the space that ends the first word, where no quotes begin it. Most words are short: a search for many bytes at a
@@ -126,7 +126,6 @@ fn end_of_quoted(text: &[u8]) -> Option<usize>
     None
 }
 
-/// The place of the space that ends the first word.
 fn end_of_word(text: &[u8]) -> Option<usize>
     ensures pieces { pieces spot.Front text.now ≡ option_map_or (λ k. take k text.now ∷ pieces spot.Front (drop (k + 1) text.now)) result (text.now ∷ []) }
     ensures within { IfSome result (λ k. k + 1 ≤ length text.now) }
@@ -152,7 +151,6 @@ fn first_word(text: &[u8]) -> (&[u8], Option<&[u8]>)
     }
 }
 
-/// The text, where it has a byte.
 #[tactic(auto, unfolding(crate::specs::texts::Cutting::words_of))]
 fn if_any(text: &[u8]) -> Option<&[u8]>
     ensures words { words_of text.now ≡ option_map_or (λ front. pieces spot.Front front.now) result [] }
@@ -224,7 +222,6 @@ fn cut_into<'a>(text: &'a [u8], first: &mut [&'a [u8]; 8]) -> Seen
 }
 
 impl<'a> Words<'a> {
-    /// No words yet.
     pub fn none() -> Words<'a>
         ensures { result ≡ [] }
     {
@@ -248,7 +245,6 @@ impl<'a> Words<'a> {
         self.text = text;
     }
 
-    /// How many words there are.
     pub fn len(&self) -> usize
         ensures { result ≡ length self.now }
     {

@@ -17,7 +17,6 @@ use ix_model::NoMemory;
 use ix_text::hex_pair;
 use std::alloc::Global;
 
-/// Bytes at the end.
 pub(crate) fn push(out: &mut Vec<u8>, bytes: &[u8]) -> Result<(), NoMemory>
     ensures { OnOk result (out.new.items ≡ out.old.items ++ bytes.now) }
 {
@@ -27,7 +26,6 @@ pub(crate) fn push(out: &mut Vec<u8>, bytes: &[u8]) -> Result<(), NoMemory>
     }
 }
 
-/// A byte at the end.
 pub(crate) fn push_byte(out: &mut Vec<u8>, byte: u8) -> Result<(), NoMemory>
     ensures { OnOk result (out.new.items ≡ out.old.items ++ byte ∷ []) }
 {
@@ -37,7 +35,6 @@ pub(crate) fn push_byte(out: &mut Vec<u8>, byte: u8) -> Result<(), NoMemory>
     }
 }
 
-/// `x` and pairs of digits.
 fn pairs(out: &mut Vec<u8>, bytes: &[u8]) -> Result<(), NoMemory>
     ensures { OnOk result (out.new.items ≡ out.old.items ++ pairs_text bytes.now) }
 {
@@ -48,7 +45,6 @@ fn pairs(out: &mut Vec<u8>, bytes: &[u8]) -> Result<(), NoMemory>
     Ok(())
 }
 
-/// n*HH.
 fn times(out: &mut Vec<u8>, n: usize, byte: u8) -> Result<(), NoMemory>
     ensures { OnOk result (out.new.items ≡ out.old.items ++ times_text n byte) }
 {
@@ -58,14 +54,12 @@ fn times(out: &mut Vec<u8>, n: usize, byte: u8) -> Result<(), NoMemory>
     push(out, &hex_pair(byte))
 }
 
-/// Whether a byte stands in quotes as it is.
 fn stands_quoted(byte: u8) -> bool
     ensures { result ≡ stands_quoted byte }
 {
     (b' '..=b'~').contains(&byte) && byte != b'"' && byte != b'\\'
 }
 
-/// A byte in quotes.
 #[tactic(auto, unfolding(crate::specs::texts::Spellings::quoted_byte))]
 fn quoted_byte(out: &mut Vec<u8>, byte: u8) -> Result<(), NoMemory>
     ensures { OnOk result (out.new.items ≡ out.old.items ++ quoted_byte byte) }
@@ -83,7 +77,6 @@ fn quoted_byte(out: &mut Vec<u8>, byte: u8) -> Result<(), NoMemory>
     push(out, &hex_pair(byte))
 }
 
-/// The bytes in quotes.
 fn quoted(out: &mut Vec<u8>, bytes: &[u8]) -> Result<(), NoMemory>
     ensures { OnOk result (out.new.items ≡ out.old.items ++ quoted_text bytes.now) }
 {
@@ -109,7 +102,6 @@ fn quoted_byte_len(byte: u8) -> u8
     4
 }
 
-/// How many bytes they take in quotes.
 fn quoted_len(bytes: &[u8]) -> u128
     ensures { result ≡ length (quoted_text bytes.now) }
 {
@@ -120,19 +112,11 @@ fn quoted_len(bytes: &[u8]) -> u128
     len
 }
 
-/// How many bytes n*HH takes.
 fn times_len(n: usize, byte: u8) -> u128
     ensures { result ≡ length (times_text n byte) }
 {
     let mut digits = Buffer::new();
     digits.format(n).len() as u128 + 3
-}
-
-/// Whether each is that byte.
-fn are_all(byte: u8, bytes: &[u8]) -> bool
-    ensures { result ≡ list_all (λ c. c == byte) bytes.now }
-{
-    bytes.iter().all(|b| *b == byte)
 }
 
 /// The byte that these are over and over; `None` also where there is none.
@@ -143,7 +127,7 @@ fn repeated(bytes: &[u8]) -> Option<u8>
     match bytes {
         [] => None,
         [first, rest @ ..] => {
-            if are_all(*first, rest) {
+            if rest.iter().all(|b| b == first) {
                 return Some(*first);
             }
             None
@@ -292,7 +276,6 @@ fn write_ended(
     push_byte(out, b'\n')
 }
 
-/// The canonical text of lines.
 fn write_lines(out: &mut Vec<u8>, buffer: &mut Vec<u8>, lines: &Lines) -> Result<(), NoMemory>
     ensures { OnOk result (out.new.items ≡ out.old.items ++ canonical lines.now) }
 {

@@ -14,6 +14,8 @@ use Rattle.std.proofs.Common.{option_map}
 use Rattle.ix_script.specs.lines.Kinds.{Place, places_fault}
 use Rattle.ix_script.specs.lines.Before.{form_told}
 use Rattle.ix_script.specs.lines.Faults.{said_fault, command_fault, line_fault}
+use Rattle.ix_script.specs.lines.Rules.{first_of, object_above, object_is_misplaced, object_exceeds_limits}
+use Rattle.ix_model.specs.declared.config.ObjSpec.{ObjSpec}
 use Rattle.ix_script.specs.lines.Said.{line_of}
 use Rattle.ix_script.specs.declared.fail.ReadFail.{ReadFail}
 use Rattle.ix_script.specs.declared.fail.ReadFail.TheVariants as fail
@@ -46,6 +48,10 @@ pub record FormRight (before : List Line) (f : Form) (words : List (List ℕ)) :
   pub first : form_of (word_at words 0) ≡ Some f
   pub faultless : places_fault (places (form_told before) f words) ≡ None
   pub fault : command_fault before words ≡ option_map_or (said_fault before) (said (form_told before) f words) None
+
+-- the first of the rules on what a line says that the object of a line breaks: other rules speak of other lines
+abbrev pub object_fault : List Line → ObjSpec → Option ℕ
+object_fault before o = first_of ((22, object_above before o) ∷ (23, object_is_misplaced before o) ∷ (24, object_exceeds_limits before o) ∷ [])
 
 abbrev pub TellsForm : List Line → Result Form Rule → List (List ℕ) → Type 0
 TellsForm before (Ok f) words = FormRight before f words

@@ -1,0 +1,33 @@
+use Rattle.std.proofs.Common.{◌∙◌, refl, sym}
+use Rattle.ix_script.specs.lines.Before.{dir_spec, file_spec}
+use Rattle.ix_script.specs.lines.Faults.{said_fault}
+use Rattle.ix_script.proofs.lines.Refusals.{broken, kept, other_said}
+use Rattle.ix_script.proofs.draft.Draft.check_said.Goals as goal
+
+pub returns-in-Dir : goal.returns-in-Dir
+unfolding said_fault
+returns-in-Dir g c = rw c.in-Dir.is (c.check_object.ensures (dir_spec c.in-Dir.path c.in-Dir.label c.in-Dir.frozen) refl refl refl)
+
+pub returns-in-File : goal.returns-in-File
+unfolding said_fault
+returns-in-File g c =
+    rw c.in-File.is (c.check_object-in-File.ensures (file_spec c.in-File.path c.in-File.label c.in-File.frozen c.in-File.cap c.in-File.lic c.in-File.bytes) refl refl (sym c.len.ensures.len))
+
+pub returns-then-is_out_of_order : goal.returns-then-is_out_of_order
+returns-then-is_out_of_order g c =
+    other_said _ _ c.in_default.not-Proc c.in_default.not-Dir c.in_default.not-File ∙ broken 25 _ _ (sym c.is_out_of_order.ensures ∙ c.if-is_out_of_order.true)
+
+pub returns-then-is_one_too_many : goal.returns-then-is_one_too_many
+returns-then-is_one_too_many g c =
+    other_said _ _ c.in_default.not-Proc c.in_default.not-Dir c.in_default.not-File ∙ kept 25 _ _ (sym c.is_out_of_order.ensures ∙ c.if-is_out_of_order.false)
+    ∙ broken 26 _ _ (sym c.is_one_too_many.ensures ∙ c.if-is_one_too_many.true)
+
+pub returns-then-lacks_policy : goal.returns-then-lacks_policy
+returns-then-lacks_policy g c =
+    other_said _ _ c.in_default.not-Proc c.in_default.not-Dir c.in_default.not-File ∙ kept 25 _ _ (sym c.is_out_of_order.ensures ∙ c.if-is_out_of_order.false)
+    ∙ kept 26 _ _ (sym c.is_one_too_many.ensures ∙ c.if-is_one_too_many.false) ∙ broken 28 _ _ (sym c.lacks_policy.ensures ∙ c.if-lacks_policy.true)
+
+pub returns-else-lacks_policy : goal.returns-else-lacks_policy
+returns-else-lacks_policy g c =
+    other_said _ _ c.in_default.not-Proc c.in_default.not-Dir c.in_default.not-File ∙ kept 25 _ _ (sym c.is_out_of_order.ensures ∙ c.if-is_out_of_order.false)
+    ∙ kept 26 _ _ (sym c.is_one_too_many.ensures ∙ c.if-is_one_too_many.false) ∙ kept 28 _ _ (sym c.lacks_policy.ensures ∙ c.if-lacks_policy.false)
