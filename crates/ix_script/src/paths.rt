@@ -1,5 +1,5 @@
-ghost use Rattle.std.specs.Prelude.{◌≡◌, Some, IsSome, is_some};
-ghost use Rattle.ix_script.specs.texts.Words.{is_path_word, made_path_of, names_text};
+ghost use Rattle.std.specs.{Prelude.{◌≡◌, Some, IsSome, is_some}, List.{list_all}};
+ghost use Rattle.ix_script.specs.texts.Words.{may_stand_in_path, is_path_word, made_path_of, names_text};
 ghost use Rattle.ix_model.specs.world.Paths.{path_of};
 ghost use Rattle.ix_text.specs.Bytes.{begins};
 ghost use Rattle.ix_script.specs.texts.Words as words;
@@ -7,6 +7,13 @@ ghost use Rattle.ix_script.specs.texts.Words as words;
 use ix_model::Path;
 use ix_text::begins;
 use std::marker::Model;
+
+fn all_in_path(word: &[u8]) -> bool
+    ensures { result ≡ list_all may_stand_in_path word.now }
+{
+    word.iter()
+        .all(|b| *b >= 33 && *b <= 126 && *b != b'"' && *b != b'\\')
+}
 
 /// Whether a word begins with a slash, and the text of its names.
 fn parts(word: &[u8]) -> (bool, &[u8])
@@ -23,8 +30,7 @@ fn parts(word: &[u8]) -> (bool, &[u8])
 pub(crate) fn is_path_word(word: &[u8]) -> bool
     ensures { result ≡ is_path_word word.now }
 {
-    let may_stand = |b: &u8| *b >= 33 && *b <= 126 && *b != b'"' && *b != b'\\';
-    if word.is_empty() || !word.iter().all(may_stand) {
+    if word.is_empty() || !all_in_path(word) {
         return false;
     }
     let (absolute, text) = parts(word);

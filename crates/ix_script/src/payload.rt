@@ -375,6 +375,11 @@ impl<'a, const MOST: u32> Payload<'a, MOST> {
     pub(crate) fn decode_into(&self, buffer: &mut Vec<u8>) -> Result<(), NoMemory>
         ensures { OnOk result (buffer.new.items ≡ self.now) }
     {
+        if let Some((n, byte)) = self.times() {
+            buffer.clear();
+            buffer.resize(n, byte)?;
+            return Ok(());
+        }
         buffer.resize(self.len(), 0)?;
         self.decode(buffer.as_mut_slice());
         Ok(())

@@ -1,4 +1,4 @@
-ghost use Rattle.std.specs.Prelude.{◌≡◌, ◌≤◌, ◌+◌, ◌==◌, Some, IsSome, length, position, take, IfSome, ◌<◌, [], ◌∷◌, MatchOption};
+ghost use Rattle.std.specs.{Prelude.{◌≡◌, ◌≤◌, ◌+◌, ◌==◌, Some, IsSome, length, position, take, IfSome, ◌<◌, [], ◌∷◌, MatchOption}, List.{list_all}};
 ghost use Rattle.ix_script.specs.{lines.Kinds.{bounds}, lines.Said.{name_after, two_names_after}, reader.Readers.{IsFault}};
 ghost use Rattle.ix_script.specs.{texts.Cutting.{policy_text, word_at}, texts.Words.{mode_of, state_of, what_of, is_numeral, value, number_of, fd_of, keep_of}};
 ghost use Rattle.ix_model.specs.world.Naming.{same_bytes};
@@ -35,6 +35,12 @@ pub(crate) fn begins_with_digit(word: &[u8]) -> bool
         [] => false,
         [b, ..] => is_digit(*b),
     }
+}
+
+fn all_digits(word: &[u8]) -> bool
+    ensures { result ≡ list_all is_digit word.now }
+{
+    word.iter().all(|b| is_digit(*b))
 }
 
 /// The name of a file system, a process, a lane or a descriptor, as a word of a script. It borrows the word, and contracts see
@@ -99,10 +105,12 @@ pub(crate) fn mode_of(word: &[u8]) -> Option<Mode>
 pub(crate) fn state_of(word: &[u8]) -> Option<bool>
     ensures { result ≡ state_of word.now }
 {
-    match word {
-        b"free" => Some(false),
-        b"frozen" => Some(true),
-        _ => None,
+    if is(word, b"free") {
+        Some(false)
+    } else if is(word, b"frozen") {
+        Some(true)
+    } else {
+        None
     }
 }
 
@@ -124,9 +132,7 @@ pub(crate) fn what_of(word: &[u8]) -> Option<What>
 pub(crate) fn is_numeral(word: &[u8]) -> bool
     ensures { result ≡ is_numeral word.now }
 {
-    begins_with_digit(word)
-        && word.iter().all(|b| is_digit(*b))
-        && (word.len() == 1 || !begins(b'0', word))
+    begins_with_digit(word) && all_digits(word) && (word.len() == 1 || !begins(b'0', word))
 }
 
 /// The number of these digits; `None` exactly where it is above 4,294,967,295.

@@ -1,6 +1,7 @@
-use Rattle.std.proofs.Common.{◌∙◌, refl, sym}
+use Rattle.std.proofs.Common.{◌∙◌, [], ◌∷◌, refl, sym}
 use Rattle.ix_script.specs.lines.Before.{dir_spec, file_spec}
 use Rattle.ix_script.specs.lines.Faults.{said_fault}
+use Rattle.ix_script.specs.lines.Rules.{is_out_of_order, is_one_too_many, lacks_policy}
 use Rattle.ix_script.proofs.lines.Refusals.{broken, kept, other_said}
 use Rattle.ix_script.proofs.draft.Draft.check_said.Goals as goal
 
@@ -15,19 +16,25 @@ returns-in-File g c =
 
 pub returns-then-is_out_of_order : goal.returns-then-is_out_of_order
 returns-then-is_out_of_order g c =
-    other_said _ _ c.in_default.not-Proc c.in_default.not-Dir c.in_default.not-File ∙ broken 25 _ _ (sym c.is_out_of_order.ensures ∙ c.if-is_out_of_order.true)
+    other_said c.args.self.now.lines c.args.line.now c.in_default.not-Proc c.in_default.not-Dir c.in_default.not-File
+    ∙ broken 25 (is_out_of_order c.args.self.now.lines c.args.line.now) ((26, is_one_too_many c.args.self.now.lines c.args.line.now) ∷ (28, lacks_policy c.args.self.now.lines c.args.line.now) ∷ []) (sym c.is_out_of_order.ensures ∙ c.if-is_out_of_order.true)
 
 pub returns-then-is_one_too_many : goal.returns-then-is_one_too_many
 returns-then-is_one_too_many g c =
-    other_said _ _ c.in_default.not-Proc c.in_default.not-Dir c.in_default.not-File ∙ kept 25 _ _ (sym c.is_out_of_order.ensures ∙ c.if-is_out_of_order.false)
-    ∙ broken 26 _ _ (sym c.is_one_too_many.ensures ∙ c.if-is_one_too_many.true)
+    other_said c.args.self.now.lines c.args.line.now c.in_default.not-Proc c.in_default.not-Dir c.in_default.not-File
+    ∙ kept 25 (is_out_of_order c.args.self.now.lines c.args.line.now) ((26, is_one_too_many c.args.self.now.lines c.args.line.now) ∷ (28, lacks_policy c.args.self.now.lines c.args.line.now) ∷ []) (sym c.is_out_of_order.ensures ∙ c.if-is_out_of_order.false)
+    ∙ broken 26 (is_one_too_many c.args.self.now.lines c.args.line.now) ((28, lacks_policy c.args.self.now.lines c.args.line.now) ∷ []) (sym c.is_one_too_many.ensures ∙ c.if-is_one_too_many.true)
 
 pub returns-then-lacks_policy : goal.returns-then-lacks_policy
 returns-then-lacks_policy g c =
-    other_said _ _ c.in_default.not-Proc c.in_default.not-Dir c.in_default.not-File ∙ kept 25 _ _ (sym c.is_out_of_order.ensures ∙ c.if-is_out_of_order.false)
-    ∙ kept 26 _ _ (sym c.is_one_too_many.ensures ∙ c.if-is_one_too_many.false) ∙ broken 28 _ _ (sym c.lacks_policy.ensures ∙ c.if-lacks_policy.true)
+    other_said c.args.self.now.lines c.args.line.now c.in_default.not-Proc c.in_default.not-Dir c.in_default.not-File
+    ∙ kept 25 (is_out_of_order c.args.self.now.lines c.args.line.now) ((26, is_one_too_many c.args.self.now.lines c.args.line.now) ∷ (28, lacks_policy c.args.self.now.lines c.args.line.now) ∷ []) (sym c.is_out_of_order.ensures ∙ c.if-is_out_of_order.false)
+    ∙ kept 26 (is_one_too_many c.args.self.now.lines c.args.line.now) ((28, lacks_policy c.args.self.now.lines c.args.line.now) ∷ []) (sym c.is_one_too_many.ensures ∙ c.if-is_one_too_many.false)
+    ∙ broken 28 (lacks_policy c.args.self.now.lines c.args.line.now) [] (sym c.lacks_policy.ensures ∙ c.if-lacks_policy.true)
 
 pub returns-else-lacks_policy : goal.returns-else-lacks_policy
 returns-else-lacks_policy g c =
-    other_said _ _ c.in_default.not-Proc c.in_default.not-Dir c.in_default.not-File ∙ kept 25 _ _ (sym c.is_out_of_order.ensures ∙ c.if-is_out_of_order.false)
-    ∙ kept 26 _ _ (sym c.is_one_too_many.ensures ∙ c.if-is_one_too_many.false) ∙ kept 28 _ _ (sym c.lacks_policy.ensures ∙ c.if-lacks_policy.false)
+    other_said c.args.self.now.lines c.args.line.now c.in_default.not-Proc c.in_default.not-Dir c.in_default.not-File
+    ∙ kept 25 (is_out_of_order c.args.self.now.lines c.args.line.now) ((26, is_one_too_many c.args.self.now.lines c.args.line.now) ∷ (28, lacks_policy c.args.self.now.lines c.args.line.now) ∷ []) (sym c.is_out_of_order.ensures ∙ c.if-is_out_of_order.false)
+    ∙ kept 26 (is_one_too_many c.args.self.now.lines c.args.line.now) ((28, lacks_policy c.args.self.now.lines c.args.line.now) ∷ []) (sym c.is_one_too_many.ensures ∙ c.if-is_one_too_many.false)
+    ∙ kept 28 (lacks_policy c.args.self.now.lines c.args.line.now) [] (sym c.lacks_policy.ensures ∙ c.if-lacks_policy.false)
