@@ -18,7 +18,7 @@ use ix_model::{FsSpec, Kind, Name, NoMemory, Obj, ObjView, PrivSet};
 use ix_report::Line;
 
 /// How many bytes of a file are written at once.
-const PIECE: usize = 4096;
+const PIECE: usize = 65_536;
 
 /// The first bytes, and how many file systems there are.
 pub fn write_start(line: &mut Line, fss: &[FsSpec], core: &Core) -> Result<Part, NoMemory>
