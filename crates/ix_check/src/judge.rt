@@ -11,6 +11,7 @@ ghost use Rattle.ix_judging.specs.Walk.{closed, closes, ended, makes, told_call,
 ghost use Rattle.ix_judging.specs.Walk as walk;
 ghost use Rattle.ix_check.specs.Plans.{begun, judged_plan};
 ghost use Rattle.ix_lanes.specs.asking.Ruled.{rules_told};
+ghost use Rattle.ix_lanes.specs.histories.Serial.{header_of};
 ghost use Rattle.ix_check.specs.Stepping.{lane_now};
 ghost use Rattle.ix_check.specs.Judging.{AreLeft, CameTo, IsAmong, IsAt, IsCalled, Walked, verdict_of};
 ghost use Rattle.ix_check.specs.Verdicts.{IsVerdict};
@@ -23,7 +24,7 @@ use crate::stage::Stage;
 use crate::told::told_seat;
 use crate::verdict::Verdict;
 use ix_core::Core;
-use ix_lanes::LaneCalls;
+use ix_lanes::{Bindings, LaneCalls};
 use ix_model::{Buf, NoMemory};
 use ix_policy::Policy;
 use ix_replay::{Closing, Next};
@@ -45,21 +46,23 @@ pub struct Judge<'a, L> {
 }
 
 impl<'a> Judge<'a, LaneCalls<'a>> {
-    /// One of a script, with its policy, if it has one, and a core that has no entries, which has looked at nothing. It takes all the memory
-    /// that a text's judging needs, but for lines longer than 32,768 bytes.
+    /// One of a script, with its header and its policy, if it has one, and a core that has no entries, which has looked at nothing. It takes
+    /// all the memory that a text's judging needs, but for lines longer than 32,768 bytes.
     pub fn new(
         alloc: Global,
         script: &'a Script,
+        header: &'a Bindings<u32>,
         policy: Option<&'a Policy>,
         core: Core,
     ) -> Result<Judge<'a, LaneCalls<'a>>, NoMemory>
         requires named { LanesNamed script.now }
+        requires header { header.now ≡ header_of script.now }
         requires policy { option_map (λ p. p.now) policy ≡ rules_told script.now }
         requires core { core ≡ record { config = config_of script.now; events = [] } }
         ensures script { IfOk result (λ judge. judge.printer.script.now ≡ script.now) }
         ensures begins { IfOk result (λ judge. IsAt lane_now script.now judge walk.Begins) }
     {
-        let lanes = first_lanes(alloc, script, policy)?;
+        let lanes = first_lanes(alloc, script, header, policy)?;
         Ok(Judge {
             core,
             lanes,

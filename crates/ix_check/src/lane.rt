@@ -4,13 +4,14 @@ ghost use Rattle.std.specs.List.{list_all};
 ghost use Rattle.ix_model.specs.history.Seats.{made_by};
 ghost use Rattle.ix_core.specs.Seen.{GoesSeen};
 ghost use Rattle.ix_lanes.specs.asking.Ruled.{rules_told};
+ghost use Rattle.ix_lanes.specs.histories.Serial.{header_of};
 ghost use Rattle.ix_check.specs.Judging.{AreFirst};
 ghost use Rattle.ix_check.specs.Stepping.{lane_now, HasRoom, MakesCall, PrintsCall, is_from, next_call, next_phase};
 
 use crate::printer::Printer;
 use ix_asking::make_next;
 use ix_core::{Core, SeenSys, Witness};
-use ix_lanes::LaneCalls;
+use ix_lanes::{Bindings, LaneCalls};
 use ix_model::{Answer, Buf, NoMemory, Sys};
 use ix_policy::Policy;
 use ix_script::Script;
@@ -57,14 +58,16 @@ impl LaneSteps for LaneCalls<'_> {
     }
 }
 
-/// The lanes of a script by seats, none of which has made a call, by the script's policy, if it has one. `NoMemory` where there was
-/// none for them.
+/// The lanes of a script by seats, none of which has made a call, by the script's header and its policy, if it has one. `NoMemory` where
+/// there was none for them.
 pub fn first_lanes<'a>(
     alloc: Global,
     script: &'a Script,
+    header: &'a Bindings<u32>,
     policy: Option<&'a Policy>,
 ) -> Result<Vec<LaneCalls<'a>>, NoMemory>
-    requires { option_map (λ p. p.now) policy ≡ rules_told script.now }
+    requires header { header.now ≡ header_of script.now }
+    requires policy { option_map (λ p. p.now) policy ≡ rules_told script.now }
     ensures { IfOk result (λ lanes. AreFirst lane_now script.now lanes.items) }
 {
     let mut lanes = Vec::new(alloc);
@@ -72,7 +75,7 @@ pub fn first_lanes<'a>(
         let Some(_name) = script.lane(seat) else {
             return Ok(lanes);
         };
-        let lane = LaneCalls::whole(alloc, script, seat, policy)?;
+        let lane = LaneCalls::whole(alloc, script, seat, header, policy)?;
         if lanes.push(lane).is_err() {
             return Err(NoMemory);
         }

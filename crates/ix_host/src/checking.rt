@@ -14,6 +14,7 @@ use crate::streams::sending::tell;
 use ix_check::{Judge, Verdict, push_verdict};
 use ix_core::Core;
 use ix_io::Sink;
+use ix_lanes::header_of;
 use ix_model::NoMemory;
 use ix_policy::Policy;
 use ix_script::Script;
@@ -31,7 +32,8 @@ fn judge(
     ensures { IfOk result (λ verdict. verdict_of verdict ≡ found_in script.now claimed.now) }
 {
     let core = Core::boot(alloc, script.config(alloc)?)?;
-    let mut judge = Judge::new(alloc, script, policy, core)?;
+    let header = header_of(alloc, script)?;
+    let mut judge = Judge::new(alloc, script, &header, policy, core)?;
     judge.text(claimed)
 }
 

@@ -1,6 +1,8 @@
 pub mod LaneLines
 pub mod Lefts
 pub mod PhaseLines
+pub mod Counted
+pub mod TakingPart
 pub mod Making
 pub mod Between
 pub mod Placed

@@ -7,9 +7,11 @@ pub mod laws;
 mod lines;
 mod running;
 
-pub use lanes::seat_past;
+pub use asking::bindings::Bindings;
+pub use lanes::{header_of, seat_past};
 pub use lines::{line_at, role_at};
 pub use running::lane_calls::LaneCalls;
 pub use running::lane_run::LaneRun;
+pub use running::phases::phase_end;
 pub use running::serial_calls::SerialCalls;
 pub use running::side_by_side::{Lane, run_phase};

@@ -7,6 +7,8 @@ pub mod Full
 pub mod Seen
 pub mod OneLane
 pub mod OnePhase
+pub mod AllMet
+pub mod Parts
 pub mod Meeting
 pub mod Joining
 pub mod Seating

@@ -1,5 +1,5 @@
 -- What the seats of lanes learn of each other.
-use Rattle.std.specs.Prelude.{◌≡◌, ◌≢◌, ℕ, ◌<◌, List, length, Some, slice_get}
+use Rattle.std.specs.Prelude.{◌≡◌, ◌≢◌, ℕ, ◌<◌, Bool, true, List, length, Some, slice_get}
 use mathlib.Core.List.{IsPrefix}
 use Rattle.ix_gate.specs.Gate.{GateState}
 use Rattle.ix_kernel.specs.Systems.{SeatGoesOn, made_at}
@@ -42,14 +42,24 @@ module _ {T : Type 0} (learns : T → T → T → Type 0) where
 abbrev pub SeesOf : ℕ → ℕ → List Seated → Type 0
 SeesOf n m lanes = (lane other : Seated) → slice_get lanes n ≡ Some lane → slice_get lanes m ≡ Some other → IsPrefix other.sys.seat.seen lane.sys.seat.seen
 
--- The lane n has seen what each of the first m has.
-abbrev pub SeesFirst : ℕ → ℕ → List Seated → Type 0
-SeesFirst n m lanes = (k : ℕ) → k < m → SeesOf n k lanes
-
--- Each of the first n lanes has seen what any lane has.
-abbrev pub FirstSeeAll : ℕ → List Seated → Type 0
-FirstSeeAll n lanes = (k m : ℕ) → k < n → SeesOf k m lanes
-
 -- The seats of all lanes are at one kernel.
 abbrev pub SameKernel : List Seated → Type 0
 SameKernel lanes = (kernel : GateState) × ((n : ℕ) (lane : Seated) → slice_get lanes n ≡ Some lane → lane.sys.kernel ≡ kernel)
+
+-- What each lane has seen begins this history.
+abbrev pub AllBegin : List Event → List Seated → Type 0
+AllBegin whole lanes = (n : ℕ) (lane : Seated) → slice_get lanes n ≡ Some lane → IsPrefix lane.sys.seat.seen whole
+
+-- ---- lanes of which some take part
+-- Of the first m lanes each that takes part learnt of the first one, which stays. They see no more than all together had seen.
+pub record LearnOfFirst (parts : List Bool) (m : ℕ) (old new : List Seated) : Type 0 where
+  pub learn : LearnAll old new
+  pub first : slice_get new 0 ≡ slice_get old 0
+  pub sees : (n : ℕ) → 0 < n → n < m → slice_get parts n ≡ Some true → SeesOf n 0 new
+  pub within : (whole : List Event) → AllBegin whole old → AllBegin whole new
+
+-- The first lane learnt of each of the first m that takes part, and the others stay.
+pub record FirstLearns (parts : List Bool) (m : ℕ) (old new : List Seated) : Type 0 where
+  pub learn : LearnAll old new
+  pub others : (n : ℕ) → 0 < n → slice_get new n ≡ slice_get old n
+  pub sees : (n : ℕ) → 0 < n → n < m → slice_get parts n ≡ Some true → SeesOf 0 n new

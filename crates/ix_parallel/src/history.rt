@@ -3,6 +3,7 @@ ghost use Rattle.std.specs.Prelude.{◌≡◌, ◌<◌, ◌≤◌, List, length,
 ghost use Rattle.std.proofs.Common.{option_map};
 ghost use Rattle.ix_kernel.specs.Systems.{FilledUp};
 ghost use Rattle.ix_lanes.specs.asking.Ruled.{rules_told};
+ghost use Rattle.ix_lanes.specs.histories.Serial.{header_of};
 ghost use Rattle.ix_model.specs.history.Events.{Event};
 ghost use Rattle.ix_script.specs.lines.Before.{lanes_of};
 ghost use Rattle.ix_script.specs.scripts.Scripts.{config_of};
@@ -15,7 +16,7 @@ use crate::phases::run_phases;
 use crate::watch::{Watch, Watched};
 use ix_core::Core;
 use ix_kernel::{KSeat, Kernel};
-use ix_lanes::{Lane, LaneRun};
+use ix_lanes::{Bindings, Lane, LaneRun, header_of};
 use ix_model::{Answer, NoMemory};
 use ix_policy::Policy;
 use ix_script::Script;
@@ -23,16 +24,18 @@ use std::alloc::Global;
 use std::sync::Wait;
 use std::thread::Threads;
 
-/// A run of each lane by the script's policy, with the seat of the lane's number.
+/// A run of each lane by the script's header and its policy, with the seat of the lane's number.
 fn seated<'a, W, R>(
     rt: &'a R,
     alloc: Global,
     script: &'a Script,
+    header: &'a Bindings<u32>,
     policy: Option<&'a Policy>,
     kernel: &'a Kernel,
     seats: Vec<KSeat>,
     watch: &'a W,
 ) -> Result<Vec<Lane<'a, Watched<'a, R, W>>>, NoMemory>
+    requires header { header.now ≡ header_of script.now }
     requires policy { option_map (λ p. p.now) policy ≡ rules_told script.now }
     requires some { 0 < length (lanes_of script.now) }
     requires few { length (lanes_of script.now) ≤ 64 }
@@ -42,7 +45,7 @@ fn seated<'a, W, R>(
     let mut lanes = Vec::new(alloc);
     let mut number = 0;
     for seat in seats {
-        let run = LaneRun::new(alloc, script, number, policy)?;
+        let run = LaneRun::new(alloc, script, number, header, policy)?;
         let sys = Watched::new(kernel, seat, number, rt, watch);
         if lanes.push(Lane { run, sys }).is_err() {
             return Err(NoMemory);
@@ -95,7 +98,8 @@ fn run_seats<W: Watch, R: Threads + Wait + Sync>(
     requires seats { AreNew kernel.now (config_of script.now) (length (lanes_of script.now)) seats.items }
     ensures { IfOk result (λ r. StandsForAll script.now kernel.now r.0 r.1) }
 {
-    let mut lanes = seated(rt, alloc, script, policy, kernel, seats, watch)?;
+    let header = header_of(alloc, script)?;
+    let mut lanes = seated(rt, alloc, script, &header, policy, kernel, seats, watch)?;
     let stop = run_phases(rt, script, lanes.as_mut_slice());
     match join_all(kernel, lanes) {
         Some(seat) => Ok((seat, stop)),

@@ -1,6 +1,6 @@
-//! What the seats of lanes learn of each other between two phases.
-ghost use Rattle.std.specs.Prelude.{◌≡◌, ◌≢◌, ◌<◌, ◌++◌, length};
-ghost use Rattle.ix_parallel.specs.Meeting.{FirstSeeAll, LearnAll, MayMeet, Meets, SameKernel, SeesFirst};
+//! What the seats of lanes learn of each other before and after a phase.
+ghost use Rattle.std.specs.Prelude.{◌≡◌, ◌≢◌, ◌<◌, ◌≤◌, ◌++◌, length};
+ghost use Rattle.ix_parallel.specs.Meeting.{FirstLearns, LearnOfFirst, MayMeet, Meets, SameKernel};
 
 use crate::watch::Watched;
 use ix_lanes::Lane;
@@ -86,33 +86,29 @@ fn meet_two<T: Learner>(all: &mut [T], one: usize, other: usize)
     }
 }
 
-/// Lets the seat of a lane meet that of every other lane in turn.
-fn meet_others<'a, R, W>(lanes: &mut [Lane<'_, Watched<'a, R, W>>], one: usize)
-    requires within { one < length lanes.old }
+/// Lets the seat of each of these lanes but the first meet that of the first lane: it has then seen what that has. It takes no more steps than
+/// there are lanes.
+pub fn learn_of_first<'a, R, W>(lanes: &mut [Lane<'_, Watched<'a, R, W>>], parts: &[bool; 64])
+    requires few { length lanes.old ≤ 64 }
     requires kernel { SameKernel lanes.old }
-    ensures learn { LearnAll lanes.old lanes.new }
-    ensures sees { SeesFirst one (length lanes.old) lanes.new }
-    ensures first { FirstSeeAll one lanes.old → FirstSeeAll one lanes.new }
+    ensures { LearnOfFirst parts.now (length lanes.old) lanes.old lanes.new }
 {
-    for other in 0..lanes.len() {
-        if other != one {
-            meet_two(lanes, one, other);
+    for one in 1..lanes.len() {
+        if parts[one] {
+            meet_two(lanes, one, 0);
         }
     }
 }
 
-/// Lets the seat of the first lane meet that of every other lane, and then each of these that of the first: each has then seen what any has.
-/// It takes twice as many steps as there are lanes.
-pub fn meet_all<'a, R, W>(lanes: &mut [Lane<'_, Watched<'a, R, W>>])
+/// Lets the seat of the first lane meet that of each of these: it has then seen what they have. It takes no more steps than there are lanes.
+pub fn first_learns<'a, R, W>(lanes: &mut [Lane<'_, Watched<'a, R, W>>], parts: &[bool; 64])
+    requires few { length lanes.old ≤ 64 }
     requires kernel { SameKernel lanes.old }
-    ensures learn { LearnAll lanes.old lanes.new }
-    ensures all { FirstSeeAll (length lanes.old) lanes.new }
+    ensures { FirstLearns parts.now (length lanes.old) lanes.old lanes.new }
 {
-    if lanes.is_empty() {
-        return;
-    }
-    meet_others(lanes, 0);
-    for one in 1..lanes.len() {
-        meet_two(lanes, one, 0);
+    for other in 1..lanes.len() {
+        if parts[other] {
+            meet_two(lanes, 0, other);
+        }
     }
 }

@@ -30,7 +30,7 @@ seat_kept lanes at line.Phase is = absurd (true≢false is)
 seat_kept lanes at (line.Lane name) is = absurd (true≢false is)
 seat_kept lanes at _ is = refl
 
-no_phase : (l : Line) → begins_part l ≡ false → is_phase l ≡ false
+pub no_phase : (l : Line) → begins_part l ≡ false → is_phase l ≡ false
 no_phase line.Phase is = absurd (true≢false is)
 no_phase _ is = refl
 
@@ -72,6 +72,12 @@ part_few (l ∷ ls) = elim (cases_Bool (begins_part l)) [
   | inr e ↦ rw e (let few = part_few ls in omega (arith, few))
 ]
 
+-- the phase of a stretch
+pub stretch_phase : StretchesStand → (s : List Line) (seat n : ℕ) (t : Stretch) → slice_get (stretches_of s seat) n ≡ Some t → t.phase ≡ count_by is_phase (take t.first s) - 1
+stretch_phase law s seat n t at =
+    let found : t ≡ _ = sym (get_or_from_slice_get (stretches_of s seat) n t t at) in
+    subst (λ (u : Stretch). u.phase ≡ count_by is_phase (take u.first s) - 1) (sym found) (law s seat n t (slice_get_within (stretches_of s seat) n t at))
+
 module _ (s : List Line) (seat : ℕ) where
   -- ---- lines of the lane and others
   stands : (i : ℕ) → is_seat seat (seat_at s (take i s)) ≡ true → begins_part (line_in s i) ≡ false → stands_in s seat i ≡ true
@@ -93,7 +99,7 @@ module _ (s : List Line) (seat : ℕ) where
   negated true h = absurd (true≢false (sym h))
   negated false h = refl
 
-  stands_apart : (i : ℕ) → stands_in s seat i ≡ true → begins_part (line_in s i) ≡ false
+  pub stands_apart : (i : ℕ) → stands_in s seat i ≡ true → begins_part (line_in s i) ≡ false
   stands_apart i h = negated (begins_part (line_in s i)) (and_parts (is_seat seat (seat_at s (take i s))) (not (begins_part (line_in s i))) h).1
 
   part_there : (i : ℕ) → is_seat seat (seat_at s (take i s)) ≡ true → stands_in s seat i ≡ false → begins_part (line_in s i) ≡ true
@@ -121,7 +127,7 @@ module _ (s : List Line) (seat : ℕ) where
 
   -- ---- the stretches from an index on
   -- none of the lane stands between
-  lower : (i j : ℕ) (ts : List Stretch) → i ≤ j → NoneStands s seat i j → AreLeft s seat j ts → AreLeft s seat i ts
+  pub lower : (i j : ℕ) (ts : List Stretch) → i ≤ j → NoneStands s seat i j → AreLeft s seat j ts → AreLeft s seat i ts
   lower i j [] from none left = λ k a b. elim (cases_lt k j) [
     | inl low ↦ none k a low
     | inr high ↦ left k high b
@@ -282,11 +288,10 @@ module _ (s : List Line) (seat : ℕ) where
         pub next_among : StretchesStand → IsAmong s seat u.first u (come + 1)
         next_among law =
             let same : u.end ≡ max u.first u.end = let rises = at_next.2 in omega (arith, rises) in
-            let found : u ≡ _ = sym (get_or_from_slice_get (stretches_of s seat) come u u next) in
             record {
               lines = λ below. at_next.4;
               within = λ below. at_next.3;
-              phase = λ below. subst (λ (t : Stretch). t.phase ≡ count_by is_phase (take t.first s) - 1) (sym found) (law s seat come u next_few);
+              phase = λ below. stretch_phase law s seat come u next;
               left = subst (λ (n : ℕ). AreLeft s seat n (drop (come + 1) (stretches_of s seat))) same at_next.5;
             }
 

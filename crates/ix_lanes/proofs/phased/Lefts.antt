@@ -238,10 +238,10 @@ module _ (s : List Line) (seat end at : ℕ) (t : Stretch) (come : ℕ) (names :
   pub here_pending : is_over p ≡ false → IsDue (first (part_left (header_of s) names (at + 1) l c p))
   here_pending is = here_due (header_of s) names (at + 1) l c p is h.pending
 
-  abbrev later_lines : Handed → Asking Names
+  abbrev pub later_lines : Handed → Asking Names
   later_lines g = lines_ask (rules_told s) (header_of s) (named names l g) (lane_between s seat (at + 1) end)
 
-  left_in : is_over p ≡ false → left_from s seat end at names l c p ≡ followed (part_left (header_of s) names (at + 1) l c p) later_lines
+  pub left_in : is_over p ≡ false → left_from s seat end at names l c p ≡ followed (part_left (header_of s) names (at + 1) l c p) later_lines
   left_in is = rw is refl
 
   -- the phase of the next call

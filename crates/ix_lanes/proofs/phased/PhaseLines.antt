@@ -33,7 +33,7 @@ to-other zero l lines is = rw is refl
 to-other (suc k) l lines is = to-suc k l lines ∙ ap (λ b. l ∷ lines_to (if b then k else suc k) lines) is
 
 -- ---- all lines
-count-cons : (l : Line) (lines : List Line) → count_by is_phase (l ∷ lines) ≡ cond (is_phase l) 1 0 + count_by is_phase lines
+pub count-cons : (l : Line) (lines : List Line) → count_by is_phase (l ∷ lines) ≡ cond (is_phase l) 1 0 + count_by is_phase lines
 count-cons l lines = sum_by-cons (λ x. cond (is_phase x) 1 0) l lines
 
 -- past the last phase there are no lines

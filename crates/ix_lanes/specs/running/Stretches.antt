@@ -1,11 +1,11 @@
 -- Where a lane stands among its stretches.
-use Rattle.std.specs.Prelude.{◌≡◌, ℕ, ◌+◌, ◌-◌, ◌≤◌, ◌<◌, Bool, true, false, not, ◌&&◌, List, [], ◌∷◌, length, take, drop, max, count_by}
+use Rattle.std.specs.Prelude.{◌≡◌, ℕ, suc, ◌+◌, ◌-◌, ◌≤◌, ◌<◌, Bool, true, false, not, ◌&&◌, List, [], ◌∷◌, length, take, drop, max, count_by}
 use Rattle.ix_script.specs.lines.Before.{is_phase}
 use Rattle.ix_script.specs.scripts.Schedule.{begins_part, is_seat, stretches_of}
 use Rattle.ix_script.specs.declared.line.Line.{Line}
 use Rattle.ix_script.specs.declared.schedule.Stretch.{Stretch}
 use Rattle.ix_lanes.specs.histories.Indexed.{line_in}
-use Rattle.ix_lanes.specs.running.Phases.{seat_at}
+use Rattle.ix_lanes.specs.running.Phases.{lines_before, seat_at}
 
 -- whether the line at an index stands in the lane of a seat, and begins no part
 abbrev pub stands_in : List Line → ℕ → ℕ → Bool
@@ -35,3 +35,20 @@ pub record IsAmong (s : List Line) (seat at : ℕ) (t : Stretch) (come : ℕ) : 
 -- how many steps it is from an end at most, where a step is a line or a stretch
 abbrev pub steps_to : List Line → ℕ → ℕ → ℕ → ℕ → ℕ
 steps_to s seat end at come = (end - at) + (length (stretches_of s seat) - come)
+
+-- ---- in a phase
+-- A lane has no line in a phase.
+abbrev pub HasNone : List Line → ℕ → ℕ → Type 0
+HasNone s seat k = NoneStands s seat (length (lines_before k s)) (length (lines_before (suc k) s))
+
+-- It has one there, which has this index.
+pub record HasOne (s : List Line) (seat k : ℕ) : Type 0 where
+  pub index : ℕ
+  pub from : length (lines_before k s) ≤ index
+  pub to : index < length (lines_before (suc k) s)
+  pub stands : stands_in s seat index ≡ true
+
+-- It is told so whether a lane has a line in a phase.
+abbrev pub TellsPart : List Line → ℕ → ℕ → Bool → Type 0
+TellsPart s seat k true = HasOne s seat k
+TellsPart s seat k false = HasNone s seat k

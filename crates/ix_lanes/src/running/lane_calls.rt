@@ -11,11 +11,11 @@ ghost use Rattle.ix_lanes.specs.running.Phases.{lane_among, seat_at};
 use crate::asking::bindings::Bindings;
 use crate::asking::calls::{bind, call_of};
 use crate::asking::places::Places;
-use crate::lanes::header_of;
 use crate::lines::{line_at, role_at};
 use crate::running::hearing::heard;
 use crate::running::here::Here;
 use crate::running::part::Part;
+use crate::running::phases::has_part;
 use ix_asking::{Asks, Copying, Step};
 use ix_model::{Buf, NoMemory, Reply};
 use ix_policy::Policy;
@@ -61,7 +61,8 @@ pub struct LaneCalls<'a> {
     script: &'a Script,
     policy: Option<&'a Policy>,
     lane: u32,
-    header: Bindings<u32>,
+    /// That of the script, which all its lanes share.
+    header: &'a Bindings<u32>,
     places: Places,
     here: Here<'a>,
     /// What the line in which it stands has still to ask for.
@@ -89,7 +90,7 @@ impl<'a> Model for LaneCalls<'a> {
 
     ghost view = { λ c. record { script = c.script.now; seat = c.lane; names = standing c.places; at = c.here.at; end = c.end; copying = c.copying; part = c.part } };
 
-    ghost invariant = { λ c. AreFields c.script.now c.lane c.header c.places (option_map (λ p. p.now) c.policy)
+    ghost invariant = { λ c. AreFields c.script.now c.lane c.header.now c.places (option_map (λ p. p.now) c.policy)
         × IsHere c.script.now c.lane c.end c.here.at c.here.stretch c.here.come (standing c.places) c.here.line c.written c.copying c.part };
 }
 
@@ -106,22 +107,24 @@ impl<'a> LaneCalls<'a> {
     ghost use Rattle.ix_asking.specs.Steps.{next_of};
     ghost use Rattle.ix_lanes.specs.declared.running.part.Part.TheVariants as part;
     ghost use Rattle.ix_lanes.specs.running.Left.{asks_left, is_done, names_done, next_phase, place_of};
-    ghost use Rattle.ix_lanes.specs.running.Phases.{lane_between};
+    ghost use Rattle.ix_lanes.specs.running.Phases.{lane_between, lines_before};
+    ghost use Rattle.ix_lanes.specs.running.Stretches.{TellsPart};
 
-    /// The lane of a number before its first line, by the script's policy, if it has one. It asks for nothing yet. It takes all the memory
-    /// that its calls need.
+    /// The lane of a number before its first line, by the script's header and its policy, if it has one. It asks for nothing yet. It takes
+    /// all the memory that its calls need.
     pub fn new(
         alloc: Global,
         script: &'a Script,
         lane: u32,
+        header: &'a Bindings<u32>,
         policy: Option<&'a Policy>,
     ) -> Result<LaneCalls<'a>, NoMemory>
         requires lane { lane < length (lanes_of script.now) }
+        requires header { header.now ≡ header_of script.now }
         requires policy { option_map (λ p. p.now) policy ≡ rules_told script.now }
         ensures place { IfOk result (λ calls. place_of calls ≡ record { script = script.now; seat = lane; end = 0 }) }
         ensures asks { IfOk result (λ calls. asks_left calls ≡ Done no_names) }
     {
-        let header = header_of(alloc, script)?;
         let places = places_of(alloc, script, lane)?;
         let stretch = Stretch {
             phase: 0,
@@ -153,14 +156,16 @@ impl<'a> LaneCalls<'a> {
         alloc: Global,
         script: &'a Script,
         lane: u32,
+        header: &'a Bindings<u32>,
         policy: Option<&'a Policy>,
     ) -> Result<LaneCalls<'a>, NoMemory>
         requires lane { lane < length (lanes_of script.now) }
+        requires header { header.now ≡ header_of script.now }
         requires policy { option_map (λ p. p.now) policy ≡ rules_told script.now }
         ensures place { IfOk result (λ calls. place_of calls ≡ record { script = script.now; seat = lane; end = length script.now }) }
         ensures asks { IfOk result (λ calls. asks_left calls ≡ lane_asks script.now lane) }
     {
-        let mut calls = LaneCalls::new(alloc, script, lane, policy)?;
+        let mut calls = LaneCalls::new(alloc, script, lane, header, policy)?;
         calls.ask_to(script.len());
         Ok(calls)
     }
@@ -177,7 +182,7 @@ impl<'a> LaneCalls<'a> {
             self.script,
             self.lane,
             self.policy,
-            &self.header,
+            self.header,
             &mut self.places,
             &mut self.written,
             &mut self.copying,
@@ -193,7 +198,7 @@ impl<'a> LaneCalls<'a> {
         let _count = self.script.len();
         let (line, written) = (&self.here.line, &self.written[..count]);
         let number = self.here.at + 1;
-        match call_of(&self.header, &self.places, self.lane, number, line, written) {
+        match call_of(self.header, &self.places, self.lane, number, line, written) {
             Some(entry) => Step::Call {
                 line: entry.line,
                 pid: entry.pid,
@@ -203,12 +208,11 @@ impl<'a> LaneCalls<'a> {
         }
     }
 
-    /// Whether the lane's next stretch has a line, and is of a phase. Contracts say nothing of it: it tells only what is worth a thread.
-    pub(crate) fn has_lines_in(&self, phase: u32) -> bool {
-        match self.script.stretch(self.lane, self.here.come) {
-            Some(stretch) => stretch.phase == phase && stretch.first < stretch.end,
-            None => false,
-        }
+    /// Whether the lane has a line in a phase, where it stands before that.
+    pub(crate) fn has_lines_in(&self, phase: u32) -> bool
+        ensures { is_done (asks_left self.now) ≡ true → self.now.end ≡ length (lines_before phase self.now.script) → TellsPart self.now.script self.now.seat phase result }
+    {
+        has_part(self.script, self.lane, self.here.come, phase)
     }
 
     /// The index of the first line that it doesn't ask for.
@@ -271,7 +275,7 @@ impl Asks for LaneCalls<'_> {
             self.script,
             self.lane,
             self.policy,
-            &self.header,
+            self.header,
             &mut self.places,
             &mut self.written,
             &mut self.copying,

@@ -1,7 +1,7 @@
 ghost use Rattle.std.specs.Prelude.{◌≡◌};
 
+use crate::asking::bindings::Bindings;
 use crate::running::lane_calls::LaneCalls;
-use crate::running::phases::phase_end;
 use ix_asking::run;
 use ix_model::{Answer, Buf, NoMemory, Sys};
 use ix_policy::Policy;
@@ -46,22 +46,27 @@ impl<'a> LaneRun<'a> {
     ghost use Rattle.ix_lanes.specs.asking.Asked.{no_names};
     ghost use Rattle.ix_lanes.specs.asking.Ruled.{rules_told};
     ghost use Rattle.ix_script.specs.scripts.Schedule.{phases};
+    ghost use Rattle.ix_lanes.specs.histories.Serial.{header_of};
+    ghost use Rattle.ix_lanes.specs.running.Phases.{lines_before};
     ghost use Rattle.ix_lanes.specs.running.Runs.{CutOff, StandsFor};
+    ghost use Rattle.ix_lanes.specs.running.Stretches.{HasNone, TellsPart};
 
-    /// A run of the lane of a number, which has done no phase, by the script's policy, if it has one. It takes all the memory that the
-    /// run needs.
+    /// A run of the lane of a number, which has done no phase, by the script's header and its policy, if it has one. It takes all the memory
+    /// that the run needs.
     pub fn new(
         alloc: Global,
         script: &'a Script,
         lane: u32,
+        header: &'a Bindings<u32>,
         policy: Option<&'a Policy>,
     ) -> Result<LaneRun<'a>, NoMemory>
         requires lane { lane < length (lanes_of script.now) }
+        requires header { header.now ≡ header_of script.now }
         requires policy { option_map (λ p. p.now) policy ≡ rules_told script.now }
         ensures new { IfOk result (λ run. run ≡ record { script = script.now; lane = lane; done = 0; between = true; names = no_names }) }
         ensures stands { IfOk result (λ run. StandsFor run []) }
     {
-        let calls = LaneCalls::new(alloc, script, lane, policy)?;
+        let calls = LaneCalls::new(alloc, script, lane, header, policy)?;
         Ok(LaneRun {
             script,
             calls,
@@ -70,20 +75,23 @@ impl<'a> LaneRun<'a> {
         })
     }
 
-    /// Whether the lane has a line in its next phase, which is that of a number. Contracts say nothing of it: it tells only what is worth a
-    /// thread.
-    pub(crate) fn takes_part(&self, phase: u32) -> bool {
+    /// Whether the lane has a line in its next phase, which is that of a number. It takes few steps, however many lines there are.
+    pub fn takes_part(&self, phase: u32) -> bool
+        ensures { self.now.between ≡ true → phase ≡ self.now.done → TellsPart self.now.script self.now.lane phase result }
+    {
         self.calls.has_lines_in(phase)
     }
 
     /// Runs the lines of the lane in its next phase. `None`: they are all done. `Some` is the stop of one of their calls: of the
     /// lines' calls those before it were made, and no more are. After it the run isn't gone on with. It takes no memory.
     ///
-    /// It asks that `phase`, from 0, is the one behind those that are done, and one of the script's; and that the system is that of the
-    /// lane's seat, and has made the calls of the phases that are done, and no others.
-    pub fn phase<S: Sys>(&mut self, sys: &mut S, phase: u32) -> Option<Answer>
+    /// It asks that `phase`, from 0, is the one behind those that are done, and one of the script's, and `end` the index of the first line
+    /// behind it; and that the system is that of the lane's seat, and has made the calls of the phases that are done, and no others. Where
+    /// the lane has no line in the phase, the system stays as it is.
+    pub fn phase<S: Sys>(&mut self, sys: &mut S, phase: u32, end: u32) -> Option<Answer>
         requires next { phase ≡ self.old.done }
         requires phase { phase < phases self.old.script }
+        requires end { end ≡ length (lines_before (suc phase) self.old.script) }
         requires seat { S.seat sys.old ≡ self.old.lane }
         requires stands { StandsFor self.old (S.made sys.old) }
         ensures same { (self.new.script ≡ self.old.script) × (self.new.lane ≡ self.old.lane) }
@@ -94,10 +102,14 @@ impl<'a> LaneRun<'a> {
         ensures made { IsPrefix (S.made sys.old) (S.made sys.new) }
         ensures seat { S.seat sys.new ≡ S.seat sys.old }
         ensures follows { S.follows sys.old sys.new }
+        ensures idle { HasNone self.old.script self.old.lane self.old.done → sys.new ≡ sys.old }
     {
         let _count = self.script.len();
-        self.calls
-            .ask_to(phase_end(self.script, self.calls.end(), phase));
+        self.calls.ask_to(end);
+        if self.calls.next_phase().is_none() {
+            self.done = phase + 1;
+            return None;
+        }
         match run(sys, &mut self.calls, &mut self.read) {
             Ok(()) => {
                 self.done = phase + 1;

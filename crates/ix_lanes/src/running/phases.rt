@@ -1,9 +1,12 @@
-ghost use Rattle.std.specs.Prelude.{◌≡◌, ◌<◌, suc, length};
+ghost use Rattle.std.specs.Prelude.{◌≡◌, ◌<◌, suc, drop, length};
 ghost use Rattle.ix_lanes.specs.histories.Indexed.{line_in};
 ghost use Rattle.ix_script.specs.lines.Before.{is_phase};
 ghost use Rattle.ix_lanes.specs.running.Phases.{lines_before};
+ghost use Rattle.ix_lanes.specs.running.Stretches.{AreLeft, TellsPart};
+ghost use Rattle.ix_script.specs.scripts.Schedule.{stretches_of};
 
 use crate::lines::role_at;
+use ix_script::laws::lanes_are_stretches;
 use ix_script::{Role, Script};
 
 /// Whether the line at an index is a `phase` line.
@@ -14,7 +17,7 @@ fn is_phase_at(script: &Script, index: u32) -> bool
     matches!(role_at(script, index), Role::Phase)
 }
 
-/// The index of the first line after a phase whose lines begin at an index.
+/// The index of the first line after a phase whose lines begin at an index. It takes as many steps as the phase has lines.
 pub fn phase_end(script: &Script, first: u32, phase: u32) -> u32
     requires { first ≡ length (lines_before phase script.now) }
     ensures { result ≡ length (lines_before (suc phase) script.now) }
@@ -29,4 +32,25 @@ pub fn phase_end(script: &Script, first: u32, phase: u32) -> u32
         }
     }
     script.len()
+}
+
+/// Whether a lane, of whose stretches those from a place on are left where a phase begins, has a line in that phase. Stretches without a
+/// line are passed on the way, of which at most two can stand there.
+pub(crate) fn has_part(script: &Script, lane: u32, come: u32, phase: u32) -> bool
+    ensures { AreLeft script.now lane (length (lines_before phase script.now)) (drop come (stretches_of script.now lane))
+        → TellsPart script.now lane phase result }
+{
+    lanes_are_stretches();
+    for n in come..script.len() {
+        let Some(stretch) = script.stretch(lane, n) else {
+            return false;
+        };
+        if phase < stretch.phase {
+            return false;
+        }
+        if stretch.first < stretch.end {
+            return true;
+        }
+    }
+    false
 }

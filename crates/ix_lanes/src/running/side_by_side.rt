@@ -23,8 +23,8 @@ trait Runner {
     ghost use Rattle.std.specs.Prelude.{ℕ, Option};
     ghost use Rattle.ix_model.specs.declared.reply.Answer.{Answer};
 
-    /// It may run the phase of a number.
-    ghost is_ready: { ℕ → Self → Type 0 };
+    /// It may run the phase of a number, up to an index.
+    ghost is_ready: { ℕ → ℕ → Self → Type 0 };
 
     /// The second state comes of the first by a phase that answers so.
     ghost runs: { Self → Self → Option Answer → Type 0 };
@@ -33,15 +33,15 @@ trait Runner {
     fn takes_part(&self, phase: u32) -> bool;
 
     /// Runs a phase. `Some` is a stop.
-    fn run_next(&mut self, phase: u32) -> Option<Answer>
-        requires { is_ready phase self.old }
+    fn run_next(&mut self, phase: u32, end: u32) -> Option<Answer>
+        requires { is_ready phase end self.old }
         ensures { runs self.old self.new result };
 }
 
 impl<'a, S: Sys> Runner for Lane<'a, S> {
     ghost use Rattle.ix_lanes.specs.running.SideBySide.{IsReady, RunsPhase};
 
-    ghost is_ready = { λ phase l. IsReady S.seat S.made phase l };
+    ghost is_ready = { λ phase end l. IsReady S.seat S.made phase end l };
 
     ghost runs = { λ l m answer. RunsPhase S.seat S.made S.stops S.stopped S.follows l m answer };
 
@@ -49,8 +49,8 @@ impl<'a, S: Sys> Runner for Lane<'a, S> {
         self.run.takes_part(phase)
     }
 
-    fn run_next(&mut self, phase: u32) -> Option<Answer> {
-        self.run.phase(&mut self.sys, phase)
+    fn run_next(&mut self, phase: u32, end: u32) -> Option<Answer> {
+        self.run.phase(&mut self.sys, phase, end)
     }
 }
 
@@ -75,19 +75,20 @@ fn run_all<T: Runner + Send, R: Threads + Sync>(
     rt: &R,
     runners: &mut [T],
     phase: u32,
+    end: u32,
     share: u32,
 ) -> Option<Answer>
-    requires { All (T.is_ready phase) runners.old }
+    requires { All (T.is_ready phase end) runners.old }
     ensures { AllRun T.runs runners.old runners.new result }
 {
     if runners.len() == 0 {
         return None;
     }
     if runners.len() == 1 {
-        return runners[0].run_next(phase);
+        return runners[0].run_next(phase, end);
     }
     let (front, back) = runners.split_at_mut(runners.len() / 2);
-    run_both(rt, front, back, phase, share)
+    run_both(rt, front, back, phase, end, share)
 }
 
 /// Runs a phase of each of two halves of a list, side by side where in each there are so many that have a line, and a thread can be started.
@@ -97,33 +98,34 @@ fn run_both<T: Runner + Send, R: Threads + Sync>(
     front: &mut [T],
     back: &mut [T],
     phase: u32,
+    end: u32,
     share: u32,
 ) -> Option<Answer>
-    requires front { All (T.is_ready phase) front.old }
-    requires back { All (T.is_ready phase) back.old }
+    requires front { All (T.is_ready phase end) front.old }
+    requires back { All (T.is_ready phase end) back.old }
     ensures { (first : Option Answer) × (second : Option Answer) × AllRun T.runs front.old front.new first
         × AllRun T.runs back.old back.new second × (result ≡ option_or first second) }
 {
     if parts_in(front, phase) < share || parts_in(back, phase) < share {
-        let first = run_all(rt, front, phase, share);
-        let second = run_all(rt, back, phase, share);
+        let first = run_all(rt, front, phase, end, share);
+        let second = run_all(rt, back, phase, end, share);
         return first.or(second);
     }
     let (first, second) = join_mut(
         rt,
         &mut || -> Option<Answer>
-            requires { IsSync R.row × All (T.is_ready phase) front.now }
+            requires { IsSync R.row × All (T.is_ready phase end) front.now }
             ensures { AllRun T.runs front.entry.now front.exit.now result }
-        { run_all(rt, front, phase, share) },
+        { run_all(rt, front, phase, end, share) },
         &mut || -> Option<Answer>
-            requires { IsSync R.row × All (T.is_ready phase) back.now }
+            requires { IsSync R.row × All (T.is_ready phase end) back.now }
             ensures { AllRun T.runs back.entry.now back.exit.now result }
-        { run_all(rt, back, phase, share) },
+        { run_all(rt, back, phase, end, share) },
     );
     first.or(second)
 }
 
-/// Runs the next phase of each lane, side by side where threads can be started. `None`: each lane's lines are all done. Else it is
+/// Runs the next phase of each lane, up to an index, side by side where threads can be started. `None`: each lane's lines are all done. Else it is
 /// the stop of the first lane in the list that has one. Each lane is left as `LaneRun::phase` leaves it. It takes no memory. No thread is
 /// started for a lane that has no line in the phase. Up to eight lanes that have some run in a thread each; of more, as many as are
 /// needed share one, one after the other.
@@ -131,10 +133,11 @@ pub fn run_phase<'a, S: Sys + Send, R: Threads + Sync>(
     rt: &R,
     lanes: &mut [Lane<'a, S>],
     phase: u32,
+    end: u32,
 ) -> Option<Answer>
-    requires { All (IsReady S.seat S.made phase) lanes.old }
+    requires { All (IsReady S.seat S.made phase end) lanes.old }
     ensures { AllRun (RunsPhase S.seat S.made S.stops S.stopped S.follows) lanes.old lanes.new result }
 {
     let share = share_of(lanes, phase);
-    run_all(rt, lanes, phase, share)
+    run_all(rt, lanes, phase, end, share)
 }

@@ -1,6 +1,7 @@
 -- What a seat made of a history: its entries, and the replies to them.
-use Rattle.std.proofs.Common.{◌≡◌, ℕ, suc, ◌+◌, ◌==◌, true, false, List, [], ◌∷◌, ◌++◌, length, refl, ap, ◌∙◌, arith, if◌then◌else◌}
+use Rattle.std.proofs.Common.{◌≡◌, ℕ, suc, ◌+◌, ◌==◌, true, false, List, [], ◌∷◌, ◌++◌, length, refl, sym, ap, ◌∙◌, subst, arith, if◌then◌else◌}
 use Rattle.std.specs.List.{filter}
+use mathlib.Core.List.{IsPrefix}
 use Rattle.ix_model.specs.world.World.{World}
 use Rattle.ix_model.specs.opening.Opening.{opening_world}
 use Rattle.ix_model.specs.history.Step.{step_of}
@@ -14,6 +15,7 @@ use Rattle.ix_lanes.specs.histories.Serial.{answered}
 use Rattle.ix_lanes.specs.histories.Lanes.{entries_of, replies_from, replies_of}
 use Rattle.ix_asking.specs.Runs.{answers_of}
 use Rattle.ix_asking.specs.Lines.{events_of}
+use Rattle.ix_parallel.proofs.together.Seen.{begin_each_other}
 
 module _ (k : ℕ) where
   abbrev its : List Made → List Made
@@ -58,6 +60,21 @@ module _ (k : ℕ) where
         ],
       )
 
+  -- what was made of the first entries stays where more entries are made
+  made_further : (w : World) (place : ℕ) (xs ys : List Event) → (more : List Made) × (its (replied w place (xs ++ ys)) ≡ its (replied w place xs) ++ more)
+  made_further w place [] ys = (its (replied w place ys), refl)
+  made_further w place (x ∷ xs) ys =
+      let later = made_further (step_of w place x).world (suc place) xs ys in
+      let first : Made = made_of x (step_of w place x) in
+      let whole : List Made = its (replied (step_of w place x).world (suc place) (xs ++ ys)) in
+      let front : List Made = its (replied (step_of w place x).world (suc place) xs) in (
+        later.0,
+        elim (x.seat == k) as (λ b. (if b then first ∷ whole else whole) ≡ (if b then first ∷ front else front) ++ later.0) [
+          | true ↦ ap (λ ms. first ∷ ms) later.1
+          | false ↦ later.1
+        ],
+      )
+
   -- each entry has one reply
   reply_each : (w : World) (place : ℕ) (events : List Event) → length (entries_of k events) ≡ length (replies_from w place k events)
   reply_each w place [] = refl
@@ -85,3 +102,19 @@ module _ (s : List Line) (k : ℕ) (events : List Event) where
   pub more_replies : (later : List Event) → (more : List Answered) × (replies_of s k (events ++ later) ≡ replies_of s k events ++ more)
   unfolding replies_of
   more_replies later = replies_further k (opening_world (config_of s)) 1 events later
+
+-- what a seat made of a beginning of a history begins what it made of the whole
+made_begins : (s : List Line) (k : ℕ) (xs ys : List Event) → IsPrefix xs ys → IsPrefix (made_by k (record { config = config_of s; events = xs })) (made_by k (record { config = config_of s; events = ys }))
+unfolding made_by
+made_begins s k xs ys p =
+    let more = made_further k (opening_world (config_of s)) 1 xs p.0 in
+    (more.0, sym more.1 ∙ ap (λ es. its k (replied (opening_world (config_of s)) 1 es)) p.1)
+
+-- where it made no more of the whole, it made no more of what lies between
+pub made_between : (s : List Line) (k : ℕ) (xs ys zs : List Event) → IsPrefix xs ys → IsPrefix ys zs
+    → made_by k (record { config = config_of s; events = zs }) ≡ made_by k (record { config = config_of s; events = xs })
+    → made_by k (record { config = config_of s; events = ys }) ≡ made_by k (record { config = config_of s; events = xs })
+made_between s k xs ys zs p q same =
+    begin_each_other _ _
+    (subst (IsPrefix (made_by k (record { config = config_of s; events = ys }))) same (made_begins s k ys zs q))
+    (made_begins s k xs ys p)

@@ -1,13 +1,13 @@
 -- What seats learn, meeting by meeting.
-use Rattle.std.proofs.Common.{◌≡◌, ◌≢◌, ℕ, ◌+◌, ◌<◌, List, length, Some, refl, sym, ap, ◌∙◌, subst, arith, slice_get, inl, inr}
+use Rattle.std.proofs.Common.{◌≡◌, ℕ, ◌+◌, ◌<◌, Bool, true, List, length, Some, refl, sym, ap, ◌∙◌, subst, arith, slice_get, inl, inr}
 use Rattle.std.proofs.lemmas.Bool.{cases_eq}
-use Rattle.std.proofs.lemmas.Option.{slice_get_within}
 use mathlib.Core.List.{IsPrefix}
 use Rattle.ix_kernel.specs.Systems.{SystemState, seat_goes_on_further}
-use Rattle.ix_parallel.specs.Meeting.{FirstSeeAll, LearnAll, Learns, LearnsOf, Meets, SameKernel, SeesFirst}
+use Rattle.ix_model.specs.history.Events.{Event}
+use Rattle.ix_parallel.specs.Meeting.{AllBegin, FirstLearns, LearnAll, LearnOfFirst, Learns, LearnsOf, Meets, SameKernel}
 use Rattle.ix_parallel.specs.Seats.{Seated}
 use Rattle.ix_parallel.proofs.together.OnePhase.{place}
-use Rattle.ix_parallel.proofs.together.Seen.{begins_further, begins_itself, same_goes_on}
+use Rattle.ix_parallel.proofs.together.Seen.{begins_further, same_goes_on}
 
 -- ---- learning
 pub learns_not : (lane : Seated) → Learns lane lane
@@ -64,83 +64,92 @@ module _ (n m : ℕ) (old new : List Seated) (meets : Meets LearnsOf n m old new
       let is : met.0 ≡ lane = let a = met.1 in cc in
       subst (λ (x : Seated). IsPrefix one.0.sys.seat.seen x.sys.seat.seen × IsPrefix other.0.sys.seat.seen x.sys.seat.seen) is (met.2.learns.goes.seen, met.2.begins)
 
-  pub meeting_sees : SeesFirst n m old → SeesFirst n (m + 1) new
-  meeting_sees h k k_low = λ lane seen here there. elim (cases_eq k n) [
-    | inl same ↦
-        let is : lane ≡ seen = let b = subst (λ j. slice_get new j ≡ Some seen) same there in cc in
-        subst (λ (x : Seated). IsPrefix x.sys.seat.seen lane.sys.seat.seen) is (begins_itself lane.sys.seat.seen)
-    | inr apart ↦
-        let was : slice_get old k ≡ Some seen = sym (meets.others k apart) ∙ there in
-        elim (cases_eq k m) [
-          | inl it ↦
-              let is : other.0 ≡ seen = let a = other.1 in let b = subst (λ j. slice_get old j ≡ Some seen) it was in cc in
-              subst (λ (x : Seated). IsPrefix x.sys.seat.seen lane.sys.seat.seen) is (met_is lane here).1
-          | inr not_it ↦
-              let below : k < m = grind (arith, k_low, not_it) in
-              begins_further seen.sys.seat.seen one.0.sys.seat.seen lane.sys.seat.seen (h k below one.0 seen one.1 was) (met_is lane here).0
-        ]
-  ]
+  -- it has seen what the other had, and what itself had
+  pub met_begins : (lane seen : Seated) → slice_get new n ≡ Some lane → slice_get old m ≡ Some seen → IsPrefix seen.sys.seat.seen lane.sys.seat.seen
+  met_begins lane seen here was =
+      let is : other.0 ≡ seen = let a = other.1 in cc in
+      subst (λ (x : Seated). IsPrefix x.sys.seat.seen lane.sys.seat.seen) is (met_is lane here).1
 
-  pub meeting_keeps : FirstSeeAll n old → FirstSeeAll n new
-  meeting_keeps h k j k_low = λ lane seen here there.
-      let apart : k ≢ n = λ same. absurd (omega (arith, same, k_low)) in
-      let was : slice_get old k ≡ Some lane = sym (meets.others k apart) ∙ here in
-      elim (cases_eq j n) [
-        | inl same ↦
-            let met = meets.one one.0 other.0 one.1 other.1 in
-            let is : met.0 ≡ seen = let a = met.1 in let b = subst (λ i. slice_get new i ≡ Some seen) same there in cc in
-            subst (λ (x : Seated). IsPrefix x.sys.seat.seen lane.sys.seat.seen) is
-            (met.2.longer lane.sys.seat.seen (h k n k_low lane one.0 was one.1) (h k m k_low lane other.0 was other.1))
-        | inr other_one ↦ h k j k_low lane seen was (sym (meets.others j other_one) ∙ there)
-      ]
+  pub met_grows : (lane seen : Seated) → slice_get new n ≡ Some lane → slice_get old n ≡ Some seen → IsPrefix seen.sys.seat.seen lane.sys.seat.seen
+  met_grows lane seen here was =
+      let is : one.0 ≡ seen = let a = one.1 in cc in
+      subst (λ (x : Seated). IsPrefix x.sys.seat.seen lane.sys.seat.seen) is (met_is lane here).0
 
-  -- one that meets another which has seen what any has
-  pub meeting_sees_all : FirstSeeAll n old → m < n → SeesFirst n (length new) new
-  meeting_sees_all h m_low k k_low = λ lane seen here there. elim (cases_eq k n) [
-    | inl same ↦
-        let is : lane ≡ seen = let b = subst (λ j. slice_get new j ≡ Some seen) same there in cc in
-        subst (λ (x : Seated). IsPrefix x.sys.seat.seen lane.sys.seat.seen) is (begins_itself lane.sys.seat.seen)
-    | inr apart ↦
-        let was : slice_get old k ≡ Some seen = sym (meets.others k apart) ∙ there in
-        begins_further seen.sys.seat.seen other.0.sys.seat.seen lane.sys.seat.seen (h m k m_low other.0 seen other.1 was) (met_is lane here).1
-  ]
+  -- and no more than the two had
+  pub met_within : (whole : List Event) → AllBegin whole old → (lane : Seated) → slice_get new n ≡ Some lane → IsPrefix lane.sys.seat.seen whole
+  met_within whole h lane here =
+      let met = meets.one one.0 other.0 one.1 other.1 in
+      let is : met.0 ≡ lane = let a = met.1 in cc in
+      subst (λ (x : Seated). IsPrefix x.sys.seat.seen whole) is (met.2.longer whole (h n one.0 one.1) (h m other.0 other.1))
 
--- a lane has seen what itself has
-pub sees_itself : (n m : ℕ) (lanes : List Seated) → m ≡ n → SeesFirst n m lanes → SeesFirst n (m + 1) lanes
-sees_itself n m lanes same h k k_low = λ lane seen here there. elim (cases_eq k n) [
-  | inl it ↦
-      let is : lane ≡ seen = let b = subst (λ j. slice_get lanes j ≡ Some seen) it there in cc in
-      subst (λ (x : Seated). IsPrefix x.sys.seat.seen lane.sys.seat.seen) is (begins_itself lane.sys.seat.seen)
-  | inr apart ↦ h k (grind (arith, k_low, apart, same)) lane seen here there
-]
+-- ---- lanes that learn of the first
+pub learnt_none : (parts : List Bool) (lanes : List Seated) → LearnOfFirst parts 1 lanes lanes
+learnt_none parts lanes = record { learn = learn_not lanes; first = refl; sees = λ n some low. absurd (omega (arith, some, low)); within = λ whole h. h }
 
--- once a lane has met all others
-pub one_more_sees : (n : ℕ) (lanes : List Seated) → FirstSeeAll n lanes → SeesFirst n (length lanes) lanes → FirstSeeAll (n + 1) lanes
-one_more_sees n lanes h sees k m k_low = λ lane seen here there. elim (cases_eq k n) [
-  | inl same ↦ sees m (slice_get_within lanes m seen there) lane seen (subst (λ j. slice_get lanes j ≡ Some lane) same here) there
-  | inr apart ↦ h k m (grind (arith, k_low, apart)) lane seen here there
-]
-
--- ---- the loops
--- a lane has met the first m others, or passed itself
-pub record MetFirst (n m : ℕ) (first lanes : List Seated) : Type 0 where
-  pub learn : LearnAll first lanes
-  pub sees : SeesFirst n m lanes
-  pub keeps : FirstSeeAll n first → FirstSeeAll n lanes
-
-pub met_none : (n : ℕ) (lanes : List Seated) → MetFirst n 0 lanes lanes
-met_none n lanes = record { learn = learn_not lanes; sees = λ k low. absurd (omega (arith, low)); keeps = λ h. h }
-
-pub met_next : (n m : ℕ) (first old new : List Seated) → n < length first → m < length first → MetFirst n m first old → Meets LearnsOf n m old new → MetFirst n (m + 1) first new
-met_next n m first old new low other_low h meets =
+pub learnt_next : (parts : List Bool) (n : ℕ) (first old new : List Seated) → 0 < n → n < length first → LearnOfFirst parts n first old → Meets LearnsOf n 0 old new
+    → LearnOfFirst parts (n + 1) first new
+learnt_next parts n first old new some low h meets =
     let even = h.learn.count in
     let a : n < length old = omega (arith, low, even) in
-    let b : m < length old = omega (arith, other_low, even) in
+    let b : 0 < length old = omega (arith, a) in
+    let stays : slice_get new 0 ≡ slice_get old 0 = meets.others 0 (λ same. absurd (omega (arith, same, some))) in
     record {
-      learn = learn_further first old new h.learn (meeting_learns n m old new meets a b);
-      sees = meeting_sees n m old new meets a b h.sees;
-      keeps = λ all. meeting_keeps n m old new meets a b (h.keeps all);
+      learn = learn_further first old new h.learn (meeting_learns n 0 old new meets a b);
+      first = stays ∙ h.first;
+      sees = λ k k_some k_low takes lane seen here there. elim (cases_eq k n) [
+        | inl same ↦ met_begins n 0 old new meets a b lane seen (subst (λ j. slice_get new j ≡ Some lane) same here) (sym stays ∙ there)
+        | inr apart ↦ h.sees k k_some (grind (arith, k_low, apart)) takes lane seen (sym (meets.others k apart) ∙ here) (sym stays ∙ there)
+      ];
+      within = λ whole begin k lane here. elim (cases_eq k n) [
+        | inl same ↦ met_within n 0 old new meets a b whole (h.within whole begin) lane (subst (λ j. slice_get new j ≡ Some lane) same here)
+        | inr apart ↦ h.within whole begin k lane (sym (meets.others k apart) ∙ here)
+      ];
     }
 
-pub met_itself : (n m : ℕ) (first lanes : List Seated) → m ≡ n → MetFirst n m first lanes → MetFirst n (m + 1) first lanes
-met_itself n m first lanes same h = record { learn = h.learn; sees = sees_itself n m lanes same h.sees; keeps = h.keeps }
+-- one that takes no part
+pub learnt_other : (parts : List Bool) (n : ℕ) (first old : List Seated) → (slice_get parts n ≡ Some true → ⊥) → LearnOfFirst parts n first old → LearnOfFirst parts (n + 1) first old
+learnt_other parts n first old not h = record {
+  learn = h.learn;
+  first = h.first;
+  sees = λ k k_some k_low takes. elim (cases_eq k n) [
+    | inl same ↦ absurd (not (subst (λ j. slice_get parts j ≡ Some true) same takes))
+    | inr apart ↦ h.sees k k_some (grind (arith, k_low, apart)) takes
+  ];
+  within = h.within;
+}
+
+-- ---- the first learns
+pub heard_none : (parts : List Bool) (lanes : List Seated) → FirstLearns parts 1 lanes lanes
+heard_none parts lanes = record { learn = learn_not lanes; others = λ n some. refl; sees = λ n some low. absurd (omega (arith, some, low)) }
+
+pub heard_next : (parts : List Bool) (n : ℕ) (first old new : List Seated) → 0 < n → n < length first → FirstLearns parts n first old → Meets LearnsOf 0 n old new
+    → FirstLearns parts (n + 1) first new
+heard_next parts n first old new some low h meets =
+    let even = h.learn.count in
+    let a : n < length old = omega (arith, low, even) in
+    let b : 0 < length old = omega (arith, a) in
+    let stay : (k : ℕ) → 0 < k → slice_get new k ≡ slice_get old k = λ k k_some. meets.others k (λ same. absurd (omega (arith, same, k_some))) in
+    record {
+      learn = learn_further first old new h.learn (meeting_learns 0 n old new meets b a);
+      others = λ k k_some. stay k k_some ∙ h.others k k_some;
+      sees = λ k k_some k_low takes lane seen here there.
+          let was : slice_get old k ≡ Some seen = sym (stay k k_some) ∙ there in
+          elim (cases_eq k n) [
+            | inl same ↦ met_begins 0 n old new meets b a lane seen here (subst (λ j. slice_get old j ≡ Some seen) same was)
+            | inr apart ↦
+                let before = place old 0 b in
+                begins_further seen.sys.seat.seen before.0.sys.seat.seen lane.sys.seat.seen
+                (h.sees k k_some (grind (arith, k_low, apart)) takes before.0 seen before.1 was)
+                (met_grows 0 n old new meets b a lane before.0 here before.1)
+          ];
+    }
+
+pub heard_other : (parts : List Bool) (n : ℕ) (first old : List Seated) → (slice_get parts n ≡ Some true → ⊥) → FirstLearns parts n first old → FirstLearns parts (n + 1) first old
+heard_other parts n first old not h = record {
+  learn = h.learn;
+  others = h.others;
+  sees = λ k k_some k_low takes. elim (cases_eq k n) [
+    | inl same ↦ absurd (not (subst (λ j. slice_get parts j ≡ Some true) same takes))
+    | inr apart ↦ h.sees k k_some (grind (arith, k_low, apart)) takes
+  ];
+}

@@ -6,12 +6,12 @@ use Rattle.ix_parallel.specs.Meeting.{MayMeet, Meets, SameKernel}
 use Rattle.ix_parallel.specs.Seats.{Seated}
 
 -- ---- lists
-set_here : {A : Type 0} → (xs : List A) (n : ℕ) (x y : A) → slice_get xs n ≡ Some x → slice_get (set xs n y) n ≡ Some y
+pub set_here : {A : Type 0} → (xs : List A) (n : ℕ) (x y : A) → slice_get xs n ≡ Some x → slice_get (set xs n y) n ≡ Some y
 set_here [] n x y h = cc
 set_here (z ∷ xs) zero x y h = refl
 set_here (z ∷ xs) (suc n) x y h = set_here xs n x y h
 
-set_else : {A : Type 0} → (xs : List A) (n k : ℕ) (y : A) → k ≢ n → slice_get (set xs n y) k ≡ slice_get xs k
+pub set_else : {A : Type 0} → (xs : List A) (n k : ℕ) (y : A) → k ≢ n → slice_get (set xs n y) k ≡ slice_get xs k
 set_else [] n k y apart = refl
 set_else (z ∷ xs) zero zero y apart = absurd (apart refl)
 set_else (z ∷ xs) zero (suc k) y apart = refl

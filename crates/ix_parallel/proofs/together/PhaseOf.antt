@@ -1,6 +1,5 @@
 -- The phase of a line, by where it stands.
 use Rattle.std.proofs.Common.{◌≡◌, ℕ, zero, suc, ◌+◌, ◌≤◌, ◌<◌, nat_le, Bool, true, false, cond, List, [], ◌∷◌, length, take, count_by, refl, ap, ◌∙◌, arith}
-use Rattle.std.proofs.lemmas.List.Sums.{sum_by-cons}
 use Rattle.std.proofs.lemmas.List.{length-take}
 use Rattle.std.proofs.lemmas.Bool.{and_parts, and_from, le-leb, leb-true}
 use Rattle.ix_model.specs.history.Events.{Event}
@@ -9,46 +8,10 @@ use Rattle.ix_lanes.specs.histories.Lanes.{never_falls}
 use Rattle.ix_script.specs.lines.Before.{is_phase}
 use Rattle.ix_lanes.specs.running.Phases.{lines_before, lines_to}
 use Rattle.ix_lanes.specs.histories.History.{phase_of, phases_never_fall}
-use Rattle.ix_lanes.proofs.phased.PhaseLines.{before-taken, to-none, to-other, to-phase, to-stop}
+use Rattle.ix_lanes.proofs.phased.Counted.{past_many, to_few}
+use Rattle.ix_lanes.proofs.phased.PhaseLines.{before-taken, count-cons, to-none, to-other, to-phase, to-stop}
 
--- ---- how many `phase` lines there are
-count-cons : (l : Line) (lines : List Line) (b : Bool) → is_phase l ≡ b → count_by is_phase (l ∷ lines) ≡ cond b 1 0 + count_by is_phase lines
-count-cons l lines b is = sum_by-cons (λ x. cond (is_phase x) 1 0) l lines ∙ ap (λ c. cond c 1 0 + count_by is_phase lines) is
-
--- among the lines up to a phase there are no more than its number
-to_few : (s : List Line) (k n : ℕ) → n ≤ length (lines_to k s) → count_by is_phase (take n s) ≤ k
-to_few s k zero h = omega arith
-to_few [] k (suc n) h = absurd (omega (arith, ap length (to-none k), h))
-to_few (l ∷ lines) k (suc n) h = go (is_phase l) refl (λ m low. to_few lines m n low) k h
-  where
-    go : (b : Bool) → is_phase l ≡ b → ((m : ℕ) → n ≤ length (lines_to m lines) → count_by is_phase (take n lines) ≤ m)
-        → (k : ℕ) → suc n ≤ length (lines_to k (l ∷ lines)) → count_by is_phase (l ∷ take n lines) ≤ k
-    go true is few zero h = absurd (omega (arith, ap length (to-stop l lines is), h))
-    go true is few (suc k) h =
-        let more : count_by is_phase (l ∷ take n lines) ≡ 1 + count_by is_phase (take n lines) = count-cons l (take n lines) true is in
-        omega (arith, more, few k (omega (arith, ap length (to-phase k l lines is), h)))
-    go false is few k h =
-        let same : count_by is_phase (l ∷ take n lines) ≡ 0 + count_by is_phase (take n lines) = count-cons l (take n lines) false is in
-        omega (arith, same, few k (omega (arith, ap length (to-other k l lines is), h)))
-
--- and past them there are more
-past_many : (s : List Line) (k n : ℕ) → length (lines_to k s) < n → n ≤ length s → k < count_by is_phase (take n s)
-past_many s k zero low high = absurd (omega (arith, low))
-past_many [] k (suc n) low high = absurd (omega (arith, high))
-past_many (l ∷ lines) k (suc n) low high = go (is_phase l) refl (λ m past. past_many lines m n past (omega (arith, high))) k low
-  where
-    go : (b : Bool) → is_phase l ≡ b → ((m : ℕ) → length (lines_to m lines) < n → m < count_by is_phase (take n lines))
-        → (k : ℕ) → length (lines_to k (l ∷ lines)) < suc n → k < count_by is_phase (l ∷ take n lines)
-    go true is many zero low =
-        let more : count_by is_phase (l ∷ take n lines) ≡ 1 + count_by is_phase (take n lines) = count-cons l (take n lines) true is in
-        omega (arith, more)
-    go true is many (suc k) low =
-        let more : count_by is_phase (l ∷ take n lines) ≡ 1 + count_by is_phase (take n lines) = count-cons l (take n lines) true is in
-        omega (arith, more, many k (omega (arith, ap length (to-phase k l lines is), low)))
-    go false is many k low =
-        let same : count_by is_phase (l ∷ take n lines) ≡ 0 + count_by is_phase (take n lines) = count-cons l (take n lines) false is in
-        omega (arith, same, many k (omega (arith, ap length (to-other k l lines is), low)))
-
+-- ---- from one phase to the next
 to_further : (s : List Line) (k : ℕ) → length (lines_to k s) ≤ length (lines_to (suc k) s)
 to_further [] k = omega (arith, ap length (to-none k), ap length (to-none (suc k)))
 to_further (l ∷ lines) k = go (is_phase l) refl (to_further lines) k
@@ -80,8 +43,8 @@ count_further s zero n h = omega arith
 count_further s (suc m) zero h = absurd (omega (arith, h))
 count_further [] (suc m) (suc n) h = omega arith
 count_further (l ∷ lines) (suc m) (suc n) h =
-    let a : count_by is_phase (l ∷ take m lines) ≡ cond (is_phase l) 1 0 + count_by is_phase (take m lines) = count-cons l (take m lines) (is_phase l) refl in
-    let b : count_by is_phase (l ∷ take n lines) ≡ cond (is_phase l) 1 0 + count_by is_phase (take n lines) = count-cons l (take n lines) (is_phase l) refl in
+    let a : count_by is_phase (l ∷ take m lines) ≡ cond (is_phase l) 1 0 + count_by is_phase (take m lines) = count-cons l (take m lines) in
+    let b : count_by is_phase (l ∷ take n lines) ≡ cond (is_phase l) 1 0 + count_by is_phase (take n lines) = count-cons l (take n lines) in
     omega (arith, a, b, count_further lines m n (omega (arith, h)))
 
 phase_further : (s : List Line) (m n : ℕ) → m ≤ n → phase_of s m ≤ phase_of s n

@@ -1,17 +1,16 @@
-use Rattle.std.proofs.Common.{◌≡◌, ◌+◌, suc, sym, ◌∙◌, subst, arith}
+use Rattle.std.proofs.Common.{arith}
 use Rattle.ix_script.specs.scripts.Schedule.{phases}
-use Rattle.ix_parallel.specs.Seats.{AtPhase}
-use Rattle.ix_parallel.proofs.together.OnePhase.{goes_on, stops_for_all}
+use Rattle.ix_parallel.proofs.together.AllMet.{all_met_either, all_parts, at_first, kernel_of}
 use Rattle.ix_parallel.proofs.phases.run_phases.Goals as goal
 
-pub returns-then-is_some : goal.returns-then-is_some
-returns-then-is_some g c = λ kernel at. stops_for_all c.args.script.now kernel (suc c.loop-phase.phase) (phases c.args.script.now) c.run_one-stop.new.lanes c.run_one-stop.result
-    (sym c.is_some.ensures ∙ c.if-is_some.true) (c.run_one-stop.ensures kernel (c.loop-phase.invariant.at kernel at))
+pub run_each-stop-requires-clause-at : goal.run_each-stop-requires-clause-at
+run_each-stop-requires-clause-at g c = (c.requires.at.0, at_first c.args.script.now c.requires.at.0 0 c.args.lanes.now c.requires.at.1)
 
-pub loop-phase-preserved : goal.loop-phase-preserved
-loop-phase-preserved g c = record {
-  at = λ kernel at. let next : suc c.loop-phase.phase ≡ c.loop-phase.phase + 1 = omega arith in
-      subst (λ k. AtPhase c.args.script.now kernel k c.run_one-stop.new.lanes) next
-      (goes_on c.args.script.now kernel (suc c.loop-phase.phase) c.run_one-stop.new.lanes c.run_one-stop.result (sym c.is_some.ensures ∙ c.if-is_some.false)
-      (c.run_one-stop.ensures kernel (c.loop-phase.invariant.at kernel at)));
-}
+pub learn_of_first-requires-clause-kernel : goal.learn_of_first-requires-clause-kernel
+learn_of_first-requires-clause-kernel g c = kernel_of c.args.script.now c.requires.at.0 (phases c.args.script.now) c.run_each-stop.new.lanes c.run_each-stop.result
+    (c.run_each-stop.ensures c.requires.at.0 (at_first c.args.script.now c.requires.at.0 0 c.args.lanes.now c.requires.at.1))
+
+pub returns : goal.returns
+returns g c = λ kernel at. all_met_either c.args.script.now kernel (phases c.args.script.now) c.run_each-stop.new.lanes c.learn_of_first.new.lanes _ c.run_each-stop.result
+    (c.run_each-stop.ensures kernel (at_first c.args.script.now kernel 0 c.args.lanes.now at)) (λ n low. all_parts n (omega (arith, low, c.run_each-stop.auto.lanes, c.requires.few)))
+    c.learn_of_first.ensures

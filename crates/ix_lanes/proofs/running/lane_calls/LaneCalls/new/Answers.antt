@@ -4,7 +4,7 @@ use Rattle.ix_lanes.proofs.running.lane_calls.LaneCalls.new.Goals as goal
 
 pub invariant_of-result : goal.invariant_of-result
 invariant_of-result c = (
-  record { header = c.in_ok-header.ensures; places = c.in_ok-places.ensures.all; ruled = c.requires.policy },
+  record { header = c.requires.header; places = c.in_ok-places.ensures.all; ruled = c.requires.policy },
   record {
     within = (omega arith, omega arith);
     among = among_first c.args.script.now c.args.lane;

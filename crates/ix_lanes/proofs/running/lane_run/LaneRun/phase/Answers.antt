@@ -1,4 +1,4 @@
-use Rattle.std.proofs.Common.{◌≡◌, ℕ, ◌+◌, ◌<◌, ◌++◌, suc, true, Bool, List, length, sym, ap, ◌∙◌, subst, arith, add-one}
+use Rattle.std.proofs.Common.{◌≡◌, ℕ, ◌+◌, ◌<◌, ◌++◌, suc, true, not, is_some, true≢false, Bool, List, length, sym, ap, ◌∙◌, subst, arith, add-one}
 use Rattle.ix_model.specs.history.Made.{Made}
 use Rattle.ix_model.specs.declared.reply.Answer.{Answer}
 use Rattle.ix_script.specs.declared.line.Line.{Line}
@@ -12,19 +12,22 @@ use Rattle.ix_lanes.specs.running.Left.{LanePlace, asks_left, is_done, names_don
 use Rattle.ix_script.specs.scripts.Schedule.{phases}
 use Rattle.ix_lanes.specs.running.Phases.{lane_between, lines_before}
 use Rattle.ix_lanes.specs.running.Runs.{CutOff, Ran, StandsFor}
+use Rattle.ix_lanes.specs.running.Stretches.{HasNone}
 use Rattle.ix_lanes.proofs.phased.Lefts.{came_done, stops_due}
 use Rattle.ix_lanes.proofs.phased.PhaseLines.{before-few, before-grows, phases-few}
 use Rattle.ix_lanes.proofs.phased.PhaseRuns.{asks_between, cut_next, next_asks, stands_next}
+use Rattle.ix_lanes.proofs.phased.TakingPart.{idle_asks, next_none, none_next, stands_over}
 use Rattle.ix_lanes.proofs.running.lane_run.LaneRun.phase.Goals as goal
 
 pub ask_to-requires-clause-within : goal.ask_to-requires-clause-within
 ask_to-requires-clause-within g c =
     let s : List Line = c.self.inside.script.now in
+    let view = sym c.self.view_is in
     let k : ℕ = c.self.inside.done in
     let done : is_done (asks_left c.self.inside.calls) ≡ true = ap (λ (r : Ran). r.between) c.self.view_is ∙ c.requires.stands.between in
     let phase : c.args.phase ≡ k = c.requires.next ∙ sym (ap (λ (r : Ran). r.done) c.self.view_is) in
     let from : c.self.inside.calls.end ≡ length (lines_before k s) = c.self.invariant.end done in
-    let to : c.phase_end.result ≡ length (lines_before (suc k) s) = c.phase_end.ensures ∙ ap (λ n. length (lines_before (suc n) s)) phase in
+    let to : c.args.end ≡ length (lines_before (suc k) s) = c.requires.end ∙ (λ x. length (lines_before (suc (phase x)) (view x).script)) in
     let long : length c.self.inside.calls.script ≡ length s = ap length c.self.invariant.script in
     (omega (arith, from, to, before-grows s k), omega (arith, to, long, before-few s (suc k)))
 
@@ -34,9 +37,16 @@ overflow_add-self g c =
     let within : c.args.phase < phases s = rw (ap (λ (r : Ran). r.script) c.self.view_is) c.requires.phase in
     omega (arith, within, phases-few s, c.len-count.ensures.len)
 
+pub overflow_add-self-in-Ok : goal.overflow_add-self-in-Ok
+overflow_add-self-in-Ok g c =
+    let s : List Line = c.self.inside.script.now in
+    let within : c.args.phase < phases s = rw (ap (λ (r : Ran). r.script) c.self.view_is) c.requires.phase in
+    omega (arith, within, phases-few s, c.len-count.ensures.len)
+
 pub returns-in-Ok-clause-done : goal.returns-in-Ok-clause-done
 returns-in-Ok-clause-done g c =
     let s : List Line = c.self.inside.script.now in
+    let view = sym c.self.view_is in
     let k : ℕ = c.self.inside.done in
     let lane : ℕ = c.self.inside.calls.seat in
     let names : Names = names_done (asks_left c.self.inside.calls) in
@@ -46,10 +56,10 @@ returns-in-Ok-clause-done g c =
     let done : is_done (asks_left c.self.inside.calls) ≡ true = ap (λ (r : Ran). r.between) c.self.view_is ∙ c.requires.stands.between in
     let phase : c.args.phase ≡ k = c.requires.next ∙ sym (ap (λ (r : Ran). r.done) c.self.view_is) in
     let from : c.self.inside.calls.end ≡ length (lines_before k s) = c.self.invariant.end done in
-    let to : c.phase_end.result ≡ length (lines_before (suc k) s) = c.phase_end.ensures ∙ ap (λ n. length (lines_before (suc n) s)) phase in
+    let to : c.args.end ≡ length (lines_before (suc k) s) = c.requires.end ∙ (λ x. length (lines_before (suc (phase x)) (view x).script)) in
     let asks : asks_left c.ask_to.new.self ≡ next_asks s lane k names =
-    c.ask_to.ensures.asks ∙ ap (λ t. lines_ask (rules_told t) (header_of t) names (lane_between t lane c.self.inside.calls.end c.phase_end.result)) c.self.invariant.script
-    ∙ asks_between s lane k c.self.inside.calls.end c.phase_end.result names from to in
+    c.ask_to.ensures.asks ∙ ap (λ t. lines_ask (rules_told t) (header_of t) names (lane_between t lane c.self.inside.calls.end c.args.end)) c.self.invariant.script
+    ∙ asks_between s lane k c.self.inside.calls.end c.args.end names from to in
     let seat : g.S.Sys.seat c.args.sys.now ≡ lane = c.requires.seat ∙ sym (ap (λ (r : Ran). r.lane) c.self.view_is) in
     let stands : StandsFor (record { script = s; lane = lane; done = k; between = true; names = names }) old =
     subst (λ (b : Bool). StandsFor (record { script = s; lane = lane; done = k; between = b; names = names }) old) done
@@ -77,6 +87,7 @@ returns-in-Ok-clause-done g c =
 pub returns-in-Err-clause-cut : goal.returns-in-Err-clause-cut
 returns-in-Err-clause-cut g c =
     let s : List Line = c.self.inside.script.now in
+    let view = sym c.self.view_is in
     let k : ℕ = c.self.inside.done in
     let lane : ℕ = c.self.inside.calls.seat in
     let names : Names = names_done (asks_left c.self.inside.calls) in
@@ -86,10 +97,10 @@ returns-in-Err-clause-cut g c =
     let done : is_done (asks_left c.self.inside.calls) ≡ true = ap (λ (r : Ran). r.between) c.self.view_is ∙ c.requires.stands.between in
     let phase : c.args.phase ≡ k = c.requires.next ∙ sym (ap (λ (r : Ran). r.done) c.self.view_is) in
     let from : c.self.inside.calls.end ≡ length (lines_before k s) = c.self.invariant.end done in
-    let to : c.phase_end.result ≡ length (lines_before (suc k) s) = c.phase_end.ensures ∙ ap (λ n. length (lines_before (suc n) s)) phase in
+    let to : c.args.end ≡ length (lines_before (suc k) s) = c.requires.end ∙ (λ x. length (lines_before (suc (phase x)) (view x).script)) in
     let asks : asks_left c.ask_to.new.self ≡ next_asks s lane k names =
-    c.ask_to.ensures.asks ∙ ap (λ t. lines_ask (rules_told t) (header_of t) names (lane_between t lane c.self.inside.calls.end c.phase_end.result)) c.self.invariant.script
-    ∙ asks_between s lane k c.self.inside.calls.end c.phase_end.result names from to in
+    c.ask_to.ensures.asks ∙ ap (λ t. lines_ask (rules_told t) (header_of t) names (lane_between t lane c.self.inside.calls.end c.args.end)) c.self.invariant.script
+    ∙ asks_between s lane k c.self.inside.calls.end c.args.end names from to in
     let seat : g.S.Sys.seat c.args.sys.now ≡ lane = c.requires.seat ∙ sym (ap (λ (r : Ran). r.lane) c.self.view_is) in
     let stands : StandsFor (record { script = s; lane = lane; done = k; between = true; names = names }) old =
     subst (λ (b : Bool). StandsFor (record { script = s; lane = lane; done = k; between = b; names = names }) old) done
@@ -104,3 +115,68 @@ returns-in-Err-clause-cut g c =
     (subst (λ (b : Bool). CutOff (record { script = s; lane = lane; done = k; between = b; names = names }) (g.S.Sys.made c.run.new.sys) c.answer.result) (sym done)
     (subst (λ (made : List Made). CutOff (record { script = s; lane = lane; done = k; between = true; names = names }) made c.answer.result) (sym one.1.made)
     (subst (λ (stop : Answer). CutOff (record { script = s; lane = lane; done = k; between = true; names = names }) (old ++ more) stop) (sym c.answer.ensures) both)))
+
+pub returns-then-is_none-clause-done : goal.returns-then-is_none-clause-done
+returns-then-is_none-clause-done g c =
+    let s : List Line = c.self.inside.script.now in
+    let view = sym c.self.view_is in
+    let k : ℕ = c.self.inside.done in
+    let lane : ℕ = c.self.inside.calls.seat in
+    let names : Names = names_done (asks_left c.self.inside.calls) in
+    let done : is_done (asks_left c.self.inside.calls) ≡ true = ap (λ (r : Ran). r.between) c.self.view_is ∙ c.requires.stands.between in
+    let phase : c.args.phase ≡ k = c.requires.next ∙ sym (ap (λ (r : Ran). r.done) c.self.view_is) in
+    let from : c.self.inside.calls.end ≡ length (lines_before k s) = c.self.invariant.end done in
+    let to : c.args.end ≡ length (lines_before (suc k) s) = c.requires.end ∙ (λ x. length (lines_before (suc (phase x)) (view x).script)) in
+    let asks : asks_left c.ask_to.new.self ≡ next_asks s lane k names =
+    c.ask_to.ensures.asks ∙ ap (λ t. lines_ask (rules_told t) (header_of t) names (lane_between t lane c.self.inside.calls.end c.args.end)) c.self.invariant.script
+    ∙ asks_between s lane k c.self.inside.calls.end c.args.end names from to in
+    let old : List Made = g.S.Sys.made c.args.sys.now in
+    let stands : StandsFor (record { script = s; lane = lane; done = k; between = true; names = names }) old =
+    subst (λ (b : Bool). StandsFor (record { script = s; lane = lane; done = k; between = b; names = names }) old) done
+    (subst (λ (r : Ran). StandsFor r old) view c.requires.stands) in
+    let over : is_done (asks_left c.ask_to.new.self) ≡ true = none_next _ (asks_left c.ask_to.new.self) (ap is_some (sym c.next_phase.ensures) ∙ c.is_none.ensures ∙ ap not c.if-is_none.true) in
+    let stays : c.ask_to.new.self.seat ≡ lane = ap (λ (p : LanePlace). p.seat) c.ask_to.ensures.place in
+    let further : suc k ≡ c.args.phase + 1 = ap suc (sym phase) ∙ sym (add-one c.args.phase) in (
+      add-one c.args.phase ∙ ap suc c.requires.next,
+      subst (λ (r : Ran). StandsFor r old) (λ i. record {
+        script = s;
+        lane = sym stays i;
+        done = further i;
+        between = is_done (asks_left c.ask_to.new.self);
+        names = names_done (asks_left c.ask_to.new.self);
+      }) (stands_over s lane k names old (asks_left c.ask_to.new.self) stands asks over),
+    )
+
+pub returns-in-Ok-clause-idle : goal.returns-in-Ok-clause-idle
+returns-in-Ok-clause-idle g c = λ none.
+    let s : List Line = c.self.inside.script.now in
+    let view = sym c.self.view_is in
+    let k : ℕ = c.self.inside.done in
+    let lane : ℕ = c.self.inside.calls.seat in
+    let names : Names = names_done (asks_left c.self.inside.calls) in
+    let done : is_done (asks_left c.self.inside.calls) ≡ true = ap (λ (r : Ran). r.between) c.self.view_is ∙ c.requires.stands.between in
+    let phase : c.args.phase ≡ k = c.requires.next ∙ sym (ap (λ (r : Ran). r.done) c.self.view_is) in
+    let from : c.self.inside.calls.end ≡ length (lines_before k s) = c.self.invariant.end done in
+    let to : c.args.end ≡ length (lines_before (suc k) s) = c.requires.end ∙ (λ x. length (lines_before (suc (phase x)) (view x).script)) in
+    let asks : asks_left c.ask_to.new.self ≡ next_asks s lane k names =
+    c.ask_to.ensures.asks ∙ ap (λ t. lines_ask (rules_told t) (header_of t) names (lane_between t lane c.self.inside.calls.end c.args.end)) c.self.invariant.script
+    ∙ asks_between s lane k c.self.inside.calls.end c.args.end names from to in
+    let over : is_done (asks_left c.ask_to.new.self) ≡ true = ap is_done (asks ∙ idle_asks s lane k names (subst (λ (r : Ran). HasNone r.script r.lane r.done) view none)) in
+    absurd (true≢false (sym (c.is_none.ensures ∙ ap not c.if-is_none.false) ∙ ap is_some c.next_phase.ensures ∙ next_none _ (asks_left c.ask_to.new.self) over))
+
+pub returns-in-Err-clause-idle : goal.returns-in-Err-clause-idle
+returns-in-Err-clause-idle g c = λ none.
+    let s : List Line = c.self.inside.script.now in
+    let view = sym c.self.view_is in
+    let k : ℕ = c.self.inside.done in
+    let lane : ℕ = c.self.inside.calls.seat in
+    let names : Names = names_done (asks_left c.self.inside.calls) in
+    let done : is_done (asks_left c.self.inside.calls) ≡ true = ap (λ (r : Ran). r.between) c.self.view_is ∙ c.requires.stands.between in
+    let phase : c.args.phase ≡ k = c.requires.next ∙ sym (ap (λ (r : Ran). r.done) c.self.view_is) in
+    let from : c.self.inside.calls.end ≡ length (lines_before k s) = c.self.invariant.end done in
+    let to : c.args.end ≡ length (lines_before (suc k) s) = c.requires.end ∙ (λ x. length (lines_before (suc (phase x)) (view x).script)) in
+    let asks : asks_left c.ask_to.new.self ≡ next_asks s lane k names =
+    c.ask_to.ensures.asks ∙ ap (λ t. lines_ask (rules_told t) (header_of t) names (lane_between t lane c.self.inside.calls.end c.args.end)) c.self.invariant.script
+    ∙ asks_between s lane k c.self.inside.calls.end c.args.end names from to in
+    let over : is_done (asks_left c.ask_to.new.self) ≡ true = ap is_done (asks ∙ idle_asks s lane k names (subst (λ (r : Ran). HasNone r.script r.lane r.done) view none)) in
+    absurd (true≢false (sym (c.is_none.ensures ∙ ap not c.if-is_none.false) ∙ ap is_some c.next_phase.ensures ∙ next_none _ (asks_left c.ask_to.new.self) over))

@@ -1,0 +1,21 @@
+use Rattle.std.proofs.Common.{arith}
+use Rattle.ix_parallel.proofs.together.Meeting.{kernel_stays, learnt_next, learnt_none, learnt_other}
+use Rattle.ix_parallel.proofs.together.MetAt.{same_kernels}
+use Rattle.ix_parallel.proofs.meeting.learn_of_first.Goals as goal
+
+pub loop-one-init : goal.loop-one-init
+loop-one-init g c = record { met = learnt_none c.args.parts.now c.args.lanes.now; some = omega arith }
+
+pub meet_two-requires-clause-may : goal.meet_two-requires-clause-may
+meet_two-requires-clause-may g c = same_kernels c.loop-one.lanes c.loop-one.one 0 (kernel_stays c.args.lanes.now c.loop-one.lanes c.loop-one.invariant.met.learn c.requires.kernel)
+
+pub loop-one-preserved : goal.loop-one-preserved
+loop-one-preserved g c = ?
+
+pub returns : goal.returns
+returns g c = let h = c.loop-one.invariant.met in record {
+  learn = h.learn;
+  first = h.first;
+  sees = λ n some low. h.sees n some (omega (arith, low, c.loop-one-test.false));
+  within = h.within;
+}
