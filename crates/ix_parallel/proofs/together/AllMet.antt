@@ -22,7 +22,7 @@ use Rattle.ix_lanes.specs.running.Runs.{Ran}
 use Rattle.ix_lanes.specs.running.Runs as runs
 use Rattle.ix_parallel.specs.Between.{Between, CutShort, GetsTo, MadeAll, MadeTo, SeesPart, StagesWhere}
 use Rattle.ix_parallel.specs.Meeting.{AllBegin, LearnOfFirst, Learns, SameKernel}
-use Rattle.ix_parallel.specs.Seats.{AreStopped, AtPhase, Runs, Seated, Sees, Stands}
+use Rattle.ix_parallel.specs.Seats.{AreStopped, AtPhase, Runs, Seated, Sees}
 use Rattle.ix_parallel.specs.Stages.{ComesTo, Stages}
 use Rattle.ix_parallel.proofs.together.OneLane.{comes_as_made}
 use Rattle.ix_parallel.proofs.together.OnePhase.{place}

@@ -12,7 +12,7 @@ run_one-stop-requires-clause-few g c =
     omega (arith, was, is, c.requires.few)
 
 pub run_one-stop-requires-clause-at : goal.run_one-stop-requires-clause-at
-run_one-stop-requires-clause-at g c = (c.requires.at.0, c.loop-phase.invariant.at c.requires.at.0 c.requires.at.1)
+run_one-stop-requires-clause-at g c κs within = (c.requires.at.0, c.loop-phase.invariant.at c.requires.at.0 c.requires.at.1)
 
 pub returns-then-is_some : goal.returns-then-is_some
 returns-then-is_some g c = λ kernel at. stops_for_all c.args.script.now kernel (suc c.loop-phase.phase) (phases c.args.script.now) c.run_one-stop.new.lanes c.run_one-stop.result
@@ -26,5 +26,5 @@ loop-phase-preserved g c =
           subst (λ k. Between c.args.script.now kernel k c.run_one-stop.new.lanes) next
           (goes_on c.args.script.now kernel (suc c.loop-phase.phase) c.run_one-stop.new.lanes c.run_one-stop.result (sym c.is_some.ensures ∙ c.if-is_some.false)
           (c.run_one-stop.ensures kernel (c.loop-phase.invariant.at kernel at)));
-      end = c.phase_end.ensures ∙ ap (λ k. length (lines_before k c.args.script.now)) next;
+      end = c.phase_end-end.ensures ∙ ap (λ k. length (lines_before k c.args.script.now)) next;
     }

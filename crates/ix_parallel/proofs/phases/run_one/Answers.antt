@@ -1,4 +1,3 @@
-use Rattle.std.proofs.Common.{arith}
 use Rattle.ix_parallel.proofs.together.Meeting.{kernel_stays}
 use Rattle.ix_parallel.proofs.together.OnePhase.{kernel_after, kernel_before, lanes_ready, runs_on}
 use Rattle.ix_parallel.proofs.phases.run_one.Goals as goal

@@ -4,7 +4,7 @@ use Rattle.ix_parallel.proofs.together.AllMet.{all_met_either, all_parts, at_fir
 use Rattle.ix_parallel.proofs.phases.run_phases.Goals as goal
 
 pub run_each-stop-requires-clause-at : goal.run_each-stop-requires-clause-at
-run_each-stop-requires-clause-at g c = (c.requires.at.0, at_first c.args.script.now c.requires.at.0 0 c.args.lanes.now c.requires.at.1)
+run_each-stop-requires-clause-at g c κs within = (c.requires.at.0, at_first c.args.script.now c.requires.at.0 0 c.args.lanes.now c.requires.at.1)
 
 pub learn_of_first-requires-clause-kernel : goal.learn_of_first-requires-clause-kernel
 learn_of_first-requires-clause-kernel g c = kernel_of c.args.script.now c.requires.at.0 (phases c.args.script.now) c.run_each-stop.new.lanes c.run_each-stop.result
