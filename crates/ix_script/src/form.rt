@@ -1,5 +1,5 @@
 ghost use Rattle.std.specs.Prelude.{◌≡◌, ◌<◌, List, ◌≤◌, ◌+◌, ℕ, length, map};
-ghost use Rattle.ix_script.specs.lines.Forms.{is_header, is_command_form, has_right_count, plain_of, on_path_of, on_fd_of, counted_of, frame_form, group_form, file_form, process_form, form_of, arity, kinds, tail_of};
+ghost use Rattle.ix_script.specs.lines.Forms.{is_header, is_command_form, has_right_count, form_of, arity, kinds, tail_of};
 ghost use Rattle.ix_script.specs.reader.Placing.{is_entry, payload_place, kind_in};
 ghost use Rattle.ix_label.specs.declared.form.Form as spelled;
 
@@ -134,148 +134,67 @@ impl Form {
     }
 }
 
-#[tactic(auto, unfolding(crate::specs::lines::Forms::plain_of))]
-fn plain_of(word: &[u8]) -> Option<Plain>
-    ensures { result ≡ plain_of word.now }
-{
-    if is(word, b"wait") {
-        Some(Plain::Wait)
-    } else if is(word, b"self") {
-        Some(Plain::Self_)
-    } else if is(word, b"freezeself") {
-        Some(Plain::Freezeself)
-    } else if is(word, b"thawself") {
-        Some(Plain::Thawself)
-    } else {
-        None
-    }
+/// Returns what stands beside the first of these texts that a word is.
+macro_rules! return_by_text {
+    ($word:ident; $($text:literal => $form:expr,)+) => {
+        $(if is($word, $text) {
+            return Some($form);
+        })+
+    };
 }
 
-#[tactic(auto, unfolding(crate::specs::lines::Forms::on_path_of))]
-fn on_path_of(word: &[u8]) -> Option<OnPath>
-    ensures { result ≡ on_path_of word.now }
-{
-    if is(word, b"create") {
-        Some(OnPath::Create)
-    } else if is(word, b"mkdir") {
-        Some(OnPath::Mkdir)
-    } else if is(word, b"unlink") {
-        Some(OnPath::Unlink)
-    } else if is(word, b"rmdir") {
-        Some(OnPath::Rmdir)
-    } else if is(word, b"chdir") {
-        Some(OnPath::Chdir)
-    } else if is(word, b"stat") {
-        Some(OnPath::Stat)
-    } else if is(word, b"exec") {
-        Some(OnPath::Exec)
-    } else if is(word, b"labelof") {
-        Some(OnPath::Labelof)
-    } else if is(word, b"freeze") {
-        Some(OnPath::Freeze)
-    } else if is(word, b"thaw") {
-        Some(OnPath::Thaw)
-    } else {
-        None
-    }
-}
-
-#[tactic(auto, unfolding(crate::specs::lines::Forms::on_fd_of))]
-fn on_fd_of(word: &[u8]) -> Option<OnFd>
-    ensures { result ≡ on_fd_of word.now }
-{
-    if is(word, b"close") {
-        Some(OnFd::Close)
-    } else if is(word, b"pex") {
-        Some(OnFd::Pex)
-    } else if is(word, b"unpex") {
-        Some(OnFd::Unpex)
-    } else if is(word, b"priv") {
-        Some(OnFd::Priv)
-    } else {
-        None
-    }
-}
-
-#[tactic(auto, unfolding(crate::specs::lines::Forms::counted_of))]
-fn counted_of(word: &[u8]) -> Option<Counted>
-    ensures { result ≡ counted_of word.now }
-{
-    if is(word, b"read") {
-        Some(Counted::Read)
-    } else if is(word, b"cut") {
-        Some(Counted::Cut)
-    } else if is(word, b"seek") {
-        Some(Counted::Seek)
-    } else {
-        None
-    }
-}
-
-/// The form of a line by its first word.
-#[tactic(auto, unfolding(crate::specs::lines::Forms::form_of, crate::specs::lines::Forms::frame_form, crate::specs::lines::Forms::group_form, crate::specs::lines::Forms::file_form, crate::specs::lines::Forms::process_form))]
+/// The form of a line by its first word. Those that most lines have come first.
 pub(crate) fn form_of(word: &[u8]) -> Option<Form>
     ensures { result ≡ form_of word.now }
 {
-    if is(word, b"limit") {
-        Some(Form::Limit)
-    } else if is(word, b"fs") {
-        Some(Form::Fs)
-    } else if is(word, b"proc") {
-        Some(Form::Proc)
-    } else if is(word, b"dir") {
-        Some(Form::Dir)
-    } else if is(word, b"file") {
-        Some(Form::File)
-    } else if is(word, b"phase") {
-        Some(Form::Phase)
-    } else if is(word, b"lane") {
-        Some(Form::Lane)
-    } else if let Some(command) = plain_of(word) {
-        Some(Form::Plain(command))
-    } else if let Some(command) = on_path_of(word) {
-        Some(Form::OnPath(command))
-    } else if let Some(command) = on_fd_of(word) {
-        Some(Form::OnFd(command))
-    } else if let Some(command) = counted_of(word) {
-        Some(Form::Counted(command))
-    } else if is(word, b"open") {
-        Some(Form::Open)
-    } else if is(word, b"write") {
-        Some(Form::Write)
-    } else if is(word, b"dup") {
-        Some(Form::Dup)
-    } else if is(word, b"pipe") {
-        Some(Form::Pipe)
-    } else if is(word, b"link") {
-        Some(Form::Link)
-    } else if is(word, b"list") {
-        Some(Form::List)
-    } else if is(word, b"copy") {
-        Some(Form::Copy)
-    } else if is(word, b"setlabel") {
-        Some(Form::Setlabel)
-    } else if is(word, b"setpriv") {
-        Some(Form::Setpriv)
-    } else if is(word, b"fork") {
-        Some(Form::Fork)
-    } else if is(word, b"exit") {
-        Some(Form::Exit)
-    } else if is(word, b"setself") {
-        Some(Form::Setself)
-    } else if is(word, b"droplic") {
-        Some(Form::Droplic)
-    } else if is(word, b"grant") {
-        Some(Form::Grant)
-    } else if is(word, b"ceiling") {
-        Some(Form::Ceiling)
-    } else if is(word, b"readlog") {
-        Some(Form::Readlog)
-    } else if is(word, b"login") {
-        Some(Form::Login)
-    } else {
-        None
-    }
+    return_by_text!(word;
+        b"read" => Form::Counted(Counted::Read),
+        b"cut" => Form::Counted(Counted::Cut),
+        b"seek" => Form::Counted(Counted::Seek),
+        b"write" => Form::Write,
+        b"wait" => Form::Plain(Plain::Wait),
+        b"self" => Form::Plain(Plain::Self_),
+        b"freezeself" => Form::Plain(Plain::Freezeself),
+        b"thawself" => Form::Plain(Plain::Thawself),
+        b"open" => Form::Open,
+        b"close" => Form::OnFd(OnFd::Close),
+        b"pex" => Form::OnFd(OnFd::Pex),
+        b"unpex" => Form::OnFd(OnFd::Unpex),
+        b"priv" => Form::OnFd(OnFd::Priv),
+        b"create" => Form::OnPath(OnPath::Create),
+        b"mkdir" => Form::OnPath(OnPath::Mkdir),
+        b"unlink" => Form::OnPath(OnPath::Unlink),
+        b"rmdir" => Form::OnPath(OnPath::Rmdir),
+        b"chdir" => Form::OnPath(OnPath::Chdir),
+        b"stat" => Form::OnPath(OnPath::Stat),
+        b"exec" => Form::OnPath(OnPath::Exec),
+        b"labelof" => Form::OnPath(OnPath::Labelof),
+        b"freeze" => Form::OnPath(OnPath::Freeze),
+        b"thaw" => Form::OnPath(OnPath::Thaw),
+        b"dup" => Form::Dup,
+        b"pipe" => Form::Pipe,
+        b"link" => Form::Link,
+        b"list" => Form::List,
+        b"copy" => Form::Copy,
+        b"setlabel" => Form::Setlabel,
+        b"setpriv" => Form::Setpriv,
+        b"fork" => Form::Fork,
+        b"exit" => Form::Exit,
+        b"setself" => Form::Setself,
+        b"droplic" => Form::Droplic,
+        b"grant" => Form::Grant,
+        b"ceiling" => Form::Ceiling,
+        b"readlog" => Form::Readlog,
+        b"login" => Form::Login,
+        b"limit" => Form::Limit,
+        b"fs" => Form::Fs,
+        b"proc" => Form::Proc,
+        b"dir" => Form::Dir,
+        b"file" => Form::File,
+        b"phase" => Form::Phase,
+        b"lane" => Form::Lane,
+    );
+    None
 }
 
 /// What may stand at a place of a line.

@@ -75,27 +75,21 @@ fn group(line: &Line<'_>) -> u8
     }
 }
 
-fn with_limit(limits: &Limits, what: What, number: u32) -> Limits
-    ensures { result ≡ with_limit limits.now what number }
-{
-    let mut limits = *limits;
-    match what {
-        What::Procs => limits.procs = number,
-        What::Opens => limits.opens = number,
-        What::Pipes => limits.pipes = number,
-        What::Names => limits.names = number,
-        What::Log => limits.log = number,
-    }
-    limits
-}
-
 pub(crate) fn limits_after(limits: &Limits, line: &Line<'_>) -> Limits
     ensures { result ≡ limits_after limits.now line.now }
 {
-    match line {
-        Line::Limit { what, number } => with_limit(limits, *what, *number),
-        _ => *limits,
+    let Line::Limit { what, number } = line else {
+        return *limits;
+    };
+    let mut limits = *limits;
+    match what {
+        What::Procs => limits.procs = *number,
+        What::Opens => limits.opens = *number,
+        What::Pipes => limits.pipes = *number,
+        What::Names => limits.names = *number,
+        What::Log => limits.log = *number,
     }
+    limits
 }
 
 /// The form that a line tells, if it is `ix 1` or `ix 2`.

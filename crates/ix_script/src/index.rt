@@ -12,7 +12,7 @@ use std::cmp::Ordering;
 use std::collections::BTreeSet;
 
 /// A name of a script, or the text of the names of a path, in the order of its bytes.
-#[derive(Clone, Copy)]
+#[derive(Clone, Copy, PartialEq, Eq)]
 pub(crate) struct ByBytes<'a> {
     pub name: &'a [u8],
 }
@@ -27,20 +27,6 @@ pub(crate) fn order<'x>(a: &'x [u8], b: &'x [u8]) -> Ordering
         }
     }
     a.len().cmp(&b.len())
-}
-
-impl<'a> PartialEq for ByBytes<'a> {
-    ghost eq = { λ a b. pointwise nat_eq a.name.now b.name.now };
-
-    ghost laws = { on_per (λ s. s.name.now) (partial_equiv_from_equiv nat_list_eq_equiv) };
-
-    fn eq(&self, other: &ByBytes<'a>) -> bool {
-        self.name == other.name
-    }
-}
-
-impl<'a> Eq for ByBytes<'a> {
-    ghost laws = { on_equiv (λ s. s.name.now) nat_list_eq_equiv };
 }
 
 impl<'a> PartialOrd for ByBytes<'a> {

@@ -1,4 +1,4 @@
-ghost use Rattle.std.specs.Prelude.{◌≡◌, ◌<◌, Some, IfSome, IsSome, is_some, ◌≤◌, ◌∷◌, [], length, take, unwrap_or, None, ℕ, ◌+◌, ◌^◌, replicate, OnOk};
+ghost use Rattle.std.specs.Prelude.{◌≡◌, ◌<◌, Some, IfSome, IsSome, is_some, ◌≤◌, ◌∷◌, [], length, take, unwrap_or, None, ℕ, ◌+◌, ◌++◌, ◌^◌, replicate, OnOk};
 ghost use Rattle.std.specs.{List.{list_all}, Option.{option_map_or}};
 ghost use Rattle.ix_script.specs.{lines.Said.{payload_within}, reader.Readers.{IsFault}, texts.PayloadBytes.{bytes_in, spelled_by}};
 ghost use Rattle.ix_script.specs.texts.Payloads.{digit_of, pair_of, two_digits, escape_step, ends, escaped_byte, after_bytes, pairs_of, quoted_from, bytes_of, times_from, payload_of};
@@ -332,6 +332,21 @@ pub(crate) fn payload_fault(most: u32, word: &[u8]) -> Option<Rule>
     }
 }
 
+/// So many of a byte at the end, of which there is a block: one after another they take several times as long.
+fn push_blocks(buffer: &mut Vec<u8>, n: usize, byte: u8, block: &[u8]) -> Result<(), NoMemory>
+    requires some { 0 < length block.now }
+    requires block { block.now ≡ replicate (length block.now) byte }
+    ensures { OnOk result (buffer.new.items ≡ buffer.old.items ++ replicate n byte) }
+{
+    let mut left = n;
+    'parts: while left > 0 {
+        let part = left.min(block.len());
+        buffer.extend_from_slice(&block[..part])?;
+        left -= part;
+    }
+    Ok(())
+}
+
 impl<'a, const MOST: u32> Payload<'a, MOST> {
     pub(crate) fn of(word: &'a [u8]) -> Payload<'a, MOST>
         requires { IsSome (payload_within MOST word.now) }
@@ -377,8 +392,8 @@ impl<'a, const MOST: u32> Payload<'a, MOST> {
     {
         if let Some((n, byte)) = self.times() {
             buffer.clear();
-            buffer.resize(n, byte)?;
-            return Ok(());
+            buffer.reserve(n)?;
+            return push_blocks(buffer, n, byte, &[byte; 4096]);
         }
         buffer.resize(self.len(), 0)?;
         self.decode(buffer.as_mut_slice());

@@ -135,6 +135,31 @@ fn counted_line<'a>(command: Counted, proc: NameWord<'a>, fd: FdWord<'a>, n: u32
     }
 }
 
+/// What the word at a place says, by what stands there.
+macro_rules! at {
+    ($labels:ident, $words:ident, name, $i:literal) => { NameWord::of($words.get($i)) };
+    ($labels:ident, $words:ident, label, $i:literal) => { LabelWord::of($labels, $words.get($i)) };
+    ($labels:ident, $words:ident, path, $i:literal) => { PathWord::of($words.get($i)) };
+    ($labels:ident, $words:ident, made_path, $i:literal) => { MadePath::of($words.get($i)) };
+    ($labels:ident, $words:ident, privs, $i:literal) => { privs_of($words.get($i)).unwrap() };
+    ($labels:ident, $words:ident, state, $i:literal) => { state_of($words.get($i)).unwrap() };
+    ($labels:ident, $words:ident, mode, $i:literal) => { mode_of($words.get($i)).unwrap() };
+    ($labels:ident, $words:ident, size, $i:literal) => { number(1, 65_536, $words.get($i)) };
+    ($labels:ident, $words:ident, status, $i:literal) => { number(0, 255, $words.get($i)) };
+    ($labels:ident, $words:ident, number, $i:literal) => { number(0, 4_294_967_295, $words.get($i)) };
+    ($labels:ident, $words:ident, payload, $i:literal) => { Payload::of($words.get($i)) };
+    ($labels:ident, $words:ident, fd, $i:literal) => { fd($words.get($i)) };
+    ($labels:ident, $words:ident, keep, $i:literal) => { keep($words.get($i)) };
+    ($labels:ident, $words:ident, named, $i:literal) => { $words.name_after($i) };
+}
+
+/// Returns a line, whose fields stand at these places.
+macro_rules! say {
+    ($labels:ident, $words:ident, $line:ident { $($field:ident: $kind:ident $i:literal),+ }) => {
+        return Line::$line { $($field: at!($labels, $words, $kind, $i)),+ }
+    };
+}
+
 /// What a line of that form says, whose labels are spelled so, and whose words break no rule by themselves.
 pub(crate) fn line_by_form<'a>(labels: LabelForm, form: Form, words: &Words<'a>) -> Line<'a>
     requires { Stand (places labels form words.now) }
@@ -146,35 +171,21 @@ pub(crate) fn line_by_form<'a>(labels: LabelForm, form: Form, words: &Words<'a>)
             what: what_of(words.get(1)).unwrap(),
             number: words.bound(),
         },
-        Form::Fs => return Line::Fs {
-            name: NameWord::of(words.get(1)),
-            ceiling: LabelWord::of(labels, words.get(2)),
-            blocks: number(1, 65_536, words.get(3)),
-            inodes: number(1, 65_536, words.get(4)),
-        },
-        Form::Proc => return Line::Proc {
-            name: NameWord::of(words.get(1)),
-            label: LabelWord::of(labels, words.get(2)),
-            ceiling: LabelWord::of(labels, words.get(3)),
-            cap: privs_of(words.get(4)).unwrap(),
-            lic: privs_of(words.get(5)).unwrap(),
-        },
-        Form::Dir => return Line::Dir {
-            path: MadePath::of(words.get(1)),
-            label: LabelWord::of(labels, words.get(2)),
-            frozen: state_of(words.get(3)).unwrap(),
-        },
-        Form::File => return Line::File {
-            path: MadePath::of(words.get(1)),
-            label: LabelWord::of(labels, words.get(2)),
-            frozen: state_of(words.get(3)).unwrap(),
-            cap: privs_of(words.get(4)).unwrap(),
-            lic: privs_of(words.get(5)).unwrap(),
-            bytes: Payload::of(words.get(6)),
-        },
-        Form::Lane => return Line::Lane {
-            name: NameWord::of(words.get(1)),
-        },
+        Form::Fs => say!(labels, words, Fs {
+            name: name 1, ceiling: label 2, blocks: size 3, inodes: size 4
+        }),
+        Form::Proc => say!(labels, words, Proc {
+            name: name 1, label: label 2, ceiling: label 3, cap: privs 4,
+            lic: privs 5
+        }),
+        Form::Dir => say!(labels, words, Dir {
+            path: made_path 1, label: label 2, frozen: state 3
+        }),
+        Form::File => say!(labels, words, File {
+            path: made_path 1, label: label 2, frozen: state 3, cap: privs 4,
+            lic: privs 5, bytes: payload 6
+        }),
+        Form::Lane => say!(labels, words, Lane { name: name 1 }),
         Form::Plain(command) => return plain_line(command, NameWord::of(words.get(1))),
         Form::OnPath(command) => return path_line(
             command,
@@ -192,89 +203,35 @@ pub(crate) fn line_by_form<'a>(labels: LabelForm, form: Form, words: &Words<'a>)
             fd(words.get(2)),
             number(0, 4_294_967_295, words.get(3)),
         ),
-        Form::Open => return Line::Open {
-            proc: NameWord::of(words.get(1)),
-            path: PathWord::of(words.get(2)),
-            mode: mode_of(words.get(3)).unwrap(),
-            named: words.name_after(4),
-        },
-        Form::Write => return Line::Write {
-            proc: NameWord::of(words.get(1)),
-            fd: fd(words.get(2)),
-            bytes: Payload::of(words.get(3)),
-        },
-        Form::Dup => return Line::Dup {
-            proc: NameWord::of(words.get(1)),
-            fd: fd(words.get(2)),
-            named: words.name_after(3),
-        },
+        Form::Open => say!(labels, words, Open {
+            proc: name 1, path: path 2, mode: mode 3, named: named 4
+        }),
+        Form::Write => say!(labels, words, Write { proc: name 1, fd: fd 2, bytes: payload 3 }),
+        Form::Dup => say!(labels, words, Dup { proc: name 1, fd: fd 2, named: named 3 }),
         Form::Pipe => return Line::Pipe {
             proc: NameWord::of(words.get(1)),
             named: words.two_names_after(),
         },
-        Form::Link => return Line::Link {
-            proc: NameWord::of(words.get(1)),
-            target: PathWord::of(words.get(2)),
-            path: PathWord::of(words.get(3)),
-        },
-        Form::List => return Line::List {
-            proc: NameWord::of(words.get(1)),
-            path: PathWord::of(words.get(2)),
-            index: number(0, 4_294_967_295, words.get(3)),
-        },
-        Form::Copy => return Line::Copy {
-            proc: NameWord::of(words.get(1)),
-            from: fd(words.get(2)),
-            to: fd(words.get(3)),
-            count: number(0, 4_294_967_295, words.get(4)),
-        },
-        Form::Setlabel => return Line::Setlabel {
-            proc: NameWord::of(words.get(1)),
-            path: PathWord::of(words.get(2)),
-            label: LabelWord::of(labels, words.get(3)),
-        },
-        Form::Setpriv => return Line::Setpriv {
-            proc: NameWord::of(words.get(1)),
-            path: PathWord::of(words.get(2)),
-            cap: privs_of(words.get(3)).unwrap(),
-            lic: privs_of(words.get(4)).unwrap(),
-        },
-        Form::Fork => return Line::Fork {
-            proc: NameWord::of(words.get(1)),
-            keep: keep(words.get(2)),
-            named: words.name_after(3),
-        },
-        Form::Exit => return Line::Exit {
-            proc: NameWord::of(words.get(1)),
-            status: number(0, 255, words.get(2)),
-        },
-        Form::Setself => return Line::Setself {
-            proc: NameWord::of(words.get(1)),
-            label: LabelWord::of(labels, words.get(2)),
-        },
-        Form::Droplic => return Line::Droplic {
-            proc: NameWord::of(words.get(1)),
-            set: privs_of(words.get(2)).unwrap(),
-        },
-        Form::Grant => return Line::Grant {
-            proc: NameWord::of(words.get(1)),
-            to: NameWord::of(words.get(2)),
-            set: privs_of(words.get(3)).unwrap(),
-        },
-        Form::Ceiling => return Line::Ceiling {
-            proc: NameWord::of(words.get(1)),
-            of: NameWord::of(words.get(2)),
-            label: LabelWord::of(labels, words.get(3)),
-        },
-        Form::Readlog => return Line::Readlog {
-            proc: NameWord::of(words.get(1)),
-            index: number(0, 4_294_967_295, words.get(2)),
-        },
-        Form::Login => return Line::Login {
-            proc: NameWord::of(words.get(1)),
-            fd: fd(words.get(2)),
-            hand: fd(words.get(3)),
-            named: words.name_after(4),
-        },
+        Form::Link => say!(labels, words, Link { proc: name 1, target: path 2, path: path 3 }),
+        Form::List => say!(labels, words, List { proc: name 1, path: path 2, index: number 3 }),
+        Form::Copy => say!(labels, words, Copy {
+            proc: name 1, from: fd 2, to: fd 3, count: number 4
+        }),
+        Form::Setlabel => say!(labels, words, Setlabel {
+            proc: name 1, path: path 2, label: label 3
+        }),
+        Form::Setpriv => say!(labels, words, Setpriv {
+            proc: name 1, path: path 2, cap: privs 3, lic: privs 4
+        }),
+        Form::Fork => say!(labels, words, Fork { proc: name 1, keep: keep 2, named: named 3 }),
+        Form::Exit => say!(labels, words, Exit { proc: name 1, status: status 2 }),
+        Form::Setself => say!(labels, words, Setself { proc: name 1, label: label 2 }),
+        Form::Droplic => say!(labels, words, Droplic { proc: name 1, set: privs 2 }),
+        Form::Grant => say!(labels, words, Grant { proc: name 1, to: name 2, set: privs 3 }),
+        Form::Ceiling => say!(labels, words, Ceiling { proc: name 1, of: name 2, label: label 3 }),
+        Form::Readlog => say!(labels, words, Readlog { proc: name 1, index: number 2 }),
+        Form::Login => say!(labels, words, Login {
+            proc: name 1, fd: fd 2, hand: fd 3, named: named 4
+        }),
     }
 }

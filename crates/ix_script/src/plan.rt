@@ -114,23 +114,15 @@ impl Plan {
         Ok(())
     }
 
-    /// One line more, by its place, where it stands in the header: no other tells anything. After an error the plan isn't used.
-    fn add_at(&mut self, alloc: Global, lines: &Lines, index: usize) -> Result<(), NoMemory>
-        requires { index < length lines.now }
-        ensures { OnOk result (IsPlan self.old (take index lines.now) → IsPlan self.new (take (index + 1) lines.now)) }
-    {
-        match lines.header_line(index) {
-            Some(line) => self.add(alloc, &line),
-            None => Ok(()),
-        }
-    }
-
+    /// What lines tell. No line is made but those of the header: no other tells anything.
     fn of(alloc: Global, lines: &Lines) -> Result<Plan, NoMemory>
         ensures { IfOk result (λ p. IsPlan p lines.now) }
     {
         let mut plan = Plan::new(alloc);
         'lines: for index in 0..lines.len() {
-            plan.add_at(alloc, lines, index)?;
+            if let Some(line) = lines.header_line(index) {
+                plan.add(alloc, &line)?;
+            }
         }
         Ok(plan)
     }

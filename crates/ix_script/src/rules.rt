@@ -25,6 +25,15 @@ use ix_model::{FsSpec, Path, blocks_for, fs_of, is_mount};
 use ix_text::is;
 use std::sync::ledger::Ledger;
 
+/// Returns a rule where it is broken.
+macro_rules! refuse_if {
+    ($broken:expr, $rule:expr) => {
+        if $broken {
+            return Err($rule);
+        }
+    };
+}
+
 fn all_printable(text: &[u8]) -> bool
     ensures { result ≡ list_all (is_within 32 126) text.now }
 {
@@ -42,12 +51,8 @@ pub(crate) fn check_text(printable: bool, text: &[u8]) -> Result<(), Rule>
     requires { IsTrue printable → list_all (is_within 32 126) text.now ≡ true }
     ensures { Finds result (text_fault text.now) }
 {
-    if text.len() > 65_536 {
-        return Err(Rule::LONG_LINE);
-    }
-    if !printable && !all_printable(text) {
-        return Err(Rule::UNPRINTABLE);
-    }
+    refuse_if!(text.len() > 65_536, Rule::LONG_LINE);
+    refuse_if!(!printable && !all_printable(text), Rule::UNPRINTABLE);
     Ok(())
 }
 
@@ -56,12 +61,8 @@ pub(crate) fn check_text(printable: bool, text: &[u8]) -> Result<(), Rule>
 fn check_words(words: &Words<'_>) -> Result<(), Rule>
     ensures { Finds result (words_fault words.now) }
 {
-    if words.has_empty() {
-        return Err(Rule::EMPTY_WORD);
-    }
-    if words.has_open_quote() {
-        return Err(Rule::OPEN_QUOTE);
-    }
+    refuse_if!(words.has_empty(), Rule::EMPTY_WORD);
+    refuse_if!(words.has_open_quote(), Rule::OPEN_QUOTE);
     Ok(())
 }
 
@@ -122,24 +123,14 @@ impl<'a> Draft<'a> {
         let Some(form) = form_of(words.get(0)) else {
             return Err(Rule::UNKNOWN_COMMAND);
         };
-        if form.is_header() && self.body.started {
-            return Err(Rule::LATE_HEADER);
-        }
-        if self.is_outside(form) {
-            return Err(Rule::OUTSIDE_LANE);
-        }
-        if !form.has_right_count(words) {
-            return Err(Rule::WORD_COUNT);
-        }
+        refuse_if!(form.is_header() && self.body.started, Rule::LATE_HEADER);
+        refuse_if!(self.is_outside(form), Rule::OUTSIDE_LANE);
+        refuse_if!(!form.has_right_count(words), Rule::WORD_COUNT);
         if let Some(rule) = places_fault(self.lines.form(), form, words) {
             return Err(rule);
         }
-        if self.gives_twice(form, words) {
-            return Err(Rule::GIVEN_TWICE);
-        }
-        if self.is_unknown(form, words) {
-            return Err(Rule::UNKNOWN_NAME);
-        }
+        refuse_if!(self.gives_twice(form, words), Rule::GIVEN_TWICE);
+        refuse_if!(self.is_unknown(form, words), Rule::UNKNOWN_NAME);
         Ok(form)
     }
 
@@ -154,15 +145,9 @@ impl<'a> Draft<'a> {
         requires told { DraftTold self.now }
         ensures { (o : ObjSpec) → o.path ≡ path.now → o.label ≡ label.now → length o.bytes ≡ len → Finds result (object_fault self.now.lines o) }
     {
-        if self.is_above(path, label, steps) {
-            return Err(Rule::ABOVE_CEILING);
-        }
-        if self.is_misplaced(&path.path()) {
-            return Err(Rule::MISFIT);
-        }
-        if self.lacks_room(path, len) {
-            return Err(Rule::NO_ROOM);
-        }
+        refuse_if!(self.is_above(path, label, steps), Rule::ABOVE_CEILING);
+        refuse_if!(self.is_misplaced(&path.path()), Rule::MISFIT);
+        refuse_if!(self.lacks_room(path, len), Rule::NO_ROOM);
         Ok(())
     }
 
@@ -190,12 +175,8 @@ impl<'a> Draft<'a> {
                 ..
             } => self.check_object(path, label, bytes.len(), steps),
             _ => {
-                if self.is_out_of_order(line) {
-                    return Err(Rule::OUT_OF_ORDER);
-                }
-                if self.is_one_too_many(line) {
-                    return Err(Rule::TOO_MANY);
-                }
+                refuse_if!(self.is_out_of_order(line), Rule::OUT_OF_ORDER);
+                refuse_if!(self.is_one_too_many(line), Rule::TOO_MANY);
                 if self.lacks_policy(line) {
                     return Err(Rule::NO_POLICY);
                 }
@@ -204,28 +185,8 @@ impl<'a> Draft<'a> {
         }
     }
 
-    /// The policy: it stands in the header, has a text, and stands once.
-    #[tactic(auto, unfolding(crate::specs::lines::Faults::policy_fault))]
-    fn policy_line(&self, text: &'a [u8]) -> Result<Line<'a>, Rule>
-        requires told { DraftTold self.now }
-        ensures { Tells self.now.lines result (policy_fault self.now.lines text.now) (Some (line.Policy (policy_text text.now))) }
-    {
-        if self.body.started {
-            return Err(Rule::LATE_HEADER);
-        }
-        if text.len() <= 7 {
-            return Err(Rule::WORD_COUNT);
-        }
-        if self.header.policy {
-            return Err(Rule::GIVEN_TWICE);
-        }
-        Ok(Line::Policy {
-            text: PolicyText::of_line(text),
-        })
-    }
-
-    /// A line that isn't cut into words: the first one, a skipped one and the policy. `Err` with the least of the rules from 4 on
-    /// that it breaks.
+    /// A line that isn't cut into words: the first one, a skipped one, and the policy, which stands in the header, has a text, and
+    /// stands once. `Err` with the least of the rules from 4 on that it breaks.
     #[tactic(auto, unfolding(crate::specs::lines::Faults::body_fault))]
     pub fn whole_line(&self, text: &'a [u8]) -> Result<Line<'a>, Rule>
         requires told { DraftTold self.now }
@@ -238,7 +199,12 @@ impl<'a> Draft<'a> {
         if is_skipped(text) {
             return Ok(Line::Skipped);
         }
-        self.policy_line(text)
+        refuse_if!(self.body.started, Rule::LATE_HEADER);
+        refuse_if!(text.len() <= 7, Rule::WORD_COUNT);
+        refuse_if!(self.header.policy, Rule::GIVEN_TWICE);
+        Ok(Line::Policy {
+            text: PolicyText::of_line(text),
+        })
     }
 }
 
@@ -372,19 +338,14 @@ impl<'a> Draft<'a> {
         is_mount(self.header.fss.as_slice(), path) || self.header.made.has(path)
     }
 
-    /// Whether a directory beside the root is there.
-    fn is_further_dir(&self, path: &Path<'a>) -> bool
-        requires told { DraftTold self.now }
-        ensures { result ≡ (is_mount (fss_of self.now.lines) (path_of path.now).names || list_any (λ b. b.dir && same_names b.path.names (path_of path.now).names) (objects_of self.now.lines)) }
-    {
-        is_mount(self.header.fss.as_slice(), path) || self.header.made.has_dir(path)
-    }
-
     fn has_directory(&self, path: &Path<'a>) -> bool
         requires told { DraftTold self.now }
         ensures { result ≡ has_directory (fss_of self.now.lines) (objects_of self.now.lines) (path_of path.now).names }
     {
-        path.len() == 0 || self.is_further_dir(path)
+        if path.len() == 0 {
+            return true;
+        }
+        is_mount(self.header.fss.as_slice(), path) || self.header.made.has_dir(path)
     }
 
     /// Whether a label is above the ceiling of the file system that the path leads to.

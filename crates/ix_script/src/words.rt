@@ -179,15 +179,6 @@ fn is_open(word: &[u8]) -> bool
     begins(b'"', word) && !is_closed(word)
 }
 
-fn is_empty(word: &[u8]) -> bool
-    ensures { result ≡ is_empty word.now }
-{
-    match word {
-        [] => true,
-        [_, ..] => false,
-    }
-}
-
 /// Keeps a word at its place, where there is one for it.
 fn keep<'a>(first: &mut [&'a [u8]; 8], place: usize, word: &'a [u8])
     ensures { map (λ s. s.now) first.new ≡ (if nat_lt place 8 then set (map (λ s. s.now) first.old) place word.now else map (λ s. s.now) first.old) }
@@ -210,7 +201,7 @@ fn cut_into<'a>(text: &'a [u8], first: &mut [&'a [u8]; 8]) -> Seen
         let (word, more) = first_word(front);
         keep(first, count, word);
         count += 1;
-        has_empty |= is_empty(word);
+        has_empty |= word.is_empty();
         has_open |= is_open(word);
         rest = more;
     }

@@ -20,19 +20,15 @@ use std::alloc::Global;
 pub(crate) fn push(out: &mut Vec<u8>, bytes: &[u8]) -> Result<(), NoMemory>
     ensures { OnOk result (out.new.items ≡ out.old.items ++ bytes.now) }
 {
-    match out.extend_from_slice(bytes) {
-        Ok(()) => Ok(()),
-        Err(_) => Err(NoMemory),
-    }
+    out.extend_from_slice(bytes)?;
+    Ok(())
 }
 
 pub(crate) fn push_byte(out: &mut Vec<u8>, byte: u8) -> Result<(), NoMemory>
     ensures { OnOk result (out.new.items ≡ out.old.items ++ byte ∷ []) }
 {
-    match out.push(byte) {
-        Ok(()) => Ok(()),
-        Err(_) => Err(NoMemory),
-    }
+    out.push(byte)?;
+    Ok(())
 }
 
 fn pairs(out: &mut Vec<u8>, bytes: &[u8]) -> Result<(), NoMemory>
@@ -224,30 +220,8 @@ fn before_word<'a>(text: &'a [u8], word: &[u8]) -> &'a [u8]
     &text[..text.len() - word.len()]
 }
 
-/// The canonical text of a line that is cut into words: the text itself, but for a payload.
-fn write_words(
-    out: &mut Vec<u8>,
-    buffer: &mut Vec<u8>,
-    labels: LabelForm,
-    text: &[u8],
-) -> Result<(), NoMemory>
-    requires line { IsLine labels text.now }
-    requires some { is_skipped text.now ≡ false }
-    requires words { is_policy_line text.now ≡ false }
-    requires later { version_of text.now ≡ None }
-    ensures { OnOk result (out.new.items ≡ out.old.items ++ line_text labels (line_in labels text.now)) }
-{
-    let mut words = Words::none();
-    words.cut(text);
-    let place = form_of(words.get(0)).unwrap().payload_place();
-    if place == 0 {
-        return push(out, text);
-    }
-    push(out, before_word(text, words.get(place)))?;
-    payload(out, buffer, &Payload::<1_048_576>::of(words.get(place)))
-}
-
-/// The canonical text of a line of that text, without a line feed, whose labels are spelled in the form.
+/// The canonical text of a line of that text, without a line feed, whose labels are spelled in the form: the text itself,
+/// but for a payload and a skipped line.
 fn write_line(
     out: &mut Vec<u8>,
     buffer: &mut Vec<u8>,
@@ -263,30 +237,25 @@ fn write_line(
     if is_skipped(text) {
         return Ok(());
     }
-    write_words(out, buffer, labels, text)
-}
-
-/// The text of the line at an index and a line feed.
-fn write_ended(
-    out: &mut Vec<u8>,
-    buffer: &mut Vec<u8>,
-    lines: &Lines,
-    index: usize,
-) -> Result<(), NoMemory>
-    ensures { OnOk result (option_map (λ l. out.old.items ++ (line_text (form_told lines.now) l ++ codes "\n")) (slice_get lines.now index) ≡ Some out.new.items) }
-{
-    let Some(text) = lines.text_at(index) else {
-        return Err(NoMemory);
-    };
-    write_line(out, buffer, lines.form(), text)?;
-    push_byte(out, b'\n')
+    let mut words = Words::none();
+    words.cut(text);
+    let place = form_of(words.get(0)).unwrap().payload_place();
+    if place == 0 {
+        return push(out, text);
+    }
+    push(out, before_word(text, words.get(place)))?;
+    payload(out, buffer, &Payload::<1_048_576>::of(words.get(place)))
 }
 
 fn write_lines(out: &mut Vec<u8>, buffer: &mut Vec<u8>, lines: &Lines) -> Result<(), NoMemory>
     ensures { OnOk result (out.new.items ≡ out.old.items ++ canonical lines.now) }
 {
     for index in 0..lines.len() {
-        write_ended(out, buffer, lines, index)?;
+        let Some(text) = lines.text_at(index) else {
+            return Err(NoMemory);
+        };
+        write_line(out, buffer, lines.form(), text)?;
+        push_byte(out, b'\n')?;
     }
     Ok(())
 }

@@ -1,9 +1,10 @@
 -- Which rules look at a line, by where it stands and how it begins.
-use Rattle.std.proofs.Common.{◌≡◌, ◌≢◌, ℕ, zero, suc, ◌<◌, ◌==◌, true, false, true≢false, cond, List, [], ◌∷◌, length, drop, Option, Some, None}
+use Rattle.std.proofs.Common.{◌≡◌, ◌≢◌, ℕ, zero, suc, ◌<◌, ◌≤◌, ◌==◌, true, false, true≢false, cond, List, [], ◌∷◌, length, drop, Option, Some, None}
 use Rattle.std.proofs.Common.{Result, codes, refl, sym, ap, ◌∙◌, subst, arith, inl, inr}
 use Rattle.std.specs.Cmp.Lexicographic.{same_text}
 use Rattle.std.specs.Option.{is_none}
 use Rattle.std.proofs.lemmas.Bool.{ne_eqb}
+use Rattle.std.proofs.lemmas.List.{drop_all}
 use Rattle.std.proofs.lemmas.Option.{same_Some, none-some}
 use Rattle.ix_label.specs.declared.form.Form.{Form}
 use Rattle.ix_label.specs.declared.form.Form.TheVariants.{One, Two}
@@ -105,6 +106,22 @@ version_said labels text form h = subst (λ (t : List ℕ). line_of labels t ≡
 pub skipped_right : (before : List Line) (text : List ℕ) → is_empty before ≡ false → is_skipped text ≡ true → LineRight before line.Skipped (body_fault before text) (line_of (form_told before) text)
 unfolding body_fault line_of
 skipped_right before text h k = record { faultless = rw (h, k) refl; meant = rw k refl; fits = skipped_fits before }
+
+pub policy_stands : (before : List Line) (text : List ℕ) → is_empty before ≡ false → is_skipped text ≡ false → is_policy_line text ≡ true → body_fault before text ≡ policy_fault before text
+unfolding body_fault
+policy_stands before text h k p = rw (h, k, p) refl
+
+pub policy_late : (before : List Line) (text : List ℕ) → in_body before ≡ true → policy_fault before text ≡ Some 8
+unfolding policy_fault
+policy_late before text late = rw late refl
+
+pub policy_bare : (before : List Line) (text : List ℕ) → in_body before ≡ false → length text ≤ 7 → policy_fault before text ≡ Some 10
+unfolding policy_fault
+policy_bare before text early few = rw (early, ap is_empty (drop_all 7 text few)) refl
+
+pub policy_again : (before : List Line) (text : List ℕ) → in_body before ≡ false → 7 < length text → has_policy before ≡ true → policy_fault before text ≡ Some 20
+unfolding policy_fault
+policy_again before text early some again = rw (early, more_than 7 text some, again) refl
 
 pub policy_read : (before : List Line) (text bytes : List ℕ) → in_body before ≡ false → 7 < length text → has_policy before ≡ false → bytes ≡ policy_text text
     → LineRight before (line.Policy bytes) (policy_fault before text) (Some (line.Policy (policy_text text)))

@@ -1,7 +1,8 @@
-use Rattle.std.proofs.Common.{[], arith, refl}
+use Rattle.std.proofs.Common.{[], ◌∙◌, arith, refl}
 use Rattle.std.specs.Option.{option_map_or}
 use Rattle.ix_script.specs.texts.Cutting.{pieces}
 use Rattle.ix_script.specs.declared.words.Spot.TheVariants as spot
+use Rattle.ix_script.proofs.lines.Deciding.{none_there}
 use Rattle.ix_script.proofs.texts.Words.{begin, next, ended, room}
 use Rattle.ix_script.proofs.words.cut_into.Goals as goal
 
@@ -18,7 +19,7 @@ overflow_add-count c = omega (
 
 pub words-preserved : goal.words-preserved
 words-preserved c =
-    rw (c.is_empty-has_empty.ensures, c.is_open-has_open.ensures)
+    rw (c.is_empty-has_empty.ensures ∙ none_there _ c.first_word.result.0.now refl, c.is_open-has_open.ensures)
     (next _ _ _ _ _ _ _ c.first_word.result.0.now _ (rw c.in-Some.is c.first_word.ensures.pieces) c.keep.ensures c.words.invariant)
 
 pub returns : goal.returns
