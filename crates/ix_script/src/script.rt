@@ -105,10 +105,7 @@ impl Script {
     pub fn lane(&self, seat: u32) -> Option<&[u8]>
         ensures { option_map (λ name. name.now) result ≡ slice_get (lanes_of self.now) seat }
     {
-        match self.lanes.get(seat as usize) {
-            Some(name) => Some(name.as_bytes()),
-            None => None,
-        }
+        Some(self.lanes.get(seat as usize)?.as_bytes())
     }
 
     /// The form in which its labels are spelled: line 1 tells it.

@@ -179,15 +179,6 @@ fn is_open(word: &[u8]) -> bool
     begins(b'"', word) && !is_closed(word)
 }
 
-/// Keeps a word at its place, where there is one for it.
-fn keep<'a>(first: &mut [&'a [u8]; 8], place: usize, word: &'a [u8])
-    ensures { map (λ s. s.now) first.new ≡ (if nat_lt place 8 then set (map (λ s. s.now) first.old) place word.now else map (λ s. s.now) first.old) }
-{
-    if place < 8 {
-        first[place] = word;
-    }
-}
-
 /// Keeps the first eight words of a line, in places that have no bytes yet, and tells of all.
 fn cut_into<'a>(text: &'a [u8], first: &mut [&'a [u8]; 8]) -> Seen
     requires { map (λ s. s.now) first.old ≡ replicate 8 [] }
@@ -199,7 +190,9 @@ fn cut_into<'a>(text: &'a [u8], first: &mut [&'a [u8]; 8]) -> Seen
     let mut rest = if_any(text);
     'words: while let Some(front) = rest {
         let (word, more) = first_word(front);
-        keep(first, count, word);
+        if count < 8 {
+            first[count] = word;
+        }
         count += 1;
         has_empty |= word.is_empty();
         has_open |= is_open(word);
