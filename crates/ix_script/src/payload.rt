@@ -221,16 +221,6 @@ fn pairs(text: &[u8]) -> Result<(Spelling<'_>, usize), Rule>
     }
 }
 
-fn count_after(count: usize, byte: Option<u8>) -> usize
-    requires { count + 1 < 2 ^ 64 }
-    ensures { result ≡ count + length (bytes_of byte) }
-{
-    match byte {
-        Some(_) => count + 1,
-        None => count,
-    }
-}
-
 /// What is spelled in quotes, up to the quote that ends the text.
 fn quoted(text: &[u8]) -> Result<(Spelling<'_>, usize), Rule>
     ensures { (most : ℕ) → Spells most result (quoted_from escape.Plain text.now) }
@@ -248,7 +238,7 @@ fn quoted(text: &[u8]) -> Result<(Spelling<'_>, usize), Rule>
         let Some((next, byte)) = at.after(*b) else {
             return Err(Rule::BAD_PAYLOAD);
         };
-        count = count_after(count, byte);
+        count += usize::from(byte.is_some());
         at = next;
     }
     Err(Rule::BAD_PAYLOAD)

@@ -82,17 +82,6 @@ impl<'a> Model for Words<'a> {
     ghost invariant = { λ w. AreWords (words_of w.text.now) (map (λ s. s.now) w.first) w.seen.count w.seen.has_empty w.seen.has_open };
 }
 
-/// The place of the first space in a text of any length, many bytes at a time.
-fn far_space(text: &[u8]) -> Option<usize>
-    ensures place { result ≡ gap_from spot.Plain text.now }
-    ensures within { IfSome result (λ k. k + 1 ≤ length text.now) }
-{
-    match text {
-        [] => None,
-        _ => memchr(b' ', text),
-    }
-}
-
 /// The place of the space that ends the first word, where no quotes begin it. Most words are short: a search for many bytes at a
 /// time costs more than they do.
 fn end_of_plain(text: &[u8]) -> Option<usize>
@@ -105,7 +94,7 @@ fn end_of_plain(text: &[u8]) -> Option<usize>
             return Some(i);
         }
     }
-    match far_space(&text[near..]) {
+    match memchr(b' ', &text[near..]) {
         Some(far) => Some(near + far),
         None => None,
     }
