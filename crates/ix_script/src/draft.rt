@@ -118,26 +118,6 @@ impl<'a> Draft<'a> {
         Ok(())
     }
 
-    /// A line more that isn't cut into words. After an error the draft isn't used.
-    fn add_whole(&mut self, alloc: Global, text: &'a [u8]) -> Result<(), ReadFail>
-        requires told { DraftTold self.old }
-        requires valid { is_valid (config_of self.old.lines) ≡ true }
-        requires few { length self.old.lines + 1 < 2 ^ 32 }
-        requires whole { is_whole self.old.lines text.now ≡ true }
-        requires text { text_fault text.now ≡ None }
-        ensures told { OnOk result (DraftTold self.new) }
-        ensures line { OnOk result (LineMore self.old.lines self.new.lines text.now) }
-        ensures fail { IfErr result (λ e. HasCause e (option_map (λ rule. (length self.old.lines + 1, rule)) (line_fault self.old.lines text.now))) }
-    {
-        match self.whole_line(text) {
-            Ok(line) => {
-                self.add(alloc, text, &line)?;
-                Ok(())
-            }
-            Err(rule) => Err(self.fault(rule)),
-        }
-    }
-
     /// The next line, which the text says; else its fault. After an error the draft isn't used. Whether each of the text's
     /// bytes is known to be printable is told, and the words that are handed in are those of the last line that was cut.
     pub fn add_line<L: Ledger>(
@@ -160,7 +140,11 @@ impl<'a> Draft<'a> {
             return Err(self.fault(rule));
         }
         if self.lines.len() == 0 || is_skipped(text) || is_policy_line(text) {
-            return self.add_whole(alloc, text);
+            match self.whole_line(text) {
+                Ok(line) => self.add(alloc, text, &line)?,
+                Err(rule) => return Err(self.fault(rule)),
+            }
+            return Ok(());
         }
         words.cut(text);
         match self.form_by_words(words) {

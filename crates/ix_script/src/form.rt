@@ -94,10 +94,7 @@ impl Form {
     pub fn is_command(self) -> bool
         ensures { result ≡ is_command_form self }
     {
-        !matches!(
-            self,
-            Form::Limit | Form::Fs | Form::Proc | Form::Dir | Form::File | Form::Phase | Form::Lane
-        )
+        !self.is_header() && !matches!(self, Form::Phase | Form::Lane)
     }
 
     /// Whether it is, beyond doubt, a command of one call that costs no more than an entry and gives no name.

@@ -2,13 +2,12 @@ ghost use Rattle.std.specs.Prelude.{◌≡◌, ℕ, ◌<◌, ◌+◌, ◌^◌, s
 ghost use Rattle.std.specs.Option.{option_map_or};
 ghost use Rattle.ix_script.specs.declared.line.Line.{Line};
 ghost use Rattle.ix_script.specs.lines.Before.{form_by, fs_told, default_fs, default_limits, limits_after, with_limit, object_told, group};
-ghost use Rattle.ix_script.specs.{lines.Faults.{said_fault}, reader.Told.{HeaderTold, TakenOne, Takes, fss_after}, scripts.Scripts.{config_of}};
+ghost use Rattle.ix_script.specs.{lines.Faults.{said_fault}, reader.Told.{HeaderTold, Takes, fss_after}, scripts.Scripts.{config_of}};
 ghost use Rattle.ix_model.specs.opening.Valid.{is_valid};
 ghost use Rattle.ix_text.specs.Bytes.{is_empty};
 
 use crate::index::{Names, Tree};
 use crate::line::{Line, What};
-use crate::paths::MadePath;
 use ix_label::{Form, Label};
 use ix_model::{FsSpec, Limits, List, Name, NoMemory, blocks_for, fs_of};
 use ix_text::is;
@@ -173,23 +172,16 @@ fn add_fs(
     }
 }
 
-fn take_object(taken: &mut Taken, fss: &[FsSpec], path: &MadePath<'_>, len: usize)
-    requires some { 0 < length fss.now }
-    requires few { length fss.now ≤ 16 }
-    ensures { TakenOne fss.now path.now.names len taken.old taken.new }
-{
-    let k = fs_of(fss, &path.path());
-    taken.add(k, blocks_for(len));
-}
-
 fn take(taken: &mut Taken, fss: &[FsSpec], line: &Line<'_>)
     requires some { 0 < length fss.now }
     requires few { length fss.now ≤ 16 }
     ensures { Takes fss.now (object_told line.now) taken.old taken.new }
 {
     match line {
-        Line::Dir { path, .. } => take_object(taken, fss, path, 0),
-        Line::File { path, bytes, .. } => take_object(taken, fss, path, bytes.len()),
+        Line::Dir { path, .. } => taken.add(fs_of(fss, &path.path()), blocks_for(0)),
+        Line::File { path, bytes, .. } => {
+            taken.add(fs_of(fss, &path.path()), blocks_for(bytes.len()));
+        }
         _ => {}
     }
 }

@@ -215,16 +215,10 @@ impl<'a> Tree<'a> {
         self.index.contains(&site_of(path, true))
     }
 
-    fn has_file(&self, path: &Path<'a>) -> bool
-        ensures { (objects : List ObjSpec) → AreSites self.now.index objects → result ≡ file_there objects (path_of path.now).names }
-    {
-        self.index.contains(&site_of(path, false))
-    }
-
     pub fn has(&self, path: &Path<'a>) -> bool
         ensures { (objects : List ObjSpec) → AreSites self.now.index objects → result ≡ is_there objects (path_of path.now).names }
     {
-        self.has_dir(path) || self.has_file(path)
+        self.has_dir(path) || self.index.contains(&site_of(path, false))
     }
 
     /// One more. After an error the tree isn't used.

@@ -12,17 +12,14 @@ use ix_model::NoMemory;
 use ix_text::{begins, is_digit};
 use std::marker::Model;
 
+/// The value of a hexadecimal digit: a letter's low bits say how far it is from the letter before `a`.
 #[tactic(auto, unfolding(crate::specs::texts::Payloads::digit_of))]
 fn digit(b: u8) -> Option<u8>
     ensures digit { result ≡ digit_of b }
     ensures low { IfSome result (λ n. n < 16) }
 {
-    if is_digit(b) {
-        Some(b - b'0')
-    } else if b >= b'a' && b <= b'f' {
-        Some(b - 87)
-    } else if b >= b'A' && b <= b'F' {
-        Some(b - 55)
+    if is_digit(b) || b >= b'a' && b <= b'f' || b >= b'A' && b <= b'F' {
+        Some(b % 16 + 9 * (b / 64))
     } else {
         None
     }
@@ -35,32 +32,6 @@ pub(crate) fn pair(high: u8, low: u8) -> Option<u8>
     let high = digit(high)?;
     let low = digit(low)?;
     Some(high * 16 + low)
-}
-
-#[tactic(auto, unfolding(crate::specs::texts::Payloads::digit_of))]
-pub(crate) fn is_hex_digit(b: u8) -> bool
-    ensures { result ≡ is_some (digit_of b) }
-{
-    is_digit(b) || b >= b'a' && b <= b'f' || b >= b'A' && b <= b'F'
-}
-
-/// The value of a digit that is known to be one. It needs no branch: a letter's low bits say how far it is from the letter before `a`.
-#[tactic(auto, unfolding(crate::specs::texts::Payloads::digit_of))]
-fn known_digit(b: u8) -> u8
-    requires { IsSome (digit_of b) }
-    ensures value { digit_of b ≡ Some result }
-    ensures low { result < 16 }
-{
-    b % 16 + 9 * (b / 64)
-}
-
-/// The byte of two digits that are known to be digits.
-#[tactic(auto, unfolding(crate::specs::texts::Payloads::pair_of))]
-pub(crate) fn known_pair(high: u8, low: u8) -> u8
-    requires { IsSome (pair_of high low) }
-    ensures { pair_of high low ≡ Some result }
-{
-    known_digit(high) * 16 + known_digit(low)
 }
 
 pub(crate) fn two_digits(text: &[u8]) -> Option<u8>
@@ -169,7 +140,7 @@ fn decode_pairs(text: &[u8], count: usize, buf: &mut [u8])
     ensures len { length buf.new ≡ length buf.old }
 {
     'bytes: for i in 0..count {
-        buf[i] = known_pair(text[2 * i], text[2 * i + 1]);
+        buf[i] = pair(text[2 * i], text[2 * i + 1]).unwrap();
     }
 }
 
@@ -232,7 +203,7 @@ fn are_digits(text: &[u8]) -> bool
 {
     let mut all = true;
     for b in text {
-        all &= is_hex_digit(*b);
+        all &= digit(*b).is_some();
     }
     all
 }
@@ -247,16 +218,6 @@ fn pairs(text: &[u8]) -> Result<(Spelling<'_>, usize), Rule>
         Ok((Spelling::Pairs(text), text.len() / 2))
     } else {
         Err(Rule::BAD_PAYLOAD)
-    }
-}
-
-fn count_after(count: usize, byte: Option<u8>) -> usize
-    requires { count + 1 < 2 ^ 64 }
-    ensures { result ≡ count + length (bytes_of byte) }
-{
-    match byte {
-        Some(_) => count + 1,
-        None => count,
     }
 }
 
@@ -277,7 +238,7 @@ fn quoted(text: &[u8]) -> Result<(Spelling<'_>, usize), Rule>
         let Some((next, byte)) = at.after(*b) else {
             return Err(Rule::BAD_PAYLOAD);
         };
-        count = count_after(count, byte);
+        count += usize::from(byte.is_some());
         at = next;
     }
     Err(Rule::BAD_PAYLOAD)
@@ -312,10 +273,7 @@ fn spelling_of(most: u32, word: &[u8]) -> Result<(Spelling<'_>, usize), Rule>
         return pairs(&word[1..]);
     }
     match place_of(b'*', word) {
-        Some(star) => {
-            let (_, digits) = word.split_at(star + 1);
-            times(most, &word[..star], digits)
-        }
+        Some(star) => times(most, &word[..star], &word[star + 1..]),
         None => Err(Rule::BAD_PAYLOAD),
     }
 }

@@ -86,43 +86,30 @@ pub(crate) fn places_fault(labels: LabelForm, form: Form, words: &Words<'_>) -> 
     least(own, fault_from(labels, form.tail(), words, 2 + kinds.len()))
 }
 
+/// Returns the line of that command, which has these fields.
+macro_rules! say_by {
+    ($command:ident: $of:ident, $fields:tt, $($name:ident)+) => {
+        match $command { $($of::$name => return Line::$name $fields,)+ }
+    };
+}
+
 fn plain_line<'a>(command: Plain, proc: NameWord<'a>) -> Line<'a>
     ensures { result ≡ plain_line command proc.entry }
 {
-    match command {
-        Plain::Wait => return Line::Wait { proc },
-        Plain::Self_ => return Line::Self_ { proc },
-        Plain::Freezeself => return Line::Freezeself { proc },
-        Plain::Thawself => return Line::Thawself { proc },
-    }
+    say_by!(command: Plain, { proc }, Wait Self_ Freezeself Thawself)
 }
 
 fn path_line<'a>(command: OnPath, proc: NameWord<'a>, path: PathWord<'a>) -> Line<'a>
     ensures { result ≡ path_line command proc.entry path.entry }
 {
-    match command {
-        OnPath::Create => return Line::Create { proc, path },
-        OnPath::Mkdir => return Line::Mkdir { proc, path },
-        OnPath::Unlink => return Line::Unlink { proc, path },
-        OnPath::Rmdir => return Line::Rmdir { proc, path },
-        OnPath::Chdir => return Line::Chdir { proc, path },
-        OnPath::Stat => return Line::Stat { proc, path },
-        OnPath::Exec => return Line::Exec { proc, path },
-        OnPath::Labelof => return Line::Labelof { proc, path },
-        OnPath::Freeze => return Line::Freeze { proc, path },
-        OnPath::Thaw => return Line::Thaw { proc, path },
-    }
+    say_by!(command: OnPath, { proc, path },
+        Create Mkdir Unlink Rmdir Chdir Stat Exec Labelof Freeze Thaw)
 }
 
 fn fd_line<'a>(command: OnFd, proc: NameWord<'a>, fd: FdWord<'a>) -> Line<'a>
     ensures { result ≡ fd_line command proc.entry fd.entry }
 {
-    match command {
-        OnFd::Close => return Line::Close { proc, fd },
-        OnFd::Pex => return Line::Pex { proc, fd },
-        OnFd::Unpex => return Line::Unpex { proc, fd },
-        OnFd::Priv => return Line::Priv { proc, fd },
-    }
+    say_by!(command: OnFd, { proc, fd }, Close Pex Unpex Priv)
 }
 
 fn counted_line<'a>(command: Counted, proc: NameWord<'a>, fd: FdWord<'a>, n: u32) -> Line<'a>

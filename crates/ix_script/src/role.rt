@@ -51,12 +51,6 @@ pub(crate) fn is_command(line: &Line<'_>) -> bool
 /// What an entry costs besides its words.
 pub(crate) const ENTRY: u64 = 128;
 
-/// What a `priv` line costs: five entries and 16 bytes.
-const PRIV: u64 = 656;
-
-/// What a `login` line costs: nine entries and 16 bytes.
-const LOGIN: u64 = 1168;
-
 /// What the entries of a line cost, at the most.
 #[tactic(auto, unfolding(crate::specs::scripts::Need::cost_of_line))]
 pub(crate) fn cost_of_line(line: &Line<'_>) -> u64
@@ -80,8 +74,8 @@ pub(crate) fn cost_of_line(line: &Line<'_>) -> u64
         | Line::Thaw { path, .. }
         | Line::Setpriv { path, .. } => ENTRY + path.path().cost(),
         Line::Copy { count, .. } => 2 * ENTRY + (*count).min(4096) as u64,
-        Line::Priv { .. } => PRIV,
-        Line::Login { .. } => LOGIN,
+        Line::Priv { .. } => 5 * ENTRY + 16,
+        Line::Login { .. } => 9 * ENTRY + 16,
         _ if is_command(line) => ENTRY,
         _ => 0,
     }

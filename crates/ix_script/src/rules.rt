@@ -159,12 +159,12 @@ impl<'a> Draft<'a> {
     {
         match line {
             Line::Proc { label, ceiling, .. } => {
-                if !label.label().leq(&ceiling.label(), steps) {
-                    return Err(Rule::ABOVE_CEILING);
-                }
-                if self.header.procs.count >= self.header.limits.procs as usize {
-                    return Err(Rule::NO_ROOM);
-                }
+                let most = self.header.limits.procs as usize;
+                refuse_if!(
+                    !label.label().leq(&ceiling.label(), steps),
+                    Rule::ABOVE_CEILING
+                );
+                refuse_if!(self.header.procs.count >= most, Rule::NO_ROOM);
                 Ok(())
             }
             Line::Dir { path, label, .. } => self.check_object(path, label, 0, steps),
@@ -177,9 +177,7 @@ impl<'a> Draft<'a> {
             _ => {
                 refuse_if!(self.is_out_of_order(line), Rule::OUT_OF_ORDER);
                 refuse_if!(self.is_one_too_many(line), Rule::TOO_MANY);
-                if self.lacks_policy(line) {
-                    return Err(Rule::NO_POLICY);
-                }
+                refuse_if!(self.lacks_policy(line), Rule::NO_POLICY);
                 Ok(())
             }
         }

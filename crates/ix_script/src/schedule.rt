@@ -52,57 +52,25 @@ fn seat_of(name: &[u8], lanes: &[Name]) -> Option<usize>
     None
 }
 
-/// Whether the line at an index begins a phase or a lane's part of one.
-fn begins_part(lines: &Lines, index: usize) -> bool
-    ensures { result ≡ option_map_or begins_part (slice_get lines.now index) false }
-{
-    match lines.role(index) {
-        Some(role) => matches!(role, Role::Phase | Role::Lane),
-        None => false,
-    }
-}
-
-/// The index behind the lines from one on that stand before the next that begins a part.
+/// The index behind the lines from one on that stand before the next that begins a phase or a lane's part of one.
 fn part_end(lines: &Lines, first: usize) -> usize
     requires { first ≤ length lines.now }
     ensures { result ≡ first + part_len (drop first lines.now) }
 {
     'lines: for index in first..lines.len() {
-        if begins_part(lines, index) {
-            return index;
+        let Some(role) = lines.role(index) else {
+            continue;
+        };
+        match role {
+            Role::Phase | Role::Lane => return index,
+            _ => continue,
         }
     }
     lines.len()
 }
 
-/// Puts the stretch behind a `lane` line to those of its lane. The lines and the phases before it are so many.
-fn add_stretch(
-    stretches: &mut Vec<List<Stretch>>,
-    lanes: &[Name],
-    lines: &Lines,
-    index: usize,
-    begun: u32,
-) -> Result<(), NoMemory>
-    requires few { length lines.now ≤ 16777216 }
-    requires within { index < length lines.now }
-    requires lanes { length stretches.old.items ≡ length lanes.now }
-    ensures lanes { length stretches.new.items ≡ length lanes.now }
-    ensures more { OnOk result ((seat : ℕ) → slice_index_or stretches.new.items seat [] ≡ slice_index_or stretches.old.items seat [] ++ stretch_in lanes.now seat begun index lines.now) }
-{
-    let Some(Line::Lane { name }) = lines.get(index) else {
-        return Ok(());
-    };
-    let Some(seat) = seat_of(name.as_bytes(), lanes) else {
-        return Ok(());
-    };
-    stretches[seat].push(Stretch {
-        phase: begun.saturating_sub(1),
-        first: index as u32 + 1,
-        end: part_end(lines, index + 1) as u32,
-    })
-}
-
-/// Takes the line at an index, before which so many phases have begun, and answers how many have begun behind it.
+/// Takes the line at an index, before which so many phases have begun, and answers how many have begun behind it. The stretch
+/// behind a `lane` line is put to those of its lane.
 fn add_line(
     stretches: &mut Vec<List<Stretch>>,
     lanes: &[Name],
@@ -121,14 +89,24 @@ fn add_line(
     let Some(role) = lines.role(index) else {
         return Ok(begun);
     };
-    match role {
-        Role::Phase => Ok(begun + 1),
-        Role::Lane => {
-            add_stretch(stretches, lanes, lines, index, begun)?;
-            Ok(begun)
-        }
-        _ => Ok(begun),
+    if let Role::Phase = role {
+        return Ok(begun + 1);
     }
+    let Role::Lane = role else {
+        return Ok(begun);
+    };
+    let Some(Line::Lane { name }) = lines.get(index) else {
+        return Ok(begun);
+    };
+    let Some(seat) = seat_of(name.as_bytes(), lanes) else {
+        return Ok(begun);
+    };
+    stretches[seat].push(Stretch {
+        phase: begun.saturating_sub(1),
+        first: index as u32 + 1,
+        end: part_end(lines, index + 1) as u32,
+    })?;
+    Ok(begun)
 }
 
 impl Schedule {

@@ -105,10 +105,7 @@ impl Script {
     pub fn lane(&self, seat: u32) -> Option<&[u8]>
         ensures { option_map (λ name. name.now) result ≡ slice_get (lanes_of self.now) seat }
     {
-        match self.lanes.get(seat as usize) {
-            Some(name) => Some(name.as_bytes()),
-            None => None,
-        }
+        Some(self.lanes.get(seat as usize)?.as_bytes())
     }
 
     /// The form in which its labels are spelled: line 1 tells it.
@@ -139,7 +136,16 @@ impl Script {
     pub fn policy(&self) -> Option<(u32, &[u8])>
         ensures { option_map (λ p. (p.0, p.1.now)) result ≡ policy_of self.now }
     {
-        policy(&self.lines)
+        'lines: for index in 0..self.lines.len() {
+            let Some(line) = self.lines.header_line(index) else {
+                continue;
+            };
+            match line {
+                Line::Policy { text } => return Some((index as u32 + 1, text.as_bytes())),
+                _ => continue,
+            }
+        }
+        None
     }
 }
 
@@ -149,21 +155,4 @@ pub fn need(script: &Script) -> u64
     ensures { result ≡ need script.now }
 {
     script.lines.need()
-}
-
-/// The number of the policy's line and its text. No line is made but those of the header.
-fn policy(lines: &Lines) -> Option<(u32, &[u8])>
-    requires { length lines.now ≤ 16777216 }
-    ensures { option_map (λ p. (p.0, p.1.now)) result ≡ policy_of lines.now }
-{
-    'lines: for index in 0..lines.len() {
-        let Some(line) = lines.header_line(index) else {
-            continue;
-        };
-        match line {
-            Line::Policy { text } => return Some((index as u32 + 1, text.as_bytes())),
-            _ => continue,
-        }
-    }
-    None
 }

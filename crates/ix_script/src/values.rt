@@ -37,12 +37,6 @@ pub(crate) fn begins_with_digit(word: &[u8]) -> bool
     }
 }
 
-fn all_digits(word: &[u8]) -> bool
-    ensures { result ≡ list_all is_digit word.now }
-{
-    word.iter().all(|b| is_digit(*b))
-}
-
 /// The name of a file system, a process, a lane or a descriptor, as a word of a script. It borrows the word, and contracts see
 /// its bytes.
 #[derive(Drop)]
@@ -81,10 +75,7 @@ impl<'a> NameWord<'a> {
     pub fn name(&self) -> Name
         ensures { result ≡ self.now }
     {
-        match Name::read(self.word) {
-            Some(name) => name,
-            None => unreachable!(),
-        }
+        Name::read(self.word).unwrap()
     }
 }
 
@@ -126,6 +117,12 @@ pub(crate) fn what_of(word: &[u8]) -> Option<What>
         b"log" => Some(What::Log),
         _ => None,
     }
+}
+
+fn all_digits(word: &[u8]) -> bool
+    ensures { result ≡ list_all is_digit word.now }
+{
+    word.iter().all(|b| is_digit(*b))
 }
 
 #[tactic(auto, unfolding(crate::specs::texts::Words::is_numeral))]

@@ -82,17 +82,6 @@ impl<'a> Model for Words<'a> {
     ghost invariant = { λ w. AreWords (words_of w.text.now) (map (λ s. s.now) w.first) w.seen.count w.seen.has_empty w.seen.has_open };
 }
 
-/// The place of the first space in a text of any length, many bytes at a time.
-fn far_space(text: &[u8]) -> Option<usize>
-    ensures place { result ≡ gap_from spot.Plain text.now }
-    ensures within { IfSome result (λ k. k + 1 ≤ length text.now) }
-{
-    match text {
-        [] => None,
-        _ => memchr(b' ', text),
-    }
-}
-
 /// The place of the space that ends the first word, where no quotes begin it. Most words are short: a search for many bytes at a
 /// time costs more than they do.
 fn end_of_plain(text: &[u8]) -> Option<usize>
@@ -105,7 +94,7 @@ fn end_of_plain(text: &[u8]) -> Option<usize>
             return Some(i);
         }
     }
-    match far_space(&text[near..]) {
+    match memchr(b' ', &text[near..]) {
         Some(far) => Some(near + far),
         None => None,
     }
@@ -179,15 +168,6 @@ fn is_open(word: &[u8]) -> bool
     begins(b'"', word) && !is_closed(word)
 }
 
-/// Keeps a word at its place, where there is one for it.
-fn keep<'a>(first: &mut [&'a [u8]; 8], place: usize, word: &'a [u8])
-    ensures { map (λ s. s.now) first.new ≡ (if nat_lt place 8 then set (map (λ s. s.now) first.old) place word.now else map (λ s. s.now) first.old) }
-{
-    if place < 8 {
-        first[place] = word;
-    }
-}
-
 /// Keeps the first eight words of a line, in places that have no bytes yet, and tells of all.
 fn cut_into<'a>(text: &'a [u8], first: &mut [&'a [u8]; 8]) -> Seen
     requires { map (λ s. s.now) first.old ≡ replicate 8 [] }
@@ -199,7 +179,9 @@ fn cut_into<'a>(text: &'a [u8], first: &mut [&'a [u8]; 8]) -> Seen
     let mut rest = if_any(text);
     'words: while let Some(front) = rest {
         let (word, more) = first_word(front);
-        keep(first, count, word);
+        if count < 8 {
+            first[count] = word;
+        }
         count += 1;
         has_empty |= word.is_empty();
         has_open |= is_open(word);

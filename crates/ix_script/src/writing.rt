@@ -24,13 +24,6 @@ pub(crate) fn push(out: &mut Vec<u8>, bytes: &[u8]) -> Result<(), NoMemory>
     Ok(())
 }
 
-pub(crate) fn push_byte(out: &mut Vec<u8>, byte: u8) -> Result<(), NoMemory>
-    ensures { OnOk result (out.new.items ≡ out.old.items ++ byte ∷ []) }
-{
-    out.push(byte)?;
-    Ok(())
-}
-
 fn pairs(out: &mut Vec<u8>, bytes: &[u8]) -> Result<(), NoMemory>
     ensures { OnOk result (out.new.items ≡ out.old.items ++ pairs_text bytes.now) }
 {
@@ -61,7 +54,7 @@ fn quoted_byte(out: &mut Vec<u8>, byte: u8) -> Result<(), NoMemory>
     ensures { OnOk result (out.new.items ≡ out.old.items ++ quoted_byte byte) }
 {
     if stands_quoted(byte) {
-        return push_byte(out, byte);
+        return push(out, &[byte]);
     }
     if byte == b'"' || byte == b'\\' {
         return push(out, &[b'\\', byte]);
@@ -212,14 +205,6 @@ pub(crate) fn payload<const MOST: u32>(
     shortest_text(out, buffer.as_slice())
 }
 
-/// What stands before the last word of a text.
-fn before_word<'a>(text: &'a [u8], word: &[u8]) -> &'a [u8]
-    requires { length word.now ≤ length text.now }
-    ensures { result.now ≡ take (length text.now - length word.now) text.now }
-{
-    &text[..text.len() - word.len()]
-}
-
 /// The canonical text of a line of that text, without a line feed, whose labels are spelled in the form: the text itself,
 /// but for a payload and a skipped line.
 fn write_line(
@@ -243,7 +228,7 @@ fn write_line(
     if place == 0 {
         return push(out, text);
     }
-    push(out, before_word(text, words.get(place)))?;
+    push(out, &text[..text.len() - words.get(place).len()])?;
     payload(out, buffer, &Payload::<1_048_576>::of(words.get(place)))
 }
 
@@ -255,7 +240,7 @@ fn write_lines(out: &mut Vec<u8>, buffer: &mut Vec<u8>, lines: &Lines) -> Result
             return Err(NoMemory);
         };
         write_line(out, buffer, lines.form(), text)?;
-        push_byte(out, b'\n')?;
+        push(out, b"\n")?;
     }
     Ok(())
 }

@@ -1,4 +1,5 @@
 -- Reading a payload piece by piece, as loops do.
+use mir.Val.{bool_byte}
 use Rattle.std.proofs.Common.{◌≡◌, ℕ, zero, suc, ◌+◌, ◌*◌, inl, inr, ◌<◌, ◌≤◌, ◌==◌, Bool, true, false, ◌&&◌, List, [], ◌∷◌, ◌++◌, length, drop, get_or, Option, Some, None, refl}
 use Rattle.std.proofs.Common.{sym, ◌∙◌, ap, append_assoc, arith, IsSome, Result, Ok, Err, add-one, drop-cons, length-drop, length-append}
 use Rattle.std.specs.Prelude.{is_some, nat_le}
@@ -29,6 +30,11 @@ pub record Counted (n total left : ℕ) (rest all : Option (List ℕ)) : Type 0 
   pub whole : after_bytes front rest ≡ all
   pub count : n ≡ length front
   pub few : n + left ≤ total
+
+-- the bytes that were read with one are none or one
+pub bytes_counted : (k : ℕ) (b : Bool) (byte : Option ℕ) → k ≡ bool_byte b → b ≡ is_some byte → k ≡ length (bytes_of byte)
+bytes_counted k b None h e = h ∙ ap bool_byte e
+bytes_counted k b (Some x) h e = h ∙ ap bool_byte e
 
 regroup : (front mid : List ℕ) (more : Option (List ℕ)) → after_bytes front (after_bytes mid more) ≡ after_bytes (front ++ mid) more
 regroup front mid None = refl

@@ -1,4 +1,4 @@
-use Rattle.std.proofs.Common.{◌*◌, length, arith}
+use Rattle.std.proofs.Common.{◌*◌, length, arith, sym, ◌∙◌}
 use Rattle.ix_script.proofs.texts.Decoding.{begin, digits_at, more}
 use Rattle.ix_script.proofs.payload.decode_pairs.Goals as goal
 
@@ -7,12 +7,12 @@ bytes-init c =
     let d = begin c.args.text.now c.args.buf.now c.args.count c.requires.spelled c.requires.count in
     record { twice = d.twice; some = d.some; front = d.front; len = d.len }
 
-pub known_pair-requires : goal.known_pair-requires
-known_pair-requires c = digits_at (2 * c.bytes.i) c.args.text.now (omega (arith, c.bytes.invariant.twice, c.bytes-test.true)) c.bytes.invariant.some
+pub unwrap-requires : goal.unwrap-requires
+unwrap-requires c = rw c.pair.ensures (digits_at (2 * c.bytes.i) c.args.text.now (omega (arith, c.bytes.invariant.twice, c.bytes-test.true)) c.bytes.invariant.some)
 
 pub bytes-preserved : goal.bytes-preserved
 bytes-preserved c =
     let h = c.bytes.invariant in
-    let d = more c.args.text.now c.bytes.buf c.bytes.i c.args.count (length c.args.buf.now) c.known_pair.result c.bytes-test.true c.requires.room c.known_pair.ensures
+    let d = more c.args.text.now c.bytes.buf c.bytes.i c.args.count (length c.args.buf.now) c.unwrap.result c.bytes-test.true c.requires.room (sym c.pair.ensures ∙ c.unwrap.ensures)
     (record { twice = h.twice; some = h.some; front = h.front; len = h.len }) in
     record { twice = d.twice; some = d.some; front = d.front; len = d.len }

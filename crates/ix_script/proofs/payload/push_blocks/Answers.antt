@@ -1,4 +1,4 @@
-use Rattle.std.proofs.Common.{◌≡◌, ℕ, ◌-◌, ◌++◌, List, length, take, replicate, sym, ap, ◌∙◌, append_assoc, arith}
+use Rattle.std.proofs.Common.{◌≡◌, ℕ, ◌+◌, ◌-◌, ◌≤◌, ◌++◌, List, length, take, replicate, sym, ap, ◌∙◌, append_assoc, arith}
 use Rattle.std.proofs.lemmas.List.{append-nil, replicate-append-replicate, take-replicate}
 use Rattle.ix_script.proofs.payload.push_blocks.Goals as goal
 
@@ -8,10 +8,15 @@ parts-preserved c =
     let byte : ℕ = c.args.byte in
     let part : ℕ = c.min-part.result in
     let left : ℕ = c.parts.left in
-    let cut : take part c.args.block.now ≡ replicate part byte = ap (take part) c.requires.block ∙ take-replicate part (length c.args.block.now) byte (omega (arith, c.min-part.ensures)) in
+    let few : part ≤ length c.args.block.now = omega (arith, c.min-part.ensures) in
+    let cut : take part c.args.block.now ≡ replicate part byte = ap (take part) c.requires.block ∙ take-replicate part (length c.args.block.now) byte few in
     let pushed : c.extend_from_slice.new.self.items ≡ old ++ replicate part byte = c.in_ok-extend_from_slice.ensures.items ∙ ap (λ bs. old ++ bs) cut in
-    let whole : replicate part byte ++ replicate (left - part) byte ≡ replicate left byte = replicate-append-replicate part (left - part) byte ∙ ap (λ (k : ℕ). replicate k byte) (omega (arith, c.min-part.ensures)) in
-    ap (λ bs. bs ++ replicate (left - part) byte) pushed ∙ append_assoc old (replicate part byte) (replicate (left - part) byte) ∙ ap (λ bs. old ++ bs) whole ∙ c.parts.invariant
+    let all : part + (left - part) ≡ left = omega (arith, c.min-part.ensures) in
+    let whole : replicate part byte ++ replicate (left - part) byte ≡ replicate left byte =
+    replicate-append-replicate part (left - part) byte ∙ ap (λ (k : ℕ). replicate k byte) all in
+    let more : c.extend_from_slice.new.self.items ++ replicate (left - part) byte ≡ old ++ replicate left byte =
+    ap (λ bs. bs ++ replicate (left - part) byte) pushed ∙ append_assoc old (replicate part byte) (replicate (left - part) byte) ∙ ap (λ bs. old ++ bs) whole in
+    more ∙ c.parts.invariant
 
 pub returns : goal.returns
 returns c =

@@ -2,7 +2,7 @@ use Rattle.std.proofs.Common.{◌∙◌, ◌+◌, length, sym, arith}
 use Rattle.std.proofs.lemmas.Bool.{eq-eqb, ne_eqb}
 use Rattle.ix_script.specs.texts.Payloads.{quoted_from}
 use Rattle.ix_script.specs.declared.payload.Escape.TheVariants as escape
-use Rattle.ix_script.proofs.texts.Spelling.{no_spelling, quoted_counted, quoted_broken, quoted_done, quoted_early, quoted_past}
+use Rattle.ix_script.proofs.texts.Spelling.{bytes_counted, no_spelling, quoted_counted, quoted_broken, quoted_done, quoted_early, quoted_past}
 use Rattle.ix_script.proofs.payload.quoted.Goals as goal
 
 pub returns-then-i-text : goal.returns-then-i-text
@@ -25,7 +25,7 @@ returns-in_default c =
 
 pub bytes-preserved : goal.bytes-preserved
 bytes-preserved c =
-    rw c.count_after-count.ensures (quoted_counted (quoted_from escape.Plain c.args.text.now) _ c.args.text.now c.bytes.at c.in-Some.next c.in-Some.byte c.bytes.i c.bytes-test.true
+    rw (bytes_counted c.from-count.result c.is_some.result c.in-Some.byte c.from-count.ensures c.is_some.ensures) (quoted_counted (quoted_from escape.Plain c.args.text.now) _ c.args.text.now c.bytes.at c.in-Some.next c.in-Some.byte c.bytes.i c.bytes-test.true
     (sym c.ends.ensures ∙ c.if-ends.false)
     (sym c.after.ensures ∙ c.in-Some.is) c.bytes.invariant)
 

@@ -1,9 +1,12 @@
-use Rattle.std.proofs.Common.{[], ◌∙◌, arith, refl}
+use Rattle.std.proofs.Common.{◌≡◌, [], ◌∙◌, arith, cond, map, nat_lt, refl, set}
+use Rattle.std.proofs.lemmas.Bool.{lt-ltb, le-ltb}
+use Rattle.std.proofs.lemmas.List.{map-set}
 use Rattle.std.specs.Option.{option_map_or}
 use Rattle.ix_script.specs.texts.Cutting.{pieces}
 use Rattle.ix_script.specs.declared.words.Spot.TheVariants as spot
 use Rattle.ix_script.proofs.lines.Deciding.{none_there}
 use Rattle.ix_script.proofs.texts.Words.{begin, next, ended, room}
+use Rattle.ix_script.proofs.words.cut_into.Goals.{then-count-lt8, else-count-lt8}
 use Rattle.ix_script.proofs.words.cut_into.Goals as goal
 
 pub words-init : goal.words-init
@@ -19,8 +22,13 @@ overflow_add-count c = omega (
 
 pub words-preserved : goal.words-preserved
 words-preserved c =
+    let words = map (λ s. s.now) c.words.first in
+    let kept : map (λ s. s.now) c.if-count-lt8.first ≡ cond (nat_lt c.words.count 8) (set words c.words.count c.first_word.result.0.now) words = elim c.if-count-lt8.branch [
+      | then-count-lt8 w ↦ rw (w.first-is, lt-ltb c.words.count 8 w.if-count-lt8.true) (map-set (λ s. s.now) c.words.first c.words.count c.first_word.result.0)
+      | else-count-lt8 w ↦ rw (w.first-is, le-ltb c.words.count 8 w.if-count-lt8.false) refl
+    ] in
     rw (c.is_empty-has_empty.ensures ∙ none_there _ c.first_word.result.0.now refl, c.is_open-has_open.ensures)
-    (next _ _ _ _ _ _ _ c.first_word.result.0.now _ (rw c.in-Some.is c.first_word.ensures.pieces) c.keep.ensures c.words.invariant)
+    (next _ _ _ _ _ _ _ c.first_word.result.0.now _ (rw c.in-Some.is c.first_word.ensures.pieces) kept c.words.invariant)
 
 pub returns : goal.returns
 returns c = ended _ _ _ _ _ _ (rw c.in_default.is refl) c.words.invariant

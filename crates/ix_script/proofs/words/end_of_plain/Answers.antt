@@ -3,7 +3,7 @@ use Rattle.std.proofs.lemmas.Bool.{eq-eqb, ne_eqb}
 use Rattle.std.proofs.lemmas.List.{take_rest}
 use Rattle.ix_script.specs.reader.Cut.{gap_from}
 use Rattle.ix_script.specs.declared.words.Spot.TheVariants as spot
-use Rattle.ix_script.proofs.texts.Pieces.{cut_at, cut_at_gap, gap_found, gap_next, gap_start}
+use Rattle.ix_script.proofs.texts.Pieces.{by_search, cut_at, cut_at_gap, gap_found, gap_next, gap_start}
 use Rattle.ix_script.proofs.words.end_of_plain.Goals as goal
 
 pub bytes-init : goal.bytes-init
@@ -28,7 +28,7 @@ returns-in-Some-clause-pieces c =
     let text = c.args.text.now in
     let at : c.bytes.i ≡ c.min-near.result = omega (arith, c.bytes.invariant.low, c.bytes-test.false) in
     let far : gap_from spot.Plain (drop c.min-near.result text) ≡ Some c.in-Some.far = ap (gap_from spot.Plain)
-    (sym (take_rest text c.min-near.result)) ∙ sym c.far_space.ensures.place ∙ c.in-Some.is in
+    (sym (take_rest text c.min-near.result)) ∙ sym (by_search _ c.memchr.result c.memchr.ensures) ∙ c.in-Some.is in
     let all : gap_from spot.Plain text ≡ option_map (λ k. c.min-near.result + k) (gap_from spot.Plain (drop c.min-near.result text)) =
     subst (λ (i : ℕ). gap_from spot.Plain text ≡ option_map (λ k. i + k) (gap_from spot.Plain (drop i text))) at c.bytes.invariant.gap in
     cut_at_gap spot.Plain text ∙ ap (cut_at text) (all ∙ ap (option_map (λ k. c.min-near.result + k)) far)
@@ -37,7 +37,7 @@ pub returns-in-None-clause-pieces : goal.returns-in-None-clause-pieces
 returns-in-None-clause-pieces c =
     let text = c.args.text.now in
     let at : c.bytes.i ≡ c.min-near.result = omega (arith, c.bytes.invariant.low, c.bytes-test.false) in
-    let far : gap_from spot.Plain (drop c.min-near.result text) ≡ None = ap (gap_from spot.Plain) (sym (take_rest text c.min-near.result)) ∙ sym c.far_space.ensures.place ∙ c.in-None.is in
+    let far : gap_from spot.Plain (drop c.min-near.result text) ≡ None = ap (gap_from spot.Plain) (sym (take_rest text c.min-near.result)) ∙ sym (by_search _ c.memchr.result c.memchr.ensures) ∙ c.in-None.is in
     let all : gap_from spot.Plain text ≡ option_map (λ k. c.min-near.result + k) (gap_from spot.Plain (drop c.min-near.result text)) =
     subst (λ (i : ℕ). gap_from spot.Plain text ≡ option_map (λ k. i + k) (gap_from spot.Plain (drop i text))) at c.bytes.invariant.gap in
     cut_at_gap spot.Plain text ∙ ap (cut_at text) (all ∙ ap (option_map (λ k. c.min-near.result + k)) far)

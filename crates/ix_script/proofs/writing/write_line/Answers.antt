@@ -37,8 +37,8 @@ returns-then-place-eq0 c =
     let none : payload_place c.unwrap.result ≡ 0 = sym c.payload_place-place.ensures.place ∙ c.if-place-eq0.true in
     rw (own_words c.args.labels text c.unwrap.result c.requires more policy first none) c.push-then-place-eq0.ensures
 
-pub before_word-requires : goal.before_word-requires
-before_word-requires c =
+pub slice_bounds-push-count : goal.slice_bounds-push-count
+slice_bounds-push-count c =
     let text : List ℕ = c.args.text.now in
     let more : is_skipped text ≡ false = sym c.is_skipped.ensures ∙ c.if-is_skipped.false in
     let policy : is_policy_line text ≡ false = no_policy text (sym c.has_one_spelling.ensures ∙ c.if-has_one_spelling.false) more in
@@ -64,7 +64,7 @@ returns c =
     let p = payload_words c.args.labels text c.unwrap.result c.requires more policy first (λ e. c.if-place-eq0.false (c.payload_place-place.ensures.place ∙ e)) in
     let bytes : c.of.result ≡ p.bytes = same_Some c.of.result p.bytes (sym (rw (c.get-3.ensures, c.cut.ensures, c.payload_place-place.ensures.place) at c.of.ensures) ∙ p.read) in
     let front : c.push-2.new.out.items ≡ c.args.out.now.items ++ take (length text - length (word_at (words_of text) (payload_place c.unwrap.result))) text =
-    rw (c.before_word.ensures, c.get-2.ensures, c.cut.ensures, c.payload_place-place.ensures.place) at c.in_ok-push.ensures in
+    rw (c.get-2.ensures, c.cut.ensures, c.payload_place-place.ensures.place) at c.in_ok-push.ensures in
     let whole : c.push-2.new.out.items ++ payload_text c.of.result ≡ c.args.out.now.items ++ line_text c.args.labels
     (line_in c.args.labels text) = rw (front, bytes, p.spelled_so)
     (append_assoc c.args.out.now.items (take (length text - length (word_at (words_of text) (payload_place c.unwrap.result))) text)

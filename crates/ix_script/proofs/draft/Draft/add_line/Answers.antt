@@ -3,12 +3,12 @@ use Rattle.std.specs.Option.{option_map_or}
 use Rattle.ix_text.specs.Bytes.{is_empty}
 use Rattle.ix_script.specs.texts.Cutting.{words_of, is_skipped, is_policy_line}
 use Rattle.ix_script.specs.lines.Before.{form_told}
-use Rattle.ix_script.specs.lines.Faults.{said_fault, command_fault}
-use Rattle.ix_script.specs.lines.Said.{said}
+use Rattle.ix_script.specs.lines.Faults.{said_fault, command_fault, line_fault}
+use Rattle.ix_script.specs.lines.Said.{said, line_of}
 use Rattle.ix_script.specs.declared.line.Line.{Line}
 use Rattle.ix_script.specs.lines.Forms.{places}
-use Rattle.ix_script.specs.reader.Readers.{FormRight}
-use Rattle.ix_script.proofs.lines.Deciding.{some_lines, text_broken, by_words, said_by_form}
+use Rattle.ix_script.specs.reader.Readers.{FormRight, LineRight}
+use Rattle.ix_script.proofs.lines.Deciding.{whole_fault, some_lines, text_broken, by_words, said_by_form}
 use Rattle.ix_script.proofs.lines.Readings.{stand}
 use Rattle.ix_script.proofs.reader.Commands.{entry_said}
 use Rattle.ix_script.proofs.draft.Draft.add_line.Goals as goal
@@ -17,15 +17,15 @@ pub returns-in-Err-clause-fail : goal.returns-in-Err-clause-fail
 returns-in-Err-clause-fail g c = rw (text_broken c.args.self.now.lines c.args.text.now _ c.in-Err.ensures) c.fault.ensures
 
 pub line_by_form-line-requires : goal.line_by_form-line-requires
-line_by_form-line-requires g c = rw c.form.ensures (stand (places (form_told c.args.self.now.lines) c.in-Ok.form c.cut.new.self) c.in-Ok.ensures.faultless)
+line_by_form-line-requires g c = rw c.form.ensures (stand (places (form_told c.args.self.now.lines) c.in-Ok-form_by_words.form c.cut.new.self) c.in-Ok-form_by_words.ensures.faultless)
 
 pub add_said-requires-clause-fault : goal.add_said-requires-clause-fault
 add_said-requires-clause-fault g c =
     let before = c.args.self.now.lines in
     let text = c.args.text.now in
     let some : is_empty before ≡ false = some_lines before c.len.result c.len.ensures c.if-len-eq0.false in
-    let right : FormRight before c.in-Ok.form (words_of text) = rw c.cut.ensures at c.in-Ok.ensures in
-    let line : said (form_told before) c.in-Ok.form (words_of text) ≡ Some c.line_by_form-line.result = rw (c.form.ensures, c.cut.ensures) at c.line_by_form-line.ensures in
+    let right : FormRight before c.in-Ok-form_by_words.form (words_of text) = rw c.cut.ensures at c.in-Ok-form_by_words.ensures in
+    let line : said (form_told before) c.in-Ok-form_by_words.form (words_of text) ≡ Some c.line_by_form-line.result = rw (c.form.ensures, c.cut.ensures) at c.line_by_form-line.ensures in
     by_words before text c.in_default.ensures some (sym c.is_skipped.ensures ∙ c.if-is_skipped.false)
     (sym c.is_policy_line.ensures ∙ c.if-is_policy_line.false) ∙ right.fault ∙ ap (λ (o : Option Line). option_map_or (said_fault before) o None) line
 
@@ -33,9 +33,9 @@ pub add_said-requires-clause-meant : goal.add_said-requires-clause-meant
 add_said-requires-clause-meant g c =
     let before = c.args.self.now.lines in
     let text = c.args.text.now in
-    let right : FormRight before c.in-Ok.form (words_of text) = rw c.cut.ensures at c.in-Ok.ensures in
-    let line : said (form_told before) c.in-Ok.form (words_of text) ≡ Some c.line_by_form-line.result = rw (c.form.ensures, c.cut.ensures) at c.line_by_form-line.ensures in
-    said_by_form (form_told before) text c.in-Ok.form c.line_by_form-line.result (sym c.is_skipped.ensures ∙ c.if-is_skipped.false)
+    let right : FormRight before c.in-Ok-form_by_words.form (words_of text) = rw c.cut.ensures at c.in-Ok-form_by_words.ensures in
+    let line : said (form_told before) c.in-Ok-form_by_words.form (words_of text) ≡ Some c.line_by_form-line.result = rw (c.form.ensures, c.cut.ensures) at c.line_by_form-line.ensures in
+    said_by_form (form_told before) text c.in-Ok-form_by_words.form c.line_by_form-line.result (sym c.is_skipped.ensures ∙ c.if-is_skipped.false)
     (sym c.is_policy_line.ensures ∙ c.if-is_policy_line.false) right.first line
 
 pub add_command-requires-clause-plain : goal.add_command-requires-clause-plain
@@ -45,11 +45,11 @@ add_command-requires-clause-plain g c =
     let some : is_empty before ≡ false = some_lines before c.len.result c.len.ensures c.if-len-eq0.false in
     let not_skipped : is_skipped text ≡ false = sym c.is_skipped.ensures ∙ c.if-is_skipped.false in
     let no_policy : is_policy_line text ≡ false = sym c.is_policy_line.ensures ∙ c.if-is_policy_line.false in
-    let right : FormRight before c.in-Ok.form (words_of text) = rw c.cut.ensures at c.in-Ok.ensures in
-    let e = entry_said (form_told before) c.in-Ok.form (words_of text) (sym c.is_entry.ensures ∙ c.if-is_entry.true) right.faultless in
+    let right : FormRight before c.in-Ok-form_by_words.form (words_of text) = rw c.cut.ensures at c.in-Ok-form_by_words.ensures in
+    let e = entry_said (form_told before) c.in-Ok-form_by_words.form (words_of text) (sym c.is_entry.ensures ∙ c.if-is_entry.true) right.faultless in
     record {
       line = e.line;
-      meant = said_by_form (form_told before) text c.in-Ok.form e.line not_skipped no_policy right.first e.says;
+      meant = said_by_form (form_told before) text c.in-Ok-form_by_words.form e.line not_skipped no_policy right.first e.says;
       fault = by_words before text c.in_default.ensures some not_skipped no_policy ∙ right.fault ∙ ap (λ (o : Option Line). option_map_or (said_fault before) o None) e.says;
       is_command = e.is_command;
       costs = e.costs;
@@ -63,3 +63,16 @@ returns-in-Err-form_by_words-clause-fail g c =
     let broken : command_fault before (words_of text) ≡ Some c.in-Err-form_by_words.rule.0 = rw c.cut.ensures at c.in-Err-form_by_words.ensures in
     let is = by_words before text c.in_default.ensures some (sym c.is_skipped.ensures ∙ c.if-is_skipped.false) (sym c.is_policy_line.ensures ∙ c.if-is_policy_line.false) ∙ broken in
     rw is c.fault-in-Err-form_by_words.ensures
+
+pub add-requires-clause-right : goal.add-requires-clause-right
+add-requires-clause-right g c = rw (whole_fault c.args.self.now.lines c.args.text.now c.in_default.ensures) c.in-Ok.ensures
+
+pub returns-then-len-eq0-clause-line : goal.returns-then-len-eq0-clause-line
+returns-then-len-eq0-clause-line g c =
+    let right : LineRight c.args.self.now.lines c.in-Ok.line (line_fault c.args.self.now.lines c.args.text.now) (line_of (form_told c.args.self.now.lines) c.args.text.now) =
+    rw (whole_fault c.args.self.now.lines c.args.text.now c.in_default.ensures) c.in-Ok.ensures in
+    record { line = c.in-Ok.line; right = right; added = c.in_ok-add-in-Ok.ensures.lines }
+
+pub returns-in-Err-whole_line-clause-fail : goal.returns-in-Err-whole_line-clause-fail
+returns-in-Err-whole_line-clause-fail g c =
+    rw (whole_fault c.args.self.now.lines c.args.text.now c.in_default.ensures, c.in-Err-whole_line.ensures) c.fault-in-Err-whole_line.ensures

@@ -16,25 +16,37 @@ returns-in-File g c =
 
 pub returns-then-is_out_of_order : goal.returns-then-is_out_of_order
 returns-then-is_out_of_order g c =
-    other_said c.args.self.now.lines c.args.line.now c.in_default.not-Proc c.in_default.not-Dir c.in_default.not-File
-    ∙ broken 25 (is_out_of_order c.args.self.now.lines c.args.line.now) ((26, is_one_too_many c.args.self.now.lines c.args.line.now) ∷ (28, lacks_policy c.args.self.now.lines c.args.line.now) ∷ []) (sym c.is_out_of_order.ensures ∙ c.if-is_out_of_order.true)
+    let before = c.args.self.now.lines in
+    let l = c.args.line.now in
+    let other = other_said before l c.in_default.not-Proc c.in_default.not-Dir c.in_default.not-File in
+    other ∙ broken 25 (is_out_of_order before l) ((26, is_one_too_many before l) ∷ (28, lacks_policy before l) ∷ [])
+    (sym c.is_out_of_order.ensures ∙ c.if-is_out_of_order.true)
 
 pub returns-then-is_one_too_many : goal.returns-then-is_one_too_many
 returns-then-is_one_too_many g c =
-    other_said c.args.self.now.lines c.args.line.now c.in_default.not-Proc c.in_default.not-Dir c.in_default.not-File
-    ∙ kept 25 (is_out_of_order c.args.self.now.lines c.args.line.now) ((26, is_one_too_many c.args.self.now.lines c.args.line.now) ∷ (28, lacks_policy c.args.self.now.lines c.args.line.now) ∷ []) (sym c.is_out_of_order.ensures ∙ c.if-is_out_of_order.false)
-    ∙ broken 26 (is_one_too_many c.args.self.now.lines c.args.line.now) ((28, lacks_policy c.args.self.now.lines c.args.line.now) ∷ []) (sym c.is_one_too_many.ensures ∙ c.if-is_one_too_many.true)
+    let before = c.args.self.now.lines in
+    let l = c.args.line.now in
+    let other = other_said before l c.in_default.not-Proc c.in_default.not-Dir c.in_default.not-File in
+    let order = kept 25 (is_out_of_order before l) ((26, is_one_too_many before l) ∷ (28, lacks_policy before l) ∷ [])
+    (sym c.is_out_of_order.ensures ∙ c.if-is_out_of_order.false) in
+    other ∙ order ∙ broken 26 (is_one_too_many before l) ((28, lacks_policy before l) ∷ []) (sym c.is_one_too_many.ensures ∙ c.if-is_one_too_many.true)
 
 pub returns-then-lacks_policy : goal.returns-then-lacks_policy
 returns-then-lacks_policy g c =
-    other_said c.args.self.now.lines c.args.line.now c.in_default.not-Proc c.in_default.not-Dir c.in_default.not-File
-    ∙ kept 25 (is_out_of_order c.args.self.now.lines c.args.line.now) ((26, is_one_too_many c.args.self.now.lines c.args.line.now) ∷ (28, lacks_policy c.args.self.now.lines c.args.line.now) ∷ []) (sym c.is_out_of_order.ensures ∙ c.if-is_out_of_order.false)
-    ∙ kept 26 (is_one_too_many c.args.self.now.lines c.args.line.now) ((28, lacks_policy c.args.self.now.lines c.args.line.now) ∷ []) (sym c.is_one_too_many.ensures ∙ c.if-is_one_too_many.false)
-    ∙ broken 28 (lacks_policy c.args.self.now.lines c.args.line.now) [] (sym c.lacks_policy.ensures ∙ c.if-lacks_policy.true)
+    let before = c.args.self.now.lines in
+    let l = c.args.line.now in
+    let other = other_said before l c.in_default.not-Proc c.in_default.not-Dir c.in_default.not-File in
+    let order = kept 25 (is_out_of_order before l) ((26, is_one_too_many before l) ∷ (28, lacks_policy before l) ∷ [])
+    (sym c.is_out_of_order.ensures ∙ c.if-is_out_of_order.false) in
+    let few = kept 26 (is_one_too_many before l) ((28, lacks_policy before l) ∷ []) (sym c.is_one_too_many.ensures ∙ c.if-is_one_too_many.false) in
+    other ∙ order ∙ few ∙ broken 28 (lacks_policy before l) [] (sym c.lacks_policy.ensures ∙ c.if-lacks_policy.true)
 
 pub returns-else-lacks_policy : goal.returns-else-lacks_policy
 returns-else-lacks_policy g c =
-    other_said c.args.self.now.lines c.args.line.now c.in_default.not-Proc c.in_default.not-Dir c.in_default.not-File
-    ∙ kept 25 (is_out_of_order c.args.self.now.lines c.args.line.now) ((26, is_one_too_many c.args.self.now.lines c.args.line.now) ∷ (28, lacks_policy c.args.self.now.lines c.args.line.now) ∷ []) (sym c.is_out_of_order.ensures ∙ c.if-is_out_of_order.false)
-    ∙ kept 26 (is_one_too_many c.args.self.now.lines c.args.line.now) ((28, lacks_policy c.args.self.now.lines c.args.line.now) ∷ []) (sym c.is_one_too_many.ensures ∙ c.if-is_one_too_many.false)
-    ∙ kept 28 (lacks_policy c.args.self.now.lines c.args.line.now) [] (sym c.lacks_policy.ensures ∙ c.if-lacks_policy.false)
+    let before = c.args.self.now.lines in
+    let l = c.args.line.now in
+    let other = other_said before l c.in_default.not-Proc c.in_default.not-Dir c.in_default.not-File in
+    let order = kept 25 (is_out_of_order before l) ((26, is_one_too_many before l) ∷ (28, lacks_policy before l) ∷ [])
+    (sym c.is_out_of_order.ensures ∙ c.if-is_out_of_order.false) in
+    let few = kept 26 (is_one_too_many before l) ((28, lacks_policy before l) ∷ []) (sym c.is_one_too_many.ensures ∙ c.if-is_one_too_many.false) in
+    other ∙ order ∙ few ∙ kept 28 (lacks_policy before l) [] (sym c.lacks_policy.ensures ∙ c.if-lacks_policy.false)
