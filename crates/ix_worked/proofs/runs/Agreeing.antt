@@ -22,7 +22,7 @@ use Rattle.ix_worked.specs.floating.TwoLevels.{two_levels, writing}
 use Rattle.ix_worked.proofs.Chains.{Steps, number, bytes, refused, done, stepped}
 use Rattle.ix_worked.proofs.Computing.{running}
 use Rattle.ix_worked.proofs.Labels.{labels, leq-with_bottom}
-use Rattle.ix_worked.proofs.floating.TwoBytes as two
+use Rattle.ix_worked.proofs.TwoBytes as two
 use Rattle.ix_worked.proofs.Worlds.{floated, opened, with_entry, with_child, with_ended}
 
 -- ---- who is high, and who is low
