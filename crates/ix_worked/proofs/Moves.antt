@@ -1,5 +1,5 @@
 -- A session by what each of its entries changes. The worlds that it goes through have no names: each is made from the one before it.
-use Rattle.std.proofs.Common.{◌≡◌, ℕ, suc, List, [], ◌∷◌, take, drop, length, slice_index_or, refl, ap}
+use Rattle.std.proofs.Common.{◌≡◌, ℕ, suc, List, [], ◌∷◌, ◌++◌, take, drop, length, slice_index_or, refl, ap, arith}
 use Rattle.ix_model.specs.world.World.{World}
 use Rattle.ix_model.specs.history.Step.{Given, answer, run}
 use Rattle.ix_model.specs.history.Events.{Event}
@@ -87,11 +87,28 @@ rest : {A : Type 0} {a b : A} {xs ys : List A} → a ∷ xs ≡ b ∷ ys → xs 
 rest h = ap (drop 1) h
 
 -- both equations are those of each entry
-each_gives : (w : World) (place : ℕ) (events : List Event) (moves : List Move) → decided w place events moves ≡ before w events moves
+pub each_gives : (w : World) (place : ℕ) (events : List Event) (moves : List Move) → decided w place events moves ≡ before w events moves
     → answered w events moves ≡ after w events moves → Gives w place events (given w moves)
 each_gives w place [] moves h k = tt
 each_gives w place (e ∷ events) [] h k = cc
 each_gives w place (e ∷ events) (m ∷ moves) h k = (head h, head k) ⨾ each_gives (m w).world (suc place) events moves (rest h) (rest k)
+
+-- the place and the world after these
+abbrev pub place_after : ℕ → List Event → ℕ
+place_after place [] = place
+place_after place (e ∷ events) = place_after (suc place) events
+
+abbrev pub left_by : World → List Move → World
+left_by w [] = w
+left_by w (m ∷ moves) = left_by (m w).world moves
+
+-- one part after another: a long session is computed so
+pub goes_on : (w : World) (place : ℕ) (events more : List Event) (moves further : List Move) → length events ≡ length moves → Gives w place events (given w moves)
+    → Gives (left_by w moves) (place_after place events) more (given (left_by w moves) further) → Gives w place (events ++ more) (given w (moves ++ further))
+goes_on w place [] more [] further same h k = k
+goes_on w place [] more (m ∷ moves) further same h k = absurd (omega arith)
+goes_on w place (e ∷ events) more [] further same h k = absurd h
+goes_on w place (e ∷ events) more (m ∷ moves) further same (g ⨾ gs) k = g ⨾ goes_on (m w).world (suc place) events more moves further (omega arith) gs k
 
 -- a session from a config goes by these moves
 abbrev pub GoesBy : Config → List Event → List Move → Type 0

@@ -1,10 +1,11 @@
 -- What the worked sessions show, entry by entry.
-use Rattle.std.proofs.Common.{◌≡◌, ℕ, false, List, [], ◌∷◌, ◌++◌, ◌∙◌, Some, None, replicate, take, refl, sym, ap, codes}
+use Rattle.std.proofs.Common.{◌≡◌, ℕ, true, false, List, [], ◌∷◌, ◌++◌, ◌∙◌, Some, None, replicate, take, drop, refl, sym, ap, codes}
 use Rattle.ix_label.specs.Category.{bottom}
 use Rattle.ix_model.specs.history.Events.{Event}
 use Rattle.ix_model.specs.world.Directories.{without_name}
 use Rattle.ix_model.specs.world.Privs.{to_lower, to_thaw, to_grant, to_read_the_log, no_privileges}
-use Rattle.ix_model.specs.world.World.{put}
+use Rattle.ix_model.specs.opening.Opening.{opening_world}
+use Rattle.ix_model.specs.world.World.{World, put}
 use Rattle.ix_model.specs.declared.audit.Act.TheVariants as act
 use Rattle.ix_model.specs.declared.call.Mode.TheVariants as mode
 use Rattle.ix_model.specs.declared.refusal.Refusal.TheVariants as refusal
@@ -17,7 +18,8 @@ use Rattle.ix_worked.specs.floating.Floating.{reading_up, reading, floating_show
 use Rattle.ix_worked.specs.floating.FileCeiling.{low_files, writing_down, writing_down_shows}
 use Rattle.ix_worked.specs.floating.FrozenFile.{a_frozen_file, writing_to_it, writing_to_it_shows}
 use Rattle.ix_worked.specs.floating.HighDirectory.{a_high_directory, looking_into_it, looking_into_it_shows}
-use Rattle.ix_worked.specs.floating.LooksAnew.{held_low, reading_twice, reading_twice_shows}
+use Rattle.ix_worked.specs.floating.LooksAnew as anew
+use Rattle.ix_worked.specs.floating.LooksAnew.{reading_twice, reading_twice_shows}
 use Rattle.ix_worked.specs.floating.TwoLevels.{two_levels, writing, writing_shows}
 use Rattle.ix_worked.specs.privileges.Downgrading.{one_line, lowering, lowering_shows}
 use Rattle.ix_worked.specs.privileges.Executing.{programs, executing, executing_shows}
@@ -34,9 +36,10 @@ use Rattle.ix_worked.specs.processes.WaitingLow.{waiting_low, waiting_low_shows}
 use Rattle.ix_worked.specs.pipes.Claims.{claiming, claiming_shows}
 use Rattle.ix_worked.specs.pipes.Copying.{copying, copying_shows}
 use Rattle.ix_worked.specs.pipes.FullPipe.{one_process, piping, piping_shows}
+use Rattle.ix_worked.proofs.Chains.{Gives}
 use Rattle.ix_worked.proofs.Computing.{running, auditing}
 use Rattle.ix_worked.proofs.Labels.{labels}
-use Rattle.ix_worked.proofs.Moves.{Move, GoesBy, number, bytes, answers, done, refuses, refuses_at, same, back_to, ◌▸◌, goes, shows, shows_by, logs_by}
+use Rattle.ix_worked.proofs.Moves.{Move, GoesBy, given, left_by, each_gives, goes_on, number, bytes, answers, done, refuses, refuses_at, same, back_to, ◌▸◌, goes, shows, shows_by, logs_by}
 use Rattle.ix_worked.proofs.Worlds.{marked, with_made, with_process, with_object, with_line, floated, raised, opened, with_entry, with_fd, without_entry, moved, holding, with_new, with_pipe, claimed_by, with_child, with_ended, without_process}
 use Rattle.ix_worked.proofs.TwoBytes.{two_bytes}
 
@@ -77,13 +80,13 @@ twice_moves =
     number 0 (with_entry 2 0 0 (opened 1 mode.Write)) ∷ number 0 (with_entry 1 0 1 (opened 1 mode.Read)) ∷ bytes (codes "x") (moved 1 1)
     ∷ number 1 (holding 1 (codes "Zy") [] ▸ raised 1 seven ▸ moved 0 1 ▸ marked 0 seven) ∷ refuses refusal.ProcCeiling ∷ []
 
-pub twice_goes : GoesBy held_low reading_twice twice_moves
+pub twice_goes : GoesBy anew.held_low reading_twice twice_moves
 unfolding running
-twice_goes = goes held_low reading_twice twice_moves (simp labels refl) refl
+twice_goes = goes anew.held_low reading_twice twice_moves (simp labels refl) refl
 
-pub raised_between : shown held_low reading_twice ≡ reading_twice_shows
+pub raised_between : shown anew.held_low reading_twice ≡ reading_twice_shows
 unfolding running
-raised_between = shows_by held_low reading_twice twice_moves twice_goes
+raised_between = shows_by anew.held_low reading_twice twice_moves twice_goes
 
 -- ---- a frozen file
 pub frozen_stays : shown a_frozen_file writing_to_it ≡ writing_to_it_shows
@@ -306,31 +309,88 @@ held pid = done (with_process pid (λ p. record p { ceiling = two_and_five }))
 abbrev whole_with : ℕ → Move
 whole_with pid = answers (reply.Whole (record { 0 = pid }) bottom no_privileges) same
 
-abbrev serves : List Move
-serves =
+-- a user asks
+abbrev asks : List Move
+asks =
     answers (reply.Two (record { 0 = 0 }) (record { 0 = 1 })) (with_pipe 1 256 0 1 0 1)
     ∷ answers (reply.Two (record { 0 = 2 }) (record { 0 = 3 })) (with_pipe 1 257 2 3 2 3) ∷ forks_for 2 1 1 ∷ bare 2
     ∷ answers reply.Half (claimed_by 256 (Some 1) None) ∷ answers (reply.Whole (record { 0 = 1 }) bottom to_grant) (claimed_by 256 (Some 1) (Some 2))
-    ∷ number 9 (holding 256 (codes "login ann") []) ∷ whole_with 2 ∷ bytes (codes "login ann") (holding 256 [] []) ∷ forks_for 3 3 3 ∷ bare 3 ∷ held 3
+    ∷ number 9 (holding 256 (codes "login ann") []) ∷ whole_with 2 ∷ bytes (codes "login ann") (holding 256 [] []) ∷ []
+
+-- a session for ann, and one for bob
+abbrev serves_ann : List Move
+serves_ann =
+    forks_for 3 3 3 ∷ bare 3 ∷ held 3
     ∷ done (with_process 3 (λ p. record p { lic = to_read_the_log }) ▸ with_line (record (log_line 13 1 act.Grant 3 bottom bottom) { lic = to_read_the_log }))
-    ∷ number 9 (holding 256 [] (codes "granted 1")) ∷ done (claimed_by 256 None (Some 2)) ∷ bytes (codes "granted 1") (holding 256 [] [])
-    ∷ answers (reply.Whole (record { 0 = 2 }) bottom no_privileges) (claimed_by 256 (Some 1) (Some 2)) ∷ number 9 (holding 256 (codes "login bob") [])
+    ∷ number 9 (holding 256 [] (codes "granted 1")) ∷ done (claimed_by 256 None (Some 2)) ∷ bytes (codes "granted 1") (holding 256 [] []) ∷ []
+
+abbrev serves_bob : List Move
+serves_bob =
+    answers (reply.Whole (record { 0 = 2 }) bottom no_privileges) (claimed_by 256 (Some 1) (Some 2)) ∷ number 9 (holding 256 (codes "login bob") [])
     ∷ whole_with 2 ∷ bytes (codes "login bob") (holding 256 [] []) ∷ forks_for 4 3 3 ∷ bare 4 ∷ held 4
-    ∷ number 9 (holding 256 [] (codes "granted 2")) ∷ done (claimed_by 256 None (Some 2)) ∷ number 5 (with_made kind.File 0 1 (codes "m1") 5)
-    ∷ number 0 (with_entry 3 0 4 (opened 4 mode.Read)) ∷ bytes (codes "q3") (floated 3 two_and_five ▸ moved 4 2 ▸ marked 4 two_and_five)
-    ∷ refuses refusal.FileFrozen ∷ number 6 (with_made kind.File 0 2 (codes "rep") 6) ∷ number 1 (with_entry 3 1 5 (opened 6 mode.Write))
+    ∷ number 9 (holding 256 [] (codes "granted 2")) ∷ done (claimed_by 256 None (Some 2)) ∷ []
+
+-- they work
+abbrev work : List Move
+work =
+    number 5 (with_made kind.File 0 1 (codes "m1") 5) ∷ number 0 (with_entry 3 0 4 (opened 4 mode.Read))
+    ∷ bytes (codes "q3") (floated 3 two_and_five ▸ moved 4 2 ▸ marked 4 two_and_five) ∷ refuses refusal.FileFrozen
+    ∷ number 6 (with_made kind.File 0 2 (codes "rep") 6) ∷ number 1 (with_entry 3 1 5 (opened 6 mode.Write))
     ∷ number 8 (holding 6 (codes "q3 is up") [] ▸ moved 5 8 ▸ raised 6 two_and_five ▸ marked 5 two_and_five)
-    ∷ done (with_process 3 (λ p. record p { cap = to_lower; own = no_privileges })) ∷ refuses refusal.NoLicence
-    ∷ answers reply.Half (claimed_by 257 (Some 1) None) ∷ answers (reply.Whole (record { 0 = 1 }) bottom to_grant) (claimed_by 257 (Some 1) (Some 3))
+    ∷ done (with_process 3 (λ p. record p { cap = to_lower; own = no_privileges })) ∷ refuses refusal.NoLicence ∷ []
+
+-- ann asks for a licence, and lowers her report
+abbrev grants : List Move
+grants =
+    answers reply.Half (claimed_by 257 (Some 1) None) ∷ answers (reply.Whole (record { 0 = 1 }) bottom to_grant) (claimed_by 257 (Some 1) (Some 3))
     ∷ number 6 (holding 257 (codes "want D") [] ▸ raised 257 two_and_five) ∷ answers (reply.Whole (record { 0 = 3 }) two_and_five to_read_the_log) same
     ∷ bytes (codes "want D") (holding 257 [] [] ▸ floated 1 two_and_five)
     ∷ done (with_process 3 (λ p. record p { lic = record { 0 = 17 } }) ▸ with_line (record (log_line 40 1 act.Grant 3 two_and_five two_and_five) { lic = to_lower }))
     ∷ number 9 (holding 257 [] (codes "granted 3")) ∷ done (claimed_by 257 None (Some 3))
     ∷ done (raised 6 bottom ▸ with_line (log_line 43 3 act.DownFile 6 two_and_five bottom)) ∷ []
 
-serving_goes : GoesBy office asking serves
+-- the worlds between
+abbrev asked : World
+asked = left_by (opening_world office) asks
+
+abbrev ann_there : World
+ann_there = left_by asked serves_ann
+
+abbrev both_there : World
+both_there = left_by ann_there serves_bob
+
+abbrev worked_on : World
+worked_on = left_by both_there work
+
+asking_goes : Gives (opening_world office) 1 (take 9 asking) (given (opening_world office) asks)
 unfolding running
-serving_goes = goes office asking serves (simp labels refl) refl
+asking_goes = each_gives (opening_world office) 1 (take 9 asking) asks (simp labels refl) refl
+
+ann_goes : Gives asked 10 (take 7 (drop 9 asking)) (given asked serves_ann)
+unfolding running
+ann_goes = each_gives asked 10 (take 7 (drop 9 asking)) serves_ann (simp labels refl) refl
+
+bob_goes : Gives ann_there 17 (take 9 (drop 16 asking)) (given ann_there serves_bob)
+unfolding running
+bob_goes = each_gives ann_there 17 (take 9 (drop 16 asking)) serves_bob (simp labels refl) refl
+
+work_goes : Gives both_there 26 (take 9 (drop 25 asking)) (given both_there work)
+unfolding running
+work_goes = each_gives both_there 26 (take 9 (drop 25 asking)) work (simp labels refl) refl
+
+grants_go : Gives worked_on 35 (drop 34 asking) (given worked_on grants)
+unfolding running
+grants_go = each_gives worked_on 35 (drop 34 asking) grants (simp labels refl) refl
+
+abbrev serves : List Move
+serves = asks ++ serves_ann ++ serves_bob ++ work ++ grants
+
+serving_goes : GoesBy office asking serves
+serving_goes =
+    goes_on (opening_world office) 1 (take 9 asking) (drop 9 asking) asks (serves_ann ++ serves_bob ++ work ++ grants) refl asking_goes
+    (goes_on asked 10 (take 7 (drop 9 asking)) (drop 16 asking) serves_ann (serves_bob ++ work ++ grants) refl ann_goes
+    (goes_on ann_there 17 (take 9 (drop 16 asking)) (drop 25 asking) serves_bob (work ++ grants) refl bob_goes
+    (goes_on both_there 26 (take 9 (drop 25 asking)) (drop 34 asking) work grants refl work_goes grants_go)))
 
 pub logged_in : shown office asking ≡ asking_shows
 unfolding running
