@@ -10,6 +10,7 @@ pub mod Living
 pub mod Fixed
 pub mod Walked
 pub mod Looks
+pub mod Transfers
 pub mod Standing
 pub mod There
 pub mod Turns
