@@ -118,8 +118,8 @@ pub ends_opened : (pid fd : ℕ) (f : Frame) (P : Refusal → Frame → Type 0) 
 unfolding opened
 ends_opened pid fd f P Q h k = ends_bind _ _ f P Q (ends_frame f P _ (ends_some _ _ _ _ _ h k))
 
--- one lemma for each word
-pub ruleset ending = (
+-- one lemma for each word: those that ask for nothing of the frame, and all
+pub ruleset plain = (
   ends_bind,
   ends_then,
   ends_pass,
@@ -128,11 +128,10 @@ pub ruleset ending = (
   ends_need,
   ends_some,
   ends_only_if,
-  ends_caller,
-  ends_object,
   ends_change_object,
   ends_change_caller,
   ends_put_open,
   ends_there,
-  ends_opened,
 )
+
+pub ruleset ending = (plain, ends_caller, ends_object, ends_opened)
