@@ -5,7 +5,7 @@ use Rattle.std.specs.List.{range_with_len}
 use Rattle.ix_label.specs.Category.{Categories}
 use Rattle.ix_model.specs.world.World.{Frame, Object, at, put}
 use Rattle.ix_model.specs.rows.Outcomes.{Row}
-use Rattle.ix_model.specs.rows.Rows.{pass, only_if, put_object, put_open, put_process}
+use Rattle.ix_model.specs.rows.Rows.{◌>>=◌, ◌>>◌, pass, only_if, process, record_of, change_object, change_process, put_object, put_open, put_process, add_process}
 use Rattle.ix_model.specs.rows.Walks.{Spot, Sought, OpenFile, behind, found_spot, vacant}
 use Rattle.ix_model.specs.rows.Walks as sought
 use Rattle.ix_model.specs.rows.Lifetimes.{let_go_object, let_go_open, let_go_claim, let_go, let_go_if_held, let_go_each, let_go_all, has_lost}
