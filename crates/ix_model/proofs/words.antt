@@ -1,4 +1,5 @@
 pub mod Keeps
+pub mod LetGo
 pub mod Rowwise
 pub mod Lasts
 pub mod Ends
