@@ -1,5 +1,5 @@
 -- What the short histories tell, entry by entry.
-use Rattle.std.proofs.Common.{◌≡◌, ℕ, true, false, List, [], ◌∷◌, ◌++◌, ◌∙◌, map, replicate, Some, None, refl, ap, codes}
+use Rattle.std.proofs.Common.{◌≡◌, true, false, List, [], ◌∷◌, ◌++◌, ◌∙◌, map, replicate, Some, None, refl, ap, codes}
 use Rattle.ix_label.specs.Category.{bottom, top}
 use Rattle.ix_model.specs.history.Events.{Event}
 use Rattle.ix_model.specs.history.Events as op
@@ -530,7 +530,7 @@ handing_on_ran = tells_by program handing_on handing_on_moves handing_on_go
 
 pub handing_on_logged : log_of program (calls handing_on) ≡ handing_on_log
 unfolding running auditing
-handing_on_logged = logs_by program (calls handing_on) handing_on_moves handing_on_go ∙ simp labels refl
+handing_on_logged = logs_by program (calls handing_on) handing_on_moves handing_on_go
 
 pub moving_what_is_frozen_ran : Goes stiff_house moving_what_is_frozen
 unfolding running

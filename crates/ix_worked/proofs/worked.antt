@@ -1,7 +1,6 @@
 -- What the worked sessions show, entry by entry.
 use Rattle.std.proofs.Common.{◌≡◌, ℕ, true, false, List, [], ◌∷◌, ◌++◌, ◌∙◌, Some, None, replicate, take, drop, refl, sym, ap, codes}
 use Rattle.ix_label.specs.Category.{bottom}
-use Rattle.ix_model.specs.history.Events.{Event}
 use Rattle.ix_model.specs.world.Directories.{without_name}
 use Rattle.ix_model.specs.world.Privs.{to_lower, to_thaw, to_grant, to_read_the_log, no_privileges}
 use Rattle.ix_model.specs.opening.Opening.{opening_world}

@@ -99,14 +99,12 @@ pub fn a_descriptor_is_fresh_until_its_open_entry_is_marked()
 {}
 
 /// Where a file is set from 3 to bottom a label is lowered, and bottom is crossed.
-#[tactic(auto, using(crate::proofs::runs::Falling::third_lowers, crate::proofs::runs::Falling::third_crosses))]
 pub fn a_lowering_is_one()
     ensures lowered { Lowered (before one_line lowering 3).frame (after one_line lowering 3).frame }
     ensures crosses { Crosses bottom (before one_line lowering 3).frame (after one_line lowering 3).frame }
 {}
 
 /// Reads and writes lower nothing, and cross no label.
-#[tactic(auto, using(crate::proofs::runs::Falling::nothing_falls, crate::proofs::runs::Falling::nothing_is_crossed))]
 pub fn what_floats_lowers_nothing()
     ensures lowers { LowersNowhere (opening_world two_levels) 1 (writing (codes "AA")) }
     ensures crosses { (l : Categories) → CrossesNowhere l (opening_world two_levels) 1 (writing (codes "AA")) }

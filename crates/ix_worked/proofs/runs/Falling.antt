@@ -1,7 +1,7 @@
 -- Where labels are lowered, and where none is.
-use Rattle.std.proofs.Common.{◌≡◌, ℕ, zero, suc, take, Bool, true, false, true≢false, ◌&&◌, List, [], ◌∷◌, Option, Some, None, refl, sym, ap, ◌∙◌, subst, codes}
+use Rattle.std.proofs.Common.{◌≡◌, ℕ, zero, suc, Bool, true, false, true≢false, ◌&&◌, List, [], ◌∷◌, Option, Some, None, refl, sym, ap, ◌∙◌, subst, subst₂, codes}
 use Rattle.std.specs.Option.{option_map_or}
-use Rattle.std.proofs.lemmas.Bool.{false_from_ne_true}
+use Rattle.std.proofs.lemmas.Bool.{false_from_ne_true, and_parts}
 use Rattle.ix_label.specs.Category.{Categories, bottom, leq}
 use Rattle.ix_label.specs.Lattice.{leq-trans}
 use Rattle.ix_model.specs.world.World.{Object, Process, Frame, World, at}
@@ -13,7 +13,7 @@ use Rattle.ix_model.specs.history.Lowering as lowering
 use Rattle.ix_worked.specs.privileges.Downgrading as session
 use Rattle.ix_worked.specs.PairsOfRuns.{before, after, LowersNowhere, CrossesNowhere}
 use Rattle.ix_worked.specs.floating.TwoLevels.{two_levels, writing}
-use Rattle.ix_worked.proofs.Chains.{Steps, number, bytes, stepped, run_given, gives_some}
+use Rattle.ix_worked.proofs.Chains.{Steps, number, bytes, stepped}
 use Rattle.ix_worked.proofs.Computing.{running}
 use Rattle.ix_worked.proofs.Labels.{labels}
 use Rattle.ix_worked.proofs.Moves.{world_after, comes_to}

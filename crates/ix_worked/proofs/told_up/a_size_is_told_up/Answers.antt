@@ -1,0 +1,5 @@
+use Rattle.ix_worked.proofs.ToldUp.{sizes_agree}
+use Rattle.ix_worked.proofs.told_up.a_size_is_told_up.Goals as goal
+
+pub returns-clause-agree : goal.returns-clause-agree
+returns-clause-agree c = sizes_agree
