@@ -45,9 +45,9 @@ module _ {M B E : Type 0} (base_of : M → B) (history_of : M → List E) (seat 
       (kept_set base_of history_of base g.published s.homes s.views id v v at (λ h x. cc (sym idle ∙ x)) r.kept))
       (queued_more g.queue g.served g.next (set s.views id v) (note v) (queued_set g.queue g.served g.next s.views id v v at (λ t o. o) r.queued))
       (λ j d there. ⊎_elim
-            (each_set (Fits seat base seats g s.homes) s.views id v f (λ i e _ t. r.each i e t) j d)
-            (λ (t : (j ≡ length (set s.views id v)) × (note v ≡ d)). subst (Fits seat base seats g s.homes j) t.1 (blank_fits g s.homes j v.seats v.base v.seen f.based f.sized f.seen))
-            (at_end (set s.views id v) (note v) d j there))
+      (each_set (Fits seat base seats g s.homes) s.views id v f (λ i e _ t. r.each i e t) j d)
+      (λ (t : (j ≡ length (set s.views id v)) × (note v ≡ d)). subst (Fits seat base seats g s.homes j) t.1 (blank_fits g s.homes j v.seats v.base v.seen f.based f.sized f.seen))
+      (at_end (set s.views id v) (note v) d j there))
 
   spent_fits : (g : Book E) (homes : List (Home (Option M))) (i : ℕ) → Fits seat base seats g homes i spent_view
   spent_fits g homes i = blank_fits g homes i 0 None [] (inl refl) (inl refl) (g.published, refl)
@@ -67,7 +67,7 @@ module _ {M B E : Type 0} (base_of : M → B) (history_of : M → List E) (seat 
       (queued_set g.queue g.served g.next (set s.views id u) other w spent_view there (λ t o. absurd (subst (HasTicket g.served t) rests o))
       (queued_set g.queue g.served g.next s.views id v u at (λ t o. absurd (subst (HasTicket g.served t) idle o)) r.queued))
       (each_set (Fits seat base seats h s.homes) (set s.views id u) other spent_view (spent_fits h s.homes other)
-            (λ j d away t. each_set (λ i e. i ≢ other → Fits seat base seats h s.homes i e) s.views id u (λ _. mine) (λ i e _ t away. others i e away (r.each i e t)) j d t away))
+      (λ j d away t. each_set (λ i e. i ≢ other → Fits seat base seats h s.homes i e) s.views id u (λ _. mine) (λ i e _ t away. others i e away (r.each i e t)) j d t away))
 
   pub take_note_allowed : (id : ℕ) (v : View B E) (other : ℕ) (w : View B E) → v.stage ≡ Idle → w.stage ≡ Idle → Joins (Rule base_of history_of seat base seats) id v other w (with_note v w) spent_view
   take_note_allowed id v other w idle rests s r at apart there =
