@@ -1,16 +1,14 @@
 -- A process that lives goes on living, unless it exits.
 use Rattle.std.proofs.Common.{◌≡◌, ◌≢◌, ◌==◌, ◌&&◌, ◌≤◌, ◌<◌, ℕ, Bool, true, false, not, true≢false, List, [], ◌∷◌, length, position, Option, Some, None, refl, sym, ap, ◌∙◌, subst, inl, inr}
 use Rattle.std.specs.Option.{option_map_or}
-use Rattle.std.specs.List.{list_all, range_with_len}
+use Rattle.std.specs.List.{list_all}
 use Rattle.std.proofs.lemmas.Bool.{and_parts, eq-eqb}
 use Rattle.std.proofs.lemmas.Bool.Decides.{eqb_tells}
 use Rattle.std.proofs.lemmas.List.{get_or-set_other, get_or_append_left}
 use Rattle.std.proofs.lemmas.List.Quantifiers.{position-Some}
 use Rattle.ix_model.specs.world.World.{World, Frame, Object, Process, Open, at, lives, is_ended}
-use Rattle.ix_model.specs.rows.Rows.{pass, put_object, put_open, put_process, add_process, change_object, change_process, change_open}
-use Rattle.ix_model.specs.rows.Walks.{OpenFile, behind}
+use Rattle.ix_model.specs.rows.Rows.{put_object, put_open, put_process, add_process, change_object, change_process, change_open}
 use Rattle.ix_model.specs.rows.Auditing.{logged}
-use Rattle.ix_model.specs.rows.Lifetimes.{let_go_object, let_go_open, let_go_claim, let_go, let_go_if_held, let_go_each, let_go_all, has_lost}
 use Rattle.ix_model.specs.rows.OnDescriptors.{LengthChecks}
 use Rattle.ix_model.specs.rows.OnProcesses.{is_child, end_process, exit, wait_child}
 use Rattle.ix_model.specs.rows.Refusals.{keeps_label}
@@ -27,7 +25,8 @@ use Rattle.ix_model.specs.declared.reply.Reply.{Reply}
 use Rattle.ix_model.specs.declared.reply.Reply.TheVariants as reply
 use Rattle.ix_model.proofs.tables.Tables.{seen_changed}
 use Rattle.ix_model.proofs.tables.Finds.{in_table}
-use Rattle.ix_model.proofs.words.Keeps.{Holds, Keeps, keeps_bind, keeps_then, keeps_pass, keeps_need, keeps_record_of, keeps_only_if}
+use Rattle.ix_model.proofs.words.LetGo.{LetsGo, keeps_let_go_all}
+use Rattle.ix_model.proofs.words.Keeps.{Holds, Keeps, keeps_bind, keeps_then, keeps_pass, keeps_need, keeps_record_of}
 use Rattle.ix_model.proofs.words.Rowwise.{Change, Ending, Words, changes_of, keeps_bind_frame, keeps_bind_some, kept_observe, kept_row}
 use Rattle.ix_model.proofs.words.Lasts.{decided}
 use Rattle.ix_model.proofs.words.Answered.{step_frame}
@@ -142,48 +141,15 @@ module _ (n : ℕ) where
       (keeps_then Alive _ _ (a_collect pid c f r is) (keeps_pass Alive _))))))
 
   -- ---- an exit
-  a_let_go_object : (o : ℕ) → Keeps Alive (let_go_object o)
-  unfolding let_go_object
-  a_let_go_object o = record { led = λ g. (keeps_only_if Alive _ (put_object o None) (a_put_object o None)).led g }
-
-  a_let_go_open : (e : ℕ) → Keeps Alive (let_go_open e)
-  unfolding let_go_open
-  a_let_go_open e = record { led = λ g. (keeps_only_if Alive _ (put_open e None) (a_put_open e None)).led g }
-
-  a_let_go_claim : (pid o end : ℕ) → Keeps Alive (let_go_claim pid o end)
-  unfolding let_go_claim
-  a_let_go_claim pid o end = record { led = λ g. (keeps_only_if Alive (has_lost g pid o end) _ (a_object o _)).led g }
-
-  a_let_go : (pid fd : ℕ) (e : OpenFile) → Keeps Alive (let_go pid fd e)
-  unfolding let_go
-  a_let_go pid fd e =
-      keeps_then Alive _ _ (a_process pid _ (λ q. refl))
-      (keeps_then Alive _ _ (a_let_go_claim pid e.entry.object e.entry.end)
-      (keeps_then Alive _ _ (a_let_go_open e.id) (a_let_go_object e.entry.object)))
-
-  a_let_go_if_held : (pid fd : ℕ) → Keeps Alive (let_go_if_held pid fd)
-  unfolding let_go_if_held
-  a_let_go_if_held pid fd = record { led = λ g r. (go (behind g pid fd)).led g r }
-    where
-      go : (b : Option OpenFile) → Keeps Alive (option_map_or (let_go pid fd) b (pass tt))
-      go None = keeps_pass Alive tt
-      go (Some e) = a_let_go pid fd e
-
-  a_let_go_each : (pid : ℕ) (fds : List ℕ) → Keeps Alive (let_go_each pid fds)
-  unfolding let_go_each
-  a_let_go_each pid [] = keeps_pass Alive tt
-  a_let_go_each pid (fd ∷ fds) = keeps_then Alive _ _ (a_let_go_if_held pid fd) (a_let_go_each pid fds)
-
-  a_let_go_all : (pid : ℕ) → Keeps Alive (let_go_all pid)
-  unfolding let_go_all
-  a_let_go_all pid = a_let_go_each pid (range_with_len 0 32)
+  a_going : (pid : ℕ) → LetsGo Alive pid
+  a_going pid = record { free = λ fd. a_process pid _ (λ q. refl); unclaim = λ o end. a_object o _; close = λ e. a_put_open e None; gone = λ o. a_put_object o None }
 
   a_exit : (pid : ℕ) → n ≢ pid → Keeps Alive (exit pid)
   unfolding exit
   a_exit pid apart =
       keeps_bind_frame Alive _ (λ f r.
       keeps_then Alive _ _ (keeps_need Alive _ _)
-      (keeps_then Alive _ _ (a_let_go_all pid)
+      (keeps_then Alive _ _ (keeps_let_go_all Alive pid (a_going pid))
       (keeps_then Alive _ _ (a_end pid apart) (keeps_pass Alive _))))
 
   -- ---- all calls

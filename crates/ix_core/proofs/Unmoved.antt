@@ -1,5 +1,5 @@
 -- A call of which it is known that it changes no label leaves the frame as it was.
-use Rattle.std.proofs.Common.{◌≡◌, ℕ, Option, Some, refl, sym, ◌∙◌, subst}
+use Rattle.std.proofs.Common.{◌≡◌, ℕ, Some, refl, sym, ◌∙◌, subst}
 use Rattle.ix_model.specs.world.World.{World, Frame, Object, Process, at}
 use Rattle.ix_model.specs.rows.Outcomes.{Outcome, Pass}
 use Rattle.ix_model.specs.rows.OnDescriptors.{LengthChecks, float_entry, read_fd, write_fd}
@@ -13,15 +13,13 @@ use Rattle.ix_model.specs.history.Step.{step}
 use Rattle.ix_model.specs.declared.refusal.Refusal.{Refusal}
 use Rattle.ix_model.specs.declared.reply.Reply.{Reply}
 use Rattle.ix_model.proofs.words.Keeps.{Holds}
-use Rattle.ix_model.proofs.words.Ends.{Ends, kept_ends, ends_bind, ends_then, ends_pass, ends_frame, ends_need, ends_caller, ends_object, ends_opened}
+use Rattle.ix_model.proofs.words.Ends.{Ends, kept_ends, ends_then, ends_pass}
+use Rattle.ix_model.proofs.words.Transfers.{one_there, ends_read, ends_read_behind, ends_write}
 use Rattle.ix_model.proofs.words.Lasts.{decided}
 use Rattle.ix_model.proofs.words.Answered.{step_frame}
 use Rattle.ix_fresh.specs.Known.{Known, ChangeNothing}
 use Rattle.ix_fresh.specs.Laws.{KnownChangesNothing}
 use Rattle.ix_fcalls.specs.Tested.{IsKnown}
-
-one_there : {A : Type 0} (o : Option A) (p q : A) → o ≡ Some p → o ≡ Some q → p ≡ q
-one_there o p q is here = let h : Some p ≡ Some q = sym is ∙ here in cc
 
 -- what is known is known of the open entry and the object that stand there
 changes_nothing : KnownChangesNothing → (way : Way) (f : Frame) (pid fd : ℕ) (k : Known way f pid fd) (e : OpenFile) (x : Object) → behind f pid fd ≡ Some e
@@ -49,41 +47,18 @@ module _ (law : KnownChangesNothing) (f : Frame) where
   floats pid fd way k q x e nothing same = subst (λ (p : Process). float_entry p x e f ≡ Pass tt f) same nothing.float_entry
 
   read_still : (t : LengthChecks) (pid fd count : ℕ) → Known Reading f pid fd → Ends (read_fd t pid fd count f) No Yes
-  unfolding read_fd
-  read_still t pid fd count k =
-      ends_bind _ _ f No Yes (ends_opened pid fd f No _ (λ e is.
-      ends_then _ _ f No Yes (ends_need _ _ f No _ (λ may.
-      ends_bind _ _ f No Yes (ends_object e.entry.object f No _ (λ x here.
+  read_still t pid fd count k = ends_read f No Yes (λ why. refl) t pid fd count (λ e is x here.
       let nothing = changes_nothing law Reading f pid fd k e x is here in
-      ends_then _ _ f No Yes (ends_need _ _ f No _ (λ free.
-      ends_then _ _ f No Yes (ends_need _ _ f No _ (λ few.
-      ends_then _ _ f No Yes (passes_on _ tt _ nothing.look (
-      ends_bind _ _ f No Yes (ends_frame f No _ (
-      ends_then _ _ f No Yes (ends_need _ _ f No _ (λ some.
-      ends_bind _ _ f No Yes (ends_caller pid f No _ (λ q lives.
+      ends_then _ _ f No Yes (passes_on _ tt _ nothing.look (ends_read_behind f No Yes (λ why. refl) t pid e x (λ q lives.
       ends_then _ _ f No Yes (passes_on _ tt _ (floats pid fd Reading k q x e nothing (one_there _ k.process q k.lives lives)) (
-      ends_pass _ f No Yes refl)))
-      refl)) refl)))))) refl)) refl)) refl)) refl)) refl)
+      ends_pass _ f No Yes refl))))))
 
   write_still : (t : LengthChecks) (pid fd : ℕ) → Known Writing f pid fd → Ends (write_fd t pid fd f) No Yes
-  unfolding write_fd
-  write_still t pid fd k =
-      ends_bind _ _ f No Yes (ends_opened pid fd f No _ (λ e is.
-      ends_then _ _ f No Yes (ends_need _ _ f No _ (λ may.
-      ends_bind _ _ f No Yes (ends_object e.entry.object f No _ (λ x here.
+  write_still t pid fd k = ends_write f No Yes (λ why. refl) t pid fd (λ e is x here q lives.
       let nothing = changes_nothing law Writing f pid fd k e x is here in
-      ends_then _ _ f No Yes (ends_need _ _ f No _ (λ free.
-      ends_then _ _ f No Yes (ends_need _ _ f No _ (λ few.
-      ends_then _ _ f No Yes (ends_need _ _ f No _ (λ plain.
-      ends_bind _ _ f No Yes (ends_frame f No _ (
-      ends_then _ _ f No Yes (ends_need _ _ f No _ (λ whole.
-      ends_then _ _ f No Yes (ends_need _ _ f No _ (λ room.
-      ends_then _ _ f No Yes (ends_need _ _ f No _ (λ space.
-      ends_bind _ _ f No Yes (ends_caller pid f No _ (λ q lives.
       ends_then _ _ f No Yes (passes_on _ tt _ nothing.look (
       ends_then _ _ f No Yes (passes_on _ tt _ (floats pid fd Writing k q x e nothing (one_there _ k.process q k.lives lives)) (
       ends_pass _ f No Yes refl)))))
-      refl)) refl)) refl)) refl)))) refl)) refl)) refl)) refl)) refl)) refl)
 
   row_still : (t : LengthChecks) (place pid : ℕ) (c : Op) → IsKnown f pid c → Holds (row t place pid c f) As
   unfolding row

@@ -9,7 +9,7 @@ use Rattle.ix_model.specs.rows.Walks.{OpenFile, behind}
 use Rattle.ix_model.specs.history.Freshness.{Way, Reading, Writing}
 use Rattle.ix_fresh.specs.Known.{Known, ChangeNothing}
 use Rattle.ix_fresh.proofs.Nothing.{known_changes_nothing}
-use Rattle.ix_fresh.proofs.Through.{one_there}
+use Rattle.ix_model.proofs.words.Transfers.{one_there}
 use Rattle.ix_fcalls.specs.Tested.{ToRead, ToWrite}
 use Rattle.ix_fcalls.proofs.ReadRow.{read_waits, read_passes}
 use Rattle.ix_fcalls.proofs.WriteRow.{write_passes}

@@ -22,7 +22,8 @@ use Rattle.ix_model.proofs.sound.Reaching.{sound_run}
 use Rattle.ix_fresh.specs.Known.{Known, is_level}
 use Rattle.ix_fresh.specs.Touched.{target, entry_target, is_one, label_of_entry, touches, moved_process, moved_object, moved_entry}
 use Rattle.ix_fresh.specs.Laws.{is_closed, fresh_by_touch}
-use Rattle.ix_fresh.proofs.Through.{ReadFacts, WriteFacts, read_known, write_known, one_there}
+use Rattle.ix_fresh.proofs.Through.{ReadFacts, WriteFacts, read_known, write_known}
+use Rattle.ix_model.proofs.words.Transfers.{one_there}
 use Rattle.ix_fresh.proofs.Remaining.{Remains, remains, process_label, object_label, entry_label, labels_stay_but}
 
 -- ---- what a refreshing call leaves known

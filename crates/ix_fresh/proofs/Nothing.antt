@@ -12,7 +12,7 @@ use Rattle.ix_model.specs.history.Freshness.{Way, Reading, Writing}
 use Rattle.ix_model.proofs.tables.Tables.{change_same}
 use Rattle.ix_model.proofs.words.Standing.{behind_is}
 use Rattle.ix_fresh.specs.Known.{Known, ChangeNothing, look}
-use Rattle.ix_fresh.proofs.Through.{one_there}
+use Rattle.ix_model.proofs.words.Transfers.{one_there}
 
 adds_nothing : (a b : Categories) → leq a b ≡ true → same (join b a) b ≡ true
 adds_nothing a b low = (same-decides (join b a) b).1 (join-absorbs a b low)

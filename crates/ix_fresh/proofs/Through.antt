@@ -2,62 +2,15 @@
 use Rattle.std.proofs.Common.{◌≡◌, ℕ, true, false, true≢false, List, Option, Some, refl, sym, ap, ◌∙◌, subst, inl, inr}
 use Rattle.std.proofs.lemmas.Bool.{not-false}
 use Rattle.ix_label.specs.Category.{Categories, join, leq}
-use Rattle.ix_label.specs.Lattice.{same-decides, leq-refl, leq-trans, leq-join_left, leq-join_right, join-least}
-use Rattle.std.proofs.Common.{option_map}
+use Rattle.ix_label.specs.Lattice.{leq-refl, leq-trans, leq-join_left, leq-join_right, join-least}
 use Rattle.ix_model.specs.world.World.{Frame, Object, Process, Open, at, change, living, is_pipe}
-use Rattle.ix_model.specs.rows.Rows.{observe, affect}
 use Rattle.ix_model.specs.rows.Walks.{OpenFile, behind}
-use Rattle.ix_model.specs.rows.OnDescriptors.{LengthChecks, float_entry, read_fd, write_fd}
+use Rattle.ix_model.specs.rows.OnDescriptors.{LengthChecks, read_fd, write_fd}
 use Rattle.ix_model.specs.declared.reply.Reply.{Reply}
-use Rattle.ix_model.proofs.tables.Tables.{at_changed}
 use Rattle.ix_model.proofs.tables.Finds.{at_change}
-use Rattle.ix_model.proofs.words.Living.{is_living, not_ended, lives_as}
-use Rattle.ix_model.proofs.words.Ends.{Ends, Anything, ends_bind, ends_then, ends_pass, ends_frame, ends_need, ends_only_if, ends_caller, ends_object}
-use Rattle.ix_model.proofs.words.Ends.{ends_opened, ends_change_object, ends_change_caller, ends_change_open}
+use Rattle.ix_model.proofs.words.Ends.{Ends, Anything, ends_then}
 use Rattle.ix_model.proofs.words.Standing.{behind_is}
-
--- ---- looking and affecting
-still_lives : (f : Frame) (pid : ℕ) (h : Process → Process) (p : Process) → (h p).ended ≡ p.ended → living (at f.processes pid) ≡ Some p → living (at (change f.processes pid h) pid) ≡ Some (h p)
-still_lives f pid h p ended lives = lives_as _ (h p) (at_changed f.processes pid h ∙ ap (option_map h) (is_living _ p lives)) (ended ∙ not_ended _ p lives)
-
-pub one_there : {A : Type 0} (o : Option A) (p q : A) → o ≡ Some p → o ≡ Some q → p ≡ q
-one_there o p q is here = let h : Some p ≡ Some q = sym is ∙ here in cc
-
--- where a look passes, the caller's label is at or above what was looked at
-ends_looks : (pid : ℕ) (seen : Categories) (f : Frame) (Q : Unit {0} → Frame → Type 0) → ((g : Frame) (p : Process) → g.objects ≡ f.objects → g.opens ≡ f.opens
-    → living (at g.processes pid) ≡ Some p → leq seen p.label ≡ true → Q tt g) → Ends (observe pid seen f) Anything Q
-unfolding observe
-ends_looks pid seen f Q looks =
-    ends_bind _ _ f Anything Q (ends_caller pid f Anything _ (λ p lives. ends_only_if _ _ f Anything Q
-    (λ raises. ends_then _ _ f Anything Q (ends_need _ _ f Anything _ (λ free.
-    ends_then _ _ f Anything Q (ends_need _ _ f Anything _ (λ low.
-    ends_change_caller pid _ f Anything Q (looks _ (record p { label = join p.label seen }) refl refl
-    (still_lives f pid (λ q. record q { label = join q.label seen }) p refl lives) (leq-join_right p.label seen)))
-    tt)) tt))
-    (λ no. looks f p refl refl lives (subst (λ (l : Categories). leq seen l ≡ true) ((same-decides (join p.label seen) p.label).0 (not-false _ no)) (leq-join_right p.label seen))))
-    tt)
-
--- where an object was affected, its label is at or above the caller's and that of the open entry
-ends_affects : (pid o : ℕ) (through : Categories) (f : Frame) (Q : Unit {0} → Frame → Type 0)
-    → ((g : Frame) (p : Process) → living (at f.processes pid) ≡ Some p → g.processes ≡ f.processes → g.opens ≡ f.opens
-    → ((x : Object) → at g.objects o ≡ Some x → leq (join p.label through) x.label ≡ true) → Q tt g) → Ends (affect pid o through f) Anything Q
-unfolding affect
-ends_affects pid o through f Q affects =
-    ends_bind _ _ f Anything Q (ends_caller pid f Anything _ (λ p lives.
-    ends_bind _ _ f Anything Q (ends_object o f Anything _ (λ x here.
-    ends_bind _ _ f Anything Q (ends_frame f Anything _ (ends_only_if _ _ f Anything Q
-    (λ raises. ends_then _ _ f Anything Q (ends_need _ _ f Anything _ (λ free.
-    ends_then _ _ f Anything Q (ends_need _ _ f Anything _ (λ low.
-    ends_change_object o _ f Anything Q (affects _ p lives refl refl (λ y there. elim (at_change f.objects o (λ z. record z { label = join z.label (join p.label through) }) o y there) [
-      | inl c ↦ subst (λ (z : Object). leq (join p.label through) z.label ≡ true) (sym c.same) (leq-join_right c.was.label (join p.label through))
-      | inr apart ↦ absurd (apart.0 refl)
-    ])))
-    tt)) tt))
-    (λ no. affects f p lives refl refl (λ y there.
-    subst (λ (z : Object). leq (join p.label through) z.label ≡ true) (one_there _ x y here there)
-    (subst (λ (a : Categories). leq (join p.label through) a ≡ true) ((same-decides (join x.label (join p.label through)) x.label).0 (not-false _ no))
-    (leq-join_right x.label (join p.label through))))))))
-    tt)) tt)
+use Rattle.ix_model.proofs.words.Transfers.{one_there, ends_looks, ends_affects, ends_read, ends_read_behind, ends_write, ends_floated}
 
 -- ---- the open entry
 -- the entry with a label joined
@@ -96,25 +49,17 @@ read_entry t e entry l y is low here =
     )
 
 pub read_known : (t : LengthChecks) (pid fd count : ℕ) (f : Frame) → Ends (read_fd t pid fd count f) Anything (λ r g. ReadFacts pid fd f g)
-unfolding read_fd float_entry
 read_known t pid fd count f =
     let Q : Reply → Frame → Type 0 = λ r g. ReadFacts pid fd f g in
-    ends_bind _ _ f Anything Q (ends_opened pid fd f Anything _ (λ e is.
-    ends_then _ _ f Anything Q (ends_need _ _ f Anything _ (λ may.
-    ends_bind _ _ f Anything Q (ends_object e.entry.object f Anything _ (λ x here.
-    ends_then _ _ f Anything Q (ends_need _ _ f Anything _ (λ free.
-    ends_then _ _ f Anything Q (ends_need _ _ f Anything _ (λ few.
-    ends_then _ _ f Anything Q (ends_looks pid _ f _ (λ g p objects opens lives sees.
-    ends_bind _ _ g Anything Q (ends_frame g Anything _ (
-    ends_then _ _ g Anything Q (ends_need _ _ g Anything _ (λ some.
-    ends_bind _ _ g Anything Q (ends_caller pid g Anything _ (λ q again.
+    ends_read f Anything Q (λ why. tt) t pid fd count (λ e is x here.
+    ends_then _ _ f Anything Q (ends_looks pid _ f _ (λ g p objects opens lives sees. ends_read_behind g Anything Q (λ why. tt) t pid e x (λ q again.
     let seen : leq (join x.label e.entry.label) q.label ≡ true = subst (λ (z : Process). leq (join x.label e.entry.label) z.label ≡ true) (one_there _ p q lives again) sees in
     let object_seen : leq x.label q.label ≡ true = leq-trans x.label (join x.label e.entry.label) q.label (leq-join_left x.label e.entry.label) seen in
     let entry_seen : leq e.entry.label q.label ≡ true = leq-trans e.entry.label (join x.label e.entry.label) q.label (leq-join_right x.label e.entry.label) seen in
     let there : at g.objects e.entry.object ≡ Some x = ap (λ u. at u e.entry.object) objects ∙ here in
     let stood : at g.opens e.id ≡ Some e.entry = ap (λ u. at u e.id) opens ∙ behind_is f pid fd e is in
-    ends_then _ _ g Anything Q (ends_only_if _ _ g Anything _
-    (λ file. ends_change_open e.id _ g Anything _ (ends_pass _ _ Anything Q (record {
+    ends_floated Anything Q q x e _ g
+    (λ file. record {
       through = e;
       is_behind = is;
       object = x;
@@ -124,8 +69,8 @@ read_known t pid fd count f =
       sees = object_seen;
       entry = λ y now. (read_entry g.opens e.id e.entry q.label y stood entry_seen now).0;
       taken_in = λ other y now. (read_entry g.opens e.id e.entry q.label y stood entry_seen now).1;
-    })))
-    (λ pipe. ends_pass _ _ Anything Q (record {
+    })
+    (λ pipe. record {
       through = e;
       is_behind = is;
       object = x;
@@ -135,8 +80,7 @@ read_known t pid fd count f =
       sees = object_seen;
       entry = λ y now. subst (λ (z : Open). leq z.label q.label ≡ true) (one_there (at g.opens e.id) e.entry y stood now) entry_seen;
       taken_in = λ other y now. absurd (true≢false (sym (not-false _ pipe) ∙ other));
-    }))))
-    tt)) tt)))))) tt)) tt)) tt)) tt)) tt)
+    })))))
 
 -- ---- a write
 -- the object's label is at or above the caller's and the open entry's, and a file's open entry has taken the caller's in
@@ -152,20 +96,9 @@ pub record WriteFacts (pid fd : ℕ) (f g : Frame) : Type 0 where
   pub taken_in : is_pipe object ≡ false → (y : Open) → at g.opens through.id ≡ Some y → leq process.label y.label ≡ true
 
 pub write_known : (t : LengthChecks) (pid fd : ℕ) (f : Frame) → Ends (write_fd t pid fd f) Anything (λ r g. WriteFacts pid fd f g)
-unfolding write_fd float_entry
 write_known t pid fd f =
     let Q : Reply → Frame → Type 0 = λ r g. WriteFacts pid fd f g in
-    ends_bind _ _ f Anything Q (ends_opened pid fd f Anything _ (λ e is.
-    ends_then _ _ f Anything Q (ends_need _ _ f Anything _ (λ may.
-    ends_bind _ _ f Anything Q (ends_object e.entry.object f Anything _ (λ x here.
-    ends_then _ _ f Anything Q (ends_need _ _ f Anything _ (λ free.
-    ends_then _ _ f Anything Q (ends_need _ _ f Anything _ (λ few.
-    ends_then _ _ f Anything Q (ends_need _ _ f Anything _ (λ plain.
-    ends_bind _ _ f Anything Q (ends_frame f Anything _ (
-    ends_then _ _ f Anything Q (ends_need _ _ f Anything _ (λ whole.
-    ends_then _ _ f Anything Q (ends_need _ _ f Anything _ (λ room.
-    ends_then _ _ f Anything Q (ends_need _ _ f Anything _ (λ space.
-    ends_bind _ _ f Anything Q (ends_caller pid f Anything _ (λ q own.
+    ends_write f Anything Q (λ why. tt) t pid fd (λ e is x here q own.
     ends_then _ _ f Anything Q (ends_affects pid e.entry.object e.entry.label f _ (λ g p lives processes opens takes.
     let taken : (y : Object) → at g.objects e.entry.object ≡ Some y → leq (join q.label e.entry.label) y.label ≡ true =
     λ y now. subst (λ (z : Process). leq (join z.label e.entry.label) y.label ≡ true) (one_there _ p q lives own) (takes y now) in
@@ -175,8 +108,8 @@ write_known t pid fd f =
     λ y now. leq-trans e.entry.label (join q.label e.entry.label) y.label (leq-join_right q.label e.entry.label) (taken y now) in
     let lives_on : living (at g.processes pid) ≡ Some q = ap (λ u. living (at u pid)) processes ∙ own in
     let stood : at g.opens e.id ≡ Some e.entry = ap (λ u. at u e.id) opens ∙ behind_is f pid fd e is in
-    ends_then _ _ g Anything Q (ends_only_if _ _ g Anything _
-    (λ file. ends_change_open e.id _ g Anything _ (ends_pass _ _ Anything Q (record {
+    ends_floated Anything Q q x e _ g
+    (λ file. record {
       through = e;
       is_behind = is;
       object = x;
@@ -191,8 +124,8 @@ write_known t pid fd f =
       taken_in = λ other y there.
           let j = joined g.opens e.id q.label y there in
           subst (λ (a : Categories). leq q.label a ≡ true) (sym j.label) (leq-join_right j.was.label q.label);
-    })))
-    (λ pipe. ends_pass _ _ Anything Q (record {
+    })
+    (λ pipe. record {
       through = e;
       is_behind = is;
       object = x;
@@ -202,5 +135,4 @@ write_known t pid fd f =
       takes = takes_own;
       entry = λ z y now there. subst (λ (v : Open). leq v.label z.label ≡ true) (one_there (at g.opens e.id) e.entry y stood there) (takes_entry z now);
       taken_in = λ other y there. absurd (true≢false (sym (not-false _ pipe) ∙ other));
-    }))))))
-    tt)) tt)) tt)) tt)))) tt)) tt)) tt)) tt)) tt)) tt)
+    }))))

@@ -16,7 +16,7 @@ use Rattle.ix_gate.specs.Rule.{most_turns, total_turns, Book, HasTicket, IsQueue
 use Rattle.ix_gate.specs.Steps.{Draws}
 use Rattle.ix_gate.proofs.Counts.{put, put_here, put_else, put_holds, total_turns-put, total_turns_fit, mod_fits}
 use Rattle.ix_gate.proofs.Serving.{is_served}
-use Rattle.ix_gate.proofs.Views.{at_lt, same_at, each_set, kept_set, Rule}
+use Rattle.ix_gate.proofs.Views.{at_lt, same_at, each_set, kept_set, refits, fits_still, Rule}
 
 -- the book after the seat at place id, of the number n, drew
 abbrev pub with_draw : {E : Type 0} → Book E → ℕ → ℕ → Book E
@@ -54,38 +54,20 @@ module _ {M B E : Type 0} (seat : E → ℕ) (base : B) (seats : ℕ) (g : Book 
   -- the rule still holds of the views of others, where what it says of their place does
   pub draw_fits_other : (j : ℕ) (d : View B E) → g.owner n ≡ id → j ≢ id → Fits seat base seats g homes j d
       → Stands (put g.queue g.next id) g.served (g.next + 1) g.published homes' j d.role d.stage → Fits seat base seats (with_draw g id n) homes' j d
-  draw_fits_other j d owner other q stands = record {
-    based = q.based;
-    sized = q.sized;
-    seen = q.seen;
-    told = q.told;
-    number = λ k o. let u = q.number k o in (u.0, u.1, put_else g.turns n (g.turns n + 1) k (λ x. other (sym u.0 ∙ (ap g.owner x ∙ owner))) ∙ u.2, u.3);
-    ended = q.ended;
-    agrees = q.agrees;
-    makes = q.makes;
-    stands = stands;
-    look_found = q.look_found;
-    drew = q.drew;
-  }
+  draw_fits_other j d owner other q stands =
+      fits_still seat base seats g homes homes' j (put g.queue g.next id) g.owner (put g.turns n (g.turns n + 1)) (g.next + 1) g.made g.maker d q
+      (λ k o. let u = q.number k o in (u.0, u.1, put_else g.turns n (g.turns n + 1) k (λ x. other (sym u.0 ∙ (ap g.owner x ∙ owner))) ∙ u.2, u.3)) q.ended q.makes stands
 
   -- and of the view that has drawn, at its new stage
   pub draw_fits : (v : View B E) (st : Stage E) (ticket looks found : ℕ) → v.role ≡ Numbered n → found ≤ g.served → DrewLast g.served (v.turns + 1) ticket st
       → Fits seat base seats g homes id v → Stands (put g.queue g.next id) g.served (g.next + 1) g.published homes' id v.role st
       → Fits seat base seats (with_draw g id n) homes' id record v { stage = st; turns = v.turns + 1; ticket = ticket; looks = looks; look_found = found }
-  draw_fits v st ticket looks found is low drew f stands = record {
-    based = f.based;
-    sized = f.sized;
-    seen = f.seen;
-    told = f.told;
-    number = λ k o. let q = f.number k o in let same : n ≡ k = subst (λ (x : Role). HasNumber x k) is o in
-        (q.0, q.1, subst (λ (z : ℕ). put g.turns n (g.turns n + 1) z ≡ v.turns + 1) same (put_here g.turns n (g.turns n + 1) ∙ ap (λ (x : ℕ). x + 1) (ap g.turns same ∙ q.2)), q.3);
-    ended = f.ended;
-    agrees = f.agrees;
-    makes = f.makes;
-    stands = stands;
-    look_found = low;
-    drew = drew;
-  }
+  draw_fits v st ticket looks found is low drew f stands =
+      refits seat base seats g homes homes' id (put g.queue g.next id) g.owner (put g.turns n (g.turns n + 1)) (g.next + 1) g.made g.maker v st (v.turns + 1) ticket
+      looks found v.misses v.miss_found f
+      (λ k o. let q = f.number k o in let same : n ≡ k = subst (λ (x : Role). HasNumber x k) is o in
+      (q.0, q.1, subst (λ (z : ℕ). put g.turns n (g.turns n + 1) z ≡ v.turns + 1) same (put_here g.turns n (g.turns n + 1) ∙ ap (λ (x : ℕ). x + 1) (ap g.turns same ∙ q.2)), q.3))
+      f.ended f.makes stands low drew
 
 module _ {M B E : Type 0} (base_of : M → B) (history_of : M → List E) (seat : E → ℕ) (base : B) (seats : ℕ) where
   pub draw_allowed : (slots id : ℕ) (me : Me (Option M) (View B E)) (n : ℕ) → me.0.stage ≡ Idle → me.0.role ≡ Numbered n → me.0.turns < most_turns

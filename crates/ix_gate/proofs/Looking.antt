@@ -1,5 +1,5 @@
 -- A look keeps the rule: by a seat with a ticket, whether it finds that or not, and by a seat without one.
-use Rattle.std.proofs.Common.{◌≡◌, ◌≢◌, ℕ, ◌≤◌, ◌⊎◌, List, [], ◌∷◌, length, get_or, set, Option, None, Some, refl, ap, sym, ◌∙◌, subst, inl, inr, arith}
+use Rattle.std.proofs.Common.{◌≡◌, ◌≢◌, ℕ, ◌+◌, ◌≤◌, ◌⊎◌, List, [], ◌∷◌, length, get_or, set, Option, None, Some, refl, ap, sym, ◌∙◌, subst, inl, inr, arith}
 use mathlib.Core.Logic.{dite}
 use mathlib.Core.Option.{Option as Home, none, some}
 use mathlib.Core.List.{IsPrefix}
@@ -18,7 +18,7 @@ use Rattle.ix_gate.specs.Steps.{Takes, Looks, FreeLooks}
 use Rattle.ix_gate.proofs.Prefixes.{prefix_shorter}
 use Rattle.ix_gate.proofs.Counts.{total_turns_fit}
 use Rattle.ix_gate.proofs.Serving.{is_served, seen_served}
-use Rattle.ix_gate.proofs.Views.{at_lt, same_at, each_set, queued_set, agrees_published, unmoved, MaySet, Rule}
+use Rattle.ix_gate.proofs.Views.{at_lt, same_at, each_set, queued_set, agrees_published, fits_at, fits_still, ruled, unmoved, MaySet, Rule}
 
 -- what others know stays so where the slot leaves its home
 pub away_stands : {M E : Type 0} (queue : ℕ → ℕ) (served next : ℕ) (published : List E) (homes : List (Home (Option M))) (m : M) (i : ℕ) (r : Role) (st : Stage E) → homes ≡ some (Some m) ∷ []
@@ -53,19 +53,9 @@ module _ {M B E : Type 0} (base_of : M → B) (history_of : M → List E) (seat 
         with_look v found (Waits t),
         keeps,
         tt,
-        unmoved base_of history_of seat base seats s r 1 id me.1 v (with_look v found (Waits t)) at (λ h x. cc (sym waits ∙ x)) (λ u o. subst (HasTicket g.served u) waits o) record {
-          based = f.based;
-          sized = f.sized;
-          seen = f.seen;
-          told = f.told;
-          number = f.number;
-          ended = f.ended;
-          agrees = f.agrees;
-          makes = f.makes;
-          stands = subst (Stands g.queue g.served g.next g.published s.homes id v.role) waits f.stands;
-          look_found = omega arith;
-          drew = subst (DrewLast g.served v.turns v.ticket) waits f.drew;
-        },
+        unmoved base_of history_of seat base seats s r 1 id me.1 v (with_look v found (Waits t)) at (λ h x. cc (sym waits ∙ x)) (λ u o. subst (HasTicket g.served u) waits o)
+            (fits_at seat base seats g s.homes s.homes id v (Waits t) (v.looks + 1) found v.misses v.miss_found f
+            (subst (Stands g.queue g.served g.next g.published s.homes id v.role) waits f.stands) (omega arith) (subst (DrewLast g.served v.turns v.ticket) waits f.drew)),
         λ u is. (λ hit. absurd (miss (hit ∙ cc (sym is ∙ waits))), λ _. ap (λ (z : Stage E). (with_look v found z, me.1)) (sym waits ∙ is)),
       )
 
@@ -87,45 +77,16 @@ module _ {M B E : Type 0} (base_of : M → B) (history_of : M → List E) (seat 
         w,
         takes 0 (Some m),
         ap (λ (hs : List (Home (Option M))). get_elem? hs 0) home,
-        subst (λ (ws : List ℕ). Rule base_of history_of seat base seats record { words = ws; homes = set s.homes 0 none; views = set s.views id w }) (sym (set-get_or s.words 1 0)) record {
-          book = g;
-          words = r.words;
-          ordered = r.ordered;
-          counted = r.counted;
-          few_turns = r.few_turns;
-          few_seats = r.few_seats;
-          short = r.short;
-          unmade = r.unmade;
-          kept = inr (id, w, history_of m, bare, set_here s.views id w (at_lt s.views id v at), refl);
-          queued = queued_set g.queue g.served g.next s.views id v w at (λ u o. let mine : t ≡ u = subst (HasTicket g.served u) waits o in sym mine ∙ now) r.queued;
-          each = each_set (Fits seat base seats g (set s.homes 0 none)) s.views id w
-              record {
-                based = f.based;
-                sized = f.sized;
-                seen = f.seen;
-                told = f.told;
-                number = f.number;
-                ended = f.ended;
-                agrees = f.agrees;
-                makes = f.makes;
-                stands = (ap g.queue (sym now) ∙ k.0, omega arith, k.3, has, bare);
-                look_found = omega arith;
-                drew = subst (DrewLast g.served v.turns v.ticket) waits f.drew ∙ now;
-              }
-              (λ j d _ there. let q = r.each j d there in record {
-                based = q.based;
-                sized = q.sized;
-                seen = q.seen;
-                told = q.told;
-                number = q.number;
-                ended = q.ended;
-                agrees = q.agrees;
-                makes = q.makes;
-                stands = away_stands g.queue g.served g.next g.published s.homes m j d.role d.stage home q.stands;
-                look_found = q.look_found;
-                drew = q.drew;
-              });
-        },
+        subst (λ (ws : List ℕ). Rule base_of history_of seat base seats record { words = ws; homes = set s.homes 0 none; views = set s.views id w }) (sym (set-get_or s.words 1 0))
+            (ruled base_of history_of seat base seats s r g.owner g.maker (set s.homes 0 none) (set s.views id w)
+            (inr (id, w, history_of m, bare, set_here s.views id w (at_lt s.views id v at), refl))
+            (queued_set g.queue g.served g.next s.views id v w at (λ u o. let mine : t ≡ u = subst (HasTicket g.served u) waits o in sym mine ∙ now) r.queued)
+            (each_set (Fits seat base seats g (set s.homes 0 none)) s.views id w
+            (fits_at seat base seats g s.homes (set s.homes 0 none) id v (Holds (history_of m)) (v.looks + 1) found v.misses v.miss_found f
+            (ap g.queue (sym now) ∙ k.0, omega arith, k.3, has, bare) (omega arith) (subst (DrewLast g.served v.turns v.ticket) waits f.drew ∙ now))
+            (λ j d _ there. let q = r.each j d there in
+            fits_still seat base seats g s.homes (set s.homes 0 none) j g.queue g.owner g.turns g.next g.made g.maker d q q.number q.ended q.makes
+            (away_stands g.queue g.served g.next g.published s.homes m j d.role d.stage home q.stands)))),
         λ u is. (λ _. takes_from_home g s.homes id me m found (with_look v found) f (sym has) based (omega (arith, r.short, e)), λ miss. absurd (miss (hit ∙ cc (sym waits ∙ is)))),
       )
   look_hit s r slots id me t waits at hit (inr (i, u, h, away, there, holds)) =

@@ -1,5 +1,5 @@
 -- What a seat has seen goes to another: a note is cut off and taken in, a seat is joined into another, and a look shows what was told.
-use Rattle.std.proofs.Common.{◌≡◌, ◌≢◌, ℕ, ◌<◌, List, ◌∷◌, length, set, Option, refl, ap, sym, ◌∙◌, subst, ⊎_elim, inl, inr, arith, eqb, cond, ne_eqb, eq-eqb}
+use Rattle.std.proofs.Common.{◌≡◌, ◌≢◌, ℕ, ◌<◌, ◌⊎◌, List, [], ◌∷◌, ◌++◌, length, set, Option, None, Some, refl, ap, sym, ◌∙◌, subst, ⊎_elim, inl, inr, arith, eqb, cond, ne_eqb, eq-eqb}
 use Rattle.std.specs.Prelude.{Contains}
 use Rattle.std.proofs.lemmas.List.Elements.{Contains-append_cases}
 use mathlib.Core.Option.{Option as Home, some}
@@ -9,54 +9,23 @@ use Rattle.atomic_table.specs.Table.{State, Splits, Joins}
 use Rattle.atomic_table.proofs.Lists.{set_else}
 use Rattle.ix_gate.specs.declared.view.View.{View}
 use Rattle.ix_gate.specs.declared.view.Role.{Role}
-use Rattle.ix_gate.specs.declared.view.Role.TheVariants.{Numbered}
+use Rattle.ix_gate.specs.declared.view.Role.TheVariants.{Nobody, Numbered}
 use Rattle.ix_gate.specs.declared.view.Stage.TheVariants.{Idle}
 use Rattle.ix_gate.specs.History.{entries_of}
-use Rattle.ix_gate.specs.View.{HasNumber, number_of, spent_view, note, with_note, with_seat}
+use Rattle.ix_gate.specs.View.{HasNumber, number_of, fresh, spent_view, note, with_note, with_seat}
 use Rattle.ix_gate.specs.Rule.{Book, HasTicket, Fits}
 use Rattle.ix_gate.proofs.Prefixes.{by_length}
 use Rattle.ix_gate.proofs.Entries.{contains-nil, contains-cons, entries_of-longer}
-use Rattle.ix_gate.proofs.Views.{at_end, each_set, queued_set, queued_more, kept_set, kept_more, Rule}
+use Rattle.ix_gate.proofs.Views.{at_end, each_set, queued_set, queued_more, kept_set, kept_more, fits_still, ruled, Rule}
 
 module _ {M B E : Type 0} (base_of : M → B) (history_of : M → List E) (seat : E → ℕ) (base : B) (seats : ℕ) where
-  pub note_allowed : (id : ℕ) (v : View B E) → v.stage ≡ Idle → Splits (Rule base_of history_of seat base seats) id v v (note v)
-  note_allowed id v idle s r at =
-      let g : Book E = r.book in
-      let f = r.each id v at in record {
-        book = g;
-        words = r.words;
-        ordered = r.ordered;
-        counted = r.counted;
-        few_turns = r.few_turns;
-        few_seats = r.few_seats;
-        short = r.short;
-        unmade = r.unmade;
-        kept = kept_more base_of history_of base g.published s.homes (set s.views id v) (note v) (kept_set base_of history_of base g.published s.homes s.views
-            id v v at (λ h x. cc (sym idle ∙ x)) r.kept);
-        queued = queued_more g.queue g.served g.next (set s.views id v) (note v) (queued_set g.queue g.served g.next s.views id v v at (λ t o. o) r.queued);
-        each = λ j d there. ⊎_elim
-            (each_set (Fits seat base seats g s.homes) s.views id v f (λ i e _ t. r.each i e t) j d)
-            (λ (t : (j ≡ length (set s.views id v)) × (note v ≡ d)). subst (Fits seat base seats g s.homes j) t.1 record {
-              based = f.based;
-              sized = f.sized;
-              seen = f.seen;
-              told = (g.published, refl);
-              number = λ n o. absurd o;
-              ended = λ n es o. absurd (contains-nil (n, es) o);
-              agrees = (λ n o. absurd o, λ n es o. absurd (contains-nil (n, es) o));
-              makes = tt;
-              stands = tt;
-              look_found = omega arith;
-              drew = λ l. absurd (omega arith);
-            })
-            (at_end (set s.views id v) (note v) d j there);
-      }
-
-  spent_fits : (g : Book E) (homes : List (Home (Option M))) (i : ℕ) → Fits seat base seats g homes i spent_view
-  spent_fits g homes i = record {
-    based = inl refl;
-    sized = inl refl;
-    seen = (g.published, refl);
+  -- a view without a number, a ticket or a turn
+  blank_fits : (g : Book E) (homes : List (Home (Option M))) (i known : ℕ) (b : Option B) (seen : List E) → (b ≡ None) ⊎ (b ≡ Some base) → (b ≡ None) ⊎ (known ≡ seats)
+      → IsPrefix seen g.published → Fits seat base seats g homes i record (fresh known b Nobody) { seen = seen }
+  blank_fits g homes i known b seen based sized begins = record {
+    based = based;
+    sized = sized;
+    seen = begins;
     told = (g.published, refl);
     number = λ n o. absurd o;
     ended = λ n es o. absurd (contains-nil (n, es) o);
@@ -67,6 +36,22 @@ module _ {M B E : Type 0} (base_of : M → B) (history_of : M → List E) (seat 
     drew = λ l. absurd (omega arith);
   }
 
+  pub note_allowed : (id : ℕ) (v : View B E) → v.stage ≡ Idle → Splits (Rule base_of history_of seat base seats) id v v (note v)
+  note_allowed id v idle s r at =
+      let g : Book E = r.book in
+      let f = r.each id v at in
+      ruled base_of history_of seat base seats s r g.owner g.maker s.homes (set s.views id v ++ note v ∷ [])
+      (kept_more base_of history_of base g.published s.homes (set s.views id v) (note v)
+      (kept_set base_of history_of base g.published s.homes s.views id v v at (λ h x. cc (sym idle ∙ x)) r.kept))
+      (queued_more g.queue g.served g.next (set s.views id v) (note v) (queued_set g.queue g.served g.next s.views id v v at (λ t o. o) r.queued))
+      (λ j d there. ⊎_elim
+      (each_set (Fits seat base seats g s.homes) s.views id v f (λ i e _ t. r.each i e t) j d)
+      (λ (t : (j ≡ length (set s.views id v)) × (note v ≡ d)). subst (Fits seat base seats g s.homes j) t.1 (blank_fits g s.homes j v.seats v.base v.seen f.based f.sized f.seen))
+      (at_end (set s.views id v) (note v) d j there))
+
+  spent_fits : (g : Book E) (homes : List (Home (Option M))) (i : ℕ) → Fits seat base seats g homes i spent_view
+  spent_fits g homes i = blank_fits g homes i 0 None [] (inl refl) (inl refl) (g.published, refl)
+
   -- a book that differs from that of the state at most in who has a number, where one idle view has become u and another was spent
   joined : (s : State (Option M) (View B E)) (r : Rule base_of history_of seat base seats s) (owner : ℕ → ℕ) (id other : ℕ) (v u w : View B E)
       → get_elem? s.views id ≡ some v → get_elem? (set s.views id u) other ≡ some w
@@ -75,22 +60,14 @@ module _ {M B E : Type 0} (base_of : M → B) (history_of : M → List E) (seat 
       → ¬ (other ≡ id) → Rule base_of history_of seat base seats record { words = s.words; homes = s.homes; views = set (set s.views id u) other spent_view }
   joined s r owner id other v u w at there idle rests mine others apart =
       let g : Book E = r.book in
-      let h : Book E = record g { owner = owner } in record {
-        book = h;
-        words = r.words;
-        ordered = r.ordered;
-        counted = r.counted;
-        few_turns = r.few_turns;
-        few_seats = r.few_seats;
-        short = r.short;
-        unmade = r.unmade;
-        kept = kept_set base_of history_of base g.published s.homes (set s.views id u) other w spent_view there (λ p x. cc (sym rests ∙ x))
-            (kept_set base_of history_of base g.published s.homes s.views id v u at (λ p x. cc (sym idle ∙ x)) r.kept);
-        queued = queued_set g.queue g.served g.next (set s.views id u) other w spent_view there (λ t o. absurd (subst (HasTicket g.served t) rests o))
-            (queued_set g.queue g.served g.next s.views id v u at (λ t o. absurd (subst (HasTicket g.served t) idle o)) r.queued);
-        each = each_set (Fits seat base seats h s.homes) (set s.views id u) other spent_view (spent_fits h s.homes other)
-            (λ j d away t. each_set (λ i e. i ≢ other → Fits seat base seats h s.homes i e) s.views id u (λ _. mine) (λ i e _ t away. others i e away (r.each i e t)) j d t away);
-      }
+      let h : Book E = record g { owner = owner } in
+      ruled base_of history_of seat base seats s r owner g.maker s.homes (set (set s.views id u) other spent_view)
+      (kept_set base_of history_of base g.published s.homes (set s.views id u) other w spent_view there (λ p x. cc (sym rests ∙ x))
+      (kept_set base_of history_of base g.published s.homes s.views id v u at (λ p x. cc (sym idle ∙ x)) r.kept))
+      (queued_set g.queue g.served g.next (set s.views id u) other w spent_view there (λ t o. absurd (subst (HasTicket g.served t) rests o))
+      (queued_set g.queue g.served g.next s.views id v u at (λ t o. absurd (subst (HasTicket g.served t) idle o)) r.queued))
+      (each_set (Fits seat base seats h s.homes) (set s.views id u) other spent_view (spent_fits h s.homes other)
+      (λ j d away t. each_set (λ i e. i ≢ other → Fits seat base seats h s.homes i e) s.views id u (λ _. mine) (λ i e _ t away. others i e away (r.each i e t)) j d t away))
 
   pub take_note_allowed : (id : ℕ) (v : View B E) (other : ℕ) (w : View B E) → v.stage ≡ Idle → w.stage ≡ Idle → Joins (Rule base_of history_of seat base seats) id v other w (with_note v w) spent_view
   take_note_allowed id v other w idle rests s r at apart there =
@@ -169,17 +146,7 @@ module _ {M B E : Type 0} (base_of : M → B) (history_of : M → List E) (seat 
         look_found = f.look_found;
         drew = f.drew;
       }
-      (λ i e far z. record {
-        based = z.based;
-        sized = z.sized;
-        seen = z.seen;
-        told = z.told;
-        number = λ k o. let t = z.number k o in (takes_over-else g.owner id other i k t.0 far, t.1, t.2, t.3);
-        ended = λ k es o. let t = z.ended k es o in (takes_over-else g.owner id other i k t.0 far, t.1, t.2, t.3);
-        agrees = z.agrees;
-        makes = z.makes;
-        stands = z.stands;
-        look_found = z.look_found;
-        drew = z.drew;
-      })
+      (λ i e far z. fits_still seat base seats g s.homes s.homes i g.queue owner g.turns g.next g.made g.maker e z
+      (λ k o. let t = z.number k o in (takes_over-else g.owner id other i k t.0 far, t.1, t.2, t.3))
+      (λ k es o. let t = z.ended k es o in (takes_over-else g.owner id other i k t.0 far, t.1, t.2, t.3)) z.makes z.stands)
       apart

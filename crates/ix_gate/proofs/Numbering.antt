@@ -1,5 +1,5 @@
 -- A new table obeys the rule, and so it does where a number is made for a seat.
-use Rattle.std.proofs.Common.{◌≡◌, ◌≢◌, ℕ, zero, suc, ◌+◌, ◌%◌, ◌<◌, ◌≤◌, List, [], ◌∷◌, length, get_or, set, Option, Some, refl, ap, sym, ◌∙◌, subst, ⊎_elim, inl, inr, arith}
+use Rattle.std.proofs.Common.{◌≡◌, ◌≢◌, ℕ, zero, suc, ◌+◌, ◌%◌, ◌<◌, ◌≤◌, List, [], ◌∷◌, ◌++◌, length, get_or, set, Option, Some, refl, ap, sym, ◌∙◌, subst, ⊎_elim, inl, inr, arith}
 use mathlib.Core.Option.{Option as Home, none, some, some-injective}
 use lib.ListN.{get_elem?}
 use Rattle.atomic_table.specs.Table.{Me, step, keeps, Allows, Splits, opening}
@@ -12,7 +12,7 @@ use Rattle.ix_gate.specs.Rule.{most_turns, most_seats, Book, MayMake, HasTicket,
 use Rattle.ix_gate.specs.Steps.{MakesNumber}
 use Rattle.ix_gate.proofs.Entries.{contains-nil}
 use Rattle.ix_gate.proofs.Counts.{put, put_here, put_else, put_holds, total_turns-same, mod_fits}
-use Rattle.ix_gate.proofs.Views.{at_end, each_set, queued_set, queued_more, kept_set, kept_more, Rule}
+use Rattle.ix_gate.proofs.Views.{at_end, each_set, queued_set, queued_more, kept_set, kept_more, fits_still, ruled, Rule}
 
 -- the book of a new table
 abbrev first_book : {E : Type 0} → Book E
@@ -107,20 +107,12 @@ module _ {M B E : Type 0} (base_of : M → B) (history_of : M → List E) (seat 
                 look_found = omega arith;
                 drew = λ l. absurd (omega arith);
               }
-              (λ j d other there. let q = r.each j d there in record {
-                based = q.based;
-                sized = q.sized;
-                seen = q.seen;
-                told = q.told;
-                number = λ x o. let u = q.number x o in let made = u.1 in
-                    (put_else g.owner g.made id x (λ y. omega arith) ∙ u.0, omega arith, put_else g.turns g.made 0 x (λ y. omega arith) ∙ u.2, u.3);
-                ended = λ x es o. let u = q.ended x es o in let made = u.1 in (put_else g.owner g.made id x (λ y. omega arith) ∙ u.0, omega arith, u.2, u.3);
-                agrees = q.agrees;
-                makes = makes_other g.made (suc g.made) g.maker g.maker j d.role (λ y. other (y ∙ sym makes.0)) q.makes;
-                stands = q.stands;
-                look_found = q.look_found;
-                drew = q.drew;
-              });
+              (λ j d other there. let q = r.each j d there in
+              fits_still seat base seats g s.homes s.homes j g.queue (put g.owner g.made id) (put g.turns g.made 0) g.next (suc g.made) g.maker d q
+              (λ x o. let u = q.number x o in let made = u.1 in
+              (put_else g.owner g.made id x (λ y. omega arith) ∙ u.0, omega arith, put_else g.turns g.made 0 x (λ y. omega arith) ∙ u.2, u.3))
+              (λ x es o. let u = q.ended x es o in let made = u.1 in (put_else g.owner g.made id x (λ y. omega arith) ∙ u.0, omega arith, u.2, u.3))
+              (makes_other g.made (suc g.made) g.maker g.maker j d.role (λ y. other (y ∙ sym makes.0)) q.makes) q.stands);
         },
         λ x same. let y : k ≡ x = cc (sym is ∙ same) in (e ∙ (sym here ∙ y), ap (λ (z : ℕ). (fresh v.seats v.base (Made z), me.1)) y),
       )
@@ -134,58 +126,40 @@ module _ {M B E : Type 0} (base_of : M → B) (history_of : M → List E) (seat 
       let f = r.each id v at in
       let makes = f.makes in
       let place : ℕ = length (set s.views id own) in
-      let h : Book E = record g { maker = place } in record {
-        book = h;
-        words = r.words;
-        ordered = r.ordered;
-        counted = r.counted;
-        few_turns = r.few_turns;
-        few_seats = r.few_seats;
-        short = r.short;
-        unmade = r.unmade;
-        kept = kept_more base_of history_of base g.published s.homes (set s.views id own) right (kept_set base_of history_of base g.published s.homes s.views id v own at (λ p x. cc x) r.kept);
-        queued = queued_more g.queue g.served g.next (set s.views id own) right (queued_set g.queue g.served g.next s.views id v own at (λ t o. o) r.queued);
-        each = λ j d there. ⊎_elim
-            (each_set (Fits seat base seats h s.homes) s.views id own
-            record {
-              based = f.based;
-              sized = f.sized;
-              seen = f.seen;
-              told = f.told;
-              number = f.number;
-              ended = f.ended;
-              agrees = f.agrees;
-              makes = tt;
-              stands = tt;
-              look_found = f.look_found;
-              drew = f.drew;
-            }
-            (λ i e other t. let q = r.each i e t in record {
-              based = q.based;
-              sized = q.sized;
-              seen = q.seen;
-              told = q.told;
-              number = q.number;
-              ended = q.ended;
-              agrees = q.agrees;
-              makes = makes_other g.made g.made g.maker place i e.role (λ y. other (y ∙ sym makes.0)) q.makes;
-              stands = q.stands;
-              look_found = q.look_found;
-              drew = q.drew;
-            })
-            j d)
-            (λ (t : (j ≡ place) × (right ≡ d)). subst (λ (z : ℕ × View B E). Fits seat base seats h s.homes z.0 z.1) (λ i. (sym t.0 i, t.1 i)) record {
-              based = f.based;
-              sized = f.sized;
-              seen = f.seen;
-              told = f.told;
-              number = λ x o. absurd o;
-              ended = λ x es o. absurd (contains-nil (x, es) o);
-              agrees = (λ x o. absurd o, f.agrees.1);
-              makes = (refl, let m = makes.1 in omega arith);
-              stands = tt;
-              look_found = f.look_found;
-              drew = f.drew;
-            })
-            (at_end (set s.views id own) right d j there);
+      let h : Book E = record g { maker = place } in
+      ruled base_of history_of seat base seats s r g.owner place s.homes (set s.views id own ++ right ∷ [])
+      (kept_more base_of history_of base g.published s.homes (set s.views id own) right (kept_set base_of history_of base g.published s.homes s.views id v own at (λ p x. cc x) r.kept))
+      (queued_more g.queue g.served g.next (set s.views id own) right (queued_set g.queue g.served g.next s.views id v own at (λ t o. o) r.queued))
+      (λ j d there. ⊎_elim
+      (each_set (Fits seat base seats h s.homes) s.views id own
+      record {
+        based = f.based;
+        sized = f.sized;
+        seen = f.seen;
+        told = f.told;
+        number = f.number;
+        ended = f.ended;
+        agrees = f.agrees;
+        makes = tt;
+        stands = tt;
+        look_found = f.look_found;
+        drew = f.drew;
       }
+      (λ i e other t. let q = r.each i e t in
+      fits_still seat base seats g s.homes s.homes i g.queue g.owner g.turns g.next g.made place e q q.number q.ended
+      (makes_other g.made g.made g.maker place i e.role (λ y. other (y ∙ sym makes.0)) q.makes) q.stands)
+      j d)
+      (λ (t : (j ≡ place) × (right ≡ d)). subst (λ (z : ℕ × View B E). Fits seat base seats h s.homes z.0 z.1) (λ i. (sym t.0 i, t.1 i)) record {
+        based = f.based;
+        sized = f.sized;
+        seen = f.seen;
+        told = f.told;
+        number = λ x o. absurd o;
+        ended = λ x es o. absurd (contains-nil (x, es) o);
+        agrees = (λ x o. absurd o, f.agrees.1);
+        makes = (refl, let m = makes.1 in omega arith);
+        stands = tt;
+        look_found = f.look_found;
+        drew = f.drew;
+      })
+      (at_end (set s.views id own) right d j there))

@@ -13,7 +13,7 @@ use Rattle.ix_gate.specs.View.{HasNumber, with_ticket, with_look, with_miss}
 use Rattle.ix_gate.specs.Rule.{most_turns, Book, Stands, Fits, IsKept}
 use Rattle.ix_gate.specs.Steps.{TriesDraw}
 use Rattle.ix_gate.proofs.Counts.{put, put_here}
-use Rattle.ix_gate.proofs.Views.{at_lt, each_set, seats_known, unmoved, MaySet, Rule}
+use Rattle.ix_gate.proofs.Views.{at_lt, each_set, seats_known, fits_at, unmoved, MaySet, Rule}
 use Rattle.ix_gate.proofs.Drawing.{with_draw, draw_counted, draw_few, draw_queued, draw_stands, draw_fits, draw_fits_other}
 use Rattle.ix_gate.proofs.Looking.{away_stands, takes_from_home}
 use Rattle.ix_gate.proofs.Alone.{alone_served}
@@ -87,19 +87,8 @@ module _ {M B E : Type 0} (base_of : M → B) (history_of : M → List E) (seat 
         with_miss v found,
         keeps,
         tt,
-        unmoved base_of history_of seat base seats s r 0 id me.1 v (with_miss v found) at (λ h x. cc (sym idle ∙ x)) (λ t o. o) record {
-          based = f.based;
-          sized = f.sized;
-          seen = f.seen;
-          told = f.told;
-          number = f.number;
-          ended = f.ended;
-          agrees = f.agrees;
-          makes = f.makes;
-          stands = f.stands;
-          look_found = f.look_found;
-          drew = f.drew;
-        },
+        unmoved base_of history_of seat base seats s r 0 id me.1 v (with_miss v found) at (λ h x. cc (sym idle ∙ x)) (λ t o. o)
+            (fits_at seat base seats g s.homes s.homes id v v.stage v.looks v.look_found (v.misses + 1) found f f.stands f.look_found f.drew),
         (
           λ hit. absurd (miss hit),
           λ _. (

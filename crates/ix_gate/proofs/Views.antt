@@ -1,5 +1,6 @@
 -- What the rule says of all views, where one of them changes.
-use Rattle.std.proofs.Common.{◌≡◌, ◌≢◌, ℕ, zero, suc, ◌<◌, ◌⊎◌, List, [], ◌∷◌, ◌++◌, length, get_or, set, Option, None, Some, refl, ap, sym, ◌∙◌, subst, ⊎_elim, inl, inr, arith}
+use Rattle.std.proofs.Common.{◌≡◌, ◌≢◌, ℕ, zero, suc, ◌<◌, ◌≤◌, ◌⊎◌, List, [], ◌∷◌, ◌++◌, length, get_or, set, Option, None, Some, refl, ap, sym, ◌∙◌, subst, ⊎_elim, inl, inr, arith}
+use Rattle.std.specs.Prelude.{Contains}
 use mathlib.Core.Logic.{dite}
 use mathlib.Core.Option.{Option as Home, some, some-injective}
 use native.Mathlib.Decide.{ℕ_discrete}
@@ -8,9 +9,11 @@ use lib.Seq.{set-get_or}
 use Rattle.atomic_table.specs.Table.{State, Me, Act, Valid, keeps, stepped, carried_after}
 use Rattle.atomic_table.proofs.Lists.{at_set, set_here, set_else, at_longer}
 use Rattle.ix_gate.specs.declared.view.View.{View}
+use Rattle.ix_gate.specs.declared.view.Stage.{Stage}
 use Rattle.ix_gate.specs.declared.view.Stage.TheVariants.{Holds}
-use Rattle.ix_gate.specs.View.{Agrees}
-use Rattle.ix_gate.specs.Rule.{Book, HasTicket, IsQueued, Fits, IsKept, Obeys}
+use Rattle.ix_gate.specs.History.{entries_of}
+use Rattle.ix_gate.specs.View.{HasNumber, Agrees}
+use Rattle.ix_gate.specs.Rule.{Book, MayMake, HasTicket, DrewLast, IsQueued, Stands, Fits, IsKept, Obeys}
 
 module _ {A : Type 0} where
   pub at_lt : (l : List A) (i : ℕ) (a : A) → get_elem? l i ≡ some a → i < length l
@@ -67,6 +70,44 @@ pub seats_known : {B : Type 0} (known : Option B) (mine seats : ℕ) (b : B) →
 seats_known known mine seats b (inl e) is = absurd (cc (sym e ∙ is))
 seats_known known mine seats b (inr e) is = sym e
 
+module _ {M B E : Type 0} (seat : E → ℕ) (base : B) (seats : ℕ) (g : Book E) (homes homes' : List (Home (Option M))) (i : ℕ) where
+  -- what the rule says of a view still holds, where its stage, turns and looks have changed, and what the book says of numbers and tickets
+  pub refits : (queue owner turns : ℕ → ℕ) (next made maker : ℕ) (v : View B E) (st : Stage E) (drawn ticket looks found misses missed : ℕ) → Fits seat base seats g homes i v
+      → ((n : ℕ) → HasNumber v.role n → (owner n ≡ i) × (n < made) × (turns n ≡ drawn) × (entries_of seat n g.published ≡ v.own))
+      → ((n : ℕ) (es : List E) → Contains v.ended (n, es) → (owner n ≡ i) × (n < made) × (entries_of seat n g.published ≡ es) × ¬ HasNumber v.role n)
+      → MayMake made maker i v.role → Stands queue g.served next g.published homes' i v.role st → found ≤ g.served → DrewLast g.served drawn ticket st
+      → Fits seat base seats (record g { next = next; made = made; queue = queue; owner = owner; turns = turns; maker = maker }) homes' i
+      record v { stage = st; turns = drawn; ticket = ticket; looks = looks; look_found = found; misses = misses; miss_found = missed }
+  refits queue owner turns next made maker v st drawn ticket looks found misses missed f number ended makes stands low drew = record {
+    based = f.based;
+    sized = f.sized;
+    seen = f.seen;
+    told = f.told;
+    number = number;
+    ended = ended;
+    agrees = f.agrees;
+    makes = makes;
+    stands = stands;
+    look_found = low;
+    drew = drew;
+  }
+
+  -- a view at another stage, after other looks and misses
+  pub fits_at : (v : View B E) (st : Stage E) (looks found misses missed : ℕ) → Fits seat base seats g homes i v
+      → Stands g.queue g.served g.next g.published homes' i v.role st → found ≤ g.served → DrewLast g.served v.turns v.ticket st
+      → Fits seat base seats g homes' i record v { stage = st; looks = looks; look_found = found; misses = misses; miss_found = missed }
+  fits_at v st looks found misses missed f stands low drew =
+      refits g.queue g.owner g.turns g.next g.made g.maker v st v.turns v.ticket looks found misses missed f f.number f.ended f.makes stands low drew
+
+  -- a view that has not changed, where the book has
+  pub fits_still : (queue owner turns : ℕ → ℕ) (next made maker : ℕ) (v : View B E) → Fits seat base seats g homes i v
+      → ((n : ℕ) → HasNumber v.role n → (owner n ≡ i) × (n < made) × (turns n ≡ v.turns) × (entries_of seat n g.published ≡ v.own))
+      → ((n : ℕ) (es : List E) → Contains v.ended (n, es) → (owner n ≡ i) × (n < made) × (entries_of seat n g.published ≡ es) × ¬ HasNumber v.role n)
+      → MayMake made maker i v.role → Stands queue g.served next g.published homes' i v.role v.stage
+      → Fits seat base seats (record g { next = next; made = made; queue = queue; owner = owner; turns = turns; maker = maker }) homes' i v
+  fits_still queue owner turns next made maker v f number ended makes stands =
+      refits queue owner turns next made maker v v.stage v.turns v.ticket v.looks v.look_found v.misses v.miss_found f number ended makes stands f.look_found f.drew
+
 module _ {M B E : Type 0} (base_of : M → B) (history_of : M → List E) (seat : E → ℕ) (base : B) (seats : ℕ) where
   -- the rule of the table of this gate
   abbrev pub Rule : State (Option M) (View B E) → Type 0
@@ -80,11 +121,13 @@ module _ {M B E : Type 0} (base_of : M → B) (history_of : M → List E) (seat 
   abbrev pub MaySet : State (Option M) (View B E) → ℕ → Me (Option M) (View B E) → ℕ → ℕ → (ℕ → Me (Option M) (View B E) → Type 0) → Type 0
   MaySet s id me i x then = (w : View B E) × (a : Act (Option M)) × Valid s.homes me.1 a × Rule (stepped s i x id me.1 w a) × then (get_or s.words i 0) (w, carried_after me.1 a)
 
-  -- a step that changes one view, and no word and no slot
-  pub unmoved : (s : State (Option M) (View B E)) (r : Rule s) (i id : ℕ) (c : List (ℕ × Option M)) (v w : View B E) → get_elem? s.views id ≡ some v → ((h : List E) → v.stage ≡ Holds h → ⊥)
-      → ((t : ℕ) → HasTicket r.book.served t v.stage → HasTicket r.book.served t w.stage) → Fits seat base seats r.book s.homes id w → Rule (stepped s i (get_or s.words i 0) id c w keeps)
-  unmoved s r i id c v w at free stays mine = subst (λ (ws : List ℕ). Rule record { words = ws; homes = s.homes; views = set s.views id w }) (sym (set-get_or s.words i 0)) record {
-    book = r.book;
+  -- the rule, where no word has changed
+  pub ruled : (s : State (Option M) (View B E)) (r : Rule s) (owner : ℕ → ℕ) (maker : ℕ) (homes : List (Home (Option M))) (views : List (View B E))
+      → IsKept base_of history_of base r.book.published homes views → IsQueued r.book.queue r.book.served r.book.next views
+      → ((i : ℕ) (v : View B E) → get_elem? views i ≡ some v → Fits seat base seats (record (r.book) { owner = owner; maker = maker }) homes i v)
+      → Rule record { words = s.words; homes = homes; views = views }
+  ruled s r owner maker homes views kept queued each = record {
+    book = record (r.book) { owner = owner; maker = maker };
     words = r.words;
     ordered = r.ordered;
     counted = r.counted;
@@ -92,7 +135,15 @@ module _ {M B E : Type 0} (base_of : M → B) (history_of : M → List E) (seat 
     few_seats = r.few_seats;
     short = r.short;
     unmade = r.unmade;
-    kept = kept_set base_of history_of base r.book.published s.homes s.views id v w at free r.kept;
-    queued = queued_set r.book.queue r.book.served r.book.next s.views id v w at stays r.queued;
-    each = each_set (Fits seat base seats r.book s.homes) s.views id w mine (λ j d _ there. r.each j d there);
+    kept = kept;
+    queued = queued;
+    each = each;
   }
+
+  -- a step that changes one view, and no word and no slot
+  pub unmoved : (s : State (Option M) (View B E)) (r : Rule s) (i id : ℕ) (c : List (ℕ × Option M)) (v w : View B E) → get_elem? s.views id ≡ some v → ((h : List E) → v.stage ≡ Holds h → ⊥)
+      → ((t : ℕ) → HasTicket r.book.served t v.stage → HasTicket r.book.served t w.stage) → Fits seat base seats r.book s.homes id w → Rule (stepped s i (get_or s.words i 0) id c w keeps)
+  unmoved s r i id c v w at free stays mine = subst (λ (ws : List ℕ). Rule record { words = ws; homes = s.homes; views = set s.views id w }) (sym (set-get_or s.words i 0))
+      (ruled s r r.book.owner r.book.maker s.homes (set s.views id w) (kept_set base_of history_of base r.book.published s.homes s.views id v w at free r.kept)
+      (queued_set r.book.queue r.book.served r.book.next s.views id v w at stays r.queued)
+      (each_set (Fits seat base seats r.book s.homes) s.views id w mine (λ j d _ there. r.each j d there)))

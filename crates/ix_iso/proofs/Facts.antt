@@ -1,43 +1,25 @@
 -- What is known where the rows pass that answer bytes, sizes and statuses: whose labels the caller's is not below.
-use Rattle.std.proofs.Common.{◌≡◌, ℕ, true, false, true≢false, ◌&&◌, List, Option, Some, None, option_map, refl, sym, ap, ◌∙◌, subst, inl, inr}
+use Rattle.std.proofs.Common.{◌≡◌, ℕ, true, false, true≢false, ◌&&◌, List, Option, Some, None, refl, sym, ap, ◌∙◌, subst, inl, inr}
 use Rattle.std.proofs.lemmas.Bool.{and_parts, not-false}
 use Rattle.std.proofs.lemmas.List.Quantifiers.{position-Some}
 use Rattle.ix_label.specs.Category.{Categories, join, leq}
-use Rattle.ix_label.specs.Lattice.{same-decides, leq-trans, leq-join_left, leq-join_right}
+use Rattle.ix_label.specs.Lattice.{leq-trans, leq-join_left, leq-join_right}
 use Rattle.ix_model.specs.world.Naming.{PathOf}
 use Rattle.ix_model.specs.world.World.{Frame, Object, Process, Open, at, put, change, living, is_pipe, is_ended}
-use Rattle.ix_model.specs.rows.Rows.{change_process, observe, affect}
+use Rattle.ix_model.specs.rows.Rows.{change_process, observe}
 use Rattle.ix_model.specs.rows.Walks.{OpenFile, behind, walked_to, object_at}
-use Rattle.ix_model.specs.rows.OnDescriptors.{LengthChecks, float_entry, read_fd, write_fd}
+use Rattle.ix_model.specs.rows.OnDescriptors.{LengthChecks, read_fd, write_fd}
 use Rattle.ix_model.specs.rows.OnPaths.{stat_at, stat_passed}
 use Rattle.ix_model.specs.rows.OnProcesses.{is_child, wait_child, wait_passed}
 use Rattle.ix_model.specs.declared.reply.Reply.{Reply}
-use Rattle.ix_model.proofs.tables.Tables.{at_changed}
 use Rattle.ix_model.proofs.tables.Finds.{at_put, at_change}
 use Rattle.ix_model.proofs.words.Living.{is_living, not_ended, lives_as}
 use Rattle.ix_model.proofs.words.Keeps.{Holds, Keeps, keeping}
-use Rattle.ix_model.proofs.words.Ends.{Ends, Anything, ends_kept, ends_bind, ends_then, ends_pass, ends_frame, ends_need, ends_some, ends_only_if}
-use Rattle.ix_model.proofs.words.Ends.{ends_caller, ends_object, ends_opened, ends_change_object, ends_change_caller, ends_change_open}
+use Rattle.ix_model.proofs.words.Ends.{Ends, Anything, ends_kept, ends_bind, ends_then, ends_pass, ends_frame, ends_need, ends_some}
+use Rattle.ix_model.proofs.words.Ends.{ends_object}
 use Rattle.ix_model.proofs.words.Endings.{ends_put_process, ends_record_of}
 use Rattle.ix_model.proofs.words.Standing.{behind_is}
-
--- ---- looking
-still_lives : (f : Frame) (pid : ℕ) (h : Process → Process) (p : Process) → (h p).ended ≡ p.ended → living (at f.processes pid) ≡ Some p → living (at (change f.processes pid h) pid) ≡ Some (h p)
-still_lives f pid h p ended lives = lives_as _ (h p) (at_changed f.processes pid h ∙ ap (option_map h) (is_living _ p lives)) (ended ∙ not_ended _ p lives)
-
--- where a look passes, the caller's label is at or above what was looked at
-ends_looks : (pid : ℕ) (seen : Categories) (f : Frame) (Q : Unit {0} → Frame → Type 0) → ((g : Frame) (p : Process) → g.objects ≡ f.objects → g.opens ≡ f.opens
-    → living (at g.processes pid) ≡ Some p → leq seen p.label ≡ true → Q tt g) → Ends (observe pid seen f) Anything Q
-unfolding observe
-ends_looks pid seen f Q looks =
-    ends_bind _ _ f Anything Q (ends_caller pid f Anything _ (λ p lives. ends_only_if _ _ f Anything Q
-    (λ raises. ends_then _ _ f Anything Q (ends_need _ _ f Anything _ (λ free.
-    ends_then _ _ f Anything Q (ends_need _ _ f Anything _ (λ low.
-    ends_change_caller pid _ f Anything Q (looks _ (record p { label = join p.label seen }) refl refl
-    (still_lives f pid (λ q. record q { label = join q.label seen }) p refl lives) (leq-join_right p.label seen)))
-    tt)) tt))
-    (λ no. looks f p refl refl lives (subst (λ (l : Categories). leq seen l ≡ true) ((same-decides (join p.label seen) p.label).0 (not-false _ no)) (leq-join_right p.label seen))))
-    tt)
+use Rattle.ix_model.proofs.words.Transfers.{ends_looks, ends_affects, ends_read, ends_read_behind, ends_write, ends_floated}
 
 one_living : (o : Option Process) (p q : Process) → living o ≡ Some p → living o ≡ Some q → p ≡ q
 one_living o p q is here = let h : Some p ≡ Some q = sym is ∙ here in cc
@@ -73,28 +55,15 @@ for_each : (b : Option OpenFile) (R : OpenFile → Type 0) (e : OpenFile) → b 
 for_each b R e is r other here = let h : Some e ≡ Some other = sym is ∙ here in let one : e ≡ other = cc in subst R one r
 
 pub read_known : (t : LengthChecks) (pid fd count : ℕ) (f : Frame) → Ends (read_fd t pid fd count f) Anything (ReadKnown pid fd f)
-unfolding read_fd float_entry
 read_known t pid fd count f =
     let Q : Reply → Frame → Type 0 = ReadKnown pid fd f in
-    ends_bind _ _ f Anything Q (ends_opened pid fd f Anything _ (λ e is.
-    ends_then _ _ f Anything Q (ends_need _ _ f Anything _ (λ may.
-    ends_bind _ _ f Anything Q (ends_object e.entry.object f Anything _ (λ x here.
-    ends_then _ _ f Anything Q (ends_need _ _ f Anything _ (λ free.
-    ends_then _ _ f Anything Q (ends_need _ _ f Anything _ (λ few.
-    ends_then _ _ f Anything Q (ends_looks pid _ f _ (λ g p objects opens lives sees.
-    ends_bind _ _ g Anything Q (ends_frame g Anything _ (
-    ends_then _ _ g Anything Q (ends_need _ _ g Anything _ (λ some.
-    ends_bind _ _ g Anything Q (ends_caller pid g Anything _ (λ q again.
-    let one : p ≡ q = one_living _ p q lives again in
-    let object_seen : leq x.label q.label ≡ true = leq-trans x.label (join x.label e.entry.label) q.label (leq-join_left x.label e.entry.label)
-    (subst (λ (z : Process). leq (join x.label e.entry.label) z.label ≡ true) one sees) in
-    let entry_seen : leq e.entry.label q.label ≡ true = leq-trans e.entry.label (join x.label e.entry.label) q.label (leq-join_right x.label e.entry.label)
-    (subst (λ (z : Process). leq (join x.label e.entry.label) z.label ≡ true) one sees) in
-    ends_then _ _ g Anything Q (ends_only_if _ _ g Anything _
-    (λ file. ends_change_open e.id _ g Anything _
-    (ends_pass _ _ Anything Q
-    (for_each (behind f pid fd) (λ b. ReadFacts pid f b (record g { opens = change g.opens e.id (λ y. record y { label = join y.label q.label }) })) e is
-    (record {
+    ends_read f Anything Q (λ why. tt) t pid fd count (λ e is x here.
+    ends_then _ _ f Anything Q (ends_looks pid _ f _ (λ g p objects opens lives sees. ends_read_behind g Anything Q (λ why. tt) t pid e x (λ q again.
+    let seen : leq (join x.label e.entry.label) q.label ≡ true = subst (λ (z : Process). leq (join x.label e.entry.label) z.label ≡ true) (one_living _ p q lives again) sees in
+    let object_seen : leq x.label q.label ≡ true = leq-trans x.label (join x.label e.entry.label) q.label (leq-join_left x.label e.entry.label) seen in
+    let entry_seen : leq e.entry.label q.label ≡ true = leq-trans e.entry.label (join x.label e.entry.label) q.label (leq-join_right x.label e.entry.label) seen in
+    ends_floated Anything Q q x e _ g
+    (λ file. for_each (behind f pid fd) (λ b. ReadFacts pid f b (record g { opens = change g.opens e.id (λ y. record y { label = join y.label q.label }) })) e is (record {
       object = x;
       is_object = here;
       process = q;
@@ -103,48 +72,18 @@ read_known t pid fd count f =
       sees_entry = entry_seen;
       entry =
           λ other y there. (joined g.opens e.id q.label y there).2;
-    }))))
-    (λ pipe. ends_pass _ _ Anything Q (for_each (behind f pid fd) (λ b. ReadFacts pid f b g) e is (record {
+    }))
+    (λ pipe. for_each (behind f pid fd) (λ b. ReadFacts pid f b g) e is (record {
       object = x;
       is_object = here;
       process = q;
-      lives =
-          again;
+      lives = again;
       sees_object = object_seen;
       sees_entry = entry_seen;
       entry = λ other y there. absurd (true≢false (sym (not-false _ pipe) ∙ other));
-    })))))
-    tt)) tt)))))) tt)) tt)) tt)) tt)) tt)
+    }))))))
 
 -- ---- a write
-ends_affects : (pid o : ℕ) (through : Categories) (f : Frame) (Q : Unit {0} → Frame → Type 0)
-    → ((g : Frame) (p : Process) → living (at f.processes pid) ≡ Some p → g.processes ≡ f.processes → g.opens ≡ f.opens
-    → ((x : Object) → at g.objects o ≡ Some x → (leq p.label x.label ≡ true) × (leq through x.label ≡ true)) → Q tt g)
-    → Ends (affect pid o through f) Anything Q
-unfolding affect
-ends_affects pid o through f Q affects =
-    ends_bind _ _ f Anything Q (ends_caller pid f Anything _ (λ p lives.
-    ends_bind _ _ f Anything Q (ends_object o f Anything _ (λ x here.
-    let both : (a : Categories) → leq (join p.label through) a ≡ true → (leq p.label a ≡ true) × (leq through a ≡ true) =
-    λ a h. (
-      leq-trans p.label (join p.label through) a (leq-join_left p.label through) h,
-      leq-trans through (join p.label through) a (leq-join_right p.label through) h,
-    ) in
-    ends_bind _ _ f Anything Q (ends_frame f Anything _ (ends_only_if _ _ f Anything Q
-    (λ raises. ends_then _ _ f Anything Q (ends_need _ _ f Anything _ (λ free.
-    ends_then _ _ f Anything Q (ends_need _ _ f Anything _ (λ low.
-    ends_change_object o _ f Anything Q (affects _ p lives refl refl (λ y there. elim (at_change f.objects o (λ z. record z { label = join z.label (join p.label through) }) o y there) [
-      | inl c ↦ both y.label (subst (λ (z : Object). leq (join p.label through) z.label ≡ true) (sym c.same) (leq-join_right c.was.label (join p.label through)))
-      | inr apart ↦ absurd (apart.0 refl)
-    ])))
-    tt)) tt))
-    (λ no. affects f p lives refl refl (λ y there.
-    let h : Some x ≡ Some y = sym here ∙ there in
-    let one : x ≡ y = cc in
-    both y.label (subst (λ (z : Object). leq (join p.label through) z.label ≡ true) one (subst (λ (a : Categories). leq (join p.label through) a ≡ true)
-    ((same-decides (join x.label (join p.label through)) x.label).0 (not-false _ no)) (leq-join_right x.label (join p.label through)))))))))
-    tt)) tt)
-
 pub record WriteFacts (pid : ℕ) (f : Frame) (e : OpenFile) (g : Frame) : Type 0 where
   pub object : Object
   pub is_object : at f.objects e.entry.object ≡ Some object
@@ -158,29 +97,17 @@ abbrev pub WriteKnown : ℕ → ℕ → Frame → Reply → Frame → Type 0
 WriteKnown pid fd f r g = (e : OpenFile) → behind f pid fd ≡ Some e → WriteFacts pid f e g
 
 pub write_known : (t : LengthChecks) (pid fd : ℕ) (f : Frame) → Ends (write_fd t pid fd f) Anything (WriteKnown pid fd f)
-unfolding write_fd float_entry
 write_known t pid fd f =
     let Q : Reply → Frame → Type 0 = WriteKnown pid fd f in
-    ends_bind _ _ f Anything Q (ends_opened pid fd f Anything _ (λ e is.
-    ends_then _ _ f Anything Q (ends_need _ _ f Anything _ (λ may.
-    ends_bind _ _ f Anything Q (ends_object e.entry.object f Anything _ (λ x here.
-    ends_then _ _ f Anything Q (ends_need _ _ f Anything _ (λ free.
-    ends_then _ _ f Anything Q (ends_need _ _ f Anything _ (λ few.
-    ends_then _ _ f Anything Q (ends_need _ _ f Anything _ (λ plain.
-    ends_bind _ _ f Anything Q (ends_frame f Anything _ (
-    ends_then _ _ f Anything Q (ends_need _ _ f Anything _ (λ whole.
-    ends_then _ _ f Anything Q (ends_need _ _ f Anything _ (λ room.
-    ends_then _ _ f Anything Q (ends_need _ _ f Anything _ (λ space.
-    ends_bind _ _ f Anything Q (ends_caller pid f Anything _ (λ q own.
+    ends_write f Anything Q (λ why. tt) t pid fd (λ e is x here q own.
     ends_then _ _ f Anything Q (ends_affects pid e.entry.object e.entry.label f _ (λ g p lives processes opens takes.
-    let one : p ≡ q = one_living _ p q lives own in
     let takes_own : (y : Object) → at g.objects e.entry.object ≡ Some y → (leq q.label y.label ≡ true) × (leq e.entry.label y.label ≡ true) =
-    λ y there. (subst (λ (z : Process). leq z.label y.label ≡ true) one (takes y there).0, (takes y there).1) in
-    ends_then _ _ g Anything Q (ends_only_if _ _ g Anything _
-    (λ file. ends_change_open e.id _ g Anything _
-    (ends_pass _ _ Anything Q
-    (for_each (behind f pid fd) (λ b. WriteFacts pid f b (record g { opens = change g.opens e.id (λ y. record y { label = join y.label q.label }) })) e is
-    (record {
+    λ y there. let h : leq (join q.label e.entry.label) y.label ≡ true = subst (λ (z : Process). leq (join z.label e.entry.label) y.label ≡ true) (one_living _ p q lives own) (takes y there) in (
+      leq-trans q.label (join q.label e.entry.label) y.label (leq-join_left q.label e.entry.label) h,
+      leq-trans e.entry.label (join q.label e.entry.label) y.label (leq-join_right q.label e.entry.label) h,
+    ) in
+    ends_floated Anything Q q x e _ g
+    (λ file. for_each (behind f pid fd) (λ b. WriteFacts pid f b (record g { opens = change g.opens e.id (λ y. record y { label = join y.label q.label }) })) e is (record {
       object = x;
       is_object = here;
       caller = q;
@@ -192,18 +119,16 @@ write_known t pid fd f =
           let h : Some e.entry ≡ Some j.0 = sym (behind_is f pid fd e is) ∙ ap (λ t. at t e.id) (sym opens) ∙ j.1 in
           let entry : e.entry ≡ j.0 = cc in
           (j.2, subst (λ (z : Open). leq z.label y.label ≡ true) (sym entry) j.3);
-    }))))
-    (λ pipe. ends_pass _ _ Anything Q (for_each (behind f pid fd) (λ b. WriteFacts pid f b g) e is (record {
+    }))
+    (λ pipe. for_each (behind f pid fd) (λ b. WriteFacts pid f b g) e is (record {
       object = x;
       is_object = here;
-      caller =
-          q;
+      caller = q;
       is_caller = own;
       processes = processes;
       takes = takes_own;
       entry = λ other y there. absurd (true≢false (sym (not-false _ pipe) ∙ other));
-    })))))))
-    tt)) tt)) tt)) tt)))) tt)) tt)) tt)) tt)) tt)) tt)
+    })))))
 
 -- ---- a look at a file
 -- walks leave the objects and the log as they are

@@ -3,3 +3,6 @@ pub mod Listing
 pub mod Calls
 pub mod Making
 pub mod Held
+pub mod Members
+pub mod Walked
+pub mod Pooled

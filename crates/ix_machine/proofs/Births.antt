@@ -1,11 +1,11 @@
 -- A child of a living process, in the world and in the parts that count it.
-use Rattle.std.proofs.Common.{◌≡◌, ◌<◌, ◌≤◌, ◌-◌, ◌^◌, ◌++◌, ◌∷◌, [], ℕ, Bool, true, false, true≢false, nat_lt, List, length, replicate, count_by}
-use Rattle.std.proofs.Common.{Option, Some, None, is_some, option_map, refl, sym, ap, subst, ◌∙◌, arith, inl, inr, if◌then◌else◌}
+use Rattle.std.proofs.Common.{◌≡◌, ◌<◌, ◌≤◌, ◌-◌, ◌^◌, ◌++◌, ◌∷◌, [], ℕ, Bool, true, false, true≢false, nat_lt, List, length, count_by}
+use Rattle.std.proofs.Common.{Option, Some, None, is_some, option_map, refl, sym, ap, subst, ◌∙◌, arith, if◌then◌else◌}
 use Rattle.std.specs.Option.{option_map_or}
 use Rattle.ix_model.specs.world.World.{World, Frame, Object, Process, at, living, is_dir}
 use Rattle.ix_model.specs.world.Contents.{carried}
 use Rattle.ix_model.specs.laws.Sound.{Sound}
-use Rattle.ix_model.specs.rows.OnProcesses.{fork, kept_fds, has_kept}
+use Rattle.ix_model.specs.rows.OnProcesses.{fork, has_kept}
 use Rattle.ix_model.specs.rows.Outcomes.{Outcome, Pass}
 use Rattle.ix_model.specs.rows.Rows.{◌>>=◌, ◌>>◌, on_pass, process, some, need, frame, pass, add_process}
 use Rattle.ix_model.specs.declared.reply.Reply.{Reply}
@@ -15,9 +15,9 @@ use Rattle.ix_model.specs.declared.call.Keep.TheVariants as keep
 use Rattle.ix_model.specs.declared.ids.Pid.{Pid}
 use Rattle.ix_model.specs.declared.config.Limits.{Limits}
 use Rattle.ix_model.specs.declared.views.Caller.{Caller}
-use Rattle.ix_model.proofs.opening.Openings.{all_one}
-use Rattle.ix_model.proofs.tables.Finds.{at_put, in_table}
+use Rattle.ix_model.proofs.tables.Finds.{in_table}
 use Rattle.ix_model.proofs.words.Living.{not_ended}
+use Rattle.ix_model.proofs.sound.Forking.{kept_is}
 use Rattle.ix_audit.specs.Lines.{Lines}
 use Rattle.ix_model.specs.world.Callers.{caller_of}
 use Rattle.ix_proc.specs.Table.{ProcTable, Adds, child_of, keeps}
@@ -28,18 +28,6 @@ use Rattle.ix_machine.specs.Joined.{joined, AreJoined}
 use Rattle.ix_machine.proofs.Carried.{carried_more}
 
 -- ---- the child's descriptors
-no_kept : (fd e : ℕ) → at (replicate 32 None) fd ≡ Some e → ⊥
-no_kept fd e h = true≢false (sym (ap is_some h) ∙ ap is_some (all_one {A = Option ℕ} None 32 fd))
-
--- each is one of the parent's
-kept_is : (k : Keep) (fds : List (Option ℕ)) (fd e : ℕ) → at (kept_fds k fds) fd ≡ Some e → at fds fd ≡ Some e
-kept_is keep.All fds fd e h = h
-kept_is keep.Nothing fds fd e h = absurd (no_kept fd e h)
-kept_is (keep.One one) fds fd e h = elim (at_put (replicate 32 None) one.0 fd (at fds one.0) e h) [
-  | inl here ↦ ap (at fds) here.0 ∙ here.1
-  | inr other ↦ absurd (no_kept fd e other.1)
-]
-
 pub kept_same : (k : Keep) (p : Process) → keeps k p.fds ≡ has_kept k p
 kept_same keep.All p = refl
 kept_same keep.Nothing p = refl

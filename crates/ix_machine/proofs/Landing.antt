@@ -6,11 +6,11 @@ use Rattle.ix_model.specs.world.World.{World, Frame, Object, at, is_dir, is_pipe
 use Rattle.ix_model.specs.declared.reply.Kind.{Kind}
 use Rattle.ix_model.specs.declared.reply.Kind.TheVariants as kind
 use Rattle.ix_model.specs.declared.ids.Obj.{Obj}
-use Rattle.ix_model.specs.rows.Outcomes.{Outcome, Refuse, Pass}
+use Rattle.ix_model.specs.rows.Outcomes.{Pass}
 use Rattle.ix_model.specs.rows.Walks.{Sought, node, walk, walked_to}
 use Rattle.ix_model.specs.rows.Walks as sought
 use Rattle.ix_model.specs.laws.Sound.{NamesSound, Sound}
-use Rattle.ix_model.proofs.words.Ends.{Ends, Anything, ends_bind, ends_then, ends_caller, ends_frame, ends_pass}
+use Rattle.ix_model.proofs.words.Ends.{known_passed, Ends, Anything, ends_bind, ends_then, ends_caller, ends_frame, ends_pass}
 use Rattle.ix_model.proofs.words.Looks.{ends_observe}
 use Rattle.ix_model.proofs.words.There.{child_named}
 use Rattle.ix_model.proofs.words.Walked.{Leads, walks}
@@ -53,18 +53,10 @@ walk_ends w pid path s =
     (λ q alive low. ends_pass _ _ Anything Q here)))))
     tt)
 
-passed : (o : Outcome Sought) (s : Sought) (g : Frame) (Q : Sought → Frame → Type 0) → o ≡ Pass s g → Ends o Anything Q → Q s g
-unfolding Ends
-passed (Refuse r h) s g Q is k = cc
-passed (Pass m h) s g Q is k =
-    let number : m ≡ s = cc in
-    let same : h ≡ g = cc in
-    subst (λ (x : Sought). Q x g) number (subst (λ (x : Frame). Q m x) same k)
-
 pub landed : (w : World) (pid : ℕ) (path : PathOf) (g : Frame) (e : Ending) (o : ℕ) (dir : Option Obj) → Sound w
     → walked_to pid path w.frame ≡ Pass (sought_of e) g → e ≡ ending.Found (record { 0 = o }) dir → is_inode (at g.objects o) ≡ true
 landed w pid path g e o dir s is ends =
-    let h = passed (walked_to pid path w.frame) (sought_of e) g (λ s g. Lands g.objects s) is (walk_ends w pid path s) in
+    let h = known_passed (walked_to pid path w.frame) (sought_of e) g (λ s g. Lands g.objects s) is (walk_ends w pid path s) in
     subst (λ (x : Ending). Lands g.objects (sought_of x)) ends h
 
 -- ---- what stands at a number at which a file or a directory stands

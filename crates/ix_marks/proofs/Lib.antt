@@ -1,6 +1,3 @@
-pub mod Members
-pub mod Walked
-pub mod Pooled
 pub mod Rows
 pub mod Seated
 pub mod Spots

@@ -1,10 +1,10 @@
 -- The rows stay seated in the buckets of their pids where one is taken and where one is left.
-use Rattle.std.proofs.Common.{◌≡◌, ◌==◌, ◌<◌, ◌%◌, ◌⊎◌, ◌||◌, ℕ, Bool, true, false, List, [], ◌∷◌, ◌++◌, length, find, Option, Some, None, replicate}
+use Rattle.std.proofs.Common.{◌≡◌, ◌==◌, ◌<◌, ◌%◌, ◌⊎◌, ◌||◌, ℕ, true, false, List, [], ◌∷◌, ◌++◌, length, find, Option, Some, None, replicate}
 use Rattle.std.proofs.Common.{zero, suc, refl, sym, ap, ◌∙◌, subst, arith, inl, inr, get_or, set, slice_get, if◌then◌else◌, cond, is_some, count_by}
 use Rattle.std.proofs.Common.{◌+◌}
 use Rattle.std.specs.List.{Contains}
 use Rattle.std.specs.Option.{option_map_or}
-use Rattle.std.proofs.lemmas.Bool.{eqb-true, eq-eqb, ne_eqb}
+use Rattle.std.proofs.lemmas.Bool.{eq-eqb, ne_eqb}
 use Rattle.std.proofs.lemmas.Bool.Decides.{eqb_tells}
 use Rattle.std.proofs.lemmas.List.{get_or-set_same, get_or-set_other, length-set, length-replicate}
 use Rattle.std.proofs.lemmas.List.Folds.{list_any-append}
@@ -16,27 +16,9 @@ use Rattle.ix_links.specs.Chains.{Chains, chain_of, pushed_back, removed, all_fr
 use Rattle.ix_links.specs.Whole.{IsPool}
 use Rattle.ix_links.proofs.Held.{free_below, pool-pushed_back, pool-removed, pool-all_free}
 use Rattle.ix_marks.specs.RowIndex.{row_of, pid_at, is_at, stands_in, AreDifferent, IsRowIndex}
-use Rattle.ix_marks.proofs.Members.{member, dropped, member-dropped_same, member-dropped_other, without_once}
-use Rattle.ix_marks.proofs.Pooled.{once, stands_contained, fresh, pushed}
+use Rattle.ix_links.proofs.Members.{member, dropped, member-dropped_same, member-dropped_other, without_once, passes, none_found}
+use Rattle.ix_links.proofs.Pooled.{once, stands_contained, fresh, pushed}
 use Rattle.ix_marks.proofs.Rows.{sits_is, is_sits, within, row_at, row_is, none_is, kept_row, different_more, different_fewer}
-
--- ---- a search in a bucket
-passes : (p : ℕ → Bool) (xs : List ℕ) (i : ℕ) → find p xs ≡ Some i → p i ≡ true
-passes p [] i h = absurd (cc h)
-passes p (x ∷ xs) i h = go (p x) refl (passes p xs i)
-  where
-    go : (b : Bool) → p x ≡ b → (find p xs ≡ Some i → p i ≡ true) → p i ≡ true
-    go true is rest = ap p (sym (same_Some x i (rw is at h))) ∙ is
-    go false is rest = rest (rw is at h)
-
-none_found : (p : ℕ → Bool) (xs : List ℕ) (j : ℕ) → find p xs ≡ None → member j xs ≡ true → p j ≡ false
-none_found p [] j h there = absurd (cc there)
-none_found p (x ∷ xs) j h there = go (p x) refl (x == j) refl (λ g t. none_found p xs j g t)
-  where
-    go : (b : Bool) → p x ≡ b → (s : Bool) → (x == j) ≡ s → (find p xs ≡ None → member j xs ≡ true → p j ≡ false) → p j ≡ false
-    go true is s same rest = absurd (cc (rw is at h))
-    go false is true same rest = ap p (sym (eqb-true x j same)) ∙ is
-    go false is false same rest = rest (rw is at h) (rw same at there)
 
 -- ---- each row in the bucket of its pid
 abbrev Filed : ℕ → List (List ℕ) → List (Option ℕ) → Type 0
@@ -171,7 +153,7 @@ module _ (pids : List (Option ℕ)) (buckets : Chains) (width : ℕ) (old : IsRo
             go (inr other) = rw other.0 (kept_row pids i (Some p) index_low different q (λ h. cc (free_there, h)) (λ h. other.1 (sym (same_Some p q h))))
 
         chains_more : (pushed_back (p % width) buckets).chains ≡ set buckets.chains (p % width) (chain_of (p % width) buckets ++ i ∷ [])
-        chains_more = (pushed (p % width) i buckets first).0
+        chains_more = (pushed (p % width) i buckets first).chains
 
         pub seated_more : (buckets' : Chains) → buckets' ≡ pushed_back (p % width) buckets → IsRowIndex (set pids i (Some p)) buckets' width
         seated_more buckets' is = subst (λ b. IsRowIndex (set pids i (Some p)) b width) (sym is) (record {
@@ -180,7 +162,7 @@ module _ (pids : List (Option ℕ)) (buckets : Chains) (width : ℕ) (old : IsRo
           wide = ap length chains_more ∙ length-set buckets.chains _ _ ∙ old.wide;
           some = old.some;
           pooled = pool-pushed_back (p % width) buckets (bucket_low p) ∙ old.pooled ∙ sym (length-set pids i (Some p));
-          spare = omega (arith, old.spare, (pushed (p % width) i buckets first).1, length-set pids i (Some p), counted i (Some p) None index_low free_there);
+          spare = omega (arith, old.spare, (pushed (p % width) i buckets first).fewer, length-set pids i (Some p), counted i (Some p) None index_low free_there);
         })
 
     -- ---- a row fewer

@@ -1,4 +1,5 @@
 pub mod Keeps
+pub mod LetGo
 pub mod Rowwise
 pub mod Lasts
 pub mod Ends
@@ -10,6 +11,7 @@ pub mod Living
 pub mod Fixed
 pub mod Walked
 pub mod Looks
+pub mod Transfers
 pub mod Standing
 pub mod There
 pub mod Turns

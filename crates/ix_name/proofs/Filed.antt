@@ -11,7 +11,7 @@ use Rattle.ix_name.specs.Entries.{entry_at, is_of, pair_of, pair_at, lists_of, s
 use Rattle.std.proofs.lemmas.Cmp.{nat_list_eq_equiv}
 use Rattle.std.proofs.lemmas.Bool.{and_parts, or_parts, eqb-true, eq-eqb, ne_eqb}
 use Rattle.std.proofs.Math.Bool.{or-true, or-false}
-use Rattle.ix_name.proofs.Members.{member, dropped, member-dropped_same, member-dropped_other}
+use Rattle.ix_links.proofs.Members.{member, dropped, member-dropped_same, member-dropped_other}
 use Rattle.ix_name.specs.declared.entry.Entry.{Entry}
 
 abbrev Pairs : Type 0

@@ -12,8 +12,8 @@ use Rattle.ix_name.specs.Buckets.{bucket_of}
 use Rattle.ix_name.specs.Entries.{entry_at, is_of, is_at, pair_of, pair_at, stands_in}
 use Rattle.ix_name.specs.Indexed.{directories, AreIndexed}
 use Rattle.ix_name.proofs.Filed.{names_of-lists, standing, stands, is_of_parts, is_of_from, same_refl, some_within}
-use Rattle.ix_name.proofs.Searched.{passes, none_hashed, none_is, found_is}
-use Rattle.ix_name.proofs.Members.{member_at, place_of}
+use Rattle.ix_name.proofs.Searched.{none_hashed, none_is, found_is}
+use Rattle.ix_links.proofs.Members.{member_at, place_of, passes}
 use Rattle.ix_name.proofs.Indexed.{dir_within, count_of}
 
 -- an entry of a name at an index

@@ -16,10 +16,10 @@ use Rattle.ix_name.specs.Directories.{Directories, with_more, with_fewer, names_
 use Rattle.ix_name.specs.Buckets.{bucket_of, bucket_in}
 use Rattle.ix_name.specs.Entries.{entry_at, is_of, pair_at, stands_in, lists_of, AreFiled}
 use Rattle.ix_name.specs.Indexed.{directories, AreIndexed}
-use Rattle.ix_name.proofs.Members.{dropped, without_once}
+use Rattle.ix_links.proofs.Members.{dropped, without_once}
 use Rattle.ix_name.proofs.Filed.{filed_more, lists_more, unique_more, filed_fewer, lists_fewer, unique_fewer, stands, is_of_parts}
 use Rattle.ix_name.proofs.Searched.{none_of}
-use Rattle.ix_name.proofs.Pooled.{once, stands_within, stands_contained, fresh, pushed}
+use Rattle.ix_links.proofs.Pooled.{once, stands_within, stands_contained, fresh, pushed}
 
 -- there is a count for each chain
 counts_all : (counts : List ℕ) (dirs : Chains) → counts ≡ map length dirs.chains → length counts ≡ length dirs.chains

@@ -1,7 +1,6 @@
 -- A search among the indices of a chain, and what a directory has under a name.
 use Rattle.std.proofs.Common.{◌≡◌, ◌==◌, ℕ, Bool, true, false, List, [], ◌∷◌, map, find, Option, Some, None, option_map, refl, sym, ap, ◌∙◌, get_or}
 use Rattle.std.specs.Option.{option_map_or}
-use Rattle.std.proofs.lemmas.Option.{same_Some}
 use Rattle.std.specs.Cmp.Lexicographic.{same_text}
 use Rattle.ix_name.specs.Buckets.{bucket_of, bucket_in}
 use Rattle.ix_model.specs.world.Naming.{same_bytes}
@@ -9,17 +8,9 @@ use Rattle.ix_name.specs.Directories.{under}
 use Rattle.ix_name.specs.Entries.{entry_at, is_of, pair_of, pair_at, lists_of, stands_in, AreFiled, AreUnique}
 use Rattle.std.proofs.lemmas.Bool.{eqb-true, eq-eqb}
 use Rattle.std.proofs.Math.Bool.{or-true}
-use Rattle.ix_name.proofs.Members.{member}
+use Rattle.ix_links.proofs.Members.{member, none_found}
 use Rattle.ix_name.proofs.Filed.{names_of-lists, standing, stands, is_of_parts, is_of_from}
 use Rattle.ix_name.specs.declared.entry.Entry.{Entry}
-
-pub passes : (p : ℕ → Bool) (xs : List ℕ) (i : ℕ) → find p xs ≡ Some i → p i ≡ true
-passes p [] i h = absurd (cc h)
-passes p (x ∷ xs) i h = go (p x) refl (passes p xs i)
-  where
-    go : (b : Bool) → p x ≡ b → (find p xs ≡ Some i → p i ≡ true) → p i ≡ true
-    go true is rest = ap p (sym (same_Some x i (rw is at h))) ∙ is
-    go false is rest = rest (rw is at h)
 
 find_one : (p : ℕ → Bool) (i : ℕ) (xs : List ℕ) → member i xs ≡ true → p i ≡ true → ((j : ℕ) → member j xs ≡ true → p j ≡ true → j ≡ i) → find p xs ≡ Some i
 find_one p i [] there yes_ one = absurd (cc there)
@@ -33,15 +24,6 @@ find_one p i (x ∷ xs) there yes_ one = go (p x) refl (x == i) refl there (λ r
 find_none : (p : ℕ → Bool) (xs : List ℕ) → ((j : ℕ) → member j xs ≡ true → p j ≡ false) → find p xs ≡ None
 find_none p [] never = refl
 find_none p (x ∷ xs) never = rw (never x (rw (eq-eqb x x refl) refl), find_none p xs (λ j h. never j (rw h (or-true (x == j))))) refl
-
-none_found : (p : ℕ → Bool) (xs : List ℕ) (j : ℕ) → find p xs ≡ None → member j xs ≡ true → p j ≡ false
-none_found p [] j h there = absurd (cc there)
-none_found p (x ∷ xs) j h there = go (p x) refl (x == j) refl (λ g t. none_found p xs j g t)
-  where
-    go : (b : Bool) → p x ≡ b → (s : Bool) → (x == j) ≡ s → (find p xs ≡ None → member j xs ≡ true → p j ≡ false) → p j ≡ false
-    go true is s same rest = absurd (cc (rw is at h))
-    go false is true same rest = ap p (sym (eqb-true x j same)) ∙ is
-    go false is false same rest = rest (rw is at h) (rw same at there)
 
 -- the object under a name, by a search among the indices
 under_by : (es : List (Option Entry)) (name : List ℕ) (xs : List ℕ) → under name (map (pair_at es) xs) ≡ option_map (λ i. (pair_at es i).1) (find (λ i. same_bytes (pair_at es i).0 name) xs)

@@ -42,7 +42,7 @@ reply_before (op.StatAt path) (reply.Stat o kind size links frozen cap lic) = re
 reply_before op.WaitChild (reply.Child p status) = reply.Child p 0
 reply_before _ r = r
 
-abbrev decision_before : Op → Given → Decision
+abbrev pub decision_before : Op → Given → Decision
 decision_before o g = record { reply = reply_before o g.reply; frame = g.world.frame }
 
 -- A call gives that: it is decided on the frame, and then answered from the content. The two are computed one after the

@@ -2,12 +2,10 @@ mod Computing
 mod Labels
 mod Worlds
 mod Chains
-mod floating
-mod privileges
-mod files
-mod processes
-mod pipes
-mod short
+mod Moves
 mod Fitting
+mod TwoBytes
+mod worked
+mod short
 mod runs
 mod ToldUp

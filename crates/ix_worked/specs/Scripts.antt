@@ -1,5 +1,5 @@
 -- The words that the sessions' configs and histories are written in.
-use Rattle.std.specs.Prelude.{ℕ, true, false, List, [], ◌∷◌, Some, None, codes}
+use Rattle.std.specs.Prelude.{ℕ, true, false, List, [], ◌∷◌, length, Some, None, codes}
 use Rattle.ix_label.specs.Category.{Categories, bottom, top, with}
 use Rattle.ix_model.specs.world.Naming.{PathOf}
 use Rattle.ix_model.specs.world.Privs.{no_privileges}
@@ -103,6 +103,16 @@ by pid op = entry 0 pid op
 -- a line of a report; the caller's record may be gone after it
 abbrev pub gives : Reply → List ℕ → Categories → Line
 gives reply bytes label = record { reply = reply; bytes = bytes; label = Some label }
+
+-- lines of an answer by a number, one by bytes, and one that tells nothing more
+abbrev pub gives_number : ℕ → Categories → Line
+gives_number n label = gives (reply.Number n) [] label
+
+abbrev pub gives_bytes : List ℕ → Categories → Line
+gives_bytes bytes label = gives (reply.Bytes (length bytes)) bytes label
+
+abbrev pub gives_done : Categories → Line
+gives_done label = gives reply.Done [] label
 
 abbrev pub ends : Line
 ends = record { reply = reply.Done; bytes = []; label = None }

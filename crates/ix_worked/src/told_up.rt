@@ -35,7 +35,7 @@ pub fn a_pipe_tells_up()
 
 /// How much a high child writes through an open entry that it shares with its parent shows in what the parent reads next,
 /// and the parent is high then.
-#[tactic(auto, using(crate::proofs::ToldUp::notebook_fits, crate::proofs::ToldUp::shared_with_one, crate::proofs::ToldUp::shared_with_three))]
+#[tactic(auto, using(crate::proofs::Fitting::notebook_fits, crate::proofs::ToldUp::shared_with_one, crate::proofs::ToldUp::shared_with_three))]
 pub fn a_shared_offset_tells_up()
     ensures valid { is_valid notebook ≡ true }
     ensures one { Goes notebook (sharing_with_high (codes "x") (codes "b")) }
@@ -44,7 +44,7 @@ pub fn a_shared_offset_tells_up()
 {}
 
 /// How much a high process has written into a file shows in the size that is told of it, to one that is high then.
-#[tactic(auto, using(crate::proofs::ToldUp::drawer_fits, crate::proofs::ToldUp::looked_at_two, crate::proofs::ToldUp::looked_at_three))]
+#[tactic(auto, using(crate::proofs::Fitting::drawer_fits, crate::proofs::ToldUp::looked_at_two, crate::proofs::ToldUp::looked_at_three))]
 pub fn a_size_is_told_up()
     ensures valid { is_valid drawer ≡ true }
     ensures two { Goes drawer (looking_at_high (codes "AA")) }
@@ -54,7 +54,7 @@ pub fn a_size_is_told_up()
 
 /// What a high process wrote is read by one that stays low, once the file was let down across bottom. The log tells that,
 /// and tells the same whatever was written.
-#[tactic(auto, using(crate::proofs::ToldUp::bureau_fits, crate::proofs::ToldUp::let_down))]
+#[tactic(auto, using(crate::proofs::Fitting::bureau_fits, crate::proofs::ToldUp::let_down))]
 pub fn a_lowering_lets_through_and_is_logged()
     ensures valid { is_valid bureau ≡ true }
     ensures goes { (byte : ℕ) → Goes bureau (letting_down byte) }

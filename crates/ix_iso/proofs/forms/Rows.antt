@@ -2,7 +2,6 @@
 use Rattle.std.proofs.Common.{◌≡◌, ℕ, Bool, true, false, not, List, [], ◌∷◌, Option, Some, None, option_map, refl, subst, if◌then◌else◌}
 use Rattle.std.specs.Prelude.{slice_get, unwrap_or}
 use Rattle.std.specs.Option.{option_map_or}
-use Rattle.std.specs.List.{range_with_len}
 use Rattle.ix_label.specs.declared.form.Form.{Form}
 use Rattle.ix_label.specs.Category.{Categories, bottom, join}
 use Rattle.ix_label.specs.Forms.{Fits}
@@ -13,7 +12,7 @@ use Rattle.ix_model.specs.rows.Rows.{◌>>=◌, ◌>>◌, on_pass, pass, refuse,
 use Rattle.ix_model.specs.rows.Rows.{change_open, put_object, put_open, put_process, add_process, observe, affect}
 use Rattle.ix_model.specs.rows.Walks.{OpenFile, NotDir, nothing, node, child, behind, behind_of, entry_at, join_all, looking_into, lacking, walk}
 use Rattle.ix_model.specs.rows.Walks.{walk_from, walked_to, object_at, spot_at, missing, opened}
-use Rattle.ix_model.specs.rows.Lifetimes.{let_go_object, let_go_open, let_go_claim, let_go, let_go_if_held, let_go_each, let_go_all, has_lost}
+use Rattle.ix_model.specs.rows.Lifetimes.{let_go_object, let_go, let_go_all}
 use Rattle.ix_model.specs.rows.Auditing.{logged}
 use Rattle.ix_model.specs.rows.OnPaths.{make, create_at, make_dir, open_at, link_at, unlink_at, remove_dir, change_dir, stat_at, list_at}
 use Rattle.ix_model.specs.rows.OnDescriptors.{LengthChecks, float_entry, read_fd, write_fd, cut_fd, seek_fd, dup_fd, close_fd, make_pipe, claimed, pex, unpex}
@@ -32,7 +31,8 @@ use Rattle.ix_model.specs.declared.refusal.Refusal.TheVariants as refusal
 use Rattle.ix_model.specs.declared.reply.Kind.{Kind}
 use Rattle.ix_model.specs.declared.reply.Kind.TheVariants as kind
 use Rattle.ix_model.specs.declared.reply.Reply.{Reply}
-use Rattle.ix_model.proofs.words.Keeps.{Holds, Keeps, keeping, keeping_tests, keeps_then, keeps_pass, keeps_only_if}
+use Rattle.ix_model.proofs.words.LetGo.{LetsGo, keeps_let_go_object, keeps_let_go, keeps_let_go_all}
+use Rattle.ix_model.proofs.words.Keeps.{Holds, Keeps, keeping, keeping_tests, keeps_only_if}
 use Rattle.ix_model.proofs.words.Living.{is_living}
 use Rattle.ix_model.proofs.words.Rowwise.{keeps_bind_frame}
 use Rattle.ix_iso.specs.Forms.{FrameFits}
@@ -252,38 +252,17 @@ module _ (form : Form) where
   k_float_entry p x e fits = keeps_only_if R (not (is_pipe x)) _ (w_open e.id _ (λ y h. join_fits y.label p.label h fits))
 
   -- ---- what goes
+  k_going : (pid : ℕ) → LetsGo R pid
+  k_going pid = record { free = λ fd. search wording depth 20; unclaim = λ o end. w_object o _ (λ x h. h); close = w_no_open; gone = w_no_object }
+
   k_let_go_object : (o : ℕ) → Keeps R (let_go_object o)
-  unfolding let_go_object
-  k_let_go_object o = record { led = λ g. (keeps_only_if R _ (put_object o None) (w_no_object o)).led g }
-
-  k_let_go_open : (e : ℕ) → Keeps R (let_go_open e)
-  unfolding let_go_open
-  k_let_go_open e = record { led = λ g. (keeps_only_if R _ (put_open e None) (w_no_open e)).led g }
-
-  k_let_go_claim : (pid o end : ℕ) → Keeps R (let_go_claim pid o end)
-  unfolding let_go_claim
-  k_let_go_claim pid o end = record { led = λ g. (keeps_only_if R (has_lost g pid o end) _ (w_object o _ (λ x h. h))).led g }
+  k_let_go_object o = keeps_let_go_object R 0 (k_going 0) o
 
   k_let_go : (pid fd : ℕ) (e : OpenFile) → Keeps R (let_go pid fd e)
-  unfolding let_go
-  k_let_go pid fd e = search (wording, k_let_go_object, k_let_go_open, k_let_go_claim) depth 30
-
-  k_let_go_if_held : (pid fd : ℕ) → Keeps R (let_go_if_held pid fd)
-  unfolding let_go_if_held
-  k_let_go_if_held pid fd = record { led = λ g r. (go (behind g pid fd)).led g r }
-    where
-      go : (b : Option OpenFile) → Keeps R (option_map_or (let_go pid fd) b (pass tt))
-      go None = keeps_pass R tt
-      go (Some e) = k_let_go pid fd e
-
-  k_let_go_each : (pid : ℕ) (fds : List ℕ) → Keeps R (let_go_each pid fds)
-  unfolding let_go_each
-  k_let_go_each pid [] = keeps_pass R tt
-  k_let_go_each pid (fd ∷ fds) = keeps_then R _ _ (k_let_go_if_held pid fd) (k_let_go_each pid fds)
+  k_let_go pid = keeps_let_go R pid (k_going pid)
 
   k_let_go_all : (pid : ℕ) → Keeps R (let_go_all pid)
-  unfolding let_go_all
-  k_let_go_all pid = k_let_go_each pid (range_with_len 0 32)
+  k_let_go_all pid = keeps_let_go_all R pid (k_going pid)
 
   -- ---- the rows
   ruleset rows = (

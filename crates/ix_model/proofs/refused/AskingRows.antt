@@ -32,8 +32,8 @@ use Rattle.ix_model.specs.declared.refusal.Refusal.{Refusal}
 use Rattle.ix_model.specs.declared.refusal.Refusal.TheVariants as refusal
 use Rattle.ix_model.proofs.frames.Frames.{FrameSound, frame_of}
 use Rattle.ix_model.proofs.refused.Refusing.{Relabelled, relabelled_itself, refusing_row, plain_answer, decided_frames}
-use Rattle.ix_model.proofs.words.Ends.{Ends, ends_bind, ends_then, ends_pass, ends_refuse, ends_frame, ends_need, ends_some, ends_only_if}
-use Rattle.ix_model.proofs.words.Ends.{ends_change_object, ends_change_caller, ends_change_open, ends_put_open, ends_there}
+use Rattle.ix_model.proofs.words.Ends.{Ends, plain}
+use Rattle.ix_model.proofs.words.Ends.{ends_change_open}
 use Rattle.ix_model.proofs.words.Endings.{ends_put_object, ends_put_process, ends_add_process}
 use Rattle.ix_model.proofs.words.RowEnds.{ends_spot, ends_vacant, ends_end_process, ends_logged, ends_let_go_object, ends_let_go, ends_let_go_all}
 use Rattle.ix_model.proofs.words.Looks.{ends_float_entry}
@@ -69,19 +69,8 @@ module _ (f : Frame) (s : FrameSound f) (pid : ℕ) (alive : lives f pid ≡ tru
 
   -- one lemma for each word
   ruleset asking = (
-    ends_bind,
-    ends_then,
-    ends_pass,
-    ends_refuse,
-    ends_frame,
-    ends_need,
-    ends_some,
-    ends_only_if,
-    ends_change_object,
-    ends_change_caller,
+    plain,
     ends_change_open,
-    ends_put_open,
-    ends_there,
     ends_put_object,
     ends_put_process,
     ends_add_process,

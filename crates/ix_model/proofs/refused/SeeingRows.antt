@@ -30,7 +30,7 @@ use Rattle.ix_model.specs.declared.refusal.Refusal.TheVariants as refusal
 use Rattle.ix_model.proofs.words.Ends.{Ends, ending}
 use Rattle.ix_model.proofs.refused.Refusing.{Relabelled, refusing_row}
 use Rattle.ix_model.proofs.words.Endings.{ends_record_of, ends_put_object, ends_put_process, ends_add_process}
-use Rattle.ix_model.proofs.words.RowEnds.{ends_spot, ends_vacant, ends_end_process, ends_logged, ends_let_go_object, ends_let_go, ends_let_go_all}
+use Rattle.ix_model.proofs.words.RowEnds.{storing, ends_spot, ends_vacant, ends_end_process, ends_logged, ends_let_go_object, ends_let_go, ends_let_go_all}
 use Rattle.ix_model.proofs.words.Looks.{ends_float_entry}
 use Rattle.ix_model.proofs.refused.Seeing.{Seen, join_nothing, nothing_joined, seen_nothing, ends_seen, ends_seen_walk, ends_moved}
 
@@ -74,15 +74,7 @@ module _ (pid : ℕ) (f : Frame) (start : Seen pid f bottom f) where
     exercised x = search (ending, refused, next) depth 40
 
   ruleset seeing = (
-    ending,
-    ends_record_of,
-    ends_spot,
-    ends_vacant,
-    ends_put_object,
-    ends_put_process,
-    ends_add_process,
-    ends_end_process,
-    ends_logged,
+    storing,
     ends_let_go_object,
     ends_let_go,
     ends_let_go_all,

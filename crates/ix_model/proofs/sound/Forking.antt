@@ -25,7 +25,7 @@ no_kept : (fd e : ℕ) → at (replicate 32 None) fd ≡ Some e → ⊥
 no_kept fd e h = true≢false (sym (ap is_some h) ∙ ap is_some (all_one {A = Option ℕ} None 32 fd))
 
 -- each is one of the parent's
-kept_is : (k : Keep) (fds : List (Option ℕ)) (fd e : ℕ) → at (kept_fds k fds) fd ≡ Some e → at fds fd ≡ Some e
+pub kept_is : (k : Keep) (fds : List (Option ℕ)) (fd e : ℕ) → at (kept_fds k fds) fd ≡ Some e → at fds fd ≡ Some e
 kept_is keep.All fds fd e h = h
 kept_is keep.Nothing fds fd e h = absurd (no_kept fd e h)
 kept_is (keep.One one) fds fd e h = elim (at_put (replicate 32 None) one.0 fd (at fds one.0) e h) [

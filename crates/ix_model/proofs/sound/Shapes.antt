@@ -1,12 +1,12 @@
 -- What stands at a number after a call: two places for claims, empty where it is no pipe, and pipes' open entries at bottom.
-use Rattle.std.proofs.Common.{◌≡◌, ◌≤◌, ℕ, zero, suc, Bool, true, false, true≢false, not, List, length, length-set, Option, Some, None, is_none, refl, sym, ap, ◌∙◌, subst, arith, inl, inr, ◌&&◌, ◌-◌}
+use Rattle.std.proofs.Common.{◌≡◌, ◌≤◌, ℕ, zero, suc, Bool, true, false, true≢false, not, List, length, length-set, Option, Some, None, is_none, refl, sym, ap, ◌∙◌, subst, arith, inl, inr, ◌-◌}
 use Rattle.std.specs.Option.{option_map_or}
 use Rattle.std.proofs.lemmas.Bool.{not-true}
 use Rattle.ix_label.specs.Category.{bottom}
 use Rattle.ix_model.specs.rows.OnPaths.{new_object}
 use Rattle.ix_model.specs.world.Numbers.{first_pipe}
-use Rattle.ix_model.specs.world.World.{Frame, Object, Process, Open, at, put, change, is_dir, is_pipe, no_claims, held}
-use Rattle.ix_model.specs.rows.Rows.{◌>>◌, change_process, change_object, change_open, put_object, put_process, put_open, add_process, process, ◌>>=◌, pass, need, frame}
+use Rattle.ix_model.specs.world.World.{Frame, Object, Process, Open, at, put, change, is_dir, is_pipe, no_claims}
+use Rattle.ix_model.specs.rows.Rows.{◌>>◌, change_process, change_object, change_open, put_object, put_process, put_open, add_process, process, pass}
 use Rattle.ix_model.specs.rows.Walks.{OpenFile}
 use Rattle.ix_model.specs.rows.Auditing.{logged}
 use Rattle.ix_model.specs.rows.OnDescriptors.{LengthChecks, float_entry, read_fd, write_fd, seek_fd, pex, claimed, read_passed, write_passed}
@@ -20,13 +20,13 @@ use Rattle.ix_model.specs.declared.reply.Kind.TheVariants as kind
 use Rattle.ix_model.specs.declared.reply.Reply.{Reply}
 use Rattle.ix_model.specs.declared.reply.Reply.TheVariants as reply
 use Rattle.ix_model.specs.declared.refusal.Refusal.{Refusal}
-use Rattle.ix_model.specs.declared.refusal.Refusal.TheVariants as refusal
 use Rattle.ix_model.proofs.tables.Finds.{at_put, at_change, passes_some}
 use Rattle.ix_model.proofs.tables.Inodes.{first_within}
 use Rattle.ix_model.proofs.words.Keeps.{Holds, keeps_claimed}
-use Rattle.ix_model.proofs.words.Ends.{Ends, kept_ends, ends_kept, ends_bind, ends_then, ends_pass, ends_frame, ends_need, ends_caller, ends_object}
-use Rattle.ix_model.proofs.words.Ends.{ends_opened, ends_only_if, ends_change_object, ends_change_open}
+use Rattle.ix_model.proofs.words.Ends.{Ends, kept_ends, ends_kept, ends_bind, ends_then, ends_pass, ends_need, ends_caller, ends_object}
+use Rattle.ix_model.proofs.words.Ends.{ends_opened, ends_change_object}
 use Rattle.ix_model.proofs.words.Looks.{ends_observe, ends_affect}
+use Rattle.ix_model.proofs.words.Transfers.{read_behind, ends_read, ends_read_behind, ends_write, ends_floated}
 use Rattle.ix_model.proofs.words.Lasts.{decided}
 use Rattle.ix_model.proofs.words.Standing.{behind_is}
 use Rattle.ix_model.proofs.words.Rowwise.{Change, Claiming, Moving, Words, kept_row}
@@ -223,51 +223,22 @@ module _ (f : Frame) (limits : WithinLimits f) (r : LowEntries f f) where
 
   floated : (p : Process) (x : Object) (e : OpenFile) (a : Reply) (g : Frame) → g.opens ≡ f.opens → g.fss ≡ f.fss → at f.opens e.id ≡ Some e.entry
       → at f.objects e.entry.object ≡ Some x → Ends (◌>>◌ (float_entry p x e) (pass a) g) PL QL
-  unfolding float_entry PL QL
-  floated p x e a g opens fss stands here =
-      ends_then _ _ g PL QL (ends_only_if _ _ g PL _
-      (λ file. ends_change_open e.id _ g PL _ (ends_pass _ _ PL QL (low_moved g e x _ (λ y. refl) opens fss stands here (not-true _ file))))
-      (λ pipe. ends_pass _ _ PL QL (same_low g opens fss)))
-
-  read_rest : (t : LengthChecks) (pid : ℕ) (x : Object) (e : OpenFile) (g : Frame) → g.opens ≡ f.opens → g.fss ≡ f.fss → at f.opens e.id ≡ Some e.entry → at f.objects e.entry.object ≡ Some x
-      → Ends (◌>>=◌ frame (λ h. ◌>>◌ (need (not (is_pipe x && t.empty && held h.opens e.entry.object (1 - e.entry.end))) refusal.Again)
-      (◌>>=◌ (process pid) (λ p. ◌>>◌ (float_entry p x e) (pass read_passed)))) g) PL QL
   unfolding PL QL
-  read_rest t pid x e g opens fss stands here =
-      let s = same_low g opens fss in
-      ends_bind _ _ g PL QL (ends_frame g PL _ (
-      ends_then _ _ g PL QL (ends_need _ _ g PL _ (λ some.
-      ends_bind _ _ g PL QL (ends_caller pid g PL _ (λ p lives. floated p x e read_passed g opens fss stands here) s)) s)))
+  floated p x e a g opens fss stands here = ends_floated PL QL p x e a g (λ file. low_moved g e x _ (λ y. refl) opens fss stands here (not-true _ file)) (λ pipe. same_low g opens fss)
 
   low_read : (t : LengthChecks) (pid fd count : ℕ) → Ends (read_fd t pid fd count f) PL QL
-  unfolding read_fd PL QL
-  low_read t pid fd count =
-      ends_bind _ _ f PL QL (ends_opened pid fd f PL _ (λ e is.
-      ends_then _ _ f PL QL (ends_need _ _ f PL _ (λ may.
-      ends_bind _ _ f PL QL (ends_object e.entry.object f PL _ (λ x here.
-      ends_then _ _ f PL QL (ends_need _ _ f PL _ (λ free.
-      ends_then _ _ f PL QL (ends_need _ _ f PL _ (λ few.
+  unfolding PL QL
+  low_read t pid fd count = ends_read f PL QL (λ why. r) t pid fd count (λ e is x here.
       let stands = behind_is f pid fd e is in
-      ends_then _ _ f PL QL (ends_observe pid _ f PL _ (λ why. r) (read_rest t pid x e f refl refl stands here) (λ p lives low. read_rest t pid x e _ refl refl stands here)))
-      r)) r)) r)) r)) r)
+      let rest : (g : Frame) → g.opens ≡ f.opens → g.fss ≡ f.fss → Ends (read_behind t pid e x g) PL QL =
+      λ g opens fss. ends_read_behind g PL QL (λ why. same_low g opens fss) t pid e x (λ p lives. floated p x e read_passed g opens fss stands here) in
+      ends_then _ _ f PL QL (ends_observe pid _ f PL _ (λ why. r) (rest f refl refl) (λ p lives low. rest _ refl refl)))
 
   low_write : (t : LengthChecks) (pid fd : ℕ) → Ends (write_fd t pid fd f) PL QL
-  unfolding write_fd PL QL
-  low_write t pid fd =
-      ends_bind _ _ f PL QL (ends_opened pid fd f PL _ (λ e is.
-      ends_then _ _ f PL QL (ends_need _ _ f PL _ (λ may.
-      ends_bind _ _ f PL QL (ends_object e.entry.object f PL _ (λ x here.
-      ends_then _ _ f PL QL (ends_need _ _ f PL _ (λ free.
-      ends_then _ _ f PL QL (ends_need _ _ f PL _ (λ few.
-      ends_then _ _ f PL QL (ends_need _ _ f PL _ (λ plain.
-      ends_bind _ _ f PL QL (ends_frame f PL _ (
-      ends_then _ _ f PL QL (ends_need _ _ f PL _ (λ whole.
-      ends_then _ _ f PL QL (ends_need _ _ f PL _ (λ room.
-      ends_then _ _ f PL QL (ends_need _ _ f PL _ (λ space.
-      ends_bind _ _ f PL QL (ends_caller pid f PL _ (λ p lives.
+  unfolding PL QL
+  low_write t pid fd = ends_write f PL QL (λ why. r) t pid fd (λ e is x here p lives.
       let stands = behind_is f pid fd e is in
       ends_then _ _ f PL QL (ends_affect pid _ _ f PL _ (λ why. r) (floated p x e write_passed f refl refl stands here) (λ l y there low. floated p x e write_passed _ refl refl stands here)))
-      r)) r)) r)) r)))) r)) r)) r)) r)) r)) r)
 
   low_seek : (pid fd offset : ℕ) → Ends (seek_fd pid fd offset f) PL QL
   unfolding seek_fd PL QL

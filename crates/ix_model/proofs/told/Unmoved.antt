@@ -1,15 +1,14 @@
 -- The privileges of processes and objects: what rows leave of them that change none.
-use Rattle.std.specs.Option.{option_map_or, option_and_then}
-use Rattle.std.specs.List.{range_with_len}
+use Rattle.std.specs.Option.{option_and_then}
 use Rattle.std.proofs.Common.{◌≡◌, ◌≤◌, ℕ, Bool, true, false, true≢false, List, [], ◌∷◌, ◌++◌, length, Option, Some, None, is_some, option_map, refl}
 use Rattle.std.proofs.Common.{sym, ap, ◌∙◌, subst, arith, inl, inr, if◌then◌else◌}
 use Rattle.ix_label.specs.Category.{Categories}
 use Rattle.ix_model.specs.world.Naming.{PathOf}
 use Rattle.ix_model.specs.world.Numbers.{free_inode, free_pipe}
 use Rattle.ix_model.specs.world.World.{Frame, Object, Process, Open, at, put, change}
-use Rattle.ix_model.specs.rows.Rows.{pass, change_object, change_process, put_object, put_process, put_open, change_open, observe, affect}
-use Rattle.ix_model.specs.rows.Walks.{OpenFile, behind, walked_to, object_at, spot_at, missing, opened}
-use Rattle.ix_model.specs.rows.Lifetimes.{let_go_object, let_go_open, let_go_claim, let_go, let_go_if_held, let_go_each, let_go_all, has_lost}
+use Rattle.ix_model.specs.rows.Rows.{change_object, change_process, put_object, put_process, put_open, change_open, observe, affect}
+use Rattle.ix_model.specs.rows.Walks.{OpenFile, walked_to, object_at, spot_at, missing, opened}
+use Rattle.ix_model.specs.rows.Lifetimes.{let_go_object, let_go, let_go_all}
 use Rattle.ix_model.specs.rows.Auditing.{logged}
 use Rattle.ix_model.specs.rows.OnPaths.{new_object, make, open_at, link_at, unlink_at, remove_dir, change_dir, stat_at, list_at}
 use Rattle.ix_model.specs.rows.OnDescriptors.{LengthChecks, float_entry, read_fd, write_fd, cut_fd, seek_fd, dup_fd, close_fd, make_pipe, pex, unpex}
@@ -23,7 +22,8 @@ use Rattle.ix_model.specs.declared.reply.Kind.TheVariants as kind
 use Rattle.ix_model.proofs.tables.Finds.{at_put, at_push, at_change, in_table}
 use Rattle.ix_model.proofs.tables.FreeNumbers.{free_inode_is, free_pipe_is}
 use Rattle.ix_model.proofs.words.Lasts.{Lasting, lasting_itself, lasting_change, lasting_put}
-use Rattle.ix_model.proofs.words.Keeps.{Holds, Keeps, keeping, keeping_tests, keeps_then, keeps_pass, keeps_only_if}
+use Rattle.ix_model.proofs.words.LetGo.{LetsGo, keeps_let_go_object, keeps_let_go, keeps_let_go_all}
+use Rattle.ix_model.proofs.words.Keeps.{Holds, Keeps, keeping, keeping_tests}
 use Rattle.ix_model.proofs.words.Rowwise.{keeps_bind_frame, keeps_bind_some}
 
 -- ---- tables
@@ -236,38 +236,17 @@ module _ (f : Frame) (pid : ℕ) (loses : Bool) where
   u_opened fd = search words depth 30
 
   -- ---- what goes
+  u_going : loses ≡ true → LetsGo R pid
+  u_going can = record { free = λ fd. search words depth 20; unclaim = λ o end. u_change_object o _ (λ x. refl); close = λ e. u_put_open e None; gone = u_no_object can }
+
   u_let_go_object : loses ≡ true → (o : ℕ) → Keeps R (let_go_object o)
-  unfolding let_go_object
-  u_let_go_object can o = record { led = λ g. (keeps_only_if R _ (put_object o None) (u_no_object can o)).led g }
-
-  u_let_go_open : (e : ℕ) → Keeps R (let_go_open e)
-  unfolding let_go_open
-  u_let_go_open e = record { led = λ g. (keeps_only_if R _ (put_open e None) (u_put_open e None)).led g }
-
-  u_let_go_claim : (o end : ℕ) → Keeps R (let_go_claim pid o end)
-  unfolding let_go_claim
-  u_let_go_claim o end = record { led = λ g. (keeps_only_if R (has_lost g pid o end) _ (u_change_object o _ (λ x. refl))).led g }
+  u_let_go_object can = keeps_let_go_object R pid (u_going can)
 
   u_let_go : loses ≡ true → (fd : ℕ) (e : OpenFile) → Keeps R (let_go pid fd e)
-  unfolding let_go
-  u_let_go can fd e = search (words, u_let_go_object, u_let_go_open, u_let_go_claim) depth 30
-
-  u_let_go_if_held : loses ≡ true → (fd : ℕ) → Keeps R (let_go_if_held pid fd)
-  unfolding let_go_if_held
-  u_let_go_if_held can fd = record { led = λ g r. (go (behind g pid fd)).led g r }
-    where
-      go : (b : Option OpenFile) → Keeps R (option_map_or (let_go pid fd) b (pass tt))
-      go None = keeps_pass R tt
-      go (Some e) = u_let_go can fd e
-
-  u_let_go_each : loses ≡ true → (fds : List ℕ) → Keeps R (let_go_each pid fds)
-  unfolding let_go_each
-  u_let_go_each can [] = keeps_pass R tt
-  u_let_go_each can (fd ∷ fds) = keeps_then R _ _ (u_let_go_if_held can fd) (u_let_go_each can fds)
+  u_let_go can = keeps_let_go R pid (u_going can)
 
   u_let_go_all : loses ≡ true → Keeps R (let_go_all pid)
-  unfolding let_go_all
-  u_let_go_all can = u_let_go_each can (range_with_len 0 32)
+  u_let_go_all can = keeps_let_go_all R pid (u_going can)
 
   -- ---- the rows
   ruleset rows = (words, u_observe, u_affect, u_float_entry, u_walked_to, u_object_at, u_spot_at, u_missing, u_opened, u_let_go_object, u_let_go, u_let_go_all)

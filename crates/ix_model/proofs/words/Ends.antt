@@ -1,5 +1,5 @@
 -- What is known where a row ends: P of a refusal and its frame, Q of what it passes and its frame.
-use Rattle.std.proofs.Common.{ℕ, ◌≡◌, Bool, true, false, Option, Some, None, refl}
+use Rattle.std.proofs.Common.{ℕ, ◌≡◌, Bool, true, false, Option, Some, None, refl, subst}
 use Rattle.ix_model.specs.world.World.{Frame, Object, Process, Open, at, put, change, living}
 use Rattle.ix_model.specs.rows.Outcomes.{Row, Outcome, Refuse, Pass}
 use Rattle.ix_model.specs.rows.Rows.{◌>>=◌, ◌>>◌, on_pass, pass, refuse, need, some, only_if, frame, process, object, change_object, change_process, put_open, change_open}
@@ -39,6 +39,15 @@ pub kept_ends : {A : Type 0} (R : Frame → Type 0) (o : Outcome A) → Ends o (
 unfolding Ends Holds
 kept_ends R (Refuse r g) h = h
 kept_ends R (Pass a g) h = h
+
+-- what is known of a row that passed
+pub known_passed : {A : Type 0} (o : Outcome A) (a : A) (g : Frame) (Q : A → Frame → Type 0) → o ≡ Pass a g → Ends o Anything Q → Q a g
+unfolding Ends
+known_passed (Refuse r h) a g Q is k = cc
+known_passed {A = A} (Pass m h) a g Q is k =
+    let number : m ≡ a = cc in
+    let same : h ≡ g = cc in
+    subst (λ (x : A). Q x g) number (subst (λ (x : Frame). Q m x) same k)
 
 module _ {A B : Type 0} where
   pub ends_bind : (m : Row A) (k : A → Row B) (f : Frame) (P : Refusal → Frame → Type 0) (Q : B → Frame → Type 0) → Ends (m f) P (λ a g. Ends (k a g) P Q) → Ends (◌>>=◌ m k f) P Q
@@ -118,8 +127,8 @@ pub ends_opened : (pid fd : ℕ) (f : Frame) (P : Refusal → Frame → Type 0) 
 unfolding opened
 ends_opened pid fd f P Q h k = ends_bind _ _ f P Q (ends_frame f P _ (ends_some _ _ _ _ _ h k))
 
--- one lemma for each word
-pub ruleset ending = (
+-- one lemma for each word: those that ask for nothing of the frame, and all
+pub ruleset plain = (
   ends_bind,
   ends_then,
   ends_pass,
@@ -128,11 +137,10 @@ pub ruleset ending = (
   ends_need,
   ends_some,
   ends_only_if,
-  ends_caller,
-  ends_object,
   ends_change_object,
   ends_change_caller,
   ends_put_open,
   ends_there,
-  ends_opened,
 )
+
+pub ruleset ending = (plain, ends_caller, ends_object, ends_opened)

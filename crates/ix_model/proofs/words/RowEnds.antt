@@ -69,22 +69,9 @@ unfolding Ends logged
 ends_logged l f P Q k = k
 
 -- one lemma for each of these words
-pub ruleset endings = (
-  ending,
-  ends_entitled,
-  ends_log_has_room,
-  ends_exercise,
-  ends_allowed,
-  ends_movable,
-  ends_record_of,
-  ends_spot,
-  ends_vacant,
-  ends_put_object,
-  ends_put_process,
-  ends_add_process,
-  ends_end_process,
-  ends_logged,
-)
+pub ruleset storing = (ending, ends_record_of, ends_spot, ends_vacant, ends_put_object, ends_put_process, ends_add_process, ends_end_process, ends_logged)
+
+pub ruleset endings = (storing, ends_entitled, ends_log_has_room, ends_exercise, ends_allowed, ends_movable)
 
 -- ---- what lets go
 -- a word that refuses nothing, whatever frame it leaves

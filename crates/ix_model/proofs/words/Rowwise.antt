@@ -1,7 +1,6 @@
 -- What every word that changes something keeps, every row keeps.
 use Rattle.std.proofs.Common.{ℕ, ◌≡◌, ◌&&◌, Bool, true, false, List, [], ◌∷◌, Option, Some, None, is_some, refl, sym, ap, ◌∙◌, true≢false, not, inl, inr}
-use Rattle.std.specs.Option.{option_map_or}
-use Rattle.std.specs.List.{list_all, range_with_len}
+use Rattle.std.specs.List.{list_all}
 use Rattle.std.proofs.lemmas.Bool.{and_parts}
 use Rattle.std.proofs.lemmas.Bool.Decides.{eqb_tells}
 use Rattle.std.proofs.lemmas.List.{get_or-set_same, get_or-set_other}
@@ -13,8 +12,8 @@ use Rattle.ix_model.specs.world.Numbers.{free_inode, free_pipe}
 use Rattle.ix_model.specs.world.World.{Frame, Object, Process, Open, at, put, lowest_free, no_claims, is_pipe}
 use Rattle.ix_model.specs.rows.Outcomes.{Row}
 use Rattle.ix_model.specs.rows.Rows.{◌>>=◌, some, frame, pass, put_open, change_open, put_object, put_process, add_process, change_object, change_process, observe, affect}
-use Rattle.ix_model.specs.rows.Walks.{OpenFile, behind, walked_to, object_at, spot_at, missing, opened}
-use Rattle.ix_model.specs.rows.Lifetimes.{let_go_object, let_go_open, let_go_claim, let_go, let_go_if_held, let_go_each, let_go_all, has_lost}
+use Rattle.ix_model.specs.rows.Walks.{OpenFile, walked_to, object_at, spot_at, missing, opened}
+use Rattle.ix_model.specs.rows.Lifetimes.{let_go_object, let_go, let_go_all}
 use Rattle.ix_model.specs.rows.Auditing.{logged}
 use Rattle.ix_model.specs.rows.OnPaths.{new_object, make, create_at, make_dir, open_at, link_at, unlink_at, remove_dir, change_dir, stat_at, list_at}
 use Rattle.ix_model.specs.rows.OnDescriptors.{LengthChecks, float_entry, read_fd, write_fd, cut_fd, seek_fd, dup_fd, close_fd, make_pipe, pex, unpex}
@@ -31,7 +30,8 @@ use Rattle.ix_model.specs.declared.refusal.Refusal.{Refusal}
 use Rattle.ix_model.specs.declared.reply.Kind.{Kind}
 use Rattle.ix_model.specs.declared.reply.Kind.TheVariants as kind
 use Rattle.ix_model.proofs.tables.FreeNumbers.{lowest_free_is}
-use Rattle.ix_model.proofs.words.Keeps.{Holds, Keeps, keeping, keeping_tests, keeps_then, keeps_pass, keeps_only_if}
+use Rattle.ix_model.proofs.words.LetGo.{LetsGo, keeps_let_go_object, keeps_let_go, keeps_let_go_all}
+use Rattle.ix_model.proofs.words.Keeps.{Holds, Keeps, keeping, keeping_tests, keeps_only_if}
 
 -- ---- what calls do
 -- what a call may do, beside looking, changing descriptors and marks, and giving up a claim
@@ -292,38 +292,17 @@ module _ (can : Change → Bool) (pid : ℕ) (R : Frame → Type 0) (w : Moves c
   moved_float_entry moves p x e = keeps_only_if R (not (is_pipe x)) _ (w.through moves e.id p.label)
 
   -- ---- what goes
+  going : can LettingGo ≡ true → LetsGo R pid
+  going goes = record { free = λ fd. search wording depth 20; unclaim = w.unclaim; close = w.gone_open goes; gone = w.gone_object goes }
+
   moved_let_go_object : can LettingGo ≡ true → (o : ℕ) → Keeps R (let_go_object o)
-  unfolding let_go_object
-  moved_let_go_object goes o = record { led = λ g. (keeps_only_if R _ (put_object o None) (w.gone_object goes o)).led g }
-
-  moved_let_go_open : can LettingGo ≡ true → (e : ℕ) → Keeps R (let_go_open e)
-  unfolding let_go_open
-  moved_let_go_open goes e = record { led = λ g. (keeps_only_if R _ (put_open e None) (w.gone_open goes e)).led g }
-
-  moved_let_go_claim : (o end : ℕ) → Keeps R (let_go_claim pid o end)
-  unfolding let_go_claim
-  moved_let_go_claim o end = record { led = λ g. (keeps_only_if R (has_lost g pid o end) _ (w.unclaim o end)).led g }
+  moved_let_go_object goes = keeps_let_go_object R pid (going goes)
 
   moved_let_go : can LettingGo ≡ true → (fd : ℕ) (e : OpenFile) → Keeps R (let_go pid fd e)
-  unfolding let_go
-  moved_let_go goes fd e = search (wording, moved_let_go_object, moved_let_go_open, moved_let_go_claim) depth 30
-
-  moved_let_go_if_held : can LettingGo ≡ true → (fd : ℕ) → Keeps R (let_go_if_held pid fd)
-  unfolding let_go_if_held
-  moved_let_go_if_held goes fd = record { led = λ g r. (go (behind g pid fd)).led g r }
-    where
-      go : (b : Option OpenFile) → Keeps R (option_map_or (let_go pid fd) b (pass tt))
-      go None = keeps_pass R tt
-      go (Some e) = moved_let_go goes fd e
-
-  moved_let_go_each : can LettingGo ≡ true → (fds : List ℕ) → Keeps R (let_go_each pid fds)
-  unfolding let_go_each
-  moved_let_go_each goes [] = keeps_pass R tt
-  moved_let_go_each goes (fd ∷ fds) = keeps_then R _ _ (moved_let_go_if_held goes fd) (moved_let_go_each goes fds)
+  moved_let_go goes = keeps_let_go R pid (going goes)
 
   moved_let_go_all : can LettingGo ≡ true → Keeps R (let_go_all pid)
-  unfolding let_go_all
-  moved_let_go_all goes = moved_let_go_each goes (range_with_len 0 32)
+  moved_let_go_all goes = keeps_let_go_all R pid (going goes)
 
   -- ---- the rows
   moved_make : can Relabelling ≡ true → can Making ≡ true → (path : PathOf) (k : Kind) → Keeps R (make pid path k)

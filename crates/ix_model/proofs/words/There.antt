@@ -1,17 +1,16 @@
 -- What `found` finds in a sound world is there.
 use Rattle.std.proofs.Common.{◌≡◌, ◌<◌, ◌+◌, ◌==◌, ℕ, Bool, true, false, not, List, [], ◌∷◌, count_by, find, cond, Option, Some, None, is_some}
-use Rattle.std.proofs.Common.{option_map, unwrap_or, if◌then◌else◌, refl, sym, ap, ◌∙◌, subst, arith}
+use Rattle.std.proofs.Common.{option_map, unwrap_or, if◌then◌else◌, refl, sym, ap, ◌∙◌, arith}
 use Rattle.std.specs.Option.{option_map_or}
 use Rattle.std.proofs.lemmas.Bool.{eq-eqb}
 use Rattle.std.proofs.lemmas.List.Sums.{sum_by-cons}
 use Rattle.ix_model.specs.world.Naming.{PathOf, same_bytes}
 use Rattle.ix_model.specs.world.World.{Frame, World, Object, Process, at, is_dir, is_pipe}
-use Rattle.ix_model.specs.rows.Outcomes.{Outcome, Refuse, Pass}
-use Rattle.ix_model.specs.rows.Walks.{OpenFile, behind, Sought, node, child, lacking, looking_into, walk_from, walk, walked_to, object_at}
+use Rattle.ix_model.specs.rows.Walks.{behind, node, child, lacking, looking_into, walk_from, walk, walked_to, object_at}
 use Rattle.ix_model.specs.rows.Walks as sought
 use Rattle.ix_model.specs.laws.Sound.{NamesSound, Sound}
 use Rattle.ix_model.specs.laws.Laws.{ObjectsThere}
-use Rattle.ix_model.proofs.words.Ends.{Ends, Anything, ends_bind, ends_then, ends_caller, ends_frame, ends_pass, ends_there}
+use Rattle.ix_model.proofs.words.Ends.{known_passed, Ends, Anything, ends_bind, ends_then, ends_caller, ends_frame, ends_pass, ends_there}
 use Rattle.ix_model.proofs.words.Looks.{ends_observe}
 use Rattle.ix_model.proofs.words.Standing.{behind_is, stands}
 
@@ -92,16 +91,8 @@ found_ends w pid path s =
     (ends_pass _ f Anything _ (ends_there _ f Anything Q here tt tt))
     (λ q alive low. ends_pass _ _ Anything _ (ends_there _ _ Anything Q here tt tt)))))) tt))
 
-passed : (o : Outcome ℕ) (n : ℕ) (g : Frame) (Q : ℕ → Frame → Type 0) → o ≡ Pass n g → Ends o Anything Q → Q n g
-unfolding Ends
-passed (Refuse r h) n g Q is k = cc
-passed (Pass m h) n g Q is k =
-    let number : m ≡ n = cc in
-    let same : h ≡ g = cc in
-    subst (λ (x : ℕ). Q x g) number (subst (λ (x : Frame). Q m x) same k)
-
 pub objects_there : (w : World) → Sound w → ObjectsThere w
 objects_there w s = record {
   behind = λ pid fd e is. ap is_some (stands w.frame e.id e.entry s.opens (behind_is w.frame pid fd e is)).is_object;
-  object_at = λ pid o path g is. passed (object_at pid path w.frame) o g _ is (found_ends w pid path s);
+  object_at = λ pid o path g is. known_passed (object_at pid path w.frame) o g _ is (found_ends w pid path s);
 }

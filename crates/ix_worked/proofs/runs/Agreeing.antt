@@ -7,9 +7,9 @@ use Rattle.ix_model.specs.opening.Opening.{opening_world}
 use Rattle.ix_model.specs.history.Step.{Given, step_of}
 use Rattle.ix_model.specs.history.Events.{Op, Event}
 use Rattle.ix_model.specs.history.Events as op
-use Rattle.ix_model.specs.two_runs.EqualLengths.{AgreeInLength, AgreeInLengthAt, ReplacedInLength}
+use Rattle.ix_model.specs.two_runs.EqualLengths.{AgreeInLength, AgreeInLengthAt}
 use Rattle.ix_model.specs.two_runs.EqualLengths as equal
-use Rattle.ix_model.specs.two_runs.TwoRuns.{Agree, AgreeAt, IsHigh, IsLow, Low, Replaced, is_one_kind}
+use Rattle.ix_model.specs.two_runs.TwoRuns.{Agree, AgreeAt, IsHigh, IsLow, is_one_kind}
 use Rattle.ix_model.specs.two_runs.TwoRuns as runs
 use Rattle.ix_model.specs.declared.call.Keep.TheVariants as keep
 use Rattle.ix_model.specs.declared.call.Mode.TheVariants as mode
@@ -22,7 +22,7 @@ use Rattle.ix_worked.specs.floating.TwoLevels.{two_levels, writing}
 use Rattle.ix_worked.proofs.Chains.{Steps, number, bytes, refused, done, stepped}
 use Rattle.ix_worked.proofs.Computing.{running}
 use Rattle.ix_worked.proofs.Labels.{labels, leq-with_bottom}
-use Rattle.ix_worked.proofs.floating.TwoBytes as two
+use Rattle.ix_worked.proofs.TwoBytes as two
 use Rattle.ix_worked.proofs.Worlds.{floated, opened, with_entry, with_child, with_ended}
 
 -- ---- who is high, and who is low

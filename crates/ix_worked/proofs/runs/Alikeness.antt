@@ -13,7 +13,7 @@ use Rattle.ix_worked.specs.floating.TwoLevels.{two_levels, writing}
 use Rattle.ix_worked.proofs.runs.Agreeing as agreeing
 use Rattle.ix_worked.proofs.Chains.{◌⨾◌, number, run_given}
 use Rattle.ix_worked.proofs.Labels.{labels, leq-with_bottom}
-use Rattle.ix_worked.proofs.floating.TwoBytes as two
+use Rattle.ix_worked.proofs.TwoBytes as two
 
 -- ---- the worlds after the write
 after_two : (a b : ℕ) → after two_levels (writing (a ∷ b ∷ [])) 4 ≡ two.written a b

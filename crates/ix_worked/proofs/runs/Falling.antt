@@ -1,7 +1,7 @@
 -- Where labels are lowered, and where none is.
-use Rattle.std.proofs.Common.{◌≡◌, ℕ, zero, suc, take, Bool, true, false, true≢false, ◌&&◌, List, [], ◌∷◌, Option, Some, None, refl, sym, ap, ◌∙◌, subst, codes}
+use Rattle.std.proofs.Common.{◌≡◌, ℕ, zero, suc, Bool, true, false, true≢false, ◌&&◌, List, [], ◌∷◌, Option, Some, None, refl, sym, ap, ◌∙◌, subst, subst₂, codes}
 use Rattle.std.specs.Option.{option_map_or}
-use Rattle.std.proofs.lemmas.Bool.{false_from_ne_true}
+use Rattle.std.proofs.lemmas.Bool.{false_from_ne_true, and_parts}
 use Rattle.ix_label.specs.Category.{Categories, bottom, leq}
 use Rattle.ix_label.specs.Lattice.{leq-trans}
 use Rattle.ix_model.specs.world.World.{Object, Process, Frame, World, at}
@@ -13,11 +13,12 @@ use Rattle.ix_model.specs.history.Lowering as lowering
 use Rattle.ix_worked.specs.privileges.Downgrading as session
 use Rattle.ix_worked.specs.PairsOfRuns.{before, after, LowersNowhere, CrossesNowhere}
 use Rattle.ix_worked.specs.floating.TwoLevels.{two_levels, writing}
-use Rattle.ix_worked.proofs.Chains.{Steps, number, bytes, stepped, run_given, gives_some}
+use Rattle.ix_worked.proofs.Chains.{Steps, number, bytes, stepped}
 use Rattle.ix_worked.proofs.Computing.{running}
 use Rattle.ix_worked.proofs.Labels.{labels}
-use Rattle.ix_worked.proofs.privileges.Lowered as down
-use Rattle.ix_worked.proofs.floating.TwoBytes as two
+use Rattle.ix_worked.proofs.Moves.{world_after, comes_to}
+use Rattle.ix_worked.proofs.worked.{lowering_moves, lowering_goes}
+use Rattle.ix_worked.proofs.TwoBytes as two
 
 -- ---- a label is lowered
 object_falls : (f g : Frame) (o : ℕ) (a b : Option Object) → at f.objects o ≡ a → at g.objects o ≡ b → option_map_or (λ x. option_map_or (λ y. leq x.label y.label) b true) a true ≡ false → Lowered f g
@@ -31,29 +32,27 @@ object_crosses l f g o None b is_a is_b h k = absurd (true≢false h)
 object_crosses l f g o (Some x) None is_a is_b h k = absurd (true≢false (sym k))
 object_crosses l f g o (Some x) (Some y) is_a is_b h k = lowering.Crosses.OfObject o x y is_a is_b h k
 
-before_third : before session.one_line session.lowering 3 ≡ down.at_first
-unfolding opening_world down.at_first
-before_third = run_given down.at_first 1 (take 2 session.lowering) (take 2 down.given) (gives_some 2 down.at_first 1 session.lowering down.given down.gives)
+-- at the third entry
+abbrev third : ℕ → World
+third n = world_after session.one_line session.lowering lowering_moves n
 
-after_third : after session.one_line session.lowering 3 ≡ down.lowered
-unfolding opening_world down.at_first
-after_third = run_given down.at_first 1 (take 3 session.lowering) (take 3 down.given) (gives_some 3 down.at_first 1 session.lowering down.given down.gives)
+lowers_there : Lowered (third 2).frame (third 3).frame
+unfolding running
+lowers_there = object_falls (third 2).frame (third 3).frame 1 (at (third 2).frame.objects 1) (at (third 3).frame.objects 1) refl refl (simp labels refl)
 
-lowers_there : Lowered down.at_first.frame down.lowered.frame
-unfolding running down.at_first down.lowered
-lowers_there = object_falls down.at_first.frame down.lowered.frame 1 (at down.at_first.frame.objects 1) (at down.lowered.frame.objects 1) refl refl (simp labels refl)
+crosses_there : Crosses bottom (third 2).frame (third 3).frame
+unfolding running
+crosses_there = object_crosses bottom (third 2).frame (third 3).frame 1 (at (third 2).frame.objects 1) (at (third 3).frame.objects 1) refl refl (simp labels refl) (simp labels refl)
 
-crosses_there : Crosses bottom down.at_first.frame down.lowered.frame
-unfolding running down.at_first down.lowered
-crosses_there = object_crosses bottom down.at_first.frame down.lowered.frame 1 (at down.at_first.frame.objects 1) (at down.lowered.frame.objects 1) refl refl (simp labels refl) (simp labels refl)
+-- what is so from the world before an entry to the one after it
+from_to : (R : World → World → Type 0) → R (third 2) (third 3) → R (before session.one_line session.lowering 3) (after session.one_line session.lowering 3)
+from_to R h = subst₂ R (sym (comes_to session.one_line session.lowering lowering_moves 2 lowering_goes)) (sym (comes_to session.one_line session.lowering lowering_moves 3 lowering_goes)) h
 
 pub third_lowers : Lowered (before session.one_line session.lowering 3).frame (after session.one_line session.lowering 3).frame
-third_lowers = subst (λ (w : World). Lowered w.frame (after session.one_line session.lowering 3).frame) (sym before_third)
-    (subst (λ (w : World). Lowered down.at_first.frame w.frame) (sym after_third) lowers_there)
+third_lowers = from_to (λ v w. Lowered v.frame w.frame) lowers_there
 
 pub third_crosses : Crosses bottom (before session.one_line session.lowering 3).frame (after session.one_line session.lowering 3).frame
-third_crosses = subst (λ (w : World). Crosses bottom w.frame (after session.one_line session.lowering 3).frame) (sym before_third)
-    (subst (λ (w : World). Crosses bottom down.at_first.frame w.frame) (sym after_third) crosses_there)
+third_crosses = from_to (λ v w. Crosses bottom v.frame w.frame) crosses_there
 
 -- ---- none is
 -- a test on what stands at the same number in two tables
@@ -67,14 +66,6 @@ pairs p [] u = true
 pairs p (x ∷ t) [] = true
 pairs p (x ∷ t) (y ∷ u) = pair p x y && pairs p t u
 
-first : (a b : Bool) → (a && b) ≡ true → a ≡ true
-first true b h = refl
-first false b h = h
-
-second : (a b : Bool) → (a && b) ≡ true → b ≡ true
-second true b h = h
-second false b h = absurd (true≢false (sym h))
-
 holds_at : {A : Type 0} (p : A → A → Bool) (t u : List (Option A)) (n : ℕ) → pairs p t u ≡ true → pair p (at t n) (at u n) ≡ true
 holds_at p [] u n h = refl
 holds_at p (None ∷ t) [] zero h = refl
@@ -84,8 +75,8 @@ holds_at p (x ∷ t) [] (suc n) h = nothing (at t n)
     nothing : (a : Option _) → pair p a None ≡ true
     nothing None = refl
     nothing (Some y) = refl
-holds_at p (x ∷ t) (y ∷ u) zero h = first (pair p x y) (pairs p t u) h
-holds_at p (x ∷ t) (y ∷ u) (suc n) h = holds_at p t u n (second (pair p x y) (pairs p t u) h)
+holds_at p (x ∷ t) (y ∷ u) zero h = (and_parts (pair p x y) (pairs p t u) h).0
+holds_at p (x ∷ t) (y ∷ u) (suc n) h = holds_at p t u n ((and_parts (pair p x y) (pairs p t u) h).1)
 
 rises : (f g : Frame) → pairs {A = Object} (λ x y. leq x.label y.label) f.objects g.objects ≡ true → pairs {A = Process} (λ x y. leq x.label y.label) f.processes g.processes ≡ true → Lowered f g → ⊥
 rises f g objects processes (lowering.Lowered.OfObject o x y is_x is_y falls) =

@@ -1,6 +1,8 @@
 -- When descriptors are fresh, entry by entry.
-use Rattle.std.proofs.Common.{◌≡◌, ℕ, suc, Bool, true, false, List, [], ◌∷◌, map, take, refl, ap, ◌∙◌}
+use Rattle.std.proofs.Common.{◌≡◌, ℕ, suc, Bool, true, false, List, [], ◌∷◌, map, take, length, refl, ap, ◌∙◌}
+use Rattle.std.specs.List.{range_with_len}
 use Rattle.ix_model.specs.world.World.{World}
+use Rattle.ix_model.specs.declared.config.Config.{Config}
 use Rattle.ix_model.specs.opening.Opening.{opening_world}
 use Rattle.ix_model.specs.history.Step.{Given}
 use Rattle.ix_model.specs.history.Events.{Event}
@@ -14,9 +16,9 @@ use Rattle.ix_worked.specs.files.SharedEntry.{one_file, sharing}
 use Rattle.ix_worked.proofs.Chains.{◌⨾◌, Gives, stepped, gives_some}
 use Rattle.ix_worked.proofs.Computing.{running, auditing}
 use Rattle.ix_worked.proofs.Labels.{labels}
-use Rattle.ix_worked.proofs.short.AtEntries as entries
-use Rattle.ix_worked.proofs.floating.Raised as raised
-use Rattle.ix_worked.proofs.files.Shared as shared
+use Rattle.ix_worked.proofs.Moves.{Move, GoesBy, given}
+use Rattle.ix_worked.proofs.short.{seeking_high_moves, seeking_high_go}
+use Rattle.ix_worked.proofs.worked.{twice_moves, twice_goes, sharing_moves, sharing_goes}
 
 -- whether a descriptor is fresh after a history that gives this
 abbrev fresh_by : Bool → World → List Event → List Given → ℕ → ℕ → Way → Bool
@@ -42,34 +44,30 @@ fresh_each w events gs pid fd way h (n ∷ ns) =
     ap (λ b. b ∷ map (λ m. is_fresh w (take m events) pid fd way) ns) (fresh_given false w 1 (take n events) (take n gs) pid fd way (gives_some n w 1 events gs h))
     ∙ ap (λ bs. fresh_by false w (take n events) (take n gs) pid fd way ∷ bs) (fresh_each w events gs pid fd way h ns)
 
+-- along a session that goes by these moves
+fresh_on : (c : Config) (events : List Event) (moves : List Move) (pid fd : ℕ) (way : Way) → GoesBy c events moves → fresh_along c events pid fd way
+    ≡ map (λ n. fresh_by false (opening_world c) (take n events) (take n (given (opening_world c) moves)) pid fd way) (range_with_len 1 (length events))
+fresh_on c events moves pid fd way h = fresh_each (opening_world c) events (given (opening_world c) moves) pid fd way h (range_with_len 1 (length events))
+
 -- ---- a file is raised
 pub read_is_fresh : fresh_along held_low reading_twice 1 0 way.Way.Reading ≡ false ∷ false ∷ true ∷ false ∷ false ∷ []
-unfolding running auditing raised.at_first raised.one_open raised.both_open raised.read_once raised.raised
-read_is_fresh = ap (λ w. map (λ n. is_fresh w (take n reading_twice) 1 0 way.Way.Reading) (1 ∷ 2 ∷ 3 ∷ 4 ∷ 5 ∷ [])) raised.opening
-    ∙ fresh_each raised.at_first reading_twice raised.given 1 0 way.Way.Reading raised.gives (1 ∷ 2 ∷ 3 ∷ 4 ∷ 5 ∷ [])
-    ∙ simp labels refl
+unfolding running auditing
+read_is_fresh = fresh_on held_low reading_twice twice_moves 1 0 way.Way.Reading twice_goes ∙ simp labels refl
 
 pub write_is_fresh : fresh_along held_low reading_twice 2 0 way.Way.Writing ≡ false ∷ false ∷ false ∷ true ∷ true ∷ []
-unfolding running auditing raised.at_first raised.one_open raised.both_open raised.read_once raised.raised
-write_is_fresh = ap (λ w. map (λ n. is_fresh w (take n reading_twice) 2 0 way.Way.Writing) (1 ∷ 2 ∷ 3 ∷ 4 ∷ 5 ∷ [])) raised.opening
-    ∙ fresh_each raised.at_first reading_twice raised.given 2 0 way.Way.Writing raised.gives (1 ∷ 2 ∷ 3 ∷ 4 ∷ 5 ∷ [])
-    ∙ simp labels refl
+unfolding running auditing
+write_is_fresh = fresh_on held_low reading_twice twice_moves 2 0 way.Way.Writing twice_goes ∙ simp labels refl
 
 -- ---- one of two is closed
 pub first_is_closed : fresh_along one_file sharing 1 0 way.Way.Reading ≡ false ∷ false ∷ true ∷ true ∷ false ∷ false ∷ false ∷ []
-unfolding running auditing shared.worlds
-first_is_closed = ap (λ w. map (λ n. is_fresh w (take n sharing) 1 0 way.Way.Reading) (1 ∷ 2 ∷ 3 ∷ 4 ∷ 5 ∷ 6 ∷ 7 ∷ [])) shared.opens
-    ∙ fresh_each shared.at_first sharing shared.given 1 0 way.Way.Reading shared.gives (1 ∷ 2 ∷ 3 ∷ 4 ∷ 5 ∷ 6 ∷ 7 ∷ [])
-    ∙ simp labels refl
+unfolding running auditing
+first_is_closed = fresh_on one_file sharing sharing_moves 1 0 way.Way.Reading sharing_goes ∙ simp labels refl
 
 pub second_is_kept : fresh_along one_file sharing 1 1 way.Way.Reading ≡ false ∷ false ∷ false ∷ true ∷ true ∷ true ∷ true ∷ []
-unfolding running auditing shared.worlds
-second_is_kept = ap (λ w. map (λ n. is_fresh w (take n sharing) 1 1 way.Way.Reading) (1 ∷ 2 ∷ 3 ∷ 4 ∷ 5 ∷ 6 ∷ 7 ∷ [])) shared.opens
-    ∙ fresh_each shared.at_first sharing shared.given 1 1 way.Way.Reading shared.gives (1 ∷ 2 ∷ 3 ∷ 4 ∷ 5 ∷ 6 ∷ 7 ∷ [])
-    ∙ simp labels refl
+unfolding running auditing
+second_is_kept = fresh_on one_file sharing sharing_moves 1 1 way.Way.Reading sharing_goes ∙ simp labels refl
 
 -- ---- an open entry is marked
 pub marked_is_stale : fresh_along shared_desk (calls seeking_high) 1 0 way.Way.Reading ≡ false ∷ true ∷ true ∷ true ∷ false ∷ false ∷ false ∷ false ∷ true ∷ []
-unfolding running auditing entries.worlds
-marked_is_stale = fresh_each (opening_world shared_desk) (calls seeking_high) entries.seeking_high_given 1 0 way.Way.Reading entries.seeking_high_steps (1 ∷ 2 ∷ 3 ∷ 4 ∷ 5 ∷ 6 ∷ 7 ∷ 8 ∷ 9 ∷ [])
-    ∙ simp labels refl
+unfolding running auditing
+marked_is_stale = fresh_on shared_desk (calls seeking_high) seeking_high_moves 1 0 way.Way.Reading seeking_high_go ∙ simp labels refl

@@ -7,8 +7,7 @@ use Rattle.ix_model.specs.declared.call.Mode.TheVariants as mode
 use Rattle.ix_model.specs.declared.config.Config.{Config}
 use Rattle.ix_model.specs.declared.config.FsSpec.{FsSpec}
 use Rattle.ix_model.specs.declared.refusal.Refusal.TheVariants as refusal
-use Rattle.ix_model.specs.declared.reply.Reply.TheVariants as reply
-use Rattle.ix_worked.specs.Scripts.{in_root, proc, file, machine, entry, gives}
+use Rattle.ix_worked.specs.Scripts.{in_root, proc, file, machine, entry, gives_bytes, gives_done, gives_number, refuses}
 use Rattle.ix_worked.specs.Sessions.{Shown}
 
 -- fs root * 2 8
@@ -44,15 +43,8 @@ filling =
 abbrev pub filling_shows : Shown
 filling_shows = record {
   lines =
-      gives (reply.Number 0) [] bottom
-      ∷ gives (reply.No refusal.NoSpace) [] bottom
-      ∷ gives (reply.Number 1024) [] bottom
-      ∷ gives reply.Done [] bottom
-      ∷ gives reply.Done [] bottom
-      ∷ gives (reply.Number 1) [] bottom
-      ∷ gives reply.Done [] bottom
-      ∷ gives (reply.Bytes 6) (0 ∷ 0 ∷ 0 ∷ 0 ∷ 0 ∷ 66 ∷ []) bottom
-      ∷ [];
+      gives_number 0 bottom ∷ refuses refusal.NoSpace bottom ∷ gives_number 1024 bottom ∷ gives_done bottom ∷ gives_done bottom
+      ∷ gives_number 1 bottom ∷ gives_done bottom ∷ gives_bytes (0 ∷ 0 ∷ 0 ∷ 0 ∷ 0 ∷ 66 ∷ []) bottom ∷ [];
   objects = (0, bottom) ∷ (1, bottom) ∷ [];
   processes = (1, bottom) ∷ [];
   log = [];

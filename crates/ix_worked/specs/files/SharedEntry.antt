@@ -6,8 +6,7 @@ use Rattle.ix_model.specs.history.Events as op
 use Rattle.ix_model.specs.declared.call.Mode.TheVariants as mode
 use Rattle.ix_model.specs.declared.config.Config.{Config}
 use Rattle.ix_model.specs.declared.refusal.Refusal.TheVariants as refusal
-use Rattle.ix_model.specs.declared.reply.Reply.TheVariants as reply
-use Rattle.ix_worked.specs.Scripts.{in_root, proc, file, usual_fs, machine, entry, gives}
+use Rattle.ix_worked.specs.Scripts.{in_root, proc, file, usual_fs, machine, entry, gives_bytes, gives_done, gives_number, refuses}
 use Rattle.ix_worked.specs.Sessions.{Shown}
 
 -- proc a - * - -
@@ -37,14 +36,8 @@ sharing =
 abbrev pub sharing_shows : Shown
 sharing_shows = record {
   lines =
-      gives (reply.Number 0) [] bottom
-      ∷ gives (reply.Number 1) [] bottom
-      ∷ gives (reply.Bytes 1) (codes "a") bottom
-      ∷ gives (reply.Bytes 1) (codes "b") bottom
-      ∷ gives reply.Done [] bottom
-      ∷ gives (reply.No refusal.TooBig) [] bottom
-      ∷ gives (reply.Bytes 1) (codes "c") bottom
-      ∷ [];
+      gives_number 0 bottom ∷ gives_number 1 bottom ∷ gives_bytes (codes "a") bottom ∷ gives_bytes (codes "b") bottom ∷ gives_done bottom
+      ∷ refuses refusal.TooBig bottom ∷ gives_bytes (codes "c") bottom ∷ [];
   objects = (0, bottom) ∷ (1, bottom) ∷ [];
   processes = (1, bottom) ∷ [];
   log = [];

@@ -7,7 +7,7 @@ use Rattle.ix_model.specs.declared.config.Config.{Config}
 use Rattle.ix_model.specs.declared.config.FsSpec.{FsSpec}
 use Rattle.ix_model.specs.declared.refusal.Refusal.TheVariants as refusal
 use Rattle.ix_model.specs.declared.reply.Reply.TheVariants as reply
-use Rattle.ix_worked.specs.Scripts.{five, seven, in_root, at_root, under, proc, dir, machine, entry, gives}
+use Rattle.ix_worked.specs.Scripts.{five, seven, in_root, at_root, under, proc, dir, machine, entry, gives, gives_done, gives_number, refuses}
 use Rattle.ix_worked.specs.Sessions.{Shown}
 
 -- fs root * 64 8
@@ -51,16 +51,9 @@ naming =
 abbrev pub naming_shows : Shown
 naming_shows = record {
   lines =
-      gives (reply.Number 2) [] bottom
-      ∷ gives (reply.Number 3) [] bottom
-      ∷ gives (reply.No refusal.CrossFs) [] bottom
-      ∷ gives (reply.No refusal.NotEmpty) [] bottom
-      ∷ gives reply.Done [] bottom
-      ∷ gives reply.Done [] bottom
-      ∷ gives (reply.Named (codes "vol") (record { 0 = 8 })) [] bottom
-      ∷ gives (reply.Number 2) [] seven
-      ∷ gives (reply.No refusal.FsCeiling) [] seven
-      ∷ [];
+      gives_number 2 bottom ∷ gives_number 3 bottom ∷ refuses refusal.CrossFs bottom ∷ refuses refusal.NotEmpty bottom ∷ gives_done bottom
+      ∷ gives_done bottom ∷ gives (reply.Named (codes "vol") (record { 0 = 8 })) [] bottom ∷ gives_number 2 seven
+      ∷ refuses refusal.FsCeiling seven ∷ [];
   objects = (0, bottom) ∷ (1, seven) ∷ (2, bottom) ∷ (8, bottom) ∷ [];
   processes = (1, seven) ∷ [];
   log = [];

@@ -7,9 +7,8 @@ use Rattle.ix_model.specs.declared.call.Mode.TheVariants as mode
 use Rattle.ix_model.specs.declared.config.Config.{Config}
 use Rattle.ix_model.specs.declared.config.FsSpec.{FsSpec}
 use Rattle.ix_model.specs.declared.refusal.Refusal.TheVariants as refusal
-use Rattle.ix_model.specs.declared.reply.Reply.TheVariants as reply
 use Rattle.ix_worked.specs.Sessions.{Shown}
-use Rattle.ix_worked.specs.Scripts.{three, five, in_root, proc, file, machine, entry, gives}
+use Rattle.ix_worked.specs.Scripts.{three, five, in_root, proc, file, machine, entry, gives_bytes, gives_number, refuses}
 
 -- fs root 5 64 16
 abbrev pub low_fs : FsSpec
@@ -33,7 +32,7 @@ writing_down =
 -- the write is refused, and the file has its label and its bytes still
 abbrev pub writing_down_shows : Shown
 writing_down_shows = record {
-  lines = gives (reply.Number 0) [] three ∷ gives (reply.No refusal.FsCeiling) [] three ∷ gives (reply.Bytes 3) (codes "old") three ∷ [];
+  lines = gives_number 0 three ∷ refuses refusal.FsCeiling three ∷ gives_bytes (codes "old") three ∷ [];
   objects = (0, bottom) ∷ (1, bottom) ∷ [];
   processes = (1, three) ∷ [];
   log = [];

@@ -8,7 +8,7 @@ use Rattle.ix_model.specs.declared.config.Config.{Config}
 use Rattle.ix_model.specs.declared.refusal.Refusal.TheVariants as refusal
 use Rattle.ix_model.specs.declared.reply.Reply.TheVariants as reply
 use Rattle.ix_worked.specs.Sessions.{Shown}
-use Rattle.ix_worked.specs.Scripts.{three, three_and_five, in_root, proc, file, usual_fs, machine, entry, gives}
+use Rattle.ix_worked.specs.Scripts.{three, three_and_five, in_root, proc, file, usual_fs, machine, entry, gives, gives_bytes, gives_number, refuses}
 
 -- proc a - 3 - -
 -- file /s LABEL free - - "hi"
@@ -28,7 +28,7 @@ reading =
 -- at its ceiling, it reads
 abbrev pub floating_shows : Shown
 floating_shows = record {
-  lines = gives (reply.Number 0) [] bottom ∷ gives (reply.Bytes 2) (codes "hi") three ∷ gives (reply.Lab three) [] three ∷ [];
+  lines = gives_number 0 bottom ∷ gives_bytes (codes "hi") three ∷ gives (reply.Lab three) [] three ∷ [];
   objects = (0, bottom) ∷ (1, three) ∷ [];
   processes = (1, three) ∷ [];
   log = [];
@@ -37,7 +37,7 @@ floating_shows = record {
 -- past its ceiling, it is refused, and stays where it was
 abbrev pub stopped_shows : Shown
 stopped_shows = record {
-  lines = gives (reply.Number 0) [] bottom ∷ gives (reply.No refusal.ProcCeiling) [] bottom ∷ gives (reply.Lab bottom) [] bottom ∷ [];
+  lines = gives_number 0 bottom ∷ refuses refusal.ProcCeiling bottom ∷ gives (reply.Lab bottom) [] bottom ∷ [];
   objects = (0, bottom) ∷ (1, three_and_five) ∷ [];
   processes = (1, bottom) ∷ [];
   log = [];

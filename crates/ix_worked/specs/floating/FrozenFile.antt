@@ -6,8 +6,7 @@ use Rattle.ix_model.specs.history.Events as op
 use Rattle.ix_model.specs.declared.call.Mode.TheVariants as mode
 use Rattle.ix_model.specs.declared.config.Config.{Config}
 use Rattle.ix_model.specs.declared.refusal.Refusal.TheVariants as refusal
-use Rattle.ix_model.specs.declared.reply.Reply.TheVariants as reply
-use Rattle.ix_worked.specs.Scripts.{three, three_and_five, in_root, proc, file, usual_fs, machine, entry, gives}
+use Rattle.ix_worked.specs.Scripts.{three, three_and_five, in_root, proc, file, usual_fs, machine, entry, gives_number, refuses}
 use Rattle.ix_worked.specs.Sessions.{Shown}
 
 -- proc a 3 * - -
@@ -31,12 +30,7 @@ writing_to_it =
 -- the one at its label writes, and the one above is refused
 abbrev pub writing_to_it_shows : Shown
 writing_to_it_shows = record {
-  lines =
-      gives (reply.Number 0) [] three
-      ∷ gives (reply.Number 1) [] three
-      ∷ gives (reply.Number 0) [] three_and_five
-      ∷ gives (reply.No refusal.FileFrozen) [] three_and_five
-      ∷ [];
+  lines = gives_number 0 three ∷ gives_number 1 three ∷ gives_number 0 three_and_five ∷ refuses refusal.FileFrozen three_and_five ∷ [];
   objects = (0, bottom) ∷ (1, three) ∷ [];
   processes = (1, three) ∷ (2, three_and_five) ∷ [];
   log = [];

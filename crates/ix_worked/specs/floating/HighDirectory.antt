@@ -5,8 +5,7 @@ use Rattle.ix_model.specs.history.Events.{Event}
 use Rattle.ix_model.specs.history.Events as op
 use Rattle.ix_model.specs.declared.config.Config.{Config}
 use Rattle.ix_model.specs.declared.refusal.Refusal.TheVariants as refusal
-use Rattle.ix_model.specs.declared.reply.Reply.TheVariants as reply
-use Rattle.ix_worked.specs.Scripts.{seven, under, proc, dir, usual_fs, machine, entry, gives}
+use Rattle.ix_worked.specs.Scripts.{seven, under, proc, dir, usual_fs, machine, entry, refuses}
 use Rattle.ix_worked.specs.Sessions.{Shown}
 
 -- proc a - * - -
@@ -23,9 +22,7 @@ looking_into_it =
 -- there is no such name, which is told at the label of the directory
 abbrev pub looking_into_it_shows : Shown
 looking_into_it_shows = record {
-  lines =
-      gives (reply.No refusal.NotFound) [] seven
-      ∷ [];
+  lines = refuses refusal.NotFound seven ∷ [];
   objects = (0, bottom) ∷ (1, seven) ∷ [];
   processes = (1, seven) ∷ [];
   log = [];

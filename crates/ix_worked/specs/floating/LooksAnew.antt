@@ -6,9 +6,8 @@ use Rattle.ix_model.specs.history.Events as op
 use Rattle.ix_model.specs.declared.call.Mode.TheVariants as mode
 use Rattle.ix_model.specs.declared.config.Config.{Config}
 use Rattle.ix_model.specs.declared.refusal.Refusal.TheVariants as refusal
-use Rattle.ix_model.specs.declared.reply.Reply.TheVariants as reply
 use Rattle.ix_worked.specs.Sessions.{Shown}
-use Rattle.ix_worked.specs.Scripts.{seven, in_root, proc, file, usual_fs, machine, entry, gives}
+use Rattle.ix_worked.specs.Scripts.{seven, in_root, proc, file, usual_fs, machine, entry, gives_bytes, gives_number, refuses}
 
 -- proc l - - - -
 -- proc h 7 * - -
@@ -34,12 +33,8 @@ reading_twice =
 abbrev pub reading_twice_shows : Shown
 reading_twice_shows = record {
   lines =
-      gives (reply.Number 0) [] seven
-      ∷ gives (reply.Number 0) [] bottom
-      ∷ gives (reply.Bytes 1) (codes "x") bottom
-      ∷ gives (reply.Number 1) [] seven
-      ∷ gives (reply.No refusal.ProcCeiling) [] bottom
-      ∷ [];
+      gives_number 0 seven ∷ gives_number 0 bottom ∷ gives_bytes (codes "x") bottom ∷ gives_number 1 seven
+      ∷ refuses refusal.ProcCeiling bottom ∷ [];
   objects = (0, bottom) ∷ (1, seven) ∷ [];
   processes = (1, bottom) ∷ (2, seven) ∷ [];
   log = [];

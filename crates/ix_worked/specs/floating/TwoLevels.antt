@@ -7,7 +7,7 @@ use Rattle.ix_model.specs.declared.call.Mode.TheVariants as mode
 use Rattle.ix_model.specs.declared.config.Config.{Config}
 use Rattle.ix_model.specs.declared.reply.Reply.TheVariants as reply
 use Rattle.ix_worked.specs.Sessions.{Shown}
-use Rattle.ix_worked.specs.Scripts.{seven, in_root, proc, file, usual_fs, machine, entry, gives}
+use Rattle.ix_worked.specs.Scripts.{seven, in_root, proc, file, usual_fs, machine, entry, gives, gives_bytes, gives_number}
 
 -- proc l - * - -
 -- proc h 7 * - -
@@ -36,13 +36,8 @@ writing bytes =
 abbrev pub writing_shows : List ℕ → Shown
 writing_shows bytes = record {
   lines =
-      gives (reply.Number 0) [] seven
-      ∷ gives (reply.Number 0) [] bottom
-      ∷ gives (reply.Number 1) [] bottom
-      ∷ gives (reply.Number 2) [] seven
-      ∷ gives (reply.Bytes 2) (codes "ok") bottom
-      ∷ gives (reply.Bytes 2) bytes seven
-      ∷ [];
+      gives_number 0 seven ∷ gives_number 0 bottom ∷ gives_number 1 bottom ∷ gives_number 2 seven ∷ gives_bytes (codes "ok") bottom
+      ∷ gives (reply.Bytes 2) bytes seven ∷ [];
   objects = (0, bottom) ∷ (1, seven) ∷ (2, bottom) ∷ [];
   processes = (1, seven) ∷ (2, seven) ∷ [];
   log = [];

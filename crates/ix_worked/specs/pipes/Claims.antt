@@ -7,7 +7,7 @@ use Rattle.ix_model.specs.world.Privs.{no_privileges}
 use Rattle.ix_model.specs.declared.call.Keep.TheVariants as keep
 use Rattle.ix_model.specs.declared.refusal.Refusal.TheVariants as refusal
 use Rattle.ix_model.specs.declared.reply.Reply.TheVariants as reply
-use Rattle.ix_worked.specs.Scripts.{entry, gives}
+use Rattle.ix_worked.specs.Scripts.{entry, gives, gives_done, gives_number, refuses}
 use Rattle.ix_worked.specs.Sessions.{Shown}
 
 -- pipe a as f g
@@ -36,16 +36,9 @@ claiming =
 abbrev pub claiming_shows : Shown
 claiming_shows = record {
   lines =
-      gives (reply.Two (record { 0 = 0 }) (record { 0 = 1 })) [] bottom
-      ∷ gives (reply.Number 2) [] bottom
-      ∷ gives (reply.Number 3) [] bottom
-      ∷ gives reply.Half [] bottom
-      ∷ gives (reply.Whole (record { 0 = 1 }) bottom no_privileges) [] bottom
-      ∷ gives (reply.No refusal.PexHeld) [] bottom
-      ∷ gives (reply.Whole (record { 0 = 2 }) bottom no_privileges) [] bottom
-      ∷ gives reply.Done [] bottom
-      ∷ gives reply.Half [] bottom
-      ∷ [];
+      gives (reply.Two (record { 0 = 0 }) (record { 0 = 1 })) [] bottom ∷ gives_number 2 bottom ∷ gives_number 3 bottom
+      ∷ gives reply.Half [] bottom ∷ gives (reply.Whole (record { 0 = 1 }) bottom no_privileges) [] bottom ∷ refuses refusal.PexHeld bottom
+      ∷ gives (reply.Whole (record { 0 = 2 }) bottom no_privileges) [] bottom ∷ gives_done bottom ∷ gives reply.Half [] bottom ∷ [];
   objects = (0, bottom) ∷ (256, bottom) ∷ [];
   processes = (1, bottom) ∷ (2, bottom) ∷ (3, bottom) ∷ [];
   log = [];

@@ -5,7 +5,7 @@ use Rattle.ix_model.specs.history.Events.{Event}
 use Rattle.ix_model.specs.history.Events as op
 use Rattle.ix_model.specs.declared.call.Mode.TheVariants as mode
 use Rattle.ix_model.specs.declared.reply.Reply.TheVariants as reply
-use Rattle.ix_worked.specs.Scripts.{in_root, entry, gives}
+use Rattle.ix_worked.specs.Scripts.{in_root, entry, gives, gives_bytes, gives_number}
 use Rattle.ix_worked.specs.Sessions.{Shown}
 
 -- open a /n r as f
@@ -27,13 +27,8 @@ copying =
 abbrev pub copying_shows : Shown
 copying_shows = record {
   lines =
-      gives (reply.Number 0) [] bottom
-      ∷ gives (reply.Two (record { 0 = 1 }) (record { 0 = 2 })) [] bottom
-      ∷ gives (reply.Bytes 3) (codes "abc") bottom
-      ∷ gives (reply.Number 3) [] bottom
-      ∷ gives (reply.Bytes 0) [] bottom
-      ∷ gives (reply.Bytes 3) (codes "abc") bottom
-      ∷ [];
+      gives_number 0 bottom ∷ gives (reply.Two (record { 0 = 1 }) (record { 0 = 2 })) [] bottom ∷ gives_bytes (codes "abc") bottom
+      ∷ gives_number 3 bottom ∷ gives_bytes [] bottom ∷ gives_bytes (codes "abc") bottom ∷ [];
   objects = (0, bottom) ∷ (1, bottom) ∷ (256, bottom) ∷ [];
   processes = (1, bottom) ∷ [];
   log = [];

@@ -6,7 +6,7 @@ use Rattle.ix_model.specs.history.Events as op
 use Rattle.ix_model.specs.declared.config.Config.{Config}
 use Rattle.ix_model.specs.declared.refusal.Refusal.TheVariants as refusal
 use Rattle.ix_model.specs.declared.reply.Reply.TheVariants as reply
-use Rattle.ix_worked.specs.Scripts.{proc, usual_fs, machine, entry, gives}
+use Rattle.ix_worked.specs.Scripts.{proc, usual_fs, machine, entry, gives, gives_bytes, gives_done, gives_number, refuses}
 use Rattle.ix_worked.specs.Sessions.{Shown}
 
 -- proc a - * - -
@@ -37,15 +37,9 @@ piping =
 abbrev pub piping_shows : Shown
 piping_shows = record {
   lines =
-      gives (reply.Two (record { 0 = 0 }) (record { 0 = 1 })) [] bottom
-      ∷ gives (reply.Number 4096) [] bottom
-      ∷ gives (reply.No refusal.PipeFull) [] bottom
-      ∷ gives (reply.Bytes 4096) (replicate 4096 65) bottom
-      ∷ gives (reply.No refusal.Again) [] bottom
-      ∷ gives reply.Done [] bottom
-      ∷ gives (reply.Bytes 0) [] bottom
-      ∷ gives (reply.No refusal.Broken) [] bottom
-      ∷ [];
+      gives (reply.Two (record { 0 = 0 }) (record { 0 = 1 })) [] bottom ∷ gives_number 4096 bottom ∷ refuses refusal.PipeFull bottom
+      ∷ gives_bytes (replicate 4096 65) bottom ∷ refuses refusal.Again bottom ∷ gives_done bottom ∷ gives_bytes [] bottom
+      ∷ refuses refusal.Broken bottom ∷ [];
   objects = (0, bottom) ∷ (256, bottom) ∷ [];
   processes = (1, bottom) ∷ [];
   log = [];

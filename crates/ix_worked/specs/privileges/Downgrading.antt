@@ -7,8 +7,7 @@ use Rattle.ix_model.specs.world.Privs.{to_lower}
 use Rattle.ix_model.specs.declared.audit.Act.TheVariants as act
 use Rattle.ix_model.specs.declared.config.Config.{Config}
 use Rattle.ix_model.specs.declared.refusal.Refusal.TheVariants as refusal
-use Rattle.ix_model.specs.declared.reply.Reply.TheVariants as reply
-use Rattle.ix_worked.specs.Scripts.{three, in_root, proc, file, usual_fs, usual_limits, machine, entry, gives, log_line}
+use Rattle.ix_worked.specs.Scripts.{three, in_root, proc, file, usual_fs, usual_limits, machine, entry, log_line, gives_done, refuses}
 use Rattle.ix_worked.specs.Sessions.{Shown}
 
 -- limit log 1
@@ -39,12 +38,7 @@ lowering =
 -- the one who has both lowers the first file, and the log is full then
 abbrev pub lowering_shows : Shown
 lowering_shows = record {
-  lines =
-      gives (reply.No refusal.NoCapability) [] three
-      ∷ gives (reply.No refusal.NoLicence) [] three
-      ∷ gives reply.Done [] three
-      ∷ gives (reply.No refusal.LogFull) [] three
-      ∷ [];
+  lines = refuses refusal.NoCapability three ∷ refuses refusal.NoLicence three ∷ gives_done three ∷ refuses refusal.LogFull three ∷ [];
   objects = (0, bottom) ∷ (1, bottom) ∷ (2, three) ∷ [];
   processes = (1, three) ∷ (2, three) ∷ (3, three) ∷ [];
   log = log_line 3 3 act.DownFile 1 three bottom ∷ [];

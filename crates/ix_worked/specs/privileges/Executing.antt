@@ -7,8 +7,7 @@ use Rattle.ix_model.specs.world.Privs.{to_thaw}
 use Rattle.ix_model.specs.declared.audit.Act.TheVariants as act
 use Rattle.ix_model.specs.declared.config.Config.{Config}
 use Rattle.ix_model.specs.declared.refusal.Refusal.TheVariants as refusal
-use Rattle.ix_model.specs.declared.reply.Reply.TheVariants as reply
-use Rattle.ix_worked.specs.Scripts.{in_root, proc, file, usual_fs, machine, entry, gives, log_line}
+use Rattle.ix_worked.specs.Scripts.{in_root, proc, file, usual_fs, machine, entry, log_line, gives_done, refuses}
 use Rattle.ix_worked.specs.Sessions.{Shown}
 
 -- file /prog - free T T x
@@ -37,12 +36,7 @@ executing =
 -- it thaws the file once
 abbrev pub executing_shows : Shown
 executing_shows = record {
-  lines =
-      gives reply.Done [] bottom
-      ∷ gives reply.Done [] bottom
-      ∷ gives reply.Done [] bottom
-      ∷ gives (reply.No refusal.NoCapability) [] bottom
-      ∷ [];
+  lines = gives_done bottom ∷ gives_done bottom ∷ gives_done bottom ∷ refuses refusal.NoCapability bottom ∷ [];
   objects = (0, bottom) ∷ (1, bottom) ∷ (2, bottom) ∷ (3, bottom) ∷ [];
   processes = (1, bottom) ∷ [];
   log = log_line 2 1 act.ThawFile 3 bottom bottom ∷ [];

@@ -10,7 +10,7 @@ use Rattle.ix_model.specs.declared.call.Mode.TheVariants as mode
 use Rattle.ix_model.specs.declared.config.Config.{Config}
 use Rattle.ix_model.specs.declared.refusal.Refusal.TheVariants as refusal
 use Rattle.ix_model.specs.declared.reply.Reply.TheVariants as reply
-use Rattle.ix_worked.specs.Scripts.{all_five, two_and_five, in_root, under, proc, file, dir, usual_fs, machine, entry, gives, log_line}
+use Rattle.ix_worked.specs.Scripts.{all_five, two_and_five, in_root, under, proc, file, dir, usual_fs, machine, entry, gives, log_line, gives_bytes, gives_done, gives_number, refuses}
 use Rattle.ix_worked.specs.Sessions.{Shown}
 
 -- proc srv - * P P
@@ -104,50 +104,20 @@ asking =
 abbrev pub asking_shows : Shown
 asking_shows = record {
   lines =
-      gives (reply.Two (record { 0 = 0 }) (record { 0 = 1 })) [] bottom
-      ∷ gives (reply.Two (record { 0 = 2 }) (record { 0 = 3 })) [] bottom
-      ∷ gives (reply.Number 2) [] bottom
-      ∷ gives reply.Done [] bottom
-      ∷ gives reply.Half [] bottom
-      ∷ gives (reply.Whole (record { 0 = 1 }) bottom to_grant) [] bottom
-      ∷ gives (reply.Number 9) [] bottom
-      ∷ gives (reply.Whole (record { 0 = 2 }) bottom no_privileges) [] bottom
-      ∷ gives (reply.Bytes 9) (codes "login ann") bottom
-      ∷ gives (reply.Number 3) [] bottom
-      ∷ gives reply.Done [] bottom
-      ∷ gives reply.Done [] bottom
-      ∷ gives reply.Done [] bottom
-      ∷ gives (reply.Number 9) [] bottom
-      ∷ gives reply.Done [] bottom
-      ∷ gives (reply.Bytes 9) (codes "granted 1") bottom
-      ∷ gives (reply.Whole (record { 0 = 2 }) bottom no_privileges) [] bottom
-      ∷ gives (reply.Number 9) [] bottom
-      ∷ gives (reply.Whole (record { 0 = 2 }) bottom no_privileges) [] bottom
-      ∷ gives (reply.Bytes 9) (codes "login bob") bottom
-      ∷ gives (reply.Number 4) [] bottom
-      ∷ gives reply.Done [] bottom
-      ∷ gives reply.Done [] bottom
-      ∷ gives (reply.Number 9) [] bottom
-      ∷ gives reply.Done [] bottom
-      ∷ gives (reply.Number 5) [] bottom
-      ∷ gives (reply.Number 0) [] bottom
-      ∷ gives (reply.Bytes 2) (codes "q3") two_and_five
-      ∷ gives (reply.No refusal.FileFrozen) [] two_and_five
-      ∷ gives (reply.Number 6) [] two_and_five
-      ∷ gives (reply.Number 1) [] two_and_five
-      ∷ gives (reply.Number 8) [] two_and_five
-      ∷ gives reply.Done [] two_and_five
-      ∷ gives (reply.No refusal.NoLicence) [] two_and_five
-      ∷ gives reply.Half [] bottom
-      ∷ gives (reply.Whole (record { 0 = 1 }) bottom to_grant) [] two_and_five
-      ∷ gives (reply.Number 6) [] two_and_five
-      ∷ gives (reply.Whole (record { 0 = 3 }) two_and_five to_read_the_log) [] bottom
-      ∷ gives (reply.Bytes 6) (codes "want D") two_and_five
-      ∷ gives reply.Done [] two_and_five
-      ∷ gives (reply.Number 9) [] two_and_five
-      ∷ gives reply.Done [] two_and_five
-      ∷ gives reply.Done [] two_and_five
-      ∷ [];
+      gives (reply.Two (record { 0 = 0 }) (record { 0 = 1 })) [] bottom ∷ gives (reply.Two (record { 0 = 2 }) (record { 0 = 3 })) [] bottom
+      ∷ gives_number 2 bottom ∷ gives_done bottom ∷ gives reply.Half [] bottom
+      ∷ gives (reply.Whole (record { 0 = 1 }) bottom to_grant) [] bottom ∷ gives_number 9 bottom
+      ∷ gives (reply.Whole (record { 0 = 2 }) bottom no_privileges) [] bottom ∷ gives_bytes (codes "login ann") bottom
+      ∷ gives_number 3 bottom ∷ gives_done bottom ∷ gives_done bottom ∷ gives_done bottom ∷ gives_number 9 bottom ∷ gives_done bottom
+      ∷ gives_bytes (codes "granted 1") bottom ∷ gives (reply.Whole (record { 0 = 2 }) bottom no_privileges) [] bottom
+      ∷ gives_number 9 bottom ∷ gives (reply.Whole (record { 0 = 2 }) bottom no_privileges) [] bottom
+      ∷ gives_bytes (codes "login bob") bottom ∷ gives_number 4 bottom ∷ gives_done bottom ∷ gives_done bottom ∷ gives_number 9 bottom
+      ∷ gives_done bottom ∷ gives_number 5 bottom ∷ gives_number 0 bottom ∷ gives_bytes (codes "q3") two_and_five
+      ∷ refuses refusal.FileFrozen two_and_five ∷ gives_number 6 two_and_five ∷ gives_number 1 two_and_five ∷ gives_number 8 two_and_five
+      ∷ gives_done two_and_five ∷ refuses refusal.NoLicence two_and_five ∷ gives reply.Half [] bottom
+      ∷ gives (reply.Whole (record { 0 = 1 }) bottom to_grant) [] two_and_five ∷ gives_number 6 two_and_five
+      ∷ gives (reply.Whole (record { 0 = 3 }) two_and_five to_read_the_log) [] bottom ∷ gives_bytes (codes "want D") two_and_five
+      ∷ gives_done two_and_five ∷ gives_number 9 two_and_five ∷ gives_done two_and_five ∷ gives_done two_and_five ∷ [];
   objects = (0, bottom) ∷ (1, bottom) ∷ (2, two_and_five) ∷ (3, bottom) ∷ (4, two_and_five) ∷ (5, bottom) ∷ (6, bottom) ∷ (256, bottom) ∷ (257, two_and_five) ∷ [];
   processes = (1, two_and_five) ∷ (2, bottom) ∷ (3, two_and_five) ∷ (4, bottom) ∷ [];
   log =

@@ -8,7 +8,7 @@ use Rattle.ix_model.specs.declared.config.Config.{Config}
 use Rattle.ix_model.specs.declared.privs.PrivSet.{PrivSet}
 use Rattle.ix_model.specs.declared.refusal.Refusal.TheVariants as refusal
 use Rattle.ix_model.specs.declared.reply.Reply.TheVariants as reply
-use Rattle.ix_worked.specs.Scripts.{three, proc, usual_fs, usual_limits, machine, entry, gives, log_line}
+use Rattle.ix_worked.specs.Scripts.{three, proc, usual_fs, usual_limits, machine, entry, gives, log_line, gives_done, refuses}
 use Rattle.ix_worked.specs.Sessions.{Shown}
 
 -- DL
@@ -38,12 +38,8 @@ reading_the_log =
 abbrev pub reading_the_log_shows : Shown
 reading_the_log_shows = record {
   lines =
-      gives (reply.No refusal.EndOfList) [] three
-      ∷ gives reply.Done [] bottom
-      ∷ gives (reply.LogLine (log_line 2 1 act.DownSelf 1 three bottom)) [] bottom
-      ∷ gives (reply.No refusal.EndOfList) [] bottom
-      ∷ gives (reply.No refusal.LogFull) [] bottom
-      ∷ [];
+      refuses refusal.EndOfList three ∷ gives_done bottom ∷ gives (reply.LogLine (log_line 2 1 act.DownSelf 1 three bottom)) [] bottom
+      ∷ refuses refusal.EndOfList bottom ∷ refuses refusal.LogFull bottom ∷ [];
   objects = (0, bottom) ∷ [];
   processes = (1, bottom) ∷ [];
   log = log_line 2 1 act.DownSelf 1 three bottom ∷ log_line 3 1 act.ReadLog 0 bottom bottom ∷ [];

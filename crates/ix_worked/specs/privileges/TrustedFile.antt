@@ -5,8 +5,7 @@ use Rattle.ix_model.specs.history.Events.{Event}
 use Rattle.ix_model.specs.history.Events as op
 use Rattle.ix_model.specs.declared.call.Mode.TheVariants as mode
 use Rattle.ix_model.specs.declared.refusal.Refusal.TheVariants as refusal
-use Rattle.ix_model.specs.declared.reply.Reply.TheVariants as reply
-use Rattle.ix_worked.specs.Scripts.{in_root, entry, gives}
+use Rattle.ix_worked.specs.Scripts.{in_root, entry, gives_number, refuses}
 use Rattle.ix_worked.specs.Sessions.{Shown}
 
 -- open a /prog w as f
@@ -20,10 +19,7 @@ writing_a_program =
 -- it is opened, and not written
 abbrev pub writing_a_program_shows : Shown
 writing_a_program_shows = record {
-  lines =
-      gives (reply.Number 0) [] bottom
-      ∷ gives (reply.No refusal.Trusted) [] bottom
-      ∷ [];
+  lines = gives_number 0 bottom ∷ refuses refusal.Trusted bottom ∷ [];
   objects = (0, bottom) ∷ (1, bottom) ∷ (2, bottom) ∷ (3, bottom) ∷ [];
   processes = (1, bottom) ∷ [];
   log = [];

@@ -6,8 +6,7 @@ use Rattle.ix_model.specs.history.Events as op
 use Rattle.ix_model.specs.declared.call.Keep.TheVariants as keep
 use Rattle.ix_model.specs.declared.call.Mode.TheVariants as mode
 use Rattle.ix_model.specs.declared.config.Config.{Config}
-use Rattle.ix_model.specs.declared.reply.Reply.TheVariants as reply
-use Rattle.ix_worked.specs.Scripts.{in_root, proc, file, usual_fs, machine, entry, gives}
+use Rattle.ix_worked.specs.Scripts.{in_root, proc, file, usual_fs, machine, entry, gives_bytes, gives_done, gives_number}
 use Rattle.ix_worked.specs.Sessions.{Shown}
 
 -- proc a - * - -
@@ -35,13 +34,8 @@ inheriting =
 abbrev pub inheriting_shows : Shown
 inheriting_shows = record {
   lines =
-      gives (reply.Number 0) [] bottom
-      ∷ gives (reply.Number 2) [] bottom
-      ∷ gives (reply.Bytes 4) (codes "abcd") bottom
-      ∷ gives (reply.Bytes 4) (codes "efgh") bottom
-      ∷ gives reply.Done [] bottom
-      ∷ gives (reply.Bytes 0) [] bottom
-      ∷ [];
+      gives_number 0 bottom ∷ gives_number 2 bottom ∷ gives_bytes (codes "abcd") bottom ∷ gives_bytes (codes "efgh") bottom
+      ∷ gives_done bottom ∷ gives_bytes [] bottom ∷ [];
   objects = (0, bottom) ∷ (1, bottom) ∷ [];
   processes = (1, bottom) ∷ (2, bottom) ∷ [];
   log = [];

@@ -9,7 +9,7 @@ use Rattle.ix_model.specs.declared.config.Config.{Config}
 use Rattle.ix_model.specs.declared.config.FsSpec.{FsSpec}
 use Rattle.ix_model.specs.declared.refusal.Refusal.TheVariants as refusal
 use Rattle.ix_model.specs.declared.reply.Reply.TheVariants as reply
-use Rattle.ix_worked.specs.Scripts.{seven, in_root, proc, file, usual_fs, machine, entry, gives}
+use Rattle.ix_worked.specs.Scripts.{seven, in_root, proc, file, usual_fs, machine, entry, gives, gives_bytes, gives_done, gives_number, refuses}
 use Rattle.ix_worked.specs.Sessions.{Line, Shown}
 
 -- proc a - * - -
@@ -101,14 +101,8 @@ writing_on_shows = record {
 abbrev pub writing_frozen_shows : Shown
 writing_frozen_shows = record {
   lines =
-      gives (reply.Number 0) [] bottom
-      ∷ gives reply.Done [] bottom
-      ∷ gives (reply.Number 2) [] bottom
-      ∷ gives (reply.Number 1) [] bottom
-      ∷ gives (reply.Bytes 2) (codes "zz") seven
-      ∷ gives (reply.Bytes 4) (codes "abcd") seven
-      ∷ gives (reply.No refusal.FileFrozen) [] bottom
-      ∷ [];
+      gives_number 0 bottom ∷ gives_done bottom ∷ gives_number 2 bottom ∷ gives_number 1 bottom ∷ gives_bytes (codes "zz") seven
+      ∷ gives_bytes (codes "abcd") seven ∷ refuses refusal.FileFrozen bottom ∷ [];
   objects = (0, bottom) ∷ (1, bottom) ∷ (2, seven) ∷ [];
   processes = (1, bottom) ∷ (2, seven) ∷ [];
   log = [];

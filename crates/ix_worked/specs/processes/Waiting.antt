@@ -7,7 +7,7 @@ use Rattle.ix_model.specs.declared.call.Keep.TheVariants as keep
 use Rattle.ix_model.specs.declared.call.Mode.TheVariants as mode
 use Rattle.ix_model.specs.declared.config.Config.{Config}
 use Rattle.ix_model.specs.declared.reply.Reply.TheVariants as reply
-use Rattle.ix_worked.specs.Scripts.{four, in_root, proc, file, usual_fs, machine, entry, gives}
+use Rattle.ix_worked.specs.Scripts.{four, in_root, proc, file, usual_fs, machine, entry, gives, gives_bytes, gives_done, gives_number}
 use Rattle.ix_worked.specs.Sessions.{Shown}
 
 -- proc a - * - -
@@ -33,12 +33,8 @@ waiting =
 abbrev pub waiting_shows : Shown
 waiting_shows = record {
   lines =
-      gives (reply.Number 2) [] bottom
-      ∷ gives (reply.Number 0) [] bottom
-      ∷ gives (reply.Bytes 1) (codes "k") four
-      ∷ gives reply.Done [] four
-      ∷ gives (reply.Child (record { 0 = 2 }) 9) [] four
-      ∷ [];
+      gives_number 2 bottom ∷ gives_number 0 bottom ∷ gives_bytes (codes "k") four ∷ gives_done four
+      ∷ gives (reply.Child (record { 0 = 2 }) 9) [] four ∷ [];
   objects = (0, bottom) ∷ (1, four) ∷ [];
   processes = (1, four) ∷ [];
   log = [];

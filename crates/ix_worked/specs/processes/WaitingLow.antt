@@ -6,8 +6,7 @@ use Rattle.ix_model.specs.history.Events as op
 use Rattle.ix_model.specs.declared.call.Keep.TheVariants as keep
 use Rattle.ix_model.specs.declared.call.Mode.TheVariants as mode
 use Rattle.ix_model.specs.declared.refusal.Refusal.TheVariants as refusal
-use Rattle.ix_model.specs.declared.reply.Reply.TheVariants as reply
-use Rattle.ix_worked.specs.Scripts.{four, in_root, entry, gives}
+use Rattle.ix_worked.specs.Scripts.{four, in_root, entry, gives_bytes, gives_done, gives_number, refuses}
 use Rattle.ix_worked.specs.Sessions.{Shown}
 
 -- fork a all as q
@@ -30,13 +29,8 @@ waiting_low =
 abbrev pub waiting_low_shows : Shown
 waiting_low_shows = record {
   lines =
-      gives (reply.Number 2) [] bottom
-      ∷ gives (reply.Number 0) [] bottom
-      ∷ gives (reply.Bytes 1) (codes "k") four
-      ∷ gives reply.Done [] four
-      ∷ gives reply.Done [] bottom
-      ∷ gives (reply.No refusal.ProcCeiling) [] bottom
-      ∷ [];
+      gives_number 2 bottom ∷ gives_number 0 bottom ∷ gives_bytes (codes "k") four ∷ gives_done four ∷ gives_done bottom
+      ∷ refuses refusal.ProcCeiling bottom ∷ [];
   objects = (0, bottom) ∷ (1, four) ∷ [];
   processes = (1, bottom) ∷ (2, four) ∷ [];
   log = [];

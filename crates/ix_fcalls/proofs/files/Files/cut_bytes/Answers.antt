@@ -1,4 +1,4 @@
-use Rattle.std.proofs.Common.{◌≡◌, ◌∙◌, sym, ap, subst, true, false, slice_set, slice_index_or}
+use Rattle.std.proofs.Common.{◌≡◌, ◌∙◌, ℕ, sym, ap, subst, true, false, slice_set, slice_index_or}
 use Rattle.std.specs.Option.{option_map_or}
 use Rattle.ix_model.specs.world.World.{at, is_file}
 use Rattle.ix_model.specs.world.Contents.{holds_nothing, with_side, cut_to}
@@ -8,6 +8,11 @@ use Rattle.ix_fcalls.proofs.Serving.{serves_file}
 use Rattle.ix_fcalls.proofs.Lengths.{cut_has_room}
 use Rattle.ix_fcalls.proofs.Edits.{edited_frame, edited_counted, cut_short}
 use Rattle.ix_fcalls.proofs.files.Files.cut_bytes.Goals as goal
+
+-- a file cut to a length
+abbrev with_cut : ℕ → ℕ → Parts → Parts
+with_cut o len v =
+    record v { holdings = slice_set v.holdings o (with_side 0 (cut_to len (slice_index_or v.holdings o holds_nothing).first) (slice_index_or v.holdings o holds_nothing)) }
 
 pub cut-requires-clause-file : goal.cut-requires-clause-file
 cut-requires-clause-file g c = subst (λ (v : Parts). option_map_or is_file (at v.objects c.args.e.now.object) false ≡ true) (sym c.self.view_is)
@@ -20,31 +25,16 @@ cut-requires-clause-room g c = subst (λ (v : Parts). has_room c.args.e.now.obje
 pub returns-clause-frame : goal.returns-clause-frame
 returns-clause-frame g c =
     edited_frame c.args.self.now c.cut.new.self _ _
-    (c.cut.ensures ∙ ap (λ (v : Parts). let w : Parts =
-    record v {
-      holdings = slice_set v.holdings c.args.e.now.object
-          (with_side 0 (cut_to c.args.len (slice_index_or v.holdings c.args.e.now.object holds_nothing).first)
-          (slice_index_or v.holdings c.args.e.now.object holds_nothing));
-    } in w) c.self.view_is)
+    (c.cut.ensures ∙ ap (with_cut c.args.e.now.object c.args.len) c.self.view_is)
     g.R.Others.rest c.args.who.now
 
 pub returns-clause-content : goal.returns-clause-content
 returns-clause-content g c =
     cut_short g.R.Others.rest c.args.self.now c.args.who.now c.args.e.now c.cut.new.self c.args.len c.requires.serves c.requires.file
-    (c.cut.ensures ∙ ap (λ (v : Parts). let w : Parts =
-    record v {
-      holdings = slice_set v.holdings c.args.e.now.object
-          (with_side 0 (cut_to c.args.len (slice_index_or v.holdings c.args.e.now.object holds_nothing).first)
-          (slice_index_or v.holdings c.args.e.now.object holds_nothing));
-    } in w) c.self.view_is)
+    (c.cut.ensures ∙ ap (with_cut c.args.e.now.object c.args.len) c.self.view_is)
 
 pub returns-clause-counted : goal.returns-clause-counted
 returns-clause-counted g c =
     edited_counted c.args.self.now c.cut.new.self _ _
-    (c.cut.ensures ∙ ap (λ (v : Parts). let w : Parts =
-    record v {
-      holdings = slice_set v.holdings c.args.e.now.object
-          (with_side 0 (cut_to c.args.len (slice_index_or v.holdings c.args.e.now.object holds_nothing).first)
-          (slice_index_or v.holdings c.args.e.now.object holds_nothing));
-    } in w) c.self.view_is)
+    (c.cut.ensures ∙ ap (with_cut c.args.e.now.object c.args.len) c.self.view_is)
     c.args.who.now c.requires.counted

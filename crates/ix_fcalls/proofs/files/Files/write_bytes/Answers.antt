@@ -1,4 +1,4 @@
-use Rattle.std.proofs.Common.{◌≡◌, ◌+◌, ◌-◌, ◌≤◌, ◌∙◌, ◌++◌, sym, ap, subst, true, false, length, is_some, slice_set, slice_index_or, arith}
+use Rattle.std.proofs.Common.{◌≡◌, ◌+◌, ◌-◌, ◌≤◌, ◌∙◌, ◌++◌, ℕ, List, sym, ap, subst, true, false, length, is_some, slice_set, slice_index_or, arith}
 use Rattle.std.specs.Option.{option_map_or}
 use Rattle.ix_model.specs.world.World.{at, is_pipe, is_file}
 use Rattle.ix_model.specs.world.Contents.{holds_nothing, side, with_side, spliced}
@@ -10,6 +10,19 @@ use Rattle.ix_fcalls.proofs.Serving.{serves_pipe, serves_file}
 use Rattle.ix_fcalls.proofs.Lengths.{pipe_room, write_few, write_ends, write_low, write_has_room}
 use Rattle.ix_fcalls.proofs.Edits.{edited_frame, edited_counted, appended, written}
 use Rattle.ix_fcalls.proofs.files.Files.write_bytes.Goals as goal
+
+-- bytes sent to an end of a pipe
+abbrev with_sent : ℕ → ℕ → List ℕ → Parts → Parts
+with_sent o end bytes v =
+    record v { holdings = slice_set v.holdings o (with_side end (side end (slice_index_or v.holdings o holds_nothing) ++ bytes) (slice_index_or v.holdings o holds_nothing)) }
+
+-- bytes written into a file, and an offset
+abbrev with_bytes : ℕ → ℕ → List ℕ → Parts → Parts
+with_bytes o offset bytes v =
+    record v { holdings = slice_set v.holdings o (with_side 0 (spliced offset bytes (slice_index_or v.holdings o holds_nothing).first) (slice_index_or v.holdings o holds_nothing)) }
+
+abbrev with_offset : ℕ → ℕ → Parts → Parts
+with_offset e offset v = record v { offsets = slice_set v.offsets e offset }
 
 pub append-requires-clause-pipe : goal.append-requires-clause-pipe
 append-requires-clause-pipe g c = subst (λ (v : Parts). is_pipe (node v.objects c.args.e.now.object) ≡ true) (sym c.self.view_is)
@@ -26,33 +39,18 @@ append-requires-clause-room g c =
 pub returns-then-is_on_pipe-clause-frame : goal.returns-then-is_on_pipe-clause-frame
 returns-then-is_on_pipe-clause-frame g c =
     edited_frame c.args.self.now c.append.new.self _ _
-    (c.append.ensures ∙ ap (λ (v : Parts). let w : Parts =
-    record v {
-      holdings = slice_set v.holdings c.args.e.now.object
-          (with_side (1 - c.args.e.now.end) (side (1 - c.args.e.now.end) (slice_index_or v.holdings c.args.e.now.object holds_nothing) ++ c.args.bytes.now)
-          (slice_index_or v.holdings c.args.e.now.object holds_nothing));
-    } in w) c.self.view_is)
+    (c.append.ensures ∙ ap (with_sent c.args.e.now.object (1 - c.args.e.now.end) c.args.bytes.now) c.self.view_is)
     g.R.Others.rest c.args.who.now
 
 pub returns-then-is_on_pipe-clause-content : goal.returns-then-is_on_pipe-clause-content
 returns-then-is_on_pipe-clause-content g c =
     appended g.R.Others.rest c.args.self.now c.args.who.now c.args.e.now c.append.new.self c.args.bytes.now (sym c.is_on_pipe.ensures ∙ c.if-is_on_pipe.true)
-    (c.append.ensures ∙ ap (λ (v : Parts). let w : Parts =
-    record v {
-      holdings = slice_set v.holdings c.args.e.now.object
-          (with_side (1 - c.args.e.now.end) (side (1 - c.args.e.now.end) (slice_index_or v.holdings c.args.e.now.object holds_nothing) ++ c.args.bytes.now)
-          (slice_index_or v.holdings c.args.e.now.object holds_nothing));
-    } in w) c.self.view_is)
+    (c.append.ensures ∙ ap (with_sent c.args.e.now.object (1 - c.args.e.now.end) c.args.bytes.now) c.self.view_is)
 
 pub returns-then-is_on_pipe-clause-counted : goal.returns-then-is_on_pipe-clause-counted
 returns-then-is_on_pipe-clause-counted g c =
     edited_counted c.args.self.now c.append.new.self _ _
-    (c.append.ensures ∙ ap (λ (v : Parts). let w : Parts =
-    record v {
-      holdings = slice_set v.holdings c.args.e.now.object
-          (with_side (1 - c.args.e.now.end) (side (1 - c.args.e.now.end) (slice_index_or v.holdings c.args.e.now.object holds_nothing) ++ c.args.bytes.now)
-          (slice_index_or v.holdings c.args.e.now.object holds_nothing));
-    } in w) c.self.view_is)
+    (c.append.ensures ∙ ap (with_sent c.args.e.now.object (1 - c.args.e.now.end) c.args.bytes.now) c.self.view_is)
     c.args.who.now c.requires.counted
 
 pub overflow_cast-n : goal.overflow_cast-n
@@ -88,34 +86,19 @@ seek-requires g c =
 pub returns-clause-frame : goal.returns-clause-frame
 returns-clause-frame g c =
     edited_frame c.args.self.now c.seek.new.self _ _
-    (c.seek.ensures ∙ ap (λ (v : Parts). let w : Parts = record v { offsets = slice_set v.offsets c.args.e.now.id (c.args.e.now.offset + length c.args.bytes.now) } in w)
-    (c.write.ensures ∙ ap (λ (v : Parts). let w : Parts =
-    record v {
-      holdings = slice_set v.holdings c.args.e.now.object
-          (with_side 0 (spliced c.args.e.now.offset c.args.bytes.now (slice_index_or v.holdings c.args.e.now.object holds_nothing).first)
-          (slice_index_or v.holdings c.args.e.now.object holds_nothing));
-    } in w) c.self.view_is))
+    (c.seek.ensures ∙ ap (with_offset c.args.e.now.id (c.args.e.now.offset + length c.args.bytes.now))
+    (c.write.ensures ∙ ap (with_bytes c.args.e.now.object c.args.e.now.offset c.args.bytes.now) c.self.view_is))
     g.R.Others.rest c.args.who.now
 
 pub returns-clause-content : goal.returns-clause-content
 returns-clause-content g c =
     written g.R.Others.rest c.args.self.now c.args.who.now c.args.e.now c.seek.new.self c.args.bytes.now c.requires.serves (sym c.is_on_pipe.ensures ∙ c.if-is_on_pipe.false)
-    (c.seek.ensures ∙ ap (λ (v : Parts). let w : Parts = record v { offsets = slice_set v.offsets c.args.e.now.id (c.args.e.now.offset + length c.args.bytes.now) } in w)
-    (c.write.ensures ∙ ap (λ (v : Parts). let w : Parts =
-    record v {
-      holdings = slice_set v.holdings c.args.e.now.object
-          (with_side 0 (spliced c.args.e.now.offset c.args.bytes.now (slice_index_or v.holdings c.args.e.now.object holds_nothing).first)
-          (slice_index_or v.holdings c.args.e.now.object holds_nothing));
-    } in w) c.self.view_is))
+    (c.seek.ensures ∙ ap (with_offset c.args.e.now.id (c.args.e.now.offset + length c.args.bytes.now))
+    (c.write.ensures ∙ ap (with_bytes c.args.e.now.object c.args.e.now.offset c.args.bytes.now) c.self.view_is))
 
 pub returns-clause-counted : goal.returns-clause-counted
 returns-clause-counted g c =
     edited_counted c.args.self.now c.seek.new.self _ _
-    (c.seek.ensures ∙ ap (λ (v : Parts). let w : Parts = record v { offsets = slice_set v.offsets c.args.e.now.id (c.args.e.now.offset + length c.args.bytes.now) } in w)
-    (c.write.ensures ∙ ap (λ (v : Parts). let w : Parts =
-    record v {
-      holdings = slice_set v.holdings c.args.e.now.object
-          (with_side 0 (spliced c.args.e.now.offset c.args.bytes.now (slice_index_or v.holdings c.args.e.now.object holds_nothing).first)
-          (slice_index_or v.holdings c.args.e.now.object holds_nothing));
-    } in w) c.self.view_is))
+    (c.seek.ensures ∙ ap (with_offset c.args.e.now.id (c.args.e.now.offset + length c.args.bytes.now))
+    (c.write.ensures ∙ ap (with_bytes c.args.e.now.object c.args.e.now.offset c.args.bytes.now) c.self.view_is))
     c.args.who.now c.requires.counted

@@ -5,14 +5,10 @@ use Rattle.ix_tables.proofs.Rooms.{room_there}
 use Rattle.ix_tables.proofs.tables.Tables.has_room.Goals as goal
 
 pub lemma_blocks_add_up-requires : goal.lemma_blocks_add_up-requires
-lemma_blocks_add_up-requires c = file_lives c.args.n c.self.inside.inodes (is_file_there c.self.inside.limits c.self.inside.inodes c.self.inside.names c.self.inside.pipes
-    c.self.inside.opens c.self.inside.homes.items c.args.self.now c.self.inside.first_pipe c.self.invariant c.self.view_is c.args.n c.requires.file)
+lemma_blocks_add_up-requires c = file_lives c.args.n c.self.inside.inodes (is_file_there _ _ _ _ _ _ _ _ c.self.invariant c.self.view_is c.args.n c.requires.file)
 
 pub has_room-requires-clause-file : goal.has_room-requires-clause-file
-has_room-requires-clause-file c = is_file_there c.self.inside.limits c.self.inside.inodes c.self.inside.names c.self.inside.pipes c.self.inside.opens
-    c.self.inside.homes.items c.args.self.now c.self.inside.first_pipe c.self.invariant c.self.view_is c.args.n c.requires.file
+has_room-requires-clause-file c = is_file_there _ _ _ _ _ _ _ _ c.self.invariant c.self.view_is c.args.n c.requires.file
 
 pub returns : goal.returns
-returns c = c.has_room.ensures ∙ room_there c.self.inside.limits c.self.inside.inodes c.self.inside.names c.self.inside.pipes c.self.inside.opens
-    c.self.inside.homes.items c.args.self.now c.self.inside.first_pipe c.self.invariant c.self.view_is c.args.n c.requires.file c.args.len
-    c.lemma_blocks_add_up.ensures
+returns c = c.has_room.ensures ∙ room_there _ _ _ _ _ _ _ _ c.self.invariant c.self.view_is c.args.n c.requires.file c.args.len c.lemma_blocks_add_up.ensures

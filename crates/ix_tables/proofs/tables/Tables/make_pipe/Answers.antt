@@ -8,5 +8,4 @@ pub returns : goal.returns
 returns c =
     ap (λ (ps : List (Option Pipe)). joined c.self.inside.limits c.self.inside.inodes c.self.inside.names ps c.self.inside.opens c.self.inside.homes.items)
     (c.make.ensures.made ∙ ap (λ (r : Option ℕ). made r c.self.inside.pipes) c.make.ensures.number)
-    ∙ made_there c.self.inside.limits c.self.inside.inodes c.self.inside.names c.self.inside.pipes c.self.inside.opens c.self.inside.homes.items c.args.self.now
-    c.self.inside.first_pipe c.self.invariant c.self.view_is c.args.n c.requires
+    ∙ made_there _ _ _ _ _ _ _ _ c.self.invariant c.self.view_is c.args.n c.requires

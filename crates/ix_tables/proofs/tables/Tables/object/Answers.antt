@@ -39,5 +39,4 @@ returns-then-n-self-clause-links c =
     subst (λ k. IfSome c.pipe.result (λ x. x.links ≡ links_of (frame_alone c.args.self.now) k (object_by (node c.args.self.now.objects k) x))) same c.pipe.ensures.links
 
 pub returns-clause-links : goal.returns-clause-links
-returns-clause-links c = c.links_told.ensures ∙ links_shown c.self.inside.limits c.self.inside.inodes c.self.inside.names c.self.inside.pipes
-    c.self.inside.opens c.self.inside.homes.items c.args.self.now c.self.invariant.0 c.self.view_is c.args.n c.in_ok-inode.inode c.in_ok-inode.ensures.told
+returns-clause-links c = c.links_told.ensures ∙ links_shown _ _ _ _ _ _ _ c.self.invariant.0 c.self.view_is c.args.n c.in_ok-inode.inode c.in_ok-inode.ensures.told

@@ -20,5 +20,4 @@ returns-clause-pipe c =
 pub returns-clause-links : goal.returns-clause-links
 returns-clause-links c =
     let first = ap (λ (v : Parts). first_pipe v.fss) (sym c.self.view_is) ∙ c.self.invariant.0.first in
-    pipe_unnamed c.self.inside.limits c.self.inside.inodes c.self.inside.names c.self.inside.pipes c.self.inside.opens c.self.inside.homes.items c.args.self.now
-    c.self.invariant.0 c.self.view_is (first_pipe c.args.self.now.fss + c.args.pipe) (omega (arith, first))
+    pipe_unnamed _ _ _ _ _ _ _ c.self.invariant.0 c.self.view_is (first_pipe c.args.self.now.fss + c.args.pipe) (omega (arith, first))

@@ -7,8 +7,7 @@ use Rattle.ix_tables.proofs.Piping.{is_living, changed_there, pipe_past}
 use Rattle.ix_tables.proofs.tables.Tables.set_label.Goals as goal
 
 pub set_label-requires : goal.set_label-requires
-set_label-requires c = is_living c.self.inside.limits c.self.inside.inodes c.self.inside.names c.self.inside.pipes c.self.inside.opens c.self.inside.homes.items
-    c.args.self.now c.self.inside.first_pipe c.args.n c.self.invariant c.self.view_is (pipe_past c.self.inside.limits c.self.inside.inodes c.self.inside.names
+set_label-requires c = is_living _ _ _ _ _ _ _ _ c.args.n c.self.invariant c.self.view_is (pipe_past c.self.inside.limits c.self.inside.inodes c.self.inside.names
     c.self.inside.pipes c.self.inside.opens c.self.inside.homes.items c.args.self.now c.self.view_is c.self.inside.first_pipe c.args.n c.self.invariant.1
     (omega (arith, c.if-n-self.true)) c.requires.lives)
 
@@ -25,8 +24,7 @@ set_label-requires-else-n-self-clause-below c =
 pub returns-then-n-self : goal.returns-then-n-self
 returns-then-n-self c =
     ap (λ (ps : List (Option Pipe)). joined c.self.inside.limits c.self.inside.inodes c.self.inside.names ps c.self.inside.opens c.self.inside.homes.items) c.set_label.ensures
-    ∙ changed_there c.self.inside.limits c.self.inside.inodes c.self.inside.names c.self.inside.pipes c.self.inside.opens c.self.inside.homes.items
-    c.args.self.now c.self.inside.first_pipe c.args.n c.self.invariant c.self.view_is (pipe_past c.self.inside.limits c.self.inside.inodes
+    ∙ changed_there _ _ _ _ _ _ _ _ c.args.n c.self.invariant c.self.view_is (pipe_past c.self.inside.limits c.self.inside.inodes
     c.self.inside.names c.self.inside.pipes c.self.inside.opens c.self.inside.homes.items c.args.self.now c.self.view_is c.self.inside.first_pipe c.args.n
     c.self.invariant.1 (omega (arith, c.if-n-self.true)) c.requires.lives)
     (with_label c.args.label) (λ x. record x { label = c.args.label }) (λ p. refl) (λ p. refl)

@@ -3,9 +3,7 @@ use Rattle.ix_tables.proofs.Holding.{size_there}
 use Rattle.ix_tables.proofs.tables.Tables.size.Goals as goal
 
 pub returns-in-Some : goal.returns-in-Some
-returns-in-Some c = size_there c.self.inside.limits c.self.inside.inodes c.self.inside.names c.self.inside.pipes c.self.inside.opens c.self.inside.homes.items
-    c.args.self.now c.self.inside.first_pipe c.self.invariant c.self.view_is c.args.n c.requires (Some c.in-Some.inode) c.in-Some.ensures.told
+returns-in-Some c = size_there _ _ _ _ _ _ _ _ c.self.invariant c.self.view_is c.args.n c.requires (Some c.in-Some.inode) c.in-Some.ensures.told
 
 pub returns-in-None : goal.returns-in-None
-returns-in-None c = size_there c.self.inside.limits c.self.inside.inodes c.self.inside.names c.self.inside.pipes c.self.inside.opens c.self.inside.homes.items
-    c.args.self.now c.self.inside.first_pipe c.self.invariant c.self.view_is c.args.n c.requires None c.in-None.ensures.told
+returns-in-None c = size_there _ _ _ _ _ _ _ _ c.self.invariant c.self.view_is c.args.n c.requires None c.in-None.ensures.told

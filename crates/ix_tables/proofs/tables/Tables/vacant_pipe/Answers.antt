@@ -6,13 +6,11 @@ pub returns-in_err-vacant : goal.returns-in_err-vacant
 returns-in_err-vacant c =
     record {
       vacant = c.from_residual.ensures ∙ ap (λ (r : Option ℕ). option_map (λ n. c.self.inside.first_pipe + n) r) c.in_err-vacant.ensures
-          ∙ vacant_is c.self.inside.limits c.self.inside.inodes c.self.inside.names c.self.inside.pipes c.self.inside.opens c.self.inside.homes.items c.args.self.now
-          c.self.inside.first_pipe c.self.invariant c.self.view_is;
+          ∙ vacant_is _ _ _ _ _ _ _ _ c.self.invariant c.self.view_is;
     }
 
 pub returns : goal.returns
 returns c = record {
   vacant = ap (λ (r : Option ℕ). option_map (λ n. c.self.inside.first_pipe + n) r) c.in_ok-vacant.ensures
-      ∙ vacant_is c.self.inside.limits c.self.inside.inodes c.self.inside.names c.self.inside.pipes c.self.inside.opens c.self.inside.homes.items c.args.self.now
-      c.self.inside.first_pipe c.self.invariant c.self.view_is;
+      ∙ vacant_is _ _ _ _ _ _ _ _ c.self.invariant c.self.view_is;
 }

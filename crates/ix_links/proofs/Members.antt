@@ -1,5 +1,5 @@
--- Whether an index stands in a list, and a list from which one was taken.
-use Rattle.std.proofs.Common.{◌≡◌, ◌≤◌, ◌==◌, ◌||◌, not, ℕ, zero, suc, Bool, true, false, List, [], ◌∷◌, filter, Some, refl, sym, ap, ◌∙◌, arith, inl, inr, slice_get}
+-- Whether an index stands in a list, a list from which one was taken, and a search among them.
+use Rattle.std.proofs.Common.{◌≡◌, ◌≤◌, ◌==◌, ◌||◌, not, ℕ, zero, suc, Bool, true, false, List, [], ◌∷◌, filter, find, Some, None, refl, sym, ap, ◌∙◌, arith, inl, inr, slice_get}
 use Rattle.std.specs.List.{list_any}
 use Rattle.std.proofs.lemmas.Bool.{eqb-true, eq-eqb, ne_eqb}
 use Rattle.std.proofs.lemmas.Bool.Decides.{eqb_tells}
@@ -58,3 +58,21 @@ without_once i (x ∷ xs) few = elim (eqb_tells x i) [
   | inl same ↦ (let one = rw same.0 at few in rw same.0 (sym (dropped_none i xs (omega arith))))
   | inr other ↦ (let rest = rw other.0 at few in rw other.0 (ap (λ (ys : List ℕ). x ∷ ys) (without_once i xs (omega arith))))
 ]
+
+-- what a search finds passes its test, and where it finds none no member does
+pub passes : (p : ℕ → Bool) (xs : List ℕ) (i : ℕ) → find p xs ≡ Some i → p i ≡ true
+passes p [] i h = absurd (cc h)
+passes p (x ∷ xs) i h = go (p x) refl (passes p xs i)
+  where
+    go : (b : Bool) → p x ≡ b → (find p xs ≡ Some i → p i ≡ true) → p i ≡ true
+    go true is rest = ap p (sym (same_Some x i (rw is at h))) ∙ is
+    go false is rest = rest (rw is at h)
+
+pub none_found : (p : ℕ → Bool) (xs : List ℕ) (j : ℕ) → find p xs ≡ None → member j xs ≡ true → p j ≡ false
+none_found p [] j h there = absurd (cc there)
+none_found p (x ∷ xs) j h there = go (p x) refl (x == j) refl (λ g t. none_found p xs j g t)
+  where
+    go : (b : Bool) → p x ≡ b → (s : Bool) → (x == j) ≡ s → (find p xs ≡ None → member j xs ≡ true → p j ≡ false) → p j ≡ false
+    go true is s same rest = absurd (cc (rw is at h))
+    go false is true same rest = ap p (sym (eqb-true x j same)) ∙ is
+    go false is false same rest = rest (rw is at h) (rw same at there)

@@ -1,30 +1,29 @@
 -- What the law of a pool says of the indices that stand in its chains.
-use Rattle.std.proofs.Common.{◌≡◌, ℕ, ◌<◌, ◌≤◌, Bool, true, false, List, [], ◌∷◌, length, set, Some, ◌++◌, drop, refl, sym, ap, ◌∙◌, arith, slice_get}
+use Rattle.std.proofs.Common.{◌≡◌, ℕ, ◌+◌, ◌<◌, ◌≤◌, Bool, true, false, List, [], ◌∷◌, length, set, Some, ◌++◌, drop, refl, sym, ap, ◌∙◌, arith, slice_get}
 use Rattle.std.proofs.lemmas.Option.{same_Some}
 use Rattle.std.specs.List.{Contains}
 use Rattle.ix_links.specs.Chains.{Chains, chain_of, times, pushed_back, back_moved}
 use Rattle.ix_links.specs.Whole.{IsPool}
 use Rattle.ix_links.proofs.Listing.{part-le-total}
 use Rattle.ix_links.proofs.Held.{contained, times_at, chain_within, held-not_free, at_most_once}
-use Rattle.ix_name.specs.Entries.{stands_in}
-use Rattle.ix_name.proofs.Members.{place_of}
+use Rattle.ix_links.proofs.Members.{member, place_of}
 
 -- an index of a chain is a member of it, and there once
 module _ (s : Chains) (pooled : IsPool s) where
-  pub once : (c : ℕ) (i : ℕ) → stands_in s.chains c i ≡ true → times i (chain_of c s) ≤ 1
+  pub once : (c : ℕ) (i : ℕ) → member i (chain_of c s) ≡ true → times i (chain_of c s) ≤ 1
   once c i h = let p = place_of i (chain_of c s) h in omega (arith, at_most_once s i pooled, part-le-total (times i) s.chains c (chain_within s c p.0 i p.1))
 
-  pub stands_within : (c i : ℕ) → stands_in s.chains c i ≡ true → c < length s.chains
+  pub stands_within : (c i : ℕ) → member i (chain_of c s) ≡ true → c < length s.chains
   stands_within c i h = let p = place_of i (chain_of c s) h in chain_within s c p.0 i p.1
 
-  pub stands_contained : (c i : ℕ) → stands_in s.chains c i ≡ true → Contains (chain_of c s) i
+  pub stands_contained : (c i : ℕ) → member i (chain_of c s) ≡ true → Contains (chain_of c s) i
   stands_contained c i h = let p = place_of i (chain_of c s) h in contained (chain_of c s) p.0 i p.1
 
   -- a free index stands in no chain
-  pub fresh : (i : ℕ) → slice_get s.free 0 ≡ Some i → (c : ℕ) → stands_in s.chains c i ≡ false
-  fresh i free c = go (stands_in s.chains c i) refl
+  pub fresh : (i : ℕ) → slice_get s.free 0 ≡ Some i → (c : ℕ) → member i (chain_of c s) ≡ false
+  fresh i free c = go (member i (chain_of c s)) refl
     where
-      go : (b : Bool) → stands_in s.chains c i ≡ b → stands_in s.chains c i ≡ false
+      go : (b : Bool) → member i (chain_of c s) ≡ b → member i (chain_of c s) ≡ false
       go false h = h
       go true h =
           let p = place_of i (chain_of c s) h in
@@ -34,6 +33,7 @@ module _ (s : Chains) (pooled : IsPool s) where
 pub record Pushed (d i : ℕ) (s : Chains) : Type 0 where
   pub chains : (pushed_back d s).chains ≡ set s.chains d (chain_of d s ++ i ∷ [])
   pub free : (pushed_back d s).free ≡ drop 1 s.free
+  pub fewer : length (pushed_back d s).free + 1 ≡ length s.free
 
 pub pushed : (d i : ℕ) (s : Chains) → slice_get s.free 0 ≡ Some i → Pushed d i s
 pushed d i s first = go s.free refl first
@@ -46,4 +46,5 @@ pushed d i s first = go s.free refl first
         record {
           chains = ap (λ (t : Chains). t.chains) moved ∙ ap (λ j. set s.chains d (chain_of d s ++ j ∷ [])) one;
           free = ap (λ (t : Chains). t.free) moved ∙ ap (drop 1) (sym is);
+          fewer = omega (arith, ap (λ (t : Chains). length t.free) moved, ap length is);
         }

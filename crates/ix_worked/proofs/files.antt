@@ -1,3 +1,0 @@
-pub mod Shared
-pub mod Filled
-pub mod Named

@@ -1,3 +1,0 @@
-pub mod Piped
-pub mod Claimed
-pub mod Copied

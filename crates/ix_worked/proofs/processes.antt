@@ -1,4 +1,0 @@
-pub mod Inherited
-pub mod Waited
-pub mod HeldLow
-pub mod ReadFar
