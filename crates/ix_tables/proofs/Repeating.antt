@@ -1,5 +1,5 @@
 -- A byte written so many times behind the last one of a file.
-use Rattle.std.proofs.Common.{◌≡◌, ◌+◌, ◌-◌, ◌<◌, ◌≤◌, ◌==◌, ◌/◌, ℕ, zero, suc, Bool, true, false, not, max, nat_lt, nat_le, ◌&&◌, List, [], ◌∷◌, ◌++◌, length, take, drop}
+use Rattle.std.proofs.Common.{◌≡◌, ◌+◌, ◌-◌, ◌<◌, ◌≤◌, ◌==◌, ℕ, Bool, true, false, not, max, nat_lt, nat_le, ◌&&◌, List, [], ◌∷◌, ◌++◌, length, take, drop}
 use Rattle.std.proofs.Common.{replicate, slice_set, slice_index_or, if◌then◌else◌, refl, sym, ap, ◌∙◌, subst, arith, inl, inr, append-nil, append_assoc}
 use Rattle.std.proofs.lemmas.Bool.{cases_lt}
 use Rattle.std.proofs.lemmas.List.{set-set, set_past, set-get_or, get_or-set_same, get_or_past, take_all, replicate-append-replicate, length-replicate, length-append}
@@ -7,7 +7,7 @@ use Rattle.std.proofs.lemmas.Bool.Decides.{nat_tests, eqb_tells}
 use Rattle.std.proofs.Math.ListN.{drop_of_length-le}
 use Rattle.ix_model.specs.world.World.{Holding}
 use Rattle.ix_model.specs.world.Contents.{holds_nothing, with_side, spliced}
-use Rattle.ix_model.specs.rows.Telling.{blocks_for, blocks_where, blocks_on, blocks_beside, fs_of_object, lies_on, length_then}
+use Rattle.ix_model.specs.rows.Telling.{blocks_for, blocks_on, blocks_beside, fs_of_object, lies_on, length_then}
 use Rattle.ix_model.proofs.tables.Blocks.{blocks_skip}
 use Rattle.ix_tables.specs.Parts.{Parts}
 use Rattle.ix_tables.specs.Views.{frame_alone, content_alone, has_room}
@@ -88,11 +88,23 @@ module _ (t : Parts) (n byte : ℕ) where
         → length_then (len + k) part (length (slice_index_or (behind k).holdings n holds_nothing).first) ≤ len + times
     ends_before len times part is low = omega (arith, low, then_low (len + k) part (length (slice_index_or (behind k).holdings n holds_nothing).first) (long len is))
 
+    pub room_goes_on : (len from times part : ℕ) (new : List ℕ) (u : Parts) → len ≡ length held.first → from ≡ k → new ≡ replicate part byte → k + part ≤ times
+        → u ≡ behind k → has_room n (length held.first + times) t ≡ true
+        → has_room n (length_then (len + from) (length new) (length (slice_index_or u.holdings n holds_nothing).first)) u ≡ true
+    room_goes_on len from times part new u is same what low before room =
+        let old = length (slice_index_or (behind k).holdings n holds_nothing).first in
+        let many : length new ≡ part = ap (λ (bs : List ℕ). length bs) what ∙ length-replicate part byte in
+        let ends : length_then (len + from) (length new) old ≤ length held.first + times =
+        omega (arith, low, is, same, many, then_low (len + from) (length new) old (omega (arith, same, long len is))) in
+        subst (λ (w : Parts). has_room n (length_then (len + from) (length new) (length (slice_index_or w.holdings n holds_nothing).first)) w ≡ true) (sym before)
+        (room_stays t n (with_side 0 (held.first ++ replicate k byte) held) (length_then (len + from) (length new) old)
+        ∙ room_for_fewer t n (length held.first + times) (length_then (len + from) (length new) old) ends room)
+
     -- the bytes of one write more
-    pub goes_on : (len part : ℕ) (new : List ℕ) (u v : Parts) → len ≡ length held.first → new ≡ replicate part byte → u ≡ behind k
+    goes_on_there : (len part : ℕ) (new : List ℕ) (u v : Parts) → len ≡ length held.first → new ≡ replicate part byte → u ≡ behind k
         → v ≡ record u { holdings = slice_set u.holdings n (with_side 0 (spliced (len + k) new (slice_index_or u.holdings n holds_nothing).first) (slice_index_or u.holdings n holds_nothing)) }
         → v ≡ behind (k + part)
-    goes_on len part new u v is what before after =
+    goes_on_there len part new u v is what before after =
         let same : slice_set (behind k).holdings n (with_side 0 (spliced (len + k) new (slice_index_or (behind k).holdings n holds_nothing).first) (slice_index_or (behind k).holdings n holds_nothing))
             ≡ slice_set t.holdings n (with_side 0 (held.first ++ replicate (k + part) byte) held) = elim (cases_lt n (length t.holdings)) [ | inl low ↦ inside low | inr past ↦ outside past ] in
         after
@@ -117,6 +129,13 @@ module _ (t : Parts) (n byte : ℕ) where
             let h : Holding = with_side 0 (spliced (len + k) new (slice_index_or (behind k).holdings n holds_nothing).first) (slice_index_or (behind k).holdings n holds_nothing) in
             ap (λ (hs : List Holding). slice_set hs n h) (unchanged past) ∙ set_past t.holdings n h past
             ∙ sym (set_past t.holdings n (with_side 0 (held.first ++ replicate (k + part) byte) held) past)
+
+    pub goes_on : (len from part : ℕ) (new : List ℕ) (u v : Parts) → len ≡ length held.first → from ≡ k → new ≡ replicate part byte → u ≡ behind k
+        → v ≡ record u { holdings = slice_set u.holdings n (with_side 0 (spliced (len + from) new (slice_index_or u.holdings n holds_nothing).first) (slice_index_or u.holdings n holds_nothing)) }
+        → v ≡ behind (k + part)
+    goes_on len from part new u v is same what before after =
+        goes_on_there len part new u v is what before
+        (after ∙ (λ i. record u { holdings = slice_set u.holdings n (with_side 0 (spliced (len + same i) new (slice_index_or u.holdings n holds_nothing).first) (slice_index_or u.holdings n holds_nothing)) }))
 
 -- ---- the bytes of a file that holds nothing yet
 module _ (t : Parts) (n : ℕ) (said : List ℕ) where
