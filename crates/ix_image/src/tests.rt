@@ -8,7 +8,7 @@ use bitflags::Flags;
 use ix_core::Core;
 use ix_label::Label;
 use ix_model::{
-    Bytes, Config, FsSpec, Limits, List, Name, NameRef, NoMemory, ObjSpec, PathBuf, PrivSet,
+    Config, Contents, FsSpec, Limits, List, Name, NameRef, NoMemory, ObjSpec, PathBuf, PrivSet,
 };
 use ix_report::Line;
 use std::alloc::{AllocError, Global};
@@ -513,9 +513,8 @@ fn root() -> Option<FsSpec> {
 fn file(alloc: Global) -> Option<ObjSpec> {
     let mut path = PathBuf::new(true);
     path.push(NameRef::read(b"a")?);
-    let mut bytes = Bytes::new(alloc);
-    bytes.push(b'h').ok()?;
-    bytes.push(b'i').ok()?;
+    let mut said = Vec::new(alloc);
+    said.extend_from_slice(b"hi").ok()?;
     Some(ObjSpec {
         path,
         dir: false,
@@ -523,7 +522,7 @@ fn file(alloc: Global) -> Option<ObjSpec> {
         frozen: false,
         cap: PrivSet::empty(),
         lic: PrivSet::empty(),
-        bytes,
+        bytes: Contents::from_vec(said),
     })
 }
 

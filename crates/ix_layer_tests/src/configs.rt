@@ -1,6 +1,6 @@
 use bitflags::Flags;
 use ix_label::Label;
-use ix_model::{Bytes, Config, FsSpec, Limits, List, Name, NameRef, ObjSpec, PathBuf, PrivSet};
+use ix_model::{Config, Contents, FsSpec, Limits, List, Name, NameRef, ObjSpec, PathBuf, PrivSet};
 use std::alloc::Global;
 use std::process::Abort;
 
@@ -37,7 +37,7 @@ fn files(alloc: Global, names: [&[u8]; 2]) -> Option<List<ObjSpec>> {
             frozen: false,
             cap: PrivSet::empty(),
             lic: PrivSet::empty(),
-            bytes: Bytes::new(alloc),
+            bytes: Contents::new(alloc),
         })
         .ok()?;
     }

@@ -1,4 +1,4 @@
-use crate::bytes::Bytes;
+use crate::contents::Contents;
 use crate::list::List;
 use crate::name::Name;
 use crate::path_buf::PathBuf;
@@ -60,7 +60,7 @@ pub struct ObjSpec {
     /// None for a directory.
     pub lic: PrivSet,
     /// None for a directory.
-    pub bytes: Bytes,
+    pub bytes: Contents,
 }
 
 /// What a machine starts from.

@@ -5,9 +5,10 @@ ghost use Rattle.ix_script.specs.scripts.Scripts.{config_of};
 use crate::header::{default_fs, default_limits, fs_spec, limits_after};
 use crate::line::Line;
 use crate::packed::Lines;
+use crate::payload::Payload;
 use bitflags::Flags;
 use ix_model::{
-    Bytes, Config, FsSpec, Limits, List, NoMemory, ObjSpec, PathBuf, PrivSet, ProcSpec,
+    Config, Contents, FsSpec, Limits, List, NoMemory, ObjSpec, PathBuf, PrivSet, ProcSpec,
 };
 use std::alloc::Global;
 
@@ -49,6 +50,18 @@ fn add_proc(procs: &mut List<ProcSpec>, line: &Line<'_>) -> Result<(), NoMemory>
     }
 }
 
+/// The bytes of a payload, which take no memory where it says one byte so many times.
+fn contents_of(alloc: Global, payload: &Payload<'_, 1_048_576>) -> Result<Contents, NoMemory>
+    ensures { IfOk result (λ c. c ≡ payload.now) }
+{
+    if let Some((_, byte)) = payload.times() {
+        return Ok(Contents::times(alloc, payload.len() as u32, byte));
+    }
+    let mut decoded = Vec::new(alloc);
+    payload.decode_into(&mut decoded)?;
+    Ok(Contents::from_vec(decoded))
+}
+
 fn add_object(alloc: Global, objects: &mut List<ObjSpec>, line: &Line<'_>) -> Result<(), NoMemory>
     ensures { OnOk result (objects.new ≡ objects.old ++ object_told line.now) }
 {
@@ -64,7 +77,7 @@ fn add_object(alloc: Global, objects: &mut List<ObjSpec>, line: &Line<'_>) -> Re
             frozen: *frozen,
             cap: PrivSet::from_bits_retain(0),
             lic: PrivSet::from_bits_retain(0),
-            bytes: Bytes::new(alloc),
+            bytes: Contents::new(alloc),
         }),
         Line::File {
             path,
@@ -74,8 +87,7 @@ fn add_object(alloc: Global, objects: &mut List<ObjSpec>, line: &Line<'_>) -> Re
             lic,
             bytes,
         } => {
-            let mut decoded = Vec::new(alloc);
-            bytes.decode_into(&mut decoded)?;
+            let contents = contents_of(alloc, bytes)?;
             objects.push(ObjSpec {
                 path: PathBuf::from_path(&path.path()),
                 dir: false,
@@ -83,7 +95,7 @@ fn add_object(alloc: Global, objects: &mut List<ObjSpec>, line: &Line<'_>) -> Re
                 frozen: *frozen,
                 cap: *cap,
                 lic: *lic,
-                bytes: Bytes::from_vec(decoded),
+                bytes: contents,
             })
         }
         _ => Ok(()),

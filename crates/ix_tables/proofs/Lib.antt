@@ -16,6 +16,7 @@ pub mod Piping
 pub mod Placing
 pub mod Refusing
 pub mod Renaming
+pub mod Repeating
 pub mod Rooms
 pub mod Telling
 pub mod Unmaking

@@ -1,4 +1,4 @@
-ghost use Rattle.std.specs.Prelude.{◌≡◌, ◌+◌, ◌-◌, ◌<◌, ◌≤◌, ◌++◌, length, take, drop, min, is_some, IsTrue, slice_index_or, slice_set, true, false};
+ghost use Rattle.std.specs.Prelude.{◌≡◌, ◌+◌, ◌-◌, ◌<◌, ◌≤◌, ◌++◌, length, take, drop, min, replicate, is_some, IsTrue, slice_index_or, slice_set, true, false};
 ghost use Rattle.std.specs.Option.{option_map_or};
 ghost use Rattle.ix_model.specs.world.World.{Holding, at, is_file, is_pipe};
 ghost use Rattle.ix_model.specs.world.Contents.{holds_nothing, side, with_side, spliced, cut_to};
@@ -54,6 +54,23 @@ impl Tables {
         match self.inodes.write(Obj(n), offset, bytes) {
             Ok(()) => (),
             Err(_) => unreachable!(),
+        }
+    }
+
+    /// Writes a byte so many times behind the last one of a file. There has to be room.
+    pub(crate) fn write_times(&mut self, n: u32, times: u32, byte: u8)
+        requires file { option_map_or is_file (at self.old.objects n) false ≡ true }
+        requires most { length (slice_index_or self.old.holdings n holds_nothing).first + times ≤ 1048576 }
+        requires room { has_room n (length (slice_index_or self.old.holdings n holds_nothing).first + times) self.old ≡ true }
+        ensures { self.new ≡ record self.old { holdings = slice_set self.old.holdings n (with_side 0 ((slice_index_or self.old.holdings n holds_nothing).first ++ replicate times byte) (slice_index_or self.old.holdings n holds_nothing)) } }
+    {
+        let len = self.size(n);
+        let block = [byte; 4096];
+        let mut done = 0;
+        'parts: while done < times {
+            let part = (times - done).min(4096);
+            self.write(n, len + u64::from(done), &block[..part as usize]);
+            done += part;
         }
     }
 

@@ -17,7 +17,7 @@ ghost use Rattle.ix_model.specs.world.Paths.{path_of};
 use crate::names::enter;
 use crate::tables::Tables;
 use ix_inode::Inodes;
-use ix_model::{Config, FsSpec, Kind, NameRef, NoMemory, ObjSpec, Path};
+use ix_model::{Config, Contents, FsSpec, Kind, NameRef, NoMemory, ObjSpec, Path};
 use ix_name::Names;
 use ix_open::Opens;
 use ix_pipe::Pipes;
@@ -123,7 +123,7 @@ impl Tables {
         self.make(dir, name.to_name(), n, fs, kind_said(spec));
         self.set_as_said(n, spec);
         if !spec.dir {
-            self.fill(n, spec.bytes.as_slice());
+            self.fill(n, &spec.bytes);
         }
     }
 
@@ -139,15 +139,17 @@ impl Tables {
         self.set_privs(n, spec.cap, spec.lic);
     }
 
-    /// The bytes of a file that holds nothing yet. There has to be room.
-    fn fill(&mut self, n: u32, bytes: &[u8])
+    /// The bytes of a file that holds nothing yet. There has to be room. A byte so many times is nowhere put together.
+    fn fill(&mut self, n: u32, bytes: &Contents)
         requires file { option_map_or is_file (at self.old.objects n) false ≡ true }
         requires empty { slice_index_or self.old.holdings n holds_nothing ≡ holds_nothing }
         requires short { length bytes.now ≤ 1048576 }
         requires room { has_room n (length bytes.now) self.old ≡ true }
         ensures { self.new ≡ record self.old { holdings = slice_set self.old.holdings n (record { first = bytes.now; second = [] }) } }
     {
-        self.write(n, 0, bytes);
+        let (said, times, byte) = bytes.parts();
+        self.write(n, 0, said);
+        self.write_times(n, times, byte);
     }
 }
 

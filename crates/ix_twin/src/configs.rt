@@ -76,7 +76,7 @@ fn same_object<L: Ledger>(one: &ObjSpec, two: &ObjSpec, at: &Label, steps: &mut 
         && one.frozen == two.frozen
         && one.cap == two.cap
         && one.lic == two.lic
-        && (!one.label.leq(at, steps) || one.bytes.as_slice() == two.bytes.as_slice())
+        && (!one.label.leq(at, steps) || one.bytes.same(&two.bytes))
 }
 
 fn same_objects<L: Ledger>(

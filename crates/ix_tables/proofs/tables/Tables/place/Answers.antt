@@ -15,8 +15,7 @@ fill-requires-clause-room c =
     let last = c.to_name.ensures ∙ name_at names (length names - 1) (name_of c.in-Some.name) at in
     let empty = made_empty c.args.spec.now c.args.dir c.args.fs c.args.n c.args.self.now c.requires c.make.new.self c.set_as_said.new.self c.to_name.result
     c.kind_said.result last c.kind_said.ensures c.make.ensures c.set_as_said.ensures in
-    ap (λ (bs : List ℕ). has_room c.args.n (length bs) c.set_as_said.new.self) c.as_slice.ensures
-    ∙ room_for_line c.args.spec.now c.args.dir c.args.fs c.args.n c.args.self.now c.requires c.set_as_said.new.self empty
+    room_for_line c.args.spec.now c.args.dir c.args.fs c.args.n c.args.self.now c.requires c.set_as_said.new.self empty
 
 pub returns-then-not-spec : goal.returns-then-not-spec
 returns-then-not-spec c =
@@ -27,10 +26,7 @@ returns-then-not-spec c =
     let last = c.to_name.ensures ∙ name_at names (length names - 1) (name_of c.in-Some.name) at in
     let empty = made_empty c.args.spec.now c.args.dir c.args.fs c.args.n c.args.self.now c.requires c.make.new.self c.set_as_said.new.self c.to_name.result
     c.kind_said.result last c.kind_said.ensures c.make.ensures c.set_as_said.ensures in
-    let filled = ap (λ (bs : List ℕ). let t : Parts =
-    record c.set_as_said.new.self { holdings = slice_set c.set_as_said.new.self.holdings c.args.n (record { first = bs; second = [] }) } in
-    t) c.as_slice.ensures in
-    filled_line c.args.spec.now c.args.dir c.args.fs c.args.n c.args.self.now c.requires c.set_as_said.new.self c.fill.new.self empty (c.fill.ensures ∙ filled)
+    filled_line c.args.spec.now c.args.dir c.args.fs c.args.n c.args.self.now c.requires c.set_as_said.new.self c.fill.new.self empty c.fill.ensures
 
 pub returns-else-not-spec : goal.returns-else-not-spec
 returns-else-not-spec c =
