@@ -35,16 +35,16 @@ use ix_model::{
 use ix_open::OpenView;
 use std::alloc::Global;
 use std::marker::{Brand, Model};
-use std::snapshot::Snapshot;
 use std::sync::ledger::{Blank, Ledger};
 
-/// A machine, the journal of the history that led to it, and the marks of the descriptors that are fresh after it.
+/// A machine with the config that it started from, the journal of the history that led to it, and the marks of the descriptors
+/// that are fresh after it.
 ///
 /// Contracts see the config and the history: the core stands for the world to which they lead. All memory is taken by
 /// [`boot`](Core::boot).
 #[derive(Drop)]
 pub struct Core {
-    config: Snapshot<Config>,
+    config: Config,
     machine: Machine,
     journal: Journal,
     marks: Marks,
@@ -60,14 +60,14 @@ impl Model for Core {
 
     ghost coded = { Prim.hlevel (codes, label_type.the_row.coded) };
 
-    ghost view = { λ c. record { config = c.config.value; events = c.journal.events } };
+    ghost view = { λ c. record { config = c.config; events = c.journal.events } };
 
-    ghost invariant = { λ c. IsKept c.machine c.journal c.marks (record { config = c.config.value; events = c.journal.events }) };
+    ghost invariant = { λ c. IsKept c.machine c.journal c.marks (record { config = c.config; events = c.journal.events }) };
 }
 
 impl Core {
-    /// A core without entries, of a valid config. It takes all memory that there will be, the journal's with it. The config
-    /// is dropped, also after `NoMemory`: what the machine needs of it is copied, and contracts alone see it from then on.
+    /// A core without entries, of a valid config. It keeps the config, and takes all memory that there will be, the
+    /// journal's with it; after `NoMemory` the config is dropped.
     pub fn boot(alloc: Global, config: Config) -> Result<Core, NoMemory>
         requires { IsTrue (is_valid config) }
         ensures { IfOk result (λ c. c ≡ record { config = config; events = [] }) }
@@ -77,7 +77,7 @@ impl Core {
         let limits = config.limits;
         let marks = Marks::new(alloc, limits.procs, machine.objects(), limits.opens)?;
         Ok(Core {
-            config: Snapshot::of(&config),
+            config,
             machine,
             journal,
             marks,

@@ -20,8 +20,8 @@ overflow_add-place g c =
     omega (
       arith,
       c.len-place.ensures,
-      entries_are_few c.self.inside.journal.events c.self.inside.config.value.journal c.self.invariant.stands.fits
-          (small_journal c.self.inside.config.value c.self.invariant.stands.valid),
+      entries_are_few c.self.inside.journal.events c.self.inside.config.journal c.self.invariant.stands.fits
+          (small_journal c.self.inside.config c.self.invariant.stands.valid),
     )
 
 pub turn-reply-requires-clause-sound : goal.turn-reply-requires-clause-sound
@@ -42,7 +42,7 @@ turn-reply-requires-clause-raised g c = few_raised c.self.inside.marks _ c.self.
 
 pub invariant_of-self : goal.invariant_of-self
 invariant_of-self g c =
-    let h : History = record { config = c.self.inside.config.value; events = c.self.inside.journal.events } in
+    let h : History = record { config = c.self.inside.config; events = c.self.inside.journal.events } in
     let e : Event = record { seat = c.args.seat; line = c.args.line; pid = c.args.pid.0; op = op_of c.args.call.now } in
     let fits : Fits c.self.inside.journal e = c.takes.ensures.0 c.if-not-takes.false in
     let place : c.len-place.result + 1 ≡ length h.events + 1 = ap (λ n. n + 1) c.len-place.ensures in
@@ -52,7 +52,7 @@ invariant_of-self g c =
     subst (λ (u : World). AreTold c.self.inside.marks c.turn-reply.new.marks u (length h.events + 1) e.pid e.op) c.self.invariant.stands.run
     (subst (λ (n : ℕ). AreTold c.self.inside.marks c.turn-reply.new.marks c.self.inside.machine n e.pid e.op) place c.turn-reply.ensures.told) in
     let marked = marked_next c.self.inside.marks h c.self.invariant.stands.valid c.self.invariant.marked c.turn-reply.new.marks e told in
-    subst (λ (k : Entries). IsKept c.turn-reply.new.machine k c.turn-reply.new.marks (record { config = c.self.inside.config.value; events = k.events })) (sym c.keep.ensures)
+    subst (λ (k : Entries). IsKept c.turn-reply.new.machine k c.turn-reply.new.marks (record { config = c.self.inside.config; events = k.events })) (sym c.keep.ensures)
     (record { stands = stands; marked = marked })
 
 pub returns-clause-fresh : goal.returns-clause-fresh
