@@ -15,6 +15,14 @@ pub(crate) fn is_known(word: &[u8], names: &[Name]) -> bool
     names.iter().any(|known| is(word, known.as_bytes()))
 }
 
+/// The same. Looked at first is the place where the name is likely to stand.
+#[tactic(auto, using(std::proofs::lemmas::List::Folds::list_any_at))]
+pub(crate) fn is_known_near(place: usize, word: &[u8], names: &[Name]) -> bool
+    ensures { result ≡ is_known word.now names.now }
+{
+    place < names.len() && is(word, names[place].as_bytes()) || is_known(word, names)
+}
+
 /// What the lines so far tell of phases and lanes.
 #[derive(Drop)]
 pub(crate) struct Body<'a> {
@@ -32,10 +40,10 @@ pub(crate) struct Body<'a> {
     pub commands: u32,
 }
 
-fn add_name(lanes: &mut List<Name>, name: &NameWord<'_>) -> Result<(), NoMemory>
+fn add_name(lanes: &mut List<Name>, place: usize, name: &NameWord<'_>) -> Result<(), NoMemory>
     ensures { OnOk result (lanes.new ≡ (if is_known name.now lanes.old then lanes.old else lanes.old ++ name.now ∷ [])) }
 {
-    if is_known(name.as_bytes(), lanes.as_slice()) {
+    if is_known_near(place, name.as_bytes(), lanes.as_slice()) {
         Ok(())
     } else {
         lanes.push(name.name())
@@ -79,9 +87,10 @@ impl<'a> Body<'a> {
                 Ok(())
             }
             Line::Lane { name } => {
+                let place = self.phase_lanes.len();
                 self.lane = Some(name.as_bytes());
                 self.phase_lanes.push(name.name())?;
-                add_name(&mut self.lanes, name)
+                add_name(&mut self.lanes, place, name)
             }
             Line::Open { named, .. } => self.fds.add_any(self.lane, named),
             Line::Dup { named, .. } => self.fds.add_any(self.lane, named),

@@ -1,6 +1,6 @@
-ghost use Rattle.std.specs.Prelude.{◌≡◌, ◌++◌, ◌∷◌, ◌+◌, ◌<◌, ◌^◌, [], true, false, Some, None, length, OnOk, IfOk, IfErr, IsTrue};
+ghost use Rattle.std.specs.Prelude.{◌≡◌, ◌++◌, ◌∷◌, ◌+◌, ◌<◌, ◌^◌, [], true, false, Some, length, OnOk, IfOk, IfErr, IsTrue};
 ghost use Rattle.std.{proofs.Common.{option_map}, specs.List.{list_all}};
-ghost use Rattle.ix_script.specs.{lines.Before.{form_told}, lines.Faults.{text_fault, said_fault, line_fault}, lines.Roles.{role_of}, lines.Said.{line_of}};
+ghost use Rattle.ix_script.specs.{lines.Before.{form_told}, lines.Faults.{line_fault}, lines.Roles.{role_of}, lines.Said.{line_of}};
 ghost use Rattle.ix_script.specs.{reader.Readers.{HasCause, IsPlain, LineMore, LineRight, is_whole}, reader.Told.{DraftTold}, scripts.Scripts.{config_of}};
 ghost use Rattle.ix_model.specs.opening.Valid.{is_valid, is_within};
 ghost use Rattle.ix_text.specs.Bytes.{is_empty};
@@ -90,34 +90,6 @@ impl<'a> Draft<'a> {
         Ok(())
     }
 
-    /// A line more by the last rules, those from 22 on. After an error the draft isn't used.
-    fn add_said<L: Ledger>(
-        &mut self,
-        alloc: Global,
-        text: &[u8],
-        line: &Line<'a>,
-        steps: &mut Steps<L>,
-    ) -> Result<(), ReadFail>
-        requires told { DraftTold self.old }
-        requires valid { is_valid (config_of self.old.lines) ≡ true }
-        requires few { length self.old.lines + 1 < 2 ^ 32 }
-        requires later { is_empty self.old.lines ≡ false }
-        requires fault { line_fault self.old.lines text.now ≡ said_fault self.old.lines line.now }
-        requires meant { line_of (form_told self.old.lines) text.now ≡ Some line.now }
-        ensures told { OnOk result (DraftTold self.new) }
-        ensures line { OnOk result (LineMore self.old.lines self.new.lines text.now) }
-        ensures fail { IfErr result (λ e. HasCause e (option_map (λ rule. (length self.old.lines + 1, rule)) (line_fault self.old.lines text.now))) }
-    {
-        if let Role::Command = role_of(line) {
-            return self.add_command(text, cost_of_line(line));
-        }
-        if let Err(rule) = self.check_said(line, steps) {
-            return Err(self.fault(rule));
-        }
-        self.add(alloc, text, line)?;
-        Ok(())
-    }
-
     /// The next line, which the text says; else its fault. After an error the draft isn't used. Whether each of the text's
     /// bytes is known to be printable is told, and the words that are handed in are those of the last line that was cut.
     pub fn add_line<L: Ledger>(
@@ -151,7 +123,14 @@ impl<'a> Draft<'a> {
             Ok(form) if form.is_entry() => self.add_command(text, ENTRY),
             Ok(form) => {
                 let line = line_by_form(self.lines.form(), form, words);
-                self.add_said(alloc, text, &line, steps)
+                if let Role::Command = role_of(&line) {
+                    return self.add_command(text, cost_of_line(&line));
+                }
+                if let Err(rule) = self.check_said(&line, steps) {
+                    return Err(self.fault(rule));
+                }
+                self.add(alloc, text, &line)?;
+                Ok(())
             }
             Err(rule) => Err(self.fault(rule)),
         }

@@ -1,7 +1,7 @@
 ghost use Rattle.std.specs.Prelude.{◌≡◌, ℕ, ◌<◌, ◌+◌, ◌^◌, slice_index, ◌==◌, if◌then◌else◌, ◌++◌, ◌∷◌, ◌≤◌, [], true, None, List, length, false, OnOk, IfOk};
 ghost use Rattle.std.specs.Option.{option_map_or};
 ghost use Rattle.ix_script.specs.declared.line.Line.{Line};
-ghost use Rattle.ix_script.specs.lines.Before.{form_by, fs_told, default_fs, default_limits, limits_after, with_limit, object_told, group};
+ghost use Rattle.ix_script.specs.lines.Before.{form_by, fs_told, default_fs, default_limits, limits_after, object_told, group};
 ghost use Rattle.ix_script.specs.{lines.Faults.{said_fault}, reader.Told.{HeaderTold, Takes, fss_after}, scripts.Scripts.{config_of}};
 ghost use Rattle.ix_model.specs.opening.Valid.{is_valid};
 ghost use Rattle.ix_text.specs.Bytes.{is_empty};
@@ -21,16 +21,6 @@ pub(crate) struct Taken {
 }
 
 impl Taken {
-    pub fn new() -> Taken
-        ensures counts { (j : ℕ) → slice_index result.counts j ≡ 0 }
-        ensures blocks { (j : ℕ) → slice_index result.blocks j ≡ 0 }
-    {
-        Taken {
-            counts: [0; 16],
-            blocks: [0; 16],
-        }
-    }
-
     /// One object of so many blocks more on a file system.
     pub fn add(&mut self, k: usize, blocks: usize)
         requires { k < 16 }
@@ -201,7 +191,10 @@ impl<'a> Header<'a> {
             whats: List::new(alloc),
             procs: Names::new(alloc),
             made: Tree::new(alloc),
-            taken: Taken::new(),
+            taken: Taken {
+                counts: [0; 16],
+                blocks: [0; 16],
+            },
             latest: 0,
             policy: false,
         })

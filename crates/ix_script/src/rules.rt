@@ -1,16 +1,16 @@
 ghost use Rattle.std.specs.{Prelude.{◌≡◌, Some, None, [], true, IsTrue, map, ◌<◌, ◌&&◌, ◌||◌, length}, List.{list_all, list_any}};
 ghost use Rattle.ix_script.specs.lines.Before.{form_told, is_known, fss_told, whats_told, what_text, proc_names, fss_of, objects_of};
-ghost use Rattle.ix_script.specs.lines.Faults.{text_fault, words_fault, stand_fault, names_fault, said_fault, form_fault, command_fault, policy_fault, first_line_fault, body_fault};
+ghost use Rattle.ix_script.specs.lines.Faults.{text_fault, words_fault, stand_fault, names_fault, said_fault, form_fault, command_fault, first_line_fault, body_fault};
 ghost use Rattle.ix_script.specs.lines.Rules.{is_outside, is_given_twice, is_unknown, names_unknown, object_above, object_is_misplaced, object_exceeds_limits, is_out_of_order, is_one_too_many, lacks_policy};
 ghost use Rattle.ix_script.specs.{lines.Said.{version_of, line_of}, reader.Readers.{Finds, object_fault, Tells, TellsForm, is_whole}, reader.Told.{DraftTold}};
-ghost use Rattle.ix_script.specs.texts.Cutting.{is_skipped, is_policy_line, policy_text};
+ghost use Rattle.ix_script.specs.texts.Cutting.{is_skipped, is_policy_line};
 ghost use Rattle.ix_label.specs.{Category.{leq}, declared.form.Form.TheVariants.{One}};
 ghost use Rattle.ix_model.specs.{declared.config.ObjSpec.{ObjSpec}, opening.Valid.{is_within, fs_of, is_mount, is_taken, has_directory}};
-ghost use Rattle.ix_model.specs.{world.Naming.{same_bytes, same_names}, world.Paths.{path_of}};
+ghost use Rattle.ix_model.specs.{world.Naming.{same_bytes}, world.Paths.{path_of}};
 ghost use Rattle.ix_script.specs.declared.line.Line.TheVariants as line;
 ghost use Rattle.ix_script.specs.lines.Kinds as kind;
 
-use crate::body::is_known;
+use crate::body::{is_known, is_known_near};
 use crate::draft::Draft;
 use crate::fail::Rule;
 use crate::form::{Form, form_of};
@@ -87,12 +87,10 @@ pub(crate) fn is_policy_line(text: &[u8]) -> bool
 pub(crate) fn version_of(text: &[u8]) -> Option<LabelForm>
     ensures { result ≡ version_of text.now }
 {
-    if is(text, b"ix 1") {
-        Some(LabelForm::One)
-    } else if is(text, b"ix 2") {
-        Some(LabelForm::Two)
-    } else {
-        None
+    match text {
+        b"ix 1" => Some(LabelForm::One),
+        b"ix 2" => Some(LabelForm::Two),
+        _ => None,
     }
 }
 
@@ -402,7 +400,8 @@ impl<'a> Draft<'a> {
         match line {
             Line::Fs { .. } => self.header.told >= 16,
             Line::Lane { name } => {
-                !is_known(name.as_bytes(), self.body.lanes.as_slice())
+                let place = self.body.phase_lanes.len();
+                !is_known_near(place, name.as_bytes(), self.body.lanes.as_slice())
                     && self.body.lanes.len() >= 64
             }
             _ => is_command(line) && self.body.commands >= 200_000,

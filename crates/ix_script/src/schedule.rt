@@ -1,4 +1,4 @@
-ghost use Rattle.std.specs.{Prelude.{◌≡◌, ℕ, false, ◌++◌, ◌+◌, ◌<◌, ◌≤◌, [], length, drop, slice_get, slice_index_or, OnOk, IfOk}, Option.{option_map_or}};
+ghost use Rattle.std.specs.{Prelude.{◌≡◌, ℕ, ◌++◌, ◌+◌, ◌<◌, ◌≤◌, [], length, drop, slice_get, slice_index_or, OnOk, IfOk}, Option.{option_map_or}};
 ghost use Rattle.ix_script.specs.{scripts.Held.{IsSchedule}, scripts.Schedule.{begins_part, begun_in, part_len, seat_from, stretch_in}};
 
 use crate::line::Line;

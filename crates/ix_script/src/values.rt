@@ -204,10 +204,9 @@ pub(crate) fn fd_fault(word: &[u8]) -> Option<Rule>
 pub(crate) fn keep_fault(word: &[u8]) -> Option<Rule>
     ensures { IsFault result ((kind.Keep, word.now) ∷ []) }
 {
-    if is(word, b"all") || is(word, b"none") {
-        None
-    } else {
-        fd_fault(word)
+    match word {
+        b"all" | b"none" => None,
+        _ => fd_fault(word),
     }
 }
 
@@ -228,12 +227,10 @@ pub(crate) fn keep(word: &[u8]) -> KeepWord<'_>
     requires { IsSome (keep_of word.now) }
     ensures { keep_of word.now ≡ Some result }
 {
-    if is(word, b"all") {
-        KeepWord::All
-    } else if is(word, b"none") {
-        KeepWord::Nothing
-    } else {
-        KeepWord::One(fd(word))
+    match word {
+        b"all" => KeepWord::All,
+        b"none" => KeepWord::Nothing,
+        _ => KeepWord::One(fd(word)),
     }
 }
 
