@@ -14,3 +14,4 @@ pub mod SideBySide
 pub mod InOrder
 pub mod Stretching
 pub mod Among
+pub mod Turns

@@ -9,3 +9,4 @@ pub mod part;
 pub mod phases;
 pub mod serial_calls;
 pub mod side_by_side;
+pub mod turns;

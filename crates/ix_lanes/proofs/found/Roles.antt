@@ -9,7 +9,8 @@ use Rattle.ix_script.specs.lines.Roles.{role_of}
 use Rattle.ix_lanes.specs.declared.asking.places.Places.{Places}
 use Rattle.ix_lanes.specs.asking.Places.{has_places}
 use Rattle.ix_lanes.specs.histories.Indexed.{line_in}
-use Rattle.ix_script.specs.scripts.Schedule.{seat_after}
+use Rattle.ix_script.specs.scripts.Schedule.{begins_part, seat_after}
+use Rattle.ix_lanes.specs.running.Serially.{role_begins}
 
 -- ---- the line at an index
 pub line-there : (s : List Line) (i : ℕ) → i < length s → slice_get s i ≡ Some (line_in s i)
@@ -28,6 +29,14 @@ pub no-phase : (l : Line) → (role_of l ≡ role.Phase → ⊥) → is_phase l 
 unfolding role_of
 no-phase line.Phase not = absurd (not refl)
 no-phase _ not = refl
+
+-- ---- parts
+-- whether a line begins a part, by what it is for
+pub begins-role : (l : Line) → role_begins (role_of l) ≡ begins_part l
+unfolding role_of
+begins-role line.Phase = refl
+begins-role (line.Lane name) = refl
+begins-role _ = refl
 
 -- ---- seats
 -- a phase begins in no lane

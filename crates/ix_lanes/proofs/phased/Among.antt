@@ -35,13 +35,13 @@ no_phase line.Phase is = absurd (true≢false is)
 no_phase _ is = refl
 
 -- one that begins a part asks for nothing, and gives no name
-part_asks : (rules : Option (List Rule)) (header : Numbers) (names : Names) (n : ℕ) (l : Line) → begins_part l ≡ true → line_asks rules header names n l ≡ asking.Done handed.Nothing
+pub part_asks : (rules : Option (List Rule)) (header : Numbers) (names : Names) (n : ℕ) (l : Line) → begins_part l ≡ true → line_asks rules header names n l ≡ asking.Done handed.Nothing
 unfolding line_asks asked
 part_asks rules header names n line.Phase is = refl
 part_asks rules header names n (line.Lane name) is = refl
 part_asks rules header names n _ is = absurd (true≢false (sym is))
 
-part_names : (names : Names) (l : Line) → begins_part l ≡ true → named names l handed.Nothing ≡ names
+pub part_names : (names : Names) (l : Line) → begins_part l ≡ true → named names l handed.Nothing ≡ names
 unfolding named
 part_names names line.Phase is = refl
 part_names names (line.Lane name) is = refl

@@ -1,10 +1,11 @@
 -- A serial run that asks for one call at a time: the entries that are left, line by line and call by call.
 use Rattle.std.proofs.Common.{◌≡◌, ◌≢◌, ℕ, suc, ◌+◌, ◌<◌, Bool, true, false, true≢false, List, [], ◌∷◌, length, map, take, drop, set, Option, Some}
-use Rattle.std.proofs.Common.{None, IfSome, is_some, option_map, refl, sym, ap, ◌∙◌, subst, arith, slice_get, slice_index_or, length-set}
+use Rattle.std.proofs.Common.{None, IfSome, is_some, inl, inr, if◌then◌else◌, option_map, refl, sym, ap, ◌∙◌, subst, arith, slice_get, slice_index_or, length-set}
 use Rattle.std.proofs.Common.{get_or-set_same, get_or-set_other, ⊎_elim}
 use Rattle.std.specs.List.{fold}
 use Rattle.std.specs.Option.{option_map_or}
 use Rattle.std.proofs.Math.Seq.{drop-cons}
+use Rattle.std.proofs.lemmas.Bool.{cases_Bool}
 use Rattle.std.proofs.lemmas.Bool.Decides.{Decides-eqb, eqb_tells}
 use Rattle.std.proofs.lemmas.List.{get_or-map, map-set, set-get_or}
 use Rattle.std.proofs.lemmas.Option.{get_or_from_slice_get, slice_get-get_or, slice_get_within}
@@ -29,12 +30,16 @@ use Rattle.ix_lanes.specs.declared.asking.places.Places.{Places}
 use Rattle.ix_lanes.specs.declared.running.part.Part.{Part}
 use Rattle.ix_lanes.specs.declared.running.part.Part.TheVariants as part
 use Rattle.ix_lanes.specs.histories.Indexed.{line_in}
-use Rattle.ix_script.specs.scripts.Schedule.{is_seat, seat_after}
+use Rattle.ix_script.specs.declared.role.Role.{Role}
+use Rattle.ix_script.specs.lines.Roles.{role_of}
+use Rattle.ix_script.specs.scripts.Schedule.{begins_part, is_seat, seat_after}
 use Rattle.ix_lanes.specs.histories.Serial.{answered, header_of, made_then, names_of, renamed, serial_from}
 use Rattle.ix_lanes.specs.running.Fields.{all_placed}
 use Rattle.ix_lanes.specs.running.Left.{Holds, IsHeard, IsPending, is_over, part_left}
 use Rattle.ix_lanes.specs.running.Phases.{lane_among, seat_at}
-use Rattle.ix_lanes.specs.running.Serially.{ArePlaced, IsWithin, SerialLeft, after_line, entries_left, entry_next, line_left, most_entries, next_entry}
+use Rattle.ix_lanes.specs.running.Serially.{ArePlaced, IsWithin, SerialLeft, after_line, entries_left, entry_next, line_left, most_entries, next_entry, role_begins}
+use Rattle.ix_lanes.proofs.found.Roles.{begins-role}
+use Rattle.ix_lanes.proofs.phased.Among.{part_asks, part_names}
 use Rattle.ix_lanes.proofs.serially.LaneSteps.{seat_within}
 use Rattle.ix_lanes.proofs.phased.Lefts.{due_here, pending_due}
 use Rattle.ix_lanes.proofs.phased.Placed.{keeps-lines}
@@ -178,6 +183,41 @@ passed s i low names seat none next seated j at w place =
     let more : j + 1 ≡ suc (i + 1) = omega (arith, at) in
     (λ x. serial_from s w place names ((seated ∙ ap (λ o. seat_after (lanes_of s) o (line_in s i)) none) x) (more x) (drop (at x) s))
     ∙ sym (line_of_none s i low w place names) ∙ ap (λ o. serial_from s w place names o (i + 1) (drop i s)) (sym none)
+
+-- ---- the seat in which a line may ask
+-- it is that of its lane
+pub asking_seat : (r : Role) (seat asked : Option ℕ) (k : ℕ) → asked ≡ (if role_begins r then None else seat) → asked ≡ Some k → seat ≡ Some k
+asking_seat r seat asked k is some = elim (cases_Bool (role_begins r)) [
+  | inl e ↦ let none : asked ≡ None = rw e at is in cc
+  | inr e ↦ let same : asked ≡ seat = rw e at is in sym same ∙ some
+]
+
+module _ (s : List Line) (i : ℕ) (low : i < length s) (names : List Names) where
+  -- a line that begins a part asks for nothing, and leaves the names
+  part_passed : begins_part (line_in s i) ≡ true → (k : ℕ) (w : World) (place : ℕ)
+      → serial_from s w place names (seat_after (lanes_of s) (Some k) (line_in s i)) (suc (i + 1)) (drop (i + 1) s) ≡ serial_from s w place names (Some k) (i + 1) (drop i s)
+  part_passed part k w place =
+      let kept : renamed names k (line_in s i) handed.Nothing ≡ names = ap (set names k) (part_names (names_of names k) (line_in s i) part) ∙ set-get_or names k no_names in
+      sym (line_asks_none s i low w place names k (part_asks (rules_told s) (header_of s) (names_of names k) (i + 1) (line_in s i) part)
+      ∙ ap (λ all. serial_from s w place all (seat_after (lanes_of s) (Some k) (line_in s i)) (suc (i + 1)) (drop (i + 1) s)) kept)
+
+  -- where it may ask in no seat, it is passed
+  pub unasked : (r : Role) → r ≡ role_of (line_in s i) → (seat asked : Option ℕ) → asked ≡ (if role_begins r then None else seat) → asked ≡ None
+      → (next : Option ℕ) → next ≡ seat_after (lanes_of s) seat (line_in s i) → (j : ℕ) → j ≡ i + 1
+      → (w : World) (place : ℕ) → serial_from s w place names next (j + 1) (drop j s) ≡ serial_from s w place names seat (i + 1) (drop i s)
+  unasked r role seat asked is none next seated j at w place = go seat refl
+    where
+      go : (o : Option ℕ) → seat ≡ o → serial_from s w place names next (j + 1) (drop j s) ≡ serial_from s w place names seat (i + 1) (drop i s)
+      go None out = passed s i low names seat out next seated j at w place
+      go (Some k) within = elim (cases_Bool (role_begins r)) [
+        | inr e ↦ let same : asked ≡ seat = rw e at is in passed s i low names seat (sym same ∙ none) next seated j at w place
+        | inl e ↦
+            let part : begins_part (line_in s i) ≡ true = sym (begins-role (line_in s i)) ∙ ap role_begins (sym role) ∙ e in
+            let more : j + 1 ≡ suc (i + 1) = omega (arith, at) in
+            (λ x. serial_from s w place names ((seated ∙ ap (λ o. seat_after (lanes_of s) o (line_in s i)) within) x) (more x) (drop (at x) s))
+            ∙ part_passed part k w place
+            ∙ ap (λ o. serial_from s w place names o (i + 1) (drop i s)) (sym within)
+      ]
 
 -- a lane of a line, and its names
 module _ (s : List Line) (all : List Places) (i k : ℕ) (placed : ArePlaced s all) (is : seat_at s (take i s) ≡ Some k) where

@@ -1,5 +1,5 @@
 -- A serial run of a script that asks for one call at a time: all its phases and lanes, in the order of its lines.
-use Rattle.std.specs.Prelude.{◌≡◌, ℕ, suc, ◌+◌, ◌*◌, ◌-◌, ◌<◌, ◌≤◌, true, false, List, [], map, take, drop, length, Option, Some, None, is_some, slice_get, if◌then◌else◌}
+use Rattle.std.specs.Prelude.{◌≡◌, ℕ, suc, ◌+◌, ◌*◌, ◌-◌, ◌<◌, ◌≤◌, Bool, true, false, List, [], map, take, drop, length, Option, Some, None, is_some, slice_get, if◌then◌else◌}
 use Rattle.std.specs.Option.{option_map_or}
 use Rattle.ix_model.specs.history.Events.{Event}
 use Rattle.ix_model.specs.world.World.{World}
@@ -9,6 +9,8 @@ use Rattle.ix_asking.specs.Runs.{entry_of}
 use Rattle.ix_asking.specs.declared.copying.Copying.{Copying}
 use Rattle.ix_script.specs.lines.Before.{lanes_of}
 use Rattle.ix_script.specs.declared.line.Line.{Line}
+use Rattle.ix_script.specs.declared.role.Role.{Role}
+use Rattle.ix_script.specs.declared.role.Role.TheVariants as role
 use Rattle.ix_lanes.specs.asking.Asked.{Names, Numbers}
 use Rattle.ix_lanes.specs.asking.Places.{standing}
 use Rattle.ix_lanes.specs.asking.Ruled.{rules_told}
@@ -35,6 +37,12 @@ pub record SerialLeft : Type 0 where
 -- what its line has still to ask for, where that stands in the lane of a seat
 abbrev pub line_left : SerialLeft → ℕ → Asking Handed
 line_left c seat = part_left (header_of c.script) (names_of c.names seat) (c.at + 1) (line_in c.script c.at) c.copying c.part
+
+-- whether it is the role of a line that begins a phase, or a lane's part of one
+abbrev pub role_begins : Role → Bool
+role_begins role.Phase = true
+role_begins role.Lane = true
+role_begins _ = false
 
 -- the entries of the lines from an index on, once the line before them is done and handed this to its names
 abbrev pub after_line : SerialLeft → ℕ → World → ℕ → Handed → List Event

@@ -1,4 +1,4 @@
-ghost use Rattle.std.specs.Prelude.{◌≡◌, ◌+◌, ◌<◌, ◌≤◌, ℕ, true, map, take, length, IfOk};
+ghost use Rattle.std.specs.Prelude.{◌≡◌, ◌+◌, ◌<◌, ◌≤◌, ℕ, true, map, take, length, IfOk, None, if◌then◌else◌};
 ghost use Rattle.std.proofs.Common.{option_map};
 ghost use Rattle.ix_script.specs.lines.Before.{lanes_of};
 ghost use Rattle.ix_script.specs.lines.Roles.{role_of};
@@ -12,18 +12,19 @@ ghost use Rattle.ix_lanes.specs.histories.Serial.{first_names, header_of};
 ghost use Rattle.ix_lanes.specs.declared.running.part.Part.TheVariants as part;
 ghost use Rattle.ix_lanes.specs.running.Left.{part_most};
 ghost use Rattle.ix_lanes.specs.running.Phases.{seat_at};
-ghost use Rattle.ix_lanes.specs.running.Serially.{ArePlaced, IsWithin, LeavesLines, entry_next};
+ghost use Rattle.ix_lanes.specs.running.Serially.{ArePlaced, IsWithin, LeavesLines, entry_next, role_begins};
 
 use crate::asking::bindings::Bindings;
 use crate::asking::calls::{bind, call_of};
 use crate::asking::handed::Handed;
 use crate::asking::places::Places;
-use crate::lanes::{header_of, seat_past};
+use crate::lanes::header_of;
 use crate::lines::{line_at, role_at};
 use crate::running::beginning::begin;
 use crate::running::hearing::heard;
 use crate::running::lane_calls::places_of;
 use crate::running::part::Part;
+use crate::running::turns::Turns;
 use ix_asking::{Asks, Copying, Step};
 use ix_model::{Buf, Entry, NoMemory, Reply};
 use ix_policy::Policy;
@@ -55,6 +56,17 @@ struct Place<'a> {
     seat: Option<u32>,
     /// The line itself.
     line: Line<'a>,
+    turns: Turns,
+}
+
+/// The seat of the lane in which a line may ask for calls: one that begins a phase, or a lane's part of it, asks for none.
+fn seat_asking(seat: Option<u32>, role: Role) -> Option<u32>
+    ensures { result ≡ (if role_begins role then None else seat) }
+{
+    match role {
+        Role::Phase | Role::Lane => None,
+        _ => seat,
+    }
 }
 
 impl<'a> Place<'a> {
@@ -67,11 +79,12 @@ impl<'a> Place<'a> {
         ensures line { self.new.line ≡ self.old.line }
     {
         let _count = script.len();
-        self.seat = seat_past(script, self.seat, self.at, role);
+        self.seat = self.turns.seat_past(script, self.seat, self.at, role);
         self.at += 1;
     }
 
-    /// Goes on to the next line that asks for a call, whichever lane it is of, and begins it. Lines that ask for none are done on the way.
+    /// Goes on to the next line that asks for a call, whichever lane it is of, and begins it. Lines that ask for none are done on the way,
+    /// and those that begin a phase or a lane's part of it aren't made.
     fn find(
         &mut self,
         script: &'a Script,
@@ -95,7 +108,7 @@ impl<'a> Place<'a> {
     {
         'lines: while self.at < script.len() {
             let role = role_at(script, self.at);
-            if let Some(seat) = self.seat {
+            if let Some(seat) = seat_asking(self.seat, role) {
                 self.line = line_at(script, self.at);
                 let (number, line) = (self.at + 1, &self.line);
                 let names = &mut places[seat as usize];
@@ -176,6 +189,7 @@ impl<'a> SerialCalls<'a> {
             at: 0,
             seat: None,
             line: Line::Skipped,
+            turns: Turns::new(),
         };
         let part = here.find(
             script,

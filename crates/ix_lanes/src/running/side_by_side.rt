@@ -1,4 +1,4 @@
-ghost use Rattle.std.specs.Prelude.{◌≡◌, All, Option};
+ghost use Rattle.std.specs.Prelude.{◌≡◌, ◌≤◌, All, Option};
 ghost use Rattle.std.specs.Option.{option_or};
 ghost use denote.Param.Send.{IsSync};
 ghost use Rattle.ix_model.specs.declared.reply.Answer.{Answer};
@@ -10,6 +10,9 @@ use std::thread::{Threads, join_mut};
 
 /// How many threads run the lanes of a phase at most. More lanes share them.
 const MOST_THREADS: u32 = 8;
+
+/// How many lines a thread that lanes share is worth at least: to start one takes about as long as their calls.
+const WORTH_LINES: u32 = 128;
 
 /// A run of a lane, and what makes its calls.
 #[derive(Drop)]
@@ -32,6 +35,9 @@ trait Runner {
     /// Whether it has a line in a phase.
     fn takes_part(&self, phase: u32) -> bool;
 
+    /// How many lines it has in a phase, as far as can be told at once.
+    fn lines_ahead(&self, phase: u32) -> u32;
+
     /// Runs a phase. `Some` is a stop.
     fn run_next(&mut self, phase: u32, end: u32) -> Option<Answer>
         requires { is_ready phase end self.old }
@@ -49,6 +55,10 @@ impl<'a, S: Sys> Runner for Lane<'a, S> {
         self.run.takes_part(phase)
     }
 
+    fn lines_ahead(&self, phase: u32) -> u32 {
+        self.run.lines_ahead(phase)
+    }
+
     fn run_next(&mut self, phase: u32, end: u32) -> Option<Answer> {
         self.run.phase(&mut self.sys, phase, end)
     }
@@ -63,10 +73,26 @@ fn parts_in<T: Runner>(runners: &[T], phase: u32) -> u32 {
     parts
 }
 
-/// How many lanes share a thread at least: one each, up to the greatest number of threads.
+/// How many threads the lines of these in a phase are worth.
+fn threads_for<T: Runner>(runners: &[T], phase: u32) -> u32
+    ensures { 1 ≤ result }
+{
+    let mut lines: u32 = 0;
+    for runner in runners {
+        lines = lines.saturating_add(runner.lines_ahead(phase));
+    }
+    (lines / WORTH_LINES).min(MOST_THREADS).max(1)
+}
+
+/// How many lanes share a thread at least: one each, up to the greatest number of threads. More lanes share as many as their lines are
+/// worth.
 fn share_of<T: Runner>(runners: &[T], phase: u32) -> u32 {
     let parts = parts_in(runners, phase);
-    (parts.saturating_add(MOST_THREADS - 1) / MOST_THREADS).max(1)
+    if parts <= MOST_THREADS {
+        return 1;
+    }
+    let threads = threads_for(runners, phase);
+    parts.saturating_add(threads - 1) / threads
 }
 
 /// Runs a phase of each, in threads that so many share at least, where they can be started.
@@ -127,8 +153,8 @@ fn run_both<T: Runner + Send, R: Threads + Sync>(
 
 /// Runs the next phase of each lane, up to an index, side by side where threads can be started. `None`: each lane's lines are all done. Else it is
 /// the stop of the first lane in the list that has one. Each lane is left as `LaneRun::phase` leaves it. It takes no memory. No thread is
-/// started for a lane that has no line in the phase. Up to eight lanes that have some run in a thread each; of more, as many as are
-/// needed share one, one after the other.
+/// started for a lane that has no line in the phase. Up to eight lanes that have some run in a thread each; of more, so many
+/// share one, one after the other, that there are at most eight threads, and none that isn't worth its start.
 pub fn run_phase<'a, S: Sys + Send, R: Threads + Sync>(
     rt: &R,
     lanes: &mut [Lane<'a, S>],

@@ -13,7 +13,7 @@ use Rattle.ix_lanes.specs.histories.Serial.{serial_from}
 use Rattle.ix_lanes.specs.running.Left.{is_over, part_left}
 use Rattle.ix_lanes.specs.running.Phases.{seat_at}
 use Rattle.ix_lanes.proofs.found.Roles.{line-there}
-use Rattle.ix_lanes.proofs.phased.InOrder.{begun_left, begun_within, lane_mine, lane_there, lane_within, passed, placed_set, skipped}
+use Rattle.ix_lanes.proofs.phased.InOrder.{asking_seat, begun_left, begun_within, lane_mine, lane_there, lane_within, placed_set, skipped, unasked}
 use Rattle.ix_lanes.proofs.phased.LaneLines.{seat_one_more}
 use Rattle.ix_lanes.proofs.phased.Lefts.{not_over}
 use Rattle.ix_lanes.proofs.phased.Placed.{placed-line}
@@ -21,21 +21,24 @@ use Rattle.ix_lanes.proofs.running.serial_calls.Place.find.Goals.{in-Some+else-n
 use Rattle.ix_lanes.proofs.running.serial_calls.Place.find.Goals as goal
 
 pub bounds-places-seat : goal.bounds-places-seat
-bounds-places-seat c = lane_within c.args.script.now c.lines.places c.lines.self.at c.in-Some.seat c.lines.invariant.placed (sym c.lines.invariant.seat ∙ c.in-Some.is)
+bounds-places-seat c =
+    let seat = asking_seat _ _ _ c.in-Some.seat c.seat_asking.ensures c.in-Some.is in
+    lane_within c.args.script.now c.lines.places c.lines.self.at c.in-Some.seat c.lines.invariant.placed (sym c.lines.invariant.seat ∙ seat)
 
 pub returns-then-not-matches-clause-left : goal.returns-then-not-matches-clause-left
 returns-then-not-matches-clause-left c =
     let s : List Line = c.args.script.now in
     let i = c.lines.self.at in
     let k = c.in-Some.seat in
+    let seat = asking_seat _ _ _ c.in-Some.seat c.seat_asking.ensures c.in-Some.is in
     let p : Places = slice_index_or c.lines.places k c.index-places-seat.result in
-    let there = lane_there s c.lines.places i k c.lines.invariant.placed (sym c.lines.invariant.seat ∙ c.in-Some.is) c.index-places-seat.result in
+    let there = lane_there s c.lines.places i k c.lines.invariant.placed (sym c.lines.invariant.seat ∙ seat) c.index-places-seat.result in
     let not : is_over c.begin-part.result ≡ false = elim c.match-matches.branch [
       | in-Over w ↦ absurd (true≢false (sym w.matches-is ∙ c.if-not-matches.true))
       | in_default-matches w ↦ not_over c.begin-part.result w.in_default-matches.not-Over
     ] in
     λ w place.
-    begun_left s i (omega (arith, c.lines-test.true, c.len.ensures.len)) c.lines.places k p there c.lines.self.seat c.in-Some.is (option_map (λ q. q.now) c.args.policy) c.args.header.now
+    begun_left s i (omega (arith, c.lines-test.true, c.len.ensures.len)) c.lines.places k p there c.lines.self.seat seat (option_map (λ q. q.now) c.args.policy) c.args.header.now
     c.requires.policy c.requires.header c.line_at-self.result c.line_at-self.ensures c.begin-part.new.copying c.begin-part.result c.begin-part.ensures.asks not w place
     ∙ c.lines.invariant.left w place
 
@@ -44,13 +47,14 @@ returns-then-not-matches-clause-within c =
     let s : List Line = c.args.script.now in
     let i = c.lines.self.at in
     let k = c.in-Some.seat in
+    let seat = asking_seat _ _ _ c.in-Some.seat c.seat_asking.ensures c.in-Some.is in
     let p : Places = slice_index_or c.lines.places k c.index-places-seat.result in
-    let there = lane_there s c.lines.places i k c.lines.invariant.placed (sym c.lines.invariant.seat ∙ c.in-Some.is) c.index-places-seat.result in
+    let there = lane_there s c.lines.places i k c.lines.invariant.placed (sym c.lines.invariant.seat ∙ seat) c.index-places-seat.result in
     let not : is_over c.begin-part.result ≡ false = elim c.match-matches.branch [
       | in-Over w ↦ absurd (true≢false (sym w.matches-is ∙ c.if-not-matches.true))
       | in_default-matches w ↦ not_over c.begin-part.result w.in_default-matches.not-Over
     ] in
-    begun_within s i (omega (arith, c.lines-test.true, c.len.ensures.len)) c.lines.places k p there c.lines.self.seat c.in-Some.is (option_map (λ q. q.now) c.args.policy) c.args.header.now
+    begun_within s i (omega (arith, c.lines-test.true, c.len.ensures.len)) c.lines.places k p there c.lines.self.seat seat (option_map (λ q. q.now) c.args.policy) c.args.header.now
     c.requires.policy c.requires.header c.line_at-self.result c.line_at-self.ensures c.begin-part.new.copying c.begin-part.result c.begin-part.ensures.asks not c.begin-part.new.written
     c.lines.invariant.seat c.begin-part.ensures.pending c.begin-part.ensures.holds
 
@@ -59,7 +63,7 @@ bind-requires c =
     let s : List Line = c.args.script.now in
     let i = c.lines.self.at in
     let k = c.in-Some.seat in
-    let is = sym c.lines.invariant.seat ∙ c.in-Some.is in
+    let is = sym c.lines.invariant.seat ∙ asking_seat _ _ _ k c.seat_asking.ensures c.in-Some.is in
     let there = lane_there s c.lines.places i k c.lines.invariant.placed is c.index-places-seat.result in
     let line = line-there s i (omega (arith, c.lines-test.true, c.len.ensures.len)) ∙ ap Some (sym c.line_at-self.ensures) in
     placed-line s k i c.line_at-self.result line (slice_index_or c.lines.places k c.index-places-seat.result) (lane_mine s c.lines.places i k c.lines.invariant.placed is)
@@ -84,14 +88,14 @@ lines-preserved c =
       placed = elim c.match-self.branch [
         | in-Some+else-not-matches w ↦
             let k = w.in-Some.seat in
-            let old = lane_there s c.lines.places i k c.lines.invariant.placed (sym c.lines.invariant.seat ∙ w.in-Some.is) w.index-places-seat.result in
+            let old = lane_there s c.lines.places i k c.lines.invariant.placed (sym c.lines.invariant.seat ∙ asking_seat _ _ _ k c.seat_asking.ensures w.in-Some.is) w.index-places-seat.result in
             rw w.places-is (placed_set c.lines.places k _ old s w.bind.new.places c.lines.invariant.placed w.bind.ensures.keeps)
         | in_default w ↦ rw w.places-is c.lines.invariant.placed
       ];
       left = λ v place. elim c.match-self.branch [
         | in-Some+else-not-matches w ↦
             let k = w.in-Some.seat in
-            let old = lane_there s c.lines.places i k c.lines.invariant.placed (sym c.lines.invariant.seat ∙ w.in-Some.is) w.index-places-seat.result in
+            let old = lane_there s c.lines.places i k c.lines.invariant.placed (sym c.lines.invariant.seat ∙ asking_seat _ _ _ k c.seat_asking.ensures w.in-Some.is) w.index-places-seat.result in
             let p : Places = slice_index_or c.lines.places k w.index-places-seat.result in
             let l : Line = w.line_at-self.result in
             let asks : line_asks (option_map (λ q. q.now) c.args.policy) c.args.header.now (standing p) (i + 1) l ≡ part_left c.args.header.now (standing p)
@@ -101,13 +105,13 @@ lines-preserved c =
               | in_default-matches u ↦ absurd (true≢false (sym w.if-not-matches.false ∙ u.matches-is))
             ] in
             ap (λ all. serial_from s v place (map standing all) c.pass.new.self.seat (c.pass.new.self.at + 1) (drop c.pass.new.self.at s)) w.places-is
-            ∙ skipped s i low c.lines.places k p old c.lines.self.seat w.in-Some.is (option_map (λ q. q.now) c.args.policy) c.args.header.now c.requires.policy
+            ∙ skipped s i low c.lines.places k p old c.lines.self.seat (asking_seat _ _ _ k c.seat_asking.ensures w.in-Some.is) (option_map (λ q. q.now) c.args.policy) c.args.header.now c.requires.policy
             c.requires.header l w.line_at-self.ensures
             none w.bind.new.places w.bind.ensures.set c.pass.new.self.seat seated c.pass.new.self.at next v place
             ∙ c.lines.invariant.left v place
         | in_default w ↦
             ap (λ all. serial_from s v place (map standing all) c.pass.new.self.seat (c.pass.new.self.at + 1) (drop c.pass.new.self.at s)) w.places-is
-            ∙ passed s i low (map standing c.lines.places) c.lines.self.seat w.in_default.is c.pass.new.self.seat seated c.pass.new.self.at next v place
+            ∙ unasked s i low (map standing c.lines.places) _ c.role_at-role.ensures c.lines.self.seat _ c.seat_asking.ensures w.in_default.is c.pass.new.self.seat seated c.pass.new.self.at next v place
             ∙ c.lines.invariant.left v place
       ];
     }
