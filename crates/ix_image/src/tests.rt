@@ -86,10 +86,15 @@ const SMALL: Draft = Draft {
     ],
 };
 
-fn push_part(out: &mut Vec<u8>, part: &Part) -> Result<(), AllocError> {
-    let (before, label, behind) = part;
+/// Bytes, a label whose first byte this is, and bytes behind it.
+fn push_labelled(
+    out: &mut Vec<u8>,
+    before: &[u8],
+    label: u8,
+    behind: &[u8],
+) -> Result<(), AllocError> {
     out.extend_from_slice(before)?;
-    out.push(*label)?;
+    out.push(label)?;
     out.extend_from_slice(&[0; 63])?;
     out.extend_from_slice(behind)
 }
@@ -97,8 +102,8 @@ fn push_part(out: &mut Vec<u8>, part: &Part) -> Result<(), AllocError> {
 /// Parts, behind how many there are.
 fn push_parts(out: &mut Vec<u8>, parts: &[Part]) -> Result<(), AllocError> {
     out.extend_from_slice(&[0, 0, 0, (parts.len() % 256) as u8])?;
-    for part in parts {
-        push_part(out, part)?;
+    for (before, label, behind) in parts {
+        push_labelled(out, before, *label, behind)?;
     }
     Ok(())
 }
@@ -326,157 +331,95 @@ fn directories_in_a_circle_do_not_fit(rt: HostRuntime) {
     assert_eq!(rt; outcome(rt.alloc(), &image), Came::Fault(1_952, 8));
 }
 
-const SECOND: Part = (b"\0\0\0\x02\x01\0\0\0", 0, b"\0\0\0\0");
+/// The names of three file systems of a block, how many inodes each has, the names in the root, and the fault of directories
+/// of the numbers 0, 2 and 4 there.
+type Misfit = ([&'static [u8]; 3], u8, &'static [u8], u64, u8);
 
-const THIRD: Part = (b"\0\0\0\x04\x01\0\0\0", 0, b"\0\0\0\0");
-
-/// Two file systems of one name, roots that have another name in the first root, a file system too many, and one without its root.
-const MISFITS: &[(Draft, u64, u8)] = &[
+/// Two file systems of one name, roots that have another name in the first root, a number of no file system, and file systems
+/// without their roots.
+const MISFITS: &[Misfit] = &[
     (
-        Draft {
-            systems: &[
-                (b"\x04root", 15, b"\0\0\0\x01\0\0\0\x02"),
-                (b"\x04root", 15, b"\0\0\0\x01\0\0\0\x02"),
-                (b"\x03vol", 15, b"\0\0\0\x01\0\0\0\x02"),
-            ],
-            objects: &[
-                (
-                    b"\0\0\0\0\x01\0\0\0",
-                    0,
-                    b"\0\0\0\x02\x04root\0\0\0\x02\x03vol\0\0\0\x04",
-                ),
-                SECOND,
-                THIRD,
-            ],
-        },
+        [b"\x04root", b"\x04root", b"\x03vol"],
+        2,
+        b"\0\0\0\x02\x04root\0\0\0\x02\x03vol\0\0\0\x04",
         491,
         8,
     ),
     (
-        Draft {
-            systems: &[
-                (b"\x04root", 15, b"\0\0\0\x01\0\0\0\x02"),
-                (b"\x03vol", 15, b"\0\0\0\x01\0\0\0\x02"),
-                (b"\x03vol", 15, b"\0\0\0\x01\0\0\0\x02"),
-            ],
-            objects: &[
-                (
-                    b"\0\0\0\0\x01\0\0\0",
-                    0,
-                    b"\0\0\0\x02\x03vol\0\0\0\x02\x03vol\0\0\0\x04",
-                ),
-                SECOND,
-                THIRD,
-            ],
-        },
+        [b"\x04root", b"\x03vol", b"\x03vol"],
+        2,
+        b"\0\0\0\x02\x03vol\0\0\0\x02\x03vol\0\0\0\x04",
         489,
         8,
     ),
     (
-        Draft {
-            systems: &[
-                (b"\x03vol", 15, b"\0\0\0\x01\0\0\0\x02"),
-                (b"\x04root", 15, b"\0\0\0\x01\0\0\0\x02"),
-                (b"\x03vol", 15, b"\0\0\0\x01\0\0\0\x02"),
-            ],
-            objects: &[
-                (
-                    b"\0\0\0\0\x01\0\0\0",
-                    0,
-                    b"\0\0\0\x02\x04root\0\0\0\x02\x03vol\0\0\0\x04",
-                ),
-                SECOND,
-                THIRD,
-            ],
-        },
+        [b"\x03vol", b"\x04root", b"\x03vol"],
+        2,
+        b"\0\0\0\x02\x04root\0\0\0\x02\x03vol\0\0\0\x04",
         490,
         8,
     ),
     (
-        Draft {
-            systems: &[
-                (b"\x01a", 15, b"\0\0\0\x01\0\0\0\x01"),
-                (b"\x01b", 15, b"\0\0\0\x01\0\0\0\x01"),
-                (b"\x01c", 15, b"\0\0\0\x01\0\0\0\x01"),
-            ],
-            objects: &[
-                (
-                    b"\0\0\0\0\x01\0\0\0",
-                    0,
-                    b"\0\0\0\x02\x01b\0\0\0\x02\x01c\0\0\0\x04",
-                ),
-                SECOND,
-                THIRD,
-            ],
-        },
+        [b"\x01a", b"\x01b", b"\x01c"],
+        1,
+        b"\0\0\0\x02\x01b\0\0\0\x02\x01c\0\0\0\x04",
         402,
         5,
     ),
     (
-        Draft {
-            systems: &[
-                (b"\x01a", 15, b"\0\0\0\x01\0\0\0\x03"),
-                (b"\x01b", 15, b"\0\0\0\x01\0\0\0\x03"),
-                (b"\x01c", 15, b"\0\0\0\x01\0\0\0\x03"),
-            ],
-            objects: &[
-                (
-                    b"\0\0\0\0\x01\0\0\0",
-                    0,
-                    b"\0\0\0\x02\x01b\0\0\0\x02\x01c\0\0\0\x04",
-                ),
-                SECOND,
-                THIRD,
-            ],
-        },
+        [b"\x01a", b"\x01b", b"\x01c"],
+        3,
+        b"\0\0\0\x02\x01b\0\0\0\x02\x01c\0\0\0\x04",
         478,
         8,
     ),
 ];
 
-#[test]
-fn file_systems_do_not_fit(rt: HostRuntime) {
-    for (draft, at, rule) in MISFITS {
-        let image = image(&rt, rt.alloc(), draft);
-        assert_eq!(rt;
-            outcome(rt.alloc(), &image),
-            Came::Fault(*at, *rule),
-            "{at}"
-        );
+fn push_misfit(out: &mut Vec<u8>, misfit: &Misfit) -> Result<(), AllocError> {
+    let (names, inodes, links, _, _) = misfit;
+    out.extend_from_slice(b"IXIMAGE1\0\0\0\x03")?;
+    for name in names {
+        push_labelled(out, name, 15, &[0, 0, 0, 1, 0, 0, 0, *inodes])?;
+    }
+    out.extend_from_slice(&[0, 0, 0, 3])?;
+    push_labelled(out, b"\0\0\0\0\x01\0\0\0", 0, links)?;
+    push_labelled(out, b"\0\0\0\x02\x01\0\0\0", 0, &[0, 0, 0, 0])?;
+    push_labelled(out, b"\0\0\0\x04\x01\0\0\0", 0, &[0, 0, 0, 0])
+}
+
+/// What reading such file systems comes to.
+fn misfit(alloc: Global, misfit: &Misfit) -> Came {
+    let mut image = Vec::new(alloc);
+    match push_misfit(&mut image, misfit) {
+        Ok(()) => outcome(alloc, &image),
+        Err(_) => Came::NoMemory,
     }
 }
 
-/// Two file systems, of two blocks and of one, with a file in each.
+#[test]
+fn file_systems_do_not_fit(rt: HostRuntime) {
+    for case in MISFITS {
+        let (_, _, _, at, rule) = case;
+        assert_eq!(rt; misfit(rt.alloc(), case), Came::Fault(*at, *rule), "{at}");
+    }
+}
+
+/// Two files, on file systems of two blocks and of one.
 fn push_files(out: &mut Vec<u8>, first: &[u8], last: &[u8]) -> Result<(), AllocError> {
-    out.extend_from_slice(b"IXIMAGE1")?;
-    push_parts(
-        out,
-        &[
-            (b"\x04root", 15, b"\0\0\0\x02\0\0\0\x02"),
-            (b"\x03vol", 15, b"\0\0\0\x01\0\0\0\x02"),
-        ],
-    )?;
-    out.extend_from_slice(&[0, 0, 0, 4])?;
-    push_part(
-        out,
-        &(
-            b"\0\0\0\0\x01\0\0\0",
-            0,
-            b"\0\0\0\x02\x03vol\0\0\0\x02\x01a\0\0\0\x01",
-        ),
-    )?;
+    out.extend_from_slice(b"IXIMAGE1\0\0\0\x02")?;
+    push_labelled(out, b"\x04root", 15, b"\0\0\0\x02\0\0\0\x02")?;
+    push_labelled(out, b"\x03vol", 15, b"\0\0\0\x01\0\0\0\x02")?;
+    let names = b"\0\0\0\x02\x03vol\0\0\0\x02\x01a\0\0\0\x01";
+    push_labelled(out, b"\0\0\0\x04\0\0\0\0\x01\0\0\0", 0, names)?;
     push_file(out, 1, first)?;
-    push_part(
-        out,
-        &(b"\0\0\0\x02\x01\0\0\0", 0, b"\0\0\0\x01\x01b\0\0\0\x03"),
-    )?;
+    let names = b"\0\0\0\x01\x01b\0\0\0\x03";
+    push_labelled(out, b"\0\0\0\x02\x01\0\0\0", 0, names)?;
     push_file(out, 3, last)
 }
 
 fn push_file(out: &mut Vec<u8>, number: u8, bytes: &[u8]) -> Result<(), AllocError> {
-    out.extend_from_slice(&[0, 0, 0, number])?;
-    out.extend_from_slice(&[0; 68])?;
-    out.extend_from_slice(&((bytes.len() % 65_536) as u32).to_be_bytes())?;
+    let count = (bytes.len() % 65_536) as u32;
+    push_labelled(out, &[0, 0, 0, number, 0, 0, 0, 0], 0, &count.to_be_bytes())?;
     out.extend_from_slice(bytes)
 }
 
