@@ -32,7 +32,7 @@ pub found-preserved : goal.found-preserved
 found-preserved c =
     let small = low c.args.nodes.now c.found.found.marks.items c.found.found.places.items c.found.at c.index.result.now c.found.invariant (omega arith) c.index.ensures in
     let here = got_place c.found.found.places.items c.found.at c.index.result.now (omega arith) c.index.ensures in
-    let got = got_node c.args.nodes.now c.index.result.now c.index-nodes-index.result low c.index-nodes-index.is in
+    let got = got_node c.args.nodes.now c.index.result.now c.index-nodes-index.result small c.index-nodes-index.is in
     let dir = dir_found (nodes_of c.args.nodes.now) c.found.found.marks.items c.found.found.places.items c.found.at c.found.at c.index.result.now (node_of c.index-nodes-index.result)
     c.found.invariant here got in
     let finds = subst (λ (ls : List LinkOf). Finds (nodes_of c.args.nodes.now) (map (λ l. l.1) ls) c.found.found.marks.items c.found.found.places.items c.follow.new.self.marks.items
