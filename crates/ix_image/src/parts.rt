@@ -1,5 +1,5 @@
 //! The parts of an image of a core's tree: each writes a piece, and gives what comes next.
-ghost use Rattle.std.specs.Prelude.{◌≡◌, ◌≤◌, List, Some, false, length, IfOk, OnOk};
+ghost use Rattle.std.specs.Prelude.{◌≡◌, ◌<◌, ◌≤◌, List, Some, false, length, IfOk, OnOk};
 ghost use Rattle.ix_model.specs.history.History.{world_of};
 ghost use Rattle.ix_model.specs.laws.Sound.{Sound};
 ghost use Rattle.ix_model.specs.world.World.{Object, at, is_dir, is_pipe};
@@ -19,6 +19,9 @@ use ix_report::Line;
 
 /// How many bytes of a file are written at once.
 const PIECE: usize = 65_536;
+
+/// Where so few are left, no more room is cleared for them.
+const FEW: usize = 512;
 
 /// The first bytes, and how many file systems there are.
 pub fn write_start(line: &mut Line, fss: &[FsSpec], core: &Core) -> Result<Part, NoMemory>
@@ -74,8 +77,29 @@ pub fn write_bytes(line: &mut Line, core: &Core, n: u32, place: u64) -> Result<P
     ensures stays { line.new.before ≡ line.old.before }
     ensures text { IfOk result (λ next. (fss : List FsSpec) → WritesOn fss (world_of core.now) (part.Bytes n place) next line.old.text line.new.text) }
 {
-    let mut piece = [0; PIECE];
-    let count = core.inside(Obj(n), place, &mut piece);
+    let left = core.size(Obj(n), 0).unwrap_or(0).saturating_sub(place);
+    if left <= FEW as u64 {
+        write_piece(line, core, n, place, &mut [0; FEW])
+    } else {
+        write_piece(line, core, n, place, &mut [0; PIECE])
+    }
+}
+
+/// The same by way of a piece of memory, which holds one byte at least.
+fn write_piece(
+    line: &mut Line,
+    core: &Core,
+    n: u32,
+    place: u64,
+    piece: &mut [u8],
+) -> Result<Part, NoMemory>
+    requires sound { Sound (world_of core.now) }
+    requires file { IsFile (world_of core.now) n }
+    requires some { 0 < length piece.old }
+    ensures stays { line.new.before ≡ line.old.before }
+    ensures text { IfOk result (λ next. (fss : List FsSpec) → WritesOn fss (world_of core.now) (part.Bytes n place) next line.old.text line.new.text) }
+{
+    let count = core.inside(Obj(n), place, piece);
     if count == 0 {
         return Ok(Part::Object(n + 1));
     }

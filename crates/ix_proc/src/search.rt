@@ -1,4 +1,4 @@
-ghost use Rattle.std.specs.Prelude.{◌≡◌, ℕ, ◌<◌, length, is_some};
+ghost use Rattle.std.specs.Prelude.{◌≡◌, ℕ, ◌<◌, length, is_some, true, Some};
 ghost use Rattle.std.specs.List.{find};
 ghost use Rattle.ix_links.specs.Chains.{chain_of, pool};
 ghost use Rattle.ix_proc.specs.Slots.{Rises, Finds, record_at};
@@ -8,11 +8,23 @@ use crate::slot::{Record, Slot};
 use ix_links::Links;
 use ix_model::Pid;
 
-/// The place of the slot with a pid.
+/// Whether the slot at a place has a pid.
+fn stands_at(slots: &[Slot], place: usize, pid: u32) -> bool
+    ensures { result ≡ true → Finds (Some place) slots.now pid }
+{
+    place < slots.len() && slots[place].pid.0 == pid
+}
+
+/// The place of the slot with a pid. Where no slot has gone from before it, it stands behind as many slots as there are lesser pids: that
+/// place is looked at first.
 pub fn place_of(slots: &[Slot], pid: u32) -> Option<usize>
     requires { Rises slots.now }
     ensures { Finds result slots.now pid }
 {
+    let guess = pid.saturating_sub(1) as usize;
+    if stands_at(slots, guess, pid) {
+        return Some(guess);
+    }
     slots.binary_search_by_key(&pid, |s| s.pid.0).ok()
 }
 

@@ -106,7 +106,7 @@ module _ (t : Parts) (n byte : ℕ) where
         → v ≡ behind (k + part)
     goes_on_there len part new u v is what before after =
         let same : slice_set (behind k).holdings n (with_side 0 (spliced (len + k) new (slice_index_or (behind k).holdings n holds_nothing).first) (slice_index_or (behind k).holdings n holds_nothing))
-            ≡ slice_set t.holdings n (with_side 0 (held.first ++ replicate (k + part) byte) held) = elim (cases_lt n (length t.holdings)) [ | inl low ↦ inside low | inr past ↦ outside past ] in
+        ≡ slice_set t.holdings n (with_side 0 (held.first ++ replicate (k + part) byte) held) = elim (cases_lt n (length t.holdings)) [ inl low ↦ inside low | inr past ↦ outside past ] in
         after
         ∙ ap (λ (w : Parts). let r : Parts = record w { holdings = slice_set w.holdings n (with_side 0 (spliced (len + k) new (slice_index_or w.holdings n holds_nothing).first) (slice_index_or w.holdings n holds_nothing)) } in
         r) before
@@ -159,12 +159,22 @@ module _ (t : Parts) (n : ℕ) (said : List ℕ) where
     )
   ]
 
+  -- a file whose all bytes have room has room for the byte so many times behind what was said
+  pub room_filled_up : (times byte : ℕ) (bytes : List ℕ) (u : Parts) → said ++ replicate times byte ≡ bytes → u ≡ with_said
+      → has_room n (length bytes) t ≡ true → has_room n (length (slice_index_or u.holdings n holds_nothing).first + times) u ≡ true
+  room_filled_up times byte bytes u all first room =
+      let said_first : ℕ = length (slice_index_or with_said.holdings n holds_nothing).first in
+      let within : said_first + times ≤ length bytes =
+      omega (arith, said_short, ap (λ (bs : List ℕ). length bs) all, length-append said (replicate times byte), length-replicate times byte) in
+      subst (λ (w : Parts). has_room n (length (slice_index_or w.holdings n holds_nothing).first + times) w ≡ true) (sym first)
+      (room_stays t n (record { first = said; second = [] }) (said_first + times) ∙ room_for_fewer t n (length bytes) (said_first + times) within room)
+
   -- and then a byte so many times
   pub filled_up : (times byte : ℕ) (bytes : List ℕ) (u v : Parts) → said ++ replicate times byte ≡ bytes → u ≡ with_said → v ≡ behind u n byte times
       → v ≡ record t { holdings = slice_set t.holdings n (record { first = bytes; second = [] }) }
   filled_up times byte bytes u v all first after =
       let same : (behind with_said n byte times).holdings ≡ slice_set t.holdings n (record { first = bytes; second = [] }) =
-      elim (cases_lt n (length t.holdings)) [ | inl low ↦ inside low | inr past ↦ outside past ] in
+      elim (cases_lt n (length t.holdings)) [ inl low ↦ inside low | inr past ↦ outside past ] in
       after ∙ ap (λ (w : Parts). behind w n byte times) first ∙ (λ i. record t { holdings = same i })
     where
       inside : n < length t.holdings → (behind with_said n byte times).holdings ≡ slice_set t.holdings n (record { first = bytes; second = [] })

@@ -4,7 +4,7 @@ use Rattle.ix_model.specs.history.History.{world_of}
 use Rattle.ix_model.specs.history.Views.{bytes_inside}
 use Rattle.ix_model.specs.world.Contents.{holding_of}
 use Rattle.ix_image.proofs.Saved.{bytes_end, bytes_on, inside_is, file_few}
-use Rattle.ix_image.proofs.parts.write_bytes.Goals as goal
+use Rattle.ix_image.proofs.parts.write_piece.Goals as goal
 
 pub returns-then-count-eq0-clause-text : goal.returns-then-count-eq0-clause-text
 returns-then-count-eq0-clause-text c = λ fss.
@@ -12,7 +12,7 @@ returns-then-count-eq0-clause-text c = λ fss.
     let bytes = (holding_of w.content c.args.n).first in
     let inside : length (bytes_inside w c.args.n c.args.place) ≡ length bytes - c.args.place = ap (λ (r : List ℕ). length r) (inside_is w c.args.n c.args.place c.requires.file)
     ∙ length-drop c.args.place bytes in
-    bytes_end fss w c.args.n c.args.place c.args.line.now.text (omega (arith, c.inside-count.ensures.count, c.if-count-eq0.true, inside))
+    bytes_end fss w c.args.n c.args.place c.args.line.now.text (omega (arith, c.inside-count.ensures.count, c.if-count-eq0.true, inside, c.requires.some))
 
 pub overflow_add-result-2 : goal.overflow_add-result-2
 overflow_add-result-2 c =
