@@ -1,5 +1,5 @@
 -- The marked run, looked at as bytes, is the run.
-use Rattle.std.proofs.Common.{◌≡◌, ℕ, suc, List, [], ◌∷◌, map, take, Option, Some, None, refl, sym, ap, ◌∙◌}
+use Rattle.std.proofs.Common.{◌≡◌, ℕ, suc, List, [], ◌∷◌, map, take, Option, Some, refl, sym, ap, ◌∙◌}
 use Rattle.std.proofs.lemmas.List.{take-map}
 use Rattle.ix_model.specs.world.World.{World, Holding, HoldingOf}
 use Rattle.ix_model.specs.world.Contents.{offset_of, readable, readable_in}

@@ -206,8 +206,8 @@ module _ (h : History) (seat line pid fd : ℕ) (bytes : List ℕ) where
           → ((ls : List Categories) (g : History) (hs : List (HoldingOf Marked)) (bs : List ℕ) → AreSides t.sides ls g hs → HasEnd g hs view.obj.0 end true → IsWrite ls g written bs
           → AreSides sides ls g (on_side view.obj.0 end (λ old. old ++ marked_from (Written place) 0 bs) hs))
           → AreTracks (record t { sides = sides; labels = labels }) (with_entry h e) × (lines_of_entry h e ≡ [])
-      write_to_pipe piped asked yes end other append =
-          let pipe = write_piped piped asked ∙ yes in
+      write_to_pipe piped asked so end other append =
+          let pipe = write_piped piped asked ∙ so in
           let which : end ≡ 1 - b.entry.end = other ∙ ap (λ n. 1 - n) seen.1 in
           let marks : marks_of (with_entry h e) ≡ on_side view.obj.0 end (λ old. old ++ marked_from (Written place) 0 bytes) (kept_marks h e) =
           put_is ∙ put_either true pipe ∙ (λ i. on_side (sym seen.0 i) (sym which i) (λ old. old ++ marked_from (Written (sym at_last i)) 0 bytes) (kept_marks h e)) in
@@ -218,8 +218,8 @@ module _ (h : History) (seat line pid fd : ℕ) (bytes : List ℕ) where
           → ((ls : List Categories) (g : History) (hs : List (HoldingOf Marked)) (bs : List ℕ) → AreSides t.sides ls g hs → HasEnd g hs view.obj.0 view.end false → IsWrite ls g written bs
           → AreSides sides ls g (on_side view.obj.0 view.end (written_over gap_mark from (marked_from (Written place) 0 bs)) hs))
           → AreTracks (record t { sides = sides; labels = labels }) (with_entry h e) × (lines_of_entry h e ≡ [])
-      write_to_file piped asked no from starts write =
-          let file = write_piped piped asked ∙ no in
+      write_to_file piped asked so from starts write =
+          let file = write_piped piped asked ∙ so in
           let begun : from ≡ offset_of before b.id = let after = offset_after file in let told = seen.2 in omega (arith, starts, after, told, is_count) in
           let marks : marks_of (with_entry h e) ≡ on_side view.obj.0 view.end (written_over gap_mark from (marked_from (Written place) 0 bytes)) (kept_marks h e) =
           put_is ∙ put_either false file ∙ (λ i. on_side (sym seen.0 i) (sym seen.1 i) (written_over gap_mark (sym begun i) (marked_from (Written (sym at_last i)) 0 bytes)) (kept_marks h e)) in
