@@ -22,7 +22,7 @@ use Rattle.ix_lanes.proofs.running.serial_calls.Place.find.Goals as goal
 
 pub bounds-places-seat : goal.bounds-places-seat
 bounds-places-seat c =
-    let seat = asking_seat _ _ _ c.in-Some.seat c.seat_asking.ensures c.in-Some.is in
+    let seat : c.lines.self.seat ≡ Some c.in-Some.seat = asking_seat _ _ _ c.in-Some.seat c.seat_asking.ensures c.in-Some.is in
     lane_within c.args.script.now c.lines.places c.lines.self.at c.in-Some.seat c.lines.invariant.placed (sym c.lines.invariant.seat ∙ seat)
 
 pub returns-then-not-matches-clause-left : goal.returns-then-not-matches-clause-left
@@ -30,7 +30,7 @@ returns-then-not-matches-clause-left c =
     let s : List Line = c.args.script.now in
     let i = c.lines.self.at in
     let k = c.in-Some.seat in
-    let seat = asking_seat _ _ _ c.in-Some.seat c.seat_asking.ensures c.in-Some.is in
+    let seat : c.lines.self.seat ≡ Some c.in-Some.seat = asking_seat _ _ _ c.in-Some.seat c.seat_asking.ensures c.in-Some.is in
     let p : Places = slice_index_or c.lines.places k c.index-places-seat.result in
     let there = lane_there s c.lines.places i k c.lines.invariant.placed (sym c.lines.invariant.seat ∙ seat) c.index-places-seat.result in
     let not : is_over c.begin-part.result ≡ false = elim c.match-matches.branch [
@@ -47,7 +47,7 @@ returns-then-not-matches-clause-within c =
     let s : List Line = c.args.script.now in
     let i = c.lines.self.at in
     let k = c.in-Some.seat in
-    let seat = asking_seat _ _ _ c.in-Some.seat c.seat_asking.ensures c.in-Some.is in
+    let seat : c.lines.self.seat ≡ Some c.in-Some.seat = asking_seat _ _ _ c.in-Some.seat c.seat_asking.ensures c.in-Some.is in
     let p : Places = slice_index_or c.lines.places k c.index-places-seat.result in
     let there = lane_there s c.lines.places i k c.lines.invariant.placed (sym c.lines.invariant.seat ∙ seat) c.index-places-seat.result in
     let not : is_over c.begin-part.result ≡ false = elim c.match-matches.branch [
@@ -63,7 +63,7 @@ bind-requires c =
     let s : List Line = c.args.script.now in
     let i = c.lines.self.at in
     let k = c.in-Some.seat in
-    let is = sym c.lines.invariant.seat ∙ asking_seat _ _ _ k c.seat_asking.ensures c.in-Some.is in
+    let is : seat_at s (take i s) ≡ Some k = sym c.lines.invariant.seat ∙ asking_seat _ _ _ k c.seat_asking.ensures c.in-Some.is in
     let there = lane_there s c.lines.places i k c.lines.invariant.placed is c.index-places-seat.result in
     let line = line-there s i (omega (arith, c.lines-test.true, c.len.ensures.len)) ∙ ap Some (sym c.line_at-self.ensures) in
     placed-line s k i c.line_at-self.result line (slice_index_or c.lines.places k c.index-places-seat.result) (lane_mine s c.lines.places i k c.lines.invariant.placed is)
@@ -75,9 +75,9 @@ lines-preserved c =
     let i : ℕ = c.lines.self.at in
     let low : i < length s = omega (arith, c.lines-test.true, c.len.ensures.len) in
     let there = line-there s i low in
-    let at : c.match-self.self.at ≡ i = elim c.match-self.branch [ in-Some+else-not-matches w ↦ ap (λ (h : Place). h.at) w.self-is | in_default w ↦ ap (λ (h : Place). h.at) w.self-is ] in
-    let seat : c.match-self.self.seat ≡ c.lines.self.seat =
-    elim c.match-self.branch [ in-Some+else-not-matches w ↦ ap (λ (h : Place). h.seat) w.self-is | in_default w ↦ ap (λ (h : Place). h.seat) w.self-is ] in
+    let at : c.match-seat_asking.self.at ≡ i = elim c.match-seat_asking.branch [ in-Some+else-not-matches w ↦ ap (λ (h : Place). h.at) w.self-is | in_default w ↦ ap (λ (h : Place). h.at) w.self-is ] in
+    let seat : c.match-seat_asking.self.seat ≡ c.lines.self.seat =
+    elim c.match-seat_asking.branch [ in-Some+else-not-matches w ↦ ap (λ (h : Place). h.seat) w.self-is | in_default w ↦ ap (λ (h : Place). h.seat) w.self-is ] in
     let next : c.pass.new.self.at ≡ i + 1 = c.pass.ensures.at ∙ ap (λ n. n + 1) at in
     let seated : c.pass.new.self.seat ≡ seat_after (lanes_of s) c.lines.self.seat (line_in s i) = c.pass.ensures.seat ∙ (λ x. seat_after (lanes_of s) (seat x) (line_in s (at x))) in
     record {
@@ -85,14 +85,14 @@ lines-preserved c =
       later = omega (arith, next, c.lines.invariant.later);
       seat = seated ∙ ap (λ a. seat_after (lanes_of s) a (line_in s i)) c.lines.invariant.seat
           ∙ sym (seat_one_more s i (line_in s i) there) ∙ ap (λ n. seat_at s (take n s)) (sym next);
-      placed = elim c.match-self.branch [
+      placed = elim c.match-seat_asking.branch [
         | in-Some+else-not-matches w ↦
             let k = w.in-Some.seat in
             let old = lane_there s c.lines.places i k c.lines.invariant.placed (sym c.lines.invariant.seat ∙ asking_seat _ _ _ k c.seat_asking.ensures w.in-Some.is) w.index-places-seat.result in
             rw w.places-is (placed_set c.lines.places k _ old s w.bind.new.places c.lines.invariant.placed w.bind.ensures.keeps)
         | in_default w ↦ rw w.places-is c.lines.invariant.placed
       ];
-      left = λ v place. elim c.match-self.branch [
+      left = λ v place. elim c.match-seat_asking.branch [
         | in-Some+else-not-matches w ↦
             let k = w.in-Some.seat in
             let old = lane_there s c.lines.places i k c.lines.invariant.placed (sym c.lines.invariant.seat ∙ asking_seat _ _ _ k c.seat_asking.ensures w.in-Some.is) w.index-places-seat.result in
