@@ -11,6 +11,7 @@ mod policies;
 mod served;
 mod statuses;
 mod twins;
+mod two_lanes;
 mod words;
 
 use ix_host::{Status, Words, run_serial};

@@ -1,6 +1,9 @@
 ghost use Rattle.std.specs.Prelude.{◌<◌};
 
 use super::command;
+use super::two_lanes::{
+    ONE_LOOKS, ONE_OPENS, ONE_READS, ONE_WRITES, REST, SCRIPT, TWO_OPENS, TWO_WRITES,
+};
 use ix_host::{NoWatch, Status, Watch, run_lanes};
 use ix_io::{MemSink, MemSource};
 use std::alloc::Global;
@@ -10,34 +13,7 @@ use std::sync::atomic::{AtomicU64, Ordering};
 use std::thread;
 use std::thread::Threads;
 
-/// Two lanes of one phase, each with a file of its own; then the first one reads the other's.
-const SCRIPT: &[u8] = b"ix 1\n\
-    proc a - * - -\n\
-    proc b 4 * - -\n\
-    file /x - free - - \"x\"\n\
-    file /y - free - - \"y\"\n\
-    phase\n\
-    lane one\n\
-    open a /x rw as f\n\
-    write a f \"1\"\n\
-    lane two\n\
-    open b /y rw as f\n\
-    write b f \"2\"\n\
-    phase\n\
-    lane one\n\
-    open a /y r as g\n\
-    read a g 1\n";
-
-/// The lines of the first phase, without their numbers.
-const ONE_OPENS: &[u8] = b" one 8 open p1 /x rw = number 0 @ -\n";
-
-const ONE_WRITES: &[u8] = b" one 9 write p1 0 x31 = number 1 @ -\n";
-
-const TWO_OPENS: &[u8] = b" two 11 open p2 /y rw = number 0 @ 4\n";
-
-const TWO_WRITES: &[u8] = b" two 12 write p2 0 x32 = number 1 @ 4\n";
-
-/// The orders in which they may come.
+/// The orders in which the entries of the first phase may come.
 const ORDERS: [[&[u8]; 4]; 6] = [
     [ONE_OPENS, ONE_WRITES, TWO_OPENS, TWO_WRITES],
     [ONE_OPENS, TWO_OPENS, ONE_WRITES, TWO_WRITES],
@@ -47,22 +23,10 @@ const ORDERS: [[&[u8]; 4]; 6] = [
     [TWO_OPENS, TWO_WRITES, ONE_OPENS, ONE_WRITES],
 ];
 
-const REST: &[u8] = b"5 one 15 open p1 /y r = number 1 @ -\n\
-    6 one 16 read p1 1 1 = bytes 1 x32 @ 4\n\
-    objects\n\
-    0 dir - free\n\
-    1 file - free\n\
-    2 file 4 free\n\
-    processes\n\
-    p1 4 live\n\
-    p2 4 live\n\
-    log\n\
-    end 6 0\n";
-
-/// What stands behind these lines at the front of a report, which are numbered from 1; `None` where others stand there.
-fn behind<'a>(report: &'a [u8], lines: &[&[u8]; 4]) -> Option<&'a [u8]> {
-    let mut rest = report.strip_prefix(b"ix 1 report\n".as_slice())?;
-    let mut number = b'1';
+/// What stands behind these lines at the front of a text, which are numbered from this digit on; `None` where others stand there.
+fn behind<'a>(text: &'a [u8], lines: &[&[u8]], first: u8) -> Option<&'a [u8]> {
+    let mut rest = text;
+    let mut number = first;
     for line in lines {
         rest = rest.strip_prefix([number].as_slice())?.strip_prefix(*line)?;
         number = number.saturating_add(1);
@@ -70,10 +34,16 @@ fn behind<'a>(report: &'a [u8], lines: &[&[u8]; 4]) -> Option<&'a [u8]> {
     Some(rest)
 }
 
+/// What stands behind the entries of both phases, where the first has them in this order.
+fn behind_all<'a>(report: &'a [u8], lines: &[&[u8]; 4]) -> Option<&'a [u8]> {
+    let rest = report.strip_prefix(b"ix 1 report\n".as_slice())?;
+    behind(behind(rest, lines, b'1')?, &[ONE_LOOKS, ONE_READS], b'5')
+}
+
 /// Whether the text is the report in one of the orders.
 fn is_report(text: &[u8]) -> bool {
     for lines in &ORDERS {
-        if behind(text, lines) == Some(REST) {
+        if behind_all(text, lines) == Some(REST) {
             return true;
         }
     }
