@@ -10,7 +10,7 @@ fn long_script(alloc: Global) -> Result<Vec<u8>, AllocError> {
         alloc,
         b"ix 1\nproc a - * - -\nfile /x - free - - 4096*61\nphase\nlane m\nopen a /x r as f\n#",
     )?;
-    for _ in 0..65_500 {
+    for _ in 0..5000 {
         script.push(b'#')?;
     }
     for _ in 0..17 {
