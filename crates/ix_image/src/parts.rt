@@ -16,6 +16,7 @@ use bitflags::Flags;
 use ix_core::Core;
 use ix_model::{FsSpec, Kind, Name, NoMemory, Obj, ObjView, PrivSet};
 use ix_report::Line;
+use std::alloc::Global;
 
 /// How many bytes of a file are written at once.
 const PIECE: usize = 65_536;
@@ -70,8 +71,15 @@ pub fn write_object(line: &mut Line, core: &Core, named: &[bool], n: u32) -> Res
     Ok(begin(core, n, &view))
 }
 
-/// The bytes of a file from a place on, or nothing behind the last.
-pub fn write_bytes(line: &mut Line, core: &Core, n: u32, place: u64) -> Result<Part, NoMemory>
+/// The bytes of a file from a place on, or nothing behind the last. What they come through is on the heap where it is large, since a
+/// stack that grows late finds no memory to grow into.
+pub fn write_bytes(
+    alloc: Global,
+    line: &mut Line,
+    core: &Core,
+    n: u32,
+    place: u64,
+) -> Result<Part, NoMemory>
     requires sound { Sound (world_of core.now) }
     requires file { IsFile (world_of core.now) n }
     ensures stays { line.new.before ≡ line.old.before }
@@ -79,10 +87,10 @@ pub fn write_bytes(line: &mut Line, core: &Core, n: u32, place: u64) -> Result<P
 {
     let left = core.size(Obj(n), 0).unwrap_or(0).saturating_sub(place);
     if left <= FEW as u64 {
-        write_piece(line, core, n, place, &mut [0; FEW])
-    } else {
-        write_piece(line, core, n, place, &mut [0; PIECE])
+        return write_piece(line, core, n, place, &mut [0; FEW]);
     }
+    let mut piece = vec![in alloc; 0; PIECE]?;
+    write_piece(line, core, n, place, piece.as_mut_slice())
 }
 
 /// The same by way of a piece of memory, which holds one byte at least.

@@ -57,8 +57,9 @@ impl<'c> Saving<'c> {
         ensures ok { OnOk result (Wrote self.old self.new out.old.items out.new.items) }
         ensures err { OnErr result (out.new.items ≡ out.old.items) }
     {
+        let alloc = *out.allocator();
         let mut line = Line::begin(out);
-        match self.piece(&mut line) {
+        match self.piece(alloc, &mut line) {
             Ok(next) => {
                 self.next = next;
                 line.end(out, Ok(()))
@@ -68,7 +69,7 @@ impl<'c> Saving<'c> {
     }
 
     /// Writes the next piece, and gives what comes behind it.
-    fn piece(&self, line: &mut Line) -> Result<Part, NoMemory>
+    fn piece(&self, alloc: Global, line: &mut Line) -> Result<Part, NoMemory>
         requires begun { IsBegun self.now }
         requires going { 0 < pieces_of self.now }
         ensures stays { line.new.before ≡ line.old.before }
@@ -79,7 +80,7 @@ impl<'c> Saving<'c> {
             Part::Start => write_start(line, self.fss, self.core),
             Part::FileSystem(k) => write_file_system(line, self.fss, self.core, self.count, k),
             Part::Object(n) => write_object(line, self.core, &self.named, n),
-            Part::Bytes(n, place) => write_bytes(line, self.core, n, place),
+            Part::Bytes(n, place) => write_bytes(alloc, line, self.core, n, place),
             Part::Name(n, left, name, object) => {
                 write_name(line, self.core, n, left, &name, object)
             }

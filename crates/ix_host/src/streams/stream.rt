@@ -7,7 +7,7 @@ use ix_io::{Failed, Sink, Source};
 use std::alloc::Global;
 
 /// The most bytes of one read.
-const PIECE: usize = 65_536;
+const PIECE: usize = 4096;
 
 /// What a source gave.
 #[derive(Drop)]
