@@ -1,4 +1,4 @@
-ghost use Rattle.std.specs.{Prelude.{◌≡◌, ℕ, ◌++◌, ◌+◌, ◌<◌, ◌≤◌, [], length, drop, slice_get, slice_index_or, OnOk, IfOk}, Option.{option_map_or}};
+ghost use Rattle.std.specs.{Prelude.{◌≡◌, ℕ, ◌++◌, ◌+◌, ◌<◌, ◌≤◌, [], length, drop, slice_index_or, OnOk, IfOk}, Option.{option_map_or}};
 ghost use Rattle.ix_script.specs.{scripts.Held.{IsSchedule}, scripts.Schedule.{SeatsDiffer, begins_part, begun_in, part_len, seat_from, stretch_in}};
 
 use crate::line::Line;
@@ -134,12 +134,5 @@ impl Schedule {
             phases: begun.max(1),
             stretches,
         })
-    }
-
-    /// The stretch of a lane at a place from 0.
-    pub fn stretch(&self, seat: usize, n: usize) -> Option<Stretch>
-        ensures { result ≡ slice_get (slice_index_or self.now.stretches.items seat []) n }
-    {
-        self.stretches.get(seat)?.get(n).copied()
     }
 }
