@@ -1,7 +1,6 @@
 ghost use Rattle.std.specs.{Prelude.{◌≡◌, ℕ, ◌++◌, ◌+◌, ◌<◌, ◌≤◌, [], length, drop, slice_index_or, OnOk, IfOk}, Option.{option_map_or}};
 ghost use Rattle.ix_script.specs.{scripts.Held.{IsSchedule}, scripts.Schedule.{SeatsDiffer, begins_part, begun_in, part_len, seat_from, stretch_in}};
 
-use crate::line::Line;
 use crate::packed::Lines;
 use crate::role::Role;
 use ix_model::{List, Name, NoMemory};
@@ -102,10 +101,11 @@ fn add_line(
     let Role::Lane = role else {
         return Ok(begun);
     };
-    let Some(Line::Lane { name }) = lines.get(index) else {
+    // The line isn't made: its name stands behind its word and a space.
+    let Some(text) = lines.text_at(index) else {
         return Ok(begun);
     };
-    let Some(seat) = seat_of(*next, name.as_bytes(), lanes) else {
+    let Some(seat) = seat_of(*next, &text[5..], lanes) else {
         return Ok(begun);
     };
     *next = seat.saturating_add(1);

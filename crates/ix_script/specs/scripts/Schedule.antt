@@ -1,5 +1,6 @@
 -- The schedule of a script: which stretches of lines are of which lane, and in which phase.
-use Rattle.std.specs.Prelude.{◌≡◌, ℕ, suc, ◌+◌, ◌-◌, ◌<◌, ◌==◌, length, slice_index_or, Bool, true, false, not, ◌&&◌, List, All, [], ◌∷◌, ◌++◌, take, drop, slice_get, max, count_by, Option, Some, None, if◌then◌else◌}
+use Rattle.std.specs.Prelude.{◌≡◌, ℕ, suc, ◌+◌, ◌-◌, ◌<◌, ◌==◌, Bool, true, false, not, ◌&&◌, max, Option, Some, None, if◌then◌else◌}
+use Rattle.std.specs.Prelude.{List, All, [], ◌∷◌, ◌++◌, length, take, drop, slice_get, slice_index_or, count_by}
 use Rattle.std.specs.List.{flat_map}
 use Rattle.std.specs.Option.{option_map_or}
 use Rattle.ix_model.specs.world.Naming.{same_bytes}
