@@ -9,3 +9,4 @@ mod FormBack
 pub mod TextBack
 pub mod ScriptBack
 pub mod Respelling
+pub mod LaneBack

@@ -19,3 +19,4 @@ pub mod Commands
 pub mod Scheduling
 pub mod Stretched
 pub mod Once
+pub mod Seats

@@ -117,15 +117,6 @@ pub(crate) fn default_limits() -> Limits
     }
 }
 
-fn push_fs(alloc: Global, told: usize, fss: &mut List<FsSpec>, fs: FsSpec) -> Result<(), NoMemory>
-    ensures { OnOk result (fss.new ≡ (if told == 0 then fs ∷ [] else fss.old ++ fs ∷ [])) }
-{
-    if told == 0 {
-        *fss = List::new(alloc);
-    }
-    fss.push(fs)
-}
-
 pub(crate) fn fs_spec(line: &Line<'_>) -> Option<FsSpec>
     ensures { fs_told line.now ≡ option_map_or (λ fs. fs ∷ []) result [] }
 {
@@ -155,11 +146,15 @@ fn add_fs(
 ) -> Result<(), NoMemory>
     ensures { OnOk result (fss.new ≡ fss_after first told fss.old (form_by line.now) (fs_told line.now)) }
 {
-    match fs_spec(line) {
-        Some(fs) => push_fs(alloc, told, fss, fs),
-        None if first => push_fs(alloc, 0, fss, default_fs(form_by(line))),
-        None => Ok(()),
+    let (told, fs) = match fs_spec(line) {
+        Some(fs) => (told, fs),
+        None if first => (0, default_fs(form_by(line))),
+        None => return Ok(()),
+    };
+    if told == 0 {
+        *fss = List::new(alloc);
     }
+    fss.push(fs)
 }
 
 fn take(taken: &mut Taken, fss: &[FsSpec], line: &Line<'_>)

@@ -1,7 +1,7 @@
-ghost use Rattle.std.specs.Prelude.{◌≡◌, ◌++◌, ◌∷◌, ◌+◌, ◌<◌, ◌≤◌, ◌^◌, [], Some, None, length, slice_get, OnOk, IfOk, MatchOption};
+ghost use Rattle.std.specs.Prelude.{◌≡◌, ◌++◌, ◌∷◌, ◌+◌, ◌<◌, ◌^◌, [], Some, None, length, slice_get, OnOk, IfOk, MatchOption};
 ghost use Rattle.std.proofs.Common.{option_map};
 ghost use Rattle.ix_script.specs.{lines.Before.{form_told}, lines.Forms.{form_of}, lines.Roles.{header_only, role_of}, lines.Said.{line_of}};
-ghost use Rattle.ix_script.specs.{scripts.Canonical.{has_one_spelling}, scripts.Need.{cost_of_line, need}, scripts.Packed.{IsLine, begin_at, between, line_in}};
+ghost use Rattle.ix_script.specs.{scripts.Canonical.{has_one_spelling}, scripts.Need.{cost_of_line, need}, scripts.Packed.{IsLine, begin_at, line_in}};
 
 use crate::form::form_of;
 use crate::header::form_by;
@@ -94,14 +94,6 @@ fn begin(ends: &[u32], i: usize) -> u32
     }
 }
 
-fn part(text: &[u8], from: usize, end: usize) -> &[u8]
-    requires low { from ≤ end }
-    requires high { end ≤ length text.now }
-    ensures { result.now ≡ between from end text.now }
-{
-    &text[from..end]
-}
-
 impl Lines {
     /// No lines, with room for those of an input. `NoMemory` where there was none for that room.
     pub fn for_all(alloc: Global, bytes: &[u8]) -> Result<Lines, NoMemory>
@@ -158,7 +150,7 @@ impl Lines {
             return None;
         }
         let begin = begin(ends, i) as usize;
-        Some(part(self.text.as_slice(), begin, ends[i] as usize))
+        Some(&self.text.as_slice()[begin..ends[i] as usize])
     }
 
     /// The line at an index from 0; `None` exactly past the end. It takes no memory.

@@ -30,11 +30,8 @@ fn parts(word: &[u8]) -> (bool, &[u8])
 pub(crate) fn is_path_word(word: &[u8]) -> bool
     ensures { result ≡ is_path_word word.now }
 {
-    if word.is_empty() || !all_in_path(word) {
-        return false;
-    }
     let (absolute, text) = parts(word);
-    Path::read(absolute, text).is_some()
+    !word.is_empty() && all_in_path(word) && Path::read(absolute, text).is_some()
 }
 
 #[tactic(auto, unfolding(crate::specs::texts::Words::made_path_of, crate::specs::texts::Words::path_of))]

@@ -1,6 +1,6 @@
 ghost use Rattle.std.specs.Prelude.{◌≡◌, ◌<◌, Some, IfSome, IsSome, is_some, ◌≤◌, ◌∷◌, [], length, take, unwrap_or, None, ℕ, ◌+◌, ◌++◌, ◌^◌, replicate, OnOk};
 ghost use Rattle.std.specs.{List.{list_all}, Option.{option_map_or}};
-ghost use Rattle.ix_script.specs.{lines.Said.{payload_within}, reader.Readers.{IsFault}, texts.PayloadBytes.{bytes_in, spelled_by}};
+ghost use Rattle.ix_script.specs.{lines.Said.{payload_within}, reader.Readers.{IsFault}, texts.PayloadBytes.{bytes_in}};
 ghost use Rattle.ix_script.specs.texts.Payloads.{digit_of, pair_of, two_digits, escape_step, ends, escaped_byte, after_bytes, pairs_of, quoted_from, times_from, payload_of};
 ghost use Rattle.ix_script.specs.texts.Spelled.{Spells};
 ghost use Rattle.ix_script.specs.declared.payload.Escape.TheVariants as escape;
@@ -81,25 +81,12 @@ impl Escape {
         ensures { result ≡ escape_step self b }
     {
         match self {
-            Escape::Plain => {
-                if b == b'\\' {
-                    Some((Escape::Begun, None))
-                } else {
-                    Some((Escape::Plain, Some(b)))
-                }
-            }
-            Escape::Begun => {
-                if b == b'x' {
-                    return Some((Escape::High, None));
-                }
-                let byte = escaped(b)?;
-                Some((Escape::Plain, Some(byte)))
-            }
+            Escape::Plain if b == b'\\' => Some((Escape::Begun, None)),
+            Escape::Plain => Some((Escape::Plain, Some(b))),
+            Escape::Begun if b == b'x' => Some((Escape::High, None)),
+            Escape::Begun => Some((Escape::Plain, Some(escaped(b)?))),
             Escape::High => Some((Escape::Low(b), None)),
-            Escape::Low(high) => {
-                let byte = pair(high, b)?;
-                Some((Escape::Plain, Some(byte)))
-            }
+            Escape::Low(high) => Some((Escape::Plain, Some(pair(high, b)?))),
         }
     }
 }
@@ -157,22 +144,6 @@ fn decode_quoted(text: &[u8], count: usize, buf: &mut [u8])
         };
         buf[i] = byte;
         rest = more;
-    }
-}
-
-impl<'a> Spelling<'a> {
-    pub(crate) fn decode(self, count: usize, buf: &mut [u8])
-        requires spelled { spelled_by self ≡ Some (bytes_in self) }
-        requires count { count ≡ length (bytes_in self) }
-        requires room { count ≤ length buf.old }
-        ensures front { take count buf.new ≡ bytes_in self.entry }
-        ensures len { length buf.new ≡ length buf.old }
-    {
-        match self {
-            Spelling::Pairs(text) => decode_pairs(text, count, buf),
-            Spelling::Quoted(text) => decode_quoted(text, count, buf),
-            Spelling::Times(_, byte) => buf[..count].fill(byte),
-        }
     }
 }
 
@@ -339,7 +310,11 @@ impl<'a, const MOST: u32> Payload<'a, MOST> {
         ensures front { take (length self.now) buf.new ≡ self.now }
         ensures len { length buf.new ≡ length buf.old }
     {
-        self.spelling.decode(self.len(), buf)
+        match self.spelling {
+            Spelling::Pairs(text) => decode_pairs(text, self.len(), buf),
+            Spelling::Quoted(text) => decode_quoted(text, self.len(), buf),
+            Spelling::Times(_, byte) => buf[..self.len()].fill(byte),
+        }
     }
 
     /// Puts all bytes into a buffer, in place of those that it has.

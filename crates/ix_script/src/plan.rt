@@ -1,5 +1,5 @@
 ghost use Rattle.std.specs.Prelude.{◌≡◌, ◌++◌, ◌∷◌, ◌+◌, ◌<◌, [], List, length, take, OnOk, IfOk};
-ghost use Rattle.ix_script.specs.{declared.line.Line.{Line}, lines.Before.{fs_told, proc_told, object_told}, scripts.Held.{IsPlan}};
+ghost use Rattle.ix_script.specs.{declared.line.Line.{Line}, lines.Before.{proc_told, object_told}, scripts.Held.{IsPlan}};
 ghost use Rattle.ix_script.specs.scripts.Scripts.{config_of};
 
 use crate::header::{default_fs, default_limits, fs_spec, limits_after};
@@ -19,15 +19,6 @@ pub(crate) struct Plan {
     pub limits: Limits,
     pub procs: List<ProcSpec>,
     pub objects: List<ObjSpec>,
-}
-
-fn add_fs(fss: &mut List<FsSpec>, line: &Line<'_>) -> Result<(), NoMemory>
-    ensures { OnOk result (fss.new ≡ fss.old ++ fs_told line.now) }
-{
-    match fs_spec(line) {
-        Some(fs) => fss.push(fs),
-        None => Ok(()),
-    }
 }
 
 fn add_proc(procs: &mut List<ProcSpec>, line: &Line<'_>) -> Result<(), NoMemory>
@@ -103,23 +94,13 @@ fn add_object(alloc: Global, objects: &mut List<ObjSpec>, line: &Line<'_>) -> Re
 }
 
 impl Plan {
-    #[tactic(auto, unfolding(crate::specs::lines::Before::fss_told, crate::specs::lines::Before::limits_of, crate::specs::lines::Before::procs_of, crate::specs::lines::Before::objects_of))]
-    fn new(alloc: Global) -> Plan
-        ensures { IsPlan result [] }
-    {
-        Plan {
-            fss: List::new(alloc),
-            limits: default_limits(),
-            procs: List::new(alloc),
-            objects: List::new(alloc),
-        }
-    }
-
     /// One line more. After an error the plan isn't used.
     fn add(&mut self, alloc: Global, line: &Line<'_>) -> Result<(), NoMemory>
         ensures { OnOk result ((lines : List Line) → IsPlan self.old lines → IsPlan self.new (lines ++ line.now ∷ [])) }
     {
-        add_fs(&mut self.fss, line)?;
+        if let Some(fs) = fs_spec(line) {
+            self.fss.push(fs)?;
+        }
         self.limits = limits_after(&self.limits, line);
         add_proc(&mut self.procs, line)?;
         add_object(alloc, &mut self.objects, line)?;
@@ -127,10 +108,16 @@ impl Plan {
     }
 
     /// What lines tell. No line is made but those of the header: no other tells anything.
+    #[tactic(auto, unfolding(crate::specs::lines::Before::fss_told, crate::specs::lines::Before::limits_of, crate::specs::lines::Before::procs_of, crate::specs::lines::Before::objects_of))]
     fn of(alloc: Global, lines: &Lines) -> Result<Plan, NoMemory>
         ensures { IfOk result (λ p. IsPlan p lines.now) }
     {
-        let mut plan = Plan::new(alloc);
+        let mut plan = Plan {
+            fss: List::new(alloc),
+            limits: default_limits(),
+            procs: List::new(alloc),
+            objects: List::new(alloc),
+        };
         'lines: for index in 0..lines.len() {
             if let Some(line) = lines.header_line(index) {
                 plan.add(alloc, &line)?;

@@ -1,7 +1,7 @@
-ghost use Rattle.std.specs.{Prelude.{◌≡◌, Some, None, [], true, IsTrue, map, ◌<◌, ◌&&◌, ◌||◌, length}, List.{list_all, list_any}};
-ghost use Rattle.ix_script.specs.lines.Before.{form_told, is_known, fss_told, whats_told, what_text, proc_names, fss_of, objects_of};
+ghost use Rattle.std.specs.{Prelude.{◌≡◌, Some, None, [], true, IsTrue, ◌<◌, ◌&&◌, ◌||◌, length}, List.{list_all, list_any}};
+ghost use Rattle.ix_script.specs.lines.Before.{form_told, is_known, what_text, proc_names, fss_of, objects_of};
 ghost use Rattle.ix_script.specs.lines.Faults.{text_fault, words_fault, stand_fault, names_fault, said_fault, form_fault, command_fault, first_line_fault, body_fault};
-ghost use Rattle.ix_script.specs.lines.Rules.{is_outside, is_given_twice, is_unknown, names_unknown, object_above, object_is_misplaced, object_exceeds_limits, is_out_of_order, is_one_too_many, lacks_policy};
+ghost use Rattle.ix_script.specs.lines.Rules.{is_outside, is_given_twice, is_unknown, names_unknown, object_above, object_is_misplaced, object_exceeds_limits, is_one_too_many, lacks_policy};
 ghost use Rattle.ix_script.specs.{lines.Said.{version_of, line_of}, reader.Readers.{Finds, object_fault, Tells, TellsForm, is_whole}, reader.Told.{DraftTold}};
 ghost use Rattle.ix_script.specs.texts.Cutting.{is_skipped, is_policy_line};
 ghost use Rattle.ix_label.specs.{Category.{leq}, declared.form.Form.TheVariants.{One}};
@@ -22,7 +22,7 @@ use crate::values::{LabelWord, PolicyText, begins_with_digit, begins_with_text};
 use crate::words::Words;
 use ix_label::{Form as LabelForm, Steps};
 use ix_model::{FsSpec, Path, blocks_for, fs_of, is_mount};
-use ix_text::is;
+use ix_text::{begins, is};
 use std::sync::ledger::Ledger;
 
 /// Returns a rule where it is broken.
@@ -69,10 +69,7 @@ fn check_words(words: &Words<'_>) -> Result<(), Rule>
 pub(crate) fn is_skipped(text: &[u8]) -> bool
     ensures { result ≡ is_skipped text.now }
 {
-    match text {
-        [] => true,
-        [b, ..] => *b == b'#',
-    }
+    text.is_empty() || begins(b'#', text)
 }
 
 #[tactic(auto, unfolding(crate::specs::texts::Cutting::is_policy_line))]
@@ -165,6 +162,15 @@ impl<'a> Draft<'a> {
                 refuse_if!(self.header.procs.count >= most, Rule::NO_ROOM);
                 Ok(())
             }
+            Line::Limit { .. } => {
+                refuse_if!(self.header.latest > 2, Rule::OUT_OF_ORDER);
+                Ok(())
+            }
+            Line::Fs { .. } => {
+                refuse_if!(self.header.latest > 3, Rule::OUT_OF_ORDER);
+                refuse_if!(self.header.told >= 16, Rule::TOO_MANY);
+                Ok(())
+            }
             Line::Dir { path, label, .. } => self.check_object(path, label, 0, steps),
             Line::File {
                 path,
@@ -173,7 +179,6 @@ impl<'a> Draft<'a> {
                 ..
             } => self.check_object(path, label, bytes.len(), steps),
             _ => {
-                refuse_if!(self.is_out_of_order(line), Rule::OUT_OF_ORDER);
                 refuse_if!(self.is_one_too_many(line), Rule::TOO_MANY);
                 refuse_if!(self.lacks_policy(line), Rule::NO_POLICY);
                 Ok(())
@@ -241,20 +246,6 @@ impl<'a> Draft<'a> {
         }
     }
 
-    fn tells_fs(&self, word: &'a [u8]) -> bool
-        requires told { DraftTold self.now }
-        ensures { result ≡ is_known word.now (map (λ s. s.name) (fss_told self.now.lines)) }
-    {
-        self.header.told > 0 && is_named(word, self.header.fss.as_slice())
-    }
-
-    fn limits(&self, word: &'a [u8]) -> bool
-        requires told { DraftTold self.now }
-        ensures { result ≡ is_known word.now (map what_text (whats_told self.now.lines)) }
-    {
-        is_limited(word, self.header.whats.as_slice())
-    }
-
     fn tells_proc(&self, word: &'a [u8]) -> bool
         requires told { DraftTold self.now }
         ensures { result ≡ is_known word.now (proc_names self.now.lines) }
@@ -267,9 +258,10 @@ impl<'a> Draft<'a> {
         requires told { DraftTold self.now }
         ensures { result ≡ is_given_twice self.now.lines form words.now }
     {
+        let header = &self.header;
         match form {
-            Form::Fs => self.tells_fs(words.get(1)),
-            Form::Limit => self.limits(words.get(1)),
+            Form::Fs => header.told > 0 && is_named(words.get(1), header.fss.as_slice()),
+            Form::Limit => is_limited(words.get(1), header.whats.as_slice()),
             Form::Proc => self.tells_proc(words.get(1)),
             Form::Lane => is_known(words.get(1), self.body.phase_lanes.as_slice()),
             Form::Pipe => words.len() > 2 && is(words.get(3), words.get(4)),
@@ -293,13 +285,6 @@ impl<'a> Draft<'a> {
         !begins_with_digit(word) && !self.body.fds.has(self.body.lane, word)
     }
 
-    fn lacks_kept(&self, word: &'a [u8]) -> bool
-        requires told { DraftTold self.now }
-        ensures { result ≡ is_unknown self.now.lines (kind.Keep, word.now) }
-    {
-        !is(word, b"all") && !is(word, b"none") && self.lacks_fd(word)
-    }
-
     /// Whether a process or a descriptor is unknown: rule 21.
     pub fn is_unknown(&self, form: Form, words: &Words<'a>) -> bool
         requires told { DraftTold self.now }
@@ -311,15 +296,12 @@ impl<'a> Draft<'a> {
         if self.lacks_proc(words.get(1)) {
             return true;
         }
+        let word = words.get(2);
         match form {
-            Form::Grant | Form::Ceiling => self.lacks_proc(words.get(2)),
-            Form::OnFd(_) | Form::Counted(_) | Form::Write | Form::Dup => {
-                self.lacks_fd(words.get(2))
-            }
-            Form::Fork => self.lacks_kept(words.get(2)),
-            Form::Copy | Form::Login => {
-                self.lacks_fd(words.get(2)) || self.lacks_fd(words.get(3))
-            }
+            Form::Grant | Form::Ceiling => self.lacks_proc(word),
+            Form::OnFd(_) | Form::Counted(_) | Form::Write | Form::Dup => self.lacks_fd(word),
+            Form::Fork => !is(word, b"all") && !is(word, b"none") && self.lacks_fd(word),
+            Form::Copy | Form::Login => self.lacks_fd(word) || self.lacks_fd(words.get(3)),
             _ => false,
         }
     }
@@ -378,18 +360,6 @@ impl<'a> Draft<'a> {
         names > self.header.limits.names as usize
             || inodes > fss[k].inodes as usize
             || blocks > fss[k].blocks as usize
-    }
-
-    /// Whether a header line is out of order: rule 25.
-    pub fn is_out_of_order(&self, line: &Line<'a>) -> bool
-        requires told { DraftTold self.now }
-        ensures { result ≡ is_out_of_order self.now.lines line.now }
-    {
-        match line {
-            Line::Limit { .. } => self.header.latest > 2,
-            Line::Fs { .. } => self.header.latest > 3,
-            _ => false,
-        }
     }
 
     /// Whether there are too many: a 17th file system, a 65th lane or a 200,001st command, rule 26.

@@ -1,7 +1,6 @@
-ghost use Rattle.std.specs.{Prelude.{◌≡◌, ℕ, ◌++◌, ◌+◌, ◌<◌, ◌≤◌, [], length, drop, slice_get, slice_index_or, OnOk, IfOk}, Option.{option_map_or}};
-ghost use Rattle.ix_script.specs.{scripts.Held.{IsSchedule}, scripts.Schedule.{begins_part, begun_in, part_len, seat_from, stretch_in}};
+ghost use Rattle.std.specs.{Prelude.{◌≡◌, ℕ, ◌++◌, ◌+◌, ◌<◌, ◌≤◌, [], length, drop, slice_index_or, OnOk, IfOk}, Option.{option_map_or}};
+ghost use Rattle.ix_script.specs.{scripts.Held.{IsSchedule}, scripts.Schedule.{SeatsDiffer, begins_part, begun_in, part_len, seat_from, stretch_in}};
 
-use crate::line::Line;
 use crate::packed::Lines;
 use crate::role::Role;
 use ix_model::{List, Name, NoMemory};
@@ -40,10 +39,14 @@ fn no_stretches(alloc: Global, count: usize) -> Result<Vec<List<Stretch>>, NoMem
     Ok(lists)
 }
 
-/// The seat of the lane of a name.
-fn seat_of(name: &[u8], lanes: &[Name]) -> Option<usize>
+/// The seat of the lane of a name. Looked at first is the seat that it is likely to have.
+fn seat_of(near: usize, name: &[u8], lanes: &[Name]) -> Option<usize>
+    requires { SeatsDiffer lanes.now }
     ensures { result ≡ seat_from 0 name.now lanes.now }
 {
+    if near < lanes.len() && is(name, lanes[near].as_bytes()) {
+        return Some(near);
+    }
     'lanes: for seat in 0..lanes.len() {
         if is(name, lanes[seat].as_bytes()) {
             return Some(seat);
@@ -70,18 +73,20 @@ fn part_end(lines: &Lines, first: usize) -> usize
 }
 
 /// Takes the line at an index, before which so many phases have begun, and answers how many have begun behind it. The stretch
-/// behind a `lane` line is put to those of its lane.
+/// behind a `lane` line is put to those of its lane. The seat that the next `lane` line is likely to have is kept.
 fn add_line(
     stretches: &mut Vec<List<Stretch>>,
     lanes: &[Name],
     lines: &Lines,
     index: usize,
     begun: u32,
+    next: &mut usize,
 ) -> Result<u32, NoMemory>
     requires few { length lines.now ≤ 16777216 }
     requires within { index < length lines.now }
     requires begun { begun ≤ index }
     requires lanes { length stretches.old.items ≡ length lanes.now }
+    requires differ { SeatsDiffer lanes.now }
     ensures lanes { length stretches.new.items ≡ length lanes.now }
     ensures begun { IfOk result (λ after. after ≡ begun_in begun index lines.now) }
     ensures more { OnOk result ((seat : ℕ) → slice_index_or stretches.new.items seat [] ≡ slice_index_or stretches.old.items seat [] ++ stretch_in lanes.now seat begun index lines.now) }
@@ -90,17 +95,20 @@ fn add_line(
         return Ok(begun);
     };
     if let Role::Phase = role {
+        *next = 0;
         return Ok(begun + 1);
     }
     let Role::Lane = role else {
         return Ok(begun);
     };
-    let Some(Line::Lane { name }) = lines.get(index) else {
+    // The line isn't made: its name stands behind its word and a space.
+    let Some(text) = lines.text_at(index) else {
         return Ok(begun);
     };
-    let Some(seat) = seat_of(name.as_bytes(), lanes) else {
+    let Some(seat) = seat_of(*next, &text[5..], lanes) else {
         return Ok(begun);
     };
+    *next = seat.saturating_add(1);
     stretches[seat].push(Stretch {
         phase: begun.saturating_sub(1),
         first: index as u32 + 1,
@@ -112,24 +120,19 @@ fn add_line(
 impl Schedule {
     /// The schedule of lines, whose lanes have these names. `NoMemory` where there was none for it.
     pub fn of(alloc: Global, lines: &Lines, lanes: &[Name]) -> Result<Schedule, NoMemory>
-        requires { length lines.now ≤ 16777216 }
+        requires few { length lines.now ≤ 16777216 }
+        requires differ { SeatsDiffer lanes.now }
         ensures { IfOk result (λ s. IsSchedule s lines.now lanes.now) }
     {
         let mut stretches = no_stretches(alloc, lanes.len())?;
         let mut begun = 0;
+        let mut next = 0;
         'lines: for index in 0..lines.len() {
-            begun = add_line(&mut stretches, lanes, lines, index, begun)?;
+            begun = add_line(&mut stretches, lanes, lines, index, begun, &mut next)?;
         }
         Ok(Schedule {
             phases: begun.max(1),
             stretches,
         })
-    }
-
-    /// The stretch of a lane at a place from 0.
-    pub fn stretch(&self, seat: usize, n: usize) -> Option<Stretch>
-        ensures { result ≡ slice_get (slice_index_or self.now.stretches.items seat []) n }
-    {
-        self.stretches.get(seat)?.get(n).copied()
     }
 }

@@ -98,7 +98,8 @@ impl Script {
     pub fn stretch(&self, seat: u32, n: u32) -> Option<Stretch>
         ensures { result ≡ slice_get (stretches_of self.now seat) n }
     {
-        self.schedule.stretch(seat as usize, n as usize)
+        let stretches = self.schedule.stretches.get(seat as usize)?;
+        stretches.get(n as usize).copied()
     }
 
     /// The name of a lane; `None` exactly past the last.

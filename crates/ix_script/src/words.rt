@@ -25,19 +25,11 @@ impl Spot {
     pub fn after(self, b: u8) -> Spot
         ensures { result ≡ after_byte self b }
     {
-        match self {
-            Spot::Front => { if b == b'"' { Spot::Quoted } else { Spot::Plain } }
-            Spot::Plain => Spot::Plain,
-            Spot::Quoted => {
-                if b == b'\\' {
-                    Spot::Escaped
-                } else if b == b'"' {
-                    Spot::Plain
-                } else {
-                    Spot::Quoted
-                }
-            }
-            Spot::Escaped => Spot::Quoted,
+        match (self, b) {
+            (Spot::Front, b'"') | (Spot::Escaped, _) => Spot::Quoted,
+            (Spot::Quoted, b'\\') => Spot::Escaped,
+            (Spot::Front | Spot::Plain, _) | (Spot::Quoted, b'"') => Spot::Plain,
+            (Spot::Quoted, _) => Spot::Quoted,
         }
     }
 

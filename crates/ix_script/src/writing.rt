@@ -161,18 +161,14 @@ fn shortest_text(out: &mut Vec<u8>, bytes: &[u8]) -> Result<(), NoMemory>
     }
     let by_pairs = bytes.len() as u128 * 2 + 1;
     let in_quotes = quoted_len(bytes);
-    let Some(byte) = repeated(bytes) else {
-        if in_quotes < by_pairs {
-            return quoted(out, bytes);
+    if let Some(byte) = repeated(bytes) {
+        let by_times = times_len(bytes.len(), byte);
+        if by_times < by_pairs {
+            if in_quotes < by_times {
+                return quoted(out, bytes);
+            }
+            return times(out, bytes.len(), byte);
         }
-        return pairs(out, bytes);
-    };
-    let by_times = times_len(bytes.len(), byte);
-    if by_times < by_pairs {
-        if in_quotes < by_times {
-            return quoted(out, bytes);
-        }
-        return times(out, bytes.len(), byte);
     }
     if in_quotes < by_pairs {
         return quoted(out, bytes);

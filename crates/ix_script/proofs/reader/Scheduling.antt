@@ -143,6 +143,11 @@ pub stretch_here : (lanes : List (List ℕ)) (seat begun i at phase end : ℕ) (
     → phase ≡ begun - 1 → end ≡ (i + 1) + part_len (drop (i + 1) lines) → cond (at == seat) (record { phase = phase; first = i + 1; end = end } ∷ []) [] ≡ stretch_in lanes seat begun i lines
 stretch_here lanes seat begun i at phase end lines name is place in_phase up_to = rw (is, place, in_phase, up_to) refl
 
+-- the stretch of a lane that has no seat
+pub unseated : (lanes : List (List ℕ)) (seat begun i : ℕ) (lines : List Line) (name : List ℕ) (old : List Stretch) → slice_get lines i ≡ Some (line.Lane name) → seat_from 0 name lanes ≡ None
+    → old ≡ old ++ stretch_in lanes seat begun i lines
+unseated lanes seat begun i lines name old is none = rw (is, none) (sym (append-nil old))
+
 pub stretches_next : (lanes : List (List ℕ)) (seat begun i : ℕ) (lines : List Line) → i < length lines
     → stretches_from lanes seat begun i (drop i lines) ≡ stretch_in lanes seat begun i lines ++ stretches_from lanes seat (begun_in begun i lines) (i + 1) (drop (i + 1) lines)
 stretches_next lanes seat begun i lines low =

@@ -1,5 +1,6 @@
 -- The schedule of a script: which stretches of lines are of which lane, and in which phase.
-use Rattle.std.specs.Prelude.{◌≡◌, ℕ, suc, ◌+◌, ◌-◌, ◌==◌, Bool, true, false, not, ◌&&◌, List, All, [], ◌∷◌, ◌++◌, take, drop, slice_get, max, count_by, Option, Some, None, if◌then◌else◌}
+use Rattle.std.specs.Prelude.{◌≡◌, ℕ, suc, ◌+◌, ◌-◌, ◌<◌, ◌==◌, Bool, true, false, not, ◌&&◌, max, Option, Some, None, if◌then◌else◌}
+use Rattle.std.specs.Prelude.{List, All, [], ◌∷◌, ◌++◌, length, take, drop, slice_get, slice_index_or, count_by}
 use Rattle.std.specs.List.{flat_map}
 use Rattle.std.specs.Option.{option_map_or}
 use Rattle.ix_model.specs.world.Naming.{same_bytes}
@@ -13,6 +14,10 @@ use Rattle.ix_script.specs.declared.schedule.Stretch.{Stretch}
 abbrev pub seat_from : ℕ → List ℕ → List (List ℕ) → Option ℕ
 seat_from n name [] = None
 seat_from n name (lane ∷ lanes) = if same_bytes name lane then Some n else seat_from (suc n) name lanes
+
+-- no two lanes have one name: a lane is the first of its name
+abbrev pub SeatsDiffer : List (List ℕ) → Type 0
+SeatsDiffer lanes = (i : ℕ) (name : List ℕ) → i < length lanes → same_bytes name (slice_index_or lanes i []) ≡ true → seat_from 0 name lanes ≡ Some i
 
 -- the seat of the lane in which the next line stands; lanes have seats 0, 1 and so on, in the order in which they first appear
 abbrev pub seat_after : List (List ℕ) → Option ℕ → Line → Option ℕ

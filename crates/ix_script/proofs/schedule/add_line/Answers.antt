@@ -1,11 +1,13 @@
-use Rattle.std.proofs.Common.{◌≡◌, ℕ, ◌+◌, ◌<◌, ◌++◌, ◌∷◌, [], List, length, get_or, Some, slice_get, Bool, cond, sym, ap, ◌∙◌, arith}
-use Rattle.std.proofs.lemmas.List.{get_or_default}
+use Rattle.std.proofs.Common.{◌≡◌, ℕ, ◌+◌, ◌<◌, ◌++◌, ◌∷◌, [], List, length, drop, get_or, Some, slice_get, Bool, cond, sym, ap, ◌∙◌, arith}
+use Rattle.std.proofs.lemmas.List.{get_or_default, take_rest}
 use Rattle.ix_script.specs.declared.role.Role.{Role}
+use Rattle.ix_script.specs.lines.Before.{form_told}
 use Rattle.ix_script.specs.scripts.Schedule.{seat_from}
 use Rattle.ix_script.specs.declared.line.Line.{Line}
 use Rattle.ix_script.specs.declared.line.Line.TheVariants as line
 use Rattle.ix_script.specs.declared.schedule.Stretch.{Stretch}
-use Rattle.ix_script.proofs.reader.Scheduling.{phase_role, lane_role, begun_here, none_here, other_phase, other_lane, seat_low, part_within, added, stretch_here}
+use Rattle.ix_script.proofs.reader.Scheduling.{phase_role, lane_role, begun_here, none_here, unseated, other_phase, other_lane, seat_low, part_within, added, stretch_here}
+use Rattle.ix_script.proofs.back.LaneBack.{lane_at}
 use Rattle.ix_script.proofs.schedule.add_line.Goals as goal
 
 pub returns-in-Phase-clause-begun : goal.returns-in-Phase-clause-begun
@@ -27,8 +29,8 @@ returns-in_default-role-2 c =
       more = λ seat. none_here c.args.lanes.now seat c.args.begun c.args.index c.args.lines.now c.in-Some.role _ some (other_lane c.in-Some.role c.in_default-role-2.not-Lane);
     }
 
-pub returns-in_default-get-clause-begun : goal.returns-in_default-get-clause-begun
-returns-in_default-get-clause-begun c =
+pub returns-in_default-text_at-clause-begun : goal.returns-in_default-text_at-clause-begun
+returns-in_default-text_at-clause-begun c =
     sym (begun_here c.args.begun c.args.index c.args.lines.now c.in-Some.role (sym c.in-Some.is ∙ c.role.ensures)
     ∙ ap (λ (r : Role). cond (phase_role r) (c.args.begun + 1) c.args.begun) c.in-Lane.is)
 
@@ -37,8 +39,31 @@ returns-in_default-seat_of-clause-begun c =
     sym (begun_here c.args.begun c.args.index c.args.lines.now c.in-Some.role (sym c.in-Some.is ∙ c.role.ensures)
     ∙ ap (λ (r : Role). cond (phase_role r) (c.args.begun + 1) c.args.begun) c.in-Lane.is)
 
+pub slice_bounds-seat_of-count : goal.slice_bounds-seat_of-count
+slice_bounds-seat_of-count c =
+    let lane = lane_at (form_told c.args.lines.now) c.args.lines.now c.args.index c.in-Some-text_at.text.now c.in-Some.role c.in-Some-text_at.ensures.0 c.in-Some-text_at.ensures.1
+    (sym c.in-Some.is ∙ c.role.ensures) c.in-Lane.is in
+    lane.long
+
+pub slice_bounds-seat_of-start : goal.slice_bounds-seat_of-start
+slice_bounds-seat_of-start c =
+    let lane = lane_at (form_told c.args.lines.now) c.args.lines.now c.args.index c.in-Some-text_at.text.now c.in-Some.role c.in-Some-text_at.ensures.0 c.in-Some-text_at.ensures.1
+    (sym c.in-Some.is ∙ c.role.ensures) c.in-Lane.is in
+    lane.long
+
+pub returns-in_default-seat_of-clause-more : goal.returns-in_default-seat_of-clause-more
+returns-in_default-seat_of-clause-more c =
+    let lane = lane_at (form_told c.args.lines.now) c.args.lines.now c.args.index c.in-Some-text_at.text.now c.in-Some.role c.in-Some-text_at.ensures.0 c.in-Some-text_at.ensures.1
+    (sym c.in-Some.is ∙ c.role.ensures) c.in-Lane.is in
+    λ seat. unseated c.args.lanes.now seat c.args.begun c.args.index c.args.lines.now (drop 5 c.in-Some-text_at.text.now) _ (c.in-Some-text_at.ensures.1
+    ∙ ap (λ (l : Line). Some l) lane.says) (sym (c.seat_of.ensures ∙ ap (λ n. seat_from 0 n c.args.lanes.now) (take_rest c.in-Some-text_at.text.now 5)) ∙ c.in_default-seat_of.is)
+
 pub index_mut-requires : goal.index_mut-requires
-index_mut-requires c = omega (arith, seat_low 0 c.as_bytes.result.now c.args.lanes.now c.in-Some-seat_of.seat (sym c.seat_of.ensures ∙ c.in-Some-seat_of.is), c.requires.lanes)
+index_mut-requires c =
+    let name : List ℕ = drop 5 c.in-Some-text_at.text.now in
+    let place : seat_from 0 name c.args.lanes.now ≡ Some c.in-Some-seat_of.seat =
+    sym (c.seat_of.ensures ∙ ap (λ n. seat_from 0 n c.args.lanes.now) (take_rest c.in-Some-text_at.text.now 5)) ∙ c.in-Some-seat_of.is in
+    omega (arith, seat_low 0 name c.args.lanes.now c.in-Some-seat_of.seat place, c.requires.lanes)
 
 pub overflow_cast-part_end : goal.overflow_cast-part_end
 overflow_cast-part_end c = omega (arith, c.part_end.ensures, c.requires.few, part_within c.args.lines.now (c.args.index + 1) (omega (arith, c.requires.within)))
@@ -54,11 +79,15 @@ returns-clause-more c =
     let at : ℕ = c.in-Some-seat_of.seat in
     let own : List Stretch = c.index_mut.result.now in
     let stretch : Stretch = record { phase = c.saturating_sub.result; first = c.args.index + 1; end = c.part_end.result } in
-    let place : seat_from 0 c.in-Some-Lane.name c.args.lanes.now ≡ Some at = rw c.as_bytes.ensures at (sym c.seat_of.ensures ∙ c.in-Some-seat_of.is) in
-    let low : at < length items = omega (arith, seat_low 0 c.in-Some-Lane.name c.args.lanes.now at place, c.requires.lanes) in
-    let is : slice_get c.args.lines.now c.args.index ≡ Some (line.Lane c.in-Some-Lane.name) = sym c.get.ensures ∙ c.in-Some-Lane.is ∙ ap (λ (l : Line). Some l) c.in-Some-Lane.field-0-is in
+    let lane = lane_at (form_told c.args.lines.now) c.args.lines.now c.args.index c.in-Some-text_at.text.now c.in-Some.role c.in-Some-text_at.ensures.0 c.in-Some-text_at.ensures.1
+    (sym c.in-Some.is ∙ c.role.ensures) c.in-Lane.is in
+    let name : List ℕ = drop 5 c.in-Some-text_at.text.now in
+    let place : seat_from 0 name c.args.lanes.now ≡ Some at =
+    sym (c.seat_of.ensures ∙ ap (λ n. seat_from 0 n c.args.lanes.now) (take_rest c.in-Some-text_at.text.now 5)) ∙ c.in-Some-seat_of.is in
+    let low : at < length items = omega (arith, seat_low 0 name c.args.lanes.now at place, c.requires.lanes) in
+    let is : slice_get c.args.lines.now c.args.index ≡ Some (line.Lane name) = c.in-Some-text_at.ensures.1 ∙ ap (λ (l : Line). Some l) lane.says in
     let before : own ≡ get_or items at [] = c.index_mut.ensures.value ∙ get_or_default items at own [] low in
     λ seat.
     added items at seat stretch c.push.new.self low (c.in_ok-push.ensures.ok ∙ ap (λ (ts : List Stretch). ts ++ stretch ∷ []) before)
-    ∙ ap (λ (ts : List Stretch). get_or items seat [] ++ ts) (stretch_here c.args.lanes.now seat c.args.begun c.args.index at _ _ c.args.lines.now c.in-Some-Lane.name is place
+    ∙ ap (λ (ts : List Stretch). get_or items seat [] ++ ts) (stretch_here c.args.lanes.now seat c.args.begun c.args.index at _ _ c.args.lines.now name is place
     c.saturating_sub.ensures c.part_end.ensures)

@@ -1,7 +1,7 @@
 use Rattle.std.proofs.Common.{◌∙◌, [], ◌∷◌, refl, sym}
 use Rattle.ix_script.specs.lines.Before.{dir_spec, file_spec}
 use Rattle.ix_script.specs.lines.Faults.{said_fault}
-use Rattle.ix_script.specs.lines.Rules.{is_out_of_order, is_one_too_many, lacks_policy}
+use Rattle.ix_script.specs.lines.Rules.{is_one_too_many, lacks_policy}
 use Rattle.ix_script.proofs.lines.Refusals.{broken, kept, other_said}
 use Rattle.ix_script.proofs.draft.Draft.check_said.Goals as goal
 
@@ -14,39 +14,25 @@ unfolding said_fault
 returns-in-File g c =
     rw c.in-File.is (c.check_object-in-File.ensures (file_spec c.in-File.path c.in-File.label c.in-File.frozen c.in-File.cap c.in-File.lic c.in-File.bytes) refl refl (sym c.len.ensures.len))
 
-pub returns-then-is_out_of_order : goal.returns-then-is_out_of_order
-returns-then-is_out_of_order g c =
-    let before = c.args.self.now.lines in
-    let l = c.args.line.now in
-    let other = other_said before l c.in_default.not-Proc c.in_default.not-Dir c.in_default.not-File in
-    other ∙ broken 25 (is_out_of_order before l) ((26, is_one_too_many before l) ∷ (28, lacks_policy before l) ∷ [])
-    (sym c.is_out_of_order.ensures ∙ c.if-is_out_of_order.true)
-
 pub returns-then-is_one_too_many : goal.returns-then-is_one_too_many
 returns-then-is_one_too_many g c =
     let before = c.args.self.now.lines in
     let l = c.args.line.now in
-    let other = other_said before l c.in_default.not-Proc c.in_default.not-Dir c.in_default.not-File in
-    let order = kept 25 (is_out_of_order before l) ((26, is_one_too_many before l) ∷ (28, lacks_policy before l) ∷ [])
-    (sym c.is_out_of_order.ensures ∙ c.if-is_out_of_order.false) in
-    other ∙ order ∙ broken 26 (is_one_too_many before l) ((28, lacks_policy before l) ∷ []) (sym c.is_one_too_many.ensures ∙ c.if-is_one_too_many.true)
+    let other = other_said before l c.in_default.not-Proc c.in_default.not-Dir c.in_default.not-File c.in_default.not-Limit c.in_default.not-Fs in
+    other ∙ broken 26 (is_one_too_many before l) ((28, lacks_policy before l) ∷ []) (sym c.is_one_too_many.ensures ∙ c.if-is_one_too_many.true)
 
 pub returns-then-lacks_policy : goal.returns-then-lacks_policy
 returns-then-lacks_policy g c =
     let before = c.args.self.now.lines in
     let l = c.args.line.now in
-    let other = other_said before l c.in_default.not-Proc c.in_default.not-Dir c.in_default.not-File in
-    let order = kept 25 (is_out_of_order before l) ((26, is_one_too_many before l) ∷ (28, lacks_policy before l) ∷ [])
-    (sym c.is_out_of_order.ensures ∙ c.if-is_out_of_order.false) in
+    let other = other_said before l c.in_default.not-Proc c.in_default.not-Dir c.in_default.not-File c.in_default.not-Limit c.in_default.not-Fs in
     let few = kept 26 (is_one_too_many before l) ((28, lacks_policy before l) ∷ []) (sym c.is_one_too_many.ensures ∙ c.if-is_one_too_many.false) in
-    other ∙ order ∙ few ∙ broken 28 (lacks_policy before l) [] (sym c.lacks_policy.ensures ∙ c.if-lacks_policy.true)
+    other ∙ few ∙ broken 28 (lacks_policy before l) [] (sym c.lacks_policy.ensures ∙ c.if-lacks_policy.true)
 
 pub returns-else-lacks_policy : goal.returns-else-lacks_policy
 returns-else-lacks_policy g c =
     let before = c.args.self.now.lines in
     let l = c.args.line.now in
-    let other = other_said before l c.in_default.not-Proc c.in_default.not-Dir c.in_default.not-File in
-    let order = kept 25 (is_out_of_order before l) ((26, is_one_too_many before l) ∷ (28, lacks_policy before l) ∷ [])
-    (sym c.is_out_of_order.ensures ∙ c.if-is_out_of_order.false) in
+    let other = other_said before l c.in_default.not-Proc c.in_default.not-Dir c.in_default.not-File c.in_default.not-Limit c.in_default.not-Fs in
     let few = kept 26 (is_one_too_many before l) ((28, lacks_policy before l) ∷ []) (sym c.is_one_too_many.ensures ∙ c.if-is_one_too_many.false) in
-    other ∙ order ∙ few ∙ kept 28 (lacks_policy before l) [] (sym c.lacks_policy.ensures ∙ c.if-lacks_policy.false)
+    other ∙ few ∙ kept 28 (lacks_policy before l) [] (sym c.lacks_policy.ensures ∙ c.if-lacks_policy.false)

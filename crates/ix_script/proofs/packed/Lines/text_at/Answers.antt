@@ -1,4 +1,4 @@
-use Rattle.std.proofs.Common.{◌≡◌, List, ℕ, length, get_or, Some, refl, sym, ap, ◌∙◌, subst, arith}
+use Rattle.std.proofs.Common.{List, ℕ, length, get_or, Some, sym, ap, ◌∙◌, subst, arith}
 use Rattle.std.specs.List.{slice_get}
 use Rattle.std.proofs.lemmas.Option.{slice_get_past}
 use Rattle.ix_label.specs.declared.form.Form.{Form}
@@ -20,13 +20,18 @@ returns-then-i-ends c =
       c.if-i-ends.true,
     ))
 
-pub part-requires-clause-low : goal.part-requires-clause-low
-part-requires-clause-low c =
+pub slice_bounds-result-count : goal.slice_bounds-result-count
+slice_bounds-result-count c =
     let at = line_at c.self.inside.form 0 c.self.inside.text.items c.self.inside.ends.items c.args.i c.self.invariant.0 (omega (arith, ap length c.as_slice-ends.ensures.value, c.if-i-ends.false)) in
     rw (c.begin-begin.ensures, c.as_slice-ends.ensures.value) at.low
 
-pub part-requires-clause-high : goal.part-requires-clause-high
-part-requires-clause-high c =
+pub slice_bounds-result-start : goal.slice_bounds-result-start
+slice_bounds-result-start c =
+    let at = line_at c.self.inside.form 0 c.self.inside.text.items c.self.inside.ends.items c.args.i c.self.invariant.0 (omega (arith, ap length c.as_slice-ends.ensures.value, c.if-i-ends.false)) in
+    rw (c.begin-begin.ensures, c.as_slice-ends.ensures.value) at.low
+
+pub slice_bounds-result-end : goal.slice_bounds-result-end
+slice_bounds-result-end c =
     let at = line_at c.self.inside.form 0 c.self.inside.text.items c.self.inside.ends.items c.args.i c.self.invariant.0 (omega (arith, ap length c.as_slice-ends.ensures.value, c.if-i-ends.false)) in
     rw (c.as_slice-ends.ensures.value, c.as_slice.ensures.value) at.high
 
@@ -37,9 +42,8 @@ returns c =
     let labels : Form = c.self.inside.form in
     let told = c.self.invariant.2 ∙ ap form_told c.self.view_is in
     let at = line_at labels 0 text ends c.args.i c.self.invariant.0 (omega (arith, ap length c.as_slice-ends.ensures.value, c.if-i-ends.false)) in
-    let part : c.part.result.now ≡ between (begin_at 0 ends c.args.i) (get_or ends c.args.i 0) text =
-    rw (c.part.ensures, c.begin-begin.ensures, c.as_slice-ends.ensures.value, c.as_slice.ensures.value) refl in (
-      subst (λ (f : Form). IsLine f c.part.result.now) told (subst (IsLine labels) (sym part) at.line),
-      ap (λ (ls : List Line). slice_get ls c.args.i) (sym c.self.view_is) ∙ at.is ∙ ap (λ (t : List ℕ). Some (line_in labels t)) (sym part)
-          ∙ ap (λ (f : Form). Some (line_in f c.part.result.now)) told,
+    let part : List ℕ = between (begin_at 0 ends c.args.i) (get_or ends c.args.i 0) text in
+    rw (c.begin-begin.ensures, c.as_slice-ends.ensures.value, c.as_slice.ensures.value) (
+      subst (λ (f : Form). IsLine f part) told at.line,
+      ap (λ (ls : List Line). slice_get ls c.args.i) (sym c.self.view_is) ∙ at.is ∙ ap (λ (f : Form). Some (line_in f part)) told,
     )
