@@ -108,11 +108,17 @@ module _ (t : Parts) (n byte : ℕ) where
         let same : slice_set (behind k).holdings n (with_side 0 (spliced (len + k) new (slice_index_or (behind k).holdings n holds_nothing).first) (slice_index_or (behind k).holdings n holds_nothing))
         ≡ slice_set t.holdings n (with_side 0 (held.first ++ replicate (k + part) byte) held) = elim (cases_lt n (length t.holdings)) [ inl low ↦ inside low | inr past ↦ outside past ] in
         after
-        ∙ ap (λ (w : Parts). let r : Parts = record w { holdings = slice_set w.holdings n (with_side 0 (spliced (len + k) new (slice_index_or w.holdings n holds_nothing).first) (slice_index_or w.holdings n holds_nothing)) } in
+        ∙ ap (λ (w : Parts). let r : Parts =
+        record w {
+          holdings = slice_set w.holdings n (with_side 0 (spliced (len + k) new (slice_index_or w.holdings n holds_nothing).first)
+              (slice_index_or w.holdings n holds_nothing));
+        } in
         r) before
         ∙ (λ i. record t { holdings = same i })
       where
-        inside : n < length t.holdings → slice_set (behind k).holdings n (with_side 0 (spliced (len + k) new (slice_index_or (behind k).holdings n holds_nothing).first) (slice_index_or (behind k).holdings n holds_nothing))
+        inside : n < length t.holdings
+            → slice_set (behind k).holdings n (with_side 0 (spliced (len + k) new (slice_index_or (behind k).holdings n holds_nothing).first)
+            (slice_index_or (behind k).holdings n holds_nothing))
             ≡ slice_set t.holdings n (with_side 0 (held.first ++ replicate (k + part) byte) held)
         inside low =
             let old = held.first ++ replicate k byte in
@@ -123,7 +129,9 @@ module _ (t : Parts) (n byte : ℕ) where
             ∙ set-set t.holdings n (with_side 0 old held) (with_side 0 (spliced (len + k) new old) (with_side 0 old held))
             ∙ ap (λ bs. slice_set t.holdings n (with_side 0 bs held)) bytes
 
-        outside : length t.holdings ≤ n → slice_set (behind k).holdings n (with_side 0 (spliced (len + k) new (slice_index_or (behind k).holdings n holds_nothing).first) (slice_index_or (behind k).holdings n holds_nothing))
+        outside : length t.holdings ≤ n
+            → slice_set (behind k).holdings n (with_side 0 (spliced (len + k) new (slice_index_or (behind k).holdings n holds_nothing).first)
+            (slice_index_or (behind k).holdings n holds_nothing))
             ≡ slice_set t.holdings n (with_side 0 (held.first ++ replicate (k + part) byte) held)
         outside past =
             let h : Holding = with_side 0 (spliced (len + k) new (slice_index_or (behind k).holdings n holds_nothing).first) (slice_index_or (behind k).holdings n holds_nothing) in
@@ -135,7 +143,11 @@ module _ (t : Parts) (n byte : ℕ) where
         → v ≡ behind (k + part)
     goes_on len from part new u v is same what before after =
         goes_on_there len part new u v is what before
-        (after ∙ (λ i. record u { holdings = slice_set u.holdings n (with_side 0 (spliced (len + same i) new (slice_index_or u.holdings n holds_nothing).first) (slice_index_or u.holdings n holds_nothing)) }))
+        (after ∙ (λ i. record u {
+          holdings =
+              slice_set u.holdings n (with_side 0 (spliced (len + same i) new (slice_index_or u.holdings n holds_nothing).first)
+              (slice_index_or u.holdings n holds_nothing));
+        }))
 
 -- ---- the bytes of a file that holds nothing yet
 module _ (t : Parts) (n : ℕ) (said : List ℕ) where

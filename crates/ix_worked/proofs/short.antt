@@ -35,7 +35,8 @@ use Rattle.ix_worked.proofs.Chains.{lines_more}
 use Rattle.ix_worked.proofs.Computing.{running, auditing}
 use Rattle.ix_worked.proofs.Labels.{labels}
 use Rattle.ix_worked.proofs.Moves.{Move, GoesBy, number, bytes, answers, done, refuses, refuses_at, same, back_to, ◌▸◌, goes, tells, tells_by, logs_by}
-use Rattle.ix_worked.proofs.Worlds.{marked, with_made, with_process, with_object, with_line, floated, raised, opened, with_entry, with_fd, without_entry, moved, holding, with_new, with_pipe, claimed_by, with_child, with_ended, without_process}
+use Rattle.ix_worked.proofs.Worlds.{marked, with_made, with_process, with_object, with_line, floated, raised, opened, with_entry, with_fd}
+use Rattle.ix_worked.proofs.Worlds.{without_entry, moved, holding, with_new, with_pipe, claimed_by, with_child, with_ended, without_process}
 
 -- a pipe under the first two descriptors
 abbrev pipes : Move

@@ -39,7 +39,8 @@ use Rattle.ix_worked.proofs.Chains.{Gives}
 use Rattle.ix_worked.proofs.Computing.{running, auditing}
 use Rattle.ix_worked.proofs.Labels.{labels}
 use Rattle.ix_worked.proofs.Moves.{Move, GoesBy, given, left_by, each_gives, goes_on, number, bytes, answers, done, refuses, refuses_at, same, back_to, ◌▸◌, goes, shows, shows_by, logs_by}
-use Rattle.ix_worked.proofs.Worlds.{marked, with_made, with_process, with_object, with_line, floated, raised, opened, with_entry, with_fd, without_entry, moved, holding, with_new, with_pipe, claimed_by, with_child, with_ended, without_process}
+use Rattle.ix_worked.proofs.Worlds.{marked, with_made, with_process, with_object, with_line, floated, raised, opened, with_entry, with_fd}
+use Rattle.ix_worked.proofs.Worlds.{without_entry, moved, holding, with_new, with_pipe, claimed_by, with_child, with_ended, without_process}
 use Rattle.ix_worked.proofs.TwoBytes.{two_bytes}
 
 -- ---- nothing is called

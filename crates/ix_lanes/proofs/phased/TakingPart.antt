@@ -1,5 +1,6 @@
 -- Whether a lane has a line in a phase, by the stretches that are left to it.
-use Rattle.std.proofs.Common.{◌≡◌, ℕ, zero, suc, append-nil, Bool, ◌+◌, ◌-◌, ◌≤◌, ◌<◌, true, false, List, [], ◌∷◌, length, take, drop, max, count_by, cond, is_some, refl, sym, ap, ◌∙◌, subst, arith, inl, inr, true≢false}
+use Rattle.std.proofs.Common.{◌≡◌, ℕ, zero, suc, append-nil, Bool, ◌+◌, ◌-◌, ◌≤◌, ◌<◌, true, false, List, [], ◌∷◌, length, take, drop, max, count_by}
+use Rattle.std.proofs.Common.{cond, is_some, refl, sym, ap, ◌∙◌, subst, arith, inl, inr, true≢false}
 use Rattle.std.proofs.lemmas.Bool.{cases_Bool, cases_lt}
 use Rattle.ix_model.specs.history.Made.{Made}
 use Rattle.ix_script.specs.lines.Before.{is_phase}

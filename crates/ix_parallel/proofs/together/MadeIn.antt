@@ -104,7 +104,8 @@ module _ (s : List Line) (k : ℕ) (events : List Event) where
   more_replies later = replies_further k (opening_world (config_of s)) 1 events later
 
 -- what a seat made of a beginning of a history begins what it made of the whole
-made_begins : (s : List Line) (k : ℕ) (xs ys : List Event) → IsPrefix xs ys → IsPrefix (made_by k (record { config = config_of s; events = xs })) (made_by k (record { config = config_of s; events = ys }))
+made_begins : (s : List Line) (k : ℕ) (xs ys : List Event) → IsPrefix xs ys
+    → IsPrefix (made_by k (record { config = config_of s; events = xs })) (made_by k (record { config = config_of s; events = ys }))
 unfolding made_by
 made_begins s k xs ys p =
     let more = made_further k (opening_world (config_of s)) 1 xs p.0 in

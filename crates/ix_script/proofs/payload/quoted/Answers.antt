@@ -25,7 +25,8 @@ returns-in_default c =
 
 pub bytes-preserved : goal.bytes-preserved
 bytes-preserved c =
-    rw (bytes_counted c.from-count.result c.is_some.result c.in-Some.byte c.from-count.ensures c.is_some.ensures) (quoted_counted (quoted_from escape.Plain c.args.text.now) _ c.args.text.now c.bytes.at c.in-Some.next c.in-Some.byte c.bytes.i c.bytes-test.true
+    rw (bytes_counted c.from-count.result c.is_some.result c.in-Some.byte c.from-count.ensures c.is_some.ensures)
+    (quoted_counted (quoted_from escape.Plain c.args.text.now) _ c.args.text.now c.bytes.at c.in-Some.next c.in-Some.byte c.bytes.i c.bytes-test.true
     (sym c.ends.ensures ∙ c.if-ends.false)
     (sym c.after.ensures ∙ c.in-Some.is) c.bytes.invariant)
 

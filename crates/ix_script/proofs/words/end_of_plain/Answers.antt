@@ -37,7 +37,8 @@ pub returns-in-None-clause-pieces : goal.returns-in-None-clause-pieces
 returns-in-None-clause-pieces c =
     let text = c.args.text.now in
     let at : c.bytes.i ≡ c.min-near.result = omega (arith, c.bytes.invariant.low, c.bytes-test.false) in
-    let far : gap_from spot.Plain (drop c.min-near.result text) ≡ None = ap (gap_from spot.Plain) (sym (take_rest text c.min-near.result)) ∙ sym (by_search _ c.memchr.result c.memchr.ensures) ∙ c.in-None.is in
+    let far : gap_from spot.Plain (drop c.min-near.result text) ≡ None = ap (gap_from spot.Plain) (sym (take_rest text c.min-near.result))
+    ∙ sym (by_search _ c.memchr.result c.memchr.ensures) ∙ c.in-None.is in
     let all : gap_from spot.Plain text ≡ option_map (λ k. c.min-near.result + k) (gap_from spot.Plain (drop c.min-near.result text)) =
     subst (λ (i : ℕ). gap_from spot.Plain text ≡ option_map (λ k. i + k) (gap_from spot.Plain (drop i text))) at c.bytes.invariant.gap in
     cut_at_gap spot.Plain text ∙ ap (cut_at text) (all ∙ ap (option_map (λ k. c.min-near.result + k)) far)

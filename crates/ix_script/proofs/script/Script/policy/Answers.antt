@@ -14,7 +14,8 @@ use Rattle.ix_script.proofs.script.Script.policy.Goals as goal
 pub lines-preserved-in_default : goal.lines-preserved-in_default
 lines-preserved-in_default c =
     let told = c.header_line.ensures ∙ ap (λ (ls : List Line). header_only (slice_get ls c.lines.index)) c.self.view_is in
-    sym (policy_later c.args.self.now c.lines.index (omega (arith, c.lines-test.true, c.len-index-end.ensures, ap length c.self.view_is)) (not_header _ (sym told ∙ c.in_default.is))) ∙ c.lines.invariant
+    sym (policy_later c.args.self.now c.lines.index (omega (arith, c.lines-test.true, c.len-index-end.ensures, ap length c.self.view_is))
+    (not_header _ (sym told ∙ c.in_default.is))) ∙ c.lines.invariant
 
 pub lines-preserved : goal.lines-preserved
 lines-preserved c =

@@ -75,7 +75,9 @@ lines-preserved c =
     let i : ℕ = c.lines.self.at in
     let low : i < length s = omega (arith, c.lines-test.true, c.len.ensures.len) in
     let there = line-there s i low in
-    let at : c.match-seat_asking.self.at ≡ i = elim c.match-seat_asking.branch [ in-Some+else-not-matches w ↦ ap (λ (h : Place). h.at) w.self-is | in_default w ↦ ap (λ (h : Place). h.at) w.self-is ] in
+    let at : c.match-seat_asking.self.at ≡ i =
+    elim c.match-seat_asking.branch [ in-Some+else-not-matches w ↦ ap (λ (h : Place). h.at) w.self-is | in_default w ↦ ap (λ (h : Place). h.at) w.self-is ]
+    in
     let seat : c.match-seat_asking.self.seat ≡ c.lines.self.seat =
     elim c.match-seat_asking.branch [ in-Some+else-not-matches w ↦ ap (λ (h : Place). h.seat) w.self-is | in_default w ↦ ap (λ (h : Place). h.seat) w.self-is ] in
     let next : c.pass.new.self.at ≡ i + 1 = c.pass.ensures.at ∙ ap (λ n. n + 1) at in
@@ -105,13 +107,15 @@ lines-preserved c =
               | in_default-matches u ↦ absurd (true≢false (sym w.if-not-matches.false ∙ u.matches-is))
             ] in
             ap (λ all. serial_from s v place (map standing all) c.pass.new.self.seat (c.pass.new.self.at + 1) (drop c.pass.new.self.at s)) w.places-is
-            ∙ skipped s i low c.lines.places k p old c.lines.self.seat (asking_seat _ _ _ k c.seat_asking.ensures w.in-Some.is) (option_map (λ q. q.now) c.args.policy) c.args.header.now c.requires.policy
+            ∙ skipped s i low c.lines.places k p old c.lines.self.seat (asking_seat _ _ _ k c.seat_asking.ensures w.in-Some.is)
+            (option_map (λ q. q.now) c.args.policy) c.args.header.now c.requires.policy
             c.requires.header l w.line_at-self.ensures
             none w.bind.new.places w.bind.ensures.set c.pass.new.self.seat seated c.pass.new.self.at next v place
             ∙ c.lines.invariant.left v place
         | in_default w ↦
             ap (λ all. serial_from s v place (map standing all) c.pass.new.self.seat (c.pass.new.self.at + 1) (drop c.pass.new.self.at s)) w.places-is
-            ∙ unasked s i low (map standing c.lines.places) _ c.role_at-role.ensures c.lines.self.seat _ c.seat_asking.ensures w.in_default.is c.pass.new.self.seat seated c.pass.new.self.at next v place
+            ∙ unasked s i low (map standing c.lines.places) _ c.role_at-role.ensures c.lines.self.seat _ c.seat_asking.ensures w.in_default.is
+            c.pass.new.self.seat seated c.pass.new.self.at next v place
             ∙ c.lines.invariant.left v place
       ];
     }
