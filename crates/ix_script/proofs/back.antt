@@ -10,3 +10,4 @@ pub mod TextBack
 pub mod ScriptBack
 pub mod Respelling
 pub mod LaneBack
+pub mod NextLane

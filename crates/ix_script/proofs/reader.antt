@@ -20,3 +20,4 @@ pub mod Scheduling
 pub mod Stretched
 pub mod Once
 pub mod Seats
+pub mod PhaseLanes

@@ -1,5 +1,5 @@
-ghost use Rattle.std.specs.Prelude.{◌≡◌, ◌++◌, ◌∷◌, ◌+◌, ◌<◌, ◌^◌, [], List, OnOk, if◌then◌else◌};
-ghost use Rattle.ix_script.specs.{declared.line.Line.{Line}, lines.Before.{is_known, is_command}, reader.Told.{BodyTold}};
+ghost use Rattle.std.specs.Prelude.{◌≡◌, ◌++◌, ◌∷◌, ◌+◌, ◌<◌, ◌≤◌, ◌^◌, [], List, length, IsTrue, OnOk, if◌then◌else◌};
+ghost use Rattle.ix_script.specs.{declared.line.Line.{Line}, lines.Before.{is_known, is_command}, reader.Told.{BodyTold, is_next, phase_lanes_in}};
 
 use crate::index::Given;
 use crate::line::Line;
@@ -15,22 +15,16 @@ pub(crate) fn is_known(word: &[u8], names: &[Name]) -> bool
     names.iter().any(|known| is(word, known.as_bytes()))
 }
 
-/// The same. Looked at first is the place where the name is likely to stand.
-#[tactic(auto, using(std::proofs::lemmas::List::Folds::list_any_at))]
-pub(crate) fn is_known_near(place: usize, word: &[u8], names: &[Name]) -> bool
-    ensures { result ≡ is_known word.now names.now }
-{
-    place < names.len() && is(word, names[place].as_bytes()) || is_known(word, names)
-}
-
 /// What the lines so far tell of phases and lanes.
 #[derive(Drop)]
 pub(crate) struct Body<'a> {
     pub started: bool,
     /// The lane in which the next line stands.
     pub lane: Option<&'a [u8]>,
-    /// The lanes of the phase so far.
-    pub phase_lanes: List<Name>,
+    /// With so many of the script's lanes the phase begins, in their order.
+    pub in_order: usize,
+    /// The other lanes of the phase so far.
+    pub others: List<Name>,
     /// The lanes of the script, in the order in which they first appear.
     pub lanes: List<Name>,
     /// The names of descriptors that stand after `as`.
@@ -40,10 +34,10 @@ pub(crate) struct Body<'a> {
     pub commands: u32,
 }
 
-fn add_name(lanes: &mut List<Name>, place: usize, name: &NameWord<'_>) -> Result<(), NoMemory>
+fn add_name(lanes: &mut List<Name>, name: &NameWord<'_>) -> Result<(), NoMemory>
     ensures { OnOk result (lanes.new ≡ (if is_known name.now lanes.old then lanes.old else lanes.old ++ name.now ∷ [])) }
 {
-    if is_known_near(place, name.as_bytes(), lanes.as_slice()) {
+    if is_known(name.as_bytes(), lanes.as_slice()) {
         Ok(())
     } else {
         lanes.push(name.name())
@@ -59,12 +53,32 @@ impl<'a> Body<'a> {
         Body {
             started: false,
             lane: None,
-            phase_lanes: List::new(alloc),
+            in_order: 0,
+            others: List::new(alloc),
             lanes: List::new(alloc),
             fds: Given::new(alloc),
             procs: Given::new(alloc),
             commands: 0,
         }
+    }
+
+    /// Whether the phase has the first of the script's lanes in their order, and the name is that of the next.
+    pub fn is_next(&self, name: &[u8]) -> bool
+        ensures next { result ≡ is_next self.now name.now }
+        ensures few { IsTrue result → self.now.in_order + 1 < 2 ^ 64 }
+    {
+        self.others.len() == 0
+            && self.in_order < self.lanes.len()
+            && is(name, self.lanes.as_slice()[self.in_order].as_bytes())
+    }
+
+    /// Whether a lane of that name stands in the phase so far.
+    pub fn has_lane(&self, name: &[u8]) -> bool
+        requires { self.now.in_order ≤ length self.now.lanes }
+        ensures { result ≡ is_known name.now (phase_lanes_in self.now) }
+    {
+        is_known(name, &self.lanes.as_slice()[..self.in_order])
+            || is_known(name, self.others.as_slice())
     }
 
     pub fn into_lanes(self) -> List<Name>
@@ -83,14 +97,18 @@ impl<'a> Body<'a> {
             Line::Phase => {
                 self.started = true;
                 self.lane = None;
-                self.phase_lanes = List::new(alloc);
+                self.in_order = 0;
+                self.others = List::new(alloc);
                 Ok(())
             }
             Line::Lane { name } => {
-                let place = self.phase_lanes.len();
                 self.lane = Some(name.as_bytes());
-                self.phase_lanes.push(name.name())?;
-                add_name(&mut self.lanes, place, name)
+                add_name(&mut self.lanes, name)?;
+                if self.is_next(name.as_bytes()) {
+                    self.in_order += 1;
+                    return Ok(());
+                }
+                self.others.push(name.name())
             }
             Line::Open { named, .. } => self.fds.add_any(self.lane, named),
             Line::Dup { named, .. } => self.fds.add_any(self.lane, named),

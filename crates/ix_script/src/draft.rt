@@ -1,7 +1,7 @@
-ghost use Rattle.std.specs.Prelude.{◌≡◌, ◌++◌, ◌∷◌, ◌+◌, ◌<◌, ◌^◌, [], true, false, Some, length, OnOk, IfOk, IfErr, IsTrue};
+ghost use Rattle.std.specs.Prelude.{◌≡◌, ◌++◌, ◌∷◌, ◌+◌, ◌<◌, ◌^◌, [], true, false, Some, None, length, OnOk, IfOk, IfErr, IsTrue};
 ghost use Rattle.std.{proofs.Common.{option_map}, specs.List.{list_all}};
-ghost use Rattle.ix_script.specs.{lines.Before.{form_told}, lines.Faults.{line_fault}, lines.Roles.{role_of}, lines.Said.{line_of}};
-ghost use Rattle.ix_script.specs.{reader.Readers.{HasCause, IsPlain, LineMore, LineRight, is_whole}, reader.Told.{DraftTold}, scripts.Scripts.{config_of}};
+ghost use Rattle.ix_script.specs.{lines.Before.{form_told}, lines.Faults.{line_fault, text_fault}, lines.Roles.{role_of}, lines.Said.{line_of}};
+ghost use Rattle.ix_script.specs.{reader.Readers.{HasCause, IsPlain, LineMore, LineRight, is_whole}, reader.Told.{DraftTold, IsNextLane}, scripts.Scripts.{config_of}};
 ghost use Rattle.ix_model.specs.opening.Valid.{is_valid, is_within};
 ghost use Rattle.ix_text.specs.Bytes.{is_empty};
 
@@ -13,9 +13,11 @@ use crate::packed::Lines;
 use crate::places::line_by_form;
 use crate::role::{ENTRY, Role, cost_of_line, role_of};
 use crate::rules::{check_text, is_policy_line, is_skipped};
+use crate::values::begins_with_text;
 use crate::words::Words;
 use ix_label::Steps;
 use ix_model::NoMemory;
+use ix_text::is_script_name;
 use std::alloc::Global;
 use std::sync::ledger::Ledger;
 
@@ -90,6 +92,34 @@ impl<'a> Draft<'a> {
         Ok(())
     }
 
+    /// Whether the text is the line of the lane that comes next where each phase has the lanes in one order.
+    fn is_next_lane(&self, text: &[u8]) -> bool
+        ensures { IsTrue result → IsNextLane self.now text.now }
+    {
+        self.body.started
+            && begins_with_text(b"lane ", text)
+            && self.body.is_next(&text[5..])
+            && is_script_name(&text[5..])
+    }
+
+    /// That line: it breaks no rule.
+    fn add_next_lane(&mut self, text: &'a [u8]) -> Result<(), NoMemory>
+        requires told { DraftTold self.old }
+        requires valid { is_valid (config_of self.old.lines) ≡ true }
+        requires few { length self.old.lines + 1 < 2 ^ 32 }
+        requires later { is_empty self.old.lines ≡ false }
+        requires text { text_fault text.now ≡ None }
+        requires next { IsNextLane self.old text.now }
+        ensures told { OnOk result (DraftTold self.new) }
+        ensures line { OnOk result (LineMore self.old.lines self.new.lines text.now) }
+    {
+        let (_, name) = text.split_at(5);
+        self.header.latest = self.header.latest.max(5);
+        self.body.lane = Some(name);
+        self.body.in_order += 1;
+        self.lines.push(self.lines.form(), text, Role::Lane, 0)
+    }
+
     /// The next line, which the text says; else its fault. After an error the draft isn't used. Whether each of the text's
     /// bytes is known to be printable is told, and the words that are handed in are those of the last line that was cut.
     pub fn add_line<L: Ledger>(
@@ -116,6 +146,10 @@ impl<'a> Draft<'a> {
                 Ok(line) => self.add(alloc, text, &line)?,
                 Err(rule) => return Err(self.fault(rule)),
             }
+            return Ok(());
+        }
+        if self.is_next_lane(text) {
+            self.add_next_lane(text)?;
             return Ok(());
         }
         words.cut(text);

@@ -10,7 +10,7 @@ ghost use Rattle.ix_model.specs.{world.Naming.{same_bytes}, world.Paths.{path_of
 ghost use Rattle.ix_script.specs.declared.line.Line.TheVariants as line;
 ghost use Rattle.ix_script.specs.lines.Kinds as kind;
 
-use crate::body::{is_known, is_known_near};
+use crate::body::is_known;
 use crate::draft::Draft;
 use crate::fail::Rule;
 use crate::form::{Form, form_of};
@@ -263,7 +263,7 @@ impl<'a> Draft<'a> {
             Form::Fs => header.told > 0 && is_named(words.get(1), header.fss.as_slice()),
             Form::Limit => is_limited(words.get(1), header.whats.as_slice()),
             Form::Proc => self.tells_proc(words.get(1)),
-            Form::Lane => is_known(words.get(1), self.body.phase_lanes.as_slice()),
+            Form::Lane => self.body.has_lane(words.get(1)),
             Form::Pipe => words.len() > 2 && is(words.get(3), words.get(4)),
             Form::Fork => words.len() > 3 && self.tells_proc(words.get(4)),
             Form::Login => words.len() > 4 && self.tells_proc(words.get(5)),
@@ -370,9 +370,8 @@ impl<'a> Draft<'a> {
         match line {
             Line::Fs { .. } => self.header.told >= 16,
             Line::Lane { name } => {
-                let place = self.body.phase_lanes.len();
-                !is_known_near(place, name.as_bytes(), self.body.lanes.as_slice())
-                    && self.body.lanes.len() >= 64
+                self.body.lanes.len() >= 64
+                    && !is_known(name.as_bytes(), self.body.lanes.as_slice())
             }
             _ => is_command(line) && self.body.commands >= 200_000,
         }

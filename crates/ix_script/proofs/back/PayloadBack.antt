@@ -45,14 +45,14 @@ plain_whole (b ∷ word) h =
     let p = both (is_tame b) (list_all is_tame word) h in
     rw ((tame_parts b p.0).1, plain_whole word p.1) refl
 
-tame_whole : (b : ℕ) (word : List ℕ) → list_all is_tame (b ∷ word) ≡ true → pieces spot.Front (b ∷ word) ≡ (b ∷ word) ∷ []
+pub tame_whole : (b : ℕ) (word : List ℕ) → list_all is_tame (b ∷ word) ≡ true → pieces spot.Front (b ∷ word) ≡ (b ∷ word) ∷ []
 unfolding pieces
 tame_whole b word h =
     let p = both (is_tame b) (list_all is_tame word) h in
     let t = tame_parts b p.0 in
     rw (t.1, t.2, plain_whole word p.1) refl
 
-tame_closed : (b : ℕ) (word : List ℕ) → list_all is_tame (b ∷ word) ≡ true → is_open (b ∷ word) ≡ false
+pub tame_closed : (b : ℕ) (word : List ℕ) → list_all is_tame (b ∷ word) ≡ true → is_open (b ∷ word) ≡ false
 tame_closed b word h =
     let p = both (is_tame b) (list_all is_tame word) h in
     rw (tame_parts b p.0).2 refl

@@ -1,5 +1,5 @@
 -- A command that gives no name and is no server's tells nothing but that it is one.
-use Rattle.std.proofs.Common.{◌≡◌, ℕ, ◌+◌, ◌≤◌, nat_le, Bool, true, false, ◌||◌, cond, List, [], ◌∷◌, ◌++◌, max, Option, Some, None, option_map, Result, Ok, Err, refl, sym, ap, ◌∙◌, subst, arith}
+use Rattle.std.proofs.Common.{◌≡◌, ℕ, ◌+◌, ◌≤◌, nat_le, Bool, true, false, ◌||◌, cond, List, [], ◌∷◌, ◌++◌, length, max, Option, Some, None, option_map, Result, Ok, Err, refl, sym, ap, ◌∙◌, subst, arith}
 use mir.Val.{bool_byte}
 use Rattle.std.specs.BTreeSet.{BTreeSet}
 use Rattle.std.specs.Option.{IsSome}
@@ -38,10 +38,11 @@ use Rattle.ix_script.specs.lines.Before.{commands}
 use Rattle.ix_script.specs.lines.Roles.{role_of}
 use Rattle.ix_script.specs.lines.Faults.{said_fault}
 use Rattle.ix_script.specs.reader.Indexed.{AreIndexed, AreNames, AreSites}
-use Rattle.ix_script.specs.reader.Told.{HeaderTold, BodyTold, MakesMore, NamesMore}
+use Rattle.ix_script.specs.reader.Told.{HeaderTold, BodyTold, MakesMore, NamesMore, phase_lanes_in}
 use Rattle.ix_script.specs.scripts.Scripts.{config_of}
 use Rattle.ix_script.specs.declared.header.Header.{Header}
 use Rattle.ix_script.specs.declared.body.Body.{Body}
+use Rattle.ix_script.specs.declared.index.Given.{Given}
 use Rattle.ix_script.specs.declared.index.Names.{Names}
 use Rattle.ix_script.specs.declared.index.Tree.{Tree}
 use Rattle.ix_script.specs.declared.index.Place.{Place}
@@ -49,11 +50,13 @@ use Rattle.ix_script.specs.declared.line.Line.{Line}
 use Rattle.ix_script.specs.declared.line.Line.TheVariants as line
 use Rattle.ix_script.specs.declared.role.Role.TheVariants as role
 use Rattle.ix_script.proofs.lines.Follows.{follows}
+use Rattle.ix_script.proofs.reader.PhaseLanes.{OneMore}
 use Rattle.ix_script.proofs.reader.Keeping.{header_next}
 use Rattle.ix_script.proofs.reader.Validity.{fits_of}
 use Rattle.ix_script.proofs.reader.Pushed.{body_push, lane_push, phase_lanes_push, lanes_push, fds_push, procs_given_push, commands_push}
 
-pub record Quiet (l : Line) : Type 0 where
+-- a line that tells nothing of the machine
+pub record Behind (l : Line) : Type 0 where
   pub fs : fs_told l ≡ []
   pub limits : (ls : Limits) → limits_after ls l ≡ ls
   pub whats : what_told l ≡ []
@@ -61,6 +64,12 @@ pub record Quiet (l : Line) : Type 0 where
   pub objects : object_told l ≡ []
   pub policy : is_policy l ≡ false
   pub group_is : group l ≡ 5
+
+pub lane_behind : (name : List ℕ) → Behind (line.Lane name)
+lane_behind name = record { fs = refl; limits = λ ls. refl; whats = refl; names = refl; objects = refl; policy = refl; group_is = refl }
+
+pub record Quiet (l : Line) : Type 0 where
+  pub behind : Behind l
   pub phase : is_phase l ≡ false
   pub lane : (at : Option (List ℕ)) → lane_after at l ≡ at
   pub phase_lanes : (names : List (List ℕ)) → phase_lanes_after names l ≡ names
@@ -90,13 +99,7 @@ quiet (line.Priv proc fd) h = cc
 quiet (line.Login proc fd hand named) h = cc
 quiet _ h =
     record {
-      fs = refl;
-      limits = λ ls. refl;
-      whats = refl;
-      names = refl;
-      objects = refl;
-      policy = refl;
-      group_is = refl;
+      behind = record { fs = refl; limits = λ ls. refl; whats = refl; names = refl; objects = refl; policy = refl; group_is = refl };
       phase = refl;
       lane = λ at. refl;
       phase_lanes = λ names. refl;
@@ -129,11 +132,10 @@ pub or_false : (b : Bool) → (b || false) ≡ b
 or_false true = refl
 or_false false = refl
 
-pub header_quiet : (h n : Header) (before : List Line) (l : Line) → role_of l ≡ role.Command → is_empty before ≡ false → HeaderTold h before
+pub header_quiet : (h n : Header) (before : List Line) (l : Line) → Behind l → is_empty before ≡ false → HeaderTold h before
     → is_valid (config_of before) ≡ true → said_fault before l ≡ None
     → n ≡ record h { latest = max h.latest 5 } → HeaderTold n (before ++ l ∷ [])
-header_quiet h n before l role later was valid fault is =
-    let q = quiet l role in
+header_quiet h n before l q later was valid fault is =
     let new : Header = record h { latest = max h.latest 5 } in
     let told : HeaderTold new (before ++ l ∷ []) =
     header_next h new false before l (sym later) was (fits_of before valid) (follows before l fault) (rw q.fs (omega arith)) (rw q.fs refl)
@@ -186,15 +188,16 @@ still _ a b c d e f g = record { phase = refl; lane = λ at. refl; phase_lanes =
 
 -- what is kept of the body, with one line more
 pub body_next : (b n : Body) (before : List Line) (x : Line) → BodyTold b before → n.started ≡ (b.started || is_phase x) → option_map
-    (λ s. s.now) n.lane ≡ lane_after (option_map (λ s. s.now) b.lane) x → n.phase_lanes ≡ phase_lanes_after b.phase_lanes x
+    (λ s. s.now) n.lane ≡ lane_after (option_map (λ s. s.now) b.lane) x → n.in_order ≤ length n.lanes → phase_lanes_in n ≡ phase_lanes_after (phase_lanes_in b) x
     → n.lanes ≡ lanes_after b.lanes x → ((items : List (List ℕ × List ℕ)) → AreIndexed b.fds.index items → AreIndexed n.fds.index (items ++ in_lane (option_map (λ s. s.now) b.lane) (new_fds x)))
     → ((items : List (List ℕ × List ℕ)) → AreIndexed b.procs.index items → AreIndexed n.procs.index
     (items ++ in_lane (option_map (λ s. s.now) b.lane) (new_procs x))) → n.commands ≡ cond (is_command x) (b.commands + 1) b.commands
     → BodyTold n (before ++ x ∷ [])
-body_next b n before x told started lane phase_lanes_are lanes_are fds procs count =
+body_next b n before x told started lane within phase_lanes_are lanes_are fds procs count =
     record {
       started = started ∙ ap (λ (s : Bool). s || is_phase x) told.started ∙ sym (body_push before x);
       lane = lane ∙ ap (λ (at : Option (List ℕ)). lane_after at x) told.lane ∙ sym (lane_push before x);
+      within = within;
       phase_lanes = phase_lanes_are ∙ ap (λ (names : List (List ℕ)). phase_lanes_after names x) told.phase_lanes ∙ sym (phase_lanes_push before x);
       lanes = lanes_are ∙ ap (λ (names : List (List ℕ)). lanes_after names x) told.lanes ∙ sym (lanes_push before x);
       fds = subst (λ (items : List (List ℕ × List ℕ)). AreIndexed n.fds.index items)
@@ -205,12 +208,22 @@ body_next b n before x told started lane phase_lanes_are lanes_are fds procs cou
       commands = count ∙ ap (λ (n : ℕ). cond (is_command x) (n + 1) n) told.commands ∙ sym (commands_push before x);
     }
 
+-- what is kept of the body, with one lane more
+pub lane_added : (b n : Body) (name : List ℕ) (lines : List Line) → BodyTold b lines → n.started ≡ b.started → option_map (λ s. s.now) n.lane ≡ Some name
+    → n.lanes ≡ lanes_after b.lanes (line.Lane name) → OneMore n.in_order n.lanes n.others (phase_lanes_in b) name → n.fds ≡ b.fds → n.procs ≡ b.procs → n.commands ≡ b.commands
+    → BodyTold n (lines ++ line.Lane name ∷ [])
+lane_added b n name lines told started lane lanes more fds procs commands =
+    let at : Option (List ℕ) = option_map (λ s. s.now) b.lane in
+    body_next b n lines (line.Lane name) told (started ∙ sym (or_false b.started)) lane more.within more.lanes lanes
+    (λ items h. no_more n.fds.index items (items ++ in_lane at []) at [] refl refl (subst (λ (g : Given). AreIndexed g.index items) (sym fds) h))
+    (λ items h. no_more n.procs.index items (items ++ in_lane at []) at [] refl refl (subst (λ (g : Given). AreIndexed g.index items) (sym procs) h)) commands
+
 pub body_quiet : (b n : Body) (before : List Line) (l : Line) → role_of l ≡ role.Command → BodyTold b before → n ≡ record b { commands = b.commands + 1 } → BodyTold n (before ++ l ∷ [])
 body_quiet b n before l role was is =
     let q = quiet l role in
     let at : Option (List ℕ) = option_map (λ s. s.now) b.lane in
     let told : BodyTold (record b { commands = b.commands + 1 }) (before ++ l ∷ []) =
-    body_next b (record b { commands = b.commands + 1 }) before l was (rw q.phase (sym (or_false b.started))) (sym (q.lane at)) (sym (q.phase_lanes b.phase_lanes)) (sym (q.lanes b.lanes))
+    body_next b (record b { commands = b.commands + 1 }) before l was (rw q.phase (sym (or_false b.started))) (sym (q.lane at)) was.within (sym (q.phase_lanes (phase_lanes_in b))) (sym (q.lanes b.lanes))
     (λ items h. no_more b.fds.index items (items ++ in_lane at (new_fds l)) at (new_fds l) q.fds refl h)
     (λ items h. no_more b.procs.index items (items ++ in_lane at (new_procs l)) at (new_procs l) q.procs refl h) (rw q.command refl) in
     subst (λ (m : Body). BodyTold m (before ++ l ∷ [])) (sym is) told

@@ -1,8 +1,11 @@
 -- What the reader keeps of the lines before.
-use Rattle.std.specs.Prelude.{◌≡◌, ℕ, ◌+◌, ◌^◌, ◌<◌, ◌≤◌, ◌==◌, nat_lt, Bool, List, [], ◌∷◌, ◌++◌, length, slice_index, if◌then◌else◌}
-use Rattle.std.specs.List.{list_any}
+use Rattle.std.specs.Prelude.{◌≡◌, ℕ, ◌+◌, ◌^◌, ◌<◌, ◌≤◌, ◌==◌, nat_lt, Bool, true, ◌&&◌, List, [], ◌∷◌, ◌++◌, length, take, drop, codes, slice_index, if◌then◌else◌}
+use Rattle.std.specs.List.{list_any, slice_index_or}
 use Rattle.std.proofs.Common.{option_map}
 use Rattle.ix_model.specs.rows.Telling.{blocks_for}
+use Rattle.ix_model.specs.world.Naming.{same_bytes}
+use Rattle.ix_text.specs.Bytes.{is_empty}
+use Rattle.ix_text.specs.Names.{is_script_name}
 use Rattle.ix_model.specs.opening.Valid.{fs_of, lying_on, blocks_taken}
 use Rattle.ix_model.specs.declared.config.FsSpec.{FsSpec}
 use Rattle.ix_model.specs.declared.config.ObjSpec.{ObjSpec}
@@ -34,11 +37,20 @@ pub record HeaderTold (h : Header) (lines : List Line) : Type 0 where
   pub latest : (g : ℕ) → list_any (λ b. nat_lt g (group b)) lines ≡ nat_lt g h.latest
   pub policy : h.policy ≡ has_policy lines
 
+-- the lanes of the phase so far
+abbrev pub phase_lanes_in : Body → List (List ℕ)
+phase_lanes_in b = take b.in_order b.lanes ++ b.others
+
+-- the phase has the first of the script's lanes in their order, and this is the name of the next
+abbrev pub is_next : Body → List ℕ → Bool
+is_next b name = is_empty b.others && nat_lt b.in_order (length b.lanes) && same_bytes name (slice_index_or b.lanes b.in_order [])
+
 -- phases, lanes and commands
 pub record BodyTold (b : Body) (lines : List Line) : Type 0 where
   pub started : b.started ≡ in_body lines
   pub lane : option_map (λ s. s.now) b.lane ≡ lane_now lines
-  pub phase_lanes : b.phase_lanes ≡ phase_lanes lines
+  pub within : b.in_order ≤ length b.lanes
+  pub phase_lanes : phase_lanes_in b ≡ phase_lanes lines
   pub lanes : b.lanes ≡ lanes_of lines
   pub fds : AreIndexed b.fds.index (fds_given lines)
   pub procs : AreIndexed b.procs.index (procs_given lines)
@@ -76,3 +88,11 @@ fss_after first told fss form (fs ∷ more) = if told == 0 then fs ∷ [] else f
 pub record DraftTold (d : Draft) : Type 0 where
   pub header : HeaderTold d.header d.lines
   pub body : BodyTold d.body d.lines
+
+-- the text is the line of the next lane
+pub record IsNextLane (d : Draft) (text : List ℕ) : Type 0 where
+  pub started : d.body.started ≡ true
+  pub begins : take 5 text ≡ codes "lane "
+  pub named : is_script_name (drop 5 text) ≡ true
+  pub next : is_next d.body (drop 5 text) ≡ true
+  pub few : d.body.in_order + 1 < 2 ^ 64

@@ -5,7 +5,7 @@ use Rattle.ix_script.specs.lines.Said.{line_of}
 use Rattle.ix_script.specs.scripts.Packed.{line_in}
 use Rattle.ix_script.specs.reader.Readers.{LineRight}
 use Rattle.ix_script.specs.declared.line.Line.{Line}
-use Rattle.ix_script.proofs.reader.Commands.{too_many, few_enough, later_form, header_quiet, body_quiet}
+use Rattle.ix_script.proofs.reader.Commands.{quiet, too_many, few_enough, later_form, header_quiet, body_quiet}
 use Rattle.ix_script.proofs.reader.Packing.{right_line}
 use Rattle.ix_script.proofs.draft.Draft.add_command.Goals as goal
 
@@ -40,6 +40,6 @@ returns-clause-told c =
     let is : line_in c.form.result c.args.text.now ≡ p.line = rw (c.form.ensures, sym (later_form before p.line c.requires.later)) (right_line before p.line c.args.text.now right).1 in
     let lines : c.push.new.self ≡ before ++ p.line ∷ [] = c.in_ok-push.ensures ∙ ap (λ (l : Line). before ++ l ∷ []) is in
     rw lines record {
-      header = header_quiet c.args.self.now.header _ before p.line p.is_command c.requires.later c.requires.told.header c.requires.valid fits (rw c.max-self.ensures refl);
+      header = header_quiet c.args.self.now.header _ before p.line (quiet p.line p.is_command).behind c.requires.later c.requires.told.header c.requires.valid fits (rw c.max-self.ensures refl);
       body = body_quiet c.args.self.now.body _ before p.line p.is_command c.requires.told.body refl;
     }
