@@ -81,12 +81,6 @@ impl<'a> Body<'a> {
             || is_known(name, self.others.as_slice())
     }
 
-    pub fn into_lanes(self) -> List<Name>
-        ensures { result ≡ self.entry.lanes }
-    {
-        self.lanes
-    }
-
     /// One line more. After an error the body isn't used.
     pub fn add(&mut self, alloc: Global, line: &Line<'a>) -> Result<(), NoMemory>
         requires { self.old.commands + 1 < 2 ^ 32 }

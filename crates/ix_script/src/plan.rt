@@ -1,6 +1,5 @@
 ghost use Rattle.std.specs.Prelude.{◌≡◌, ◌++◌, ◌∷◌, ◌+◌, ◌<◌, [], List, length, take, OnOk, IfOk};
-ghost use Rattle.ix_script.specs.{declared.line.Line.{Line}, lines.Before.{proc_told, object_told}, scripts.Held.{IsPlan}};
-ghost use Rattle.ix_script.specs.scripts.Scripts.{config_of};
+ghost use Rattle.ix_script.specs.{declared.line.Line.{Line}, lines.Before.{proc_told, object_told}, scripts.Held.{IsPlan}, scripts.Scripts.{config_of}};
 
 use crate::header::{default_fs, default_limits, fs_spec, limits_after};
 use crate::line::Line;

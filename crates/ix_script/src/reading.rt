@@ -1,8 +1,7 @@
 ghost use Rattle.std.specs.{Prelude.{◌≡◌, ◌<◌, ◌≤◌, ◌∷◌, [], true, None, Some, length, IfOk, IfErr}, List.{list_all}};
 ghost use Rattle.ix_script.specs.{lines.Before.{commands, lanes_of}, lines.Faults.{fault_from, fault_of}, reader.Readers.{HasCause, in_printable_lines}};
 ghost use Rattle.ix_script.specs.{reader.Told.{DraftTold}, scripts.Schedule.{LanesOnce}, scripts.Scripts.{form_in, lines_said, script_of, config_of}};
-ghost use Rattle.ix_script.specs.texts.Lines.{cut, lines_of};
-ghost use Rattle.ix_model.specs.opening.Valid.{is_valid};
+ghost use Rattle.{ix_script.specs.texts.Lines.{cut, lines_of}, ix_model.specs.opening.Valid.{is_valid}};
 
 use crate::draft::Draft;
 use crate::fail::{ReadFail, Rule, ScriptFault};

@@ -1,7 +1,6 @@
 ghost use Rattle.std.{specs.Prelude.{◌≡◌, ◌≤◌, ◌-◌, ◌==◌, length, slice_get, true, None, if◌then◌else◌, IfOk, IsTrue}, proofs.Common.{option_map}};
 ghost use Rattle.ix_script.specs.{lines.Before.{form_told, lanes_of, commands}, lines.Roles.{role_of}, reader.Told.{DraftTold}, scripts.Need.{need}};
-ghost use Rattle.ix_script.specs.{scripts.Schedule.{LanesOnce, phases, stretches_of}, scripts.Scripts.{config_of, policy_of}};
-ghost use Rattle.ix_model.specs.opening.Valid.{is_valid};
+ghost use Rattle.{ix_script.specs.{scripts.Schedule.{LanesOnce, phases, stretches_of}, scripts.Scripts.{config_of, policy_of}}, ix_model.specs.opening.Valid.{is_valid}};
 
 use crate::draft::Draft;
 use crate::line::Line;
@@ -48,7 +47,8 @@ impl Script {
         requires once { LanesOnce draft.lines }
         ensures { IfOk result (λ s. s ≡ draft.entry.lines) }
     {
-        let lanes = draft.body.into_lanes();
+        let body = draft.body;
+        let lanes = body.lanes;
         let schedule = Schedule::of(alloc, &draft.lines, lanes.as_slice())?;
         Ok(Script {
             lines: draft.lines,
