@@ -79,7 +79,7 @@ impl<'a> Model for Words<'a> {
 fn end_of_plain(text: &[u8]) -> usize
     ensures { result ≡ end_from spot.Plain text.now }
 {
-    if text.len() > 64 {
+    if text.len() > 128 {
         return memchr(b' ', text).unwrap_or(text.len());
     }
     'bytes: for (i, b) in text.iter().enumerate() {
