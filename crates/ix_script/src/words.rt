@@ -1,6 +1,6 @@
 ghost use Rattle.std.specs.Prelude.{◌≡◌, ℕ, ◌≤◌, ◌<◌, ◌+◌, ◌^◌, ◌∷◌, [], length, take, drop, IfSome, Some, None, map, nat_lt, set, replicate, if◌then◌else◌};
 ghost use Rattle.std.specs.Option.{option_map_or};
-ghost use Rattle.ix_script.specs.{lines.Rules.{has_empty_word, has_open_quote}, reader.Cut.{AreWords, gap_from}};
+ghost use Rattle.ix_script.specs.{lines.Rules.{has_empty_word, has_open_quote}, reader.Cut.{AreWords, end_from}};
 ghost use Rattle.ix_script.specs.texts.Cutting.{after_byte, parts_words, closes, pieces, words_of, word_at, is_closed, is_open};
 ghost use Rattle.ix_text.specs.Bytes.{is_empty};
 ghost use Rattle.ix_script.specs.declared.words.Spot.TheVariants as spot;
@@ -65,7 +65,7 @@ pub(crate) struct Words<'a> {
 
 impl<'a> Model for Words<'a> {
     ghost use Rattle.std.specs.Prelude.{List, ℕ, map};
-    ghost use Rattle.ix_script.specs.{texts.Cutting.{words_of}, reader.Cut.{AreWords, gap_from}};
+    ghost use Rattle.ix_script.specs.{texts.Cutting.{words_of}, reader.Cut.{AreWords}};
 
     ghost Value = { List (List ℕ) };
 
@@ -74,48 +74,34 @@ impl<'a> Model for Words<'a> {
     ghost invariant = { λ w. AreWords (words_of w.text.now) (map (λ s. s.now) w.first) w.seen.count w.seen.has_empty w.seen.has_open };
 }
 
-/// The place of the space that ends the first word, where no quotes begin it. Most words are short: a search for many bytes at a
-/// time costs more than they do.
-fn end_of_plain(text: &[u8]) -> Option<usize>
-    ensures pieces { pieces spot.Plain text.now ≡ option_map_or (λ k. take k text.now ∷ pieces spot.Front (drop (k + 1) text.now)) result (text.now ∷ []) }
-    ensures within { IfSome result (λ k. k + 1 ≤ length text.now) }
+/// Where the first word ends that no quotes begin: at a space, or with the text. Only in a long text is it searched for many bytes at
+/// a time: that costs more than most words do.
+fn end_of_plain(text: &[u8]) -> usize
+    ensures { result ≡ end_from spot.Plain text.now }
 {
-    let near = text.len().min(16);
-    'bytes: for i in 0..near {
-        if text[i] == b' ' {
-            return Some(i);
+    if text.len() > 128 {
+        return memchr(b' ', text).unwrap_or(text.len());
+    }
+    'bytes: for (i, b) in text.iter().enumerate() {
+        if *b == b' ' {
+            return i;
         }
     }
-    match memchr(b' ', &text[near..]) {
-        Some(far) => Some(near + far),
-        None => None,
-    }
+    text.len()
 }
 
-/// The place of the space that ends the first word, where quotes may begin it.
-fn end_of_quoted(text: &[u8]) -> Option<usize>
-    ensures pieces { pieces spot.Front text.now ≡ option_map_or (λ k. take k text.now ∷ pieces spot.Front (drop (k + 1) text.now)) result (text.now ∷ []) }
-    ensures within { IfSome result (λ k. k + 1 ≤ length text.now) }
+/// Where the first word ends that quotes may begin: at a space, or with the text.
+fn end_of_quoted(text: &[u8]) -> usize
+    ensures { result ≡ end_from spot.Front text.now }
 {
     let mut at = Spot::Front;
     'bytes: for (i, b) in text.iter().enumerate() {
         if at.parts_words(*b) {
-            return Some(i);
+            return i;
         }
         at = at.after(*b);
     }
-    None
-}
-
-fn end_of_word(text: &[u8]) -> Option<usize>
-    ensures pieces { pieces spot.Front text.now ≡ option_map_or (λ k. take k text.now ∷ pieces spot.Front (drop (k + 1) text.now)) result (text.now ∷ []) }
-    ensures within { IfSome result (λ k. k + 1 ≤ length text.now) }
-{
-    if begins(b'"', text) {
-        end_of_quoted(text)
-    } else {
-        end_of_plain(text)
-    }
+    text.len()
 }
 
 /// The first word, and what stands after the space that ends it.
@@ -123,12 +109,15 @@ fn first_word(text: &[u8]) -> (&[u8], Option<&[u8]>)
     ensures pieces { pieces spot.Front text.now ≡ result.0.now ∷ option_map_or (λ more. pieces spot.Front more.now) result.1 [] }
     ensures fewer { IfSome result.1 (λ more. length more.now < length text.now) }
 {
-    match end_of_word(text) {
-        Some(k) => {
-            let (_, more) = text.split_at(k + 1);
-            (&text[..k], Some(more))
-        }
-        None => (text, None),
+    let end = if begins(b'"', text) {
+        end_of_quoted(text)
+    } else {
+        end_of_plain(text)
+    };
+    if end < text.len() {
+        (&text[..end], Some(&text[end + 1..]))
+    } else {
+        (text, None)
     }
 }
 

@@ -1,14 +1,13 @@
 -- What is kept of the words of a line.
-use Rattle.std.specs.Prelude.{◌≡◌, ◌<◌, ℕ, suc, Bool, List, [], ◌∷◌, length, Option, Some, None, if◌then◌else◌}
-use Rattle.std.proofs.Common.{option_map}
+use Rattle.std.specs.Prelude.{◌≡◌, ◌<◌, ℕ, suc, Bool, List, [], ◌∷◌, length, if◌then◌else◌}
 use Rattle.ix_script.specs.texts.Cutting.{word_at, parts_words, after_byte}
 use Rattle.ix_script.specs.declared.words.Spot.{Spot}
 use Rattle.ix_script.specs.lines.Rules.{has_empty_word, has_open_quote}
 
--- the place of the first space between words
-abbrev pub gap_from : Spot → List ℕ → Option ℕ
-gap_from at [] = None
-gap_from at (b ∷ text) = if parts_words at b then Some 0 else option_map suc (gap_from (after_byte at b) text)
+-- where the first word ends: at the first space between words, or with the text
+abbrev pub end_from : Spot → List ℕ → ℕ
+end_from at [] = 0
+end_from at (b ∷ text) = if parts_words at b then 0 else suc (end_from (after_byte at b) text)
 
 -- eight words are kept, the first ones, with no bytes where there is none, their number, and whether one is empty or open
 pub record AreWords (words kept : List (List ℕ)) (n : ℕ) (some_empty some_open : Bool) : Type 0 where

@@ -1,7 +1,7 @@
-use Rattle.std.proofs.Common.{◌≡◌, ◌+◌, drop, option_map}
+use Rattle.std.proofs.Common.{◌≡◌, ◌+◌, drop}
 use Rattle.ix_script.specs.declared.words.Spot.TheVariants as spot
-use Rattle.ix_script.specs.reader.Cut.{gap_from}
+use Rattle.ix_script.specs.reader.Cut.{end_from}
 use Rattle.ix_script.proofs.words.end_of_quoted.Given as goal
 
 abbrev pub invariant-bytes : goal.invariant-bytes
-invariant-bytes l = gap_from spot.Front l.text ≡ option_map (λ k. l.i + k) (gap_from l.at (drop l.i l.text))
+invariant-bytes l = end_from spot.Front l.text ≡ l.i + end_from l.at (drop l.i l.text)
