@@ -1,5 +1,6 @@
 ghost use Rattle.std.specs.Prelude.{◌≡◌};
-ghost use Rattle.ix_script.specs.{lines.RuleTexts.{rule_text}, declared.fail.ReadFail.TheVariants as fail};
+ghost use Rattle.ix_script.specs.lines.RuleTexts.{rule_text};
+ghost use Rattle.ix_script.specs.declared.fail.ReadFail.TheVariants as fail;
 
 use ix_model::NoMemory;
 use thiserror::Error;

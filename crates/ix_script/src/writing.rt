@@ -115,8 +115,12 @@ fn repeated(bytes: &[u8]) -> Option<u8>
 {
     match bytes {
         [] => None,
-        [first, rest @ ..] if rest.iter().all(|b| b == first) => Some(*first),
-        _ => None,
+        [first, rest @ ..] => {
+            if rest.iter().all(|b| *b == *first) {
+                return Some(*first);
+            }
+            None
+        }
     }
 }
 
