@@ -1,4 +1,4 @@
-//! Tests of images: what is read of changed bytes, what is listed, and what is saved.
+//! Tests of images: what is read of changed bytes, and what is listed.
 #![tactic(auto)]
 
 #[cfg(test)]
@@ -7,7 +7,5 @@ mod changes;
 mod drafts;
 #[cfg(test)]
 mod misfits;
-#[cfg(test)]
-mod saved;
 #[cfg(test)]
 mod shown;
