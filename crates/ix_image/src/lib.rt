@@ -38,6 +38,3 @@ pub use saving::save;
 pub use telling::Listing;
 pub use tree::Tree;
 pub use written::Saving;
-
-#[cfg(test)]
-mod tests;
