@@ -71,7 +71,8 @@ pub(crate) struct Given<'a> {
 fn is_near(lane: &[u8], word: &[u8], near: &[Place<'_>]) -> bool
     ensures { result ≡ list_any (is_named lane.now word.now) near.now }
 {
-    near.iter().any(|p| is(word, p.name.name) && is(lane, p.lane.name))
+    near.iter()
+        .any(|p| is(word, p.name.name) && is(lane, p.lane.name))
 }
 
 fn place_of<'a>(lane: &'a [u8], name: &'a [u8]) -> Place<'a>
