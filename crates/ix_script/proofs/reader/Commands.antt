@@ -210,8 +210,8 @@ body_quiet b n before l role was is =
     let at : Option (List ℕ) = option_map (λ s. s.now) b.lane in
     let told : BodyTold (record b { commands = b.commands + 1 }) (before ++ l ∷ []) =
     body_next b (record b { commands = b.commands + 1 }) before l was (rw q.phase (sym (or_false b.started))) (sym (q.lane at)) (sym (q.phase_lanes b.phase_lanes)) (sym (q.lanes b.lanes))
-    (λ items h. no_more b.fds.index items (items ++ in_lane at (new_fds l)) at (new_fds l) q.fds refl h)
-    (λ items h. no_more b.procs.index items (items ++ in_lane at (new_procs l)) at (new_procs l) q.procs refl h) (rw q.command refl) in
+    (λ items h. no_more b.fds items (items ++ in_lane at (new_fds l)) at (new_fds l) q.fds refl h)
+    (λ items h. no_more b.procs items (items ++ in_lane at (new_procs l)) at (new_procs l) q.procs refl h) (rw q.command refl) in
     subst (λ (m : Body). BodyTold m (before ++ l ∷ [])) (sym is) told
 
 -- the first line tells the form
