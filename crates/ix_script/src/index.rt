@@ -1,12 +1,12 @@
-ghost use Rattle.std.{specs.Prelude.{◌≡◌, Some, nat_eq, refl, ◌++◌, ◌∷◌, [], List, ℕ, OnOk, ◌+◌, ◌<◌, ◌^◌}, proofs.Common.{option_map}};
+ghost use Rattle.std.{specs.List.{list_any}, specs.Prelude.{◌≡◌, Some, nat_eq, refl, ◌++◌, ◌∷◌, [], List, ℕ, OnOk, ◌+◌, ◌<◌, ◌^◌}, proofs.Common.{option_map}};
 ghost use Rattle.std.specs.Cmp.{on_equiv, on_per, on_po, on_total, partial_equiv_from_equiv};
 ghost use Rattle.std.{specs.Cmp.Lexicographic.{nat_list_cmp_total, nat_list_eq_equiv, pointwise, slice_cmp, texts_po, texts_ties}, specs.Ordering.{nat_cmp}};
-ghost use Rattle.ix_script.specs.lines.Before.{in_lane, is_given, listed, listed_two, is_known};
-ghost use Rattle.ix_script.specs.reader.Indexed.{AreIndexed, AreNames, AreSites, dir_there, file_there, is_there};
+ghost use Rattle.ix_script.specs.{lines.Before.{in_lane, is_given, listed, listed_two, is_known}, reader.Indexed.{AreIndexed, AreNames, AreSites, is_named, dir_there, file_there, is_there}};
 ghost use Rattle.ix_model.specs.{declared.config.ObjSpec.{ObjSpec}, world.Paths.{path_of}, world.Texts.{names_in}};
 
 use crate::values::NameWord;
 use ix_model::{NoMemory, Path};
+use ix_text::is;
 use std::alloc::Global;
 use std::cmp::Ordering;
 use std::collections::BTreeSet;
@@ -63,7 +63,16 @@ pub(crate) struct Place<'a> {
 /// Names that lines give, each with the lane of its line: an index of the list of them.
 #[derive(Drop)]
 pub(crate) struct Given<'a> {
-    pub index: BTreeSet<Place<'a>>,
+    /// The first few. To look through them takes less than to go down the tree of the others.
+    near: Vec<Place<'a>>,
+    index: BTreeSet<Place<'a>>,
+}
+
+fn is_near(lane: &[u8], word: &[u8], near: &[Place<'_>]) -> bool
+    ensures { result ≡ list_any (is_named lane.now word.now) near.now }
+{
+    near.iter()
+        .any(|p| is(word, p.name.name) && is(lane, p.lane.name))
 }
 
 fn place_of<'a>(lane: &'a [u8], name: &'a [u8]) -> Place<'a>
@@ -78,29 +87,34 @@ fn place_of<'a>(lane: &'a [u8], name: &'a [u8]) -> Place<'a>
 
 impl<'a> Given<'a> {
     pub fn new(alloc: Global) -> Given<'a>
-        ensures { AreIndexed result.index [] }
+        ensures { AreIndexed result [] }
     {
         Given {
+            near: Vec::new(alloc),
             index: BTreeSet::new(alloc),
         }
     }
 
     pub fn has(&self, lane: Option<&'a [u8]>, word: &'a [u8]) -> bool
-        ensures { (items : List (List ℕ × List ℕ)) → AreIndexed self.now.index items → result ≡ is_given (option_map (λ s. s.now) lane.entry) word.now items }
+        ensures { (items : List (List ℕ × List ℕ)) → AreIndexed self.now items → result ≡ is_given (option_map (λ s. s.now) lane.entry) word.now items }
     {
-        match lane {
-            Some(lane) => self.index.contains(&place_of(lane, word)),
-            None => false,
-        }
+        let Some(lane) = lane else {
+            return false;
+        };
+        is_near(lane, word, self.near.as_slice()) || self.index.contains(&place_of(lane, word))
     }
 
     /// One name more, if a lane is open. After an error the names aren't used.
     fn add(&mut self, lane: Option<&'a [u8]>, name: &'a [u8]) -> Result<(), NoMemory>
-        ensures { OnOk result ((items : List (List ℕ × List ℕ)) → AreIndexed self.old.index items → AreIndexed self.new.index (items ++ in_lane (option_map (λ s. s.now) lane.entry) (name.now ∷ []))) }
+        ensures { OnOk result ((items : List (List ℕ × List ℕ)) → AreIndexed self.old items → AreIndexed self.new (items ++ in_lane (option_map (λ s. s.now) lane.entry) (name.now ∷ []))) }
     {
         let Some(lane) = lane else {
             return Ok(());
         };
+        if self.near.len() < 4 {
+            self.near.push(place_of(lane, name))?;
+            return Ok(());
+        }
         self.index.insert(place_of(lane, name))?;
         Ok(())
     }
@@ -111,7 +125,7 @@ impl<'a> Given<'a> {
         lane: Option<&'a [u8]>,
         named: &Option<NameWord<'a>>,
     ) -> Result<(), NoMemory>
-        ensures { OnOk result ((items : List (List ℕ × List ℕ)) → AreIndexed self.old.index items → AreIndexed self.new.index (items ++ in_lane (option_map (λ s. s.now) lane.entry) (listed named.now))) }
+        ensures { OnOk result ((items : List (List ℕ × List ℕ)) → AreIndexed self.old items → AreIndexed self.new (items ++ in_lane (option_map (λ s. s.now) lane.entry) (listed named.now))) }
     {
         match named {
             Some(name) => self.add(lane, name.as_bytes()),
@@ -125,7 +139,7 @@ impl<'a> Given<'a> {
         lane: Option<&'a [u8]>,
         named: &Option<(NameWord<'a>, NameWord<'a>)>,
     ) -> Result<(), NoMemory>
-        ensures { OnOk result ((items : List (List ℕ × List ℕ)) → AreIndexed self.old.index items → AreIndexed self.new.index (items ++ in_lane (option_map (λ s. s.now) lane.entry) (listed_two named.now))) }
+        ensures { OnOk result ((items : List (List ℕ × List ℕ)) → AreIndexed self.old items → AreIndexed self.new (items ++ in_lane (option_map (λ s. s.now) lane.entry) (listed_two named.now))) }
     {
         match named {
             Some((first, second)) => {
@@ -138,37 +152,37 @@ impl<'a> Given<'a> {
     }
 }
 
-/// Names that lines tell: an index of the list of them, and how many they are.
+/// Names that lines tell: an index of the list of them, as if they were given in a lane without a name, and how many they are.
 #[derive(Drop)]
 pub(crate) struct Names<'a> {
-    pub index: BTreeSet<ByBytes<'a>>,
+    given: Given<'a>,
     pub count: usize,
 }
 
 impl<'a> Names<'a> {
     pub fn new(alloc: Global) -> Names<'a>
-        ensures names { AreNames result.index [] }
+        ensures names { AreNames result [] }
         ensures none { result.count ≡ 0 }
     {
         Names {
-            index: BTreeSet::new(alloc),
+            given: Given::new(alloc),
             count: 0,
         }
     }
 
     pub fn has(&self, word: &'a [u8]) -> bool
-        ensures { (names : List (List ℕ)) → AreNames self.now.index names → result ≡ is_known word.now names }
+        ensures { (names : List (List ℕ)) → AreNames self.now names → result ≡ is_known word.now names }
     {
-        self.index.contains(&ByBytes { name: word })
+        self.given.has(Some(&[]), word)
     }
 
     /// One name more. After an error the names aren't used.
     pub fn push(&mut self, name: &'a [u8]) -> Result<(), NoMemory>
         requires { self.old.count + 1 < 2 ^ 64 }
-        ensures names { OnOk result ((names : List (List ℕ)) → AreNames self.old.index names → AreNames self.new.index (names ++ name.now ∷ [])) }
+        ensures names { OnOk result ((names : List (List ℕ)) → AreNames self.old names → AreNames self.new (names ++ name.now ∷ [])) }
         ensures count { OnOk result (self.new.count ≡ self.old.count + 1) }
     {
-        self.index.insert(ByBytes { name })?;
+        self.given.add(Some(&[]), name)?;
         self.count += 1;
         Ok(())
     }

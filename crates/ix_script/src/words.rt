@@ -1,5 +1,4 @@
-ghost use Rattle.std.specs.Prelude.{◌≡◌, ℕ, ◌≤◌, ◌<◌, ◌+◌, ◌^◌, ◌∷◌, [], length, take, drop, IfSome, Some, None, map, nat_lt, set, replicate, if◌then◌else◌};
-ghost use Rattle.std.specs.Option.{option_map_or};
+ghost use Rattle.std.specs.{Prelude.{◌≡◌, ℕ, ◌≤◌, ◌<◌, ◌+◌, ◌^◌, ◌∷◌, [], length, take, drop, IfSome, Some, None, map, nat_lt, set, replicate, if◌then◌else◌}, Option.{option_map_or}};
 ghost use Rattle.ix_script.specs.{lines.Rules.{has_empty_word, has_open_quote}, reader.Cut.{AreWords, end_from}};
 ghost use Rattle.ix_script.specs.texts.Cutting.{after_byte, parts_words, closes, pieces, words_of, word_at, is_closed, is_open};
 ghost use Rattle.ix_text.specs.Bytes.{is_empty};
@@ -74,8 +73,7 @@ impl<'a> Model for Words<'a> {
     ghost invariant = { λ w. AreWords (words_of w.text.now) (map (λ s. s.now) w.first) w.seen.count w.seen.has_empty w.seen.has_open };
 }
 
-/// Where the first word ends that no quotes begin: at a space, or with the text. Only in a long text is it searched for many bytes at
-/// a time: that costs more than most words do.
+/// Where the first word ends that no quotes begin. A search for many bytes at a time costs more than most words do.
 fn end_of_plain(text: &[u8]) -> usize
     ensures { result ≡ end_from spot.Plain text.now }
 {
@@ -90,7 +88,7 @@ fn end_of_plain(text: &[u8]) -> usize
     text.len()
 }
 
-/// Where the first word ends that quotes may begin: at a space, or with the text.
+/// Where the first word ends that quotes may begin.
 fn end_of_quoted(text: &[u8]) -> usize
     ensures { result ≡ end_from spot.Front text.now }
 {

@@ -1,7 +1,6 @@
 -- A command that gives no name and is no server's tells nothing but that it is one.
 use Rattle.std.proofs.Common.{◌≡◌, ℕ, ◌+◌, ◌≤◌, nat_le, Bool, true, false, ◌||◌, cond, List, [], ◌∷◌, ◌++◌, length, max, Option, Some, None, option_map, Result, Ok, Err, refl, sym, ap, ◌∙◌, subst, arith}
 use mir.Val.{bool_byte}
-use Rattle.std.specs.BTreeSet.{BTreeSet}
 use Rattle.std.specs.Option.{IsSome}
 use Rattle.std.specs.Result.{OnOk}
 use Rattle.ix_label.specs.declared.form.Form as spelled
@@ -45,7 +44,6 @@ use Rattle.ix_script.specs.declared.body.Body.{Body}
 use Rattle.ix_script.specs.declared.index.Given.{Given}
 use Rattle.ix_script.specs.declared.index.Names.{Names}
 use Rattle.ix_script.specs.declared.index.Tree.{Tree}
-use Rattle.ix_script.specs.declared.index.Place.{Place}
 use Rattle.ix_script.specs.declared.line.Line.{Line}
 use Rattle.ix_script.specs.declared.line.Line.TheVariants as line
 use Rattle.ix_script.specs.declared.role.Role.TheVariants as role
@@ -118,7 +116,7 @@ few_enough before l role few = (quiet l role).fault before ∙ rw (lt-leb 200000
 
 same_names : (names : Names) (more : List (List ℕ)) → more ≡ [] → NamesMore more names names
 same_names names more none =
-    rw none record { names = λ known h. subst (λ (ks : List (List ℕ)). AreNames names.index ks) (sym (append-nil known)) h; count = omega arith }
+    rw none record { names = λ known h. subst (λ (ks : List (List ℕ)). AreNames names ks) (sym (append-nil known)) h; count = omega arith }
 
 same_sites : (made : Tree) (more : List ObjSpec) → more ≡ [] → MakesMore more made made
 same_sites made more none =
@@ -143,12 +141,12 @@ header_quiet h n before l q later was valid fault is =
     (same_names h.procs (proc_name_told l) q.names) (same_sites h.made (object_told l) q.objects) (rw q.objects refl) (rw q.group_is refl) (rw q.policy (sym (or_false h.policy))) in
     subst (λ (m : Header). HeaderTold m (before ++ l ∷ [])) (sym is) told
 
-pub no_more : (index : BTreeSet Place) (items more : List (List ℕ × List ℕ)) (at : Option (List ℕ)) (names : List (List ℕ)) → names ≡ []
-    → more ≡ items ++ in_lane at names → AreIndexed index items → AreIndexed index more
-no_more index items more None names none is h = subst (λ (xs : List (List ℕ × List ℕ)). AreIndexed index xs) (sym (append-nil items) ∙ sym is) h
-no_more index items more (Some lane) names none is h =
+pub no_more : (given : Given) (items more : List (List ℕ × List ℕ)) (at : Option (List ℕ)) (names : List (List ℕ)) → names ≡ []
+    → more ≡ items ++ in_lane at names → AreIndexed given items → AreIndexed given more
+no_more given items more None names none is h = subst (λ (xs : List (List ℕ × List ℕ)). AreIndexed given xs) (sym (append-nil items) ∙ sym is) h
+no_more given items more (Some lane) names none is h =
     let same : more ≡ items = is ∙ ap (λ ns. items ++ in_lane (Some lane) ns) none ∙ append-nil items in
-    subst (λ (xs : List (List ℕ × List ℕ)). AreIndexed index xs) (sym same) h
+    subst (λ (xs : List (List ℕ × List ℕ)). AreIndexed given xs) (sym same) h
 
 pub on_ok : {X E P Q : Type 0} (r : Result X E) → (P → Q) → OnOk r P → OnOk r Q
 on_ok (Ok x) f h = f h
@@ -189,8 +187,8 @@ still _ a b c d e f g = record { phase = refl; lane = λ at. refl; phase_lanes =
 -- what is kept of the body, with one line more
 pub body_next : (b n : Body) (before : List Line) (x : Line) → BodyTold b before → n.started ≡ (b.started || is_phase x) → option_map
     (λ s. s.now) n.lane ≡ lane_after (option_map (λ s. s.now) b.lane) x → n.in_order ≤ length n.lanes → phase_lanes_in n ≡ phase_lanes_after (phase_lanes_in b) x
-    → n.lanes ≡ lanes_after b.lanes x → ((items : List (List ℕ × List ℕ)) → AreIndexed b.fds.index items → AreIndexed n.fds.index (items ++ in_lane (option_map (λ s. s.now) b.lane) (new_fds x)))
-    → ((items : List (List ℕ × List ℕ)) → AreIndexed b.procs.index items → AreIndexed n.procs.index
+    → n.lanes ≡ lanes_after b.lanes x → ((items : List (List ℕ × List ℕ)) → AreIndexed b.fds items → AreIndexed n.fds (items ++ in_lane (option_map (λ s. s.now) b.lane) (new_fds x)))
+    → ((items : List (List ℕ × List ℕ)) → AreIndexed b.procs items → AreIndexed n.procs
     (items ++ in_lane (option_map (λ s. s.now) b.lane) (new_procs x))) → n.commands ≡ cond (is_command x) (b.commands + 1) b.commands
     → BodyTold n (before ++ x ∷ [])
 body_next b n before x told started lane within phase_lanes_are lanes_are fds procs count =
@@ -200,9 +198,9 @@ body_next b n before x told started lane within phase_lanes_are lanes_are fds pr
       within = within;
       phase_lanes = phase_lanes_are ∙ ap (λ (names : List (List ℕ)). phase_lanes_after names x) told.phase_lanes ∙ sym (phase_lanes_push before x);
       lanes = lanes_are ∙ ap (λ (names : List (List ℕ)). lanes_after names x) told.lanes ∙ sym (lanes_push before x);
-      fds = subst (λ (items : List (List ℕ × List ℕ)). AreIndexed n.fds.index items)
+      fds = subst (λ (items : List (List ℕ × List ℕ)). AreIndexed n.fds items)
           (ap (λ at. fds_given before ++ in_lane at (new_fds x)) told.lane ∙ sym (fds_push before x)) (fds (fds_given before) told.fds);
-      procs = subst (λ (items : List (List ℕ × List ℕ)). AreIndexed n.procs.index items)
+      procs = subst (λ (items : List (List ℕ × List ℕ)). AreIndexed n.procs items)
           (ap (λ at. procs_given before ++ in_lane at (new_procs x)) told.lane ∙ sym (procs_given_push before x))
           (procs (procs_given before) told.procs);
       commands = count ∙ ap (λ (n : ℕ). cond (is_command x) (n + 1) n) told.commands ∙ sym (commands_push before x);
@@ -215,8 +213,8 @@ pub lane_added : (b n : Body) (name : List ℕ) (lines : List Line) → BodyTold
 lane_added b n name lines told started lane lanes more fds procs commands =
     let at : Option (List ℕ) = option_map (λ s. s.now) b.lane in
     body_next b n lines (line.Lane name) told (started ∙ sym (or_false b.started)) lane more.within more.lanes lanes
-    (λ items h. no_more n.fds.index items (items ++ in_lane at []) at [] refl refl (subst (λ (g : Given). AreIndexed g.index items) (sym fds) h))
-    (λ items h. no_more n.procs.index items (items ++ in_lane at []) at [] refl refl (subst (λ (g : Given). AreIndexed g.index items) (sym procs) h)) commands
+    (λ items h. no_more n.fds items (items ++ in_lane at []) at [] refl refl (subst (λ (g : Given). AreIndexed g items) (sym fds) h))
+    (λ items h. no_more n.procs items (items ++ in_lane at []) at [] refl refl (subst (λ (g : Given). AreIndexed g items) (sym procs) h)) commands
 
 pub body_quiet : (b n : Body) (before : List Line) (l : Line) → role_of l ≡ role.Command → BodyTold b before → n ≡ record b { commands = b.commands + 1 } → BodyTold n (before ++ l ∷ [])
 body_quiet b n before l role was is =
@@ -224,8 +222,8 @@ body_quiet b n before l role was is =
     let at : Option (List ℕ) = option_map (λ s. s.now) b.lane in
     let told : BodyTold (record b { commands = b.commands + 1 }) (before ++ l ∷ []) =
     body_next b (record b { commands = b.commands + 1 }) before l was (rw q.phase (sym (or_false b.started))) (sym (q.lane at)) was.within (sym (q.phase_lanes (phase_lanes_in b))) (sym (q.lanes b.lanes))
-    (λ items h. no_more b.fds.index items (items ++ in_lane at (new_fds l)) at (new_fds l) q.fds refl h)
-    (λ items h. no_more b.procs.index items (items ++ in_lane at (new_procs l)) at (new_procs l) q.procs refl h) (rw q.command refl) in
+    (λ items h. no_more b.fds items (items ++ in_lane at (new_fds l)) at (new_fds l) q.fds refl h)
+    (λ items h. no_more b.procs items (items ++ in_lane at (new_procs l)) at (new_procs l) q.procs refl h) (rw q.command refl) in
     subst (λ (m : Body). BodyTold m (before ++ l ∷ [])) (sym is) told
 
 -- the first line tells the form

@@ -1,7 +1,7 @@
 -- An index goes on with its list.
-use Rattle.std.proofs.Common.{◌≡◌, ℕ, Option, Bool, true, false, ◌&&◌, ◌||◌, not, cond, List, [], ◌∷◌, ◌++◌, refl, sym, ap, ◌∙◌, None, Some, append_assoc}
+use Rattle.std.proofs.Common.{◌≡◌, ℕ, Option, Bool, true, false, ◌&&◌, ◌||◌, not, cond, map, List, [], ◌∷◌, ◌++◌, refl, sym, ap, ◌∙◌, None, Some, append_assoc}
 use Rattle.std.specs.BTreeMap.{is_at}
-use Rattle.std.specs.BTreeSet.{BTreeSet, Updates}
+use Rattle.std.specs.BTreeSet.{BTreeSet, Updates, contains}
 use Rattle.std.specs.Cmp.{tied_then}
 use Rattle.std.specs.Cmp.Lexicographic.{slice_cmp}
 use Rattle.std.specs.List.{list_any}
@@ -11,12 +11,11 @@ use Rattle.std.proofs.lemmas.Map.Text.{is_eq-slice_cmp}
 use Rattle.ix_model.specs.world.Naming.{same_bytes, same_names}
 use Rattle.ix_model.specs.world.Texts.{names_in}
 use Rattle.ix_model.proofs.texts.Joining.{same_text}
-use Rattle.ix_script.specs.reader.Indexed.{bytes_cmp, AreNames, place_cmp, is_place, AreIndexed, site_cmp, is_site, AreSites, is_there, dir_there, file_there}
-use Rattle.ix_script.specs.declared.index.ByBytes.{ByBytes}
+use Rattle.ix_script.specs.reader.Indexed.{place_cmp, is_place, is_named, is_indexed, site_cmp, is_site, AreSites, is_there, dir_there, file_there}
 use Rattle.ix_script.specs.declared.index.Place.{Place}
 use Rattle.ix_model.specs.declared.config.ObjSpec.{ObjSpec}
 use Rattle.ix_script.specs.declared.index.Site.{Site}
-use Rattle.ix_script.specs.lines.Before.{in_lane}
+use Rattle.ix_script.specs.lines.Before.{in_lane, is_given, is_known}
 use Rattle.std.proofs.lemmas.List.{append-nil}
 use Rattle.ix_script.proofs.reader.Pushed.{any_push}
 
@@ -42,18 +41,45 @@ new_or_there true false = refl
 new_or_there false true = refl
 new_or_there false false = refl
 
--- a name more in both
-pub name_indexed : (n : ByBytes) (old new : BTreeSet ByBytes) (items : List (List ℕ)) → Updates bytes_cmp old new n true → AreNames old items → AreNames new (items ++ n.name.now ∷ [])
-name_indexed n old new items more was = λ q.
-    more.0 q ∙ (λ i. cond (equal_bytes n.name.now q.name.now i) true (was q i)) ∙ new_or_there (same_bytes q.name.now n.name.now) (list_any (same_bytes q.name.now) items)
-    ∙ sym (any_push (same_bytes q.name.now) items n.name.now)
+near_or : (a b new : Bool) → ((a || new) || b) ≡ ((a || b) || new)
+near_or true b new = refl
+near_or false true true = refl
+near_or false true false = refl
+near_or false false true = refl
+near_or false false false = refl
 
--- a place more in both
-pub place_indexed : (p : Place) (old new : BTreeSet Place) (items : List (List ℕ × List ℕ))
-    → Updates place_cmp old new p true → AreIndexed old items → AreIndexed new (items ++ (p.lane.name.now, p.name.name.now) ∷ [])
-place_indexed p old new items more was = λ q.
-    more.0 q ∙ (λ i. cond (equal_places p q i) true (was q i)) ∙ new_or_there (is_place q (p.lane.name.now, p.name.name.now)) (list_any (is_place q) items)
+far_or : (a b new : Bool) → (a || cond new true b) ≡ ((a || b) || new)
+far_or true b new = refl
+far_or false b new = new_or_there new b
+
+-- a place more in both: among the first, or in the tree
+pub near_indexed : (p : Place) (near new : List Place) (index : BTreeSet Place) (items : List (List ℕ × List ℕ)) → new ≡ near ++ p ∷ []
+    → ((q : Place) → is_indexed near index q ≡ list_any (is_place q) items)
+    → (q : Place) → is_indexed new index q ≡ list_any (is_place q) (items ++ (p.lane.name.now, p.name.name.now) ∷ [])
+near_indexed p near new index items more was q =
+    let met : Place → Bool = is_named q.lane.name.now q.name.name.now in
+    ap (λ ps. list_any met ps || contains place_cmp index q) more ∙ ap (λ b. b || contains place_cmp index q) (any_push met near p)
+    ∙ near_or (list_any met near) (contains place_cmp index q) (met p)
+    ∙ (λ i. was q i || swapped (same_bytes q.name.name.now p.name.name.now) (same_bytes q.lane.name.now p.lane.name.now) i)
     ∙ sym (any_push (is_place q) items (p.lane.name.now, p.name.name.now))
+
+pub place_indexed : (p : Place) (near : List Place) (old new : BTreeSet Place) (items : List (List ℕ × List ℕ)) → Updates place_cmp old new p true
+    → ((q : Place) → is_indexed near old q ≡ list_any (is_place q) items)
+    → (q : Place) → is_indexed near new q ≡ list_any (is_place q) (items ++ (p.lane.name.now, p.name.name.now) ∷ [])
+place_indexed p near old new items more was q =
+    let met : Place → Bool = is_named q.lane.name.now q.name.name.now in
+    let this : Bool = is_place q (p.lane.name.now, p.name.name.now) in
+    ap (λ b. list_any met near || b) (more.0 q ∙ (λ i. cond (equal_places p q i) true (contains place_cmp old q)))
+    ∙ far_or (list_any met near) (contains place_cmp old q) this ∙ ap (λ b. b || this) (was q) ∙ sym (any_push (is_place q) items (p.lane.name.now, p.name.name.now))
+
+-- names in a lane without a name
+pub in_no_lane : (word : List ℕ) (names : List (List ℕ)) → is_given (Some []) word (map (λ n. ([], n)) names) ≡ is_known word names
+in_no_lane word [] = refl
+in_no_lane word (name ∷ names) = ap (λ b. same_bytes word name || b) (in_no_lane word names)
+
+pub no_lane_push : (names : List (List ℕ)) (name : List ℕ) → map (λ n. ([], n)) names ++ in_lane (Some []) (name ∷ []) ≡ map (λ n. ([], n)) (names ++ name ∷ [])
+no_lane_push [] name = refl
+no_lane_push (n ∷ names) name = ap (λ ns. ([], n) ∷ ns) (no_lane_push names name)
 
 -- ---- paths
 -- equal in their order means the same names

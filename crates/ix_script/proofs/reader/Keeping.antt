@@ -204,7 +204,7 @@ few_names lines = few_told proc_name_told one_name lines
 
 -- ---- what tells nothing
 pub no_names : (procs : Names) → NamesMore [] procs procs
-no_names procs = record { names = λ names told. subst (λ (ns : List (List ℕ)). AreNames procs.index ns) (sym (append-nil names)) told; count = omega arith }
+no_names procs = record { names = λ names told. subst (λ (ns : List (List ℕ)). AreNames procs ns) (sym (append-nil names)) told; count = omega arith }
 
 pub nothing_made : (made : Tree) → MakesMore [] made made
 nothing_made made = record { sites = λ objects told. subst (λ (os : List ObjSpec). AreSites made.index os) (sym (append-nil objects)) told; count = omega arith }
@@ -249,7 +249,7 @@ header_next h n first before x is_first was fit f told fss limits whats procs ma
       few = subst (λ (fs : List FsSpec). length fs ≤ 16) (sym fss_is) few;
       limits = limits ∙ ap (λ l. limits_after l x) was.limits ∙ sym (limits_push before x);
       whats = whats ∙ ap (λ ws. ws ++ what_told x) was.whats ∙ sym (whats_push before x);
-      procs = subst (λ (names : List (List ℕ)). AreNames n.procs.index names) (sym (proc_names_push before x)) (procs.names (proc_names before) was.procs);
+      procs = subst (λ (names : List (List ℕ)). AreNames n.procs names) (sym (proc_names_push before x)) (procs.names (proc_names before) was.procs);
       proc_count = procs.count ∙ ap (λ k. k + length (proc_name_told x)) was.proc_count ∙ sym (ap length (proc_names_push before x) ∙ length-append (proc_names before) (proc_name_told x));
       made = subst (λ (os : List ObjSpec). AreSites n.made.index os) (sym (objects_push before x)) (made.sites (objects_of before) was.made);
       objects = made.count ∙ ap (λ k. k + length (object_told x)) was.objects ∙ sym (ap length (objects_push before x) ∙ length-append (objects_of before) (object_told x));

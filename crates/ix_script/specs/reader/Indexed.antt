@@ -1,5 +1,5 @@
 -- What an index beside a list holds.
-use Rattle.std.specs.Prelude.{◌≡◌, ℕ, Bool, ◌&&◌, not, if◌then◌else◌, List}
+use Rattle.std.specs.Prelude.{◌≡◌, ℕ, Bool, ◌&&◌, ◌||◌, not, if◌then◌else◌, List, [], map}
 use Rattle.std.specs.BTreeSet.{BTreeSet, contains}
 use Rattle.std.specs.Cmp.Lexicographic.{slice_cmp}
 use Rattle.std.specs.List.{list_any}
@@ -8,7 +8,8 @@ use Rattle.std.specs.declared.cmp.Ordering.{Ordering}
 use Rattle.ix_model.specs.world.Naming.{same_bytes, same_names}
 use Rattle.ix_model.specs.declared.config.ObjSpec.{ObjSpec}
 use Rattle.ix_model.specs.world.Texts.{names_in}
-use Rattle.ix_script.specs.declared.index.ByBytes.{ByBytes}
+use Rattle.ix_script.specs.declared.index.Given.{Given}
+use Rattle.ix_script.specs.declared.index.Names.{Names}
 use Rattle.ix_script.specs.declared.index.Place.{Place}
 use Rattle.ix_script.specs.declared.index.Site.{Site}
 
@@ -20,17 +21,21 @@ place_cmp a b = ordering_then (slice_cmp nat_cmp a.name.name.now b.name.name.now
 abbrev pub is_place : Place → List ℕ × List ℕ → Bool
 is_place p n = same_bytes p.lane.name.now n.0 && same_bytes p.name.name.now n.1
 
--- by the bytes
-abbrev pub bytes_cmp : ByBytes → ByBytes → Ordering
-bytes_cmp a b = slice_cmp nat_cmp a.name.now b.name.now
+-- a place of that name in that lane
+abbrev pub is_named : List ℕ → List ℕ → Place → Bool
+is_named lane name p = same_bytes name p.name.name.now && same_bytes lane p.lane.name.now
 
--- the index has the names of the list, and no other
-abbrev pub AreNames : BTreeSet ByBytes → List (List ℕ) → Type 0
-AreNames index items = (n : ByBytes) → contains bytes_cmp index n ≡ list_any (same_bytes n.name.now) items
+-- among the first places, or in the tree of the others
+abbrev pub is_indexed : List Place → BTreeSet Place → Place → Bool
+is_indexed near index p = list_any (is_named p.lane.name.now p.name.name.now) near || contains place_cmp index p
 
--- the index has the places of the list, and no other
-abbrev pub AreIndexed : BTreeSet Place → List (List ℕ × List ℕ) → Type 0
-AreIndexed index items = (p : Place) → contains place_cmp index p ≡ list_any (is_place p) items
+-- they have the places of the list, and no other
+abbrev pub AreIndexed : Given → List (List ℕ × List ℕ) → Type 0
+AreIndexed given items = (p : Place) → is_indexed given.near.items given.index p ≡ list_any (is_place p) items
+
+-- so they have names, in a lane without a name
+abbrev pub AreNames : Names → List (List ℕ) → Type 0
+AreNames names items = AreIndexed names.given (map (λ n. ([], n)) items)
 
 -- by the text of the names, and then files before directories
 abbrev pub site_cmp : Site → Site → Ordering

@@ -28,7 +28,7 @@ pub record HeaderTold (h : Header) (lines : List Line) : Type 0 where
   pub few : length h.fss ≤ 16
   pub limits : h.limits ≡ limits_of lines
   pub whats : h.whats ≡ whats_told lines
-  pub procs : AreNames h.procs.index (proc_names lines)
+  pub procs : AreNames h.procs (proc_names lines)
   pub proc_count : h.procs.count ≡ length (proc_names lines)
   pub made : AreSites h.made.index (objects_of lines)
   pub objects : h.made.count ≡ length (objects_of lines)
@@ -52,8 +52,8 @@ pub record BodyTold (b : Body) (lines : List Line) : Type 0 where
   pub within : b.in_order ≤ length b.lanes
   pub phase_lanes : phase_lanes_in b ≡ phase_lanes lines
   pub lanes : b.lanes ≡ lanes_of lines
-  pub fds : AreIndexed b.fds.index (fds_given lines)
-  pub procs : AreIndexed b.procs.index (procs_given lines)
+  pub fds : AreIndexed b.fds (fds_given lines)
+  pub procs : AreIndexed b.procs (procs_given lines)
   pub commands : b.commands ≡ commands lines
 
 -- ---- changes
@@ -76,7 +76,7 @@ pub record MakesMore (more : List ObjSpec) (old new : Tree) : Type 0 where
 
 -- names more, in the index and in their number
 pub record NamesMore (more : List (List ℕ)) (old new : Names) : Type 0 where
-  pub names : (names : List (List ℕ)) → AreNames old.index names → AreNames new.index (names ++ more)
+  pub names : (names : List (List ℕ)) → AreNames old names → AreNames new (names ++ more)
   pub count : new.count ≡ old.count + length more
 
 -- a file system more in place of the one that is there where none is told; that one goes by the form of the first line

@@ -13,8 +13,8 @@ returns-in-Phase c = λ lines told.
     let b = c.args.self.now in
     let at : Option (List ℕ) = option_map (λ s. s.now) b.lane in
     body_next b _ lines x told (rw c.in-Phase.is (sym (or_true b.started))) (rw c.in-Phase.is refl) (omega arith) (rw c.in-Phase.is c.new.ensures) (rw c.in-Phase.is refl)
-    (λ items h. no_more b.fds.index items (items ++ in_lane at (new_fds x)) at (new_fds x) (rw c.in-Phase.is refl) refl h)
-    (λ items h. no_more b.procs.index items (items ++ in_lane at (new_procs x)) at (new_procs x) (rw c.in-Phase.is refl) refl h)
+    (λ items h. no_more b.fds items (items ++ in_lane at (new_fds x)) at (new_fds x) (rw c.in-Phase.is refl) refl h)
+    (λ items h. no_more b.procs items (items ++ in_lane at (new_procs x)) at (new_procs x) (rw c.in-Phase.is refl) refl h)
     (one_counted b.commands c.from.result c.is_command.result (is_command x) c.from.ensures c.is_command.ensures)
 
 pub returns-in-Open : goal.returns-in-Open
@@ -23,7 +23,7 @@ returns-in-Open c =
     let b = c.args.self.now in
     let at : Option (List ℕ) = option_map (λ s. s.now) b.lane in
     on_ok c.add_any.result (λ given lines told. body_next b _ lines x told (rw c.in-Open.is (sym (or_false b.started))) (rw c.in-Open.is refl) told.within (rw c.in-Open.is refl) (rw c.in-Open.is refl)
-    (λ items h. rw c.in-Open.is (given items h)) (λ items h. no_more b.procs.index items (items ++ in_lane at (new_procs x)) at (new_procs x) (rw c.in-Open.is refl) refl h)
+    (λ items h. rw c.in-Open.is (given items h)) (λ items h. no_more b.procs items (items ++ in_lane at (new_procs x)) at (new_procs x) (rw c.in-Open.is refl) refl h)
     (one_counted b.commands c.from.result c.is_command.result (is_command x) c.from.ensures c.is_command.ensures)) c.add_any.ensures
 
 pub returns-in-Dup : goal.returns-in-Dup
@@ -32,7 +32,7 @@ returns-in-Dup c =
     let b = c.args.self.now in
     let at : Option (List ℕ) = option_map (λ s. s.now) b.lane in
     on_ok c.add_any-in-Dup.result (λ given lines told. body_next b _ lines x told (rw c.in-Dup.is (sym (or_false b.started))) (rw c.in-Dup.is refl) told.within (rw c.in-Dup.is refl) (rw c.in-Dup.is refl)
-    (λ items h. rw c.in-Dup.is (given items h)) (λ items h. no_more b.procs.index items (items ++ in_lane at (new_procs x)) at (new_procs x) (rw c.in-Dup.is refl) refl h)
+    (λ items h. rw c.in-Dup.is (given items h)) (λ items h. no_more b.procs items (items ++ in_lane at (new_procs x)) at (new_procs x) (rw c.in-Dup.is refl) refl h)
     (one_counted b.commands c.from.result c.is_command.result (is_command x) c.from.ensures c.is_command.ensures)) c.add_any-in-Dup.ensures
 
 pub returns-in-Pipe : goal.returns-in-Pipe
@@ -41,7 +41,7 @@ returns-in-Pipe c =
     let b = c.args.self.now in
     let at : Option (List ℕ) = option_map (λ s. s.now) b.lane in
     on_ok c.add_two.result (λ given lines told. body_next b _ lines x told (rw c.in-Pipe.is (sym (or_false b.started))) (rw c.in-Pipe.is refl) told.within (rw c.in-Pipe.is refl) (rw c.in-Pipe.is refl)
-    (λ items h. rw c.in-Pipe.is (given items h)) (λ items h. no_more b.procs.index items (items ++ in_lane at (new_procs x)) at (new_procs x) (rw c.in-Pipe.is refl) refl h)
+    (λ items h. rw c.in-Pipe.is (given items h)) (λ items h. no_more b.procs items (items ++ in_lane at (new_procs x)) at (new_procs x) (rw c.in-Pipe.is refl) refl h)
     (one_counted b.commands c.from.result c.is_command.result (is_command x) c.from.ensures c.is_command.ensures)) c.add_two.ensures
 
 pub returns-in-Fork : goal.returns-in-Fork
@@ -50,7 +50,7 @@ returns-in-Fork c =
     let b = c.args.self.now in
     let at : Option (List ℕ) = option_map (λ s. s.now) b.lane in
     on_ok c.add_any-in-Fork.result (λ given lines told. body_next b _ lines x told (rw c.in-Fork.is (sym (or_false b.started))) (rw c.in-Fork.is refl) told.within (rw c.in-Fork.is refl) (rw c.in-Fork.is refl)
-    (λ items h. no_more b.fds.index items (items ++ in_lane at (new_fds x)) at (new_fds x) (rw c.in-Fork.is refl) refl h) (λ items h. rw c.in-Fork.is (given items h))
+    (λ items h. no_more b.fds items (items ++ in_lane at (new_fds x)) at (new_fds x) (rw c.in-Fork.is refl) refl h) (λ items h. rw c.in-Fork.is (given items h))
     (one_counted b.commands c.from.result c.is_command.result (is_command x) c.from.ensures c.is_command.ensures)) c.add_any-in-Fork.ensures
 
 pub returns-in-Login : goal.returns-in-Login
@@ -60,7 +60,7 @@ returns-in-Login c =
     let at : Option (List ℕ) = option_map (λ s. s.now) b.lane in
     on_ok c.add_any-in-Login.result (λ given lines told. body_next b _ lines x told (rw c.in-Login.is (sym (or_false b.started)))
     (rw c.in-Login.is refl) told.within (rw c.in-Login.is refl) (rw c.in-Login.is refl)
-    (λ items h. no_more b.fds.index items (items ++ in_lane at (new_fds x)) at (new_fds x) (rw c.in-Login.is refl) refl h) (λ items h. rw c.in-Login.is (given items h))
+    (λ items h. no_more b.fds items (items ++ in_lane at (new_fds x)) at (new_fds x) (rw c.in-Login.is refl) refl h) (λ items h. rw c.in-Login.is (given items h))
     (one_counted b.commands c.from.result c.is_command.result (is_command x) c.from.ensures c.is_command.ensures)) c.add_any-in-Login.ensures
 
 pub returns-then-is_next : goal.returns-then-is_next
@@ -94,6 +94,6 @@ returns-in_default c = λ lines told.
     let at : Option (List ℕ) = option_map (λ s. s.now) b.lane in
     let s = still x c.in_default.not-Phase c.in_default.not-Lane c.in_default.not-Open c.in_default.not-Dup c.in_default.not-Pipe c.in_default.not-Fork c.in_default.not-Login in
     body_next b _ lines x told (rw s.phase (sym (or_false b.started))) (sym (s.lane at)) told.within (sym (s.phase_lanes (phase_lanes_in b))) (sym (s.lanes b.lanes))
-    (λ items h. no_more b.fds.index items (items ++ in_lane at (new_fds x)) at (new_fds x) s.fds refl h)
-    (λ items h. no_more b.procs.index items (items ++ in_lane at (new_procs x)) at (new_procs x) s.procs refl h)
+    (λ items h. no_more b.fds items (items ++ in_lane at (new_fds x)) at (new_fds x) s.fds refl h)
+    (λ items h. no_more b.procs items (items ++ in_lane at (new_procs x)) at (new_procs x) s.procs refl h)
     (one_counted b.commands c.from.result c.is_command.result (is_command x) c.from.ensures c.is_command.ensures)

@@ -31,7 +31,7 @@ returns-in-Proc c =
     header_next c.args.self.now _ c.args.first lines c.args.line.now first told (fits_of lines valid) (follows lines c.args.line.now fault)
     (rw c.in-Proc.is (omega arith)) c.in_ok-add_fs.ensures c.limits_after-self.ensures (rw c.in-Proc.is (sym (append-nil c.args.self.now.whats)))
     (rw c.in-Proc.is (record {
-      names = λ ns told. subst (λ (name : List ℕ). AreNames c.push-in-Proc.new.self.index (ns ++ name ∷ []))
+      names = λ ns told. subst (λ (name : List ℕ). AreNames c.push-in-Proc.new.self (ns ++ name ∷ []))
           c.as_bytes.ensures (names ns told);
       count = count;
     }))

@@ -1,5 +1,8 @@
-use Rattle.ix_script.proofs.reader.Indexing.{name_indexed}
+use Rattle.std.proofs.Common.{[], ◌++◌, ◌∷◌, List, ℕ, map, subst}
+use Rattle.ix_script.specs.reader.Indexed.{AreIndexed}
+use Rattle.ix_script.proofs.reader.Indexing.{no_lane_push}
 use Rattle.ix_script.proofs.index.Names.push.Goals as goal
 
 pub returns-clause-names : goal.returns-clause-names
-returns-clause-names c = λ names are. name_indexed (record { name = c.args.name }) c.args.self.now.index c.insert.new.self names c.in_ok-insert.ensures.updates are
+returns-clause-names c = λ names are.
+    subst (λ (items : List (List ℕ × List ℕ)). AreIndexed c.add.new.self items) (no_lane_push names c.args.name.now) (c.in_ok-add.ensures (map (λ n. ([], n)) names) are)
