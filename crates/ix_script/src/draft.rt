@@ -1,8 +1,7 @@
 ghost use Rattle.std.specs.Prelude.{◌≡◌, ◌++◌, ◌∷◌, ◌+◌, ◌<◌, ◌^◌, [], true, false, Some, None, length, OnOk, IfOk, IfErr, IsTrue};
-ghost use Rattle.std.{proofs.Common.{option_map}, specs.List.{list_all}};
 ghost use Rattle.ix_script.specs.{lines.Before.{form_told}, lines.Faults.{line_fault, text_fault}, lines.Roles.{role_of}, lines.Said.{line_of}};
 ghost use Rattle.ix_script.specs.{reader.Readers.{HasCause, IsPlain, LineMore, LineRight, is_whole}, reader.Told.{DraftTold, IsNextLane}, scripts.Scripts.{config_of}};
-ghost use Rattle.{ix_model.specs.opening.Valid.{is_valid, is_within}, ix_text.specs.Bytes.{is_empty}};
+ghost use Rattle.{std.{proofs.Common.{option_map}, specs.List.{list_all}}, ix_model.specs.opening.Valid.{is_valid, is_within}, ix_text.specs.Bytes.{is_empty}};
 
 use crate::body::Body;
 use crate::fail::{ReadFail, Rule, ScriptFault};

@@ -1,6 +1,5 @@
 ghost use Rattle.std.specs.Prelude.{◌≡◌, ◌<◌, List, ◌≤◌, ◌+◌, ℕ, length, map};
-ghost use Rattle.ix_script.specs.lines.Forms.{is_header, is_command_form, has_right_count, form_of, arity, kinds, tail_of};
-ghost use Rattle.ix_script.specs.reader.Placing.{is_entry, payload_place, kind_in};
+ghost use Rattle.ix_script.specs.{lines.Forms.{is_header, is_command_form, has_right_count, form_of, arity, kinds, tail_of}, reader.Placing.{is_entry, payload_place, kind_in}};
 ghost use Rattle.ix_label.specs.declared.form.Form as spelled;
 
 use crate::words::Words;

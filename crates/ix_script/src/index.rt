@@ -1,8 +1,7 @@
 ghost use Rattle.std.{specs.List.{list_any}, specs.Prelude.{◌≡◌, Some, nat_eq, refl, ◌++◌, ◌∷◌, [], List, ℕ, OnOk, ◌+◌, ◌<◌, ◌^◌}, proofs.Common.{option_map}};
-ghost use Rattle.std.specs.Cmp.{on_equiv, on_per, on_po, on_total, partial_equiv_from_equiv};
 ghost use Rattle.std.{specs.Cmp.Lexicographic.{nat_list_cmp_total, nat_list_eq_equiv, pointwise, slice_cmp, texts_po, texts_ties}, specs.Ordering.{nat_cmp}};
 ghost use Rattle.ix_script.specs.{lines.Before.{in_lane, is_given, listed, listed_two, is_known}, reader.Indexed.{AreIndexed, AreNames, AreSites, is_named, dir_there, file_there, is_there}};
-ghost use Rattle.ix_model.specs.{declared.config.ObjSpec.{ObjSpec}, world.Paths.{path_of}, world.Texts.{names_in}};
+ghost use Rattle.{std.specs.Cmp.{on_equiv, on_per, on_po, on_total, partial_equiv_from_equiv}, ix_model.specs.{declared.config.ObjSpec.{ObjSpec}, world.Paths.{path_of}, world.Texts.{names_in}}};
 
 use crate::values::NameWord;
 use ix_model::{NoMemory, Path};
@@ -60,10 +59,9 @@ pub(crate) struct Place<'a> {
     lane: ByBytes<'a>,
 }
 
-/// Names that lines give, each with the lane of its line: an index of the list of them.
+/// Names that lines give, each with the lane of its line. The first few are looked through, the others stand in an index.
 #[derive(Drop)]
 pub(crate) struct Given<'a> {
-    /// The first few. To look through them takes less than to go down the tree of the others.
     near: Vec<Place<'a>>,
     index: BTreeSet<Place<'a>>,
 }

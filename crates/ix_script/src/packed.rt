@@ -1,5 +1,4 @@
-ghost use Rattle.std.specs.Prelude.{◌≡◌, ◌++◌, ◌∷◌, ◌+◌, ◌<◌, ◌^◌, [], Some, None, length, slice_get, OnOk, IfOk, MatchOption};
-ghost use Rattle.std.proofs.Common.{option_map};
+ghost use Rattle.std.{specs.Prelude.{◌≡◌, ◌++◌, ◌∷◌, ◌+◌, ◌<◌, ◌^◌, [], Some, None, length, slice_get, OnOk, IfOk, MatchOption}, proofs.Common.{option_map}};
 ghost use Rattle.ix_script.specs.{lines.Before.{form_told}, lines.Forms.{form_of}, lines.Roles.{header_only, role_of}, lines.Said.{line_of}};
 ghost use Rattle.ix_script.specs.{scripts.Canonical.{has_one_spelling}, scripts.Need.{cost_of_line, need}, scripts.Packed.{IsLine, begin_at, line_in}};
 

@@ -1,6 +1,5 @@
 ghost use Rattle.std.specs.Prelude.{◌≡◌, ◌<◌, Some, IfSome, IsSome, is_some, ◌≤◌, ◌∷◌, [], length, take, unwrap_or, None, ℕ, ◌+◌, ◌++◌, ◌^◌, replicate, OnOk};
-ghost use Rattle.std.specs.{List.{list_all}, Option.{option_map_or}};
-ghost use Rattle.ix_script.specs.{lines.Said.{payload_within}, reader.Readers.{IsFault}, texts.PayloadBytes.{bytes_in}, texts.Spelled.{Spells}};
+ghost use Rattle.{std.specs.{List.{list_all}, Option.{option_map_or}}, ix_script.specs.{lines.Said.{payload_within}, reader.Readers.{IsFault}, texts.PayloadBytes.{bytes_in}, texts.Spelled.{Spells}}};
 ghost use Rattle.ix_script.specs.texts.Payloads.{digit_of, pair_of, two_digits, escape_step, ends, escaped_byte, after_bytes, pairs_of, quoted_from, times_from, payload_of};
 ghost use Rattle.ix_script.specs.declared.payload.Escape.TheVariants as escape;
 ghost use Rattle.ix_script.specs.lines.Kinds as kind;

@@ -1,9 +1,8 @@
 ghost use Rattle.std.specs.{Prelude.{◌≡◌, Some, None, [], true, IsTrue, ◌<◌, ◌&&◌, ◌||◌, length}, List.{list_all, list_any}};
-ghost use Rattle.ix_script.specs.lines.Before.{form_told, is_known, what_text, proc_names, fss_of, objects_of};
+ghost use Rattle.ix_script.specs.{lines.Before.{form_told, is_known, what_text, proc_names, fss_of, objects_of}, texts.Cutting.{is_skipped, is_policy_line}};
 ghost use Rattle.ix_script.specs.lines.Faults.{text_fault, words_fault, stand_fault, names_fault, said_fault, form_fault, command_fault, first_line_fault, body_fault};
 ghost use Rattle.ix_script.specs.lines.Rules.{is_outside, is_given_twice, is_unknown, names_unknown, object_above, object_is_misplaced, object_exceeds_limits, is_one_too_many, lacks_policy};
 ghost use Rattle.ix_script.specs.{lines.Said.{version_of, line_of}, reader.Readers.{Finds, object_fault, Tells, TellsForm, is_whole}, reader.Told.{DraftTold}};
-ghost use Rattle.ix_script.specs.texts.Cutting.{is_skipped, is_policy_line};
 ghost use Rattle.ix_script.specs.declared.line.Line.TheVariants as line;
 ghost use Rattle.ix_script.specs.lines.Kinds as kind;
 ghost use Rattle.ix_model.specs.{declared.config.ObjSpec.{ObjSpec}, opening.Valid.{is_within, fs_of, is_mount, is_taken, has_directory}};

@@ -1,7 +1,6 @@
 ghost use Rattle.std.specs.{Prelude.{◌≡◌, ℕ, ◌≤◌, ◌<◌, ◌+◌, ◌^◌, ◌∷◌, [], length, take, drop, IfSome, Some, None, map, nat_lt, set, replicate, if◌then◌else◌}, Option.{option_map_or}};
-ghost use Rattle.ix_script.specs.{lines.Rules.{has_empty_word, has_open_quote}, reader.Cut.{AreWords, end_from}};
+ghost use Rattle.{ix_script.specs.{lines.Rules.{has_empty_word, has_open_quote}, reader.Cut.{AreWords, end_from}}, ix_text.specs.Bytes.{is_empty}};
 ghost use Rattle.ix_script.specs.texts.Cutting.{after_byte, parts_words, closes, pieces, words_of, word_at, is_closed, is_open};
-ghost use Rattle.ix_text.specs.Bytes.{is_empty};
 ghost use Rattle.ix_script.specs.declared.words.Spot.TheVariants as spot;
 
 use ix_text::begins;

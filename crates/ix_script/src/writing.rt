@@ -1,9 +1,7 @@
 ghost use Rattle.std.specs.Prelude.{◌≡◌, ◌++◌, ◌∷◌, [], OnOk, ◌≤◌, ◌==◌, codes, length, replicate, IsTrue, ◌-◌, Some, None, false, take, slice_get, IfOk};
-ghost use Rattle.std.{proofs.Common.{option_map}, specs.List.{list_all}};
-ghost use Rattle.ix_script.specs.{lines.Before.{form_told}, scripts.Canonical.{line_text, canonical}};
-ghost use Rattle.ix_script.specs.{scripts.Packed.{IsLine, line_in}, texts.Cutting.{is_skipped}};
+ghost use Rattle.{std.{proofs.Common.{option_map}, specs.List.{list_all}}, ix_text.specs.Spellings.{hex_pair}};
+ghost use Rattle.ix_script.specs.{lines.Before.{form_told}, scripts.Canonical.{line_text, canonical}, scripts.Packed.{IsLine, line_in}, texts.Cutting.{is_skipped}};
 ghost use Rattle.ix_script.specs.texts.Spellings.{pairs_text, times_text, stands_quoted, quoted_byte, quoted_text, once, payload_text};
-ghost use Rattle.ix_text.specs.Spellings.{hex_pair};
 
 use crate::form::form_of;
 use crate::packed::{Lines, has_one_spelling};
