@@ -39,10 +39,8 @@ pub(crate) fn check_text(printable: bool, text: &[u8]) -> Result<(), Rule>
     ensures { Finds result (text_fault text.now) }
 {
     refuse_if!(text.len() > 65_536, Rule::LONG_LINE);
-    refuse_if!(
-        !printable && !text.iter().all(|b| *b >= 32 && *b <= 126),
-        Rule::UNPRINTABLE
-    );
+    let is_printable = printable || text.iter().all(|b| *b >= 32 && *b <= 126);
+    refuse_if!(!is_printable, Rule::UNPRINTABLE);
     Ok(())
 }
 
