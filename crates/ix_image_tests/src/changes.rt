@@ -180,3 +180,17 @@ fn directories_in_a_circle_do_not_fit(rt: HostRuntime) {
     put(&mut image, 575, &[1]);
     assert_eq!(rt; outcome(rt.alloc(), &image), Came::Fault(1_952, 8));
 }
+
+/// What reading so many zeros comes to.
+fn zeros(alloc: Global, count: usize) -> Came {
+    match vec![in alloc; 0; count] {
+        Ok(bytes) => outcome(alloc, &bytes),
+        Err(_) => Came::NoMemory,
+    }
+}
+
+#[test]
+fn an_image_has_an_end(rt: HostRuntime) {
+    assert_eq!(rt; zeros(rt.alloc(), 671_088_641), Came::Fault(671_088_640, 9));
+    assert_eq!(rt; zeros(rt.alloc(), 671_088_640), Came::Fault(0, 2));
+}

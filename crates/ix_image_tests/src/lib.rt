@@ -1,4 +1,4 @@
-//! Tests of images: what is read of changed bytes, and what is listed.
+//! Tests of images: what is read of changed bytes, what is listed, and what is saved.
 #![tactic(auto)]
 
 #[cfg(test)]
@@ -7,5 +7,7 @@ mod changes;
 mod drafts;
 #[cfg(test)]
 mod misfits;
+#[cfg(test)]
+mod saved;
 #[cfg(test)]
 mod shown;
