@@ -38,3 +38,6 @@ pub use saving::save;
 pub use telling::Listing;
 pub use tree::Tree;
 pub use written::Saving;
+
+#[cfg(test)]
+mod tests;

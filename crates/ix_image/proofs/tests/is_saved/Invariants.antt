@@ -1,5 +1,5 @@
 use Rattle.ix_image.specs.Written.{IsBegun}
-use Rattle.ix_image_tests.proofs.saved.is_saved.Given as goal
+use Rattle.ix_image.proofs.tests.is_saved.Given as goal
 
 abbrev pub invariant-loop : goal.invariant-loop
 invariant-loop l = IsBegun l.saving
