@@ -4,7 +4,7 @@ ghost use Rattle.ix_script.specs.{reader.Readers.{HasCause, IsPlain, LineMore, L
 ghost use Rattle.{std.{proofs.Common.{option_map}, specs.List.{list_all}}, ix_model.specs.opening.Valid.{is_valid, is_within}, ix_text.specs.Bytes.{is_empty}};
 
 use crate::body::Body;
-use crate::fail::{ReadFail, Rule, ScriptFault};
+use crate::fail::{ReadFail, Rule, fault_at};
 use crate::header::Header;
 use crate::line::Line;
 use crate::packed::Lines;
@@ -63,10 +63,7 @@ impl<'a> Draft<'a> {
         requires { length self.now.lines + 1 < 2 ^ 32 }
         ensures { HasCause result (Some (length self.now.lines + 1, rule.0)) }
     {
-        ReadFail::Fault(ScriptFault {
-            line: self.lines.len() as u32 + 1,
-            rule: rule.0,
-        })
+        fault_at(self.lines.len() as u32 + 1, rule)
     }
 
     /// A command more that gives no name and is no server's: nothing is kept of it but its text and what it costs.

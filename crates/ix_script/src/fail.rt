@@ -1,5 +1,5 @@
-ghost use Rattle.std.specs.Prelude.{◌≡◌};
-ghost use Rattle.ix_script.specs.lines.RuleTexts.{rule_text};
+ghost use Rattle.std.specs.Prelude.{◌≡◌, Some};
+ghost use Rattle.ix_script.specs.{lines.RuleTexts.{rule_text}, reader.Readers.{HasCause}};
 ghost use Rattle.ix_script.specs.declared.fail.ReadFail.TheVariants as fail;
 
 use ix_model::NoMemory;
@@ -90,6 +90,14 @@ impl Rule {
     pub const TOO_MANY: Rule = Rule(26);
 
     pub const NO_POLICY: Rule = Rule(28);
+}
+
+/// The fault of a line, by the rule that it breaks.
+pub(crate) fn fault_at(line: u32, rule: Rule) -> ReadFail
+    ensures { HasCause result (Some (line, rule.0)) }
+{
+    let rule = rule.0;
+    ReadFail::Fault(ScriptFault { line, rule })
 }
 
 /// What is said to a script that breaks a rule, by the rule's number, which is 1 to 28.

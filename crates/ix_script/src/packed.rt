@@ -183,8 +183,7 @@ impl Lines {
         self.need
     }
 
-    /// One line more, which the text says in that form; it is for that, and costs so much. After `NoMemory` the lines are as they
-    /// were.
+    /// One line more, which the text says in that form; it is for that, and costs so much. Without memory for it the lines stay.
     pub fn push(
         &mut self,
         form: LabelForm,

@@ -4,7 +4,7 @@ ghost use Rattle.ix_script.specs.{reader.Told.{DraftTold}, scripts.Schedule.{Lan
 ghost use Rattle.{ix_script.specs.texts.Lines.{cut, lines_of}, ix_model.specs.opening.Valid.{is_valid}};
 
 use crate::draft::Draft;
-use crate::fail::{ReadFail, Rule, ScriptFault};
+use crate::fail::{ReadFail, Rule, fault_at};
 use crate::script::Script;
 use crate::words::Words;
 use bstr::ByteSlice;
@@ -65,15 +65,6 @@ fn draft_of<'a, L: Ledger>(
     Ok(draft)
 }
 
-fn first_line_breaks(rule: Rule) -> ReadFail
-    ensures { HasCause result (Some (1, rule.0)) }
-{
-    ReadFail::Fault(ScriptFault {
-        line: 1,
-        rule: rule.0,
-    })
-}
-
 fn read_with<L: Ledger>(alloc: Global, bytes: &[u8], blank: Blank) -> Result<Script, ReadFail>
     requires name { blank.name ≡ L.name }
     requires parts { blank.parts ≡ L.parts }
@@ -82,10 +73,10 @@ fn read_with<L: Ledger>(alloc: Global, bytes: &[u8], blank: Blank) -> Result<Scr
     ensures fail { IfErr result (λ e. HasCause e (fault_of bytes.now)) }
 {
     if bytes.len() > 16_777_216 {
-        return Err(first_line_breaks(Rule::LONG_SCRIPT));
+        return Err(fault_at(1, Rule::LONG_SCRIPT));
     }
     if bytes.is_empty() {
-        return Err(first_line_breaks(Rule::NO_VERSION));
+        return Err(fault_at(1, Rule::NO_VERSION));
     }
     let mut steps = Steps::<L>::new(blank);
     let draft = draft_of(alloc, bytes, &mut steps)?;

@@ -32,6 +32,12 @@ macro_rules! refuse_if {
     };
 }
 
+fn all_printable(text: &[u8]) -> bool
+    ensures { result ≡ list_all (is_within 32 126) text.now }
+{
+    text.iter().all(|b| (b' '..=b'~').contains(b))
+}
+
 /// Rules 2 and 3. Of a line that is known to be printable no byte is looked at.
 #[tactic(auto, unfolding(crate::specs::lines::Faults::text_fault, crate::specs::lines::Rules::is_too_long, crate::specs::lines::Rules::is_unprintable))]
 pub(crate) fn check_text(printable: bool, text: &[u8]) -> Result<(), Rule>
@@ -39,8 +45,7 @@ pub(crate) fn check_text(printable: bool, text: &[u8]) -> Result<(), Rule>
     ensures { Finds result (text_fault text.now) }
 {
     refuse_if!(text.len() > 65_536, Rule::LONG_LINE);
-    let is_printable = printable || text.iter().all(|b| *b >= 32 && *b <= 126);
-    refuse_if!(!is_printable, Rule::UNPRINTABLE);
+    refuse_if!(!printable && !all_printable(text), Rule::UNPRINTABLE);
     Ok(())
 }
 

@@ -7,11 +7,11 @@ use Rattle.ix_script.proofs.reader.Whole.{too_long, no_bytes, has_cause, script_
 use Rattle.ix_script.proofs.reading.read_with.Goals as goal
 
 pub returns-then-bytes-gt16777216-clause-fail : goal.returns-then-bytes-gt16777216-clause-fail
-returns-then-bytes-gt16777216-clause-fail g c = rw (too_long c.args.bytes.now c.if-bytes-gt16777216.true) c.first_line_breaks.ensures
+returns-then-bytes-gt16777216-clause-fail g c = rw (too_long c.args.bytes.now c.if-bytes-gt16777216.true) c.fault_at.ensures
 
 pub returns-then-is_empty-clause-fail : goal.returns-then-is_empty-clause-fail
 returns-then-is_empty-clause-fail g c = rw (no_bytes c.args.bytes.now (nil_from_length c.args.bytes.now (eqb-true _ 0 (sym c.is_empty.ensures
-    ∙ c.if-is_empty.true)))) c.first_line_breaks-then-is_empty.ensures
+    ∙ c.if-is_empty.true)))) c.fault_at-then-is_empty.ensures
 
 pub returns-in_err-draft-clause-fail : goal.returns-in_err-draft-clause-fail
 returns-in_err-draft-clause-fail g c =
