@@ -106,6 +106,12 @@ fn times_len(n: usize, byte: u8) -> u128
     digits.format(n).len() as u128 + 3
 }
 
+fn are_all(byte: u8, bytes: &[u8]) -> bool
+    ensures { result ≡ list_all (λ c. c == byte) bytes.now }
+{
+    bytes.iter().all(|b| *b == byte)
+}
+
 /// The byte that these are over and over; `None` also where there is none.
 #[tactic(auto, using(crate::proofs::back::Shortest::once_first))]
 fn repeated(bytes: &[u8]) -> Option<u8>
@@ -114,7 +120,7 @@ fn repeated(bytes: &[u8]) -> Option<u8>
     match bytes {
         [] => None,
         [first, rest @ ..] => {
-            if rest.iter().all(|b| *b == *first) {
+            if are_all(*first, rest) {
                 return Some(*first);
             }
             None
