@@ -1,5 +1,5 @@
 -- How many reads and lines there are after one entry more, and at most.
-use Rattle.std.proofs.Common.{◌≡◌, ◌≤◌, ◌+◌, ◌*◌, ℕ, suc, Bool, true, false, List, [], ◌∷◌, ◌++◌, length, Option, Some, None, if◌then◌else◌, refl, sym, ap, ◌∙◌, arith, append-nil, append_assoc}
+use Rattle.std.proofs.Common.{◌≡◌, ◌≤◌, ◌+◌, ◌*◌, ℕ, suc, Bool, true, false, List, [], ◌∷◌, ◌++◌, length, Option, Some, if◌then◌else◌, refl, sym, ap, ◌∙◌, arith, append-nil, append_assoc}
 use Rattle.std.proofs.Common.{subst}
 use Rattle.std.proofs.lemmas.List.{length-map, length-take}
 use Rattle.ix_model.specs.world.Contents.{offset_of, readable_in}
@@ -49,18 +49,7 @@ marks_few h pid fd count (Some e) (reply.Bytes k) there gives =
     let few = read_few (world_of h) (length h.events + 1) pid fd count k e gives there in
     let many = length-take k (readable_in (world_of h).frame (offset_of (world_of h).content e.id) e (marks_of h)) in
     omega (arith, few, many)
-marks_few h pid fd count (Some e) reply.Done there gives = omega arith
-marks_few h pid fd count (Some e) (reply.Number n) there gives = omega arith
-marks_few h pid fd count (Some e) (reply.Two x y) there gives = omega arith
-marks_few h pid fd count (Some e) (reply.Stat o kind size links frozen cap lic) there gives = omega arith
-marks_few h pid fd count (Some e) (reply.Lab l) there gives = omega arith
-marks_few h pid fd count (Some e) (reply.Named n o) there gives = omega arith
-marks_few h pid fd count (Some e) reply.Half there gives = omega arith
-marks_few h pid fd count (Some e) (reply.Whole p l s) there gives = omega arith
-marks_few h pid fd count (Some e) (reply.LogLine l) there gives = omega arith
-marks_few h pid fd count (Some e) (reply.Child p s) there gives = omega arith
-marks_few h pid fd count (Some e) (reply.No why) there gives = omega arith
-marks_few h pid fd count None r there gives = omega arith
+marks_few h pid fd count b r there gives = omega arith
 
 by_few : (h : History) (e : Event) (o : Op) → e.op ≡ o → length (read_by (world_of h) (marks_of h) e.pid o (next h e)) ≤ 4096
 unfolding read_by

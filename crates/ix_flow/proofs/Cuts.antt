@@ -65,18 +65,7 @@ cut_behind w place pid fd len is =
 cut_none : (len : ℕ) (b : Option OpenFile) (r : Reply) (hs : List (HoldingOf Marked)) → (r ≡ reply.Done → ⊥) → cut_there gap_mark len b r hs ≡ hs
 unfolding cut_there
 cut_none len (Some b) reply.Done hs other = absurd (other refl)
-cut_none len (Some b) (reply.Bytes k) hs other = refl
-cut_none len (Some b) (reply.Number n) hs other = refl
-cut_none len (Some b) (reply.Two x y) hs other = refl
-cut_none len (Some b) (reply.Stat o kind size links frozen cap lic) hs other = refl
-cut_none len (Some b) (reply.Lab l) hs other = refl
-cut_none len (Some b) (reply.Named n o) hs other = refl
-cut_none len (Some b) reply.Half hs other = refl
-cut_none len (Some b) (reply.Whole p l s) hs other = refl
-cut_none len (Some b) (reply.LogLine l) hs other = refl
-cut_none len (Some b) (reply.Child p s) hs other = refl
-cut_none len (Some b) (reply.No why) hs other = refl
-cut_none len None r hs other = refl
+cut_none len b r hs other = refl
 
 module _ (h : History) (seat line pid fd len : ℕ) where
   abbrev e : Event

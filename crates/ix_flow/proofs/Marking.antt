@@ -1,5 +1,5 @@
 -- The marked run, looked at as bytes, is the run.
-use Rattle.std.proofs.Common.{◌≡◌, ℕ, suc, List, [], ◌∷◌, map, take, Option, Some, None, refl, sym, ap, ◌∙◌}
+use Rattle.std.proofs.Common.{◌≡◌, ℕ, suc, List, [], ◌∷◌, map, take, Option, Some, refl, sym, ap, ◌∙◌}
 use Rattle.std.proofs.lemmas.List.{take-map}
 use Rattle.ix_model.specs.world.World.{World, Holding, HoldingOf}
 use Rattle.ix_model.specs.world.Contents.{offset_of, readable, readable_in}
@@ -52,18 +52,7 @@ unfolding readable
 through_seen w ms (Some e) (reply.Bytes k) is =
     sym (take-map byte_of k (readable_in w.frame (offset_of w.content e.id) e ms))
     ∙ ap (take k) (sym (readable_map byte_of w.frame (offset_of w.content e.id) e ms) ∙ ap (readable_in w.frame (offset_of w.content e.id) e) is)
-through_seen w ms (Some e) reply.Done is = refl
-through_seen w ms (Some e) (reply.Number n) is = refl
-through_seen w ms (Some e) (reply.Two a b) is = refl
-through_seen w ms (Some e) (reply.Stat o kind size links frozen cap lic) is = refl
-through_seen w ms (Some e) (reply.Lab l) is = refl
-through_seen w ms (Some e) (reply.Named n o) is = refl
-through_seen w ms (Some e) reply.Half is = refl
-through_seen w ms (Some e) (reply.Whole p l s) is = refl
-through_seen w ms (Some e) (reply.LogLine l) is = refl
-through_seen w ms (Some e) (reply.Child p s) is = refl
-through_seen w ms (Some e) (reply.No why) is = refl
-through_seen w ms None r is = refl
+through_seen w ms b r is = refl
 
 by_seen : (w : World) (ms : List (HoldingOf Marked)) (pid : ℕ) (o : Op) (given : Given) → seen ms ≡ w.content.holdings → bytes_of (read_by w ms pid o given) ≡ fronts w pid o given.reply
 unfolding read_by

@@ -105,18 +105,7 @@ front_of w _ r = []
 read_bytes : (w : World) (count : ℕ) (b : Option OpenFile) (r : Reply) (g : Frame) → (read_answer w count b r g).bytes ≡ front_of w b (read_answer w count b r g).reply
 unfolding read_answer plainly
 read_bytes w count (Some e) (reply.Bytes k) g = sym (take_short (readable w.frame w.content e) count)
-read_bytes w count (Some e) reply.Done g = refl
-read_bytes w count (Some e) (reply.Number n) g = refl
-read_bytes w count (Some e) (reply.Two a b) g = refl
-read_bytes w count (Some e) (reply.Stat o kind size links frozen cap lic) g = refl
-read_bytes w count (Some e) (reply.Lab l) g = refl
-read_bytes w count (Some e) (reply.Named n o) g = refl
-read_bytes w count (Some e) reply.Half g = refl
-read_bytes w count (Some e) (reply.Whole p l s) g = refl
-read_bytes w count (Some e) (reply.LogLine l) g = refl
-read_bytes w count (Some e) (reply.Child p s) g = refl
-read_bytes w count (Some e) (reply.No why) g = refl
-read_bytes w count None r g = refl
+read_bytes w count b r g = refl
 
 -- what a call reads, as bytes
 abbrev pub fronts : World → ℕ → Op → Reply → List ℕ

@@ -1,5 +1,5 @@
 -- The origins that a read gives, and what it leaves of those that stand.
-use Rattle.std.proofs.Common.{◌≡◌, ◌≤◌, ◌<◌, ◌+◌, ◌==◌, ◌&&◌, ℕ, suc, Bool, true, false, List, [], ◌∷◌, length, take, drop, Option, Some, None, is_some, if◌then◌else◌, refl, sym, ap}
+use Rattle.std.proofs.Common.{◌≡◌, ◌≤◌, ◌<◌, ◌+◌, ◌==◌, ◌&&◌, ℕ, suc, Bool, true, false, List, [], ◌∷◌, length, take, drop, Option, Some, is_some, if◌then◌else◌, refl, sym, ap}
 use Rattle.std.proofs.Common.{◌∙◌, arith, inl, inr}
 use Rattle.std.specs.List.{flat_map}
 use Rattle.std.specs.Option.{option_map_or}
@@ -185,18 +185,7 @@ module _ (h : History) (e : Event) (fd count k : ℕ) (is : e.op ≡ op.ReadFd f
 -- ---- reads that give nothing
 through_nothing : (w : World) (ms : List (HoldingOf Marked)) (b : Option OpenFile) (r : Reply) → ((k : ℕ) → r ≡ reply.Bytes k → k ≡ 0) → read_through w ms b r ≡ []
 through_nothing w ms (Some b) (reply.Bytes k) none = ap (λ n. take n (readable_in w.frame (offset_of w.content b.id) b ms)) (none k refl)
-through_nothing w ms (Some b) reply.Done none = refl
-through_nothing w ms (Some b) (reply.Number n) none = refl
-through_nothing w ms (Some b) (reply.Two x y) none = refl
-through_nothing w ms (Some b) (reply.Stat o kind size links frozen cap lic) none = refl
-through_nothing w ms (Some b) (reply.Lab l) none = refl
-through_nothing w ms (Some b) (reply.Named n o) none = refl
-through_nothing w ms (Some b) reply.Half none = refl
-through_nothing w ms (Some b) (reply.Whole p l s) none = refl
-through_nothing w ms (Some b) (reply.LogLine l) none = refl
-through_nothing w ms (Some b) (reply.Child p s) none = refl
-through_nothing w ms (Some b) (reply.No why) none = refl
-through_nothing w ms None r none = refl
+through_nothing w ms b r none = refl
 
 by_nothing : (h : History) (e : Event) (o : Op) → ((fd count k : ℕ) → o ≡ op.ReadFd fd count → (next h e).reply ≡ reply.Bytes k → k ≡ 0) → read_by (world_of h) (marks_of h) e.pid o (next h e) ≡ []
 unfolding read_by
@@ -215,18 +204,7 @@ tells_nothing h e none = ap (flat_map (piece_line h (length h.events + 1) (objec
 taken_none : (f : Frame) (b : Option OpenFile) (r : Reply) (hs : List (HoldingOf Marked)) → ((k : ℕ) → r ≡ reply.Bytes k → ⊥) → taken f b r hs ≡ hs
 unfolding taken
 taken_none f (Some b) (reply.Bytes k) hs none = absurd (none k refl)
-taken_none f (Some b) reply.Done hs none = refl
-taken_none f (Some b) (reply.Number n) hs none = refl
-taken_none f (Some b) (reply.Two x y) hs none = refl
-taken_none f (Some b) (reply.Stat o kind size links frozen cap lic) hs none = refl
-taken_none f (Some b) (reply.Lab l) hs none = refl
-taken_none f (Some b) (reply.Named n o) hs none = refl
-taken_none f (Some b) reply.Half hs none = refl
-taken_none f (Some b) (reply.Whole p l s) hs none = refl
-taken_none f (Some b) (reply.LogLine l) hs none = refl
-taken_none f (Some b) (reply.Child p s) hs none = refl
-taken_none f (Some b) (reply.No why) hs none = refl
-taken_none f None r hs none = refl
+taken_none f b r hs none = refl
 
 -- and it leaves what can be read
 pub origins_idle : (h : History) (e : Event) (fd count : ℕ) → e.op ≡ op.ReadFd fd count → Sound (world_of h) → ((k : ℕ) → (next h e).reply ≡ reply.Bytes k → k ≡ 0) → (o end : ℕ) → end < 2

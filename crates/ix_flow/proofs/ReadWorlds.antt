@@ -1,5 +1,5 @@
 -- What stands behind the descriptor of a read, before and after it, and what the read gives and moves.
-use Rattle.std.proofs.Common.{◌≡◌, ◌≤◌, ◌<◌, ◌+◌, ◌==◌, ◌&&◌, ◌||◌, nat_le, ℕ, Bool, true, false, true≢false, length, set, take, drop, Option, Some, None, is_some}
+use Rattle.std.proofs.Common.{◌≡◌, ◌≤◌, ◌<◌, ◌+◌, ◌==◌, ◌&&◌, ◌||◌, nat_le, ℕ, Bool, true, false, true≢false, length, set, take, drop, Option, Some, is_some}
 use Rattle.std.proofs.Common.{if◌then◌else◌, refl, sym, ap, ◌∙◌, arith, inl, inr}
 use Rattle.std.specs.Option.{option_map_or}
 use Rattle.std.proofs.Math.Bool.{and-false}
@@ -82,18 +82,7 @@ gave w count (Some c) e (reply.Bytes n) g k is gives =
       long = many;
       few = let few = length-take count (readable w.frame w.content c) in omega (arith, many, few);
     }
-gave w count (Some c) e reply.Done g k is gives = absurd (cc)
-gave w count (Some c) e (reply.Number n) g k is gives = absurd (cc)
-gave w count (Some c) e (reply.Two x y) g k is gives = absurd (cc)
-gave w count (Some c) e (reply.Stat o kind size links frozen cap lic) g k is gives = absurd (cc)
-gave w count (Some c) e (reply.Lab l) g k is gives = absurd (cc)
-gave w count (Some c) e (reply.Named n o) g k is gives = absurd (cc)
-gave w count (Some c) e reply.Half g k is gives = absurd (cc)
-gave w count (Some c) e (reply.Whole p l s) g k is gives = absurd (cc)
-gave w count (Some c) e (reply.LogLine l) g k is gives = absurd (cc)
-gave w count (Some c) e (reply.Child p s) g k is gives = absurd (cc)
-gave w count (Some c) e (reply.No why) g k is gives = absurd (cc)
-gave w count None e r g k is gives = absurd (cc)
+gave w count b e r g k is gives = absurd (cc)
 
 step_gave : (w : World) (place pid fd count k : ℕ) (e : OpenFile) → (step w place pid (op.ReadFd fd count)).reply ≡ reply.Bytes k → behind w.frame pid fd ≡ Some e
     → Gave w count e (verdict (told w pid (op.ReadFd fd count)) place pid (op.ReadFd fd count) w.frame).frame k (step w place pid (op.ReadFd fd count))

@@ -107,14 +107,7 @@ within_more from low to (l ∷ log) below a = ((omega (arith, below, a.0.0), a.0
 line_place : (f g : Frame) (place pid : ℕ) (c : Op) (line : AuditLine) → line_of_act f g place pid c ≡ Some line → line.place ≡ place
 unfolding line_of_act
 line_place f g place pid (op.SetLabel path now) line is = let e = is in cc
-line_place f g place pid (op.SetSelf now) line is = cc
-line_place f g place pid (op.Thaw path) line is = cc
-line_place f g place pid op.ThawSelf line is = cc
-line_place f g place pid (op.SetPriv path cap lic) line is = cc
-line_place f g place pid (op.GrantLic target set) line is = cc
-line_place f g place pid (op.SetCeiling target now) line is = cc
-line_place f g place pid (op.ReadLog index) line is = cc
-line_place f g place pid _ line is = cc
+line_place f g place pid o line is = cc
 
 added_within : (w : World) (place to : ℕ) (e : Event) → place < to → AreWithin place to (lines_added w place e)
 unfolding lines_added AreWithin

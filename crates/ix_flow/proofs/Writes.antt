@@ -61,18 +61,7 @@ wrote : (w : World) (new : List ℕ) (b : Option OpenFile) (e : OpenFile) (r : R
     → (write_answer w new b r g).world.content ≡ after_write w.frame e new (carried w.frame g w.content)
 unfolding write_answer plainly
 wrote w new (Some c) e (reply.Number n) g k is gives = let one : c ≡ e = cc in ap (λ x. after_write w.frame x new (carried w.frame g w.content)) one
-wrote w new (Some c) e reply.Done g k is gives = absurd (cc)
-wrote w new (Some c) e (reply.Bytes n) g k is gives = absurd (cc)
-wrote w new (Some c) e (reply.Two x y) g k is gives = absurd (cc)
-wrote w new (Some c) e (reply.Stat o kind size links frozen cap lic) g k is gives = absurd (cc)
-wrote w new (Some c) e (reply.Lab l) g k is gives = absurd (cc)
-wrote w new (Some c) e (reply.Named n o) g k is gives = absurd (cc)
-wrote w new (Some c) e reply.Half g k is gives = absurd (cc)
-wrote w new (Some c) e (reply.Whole p l s) g k is gives = absurd (cc)
-wrote w new (Some c) e (reply.LogLine l) g k is gives = absurd (cc)
-wrote w new (Some c) e (reply.Child p s) g k is gives = absurd (cc)
-wrote w new (Some c) e (reply.No why) g k is gives = absurd (cc)
-wrote w new None e r g k is gives = absurd (cc)
+wrote w new b e r g k is gives = absurd (cc)
 
 step_wrote : (w : World) (place pid fd : ℕ) (bytes : List ℕ) (k : ℕ) (e : OpenFile) → (step w place pid (op.WriteFd fd bytes)).reply ≡ reply.Number k → behind w.frame pid fd ≡ Some e
     → (step w place pid (op.WriteFd fd bytes)).world.content ≡ after_write w.frame e bytes (carried w.frame (step w place pid (op.WriteFd fd bytes)).world.frame w.content)
@@ -99,18 +88,7 @@ carried_offsets f g c = length-keep 0 (λ e. is_some (at f.opens e) && is_some (
 put_none : (f : Frame) (c : Content) (new : List Marked) (b : Option OpenFile) (r : Reply) (hs : List (HoldingOf Marked)) → ((k : ℕ) → r ≡ reply.Number k → ⊥) → put_there gap_mark f c new b r hs ≡ hs
 unfolding put_there
 put_none f c new (Some b) (reply.Number k) hs other = absurd (other k refl)
-put_none f c new (Some b) reply.Done hs other = refl
-put_none f c new (Some b) (reply.Bytes k) hs other = refl
-put_none f c new (Some b) (reply.Two x y) hs other = refl
-put_none f c new (Some b) (reply.Stat o kind size links frozen cap lic) hs other = refl
-put_none f c new (Some b) (reply.Lab l) hs other = refl
-put_none f c new (Some b) (reply.Named n o) hs other = refl
-put_none f c new (Some b) reply.Half hs other = refl
-put_none f c new (Some b) (reply.Whole p l s) hs other = refl
-put_none f c new (Some b) (reply.LogLine l) hs other = refl
-put_none f c new (Some b) (reply.Child p s) hs other = refl
-put_none f c new (Some b) (reply.No why) hs other = refl
-put_none f c new None r hs other = refl
+put_none f c new b r hs other = refl
 
 module _ (h : History) (seat line pid fd : ℕ) (bytes : List ℕ) where
   abbrev e : Event
@@ -210,7 +188,11 @@ module _ (h : History) (seat line pid fd : ℕ) (bytes : List ℕ) where
         label = is_label ∙ ap Some (sym (ap (λ n. label_of (with_entry h e) (Written n 0)) at_last ∙ writer_label writer seen_by));
       }
 
-      pub write_piped : (piped : Bool) → piped ≡ option_map_or is_pipe (at (world_of (with_entry h e)).frame.objects view.obj.0) false → is_pipe r.object ≡ piped
+      -- whether what the code asks is a pipe is one
+      abbrev Asked : Bool → Type 0
+      Asked piped = piped ≡ option_map_or is_pipe (at (world_of (with_entry h e)).frame.objects view.obj.0) false
+
+      write_piped : (piped : Bool) → Asked piped → is_pipe r.object ≡ piped
       write_piped piped is = sym (is ∙ ap (λ n. option_map_or is_pipe (at (world_of (with_entry h e)).frame.objects n) false) seen.0 ∙ on_pipe_after h e fd b r)
 
       kept_all : AreSides t.sides labels.all.items (with_entry h e) (kept_marks h e)
@@ -220,22 +202,24 @@ module _ (h : History) (seat line pid fd : ℕ) (bytes : List ℕ) where
           → AreTracks (record t { sides = sides; labels = labels }) (with_entry h e) × (lines_of_entry h e ≡ [])
       tracks ms is all = followed h e few refl silent t (record t { sides = sides; labels = labels }) are refl refl ms is all
 
-      pub write_to_pipe : (end : ℕ) → end ≡ 1 - view.end → is_pipe r.object ≡ true
+      pub write_to_pipe : (piped : Bool) → Asked piped → piped ≡ true → (end : ℕ) → end ≡ 1 - view.end
           → ((ls : List Categories) (g : History) (hs : List (HoldingOf Marked)) (bs : List ℕ) → AreSides t.sides ls g hs → HasEnd g hs view.obj.0 end true → IsWrite ls g written bs
           → AreSides sides ls g (on_side view.obj.0 end (λ old. old ++ marked_from (Written place) 0 bs) hs))
           → AreTracks (record t { sides = sides; labels = labels }) (with_entry h e) × (lines_of_entry h e ≡ [])
-      write_to_pipe end other pipe append =
+      write_to_pipe piped asked so end other append =
+          let pipe = write_piped piped asked ∙ so in
           let which : end ≡ 1 - b.entry.end = other ∙ ap (λ n. 1 - n) seen.1 in
           let marks : marks_of (with_entry h e) ≡ on_side view.obj.0 end (λ old. old ++ marked_from (Written place) 0 bytes) (kept_marks h e) =
           put_is ∙ put_either true pipe ∙ (λ i. on_side (sym seen.0 i) (sym which i) (λ old. old ++ marked_from (Written (sym at_last i)) 0 bytes) (kept_marks h e)) in
           tracks _ marks (append labels.all.items (with_entry h e) (kept_marks h e) bytes kept_all
           (subst (λ (o : ℕ). HasEnd (with_entry h e) (kept_marks h e) o end true) (sym seen.0) (has_end h e fd b r true pipe end (omega (arith, which)))) is_write)
 
-      pub write_to_file : (from : ℕ) → from ≡ view.at - count → is_pipe r.object ≡ false
+      pub write_to_file : (piped : Bool) → Asked piped → piped ≡ false → (from : ℕ) → from ≡ view.at - count
           → ((ls : List Categories) (g : History) (hs : List (HoldingOf Marked)) (bs : List ℕ) → AreSides t.sides ls g hs → HasEnd g hs view.obj.0 view.end false → IsWrite ls g written bs
           → AreSides sides ls g (on_side view.obj.0 view.end (written_over gap_mark from (marked_from (Written place) 0 bs)) hs))
           → AreTracks (record t { sides = sides; labels = labels }) (with_entry h e) × (lines_of_entry h e ≡ [])
-      write_to_file from starts file write =
+      write_to_file piped asked so from starts write =
+          let file = write_piped piped asked ∙ so in
           let begun : from ≡ offset_of before b.id = let after = offset_after file in let told = seen.2 in omega (arith, starts, after, told, is_count) in
           let marks : marks_of (with_entry h e) ≡ on_side view.obj.0 view.end (written_over gap_mark from (marked_from (Written place) 0 bytes)) (kept_marks h e) =
           put_is ∙ put_either false file ∙ (λ i. on_side (sym seen.0 i) (sym seen.1 i) (written_over gap_mark (sym begun i) (marked_from (Written (sym at_last i)) 0 bytes)) (kept_marks h e)) in

@@ -111,15 +111,16 @@ file_system_field = record { takes = takes; again = again }
           size_field.again s.inodes rest is.inodes,
         ) refl
 
-pub file_systems_field : (n : ℕ) → OneField (file_systems_at n) (flat_map file_system_bytes) (λ xs. (length xs ≡ n) × AllByRecursion IsFileSystem xs)
+pub no_systems : (bytes : List ℕ) → file_systems_at zero bytes ≡ Ok ([], bytes)
 unfolding file_systems_at
-file_systems_field = many_field file_system_at file_system_bytes IsFileSystem file_system_field file_systems_at none more
-  where
-    none : (bytes : List ℕ) → file_systems_at zero bytes ≡ Ok ([], bytes)
-    none bytes = refl
+no_systems bytes = refl
 
-    more : (n : ℕ) (bytes : List ℕ) → file_systems_at (suc n) bytes ≡ (file_system_at bytes >>= λ first. file_systems_at n first.1 >>= λ others. Ok (first.0 ∷ others.0, others.1))
-    more n bytes = refl
+pub more_systems : (n : ℕ) (bytes : List ℕ) → file_systems_at (suc n) bytes ≡ (file_system_at bytes >>= λ first. file_systems_at n first.1 >>= λ others. Ok (first.0 ∷ others.0, others.1))
+unfolding file_systems_at
+more_systems n bytes = refl
+
+pub file_systems_field : (n : ℕ) → OneField (file_systems_at n) (flat_map file_system_bytes) (λ xs. (length xs ≡ n) × AllByRecursion IsFileSystem xs)
+file_systems_field = many_field file_system_at file_system_bytes IsFileSystem file_system_field file_systems_at no_systems more_systems
 
 -- ---- names
 named : OneField (name_at is_name) name_bytes (λ x. is_name x ≡ true)
@@ -142,15 +143,16 @@ link_field = record { takes = takes; again = again }
         let regrouped : link_bytes l ++ rest ≡ name_bytes l.0 ++ (four l.1 ++ rest) = append_assoc (name_bytes l.0) (four l.1) rest in
         ap link_at regrouped ∙ rw (named.again l.0 (four l.1 ++ rest) is.name, word_field.again l.1 rest is.object) refl
 
-pub links_field : (n : ℕ) → OneField (links_at n) (flat_map link_bytes) (λ xs. (length xs ≡ n) × AllByRecursion IsLink xs)
+pub no_links : (bytes : List ℕ) → links_at zero bytes ≡ Ok ([], bytes)
 unfolding links_at
-links_field = many_field link_at link_bytes IsLink link_field links_at none more
-  where
-    none : (bytes : List ℕ) → links_at zero bytes ≡ Ok ([], bytes)
-    none bytes = refl
+no_links bytes = refl
 
-    more : (n : ℕ) (bytes : List ℕ) → links_at (suc n) bytes ≡ (link_at bytes >>= λ first. links_at n first.1 >>= λ others. Ok (first.0 ∷ others.0, others.1))
-    more n bytes = refl
+pub more_links : (n : ℕ) (bytes : List ℕ) → links_at (suc n) bytes ≡ (link_at bytes >>= λ first. links_at n first.1 >>= λ others. Ok (first.0 ∷ others.0, others.1))
+unfolding links_at
+more_links n bytes = refl
+
+pub links_field : (n : ℕ) → OneField (links_at n) (flat_map link_bytes) (λ xs. (length xs ≡ n) × AllByRecursion IsLink xs)
+links_field = many_field link_at link_bytes IsLink link_field links_at no_links more_links
 
 -- ---- what objects hold
 file_size_field : OneField (number_at is_size_of_file) four (λ n. is_size_of_file n ≡ true)

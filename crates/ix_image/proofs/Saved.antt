@@ -1,35 +1,6 @@
 -- How the image of a core's tree is written, part by part.
-use Rattle.std.proofs.Common.{
-  ◌≡◌,
-  ℕ,
-  zero,
-  suc,
-  ◌+◌,
-  ◌-◌,
-  ◌<◌,
-  ◌≤◌,
-  Bool,
-  true,
-  false,
-  cond,
-  List,
-  [],
-  ◌∷◌,
-  ◌++◌,
-  length,
-  get_or,
-  take,
-  drop,
-  Option,
-  Some,
-  None,
-  refl,
-  sym,
-  ap,
-  ◌∙◌,
-  append_assoc,
-  arith,
-}
+use Rattle.std.proofs.Common.{◌≡◌, ℕ, zero, suc, ◌+◌, ◌-◌, ◌<◌, ◌≤◌, Bool, true, false, cond, List, [], ◌∷◌, ◌++◌, length, get_or, take, drop, Option, Some}
+use Rattle.std.proofs.Common.{None, refl, sym, ap, ◌∙◌, append_assoc, arith}
 use Rattle.std.specs.Prelude.{slice_get}
 use Rattle.std.specs.Option.{option_map_or, option_and_then}
 use Rattle.std.specs.List.{flat_map, range_with_len}
@@ -51,25 +22,8 @@ use Rattle.ix_image.specs.Trees.{NodeOf, LinkOf, Holds, Bytes, Links}
 use Rattle.ix_image.specs.Image.{first_bytes, four, file_system_bytes, link_bytes, held_bytes, marks_of, marks_bytes, node_bytes, image_of}
 use Rattle.ix_image.specs.Labelled.{label_bytes}
 use Rattle.ix_image.specs.Taken.{is_kept, held_in, node_of, kept_at, tree_on}
-use Rattle.ix_image.specs.Saving.{
-  kept_from,
-  kept_view,
-  names_at,
-  count_held,
-  body_bytes,
-  head_bytes,
-  start_bytes,
-  objects_left,
-  names_left,
-  bytes_left,
-  turns_left,
-  IsFile,
-  IsFirst,
-  Stands,
-  HasHead,
-  Begins,
-  WritesOn,
-}
+use Rattle.ix_image.specs.Saving.{kept_from, kept_view, names_at, count_held, body_bytes, head_bytes, start_bytes, objects_left, names_left, bytes_left}
+use Rattle.ix_image.specs.Saving.{turns_left, IsFile, IsFirst, Stands, HasHead, Begins, WritesOn}
 use Rattle.ix_image.proofs.Counting.{rest_at}
 
 -- ---- objects, one after the other

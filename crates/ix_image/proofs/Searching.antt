@@ -1,42 +1,6 @@
 -- What the search from object 0 finds: the directories that are reached.
-use Rattle.std.proofs.Common.{
-  ◌≡◌,
-  ℕ,
-  zero,
-  suc,
-  ◌+◌,
-  ◌-◌,
-  ◌<◌,
-  ◌≤◌,
-  Bool,
-  true,
-  false,
-  cond,
-  ◌==◌,
-  ◌&&◌,
-  ◌||◌,
-  List,
-  [],
-  ◌∷◌,
-  ◌++◌,
-  length,
-  get_or,
-  set,
-  map,
-  replicate,
-  count_by,
-  Some,
-  ◌⊎◌,
-  inl,
-  inr,
-  refl,
-  sym,
-  ap,
-  subst,
-  ◌∙◌,
-  append_assoc,
-  arith,
-}
+use Rattle.std.proofs.Common.{◌≡◌, ℕ, zero, suc, ◌+◌, ◌-◌, ◌<◌, ◌≤◌, Bool, true, false, cond, ◌==◌, ◌&&◌, ◌||◌, List, [], ◌∷◌, ◌++◌, length, get_or, set, map}
+use Rattle.std.proofs.Common.{replicate, count_by, Some, ◌⊎◌, inl, inr, refl, sym, ap, subst, ◌∙◌, append_assoc, arith}
 use Rattle.std.specs.Prelude.{slice_get}
 use Rattle.std.specs.Cmp.{both_ways}
 use Rattle.std.specs.List.{Contains, list_any}
@@ -69,6 +33,10 @@ any_implies p q xs h any = let r = any_found p xs any in any_from q xs r.0 r.1 r
 any_mapped : (ls : List LinkOf) (n : ℕ) → list_any (λ m. m == n) (map (λ l. l.1) ls) ≡ list_any (λ l. l.1 == n) ls
 any_mapped [] n = refl
 any_mapped (l ∷ ls) n = ap (λ b. (l.1 == n) || b) (any_mapped ls n)
+
+-- a number that is one of one
+is_alone : (n m : ℕ) → list_any (λ k. k == m) (n ∷ []) ≡ true → m ≡ n
+is_alone n m h = sym (eqb-true n m (elim (or_cases (n == m) false h) [ inl e ↦ e | inr e ↦ absurd (cc e) ]))
 
 any_append : (ns ms : List ℕ) (n : ℕ) → list_any (λ m. m == n) (ns ++ ms) ≡ true → (list_any (λ m. m == n) ns ≡ true) ⊎ (list_any (λ m. m == n) ms ≡ true)
 any_append [] ms n h = inr h
@@ -146,9 +114,10 @@ module _ (nodes : List NodeOf) where
       go (Bytes b) h = absurd (cc h)
       go (Links ls) h = refl
 
-  -- nothing is found of no numbers
-  pub finds_none : (marks : List Bool) (places : List ℕ) → Finds nodes [] marks places marks places
-  finds_none marks places = record {
+  -- nothing is found of numbers where each directory of one is marked
+  nothing_found : (numbers : List ℕ) (marks : List Bool) (places : List ℕ) → ((i : ℕ) (x : NodeOf) → IsDirAt nodes i x → list_any (λ n. n == x.number) numbers ≡ true → marked marks i ≡ true)
+      → Finds nodes numbers marks places marks places
+  nothing_found numbers marks places known = record {
     more = [];
     behind = sym (append-nil places);
     long = refl;
@@ -156,21 +125,15 @@ module _ (nodes : List NodeOf) where
     kept = λ i h. h;
     new = λ i h. inl h;
     named = λ i h. absurd (nothing_in i h);
-    all = λ i x at h. absurd (cc h);
+    all = known;
   }
 
-  -- nothing is found of a number where what has it is marked, or there is no such directory
+  pub finds_none : (marks : List Bool) (places : List ℕ) → Finds nodes [] marks places marks places
+  finds_none marks places = nothing_found [] marks places (λ i x at h. absurd (cc h))
+
+  -- it is one number, and what has it is marked, or there is no such directory
   pub finds_no_more : (n : ℕ) (marks : List Bool) (places : List ℕ) → ((i : ℕ) (x : NodeOf) → IsDirAt nodes i x → x.number ≡ n → marked marks i ≡ true) → Finds nodes (n ∷ []) marks places marks places
-  finds_no_more n marks places known = record {
-    more = [];
-    behind = sym (append-nil places);
-    long = refl;
-    few = omega arith;
-    kept = λ i h. h;
-    new = λ i h. inl h;
-    named = λ i h. absurd (nothing_in i h);
-    all = λ i x at h. known i x at (sym (eqb-true n x.number (elim (or_cases (n == x.number) false h) [ inl e ↦ e | inr e ↦ absurd (cc e) ])));
-  }
+  finds_no_more n marks places known = nothing_found (n ∷ []) marks places (λ i x at h. known i x at (is_alone n x.number h))
 
   -- a directory is found that wasn't yet
   pub finds_one : (n i : ℕ) (x : NodeOf) (marks : List Bool) (places : List ℕ) → length marks ≡ length nodes → IsDirAt nodes i x → x.number ≡ n → marked marks i ≡ false
@@ -202,8 +165,7 @@ module _ (nodes : List NodeOf) where
                   ∙ get_or-set_same marks i true false within,
             );
         all = λ j y is h.
-            let numbered : y.number ≡ n = sym (eqb-true n y.number (elim (or_cases (n == y.number) false h) [ inl e ↦ e | inr e ↦ absurd (cc e) ])) in
-            ap (marked (set marks i true)) (only j y is numbered) ∙ get_or-set_same marks i true false within;
+            ap (marked (set marks i true)) (only j y is (is_alone n y.number h)) ∙ get_or-set_same marks i true false within;
       }
     where
       only_one : (j : ℕ) → Contains (i ∷ []) j → j ≡ i
@@ -308,7 +270,7 @@ module _ (nodes : List NodeOf) where
     count = f.few ∙ ap (λ n. n + length f.more) (none_counted (length nodes)) ∙ zero_more (length f.more) ∙ sym (ap (λ (q : List ℕ). length q) f.behind);
     long = f.long ∙ length-replicate (length nodes) false;
     sound = λ p i is. let r = f.named i (got_contains f.more p i (sym (ap (λ (q : List ℕ). slice_get q p) f.behind) ∙ is)) in
-        (r.0, r.1, reached_root p r.0.number (sym (eqb-true 0 r.0.number (elim (or_cases (0 == r.0.number) false r.2) [ inl e ↦ e | inr e ↦ absurd (cc e) ]))), r.3);
+        (r.0, r.1, reached_root p r.0.number (is_alone 0 r.0.number r.2), r.3);
     listed = λ i h. elim (f.new i h) [
       | inl before ↦ absurd (let none = unmarked (length nodes) i in cc (none, before))
       | inr more ↦ subst (λ (q : List ℕ). Contains q i) (sym f.behind) more

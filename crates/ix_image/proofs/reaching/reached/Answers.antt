@@ -1,10 +1,11 @@
-use Rattle.std.proofs.Common.{◌≡◌, ◌<◌, ℕ, ◌∷◌, [], List, Bool, false, length, map, replicate, sym, ap, subst, ◌∙◌, arith, rules}
+use Rattle.std.proofs.Common.{◌≡◌, ◌<◌, ℕ, ◌∷◌, [], List, Bool, false, length, get_or, map, replicate, sym, ap, subst, ◌∙◌, arith, rules}
 use Rattle.std.proofs.lemmas.List.{length-map}
+use Rattle.ix_image.specs.declared.node.Node.{Node}
 use Rattle.ix_image.specs.Trees.{LinkOf}
 use Rattle.ix_image.specs.Found.{Finds}
 use Rattle.ix_image.specs.Meant.{node_of, nodes_of}
 use Rattle.ix_image.proofs.Placing.{got_node}
-use Rattle.ix_image.proofs.Searching.{search_begins, search_goes_on, search_ends, places_low, got_place, dir_found}
+use Rattle.ix_image.proofs.Searching.{Searched, search_begins, search_goes_on, search_ends, places_low, got_place, dir_found}
 use Rattle.ix_image.proofs.reaching.reached.Goals as goal
 
 pub found-init : goal.found-init
@@ -15,37 +16,23 @@ found-init c =
     (subst (λ (m : List Bool). Finds (nodes_of c.args.nodes.now) (0 ∷ []) m [] c.find.new.self.marks.items c.find.new.self.places.items) marks
     (subst (λ (p : List ℕ). Finds (nodes_of c.args.nodes.now) (0 ∷ []) c.in_ok-marks.marks.items p c.find.new.self.marks.items c.find.new.self.places.items) c.new.ensures.items c.in_ok-find.ensures))
 
+-- a place that was found is one of an object
+low : (nodes : List Node) (marks : List Bool) (places : List ℕ) (at i : ℕ) → Searched (nodes_of nodes) marks places at → at < length places → i ≡ get_or places at i → i < length nodes
+low nodes marks places at i found small is = omega (arith, places_low (nodes_of nodes) marks places at at i found (got_place places at i small is), length-map nodes node_of)
+
 pub bounds-nodes-index : goal.bounds-nodes-index
-bounds-nodes-index c =
-    let here = got_place c.found.found.places.items c.found.at c.index.result.now (omega arith) c.index.ensures in
-    omega (
-      arith,
-      places_low (nodes_of c.args.nodes.now) c.found.found.marks.items c.found.found.places.items c.found.at c.found.at c.index.result.now c.found.invariant here,
-      length-map
-          c.args.nodes.now node_of,
-    )
+bounds-nodes-index c = low c.args.nodes.now c.found.found.marks.items c.found.found.places.items c.found.at c.index.result.now c.found.invariant (omega arith) c.index.ensures
 
 pub offset_bounds-nodes-index : goal.offset_bounds-nodes-index
 offset_bounds-nodes-index c =
-    let here = got_place c.found.found.places.items c.found.at c.index.result.now (omega arith) c.index.ensures in
-    let low : c.index.result.now < length c.args.nodes.now = omega (
-      arith,
-      places_low (nodes_of c.args.nodes.now) c.found.found.marks.items c.found.found.places.items c.found.at c.found.at c.index.result.now c.found.invariant here,
-      length-map
-          c.args.nodes.now node_of,
-    ) in
-    search (rules, low)
+    let small = low c.args.nodes.now c.found.found.marks.items c.found.found.places.items c.found.at c.index.result.now c.found.invariant (omega arith) c.index.ensures in
+    search (rules, small)
 
 pub found-preserved : goal.found-preserved
 found-preserved c =
+    let small = low c.args.nodes.now c.found.found.marks.items c.found.found.places.items c.found.at c.index.result.now c.found.invariant (omega arith) c.index.ensures in
     let here = got_place c.found.found.places.items c.found.at c.index.result.now (omega arith) c.index.ensures in
-    let low : c.index.result.now < length c.args.nodes.now = omega (
-      arith,
-      places_low (nodes_of c.args.nodes.now) c.found.found.marks.items c.found.found.places.items c.found.at c.found.at c.index.result.now c.found.invariant here,
-      length-map
-          c.args.nodes.now node_of,
-    ) in
-    let got = got_node c.args.nodes.now c.index.result.now c.index-nodes-index.result low c.index-nodes-index.is in
+    let got = got_node c.args.nodes.now c.index.result.now c.index-nodes-index.result small c.index-nodes-index.is in
     let dir = dir_found (nodes_of c.args.nodes.now) c.found.found.marks.items c.found.found.places.items c.found.at c.found.at c.index.result.now (node_of c.index-nodes-index.result)
     c.found.invariant here got in
     let finds = subst (λ (ls : List LinkOf). Finds (nodes_of c.args.nodes.now) (map (λ l. l.1) ls) c.found.found.marks.items c.found.found.places.items c.follow.new.self.marks.items

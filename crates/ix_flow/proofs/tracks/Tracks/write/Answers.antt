@@ -7,7 +7,7 @@ use Rattle.ix_model.specs.history.Events as op
 use Rattle.ix_model.specs.history.Made.{entry}
 use Rattle.ix_model.specs.world.World.{at, is_pipe}
 use Rattle.ix_flow.proofs.Arms.{few_then, led, shown_then, told_then}
-use Rattle.ix_flow.proofs.Writes.{write_living, write_opened, write_piped, write_refused, write_to_file, write_to_pipe}
+use Rattle.ix_flow.proofs.Writes.{write_living, write_opened, write_refused, write_to_file, write_to_pipe}
 use Rattle.ix_flow.proofs.tracks.Tracks.write.Goals as goal
 
 pub returns-in_default : goal.returns-in_default
@@ -44,15 +44,12 @@ returns-then-is_pipe c = λ seat line h step are.
     let count = c.in-Ok.ensures.1 in
     let labels = c.of_writer.new.self in
     let number = c.in_ok-label.label in
-    let piped = write_piped h seat line pid fd bytes c.args.self.now are c.in-Number.field-0 done few c.in-Some.view view (λ b. refl) (λ b. refl)
-    (λ b. refl) seen c.in-Some-process.writer shown labels c.in_ok-label.ensures.stays
-    c.args.place number c.in-Ok.count last c.in_ok-label.ensures.label count c.append.new.self
-    c.is_pipe.result (c.is_pipe.ensures ∙ ap (λ (k : History). option_map_or is_pipe (at (world_of k).frame.objects c.in-Some.view.obj.0) false) step.history) in
     led _ h c.args.core.now e _ step.history
     (write_to_pipe h seat line pid fd bytes c.args.self.now are c.in-Number.field-0 done few c.in-Some.view view (λ b. refl) (λ b. refl)
     (λ b. refl) seen c.in-Some-process.writer shown labels c.in_ok-label.ensures.stays
-    c.args.place number c.in-Ok.count last c.in_ok-label.ensures.label count c.append.new.self c.saturating_sub-end.result c.saturating_sub-end.ensures
-    (piped ∙ c.if-is_pipe.true) c.in_ok-append.ensures)
+    c.args.place number c.in-Ok.count last c.in_ok-label.ensures.label count c.append.new.self
+    c.is_pipe.result (c.is_pipe.ensures ∙ ap (λ (k : History). option_map_or is_pipe (at (world_of k).frame.objects c.in-Some.view.obj.0) false) step.history) c.if-is_pipe.true
+    c.saturating_sub-end.result c.saturating_sub-end.ensures c.in_ok-append.ensures)
 
 pub returns : goal.returns
 returns c = λ seat line h step are.
@@ -69,12 +66,9 @@ returns c = λ seat line h step are.
     let count = c.in-Ok.ensures.1 in
     let labels = c.of_writer.new.self in
     let number = c.in_ok-label.label in
-    let piped = write_piped h seat line pid fd bytes c.args.self.now are c.in-Number.field-0 done few c.in-Some.view view (λ b. refl) (λ b. refl)
-    (λ b. refl) seen c.in-Some-process.writer shown labels c.in_ok-label.ensures.stays
-    c.args.place number c.in-Ok.count last c.in_ok-label.ensures.label count c.write.new.self
-    c.is_pipe.result (c.is_pipe.ensures ∙ ap (λ (k : History). option_map_or is_pipe (at (world_of k).frame.objects c.in-Some.view.obj.0) false) step.history) in
     led _ h c.args.core.now e _ step.history
     (write_to_file h seat line pid fd bytes c.args.self.now are c.in-Number.field-0 done few c.in-Some.view view (λ b. refl) (λ b. refl)
     (λ b. refl) seen c.in-Some-process.writer shown labels c.in_ok-label.ensures.stays
-    c.args.place number c.in-Ok.count last c.in_ok-label.ensures.label count c.write.new.self c.saturating_sub-offset.result c.saturating_sub-offset.ensures
-    (piped ∙ c.if-is_pipe.false) c.in_ok-write.ensures)
+    c.args.place number c.in-Ok.count last c.in_ok-label.ensures.label count c.write.new.self
+    c.is_pipe.result (c.is_pipe.ensures ∙ ap (λ (k : History). option_map_or is_pipe (at (world_of k).frame.objects c.in-Some.view.obj.0) false) step.history) c.if-is_pipe.false
+    c.saturating_sub-offset.result c.saturating_sub-offset.ensures c.in_ok-write.ensures)
