@@ -90,13 +90,13 @@ make_is pid path kind f m h g d o x led there free room row is =
     ∙ then_is (change_object d (with_name (last_name path.names) o)) _ _ _ tt (change_is d _ _)
     ∙ pass_is (reply.Number o) _ g is
 
-pub link_is : (pid : ℕ) (target path : PathOf) (f l m h g : Frame) (a b : Sought) (d o : ℕ) (x y : Object) → walked_to pid target f ≡ Pass a l
+-- a link, where what it names is found: it comes to whether there is room for a name
+link_led : (pid : ℕ) (target path : PathOf) (f l m : Frame) (a b : Sought) (d o : ℕ) (x y : Object) → walked_to pid target f ≡ Pass a l
     → walked_to pid path l ≡ Pass b m → found_object a m ≡ Pass o m → at m.objects o ≡ Some x → is_dir x ≡ false → vacant b m ≡ Pass d m
-    → at m.objects d ≡ Some y
-    → (fs_number x == fs_number y) ≡ true → has_room_for_a_name m ≡ true → affect pid d bottom m ≡ Pass tt h
-    → g ≡ record h { objects = change h.objects d (with_name (last_name path.names) o) } → link_at pid target path f ≡ Pass reply.Done g
+    → at m.objects d ≡ Some y → (fs_number x == fs_number y) ≡ true
+    → link_at pid target path f ≡ ◌>>◌ (need (has_room_for_a_name m) refusal.NoEntry) (◌>>◌ (affect pid d bottom) (◌>>◌ (change_object d (with_name (last_name path.names) o)) (pass reply.Done))) m
 unfolding link_at
-link_is pid target path f l m h g a b d o x y led_a led_b found there file absent here one_fs room row is =
+link_led pid target path f l m a b d o x y led_a led_b found there file absent here one_fs =
     bind_is (walked_to pid target) _ f l a led_a
     ∙ bind_is (walked_to pid path) _ l m b led_b
     ∙ bind_is (found_object a) _ m m o found
@@ -106,6 +106,14 @@ link_is pid target path f l m h g a b d o x y led_a led_b found there file absen
     ∙ bind_is (object d) _ m m y (object_is m d y here)
     ∙ then_is (need (fs_number x == fs_number y) refusal.CrossFs) _ m m tt (need_is _ _ m one_fs)
     ∙ bind_is frame _ m m m (frame_is m)
+
+pub link_is : (pid : ℕ) (target path : PathOf) (f l m h g : Frame) (a b : Sought) (d o : ℕ) (x y : Object) → walked_to pid target f ≡ Pass a l
+    → walked_to pid path l ≡ Pass b m → found_object a m ≡ Pass o m → at m.objects o ≡ Some x → is_dir x ≡ false → vacant b m ≡ Pass d m
+    → at m.objects d ≡ Some y
+    → (fs_number x == fs_number y) ≡ true → has_room_for_a_name m ≡ true → affect pid d bottom m ≡ Pass tt h
+    → g ≡ record h { objects = change h.objects d (with_name (last_name path.names) o) } → link_at pid target path f ≡ Pass reply.Done g
+link_is pid target path f l m h g a b d o x y led_a led_b found there file absent here one_fs room row is =
+    link_led pid target path f l m a b d o x y led_a led_b found there file absent here one_fs
     ∙ then_is (need (has_room_for_a_name m) refusal.NoEntry) _ m m tt (need_is _ _ m room)
     ∙ then_is (affect pid d bottom) _ m h tt row
     ∙ then_is (change_object d (with_name (last_name path.names) o)) _ h _ tt (change_is d _ h)
@@ -116,17 +124,8 @@ pub link_full : (pid : ℕ) (target path : PathOf) (f l m : Frame) (a b : Sought
     → walked_to pid path l ≡ Pass b m → found_object a m ≡ Pass o m → at m.objects o ≡ Some x → is_dir x ≡ false → vacant b m ≡ Pass d m
     → at m.objects d ≡ Some y
     → (fs_number x == fs_number y) ≡ true → has_room_for_a_name m ≡ false → link_at pid target path f ≡ Refuse refusal.NoEntry m
-unfolding link_at
 link_full pid target path f l m a b d o x y led_a led_b found there file absent here one_fs full =
-    bind_is (walked_to pid target) _ f l a led_a
-    ∙ bind_is (walked_to pid path) _ l m b led_b
-    ∙ bind_is (found_object a) _ m m o found
-    ∙ bind_is (object o) _ m m x (object_is m o x there)
-    ∙ then_is (need (not (is_dir x)) refusal.IsDir) _ m m tt (need_is _ _ m (ap not file))
-    ∙ bind_is (vacant b) _ m m d absent
-    ∙ bind_is (object d) _ m m y (object_is m d y here)
-    ∙ then_is (need (fs_number x == fs_number y) refusal.CrossFs) _ m m tt (need_is _ _ m one_fs)
-    ∙ bind_is frame _ m m m (frame_is m)
+    link_led pid target path f l m a b d o x y led_a led_b found there file absent here one_fs
     ∙ then_refused (need (has_room_for_a_name m) refusal.NoEntry) _ m m refusal.NoEntry (need_refused _ _ m full)
 
 pub unlink_is : (pid : ℕ) (path : PathOf) (f m h g : Frame) (s : Spot) (d : ℕ) (x : Object) → spot_at pid path f ≡ Pass s m → at m.objects s.object ≡ Some x

@@ -62,26 +62,11 @@ read_known t pid fd count f =
     let seen : leq (join x.label e.entry.label) q.label ≡ true = subst (λ (z : Process). leq (join x.label e.entry.label) z.label ≡ true) (one_living _ p q lives again) sees in
     let object_seen : leq x.label q.label ≡ true = leq-trans x.label (join x.label e.entry.label) q.label (leq-join_left x.label e.entry.label) seen in
     let entry_seen : leq e.entry.label q.label ≡ true = leq-trans e.entry.label (join x.label e.entry.label) q.label (leq-join_right x.label e.entry.label) seen in
-    ends_floated Anything Q q x e _ g
-    (λ file. for_each (behind f pid fd) (λ b. ReadFacts pid f b (record g { opens = change g.opens e.id (λ y. record y { label = join y.label q.label }) })) e is (record {
-      object = x;
-      is_object = here;
-      process = q;
-      lives = again;
-      sees_object = object_seen;
-      sees_entry = entry_seen;
-      entry =
-          λ other y there. (joined g.opens e.id q.label y there).2;
-    }))
-    (λ pipe. for_each (behind f pid fd) (λ b. ReadFacts pid f b g) e is (record {
-      object = x;
-      is_object = here;
-      process = q;
-      lives = again;
-      sees_object = object_seen;
-      sees_entry = entry_seen;
-      entry = λ other y there. absurd (true≢false (sym (not-false _ pipe) ∙ other));
-    }))))))
+    let known : (t : List (Option Open)) → (is_pipe x ≡ false → (y : Open) → at t e.id ≡ Some y → leq q.label y.label ≡ true) → (b : OpenFile) → behind f pid fd ≡ Some b → ReadFacts pid f b (record g { opens = t }) =
+    λ t entry. for_each (behind f pid fd) (λ b. ReadFacts pid f b (record g { opens = t })) e is
+    (record { object = x; is_object = here; process = q; lives = again; sees_object = object_seen; sees_entry = entry_seen; entry = entry }) in
+    ends_floated Anything Q q x e _ g (λ file. known _ (λ other y there. (joined g.opens e.id q.label y there).2))
+    (λ pipe. known g.opens (λ other y there. absurd (true≢false (sym (not-false _ pipe) ∙ other))))))))
 
 -- ---- a write
 pub record WriteFacts (pid : ℕ) (f : Frame) (e : OpenFile) (g : Frame) : Type 0 where
@@ -106,29 +91,17 @@ write_known t pid fd f =
       leq-trans q.label (join q.label e.entry.label) y.label (leq-join_left q.label e.entry.label) h,
       leq-trans e.entry.label (join q.label e.entry.label) y.label (leq-join_right q.label e.entry.label) h,
     ) in
+    let known : (t : List (Option Open)) → (is_pipe x ≡ false → (y : Open) → at t e.id ≡ Some y → (leq q.label y.label ≡ true) × (leq e.entry.label y.label ≡ true)) 
+    → (b : OpenFile) → behind f pid fd ≡ Some b → WriteFacts pid f b (record g { opens = t }) =
+    λ t entry. for_each (behind f pid fd) (λ b. WriteFacts pid f b (record g { opens = t })) e is
+    (record { object = x; is_object = here; caller = q; is_caller = own; processes = processes; takes = takes_own; entry = entry }) in
     ends_floated Anything Q q x e _ g
-    (λ file. for_each (behind f pid fd) (λ b. WriteFacts pid f b (record g { opens = change g.opens e.id (λ y. record y { label = join y.label q.label }) })) e is (record {
-      object = x;
-      is_object = here;
-      caller = q;
-      is_caller = own;
-      processes = processes;
-      takes = takes_own;
-      entry = λ other y there.
-          let j = joined g.opens e.id q.label y there in
-          let h : Some e.entry ≡ Some j.0 = sym (behind_is f pid fd e is) ∙ ap (λ t. at t e.id) (sym opens) ∙ j.1 in
-          let entry : e.entry ≡ j.0 = cc in
-          (j.2, subst (λ (z : Open). leq z.label y.label ≡ true) (sym entry) j.3);
-    }))
-    (λ pipe. for_each (behind f pid fd) (λ b. WriteFacts pid f b g) e is (record {
-      object = x;
-      is_object = here;
-      caller = q;
-      is_caller = own;
-      processes = processes;
-      takes = takes_own;
-      entry = λ other y there. absurd (true≢false (sym (not-false _ pipe) ∙ other));
-    })))))
+    (λ file. known _ (λ other y there.
+        let j = joined g.opens e.id q.label y there in
+        let h : Some e.entry ≡ Some j.0 = sym (behind_is f pid fd e is) ∙ ap (λ t. at t e.id) (sym opens) ∙ j.1 in
+        let entry : e.entry ≡ j.0 = cc in
+        (j.2, subst (λ (z : Open). leq z.label y.label ≡ true) (sym entry) j.3)))
+    (λ pipe. known g.opens (λ other y there. absurd (true≢false (sym (not-false _ pipe) ∙ other)))))))
 
 -- ---- a look at a file
 -- walks leave the objects and the log as they are

@@ -123,27 +123,6 @@ module _ (f : Frame) (c d : Content) (same : zero_content c ≡ zero_content d) 
       (emptied e.entry.object) (λ x. emptied_zero e.entry.object x) (λ x. emptied_zero e.entry.object x)) (kept g)
   pex_outline None r g = kept g
 
-  answer_outline : (pid : ℕ) (o : Op) (e : Decision) → Zeroed (answer one pid o e) (answer other pid o e)
-  unfolding answer plainly
-  answer_outline pid (op.ReadFd fd count) e = read_outline count (behind f pid fd) _ _
-  answer_outline pid (op.WriteFd fd bytes) e = write_outline bytes bytes refl (behind f pid fd) _ _
-  answer_outline pid (op.CutFd fd len) e = cut_outline len (behind f pid fd) _ _
-  answer_outline pid (op.SeekFd fd offset) e = seek_outline offset (behind f pid fd) _ _
-  answer_outline pid (op.StatAt path) e = stat_outline _ _
-  answer_outline pid (op.Exit status) e = exit_outline pid status status _ _
-  answer_outline pid op.WaitChild e = wait_outline _ _
-  answer_outline pid (op.Pex fd) e = pex_outline (behind f pid fd) _ _
-  answer_outline pid o e = kept e.frame
-
-  replaced_outline : (pid : ℕ) (o p : Op) (e : Decision) → ReplacedInLength o p → Zeroed (answer one pid o e) (answer other pid p e)
-  unfolding answer plainly
-  replaced_outline pid _ _ e (Written {fd = fd} {a = a} {b = b} long) = write_outline a b (same_zeros a b long) (behind f pid fd) _ _
-  replaced_outline pid _ _ e (Exited {s = s} {t = t}) = exit_outline pid s t _ _
-
-  like_outline : (pid : ℕ) (o p : Op) (e : Decision) → AreLikeInLength o p → Zeroed (answer one pid o e) (answer other pid p e)
-  like_outline pid o p e (inl equal) = subst (λ (q : Op). Zeroed (answer one pid o e) (answer other pid q e)) equal (answer_outline pid o e)
-  like_outline pid o p e (inr replaced) = replaced_outline pid o p e replaced
-
   -- ---- replies
   abbrev Told : Given → Given → Type 0
   Told a b = but_status a.reply ≡ but_status b.reply
@@ -189,26 +168,31 @@ module _ (f : Frame) (c d : Content) (same : zero_content c ≡ zero_content d) 
   pex_replies (Some e) r g = refl
   pex_replies None r g = refl
 
-  answer_replies : (pid : ℕ) (o : Op) (e : Decision) → Told (answer one pid o e) (answer other pid o e)
-  unfolding answer plainly
-  answer_replies pid (op.ReadFd fd count) e = read_replies count (behind f pid fd) _ _
-  answer_replies pid (op.WriteFd fd bytes) e = write_replies bytes bytes refl (behind f pid fd) _ _
-  answer_replies pid (op.CutFd fd len) e = cut_replies len (behind f pid fd) _ _
-  answer_replies pid (op.SeekFd fd offset) e = seek_replies offset (behind f pid fd) _ _
-  answer_replies pid (op.StatAt path) e = stat_replies _ _
-  answer_replies pid (op.Exit status) e = exit_replies pid status status _ _
-  answer_replies pid op.WaitChild e = wait_replies _ _
-  answer_replies pid (op.Pex fd) e = pex_replies (behind f pid fd) _ _
-  answer_replies pid o e = refl
+  -- ---- both
+  abbrev Agreed : Given → Given → Type 0
+  Agreed a b = Zeroed a b × Told a b
 
-  replaced_replies : (pid : ℕ) (o p : Op) (e : Decision) → ReplacedInLength o p → Told (answer one pid o e) (answer other pid p e)
+  answer_agreed : (pid : ℕ) (o : Op) (e : Decision) → Agreed (answer one pid o e) (answer other pid o e)
   unfolding answer plainly
-  replaced_replies pid _ _ e (Written {fd = fd} {a = a} {b = b} long) = write_replies a b long (behind f pid fd) _ _
-  replaced_replies pid _ _ e (Exited {s = s} {t = t}) = exit_replies pid s t _ _
+  answer_agreed pid (op.ReadFd fd count) e = (read_outline count (behind f pid fd) _ _, read_replies count (behind f pid fd) _ _)
+  answer_agreed pid (op.WriteFd fd bytes) e = (write_outline bytes bytes refl (behind f pid fd) _ _, write_replies bytes bytes refl (behind f pid fd) _ _)
+  answer_agreed pid (op.CutFd fd len) e = (cut_outline len (behind f pid fd) _ _, cut_replies len (behind f pid fd) _ _)
+  answer_agreed pid (op.SeekFd fd offset) e = (seek_outline offset (behind f pid fd) _ _, seek_replies offset (behind f pid fd) _ _)
+  answer_agreed pid (op.StatAt path) e = (stat_outline _ _, stat_replies _ _)
+  answer_agreed pid (op.Exit status) e = (exit_outline pid status status _ _, exit_replies pid status status _ _)
+  answer_agreed pid op.WaitChild e = (wait_outline _ _, wait_replies _ _)
+  answer_agreed pid (op.Pex fd) e = (pex_outline (behind f pid fd) _ _, pex_replies (behind f pid fd) _ _)
+  answer_agreed pid o e = (kept e.frame, refl)
 
-  like_replies : (pid : ℕ) (o p : Op) (e : Decision) → AreLikeInLength o p → Told (answer one pid o e) (answer other pid p e)
-  like_replies pid o p e (inl equal) = subst (λ (q : Op). Told (answer one pid o e) (answer other pid q e)) equal (answer_replies pid o e)
-  like_replies pid o p e (inr replaced) = replaced_replies pid o p e replaced
+  replaced_agreed : (pid : ℕ) (o p : Op) (e : Decision) → ReplacedInLength o p → Agreed (answer one pid o e) (answer other pid p e)
+  unfolding answer plainly
+  replaced_agreed pid _ _ e (Written {fd = fd} {a = a} {b = b} long) =
+      (write_outline a b (same_zeros a b long) (behind f pid fd) _ _, write_replies a b long (behind f pid fd) _ _)
+  replaced_agreed pid _ _ e (Exited {s = s} {t = t}) = (exit_outline pid s t _ _, exit_replies pid s t _ _)
+
+  like_agreed : (pid : ℕ) (o p : Op) (e : Decision) → AreLikeInLength o p → Agreed (answer one pid o e) (answer other pid p e)
+  like_agreed pid o p e (inl equal) = subst (λ (q : Op). Agreed (answer one pid o e) (answer other pid q e)) equal (answer_agreed pid o e)
+  like_agreed pid o p e (inr replaced) = replaced_agreed pid o p e replaced
 
   -- ---- what is told
   told_same : (pid : ℕ) (o : Op) → told one pid o ≡ told other pid o
@@ -249,10 +233,10 @@ at_one_frame f c d place pid o p same like =
     let right : Decision = verdict (told w pid p) place pid p f in
     let told_one : told v pid o ≡ told w pid p = told_same f c d same pid o ∙ like_told w pid o p like in
     let one : left ≡ right = ap (λ t. verdict t place pid o f) told_one ∙ (like_twins o p like).verdicts (told w pid p) place pid f in
-    let contents : zero_content (step v place pid o).world.content ≡ zero_content (step w place pid p).world.content = like_outline f c d same pid o p left like
+    let contents : zero_content (step v place pid o).world.content ≡ zero_content (step w place pid p).world.content = (like_agreed f c d same pid o p left like).0
     ∙ ap (λ (e : Decision). zero_content (answer w pid p e).world.content) one in
     record {
-      replies = like_replies f c d same pid o p left like ∙ ap (λ (e : Decision). but_status (answer w pid p e).reply) one;
+      replies = (like_agreed f c d same pid o p left like).1 ∙ ap (λ (e : Decision). but_status (answer w pid p e).reply) one;
       outlines = outline_from _ _ (step_frame v place pid o ∙ ap (λ (e : Decision). e.frame) one ∙ sym (step_frame w place pid p)) contents;
     }
 

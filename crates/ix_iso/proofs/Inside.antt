@@ -1,7 +1,7 @@
 -- What two contents hold alike is carried over alike.
 use Rattle.std.proofs.Common.{◌≡◌, ◌+◌, ℕ, zero, suc, Bool, true, false, ◌&&◌, List, [], ◌∷◌, ◌++◌, length, replicate, Option, Some, None, is_some}
 use Rattle.std.proofs.Common.{if◌then◌else◌, refl, sym, ap, ◌∙◌, arith, get_or, set}
-use Rattle.std.proofs.lemmas.Bool.{and_parts}
+use Rattle.std.proofs.lemmas.Bool.{and_parts, true_from_ne_false}
 use Rattle.ix_label.specs.Category.{Categories, leq}
 use Rattle.ix_label.specs.Lattice.{leq-trans}
 use Rattle.ix_model.specs.world.World.{Frame, Content, Holding, Object, Process, Open, at, is_ended}
@@ -17,18 +17,10 @@ use Rattle.ix_iso.proofs.Entries.{EntriesRise}
 -- ---- what doesn't cross was low
 module _ (l : Categories) (f g : Frame) (steady : Crosses l f g → ⊥) where
   pub object_was_low : (o : ℕ) (x y : Object) → at f.objects o ≡ Some x → at g.objects o ≡ Some y → leq y.label l ≡ true → leq x.label l ≡ true
-  object_was_low o x y is here below = go (leq x.label l) refl
-    where
-      go : (b : Bool) → leq x.label l ≡ b → leq x.label l ≡ true
-      go true e = e
-      go false e = absurd (steady (low.OfObject o x y is here e below))
+  object_was_low o x y is here below = true_from_ne_false (leq x.label l) (λ e. steady (low.OfObject o x y is here e below))
 
   pub process_was_low : (p : ℕ) (x y : Process) → at f.processes p ≡ Some x → at g.processes p ≡ Some y → leq y.label l ≡ true → leq x.label l ≡ true
-  process_was_low p x y is here below = go (leq x.label l) refl
-    where
-      go : (b : Bool) → leq x.label l ≡ b → leq x.label l ≡ true
-      go true e = e
-      go false e = absurd (steady (low.OfProcess p x y is here e below))
+  process_was_low p x y is here below = true_from_ne_false (leq x.label l) (λ e. steady (low.OfProcess p x y is here e below))
 
 -- ---- what is carried over, by number
 zeros_at : (m n : ℕ) → ◌≡◌ {A = ℕ} (get_or (replicate m 0) n 0) 0

@@ -1,7 +1,6 @@
 -- Replies of one kind, by number.
-use Rattle.std.proofs.Common.{◌≡◌, ◌+◌, ℕ, true, true≢false, [], ◌∷◌, refl, sym, ap, ◌∙◌, arith, slice_index_or}
-use Rattle.std.proofs.lemmas.Bool.{eqb-true}
-use Rattle.std.specs.Cmp.{unsigned_Decides}
+use Rattle.std.proofs.Common.{◌≡◌, ◌+◌, ℕ, true, false, true≢false, [], ◌∷◌, ◌⊎◌, inl, inr, refl, sym, ap, ◌∙◌, arith, slice_index_or}
+use Rattle.std.proofs.lemmas.Bool.Decides.{eqb_tells}
 use Rattle.ix_model.specs.rows.Refusals.{number_of}
 use Rattle.ix_model.specs.two_runs.TwoRuns.{is_one_kind}
 use Rattle.ix_model.specs.declared.refusal.Refusal.{Refusal}
@@ -79,50 +78,35 @@ kind_number (reply.LogLine x) = 9
 kind_number (reply.Child p x) = 10
 kind_number (reply.No why) = 11 + number_of why
 
+-- two replies are of one kind where their numbers are equal
+kinds_compared : (a b : Reply) → ((is_one_kind a b ≡ true) × (kind_number a ≡ kind_number b)) ⊎ ((is_one_kind a b ≡ false) × (kind_number a ≡ kind_number b → ⊥))
+kinds_compared (reply.No why) (reply.No other) = elim (eqb_tells (number_of why) (number_of other)) [
+  | inl same ↦ inl (same.0, ap (λ n. 11 + n) same.1)
+  | inr apart ↦ inr (apart.0, λ h. apart.1 (omega (arith, h)))
+]
+kinds_compared reply.Done reply.Done = inl (refl, refl)
+kinds_compared (reply.Number m) (reply.Number n) = inl (refl, refl)
+kinds_compared (reply.Two a b) (reply.Two c d) = inl (refl, refl)
+kinds_compared (reply.Bytes m) (reply.Bytes n) = inl (refl, refl)
+kinds_compared (reply.Stat o kind size links frozen x y) (reply.Stat o2 kind2 size2 links2 frozen2 x2 y2) = inl (refl, refl)
+kinds_compared (reply.Lab a) (reply.Lab b) = inl (refl, refl)
+kinds_compared (reply.Named m n) (reply.Named name o) = inl (refl, refl)
+kinds_compared reply.Half reply.Half = inl (refl, refl)
+kinds_compared (reply.Whole p a x) (reply.Whole q b y) = inl (refl, refl)
+kinds_compared (reply.LogLine x) (reply.LogLine y) = inl (refl, refl)
+kinds_compared (reply.Child p x) (reply.Child q y) = inl (refl, refl)
+kinds_compared a b = inr (refl, λ h. absurd (omega (arith, h)))
+
 pub kinds_equal : (a b : Reply) → is_one_kind a b ≡ true → kind_number a ≡ kind_number b
-kinds_equal (reply.No why) (reply.No other) h = ap (λ n. 11 + n) (eqb-true (number_of why) (number_of other) h)
-kinds_equal reply.Done reply.Done h = refl
-kinds_equal (reply.Number m) (reply.Number n) h = refl
-kinds_equal (reply.Two a b) (reply.Two c d) h = refl
-kinds_equal (reply.Bytes m) (reply.Bytes n) h = refl
-kinds_equal (reply.Stat o kind size links frozen x y) (reply.Stat o2 kind2 size2 links2 frozen2 x2 y2) h = refl
-kinds_equal (reply.Lab a) (reply.Lab b) h = refl
-kinds_equal (reply.Named m n) (reply.Named name o) h = refl
-kinds_equal reply.Half reply.Half h = refl
-kinds_equal (reply.Whole p a x) (reply.Whole q b y) h = refl
-kinds_equal (reply.LogLine x) (reply.LogLine y) h = refl
-kinds_equal (reply.Child p x) (reply.Child q y) h = refl
-kinds_equal a b h = absurd (true≢false (sym h))
+kinds_equal a b h = elim (kinds_compared a b) [ inl one ↦ one.1 | inr apart ↦ absurd (true≢false (sym h ∙ apart.0)) ]
 
 pub equal_kinds : (a b : Reply) → kind_number a ≡ kind_number b → is_one_kind a b ≡ true
-equal_kinds (reply.No why) (reply.No other) h = (unsigned_Decides (number_of why) (number_of other)).1 (omega (arith, h))
-equal_kinds reply.Done reply.Done h = refl
-equal_kinds (reply.Number m) (reply.Number n) h = refl
-equal_kinds (reply.Two a b) (reply.Two c d) h = refl
-equal_kinds (reply.Bytes m) (reply.Bytes n) h = refl
-equal_kinds (reply.Stat o kind size links frozen x y) (reply.Stat o2 kind2 size2 links2 frozen2 x2 y2) h = refl
-equal_kinds (reply.Lab a) (reply.Lab b) h = refl
-equal_kinds (reply.Named m n) (reply.Named name o) h = refl
-equal_kinds reply.Half reply.Half h = refl
-equal_kinds (reply.Whole p a x) (reply.Whole q b y) h = refl
-equal_kinds (reply.LogLine x) (reply.LogLine y) h = refl
-equal_kinds (reply.Child p x) (reply.Child q y) h = refl
-equal_kinds a b h = absurd (omega (arith, h))
+equal_kinds a b h = elim (kinds_compared a b) [ inl one ↦ one.0 | inr apart ↦ absurd (apart.1 h) ]
 
 -- replies that are equal but for a status are of one kind
 kind_but_status : (r : Reply) → kind_number (but_status r) ≡ kind_number r
 kind_but_status (reply.Child p x) = refl
-kind_but_status reply.Done = refl
-kind_but_status (reply.Number n) = refl
-kind_but_status (reply.Two a b) = refl
-kind_but_status (reply.Bytes k) = refl
-kind_but_status (reply.Stat o kind size links frozen x y) = refl
-kind_but_status (reply.Lab a) = refl
-kind_but_status (reply.Named name o) = refl
-kind_but_status reply.Half = refl
-kind_but_status (reply.Whole p a x) = refl
-kind_but_status (reply.LogLine x) = refl
-kind_but_status (reply.No why) = refl
+kind_but_status r = refl
 
 pub one_kind : (a b : Reply) → but_status a ≡ but_status b → is_one_kind a b ≡ true
 one_kind a b h = equal_kinds a b (sym (kind_but_status a) ∙ ap kind_number h ∙ kind_but_status b)

@@ -9,7 +9,7 @@ use Rattle.ix_label.specs.declared.form.Form.TheVariants.{One, Two}
 use Rattle.ix_label.specs.Category.{Categories, bottom, join}
 use Rattle.ix_label.specs.Forms.{Fits}
 use Rattle.ix_label.specs.Narrow.{narrow-bottom, narrow-join}
-use Rattle.ix_model.specs.world.World.{Object, Process, Open, at, put, change}
+use Rattle.ix_model.specs.world.World.{Frame, Object, Process, Open, at, put, change}
 use Rattle.ix_model.specs.rows.Rows.{change_object, change_process, change_open, put_object, put_open, put_process, add_process}
 use Rattle.ix_model.specs.rows.Auditing.{logged}
 use Rattle.ix_model.specs.rows.OnProcesses.{remains, end_process}
@@ -75,143 +75,68 @@ all_left P t pid keeps all m y here = elim (at_put t pid m (option_and_then rema
 
 -- ---- the words
 module _ (form : Form) where
+  -- a frame fits with another of its tables, where that fits
+  with_objects : (g : Frame) (t : List (Option Object)) → FrameFits form g → AllAt (λ (x : Object). Fits form x.label) t → FrameFits form (record g { objects = t })
+  with_objects g t r fit = record { fss = r.fss; objects = fit; labels = r.labels; ceilings = r.ceilings; opens = r.opens; log = r.log }
+
+  with_processes : (g : Frame) (t : List (Option Process)) → FrameFits form g → AllAt (λ (q : Process). Fits form q.label) t → AllAt (λ (q : Process). Fits form q.ceiling) t
+      → FrameFits form (record g { processes = t })
+  with_processes g t r label ceiling = record { fss = r.fss; objects = r.objects; labels = label; ceilings = ceiling; opens = r.opens; log = r.log }
+
+  with_opens : (g : Frame) (t : List (Option Open)) → FrameFits form g → AllAt (λ (x : Open). Fits form x.label) t → FrameFits form (record g { opens = t })
+  with_opens g t r fit = record { fss = r.fss; objects = r.objects; labels = r.labels; ceilings = r.ceilings; opens = fit; log = r.log }
+
   pub fits_object : (o : ℕ) (h : Object → Object) → ((x : Object) → Fits form x.label → Fits form (h x).label) → Keeps (FrameFits form) (change_object o h)
   unfolding change_object Holds
-  fits_object o h keeps = record {
-    led =
-        λ g r. record {
-          fss = r.fss;
-          objects = all_changed (λ (x : Object). Fits form x.label) g.objects r.objects o h keeps;
-          labels = r.labels;
-          ceilings =
-              r.ceilings;
-          opens = r.opens;
-          log = r.log;
-        };
-  }
+  fits_object o h keeps = record { led = λ g r. with_objects g _ r (all_changed (λ (x : Object). Fits form x.label) g.objects r.objects o h keeps) }
 
   pub fits_process : (p : ℕ) (h : Process → Process) → ((q : Process) → Fits form q.label → Fits form (h q).label)
       → ((q : Process) → Fits form q.ceiling → Fits form (h q).ceiling) → Keeps (FrameFits form) (change_process p h)
   unfolding change_process Holds
   fits_process p h labels ceilings = record {
-    led = λ g r. record {
-      fss = r.fss;
-      objects = r.objects;
-      labels = all_changed (λ (q : Process). Fits form q.label) g.processes r.labels p h labels;
-      ceilings = all_changed (λ (q : Process). Fits form q.ceiling) g.processes r.ceilings p h ceilings;
-      opens = r.opens;
-      log = r.log;
-    };
+    led = λ g r. with_processes g _ r (all_changed (λ (q : Process). Fits form q.label) g.processes r.labels p h labels)
+        (all_changed (λ (q : Process). Fits form q.ceiling) g.processes r.ceilings p h ceilings);
   }
 
   pub fits_open : (e : ℕ) (h : Open → Open) → ((x : Open) → Fits form x.label → Fits form (h x).label) → Keeps (FrameFits form) (change_open e h)
   unfolding change_open Holds
-  fits_open e h keeps = record {
-    led = λ g r. record {
-      fss = r.fss;
-      objects = r.objects;
-      labels = r.labels;
-      ceilings = r.ceilings;
-      opens =
-          all_changed (λ (x : Open). Fits form x.label) g.opens r.opens e h keeps;
-      log = r.log;
-    };
-  }
+  fits_open e h keeps = record { led = λ g r. with_opens g _ r (all_changed (λ (x : Open). Fits form x.label) g.opens r.opens e h keeps) }
 
   pub fits_new_object : (o : ℕ) (x : Object) → Fits form x.label → Keeps (FrameFits form) (put_object o (Some x))
   unfolding put_object Holds
-  fits_new_object o x fits =
-      record {
-        led = λ g r. record {
-          fss = r.fss;
-          objects = all_put (λ (x : Object). Fits form x.label) g.objects r.objects o x fits;
-          labels =
-              r.labels;
-          ceilings = r.ceilings;
-          opens = r.opens;
-          log = r.log;
-        };
-      }
+  fits_new_object o x fits = record { led = λ g r. with_objects g _ r (all_put (λ (x : Object). Fits form x.label) g.objects r.objects o x fits) }
 
   pub fits_no_object : (o : ℕ) → Keeps (FrameFits form) (put_object o None)
   unfolding put_object Holds
-  fits_no_object o = record {
-    led = λ g r. record {
-      fss = r.fss;
-      objects = all_gone (λ (x : Object). Fits form x.label) g.objects r.objects o;
-      labels =
-          r.labels;
-      ceilings = r.ceilings;
-      opens = r.opens;
-      log = r.log;
-    };
-  }
+  fits_no_object o = record { led = λ g r. with_objects g _ r (all_gone (λ (x : Object). Fits form x.label) g.objects r.objects o) }
 
   pub fits_new_open : (e : ℕ) (x : Open) → Fits form x.label → Keeps (FrameFits form) (put_open e (Some x))
   unfolding put_open Holds
-  fits_new_open e x fits = record {
-    led = λ g r. record {
-      fss = r.fss;
-      objects = r.objects;
-      labels = r.labels;
-      ceilings = r.ceilings;
-      opens =
-          all_put (λ (x : Open). Fits form x.label) g.opens r.opens e x fits;
-      log = r.log;
-    };
-  }
+  fits_new_open e x fits = record { led = λ g r. with_opens g _ r (all_put (λ (x : Open). Fits form x.label) g.opens r.opens e x fits) }
 
   pub fits_no_open : (e : ℕ) → Keeps (FrameFits form) (put_open e None)
   unfolding put_open Holds
-  fits_no_open e = record {
-    led = λ g r. record {
-      fss = r.fss;
-      objects = r.objects;
-      labels = r.labels;
-      ceilings = r.ceilings;
-      opens =
-          all_gone (λ (x : Open). Fits form x.label) g.opens r.opens e;
-      log = r.log;
-    };
-  }
+  fits_no_open e = record { led = λ g r. with_opens g _ r (all_gone (λ (x : Open). Fits form x.label) g.opens r.opens e) }
 
   pub fits_child : (p : Process) → Fits form p.label → Fits form p.ceiling → Keeps (FrameFits form) (add_process p)
   unfolding add_process Holds
   fits_child p label ceiling = record {
-    led = λ g r. record {
-      fss = r.fss;
-      objects = r.objects;
-      labels = all_pushed (λ (q : Process). Fits form q.label) g.processes r.labels p label;
-      ceilings = all_pushed (λ (q : Process). Fits form q.ceiling) g.processes r.ceilings p ceiling;
-      opens = r.opens;
-      log = r.log;
-    };
+    led = λ g r. with_processes g _ r (all_pushed (λ (q : Process). Fits form q.label) g.processes r.labels p label)
+        (all_pushed (λ (q : Process). Fits form q.ceiling) g.processes r.ceilings p ceiling);
   }
 
   pub fits_collected : (p : ℕ) → Keeps (FrameFits form) (put_process p None)
   unfolding put_process Holds
   fits_collected p = record {
-    led = λ g r. record {
-      fss = r.fss;
-      objects = r.objects;
-      labels = all_gone (λ (q : Process). Fits form q.label) g.processes r.labels p;
-      ceilings = all_gone (λ (q : Process). Fits form q.ceiling) g.processes r.ceilings p;
-      opens = r.opens;
-      log = r.log;
-    };
+    led = λ g r. with_processes g _ r (all_gone (λ (q : Process). Fits form q.label) g.processes r.labels p)
+        (all_gone (λ (q : Process). Fits form q.ceiling) g.processes r.ceilings p);
   }
 
   pub fits_end : (pid : ℕ) → Keeps (FrameFits form) (end_process pid)
   unfolding end_process put_process Holds
   fits_end pid = record {
-    led = λ g r. record {
-      fss = r.fss;
-      objects = r.objects;
-      labels = all_left (λ (q : Process). Fits form q.label) g.processes pid (λ q h. h) r.labels;
-      ceilings = all_left (λ (q : Process). Fits form q.ceiling) g.processes pid (λ q h. h) r.ceilings;
-      opens = r.opens;
-      log = r.log;
-    };
+    led = λ g r. with_processes g _ r (all_left (λ (q : Process). Fits form q.label) g.processes pid (λ q h. h) r.labels)
+        (all_left (λ (q : Process). Fits form q.ceiling) g.processes pid (λ q h. h) r.ceilings);
   }
 
   pub fits_logged : (l : AuditLine) → Fits form l.was → Fits form l.now → Keeps (FrameFits form) (logged l)
