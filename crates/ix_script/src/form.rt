@@ -139,6 +139,8 @@ macro_rules! return_by_text {
     };
 }
 
+pub(crate) use return_by_text;
+
 /// The form of a line by its first word. Those that most lines have come first.
 pub(crate) fn form_of(word: &[u8]) -> Option<Form>
     ensures { result ≡ form_of word.now }

@@ -5,6 +5,7 @@ ghost use Rattle.ix_script.specs.{texts.Cutting.{policy_text, word_at}, texts.Wo
 ghost use Rattle.{ix_model.specs.world.Naming.{same_bytes}, ix_text.specs.{Bytes.{is_digit, begins_with}, Labels.{label_in}, Names.{name_of}}};
 
 use crate::fail::Rule;
+use crate::form::return_by_text;
 use crate::line::{FdWord, KeepWord, What};
 use crate::words::Words;
 use ix_label::{Form, Label};
@@ -95,27 +96,22 @@ pub(crate) fn mode_of(word: &[u8]) -> Option<Mode>
 pub(crate) fn state_of(word: &[u8]) -> Option<bool>
     ensures { result ≡ state_of word.now }
 {
-    if is(word, b"free") {
-        Some(false)
-    } else if is(word, b"frozen") {
-        Some(true)
-    } else {
-        None
-    }
+    return_by_text!(word; b"free" => false, b"frozen" => true,);
+    None
 }
 
 #[tactic(auto, unfolding(crate::specs::texts::Words::what_of))]
 pub(crate) fn what_of(word: &[u8]) -> Option<What>
     ensures { result ≡ what_of word.now }
 {
-    match word {
-        b"procs" => Some(What::Procs),
-        b"opens" => Some(What::Opens),
-        b"pipes" => Some(What::Pipes),
-        b"names" => Some(What::Names),
-        b"log" => Some(What::Log),
-        _ => None,
-    }
+    return_by_text!(word;
+        b"procs" => What::Procs,
+        b"opens" => What::Opens,
+        b"pipes" => What::Pipes,
+        b"names" => What::Names,
+        b"log" => What::Log,
+    );
+    None
 }
 
 fn all_digits(word: &[u8]) -> bool
@@ -203,10 +199,10 @@ pub(crate) fn fd_fault(word: &[u8]) -> Option<Rule>
 pub(crate) fn keep_fault(word: &[u8]) -> Option<Rule>
     ensures { IsFault result ((kind.Keep, word.now) ∷ []) }
 {
-    match word {
-        b"all" | b"none" => None,
-        _ => fd_fault(word),
+    if is(word, b"all") || is(word, b"none") {
+        return None;
     }
+    fd_fault(word)
 }
 
 #[tactic(auto, unfolding(crate::specs::texts::Words::fd_of))]

@@ -118,13 +118,8 @@ fn repeated(bytes: &[u8]) -> Option<u8>
     ensures { result ≡ once bytes.now }
 {
     match bytes {
-        [] => None,
-        [first, rest @ ..] => {
-            if are_all(*first, rest) {
-                return Some(*first);
-            }
-            None
-        }
+        [first, rest @ ..] if are_all(*first, rest) => Some(*first),
+        _ => None,
     }
 }
 
