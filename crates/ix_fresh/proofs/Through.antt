@@ -59,13 +59,13 @@ read_known t pid fd count f =
     let there : at g.objects e.entry.object ≡ Some x = ap (λ u. at u e.entry.object) objects ∙ here in
     let stood : at g.opens e.id ≡ Some e.entry = ap (λ u. at u e.id) opens ∙ behind_is f pid fd e is in
     let known : (t : List (Option Open)) → ((y : Open) → at t e.id ≡ Some y → leq y.label q.label ≡ true)
-        → (is_pipe x ≡ false → (y : Open) → at t e.id ≡ Some y → leq q.label y.label ≡ true) → ReadFacts pid fd f (record g { opens = t }) =
+    → (is_pipe x ≡ false → (y : Open) → at t e.id ≡ Some y → leq q.label y.label ≡ true) → ReadFacts pid fd f (record g { opens = t }) =
     λ t entry taken_in.
     record { through = e; is_behind = is; object = x; is_object = there; process = q; lives = again; sees = object_seen; entry = entry; taken_in = taken_in } in
     ends_floated Anything Q q x e _ g
     (λ file. known _ (λ y now. (read_entry g.opens e.id e.entry q.label y stood entry_seen now).0) (λ other y now. (read_entry g.opens e.id e.entry q.label y stood entry_seen now).1))
     (λ pipe. known g.opens (λ y now. subst (λ (z : Open). leq z.label q.label ≡ true) (one_there (at g.opens e.id) e.entry y stood now) entry_seen)
-        (λ other y now. absurd (true≢false (sym (not-false _ pipe) ∙ other)))))))
+    (λ other y now. absurd (true≢false (sym (not-false _ pipe) ∙ other))))))))
 
 -- ---- a write
 -- the object's label is at or above the caller's and the open entry's, and a file's open entry has taken the caller's in
@@ -94,17 +94,17 @@ write_known t pid fd f =
     let lives_on : living (at g.processes pid) ≡ Some q = ap (λ u. living (at u pid)) processes ∙ own in
     let stood : at g.opens e.id ≡ Some e.entry = ap (λ u. at u e.id) opens ∙ behind_is f pid fd e is in
     let known : (t : List (Option Open)) → ((z : Object) (y : Open) → at g.objects e.entry.object ≡ Some z → at t e.id ≡ Some y → leq y.label z.label ≡ true)
-        → (is_pipe x ≡ false → (y : Open) → at t e.id ≡ Some y → leq q.label y.label ≡ true) → WriteFacts pid fd f (record g { opens = t }) =
+    → (is_pipe x ≡ false → (y : Open) → at t e.id ≡ Some y → leq q.label y.label ≡ true) → WriteFacts pid fd f (record g { opens = t }) =
     λ t entry taken_in.
     record { through = e; is_behind = is; object = x; is_object = here; process = q; lives = lives_on; takes = takes_own; entry = entry; taken_in = taken_in } in
     ends_floated Anything Q q x e _ g
     (λ file. known _
-        (λ z y now there.
-        let j = joined g.opens e.id q.label y there in
-        let entry_low : leq j.was.label z.label ≡ true = subst (λ (v : Open). leq v.label z.label ≡ true) (one_there (at g.opens e.id) e.entry j.was stood j.is_was) (takes_entry z now) in
-        subst (λ (a : Categories). leq a z.label ≡ true) (sym j.label) (join-least j.was.label q.label z.label entry_low (takes_own z now)))
-        (λ other y there.
-        let j = joined g.opens e.id q.label y there in
-        subst (λ (a : Categories). leq q.label a ≡ true) (sym j.label) (leq-join_right j.was.label q.label)))
+    (λ z y now there.
+    let j = joined g.opens e.id q.label y there in
+    let entry_low : leq j.was.label z.label ≡ true = subst (λ (v : Open). leq v.label z.label ≡ true) (one_there (at g.opens e.id) e.entry j.was stood j.is_was) (takes_entry z now) in
+    subst (λ (a : Categories). leq a z.label ≡ true) (sym j.label) (join-least j.was.label q.label z.label entry_low (takes_own z now)))
+    (λ other y there.
+    let j = joined g.opens e.id q.label y there in
+    subst (λ (a : Categories). leq q.label a ≡ true) (sym j.label) (leq-join_right j.was.label q.label)))
     (λ pipe. known g.opens (λ z y now there. subst (λ (v : Open). leq v.label z.label ≡ true) (one_there (at g.opens e.id) e.entry y stood there) (takes_entry z now))
-        (λ other y there. absurd (true≢false (sym (not-false _ pipe) ∙ other))))))
+    (λ other y there. absurd (true≢false (sym (not-false _ pipe) ∙ other)))))))

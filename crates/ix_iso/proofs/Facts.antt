@@ -91,16 +91,16 @@ write_known t pid fd f =
       leq-trans q.label (join q.label e.entry.label) y.label (leq-join_left q.label e.entry.label) h,
       leq-trans e.entry.label (join q.label e.entry.label) y.label (leq-join_right q.label e.entry.label) h,
     ) in
-    let known : (t : List (Option Open)) → (is_pipe x ≡ false → (y : Open) → at t e.id ≡ Some y → (leq q.label y.label ≡ true) × (leq e.entry.label y.label ≡ true)) 
+    let known : (t : List (Option Open)) → (is_pipe x ≡ false → (y : Open) → at t e.id ≡ Some y → (leq q.label y.label ≡ true) × (leq e.entry.label y.label ≡ true))
     → (b : OpenFile) → behind f pid fd ≡ Some b → WriteFacts pid f b (record g { opens = t }) =
     λ t entry. for_each (behind f pid fd) (λ b. WriteFacts pid f b (record g { opens = t })) e is
     (record { object = x; is_object = here; caller = q; is_caller = own; processes = processes; takes = takes_own; entry = entry }) in
     ends_floated Anything Q q x e _ g
     (λ file. known _ (λ other y there.
-        let j = joined g.opens e.id q.label y there in
-        let h : Some e.entry ≡ Some j.0 = sym (behind_is f pid fd e is) ∙ ap (λ t. at t e.id) (sym opens) ∙ j.1 in
-        let entry : e.entry ≡ j.0 = cc in
-        (j.2, subst (λ (z : Open). leq z.label y.label ≡ true) (sym entry) j.3)))
+    let j = joined g.opens e.id q.label y there in
+    let h : Some e.entry ≡ Some j.0 = sym (behind_is f pid fd e is) ∙ ap (λ t. at t e.id) (sym opens) ∙ j.1 in
+    let entry : e.entry ≡ j.0 = cc in
+    (j.2, subst (λ (z : Open). leq z.label y.label ≡ true) (sym entry) j.3)))
     (λ pipe. known g.opens (λ other y there. absurd (true≢false (sym (not-false _ pipe) ∙ other)))))))
 
 -- ---- a look at a file
