@@ -28,7 +28,6 @@ use Rattle.ix_model.specs.declared.refusal.Refusal.{Refusal}
 use Rattle.ix_model.specs.declared.refusal.Refusal.TheVariants as refusal
 use Rattle.ix_model.proofs.tables.Tables.{change_same, change_twice}
 use Rattle.ix_model.proofs.words.Keeps.{Keeps, keeping}
-use Rattle.ix_model.proofs.words.EachRow.{each_row, opens_rows}
 use Rattle.ix_model.proofs.words.Ends.{Ends, ending, ends_more, ends_kept, kept_ends}
 use Rattle.ix_model.proofs.words.RowEnds.{endings, ends_let_go_object, ends_let_go, ends_let_go_all}
 use Rattle.ix_model.proofs.words.Looks.{ends_observe, ends_touch, ends_float_entry}
@@ -120,9 +119,179 @@ module _ (pid : ℕ) (f : Frame) where
   -- ---- the rows
   ruleset refusing = (endings, ends_look, ends_walked_to, ends_touch, ends_float_entry, ends_claimed, ends_let_go_object, ends_let_go, ends_let_go_all, relabelled_itself)
 
+  relabels_make : (path : PathOf) (kind : Kind) → Relabels is_bare pid f (make pid path kind f)
+  unfolding make missing
+  relabels_make path kind = search refusing depth 80 fits 16000
+
+  relabels_link_at : (target path : PathOf) → Relabels is_bare pid f (link_at pid target path f)
+  unfolding link_at
+  relabels_link_at target path = search refusing depth 80 fits 16000
+
+  relabels_unlink_at : (path : PathOf) → Relabels is_bare pid f (unlink_at pid path f)
+  unfolding unlink_at spot_at
+  relabels_unlink_at path = search refusing depth 80 fits 16000
+
+  relabels_remove_dir : (path : PathOf) → Relabels is_bare pid f (remove_dir pid path f)
+  unfolding remove_dir spot_at
+  relabels_remove_dir path = search refusing depth 80 fits 16000
+
+  relabels_open_at : (path : PathOf) (mode : Mode) → Relabels is_bare pid f (open_at pid path mode f)
+  unfolding open_at object_at
+  relabels_open_at path mode = search refusing depth 80 fits 16000
+
+  relabels_change_dir : (path : PathOf) → Relabels is_bare pid f (change_dir pid path f)
+  unfolding change_dir object_at
+  relabels_change_dir path = search refusing depth 80 fits 16000
+
+  relabels_stat_at : (path : PathOf) → Relabels is_bare pid f (stat_at pid path f)
+  unfolding stat_at object_at
+  relabels_stat_at path = search refusing depth 80 fits 16000
+
+  relabels_list_at : (path : PathOf) (index : ℕ) → Relabels is_bare pid f (list_at pid path index f)
+  unfolding list_at object_at
+  relabels_list_at path index = search refusing depth 80 fits 16000
+
+  relabels_read_fd : (t : LengthChecks) (fd count : ℕ) → Relabels is_answer pid f (read_fd t pid fd count f)
+  unfolding read_fd
+  relabels_read_fd t fd count = search refusing depth 80 fits 16000
+
+  relabels_write_fd : (t : LengthChecks) (fd : ℕ) → Relabels is_bare pid f (write_fd t pid fd f)
+  unfolding write_fd
+  relabels_write_fd t fd = search refusing depth 80 fits 16000
+
+  relabels_cut_fd : (t : LengthChecks) (fd len : ℕ) → Relabels is_bare pid f (cut_fd t pid fd len f)
+  unfolding cut_fd
+  relabels_cut_fd t fd len = search refusing depth 80 fits 16000
+
+  relabels_seek_fd : (fd offset : ℕ) → Relabels is_bare pid f (seek_fd pid fd offset f)
+  unfolding seek_fd
+  relabels_seek_fd fd offset = search refusing depth 80 fits 16000
+
+  relabels_dup_fd : (fd : ℕ) → Relabels is_bare pid f (dup_fd pid fd f)
+  unfolding dup_fd
+  relabels_dup_fd fd = search refusing depth 80 fits 16000
+
+  relabels_close_fd : (fd : ℕ) → Relabels is_bare pid f (close_fd pid fd f)
+  unfolding close_fd
+  relabels_close_fd fd = search refusing depth 80 fits 16000
+
+  relabels_make_pipe : Relabels is_bare pid f (make_pipe pid f)
+  unfolding make_pipe
+  relabels_make_pipe = search refusing depth 80 fits 16000
+
+  relabels_pex : (fd : ℕ) → Relabels is_bare pid f (pex pid fd f)
+  unfolding pex
+  relabels_pex fd = search refusing depth 80 fits 16000
+
+  relabels_unpex : (fd : ℕ) → Relabels is_bare pid f (unpex pid fd f)
+  unfolding unpex
+  relabels_unpex fd = search refusing depth 80 fits 16000
+
+  relabels_fork : (keep : Keep) → Relabels is_bare pid f (fork pid keep f)
+  unfolding fork
+  relabels_fork keep = search refusing depth 80 fits 16000
+
+  relabels_exec : (path : PathOf) → Relabels is_bare pid f (exec pid path f)
+  unfolding exec object_at
+  relabels_exec path = search refusing depth 80 fits 16000
+
+  relabels_exit : Relabels is_bare pid f (exit pid f)
+  unfolding exit
+  relabels_exit = search refusing depth 80 fits 16000
+
+  relabels_wait_child : Relabels is_bare pid f (wait_child pid f)
+  unfolding wait_child
+  relabels_wait_child = search refusing depth 80 fits 16000
+
+  relabels_label_of : (path : PathOf) → Relabels is_bare pid f (label_of pid path f)
+  unfolding label_of object_at
+  relabels_label_of path = search refusing depth 80 fits 16000
+
+  relabels_self_label : Relabels is_bare pid f (self_label pid f)
+  unfolding self_label
+  relabels_self_label = search refusing depth 80 fits 16000
+
+  relabels_set_label : (place : ℕ) (path : PathOf) (now : Categories) → Relabels is_bare pid f (set_label place pid path now f)
+  unfolding set_label object_at
+  relabels_set_label place path now = search refusing depth 80 fits 16000
+
+  relabels_set_self : (place : ℕ) (now : Categories) → Relabels is_bare pid f (set_self place pid now f)
+  unfolding set_self
+  relabels_set_self place now = search refusing depth 80 fits 16000
+
+  relabels_freeze : (path : PathOf) → Relabels is_bare pid f (freeze pid path f)
+  unfolding freeze object_at
+  relabels_freeze path = search refusing depth 80 fits 16000
+
+  relabels_freeze_self : Relabels is_bare pid f (freeze_self pid f)
+  unfolding freeze_self
+  relabels_freeze_self = search refusing depth 80 fits 16000
+
+  relabels_thaw : (place : ℕ) (path : PathOf) → Relabels is_bare pid f (thaw place pid path f)
+  unfolding thaw object_at
+  relabels_thaw place path = search refusing depth 80 fits 16000
+
+  relabels_thaw_self : (place : ℕ) → Relabels is_bare pid f (thaw_self place pid f)
+  unfolding thaw_self
+  relabels_thaw_self place = search refusing depth 80 fits 16000
+
+  relabels_set_priv : (place : ℕ) (path : PathOf) (cap lic : PrivSet) → Relabels is_bare pid f (set_priv place pid path cap lic f)
+  unfolding set_priv object_at
+  relabels_set_priv place path cap lic = search refusing depth 80 fits 16000
+
+  relabels_drop_lic : (set : PrivSet) → Relabels is_bare pid f (drop_lic pid set f)
+  unfolding drop_lic
+  relabels_drop_lic set = search refusing depth 80 fits 16000
+
+  relabels_grant_lic : (place target : ℕ) (set : PrivSet) → Relabels is_bare pid f (grant_lic place pid target set f)
+  unfolding grant_lic
+  relabels_grant_lic place target set = search refusing depth 80 fits 16000
+
+  relabels_set_ceiling : (place target : ℕ) (now : Categories) → Relabels is_bare pid f (set_ceiling place pid target now f)
+  unfolding set_ceiling
+  relabels_set_ceiling place target now = search refusing depth 80 fits 16000
+
+  relabels_read_log : (place index : ℕ) → Relabels is_bare pid f (read_log place pid index f)
+  unfolding read_log
+  relabels_read_log place index = search refusing depth 80 fits 16000
+
   pub relabels_row : (t : LengthChecks) (place : ℕ) (c : Op) → Relabels (answer_of c) pid f (row t place pid c f)
-  unfolding opens_rows
-  relabels_row t place = each_row t place pid (λ c m. Relabels (answer_of c) pid f (m f)) (search refusing depth 80 fits 16000)
+  unfolding row create_at make_dir
+  relabels_row t place (op.CreateAt path) = relabels_make path kind.File
+  relabels_row t place (op.OpenAt path mode) = relabels_open_at path mode
+  relabels_row t place (op.ReadFd fd count) = relabels_read_fd t fd count
+  relabels_row t place (op.WriteFd fd bytes) = relabels_write_fd t fd
+  relabels_row t place (op.CutFd fd len) = relabels_cut_fd t fd len
+  relabels_row t place (op.SeekFd fd offset) = relabels_seek_fd fd offset
+  relabels_row t place (op.DupFd fd) = relabels_dup_fd fd
+  relabels_row t place (op.CloseFd fd) = relabels_close_fd fd
+  relabels_row t place op.MakePipe = relabels_make_pipe
+  relabels_row t place (op.MakeDir path) = relabels_make path kind.Dir
+  relabels_row t place (op.LinkAt target path) = relabels_link_at target path
+  relabels_row t place (op.UnlinkAt path) = relabels_unlink_at path
+  relabels_row t place (op.RemoveDir path) = relabels_remove_dir path
+  relabels_row t place (op.ChangeDir path) = relabels_change_dir path
+  relabels_row t place (op.StatAt path) = relabels_stat_at path
+  relabels_row t place (op.ListAt path index) = relabels_list_at path index
+  relabels_row t place (op.Fork keep) = relabels_fork keep
+  relabels_row t place (op.Exec path) = relabels_exec path
+  relabels_row t place (op.Exit status) = relabels_exit
+  relabels_row t place op.WaitChild = relabels_wait_child
+  relabels_row t place (op.LabelOf path) = relabels_label_of path
+  relabels_row t place op.SelfLabel = relabels_self_label
+  relabels_row t place (op.SetLabel path label) = relabels_set_label place path label
+  relabels_row t place (op.SetSelf label) = relabels_set_self place label
+  relabels_row t place (op.Freeze path) = relabels_freeze path
+  relabels_row t place op.FreezeSelf = relabels_freeze_self
+  relabels_row t place (op.Thaw path) = relabels_thaw place path
+  relabels_row t place op.ThawSelf = relabels_thaw_self place
+  relabels_row t place (op.SetPriv path cap lic) = relabels_set_priv place path cap lic
+  relabels_row t place (op.DropLic set) = relabels_drop_lic set
+  relabels_row t place (op.GrantLic target set) = relabels_grant_lic place target set
+  relabels_row t place (op.SetCeiling target label) = relabels_set_ceiling place target label
+  relabels_row t place (op.Pex fd) = relabels_pex fd
+  relabels_row t place (op.Unpex fd) = relabels_unpex fd
+  relabels_row t place (op.ReadLog index) = relabels_read_log place index
 
 answers_of : (c : Op) (a : Reply) → answer_of c a ≡ true → is_answer a ≡ true
 answers_of (op.ReadFd fd count) a h = h
