@@ -1,7 +1,6 @@
 pub mod Keeps
 pub mod LetGo
 pub mod Rowwise
-pub mod EachRow
 pub mod Lasts
 pub mod Ends
 pub mod Endings

@@ -3,8 +3,8 @@ use Rattle.std.specs.Option.{option_map_or}
 use Rattle.std.proofs.Common.{◌≡◌, ℕ, Bool, true, false, true≢false, not, List, [], Option, Some, None, refl, sym, ap, ◌∙◌, if◌then◌else◌}
 use Rattle.ix_model.specs.rows.Refusals.{keeps_label}
 use Rattle.ix_model.specs.world.World.{World, Frame, Object, Process, at, living, lives, is_pipe, may_read, may_write, claimed_by_another}
-use Rattle.ix_model.specs.rows.Outcomes.{Outcome, Refuse, Pass, Row}
-use Rattle.ix_model.specs.rows.Rows.{◌>>=◌, ◌>>◌, on_pass, pass, refuse, need, some, frame, object}
+use Rattle.ix_model.specs.rows.Outcomes.{Outcome, Refuse, Pass}
+use Rattle.ix_model.specs.rows.Rows.{◌>>=◌, on_pass, pass, refuse, need, some, frame, object}
 use Rattle.ix_model.specs.rows.Walks.{OpenFile, behind, behind_of, opened}
 use Rattle.ix_model.specs.rows.OnDescriptors.{LengthChecks, read_fd, write_fd, pex}
 use Rattle.ix_model.specs.rows.Table.{row, settled, verdict}
@@ -13,7 +13,6 @@ use Rattle.ix_model.specs.history.Step.{plainly, read_answer, write_answer, pex_
 use Rattle.ix_model.specs.laws.ClaimedPaths.{Stopped, NotThrough}
 use Rattle.ix_model.specs.history.Events.{Op}
 use Rattle.ix_model.specs.history.Events as op
-use Rattle.ix_model.specs.declared.call.Mode.{Mode}
 use Rattle.ix_model.specs.declared.reply.Reply.{Reply}
 use Rattle.ix_model.specs.declared.reply.Reply.TheVariants as reply
 use Rattle.ix_model.specs.declared.refusal.Refusal.{Refusal}
@@ -41,28 +40,29 @@ module _ (f : Frame) (pid fd : ℕ) (e : OpenFile) (x : Object) (leads : behind 
   unfolding object some pass Ends
   finds P Q next = rw is next
 
-  -- a transfer that asks for a mode, and then whether another claims the end
-  stops_there : (may : Mode → Bool) (closed : Refusal) (rest : OpenFile → Object → Row Reply)
-      → Ends (◌>>=◌ (opened pid fd) (λ b. ◌>>◌ (need (may b.entry.mode) closed)
-      (◌>>=◌ (object b.entry.object) (λ y. ◌>>◌ (need (not (claimed_by_another y b.entry.end pid)) refusal.PexHeld) (rest b y)))) f)
-      (λ r g. r ≡ (if may e.entry.mode then refusal.PexHeld else closed)) never
-  stops_there may closed rest =
-      let P : Refusal → Frame → Type 0 = λ r g. r ≡ (if may e.entry.mode then refusal.PexHeld else closed) in
+  stops_reads : (t : LengthChecks) (count : ℕ) → Ends (read_fd t pid fd count f) (λ r g. r ≡ (if may_read e.entry.mode then refusal.PexHeld else refusal.NotReadable)) never
+  unfolding read_fd
+  stops_reads t count =
+      let P : Refusal → Frame → Type 0 = λ r g. r ≡ (if may_read e.entry.mode then refusal.PexHeld else refusal.NotReadable) in
       ends_bind _ _ f P never (goes_on P _ (
-      ends_then _ _ f P never (tested (may e.entry.mode) closed f P _ (λ yes.
+      ends_then _ _ f P never (tested (may_read e.entry.mode) refusal.NotReadable f P _ (λ may.
       ends_bind _ _ f P never (finds P _ (
       ends_then _ _ f P never (tested (not (claimed_by_another x e.entry.end pid)) refusal.PexHeld f P _
       (λ free. absurd (true≢false (sym free ∙ ap not another)))
-      (λ held. sym (ap (λ b. if b then refusal.PexHeld else closed) yes))))))
-      (λ no. sym (ap (λ b. if b then refusal.PexHeld else closed) no)))))
-
-  stops_reads : (t : LengthChecks) (count : ℕ) → Ends (read_fd t pid fd count f) (λ r g. r ≡ (if may_read e.entry.mode then refusal.PexHeld else refusal.NotReadable)) never
-  unfolding read_fd
-  stops_reads t count = stops_there may_read refusal.NotReadable _
+      (λ held. sym (ap (λ b. if b then refusal.PexHeld else refusal.NotReadable) may))))))
+      (λ closed. sym (ap (λ b. if b then refusal.PexHeld else refusal.NotReadable) closed)))))
 
   stops_writes : (t : LengthChecks) → Ends (write_fd t pid fd f) (λ r g. r ≡ (if may_write e.entry.mode then refusal.PexHeld else refusal.NotWritable)) never
   unfolding write_fd
-  stops_writes t = stops_there may_write refusal.NotWritable _
+  stops_writes t =
+      let P : Refusal → Frame → Type 0 = λ r g. r ≡ (if may_write e.entry.mode then refusal.PexHeld else refusal.NotWritable) in
+      ends_bind _ _ f P never (goes_on P _ (
+      ends_then _ _ f P never (tested (may_write e.entry.mode) refusal.NotWritable f P _ (λ may.
+      ends_bind _ _ f P never (finds P _ (
+      ends_then _ _ f P never (tested (not (claimed_by_another x e.entry.end pid)) refusal.PexHeld f P _
+      (λ free. absurd (true≢false (sym free ∙ ap not another)))
+      (λ held. sym (ap (λ b. if b then refusal.PexHeld else refusal.NotWritable) may))))))
+      (λ closed. sym (ap (λ b. if b then refusal.PexHeld else refusal.NotWritable) closed)))))
 
   stops_claims : is_pipe x ≡ true → Ends (pex pid fd f) (λ r g. r ≡ refusal.PexHeld) never
   unfolding pex

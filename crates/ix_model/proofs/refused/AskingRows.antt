@@ -32,7 +32,6 @@ use Rattle.ix_model.specs.declared.refusal.Refusal.{Refusal}
 use Rattle.ix_model.specs.declared.refusal.Refusal.TheVariants as refusal
 use Rattle.ix_model.proofs.frames.Frames.{FrameSound, frame_of}
 use Rattle.ix_model.proofs.refused.Refusing.{Relabelled, relabelled_itself, refusing_row, plain_answer, decided_frames}
-use Rattle.ix_model.proofs.words.EachRow.{each_row, opens_rows}
 use Rattle.ix_model.proofs.words.Ends.{Ends, plain}
 use Rattle.ix_model.proofs.words.Ends.{ends_change_open}
 use Rattle.ix_model.proofs.words.Endings.{ends_put_object, ends_put_process, ends_add_process}
@@ -97,6 +96,74 @@ module _ (f : Frame) (s : FrameSound f) (pid : ℕ) (alive : lives f pid ≡ tru
     harmless,
   )
 
+  asks_make : (path : PathOf) (kind : Kind) → Asks None None (make pid path kind f)
+  unfolding make missing
+  asks_make path kind = search asking depth 80 fits 16000
+
+  asks_link_at : (target path : PathOf) → Asks None None (link_at pid target path f)
+  unfolding link_at Ends
+  asks_link_at target path = search asking depth 80 fits 16000
+
+  asks_unlink_at : (path : PathOf) → Asks None None (unlink_at pid path f)
+  unfolding unlink_at spot_at
+  asks_unlink_at path = search asking depth 80 fits 16000
+
+  asks_remove_dir : (path : PathOf) → Asks None None (remove_dir pid path f)
+  unfolding remove_dir spot_at Ends
+  asks_remove_dir path = search asking depth 80 fits 16000
+
+  asks_open_at : (path : PathOf) (mode : Mode) → Asks None None (open_at pid path mode f)
+  unfolding open_at object_at Ends
+  asks_open_at path mode = search asking depth 80 fits 16000
+
+  asks_change_dir : (path : PathOf) → Asks None None (change_dir pid path f)
+  unfolding change_dir object_at
+  asks_change_dir path = search asking depth 80 fits 16000
+
+  asks_stat_at : (path : PathOf) → Asks None None (stat_at pid path f)
+  unfolding stat_at object_at
+  asks_stat_at path = search asking depth 80 fits 16000
+
+  asks_list_at : (path : PathOf) (index : ℕ) → Asks None None (list_at pid path index f)
+  unfolding list_at object_at
+  asks_list_at path index = search asking depth 80 fits 16000
+
+  asks_read_fd : (t : LengthChecks) (fd count : ℕ) → Asks (Some fd) None (read_fd t pid fd count f)
+  unfolding read_fd
+  asks_read_fd t fd count = search (asking, ask_opened f s pid alive, no_descriptor) depth 80 fits 16000
+
+  asks_write_fd : (t : LengthChecks) (fd : ℕ) → Asks (Some fd) None (write_fd t pid fd f)
+  unfolding write_fd Ends
+  asks_write_fd t fd = search (asking, ask_opened f s pid alive, no_descriptor) depth 80 fits 16000
+
+  asks_cut_fd : (t : LengthChecks) (fd len : ℕ) → Asks (Some fd) None (cut_fd t pid fd len f)
+  unfolding cut_fd
+  asks_cut_fd t fd len = search (asking, ask_opened f s pid alive, no_descriptor) depth 80 fits 16000
+
+  asks_seek_fd : (fd offset : ℕ) → Asks (Some fd) None (seek_fd pid fd offset f)
+  unfolding seek_fd
+  asks_seek_fd fd offset = search (asking, ask_opened f s pid alive, no_descriptor) depth 80 fits 16000
+
+  asks_dup_fd : (fd : ℕ) → Asks (Some fd) None (dup_fd pid fd f)
+  unfolding dup_fd
+  asks_dup_fd fd = search (asking, ask_opened f s pid alive, no_descriptor) depth 80 fits 16000
+
+  asks_close_fd : (fd : ℕ) → Asks (Some fd) None (close_fd pid fd f)
+  unfolding close_fd
+  asks_close_fd fd = search (asking, ask_opened f s pid alive, no_descriptor) depth 80 fits 16000
+
+  asks_make_pipe : Asks None None (make_pipe pid f)
+  unfolding make_pipe Ends
+  asks_make_pipe = search asking depth 80 fits 16000
+
+  asks_pex : (fd : ℕ) → Asks (Some fd) None (pex pid fd f)
+  unfolding pex
+  asks_pex fd = search (asking, ask_opened f s pid alive, no_descriptor) depth 80 fits 16000
+
+  asks_unpex : (fd : ℕ) → Asks (Some fd) None (unpex pid fd f)
+  unfolding unpex
+  asks_unpex fd = search (asking, ask_opened f s pid alive, no_descriptor) depth 80 fits 16000
+
   -- the descriptor that a fork keeps
   keeps_one : (keep : Keep) (p : Process) (Q : Unit {0} → Frame → Type 0) → living (at f.processes pid) ≡ Some p → Q tt f
       → Ends (need (has_kept keep p) refusal.BadFd f) (Blames f pid (descriptor_of (op.Fork keep)) None) Q
@@ -109,6 +176,18 @@ module _ (f : Frame) (s : FrameSound f) (pid : ℕ) (alive : lives f pid ≡ tru
       go true is = next
       go false is = record { is = ap (λ o. option_map_or (λ (q : Process). is_some (at q.fds fd.0)) o false) here ∙ is }
 
+  asks_fork : (keep : Keep) → Asks (descriptor_of (op.Fork keep)) None (fork pid keep f)
+  unfolding fork
+  asks_fork keep = search (asking, keeps_one) depth 80 fits 16000
+
+  asks_exec : (path : PathOf) → Asks None None (exec pid path f)
+  unfolding exec object_at
+  asks_exec path = search asking depth 80 fits 16000
+
+  asks_exit : Asks None None (exit pid f)
+  unfolding exit
+  asks_exit = search asking depth 80 fits 16000
+
   -- the record of a child that has ended
   a_record : (c : ℕ) (P : Refusal → Frame → Type 0) (Q : Process → Frame → Type 0) → position (λ q. is_child pid q && is_ended q) f.processes ≡ Some c
       → ((q : Process) → at f.processes c ≡ Some q → Q q f) → Ends (record_of c f) P Q
@@ -119,11 +198,100 @@ module _ (f : Frame) (s : FrameSound f) (pid : ℕ) (alive : lives f pid ≡ tru
       some_child None h = cc
       some_child (Some q) h = refl
 
+  asks_wait_child : Asks None None (wait_child pid f)
+  unfolding wait_child
+  asks_wait_child = search (asking, a_record) depth 80 fits 16000
+
+  asks_label_of : (path : PathOf) → Asks None None (label_of pid path f)
+  unfolding label_of object_at
+  asks_label_of path = search asking depth 80 fits 16000
+
+  asks_self_label : Asks None None (self_label pid f)
+  unfolding self_label
+  asks_self_label = search asking depth 80 fits 16000
+
+  asks_set_label : (place : ℕ) (path : PathOf) (now : Categories) → Asks None None (set_label place pid path now f)
+  unfolding set_label object_at Ends
+  asks_set_label place path now = search asking depth 80 fits 16000
+
+  asks_set_self : (place : ℕ) (now : Categories) → Asks None None (set_self place pid now f)
+  unfolding set_self
+  asks_set_self place now = search asking depth 80 fits 16000
+
+  asks_freeze : (path : PathOf) → Asks None None (freeze pid path f)
+  unfolding freeze object_at
+  asks_freeze path = search asking depth 80 fits 16000
+
+  asks_freeze_self : Asks None None (freeze_self pid f)
+  unfolding freeze_self
+  asks_freeze_self = search asking depth 80 fits 16000
+
+  asks_thaw : (place : ℕ) (path : PathOf) → Asks None None (thaw place pid path f)
+  unfolding thaw object_at
+  asks_thaw place path = search asking depth 80 fits 16000
+
+  asks_thaw_self : (place : ℕ) → Asks None None (thaw_self place pid f)
+  unfolding thaw_self
+  asks_thaw_self place = search asking depth 80 fits 16000
+
+  asks_set_priv : (place : ℕ) (path : PathOf) (caps lics : PrivSet) → Asks None None (set_priv place pid path caps lics f)
+  unfolding set_priv object_at
+  asks_set_priv place path caps lics = search asking depth 80 fits 16000
+
+  asks_drop_lic : (set : PrivSet) → Asks None None (drop_lic pid set f)
+  unfolding drop_lic
+  asks_drop_lic set = search asking depth 80 fits 16000
+
+  asks_grant_lic : (place target : ℕ) (set : PrivSet) → Asks None (Some target) (grant_lic place pid target set f)
+  unfolding grant_lic
+  asks_grant_lic place target set = search (asking, ask_target f s pid alive target, no_target) depth 80 fits 16000
+
+  asks_set_ceiling : (place target : ℕ) (now : Categories) → Asks None (Some target) (set_ceiling place pid target now f)
+  unfolding set_ceiling
+  asks_set_ceiling place target now = search (asking, ask_target f s pid alive target, no_target) depth 80 fits 16000
+
+  asks_read_log : (place index : ℕ) → Asks None None (read_log place pid index f)
+  unfolding read_log
+  asks_read_log place index = search asking depth 80 fits 16000
+
   -- ---- the table
   pub asks_row : (t : LengthChecks) (place : ℕ) (c : Op) → Asks (descriptor_of c) (process_named c) (row t place pid c f)
-  unfolding opens_rows Ends
-  asks_row t place = each_row t place pid (λ c m. Asks (descriptor_of c) (process_named c) (m f))
-      (search (asking, ask_opened f s pid alive, no_descriptor, keeps_one, a_record, ask_target f s pid alive, no_target) depth 80 fits 16000)
+  unfolding row create_at make_dir
+  asks_row t place (op.CreateAt path) = asks_make path kind.File
+  asks_row t place (op.OpenAt path mode) = asks_open_at path mode
+  asks_row t place (op.ReadFd fd count) = asks_read_fd t fd count
+  asks_row t place (op.WriteFd fd bytes) = asks_write_fd t fd
+  asks_row t place (op.CutFd fd len) = asks_cut_fd t fd len
+  asks_row t place (op.SeekFd fd offset) = asks_seek_fd fd offset
+  asks_row t place (op.DupFd fd) = asks_dup_fd fd
+  asks_row t place (op.CloseFd fd) = asks_close_fd fd
+  asks_row t place op.MakePipe = asks_make_pipe
+  asks_row t place (op.MakeDir path) = asks_make path kind.Dir
+  asks_row t place (op.LinkAt target path) = asks_link_at target path
+  asks_row t place (op.UnlinkAt path) = asks_unlink_at path
+  asks_row t place (op.RemoveDir path) = asks_remove_dir path
+  asks_row t place (op.ChangeDir path) = asks_change_dir path
+  asks_row t place (op.StatAt path) = asks_stat_at path
+  asks_row t place (op.ListAt path index) = asks_list_at path index
+  asks_row t place (op.Fork keep) = asks_fork keep
+  asks_row t place (op.Exec path) = asks_exec path
+  asks_row t place (op.Exit status) = asks_exit
+  asks_row t place op.WaitChild = asks_wait_child
+  asks_row t place (op.LabelOf path) = asks_label_of path
+  asks_row t place op.SelfLabel = asks_self_label
+  asks_row t place (op.SetLabel path label) = asks_set_label place path label
+  asks_row t place (op.SetSelf label) = asks_set_self place label
+  asks_row t place (op.Freeze path) = asks_freeze path
+  asks_row t place op.FreezeSelf = asks_freeze_self
+  asks_row t place (op.Thaw path) = asks_thaw place path
+  asks_row t place op.ThawSelf = asks_thaw_self place
+  asks_row t place (op.SetPriv path caps lics) = asks_set_priv place path caps lics
+  asks_row t place (op.DropLic set) = asks_drop_lic set
+  asks_row t place (op.GrantLic target set) = asks_grant_lic place target set
+  asks_row t place (op.SetCeiling target label) = asks_set_ceiling place target label
+  asks_row t place (op.Pex fd) = asks_pex fd
+  asks_row t place (op.Unpex fd) = asks_unpex fd
+  asks_row t place (op.ReadLog index) = asks_read_log place index
 
 -- ---- the decision
 -- what a refusal says of what the call named, or of the caller

@@ -15,7 +15,6 @@ use Rattle.ix_model.specs.laws.CallLaws.{NothingElseIsMissing, has_descriptor, d
 use Rattle.ix_model.specs.history.Events.{Op}
 use Rattle.ix_model.specs.history.Events as op
 use Rattle.ix_model.specs.declared.call.Keep.TheVariants as keeping
-use Rattle.ix_model.specs.declared.reply.Reply.{Reply}
 use Rattle.ix_model.specs.declared.reply.Reply.TheVariants as reply
 use Rattle.ix_model.specs.declared.refusal.Refusal.{Refusal}
 use Rattle.ix_model.specs.declared.refusal.Refusal.TheVariants as refusal
@@ -112,18 +111,33 @@ dead f target Q h = rw (go (at f.processes target) h) refl
     go (Some q) h = ended q.ended q h
 
 -- ---- steps
--- whatever stands behind a descriptor
-either : (b : Option OpenFile) (told : Option OpenFile → Reply) (r : Reply) → told None ≡ r → ((e : OpenFile) → told (Some e) ≡ r) → told b ≡ r
-either None told r none some = none
-either (Some e) told r none some = some e
-
 refused_answer : (w : World) (pid : ℕ) (c : Op) (r : Refusal) (g : Frame) → (answer w pid c (record { reply = reply.No r; frame = g })).reply ≡ reply.No r
 unfolding answer plainly read_answer write_answer cut_answer seek_answer stat_answer exit_answer wait_answer pex_answer
-refused_answer w pid (op.ReadFd fd count) r g = either (behind w.frame pid fd) (λ b. (read_answer w count b (reply.No r) g).reply) (reply.No r) refl (λ e. refl)
-refused_answer w pid (op.WriteFd fd bytes) r g = either (behind w.frame pid fd) (λ b. (write_answer w bytes b (reply.No r) g).reply) (reply.No r) refl (λ e. refl)
-refused_answer w pid (op.CutFd fd len) r g = either (behind w.frame pid fd) (λ b. (cut_answer w len b (reply.No r) g).reply) (reply.No r) refl (λ e. refl)
-refused_answer w pid (op.SeekFd fd offset) r g = either (behind w.frame pid fd) (λ b. (seek_answer w offset b (reply.No r) g).reply) (reply.No r) refl (λ e. refl)
-refused_answer w pid (op.Pex fd) r g = either (behind w.frame pid fd) (λ b. (pex_answer w b (reply.No r) g).reply) (reply.No r) refl (λ e. refl)
+refused_answer w pid (op.ReadFd fd count) r g = go (behind w.frame pid fd)
+  where
+    go : (b : Option OpenFile) → (read_answer w count b (reply.No r) g).reply ≡ reply.No r
+    go None = refl
+    go (Some e) = refl
+refused_answer w pid (op.WriteFd fd bytes) r g = go (behind w.frame pid fd)
+  where
+    go : (b : Option OpenFile) → (write_answer w bytes b (reply.No r) g).reply ≡ reply.No r
+    go None = refl
+    go (Some e) = refl
+refused_answer w pid (op.CutFd fd len) r g = go (behind w.frame pid fd)
+  where
+    go : (b : Option OpenFile) → (cut_answer w len b (reply.No r) g).reply ≡ reply.No r
+    go None = refl
+    go (Some e) = refl
+refused_answer w pid (op.SeekFd fd offset) r g = go (behind w.frame pid fd)
+  where
+    go : (b : Option OpenFile) → (seek_answer w offset b (reply.No r) g).reply ≡ reply.No r
+    go None = refl
+    go (Some e) = refl
+refused_answer w pid (op.Pex fd) r g = go (behind w.frame pid fd)
+  where
+    go : (b : Option OpenFile) → (pex_answer w b (reply.No r) g).reply ≡ reply.No r
+    go None = refl
+    go (Some e) = refl
 refused_answer w pid _ r g = refl
 
 as_decided : (w : World) (place pid : ℕ) (c : Op) (r : Refusal) → (verdict (told w pid c) place pid c w.frame).reply ≡ reply.No r → (step w place pid c).reply ≡ reply.No r
