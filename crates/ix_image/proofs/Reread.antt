@@ -22,7 +22,11 @@ links_begin n bytes = record { front = []; whole = none_read_yet (λ s. link_at)
 
 pub links_go_on : (n i : ℕ) (bytes rest after : List ℕ) (l : LinkOf) → i < n → link_at rest ≡ Ok (l, after) → LinksSoFar n i bytes rest → LinksSoFar n (i + 1) bytes after
 links_go_on n i bytes rest after l low h so_far =
-    record { front = so_far.front ++ l ∷ []; whole = goes_on (λ s. link_at) (λ l. tt {0}) (λ s. links_at) (λ s. no_links) (λ s. more_links) so_far.front n i (tt {0}) rest l after (links_at n bytes) low h so_far.whole }
+    record {
+      front = so_far.front ++ l ∷ [];
+      whole = goes_on (λ s. link_at) (λ l. tt {0}) (λ s. links_at) (λ s. no_links) (λ s. more_links) so_far.front n i (tt {0}) rest l after
+          (links_at n bytes) low h so_far.whole;
+    }
 
 pub links_end : (n i : ℕ) (bytes rest : List ℕ) (f : Fault) → i < n → link_at rest ≡ Err f → LinksSoFar n i bytes rest → links_at n bytes ≡ Err f
 links_end n i bytes rest f low h so_far = ends_at (λ s. link_at) (λ l. tt {0}) (λ s. links_at) (λ s. no_links) (λ s. more_links) so_far.front n i (tt {0}) rest f (links_at n bytes) low h so_far.whole

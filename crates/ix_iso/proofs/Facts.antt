@@ -62,7 +62,8 @@ read_known t pid fd count f =
     let seen : leq (join x.label e.entry.label) q.label ≡ true = subst (λ (z : Process). leq (join x.label e.entry.label) z.label ≡ true) (one_living _ p q lives again) sees in
     let object_seen : leq x.label q.label ≡ true = leq-trans x.label (join x.label e.entry.label) q.label (leq-join_left x.label e.entry.label) seen in
     let entry_seen : leq e.entry.label q.label ≡ true = leq-trans e.entry.label (join x.label e.entry.label) q.label (leq-join_right x.label e.entry.label) seen in
-    let known : (t : List (Option Open)) → (is_pipe x ≡ false → (y : Open) → at t e.id ≡ Some y → leq q.label y.label ≡ true) → (b : OpenFile) → behind f pid fd ≡ Some b → ReadFacts pid f b (record g { opens = t }) =
+    let known : (t : List (Option Open)) → (is_pipe x ≡ false → (y : Open) → at t e.id ≡ Some y → leq q.label y.label ≡ true)
+    → (b : OpenFile) → behind f pid fd ≡ Some b → ReadFacts pid f b (record g { opens = t }) =
     λ t entry. for_each (behind f pid fd) (λ b. ReadFacts pid f b (record g { opens = t })) e is
     (record { object = x; is_object = here; process = q; lives = again; sees_object = object_seen; sees_entry = entry_seen; entry = entry }) in
     ends_floated Anything Q q x e _ g (λ file. known _ (λ other y there. (joined g.opens e.id q.label y there).2))

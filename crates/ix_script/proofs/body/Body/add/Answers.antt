@@ -31,7 +31,8 @@ returns-in-Dup c =
     let x = c.args.line.now in
     let b = c.args.self.now in
     let at : Option (List ℕ) = option_map (λ s. s.now) b.lane in
-    on_ok c.add_any-in-Dup.result (λ given lines told. body_next b _ lines x told (rw c.in-Dup.is (sym (or_false b.started))) (rw c.in-Dup.is refl) told.within (rw c.in-Dup.is refl) (rw c.in-Dup.is refl)
+    on_ok c.add_any-in-Dup.result (λ given lines told. body_next b _ lines x told (rw c.in-Dup.is (sym (or_false b.started))) (rw c.in-Dup.is refl) told.within
+    (rw c.in-Dup.is refl) (rw c.in-Dup.is refl)
     (λ items h. rw c.in-Dup.is (given items h)) (λ items h. no_more b.procs items (items ++ in_lane at (new_procs x)) at (new_procs x) (rw c.in-Dup.is refl) refl h)
     (one_counted b.commands c.from.result c.is_command.result (is_command x) c.from.ensures c.is_command.ensures)) c.add_any-in-Dup.ensures
 
@@ -49,7 +50,8 @@ returns-in-Fork c =
     let x = c.args.line.now in
     let b = c.args.self.now in
     let at : Option (List ℕ) = option_map (λ s. s.now) b.lane in
-    on_ok c.add_any-in-Fork.result (λ given lines told. body_next b _ lines x told (rw c.in-Fork.is (sym (or_false b.started))) (rw c.in-Fork.is refl) told.within (rw c.in-Fork.is refl) (rw c.in-Fork.is refl)
+    on_ok c.add_any-in-Fork.result (λ given lines told. body_next b _ lines x told (rw c.in-Fork.is (sym (or_false b.started))) (rw c.in-Fork.is refl) told.within
+    (rw c.in-Fork.is refl) (rw c.in-Fork.is refl)
     (λ items h. no_more b.fds items (items ++ in_lane at (new_fds x)) at (new_fds x) (rw c.in-Fork.is refl) refl h) (λ items h. rw c.in-Fork.is (given items h))
     (one_counted b.commands c.from.result c.is_command.result (is_command x) c.from.ensures c.is_command.ensures)) c.add_any-in-Fork.ensures
 
