@@ -1,10 +1,11 @@
 ghost use Rattle.std.specs.Prelude.{◌≡◌, ◌++◌, ◌∷◌, ◌+◌, ◌<◌, ◌^◌, [], true, false, Some, None, length, OnOk, IfOk, IfErr, IsTrue};
 ghost use Rattle.ix_script.specs.{lines.Before.{form_told}, lines.Faults.{line_fault, text_fault}, lines.Roles.{role_of}, lines.Said.{line_of}};
-ghost use Rattle.ix_script.specs.{reader.Readers.{HasCause, IsPlain, LineMore, LineRight, is_whole}, reader.Told.{DraftTold, IsNextLane}, scripts.Scripts.{config_of}};
+ghost use Rattle.ix_script.specs.{reader.Readers.{HasCause, IsFormed, IsPlain, LineMore, LineRight, is_whole}, reader.Told.{DraftTold, IsNextLane}, scripts.Scripts.{config_of}};
 ghost use Rattle.{std.{proofs.Common.{option_map}, specs.List.{list_all}}, ix_model.specs.opening.Valid.{is_valid, is_within}, ix_text.specs.Bytes.{is_empty}};
 
 use crate::body::Body;
 use crate::fail::{ReadFail, Rule, fault_at};
+use crate::form::Form;
 use crate::header::Header;
 use crate::line::Line;
 use crate::packed::Lines;
@@ -115,6 +116,36 @@ impl<'a> Draft<'a> {
         self.lines.push(self.lines.form(), text, Role::Lane, 0)
     }
 
+    /// The line of a form that is no entry beyond doubt; else its fault by the rules on what it says.
+    #[inline(never)]
+    fn add_formed<L: Ledger>(
+        &mut self,
+        alloc: Global,
+        text: &[u8],
+        form: Form,
+        words: &Words<'a>,
+        steps: &mut Steps<L>,
+    ) -> Result<(), ReadFail>
+        requires told { DraftTold self.old }
+        requires valid { is_valid (config_of self.old.lines) ≡ true }
+        requires few { length self.old.lines + 1 < 2 ^ 32 }
+        requires later { is_empty self.old.lines ≡ false }
+        requires formed { IsFormed self.old.lines text.now form words.now }
+        ensures told { OnOk result (DraftTold self.new) }
+        ensures line { OnOk result (LineMore self.old.lines self.new.lines text.now) }
+        ensures fail { IfErr result (λ e. HasCause e (option_map (λ rule. (length self.old.lines + 1, rule)) (line_fault self.old.lines text.now))) }
+    {
+        let line = line_by_form(self.lines.form(), form, words);
+        if let Role::Command = role_of(&line) {
+            return self.add_command(text, cost_of_line(&line));
+        }
+        if let Err(rule) = self.check_said(&line, steps) {
+            return Err(self.fault(rule));
+        }
+        self.add(alloc, text, &line)?;
+        Ok(())
+    }
+
     /// The next line, which the text says; else its fault. After an error the draft isn't used. Whether each of the text's
     /// bytes is known to be printable is told, and the words that are handed in are those of the last line that was cut.
     pub fn add_line<L: Ledger>(
@@ -150,17 +181,7 @@ impl<'a> Draft<'a> {
         words.cut(text);
         match self.form_by_words(words) {
             Ok(form) if form.is_entry() => self.add_command(text, ENTRY),
-            Ok(form) => {
-                let line = line_by_form(self.lines.form(), form, words);
-                if let Role::Command = role_of(&line) {
-                    return self.add_command(text, cost_of_line(&line));
-                }
-                if let Err(rule) = self.check_said(&line, steps) {
-                    return Err(self.fault(rule));
-                }
-                self.add(alloc, text, &line)?;
-                Ok(())
-            }
+            Ok(form) => self.add_formed(alloc, text, form, words, steps),
             Err(rule) => Err(self.fault(rule)),
         }
     }

@@ -1,7 +1,6 @@
 //! Laws of scripts and of their canonical text, each the contract of a function that does nothing.
 
-ghost use Rattle.ix_script.specs.scripts.Laws.{ReadsBack, OneByteMore, LineStays, ScriptsFit, NoShorterPayload};
-ghost use Rattle.ix_script.specs.scripts.Schedule.{LanesAreStretches, StretchesStand};
+ghost use Rattle.ix_script.specs.{scripts.Laws.{ReadsBack, OneByteMore, LineStays, ScriptsFit, NoShorterPayload}, scripts.Schedule.{LanesAreStretches, StretchesStand}};
 
 /// The canonical text of a script that was read is read as the same script, where it has at most 16,777,216 bytes.
 pub fn reads_back()

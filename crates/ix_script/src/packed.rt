@@ -76,11 +76,11 @@ pub(crate) fn has_one_spelling(text: &[u8]) -> bool
 
 /// How many line feeds there are. The sum can't wrap, and as one that may many bytes are looked at at once.
 fn feeds_in(bytes: &[u8]) -> usize {
-    let mut feeds = 0usize;
+    let mut feeds = 0u32;
     for b in bytes {
-        feeds = feeds.wrapping_add(usize::from(*b == b'\n'));
+        feeds = feeds.wrapping_add(u32::from(*b == b'\n'));
     }
-    feeds
+    feeds as usize
 }
 
 fn begin(ends: &[u32], i: usize) -> u32

@@ -122,29 +122,22 @@ fn counted_line<'a>(command: Counted, proc: NameWord<'a>, fd: FdWord<'a>, n: u32
     }
 }
 
-/// What the word at a place says, by what stands there.
+/// What a word says, by what stands there; `named` stands at a place and behind it.
 macro_rules! at {
-    ($labels:ident, $words:ident, name, $i:literal) => { NameWord::of($words.get($i)) };
-    ($labels:ident, $words:ident, label, $i:literal) => { LabelWord::of($labels, $words.get($i)) };
-    ($labels:ident, $words:ident, path, $i:literal) => { PathWord::of($words.get($i)) };
-    ($labels:ident, $words:ident, made_path, $i:literal) => { MadePath::of($words.get($i)) };
-    ($labels:ident, $words:ident, privs, $i:literal) => { privs_of($words.get($i)).unwrap() };
-    ($labels:ident, $words:ident, state, $i:literal) => { state_of($words.get($i)).unwrap() };
-    ($labels:ident, $words:ident, mode, $i:literal) => { mode_of($words.get($i)).unwrap() };
-    ($labels:ident, $words:ident, size, $i:literal) => { number(1, 65_536, $words.get($i)) };
-    ($labels:ident, $words:ident, status, $i:literal) => { number(0, 255, $words.get($i)) };
-    ($labels:ident, $words:ident, number, $i:literal) => { number(0, 4_294_967_295, $words.get($i)) };
-    ($labels:ident, $words:ident, payload, $i:literal) => { Payload::of($words.get($i)) };
-    ($labels:ident, $words:ident, fd, $i:literal) => { fd($words.get($i)) };
-    ($labels:ident, $words:ident, keep, $i:literal) => { keep($words.get($i)) };
-    ($labels:ident, $words:ident, named, $i:literal) => { $words.name_after($i) };
-}
-
-/// Returns a line, whose fields stand at these places.
-macro_rules! say {
-    ($labels:ident, $words:ident, $line:ident { $($field:ident: $kind:ident $i:literal),+ }) => {
-        return Line::$line { $($field: at!($labels, $words, $kind, $i)),+ }
-    };
+    ($labels:ident, $words:ident, name, $word:expr) => { NameWord::of($word) };
+    ($labels:ident, $words:ident, label, $word:expr) => { LabelWord::of($labels, $word) };
+    ($labels:ident, $words:ident, path, $word:expr) => { PathWord::of($word) };
+    ($labels:ident, $words:ident, made_path, $word:expr) => { MadePath::of($word) };
+    ($labels:ident, $words:ident, privs, $word:expr) => { privs_of($word).unwrap() };
+    ($labels:ident, $words:ident, state, $word:expr) => { state_of($word).unwrap() };
+    ($labels:ident, $words:ident, mode, $word:expr) => { mode_of($word).unwrap() };
+    ($labels:ident, $words:ident, size, $word:expr) => { number(1, 65_536, $word) };
+    ($labels:ident, $words:ident, status, $word:expr) => { number(0, 255, $word) };
+    ($labels:ident, $words:ident, number, $word:expr) => { number(0, 4_294_967_295, $word) };
+    ($labels:ident, $words:ident, payload, $word:expr) => { Payload::of($word) };
+    ($labels:ident, $words:ident, fd, $word:expr) => { fd($word) };
+    ($labels:ident, $words:ident, keep, $word:expr) => { keep($word) };
+    ($labels:ident, $words:ident, named, $i:expr) => { $words.name_after($i) };
 }
 
 /// What a line of that form says, whose labels are spelled so, and whose words break no rule by themselves.
@@ -152,73 +145,76 @@ pub(crate) fn line_by_form<'a>(labels: LabelForm, form: Form, words: &Words<'a>)
     requires { Stand (places labels form words.now) }
     ensures { said labels form words.now ≡ Some result }
 {
+    let first = words.get(1);
+    let second = words.get(2);
+    let third = words.get(3);
+    // Returns a line, whose fields these words say.
+    macro_rules! say {
+        ($line:ident { $($field:ident: $kind:ident $at:expr),+ }) => {
+            return Line::$line { $($field: at!(labels, words, $kind, $at)),+ }
+        };
+    }
     match form {
         Form::Phase => return Line::Phase,
         Form::Limit => return Line::Limit {
-            what: what_of(words.get(1)).unwrap(),
+            what: what_of(first).unwrap(),
             number: words.bound(),
         },
-        Form::Fs => say!(labels, words, Fs {
-            name: name 1, ceiling: label 2, blocks: size 3, inodes: size 4
+        Form::Fs => say!(Fs {
+            name: name first, ceiling: label second, blocks: size third, inodes: size words.get(4)
         }),
-        Form::Proc => say!(labels, words, Proc {
-            name: name 1, label: label 2, ceiling: label 3, cap: privs 4,
-            lic: privs 5
+        Form::Proc => say!(Proc {
+            name: name first, label: label second, ceiling: label third, cap: privs words.get(4),
+            lic: privs words.get(5)
         }),
-        Form::Dir => say!(labels, words, Dir {
-            path: made_path 1, label: label 2, frozen: state 3
+        Form::Dir => say!(Dir { path: made_path first, label: label second, frozen: state third }),
+        Form::File => say!(File {
+            path: made_path first, label: label second, frozen: state third,
+            cap: privs words.get(4), lic: privs words.get(5), bytes: payload words.get(6)
         }),
-        Form::File => say!(labels, words, File {
-            path: made_path 1, label: label 2, frozen: state 3, cap: privs 4,
-            lic: privs 5, bytes: payload 6
-        }),
-        Form::Lane => say!(labels, words, Lane { name: name 1 }),
-        Form::Plain(command) => return plain_line(command, NameWord::of(words.get(1))),
+        Form::Lane => say!(Lane { name: name first }),
+        Form::Plain(command) => return plain_line(command, NameWord::of(first)),
         Form::OnPath(command) => return path_line(
             command,
-            NameWord::of(words.get(1)),
-            PathWord::of(words.get(2)),
+            NameWord::of(first),
+            PathWord::of(second),
         ),
-        Form::OnFd(command) => return fd_line(
-            command,
-            NameWord::of(words.get(1)),
-            fd(words.get(2)),
-        ),
+        Form::OnFd(command) => return fd_line(command, NameWord::of(first), fd(second)),
         Form::Counted(command) => return counted_line(
             command,
-            NameWord::of(words.get(1)),
-            fd(words.get(2)),
-            number(0, 4_294_967_295, words.get(3)),
+            NameWord::of(first),
+            fd(second),
+            number(0, 4_294_967_295, third),
         ),
-        Form::Open => say!(labels, words, Open {
-            proc: name 1, path: path 2, mode: mode 3, named: named 4
+        Form::Open => say!(Open {
+            proc: name first, path: path second, mode: mode third, named: named 4
         }),
-        Form::Write => say!(labels, words, Write { proc: name 1, fd: fd 2, bytes: payload 3 }),
-        Form::Dup => say!(labels, words, Dup { proc: name 1, fd: fd 2, named: named 3 }),
+        Form::Write => say!(Write { proc: name first, fd: fd second, bytes: payload third }),
+        Form::Dup => say!(Dup { proc: name first, fd: fd second, named: named 3 }),
         Form::Pipe => return Line::Pipe {
-            proc: NameWord::of(words.get(1)),
+            proc: NameWord::of(first),
             named: words.two_names_after(),
         },
-        Form::Link => say!(labels, words, Link { proc: name 1, target: path 2, path: path 3 }),
-        Form::List => say!(labels, words, List { proc: name 1, path: path 2, index: number 3 }),
-        Form::Copy => say!(labels, words, Copy {
-            proc: name 1, from: fd 2, to: fd 3, count: number 4
+        Form::Link => say!(Link { proc: name first, target: path second, path: path third }),
+        Form::List => say!(List { proc: name first, path: path second, index: number third }),
+        Form::Copy => say!(Copy {
+            proc: name first, from: fd second, to: fd third, count: number words.get(4)
         }),
-        Form::Setlabel => say!(labels, words, Setlabel {
-            proc: name 1, path: path 2, label: label 3
+        Form::Setlabel => say!(Setlabel {
+            proc: name first, path: path second, label: label third
         }),
-        Form::Setpriv => say!(labels, words, Setpriv {
-            proc: name 1, path: path 2, cap: privs 3, lic: privs 4
+        Form::Setpriv => say!(Setpriv {
+            proc: name first, path: path second, cap: privs third, lic: privs words.get(4)
         }),
-        Form::Fork => say!(labels, words, Fork { proc: name 1, keep: keep 2, named: named 3 }),
-        Form::Exit => say!(labels, words, Exit { proc: name 1, status: status 2 }),
-        Form::Setself => say!(labels, words, Setself { proc: name 1, label: label 2 }),
-        Form::Droplic => say!(labels, words, Droplic { proc: name 1, set: privs 2 }),
-        Form::Grant => say!(labels, words, Grant { proc: name 1, to: name 2, set: privs 3 }),
-        Form::Ceiling => say!(labels, words, Ceiling { proc: name 1, of: name 2, label: label 3 }),
-        Form::Readlog => say!(labels, words, Readlog { proc: name 1, index: number 2 }),
-        Form::Login => say!(labels, words, Login {
-            proc: name 1, fd: fd 2, hand: fd 3, named: named 4
+        Form::Fork => say!(Fork { proc: name first, keep: keep second, named: named 3 }),
+        Form::Exit => say!(Exit { proc: name first, status: status second }),
+        Form::Setself => say!(Setself { proc: name first, label: label second }),
+        Form::Droplic => say!(Droplic { proc: name first, set: privs second }),
+        Form::Grant => say!(Grant { proc: name first, to: name second, set: privs third }),
+        Form::Ceiling => say!(Ceiling { proc: name first, of: name second, label: label third }),
+        Form::Readlog => say!(Readlog { proc: name first, index: number second }),
+        Form::Login => say!(Login {
+            proc: name first, fd: fd second, hand: fd third, named: named 4
         }),
     }
 }

@@ -1,7 +1,7 @@
 ghost use Rattle.std.specs.{Prelude.{◌≡◌, ◌≤◌, ◌+◌, ◌==◌, Some, IsSome, length, position, take, IfSome, ◌<◌, [], ◌∷◌, MatchOption}, List.{list_all}};
 ghost use Rattle.ix_script.specs.{lines.Kinds.{bounds}, lines.Said.{name_after, two_names_after}, reader.Readers.{IsFault}};
-ghost use Rattle.ix_script.specs.lines.Kinds as kind;
 ghost use Rattle.ix_script.specs.{texts.Cutting.{policy_text, word_at}, texts.Words.{mode_of, state_of, what_of, is_numeral, value, number_of, fd_of, keep_of}};
+ghost use Rattle.ix_script.specs.lines.Kinds as kind;
 ghost use Rattle.{ix_model.specs.world.Naming.{same_bytes}, ix_text.specs.{Bytes.{is_digit, begins_with}, Labels.{label_in}, Names.{name_of}}};
 
 use crate::fail::Rule;

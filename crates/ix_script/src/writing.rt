@@ -229,7 +229,7 @@ fn write_lines(out: &mut Vec<u8>, buffer: &mut Vec<u8>, lines: &Lines) -> Result
             return Err(NoMemory);
         };
         write_line(out, buffer, lines.form(), text)?;
-        push(out, b"\n")?;
+        out.push(b'\n')?;
     }
     Ok(())
 }

@@ -63,6 +63,12 @@ pub record LineRight (before : List Line) (l : Line) (fault : Option ℕ) (meani
   pub meant : meaning ≡ Some l
   pub fits : said_fault before l ≡ None
 
+-- the words of a line that stands in a body have that form and break no rule by themselves: the line says what they say, and breaks none but the last rules
+pub record IsFormed (before : List Line) (text : List ℕ) (f : Form) (words : List (List ℕ)) : Type 0 where
+  pub faultless : places_fault (places (form_told before) f words) ≡ None
+  pub meant : line_of (form_told before) text ≡ said (form_told before) f words
+  pub fault : line_fault before text ≡ option_map_or (said_fault before) (said (form_told before) f words) None
+
 -- a command that gives no name and is no server's: the text says it, it costs so much, and breaks none but the last rules
 pub record IsPlain (before : List Line) (text : List ℕ) (cost : ℕ) : Type 0 where
   pub line : Line

@@ -15,7 +15,7 @@ loop-index-preserved c =
     let l : Line = line_in labels c.in-Some.text.now in
     let more : List ℕ = canonical_in labels (drop (c.loop-index.index + 1) c.args.lines.now) in
     let written : c.write_line.new.out.items ≡ out ++ line_text labels l = rw c.form.ensures at c.in_ok-write_line.ensures in
-    let ended : c.push.new.out.items ≡ out ++ (line_text labels l ++ codes "\n") =
-    c.in_ok-push.ensures ∙ ap (λ t. t ++ codes "\n") written ∙ append_assoc out (line_text labels l) (codes "\n") in
+    let ended : c.push.new.self.items ≡ out ++ (line_text labels l ++ codes "\n") =
+    c.in_ok-push.ensures.items ∙ ap (λ t. t ++ codes "\n") written ∙ append_assoc out (line_text labels l) (codes "\n") in
     ap (λ t. t ++ more) ended ∙ append_assoc out (line_text labels l ++ codes "\n") more
     ∙ ap (λ t. out ++ t) (sym (ap (canonical_in labels) (next_line c.args.lines.now c.loop-index.index l c.in-Some.ensures.1))) ∙ c.loop-index.invariant

@@ -1,4 +1,4 @@
-use Rattle.ix_script.proofs.reader.Indexing.{near_indexed, place_indexed}
+use Rattle.ix_script.proofs.reader.Indexing.{place_indexed}
 use Rattle.ix_script.proofs.index.Given.add.Goals as goal
 
 pub returns : goal.returns

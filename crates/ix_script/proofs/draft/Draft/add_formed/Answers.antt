@@ -1,0 +1,7 @@
+use Rattle.ix_script.specs.lines.Before.{form_told}
+use Rattle.ix_script.specs.lines.Forms.{places}
+use Rattle.ix_script.proofs.lines.Readings.{stand}
+use Rattle.ix_script.proofs.draft.Draft.add_formed.Goals as goal
+
+pub line_by_form-line-requires : goal.line_by_form-line-requires
+line_by_form-line-requires g c = rw c.form.ensures (stand (places (form_told c.args.self.now.lines) c.args.form c.args.words.now) c.requires.formed.faultless)
