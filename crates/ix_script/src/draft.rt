@@ -142,8 +142,7 @@ impl<'a> Draft<'a> {
         if let Err(rule) = self.check_said(&line, steps) {
             return Err(self.fault(rule));
         }
-        self.add(alloc, text, &line)?;
-        Ok(())
+        Ok(self.add(alloc, text, &line)?)
     }
 
     /// The next line, which the text says; else its fault. After an error the draft isn't used. Whether each of the text's
@@ -168,15 +167,13 @@ impl<'a> Draft<'a> {
             return Err(self.fault(rule));
         }
         if self.lines.len() == 0 || is_skipped(text) || is_policy_line(text) {
-            match self.whole_line(text) {
-                Ok(line) => self.add(alloc, text, &line)?,
-                Err(rule) => return Err(self.fault(rule)),
-            }
-            return Ok(());
+            return match self.whole_line(text) {
+                Ok(line) => Ok(self.add(alloc, text, &line)?),
+                Err(rule) => Err(self.fault(rule)),
+            };
         }
         if self.is_next_lane(text) {
-            self.add_next_lane(text)?;
-            return Ok(());
+            return Ok(self.add_next_lane(text)?);
         }
         words.cut(text);
         match self.form_by_words(words) {

@@ -36,21 +36,60 @@ impl From<NoMemory> for ReadFail {
 #[derive(Clone, Copy)]
 pub(crate) struct Rule(pub u8);
 
-/// Gives rules their names.
-macro_rules! name_rules {
-    ($($name:ident $number:literal,)+) => {
-        impl Rule {
-            $(pub const $name: Rule = Rule($number);)+
-        }
-    };
-}
+impl Rule {
+    pub const LONG_SCRIPT: Rule = Rule(1);
 
-name_rules! {
-    LONG_SCRIPT 1, LONG_LINE 2, UNPRINTABLE 3, EMPTY_WORD 4, OPEN_QUOTE 5, NO_VERSION 6,
-    UNKNOWN_COMMAND 7, LATE_HEADER 8, OUTSIDE_LANE 9, WORD_COUNT 10, BAD_NAME 11, BAD_NUMBER 12,
-    OUT_OF_RANGE 13, BAD_LABEL 14, BAD_SET 15, BAD_PATH 16, UNKNOWN_WORD 17, BAD_PAYLOAD 18,
-    LONG_PAYLOAD 19, GIVEN_TWICE 20, UNKNOWN_NAME 21, ABOVE_CEILING 22, MISFIT 23, NO_ROOM 24,
-    OUT_OF_ORDER 25, TOO_MANY 26, NO_POLICY 28,
+    pub const LONG_LINE: Rule = Rule(2);
+
+    pub const UNPRINTABLE: Rule = Rule(3);
+
+    pub const EMPTY_WORD: Rule = Rule(4);
+
+    pub const OPEN_QUOTE: Rule = Rule(5);
+
+    pub const NO_VERSION: Rule = Rule(6);
+
+    pub const UNKNOWN_COMMAND: Rule = Rule(7);
+
+    pub const LATE_HEADER: Rule = Rule(8);
+
+    pub const OUTSIDE_LANE: Rule = Rule(9);
+
+    pub const WORD_COUNT: Rule = Rule(10);
+
+    pub const BAD_NAME: Rule = Rule(11);
+
+    pub const BAD_NUMBER: Rule = Rule(12);
+
+    pub const OUT_OF_RANGE: Rule = Rule(13);
+
+    pub const BAD_LABEL: Rule = Rule(14);
+
+    pub const BAD_SET: Rule = Rule(15);
+
+    pub const BAD_PATH: Rule = Rule(16);
+
+    pub const UNKNOWN_WORD: Rule = Rule(17);
+
+    pub const BAD_PAYLOAD: Rule = Rule(18);
+
+    pub const LONG_PAYLOAD: Rule = Rule(19);
+
+    pub const GIVEN_TWICE: Rule = Rule(20);
+
+    pub const UNKNOWN_NAME: Rule = Rule(21);
+
+    pub const ABOVE_CEILING: Rule = Rule(22);
+
+    pub const MISFIT: Rule = Rule(23);
+
+    pub const NO_ROOM: Rule = Rule(24);
+
+    pub const OUT_OF_ORDER: Rule = Rule(25);
+
+    pub const TOO_MANY: Rule = Rule(26);
+
+    pub const NO_POLICY: Rule = Rule(28);
 }
 
 /// The fault of a line, by the rule that it breaks.

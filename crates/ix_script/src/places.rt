@@ -145,9 +145,10 @@ pub(crate) fn line_by_form<'a>(labels: LabelForm, form: Form, words: &Words<'a>)
     requires { Stand (places labels form words.now) }
     ensures { said labels form words.now ≡ Some result }
 {
-    let first = words.get(1);
-    let second = words.get(2);
-    let third = words.get(3);
+    let one = words.get(1);
+    let two = words.get(2);
+    let three = words.get(3);
+    let four = words.get(4);
     // Returns a line, whose fields these words say.
     macro_rules! say {
         ($line:ident { $($field:ident: $kind:ident $at:expr),+ }) => {
@@ -157,64 +158,54 @@ pub(crate) fn line_by_form<'a>(labels: LabelForm, form: Form, words: &Words<'a>)
     match form {
         Form::Phase => return Line::Phase,
         Form::Limit => return Line::Limit {
-            what: what_of(first).unwrap(),
+            what: what_of(one).unwrap(),
             number: words.bound(),
         },
         Form::Fs => say!(Fs {
-            name: name first, ceiling: label second, blocks: size third, inodes: size words.get(4)
+            name: name one, ceiling: label two, blocks: size three, inodes: size four
         }),
         Form::Proc => say!(Proc {
-            name: name first, label: label second, ceiling: label third, cap: privs words.get(4),
+            name: name one, label: label two, ceiling: label three, cap: privs four,
             lic: privs words.get(5)
         }),
-        Form::Dir => say!(Dir { path: made_path first, label: label second, frozen: state third }),
+        Form::Dir => say!(Dir { path: made_path one, label: label two, frozen: state three }),
         Form::File => say!(File {
-            path: made_path first, label: label second, frozen: state third,
-            cap: privs words.get(4), lic: privs words.get(5), bytes: payload words.get(6)
+            path: made_path one, label: label two, frozen: state three, cap: privs four,
+            lic: privs words.get(5), bytes: payload words.get(6)
         }),
-        Form::Lane => say!(Lane { name: name first }),
-        Form::Plain(command) => return plain_line(command, NameWord::of(first)),
-        Form::OnPath(command) => return path_line(
-            command,
-            NameWord::of(first),
-            PathWord::of(second),
-        ),
-        Form::OnFd(command) => return fd_line(command, NameWord::of(first), fd(second)),
+        Form::Lane => say!(Lane { name: name one }),
+        Form::Plain(command) => return plain_line(command, NameWord::of(one)),
+        Form::OnPath(command) => return path_line(command, NameWord::of(one), PathWord::of(two)),
+        Form::OnFd(command) => return fd_line(command, NameWord::of(one), fd(two)),
         Form::Counted(command) => return counted_line(
             command,
-            NameWord::of(first),
-            fd(second),
-            number(0, 4_294_967_295, third),
+            NameWord::of(one),
+            fd(two),
+            number(0, 4_294_967_295, three),
         ),
         Form::Open => say!(Open {
-            proc: name first, path: path second, mode: mode third, named: named 4
+            proc: name one, path: path two, mode: mode three, named: named 4
         }),
-        Form::Write => say!(Write { proc: name first, fd: fd second, bytes: payload third }),
-        Form::Dup => say!(Dup { proc: name first, fd: fd second, named: named 3 }),
+        Form::Write => say!(Write { proc: name one, fd: fd two, bytes: payload three }),
+        Form::Dup => say!(Dup { proc: name one, fd: fd two, named: named 3 }),
         Form::Pipe => return Line::Pipe {
-            proc: NameWord::of(first),
+            proc: NameWord::of(one),
             named: words.two_names_after(),
         },
-        Form::Link => say!(Link { proc: name first, target: path second, path: path third }),
-        Form::List => say!(List { proc: name first, path: path second, index: number third }),
-        Form::Copy => say!(Copy {
-            proc: name first, from: fd second, to: fd third, count: number words.get(4)
-        }),
-        Form::Setlabel => say!(Setlabel {
-            proc: name first, path: path second, label: label third
-        }),
+        Form::Link => say!(Link { proc: name one, target: path two, path: path three }),
+        Form::List => say!(List { proc: name one, path: path two, index: number three }),
+        Form::Copy => say!(Copy { proc: name one, from: fd two, to: fd three, count: number four }),
+        Form::Setlabel => say!(Setlabel { proc: name one, path: path two, label: label three }),
         Form::Setpriv => say!(Setpriv {
-            proc: name first, path: path second, cap: privs third, lic: privs words.get(4)
+            proc: name one, path: path two, cap: privs three, lic: privs four
         }),
-        Form::Fork => say!(Fork { proc: name first, keep: keep second, named: named 3 }),
-        Form::Exit => say!(Exit { proc: name first, status: status second }),
-        Form::Setself => say!(Setself { proc: name first, label: label second }),
-        Form::Droplic => say!(Droplic { proc: name first, set: privs second }),
-        Form::Grant => say!(Grant { proc: name first, to: name second, set: privs third }),
-        Form::Ceiling => say!(Ceiling { proc: name first, of: name second, label: label third }),
-        Form::Readlog => say!(Readlog { proc: name first, index: number second }),
-        Form::Login => say!(Login {
-            proc: name first, fd: fd second, hand: fd third, named: named 4
-        }),
+        Form::Fork => say!(Fork { proc: name one, keep: keep two, named: named 3 }),
+        Form::Exit => say!(Exit { proc: name one, status: status two }),
+        Form::Setself => say!(Setself { proc: name one, label: label two }),
+        Form::Droplic => say!(Droplic { proc: name one, set: privs two }),
+        Form::Grant => say!(Grant { proc: name one, to: name two, set: privs three }),
+        Form::Ceiling => say!(Ceiling { proc: name one, of: name two, label: label three }),
+        Form::Readlog => say!(Readlog { proc: name one, index: number two }),
+        Form::Login => say!(Login { proc: name one, fd: fd two, hand: fd three, named: named 4 }),
     }
 }

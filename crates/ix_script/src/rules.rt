@@ -148,10 +148,8 @@ impl<'a> Draft<'a> {
         match line {
             Line::Proc { label, ceiling, .. } => {
                 let most = self.header.limits.procs as usize;
-                refuse_if!(
-                    !label.label().leq(&ceiling.label(), steps),
-                    Rule::ABOVE_CEILING
-                );
+                let fits = label.label().leq(&ceiling.label(), steps);
+                refuse_if!(!fits, Rule::ABOVE_CEILING);
                 refuse_if!(self.header.procs.count >= most, Rule::NO_ROOM);
                 Ok(())
             }

@@ -44,8 +44,8 @@ returns-in-Err-form_by_words-clause-fail g c =
 pub add-requires-clause-right : goal.add-requires-clause-right
 add-requires-clause-right g c = rw (whole_fault c.args.self.now.lines c.args.text.now c.in_default.ensures) c.in-Ok.ensures
 
-pub returns-then-len-eq0-clause-line : goal.returns-then-len-eq0-clause-line
-returns-then-len-eq0-clause-line g c =
+pub returns-in_ok-add-in-Ok-clause-line : goal.returns-in_ok-add-in-Ok-clause-line
+returns-in_ok-add-in-Ok-clause-line g c =
     let right : LineRight c.args.self.now.lines c.in-Ok.line (line_fault c.args.self.now.lines c.args.text.now) (line_of (form_told c.args.self.now.lines) c.args.text.now) =
     rw (whole_fault c.args.self.now.lines c.args.text.now c.in_default.ensures) c.in-Ok.ensures in
     record { line = c.in-Ok.line; right = right; added = c.in_ok-add-in-Ok.ensures.lines }
