@@ -74,7 +74,13 @@ same_number n start begun one other = elim (eqb_tells start begun) [
 follows_at : (s t : Source) (n : ℕ) → start_of s ≤ n → start_of t ≤ suc n → follows (origin_at s n) (origin_at t (suc n)) ≡ same_origin s t
 follows_at (source.Write place start label) (source.Write that begun under) n one other = ap (λ b. place == that && b) (same_number n start begun one other)
 follows_at (source.File object label) (source.File that under) n one other = ap (λ b. object == that && b) (eq-eqb (suc n) (suc n) refl) ∙ and-true (object == that)
-follows_at s t n one other = refl
+follows_at source.Gap source.Gap n one other = refl
+follows_at (source.Write place start label) (source.File that under) n one other = refl
+follows_at (source.Write place start label) source.Gap n one other = refl
+follows_at (source.File object label) (source.Write that begun under) n one other = refl
+follows_at (source.File object label) source.Gap n one other = refl
+follows_at source.Gap (source.Write that begun under) n one other = refl
+follows_at source.Gap (source.File that under) n one other = refl
 
 same_turned : (a b : ℕ) → (a == b) ≡ (b == a)
 same_turned a b = elim (eqb_tells a b) [
@@ -99,7 +105,12 @@ of_one (source.File o l) b (source.Write r k n) is = cc
 of_one (source.File o l) b source.Gap is = cc
 of_one source.Gap b (source.Write r k n) is = cc
 of_one source.Gap b (source.File r n) is = cc
-of_one a b s is = refl
+of_one (source.Write p i l) (source.File q m) (source.Write r k n) is = refl
+of_one (source.Write p i l) source.Gap (source.Write r k n) is = refl
+of_one (source.File o l) (source.Write q j m) (source.File r n) is = refl
+of_one (source.File o l) source.Gap (source.File r n) is = refl
+of_one source.Gap (source.Write q j m) source.Gap is = refl
+of_one source.Gap (source.File q m) source.Gap is = refl
 
 -- ---- sides
 module _ (s : Side) (origins : List Origin) (like : IsLike s origins) (number to : ℕ) (front : s.front ≤ number) (end : to ≤ s.end) where
