@@ -1,5 +1,6 @@
 pub mod LaterRules
 pub mod Outcomes
+pub mod Done
 pub mod Preparing
 pub mod Verdicts
 pub mod OnlyRun

@@ -1,44 +1,23 @@
 -- What `flow` tells where it is done.
-use Rattle.std.proofs.Common.{◌≡◌, ℕ, List, ◌++◌, Option, Some, None, sym, ap, ◌∙◌, subst}
-use Rattle.std.specs.Prelude.{IfSome}
+use Rattle.std.proofs.Common.{ℕ, List, ◌++◌, Option, Some, ap, ◌∙◌}
 use Rattle.ix_script.specs.scripts.Scripts.{config_of}
 use Rattle.ix_lanes.specs.histories.Serial.{serial}
 use Rattle.ix_flow.specs.Laws.{LinesAreAccountedFor}
 use Rattle.ix_host.specs.Traced.{TakesTraces}
-use Rattle.ix_host.specs.command.Command.{usage_line}
-use Rattle.ix_host.specs.declared.arguments.command.Command.{Command}
 use Rattle.ix_host.specs.declared.arguments.command.Command.TheVariants as command
-use Rattle.ix_host.specs.declared.status.Status.{Status}
-use Rattle.ix_host.specs.declared.status.Status.TheVariants as status
-use Rattle.ix_host.specs.run.Inputs.{input_of, script_for, script_in}
-use Rattle.ix_host.specs.run.Outcome.{outcome_in, outcome_of, text_of}
-use Rattle.ix_host.specs.run.Run.{IsAnswer, WritesFor, called_for}
-use Rattle.ix_host.proofs.comes_to.Outcomes.{done_traces, status_is}
+use Rattle.ix_host.specs.run.Inputs.{script_in}
+use Rattle.ix_host.proofs.comes_to.Done.{Takes, Tells, takes_done}
+use Rattle.ix_host.proofs.comes_to.Outcomes.{done_traces}
 
 -- What went out are the lines of the serial history.
-pub takes_traces : LinesAreAccountedFor → (asked : Option Command) (left : Option (List ℕ)) (end : Status) (taken after : Option (List ℕ))
-    → end ≡ status.Done → asked ≡ Some command.Flow → (IsAnswer end → IfSome (input_of asked left) (λ bytes. end ≡ called_for asked bytes))
-    → IfSome (input_of asked left) (λ bytes. IfSome taken (λ t. WritesFor end (text_of (outcome_of usage_line asked bytes (serial (script_for asked bytes)))) t after))
-    → IfSome left (λ bytes. IfSome taken (λ t. TakesTraces (script_in bytes) t after))
-takes_traces law asked left end taken after is flow answer wrote =
-    let called : IfSome left (λ bytes. status.Done ≡ called_for (Some command.Flow) bytes) =
-    subst (λ (a : Option Command). IfSome (input_of a left) (λ bytes. status.Done ≡ called_for a bytes)) flow
-    (subst (λ (e : Status). IfSome (input_of asked left) (λ bytes. e ≡ called_for asked bytes)) is (answer (subst IsAnswer (sym is) tt))) in
-    let went : IfSome left (λ bytes. IfSome taken (λ t. after ≡ Some (t ++ text_of (outcome_in command.Flow bytes (serial (script_in bytes)))))) =
-    subst (λ (a : Option Command). IfSome (input_of a left) (λ bytes. IfSome taken (λ t. WritesFor status.Done (text_of (outcome_of usage_line a bytes (serial (script_for a bytes)))) t after))) flow
-    (subst (λ (e : Status). IfSome (input_of asked left)
-    (λ bytes. IfSome taken (λ t. WritesFor e (text_of (outcome_of usage_line asked bytes (serial (script_for asked bytes)))) t after))) is wrote) in
-    go left taken called went
-  where
-    go : (l k : Option (List ℕ)) → IfSome l (λ bytes. status.Done ≡ called_for (Some command.Flow) bytes)
-        → IfSome l (λ bytes. IfSome k (λ t. after ≡ Some (t ++ text_of (outcome_in command.Flow bytes (serial (script_in bytes))))))
-        → IfSome l (λ bytes. IfSome k (λ t. TakesTraces (script_in bytes) t after))
-    go None k called went = tt
-    go (Some bytes) None called went = tt
-    go (Some bytes) (Some t) called went =
-        let s = script_in bytes in
-        let done = called ∙ sym (status_is usage_line (Some command.Flow) bytes (serial s)) in
-        record {
-          went_out = went ∙ ap (λ text. Some (t ++ text)) (done_traces bytes (serial s) done);
-          accounted = λ before e rest is. law (record { config = config_of s; events = before }) e;
-        }
+abbrev pub Traces : List ℕ → List ℕ → Option (List ℕ) → Type 0
+Traces bytes t after = TakesTraces (script_in bytes) t after
+
+traces_told : LinesAreAccountedFor → Tells command.Flow Traces
+traces_told law bytes t after done went = record {
+  went_out = went ∙ ap (λ text. Some (t ++ text)) (done_traces bytes (serial (script_in bytes)) done);
+  accounted = λ before e rest is. law (record { config = config_of (script_in bytes); events = before }) e;
+}
+
+pub takes_traces : LinesAreAccountedFor → Takes command.Flow Traces
+takes_traces law = takes_done command.Flow Traces (traces_told law)

@@ -1,5 +1,5 @@
 -- What `load` lists, where it is done, and what fault it tells.
-use Rattle.std.proofs.Common.{◌≡◌, ℕ, List, ◌++◌, Option, Some, None, Ok, sym, ap, ◌∙◌, subst}
+use Rattle.std.proofs.Common.{◌≡◌, ℕ, List, ◌++◌, Option, Some, None, Ok, ap, ◌∙◌, subst}
 use Rattle.std.specs.Prelude.{IfSome}
 use Rattle.ix_image.specs.Laws.{IsImage, WrittenIsRead}
 use Rattle.ix_image.specs.Reading.{image_fault, tree_in}
@@ -15,6 +15,7 @@ use Rattle.ix_host.specs.run.Tasks.{IsLoaded}
 use Rattle.ix_host.specs.run.Inputs.{input_of, script_for}
 use Rattle.ix_host.specs.run.Outcome.{outcome_in, outcome_of, text_of}
 use Rattle.ix_host.specs.run.Run.{FitsCommand, IsAnswer, WritesFor, called_for, unless_listed}
+use Rattle.ix_host.proofs.comes_to.Done.{called_by, went_out}
 use Rattle.ix_host.proofs.comes_to.Outcomes.{list_told}
 
 -- What went out is the list of the tree.
@@ -23,11 +24,7 @@ pub takes_list : WrittenIsRead → (asked : Option Command) (left : Option (List
     → IfSome (input_of asked left) (λ bytes. IfSome taken (λ t. WritesFor end (text_of (outcome_of usage_line asked bytes (serial (script_for asked bytes)))) t after))
     → IfSome left (λ bytes. IfSome taken (λ t. TakesList bytes t after))
 takes_list read asked left end taken after is load image wrote =
-    let went : IfSome left (λ bytes. IfSome taken (λ t. after ≡ Some (t ++ text_of (outcome_in command.Load bytes (serial (script_for (Some command.Load) bytes)))))) =
-    subst (λ (a : Option Command). IfSome (input_of a left) (λ bytes. IfSome taken (λ t. WritesFor status.Done (text_of (outcome_of usage_line a bytes (serial (script_for a bytes)))) t after))) load
-    (subst (λ (e : Status). IfSome (input_of asked left)
-    (λ bytes. IfSome taken (λ t. WritesFor e (text_of (outcome_of usage_line asked bytes (serial (script_for asked bytes)))) t after))) is wrote) in
-    go left taken image went
+    go left taken image (went_out command.Load asked left end taken after is load wrote)
   where
     go : (o k : Option (List ℕ)) → IfSome o (λ bytes. IsImage bytes)
         → IfSome o (λ bytes. IfSome k (λ t. after ≡ Some (t ++ text_of (outcome_in command.Load bytes (serial (script_for (Some command.Load) bytes))))))
@@ -58,10 +55,7 @@ pub fault_is : (asked : Option Command) (left : Option (List ℕ)) (end : Status
 unfolding called_for
 fault_is asked left end at rule is fits answer =
     let load : asked ≡ Some command.Load = subst (λ (e : Status). FitsCommand e asked) is fits in
-    let called : IfSome left (λ bytes. status.Image at rule ≡ unless_listed (image_fault bytes)) =
-    subst (λ (a : Option Command). IfSome (input_of a left) (λ bytes. status.Image at rule ≡ called_for a bytes)) load
-    (subst (λ (e : Status). IfSome (input_of asked left) (λ bytes. e ≡ called_for asked bytes)) is (answer (subst IsAnswer (sym is) tt))) in
-    go left called
+    go left (called_by command.Load (status.Image at rule) asked left end tt is load answer)
   where
     same : (o : Option (ℕ × ℕ)) → status.Image at rule ≡ unless_listed o → o ≡ Some (at, rule)
     same None h = cc
