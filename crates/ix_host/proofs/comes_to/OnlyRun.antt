@@ -12,70 +12,38 @@ use Rattle.ix_host.specs.command.Command.{command_of, lanes_command_of, only_run
 use Rattle.ix_host.specs.run.Inputs.{IsTooLong, input_max, input_of, reads_source, script_for, script_in, script_max}
 use Rattle.ix_host.specs.run.Run.{FitsCommand, ExistsHistory, ReadsOut}
 
+-- what holds of no command and of `run` holds of the command
+pub lanes_only : (P : Option Command → Type 0) → P None → P (Some command.Run) → (words : List (List ℕ)) → P (lanes_command_of words)
+unfolding lanes_command_of
+lanes_only P none run words = go (command_of words)
+  where
+    go : (o : Option Command) → P (only_run o)
+    go None = none
+    go (Some command.Run) = run
+    go (Some command.Print) = none
+    go (Some (command.Gen n)) = none
+    go (Some command.Check) = none
+    go (Some command.Flow) = none
+    go (Some command.Save) = none
+    go (Some command.Load) = none
+    go (Some (command.Twin l)) = none
+
 -- the input is what the source has left
 pub lanes_input : (words : List (List ℕ)) (left : Option (List ℕ)) → input_of (lanes_command_of words) left ≡ left
-unfolding lanes_command_of
-lanes_input words left = go (command_of words)
-  where
-    go : (o : Option Command) → input_of (only_run o) left ≡ left
-    go None = refl
-    go (Some command.Run) = refl
-    go (Some command.Print) = refl
-    go (Some (command.Gen n)) = refl
-    go (Some command.Check) = refl
-    go (Some command.Flow) = refl
-    go (Some command.Save) = refl
-    go (Some command.Load) = refl
-    go (Some (command.Twin l)) = refl
+lanes_input words left = lanes_only (λ o. input_of o left ≡ left) refl refl words
 
 -- it has no more bytes than a script
 pub lanes_max : (words : List (List ℕ)) → input_max (lanes_command_of words) ≡ script_max
-unfolding lanes_command_of
-lanes_max words = go (command_of words)
-  where
-    go : (o : Option Command) → input_max (only_run o) ≡ script_max
-    go None = refl
-    go (Some command.Run) = refl
-    go (Some command.Print) = refl
-    go (Some (command.Gen n)) = refl
-    go (Some command.Check) = refl
-    go (Some command.Flow) = refl
-    go (Some command.Save) = refl
-    go (Some command.Load) = refl
-    go (Some (command.Twin l)) = refl
+lanes_max words = lanes_only (λ o. input_max o ≡ script_max) refl refl words
 
 -- where it is too long, so is the script
 pub lanes_long : (words : List (List ℕ)) (left : Option (List ℕ)) → IfSome left (λ bytes. IsTooLong (lanes_command_of words) bytes) → IfSome left (λ bytes. script_max < length bytes)
-unfolding lanes_command_of
 lanes_long words None h = tt
-lanes_long words (Some bytes) h = go (command_of words) h
-  where
-    go : (o : Option Command) → IsTooLong (only_run o) bytes → script_max < length bytes
-    go None k = k
-    go (Some command.Run) k = k
-    go (Some command.Print) k = k
-    go (Some (command.Gen n)) k = k
-    go (Some command.Check) k = k
-    go (Some command.Flow) k = k
-    go (Some command.Save) k = k
-    go (Some command.Load) k = k
-    go (Some (command.Twin l)) k = k
+lanes_long words (Some bytes) h = lanes_only (λ o. IsTooLong o bytes → script_max < length bytes) (λ k. k) (λ k. k) words h
 
 -- all of it is the script
 pub lanes_script : (words : List (List ℕ)) (bytes : List ℕ) → script_for (lanes_command_of words) bytes ≡ script_in bytes
-unfolding lanes_command_of
-lanes_script words bytes = go (command_of words)
-  where
-    go : (o : Option Command) → script_for (only_run o) bytes ≡ script_in bytes
-    go None = refl
-    go (Some command.Run) = refl
-    go (Some command.Print) = refl
-    go (Some (command.Gen n)) = refl
-    go (Some command.Check) = refl
-    go (Some command.Flow) = refl
-    go (Some command.Save) = refl
-    go (Some command.Load) = refl
-    go (Some (command.Twin l)) = refl
+lanes_script words bytes = lanes_only (λ o. script_for o bytes ≡ script_in bytes) refl refl words
 
 pub lanes_written : (words : List (List ℕ)) (first taken : Option (List ℕ)) (P : List ℕ → List ℕ → List Event → Type 0)
     → IfSome first (λ bytes. IfSome taken (λ t. ExistsHistory (IsHistory (script_for (lanes_command_of words) bytes)) (λ history. P bytes t history)))
@@ -103,34 +71,10 @@ none_read_out (status.Image at rule) (Some bytes) left h = cc
 pub lanes_read_out : (words : List (List ℕ)) (end : Status) (first left : Option (List ℕ)) → FitsCommand end (lanes_command_of words)
     → (reads_source (lanes_command_of words) ≡ true → IfSome first (λ bytes. ReadsOut (input_max (lanes_command_of words)) end bytes left))
     → IfSome first (λ bytes. ReadsOut script_max end bytes left)
-unfolding lanes_command_of
-lanes_read_out words end first left = go (command_of words)
-  where
-    go : (o : Option Command) → FitsCommand end (only_run o)
-        → (reads_source (only_run o) ≡ true → IfSome first (λ bytes. ReadsOut (input_max (only_run o)) end bytes left))
-        → IfSome first (λ bytes. ReadsOut script_max end bytes left)
-    go None f h = none_read_out end first left f
-    go (Some command.Run) f h = h refl
-    go (Some command.Print) f h = none_read_out end first left f
-    go (Some (command.Gen n)) f h = none_read_out end first left f
-    go (Some command.Check) f h = none_read_out end first left f
-    go (Some command.Flow) f h = none_read_out end first left f
-    go (Some command.Save) f h = none_read_out end first left f
-    go (Some command.Load) f h = none_read_out end first left f
-    go (Some (command.Twin l)) f h = none_read_out end first left f
+lanes_read_out words end first left =
+    lanes_only (λ o. FitsCommand end o → (reads_source o ≡ true → IfSome first (λ bytes. ReadsOut (input_max o) end bytes left)) → IfSome first (λ bytes. ReadsOut script_max end bytes left))
+    (λ f h. none_read_out end first left f) (λ f h. h refl) words
 
 -- where a run is done, it is that command
 pub lanes_run : (words : List (List ℕ)) → FitsCommand status.Done (lanes_command_of words) → lanes_command_of words ≡ Some command.Run
-unfolding lanes_command_of
-lanes_run words = go (command_of words)
-  where
-    go : (o : Option Command) → FitsCommand status.Done (only_run o) → only_run o ≡ Some command.Run
-    go None h = cc
-    go (Some command.Run) h = refl
-    go (Some command.Print) h = cc
-    go (Some (command.Gen n)) h = cc
-    go (Some command.Check) h = cc
-    go (Some command.Flow) h = cc
-    go (Some command.Save) h = cc
-    go (Some command.Load) h = cc
-    go (Some (command.Twin l)) h = cc
+lanes_run words = lanes_only (λ o. FitsCommand status.Done o → o ≡ Some command.Run) (λ h. cc) (λ h. refl) words

@@ -17,7 +17,8 @@ use Rattle.ix_script.specs.texts.Words.{is_numeral, number_of, value, value_from
 use Rattle.ix_text.specs.Bytes.{begins_with, is_digit}
 use Rattle.ix_host.specs.declared.arguments.command.Command.{Command}
 use Rattle.ix_host.specs.declared.arguments.command.Command.TheVariants as command
-use Rattle.ix_host.specs.command.Command.{IsCounted, command_of, count_of, lanes_command_of, left_out, only_run, whole_command}
+use Rattle.ix_host.specs.command.Command.{IsCounted, command_of, count_of, lanes_command_of, left_out, whole_command}
+use Rattle.ix_host.proofs.comes_to.OnlyRun.{lanes_only}
 
 -- ---- numbers
 -- the test and the value of decimal digits are std's
@@ -174,16 +175,4 @@ unfolding command_of
 command_counted words = whole_counted (left_out words)
 
 pub lanes_counted : (words : List (List ℕ)) → IfSome (lanes_command_of words) IsCounted
-unfolding lanes_command_of
-lanes_counted words = go (command_of words)
-  where
-    go : (o : Option Command) → IfSome (only_run o) IsCounted
-    go None = tt
-    go (Some command.Run) = tt
-    go (Some command.Print) = tt
-    go (Some (command.Gen n)) = tt
-    go (Some command.Check) = tt
-    go (Some command.Flow) = tt
-    go (Some command.Save) = tt
-    go (Some command.Load) = tt
-    go (Some (command.Twin l)) = tt
+lanes_counted words = lanes_only (λ o. IfSome o IsCounted) tt tt words
