@@ -69,113 +69,46 @@ ready_next before n text l r k = record {
 room : (before : List Line) (n : ℕ) → Ready before n → n < 200000 → nat_le 200000 (commands before) ≡ false
 room before n r h = lt-leb 200000 (commands before) (omega (arith, r.number))
 
+commanded : {text : List ℕ} {l : Line} → ((labels : Form) → line_of labels text ≡ Some l) → length text ≤ 14 → list_all (λ b. not (b == 10)) text ≡ true
+    → proc_name_told l ≡ [] → lane_after (Some (codes "g")) l ≡ Some (codes "g") → is_command l ≡ true
+    → ((before : List Line) (n : ℕ) → Ready before n → n < 200000 → line_fault before text ≡ None) → IsCommand text l
+commanded means short plain names lane command sound = record { means = means; short = short; plain = plain; names = names; lane = lane; command = command; sound = sound }
+
 pub opens_a : IsCommand (codes "open a /x rw") (line.Open (codes "a") (path_from true (codes "x")) mode.Both None)
 unfolding judging
-opens_a = record {
-  means = λ labels. refl;
-  short = omega arith;
-  plain = refl;
-  names = refl;
-  lane = refl;
-  command = refl;
-  sound = λ before n r h. rw (r.some, r.lane, r.procs, room before n r h) refl;
-}
+opens_a = commanded (λ labels. refl) (omega arith) refl refl refl refl (λ before n r h. rw (r.some, r.lane, r.procs, room before n r h) refl)
 
 pub opens_b : IsCommand (codes "open b /y r") (line.Open (codes "b") (path_from true (codes "y")) mode.Read None)
 unfolding judging
-opens_b = record {
-  means = λ labels. refl;
-  short = omega arith;
-  plain = refl;
-  names = refl;
-  lane = refl;
-  command = refl;
-  sound = λ before n r h. rw (r.some, r.lane, r.procs, room before n r h) refl;
-}
+opens_b = commanded (λ labels. refl) (omega arith) refl refl refl refl (λ before n r h. rw (r.some, r.lane, r.procs, room before n r h) refl)
 
 pub opens_c : IsCommand (codes "open c /y r") (line.Open (codes "c") (path_from true (codes "y")) mode.Read None)
 unfolding judging
-opens_c = record {
-  means = λ labels. refl;
-  short = omega arith;
-  plain = refl;
-  names = refl;
-  lane = refl;
-  command = refl;
-  sound = λ before n r h. rw (r.some, r.lane, r.procs, room before n r h) refl;
-}
+opens_c = commanded (λ labels. refl) (omega arith) refl refl refl refl (λ before n r h. rw (r.some, r.lane, r.procs, room before n r h) refl)
 
 pub seeks_a : IsCommand (codes "seek a 0 0") (line.Seek (codes "a") (fd.Number 0) 0)
 unfolding judging
-seeks_a = record {
-  means = λ labels. refl;
-  short = omega arith;
-  plain = refl;
-  names = refl;
-  lane = refl;
-  command = refl;
-  sound = λ before n r h. rw (r.some, r.lane, r.procs, room before n r h) refl;
-}
+seeks_a = commanded (λ labels. refl) (omega arith) refl refl refl refl (λ before n r h. rw (r.some, r.lane, r.procs, room before n r h) refl)
 
 pub writes_a : IsCommand (codes "write a 0 8*41") (line.Write (codes "a") (fd.Number 0) (replicate 8 65))
 unfolding judging
-writes_a = record {
-  means = λ labels. refl;
-  short = omega arith;
-  plain = refl;
-  names = refl;
-  lane = refl;
-  command = refl;
-  sound = λ before n r h. rw (r.some, r.lane, r.procs, room before n r h) refl;
-}
+writes_a = commanded (λ labels. refl) (omega arith) refl refl refl refl (λ before n r h. rw (r.some, r.lane, r.procs, room before n r h) refl)
 
 pub seeks_b : IsCommand (codes "seek b 0 0") (line.Seek (codes "b") (fd.Number 0) 0)
 unfolding judging
-seeks_b = record {
-  means = λ labels. refl;
-  short = omega arith;
-  plain = refl;
-  names = refl;
-  lane = refl;
-  command = refl;
-  sound = λ before n r h. rw (r.some, r.lane, r.procs, room before n r h) refl;
-}
+seeks_b = commanded (λ labels. refl) (omega arith) refl refl refl refl (λ before n r h. rw (r.some, r.lane, r.procs, room before n r h) refl)
 
 pub reads_b : IsCommand (codes "read b 0 16") (line.Read (codes "b") (fd.Number 0) 16)
 unfolding judging
-reads_b = record {
-  means = λ labels. refl;
-  short = omega arith;
-  plain = refl;
-  names = refl;
-  lane = refl;
-  command = refl;
-  sound = λ before n r h. rw (r.some, r.lane, r.procs, room before n r h) refl;
-}
+reads_b = commanded (λ labels. refl) (omega arith) refl refl refl refl (λ before n r h. rw (r.some, r.lane, r.procs, room before n r h) refl)
 
 pub reads_a : IsCommand (codes "read a 0 4") (line.Read (codes "a") (fd.Number 0) 4)
 unfolding judging
-reads_a = record {
-  means = λ labels. refl;
-  short = omega arith;
-  plain = refl;
-  names = refl;
-  lane = refl;
-  command = refl;
-  sound = λ before n r h. rw (r.some, r.lane, r.procs, room before n r h) refl;
-}
+reads_a = commanded (λ labels. refl) (omega arith) refl refl refl refl (λ before n r h. rw (r.some, r.lane, r.procs, room before n r h) refl)
 
 pub reads_c : IsCommand (codes "read c 0 8") (line.Read (codes "c") (fd.Number 0) 8)
 unfolding judging
-reads_c = record {
-  means = λ labels. refl;
-  short = omega arith;
-  plain = refl;
-  names = refl;
-  lane = refl;
-  command = refl;
-  sound = λ before n r h. rw (r.some, r.lane, r.procs, room before n r h) refl;
-}
+reads_c = commanded (λ labels. refl) (omega arith) refl refl refl refl (λ before n r h. rw (r.some, r.lane, r.procs, room before n r h) refl)
 
 -- ---- the line of each number
 -- its text without the line feed, and what that says
