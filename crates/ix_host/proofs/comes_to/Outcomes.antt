@@ -75,6 +75,11 @@ pub outcome_accepted : (c : Command) (s : List Line) (claimed : List ℕ) (histo
 unfolding outcome_for
 outcome_accepted c s claimed history is = rw (outcome_for, is) refl
 
+-- one whose policy isn't refused comes to its text
+pub outcome_alone : {asked : Command} (c : Command) (s : List Line) (beside : List ℕ) (history : List Event) → policy_refusal s ≡ None → IsAlone c → asked ≡ c
+    → outcome.Whole (text_for c s beside history) ≡ outcome_for asked s beside history
+outcome_alone c s beside history h alone is = outcome_accepted c s beside history (accepted c s beside h alone) ∙ ap (λ k. outcome_for k s beside history) (sym is)
+
 -- ---- an input
 -- one that isn't too long for `check`, or for `twin`
 short : (bytes : List ℕ) → length bytes ≤ check_max → nat_lt check_max (length bytes) ≡ false
